@@ -1,5 +1,6 @@
 -- Numbers in bytes, parts of a byte list and NUL-ended texts: the words in which every format is defined.
-use Rattle.std.specs.Prelude.{ℕ, zero, suc, Bool, ◌+◌, ◌*◌, ◌/◌, ◌%◌, ◌<◌, ◌≤◌, ◌==◌, List, [], ◌∷◌, take, drop, length, reverse}
+use Rattle.std.specs.Prelude.{ℕ, ℤ, zero, suc, Bool, ◌+◌, ◌*◌, ◌/◌, ◌%◌, ◌<◌, ◌≤◌, ◌==◌, List, [], ◌∷◌, take, drop, length, reverse}
+use Rattle.std.specs.Int.{w64, cast_signed}
 use Rattle.std.specs.List.{position_or_len}
 
 -- the number that the bytes spell, least significant byte first (System V gABI 4, "Data Representation")
@@ -25,6 +26,10 @@ le_at n bytes at = le (part bytes at n)
 
 abbrev pub be_at : ℕ → List ℕ → ℕ → ℕ
 be_at n bytes at = be (part bytes at n)
+
+-- the 64-bit two's complement number at an offset, least significant byte first
+abbrev pub signed_at : List ℕ → ℕ → ℤ
+signed_at bytes at = cast_signed w64 (le_at 8 bytes at)
 
 -- the bytes of a text that begins at an offset, without the NUL that ends it
 abbrev pub is_nul : ℕ → Bool

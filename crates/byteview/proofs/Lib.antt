@@ -1,0 +1,3 @@
+pub mod NumberLaws
+mod Fields
+mod Texts
