@@ -1,0 +1,21 @@
+-- Look-ups in filtered and mapped lists.
+use Rattle.std.proofs.Common.{◌≡◌, List, [], ◌∷◌, refl, ap}
+use Rattle.std.specs.Prelude.{Bool, true, false, cond, ◌&&◌, map, filter, find, Option, Some, option_map}
+
+-- the first element that passes a test after a filter passes both
+pub find-filter : {X : Type 0} (p q : X → Bool) (xs : List X) → find q (filter p xs) ≡ find (λ x. p x && q x) xs
+find-filter p q [] = refl
+find-filter {X} p q (x ∷ xs) =
+    elim (p x) as (λ b. find q (cond b (x ∷ filter p xs) (filter p xs)) ≡ cond (b && q x) (Some x) (find (λ y. p y && q y) xs)) [
+      | true ↦ ap (λ (o : Option X). cond (q x) (Some x) o) (find-filter p q xs)
+      | false ↦ find-filter p q xs
+    ]
+
+-- the first element of the images that passes a test is the image of the first whose image passes it
+pub find-map : {X Y : Type 0} (q : Y → Bool) (f : X → Y) (xs : List X) → find q (map f xs) ≡ option_map f (find (λ x. q (f x)) xs)
+find-map q f [] = refl
+find-map {X} {Y} q f (x ∷ xs) =
+    elim (q (f x)) as (λ b. cond b (Some (f x)) (find q (map f xs)) ≡ option_map f (cond b (Some x) (find (λ y. q (f y)) xs))) [
+      | true ↦ refl
+      | false ↦ find-map q f xs
+    ]

@@ -1,0 +1,5 @@
+pub mod Found
+pub mod RecordLaws
+pub mod RisingNames
+mod Spelled
+pub mod SymbolRows

@@ -1,0 +1,56 @@
+-- When a link is refused, and by which error (profile). The phases are the words, the files, loading, the profile,
+-- resolution, references and layout; an error stands only where no fault of an earlier phase does.
+use Rattle.std.specs.Prelude.{◌≡◌, ◌≢◌, ℕ, List, Ok, Err, Any}
+use Rattle.elf_model.specs.Command.{Plan, command_of}
+use Rattle.elf_model.specs.Files.{File}
+use Rattle.elf_model.specs.Loading.{loaded_objects, AreFilesThere, AreObjects}
+use Rattle.elf_model.specs.ObjectFile.{ObjFaultStands}
+use Rattle.elf_model.specs.OwnLayout.{IsNotTooLarge}
+use Rattle.elf_model.specs.Profile.{IsInProfile}
+use Rattle.elf_model.specs.Resolution.{IsDuplicate, AreUnique, AreSoundSymbols, IsEntry}
+use Rattle.elf_model.specs.declared.faults.LinkError.{LinkError}
+use Rattle.elf_model.specs.declared.faults.LinkError.TheVariants as error
+use Rattle.elf_model.specs.declared.faults.ObjFault.TheVariants as fault
+
+-- no fault of a phase stands, nor of those before it
+pub record HasFiles (files : List File) (words : List (List ℕ)) (p : Plan) : Type 0 where
+  pub words_are : command_of words ≡ Ok p
+  pub files_are : AreFilesThere files p
+
+pub record HasObjects (files : List File) (words : List (List ℕ)) (p : Plan) : Type 0 where
+  pub before : HasFiles files words p
+  pub objects : AreObjects (loaded_objects files p)
+
+pub record IsTaken (files : List File) (words : List (List ℕ)) (p : Plan) : Type 0 where
+  pub before : HasObjects files words p
+  pub profile : IsInProfile p (loaded_objects files p)
+
+pub record IsResolved (files : List File) (words : List (List ℕ)) (p : Plan) : Type 0 where
+  pub before : IsTaken files words p
+  pub sound : AreSoundSymbols (loaded_objects files p)
+  pub unique : AreUnique (loaded_objects files p)
+
+pub record IsReferred (files : List File) (words : List (List ℕ)) (p : Plan) : Type 0 where
+  pub before : IsResolved files words p
+  pub entry : IsEntry (loaded_objects files p) p.entry
+
+-- no cause of a refusal stands
+pub record IsLinkable (files : List File) (words : List (List ℕ)) (p : Plan) : Type 0 where
+  pub before : IsReferred files words p
+  pub not_too_large : IsNotTooLarge p.base (loaded_objects files p)
+
+-- what stands where an error is answered; want of memory has no cause in the inputs
+abbrev pub Cause : List File → List (List ℕ) → LinkError → Type 0
+Cause files words error.Memory = Unit {0}
+Cause files words (error.Command f) = command_of words ≡ Err f
+Cause files words error.FileMissing = (p : Plan) × (command_of words ≡ Ok p) × (¬ AreFilesThere files p)
+Cause files words (error.BadObject f) =
+    (p : Plan)
+    × HasFiles files words p
+    × (f ≢ fault.Memory)
+    × Any (λ o. ObjFaultStands o.bytes f) (loaded_objects files p)
+Cause files words error.NotYet = (p : Plan) × HasObjects files words p × (¬ IsInProfile p (loaded_objects files p))
+Cause files words (error.Duplicate name) = (p : Plan) × IsTaken files words p × IsDuplicate (loaded_objects files p) name.items
+Cause files words error.BadSymbol = (p : Plan) × IsTaken files words p × (¬ AreSoundSymbols (loaded_objects files p))
+Cause files words error.NoEntry = (p : Plan) × IsResolved files words p × (¬ IsEntry (loaded_objects files p) p.entry)
+Cause files words error.TooLarge = (p : Plan) × IsReferred files words p × (¬ IsNotTooLarge p.base (loaded_objects files p))

@@ -1,0 +1,104 @@
+-- The image file and the map of the linker's own layout (System V gABI 4 and 5; the order of segments, the
+-- fill and the stack's header are the profile's).
+use Rattle.std.specs.Prelude.{◌≡◌, ℕ, ◌+◌, ◌-◌, ◌&&◌, Bool, cond, List, [], ◌∷◌, ◌++◌, None, find, map, nat_le, nat_lt, ◌==◌, unwrap_or, option_map}
+use Rattle.std.specs.List.{flat_map, list_any, range_with_len}
+use Rattle.elf_model.specs.Loading.{LoadedObject}
+use Rattle.elf_model.specs.MapRecord.{MapRecord, PlaceRow}
+use Rattle.elf_model.specs.MapText.{IsOrdered}
+use Rattle.elf_model.specs.MemoryImage.{image_ident}
+use Rattle.elf_model.specs.OwnLayout.{own_segments, own_placed, own_in_load_order, own_headers_size, header_count, file_end}
+use Rattle.elf_model.specs.Placement.{Placed, symbol_value}
+use Rattle.elf_model.specs.Records.{file_header_bytes, program_header_bytes}
+use Rattle.elf_model.specs.Resolution.{chosen}
+use Rattle.elf_model.specs.RightLink.{wanted_byte, object_rows, HasLine}
+use Rattle.elf_model.specs.declared.records.FileHeader.{FileHeader}
+use Rattle.elf_model.specs.declared.records.ProgramHeader.{ProgramHeader}
+
+-- ET_EXEC for x86-64, with the program headers behind the file header
+abbrev pub own_file_header : ℕ → ℕ → FileHeader
+own_file_header entry count = record {
+  e_ident = image_ident;
+  e_type = 2;
+  e_machine = 62;
+  e_version = 1;
+  e_entry = entry;
+  e_phoff = 64;
+  e_shoff = 0;
+  e_flags = 0;
+  e_ehsize = 64;
+  e_phentsize = 56;
+  e_phnum = count;
+  e_shentsize = 64;
+  e_shnum = 0;
+  e_shstrndx = 0;
+}
+
+-- PT_GNU_STACK: the stack may be read and written
+abbrev pub stack_header : ProgramHeader
+stack_header = record {
+  p_type = 0x6474e551;
+  p_flags = 6;
+  p_offset = 0;
+  p_vaddr = 0;
+  p_paddr = 0;
+  p_filesz = 0;
+  p_memsz = 0;
+  p_align = 0;
+}
+
+abbrev pub own_program_headers : ℕ → List LoadedObject → List ProgramHeader
+own_program_headers base objects = own_segments base objects ++ stack_header ∷ []
+
+-- the value of the entry's chosen definition
+abbrev pub own_entry : ℕ → List LoadedObject → List ℕ → ℕ
+own_entry base objects entry =
+    unwrap_or (option_map (symbol_value (own_in_load_order base objects)) (chosen objects entry)) 0
+
+abbrev pub header_bytes : ℕ → List LoadedObject → List ℕ → List ℕ
+header_bytes base objects entry =
+    file_header_bytes (own_file_header (own_entry base objects entry) (header_count objects))
+    ++ flat_map program_header_bytes (own_program_headers base objects)
+
+-- the byte that stands for an address: a piece's wanted byte; else 0x90 in the file part of an executable
+-- segment, and 0 everywhere else
+abbrev pub covers_address : ℕ → Placed → Bool
+covers_address a q = nat_le q.at a && nat_lt a (q.at + q.piece.size)
+
+abbrev pub is_code_part : ℕ → ProgramHeader → Bool
+is_code_part a h = (h.p_flags == 5) && (nat_le h.p_vaddr a && nat_lt a (h.p_vaddr + h.p_filesz))
+
+abbrev pub fill_at : List ProgramHeader → ℕ → ℕ
+fill_at segments a = cond (list_any (is_code_part a) segments) 0x90 0
+
+abbrev pub own_byte : ℕ → List LoadedObject → ℕ → ℕ
+own_byte base objects a =
+    unwrap_or
+    (option_map (λ q. wanted_byte q.piece (a - q.at)) (find (covers_address a) (own_placed base objects)))
+    (fill_at (own_segments base objects) a)
+
+-- the image file: the headers, then the byte of each address up to the end of the last file part
+abbrev pub image_file : ℕ → List LoadedObject → List ℕ → List ℕ
+image_file base objects entry =
+    header_bytes base objects entry
+    ++ map (λ i. own_byte base objects (base + i))
+    (range_with_len (own_headers_size objects) (file_end (own_segments base objects) - own_headers_size objects))
+
+-- the map of the own layout: the loaded objects, the pieces at their addresses, the chosen definitions
+abbrev pub place_row_of : Placed → PlaceRow
+place_row_of q = record {
+  address = q.at;
+  size = q.piece.size;
+  object = q.piece.object;
+  section = q.piece.section;
+  name = q.piece.name;
+}
+
+pub record IsOwnMap (base : ℕ) (objects : List LoadedObject) (m : MapRecord) : Type 0 where
+  pub objects_are : m.objects ≡ object_rows 0 objects
+  pub drops : m.drops ≡ []
+  pub places : m.places ≡ map place_row_of (own_in_load_order base objects)
+  pub commons : m.commons ≡ []
+  pub got : m.got ≡ None
+  pub slots : m.slots ≡ []
+  pub symbols : (name : List ℕ) → HasLine m.symbols objects (own_in_load_order base objects) name
+  pub ordered : IsOrdered m

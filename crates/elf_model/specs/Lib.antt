@@ -1,0 +1,16 @@
+pub mod Causes
+pub mod Command
+pub mod Files
+pub mod ImageFile
+pub mod Loading
+pub mod MapRecord
+pub mod MapText
+pub mod MemoryImage
+pub mod ObjectFile
+pub mod OwnLayout
+pub mod Pieces
+pub mod Placement
+pub mod Profile
+pub mod Records
+pub mod Resolution
+pub mod RightLink

@@ -1,0 +1,150 @@
+-- Where the linker itself lays out (profile): segments R (neither writable nor executable), RX and RW, in
+-- this order, R from the base on with the headers in front, RX and RW from page boundaries on.
+use Rattle.std.specs.Prelude.{ℕ, ◌+◌, ◌-◌, ◌*◌, ◌/◌, ◌^◌, ◌<◌, ◌≤◌, ◌&&◌, Bool, true, not, cond, List, [], ◌∷◌, ◌++◌, All, filter, find, map, max, nat_lt, option_map, unwrap_or}
+use Rattle.std.specs.List.{flat_map, list_any}
+use Rattle.elf_model.specs.Loading.{LoadedObject}
+use Rattle.elf_model.specs.Pieces.{Piece, pieces, is_writable, is_executable, has_bytes, same_output}
+use Rattle.elf_model.specs.Placement.{Placed, is_of_section}
+use Rattle.elf_model.specs.declared.records.ProgramHeader.{ProgramHeader}
+
+-- the least multiple of a not below x
+abbrev pub round_up : ℕ → ℕ → ℕ
+round_up a x = (x + (a - 1)) / a * a
+
+-- each piece at the least multiple of its alignment not below the running address, which then is its end
+abbrev pub place_at : ℕ → Piece → Placed
+place_at x p = record { at = round_up p.align x; piece = p }
+
+abbrev pub placed_end : Placed → ℕ
+placed_end q = q.at + q.piece.size
+
+abbrev pub placed_from : ℕ → List Piece → List Placed
+placed_from x [] = []
+placed_from x (p ∷ ps) = place_at x p ∷ placed_from (placed_end (place_at x p)) ps
+
+-- the running address behind all of them
+abbrev pub end_of : ℕ → List Piece → ℕ
+end_of x [] = x
+end_of x (p ∷ ps) = end_of (placed_end (place_at x p)) ps
+
+-- output sections by first appearance in load order, their pieces in load order
+abbrev pub leaders : List Piece → List Piece
+leaders [] = []
+leaders (p ∷ ps) = p ∷ filter (λ q. not (same_output p q)) (leaders ps)
+
+abbrev pub grouped : List Piece → List Piece
+grouped ps = flat_map (λ p. filter (same_output p) ps) (leaders ps)
+
+-- the pieces of each segment, in the order in which they stand; in RW those without bytes come last
+abbrev pub is_read_only : Piece → Bool
+is_read_only p = not (is_writable p.header) && not (is_executable p.header)
+
+abbrev pub is_code : Piece → Bool
+is_code p = is_executable p.header
+
+abbrev pub is_data : Piece → Bool
+is_data p = is_writable p.header && has_bytes p
+
+abbrev pub is_zero : Piece → Bool
+is_zero p = is_writable p.header && not (has_bytes p)
+
+abbrev pub read_only_pieces : List LoadedObject → List Piece
+read_only_pieces objects = grouped (filter is_read_only (pieces objects))
+
+abbrev pub code_pieces : List LoadedObject → List Piece
+code_pieces objects = grouped (filter is_code (pieces objects))
+
+abbrev pub data_pieces : List LoadedObject → List Piece
+data_pieces objects = grouped (filter is_data (pieces objects)) ++ grouped (filter is_zero (pieces objects))
+
+-- the program headers: PT_LOAD of R, of RX and of RW where a nonempty piece is there, PT_GNU_STACK
+abbrev pub is_nonempty : Piece → Bool
+is_nonempty p = nat_lt 0 p.size
+
+abbrev pub header_count : List LoadedObject → ℕ
+header_count objects =
+    2 + (cond (list_any is_nonempty (code_pieces objects)) 1 0 + cond (list_any is_nonempty (data_pieces objects)) 1 0)
+
+abbrev pub own_headers_size : List LoadedObject → ℕ
+own_headers_size objects = 64 + 56 * header_count objects
+
+-- where the segments' pieces begin
+abbrev pub page_up : ℕ → ℕ
+page_up x = round_up 4096 x
+
+abbrev pub read_only_start : ℕ → List LoadedObject → ℕ
+read_only_start base objects = base + own_headers_size objects
+
+abbrev pub code_start : ℕ → List LoadedObject → ℕ
+code_start base objects = page_up (end_of (read_only_start base objects) (read_only_pieces objects))
+
+abbrev pub data_start : ℕ → List LoadedObject → ℕ
+data_start base objects = page_up (end_of (code_start base objects) (code_pieces objects))
+
+abbrev pub own_read_only : ℕ → List LoadedObject → List Placed
+own_read_only base objects = placed_from (read_only_start base objects) (read_only_pieces objects)
+
+abbrev pub own_code : ℕ → List LoadedObject → List Placed
+own_code base objects = placed_from (code_start base objects) (code_pieces objects)
+
+abbrev pub own_data : ℕ → List LoadedObject → List Placed
+own_data base objects = placed_from (data_start base objects) (data_pieces objects)
+
+-- all pieces at their own addresses, in the order in which they stand
+abbrev pub own_placed : ℕ → List LoadedObject → List Placed
+own_placed base objects = own_read_only base objects ++ (own_code base objects ++ own_data base objects)
+
+-- the own address of a piece
+abbrev pub own_address : ℕ → List LoadedObject → Piece → ℕ
+own_address base objects p =
+    unwrap_or (option_map (λ q. q.at) (find (is_of_section p.object p.section) (own_placed base objects))) 0
+
+-- all pieces at their own addresses, in load order
+abbrev pub own_in_load_order : ℕ → List LoadedObject → List Placed
+own_in_load_order base objects = map (λ p. record { at = own_address base objects p; piece = p }) (pieces objects)
+
+-- a segment runs to the greatest end of its nonempty pieces; its file part to that of those with bytes
+abbrev pub greatest_end : (Placed → Bool) → ℕ → List Placed → ℕ
+greatest_end test x [] = x
+greatest_end test x (q ∷ qs) =
+    cond (test q && is_nonempty q.piece) (max (placed_end q) (greatest_end test x qs)) (greatest_end test x qs)
+
+abbrev pub any_placed : Placed → Bool
+any_placed q = true
+
+abbrev pub placed_has_bytes : Placed → Bool
+placed_has_bytes q = has_bytes q.piece
+
+-- a PT_LOAD from an address on, with rights, to the ends that its pieces give from its beginning or the
+-- headers' end on
+abbrev pub segment : ℕ → ℕ → ℕ → ℕ → List Placed → ProgramHeader
+segment base rights start from qs = record {
+  p_type = 1;
+  p_flags = rights;
+  p_offset = start - base;
+  p_vaddr = start;
+  p_paddr = start;
+  p_filesz = greatest_end placed_has_bytes from qs - start;
+  p_memsz = greatest_end any_placed from qs - start;
+  p_align = 4096;
+}
+
+abbrev pub segment_if : List Piece → ProgramHeader → List ProgramHeader
+segment_if ps h = cond (list_any is_nonempty ps) (h ∷ []) []
+
+abbrev pub own_segments : ℕ → List LoadedObject → List ProgramHeader
+own_segments base objects =
+    segment base 4 base (read_only_start base objects) (own_read_only base objects)
+    ∷ (segment_if (code_pieces objects) (segment base 5 (code_start base objects) (code_start base objects) (own_code base objects))
+    ++ segment_if (data_pieces objects) (segment base 6 (data_start base objects) (data_start base objects) (own_data base objects)))
+
+-- the file ends with the last file part
+abbrev pub file_end : List ProgramHeader → ℕ
+file_end [] = 0
+file_end (h ∷ hs) = cond (nat_lt 0 h.p_filesz) (max (h.p_offset + h.p_filesz) (file_end hs)) (file_end hs)
+
+-- TooLarge does not stand: all ends are at or below 2 ^ 46, and the file has fewer than 2 ^ 32 bytes
+pub record IsNotTooLarge (base : ℕ) (objects : List LoadedObject) : Type 0 where
+  pub headers : base + own_headers_size objects ≤ 2 ^ 46
+  pub ends : All (λ q. placed_end q ≤ 2 ^ 46) (own_placed base objects)
+  pub file : file_end (own_segments base objects) < 2 ^ 32

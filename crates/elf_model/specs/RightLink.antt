@@ -1,0 +1,241 @@
+-- What a right link is: thirteen clauses on the files, the words, the image and the map (System V gABI 4 and
+-- 5; which links are in the profile, and what fills gaps, is the profile's). None of them says how a linker
+-- lays anything out.
+use Rattle.std.specs.Prelude.{◌≡◌, ℕ, ◌+◌, ◌<◌, ◌≤◌, ◌==◌, true, cond, List, [], ◌∷◌, Option, Some, None, Ok, All, Any, find, length, map, option_map, slice_index, IsSomeAnd}
+use Rattle.std.specs.Str.{bytes_eq}
+use Rattle.elf_model.specs.Command.{Plan, command_of}
+use Rattle.elf_model.specs.Files.{File}
+use Rattle.elf_model.specs.Loading.{LoadedObject, loaded_objects, AreFilesThere, AreObjects}
+use Rattle.elf_model.specs.MapRecord.{MapRecord, ObjectRow, PlaceRow, SymbolRow}
+use Rattle.elf_model.specs.MapText.{text, IsMap}
+use Rattle.elf_model.specs.MemoryImage.{IsImage, Cell, memory_of, loads, thread_blocks, Encloses}
+use Rattle.elf_model.specs.Pieces.{Piece, pieces, AreLawfulKinds}
+use Rattle.elf_model.specs.Placement.{Placed, placed_by, things, got_things, Covers, IsPlaced, HasRights, symbol_value}
+use Rattle.elf_model.specs.Profile.{IsInProfile}
+use Rattle.elf_model.specs.Records.{file_header}
+use Rattle.elf_model.specs.Resolution.{SymbolOf, chosen, AreUnique, AreSoundSymbols, IsEntry}
+use Rattle.elf_model.specs.declared.link_map.Definition.TheVariants.{Strong}
+use Rattle.elf_model.specs.declared.records.ProgramHeader.{ProgramHeader}
+use Rattle.elf_model.specs.declared.thing.Thing.{Thing}
+use Rattle.elf_model.specs.declared.verdict.Clause.{Clause}
+use Rattle.elf_model.specs.declared.verdict.Clause.TheVariants.{C1, C2, C3, C4, C5, C6, C7, C8, C9, C10, C11, C12, C13}
+
+-- what the clauses speak of, once the words are a plan and the text is a map
+pub record Subject : Type 0 where
+  pub plan : Plan
+  pub files : List File
+  pub image : List ℕ
+  pub map : MapRecord
+
+abbrev pub objects_of : Subject → List LoadedObject
+objects_of s = loaded_objects s.files s.plan
+
+abbrev pub placed_of : Subject → List Placed
+placed_of s = placed_by s.map.places (pieces (objects_of s))
+
+abbrev pub things_of : Subject → List Thing
+things_of s = things s.image s.map (placed_of s)
+
+-- C1. The words are the plan, and the text is the map's.
+pub record IsRead (words : List (List ℕ)) (bytes : List ℕ) (s : Subject) : Type 0 where
+  pub plan : command_of words ≡ Ok s.plan
+  pub map : IsMap s.map
+  pub spelled : bytes ≡ text s.map
+
+-- C2. The files are there and are objects in the profile, and the map's objects are those loaded, in order.
+abbrev pub object_rows : ℕ → List LoadedObject → List ObjectRow
+object_rows k [] = []
+object_rows k (o ∷ os) = record { object = k; item = o.item; offset = o.offset; path = o.path } ∷ object_rows (k + 1) os
+
+pub record IsLoaded (s : Subject) : Type 0 where
+  pub files : AreFilesThere s.files s.plan
+  pub objects : AreObjects (objects_of s)
+  pub profile : IsInProfile s.plan (objects_of s)
+  pub rows : s.map.objects ≡ object_rows 0 (objects_of s)
+
+-- C3. Kept sections have lawful kinds, and the drop, place and common lines are exactly the dropped
+-- sections, the kept ones and the common blocks, but for addresses. Nothing is dropped or common in the profile.
+pub record SectionFacts : Type 0 where
+  pub object : ℕ
+  pub section : ℕ
+  pub size : ℕ
+  pub name : List ℕ
+
+abbrev pub facts_of_row : PlaceRow → SectionFacts
+facts_of_row row = record { object = row.object; section = row.section; size = row.size; name = row.name }
+
+abbrev pub facts_of_piece : Piece → SectionFacts
+facts_of_piece p = record { object = p.object; section = p.section; size = p.size; name = p.name }
+
+pub record AreSectionsListed (s : Subject) : Type 0 where
+  pub kinds : AreLawfulKinds (objects_of s)
+  pub drops : s.map.drops ≡ []
+  pub places : map facts_of_row s.map.places ≡ map facts_of_piece (pieces (objects_of s))
+  pub commons : s.map.commons ≡ []
+
+-- C4. The image is one that a loader maps (`IsImage`).
+-- C5. Pieces, GOT and headers are aligned, within the addresses, and apart (`IsPlaced`).
+-- C6. Each lies in a segment that has exactly its rights (`HasRights`).
+
+-- C7. The GOT stands exactly where a relocation asks for it; no relocation is in the profile.
+pub record IsGotRight (s : Subject) : Type 0 where
+  pub got : s.map.got ≡ None
+  pub slots : s.map.slots ≡ []
+
+-- C8. PT_TLS stands exactly where thread-local pieces do; none is in the profile.
+abbrev pub IsThreadBlockRight : Subject → Type 0
+IsThreadBlockRight s = thread_blocks s.image ≡ []
+
+-- C9. Each relocated field holds its value; no relocation is in the profile, so it holds always.
+
+-- C10. Memory holds each piece: at each of its addresses the byte that is wanted there, its input's, and 0
+-- where the input has none.
+abbrev pub wanted_byte : Piece → ℕ → ℕ
+wanted_byte p k = slice_index p.bytes k
+
+abbrev pub byte_at : List ℕ → ℕ → Option ℕ
+byte_at image a = option_map (λ c. c.byte) (memory_of image a)
+
+pub record HoldsPiece (image : List ℕ) (q : Placed) : Type 0 where
+  pub bytes : (k : ℕ) → k < q.piece.size → byte_at image (q.at + k) ≡ Some (wanted_byte q.piece k)
+
+-- C11. Each mapped byte outside all things is fill: 0x90 where it may be executed, else 0.
+abbrev pub fill_of : ℕ → ℕ
+fill_of rights = cond (rights == 5) 0x90 0
+
+abbrev pub IsFilled : List ℕ → List Thing → Type 0
+IsFilled image ts =
+    (a : ℕ) (c : Cell) → memory_of image a ≡ Some c → All (λ t. ¬ Covers t a) ts → c.byte ≡ fill_of c.rights
+
+-- a nonempty thing of the segment
+pub record IsOfSegment (h : ProgramHeader) (t : Thing) : Type 0 where
+  pub some_bytes : 0 < t.size
+  pub inside : Encloses h t.at t.size
+
+-- a PT_LOAD's memory ends with a nonempty thing, and its file part with the last of those that have bytes in
+-- the file; without any it is empty
+pub record EndsRight (ts : List Thing) (h : ProgramHeader) : Type 0 where
+  pub memory : Any (λ t. IsOfSegment h t × (t.at + t.size ≡ h.p_vaddr + h.p_memsz)) ts
+  pub file_holds : All (λ t. IsOfSegment h t → t.in_file ≡ true → t.at + t.size ≤ h.p_vaddr + h.p_filesz) ts
+  pub file_ends :
+      0 < h.p_filesz
+      → Any (λ t. IsOfSegment h t × (t.in_file ≡ true) × (t.at + t.size ≡ h.p_vaddr + h.p_filesz)) ts
+
+-- a file offset lies in the file part of a segment
+abbrev pub IsInFilePart : ProgramHeader → ℕ → Type 0
+IsInFilePart h i = (h.p_offset ≤ i) × (i < h.p_offset + h.p_filesz)
+
+pub record HasNothingElse (image : List ℕ) (ts : List Thing) : Type 0 where
+  pub fill : IsFilled image ts
+  pub segments : All (EndsRight ts) (loads image)
+  pub gaps : (i : ℕ) → i < length image → All (λ h. ¬ IsInFilePart h i) (loads image) → slice_index image i ≡ 0
+  pub end : Any (λ h. (0 < h.p_filesz) × (h.p_offset + h.p_filesz ≡ length image)) (loads image)
+
+-- C12. The entry is lawful, and e_entry is its value.
+abbrev pub EntersRight : Subject → Type 0
+EntersRight s =
+    IsEntry (objects_of s) s.plan.entry
+    × IsSomeAnd (chosen (objects_of s) s.plan.entry) (λ d. (file_header s.image).e_entry ≡ symbol_value (placed_of s) d)
+
+-- C13. Symbols are sound, no name has two strong definitions, and the symbol lines are exactly the chosen
+-- definitions, with their values: each name has the line that its chosen definition asks for, or none.
+abbrev pub symbol_row_of : List Placed → SymbolOf → SymbolRow
+symbol_row_of ps d = record { address = symbol_value ps d; definition = Strong d.object d.number; name = d.name }
+
+abbrev pub HasLine : List SymbolRow → List LoadedObject → List Placed → List ℕ → Type 0
+HasLine rows objects ps name =
+    find (λ row. bytes_eq row.name name) rows ≡ option_map (symbol_row_of ps) (chosen objects name)
+
+pub record AreSymbolsListed (s : Subject) : Type 0 where
+  pub sound : AreSoundSymbols (objects_of s)
+  pub unique : AreUnique (objects_of s)
+  pub lines : (name : List ℕ) → HasLine s.map.symbols (objects_of s) (placed_of s) name
+
+-- The clauses by number. The first is what makes a subject of words and text, so it holds of each.
+abbrev pub Holds : Clause → Subject → Type 0
+Holds C1 s = Unit {0}
+Holds C2 s = IsLoaded s
+Holds C3 s = AreSectionsListed s
+Holds C4 s = IsImage s.image
+Holds C5 s = IsPlaced s.plan.base (things_of s) (placed_of s)
+Holds C6 s = HasRights s.plan.base (loads s.image) (things_of s) (got_things s.map.got)
+Holds C7 s = IsGotRight s
+Holds C8 s = IsThreadBlockRight s
+Holds C9 s = Unit {0}
+Holds C10 s = All (HoldsPiece s.image) (placed_of s)
+Holds C11 s = HasNothingElse s.image (things_of s)
+Holds C12 s = EntersRight s
+Holds C13 s = AreSymbolsListed s
+
+-- all clauses before a clause hold
+abbrev pub BeforeC3 : Subject → Type 0
+BeforeC3 s = Holds C2 s
+
+abbrev pub BeforeC4 : Subject → Type 0
+BeforeC4 s = BeforeC3 s × Holds C3 s
+
+abbrev pub BeforeC5 : Subject → Type 0
+BeforeC5 s = BeforeC4 s × Holds C4 s
+
+abbrev pub BeforeC6 : Subject → Type 0
+BeforeC6 s = BeforeC5 s × Holds C5 s
+
+abbrev pub BeforeC7 : Subject → Type 0
+BeforeC7 s = BeforeC6 s × Holds C6 s
+
+abbrev pub BeforeC8 : Subject → Type 0
+BeforeC8 s = BeforeC7 s × Holds C7 s
+
+abbrev pub BeforeC9 : Subject → Type 0
+BeforeC9 s = BeforeC8 s × Holds C8 s
+
+abbrev pub BeforeC10 : Subject → Type 0
+BeforeC10 s = BeforeC9 s × Holds C9 s
+
+abbrev pub BeforeC11 : Subject → Type 0
+BeforeC11 s = BeforeC10 s × Holds C10 s
+
+abbrev pub BeforeC12 : Subject → Type 0
+BeforeC12 s = BeforeC11 s × Holds C11 s
+
+abbrev pub BeforeC13 : Subject → Type 0
+BeforeC13 s = BeforeC12 s × Holds C12 s
+
+abbrev pub HoldsBefore : Clause → Subject → Type 0
+HoldsBefore C1 s = Unit {0}
+HoldsBefore C2 s = Unit {0}
+HoldsBefore C3 s = BeforeC3 s
+HoldsBefore C4 s = BeforeC4 s
+HoldsBefore C5 s = BeforeC5 s
+HoldsBefore C6 s = BeforeC6 s
+HoldsBefore C7 s = BeforeC7 s
+HoldsBefore C8 s = BeforeC8 s
+HoldsBefore C9 s = BeforeC9 s
+HoldsBefore C10 s = BeforeC10 s
+HoldsBefore C11 s = BeforeC11 s
+HoldsBefore C12 s = BeforeC12 s
+HoldsBefore C13 s = BeforeC13 s
+
+-- A right link: the words are a plan and the text a map, and all clauses hold.
+pub record IsRightLink (files : List File) (words : List (List ℕ)) (image bytes : List ℕ) : Type 0 where
+  pub plan : Plan
+  pub map : MapRecord
+  pub read : IsRead words bytes (record { plan = plan; files = files; image = image; map = map })
+  pub before_last : HoldsBefore C13 (record { plan = plan; files = files; image = image; map = map })
+  pub last : Holds C13 (record { plan = plan; files = files; image = image; map = map })
+
+-- The least clause that fails, from the second on: those before it hold, it does not. The first fails where
+-- words and text make no subject (`IsUnread`).
+pub record FailsAt (clause : Clause) (files : List File) (words : List (List ℕ)) (image bytes : List ℕ) : Type 0 where
+  pub plan : Plan
+  pub map : MapRecord
+  pub read : IsRead words bytes (record { plan = plan; files = files; image = image; map = map })
+  pub before : HoldsBefore clause (record { plan = plan; files = files; image = image; map = map })
+  pub fails : ¬ Holds clause (record { plan = plan; files = files; image = image; map = map })
+
+abbrev pub IsUnread : List (List ℕ) → List ℕ → Type 0
+IsUnread words bytes = (s : Subject) → IsRead words bytes s → ⊥
+
+abbrev pub Least : Clause → List File → List (List ℕ) → List ℕ → List ℕ → Type 0
+Least C1 files words image bytes = IsUnread words bytes
+Least clause files words image bytes = FailsAt clause files words image bytes

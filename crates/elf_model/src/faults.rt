@@ -1,0 +1,161 @@
+//! The numbered refusals of the readers and of the linker. Each prints as its name and its number.
+ghost use Rattle.std.specs.Prelude.{◌≡◌};
+ghost use Rattle.elf_model.specs.declared.faults.CmdFault.TheVariants as cmd_fault;
+ghost use Rattle.elf_model.specs.declared.faults.ObjFault.TheVariants as obj_fault;
+ghost use Rattle.elf_model.specs.declared.faults.LoadFault.TheVariants as load_fault;
+ghost use Rattle.elf_model.specs.declared.faults.MapFault.TheVariants as map_fault;
+ghost use Rattle.elf_model.specs.declared.faults.LinkError.TheVariants as link_error;
+
+use std::alloc::{AllocError, AllocFailed};
+use thiserror::Error;
+
+/// Why the words are no command.
+#[derive(Clone, Copy, Debug, Error)]
+pub enum CmdFault {
+    #[error("Memory (1)")]
+    Memory,
+    #[error("UnknownOption (2)")]
+    UnknownOption,
+    #[error("MissingValue (3)")]
+    MissingValue,
+    #[error("BadNumber (4)")]
+    BadNumber,
+    #[error("GroupNesting (5)")]
+    GroupNesting,
+    #[error("NoInput (6)")]
+    NoInput,
+    #[error("NotArchiveInGroup (7)")]
+    NotArchiveInGroup,
+}
+
+/// Why bytes are no object of this profile (docs/PROFILE.md).
+#[derive(Clone, Copy, Debug, Error)]
+pub enum ObjFault {
+    #[error("Memory (1)")]
+    Memory,
+    #[error("Truncated (2)")]
+    Truncated,
+    #[error("NotElf64 (3)")]
+    NotElf64,
+    #[error("NotRelocatable (4)")]
+    NotRelocatable,
+    #[error("WrongMachine (5)")]
+    WrongMachine,
+    #[error("BadSectionTable (6)")]
+    BadSectionTable,
+    #[error("BadSectionRange (7)")]
+    BadSectionRange,
+    #[error("BadString (8)")]
+    BadString,
+    #[error("BadSymbolTable (9)")]
+    BadSymbolTable,
+    #[error("BadRela (10)")]
+    BadRela,
+    #[error("BadGroup (11)")]
+    BadGroup,
+    #[error("TooMany (12)")]
+    TooMany,
+}
+
+/// Why bytes are no executable that a loader of this profile maps.
+#[derive(Clone, Copy, Debug, Error)]
+pub enum LoadFault {
+    #[error("Memory (1)")]
+    Memory,
+    #[error("BadHeader (2)")]
+    BadHeader,
+    #[error("BadSegment (3)")]
+    BadSegment,
+    #[error("Order (4)")]
+    Order,
+    #[error("SharedPage (5)")]
+    SharedPage,
+}
+
+/// Why a text is no link map: the first line, counted from 1, at which it is no beginning of one.
+#[derive(Clone, Copy, Debug, Error)]
+pub enum MapFault {
+    #[error("Memory (1)")]
+    Memory,
+    #[error("Line {0} (2)")]
+    Line(u64),
+}
+
+/// Why a link was refused. A name is the symbol's, as its object spells it.
+#[derive(Debug, Drop, Error)]
+pub enum LinkError {
+    #[error("Memory (1)")]
+    Memory,
+    #[error("Command (2): {0}")]
+    Command(CmdFault),
+    #[error("FileMissing (3)")]
+    FileMissing,
+    #[error("BadObject (4): {0}")]
+    BadObject(ObjFault),
+    #[error("Duplicate (9)")]
+    Duplicate(Vec<u8>),
+    #[error("NoEntry (18)")]
+    NoEntry,
+    #[error("TooLarge (20)")]
+    TooLarge,
+    #[error("BadSymbol (21)")]
+    BadSymbol,
+    #[error("NotYet (22)")]
+    NotYet,
+}
+
+impl From<AllocError> for CmdFault {
+    ghost from_gives = { λ _ fault. fault ≡ cmd_fault.Memory };
+
+    fn from(_error: AllocError) -> CmdFault {
+        CmdFault::Memory
+    }
+}
+
+impl<T: Drop> From<AllocFailed<T>> for CmdFault {
+    ghost from_gives = { λ _ fault. fault ≡ cmd_fault.Memory };
+
+    fn from(_error: AllocFailed<T>) -> CmdFault {
+        CmdFault::Memory
+    }
+}
+
+impl From<AllocError> for ObjFault {
+    ghost from_gives = { λ _ fault. fault ≡ obj_fault.Memory };
+
+    fn from(_error: AllocError) -> ObjFault {
+        ObjFault::Memory
+    }
+}
+
+impl From<AllocError> for LoadFault {
+    ghost from_gives = { λ _ fault. fault ≡ load_fault.Memory };
+
+    fn from(_error: AllocError) -> LoadFault {
+        LoadFault::Memory
+    }
+}
+
+impl From<AllocError> for MapFault {
+    ghost from_gives = { λ _ fault. fault ≡ map_fault.Memory };
+
+    fn from(_error: AllocError) -> MapFault {
+        MapFault::Memory
+    }
+}
+
+impl From<AllocError> for LinkError {
+    ghost from_gives = { λ _ fault. fault ≡ link_error.Memory };
+
+    fn from(_error: AllocError) -> LinkError {
+        LinkError::Memory
+    }
+}
+
+impl<T: Drop> From<AllocFailed<T>> for LinkError {
+    ghost from_gives = { λ _ fault. fault ≡ link_error.Memory };
+
+    fn from(_error: AllocFailed<T>) -> LinkError {
+        LinkError::Memory
+    }
+}
