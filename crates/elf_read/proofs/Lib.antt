@@ -1,0 +1,6 @@
+pub mod Entries
+mod PowersOfTwo
+mod SectionLemmas
+mod Faults
+mod Whole
+mod OneTexts

@@ -1,0 +1,218 @@
+//! Reads relocatable object files (System V gABI 4): accepts exactly those of the profile, and says
+//! of the others why they are none.
+#![tactic(auto)]
+
+mod header;
+mod object;
+mod profile;
+mod sections;
+mod symbols;
+
+pub use elf_model::ObjFault;
+pub use object::Object;
+pub use profile::is_plain_object;
+
+#[cfg(test)]
+mod tests {
+    use super::*;
+    use crate::sections::NULL_SECTION;
+    use byteview::View;
+    use elf_model::{
+        EM_X86_64, ET_REL, FileHeader, SHF_ALLOC, SHF_EXECINSTR, SHT_PROGBITS, SHT_STRTAB,
+        SHT_SYMTAB, SectionHeader, Symbol,
+    };
+    use std::alloc::{AllocError, Global};
+    use std::test::Fail;
+
+    static TEXT: [u8; 9] = [0xb8, 0x3c, 0, 0, 0, 0x31, 0xff, 0x0f, 0x05];
+
+    const SYMTAB: SectionHeader = SectionHeader {
+        sh_name: 7,
+        sh_type: SHT_SYMTAB,
+        sh_offset: 80,
+        sh_size: 48,
+        sh_link: 3,
+        sh_info: 1,
+        sh_addralign: 8,
+        sh_entsize: 24,
+        ..NULL_SECTION
+    };
+
+    const HEADER: FileHeader = FileHeader {
+        e_ident: [0x7f, b'E', b'L', b'F', 2, 1, 1, 0, 0, 0, 0, 0, 0, 0, 0, 0],
+        e_type: ET_REL,
+        e_machine: EM_X86_64,
+        e_version: 1,
+        e_entry: 0,
+        e_phoff: 0,
+        e_shoff: 176,
+        e_flags: 0,
+        e_ehsize: 64,
+        e_phentsize: 0,
+        e_phnum: 0,
+        e_shentsize: 64,
+        e_shnum: 5,
+        e_shstrndx: 4,
+    };
+
+    const START: Symbol = Symbol {
+        st_name: 1,
+        st_info: 0x12,
+        st_other: 0,
+        st_shndx: 1,
+        st_value: 0,
+        st_size: 9,
+    };
+
+    const TEXT_SECTION: SectionHeader = SectionHeader {
+        sh_name: 1,
+        sh_type: SHT_PROGBITS,
+        sh_flags: SHF_ALLOC | SHF_EXECINSTR,
+        sh_offset: 64,
+        sh_size: 9,
+        sh_addralign: 1,
+        ..NULL_SECTION
+    };
+
+    /// An object whose one symbol besides the null one is the function `_start`, in its `.text`.
+    fn start_object(alloc: Global) -> Result<Vec<u8>, AllocError> {
+        object_of(alloc, &HEADER, &TEXT_SECTION)
+    }
+
+    fn object_of(
+        alloc: Global,
+        header: &FileHeader,
+        text: &SectionHeader,
+    ) -> Result<Vec<u8>, AllocError> {
+        let mut bytes = Vec::new(alloc);
+        let mut record = [0; 64];
+        header.write_to(&mut record);
+        bytes.extend_from_slice(&record)?;
+        bytes.extend_from_slice(&TEXT)?;
+        bytes.extend_from_slice(&[0; 31])?;
+        let mut start = [0; 24];
+        START.write_to(&mut start);
+        bytes.extend_from_slice(&start)?;
+        bytes.extend_from_slice(b"\0_start\0")?;
+        bytes.extend_from_slice(b"\0.text\0.symtab\0.strtab\0.shstrtab\0")?;
+        bytes.extend_from_slice(&[0; 7])?;
+        put_section(&mut bytes, &NULL_SECTION)?;
+        put_section(&mut bytes, text)?;
+        put_section(&mut bytes, &SYMTAB)?;
+        put_section(&mut bytes, &strings(15, 128, 8))?;
+        put_section(&mut bytes, &strings(23, 136, 33))?;
+        Ok(bytes)
+    }
+
+    fn put_section(bytes: &mut Vec<u8>, section: &SectionHeader) -> Result<(), AllocError> {
+        let mut record = [0; 64];
+        section.write_to(&mut record);
+        bytes.extend_from_slice(&record)
+    }
+
+    fn strings(name: u32, offset: u64, size: u64) -> SectionHeader {
+        SectionHeader {
+            sh_name: name,
+            sh_type: SHT_STRTAB,
+            sh_offset: offset,
+            sh_size: size,
+            sh_addralign: 1,
+            ..NULL_SECTION
+        }
+    }
+
+    fn fault_of(alloc: Global, bytes: &[u8]) -> Option<ObjFault> {
+        Object::read(alloc, View::new(bytes)).err()
+    }
+
+    #[test]
+    fn an_object_is_read(rt: HostRuntime) -> Result<(), Fail> {
+        let bytes = start_object(rt.alloc())?;
+        let object = Object::read(rt.alloc(), View::new(&bytes))?;
+        assert_eq!(rt; object.sections().len(), 5);
+        assert_eq!(rt; object.symbols().len(), 2);
+        assert!(rt; object.section_name(0) == Some(b"".as_slice()));
+        assert!(rt; object.section_name(1) == Some(b".text".as_slice()));
+        assert!(rt; object.section_name(4) == Some(b".shstrtab".as_slice()));
+        assert!(rt; object.section_name(5).is_none());
+        assert!(rt; object.name(1) == Some(b"_start".as_slice()));
+        assert!(rt; object.name(2).is_none());
+        assert!(rt; object.section_bytes(0).is_none());
+        assert!(rt; object.section_bytes(1) == Some(TEXT.as_slice()));
+        assert!(rt; object.section_bytes(5).is_none());
+        assert_eq!(rt; object.bytes().len(), 496);
+        Ok(())
+    }
+
+    #[test]
+    fn a_beginning_is_no_object(rt: HostRuntime) -> Result<(), Fail> {
+        let bytes = start_object(rt.alloc())?;
+        let file = View::new(&bytes);
+        let alloc = rt.alloc();
+        assert!(rt; matches!(fault_of(alloc, file.part(0, 63)), Some(ObjFault::Truncated)));
+        assert!(rt;
+            matches!(
+                fault_of(alloc, file.part(0, 64)),
+                Some(ObjFault::BadSectionTable)
+            )
+        );
+        assert!(rt;
+            matches!(
+                fault_of(alloc, file.part(0, 495)),
+                Some(ObjFault::BadSectionTable)
+            )
+        );
+        assert!(rt; fault_of(alloc, file.part(0, 496)).is_none());
+        Ok(())
+    }
+
+    #[test]
+    fn a_table_past_the_end_is_refused(rt: HostRuntime) -> Result<(), Fail> {
+        let header = FileHeader {
+            e_shoff: 0xffff_ffff_ffff_ffc0,
+            ..HEADER
+        };
+        let bytes = object_of(rt.alloc(), &header, &TEXT_SECTION)?;
+        assert!(rt;
+            matches!(
+                fault_of(rt.alloc(), &bytes),
+                Some(ObjFault::BadSectionTable)
+            )
+        );
+        Ok(())
+    }
+
+    #[test]
+    fn a_section_past_the_end_is_refused(rt: HostRuntime) -> Result<(), Fail> {
+        let text = SectionHeader {
+            sh_offset: u64::MAX,
+            ..TEXT_SECTION
+        };
+        let bytes = object_of(rt.alloc(), &HEADER, &text)?;
+        assert!(rt;
+            matches!(
+                fault_of(rt.alloc(), &bytes),
+                Some(ObjFault::BadSectionRange)
+            )
+        );
+        Ok(())
+    }
+
+    #[test]
+    fn a_name_past_the_strings_is_refused(rt: HostRuntime) -> Result<(), Fail> {
+        let text = SectionHeader {
+            sh_name: u32::MAX,
+            ..TEXT_SECTION
+        };
+        let bytes = object_of(rt.alloc(), &HEADER, &text)?;
+        assert!(rt; matches!(fault_of(rt.alloc(), &bytes), Some(ObjFault::BadString)));
+        Ok(())
+    }
+
+    #[test]
+    fn a_second_symbol_table_is_refused(rt: HostRuntime) -> Result<(), Fail> {
+        let bytes = object_of(rt.alloc(), &HEADER, &SYMTAB)?;
+        assert!(rt; matches!(fault_of(rt.alloc(), &bytes), Some(ObjFault::BadSymbolTable)));
+        Ok(())
+    }
+}

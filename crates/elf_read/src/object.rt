@@ -1,0 +1,116 @@
+ghost use Rattle.std.specs.Prelude.{◌≡◌, List, ℕ, length, IfErr, IfOk, IfSome, OnOk, option_copied};
+ghost use Rattle.elf_model.specs.ObjectFile.{IsObject, ObjFaultStands, section, section_bytes, section_name, sections, symbol_name, symbols};
+ghost use Rattle.elf_model.specs.declared.faults.ObjFault.TheVariants as fault;
+
+use crate::header::{read_header, read_sections};
+use crate::sections::{contents, has_no_bytes, judge_sections, section, symbol_table};
+use crate::symbols::{judge_symbols, read_symbols};
+use byteview::View;
+use elf_model::{ObjFault, SectionHeader, Symbol};
+use std::alloc::Global;
+use std::marker::Model;
+
+/// A relocatable object file of the profile, read from its bytes, which it borrows. Sections and
+/// symbols go by their numbers in the section header table and in the symbol table.
+#[derive(Drop)]
+pub struct Object<'a> {
+    file: View<'a>,
+    section_strings: View<'a>,
+    symbol_strings: View<'a>,
+    sections: Vec<SectionHeader>,
+    symbols: Vec<Symbol>,
+}
+
+impl<'a> Model for Object<'a> {
+    ghost use Rattle.std.specs.Prelude.{List, ℕ};
+
+    ghost Value = { List ℕ };
+
+    ghost use Rattle.elf_read.specs.Reading.{IsRead};
+
+    ghost view = { λ o. o.file };
+
+    ghost invariant = { λ o. IsRead o.file o.section_strings o.symbol_strings o.sections.items o.symbols.items };
+}
+
+impl<'a> Object<'a> {
+    /// The object in a file's bytes, or a fault of them.
+    ///
+    /// # Errors
+    ///
+    /// `ObjFault` says what stands against the bytes (docs/PROFILE.md); `Memory` alone may be
+    /// answered of an object.
+    pub fn read(alloc: Global, view: View<'a>) -> Result<Object<'a>, ObjFault>
+        ensures exact { IfOk result (λ o. o ≡ view.entry) }
+        ensures object { OnOk result (IsObject view.entry) }
+        ensures fault { IfErr result (ObjFaultStands view.entry) }
+        ensures only { IsObject view.entry → IfErr result (λ f. f ≡ fault.Memory) }
+    {
+        let header = read_header(&view)?;
+        let sections = read_sections(alloc, &view, &header)?;
+        judge_sections(&view, &header, &sections)?;
+        let table = symbol_table(&sections);
+        let symbols = read_symbols(alloc, &view, &table)?;
+        judge_symbols(&view, &header, &sections, &symbols)?;
+        let section_names = section(&sections, header.e_shstrndx as usize);
+        let symbol_names = section(&sections, table.sh_link as usize);
+        Ok(Object {
+            section_strings: contents(&view, &section_names),
+            symbol_strings: contents(&view, &symbol_names),
+            file: view,
+            sections,
+            symbols,
+        })
+    }
+
+    /// All bytes of the file, which are an object's.
+    pub fn bytes(&self) -> &'a [u8]
+        ensures exact { result.now ≡ self.now }
+        ensures object { IsObject self.now }
+    {
+        self.file.bytes()
+    }
+
+    /// The section header table, its null section too.
+    pub fn sections(&self) -> &[SectionHeader]
+        ensures { result.now ≡ sections self.now }
+    {
+        self.sections.as_slice()
+    }
+
+    /// The symbols, the null symbol too; none where the file has no symbol table.
+    pub fn symbols(&self) -> &[Symbol]
+        ensures { result.now ≡ symbols self.now }
+    {
+        self.symbols.as_slice()
+    }
+
+    /// The name of section `i`; None where there is no such section.
+    pub fn section_name(&self, i: usize) -> Option<&'a [u8]>
+        ensures { option_copied result ≡ section_name self.now i }
+    {
+        let section = self.sections.get(i)?;
+        self.section_strings.text_at(section.sh_name as usize)
+    }
+
+    /// The name of symbol `j`; None where there is no such symbol.
+    pub fn name(&self, j: usize) -> Option<&'a [u8]>
+        ensures { option_copied result ≡ symbol_name self.now j }
+    {
+        let symbol = self.symbols.get(j)?;
+        self.symbol_strings.text_at(symbol.st_name as usize)
+    }
+
+    /// The bytes of section `i`; None where there is no such section, and where it is one of type
+    /// NULL or NOBITS.
+    pub fn section_bytes(&self, i: usize) -> Option<&'a [u8]>
+        ensures exact { option_copied result ≡ section_bytes self.now i }
+        ensures size { IfSome result (λ bytes. length bytes.now ≡ (section (sections self.now) i).sh_size) }
+    {
+        let section = self.sections.get(i)?;
+        if has_no_bytes(section) {
+            return None;
+        }
+        Some(contents(&self.file, section).bytes())
+    }
+}

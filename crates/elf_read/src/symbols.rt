@@ -1,0 +1,112 @@
+ghost use Rattle.std.specs.Prelude.{◌≡◌, ◌↔◌, ◌/◌, ◌<◌, ◌^◌, length, IfErr, IfOk, OnOk, IsTrue};
+ghost use Rattle.byteview.specs.Numbers.{IsInside, part};
+ghost use Rattle.std.specs.List.{All};
+ghost use Rattle.elf_model.specs.ObjectFile.{AreGoodSymbols, AreSectionsNamed, AreSymbolsNamed, HasGoodSymbolTable, HasTable, IsGoodSymbol, IsPlaced, IsStringTable, LiesInside, StandsIn, contents, entries, section, symbol_table, symbols_of};
+ghost use Rattle.elf_model.specs.Records.{symbol};
+
+use crate::sections::{are_sections_named, contents, section, symbol_table};
+use byteview::View;
+use elf_model::{
+    FileHeader, ObjFault, SHN_ABS, SHN_COMMON, SHN_UNDEF, STB_WEAK, STT_TLS, SYM_SIZE,
+    SectionHeader, Symbol,
+};
+use std::alloc::{AllocError, Global};
+
+/// The symbol number 0, and one that is not there.
+const NULL_SYMBOL: Symbol = Symbol {
+    st_name: 0,
+    st_info: 0,
+    st_other: 0,
+    st_shndx: SHN_UNDEF,
+    st_value: 0,
+    st_size: 0,
+};
+
+/// The symbols of a table that lies inside the file.
+#[tactic(auto, using(crate::proofs::Entries::entries_more))]
+pub fn read_symbols(
+    alloc: Global,
+    file: &View<'_>,
+    table: &SectionHeader,
+) -> Result<Vec<Symbol>, AllocError>
+    requires small { length file.now < 2 ^ 32 }
+    requires inside { LiesInside (length file.now) table.now }
+    ensures { IfOk result (λ v. v.items ≡ entries symbol 24 file.now table.now.sh_offset (table.now.sh_size / 24)) }
+{
+    let count = table.sh_size as usize / SYM_SIZE;
+    let mut symbols = Vec::with_capacity(alloc, count)?;
+    for i in 0..count {
+        let symbol = symbol_at(file, table.sh_offset as usize + SYM_SIZE * i);
+        symbols.push(symbol)?;
+    }
+    Ok(symbols)
+}
+
+/// The symbol at an offset, which lies inside the file.
+fn symbol_at(file: &View<'_>, at: usize) -> Symbol
+    requires { IsInside file.now at 24 }
+    ensures { result ≡ symbol (part file.now at 24) }
+{
+    let Some(symbol) = Symbol::read(View::new(file.part(at, SYM_SIZE))) else {
+        unreachable!()
+    };
+    symbol
+}
+
+/// Judges the symbols, and the names of sections and symbols.
+pub fn judge_symbols(
+    file: &View<'_>,
+    header: &FileHeader,
+    sections: &[SectionHeader],
+    symbols: &[Symbol],
+) -> Result<(), ObjFault>
+    requires table { HasTable (length file.now) header.now }
+    requires strings { IsStringTable sections.now header.now.e_shstrndx }
+    requires ranges { All (IsPlaced (length file.now)) sections.now }
+    requires symbol_table { HasGoodSymbolTable sections.now }
+    requires symbols_are { symbols.now ≡ symbols_of file.now sections.now }
+    ensures symbols { OnOk result (AreGoodSymbols header.now.e_shnum symbols.now) }
+    ensures section_names { OnOk result (AreSectionsNamed (contents file.now (section sections.now header.now.e_shstrndx)) sections.now) }
+    ensures symbol_names { OnOk result (AreSymbolsNamed (contents file.now (section sections.now (symbol_table sections.now).sh_link)) symbols.now) }
+    ensures fault { IfErr result (StandsIn file.now header.now sections.now symbols.now) }
+{
+    if !are_good_symbols(symbols, header.e_shnum) {
+        return Err(ObjFault::BadSymbolTable);
+    }
+    let section_names = section(sections, header.e_shstrndx as usize);
+    if !are_sections_named(&contents(file, &section_names), sections) {
+        return Err(ObjFault::BadString);
+    }
+    let symbol_names = section(sections, symbol_table(sections).sh_link as usize);
+    if !are_symbols_named(&contents(file, &symbol_names), symbols) {
+        return Err(ObjFault::BadString);
+    }
+    Ok(())
+}
+
+/// Whether the symbols are those of a file with `count` sections.
+fn are_good_symbols(symbols: &[Symbol], count: u16) -> bool
+    ensures { IsTrue result ↔ AreGoodSymbols count symbols.now }
+{
+    let first = symbols.first().copied().unwrap_or(NULL_SYMBOL);
+    first == NULL_SYMBOL && symbols.iter().all(|symbol| is_good_symbol(symbol, count))
+}
+
+/// Whether each symbol's name is a text of the string table.
+fn are_symbols_named(strings: &View<'_>, symbols: &[Symbol]) -> bool
+    ensures { IsTrue result ↔ AreSymbolsNamed strings.now symbols.now }
+{
+    let limit = strings.text_limit();
+    symbols
+        .iter()
+        .all(|symbol| (symbol.st_name as usize) < limit)
+}
+
+fn is_good_symbol(symbol: &Symbol, count: u16) -> bool
+    ensures { IsTrue result ↔ IsGoodSymbol count symbol.now }
+{
+    if symbol.st_info / 16 > STB_WEAK || symbol.st_info % 16 > STT_TLS {
+        return false;
+    }
+    symbol.st_shndx < count || symbol.st_shndx == SHN_ABS || symbol.st_shndx == SHN_COMMON
+}
