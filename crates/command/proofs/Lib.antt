@@ -1,0 +1,12 @@
+pub mod Texts
+pub mod Outcomes
+pub mod Facts
+pub mod Back
+pub mod Found
+pub mod Spelled
+pub mod PlanPaths
+pub mod Distinct
+pub mod Ahead
+pub mod Splitting
+pub mod Growth
+pub mod Hexadecimal

@@ -1,0 +1,5 @@
+pub mod Views
+pub mod PhraseViews
+pub mod Steps
+pub mod PlaceViews
+pub mod Candidates

@@ -1,0 +1,7 @@
+-- A plan so far and its place, as clauses see them.
+use Rattle.elf_model.specs.Command.{Plan}
+use Rattle.command.specs.declared.reading.Place.{Place}
+use Rattle.command.specs.Steps.{State}
+
+abbrev pub state_of : Plan → Place → State
+state_of plan place = record { plan = plan; whole = place.whole; group = place.group; groups = place.groups }
