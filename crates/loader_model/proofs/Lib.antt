@@ -1,0 +1,5 @@
+pub mod ImageFacts
+pub mod MemoryLemmas
+pub mod Neighbours
+pub mod Pages
+pub mod TableOrder
