@@ -1,0 +1,14 @@
+pub mod ChainLaws
+pub mod DigitLaws
+pub mod GrowthLaws
+pub mod HexLaws
+pub mod Injective
+pub mod LineLaws
+pub mod NameLaws
+pub mod NumberLaws
+pub mod OrderLaws
+pub mod Parsers
+pub mod PrintLaws
+pub mod ReadLaws
+pub mod Tags
+pub mod TextLaws

@@ -1,0 +1,148 @@
+-- A reader that has read some lines of a map: what each answer of the next line says of the whole text.
+use Rattle.std.proofs.Common.{◌≡◌, ℕ, ◌+◌, ◌<◌, ◌≤◌, ◌⊎◌, inl, inr, List, [], ◌∷◌, ◌++◌, length, Option, Some, None, refl, sym, ap, ◌∙◌, subst, arith}
+use Rattle.std.proofs.Common.{true, false, eqb}
+use Rattle.std.proofs.lemmas.Bool.{eqb-true, eq-eqb, false≢true}
+use Rattle.std.proofs.lemmas.List.{append_assoc, append-nil, length-append, length_push, nil_from_length}
+use Rattle.std.proofs.lemmas.List.Concat.{flat_map-append}
+use Rattle.std.proofs.lemmas.List.Elements.{All-nil}
+use Rattle.std.proofs.lemmas.Option.{none-some, some_pair_parts}
+use Rattle.elf_model.specs.MapRecord.{MapRecord}
+use Rattle.elf_model.specs.MapText.{Line, Version, Object, Drop, Place, Common, Got, Slot, Symbol, End, line_text, object_text, drop_text, place_text, common_text, got_text, slot_text, symbol_text, body, text, IsMap, IsFirstWrong}
+use Rattle.linkmap.specs.declared.digits.LineFault.{LineFault}
+use Rattle.linkmap.specs.declared.digits.LineFault.TheVariants as line_fault
+use Rattle.linkmap.specs.Reading.{line_at, tag, Fails}
+use Rattle.linkmap.specs.Order.{MayStand, add, empty_map}
+use Rattle.linkmap.proofs.ChainLaws.{Follows, last, last-append, after_end, tail}
+use Rattle.linkmap.proofs.GrowthLaws.{stands, body-add, is_map-add}
+use Rattle.linkmap.proofs.Injective.{text_injective}
+use Rattle.linkmap.proofs.LineLaws.{FitsLine, line-IsParser}
+use Rattle.linkmap.proofs.Parsers.{Took}
+use Rattle.linkmap.proofs.Tags.{tag_takes, tag_again}
+use Rattle.linkmap.proofs.TextLaws.{spell, first_line, Front, wrong_line}
+
+-- the lines of m, behind the first, are read, and the rest is left; k is the number of the next line
+pub record Reading (m : MapRecord) (bytes rest : List ℕ) (k : ℕ) : Type 0 where
+  pub is_map : IsMap m
+  pub whole : bytes ≡ first_line ++ (spell (body m) ++ rest)
+  pub counted : k ≡ 2 + length (body m)
+
+-- nothing is read behind the first line
+empty_is_map : IsMap empty_map
+empty_is_map = record {
+  fits = record { objects = All-nil _; drops = All-nil _; places = All-nil _; commons = All-nil _; got = All-nil _; slots = All-nil _; symbols = All-nil _ };
+  ordered = record {
+    objects = λ k d l. absurd (omega arith);
+    drops = λ k d l. absurd (omega arith);
+    places = λ k d l. absurd (omega arith);
+    commons = λ k d l. absurd (omega arith);
+    slots = λ k d l. absurd (omega arith);
+    symbols = λ k d l. absurd (omega arith);
+  };
+}
+
+pub start : (bytes rest : List ℕ) → tag first_line bytes ≡ Some rest → Reading empty_map bytes rest 2
+unfolding body
+start bytes rest h = record { is_map = empty_is_map; whole = tag_takes first_line bytes rest h; counted = refl }
+
+pub no_first : (bytes : List ℕ) → tag first_line bytes ≡ None → IsFirstWrong 1 bytes
+no_first bytes h = record {
+  counted = omega arith;
+  right = record { whole = empty_map; is_map = empty_is_map; within = omega arith; rest = bytes; front = refl };
+  wrong = λ b. never b.rest b.front;
+  no_map = λ m i e. none-some (spell (tail m)) (sym h ∙ ap (tag first_line) e ∙ tag_again first_line (spell (tail m)));
+} where
+  never : (rest : List ℕ) → bytes ≡ (first_line ++ []) ++ rest → ⊥
+  never rest e = none-some rest (sym h ∙ ap (tag first_line) e ∙ tag_again first_line rest)
+
+module _ (m : MapRecord) (bytes rest : List ℕ) (k : ℕ) (r : Reading m bytes rest k) where
+  abbrev so_far : Front (body m)
+  so_far = record { whole = m; is_map = r.is_map; more = End ∷ []; front = refl }
+
+  open_end : End ∷ [] ≡ [] → rest ≡ [] → ⊥
+  open_end e f = cc
+
+  -- no line can be read
+  pub bad_line : line_at rest ≡ None → IsFirstWrong k bytes
+  bad_line h =
+      wrong_line (body m) rest so_far
+      (λ l left fits follows e. none-some (l, left) (sym h ∙ ap line_at e ∙ line-IsParser.again l left fits))
+      open_end bytes k r.whole r.counted
+
+  -- a line that may not stand there
+  pub misplaced : (x : Line) (next : List ℕ) → Took (line_at rest) x next → (MayStand m x → ⊥) → (x ≡ End → ⊥) → IsFirstWrong k bytes
+  misplaced x next h never other = wrong_line (body m) rest so_far by open_end bytes k r.whole r.counted where
+    cases : (MayStand m x ⊎ (x ≡ End)) → ⊥
+    cases (inl s) = never s
+    cases (inr e) = other e
+
+    by : (l : Line) (left : List ℕ) → FitsLine l → Follows (last Version (body m)) l → rest ≡ line_text l ++ left → ⊥
+    by l left fits follows e =
+        let same = some_pair_parts l x left next (sym (line-IsParser.again l left fits) ∙ ap line_at (sym e) ∙ h) in
+        cases (stands m r.is_map.ordered.objects x (subst (λ (w : Line). Follows (last Version (body m)) w) same.0 follows))
+
+  -- the last line
+  ended : (left : List ℕ) → Took (line_at rest) End left → spell (body m) ++ rest ≡ spell (tail m) ++ left
+  ended left h =
+      let t = line-IsParser.takes rest End left h in
+      ap (λ w. spell (body m) ++ w) t.0 ∙ sym (append_assoc (spell (body m)) (line_text End) left)
+      ∙ ap (λ w. w ++ left) (sym (flat_map-append line_text (body m) (End ∷ [])))
+
+  pub found : Took (line_at rest) End [] → bytes ≡ text m
+  found h = r.whole ∙ ap (λ w. first_line ++ w) (ended [] h ∙ append-nil (spell (tail m)))
+
+  pub behind_end : (left : List ℕ) → Took (line_at rest) End left → (left ≡ [] → ⊥) → IsFirstWrong (k + 1) bytes
+  behind_end left h some =
+      wrong_line (tail m) left (record { whole = m; is_map = r.is_map; more = []; front = sym (append-nil (tail m)) })
+      (λ l next fits follows e. after_end l (subst (λ (w : Line). Follows w l) (last-append Version (body m) (End ∷ [])) follows))
+      (λ e f. some f) bytes (k + 1) (r.whole ∙ ap (λ w. first_line ++ w) (ended left h))
+      (omega (arith, r.counted, length_push (body m) End))
+
+  -- one line on
+  pub one_more : (x : Line) (left : List ℕ) → Took (line_at rest) x left → MayStand m x → Reading (add m x) bytes left (k + 1)
+  one_more x left h s =
+      let t = line-IsParser.takes rest x left h in
+      let longer = body-add m x s in
+      let joined = ap (λ w. spell (body m) ++ w) t.0 ∙ sym (append_assoc (spell (body m)) (line_text x) left) in
+      let spelled = ap spell longer ∙ flat_map-append line_text (body m) (x ∷ []) ∙ ap (λ w. spell (body m) ++ w) (append-nil (line_text x)) in
+      record {
+        is_map = is_map-add m x s t.1 r.is_map;
+        whole = r.whole ∙ ap (λ w. first_line ++ w) (joined ∙ ap (λ w. w ++ left) (sym spelled));
+        counted = omega (arith, r.counted, ap length longer, length_push (body m) x);
+      }
+
+-- a line takes at least a byte
+line_some : (l : Line) → 0 < length (line_text l)
+unfolding object_text drop_text place_text common_text got_text slot_text symbol_text
+line_some Version = omega arith
+line_some (Object o) = omega arith
+line_some (Drop d) = omega arith
+line_some (Place p) = omega arith
+line_some (Common c) = omega arith
+line_some (Got g) = omega arith
+line_some (Slot s) = omega arith
+line_some (Symbol s) = omega arith
+line_some End = omega arith
+
+pub line_shorter : (rest : List ℕ) (x : Line) (left : List ℕ) → Took (line_at rest) x left → length left < length rest
+line_shorter rest x left h =
+    let t = line-IsParser.takes rest x left h in
+    omega (arith, ap length t.0, length-append (line_text x) left, line_some x)
+
+pub first_shorter : (bytes rest : List ℕ) → tag first_line bytes ≡ Some rest → 2 + length rest ≤ length bytes
+first_shorter bytes rest h = omega (arith, ap length (tag_takes first_line bytes rest h))
+
+-- the answers of the parts, as the facts above take them
+pub fails_bad : (e : LineFault) (o : Option (Line × List ℕ)) → e ≡ line_fault.Bad → Fails e o → o ≡ None
+fails_bad e o is h = subst (λ (w : LineFault). Fails w o) is h
+
+pub took_end : (o : Option (Line × List ℕ)) (x : Line) (left : List ℕ) → Took o x left → x ≡ End → Took o End left
+took_end o x left h e = subst (λ (w : Line). Took o w left) e h
+
+pub nothing_left : (left : List ℕ) → true ≡ eqb (length left) 0 → left ≡ []
+nothing_left left e = nil_from_length left (eqb-true (length left) 0 (sym e))
+
+pub something_left : (left : List ℕ) → false ≡ eqb (length left) 0 → left ≡ [] → ⊥
+something_left left e none = false≢true (e ∙ eq-eqb (length left) 0 (ap length none))
+
+pub read_same : (m n : MapRecord) (bytes : List ℕ) → IsMap m → bytes ≡ text m → IsMap n → bytes ≡ text n → m ≡ n
+read_same m n bytes h e i f = text_injective m n h i (sym e ∙ f)

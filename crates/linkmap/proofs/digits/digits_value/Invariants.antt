@@ -1,0 +1,9 @@
+use Rattle.std.proofs.Common.{◌≡◌, ◌<◌, ◌^◌, take}
+use Rattle.std.specs.Str.Parse.{digits_value}
+use Rattle.linkmap.proofs.digits.digits_value.Given as goal
+
+abbrev pub invariant-loop-digit : goal.invariant-loop-digit
+invariant-loop-digit l = record {
+  fits : l.value < 2 ^ 64;
+  is : l.value ≡ digits_value 10 (take l.digit-index l.digits);
+}

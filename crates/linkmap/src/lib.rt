@@ -1,0 +1,19 @@
+//! The text of a link map, version 1 (docs/MAP.md): `print` spells a map, and `read` accepts exactly what
+//! `print` spells.
+#![tactic(auto)]
+
+mod digits;
+mod fields;
+mod keys;
+mod names;
+mod printer;
+mod reader;
+
+pub use elf_model::{LinkMap, MapFault};
+pub use keys::ordered;
+pub use names::escape;
+pub use printer::print;
+pub use reader::read;
+
+#[cfg(test)]
+mod tests;

@@ -1,0 +1,113 @@
+//! The names in a map: visible ASCII but the backslash stands for itself, every other byte is `\x` and two
+//! hexadecimal digits.
+ghost use Rattle.std.specs.Prelude.{false, ◌≡◌, ◌<◌, ◌≤◌, ◌++◌, IfOk, OnOk, length, take, drop, option_map};
+ghost use Rattle.std.specs.List.{prefix_len};
+ghost use Rattle.elf_model.specs.MapText as map_text;
+ghost use Rattle.linkmap.specs.Reading as reading;
+
+use crate::digits::{LineFault, put_pair, read_pair, strip};
+use std::alloc::{AllocError, Global};
+
+/// Whether a byte of a name stands for itself.
+fn is_plain(byte: u8) -> bool
+    ensures { result ≡ map_text.is_plain byte }
+{
+    33 <= byte && byte <= 126 && byte != b'\\'
+}
+
+/// How many of the first bytes stand for themselves.
+fn plain_len(bytes: &[u8]) -> usize
+    ensures value { result ≡ prefix_len map_text.is_plain bytes.now }
+    ensures within { result ≤ length bytes.now }
+{
+    bytes.iter().take_while(|b| is_plain(**b)).count()
+}
+
+/// The first bytes that stand for themselves, and the bytes behind them.
+fn split_plain(bytes: &[u8]) -> (&[u8], &[u8])
+    ensures front { result.0.now ≡ take (prefix_len map_text.is_plain bytes.now) bytes.now }
+    ensures back { result.1.now ≡ drop (prefix_len map_text.is_plain bytes.now) bytes.now }
+{
+    bytes.split_at(plain_len(bytes))
+}
+
+/// The spelling of a name in a map.
+pub fn escape(alloc: Global, name: &[u8]) -> Result<Vec<u8>, AllocError>
+    ensures { IfOk result (λ spelling. spelling.items ≡ map_text.escaped name.now) }
+{
+    let mut spelling = Vec::with_capacity(alloc, name.len())?;
+    put_escaped(&mut spelling, name)?;
+    Ok(spelling)
+}
+
+/// Appends a byte that does not stand for itself.
+#[tactic(auto, unfolding(elf_model::specs::MapText::spelled))]
+fn put_escape(out: &mut Vec<u8>, byte: u8) -> Result<(), AllocError>
+    requires { map_text.is_plain byte ≡ false }
+    ensures { OnOk result (out.new.items ≡ out.old.items ++ map_text.spelled byte) }
+{
+    out.extend_from_slice(b"\\x")?;
+    put_pair(out, byte)?;
+    Ok(())
+}
+
+/// Appends the spelling of a name.
+fn put_escaped(out: &mut Vec<u8>, name: &[u8]) -> Result<(), AllocError>
+    ensures { OnOk result (out.new.items ≡ out.old.items ++ map_text.escaped name.now) }
+{
+    let mut rest = name;
+    'runs: loop {
+        let (plain, after) = split_plain(rest);
+        out.extend_from_slice(plain)?;
+        let Some((byte, after)) = after.split_first() else {
+            return Ok(());
+        };
+        put_escape(out, *byte)?;
+        rest = after;
+    }
+}
+
+/// Appends a name and the newline that ends its line.
+#[tactic(auto, unfolding(elf_model::specs::MapText::name))]
+pub fn put_name(out: &mut Vec<u8>, name: &[u8]) -> Result<(), AllocError>
+    ensures text { OnOk result (out.new.items ≡ out.old.items ++ map_text.name name.now) }
+    ensures fits { map_text.AreBytes name.now }
+{
+    put_escaped(out, name)?;
+    out.push(b'\n')?;
+    Ok(())
+}
+
+/// A byte that is spelled with `\x`, and the bytes behind it.
+#[tactic(auto, unfolding(crate::specs::Reading::escape_at))]
+fn read_escape(bytes: &[u8]) -> Option<(u8, &[u8])>
+    ensures { option_map (λ x. (x.0, x.1.now)) result ≡ reading.escape_at bytes.now }
+{
+    let rest = strip(bytes, b"\\x")?;
+    let (byte, rest) = read_pair(rest)?;
+    if is_plain(byte) {
+        None
+    } else {
+        Some((byte, rest))
+    }
+}
+
+/// A name with the newline that ends its line, and the bytes behind it.
+pub fn read_name(alloc: Global, bytes: &[u8]) -> Result<(Vec<u8>, &[u8]), LineFault>
+    ensures { reading.Gives (λ x. (x.0.items, x.1.now)) result (reading.name_at bytes.now) }
+{
+    let mut name = Vec::new(alloc);
+    let mut rest = bytes;
+    'runs: loop {
+        let (plain, after) = split_plain(rest);
+        name.extend_from_slice(plain)?;
+        let Some((byte, left)) = read_escape(after) else {
+            let Some(left) = strip(after, b"\n") else {
+                return Err(LineFault::Bad);
+            };
+            return Ok((name, left));
+        };
+        name.extend_from_slice(&[byte])?;
+        rest = left;
+    }
+}

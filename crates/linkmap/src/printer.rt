@@ -1,0 +1,252 @@
+//! A map's text.
+ghost use Rattle.std.specs.Prelude.{◌≡◌, ◌++◌, IfOk, OnOk, All, option_to_list};
+ghost use Rattle.std.specs.List.{flat_map};
+ghost use Rattle.elf_model.specs.MapRecord.{map_of, object_row, place_row, common_row, slot_row, target_row, symbol_row};
+ghost use Rattle.elf_model.specs.MapText as map_text;
+
+use crate::digits::{put_address, put_last_number, put_number};
+use crate::names::put_name;
+use elf_model::{
+    CommonLine, Definition, DropLine, GotLine, LinkMap, ObjectLine, PlaceLine, SlotKind, SlotLine,
+    SlotTarget, SymbolLine,
+};
+use std::alloc::{AllocError, Global};
+
+#[tactic(auto, unfolding(elf_model::specs::MapText::object_text))]
+fn put_object(out: &mut Vec<u8>, o: &ObjectLine) -> Result<(), AllocError>
+    ensures text { OnOk result (out.new.items ≡ out.old.items ++ map_text.object_text (object_row o.now)) }
+    ensures fits { OnOk result (map_text.FitsObject (object_row o.now)) }
+{
+    out.extend_from_slice(b"object ")?;
+    put_number(out, o.object)?;
+    put_number(out, o.item)?;
+    put_number(out, o.offset)?;
+    put_name(out, &o.path)?;
+    Ok(())
+}
+
+#[tactic(auto, unfolding(elf_model::specs::MapText::drop_text))]
+fn put_drop(out: &mut Vec<u8>, d: &DropLine) -> Result<(), AllocError>
+    ensures text { OnOk result (out.new.items ≡ out.old.items ++ map_text.drop_text d.now) }
+    ensures fits { OnOk result (map_text.FitsDrop d.now) }
+{
+    out.extend_from_slice(b"drop ")?;
+    put_number(out, d.object)?;
+    put_last_number(out, d.section)?;
+    Ok(())
+}
+
+#[tactic(auto, unfolding(elf_model::specs::MapText::place_text))]
+fn put_place(out: &mut Vec<u8>, p: &PlaceLine) -> Result<(), AllocError>
+    ensures text { OnOk result (out.new.items ≡ out.old.items ++ map_text.place_text (place_row p.now)) }
+    ensures fits { OnOk result (map_text.FitsPlace (place_row p.now)) }
+{
+    out.extend_from_slice(b"place ")?;
+    put_address(out, p.address)?;
+    put_number(out, p.size)?;
+    put_number(out, p.object)?;
+    put_number(out, p.section)?;
+    put_name(out, &p.name)?;
+    Ok(())
+}
+
+#[tactic(auto, unfolding(elf_model::specs::MapText::common_text))]
+fn put_common(out: &mut Vec<u8>, c: &CommonLine) -> Result<(), AllocError>
+    ensures text { OnOk result (out.new.items ≡ out.old.items ++ map_text.common_text (common_row c.now)) }
+    ensures fits { OnOk result (map_text.FitsCommon (common_row c.now)) }
+{
+    out.extend_from_slice(b"common ")?;
+    put_address(out, c.address)?;
+    put_number(out, c.size)?;
+    put_number(out, c.align)?;
+    put_name(out, &c.name)?;
+    Ok(())
+}
+
+#[tactic(auto, unfolding(elf_model::specs::MapText::got_text))]
+fn put_got(out: &mut Vec<u8>, g: &GotLine) -> Result<(), AllocError>
+    ensures text { OnOk result (out.new.items ≡ out.old.items ++ map_text.got_text g.now) }
+    ensures fits { OnOk result (map_text.FitsGot g.now) }
+{
+    out.extend_from_slice(b"got ")?;
+    put_address(out, g.address)?;
+    put_last_number(out, g.size)?;
+    Ok(())
+}
+
+fn put_kind(out: &mut Vec<u8>, kind: SlotKind) -> Result<(), AllocError>
+    ensures { OnOk result (out.new.items ≡ out.old.items ++ map_text.kind_text kind) }
+{
+    match kind {
+        SlotKind::Value => out.extend_from_slice(b"value ")?,
+        SlotKind::Thread => out.extend_from_slice(b"thread ")?,
+    }
+    Ok(())
+}
+
+fn put_target(out: &mut Vec<u8>, target: &SlotTarget) -> Result<(), AllocError>
+    ensures text { OnOk result (out.new.items ≡ out.old.items ++ map_text.target_text (target_row target.now)) }
+    ensures fits { OnOk result (map_text.FitsTarget (target_row target.now)) }
+{
+    match target {
+        SlotTarget::Name(name) => {
+            out.extend_from_slice(b"name ")?;
+            put_name(out, name)?;
+            Ok(())
+        }
+        SlotTarget::Local { object, symbol } => {
+            out.extend_from_slice(b"local ")?;
+            put_number(out, *object)?;
+            put_last_number(out, *symbol)?;
+            Ok(())
+        }
+    }
+}
+
+#[tactic(auto, unfolding(elf_model::specs::MapText::slot_text))]
+fn put_slot(out: &mut Vec<u8>, s: &SlotLine) -> Result<(), AllocError>
+    ensures text { OnOk result (out.new.items ≡ out.old.items ++ map_text.slot_text (slot_row s.now)) }
+    ensures fits { OnOk result (map_text.FitsSlot (slot_row s.now)) }
+{
+    out.extend_from_slice(b"slot ")?;
+    put_address(out, s.address)?;
+    put_kind(out, s.kind)?;
+    put_target(out, &s.target)?;
+    Ok(())
+}
+
+fn put_definition(out: &mut Vec<u8>, definition: Definition) -> Result<(), AllocError>
+    ensures text { OnOk result (out.new.items ≡ out.old.items ++ map_text.definition_text definition) }
+    ensures fits { OnOk result (map_text.FitsDefinition definition) }
+{
+    match definition {
+        Definition::Strong { object, symbol } => {
+            out.extend_from_slice(b"strong ")?;
+            put_number(out, object)?;
+            put_number(out, symbol)?;
+            Ok(())
+        }
+        Definition::Weak { object, symbol } => {
+            out.extend_from_slice(b"weak ")?;
+            put_number(out, object)?;
+            put_number(out, symbol)?;
+            Ok(())
+        }
+        Definition::Common => {
+            out.extend_from_slice(b"common ")?;
+            Ok(())
+        }
+        Definition::Linker => {
+            out.extend_from_slice(b"linker ")?;
+            Ok(())
+        }
+    }
+}
+
+#[tactic(auto, unfolding(elf_model::specs::MapText::symbol_text))]
+fn put_symbol(out: &mut Vec<u8>, s: &SymbolLine) -> Result<(), AllocError>
+    ensures text { OnOk result (out.new.items ≡ out.old.items ++ map_text.symbol_text (symbol_row s.now)) }
+    ensures fits { OnOk result (map_text.FitsSymbol (symbol_row s.now)) }
+{
+    out.extend_from_slice(b"symbol ")?;
+    put_address(out, s.address)?;
+    put_definition(out, s.definition)?;
+    put_name(out, &s.name)?;
+    Ok(())
+}
+
+fn put_objects(out: &mut Vec<u8>, objects: &[ObjectLine]) -> Result<(), AllocError>
+    ensures text { OnOk result (out.new.items
+        ≡ out.old.items ++ flat_map (λ o. map_text.object_text (object_row o)) objects.now) }
+    ensures fits { OnOk result (All (λ o. map_text.FitsObject (object_row o)) objects.now) }
+{
+    for o in objects {
+        put_object(out, o)?;
+    }
+    Ok(())
+}
+
+fn put_drops(out: &mut Vec<u8>, drops: &[DropLine]) -> Result<(), AllocError>
+    ensures text { OnOk result (out.new.items ≡ out.old.items ++ flat_map map_text.drop_text drops.now) }
+    ensures fits { OnOk result (All map_text.FitsDrop drops.now) }
+{
+    for d in drops {
+        put_drop(out, d)?;
+    }
+    Ok(())
+}
+
+fn put_places(out: &mut Vec<u8>, places: &[PlaceLine]) -> Result<(), AllocError>
+    ensures text { OnOk result (out.new.items
+        ≡ out.old.items ++ flat_map (λ p. map_text.place_text (place_row p)) places.now) }
+    ensures fits { OnOk result (All (λ p. map_text.FitsPlace (place_row p)) places.now) }
+{
+    for p in places {
+        put_place(out, p)?;
+    }
+    Ok(())
+}
+
+fn put_commons(out: &mut Vec<u8>, commons: &[CommonLine]) -> Result<(), AllocError>
+    ensures text { OnOk result (out.new.items
+        ≡ out.old.items ++ flat_map (λ c. map_text.common_text (common_row c)) commons.now) }
+    ensures fits { OnOk result (All (λ c. map_text.FitsCommon (common_row c)) commons.now) }
+{
+    for c in commons {
+        put_common(out, c)?;
+    }
+    Ok(())
+}
+
+fn put_gots(out: &mut Vec<u8>, got: &Option<GotLine>) -> Result<(), AllocError>
+    ensures text { OnOk result (out.new.items
+        ≡ out.old.items ++ flat_map map_text.got_text (option_to_list got.now)) }
+    ensures fits { OnOk result (All map_text.FitsGot (option_to_list got.now)) }
+{
+    if let Some(g) = got {
+        put_got(out, g)?;
+    }
+    Ok(())
+}
+
+fn put_slots(out: &mut Vec<u8>, slots: &[SlotLine]) -> Result<(), AllocError>
+    ensures text { OnOk result (out.new.items
+        ≡ out.old.items ++ flat_map (λ s. map_text.slot_text (slot_row s)) slots.now) }
+    ensures fits { OnOk result (All (λ s. map_text.FitsSlot (slot_row s)) slots.now) }
+{
+    for s in slots {
+        put_slot(out, s)?;
+    }
+    Ok(())
+}
+
+fn put_symbols(out: &mut Vec<u8>, symbols: &[SymbolLine]) -> Result<(), AllocError>
+    ensures text { OnOk result (out.new.items
+        ≡ out.old.items ++ flat_map (λ s. map_text.symbol_text (symbol_row s)) symbols.now) }
+    ensures fits { OnOk result (All (λ s. map_text.FitsSymbol (symbol_row s)) symbols.now) }
+{
+    for s in symbols {
+        put_symbol(out, s)?;
+    }
+    Ok(())
+}
+
+/// The text of a map whose keys are in order.
+pub fn print(alloc: Global, map: &LinkMap) -> Result<Vec<u8>, AllocError>
+    requires { map_text.IsOrdered (map_of map.now) }
+    ensures text { IfOk result (λ printed. printed.items ≡ map_text.text (map_of map.now)) }
+
+    // So what is printed is read as the same map.
+    ensures is_map { OnOk result (map_text.IsMap (map_of map.now)) }
+{
+    let mut out = Vec::from_slice(alloc, b"ldmap 1\n")?;
+    put_objects(&mut out, &map.objects)?;
+    put_drops(&mut out, &map.drops)?;
+    put_places(&mut out, &map.places)?;
+    put_commons(&mut out, &map.commons)?;
+    put_gots(&mut out, &map.got)?;
+    put_slots(&mut out, &map.slots)?;
+    put_symbols(&mut out, &map.symbols)?;
+    out.extend_from_slice(b"end\n")?;
+    Ok(out)
+}

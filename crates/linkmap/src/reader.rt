@@ -1,0 +1,133 @@
+//! A map from its text.
+ghost use Rattle.std.specs.Prelude.{◌≡◌, ◌↔◌, IsTrue, IfOk, IfErr, OnOk, MatchResult};
+ghost use Rattle.elf_model.specs.MapRecord.{MapRecord, map_of};
+ghost use Rattle.elf_model.specs.MapText.{End, IsMap, MapFails, text};
+ghost use Rattle.linkmap.specs.Order.{row, EndsBeforeDrops, EndsBeforePlaces, EndsBeforeCommons, EndsBeforeGot, EndsBeforeSlots, MayStand, add, empty_map};
+ghost use Rattle.elf_model.specs.declared.faults.MapFault.TheVariants as map_fault;
+
+use crate::digits::{LineFault, strip};
+use crate::fields::{MapLine, read_line};
+use crate::keys::{
+    may_follow_commons, may_follow_drops, may_follow_places, may_follow_slots, may_follow_symbols,
+};
+use elf_model::{LinkMap, MapFault};
+use std::alloc::{AllocError, Global};
+
+fn empty(alloc: Global) -> LinkMap
+    ensures { map_of result ≡ empty_map }
+{
+    LinkMap {
+        objects: Vec::new(alloc),
+        drops: Vec::new(alloc),
+        places: Vec::new(alloc),
+        commons: Vec::new(alloc),
+        got: None,
+        slots: Vec::new(alloc),
+        symbols: Vec::new(alloc),
+    }
+}
+
+fn ends_before_slots(map: &LinkMap) -> bool
+    ensures { IsTrue result ↔ EndsBeforeSlots (map_of map.now) }
+{
+    map.slots.is_empty() && map.symbols.is_empty()
+}
+
+fn ends_before_got(map: &LinkMap) -> bool
+    ensures { IsTrue result ↔ EndsBeforeGot (map_of map.now) }
+{
+    map.got.is_none() && ends_before_slots(map)
+}
+
+fn ends_before_commons(map: &LinkMap) -> bool
+    ensures { IsTrue result ↔ EndsBeforeCommons (map_of map.now) }
+{
+    map.commons.is_empty() && ends_before_got(map)
+}
+
+fn ends_before_places(map: &LinkMap) -> bool
+    ensures { IsTrue result ↔ EndsBeforePlaces (map_of map.now) }
+{
+    map.places.is_empty() && ends_before_commons(map)
+}
+
+fn ends_before_drops(map: &LinkMap) -> bool
+    ensures { IsTrue result ↔ EndsBeforeDrops (map_of map.now) }
+{
+    map.drops.is_empty() && ends_before_places(map)
+}
+
+/// Whether a line may stand behind those of the map so far.
+fn may_stand(map: &LinkMap, line: &MapLine) -> bool
+    ensures { IsTrue result ↔ MayStand (map_of map.now) (row line.now) }
+{
+    match line {
+        MapLine::Object(o) => ends_before_drops(map) && o.object == map.objects.len() as u64,
+        MapLine::Drop(d) => ends_before_places(map) && may_follow_drops(&map.drops, d),
+        MapLine::Place(p) => ends_before_commons(map) && may_follow_places(&map.places, p),
+        MapLine::Common(c) => ends_before_got(map) && may_follow_commons(&map.commons, c),
+        MapLine::Got(_) => ends_before_got(map),
+        MapLine::Slot(s) => map.symbols.is_empty() && may_follow_slots(&map.slots, s),
+        MapLine::Symbol(s) => may_follow_symbols(&map.symbols, s),
+        MapLine::End => false,
+    }
+}
+
+fn add_line(map: &mut LinkMap, line: MapLine) -> Result<(), AllocError>
+    ensures { OnOk result (map_of map.new ≡ add (map_of map.old) (row line)) }
+{
+    match line {
+        MapLine::Object(o) => map.objects.push(o)?,
+        MapLine::Drop(d) => map.drops.push(d)?,
+        MapLine::Place(p) => map.places.push(p)?,
+        MapLine::Common(c) => map.commons.push(c)?,
+        MapLine::Got(g) => map.got = Some(g),
+        MapLine::Slot(s) => map.slots.push(s)?,
+        MapLine::Symbol(s) => map.symbols.push(s)?,
+        MapLine::End => {}
+    }
+    Ok(())
+}
+
+fn is_end(line: &MapLine) -> bool
+    ensures { IsTrue result ↔ (row line.now ≡ End) }
+{
+    matches!(line, MapLine::End)
+}
+
+/// The map that a text spells. `Line(n)` is the first line, counted from 1, at which the text is no beginning
+/// of a map.
+pub fn read(alloc: Global, bytes: &[u8]) -> Result<LinkMap, MapFault>
+    ensures found { IfOk result (λ map. IsMap (map_of map) × (bytes.now ≡ text (map_of map))) }
+    ensures fault { IfErr result (MapFails bytes.now) }
+
+    // What `print` wrote is read as the same map, or memory was refused.
+    ensures only { (m : MapRecord) → IsMap m → bytes.now ≡ text m
+        → MatchResult result (λ map. map_of map ≡ m) (λ fault. fault ≡ map_fault.Memory) }
+{
+    let mut map = empty(alloc);
+    let Some(mut rest) = strip(bytes, b"ldmap 1\n") else {
+        return Err(MapFault::Line(1));
+    };
+    let mut number = 2;
+    'lines: loop {
+        let (line, after) = match read_line(alloc, rest) {
+            Ok(found) => found,
+            Err(LineFault::Memory) => return Err(MapFault::Memory),
+            Err(LineFault::Bad) => return Err(MapFault::Line(number)),
+        };
+        if is_end(&line) {
+            return if after.is_empty() {
+                Ok(map)
+            } else {
+                Err(MapFault::Line(number + 1))
+            };
+        }
+        if !may_stand(&map, &line) {
+            return Err(MapFault::Line(number));
+        }
+        add_line(&mut map, line)?;
+        rest = after;
+        number += 1;
+    }
+}
