@@ -1,0 +1,29 @@
+-- The statement that the linker's own layout is a right link.
+use Rattle.std.specs.Prelude.{◌≡◌, ℕ, ◌%◌, ◌^◌, ◌<◌, ◌≤◌, List}
+use Rattle.elf_model.specs.Causes.{IsLinkable}
+use Rattle.elf_model.specs.Command.{Plan}
+use Rattle.elf_model.specs.Files.{File}
+use Rattle.elf_model.specs.ImageFile.{image_file, own_entry, IsOwnMap}
+use Rattle.elf_model.specs.Loading.{loaded_objects}
+use Rattle.elf_model.specs.MapRecord.{MapRecord}
+use Rattle.elf_model.specs.MapText.{IsMap, text}
+use Rattle.elf_model.specs.RightLink.{IsRightLink}
+
+-- a base address: a page boundary from 4096 on, below 2 ^ 46
+pub record IsBase (base : ℕ) : Type 0 where
+  pub on_a_page : base % 4096 ≡ 0
+  pub low : 4096 ≤ base
+  pub high : base < 2 ^ 46
+
+-- where no cause of a refusal stands, the image file of the own layout and the text of its map are a right
+-- link of these files and words. Beside that it asks for what every plan that is read has, a base address;
+-- that the entry's value is an address of 64 bits; and that the own map is one that has a text.
+abbrev pub OwnLinkIsRight : Type 0
+OwnLinkIsRight =
+    (files : List File) (words : List (List ℕ)) (p : Plan) (m : MapRecord)
+    → IsLinkable files words p
+    → IsBase p.base
+    → own_entry p.base (loaded_objects files p) p.entry < 2 ^ 64
+    → IsOwnMap p.base (loaded_objects files p) m
+    → IsMap m
+    → IsRightLink files words (image_file p.base (loaded_objects files p) p.entry) (text m)
