@@ -1,0 +1,17 @@
+pub mod Chosen
+pub mod Gathered
+pub mod ImageFaults
+pub mod Lines
+pub mod OpenedLemmas
+pub mod Padded
+pub mod PairsPermuted
+pub mod Parts
+pub mod PieceLemmas
+pub mod PlaceSteps
+pub mod PlacedFacts
+pub mod ProfileLemmas
+pub mod Regions
+pub mod Rests
+pub mod Sweep
+pub mod SymbolLines
+pub mod Verdicts

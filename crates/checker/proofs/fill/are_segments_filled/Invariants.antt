@@ -1,0 +1,9 @@
+use Rattle.std.proofs.Common.{drop}
+use Rattle.std.specs.Prelude.{All}
+use Rattle.checker.specs.Filled.{SegmentFilled}
+use Rattle.checker.proofs.Rests.{Left}
+use Rattle.checker.proofs.fill.are_segments_filled.Given as goal
+
+abbrev pub invariant-loop-segment : goal.invariant-loop-segment
+invariant-loop-segment l =
+    Left (All (SegmentFilled l.image l.sorted) l.segments) (All (SegmentFilled l.image l.sorted) (drop l.segment-index l.segments))

@@ -1,0 +1,10 @@
+pub mod Bytes
+pub mod Entering
+pub mod FileIndex
+pub mod Filled
+pub mod Judged
+pub mod Opened
+pub mod Sound
+pub mod Subjects
+pub mod Sweeps
+pub mod Views

@@ -1,0 +1,148 @@
+//! That an image has nothing else in memory or in the file: the eleventh clause.
+ghost use Rattle.std.specs.Prelude.{◌≡◌, ◌+◌, ◌≤◌, ◌<◌, ◌^◌, ◌↔◌, ℕ, All, IfOk, IsTrue, length, map, slice_index};
+ghost use Rattle.std.specs.List.Sorted.{IsNonDecreasingBy};
+ghost use Rattle.elf_model.specs.MemoryImage.{segment_byte};
+ghost use Rattle.elf_model.specs.RightLink.{HasNothingElse, IsFilled, fill_of};
+ghost use Rattle.loader_model.specs.Table.{IsLawful};
+ghost use Rattle.checker.specs.Filled.{HasZeroGaps, SegmentFilled, part_of};
+ghost use Rattle.checker.specs.Sweeps.{EndFits, RegionFilled};
+
+use crate::apart::by_address;
+use crate::ends::{all_end_right, ends_with_a_part};
+use crate::region::{Region, is_filled};
+use elf_model::{ProgramHeader, Thing};
+use loader_model::Memory;
+use std::alloc::{AllocError, Global};
+
+/// The byte that fills memory of these rights: a `nop` where it may be executed, else 0.
+fn fill_byte(rights: u32) -> u8
+    ensures { result ≡ fill_of rights }
+{
+    if rights == 5 { 0x90 } else { 0 }
+}
+
+/// The file part of a segment, as much of it as its file has.
+fn file_part<'f>(image: &'f [u8], segment: &ProgramHeader) -> &'f [u8]
+    requires { IsLawful (length image.now) segment.now }
+    ensures { (k : ℕ) → slice_index result.now k ≡ segment_byte image.now segment.now (segment.now.p_vaddr + k) }
+{
+    if segment.p_filesz == 0 {
+        return &[];
+    }
+    let (_before, rest) = image.split_at(segment.p_offset as usize);
+    let (part, _after) = rest.split_at(segment.p_filesz as usize);
+    part
+}
+
+fn is_segment_filled(image: &[u8], segment: &ProgramHeader, sorted: &[Thing]) -> bool
+    requires lawful { IsLawful (length image.now) segment.now }
+    requires end { segment.now.p_vaddr + segment.now.p_memsz < 2 ^ 64 }
+    requires fits { All EndFits sorted.now }
+    requires rising { IsNonDecreasingBy (λ t. t.at) sorted.now }
+    ensures { IsTrue result ↔ SegmentFilled image.now sorted.now segment.now }
+{
+    let region = Region {
+        bytes: file_part(image, segment),
+        start: segment.p_vaddr,
+        top: segment.p_vaddr + segment.p_memsz,
+        fill: fill_byte(segment.p_flags),
+    };
+    is_filled(&region, sorted)
+}
+
+/// Whether memory outside of all things is fill, segment by segment.
+fn are_segments_filled(image: &[u8], segments: &[ProgramHeader], sorted: &[Thing]) -> bool
+    requires lawful { All (IsLawful (length image.now)) segments.now }
+    requires ends { All (λ h. h.p_vaddr + h.p_memsz < 2 ^ 64) segments.now }
+    requires fits { All EndFits sorted.now }
+    requires rising { IsNonDecreasingBy (λ t. t.at) sorted.now }
+    ensures { IsTrue result ↔ All (SegmentFilled image.now sorted.now) segments.now }
+{
+    for segment in segments {
+        if !is_segment_filled(image, segment, sorted) {
+            return false;
+        }
+    }
+    true
+}
+
+/// The file parts of segments as stretches of the file.
+fn parts_of(alloc: Global, segments: &[ProgramHeader]) -> Result<Vec<Thing>, AllocError>
+    ensures { IfOk result (λ v. v.items ≡ map part_of segments.now) }
+{
+    let mut parts = Vec::with_capacity(alloc, segments.len())?;
+    for segment in segments {
+        parts.push(Thing {
+            at: segment.p_offset,
+            size: segment.p_filesz,
+            align: 1,
+            rights: 4,
+            in_file: true,
+        })?;
+    }
+    Ok(parts)
+}
+
+/// Whether the file's bytes outside of all stretches are 0.
+fn are_gaps_zero(image: &[u8], parts: &[Thing]) -> bool
+    requires fits { All EndFits parts.now }
+    requires rising { IsNonDecreasingBy (λ t. t.at) parts.now }
+    ensures { IsTrue result ↔ RegionFilled image.now 0 (length image.now) 0 parts.now }
+{
+    let region = Region {
+        bytes: image,
+        start: 0,
+        top: image.len() as u64,
+        fill: 0,
+    };
+    is_filled(&region, parts)
+}
+
+/// Whether the file's bytes in no file part are 0.
+fn are_file_gaps_zero(alloc: Global, memory: &Memory<'_>) -> Result<bool, AllocError>
+    ensures { IfOk result (λ b. IsTrue b ↔ HasZeroGaps memory.now) }
+{
+    let image = memory.image();
+    let parts = parts_of(alloc, memory.segments())?;
+    let zero = are_gaps_zero(image, &parts);
+    Ok(zero)
+}
+
+/// Whether memory outside of all things is fill.
+fn is_memory_filled(
+    alloc: Global,
+    memory: &Memory<'_>,
+    things: &[Thing],
+) -> Result<bool, AllocError>
+    requires { All EndFits things.now }
+    ensures { IfOk result (λ b. IsTrue b ↔ IsFilled memory.now things.now) }
+{
+    let image = memory.image();
+    let sorted = by_address(alloc, things)?;
+    let filled = are_segments_filled(image, memory.segments(), &sorted);
+    Ok(filled)
+}
+
+/// Whether each byte of memory and of the file outside of all things is what it must be, and segments and
+/// the file end as the things in them do.
+pub fn has_nothing_else(
+    alloc: Global,
+    memory: &Memory<'_>,
+    things: &[Thing],
+) -> Result<bool, AllocError>
+    requires { All EndFits things.now }
+    ensures { IfOk result (λ b. IsTrue b ↔ HasNothingElse memory.now things.now) }
+{
+    if !all_end_right(things, memory.segments()) {
+        return Ok(false);
+    }
+    if !ends_with_a_part(memory.segments(), memory.image().len() as u64) {
+        return Ok(false);
+    }
+    let zero = are_file_gaps_zero(alloc, memory)?;
+    if !zero {
+        return Ok(false);
+    }
+    let filled = is_memory_filled(alloc, memory, things)?;
+    Ok(filled)
+}

@@ -1,0 +1,51 @@
+//! What was loaded, and the second clause of a right link.
+ghost use Rattle.std.specs.Prelude.{◌≡◌, ◌↔◌, IsTrue, map};
+ghost use Rattle.elf_model.specs.Loading.{AreFilesThere, AreObjects};
+ghost use Rattle.elf_model.specs.MapRecord.{object_row};
+ghost use Rattle.elf_model.specs.RightLink.{IsLoaded, object_rows, objects_of};
+ghost use Rattle.checker.specs.Subjects.{row_of, subject_of};
+ghost use Rattle.checker.specs.Views.{loaded_view, loaded_views};
+
+use crate::link::Link;
+use crate::profile::is_in_profile;
+use crate::things::Loaded;
+use elf_model::ObjectLine;
+
+/// Whether an object line says of object `number` what was loaded.
+fn is_line_of(line: &ObjectLine, number: u64, object: &Loaded<'_>) -> bool
+    ensures { IsTrue result ↔ (object_row line.now ≡ row_of number (loaded_view object.now)) }
+{
+    if line.object != number || line.item != object.item {
+        return false;
+    }
+    line.offset == object.offset && line.path.as_slice() == object.path.as_bytes()
+}
+
+/// Whether the object lines are those of the objects, in order.
+fn are_lines_of(lines: &[ObjectLine], objects: &[Loaded<'_>]) -> bool
+    ensures { IsTrue result ↔ (map object_row lines.now ≡ object_rows 0 (loaded_views objects.now)) }
+{
+    if lines.len() != objects.len() {
+        return false;
+    }
+    for (k, line) in lines.iter().enumerate() {
+        if !is_line_of(line, k as u64, &objects[k]) {
+            return false;
+        }
+    }
+    true
+}
+
+/// Whether a link whose objects were opened is in the profile, and its map's object lines are those of
+/// the objects.
+pub fn is_loaded(link: &Link<'_>, objects: &[Loaded<'_>]) -> bool
+    requires loaded { loaded_views objects.now ≡ objects_of (subject_of link.now) }
+    requires files { AreFilesThere (subject_of link.now).files link.now.plan }
+    requires objects { AreObjects (objects_of (subject_of link.now)) }
+    ensures { IsTrue result ↔ IsLoaded (subject_of link.now) }
+{
+    if !is_in_profile(&link.plan, objects) {
+        return false;
+    }
+    are_lines_of(&link.map.objects, objects)
+}

@@ -1,0 +1,115 @@
+//! The pieces at the addresses of the map, and all things of an image with its map.
+ghost use Rattle.std.specs.Prelude.{◌≡◌, ◌+◌, ◌++◌, ◌∷◌, ◌<◌, IfOk, List, map, max};
+ghost use Rattle.elf_model.specs.MapRecord.{place_row};
+ghost use Rattle.elf_model.specs.Pieces.{rights_of, is_nobits};
+ghost use Rattle.elf_model.specs.Placement.{got_things, headers_thing, placed_by, thing_of};
+ghost use Rattle.elf_model.specs.MemoryImage as placement;
+ghost use Rattle.elf_model.specs.MemoryImage.{loads};
+ghost use Rattle.checker.specs.Views.{piece_views, placed_view, placed_views};
+
+use crate::things::{Piece, Placed};
+use elf_model::{GotLine, PlaceLine, SectionHeader, Thing};
+use loader_model::Memory;
+use std::alloc::{AllocError, Global};
+
+/// The pieces at the addresses that the place lines give, the k-th line for the k-th piece.
+pub fn place<'a>(
+    alloc: Global,
+    rows: &[PlaceLine],
+    pieces: &[Piece<'a>],
+) -> Result<Vec<Placed<'a>>, AllocError>
+    ensures { IfOk result (λ v. placed_views v.items ≡ placed_by (map place_row rows.now) (piece_views pieces.now)) }
+{
+    let count = rows.len().min(pieces.len());
+    let mut placed = Vec::with_capacity(alloc, count)?;
+    for i in 0..count {
+        placed.push(Placed {
+            at: rows[i].address,
+            piece: pieces[i],
+        })?;
+    }
+    Ok(placed)
+}
+
+/// The rights of a section's segment: X 1, W 2, R 4 in sum.
+fn section_rights(header: &SectionHeader) -> u64
+    ensures { result ≡ rights_of header.now }
+{
+    if header.sh_flags & 4 != 0 {
+        5
+    } else if header.sh_flags & 1 != 0 {
+        6
+    } else {
+        4
+    }
+}
+
+fn thing_of_placed(placed: &Placed<'_>) -> Thing
+    ensures { result ≡ thing_of (placed_view placed.now) }
+{
+    let header = &placed.piece.header;
+    Thing {
+        at: placed.at,
+        size: header.sh_size,
+        align: header.sh_addralign.max(1),
+        rights: section_rights(header),
+        in_file: header.sh_type != 8,
+    }
+}
+
+fn headers_of(memory: &Memory<'_>) -> Thing
+    ensures { result ≡ headers_thing memory.now }
+{
+    Thing {
+        at: first_address(memory),
+        size: 64 + 56 * memory.header().e_phnum as u64,
+        align: 1,
+        rights: 4,
+        in_file: true,
+    }
+}
+
+/// The address of the first segment, 0 without any.
+fn first_address(memory: &Memory<'_>) -> u64
+    ensures { result ≡ placement.first_address (loads memory.now) }
+{
+    match memory.segments() {
+        [] => 0,
+        [first, ..] => first.p_vaddr,
+    }
+}
+
+/// The GOT, where the map has a line for it.
+pub fn got_things_of(alloc: Global, got: Option<GotLine>) -> Result<Vec<Thing>, AllocError>
+    ensures { IfOk result (λ v. v.items ≡ got_things got) }
+{
+    let mut things = Vec::new(alloc);
+    if let Some(line) = got {
+        things.push(Thing {
+            at: line.address,
+            size: line.size,
+            align: 8,
+            rights: 6,
+            in_file: true,
+        })?;
+    }
+    Ok(things)
+}
+
+/// All things: the headers, the GOT where the map has one, the pieces.
+pub fn things_of(
+    alloc: Global,
+    memory: &Memory<'_>,
+    got: &[Thing],
+    placed: &[Placed<'_>],
+) -> Result<Vec<Thing>, AllocError>
+    ensures { IfOk result (λ v. v.items ≡ headers_thing memory.now ∷ (got.now ++ map thing_of (placed_views placed.now))) }
+{
+    let mut things = Vec::with_capacity(alloc, 1 + got.len() + placed.len())?;
+    things.push(headers_of(memory))?;
+    things.extend_from_slice(got)?;
+    for q in placed {
+        things.push(thing_of_placed(q))?;
+    }
+    Ok(things)
+}

@@ -1,0 +1,35 @@
+//! Reads the words and the map of a link: the first clause.
+ghost use Rattle.std.specs.Prelude.{◌≡◌, IfOk, IfSome, IsSomeAnd, None, Ok};
+ghost use Rattle.elf_model.specs.Command as command;
+ghost use Rattle.elf_model.specs.Command.{command_of};
+ghost use Rattle.elf_model.specs.Files.{words_of};
+ghost use Rattle.elf_model.specs.MapRecord.{MapRecord, map_of};
+ghost use Rattle.elf_model.specs.MapText.{IsMap, text};
+
+use command::{CmdFault, Plan, read_words};
+use elf_model::{LinkMap, MapFault};
+use std::alloc::{AllocError, Global};
+
+/// The plan that the words make; None where they are no command.
+pub fn read_plan<'a>(alloc: Global, words: &'a [String]) -> Result<Option<Plan<'a>>, AllocError>
+    ensures plan { IfOk result (λ o. IfSome o (λ p. command_of (words_of words.entry.now) ≡ Ok p)) }
+    ensures only { IfOk result (λ o. (p : command.Plan) → command_of (words_of words.entry.now) ≡ Ok p → IsSomeAnd o (λ q. q ≡ p)) }
+{
+    match read_words(alloc, words) {
+        Ok(plan) => Ok(Some(plan)),
+        Err(CmdFault::Memory) => Err(AllocError),
+        Err(_) => Ok(None),
+    }
+}
+
+/// The map that the bytes spell; None where they are no map's text.
+pub fn read_map(alloc: Global, bytes: &[u8]) -> Result<Option<LinkMap>, AllocError>
+    ensures map { IfOk result (λ o. IfSome o (λ m. IsMap (map_of m) × (bytes.now ≡ text (map_of m)))) }
+    ensures only { IfOk result (λ o. (m : MapRecord) → IsMap m → bytes.now ≡ text m → IsSomeAnd o (λ n. map_of n ≡ m)) }
+{
+    match linkmap::read(alloc, bytes) {
+        Ok(map) => Ok(Some(map)),
+        Err(MapFault::Memory) => Err(AllocError),
+        Err(MapFault::Line(_)) => Ok(None),
+    }
+}

@@ -1,0 +1,254 @@
+//! The whole check: the clauses in their order, each asked where those before it hold.
+ghost use Rattle.std.specs.Prelude.{◌≡◌, ◌≤◌, ◌↔◌, IfOk, IsTrue, length};
+ghost use Rattle.elf_model.specs.Files.{files_of, words_of};
+ghost use Rattle.elf_model.specs.MapRecord.{map_of};
+ghost use Rattle.elf_model.specs.MapText.{IsMap};
+ghost use Rattle.elf_model.specs.Profile.{IsInProfile};
+ghost use Rattle.elf_model.specs.Resolution.{all_symbols};
+ghost use Rattle.elf_model.specs.RightLink.{AreSymbolsListed, EntersRight, HoldsBefore, IsLoaded, IsRightLink, Least, objects_of, placed_of, things_of};
+ghost use Rattle.elf_model.specs.declared.verdict.Clause.{Clause};
+ghost use Rattle.elf_model.specs.declared.verdict.Clause.TheVariants as clause;
+ghost use Rattle.checker.specs.Judged.{Judges};
+ghost use Rattle.checker.specs.Subjects.{subject_of};
+ghost use Rattle.checker.specs.Views.{loaded_views, placed_views, symbol_views};
+
+use crate::bytes::holds_pieces;
+use crate::definitions::enters_right;
+use crate::fill::has_nothing_else;
+use crate::got::{is_got_right, is_thread_block_right};
+use crate::image::load;
+use crate::link::Link;
+use crate::listed::are_symbols_listed;
+use crate::loading::is_loaded;
+use crate::opening::open;
+use crate::placed::{got_things_of, place, things_of};
+use crate::placing::{has_rights, is_placed};
+use crate::reading::{read_map, read_plan};
+use crate::sections::{are_sections_listed, pieces_of};
+use crate::symbols::symbols_of;
+use crate::things::{Loaded, Placed, SymbolOf};
+use command::Plan;
+use elf_model::{Clause, InputFile, Thing, Verdict};
+use loader_model::Memory;
+use std::alloc::{AllocError, Global};
+
+/// The address at which a plan's image begins.
+fn base_of(plan: &Plan<'_>) -> u64
+    ensures { result ≡ plan.now.base }
+{
+    plan.base
+}
+
+/// The name of a plan's entry.
+fn entry_of<'a>(plan: &Plan<'a>) -> &'a [u8]
+    ensures { result.now ≡ plan.now.entry }
+{
+    plan.entry.as_bytes()
+}
+
+/// Whether the twelfth clause holds of a link.
+fn is_entry_right(
+    link: &Link<'_>,
+    objects: &[Loaded<'_>],
+    memory: &Memory<'_>,
+    placed: &[Placed<'_>],
+    symbols: &[SymbolOf<'_>],
+) -> bool
+    requires loaded { loaded_views objects.now ≡ objects_of (subject_of link.now) }
+    requires memory { memory.now ≡ link.now.image.now }
+    requires placed { placed_views placed.now ≡ placed_of (subject_of link.now) }
+    requires symbols { symbol_views symbols.now ≡ all_symbols (loaded_views objects.now) }
+    ensures { IsTrue result ↔ EntersRight (subject_of link.now) }
+{
+    enters_right(
+        objects,
+        placed,
+        symbols,
+        entry_of(&link.plan),
+        memory.entry(),
+    )
+}
+
+/// Whether the thirteenth clause holds of a link.
+fn are_symbols_right(
+    alloc: Global,
+    link: &Link<'_>,
+    objects: &[Loaded<'_>],
+    placed: &[Placed<'_>],
+    symbols: &[SymbolOf<'_>],
+) -> Result<bool, AllocError>
+    requires map { IsMap (map_of link.now.map) }
+    requires loaded { loaded_views objects.now ≡ objects_of (subject_of link.now) }
+    requires placed { placed_views placed.now ≡ placed_of (subject_of link.now) }
+    requires symbols { symbol_views symbols.now ≡ all_symbols (loaded_views objects.now) }
+    ensures { IfOk result (λ b. IsTrue b ↔ AreSymbolsListed (subject_of link.now)) }
+{
+    let listed = are_symbols_listed(alloc, objects, placed, symbols, &link.map.symbols)?;
+    Ok(listed)
+}
+
+/// Judges the twelfth and the thirteenth clause.
+fn judge_symbols(
+    alloc: Global,
+    link: &Link<'_>,
+    objects: &[Loaded<'_>],
+    memory: &Memory<'_>,
+    placed: &[Placed<'_>],
+) -> Result<Verdict, AllocError>
+    requires map { IsMap (map_of link.now.map) }
+    requires loaded { loaded_views objects.now ≡ objects_of (subject_of link.now) }
+    requires memory { memory.now ≡ link.now.image.now }
+    requires placed { placed_views placed.now ≡ placed_of (subject_of link.now) }
+    requires before { HoldsBefore clause.C12 (subject_of link.now) }
+    ensures { IfOk result (λ v. Judges v (subject_of link.now)) }
+{
+    let symbols = symbols_of(alloc, objects)?;
+    if !is_entry_right(link, objects, memory, placed, &symbols) {
+        return Ok(Verdict::No(Clause::C12));
+    }
+    let listed = are_symbols_right(alloc, link, objects, placed, &symbols)?;
+    if !listed {
+        return Ok(Verdict::No(Clause::C13));
+    }
+    Ok(Verdict::Yes)
+}
+
+/// Judges the clauses from the seventh on.
+fn judge_bytes(
+    alloc: Global,
+    link: &Link<'_>,
+    objects: &[Loaded<'_>],
+    memory: &Memory<'_>,
+    placed: &[Placed<'_>],
+    things: &[Thing],
+) -> Result<Verdict, AllocError>
+    requires map { IsMap (map_of link.now.map) }
+    requires loaded { loaded_views objects.now ≡ objects_of (subject_of link.now) }
+    requires memory { memory.now ≡ link.now.image.now }
+    requires placed { placed_views placed.now ≡ placed_of (subject_of link.now) }
+    requires things { things.now ≡ things_of (subject_of link.now) }
+    requires before { HoldsBefore clause.C7 (subject_of link.now) }
+    ensures { IfOk result (λ v. Judges v (subject_of link.now)) }
+{
+    if !is_got_right(link) {
+        return Ok(Verdict::No(Clause::C7));
+    }
+    if !is_thread_block_right(memory) {
+        return Ok(Verdict::No(Clause::C8));
+    }
+    if !holds_pieces(memory, placed) {
+        return Ok(Verdict::No(Clause::C10));
+    }
+    if !has_nothing_else(alloc, memory, things)? {
+        return Ok(Verdict::No(Clause::C11));
+    }
+    judge_symbols(alloc, link, objects, memory, placed)
+}
+
+/// The pieces of a link at the addresses that its map gives them; one at most.
+fn place_pieces<'a>(
+    alloc: Global,
+    link: &Link<'_>,
+    objects: &[Loaded<'a>],
+) -> Result<Vec<Placed<'a>>, AllocError>
+    requires loaded { loaded_views objects.now ≡ objects_of (subject_of link.now) }
+    requires profile { IsInProfile link.now.plan (objects_of (subject_of link.now)) }
+    ensures placed { IfOk result (λ v. placed_views v.items ≡ placed_of (subject_of link.now)) }
+    ensures one { IfOk result (λ v. length v.items ≤ 1) }
+{
+    let pieces = pieces_of(alloc, objects)?;
+    let placed = place(alloc, &link.map.places, &pieces)?;
+    Ok(placed)
+}
+
+/// Judges the clauses from the fifth on.
+fn judge_places(
+    alloc: Global,
+    link: &Link<'_>,
+    objects: &[Loaded<'_>],
+    memory: &Memory<'_>,
+) -> Result<Verdict, AllocError>
+    requires map { IsMap (map_of link.now.map) }
+    requires loaded { loaded_views objects.now ≡ objects_of (subject_of link.now) }
+    requires memory { memory.now ≡ link.now.image.now }
+    requires before { HoldsBefore clause.C5 (subject_of link.now) }
+    ensures { IfOk result (λ v. Judges v (subject_of link.now)) }
+{
+    let placed = place_pieces(alloc, link, objects)?;
+    let gots = got_things_of(alloc, link.map.got)?;
+    let things = things_of(alloc, memory, &gots, &placed)?;
+    let base = base_of(&link.plan);
+    if !is_placed(alloc, base, &things, &placed)? {
+        return Ok(Verdict::No(Clause::C5));
+    }
+    if !has_rights(base, memory.segments(), &things, &gots) {
+        return Ok(Verdict::No(Clause::C6));
+    }
+    judge_bytes(alloc, link, objects, memory, &placed, &things)
+}
+
+/// Judges the clauses from the third on.
+fn judge_loaded(
+    alloc: Global,
+    link: &Link<'_>,
+    objects: &[Loaded<'_>],
+) -> Result<Verdict, AllocError>
+    requires map { IsMap (map_of link.now.map) }
+    requires loaded { loaded_views objects.now ≡ objects_of (subject_of link.now) }
+    requires holds { IsLoaded (subject_of link.now) }
+    ensures { IfOk result (λ v. Judges v (subject_of link.now)) }
+{
+    let pieces = pieces_of(alloc, objects)?;
+    if !are_sections_listed(link, &pieces) {
+        return Ok(Verdict::No(Clause::C3));
+    }
+    let Some(memory) = load(alloc, link.image)? else {
+        return Ok(Verdict::No(Clause::C4));
+    };
+    judge_places(alloc, link, objects, &memory)
+}
+
+/// Judges the clauses from the second on.
+fn judge(alloc: Global, link: &Link<'_>) -> Result<Verdict, AllocError>
+    requires { IsMap (map_of link.now.map) }
+    ensures { IfOk result (λ v. Judges v (subject_of link.now)) }
+{
+    let Some(objects) = open(alloc, &link.plan, link.files)? else {
+        return Ok(Verdict::No(Clause::C2));
+    };
+    if !is_loaded(link, &objects) {
+        return Ok(Verdict::No(Clause::C2));
+    }
+    judge_loaded(alloc, link, &objects)
+}
+
+/// Decides whether the image and the map are a right link of the files by the command's words: Yes, or the
+/// least clause that fails (docs/DEFINITIONS.md).
+///
+/// # Errors
+///
+/// Only where memory is refused.
+pub fn check(
+    alloc: Global,
+    files: &[InputFile],
+    words: &[String],
+    image: &[u8],
+    map: &[u8],
+) -> Result<Verdict, AllocError>
+    ensures yes { IfOk result (λ v. (v ≡ Verdict.Yes) ↔ IsRightLink (files_of files.now) (words_of words.now) image.now map.now) }
+    ensures no { IfOk result (λ v. (c : Clause) → ((v ≡ Verdict.No c) ↔ Least c (files_of files.now) (words_of words.now) image.now map.now)) }
+{
+    let Some(plan) = read_plan(alloc, words)? else {
+        return Ok(Verdict::No(Clause::C1));
+    };
+    let Some(map) = read_map(alloc, map)? else {
+        return Ok(Verdict::No(Clause::C1));
+    };
+    let link = Link {
+        plan,
+        files,
+        image,
+        map,
+    };
+    judge(alloc, &link)
+}
