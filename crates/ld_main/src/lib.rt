@@ -1,0 +1,17 @@
+//! The linker: from files and the words of a command to an executable image and a link map, and the whole
+//! program over them.
+#![tactic(auto)]
+
+mod defining;
+mod image;
+mod layout;
+mod linking;
+mod own_map;
+mod profile;
+mod program;
+mod resolve;
+mod search;
+
+pub use elf_model::LinkError;
+pub use linking::{Output, link};
+pub use program::run_ld;

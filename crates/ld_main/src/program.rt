@@ -1,0 +1,313 @@
+//! The program: reads the files that the words name, links or checks them, writes or prints the answer.
+ghost use Rattle.std.specs.Prelude.{◌≡◌, ◌≢◌, ◌⊎◌, ◌≤◌, None, IfErr, IfOk, IsErr, IsErrAnd};
+ghost use Rattle.elf_model.specs.Command.{command_of};
+ghost use Rattle.elf_model.specs.Files.{words_of};
+ghost use Rattle.ld_main.specs.Program.{HasRightLink, error_status, failure_status, outcome_status, words_status};
+
+use crate::link;
+use checker::check;
+use command::{Plan, candidates, read_words};
+use elf_model::{Clause, CmdFault, InputFile, LinkError, Verdict};
+use linkmap::escape;
+use std::alloc::{AllocError, AllocFailed, Global};
+use std::borrow::CowStr;
+use std::io::{ErrorKind, Write};
+use std::rt::Files;
+use std::{fs, io};
+
+/// What a run comes to.
+#[derive(Clone, Copy, Debug)]
+enum Outcome {
+    /// The image is written, and the map where the words name one.
+    Linked,
+    /// The image and the map are a right link.
+    Right,
+    /// They are none; the least clause that fails.
+    Wrong(Clause),
+}
+
+/// Why a run ends with a line on standard error.
+#[derive(Debug, Drop)]
+enum Failure<'a> {
+    /// The words or the link are refused; a symbol that the refusal names, as a map spells it.
+    Refused {
+        error: LinkError,
+        symbol: Option<Vec<u8>>,
+    },
+    /// The path of a file that there may be, and that was not read.
+    CannotRead(CowStr<'a>),
+    /// The path of a file that was not written, or only in part.
+    CannotWrite(&'a str),
+}
+
+impl<'a> From<LinkError> for Failure<'a> {
+    ghost from_gives = { λ error failure. failure_status failure ≡ error_status error };
+
+    fn from(error: LinkError) -> Failure<'a> {
+        Failure::Refused {
+            error,
+            symbol: None,
+        }
+    }
+}
+
+impl<'a> From<CmdFault> for Failure<'a> {
+    ghost from_gives = { λ fault failure. failure_status failure ≡ words_status fault };
+
+    fn from(fault: CmdFault) -> Failure<'a> {
+        match fault {
+            CmdFault::Memory => Failure::from(LinkError::Memory),
+            other => Failure::from(LinkError::Command(other)),
+        }
+    }
+}
+
+impl<'a> From<AllocError> for Failure<'a> {
+    ghost from_gives = { λ _ failure. failure_status failure ≡ 4 };
+
+    fn from(_error: AllocError) -> Failure<'a> {
+        Failure::from(LinkError::Memory)
+    }
+}
+
+impl<'a, T: Drop> From<AllocFailed<T>> for Failure<'a> {
+    ghost from_gives = { λ _ failure. failure_status failure ≡ 4 };
+
+    fn from(_error: AllocFailed<T>) -> Failure<'a> {
+        Failure::from(LinkError::Memory)
+    }
+}
+
+impl Outcome {
+    /// 0 for a link and for a right one, 1 for an image or a map that is wrong.
+    fn status(self) -> u8
+        ensures exact { result ≡ outcome_status self }
+        ensures least { result ≤ 1 }
+    {
+        match self {
+            Outcome::Linked | Outcome::Right => 0,
+            Outcome::Wrong(_) => 1,
+        }
+    }
+
+    /// Prints the verdict of a check; a link prints nothing.
+    fn print<W: Write>(self, out: &mut W) -> io::Result<()> {
+        match self {
+            Outcome::Linked => Ok(()),
+            Outcome::Right => writeln!(out, "yes"),
+            Outcome::Wrong(clause) => writeln!(out, "no C{}", clause as u8),
+        }
+    }
+}
+
+impl Failure<'_> {
+    /// 1 for a refused link, 2 for refused words, 3 for a fault of a file, 4 for want of memory.
+    fn status(&self) -> u8
+        ensures { result ≡ failure_status self.now }
+    {
+        match self {
+            Failure::Refused { error, symbol: _ } => status_of(error),
+            Failure::CannotRead(_) | Failure::CannotWrite(_) => 3,
+        }
+    }
+
+    /// Prints the failure's line, and takes no memory.
+    fn print<W: Write>(&self, err: &mut W) -> io::Result<()> {
+        match self {
+            Failure::Refused { error, symbol } => print_refusal(err, error, symbol.as_deref()),
+            Failure::CannotRead(path) => writeln!(err, "ld: cannot read {path}"),
+            Failure::CannotWrite(path) => writeln!(err, "ld: cannot write {path}"),
+        }
+    }
+}
+
+fn status_of(error: &LinkError) -> u8
+    ensures { result ≡ error_status error.now }
+{
+    match error {
+        LinkError::Command(_) => 2,
+        LinkError::FileMissing => 3,
+        LinkError::Memory => 4,
+        _ => 1,
+    }
+}
+
+fn print_refusal<W: Write>(
+    err: &mut W,
+    error: &LinkError,
+    symbol: Option<&[u8]>,
+) -> io::Result<()> {
+    write!(err, "ld: {error}")?;
+    if let Some(name) = symbol {
+        err.write_all(b": ")?;
+        err.write_all(name)?;
+    }
+    err.write_all(b"\n")
+}
+
+/// The symbol that a refusal names.
+fn symbol_of(error: &LinkError) -> Option<&[u8]> {
+    match error {
+        LinkError::Duplicate(name) => Some(name.as_slice()),
+        _ => None,
+    }
+}
+
+/// A refusal together with the spelling of the symbol that it names.
+fn refused<'a>(alloc: Global, error: LinkError) -> Failure<'a>
+    ensures { (failure_status result ≡ error_status error) ⊎ (failure_status result ≡ 4) }
+{
+    let Some(name) = symbol_of(&error) else {
+        return Failure::from(error);
+    };
+    match escape(alloc, name) {
+        Ok(spelling) => Failure::Refused {
+            error,
+            symbol: Some(spelling),
+        },
+        Err(no_memory) => Failure::from(no_memory),
+    }
+}
+
+/// The failure to read a file: want of memory, or any other fault of its path.
+fn unread<'a>(path: CowStr<'a>, error: &io::Error) -> Failure<'a>
+    ensures { 3 ≤ failure_status result }
+{
+    match error.kind() {
+        ErrorKind::OutOfMemory => Failure::from(LinkError::Memory),
+        _ => Failure::CannotRead(path),
+    }
+}
+
+/// Reads the files that a plan may read, in its order; one that doesn't exist is left out.
+fn read_candidates<'a, R: Files + AllocGlobal>(
+    rt: &R,
+    plan: &Plan<'_>,
+) -> Result<Vec<InputFile>, Failure<'a>>
+    ensures { IfErr result (λ f. 3 ≤ failure_status f) }
+{
+    let mut files = Vec::new(rt.alloc());
+    for name in candidates(rt.alloc(), plan)? {
+        match fs::read(rt, name.as_str()) {
+            Ok(bytes) => files.push(InputFile { name, bytes })?,
+            Err(error) if error.kind() == ErrorKind::NotFound => {}
+            Err(error) => return Err(unread(CowStr::Owned(name), &error)),
+        }
+    }
+    Ok(files)
+}
+
+/// Reads a file that must be there.
+fn read_file<'a, R: Files + AllocGlobal>(rt: &R, path: &'a str) -> Result<Vec<u8>, Failure<'a>>
+    ensures { IfErr result (λ f. 3 ≤ failure_status f) }
+{
+    match fs::read(rt, path) {
+        Ok(bytes) => Ok(bytes),
+        Err(error) => Err(unread(CowStr::Borrowed(path), &error)),
+    }
+}
+
+fn write_file<'a, R: Files>(rt: &R, path: &'a str, bytes: &[u8]) -> Result<(), Failure<'a>>
+    ensures { IfErr result (λ f. failure_status f ≡ 3) }
+{
+    match fs::write(rt, path, bytes) {
+        Ok(()) => Ok(()),
+        Err(_) => Err(Failure::CannotWrite(path)),
+    }
+}
+
+/// Links, and writes the image and then the map.
+fn link_files<'a, R: Files + AllocGlobal>(
+    rt: &R,
+    plan: &Plan<'a>,
+    files: &[InputFile],
+    words: &[String],
+) -> Result<Outcome, Failure<'a>>
+    ensures right { IfOk result (λ o. outcome_status o ≡ 0 → HasRightLink (words_of words.now)) }
+    ensures words_alone { IfErr result (λ f. failure_status f ≡ 2 → IsErr (command_of (words_of words.now))) }
+{
+    let output = match link(rt.alloc(), files, words) {
+        Ok(output) => output,
+        Err(error) => return Err(refused(rt.alloc(), error)),
+    };
+    write_file(rt, plan.output, &output.image)?;
+    if let Some(path) = plan.map {
+        write_file(rt, path, &output.map)?;
+    }
+    Ok(Outcome::Linked)
+}
+
+/// Reads the image and then the map, and checks them.
+fn check_files<'a, R: Files + AllocGlobal>(
+    rt: &R,
+    plan: &Plan<'a>,
+    files: &[InputFile],
+    words: &[String],
+) -> Result<Outcome, Failure<'a>>
+    requires mapped { plan.now.map ≢ None }
+    ensures right { IfOk result (λ o. outcome_status o ≡ 0 → HasRightLink (words_of words.now)) }
+    ensures fault { IfErr result (λ f. 3 ≤ failure_status f) }
+{
+    let Some(map_path) = plan.map else {
+        unreachable!()
+    };
+    let image = read_file(rt, plan.output)?;
+    let map = read_file(rt, map_path)?;
+    match check(rt.alloc(), files, words, &image, &map)? {
+        Verdict::Yes => Ok(Outcome::Right),
+        Verdict::No(clause) => Ok(Outcome::Wrong(clause)),
+    }
+}
+
+fn run<'a, R: Files + AllocGlobal>(rt: &R, words: &'a [String]) -> Result<Outcome, Failure<'a>>
+    ensures right { IfOk result (λ o. outcome_status o ≡ 0 → HasRightLink (words_of words.entry.now)) }
+    ensures refused_words { IsErr (command_of (words_of words.entry.now)) → IsErrAnd result (λ f. (failure_status f ≡ 2) ⊎ (failure_status f ≡ 4)) }
+    ensures words_alone { IfErr result (λ f. failure_status f ≡ 2 → IsErr (command_of (words_of words.entry.now))) }
+{
+    let plan = read_words(rt.alloc(), words)?;
+    let files = read_candidates(rt, &plan)?;
+    if plan.check {
+        check_files(rt, &plan, &files, words)
+    } else {
+        link_files(rt, &plan, &files, words)
+    }
+}
+
+/// Runs `ld` with `words`, the words behind the program's name, and answers its exit status. A fault of
+/// `out` or `err` changes no status.
+///
+/// - 0: the image is written to the path of `-o`, and the map to that of `-Map=` if there is one; nothing
+///   is printed. Or, with `--check`, these two are a right link: `yes` on `out`.
+/// - 1: with `--check`, they are no right link: `no` and the least clause that fails, as `no C11`, on
+///   `out`. Without it, the link is refused.
+/// - 2: the words are no command.
+/// - 3: a file is missing, or can't be read or written; what is written may then be a part.
+/// - 4: memory can't be had.
+///
+/// Where nothing is written or checked, `err` has one line: `ld: ` and the error's name and number, as
+/// `ld: NotYet (22)`; behind that `: ` and the name and number of the fault of the words or of an object,
+/// or a symbol's name, spelled as in a map; or `ld: cannot read PATH` or `ld: cannot write PATH`.
+pub fn run_ld<R: Files + AllocGlobal, O: Write, E: Write>(
+    rt: &R,
+    words: &[String],
+    out: &mut O,
+    err: &mut E,
+) -> u8
+    ensures statuses { result ≤ 4 }
+    ensures right { result ≡ 0 → HasRightLink (words_of words.now) }
+    ensures refused_words { IsErr (command_of (words_of words.now)) → (result ≡ 2) ⊎ (result ≡ 4) }
+    ensures words_alone { result ≡ 2 → IsErr (command_of (words_of words.now)) }
+    ensures out_quiet { 2 ≤ result → out.new ≡ out.old }
+    ensures err_quiet { result ≡ 0 → err.new ≡ err.old }
+{
+    match run(rt, words) {
+        Ok(outcome) => {
+            let _ = outcome.print(out);
+            outcome.status()
+        }
+        Err(failure) => {
+            let _ = failure.print(err);
+            failure.status()
+        }
+    }
+}
