@@ -1,0 +1,11 @@
+//! The rows that cross crates, as tests: objects in, the linker, the checker and the whole program over them.
+#![tactic(auto)]
+
+#[cfg(test)]
+mod objects;
+#[cfg(test)]
+mod one_object;
+#[cfg(test)]
+mod program;
+#[cfg(test)]
+mod vectors;

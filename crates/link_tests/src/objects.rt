@@ -1,0 +1,207 @@
+//! Makes relocatable objects: sections and symbols in, the bytes of a file out.
+use elf_model::{
+    EHDR_SIZE, EM_X86_64, ET_REL, EV_CURRENT, FileHeader, SHT_STRTAB, SHT_SYMTAB, SectionHeader,
+    Symbol,
+};
+use std::alloc::Global;
+use std::test::Fail;
+
+/// A section; the first one of an object has the number 1.
+#[derive(Clone, Copy)]
+pub struct Section<'a> {
+    pub name: &'a str,
+    pub sh_type: u32,
+    pub sh_flags: u64,
+    pub sh_addralign: u64,
+    pub bytes: &'a [u8],
+}
+
+/// A symbol; the first one of an object has the number 1. Local symbols stand before the others.
+#[derive(Clone, Copy)]
+pub struct NamedSymbol<'a> {
+    pub name: &'a str,
+    pub st_info: u8,
+    pub st_shndx: u16,
+    pub st_value: u64,
+    pub st_size: u64,
+}
+
+const NULL_SECTION: SectionHeader = SectionHeader {
+    sh_name: 0,
+    sh_type: 0,
+    sh_flags: 0,
+    sh_addr: 0,
+    sh_offset: 0,
+    sh_size: 0,
+    sh_link: 0,
+    sh_info: 0,
+    sh_addralign: 0,
+    sh_entsize: 0,
+};
+
+const STRING_TABLE: SectionHeader = SectionHeader {
+    sh_name: 0,
+    sh_type: SHT_STRTAB,
+    sh_flags: 0,
+    sh_addr: 0,
+    sh_offset: 0,
+    sh_size: 0,
+    sh_link: 0,
+    sh_info: 0,
+    sh_addralign: 1,
+    sh_entsize: 0,
+};
+
+const IDENT: [u8; 16] = [0x7f, b'E', b'L', b'F', 2, 1, 1, 0, 0, 0, 0, 0, 0, 0, 0, 0];
+
+/// An object so far: the file's bytes behind the file header, the section headers, and the section names.
+#[derive(Drop)]
+struct Draft {
+    bytes: Vec<u8>,
+    headers: Vec<SectionHeader>,
+    names: Vec<u8>,
+}
+
+/// Appends a name and its NUL to a string table, and answers the name's offset.
+fn add_name(table: &mut Vec<u8>, name: &str) -> Result<u32, Fail> {
+    let offset = u32::try_from(table.len())?;
+    table.extend_from_slice(name.as_bytes())?;
+    table.push(0)?;
+    Ok(offset)
+}
+
+/// Appends zeros up to a multiple of `align`.
+fn pad(bytes: &mut Vec<u8>, align: u64) -> Result<(), Fail> {
+    let align = usize::try_from(align.max(1))?;
+    let end = bytes
+        .len()
+        .checked_next_multiple_of(align)
+        .ok_or("too long")?;
+    bytes.resize(end, 0)?;
+    Ok(())
+}
+
+impl Draft {
+    fn new(alloc: Global) -> Result<Draft, Fail> {
+        Ok(Draft {
+            bytes: Vec::from_slice(alloc, &[0; EHDR_SIZE])?,
+            headers: Vec::from_slice(alloc, &[NULL_SECTION])?,
+            names: Vec::from_slice(alloc, &[0])?,
+        })
+    }
+
+    /// Appends a section of that name, where its alignment lets it stand.
+    fn add(&mut self, name: &str, header: SectionHeader, bytes: &[u8]) -> Result<(), Fail> {
+        let sh_name = add_name(&mut self.names, name)?;
+        pad(&mut self.bytes, header.sh_addralign)?;
+        self.headers.push(SectionHeader {
+            sh_name,
+            sh_offset: u64::try_from(self.bytes.len())?,
+            sh_size: u64::try_from(bytes.len())?,
+            ..header
+        })?;
+        self.bytes.extend_from_slice(bytes)?;
+        Ok(())
+    }
+
+    /// Appends the symbol table, whose names stand in the section behind it.
+    fn add_symbols(&mut self, symbols: &[u8], locals: usize) -> Result<(), Fail> {
+        let header = SectionHeader {
+            sh_type: SHT_SYMTAB,
+            sh_link: u32::try_from(self.headers.len())?.saturating_add(1),
+            sh_info: u32::try_from(locals)?.saturating_add(1),
+            sh_addralign: 8,
+            sh_entsize: 24,
+            ..NULL_SECTION
+        };
+        self.add(".symtab", header, symbols)
+    }
+
+    /// Appends the section names, as the last section, and the section header table.
+    fn finish(mut self) -> Result<Vec<u8>, Fail> {
+        let mut names = self.names.clone()?;
+        add_name(&mut names, ".shstrtab")?;
+        self.add(".shstrtab", STRING_TABLE, &names)?;
+        pad(&mut self.bytes, 8)?;
+        let header = file_header(self.bytes.len(), self.headers.len())?;
+        let mut file = Vec::from_slice(*self.bytes.allocator(), &header)?;
+        file.extend_from_slice(self.bytes.get(EHDR_SIZE..).ok_or("no file header")?)?;
+        for section in &self.headers {
+            let mut bytes = [0; 64];
+            section.write_to(&mut bytes);
+            file.extend_from_slice(&bytes)?;
+        }
+        Ok(file)
+    }
+}
+
+/// The file header of an object whose `sections` headers stand at `table`; the last names them.
+fn file_header(table: usize, sections: usize) -> Result<[u8; 64], Fail> {
+    let e_shnum = u16::try_from(sections)?;
+    let header = FileHeader {
+        e_ident: IDENT,
+        e_type: ET_REL,
+        e_machine: EM_X86_64,
+        e_version: u32::from(EV_CURRENT),
+        e_entry: 0,
+        e_phoff: 0,
+        e_shoff: u64::try_from(table)?,
+        e_flags: 0,
+        e_ehsize: 64,
+        e_phentsize: 0,
+        e_phnum: 0,
+        e_shentsize: 64,
+        e_shnum,
+        e_shstrndx: e_shnum.saturating_sub(1),
+    };
+    let mut bytes = [0; 64];
+    header.write_to(&mut bytes);
+    Ok(bytes)
+}
+
+/// The bytes of an object. Its symbol table, their names and the section names are its last sections.
+pub fn object(
+    alloc: Global,
+    sections: &[Section<'_>],
+    symbols: &[NamedSymbol<'_>],
+) -> Result<Vec<u8>, Fail> {
+    let mut draft = Draft::new(alloc)?;
+    for section in sections {
+        let header = SectionHeader {
+            sh_type: section.sh_type,
+            sh_flags: section.sh_flags,
+            sh_addralign: section.sh_addralign,
+            ..NULL_SECTION
+        };
+        draft.add(section.name, header, section.bytes)?;
+    }
+    let mut names = Vec::from_slice(alloc, &[0])?;
+    let table = symbol_table(alloc, symbols, &mut names)?;
+    let locals = symbols.iter().filter(|s| s.st_info >> 4 == 0).count();
+    draft.add_symbols(&table, locals)?;
+    draft.add(".strtab", STRING_TABLE, &names)?;
+    draft.finish()
+}
+
+/// The entries of a symbol table, of which entry 0 is all zero; their names go to the end of `names`.
+fn symbol_table(
+    alloc: Global,
+    symbols: &[NamedSymbol<'_>],
+    names: &mut Vec<u8>,
+) -> Result<Vec<u8>, Fail> {
+    let mut table = Vec::from_slice(alloc, &[0; 24])?;
+    for symbol in symbols {
+        let entry = Symbol {
+            st_name: add_name(names, symbol.name)?,
+            st_info: symbol.st_info,
+            st_other: 0,
+            st_shndx: symbol.st_shndx,
+            st_value: symbol.st_value,
+            st_size: symbol.st_size,
+        };
+        let mut bytes = [0; 24];
+        entry.write_to(&mut bytes);
+        table.extend_from_slice(&bytes)?;
+    }
+    Ok(table)
+}

@@ -1,0 +1,126 @@
+//! A link of one object with one text, and its check.
+use crate::objects::{NamedSymbol, Section, object};
+use crate::vectors::{MAP, OBJECT, TEXT, image};
+use checker::check;
+use elf_model::{
+    Clause, InputFile, LinkError, ObjFault, SHF_ALLOC, SHF_EXECINSTR, SHT_PROGBITS, Verdict,
+};
+use ld_main::{Output, link};
+use std::alloc::Global;
+use std::test::Fail;
+
+/// A `.text` of the nine bytes, with section number 1.
+pub fn text_section() -> Section<'static> {
+    Section {
+        name: ".text",
+        sh_type: SHT_PROGBITS,
+        sh_flags: SHF_ALLOC | SHF_EXECINSTR,
+        sh_addralign: 1,
+        bytes: &TEXT,
+    }
+}
+
+/// A global function at the beginning of section 1.
+pub fn function<'a>(name: &'a str) -> NamedSymbol<'a> {
+    NamedSymbol {
+        name,
+        st_info: 0x12,
+        st_shndx: 1,
+        st_value: 0,
+        st_size: 9,
+    }
+}
+
+/// The words of a command line.
+pub fn words_of(alloc: Global, line: &str) -> Result<Vec<String>, Fail> {
+    let mut words = Vec::new(alloc);
+    for word in line.split_ascii_whitespace() {
+        words.push(String::from_str(alloc, word)?)?;
+    }
+    Ok(words)
+}
+
+/// The list of one file.
+fn one_file(alloc: Global, name: &str, bytes: &[u8]) -> Result<Vec<InputFile>, Fail> {
+    let mut files = Vec::new(alloc);
+    files.push(InputFile {
+        name: String::from_str(alloc, name)?,
+        bytes: Vec::from_slice(alloc, bytes)?,
+    })?;
+    Ok(files)
+}
+
+/// What the link of one file `a.o` answers.
+fn link_one(alloc: Global, bytes: &[u8], line: &str) -> Result<Result<Output, LinkError>, Fail> {
+    let files = one_file(alloc, "a.o", bytes)?;
+    let words = words_of(alloc, line)?;
+    Ok(link(alloc, &files, &words))
+}
+
+/// What the check of a link of `a.o` answers.
+fn check_one(alloc: Global, image: &[u8], map: &[u8]) -> Result<Verdict, Fail> {
+    let files = one_file(alloc, "a.o", &OBJECT)?;
+    let words = words_of(alloc, "a.o")?;
+    Ok(check(alloc, &files, &words, image, map)?)
+}
+
+#[test]
+fn an_object_is_made_of_its_parts(rt: HostRuntime) -> Result<(), Fail> {
+    let bytes = object(rt.alloc(), &[text_section()], &[function("_start")])?;
+    assert!(rt; bytes.as_slice() == OBJECT.as_slice());
+    Ok(())
+}
+
+#[test]
+fn links_one_object(rt: HostRuntime) -> Result<(), Fail> {
+    let output = link_one(rt.alloc(), &OBJECT, "a.o")??;
+    assert_eq!(rt; output.image.len(), 4105);
+    assert!(rt; output.image == image(rt.alloc())?);
+    assert_eq!(rt; output.map.len(), 106);
+    assert!(rt; output.map.as_slice() == MAP);
+    let verdict = check_one(rt.alloc(), &output.image, &output.map)?;
+    assert_eq!(rt; verdict, Verdict::Yes);
+    Ok(())
+}
+
+#[test]
+fn begins_at_the_base(rt: HostRuntime) -> Result<(), Fail> {
+    let output = link_one(rt.alloc(), &OBJECT, "-Ttext-segment=0x10000 a.o")??;
+    assert_eq!(rt; output.image.len(), 4105);
+    let entry = output.image.get(24..32).ok_or("a file header")?;
+    assert!(rt; entry == [0, 0x10, 1, 0, 0, 0, 0, 0].as_slice());
+    Ok(())
+}
+
+#[test]
+fn a_byte_between_the_parts_is_wrong(rt: HostRuntime) -> Result<(), Fail> {
+    let mut image = image(rt.alloc())?;
+    assert_eq!(rt; check_one(rt.alloc(), &image, MAP)?, Verdict::Yes);
+    *image.get_mut(0x200).ok_or("4105 bytes")? = 1;
+    let verdict = check_one(rt.alloc(), &image, MAP)?;
+    assert_eq!(rt; verdict, Verdict::No(Clause::C11));
+    Ok(())
+}
+
+#[test]
+fn a_map_without_its_end_is_wrong(rt: HostRuntime) -> Result<(), Fail> {
+    let map = MAP.strip_suffix(b"end\n").ok_or("a map")?;
+    let verdict = check_one(rt.alloc(), &image(rt.alloc())?, map)?;
+    assert_eq!(rt; verdict, Verdict::No(Clause::C1));
+    Ok(())
+}
+
+#[test]
+fn refuses_what_is_no_link(rt: HostRuntime) -> Result<(), Fail> {
+    let alloc = rt.alloc();
+    let beginning = link_one(alloc, &OBJECT[..63], "a.o")?;
+    assert!(rt; matches!(&beginning, Err(LinkError::BadObject(ObjFault::Truncated))));
+    let nameless = object(alloc, &[text_section()], &[function("")])?;
+    let nameless = link_one(alloc, &nameless, "a.o")?;
+    assert!(rt; matches!(&nameless, Err(LinkError::BadSymbol)));
+    let twice = link_one(alloc, &OBJECT, "a.o a.o")?;
+    assert!(rt; matches!(&twice, Err(LinkError::NotYet)));
+    let absent = link_one(alloc, &OBJECT, "b.o")?;
+    assert!(rt; matches!(&absent, Err(LinkError::FileMissing)));
+    Ok(())
+}

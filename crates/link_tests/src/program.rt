@@ -1,0 +1,132 @@
+//! Runs of the whole program, over files in a folder of each test's own.
+use crate::objects::object;
+use crate::one_object::{function, text_section, words_of};
+use crate::vectors::{MAP, OBJECT, image};
+use ld_main::run_ld;
+use std::path::PathBuf;
+use std::process::Abort;
+use std::rt::Files;
+use std::test::Fail;
+use std::{env, fs, process};
+
+/// Makes a folder, with the row's `a.o` in it, and goes there.
+fn enter_folder(rt: &HostRuntime, name: &str) -> Result<PathBuf, Fail> {
+    let process = process::id(rt.process());
+    let name = format!(in rt.alloc(); "ld-{name}-{process}")?;
+    let folder = env::temp_dir(rt)?.join(rt.alloc(), &name)?;
+    fs::create_dir(rt, &folder)?;
+    env::set_current_dir(rt, &folder)?;
+    fs::write(rt, "a.o", &OBJECT)?;
+    Ok(folder)
+}
+
+/// Removes a folder, and all in it.
+fn leave_folder(rt: &HostRuntime, folder: &PathBuf) -> Result<(), Fail> {
+    env::set_current_dir(rt, "/")?;
+    fs::remove_dir_all(rt, folder)?;
+    Ok(())
+}
+
+/// Asserts the exit status of a command line, and what it prints on each stream.
+fn assert_run<R: Files + AllocGlobal + Abort>(
+    rt: &R,
+    line: &str,
+    status: u8,
+    printed: &str,
+    complaint: &str,
+) -> Result<(), Fail> {
+    let words = words_of(rt.alloc(), line)?;
+    let mut out = Vec::new(rt.alloc());
+    let mut err = Vec::new(rt.alloc());
+    let answered = run_ld(rt, &words, &mut out, &mut err);
+    assert_eq!(rt; String::from_utf8(err)?.as_str(), complaint, "{line}");
+    assert_eq!(rt; String::from_utf8(out)?.as_str(), printed, "{line}");
+    assert_eq!(rt; answered, status, "{line}");
+    Ok(())
+}
+
+#[test]
+fn refuses_words(rt: HostRuntime) -> Result<(), Fail> {
+    let rows = [
+        ("", "ld: Command (2): NoInput (6)\n"),
+        ("a.o -o", "ld: Command (2): MissingValue (3)\n"),
+        ("a.o --check", "ld: Command (2): MissingValue (3)\n"),
+        ("a.o -oout", "ld: Command (2): UnknownOption (2)\n"),
+    ];
+    for (line, complaint) in rows {
+        assert_run(&rt, line, 2, "", complaint)?;
+    }
+    Ok(())
+}
+
+#[test]
+fn links_and_checks(rt: HostRuntime) -> Result<(), Fail> {
+    let folder = enter_folder(&rt, "links")?;
+    let image = image(rt.alloc())?;
+    assert_run(&rt, "a.o", 0, "", "")?;
+    assert!(rt; fs::read(&rt, "a.out")? == image);
+    assert_run(&rt, "a.o -o start -Map=start.map", 0, "", "")?;
+    assert!(rt; fs::read(&rt, "start")? == image);
+    assert!(rt; fs::read(&rt, "start.map")?.as_slice() == MAP);
+    assert_run(&rt, "a.o -o start -Map=start.map --check", 0, "yes\n", "")?;
+    assert_run(&rt, "b.o -o start -Map=start.map --check", 1, "no C2\n", "")?;
+    fs::write(&rt, "start.map", MAP.strip_suffix(b"end\n").ok_or("a map")?)?;
+    assert_run(&rt, "a.o -o start -Map=start.map --check", 1, "no C1\n", "")?;
+    leave_folder(&rt, &folder)
+}
+
+#[test]
+fn refuses_links(rt: HostRuntime) -> Result<(), Fail> {
+    let folder = enter_folder(&rt, "refuses")?;
+    fs::write(&rt, "cut.o", &OBJECT[..63])?;
+    let nameless = object(rt.alloc(), &[text_section()], &[function("")])?;
+    fs::write(&rt, "nameless.o", &nameless)?;
+    let twice = [function("_start"), function("f"), function("f")];
+    fs::write(
+        &rt,
+        "twice.o",
+        &object(rt.alloc(), &[text_section()], &twice)?,
+    )?;
+    let spaced = [function("_start"), function("f g"), function("f g")];
+    fs::write(
+        &rt,
+        "spaced.o",
+        &object(rt.alloc(), &[text_section()], &spaced)?,
+    )?;
+    let rows = [
+        ("cut.o", "ld: BadObject (4): Truncated (2)\n"),
+        ("nameless.o", "ld: BadSymbol (21)\n"),
+        ("a.o a.o", "ld: NotYet (22)\n"),
+        ("twice.o", "ld: Duplicate (9): f\n"),
+        ("spaced.o", "ld: Duplicate (9): f\\x20g\n"),
+        ("a.o -e x", "ld: NoEntry (18)\n"),
+    ];
+    for (line, complaint) in rows {
+        assert_run(&rt, line, 1, "", complaint)?;
+    }
+    assert!(rt; !fs::exists(&rt, "a.out")?);
+    leave_folder(&rt, &folder)
+}
+
+#[test]
+fn tells_faults_of_files(rt: HostRuntime) -> Result<(), Fail> {
+    let folder = enter_folder(&rt, "files")?;
+    fs::create_dir(&rt, "d.o")?;
+    let rows = [
+        ("b.o", "ld: FileMissing (3)\n"),
+        ("d.o", "ld: cannot read d.o\n"),
+        ("b.o d.o", "ld: cannot read d.o\n"),
+        ("a.o --check -Map=start.map", "ld: cannot read a.out\n"),
+        ("a.o -o d.o", "ld: cannot write d.o\n"),
+        ("a.o -Map=no/start.map", "ld: cannot write no/start.map\n"),
+        (
+            "a.o --check -Map=no/start.map",
+            "ld: cannot read no/start.map\n",
+        ),
+    ];
+    for (line, complaint) in rows {
+        assert_run(&rt, line, 3, "", complaint)?;
+    }
+    assert!(rt; fs::read(&rt, "a.out")? == image(rt.alloc())?);
+    leave_folder(&rt, &folder)
+}
