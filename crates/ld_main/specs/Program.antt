@@ -11,9 +11,13 @@ use Rattle.ld_main.specs.declared.program.Failure.TheVariants as failure
 use Rattle.ld_main.specs.declared.program.Outcome.{Outcome}
 use Rattle.ld_main.specs.declared.program.Outcome.TheVariants as outcome
 
+-- an image and the text of a map are a right link of these files by these words
+abbrev pub LinksRight : List File → List (List ℕ) → Type 0
+LinksRight files words = (image : List ℕ) × (text : List ℕ) × IsRightLink files words image text
+
 -- some files, an image and the text of a map are a right link by these words
 abbrev pub HasRightLink : List (List ℕ) → Type 0
-HasRightLink words = (files : List File) × (image : List ℕ) × (text : List ℕ) × IsRightLink files words image text
+HasRightLink words = (files : List File) × LinksRight files words
 
 -- the status of a fault of the words
 abbrev pub words_status : CmdFault → ℕ

@@ -1,8 +1,8 @@
 //! The program: reads the files that the words name, links or checks them, writes or prints the answer.
 ghost use Rattle.std.specs.Prelude.{◌≡◌, ◌≢◌, ◌⊎◌, ◌≤◌, None, IfErr, IfOk, IsErr, IsErrAnd};
 ghost use Rattle.elf_model.specs.Command.{command_of};
-ghost use Rattle.elf_model.specs.Files.{words_of};
-ghost use Rattle.ld_main.specs.Program.{HasRightLink, error_status, failure_status, outcome_status, words_status};
+ghost use Rattle.elf_model.specs.Files.{files_of, words_of};
+ghost use Rattle.ld_main.specs.Program.{HasRightLink, LinksRight, error_status, failure_status, outcome_status, words_status};
 
 use crate::link;
 use checker::check;
@@ -223,7 +223,7 @@ fn link_files<'a, R: Files + AllocGlobal>(
     files: &[InputFile],
     words: &[String],
 ) -> Result<Outcome, Failure<'a>>
-    ensures right { IfOk result (λ o. outcome_status o ≡ 0 → HasRightLink (words_of words.now)) }
+    ensures right { IfOk result (λ o. outcome_status o ≡ 0 → LinksRight (files_of files.now) (words_of words.now)) }
     ensures words_alone { IfErr result (λ f. failure_status f ≡ 2 → IsErr (command_of (words_of words.now))) }
 {
     let output = match link(rt.alloc(), files, words) {
@@ -245,7 +245,7 @@ fn check_files<'a, R: Files + AllocGlobal>(
     words: &[String],
 ) -> Result<Outcome, Failure<'a>>
     requires mapped { plan.now.map ≢ None }
-    ensures right { IfOk result (λ o. outcome_status o ≡ 0 → HasRightLink (words_of words.now)) }
+    ensures right { IfOk result (λ o. outcome_status o ≡ 0 → LinksRight (files_of files.now) (words_of words.now)) }
     ensures fault { IfErr result (λ f. 3 ≤ failure_status f) }
 {
     let Some(map_path) = plan.map else {
