@@ -1,10 +1,13 @@
--- Runs that are equal where bytes past an end count as 0.
+-- Runs that are equal where bytes past an end count as 0, and the bytes of a piece in its segment.
 use Rattle.std.proofs.Common.{◌≡◌, ℕ, ◌+◌, ◌-◌, ◌<◌, ◌≤◌, ◌⊎◌, inl, inr, Bool, true, false, List, length, get_or, take, drop, refl, sym, ◌∙◌, ap, subst, arith, length-take, length-drop}
-use Rattle.std.specs.Prelude.{IsTrue, Some, min, nat_lt, slice_index}
+use Rattle.std.specs.Prelude.{Contains, IsTrue, Some, min, nat_lt, option_map, slice_index}
 use Rattle.std.proofs.lemmas.Option.{same_Some}
 use Rattle.elf_model.specs.Placement.{Placed}
-use Rattle.elf_model.specs.RightLink.{HoldsPiece}
-use Rattle.loader_model.specs.Memory.{IsRun}
+use Rattle.elf_model.specs.MemoryImage.{Cell, Encloses, IsImage, loads, segment_byte}
+use Rattle.elf_model.specs.RightLink.{byte_at}
+use Rattle.elf_model.specs.declared.records.ProgramHeader.{ProgramHeader}
+use Rattle.checker.specs.Bytes.{HoldsInput}
+use Rattle.loader_model.proofs.MemoryLemmas.{maps-true, memory_at}
 use Rattle.std.proofs.lemmas.Bool.{ltb-true, ltb-false}
 use Rattle.std.proofs.lemmas.List.{ext_get_or, get_or-drop, get_or-take, get_or_past}
 
@@ -57,20 +60,19 @@ front_from_padded a b c e same =
     let low : k < c = omega (arith, na, within) in
     get_or-take c a k 0 low ∙ (same k ∙ sym (get_or-take c b k 0 low)))
 
--- a piece is held where a run of memory is its bytes
-pub held_from_run :
-    (image : List ℕ) (q : Placed) (bytes : List ℕ) (zeros : ℕ) (b : Bool) →
-    IsRun image q.at q.piece.size bytes zeros → length q.piece.bytes ≤ q.piece.size →
-    (IsTrue b → SamePadded bytes q.piece.bytes) × (SamePadded bytes q.piece.bytes → IsTrue b) →
-    (IsTrue b → HoldsPiece image q) × (HoldsPiece image q → IsTrue b)
-held_from_run image q bytes zeros b run short same = (
-  λ e. record { bytes = λ k below. run.same k below ∙ ap Some (same.0 e k) },
-  λ held. same.1 (λ k. by held k (below_or_not k q.piece.size)),
+-- memory holds a piece where the segment that encloses it has its bytes
+pub held_in_segment :
+    (image : List ℕ) (q : Placed) (h : ProgramHeader) (b : Bool) → IsImage image → Contains (loads image) h → Encloses h q.at q.piece.size →
+    (IsTrue b → ((k : ℕ) → k < q.piece.size → segment_byte image h (q.at + k) ≡ slice_index q.piece.bytes k))
+    × (((k : ℕ) → k < q.piece.size → segment_byte image h (q.at + k) ≡ slice_index q.piece.bytes k) → IsTrue b) →
+    (IsTrue b → HoldsInput image q) × (HoldsInput image q → IsTrue b)
+held_in_segment image q h b is there inside same = (
+  λ e. record { bytes = λ k below. byte k below ∙ ap Some (same.0 e k below) },
+  λ held. same.1
+      (λ k below. same_Some (segment_byte image h (q.at + k)) (slice_index q.piece.bytes k) (sym (byte k below) ∙ held.bytes k below)),
 )
   where
-    by : HoldsPiece image q → (k : ℕ) → (k < q.piece.size) ⊎ (q.piece.size ≤ k) → slice_index bytes k ≡ slice_index q.piece.bytes k
-    by held k (inl low) =
-        same_Some (slice_index bytes k) (slice_index q.piece.bytes k) (sym (run.same k low) ∙ held.bytes k low)
-    by held k (inr past) =
-        let w = run.whole in
-        get_or_past bytes k 0 (omega (arith, w, past)) ∙ sym (get_or_past q.piece.bytes k 0 (omega (arith, short, past)))
+    byte : (k : ℕ) → k < q.piece.size → byte_at image (q.at + k) ≡ Some (segment_byte image h (q.at + k))
+    byte k below =
+        ap (option_map (λ (c : Cell). c.byte))
+        (memory_at image (q.at + k) h is there (maps-true h (q.at + k) (omega (arith, inside.0)) (omega (arith, inside.1, below))))

@@ -1,10 +1,9 @@
 -- File parts of an accepted image, and what its segments map.
 use Rattle.std.proofs.Common.{◌≡◌, ℕ, suc, ◌+◌, ◌-◌, ◌<◌, ◌≤◌, ◌^◌, ◌⊎◌, inl, inr, Bool, true, false, cond, List, [], ◌∷◌, length, get_or, refl, subst, arith}
-use Rattle.std.specs.Prelude.{All, AllPairs, Contains, IsPermutation, IsTrue, Option, Some, None, find, map, option_map, slice_index}
+use Rattle.std.specs.Prelude.{All, AllPairs, Contains, IsTrue, Option, Some, None, find, map, option_map, slice_index}
 use Rattle.std.specs.List.Sorted.{IsNonDecreasingBy}
 use Rattle.std.proofs.lemmas.List.{get_or-map, length-map}
 use Rattle.std.proofs.lemmas.List.Elements.{All-contains, All-contains_itself, All-map, All-weaker}
-use Rattle.std.proofs.lemmas.List.Sorted.{All-permutation, IsPermutation-sym}
 use Rattle.std.proofs.lemmas.Option.{none-some, same_Some}
 use Rattle.elf_model.specs.MemoryImage.{Cell, IsGoodLoad, IsImage, cell_of, first_address, loads, maps, program_headers}
 use Rattle.elf_model.specs.Placement.{Covers}
@@ -101,12 +100,14 @@ pub find-found : {X : Type 0} (test : X → Bool) (xs : List X) (x : X) → find
 find-found test [] x e = absurd (none-some x e)
 find-found test (y ∷ ys) x e = found_by test (test y) y ys x refl e (find-found test ys x)
 
--- memory is filled where each segment is
+-- memory is filled outside of all things where each segment is outside of things that take up the same
 pub filled_iff :
-    (image : List ℕ) (things sorted : List Thing) (b : Bool) → IsImage image → IsPermutation things sorted →
-    (IsTrue b → All (SegmentFilled image sorted) (loads image)) × (All (SegmentFilled image sorted) (loads image) → IsTrue b) →
+    (image : List ℕ) (things same : List Thing) (b : Bool) → IsImage image →
+    ((a : ℕ) → All (λ t. Covers t a → ⊥) things → All (λ t. Covers t a → ⊥) same) →
+    ((a : ℕ) → All (λ t. Covers t a → ⊥) same → All (λ t. Covers t a → ⊥) things) →
+    (IsTrue b → All (SegmentFilled image same) (loads image)) × (All (SegmentFilled image same) (loads image) → IsTrue b) →
     (IsTrue b → IsFilled image things) × (IsFilled image things → IsTrue b)
-filled_iff image things sorted b is perm all = (
+filled_iff image things same b is to back all = (
   λ e a c m out. by e a c out (find (λ h. maps h a) (loads image)) refl m,
   λ filled. all.1
       (λ k d within.
@@ -115,7 +116,7 @@ filled_iff image things sorted b is perm all = (
         filled = λ a low high out.
             filled a (cell_of image a (get_or (loads image) k d))
             (memory_at image a (get_or (loads image) k d) is there (maps-true (get_or (loads image) k d) a low high))
-            (All-permutation (λ (t : Thing). Covers t a → ⊥) sorted things (IsPermutation-sym things sorted perm) out);
+            (back a out);
       }),
 )
   where
@@ -126,6 +127,6 @@ filled_iff image things sorted b is perm all = (
     by e a c out (Some h) found m =
         let f = find-found (λ (g : ProgramHeader). maps g a) (loads image) h found in
         let bounds = mapped h a f.passes in
-        let filled = All-contains (SegmentFilled image sorted) (loads image) h (all.0 e) f.there in
-        let byte = filled.filled a bounds.0 bounds.1 (All-permutation (λ (t : Thing). Covers t a → ⊥) things sorted perm out) in
+        let filled = All-contains (SegmentFilled image same) (loads image) h (all.0 e) f.there in
+        let byte = filled.filled a bounds.0 bounds.1 (to a out) in
         subst (λ (x : Cell). x.byte ≡ fill_of x.rights) (same_Some (cell_of image a h) c m) byte

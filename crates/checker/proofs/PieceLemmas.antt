@@ -1,27 +1,22 @@
 -- The kept sections of objects as they are listed one after the other, and facts of all of them.
-use Rattle.std.proofs.Common.{◌≡◌, ℕ, zero, suc, ◌+◌, ◌<◌, ◌≤◌, ◌==◌, ◌&&◌, Bool, true, false, not, cond, if◌then◌else◌, Option, Some, None, List, [], ◌∷◌, ◌++◌, length, get_or, drop, bit_and, refl, subst, sym, ap, ◌∙◌, arith}
-use Rattle.std.specs.Prelude.{All, filter, unwrap_or}
+use Rattle.std.proofs.Common.{◌≡◌, ℕ, zero, suc, ◌+◌, ◌<◌, ◌≤◌, Bool, true, false, cond, if◌then◌else◌, Option, Some, None, List, [], ◌∷◌, ◌++◌, length, get_or, drop, refl, subst, sym, ap, ◌∙◌, arith}
+use Rattle.std.specs.Prelude.{All, unwrap_or}
 use Rattle.std.specs.List.{slice_get}
 use Rattle.std.specs.Option.{option_and_then}
 use Rattle.std.proofs.Math.Nat.{min-le_left}
 use Rattle.std.proofs.lemmas.List.{append-nil, append_assoc, at_drop_all, at_drop_more, drop-drop, length-take, map-append}
-use Rattle.std.proofs.lemmas.List.Elements.{All-append, All-cons, All-head, All-nil, All-tail}
+use Rattle.std.proofs.lemmas.List.Elements.{All-append, All-cons, All-nil}
 use Rattle.elf_model.specs.Loading.{LoadedObject}
 use Rattle.elf_model.specs.ObjectFile.{bytes_in_file, contents, has_no_bytes, sections}
 use Rattle.elf_model.specs.Pieces as pieces
-use Rattle.elf_model.specs.Pieces.{AreLawfulKinds, IsLawfulKind, is_alloc, piece_of, pieces_from, pieces_of}
-use Rattle.elf_model.specs.Profile.{IsPlainObject, IsText}
+use Rattle.elf_model.specs.Pieces.{is_alloc, piece_of, pieces_from, pieces_of}
 use Rattle.elf_model.specs.declared.records.SectionHeader.{SectionHeader}
 use Rattle.checker.specs.Views.{loaded_views, piece_view, piece_views}
 use Rattle.checker.specs.declared.things.Loaded.{Loaded}
 use Rattle.checker.specs.declared.things.Piece.{Piece}
-use Rattle.checker.proofs.ProfileLemmas.{one_text_all}
 
 abbrev Short : pieces.Piece → Type 0
 Short p = length p.bytes ≤ p.size
-
-abbrev IsLawful : pieces.Piece → Type 0
-IsLawful p = IsLawfulKind p.header
 
 cond_at : {X : Type 0} (b t : Bool) (x y : X) → b ≡ t → cond b x y ≡ cond t x y
 cond_at b t x y e = ap (λ (s : Bool). cond s x y) e
@@ -99,40 +94,3 @@ pieces_short number bytes i (h ∷ hs) e =
 pub all_short : (k : ℕ) (os : List LoadedObject) → All Short (pieces_of k os)
 all_short k [] = All-nil Short
 all_short k (o ∷ os) = All-append Short (pieces_from k o.bytes 0 (sections o.bytes)) (pieces_of (k + 1) os) (pieces_short k o.bytes 0 (sections o.bytes) refl) (all_short (k + 1) os)
-
--- The kept section of a plain object has a lawful kind.
-
-text_lawful : (h : SectionHeader) → IsText h → IsLawfulKind h
-text_lawful h text =
-    let flags : (n : ℕ) → bit_and h.sh_flags n ≡ bit_and 6 n = λ n. ap (λ (f : ℕ). bit_and f n) text.flags in
-    record {
-      type_ = (0, omega arith, sym text.type_);
-      flags = flags 0x677 ∙ sym text.flags;
-      not_both = ap (λ (f : ℕ). not (bit_and f 1 == 0) && not (bit_and f 4 == 0)) text.flags;
-      thread_local = λ t. absurd (let e = ap (λ (f : ℕ). not (bit_and f 0x400 == 0)) text.flags in let n : false ≡ true = sym e ∙ t in cc);
-      nobits = λ t. absurd (let e = ap (λ (y : ℕ). y == 8) text.type_ in let n : false ≡ true = sym e ∙ t in cc);
-    }
-
-kinds_of : (number : ℕ) (bytes : List ℕ) (i : ℕ) (hs : List SectionHeader) → All IsText (filter is_alloc hs) → All IsLawful (pieces_from number bytes i hs)
-kinds_of number bytes i [] texts = All-nil IsLawful
-kinds_of number bytes i (h ∷ hs) texts = by (is_alloc h) texts (kinds_of number bytes (i + 1) hs)
-  where
-    by :
-        (b : Bool) → All IsText (cond b (h ∷ filter is_alloc hs) (filter is_alloc hs)) →
-        (All IsText (filter is_alloc hs) → All IsLawful (pieces_from number bytes (i + 1) hs)) →
-        All IsLawful (cond b (piece_of number bytes i h ∷ pieces_from number bytes (i + 1) hs) (pieces_from number bytes (i + 1) hs))
-    by true here rest =
-        All-cons IsLawful (piece_of number bytes i h) (pieces_from number bytes (i + 1) hs)
-        (text_lawful h (All-head IsText h (filter is_alloc hs) here)) (rest (All-tail IsText h (filter is_alloc hs) here))
-    by false here rest = rest here
-
-kinds_from : (k : ℕ) (os : List LoadedObject) → All (λ o. IsPlainObject o.bytes) os → All IsLawful (pieces_of k os)
-kinds_from k [] plain = All-nil IsLawful
-kinds_from k (o ∷ os) plain =
-    let here = All-head (λ (x : LoadedObject). IsPlainObject x.bytes) o os plain in
-    All-append IsLawful (pieces_from k o.bytes 0 (sections o.bytes)) (pieces_of (k + 1) os)
-    (kinds_of k o.bytes 0 (sections o.bytes) (one_text_all (filter is_alloc (sections o.bytes)) here.one_text))
-    (kinds_from (k + 1) os (All-tail (λ (x : LoadedObject). IsPlainObject x.bytes) o os plain))
-
-pub plain_kinds : (os : List LoadedObject) → All (λ o. IsPlainObject o.bytes) os → AreLawfulKinds os
-plain_kinds os plain = kinds_from 0 os plain

@@ -1,67 +1,41 @@
 -- The symbol lines of a map against the strong definitions in the order of their names.
-use Rattle.std.proofs.Common.{◌≡◌, ℕ, ◌+◌, ◌<◌, false, cond, List, [], ◌∷◌, length, get_or, refl, sym, ◌∙◌, ap, subst, arith}
-use Rattle.std.specs.Prelude.{IsPermutation, count_by, filter, find, map}
+use Rattle.std.proofs.Common.{◌≡◌, ℕ, ◌+◌, ◌<◌, List, length, get_or, sym, ◌∙◌, ap, subst, arith}
+use Rattle.std.specs.Prelude.{IsPermutation, filter, find, map}
 use Rattle.std.specs.Cmp.Lexicographic.{slice_cmp}
 use Rattle.std.specs.List.Sorted.{IsSortedByKey}
-use Rattle.std.specs.Ordering.{is_lt, nat_cmp}
+use Rattle.std.specs.Ordering.{nat_cmp}
 use Rattle.std.proofs.lemmas.List.{get_or-map, length-map}
-use Rattle.std.proofs.lemmas.List.Sorted.{IsPermutation-map}
+use Rattle.std.proofs.lemmas.Slice.Eq.{bytes_eq-Decides}
 use Rattle.elf_model.specs.Loading.{LoadedObject}
 use Rattle.elf_model.specs.MapRecord.{SymbolRow}
 use Rattle.elf_model.specs.MapText.{Ascends, SymbolBefore}
 use Rattle.elf_model.specs.Placement.{Placed}
 use Rattle.elf_model.specs.Resolution.{AreUnique, SymbolOf, all_symbols, has_name, is_strong, strong_definitions}
 use Rattle.elf_model.specs.RightLink.{HasLine, symbol_row_of}
+use Rattle.elf_model.proofs.RisingNames.{count_permuted, has, neighbours_count, rises_from_ascends, same_from_look_ups}
+use Rattle.elf_model.proofs.SymbolRows.{look_up, rows_ascend, rows_moved, unique_from_rows}
 use Rattle.checker.specs.Views.{symbol_view, symbol_views}
 use Rattle.checker.specs.declared.things.SymbolOf as code
-use Rattle.elf_model.proofs.Found.{find-map}
-use Rattle.elf_model.proofs.RisingNames.{Rises, ascends_from_sorted, count_permuted, counted, find_permuted, has, rises_from_ascends, rises_unique, same_from_look_ups}
 
--- as many lines have a name as definitions
-count_mapped : (ps : List Placed) (n : List ℕ) (xs : List SymbolOf) → count_by (has n) (map (symbol_row_of ps) xs) ≡ count_by (has_name n) xs
-count_mapped ps n [] = refl
-count_mapped ps n (x ∷ xs) =
-    counted (has n) (symbol_row_of ps x) (map (symbol_row_of ps) xs)
-    ∙ ap (λ k. cond (has_name n x) 1 0 + k) (count_mapped ps n xs)
-    ∙ sym (counted (has_name n) x xs)
-
--- the lines of sorted definitions are sorted
-lines_sorted :
-    (ps : List Placed) (sorted : List code.SymbolOf) → IsSortedByKey (λ s. s.name.now) (slice_cmp nat_cmp) sorted →
-    (k : ℕ) (d : SymbolRow) → k + 1 < length (map (symbol_row_of ps) (symbol_views sorted)) →
-    is_lt (slice_cmp nat_cmp (get_or (map (symbol_row_of ps) (symbol_views sorted)) (k + 1) d).name (get_or (map (symbol_row_of ps) (symbol_views sorted)) k d).name) ≡ false
-lines_sorted ps [] up k d within = absurd (omega (arith, within))
-lines_sorted ps (s ∷ ss) up k d within =
-    let m = length-map (symbol_views (s ∷ ss)) (symbol_row_of ps) in
-    let n = length-map (s ∷ ss) symbol_view in
-    let at : (i : ℕ) → i < length (s ∷ ss) → (get_or (map (symbol_row_of ps) (symbol_views (s ∷ ss))) i d).name ≡ (get_or (s ∷ ss) i s).name.now =
-    λ i low.
-    ap (λ (r : SymbolRow). r.name) (get_or-map (symbol_row_of ps) (symbol_views (s ∷ ss)) i (symbol_view s) d (omega (arith, low, n)))
-    ∙ ap (λ (x : SymbolOf). x.name) (get_or-map symbol_view (s ∷ ss) i s (symbol_view s) low) in
-    let first : k < length (s ∷ ss) = omega (arith, within, m, n) in
-    let second : k + 1 < length (s ∷ ss) = omega (arith, within, m, n) in
-    ap (λ (x : List ℕ). is_lt (slice_cmp nat_cmp x (get_or (map (symbol_row_of ps) (symbol_views (s ∷ ss))) k d).name)) (at (k + 1) second)
-    ∙ ap (λ (x : List ℕ). is_lt (slice_cmp nat_cmp (get_or (s ∷ ss) (k + 1) s).name.now x)) (at k first)
-    ∙ up k s (omega arith) second
-
--- what joins the lines of the sorted definitions to the look-ups of the clause
-look_up :
-    (objects : List LoadedObject) (ps : List Placed) (lines : List SymbolRow) →
-    IsPermutation (map (symbol_row_of ps) (strong_definitions objects)) lines → AreUnique objects →
-    (n : List ℕ) → HasLine lines objects ps n
-look_up objects ps lines moved unique n =
-    sym
-    (find_permuted (has n) (map (symbol_row_of ps) (strong_definitions objects)) lines moved
-    (let e = count_mapped ps n (strong_definitions objects) in let u = unique n in omega (arith, e, u)))
-    ∙ find-map (has n) (symbol_row_of ps) (strong_definitions objects)
-
-count_of_line :
-    (objects : List LoadedObject) (ps : List Placed) (lines : List SymbolRow) →
-    IsPermutation (map (symbol_row_of ps) (strong_definitions objects)) lines →
-    (n : List ℕ) → count_by (has n) lines ≡ count_by (has_name n) (strong_definitions objects)
-count_of_line objects ps lines moved n =
-    count_permuted (has n) (map (symbol_row_of ps) (strong_definitions objects)) lines moved
-    ∙ count_mapped ps n (strong_definitions objects)
+-- where each name has one definition, no two neighbours have one name
+differ :
+    (objects : List LoadedObject) (sorted : List code.SymbolOf) → IsPermutation (strong_definitions objects) (symbol_views sorted) →
+    AreUnique objects → (k : ℕ) (d : code.SymbolOf) → k + 1 < length sorted →
+    (symbol_view (get_or sorted k d)).name ≡ (symbol_view (get_or sorted (k + 1) d)).name → ⊥
+differ objects sorted moved unique k d within same =
+    let n = (symbol_view (get_or sorted k d)).name in
+    let len = length-map sorted symbol_view in
+    let here : (get_or (symbol_views sorted) k (symbol_view d)).name ≡ n =
+    ap (λ (s : SymbolOf). s.name) (get_or-map symbol_view sorted k d (symbol_view d) (omega (arith, within))) in
+    let next : (get_or (symbol_views sorted) (k + 1) (symbol_view d)).name ≡ n =
+    ap (λ (s : SymbolOf). s.name) (get_or-map symbol_view sorted (k + 1) d (symbol_view d) within) ∙ sym same in
+    let two =
+    neighbours_count (has_name n) (symbol_views sorted) k (symbol_view d) (omega (arith, within, len))
+    ((bytes_eq-Decides (get_or (symbol_views sorted) k (symbol_view d)).name n).1 here)
+    ((bytes_eq-Decides (get_or (symbol_views sorted) (k + 1) (symbol_view d)).name n).1 next) in
+    let count = count_permuted (has_name n) (strong_definitions objects) (symbol_views sorted) moved in
+    let u = unique n in
+    omega (arith, two, count, u)
 
 pub listed :
     (objects : List LoadedObject) (ps : List Placed) (rows : List SymbolRow) (symbols sorted : List code.SymbolOf) →
@@ -72,19 +46,14 @@ pub listed :
     × (AreUnique objects → ((name : List ℕ) → HasLine rows objects ps name) → rows ≡ map (symbol_row_of ps) (symbol_views sorted))
 listed objects ps rows symbols sorted are same up ascend =
     let lines : List SymbolRow = map (symbol_row_of ps) (symbol_views sorted) in
-    let moved : IsPermutation (map (symbol_row_of ps) (strong_definitions objects)) lines =
-    IsPermutation-map (symbol_row_of ps) (strong_definitions objects) (symbol_views sorted)
-    (subst (λ (xs : List SymbolOf). IsPermutation (filter is_strong xs) (symbol_views sorted)) are same) in
-    let counts : (n : List ℕ) → count_by (has n) lines ≡ count_by (has_name n) (strong_definitions objects) =
-    count_of_line objects ps lines moved in (
+    let strong : IsPermutation (strong_definitions objects) (symbol_views sorted) =
+    subst (λ (xs : List SymbolOf). IsPermutation (filter is_strong xs) (symbol_views sorted)) are same in
+    let moved = rows_moved objects ps (symbol_views sorted) strong in (
       λ e.
-          let rises : Rises lines = subst Rises e (rises_from_ascends rows ascend) in
-          let unique : AreUnique objects = λ n. let u = rises_unique lines n rises in let k = counts n in omega (arith, u, k) in
+          let unique = unique_from_rows objects ps lines moved (subst (Ascends SymbolBefore) e ascend) in
           (unique, λ n. ap (λ (xs : List SymbolRow). find (has n) xs) e ∙ look_up objects ps lines moved unique n),
       λ unique have.
-          let rises : Rises lines =
-          rises_from_ascends lines
-          (ascends_from_sorted lines (lines_sorted ps sorted up) (λ n. let u = unique n in let k = counts n in omega (arith, u, k))) in
-          same_from_look_ups rows lines (rises_from_ascends rows ascend) rises
+          let rise = rows_ascend symbol_view ps sorted up (differ objects sorted strong unique) in
+          same_from_look_ups rows lines (rises_from_ascends rows ascend) (rises_from_ascends lines rise)
           (λ n. have n ∙ sym (look_up objects ps lines moved unique n)),
     )

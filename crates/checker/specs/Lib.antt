@@ -3,8 +3,12 @@ pub mod Entering
 pub mod FileIndex
 pub mod Filled
 pub mod Judged
+pub mod Kinds
+pub mod Neighbours
 pub mod Opened
+pub mod PlaceIndex
 pub mod Sound
 pub mod Subjects
 pub mod Sweeps
 pub mod Views
+pub mod Widths

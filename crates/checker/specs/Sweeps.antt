@@ -1,5 +1,5 @@
 -- Words on things for this crate's sweeps.
-use Rattle.std.specs.Prelude.{◌≡◌, ℕ, ◌+◌, ◌-◌, ◌^◌, ◌<◌, ◌≤◌, ◌⊎◌, List, All, slice_index}
+use Rattle.std.specs.Prelude.{◌≡◌, ℕ, ◌+◌, ◌-◌, ◌^◌, ◌<◌, ◌≤◌, ◌⊎◌, List, [], ◌∷◌, All, max, slice_index}
 use Rattle.elf_model.specs.Placement.{Covers}
 use Rattle.elf_model.specs.declared.thing.Thing.{Thing}
 
@@ -29,3 +29,8 @@ FilledFrom bytes start top fill from ts =
 
 abbrev pub RegionFilled : List ℕ → ℕ → ℕ → ℕ → List Thing → Type 0
 RegionFilled bytes start top fill ts = FilledFrom bytes start top fill start ts
+
+-- things with the addresses of others, each of which reaches up to the greatest end so far
+abbrev pub stretched : ℕ → List Thing → List Thing
+stretched end [] = []
+stretched end (t ∷ ts) = record t { size = max end (t.at + t.size) - t.at } ∷ stretched (max end (t.at + t.size)) ts

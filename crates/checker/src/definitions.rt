@@ -1,14 +1,15 @@
 //! Which symbol a name means, and its value: the twelfth clause.
 ghost use Rattle.std.specs.Prelude.{◌≡◌, ◌&&◌, ◌↔◌, ◌++◌, Bool, IfOk, IfSome, IsSomeAnd, IsTrue, filter, find, length, map, option_copied, option_map};
-ghost use Rattle.elf_model.specs.Pieces.{is_thread_local};
-ghost use Rattle.elf_model.specs.Placement.{is_of_section, symbol_value};
+ghost use Rattle.elf_model.specs.Placement.{symbol_value};
 ghost use Rattle.elf_model.specs.Resolution.{IsEntry, all_symbols, chosen, has_name, is_in_thread_section, is_strong, strong_definitions};
 ghost use Rattle.checker.specs.Entering.{Enters};
-ghost use Rattle.checker.specs.Views.{loaded_views, placed_view, placed_views, symbol_view, symbol_views};
+ghost use Rattle.checker.specs.Views.{loaded_views, symbol_view, symbol_views};
 
+use crate::flags::is_thread_local;
+use crate::places::Places;
 use crate::symbols::section_of;
-use crate::things::{Loaded, Placed, SymbolOf};
-use elf_model::{SHF_TLS, SHN_ABS, SHN_COMMON, SHN_UNDEF, STB_GLOBAL, SectionHeader};
+use crate::things::{Loaded, SymbolOf};
+use elf_model::{SHN_ABS, SHN_COMMON, SHN_UNDEF, STB_GLOBAL};
 use std::alloc::{AllocError, Global};
 
 /// Whether a symbol is a strong definition: GLOBAL, defined, not common.
@@ -52,12 +53,6 @@ fn first_definition<'b, 'a>(symbols: &'b [SymbolOf<'a>], name: &[u8]) -> Option<
     symbols.iter().find(|s| defines(s, name))
 }
 
-fn is_thread_local(section: &SectionHeader) -> bool
-    ensures { result ≡ is_thread_local section.now }
-{
-    section.sh_flags & SHF_TLS != 0
-}
-
 /// Whether a symbol stands in a section with SHF_TLS.
 fn is_in_thread_section(objects: &[Loaded<'_>], symbol: &SymbolOf<'_>) -> bool
     ensures { result ≡ is_in_thread_section (loaded_views objects.now) (symbol_view symbol.now) }
@@ -68,34 +63,16 @@ fn is_in_thread_section(objects: &[Loaded<'_>], symbol: &SymbolOf<'_>) -> bool
     }
 }
 
-fn is_of_section(placed: &Placed<'_>, object: u64, section: u64) -> bool
-    ensures { result ≡ is_of_section object section (placed_view placed.now) }
-{
-    placed.piece.object == object && placed.piece.section == section
-}
-
-/// The address of a section, where it is placed.
-fn address_of(placed: &[Placed<'_>], object: u64, section: u64) -> Option<u64>
-    ensures { result ≡ option_map (λ q. q.at) (find (is_of_section object section) (placed_views placed.now)) }
-{
-    for q in placed {
-        if is_of_section(q, object, section) {
-            return Some(q.at);
-        }
-    }
-    None
-}
-
 /// Whether a defined symbol's value is a number: an absolute one's `st_value`, else the address of its
 /// section plus `st_value`, 0 where the section isn't placed. No sum past 2^64 is one.
-pub fn has_value(placed: &[Placed<'_>], symbol: &SymbolOf<'_>, value: u64) -> bool
-    ensures { IsTrue result ↔ (value ≡ symbol_value (placed_views placed.now) (symbol_view symbol.now)) }
+pub fn has_value(places: &Places<'_, '_>, symbol: &SymbolOf<'_>, value: u64) -> bool
+    ensures { IsTrue result ↔ (value ≡ symbol_value places.now (symbol_view symbol.now)) }
 {
     let entry = symbol.entry;
     if entry.st_shndx == SHN_ABS {
         return value == entry.st_value;
     }
-    match address_of(placed, symbol.object, entry.st_shndx as u64) {
+    match places.address(symbol.object, entry.st_shndx as u64) {
         Some(at) => at.checked_add(entry.st_value) == Some(value),
         None => value == 0,
     }
@@ -104,18 +81,18 @@ pub fn has_value(placed: &[Placed<'_>], symbol: &SymbolOf<'_>, value: u64) -> bo
 /// Whether a definition was found that stands in no section with SHF_TLS, and `e_entry` is its value.
 fn enters_at(
     objects: &[Loaded<'_>],
-    placed: &[Placed<'_>],
+    places: &Places<'_, '_>,
     found: Option<&SymbolOf<'_>>,
     e_entry: u64,
 ) -> bool
-    ensures { IsTrue result ↔ Enters (loaded_views objects.now) (placed_views placed.now) e_entry (option_map symbol_view (option_copied found.entry)) }
+    ensures { IsTrue result ↔ Enters (loaded_views objects.now) places.now e_entry (option_map symbol_view (option_copied found.entry)) }
 {
     match found {
         Some(entry) => {
             if is_in_thread_section(objects, entry) {
                 return false;
             }
-            has_value(placed, entry, e_entry)
+            has_value(places, entry, e_entry)
         }
         None => false,
     }
@@ -125,13 +102,13 @@ fn enters_at(
 /// value. The symbols are those of the objects.
 pub fn enters_right(
     objects: &[Loaded<'_>],
-    placed: &[Placed<'_>],
+    places: &Places<'_, '_>,
     symbols: &[SymbolOf<'_>],
     name: &[u8],
     e_entry: u64,
 ) -> bool
     requires { symbol_views symbols.now ≡ all_symbols (loaded_views objects.now) }
-    ensures { let L = loaded_views objects.now in IsTrue result ↔ (IsEntry L name.now × IsSomeAnd (chosen L name.now) (λ d. e_entry ≡ symbol_value (placed_views placed.now) d)) }
+    ensures { let L = loaded_views objects.now in IsTrue result ↔ (IsEntry L name.now × IsSomeAnd (chosen L name.now) (λ d. e_entry ≡ symbol_value places.now d)) }
 {
-    enters_at(objects, placed, first_definition(symbols, name), e_entry)
+    enters_at(objects, places, first_definition(symbols, name), e_entry)
 }

@@ -1,7 +1,9 @@
 //! Where segments and the image end.
-ghost use Rattle.std.specs.Prelude.{◌≡◌, ◌+◌, ◌≤◌, ◌<◌, ◌↔◌, true, All, Any, IsTrue};
+ghost use Rattle.std.specs.Prelude.{◌≡◌, ◌+◌, ◌≤◌, ◌<◌, ◌^◌, ◌↔◌, true, All, Any, IsTrue};
+ghost use Rattle.std.specs.List.Sorted.{IsNonDecreasingBy};
 ghost use Rattle.elf_model.specs.RightLink.{EndsRight, IsOfSegment};
 
+use crate::stretches::begun_between;
 use elf_model::{ProgramHeader, Thing};
 
 fn is_of_segment(segment: &ProgramHeader, thing: &Thing) -> bool
@@ -56,11 +58,28 @@ fn ends_right(things: &[Thing], segment: &ProgramHeader) -> bool
     segment.p_filesz == 0 || things.iter().any(|t| ends_file(segment, t))
 }
 
-/// Whether each segment ends as the things in it do.
-pub fn all_end_right(things: &[Thing], segments: &[ProgramHeader]) -> bool
-    ensures { IsTrue result ↔ All (EndsRight things.now) segments.now }
+/// Whether a segment ends as those of the things do, which stand by address, that are in it.
+fn ends_with_its_things(sorted: &[Thing], segment: &ProgramHeader) -> bool
+    requires rising { IsNonDecreasingBy (λ t. t.at) sorted.now }
+    requires end { segment.now.p_vaddr + segment.now.p_memsz < 2 ^ 64 }
+    ensures { IsTrue result ↔ EndsRight sorted.now segment.now }
 {
-    segments.iter().all(|h| ends_right(things, h))
+    let end = segment.p_vaddr + segment.p_memsz;
+    ends_right(begun_between(sorted, segment.p_vaddr, end), segment)
+}
+
+/// Whether each segment ends as those of the things do, which stand by address, that are in it.
+pub fn all_end_right(sorted: &[Thing], segments: &[ProgramHeader]) -> bool
+    requires rising { IsNonDecreasingBy (λ t. t.at) sorted.now }
+    requires ends { All (λ h. h.p_vaddr + h.p_memsz < 2 ^ 64) segments.now }
+    ensures { IsTrue result ↔ All (EndsRight sorted.now) segments.now }
+{
+    for segment in segments {
+        if !ends_with_its_things(sorted, segment) {
+            return false;
+        }
+    }
+    true
 }
 
 fn ends_at(segment: &ProgramHeader, len: u64) -> bool

@@ -1,8 +1,8 @@
 //! That an image has nothing else in memory or in the file: the eleventh clause.
-ghost use Rattle.std.specs.Prelude.{◌≡◌, ◌+◌, ◌≤◌, ◌<◌, ◌^◌, ◌↔◌, ℕ, All, IfOk, IsTrue, length, map, slice_index};
+ghost use Rattle.std.specs.Prelude.{◌≡◌, ◌+◌, ◌<◌, ◌^◌, ◌↔◌, All, IfOk, IsTrue, length, map};
 ghost use Rattle.std.specs.List.Sorted.{IsNonDecreasingBy};
-ghost use Rattle.elf_model.specs.MemoryImage.{segment_byte};
-ghost use Rattle.elf_model.specs.RightLink.{HasNothingElse, IsFilled, fill_of};
+ghost use Rattle.elf_model.specs.MemoryImage.{loads};
+ghost use Rattle.elf_model.specs.RightLink.{EndsRight, HasNothingElse, IsFilled, fill_of};
 ghost use Rattle.loader_model.specs.Table.{IsLawful};
 ghost use Rattle.checker.specs.Filled.{HasZeroGaps, SegmentFilled, part_of};
 ghost use Rattle.checker.specs.Sweeps.{EndFits, RegionFilled};
@@ -10,6 +10,8 @@ ghost use Rattle.checker.specs.Sweeps.{EndFits, RegionFilled};
 use crate::apart::by_address;
 use crate::ends::{all_end_right, ends_with_a_part};
 use crate::region::{Region, is_filled};
+use crate::segments::file_part;
+use crate::stretches::{lying_between, stretched};
 use elf_model::{ProgramHeader, Thing};
 use loader_model::Memory;
 use std::alloc::{AllocError, Global};
@@ -21,25 +23,25 @@ fn fill_byte(rights: u32) -> u8
     if rights == 5 { 0x90 } else { 0 }
 }
 
-/// The file part of a segment, as much of it as its file has.
-fn file_part<'f>(image: &'f [u8], segment: &ProgramHeader) -> &'f [u8]
-    requires { IsLawful (length image.now) segment.now }
-    ensures { (k : ℕ) → slice_index result.now k ≡ segment_byte image.now segment.now (segment.now.p_vaddr + k) }
+/// Whether each address of a region that no stretch takes up has the fill. It looks at those alone that lie
+/// partly in the region.
+fn is_region_filled(region: &Region<'_>, stretches: &[Thing]) -> bool
+    requires fits { All EndFits stretches.now }
+    requires rising { IsNonDecreasingBy (λ t. t.at) stretches.now }
+    requires ends { IsNonDecreasingBy (λ t. t.at + t.size) stretches.now }
+    ensures { IsTrue result ↔ RegionFilled region.now.bytes.now region.now.start region.now.top region.now.fill stretches.now }
 {
-    if segment.p_filesz == 0 {
-        return &[];
-    }
-    let (_before, rest) = image.split_at(segment.p_offset as usize);
-    let (part, _after) = rest.split_at(segment.p_filesz as usize);
-    part
+    is_filled(region, lying_between(stretches, region.start, region.top))
 }
 
-fn is_segment_filled(image: &[u8], segment: &ProgramHeader, sorted: &[Thing]) -> bool
+/// Whether what a segment maps outside of all stretches is fill.
+fn is_segment_filled(image: &[u8], segment: &ProgramHeader, stretches: &[Thing]) -> bool
     requires lawful { IsLawful (length image.now) segment.now }
     requires end { segment.now.p_vaddr + segment.now.p_memsz < 2 ^ 64 }
-    requires fits { All EndFits sorted.now }
-    requires rising { IsNonDecreasingBy (λ t. t.at) sorted.now }
-    ensures { IsTrue result ↔ SegmentFilled image.now sorted.now segment.now }
+    requires fits { All EndFits stretches.now }
+    requires rising { IsNonDecreasingBy (λ t. t.at) stretches.now }
+    requires ends { IsNonDecreasingBy (λ t. t.at + t.size) stretches.now }
+    ensures { IsTrue result ↔ SegmentFilled image.now stretches.now segment.now }
 {
     let region = Region {
         bytes: file_part(image, segment),
@@ -47,19 +49,20 @@ fn is_segment_filled(image: &[u8], segment: &ProgramHeader, sorted: &[Thing]) ->
         top: segment.p_vaddr + segment.p_memsz,
         fill: fill_byte(segment.p_flags),
     };
-    is_filled(&region, sorted)
+    is_region_filled(&region, stretches)
 }
 
-/// Whether memory outside of all things is fill, segment by segment.
-fn are_segments_filled(image: &[u8], segments: &[ProgramHeader], sorted: &[Thing]) -> bool
+/// Whether memory outside of all stretches is fill, segment by segment.
+fn are_segments_filled(image: &[u8], segments: &[ProgramHeader], stretches: &[Thing]) -> bool
     requires lawful { All (IsLawful (length image.now)) segments.now }
-    requires ends { All (λ h. h.p_vaddr + h.p_memsz < 2 ^ 64) segments.now }
-    requires fits { All EndFits sorted.now }
-    requires rising { IsNonDecreasingBy (λ t. t.at) sorted.now }
-    ensures { IsTrue result ↔ All (SegmentFilled image.now sorted.now) segments.now }
+    requires segments_end { All (λ h. h.p_vaddr + h.p_memsz < 2 ^ 64) segments.now }
+    requires fits { All EndFits stretches.now }
+    requires rising { IsNonDecreasingBy (λ t. t.at) stretches.now }
+    requires ends { IsNonDecreasingBy (λ t. t.at + t.size) stretches.now }
+    ensures { IsTrue result ↔ All (SegmentFilled image.now stretches.now) segments.now }
 {
     for segment in segments {
-        if !is_segment_filled(image, segment, sorted) {
+        if !is_segment_filled(image, segment, stretches) {
             return false;
         }
     }
@@ -108,18 +111,52 @@ fn are_file_gaps_zero(alloc: Global, memory: &Memory<'_>) -> Result<bool, AllocE
     Ok(zero)
 }
 
-/// Whether memory outside of all things is fill.
+/// Whether memory outside of all things, which stand by address, is fill.
 fn is_memory_filled(
     alloc: Global,
     memory: &Memory<'_>,
-    things: &[Thing],
+    sorted: &[Thing],
 ) -> Result<bool, AllocError>
-    requires { All EndFits things.now }
-    ensures { IfOk result (λ b. IsTrue b ↔ IsFilled memory.now things.now) }
+    requires fits { All EndFits sorted.now }
+    requires rising { IsNonDecreasingBy (λ t. t.at) sorted.now }
+    ensures { IfOk result (λ b. IsTrue b ↔ IsFilled memory.now sorted.now) }
 {
     let image = memory.image();
-    let sorted = by_address(alloc, things)?;
-    let filled = are_segments_filled(image, memory.segments(), &sorted);
+    let stretches = stretched(alloc, sorted)?;
+    let filled = are_segments_filled(image, memory.segments(), &stretches);
+    Ok(filled)
+}
+
+/// Whether each segment ends as the things in it do, which stand by address.
+fn do_segments_end_right(memory: &Memory<'_>, sorted: &[Thing]) -> bool
+    requires { IsNonDecreasingBy (λ t. t.at) sorted.now }
+    ensures { IsTrue result ↔ All (EndsRight sorted.now) (loads memory.now) }
+{
+    let _image = memory.image();
+    all_end_right(sorted, memory.segments())
+}
+
+/// `has_nothing_else` of things that stand by address.
+fn sorted_have_nothing_else(
+    alloc: Global,
+    memory: &Memory<'_>,
+    sorted: &[Thing],
+) -> Result<bool, AllocError>
+    requires fits { All EndFits sorted.now }
+    requires rising { IsNonDecreasingBy (λ t. t.at) sorted.now }
+    ensures { IfOk result (λ b. IsTrue b ↔ HasNothingElse memory.now sorted.now) }
+{
+    if !do_segments_end_right(memory, sorted) {
+        return Ok(false);
+    }
+    if !ends_with_a_part(memory.segments(), memory.image().len() as u64) {
+        return Ok(false);
+    }
+    let zero = are_file_gaps_zero(alloc, memory)?;
+    if !zero {
+        return Ok(false);
+    }
+    let filled = is_memory_filled(alloc, memory, sorted)?;
     Ok(filled)
 }
 
@@ -133,16 +170,7 @@ pub fn has_nothing_else(
     requires { All EndFits things.now }
     ensures { IfOk result (λ b. IsTrue b ↔ HasNothingElse memory.now things.now) }
 {
-    if !all_end_right(things, memory.segments()) {
-        return Ok(false);
-    }
-    if !ends_with_a_part(memory.segments(), memory.image().len() as u64) {
-        return Ok(false);
-    }
-    let zero = are_file_gaps_zero(alloc, memory)?;
-    if !zero {
-        return Ok(false);
-    }
-    let filled = is_memory_filled(alloc, memory, things)?;
-    Ok(filled)
+    let sorted = by_address(alloc, things)?;
+    let nothing = sorted_have_nothing_else(alloc, memory, &sorted)?;
+    Ok(nothing)
 }

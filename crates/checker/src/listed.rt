@@ -8,11 +8,12 @@ ghost use Rattle.elf_model.specs.MapText.{Ascends, SymbolBefore};
 ghost use Rattle.elf_model.specs.Resolution.{AreSoundSymbols, AreUnique, all_symbols, is_strong};
 ghost use Rattle.elf_model.specs.RightLink.{HasLine, symbol_row_of};
 ghost use Rattle.elf_model.specs.declared.link_map.Definition.TheVariants.{Strong};
-ghost use Rattle.checker.specs.Views.{loaded_views, placed_views, symbol_view, symbol_views};
+ghost use Rattle.checker.specs.Views.{loaded_views, symbol_view, symbol_views};
 
 use crate::definitions::{has_value, strong_definitions};
+use crate::places::Places;
 use crate::symbols::are_sound;
-use crate::things::{Loaded, Placed, SymbolOf};
+use crate::things::{Loaded, SymbolOf};
 use elf_model::{Definition, SymbolLine};
 use std::alloc::{AllocError, Global};
 
@@ -43,8 +44,8 @@ fn is_strong_line(definition: Definition, symbol: &SymbolOf<'_>) -> bool
 }
 
 /// Whether a line has a symbol's name, names it as a strong definition and gives its value.
-fn is_line_of(placed: &[Placed<'_>], symbol: &SymbolOf<'_>, line: &SymbolLine) -> bool
-    ensures { IsTrue result ↔ (symbol_row line.now ≡ symbol_row_of (placed_views placed.now) (symbol_view symbol.now)) }
+fn is_line_of(places: &Places<'_, '_>, symbol: &SymbolOf<'_>, line: &SymbolLine) -> bool
+    ensures { IsTrue result ↔ (symbol_row line.now ≡ symbol_row_of places.now (symbol_view symbol.now)) }
 {
     if line.name.as_slice() != symbol.name {
         return false;
@@ -52,18 +53,18 @@ fn is_line_of(placed: &[Placed<'_>], symbol: &SymbolOf<'_>, line: &SymbolLine) -
     if !is_strong_line(line.definition, symbol) {
         return false;
     }
-    has_value(placed, symbol, line.address)
+    has_value(places, symbol, line.address)
 }
 
 /// Whether the lines are those of the symbols, one for one.
-fn are_lines_of(placed: &[Placed<'_>], symbols: &[SymbolOf<'_>], lines: &[SymbolLine]) -> bool
-    ensures { IsTrue result ↔ (map symbol_row lines.now ≡ map (symbol_row_of (placed_views placed.now)) (symbol_views symbols.now)) }
+fn are_lines_of(places: &Places<'_, '_>, symbols: &[SymbolOf<'_>], lines: &[SymbolLine]) -> bool
+    ensures { IsTrue result ↔ (map symbol_row lines.now ≡ map (symbol_row_of places.now) (symbol_views symbols.now)) }
 {
     if lines.len() != symbols.len() {
         return false;
     }
     for i in 0..lines.len() {
-        if !is_line_of(placed, &symbols[i], &lines[i]) {
+        if !is_line_of(places, &symbols[i], &lines[i]) {
             return false;
         }
     }
@@ -75,18 +76,18 @@ fn are_lines_of(placed: &[Placed<'_>], symbols: &[SymbolOf<'_>], lines: &[Symbol
 pub fn are_symbols_listed(
     alloc: Global,
     objects: &[Loaded<'_>],
-    placed: &[Placed<'_>],
+    places: &Places<'_, '_>,
     symbols: &[SymbolOf<'_>],
     lines: &[SymbolLine],
 ) -> Result<bool, AllocError>
     requires all { symbol_views symbols.now ≡ all_symbols (loaded_views objects.now) }
     requires ascend { Ascends SymbolBefore (map symbol_row lines.now) }
-    ensures { let L = loaded_views objects.now in IfOk result (λ b. IsTrue b ↔ (AreSoundSymbols L × AreUnique L × ((name : List ℕ) → HasLine (map symbol_row lines.now) L (placed_views placed.now) name))) }
+    ensures { let L = loaded_views objects.now in IfOk result (λ b. IsTrue b ↔ (AreSoundSymbols L × AreUnique L × ((name : List ℕ) → HasLine (map symbol_row lines.now) L places.now name))) }
 {
     if !are_sound(objects, symbols) {
         return Ok(false);
     }
     let strong = strong_by_name(alloc, symbols)?;
-    let listed = are_lines_of(placed, &strong, lines);
+    let listed = are_lines_of(places, &strong, lines);
     Ok(listed)
 }

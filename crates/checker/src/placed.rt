@@ -7,6 +7,7 @@ ghost use Rattle.elf_model.specs.MemoryImage as placement;
 ghost use Rattle.elf_model.specs.MemoryImage.{loads};
 ghost use Rattle.checker.specs.Views.{piece_views, placed_view, placed_views};
 
+use crate::flags::{is_executable, is_nobits, is_writable};
 use crate::things::{Piece, Placed};
 use elf_model::{GotLine, PlaceLine, SectionHeader, Thing};
 use loader_model::Memory;
@@ -35,9 +36,9 @@ pub fn place<'a>(
 fn section_rights(header: &SectionHeader) -> u64
     ensures { result ≡ rights_of header.now }
 {
-    if header.sh_flags & 4 != 0 {
+    if is_executable(header) {
         5
-    } else if header.sh_flags & 1 != 0 {
+    } else if is_writable(header) {
         6
     } else {
         4
@@ -53,7 +54,7 @@ fn thing_of_placed(placed: &Placed<'_>) -> Thing
         size: header.sh_size,
         align: header.sh_addralign.max(1),
         rights: section_rights(header),
-        in_file: header.sh_type != 8,
+        in_file: !is_nobits(header),
     }
 }
 
@@ -70,7 +71,7 @@ fn headers_of(memory: &Memory<'_>) -> Thing
 }
 
 /// The address of the first segment, 0 without any.
-fn first_address(memory: &Memory<'_>) -> u64
+pub fn first_address(memory: &Memory<'_>) -> u64
     ensures { result ≡ placement.first_address (loads memory.now) }
 {
     match memory.segments() {

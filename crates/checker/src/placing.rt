@@ -1,12 +1,16 @@
 //! Where things lie, and with which rights: the fifth and the sixth clause.
-ghost use Rattle.std.specs.Prelude.{◌≡◌, ◌+◌, ◌≤◌, ◌<◌, ◌^◌, ◌%◌, ◌↔◌, All, AllPairs, IfOk, IsTrue, length};
-ghost use Rattle.elf_model.specs.MemoryImage.{Encloses, IsImage, first_address, loads};
+ghost use Rattle.std.specs.Prelude.{◌≡◌, ◌+◌, ◌≤◌, ◌<◌, ◌^◌, ◌%◌, ◌↔◌, All, AllPairs, IfOk, IsTrue};
+ghost use Rattle.elf_model.specs.MemoryImage.{Encloses, loads};
 ghost use Rattle.elf_model.specs.Placement.{AreApart, HasRights, IsPlaced, IsWithin, LiesInSegment};
 ghost use Rattle.checker.specs.Views.{placed_views};
 
 use crate::apart::share_no_address;
+use crate::neighbours::are_near;
+use crate::placed::first_address;
+use crate::segments::{encloses, enclosing};
 use crate::things::Placed;
 use elf_model::{ProgramHeader, Thing};
+use loader_model::Memory;
 use std::alloc::{AllocError, Global};
 
 /// Addresses end here.
@@ -40,14 +44,14 @@ fn are_aligned(things: &[Thing]) -> bool
 }
 
 /// Whether each thing has an address that is a multiple of its alignment, all lie from the base on below
-/// 2^46, and no two share an address. A lone piece has no neighbour in its output section.
+/// 2^46, no two share an address, and each piece stands close behind the one before it in its output
+/// section.
 pub fn is_placed(
     alloc: Global,
     base: u64,
     things: &[Thing],
     placed: &[Placed<'_>],
 ) -> Result<bool, AllocError>
-    requires { length placed.now ≤ 1 }
     ensures { IfOk result (λ b. IsTrue b ↔ IsPlaced base things.now (placed_views placed.now)) }
 {
     if !are_aligned(things) {
@@ -57,16 +61,41 @@ pub fn is_placed(
         return Ok(false);
     }
     let apart = share_no_address(alloc, things)?;
-    Ok(apart)
+    if !apart {
+        return Ok(false);
+    }
+    let near = are_near(alloc, placed)?;
+    Ok(near)
+}
+
+/// Whether a nonempty thing lies whole in a segment with exactly its rights.
+fn lies_if_nonempty(memory: &Memory<'_>, thing: &Thing) -> bool
+    ensures { IsTrue result ↔ (0 < thing.now.size → LiesInSegment (loads memory.now) thing.now) }
+{
+    if thing.size == 0 {
+        return true;
+    }
+    match enclosing(memory, thing.at, thing.size) {
+        Some(segment) => segment.p_flags as u64 == thing.rights,
+        None => false,
+    }
+}
+
+fn nonempty_lie(memory: &Memory<'_>, things: &[Thing]) -> bool
+    ensures { IsTrue result ↔ All (λ t. 0 < t.size → LiesInSegment (loads memory.now) t) things.now }
+{
+    for thing in things {
+        if !lies_if_nonempty(memory, thing) {
+            return false;
+        }
+    }
+    true
 }
 
 fn lies_in(segment: &ProgramHeader, thing: &Thing) -> bool
     ensures { IsTrue result ↔ (Encloses segment.now thing.now.at thing.now.size × (segment.now.p_flags ≡ thing.now.rights)) }
 {
-    if thing.at < segment.p_vaddr || thing.size > segment.p_memsz {
-        return false;
-    }
-    if thing.at - segment.p_vaddr > segment.p_memsz - thing.size {
+    if !encloses(segment, thing.at, thing.size) {
         return false;
     }
     segment.p_flags as u64 == thing.rights
@@ -78,6 +107,8 @@ fn lies_in_segment(segments: &[ProgramHeader], thing: &Thing) -> bool
     segments.iter().any(|h| lies_in(h, thing))
 }
 
+/// Whether each thing, empty ones too, lies in a segment with exactly its rights. It looks at each segment
+/// for each thing, and is asked of the GOT alone.
 fn all_lie(segments: &[ProgramHeader], things: &[Thing]) -> bool
     ensures { IsTrue result ↔ All (LiesInSegment segments.now) things.now }
 {
@@ -89,33 +120,16 @@ fn all_lie(segments: &[ProgramHeader], things: &[Thing]) -> bool
     true
 }
 
-fn nonempty_lie(segments: &[ProgramHeader], things: &[Thing]) -> bool
-    ensures { IsTrue result ↔ All (λ t. 0 < t.size → LiesInSegment segments.now t) things.now }
+/// Whether the first segment of an image begins at the base, and each nonempty thing, and the GOT, lies
+/// whole in one segment with exactly its rights.
+pub fn has_rights(memory: &Memory<'_>, base: u64, things: &[Thing], gots: &[Thing]) -> bool
+    ensures { IsTrue result ↔ HasRights base (loads memory.now) things.now gots.now }
 {
-    things
-        .iter()
-        .all(|t| t.size == 0 || lies_in_segment(segments, t))
-}
-
-fn first_of(segments: &[ProgramHeader]) -> u64
-    ensures { result ≡ first_address segments.now }
-{
-    match segments {
-        [] => 0,
-        [first, ..] => first.p_vaddr,
-    }
-}
-
-/// Whether the first segment begins at the base, and each nonempty thing, and the GOT, lies whole in one
-/// segment with exactly its rights.
-pub fn has_rights(base: u64, segments: &[ProgramHeader], things: &[Thing], gots: &[Thing]) -> bool
-    ensures { IsTrue result ↔ HasRights base segments.now things.now gots.now }
-{
-    if first_of(segments) != base {
+    if first_address(memory) != base {
         return false;
     }
-    if !nonempty_lie(segments, things) {
+    if !nonempty_lie(memory, things) {
         return false;
     }
-    all_lie(segments, gots)
+    all_lie(memory.segments(), gots)
 }

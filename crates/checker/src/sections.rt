@@ -3,13 +3,13 @@ ghost use Rattle.std.specs.Prelude.{◌≡◌, ◌≤◌, ◌↔◌, ◌++◌, A
 ghost use Rattle.elf_model.specs.MapRecord.{place_row};
 ghost use Rattle.elf_model.specs.ObjectFile.{sections};
 ghost use Rattle.elf_model.specs.Pieces as piece_words;
-ghost use Rattle.elf_model.specs.Profile.{IsInProfile};
 ghost use Rattle.elf_model.specs.RightLink.{AreSectionsListed, facts_of_piece, facts_of_row, objects_of};
 ghost use Rattle.checker.specs.Subjects.{HasKeptAlone, subject_of};
 ghost use Rattle.checker.specs.Views.{loaded_views, piece_view, piece_views};
 
+use crate::flags::is_alloc;
+use crate::lawful::are_lawful_kinds;
 use crate::link::Link;
-use crate::profile::is_alloc;
 use crate::things::{Loaded, Piece};
 use elf_model::{PlaceLine, SectionHeader};
 use elf_read::Object;
@@ -89,14 +89,16 @@ fn has_kept_alone(link: &Link<'_>) -> bool
     link.map.drops.is_empty() && link.map.commons.is_empty()
 }
 
-/// Whether the drop, place and common lines of a link's map are those of its dropped sections, its pieces
-/// and its common blocks. In the profile there are no dropped sections and no common blocks, and each
-/// piece is of a lawful kind.
+/// Whether each piece is of a lawful kind, and the drop, place and common lines of a link's map are those of
+/// its dropped sections, its pieces and its common blocks. In the profile there are no dropped sections and
+/// no common blocks.
 pub fn are_sections_listed(link: &Link<'_>, pieces: &[Piece<'_>]) -> bool
-    requires profile { IsInProfile link.now.plan (objects_of (subject_of link.now)) }
     requires pieces { piece_views pieces.now ≡ piece_words.pieces (objects_of (subject_of link.now)) }
     ensures { IsTrue result ↔ AreSectionsListed (subject_of link.now) }
 {
+    if !are_lawful_kinds(pieces) {
+        return false;
+    }
     if !has_kept_alone(link) {
         return false;
     }

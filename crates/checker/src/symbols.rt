@@ -2,13 +2,13 @@
 ghost use Rattle.std.specs.Prelude.{◌≡◌, ◌≤◌, ◌/◌, ◌↔◌, ◌++◌, ℕ, [], All, IfOk, IfSome, IsTrue, OnOk, length, map, option_copied, true, unwrap_or};
 ghost use Rattle.std.specs.List.{slice_get};
 ghost use Rattle.elf_model.specs.ObjectFile.{symbol_name, symbols};
-ghost use Rattle.elf_model.specs.Pieces.{is_alloc};
 ghost use Rattle.elf_model.specs.Resolution.{AreSoundSymbols, IsSoundSymbol, all_symbols, binding, section_of, sections_of_object, symbols_from};
 ghost use Rattle.checker.specs.Views.{loaded_views, symbol_view, symbol_views};
 ghost use Rattle.checker.specs.Sound.{StandsWell};
 
+use crate::flags::is_alloc;
 use crate::things::{Loaded, SymbolOf};
-use elf_model::{SHF_ALLOC, SHN_UNDEF, SectionHeader, Symbol};
+use elf_model::{SHN_UNDEF, SectionHeader, Symbol};
 use elf_read::Object;
 use std::alloc::{AllocError, Global};
 
@@ -75,12 +75,6 @@ pub fn section_of(objects: &[Loaded<'_>], symbol: &SymbolOf<'_>) -> Option<Secti
     }
     let sections = sections_at(objects, symbol.object as usize);
     sections.get(symbol.entry.st_shndx as usize).copied()
-}
-
-fn is_alloc(section: &SectionHeader) -> bool
-    ensures { result ≡ is_alloc section.now }
-{
-    section.sh_flags & SHF_ALLOC != 0
 }
 
 fn is_visible(entry: &Symbol) -> bool

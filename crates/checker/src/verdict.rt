@@ -1,11 +1,10 @@
 //! The whole check: the clauses in their order, each asked where those before it hold.
-ghost use Rattle.std.specs.Prelude.{◌≡◌, ◌≤◌, ◌↔◌, IfOk, IsTrue, length};
+ghost use Rattle.std.specs.Prelude.{◌≡◌, ◌↔◌, IfOk, IsTrue};
 ghost use Rattle.elf_model.specs.Files.{files_of, words_of};
 ghost use Rattle.elf_model.specs.MapRecord.{map_of};
 ghost use Rattle.elf_model.specs.MapText.{IsMap};
-ghost use Rattle.elf_model.specs.Profile.{IsInProfile};
 ghost use Rattle.elf_model.specs.Resolution.{all_symbols};
-ghost use Rattle.elf_model.specs.RightLink.{AreSymbolsListed, EntersRight, HoldsBefore, IsLoaded, IsRightLink, Least, objects_of, placed_of, things_of};
+ghost use Rattle.elf_model.specs.RightLink.{AreSymbolsListed, EntersRight, Holds, HoldsBefore, IsLoaded, IsRightLink, Least, objects_of, placed_of, things_of};
 ghost use Rattle.elf_model.specs.declared.verdict.Clause.{Clause};
 ghost use Rattle.elf_model.specs.declared.verdict.Clause.TheVariants as clause;
 ghost use Rattle.checker.specs.Judged.{Judges};
@@ -22,6 +21,7 @@ use crate::listed::are_symbols_listed;
 use crate::loading::is_loaded;
 use crate::opening::open;
 use crate::placed::{got_things_of, place, things_of};
+use crate::places::Places;
 use crate::placing::{has_rights, is_placed};
 use crate::reading::{read_map, read_plan};
 use crate::sections::{are_sections_listed, pieces_of};
@@ -46,23 +46,33 @@ fn entry_of<'a>(plan: &Plan<'a>) -> &'a [u8]
     plan.entry.as_bytes()
 }
 
+/// Whether the tenth clause holds of a link.
+fn is_held(link: &Link<'_>, memory: &Memory<'_>, placed: &[Placed<'_>]) -> bool
+    requires memory { memory.now ≡ link.now.image.now }
+    requires placed { placed_views placed.now ≡ placed_of (subject_of link.now) }
+    requires before { HoldsBefore clause.C10 (subject_of link.now) }
+    ensures { IsTrue result ↔ Holds clause.C10 (subject_of link.now) }
+{
+    holds_pieces(memory, placed)
+}
+
 /// Whether the twelfth clause holds of a link.
 fn is_entry_right(
     link: &Link<'_>,
     objects: &[Loaded<'_>],
     memory: &Memory<'_>,
-    placed: &[Placed<'_>],
+    places: &Places<'_, '_>,
     symbols: &[SymbolOf<'_>],
 ) -> bool
     requires loaded { loaded_views objects.now ≡ objects_of (subject_of link.now) }
     requires memory { memory.now ≡ link.now.image.now }
-    requires placed { placed_views placed.now ≡ placed_of (subject_of link.now) }
+    requires placed { places.now ≡ placed_of (subject_of link.now) }
     requires symbols { symbol_views symbols.now ≡ all_symbols (loaded_views objects.now) }
     ensures { IsTrue result ↔ EntersRight (subject_of link.now) }
 {
     enters_right(
         objects,
-        placed,
+        places,
         symbols,
         entry_of(&link.plan),
         memory.entry(),
@@ -74,16 +84,16 @@ fn are_symbols_right(
     alloc: Global,
     link: &Link<'_>,
     objects: &[Loaded<'_>],
-    placed: &[Placed<'_>],
+    places: &Places<'_, '_>,
     symbols: &[SymbolOf<'_>],
 ) -> Result<bool, AllocError>
     requires map { IsMap (map_of link.now.map) }
     requires loaded { loaded_views objects.now ≡ objects_of (subject_of link.now) }
-    requires placed { placed_views placed.now ≡ placed_of (subject_of link.now) }
+    requires placed { places.now ≡ placed_of (subject_of link.now) }
     requires symbols { symbol_views symbols.now ≡ all_symbols (loaded_views objects.now) }
     ensures { IfOk result (λ b. IsTrue b ↔ AreSymbolsListed (subject_of link.now)) }
 {
-    let listed = are_symbols_listed(alloc, objects, placed, symbols, &link.map.symbols)?;
+    let listed = are_symbols_listed(alloc, objects, places, symbols, &link.map.symbols)?;
     Ok(listed)
 }
 
@@ -103,17 +113,45 @@ fn judge_symbols(
     ensures { IfOk result (λ v. Judges v (subject_of link.now)) }
 {
     let symbols = symbols_of(alloc, objects)?;
-    if !is_entry_right(link, objects, memory, placed, &symbols) {
+    let places = Places::new(alloc, placed)?;
+    if !is_entry_right(link, objects, memory, &places, &symbols) {
         return Ok(Verdict::No(Clause::C12));
     }
-    let listed = are_symbols_right(alloc, link, objects, placed, &symbols)?;
+    let listed = are_symbols_right(alloc, link, objects, &places, &symbols)?;
     if !listed {
         return Ok(Verdict::No(Clause::C13));
     }
     Ok(Verdict::Yes)
 }
 
-/// Judges the clauses from the seventh on.
+/// Judges the clauses from the tenth on. No relocation is kept in the profile, so each byte that is wanted is
+/// the input's.
+fn judge_held(
+    alloc: Global,
+    link: &Link<'_>,
+    objects: &[Loaded<'_>],
+    memory: &Memory<'_>,
+    placed: &[Placed<'_>],
+    things: &[Thing],
+) -> Result<Verdict, AllocError>
+    requires map { IsMap (map_of link.now.map) }
+    requires loaded { loaded_views objects.now ≡ objects_of (subject_of link.now) }
+    requires memory { memory.now ≡ link.now.image.now }
+    requires placed { placed_views placed.now ≡ placed_of (subject_of link.now) }
+    requires things { things.now ≡ things_of (subject_of link.now) }
+    requires before { HoldsBefore clause.C10 (subject_of link.now) }
+    ensures { IfOk result (λ v. Judges v (subject_of link.now)) }
+{
+    if !is_held(link, memory, placed) {
+        return Ok(Verdict::No(Clause::C10));
+    }
+    if !has_nothing_else(alloc, memory, things)? {
+        return Ok(Verdict::No(Clause::C11));
+    }
+    judge_symbols(alloc, link, objects, memory, placed)
+}
+
+/// Judges the clauses from the seventh on. No relocation is kept in the profile, so the ninth clause holds.
 fn judge_bytes(
     alloc: Global,
     link: &Link<'_>,
@@ -136,25 +174,17 @@ fn judge_bytes(
     if !is_thread_block_right(memory) {
         return Ok(Verdict::No(Clause::C8));
     }
-    if !holds_pieces(memory, placed) {
-        return Ok(Verdict::No(Clause::C10));
-    }
-    if !has_nothing_else(alloc, memory, things)? {
-        return Ok(Verdict::No(Clause::C11));
-    }
-    judge_symbols(alloc, link, objects, memory, placed)
+    judge_held(alloc, link, objects, memory, placed, things)
 }
 
-/// The pieces of a link at the addresses that its map gives them; one at most.
+/// The pieces of a link at the addresses that its map gives them.
 fn place_pieces<'a>(
     alloc: Global,
     link: &Link<'_>,
     objects: &[Loaded<'a>],
 ) -> Result<Vec<Placed<'a>>, AllocError>
     requires loaded { loaded_views objects.now ≡ objects_of (subject_of link.now) }
-    requires profile { IsInProfile link.now.plan (objects_of (subject_of link.now)) }
-    ensures placed { IfOk result (λ v. placed_views v.items ≡ placed_of (subject_of link.now)) }
-    ensures one { IfOk result (λ v. length v.items ≤ 1) }
+    ensures { IfOk result (λ v. placed_views v.items ≡ placed_of (subject_of link.now)) }
 {
     let pieces = pieces_of(alloc, objects)?;
     let placed = place(alloc, &link.map.places, &pieces)?;
@@ -181,7 +211,7 @@ fn judge_places(
     if !is_placed(alloc, base, &things, &placed)? {
         return Ok(Verdict::No(Clause::C5));
     }
-    if !has_rights(base, memory.segments(), &things, &gots) {
+    if !has_rights(memory, base, &things, &gots) {
         return Ok(Verdict::No(Clause::C6));
     }
     judge_bytes(alloc, link, objects, memory, &placed, &things)

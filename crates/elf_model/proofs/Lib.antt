@@ -3,3 +3,19 @@ pub mod RecordLaws
 pub mod RisingNames
 mod Spelled
 pub mod SymbolRows
+pub mod NoRelocations
+pub mod PlainKinds
+pub mod Listed
+pub mod Finding
+pub mod Pairs
+pub mod Neighbours
+pub mod Running
+pub mod SameOutput
+pub mod Grouped
+pub mod Sectioned
+pub mod PieceNumbers
+pub mod OwnOrder
+pub mod Places
+pub mod PairsPermuted
+pub mod WrappedValues
+pub mod FlatRelocations

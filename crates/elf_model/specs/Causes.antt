@@ -1,12 +1,14 @@
 -- When a link is refused, and by which error (profile). The phases are the words, the files, loading, the profile,
--- resolution, references and layout; an error stands only where no fault of an earlier phase does.
-use Rattle.std.specs.Prelude.{◌≡◌, ◌≢◌, ℕ, List, Ok, Err, Any}
+-- resolution, references, layout and values; an error stands only where no fault of an earlier phase does.
+use Rattle.std.specs.Prelude.{◌≡◌, ◌≢◌, ℕ, List, None, Ok, Err, AllPairs, Any}
 use Rattle.elf_model.specs.Command.{Plan, command_of}
 use Rattle.elf_model.specs.Files.{File}
-use Rattle.elf_model.specs.Loading.{loaded_objects, AreFilesThere, AreObjects}
+use Rattle.elf_model.specs.Loading.{LoadedObject, loaded_objects, AreFilesThere, AreObjects}
 use Rattle.elf_model.specs.ObjectFile.{ObjFaultStands}
-use Rattle.elf_model.specs.OwnLayout.{IsNotTooLarge}
+use Rattle.elf_model.specs.OwnLayout.{IsNotTooLarge, OwnValuesFit}
+use Rattle.elf_model.specs.Pieces.{AreLawfulKinds}
 use Rattle.elf_model.specs.Profile.{IsInProfile}
+use Rattle.elf_model.specs.Relocation.{Relocation, AreFieldsApart, AreLawfulRelocations, IsFieldInside, IsUndefined, RefersToDropped, relocation_kind, relocations}
 use Rattle.elf_model.specs.Resolution.{IsDuplicate, AreUnique, AreSoundSymbols, IsEntry}
 use Rattle.elf_model.specs.declared.faults.LinkError.{LinkError}
 use Rattle.elf_model.specs.declared.faults.LinkError.TheVariants as error
@@ -27,17 +29,32 @@ pub record IsTaken (files : List File) (words : List (List ℕ)) (p : Plan) : Ty
 
 pub record IsResolved (files : List File) (words : List (List ℕ)) (p : Plan) : Type 0 where
   pub before : IsTaken files words p
+  pub kinds : AreLawfulKinds (loaded_objects files p)
   pub sound : AreSoundSymbols (loaded_objects files p)
   pub unique : AreUnique (loaded_objects files p)
 
 pub record IsReferred (files : List File) (words : List (List ℕ)) (p : Plan) : Type 0 where
   pub before : IsResolved files words p
+  pub relocations : AreLawfulRelocations (loaded_objects files p)
   pub entry : IsEntry (loaded_objects files p) p.entry
+
+pub record IsLaidOut (files : List File) (words : List (List ℕ)) (p : Plan) : Type 0 where
+  pub before : IsReferred files words p
+  pub not_too_large : IsNotTooLarge p.base (loaded_objects files p)
 
 -- no cause of a refusal stands
 pub record IsLinkable (files : List File) (words : List (List ℕ)) (p : Plan) : Type 0 where
-  pub before : IsReferred files words p
-  pub not_too_large : IsNotTooLarge p.base (loaded_objects files p)
+  pub before : IsLaidOut files words p
+  pub fits : OwnValuesFit p.base (loaded_objects files p)
+
+-- a kept relocation of which something stands
+abbrev pub AnyRelocation : List File → List (List ℕ) → (List LoadedObject → Relocation → Type 0) → Type 0
+AnyRelocation files words Stands =
+    (p : Plan) × IsResolved files words p × Any (Stands (loaded_objects files p)) (relocations (loaded_objects files p))
+
+-- it names a symbol of this name that has no definition
+abbrev pub IsUndefinedName : List ℕ → List LoadedObject → Relocation → Type 0
+IsUndefinedName name objects r = IsUndefined objects r.symbol × (r.symbol.name ≡ name)
 
 -- what stands where an error is answered; want of memory has no cause in the inputs
 abbrev pub Cause : List File → List (List ℕ) → LinkError → Type 0
@@ -50,7 +67,15 @@ Cause files words (error.BadObject f) =
     × (f ≢ fault.Memory)
     × Any (λ o. ObjFaultStands o.bytes f) (loaded_objects files p)
 Cause files words error.NotYet = (p : Plan) × HasObjects files words p × (¬ IsInProfile p (loaded_objects files p))
+Cause files words error.SectionKind = (p : Plan) × IsTaken files words p × (¬ AreLawfulKinds (loaded_objects files p))
 Cause files words (error.Duplicate name) = (p : Plan) × IsTaken files words p × IsDuplicate (loaded_objects files p) name.items
 Cause files words error.BadSymbol = (p : Plan) × IsTaken files words p × (¬ AreSoundSymbols (loaded_objects files p))
+Cause files words (error.Undefined name) = AnyRelocation files words (IsUndefinedName name.items)
+Cause files words error.RefToDropped = AnyRelocation files words (λ objects r. RefersToDropped objects r.symbol)
+Cause files words error.RelocKind = AnyRelocation files words (λ objects r. relocation_kind r ≡ None)
+Cause files words error.FieldOutside = AnyRelocation files words (λ objects r. ¬ IsFieldInside r)
+Cause files words error.OverlappingFields =
+    (p : Plan) × IsResolved files words p × (¬ AllPairs AreFieldsApart (relocations (loaded_objects files p)))
 Cause files words error.NoEntry = (p : Plan) × IsResolved files words p × (¬ IsEntry (loaded_objects files p) p.entry)
 Cause files words error.TooLarge = (p : Plan) × IsReferred files words p × (¬ IsNotTooLarge p.base (loaded_objects files p))
+Cause files words error.Overflow = (p : Plan) × IsLaidOut files words p × (¬ OwnValuesFit p.base (loaded_objects files p))

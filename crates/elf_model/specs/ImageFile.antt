@@ -10,7 +10,8 @@ use Rattle.elf_model.specs.OwnLayout.{own_segments, own_placed, own_in_load_orde
 use Rattle.elf_model.specs.Placement.{Placed, symbol_value}
 use Rattle.elf_model.specs.Records.{file_header_bytes, program_header_bytes}
 use Rattle.elf_model.specs.Resolution.{chosen}
-use Rattle.elf_model.specs.RightLink.{wanted_byte, object_rows, HasLine}
+use Rattle.elf_model.specs.RightLink.{object_rows, HasLine}
+use Rattle.elf_model.specs.WantedBytes.{wanted_byte}
 use Rattle.elf_model.specs.declared.records.FileHeader.{FileHeader}
 use Rattle.elf_model.specs.declared.records.ProgramHeader.{ProgramHeader}
 
@@ -73,7 +74,7 @@ fill_at segments a = cond (list_any (is_code_part a) segments) 0x90 0
 abbrev pub own_byte : ℕ → List LoadedObject → ℕ → ℕ
 own_byte base objects a =
     unwrap_or
-    (option_map (λ q. wanted_byte q.piece (a - q.at)) (find (covers_address a) (own_placed base objects)))
+    (option_map (λ q. wanted_byte objects (own_in_load_order base objects) q.piece (a - q.at)) (find (covers_address a) (own_placed base objects)))
     (fill_at (own_segments base objects) a)
 
 -- the image file: the headers, then the byte of each address up to the end of the last file part

@@ -2,6 +2,7 @@ pub mod Causes
 pub mod Command
 pub mod Files
 pub mod ImageFile
+pub mod LinkerNames
 pub mod Loading
 pub mod MapRecord
 pub mod MapText
@@ -12,5 +13,7 @@ pub mod Pieces
 pub mod Placement
 pub mod Profile
 pub mod Records
+pub mod Relocation
 pub mod Resolution
 pub mod RightLink
+pub mod WantedBytes

@@ -1,14 +1,15 @@
 -- What a relocatable object file holds, and the faults of one (System V gABI 4). The accessors have a value for every list of bytes; that what they speak of is there is a fact of its own.
-use Rattle.std.specs.Prelude.{ℕ, Bool, ◌≡◌, ◌⊎◌, ◌<◌, ◌≤◌, ◌+◌, ◌*◌, ◌/◌, ◌%◌, ◌^◌, ◌==◌, List, [], ◌∷◌, Option, None, Some, length, map, take, slice_index_or, count_by, option_map, unwrap_or, if◌then◌else◌, ◌||◌}
+use Rattle.std.specs.Prelude.{ℕ, Bool, ◌≡◌, ◌≢◌, ◌⊎◌, ◌<◌, ◌≤◌, ◌+◌, ◌*◌, ◌/◌, ◌%◌, ◌^◌, ◌==◌, List, [], ◌∷◌, Option, None, Some, length, map, take, slice_index_or, count_by, option_map, unwrap_or, if◌then◌else◌, ◌||◌}
 use Rattle.std.specs.Int.{IsPowerOfTwo}
-use Rattle.std.specs.List.{All, find, range_with_len, slice_get}
+use Rattle.std.specs.List.{All, Any, find, range_with_len, slice_get}
 use Rattle.std.specs.Option.{option_and_then}
 use Rattle.byteview.specs.Numbers.{HasText, part, text}
-use Rattle.elf_model.specs.Records.{file_header, section_header, symbol}
-use Rattle.elf_model.specs.declared.constants.TheConstants.{EM_X86_64, ET_REL, SHN_ABS, SHN_COMMON, SHN_LORESERVE, SHT_NOBITS, SHT_NULL, SHT_STRTAB, SHT_SYMTAB, SHT_SYMTAB_SHNDX}
+use Rattle.elf_model.specs.Records.{file_header, rela, section_header, symbol}
+use Rattle.elf_model.specs.declared.constants.TheConstants.{EM_X86_64, ET_REL, SHN_ABS, SHN_COMMON, SHN_LORESERVE, SHT_GROUP, SHT_NOBITS, SHT_NULL, SHT_REL, SHT_RELA, SHT_STRTAB, SHT_SYMTAB, SHT_SYMTAB_SHNDX}
 use Rattle.elf_model.specs.declared.faults.ObjFault.{ObjFault}
 use Rattle.elf_model.specs.declared.faults.ObjFault.TheVariants as fault
 use Rattle.elf_model.specs.declared.records.FileHeader.{FileHeader}
+use Rattle.elf_model.specs.declared.records.Rela.{Rela}
 use Rattle.elf_model.specs.declared.records.SectionHeader.{SectionHeader}
 use Rattle.elf_model.specs.declared.records.Symbol.{Symbol}
 
@@ -34,6 +35,10 @@ contents bytes s = part bytes s.sh_offset s.sh_size
 -- the symbol table among sections: the first of its type
 abbrev pub symbol_table : List SectionHeader → SectionHeader
 symbol_table ss = unwrap_or (find (λ s. s.sh_type == SHT_SYMTAB) ss) null_section
+
+-- the entries of a RELA section
+abbrev pub relas_of : List ℕ → SectionHeader → List Rela
+relas_of bytes s = entries rela 24 bytes s.sh_offset (s.sh_size / 24)
 
 -- the same accessors where header and sections were read already
 abbrev pub sections_of : List ℕ → FileHeader → List SectionHeader
@@ -79,6 +84,20 @@ section_bytes bytes i = option_and_then (bytes_in_file bytes) (slice_get (sectio
 
 abbrev pub symbol_name : List ℕ → ℕ → Option (List ℕ)
 symbol_name bytes j = option_map (name_of_symbol bytes) (slice_get (symbols bytes) j)
+
+-- by number: the entries of a RELA section; None where there is no such section, and where it is of another type
+abbrev pub relas_in : List ℕ → SectionHeader → Option (List Rela)
+relas_in bytes s = if s.sh_type == SHT_RELA then Some (relas_of bytes s) else None
+
+abbrev pub relas : List ℕ → ℕ → Option (List Rela)
+relas bytes i = option_and_then (relas_in bytes) (slice_get (sections bytes) i)
+
+-- the number of the symbol that an entry names, and the type of its relocation (gABI 4, "Relocation")
+abbrev pub rela_symbol : Rela → ℕ
+rela_symbol r = r.r_info / 2 ^ 32
+
+abbrev pub rela_type : Rela → ℕ
+rela_type r = r.r_info % 2 ^ 32
 
 -- ELF of 64 bits, least significant byte first, version 1 (gABI 4, "ELF Identification")
 pub record IsElf64 (h : FileHeader) : Type 0 where
@@ -140,6 +159,41 @@ pub record AreGoodSymbols (n : ℕ) (symbols : List Symbol) : Type 0 where
   pub null : slice_index_or symbols 0 null_symbol ≡ null_symbol
   pub each : All (IsGoodSymbol n) symbols
 
+-- the section that a RELA section's sh_link names is the symbol table; where there are several, which is a fault of theirs, any may be named
+abbrev pub LinksToSymbols : List SectionHeader → SectionHeader → Type 0
+LinksToSymbols ss s = (2 ≤ count_by (λ t. t.sh_type == SHT_SYMTAB) ss) ⊎ ((section ss s.sh_link).sh_type ≡ SHT_SYMTAB)
+
+-- section number k may be relocated (profile: it is there, and of no type NULL, SYMTAB, STRTAB, RELA, NOBITS or GROUP)
+pub record MayBeRelocated (ss : List SectionHeader) (k : ℕ) : Type 0 where
+  pub there : k < length ss
+  pub not_null : (section ss k).sh_type ≢ SHT_NULL
+  pub not_symbols : (section ss k).sh_type ≢ SHT_SYMTAB
+  pub not_strings : (section ss k).sh_type ≢ SHT_STRTAB
+  pub not_relas : (section ss k).sh_type ≢ SHT_RELA
+  pub not_nobits : (section ss k).sh_type ≢ SHT_NOBITS
+  pub not_group : (section ss k).sh_type ≢ SHT_GROUP
+
+-- a RELA section's own header
+pub record IsRelaSection (ss : List SectionHeader) (s : SectionHeader) : Type 0 where
+  pub entsize : s.sh_entsize ≡ 24
+  pub whole : s.sh_size % 24 ≡ 0
+  pub symbols : LinksToSymbols ss s
+  pub relocates : MayBeRelocated ss s.sh_info
+
+-- the sections hold no relocations without addends, and good RELA sections
+pub record AreGoodRelaSections (ss : List SectionHeader) : Type 0 where
+  pub no_rel : All (λ s. s.sh_type ≢ SHT_REL) ss
+  pub relas : All (λ s. s.sh_type ≡ SHT_RELA → IsRelaSection ss s) ss
+
+-- each entry names one of n symbols
+abbrev pub AreGoodRelas : ℕ → List Rela → Type 0
+AreGoodRelas n rs = All (λ r. rela_symbol r < n) rs
+
+-- the relocations of a good file
+pub record HasGoodRelas (bytes : List ℕ) : Type 0 where
+  pub tables : AreGoodRelaSections (sections bytes)
+  pub entries : All (λ s. s.sh_type ≡ SHT_RELA → AreGoodRelas (length (symbols bytes)) (relas_of bytes s)) (sections bytes)
+
 -- every name is a NUL-ended text of its string table
 abbrev pub AreSectionsNamed : List ℕ → List SectionHeader → Type 0
 AreSectionsNamed strings ss = All (λ s. HasText strings s.sh_name) ss
@@ -167,6 +221,7 @@ pub record IsObject (bytes : List ℕ) : Type 0 where
   pub ranges : All (IsPlaced (length bytes)) (sections bytes)
   pub strings : AreNamed bytes
   pub symbols : HasGoodSymbols bytes
+  pub relas : HasGoodRelas bytes
   pub size : length bytes < 2 ^ 32
 
 -- section names can be read
@@ -190,6 +245,12 @@ pub record HasSymbolStrings (len : ℕ) (h : FileHeader) (ss : List SectionHeade
   pub strings : IsStringTable ss (symbol_table ss).sh_link
   pub inside : LiesInside len (section ss (symbol_table ss).sh_link)
 
+-- the entries of a RELA section can be read
+pub record HasEntries (len : ℕ) (s : SectionHeader) : Type 0 where
+  pub rela : s.sh_type ≡ SHT_RELA
+  pub whole : s.sh_size % 24 ≡ 0
+  pub inside : LiesInside len s
+
 -- a fault stands, by the header, the sections and the symbols of the bytes. Truncated excludes the others, and what a fault denies is judged by that fault alone.
 abbrev pub StandsIn : List ℕ → FileHeader → List SectionHeader → List Symbol → ObjFault → Type 0
 StandsIn bytes h ss symbols fault.Memory = Unit {0}
@@ -204,7 +265,9 @@ StandsIn bytes h ss symbols fault.BadString =
     ⊎ (HasSymbolStrings (length bytes) h ss × (¬ AreSymbolsNamed (contents bytes (section ss (symbol_table ss).sh_link)) symbols))
 StandsIn bytes h ss symbols fault.BadSymbolTable =
     (HasTable (length bytes) h × (¬ HasGoodSymbolTable ss)) ⊎ (HasSymbols (length bytes) h ss × (¬ AreGoodSymbols h.e_shnum symbols))
-StandsIn bytes h ss symbols fault.BadRela = ⊥
+StandsIn bytes h ss symbols fault.BadRela =
+    (HasTable (length bytes) h × (¬ AreGoodRelaSections ss))
+    ⊎ (HasSymbols (length bytes) h ss × Any (λ s. HasEntries (length bytes) s × (¬ AreGoodRelas (length symbols) (relas_of bytes s))) ss)
 StandsIn bytes h ss symbols fault.BadGroup = ⊥
 StandsIn bytes h ss symbols fault.TooMany = 2 ^ 32 ≤ length bytes
 

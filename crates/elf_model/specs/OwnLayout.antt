@@ -5,6 +5,7 @@ use Rattle.std.specs.List.{flat_map, list_any}
 use Rattle.elf_model.specs.Loading.{LoadedObject}
 use Rattle.elf_model.specs.Pieces.{Piece, pieces, is_writable, is_executable, has_bytes, same_output}
 use Rattle.elf_model.specs.Placement.{Placed, is_of_section}
+use Rattle.elf_model.specs.Relocation.{AllFit}
 use Rattle.elf_model.specs.declared.records.ProgramHeader.{ProgramHeader}
 
 -- the least multiple of a not below x
@@ -148,3 +149,7 @@ pub record IsNotTooLarge (base : ℕ) (objects : List LoadedObject) : Type 0 whe
   pub headers : base + own_headers_size objects ≤ 2 ^ 46
   pub ends : All (λ q. placed_end q ≤ 2 ^ 46) (own_placed base objects)
   pub file : file_end (own_segments base objects) < 2 ^ 32
+
+-- Overflow does not stand: each kept relocation's value at the own addresses fits its field
+abbrev pub OwnValuesFit : ℕ → List LoadedObject → Type 0
+OwnValuesFit base objects = AllFit objects (own_in_load_order base objects)

@@ -13,7 +13,9 @@ use Rattle.elf_model.specs.Pieces.{Piece, pieces, AreLawfulKinds}
 use Rattle.elf_model.specs.Placement.{Placed, placed_by, things, got_things, Covers, IsPlaced, HasRights, symbol_value}
 use Rattle.elf_model.specs.Profile.{IsInProfile}
 use Rattle.elf_model.specs.Records.{file_header}
+use Rattle.elf_model.specs.Relocation.{AllFit, AreLawfulRelocations}
 use Rattle.elf_model.specs.Resolution.{SymbolOf, chosen, AreUnique, AreSoundSymbols, IsEntry}
+use Rattle.elf_model.specs.WantedBytes.{wanted_byte}
 use Rattle.elf_model.specs.declared.link_map.Definition.TheVariants.{Strong}
 use Rattle.elf_model.specs.declared.records.ProgramHeader.{ProgramHeader}
 use Rattle.elf_model.specs.declared.thing.Thing.{Thing}
@@ -86,18 +88,17 @@ pub record IsGotRight (s : Subject) : Type 0 where
 abbrev pub IsThreadBlockRight : Subject → Type 0
 IsThreadBlockRight s = thread_blocks s.image ≡ []
 
--- C9. Each relocated field holds its value; no relocation is in the profile, so it holds always.
+-- C9. Each kept relocation is lawful, and its value fits its field.
+pub record AreRelocationsRight (s : Subject) : Type 0 where
+  pub lawful : AreLawfulRelocations (objects_of s)
+  pub fits : AllFit (objects_of s) (placed_of s)
 
--- C10. Memory holds each piece: at each of its addresses the byte that is wanted there, its input's, and 0
--- where the input has none.
-abbrev pub wanted_byte : Piece → ℕ → ℕ
-wanted_byte p k = slice_index p.bytes k
-
+-- C10. Memory holds each piece: at each of its addresses the byte that is wanted there.
 abbrev pub byte_at : List ℕ → ℕ → Option ℕ
 byte_at image a = option_map (λ c. c.byte) (memory_of image a)
 
-pub record HoldsPiece (image : List ℕ) (q : Placed) : Type 0 where
-  pub bytes : (k : ℕ) → k < q.piece.size → byte_at image (q.at + k) ≡ Some (wanted_byte q.piece k)
+pub record HoldsPiece (objects : List LoadedObject) (ps : List Placed) (image : List ℕ) (q : Placed) : Type 0 where
+  pub bytes : (k : ℕ) → k < q.piece.size → byte_at image (q.at + k) ≡ Some (wanted_byte objects ps q.piece k)
 
 -- C11. Each mapped byte outside all things is fill: 0x90 where it may be executed, else 0.
 abbrev pub fill_of : ℕ → ℕ
@@ -161,8 +162,8 @@ Holds C5 s = IsPlaced s.plan.base (things_of s) (placed_of s)
 Holds C6 s = HasRights s.plan.base (loads s.image) (things_of s) (got_things s.map.got)
 Holds C7 s = IsGotRight s
 Holds C8 s = IsThreadBlockRight s
-Holds C9 s = Unit {0}
-Holds C10 s = All (HoldsPiece s.image) (placed_of s)
+Holds C9 s = AreRelocationsRight s
+Holds C10 s = All (HoldsPiece (objects_of s) (placed_of s) s.image) (placed_of s)
 Holds C11 s = HasNothingElse s.image (things_of s)
 Holds C12 s = EntersRight s
 Holds C13 s = AreSymbolsListed s

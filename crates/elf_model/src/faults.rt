@@ -92,8 +92,22 @@ pub enum LinkError {
     FileMissing,
     #[error("BadObject (4): {0}")]
     BadObject(ObjFault),
+    #[error("SectionKind (7)")]
+    SectionKind,
     #[error("Duplicate (9)")]
     Duplicate(Vec<u8>),
+    #[error("Undefined (10)")]
+    Undefined(Vec<u8>),
+    #[error("RefToDropped (11)")]
+    RefToDropped,
+    #[error("RelocKind (12)")]
+    RelocKind,
+    #[error("FieldOutside (13)")]
+    FieldOutside,
+    #[error("OverlappingFields (14)")]
+    OverlappingFields,
+    #[error("Overflow (15)")]
+    Overflow,
     #[error("NoEntry (18)")]
     NoEntry,
     #[error("TooLarge (20)")]

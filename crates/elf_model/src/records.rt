@@ -1,4 +1,5 @@
 ghost use Rattle.std.specs.Prelude.{◌≡◌, ◌≤◌, length, SomeIff};
+ghost use Rattle.elf_model.specs.ObjectFile.{rela_symbol, rela_type};
 ghost use Rattle.elf_model.specs.Records.{file_header, file_header_bytes, section_header, section_header_bytes, symbol, symbol_bytes, rela, rela_bytes, program_header, program_header_bytes};
 
 use crate::constants::{EHDR_SIZE, PHDR_SIZE, RELA_SIZE, SHDR_SIZE, SYM_SIZE};
@@ -221,6 +222,20 @@ impl Rela {
         put_u64(out, 0, self.r_offset);
         put_u64(out, 8, self.r_info);
         put_i64(out, 16, self.r_addend);
+    }
+
+    /// The number of the symbol that the entry names: the upper half of r_info.
+    pub fn symbol(&self) -> u32
+        ensures { result ≡ rela_symbol self.now }
+    {
+        (self.r_info >> 32) as u32
+    }
+
+    /// The type of the relocation: the lower half of r_info.
+    pub fn kind(&self) -> u32
+        ensures { result ≡ rela_type self.now }
+    {
+        (self.r_info & 0xffff_ffff) as u32
     }
 }
 

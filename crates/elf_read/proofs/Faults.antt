@@ -1,10 +1,10 @@
 -- Faults of a file from faults of what was read of it.
 use Rattle.std.proofs.Common.{◌≡◌, inl, inr, ℕ, ◌/◌, ◌∙◌, sym, List, [], length, Result, Ok, Err, refl, ap, subst, arith}
 use Rattle.std.specs.Prelude.{IfErr}
-use Rattle.std.specs.List.{All}
+use Rattle.std.specs.List.{All, Any}
 use Rattle.std.proofs.lemmas.List.Elements.{All-nil}
 use Rattle.byteview.specs.Numbers.{HasText}
-use Rattle.elf_model.specs.ObjectFile.{AreGoodSymbols, AreSectionsNamed, AreSymbolsNamed, HasGoodSymbolTable, HasTable, IsGoodSymbol, IsObject, IsPlaced, IsStringTable, ObjFaultStands, StandsIn, contents, entries, null_section, section, sections_of, symbol_table, symbols_of}
+use Rattle.elf_model.specs.ObjectFile.{AreGoodRelas, AreGoodSymbols, AreSectionsNamed, AreSymbolsNamed, HasEntries, HasGoodSymbolTable, HasTable, IsGoodSymbol, IsObject, IsPlaced, IsStringTable, ObjFaultStands, StandsIn, contents, entries, null_section, relas_of, section, sections, sections_of, symbol_table, symbols, symbols_of}
 use Rattle.elf_model.specs.Records.{file_header, symbol}
 use Rattle.elf_model.specs.declared.faults.ObjFault.{ObjFault}
 use Rattle.elf_model.specs.declared.faults.ObjFault.TheVariants as fault
@@ -65,8 +65,17 @@ of_file bytes h ss f header_is sections_are stands =
     in
     subst (λ (k : FileHeader). StandsIn bytes k (sections_of bytes k) (symbols_of bytes (sections_of bytes k)) f) header_is here
 
+-- of an object no entry names a symbol that is not there
+no_bad_entry : (bytes : List ℕ) → IsObject bytes
+    → Any (λ s. HasEntries (length bytes) s × (¬ AreGoodRelas (length (symbols bytes)) (relas_of bytes s))) (sections bytes) → ⊥
+no_bad_entry bytes o any =
+    let good = subst (λ (t : SectionHeader). t.sh_type ≡ 4 → AreGoodRelas (length (symbols bytes)) (relas_of bytes t)) any.3
+    (o.relas.entries any.0 any.1 any.2)
+    in
+    any.4.1 (good any.4.0.rela)
+
 -- of an object no fault but want of memory stands
-only : (bytes : List ℕ) (f : ObjFault) → IsObject bytes → ObjFaultStands bytes f → f ≡ fault.Memory
+pub only : (bytes : List ℕ) (f : ObjFault) → IsObject bytes → ObjFaultStands bytes f → f ≡ fault.Memory
 only bytes fault.Memory o s = refl
 only bytes fault.Truncated o s = absurd (omega (arith, o.long))
 only bytes fault.NotElf64 o s = absurd (s.1 o.elf64)
@@ -76,7 +85,7 @@ only bytes fault.BadSectionTable o s = absurd (s.1 o.table)
 only bytes fault.BadSectionRange o s = absurd (s.1 o.ranges)
 only bytes fault.BadString o s = elim s [ inl bad ↦ absurd (bad.1 o.strings.sections) | inr bad ↦ absurd (bad.1 o.strings.symbols) ]
 only bytes fault.BadSymbolTable o s = elim s [ inl bad ↦ absurd (bad.1 o.symbols.table) | inr bad ↦ absurd (bad.1 o.symbols.symbols) ]
-only bytes fault.BadRela o s = absurd s
+only bytes fault.BadRela o s = elim s [ inl bad ↦ absurd (bad.1 o.relas.tables) | inr bad ↦ absurd (no_bad_entry bytes o bad.1) ]
 only bytes fault.BadGroup o s = absurd s
 only bytes fault.TooMany o s = absurd (omega (arith, o.size))
 

@@ -4,3 +4,6 @@ mod SectionLemmas
 mod Faults
 mod Whole
 mod OneTexts
+mod RelaLists
+mod RelaRuns
+mod RelaFaults

@@ -14,7 +14,7 @@ abbrev is_symbol_table : SectionHeader → Bool
 is_symbol_table s = s.sh_type == 2
 
 -- a placed section of a type with bytes lies inside
-placed_inside : (len t : ℕ) (s : SectionHeader) → s.sh_type ≡ t → 0 < t → t < 8 → IsPlaced len s → LiesInside len s
+pub placed_inside : (len t : ℕ) (s : SectionHeader) → s.sh_type ≡ t → 0 < t → t < 8 → IsPlaced len s → LiesInside len s
 placed_inside len t s is low high placed = elim placed.range [
   | inl null ↦ absurd (omega (arith, is, null))
   | inr other ↦ elim other [

@@ -1,12 +1,15 @@
 -- The object that was read, from what was read of it.
-use Rattle.std.proofs.Common.{◌≡◌, ℕ, ◌<◌, ◌≤◌, ◌^◌, ◌/◌, List, length, ap, subst, ◌∙◌}
+use Rattle.std.proofs.Common.{◌≡◌, ℕ, ◌+◌, ◌*◌, ◌<◌, ◌≤◌, ◌^◌, ◌/◌, List, length, ap, subst, ◌∙◌, arith}
 use Rattle.std.specs.List.{All}
-use Rattle.elf_model.specs.ObjectFile.{AreGoodSymbols, AreSectionsNamed, AreSymbolsNamed, HasGoodSymbolTable, IsElf64, IsGoodTable, IsObject, IsPlaced, contents, entries, section, sections_of, symbols_of, symbol_table as table_of}
-use Rattle.elf_model.specs.Records.{file_header, symbol}
+use Rattle.std.proofs.lemmas.List.FromFn.{length-map-range_with_len}
+use Rattle.byteview.specs.Numbers.{part}
+use Rattle.elf_model.specs.ObjectFile.{AreGoodRelaSections, AreGoodRelas, AreGoodSymbols, AreSectionsNamed, AreSymbolsNamed, HasGoodSymbolTable, HasTable, IsElf64, IsGoodTable, IsObject, IsPlaced, contents, entries, relas_of, section, sections_of, symbols_of, symbol_table as table_of}
+use Rattle.elf_model.specs.Records.{file_header, section_header, symbol}
 use Rattle.elf_model.specs.declared.records.FileHeader.{FileHeader}
+use Rattle.elf_model.specs.declared.records.Rela.{Rela}
 use Rattle.elf_model.specs.declared.records.SectionHeader.{SectionHeader}
 use Rattle.elf_model.specs.declared.records.Symbol.{Symbol}
-use Rattle.elf_read.specs.Reading.{IsRead}
+use Rattle.elf_read.specs.Reading.{AreKept, IsRead}
 
 -- all that was found good, of what was read
 pub record IsFound (bytes : List ℕ) (h : FileHeader) (ss : List SectionHeader) (syms : List Symbol) : Type 0 where
@@ -19,6 +22,8 @@ pub record IsFound (bytes : List ℕ) (h : FileHeader) (ss : List SectionHeader)
   pub symbol_table : HasGoodSymbolTable ss
   pub symbols : AreGoodSymbols h.e_shnum syms
   pub section_names : AreSectionsNamed (contents bytes (section ss h.e_shstrndx)) ss
+  pub relas : AreGoodRelaSections ss
+  pub rela_entries : All (λ s. s.sh_type ≡ 4 → AreGoodRelas (length syms) (relas_of bytes s)) ss
   pub symbol_names : AreSymbolsNamed (contents bytes (section ss (table_of ss).sh_link)) syms
   pub size : length bytes < 2 ^ 32
 
@@ -40,6 +45,7 @@ own bytes found = record {
   ranges = found.ranges;
   strings = record { sections = found.section_names; symbols = found.symbol_names };
   symbols = record { table = found.symbol_table; symbols = found.symbols };
+  relas = record { tables = found.relas; entries = found.rela_entries };
   size = found.size;
 }
 
@@ -56,10 +62,17 @@ pub symbols_by_table : (bytes : List ℕ) (ss : List SectionHeader) (table : Sec
     → symbols ≡ entries symbol 24 bytes table.sh_offset (table.sh_size / 24) → symbols ≡ symbols_of bytes ss
 symbols_by_table bytes ss table symbols e are = are ∙ ap (λ (t : SectionHeader). entries symbol 24 bytes t.sh_offset (t.sh_size / 24)) e
 
-pub kept : (bytes : List ℕ) (h : FileHeader) (ss : List SectionHeader) (symbols : List Symbol) (section_strings symbol_strings : List ℕ)
+-- a table that can be read has few sections
+pub few_sections : (bytes : List ℕ) (h : FileHeader) (ss : List SectionHeader) → HasTable (length bytes) h → ss ≡ sections_of bytes h → length ss < 2 ^ 16
+few_sections bytes h ss table are =
+    let count = ap (λ (ts : List SectionHeader). length ts) are ∙ length-map-range_with_len (λ i. section_header (part bytes (h.e_shoff + 64 * i) 64)) 0 h.e_shnum in
+    omega (arith, count, table.few)
+
+-- what is kept of the sections that were read
+pub kept : (bytes : List ℕ) (h : FileHeader) (ss : List SectionHeader) (symbols : List Symbol) (section_strings symbol_strings : List ℕ) (relas : List Rela) (starts : List ℕ)
     → IsReadOf bytes h ss symbols → IsObject bytes → section_strings ≡ contents bytes (section ss h.e_shstrndx)
-    → symbol_strings ≡ contents bytes (section ss (table_of ss).sh_link) → IsRead bytes section_strings symbol_strings ss symbols
-kept bytes h ss symbols section_strings symbol_strings is object first second =
+    → symbol_strings ≡ contents bytes (section ss (table_of ss).sh_link) → AreKept bytes ss relas starts → IsRead bytes section_strings symbol_strings ss symbols relas starts
+kept bytes h ss symbols section_strings symbol_strings relas starts is object first second third =
     let sections_are = is.sections_are ∙ ap (sections_of bytes) is.header_is in
     record {
       object = object;
@@ -67,4 +80,5 @@ kept bytes h ss symbols section_strings symbol_strings is object first second =
       symbol_strings_are = second ∙ (λ i. contents bytes (section (sections_are i) (table_of (sections_are i)).sh_link));
       sections_are = sections_are;
       symbols_are = is.symbols_are ∙ ap (symbols_of bytes) sections_are;
+      relas_are = subst (λ (ts : List SectionHeader). AreKept bytes ts relas starts) sections_are third;
     }

@@ -5,6 +5,7 @@
 mod header;
 mod object;
 mod profile;
+mod relas;
 mod sections;
 mod symbols;
 
@@ -18,8 +19,8 @@ mod tests {
     use crate::sections::NULL_SECTION;
     use byteview::View;
     use elf_model::{
-        EM_X86_64, ET_REL, FileHeader, SHF_ALLOC, SHF_EXECINSTR, SHT_PROGBITS, SHT_STRTAB,
-        SHT_SYMTAB, SectionHeader, Symbol,
+        EM_X86_64, ET_REL, FileHeader, Rela, SHF_ALLOC, SHF_EXECINSTR, SHT_NOBITS, SHT_PROGBITS,
+        SHT_REL, SHT_RELA, SHT_STRTAB, SHT_SYMTAB, SectionHeader, Symbol,
     };
     use std::alloc::{AllocError, Global};
     use std::test::Fail;
@@ -74,6 +75,25 @@ mod tests {
         ..NULL_SECTION
     };
 
+    // The relocations of `.text`, one entry behind a table of six sections.
+    const RELOCATIONS: SectionHeader = SectionHeader {
+        sh_type: SHT_RELA,
+        sh_offset: 560,
+        sh_size: 24,
+        sh_link: 2,
+        sh_info: 1,
+        sh_addralign: 8,
+        sh_entsize: 24,
+        ..NULL_SECTION
+    };
+
+    // R_X86_64_PLT32 against symbol 1.
+    const CALL: Rela = Rela {
+        r_offset: 5,
+        r_info: 0x1_0000_0004,
+        r_addend: -4,
+    };
+
     /// An object whose one symbol besides the null one is the function `_start`, in its `.text`.
     fn start_object(alloc: Global) -> Result<Vec<u8>, AllocError> {
         object_of(alloc, &HEADER, &TEXT_SECTION)
@@ -102,6 +122,29 @@ mod tests {
         put_section(&mut bytes, &strings(15, 128, 8))?;
         put_section(&mut bytes, &strings(23, 136, 33))?;
         Ok(bytes)
+    }
+
+    /// The object of `_start` with one section more, and a relocation entry behind the table.
+    fn relocated_object(
+        alloc: Global,
+        relocations: &SectionHeader,
+        entry: &Rela,
+    ) -> Result<Vec<u8>, AllocError> {
+        let header = FileHeader {
+            e_shnum: 6,
+            ..HEADER
+        };
+        let mut bytes = object_of(alloc, &header, &TEXT_SECTION)?;
+        put_section(&mut bytes, relocations)?;
+        let mut record = [0; 24];
+        entry.write_to(&mut record);
+        bytes.extend_from_slice(&record)?;
+        Ok(bytes)
+    }
+
+    fn is_bad_rela(alloc: Global, relocations: &SectionHeader) -> Result<bool, AllocError> {
+        let bytes = relocated_object(alloc, relocations, &CALL)?;
+        Ok(matches!(fault_of(alloc, &bytes), Some(ObjFault::BadRela)))
     }
 
     fn put_section(bytes: &mut Vec<u8>, section: &SectionHeader) -> Result<(), AllocError> {
@@ -213,6 +256,91 @@ mod tests {
     fn a_second_symbol_table_is_refused(rt: HostRuntime) -> Result<(), Fail> {
         let bytes = object_of(rt.alloc(), &HEADER, &SYMTAB)?;
         assert!(rt; matches!(fault_of(rt.alloc(), &bytes), Some(ObjFault::BadSymbolTable)));
+        Ok(())
+    }
+
+    #[test]
+    fn relocations_are_read(rt: HostRuntime) -> Result<(), Fail> {
+        let bytes = relocated_object(rt.alloc(), &RELOCATIONS, &CALL)?;
+        let object = Object::read(rt.alloc(), View::new(&bytes))?;
+        let entries = object.relas(5).ok_or("the relocations of .text")?;
+        assert_eq!(rt; entries.len(), 1);
+        assert_eq!(rt; entries[0], CALL);
+        assert_eq!(rt; entries[0].symbol(), 1);
+        assert_eq!(rt; entries[0].kind(), 4);
+        assert!(rt; object.relas(1).is_none());
+        assert!(rt; object.relas(6).is_none());
+        Ok(())
+    }
+
+    #[test]
+    fn no_relocation_is_lawful(rt: HostRuntime) -> Result<(), Fail> {
+        let relocations = SectionHeader {
+            sh_size: 0,
+            ..RELOCATIONS
+        };
+        let bytes = relocated_object(rt.alloc(), &relocations, &CALL)?;
+        let object = Object::read(rt.alloc(), View::new(&bytes))?;
+        let entries = object.relas(5).ok_or("the relocations of .text")?;
+        assert_eq!(rt; entries.len(), 0);
+        Ok(())
+    }
+
+    #[test]
+    fn a_relocation_of_no_symbol_is_refused(rt: HostRuntime) -> Result<(), Fail> {
+        let entry = Rela {
+            r_info: 0x2_0000_0004,
+            ..CALL
+        };
+        let bytes = relocated_object(rt.alloc(), &RELOCATIONS, &entry)?;
+        assert!(rt; matches!(fault_of(rt.alloc(), &bytes), Some(ObjFault::BadRela)));
+        Ok(())
+    }
+
+    #[test]
+    fn a_bad_relocation_section_is_refused(rt: HostRuntime) -> Result<(), Fail> {
+        let without_addends = SectionHeader {
+            sh_type: SHT_REL,
+            ..RELOCATIONS
+        };
+        let half_an_entry = SectionHeader {
+            sh_size: 12,
+            ..RELOCATIONS
+        };
+        let link_to_strings = SectionHeader {
+            sh_link: 3,
+            ..RELOCATIONS
+        };
+        let of_strings = SectionHeader {
+            sh_info: 3,
+            ..RELOCATIONS
+        };
+        let past_the_table = SectionHeader {
+            sh_info: 6,
+            ..RELOCATIONS
+        };
+        assert!(rt; is_bad_rela(rt.alloc(), &without_addends)?);
+        assert!(rt; is_bad_rela(rt.alloc(), &half_an_entry)?);
+        assert!(rt; is_bad_rela(rt.alloc(), &link_to_strings)?);
+        assert!(rt; is_bad_rela(rt.alloc(), &of_strings)?);
+        assert!(rt; is_bad_rela(rt.alloc(), &past_the_table)?);
+        Ok(())
+    }
+
+    #[test]
+    fn relocations_of_no_bytes_are_refused(rt: HostRuntime) -> Result<(), Fail> {
+        let header = FileHeader {
+            e_shnum: 6,
+            ..HEADER
+        };
+        let text = SectionHeader {
+            sh_type: SHT_NOBITS,
+            ..TEXT_SECTION
+        };
+        let mut bytes = object_of(rt.alloc(), &header, &text)?;
+        put_section(&mut bytes, &RELOCATIONS)?;
+        bytes.extend_from_slice(&[0; 24])?;
+        assert!(rt; matches!(fault_of(rt.alloc(), &bytes), Some(ObjFault::BadRela)));
         Ok(())
     }
 }

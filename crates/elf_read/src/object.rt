@@ -1,12 +1,13 @@
 ghost use Rattle.std.specs.Prelude.{◌≡◌, List, ℕ, length, IfErr, IfOk, IfSome, OnOk, option_copied};
-ghost use Rattle.elf_model.specs.ObjectFile.{IsObject, ObjFaultStands, section, section_bytes, section_name, sections, symbol_name, symbols};
+ghost use Rattle.elf_model.specs.ObjectFile.{IsObject, ObjFaultStands, relas, section, section_bytes, section_name, sections, symbol_name, symbols};
 ghost use Rattle.elf_model.specs.declared.faults.ObjFault.TheVariants as fault;
 
 use crate::header::{read_header, read_sections};
+use crate::relas::{Relas, are_good_relas, read_relas};
 use crate::sections::{contents, has_no_bytes, judge_sections, section, symbol_table};
 use crate::symbols::{judge_symbols, read_symbols};
 use byteview::View;
-use elf_model::{ObjFault, SectionHeader, Symbol};
+use elf_model::{ObjFault, RELA_SIZE, Rela, SHT_RELA, SectionHeader, Symbol};
 use std::alloc::Global;
 use std::marker::Model;
 
@@ -19,6 +20,7 @@ pub struct Object<'a> {
     symbol_strings: View<'a>,
     sections: Vec<SectionHeader>,
     symbols: Vec<Symbol>,
+    relas: Relas,
 }
 
 impl<'a> Model for Object<'a> {
@@ -30,7 +32,7 @@ impl<'a> Model for Object<'a> {
 
     ghost view = { λ o. o.file };
 
-    ghost invariant = { λ o. IsRead o.file o.section_strings o.symbol_strings o.sections.items o.symbols.items };
+    ghost invariant = { λ o. IsRead o.file o.section_strings o.symbol_strings o.sections.items o.symbols.items o.relas.entries.items o.relas.starts.items };
 }
 
 impl<'a> Object<'a> {
@@ -52,6 +54,10 @@ impl<'a> Object<'a> {
         let table = symbol_table(&sections);
         let symbols = read_symbols(alloc, &view, &table)?;
         judge_symbols(&view, &header, &sections, &symbols)?;
+        let relas = read_relas(alloc, &view, &sections)?;
+        if !are_good_relas(&relas.entries, symbols.len()) {
+            return Err(ObjFault::BadRela);
+        }
         let section_names = section(&sections, header.e_shstrndx as usize);
         let symbol_names = section(&sections, table.sh_link as usize);
         Ok(Object {
@@ -60,6 +66,7 @@ impl<'a> Object<'a> {
             file: view,
             sections,
             symbols,
+            relas,
         })
     }
 
@@ -112,5 +119,18 @@ impl<'a> Object<'a> {
             return None;
         }
         Some(contents(&self.file, section).bytes())
+    }
+
+    /// The entries of section `i`, one of type RELA; None where there is no such section, and where
+    /// it is of another type.
+    pub fn relas(&self, i: usize) -> Option<&[Rela]>
+        ensures { option_copied result ≡ relas self.now i }
+    {
+        let section = self.sections.get(i)?;
+        if section.sh_type != SHT_RELA {
+            return None;
+        }
+        let count = section.sh_size as usize / RELA_SIZE;
+        Some(self.relas.of_section(i, count))
     }
 }

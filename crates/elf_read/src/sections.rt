@@ -3,8 +3,9 @@ ghost use Rattle.std.specs.Int.{IsPowerOfTwo};
 ghost use Rattle.std.specs.List.{All, find};
 ghost use Rattle.byteview.specs.Numbers.{HasText};
 ghost use Rattle.elf_model.specs.declared.records.Symbol.{Symbol};
-ghost use Rattle.elf_model.specs.ObjectFile.{AreSectionsNamed, HasGoodSymbolTable, HasTable, IsAlignment, IsGoodTable, IsPlaced, IsStringTable, IsSymbolTable, LiesInside, StandsIn, contents, has_no_bytes, section, symbol_table};
+ghost use Rattle.elf_model.specs.ObjectFile.{AreGoodRelaSections, AreSectionsNamed, HasGoodSymbolTable, HasTable, IsAlignment, IsGoodTable, IsPlaced, IsStringTable, IsSymbolTable, LiesInside, StandsIn, contents, has_no_bytes, section, symbol_table};
 
+use crate::relas::are_good_rela_sections;
 use byteview::View;
 use elf_model::{
     FileHeader, ObjFault, SHT_NOBITS, SHT_NULL, SHT_STRTAB, SHT_SYMTAB, SHT_SYMTAB_SHNDX, SYM_SIZE,
@@ -40,6 +41,7 @@ pub fn judge_sections(
     ensures table { OnOk result (IsGoodTable (length file.now) header.now sections.now) }
     ensures ranges { OnOk result (All (IsPlaced (length file.now)) sections.now) }
     ensures symbols { OnOk result (HasGoodSymbolTable sections.now) }
+    ensures relas { OnOk result (AreGoodRelaSections sections.now) }
     ensures fault { IfErr result (λ f. (symbols : List Symbol) → StandsIn file.now header.now sections.now symbols f) }
 {
     if section(sections, 0).sh_type != SHT_NULL {
@@ -54,6 +56,9 @@ pub fn judge_sections(
     }
     if !has_good_symbol_table(sections) {
         return Err(ObjFault::BadSymbolTable);
+    }
+    if !are_good_rela_sections(sections) {
+        return Err(ObjFault::BadRela);
     }
     Ok(())
 }

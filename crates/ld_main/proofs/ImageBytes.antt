@@ -6,7 +6,7 @@ use Rattle.std.proofs.lemmas.List.{ext_get_or, get_or_append_left, get_or-append
 use Rattle.std.proofs.lemmas.List.FromFn.{get_or-map-range_with_len, length-map-range_with_len}
 use Rattle.elf_model.specs.Pieces.{Piece}
 use Rattle.own_link.specs.Forms.{body_of, byte_here, text_at, text_end, text_length, text_start}
-use Rattle.own_link.proofs.OwnMemory.{below_or_not}
+use Rattle.std.proofs.lemmas.Bool.{cases_lt}
 
 left_of : (xs ys : List ℕ) (n i : ℕ) → length xs ≡ n → i < n → get_or (xs ++ ys) i 0 ≡ get_or xs i 0
 left_of xs ys n i len below = get_or_append_left xs ys 0 i (omega (arith, len, below))
@@ -34,7 +34,7 @@ module _ (base : ℕ) (q : Piece) (n m : ℕ) (low : base + 232 + n ≡ text_sta
   parts = replicate n 0 ++ (replicate m 0x90 ++ q.bytes)
 
   part_byte : (i : ℕ) → i < n + (m + q.size) → get_or parts i 0 ≡ byte_here base q (base + (232 + i))
-  part_byte i inside = by_gap (below_or_not i n)
+  part_byte i inside = by_gap (cases_lt i n)
     where
       by_fill : n ≤ i → (i - n < m) ⊎ (m ≤ i - n) → get_or (replicate m 0x90 ++ q.bytes) (i - n) 0 ≡ byte_here base q (base + (232 + i))
       by_fill over (inl below) =
@@ -51,7 +51,7 @@ module _ (base : ℕ) (q : Piece) (n m : ℕ) (low : base + 232 + n ≡ text_sta
           ∙ (get_or-replicate n i 0 0 below ∙ sym (gap_byte (base + (232 + i)) (omega (arith, low, below))))
       by_gap (inr over) =
           get_or-append_right (replicate n 0) (replicate m 0x90 ++ q.bytes) n i 0 (length-replicate n 0) over
-          ∙ by_fill over (below_or_not (i - n) m)
+          ∙ by_fill over (cases_lt (i - n) m)
 
   pub body_is : parts ≡ body_of base q
   body_is =

@@ -1,12 +1,6 @@
-pub mod Chosen
-pub mod EntryLemmas
-pub mod Gathered
 pub mod ImageBytes
-pub mod Loads
 pub mod ProfileLemmas
 pub mod TextLemmas
-pub mod Twins
-pub mod Definitions
 pub mod OwnMaps
 pub mod OwnOutputs
 pub mod Links

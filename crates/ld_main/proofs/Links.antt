@@ -1,23 +1,28 @@
 -- From what linking the loaded objects makes to a right link, and from its refusals to causes.
 use Rattle.std.proofs.Common.{◌≡◌, ℕ, ◌<◌, ◌^◌, List, [], ◌∷◌, length, sym, ◌∙◌, ap, subst}
-use Rattle.std.specs.Prelude.{IfErr, IfOk, Ok, Err, Result, map}
+use Rattle.std.specs.Prelude.{All, AllPairs, IfErr, IfOk, Ok, Err, Result, map}
 use Rattle.std.proofs.lemmas.List.{length-map}
+use Rattle.std.proofs.lemmas.List.Elements.{All-nil}
 use Rattle.elf_model.specs.Causes.{Cause, IsLinkable, IsReferred, IsResolved, IsTaken}
 use Rattle.elf_model.specs.Command as command
 use Rattle.elf_model.specs.Command.{Plan, command_of}
 use Rattle.elf_model.specs.Files.{File}
 use Rattle.elf_model.specs.ImageFile.{image_file}
 use Rattle.elf_model.specs.Loading.{AreFilesThere, AreObjects, LoadedObject, loaded_objects}
+use Rattle.elf_model.specs.OwnLayout.{OwnValuesFit, own_in_load_order}
 use Rattle.elf_model.specs.Profile.{IsInProfile}
+use Rattle.elf_model.specs.Relocation.{AreFieldsApart, AreLawfulRelocations, Fits, IsLawfulRelocation, relocations}
 use Rattle.elf_model.specs.RightLink.{IsRightLink}
 use Rattle.elf_model.specs.declared.faults.LinkError.{LinkError}
 use Rattle.elf_model.specs.declared.faults.LinkError.TheVariants as error
-use Rattle.own_link.specs.OwnLink as own_link
+use Rattle.elf_model.proofs.NoRelocations.{no_relocations}
+use Rattle.elf_model.proofs.Pairs.{AllPairs-nil}
+use Rattle.elf_model.proofs.PlainKinds.{plain_kinds}
 use Rattle.own_link.proofs.OneText.{one_object}
 use Rattle.own_link.proofs.OwnRight.{own_is_right}
 use Rattle.ld_main.specs.Outputs.{AreReferred, AreResolved, IsOwnLink, IsOwnOutput, LinksRefuse}
-use Rattle.ld_main.specs.Views.{loaded_view, loaded_views}
-use Rattle.ld_main.specs.declared.search.Loaded.{Loaded}
+use Rattle.search.specs.Views.{loaded_view, loaded_views}
+use Rattle.search.specs.declared.loading.Loaded.{Loaded}
 
 pub ok_more : {X Y : Type 0} (P Q : X → Type 0) (r : Result X Y) → IfOk r P → ((x : X) → P x → Q x) → IfOk r Q
 ok_more P Q (Ok x) is more = more x is
@@ -42,15 +47,33 @@ module _ (files : List File) (words : List (List ℕ)) (p : Plan) (objects : Lis
   }
 
   resolved : AreResolved (loaded_objects files p) → IsResolved files words p
-  resolved r = record { before = taken; sound = r.sound; unique = r.unique }
+  resolved r = record { before = taken; kinds = plain_kinds (loaded_objects files p) taken.profile.plain; sound = r.sound; unique = r.unique }
+
+  -- no relocation is kept, so all of them are lawful and fit
+  none : relocations (loaded_objects files p) ≡ []
+  none = no_relocations 0 (loaded_objects files p) taken.profile.plain
+
+  lawful : AreLawfulRelocations (loaded_objects files p)
+  lawful = record {
+    each = subst (All (IsLawfulRelocation (loaded_objects files p))) (sym none) (All-nil (IsLawfulRelocation (loaded_objects files p)));
+    apart = subst (AllPairs AreFieldsApart) (sym none) (AllPairs-nil AreFieldsApart);
+  }
+
+  fit : OwnValuesFit p.base (loaded_objects files p)
+  fit =
+      let placed = own_in_load_order p.base (loaded_objects files p) in
+      subst (All (Fits (loaded_objects files p) placed)) (sym none) (All-nil (Fits (loaded_objects files p) placed))
 
   referred : AreReferred p (loaded_objects files p) → IsReferred files words p
-  referred r = record { before = resolved r.resolved; entry = r.entry }
+  referred r = record { before = resolved r.resolved; relocations = lawful; entry = r.entry }
 
   linkable : (image map : List ℕ) → IsOwnOutput p (loaded_objects files p) image map → IsLinkable files words p
   linkable image map o = record {
-    before = referred (record { resolved = record { sound = o.linkable.sound; unique = o.linkable.unique }; entry = o.linkable.entry });
-    not_too_large = o.linkable.not_too_large;
+    before = record {
+      before = referred (record { resolved = record { sound = o.linkable.sound; unique = o.linkable.unique }; entry = o.linkable.entry });
+      not_too_large = o.linkable.not_too_large;
+    };
+    fits = fit;
   }
 
   pub own : (image map : List ℕ) → IsOwnOutput p objects image map → IsOwnLink files words image map
@@ -61,8 +84,7 @@ module _ (files : List File) (words : List (List ℕ)) (p : Plan) (objects : Lis
   pub right : command.IsBase p.base → (image map : List ℕ) → IsOwnOutput p objects image map → IsRightLink files words image map
   right b image map made =
       let o : IsOwnOutput p (loaded_objects files p) image map = subst (λ (os : List LoadedObject). IsOwnOutput p os image map) are made in
-      let base : own_link.IsBase p.base = record { on_a_page = b.2; low = b.0; high = b.1 } in
-      let r = own_is_right files words p o.bytes.record_of (linkable image map o) base o.entry_fits o.bytes.own_map o.bytes.is_map in
+      let r = own_is_right files words p o.bytes.record_of (linkable image map o) b o.entry_fits o.bytes.own_map o.bytes.is_map in
       subst (λ (i : List ℕ). IsRightLink files words i map) (sym o.bytes.image_is)
       (subst (λ (t : List ℕ). IsRightLink files words (image_file p.base (loaded_objects files p) p.entry) t) (sym o.bytes.spelled) r)
 

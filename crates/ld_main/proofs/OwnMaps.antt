@@ -9,11 +9,11 @@ use Rattle.elf_model.specs.MapText.{AreNumbered, Ascends, CommonBefore, DropBefo
 use Rattle.elf_model.specs.OwnLayout.{own_in_load_order}
 use Rattle.elf_model.specs.Placement.{Placed}
 use Rattle.elf_model.specs.RightLink.{HasLine, object_rows, symbol_row_of}
-use Rattle.ld_main.specs.Defined.{AreDefinitions}
+use Rattle.resolve.specs.Defined.{AreDefinitions}
 use Rattle.ld_main.specs.Layouts.{IsMapOf, own_places}
-use Rattle.ld_main.specs.Views.{symbol_view, symbol_views}
+use Rattle.resolve.specs.Views.{symbol_view, symbol_views}
 use Rattle.ld_main.specs.declared.image.Layout.{Layout}
-use Rattle.ld_main.specs.declared.resolve.SymbolOf as code
+use Rattle.resolve.specs.declared.symbols.SymbolOf as code
 
 numbered : (j : ℕ) (L : List LoadedObject) (k : ℕ) (d : ObjectRow) → k < length (object_rows j L) → (get_or (object_rows j L) k d).object ≡ j + k
 numbered j [] k d within = absurd (omega (arith, within))

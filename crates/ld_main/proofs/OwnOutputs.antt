@@ -14,23 +14,25 @@ use Rattle.elf_model.specs.OwnLayout.{IsNotTooLarge, file_end, own_headers_size,
 use Rattle.elf_model.specs.Pieces.{Piece, is_alloc, pieces, pieces_from, pieces_of}
 use Rattle.elf_model.specs.Placement.{Placed, symbol_value}
 use Rattle.elf_model.specs.Profile.{IsInProfile, IsOneText, IsPlainObject, IsText}
+use Rattle.elf_model.specs.Relocation.{relocations}
 use Rattle.elf_model.specs.Resolution.{AreSoundSymbols, AreUnique, IsEntry, IsSoundSymbol, SymbolOf, all_symbols, chosen, has_name, is_strong, section_of, strong_definitions}
 use Rattle.own_link.specs.Forms.{own_text, text_at, text_end, text_length, text_start, whole_image}
 use Rattle.own_link.proofs.ImageForm.{file_end_is, image_is}
-use Rattle.own_link.proofs.OwnOne.{headers_size_is, own_placed_is}
-use Rattle.own_link.proofs.OwnRight.{load_order_is}
+use Rattle.own_link.proofs.OwnOne.{headers_size_is, load_order_is, own_placed_is}
 use Rattle.ld_main.proofs.OwnMaps.{own_map}
 use Rattle.ld_main.proofs.ProfileLemmas.{all_of_mapped}
-use Rattle.ld_main.specs.Defined.{AreDefinitions, LiesIn}
+use Rattle.resolve.specs.Defined.{AreDefinitions}
+use Rattle.ld_main.specs.Defined.{LiesIn}
 use Rattle.ld_main.specs.Layouts.{IsInLimits, IsLayout, own_places}
 use Rattle.ld_main.specs.Outputs.{AreReferred, IsOwnOutput, IsWritten}
 use Rattle.ld_main.specs.Texts.{IsOnlyPiece, text_view}
-use Rattle.ld_main.specs.Views.{loaded_view, loaded_views, symbol_view, symbol_views}
+use Rattle.search.specs.Views.{loaded_view, loaded_views}
+use Rattle.resolve.specs.Views.{symbol_view, symbol_views}
 use Rattle.elf_model.specs.declared.records.SectionHeader.{SectionHeader}
 use Rattle.ld_main.specs.declared.image.Layout.{Layout}
 use Rattle.ld_main.specs.declared.layout.Text.{Text}
-use Rattle.ld_main.specs.declared.resolve.SymbolOf as code
-use Rattle.ld_main.specs.declared.search.Loaded.{Loaded}
+use Rattle.resolve.specs.declared.symbols.SymbolOf as code
+use Rattle.search.specs.declared.loading.Loaded.{Loaded}
 
 -- the one loaded object
 pub one_view : (objects : List Loaded) (d : Loaded) → length objects ≡ 1 → loaded_views objects ≡ loaded_view (get_or objects 0 d) ∷ []
@@ -108,9 +110,9 @@ module _ (o : LoadedObject) (t : Text) (only : IsOnlyPiece o.bytes (text_view t)
     pub order_is : 0 < t.header.sh_size → own_in_load_order base (o ∷ []) ≡ own_text base (text_view t) ∷ []
     order_is some = load_order_is base (o ∷ []) (text_view t) one_piece_is only.text some aligned
 
-    pub image_of : 0 < t.header.sh_size → (entry : List ℕ) →
+    pub image_of : 0 < t.header.sh_size → relocations (o ∷ []) ≡ [] → (entry : List ℕ) →
         image_file base (o ∷ []) entry ≡ whole_image base (text_view t) (own_entry base (o ∷ []) entry)
-    image_of some entry = image_is base (o ∷ []) (text_view t) one_piece_is only.text some aligned entry
+    image_of some none entry = image_is base (o ∷ []) (text_view t) one_piece_is only.text some aligned none entry
 
     pub not_too_large : 0 < t.header.sh_size → base + 232 ≤ 2 ^ 46 → IsInLimits base (text_view t) → IsNotTooLarge base (o ∷ [])
     not_too_large some low limits = record {
@@ -122,7 +124,7 @@ module _ (o : LoadedObject) (t : Text) (only : IsOnlyPiece o.bytes (text_view t)
     }
 
 -- the layout of that text, and what was written of it
-module _ (p : Plan) (o : LoadedObject) (l : Layout) (base_is : l.base ≡ p.base) (is : IsLayout l) (only : IsOnlyPiece o.bytes (text_view l.text)) where
+module _ (p : Plan) (o : LoadedObject) (l : Layout) (base_is : l.base ≡ p.base) (is : IsLayout l) (only : IsOnlyPiece o.bytes (text_view l.text)) (none : relocations (o ∷ []) ≡ []) where
   places_are : own_in_load_order p.base (o ∷ []) ≡ own_places l
   places_are =
       ap (λ (b : ℕ). own_in_load_order b (o ∷ [])) (sym base_is)
@@ -162,7 +164,7 @@ module _ (p : Plan) (o : LoadedObject) (l : Layout) (base_is : l.base ≡ p.base
               w.image_is
               ∙ ap (whole_image l.base (text_view l.text)) (sym value_is)
               ∙ ap (λ (b : ℕ). whole_image b (text_view l.text) (own_entry p.base (o ∷ []) p.entry)) base_is
-              ∙ sym (image_of o l.text only p.base is.some p.entry);
+              ∙ sym (image_of o l.text only p.base is.some none p.entry);
         };
         entry_fits = subst (λ (v : ℕ). v < 2 ^ 64) (sym value_is) w.fits;
       }
@@ -190,13 +192,13 @@ module _ (p : Plan) (L : List LoadedObject) (o : LoadedObject) (one : L ≡ o �
       entry_lies o t only p.entry s (subst AreSoundSymbols one sound) (subst (λ (xs : List LoadedObject). chosen xs p.entry ≡ Some s) one is)
 
   pub made :
-      (l : Layout) → l.base ≡ p.base → IsLayout l → IsOnlyPiece o.bytes (text_view l.text) →
+      (l : Layout) → l.base ≡ p.base → IsLayout l → IsOnlyPiece o.bytes (text_view l.text) → relocations L ≡ [] →
       (strong : List code.SymbolOf) (entry : SymbolOf) (image map : List ℕ) → AreDefinitions L strong →
       chosen L p.entry ≡ Some entry → IsEntry L p.entry → IsWritten l L strong entry image map →
       IsOwnOutput p L image map
-  made l base_is is only strong entry image map d chosen_is enters w =
+  made l base_is is only none strong entry image map d chosen_is enters w =
       subst (λ (xs : List LoadedObject). IsOwnOutput p xs image map) (sym one)
-      (output_is p o l base_is is only strong entry image map
+      (output_is p o l base_is is only (subst (λ (xs : List LoadedObject). relocations xs ≡ []) one none) strong entry image map
       (subst (λ (xs : List LoadedObject). AreDefinitions xs strong) one d)
       (subst (λ (xs : List LoadedObject). chosen xs p.entry ≡ Some entry) one chosen_is)
       (subst (λ (xs : List LoadedObject). IsEntry xs p.entry) one enters)

@@ -9,8 +9,8 @@ use Rattle.elf_model.specs.Loading.{LoadedObject}
 use Rattle.elf_model.specs.Profile.{IsInProfile, IsPlainObject}
 use Rattle.command.specs.Views.{item_of}
 use Rattle.command.specs.declared.items.Item.{Item}
-use Rattle.ld_main.specs.Views.{loaded_view, loaded_views}
-use Rattle.ld_main.specs.declared.search.Loaded.{Loaded}
+use Rattle.search.specs.Views.{loaded_view, loaded_views}
+use Rattle.search.specs.declared.loading.Loaded.{Loaded}
 
 -- a fact of all elements of an image of a list is one of the list's
 pub all_of_mapped : {X Y : Type 0} (f : X → Y) (P : Y → Type 0) (xs : List X) → All P (map f xs) → All (λ x. P (f x)) xs

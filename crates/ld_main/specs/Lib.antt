@@ -1,9 +1,5 @@
 pub mod Defined
 pub mod Layouts
 pub mod Program
-pub mod Refusals
-pub mod Search
-pub mod Sound
 pub mod Texts
-pub mod Views
 pub mod Outputs

@@ -18,9 +18,9 @@ use Rattle.elf_model.specs.declared.faults.LinkError.TheVariants as error
 use Rattle.own_link.specs.Forms.{whole_image}
 use Rattle.ld_main.specs.Layouts.{IsMapOf, own_places}
 use Rattle.ld_main.specs.Texts.{text_view}
-use Rattle.ld_main.specs.Views.{symbol_views}
+use Rattle.resolve.specs.Views.{symbol_views}
 use Rattle.ld_main.specs.declared.image.Layout.{Layout}
-use Rattle.ld_main.specs.declared.resolve.SymbolOf as code
+use Rattle.resolve.specs.declared.symbols.SymbolOf as code
 
 -- a fault of the words as a link's
 abbrev pub IsCommandFault : CmdFault → LinkError → Type 0

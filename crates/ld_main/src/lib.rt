@@ -2,15 +2,12 @@
 //! program over them.
 #![tactic(auto)]
 
-mod defining;
 mod image;
 mod layout;
 mod linking;
 mod own_map;
 mod profile;
 mod program;
-mod resolve;
-mod search;
 
 pub use elf_model::LinkError;
 pub use linking::{Output, link};

@@ -8,20 +8,21 @@ ghost use Rattle.elf_model.specs.Profile.{IsInProfile};
 ghost use Rattle.elf_model.specs.RightLink.{IsRightLink};
 ghost use Rattle.ld_main.specs.Outputs.{IsCommandFault, IsOwnLink, IsOwnOutput, IsWritten, LinksRefuse};
 ghost use Rattle.elf_model.specs.Loading.{AreObjects};
-ghost use Rattle.ld_main.specs.Defined.{AreDefinitions, LiesIn};
+ghost use Rattle.resolve.specs.Defined.{AreDefinitions};
+ghost use Rattle.ld_main.specs.Defined.{LiesIn};
 ghost use Rattle.ld_main.specs.Layouts.{IsLayout};
 ghost use Rattle.ld_main.specs.Texts.{text_view};
-ghost use Rattle.ld_main.specs.Views.{loaded_views, symbol_view};
+ghost use Rattle.search.specs.Views.{loaded_views};
+ghost use Rattle.resolve.specs.Views.{symbol_view};
 
-use crate::defining::{define, entry_of};
 use crate::image::{Layout, write_image};
 use crate::layout::{lay_out, text_of};
 use crate::own_map::{map_of_layout, value};
 use crate::profile::is_in_profile;
-use crate::resolve::{SymbolOf, symbols_of};
-use crate::search::{Loaded, load};
 use command::{Plan, read_words};
 use elf_model::{CmdFault, InputFile, LinkError};
+use resolve::{SymbolOf, resolve};
+use search::{Loaded, load};
 use std::alloc::{AllocError, Global};
 
 /// What a link makes: the bytes of the image and of the map.
@@ -70,15 +71,15 @@ fn link_object(alloc: Global, plan: &Plan<'_>, objects: &[Loaded<'_>]) -> Result
     ensures made { IfOk result (λ o. IsOwnOutput plan.now (loaded_views objects.now) o.image.items o.map.items) }
     ensures fault { IfErr result (LinksRefuse plan.now (loaded_views objects.now)) }
 {
-    let symbols = symbols_of(alloc, objects)?;
-    let strong = define(alloc, objects, &symbols)?;
-    let Some(entry) = entry_of(objects, &symbols, plan.entry.as_bytes()) else {
+    let resolved = resolve(alloc, objects)?;
+    let Some(entry) = resolved.entry(plan.entry.as_bytes()) else {
         return Err(LinkError::NoEntry);
     };
     let Some(layout) = lay_out(plan.base, text_of(&objects[0].object)) else {
         return Err(LinkError::TooLarge);
     };
-    let output = write_output(alloc, &layout, objects, &strong, &entry)?;
+    let strong = resolved.definitions();
+    let output = write_output(alloc, &layout, objects, strong, &entry)?;
     Ok(output)
 }
 

@@ -7,12 +7,13 @@ ghost use Rattle.elf_model.specs.RightLink.{object_rows, symbol_row_of};
 ghost use Rattle.ld_main.specs.Defined.{LiesIn};
 ghost use Rattle.ld_main.specs.Layouts.{IsLayout, IsMapOf, own_places};
 ghost use Rattle.ld_main.specs.Texts.{text_view};
-ghost use Rattle.ld_main.specs.Views.{loaded_views, symbol_view, symbol_views};
+ghost use Rattle.search.specs.Views.{loaded_views};
+ghost use Rattle.resolve.specs.Views.{symbol_view, symbol_views};
 
 use crate::image::Layout;
-use crate::resolve::SymbolOf;
-use crate::search::Loaded;
 use elf_model::{Definition, LinkMap, ObjectLine, PlaceLine, SHN_ABS, SymbolLine};
+use resolve::SymbolOf;
+use search::Loaded;
 use std::alloc::{AllocError, Global};
 
 /// The value of a defined symbol: an absolute one's `st_value`, else the address of the text plus

@@ -1,11 +1,11 @@
 //! Whether a command and its objects are within this profile (docs/PROFILE.md).
 ghost use Rattle.std.specs.Prelude.{◌≡◌, ◌↔◌, All, IsTrue, false};
 ghost use Rattle.elf_model.specs.Profile.{IsInProfile, IsPlainObject};
-ghost use Rattle.ld_main.specs.Views.{loaded_views};
+ghost use Rattle.search.specs.Views.{loaded_views};
 
-use crate::search::Loaded;
 use command::{Item, Plan};
 use elf_read::is_plain_object;
+use search::Loaded;
 
 fn are_plain_objects(objects: &[Loaded<'_>]) -> bool
     ensures { IsTrue result ↔ All (λ o. IsPlainObject o.object) objects.now }

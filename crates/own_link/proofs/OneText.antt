@@ -1,14 +1,18 @@
 -- In the profile one object is loaded, and it has one piece.
-use Rattle.std.proofs.Common.{◌≡◌, ℕ, zero, suc, ◌+◌, ◌<◌, ◌≤◌, Bool, true, false, cond, List, [], ◌∷◌, ◌++◌, length, get_or, refl, sym, ◌∙◌, ap, subst, arith}
-use Rattle.std.specs.Prelude.{All, filter, Option, Some, None, unwrap_or}
+use Rattle.std.proofs.Common.{◌≡◌, ℕ, suc, ◌+◌, Bool, true, false, cond, List, [], ◌∷◌, length, refl, sym, arith}
+use Rattle.std.specs.Prelude.{All, filter, Some, unwrap_or}
 use Rattle.std.specs.List.{slice_get}
-use Rattle.std.proofs.lemmas.List.Elements.{All-head, All-tail}
-use Rattle.elf_model.specs.Command.{Item, Plan}
+use Rattle.std.proofs.lemmas.List.Elements.{All-contains, All-head}
+use Rattle.std.proofs.lemmas.Option.{get_or_from_slice_get, slice_get_within}
+use Rattle.elf_model.specs.Command.{Item}
 use Rattle.elf_model.specs.Files.{File}
-use Rattle.elf_model.specs.Loading.{LoadedObject, loaded_objects, objects_from, objects_of_item, file_named, path_of}
-use Rattle.elf_model.specs.Pieces.{Piece, piece_of, pieces_from, pieces_of, pieces, is_alloc}
-use Rattle.elf_model.specs.Profile.{IsInProfile, IsOneText, IsText}
+use Rattle.elf_model.specs.Loading.{LoadedObject, objects_from, file_named, path_of}
+use Rattle.elf_model.specs.ObjectFile.{sections}
+use Rattle.elf_model.specs.Pieces.{Piece, piece_of, pieces_from, is_alloc}
+use Rattle.elf_model.specs.Profile.{IsOneText, IsPlainObject, IsPlainSection, IsText}
+use Rattle.elf_model.specs.Relocation.{Relocation, relocations}
 use Rattle.elf_model.specs.declared.records.SectionHeader.{SectionHeader}
+use Rattle.elf_model.proofs.Sectioned.{relocations-each}
 
 -- a text among section headers, and the one piece that they give
 pub record OnePiece (k : ℕ) (bytes : List ℕ) (i : ℕ) (hs : List SectionHeader) : Type 0 where
@@ -90,3 +94,16 @@ one_object files items e plain = of_item (one_item items e plain)
         (item : Item) × (items ≡ item ∷ []) × (item.archive ≡ false) →
         (o : LoadedObject) × (objects_from files 0 items ≡ o ∷ [])
     of_item it = (object_of files it.0, rw (it.1, it.2) refl)
+
+-- nothing relocates plain objects: they have no RELA section
+pub no_relocations : (objects : List LoadedObject) → All (λ o. IsPlainObject o.bytes) objects → relocations objects ≡ []
+no_relocations objects plain =
+    empty (relocations objects)
+    (relocations-each (λ r. ⊥) objects (λ k o there h within rela r.
+    let is_plain = All-contains (λ (x : LoadedObject). IsPlainObject x.bytes) objects o plain
+    (k, slice_get_within objects k o there, get_or_from_slice_get objects k o o there) in
+    (All-contains IsPlainSection (sections o.bytes) h is_plain.plain_sections within).no_rela rela))
+  where
+    empty : (rs : List Relocation) → All (λ r. ⊥) rs → rs ≡ []
+    empty [] none = refl
+    empty (r ∷ rs) none = absurd (All-head (λ (x : Relocation). ⊥) r rs none)

@@ -1,36 +1,16 @@
--- The own layout of one text piece.
-use Rattle.std.proofs.Common.{◌≡◌, ℕ, zero, suc, ◌+◌, ◌-◌, ◌*◌, ◌/◌, ◌%◌, ◌<◌, ◌≤◌, ◌^◌, Bool, true, false, not, cond, List, [], ◌∷◌, ◌++◌, length, refl, sym, ◌∙◌, ap, subst, arith, div-add-mod'}
-use Rattle.std.specs.Prelude.{All, filter, Option, Some, None, max, nat_lt}
-use Rattle.std.proofs.lemmas.Bool.{lt-ltb}
-use Rattle.std.proofs.lemmas.Nat.{mod_below}
-use Rattle.std.proofs.Math.Nat.{mul-mod_left}
-use Rattle.std.specs.Str.{bytes_eq}
-use Rattle.std.proofs.lemmas.Slice.Eq.{bytes_eq-Decides}
+-- The own layout of one text piece, written out.
+use Rattle.std.proofs.Common.{◌≡◌, ℕ, ◌+◌, ◌-◌, ◌<◌, true, false, List, [], ◌∷◌, refl, ◌∙◌, ap, arith}
+use Rattle.std.specs.Prelude.{find, map, max, nat_lt, option_map, unwrap_or}
+use Rattle.std.proofs.lemmas.Bool.{eq-eqb, lt-ltb}
 use Rattle.elf_model.specs.Loading.{LoadedObject}
-use Rattle.elf_model.specs.OwnLayout.{round_up, page_up, grouped, code_pieces, read_only_pieces, data_pieces, own_placed, own_in_load_order, own_segments, own_headers_size, header_count, file_end, code_start, own_code, place_at, is_code, is_read_only, is_data, is_zero}
-use Rattle.elf_model.specs.Pieces.{Piece, pieces, is_writable, is_executable, is_nobits, is_thread_local, has_flag, same_output, same_bool, output_name, has_bytes}
-use Rattle.elf_model.specs.Placement.{Placed}
+use Rattle.elf_model.specs.OwnLayout.{own_address, grouped, code_pieces, read_only_pieces, data_pieces, own_placed, own_in_load_order, own_segments, own_headers_size, header_count}
+use Rattle.elf_model.specs.Pieces.{Piece, pieces, is_writable, is_executable, is_nobits}
+use Rattle.elf_model.specs.Placement.{Placed, is_of_section}
 use Rattle.elf_model.specs.Profile.{IsText}
 use Rattle.elf_model.specs.declared.records.SectionHeader.{SectionHeader}
-use Rattle.elf_model.specs.declared.records.ProgramHeader.{ProgramHeader}
 use Rattle.own_link.specs.Forms.{headers_load, own_text, text_at, text_end, text_load, text_start}
-
-same_bool-refl : (b : Bool) → same_bool b b ≡ true
-same_bool-refl true = refl
-same_bool-refl false = refl
-
-bytes_eq-refl : (xs : List ℕ) → bytes_eq xs xs ≡ true
-bytes_eq-refl xs = (bytes_eq-Decides xs xs).1 refl
-
-pub same_output-refl : (q : Piece) → same_output q q ≡ true
-unfolding same_output
-same_output-refl q =
-    let n = bytes_eq-refl (output_name q.name) in
-    let w = same_bool-refl (is_writable q.header) in
-    let x = same_bool-refl (is_executable q.header) in
-    let t = same_bool-refl (is_thread_local q.header) in
-    let z = same_bool-refl (is_nobits q.header) in
-    rw (n, w, x, t, z) refl
+use Rattle.elf_model.proofs.Running.{rounded_up}
+use Rattle.elf_model.proofs.SameOutput.{same_output-refl}
 
 pub grouped_one : (q : Piece) → grouped (q ∷ []) ≡ q ∷ []
 grouped_one q = rw (same_output-refl q) refl
@@ -55,13 +35,6 @@ module _ (L : List LoadedObject) (q : Piece) (one : pieces L ≡ q ∷ []) (text
   pub data_is : data_pieces L ≡ []
   data_is = let w = text_not_writable q.header text in rw (one, w) refl
 
--- rounding up: between the number and the number plus the alignment, and a multiple of it
-pub round_up-bounds : (a x : ℕ) → 0 < a → (x ≤ round_up a x) × (round_up a x < x + a) × (round_up a x % a ≡ 0)
-round_up-bounds a x some =
-    let d = div-add-mod' (x + (a - 1)) a in
-    let m : (x + (a - 1)) % a < a = mod_below (x + (a - 1)) a some in
-    (omega (arith, d, m), omega (arith, d, m), mul-mod_left ((x + (a - 1)) / a) a)
-
 module _ (base : ℕ) (L : List LoadedObject) (q : Piece) (one : pieces L ≡ q ∷ []) (text : IsText q.header) (some : 0 < q.size) (aligned : 0 < q.align) where
   nonempty : nat_lt 0 q.size ≡ true
   nonempty = lt-ltb 0 q.size some
@@ -81,6 +54,19 @@ module _ (base : ℕ) (L : List LoadedObject) (q : Piece) (one : pieces L ≡ q 
       let n = nonempty in
       let u : (base + 232) - base ≡ 232 = omega arith in
       let v : base - base ≡ 0 = omega arith in
-      let b = (round_up-bounds q.align (text_start base) aligned).0 in
+      let b = (rounded_up q.align (text_start base) aligned).0 in
       let w : max (text_end base q) (text_start base) ≡ text_end base q = omega (arith, b) in
       rw (headers_size_is, read_only_is L q one text, code_is L q one text, data_is L q one text, z, n, u, v, w) refl
+
+  -- the piece at its own address
+  address_is : own_address base L q ≡ text_at base q
+  address_is =
+      let o = eq-eqb q.object q.object refl in
+      let s = eq-eqb q.section q.section refl in
+      ap (λ (ps : List Placed). unwrap_or (option_map (λ p. p.at) (find (is_of_section q.object q.section) ps)) 0) own_placed_is
+      ∙ rw (o, s) refl
+
+  pub load_order_is : own_in_load_order base L ≡ own_text base q ∷ []
+  load_order_is =
+      ap (λ (ps : List Piece). map (λ p. record { at = own_address base L p; piece = p }) ps) one
+      ∙ (λ i. record { at = address_is i; piece = q } ∷ [])

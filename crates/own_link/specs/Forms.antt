@@ -1,12 +1,11 @@
--- The own layout of one text piece, written out.
-use Rattle.std.specs.Prelude.{ℕ, ◌+◌, ◌-◌, cond, List, ◌++◌, map}
+-- The own layout of one text piece that nothing relocates, written out.
+use Rattle.std.specs.Prelude.{ℕ, ◌+◌, ◌-◌, cond, List, ◌++◌, map, slice_index}
 use Rattle.std.specs.List.{range_with_len}
 use Rattle.elf_model.specs.ImageFile.{covers_address, is_code_part, own_file_header, stack_header}
 use Rattle.elf_model.specs.OwnLayout.{page_up, round_up}
 use Rattle.elf_model.specs.Pieces.{Piece}
 use Rattle.elf_model.specs.Placement.{Placed}
 use Rattle.elf_model.specs.Records.{file_header_bytes, program_header_bytes}
-use Rattle.elf_model.specs.RightLink.{wanted_byte}
 use Rattle.elf_model.specs.declared.records.FileHeader.{FileHeader}
 use Rattle.elf_model.specs.declared.records.ProgramHeader.{ProgramHeader}
 
@@ -52,10 +51,10 @@ text_load base q = record {
   p_align = 4096;
 }
 
--- the byte that stands for an address
+-- the byte that stands for an address: the input's in the text
 abbrev pub byte_here : ℕ → Piece → ℕ → ℕ
 byte_here base q a =
-    cond (covers_address a (own_text base q)) (wanted_byte q (a - text_at base q))
+    cond (covers_address a (own_text base q)) (slice_index q.bytes (a - text_at base q))
     (cond (is_code_part a (text_load base q)) 0x90 0)
 
 -- the length of the file

@@ -1,19 +1,13 @@
 -- The statement that the linker's own layout is a right link.
-use Rattle.std.specs.Prelude.{◌≡◌, ℕ, ◌%◌, ◌^◌, ◌<◌, ◌≤◌, List}
+use Rattle.std.specs.Prelude.{ℕ, ◌^◌, ◌<◌, List}
 use Rattle.elf_model.specs.Causes.{IsLinkable}
-use Rattle.elf_model.specs.Command.{Plan}
+use Rattle.elf_model.specs.Command.{IsBase, Plan}
 use Rattle.elf_model.specs.Files.{File}
 use Rattle.elf_model.specs.ImageFile.{image_file, own_entry, IsOwnMap}
 use Rattle.elf_model.specs.Loading.{loaded_objects}
 use Rattle.elf_model.specs.MapRecord.{MapRecord}
 use Rattle.elf_model.specs.MapText.{IsMap, text}
 use Rattle.elf_model.specs.RightLink.{IsRightLink}
-
--- a base address: a page boundary from 4096 on, below 2 ^ 46
-pub record IsBase (base : ℕ) : Type 0 where
-  pub on_a_page : base % 4096 ≡ 0
-  pub low : 4096 ≤ base
-  pub high : base < 2 ^ 46
 
 -- where no cause of a refusal stands, the image file of the own layout and the text of its map are a right
 -- link of these files and words. Beside that it asks for what every plan that is read has, a base address;

@@ -6,4 +6,4 @@ use Rattle.checker.proofs.fill.are_segments_filled.Given as goal
 
 abbrev pub invariant-loop-segment : goal.invariant-loop-segment
 invariant-loop-segment l =
-    Left (All (SegmentFilled l.image l.sorted) l.segments) (All (SegmentFilled l.image l.sorted) (drop l.segment-index l.segments))
+    Left (All (SegmentFilled l.image l.stretches) l.segments) (All (SegmentFilled l.image l.stretches) (drop l.segment-index l.segments))

@@ -1,22 +1,22 @@
-use Rattle.std.proofs.Common.{ℕ, ◌≡◌, ◌+◌, ◌<◌, List, length, subst}
-use Rattle.std.specs.Prelude.{All, Any}
-use Rattle.elf_model.specs.MemoryImage.{loads}
-use Rattle.elf_model.specs.RightLink.{EndsRight}
-use Rattle.elf_model.specs.declared.records.ProgramHeader.{ProgramHeader}
+use Rattle.std.proofs.Common.{subst, sym}
+use Rattle.std.specs.Prelude.{All}
+use Rattle.std.proofs.lemmas.List.Sorted.{All-permutation, IsPermutation-sym}
+use Rattle.elf_model.specs.RightLink.{HasNothingElse}
+use Rattle.checker.specs.Sweeps.{EndFits}
+use Rattle.checker.proofs.ThingsOfSegment.{nothing_else_moved}
 use Rattle.checker.proofs.fill.has_nothing_else.Goals as goal
 
+pub sorted_have_nothing_else-requires-clause-fits : goal.sorted_have_nothing_else-requires-clause-fits
+sorted_have_nothing_else-requires-clause-fits c =
+    subst (All EndFits) (sym c.deref.ensures.value) (All-permutation EndFits _ _ c.in_ok-sorted.ensures.same c.requires)
+
 pub returns : goal.returns
-returns c = (
-  λ e. record {
-    fill = c.in_ok-filled.ensures.0 e;
-    segments =
-        subst (All (EndsRight c.args.things.now)) c.segments.ensures (c.all_end_right.ensures.0 c.if-not-all_end_right.false);
-    gaps = (c.in_ok-zero.ensures.0 c.if-not-zero.false).gaps;
-    end =
-        subst (λ (image : List ℕ). Any (λ (h : ProgramHeader). (0 < h.p_filesz) × (h.p_offset + h.p_filesz ≡ length image)) (loads c.args.memory.now))
-        c.image.ensures.bytes
-        (subst (λ (hs : List ProgramHeader). Any (λ (h : ProgramHeader). (0 < h.p_filesz) × (h.p_offset + h.p_filesz ≡ length c.image.result.now)) hs)
-        c.segments-2.ensures (c.ends_with_a_part.ensures.0 c.if-not-ends_with_a_part.false));
-  },
-  λ h. c.in_ok-filled.ensures.1 h.fill,
-)
+returns c =
+    let image = c.args.memory.now in
+    let sorted = c.in_ok-sorted.sorted.items in (
+      λ e. nothing_else_moved image sorted c.args.things.now (IsPermutation-sym _ _ c.in_ok-sorted.ensures.same)
+          (subst (HasNothingElse image) c.deref.ensures.value (c.in_ok-nothing.ensures.0 e)),
+      λ h. c.in_ok-nothing.ensures.1
+          (subst (HasNothingElse image) (sym c.deref.ensures.value)
+          (nothing_else_moved image c.args.things.now sorted c.in_ok-sorted.ensures.same h)),
+    )

@@ -8,7 +8,7 @@ use Rattle.elf_model.specs.Resolution.{AreSoundSymbols, AreUnique}
 use Rattle.elf_model.specs.RightLink.{AreSymbolsListed, HasLine, Subject, objects_of, placed_of}
 use Rattle.elf_model.specs.declared.link_map.SymbolLine.{SymbolLine}
 use Rattle.checker.specs.Subjects.{subject_of}
-use Rattle.checker.specs.Views.{loaded_views, placed_views}
+use Rattle.checker.specs.Views.{loaded_views}
 use Rattle.checker.proofs.verdict.are_symbols_right.Goals as goal
 
 abbrev Listed : List SymbolRow → List LoadedObject → List Placed → Type 0
@@ -32,4 +32,4 @@ are_symbols_listed-requires-clause-ascend c =
 pub returns : goal.returns
 returns c =
     as_clause (subject_of c.args.link.now) c.in_ok-listed.listed (map symbol_row c.deref.result.now) (loaded_views c.args.objects.now)
-    (placed_views c.args.placed.now) (ap (map symbol_row) c.deref.ensures.value) c.requires.loaded c.requires.placed c.in_ok-listed.ensures
+    c.args.places.now (ap (map symbol_row) c.deref.ensures.value) c.requires.loaded c.requires.placed c.in_ok-listed.ensures

@@ -7,9 +7,9 @@ use Rattle.elf_model.specs.Files.{files_of, words_of}
 use Rattle.elf_model.specs.Profile.{IsInProfile}
 use Rattle.elf_model.specs.RightLink.{IsRightLink}
 use Rattle.ld_main.specs.Outputs.{IsOwnLink, IsOwnOutput, LinksRefuse}
-use Rattle.ld_main.specs.Views.{loaded_views}
+use Rattle.search.specs.Views.{loaded_views}
 use Rattle.ld_main.specs.declared.linking.Output.{Output}
-use Rattle.ld_main.specs.declared.search.Loaded.{Loaded}
+use Rattle.search.specs.declared.loading.Loaded.{Loaded}
 use Rattle.ld_main.proofs.Links.{cause, err_more, ok_more, one_loaded, own, right}
 use Rattle.ld_main.proofs.linking.link.Goals as goal
 

@@ -1,4 +1,4 @@
-use Rattle.ld_main.specs.Views.{loaded_views}
+use Rattle.search.specs.Views.{loaded_views}
 use Rattle.ld_main.proofs.OwnMaps.{ordered}
 use Rattle.ld_main.proofs.linking.write_output.Goals as goal
 

@@ -1,7 +1,7 @@
 use Rattle.std.proofs.Common.{◌≡◌, ◌++◌, drop, map}
 use Rattle.elf_model.specs.MapRecord.{object_row}
 use Rattle.elf_model.specs.RightLink.{object_rows}
-use Rattle.ld_main.specs.Views.{loaded_views}
+use Rattle.search.specs.Views.{loaded_views}
 use Rattle.ld_main.proofs.own_map.object_lines.Given as goal
 
 abbrev pub invariant-loop-k : goal.invariant-loop-k

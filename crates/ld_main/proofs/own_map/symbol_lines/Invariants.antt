@@ -2,7 +2,7 @@ use Rattle.std.proofs.Common.{◌≡◌, ◌++◌, drop, map}
 use Rattle.elf_model.specs.MapRecord.{symbol_row}
 use Rattle.elf_model.specs.RightLink.{symbol_row_of}
 use Rattle.ld_main.specs.Layouts.{own_places}
-use Rattle.ld_main.specs.Views.{symbol_views}
+use Rattle.resolve.specs.Views.{symbol_views}
 use Rattle.ld_main.proofs.own_map.symbol_lines.Given as goal
 
 abbrev pub invariant-loop-symbol : goal.invariant-loop-symbol

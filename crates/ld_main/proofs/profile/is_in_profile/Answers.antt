@@ -2,7 +2,7 @@ use Rattle.std.proofs.Common.{◌≡◌, ◌∙◌, ap, map, sym, true, false, r
 use Rattle.elf_model.specs.Command.{Plan}
 use Rattle.command.specs.Views.{item_of}
 use Rattle.ld_main.proofs.ProfileLemmas.{in_profile, profile_items, profile_length, profile_objects}
-use Rattle.ld_main.specs.Views.{loaded_views}
+use Rattle.search.specs.Views.{loaded_views}
 use Rattle.ld_main.proofs.profile.is_in_profile.Goals as goal
 
 pub returns : goal.returns

@@ -1,12 +1,17 @@
-use Rattle.std.proofs.Common.{List, length, ap, sym, subst, ◌∙◌}
+use Rattle.std.proofs.Common.{List, length, refl, ap, sym, subst, ◌∙◌}
 use Rattle.std.specs.List.{All}
+use Rattle.std.proofs.lemmas.Bool.{false≢true}
 use Rattle.std.proofs.lemmas.Result.{err_from_is_err_and}
-use Rattle.elf_model.specs.ObjectFile.{AreGoodSymbols, AreSectionsNamed, AreSymbolsNamed, HasGoodSymbolTable, IsGoodTable, IsPlaced, LiesInside, StandsIn, contents, section, symbol_table, symbols_of}
+use Rattle.elf_model.specs.ObjectFile.{AreGoodRelaSections, AreGoodRelas, AreGoodSymbols, AreSectionsNamed, AreSymbolsNamed, HasGoodSymbolTable, IsGoodTable, IsPlaced, LiesInside, StandsIn, contents, section, symbol_table, symbols_of}
+use Rattle.elf_model.specs.declared.faults.ObjFault.TheVariants as fault
+use Rattle.elf_model.specs.declared.records.Rela.{Rela}
 use Rattle.elf_model.specs.declared.records.SectionHeader.{SectionHeader}
 use Rattle.elf_model.specs.declared.records.Symbol.{Symbol}
-use Rattle.elf_read.proofs.Faults.{of_file, only_memory, passed}
+use Rattle.elf_read.specs.Reading.{AreKept, all_relas}
+use Rattle.elf_read.proofs.Faults.{of_file, only, only_memory, passed}
+use Rattle.elf_read.proofs.RelaFaults.{RelasJudged, bad_relas, good_parts}
 use Rattle.elf_read.proofs.SectionLemmas.{table_inside}
-use Rattle.elf_read.proofs.Whole.{IsFound, IsReadOf, kept, object, symbols_by_table}
+use Rattle.elf_read.proofs.Whole.{IsFound, IsReadOf, few_sections, kept, object, symbols_by_table}
 use Rattle.elf_read.proofs.object.Object.read.Goals as goal
 
 pub returns-in_err-judge_sections-clause-fault : goal.returns-in_err-judge_sections-clause-fault
@@ -44,6 +49,41 @@ pub returns-in_err-judge_symbols-clause-only : goal.returns-in_err-judge_symbols
 returns-in_err-judge_symbols-clause-only c =
     only_memory c.args.view c.from_residual-in_err-judge_symbols.result (returns-in_err-judge_symbols-clause-fault c)
 
+pub read_relas-requires-clause-few : goal.read_relas-requires-clause-few
+read_relas-requires-clause-few c =
+    few_sections c.args.view c.in_ok-header.header c.deref-5.result.now c.in_ok-header.ensures.table (c.deref-5.ensures.value ∙ c.in_ok-sections.ensures)
+
+pub read_relas-requires-clause-ranges : goal.read_relas-requires-clause-ranges
+read_relas-requires-clause-ranges c =
+    subst (λ (ss : List SectionHeader). All (IsPlaced (length c.args.view)) ss) (c.deref.ensures.value ∙ sym c.deref-5.ensures.value) c.in_ok-judge_sections.ensures.ranges
+
+pub returns-then-not-are_good_relas-clause-fault : goal.returns-then-not-are_good_relas-clause-fault
+returns-then-not-are_good_relas-clause-fault c =
+    let bytes = c.args.view in
+    let h = c.in_ok-header.header in
+    let ss = c.in_ok-sections.sections.items in
+    let symbols = c.in_ok-symbols.symbols.items in
+    let kept = c.in_ok-relas.relas.entries.items in
+    let first = c.in_ok-judge_sections.ensures in
+    let judged : RelasJudged bytes h ss = record {
+      table = c.in_ok-header.ensures.table;
+      ranges = subst (λ (ts : List SectionHeader). All (IsPlaced (length bytes)) ts) c.deref.ensures.value first.ranges;
+      symbol_table = subst HasGoodSymbolTable c.deref.ensures.value first.symbols;
+      relas = subst AreGoodRelaSections c.deref.ensures.value first.relas;
+    } in
+    let kept_are = c.in_ok-relas.ensures.entries_are ∙ ap (all_relas bytes) c.deref-5.ensures.value in
+    let count = c.len.ensures ∙ c.in_ok-symbols.symbols.ok.0 in
+    let bad = bad_relas bytes h ss symbols kept judged kept_are (λ good. false≢true (c.if-not-are_good_relas.ensures.1 (
+    subst (λ (rs : List Rela). AreGoodRelas c.len.result rs) (sym c.deref-6.ensures.value) (subst (λ n. AreGoodRelas n kept) (sym count) good)
+    ))) in
+    let table_is = c.symbol_table-table.ensures ∙ ap symbol_table c.deref-2.ensures.value in
+    let symbols_are = symbols_by_table bytes ss c.symbol_table-table.result symbols table_is c.in_ok-symbols.ensures in
+    of_file bytes h ss fault.BadRela c.in_ok-header.ensures.header c.in_ok-sections.ensures
+    (subst (λ (xs : List Symbol). StandsIn bytes h ss xs fault.BadRela) symbols_are bad)
+
+pub returns-then-not-are_good_relas-clause-only : goal.returns-then-not-are_good_relas-clause-only
+returns-then-not-are_good_relas-clause-only c o = only c.args.view fault.BadRela o (returns-then-not-are_good_relas-clause-fault c)
+
 read_of : (c : goal.After-contents-2)
     → IsReadOf c.args.view c.in_ok-header.header c.in_ok-sections.sections.items c.in_ok-symbols.symbols.items
 read_of c =
@@ -63,6 +103,9 @@ found c =
     let ss = c.in_ok-sections.sections.items in
     let first = c.in_ok-judge_sections.ensures in
     let second = c.in_ok-judge_symbols.ensures in
+    let syms = c.in_ok-symbols.symbols.items in
+    let count = c.len.ensures ∙ c.in_ok-symbols.symbols.ok.0 in
+    let entries_are = c.deref-6.ensures.value ∙ c.in_ok-relas.ensures.entries_are ∙ ap (all_relas c.args.view) c.deref-5.ensures.value in
     let names = subst
     (λ (ts : List SectionHeader). AreSymbolsNamed (contents c.args.view (section ts (symbol_table ts).sh_link)) c.deref-4.result.now)
     c.deref-3.ensures.value second.symbol_names
@@ -80,6 +123,10 @@ found c =
           (λ (ts : List SectionHeader). AreSectionsNamed (contents c.args.view (section ts h.e_shstrndx)) ts)
           c.deref-3.ensures.value second.section_names;
       symbol_names = subst (AreSymbolsNamed (contents c.args.view (section ss (symbol_table ss).sh_link))) c.deref-4.ensures.value names;
+      relas = subst AreGoodRelaSections c.deref.ensures.value first.relas;
+      rela_entries = good_parts (length syms) c.args.view ss (subst (AreGoodRelas (length syms)) entries_are (
+          subst (λ n. AreGoodRelas n c.deref-6.result.now) count (c.if-not-are_good_relas.ensures.0 refl)
+          ));
       size = c.in_ok-header.ensures.size;
     }
 
@@ -89,9 +136,12 @@ returns-clause-object c =
 
 pub invariant_of-result : goal.invariant_of-result
 invariant_of-result c =
+    let bytes = c.args.view in
     let h = c.in_ok-header.header in
+    let relas = c.in_ok-relas.relas in
     let table_is = c.symbol_table-table.ensures ∙ ap symbol_table c.deref-2.ensures.value in
-    let first = c.section-section_names.ensures ∙ ap (λ (ts : List SectionHeader). section ts h.e_shstrndx) c.deref-5.ensures.value in
-    let second = c.section-symbol_names.ensures ∙ (λ i. section (c.deref-6.ensures.value i) (table_is i).sh_link) in
-    kept c.args.view h c.in_ok-sections.sections.items c.in_ok-symbols.symbols.items c.contents.result c.contents-2.result (read_of c)
-    (returns-clause-object c) (c.contents.ensures ∙ ap (contents c.args.view) first) (c.contents-2.ensures ∙ ap (contents c.args.view) second)
+    let first = c.section-section_names.ensures ∙ ap (λ (ts : List SectionHeader). section ts h.e_shstrndx) c.deref-7.ensures.value in
+    let second = c.section-symbol_names.ensures ∙ (λ i. section (c.deref-8.ensures.value i) (table_is i).sh_link) in
+    kept bytes h c.in_ok-sections.sections.items c.in_ok-symbols.symbols.items c.contents.result c.contents-2.result relas.entries.items relas.starts.items (read_of c)
+    (returns-clause-object c) (c.contents.ensures ∙ ap (contents bytes) first) (c.contents-2.ensures ∙ ap (contents bytes) second)
+    (subst (λ (ts : List SectionHeader). AreKept bytes ts relas.entries.items relas.starts.items) c.deref-5.ensures.value c.in_ok-relas.ensures)

@@ -1,0 +1,18 @@
+-- Addresses of pieces by their sections.
+use Rattle.std.specs.Prelude.{◌≡◌, ℕ, List, Option, find, option_map}
+use Rattle.std.specs.BTreeMap.{BTreeMap, get}
+use Rattle.std.specs.Ordering.{nat_cmp, ordering_then}
+use Rattle.std.specs.declared.cmp.Ordering.{Ordering}
+use Rattle.elf_model.specs.Placement.{Placed, is_of_section}
+
+-- how an object's and a section's number compare with others
+abbrev pub section_key : ℕ × ℕ → ℕ × ℕ → Ordering
+section_key a b = ordering_then (nat_cmp a.0 b.0) (nat_cmp a.1 b.1)
+
+-- the address that an index has for a section
+abbrev pub address_in : BTreeMap (ℕ × ℕ) ℕ → ℕ → ℕ → Option ℕ
+address_in index object section = get section_key index (object, section)
+
+-- an index has for each section the address of the first piece that is of it
+abbrev pub IsPlaceIndex : List Placed → BTreeMap (ℕ × ℕ) ℕ → Type 0
+IsPlaceIndex ps index = (object section : ℕ) → address_in index object section ≡ option_map (λ q. q.at) (find (is_of_section object section) ps)

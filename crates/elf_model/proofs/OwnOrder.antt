@@ -1,0 +1,194 @@
+-- The pieces in the order in which the linker lays them out: each piece of the loaded objects once, and
+-- those that come next to each other in their output section side by side.
+use Rattle.std.proofs.Common.{◌≡◌, Bool, true, false, not, ◌&&◌, ◌⊎◌, inl, inr, List, ◌++◌, refl, sym, ◌∙◌, subst}
+use Rattle.std.specs.Prelude.{All, AllPairs, Contains, filter}
+use Rattle.std.proofs.lemmas.Bool.{and_parts, false≢true, not-true, and_from}
+use Rattle.std.proofs.lemmas.List.Elements.{All-contains, Contains-append_cases, Contains-append_left, Contains-append_right}
+use Rattle.std.proofs.lemmas.List.Kept.{AllPairs-filter}
+use Rattle.elf_model.specs.Loading.{LoadedObject}
+use Rattle.elf_model.specs.OwnLayout.{code_pieces, data_pieces, grouped, is_code, is_data, is_read_only, is_zero, read_only_pieces}
+use Rattle.elf_model.specs.Pieces.{AreLawfulKinds, IsLawfulKind, Piece, has_bytes, is_executable, is_writable, pieces, same_output}
+use Rattle.elf_model.proofs.Grouped.{AllPairs-grouped, Contains-from_grouped, Contains-grouped, before_grouped, cross_pairs, group_of_filter}
+use Rattle.elf_model.proofs.Listed.{Contains-filter, Contains-from_filter}
+use Rattle.elf_model.proofs.Neighbours.{StandsBefore, before_left, before_right}
+use Rattle.elf_model.proofs.Pairs.{AllPairs-append}
+use Rattle.elf_model.proofs.PieceNumbers.{AreOtherSections, other_sections-sym, pieces_other}
+use Rattle.elf_model.proofs.SameOutput.{IsOfOutput, is_code-of_output, is_data-of_output, is_read_only-of_output, is_zero-of_output}
+
+-- a piece is read-only, code, data or zero
+by_bits :
+    (w x b : Bool) (Q : Type 0) → ((not w && not x) ≡ true → Q) → (x ≡ true → Q) → ((w && b) ≡ true → Q) → ((w && not b) ≡ true → Q) → Q
+by_bits w true b Q r c d z = c refl
+by_bits false false b Q r c d z = r refl
+by_bits true false true Q r c d z = d refl
+by_bits true false false Q r c d z = z refl
+
+pub by_part :
+    (p : Piece) (Q : Type 0) → (is_read_only p ≡ true → Q) → (is_code p ≡ true → Q) → (is_data p ≡ true → Q) → (is_zero p ≡ true → Q) → Q
+by_part p Q = by_bits (is_writable p.header) (is_executable p.header) (has_bytes p) Q
+
+read_only_not_code : (p : Piece) → is_read_only p ≡ true → is_code p ≡ true → ⊥
+read_only_not_code p r c =
+    let e = (and_parts (not (is_writable p.header)) (not (is_executable p.header)) r).1 in
+    false≢true (sym (not-true (is_executable p.header) e) ∙ c)
+
+read_only_not_writable : (p : Piece) → is_read_only p ≡ true → is_writable p.header ≡ true → ⊥
+read_only_not_writable p r w =
+    let e = (and_parts (not (is_writable p.header)) (not (is_executable p.header)) r).0 in
+    false≢true (sym (not-true (is_writable p.header) e) ∙ w)
+
+pub code_not_writable : (p : Piece) → IsLawfulKind p.header → is_code p ≡ true → is_writable p.header ≡ true → ⊥
+code_not_writable p lawful c w = false≢true (sym lawful.not_both ∙ and_from (is_writable p.header) (is_executable p.header) w c)
+
+data_writable : (p : Piece) → is_data p ≡ true → is_writable p.header ≡ true
+data_writable p d = (and_parts (is_writable p.header) (has_bytes p) d).0
+
+zero_writable : (p : Piece) → is_zero p ≡ true → is_writable p.header ≡ true
+zero_writable p z = (and_parts (is_writable p.header) (not (has_bytes p)) z).0
+
+data_not_zero : (p : Piece) → is_data p ≡ true → is_zero p ≡ true → ⊥
+data_not_zero p d z =
+    let e = (and_parts (is_writable p.header) (not (has_bytes p)) z).1 in
+    let f = (and_parts (is_writable p.header) (has_bytes p) d).1 in
+    false≢true (sym (not-true (has_bytes p) e) ∙ f)
+
+-- the pieces that pass a test, grouped
+abbrev chosen : (Piece → Bool) → List LoadedObject → List Piece
+chosen t objects = grouped (filter t (pieces objects))
+
+to_chosen : (t : Piece → Bool) (objects : List LoadedObject) (p : Piece) → Contains (pieces objects) p → t p ≡ true → Contains (chosen t objects) p
+to_chosen t objects p c passes = Contains-grouped (filter t (pieces objects)) p (Contains-filter t (pieces objects) p c passes)
+
+from_chosen : (t : Piece → Bool) (objects : List LoadedObject) (p : Piece) → Contains (chosen t objects) p → Contains (pieces objects) p × (t p ≡ true)
+from_chosen t objects p c = Contains-from_filter t (pieces objects) p (Contains-from_grouped (filter t (pieces objects)) p c)
+
+chosen_other : (t : Piece → Bool) (objects : List LoadedObject) → AllPairs AreOtherSections (chosen t objects)
+chosen_other t objects =
+    AllPairs-grouped AreOtherSections (filter t (pieces objects)) other_sections-sym
+    (AllPairs-filter AreOtherSections t (pieces objects) (pieces_other objects))
+
+chosen_before :
+    (t : Piece → Bool) (objects : List LoadedObject) (p q : Piece) → IsOfOutput t → Contains (pieces objects) p → t p ≡ true →
+    StandsBefore (filter (same_output p) (pieces objects)) p q → StandsBefore (chosen t objects) p q
+chosen_before t objects p q of_output c passes before =
+    before_grouped (filter t (pieces objects)) p q (Contains-filter t (pieces objects) p c passes)
+    (subst (λ (ps : List Piece). StandsBefore ps p q) (sym (group_of_filter t (pieces objects) p of_output passes)) before)
+
+-- where a piece of the own order comes from, and where each piece goes
+pub from_read_only : (objects : List LoadedObject) (p : Piece) → Contains (read_only_pieces objects) p → Contains (pieces objects) p × (is_read_only p ≡ true)
+from_read_only objects p c = from_chosen is_read_only objects p c
+
+pub from_code : (objects : List LoadedObject) (p : Piece) → Contains (code_pieces objects) p → Contains (pieces objects) p × (is_code p ≡ true)
+from_code objects p c = from_chosen is_code objects p c
+
+pub from_data : (objects : List LoadedObject) (p : Piece) → Contains (data_pieces objects) p → Contains (pieces objects) p × (is_writable p.header ≡ true)
+from_data objects p c = by (Contains-append_cases (chosen is_data objects) (chosen is_zero objects) p c)
+  where
+    by : Contains (chosen is_data objects) p ⊎ Contains (chosen is_zero objects) p → Contains (pieces objects) p × (is_writable p.header ≡ true)
+    by (inl d) = let f = from_chosen is_data objects p d in (f.0, data_writable p f.1)
+    by (inr z) = let f = from_chosen is_zero objects p z in (f.0, zero_writable p f.1)
+
+-- all of them
+abbrev pub own_order : List LoadedObject → List Piece
+own_order objects = read_only_pieces objects ++ (code_pieces objects ++ data_pieces objects)
+
+code_or_data : (objects : List LoadedObject) (p : Piece) → Contains (code_pieces objects ++ data_pieces objects) p → Contains (pieces objects) p
+code_or_data objects p c = by (Contains-append_cases (code_pieces objects) (data_pieces objects) p c)
+  where
+    by : Contains (code_pieces objects) p ⊎ Contains (data_pieces objects) p → Contains (pieces objects) p
+    by (inl code) = (from_code objects p code).0
+    by (inr rest) = (from_data objects p rest).0
+
+pub from_own_order : (objects : List LoadedObject) (p : Piece) → Contains (own_order objects) p → Contains (pieces objects) p
+from_own_order objects p c = by (Contains-append_cases (read_only_pieces objects) (code_pieces objects ++ data_pieces objects) p c)
+  where
+    by : Contains (read_only_pieces objects) p ⊎ Contains (code_pieces objects ++ data_pieces objects) p → Contains (pieces objects) p
+    by (inl r) = (from_read_only objects p r).0
+    by (inr rest) = code_or_data objects p rest
+
+-- what follows from a fact of one of the three lists, whichever it is
+pub record IsInOnePart (Q : List Piece → Type 0) (objects : List LoadedObject) (R : Type 0) : Type 0 where
+  pub read_only : Q (read_only_pieces objects) → R
+  pub code : Q (code_pieces objects) → R
+  pub data_ : Q (data_pieces objects) → R
+
+-- a fact of the list of a piece's kind, that a longer list keeps, is one of the three lists
+pub in_one_part :
+    (Q : List Piece → Type 0) (objects : List LoadedObject) (p : Piece) (R : Type 0) →
+    ((t : Piece → Bool) → IsOfOutput t → t p ≡ true → Q (chosen t objects)) →
+    ((xs ys : List Piece) → Q xs → Q (xs ++ ys)) → ((xs ys : List Piece) → Q ys → Q (xs ++ ys)) → IsInOnePart Q objects R → R
+in_one_part Q objects p R of_test left right part =
+    by_part p R
+    (λ r. part.read_only (of_test is_read_only is_read_only-of_output r))
+    (λ c. part.code (of_test is_code is_code-of_output c))
+    (λ d. part.data_ (left (chosen is_data objects) (chosen is_zero objects) (of_test is_data is_data-of_output d)))
+    (λ z. part.data_ (right (chosen is_data objects) (chosen is_zero objects) (of_test is_zero is_zero-of_output z)))
+
+-- each piece stands in one of the three lists
+pub piece_in_part :
+    (objects : List LoadedObject) (p : Piece) (R : Type 0) → Contains (pieces objects) p → IsInOnePart (λ ps. Contains ps p) objects R → R
+piece_in_part objects p R c =
+    in_one_part (λ ps. Contains ps p) objects p R (λ t of_output passes. to_chosen t objects p c passes)
+    (λ xs ys there. Contains-append_left xs ys p there) (λ xs ys there. Contains-append_right xs ys p there)
+
+-- neighbours in an output section stand side by side in one of the three lists
+pub neighbours_in_part :
+    (objects : List LoadedObject) (p q : Piece) (R : Type 0) → Contains (pieces objects) p →
+    StandsBefore (filter (same_output p) (pieces objects)) p q → IsInOnePart (λ ps. StandsBefore ps p q) objects R → R
+neighbours_in_part objects p q R c before =
+    in_one_part (λ ps. StandsBefore ps p q) objects p R (λ t of_output passes. chosen_before t objects p q of_output c passes before)
+    (λ xs ys there. before_left xs ys p q there) (λ xs ys there. before_right xs ys p q there)
+
+pub to_own_order : (objects : List LoadedObject) (p : Piece) → Contains (pieces objects) p → Contains (own_order objects) p
+to_own_order objects p c =
+    piece_in_part objects p (Contains (own_order objects) p) c (record {
+      read_only = λ r. Contains-append_left (read_only_pieces objects) (code_pieces objects ++ data_pieces objects) p r;
+      code = λ x.
+          Contains-append_right (read_only_pieces objects) (code_pieces objects ++ data_pieces objects) p
+          (Contains-append_left (code_pieces objects) (data_pieces objects) p x);
+      data_ = λ d.
+          Contains-append_right (read_only_pieces objects) (code_pieces objects ++ data_pieces objects) p
+          (Contains-append_right (code_pieces objects) (data_pieces objects) p d);
+    })
+
+-- no piece stands there twice
+module _ (objects : List LoadedObject) (kinds : AreLawfulKinds objects) where
+  cross :
+      (xs ys : List Piece) → ((x : Piece) → Contains xs x → Contains (pieces objects) x) →
+      ((y : Piece) → Contains ys y → Contains (pieces objects) y) → ((x : Piece) → Contains xs x → Contains ys x → ⊥) →
+      All (λ x. All (AreOtherSections x) ys) xs
+  cross xs ys = cross_pairs AreOtherSections (pieces objects) xs ys other_sections-sym (pieces_other objects)
+
+  data_other : AllPairs AreOtherSections (data_pieces objects)
+  data_other =
+      AllPairs-append AreOtherSections (chosen is_data objects) (chosen is_zero objects) (chosen_other is_data objects) (chosen_other is_zero objects)
+      (cross (chosen is_data objects) (chosen is_zero objects)
+      (λ x c. (from_chosen is_data objects x c).0) (λ y c. (from_chosen is_zero objects y c).0)
+      (λ x c e. data_not_zero x (from_chosen is_data objects x c).1 (from_chosen is_zero objects x e).1))
+
+  code_data_other : AllPairs AreOtherSections (code_pieces objects ++ data_pieces objects)
+  code_data_other =
+      AllPairs-append AreOtherSections (code_pieces objects) (data_pieces objects) (chosen_other is_code objects) data_other
+      (cross (code_pieces objects) (data_pieces objects)
+      (λ x c. (from_code objects x c).0) (λ y c. (from_data objects y c).0)
+      (λ x c e.
+      let f = from_code objects x c in
+      let lawful = All-contains (λ (p : Piece). IsLawfulKind p.header) (pieces objects) x kinds f.0 in
+      code_not_writable x lawful f.1 (from_data objects x e).1))
+
+  not_both_ways : (x : Piece) → Contains (read_only_pieces objects) x → Contains (code_pieces objects ++ data_pieces objects) x → ⊥
+  not_both_ways x c e = by (Contains-append_cases (code_pieces objects) (data_pieces objects) x e)
+    where
+      r : is_read_only x ≡ true
+      r = (from_read_only objects x c).1
+
+      by : Contains (code_pieces objects) x ⊎ Contains (data_pieces objects) x → ⊥
+      by (inl code) = read_only_not_code x r (from_code objects x code).1
+      by (inr rest) = read_only_not_writable x r (from_data objects x rest).1
+
+  pub own_order_other : AllPairs AreOtherSections (own_order objects)
+  own_order_other =
+      AllPairs-append AreOtherSections (read_only_pieces objects) (code_pieces objects ++ data_pieces objects)
+      (chosen_other is_read_only objects) code_data_other
+      (cross (read_only_pieces objects) (code_pieces objects ++ data_pieces objects)
+      (λ x c. (from_read_only objects x c).0) (λ y c. code_or_data objects y c) not_both_ways)

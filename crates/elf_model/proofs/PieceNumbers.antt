@@ -1,0 +1,97 @@
+-- Each piece is told from every other by its numbers of object and section, and what every piece has.
+use Rattle.std.proofs.Common.{◌≡◌, ℕ, ◌+◌, ◌<◌, ◌≤◌, Bool, true, false, cond, List, [], ◌∷◌, length, length-take, drop, refl, sym, subst, arith}
+use Rattle.std.specs.Prelude.{All, AllPairs, Option, Some, None, unwrap_or, if◌then◌else◌}
+use Rattle.std.specs.List.{slice_get}
+use Rattle.std.specs.Option.{option_and_then}
+use Rattle.std.proofs.lemmas.List.Elements.{All-append, All-cons, All-nil, All-weaker}
+use Rattle.std.proofs.lemmas.List.Kept.{AllPairs-cons}
+use Rattle.byteview.specs.Numbers.{part}
+use Rattle.elf_model.specs.Loading.{LoadedObject}
+use Rattle.elf_model.specs.ObjectFile.{bytes_in_file, contents, has_no_bytes, section_bytes, sections}
+use Rattle.elf_model.specs.Pieces.{Piece, is_alloc, piece_of, pieces, pieces_from, pieces_of}
+use Rattle.elf_model.specs.declared.records.SectionHeader.{SectionHeader}
+use Rattle.elf_model.proofs.Pairs.{AllPairs-append, AllPairs-nil}
+use Rattle.elf_model.proofs.Sectioned.{pieces-each}
+
+-- two pieces are of different sections
+abbrev pub AreOtherSections : Piece → Piece → Type 0
+AreOtherSections p q = p.object ≡ q.object → p.section ≡ q.section → ⊥
+
+pub other_sections-sym : (p q : Piece) → AreOtherSections p q → AreOtherSections q p
+other_sections-sym p q other e f = other (sym e) (sym f)
+
+-- a piece of object k, of a section from number i on
+abbrev IsFrom : ℕ → ℕ → Piece → Type 0
+IsFrom k i p = (p.object ≡ k) × (i ≤ p.section)
+
+pieces_from-numbers : (k : ℕ) (bytes : List ℕ) (i : ℕ) (hs : List SectionHeader) → All (IsFrom k i) (pieces_from k bytes i hs)
+pieces_from-numbers k bytes i [] = All-nil (IsFrom k i)
+pieces_from-numbers k bytes i (h ∷ hs) =
+    let rest : List Piece = pieces_from k bytes (i + 1) hs in
+    let behind : All (IsFrom k i) rest =
+    All-weaker (IsFrom k (i + 1)) (IsFrom k i) (λ p n. (n.0, omega (arith, n))) rest (pieces_from-numbers k bytes (i + 1) hs) in
+    elim (is_alloc h) as (λ b. All (IsFrom k i) (cond b (piece_of k bytes i h ∷ rest) rest)) [
+      | true ↦ All-cons (IsFrom k i) (piece_of k bytes i h) rest (refl, omega arith) behind
+      | false ↦ behind
+    ]
+
+pieces_from-other : (k : ℕ) (bytes : List ℕ) (i : ℕ) (hs : List SectionHeader) → AllPairs AreOtherSections (pieces_from k bytes i hs)
+pieces_from-other k bytes i [] = AllPairs-nil AreOtherSections
+pieces_from-other k bytes i (h ∷ hs) =
+    let rest : List Piece = pieces_from k bytes (i + 1) hs in
+    let p : Piece = piece_of k bytes i h in
+    let apart : All (AreOtherSections p) rest =
+    All-weaker (IsFrom k (i + 1)) (AreOtherSections p) (λ q n e f. omega (arith, n, f)) rest (pieces_from-numbers k bytes (i + 1) hs) in
+    let others = pieces_from-other k bytes (i + 1) hs in
+    elim (is_alloc h) as (λ b. AllPairs AreOtherSections (cond b (p ∷ rest) rest)) [
+      | true ↦ AllPairs-cons AreOtherSections p rest apart others
+      | false ↦ others
+    ]
+
+abbrev IsOfObjectFrom : ℕ → Piece → Type 0
+IsOfObjectFrom k p = k ≤ p.object
+
+pieces_of-numbers : (k : ℕ) (objects : List LoadedObject) → All (IsOfObjectFrom k) (pieces_of k objects)
+pieces_of-numbers k [] = All-nil (IsOfObjectFrom k)
+pieces_of-numbers k (o ∷ objects) =
+    let here : List Piece = pieces_from k o.bytes 0 (sections o.bytes) in
+    let rest : List Piece = pieces_of (k + 1) objects in
+    All-append (IsOfObjectFrom k) here rest
+    (All-weaker (IsFrom k 0) (IsOfObjectFrom k) (λ p n. omega (arith, n)) here (pieces_from-numbers k o.bytes 0 (sections o.bytes)))
+    (All-weaker (IsOfObjectFrom (k + 1)) (IsOfObjectFrom k) (λ p n. omega (arith, n)) rest (pieces_of-numbers (k + 1) objects))
+
+pieces_of-other : (k : ℕ) (objects : List LoadedObject) → AllPairs AreOtherSections (pieces_of k objects)
+pieces_of-other k [] = AllPairs-nil AreOtherSections
+pieces_of-other k (o ∷ objects) =
+    let here : List Piece = pieces_from k o.bytes 0 (sections o.bytes) in
+    let rest : List Piece = pieces_of (k + 1) objects in
+    AllPairs-append AreOtherSections here rest (pieces_from-other k o.bytes 0 (sections o.bytes)) (pieces_of-other (k + 1) objects)
+    (All-weaker (IsFrom k 0) (λ p. All (AreOtherSections p) rest)
+    (λ p n. All-weaker (IsOfObjectFrom (k + 1)) (AreOtherSections p) (λ q m e f. omega (arith, n, m, e)) rest (pieces_of-numbers (k + 1) objects))
+    here (pieces_from-numbers k o.bytes 0 (sections o.bytes)))
+
+-- no two pieces are of one section
+pub pieces_other : (objects : List LoadedObject) → AllPairs AreOtherSections (pieces objects)
+pieces_other objects = pieces_of-other 0 objects
+
+-- each piece has an alignment, and no more bytes than its size
+abbrev pub IsKept : Piece → Type 0
+IsKept p = (0 < p.align) × (length p.bytes ≤ p.size)
+
+part_short : (bytes : List ℕ) (at n : ℕ) → length (part bytes at n) ≤ n
+part_short bytes at n = let l = length-take n (drop at bytes) in omega (arith, l)
+
+bytes_short : (bytes : List ℕ) (h : SectionHeader) → length (unwrap_or (bytes_in_file bytes h) []) ≤ h.sh_size
+bytes_short bytes h = by (has_no_bytes h)
+  where
+    by : (b : Bool) → length (unwrap_or (if b then None else Some (contents bytes h)) []) ≤ h.sh_size
+    by true = omega arith
+    by false = part_short bytes h.sh_offset h.sh_size
+
+-- the bytes of section number i
+section_short : (bytes : List ℕ) (i : ℕ) (h : SectionHeader) → slice_get (sections bytes) i ≡ Some h → length (unwrap_or (section_bytes bytes i) []) ≤ h.sh_size
+section_short bytes i h there =
+    subst (λ (o : Option SectionHeader). length (unwrap_or (option_and_then (bytes_in_file bytes) o) []) ≤ h.sh_size) (sym there) (bytes_short bytes h)
+
+pub pieces_kept : (objects : List LoadedObject) → All IsKept (pieces objects)
+pieces_kept objects = pieces-each IsKept objects (λ k o there i h within. (omega arith, section_short o.bytes i h within))

@@ -1,0 +1,243 @@
+-- Relocations: the kinds, which entries are kept, what they refer to, their values and their fields (AMD64
+-- psABI 4.4, "Relocation"; ELF Handling For Thread-Local Storage for the kinds of the thread offset; the
+-- ranges of all kinds but 32 and 32S are the profile's).
+use Rattle.std.specs.Prelude.{◌≡◌, ◌≢◌, ◌⊎◌, ℕ, ℤ, pos, ◌+ℤ◌, ◌-ℤ◌, unsigned_abs, ◌+◌, ◌-◌, ◌*◌, ◌^◌, ◌<◌, ◌≤◌, ◌==◌, ◌&&◌, Bool, true, false, not, cond, List, [], ◌∷◌, ◌++◌, Option, Some, None, IsSome, IsSomeAnd, IfSome, All, AllPairs, filter, find, map, nat_le, nat_lt, option_map, slice_index_or, unwrap_or}
+use Rattle.std.specs.Int.{int_rem_euclid}
+use Rattle.std.specs.List.{flat_map}
+use Rattle.elf_model.specs.Loading.{LoadedObject}
+use Rattle.elf_model.specs.ObjectFile.{null_symbol, rela_symbol, rela_type, relas_of, section, sections, symbol_name, symbols}
+use Rattle.elf_model.specs.Pieces.{is_alloc}
+use Rattle.elf_model.specs.Placement.{Placed, is_of_section, symbol_value}
+use Rattle.elf_model.specs.Resolution.{SymbolOf, binding, chosen, is_undefined, section_of}
+use Rattle.elf_model.specs.declared.records.Rela.{Rela}
+use Rattle.elf_model.specs.declared.records.SectionHeader.{SectionHeader}
+
+-- The kinds.
+
+-- what a value is made of: S the symbol's value, A the addend, P the field's address, G the slot's offset in
+-- the GOT, GOT its address, Z the symbol's size, T the offset of S from the thread pointer
+pub data Formula : Type 0 where
+  S+A : Formula
+  S+A-P : Formula
+  S+A-GOT : Formula
+  G+A : Formula
+  G+GOT+A-P : Formula
+  GOT+A-P : Formula
+  Z+A : Formula
+  T+A : Formula
+  GT+GOT+A-P : Formula
+
+-- which values fit a field: all; those that are a signed number of the field's bits; an unsigned one; either
+pub data Range : Type 0 where
+  Always : Range
+  Signed : Range
+  Unsigned : Range
+  Either : Range
+
+-- a kind: its number, its field's width in bytes, its formula and its range
+pub record Kind : Type 0 where
+  pub number : ℕ
+  pub width : ℕ
+  pub formula : Formula
+  pub range : Range
+
+abbrev pub kind : ℕ → ℕ → Formula → Range → Kind
+kind number width formula range = record { number = number; width = width; formula = formula; range = range }
+
+abbrev pub kinds : List Kind
+kinds =
+    kind 1 8 S+A Always
+    ∷ kind 2 4 S+A-P Signed
+    ∷ kind 3 4 G+A Signed
+    ∷ kind 4 4 S+A-P Signed
+    ∷ kind 9 4 G+GOT+A-P Signed
+    ∷ kind 10 4 S+A Unsigned
+    ∷ kind 11 4 S+A Signed
+    ∷ kind 12 2 S+A Either
+    ∷ kind 13 2 S+A-P Signed
+    ∷ kind 14 1 S+A Either
+    ∷ kind 15 1 S+A-P Signed
+    ∷ kind 18 8 T+A Always
+    ∷ kind 22 4 GT+GOT+A-P Signed
+    ∷ kind 23 4 T+A Signed
+    ∷ kind 24 8 S+A-P Always
+    ∷ kind 25 8 S+A-GOT Always
+    ∷ kind 26 4 GOT+A-P Signed
+    ∷ kind 27 8 G+A Always
+    ∷ kind 28 8 G+GOT+A-P Always
+    ∷ kind 29 8 GOT+A-P Always
+    ∷ kind 32 4 Z+A Unsigned
+    ∷ kind 33 8 Z+A Always
+    ∷ kind 41 4 G+GOT+A-P Signed
+    ∷ kind 42 4 G+GOT+A-P Signed
+    ∷ []
+
+-- the kind of a type, None where the table has none; type 0, NONE, relocates nothing
+unfoldable pub kind_of : ℕ → Option Kind
+kind_of number = find (λ k. k.number == number) kinds
+
+-- Which entries are kept.
+
+-- an entry that relocates a section of an object: the object's number, the section's number and size, the
+-- entry, and the symbol that it names
+pub record Relocation : Type 0 where
+  pub object : ℕ
+  pub section : ℕ
+  pub size : ℕ
+  pub entry : Rela
+  pub symbol : SymbolOf
+
+-- symbol number j of an object
+abbrev pub symbol_at : ℕ → List ℕ → ℕ → SymbolOf
+symbol_at object bytes j = record {
+  object = object;
+  number = j;
+  name = unwrap_or (symbol_name bytes j) [];
+  entry = slice_index_or (symbols bytes) j null_symbol;
+}
+
+abbrev pub relocation_of : ℕ → List ℕ → ℕ → Rela → Relocation
+relocation_of object bytes k r = record {
+  object = object;
+  section = k;
+  size = (section (sections bytes) k).sh_size;
+  entry = r;
+  symbol = symbol_at object bytes (rela_symbol r);
+}
+
+-- the entries of a RELA section of which the type isn't NONE
+abbrev pub is_some_kind : Rela → Bool
+is_some_kind r = not (rela_type r == 0)
+
+abbrev pub relocations_in : ℕ → List ℕ → SectionHeader → List Relocation
+relocations_in object bytes h = map (relocation_of object bytes h.sh_info) (filter is_some_kind (relas_of bytes h))
+
+-- a RELA section whose own section is kept
+abbrev pub is_kept_rela : List ℕ → SectionHeader → Bool
+is_kept_rela bytes h = h.sh_type == 4 && is_alloc (section (sections bytes) h.sh_info)
+
+abbrev pub relocations_from : ℕ → List ℕ → List Relocation
+relocations_from object bytes = flat_map (relocations_in object bytes) (filter (is_kept_rela bytes) (sections bytes))
+
+-- the kept relocations of all objects from number k on, in load order
+abbrev pub relocations_of : ℕ → List LoadedObject → List Relocation
+relocations_of k [] = []
+relocations_of k (o ∷ os) = relocations_from k o.bytes ++ relocations_of (k + 1) os
+
+abbrev pub relocations : List LoadedObject → List Relocation
+relocations objects = relocations_of 0 objects
+
+-- What a relocation refers to.
+
+abbrev pub is_local : SymbolOf → Bool
+is_local s = binding s.entry == 0
+
+-- the definition that a relocation uses: its name's chosen one, or the symbol itself where that is LOCAL
+abbrev pub definition_of : List LoadedObject → SymbolOf → Option SymbolOf
+definition_of objects s = cond (is_local s) (cond (is_undefined s.entry) None (Some s)) (chosen objects s.name)
+
+-- a reference without a definition; symbol number 0 stands for none, and a WEAK one needs none
+abbrev pub IsUndefined : List LoadedObject → SymbolOf → Type 0
+IsUndefined objects s = (s.number ≢ 0) × (binding s.entry ≢ 2) × (definition_of objects s ≡ None)
+
+-- a LOCAL symbol of a section that isn't kept
+abbrev pub RefersToDropped : List LoadedObject → SymbolOf → Type 0
+RefersToDropped objects s = (is_local s ≡ true) × IsSomeAnd (section_of objects s) (λ h. is_alloc h ≡ false)
+
+-- Values.
+
+-- the address of section k of an object, 0 where it isn't kept
+abbrev pub section_address : List Placed → ℕ → ℕ → ℕ
+section_address ps object k = unwrap_or (option_map (λ q. q.at) (find (is_of_section object k) ps)) 0
+
+-- what the letters of the formulas stand for. There is no GOT and no thread storage in the profile, and no
+-- kind that speaks of them.
+pub record Terms : Type 0 where
+  pub s : ℕ
+  pub a : ℤ
+  pub p : ℕ
+  pub g : ℕ
+  pub got : ℕ
+  pub z : ℕ
+  pub t : ℤ
+
+abbrev pub whole_value : Formula → Terms → ℤ
+whole_value S+A x = pos x.s +ℤ x.a
+whole_value S+A-P x = (pos x.s +ℤ x.a) -ℤ pos x.p
+whole_value S+A-GOT x = (pos x.s +ℤ x.a) -ℤ pos x.got
+whole_value G+A x = pos x.g +ℤ x.a
+whole_value G+GOT+A-P x = (pos (x.g + x.got) +ℤ x.a) -ℤ pos x.p
+whole_value GOT+A-P x = (pos x.got +ℤ x.a) -ℤ pos x.p
+whole_value Z+A x = pos x.z +ℤ x.a
+whole_value T+A x = x.t +ℤ x.a
+whole_value GT+GOT+A-P x = (pos (x.g + x.got) +ℤ x.a) -ℤ pos x.p
+
+-- a whole number modulo 2 ^ 64
+abbrev pub modulo_64 : ℤ → ℕ
+modulo_64 v = unsigned_abs (int_rem_euclid v (pos (2 ^ 64)))
+
+abbrev pub terms_of : List LoadedObject → List Placed → Relocation → Terms
+terms_of objects ps r = record {
+  s = unwrap_or (option_map (symbol_value ps) (definition_of objects r.symbol)) 0;
+  a = r.entry.r_addend;
+  p = section_address ps r.object r.section + r.entry.r_offset;
+  g = 0;
+  got = 0;
+  z = unwrap_or (option_map (λ d. d.entry.st_size) (definition_of objects r.symbol)) 0;
+  t = pos 0;
+}
+
+abbrev pub relocation_kind : Relocation → Option Kind
+relocation_kind r = kind_of (rela_type r.entry)
+
+-- the value of a relocation, 0 for one of no kind
+abbrev pub value_of : List LoadedObject → List Placed → Relocation → ℕ
+value_of objects ps r =
+    unwrap_or (option_map (λ k. modulo_64 (whole_value k.formula (terms_of objects ps r))) (relocation_kind r)) 0
+
+-- a value of 64 bits fits a field of n bits
+abbrev pub IsSigned : ℕ → ℕ → Type 0
+IsSigned n v = (v < 2 ^ (n - 1)) ⊎ (2 ^ 64 - 2 ^ (n - 1) ≤ v)
+
+abbrev pub IsInRange : Range → ℕ → ℕ → Type 0
+IsInRange Always n v = Unit {0}
+IsInRange Signed n v = IsSigned n v
+IsInRange Unsigned n v = v < 2 ^ n
+IsInRange Either n v = (v < 2 ^ n) ⊎ IsSigned n v
+
+abbrev pub Fits : List LoadedObject → List Placed → Relocation → Type 0
+Fits objects ps r = IfSome (relocation_kind r) (λ k. IsInRange k.range (8 * k.width) (value_of objects ps r))
+
+-- Fields.
+
+-- the width of a relocation's field in bytes; one of no kind has none
+abbrev pub width_of : Relocation → ℕ
+width_of r = unwrap_or (option_map (λ k. k.width) (relocation_kind r)) 0
+
+-- byte k of a section of an object lies in the field
+abbrev pub is_in_field : ℕ → ℕ → ℕ → Relocation → Bool
+is_in_field object s k r =
+    (r.object == object) && (r.section == s) && nat_le r.entry.r_offset k && nat_lt k (r.entry.r_offset + width_of r)
+
+-- the field lies inside its section
+abbrev pub IsFieldInside : Relocation → Type 0
+IsFieldInside r = r.entry.r_offset + width_of r ≤ r.size
+
+-- no byte of a section lies in both fields
+abbrev pub AreFieldsApart : Relocation → Relocation → Type 0
+AreFieldsApart r t = (object s k : ℕ) → is_in_field object s k r ≡ true → is_in_field object s k t ≡ true → ⊥
+
+-- What is asked of kept relocations: of each a known kind, a lawful symbol and a field inside its section;
+-- fields that are apart; and values that fit.
+pub record IsLawfulRelocation (objects : List LoadedObject) (r : Relocation) : Type 0 where
+  pub known : IsSome (relocation_kind r)
+  pub defined : ¬ IsUndefined objects r.symbol
+  pub kept : ¬ RefersToDropped objects r.symbol
+  pub inside : IsFieldInside r
+
+pub record AreLawfulRelocations (objects : List LoadedObject) : Type 0 where
+  pub each : All (IsLawfulRelocation objects) (relocations objects)
+  pub apart : AllPairs AreFieldsApart (relocations objects)
+
+abbrev pub AllFit : List LoadedObject → List Placed → Type 0
+AllFit objects ps = All (Fits objects ps) (relocations objects)

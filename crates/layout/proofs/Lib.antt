@@ -1,0 +1,13 @@
+pub mod Alignments
+pub mod EndSteps
+pub mod Entries
+pub mod GroupSteps
+pub mod KindLemmas
+pub mod Keys
+pub mod LaidSteps
+pub mod Leading
+pub mod OwnAddresses
+pub mod PieceEntries
+pub mod PieceSteps
+pub mod Rests
+pub mod RunSteps

@@ -1,0 +1,56 @@
+-- Pieces by output section, as they are gathered.
+use Rattle.std.specs.Prelude.{◌≡◌, ℕ, Bool, List, map, filter}
+use Rattle.std.specs.Global.{Vec}
+use Rattle.elf_model.specs.OwnLayout.{is_code, is_data, is_read_only, is_zero, leaders}
+use Rattle.elf_model.specs.Pieces as pieces
+use Rattle.elf_model.specs.Pieces.{is_executable, is_nobits, is_thread_local, is_writable, output_name, same_output}
+use Rattle.layout.specs.Views.{piece_views}
+use Rattle.layout.specs.declared.grouping.OutputSection.{OutputSection}
+use Rattle.layout.specs.declared.grouping.Part.{Part}
+use Rattle.layout.specs.declared.grouping.Part.TheVariants as part
+use Rattle.layout.specs.declared.pieces.Piece.{Piece}
+
+-- what the pieces of one output section have in common
+pub record Output : Type 0 where
+  pub name : List ℕ
+  pub writable : Bool
+  pub executable : Bool
+  pub thread_local : Bool
+  pub nobits : Bool
+
+abbrev pub output_of : pieces.Piece → Output
+output_of p = record {
+  name = output_name p.name;
+  writable = is_writable p.header;
+  executable = is_executable p.header;
+  thread_local = is_thread_local p.header;
+  nobits = is_nobits p.header;
+}
+
+abbrev pub output_view : OutputSection → Output
+output_view o = record {
+  name = o.name.now;
+  writable = o.writable;
+  executable = o.executable;
+  thread_local = o.thread_local;
+  nobits = o.nobits;
+}
+
+-- the pieces of a part of the own order
+abbrev pub part_test : Part → pieces.Piece → Bool
+part_test part.ReadOnly p = is_read_only p
+part_test part.Code p = is_code p
+part_test part.Data p = is_data p
+part_test part.Zero p = is_zero p
+
+-- the pieces of a leader's output section
+abbrev pub group : List pieces.Piece → pieces.Piece → List pieces.Piece
+group ps l = filter (same_output l) ps
+
+abbrev pub group_views : List (Vec Piece) → List (List pieces.Piece)
+group_views gs = map (λ g. piece_views g.items) gs
+
+-- the output sections of pieces by first appearance, and the pieces of each
+pub record AreGroups (keys : List OutputSection) (groups : List (Vec Piece)) (done : List pieces.Piece) : Type 0 where
+  pub keys_are : map output_view keys ≡ map output_of (leaders done)
+  pub groups_are : group_views groups ≡ map (group done) (leaders done)

@@ -1,0 +1,9 @@
+pub mod Addresses
+pub mod Groups
+pub mod Kinds
+pub mod Laid
+pub mod Limits
+pub mod Orders
+pub mod PlaceViews
+pub mod Placements
+pub mod Views

@@ -1,0 +1,17 @@
+-- The own order of objects' pieces, as it is kept.
+use Rattle.std.specs.Prelude.{◌≡◌, List}
+use Rattle.elf_model.specs.Loading.{LoadedObject}
+use Rattle.elf_model.specs.OwnLayout.{code_pieces, data_pieces, read_only_pieces}
+use Rattle.search.specs.Views.{loaded_views}
+use Rattle.layout.specs.Views.{piece_views}
+use Rattle.layout.specs.declared.order.Order.{Order}
+
+-- the objects of which it is
+abbrev pub objects_of : Order → List LoadedObject
+objects_of o = loaded_views o.objects.now
+
+-- its lists are those of the own layout
+pub record IsOrder (o : Order) : Type 0 where
+  pub read_only : piece_views o.read_only.items ≡ read_only_pieces (objects_of o)
+  pub code : piece_views o.code.items ≡ code_pieces (objects_of o)
+  pub writable : piece_views o.writable.items ≡ data_pieces (objects_of o)

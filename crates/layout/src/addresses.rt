@@ -1,0 +1,60 @@
+//! The address of each kept section, by the numbers of its object and of its own.
+ghost use Rattle.std.specs.Prelude.{◌≡◌, ℕ, All, IfOk, None, Option, Some, cond, find, option_map};
+ghost use Rattle.elf_model.specs.Placement.{is_of_section};
+ghost use Rattle.search.specs.Views.{loaded_views};
+ghost use Rattle.layout.specs.Addresses.{HasEntry, HasPlace, entry, section_counts, shape_of};
+ghost use Rattle.layout.specs.PlaceViews.{place_view, place_views};
+
+use crate::running::Place;
+use search::Loaded;
+use std::alloc::{AllocError, Global};
+
+/// A row for each object with no address for any of its sections.
+fn empty_table(alloc: Global, objects: &[Loaded<'_>]) -> Result<Vec<Vec<Option<u64>>>, AllocError>
+    ensures shape { IfOk result (λ t. shape_of t.items ≡ section_counts (loaded_views objects.now)) }
+    ensures empty { IfOk result (λ t. (object section : ℕ) → entry t.items object section ≡ None) }
+{
+    let mut table = Vec::with_capacity(alloc, objects.len())?;
+    for loaded in objects {
+        let count = loaded.object.sections().len();
+        let row: Vec<Option<u64>> = Vec::from_elem(alloc, None, count)?;
+        table.push(row)?;
+    }
+    Ok(table)
+}
+
+/// Puts the address of a place into the table.
+fn put_address(table: &mut Vec<Vec<Option<u64>>>, place: &Place<'_>)
+    requires { HasEntry (shape_of table.old.items) place.now.piece.object place.now.piece.section }
+    ensures shape { shape_of table.new.items ≡ shape_of table.old.items }
+    ensures put { (object section : ℕ) → entry table.new.items object section ≡ cond {A = Option ℕ} (is_of_section object section (place_view place.now)) (Some place.now.at) (entry table.old.items object section) }
+{
+    let row = &mut table[place.piece.object as usize];
+    row[place.piece.section as usize] = Some(place.at);
+}
+
+/// The addresses of places of objects, that of the first where there are several of a section.
+pub fn address_table(
+    alloc: Global,
+    objects: &[Loaded<'_>],
+    places: &[Place<'_>],
+) -> Result<Vec<Vec<Option<u64>>>, AllocError>
+    requires { All (HasPlace (section_counts (loaded_views objects.now))) (place_views places.now) }
+    ensures { IfOk result (λ t. (object section : ℕ) → entry t.items object section ≡ option_map (λ q. q.at) (find (is_of_section object section) (place_views places.now))) }
+{
+    let mut table = empty_table(alloc, objects)?;
+    let mut left = places.len();
+    while left > 0 {
+        left -= 1;
+        put_address(&mut table, &places[left]);
+    }
+    Ok(table)
+}
+
+/// The address that a table has for a section of an object.
+pub fn address_in(table: &[Vec<Option<u64>>], object: usize, section: usize) -> Option<u64>
+    ensures { result ≡ entry table.now object section }
+{
+    let row = table.get(object)?;
+    *row.get(section)?
+}

@@ -1,0 +1,114 @@
+//! Pieces by output section: output sections by first appearance, their pieces in load order.
+ghost use Rattle.std.specs.Prelude.{◌≡◌, ◌++◌, ◌∷◌, [], IfOk, OnOk, List, filter, length};
+ghost use Rattle.elf_model.specs.OwnLayout as own;
+ghost use Rattle.elf_model.specs.Pieces as pieces;
+ghost use Rattle.std.specs.List.{flat_map};
+ghost use Rattle.layout.specs.Groups.{AreGroups, output_of, output_view, part_test};
+ghost use Rattle.layout.specs.Views.{piece_view, piece_views};
+
+use crate::names::output_name;
+use crate::pieces::{Piece, is_executable, is_nobits, is_thread_local, is_writable};
+use elf_model::SectionHeader;
+use indexmap::IndexSet;
+use std::alloc::{AllocError, Global};
+
+/// What the pieces of one output section have in common.
+#[derive(Clone, Copy, Debug, PartialEq, Eq, Hash)]
+pub struct OutputSection<'a> {
+    pub name: &'a [u8],
+    pub writable: bool,
+    pub executable: bool,
+    pub thread_local: bool,
+    pub nobits: bool,
+}
+
+/// The parts of the own order: what may only be read, code, data with bytes, and data without.
+#[derive(Clone, Copy, Debug)]
+pub enum Part {
+    ReadOnly,
+    Code,
+    Data,
+    Zero,
+}
+
+fn output_section_of<'a>(piece: &Piece<'a>) -> OutputSection<'a>
+    ensures { output_view result ≡ output_of (piece_view piece.now) }
+{
+    OutputSection {
+        name: output_name(piece.name),
+        writable: is_writable(&piece.header),
+        executable: is_executable(&piece.header),
+        thread_local: is_thread_local(&piece.header),
+        nobits: is_nobits(&piece.header),
+    }
+}
+
+/// Whether a piece with this header belongs to a part.
+fn is_of_part(part: Part, piece: &Piece<'_>) -> bool
+    ensures { result ≡ part_test part (piece_view piece.now) }
+{
+    let writable = is_writable(&piece.header);
+    let executable = is_executable(&piece.header);
+    let nobits = is_nobits(&piece.header);
+    match part {
+        Part::ReadOnly => !writable && !executable,
+        Part::Code => executable,
+        Part::Data => writable && !nobits,
+        Part::Zero => writable && nobits,
+    }
+}
+
+/// Puts a piece behind those of its output section, which is the last one where it is new.
+fn add_piece<'a>(
+    alloc: Global,
+    outputs: &mut IndexSet<OutputSection<'a>>,
+    groups: &mut Vec<Vec<Piece<'a>>>,
+    piece: Piece<'a>,
+) -> Result<(), AllocError>
+    requires { length outputs.old.keys ≡ length groups.old.items }
+    ensures same { OnOk result (length outputs.new.keys ≡ length groups.new.items) }
+    ensures added { OnOk result ((done : List pieces.Piece) → AreGroups outputs.old.keys groups.old.items done → AreGroups outputs.new.keys groups.new.items (done ++ piece_view piece.entry ∷ [])) }
+{
+    let (number, is_new) = outputs.insert_full(output_section_of(&piece))?;
+    if is_new {
+        groups.push(Vec::new(alloc))?;
+    }
+    groups[number].push(piece)?;
+    Ok(())
+}
+
+/// Lists of pieces one behind the other.
+fn joined<'a>(
+    alloc: Global,
+    groups: &[Vec<Piece<'a>>],
+    count: usize,
+) -> Result<Vec<Piece<'a>>, AllocError>
+    ensures { IfOk result (λ v. v.items ≡ flat_map (λ g. g.items) groups.now) }
+{
+    let mut all = Vec::with_capacity(alloc, count)?;
+    for group in groups {
+        all.extend_from_slice(group.as_slice())?;
+    }
+    Ok(all)
+}
+
+/// The pieces of a part, grouped by output section.
+pub fn grouped<'a>(
+    alloc: Global,
+    pieces: &[Piece<'a>],
+    part: Part,
+) -> Result<Vec<Piece<'a>>, AllocError>
+    ensures { IfOk result (λ v. piece_views v.items ≡ own.grouped (filter (part_test part) (piece_views pieces.now))) }
+{
+    let mut outputs = IndexSet::new(alloc);
+    let mut groups = Vec::new(alloc);
+    let mut count = 0;
+    for piece in pieces {
+        if !is_of_part(part, piece) {
+            continue;
+        }
+        add_piece(alloc, &mut outputs, &mut groups, *piece)?;
+        count += 1;
+    }
+    joined(alloc, &groups, count)
+}

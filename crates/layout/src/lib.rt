@@ -1,0 +1,23 @@
+//! Where the linker itself lays out: which kept sections are lawful, in which order they stand, at which
+//! addresses, and in which segments.
+#![tactic(auto)]
+
+mod addresses;
+mod grouping;
+mod kinds;
+mod lay;
+mod names;
+mod order;
+mod pieces;
+mod placement;
+mod running;
+mod segments;
+#[cfg(test)]
+mod tests;
+
+pub use elf_model::LinkError;
+pub use kinds::are_lawful_kinds;
+pub use names::output_name;
+pub use pieces::Piece;
+pub use placement::{Placement, place};
+pub use running::Place;

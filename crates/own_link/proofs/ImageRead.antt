@@ -1,0 +1,126 @@
+-- The own image file reads back: its headers, its length and its bytes.
+use Rattle.std.proofs.Common.{◌≡◌, ℕ, ◌+◌, ◌-◌, ◌*◌, ◌^◌, ◌<◌, ◌≤◌, List, [], ◌∷◌, ◌++◌, length, refl, sym, ◌∙◌, ap, subst, arith, append_assoc}
+use Rattle.std.specs.Prelude.{All, Contains, map, slice_index}
+use Rattle.std.specs.List.{flat_map, range_with_len}
+use Rattle.std.proofs.lemmas.List.{get_or-append_right, length-append}
+use Rattle.std.proofs.lemmas.List.Elements.{All-append, All-cons, All-contains, All-nil, All-weaker}
+use Rattle.std.proofs.lemmas.List.FromFn.{get_or-map-range_with_len, length-map-range_with_len}
+use Rattle.elf_model.specs.ImageFile.{own_file_header, stack_header}
+use Rattle.elf_model.specs.MemoryImage.{program_headers}
+use Rattle.elf_model.specs.OwnLayout.{file_end}
+use Rattle.elf_model.specs.Records.{file_header, file_header_bytes, program_header_bytes, FitsFileHeader, FitsProgramHeader}
+use Rattle.elf_model.specs.declared.records.FileHeader.{FileHeader}
+use Rattle.elf_model.specs.declared.records.ProgramHeader.{ProgramHeader}
+use Rattle.own_link.proofs.Ends.{FileEndsBelow, file_end-holds}
+use Rattle.own_link.proofs.HeaderTable.{headed, headed-header, headed-table, length-headers}
+use Rattle.elf_model.proofs.Listed.{Contains-here}
+use Rattle.own_link.proofs.SegmentHeaders.{AreOwnSegments, IsGoodSegment}
+
+-- headers of segments, PT_GNU_STACK's, and the byte of each address up to the file's end
+abbrev pub made_headers : ℕ → ℕ → List ProgramHeader → List ℕ
+made_headers entry count hs =
+    file_header_bytes (own_file_header entry count) ++ flat_map program_header_bytes (hs ++ stack_header ∷ [])
+
+abbrev pub made_image : ℕ → ℕ → ℕ → ℕ → List ProgramHeader → (ℕ → ℕ) → List ℕ
+made_image entry count base size hs byte =
+    made_headers entry count hs ++ map (λ i. byte (base + i)) (range_with_len size (file_end hs - size))
+
+-- what is read of such an image
+pub record IsOwnFile (image : List ℕ) (entry count base size : ℕ) (hs : List ProgramHeader) (byte : ℕ → ℕ) : Type 0 where
+  pub counted : count ≡ length hs + 1
+  pub size_is : size ≡ 64 + 56 * count
+  pub header : file_header image ≡ own_file_header entry count
+  pub table : program_headers image ≡ hs ++ stack_header ∷ []
+  pub len : length image ≡ file_end hs
+  pub long : size ≤ file_end hs
+  pub bytes : (i : ℕ) → size ≤ i → i < file_end hs → slice_index image i ≡ byte (base + i)
+
+fits_header : (entry count : ℕ) → entry < 2 ^ 64 → count < 2 ^ 16 → FitsFileHeader (own_file_header entry count)
+fits_header entry count e c = record {
+  e_ident = refl;
+  e_type = omega arith;
+  e_machine = omega arith;
+  e_version = omega arith;
+  e_entry = e;
+  e_phoff = omega arith;
+  e_shoff = omega arith;
+  e_flags = omega arith;
+  e_ehsize = omega arith;
+  e_phentsize = omega arith;
+  e_phnum = c;
+  e_shentsize = omega arith;
+  e_shnum = omega arith;
+  e_shstrndx = omega arith;
+}
+
+fits_segment : (base : ℕ) (h : ProgramHeader) → IsGoodSegment base h → FitsProgramHeader h
+fits_segment base h g = record {
+  p_type = omega (arith, g.type_);
+  p_flags = omega (arith, g.rights_high);
+  p_offset = omega (arith, g.end, g.offset);
+  p_vaddr = omega (arith, g.end);
+  p_paddr = omega (arith, g.end, g.physical);
+  p_filesz = omega (arith, g.end, g.file_in_memory);
+  p_memsz = omega (arith, g.end);
+  p_align = omega (arith, g.align);
+}
+
+fits_stack : FitsProgramHeader stack_header
+fits_stack = record {
+  p_type = omega arith;
+  p_flags = omega arith;
+  p_offset = omega arith;
+  p_vaddr = omega arith;
+  p_paddr = omega arith;
+  p_filesz = omega arith;
+  p_memsz = omega arith;
+  p_align = omega arith;
+}
+
+-- the first segment begins with the file, and the file is as long as its headers
+module _ (base size : ℕ) (hs : List ProgramHeader) (own : AreOwnSegments base size hs) where
+  pub first_there : Contains hs own.first
+  first_there = subst (λ (gs : List ProgramHeader). Contains gs own.first) (sym own.segments_are) (Contains-here own.others own.first)
+
+  pub first_good : IsGoodSegment base own.first
+  first_good = All-contains (IsGoodSegment base) hs own.first own.each first_there
+
+  pub file_end-long : 0 < size → size ≤ file_end hs
+  file_end-long some =
+      let below = All-contains (FileEndsBelow (file_end hs)) hs own.first (file_end-holds hs (file_end hs) (omega arith)) first_there in
+      let h = own.first_holds in
+      let b = below (omega (arith, some, h)) in
+      omega (arith, b, h)
+
+pub made_is_own :
+    (entry count base size : ℕ) (hs : List ProgramHeader) (byte : ℕ → ℕ) → AreOwnSegments base size hs →
+    count ≡ length hs + 1 → size ≡ 64 + 56 * count → entry < 2 ^ 64 → count < 2 ^ 16 →
+    IsOwnFile (made_image entry count base size hs byte) entry count base size hs byte
+made_is_own entry count base size hs byte own counted sized e c =
+    let table = hs ++ stack_header ∷ [] in
+    let h : FileHeader = own_file_header entry count in
+    let fh = fits_header entry count e c in
+    let body : List ℕ = map (λ i. byte (base + i)) (range_with_len size (file_end hs - size)) in
+    let fit : All FitsProgramHeader (hs ++ stack_header ∷ []) =
+    All-append FitsProgramHeader hs (stack_header ∷ []) (All-weaker (IsGoodSegment base) FitsProgramHeader (fits_segment base) hs own.each)
+    (All-cons FitsProgramHeader stack_header [] fits_stack (All-nil FitsProgramHeader)) in
+    let longer : length (hs ++ stack_header ∷ []) ≡ length hs + 1 = length-append hs (stack_header ∷ []) in
+    let whole : made_image entry count base size hs byte ≡ headed h (hs ++ stack_header ∷ []) body =
+    append_assoc (file_header_bytes h) (flat_map program_header_bytes (hs ++ stack_header ∷ [])) body in
+    let front : length (made_headers entry count hs) ≡ size =
+    length-headers h (hs ++ stack_header ∷ []) refl ∙ omega (arith, longer, counted, sized) in
+    let long = file_end-long base size hs own (omega (arith, sized)) in
+    record {
+      counted = counted;
+      size_is = sized;
+      header = ap file_header whole ∙ headed-header h (hs ++ stack_header ∷ []) body fh;
+      table = ap program_headers whole ∙ headed-table h (hs ++ stack_header ∷ []) body fh fit (counted ∙ sym longer);
+      len =
+          length-append (made_headers entry count hs) body
+          ∙ omega (arith, front, long, length-map-range_with_len (λ i. byte (base + i)) size (file_end hs - size));
+      long = long;
+      bytes = λ i low high.
+          get_or-append_right (made_headers entry count hs) body size i 0 front low
+          ∙ get_or-map-range_with_len (λ k. byte (base + k)) size (file_end hs - size) (i - size) i 0
+          (omega (arith, low, high)) (omega (arith, low));
+    }

@@ -1,0 +1,188 @@
+-- The own image file is an image that a loader maps: its headers, their order and its segments are right.
+use Rattle.std.proofs.Common.{◌≡◌, ℕ, ◌+◌, ◌*◌, ◌<◌, ◌≤◌, true, false, List, [], ◌∷◌, ◌++◌, length, get_or, refl, sym, ◌∙◌, ap, subst, arith, take, drop}
+use Rattle.std.specs.Prelude.{All, AllPairs, filter}
+use Rattle.std.specs.List.{prefix_len}
+use Rattle.std.proofs.lemmas.Bool.{eq-eqb, ne_eqb}
+use Rattle.std.proofs.lemmas.List.{append-nil, drop_at, get_or_at, get_or_append_left, length-append, take_at}
+use Rattle.std.proofs.lemmas.List.Elements.{All-append, All-cons, All-get_or, All-nil, All-weaker, filter-append}
+use Rattle.std.proofs.lemmas.List.Sums.{prefix_len_is}
+use Rattle.elf_model.specs.ImageFile.{own_file_header, stack_header}
+use Rattle.elf_model.specs.MemoryImage.{AreGoodSegments, HoldsHeaders, IsGoodLoad, IsGoodStack, IsGoodThreadBlock, IsImage, IsImageHeader, IsInOrder, IsTail, ShareNoPage, first_address, headers_size, is_load, is_thread_block, loads, loads_in, thread_blocks}
+use Rattle.elf_model.specs.OwnLayout.{file_end}
+use Rattle.elf_model.specs.Placement.{headers_thing}
+use Rattle.elf_model.specs.Records.{file_header}
+use Rattle.elf_model.specs.declared.records.FileHeader.{FileHeader}
+use Rattle.elf_model.specs.declared.records.ProgramHeader.{ProgramHeader}
+use Rattle.own_link.proofs.Ends.{FileEndsBelow, file_end-holds}
+use Rattle.elf_model.proofs.Finding.{filter-all, filter-none}
+use Rattle.own_link.proofs.ImageRead.{IsOwnFile}
+use Rattle.own_link.proofs.SegmentHeaders.{AreOwnSegments, IsGoodSegment}
+
+-- which headers are PT_LOAD, and which PT_TLS
+is_a_load : (base : ℕ) (h : ProgramHeader) → IsGoodSegment base h → is_load h ≡ true
+is_a_load base h g = eq-eqb h.p_type 1 g.type_
+
+no_block : (base : ℕ) (h : ProgramHeader) → IsGoodSegment base h → is_thread_block h ≡ false
+no_block base h g = ne_eqb h.p_type 7 (λ e. omega (arith, e, g.type_))
+
+module _ (base size : ℕ) (hs : List ProgramHeader) (own : AreOwnSegments base size hs) where
+  all_loads : All (λ h. is_load h ≡ true) hs
+  all_loads = All-weaker (IsGoodSegment base) (λ h. is_load h ≡ true) (is_a_load base) hs own.each
+
+  pub loads_in_table : loads_in (hs ++ stack_header ∷ []) ≡ hs
+  loads_in_table =
+      filter-append is_load hs (stack_header ∷ []) ∙ (append-nil (filter is_load hs) ∙ filter-all is_load hs all_loads)
+
+  no_blocks_in_table : filter is_thread_block (hs ++ stack_header ∷ []) ≡ []
+  no_blocks_in_table =
+      filter-append is_thread_block hs (stack_header ∷ [])
+      ∙ (append-nil (filter is_thread_block hs)
+      ∙ filter-none is_thread_block hs (All-weaker (IsGoodSegment base) (λ h. is_thread_block h ≡ false) (no_block base) hs own.each))
+
+  loads_in_front : prefix_len is_load (hs ++ stack_header ∷ []) ≡ length hs
+  loads_in_front =
+      prefix_len_is is_load (hs ++ stack_header ∷ []) (length hs) stack_header
+      (omega (arith, length-append hs (stack_header ∷ [])))
+      (λ k below.
+      ap is_load (get_or_append_left hs (stack_header ∷ []) stack_header k below)
+      ∙ All-get_or (λ (h : ProgramHeader). is_load h ≡ true) hs k stack_header below all_loads)
+      (λ within. ap is_load (get_or_at hs stack_header [] stack_header (length hs) refl))
+
+  some_segment : 0 < length hs
+  some_segment = let e = ap length own.segments_are in omega (arith, e)
+
+  -- the PT_LOADs by ascending address, then the stack's header
+  table_in_order : IsInOrder (hs ++ stack_header ∷ [])
+  table_in_order =
+      let e = loads_in_front in
+      record {
+        a_load = omega (arith, e, some_segment);
+        tail =
+            subst (λ (n : ℕ). IsTail (drop n (hs ++ stack_header ∷ []))) (sym e)
+            (subst IsTail (sym (drop_at hs (stack_header ∷ []) (length hs) refl)) refl);
+        ascending =
+            subst (λ (n : ℕ). AllPairs (λ (g h : ProgramHeader). g.p_vaddr < h.p_vaddr) (take n (hs ++ stack_header ∷ []))) (sym e)
+            (subst (AllPairs (λ (g h : ProgramHeader). g.p_vaddr < h.p_vaddr)) (sym (take_at hs (stack_header ∷ []) (length hs) refl)) rising);
+      }
+    where
+      rising : AllPairs (λ (g h : ProgramHeader). g.p_vaddr < h.p_vaddr) hs
+      rising i j d low high =
+          let r = own.rising i j d low high in
+          let s = (own.each i d (omega (arith, low, high))).some in
+          omega (arith, r, s)
+
+  first_is : first_address hs ≡ base
+  first_is = ap first_address own.segments_are ∙ own.first_address
+
+  holds_headers : HoldsHeaders size hs
+  holds_headers = subst (HoldsHeaders size) (sym own.segments_are) own.first_holds
+
+  good_load : (n : ℕ) (h : ProgramHeader) → IsGoodSegment base h → FileEndsBelow n h → IsGoodLoad base n h
+  good_load n h g below = record {
+    some_rights = g.rights_low;
+    no_other_rights = g.rights_high;
+    align = g.align;
+    physical = g.physical;
+    on_a_page = g.page;
+    some_memory = g.some;
+    file_in_memory = g.file_in_memory;
+    end = g.end;
+    offset = g.offset;
+    inside = below;
+  }
+
+  loads_good : All (IsGoodLoad base (file_end hs)) hs
+  loads_good k d within = good_load (file_end hs) (get_or hs k d) (own.each k d within) (file_end-holds hs (file_end hs) (omega arith) k d within)
+
+  good_stack : IsGoodStack stack_header
+  good_stack = record {
+    rights = refl;
+    offset = refl;
+    address = refl;
+    physical = refl;
+    file_size = refl;
+    memory_size = refl;
+    align = refl;
+  }
+
+  -- what holds of each segment's header and of the stack's holds of the table
+  in_table : (P : ProgramHeader → Type 0) → ((h : ProgramHeader) → IsGoodSegment base h → P h) → P stack_header → All P (hs ++ stack_header ∷ [])
+  in_table P segment stack =
+      All-append P hs (stack_header ∷ []) (All-weaker (IsGoodSegment base) P segment hs own.each)
+      (All-cons P stack_header [] stack (All-nil P))
+
+  segments_good : size ≡ 64 + 56 * (length hs + 1) → AreGoodSegments (file_end hs) (hs ++ stack_header ∷ [])
+  segments_good sized =
+      let l = loads_in_table in
+      let first : first_address (loads_in (hs ++ stack_header ∷ [])) ≡ base = ap first_address l ∙ first_is in
+      let n : 64 + 56 * length (hs ++ stack_header ∷ []) ≡ size = omega (arith, sized, length-append hs (stack_header ∷ [])) in
+      record {
+        segments =
+            subst (λ (f : ℕ). All (IsGoodLoad f (file_end hs)) (loads_in (hs ++ stack_header ∷ []))) (sym first)
+            (subst (All (IsGoodLoad base (file_end hs))) (sym l) loads_good);
+        headers = subst (HoldsHeaders (64 + 56 * length (hs ++ stack_header ∷ []))) (sym l) (subst (λ (m : ℕ). HoldsHeaders m hs) (sym n) holds_headers);
+        thread_blocks =
+            in_table (λ (h : ProgramHeader). h.p_type ≡ 7 → IsGoodThreadBlock (first_address (loads_in (hs ++ stack_header ∷ []))) h)
+            (λ h g e. absurd (omega (arith, e, g.type_))) (λ e. absurd (omega (arith, e)));
+        stacks =
+            in_table (λ (h : ProgramHeader). h.p_type ≡ 0x6474e551 → IsGoodStack h)
+            (λ h g e. absurd (omega (arith, e, g.type_))) (λ e. good_stack);
+      }
+
+  no_page_shared : AllPairs ShareNoPage hs
+  no_page_shared i j d low high k a b =
+      let r = own.rising i j d low high in
+      let p = (own.each j d high).page in
+      omega (arith, a, b, r, p)
+
+  image_header : (entry count n : ℕ) → 64 + 56 * count ≤ n → IsImageHeader n (own_file_header entry count)
+  image_header entry count n inside = record {
+    ident = refl;
+    type_ = refl;
+    machine = refl;
+    version = refl;
+    program_headers = refl;
+    flags = refl;
+    header_size = refl;
+    program_header_size = refl;
+    section_header_size = refl;
+    no_sections = refl;
+    no_section_count = refl;
+    no_section_names = refl;
+    inside = inside;
+  }
+
+  -- what is read of the file
+  module _ (image : List ℕ) (entry count : ℕ) (byte : ℕ → ℕ) (file : IsOwnFile image entry count base size hs byte) where
+    pub loads_are : loads image ≡ hs
+    loads_are = ap loads_in file.table ∙ loads_in_table
+
+    pub own_no_thread_block : thread_blocks image ≡ []
+    own_no_thread_block = ap (filter is_thread_block) file.table ∙ no_blocks_in_table
+
+    pub own_entry_is : (file_header image).e_entry ≡ entry
+    own_entry_is = ap (λ (h : FileHeader). h.e_entry) file.header
+
+    pub own_headers_thing : headers_thing image ≡ record { at = base; size = size; align = 1; rights = 4; in_file = true }
+    own_headers_thing =
+        let at : first_address (loads image) ≡ base = ap first_address loads_are ∙ first_is in
+        let long : headers_size image ≡ size = ap (λ (h : FileHeader). 64 + 56 * h.e_phnum) file.header ∙ sym file.size_is in
+        λ i. record { at = at i; size = long i; align = 1; rights = 4; in_file = true }
+
+    pub own_is_image : IsImage image
+    own_is_image =
+        let l = file.len in
+        let s = file.size_is in
+        let g = file.long in
+        let c = file.counted in
+        record {
+          header = record {
+            long = omega (arith, l, s, g);
+            header = subst (IsImageHeader (length image)) (sym file.header) (image_header entry count (length image) (omega (arith, l, s, g)));
+          };
+          order = subst IsInOrder (sym file.table) table_in_order;
+          segments =
+              subst (AreGoodSegments (length image)) (sym file.table)
+              (subst (λ (n : ℕ). AreGoodSegments n (hs ++ stack_header ∷ [])) (sym l) (segments_good (omega (arith, s, c))));
+          pages = subst (AllPairs ShareNoPage) (sym loads_are) no_page_shared;
+        }

@@ -1,0 +1,110 @@
+-- A NOBITS piece wants 0 everywhere: it has no bytes of its input, and no relocation's field lies in it.
+use Rattle.std.proofs.Common.{◌≡◌, ◌==◌, ℕ, ◌+◌, ◌&&◌, Bool, true, false, cond, List, [], refl, sym, ◌∙◌, ap, subst}
+use Rattle.std.specs.Prelude.{◌≢◌, All, Contains, Option, Some, None, find, nat_le, nat_lt, slice_index, unwrap_or}
+use Rattle.std.specs.List.{slice_get}
+use Rattle.std.specs.Option.{option_and_then}
+use Rattle.std.proofs.lemmas.Bool.{and_parts, eqb-true, false_from_ne_true, not-false, or_right}
+use Rattle.std.proofs.lemmas.List.Elements.{All-contains}
+use Rattle.std.proofs.lemmas.Option.{get_or_from_slice_get, slice_get_within}
+use Rattle.elf_model.specs.Loading.{AreObjects, LoadedObject}
+use Rattle.elf_model.specs.ObjectFile.{IsObject, IsRelaSection, bytes_in_file, contents, has_no_bytes, null_section, section, sections}
+use Rattle.elf_model.specs.OwnLayout.{own_placed, placed_has_bytes}
+use Rattle.elf_model.specs.Pieces.{Piece, is_nobits, piece_of, pieces}
+use Rattle.elf_model.specs.Placement.{Placed}
+use Rattle.elf_model.specs.Relocation.{Relocation, is_in_field, relocations, width_of}
+use Rattle.elf_model.specs.Resolution.{sections_of_object}
+use Rattle.elf_model.specs.WantedBytes.{byte_or_field, wanted_byte}
+use Rattle.elf_model.specs.declared.records.SectionHeader.{SectionHeader}
+use Rattle.elf_model.proofs.Finding.{find-none}
+use Rattle.elf_model.proofs.Listed.{All-from_contains, Contains-from_map}
+use Rattle.elf_model.proofs.Places.{AreOwnPlaced, at_own_address}
+use Rattle.elf_model.proofs.Sectioned.{pieces-each, relocations-each}
+
+-- a piece that is NOBITS has no bytes of its input
+abbrev IsBare : Piece → Type 0
+IsBare p = is_nobits p.header ≡ true → p.bytes ≡ []
+
+no_contents : (b : Bool) (xs : List ℕ) → b ≡ true → unwrap_or (cond b None (Some xs)) [] ≡ []
+no_contents b xs e = rw e refl
+
+bare_section : (k : ℕ) (bytes : List ℕ) (i : ℕ) (h : SectionHeader) → slice_get (sections bytes) i ≡ Some h → IsBare (piece_of k bytes i h)
+bare_section k bytes i h there nobits =
+    ap (λ (o : Option SectionHeader). unwrap_or (option_and_then (bytes_in_file bytes) o) []) there
+    ∙ no_contents (has_no_bytes h) (contents bytes h) (or_right (h.sh_type == 0) (h.sh_type == 8) nobits)
+
+bare_pieces : (objects : List LoadedObject) → All IsBare (pieces objects)
+bare_pieces objects = pieces-each IsBare objects (λ k o there i h within. bare_section k o.bytes i h within)
+
+-- the header of section i of object k
+abbrev header_at : List LoadedObject → ℕ → ℕ → SectionHeader
+header_at objects k i = section (sections_of_object (slice_get objects k)) i
+
+header_in : (objects : List LoadedObject) (k : ℕ) (o : LoadedObject) → slice_get objects k ≡ Some o → (i : ℕ) → header_at objects k i ≡ section (sections o.bytes) i
+header_in objects k o there i = ap (λ (x : Option LoadedObject). section (sections_of_object x) i) there
+
+-- a piece has the header of its section
+pub piece_headers : (objects : List LoadedObject) → All (λ p. header_at objects p.object p.section ≡ p.header) (pieces objects)
+piece_headers objects =
+    pieces-each (λ (p : Piece). header_at objects p.object p.section ≡ p.header) objects (λ k o there i h within.
+    header_in objects k o there i ∙ get_or_from_slice_get (sections o.bytes) i h null_section within)
+
+-- no relocation is of a NOBITS section
+object_at : (objects : List LoadedObject) → AreObjects objects → (k : ℕ) (o : LoadedObject) → slice_get objects k ≡ Some o → IsObject o.bytes
+object_at objects good k o there =
+    All-contains (λ (x : LoadedObject). IsObject x.bytes) objects o good
+    (k, slice_get_within objects k o there, get_or_from_slice_get objects k o o there)
+
+relocated_section :
+    (bytes : List ℕ) → IsObject bytes → (h : SectionHeader) → Contains (sections bytes) h → h.sh_type ≡ 4 →
+    (section (sections bytes) h.sh_info).sh_type ≢ 8
+relocated_section bytes good h there rela =
+    (All-contains (λ (s : SectionHeader). s.sh_type ≡ 4 → IsRelaSection (sections bytes) s) (sections bytes) h good.relas.tables.relas there rela).relocates.not_nobits
+
+relocation_headers : (objects : List LoadedObject) → AreObjects objects → All (λ r. (header_at objects r.object r.section).sh_type ≢ 8) (relocations objects)
+relocation_headers objects good =
+    relocations-each (λ (r : Relocation). (header_at objects r.object r.section).sh_type ≢ 8) objects (λ k o there h within rela r.
+    subst (λ (g : SectionHeader). g.sh_type ≢ 8) (sym (header_in objects k o there h.sh_info))
+    (relocated_section o.bytes (object_at objects good k o there) h within rela))
+
+-- a field in a piece is one of the piece's section
+own_section : (p : Piece) (k : ℕ) (r : Relocation) → is_in_field p.object p.section k r ≡ true → (r.object ≡ p.object) × (r.section ≡ p.section)
+own_section p k r e =
+    let numbers = r.object == p.object && r.section == p.section in
+    let low = nat_le r.entry.r_offset k in
+    let front = and_parts (numbers && low) (nat_lt k (r.entry.r_offset + width_of r)) e in
+    let own = and_parts numbers low front.0 in
+    let both = and_parts (r.object == p.object) (r.section == p.section) own.0 in
+    (eqb-true r.object p.object both.0, eqb-true r.section p.section both.1)
+
+module _ (objects : List LoadedObject) (good : AreObjects objects) where
+  -- so no field lies in a NOBITS piece
+  outside :
+      (p : Piece) (k : ℕ) → Contains (pieces objects) p → is_nobits p.header ≡ true → (r : Relocation) →
+      Contains (relocations objects) r → is_in_field p.object p.section k r ≡ false
+  outside p k there nobits r c =
+      false_from_ne_true (is_in_field p.object p.section k r) (λ e.
+      let own = own_section p k r e in
+      let same : header_at objects r.object r.section ≡ p.header =
+      ap (λ (n : ℕ). header_at objects n r.section) own.0
+      ∙ (ap (header_at objects p.object) own.1
+      ∙ All-contains (λ (q : Piece). header_at objects q.object q.section ≡ q.header) (pieces objects) p (piece_headers objects) there) in
+      let kind = All-contains (λ (s : Relocation). (header_at objects s.object s.section).sh_type ≢ 8) (relocations objects) r (relocation_headers objects good) c in
+      absurd (kind (ap (λ (h : SectionHeader). h.sh_type) same ∙ eqb-true p.header.sh_type 8 nobits)))
+
+  wants_zero :
+      (ps : List Placed) (p : Piece) (k : ℕ) → Contains (pieces objects) p → is_nobits p.header ≡ true →
+      wanted_byte objects ps p k ≡ 0
+  wants_zero ps p k there nobits =
+      let none : find (is_in_field p.object p.section k) (relocations objects) ≡ None =
+      find-none (is_in_field p.object p.section k) (relocations objects)
+      (All-from_contains (λ (r : Relocation). is_in_field p.object p.section k r ≡ false) (relocations objects) (outside p k there nobits)) in
+      ap (byte_or_field objects ps p k) none
+      ∙ ap (λ (xs : List ℕ). slice_index xs k) (All-contains IsBare (pieces objects) p (bare_pieces objects) there nobits)
+
+  -- of the own layout's pieces those without bytes in the file
+  pub own_wants_zero :
+      (base : ℕ) → AreOwnPlaced base objects → (ps : List Placed) (q : Placed) (k : ℕ) → Contains (own_placed base objects) q →
+      placed_has_bytes q ≡ false → wanted_byte objects ps q.piece k ≡ 0
+  own_wants_zero base stand ps q k there e =
+      let i = Contains-from_map (at_own_address base objects) (pieces objects) q (stand.all q there) in
+      wants_zero ps q.piece k (subst (λ (r : Placed). Contains (pieces objects) r.piece) i.is i.there) (not-false (is_nobits q.piece.header) e)

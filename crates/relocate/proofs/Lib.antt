@@ -1,0 +1,10 @@
+pub mod FieldOrder
+pub mod Fitted
+pub mod Judged
+pub mod KindRows
+pub mod KindWidths
+pub mod ObjectFields
+pub mod Patched
+pub mod Rows
+pub mod Spelled
+pub mod Wanted

@@ -1,0 +1,27 @@
+use Rattle.std.proofs.Common.{subst, sym, ◌∙◌}
+use Rattle.std.specs.Prelude.{All, AllPairs}
+use Rattle.std.proofs.lemmas.Bool.{false≢true}
+use Rattle.elf_model.specs.Relocation.{relocations_from}
+use Rattle.relocate.proofs.ObjectFields.{apart_of_fields, fields_of_apart, own_object, some_fields}
+use Rattle.relocate.specs.Fields.{AreApart, IsSome}
+use Rattle.relocate.proofs.lawful.judge_object.Goals as goal
+
+pub are_apart-requires : goal.are_apart-requires
+are_apart-requires c =
+    subst (All IsSome) (sym c.in_ok-fields.ensures.fields)
+    (some_fields c.args.resolved.now (relocations_from c.args.number c.args.object.now) c.in_ok-fields.ensures.lawful)
+
+pub returns-then-not-branch-clause-fault : goal.returns-then-not-branch-clause-fault
+returns-then-not-branch-clause-fault c = λ pairs.
+    let n = c.args.number in
+    let b = c.args.object.now in
+    let apart = fields_of_apart n (relocations_from n b) (own_object n b) pairs in
+    false≢true (sym c.if-not-branch.true ∙ c.in_ok-are_apart.ensures.1 (subst (AllPairs AreApart) (sym c.in_ok-fields.ensures.fields) apart))
+
+pub returns-clause-lawful : goal.returns-clause-lawful
+returns-clause-lawful c = record {
+  each = c.in_ok-fields.ensures.lawful;
+  apart =
+      apart_of_fields (relocations_from c.args.number c.args.object.now)
+      (subst (AllPairs AreApart) c.in_ok-fields.ensures.fields (c.in_ok-are_apart.ensures.0 c.if-not-branch.false));
+}

@@ -1,0 +1,31 @@
+-- The fields of an object's relocations, as ranges of bytes of its sections.
+use Rattle.std.specs.Prelude.{◌≡◌, ℕ, ◌+◌, ◌<◌, ◌≤◌, ◌⊎◌, List, length, slice_index_or}
+use Rattle.elf_model.specs.Relocation.{Relocation, width_of}
+use Rattle.relocate.specs.declared.fields.Field.{Field}
+
+-- the field of a relocation, within its object
+abbrev pub field_of : Relocation → Field
+field_of r = record { section = r.section; start = r.entry.r_offset; end = r.entry.r_offset + width_of r }
+
+-- a field has a byte
+abbrev pub IsSome : Field → Type 0
+IsSome f = f.start < f.end
+
+-- no byte of a section lies in both fields
+abbrev pub AreApart : Field → Field → Type 0
+AreApart f g = f.section ≡ g.section → (k : ℕ) → f.start ≤ k → k < f.end → g.start ≤ k → k < g.end → ⊥
+
+-- a field ends before the other begins, or lies in an earlier section
+abbrev pub IsBefore : Field → Field → Type 0
+IsBefore f g = (f.section < g.section) ⊎ ((f.section ≡ g.section) × (f.end ≤ g.start))
+
+-- each field ends before the next one begins
+abbrev pub Rise : List Field → Type 0
+Rise xs = (k : ℕ) (d : Field) → k + 1 < length xs → IsBefore (slice_index_or xs k d) (slice_index_or xs (k + 1) d)
+
+-- each field begins where the one in front of it begins, or behind
+abbrev pub IsBehind : Field → Field → Type 0
+IsBehind f g = (f.section ≤ g.section) × (f.section ≡ g.section → f.start ≤ g.start)
+
+abbrev pub IsOrdered : List Field → Type 0
+IsOrdered xs = (k : ℕ) (d : Field) → k + 1 < length xs → IsBehind (slice_index_or xs k d) (slice_index_or xs (k + 1) d)

@@ -1,0 +1,5 @@
+pub mod Fields
+pub mod Kinds
+pub mod Patches
+pub mod References
+pub mod Values

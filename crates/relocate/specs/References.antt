@@ -1,0 +1,58 @@
+-- What is asked of relocations, and why they are refused.
+use Rattle.std.specs.Prelude.{◌≡◌, ◌==◌, ℕ, false, true, cond, List, Option, None, Some, All, AllPairs, Any, IsSomeAnd, option_map}
+use Rattle.std.specs.List.{slice_get}
+use Rattle.elf_model.specs.Causes.{IsUndefinedName}
+use Rattle.elf_model.specs.Loading.{LoadedObject}
+use Rattle.elf_model.specs.ObjectFile.{sections}
+use Rattle.elf_model.specs.Pieces.{is_alloc}
+use Rattle.elf_model.specs.Relocation.{AreFieldsApart, IsFieldInside, IsLawfulRelocation, RefersToDropped, Relocation, relocation_kind, relocations}
+use Rattle.elf_model.specs.Resolution.{binding, is_undefined}
+use Rattle.elf_model.specs.declared.faults.LinkError.{LinkError}
+use Rattle.elf_model.specs.declared.faults.LinkError.TheVariants as error
+use Rattle.elf_model.specs.declared.records.SectionHeader.{SectionHeader}
+use Rattle.elf_model.specs.declared.records.Symbol.{Symbol}
+
+-- object number k of the objects has these bytes
+abbrev pub IsObjectAt : List LoadedObject → ℕ → List ℕ → Type 0
+IsObjectAt objects k bytes = option_map (λ o. o.bytes) (slice_get objects k) ≡ Some bytes
+
+-- the section of an object in which a symbol of it is defined
+abbrev pub section_in : List ℕ → Symbol → Option SectionHeader
+section_in bytes s = cond (is_undefined s) None (slice_get (sections bytes) s.st_shndx)
+
+-- a LOCAL symbol of an object stands in a section that isn't kept
+abbrev pub StandsInDropped : List ℕ → Symbol → Type 0
+StandsInDropped bytes s = ((binding s == 0) ≡ true) × IsSomeAnd (section_in bytes s) (λ h. is_alloc h ≡ false)
+
+-- what is asked of relocations: each is lawful, and their fields are apart
+pub record AreLawful (objects : List LoadedObject) (rs : List Relocation) : Type 0 where
+  pub each : All (IsLawfulRelocation objects) rs
+  pub apart : AllPairs AreFieldsApart rs
+
+-- the refusal of an undefined name, but for memory
+abbrev pub IsNamedUndefined : List ℕ → LinkError → Type 0
+IsNamedUndefined name error.Memory = Unit {0}
+IsNamedUndefined name (error.Undefined n) = n.items ≡ name
+IsNamedUndefined name _ = ⊥
+
+-- why one relocation isn't lawful
+abbrev pub RelocationFails : List LoadedObject → Relocation → LinkError → Type 0
+RelocationFails objects r error.Memory = Unit {0}
+RelocationFails objects r (error.Undefined name) = IsUndefinedName name.items objects r
+RelocationFails objects r error.RefToDropped = RefersToDropped objects r.symbol
+RelocationFails objects r error.RelocKind = relocation_kind r ≡ None
+RelocationFails objects r error.FieldOutside = ¬ IsFieldInside r
+RelocationFails objects r _ = ⊥
+
+-- why relocations aren't lawful
+abbrev pub RelocationsFail : List LoadedObject → List Relocation → LinkError → Type 0
+RelocationsFail objects rs error.Memory = Unit {0}
+RelocationsFail objects rs (error.Undefined name) = Any (IsUndefinedName name.items objects) rs
+RelocationsFail objects rs error.RefToDropped = Any (λ r. RefersToDropped objects r.symbol) rs
+RelocationsFail objects rs error.RelocKind = Any (λ r. relocation_kind r ≡ None) rs
+RelocationsFail objects rs error.FieldOutside = Any (λ r. ¬ IsFieldInside r) rs
+RelocationsFail objects rs error.OverlappingFields = ¬ AllPairs AreFieldsApart rs
+RelocationsFail objects rs _ = ⊥
+
+abbrev pub ReferencesFail : List LoadedObject → LinkError → Type 0
+ReferencesFail objects = RelocationsFail objects (relocations objects)

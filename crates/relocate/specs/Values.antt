@@ -1,0 +1,37 @@
+-- The values that relocations want in a layout, as patches, and why there are none.
+use Rattle.std.specs.Prelude.{◌≡◌, ◌==◌, ◌<◌, ℕ, Bool, List, All, filter, length, map, slice_index_or}
+use Rattle.std.specs.Global.{Vec}
+use Rattle.elf_model.specs.Loading.{LoadedObject}
+use Rattle.elf_model.specs.OwnLayout.{own_in_load_order}
+use Rattle.elf_model.specs.Placement.{Placed}
+use Rattle.elf_model.specs.Relocation.{Fits, Relocation, value_of, width_of}
+use Rattle.elf_model.specs.declared.faults.LinkError.{LinkError}
+use Rattle.elf_model.specs.declared.faults.LinkError.TheVariants as error
+use Rattle.layout.specs.Placements.{Basis}
+use Rattle.relocate.specs.declared.patch.Patch.{Patch}
+
+-- the pieces at their places, in load order
+abbrev pub placed_in : Basis → List Placed
+placed_in p = own_in_load_order p.base p.objects
+
+-- the value that a relocation wants, over its field
+abbrev pub patch_of : List LoadedObject → List Placed → Relocation → Patch
+patch_of objects ps r = record { at = r.entry.r_offset; value = value_of objects ps r; width = width_of r }
+
+-- why relocations have no patches
+abbrev pub FittingFails : List LoadedObject → List Placed → List Relocation → LinkError → Type 0
+FittingFails objects ps rs error.Memory = Unit {0}
+FittingFails objects ps rs error.Overflow = ¬ All (Fits objects ps) rs
+FittingFails objects ps rs _ = ⊥
+
+-- the patches of a list of relocations by the numbers of the sections that they relocate
+abbrev pub is_in_section : ℕ → Relocation → Bool
+is_in_section s r = r.section == s
+
+abbrev pub patches_in : List LoadedObject → List Placed → List Relocation → ℕ → List Patch
+patches_in objects ps rs s = map (patch_of objects ps) (filter (is_in_section s) rs)
+
+-- rows of patches, one for each of n sections
+pub record ArePatchRows (objects : List LoadedObject) (ps : List Placed) (rs : List Relocation) (n : ℕ) (rows : List (Vec Patch)) : Type 0 where
+  pub count : length rows ≡ n
+  pub each : (s : ℕ) (d : Vec Patch) → s < n → (slice_index_or rows s d).items ≡ patches_in objects ps rs s

@@ -1,0 +1,48 @@
+//! The fields of an object's relocations, and whether no byte lies in two of them.
+ghost use Rattle.std.specs.Prelude.{◌↔◌, All, AllPairs, IfOk, IsPermutation, IsTrue};
+ghost use Rattle.relocate.specs.Fields.{AreApart, IsBefore, IsOrdered, IsSome, Rise};
+
+use std::alloc::AllocError;
+
+/// A relocation's field: the bytes of a section from number `start` to before number `end`.
+#[derive(Clone, Copy, Debug)]
+pub struct Field {
+    pub section: u64,
+    pub start: u64,
+    pub end: u64,
+}
+
+/// Whether no byte lies in two of an object's fields, none of which is empty. Fields mostly stand in
+/// order already; only where they don't are they sorted, for which memory may be refused.
+pub fn are_apart(fields: Vec<Field>) -> Result<bool, AllocError>
+    requires { All IsSome fields.items }
+    ensures { IfOk result (λ b. IsTrue b ↔ AllPairs AreApart fields.items) }
+{
+    if rise(&fields) {
+        return Ok(true);
+    }
+    let fields = in_order(fields)?;
+    Ok(rise(&fields))
+}
+
+/// The fields in the order of their sections and of their beginnings.
+fn in_order(mut fields: Vec<Field>) -> Result<Vec<Field>, AllocError>
+    ensures same { IfOk result (λ v. IsPermutation fields.items v.items) }
+    ensures ordered { IfOk result (λ v. IsOrdered v.items) }
+{
+    fields.sort_by_key(|f| (f.section, f.start))?;
+    Ok(fields)
+}
+
+/// Whether each field ends before the next one begins.
+fn rise(fields: &[Field]) -> bool
+    ensures { IsTrue result ↔ Rise fields.now }
+{
+    fields.windows(2).all(|w| is_before(&w[0], &w[1]))
+}
+
+fn is_before(f: &Field, g: &Field) -> bool
+    ensures { IsTrue result ↔ IsBefore f.now g.now }
+{
+    f.section < g.section || f.section == g.section && f.end <= g.start
+}

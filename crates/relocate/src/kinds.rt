@@ -1,0 +1,172 @@
+//! The kinds of relocations: the width of their fields, how their values are made, and which values fit
+//! (AMD64 psABI 4.4, "Relocation Types"; the ranges of all kinds but 32 and 32S are the profile's).
+ghost use Rattle.std.specs.Prelude.{◌≡◌, ◌↔◌, ◌+◌, ◌-◌, ◌*◌, ◌%◌, ◌<◌, ◌≤◌, ◌^◌, ◌-ℤ◌, ◌+ℤ◌, ◌==◌, ℕ, IfSome, IsTrue, find, option_copied, option_map, pos};
+ghost use Rattle.elf_model.specs.Relocation as relocation;
+ghost use Rattle.relocate.specs.Kinds.{Reduces, formula_view, kind_view, range_view};
+
+/// What a value is made of: S the symbol's value, A the addend, P the field's address, G the slot's offset
+/// in the GOT, GOT its address, Z the symbol's size, T the offset of S from the thread pointer.
+#[derive(Clone, Copy, Debug)]
+pub enum Formula {
+    /// S + A
+    Symbol,
+    /// S + A - P
+    SymbolFromPlace,
+    /// S + A - GOT
+    SymbolFromGot,
+    /// G + A
+    Slot,
+    /// G + GOT + A - P
+    SlotFromPlace,
+    /// GOT + A - P
+    GotFromPlace,
+    /// Z + A
+    Size,
+    /// T + A
+    ThreadOffset,
+    /// G + GOT + A - P for the slot of a thread offset
+    ThreadSlotFromPlace,
+}
+
+/// Which values of 64 bits fit a field: all; those that are a signed number of the field's bits; an
+/// unsigned one; either.
+#[derive(Clone, Copy, Debug)]
+pub enum Range {
+    Always,
+    Signed,
+    Unsigned,
+    Either,
+}
+
+/// A kind of relocations: its number, its field's width in bytes (1, 2, 4 or 8), what its value is made of
+/// and which values fit.
+#[derive(Clone, Copy, Debug)]
+pub struct Kind {
+    pub number: u32,
+    pub width: u8,
+    pub formula: Formula,
+    pub range: Range,
+}
+
+type Row = (u32, u8, Formula, Range);
+
+/// The number, width, formula and range of each kind.
+static KINDS: [Row; 24] = [
+    (1, 8, Formula::Symbol, Range::Always),
+    (2, 4, Formula::SymbolFromPlace, Range::Signed),
+    (3, 4, Formula::Slot, Range::Signed),
+    (4, 4, Formula::SymbolFromPlace, Range::Signed),
+    (9, 4, Formula::SlotFromPlace, Range::Signed),
+    (10, 4, Formula::Symbol, Range::Unsigned),
+    (11, 4, Formula::Symbol, Range::Signed),
+    (12, 2, Formula::Symbol, Range::Either),
+    (13, 2, Formula::SymbolFromPlace, Range::Signed),
+    (14, 1, Formula::Symbol, Range::Either),
+    (15, 1, Formula::SymbolFromPlace, Range::Signed),
+    (18, 8, Formula::ThreadOffset, Range::Always),
+    (22, 4, Formula::ThreadSlotFromPlace, Range::Signed),
+    (23, 4, Formula::ThreadOffset, Range::Signed),
+    (24, 8, Formula::SymbolFromPlace, Range::Always),
+    (25, 8, Formula::SymbolFromGot, Range::Always),
+    (26, 4, Formula::GotFromPlace, Range::Signed),
+    (27, 8, Formula::Slot, Range::Always),
+    (28, 8, Formula::SlotFromPlace, Range::Always),
+    (29, 8, Formula::GotFromPlace, Range::Always),
+    (32, 4, Formula::Size, Range::Unsigned),
+    (33, 8, Formula::Size, Range::Always),
+    (41, 4, Formula::SlotFromPlace, Range::Signed),
+    (42, 4, Formula::SlotFromPlace, Range::Signed),
+];
+
+/// The kind of a type; None where the table has none, as for type 0, NONE, which relocates nothing.
+pub fn kind_of(number: u32) -> Option<Kind>
+    ensures kind { option_map kind_view result ≡ relocation.kind_of number }
+    ensures width { IfSome result (λ k. (0 < k.width) × (k.width ≤ 8)) }
+{
+    let row = row_of(&KINDS, number)?;
+    Some(Kind {
+        number: row.0,
+        width: row.1,
+        formula: row.2,
+        range: row.3,
+    })
+}
+
+/// The first row of a number.
+fn row_of<'b>(rows: &'b [Row], number: u32) -> Option<&'b Row>
+    ensures { option_copied result ≡ find (λ row. row.0 == number) rows.entry.now }
+{
+    rows.iter().find(|row| row.0 == number)
+}
+
+/// What the letters of the formulas stand for, of numbers modulo 2 to the 64. There is no GOT and no
+/// thread storage, so the letters that speak of these stand for 0.
+#[derive(Clone, Copy, Debug)]
+pub struct Terms {
+    pub symbol: u64,
+    pub addend: i64,
+    pub place: u64,
+    pub size: u64,
+}
+
+/// The value of a relocation, modulo 2 to the 64, from the terms that some numbers leave.
+pub fn value(formula: Formula, terms: &Terms) -> u64
+    ensures { (x : relocation.Terms) → Reduces terms.now x → result ≡ relocation.modulo_64 (relocation.whole_value (formula_view formula) x) }
+{
+    match formula {
+        Formula::Symbol => sum(terms.symbol, terms.addend),
+        Formula::SymbolFromPlace => difference(terms.symbol, terms.addend, terms.place),
+        Formula::SymbolFromGot => difference(terms.symbol, terms.addend, 0),
+        Formula::Slot => sum(0, terms.addend),
+        Formula::SlotFromPlace => difference(0, terms.addend, terms.place),
+        Formula::GotFromPlace => difference(0, terms.addend, terms.place),
+        Formula::Size => sum(terms.size, terms.addend),
+        Formula::ThreadOffset => sum(0, terms.addend),
+        Formula::ThreadSlotFromPlace => difference(0, terms.addend, terms.place),
+    }
+}
+
+fn sum(n: u64, addend: i64) -> u64
+    ensures { (m : ℕ) → n ≡ m % 2 ^ 64 → result ≡ relocation.modulo_64 (pos m +ℤ addend) }
+{
+    n.wrapping_add(addend.cast_unsigned())
+}
+
+fn difference(n: u64, addend: i64, place: u64) -> u64
+    ensures { (m p : ℕ) → n ≡ m % 2 ^ 64 → place ≡ p % 2 ^ 64 → result ≡ relocation.modulo_64 ((pos m +ℤ addend) -ℤ pos p) }
+{
+    n.wrapping_add(addend.cast_unsigned()).wrapping_sub(place)
+}
+
+/// Whether a value of 64 bits fits a field of so many bytes.
+pub fn fits(range: Range, width: u8, value: u64) -> bool
+    requires some { 0 < width }
+    requires few { width ≤ 8 }
+    ensures { IsTrue result ↔ relocation.IsInRange (range_view range) (8 * width) value }
+{
+    let bits = 8 * width as u32;
+    match range {
+        Range::Always => true,
+        Range::Signed => is_signed(bits, value),
+        Range::Unsigned => is_unsigned(bits, value),
+        Range::Either => is_unsigned(bits, value) || is_signed(bits, value),
+    }
+}
+
+/// Whether a value of 64 bits is a signed number of so many bits.
+fn is_signed(bits: u32, value: u64) -> bool
+    requires some { 0 < bits }
+    requires few { bits ≤ 64 }
+    ensures { IsTrue result ↔ relocation.IsSigned bits value }
+{
+    let half = 1u64 << (bits - 1);
+    value < half || value >= half.wrapping_neg()
+}
+
+/// Whether a value of 64 bits is an unsigned number of so many bits.
+fn is_unsigned(bits: u32, value: u64) -> bool
+    requires { bits ≤ 64 }
+    ensures { IsTrue result ↔ (value < 2 ^ bits) }
+{
+    bits == 64 || value < 1u64 << bits
+}

@@ -1,0 +1,137 @@
+//! Whether the kept relocations of all objects are lawful.
+ghost use Rattle.std.specs.Prelude.{◌≡◌, ◌++◌, All, IfErr, IfOk, OnOk, Some, filter, map};
+ghost use Rattle.std.specs.List.{slice_get};
+ghost use Rattle.elf_model.specs.ObjectFile.{relas_of, section, sections};
+ghost use Rattle.elf_model.specs.Relocation.{AreLawfulRelocations, IsLawfulRelocation, is_some_kind, relocation_of, relocations_from, relocations_in};
+ghost use Rattle.relocate.specs.Fields.{field_of};
+ghost use Rattle.relocate.specs.References.{AreLawful, IsObjectAt, ReferencesFail, RelocationsFail};
+ghost use Rattle.search.specs.Views.{loaded_views};
+
+use crate::fields::{Field, are_apart};
+use crate::judging::lawful_field;
+use crate::symbols::{entries_of, is_kept_rela, is_some_kind, size_at};
+use elf_model::{LinkError, Rela, SectionHeader};
+use elf_read::Object;
+use resolve::Resolved;
+use search::Loaded;
+use std::alloc::Global;
+
+/// Judges the kept relocations of all objects.
+///
+/// # Errors
+///
+/// RelocKind, Undefined, RefToDropped and FieldOutside where one of them isn't lawful, OverlappingFields
+/// where a byte lies in the fields of two, Memory where memory is refused.
+pub fn references(
+    alloc: Global,
+    objects: &[Loaded<'_>],
+    resolved: &Resolved<'_, '_>,
+) -> Result<(), LinkError>
+    requires { resolved.now ≡ loaded_views objects.now }
+    ensures lawful { OnOk result (AreLawfulRelocations (loaded_views objects.now)) }
+    ensures fault { IfErr result (ReferencesFail (loaded_views objects.now)) }
+{
+    for k in 0..objects.len() {
+        judge_object(alloc, resolved, k, &objects[k].object)?;
+    }
+    Ok(())
+}
+
+/// Judges the relocations of the object that has a number. A field of it meets none of another object's.
+fn judge_object(
+    alloc: Global,
+    resolved: &Resolved<'_, '_>,
+    number: usize,
+    object: &Object<'_>,
+) -> Result<(), LinkError>
+    requires { IsObjectAt resolved.now number object.now }
+    ensures lawful { OnOk result (AreLawful resolved.now (relocations_from number object.now)) }
+    ensures fault { IfErr result (RelocationsFail resolved.now (relocations_from number object.now)) }
+{
+    let fields = lawful_fields(alloc, resolved, number, object)?;
+    if !are_apart(fields)? {
+        return Err(LinkError::OverlappingFields);
+    }
+    Ok(())
+}
+
+/// The fields of an object's relocations, each of which is lawful.
+fn lawful_fields(
+    alloc: Global,
+    resolved: &Resolved<'_, '_>,
+    number: usize,
+    object: &Object<'_>,
+) -> Result<Vec<Field>, LinkError>
+    requires { IsObjectAt resolved.now number object.now }
+    ensures fields { IfOk result (λ v. v.items ≡ map field_of (relocations_from number object.now)) }
+    ensures lawful { OnOk result (All (IsLawfulRelocation resolved.now) (relocations_from number object.now)) }
+    ensures fault { IfErr result (RelocationsFail resolved.now (relocations_from number object.now)) }
+{
+    let mut fields = Vec::new(alloc);
+    let headers = object.sections();
+    for i in 0..headers.len() {
+        let header = headers[i];
+        if !is_kept_rela(object, &header) {
+            continue;
+        }
+        add_section(alloc, resolved, number, object, i, &header, &mut fields)?;
+    }
+    Ok(fields)
+}
+
+/// Adds the fields of RELA section `i`, which has the header.
+fn add_section(
+    alloc: Global,
+    resolved: &Resolved<'_, '_>,
+    number: usize,
+    object: &Object<'_>,
+    i: usize,
+    header: &SectionHeader,
+    fields: &mut Vec<Field>,
+) -> Result<(), LinkError>
+    requires here { IsObjectAt resolved.now number object.now }
+    requires there { slice_get (sections object.now) i ≡ Some header.now }
+    requires rela { header.now.sh_type ≡ 4 }
+    ensures fields { OnOk result (fields.new.items ≡ fields.old.items ++ map field_of (relocations_in number object.now header.now)) }
+    ensures lawful { OnOk result (All (IsLawfulRelocation resolved.now) (relocations_in number object.now header.now)) }
+    ensures fault { IfErr result (RelocationsFail resolved.now (relocations_in number object.now header.now)) }
+{
+    let entries = entries_of(object, i, header);
+    add_fields(
+        alloc,
+        resolved,
+        number,
+        object,
+        header.sh_info as u64,
+        entries,
+        fields,
+    )
+}
+
+/// Adds the fields of entries that relocate the section `target`.
+fn add_fields(
+    alloc: Global,
+    resolved: &Resolved<'_, '_>,
+    number: usize,
+    object: &Object<'_>,
+    target: u64,
+    entries: &[Rela],
+    fields: &mut Vec<Field>,
+) -> Result<(), LinkError>
+    requires { IsObjectAt resolved.now number object.now }
+    ensures fields { OnOk result (fields.new.items ≡ fields.old.items ++ map field_of (map (relocation_of number object.now target) (filter is_some_kind entries.now))) }
+    ensures lawful { OnOk result (All (IsLawfulRelocation resolved.now) (map (relocation_of number object.now target) (filter is_some_kind entries.now))) }
+    ensures fault { IfErr result (RelocationsFail resolved.now (map (relocation_of number object.now target) (filter is_some_kind entries.now))) }
+{
+    let size = size_at(object, target as usize);
+    fields.reserve(entries.len())?;
+    for i in 0..entries.len() {
+        let entry = entries[i];
+        if !is_some_kind(&entry) {
+            continue;
+        }
+        let field = lawful_field(alloc, resolved, number, object, target, size, &entry)?;
+        fields.push(field)?;
+    }
+    Ok(())
+}

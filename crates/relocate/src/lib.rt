@@ -1,0 +1,16 @@
+//! Relocations (AMD64 psABI 4.4): whether the kept ones of the loaded objects are lawful, the values
+//! that they want at the linker's own places, and the writing of these into the bytes of a section.
+#![tactic(auto)]
+
+mod collecting;
+mod fields;
+mod judging;
+mod kinds;
+mod lawful;
+mod patch;
+mod symbols;
+mod values;
+
+pub use elf_model::LinkError;
+pub use kinds::{Formula, Kind, Range, Terms, fits, kind_of, value};
+pub use lawful::references;

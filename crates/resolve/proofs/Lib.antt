@@ -1,0 +1,9 @@
+pub mod Definitions
+pub mod Gathered
+pub mod Meanings
+pub mod NamePlaces
+pub mod PlaceRows
+pub mod Rests
+pub mod SoundWalk
+pub mod Twins
+pub mod Walks

@@ -1,0 +1,6 @@
+pub mod Defined
+pub mod Meaning
+pub mod Places
+pub mod Refusals
+pub mod Sound
+pub mod Views

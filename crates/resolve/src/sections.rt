@@ -1,0 +1,57 @@
+//! The sections in which symbols are defined.
+ghost use Rattle.std.specs.Prelude.{◌≡◌};
+ghost use Rattle.std.specs.List.{slice_get};
+ghost use Rattle.elf_model.specs.Pieces.{is_alloc, is_thread_local};
+ghost use Rattle.elf_model.specs.Resolution.{is_in_thread_section, sections_of_object};
+ghost use Rattle.search.specs.Views.{loaded_views};
+ghost use Rattle.resolve.specs.Sound.{section_by};
+ghost use Rattle.resolve.specs.Views.{symbol_view};
+
+use crate::symbols::{SymbolOf, is_undefined};
+use elf_model::{SHF_ALLOC, SHF_TLS, SectionHeader, Symbol};
+use search::Loaded;
+
+/// The sections of the object that has a number; none where there is no such object.
+fn sections_at<'b>(objects: &'b [Loaded<'_>], number: usize) -> &'b [SectionHeader]
+    ensures { result.now ≡ sections_of_object (slice_get (loaded_views objects.entry.now) number) }
+{
+    match objects.get(number) {
+        Some(loaded) => loaded.object.sections(),
+        None => &[],
+    }
+}
+
+/// The section in which a symbol of the object that has a number is defined; None where it is undefined,
+/// absolute or common.
+pub fn section_of(objects: &[Loaded<'_>], number: usize, entry: &Symbol) -> Option<SectionHeader>
+    ensures { result ≡ section_by (loaded_views objects.now) number entry.now }
+{
+    if is_undefined(entry) {
+        return None;
+    }
+    let sections = sections_at(objects, number);
+    sections.get(entry.st_shndx as usize).copied()
+}
+
+/// Whether a section is kept.
+pub fn is_alloc(section: &SectionHeader) -> bool
+    ensures { result ≡ is_alloc section.now }
+{
+    section.sh_flags & SHF_ALLOC != 0
+}
+
+fn is_thread_local(section: &SectionHeader) -> bool
+    ensures { result ≡ is_thread_local section.now }
+{
+    section.sh_flags & SHF_TLS != 0
+}
+
+/// Whether a symbol stands in a section with SHF_TLS.
+pub fn is_in_thread_section(objects: &[Loaded<'_>], symbol: &SymbolOf<'_>) -> bool
+    ensures { result ≡ is_in_thread_section (loaded_views objects.now) (symbol_view symbol.now) }
+{
+    match section_of(objects, symbol.object as usize, &symbol.entry) {
+        Some(section) => is_thread_local(&section),
+        None => false,
+    }
+}

@@ -1,0 +1,113 @@
+-- Faults of loading.
+use Rattle.std.proofs.Common.{◌≡◌, ◌≢◌, ℕ, suc, ◌+◌, ◌<◌, Bool, true, false, List, [], ◌∷◌, ◌++◌, length, get_or, drop, drop-cons, refl, ap, ◌∙◌, subst, sym, arith, append_assoc, length-append}
+use Rattle.std.specs.Prelude.{All, Any, IfErr, IsTrue, OnOk, Result, Ok, Err, map}
+use Rattle.std.proofs.Math.Seq.{get_or-append_seam}
+use Rattle.std.proofs.lemmas.List.{get_or-map, length-map, map-append}
+use Rattle.std.proofs.lemmas.List.Elements.{All-map, All-push}
+use Rattle.command.specs.Views.{item_of}
+use Rattle.command.specs.declared.items.Item.{Item}
+use Rattle.elf_model.specs.Command.{Plan}
+use Rattle.elf_model.specs.Files.{File}
+use Rattle.elf_model.specs.Loading.{AreFilesThere, AreObjects, HasFile, LoadedObject, loaded_objects, objects_from}
+use Rattle.elf_model.specs.ObjectFile.{IsObject, ObjFaultStands}
+use Rattle.elf_model.specs.declared.faults.LinkError.{LinkError}
+use Rattle.elf_model.specs.declared.faults.LinkError.TheVariants as error
+use Rattle.elf_model.specs.declared.faults.ObjFault.{ObjFault}
+use Rattle.elf_model.specs.declared.faults.ObjFault.TheVariants as fault
+use Rattle.search.specs.Search.{Becomes, ItemsFail, LoadFails, ReadFails, loaded_item}
+use Rattle.search.specs.Views.{loaded_view, loaded_views}
+use Rattle.search.specs.declared.loading.Loaded.{Loaded}
+
+named : (bytes : List ℕ) (f : ObjFault) (e : LinkError) → e ≡ error.BadObject f → f ≢ fault.Memory → ObjFaultStands bytes f → ReadFails bytes e
+named bytes f e is other s = subst (ReadFails bytes) (sym is) (other, s)
+
+pub read_fails : (bytes : List ℕ) (f : ObjFault) (e : LinkError) → Becomes f e → ObjFaultStands bytes f → ReadFails bytes e
+read_fails bytes fault.Memory e is s = subst (ReadFails bytes) (sym is) tt
+read_fails bytes fault.Truncated e is s = named bytes fault.Truncated e is (λ m. cc) s
+read_fails bytes fault.NotElf64 e is s = named bytes fault.NotElf64 e is (λ m. cc) s
+read_fails bytes fault.NotRelocatable e is s = named bytes fault.NotRelocatable e is (λ m. cc) s
+read_fails bytes fault.WrongMachine e is s = named bytes fault.WrongMachine e is (λ m. cc) s
+read_fails bytes fault.BadSectionTable e is s = named bytes fault.BadSectionTable e is (λ m. cc) s
+read_fails bytes fault.BadSectionRange e is s = named bytes fault.BadSectionRange e is (λ m. cc) s
+read_fails bytes fault.BadString e is s = named bytes fault.BadString e is (λ m. cc) s
+read_fails bytes fault.BadSymbolTable e is s = named bytes fault.BadSymbolTable e is (λ m. cc) s
+read_fails bytes fault.BadRela e is s = named bytes fault.BadRela e is (λ m. cc) s
+read_fails bytes fault.BadGroup e is s = absurd s
+read_fails bytes fault.TooMany e is s = named bytes fault.TooMany e is (λ m. cc) s
+
+-- A fault of one object is one of the objects'.
+pub items_fail :
+    (done rest : List LoadedObject) (o : LoadedObject) (whole : List LoadedObject) (e : LinkError) →
+    done ++ (o ∷ rest) ≡ whole → ReadFails o.bytes e → ItemsFail whole e
+items_fail done rest o whole error.Memory is s = tt
+items_fail done rest o whole (error.BadObject f) is s =
+    let at : get_or (done ++ (o ∷ rest)) (length done) o ≡ o = get_or-append_seam done o rest o in
+    let n = length-append done (o ∷ rest) in
+    (s.0, subst (Any (λ (x : LoadedObject). ObjFaultStands x.bytes f)) is (length done, o, omega (arith, n), at, s.1))
+items_fail done rest o whole _ is s = absurd s
+
+-- One item more.
+pub split_item :
+    (files : List File) (items : List Item) (i : ℕ) (d : Item) → i < length items → (get_or items i d).archive ≡ false →
+    objects_from files i (map item_of (drop i items))
+    ≡ loaded_item files i (item_of (get_or items i d)) ∷ objects_from files (i + 1) (map item_of (drop (i + 1) items))
+split_item files items i d within file =
+    let e : i + 1 ≡ suc i = omega arith in
+    let s = drop-cons items i d within in
+    ap (λ (xs : List Item). objects_from files i (map item_of xs)) s ∙ rw (file, e) refl
+
+pub load_step :
+    (files : List File) (items : List Item) (i : ℕ) (d : Item) (objects new : List Loaded) (object : Loaded) (whole : List LoadedObject) →
+    i < length items → (get_or items i d).archive ≡ false →
+    loaded_view object ≡ loaded_item files i (item_of (get_or items i d)) →
+    new ≡ objects ++ object ∷ [] →
+    loaded_views objects ++ objects_from files i (map item_of (drop i items)) ≡ whole →
+    loaded_views new ++ objects_from files (i + 1) (map item_of (drop (i + 1) items)) ≡ whole
+load_step files items i d objects new object whole within file is grown done =
+    let rest = objects_from files (i + 1) (map item_of (drop (i + 1) items)) in
+    let views : loaded_views new ≡ loaded_views objects ++ loaded_view object ∷ [] =
+    ap loaded_views grown ∙ map-append loaded_view objects (object ∷ []) in
+    ap (λ (v : List LoadedObject). v ++ rest) views
+    ∙ (append_assoc (loaded_views objects) (loaded_view object ∷ []) rest
+    ∙ (ap (λ (o : LoadedObject). loaded_views objects ++ (o ∷ rest)) is
+    ∙ (ap (λ (v : List LoadedObject). loaded_views objects ++ v) (sym (split_item files items i d within file)) ∙ done)))
+
+pub objects_more :
+    (objects new : List Loaded) (object : Loaded) (o : LoadedObject) → loaded_view object ≡ o → new ≡ objects ++ object ∷ [] → IsObject o.bytes →
+    AreObjects (loaded_views objects) → AreObjects (loaded_views new)
+objects_more objects new object o is grown one all =
+    let views : loaded_views new ≡ loaded_views objects ++ loaded_view object ∷ [] =
+    ap loaded_views grown ∙ map-append loaded_view objects (object ∷ []) in
+    subst AreObjects (sym views)
+    (All-push (λ (x : LoadedObject). IsObject x.bytes) (loaded_views objects) (loaded_view object) all
+    (subst (λ (x : LoadedObject). IsObject x.bytes) (sym is) one))
+
+All-unmap : {X Y : Type 0} (P : Y → Type 0) (f : X → Y) (xs : List X) → All P (map f xs) → All (λ x. P (f x)) xs
+All-unmap P f xs all k d within =
+    subst P (get_or-map f xs k d (f d) within) (all k (f d) (let n = length-map xs f in omega (arith, n, within)))
+
+-- The plan's own items, as the definitions see them.
+pub there_iff :
+    (files : List File) (p : Plan) (items : List Item) (b : Bool) → map item_of items ≡ p.items →
+    (IsTrue b → All (λ i. HasFile files (item_of i)) items) × (All (λ i. HasFile files (item_of i)) items → IsTrue b) →
+    (IsTrue b → AreFilesThere files p) × (AreFilesThere files p → IsTrue b)
+there_iff files p items b is all = (
+  λ e. subst (All (HasFile files)) is (All-map (HasFile files) item_of items (all.0 e)),
+  λ there. all.1 (All-unmap (HasFile files) item_of items (subst (All (HasFile files)) (sym is) there)),
+)
+
+-- A fault of the items is one of the plan's.
+pub load_fails : (files : List File) (p : Plan) (e : LinkError) → AreFilesThere files p → ItemsFail (loaded_objects files p) e → LoadFails files p e
+load_fails files p error.Memory there s = tt
+load_fails files p (error.BadObject f) there s = (there, s.0, s.1)
+load_fails files p _ there s = absurd s
+
+pub on_ok : {T E : Type 0} {P : Type 0} (r : Result T E) → P → OnOk r P
+on_ok (Ok x) p = p
+on_ok (Err e) p = tt
+
+pub fail_of_items :
+    {T : Type 0} (files : List File) (p : Plan) (r : Result T LinkError) → AreFilesThere files p → IfErr r (ItemsFail (loaded_objects files p)) →
+    IfErr r (LoadFails files p)
+fail_of_items files p (Ok x) there s = tt
+fail_of_items files p (Err e) there s = load_fails files p e there s

@@ -1,0 +1,10 @@
+-- The loaded objects as the definitions see them.
+use Rattle.std.specs.Prelude.{List, map}
+use Rattle.elf_model.specs.Loading.{LoadedObject}
+use Rattle.search.specs.declared.loading.Loaded.{Loaded}
+
+abbrev pub loaded_view : Loaded → LoadedObject
+loaded_view l = record { bytes = l.object; item = l.item; offset = 0; path = l.path.now }
+
+abbrev pub loaded_views : List Loaded → List LoadedObject
+loaded_views ls = map loaded_view ls

@@ -1,0 +1,120 @@
+//! Which objects a command loads: opens its items and reads them.
+ghost use Rattle.std.specs.Prelude.{◌≡◌, ◌↔◌, ℕ, All, Any, IfErr, IfOk, IsTrue, IsSome, OnOk, is_some, map};
+ghost use Rattle.command.specs.Views.{item_of};
+ghost use Rattle.elf_model.specs.Files.{files_of};
+ghost use Rattle.elf_model.specs.Loading.{AreFilesThere, AreObjects, HasFile, file_named, loaded_objects, objects_from, path_of};
+ghost use Rattle.elf_model.specs.ObjectFile.{IsObject, ObjFaultStands};
+ghost use Rattle.search.specs.Search.{Becomes, ItemsFail, LoadFails, ReadFails, loaded_item};
+ghost use Rattle.search.specs.Views.{loaded_view, loaded_views};
+
+use byteview::View;
+use command::{Item, Plan, file_named, path_of};
+use elf_model::{InputFile, LinkError, ObjFault};
+use elf_read::Object;
+use std::alloc::Global;
+
+/// A loaded object: what its bytes hold, the number of its item in the command and the path of its file.
+#[derive(Drop)]
+pub struct Loaded<'a> {
+    pub object: Object<'a>,
+    pub item: u64,
+    pub path: &'a str,
+}
+
+/// Whether an item that isn't an archive has a file.
+fn has_file(files: &[InputFile], item: &Item<'_>) -> bool
+    ensures { IsTrue result ↔ HasFile (files_of files.now) (item_of item.now) }
+{
+    item.archive || file_named(files, path_of(item)).is_some()
+}
+
+fn have_files(files: &[InputFile], items: &[Item<'_>]) -> bool
+    ensures { IsTrue result ↔ All (λ i. HasFile (files_of files.now) (item_of i)) items.now }
+{
+    items.iter().all(|i| has_file(files, i))
+}
+
+/// Reads an object, with its fault as a link's.
+fn read_object<'a>(alloc: Global, bytes: &'a [u8]) -> Result<Object<'a>, LinkError>
+    ensures exact { IfOk result (λ o. o ≡ bytes.entry.now) }
+    ensures object { OnOk result (IsObject bytes.entry.now) }
+    ensures fault { IfErr result (ReadFails bytes.entry.now) }
+{
+    match Object::read(alloc, View::new(bytes)) {
+        Ok(object) => Ok(object),
+        Err(fault) => Err(link_error(fault)),
+    }
+}
+
+/// An object's fault as a link's.
+fn link_error(fault: ObjFault) -> LinkError
+    ensures { Becomes fault result }
+{
+    match fault {
+        ObjFault::Memory => LinkError::Memory,
+        other => LinkError::BadObject(other),
+    }
+}
+
+/// Reads the object of item `number`, whose file is there.
+fn load_item<'a>(
+    alloc: Global,
+    files: &'a [InputFile],
+    item: &Item<'a>,
+    number: u64,
+) -> Result<Loaded<'a>, LinkError>
+    requires file { IsSome (file_named (files_of files.now) (path_of (item_of item.now))) }
+    ensures exact { IfOk result (λ l. loaded_view l ≡ loaded_item (files_of files.entry.now) number (item_of item.now)) }
+    ensures object { OnOk result (IsObject (loaded_item (files_of files.entry.now) number (item_of item.now)).bytes) }
+    ensures fault { IfErr result (ReadFails (loaded_item (files_of files.entry.now) number (item_of item.now)).bytes) }
+{
+    let path = path_of(item);
+    let Some(bytes) = file_named(files, path) else {
+        unreachable!()
+    };
+    let object = read_object(alloc, bytes)?;
+    Ok(Loaded {
+        object,
+        item: number,
+        path,
+    })
+}
+
+/// Reads the objects of the items, whose files are there, in order.
+fn load_items<'a>(
+    alloc: Global,
+    files: &'a [InputFile],
+    items: &[Item<'a>],
+) -> Result<Vec<Loaded<'a>>, LinkError>
+    requires { All (λ i. HasFile (files_of files.now) (item_of i)) items.now }
+    ensures loaded { IfOk result (λ v. loaded_views v.items ≡ objects_from (files_of files.entry.now) 0 (map item_of items.now)) }
+    ensures objects { OnOk result (AreObjects (objects_from (files_of files.entry.now) 0 (map item_of items.now))) }
+    ensures fault { IfErr result (ItemsFail (objects_from (files_of files.entry.now) 0 (map item_of items.now))) }
+{
+    let mut objects = Vec::new(alloc);
+    for (i, item) in items.iter().enumerate() {
+        if item.archive {
+            continue;
+        }
+        let object = load_item(alloc, files, item, i as u64)?;
+        objects.push(object)?;
+    }
+    Ok(objects)
+}
+
+/// The loaded objects of a plan, in load order. FileMissing comes before any fault of an object.
+pub fn load<'a>(
+    alloc: Global,
+    plan: &Plan<'a>,
+    files: &'a [InputFile],
+) -> Result<Vec<Loaded<'a>>, LinkError>
+    ensures loaded { IfOk result (λ v. loaded_views v.items ≡ loaded_objects (files_of files.entry.now) plan.now) }
+    ensures files { OnOk result (AreFilesThere (files_of files.entry.now) plan.now) }
+    ensures objects { OnOk result (AreObjects (loaded_objects (files_of files.entry.now) plan.now)) }
+    ensures fault { IfErr result (LoadFails (files_of files.entry.now) plan.now) }
+{
+    if !have_files(files, &plan.items) {
+        return Err(LinkError::FileMissing);
+    }
+    load_items(alloc, files, &plan.items)
+}
