@@ -2,11 +2,9 @@
 use Rattle.std.proofs.Common.{◌≡◌, ℕ, ◌+◌, ◌-◌, ◌<◌, ◌≤◌, ◌⊎◌, inl, inr, Bool, true, false, List, length, get_or, take, drop, refl, sym, ◌∙◌, ap, subst, arith, length-take, length-drop}
 use Rattle.std.specs.Prelude.{Contains, IsTrue, Some, min, nat_lt, option_map, slice_index}
 use Rattle.std.proofs.lemmas.Option.{same_Some}
-use Rattle.elf_model.specs.Placement.{Placed}
 use Rattle.elf_model.specs.MemoryImage.{Cell, Encloses, IsImage, loads, segment_byte}
 use Rattle.elf_model.specs.RightLink.{byte_at}
 use Rattle.elf_model.specs.declared.records.ProgramHeader.{ProgramHeader}
-use Rattle.checker.specs.Bytes.{HoldsInput}
 use Rattle.loader_model.proofs.MemoryLemmas.{maps-true, memory_at}
 use Rattle.std.proofs.lemmas.Bool.{ltb-true, ltb-false}
 use Rattle.std.proofs.lemmas.List.{ext_get_or, get_or-drop, get_or-take, get_or_past}
@@ -60,19 +58,20 @@ front_from_padded a b c e same =
     let low : k < c = omega (arith, na, within) in
     get_or-take c a k 0 low ∙ (same k ∙ sym (get_or-take c b k 0 low)))
 
--- memory holds a piece where the segment that encloses it has its bytes
+-- memory holds wanted bytes of a piece where the segment that encloses it has them
 pub held_in_segment :
-    (image : List ℕ) (q : Placed) (h : ProgramHeader) (b : Bool) → IsImage image → Contains (loads image) h → Encloses h q.at q.piece.size →
-    (IsTrue b → ((k : ℕ) → k < q.piece.size → segment_byte image h (q.at + k) ≡ slice_index q.piece.bytes k))
-    × (((k : ℕ) → k < q.piece.size → segment_byte image h (q.at + k) ≡ slice_index q.piece.bytes k) → IsTrue b) →
-    (IsTrue b → HoldsInput image q) × (HoldsInput image q → IsTrue b)
-held_in_segment image q h b is there inside same = (
-  λ e. record { bytes = λ k below. byte k below ∙ ap Some (same.0 e k below) },
+    (image : List ℕ) (at size : ℕ) (wanted : ℕ → ℕ) (h : ProgramHeader) (b : Bool) → IsImage image → Contains (loads image) h → Encloses h at size →
+    (IsTrue b → ((k : ℕ) → k < size → segment_byte image h (at + k) ≡ wanted k))
+    × (((k : ℕ) → k < size → segment_byte image h (at + k) ≡ wanted k) → IsTrue b) →
+    (IsTrue b → ((k : ℕ) → k < size → byte_at image (at + k) ≡ Some (wanted k)))
+    × (((k : ℕ) → k < size → byte_at image (at + k) ≡ Some (wanted k)) → IsTrue b)
+held_in_segment image at size wanted h b is there inside same = (
+  λ e k below. byte k below ∙ ap Some (same.0 e k below),
   λ held. same.1
-      (λ k below. same_Some (segment_byte image h (q.at + k)) (slice_index q.piece.bytes k) (sym (byte k below) ∙ held.bytes k below)),
+      (λ k below. same_Some (segment_byte image h (at + k)) (wanted k) (sym (byte k below) ∙ held k below)),
 )
   where
-    byte : (k : ℕ) → k < q.piece.size → byte_at image (q.at + k) ≡ Some (segment_byte image h (q.at + k))
+    byte : (k : ℕ) → k < size → byte_at image (at + k) ≡ Some (segment_byte image h (at + k))
     byte k below =
         ap (option_map (λ (c : Cell). c.byte))
-        (memory_at image (q.at + k) h is there (maps-true h (q.at + k) (omega (arith, inside.0)) (omega (arith, inside.1, below))))
+        (memory_at image (at + k) h is there (maps-true h (at + k) (omega (arith, inside.0)) (omega (arith, inside.1, below))))

@@ -7,7 +7,7 @@ use Rattle.std.proofs.lemmas.List.Elements.{All-cons, All-head, All-nil, All-tai
 abbrev pub Left : Type 0 → Type 0 → Type 0
 Left Q P = (Q → P) × (P → Q)
 
-rest_at : {X : Type 0} (xs : List X) (i : ℕ) (d : X) → i < length xs → drop i xs ≡ get_or xs i d ∷ drop (i + 1) xs
+pub rest_at : {X : Type 0} (xs : List X) (i : ℕ) (d : X) → i < length xs → drop i xs ≡ get_or xs i d ∷ drop (i + 1) xs
 rest_at xs i d within = let e : i + 1 ≡ suc i = omega arith in rw e (drop-cons xs i d within)
 
 pub all_more :

@@ -1,11 +1,15 @@
-//! What memory holds at the pieces: the tenth clause, where no relocation is kept.
-ghost use Rattle.std.specs.Prelude.{◌≡◌, ◌+◌, ◌≤◌, ◌<◌, ◌↔◌, ℕ, All, Any, IsTrue, length, slice_index};
+//! What memory holds at the pieces: the tenth clause.
+ghost use Rattle.std.specs.Prelude.{◌≡◌, ◌+◌, ◌≤◌, ◌<◌, ◌↔◌, ℕ, All, AllPairs, Any, IsTrue, filter, find, length, slice_index};
+ghost use Rattle.byteview.specs.Numbers.{le_bytes};
 ghost use Rattle.elf_model.specs.MemoryImage.{Encloses, segment_byte};
 ghost use Rattle.loader_model.specs.Table.{IsLawful};
 ghost use Rattle.checker.specs.Views.{placed_view, placed_views};
-ghost use Rattle.checker.specs.Bytes.{HoldsInput, LiesWhole};
+ghost use Rattle.checker.specs.Bytes.{AreRising, EndsBefore, FitsIn, HasFieldsInside, HoldsFields, LiesWhole, WantedFrom, byte_of, covers, fields_in};
+ghost use Rattle.checker.specs.Fields.{IsBefore};
 
-use crate::segments::{enclosing, file_bytes};
+use crate::fields::Field;
+use crate::sectioned::fields_in;
+use crate::segments::{enclosing, file_bytes, sub_part};
 use crate::things::Placed;
 use byteview::{all_byte, equal_run};
 use elf_model::ProgramHeader;
@@ -27,48 +31,97 @@ fn same_padded(a: &[u8], b: &[u8]) -> bool
     all_byte(b_rest, 0)
 }
 
-/// Whether a segment that a piece lies whole in holds the piece's input bytes at its address.
-fn is_held_by(image: &[u8], segment: &ProgramHeader, placed: &Placed<'_>) -> bool
+/// Whether two runs are equal from one byte on and below another; bytes past an end count as 0.
+fn same_between(a: &[u8], b: &[u8], from: u64, to: u64) -> bool
+    requires { from ≤ to }
+    ensures { IsTrue result ↔ ((k : ℕ) → from ≤ k → k < to → slice_index a.now k ≡ slice_index b.now k) }
+{
+    let start = from as usize;
+    let len = (to - from) as usize;
+    same_padded(sub_part(a, start, len), sub_part(b, start, len))
+}
+
+/// Whether a field has the bytes of its value, the least significant first.
+fn has_value_at(held: &[u8], field: &Field) -> bool
+    requires { field.now.width ≤ 8 }
+    ensures { IsTrue result ↔ ((j : ℕ) → j < field.now.width → slice_index held.now (field.now.at + j) ≡ slice_index (le_bytes field.now.width field.now.value) j) }
+{
+    let spelled = field.value.to_le_bytes();
+    let width = field.width as usize;
+    let (low, _high) = spelled.split_at(width);
+    same_padded(sub_part(held, field.at as usize, width), low)
+}
+
+/// Whether the bytes of a section of a size are the wanted ones: each field's value, and between the fields,
+/// which stand in order, the input's.
+fn are_wanted(held: &[u8], bytes: &[u8], fields: &[Field], size: u64) -> bool
+    requires inside { All (FitsIn size) fields.now }
+    requires rising { AllPairs EndsBefore fields.now }
+    ensures { IsTrue result ↔ WantedFrom held.now bytes.now fields.now 0 size }
+{
+    let mut from = 0;
+    for field in fields {
+        if !same_between(held, bytes, from, field.at) {
+            return false;
+        }
+        if !has_value_at(held, field) {
+            return false;
+        }
+        from = field.at + field.width;
+    }
+    same_between(held, bytes, from, size)
+}
+
+/// Whether a segment that a piece lies whole in holds the piece's wanted bytes at its address.
+fn is_held_by(image: &[u8], segment: &ProgramHeader, placed: &Placed<'_>, fields: &[Field]) -> bool
     requires lawful { IsLawful (length image.now) segment.now }
     requires enclosed { Encloses segment.now placed.now.at placed.now.piece.header.sh_size }
-    requires short { length placed.now.piece.bytes.now ≤ placed.now.piece.header.sh_size }
-    ensures { IsTrue result ↔ ((k : ℕ) → k < placed.now.piece.header.sh_size → segment_byte image.now segment.now (placed.now.at + k) ≡ slice_index placed.now.piece.bytes.now k) }
+    requires inside { All (FitsIn placed.now.piece.header.sh_size) fields.now }
+    requires rising { AllPairs EndsBefore fields.now }
+    ensures { IsTrue result ↔ ((k : ℕ) → k < placed.now.piece.header.sh_size → segment_byte image.now segment.now (placed.now.at + k) ≡ byte_of placed.now.piece.bytes.now k (find (covers k) fields.now)) }
 {
     let piece = &placed.piece;
     let held = file_bytes(image, segment, placed.at, piece.header.sh_size);
-    same_padded(held, piece.bytes)
+    are_wanted(held, piece.bytes, fields, piece.header.sh_size)
 }
 
-/// Whether memory holds a piece's input bytes at its address.
-fn holds_piece(memory: &Memory<'_>, placed: &Placed<'_>) -> bool
-    requires { LiesWhole memory.now placed.now }
-    ensures { IsTrue result ↔ HoldsInput memory.now (placed_view placed.now) }
+/// Whether memory holds a piece's wanted bytes at its address.
+fn holds_piece(memory: &Memory<'_>, rows: &[Vec<Field>], placed: &Placed<'_>) -> bool
+    requires whole { LiesWhole memory.now placed.now }
+    requires rising { AreRising rows.now }
+    requires inside { HasFieldsInside rows.now placed.now }
+    ensures { IsTrue result ↔ HoldsFields memory.now rows.now (placed_view placed.now) }
 {
     let piece = &placed.piece;
     if piece.header.sh_size == 0 {
         return true;
     }
+    let fields = fields_in(rows, piece.object, piece.section);
     match enclosing(memory, placed.at, piece.header.sh_size) {
-        Some(segment) => is_held_by(memory.image(), &segment, placed),
+        Some(segment) => is_held_by(memory.image(), &segment, placed, fields),
         None => false,
     }
 }
 
-/// Whether memory holds the input bytes of every piece. Each nonempty one lies in a segment, and none has
-/// more input bytes than its size.
-pub fn holds_pieces(memory: &Memory<'_>, placed: &[Placed<'_>]) -> bool
-    requires { All (LiesWhole memory.now) placed.now }
-    ensures { IsTrue result ↔ All (HoldsInput memory.now) (placed_views placed.now) }
+/// Whether memory holds the wanted bytes of every piece, given the rows of fields by objects. Each nonempty
+/// piece lies in a segment, and the fields of its section lie inside it.
+pub fn holds_pieces(memory: &Memory<'_>, rows: &[Vec<Field>], placed: &[Placed<'_>]) -> bool
+    requires whole { All (LiesWhole memory.now) placed.now }
+    requires rising { AreRising rows.now }
+    requires inside { All (HasFieldsInside rows.now) placed.now }
+    ensures { IsTrue result ↔ All (HoldsFields memory.now rows.now) (placed_views placed.now) }
 {
-    all_held(memory, placed)
+    all_held(memory, rows, placed)
 }
 
-fn all_held(memory: &Memory<'_>, placed: &[Placed<'_>]) -> bool
-    requires { All (LiesWhole memory.now) placed.now }
-    ensures { IsTrue result ↔ All (λ q. HoldsInput memory.now (placed_view q)) placed.now }
+fn all_held(memory: &Memory<'_>, rows: &[Vec<Field>], placed: &[Placed<'_>]) -> bool
+    requires whole { All (LiesWhole memory.now) placed.now }
+    requires rising { AreRising rows.now }
+    requires inside { All (HasFieldsInside rows.now) placed.now }
+    ensures { IsTrue result ↔ All (λ q. HoldsFields memory.now rows.now (placed_view q)) placed.now }
 {
     for q in placed {
-        if !holds_piece(memory, q) {
+        if !holds_piece(memory, rows, q) {
             return false;
         }
     }

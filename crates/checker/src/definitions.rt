@@ -13,7 +13,7 @@ use elf_model::{SHN_ABS, SHN_COMMON, SHN_UNDEF, STB_GLOBAL};
 use std::alloc::{AllocError, Global};
 
 /// Whether a symbol is a strong definition: GLOBAL, defined, not common.
-fn is_strong(symbol: &SymbolOf<'_>) -> bool
+pub fn is_strong(symbol: &SymbolOf<'_>) -> bool
     ensures { result ≡ is_strong (symbol_view symbol.now) }
 {
     let entry = symbol.entry;
@@ -54,7 +54,7 @@ fn first_definition<'b, 'a>(symbols: &'b [SymbolOf<'a>], name: &[u8]) -> Option<
 }
 
 /// Whether a symbol stands in a section with SHF_TLS.
-fn is_in_thread_section(objects: &[Loaded<'_>], symbol: &SymbolOf<'_>) -> bool
+pub fn is_in_thread_section(objects: &[Loaded<'_>], symbol: &SymbolOf<'_>) -> bool
     ensures { result ≡ is_in_thread_section (loaded_views objects.now) (symbol_view symbol.now) }
 {
     match section_of(objects, symbol) {

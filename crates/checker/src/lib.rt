@@ -4,11 +4,14 @@
 #![tactic(auto)]
 
 mod apart;
+mod bindings;
 mod bytes;
 mod definitions;
 mod ends;
+mod fields;
 mod files;
 mod fill;
+mod fitting;
 mod flags;
 mod got;
 mod image;
@@ -23,13 +26,17 @@ mod output;
 mod placed;
 mod places;
 mod placing;
+mod plain;
 mod profile;
 mod reading;
 mod region;
+mod rows;
+mod sectioned;
 mod sections;
 mod segments;
 mod stretches;
 mod symbols;
+mod targets;
 mod things;
 mod value;
 mod verdict;

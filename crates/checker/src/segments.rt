@@ -71,7 +71,7 @@ pub fn file_part<'f>(image: &'f [u8], segment: &ProgramHeader) -> &'f [u8]
 }
 
 /// The bytes from `offset` on, `len` at most.
-fn sub_part<'f>(part: &'f [u8], offset: usize, len: usize) -> &'f [u8]
+pub fn sub_part<'f>(part: &'f [u8], offset: usize, len: usize) -> &'f [u8]
     ensures short { length result.now ≤ len }
     ensures same { (k : ℕ) → k < len → slice_index part.now (offset + k) ≡ slice_index result.now k }
 {

@@ -47,7 +47,7 @@ fn add_symbols<'a>(
 }
 
 /// The name of symbol `j`, empty where there is no such symbol.
-fn name_of<'a>(object: &Object<'a>, j: usize) -> &'a [u8]
+pub fn name_of<'a>(object: &Object<'a>, j: usize) -> &'a [u8]
     ensures { result.now ≡ unwrap_or (symbol_name object.now j) [] }
 {
     match object.name(j) {

@@ -1,18 +1,20 @@
 //! The whole check: the clauses in their order, each asked where those before it hold.
-ghost use Rattle.std.specs.Prelude.{◌≡◌, ◌↔◌, IfOk, IsTrue};
+ghost use Rattle.std.specs.Prelude.{◌≡◌, ◌↔◌, IfOk, IfSome, IsSome, IsTrue};
 ghost use Rattle.elf_model.specs.Files.{files_of, words_of};
 ghost use Rattle.elf_model.specs.MapRecord.{map_of};
 ghost use Rattle.elf_model.specs.MapText.{IsMap};
 ghost use Rattle.elf_model.specs.Resolution.{all_symbols};
-ghost use Rattle.elf_model.specs.RightLink.{AreSymbolsListed, EntersRight, Holds, HoldsBefore, IsLoaded, IsRightLink, Least, objects_of, placed_of, things_of};
+ghost use Rattle.elf_model.specs.RightLink.{AreRelocationsRight, AreSymbolsListed, EntersRight, Holds, HoldsBefore, IsLoaded, IsRightLink, Least, objects_of, placed_of, things_of};
 ghost use Rattle.elf_model.specs.declared.verdict.Clause.{Clause};
 ghost use Rattle.elf_model.specs.declared.verdict.Clause.TheVariants as clause;
+ghost use Rattle.checker.specs.Fields.{AreRows};
 ghost use Rattle.checker.specs.Judged.{Judges};
 ghost use Rattle.checker.specs.Subjects.{subject_of};
 ghost use Rattle.checker.specs.Views.{loaded_views, placed_views, symbol_views};
 
 use crate::bytes::holds_pieces;
 use crate::definitions::enters_right;
+use crate::fields::Field;
 use crate::fill::has_nothing_else;
 use crate::got::{is_got_right, is_thread_block_right};
 use crate::image::load;
@@ -24,6 +26,7 @@ use crate::placed::{got_things_of, place, things_of};
 use crate::places::Places;
 use crate::placing::{has_rights, is_placed};
 use crate::reading::{read_map, read_plan};
+use crate::rows::fields_right;
 use crate::sections::{are_sections_listed, pieces_of};
 use crate::symbols::symbols_of;
 use crate::things::{Loaded, Placed, SymbolOf};
@@ -46,14 +49,33 @@ fn entry_of<'a>(plan: &Plan<'a>) -> &'a [u8]
     plan.entry.as_bytes()
 }
 
-/// Whether the tenth clause holds of a link.
-fn is_held(link: &Link<'_>, memory: &Memory<'_>, placed: &[Placed<'_>]) -> bool
+/// The fields of a link's relocations by objects; None where the ninth clause doesn't hold.
+fn relocation_rows<'a>(
+    alloc: Global,
+    link: &Link<'_>,
+    objects: &[Loaded<'a>],
+    places: &Places<'_, 'a>,
+    symbols: &[SymbolOf<'a>],
+) -> Result<Option<Vec<Vec<Field>>>, AllocError>
+    requires loaded { loaded_views objects.now ≡ objects_of (subject_of link.now) }
+    requires placed { places.now ≡ placed_of (subject_of link.now) }
+    requires symbols { symbol_views symbols.now ≡ all_symbols (loaded_views objects.now) }
+    ensures right { IfOk result (λ o. IsSome o ↔ AreRelocationsRight (subject_of link.now)) }
+    ensures rows { IfOk result (λ o. IfSome o (λ v. AreRows (objects_of (subject_of link.now)) (placed_of (subject_of link.now)) v.items)) }
+{
+    let rows = fields_right(alloc, objects, places, symbols)?;
+    Ok(rows)
+}
+
+/// Whether the tenth clause holds of a link, given the fields of its relocations by objects.
+fn is_held(link: &Link<'_>, memory: &Memory<'_>, placed: &[Placed<'_>], rows: &[Vec<Field>]) -> bool
     requires memory { memory.now ≡ link.now.image.now }
     requires placed { placed_views placed.now ≡ placed_of (subject_of link.now) }
+    requires rows { AreRows (objects_of (subject_of link.now)) (placed_of (subject_of link.now)) rows.now }
     requires before { HoldsBefore clause.C10 (subject_of link.now) }
     ensures { IsTrue result ↔ Holds clause.C10 (subject_of link.now) }
 {
-    holds_pieces(memory, placed)
+    holds_pieces(memory, rows, placed)
 }
 
 /// Whether the twelfth clause holds of a link.
@@ -103,35 +125,34 @@ fn judge_symbols(
     link: &Link<'_>,
     objects: &[Loaded<'_>],
     memory: &Memory<'_>,
-    placed: &[Placed<'_>],
+    places: &Places<'_, '_>,
+    symbols: &[SymbolOf<'_>],
 ) -> Result<Verdict, AllocError>
     requires map { IsMap (map_of link.now.map) }
     requires loaded { loaded_views objects.now ≡ objects_of (subject_of link.now) }
     requires memory { memory.now ≡ link.now.image.now }
-    requires placed { placed_views placed.now ≡ placed_of (subject_of link.now) }
+    requires placed { places.now ≡ placed_of (subject_of link.now) }
+    requires symbols { symbol_views symbols.now ≡ all_symbols (loaded_views objects.now) }
     requires before { HoldsBefore clause.C12 (subject_of link.now) }
     ensures { IfOk result (λ v. Judges v (subject_of link.now)) }
 {
-    let symbols = symbols_of(alloc, objects)?;
-    let places = Places::new(alloc, placed)?;
-    if !is_entry_right(link, objects, memory, &places, &symbols) {
+    if !is_entry_right(link, objects, memory, places, symbols) {
         return Ok(Verdict::No(Clause::C12));
     }
-    let listed = are_symbols_right(alloc, link, objects, &places, &symbols)?;
+    let listed = are_symbols_right(alloc, link, objects, places, symbols)?;
     if !listed {
         return Ok(Verdict::No(Clause::C13));
     }
     Ok(Verdict::Yes)
 }
 
-/// Judges the clauses from the tenth on. No relocation is kept in the profile, so each byte that is wanted is
-/// the input's.
-fn judge_held(
+/// Judges the clauses from the ninth on.
+fn judge_relocations<'a>(
     alloc: Global,
     link: &Link<'_>,
-    objects: &[Loaded<'_>],
+    objects: &[Loaded<'a>],
     memory: &Memory<'_>,
-    placed: &[Placed<'_>],
+    placed: &[Placed<'a>],
     things: &[Thing],
 ) -> Result<Verdict, AllocError>
     requires map { IsMap (map_of link.now.map) }
@@ -139,25 +160,30 @@ fn judge_held(
     requires memory { memory.now ≡ link.now.image.now }
     requires placed { placed_views placed.now ≡ placed_of (subject_of link.now) }
     requires things { things.now ≡ things_of (subject_of link.now) }
-    requires before { HoldsBefore clause.C10 (subject_of link.now) }
+    requires before { HoldsBefore clause.C9 (subject_of link.now) }
     ensures { IfOk result (λ v. Judges v (subject_of link.now)) }
 {
-    if !is_held(link, memory, placed) {
+    let symbols = symbols_of(alloc, objects)?;
+    let places = Places::new(alloc, placed)?;
+    let Some(rows) = relocation_rows(alloc, link, objects, &places, &symbols)? else {
+        return Ok(Verdict::No(Clause::C9));
+    };
+    if !is_held(link, memory, placed, &rows) {
         return Ok(Verdict::No(Clause::C10));
     }
     if !has_nothing_else(alloc, memory, things)? {
         return Ok(Verdict::No(Clause::C11));
     }
-    judge_symbols(alloc, link, objects, memory, placed)
+    judge_symbols(alloc, link, objects, memory, &places, &symbols)
 }
 
-/// Judges the clauses from the seventh on. No relocation is kept in the profile, so the ninth clause holds.
-fn judge_bytes(
+/// Judges the clauses from the seventh on.
+fn judge_bytes<'a>(
     alloc: Global,
     link: &Link<'_>,
-    objects: &[Loaded<'_>],
+    objects: &[Loaded<'a>],
     memory: &Memory<'_>,
-    placed: &[Placed<'_>],
+    placed: &[Placed<'a>],
     things: &[Thing],
 ) -> Result<Verdict, AllocError>
     requires map { IsMap (map_of link.now.map) }
@@ -174,7 +200,7 @@ fn judge_bytes(
     if !is_thread_block_right(memory) {
         return Ok(Verdict::No(Clause::C8));
     }
-    judge_held(alloc, link, objects, memory, placed, things)
+    judge_relocations(alloc, link, objects, memory, placed, things)
 }
 
 /// The pieces of a link at the addresses that its map gives them.
@@ -246,7 +272,7 @@ fn judge(alloc: Global, link: &Link<'_>) -> Result<Verdict, AllocError>
     let Some(objects) = open(alloc, &link.plan, link.files)? else {
         return Ok(Verdict::No(Clause::C2));
     };
-    if !is_loaded(link, &objects) {
+    if !is_loaded(alloc, link, &objects)? {
         return Ok(Verdict::No(Clause::C2));
     }
     judge_loaded(alloc, link, &objects)

@@ -3,8 +3,6 @@ pub mod RecordLaws
 pub mod RisingNames
 mod Spelled
 pub mod SymbolRows
-pub mod NoRelocations
-pub mod PlainKinds
 pub mod Listed
 pub mod Finding
 pub mod Pairs
@@ -19,3 +17,4 @@ pub mod Places
 pub mod PairsPermuted
 pub mod WrappedValues
 pub mod FlatRelocations
+pub mod Rests

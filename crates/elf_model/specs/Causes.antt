@@ -1,6 +1,6 @@
 -- When a link is refused, and by which error (profile). The phases are the words, the files, loading, the profile,
 -- resolution, references, layout and values; an error stands only where no fault of an earlier phase does.
-use Rattle.std.specs.Prelude.{◌≡◌, ◌≢◌, ℕ, List, None, Ok, Err, AllPairs, Any}
+use Rattle.std.specs.Prelude.{◌≡◌, ◌≢◌, ℕ, List, None, IsSome, Ok, Err, AllPairs, Any}
 use Rattle.elf_model.specs.Command.{Plan, command_of}
 use Rattle.elf_model.specs.Files.{File}
 use Rattle.elf_model.specs.Loading.{LoadedObject, loaded_objects, AreFilesThere, AreObjects}
@@ -8,7 +8,7 @@ use Rattle.elf_model.specs.ObjectFile.{ObjFaultStands}
 use Rattle.elf_model.specs.OwnLayout.{IsNotTooLarge, OwnValuesFit}
 use Rattle.elf_model.specs.Pieces.{AreLawfulKinds}
 use Rattle.elf_model.specs.Profile.{IsInProfile}
-use Rattle.elf_model.specs.Relocation.{Relocation, AreFieldsApart, AreLawfulRelocations, IsFieldInside, IsUndefined, RefersToDropped, relocation_kind, relocations}
+use Rattle.elf_model.specs.Relocation.{Relocation, AreFieldsApart, AreLawfulRelocations, IsFieldInside, IsThreadMismatch, IsUndefined, RefersToDropped, relocation_kind, relocations}
 use Rattle.elf_model.specs.Resolution.{IsDuplicate, AreUnique, AreSoundSymbols, IsEntry}
 use Rattle.elf_model.specs.declared.faults.LinkError.{LinkError}
 use Rattle.elf_model.specs.declared.faults.LinkError.TheVariants as error
@@ -52,9 +52,13 @@ abbrev pub AnyRelocation : List File → List (List ℕ) → (List LoadedObject 
 AnyRelocation files words Stands =
     (p : Plan) × IsResolved files words p × Any (Stands (loaded_objects files p)) (relocations (loaded_objects files p))
 
--- it names a symbol of this name that has no definition
+-- it is of a known kind, and names a symbol of this name that has no definition
 abbrev pub IsUndefinedName : List ℕ → List LoadedObject → Relocation → Type 0
-IsUndefinedName name objects r = IsUndefined objects r.symbol × (r.symbol.name ≡ name)
+IsUndefinedName name objects r = IsSome (relocation_kind r) × IsUndefined objects r.symbol × (r.symbol.name ≡ name)
+
+-- it is of a known kind, and names a LOCAL symbol of a section that isn't kept
+abbrev pub IsToDropped : List LoadedObject → Relocation → Type 0
+IsToDropped objects r = IsSome (relocation_kind r) × RefersToDropped objects r
 
 -- what stands where an error is answered; want of memory has no cause in the inputs
 abbrev pub Cause : List File → List (List ℕ) → LinkError → Type 0
@@ -71,11 +75,12 @@ Cause files words error.SectionKind = (p : Plan) × IsTaken files words p × (¬
 Cause files words (error.Duplicate name) = (p : Plan) × IsTaken files words p × IsDuplicate (loaded_objects files p) name.items
 Cause files words error.BadSymbol = (p : Plan) × IsTaken files words p × (¬ AreSoundSymbols (loaded_objects files p))
 Cause files words (error.Undefined name) = AnyRelocation files words (IsUndefinedName name.items)
-Cause files words error.RefToDropped = AnyRelocation files words (λ objects r. RefersToDropped objects r.symbol)
+Cause files words error.RefToDropped = AnyRelocation files words IsToDropped
 Cause files words error.RelocKind = AnyRelocation files words (λ objects r. relocation_kind r ≡ None)
 Cause files words error.FieldOutside = AnyRelocation files words (λ objects r. ¬ IsFieldInside r)
 Cause files words error.OverlappingFields =
     (p : Plan) × IsResolved files words p × (¬ AllPairs AreFieldsApart (relocations (loaded_objects files p)))
+Cause files words error.TlsMismatch = AnyRelocation files words IsThreadMismatch
 Cause files words error.NoEntry = (p : Plan) × IsResolved files words p × (¬ IsEntry (loaded_objects files p) p.entry)
 Cause files words error.TooLarge = (p : Plan) × IsReferred files words p × (¬ IsNotTooLarge p.base (loaded_objects files p))
 Cause files words error.Overflow = (p : Plan) × IsLaidOut files words p × (¬ OwnValuesFit p.base (loaded_objects files p))

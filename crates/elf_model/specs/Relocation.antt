@@ -4,18 +4,20 @@
 use Rattle.std.specs.Prelude.{◌≡◌, ◌≢◌, ◌⊎◌, ℕ, ℤ, pos, ◌+ℤ◌, ◌-ℤ◌, unsigned_abs, ◌+◌, ◌-◌, ◌*◌, ◌^◌, ◌<◌, ◌≤◌, ◌==◌, ◌&&◌, Bool, true, false, not, cond, List, [], ◌∷◌, ◌++◌, Option, Some, None, IsSome, IsSomeAnd, IfSome, All, AllPairs, filter, find, map, nat_le, nat_lt, option_map, slice_index_or, unwrap_or}
 use Rattle.std.specs.Int.{int_rem_euclid}
 use Rattle.std.specs.List.{flat_map}
+use Rattle.std.specs.Option.{option_map_or}
 use Rattle.elf_model.specs.Loading.{LoadedObject}
 use Rattle.elf_model.specs.ObjectFile.{null_symbol, rela_symbol, rela_type, relas_of, section, sections, symbol_name, symbols}
 use Rattle.elf_model.specs.Pieces.{is_alloc}
 use Rattle.elf_model.specs.Placement.{Placed, is_of_section, symbol_value}
-use Rattle.elf_model.specs.Resolution.{SymbolOf, binding, chosen, is_undefined, section_of}
+use Rattle.elf_model.specs.Resolution.{SymbolOf, binding, chosen, is_in_thread_section, is_undefined, section_of}
 use Rattle.elf_model.specs.declared.records.Rela.{Rela}
 use Rattle.elf_model.specs.declared.records.SectionHeader.{SectionHeader}
 
 -- The kinds.
 
 -- what a value is made of: S the symbol's value, A the addend, P the field's address, G the slot's offset in
--- the GOT, GOT its address, Z the symbol's size, T the offset of S from the thread pointer
+-- the GOT, GOT its address, Z the symbol's size, T the offset of S from the thread pointer, GT the offset in the
+-- GOT of a slot that holds T
 pub data Formula : Type 0 where
   S+A : Formula
   S+A-P : Formula
@@ -140,9 +142,14 @@ definition_of objects s = cond (is_local s) (cond (is_undefined s.entry) None (S
 abbrev pub IsUndefined : List LoadedObject → SymbolOf → Type 0
 IsUndefined objects s = (s.number ≢ 0) × (binding s.entry ≢ 2) × (definition_of objects s ≡ None)
 
--- a LOCAL symbol of a section that isn't kept
-abbrev pub RefersToDropped : List LoadedObject → SymbolOf → Type 0
-RefersToDropped objects s = (is_local s ≡ true) × IsSomeAnd (section_of objects s) (λ h. is_alloc h ≡ false)
+-- it names a LOCAL symbol of a section that isn't kept
+abbrev pub RefersToDropped : List LoadedObject → Relocation → Type 0
+RefersToDropped objects r =
+    (is_local r.symbol ≡ true) × IsSomeAnd (section_of objects r.symbol) (λ h. is_alloc h ≡ false)
+
+-- the definition that it uses stands in a section with SHF_TLS
+abbrev pub is_thread_local_use : List LoadedObject → Relocation → Bool
+is_thread_local_use objects r = option_map_or (is_in_thread_section objects) (definition_of objects r.symbol) false
 
 -- Values.
 
@@ -150,8 +157,8 @@ RefersToDropped objects s = (is_local s ≡ true) × IsSomeAnd (section_of objec
 abbrev pub section_address : List Placed → ℕ → ℕ → ℕ
 section_address ps object k = unwrap_or (option_map (λ q. q.at) (find (is_of_section object k) ps)) 0
 
--- what the letters of the formulas stand for. There is no GOT and no thread storage in the profile, and no
--- kind that speaks of them.
+-- what the letters of the formulas stand for, but GT, which is G of its own slot. There is no GOT and no thread
+-- storage in the profile, and no kind that speaks of them.
 pub record Terms : Type 0 where
   pub s : ℕ
   pub a : ℤ
@@ -219,20 +226,32 @@ abbrev pub is_in_field : ℕ → ℕ → ℕ → Relocation → Bool
 is_in_field object s k r =
     (r.object == object) && (r.section == s) && nat_le r.entry.r_offset k && nat_lt k (r.entry.r_offset + width_of r)
 
--- the field lies inside its section
+-- the field lies inside its section; one of no kind has no field
 abbrev pub IsFieldInside : Relocation → Type 0
-IsFieldInside r = r.entry.r_offset + width_of r ≤ r.size
+IsFieldInside r = IfSome (relocation_kind r) (λ k. r.entry.r_offset + k.width ≤ r.size)
 
 -- no byte of a section lies in both fields
 abbrev pub AreFieldsApart : Relocation → Relocation → Type 0
 AreFieldsApart r t = (object s k : ℕ) → is_in_field object s k r ≡ true → is_in_field object s k t ≡ true → ⊥
 
--- What is asked of kept relocations: of each a known kind, a lawful symbol and a field inside its section;
--- fields that are apart; and values that fit.
+-- Thread-local storage: a thread offset is asked of what stands in it alone, a size of anything, and every
+-- other value of what stands outside.
+abbrev pub IsMismatch : Formula → Bool → Type 0
+IsMismatch T+A inside = inside ≡ false
+IsMismatch GT+GOT+A-P inside = inside ≡ false
+IsMismatch Z+A inside = ⊥
+IsMismatch _ inside = inside ≡ true
+
+abbrev pub IsThreadMismatch : List LoadedObject → Relocation → Type 0
+IsThreadMismatch objects r = IsSomeAnd (relocation_kind r) (λ k. IsMismatch k.formula (is_thread_local_use objects r))
+
+-- What is asked of kept relocations: of each a known kind, a lawful symbol, a kind for what that symbol is, and
+-- a field inside its section; fields that are apart; and values that fit.
 pub record IsLawfulRelocation (objects : List LoadedObject) (r : Relocation) : Type 0 where
   pub known : IsSome (relocation_kind r)
   pub defined : ¬ IsUndefined objects r.symbol
-  pub kept : ¬ RefersToDropped objects r.symbol
+  pub kept : ¬ RefersToDropped objects r
+  pub thread : ¬ IsThreadMismatch objects r
   pub inside : IsFieldInside r
 
 pub record AreLawfulRelocations (objects : List LoadedObject) : Type 0 where

@@ -79,7 +79,7 @@ pub record AreSectionsListed (s : Subject) : Type 0 where
 -- C5. Pieces, GOT and headers are aligned, within the addresses, and apart (`IsPlaced`).
 -- C6. Each lies in a segment that has exactly its rights (`HasRights`).
 
--- C7. The GOT stands exactly where a relocation asks for it; no relocation is in the profile.
+-- C7. The GOT stands exactly where a relocation asks for it; no kind of the profile asks for one.
 pub record IsGotRight (s : Subject) : Type 0 where
   pub got : s.map.got ≡ None
   pub slots : s.map.slots ≡ []

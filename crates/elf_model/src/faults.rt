@@ -108,6 +108,8 @@ pub enum LinkError {
     OverlappingFields,
     #[error("Overflow (15)")]
     Overflow,
+    #[error("TlsMismatch (16)")]
+    TlsMismatch,
     #[error("NoEntry (18)")]
     NoEntry,
     #[error("TooLarge (20)")]

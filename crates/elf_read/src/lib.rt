@@ -3,6 +3,7 @@
 #![tactic(auto)]
 
 mod header;
+mod names;
 mod object;
 mod profile;
 mod relas;
@@ -10,6 +11,7 @@ mod sections;
 mod symbols;
 
 pub use elf_model::ObjFault;
+pub use names::linker_names;
 pub use object::Object;
 pub use profile::is_plain_object;
 

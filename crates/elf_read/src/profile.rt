@@ -1,13 +1,15 @@
 //! Whether an object is of this profile (docs/PROFILE.md).
-ghost use Rattle.std.specs.Prelude.{◌≡◌, ◌↔◌, All, IsTrue, filter, length, true};
-ghost use Rattle.elf_model.specs.ObjectFile.{sections, symbols};
+ghost use Rattle.std.specs.Prelude.{◌≡◌, ◌↔◌, All, IsTrue, Some, false, length, true};
+ghost use Rattle.std.specs.List.{slice_get};
+ghost use Rattle.elf_model.specs.ObjectFile.{name_of_section, relas_of, section, sections, symbols};
 ghost use Rattle.elf_model.specs.Pieces as pieces;
-ghost use Rattle.elf_model.specs.Profile.{IsOneText, IsPlainObject, IsPlainSection, IsPlainSymbol, IsText};
+ghost use Rattle.elf_model.specs.Profile.{IsDigit, IsNumbered, IsNumberedArray, IsPlainObject, IsPlainSection, IsPlainSymbol, HasPlainRelas, IsPlainRela, IsShortNumber, is_later_type};
+ghost use Rattle.elf_model.specs.Relocation.{is_kept_rela};
 
 use crate::object::Object;
 use elf_model::{
-    SHF_ALLOC, SHF_EXECINSTR, SHN_COMMON, SHT_GROUP, SHT_PROGBITS, SHT_REL, SHT_RELA, STB_WEAK,
-    STT_TLS, SectionHeader, Symbol,
+    Rela, SHF_ALLOC, SHF_TLS, SHN_COMMON, SHT_GROUP, SHT_RELA, STB_WEAK, STT_TLS, SectionHeader,
+    Symbol,
 };
 
 /// Whether a section takes up memory.
@@ -17,16 +19,167 @@ fn is_alloc(header: &SectionHeader) -> bool
     header.sh_flags & SHF_ALLOC != 0
 }
 
-fn is_plain_section(header: &SectionHeader) -> bool
-    ensures { IsTrue result ↔ IsPlainSection header.now }
+fn is_thread_local(header: &SectionHeader) -> bool
+    ensures { result ≡ pieces.is_thread_local header.now }
 {
-    header.sh_type != SHT_RELA && header.sh_type != SHT_REL && header.sh_type != SHT_GROUP
+    header.sh_flags & SHF_TLS != 0
 }
 
-fn are_plain_sections(headers: &[SectionHeader]) -> bool
-    ensures { IsTrue result ↔ All IsPlainSection headers.now }
+/// Whether a section is none that is kept with SHF_TLS.
+fn is_plain_storage(header: &SectionHeader) -> bool
+    ensures { IsTrue result ↔ (pieces.is_alloc header.now ≡ true → pieces.is_thread_local header.now ≡ false) }
 {
-    headers.iter().all(|h| is_plain_section(h))
+    !is_alloc(header) || !is_thread_local(header)
+}
+
+fn is_digit(byte: u8) -> bool
+    ensures { IsTrue result ↔ IsDigit byte }
+{
+    48 <= byte && byte <= 57
+}
+
+fn are_digits(bytes: &[u8]) -> bool
+    ensures { IsTrue result ↔ All IsDigit bytes.now }
+{
+    bytes.iter().all(|b| is_digit(*b))
+}
+
+/// Whether bytes are 1 to 5 decimal digits.
+fn is_short_number(bytes: &[u8]) -> bool
+    ensures { IsTrue result ↔ IsShortNumber bytes.now }
+{
+    if bytes.is_empty() || bytes.len() > 5 {
+        return false;
+    }
+    are_digits(bytes)
+}
+
+/// Whether a name is a prefix of 12 bytes and a short number.
+fn is_numbered(prefix: &[u8], name: &[u8]) -> bool
+    requires { length prefix.now ≡ 12 }
+    ensures { IsTrue result ↔ IsNumbered prefix.now name.now }
+{
+    match name.strip_prefix(prefix) {
+        Some(rest) => is_short_number(rest),
+        None => false,
+    }
+}
+
+/// Whether a name is that of a numbered array: `.init_array.N` or `.fini_array.N` with 1 to 5 digits.
+fn is_numbered_array(name: &[u8]) -> bool
+    ensures { IsTrue result ↔ IsNumberedArray name.now }
+{
+    is_numbered(b".init_array.", name) || is_numbered(b".fini_array.", name)
+}
+
+/// The types of the known kinds of relocations but for 64, PC32 and PLT32.
+static LATER_TYPES: [u32; 21] = [
+    3, 9, 10, 11, 12, 13, 14, 15, 18, 22, 23, 24, 25, 26, 27, 28, 29, 32, 33, 41, 42,
+];
+
+fn is_later_type(kind: u32) -> bool
+    ensures { result ≡ is_later_type kind }
+{
+    LATER_TYPES.contains(&kind)
+}
+
+fn is_plain_rela(entry: &Rela) -> bool
+    ensures { IsTrue result ↔ IsPlainRela entry.now }
+{
+    !is_later_type(entry.kind())
+}
+
+fn are_plain_relas(entries: &[Rela]) -> bool
+    ensures { IsTrue result ↔ All IsPlainRela entries.now }
+{
+    entries.iter().all(|r| is_plain_rela(r))
+}
+
+/// Whether the section that a RELA section relocates is kept.
+fn relocates_kept(object: &Object<'_>, header: &SectionHeader) -> bool
+    ensures { result ≡ pieces.is_alloc (section (sections object.now) header.now.sh_info) }
+{
+    match object.sections().get(header.sh_info as usize) {
+        Some(relocated) => is_alloc(relocated),
+        None => false,
+    }
+}
+
+/// The entries of section `i`, which has a header of type RELA.
+pub fn entries_at<'o>(object: &'o Object<'_>, i: usize, header: &SectionHeader) -> &'o [Rela]
+    requires there { slice_get (sections object.now) i ≡ Some header.now }
+    requires rela { header.now.sh_type ≡ 4 }
+    ensures { result.now ≡ relas_of object.entry.now header.now }
+{
+    match object.relas(i) {
+        Some(entries) => entries,
+        None => &[],
+    }
+}
+
+fn has_plain_relas(object: &Object<'_>, i: usize, header: &SectionHeader) -> bool
+    requires there { slice_get (sections object.now) i ≡ Some header.now }
+    requires rela { header.now.sh_type ≡ 4 }
+    ensures { IsTrue result ↔ HasPlainRelas object.now header.now }
+{
+    are_plain_relas(entries_at(object, i, header))
+}
+
+/// Whether a section holds relocations of one that is kept.
+pub fn is_kept_rela(object: &Object<'_>, header: &SectionHeader) -> bool
+    ensures value { result ≡ is_kept_rela object.now header.now }
+    ensures rela { result ≡ true → header.now.sh_type ≡ 4 }
+{
+    header.sh_type == SHT_RELA && relocates_kept(object, header)
+}
+
+/// Whether section `i`, which has the header, holds no relocation of a later kind of a section that is kept.
+fn has_plain_relas_if_kept(object: &Object<'_>, i: usize, header: &SectionHeader) -> bool
+    requires there { slice_get (sections object.now) i ≡ Some header.now }
+    ensures { IsTrue result ↔ (is_kept_rela object.now header.now ≡ true → HasPlainRelas object.now header.now) }
+{
+    if !is_kept_rela(object, header) {
+        return true;
+    }
+    has_plain_relas(object, i, header)
+}
+
+/// The name of section `i`, which has the header.
+fn name_at<'a>(object: &Object<'a>, i: usize, header: &SectionHeader) -> &'a [u8]
+    requires there { slice_get (sections object.now) i ≡ Some header.now }
+    ensures { result.now ≡ name_of_section object.now header.now }
+{
+    match object.section_name(i) {
+        Some(name) => name,
+        None => &[],
+    }
+}
+
+/// Whether section `i`, which has the header, is plain: no GROUP, not kept with SHF_TLS, no numbered array,
+/// and no relocations of a later kind.
+fn is_plain_section(object: &Object<'_>, i: usize, header: &SectionHeader) -> bool
+    requires there { slice_get (sections object.now) i ≡ Some header.now }
+    ensures { IsTrue result ↔ IsPlainSection object.now header.now }
+{
+    if header.sh_type == SHT_GROUP || !is_plain_storage(header) {
+        return false;
+    }
+    if is_numbered_array(name_at(object, i, header)) {
+        return false;
+    }
+    has_plain_relas_if_kept(object, i, header)
+}
+
+fn are_plain_sections(object: &Object<'_>) -> bool
+    ensures { IsTrue result ↔ All (IsPlainSection object.now) (sections object.now) }
+{
+    let headers = object.sections();
+    for (i, header) in headers.iter().enumerate() {
+        if !is_plain_section(object, i, header) {
+            return false;
+        }
+    }
+    true
 }
 
 fn is_plain_symbol(symbol: &Symbol) -> bool
@@ -43,42 +196,10 @@ fn are_plain_symbols(symbols: &[Symbol]) -> bool
     symbols.iter().all(|s| is_plain_symbol(s))
 }
 
-fn is_text(header: &SectionHeader) -> bool
-    ensures { IsTrue result ↔ IsText header.now }
-{
-    header.sh_type == SHT_PROGBITS
-        && header.sh_flags == SHF_ALLOC | SHF_EXECINSTR
-        && header.sh_size > 0
-}
-
-fn is_text_if_alloc(header: &SectionHeader) -> bool
-    ensures { IsTrue result ↔ (pieces.is_alloc header.now ≡ true → IsText header.now) }
-{
-    !is_alloc(header) || is_text(header)
-}
-
-fn are_texts(headers: &[SectionHeader]) -> bool
-    ensures { IsTrue result ↔ All (λ h. pieces.is_alloc h ≡ true → IsText h) headers.now }
-{
-    headers.iter().all(|h| is_text_if_alloc(h))
-}
-
-fn alloc_count(headers: &[SectionHeader]) -> usize
-    ensures { result ≡ length (filter pieces.is_alloc headers.now) }
-{
-    headers.iter().filter(|h| is_alloc(h)).count()
-}
-
-fn is_one_text(headers: &[SectionHeader]) -> bool
-    ensures { IsTrue result ↔ IsOneText (filter pieces.is_alloc headers.now) }
-{
-    alloc_count(headers) == 1 && are_texts(headers)
-}
-
-/// Whether an object is of this profile: one text, no relocation, group, weak, common or TLS symbol.
+/// Whether an object is of this profile: no GROUP section, no thread-local storage, no numbered array, no
+/// weak or common symbol, and no kept relocation of a later kind.
 pub fn is_plain_object(object: &Object<'_>) -> bool
     ensures { IsTrue result ↔ IsPlainObject object.now }
 {
-    let headers = object.sections();
-    are_plain_sections(headers) && are_plain_symbols(object.symbols()) && is_one_text(headers)
+    are_plain_symbols(object.symbols()) && are_plain_sections(object)
 }

@@ -1,6 +1,4 @@
-pub mod ImageBytes
 pub mod ProfileLemmas
-pub mod TextLemmas
+pub mod Values
 pub mod OwnMaps
-pub mod OwnOutputs
 pub mod Links

@@ -1,28 +1,23 @@
 -- From what linking the loaded objects makes to a right link, and from its refusals to causes.
-use Rattle.std.proofs.Common.{◌≡◌, ℕ, ◌<◌, ◌^◌, List, [], ◌∷◌, length, sym, ◌∙◌, ap, subst}
-use Rattle.std.specs.Prelude.{All, AllPairs, IfErr, IfOk, Ok, Err, Result, map}
-use Rattle.std.proofs.lemmas.List.{length-map}
-use Rattle.std.proofs.lemmas.List.Elements.{All-nil}
-use Rattle.elf_model.specs.Causes.{Cause, IsLinkable, IsReferred, IsResolved, IsTaken}
+use Rattle.std.proofs.Common.{◌≡◌, ℕ, ◌<◌, ◌^◌, List, sym, ◌∙◌, ap, subst}
+use Rattle.std.specs.Prelude.{Any, IfErr, IfOk, Ok, Err, Result}
+use Rattle.elf_model.specs.Causes.{Cause, IsLaidOut, IsLinkable, IsReferred, IsResolved, IsTaken}
 use Rattle.elf_model.specs.Command as command
 use Rattle.elf_model.specs.Command.{Plan, command_of}
 use Rattle.elf_model.specs.Files.{File}
 use Rattle.elf_model.specs.ImageFile.{image_file}
 use Rattle.elf_model.specs.Loading.{AreFilesThere, AreObjects, LoadedObject, loaded_objects}
-use Rattle.elf_model.specs.OwnLayout.{OwnValuesFit, own_in_load_order}
 use Rattle.elf_model.specs.Profile.{IsInProfile}
-use Rattle.elf_model.specs.Relocation.{AreFieldsApart, AreLawfulRelocations, Fits, IsLawfulRelocation, relocations}
 use Rattle.elf_model.specs.RightLink.{IsRightLink}
 use Rattle.elf_model.specs.declared.faults.LinkError.{LinkError}
 use Rattle.elf_model.specs.declared.faults.LinkError.TheVariants as error
-use Rattle.elf_model.proofs.NoRelocations.{no_relocations}
-use Rattle.elf_model.proofs.Pairs.{AllPairs-nil}
-use Rattle.elf_model.proofs.PlainKinds.{plain_kinds}
-use Rattle.own_link.proofs.OneText.{one_object}
+use Rattle.layout.specs.Laid.{LayoutFails}
+use Rattle.layout.specs.Placements.{Basis}
 use Rattle.own_link.proofs.OwnRight.{own_is_right}
-use Rattle.ld_main.specs.Outputs.{AreReferred, AreResolved, IsOwnLink, IsOwnOutput, LinksRefuse}
-use Rattle.search.specs.Views.{loaded_view, loaded_views}
-use Rattle.search.specs.declared.loading.Loaded.{Loaded}
+use Rattle.relocate.specs.References.{ReferencesFail}
+use Rattle.relocate.specs.Values.{ValuesFail}
+use Rattle.resolve.specs.Refusals.{ResolvingFails}
+use Rattle.ld_main.specs.Outputs.{AreLaidOut, AreReferred, AreResolved, IsOwnLink, IsOwnOutput, LinksRefuse}
 
 pub ok_more : {X Y : Type 0} (P Q : X → Type 0) (r : Result X Y) → IfOk r P → ((x : X) → P x → Q x) → IfOk r Q
 ok_more P Q (Ok x) is more = more x is
@@ -32,12 +27,34 @@ pub err_more : {X Y : Type 0} (P Q : Y → Type 0) (r : Result X Y) → IfErr r 
 err_more P Q (Ok x) is more = tt
 err_more P Q (Err y) is more = more y is
 
-pub one_loaded :
-    (files : List File) (p : Plan) (objects : List Loaded) → loaded_views objects ≡ loaded_objects files p →
-    IsInProfile p (loaded_views objects) → length objects ≡ 1
-one_loaded files p objects are profile =
-    let o = one_object files p.items profile.one_item profile.no_archive in
-    sym (length-map objects loaded_view) ∙ ap length (are ∙ o.1)
+-- why a phase refuses is why the link does
+pub resolving_refuses : (p : Plan) (objects : List LoadedObject) (e : LinkError) → ResolvingFails objects e → LinksRefuse p objects e
+resolving_refuses p objects error.Memory f = tt
+resolving_refuses p objects (error.Duplicate name) f = f
+resolving_refuses p objects error.BadSymbol f = f
+resolving_refuses p objects _ f = absurd f
+
+pub references_refuse : (p : Plan) (objects : List LoadedObject) → AreResolved objects → (e : LinkError) → ReferencesFail objects e → LinksRefuse p objects e
+references_refuse p objects r error.Memory f = tt
+references_refuse p objects r (error.Undefined name) f = (r, f)
+references_refuse p objects r error.RefToDropped f = (r, f)
+references_refuse p objects r error.RelocKind f = (r, f)
+references_refuse p objects r error.FieldOutside f = (r, f)
+references_refuse p objects r error.OverlappingFields f = (r, f)
+references_refuse p objects r error.TlsMismatch f = (r, f)
+references_refuse p objects r _ f = absurd f
+
+pub layout_refuses : (p : Plan) (objects : List LoadedObject) → AreReferred p objects → (e : LinkError) → LayoutFails p.base objects e → LinksRefuse p objects e
+layout_refuses p objects r error.Memory f = tt
+layout_refuses p objects r error.TooLarge f = (r, f)
+layout_refuses p objects r _ f = absurd f
+
+pub values_refuse :
+    (p : Plan) (objects : List LoadedObject) → AreLaidOut p objects → (e : LinkError) → ValuesFail (record { base = p.base; objects = objects }) e →
+    LinksRefuse p objects e
+values_refuse p objects l error.Memory f = tt
+values_refuse p objects l error.Overflow f = (l, f)
+values_refuse p objects l _ f = absurd f
 
 module _ (files : List File) (words : List (List ℕ)) (p : Plan) (objects : List LoadedObject) (are : objects ≡ loaded_objects files p) (plan_is : command_of words ≡ Ok p) (there : AreFilesThere files p) (good : AreObjects (loaded_objects files p)) (profile : IsInProfile p objects) where
   taken : IsTaken files words p
@@ -47,34 +64,16 @@ module _ (files : List File) (words : List (List ℕ)) (p : Plan) (objects : Lis
   }
 
   resolved : AreResolved (loaded_objects files p) → IsResolved files words p
-  resolved r = record { before = taken; kinds = plain_kinds (loaded_objects files p) taken.profile.plain; sound = r.sound; unique = r.unique }
-
-  -- no relocation is kept, so all of them are lawful and fit
-  none : relocations (loaded_objects files p) ≡ []
-  none = no_relocations 0 (loaded_objects files p) taken.profile.plain
-
-  lawful : AreLawfulRelocations (loaded_objects files p)
-  lawful = record {
-    each = subst (All (IsLawfulRelocation (loaded_objects files p))) (sym none) (All-nil (IsLawfulRelocation (loaded_objects files p)));
-    apart = subst (AllPairs AreFieldsApart) (sym none) (AllPairs-nil AreFieldsApart);
-  }
-
-  fit : OwnValuesFit p.base (loaded_objects files p)
-  fit =
-      let placed = own_in_load_order p.base (loaded_objects files p) in
-      subst (All (Fits (loaded_objects files p) placed)) (sym none) (All-nil (Fits (loaded_objects files p) placed))
+  resolved r = record { before = taken; kinds = r.kinds; sound = r.sound; unique = r.unique }
 
   referred : AreReferred p (loaded_objects files p) → IsReferred files words p
-  referred r = record { before = resolved r.resolved; relocations = lawful; entry = r.entry }
+  referred r = record { before = resolved r.resolved; relocations = r.relocations; entry = r.entry }
+
+  laid_out : AreLaidOut p (loaded_objects files p) → IsLaidOut files words p
+  laid_out l = record { before = referred l.referred; not_too_large = l.not_too_large }
 
   linkable : (image map : List ℕ) → IsOwnOutput p (loaded_objects files p) image map → IsLinkable files words p
-  linkable image map o = record {
-    before = record {
-      before = referred (record { resolved = record { sound = o.linkable.sound; unique = o.linkable.unique }; entry = o.linkable.entry });
-      not_too_large = o.linkable.not_too_large;
-    };
-    fits = fit;
-  }
+  linkable image map o = record { before = laid_out o.linkable.laid_out; fits = o.linkable.fits }
 
   pub own : (image map : List ℕ) → IsOwnOutput p objects image map → IsOwnLink files words image map
   own image map made =
@@ -93,8 +92,16 @@ module _ (files : List File) (words : List (List ℕ)) (p : Plan) (objects : Lis
     where
       of_loaded : (e : LinkError) → LinksRefuse p (loaded_objects files p) e → Cause files words e
       of_loaded error.Memory r = tt
+      of_loaded error.SectionKind r = (p, taken, r)
       of_loaded (error.Duplicate name) r = (p, taken, r)
       of_loaded error.BadSymbol r = (p, taken, r)
+      of_loaded (error.Undefined name) r = (p, resolved r.0, r.1)
+      of_loaded error.RefToDropped r = (p, resolved r.0, r.1)
+      of_loaded error.RelocKind r = (p, resolved r.0, r.1)
+      of_loaded error.FieldOutside r = (p, resolved r.0, r.1)
+      of_loaded error.OverlappingFields r = (p, resolved r.0, r.1)
+      of_loaded error.TlsMismatch r = (p, resolved r.0, r.1)
       of_loaded error.NoEntry r = (p, resolved r.0, r.1)
       of_loaded error.TooLarge r = (p, referred r.0, r.1)
+      of_loaded error.Overflow r = (p, laid_out r.0, r.1)
       of_loaded _ r = absurd r

@@ -1,5 +1,3 @@
-pub mod Defined
-pub mod Layouts
+pub mod Maps
 pub mod Program
-pub mod Texts
 pub mod Outputs

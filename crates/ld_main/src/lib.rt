@@ -2,8 +2,6 @@
 //! program over them.
 #![tactic(auto)]
 
-mod image;
-mod layout;
 mod linking;
 mod own_map;
 mod profile;

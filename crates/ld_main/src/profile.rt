@@ -1,16 +1,23 @@
 //! Whether a command and its objects are within this profile (docs/PROFILE.md).
-ghost use Rattle.std.specs.Prelude.{◌≡◌, ◌↔◌, All, IsTrue, false};
+ghost use Rattle.std.specs.Prelude.{◌≡◌, ◌↔◌, All, IfOk, IsTrue, false};
 ghost use Rattle.elf_model.specs.Profile.{IsInProfile, IsPlainObject};
 ghost use Rattle.search.specs.Views.{loaded_views};
 
 use command::{Item, Plan};
 use elf_read::is_plain_object;
+use resolve::have_plain_names;
 use search::Loaded;
+use std::alloc::{AllocError, Global};
 
 fn are_plain_objects(objects: &[Loaded<'_>]) -> bool
     ensures { IsTrue result ↔ All (λ o. IsPlainObject o.object) objects.now }
 {
-    objects.iter().all(|o| is_plain_object(&o.object))
+    for loaded in objects {
+        if !is_plain_object(&loaded.object) {
+            return false;
+        }
+    }
+    true
 }
 
 fn have_no_archive(items: &[Item<'_>]) -> bool
@@ -19,15 +26,21 @@ fn have_no_archive(items: &[Item<'_>]) -> bool
     items.iter().all(|i| !i.archive)
 }
 
-/// Whether a command of these objects is within this profile: one item, an object with one text.
-pub fn is_in_profile(plan: &Plan<'_>, objects: &[Loaded<'_>]) -> bool
-    ensures { IsTrue result ↔ IsInProfile plan.now (loaded_views objects.now) }
+/// Whether a command of these objects is within this profile: object files alone, plain ones, that use no
+/// linker's name that none of them defines.
+pub fn is_in_profile(
+    alloc: Global,
+    plan: &Plan<'_>,
+    objects: &[Loaded<'_>],
+) -> Result<bool, AllocError>
+    ensures { IfOk result (λ b. IsTrue b ↔ IsInProfile plan.now (loaded_views objects.now)) }
 {
-    if plan.items.len() != 1 {
-        return false;
-    }
     if !have_no_archive(&plan.items) {
-        return false;
+        return Ok(false);
     }
-    are_plain_objects(objects)
+    if !are_plain_objects(objects) {
+        return Ok(false);
+    }
+    let named = have_plain_names(alloc, objects)?;
+    Ok(named)
 }

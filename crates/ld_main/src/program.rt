@@ -148,7 +148,7 @@ fn print_refusal<W: Write>(
 /// The symbol that a refusal names.
 fn symbol_of(error: &LinkError) -> Option<&[u8]> {
     match error {
-        LinkError::Duplicate(name) => Some(name.as_slice()),
+        LinkError::Duplicate(name) | LinkError::Undefined(name) => Some(name.as_slice()),
         _ => None,
     }
 }

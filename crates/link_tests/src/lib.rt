@@ -8,4 +8,6 @@ mod one_object;
 #[cfg(test)]
 mod program;
 #[cfg(test)]
+mod several_objects;
+#[cfg(test)]
 mod vectors;

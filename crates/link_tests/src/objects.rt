@@ -1,12 +1,13 @@
-//! Makes relocatable objects: sections and symbols in, the bytes of a file out.
+//! Makes relocatable objects: sections, symbols and relocations in, the bytes of a file out.
 use elf_model::{
-    EHDR_SIZE, EM_X86_64, ET_REL, EV_CURRENT, FileHeader, SHT_STRTAB, SHT_SYMTAB, SectionHeader,
-    Symbol,
+    EHDR_SIZE, EM_X86_64, ET_REL, EV_CURRENT, FileHeader, Rela, SHT_RELA, SHT_STRTAB, SHT_SYMTAB,
+    SectionHeader, Symbol,
 };
 use std::alloc::Global;
 use std::test::Fail;
 
-/// A section; the first one of an object has the number 1.
+/// A section; the first one of an object has the number 1. One of type NOBITS has no bytes, and a size in
+/// memory.
 #[derive(Clone, Copy)]
 pub struct Section<'a> {
     pub name: &'a str,
@@ -14,6 +15,17 @@ pub struct Section<'a> {
     pub sh_flags: u64,
     pub sh_addralign: u64,
     pub bytes: &'a [u8],
+    pub memory: u64,
+}
+
+/// A relocation of a section, by the section's and the symbol's number.
+#[derive(Clone, Copy)]
+pub struct Relocation {
+    pub section: u32,
+    pub offset: u64,
+    pub kind: u32,
+    pub symbol: u32,
+    pub addend: i64,
 }
 
 /// A symbol; the first one of an object has the number 1. Local symbols stand before the others.
@@ -97,11 +109,38 @@ impl Draft {
         self.headers.push(SectionHeader {
             sh_name,
             sh_offset: u64::try_from(self.bytes.len())?,
-            sh_size: u64::try_from(bytes.len())?,
+            sh_size: u64::try_from(bytes.len())?.max(header.sh_size),
             ..header
         })?;
         self.bytes.extend_from_slice(bytes)?;
         Ok(())
+    }
+
+    /// Appends the relocations of a section, if there are any; the symbol table's number is `table`.
+    fn add_relocations(
+        &mut self,
+        section: u32,
+        table: u32,
+        relocations: &[Relocation],
+    ) -> Result<(), Fail> {
+        let mut entries = Vec::new(*self.bytes.allocator());
+        for relocation in relocations {
+            if relocation.section == section {
+                entries.extend_from_slice(&entry_bytes(relocation))?;
+            }
+        }
+        if entries.is_empty() {
+            return Ok(());
+        }
+        let header = SectionHeader {
+            sh_type: SHT_RELA,
+            sh_link: table,
+            sh_info: section,
+            sh_addralign: 8,
+            sh_entsize: 24,
+            ..NULL_SECTION
+        };
+        self.add(".rela", header, &entries)
     }
 
     /// Appends the symbol table, whose names stand in the section behind it.
@@ -135,6 +174,18 @@ impl Draft {
     }
 }
 
+/// The bytes of a relocation's entry.
+fn entry_bytes(relocation: &Relocation) -> [u8; 24] {
+    let entry = Rela {
+        r_offset: relocation.offset,
+        r_info: u64::from(relocation.symbol) << 32 | u64::from(relocation.kind),
+        r_addend: relocation.addend,
+    };
+    let mut bytes = [0; 24];
+    entry.write_to(&mut bytes);
+    bytes
+}
+
 /// The file header of an object whose `sections` headers stand at `table`; the last names them.
 fn file_header(table: usize, sections: usize) -> Result<[u8; 64], Fail> {
     let e_shnum = u16::try_from(sections)?;
@@ -159,11 +210,22 @@ fn file_header(table: usize, sections: usize) -> Result<[u8; 64], Fail> {
     Ok(bytes)
 }
 
-/// The bytes of an object. Its symbol table, their names and the section names are its last sections.
+/// The bytes of an object without relocations.
 pub fn object(
     alloc: Global,
     sections: &[Section<'_>],
     symbols: &[NamedSymbol<'_>],
+) -> Result<Vec<u8>, Fail> {
+    relocatable(alloc, sections, symbols, &[])
+}
+
+/// The bytes of an object. Its symbol table, their names, the relocations and the section names are its last
+/// sections.
+pub fn relocatable(
+    alloc: Global,
+    sections: &[Section<'_>],
+    symbols: &[NamedSymbol<'_>],
+    relocations: &[Relocation],
 ) -> Result<Vec<u8>, Fail> {
     let mut draft = Draft::new(alloc)?;
     for section in sections {
@@ -171,6 +233,7 @@ pub fn object(
             sh_type: section.sh_type,
             sh_flags: section.sh_flags,
             sh_addralign: section.sh_addralign,
+            sh_size: section.memory,
             ..NULL_SECTION
         };
         draft.add(section.name, header, section.bytes)?;
@@ -180,6 +243,10 @@ pub fn object(
     let locals = symbols.iter().filter(|s| s.st_info >> 4 == 0).count();
     draft.add_symbols(&table, locals)?;
     draft.add(".strtab", STRING_TABLE, &names)?;
+    let table = u32::try_from(sections.len())?.saturating_add(1);
+    for section in 1..table {
+        draft.add_relocations(section, table, relocations)?;
+    }
     draft.finish()
 }
 

@@ -17,6 +17,7 @@ pub fn text_section() -> Section<'static> {
         sh_flags: SHF_ALLOC | SHF_EXECINSTR,
         sh_addralign: 1,
         bytes: &TEXT,
+        memory: 0,
     }
 }
 
@@ -118,8 +119,8 @@ fn refuses_what_is_no_link(rt: HostRuntime) -> Result<(), Fail> {
     let nameless = object(alloc, &[text_section()], &[function("")])?;
     let nameless = link_one(alloc, &nameless, "a.o")?;
     assert!(rt; matches!(&nameless, Err(LinkError::BadSymbol)));
-    let twice = link_one(alloc, &OBJECT, "a.o a.o")?;
-    assert!(rt; matches!(&twice, Err(LinkError::NotYet)));
+    let archive = link_one(alloc, &OBJECT, "a.o b.a")?;
+    assert!(rt; matches!(&archive, Err(LinkError::NotYet)));
     let absent = link_one(alloc, &OBJECT, "b.o")?;
     assert!(rt; matches!(&absent, Err(LinkError::FileMissing)));
     Ok(())

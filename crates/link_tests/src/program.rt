@@ -96,7 +96,8 @@ fn refuses_links(rt: HostRuntime) -> Result<(), Fail> {
     let rows = [
         ("cut.o", "ld: BadObject (4): Truncated (2)\n"),
         ("nameless.o", "ld: BadSymbol (21)\n"),
-        ("a.o a.o", "ld: NotYet (22)\n"),
+        ("a.o a.o", "ld: Duplicate (9): _start\n"),
+        ("a.o a.a", "ld: NotYet (22)\n"),
         ("twice.o", "ld: Duplicate (9): f\n"),
         ("spaced.o", "ld: Duplicate (9): f\\x20g\n"),
         ("a.o -e x", "ld: NoEntry (18)\n"),

@@ -15,7 +15,4 @@ pub mod SegmentEnds
 pub mod Nothing
 pub mod ZeroFilled
 pub mod ImageOwn
-pub mod OneText
-pub mod OwnOne
-pub mod ImageForm
 pub mod OwnRight

@@ -5,9 +5,9 @@ use Rattle.std.proofs.lemmas.List.Elements.{All-append, All-cons, All-nil, Conta
 use Rattle.std.proofs.lemmas.List.Kept.{AllPairs-cons}
 use Rattle.elf_model.proofs.Listed.{Contains-here}
 use Rattle.elf_model.proofs.Pairs.{AllPairs-append, AllPairs-head, AllPairs-nil, AllPairs-tail}
-use Rattle.elf_model.specs.Causes.{IsUndefinedName}
+use Rattle.elf_model.specs.Causes.{IsToDropped, IsUndefinedName}
 use Rattle.elf_model.specs.Loading.{LoadedObject}
-use Rattle.elf_model.specs.Relocation.{AreFieldsApart, IsFieldInside, IsLawfulRelocation, RefersToDropped, Relocation, relocation_kind}
+use Rattle.elf_model.specs.Relocation.{AreFieldsApart, IsFieldInside, IsLawfulRelocation, IsThreadMismatch, Relocation, relocation_kind}
 use Rattle.elf_model.specs.declared.faults.LinkError.{LinkError}
 use Rattle.elf_model.specs.declared.faults.LinkError.TheVariants as error
 use Rattle.relocate.specs.References.{AreLawful, RelocationFails, RelocationsFail}
@@ -40,28 +40,31 @@ module _ {X : Type 0} (R : X → X → Type 0) where
 pub fail_first : (objects : List LoadedObject) (r : Relocation) (rs : List Relocation) (e : LinkError) → RelocationFails objects r e → RelocationsFail objects (r ∷ rs) e
 fail_first objects r rs error.Memory f = tt
 fail_first objects r rs (error.Undefined name) f = Any-here (IsUndefinedName name.items objects) r rs f
-fail_first objects r rs error.RefToDropped f = Any-here (λ (t : Relocation). RefersToDropped objects t.symbol) r rs f
+fail_first objects r rs error.RefToDropped f = Any-here (IsToDropped objects) r rs f
 fail_first objects r rs error.RelocKind f = Any-here (λ (t : Relocation). relocation_kind t ≡ None) r rs f
 fail_first objects r rs error.FieldOutside f = Any-here (λ (t : Relocation). ¬ IsFieldInside t) r rs f
 fail_first objects r rs error.OverlappingFields f = absurd f
+fail_first objects r rs error.TlsMismatch f = Any-here (IsThreadMismatch objects) r rs f
 fail_first objects r rs _ f = absurd f
 
 pub fail_left : (objects : List LoadedObject) (xs ys : List Relocation) (e : LinkError) → RelocationsFail objects xs e → RelocationsFail objects (xs ++ ys) e
 fail_left objects xs ys error.Memory f = tt
 fail_left objects xs ys (error.Undefined name) f = Any-left (IsUndefinedName name.items objects) xs ys f
-fail_left objects xs ys error.RefToDropped f = Any-left (λ (t : Relocation). RefersToDropped objects t.symbol) xs ys f
+fail_left objects xs ys error.RefToDropped f = Any-left (IsToDropped objects) xs ys f
 fail_left objects xs ys error.RelocKind f = Any-left (λ (t : Relocation). relocation_kind t ≡ None) xs ys f
 fail_left objects xs ys error.FieldOutside f = Any-left (λ (t : Relocation). ¬ IsFieldInside t) xs ys f
 fail_left objects xs ys error.OverlappingFields f = λ pairs. f (AllPairs-left AreFieldsApart xs ys pairs)
+fail_left objects xs ys error.TlsMismatch f = Any-left (IsThreadMismatch objects) xs ys f
 fail_left objects xs ys _ f = absurd f
 
 pub fail_right : (objects : List LoadedObject) (xs ys : List Relocation) (e : LinkError) → RelocationsFail objects ys e → RelocationsFail objects (xs ++ ys) e
 fail_right objects xs ys error.Memory f = tt
 fail_right objects xs ys (error.Undefined name) f = Any-right (IsUndefinedName name.items objects) xs ys f
-fail_right objects xs ys error.RefToDropped f = Any-right (λ (t : Relocation). RefersToDropped objects t.symbol) xs ys f
+fail_right objects xs ys error.RefToDropped f = Any-right (IsToDropped objects) xs ys f
 fail_right objects xs ys error.RelocKind f = Any-right (λ (t : Relocation). relocation_kind t ≡ None) xs ys f
 fail_right objects xs ys error.FieldOutside f = Any-right (λ (t : Relocation). ¬ IsFieldInside t) xs ys f
 fail_right objects xs ys error.OverlappingFields f = λ pairs. f (AllPairs-right AreFieldsApart xs ys pairs)
+fail_right objects xs ys error.TlsMismatch f = Any-right (IsThreadMismatch objects) xs ys f
 fail_right objects xs ys _ f = absurd f
 
 -- rest is left to judge of the whole

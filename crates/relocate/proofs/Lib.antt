@@ -4,6 +4,8 @@ pub mod Judged
 pub mod KindRows
 pub mod KindWidths
 pub mod ObjectFields
+pub mod ObjectRows
+pub mod OwnParts
 pub mod Patched
 pub mod Rows
 pub mod Spelled

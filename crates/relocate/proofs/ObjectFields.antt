@@ -7,7 +7,7 @@ use Rattle.std.proofs.lemmas.Bool.Decides.{nat_tests}
 use Rattle.std.proofs.lemmas.List.Elements.{All-append, All-map, All-nil, All-weaker}
 use Rattle.elf_model.proofs.Pairs.{AllPairs-map, AllPairs-unmap, AllPairs-weaker}
 use Rattle.elf_model.specs.Loading.{LoadedObject}
-use Rattle.elf_model.specs.Relocation.{AreFieldsApart, IsLawfulRelocation, Kind, Relocation, is_in_field, is_kept_rela, is_some_kind, relocation_kind, relocation_of, relocations_from, relocations_in, relocations_of, width_of}
+use Rattle.elf_model.specs.Relocation.{AreFieldsApart, IsFieldInside, IsLawfulRelocation, Kind, Relocation, is_in_field, is_kept_rela, is_some_kind, relocation_kind, relocation_of, relocations_from, relocations_in, relocations_of, width_of}
 use Rattle.elf_model.specs.ObjectFile.{rela_type, relas_of, sections}
 use Rattle.elf_model.specs.declared.records.SectionHeader.{SectionHeader}
 use Rattle.relocate.proofs.KindWidths.{kind_width}
@@ -23,8 +23,16 @@ width_some r there = by (relocation_kind r) there (kind_width (rela_type r.entry
     by None h n = absurd (false≢true h)
     by (Some k) h n = n
 
+-- a field that lies inside its section ends within it
+pub ends_inside : (r : Relocation) → IsThere (relocation_kind r) → IsFieldInside r → r.entry.r_offset + width_of r ≤ r.size
+ends_inside r there inside = by (relocation_kind r) there inside
+  where
+    by : (o : Option Kind) → IsThere o → IfSome o (λ k. r.entry.r_offset + k.width ≤ r.size) → r.entry.r_offset + unwrap_or (option_map (λ k. k.width) o) 0 ≤ r.size
+    by None h n = absurd (false≢true h)
+    by (Some k) h n = n
+
 -- byte k lies in a field
-in_field : (object s k : ℕ) (r : Relocation) → is_in_field object s k r ≡ true → (r.object ≡ object) × (r.section ≡ s) × (r.entry.r_offset ≤ k) × (k < r.entry.r_offset + width_of r)
+pub in_field : (object s k : ℕ) (r : Relocation) → is_in_field object s k r ≡ true → (r.object ≡ object) × (r.section ≡ s) × (r.entry.r_offset ≤ k) × (k < r.entry.r_offset + width_of r)
 in_field object s k r e = (grind (arith, nat_tests), grind (arith, nat_tests), grind (arith, nat_tests), grind (arith, nat_tests))
 
 field_has :

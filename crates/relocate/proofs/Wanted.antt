@@ -14,7 +14,7 @@ use Rattle.elf_model.specs.Placement.{Placed}
 use Rattle.elf_model.specs.Relocation.{AreFieldsApart, IsLawfulRelocation, Relocation, is_in_field, is_kept_rela, is_some_kind, relocation_of, relocations_from, relocations_in, width_of}
 use Rattle.elf_model.specs.declared.records.SectionHeader.{SectionHeader}
 use Rattle.relocate.proofs.KindRows.{find-map}
-use Rattle.relocate.proofs.ObjectFields.{own_object, width_some}
+use Rattle.relocate.proofs.ObjectFields.{ends_inside, own_object, width_some}
 use Rattle.relocate.proofs.Patched.{length-patched, patched_at}
 use Rattle.relocate.specs.Patches.{AreDisjoint, FitsIn, byte_of, covers, patched}
 use Rattle.relocate.specs.Values.{is_in_section, patch_of, patches_in}
@@ -103,7 +103,7 @@ patches_inside objects ps n b s size lawful long =
         All-filter (is_in_section s) (λ (t : Relocation). t.size ≡ (section (sections b) t.section).sh_size) rs
         (sizes_in n b (filter (is_kept_rela b) (sections b))) i d low in
         let same : r.size ≡ size = own ∙ (ap (λ (k : ℕ). (section (sections b) k).sh_size) at ∙ sym long) in
-        let inside : r.entry.r_offset + width_of r ≤ r.size = l.inside in
+        let inside = ends_inside r l.known l.inside in
         record { inside = subst (λ (m : ℕ). r.entry.r_offset + width_of r ≤ m) same inside; narrow = (width_some r l.known).1 }
 
 -- so a section's bytes with the patches over them have each field's value at it

@@ -1,11 +1,11 @@
 -- What is asked of relocations, and why they are refused.
 use Rattle.std.specs.Prelude.{◌≡◌, ◌==◌, ℕ, false, true, cond, List, Option, None, Some, All, AllPairs, Any, IsSomeAnd, option_map}
 use Rattle.std.specs.List.{slice_get}
-use Rattle.elf_model.specs.Causes.{IsUndefinedName}
+use Rattle.elf_model.specs.Causes.{IsToDropped, IsUndefinedName}
 use Rattle.elf_model.specs.Loading.{LoadedObject}
 use Rattle.elf_model.specs.ObjectFile.{sections}
 use Rattle.elf_model.specs.Pieces.{is_alloc}
-use Rattle.elf_model.specs.Relocation.{AreFieldsApart, IsFieldInside, IsLawfulRelocation, RefersToDropped, Relocation, relocation_kind, relocations}
+use Rattle.elf_model.specs.Relocation.{AreFieldsApart, IsFieldInside, IsLawfulRelocation, IsThreadMismatch, Relocation, relocation_kind, relocations}
 use Rattle.elf_model.specs.Resolution.{binding, is_undefined}
 use Rattle.elf_model.specs.declared.faults.LinkError.{LinkError}
 use Rattle.elf_model.specs.declared.faults.LinkError.TheVariants as error
@@ -39,19 +39,21 @@ IsNamedUndefined name _ = ⊥
 abbrev pub RelocationFails : List LoadedObject → Relocation → LinkError → Type 0
 RelocationFails objects r error.Memory = Unit {0}
 RelocationFails objects r (error.Undefined name) = IsUndefinedName name.items objects r
-RelocationFails objects r error.RefToDropped = RefersToDropped objects r.symbol
+RelocationFails objects r error.RefToDropped = IsToDropped objects r
 RelocationFails objects r error.RelocKind = relocation_kind r ≡ None
 RelocationFails objects r error.FieldOutside = ¬ IsFieldInside r
+RelocationFails objects r error.TlsMismatch = IsThreadMismatch objects r
 RelocationFails objects r _ = ⊥
 
 -- why relocations aren't lawful
 abbrev pub RelocationsFail : List LoadedObject → List Relocation → LinkError → Type 0
 RelocationsFail objects rs error.Memory = Unit {0}
 RelocationsFail objects rs (error.Undefined name) = Any (IsUndefinedName name.items objects) rs
-RelocationsFail objects rs error.RefToDropped = Any (λ r. RefersToDropped objects r.symbol) rs
+RelocationsFail objects rs error.RefToDropped = Any (IsToDropped objects) rs
 RelocationsFail objects rs error.RelocKind = Any (λ r. relocation_kind r ≡ None) rs
 RelocationsFail objects rs error.FieldOutside = Any (λ r. ¬ IsFieldInside r) rs
 RelocationsFail objects rs error.OverlappingFields = ¬ AllPairs AreFieldsApart rs
+RelocationsFail objects rs error.TlsMismatch = Any (IsThreadMismatch objects) rs
 RelocationsFail objects rs _ = ⊥
 
 abbrev pub ReferencesFail : List LoadedObject → LinkError → Type 0

@@ -1,10 +1,13 @@
 -- The values that relocations want in a layout, as patches, and why there are none.
-use Rattle.std.specs.Prelude.{◌≡◌, ◌==◌, ◌<◌, ℕ, Bool, List, All, filter, length, map, slice_index_or}
+use Rattle.std.specs.Prelude.{◌≡◌, ◌==◌, ◌<◌, ℕ, Bool, List, [], Option, Some, All, filter, length, map, option_map, slice_index_or, unwrap_or}
+use Rattle.std.specs.List.{slice_get}
+use Rattle.std.specs.Option.{option_and_then}
 use Rattle.std.specs.Global.{Vec}
 use Rattle.elf_model.specs.Loading.{LoadedObject}
-use Rattle.elf_model.specs.OwnLayout.{own_in_load_order}
+use Rattle.elf_model.specs.OwnLayout.{OwnValuesFit, own_in_load_order}
+use Rattle.elf_model.specs.ObjectFile.{sections}
 use Rattle.elf_model.specs.Placement.{Placed}
-use Rattle.elf_model.specs.Relocation.{Fits, Relocation, value_of, width_of}
+use Rattle.elf_model.specs.Relocation.{AreLawfulRelocations, Fits, Relocation, relocations_from, value_of, width_of}
 use Rattle.elf_model.specs.declared.faults.LinkError.{LinkError}
 use Rattle.elf_model.specs.declared.faults.LinkError.TheVariants as error
 use Rattle.layout.specs.Placements.{Basis}
@@ -35,3 +38,25 @@ patches_in objects ps rs s = map (patch_of objects ps) (filter (is_in_section s)
 pub record ArePatchRows (objects : List LoadedObject) (ps : List Placed) (rs : List Relocation) (n : ℕ) (rows : List (Vec Patch)) : Type 0 where
   pub count : length rows ≡ n
   pub each : (s : ℕ) (d : Vec Patch) → s < n → (slice_index_or rows s d).items ≡ patches_in objects ps rs s
+
+-- the patches of section s in its object's rows, and of section s of object number k; none where there is no
+-- such section
+abbrev pub patches_at : ℕ → Vec (Vec Patch) → Option (List Patch)
+patches_at s row = option_map (λ ps. ps.items) (slice_get row.items s)
+
+abbrev pub row_in : List (Vec (Vec Patch)) → ℕ → ℕ → List Patch
+row_in rows k s = unwrap_or (option_and_then (patches_at s) (slice_get rows k)) []
+
+-- the patches of all objects, whose relocations are lawful, laid out from a base on
+pub record ArePatches (b : Basis) (rows : List (Vec (Vec Patch))) : Type 0 where
+  pub lawful : AreLawfulRelocations b.objects
+  pub count : length rows ≡ length b.objects
+  pub each :
+      (k : ℕ) (o : LoadedObject) (d : Vec (Vec Patch)) → slice_get b.objects k ≡ Some o
+      → ArePatchRows b.objects (placed_in b) (relocations_from k o.bytes) (length (sections o.bytes)) (slice_index_or rows k d).items
+
+-- why objects have no patches
+abbrev pub ValuesFail : Basis → LinkError → Type 0
+ValuesFail b error.Memory = Unit {0}
+ValuesFail b error.Overflow = ¬ OwnValuesFit b.base b.objects
+ValuesFail b _ = ⊥

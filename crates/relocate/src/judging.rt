@@ -1,4 +1,5 @@
-//! What is asked of one relocation: a known kind, a lawful symbol, a field inside its section.
+//! What is asked of one relocation: a known kind, a lawful symbol, a kind for what that symbol is, a field
+//! inside its section.
 ghost use Rattle.std.specs.Prelude.{◌≡◌, IfErr, IfOk, OnOk};
 ghost use Rattle.elf_model.specs.ObjectFile.{section, sections};
 ghost use Rattle.elf_model.specs.Relocation.{IsLawfulRelocation, relocation_of};
@@ -6,8 +7,8 @@ ghost use Rattle.relocate.specs.Fields.{field_of};
 ghost use Rattle.relocate.specs.References.{IsObjectAt, RelocationFails};
 
 use crate::fields::Field;
-use crate::kinds::kind_of;
-use crate::symbols::{is_undefined, name_of, refers_to_dropped, undefined};
+use crate::kinds::{is_mismatch, kind_of};
+use crate::symbols::{is_thread_local, is_undefined, name_of, refers_to_dropped, undefined};
 use elf_model::{LinkError, Rela};
 use elf_read::Object;
 use resolve::Resolved;
@@ -39,6 +40,10 @@ pub fn lawful_field(
     }
     if refers_to_dropped(object, symbol) {
         return Err(LinkError::RefToDropped);
+    }
+    let inside = is_thread_local(resolved, number, object, symbol);
+    if is_mismatch(kind.formula, inside) {
+        return Err(LinkError::TlsMismatch);
     }
     let width = kind.width as u64;
     if entry.r_offset > size || width > size - entry.r_offset {

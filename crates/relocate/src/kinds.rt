@@ -138,6 +138,19 @@ fn difference(n: u64, addend: i64, place: u64) -> u64
     n.wrapping_add(addend.cast_unsigned()).wrapping_sub(place)
 }
 
+/// Whether a kind isn't for what its symbol is: a thread offset is asked of what stands in thread-local
+/// storage alone, a size of anything, every other value of what stands outside.
+pub fn is_mismatch(formula: Formula, inside: bool) -> bool
+    ensures { IsTrue result ↔ relocation.IsMismatch (formula_view formula) inside }
+{
+    match formula {
+        Formula::ThreadOffset => !inside,
+        Formula::ThreadSlotFromPlace => !inside,
+        Formula::Size => false,
+        _ => inside,
+    }
+}
+
 /// Whether a value of 64 bits fits a field of so many bytes.
 pub fn fits(range: Range, width: u8, value: u64) -> bool
     requires some { 0 < width }

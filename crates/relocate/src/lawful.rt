@@ -20,8 +20,8 @@ use std::alloc::Global;
 ///
 /// # Errors
 ///
-/// RelocKind, Undefined, RefToDropped and FieldOutside where one of them isn't lawful, OverlappingFields
-/// where a byte lies in the fields of two, Memory where memory is refused.
+/// RelocKind, Undefined, RefToDropped, TlsMismatch and FieldOutside where one of them isn't lawful,
+/// OverlappingFields where a byte lies in the fields of two, Memory where memory is refused.
 pub fn references(
     alloc: Global,
     objects: &[Loaded<'_>],

@@ -2,15 +2,22 @@
 //! that they want at the linker's own places, and the writing of these into the bytes of a section.
 #![tactic(auto)]
 
+mod applying;
 mod collecting;
 mod fields;
 mod judging;
 mod kinds;
 mod lawful;
 mod patch;
+mod patching;
 mod symbols;
 mod values;
 
+pub use applying::Patches;
 pub use elf_model::LinkError;
 pub use kinds::{Formula, Kind, Range, Terms, fits, kind_of, value};
 pub use lawful::references;
+pub use patching::patches;
+
+#[cfg(test)]
+mod tests;

@@ -2,10 +2,11 @@
 ghost use Rattle.std.specs.Prelude.{◌≡◌, ◌↔◌, [], ◌==◌, IsSomeAnd, IsTrue, false, unwrap_or};
 ghost use Rattle.elf_model.specs.ObjectFile.{null_section, null_symbol, relas_of, section, sections, symbol_name, symbols};
 ghost use Rattle.elf_model.specs.Pieces as pieces;
-ghost use Rattle.elf_model.specs.Relocation.{IsUndefined, is_kept_rela, is_some_kind, symbol_at};
-ghost use Rattle.elf_model.specs.Resolution.{binding};
+ghost use Rattle.elf_model.specs.Relocation.{IsUndefined, definition_of, is_kept_rela, is_some_kind, symbol_at};
+ghost use Rattle.elf_model.specs.Resolution.{binding, is_in_thread_section};
 ghost use Rattle.std.specs.Prelude.{Some, slice_index_or};
 ghost use Rattle.std.specs.List.{slice_get};
+ghost use Rattle.std.specs.Option.{option_map_or};
 ghost use Rattle.relocate.specs.References.{IsNamedUndefined, IsObjectAt, StandsInDropped, section_in};
 
 use elf_model::{
@@ -137,6 +138,20 @@ pub fn is_undefined(
         return false;
     }
     resolved.definition(number, j).is_none()
+}
+
+/// Whether the definition that a reference to symbol `j` of the object that has a number uses stands in a
+/// section with SHF_TLS.
+pub fn is_thread_local(
+    resolved: &Resolved<'_, '_>,
+    number: usize,
+    object: &Object<'_>,
+    j: usize,
+) -> bool
+    requires { IsObjectAt resolved.now number object.now }
+    ensures { result ≡ option_map_or (is_in_thread_section resolved.now) (definition_of resolved.now (symbol_at number object.now j)) false }
+{
+    resolved.is_thread_local(number, j)
 }
 
 /// The refusal of a symbol that has no definition.

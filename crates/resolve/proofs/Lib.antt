@@ -3,6 +3,7 @@ pub mod Gathered
 pub mod Meanings
 pub mod NamePlaces
 pub mod PlaceRows
+pub mod PlainNames
 pub mod Rests
 pub mod SoundWalk
 pub mod Twins

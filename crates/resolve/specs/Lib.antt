@@ -1,6 +1,7 @@
 pub mod Defined
 pub mod Meaning
 pub mod Places
+pub mod Plain
 pub mod Refusals
 pub mod Sound
 pub mod Views

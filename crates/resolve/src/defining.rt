@@ -35,7 +35,7 @@ fn add_strong<'a>(
 }
 
 /// The strong definitions of all objects, in load order.
-fn strong_definitions<'a>(
+pub fn strong_definitions<'a>(
     alloc: Global,
     objects: &[Loaded<'a>],
 ) -> Result<Vec<SymbolOf<'a>>, AllocError>

@@ -6,11 +6,13 @@
 mod defining;
 mod names;
 mod places;
+mod plain;
 mod resolved;
 mod sections;
 mod soundness;
 mod symbols;
 
 pub use elf_model::LinkError;
+pub use plain::have_plain_names;
 pub use resolved::{Resolved, resolve};
 pub use symbols::SymbolOf;

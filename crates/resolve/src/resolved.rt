@@ -1,8 +1,8 @@
 //! What names and symbols mean among the loaded objects.
-ghost use Rattle.std.specs.Prelude.{◌≡◌, IfErr, IfNone, IfOk, IfSome, OnOk, OnSome, Some, map};
+ghost use Rattle.std.specs.Prelude.{◌≡◌, IfErr, IfNone, IfOk, IfSome, OnOk, OnSome, Some, false, map};
 ghost use Rattle.std.specs.List.{slice_get};
-ghost use Rattle.std.specs.Option.{option_map};
-ghost use Rattle.elf_model.specs.Resolution.{AreSoundSymbols, AreUnique, IsEntry, chosen};
+ghost use Rattle.std.specs.Option.{option_map, option_map_or};
+ghost use Rattle.elf_model.specs.Resolution.{AreSoundSymbols, AreUnique, IsEntry, chosen, is_in_thread_section};
 ghost use Rattle.search.specs.Views.{loaded_views};
 ghost use Rattle.resolve.specs.Defined.{AreDefinitions};
 ghost use Rattle.resolve.specs.Meaning.{definition_at, named_at, own_at};
@@ -120,6 +120,17 @@ impl<'b, 'a> Resolved<'b, 'a> {
             return None;
         }
         Some(symbol_in(object as u64, &loaded.object, number, entry))
+    }
+
+    /// Whether the definition that a reference to symbol `number` of an object uses stands in a section
+    /// with SHF_TLS; one that has no definition doesn't.
+    pub fn is_thread_local(&self, object: usize, number: usize) -> bool
+        ensures { result ≡ option_map_or (is_in_thread_section self.now) (definition_at self.now object number) false }
+    {
+        match self.definition(object, number) {
+            Some(symbol) => is_in_thread_section(self.objects, &symbol),
+            None => false,
+        }
     }
 
     /// The entry's definition, by its name, which stands in no section with SHF_TLS.

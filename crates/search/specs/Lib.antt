@@ -1,2 +1,3 @@
+pub mod FileIndex
 pub mod Search
 pub mod Views

@@ -1,6 +1,7 @@
 //! Which objects a command loads: opens the files of its items and reads them, in load order.
 #![tactic(auto)]
 
+mod files;
 mod loading;
 
 pub use elf_model::LinkError;

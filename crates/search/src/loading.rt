@@ -7,8 +7,9 @@ ghost use Rattle.elf_model.specs.ObjectFile.{IsObject, ObjFaultStands};
 ghost use Rattle.search.specs.Search.{Becomes, ItemsFail, LoadFails, ReadFails, loaded_item};
 ghost use Rattle.search.specs.Views.{loaded_view, loaded_views};
 
+use crate::files::FileIndex;
 use byteview::View;
-use command::{Item, Plan, file_named, path_of};
+use command::{Item, Plan, path_of};
 use elf_model::{InputFile, LinkError, ObjFault};
 use elf_read::Object;
 use std::alloc::Global;
@@ -22,14 +23,14 @@ pub struct Loaded<'a> {
 }
 
 /// Whether an item that isn't an archive has a file.
-fn has_file(files: &[InputFile], item: &Item<'_>) -> bool
-    ensures { IsTrue result ↔ HasFile (files_of files.now) (item_of item.now) }
+fn has_file(files: &FileIndex<'_>, item: &Item<'_>) -> bool
+    ensures { IsTrue result ↔ HasFile files.now (item_of item.now) }
 {
-    item.archive || file_named(files, path_of(item)).is_some()
+    item.archive || files.find(path_of(item)).is_some()
 }
 
-fn have_files(files: &[InputFile], items: &[Item<'_>]) -> bool
-    ensures { IsTrue result ↔ All (λ i. HasFile (files_of files.now) (item_of i)) items.now }
+fn have_files(files: &FileIndex<'_>, items: &[Item<'_>]) -> bool
+    ensures { IsTrue result ↔ All (λ i. HasFile files.now (item_of i)) items.now }
 {
     items.iter().all(|i| has_file(files, i))
 }
@@ -59,17 +60,17 @@ fn link_error(fault: ObjFault) -> LinkError
 /// Reads the object of item `number`, whose file is there.
 fn load_item<'a>(
     alloc: Global,
-    files: &'a [InputFile],
+    files: &FileIndex<'a>,
     item: &Item<'a>,
     number: u64,
 ) -> Result<Loaded<'a>, LinkError>
-    requires file { IsSome (file_named (files_of files.now) (path_of (item_of item.now))) }
-    ensures exact { IfOk result (λ l. loaded_view l ≡ loaded_item (files_of files.entry.now) number (item_of item.now)) }
-    ensures object { OnOk result (IsObject (loaded_item (files_of files.entry.now) number (item_of item.now)).bytes) }
-    ensures fault { IfErr result (ReadFails (loaded_item (files_of files.entry.now) number (item_of item.now)).bytes) }
+    requires file { IsSome (file_named files.now (path_of (item_of item.now))) }
+    ensures exact { IfOk result (λ l. loaded_view l ≡ loaded_item files.now number (item_of item.now)) }
+    ensures object { OnOk result (IsObject (loaded_item files.now number (item_of item.now)).bytes) }
+    ensures fault { IfErr result (ReadFails (loaded_item files.now number (item_of item.now)).bytes) }
 {
     let path = path_of(item);
-    let Some(bytes) = file_named(files, path) else {
+    let Some(bytes) = files.find(path) else {
         unreachable!()
     };
     let object = read_object(alloc, bytes)?;
@@ -83,13 +84,13 @@ fn load_item<'a>(
 /// Reads the objects of the items, whose files are there, in order.
 fn load_items<'a>(
     alloc: Global,
-    files: &'a [InputFile],
+    files: &FileIndex<'a>,
     items: &[Item<'a>],
 ) -> Result<Vec<Loaded<'a>>, LinkError>
-    requires { All (λ i. HasFile (files_of files.now) (item_of i)) items.now }
-    ensures loaded { IfOk result (λ v. loaded_views v.items ≡ objects_from (files_of files.entry.now) 0 (map item_of items.now)) }
-    ensures objects { OnOk result (AreObjects (objects_from (files_of files.entry.now) 0 (map item_of items.now))) }
-    ensures fault { IfErr result (ItemsFail (objects_from (files_of files.entry.now) 0 (map item_of items.now))) }
+    requires { All (λ i. HasFile files.now (item_of i)) items.now }
+    ensures loaded { IfOk result (λ v. loaded_views v.items ≡ objects_from files.now 0 (map item_of items.now)) }
+    ensures objects { OnOk result (AreObjects (objects_from files.now 0 (map item_of items.now))) }
+    ensures fault { IfErr result (ItemsFail (objects_from files.now 0 (map item_of items.now))) }
 {
     let mut objects = Vec::new(alloc);
     for (i, item) in items.iter().enumerate() {
@@ -113,8 +114,9 @@ pub fn load<'a>(
     ensures objects { OnOk result (AreObjects (loaded_objects (files_of files.entry.now) plan.now)) }
     ensures fault { IfErr result (LoadFails (files_of files.entry.now) plan.now) }
 {
-    if !have_files(files, &plan.items) {
+    let index = FileIndex::new(alloc, files)?;
+    if !have_files(&index, &plan.items) {
         return Err(LinkError::FileMissing);
     }
-    load_items(alloc, files, &plan.items)
+    load_items(alloc, &index, &plan.items)
 }

@@ -1,5 +1,5 @@
 use Rattle.std.specs.Prelude.{All}
-use Rattle.checker.specs.Bytes.{HoldsInput}
+use Rattle.checker.specs.Bytes.{HoldsFields}
 use Rattle.checker.specs.Views.{placed_view}
 use Rattle.checker.specs.declared.things.Placed.{Placed}
 use Rattle.checker.proofs.Rests.{all_more}
@@ -7,6 +7,6 @@ use Rattle.checker.proofs.bytes.all_held.Goals as goal
 
 pub loop-q-preserved : goal.loop-q-preserved
 loop-q-preserved c =
-    all_more (All (λ (r : Placed). HoldsInput c.args.memory.now (placed_view r)) c.args.placed.now)
-    (λ (r : Placed). HoldsInput c.args.memory.now (placed_view r)) c.args.placed.now c.loop-q.q-index _ c.loop-q-test.true
+    all_more (All (λ (r : Placed). HoldsFields c.args.memory.now c.args.rows.now (placed_view r)) c.args.placed.now)
+    (λ (r : Placed). HoldsFields c.args.memory.now c.args.rows.now (placed_view r)) c.args.placed.now c.loop-q.q-index _ c.loop-q-test.true
     (c.holds_piece.ensures.0 c.if-not-holds_piece.false) c.loop-q.invariant

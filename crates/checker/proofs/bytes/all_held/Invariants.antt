@@ -1,10 +1,10 @@
 use Rattle.std.proofs.Common.{drop}
 use Rattle.std.specs.Prelude.{All}
-use Rattle.checker.specs.Bytes.{HoldsInput}
+use Rattle.checker.specs.Bytes.{HoldsFields}
 use Rattle.checker.specs.Views.{placed_view}
 use Rattle.checker.proofs.Rests.{Left}
 use Rattle.checker.proofs.bytes.all_held.Given as goal
 
 abbrev pub invariant-loop-q : goal.invariant-loop-q
 invariant-loop-q l =
-    Left (All (λ r. HoldsInput l.memory (placed_view r)) l.placed) (All (λ r. HoldsInput l.memory (placed_view r)) (drop l.q-index l.placed))
+    Left (All (λ r. HoldsFields l.memory l.rows (placed_view r)) l.placed) (All (λ r. HoldsFields l.memory l.rows (placed_view r)) (drop l.q-index l.placed))

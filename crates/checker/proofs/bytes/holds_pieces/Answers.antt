@@ -1,11 +1,11 @@
 use Rattle.std.proofs.lemmas.List.Elements.{All-map}
-use Rattle.checker.specs.Bytes.{HoldsInput}
+use Rattle.checker.specs.Bytes.{HoldsFields}
 use Rattle.checker.specs.Views.{placed_view}
 use Rattle.checker.proofs.Rests.{All-unmap}
 use Rattle.checker.proofs.bytes.holds_pieces.Goals as goal
 
 pub returns : goal.returns
 returns c = (
-  λ e. All-map (HoldsInput c.args.memory.now) placed_view c.args.placed.now (c.all_held.ensures.0 e),
-  λ h. c.all_held.ensures.1 (All-unmap (HoldsInput c.args.memory.now) placed_view c.args.placed.now h),
+  λ e. All-map (HoldsFields c.args.memory.now c.args.rows.now) placed_view c.args.placed.now (c.all_held.ensures.0 e),
+  λ h. c.all_held.ensures.1 (All-unmap (HoldsFields c.args.memory.now c.args.rows.now) placed_view c.args.placed.now h),
 )

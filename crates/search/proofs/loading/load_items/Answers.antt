@@ -1,6 +1,5 @@
 use Rattle.std.proofs.Common.{◌++◌, List, ◌∙◌, ap, sym}
 use Rattle.std.proofs.lemmas.Result.{err_from_is_err_and}
-use Rattle.elf_model.specs.Files.{files_of}
 use Rattle.elf_model.specs.Loading.{LoadedObject}
 use Rattle.search.specs.Views.{loaded_views}
 use Rattle.search.proofs.Loads.{items_fail, load_step, objects_more, split_item}
@@ -9,7 +8,7 @@ use Rattle.search.proofs.loading.load_items.Goals as goal
 pub returns-in_err-object-clause-fault : goal.returns-in_err-object-clause-fault
 returns-in_err-object-clause-fault c =
     let p = err_from_is_err_and c.from_residual.result c.from_residual.ensures.1 in
-    let split = split_item (files_of c.args.files.now) c.args.items.now c.loop-i.i _ c.loop-i-test.true c.if-item.false in
+    let split = split_item c.args.files.now c.args.items.now c.loop-i.i _ c.loop-i-test.true c.if-item.false in
     rw (p.1, p.2)
     (items_fail (loaded_views c.loop-i.objects.items) _ _ _ c.in_err-object.field-0.0
     (sym (ap (λ (v : List LoadedObject). loaded_views c.loop-i.objects.items ++ v) split) ∙ c.loop-i.invariant.done)
@@ -18,7 +17,7 @@ returns-in_err-object-clause-fault c =
 pub loop-i-preserved : goal.loop-i-preserved
 loop-i-preserved c = record {
   done =
-      load_step (files_of c.args.files.now) c.args.items.now c.loop-i.i _ c.loop-i.objects.items c.push.new.self.items c.in_ok-object.object _
+      load_step c.args.files.now c.args.items.now c.loop-i.i _ c.loop-i.objects.items c.push.new.self.items c.in_ok-object.object _
       c.loop-i-test.true c.if-item.false c.in_ok-object.ensures.exact c.in_ok-push.ensures.items c.loop-i.invariant.done;
   objects =
       objects_more c.loop-i.objects.items c.push.new.self.items c.in_ok-object.object _ c.in_ok-object.ensures.exact

@@ -1,0 +1,255 @@
+#!/usr/bin/env python3
+"""Measures the proved linker beside others, on inputs that it makes by itself.
+
+    python3 bench/run.py [--runs N] [--scale F] [--peers-only] [INPUT..]
+
+The inputs, each of them also doubled:
+
+    objects      2,000 objects, each with 10 functions that call those of other objects, and a table of them
+    relocations  one object with 200,000 relocations, of types 64, PC32 and PLT32
+    data         one object with 100 MB of .data
+
+They lie inside the profile (docs/PROFILE.md) and are made by `as`. The linkers: the proved program
+crates/ld/out/ld, and of ld.bfd, ld.gold, ld.lld and mold those that are on PATH, with one thread and one process
+each, and without a symbol table in what they write (-s), as ours writes none. The first image of each is run, and
+must end with status 0; that of ours is checked too, which must be `yes`. The check is measured like a link.
+
+Time is the wall's, memory the greatest resident set, as GNU time tells it (time -f %M), which must be on PATH.
+Each number is the median of all runs, which go round the linkers in turn. Compare ratios of one run of this
+script, never numbers of two machines. Doubled inputs show the growth: time and memory by those of the single
+input, at most 2.3 for ours and its check.
+
+The exit status is 1 where a link, a run or a check fails or ours grows above the limit, 2 without the proved
+program or GNU time.
+"""
+
+import argparse
+import os
+import random
+import shutil
+import statistics
+import subprocess
+import sys
+import tempfile
+import time
+from pathlib import Path
+
+ROOT = Path(__file__).resolve().parent.parent
+PROVED = ROOT / "crates" / "ld" / "out" / "ld"
+GROWTH_LIMIT = 2.3
+PEERS = {
+    "ld.bfd": ["ld.bfd", "-static", "-s"],
+    "ld.gold": ["ld.gold", "-static", "-s"],
+    "ld.lld": ["ld.lld", "-static", "-s", "--threads=1"],
+    "mold": ["mold", "-static", "-s", "--no-threads", "--no-fork"],
+}
+
+STACK = '.section .note.GNU-stack, "", @progbits\n'
+
+# Ends the program with status 0 if the flags say equal, else with 1.
+EXIT = """\
+        setne %dil
+        movzbl %dil, %edi
+        movl $60, %eax
+        syscall
+"""
+
+
+def assemble(source, out):
+    """Assembles a text to the object file `out`."""
+    subprocess.run(["as", "-o", str(out), "-"], input=source.encode(), check=True)
+
+
+def many_objects(folder, count):
+    """Objects of 10 functions. Function 0 counts a call, each other one calls two lower ones of other objects; so
+    the last function of object 0 counts 2 to the 9 calls."""
+    paths = []
+    for i in range(count):
+        lines = [".text"]
+        for j in range(10):
+            name = f"f_{i}_{j}"
+            lines += [f".globl {name}", f".type {name}, @function", f"{name}:"]
+            if j == 0:
+                lines += ["incq calls(%rip)"]
+            else:
+                lines += [f"call f_{(i + step) % count}_{j - 1}" for step in (7, 13)]
+            lines += ["ret", f".size {name}, .-{name}"]
+        lines += [".data", f"table_{i}:"] + [f".quad f_{i}_{j}" for j in range(10)]
+        paths.append(folder / f"o{i}.o")
+        assemble("\n".join(lines) + "\n" + STACK, paths[-1])
+    start = ".globl _start, calls\n.text\n_start:\ncall f_0_9\ncmpq $512, calls(%rip)\n"
+    paths.append(folder / "start.o")
+    assemble(start + EXIT + ".bss\n.balign 8\ncalls: .quad 0\n" + STACK, paths[-1])
+    return paths
+
+
+def many_relocations(folder, count):
+    """One object: half of its relocations are entries of a table (64), a quarter addresses (PC32), a quarter calls
+    (PLT32), of 1,000 functions. The program calls the last one through the table, and expects its number."""
+    functions = 1000
+    lines = [".globl _start", ".text", "_start:"]
+    lines += [f"call *table+{8 * (functions - 1)}(%rip)", f"cmpl ${functions - 1}, %eax", EXIT]
+    for k in range(functions):
+        name = f"function_{k}"
+        lines += [f".globl {name}", f"{name}:", f"movl ${k}, %eax", "ret"]
+    for k in range(count // 4):
+        lines += [f"call function_{k * 7 % functions}", f"leaq function_{k * 11 % functions}(%rip), %rax"]
+    lines += [".data", ".balign 8", "table:"]
+    lines += [f".quad function_{k % functions}" for k in range(count // 2)]
+    assemble("\n".join(lines) + "\n" + STACK, folder / "relocations.o")
+    return [folder / "relocations.o"]
+
+
+def much_data(folder, size):
+    """One object with bytes of chance in .data. The program expects the last ones."""
+    end = b"the end."
+    raw = folder / "bytes"
+    with open(raw, "wb") as file:
+        part = random.Random(1).randbytes(min(size, 1 << 20))
+        for at in range(0, size - len(end), len(part)):
+            file.write(part[: min(len(part), size - len(end) - at)])
+        file.write(end)
+    lines = [".globl _start", ".text", "_start:"]
+    lines += [f"movabsq ${int.from_bytes(end, 'little')}, %rax", "cmpq end_of_data-8(%rip), %rax", EXIT]
+    lines += [".data", f'.incbin "{raw}"', ".globl end_of_data", "end_of_data:"]
+    assemble("\n".join(lines) + "\n" + STACK, folder / "data.o")
+    raw.unlink()
+    return [folder / "data.o"]
+
+
+INPUTS = {
+    "objects": (many_objects, 2_000),
+    "relocations": (many_relocations, 200_000),
+    "data": (much_data, 100_000_000),
+}
+
+
+class Failed(Exception):
+    """A link, a run or a check that went wrong."""
+
+
+def measured(words, expect=""):
+    """Runs words, which print what is expected and end with status 0: seconds and KiB. GNU time stands between,
+    since a child of this process would count this one's memory as its own."""
+    with tempfile.NamedTemporaryFile("r") as usage:
+        timed = [shutil.which("time"), "-f", "%M", "-o", usage.name] + words
+        begin = time.perf_counter()
+        run = subprocess.run(timed, stdout=subprocess.PIPE, stderr=subprocess.STDOUT, text=True, check=False)
+        seconds = time.perf_counter() - begin
+        kib = usage.read().split()[-1]
+    if run.returncode != 0 or (expect and run.stdout != expect):
+        raise Failed(f"{words[0]}: status {run.returncode}: {run.stdout[:2000].strip()}")
+    return seconds, int(kib)
+
+
+def run_image(image):
+    """Runs an image, which ends with status 0."""
+    image.chmod(0o755)
+    status = subprocess.run([str(image)], check=False).returncode
+    if status != 0:
+        raise Failed(f"{image.name}: the image ends with status {status}")
+
+
+def commands(folder, objects, ours, peers):
+    """The words of each linker, and of the check, by their names. Before the check there is a link with a map,
+    which is not measured."""
+    names = [str(path) for path in objects]
+    table = {}
+    if ours:
+        checked = [str(PROVED), "-o", str(folder / "checked"), f"-Map={folder / 'map'}"]
+        measured(checked + names)
+        run_image(folder / "checked")
+        table["ours"] = ([str(PROVED), "-o", str(folder / "ours")] + names, "")
+        table["--check"] = (checked + ["--check"] + names, "yes\n")
+    for peer in peers:
+        table[peer] = (PEERS[peer] + ["-o", str(folder / peer)] + names, "")
+    return table
+
+
+def medians(folder, objects, ours, peers, runs):
+    """The medians of seconds and KiB, by linker. The first round is not counted, and its images are run."""
+    table = commands(folder, objects, ours, peers)
+    results = {name: [] for name in table}
+    for round_number in range(runs + 1):
+        for name, (words, expect) in table.items():
+            (folder / name).unlink(missing_ok=True)
+            result = measured(words, expect)
+            if round_number > 0:
+                results[name].append(result)
+            elif name != "--check":
+                run_image(folder / name)
+    return {
+        name: (statistics.median(s for s, _ in rows), statistics.median(k for _, k in rows))
+        for name, rows in results.items()
+    }
+
+
+def print_table(title, table):
+    """Prints seconds and MiB of each linker, and both as ratios to those of ours."""
+    print(f"\n{title}")
+    print(f"  {'linker':<10}{'seconds':>10}{'MiB':>10}{'ours by it':>14}{'memory':>10}")
+    for name, (seconds, kib) in table.items():
+        line = f"  {name:<10}{seconds:>10.3f}{kib / 1024:>10.1f}"
+        if "ours" in table:
+            line += f"{table['ours'][0] / seconds:>14.2f}{table['ours'][1] / kib:>10.2f}"
+        print(line)
+
+
+def print_growth(single, double):
+    """Prints how times and memory grow with doubled inputs. Whether ours, and its check, stay within the limit."""
+    print("\n  doubled by single: time, memory")
+    within = True
+    for name, (seconds, kib) in double.items():
+        growth = (seconds / single[name][0], kib / single[name][1])
+        above = name in ("ours", "--check") and max(growth) > GROWTH_LIMIT
+        within = within and not above
+        print(f"  {name:<10}{growth[0]:>10.2f}{growth[1]:>10.2f}{'  above ' + str(GROWTH_LIMIT) if above else ''}")
+    return within
+
+
+def one_input(folder, name, scale, ours, peers, runs):
+    """Measures an input and the same doubled. Whether ours grows within the limit."""
+    make, count = INPUTS[name]
+    tables = []
+    for factor in (1, 2):
+        inside = folder / f"{name}{factor}"
+        inside.mkdir()
+        size = int(count * scale) * factor
+        objects = make(inside, size)
+        tables.append(medians(inside, objects, ours, peers, runs))
+        print_table(f"{name}, {size:,}", tables[-1])
+        shutil.rmtree(inside)
+    return print_growth(*tables)
+
+
+def main():
+    parser = argparse.ArgumentParser(description="Measures the proved linker beside others.")
+    parser.add_argument("--runs", type=int, default=5, help="counted runs of each linker (5)")
+    parser.add_argument("--scale", type=float, default=1.0, help="the inputs' size, as a part of the whole (1.0)")
+    parser.add_argument("--peers-only", action="store_true", help="measure the other linkers alone")
+    parser.add_argument("inputs", nargs="*", help=f"of {', '.join(INPUTS)}; all where none is named")
+    options = parser.parse_args()
+    unknown = [name for name in options.inputs if name not in INPUTS]
+    if unknown:
+        parser.error(f"no such input: {unknown[0]}")
+    ours = not options.peers_only
+    if ours and not os.access(PROVED, os.X_OK):
+        print("No proved linker stands at crates/ld/out/ld. To get it: cd crates/ld && rt run", file=sys.stderr)
+        return 2
+    if not shutil.which("time"):
+        print("GNU time is not on PATH.", file=sys.stderr)
+        return 2
+    peers = [peer for peer in PEERS if shutil.which(peer)]
+    within = True
+    with tempfile.TemporaryDirectory() as folder:
+        for name in options.inputs or INPUTS:
+            within = one_input(Path(folder), name, options.scale, ours, peers, options.runs) and within
+    return 0 if within else 1
+
+
+if __name__ == "__main__":
+    try:
+        sys.exit(main())
+    except Failed as failed:
+        print(failed, file=sys.stderr)
+        sys.exit(1)

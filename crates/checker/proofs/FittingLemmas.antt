@@ -1,0 +1,130 @@
+-- What one entry asks, by what its symbol means, is what is asked of its relocation.
+use Rattle.std.proofs.Common.{◌≡◌, ℕ, suc, ◌+◌, ◌-◌, ◌*◌, ◌/◌, ◌%◌, ◌^◌, ◌≤◌, ℤ, pos, negsuc, ◌+ℤ◌, ◌-ℤ◌, Bool, true, false, List, Option, Some, None, refl, sym, ap, subst, ◌∙◌, arith, lit<, div-add-mod'}
+use Rattle.std.specs.Prelude.{IfSome, IsSomeAnd, SomeIff, option_map, unwrap_or}
+use Rattle.std.proofs.Math.Nat.{mod-add-mod}
+use Rattle.std.proofs.lemmas.Bool.{false≢true}
+use Rattle.std.proofs.lemmas.Int.{ints}
+use Rattle.std.proofs.lemmas.Nat.{mod_below}
+use Rattle.elf_model.proofs.WrappedValues.{modulo_is}
+use Rattle.elf_model.specs.ObjectFile.{rela_symbol, rela_type, section, sections}
+use Rattle.elf_model.specs.Relocation as relocation
+use Rattle.elf_model.specs.Relocation.{Fits, IsInRange, IsLawfulRelocation, IsMismatch, Kind, Relocation, kind_of, modulo_64, relocation_of, section_address, symbol_at, value_of, whole_value}
+use Rattle.elf_model.specs.declared.records.Rela.{Rela}
+use Rattle.checker.specs.Bindings.{Bound, IsTargetOf}
+use Rattle.checker.specs.Fields.{IsRight, field_of}
+use Rattle.checker.specs.Fitting.{IsRightWith, field_with, value_with}
+use Rattle.checker.specs.Kinds.{plain_terms}
+use Rattle.checker.specs.declared.fields.Field.{Field}
+use Rattle.checker.specs.declared.fitting.Relocated.{Relocated}
+use Rattle.checker.specs.declared.targets.Target.{Target}
+
+-- Values modulo 2 ^ 64 of terms modulo 2 ^ 64.
+
+sum_same : (n : ℕ) (a : ℤ) → modulo_64 (pos (n % 2 ^ 64) +ℤ a) ≡ modulo_64 (pos n +ℤ a)
+sum_same n (pos a) =
+    modulo_is (pos (n % 2 ^ 64) +ℤ pos a) 0 (n % 2 ^ 64 + a) (omega (arith, ints))
+    ∙ (mod-add-mod n (2 ^ 64) a ∙ sym (modulo_is (pos n +ℤ pos a) 0 (n + a) (omega (arith, ints))))
+sum_same n (negsuc a) =
+    let more : ℕ = suc a * 2 ^ 64 - suc a in
+    modulo_is (pos (n % 2 ^ 64) +ℤ negsuc a) (suc a) (n % 2 ^ 64 + more) (omega (arith, ints))
+    ∙ (mod-add-mod n (2 ^ 64) more ∙ sym (modulo_is (pos n +ℤ negsuc a) (suc a) (n + more) (omega (arith, ints))))
+
+difference_same : (n : ℕ) (a : ℤ) (p : ℕ) → modulo_64 ((pos (n % 2 ^ 64) +ℤ a) -ℤ pos (p % 2 ^ 64)) ≡ modulo_64 ((pos n +ℤ a) -ℤ pos p)
+difference_same n (pos a) p =
+    let whole = div-add-mod' p (2 ^ 64) in
+    let below = mod_below p (2 ^ 64) (lit< tt) in
+    let more : ℕ = a + (2 ^ 64 - p % 2 ^ 64) in
+    modulo_is ((pos (n % 2 ^ 64) +ℤ pos a) -ℤ pos (p % 2 ^ 64)) 1 (n % 2 ^ 64 + more) (omega (arith, ints, below))
+    ∙ (mod-add-mod n (2 ^ 64) more
+    ∙ sym (modulo_is ((pos n +ℤ pos a) -ℤ pos p) (p / 2 ^ 64 + 1) (n + more) (omega (arith, ints, whole, below))))
+difference_same n (negsuc a) p =
+    let whole = div-add-mod' p (2 ^ 64) in
+    let below = mod_below p (2 ^ 64) (lit< tt) in
+    let more : ℕ = (suc a * 2 ^ 64 - suc a) + (2 ^ 64 - p % 2 ^ 64) in
+    modulo_is ((pos (n % 2 ^ 64) +ℤ negsuc a) -ℤ pos (p % 2 ^ 64)) (suc a + 1) (n % 2 ^ 64 + more) (omega (arith, ints, below))
+    ∙ (mod-add-mod n (2 ^ 64) more
+    ∙ sym (modulo_is ((pos n +ℤ negsuc a) -ℤ pos p) (suc a + (p / 2 ^ 64 + 1)) (n + more) (omega (arith, ints, whole, below))))
+
+sum_of : (n m : ℕ) (a : ℤ) → m ≡ n % 2 ^ 64 → modulo_64 (pos m +ℤ a) ≡ modulo_64 (pos n +ℤ a)
+sum_of n m a e = ap (λ (x : ℕ). modulo_64 (pos x +ℤ a)) e ∙ sum_same n a
+
+difference_of :
+    (n m : ℕ) (a : ℤ) (p q : ℕ) → m ≡ n % 2 ^ 64 → q ≡ p % 2 ^ 64 → modulo_64 ((pos m +ℤ a) -ℤ pos q) ≡ modulo_64 ((pos n +ℤ a) -ℤ pos p)
+difference_of n m a p q e f =
+    ap (λ (x : ℕ). modulo_64 ((pos x +ℤ a) -ℤ pos q)) e
+    ∙ (ap (λ (x : ℕ). modulo_64 ((pos (n % 2 ^ 64) +ℤ a) -ℤ pos x)) f ∙ difference_same n a p)
+
+no_rest : 0 ≡ 0 % 2 ^ 64
+no_rest = refl
+
+pub reduced :
+    (f : relocation.Formula) (s t p q z : ℕ) (a : ℤ) → t ≡ s % 2 ^ 64 → q ≡ p % 2 ^ 64 →
+    modulo_64 (whole_value f (plain_terms t a q z)) ≡ modulo_64 (whole_value f (plain_terms s a p z))
+reduced relocation.S+A s t p q z a e g = sum_of s t a e
+reduced relocation.S+A-P s t p q z a e g = difference_of s t a p q e g
+reduced relocation.S+A-GOT s t p q z a e g = difference_of s t a 0 0 e no_rest
+reduced relocation.G+A s t p q z a e g = refl
+reduced relocation.G+GOT+A-P s t p q z a e g = difference_of 0 0 a p q no_rest g
+reduced relocation.GOT+A-P s t p q z a e g = difference_of 0 0 a p q no_rest g
+reduced relocation.Z+A s t p q z a e g = refl
+reduced relocation.T+A s t p q z a e g = refl
+reduced relocation.GT+GOT+A-P s t p q z a e g = difference_of 0 0 a p q no_rest g
+
+not_true : (b : Bool) → (b ≡ true → ⊥) → b ≡ false
+not_true true never = absurd (never refl)
+not_true false never = refl
+
+not_both : (b : Bool) → b ≡ false → b ≡ true → ⊥
+not_both b e f = false≢true (sym e ∙ f)
+
+module _ (b : Bound) (n : ℕ) (bytes : List ℕ) (to : Relocated) (e : Rela) (t : Target) (means : IsTargetOf b (symbol_at n bytes (rela_symbol e)) t) (size : to.size ≡ (section (sections bytes) to.section).sh_size) (address : to.address ≡ section_address b.placed n to.section) where
+  abbrev pub r : Relocation
+  r = relocation_of n bytes to.section e
+
+  place_is : (to.address + e.r_offset) % 2 ^ 64 ≡ (section_address b.placed n to.section + e.r_offset) % 2 ^ 64
+  place_is = ap (λ (x : ℕ). (x + e.r_offset) % 2 ^ 64) address
+
+  value_by : (k : Option Kind) → value_with k t to e ≡ unwrap_or (option_map (λ j. modulo_64 (whole_value j.formula (relocation.terms_of b.objects b.placed r))) k) 0
+  value_by None = refl
+  value_by (Some k) =
+      let x = relocation.terms_of b.objects b.placed r in
+      ap (λ (z : ℕ). modulo_64 (whole_value k.formula (plain_terms t.value e.r_addend ((to.address + e.r_offset) % 2 ^ 64) z))) means.size
+      ∙ reduced k.formula x.s t.value x.p ((to.address + e.r_offset) % 2 ^ 64) x.z e.r_addend means.value place_is
+
+  value_is : value_with (kind_of (rela_type e)) t to e ≡ value_of b.objects b.placed r
+  value_is = value_by (kind_of (rela_type e))
+
+  made : ℕ → Field
+  made v = record { section = to.section; at = e.r_offset; width = relocation.width_of r; value = v }
+
+  pub field_is : field_with (kind_of (rela_type e)) t to e ≡ field_of b.objects b.placed r
+  unfolding made
+  field_is = ap made value_is
+
+  pub right : IsRightWith (kind_of (rela_type e)) t to e → IsRight b.objects b.placed r
+  right w = record {
+    lawful = record {
+      known = w.known;
+      defined = λ u. not_both t.undefined w.defined (means.undefined.1 u);
+      kept = λ u. not_both t.dropped w.kept (means.dropped.1 u);
+      thread = λ m. w.thread (subst (λ (x : Bool). IsSomeAnd (kind_of (rela_type e)) (λ k. IsMismatch k.formula x)) (sym means.thread_local) m);
+      inside = subst (λ (x : ℕ). IfSome (kind_of (rela_type e)) (λ k. e.r_offset + k.width ≤ x)) size w.inside;
+    };
+    fits = subst (λ (v : ℕ). IfSome (kind_of (rela_type e)) (λ k. IsInRange k.range (8 * k.width) v)) value_is w.fits;
+  }
+
+  pub right_with : IsRight b.objects b.placed r → IsRightWith (kind_of (rela_type e)) t to e
+  right_with w = record {
+    known = w.lawful.known;
+    defined = not_true t.undefined (λ u. w.lawful.defined (means.undefined.0 u));
+    kept = not_true t.dropped (λ u. w.lawful.kept (means.dropped.0 u));
+    thread = λ m. w.lawful.thread (subst (λ (x : Bool). IsSomeAnd (kind_of (rela_type e)) (λ k. IsMismatch k.formula x)) means.thread_local m);
+    inside = subst (λ (x : ℕ). IfSome (kind_of (rela_type e)) (λ k. e.r_offset + k.width ≤ x)) (sym size) w.lawful.inside;
+    fits = subst (λ (v : ℕ). IfSome (kind_of (rela_type e)) (λ k. IsInRange k.range (8 * k.width) v)) (sym value_is) w.fits;
+  }
+
+-- where another claim and another value are the same
+pub some_iff :
+    {X : Type 0} (P Q : Type 0) (v w : X) (o : Option X) → (P → Q) → (Q → P) → v ≡ w → SomeIff o P v → SomeIff o Q w
+some_iff P Q v w None there back e h = λ q. h (back q)
+some_iff P Q v w (Some x) there back e h = (there h.0, h.1 ∙ e)

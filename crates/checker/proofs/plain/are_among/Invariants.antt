@@ -1,0 +1,8 @@
+use Rattle.std.proofs.Common.{drop}
+use Rattle.std.specs.Prelude.{◌↔◌, All}
+use Rattle.checker.specs.Plain.{IsAmong}
+use Rattle.checker.proofs.plain.are_among.Given as goal
+
+abbrev pub invariant-loop-name : goal.invariant-loop-name
+invariant-loop-name l =
+    All (λ n. IsAmong l.names n.now) l.used ↔ All (λ n. IsAmong l.names n.now) (drop l.name-index l.used)

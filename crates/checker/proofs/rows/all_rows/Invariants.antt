@@ -1,0 +1,21 @@
+use Rattle.std.proofs.Common.{◌≡◌, ◌<◌, ℕ, get_or, length}
+use Rattle.std.specs.Global.{Vec}
+use Rattle.elf_model.proofs.FlatRelocations.{left_of_objects}
+use Rattle.elf_model.specs.Loading.{LoadedObject}
+use Rattle.elf_model.specs.Relocation.{relocations}
+use Rattle.checker.proofs.Rests.{Left}
+use Rattle.checker.specs.Fields.{AreRight, IsRowOf}
+use Rattle.checker.specs.Views.{loaded_view, loaded_views}
+use Rattle.checker.specs.declared.fields.Field.{Field}
+use Rattle.checker.proofs.rows.all_rows.Given as goal
+
+abbrev pub invariant-loop-k : goal.invariant-loop-k
+invariant-loop-k l = record {
+  count : length l.rows.items ≡ l.k;
+  rows :
+      (k : ℕ) (d : Vec Field) → k < length l.rows.items → (o : LoadedObject)
+      → IsRowOf (loaded_views l.objects) l.bindings.placed k (get_or (loaded_views l.objects) k o).bytes (get_or l.rows.items k d).items;
+  right :
+      Left (AreRight (loaded_views l.objects) l.bindings.placed (relocations (loaded_views l.objects)))
+      (AreRight (loaded_views l.objects) l.bindings.placed (left_of_objects loaded_view l.objects l.k));
+}

@@ -1,0 +1,43 @@
+use Rattle.std.proofs.Common.{refl, subst, sym}
+use Rattle.std.specs.Prelude.{All, AllPairs}
+use Rattle.std.proofs.lemmas.Bool.{false≢true}
+use Rattle.elf_model.specs.Relocation.{relocations_from}
+use Rattle.checker.specs.Fields.{AreApart, IsNarrow}
+use Rattle.checker.proofs.ObjectFields.{apart_of_fields, fields_of_apart, narrow_fields, own_object}
+use Rattle.checker.proofs.RowFacts.{row_of_object}
+use Rattle.checker.proofs.rows.object_row.Goals as goal
+
+pub returns-in_default-clause-right : goal.returns-in_default-clause-right
+returns-in_default-clause-right c =
+    let r = rw c.in_default.is at c.in_ok-fields.ensures.right in (
+      λ e. absurd (false≢true e),
+      λ a. absurd (false≢true (r.1 a.each)),
+    )
+
+pub in_order-requires : goal.in_order-requires
+in_order-requires c =
+    let b = c.args.bindings.now in
+    let e = rw c.in-Some.is at c.in_ok-fields.ensures.fields in
+    let r = rw c.in-Some.is at c.in_ok-fields.ensures.right in
+    subst (All IsNarrow) (sym e) (narrow_fields b.objects b.placed (relocations_from c.args.number c.args.object.now) (r.0 refl))
+
+pub returns-clause-right : goal.returns-clause-right
+returns-clause-right c =
+    let b = c.args.bindings.now in
+    let rs = relocations_from c.args.number c.args.object.now in
+    let e = rw c.in-Some.is at c.in_ok-fields.ensures.fields in
+    let r = rw c.in-Some.is at c.in_ok-fields.ensures.right in (
+      λ t. record {
+        each = r.0 refl;
+        apart = apart_of_fields b.objects b.placed rs (subst (AllPairs AreApart) e (c.in_ok-row.ensures.apart.0 t));
+      },
+      λ a. c.in_ok-row.ensures.apart.1
+          (subst (AllPairs AreApart) (sym e) (fields_of_apart b.objects b.placed c.args.number rs (own_object c.args.number c.args.object.now) a.apart)),
+    )
+
+pub returns-clause-row : goal.returns-clause-row
+returns-clause-row c =
+    let b = c.args.bindings.now in
+    let e = rw c.in-Some.is at c.in_ok-fields.ensures.fields in
+    let r = rw c.in-Some.is at c.in_ok-fields.ensures.right in
+    row_of_object b.objects b.placed c.args.number c.args.object.now _ c.in_ok-row.row e (r.0 refl) c.in_ok-row.ensures.row

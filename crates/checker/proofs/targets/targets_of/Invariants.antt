@@ -1,0 +1,9 @@
+use Rattle.std.proofs.Common.{◌≡◌, length}
+use Rattle.checker.specs.Bindings.{AreTargets}
+use Rattle.checker.proofs.targets.targets_of.Given as goal
+
+abbrev pub invariant-loop-j : goal.invariant-loop-j
+invariant-loop-j l = record {
+  count : length l.found.items ≡ l.j;
+  are : AreTargets l.bindings l.number l.object l.found.items;
+}

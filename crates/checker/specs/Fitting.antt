@@ -1,0 +1,31 @@
+-- What one relocation asks, by its kind, by what its symbol means, and by the section that it relocates.
+use Rattle.std.specs.Prelude.{ℕ, ◌≡◌, ◌+◌, ◌*◌, ◌%◌, ◌^◌, ◌≤◌, false, Option, IfSome, IsSome, IsSomeAnd, option_map, unwrap_or}
+use Rattle.elf_model.specs.Relocation.{IsInRange, IsMismatch, Kind, modulo_64, whole_value}
+use Rattle.elf_model.specs.declared.records.Rela.{Rela}
+use Rattle.checker.specs.Kinds.{plain_terms}
+use Rattle.checker.specs.declared.fields.Field.{Field}
+use Rattle.checker.specs.declared.fitting.Relocated.{Relocated}
+use Rattle.checker.specs.declared.targets.Target.{Target}
+
+-- the value of an entry of a kind
+abbrev pub value_with : Option Kind → Target → Relocated → Rela → ℕ
+value_with kind t to e =
+    unwrap_or (option_map (λ k. modulo_64 (whole_value k.formula (plain_terms t.value e.r_addend ((to.address + e.r_offset) % 2 ^ 64) t.size))) kind) 0
+
+-- an entry of a kind is lawful, and its value fits
+pub record IsRightWith (kind : Option Kind) (t : Target) (to : Relocated) (e : Rela) : Type 0 where
+  pub known : IsSome kind
+  pub defined : t.undefined ≡ false
+  pub kept : t.dropped ≡ false
+  pub thread : ¬ IsSomeAnd kind (λ k. IsMismatch k.formula t.thread_local)
+  pub inside : IfSome kind (λ k. e.r_offset + k.width ≤ to.size)
+  pub fits : IfSome kind (λ k. IsInRange k.range (8 * k.width) (value_with kind t to e))
+
+-- its field
+abbrev pub field_with : Option Kind → Target → Relocated → Rela → Field
+field_with kind t to e = record {
+  section = to.section;
+  at = e.r_offset;
+  width = unwrap_or (option_map (λ k. k.width) kind) 0;
+  value = value_with kind t to e;
+}

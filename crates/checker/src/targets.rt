@@ -1,0 +1,90 @@
+//! What the symbols of an object mean to its relocations, each looked up once.
+ghost use Rattle.std.specs.Prelude.{◌≡◌, IfOk, slice_index_or};
+ghost use Rattle.elf_model.specs.ObjectFile.{null_symbol, symbols};
+ghost use Rattle.elf_model.specs.Relocation.{symbol_at};
+ghost use Rattle.checker.specs.Bindings.{AreTargets, IsTargetOf};
+ghost use Rattle.checker.specs.Views.{symbol_view};
+
+use crate::bindings::Bindings;
+use crate::symbols::name_of;
+use crate::things::SymbolOf;
+use elf_model::Symbol;
+use elf_read::Object;
+use std::alloc::{AllocError, Global};
+
+const NULL_SYMBOL: Symbol = Symbol {
+    st_name: 0,
+    st_info: 0,
+    st_other: 0,
+    st_shndx: 0,
+    st_value: 0,
+    st_size: 0,
+};
+
+/// What a symbol means to relocations: whether it is in want of a definition, whether it is a LOCAL one of a
+/// section that isn't kept, whether its definition is thread-local; and the definition's value modulo 2^64
+/// and its size, both 0 without one.
+#[derive(Clone, Copy, Debug)]
+pub struct Target {
+    pub undefined: bool,
+    pub dropped: bool,
+    pub thread_local: bool,
+    pub value: u64,
+    pub size: u64,
+}
+
+/// Symbol `j` of the object that has a number; the null symbol where there is no such symbol.
+fn symbol_at<'a>(object: &Object<'a>, number: u64, j: usize) -> SymbolOf<'a>
+    ensures { symbol_view result ≡ symbol_at number object.now j }
+{
+    SymbolOf {
+        object: number,
+        number: j as u64,
+        name: name_of(object, j),
+        entry: entry_of(object, j),
+    }
+}
+
+/// The entry of symbol `j`, that of the null symbol where there is no such symbol.
+fn entry_of(object: &Object<'_>, j: usize) -> Symbol
+    ensures { result ≡ slice_index_or (symbols object.now) j null_symbol }
+{
+    match object.symbols().get(j) {
+        Some(entry) => *entry,
+        None => NULL_SYMBOL,
+    }
+}
+
+/// What the symbols of the object that has a number mean, in their order.
+pub fn targets_of<'a>(
+    alloc: Global,
+    bindings: &Bindings<'_, '_, 'a>,
+    number: u64,
+    object: &Object<'a>,
+) -> Result<Vec<Target>, AllocError>
+    ensures { IfOk result (λ v. AreTargets bindings.now number object.now v.items) }
+{
+    let count = object.symbols().len();
+    let mut found = Vec::with_capacity(alloc, count)?;
+    for j in 0..count {
+        found.push(bindings.target(&symbol_at(object, number, j)))?;
+    }
+    Ok(found)
+}
+
+/// What symbol `j` means.
+pub fn target_at<'a>(
+    bindings: &Bindings<'_, '_, 'a>,
+    targets: &[Target],
+    number: u64,
+    object: &Object<'a>,
+    j: usize,
+) -> Target
+    requires { AreTargets bindings.now number object.now targets.now }
+    ensures { IsTargetOf bindings.now (symbol_at number object.now j) result }
+{
+    match targets.get(j) {
+        Some(target) => *target,
+        None => bindings.target(&symbol_at(object, number, j)),
+    }
+}

@@ -1,0 +1,8 @@
+pub mod Runs
+pub mod BodySteps
+pub mod BodyBytes
+pub mod Fills
+pub mod Wholes
+pub mod OwnBody
+pub mod Files
+pub mod PieceSteps

@@ -1,0 +1,64 @@
+-- The image file as it is written: the headers, then the bytes of the places one behind the other, with fill
+-- between them.
+use Rattle.std.specs.Prelude.{◌≡◌, ◌==◌, ℕ, ◌+◌, ◌-◌, ◌≤◌, ◌^◌, ◌&&◌, Bool, true, false, cond, List, [], ◌∷◌, ◌++◌, All, length, map, nat_le, nat_lt}
+use Rattle.std.specs.List.{flat_map, range_with_len, slice_get}
+use Rattle.elf_model.specs.ImageFile.{own_file_header, stack_header}
+use Rattle.elf_model.specs.Loading.{LoadedObject}
+use Rattle.elf_model.specs.ObjectFile.{section}
+use Rattle.elf_model.specs.OwnLayout.{is_nonempty, placed_end, placed_has_bytes}
+use Rattle.elf_model.specs.Pieces.{Piece}
+use Rattle.elf_model.specs.Placement.{Placed}
+use Rattle.elf_model.specs.Records.{file_header_bytes, program_header_bytes}
+use Rattle.elf_model.specs.Resolution.{sections_of_object}
+use Rattle.elf_model.specs.WantedBytes.{wanted_byte}
+use Rattle.elf_model.specs.declared.records.ProgramHeader.{ProgramHeader}
+use Rattle.image_write.specs.declared.filling.Code.{Code}
+
+-- the file header, and the program headers of segments and of the stack
+abbrev pub headers_of : ℕ → List ProgramHeader → List ℕ
+headers_of entry hs = file_header_bytes (own_file_header entry (length hs + 1)) ++ flat_map program_header_bytes (hs ++ stack_header ∷ [])
+
+-- a segment's file part ends low enough to be counted
+pub record EndsLow (h : ProgramHeader) : Type 0 where
+  pub address : h.p_vaddr + h.p_filesz ≤ 2 ^ 46
+  pub offset : h.p_offset + h.p_filesz ≤ 2 ^ 46
+
+-- the addresses of the file part of the first segment that may be read and executed
+abbrev pub code_part : List ProgramHeader → Code
+code_part [] = record { start = 0; end = 0 }
+code_part (h ∷ hs) = cond (h.p_flags == 5) (record { start = h.p_vaddr; end = h.p_vaddr + h.p_filesz }) (code_part hs)
+
+-- the fill at an address, and that of all addresses from one to before another
+abbrev pub fill_byte : Code → ℕ → ℕ
+fill_byte c a = cond (nat_le c.start a && nat_lt a c.end) 0x90 0
+
+abbrev pub fill_run : Code → ℕ → ℕ → List ℕ
+fill_run c x y = map (fill_byte c) (range_with_len x (y - x))
+
+-- the place has bytes in the file
+abbrev pub is_written : Placed → Bool
+is_written q = placed_has_bytes q && is_nonempty q.piece
+
+-- the wanted bytes of a piece
+abbrev pub bytes_of : List LoadedObject → List Placed → Piece → List ℕ
+bytes_of objects ps p = map (wanted_byte objects ps p) (range_with_len 0 p.size)
+
+-- the bytes of the addresses from x to before another: of those places that have bytes, and fill between them
+abbrev pub body_from : List LoadedObject → List Placed → Code → ℕ → ℕ → List Placed → List ℕ
+body_from objects ps c to x [] = fill_run c x to
+body_from objects ps c to x (q ∷ qs) =
+    cond (is_written q) (fill_run c x q.at ++ (bytes_of objects ps q.piece ++ body_from objects ps c to (placed_end q) qs))
+    (body_from objects ps c to x qs)
+
+-- the places that have bytes follow each other from x on, and end at or below another address
+abbrev pub Rise : ℕ → ℕ → List Placed → Type 0
+Rise x to [] = x ≤ to
+Rise x to (q ∷ qs) = (is_written q ≡ true → (x ≤ q.at) × Rise (placed_end q) to qs) × (is_written q ≡ false → Rise x to qs)
+
+-- a piece has all bytes of its section
+pub record IsWhole (objects : List LoadedObject) (p : Piece) : Type 0 where
+  pub bytes : length p.bytes ≡ p.size
+  pub section_size : (section (sections_of_object (slice_get objects p.object)) p.section).sh_size ≡ p.size
+
+abbrev pub AreWhole : List LoadedObject → List Placed → Type 0
+AreWhole objects qs = All (λ q. is_written q ≡ true → IsWhole objects q.piece) qs

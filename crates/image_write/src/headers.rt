@@ -1,0 +1,116 @@
+//! The file header and the program headers of the image.
+ghost use Rattle.std.specs.Prelude.{◌≡◌, ◌+◌, ◌*◌, ◌<◌, ◌^◌, ◌++◌, OnOk, length};
+ghost use Rattle.std.specs.List.{flat_map};
+ghost use Rattle.elf_model.specs.ImageFile as forms;
+ghost use Rattle.elf_model.specs.ImageFile.{own_file_header};
+ghost use Rattle.elf_model.specs.Records.{file_header_bytes, program_header_bytes};
+ghost use Rattle.image_write.specs.Parts.{headers_of};
+
+use elf_model::{
+    EHDR_SIZE, ELFCLASS64, ELFDATA2LSB, EM_X86_64, ET_EXEC, EV_CURRENT, FileHeader, PF_R, PF_W,
+    PHDR_SIZE, PT_GNU_STACK, ProgramHeader, SHDR_SIZE,
+};
+use std::alloc::AllocError;
+
+/// The file header of an executable with so many program headers (System V gABI 4, "ELF Header").
+fn file_header(entry: u64, count: u16) -> FileHeader
+    ensures { result ≡ own_file_header entry count }
+{
+    FileHeader {
+        e_ident: [
+            0x7f,
+            b'E',
+            b'L',
+            b'F',
+            ELFCLASS64,
+            ELFDATA2LSB,
+            EV_CURRENT,
+            0,
+            0,
+            0,
+            0,
+            0,
+            0,
+            0,
+            0,
+            0,
+        ],
+        e_type: ET_EXEC,
+        e_machine: EM_X86_64,
+        e_version: EV_CURRENT as u32,
+        e_entry: entry,
+        e_phoff: EHDR_SIZE as u64,
+        e_shoff: 0,
+        e_flags: 0,
+        e_ehsize: EHDR_SIZE as u16,
+        e_phentsize: PHDR_SIZE as u16,
+        e_phnum: count,
+        e_shentsize: SHDR_SIZE as u16,
+        e_shnum: 0,
+        e_shstrndx: 0,
+    }
+}
+
+/// The stack may be read and written, and not executed (profile).
+fn stack_header() -> ProgramHeader
+    ensures { result ≡ forms.stack_header }
+{
+    ProgramHeader {
+        p_type: PT_GNU_STACK,
+        p_flags: PF_R | PF_W,
+        p_offset: 0,
+        p_vaddr: 0,
+        p_paddr: 0,
+        p_filesz: 0,
+        p_memsz: 0,
+        p_align: 0,
+    }
+}
+
+fn put_file_header(out: &mut Vec<u8>, header: &FileHeader) -> Result<(), AllocError>
+    ensures { OnOk result (out.new.items ≡ out.old.items ++ file_header_bytes header.now) }
+{
+    let mut bytes = [0; EHDR_SIZE];
+    header.write_to(&mut bytes);
+    out.extend_from_slice(&bytes)
+}
+
+fn put_program_header(out: &mut Vec<u8>, header: &ProgramHeader) -> Result<(), AllocError>
+    ensures { OnOk result (out.new.items ≡ out.old.items ++ program_header_bytes header.now) }
+{
+    let mut bytes = [0; PHDR_SIZE];
+    header.write_to(&mut bytes);
+    out.extend_from_slice(&bytes)
+}
+
+fn put_segments(out: &mut Vec<u8>, segments: &[ProgramHeader]) -> Result<(), AllocError>
+    ensures { OnOk result (out.new.items ≡ out.old.items ++ flat_map program_header_bytes segments.now) }
+{
+    for segment in segments {
+        put_program_header(out, segment)?;
+    }
+    Ok(())
+}
+
+/// Puts the file header, the program headers of the segments and that of the stack.
+pub fn put_headers(
+    out: &mut Vec<u8>,
+    segments: &[ProgramHeader],
+    entry: u64,
+) -> Result<(), AllocError>
+    requires few { length segments.now + 1 < 2 ^ 16 }
+    ensures { OnOk result (out.new.items ≡ out.old.items ++ headers_of entry segments.now) }
+{
+    put_file_header(out, &file_header(entry, segments.len() as u16 + 1))?;
+    put_segments(out, segments)?;
+    put_program_header(out, &stack_header())?;
+    Ok(())
+}
+
+/// The size of the headers in bytes.
+pub fn headers_size(segments: &[ProgramHeader]) -> u64
+    requires few { length segments.now + 1 < 2 ^ 16 }
+    ensures { result ≡ 64 + 56 * (length segments.now + 1) }
+{
+    (EHDR_SIZE + PHDR_SIZE * (segments.len() + 1)) as u64
+}

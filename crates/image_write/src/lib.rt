@@ -1,0 +1,12 @@
+//! The bytes of the image file: the headers, the pieces at their offsets with their relocated bytes, and fill
+//! between them.
+#![tactic(auto)]
+
+mod filling;
+mod headers;
+mod pieces;
+#[cfg(test)]
+mod tests;
+mod writing;
+
+pub use writing::image;

@@ -1,0 +1,63 @@
+//! The pieces at their places, with their relocated bytes.
+ghost use Rattle.std.specs.Prelude.{◌≡◌, ◌++◌, ◌≤◌, ◌^◌, All, OnOk};
+ghost use Rattle.elf_model.specs.OwnLayout.{own_in_load_order};
+ghost use Rattle.layout.specs.PlaceViews.{place_view, place_views};
+ghost use Rattle.layout.specs.Views.{piece_view};
+ghost use Rattle.image_write.specs.Parts.{AreWhole, IsWhole, Rise, body_from, bytes_of, is_written};
+
+use crate::filling::{Code, fill};
+use elf_model::SHT_NOBITS;
+use layout::{Piece, Place};
+use relocate::Patches;
+use std::alloc::AllocError;
+
+/// Whether a place has bytes in the file.
+fn has_bytes(place: &Place<'_>) -> bool
+    ensures { result ≡ is_written (place_view place.now) }
+{
+    place.piece.header.sh_type != SHT_NOBITS && place.piece.header.sh_size > 0
+}
+
+/// Puts the bytes of a piece, with the values of its relocations over their fields.
+fn put_piece(
+    out: &mut Vec<u8>,
+    patches: &Patches<'_, '_>,
+    piece: &Piece<'_>,
+) -> Result<(), AllocError>
+    requires { IsWhole patches.now.objects (piece_view piece.now) }
+    ensures { OnOk result (out.new.items ≡ out.old.items ++ bytes_of patches.now.objects (own_in_load_order patches.now.base patches.now.objects) (piece_view piece.now)) }
+{
+    let at = out.len();
+    out.extend_from_slice(piece.bytes)?;
+    let (_, bytes) = out.split_at_mut(at);
+    patches.apply(piece.object as usize, piece.section as usize, bytes);
+    Ok(())
+}
+
+/// Puts the bytes of the addresses from one to before another: those of the places that have bytes in the
+/// file, which rise from the first to the last, and fill between them.
+pub fn put_places(
+    out: &mut Vec<u8>,
+    patches: &Patches<'_, '_>,
+    code: &Code,
+    places: &[Place<'_>],
+    from: u64,
+    to: u64,
+) -> Result<(), AllocError>
+    requires rise { Rise from to (place_views places.now) }
+    requires low { to ≤ 2 ^ 46 }
+    requires whole { AreWhole patches.now.objects (place_views places.now) }
+    ensures { OnOk result (out.new.items ≡ out.old.items ++ body_from patches.now.objects (own_in_load_order patches.now.base patches.now.objects) code.now to from (place_views places.now)) }
+{
+    let mut next = from;
+    for place in places {
+        if !has_bytes(place) {
+            continue;
+        }
+        fill(out, code, next, place.at)?;
+        put_piece(out, patches, &place.piece)?;
+        next = place.at + place.piece.header.sh_size;
+    }
+    fill(out, code, next, to)?;
+    Ok(())
+}

@@ -1,0 +1,64 @@
+//! The image file of a layout.
+ghost use Rattle.std.specs.Prelude.{◌≡◌, ℕ, All, IfOk, List};
+ghost use Rattle.elf_model.specs.Command.{IsBase};
+ghost use Rattle.elf_model.specs.ImageFile.{image_file, own_entry};
+ghost use Rattle.elf_model.specs.Loading.{AreObjects};
+ghost use Rattle.elf_model.specs.OwnLayout as own;
+ghost use Rattle.elf_model.specs.OwnLayout.{IsNotTooLarge};
+ghost use Rattle.elf_model.specs.Pieces.{AreLawfulKinds};
+ghost use Rattle.image_write.specs.Parts.{EndsLow};
+
+use crate::filling::code_of;
+use crate::headers::{headers_size, put_headers};
+use crate::pieces::put_places;
+use elf_model::ProgramHeader;
+use layout::Placement;
+use relocate::Patches;
+use std::alloc::{AllocError, Global};
+
+/// Where the last file part of segments ends, in bytes of the file.
+fn file_end(segments: &[ProgramHeader]) -> u64
+    requires { All EndsLow segments.now }
+    ensures { result ≡ own.file_end segments.now }
+{
+    let mut end = 0;
+    for segment in segments {
+        if segment.p_filesz > 0 {
+            end = end.max(segment.p_offset + segment.p_filesz);
+        }
+    }
+    end
+}
+
+/// The image file: the headers, the pieces at their offsets with their relocated bytes, and fill between
+/// them.
+pub fn image(
+    alloc: Global,
+    placement: &Placement<'_>,
+    patches: &Patches<'_, '_>,
+    entry: u64,
+) -> Result<Vec<u8>, AllocError>
+    requires base { IsBase placement.now.base }
+    requires objects { AreObjects placement.now.objects }
+    requires kinds { AreLawfulKinds placement.now.objects }
+    requires fits { IsNotTooLarge placement.now.base placement.now.objects }
+    requires same { patches.now ≡ placement.now }
+    ensures image { IfOk result (λ v. (name : List ℕ) → own_entry placement.now.base placement.now.objects name ≡ entry → v.items ≡ image_file placement.now.base placement.now.objects name) }
+{
+    let base = placement.base();
+    let segments = placement.segments();
+    let end = file_end(segments);
+    let mut out = Vec::with_capacity(alloc, end as usize)?;
+    put_headers(&mut out, segments, entry)?;
+    let code = code_of(segments);
+    let from = base + headers_size(segments);
+    put_places(
+        &mut out,
+        patches,
+        &code,
+        placement.places(),
+        from,
+        base + end,
+    )?;
+    Ok(out)
+}

@@ -1,0 +1,106 @@
+-- The relocations of one object among those of all: what holds of all holds of them, and a byte of the object
+-- lies in none of the others' fields.
+use Rattle.std.proofs.Common.{◌≡◌, ℕ, zero, suc, ◌+◌, ◌≤◌, List, [], ◌∷◌, ◌++◌, Option, Some, None, get_or, option_map, refl, slice_index, subst, sym, ap, ◌∙◌, arith}
+use Rattle.std.specs.Prelude.{All, AllPairs, find}
+use Rattle.std.specs.List.{slice_get}
+use Rattle.std.specs.Option.{option_or}
+use Rattle.std.proofs.lemmas.List.{append_assoc}
+use Rattle.std.proofs.lemmas.List.Elements.{All-append, All-nil, All-weaker}
+use Rattle.std.proofs.lemmas.List.Folds.{find-append}
+use Rattle.std.proofs.lemmas.Option.{none-some, same_Some}
+use Rattle.elf_model.specs.Loading.{LoadedObject}
+use Rattle.elf_model.specs.Pieces.{Piece}
+use Rattle.elf_model.specs.Placement.{Placed}
+use Rattle.elf_model.specs.Relocation.{Relocation, is_in_field, relocations, relocations_from, relocations_of}
+use Rattle.elf_model.specs.WantedBytes.{byte_or_field, wanted_byte}
+use Rattle.relocate.proofs.Fitted.{All-left, All-right}
+use Rattle.relocate.proofs.Judged.{AllPairs-left, AllPairs-right}
+use Rattle.relocate.proofs.ObjectFields.{in_field, later_objects, own_object}
+use Rattle.relocate.proofs.Patched.{find_none}
+use Rattle.relocate.specs.Patches.{byte_of}
+use Rattle.relocate.specs.Values.{patch_of}
+
+-- a part of the relocations, all others being of objects with other numbers than k
+pub record IsPart (k : ℕ) (own whole : List Relocation) : Type 0 where
+  pub front : List Relocation
+  pub back : List Relocation
+  pub parts : whole ≡ front ++ (own ++ back)
+  pub before : All (λ r. r.object ≡ k → ⊥) front
+  pub behind : All (λ r. r.object ≡ k → ⊥) back
+
+pub own_part :
+    (k n i : ℕ) (os : List LoadedObject) (o : LoadedObject) → k ≡ n + i → slice_get os i ≡ Some o →
+    IsPart k (relocations_from k o.bytes) (relocations_of n os)
+own_part k n i [] o at there = absurd (none-some o there)
+own_part k n zero (x ∷ os) o at there =
+    let same : n ≡ k = omega (arith, at) in
+    record {
+      front = [];
+      back = relocations_of (n + 1) os;
+      parts =
+          ap (λ (m : ℕ). relocations_from m x.bytes ++ relocations_of (n + 1) os) same
+          ∙ ap (λ (y : LoadedObject). relocations_from k y.bytes ++ relocations_of (n + 1) os) (same_Some x o there);
+      before = All-nil (λ (r : Relocation). r.object ≡ k → ⊥);
+      behind =
+          All-weaker (λ (r : Relocation). n + 1 ≤ r.object) (λ (r : Relocation). r.object ≡ k → ⊥) (λ r later e. omega (arith, later, e, same))
+          (relocations_of (n + 1) os) (later_objects (n + 1) os);
+    }
+own_part k n (suc i) (x ∷ os) o at there =
+    let p = own_part k (n + 1) i os o (omega (arith, at)) there in
+    let here = relocations_from n x.bytes in
+    record {
+      front = here ++ p.front;
+      back = p.back;
+      parts =
+          ap (λ (rs : List Relocation). here ++ rs) p.parts
+          ∙ sym (append_assoc here p.front (relocations_from k o.bytes ++ p.back));
+      before =
+          All-append (λ (r : Relocation). r.object ≡ k → ⊥) here p.front
+          (All-weaker (λ (r : Relocation). r.object ≡ n) (λ (r : Relocation). r.object ≡ k → ⊥) (λ r is e. omega (arith, is, e, at)) here (own_object n x.bytes))
+          p.before;
+      behind = p.behind;
+    }
+
+pub all_own : (P : Relocation → Type 0) (k : ℕ) (own whole : List Relocation) → IsPart k own whole → All P whole → All P own
+all_own P k own whole p all = All-left P own p.back (All-right P p.front (own ++ p.back) (subst (All P) p.parts all))
+
+pub pairs_own :
+    (R : Relocation → Relocation → Type 0) (k : ℕ) (own whole : List Relocation) → IsPart k own whole → AllPairs R whole → AllPairs R own
+pairs_own R k own whole p pairs = AllPairs-left R own p.back (AllPairs-right R p.front (own ++ p.back) (subst (AllPairs R) p.parts pairs))
+
+or_none : {X : Type 0} (o : Option X) → option_or o None ≡ o
+or_none None = refl
+or_none (Some x) = refl
+
+-- a byte of an object lies in no field of another one
+none_of_others : (k s j : ℕ) (rs : List Relocation) → All (λ r. r.object ≡ k → ⊥) rs → find (is_in_field k s j) rs ≡ None
+none_of_others k s j rs others =
+    find_none (is_in_field k s j) rs (λ i d low e. others i d low (in_field k s j (get_or rs i d) e).0)
+
+pub found_own :
+    (k s j : ℕ) (own whole : List Relocation) → IsPart k own whole → find (is_in_field k s j) whole ≡ find (is_in_field k s j) own
+found_own k s j own whole p =
+    let test = is_in_field k s j in
+    ap (find test) p.parts
+    ∙ (find-append test p.front (own ++ p.back)
+    ∙ (ap (λ (o : Option Relocation). option_or o (find test (own ++ p.back))) (none_of_others k s j p.front p.before)
+    ∙ (find-append test own p.back
+    ∙ (ap (option_or (find test own)) (none_of_others k s j p.back p.behind) ∙ or_none (find test own)))))
+
+-- a byte of a piece with the patches of its own object's relocations over it is the wanted one
+same_byte :
+    (objects : List LoadedObject) (ps : List Placed) (p : Piece) (base : List ℕ) (j : ℕ) (o : Option Relocation) → p.bytes ≡ base →
+    byte_of base j (option_map (patch_of objects ps) o) ≡ byte_or_field objects ps p j o
+same_byte objects ps p base j None e = ap (λ (bs : List ℕ). slice_index bs j) (sym e)
+same_byte objects ps p base j (Some r) e = refl
+
+pub own_byte :
+    (objects : List LoadedObject) (ps : List Placed) (p : Piece) (k s j : ℕ) (base : List ℕ) (own : List Relocation) →
+    IsPart k own (relocations objects) → p.object ≡ k → p.section ≡ s → p.bytes ≡ base →
+    byte_of base j (option_map (patch_of objects ps) (find (is_in_field k s j) own)) ≡ wanted_byte objects ps p j
+own_byte objects ps p k s j base own part a b e =
+    let rs = relocations objects in
+    same_byte objects ps p base j (find (is_in_field k s j) own) e
+    ∙ ap (byte_or_field objects ps p j)
+    (sym (found_own k s j own rs part)
+    ∙ (ap (λ (m : ℕ). find (is_in_field m s j) rs) (sym a) ∙ ap (λ (m : ℕ). find (is_in_field p.object m j) rs) (sym b)))

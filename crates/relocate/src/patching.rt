@@ -1,0 +1,40 @@
+//! The patches of all objects.
+ghost use Rattle.std.specs.Prelude.{◌≡◌, IfErr, IfOk, OnOk};
+ghost use Rattle.elf_model.specs.OwnLayout.{OwnValuesFit};
+ghost use Rattle.elf_model.specs.Relocation.{AreLawfulRelocations};
+ghost use Rattle.search.specs.Views.{loaded_views};
+ghost use Rattle.relocate.specs.Values.{ValuesFail};
+
+use crate::applying::{Patches, of_rows};
+use crate::collecting::object_patches;
+use elf_model::LinkError;
+use layout::Placement;
+use resolve::Resolved;
+use search::Loaded;
+use std::alloc::Global;
+
+/// The patches of all objects, whose relocations are lawful, where they are laid out.
+///
+/// # Errors
+///
+/// `Overflow` where the value of a relocation doesn't fit its field; `Memory`.
+pub fn patches<'p, 'a>(
+    alloc: Global,
+    objects: &[Loaded<'a>],
+    resolved: &Resolved<'_, 'a>,
+    placement: &'p Placement<'a>,
+) -> Result<Patches<'p, 'a>, LinkError>
+    requires resolved { resolved.now ≡ loaded_views objects.now }
+    requires placed { placement.now.objects ≡ loaded_views objects.now }
+    requires lawful { AreLawfulRelocations (loaded_views objects.now) }
+    ensures exact { IfOk result (λ p. p ≡ placement.entry.now) }
+    ensures fit { OnOk result (OwnValuesFit placement.entry.now.base placement.entry.now.objects) }
+    ensures fault { IfErr result (ValuesFail placement.entry.now) }
+{
+    let mut rows = Vec::with_capacity(alloc, objects.len())?;
+    for k in 0..objects.len() {
+        let row = object_patches(alloc, resolved, placement, k, &objects[k].object)?;
+        rows.push(row)?;
+    }
+    Ok(of_rows(placement, rows))
+}
