@@ -12,7 +12,9 @@ ghost use Rattle.resolve.specs.Views.{symbol_view, symbol_views};
 ghost use Rattle.search.specs.Views.{loaded_views};
 ghost use Rattle.ld_main.specs.Maps.{IsMapOf, LiesBelow, own_row};
 
-use elf_model::{Definition, LinkMap, ObjectLine, PlaceLine, SHF_ALLOC, SHN_ABS, SectionHeader, SymbolLine};
+use elf_model::{
+    Definition, LinkMap, ObjectLine, PlaceLine, SHF_ALLOC, SHN_ABS, SectionHeader, SymbolLine,
+};
 use elf_read::Object;
 use layout::Placement;
 use resolve::SymbolOf;

@@ -11,7 +11,9 @@ use std::alloc::Global;
 use std::test::Fail;
 
 const R_64: u32 = 1;
+
 const R_PC32: u32 = 2;
+
 const R_PLT32: u32 = 4;
 
 static CALL_MAP: &[u8] = b"ldmap 1\n\
@@ -169,7 +171,11 @@ fn calls_a_function_of_another_object(rt: HostRuntime) -> Result<(), Fail> {
 fn empty_sections_take_no_room(rt: HostRuntime) -> Result<(), Fail> {
     let bytes = object(
         rt.alloc(),
-        &[text_section(), section(".data", SHF_WRITE, 1, &[]), bss(0, 1)],
+        &[
+            text_section(),
+            section(".data", SHF_WRITE, 1, &[]),
+            bss(0, 1),
+        ],
         &[function("_start")],
     )?;
     let output = link_one(rt.alloc(), &bytes)??;
@@ -266,7 +272,9 @@ fn refuses_relocations(rt: HostRuntime) -> Result<(), Fail> {
     let later = link_two(alloc, &text_with(alloc, &[in_text(0, 10, 2, 0)])?, &callee)?;
     assert!(rt; matches!(&later, Err(LinkError::NotYet)));
     let undefined = link_one(alloc, &text_with(alloc, &[in_text(0, R_PC32, 2, 0)])?)?;
-    assert!(rt; matches!(&undefined, Err(LinkError::Undefined(name)) if name.as_slice() == b"f".as_slice()));
+    assert!(rt;
+        matches!(&undefined, Err(LinkError::Undefined(name)) if name.as_slice() == b"f".as_slice())
+    );
     Ok(())
 }
 
@@ -282,6 +290,8 @@ fn refuses_layouts(rt: HostRuntime) -> Result<(), Fail> {
     let both = link_one(alloc, &both)?;
     assert!(rt; matches!(&both, Err(LinkError::SectionKind)));
     let twice = link_two(alloc, &OBJECT, &OBJECT)?;
-    assert!(rt; matches!(&twice, Err(LinkError::Duplicate(name)) if name.as_slice() == b"_start".as_slice()));
+    assert!(rt;
+        matches!(&twice, Err(LinkError::Duplicate(name)) if name.as_slice() == b"_start".as_slice())
+    );
     Ok(())
 }
