@@ -15,8 +15,9 @@ each, and without a symbol table in what they write (-s), as ours writes none. T
 must end with status 0; that of ours is checked too, which must be `yes`. The check is measured like a link.
 
 Time is the wall's, memory the greatest resident set, as GNU time tells it (time -f %M), which must be on PATH.
-Each number is the median of all runs, which go round the linkers in turn. Compare ratios of one run of this
-script, never numbers of two machines. Doubled inputs show the growth: time and memory by those of the single
+Each number is the median of all runs, which go round the linkers in turn. "By bytes" is that memory by the bytes
+of the inputs and of the image; ours should stay at or below 3. Compare ratios of one run of this script, never
+numbers of two machines. Doubled inputs show the growth: time and memory by those of the single
 input, at most 2.3 for ours and its check.
 
 The exit status is 1 where a link, a run or a check fails or ours grows above the limit, 2 without the proved
@@ -167,8 +168,11 @@ def commands(folder, objects, ours, peers):
 
 
 def medians(folder, objects, ours, peers, runs):
-    """The medians of seconds and KiB, by linker. The first round is not counted, and its images are run."""
+    """The medians of seconds and KiB, and the bytes of inputs and image, by linker. The first round is not counted,
+    and its images are run."""
     table = commands(folder, objects, ours, peers)
+    inputs = sum(path.stat().st_size for path in objects)
+    images = {name: folder / ("checked" if name == "--check" else name) for name in table}
     results = {name: [] for name in table}
     for round_number in range(runs + 1):
         for name, (words, expect) in table.items():
@@ -179,17 +183,21 @@ def medians(folder, objects, ours, peers, runs):
             elif name != "--check":
                 run_image(folder / name)
     return {
-        name: (statistics.median(s for s, _ in rows), statistics.median(k for _, k in rows))
+        name: (
+            statistics.median(seconds for seconds, _ in rows),
+            statistics.median(kib for _, kib in rows),
+            inputs + images[name].stat().st_size,
+        )
         for name, rows in results.items()
     }
 
 
 def print_table(title, table):
-    """Prints seconds and MiB of each linker, and both as ratios to those of ours."""
+    """Prints seconds, MiB and memory by bytes of each linker, and the first two as ratios to those of ours."""
     print(f"\n{title}")
-    print(f"  {'linker':<10}{'seconds':>10}{'MiB':>10}{'ours by it':>14}{'memory':>10}")
-    for name, (seconds, kib) in table.items():
-        line = f"  {name:<10}{seconds:>10.3f}{kib / 1024:>10.1f}"
+    print(f"  {'linker':<10}{'seconds':>10}{'MiB':>10}{'by bytes':>10}{'ours by it':>14}{'memory':>10}")
+    for name, (seconds, kib, held) in table.items():
+        line = f"  {name:<10}{seconds:>10.3f}{kib / 1024:>10.1f}{1024 * kib / held:>10.2f}"
         if "ours" in table:
             line += f"{table['ours'][0] / seconds:>14.2f}{table['ours'][1] / kib:>10.2f}"
         print(line)
@@ -199,7 +207,7 @@ def print_growth(single, double):
     """Prints how times and memory grow with doubled inputs. Whether ours, and its check, stay within the limit."""
     print("\n  doubled by single: time, memory")
     within = True
-    for name, (seconds, kib) in double.items():
+    for name, (seconds, kib, _) in double.items():
         growth = (seconds / single[name][0], kib / single[name][1])
         above = name in ("ours", "--check") and max(growth) > GROWTH_LIMIT
         within = within and not above

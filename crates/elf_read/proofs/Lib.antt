@@ -1,7 +1,7 @@
 pub mod Entries
 mod PowersOfTwo
 mod SectionLemmas
-mod Faults
+pub mod Faults
 mod Whole
 mod RelaLists
 mod RelaRuns

@@ -2,3 +2,4 @@ pub mod ProfileLemmas
 pub mod Values
 pub mod OwnMaps
 pub mod Links
+pub mod FinalRefusals

@@ -12,11 +12,12 @@ use Rattle.elf_model.specs.RightLink.{IsRightLink}
 use Rattle.elf_model.specs.declared.faults.LinkError.{LinkError}
 use Rattle.elf_model.specs.declared.faults.LinkError.TheVariants as error
 use Rattle.layout.specs.Laid.{LayoutFails}
-use Rattle.layout.specs.Placements.{Basis}
 use Rattle.own_link.proofs.OwnRight.{own_is_right}
 use Rattle.relocate.specs.References.{ReferencesFail}
 use Rattle.relocate.specs.Values.{ValuesFail}
+use Rattle.search.specs.Search.{LoadFails}
 use Rattle.resolve.specs.Refusals.{ResolvingFails}
+use Rattle.layout.specs.Placements.{Basis}
 use Rattle.ld_main.specs.Outputs.{AreLaidOut, AreReferred, AreResolved, IsOwnLink, IsOwnOutput, LinksRefuse}
 
 pub ok_more : {X Y : Type 0} (P Q : X → Type 0) (r : Result X Y) → IfOk r P → ((x : X) → P x → Q x) → IfOk r Q
@@ -27,7 +28,15 @@ pub err_more : {X Y : Type 0} (P Q : Y → Type 0) (r : Result X Y) → IfErr r 
 err_more P Q (Ok x) is more = tt
 err_more P Q (Err y) is more = more y is
 
--- why a phase refuses is why the link does
+-- why loading fails is why the link does
+pub loading_fails :
+    (files : List File) (words : List (List ℕ)) (p : Plan) → command_of words ≡ Ok p → (e : LinkError) → LoadFails files p e → Cause files words e
+loading_fails files words p is error.Memory f = tt
+loading_fails files words p is error.FileMissing f = (p, is, f)
+loading_fails files words p is (error.BadObject fault) f = (p, record { words_are = is; files_are = f.0 }, f.1, f.2)
+loading_fails files words p is _ f = absurd f
+
+-- why a later phase refuses is why linking the objects does
 pub resolving_refuses : (p : Plan) (objects : List LoadedObject) (e : LinkError) → ResolvingFails objects e → LinksRefuse p objects e
 resolving_refuses p objects error.Memory f = tt
 resolving_refuses p objects (error.Duplicate name) f = f

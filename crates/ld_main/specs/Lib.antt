@@ -1,3 +1,4 @@
 pub mod Maps
 pub mod Program
 pub mod Outputs
+pub mod FinalRefusals

@@ -7,6 +7,7 @@ ghost use Rattle.elf_model.specs.Loading.{AreObjects};
 ghost use Rattle.elf_model.specs.RightLink.{IsRightLink};
 ghost use Rattle.search.specs.Views.{loaded_views};
 ghost use Rattle.resolve.specs.Views.{symbol_view};
+ghost use Rattle.ld_main.specs.FinalRefusals.{DeniesLinks};
 ghost use Rattle.ld_main.specs.Outputs.{AreLaidOut, AreLinkable, AreReferred, AreResolved, EntersAt, IsCommandFault, IsOwnLink, IsOwnOutput, LinksRefuse};
 
 use crate::own_map::{map_of_layout, value};
@@ -171,17 +172,24 @@ fn link_objects<'a>(
 /// A fault of the first phase that has one: the words (Command), the files (FileMissing), the objects
 /// (BadObject), this profile's limits (NotYet), kinds of sections and names (SectionKind, BadSymbol,
 /// Duplicate), references (RelocKind, Undefined, RefToDropped, TlsMismatch, FieldOutside, OverlappingFields,
-/// NoEntry), the layout (TooLarge), values (Overflow). Memory where memory is refused.
+/// NoEntry), the layout (TooLarge), values (Overflow). Memory where memory is refused. Where one is answered
+/// other than Memory, TooLarge and Overflow, no image and map at all are a right link; nor where one piece
+/// alone is too large, or a value doesn't fit that has no address in it.
+#[tactic(auto, using(crate::proofs::FinalRefusals::finals))]
 pub fn link(alloc: Global, files: &[InputFile], words: &[String]) -> Result<Output, LinkError>
     ensures right { IfOk result (λ o. IsRightLink (files_of files.now) (words_of words.now) o.image.items o.map.items) }
     ensures own { IfOk result (λ o. IsOwnLink (files_of files.now) (words_of words.now) o.image.items o.map.items) }
     ensures cause { IfErr result (Cause (files_of files.now) (words_of words.now)) }
+    ensures no_link { IfErr result (DeniesLinks (files_of files.now) (words_of words.now)) }
 {
     let plan = match read_words(alloc, words) {
         Ok(plan) => plan,
         Err(fault) => return Err(command_error(fault)),
     };
-    let objects = load(alloc, &plan, files)?;
+    let objects = match load(alloc, &plan, files) {
+        Ok(objects) => objects,
+        Err(refusal) => return Err(refusal),
+    };
     let inside = is_in_profile(alloc, &plan, &objects)?;
     if !inside {
         return Err(LinkError::NotYet);

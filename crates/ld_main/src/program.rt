@@ -11,7 +11,8 @@ use elf_model::{Clause, CmdFault, InputFile, LinkError, Verdict};
 use linkmap::escape;
 use std::alloc::{AllocError, AllocFailed, Global};
 use std::borrow::CowStr;
-use std::io::{ErrorKind, Write};
+use std::fs::{File, OpenFile};
+use std::io::{ErrorKind, Read, Write};
 use std::rt::Files;
 use std::{fs, io};
 
@@ -179,6 +180,20 @@ fn unread<'a>(path: CowStr<'a>, error: &io::Error) -> Failure<'a>
     }
 }
 
+/// The bytes of a file, in just the room that the file system says they take.
+fn read_whole<R: Files + AllocGlobal>(rt: &R, path: &str) -> io::Result<Vec<u8>> {
+    let mut file = File::open(rt, path)?;
+    let len = match file.metadata() {
+        Ok(metadata) => metadata.len(),
+        Err(_) => 0,
+    };
+    let Ok(mut bytes) = Vec::with_capacity(rt.alloc(), len as usize) else {
+        return Err(io::Error::from(ErrorKind::OutOfMemory));
+    };
+    file.read_to_end(&mut bytes)?;
+    Ok(bytes)
+}
+
 /// Reads the files that a plan may read, in its order; one that doesn't exist is left out.
 fn read_candidates<'a, R: Files + AllocGlobal>(
     rt: &R,
@@ -188,7 +203,7 @@ fn read_candidates<'a, R: Files + AllocGlobal>(
 {
     let mut files = Vec::new(rt.alloc());
     for name in candidates(rt.alloc(), plan)? {
-        match fs::read(rt, name.as_str()) {
+        match read_whole(rt, name.as_str()) {
             Ok(bytes) => files.push(InputFile { name, bytes })?,
             Err(error) if error.kind() == ErrorKind::NotFound => {}
             Err(error) => return Err(unread(CowStr::Owned(name), &error)),
@@ -201,7 +216,7 @@ fn read_candidates<'a, R: Files + AllocGlobal>(
 fn read_file<'a, R: Files + AllocGlobal>(rt: &R, path: &'a str) -> Result<Vec<u8>, Failure<'a>>
     ensures { IfErr result (λ f. 3 ≤ failure_status f) }
 {
-    match fs::read(rt, path) {
+    match read_whole(rt, path) {
         Ok(bytes) => Ok(bytes),
         Err(error) => Err(unread(CowStr::Borrowed(path), &error)),
     }

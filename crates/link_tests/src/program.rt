@@ -1,6 +1,7 @@
 //! Runs of the whole program, over files in a folder of each test's own.
 use crate::objects::object;
 use crate::one_object::{function, text_section, words_of};
+use crate::several_objects::{R_PC32, in_text, text_with};
 use crate::vectors::{MAP, OBJECT, image};
 use ld_main::run_ld;
 use std::path::PathBuf;
@@ -93,6 +94,8 @@ fn refuses_links(rt: HostRuntime) -> Result<(), Fail> {
         "spaced.o",
         &object(rt.alloc(), &[text_section()], &spaced)?,
     )?;
+    let caller = text_with(rt.alloc(), &[in_text(0, R_PC32, 2, 0)])?;
+    fs::write(&rt, "caller.o", &caller)?;
     let rows = [
         ("cut.o", "ld: BadObject (4): Truncated (2)\n"),
         ("nameless.o", "ld: BadSymbol (21)\n"),
@@ -100,6 +103,7 @@ fn refuses_links(rt: HostRuntime) -> Result<(), Fail> {
         ("a.o a.a", "ld: NotYet (22)\n"),
         ("twice.o", "ld: Duplicate (9): f\n"),
         ("spaced.o", "ld: Duplicate (9): f\\x20g\n"),
+        ("caller.o", "ld: Undefined (10): f\n"),
         ("a.o -e x", "ld: NoEntry (18)\n"),
     ];
     for (line, complaint) in rows {

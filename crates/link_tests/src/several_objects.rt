@@ -12,7 +12,7 @@ use std::test::Fail;
 
 const R_64: u32 = 1;
 
-const R_PC32: u32 = 2;
+pub const R_PC32: u32 = 2;
 
 const R_PLT32: u32 = 4;
 
@@ -89,7 +89,7 @@ fn undefined<'a>(name: &'a str) -> NamedSymbol<'a> {
 }
 
 /// A relocation of the first section, the text.
-fn in_text(offset: u64, kind: u32, symbol: u32, addend: i64) -> Relocation {
+pub fn in_text(offset: u64, kind: u32, symbol: u32, addend: i64) -> Relocation {
     Relocation {
         section: 1,
         offset,
@@ -249,7 +249,7 @@ fn values_wrap_at_64_bits(rt: HostRuntime) -> Result<(), Fail> {
 }
 
 /// A text with relocations against `f`, which another object defines.
-fn text_with(alloc: Global, relocations: &[Relocation]) -> Result<Vec<u8>, Fail> {
+pub fn text_with(alloc: Global, relocations: &[Relocation]) -> Result<Vec<u8>, Fail> {
     let symbols = [function("_start"), undefined("f")];
     relocatable(alloc, &[text_section()], &symbols, relocations)
 }
@@ -275,6 +275,30 @@ fn refuses_relocations(rt: HostRuntime) -> Result<(), Fail> {
     assert!(rt;
         matches!(&undefined, Err(LinkError::Undefined(name)) if name.as_slice() == b"f".as_slice())
     );
+    Ok(())
+}
+
+#[test]
+fn a_linkers_name_is_an_objects_to_define(rt: HostRuntime) -> Result<(), Fail> {
+    let alloc = rt.alloc();
+    let user = relocatable(
+        alloc,
+        &[text_section()],
+        &[function("_start"), undefined("_end")],
+        &[in_text(0, R_PC32, 2, 0)],
+    )?;
+    let alone = link_one(alloc, &user)?;
+    assert!(rt; matches!(&alone, Err(LinkError::NotYet)));
+    let definer = object(alloc, &[text_section()], &[function("_end")])?;
+    let output = link_two(alloc, &user, &definer)??;
+    assert!(rt; bytes_at(&output, 0x1000, 0x1004)? == [9, 0, 0, 0].as_slice());
+    let unused = object(
+        alloc,
+        &[text_section()],
+        &[function("_start"), undefined("_end")],
+    )?;
+    let unused = link_one(alloc, &unused)?;
+    assert!(rt; matches!(&unused, Ok(_)));
     Ok(())
 }
 

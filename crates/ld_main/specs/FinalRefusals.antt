@@ -1,0 +1,51 @@
+-- Which refusals are final: where one stands, no image and no map at all are a right link of these files and
+-- words. Want of memory says nothing of them; a link that is too large, or of which a value doesn't fit, could
+-- be right in another layout, but for a piece that fits nowhere and a value that is the same everywhere.
+use Rattle.std.specs.Prelude.{◌≡◌, ℕ, ◌+◌, ◌^◌, ◌<◌, true, List, Option, Some, IfSome, Ok, Any}
+use Rattle.elf_model.specs.Command.{Plan, command_of}
+use Rattle.elf_model.specs.Files.{File}
+use Rattle.elf_model.specs.Loading.{LoadedObject, loaded_objects}
+use Rattle.elf_model.specs.OwnLayout.{own_in_load_order}
+use Rattle.elf_model.specs.Pieces.{Piece, pieces}
+use Rattle.elf_model.specs.Relocation.{Fits, Formula, Kind, Relocation, S+A, Z+A, definition_of, relocation_kind, relocations}
+use Rattle.elf_model.specs.Resolution.{SymbolOf, is_absolute}
+use Rattle.elf_model.specs.RightLink.{IsRightLink}
+use Rattle.elf_model.specs.declared.faults.LinkError.{LinkError}
+use Rattle.elf_model.specs.declared.faults.LinkError.TheVariants as error
+
+-- no image and no map are a right link of these files and words
+abbrev pub HasNoRightLink : List File → List (List ℕ) → Type 0
+HasNoRightLink files words = (image map : List ℕ) → IsRightLink files words image map → ⊥
+
+-- a piece alone takes up more than all addresses from the base on
+abbrev pub IsTooWide : ℕ → Piece → Type 0
+IsTooWide base q = 2 ^ 46 < base + q.size
+
+-- a formula's value has no address in it: the addend is added to the size of the definition, or to the value of
+-- an absolute one or of none
+abbrev pub IsAddressFree : Formula → Option SymbolOf → Type 0
+IsAddressFree Z+A d = Unit {0}
+IsAddressFree S+A d = IfSome d (λ s. is_absolute s.entry ≡ true)
+IsAddressFree _ d = ⊥
+
+-- such a value doesn't fit its field
+pub record NeverFits (base : ℕ) (objects : List LoadedObject) (r : Relocation) : Type 0 where
+  pub kind : Kind
+  pub kind_is : relocation_kind r ≡ Some kind
+  pub free : IsAddressFree kind.formula (definition_of objects r.symbol)
+  pub unfit : ¬ Fits objects (own_in_load_order base objects) r
+
+-- an error is final
+abbrev pub IsFinal : List File → List (List ℕ) → LinkError → Type 0
+IsFinal files words error.Memory = ⊥
+IsFinal files words error.TooLarge =
+    (p : Plan) × (command_of words ≡ Ok p) × Any (IsTooWide p.base) (pieces (loaded_objects files p))
+IsFinal files words error.Overflow =
+    (p : Plan)
+    × (command_of words ≡ Ok p)
+    × Any (NeverFits p.base (loaded_objects files p)) (relocations (loaded_objects files p))
+IsFinal files words _ = Unit {0}
+
+-- where the error is final, no link is right
+abbrev pub DeniesLinks : List File → List (List ℕ) → LinkError → Type 0
+DeniesLinks files words e = IsFinal files words e → HasNoRightLink files words
