@@ -1,0 +1,2 @@
+pub mod HashedRows
+pub mod NameRows
