@@ -33,12 +33,12 @@ exchanged false false x y o apart = refl
 pub offered-exchanged : (a b : List ℕ) (c d : Candidate) (rows : Rows) → a ≢ b → offered a c (offered b d rows) ≡ offered b d (offered a c rows)
 offered-exchanged a b c d rows differ =
     same_rows (λ n.
-      let p = bytes_eq a n in
-      let q = bytes_eq b n in
-      let apart : p ≡ true → q ≡ false = λ t. other_name b n (λ e. differ (same_name a n t ∙ sym e)) in
-      ap (λ o. cond p (Some (taken c o)) (offered b d rows n)) (offered-other b a d rows (λ e. differ (sym e)))
-      ∙ exchanged p q (taken c (rows a)) (taken d (rows b)) (rows n) apart
-      ∙ ap (λ o. cond q (Some (taken d o)) (offered a c rows n)) (sym (offered-other a b c rows differ)))
+    let p = bytes_eq a n in
+    let q = bytes_eq b n in
+    let apart : p ≡ true → q ≡ false = λ t. other_name b n (λ e. differ (same_name a n t ∙ sym e)) in
+    ap (λ o. cond p (Some (taken c o)) (offered b d rows n)) (offered-other b a d rows (λ e. differ (sym e)))
+    ∙ exchanged p q (taken c (rows a)) (taken d (rows b)) (rows n) apart
+    ∙ ap (λ o. cond q (Some (taken d o)) (offered a c rows n)) (sym (offered-other a b c rows differ)))
 
 -- offers behind offers
 pub all_offered-append : (xs ys : List Offer) (rows : Rows) → all_offered (xs ++ ys) rows ≡ all_offered ys (all_offered xs rows)

@@ -146,6 +146,7 @@ row_after-IsRowOf cs =
   where
     two_from_test : (n : ℕ) → nat_le 2 (0 + n) ≡ true → 2 ≤ n
     two_from_test n t = grind (arith, nat_tests)
+
     test_from_two : (n : ℕ) → 2 ≤ n → nat_le 2 (0 + n) ≡ true
     test_from_two n more = grind (arith, nat_tests)
 
