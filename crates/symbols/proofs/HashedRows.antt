@@ -5,15 +5,15 @@ use Rattle.std.proofs.lemmas.Map.Text.{hash_map_updates_str}
 use Rattle.std.specs.Borrow.{Bor}
 use Rattle.std.specs.HashMap.{HashMap, Updates, get_by}
 use Rattle.std.specs.Str.{bytes_eq}
-use Rattle.symbols.specs.Lists.{row_in}
+use Rattle.symbols.specs.Lists.{NamedRow, row_in}
 use Rattle.symbols.specs.Rows.{no_row, offered, taken, taken_in}
 use Rattle.symbols.specs.declared.candidate.Candidate.{Candidate}
 use Rattle.symbols.specs.declared.row.Row.{Row}
-use Rattle.symbols.proofs.NameRows.{Entry, same_rows}
+use Rattle.symbols.proofs.NameRows.{same_rows}
 
 -- an entry's write, of the name's row with a candidate taken in, leaves the rows after its offer
 pub written_offered :
-    {S : Type 0} (m : HashMap (Bor (List ℕ)) Row S) (written : Row → HashMap (Bor (List ℕ)) Row S) (name : Bor (List ℕ)) (c : Candidate) (old row : Row) (fs : List Entry) →
+    {S : Type 0} (m : HashMap (Bor (List ℕ)) Row S) (written : Row → HashMap (Bor (List ℕ)) Row S) (name : Bor (List ℕ)) (c : Candidate) (old row : Row) (fs : List NamedRow) →
     ((v : Row) → Updates (λ x y. bytes_eq x.now y.now) m (written v) name (Some v)) →
     old ≡ unwrap_or (row_in m.entries name.now) no_row → row ≡ taken_in c old → fs ≡ (written row).entries →
     row_in fs ≡ offered name.now c (row_in m.entries)

@@ -9,11 +9,21 @@ use crate::row::{NO_ROW, Row, take_in};
 use indexmap::IndexMap;
 use std::alloc::{AllocError, Global};
 use std::hash::BuildHasher;
+use std::marker::Model;
 
 /// A table of names that finds them by hash, keyed by the borrowed names themselves.
 #[derive(Drop)]
 pub struct IndexedTable<'a, S: BuildHasher> {
     rows: IndexMap<&'a [u8], Row, S>,
+}
+
+impl<'a, S: BuildHasher> Model for IndexedTable<'a, S> {
+    ghost use Rattle.std.specs.Prelude.{List};
+    ghost use Rattle.symbols.specs.Lists.{NamedRow};
+
+    ghost Value = { List NamedRow };
+
+    ghost view = { λ t. t.rows.entries };
 }
 
 impl<'a, S: BuildHasher> IndexedTable<'a, S> {
@@ -28,7 +38,7 @@ impl<'a, S: BuildHasher> IndexedTable<'a, S> {
 }
 
 impl<'a, S: BuildHasher> NameTable<'a> for IndexedTable<'a, S> {
-    ghost rows = { λ t. row_in t.rows.entries };
+    ghost rows = { row_in };
 
     fn get(&self, name: &'a [u8]) -> Option<Row> {
         self.rows.get(name).copied()

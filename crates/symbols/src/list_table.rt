@@ -7,11 +7,23 @@ use crate::candidate::Candidate;
 use crate::name_table::NameTable;
 use crate::row::{NO_ROW, Row, take_in};
 use std::alloc::{AllocError, Global};
+use std::marker::Model;
 
 /// A table of names that searches a list from its front: the plain program of the definition.
 #[derive(Drop)]
 pub struct ListTable<'a> {
     rows: Vec<(&'a [u8], Row)>,
+}
+
+impl<'a> Model for ListTable<'a> {
+    ghost use Rattle.std.specs.Prelude.{List};
+    ghost use Rattle.symbols.specs.Lists.{HasNamesOnce, NamedRow};
+
+    ghost Value = { List NamedRow };
+
+    ghost view = { λ t. t.rows.items };
+
+    ghost invariant = { λ t. HasNamesOnce t.rows.items };
 }
 
 /// The place of a name in a list; None where the list hasn't got it.
@@ -33,7 +45,7 @@ impl<'a> ListTable<'a> {
 }
 
 impl<'a> NameTable<'a> for ListTable<'a> {
-    ghost rows = { λ t. row_in t.rows.items };
+    ghost rows = { row_in };
 
     fn get(&self, name: &'a [u8]) -> Option<Row> {
         let place = place_of(&self.rows, name)?;
