@@ -1,6 +1,9 @@
+ghost use Rattle.std.specs.Prelude.{◌≡◌, OnOk, map};
+ghost use Rattle.symbols.specs.Offers.{all_offered};
+
 use super::*;
 use crate::row::NO_ROW;
-use std::alloc::Global;
+use std::alloc::{AllocError, Global};
 use std::hash::{BuildHasherDefault, FoldHasher, RandomState};
 use std::process::Abort;
 use std::test::Fail;
@@ -30,6 +33,19 @@ fn common(object: u32, size: u64, align: u64) -> Candidate {
         size,
         align,
     }
+}
+
+/// Offers candidates for names, in order.
+fn offer_all<'a, T: NameTable<'a>>(
+    table: &mut T,
+    offers: &[(&'a [u8], Candidate)],
+) -> Result<(), AllocError>
+    ensures { OnOk result (T.rows table.new ≡ all_offered (map (λ o. record { name = o.0.now; candidate = o.1 }) offers.now) (T.rows table.old)) }
+{
+    for (name, candidate) in offers {
+        table.offer(name, *candidate)?;
+    }
+    Ok(())
 }
 
 /// Weak, strong and common definitions of one name: `f` of five objects, between them one of `g`.
@@ -80,6 +96,28 @@ fn mixes_kinds<'a, T: NameTable<'a>>(rt: &impl Abort, table: &mut T) -> Result<(
     };
     assert_eq!(rt; table.get(b"g"), Some(other));
     assert_eq!(rt; table.get(b"F"), None);
+    Ok(())
+}
+
+/// Two strong definitions of one name behind a weak one, offered at once.
+fn takes_a_list<'a, T: NameTable<'a>>(
+    rt: &impl Abort,
+    table: &mut T,
+    name: &'a [u8],
+) -> Result<(), Fail> {
+    let offers = [
+        (name, candidate(CandidateKind::Weak, 0)),
+        (name, candidate(CandidateKind::Strong, 1)),
+        (name, candidate(CandidateKind::Strong, 2)),
+    ];
+    offer_all(table, &offers)?;
+    let row = Row {
+        strong: Some(symbol(1, 1)),
+        twice: true,
+        weak: Some(symbol(0, 1)),
+        ..NO_ROW
+    };
+    assert_eq!(rt; table.get(name), Some(row));
     Ok(())
 }
 
@@ -135,6 +173,7 @@ fn indexed<'a>(alloc: Global) -> IndexedTable<'a, BuildHasherDefault<FoldHasher>
 fn the_list_is_a_table(rt: HostRuntime) -> Result<(), Fail> {
     let alloc = rt.alloc();
     mixes_kinds(&rt, &mut ListTable::new(alloc))?;
+    takes_a_list(&rt, &mut ListTable::new(alloc), b"f")?;
     grows_commons(&rt, &mut ListTable::new(alloc))?;
     keeps_prefixes_apart(&rt, &mut ListTable::new(alloc), NAMES)?;
     Ok(())
@@ -144,6 +183,7 @@ fn the_list_is_a_table(rt: HostRuntime) -> Result<(), Fail> {
 fn the_index_is_a_table(rt: HostRuntime) -> Result<(), Fail> {
     let alloc = rt.alloc();
     mixes_kinds(&rt, &mut indexed(alloc))?;
+    takes_a_list(&rt, &mut indexed(alloc), b"f")?;
     grows_commons(&rt, &mut indexed(alloc))?;
     keeps_prefixes_apart(&rt, &mut indexed(alloc), NAMES)?;
     Ok(())
