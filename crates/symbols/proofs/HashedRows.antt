@@ -1,9 +1,9 @@
 -- The rows of names in a map by hash, after a write at one of them.
-use Rattle.std.proofs.Common.{◌≡◌, ℕ, cond, List, refl, sym, ◌∙◌, ap, Some, Option}
+use Rattle.std.proofs.Common.{◌≡◌, ℕ, cond, List, ◌∙◌, ap, Some}
 use Rattle.std.specs.Prelude.{unwrap_or}
 use Rattle.std.proofs.lemmas.Map.Text.{hash_map_updates_str}
 use Rattle.std.specs.Borrow.{Bor}
-use Rattle.std.specs.HashMap.{HashMap, Updates, get_by}
+use Rattle.std.specs.HashMap.{HashMap, Updates}
 use Rattle.std.specs.Str.{bytes_eq}
 use Rattle.symbols.specs.Lists.{NamedRow, row_in}
 use Rattle.symbols.specs.Rows.{no_row, offered, taken, taken_in}

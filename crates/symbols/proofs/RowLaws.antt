@@ -1,7 +1,7 @@
 -- What the row of a name says of its candidates: the first of each kind, whether two are strong, and what a
 -- common block has to hold.
 use Rattle.std.proofs.Common.{◌≡◌, ℕ, ◌+◌, ◌≤◌, Bool, true, false, cond, List, [], ◌∷◌, refl, sym, ◌∙◌, ap, subst, arith, Some, None, Option}
-use Rattle.std.specs.Prelude.{◌||◌, ◌↔◌, IsTrue, count_by, filter, find, is_some, map, max, nat_le, unwrap_or}
+use Rattle.std.specs.Prelude.{◌||◌, count_by, filter, find, is_some, map, max, nat_le, unwrap_or}
 use Rattle.std.specs.Option.{option_map, option_or}
 use Rattle.std.proofs.lemmas.Bool.Decides.{nat_tests}
 use Rattle.std.proofs.lemmas.List.Sums.{sum_by-cons}

@@ -1,10 +1,10 @@
 -- Offers of candidates for names, in order, and what a row says of the candidates of its name (System V
 -- gABI 4, "Symbol Table": the first strong one is chosen; else a common block; else the first weak one).
-use Rattle.std.specs.Prelude.{◌≡◌, ℕ, ◌≤◌, ◌↔◌, Bool, true, false, List, [], ◌∷◌, Option, Some, None, IsTrue, count_by, filter, find, map, max, unwrap_or}
+use Rattle.std.specs.Prelude.{◌≡◌, ℕ, ◌≤◌, ◌↔◌, Bool, true, false, List, [], ◌∷◌, Option, Some, None, IsTrue, count_by, filter, find, map, max}
 use Rattle.std.specs.Option.{option_map}
 use Rattle.std.specs.Str.{bytes_eq}
 use Rattle.elf_model.specs.declared.references.SymbolRef.{SymbolRef}
-use Rattle.symbols.specs.Rows.{Rows, no_row, offered, taken}
+use Rattle.symbols.specs.Rows.{Rows, offered, taken}
 use Rattle.symbols.specs.declared.candidate.Candidate.{Candidate}
 use Rattle.symbols.specs.declared.candidate.CandidateKind.{CandidateKind}
 use Rattle.symbols.specs.declared.candidate.CandidateKind.TheVariants.{Strong, Weak, Common}

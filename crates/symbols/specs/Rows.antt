@@ -1,6 +1,6 @@
 -- Rows of names: what a row says of its name's candidates, how it takes one in, and what the rows of all
 -- names are after a candidate is offered for one.
-use Rattle.std.specs.Prelude.{ℕ, ◌||◌, Bool, false, cond, List, [], ◌∷◌, Option, Some, None, is_some, max, unwrap_or}
+use Rattle.std.specs.Prelude.{ℕ, ◌||◌, false, cond, List, Option, Some, None, is_some, max, unwrap_or}
 use Rattle.std.specs.Option.{option_or}
 use Rattle.std.specs.Str.{bytes_eq}
 use Rattle.symbols.specs.declared.candidate.Candidate.{Candidate}
