@@ -60,6 +60,14 @@ all_offered-name (o ∷ os) rows name = all_offered-name os (offered o.name o.ca
 pub all_offered-row_of : (offers : List Offer) → all_offered offers no_rows ≡ row_of offers
 all_offered-row_of offers = same_rows (λ name. all_offered-name offers no_rows name)
 
+-- what offers leave of a name's row, behind other offers
+pub row_of-append : (xs ys : List Offer) (name : List ℕ) → row_of (xs ++ ys) name ≡ all_taken (candidates_of name ys) (row_of xs name)
+row_of-append xs ys name =
+    sym (all_offered-name (xs ++ ys) no_rows name)
+    ∙ ap (λ (rows : Rows). rows name) (all_offered-append xs ys no_rows)
+    ∙ all_offered-name ys (all_offered xs no_rows) name
+    ∙ ap (λ o. all_taken (candidates_of name ys) o) (all_offered-name xs no_rows name)
+
 -- a name that was never offered has no row
 pub row_of-none : (offers : List Offer) (name : List ℕ) → All (λ o. o.name ≢ name) offers → row_of offers name ≡ None
 row_of-none [] name never = refl

@@ -1,7 +1,7 @@
 -- What the row of a name says of its candidates: the first of each kind, whether two are strong, and what a
 -- common block has to hold.
-use Rattle.std.proofs.Common.{◌≡◌, ℕ, ◌+◌, ◌≤◌, Bool, true, false, cond, List, [], ◌∷◌, refl, sym, ◌∙◌, ap, subst, arith, Some, None, Option}
-use Rattle.std.specs.Prelude.{◌||◌, count_by, filter, find, is_some, map, max, nat_le, unwrap_or}
+use Rattle.std.proofs.Common.{◌≡◌, ℕ, ◌+◌, ◌≤◌, Bool, true, false, cond, List, [], ◌∷◌, ◌++◌, refl, sym, ◌∙◌, ap, subst, arith, Some, None, Option}
+use Rattle.std.specs.Prelude.{◌||◌, IsTrue, count_by, filter, find, is_some, map, max, nat_le, unwrap_or}
 use Rattle.std.specs.Option.{option_map, option_or}
 use Rattle.std.proofs.lemmas.Bool.Decides.{nat_tests}
 use Rattle.std.proofs.lemmas.List.Sums.{sum_by-cons}
@@ -12,6 +12,7 @@ use Rattle.symbols.specs.declared.candidate.Candidate.{Candidate}
 use Rattle.symbols.specs.declared.candidate.CandidateKind.{CandidateKind}
 use Rattle.symbols.specs.declared.candidate.CandidateKind.TheVariants.{Strong, Weak, Common}
 use Rattle.symbols.specs.declared.row.Row.{Row}
+use Rattle.symbols.proofs.OfferLaws.{row_of-append}
 
 -- a row after candidates in order
 abbrev pub row_after : List Candidate → Row → Row
@@ -156,3 +157,14 @@ pub row_of-IsRowOf : (offers : List Offer) (name : List ℕ) → IsRowOf (candid
 row_of-IsRowOf offers name =
     let cs = candidates_of name offers in
     subst (λ row. IsRowOf cs row) (sym (all_taken-row cs None)) (row_after-IsRowOf cs)
+
+-- two strong ones stay two, whatever is offered behind them
+pub twice_stays :
+    (offers others : List Offer) (name : List ℕ) → IsTrue (unwrap_or (row_of offers name) no_row).twice → IsTrue (unwrap_or (row_of (offers ++ others) name) no_row).twice
+twice_stays offers others name two =
+    let cs = candidates_of name others in
+    let row = unwrap_or (row_of offers name) no_row in
+    ap (λ o. (unwrap_or o no_row).twice) (row_of-append offers others name)
+    ∙ ap (λ r. r.twice) (all_taken-row cs (row_of offers name))
+    ∙ row_after-twice cs row
+    ∙ ap (λ t. t || nat_le 2 (ones row.strong + count_by is_strong cs)) two
