@@ -1,0 +1,4 @@
+pub mod HashedRows
+pub mod NameRows
+pub mod OfferLaws
+pub mod RowLaws

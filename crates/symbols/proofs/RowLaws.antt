@@ -1,0 +1,170 @@
+-- What the row of a name says of its candidates: the first of each kind, whether two are strong, and what a
+-- common block has to hold.
+use Rattle.std.proofs.Common.{◌≡◌, ℕ, ◌+◌, ◌≤◌, Bool, true, false, cond, List, [], ◌∷◌, ◌++◌, refl, sym, ◌∙◌, ap, subst, arith, Some, None, Option}
+use Rattle.std.specs.Prelude.{◌||◌, IsTrue, count_by, filter, find, is_some, map, max, nat_le, unwrap_or}
+use Rattle.std.specs.Option.{option_map, option_or}
+use Rattle.std.proofs.lemmas.Bool.Decides.{nat_tests}
+use Rattle.std.proofs.lemmas.List.Sums.{sum_by-cons}
+use Rattle.elf_model.specs.declared.references.SymbolRef.{SymbolRef}
+use Rattle.symbols.specs.Offers.{IsRowOf, Offer, all_taken, candidates_of, first_symbol, greatest, is_common, is_common_kind, is_strong, is_strong_kind, is_weak, is_weak_kind, row_of}
+use Rattle.symbols.specs.Rows.{no_row, taken, taken_as, taken_in}
+use Rattle.symbols.specs.declared.candidate.Candidate.{Candidate}
+use Rattle.symbols.specs.declared.candidate.CandidateKind.{CandidateKind}
+use Rattle.symbols.specs.declared.candidate.CandidateKind.TheVariants.{Strong, Weak, Common}
+use Rattle.symbols.specs.declared.row.Row.{Row}
+use Rattle.symbols.proofs.OfferLaws.{row_of-append}
+
+-- a row after candidates in order
+abbrev pub row_after : List Candidate → Row → Row
+row_after [] row = row
+row_after (c ∷ cs) row = row_after cs (taken_in c row)
+
+all_taken-row : (cs : List Candidate) (row : Option Row) → unwrap_or (all_taken cs row) no_row ≡ row_after cs (unwrap_or row no_row)
+all_taken-row [] row = refl
+all_taken-row (c ∷ cs) row = all_taken-row cs (Some (taken c row))
+
+first_stays : (first : Option SymbolRef) (s : SymbolRef) (rest : Option SymbolRef) → option_or (option_or first (Some s)) rest ≡ option_or first (Some s)
+first_stays None s rest = refl
+first_stays (Some f) s rest = refl
+
+strong_step :
+    (k : CandidateKind) (c : Candidate) (row : Row) (rest : Option Candidate) →
+    option_or (taken_as k c row).strong (option_map (λ x. x.symbol) rest)
+    ≡ option_or row.strong (option_map (λ x. x.symbol) (cond (is_strong_kind k) (Some c) rest))
+strong_step Strong c row rest = first_stays row.strong c.symbol (option_map (λ x. x.symbol) rest)
+strong_step Weak c row rest = refl
+strong_step Common c row rest = refl
+
+nothing_else : (o : Option SymbolRef) → o ≡ option_or o None
+nothing_else None = refl
+nothing_else (Some s) = refl
+
+-- the first strong one
+pub row_after-strong : (cs : List Candidate) (row : Row) → (row_after cs row).strong ≡ option_or row.strong (first_symbol is_strong cs)
+row_after-strong [] row = nothing_else row.strong
+row_after-strong (c ∷ cs) row = row_after-strong cs (taken_in c row) ∙ strong_step c.kind c row (find is_strong cs)
+
+weak_step :
+    (k : CandidateKind) (c : Candidate) (row : Row) (rest : Option Candidate) →
+    option_or (taken_as k c row).weak (option_map (λ x. x.symbol) rest)
+    ≡ option_or row.weak (option_map (λ x. x.symbol) (cond (is_weak_kind k) (Some c) rest))
+weak_step Strong c row rest = refl
+weak_step Weak c row rest = first_stays row.weak c.symbol (option_map (λ x. x.symbol) rest)
+weak_step Common c row rest = refl
+
+-- the first weak one
+pub row_after-weak : (cs : List Candidate) (row : Row) → (row_after cs row).weak ≡ option_or row.weak (first_symbol is_weak cs)
+row_after-weak [] row = nothing_else row.weak
+row_after-weak (c ∷ cs) row = row_after-weak cs (taken_in c row) ∙ weak_step c.kind c row (find is_weak cs)
+
+common_step :
+    (k : CandidateKind) (c : Candidate) (row : Row) (rest : Option Candidate) →
+    option_or (taken_as k c row).common (option_map (λ x. x.symbol) rest)
+    ≡ option_or row.common (option_map (λ x. x.symbol) (cond (is_common_kind k) (Some c) rest))
+common_step Strong c row rest = refl
+common_step Weak c row rest = refl
+common_step Common c row rest = first_stays row.common c.symbol (option_map (λ x. x.symbol) rest)
+
+-- the first common one
+pub row_after-common : (cs : List Candidate) (row : Row) → (row_after cs row).common ≡ option_or row.common (first_symbol is_common cs)
+row_after-common [] row = nothing_else row.common
+row_after-common (c ∷ cs) row = row_after-common cs (taken_in c row) ∙ common_step c.kind c row (find is_common cs)
+
+-- how many strong ones a row has seen, as far as its first
+abbrev pub ones : Option SymbolRef → ℕ
+ones None = 0
+ones (Some s) = 1
+
+twice_strong :
+    (first : Option SymbolRef) (t : Bool) (s : SymbolRef) (n : ℕ) →
+    ((t || is_some first) || nat_le 2 (ones (option_or first (Some s)) + n)) ≡ (t || nat_le 2 (ones first + (1 + n)))
+twice_strong first true s n = refl
+twice_strong None false s n = ap (λ m. nat_le 2 m) (omega arith)
+twice_strong (Some f) false s n = let more : nat_le 2 (1 + (1 + n)) ≡ true = grind (arith, nat_tests) in sym more
+
+twice_step :
+    (k : CandidateKind) (c : Candidate) (row : Row) (n : ℕ) →
+    ((taken_as k c row).twice || nat_le 2 (ones (taken_as k c row).strong + n))
+    ≡ (row.twice || nat_le 2 (ones row.strong + (cond (is_strong_kind k) 1 0 + n)))
+twice_step Strong c row n = twice_strong row.strong row.twice c.symbol n
+twice_step Weak c row n = ap (λ m. row.twice || nat_le 2 (ones row.strong + m)) (omega arith)
+twice_step Common c row n = ap (λ m. row.twice || nat_le 2 (ones row.strong + m)) (omega arith)
+
+not_yet : (t : Bool) (first : Option SymbolRef) → t ≡ (t || nat_le 2 (ones first + 0))
+not_yet true first = refl
+not_yet false None = refl
+not_yet false (Some s) = refl
+
+-- whether two are strong
+pub row_after-twice : (cs : List Candidate) (row : Row) → (row_after cs row).twice ≡ (row.twice || nat_le 2 (ones row.strong + count_by is_strong cs))
+row_after-twice [] row = not_yet row.twice row.strong
+row_after-twice (c ∷ cs) row =
+    let counted = sum_by-cons (λ x. cond (is_strong x) 1 0) c cs in
+    row_after-twice cs (taken_in c row) ∙ twice_step c.kind c row (count_by is_strong cs)
+    ∙ ap (λ n. row.twice || nat_le 2 (ones row.strong + n)) (sym counted)
+
+size_step :
+    (k : CandidateKind) (c : Candidate) (row : Row) (rest : List Candidate) →
+    max (taken_as k c row).common_size (greatest (map (λ x. x.size) rest))
+    ≡ max row.common_size (greatest (map (λ x. x.size) (cond (is_common_kind k) (c ∷ rest) rest)))
+size_step Strong c row rest = refl
+size_step Weak c row rest = refl
+size_step Common c row rest = omega arith
+
+-- the greatest size of a common one
+pub row_after-common_size :
+    (cs : List Candidate) (row : Row) → (row_after cs row).common_size ≡ max row.common_size (greatest (map (λ c. c.size) (filter is_common cs)))
+row_after-common_size [] row = omega arith
+row_after-common_size (c ∷ cs) row = row_after-common_size cs (taken_in c row) ∙ size_step c.kind c row (filter is_common cs)
+
+align_step :
+    (k : CandidateKind) (c : Candidate) (row : Row) (rest : List Candidate) →
+    max (taken_as k c row).common_align (greatest (map (λ x. x.align) rest))
+    ≡ max row.common_align (greatest (map (λ x. x.align) (cond (is_common_kind k) (c ∷ rest) rest)))
+align_step Strong c row rest = refl
+align_step Weak c row rest = refl
+align_step Common c row rest = omega arith
+
+-- the greatest alignment of a common one
+pub row_after-common_align :
+    (cs : List Candidate) (row : Row) → (row_after cs row).common_align ≡ max row.common_align (greatest (map (λ c. c.align) (filter is_common cs)))
+row_after-common_align [] row = omega arith
+row_after-common_align (c ∷ cs) row = row_after-common_align cs (taken_in c row) ∙ align_step c.kind c row (filter is_common cs)
+
+-- what a row says after candidates in order, where nothing was said before
+pub row_after-IsRowOf : (cs : List Candidate) → IsRowOf cs (row_after cs no_row)
+row_after-IsRowOf cs =
+    let two = row_after-twice cs no_row in
+    let n = count_by is_strong cs in
+    record {
+      strong = row_after-strong cs no_row;
+      twice = ((λ t. two_from_test n (sym two ∙ t)), (λ more. two ∙ test_from_two n more));
+      weak = row_after-weak cs no_row;
+      common = row_after-common cs no_row;
+      common_size = row_after-common_size cs no_row ∙ omega arith;
+      common_align = row_after-common_align cs no_row ∙ omega arith;
+    }
+  where
+    two_from_test : (n : ℕ) → nat_le 2 (0 + n) ≡ true → 2 ≤ n
+    two_from_test n t = grind (arith, nat_tests)
+
+    test_from_two : (n : ℕ) → 2 ≤ n → nat_le 2 (0 + n) ≡ true
+    test_from_two n more = grind (arith, nat_tests)
+
+-- The row of a name after offers says what its candidates are: from it the choice among them can be read,
+-- the first strong one, else the common block, else the first weak one.
+pub row_of-IsRowOf : (offers : List Offer) (name : List ℕ) → IsRowOf (candidates_of name offers) (unwrap_or (row_of offers name) no_row)
+row_of-IsRowOf offers name =
+    let cs = candidates_of name offers in
+    subst (λ row. IsRowOf cs row) (sym (all_taken-row cs None)) (row_after-IsRowOf cs)
+
+-- two strong ones stay two, whatever is offered behind them
+pub twice_stays :
+    (offers others : List Offer) (name : List ℕ) → IsTrue (unwrap_or (row_of offers name) no_row).twice → IsTrue (unwrap_or (row_of (offers ++ others) name) no_row).twice
+twice_stays offers others name two =
+    let cs = candidates_of name others in
+    let row = unwrap_or (row_of offers name) no_row in
+    ap (λ o. (unwrap_or o no_row).twice) (row_of-append offers others name)
+    ∙ ap (λ r. r.twice) (all_taken-row cs (row_of offers name))
+    ∙ row_after-twice cs row
+    ∙ ap (λ t. t || nat_le 2 (ones row.strong + count_by is_strong cs)) two
