@@ -1,6 +1,8 @@
 -- Which refusals are final: where one stands, no image and no map at all are a right link of these files and
--- words. Want of memory says nothing of them; a link that is too large, or of which a value doesn't fit, could
--- be right in another layout, but for a piece that fits nowhere and a value that is the same everywhere.
+-- words. Want of memory says nothing of them. A link that is too large, or of which a value doesn't fit, could
+-- be right in another layout: of these it is said only where one piece alone is too wide, and where the value
+-- has no address in it. (A definition in a section that isn't kept has the value 0 everywhere too; its link is
+-- refused before values are asked for.)
 use Rattle.std.specs.Prelude.{◌≡◌, ℕ, ◌+◌, ◌^◌, ◌<◌, true, List, Option, Some, IfSome, Ok, Any}
 use Rattle.elf_model.specs.Command.{Plan, command_of}
 use Rattle.elf_model.specs.Files.{File}

@@ -173,8 +173,10 @@ fn link_objects<'a>(
 /// (BadObject), this profile's limits (NotYet), kinds of sections and names (SectionKind, BadSymbol,
 /// Duplicate), references (RelocKind, Undefined, RefToDropped, TlsMismatch, FieldOutside, OverlappingFields,
 /// NoEntry), the layout (TooLarge), values (Overflow). Memory where memory is refused. Where one is answered
-/// other than Memory, TooLarge and Overflow, no image and map at all are a right link; nor where one piece
-/// alone is too large, or a value doesn't fit that has no address in it.
+/// other than Memory, TooLarge and Overflow, no image and map at all are a right link of these files and words
+/// (for NotYet, since a right link is one inside the profile). The same is said of TooLarge where one piece
+/// alone takes up more than all addresses from the base on, and of Overflow where the value that doesn't fit
+/// is `Z+A`, or `S+A` of an absolute definition or of none.
 #[tactic(auto, using(crate::proofs::FinalRefusals::finals))]
 pub fn link(alloc: Global, files: &[InputFile], words: &[String]) -> Result<Output, LinkError>
     ensures right { IfOk result (λ o. IsRightLink (files_of files.now) (words_of words.now) o.image.items o.map.items) }

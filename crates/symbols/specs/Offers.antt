@@ -1,5 +1,6 @@
--- Offers of candidates for names, in order, and what a row says of the candidates of its name (System V
--- gABI 4, "Symbol Table": the first strong one is chosen; else a common block; else the first weak one).
+-- Offers of candidates for names, in order, and what a row says of the candidates of its name, from which the
+-- chosen one can be read: the strong one, else the common block, else the first weak one (System V gABI 4,
+-- "Symbol Table"; that it is the first weak one, and the block's alignment the greatest, is the profile's).
 use Rattle.std.specs.Prelude.{◌≡◌, ℕ, ◌≤◌, ◌↔◌, Bool, true, false, List, [], ◌∷◌, Option, Some, None, IsTrue, count_by, filter, find, map, max}
 use Rattle.std.specs.Option.{option_map}
 use Rattle.std.specs.Str.{bytes_eq}
