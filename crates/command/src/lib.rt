@@ -28,6 +28,3 @@ pub use items::{Item, Plan, Source};
 pub use opened::{file_named, path_of};
 pub use paths::candidates;
 pub use reading::read_words;
-
-#[cfg(test)]
-mod tests;

@@ -5,8 +5,6 @@
 mod filling;
 mod headers;
 mod pieces;
-#[cfg(test)]
-mod tests;
 mod writing;
 
 pub use writing::image;

@@ -34,7 +34,7 @@ fn file_end(segments: &[ProgramHeader]) -> u64
 /// them.
 pub fn image(
     alloc: Global,
-    placement: &Placement<'_>,
+    placement: &Placement<'_, '_>,
     patches: &Patches<'_, '_>,
     entry: u64,
 ) -> Result<Vec<u8>, AllocError>

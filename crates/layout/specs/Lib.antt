@@ -7,3 +7,4 @@ pub mod Orders
 pub mod PlaceViews
 pub mod Placements
 pub mod Views
+pub mod Tables

@@ -73,7 +73,7 @@ fn lay_segment<'a>(
 /// Places all pieces, from the end of the headers on.
 fn lay_pieces<'a>(
     alloc: Global,
-    order: &Order<'a>,
+    order: &Order<'_, 'a>,
     base: u64,
     headers_end: u64,
 ) -> Result<Laid<'a>, LinkError>
@@ -109,7 +109,7 @@ fn lay_pieces<'a>(
 /// The segments that are needed: that of what may only be read, and the others where a piece takes up memory.
 fn segments_of(
     alloc: Global,
-    order: &Order<'_>,
+    order: &Order<'_, '_>,
     laid: &Laid<'_>,
 ) -> Result<Vec<ProgramHeader>, AllocError>
     requires order { IsOrder order.now }
@@ -127,7 +127,7 @@ fn segments_of(
 }
 
 /// Places all pieces and makes the segments that hold them. TooLarge where they, or the file, reach too far.
-pub fn lay_out<'a>(alloc: Global, order: &Order<'a>, base: u64) -> Result<Layout<'a>, LinkError>
+pub fn lay_out<'a>(alloc: Global, order: &Order<'_, 'a>, base: u64) -> Result<Layout<'a>, LinkError>
     requires base { IsBase base }
     requires objects { AreObjects (objects_of order.now) }
     requires order { IsOrder order.now }

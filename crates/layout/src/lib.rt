@@ -12,12 +12,10 @@ mod pieces;
 mod placement;
 mod running;
 mod segments;
-#[cfg(test)]
-mod tests;
 
 pub use elf_model::LinkError;
 pub use kinds::are_lawful_kinds;
 pub use names::output_name;
 pub use pieces::Piece;
-pub use placement::{Placement, place};
+pub use placement::{Placement, Tables, place};
 pub use running::Place;

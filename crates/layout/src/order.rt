@@ -14,8 +14,8 @@ use std::alloc::{AllocError, Global};
 /// The pieces of objects in own order: those that may only be read, code, and what may be written, of which
 /// those without bytes come last; and how many they are.
 #[derive(Drop)]
-pub struct Order<'a> {
-    pub objects: &'a [Loaded<'a>],
+pub struct Order<'b, 'a> {
+    pub objects: &'b [Loaded<'a>],
     pub count: usize,
     pub read_only: Vec<Piece<'a>>,
     pub code: Vec<Piece<'a>>,
@@ -33,7 +33,10 @@ fn writable_of<'a>(alloc: Global, pieces: &[Piece<'a>]) -> Result<Vec<Piece<'a>>
 }
 
 /// The pieces of objects in own order.
-pub fn order_of<'a>(alloc: Global, objects: &'a [Loaded<'a>]) -> Result<Order<'a>, AllocError>
+pub fn order_of<'b, 'a>(
+    alloc: Global,
+    objects: &'b [Loaded<'a>],
+) -> Result<Order<'b, 'a>, AllocError>
     ensures objects { IfOk result (λ o. objects_of o ≡ loaded_views objects.entry.now) }
     ensures order { IfOk result (λ o. IsOrder o) }
 {
@@ -49,7 +52,7 @@ pub fn order_of<'a>(alloc: Global, objects: &'a [Loaded<'a>]) -> Result<Order<'a
 
 /// The size of the file header and the program headers, in bytes: a header for the segment of what may only
 /// be read and one for the stack, and one each where there is code and where something may be written.
-pub fn headers_size(order: &Order<'_>) -> u64
+pub fn headers_size(order: &Order<'_, '_>) -> u64
     requires { IsOrder order.now }
     ensures size { result ≡ own.own_headers_size (objects_of order.now) }
     ensures small { result ≤ 288 }

@@ -178,3 +178,10 @@ denies_links files words e cause final image text l = deny files words image tex
 pub finals : {X : Type 0} (files : List File) (words : List (List ℕ)) (r : Result X LinkError) → IfErr r (Cause files words) → IfErr r (DeniesLinks files words)
 finals files words (Ok x) c = tt
 finals files words (Err e) c = denies_links files words e c
+
+-- want of memory denies nothing
+pub no_memory :
+    {X : Type 0} (files : List File) (words : List (List ℕ)) (r : Result X LinkError) → (e : LinkError) × (r ≡ Err e) × (e ≡ error.Memory) →
+    IfErr r (DeniesLinks files words)
+no_memory {X} files words r p =
+    subst (λ (s : Result X LinkError). IfErr s (DeniesLinks files words)) (sym (p.1 ∙ ap (λ (e : LinkError). Err e) p.2)) (λ final. absurd final)

@@ -2,4 +2,5 @@ pub mod ProfileLemmas
 pub mod Values
 pub mod OwnMaps
 pub mod Links
+pub mod Spellings
 pub mod FinalRefusals

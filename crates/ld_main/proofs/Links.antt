@@ -1,12 +1,12 @@
 -- From what linking the loaded objects makes to a right link, and from its refusals to causes.
-use Rattle.std.proofs.Common.{◌≡◌, ℕ, ◌<◌, ◌^◌, List, sym, ◌∙◌, ap, subst}
+use Rattle.std.proofs.Common.{◌≡◌, ℕ, ◌<◌, ◌^◌, List, refl, sym, ◌∙◌, ap, subst}
 use Rattle.std.specs.Prelude.{Any, IfErr, IfOk, Ok, Err, Result}
 use Rattle.elf_model.specs.Causes.{Cause, IsLaidOut, IsLinkable, IsReferred, IsResolved, IsTaken}
-use Rattle.elf_model.specs.Command as command
 use Rattle.elf_model.specs.Command.{Plan, command_of}
 use Rattle.elf_model.specs.Files.{File}
-use Rattle.elf_model.specs.ImageFile.{image_file}
+use Rattle.elf_model.specs.ImageFile.{IsOwnMap, image_file, own_entry}
 use Rattle.elf_model.specs.Loading.{AreFilesThere, AreObjects, LoadedObject, loaded_objects}
+use Rattle.elf_model.specs.MapText as map_text
 use Rattle.elf_model.specs.Profile.{IsInProfile}
 use Rattle.elf_model.specs.RightLink.{IsRightLink}
 use Rattle.elf_model.specs.declared.faults.LinkError.{LinkError}
@@ -18,7 +18,13 @@ use Rattle.relocate.specs.Values.{ValuesFail}
 use Rattle.search.specs.Search.{LoadFails}
 use Rattle.resolve.specs.Refusals.{ResolvingFails}
 use Rattle.layout.specs.Placements.{Basis}
-use Rattle.ld_main.specs.Outputs.{AreLaidOut, AreReferred, AreResolved, IsOwnLink, IsOwnOutput, LinksRefuse}
+use Rattle.resolve.specs.Views.{symbol_views}
+use Rattle.ld_main.specs.Linkages.{IsLinkageOf, IsOwnText, IsPrepared, Prepared}
+use Rattle.ld_main.specs.Maps.{IsMapOf, own_record}
+use Rattle.ld_main.specs.Outputs.{AreLaidOut, AreLinkable, AreReferred, AreResolved, IsOwnLink, LinksRefuse}
+use Rattle.ld_main.specs.Program.{LinksRight}
+use Rattle.ld_main.specs.declared.linkage.Parts.{Parts}
+use Rattle.ld_main.proofs.OwnMaps.{ordered, own_map}
 
 pub ok_more : {X Y : Type 0} (P Q : X → Type 0) (r : Result X Y) → IfOk r P → ((x : X) → P x → Q x) → IfOk r Q
 ok_more P Q (Ok x) is more = more x is
@@ -65,6 +71,33 @@ values_refuse p objects l error.Memory f = tt
 values_refuse p objects l error.Overflow f = (l, f)
 values_refuse p objects l _ f = absurd f
 
+-- the bytes of a prepared link: its own image, and the text of its own map
+pub own :
+    (files : List File) (words : List (List ℕ)) (l : Prepared) → IsPrepared files words l → (image text : List ℕ) →
+    image ≡ image_file l.plan.base l.objects l.plan.entry → IsOwnText l text → IsOwnLink files words image text
+own files words l i image text image_is t = record {
+  plan = l.plan;
+  linkable = i.linkable;
+  bytes = record {
+    record_of = t.record_of;
+    own_map = subst (λ (os : List LoadedObject). IsOwnMap l.plan.base os t.record_of) i.objects t.own_map;
+    is_map = t.is_map;
+    spelled = t.spelled;
+    image_is = image_is ∙ ap (λ (os : List LoadedObject). image_file l.plan.base os l.plan.entry) i.objects;
+  };
+}
+
+pub right :
+    (files : List File) (words : List (List ℕ)) (l : Prepared) → IsPrepared files words l → (image text : List ℕ) →
+    image ≡ image_file l.plan.base l.objects l.plan.entry → IsOwnText l text → IsRightLink files words image text
+unfolding own
+right files words l i image text image_is t =
+    let o = own files words l i image text image_is t in
+    let small = subst (λ (os : List LoadedObject). own_entry l.plan.base os l.plan.entry < 2 ^ 64) i.objects i.entry_fits in
+    let r = own_is_right files words l.plan t.record_of i.linkable i.base small o.bytes.own_map o.bytes.is_map in
+    subst (λ (j : List ℕ). IsRightLink files words j text) (sym o.bytes.image_is)
+    (subst (λ (u : List ℕ). IsRightLink files words (image_file l.plan.base (loaded_objects files l.plan) l.plan.entry) u) (sym o.bytes.spelled) r)
+
 module _ (files : List File) (words : List (List ℕ)) (p : Plan) (objects : List LoadedObject) (are : objects ≡ loaded_objects files p) (plan_is : command_of words ≡ Ok p) (there : AreFilesThere files p) (good : AreObjects (loaded_objects files p)) (profile : IsInProfile p objects) where
   taken : IsTaken files words p
   taken = record {
@@ -81,20 +114,33 @@ module _ (files : List File) (words : List (List ℕ)) (p : Plan) (objects : Lis
   laid_out : AreLaidOut p (loaded_objects files p) → IsLaidOut files words p
   laid_out l = record { before = referred l.referred; not_too_large = l.not_too_large }
 
-  linkable : (image map : List ℕ) → IsOwnOutput p (loaded_objects files p) image map → IsLinkable files words p
-  linkable image map o = record { before = laid_out o.linkable.laid_out; fits = o.linkable.fits }
+  linkable : AreLinkable p (loaded_objects files p) → IsLinkable files words p
+  linkable l = record { before = laid_out l.laid_out; fits = l.fits }
 
-  pub own : (image map : List ℕ) → IsOwnOutput p objects image map → IsOwnLink files words image map
-  own image map made =
-      let o : IsOwnOutput p (loaded_objects files p) image map = subst (λ (os : List LoadedObject). IsOwnOutput p os image map) are made in
-      record { plan = p; linkable = linkable image map o; bytes = o.bytes }
+  pub prepared : (x : Parts) → IsLinkageOf p objects x → IsPrepared files words (record { plan = p; objects = objects })
+  prepared x made = record {
+    objects = are;
+    linkable = linkable (subst (AreLinkable p) are made.linkable);
+    base = made.base;
+    entry_fits = subst (λ (e : ℕ). e < 2 ^ 64) (sym made.entry) made.entry_fits;
+  }
 
-  pub right : command.IsBase p.base → (image map : List ℕ) → IsOwnOutput p objects image map → IsRightLink files words image map
-  right b image map made =
-      let o : IsOwnOutput p (loaded_objects files p) image map = subst (λ (os : List LoadedObject). IsOwnOutput p os image map) are made in
-      let r = own_is_right files words p o.bytes.record_of (linkable image map o) b o.entry_fits o.bytes.own_map o.bytes.is_map in
-      subst (λ (i : List ℕ). IsRightLink files words i map) (sym o.bytes.image_is)
-      (subst (λ (t : List ℕ). IsRightLink files words (image_file p.base (loaded_objects files p) p.entry) t) (sym o.bytes.spelled) r)
+  -- the own image and the own map, which can be spelled
+  pub right_link : (x : Parts) → IsLinkageOf p objects x → LinksRight files words
+  right_link x made =
+      let b : Basis = record { base = p.base; objects = objects } in
+      let m = own_record b (symbol_views x.definitions.items) in
+      let is : IsMapOf b (symbol_views x.definitions.items) m =
+      record { objects_are = refl; drops = refl; places = refl; commons = refl; got = refl; slots = refl; symbols_are = refl } in
+      let text_is : IsOwnText (record { plan = p; objects = objects }) (map_text.text m) =
+      record {
+        record_of = m;
+        own_map = own_map b x.definitions.items m is made.definitions;
+        is_map = record { fits = made.spelled; ordered = ordered b x.definitions.items m is made.definitions };
+        spelled = refl;
+      } in
+      let r = prepared x made in
+      (image_file p.base objects p.entry, map_text.text m, right files words (record { plan = p; objects = objects }) r _ _ refl text_is)
 
   pub cause : (e : LinkError) → LinksRefuse p objects e → Cause files words e
   cause e refused = of_loaded e (subst (λ (os : List LoadedObject). LinksRefuse p os e) are refused)

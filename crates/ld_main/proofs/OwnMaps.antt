@@ -20,7 +20,7 @@ use Rattle.layout.specs.Placements.{Basis}
 use Rattle.relocate.specs.Values.{placed_in}
 use Rattle.resolve.specs.Defined.{AreDefinitions}
 use Rattle.resolve.specs.Views.{symbol_view, symbol_views}
-use Rattle.resolve.specs.declared.symbols.SymbolOf as code
+use Rattle.resolve.specs.declared.entries.SymbolOf as code
 use Rattle.elf_model.proofs.Places.{at_own_address}
 use Rattle.ld_main.specs.Maps.{IsMapOf, own_row}
 

@@ -21,7 +21,7 @@ use Rattle.layout.specs.Placements.{Basis}
 use Rattle.relocate.specs.Values.{placed_in}
 use Rattle.ld_main.specs.Maps.{LiesBelow}
 use Rattle.resolve.specs.Views.{symbol_view, symbol_views}
-use Rattle.resolve.specs.declared.symbols.SymbolOf as code
+use Rattle.resolve.specs.declared.entries.SymbolOf as code
 
 -- the header of a piece is that of its section in its object
 abbrev HasHeader : List LoadedObject → Piece → Type 0

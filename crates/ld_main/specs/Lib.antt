@@ -2,3 +2,4 @@ pub mod Maps
 pub mod Program
 pub mod Outputs
 pub mod FinalRefusals
+pub mod Linkages

@@ -27,3 +27,15 @@ pub record IsMapOf (b : Basis) (symbols : List SymbolOf) (m : MapRecord) : Type 
   pub got : m.got ≡ None
   pub slots : m.slots ≡ []
   pub symbols_are : m.symbols ≡ map (symbol_row_of (placed_in b)) symbols
+
+-- that map's lines
+abbrev pub own_record : Basis → List SymbolOf → MapRecord
+own_record b symbols = record {
+  objects = object_rows 0 b.objects;
+  drops = [];
+  places = map (own_row b) (pieces b.objects);
+  commons = [];
+  got = None;
+  slots = [];
+  symbols = map (symbol_row_of (placed_in b)) symbols;
+}

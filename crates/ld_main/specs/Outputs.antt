@@ -3,7 +3,7 @@ use Rattle.std.specs.Prelude.{◌≡◌, ℕ, ◌^◌, ◌<◌, List, AllPairs, 
 use Rattle.elf_model.specs.Causes.{IsLinkable, IsToDropped, IsUndefinedName}
 use Rattle.elf_model.specs.Command.{Plan}
 use Rattle.elf_model.specs.Files.{File}
-use Rattle.elf_model.specs.ImageFile.{IsOwnMap, image_file, own_entry}
+use Rattle.elf_model.specs.ImageFile.{IsOwnMap, image_file}
 use Rattle.elf_model.specs.Loading.{LoadedObject, loaded_objects}
 use Rattle.elf_model.specs.MapRecord.{MapRecord}
 use Rattle.elf_model.specs.MapText.{IsMap}
@@ -48,12 +48,6 @@ pub record AreLaidOut (p : Plan) (objects : List LoadedObject) : Type 0 where
 pub record AreLinkable (p : Plan) (objects : List LoadedObject) : Type 0 where
   pub laid_out : AreLaidOut p objects
   pub fits : OwnValuesFit p.base objects
-
--- what linking objects of the profile makes
-pub record IsOwnOutput (p : Plan) (objects : List LoadedObject) (image map : List ℕ) : Type 0 where
-  pub linkable : AreLinkable p objects
-  pub bytes : IsOwnBytes p objects image map
-  pub entry_fits : own_entry p.base objects p.entry < 2 ^ 64
 
 -- names are resolved, and something stands of a kept relocation
 abbrev pub RefersBadly : List LoadedObject → (Relocation → Type 0) → Type 0

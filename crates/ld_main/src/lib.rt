@@ -2,11 +2,14 @@
 //! program over them.
 #![tactic(auto)]
 
+mod linkage;
 mod linking;
 mod own_map;
 mod profile;
 mod program;
+mod spelling;
 
 pub use elf_model::LinkError;
+pub use linkage::{Linkage, image, link_map, prepare, prepare_over};
 pub use linking::{Output, link};
 pub use program::run_ld;

@@ -23,7 +23,7 @@ use std::alloc::{AllocError, Global};
 
 /// The value of a definition: an absolute one's `st_value`, else the address of its section plus `st_value`,
 /// 0 in a section that isn't kept.
-pub fn value(placement: &Placement<'_>, symbol: &SymbolOf<'_>) -> u64
+pub fn value(placement: &Placement<'_, '_>, symbol: &SymbolOf<'_>) -> u64
     requires { LiesBelow (placed_in placement.now) (symbol_view symbol.now) }
     ensures value { result ≡ symbol_value (placed_in placement.now) (symbol_view symbol.now) }
     ensures fits { result < 2 ^ 64 }
@@ -50,7 +50,7 @@ fn copy(alloc: Global, bytes: &[u8]) -> Result<Vec<u8>, AllocError>
 /// The line of a definition.
 fn symbol_line(
     alloc: Global,
-    placement: &Placement<'_>,
+    placement: &Placement<'_, '_>,
     symbol: &SymbolOf<'_>,
 ) -> Result<SymbolLine, AllocError>
     requires { LiesBelow (placed_in placement.now) (symbol_view symbol.now) }
@@ -69,7 +69,7 @@ fn symbol_line(
 /// The lines of definitions, in their order.
 fn symbol_lines(
     alloc: Global,
-    placement: &Placement<'_>,
+    placement: &Placement<'_, '_>,
     symbols: &[SymbolOf<'_>],
 ) -> Result<Vec<SymbolLine>, AllocError>
     requires { All (λ s. LiesBelow (placed_in placement.now) (symbol_view s)) symbols.now }
@@ -98,14 +98,15 @@ fn object_lines(alloc: Global, objects: &[Loaded<'_>]) -> Result<Vec<ObjectLine>
     Ok(lines)
 }
 
-fn is_alloc(header: &SectionHeader) -> bool
+/// Whether a section is kept.
+pub fn is_alloc(header: &SectionHeader) -> bool
     ensures { result ≡ pieces.is_alloc header.now }
 {
     header.sh_flags & SHF_ALLOC != 0
 }
 
 /// The address of a section of an object, 0 where it isn't kept.
-fn address_of(placement: &Placement<'_>, object: u64, section: usize) -> u64
+pub fn address_of(placement: &Placement<'_, '_>, object: u64, section: usize) -> u64
     ensures { result ≡ unwrap_or (option_map (λ q. q.at) (find (is_of_section object section) (own_placed placement.now.base placement.now.objects))) 0 }
 {
     match placement.address(object as usize, section) {
@@ -117,7 +118,7 @@ fn address_of(placement: &Placement<'_>, object: u64, section: usize) -> u64
 /// The line of section `i` of the object that has a number.
 fn place_line(
     alloc: Global,
-    placement: &Placement<'_>,
+    placement: &Placement<'_, '_>,
     number: u64,
     object: &Object<'_>,
     i: usize,
@@ -138,7 +139,7 @@ fn place_line(
 fn add_place_lines(
     alloc: Global,
     lines: &mut Vec<PlaceLine>,
-    placement: &Placement<'_>,
+    placement: &Placement<'_, '_>,
     number: u64,
     object: &Object<'_>,
 ) -> Result<(), AllocError>
@@ -156,7 +157,7 @@ fn add_place_lines(
 /// The lines of all kept sections, in load order.
 fn place_lines(
     alloc: Global,
-    placement: &Placement<'_>,
+    placement: &Placement<'_, '_>,
     objects: &[Loaded<'_>],
 ) -> Result<Vec<PlaceLine>, AllocError>
     ensures { IfOk result (λ v. map place_row v.items ≡ map (own_row placement.now) (pieces.pieces (loaded_views objects.now))) }
@@ -171,7 +172,7 @@ fn place_lines(
 /// The map of objects that are laid out with their definitions, in the order of their names.
 pub fn map_of_layout(
     alloc: Global,
-    placement: &Placement<'_>,
+    placement: &Placement<'_, '_>,
     objects: &[Loaded<'_>],
     symbols: &[SymbolOf<'_>],
 ) -> Result<LinkMap, AllocError>

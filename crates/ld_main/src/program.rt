@@ -4,7 +4,8 @@ ghost use Rattle.elf_model.specs.Command.{command_of};
 ghost use Rattle.elf_model.specs.Files.{files_of, words_of};
 ghost use Rattle.ld_main.specs.Program.{HasRightLink, LinksRight, error_status, failure_status, outcome_status, words_status};
 
-use crate::link;
+use crate::linkage::{Linkage, image, prepare};
+use crate::linking::map_text;
 use checker::check;
 use command::{Plan, candidates, read_words};
 use elf_model::{Clause, CmdFault, InputFile, LinkError, Verdict};
@@ -180,7 +181,7 @@ fn unread<'a>(path: CowStr<'a>, error: &io::Error) -> Failure<'a>
     }
 }
 
-/// The bytes of a file, in just the room that the file system says they take.
+/// The bytes of a file, in just the room that they take.
 fn read_whole<R: Files + AllocGlobal>(rt: &R, path: &str) -> io::Result<Vec<u8>> {
     let mut file = File::open(rt, path)?;
     let len = match file.metadata() {
@@ -191,6 +192,7 @@ fn read_whole<R: Files + AllocGlobal>(rt: &R, path: &str) -> io::Result<Vec<u8>>
         return Err(io::Error::from(ErrorKind::OutOfMemory));
     };
     file.read_to_end(&mut bytes)?;
+    bytes.shrink_to_fit();
     Ok(bytes)
 }
 
@@ -231,7 +233,31 @@ fn write_file<'a, R: Files>(rt: &R, path: &'a str, bytes: &[u8]) -> Result<(), F
     }
 }
 
-/// Links, and writes the image and then the map.
+/// Makes the image of a link and writes it.
+fn write_image<'a, R: Files + AllocGlobal>(
+    rt: &R,
+    path: &'a str,
+    linkage: &Linkage<'_>,
+) -> Result<(), Failure<'a>>
+    ensures { IfErr result (λ f. 3 ≤ failure_status f) }
+{
+    let image = image(rt.alloc(), linkage)?;
+    write_file(rt, path, &image)
+}
+
+/// Makes the text of a link's map and writes it.
+fn write_map<'a, R: Files + AllocGlobal>(
+    rt: &R,
+    path: &'a str,
+    linkage: &Linkage<'_>,
+) -> Result<(), Failure<'a>>
+    ensures { IfErr result (λ f. 3 ≤ failure_status f) }
+{
+    let text = map_text(rt.alloc(), linkage)?;
+    write_file(rt, path, &text)
+}
+
+/// Links, and writes the image and then the map, which is made only where its path is given.
 fn link_files<'a, R: Files + AllocGlobal>(
     rt: &R,
     plan: &Plan<'a>,
@@ -241,13 +267,13 @@ fn link_files<'a, R: Files + AllocGlobal>(
     ensures right { IfOk result (λ o. outcome_status o ≡ 0 → LinksRight (files_of files.now) (words_of words.now)) }
     ensures words_alone { IfErr result (λ f. failure_status f ≡ 2 → IsErr (command_of (words_of words.now))) }
 {
-    let output = match link(rt.alloc(), files, words) {
-        Ok(output) => output,
+    let linkage = match prepare(rt.alloc(), files, words) {
+        Ok(linkage) => linkage,
         Err(error) => return Err(refused(rt.alloc(), error)),
     };
-    write_file(rt, plan.output, &output.image)?;
+    write_image(rt, plan.output, &linkage)?;
     if let Some(path) = plan.map {
-        write_file(rt, path, &output.map)?;
+        write_map(rt, path, &linkage)?;
     }
     Ok(Outcome::Linked)
 }

@@ -10,4 +10,6 @@ mod program;
 #[cfg(test)]
 mod several_objects;
 #[cfg(test)]
+mod tables;
+#[cfg(test)]
 mod vectors;

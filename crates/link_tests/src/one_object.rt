@@ -42,7 +42,7 @@ pub fn words_of(alloc: Global, line: &str) -> Result<Vec<String>, Fail> {
 }
 
 /// The list of one file.
-fn one_file(alloc: Global, name: &str, bytes: &[u8]) -> Result<Vec<InputFile>, Fail> {
+pub fn one_file(alloc: Global, name: &str, bytes: &[u8]) -> Result<Vec<InputFile>, Fail> {
     let mut files = Vec::new(alloc);
     files.push(InputFile {
         name: String::from_str(alloc, name)?,

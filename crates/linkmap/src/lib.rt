@@ -14,6 +14,3 @@ pub use keys::ordered;
 pub use names::escape;
 pub use printer::print;
 pub use reader::read;
-
-#[cfg(test)]
-mod tests;

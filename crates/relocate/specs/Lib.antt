@@ -3,3 +3,4 @@ pub mod Kinds
 pub mod Patches
 pub mod References
 pub mod Values
+pub mod PatchTables

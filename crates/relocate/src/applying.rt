@@ -5,37 +5,44 @@ ghost use Rattle.elf_model.specs.ObjectFile as object_file;
 ghost use Rattle.elf_model.specs.Pieces.{Piece};
 ghost use Rattle.elf_model.specs.Resolution.{sections_of_object};
 ghost use Rattle.elf_model.specs.WantedBytes.{wanted_byte};
+ghost use Rattle.relocate.specs.PatchTables.{ArePatchesOf};
 ghost use Rattle.relocate.specs.Values.{ArePatches, placed_in, row_in};
 
 use crate::patch::{Patch, write_all};
 use layout::Placement;
 use std::marker::Model;
 
-/// The values that the kept relocations of loaded objects want where these are laid out, over their fields: a
-/// row for each section of each object.
+/// The values that the kept relocations of loaded objects want, over their fields: a row for each section of
+/// each object. `Patches` reads them beside the layout for which they were made.
+#[derive(Drop)]
+pub struct PatchTable {
+    rows: Vec<Vec<Vec<Patch>>>,
+}
+
+/// The values that the kept relocations of loaded objects want where these are laid out, over their fields.
 #[derive(Drop)]
 pub struct Patches<'p, 'a> {
-    placement: &'p Placement<'a>,
-    rows: Vec<Vec<Vec<Patch>>>,
+    placement: &'p Placement<'p, 'a>,
+    table: &'p PatchTable,
 }
 
 impl<'p, 'a> Model for Patches<'p, 'a> {
     ghost use Rattle.layout.specs.Placements.{Basis};
-    ghost use Rattle.relocate.specs.Values.{ArePatches};
+    ghost use Rattle.relocate.specs.PatchTables.{ArePatchesOf};
 
     ghost Value = { Basis };
 
     ghost view = { λ p. p.placement.now };
 
-    ghost invariant = { λ p. ArePatches p.placement.now p.rows.items };
+    ghost invariant = { λ p. ArePatchesOf p.placement.now p.table.now };
 }
 
-/// The rows of patches of the objects that are laid out.
-pub fn of_rows<'p, 'a>(placement: &'p Placement<'a>, rows: Vec<Vec<Vec<Patch>>>) -> Patches<'p, 'a>
-    requires { ArePatches placement.now rows.items }
-    ensures { result ≡ placement.entry.now }
+/// The table of rows of patches of the objects that are laid out.
+pub fn of_rows(_placement: &Placement<'_, '_>, rows: Vec<Vec<Vec<Patch>>>) -> PatchTable
+    requires { ArePatches _placement.now rows.items }
+    ensures { ArePatchesOf _placement.now result }
 {
-    Patches { placement, rows }
+    PatchTable { rows }
 }
 
 /// The patches of a section of an object, by their numbers; none where there is no such section.
@@ -52,12 +59,20 @@ fn row_in<'r>(rows: &'r [Vec<Vec<Patch>>], object: usize, section: usize) -> &'r
 }
 
 impl<'p, 'a> Patches<'p, 'a> {
+    /// The patches of objects that are laid out, by the table that `patches` made of them.
+    pub fn new(placement: &'p Placement<'p, 'a>, table: &'p PatchTable) -> Patches<'p, 'a>
+        requires { ArePatchesOf placement.now table.now }
+        ensures { result ≡ placement.entry.now }
+    {
+        Patches { placement, table }
+    }
+
     /// Writes the values into the input bytes of a section of an object, by their numbers: each byte is then
     /// the wanted one.
     pub fn apply(&self, object: usize, section: usize, bytes: &mut [u8])
         requires { length bytes.old ≡ (object_file.section (sections_of_object (slice_get self.now.objects object)) section).sh_size }
         ensures { (p : Piece) → p.object ≡ object → p.section ≡ section → p.bytes ≡ bytes.old → bytes.new ≡ map (wanted_byte self.now.objects (placed_in self.now) p) (range_with_len 0 (length bytes.old)) }
     {
-        write_all(row_in(&self.rows, object, section), bytes);
+        write_all(row_in(&self.table.rows, object, section), bytes);
     }
 }

@@ -6,7 +6,7 @@ ghost use Rattle.relocate.specs.References.{IsObjectAt};
 ghost use Rattle.relocate.specs.Values.{ArePatchRows, FittingFails, patch_of, placed_in};
 
 use crate::patch::Patch;
-use crate::symbols::{entries_of, is_kept_rela, is_some_kind};
+use crate::targets::{entries_of, is_kept_rela, is_some_kind};
 use crate::values::patch;
 use elf_model::{LinkError, Rela};
 use elf_read::Object;
@@ -15,7 +15,7 @@ use resolve::Resolved;
 use std::alloc::{AllocError, Global};
 
 /// The address of a section of an object, 0 where it isn't kept.
-fn address_or_none(placement: &Placement<'_>, number: usize, target: usize) -> u64
+fn address_or_none(placement: &Placement<'_, '_>, number: usize, target: usize) -> u64
     ensures { result ≡ section_address (placed_in placement.now) number target }
 {
     match placement.address(number, target) {
@@ -28,7 +28,7 @@ fn address_or_none(placement: &Placement<'_>, number: usize, target: usize) -> u
 /// doesn't fit.
 fn add_patches(
     resolved: &Resolved<'_, '_>,
-    placement: &Placement<'_>,
+    placement: &Placement<'_, '_>,
     number: usize,
     object: &Object<'_>,
     target: u64,
@@ -73,7 +73,7 @@ fn empty_rows(alloc: Global, count: usize) -> Result<Vec<Vec<Patch>>, AllocError
 pub fn object_patches(
     alloc: Global,
     resolved: &Resolved<'_, '_>,
-    placement: &Placement<'_>,
+    placement: &Placement<'_, '_>,
     number: usize,
     object: &Object<'_>,
 ) -> Result<Vec<Vec<Patch>>, LinkError>

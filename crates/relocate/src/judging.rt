@@ -8,7 +8,7 @@ ghost use Rattle.relocate.specs.References.{IsObjectAt, RelocationFails};
 
 use crate::fields::Field;
 use crate::kinds::{is_mismatch, kind_of};
-use crate::symbols::{is_thread_local, is_undefined, name_of, refers_to_dropped, undefined};
+use crate::targets::{is_thread_local, is_undefined, name_of, refers_to_dropped, undefined};
 use elf_model::{LinkError, Rela};
 use elf_read::Object;
 use resolve::Resolved;

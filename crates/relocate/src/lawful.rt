@@ -9,7 +9,7 @@ ghost use Rattle.search.specs.Views.{loaded_views};
 
 use crate::fields::{Field, are_apart};
 use crate::judging::lawful_field;
-use crate::symbols::{entries_of, is_kept_rela, is_some_kind, size_at};
+use crate::targets::{entries_of, is_kept_rela, is_some_kind, size_at};
 use elf_model::{LinkError, Rela, SectionHeader};
 use elf_read::Object;
 use resolve::Resolved;

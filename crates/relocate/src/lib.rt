@@ -10,14 +10,11 @@ mod kinds;
 mod lawful;
 mod patch;
 mod patching;
-mod symbols;
+mod targets;
 mod values;
 
-pub use applying::Patches;
+pub use applying::{PatchTable, Patches};
 pub use elf_model::LinkError;
 pub use kinds::{Formula, Kind, Range, Terms, fits, kind_of, value};
 pub use lawful::references;
 pub use patching::patches;
-
-#[cfg(test)]
-mod tests;

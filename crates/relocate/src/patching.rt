@@ -3,9 +3,10 @@ ghost use Rattle.std.specs.Prelude.{◌≡◌, IfErr, IfOk, OnOk};
 ghost use Rattle.elf_model.specs.OwnLayout.{OwnValuesFit};
 ghost use Rattle.elf_model.specs.Relocation.{AreLawfulRelocations};
 ghost use Rattle.search.specs.Views.{loaded_views};
+ghost use Rattle.relocate.specs.PatchTables.{ArePatchesOf};
 ghost use Rattle.relocate.specs.Values.{ValuesFail};
 
-use crate::applying::{Patches, of_rows};
+use crate::applying::{PatchTable, of_rows};
 use crate::collecting::object_patches;
 use elf_model::LinkError;
 use layout::Placement;
@@ -18,18 +19,18 @@ use std::alloc::Global;
 /// # Errors
 ///
 /// `Overflow` where the value of a relocation doesn't fit its field; `Memory`.
-pub fn patches<'p, 'a>(
+pub fn patches<'a>(
     alloc: Global,
     objects: &[Loaded<'a>],
     resolved: &Resolved<'_, 'a>,
-    placement: &'p Placement<'a>,
-) -> Result<Patches<'p, 'a>, LinkError>
+    placement: &Placement<'_, 'a>,
+) -> Result<PatchTable, LinkError>
     requires resolved { resolved.now ≡ loaded_views objects.now }
     requires placed { placement.now.objects ≡ loaded_views objects.now }
     requires lawful { AreLawfulRelocations (loaded_views objects.now) }
-    ensures exact { IfOk result (λ p. p ≡ placement.entry.now) }
-    ensures fit { OnOk result (OwnValuesFit placement.entry.now.base placement.entry.now.objects) }
-    ensures fault { IfErr result (ValuesFail placement.entry.now) }
+    ensures table { IfOk result (ArePatchesOf placement.now) }
+    ensures fit { OnOk result (OwnValuesFit placement.now.base placement.now.objects) }
+    ensures fault { IfErr result (ValuesFail placement.now) }
 {
     let mut rows = Vec::with_capacity(alloc, objects.len())?;
     for k in 0..objects.len() {

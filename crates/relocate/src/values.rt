@@ -16,7 +16,7 @@ use resolve::{Resolved, SymbolOf};
 
 /// The value of a symbol that is defined, modulo 2 to the 64: an absolute one's own, else the address of its
 /// section plus its own, 0 where the section isn't kept.
-fn value_of(placement: &Placement<'_>, symbol: &SymbolOf<'_>) -> u64
+fn value_of(placement: &Placement<'_, '_>, symbol: &SymbolOf<'_>) -> u64
     ensures { result ≡ symbol_value (placed_in placement.now) (symbol_view symbol.now) % 2 ^ 64 }
 {
     let entry = symbol.entry;
@@ -29,7 +29,7 @@ fn value_of(placement: &Placement<'_>, symbol: &SymbolOf<'_>) -> u64
     }
 }
 
-fn value_or_none(placement: &Placement<'_>, definition: &Option<SymbolOf<'_>>) -> u64
+fn value_or_none(placement: &Placement<'_, '_>, definition: &Option<SymbolOf<'_>>) -> u64
     ensures { result ≡ unwrap_or (option_map (symbol_value (placed_in placement.now)) (option_map symbol_view definition.now)) 0 % 2 ^ 64 }
 {
     match definition {
@@ -50,7 +50,7 @@ fn size_or_none(definition: &Option<SymbolOf<'_>>) -> u64
 /// The terms of an entry's value; `at` is the address of the section `target` that it relocates.
 fn terms(
     resolved: &Resolved<'_, '_>,
-    placement: &Placement<'_>,
+    placement: &Placement<'_, '_>,
     number: usize,
     object: &Object<'_>,
     target: u64,
@@ -73,7 +73,7 @@ fn terms(
 /// The patch that an entry of a known kind wants; None where its value doesn't fit its field.
 pub fn patch(
     resolved: &Resolved<'_, '_>,
-    placement: &Placement<'_>,
+    placement: &Placement<'_, '_>,
     number: usize,
     object: &Object<'_>,
     target: u64,

@@ -1,10 +1,13 @@
+pub mod Cells
 pub mod Definitions
 pub mod Gathered
-pub mod Meanings
-pub mod NamePlaces
+pub mod Located
+pub mod NamedOnce
+pub mod Offers
 pub mod PlaceRows
 pub mod PlainNames
+pub mod RankedPlaces
 pub mod Rests
+pub mod Searched
 pub mod SoundWalk
-pub mod Twins
 pub mod Walks

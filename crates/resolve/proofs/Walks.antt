@@ -26,12 +26,17 @@ abbrev pub symbols_left : ℕ → List Loaded → List SymbolOf
 symbols_left k objects = symbols_of k (drop k (loaded_views objects))
 
 -- the next object
+pub next_loaded :
+    (objects : List Loaded) (k : ℕ) (d : Loaded) → k < length objects → d ≡ get_or objects k d →
+    drop k (loaded_views objects) ≡ loaded_view d ∷ drop (k + 1) (loaded_views objects)
+next_loaded objects k d within is =
+    drop-map loaded_view k objects
+    ∙ ap (map loaded_view) (drop_more objects k d within)
+    ∙ ap (λ (x : Loaded). loaded_view x ∷ map loaded_view (drop (k + 1) objects)) (sym is)
+    ∙ ap (λ (xs : List LoadedObject). loaded_view d ∷ xs) (sym (drop-map loaded_view (k + 1) objects))
+
+-- its symbols, and those of the objects behind it
 pub next_object :
     (objects : List Loaded) (k : ℕ) (d : Loaded) → k < length objects → d ≡ get_or objects k d →
     symbols_left k objects ≡ symbols_here k d ++ symbols_left (k + 1) objects
-next_object objects k d within is =
-    ap (symbols_of k)
-    (drop-map loaded_view k objects
-    ∙ ap (map loaded_view) (drop_more objects k d within)
-    ∙ ap (λ (x : Loaded). loaded_view x ∷ map loaded_view (drop (k + 1) objects)) (sym is)
-    ∙ ap (λ (xs : List LoadedObject). loaded_view d ∷ xs) (sym (drop-map loaded_view (k + 1) objects)))
+next_object objects k d within is = ap (symbols_of k) (next_loaded objects k d within is)

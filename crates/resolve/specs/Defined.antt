@@ -5,7 +5,7 @@ use Rattle.std.specs.List.Sorted.{IsSortedByKey}
 use Rattle.std.specs.Ordering.{nat_cmp}
 use Rattle.elf_model.specs.Loading.{LoadedObject}
 use Rattle.elf_model.specs.Resolution.{AreSoundSymbols, AreUnique, has_name, strong_definitions}
-use Rattle.resolve.specs.declared.symbols.SymbolOf as code
+use Rattle.resolve.specs.declared.entries.SymbolOf as code
 use Rattle.resolve.specs.Views.{symbol_views}
 
 -- no two neighbours have one name

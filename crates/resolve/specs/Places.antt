@@ -1,36 +1,65 @@
--- The tables by which names are looked up: the definitions' names, and for each symbol the place of its
--- name's definition.
-use Rattle.std.specs.Prelude.{◌≡◌, ℕ, List, Option, cond, length, map}
-use Rattle.std.specs.Borrow.{Bor}
+-- Places among the definitions: where each definition stands, and for each symbol where its name's does.
+use Rattle.std.specs.Prelude.{◌≡◌, ℕ, ◌+◌, ◌<◌, List, [], ◌∷◌, Option, Some, length, map, option_map, set, slice_index_or}
 use Rattle.std.specs.Global.{Vec}
-use Rattle.std.specs.List.{position_or_len, slice_get}
+use Rattle.std.specs.List.{slice_get}
 use Rattle.std.specs.Option.{option_and_then}
-use Rattle.std.specs.Str.{bytes_eq}
 use Rattle.elf_model.specs.Loading.{LoadedObject}
 use Rattle.elf_model.specs.ObjectFile.{symbols}
-use Rattle.elf_model.specs.Relocation.{is_local}
-use Rattle.elf_model.specs.Resolution.{SymbolOf, symbols_from}
-use Rattle.resolve.specs.declared.symbols.SymbolOf as code
+use Rattle.elf_model.specs.Resolution.{SymbolOf, strong_definitions, symbols_from}
+use Rattle.resolve.specs.declared.entries.SymbolOf as code
 use Rattle.resolve.specs.Defined.{AreDefinitions}
-
--- the first place of a name among names, their number where they haven't got it
-abbrev pub name_place : List (Bor (List ℕ)) → List ℕ → ℕ
-name_place names name = position_or_len (λ n. bytes_eq name n.now) names
-
--- the place for a symbol: its name's, the names' number for a LOCAL one
-abbrev pub symbol_place : List (Bor (List ℕ)) → SymbolOf → ℕ
-symbol_place names s = cond (is_local s) (length names) (name_place names s.name)
-
--- the places for an object's symbols, in their order
-abbrev pub places_in : List (Bor (List ℕ)) → List ℕ → List ℕ
-places_in names bytes = map (symbol_place names) (symbols_from 0 bytes 0 (symbols bytes))
+use Rattle.resolve.specs.Meaning.{named_at, named_of}
+use Rattle.resolve.specs.Offered.{rows_of}
+use Rattle.resolve.specs.Views.{symbol_in, symbol_view}
+use Rattle.symbols.specs.Rows.{Rows}
 
 -- the place for a symbol of an object, in a table of rows
 abbrev pub place_at : List (Vec ℕ) → ℕ → ℕ → Option ℕ
 place_at rows object number = option_and_then (λ (row : Vec ℕ). slice_get row.items number) (slice_get rows object)
 
--- definitions, their names, and the places for the symbols of each object
-pub record AreTables (objects : List LoadedObject) (definitions : List code.SymbolOf) (names : List (Bor (List ℕ))) (places : List (List ℕ)) : Type 0 where
+-- rows after a place is written for a symbol of an object
+abbrev pub with_place : ℕ → ℕ → ℕ → List (List ℕ) → List (List ℕ)
+with_place object number place rows = set rows object (set (slice_index_or rows object []) number place)
+
+-- what stands at a place
+abbrev pub at_place : List code.SymbolOf → ℕ → Option SymbolOf
+at_place definitions place = option_map symbol_view (slice_get definitions place)
+
+-- what stands at a place, if there is one
+abbrev pub at_some : List code.SymbolOf → Option ℕ → Option SymbolOf
+at_some definitions place = option_map symbol_view (option_and_then (λ p. slice_get definitions p) place)
+
+-- the symbol that has an object's and its own number; None where there is none
+abbrev pub symbol_of : List LoadedObject → ℕ → ℕ → Option SymbolOf
+symbol_of objects object number =
+    option_and_then (λ o. option_map (symbol_in object o.bytes number) (slice_get (symbols o.bytes) number)) (slice_get objects object)
+
+-- each definition's place stands at its object's and its own number
+pub record AreRanked (definitions : List code.SymbolOf) (ranks : List (Vec ℕ)) : Type 0 where
+  pub at :
+      (m : ℕ) (d : code.SymbolOf) → m < length definitions →
+      place_at ranks (slice_index_or definitions m d).object (slice_index_or definitions m d).number ≡ Some m
+
+-- the definitions by name and by number: a table to which they were offered, and their places
+pub record IsIndex (objects : List LoadedObject) (definitions : List code.SymbolOf) (rows : Rows) (ranks : List (Vec ℕ)) : Type 0 where
   pub defined : AreDefinitions objects definitions
-  pub named : names ≡ map (λ s. s.name) definitions
-  pub placed : places ≡ map (λ o. places_in names o.bytes) objects
+  pub offered : rows ≡ rows_of (strong_definitions objects)
+  pub ranked : AreRanked definitions ranks
+
+-- what the names of an object's symbols mean, in their order
+abbrev pub meanings_in : List LoadedObject → ℕ → List ℕ → List (Option SymbolOf)
+meanings_in objects object bytes = map (named_of objects) (symbols_from object bytes 0 (symbols bytes))
+
+-- those of the objects from number k on
+abbrev pub meanings : List LoadedObject → ℕ → List LoadedObject → List (List (Option SymbolOf))
+meanings objects k [] = []
+meanings objects k (o ∷ os) = meanings_in objects k o.bytes ∷ meanings objects (k + 1) os
+
+-- the places for the symbols of each object
+pub record ArePlaces (objects : List LoadedObject) (definitions : List code.SymbolOf) (places : List (Vec ℕ)) : Type 0 where
+  pub each : (object number : ℕ) → at_some definitions (place_at places object number) ≡ named_at objects object number
+
+-- the definitions, and the places for the symbols of each object
+pub record AreTables (objects : List LoadedObject) (definitions : List code.SymbolOf) (places : List (Vec ℕ)) : Type 0 where
+  pub defined : AreDefinitions objects definitions
+  pub placed : ArePlaces objects definitions places

@@ -3,7 +3,7 @@ use Rattle.std.specs.Prelude.{ℕ, List, [], map, unwrap_or}
 use Rattle.elf_model.specs.ObjectFile.{symbol_name}
 use Rattle.elf_model.specs.Resolution as resolution
 use Rattle.elf_model.specs.declared.records.Symbol.{Symbol}
-use Rattle.resolve.specs.declared.symbols.SymbolOf.{SymbolOf}
+use Rattle.resolve.specs.declared.entries.SymbolOf.{SymbolOf}
 
 abbrev pub symbol_view : SymbolOf → resolution.SymbolOf
 symbol_view s = record { object = s.object; number = s.number; name = s.name.now; entry = s.entry }

@@ -1,21 +1,25 @@
 //! The definitions of names: sound, in the order of their names, each name with one.
-ghost use Rattle.std.specs.Prelude.{◌≡◌, ◌≤◌, ◌++◌, IfErr, IfNone, IfOk, IfSome, IsPermutation, OnOk, count_by, filter};
+ghost use Rattle.std.specs.Prelude.{◌≡◌, ◌++◌, IfErr, IfOk, IsPermutation, OnOk, filter};
 ghost use Rattle.std.specs.Cmp.Lexicographic.{slice_cmp};
 ghost use Rattle.std.specs.List.Sorted.{IsSortedByKey};
 ghost use Rattle.std.specs.Ordering.{nat_cmp};
 ghost use Rattle.elf_model.specs.ObjectFile.{symbols};
-ghost use Rattle.elf_model.specs.Resolution.{has_name, is_strong, strong_definitions, symbols_from};
+ghost use Rattle.elf_model.specs.Resolution.{is_strong, strong_definitions, symbols_from};
 ghost use Rattle.search.specs.Views.{loaded_views};
-ghost use Rattle.resolve.specs.Defined.{AreDefinitions, HasNoTwins};
+ghost use Rattle.resolve.specs.Defined.{AreDefinitions};
+ghost use Rattle.resolve.specs.Offered.{rows_of};
 ghost use Rattle.resolve.specs.Refusals.{IsDuplicateOf, ResolvingFails};
 ghost use Rattle.resolve.specs.Views.{symbol_views};
+ghost use Rattle.symbols.specs.Rows.{no_rows};
 
+use crate::entries::{SymbolOf, is_strong, symbol_in};
+use crate::offering::{first_twin, offer_all};
 use crate::soundness::are_sound;
-use crate::symbols::{SymbolOf, is_strong, symbol_in};
 use elf_model::LinkError;
 use elf_read::Object;
 use search::Loaded;
 use std::alloc::{AllocError, Global};
+use symbols::NameTable;
 
 /// Adds the strong definitions of the object that has a number.
 fn add_strong<'a>(
@@ -34,6 +38,18 @@ fn add_strong<'a>(
     Ok(())
 }
 
+/// How many strong definitions the objects have, as far as it can be counted: for how many there has to be
+/// room.
+pub fn strong_count(objects: &[Loaded<'_>]) -> usize {
+    let mut count: usize = 0;
+    for loaded in objects {
+        for entry in loaded.object.symbols() {
+            count = count.saturating_add(usize::from(is_strong(entry)));
+        }
+    }
+    count
+}
+
 /// The strong definitions of all objects, in load order.
 pub fn strong_definitions<'a>(
     alloc: Global,
@@ -41,37 +57,21 @@ pub fn strong_definitions<'a>(
 ) -> Result<Vec<SymbolOf<'a>>, AllocError>
     ensures { IfOk result (λ v. symbol_views v.items ≡ strong_definitions (loaded_views objects.now)) }
 {
-    let mut strong = Vec::new(alloc);
+    let mut strong = Vec::with_capacity(alloc, strong_count(objects))?;
     for (k, loaded) in objects.iter().enumerate() {
         add_strong(&mut strong, k as u64, &loaded.object)?;
     }
     Ok(strong)
 }
 
-/// The strong definitions of all objects, in the order of their names.
-fn strong_by_name<'a>(
-    alloc: Global,
-    objects: &[Loaded<'a>],
-) -> Result<Vec<SymbolOf<'a>>, AllocError>
-    ensures same { IfOk result (λ v. IsPermutation (strong_definitions (loaded_views objects.now)) (symbol_views v.items)) }
+/// The same definitions in the order of their names.
+fn by_name<'a>(strong: Vec<SymbolOf<'a>>) -> Result<Vec<SymbolOf<'a>>, AllocError>
+    ensures same { IfOk result (λ v. IsPermutation strong.entry.items v.items) }
     ensures rising { IfOk result (λ v. IsSortedByKey (λ s. s.name.now) (slice_cmp nat_cmp) v.items) }
 {
-    let mut strong = strong_definitions(alloc, objects)?;
-    strong.sort_by_key(|s| s.name)?;
-    Ok(strong)
-}
-
-/// The first name among sorted definitions that a second one has.
-fn first_twin<'a>(strong: &[SymbolOf<'a>]) -> Option<&'a [u8]>
-    ensures found { IfSome result (λ name. 2 ≤ count_by (has_name name.now) (symbol_views strong.now)) }
-    ensures none { IfNone result (HasNoTwins strong.now) }
-{
-    for i in 1..strong.len() {
-        if strong[i - 1].name == strong[i].name {
-            return Some(strong[i].name);
-        }
-    }
-    None
+    let mut sorted = strong;
+    sorted.sort_by_key(|s| s.name)?;
+    Ok(sorted)
 }
 
 /// The refusal for a name with two strong definitions.
@@ -85,18 +85,27 @@ fn duplicate(alloc: Global, name: &[u8]) -> LinkError
     }
 }
 
-/// The strong definitions of the objects, in the order of their names: BadSymbol where a symbol isn't
-/// sound, Duplicate where a name has two definitions, Memory where memory is refused.
-pub fn define<'a>(alloc: Global, objects: &[Loaded<'a>]) -> Result<Vec<SymbolOf<'a>>, LinkError>
+/// The strong definitions of the objects, in the order of their names, each offered to a table that was
+/// empty: BadSymbol where a symbol isn't sound, Duplicate where a name has two definitions, Memory where
+/// memory is refused.
+pub fn define<'a, T: NameTable<'a>>(
+    alloc: Global,
+    objects: &[Loaded<'a>],
+    table: &mut T,
+) -> Result<Vec<SymbolOf<'a>>, LinkError>
+    requires { T.rows table.old ≡ no_rows }
     ensures defined { IfOk result (λ v. AreDefinitions (loaded_views objects.now) v.items) }
+    ensures offered { OnOk result (T.rows table.new ≡ rows_of (strong_definitions (loaded_views objects.now))) }
     ensures fault { IfErr result (ResolvingFails (loaded_views objects.now)) }
 {
     if !are_sound(objects) {
         return Err(LinkError::BadSymbol);
     }
-    let strong = strong_by_name(alloc, objects)?;
-    match first_twin(&strong) {
-        Some(name) => Err(duplicate(alloc, name)),
-        None => Ok(strong),
+    let strong = strong_definitions(alloc, objects)?;
+    offer_all(table, &strong)?;
+    if let Some(name) = first_twin(table, &strong) {
+        return Err(duplicate(alloc, name));
     }
+    let sorted = by_name(strong)?;
+    Ok(sorted)
 }

@@ -4,15 +4,16 @@
 #![tactic(auto)]
 
 mod defining;
-mod names;
+mod entries;
+mod offering;
 mod places;
 mod plain;
+mod ranks;
 mod resolved;
 mod sections;
 mod soundness;
-mod symbols;
 
 pub use elf_model::LinkError;
+pub use entries::SymbolOf;
 pub use plain::have_plain_names;
-pub use resolved::{Resolved, resolve};
-pub use symbols::SymbolOf;
+pub use resolved::{Resolved, resolve, resolve_over};

@@ -8,7 +8,7 @@ ghost use Rattle.resolve.specs.Plain.{AreNamesOf, IsAmong, is_among, used_names}
 ghost use Rattle.resolve.specs.Views.{symbol_views};
 
 use crate::defining::strong_definitions;
-use crate::symbols::SymbolOf;
+use crate::entries::SymbolOf;
 use elf_read::linker_names;
 use search::Loaded;
 use std::alloc::{AllocError, Global};

@@ -1,24 +1,29 @@
 //! What names and symbols mean among the loaded objects.
-ghost use Rattle.std.specs.Prelude.{◌≡◌, IfErr, IfNone, IfOk, IfSome, OnOk, OnSome, Some, false, map};
+ghost use Rattle.std.specs.Prelude.{◌≡◌, IfErr, IfNone, IfOk, IfSome, OnOk, OnSome, Some, false, find};
+ghost use Rattle.std.specs.Cmp.Lexicographic.{slice_cmp};
 ghost use Rattle.std.specs.List.{slice_get};
+ghost use Rattle.std.specs.List.Sorted.{IsSortedByKey};
 ghost use Rattle.std.specs.Option.{option_map, option_map_or};
-ghost use Rattle.elf_model.specs.Resolution.{AreSoundSymbols, AreUnique, IsEntry, chosen, is_in_thread_section};
+ghost use Rattle.std.specs.Ordering.{nat_cmp};
+ghost use Rattle.elf_model.specs.Resolution.{AreSoundSymbols, AreUnique, IsEntry, chosen, has_name, is_in_thread_section};
 ghost use Rattle.search.specs.Views.{loaded_views};
-ghost use Rattle.resolve.specs.Defined.{AreDefinitions};
+ghost use Rattle.resolve.specs.Defined.{AreDefinitions, HasEachNameOnce};
 ghost use Rattle.resolve.specs.Meaning.{definition_at, named_at, own_at};
 ghost use Rattle.resolve.specs.Refusals.{ResolvingFails};
-ghost use Rattle.resolve.specs.Views.{symbol_view};
+ghost use Rattle.resolve.specs.Views.{symbol_view, symbol_views};
+ghost use Rattle.symbols.specs.Rows.{no_rows};
 
-use crate::defining::define;
-use crate::names::{name_place, names_of};
-use crate::places::{place_at, places_of};
+use crate::defining::{define, strong_count};
+use crate::entries::{SymbolOf, is_local, is_undefined, symbol_in};
+use crate::places::{Index, place_at, places_of};
+use crate::ranks::ranks_of;
 use crate::sections::is_in_thread_section;
-use crate::symbols::{SymbolOf, is_local, is_undefined, symbol_in};
 use elf_model::LinkError;
-use indexmap::IndexSet;
 use search::Loaded;
 use std::alloc::Global;
+use std::hash::{BuildHasherDefault, FoldHasher};
 use std::marker::Model;
+use symbols::{IndexedTable, NameTable};
 
 /// The loaded objects, whose symbols are sound and whose names have one strong definition at most, with
 /// the definitions that their names and symbols mean.
@@ -26,12 +31,11 @@ use std::marker::Model;
 pub struct Resolved<'b, 'a> {
     objects: &'b [Loaded<'a>],
     definitions: Vec<SymbolOf<'a>>,
-    names: IndexSet<&'a [u8]>,
     places: Vec<Vec<usize>>,
 }
 
 impl<'b, 'a> Model for Resolved<'b, 'a> {
-    ghost use Rattle.std.specs.Prelude.{List, map};
+    ghost use Rattle.std.specs.Prelude.{List};
     ghost use Rattle.elf_model.specs.Loading.{LoadedObject};
 
     ghost Value = { List LoadedObject };
@@ -41,15 +45,48 @@ impl<'b, 'a> Model for Resolved<'b, 'a> {
 
     ghost view = { λ r. loaded_views r.objects.now };
 
-    ghost invariant = { λ r. AreTables (loaded_views r.objects.now) r.definitions.items r.names.keys (map (λ row. row.items) r.places.items) };
+    ghost invariant = { λ r. AreTables (loaded_views r.objects.now) r.definitions.items r.places.items };
 }
 
-/// Resolves the names of loaded objects: looks up each symbol's name once.
+/// Resolves the names of loaded objects by any table of names: offers it each strong definition once, in
+/// load order, and looks each symbol's name up once, but for LOCAL ones. The table is empty at the start.
+///
+/// # Errors
+///
+/// As `resolve`.
+pub fn resolve_over<'b, 'a, T: NameTable<'a> + Drop>(
+    alloc: Global,
+    objects: &'b [Loaded<'a>],
+    table: T,
+) -> Result<Resolved<'b, 'a>, LinkError>
+    requires { T.rows table ≡ no_rows }
+    ensures exact { IfOk result (λ r. r ≡ loaded_views objects.entry.now) }
+    ensures resolved { OnOk result (AreSoundSymbols (loaded_views objects.entry.now) × AreUnique (loaded_views objects.entry.now)) }
+    ensures fault { IfErr result (ResolvingFails (loaded_views objects.entry.now)) }
+{
+    let mut offered = table;
+    let definitions = define(alloc, objects, &mut offered)?;
+    let ranks = ranks_of(alloc, objects, &definitions)?;
+    let index = Index {
+        objects,
+        definitions: &definitions,
+        table: &offered,
+        ranks: &ranks,
+    };
+    let places = places_of(alloc, &index)?;
+    Ok(Resolved {
+        objects,
+        definitions,
+        places,
+    })
+}
+
+/// Resolves the names of loaded objects.
 ///
 /// # Errors
 ///
 /// BadSymbol where a symbol isn't sound, Duplicate where a name has two strong definitions, Memory where
-/// memory is refused.
+/// memory is refused, and where there are more objects, or symbols of one, than 32 bits count.
 pub fn resolve<'b, 'a>(
     alloc: Global,
     objects: &'b [Loaded<'a>],
@@ -58,15 +95,9 @@ pub fn resolve<'b, 'a>(
     ensures resolved { OnOk result (AreSoundSymbols (loaded_views objects.entry.now) × AreUnique (loaded_views objects.entry.now)) }
     ensures fault { IfErr result (ResolvingFails (loaded_views objects.entry.now)) }
 {
-    let definitions = define(alloc, objects)?;
-    let names = names_of(alloc, &definitions)?;
-    let places = places_of(alloc, &names, objects)?;
-    Ok(Resolved {
-        objects,
-        definitions,
-        names,
-        places,
-    })
+    let seed: BuildHasherDefault<FoldHasher> = BuildHasherDefault::new();
+    let table = IndexedTable::with_capacity_and_hasher(alloc, strong_count(objects), seed)?;
+    resolve_over(alloc, objects, table)
 }
 
 /// The definition at a place; None past the end.
@@ -74,6 +105,18 @@ fn definition_at<'a>(definitions: &[SymbolOf<'a>], place: usize) -> Option<Symbo
     ensures { result ≡ slice_get definitions.now place }
 {
     definitions.get(place).copied()
+}
+
+/// The definition that has a name, among those in the order of their names; None where none has.
+fn found<'a>(definitions: &[SymbolOf<'a>], name: &[u8]) -> Option<SymbolOf<'a>>
+    requires rising { IsSortedByKey (λ s. s.name.now) (slice_cmp nat_cmp) definitions.now }
+    requires once { HasEachNameOnce definitions.now }
+    ensures { option_map symbol_view result ≡ find (has_name name.now) (symbol_views definitions.now) }
+{
+    match definitions.binary_search_by(|s| s.name.cmp(name)) {
+        Ok(place) => definition_at(definitions, place),
+        Err(_) => None,
+    }
 }
 
 impl<'b, 'a> Resolved<'b, 'a> {
@@ -84,11 +127,18 @@ impl<'b, 'a> Resolved<'b, 'a> {
         self.definitions.as_slice()
     }
 
+    /// The strong definitions, in the order of their names, without the rest.
+    pub fn into_definitions(self) -> Vec<SymbolOf<'a>>
+        ensures { AreDefinitions self.entry result.items }
+    {
+        self.definitions
+    }
+
     /// The chosen definition of a name; None where it has none.
     pub fn chosen(&self, name: &[u8]) -> Option<SymbolOf<'a>>
         ensures { option_map symbol_view result ≡ chosen self.now name.now }
     {
-        definition_at(&self.definitions, name_place(&self.names, name))
+        found(&self.definitions, name)
     }
 
     /// The definition that a reference to symbol `number` of an object uses: its name's chosen one, or

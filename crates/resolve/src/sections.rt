@@ -7,7 +7,7 @@ ghost use Rattle.search.specs.Views.{loaded_views};
 ghost use Rattle.resolve.specs.Sound.{section_by};
 ghost use Rattle.resolve.specs.Views.{symbol_view};
 
-use crate::symbols::{SymbolOf, is_undefined};
+use crate::entries::{SymbolOf, is_undefined};
 use elf_model::{SHF_ALLOC, SHF_TLS, SectionHeader, Symbol};
 use search::Loaded;
 

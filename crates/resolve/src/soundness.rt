@@ -6,8 +6,8 @@ ghost use Rattle.search.specs.Views.{loaded_views};
 ghost use Rattle.resolve.specs.Sound.{StandsWell};
 ghost use Rattle.resolve.specs.Views.{symbol_in};
 
+use crate::entries::name_of;
 use crate::sections::{is_alloc, section_of};
-use crate::symbols::name_of;
 use elf_model::{SectionHeader, Symbol};
 use elf_read::Object;
 use search::Loaded;

@@ -8,8 +8,6 @@ mod indexed_table;
 mod list_table;
 mod name_table;
 mod row;
-#[cfg(test)]
-mod tests;
 
 pub use candidate::{Candidate, CandidateKind};
 pub use elf_model::{ObjectId, SymbolRef};

@@ -18,8 +18,8 @@ address_table-requires c =
     ∙ (c.in_ok-layout.ensures.layout.places ∙ ap (λ (objects : List LoadedObject). own_placed c.args.base objects) c.in_ok-order.ensures.objects) in
     subst (All (HasPlace (section_counts os))) (sym places) (places_there c.args.base os)
 
-pub invariant_of-result : goal.invariant_of-result
-invariant_of-result c =
+pub returns-clause-tables : goal.returns-clause-tables
+returns-clause-tables c =
     let os = loaded_views c.args.objects.now in
     let placed : place_views c.in_ok-layout.layout.places.items ≡ own_placed c.args.base os =
     c.in_ok-layout.ensures.layout.places ∙ ap (λ (objects : List LoadedObject). own_placed c.args.base objects) c.in_ok-order.ensures.objects in

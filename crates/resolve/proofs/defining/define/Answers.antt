@@ -1,21 +1,21 @@
 use Rattle.std.proofs.Common.{◌≤◌, subst, List}
 use Rattle.std.specs.Prelude.{count_by}
 use Rattle.elf_model.specs.Resolution.{has_name}
-use Rattle.resolve.specs.Defined.{HasNoTwins}
 use Rattle.search.specs.Views.{loaded_views}
+use Rattle.resolve.specs.Defined.{HasEachNameOnce}
 use Rattle.resolve.specs.Views.{symbol_views}
-use Rattle.resolve.specs.declared.symbols.SymbolOf as code
+use Rattle.resolve.specs.declared.entries.SymbolOf as code
 use Rattle.resolve.proofs.Definitions.{definitions, refused}
 use Rattle.resolve.proofs.defining.define.Goals as goal
 
 pub returns-in-Some-clause-fault : goal.returns-in-Some-clause-fault
-returns-in-Some-clause-fault c =
-    refused (loaded_views c.args.objects.now) c.in_ok-strong.strong.items c.in_ok-strong.ensures.same c.in-Some.name.now c.duplicate.result
-    (subst (λ (xs : List code.SymbolOf). 2 ≤ count_by (has_name c.in-Some.name.now) (symbol_views xs)) c.deref.ensures.value c.in-Some.ensures.found)
+returns-in-Some-clause-fault g c =
+    refused (loaded_views c.args.objects.now) c.in_ok-strong.strong.items c.in_ok-strong.ensures c.in-Some.name.now c.duplicate.result
+    (subst (λ (xs : List code.SymbolOf). 2 ≤ count_by (has_name c.in-Some.name.now) (symbol_views xs)) c.deref-2.ensures.value c.in-Some.ensures.found)
     c.duplicate.ensures
 
 pub returns-clause-defined : goal.returns-clause-defined
-returns-clause-defined c =
-    definitions (loaded_views c.args.objects.now) c.in_ok-strong.strong.items
-    c.in_ok-strong.ensures.same c.in_ok-strong.ensures.rising (subst HasNoTwins c.deref.ensures.value c.in-None.ensures.none)
+returns-clause-defined g c =
+    definitions (loaded_views c.args.objects.now) c.in_ok-strong.strong.items c.in_ok-strong.ensures c.in_ok-sorted.sorted.items
+    c.in_ok-sorted.ensures.same c.in_ok-sorted.ensures.rising (subst HasEachNameOnce c.deref-2.ensures.value c.in_default.ensures.none)
     (c.are_sound.ensures.0 c.if-not-are_sound.false)

@@ -4,7 +4,7 @@ use Rattle.elf_read.specs.Names.{name_views}
 use Rattle.search.specs.Views.{loaded_views}
 use Rattle.resolve.specs.Plain.{AreNamesOf, IsAmong}
 use Rattle.resolve.specs.Views.{symbol_views}
-use Rattle.resolve.specs.declared.symbols.SymbolOf as code
+use Rattle.resolve.specs.declared.entries.SymbolOf as code
 use Rattle.resolve.proofs.PlainNames.{Name, none_left, plain_among, plain_unused}
 use Rattle.resolve.proofs.plain.have_plain_names.Goals as goal
 

@@ -20,7 +20,7 @@ write_all-requires c =
     let long =
     c.requires ∙ ap (λ (b : Basis). (object_file.section (sections_of_object (slice_get b.objects k)) s).sh_size) (sym c.self.view_is) in
     subst (All (FitsIn (length c.args.bytes.now))) (sym row)
-    (row_fits c.self.inside.placement.now c.self.inside.rows.items k s c.args.bytes.now c.self.invariant long)
+    (row_fits c.self.inside.placement.now c.self.inside.table.now.rows.items k s c.args.bytes.now c.self.invariant long)
 
 pub returns : goal.returns
 returns c = λ p here there bytes.
@@ -32,5 +32,5 @@ returns c = λ p here there bytes.
     c.requires ∙ ap (λ (b : Basis). (object_file.section (sections_of_object (slice_get b.objects k)) s).sh_size) (sym c.self.view_is) in
     c.write_all.ensures
     ∙ (ap (patched base) row
-    ∙ (row_wanted c.self.inside.placement.now c.self.inside.rows.items k s base p c.self.invariant long here there bytes
+    ∙ (row_wanted c.self.inside.placement.now c.self.inside.table.now.rows.items k s base p c.self.invariant long here there bytes
     ∙ ap (λ (b : Basis). map (wanted_byte b.objects (placed_in b) p) (range_with_len 0 (length base))) c.self.view_is))

@@ -1,0 +1,15 @@
+//! Tests of the linker's layers: loading, what names mean, the layout, relocations, the image.
+#![tactic(auto)]
+
+#[cfg(test)]
+mod images;
+#[cfg(test)]
+mod loading;
+#[cfg(test)]
+mod meanings;
+#[cfg(test)]
+mod objects;
+#[cfg(test)]
+mod places;
+#[cfg(test)]
+mod values;

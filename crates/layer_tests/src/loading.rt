@@ -1,0 +1,85 @@
+//! Loading of objects.
+use crate::objects::{DATA, TEXT, object_of};
+use command::read_words;
+use elf_model::{InputFile, LinkError, ObjFault};
+use search::{Loaded, load};
+use std::alloc::{AllocError, Global};
+use std::test::Fail;
+
+/// The words of a line, cut at spaces.
+fn words(alloc: Global, line: &str) -> Result<Vec<String>, AllocError> {
+    let mut list = Vec::new(alloc);
+    for word in line.split_whitespace() {
+        list.push(String::from_str(alloc, word)?)?;
+    }
+    Ok(list)
+}
+
+/// The files `a.o` and `b.o`.
+fn files(alloc: Global, a: Vec<u8>, b: Vec<u8>) -> Result<Vec<InputFile>, AllocError> {
+    let mut list = Vec::new(alloc);
+    list.push(InputFile {
+        name: String::from_str(alloc, "a.o")?,
+        bytes: a,
+    })?;
+    list.push(InputFile {
+        name: String::from_str(alloc, "b.o")?,
+        bytes: b,
+    })?;
+    Ok(list)
+}
+
+/// The objects that words load.
+fn load_words<'a>(
+    alloc: Global,
+    words: &'a [String],
+    files: &'a [InputFile],
+) -> Result<Vec<Loaded<'a>>, LinkError> {
+    let Ok(plan) = read_words(alloc, words) else {
+        return Err(LinkError::NotYet);
+    };
+    load(alloc, &plan, files)
+}
+
+/// Whether an object is of an item, of a path, and has a number of sections.
+fn is_loaded(loaded: &Loaded<'_>, item: u64, path: &str, sections: usize) -> bool {
+    loaded.item == item && loaded.path == path && loaded.object.sections().len() == sections
+}
+
+#[test]
+fn objects_stand_in_command_order(rt: HostRuntime) -> Result<(), Fail> {
+    let alloc = rt.alloc();
+    let a = object_of(alloc, &[TEXT])?;
+    let b = object_of(alloc, &[DATA, TEXT])?;
+    let files = files(alloc, a, b)?;
+    let words = words(alloc, "b.o x.a a.o b.o")?;
+    let objects = load_words(alloc, &words, &files)?;
+    assert_eq!(rt; objects.len(), 3);
+    assert!(rt; is_loaded(&objects[0], 0, "b.o", 4));
+    assert!(rt; is_loaded(&objects[1], 2, "a.o", 3));
+    assert!(rt; is_loaded(&objects[2], 3, "b.o", 4));
+    Ok(())
+}
+
+/// What the loading of a line's items fails with; `b.o` is the beginning of an object.
+fn refusal(alloc: Global, line: &str) -> Result<Option<LinkError>, Fail> {
+    let a = object_of(alloc, &[TEXT])?;
+    let b = Vec::from_slice(alloc, &[0; 63])?;
+    let files = files(alloc, a, b)?;
+    let words = words(alloc, line)?;
+    match load_words(alloc, &words, &files) {
+        Ok(_) => Ok(None),
+        Err(error) => Ok(Some(error)),
+    }
+}
+
+#[test]
+fn missing_files_come_before_bad_objects(rt: HostRuntime) -> Result<(), Fail> {
+    let alloc = rt.alloc();
+    assert!(rt; refusal(alloc, "a.o")?.is_none());
+    let bad = refusal(alloc, "a.o b.o")?;
+    assert!(rt; matches!(&bad, Some(LinkError::BadObject(ObjFault::Truncated))));
+    let missing = refusal(alloc, "b.o c.o")?;
+    assert!(rt; matches!(&missing, Some(LinkError::FileMissing)));
+    Ok(())
+}

@@ -1,0 +1,241 @@
+//! Makes objects of sections, symbols and relocations, and loads them.
+ghost use Rattle.std.specs.Prelude.{IfOk};
+ghost use Rattle.elf_model.specs.Loading.{AreObjects};
+ghost use Rattle.elf_model.specs.ObjectFile.{IsObject};
+ghost use Rattle.search.specs.Views.{loaded_views};
+
+use byteview::View;
+use elf_model::{
+    EM_X86_64, ET_REL, FileHeader, LinkError, ObjFault, Rela, SHF_ALLOC, SHF_EXECINSTR, SHF_WRITE,
+    SHT_NOBITS, SHT_NULL, SHT_PROGBITS, SHT_RELA, SHT_STRTAB, SHT_SYMTAB, SectionHeader, Symbol,
+};
+use elf_read::Object;
+use search::Loaded;
+use std::alloc::{AllocError, Global};
+
+pub const NULL_SECTION: SectionHeader = SectionHeader {
+    sh_name: 0,
+    sh_type: SHT_NULL,
+    sh_flags: 0,
+    sh_addr: 0,
+    sh_offset: 0,
+    sh_size: 0,
+    sh_link: 0,
+    sh_info: 0,
+    sh_addralign: 0,
+    sh_entsize: 0,
+};
+
+const HEADER: FileHeader = FileHeader {
+    e_ident: [0x7f, b'E', b'L', b'F', 2, 1, 1, 0, 0, 0, 0, 0, 0, 0, 0, 0],
+    e_type: ET_REL,
+    e_machine: EM_X86_64,
+    e_version: 1,
+    e_entry: 0,
+    e_phoff: 0,
+    e_shoff: 0,
+    e_flags: 0,
+    e_ehsize: 64,
+    e_phentsize: 0,
+    e_phnum: 0,
+    e_shentsize: 64,
+    e_shnum: 0,
+    e_shstrndx: 1,
+};
+
+/// The names of the sections and symbols of every object here: the numbers are where each begins.
+static NAMES: &[u8] =
+    b"\0.shstrtab\0.rodata\0.text\0.data\0.bss\0.rodata.b\0notes\0_start\0_etext\0.symtab\0.rela\0f\0g\0";
+
+pub const NOTES_NAME: u32 = 46;
+
+pub const RODATA_B_NAME: u32 = 36;
+
+pub const START_NAME: u32 = 52;
+
+pub const ETEXT_NAME: u32 = 59;
+
+pub const F_NAME: u32 = 80;
+
+pub const G_NAME: u32 = 82;
+
+/// The bytes of `.rodata` at 160, of `.text` at 168 and of `.data` at 184.
+static BYTES: [u8; 32] = [
+    0, 0, 0, 0, 5, 0, 0, 0, 0xb8, 0x3c, 0, 0, 0, 0x31, 0xff, 0x0f, 0x05, 0, 0, 0, 0, 0, 0, 0, 0, 0,
+    0, 0, 0, 0, 0, 0,
+];
+
+pub const RODATA: SectionHeader = SectionHeader {
+    sh_name: 11,
+    sh_type: SHT_PROGBITS,
+    sh_flags: SHF_ALLOC,
+    sh_offset: 160,
+    sh_size: 5,
+    sh_addralign: 4,
+    ..NULL_SECTION
+};
+
+pub const TEXT: SectionHeader = SectionHeader {
+    sh_name: 19,
+    sh_type: SHT_PROGBITS,
+    sh_flags: SHF_ALLOC | SHF_EXECINSTR,
+    sh_offset: 168,
+    sh_size: 9,
+    sh_addralign: 1,
+    ..NULL_SECTION
+};
+
+pub const DATA: SectionHeader = SectionHeader {
+    sh_name: 25,
+    sh_type: SHT_PROGBITS,
+    sh_flags: SHF_ALLOC | SHF_WRITE,
+    sh_offset: 184,
+    sh_size: 8,
+    sh_addralign: 8,
+    ..NULL_SECTION
+};
+
+pub const BSS: SectionHeader = SectionHeader {
+    sh_name: 31,
+    sh_type: SHT_NOBITS,
+    sh_flags: SHF_ALLOC | SHF_WRITE,
+    sh_offset: 192,
+    sh_size: 8,
+    sh_addralign: 8,
+    ..NULL_SECTION
+};
+
+/// A table of two symbols behind the null symbol.
+pub const SYMBOLS: SectionHeader = SectionHeader {
+    sh_name: 66,
+    sh_type: SHT_SYMTAB,
+    sh_offset: 192,
+    sh_size: 72,
+    sh_link: 1,
+    sh_addralign: 8,
+    sh_entsize: 24,
+    ..NULL_SECTION
+};
+
+/// One relocation behind these symbols; which section it relocates and which one has the symbols isn't said.
+pub const ENTRY: SectionHeader = SectionHeader {
+    sh_name: 74,
+    sh_type: SHT_RELA,
+    sh_offset: 264,
+    sh_size: 24,
+    sh_addralign: 8,
+    sh_entsize: 24,
+    ..NULL_SECTION
+};
+
+fn put_section(bytes: &mut Vec<u8>, section: &SectionHeader) -> Result<(), AllocError> {
+    let mut record = [0; 64];
+    section.write_to(&mut record);
+    bytes.extend_from_slice(&record)
+}
+
+fn put_symbol(bytes: &mut Vec<u8>, symbol: &Symbol) -> Result<(), AllocError> {
+    let mut record = [0; 24];
+    symbol.write_to(&mut record);
+    bytes.extend_from_slice(&record)
+}
+
+fn put_entry(bytes: &mut Vec<u8>, entry: &Rela) -> Result<(), AllocError> {
+    let mut record = [0; 24];
+    entry.write_to(&mut record);
+    bytes.extend_from_slice(&record)
+}
+
+/// The file behind its header, up to the section headers: names, bytes, symbols and relocations.
+fn contents_of(alloc: Global, symbols: &[Symbol], entries: &[Rela]) -> Result<Vec<u8>, AllocError> {
+    let mut bytes = Vec::from_slice(alloc, NAMES)?;
+    bytes.resize(96, 0)?;
+    bytes.extend_from_slice(&BYTES)?;
+    bytes.extend_from_slice(&[0; 24])?;
+    for symbol in symbols {
+        put_symbol(&mut bytes, symbol)?;
+    }
+    for entry in entries {
+        put_entry(&mut bytes, entry)?;
+    }
+    Ok(bytes)
+}
+
+/// An object with these sections, 8 at most, behind the null section and the names, which are section 1. Symbols
+/// stand from 192 on, the null one too, and relocations behind them.
+pub fn object_with(
+    alloc: Global,
+    sections: &[SectionHeader],
+    symbols: &[Symbol],
+    entries: &[Rela],
+) -> Result<Vec<u8>, AllocError> {
+    let contents = contents_of(alloc, symbols, entries)?;
+    let count = sections.len().min(8) as u16;
+    let header = FileHeader {
+        e_shoff: (contents.len() as u64).saturating_add(64),
+        e_shnum: 2 + count,
+        ..HEADER
+    };
+    let mut record = [0; 64];
+    header.write_to(&mut record);
+    let mut bytes = Vec::from_slice(alloc, &record)?;
+    bytes.extend_from_slice(&contents)?;
+    put_section(&mut bytes, &NULL_SECTION)?;
+    let names = SectionHeader {
+        sh_name: 1,
+        sh_type: SHT_STRTAB,
+        sh_offset: 64,
+        sh_size: NAMES.len() as u64,
+        sh_addralign: 1,
+        ..NULL_SECTION
+    };
+    put_section(&mut bytes, &names)?;
+    for section in sections {
+        put_section(&mut bytes, section)?;
+    }
+    Ok(bytes)
+}
+
+/// An object with these sections, 8 at most, behind the null section and the section names.
+pub fn object_of(alloc: Global, sections: &[SectionHeader]) -> Result<Vec<u8>, AllocError> {
+    object_with(alloc, sections, &[], &[])
+}
+
+fn load<'a>(alloc: Global, bytes: &'a [u8]) -> Result<Loaded<'a>, ObjFault>
+    ensures { IfOk result (λ l. IsObject l.object) }
+{
+    let object = Object::read(alloc, View::new(bytes))?;
+    Ok(Loaded {
+        object,
+        item: 0,
+        path: "a.o",
+    })
+}
+
+/// The object of a file, alone.
+pub fn load_alone<'a>(alloc: Global, bytes: &'a [u8]) -> Result<Vec<Loaded<'a>>, LinkError>
+    ensures { IfOk result (λ v. AreObjects (loaded_views v.items)) }
+{
+    let mut objects = Vec::new(alloc);
+    let Ok(first) = load(alloc, bytes) else {
+        return Err(LinkError::NotYet);
+    };
+    objects.push(first)?;
+    Ok(objects)
+}
+
+/// The objects of two files.
+pub fn load_both<'a>(alloc: Global, a: &'a [u8], b: &'a [u8]) -> Result<Vec<Loaded<'a>>, LinkError>
+    ensures { IfOk result (λ v. AreObjects (loaded_views v.items)) }
+{
+    let mut objects = Vec::new(alloc);
+    let Ok(first) = load(alloc, a) else {
+        return Err(LinkError::NotYet);
+    };
+    let Ok(second) = load(alloc, b) else {
+        return Err(LinkError::NotYet);
+    };
+    objects.push(first)?;
+    objects.push(second)?;
+    Ok(objects)
+}

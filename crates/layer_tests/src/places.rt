@@ -1,0 +1,218 @@
+//! Layouts: where pieces stand, and in which segments.
+use crate::objects::{BSS, DATA, NOTES_NAME, RODATA, RODATA_B_NAME, TEXT, load_both, object_of};
+use elf_model::{
+    LinkError, PT_LOAD, ProgramHeader, SHF_ALLOC, SHF_EXECINSTR, SHF_LINK_ORDER, SHF_TLS,
+    SHF_WRITE, SHT_STRTAB, SectionHeader,
+};
+use layout::{Place, Placement, are_lawful_kinds, output_name, place};
+use std::alloc::Global;
+use std::test::Fail;
+
+/// What a layout says: its base, the object, the section and the address of each place, the segments, and how many
+/// places have the address that is told for their numbers.
+#[derive(Drop)]
+struct Summary {
+    base: u64,
+    places: Vec<(u64, u64, u64)>,
+    segments: Vec<ProgramHeader>,
+    told: usize,
+}
+
+/// Whether a layout tells the address of a place by its numbers.
+fn tells(placement: &Placement<'_, '_>, place: &Place<'_>) -> bool {
+    placement.address(place.piece.object as usize, place.piece.section as usize) == Some(place.at)
+}
+
+fn summary_of(alloc: Global, placement: &Placement<'_, '_>) -> Result<Summary, LinkError> {
+    let mut places = Vec::new(alloc);
+    for place in placement.places() {
+        places.push((place.piece.object, place.piece.section, place.at))?;
+    }
+    let told = placement
+        .places()
+        .iter()
+        .filter(|p| tells(placement, p))
+        .count();
+    Ok(Summary {
+        base: placement.base(),
+        places,
+        segments: Vec::from_slice(alloc, placement.segments())?,
+        told,
+    })
+}
+
+/// The layout of the objects of two files from 0x400000 on.
+fn lay_out(alloc: Global, a: &[u8], b: &[u8]) -> Result<Summary, LinkError> {
+    let objects = load_both(alloc, a, b)?;
+    let tables = place(alloc, &objects, 0x400000)?;
+    let placement = Placement::new(0x400000, &objects, &tables);
+    summary_of(alloc, &placement)
+}
+
+/// Whether the kinds of the kept sections of two files' objects are lawful.
+fn are_lawful(alloc: Global, a: &[u8], b: &[u8]) -> Result<bool, LinkError> {
+    let objects = load_both(alloc, a, b)?;
+    Ok(are_lawful_kinds(&objects))
+}
+
+/// An object with one section is judged.
+fn is_lawful(alloc: Global, section: SectionHeader) -> Result<bool, Fail> {
+    let text = object_of(alloc, &[TEXT])?;
+    let other = object_of(alloc, &[section])?;
+    Ok(are_lawful(alloc, &text, &other)?)
+}
+
+/// Whether the layout of an object with one section is too large.
+fn is_too_large(alloc: Global, section: SectionHeader) -> Result<bool, Fail> {
+    let none = object_of(alloc, &[])?;
+    let other = object_of(alloc, &[section])?;
+    Ok(matches!(lay_out(alloc, &none, &other), Err(LinkError::TooLarge)))
+}
+
+/// A PT_LOAD that the linker lays out from 0x400000 on.
+fn segment(p_flags: u32, p_offset: u64, p_filesz: u64, p_memsz: u64) -> ProgramHeader {
+    let address = p_offset.saturating_add(0x40_0000);
+    ProgramHeader {
+        p_type: PT_LOAD,
+        p_flags,
+        p_offset,
+        p_vaddr: address,
+        p_paddr: address,
+        p_filesz,
+        p_memsz,
+        p_align: 4096,
+    }
+}
+
+#[test]
+fn one_object_has_three_segments(rt: HostRuntime) -> Result<(), Fail> {
+    let alloc = rt.alloc();
+    let a = object_of(alloc, &[RODATA, TEXT, DATA, BSS])?;
+    let b = object_of(alloc, &[])?;
+    let summary = lay_out(alloc, &a, &b)?;
+    assert_eq!(rt; summary.base, 0x400000);
+    let places = [
+        (0, 2, 0x400120),
+        (0, 3, 0x401000),
+        (0, 4, 0x402000),
+        (0, 5, 0x402008),
+    ];
+    assert!(rt; summary.places.as_slice() == places.as_slice());
+    assert_eq!(rt; summary.told, 4);
+    let segments = [
+        segment(4, 0, 0x125, 0x125),
+        segment(5, 0x1000, 9, 9),
+        segment(6, 0x2000, 8, 0x10),
+    ];
+    assert!(rt; summary.segments.as_slice() == segments.as_slice());
+    Ok(())
+}
+
+#[test]
+fn two_objects_share_output_sections(rt: HostRuntime) -> Result<(), Fail> {
+    let alloc = rt.alloc();
+    let notes = SectionHeader {
+        sh_name: NOTES_NAME,
+        ..RODATA
+    };
+    let rodata_b = SectionHeader {
+        sh_name: RODATA_B_NAME,
+        ..RODATA
+    };
+    let text_b = SectionHeader {
+        sh_addralign: 16,
+        ..TEXT
+    };
+    let a = object_of(alloc, &[notes, TEXT, RODATA])?;
+    let b = object_of(alloc, &[rodata_b, text_b])?;
+    let summary = lay_out(alloc, &a, &b)?;
+    let places = [
+        (0, 2, 0x4000e8),
+        (0, 4, 0x4000f0),
+        (1, 2, 0x4000f8),
+        (0, 3, 0x401000),
+        (1, 3, 0x401010),
+    ];
+    assert!(rt; summary.places.as_slice() == places.as_slice());
+    assert_eq!(rt; summary.told, 5);
+    let segments = [segment(4, 0, 0xfd, 0xfd), segment(5, 0x1000, 0x19, 0x19)];
+    assert!(rt; summary.segments.as_slice() == segments.as_slice());
+    Ok(())
+}
+
+#[test]
+fn a_layout_is_too_large_past_the_limit(rt: HostRuntime) -> Result<(), Fail> {
+    let whole = SectionHeader {
+        sh_size: (1 << 46) - 0x401000,
+        ..BSS
+    };
+    let more = SectionHeader {
+        sh_size: (1 << 46) - 0x400fff,
+        ..BSS
+    };
+    let most = SectionHeader {
+        sh_size: u64::MAX,
+        ..BSS
+    };
+    assert!(rt; !is_too_large(rt.alloc(), whole)?);
+    assert!(rt; is_too_large(rt.alloc(), more)?);
+    assert!(rt; is_too_large(rt.alloc(), most)?);
+    Ok(())
+}
+
+#[test]
+fn kinds_are_judged(rt: HostRuntime) -> Result<(), Fail> {
+    let alloc = rt.alloc();
+    let thread = SectionHeader {
+        sh_flags: SHF_ALLOC | SHF_WRITE | SHF_TLS,
+        ..DATA
+    };
+    let read_only_thread = SectionHeader {
+        sh_flags: SHF_ALLOC | SHF_TLS,
+        ..DATA
+    };
+    let writable_code = SectionHeader {
+        sh_flags: SHF_ALLOC | SHF_WRITE | SHF_EXECINSTR,
+        ..TEXT
+    };
+    let read_only_zeros = SectionHeader {
+        sh_flags: SHF_ALLOC,
+        ..BSS
+    };
+    let linked = SectionHeader {
+        sh_flags: SHF_ALLOC | SHF_LINK_ORDER,
+        ..RODATA
+    };
+    let strings = SectionHeader {
+        sh_type: SHT_STRTAB,
+        ..RODATA
+    };
+    for (section, lawful) in [
+        (BSS, true),
+        (thread, true),
+        (read_only_thread, false),
+        (writable_code, false),
+        (read_only_zeros, false),
+        (linked, false),
+        (strings, false),
+    ] {
+        let flags = section.sh_flags;
+        assert_eq!(rt; is_lawful(alloc, section)?, lawful, "with flags {flags}");
+    }
+    Ok(())
+}
+
+#[test]
+fn output_names_gather(rt: HostRuntime) {
+    for (name, output) in [
+        (".text", ".text"),
+        (".text.f", ".text"),
+        (".textual", ".textual"),
+        (".data.rel.ro", ".data"),
+        (".preinit_array.1", ".preinit_array"),
+        ("foo.text", "foo.text"),
+    ] {
+        let found = output_name(name.as_bytes());
+        assert!(rt; found == output.as_bytes(), "{name}");
+    }
+}

@@ -1,0 +1,233 @@
+//! Relocations: their values, whether these fit, and the bytes that they want.
+ghost use Rattle.std.specs.Prelude.{◌≡◌, ◌<◌, IfOk, IfSome, length};
+ghost use Rattle.std.specs.List.{slice_get};
+ghost use Rattle.elf_model.specs.Loading.{AreObjects};
+ghost use Rattle.elf_model.specs.ObjectFile as object_file;
+ghost use Rattle.elf_model.specs.Resolution.{sections_of_object};
+ghost use Rattle.relocate.specs.PatchTables.{ArePatchesOf};
+ghost use Rattle.search.specs.Views.{loaded_views};
+
+use crate::objects::{BSS, DATA, ENTRY, RODATA, SYMBOLS, TEXT, load_alone, object_with};
+use elf_model::{LinkError, Rela, STT_SECTION, SectionHeader, Symbol};
+use layout::{Placement, place};
+use relocate::{PatchTable, Patches, Terms, fits, kind_of, patches, references, value};
+use resolve::resolve;
+use search::Loaded;
+use std::alloc::{AllocError, Global};
+use std::test::Fail;
+
+/// The symbol of a section.
+fn section_symbol(number: u16) -> Symbol {
+    Symbol {
+        st_name: 0,
+        st_info: STT_SECTION,
+        st_other: 0,
+        st_shndx: number,
+        st_value: 0,
+        st_size: 0,
+    }
+}
+
+/// An object with an entry that relocates `.rodata`, section 2 of 5 bytes, and one for `.data`, section 4 of
+/// 8 bytes. Symbol 1 is `.data` and symbol 2 `.rodata`.
+fn object_of(alloc: Global, rodata: Rela, data_: Rela) -> Result<Vec<u8>, AllocError> {
+    let rodata_entries = SectionHeader {
+        sh_link: 6,
+        sh_info: 2,
+        ..ENTRY
+    };
+    let data_entries = SectionHeader {
+        sh_link: 6,
+        sh_info: 4,
+        sh_offset: 288,
+        ..ENTRY
+    };
+    let sections = [
+        RODATA,
+        TEXT,
+        DATA,
+        BSS,
+        SYMBOLS,
+        rodata_entries,
+        data_entries,
+    ];
+    let symbols = [section_symbol(4), section_symbol(2)];
+    object_with(alloc, &sections, &symbols, &[rodata, data_])
+}
+
+/// The input bytes of a section of the first object.
+fn input_of<'a>(objects: &[Loaded<'a>], number: usize) -> Option<&'a [u8]>
+    ensures { IfSome result (λ bytes. length bytes.now ≡ (object_file.section (sections_of_object (slice_get (loaded_views objects.now) 0)) number).sh_size) }
+{
+    let first = objects.first()?;
+    first.object.section_bytes(number)
+}
+
+/// The bytes that are wanted of a section of a file's object, laid out from 0x400000 on.
+fn wanted(alloc: Global, file: &[u8], number: usize) -> Result<Vec<u8>, LinkError> {
+    let objects = load_alone(alloc, file)?;
+    applied(alloc, &objects, number)
+}
+
+/// The patches of objects, whose relocations are lawful, where they are laid out.
+pub fn patched<'a>(
+    alloc: Global,
+    objects: &[Loaded<'a>],
+    placement: &Placement<'_, 'a>,
+) -> Result<PatchTable, LinkError>
+    requires { placement.now.objects ≡ loaded_views objects.now }
+    ensures { IfOk result (ArePatchesOf placement.now) }
+{
+    let resolved = resolve(alloc, objects)?;
+    references(alloc, objects, &resolved)?;
+    patches(alloc, objects, &resolved, placement)
+}
+
+/// The bytes that are wanted of a section of the first object, laid out from 0x400000 on.
+fn applied(alloc: Global, objects: &[Loaded<'_>], number: usize) -> Result<Vec<u8>, LinkError>
+    requires { AreObjects (loaded_views objects.now) }
+{
+    let Some(input) = input_of(objects, number) else {
+        return Err(LinkError::NotYet);
+    };
+    let tables = place(alloc, objects, 0x400000)?;
+    let placement = Placement::new(0x400000, &*objects, &tables);
+    let table = patched(alloc, objects, &placement)?;
+    let mut bytes = Vec::from_slice(alloc, input)?;
+    Patches::new(&placement, &table).apply(0, number, &mut bytes);
+    Ok(bytes)
+}
+
+/// An entry of a type for the field at an offset, which names a symbol.
+fn entry(offset: u64, kind: u64, symbol: u64, addend: i64) -> Rela
+    requires symbol { symbol < 16 }
+    requires kind { kind < 256 }
+{
+    Rela {
+        r_offset: offset,
+        r_info: symbol << 32 | kind,
+        r_addend: addend,
+    }
+}
+
+/// The value of a relocation of a type, and whether it fits the type's field.
+fn judged(number: u32, terms: &Terms) -> Option<(u64, bool)> {
+    let kind = kind_of(number)?;
+    let value = value(kind.formula, terms);
+    Some((value, fits(kind.range, kind.width, value)))
+}
+
+#[test]
+fn values_of_a_symbol_fit_by_their_kind(rt: HostRuntime) -> Result<(), Fail> {
+    // The value is S + 0. Type 10 wants an unsigned number of 32 bits, 11 a signed one of 32, 12 either of
+    // 16 and 14 either of 8.
+    for (number, symbol, fit) in [
+        (10, 0xffff_ffff, true),
+        (10, 0x8000_0000, true),
+        (10, 0x1_0000_0000, false),
+        (11, 0xffff_ffff_ffff_ffff, true),
+        (11, 0x8000_0000, false),
+        (12, 0xffff, true),
+        (12, 0xffff_ffff_ffff_8000, true),
+        (12, 0x1_0000, false),
+        (14, 0xffff_ffff_ffff_ff80, true),
+        (14, 0xffff_ffff_ffff_ff7f, false),
+    ] {
+        let terms = Terms {
+            symbol,
+            addend: 0,
+            place: 0x401001,
+            size: 8,
+        };
+        assert!(rt;
+            judged(number, &terms) == Some((symbol, fit)),
+            "at type {number}"
+        );
+    }
+    Ok(())
+}
+
+#[test]
+fn values_are_made_of_their_terms(rt: HostRuntime) -> Result<(), Fail> {
+    let of = |symbol: u64, addend: i64, place: u64| Terms {
+        symbol,
+        addend,
+        place,
+        size: 8,
+    };
+    // Types 2 and 4 are S + A - P, 1 is S + A and 33 is Z + A, modulo 2 to the 64; 2 and 4 want a signed number
+    // of 32 bits.
+    assert!(rt; judged(4, &of(0x401010, -4, 0x401001)) == Some((0xb, true)));
+    assert!(rt; judged(2, &of(0x402000, 0, 0x400120)) == Some((0x1ee0, true)));
+    assert!(rt; judged(2, &of(0, -4, 0x401001)) == Some((0xffff_ffff_ffbf_effb, true)));
+    assert!(rt; judged(2, &of(0, -4, 0x1_0000_1001)) == Some((0xffff_fffe_ffff_effb, false)));
+    assert!(rt; judged(1, &of(0xffff_ffff_ffff_ffff, 2, 0x402000)) == Some((1, true)));
+    assert!(rt; judged(33, &of(0x402000, 1, 0x400130)) == Some((9, true)));
+    Ok(())
+}
+
+#[test]
+fn fields_have_their_types_width(rt: HostRuntime) -> Result<(), Fail> {
+    // AMD64 psABI, "Relocation Types": word8, word16, word32 and word64.
+    let rows = [
+        (1, [14, 15].as_slice()),
+        (2, [12, 13].as_slice()),
+        (4, [2, 3, 4, 9, 10, 11, 22, 23, 26, 32, 41, 42].as_slice()),
+        (8, [1, 18, 24, 25, 27, 28, 29, 33].as_slice()),
+    ];
+    for (width, numbers) in rows {
+        for number in numbers {
+            let kind = kind_of(*number).ok_or("a kind")?;
+            assert_eq!(rt; kind.width, width, "at type {number}");
+            assert_eq!(rt; kind.number, *number);
+        }
+    }
+    Ok(())
+}
+
+#[test]
+fn types_without_a_kind(rt: HostRuntime) -> Result<(), Fail> {
+    // NONE, COPY and the first type behind the table.
+    for number in [0, 5, 43] {
+        assert!(rt; kind_of(number).is_none(), "at type {number}");
+    }
+    Ok(())
+}
+
+#[test]
+fn fields_have_their_values(rt: HostRuntime) -> Result<(), Fail> {
+    let alloc = rt.alloc();
+    let file = object_of(alloc, entry(0, 2, 1, 0), entry(0, 1, 2, 1))?;
+    let rodata = wanted(alloc, &file, 2)?;
+    let text = wanted(alloc, &file, 3)?;
+    let data_ = wanted(alloc, &file, 4)?;
+    // Three segments: `.rodata` stands behind headers of 64 + 4 * 56 = 0x120 bytes, `.text` at 0x401000 and
+    // `.data` at 0x402000. So `.rodata` gets 0x402000 - 0x400120 and `.data` 0x400120 + 1.
+    assert!(rt; rodata.as_slice() == [0xe0, 0x1e, 0, 0, 5].as_slice());
+    assert!(rt; text.as_slice() == [0xb8, 0x3c, 0, 0, 0, 0x31, 0xff, 0x0f, 0x05].as_slice());
+    assert!(rt; data_.as_slice() == [0x21, 0x01, 0x40, 0, 0, 0, 0, 0].as_slice());
+    Ok(())
+}
+
+/// What the link of an object with an entry for `.rodata` and a lawful one for `.data` is refused for.
+fn refusal(alloc: Global, rodata: Rela) -> Result<Option<LinkError>, LinkError> {
+    let file = object_of(alloc, rodata, entry(0, 1, 2, 1))?;
+    Ok(wanted(alloc, &file, 2).err())
+}
+
+#[test]
+fn unlawful_relocations_are_refused(rt: HostRuntime) -> Result<(), Fail> {
+    let alloc = rt.alloc();
+    // A field of 4 bytes at 1 ends with the 5 bytes of `.rodata`; 0x402000 is no number of 8 bits.
+    let last = refusal(alloc, entry(1, 2, 1, 0))?;
+    assert!(rt; last.is_none());
+    let outside = refusal(alloc, entry(2, 2, 1, 0))?;
+    assert!(rt; matches!(&outside, Some(LinkError::FieldOutside)));
+    let unknown = refusal(alloc, entry(0, 5, 1, 0))?;
+    assert!(rt; matches!(&unknown, Some(LinkError::RelocKind)));
+    let thread = refusal(alloc, entry(0, 23, 1, 0))?;
+    assert!(rt; matches!(&thread, Some(LinkError::TlsMismatch)));
+    let wide = refusal(alloc, entry(0, 14, 1, 0))?;
+    assert!(rt; matches!(&wide, Some(LinkError::Overflow)));
+    Ok(())
+}

@@ -1,0 +1,18 @@
+use Rattle.std.proofs.Common.{subst}
+use Rattle.elf_model.specs.OwnLayout.{OwnValuesFit}
+use Rattle.layout.specs.Placements.{Basis}
+use Rattle.relocate.specs.Values.{ValuesFail}
+use Rattle.search.specs.Views.{loaded_views}
+use Rattle.ld_main.proofs.Links.{values_refuse}
+use Rattle.ld_main.proofs.linkage.fitted.Goals as goal
+
+pub returns-in-Ok-clause-linkable : goal.returns-in-Ok-clause-linkable
+returns-in-Ok-clause-linkable c = record {
+  laid_out = c.requires.laid;
+  fits = subst (λ (b : Basis). OwnValuesFit b.base b.objects) c.requires.placed c.in-Ok.ensures.fit;
+}
+
+pub returns-in-Err-clause-fault : goal.returns-in-Err-clause-fault
+returns-in-Err-clause-fault c =
+    values_refuse c.args.plan.now (loaded_views c.args.objects.now) c.requires.laid c.in-Err.error
+    (subst (λ (b : Basis). ValuesFail b c.in-Err.error) c.requires.placed c.in-Err.ensures.fault)

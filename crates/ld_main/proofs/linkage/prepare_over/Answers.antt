@@ -1,0 +1,51 @@
+use Rattle.std.proofs.Common.{◌≡◌, ◌∙◌, List, ap, subst, sym}
+use Rattle.elf_model.specs.Files.{files_of, words_of}
+use Rattle.elf_model.specs.Profile.{IsInProfile}
+use Rattle.search.specs.Views.{loaded_views}
+use Rattle.search.specs.declared.loading.Loaded.{Loaded}
+use Rattle.ld_main.specs.Linkages.{IsLinkageOf}
+use Rattle.ld_main.specs.Outputs.{LinksRefuse}
+use Rattle.ld_main.proofs.FinalRefusals.{denies_links}
+use Rattle.ld_main.proofs.Links.{cause, loading_fails, prepared, right_link}
+use Rattle.ld_main.proofs.linkage.prepare_over.Goals as goal
+
+pub returns-in-Err-load-clause-no_link : goal.returns-in-Err-load-clause-no_link
+returns-in-Err-load-clause-no_link g c =
+    let files = files_of c.args.files.now in
+    let words = words_of c.args.words.now in
+    denies_links files words c.in-Err-load.refusal
+    (loading_fails files words c.in-Ok.plan c.in-Ok.ensures.plan c.in-Err-load.refusal c.in-Err-load.ensures.fault)
+
+pub returns-in-Ok-prepare_objects-clause-prepared : goal.returns-in-Ok-prepare_objects-clause-prepared
+returns-in-Ok-prepare_objects-clause-prepared g c =
+    let p = c.in-Ok.plan in
+    prepared (files_of c.args.files.now) (words_of c.args.words.now) p (loaded_views c.in-Ok-load.objects.items) c.in-Ok-load.ensures.loaded
+    c.in-Ok.ensures.plan c.in-Ok-load.ensures.files c.in-Ok-load.ensures.objects
+    (subst (λ (xs : List Loaded). IsInProfile p (loaded_views xs)) c.deref.ensures.value (c.in_ok-inside.ensures.0 c.if-not-inside.false))
+    c.in-Ok-prepare_objects.parts
+    (subst (λ (xs : List Loaded). IsLinkageOf p (loaded_views xs) c.in-Ok-prepare_objects.parts) c.deref-2.ensures.value
+    c.in-Ok-prepare_objects.ensures.made)
+
+pub returns-in-Ok-prepare_objects-clause-right : goal.returns-in-Ok-prepare_objects-clause-right
+returns-in-Ok-prepare_objects-clause-right g c =
+    let p = c.in-Ok.plan in
+    right_link (files_of c.args.files.now) (words_of c.args.words.now) p (loaded_views c.in-Ok-load.objects.items) c.in-Ok-load.ensures.loaded
+    c.in-Ok.ensures.plan c.in-Ok-load.ensures.files c.in-Ok-load.ensures.objects
+    (subst (λ (xs : List Loaded). IsInProfile p (loaded_views xs)) c.deref.ensures.value (c.in_ok-inside.ensures.0 c.if-not-inside.false))
+    c.in-Ok-prepare_objects.parts
+    (subst (λ (xs : List Loaded). IsLinkageOf p (loaded_views xs) c.in-Ok-prepare_objects.parts) c.deref-2.ensures.value
+    c.in-Ok-prepare_objects.ensures.made)
+
+pub returns-clause-cause : goal.returns-clause-cause
+returns-clause-cause g c =
+    let p = c.in-Ok.plan in
+    cause (files_of c.args.files.now) (words_of c.args.words.now) p (loaded_views c.in-Ok-load.objects.items) c.in-Ok-load.ensures.loaded
+    c.in-Ok.ensures.plan c.in-Ok-load.ensures.files c.in-Ok-load.ensures.objects
+    (subst (λ (xs : List Loaded). IsInProfile p (loaded_views xs)) c.deref.ensures.value (c.in_ok-inside.ensures.0 c.if-not-inside.false))
+    c.in-Err-prepare_objects.error
+    (subst (λ (xs : List Loaded). LinksRefuse p (loaded_views xs) c.in-Err-prepare_objects.error) c.deref-2.ensures.value
+    c.in-Err-prepare_objects.ensures.fault)
+
+pub returns-clause-no_link : goal.returns-clause-no_link
+returns-clause-no_link g c =
+    denies_links (files_of c.args.files.now) (words_of c.args.words.now) c.in-Err-prepare_objects.error (returns-clause-cause g c)

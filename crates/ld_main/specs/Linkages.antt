@@ -1,0 +1,48 @@
+-- What a prepared link is of, and what it keeps.
+use Rattle.std.specs.Prelude.{◌≡◌, ℕ, ◌^◌, ◌<◌, List, Ok}
+use Rattle.elf_model.specs.Causes.{IsLinkable}
+use Rattle.elf_model.specs.Command.{IsBase, Plan, command_of}
+use Rattle.elf_model.specs.Files.{File}
+use Rattle.elf_model.specs.ImageFile.{IsOwnMap, own_entry}
+use Rattle.elf_model.specs.Loading.{AreObjects, LoadedObject, loaded_objects}
+use Rattle.elf_model.specs.MapRecord.{MapRecord}
+use Rattle.elf_model.specs.MapText.{Fits, IsMap}
+use Rattle.elf_model.specs.MapText as map_text
+use Rattle.layout.specs.Tables.{AreTables}
+use Rattle.relocate.specs.PatchTables.{ArePatchesOf}
+use Rattle.resolve.specs.Defined.{AreDefinitions}
+use Rattle.resolve.specs.Views.{symbol_views}
+use Rattle.ld_main.specs.Maps.{own_record}
+use Rattle.ld_main.specs.Outputs.{AreLinkable}
+use Rattle.ld_main.specs.declared.linkage.Parts.{Parts}
+
+-- the plan of a command and the objects that it loads
+pub record Prepared : Type 0 where
+  pub plan : Plan
+  pub objects : List LoadedObject
+
+-- what the phases make of objects that can be linked, and that their map can be spelled
+pub record IsLinkageOf (p : Plan) (objects : List LoadedObject) (x : Parts) : Type 0 where
+  pub base : IsBase p.base
+  pub are_objects : AreObjects objects
+  pub linkable : AreLinkable p objects
+  pub definitions : AreDefinitions objects x.definitions.items
+  pub tables : AreTables p.base objects x.tables
+  pub patches : ArePatchesOf (record { base = p.base; objects = objects }) x.patches
+  pub entry : own_entry p.base objects p.entry ≡ x.entry
+  pub entry_fits : x.entry < 2 ^ 64
+  pub spelled : Fits (own_record (record { base = p.base; objects = objects }) (symbol_views x.definitions.items))
+
+-- a link of files by words, none of whose phases has a fault
+pub record IsPrepared (files : List File) (words : List (List ℕ)) (l : Prepared) : Type 0 where
+  pub objects : l.objects ≡ loaded_objects files l.plan
+  pub linkable : IsLinkable files words l.plan
+  pub base : IsBase l.plan.base
+  pub entry_fits : own_entry l.plan.base l.objects l.plan.entry < 2 ^ 64
+
+-- the text of a link's own map
+pub record IsOwnText (l : Prepared) (text : List ℕ) : Type 0 where
+  pub record_of : MapRecord
+  pub own_map : IsOwnMap l.plan.base l.objects record_of
+  pub is_map : IsMap record_of
+  pub spelled : text ≡ map_text.text record_of

@@ -1,0 +1,302 @@
+//! A link that is prepared: the loaded objects, where they stand, what their relocations want, and what their
+//! names mean.
+ghost use Rattle.std.specs.Prelude.{◌≡◌, IfErr, IfOk, OnOk};
+ghost use Rattle.elf_model.specs.Causes.{Cause};
+ghost use Rattle.elf_model.specs.Command.{IsBase};
+ghost use Rattle.elf_model.specs.Files.{files_of, words_of};
+ghost use Rattle.elf_model.specs.ImageFile.{IsOwnMap, image_file};
+ghost use Rattle.elf_model.specs.Loading.{AreObjects};
+ghost use Rattle.elf_model.specs.MapRecord.{map_of};
+ghost use Rattle.layout.specs.Tables.{AreTables};
+ghost use Rattle.relocate.specs.PatchTables.{ArePatchesOf};
+ghost use Rattle.search.specs.Views.{loaded_views};
+ghost use Rattle.resolve.specs.Defined.{AreDefinitions};
+ghost use Rattle.resolve.specs.Views.{symbol_view};
+ghost use Rattle.symbols.specs.Rows.{no_rows};
+ghost use Rattle.ld_main.specs.FinalRefusals.{DeniesLinks};
+ghost use Rattle.ld_main.specs.Linkages.{IsPrepared, IsLinkageOf};
+ghost use Rattle.ld_main.specs.Outputs.{AreLaidOut, AreLinkable, AreReferred, AreResolved, EntersAt, IsCommandFault, LinksRefuse};
+ghost use Rattle.ld_main.specs.Program.{LinksRight};
+
+use crate::own_map::{map_of_layout, value};
+use crate::profile::is_in_profile;
+use crate::spelling::show_spellings;
+use command::{Plan, read_words};
+use elf_model::{CmdFault, InputFile, LinkError, LinkMap};
+use layout::{Placement, Tables, are_lawful_kinds, place};
+use relocate::{PatchTable, Patches, patches, references};
+use resolve::{Resolved, SymbolOf, resolve_over};
+use search::{Loaded, load};
+use std::alloc::{AllocError, Global};
+use std::hash::{BuildHasherDefault, FoldHasher};
+use std::marker::Model;
+use symbols::{IndexedTable, NameTable};
+
+/// What the phases of a link made of loaded objects: the strong definitions in the order of their names, where
+/// the pieces stand, what the relocations want, and the address at which the image is entered.
+#[derive(Drop)]
+pub struct Parts<'a> {
+    pub definitions: Vec<SymbolOf<'a>>,
+    pub tables: Tables<'a>,
+    pub patches: PatchTable,
+    pub entry: u64,
+}
+
+/// A link without a fault: the plan of a command, its loaded objects, and all that their image and their map
+/// are made from. Names are borrowed from the words, and bytes from the files.
+#[derive(Drop)]
+pub struct Linkage<'a> {
+    plan: Plan<'a>,
+    objects: Vec<Loaded<'a>>,
+    parts: Parts<'a>,
+}
+
+impl<'a> Model for Linkage<'a> {
+    ghost use Rattle.search.specs.Views.{loaded_views};
+    ghost use Rattle.ld_main.specs.Linkages.{Prepared, IsLinkageOf};
+
+    ghost Value = { Prepared };
+
+    ghost view = { λ l. record { plan = l.plan; objects = loaded_views l.objects.items } };
+
+    ghost invariant = { λ l. IsLinkageOf l.plan (loaded_views l.objects.items) l.parts };
+}
+
+/// A fault of the words as a link's.
+fn command_error(fault: CmdFault) -> LinkError
+    ensures { IsCommandFault fault result }
+{
+    match fault {
+        CmdFault::Memory => LinkError::Memory,
+        other => LinkError::Command(other),
+    }
+}
+
+/// The names of objects whose kept sections are of lawful kinds, resolved.
+fn resolved_objects<'b, 'a, T: NameTable<'a> + Drop>(
+    alloc: Global,
+    plan: &Plan<'_>,
+    objects: &'b [Loaded<'a>],
+    table: T,
+) -> Result<Resolved<'b, 'a>, LinkError>
+    requires { T.rows table ≡ no_rows }
+    ensures exact { IfOk result (λ r. r ≡ loaded_views objects.entry.now) }
+    ensures resolved { OnOk result (AreResolved (loaded_views objects.entry.now)) }
+    ensures fault { IfErr result (LinksRefuse plan.now (loaded_views objects.entry.now)) }
+{
+    if !are_lawful_kinds(objects) {
+        return Err(LinkError::SectionKind);
+    }
+    match resolve_over(alloc, objects, table) {
+        Ok(resolved) => Ok(resolved),
+        Err(error) => Err(error),
+    }
+}
+
+/// The definition of the entry, where all kept relocations are lawful.
+fn referred_entry<'a>(
+    alloc: Global,
+    plan: &Plan<'_>,
+    objects: &[Loaded<'a>],
+    resolved: &Resolved<'_, 'a>,
+) -> Result<SymbolOf<'a>, LinkError>
+    requires same { resolved.now ≡ loaded_views objects.now }
+    requires resolved { AreResolved (loaded_views objects.now) }
+    ensures entry { IfOk result (λ s. EntersAt plan.now (loaded_views objects.now) (symbol_view s)) }
+    ensures referred { OnOk result (AreReferred plan.now (loaded_views objects.now)) }
+    ensures fault { IfErr result (LinksRefuse plan.now (loaded_views objects.now)) }
+{
+    match references(alloc, objects, resolved) {
+        Ok(()) => {}
+        Err(error) => return Err(error),
+    }
+    match resolved.entry(plan.entry.as_bytes()) {
+        Some(entry) => Ok(entry),
+        None => Err(LinkError::NoEntry),
+    }
+}
+
+/// Objects whose references are lawful, laid out from the plan's base on.
+fn laid_out<'a>(
+    alloc: Global,
+    plan: &Plan<'_>,
+    objects: &[Loaded<'a>],
+) -> Result<Tables<'a>, LinkError>
+    requires base { IsBase plan.now.base }
+    requires objects { AreObjects (loaded_views objects.now) }
+    requires referred { AreReferred plan.now (loaded_views objects.now) }
+    ensures tables { IfOk result (AreTables plan.now.base (loaded_views objects.now)) }
+    ensures laid { OnOk result (AreLaidOut plan.now (loaded_views objects.now)) }
+    ensures fault { IfErr result (LinksRefuse plan.now (loaded_views objects.now)) }
+{
+    match place(alloc, objects, plan.base) {
+        Ok(tables) => Ok(tables),
+        Err(error) => Err(error),
+    }
+}
+
+/// The patches of objects that are laid out.
+fn fitted<'a>(
+    alloc: Global,
+    plan: &Plan<'_>,
+    objects: &[Loaded<'a>],
+    resolved: &Resolved<'_, 'a>,
+    placement: &Placement<'_, 'a>,
+) -> Result<PatchTable, LinkError>
+    requires same { resolved.now ≡ loaded_views objects.now }
+    requires placed { placement.now ≡ record { base = plan.now.base; objects = loaded_views objects.now } }
+    requires laid { AreLaidOut plan.now (loaded_views objects.now) }
+    ensures patches { IfOk result (ArePatchesOf placement.now) }
+    ensures linkable { OnOk result (AreLinkable plan.now (loaded_views objects.now)) }
+    ensures fault { IfErr result (LinksRefuse plan.now (loaded_views objects.now)) }
+{
+    match patches(alloc, objects, resolved, placement) {
+        Ok(patches) => Ok(patches),
+        Err(error) => Err(error),
+    }
+}
+
+/// What has been made of objects, once all of it is there.
+fn parts_of<'a>(
+    plan: &Plan<'_>,
+    objects: &[Loaded<'a>],
+    definitions: Vec<SymbolOf<'a>>,
+    tables: Tables<'a>,
+    patches: PatchTable,
+    entry: &SymbolOf<'a>,
+) -> Parts<'a>
+    requires base { IsBase plan.now.base }
+    requires objects { AreObjects (loaded_views objects.now) }
+    requires definitions { AreDefinitions (loaded_views objects.now) definitions.items }
+    requires tables { AreTables plan.now.base (loaded_views objects.now) tables }
+    requires patches { ArePatchesOf (record { base = plan.now.base; objects = loaded_views objects.now }) patches }
+    requires linkable { AreLinkable plan.now (loaded_views objects.now) }
+    requires entry { EntersAt plan.now (loaded_views objects.now) (symbol_view entry.now) }
+    ensures { IsLinkageOf plan.now (loaded_views objects.now) result }
+{
+    let placement = Placement::new(plan.base, &*objects, &tables);
+    let entry = value(&placement, entry);
+    show_spellings(&placement, objects, &definitions);
+    Parts {
+        definitions,
+        tables,
+        patches,
+        entry,
+    }
+}
+
+/// Resolves, lays out and judges objects of the profile.
+fn prepare_objects<'a, T: NameTable<'a> + Drop>(
+    alloc: Global,
+    plan: &Plan<'_>,
+    objects: &[Loaded<'a>],
+    table: T,
+) -> Result<Parts<'a>, LinkError>
+    requires empty { T.rows table ≡ no_rows }
+    requires base { IsBase plan.now.base }
+    requires objects { AreObjects (loaded_views objects.now) }
+    ensures made { IfOk result (IsLinkageOf plan.now (loaded_views objects.now)) }
+    ensures fault { IfErr result (LinksRefuse plan.now (loaded_views objects.now)) }
+{
+    let resolved = resolved_objects(alloc, plan, objects, table)?;
+    let entry = referred_entry(alloc, plan, objects, &resolved)?;
+    let tables = laid_out(alloc, plan, objects)?;
+    let placement = Placement::new(plan.base, &*objects, &tables);
+    let patches = fitted(alloc, plan, objects, &resolved, &placement)?;
+    let definitions = resolved.into_definitions();
+    Ok(parts_of(plan, objects, definitions, tables, patches, &entry))
+}
+
+/// As `prepare`, with the names of the objects kept in any table of names, which is empty at the start.
+#[tactic(auto, using(crate::proofs::FinalRefusals::finals))]
+pub fn prepare_over<'a, T: NameTable<'a> + Drop>(
+    alloc: Global,
+    files: &'a [InputFile],
+    words: &'a [String],
+    table: T,
+) -> Result<Linkage<'a>, LinkError>
+    requires empty { T.rows table ≡ no_rows }
+    ensures prepared { IfOk result (IsPrepared (files_of files.entry.now) (words_of words.entry.now)) }
+    ensures right { OnOk result (LinksRight (files_of files.entry.now) (words_of words.entry.now)) }
+    ensures cause { IfErr result (Cause (files_of files.entry.now) (words_of words.entry.now)) }
+    ensures no_link { IfErr result (DeniesLinks (files_of files.entry.now) (words_of words.entry.now)) }
+{
+    let plan = match read_words(alloc, words) {
+        Ok(plan) => plan,
+        Err(fault) => return Err(command_error(fault)),
+    };
+    let objects = match load(alloc, &plan, files) {
+        Ok(objects) => objects,
+        Err(refusal) => return Err(refusal),
+    };
+    let inside = is_in_profile(alloc, &plan, &objects)?;
+    if !inside {
+        return Err(LinkError::NotYet);
+    }
+    match prepare_objects(alloc, &plan, &objects, table) {
+        Ok(parts) => Ok(Linkage {
+            plan,
+            objects,
+            parts,
+        }),
+        Err(error) => Err(error),
+    }
+}
+
+/// Prepares the link of the files that a command's words name.
+///
+/// # Errors
+///
+/// A fault of the first phase that has one: the words (Command), the files (FileMissing), the objects
+/// (BadObject), this profile's limits (NotYet), kinds of sections and names (SectionKind, BadSymbol,
+/// Duplicate), references (RelocKind, Undefined, RefToDropped, TlsMismatch, FieldOutside, OverlappingFields,
+/// NoEntry), the layout (TooLarge), values (Overflow). Memory where memory is refused. Where one is answered
+/// other than Memory, TooLarge and Overflow, no image and no map at all are a right link of these files and words
+/// (for NotYet, since a right link is one inside the profile). The same is said of TooLarge where one piece
+/// alone takes up more than all addresses from the base on, and of Overflow where the value that doesn't fit
+/// is `Z+A`, or `S+A` of an absolute definition or of none.
+pub fn prepare<'a>(
+    alloc: Global,
+    files: &'a [InputFile],
+    words: &'a [String],
+) -> Result<Linkage<'a>, LinkError>
+    ensures prepared { IfOk result (IsPrepared (files_of files.entry.now) (words_of words.entry.now)) }
+    ensures right { OnOk result (LinksRight (files_of files.entry.now) (words_of words.entry.now)) }
+    ensures cause { IfErr result (Cause (files_of files.entry.now) (words_of words.entry.now)) }
+    ensures no_link { IfErr result (DeniesLinks (files_of files.entry.now) (words_of words.entry.now)) }
+{
+    let seed: BuildHasherDefault<FoldHasher> = BuildHasherDefault::new();
+    prepare_over(alloc, files, words, IndexedTable::with_hasher(alloc, seed))
+}
+
+impl<'a> Linkage<'a> {
+    /// Where its objects stand.
+    fn placement<'p>(&'p self) -> Placement<'p, 'a>
+        ensures { result ≡ record { base = self.entry.now.plan.base; objects = self.entry.now.objects } }
+    {
+        Placement::new(self.plan.base, &self.objects, &self.parts.tables)
+    }
+}
+
+/// The image file of a link.
+pub fn image(alloc: Global, linkage: &Linkage<'_>) -> Result<Vec<u8>, AllocError>
+    ensures { IfOk result (λ v. v.items ≡ image_file linkage.now.plan.base linkage.now.objects linkage.now.plan.entry) }
+{
+    let placement = linkage.placement();
+    let patches = Patches::new(&placement, &linkage.parts.patches);
+    image_write::image(alloc, &placement, &patches, linkage.parts.entry)
+}
+
+/// The map of a link: its objects, their pieces at their addresses, and the chosen definitions with their values;
+/// its lines are in order.
+pub fn link_map(alloc: Global, linkage: &Linkage<'_>) -> Result<LinkMap, AllocError>
+    ensures { IfOk result (λ m. IsOwnMap linkage.now.plan.base linkage.now.objects (map_of m)) }
+{
+    let placement = linkage.placement();
+    map_of_layout(
+        alloc,
+        &placement,
+        &linkage.objects,
+        &linkage.parts.definitions,
+    )
+}

@@ -1,0 +1,184 @@
+//! Memory as an image's segments make it.
+use byteview::View;
+use elf_model::{EM_X86_64, ET_EXEC, FileHeader, PT_GNU_STACK, PT_LOAD, PT_TLS, ProgramHeader};
+use loader_model::{LoadFault, Memory, Rights};
+use std::alloc::{AllocError, Global};
+use std::test::Fail;
+
+const HEADER: FileHeader = FileHeader {
+    e_ident: [0x7f, b'E', b'L', b'F', 2, 1, 1, 0, 0, 0, 0, 0, 0, 0, 0, 0],
+    e_type: ET_EXEC,
+    e_machine: EM_X86_64,
+    e_version: 1,
+    e_entry: 0x40_0000,
+    e_phoff: 64,
+    e_shoff: 0,
+    e_flags: 0,
+    e_ehsize: 64,
+    e_phentsize: 56,
+    e_phnum: 2,
+    e_shentsize: 64,
+    e_shnum: 0,
+    e_shstrndx: 0,
+};
+
+/// 176 bytes of the file, then 24 zeros.
+const SEGMENT: ProgramHeader = ProgramHeader {
+    p_type: PT_LOAD,
+    p_flags: 4,
+    p_offset: 0,
+    p_vaddr: 0x40_0000,
+    p_paddr: 0x40_0000,
+    p_filesz: 176,
+    p_memsz: 200,
+    p_align: 4096,
+};
+
+const STACK: ProgramHeader = ProgramHeader {
+    p_type: PT_GNU_STACK,
+    p_flags: 6,
+    p_offset: 0,
+    p_vaddr: 0,
+    p_paddr: 0,
+    p_filesz: 0,
+    p_memsz: 0,
+    p_align: 0,
+};
+
+/// A block of 8 bytes of the file and 8 zeros.
+const BLOCK: ProgramHeader = ProgramHeader {
+    p_type: PT_TLS,
+    p_flags: 4,
+    p_offset: 64,
+    p_vaddr: 0x40_0040,
+    p_paddr: 0x40_0040,
+    p_filesz: 8,
+    p_memsz: 16,
+    p_align: 8,
+};
+
+fn an_image(
+    alloc: Global,
+    header: &FileHeader,
+    segments: &[ProgramHeader],
+) -> Result<Vec<u8>, AllocError> {
+    let mut image = Vec::new(alloc);
+    let mut record = [0; 64];
+    header.write_to(&mut record);
+    image.extend_from_slice(&record)?;
+    for segment in segments {
+        let mut record = [0; 56];
+        segment.write_to(&mut record);
+        image.extend_from_slice(&record)?;
+    }
+    Ok(image)
+}
+
+fn fault_of(
+    alloc: Global,
+    header: &FileHeader,
+    segments: &[ProgramHeader],
+) -> Result<Option<LoadFault>, AllocError> {
+    let image = an_image(alloc, header, segments)?;
+    Ok(Memory::load(alloc, View::new(&image)).err())
+}
+
+#[test]
+fn a_segment_is_bytes_and_then_zeros(rt: HostRuntime) -> Result<(), Fail> {
+    let image = an_image(rt.alloc(), &HEADER, &[SEGMENT, STACK])?;
+    let memory = Memory::load(rt.alloc(), View::new(&image))?;
+    assert_eq!(rt; memory.byte(0x40_0001), Some(b'E'));
+    assert_eq!(rt; memory.byte(0x40_00b0), Some(0));
+    assert_eq!(rt; memory.byte(0x40_00c8), None);
+    assert_eq!(rt; memory.rights(0x40_0000), Some(Rights::Read));
+    assert_eq!(rt; memory.entry(), 0x40_0000);
+    Ok(())
+}
+
+#[test]
+fn headers_are_the_files(rt: HostRuntime) -> Result<(), Fail> {
+    let image = an_image(rt.alloc(), &HEADER, &[SEGMENT, STACK])?;
+    let memory = Memory::load(rt.alloc(), View::new(&image))?;
+    assert_eq!(rt; memory.image().len(), 176);
+    assert!(rt; memory.header() == HEADER);
+    assert!(rt; memory.segments() == [SEGMENT].as_slice());
+    assert_eq!(rt; memory.thread_blocks().len(), 0);
+    Ok(())
+}
+
+#[test]
+fn a_thread_block_is_told(rt: HostRuntime) -> Result<(), Fail> {
+    let header = FileHeader {
+        e_phnum: 3,
+        ..HEADER
+    };
+    let whole = ProgramHeader {
+        p_filesz: 232,
+        p_memsz: 232,
+        ..SEGMENT
+    };
+    let image = an_image(rt.alloc(), &header, &[whole, BLOCK, STACK])?;
+    let memory = Memory::load(rt.alloc(), View::new(&image))?;
+    assert!(rt; memory.thread_blocks() == [BLOCK].as_slice());
+    Ok(())
+}
+
+#[test]
+fn runs_lie_in_one_segment(rt: HostRuntime) -> Result<(), Fail> {
+    let image = an_image(rt.alloc(), &HEADER, &[SEGMENT, STACK])?;
+    let memory = Memory::load(rt.alloc(), View::new(&image))?;
+    let magic = memory.run(0x40_0000, 4).ok_or("mapped")?;
+    assert!(rt; magic.bytes == b"\x7fELF".as_slice());
+    assert_eq!(rt; magic.zeros, 0);
+    let last = memory.run(0x40_00ac, 28).ok_or("mapped")?;
+    assert_eq!(rt; last.bytes.len(), 4);
+    assert_eq!(rt; last.zeros, 24);
+    assert!(rt; memory.run(0x40_00ac, 29).is_none());
+    assert!(rt; memory.run(0x3f_ffff, 2).is_none());
+    Ok(())
+}
+
+#[test]
+fn faults_are_told(rt: HostRuntime) -> Result<(), Fail> {
+    let alloc = rt.alloc();
+    let object = FileHeader {
+        e_type: 1,
+        ..HEADER
+    };
+    let fault = fault_of(alloc, &object, &[SEGMENT, STACK])?;
+    assert!(rt; matches!(fault, Some(LoadFault::BadHeader)));
+    let any = ProgramHeader {
+        p_flags: 7,
+        ..SEGMENT
+    };
+    let fault = fault_of(alloc, &HEADER, &[any, STACK])?;
+    assert!(rt; matches!(fault, Some(LoadFault::BadSegment)));
+    let fault = fault_of(alloc, &HEADER, &[STACK, SEGMENT])?;
+    assert!(rt; matches!(fault, Some(LoadFault::Order)));
+    Ok(())
+}
+
+#[test]
+fn segments_share_no_page(rt: HostRuntime) -> Result<(), Fail> {
+    let header = FileHeader {
+        e_phnum: 3,
+        ..HEADER
+    };
+    let first = ProgramHeader {
+        p_filesz: 232,
+        p_memsz: 0x1001,
+        ..SEGMENT
+    };
+    let second = ProgramHeader {
+        p_flags: 6,
+        p_offset: 0x1000,
+        p_vaddr: 0x40_1000,
+        p_paddr: 0x40_1000,
+        p_filesz: 0,
+        p_memsz: 1,
+        ..SEGMENT
+    };
+    let fault = fault_of(rt.alloc(), &header, &[first, second, STACK])?;
+    assert!(rt; matches!(fault, Some(LoadFault::SharedPage)));
+    Ok(())
+}

@@ -1,0 +1,192 @@
+//! Texts of link maps.
+use elf_model::{Definition, DropLine, GotLine, ObjectLine, PlaceLine, SymbolLine};
+use linkmap::{LinkMap, MapFault, escape, ordered, print, read};
+use std::alloc::{AllocError, Global};
+use std::process::Abort;
+use std::test::Fail;
+
+const ONE_OBJECT: &[u8] = b"ldmap 1\n\
+    object 0 0 0 a.o\n\
+    place 0000000000401000 9 0 1 .text\n\
+    symbol 0000000000401000 strong 0 1 _start\n\
+    end\n";
+
+/// One line of each kind, every form of a slot and of a symbol, escapes and an empty name.
+const EACH_KIND: &[u8] = b"ldmap 1\n\
+    object 0 0 0 a.o\n\
+    object 1 2 78 lib\\x20dir/b.a\n\
+    drop 1 3\n\
+    drop 1 10\n\
+    place 0000000000401000 9 0 1 .text\n\
+    place 0000000000401010 18446744073709551615 1 2 \n\
+    common 0000000000403000 24 16 \\x5c\\xff\n\
+    got 0000000000402000 16\n\
+    slot 0000000000402000 value name f\n\
+    slot 0000000000402008 thread local 1 5\n\
+    symbol 0000000000403000 common \\x5c\\xff\n\
+    symbol ffffffffffffffff linker _end\n\
+    symbol 0000000000401000 strong 0 1 _start\n\
+    symbol 00000000abcdef09 weak 1 4 f\n\
+    end\n";
+
+const SAME_PLACE_TWICE: &[u8] = b"ldmap 1\n\
+    object 0 0 0 a.o\n\
+    place 0000000000401000 9 0 1 .text\n\
+    place 0000000000401000 9 0 1 .text\n\
+    symbol 0000000000401000 strong 0 1 _start\n\
+    end\n";
+
+const ZERO_IN_FRONT: &[u8] = b"ldmap 1\n\
+    object 0 0 0 a.o\n\
+    place 0000000000401000 09 0 1 .text\n\
+    symbol 0000000000401000 strong 0 1 _start\n\
+    end\n";
+
+fn reads_back(rt: &impl Abort, alloc: Global, bytes: &[u8]) -> Result<(), Fail> {
+    let map = read(alloc, bytes)?;
+    assert!(rt; ordered(&map));
+    let printed = print(alloc, &map)?;
+    assert!(rt; printed.as_slice() == bytes);
+    Ok(())
+}
+
+/// The line that the fault names, or 0 where there is no such fault.
+fn wrong_line(alloc: Global, bytes: &[u8]) -> u64 {
+    match read(alloc, bytes) {
+        Err(MapFault::Line(number)) => number,
+        Ok(_) | Err(MapFault::Memory) => 0,
+    }
+}
+
+#[test]
+fn reads_what_it_prints(rt: HostRuntime) -> Result<(), Fail> {
+    assert_eq!(rt; ONE_OBJECT.len(), 106);
+    reads_back(&rt, rt.alloc(), ONE_OBJECT)?;
+    reads_back(&rt, rt.alloc(), EACH_KIND)?;
+    Ok(())
+}
+
+#[test]
+fn finds_the_first_wrong_line(rt: HostRuntime) {
+    let without_newline = &ONE_OBJECT[..105];
+    let without_end = &ONE_OBJECT[..102];
+    for (text, line) in [
+        (SAME_PLACE_TWICE, 4),
+        (ZERO_IN_FRONT, 3),
+        (without_newline, 5),
+        (without_end, 5),
+        (b"".as_slice(), 1),
+        (b"ldmap 1\nend\n\n".as_slice(), 3),
+    ] {
+        let len = text.len();
+        assert_eq!(rt; wrong_line(rt.alloc(), text), line, "of {len} bytes");
+    }
+}
+
+#[test]
+fn escapes_names(rt: HostRuntime) -> Result<(), Fail> {
+    let spelling = escape(rt.alloc(), b"a b\\")?;
+    assert!(rt; spelling.as_slice() == b"a\\x20b\\x5c".as_slice());
+    let plain = escape(rt.alloc(), b".text")?;
+    assert!(rt; plain.as_slice() == b".text".as_slice());
+    let bytes = escape(rt.alloc(), b"\n\x7f\xc3!~")?;
+    assert!(rt; bytes.as_slice() == b"\\x0a\\x7f\\xc3!~".as_slice());
+    Ok(())
+}
+
+/// The map of one object with one section and one symbol, or one with another number of the object.
+fn map_of(alloc: Global, number: u64) -> Result<LinkMap, AllocError> {
+    let mut objects = Vec::new(alloc);
+    objects.push(ObjectLine {
+        object: number,
+        item: 0,
+        offset: 0,
+        path: Vec::from_slice(alloc, b"a.o")?,
+    })?;
+    let mut places = Vec::new(alloc);
+    places.push(PlaceLine {
+        address: 0x40_1000,
+        size: 9,
+        object: 0,
+        section: 1,
+        name: Vec::from_slice(alloc, b".text")?,
+    })?;
+    let mut symbols = Vec::new(alloc);
+    symbols.push(SymbolLine {
+        address: 0x40_1000,
+        definition: Definition::Strong {
+            object: 0,
+            symbol: 1,
+        },
+        name: Vec::from_slice(alloc, b"_start")?,
+    })?;
+    Ok(LinkMap {
+        objects,
+        drops: Vec::new(alloc),
+        places,
+        commons: Vec::new(alloc),
+        got: None,
+        slots: Vec::new(alloc),
+        symbols,
+    })
+}
+
+#[test]
+fn prints_its_lines(rt: HostRuntime) -> Result<(), Fail> {
+    let map = map_of(rt.alloc(), 0)?;
+    assert!(rt; ordered(&map));
+    let printed = print(rt.alloc(), &map)?;
+    assert!(rt; printed.as_slice() == ONE_OBJECT);
+    Ok(())
+}
+
+#[test]
+fn keys_ascend(rt: HostRuntime) -> Result<(), Fail> {
+    let alloc = rt.alloc();
+    assert!(rt; !ordered(&map_of(alloc, 1)?));
+    let mut map = map_of(alloc, 0)?;
+    for (object, section) in [(0, 9), (0, 10), (1, 2)] {
+        map.drops.push(DropLine { object, section })?;
+        assert!(rt; ordered(&map));
+    }
+    map.drops.push(DropLine {
+        object: 1,
+        section: 2,
+    })?;
+    assert!(rt; !ordered(&map));
+    Ok(())
+}
+
+/// Whether a map has the second object and the second place of the text with each kind of line.
+fn has_second_lines(map: &LinkMap) -> bool {
+    let (Some(object), Some(place)) = (map.objects.get(1), map.places.get(1)) else {
+        return false;
+    };
+    let numbers = [object.object, object.item, object.offset] == [1, 2, 78];
+    let path = object.path.as_slice() == b"lib dir/b.a".as_slice();
+    let numbers = numbers && [place.address, place.size] == [0x40_1010, u64::MAX];
+    numbers && path && place.name.is_empty()
+}
+
+#[test]
+fn reads_fields(rt: HostRuntime) -> Result<(), Fail> {
+    let map = read(rt.alloc(), EACH_KIND)?;
+    assert!(rt; has_second_lines(&map));
+    assert!(rt;
+        matches!(
+            map.got,
+            Some(GotLine {
+                address: 0x40_2000,
+                size: 16
+            })
+        )
+    );
+    let counts = [
+        map.drops.len(),
+        map.commons.len(),
+        map.slots.len(),
+        map.symbols.len(),
+    ];
+    assert_eq!(rt; counts, [2, 1, 2, 4]);
+    Ok(())
+}

@@ -1,0 +1,82 @@
+//! Views of bytes.
+use byteview::{View, all_byte, equal_run};
+use std::test::Fail;
+
+// An archive's index that lists `f` at 78, and the bytes of e_shoff 176.
+static INDEX: [u8; 10] = [0, 0, 0, 1, 0, 0, 0, 0x4e, b'f', 0];
+
+static OFFSET: [u8; 8] = [0xb0, 0, 0, 0, 0, 0, 0, 0];
+
+#[test]
+fn numbers_stand_in_either_order(rt: HostRuntime) -> Result<(), Fail> {
+    let index = View::new(&INDEX);
+    assert_eq!(rt; index.u32be(0), Some(1));
+    assert_eq!(rt; index.u32be(4), Some(78));
+    assert_eq!(rt; index.u64be(0), Some(0x1_0000_004e));
+    assert_eq!(rt; index.u32be(7), None);
+    let offset = View::new(&OFFSET);
+    assert_eq!(rt; offset.u16le(0), Some(176));
+    assert_eq!(rt; offset.u32le(0), Some(176));
+    assert_eq!(rt; offset.u64le(0), Some(176));
+    assert_eq!(rt; offset.u64le(1), None);
+    assert_eq!(rt; View::new(&[0xff; 8]).i64le(0), Some(-1));
+    assert_eq!(rt; offset.u16le(usize::MAX), None);
+    Ok(())
+}
+
+#[test]
+fn numbers_inside_are_read(rt: HostRuntime) -> Result<(), Fail> {
+    let index = View::new(&INDEX).sub(2, 8).ok_or("inside")?;
+    assert_eq!(rt; index.u8_inside(5), 0x4e);
+    assert_eq!(rt; index.u16_inside(5), 0x664e);
+    assert_eq!(rt; index.u32_inside(2), 0x4e00_0000);
+    assert_eq!(rt; index.u64_inside(0), 0x0066_4e00_0000_0100);
+    Ok(())
+}
+
+#[test]
+fn parts_end_inside(rt: HostRuntime) {
+    let index = View::new(&INDEX);
+    for (offset, len, inside) in [
+        (8, 2, true),
+        (8, 3, false),
+        (10, 0, true),
+        (11, 0, false),
+        (usize::MAX, usize::MAX, false),
+    ] {
+        let part = index.sub(offset, len);
+        assert_eq!(rt; part.is_some(), inside, "{len} bytes at {offset}");
+    }
+    assert_eq!(rt; index.part(8, usize::MAX).len(), 2);
+    assert_eq!(rt; index.part(usize::MAX, 1).len(), 0);
+}
+
+#[test]
+fn parts_have_their_bytes(rt: HostRuntime) -> Result<(), Fail> {
+    let name = View::new(&INDEX).sub(8, 2).ok_or("inside")?;
+    assert_eq!(rt; name.len(), 2);
+    assert!(rt; !name.is_empty());
+    assert_eq!(rt; name.u8_inside(0), b'f');
+    assert!(rt; name.bytes() == b"f\0".as_slice());
+    assert!(rt; View::new(&[]).is_empty());
+    Ok(())
+}
+
+#[test]
+fn texts_end_before_their_nul(rt: HostRuntime) {
+    let index = View::new(&INDEX);
+    assert!(rt; index.text_at(8) == Some(b"f".as_slice()));
+    assert!(rt; index.text_at(9) == Some(b"".as_slice()));
+    assert!(rt; index.text_at(10).is_none());
+    assert_eq!(rt; index.text_limit(), 10);
+    assert_eq!(rt; View::new(b"f").text_limit(), 0);
+}
+
+#[test]
+fn runs_are_compared_whole(rt: HostRuntime) -> Result<(), Fail> {
+    assert!(rt; equal_run(&INDEX, &INDEX));
+    assert!(rt; !equal_run(&INDEX, &OFFSET));
+    assert!(rt; all_byte(&[0x90; 5], 0x90));
+    assert!(rt; !all_byte(&OFFSET, 0));
+    Ok(())
+}

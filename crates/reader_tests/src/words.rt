@@ -1,0 +1,130 @@
+//! Words of a command, and the files that its plan may read.
+use command::{CmdFault, Source, candidates, file_named, path_of, read_words};
+use elf_model::InputFile;
+use std::alloc::{AllocError, Global};
+use std::test::Fail;
+
+/// The words of a line, cut at spaces.
+fn words(alloc: Global, line: &str) -> Result<Vec<String>, AllocError> {
+    let mut list = Vec::new(alloc);
+    for word in line.split_whitespace() {
+        list.push(String::from_str(alloc, word)?)?;
+    }
+    Ok(list)
+}
+
+/// The number of the fault that a line has, or 0.
+fn fault(alloc: Global, line: &str) -> Result<u8, AllocError> {
+    let words = words(alloc, line)?;
+    Ok(match read_words(alloc, &words) {
+        Ok(_) => 0,
+        Err(CmdFault::Memory) => 1,
+        Err(CmdFault::UnknownOption) => 2,
+        Err(CmdFault::MissingValue) => 3,
+        Err(CmdFault::BadNumber) => 4,
+        Err(CmdFault::GroupNesting) => 5,
+        Err(CmdFault::NoInput) => 6,
+        Err(CmdFault::NotArchiveInGroup) => 7,
+    })
+}
+
+#[test]
+fn faults(rt: HostRuntime) -> Result<(), Fail> {
+    let alloc = rt.alloc();
+    assert_eq!(rt; fault(alloc, "")?, 6);
+    assert_eq!(rt; fault(alloc, "a.o -o")?, 3);
+    assert_eq!(rt; fault(alloc, "-( a.o -)")?, 7);
+    assert_eq!(rt; fault(alloc, "a.o -( libx.a")?, 5);
+    assert_eq!(rt; fault(alloc, "a.o -( libx.a -( -)")?, 5);
+    assert_eq!(rt; fault(alloc, "a.o -)")?, 5);
+    assert_eq!(rt; fault(alloc, "a.o -Ttext-segment=0x1001")?, 4);
+    assert_eq!(rt; fault(alloc, "a.o -Ttext-segment=")?, 3);
+    assert_eq!(rt; fault(alloc, "-m elf_i386 a.o")?, 2);
+    assert_eq!(rt; fault(alloc, "-m elf_x86_64 -static -nostdlib a.o")?, 0);
+    assert_eq!(rt; fault(alloc, "a.o --check")?, 3);
+    assert_eq!(rt; fault(alloc, "a.o --check -Map=m")?, 0);
+    assert_eq!(rt; fault(alloc, "a.o -z now")?, 2);
+    Ok(())
+}
+
+#[test]
+fn defaults(rt: HostRuntime) -> Result<(), Fail> {
+    let words = words(rt.alloc(), "a.o")?;
+    let plan = read_words(rt.alloc(), &words)?;
+    assert_eq!(rt; plan.entry, "_start");
+    assert_eq!(rt; plan.output, "a.out");
+    assert_eq!(rt; plan.base, 0x40_0000);
+    assert!(rt; plan.map.is_none());
+    assert!(rt; !plan.check);
+    assert_eq!(rt; plan.items.len(), 1);
+    let item = plan.items[0];
+    assert!(rt; !item.archive && !item.whole && item.group.is_none());
+    assert!(rt; matches!(item.source, Source::Path("a.o")));
+    Ok(())
+}
+
+/// Has each setting, some twice, an object, a library in a group and an archive in another.
+static EACH_SETTING: &str =
+    "-Ttext-segment=0x10000 -e main a.o -e go -( --whole-archive -lx -) -Map=m -u f -( b.a -)";
+
+#[test]
+fn settings(rt: HostRuntime) -> Result<(), Fail> {
+    let words = words(rt.alloc(), EACH_SETTING)?;
+    let plan = read_words(rt.alloc(), &words)?;
+    assert_eq!(rt; plan.base, 0x1_0000);
+    assert_eq!(rt; plan.entry, "go");
+    assert_eq!(rt; plan.map, Some("m"));
+    assert_eq!(rt; plan.undefined.as_slice(), ["f"].as_slice());
+    Ok(())
+}
+
+#[test]
+fn items(rt: HostRuntime) -> Result<(), Fail> {
+    let words = words(rt.alloc(), EACH_SETTING)?;
+    let plan = read_words(rt.alloc(), &words)?;
+    assert_eq!(rt; plan.items.len(), 3);
+    let library = plan.items[1];
+    assert!(rt; library.archive && library.whole);
+    assert_eq!(rt; library.group, Some(0));
+    assert!(rt; matches!(library.source, Source::Library("x")));
+    assert_eq!(rt; plan.items[2].group, Some(1));
+    Ok(())
+}
+
+#[test]
+fn candidate_files(rt: HostRuntime) -> Result<(), Fail> {
+    let words = words(rt.alloc(), "a.o -L d1 -lx -Ld2 a.o d1/libx.a")?;
+    let plan = read_words(rt.alloc(), &words)?;
+    let files = candidates(rt.alloc(), &plan)?;
+    assert_eq!(rt; files.len(), 3);
+    assert_eq!(rt; files[0].as_str(), "a.o");
+    assert_eq!(rt; files[1].as_str(), "d1/libx.a");
+    assert_eq!(rt; files[2].as_str(), "d2/libx.a");
+    Ok(())
+}
+
+#[test]
+fn the_first_file_of_a_name_counts(rt: HostRuntime) -> Result<(), Fail> {
+    let alloc = rt.alloc();
+    let mut files = Vec::new(alloc);
+    for (name, byte) in [("a.o", 1), ("b.o", 2), ("a.o", 3)] {
+        files.push(InputFile {
+            name: String::from_str(alloc, name)?,
+            bytes: Vec::from_slice(alloc, &[byte])?,
+        })?;
+    }
+    assert!(rt; file_named(&files, "a.o") == Some([1].as_slice()));
+    assert!(rt; file_named(&files, "b.o") == Some([2].as_slice()));
+    assert!(rt; file_named(&files, "c.o").is_none());
+    Ok(())
+}
+
+#[test]
+fn libraries_have_no_path(rt: HostRuntime) -> Result<(), Fail> {
+    let words = words(rt.alloc(), "d/a.o -lx")?;
+    let plan = read_words(rt.alloc(), &words)?;
+    assert_eq!(rt; plan.items.len(), 2);
+    assert_eq!(rt; path_of(&plan.items[0]), "d/a.o");
+    assert_eq!(rt; path_of(&plan.items[1]), "");
+    Ok(())
+}

@@ -1,0 +1,62 @@
+//! The place of each definition, to be found by its object's and its own number.
+ghost use Rattle.std.specs.Prelude.{◌≡◌, IfOk, length, map, set};
+ghost use Rattle.elf_model.specs.ObjectFile.{symbols};
+ghost use Rattle.search.specs.Views.{loaded_views};
+ghost use Rattle.resolve.specs.Defined.{AreDefinitions};
+ghost use Rattle.resolve.specs.Places.{AreRanked, with_place};
+
+use crate::entries::SymbolOf;
+use search::Loaded;
+use std::alloc::{AllocError, Global};
+
+/// Rows of zeros, one for each object with one for each of its symbols.
+fn blank_rows(alloc: Global, objects: &[Loaded<'_>]) -> Result<Vec<Vec<usize>>, AllocError>
+    ensures { IfOk result (λ v. map (λ row. length row.items) v.items ≡ map (λ o. length (symbols o.bytes)) (loaded_views objects.now)) }
+{
+    let mut rows = Vec::with_capacity(alloc, objects.len())?;
+    for loaded in objects {
+        let entries = loaded.object.symbols();
+        rows.push(vec![in alloc; 0; entries.len()]?)?;
+    }
+    Ok(rows)
+}
+
+/// Writes a place at a number, where the row has it.
+fn put_in(row: &mut Vec<usize>, number: usize, place: usize)
+    ensures { row.new.items ≡ set row.old.items number place }
+{
+    if let Some(cell) = row.get_mut(number) {
+        *cell = place;
+    }
+}
+
+/// Writes the place for symbol `number` of an object, where the rows have it.
+fn put(rows: &mut Vec<Vec<usize>>, object: usize, number: usize, place: usize)
+    ensures { map (λ row. row.items) rows.new.items ≡ with_place object number place (map (λ row. row.items) rows.old.items) }
+{
+    if object >= rows.len() {
+        return;
+    }
+    put_in(&mut rows[object], number, place);
+}
+
+/// The place of each definition, in rows for the symbols of each object.
+pub fn ranks_of(
+    alloc: Global,
+    objects: &[Loaded<'_>],
+    definitions: &[SymbolOf<'_>],
+) -> Result<Vec<Vec<usize>>, AllocError>
+    requires { AreDefinitions (loaded_views objects.now) definitions.now }
+    ensures { IfOk result (λ v. AreRanked definitions.now v.items) }
+{
+    let mut ranks = blank_rows(alloc, objects)?;
+    for (place, symbol) in definitions.iter().enumerate() {
+        put(
+            &mut ranks,
+            symbol.object as usize,
+            symbol.number as usize,
+            place,
+        );
+    }
+    Ok(ranks)
+}
