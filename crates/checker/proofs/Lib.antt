@@ -15,7 +15,6 @@ pub mod NextPieces
 pub mod ObjectFields
 pub mod OpenedLemmas
 pub mod Padded
-pub mod PairsPermuted
 pub mod Parts
 pub mod PartsOfLists
 pub mod PieceLemmas
@@ -26,7 +25,6 @@ pub mod PlacedFacts
 pub mod PlainNames
 pub mod ProfileLemmas
 pub mod Regions
-pub mod Rests
 pub mod RightParts
 pub mod RowFacts
 pub mod RowLookup

@@ -6,7 +6,7 @@ use Rattle.elf_model.specs.MapRecord.{object_row, place_row}
 use Rattle.elf_model.specs.RightLink.{facts_of_piece, facts_of_row, object_rows}
 use Rattle.elf_model.specs.declared.link_map.ObjectLine.{ObjectLine}
 use Rattle.elf_model.specs.declared.link_map.PlaceLine.{PlaceLine}
-use Rattle.checker.proofs.Rests.{Left}
+use Rattle.elf_model.proofs.Rests.{Left}
 use Rattle.checker.specs.Subjects.{row_of}
 use Rattle.checker.specs.Views.{loaded_view, loaded_views, piece_view, piece_views}
 use Rattle.checker.specs.declared.things.Loaded.{Loaded}

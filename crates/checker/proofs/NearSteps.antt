@@ -10,7 +10,7 @@ use Rattle.checker.specs.Views.{placed_view, placed_views}
 use Rattle.checker.specs.declared.output.OutputSection.{OutputSection}
 use Rattle.checker.specs.declared.things.Placed.{Placed}
 use Rattle.checker.proofs.NextPieces.{HasLasts, IsLast, NearFrom, StandsAt, lasts_more, near_more, near_stop}
-use Rattle.checker.proofs.Rests.{Left}
+use Rattle.elf_model.proofs.Rests.{Left}
 
 abbrev pub NearLast : List Placed → Placed → Option ℕ → Type 0
 NearLast placed next o = IfSome o (λ i. IsNear (placed_view (get_or placed i next)) (placed_view next))

@@ -8,7 +8,7 @@ use Rattle.elf_model.specs.Placement.{IsNear, IsNext, Placed}
 use Rattle.checker.specs.Neighbours.{IsOutputSection, section_order}
 use Rattle.checker.specs.declared.output.OutputSection.{OutputSection}
 use Rattle.checker.proofs.Padded.{below_or_not}
-use Rattle.checker.proofs.Rests.{Left}
+use Rattle.elf_model.proofs.Rests.{Left}
 use Rattle.checker.proofs.SameOutput.{differ_by_third, same_by_third, sections_tie}
 
 -- of the first j pieces, number i is the last that is of one output section with q

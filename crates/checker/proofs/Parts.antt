@@ -16,7 +16,7 @@ use Rattle.loader_model.proofs.TableOrder.{ascending_loads}
 use Rattle.checker.specs.Filled.{HasZeroGaps, SegmentFilled, part_of}
 use Rattle.checker.specs.Sweeps.{EndFits, RegionFilled}
 use Rattle.checker.proofs.Padded.{below_or_not}
-use Rattle.checker.proofs.Rests.{All-unmap}
+use Rattle.elf_model.proofs.Rests.{All-unmap}
 
 abbrev GoodIn : List ℕ → ProgramHeader → Type 0
 GoodIn image h = IsGoodLoad (first_address (loads image)) (length image) h

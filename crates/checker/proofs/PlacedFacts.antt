@@ -16,7 +16,7 @@ use Rattle.checker.specs.Bytes.{LiesWhole}
 use Rattle.checker.specs.Views.{placed_view, placed_views}
 use Rattle.checker.specs.declared.things.Placed.{Placed}
 use Rattle.checker.proofs.PieceLemmas.{all_short}
-use Rattle.checker.proofs.Rests.{All-unmap}
+use Rattle.elf_model.proofs.Rests.{All-unmap}
 
 -- pieces keep what all of them have where they are placed
 abbrev Short : pieces.Piece → Type 0

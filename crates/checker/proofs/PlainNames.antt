@@ -14,7 +14,7 @@ use Rattle.elf_model.specs.Loading.{LoadedObject}
 use Rattle.elf_model.specs.Profile.{HasPlainNames, linker_names}
 use Rattle.elf_model.specs.Resolution.{SymbolOf, chosen, has_name, strong_definitions}
 use Rattle.elf_read.specs.Names.{name_views}
-use Rattle.checker.proofs.Rests.{All-unmap}
+use Rattle.elf_model.proofs.Rests.{All-unmap}
 use Rattle.checker.specs.Plain.{AreNamesOf, IsAmong, is_among, used_names}
 
 abbrev pub Name : Type 0

@@ -8,7 +8,7 @@ use Rattle.elf_model.specs.Loading.{LoadedObject}
 use Rattle.elf_model.specs.Profile.{HasPlainNames, IsInProfile, IsPlainObject}
 use Rattle.command.specs.Views.{item_of}
 use Rattle.command.specs.declared.items.Item.{Item}
-use Rattle.checker.proofs.Rests.{All-unmap}
+use Rattle.elf_model.proofs.Rests.{All-unmap}
 use Rattle.checker.specs.Views.{loaded_view, loaded_views}
 use Rattle.checker.specs.declared.things.Loaded.{Loaded}
 

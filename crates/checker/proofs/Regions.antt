@@ -8,7 +8,7 @@ use Rattle.elf_model.specs.Placement.{Covers}
 use Rattle.elf_model.specs.declared.thing.Thing.{Thing}
 use Rattle.checker.specs.Sweeps.{FilledFrom, GapIs}
 use Rattle.checker.proofs.Padded.{below_or_not}
-use Rattle.checker.proofs.Rests.{Left}
+use Rattle.elf_model.proofs.Rests.{Left}
 use Rattle.checker.proofs.Sweep.{front, rises}
 
 abbrev pub IsFill : List ℕ → ℕ → ℕ → ℕ → Type 0

@@ -10,7 +10,7 @@ use Rattle.elf_model.specs.Placement.{Placed}
 use Rattle.elf_model.specs.Relocation.{AreFieldsApart, Relocation}
 use Rattle.checker.specs.Fields.{AreRight, IsRight, field_of}
 use Rattle.checker.specs.declared.fields.Field.{Field}
-use Rattle.checker.proofs.Rests.{Left}
+use Rattle.elf_model.proofs.Rests.{Left}
 
 module _ {X : Type 0} (P : X → Type 0) where
   pub All-left : (xs ys : List X) → All P (xs ++ ys) → All P xs

@@ -10,7 +10,7 @@ use Rattle.elf_model.proofs.Pairs.{AllPairs-head, AllPairs-tail}
 use Rattle.checker.specs.Bytes.{EndsBefore, FitsIn, WantedFrom, byte_of, covers}
 use Rattle.checker.specs.declared.fields.Field.{Field}
 use Rattle.checker.proofs.Padded.{SamePadded, below_or_not}
-use Rattle.checker.proofs.Rests.{Left}
+use Rattle.elf_model.proofs.Rests.{Left}
 
 below_field : (k : ℕ) (f : Field) → k < f.at → covers k f ≡ false
 below_field k f low = grind (arith, nat_tests)

@@ -9,7 +9,7 @@ use Rattle.elf_model.specs.RightLink.{EndsRight, HasNothingElse, IsOfSegment}
 use Rattle.elf_model.specs.declared.records.ProgramHeader.{ProgramHeader}
 use Rattle.elf_model.specs.declared.thing.Thing.{Thing}
 use Rattle.checker.specs.Sweeps.{FilledFrom, RegionFilled}
-use Rattle.checker.proofs.Rests.{Left}
+use Rattle.elf_model.proofs.Rests.{Left}
 
 -- what some element of a list is, some element of another is that has those that can be it
 any_moved :

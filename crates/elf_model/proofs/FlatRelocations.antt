@@ -1,14 +1,12 @@
 -- The kept relocations of all objects, object after object, section after section, entry after entry: what a
 -- loop has still to come through. The lists of objects, of sections and of entries are given by what is left
 -- of them, `drop i`, and the objects as a view of each.
-use Rattle.std.proofs.Common.{◌≡◌, ℕ, suc, ◌+◌, ◌<◌, ◌≤◌, Bool, true, false, cond, List, [], ◌∷◌, ◌++◌, length, get_or, drop, map, drop-cons, refl, sym, ap, subst, ◌∙◌, arith}
-use Rattle.std.specs.Prelude.{All, AllPairs, filter}
+use Rattle.std.proofs.Common.{◌≡◌, ℕ, suc, ◌+◌, ◌<◌, ◌≤◌, Bool, true, false, cond, List, [], ◌∷◌, ◌++◌, length, get_or, drop, map, drop-cons, refl, ap, ◌∙◌, arith}
+use Rattle.std.specs.Prelude.{filter}
 use Rattle.std.specs.List.{flat_map}
 use Rattle.std.proofs.lemmas.List.{drop_all}
-use Rattle.std.proofs.lemmas.List.Elements.{All-append, All-from_get_or, All-nil, All-weaker}
-use Rattle.elf_model.proofs.Pairs.{AllPairs-append}
 use Rattle.elf_model.specs.Loading.{LoadedObject}
-use Rattle.elf_model.specs.Relocation.{AreFieldsApart, Relocation, is_in_field, is_kept_rela, is_some_kind, relocation_of, relocations_from, relocations_in, relocations_of}
+use Rattle.elf_model.specs.Relocation.{Relocation, is_kept_rela, is_some_kind, relocation_of, relocations_from, relocations_in, relocations_of}
 use Rattle.elf_model.specs.declared.records.Rela.{Rela}
 use Rattle.elf_model.specs.declared.records.SectionHeader.{SectionHeader}
 

@@ -1,11 +1,11 @@
 -- The bytes of places with fill between them, one more place at a time.
-use Rattle.std.proofs.Common.{◌≡◌, ℕ, ◌+◌, ◌<◌, ◌≤◌, true, false, List, [], ◌∷◌, ◌++◌, get_or, drop, length, refl, sym, ◌∙◌, ap, append_assoc, subst}
+use Rattle.std.proofs.Common.{◌≡◌, ℕ, ◌+◌, ◌<◌, ◌≤◌, true, false, List, ◌∷◌, ◌++◌, get_or, drop, length, refl, sym, ◌∙◌, ap, append_assoc, subst}
 use Rattle.elf_model.specs.Loading.{LoadedObject}
 use Rattle.elf_model.specs.OwnLayout.{placed_end}
 use Rattle.elf_model.specs.Placement.{Placed}
 use Rattle.layout.specs.PlaceViews.{place_view, place_views}
 use Rattle.layout.specs.declared.running.Place.{Place}
-use Rattle.layout.proofs.Rests.{rest_at}
+use Rattle.elf_model.proofs.Rests.{rest_at}
 use Rattle.image_write.specs.Parts.{Rise, body_from, bytes_of, fill_run, is_written}
 use Rattle.image_write.specs.declared.filling.Code.{Code}
 use Rattle.image_write.proofs.BodyBytes.{rise_order}

@@ -1,7 +1,7 @@
 -- The own places follow each other, and their bytes with the fill between them are those of the image file.
-use Rattle.std.proofs.Common.{◌≡◌, ◌==◌, ℕ, ◌+◌, ◌-◌, ◌<◌, ◌≤◌, ◌^◌, ◌&&◌, ◌⊎◌, inl, inr, Bool, true, false, cond, List, [], ◌∷◌, ◌++◌, refl, sym, ◌∙◌, ap, subst, arith}
+use Rattle.std.proofs.Common.{◌≡◌, ◌==◌, ℕ, ◌+◌, ◌-◌, ◌<◌, ◌≤◌, ◌^◌, ◌&&◌, ◌⊎◌, inl, inr, true, false, List, ◌++◌, refl, sym, ◌∙◌, ap, subst, arith}
 use Rattle.std.specs.Prelude.{All, Any, Contains, map, nat_le, nat_lt}
-use Rattle.std.specs.List.{list_any, range_with_len}
+use Rattle.std.specs.List.{range_with_len}
 use Rattle.std.proofs.lemmas.Bool.{and_from, and_parts, cases_Bool, eqb-true, false_from_ne_true, leb-true, ltb-true, lt-ltb, true≢false}
 use Rattle.std.proofs.lemmas.List.{append-nil}
 use Rattle.std.proofs.lemmas.List.Elements.{All-contains}
@@ -14,7 +14,6 @@ use Rattle.elf_model.specs.Pieces.{AreLawfulKinds}
 use Rattle.elf_model.specs.Placement.{Placed}
 use Rattle.elf_model.specs.WantedBytes.{wanted_byte}
 use Rattle.elf_model.specs.declared.records.ProgramHeader.{ProgramHeader}
-use Rattle.elf_model.proofs.Finding.{Any-here}
 use Rattle.elf_model.proofs.Listed.{All-from_contains, Contains-here}
 use Rattle.elf_model.proofs.Places.{AreOwnPlaced, are_own_placed, own_ascending}
 use Rattle.own_link.proofs.Bytes.{byte_cases, covers-true, maps-true, one_segment, piece_byte}
@@ -25,7 +24,7 @@ use Rattle.own_link.proofs.Segments.{AreGoodParts, own_parts, own_segments_are, 
 use Rattle.own_link.proofs.SegmentsOwn.{own_parts_good}
 use Rattle.own_link.proofs.ZeroFilled.{own_wants_zero}
 use Rattle.image_write.specs.Parts.{EndsLow, Rise, body_from, code_part, fill_byte, is_written}
-use Rattle.image_write.proofs.BodyBytes.{BeginsAbove, EndsAt, FillsFrom, IsBare, Wants, body_is, rise_of}
+use Rattle.image_write.proofs.BodyBytes.{BeginsAbove, EndsAt, FillsFrom, Wants, body_is, rise_of}
 use Rattle.image_write.proofs.Fills.{own_fill_is}
 
 module _ (base : ℕ) (objects : List LoadedObject) (based : IsBase base) (good : AreObjects objects) (kinds : AreLawfulKinds objects) (fits : IsNotTooLarge base objects) where

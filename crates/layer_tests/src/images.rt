@@ -5,21 +5,19 @@ ghost use Rattle.search.specs.Views.{loaded_views};
 use crate::objects::{DATA, RODATA, TEXT, load_both, object_of};
 use crate::values::patched;
 use byteview::View;
-use elf_model::{LinkError, SectionHeader};
+use elf_model::SectionHeader;
 use image_write::image;
-use layout::{Placement, are_lawful_kinds, place};
+use layout::{Placement, kinds, place};
 use relocate::Patches;
 use search::Loaded;
 use std::alloc::Global;
 use std::test::Fail;
 
 /// The image of loaded objects from 0x400000 on, which is entered at an address.
-fn image_of(alloc: Global, objects: &[Loaded<'_>], entry: u64) -> Result<Vec<u8>, LinkError>
+fn image_of(alloc: Global, objects: &[Loaded<'_>], entry: u64) -> Result<Vec<u8>, Fail>
     requires { AreObjects (loaded_views objects.now) }
 {
-    if !are_lawful_kinds(objects) {
-        return Err(LinkError::SectionKind);
-    }
+    kinds(objects)?;
     let tables = place(alloc, objects, 0x400000)?;
     let placement = Placement::new(0x400000, &*objects, &tables);
     let table = patched(alloc, objects, &placement)?;
@@ -28,11 +26,7 @@ fn image_of(alloc: Global, objects: &[Loaded<'_>], entry: u64) -> Result<Vec<u8>
 }
 
 /// The image of two objects with these sections.
-fn image_of_both(
-    alloc: Global,
-    a: &[SectionHeader],
-    b: &[SectionHeader],
-) -> Result<Vec<u8>, LinkError> {
+fn image_of_both(alloc: Global, a: &[SectionHeader], b: &[SectionHeader]) -> Result<Vec<u8>, Fail> {
     let a = object_of(alloc, a)?;
     let b = object_of(alloc, b)?;
     let objects = load_both(alloc, &a, &b)?;
@@ -51,20 +45,21 @@ fn headers_stand_in_front(rt: HostRuntime) -> Result<(), Fail> {
     // bytes, which begin with p_type and p_flags and have p_filesz at 32. PT_GNU_STACK is 0x6474e551. The
     // first segment has the headers alone, 232 bytes, and the second the nine bytes of code.
     assert_eq!(rt; image.len(), 4105);
-    assert!(rt; has(&image, 0, b"\x7fELF"));
-    assert!(rt; has(&image, 24, &[0, 0x10, 0x40, 0, 0, 0, 0, 0]));
-    assert!(rt; has(&image, 56, &[3, 0]));
-    assert!(rt; has(&image, 64, &[1, 0, 0, 0, 4, 0, 0, 0]));
-    assert!(rt; has(&image, 96, &[232, 0, 0, 0, 0, 0, 0, 0]));
-    assert!(rt; has(&image, 120, &[1, 0, 0, 0, 5, 0, 0, 0]));
-    assert!(rt; has(&image, 176, &[0x51, 0xe5, 0x74, 0x64, 6, 0, 0, 0]));
-    assert!(rt;
-        has(
-            &image,
+    for (at, bytes) in [
+        (0, b"\x7fELF".as_slice()),
+        (24, [0, 0x10, 0x40, 0, 0, 0, 0, 0].as_slice()),
+        (56, [3, 0].as_slice()),
+        (64, [1, 0, 0, 0, 4, 0, 0, 0].as_slice()),
+        (96, [232, 0, 0, 0, 0, 0, 0, 0].as_slice()),
+        (120, [1, 0, 0, 0, 5, 0, 0, 0].as_slice()),
+        (176, [0x51, 0xe5, 0x74, 0x64, 6, 0, 0, 0].as_slice()),
+        (
             0x1000,
-            &[0xb8, 0x3c, 0, 0, 0, 0x31, 0xff, 0x0f, 0x05]
-        )
-    );
+            [0xb8, 0x3c, 0, 0, 0, 0x31, 0xff, 0x0f, 0x05].as_slice(),
+        ),
+    ] {
+        assert!(rt; has(&image, at, bytes), "at {at}");
+    }
     Ok(())
 }
 

@@ -2,6 +2,8 @@
 #![tactic(auto)]
 
 #[cfg(test)]
+mod faults;
+#[cfg(test)]
 mod images;
 #[cfg(test)]
 mod loading;
@@ -11,5 +13,7 @@ mod meanings;
 mod objects;
 #[cfg(test)]
 mod places;
+#[cfg(test)]
+mod thread_storage;
 #[cfg(test)]
 mod values;

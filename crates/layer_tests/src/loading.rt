@@ -1,8 +1,8 @@
 //! Loading of objects.
 use crate::objects::{DATA, TEXT, object_of};
 use command::read_words;
-use elf_model::{InputFile, LinkError, ObjFault};
-use search::{Loaded, load};
+use elf_model::{CmdFault, InputFile, ObjFault};
+use search::{Loaded, SearchFault, load};
 use std::alloc::{AllocError, Global};
 use std::test::Fail;
 
@@ -29,16 +29,15 @@ fn files(alloc: Global, a: Vec<u8>, b: Vec<u8>) -> Result<Vec<InputFile>, AllocE
     Ok(list)
 }
 
-/// The objects that words load.
+/// What comes of the loading of the objects that words name.
 fn load_words<'a>(
     alloc: Global,
     words: &'a [String],
     files: &'a [InputFile],
-) -> Result<Vec<Loaded<'a>>, LinkError> {
-    let Ok(plan) = read_words(alloc, words) else {
-        return Err(LinkError::NotYet);
-    };
-    load(alloc, &plan, files)
+) -> Result<Result<Vec<Loaded<'a>>, SearchFault>, CmdFault> {
+    let plan = read_words(alloc, words)?;
+    let objects = load(alloc, &plan, files);
+    Ok(objects)
 }
 
 /// Whether an object is of an item, of a path, and has a number of sections.
@@ -53,7 +52,7 @@ fn objects_stand_in_command_order(rt: HostRuntime) -> Result<(), Fail> {
     let b = object_of(alloc, &[DATA, TEXT])?;
     let files = files(alloc, a, b)?;
     let words = words(alloc, "b.o x.a a.o b.o")?;
-    let objects = load_words(alloc, &words, &files)?;
+    let objects = load_words(alloc, &words, &files)??;
     assert_eq!(rt; objects.len(), 3);
     assert!(rt; is_loaded(&objects[0], 0, "b.o", 4));
     assert!(rt; is_loaded(&objects[1], 2, "a.o", 3));
@@ -62,15 +61,13 @@ fn objects_stand_in_command_order(rt: HostRuntime) -> Result<(), Fail> {
 }
 
 /// What the loading of a line's items fails with; `b.o` is the beginning of an object.
-fn refusal(alloc: Global, line: &str) -> Result<Option<LinkError>, Fail> {
+fn refusal(alloc: Global, line: &str) -> Result<Option<SearchFault>, Fail> {
     let a = object_of(alloc, &[TEXT])?;
     let b = Vec::from_slice(alloc, &[0; 63])?;
     let files = files(alloc, a, b)?;
     let words = words(alloc, line)?;
-    match load_words(alloc, &words, &files) {
-        Ok(_) => Ok(None),
-        Err(error) => Ok(Some(error)),
-    }
+    let objects = load_words(alloc, &words, &files)?;
+    Ok(objects.err())
 }
 
 #[test]
@@ -78,8 +75,8 @@ fn missing_files_come_before_bad_objects(rt: HostRuntime) -> Result<(), Fail> {
     let alloc = rt.alloc();
     assert!(rt; refusal(alloc, "a.o")?.is_none());
     let bad = refusal(alloc, "a.o b.o")?;
-    assert!(rt; matches!(&bad, Some(LinkError::BadObject(ObjFault::Truncated))));
+    assert!(rt; matches!(&bad, Some(SearchFault::BadObject(ObjFault::Truncated))));
     let missing = refusal(alloc, "b.o c.o")?;
-    assert!(rt; matches!(&missing, Some(LinkError::FileMissing)));
+    assert!(rt; matches!(&missing, Some(SearchFault::FileMissing)));
     Ok(())
 }

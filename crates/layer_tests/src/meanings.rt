@@ -2,8 +2,8 @@
 use crate::objects::{
     DATA, ENTRY, ETEXT_NAME, F_NAME, G_NAME, START_NAME, SYMBOLS, TEXT, load_both, object_with,
 };
-use elf_model::{LinkError, Rela, SHF_ALLOC, SHF_TLS, SHF_WRITE, SectionHeader, Symbol};
-use resolve::{Resolved, SymbolOf, have_plain_names, resolve};
+use elf_model::{Rela, SHF_ALLOC, SHF_TLS, SHF_WRITE, SectionHeader, Symbol};
+use resolve::{ResolveFault, Resolved, SymbolOf, have_plain_names, resolve};
 use std::alloc::{AllocError, Global};
 use std::process::Abort;
 use std::test::Fail;
@@ -43,11 +43,14 @@ fn numbers(symbol: Option<SymbolOf<'_>>) -> Option<(u64, u64)> {
     Some((symbol.object, symbol.number))
 }
 
-fn assert_definitions(rt: &impl Abort, resolved: &Resolved<'_, '_>) {
-    let definitions = resolved.definitions();
+fn assert_names(rt: &impl Abort, definitions: &[SymbolOf<'_>]) {
     assert_eq!(rt; definitions.len(), 2);
     assert!(rt; definitions[0].name == b"f".as_slice());
     assert!(rt; definitions[1].name == b"g".as_slice());
+}
+
+fn assert_definitions(rt: &impl Abort, resolved: &Resolved<'_, '_>) {
+    assert_names(rt, resolved.definitions());
     assert!(rt; numbers(resolved.chosen(b"f")) == Some((1, 2)));
     assert!(rt; resolved.chosen(b"h").is_none());
     // A name of another object, a LOCAL symbol itself, symbol number 0, no object.
@@ -70,6 +73,7 @@ fn names_mean_strong_definitions(rt: HostRuntime) -> Result<(), Fail> {
     let objects = load_both(alloc, &a, &b)?;
     let resolved = resolve(alloc, &objects)?;
     assert_definitions(&rt, &resolved);
+    assert_names(&rt, &resolved.into_definitions());
     Ok(())
 }
 
@@ -95,11 +99,7 @@ fn the_entry_stands_outside_thread_storage(rt: HostRuntime) -> Result<(), Fail> 
 }
 
 /// What the names of two objects are refused for.
-fn refusal(
-    alloc: Global,
-    a: &[Symbol; 2],
-    b: &[Symbol; 2],
-) -> Result<Option<LinkError>, LinkError> {
+fn refusal(alloc: Global, a: &[Symbol; 2], b: &[Symbol; 2]) -> Result<Option<ResolveFault>, Fail> {
     let a = object_of(alloc, a)?;
     let b = object_of(alloc, b)?;
     let objects = load_both(alloc, &a, &b)?;
@@ -112,10 +112,10 @@ fn unsound_symbols_are_refused(rt: HostRuntime) -> Result<(), Fail> {
     let sound = [global(START_NAME, 2), global(F_NAME, 2)];
     let twice = refusal(alloc, &sound, &[local(2), global(F_NAME, 2)])?;
     assert!(rt;
-        matches!(&twice, Some(LinkError::Duplicate(name)) if name.as_slice() == b"f".as_slice())
+        matches!(&twice, Some(ResolveFault::Duplicate(name)) if name.as_slice() == b"f".as_slice())
     );
     let nameless = refusal(alloc, &sound, &[local(2), global(0, 2)])?;
-    assert!(rt; matches!(&nameless, Some(LinkError::BadSymbol)));
+    assert!(rt; matches!(&nameless, Some(ResolveFault::BadSymbol)));
     let last = Symbol {
         st_value: 9,
         ..local(2)
@@ -126,12 +126,12 @@ fn unsound_symbols_are_refused(rt: HostRuntime) -> Result<(), Fail> {
         ..last
     };
     let behind = refusal(alloc, &sound, &[behind, local(0)])?;
-    assert!(rt; matches!(&behind, Some(LinkError::BadSymbol)));
+    assert!(rt; matches!(&behind, Some(ResolveFault::BadSymbol)));
     Ok(())
 }
 
 /// Whether the linker's names have definitions where an object uses `_etext` and another has a symbol.
-fn are_plain(alloc: Global, other: Symbol) -> Result<bool, LinkError> {
+fn are_plain(alloc: Global, other: Symbol) -> Result<bool, Fail> {
     let entries = SectionHeader {
         sh_link: 3,
         sh_info: 2,

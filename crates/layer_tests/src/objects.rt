@@ -6,12 +6,13 @@ ghost use Rattle.search.specs.Views.{loaded_views};
 
 use byteview::View;
 use elf_model::{
-    EM_X86_64, ET_REL, FileHeader, LinkError, ObjFault, Rela, SHF_ALLOC, SHF_EXECINSTR, SHF_WRITE,
-    SHT_NOBITS, SHT_NULL, SHT_PROGBITS, SHT_RELA, SHT_STRTAB, SHT_SYMTAB, SectionHeader, Symbol,
+    EM_X86_64, ET_REL, FileHeader, ObjFault, Rela, SHF_ALLOC, SHF_EXECINSTR, SHF_WRITE, SHT_NOBITS,
+    SHT_NULL, SHT_PROGBITS, SHT_RELA, SHT_STRTAB, SHT_SYMTAB, SectionHeader, Symbol,
 };
 use elf_read::Object;
 use search::Loaded;
 use std::alloc::{AllocError, Global};
+use std::test::Fail;
 
 pub const NULL_SECTION: SectionHeader = SectionHeader {
     sh_name: 0,
@@ -213,29 +214,20 @@ fn load<'a>(alloc: Global, bytes: &'a [u8]) -> Result<Loaded<'a>, ObjFault>
 }
 
 /// The object of a file, alone.
-pub fn load_alone<'a>(alloc: Global, bytes: &'a [u8]) -> Result<Vec<Loaded<'a>>, LinkError>
+pub fn load_alone<'a>(alloc: Global, bytes: &'a [u8]) -> Result<Vec<Loaded<'a>>, Fail>
     ensures { IfOk result (λ v. AreObjects (loaded_views v.items)) }
 {
+    let object = load(alloc, bytes)?;
     let mut objects = Vec::new(alloc);
-    let Ok(first) = load(alloc, bytes) else {
-        return Err(LinkError::NotYet);
-    };
-    objects.push(first)?;
+    objects.push(object)?;
     Ok(objects)
 }
 
 /// The objects of two files.
-pub fn load_both<'a>(alloc: Global, a: &'a [u8], b: &'a [u8]) -> Result<Vec<Loaded<'a>>, LinkError>
+pub fn load_both<'a>(alloc: Global, a: &'a [u8], b: &'a [u8]) -> Result<Vec<Loaded<'a>>, Fail>
     ensures { IfOk result (λ v. AreObjects (loaded_views v.items)) }
 {
-    let mut objects = Vec::new(alloc);
-    let Ok(first) = load(alloc, a) else {
-        return Err(LinkError::NotYet);
-    };
-    let Ok(second) = load(alloc, b) else {
-        return Err(LinkError::NotYet);
-    };
-    objects.push(first)?;
-    objects.push(second)?;
+    let mut objects = load_alone(alloc, a)?;
+    objects.push(load(alloc, b)?)?;
     Ok(objects)
 }

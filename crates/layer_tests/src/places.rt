@@ -1,11 +1,11 @@
 //! Layouts: where pieces stand, and in which segments.
 use crate::objects::{BSS, DATA, NOTES_NAME, RODATA, RODATA_B_NAME, TEXT, load_both, object_of};
 use elf_model::{
-    LinkError, PT_LOAD, ProgramHeader, SHF_ALLOC, SHF_EXECINSTR, SHF_LINK_ORDER, SHF_TLS,
-    SHF_WRITE, SHT_STRTAB, SectionHeader,
+    PT_LOAD, ProgramHeader, SHF_ALLOC, SHF_EXECINSTR, SHF_LINK_ORDER, SHF_TLS, SHF_WRITE,
+    SHT_STRTAB, SectionHeader,
 };
-use layout::{Place, Placement, are_lawful_kinds, output_name, place};
-use std::alloc::Global;
+use layout::{LayoutFault, Place, Placement, kinds, output_name, place};
+use std::alloc::{AllocError, Global};
 use std::test::Fail;
 
 /// What a layout says: its base, the object, the section and the address of each place, the segments, and how many
@@ -23,7 +23,7 @@ fn tells(placement: &Placement<'_, '_>, place: &Place<'_>) -> bool {
     placement.address(place.piece.object as usize, place.piece.section as usize) == Some(place.at)
 }
 
-fn summary_of(alloc: Global, placement: &Placement<'_, '_>) -> Result<Summary, LinkError> {
+fn summary_of(alloc: Global, placement: &Placement<'_, '_>) -> Result<Summary, AllocError> {
     let mut places = Vec::new(alloc);
     for place in placement.places() {
         places.push((place.piece.object, place.piece.section, place.at))?;
@@ -42,31 +42,27 @@ fn summary_of(alloc: Global, placement: &Placement<'_, '_>) -> Result<Summary, L
 }
 
 /// The layout of the objects of two files from 0x400000 on.
-fn lay_out(alloc: Global, a: &[u8], b: &[u8]) -> Result<Summary, LinkError> {
+fn lay_out(alloc: Global, a: &[u8], b: &[u8]) -> Result<Summary, Fail> {
     let objects = load_both(alloc, a, b)?;
     let tables = place(alloc, &objects, 0x400000)?;
     let placement = Placement::new(0x400000, &objects, &tables);
-    summary_of(alloc, &placement)
+    Ok(summary_of(alloc, &placement)?)
 }
 
-/// Whether the kinds of the kept sections of two files' objects are lawful.
-fn are_lawful(alloc: Global, a: &[u8], b: &[u8]) -> Result<bool, LinkError> {
-    let objects = load_both(alloc, a, b)?;
-    Ok(are_lawful_kinds(&objects))
-}
-
-/// An object with one section is judged.
-fn is_lawful(alloc: Global, section: SectionHeader) -> Result<bool, Fail> {
+/// What the kinds of an object with one section are refused for.
+fn refusal(alloc: Global, section: SectionHeader) -> Result<Option<LayoutFault>, Fail> {
     let text = object_of(alloc, &[TEXT])?;
     let other = object_of(alloc, &[section])?;
-    Ok(are_lawful(alloc, &text, &other)?)
+    let objects = load_both(alloc, &text, &other)?;
+    Ok(kinds(&objects).err())
 }
 
 /// Whether the layout of an object with one section is too large.
 fn is_too_large(alloc: Global, section: SectionHeader) -> Result<bool, Fail> {
     let none = object_of(alloc, &[])?;
     let other = object_of(alloc, &[section])?;
-    Ok(matches!(lay_out(alloc, &none, &other), Err(LinkError::TooLarge)))
+    let objects = load_both(alloc, &none, &other)?;
+    Ok(matches!(place(alloc, &objects, 0x400000), Err(LayoutFault::TooLarge)))
 }
 
 /// A PT_LOAD that the linker lays out from 0x400000 on.
@@ -197,7 +193,8 @@ fn kinds_are_judged(rt: HostRuntime) -> Result<(), Fail> {
         (strings, false),
     ] {
         let flags = section.sh_flags;
-        assert_eq!(rt; is_lawful(alloc, section)?, lawful, "with flags {flags}");
+        let refused = matches!(refusal(alloc, section)?, Some(LayoutFault::SectionKind));
+        assert_eq!(rt; refused, !lawful, "with flags {flags}");
     }
     Ok(())
 }

@@ -8,10 +8,10 @@ ghost use Rattle.relocate.specs.PatchTables.{ArePatchesOf};
 ghost use Rattle.search.specs.Views.{loaded_views};
 
 use crate::objects::{BSS, DATA, ENTRY, RODATA, SYMBOLS, TEXT, load_alone, object_with};
-use elf_model::{LinkError, Rela, STT_SECTION, SectionHeader, Symbol};
+use elf_model::{Rela, STT_SECTION, SectionHeader, Symbol};
 use layout::{Placement, place};
-use relocate::{PatchTable, Patches, Terms, fits, kind_of, patches, references, value};
-use resolve::resolve;
+use relocate::{PatchTable, Patches, RelocFault, Terms, fits, kind_of, patches, references, value};
+use resolve::{Resolved, resolve};
 use search::Loaded;
 use std::alloc::{AllocError, Global};
 use std::test::Fail;
@@ -64,32 +64,44 @@ fn input_of<'a>(objects: &[Loaded<'a>], number: usize) -> Option<&'a [u8]>
 }
 
 /// The bytes that are wanted of a section of a file's object, laid out from 0x400000 on.
-fn wanted(alloc: Global, file: &[u8], number: usize) -> Result<Vec<u8>, LinkError> {
+fn wanted(alloc: Global, file: &[u8], number: usize) -> Result<Vec<u8>, Fail> {
     let objects = load_alone(alloc, file)?;
     applied(alloc, &objects, number)
 }
 
-/// The patches of objects, whose relocations are lawful, where they are laid out.
+/// Judges the relocations of objects, and makes their patches where these are laid out.
+fn judged_patches<'a>(
+    alloc: Global,
+    objects: &[Loaded<'a>],
+    resolved: &Resolved<'_, 'a>,
+    placement: &Placement<'_, 'a>,
+) -> Result<PatchTable, RelocFault>
+    requires resolved { resolved.now ≡ loaded_views objects.now }
+    requires placed { placement.now.objects ≡ loaded_views objects.now }
+    ensures { IfOk result (ArePatchesOf placement.now) }
+{
+    references(alloc, objects, resolved)?;
+    patches(alloc, objects, resolved, placement)
+}
+
+/// The patches of objects that are laid out.
 pub fn patched<'a>(
     alloc: Global,
     objects: &[Loaded<'a>],
     placement: &Placement<'_, 'a>,
-) -> Result<PatchTable, LinkError>
+) -> Result<PatchTable, Fail>
     requires { placement.now.objects ≡ loaded_views objects.now }
     ensures { IfOk result (ArePatchesOf placement.now) }
 {
     let resolved = resolve(alloc, objects)?;
-    references(alloc, objects, &resolved)?;
-    patches(alloc, objects, &resolved, placement)
+    Ok(judged_patches(alloc, objects, &resolved, placement)?)
 }
 
 /// The bytes that are wanted of a section of the first object, laid out from 0x400000 on.
-fn applied(alloc: Global, objects: &[Loaded<'_>], number: usize) -> Result<Vec<u8>, LinkError>
+fn applied(alloc: Global, objects: &[Loaded<'_>], number: usize) -> Result<Vec<u8>, Fail>
     requires { AreObjects (loaded_views objects.now) }
 {
-    let Some(input) = input_of(objects, number) else {
-        return Err(LinkError::NotYet);
-    };
+    let input = input_of(objects, number).ok_or("no section's bytes")?;
     let tables = place(alloc, objects, 0x400000)?;
     let placement = Placement::new(0x400000, &*objects, &tables);
     let table = patched(alloc, objects, &placement)?;
@@ -166,8 +178,16 @@ fn values_are_made_of_their_terms(rt: HostRuntime) -> Result<(), Fail> {
     Ok(())
 }
 
+/// Whether a type has a kind of its own number, whose field has a width.
+fn is_of_width(number: u32, width: u8) -> bool {
+    match kind_of(number) {
+        Some(kind) => kind.width == width && kind.number == number,
+        None => false,
+    }
+}
+
 #[test]
-fn fields_have_their_types_width(rt: HostRuntime) -> Result<(), Fail> {
+fn fields_have_their_types_width(rt: HostRuntime) {
     // AMD64 psABI, "Relocation Types": word8, word16, word32 and word64.
     let rows = [
         (1, [14, 15].as_slice()),
@@ -177,12 +197,9 @@ fn fields_have_their_types_width(rt: HostRuntime) -> Result<(), Fail> {
     ];
     for (width, numbers) in rows {
         for number in numbers {
-            let kind = kind_of(*number).ok_or("a kind")?;
-            assert_eq!(rt; kind.width, width, "at type {number}");
-            assert_eq!(rt; kind.number, *number);
+            assert!(rt; is_of_width(*number, width), "at type {number}");
         }
     }
-    Ok(())
 }
 
 #[test]
@@ -209,10 +226,14 @@ fn fields_have_their_values(rt: HostRuntime) -> Result<(), Fail> {
     Ok(())
 }
 
-/// What the link of an object with an entry for `.rodata` and a lawful one for `.data` is refused for.
-fn refusal(alloc: Global, rodata: Rela) -> Result<Option<LinkError>, LinkError> {
+/// What an object with an entry for `.rodata` and a lawful one for `.data` is refused for.
+fn refusal(alloc: Global, rodata: Rela) -> Result<Option<RelocFault>, Fail> {
     let file = object_of(alloc, rodata, entry(0, 1, 2, 1))?;
-    Ok(wanted(alloc, &file, 2).err())
+    let objects = load_alone(alloc, &file)?;
+    let resolved = resolve(alloc, &objects)?;
+    let tables = place(alloc, &objects, 0x400000)?;
+    let placement = Placement::new(0x400000, &*objects, &tables);
+    Ok(judged_patches(alloc, &objects, &resolved, &placement).err())
 }
 
 #[test]
@@ -222,12 +243,12 @@ fn unlawful_relocations_are_refused(rt: HostRuntime) -> Result<(), Fail> {
     let last = refusal(alloc, entry(1, 2, 1, 0))?;
     assert!(rt; last.is_none());
     let outside = refusal(alloc, entry(2, 2, 1, 0))?;
-    assert!(rt; matches!(&outside, Some(LinkError::FieldOutside)));
+    assert!(rt; matches!(&outside, Some(RelocFault::FieldOutside)));
     let unknown = refusal(alloc, entry(0, 5, 1, 0))?;
-    assert!(rt; matches!(&unknown, Some(LinkError::RelocKind)));
+    assert!(rt; matches!(&unknown, Some(RelocFault::RelocKind)));
     let thread = refusal(alloc, entry(0, 23, 1, 0))?;
-    assert!(rt; matches!(&thread, Some(LinkError::TlsMismatch)));
+    assert!(rt; matches!(&thread, Some(RelocFault::TlsMismatch)));
     let wide = refusal(alloc, entry(0, 14, 1, 0))?;
-    assert!(rt; matches!(&wide, Some(LinkError::Overflow)));
+    assert!(rt; matches!(&wide, Some(RelocFault::Overflow)));
     Ok(())
 }

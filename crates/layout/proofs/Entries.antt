@@ -13,7 +13,7 @@ use Rattle.search.specs.declared.loading.Loaded.{Loaded}
 use Rattle.layout.specs.Addresses.{HasEntry, entry, entry_in, section_counts, shape_of}
 use Rattle.layout.specs.PlaceViews.{place_view, place_views}
 use Rattle.layout.specs.declared.running.Place.{Place}
-use Rattle.layout.proofs.Rests.{rest_at}
+use Rattle.elf_model.proofs.Rests.{rest_at}
 
 -- a list with one element written
 got_same : {X : Type 0} (xs : List X) (i : ℕ) (x : X) → i < length xs → slice_get (set xs i x) i ≡ Some x

@@ -6,11 +6,11 @@ use Rattle.elf_model.specs.Loading.{LoadedObject}
 use Rattle.elf_model.specs.OwnLayout.{code_pieces, code_start, data_start, end_of, own_code, own_data, own_placed, own_read_only, page_up, placed_from, read_only_pieces, read_only_start, segment}
 use Rattle.elf_model.specs.Pieces.{Piece}
 use Rattle.elf_model.specs.Placement.{Placed}
-use Rattle.elf_model.specs.declared.faults.LinkError.{LinkError}
-use Rattle.elf_model.specs.declared.faults.LinkError.TheVariants as error
 use Rattle.layout.specs.Laid.{LayoutFails}
 use Rattle.layout.specs.Limits.{AreInLimit, IsInLimit, RunFails}
 use Rattle.layout.specs.PlaceViews.{place_view, place_views}
+use Rattle.layout.specs.declared.faults.LayoutFault.{LayoutFault}
+use Rattle.layout.specs.declared.faults.LayoutFault.TheVariants as error
 use Rattle.layout.specs.declared.running.Place.{Place}
 
 drop_front : {X : Type 0} (xs ys : List X) (n : ℕ) → n ≡ length xs → drop n (xs ++ ys) ≡ ys
@@ -63,30 +63,30 @@ behind_limit : (xs ys : List Placed) → AreInLimit (xs ++ ys) → AreInLimit ys
 behind_limit [] ys all = all
 behind_limit (x ∷ xs) ys all = behind_limit xs ys (All-tail IsInLimit x (xs ++ ys) all)
 
-fails : (qs whole : List Placed) (e : LinkError) → (AreInLimit whole → AreInLimit qs) → RunFails qs e → RunFails whole e
+fails : (qs whole : List Placed) (e : LayoutFault) → (AreInLimit whole → AreInLimit qs) → RunFails qs e → RunFails whole e
 fails qs whole error.Memory part f = f
 fails qs whole error.TooLarge part f = λ all. f (part all)
 fails qs whole _ part f = absurd f
 
-pub first_fails : (base : ℕ) (objects : List LoadedObject) (run : List Placed) (e : LinkError) → run ≡ own_read_only base objects → RunFails run e → RunFails (own_placed base objects) e
+pub first_fails : (base : ℕ) (objects : List LoadedObject) (run : List Placed) (e : LayoutFault) → run ≡ own_read_only base objects → RunFails run e → RunFails (own_placed base objects) e
 first_fails base objects run e is f =
     fails (own_read_only base objects) (own_placed base objects) e
     (front_limit (own_read_only base objects) (own_code base objects ++ own_data base objects)) (subst (λ (qs : List Placed). RunFails qs e) is f)
 
-pub code_fails : (base : ℕ) (objects : List LoadedObject) (run : List Placed) (e : LinkError) → run ≡ own_code base objects → RunFails run e → RunFails (own_placed base objects) e
+pub code_fails : (base : ℕ) (objects : List LoadedObject) (run : List Placed) (e : LayoutFault) → run ≡ own_code base objects → RunFails run e → RunFails (own_placed base objects) e
 code_fails base objects run e is f =
     fails (own_code base objects) (own_placed base objects) e
     (λ all. front_limit (own_code base objects) (own_data base objects) (behind_limit (own_read_only base objects) (own_code base objects ++ own_data base objects) all))
     (subst (λ (qs : List Placed). RunFails qs e) is f)
 
-pub data_fails : (base : ℕ) (objects : List LoadedObject) (run : List Placed) (e : LinkError) → run ≡ own_data base objects → RunFails run e → RunFails (own_placed base objects) e
+pub data_fails : (base : ℕ) (objects : List LoadedObject) (run : List Placed) (e : LayoutFault) → run ≡ own_data base objects → RunFails run e → RunFails (own_placed base objects) e
 data_fails base objects run e is f =
     fails (own_data base objects) (own_placed base objects) e
     (λ all. behind_limit (own_code base objects) (own_data base objects) (behind_limit (own_read_only base objects) (own_code base objects ++ own_data base objects) all))
     (subst (λ (qs : List Placed). RunFails qs e) is f)
 
 -- and one of the layout
-pub layout_fails : (base : ℕ) (objects : List LoadedObject) (e : LinkError) → RunFails (own_placed base objects) e → LayoutFails base objects e
+pub layout_fails : (base : ℕ) (objects : List LoadedObject) (e : LayoutFault) → RunFails (own_placed base objects) e → LayoutFails base objects e
 layout_fails base objects error.Memory f = f
 layout_fails base objects error.TooLarge f = λ fits. f fits.ends
 layout_fails base objects _ f = absurd f

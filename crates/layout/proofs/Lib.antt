@@ -9,5 +9,4 @@ pub mod Leading
 pub mod OwnAddresses
 pub mod PieceEntries
 pub mod PieceSteps
-pub mod Rests
 pub mod RunSteps

@@ -11,7 +11,7 @@ use Rattle.layout.specs.PlaceViews.{place_view, place_views}
 use Rattle.layout.specs.Views.{piece_view, piece_views}
 use Rattle.layout.specs.declared.pieces.Piece.{Piece}
 use Rattle.layout.specs.declared.running.Place.{Place}
-use Rattle.layout.proofs.Rests.{Left, rest_at}
+use Rattle.elf_model.proofs.Rests.{Left, rest_at}
 
 -- what a list of pieces is read as past its end
 abbrev pub no_piece : Piece

@@ -2,10 +2,10 @@
 use Rattle.std.specs.Prelude.{◌≡◌, ℕ, List}
 use Rattle.elf_model.specs.Loading.{LoadedObject}
 use Rattle.elf_model.specs.OwnLayout.{IsNotTooLarge, code_start, data_start, own_code, own_data, own_placed, own_read_only, own_segments, read_only_start, segment}
-use Rattle.elf_model.specs.declared.faults.LinkError.{LinkError}
-use Rattle.elf_model.specs.declared.faults.LinkError.TheVariants as error
 use Rattle.layout.specs.Limits.{AreInLimit}
 use Rattle.layout.specs.PlaceViews.{place_views}
+use Rattle.layout.specs.declared.faults.LayoutFault.{LayoutFault}
+use Rattle.layout.specs.declared.faults.LayoutFault.TheVariants as error
 use Rattle.layout.specs.declared.lay.Laid.{Laid}
 use Rattle.layout.specs.declared.lay.Layout.{Layout}
 
@@ -21,7 +21,7 @@ pub record IsLayout (base : ℕ) (objects : List LoadedObject) (l : Layout) : Ty
   pub segments : l.segments.items ≡ own_segments base objects
 
 -- why there is no layout
-abbrev pub LayoutFails : ℕ → List LoadedObject → LinkError → Type 0
+abbrev pub LayoutFails : ℕ → List LoadedObject → LayoutFault → Type 0
 LayoutFails base objects error.Memory = Unit {0}
 LayoutFails base objects error.TooLarge = ¬ IsNotTooLarge base objects
 LayoutFails base objects _ = ⊥

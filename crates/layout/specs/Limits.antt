@@ -3,9 +3,9 @@ use Rattle.std.specs.Prelude.{◌+◌, ◌<◌, ◌≤◌, ◌^◌, List, All}
 use Rattle.elf_model.specs.OwnLayout.{placed_end}
 use Rattle.elf_model.specs.Pieces.{Piece}
 use Rattle.elf_model.specs.Placement.{Placed}
-use Rattle.elf_model.specs.declared.faults.LinkError.{LinkError}
-use Rattle.elf_model.specs.declared.faults.LinkError.TheVariants as error
 use Rattle.elf_model.specs.declared.records.ProgramHeader.{ProgramHeader}
+use Rattle.layout.specs.declared.faults.LayoutFault.{LayoutFault}
+use Rattle.layout.specs.declared.faults.LayoutFault.TheVariants as error
 
 -- an alignment that every object's sections have
 abbrev pub HasSmallAlignment : Piece → Type 0
@@ -22,7 +22,7 @@ abbrev pub AreInLimit : List Placed → Type 0
 AreInLimit qs = All IsInLimit qs
 
 -- why places were not laid out
-abbrev pub RunFails : List Placed → LinkError → Type 0
+abbrev pub RunFails : List Placed → LayoutFault → Type 0
 RunFails qs error.Memory = Unit {0}
 RunFails qs error.TooLarge = ¬ AreInLimit qs
 RunFails qs _ = ⊥

@@ -10,11 +10,12 @@ ghost use Rattle.layout.specs.Orders.{IsOrder, objects_of};
 ghost use Rattle.layout.specs.PlaceViews.{place_views};
 ghost use Rattle.layout.specs.Views.{piece_views};
 
+use crate::faults::LayoutFault;
 use crate::order::{Order, headers_size};
 use crate::pieces::Piece;
 use crate::running::{ADDRESS_LIMIT, Place, page_up, place_run};
 use crate::segments::{any_nonempty, are_short, segment_of};
-use elf_model::{LinkError, ProgramHeader};
+use elf_model::ProgramHeader;
 use std::alloc::{AllocError, Global};
 
 /// Where the pieces of a segment end, and the segment itself.
@@ -48,7 +49,7 @@ fn lay_segment<'a>(
     rights: u32,
     start: u64,
     from: u64,
-) -> Result<Run, LinkError>
+) -> Result<Run, LayoutFault>
     requires start { base ≤ start }
     requires from { start ≤ from }
     requires low { from ≤ 2 ^ 46 }
@@ -76,7 +77,7 @@ fn lay_pieces<'a>(
     order: &Order<'_, 'a>,
     base: u64,
     headers_end: u64,
-) -> Result<Laid<'a>, LinkError>
+) -> Result<Laid<'a>, LayoutFault>
     requires objects { AreObjects (objects_of order.now) }
     requires order { IsOrder order.now }
     requires start { headers_end ≡ own.read_only_start base (objects_of order.now) }
@@ -127,7 +128,11 @@ fn segments_of(
 }
 
 /// Places all pieces and makes the segments that hold them. TooLarge where they, or the file, reach too far.
-pub fn lay_out<'a>(alloc: Global, order: &Order<'_, 'a>, base: u64) -> Result<Layout<'a>, LinkError>
+pub fn lay_out<'a>(
+    alloc: Global,
+    order: &Order<'_, 'a>,
+    base: u64,
+) -> Result<Layout<'a>, LayoutFault>
     requires base { IsBase base }
     requires objects { AreObjects (objects_of order.now) }
     requires order { IsOrder order.now }
@@ -137,12 +142,12 @@ pub fn lay_out<'a>(alloc: Global, order: &Order<'_, 'a>, base: u64) -> Result<La
 {
     let headers_end = base + headers_size(order);
     if headers_end > ADDRESS_LIMIT {
-        return Err(LinkError::TooLarge);
+        return Err(LayoutFault::TooLarge);
     }
     let laid = lay_pieces(alloc, order, base, headers_end)?;
     let segments = segments_of(alloc, order, &laid)?;
     if !are_short(&segments) {
-        return Err(LinkError::TooLarge);
+        return Err(LayoutFault::TooLarge);
     }
     Ok(Layout {
         places: laid.places,

@@ -3,8 +3,9 @@
 #![tactic(auto)]
 
 mod addresses;
+mod faults;
 mod grouping;
-mod kinds;
+mod judging;
 mod lay;
 mod names;
 mod order;
@@ -13,8 +14,8 @@ mod placement;
 mod running;
 mod segments;
 
-pub use elf_model::LinkError;
-pub use kinds::are_lawful_kinds;
+pub use faults::LayoutFault;
+pub use judging::kinds;
 pub use names::output_name;
 pub use pieces::Piece;
 pub use placement::{Placement, Tables, place};

@@ -10,10 +10,11 @@ ghost use Rattle.layout.specs.PlaceViews.{place_views};
 ghost use Rattle.layout.specs.Tables.{AreTables};
 
 use crate::addresses::{address_in, address_table};
+use crate::faults::LayoutFault;
 use crate::lay::lay_out;
 use crate::order::order_of;
 use crate::running::Place;
-use elf_model::{LinkError, ProgramHeader};
+use elf_model::ProgramHeader;
 use search::Loaded;
 use std::alloc::Global;
 use std::marker::Model;
@@ -54,7 +55,11 @@ impl<'p, 'a> Model for Placement<'p, 'a> {
 ///
 /// `TooLarge` where the headers or a piece would end above 2 ^ 46, or the file have 2 ^ 32 bytes or more;
 /// `Memory`.
-pub fn place<'a>(alloc: Global, objects: &[Loaded<'a>], base: u64) -> Result<Tables<'a>, LinkError>
+pub fn place<'a>(
+    alloc: Global,
+    objects: &[Loaded<'a>],
+    base: u64,
+) -> Result<Tables<'a>, LayoutFault>
     requires base { IsBase base }
     requires objects { AreObjects (loaded_views objects.now) }
     ensures tables { IfOk result (AreTables base (loaded_views objects.now)) }

@@ -6,8 +6,8 @@ ghost use Rattle.layout.specs.Limits.{AreInLimit, HasSmallAlignment, IsInLimit, 
 ghost use Rattle.layout.specs.Views.{piece_view, piece_views};
 ghost use Rattle.layout.specs.PlaceViews.{place_view, place_views};
 
+use crate::faults::LayoutFault;
 use crate::pieces::Piece;
-use elf_model::LinkError;
 
 /// A piece at its address.
 #[derive(Clone, Copy, Debug)]
@@ -62,7 +62,7 @@ pub fn place_run<'a>(
     out: &mut Vec<Place<'a>>,
     pieces: &[Piece<'a>],
     from: u64,
-) -> Result<u64, LinkError>
+) -> Result<u64, LayoutFault>
     requires low { from ≤ 2 ^ 46 }
     requires aligned { All HasSmallAlignment (piece_views pieces.now) }
     ensures placed { OnOk result (place_views out.new.items ≡ place_views out.old.items ++ placed_from from (piece_views pieces.now)) }
@@ -75,7 +75,7 @@ pub fn place_run<'a>(
     let mut next = from;
     for piece in pieces {
         let Some(at) = address_of(next, piece) else {
-            return Err(LinkError::TooLarge);
+            return Err(LayoutFault::TooLarge);
         };
         out.push(Place { at, piece: *piece })?;
         next = at + piece.header.sh_size;

@@ -6,10 +6,11 @@ use std::io::{ErrorKind, Write};
 use std::process::ExitCode;
 use std::{env, io};
 
-/// The words behind the program's name.
+/// The words behind the program's name, in just the room that they take.
 fn words(rt: &HostRuntime) -> io::Result<Vec<String>> {
     let mut words = Vec::new(rt.alloc());
-    for word in env::args(rt)?.skip(1) {
+    for mut word in env::args(rt)?.skip(1) {
+        word.shrink_to_fit();
         words.push(word)?;
     }
     Ok(words)

@@ -1,6 +1,6 @@
 -- From what linking the loaded objects makes to a right link, and from its refusals to causes.
 use Rattle.std.proofs.Common.{◌≡◌, ℕ, ◌<◌, ◌^◌, List, refl, sym, ◌∙◌, ap, subst}
-use Rattle.std.specs.Prelude.{Any, IfErr, IfOk, Ok, Err, Result}
+use Rattle.std.specs.Prelude.{IfErr, IfOk, Ok, Err, Result}
 use Rattle.elf_model.specs.Causes.{Cause, IsLaidOut, IsLinkable, IsReferred, IsResolved, IsTaken}
 use Rattle.elf_model.specs.Command.{Plan, command_of}
 use Rattle.elf_model.specs.Files.{File}
@@ -11,18 +11,28 @@ use Rattle.elf_model.specs.Profile.{IsInProfile}
 use Rattle.elf_model.specs.RightLink.{IsRightLink}
 use Rattle.elf_model.specs.declared.faults.LinkError.{LinkError}
 use Rattle.elf_model.specs.declared.faults.LinkError.TheVariants as error
+use Rattle.layout.specs.Kinds.{KindsFail}
 use Rattle.layout.specs.Laid.{LayoutFails}
+use Rattle.layout.specs.declared.faults.LayoutFault.{LayoutFault}
+use Rattle.layout.specs.declared.faults.LayoutFault.TheVariants as layout
 use Rattle.own_link.proofs.OwnRight.{own_is_right}
 use Rattle.relocate.specs.References.{ReferencesFail}
 use Rattle.relocate.specs.Values.{ValuesFail}
+use Rattle.relocate.specs.declared.faults.RelocFault.{RelocFault}
+use Rattle.relocate.specs.declared.faults.RelocFault.TheVariants as reloc
 use Rattle.search.specs.Search.{LoadFails}
+use Rattle.search.specs.declared.faults.SearchFault.{SearchFault}
+use Rattle.search.specs.declared.faults.SearchFault.TheVariants as search
 use Rattle.resolve.specs.Refusals.{ResolvingFails}
+use Rattle.resolve.specs.declared.faults.ResolveFault.{ResolveFault}
+use Rattle.resolve.specs.declared.faults.ResolveFault.TheVariants as resolve
 use Rattle.layout.specs.Placements.{Basis}
 use Rattle.resolve.specs.Views.{symbol_views}
 use Rattle.ld_main.specs.Linkages.{IsLinkageOf, IsOwnText, IsPrepared, Prepared}
 use Rattle.ld_main.specs.Maps.{IsMapOf, own_record}
 use Rattle.ld_main.specs.Outputs.{AreLaidOut, AreLinkable, AreReferred, AreResolved, IsOwnLink, LinksRefuse}
 use Rattle.ld_main.specs.Program.{LinksRight}
+use Rattle.ld_main.specs.Refusals.{of_layout, of_reloc, of_resolve, of_search}
 use Rattle.ld_main.specs.declared.linkage.Parts.{Parts}
 use Rattle.ld_main.proofs.OwnMaps.{ordered, own_map}
 
@@ -36,39 +46,46 @@ err_more P Q (Err y) is more = more y is
 
 -- why loading fails is why the link does
 pub loading_fails :
-    (files : List File) (words : List (List ℕ)) (p : Plan) → command_of words ≡ Ok p → (e : LinkError) → LoadFails files p e → Cause files words e
-loading_fails files words p is error.Memory f = tt
-loading_fails files words p is error.FileMissing f = (p, is, f)
-loading_fails files words p is (error.BadObject fault) f = (p, record { words_are = is; files_are = f.0 }, f.1, f.2)
-loading_fails files words p is _ f = absurd f
+    (files : List File) (words : List (List ℕ)) (p : Plan) → command_of words ≡ Ok p → (e : SearchFault) → LoadFails files p e →
+    Cause files words (of_search e)
+loading_fails files words p is search.Memory f = tt
+loading_fails files words p is search.FileMissing f = (p, is, f)
+loading_fails files words p is (search.BadObject fault) f = (p, record { words_are = is; files_are = f.0 }, f.1, f.2)
 
 -- why a later phase refuses is why linking the objects does
-pub resolving_refuses : (p : Plan) (objects : List LoadedObject) (e : LinkError) → ResolvingFails objects e → LinksRefuse p objects e
-resolving_refuses p objects error.Memory f = tt
-resolving_refuses p objects (error.Duplicate name) f = f
-resolving_refuses p objects error.BadSymbol f = f
-resolving_refuses p objects _ f = absurd f
+pub resolving_refuses : (p : Plan) (objects : List LoadedObject) (e : ResolveFault) → ResolvingFails objects e → LinksRefuse p objects (of_resolve e)
+resolving_refuses p objects resolve.Memory f = tt
+resolving_refuses p objects (resolve.Duplicate name) f = f
+resolving_refuses p objects resolve.BadSymbol f = f
 
-pub references_refuse : (p : Plan) (objects : List LoadedObject) → AreResolved objects → (e : LinkError) → ReferencesFail objects e → LinksRefuse p objects e
-references_refuse p objects r error.Memory f = tt
-references_refuse p objects r (error.Undefined name) f = (r, f)
-references_refuse p objects r error.RefToDropped f = (r, f)
-references_refuse p objects r error.RelocKind f = (r, f)
-references_refuse p objects r error.FieldOutside f = (r, f)
-references_refuse p objects r error.OverlappingFields f = (r, f)
-references_refuse p objects r error.TlsMismatch f = (r, f)
+pub kinds_refuse : (p : Plan) (objects : List LoadedObject) (e : LayoutFault) → KindsFail objects e → LinksRefuse p objects (of_layout e)
+kinds_refuse p objects layout.SectionKind f = f
+kinds_refuse p objects _ f = absurd f
+
+pub references_refuse :
+    (p : Plan) (objects : List LoadedObject) → AreResolved objects → (e : RelocFault) → ReferencesFail objects e →
+    LinksRefuse p objects (of_reloc e)
+references_refuse p objects r reloc.Memory f = tt
+references_refuse p objects r (reloc.Undefined name) f = (r, f)
+references_refuse p objects r reloc.RefToDropped f = (r, f)
+references_refuse p objects r reloc.RelocKind f = (r, f)
+references_refuse p objects r reloc.FieldOutside f = (r, f)
+references_refuse p objects r reloc.OverlappingFields f = (r, f)
+references_refuse p objects r reloc.TlsMismatch f = (r, f)
 references_refuse p objects r _ f = absurd f
 
-pub layout_refuses : (p : Plan) (objects : List LoadedObject) → AreReferred p objects → (e : LinkError) → LayoutFails p.base objects e → LinksRefuse p objects e
-layout_refuses p objects r error.Memory f = tt
-layout_refuses p objects r error.TooLarge f = (r, f)
+pub layout_refuses :
+    (p : Plan) (objects : List LoadedObject) → AreReferred p objects → (e : LayoutFault) → LayoutFails p.base objects e →
+    LinksRefuse p objects (of_layout e)
+layout_refuses p objects r layout.Memory f = tt
+layout_refuses p objects r layout.TooLarge f = (r, f)
 layout_refuses p objects r _ f = absurd f
 
 pub values_refuse :
-    (p : Plan) (objects : List LoadedObject) → AreLaidOut p objects → (e : LinkError) → ValuesFail (record { base = p.base; objects = objects }) e →
-    LinksRefuse p objects e
-values_refuse p objects l error.Memory f = tt
-values_refuse p objects l error.Overflow f = (l, f)
+    (p : Plan) (objects : List LoadedObject) → AreLaidOut p objects → (e : RelocFault) →
+    ValuesFail (record { base = p.base; objects = objects }) e → LinksRefuse p objects (of_reloc e)
+values_refuse p objects l reloc.Memory f = tt
+values_refuse p objects l reloc.Overflow f = (l, f)
 values_refuse p objects l _ f = absurd f
 
 -- the bytes of a prepared link: its own image, and the text of its own map

@@ -1,5 +1,5 @@
 -- The map of objects where they are laid out: in order, and the own map.
-use Rattle.std.proofs.Common.{◌≡◌, ◌⊎◌, inl, inr, ℕ, zero, suc, ◌+◌, ◌<◌, ◌≤◌, Bool, true, false, cond, List, [], ◌∷◌, ◌++◌, length, get_or, map, refl, sym, ◌∙◌, ap, subst, arith}
+use Rattle.std.proofs.Common.{◌≡◌, ◌⊎◌, inl, inr, ℕ, zero, suc, ◌+◌, ◌<◌, ◌≤◌, true, false, cond, List, [], ◌∷◌, length, get_or, map, refl, sym, ◌∙◌, ap, subst, arith}
 use Rattle.std.specs.Prelude.{All, AllPairs}
 use Rattle.std.proofs.lemmas.List.{get_or-map, length-map}
 use Rattle.std.proofs.lemmas.List.Elements.{All-append, All-cons, All-nil, All-weaker}
@@ -11,9 +11,7 @@ use Rattle.elf_model.specs.Loading.{LoadedObject}
 use Rattle.elf_model.specs.MapRecord.{MapRecord, ObjectRow, PlaceRow, SymbolRow}
 use Rattle.elf_model.specs.MapText.{AreNumbered, Ascends, CommonBefore, DropBefore, IsOrdered, PlaceBefore, SlotBefore, SymbolBefore}
 use Rattle.elf_model.specs.ObjectFile.{sections}
-use Rattle.elf_model.specs.OwnLayout.{own_in_load_order}
 use Rattle.elf_model.specs.Pieces.{Piece, is_alloc, piece_of, pieces, pieces_from, pieces_of}
-use Rattle.elf_model.specs.Placement.{Placed}
 use Rattle.elf_model.specs.RightLink.{HasLine, object_rows, symbol_row_of}
 use Rattle.elf_model.specs.declared.records.SectionHeader.{SectionHeader}
 use Rattle.layout.specs.Placements.{Basis}

@@ -4,10 +4,9 @@ use Rattle.std.specs.Prelude.{All}
 use Rattle.std.proofs.lemmas.List.{drop_more, map-append}
 use Rattle.std.proofs.lemmas.List.Elements.{All-append, All-cons}
 use Rattle.elf_model.specs.Loading.{LoadedObject}
-use Rattle.elf_model.specs.MapRecord.{ObjectRow, PlaceRow, SymbolRow}
 use Rattle.elf_model.specs.MapText.{FitsObject, FitsPlace, FitsSymbol}
 use Rattle.elf_model.specs.ObjectFile.{sections}
-use Rattle.elf_model.specs.Pieces.{Piece, is_alloc, piece_of, pieces_from, pieces_of}
+use Rattle.elf_model.specs.Pieces.{is_alloc, piece_of, pieces_from, pieces_of}
 use Rattle.elf_model.specs.Placement.{Placed}
 use Rattle.elf_model.specs.RightLink.{object_rows, symbol_row_of}
 use Rattle.elf_model.specs.declared.records.SectionHeader.{SectionHeader}

@@ -1,13 +1,12 @@
 -- The values of sound definitions lie within the addresses where the objects are laid out.
 use Rattle.std.proofs.Common.{◌≡◌, ◌==◌, ◌&&◌, ℕ, ◌+◌, ◌≤◌, ◌^◌, Bool, true, false, cond, List, get_or, not, refl, sym, ◌∙◌, ap, subst, arith}
-use Rattle.std.specs.Prelude.{All, IfSome, IsPermutation, Option, Some, None, filter, find, option_map, unwrap_or}
+use Rattle.std.specs.Prelude.{All, IfSome, IsPermutation, Option, Some, None, find, option_map, unwrap_or}
 use Rattle.std.specs.List.{slice_get}
 use Rattle.std.proofs.lemmas.Bool.{and_parts, eqb-true, false≢true}
 use Rattle.std.proofs.lemmas.List.Elements.{All-contains, All-filter, filter_passes}
 use Rattle.std.proofs.lemmas.List.Sorted.{All-permutation}
 use Rattle.elf_model.specs.ImageFile.{own_entry}
 use Rattle.elf_model.specs.Loading.{LoadedObject}
-use Rattle.elf_model.specs.ObjectFile.{sections}
 use Rattle.elf_model.specs.OwnLayout.{IsNotTooLarge, own_in_load_order, own_placed, placed_end}
 use Rattle.elf_model.specs.Pieces.{AreLawfulKinds, Piece, is_alloc, pieces}
 use Rattle.elf_model.specs.Placement.{Placed, is_of_section, symbol_value}

@@ -1,7 +1,7 @@
 -- What a prepared link is of, and what it keeps.
-use Rattle.std.specs.Prelude.{◌≡◌, ℕ, ◌^◌, ◌<◌, List, Ok}
+use Rattle.std.specs.Prelude.{◌≡◌, ℕ, ◌^◌, ◌<◌, List}
 use Rattle.elf_model.specs.Causes.{IsLinkable}
-use Rattle.elf_model.specs.Command.{IsBase, Plan, command_of}
+use Rattle.elf_model.specs.Command.{IsBase, Plan}
 use Rattle.elf_model.specs.Files.{File}
 use Rattle.elf_model.specs.ImageFile.{IsOwnMap, own_entry}
 use Rattle.elf_model.specs.Loading.{AreObjects, LoadedObject, loaded_objects}

@@ -1,5 +1,5 @@
 -- The map of objects where they are laid out.
-use Rattle.std.specs.Prelude.{◌≡◌, ℕ, ◌+◌, ◌≤◌, ◌^◌, List, [], None, IfSome, find, map, option_map}
+use Rattle.std.specs.Prelude.{◌≡◌, ◌+◌, ◌≤◌, ◌^◌, List, [], None, IfSome, find, map, option_map}
 use Rattle.elf_model.specs.ImageFile.{place_row_of}
 use Rattle.elf_model.specs.MapRecord.{MapRecord, PlaceRow}
 use Rattle.elf_model.specs.OwnLayout.{own_address}

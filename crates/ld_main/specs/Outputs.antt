@@ -1,5 +1,5 @@
 -- What the linker makes of the loaded objects, and why it refuses them.
-use Rattle.std.specs.Prelude.{◌≡◌, ℕ, ◌^◌, ◌<◌, List, AllPairs, Any, None, Some}
+use Rattle.std.specs.Prelude.{◌≡◌, ℕ, List, AllPairs, Any, None, Some}
 use Rattle.elf_model.specs.Causes.{IsLinkable, IsToDropped, IsUndefinedName}
 use Rattle.elf_model.specs.Command.{Plan}
 use Rattle.elf_model.specs.Files.{File}
@@ -12,15 +12,8 @@ use Rattle.elf_model.specs.OwnLayout.{IsNotTooLarge, OwnValuesFit}
 use Rattle.elf_model.specs.Pieces.{AreLawfulKinds}
 use Rattle.elf_model.specs.Relocation.{AreFieldsApart, AreLawfulRelocations, IsFieldInside, IsThreadMismatch, Relocation, relocation_kind, relocations}
 use Rattle.elf_model.specs.Resolution.{AreSoundSymbols, AreUnique, IsDuplicate, IsEntry, SymbolOf, chosen}
-use Rattle.elf_model.specs.declared.faults.CmdFault.{CmdFault}
-use Rattle.elf_model.specs.declared.faults.CmdFault.TheVariants as fault
 use Rattle.elf_model.specs.declared.faults.LinkError.{LinkError}
 use Rattle.elf_model.specs.declared.faults.LinkError.TheVariants as error
-
--- a fault of the words as a link's
-abbrev pub IsCommandFault : CmdFault → LinkError → Type 0
-IsCommandFault fault.Memory e = e ≡ error.Memory
-IsCommandFault f e = e ≡ error.Command f
 
 -- the image and the map of the own layout
 pub record IsOwnBytes (p : Plan) (objects : List LoadedObject) (image map : List ℕ) : Type 0 where

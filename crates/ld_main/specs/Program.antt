@@ -1,11 +1,11 @@
 -- The exit statuses of the program, and what they say.
-use Rattle.std.specs.Prelude.{◌≡◌, ℕ, List}
+use Rattle.std.specs.Prelude.{ℕ, List}
 use Rattle.elf_model.specs.Files.{File}
 use Rattle.elf_model.specs.RightLink.{IsRightLink}
 use Rattle.elf_model.specs.declared.faults.CmdFault.{CmdFault}
-use Rattle.elf_model.specs.declared.faults.CmdFault.TheVariants as fault
 use Rattle.elf_model.specs.declared.faults.LinkError.{LinkError}
 use Rattle.elf_model.specs.declared.faults.LinkError.TheVariants as error
+use Rattle.ld_main.specs.Refusals.{of_command}
 use Rattle.ld_main.specs.declared.program.Failure.{Failure}
 use Rattle.ld_main.specs.declared.program.Failure.TheVariants as failure
 use Rattle.ld_main.specs.declared.program.Outcome.{Outcome}
@@ -19,17 +19,16 @@ LinksRight files words = (image : List ℕ) × (text : List ℕ) × IsRightLink 
 abbrev pub HasRightLink : List (List ℕ) → Type 0
 HasRightLink words = (files : List File) × LinksRight files words
 
--- the status of a fault of the words
-abbrev pub words_status : CmdFault → ℕ
-words_status fault.Memory = 4
-words_status _ = 2
-
 -- the status of a refusal
 abbrev pub error_status : LinkError → ℕ
 error_status error.Memory = 4
 error_status (error.Command f) = 2
 error_status error.FileMissing = 3
 error_status _ = 1
+
+-- the status of a fault of the words
+abbrev pub words_status : CmdFault → ℕ
+words_status f = error_status (of_command f)
 
 -- the status of a failure
 abbrev pub failure_status : Failure → ℕ

@@ -7,6 +7,7 @@ mod linking;
 mod own_map;
 mod profile;
 mod program;
+mod refusals;
 mod spelling;
 
 pub use elf_model::LinkError;

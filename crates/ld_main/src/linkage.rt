@@ -15,15 +15,16 @@ ghost use Rattle.resolve.specs.Views.{symbol_view};
 ghost use Rattle.symbols.specs.Rows.{no_rows};
 ghost use Rattle.ld_main.specs.FinalRefusals.{DeniesLinks};
 ghost use Rattle.ld_main.specs.Linkages.{IsPrepared, IsLinkageOf};
-ghost use Rattle.ld_main.specs.Outputs.{AreLaidOut, AreLinkable, AreReferred, AreResolved, EntersAt, IsCommandFault, LinksRefuse};
+ghost use Rattle.ld_main.specs.Outputs.{AreLaidOut, AreLinkable, AreReferred, AreResolved, EntersAt, LinksRefuse};
 ghost use Rattle.ld_main.specs.Program.{LinksRight};
 
 use crate::own_map::{map_of_layout, value};
 use crate::profile::is_in_profile;
+use crate::refusals::{command_error, layout_error, reloc_error, resolve_error, search_error};
 use crate::spelling::show_spellings;
 use command::{Plan, read_words};
-use elf_model::{CmdFault, InputFile, LinkError, LinkMap};
-use layout::{Placement, Tables, are_lawful_kinds, place};
+use elf_model::{InputFile, LinkError, LinkMap};
+use layout::{Placement, Tables, kinds, place};
 use relocate::{PatchTable, Patches, patches, references};
 use resolve::{Resolved, SymbolOf, resolve_over};
 use search::{Loaded, load};
@@ -62,16 +63,6 @@ impl<'a> Model for Linkage<'a> {
     ghost invariant = { λ l. IsLinkageOf l.plan (loaded_views l.objects.items) l.parts };
 }
 
-/// A fault of the words as a link's.
-fn command_error(fault: CmdFault) -> LinkError
-    ensures { IsCommandFault fault result }
-{
-    match fault {
-        CmdFault::Memory => LinkError::Memory,
-        other => LinkError::Command(other),
-    }
-}
-
 /// The names of objects whose kept sections are of lawful kinds, resolved.
 fn resolved_objects<'b, 'a, T: NameTable<'a> + Drop>(
     alloc: Global,
@@ -84,12 +75,13 @@ fn resolved_objects<'b, 'a, T: NameTable<'a> + Drop>(
     ensures resolved { OnOk result (AreResolved (loaded_views objects.entry.now)) }
     ensures fault { IfErr result (LinksRefuse plan.now (loaded_views objects.entry.now)) }
 {
-    if !are_lawful_kinds(objects) {
-        return Err(LinkError::SectionKind);
+    match kinds(objects) {
+        Ok(()) => {}
+        Err(fault) => return Err(layout_error(fault)),
     }
     match resolve_over(alloc, objects, table) {
         Ok(resolved) => Ok(resolved),
-        Err(error) => Err(error),
+        Err(fault) => Err(resolve_error(fault)),
     }
 }
 
@@ -108,7 +100,7 @@ fn referred_entry<'a>(
 {
     match references(alloc, objects, resolved) {
         Ok(()) => {}
-        Err(error) => return Err(error),
+        Err(fault) => return Err(reloc_error(fault)),
     }
     match resolved.entry(plan.entry.as_bytes()) {
         Some(entry) => Ok(entry),
@@ -131,7 +123,7 @@ fn laid_out<'a>(
 {
     match place(alloc, objects, plan.base) {
         Ok(tables) => Ok(tables),
-        Err(error) => Err(error),
+        Err(fault) => Err(layout_error(fault)),
     }
 }
 
@@ -152,7 +144,7 @@ fn fitted<'a>(
 {
     match patches(alloc, objects, resolved, placement) {
         Ok(patches) => Ok(patches),
-        Err(error) => Err(error),
+        Err(fault) => Err(reloc_error(fault)),
     }
 }
 
@@ -227,7 +219,7 @@ pub fn prepare_over<'a, T: NameTable<'a> + Drop>(
     };
     let objects = match load(alloc, &plan, files) {
         Ok(objects) => objects,
-        Err(refusal) => return Err(refusal),
+        Err(fault) => return Err(search_error(fault)),
     };
     let inside = is_in_profile(alloc, &plan, &objects)?;
     if !inside {

@@ -38,15 +38,6 @@ pub fn value(placement: &Placement<'_, '_>, symbol: &SymbolOf<'_>) -> u64
     }
 }
 
-/// A copy of bytes.
-fn copy(alloc: Global, bytes: &[u8]) -> Result<Vec<u8>, AllocError>
-    ensures { IfOk result (λ v. v.items ≡ bytes.now) }
-{
-    let mut copied = Vec::with_capacity(alloc, bytes.len())?;
-    copied.extend_from_slice(bytes)?;
-    Ok(copied)
-}
-
 /// The line of a definition.
 fn symbol_line(
     alloc: Global,
@@ -62,7 +53,7 @@ fn symbol_line(
             object: symbol.object,
             symbol: symbol.number,
         },
-        name: copy(alloc, symbol.name)?,
+        name: Vec::from_slice(alloc, symbol.name)?,
     })
 }
 
@@ -92,7 +83,7 @@ fn object_lines(alloc: Global, objects: &[Loaded<'_>]) -> Result<Vec<ObjectLine>
             object: k as u64,
             item: loaded.item,
             offset: 0,
-            path: copy(alloc, loaded.path.as_bytes())?,
+            path: Vec::from_slice(alloc, loaded.path.as_bytes())?,
         })?;
     }
     Ok(lines)
@@ -131,7 +122,7 @@ fn place_line(
         size: header.sh_size,
         object: number,
         section: i as u64,
-        name: copy(alloc, object.section_name(i).unwrap_or(&[]))?,
+        name: Vec::from_slice(alloc, object.section_name(i).unwrap_or(&[]))?,
     })
 }
 

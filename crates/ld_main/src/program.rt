@@ -1,11 +1,12 @@
 //! The program: reads the files that the words name, links or checks them, writes or prints the answer.
-ghost use Rattle.std.specs.Prelude.{◌≡◌, ◌≢◌, ◌⊎◌, ◌≤◌, None, IfErr, IfOk, IsErr, IsErrAnd};
+ghost use Rattle.std.specs.Prelude.{◌≡◌, ◌≢◌, ◌⊎◌, ◌≤◌, true, None, IfErr, IfOk, IsErr, IsErrAnd, IsOk, OnOk};
 ghost use Rattle.elf_model.specs.Command.{command_of};
 ghost use Rattle.elf_model.specs.Files.{files_of, words_of};
 ghost use Rattle.ld_main.specs.Program.{HasRightLink, LinksRight, error_status, failure_status, outcome_status, words_status};
 
 use crate::linkage::{Linkage, image, prepare};
 use crate::linking::map_text;
+use crate::refusals::command_error;
 use checker::check;
 use command::{Plan, candidates, read_words};
 use elf_model::{Clause, CmdFault, InputFile, LinkError, Verdict};
@@ -26,6 +27,15 @@ enum Outcome {
     Right,
     /// They are none; the least clause that fails.
     Wrong(Clause),
+}
+
+/// What the words ask for, beside the files that they name: the paths of the image and of the map, and whether
+/// these are to be checked.
+#[derive(Clone, Copy, Debug)]
+struct Task<'a> {
+    output: &'a str,
+    map: Option<&'a str>,
+    check: bool,
 }
 
 /// Why a run ends with a line on standard error.
@@ -57,10 +67,7 @@ impl<'a> From<CmdFault> for Failure<'a> {
     ghost from_gives = { λ fault failure. failure_status failure ≡ words_status fault };
 
     fn from(fault: CmdFault) -> Failure<'a> {
-        match fault {
-            CmdFault::Memory => Failure::from(LinkError::Memory),
-            other => Failure::from(LinkError::Command(other)),
-        }
+        Failure::from(command_error(fault))
     }
 }
 
@@ -260,7 +267,7 @@ fn write_map<'a, R: Files + AllocGlobal>(
 /// Links, and writes the image and then the map, which is made only where its path is given.
 fn link_files<'a, R: Files + AllocGlobal>(
     rt: &R,
-    plan: &Plan<'a>,
+    task: Task<'a>,
     files: &[InputFile],
     words: &[String],
 ) -> Result<Outcome, Failure<'a>>
@@ -271,8 +278,8 @@ fn link_files<'a, R: Files + AllocGlobal>(
         Ok(linkage) => linkage,
         Err(error) => return Err(refused(rt.alloc(), error)),
     };
-    write_image(rt, plan.output, &linkage)?;
-    if let Some(path) = plan.map {
+    write_image(rt, task.output, &linkage)?;
+    if let Some(path) = task.map {
         write_map(rt, path, &linkage)?;
     }
     Ok(Outcome::Linked)
@@ -281,18 +288,18 @@ fn link_files<'a, R: Files + AllocGlobal>(
 /// Reads the image and then the map, and checks them.
 fn check_files<'a, R: Files + AllocGlobal>(
     rt: &R,
-    plan: &Plan<'a>,
+    task: Task<'a>,
     files: &[InputFile],
     words: &[String],
 ) -> Result<Outcome, Failure<'a>>
-    requires mapped { plan.now.map ≢ None }
+    requires mapped { task.map ≢ None }
     ensures right { IfOk result (λ o. outcome_status o ≡ 0 → LinksRight (files_of files.now) (words_of words.now)) }
     ensures fault { IfErr result (λ f. 3 ≤ failure_status f) }
 {
-    let Some(map_path) = plan.map else {
+    let Some(map_path) = task.map else {
         unreachable!()
     };
-    let image = read_file(rt, plan.output)?;
+    let image = read_file(rt, task.output)?;
     let map = read_file(rt, map_path)?;
     match check(rt.alloc(), files, words, &image, &map)? {
         Verdict::Yes => Ok(Outcome::Right),
@@ -300,17 +307,36 @@ fn check_files<'a, R: Files + AllocGlobal>(
     }
 }
 
-fn run<'a, R: Files + AllocGlobal>(rt: &R, words: &'a [String]) -> Result<Outcome, Failure<'a>>
-    ensures right { IfOk result (λ o. outcome_status o ≡ 0 → HasRightLink (words_of words.entry.now)) }
+/// Reads the words, and the files that they name.
+fn gather<'a, R: Files + AllocGlobal>(
+    rt: &R,
+    words: &'a [String],
+) -> Result<(Task<'a>, Vec<InputFile>), Failure<'a>>
+    ensures mapped { IfOk result (λ g. g.0.check ≡ true → g.0.map ≢ None) }
+    ensures command { OnOk result (IsOk (command_of (words_of words.entry.now))) }
     ensures refused_words { IsErr (command_of (words_of words.entry.now)) → IsErrAnd result (λ f. (failure_status f ≡ 2) ⊎ (failure_status f ≡ 4)) }
     ensures words_alone { IfErr result (λ f. failure_status f ≡ 2 → IsErr (command_of (words_of words.entry.now))) }
 {
     let plan = read_words(rt.alloc(), words)?;
     let files = read_candidates(rt, &plan)?;
-    if plan.check {
-        check_files(rt, &plan, &files, words)
+    let task = Task {
+        output: plan.output,
+        map: plan.map,
+        check: plan.check,
+    };
+    Ok((task, files))
+}
+
+fn run<'a, R: Files + AllocGlobal>(rt: &R, words: &'a [String]) -> Result<Outcome, Failure<'a>>
+    ensures right { IfOk result (λ o. outcome_status o ≡ 0 → HasRightLink (words_of words.entry.now)) }
+    ensures refused_words { IsErr (command_of (words_of words.entry.now)) → IsErrAnd result (λ f. (failure_status f ≡ 2) ⊎ (failure_status f ≡ 4)) }
+    ensures words_alone { IfErr result (λ f. failure_status f ≡ 2 → IsErr (command_of (words_of words.entry.now))) }
+{
+    let (task, files) = gather(rt, words)?;
+    if task.check {
+        check_files(rt, task, &files, words)
     } else {
-        link_files(rt, &plan, &files, words)
+        link_files(rt, task, &files, words)
     }
 }
 

@@ -112,16 +112,20 @@ fn a_map_without_its_end_is_wrong(rt: HostRuntime) -> Result<(), Fail> {
 }
 
 #[test]
-fn refuses_what_is_no_link(rt: HostRuntime) -> Result<(), Fail> {
-    let alloc = rt.alloc();
-    let beginning = link_one(alloc, &OBJECT[..63], "a.o")?;
+fn refuses_objects(rt: HostRuntime) -> Result<(), Fail> {
+    let beginning = link_one(rt.alloc(), &OBJECT[..63], "a.o")?;
     assert!(rt; matches!(&beginning, Err(LinkError::BadObject(ObjFault::Truncated))));
-    let nameless = object(alloc, &[text_section()], &[function("")])?;
-    let nameless = link_one(alloc, &nameless, "a.o")?;
+    let nameless = object(rt.alloc(), &[text_section()], &[function("")])?;
+    let nameless = link_one(rt.alloc(), &nameless, "a.o")?;
     assert!(rt; matches!(&nameless, Err(LinkError::BadSymbol)));
-    let archive = link_one(alloc, &OBJECT, "a.o b.a")?;
+    Ok(())
+}
+
+#[test]
+fn refuses_other_files(rt: HostRuntime) -> Result<(), Fail> {
+    let archive = link_one(rt.alloc(), &OBJECT, "a.o b.a")?;
     assert!(rt; matches!(&archive, Err(LinkError::NotYet)));
-    let absent = link_one(alloc, &OBJECT, "b.o")?;
+    let absent = link_one(rt.alloc(), &OBJECT, "b.o")?;
     assert!(rt; matches!(&absent, Err(LinkError::FileMissing)));
     Ok(())
 }

@@ -1,5 +1,5 @@
 //! Runs of the whole program, over files in a folder of each test's own.
-use crate::objects::object;
+use crate::objects::{NamedSymbol, object};
 use crate::one_object::{function, text_section, words_of};
 use crate::several_objects::{R_PC32, in_text, text_with};
 use crate::vectors::{MAP, OBJECT, image};
@@ -46,6 +46,12 @@ fn assert_run<R: Files + AllocGlobal + Abort>(
     Ok(())
 }
 
+/// Asserts that a file is the image of `a.o`.
+fn assert_image<R: Files + AllocGlobal + Abort>(rt: &R, path: &str) -> Result<(), Fail> {
+    assert!(rt; fs::read(rt, path)? == image(rt.alloc())?, "{path}");
+    Ok(())
+}
+
 #[test]
 fn refuses_words(rt: HostRuntime) -> Result<(), Fail> {
     let rows = [
@@ -63,11 +69,10 @@ fn refuses_words(rt: HostRuntime) -> Result<(), Fail> {
 #[test]
 fn links_and_checks(rt: HostRuntime) -> Result<(), Fail> {
     let folder = enter_folder(&rt, "links")?;
-    let image = image(rt.alloc())?;
     assert_run(&rt, "a.o", 0, "", "")?;
-    assert!(rt; fs::read(&rt, "a.out")? == image);
+    assert_image(&rt, "a.out")?;
     assert_run(&rt, "a.o -o start -Map=start.map", 0, "", "")?;
-    assert!(rt; fs::read(&rt, "start")? == image);
+    assert_image(&rt, "start")?;
     assert!(rt; fs::read(&rt, "start.map")?.as_slice() == MAP);
     assert_run(&rt, "a.o -o start -Map=start.map --check", 0, "yes\n", "")?;
     assert_run(&rt, "b.o -o start -Map=start.map --check", 1, "no C2\n", "")?;
@@ -76,26 +81,34 @@ fn links_and_checks(rt: HostRuntime) -> Result<(), Fail> {
     leave_folder(&rt, &folder)
 }
 
+/// Writes an object with a text and symbols.
+fn write_object(rt: &HostRuntime, path: &str, symbols: &[NamedSymbol<'_>]) -> Result<(), Fail> {
+    let bytes = object(rt.alloc(), &[text_section()], symbols)?;
+    fs::write(rt, path, &bytes)?;
+    Ok(())
+}
+
+/// Writes an object that defines `_start`, and a name twice.
+fn write_twice(rt: &HostRuntime, path: &str, name: &str) -> Result<(), Fail> {
+    let symbols = [function("_start"), function(name), function(name)];
+    write_object(rt, path, &symbols)
+}
+
+/// Writes `caller.o`, an object that uses `f` and doesn't define it.
+fn write_caller(rt: &HostRuntime) -> Result<(), Fail> {
+    let bytes = text_with(rt.alloc(), &[in_text(0, R_PC32, 2, 0)])?;
+    fs::write(rt, "caller.o", &bytes)?;
+    Ok(())
+}
+
 #[test]
 fn refuses_links(rt: HostRuntime) -> Result<(), Fail> {
     let folder = enter_folder(&rt, "refuses")?;
     fs::write(&rt, "cut.o", &OBJECT[..63])?;
-    let nameless = object(rt.alloc(), &[text_section()], &[function("")])?;
-    fs::write(&rt, "nameless.o", &nameless)?;
-    let twice = [function("_start"), function("f"), function("f")];
-    fs::write(
-        &rt,
-        "twice.o",
-        &object(rt.alloc(), &[text_section()], &twice)?,
-    )?;
-    let spaced = [function("_start"), function("f g"), function("f g")];
-    fs::write(
-        &rt,
-        "spaced.o",
-        &object(rt.alloc(), &[text_section()], &spaced)?,
-    )?;
-    let caller = text_with(rt.alloc(), &[in_text(0, R_PC32, 2, 0)])?;
-    fs::write(&rt, "caller.o", &caller)?;
+    write_object(&rt, "nameless.o", &[function("")])?;
+    write_twice(&rt, "twice.o", "f")?;
+    write_twice(&rt, "spaced.o", "f g")?;
+    write_caller(&rt)?;
     let rows = [
         ("cut.o", "ld: BadObject (4): Truncated (2)\n"),
         ("nameless.o", "ld: BadSymbol (21)\n"),
@@ -132,6 +145,6 @@ fn tells_faults_of_files(rt: HostRuntime) -> Result<(), Fail> {
     for (line, complaint) in rows {
         assert_run(&rt, line, 3, "", complaint)?;
     }
-    assert!(rt; fs::read(&rt, "a.out")? == image(rt.alloc())?);
+    assert_image(&rt, "a.out")?;
     leave_folder(&rt, &folder)
 }

@@ -140,52 +140,70 @@ fn linked(
     Ok(answer)
 }
 
-/// Bytes of an image.
-fn bytes_at(output: &Output, from: usize, to: usize) -> Result<&[u8], Fail> {
-    Ok(output.image.get(from..to).ok_or("a shorter image")?)
+/// Whether an image has bytes at an offset.
+fn has_bytes(output: &Output, from: usize, bytes: &[u8]) -> bool {
+    let to = from.saturating_add(bytes.len());
+    output.image.get(from..to) == Some(bytes)
+}
+
+/// An object that calls `f`.
+fn caller(alloc: Global) -> Result<Vec<u8>, Fail> {
+    let call = [0xe8, 0, 0, 0, 0, 0xb8, 0x3c, 0, 0, 0, 0x31, 0xff, 0x0f, 5];
+    relocatable(
+        alloc,
+        &[section(".text", SHF_EXECINSTR, 16, &call)],
+        &[function("_start"), undefined("f")],
+        &[in_text(1, R_PLT32, 2, -4)],
+    )
+}
+
+/// An object that defines `f`.
+fn callee(alloc: Global) -> Result<Vec<u8>, Fail> {
+    object(
+        alloc,
+        &[section(".text", SHF_EXECINSTR, 16, &[0xc3])],
+        &[function("f")],
+    )
+}
+
+/// The link of those two.
+fn linked_call(alloc: Global) -> Result<Output, Fail> {
+    let caller = caller(alloc)?;
+    let callee = callee(alloc)?;
+    Ok(link_two(alloc, &caller, &callee)??)
 }
 
 #[test]
 fn calls_a_function_of_another_object(rt: HostRuntime) -> Result<(), Fail> {
-    let call = [0xe8, 0, 0, 0, 0, 0xb8, 0x3c, 0, 0, 0, 0x31, 0xff, 0x0f, 5];
-    let caller = relocatable(
-        rt.alloc(),
-        &[section(".text", SHF_EXECINSTR, 16, &call)],
-        &[function("_start"), undefined("f")],
-        &[in_text(1, R_PLT32, 2, -4)],
-    )?;
-    let callee = object(
-        rt.alloc(),
-        &[section(".text", SHF_EXECINSTR, 16, &[0xc3])],
-        &[function("f")],
-    )?;
-    let output = link_two(rt.alloc(), &caller, &callee)??;
+    let output = linked_call(rt.alloc())?;
     assert_eq!(rt; output.image.len(), 4113);
-    assert!(rt; bytes_at(&output, 0x1000, 0x1005)? == [0xe8, 0x0b, 0, 0, 0].as_slice());
-    assert!(rt; bytes_at(&output, 0x100e, 0x1011)? == [0x90, 0x90, 0xc3].as_slice());
+    assert!(rt; has_bytes(&output, 0x1000, &[0xe8, 0x0b, 0, 0, 0]));
+    assert!(rt; has_bytes(&output, 0x100e, &[0x90, 0x90, 0xc3]));
     assert!(rt; output.map.as_slice() == CALL_MAP);
     Ok(())
 }
 
+/// An object whose sections besides its text are empty.
+fn with_empty_sections(alloc: Global) -> Result<Vec<u8>, Fail> {
+    let sections = [
+        text_section(),
+        section(".data", SHF_WRITE, 1, &[]),
+        bss(0, 1),
+    ];
+    object(alloc, &sections, &[function("_start")])
+}
+
 #[test]
 fn empty_sections_take_no_room(rt: HostRuntime) -> Result<(), Fail> {
-    let bytes = object(
-        rt.alloc(),
-        &[
-            text_section(),
-            section(".data", SHF_WRITE, 1, &[]),
-            bss(0, 1),
-        ],
-        &[function("_start")],
-    )?;
+    let bytes = with_empty_sections(rt.alloc())?;
     let output = link_one(rt.alloc(), &bytes)??;
     assert!(rt; output.image == image(rt.alloc())?);
     assert!(rt; output.map.as_slice() == EMPTY_MAP);
     Ok(())
 }
 
-#[test]
-fn relocates_data(rt: HostRuntime) -> Result<(), Fail> {
+/// An object with relocations of its constants and of its data.
+fn with_data(alloc: Global) -> Result<Vec<u8>, Fail> {
     let sections = [
         text_section(),
         section(".rodata", 0, 4, &[0, 0, 0, 0, 5]),
@@ -209,20 +227,25 @@ fn relocates_data(rt: HostRuntime) -> Result<(), Fail> {
         },
     ];
     let symbols = [section_symbol(3), section_symbol(2), function("_start")];
-    let bytes = relocatable(rt.alloc(), &sections, &symbols, &relocations)?;
+    relocatable(alloc, &sections, &symbols, &relocations)
+}
+
+#[test]
+fn relocates_data(rt: HostRuntime) -> Result<(), Fail> {
+    let bytes = with_data(rt.alloc())?;
     let output = link_one(rt.alloc(), &bytes)??;
     assert_eq!(rt; output.image.len(), 8200);
-    assert!(rt; bytes_at(&output, 0x120, 0x125)? == [0xe0, 0x1e, 0, 0, 5].as_slice());
-    assert!(rt; bytes_at(&output, 0x2000, 0x2008)? == [0x21, 1, 0x40, 0, 0, 0, 0, 0].as_slice());
-    assert!(rt; bytes_at(&output, 96, 104)? == [0x25, 1, 0, 0, 0, 0, 0, 0].as_slice());
+    assert!(rt; has_bytes(&output, 0x120, &[0xe0, 0x1e, 0, 0, 5]));
+    assert!(rt; has_bytes(&output, 0x2000, &[0x21, 1, 0x40, 0, 0, 0, 0, 0]));
+    assert!(rt; has_bytes(&output, 96, &[0x25, 1, 0, 0, 0, 0, 0, 0]));
     let writable = [8, 0, 0, 0, 0, 0, 0, 0, 0x10, 0, 0, 0, 0, 0, 0, 0];
-    assert!(rt; bytes_at(&output, 208, 224)? == writable.as_slice());
+    assert!(rt; has_bytes(&output, 208, &writable));
     assert!(rt; output.map.as_slice() == DATA_MAP);
     Ok(())
 }
 
-#[test]
-fn values_wrap_at_64_bits(rt: HostRuntime) -> Result<(), Fail> {
+/// An object whose data is the last address and two bytes more.
+fn with_last_address(alloc: Global) -> Result<Vec<u8>, Fail> {
     let last = NamedSymbol {
         name: "last",
         st_info: 0x10,
@@ -237,14 +260,19 @@ fn values_wrap_at_64_bits(rt: HostRuntime) -> Result<(), Fail> {
         symbol: 2,
         addend: 2,
     };
-    let bytes = relocatable(
-        rt.alloc(),
+    relocatable(
+        alloc,
         &[text_section(), section(".data", SHF_WRITE, 8, &[0xaa; 8])],
         &[function("_start"), last],
         &[relocation],
-    )?;
+    )
+}
+
+#[test]
+fn values_wrap_at_64_bits(rt: HostRuntime) -> Result<(), Fail> {
+    let bytes = with_last_address(rt.alloc())?;
     let output = link_one(rt.alloc(), &bytes)??;
-    assert!(rt; bytes_at(&output, 0x2000, 0x2008)? == [1, 0, 0, 0, 0, 0, 0, 0].as_slice());
+    assert!(rt; has_bytes(&output, 0x2000, &[1, 0, 0, 0, 0, 0, 0, 0]));
     Ok(())
 }
 
@@ -254,66 +282,94 @@ pub fn text_with(alloc: Global, relocations: &[Relocation]) -> Result<Vec<u8>, F
     relocatable(alloc, &[text_section()], &symbols, relocations)
 }
 
-#[test]
-fn refuses_relocations(rt: HostRuntime) -> Result<(), Fail> {
-    let alloc = rt.alloc();
+/// What the link of that text answers, beside an object that defines `f`.
+fn link_text(alloc: Global, relocations: &[Relocation]) -> Result<Result<Output, LinkError>, Fail> {
+    let text = text_with(alloc, relocations)?;
     let callee = object(alloc, &[text_section()], &[function("f")])?;
-    let outside = text_with(alloc, &[in_text(6, R_PC32, 2, 0)])?;
-    let outside = link_two(alloc, &outside, &callee)?;
+    link_two(alloc, &text, &callee)
+}
+
+#[test]
+fn refuses_fields(rt: HostRuntime) -> Result<(), Fail> {
+    let outside = link_text(rt.alloc(), &[in_text(6, R_PC32, 2, 0)])?;
     assert!(rt; matches!(&outside, Err(LinkError::FieldOutside)));
     let both = [in_text(0, R_PC32, 2, 0), in_text(2, R_PC32, 2, 0)];
-    let overlapping = link_two(alloc, &text_with(alloc, &both)?, &callee)?;
+    let overlapping = link_text(rt.alloc(), &both)?;
     assert!(rt; matches!(&overlapping, Err(LinkError::OverlappingFields)));
     let one = [in_text(0, R_PC32, 2, 0), in_text(2, 0, 2, 0)];
-    let one = link_two(alloc, &text_with(alloc, &one)?, &callee)?;
+    let one = link_text(rt.alloc(), &one)?;
     assert!(rt; matches!(&one, Ok(_)));
-    let unknown = link_two(alloc, &text_with(alloc, &[in_text(0, 5, 2, 0)])?, &callee)?;
+    Ok(())
+}
+
+#[test]
+fn refuses_relocations(rt: HostRuntime) -> Result<(), Fail> {
+    let unknown = link_text(rt.alloc(), &[in_text(0, 5, 2, 0)])?;
     assert!(rt; matches!(&unknown, Err(LinkError::RelocKind)));
-    let later = link_two(alloc, &text_with(alloc, &[in_text(0, 10, 2, 0)])?, &callee)?;
+    let later = link_text(rt.alloc(), &[in_text(0, 10, 2, 0)])?;
     assert!(rt; matches!(&later, Err(LinkError::NotYet)));
-    let undefined = link_one(alloc, &text_with(alloc, &[in_text(0, R_PC32, 2, 0)])?)?;
+    Ok(())
+}
+
+#[test]
+fn refuses_an_undefined_name(rt: HostRuntime) -> Result<(), Fail> {
+    let text = text_with(rt.alloc(), &[in_text(0, R_PC32, 2, 0)])?;
+    let undefined = link_one(rt.alloc(), &text)?;
     assert!(rt;
         matches!(&undefined, Err(LinkError::Undefined(name)) if name.as_slice() == b"f".as_slice())
     );
     Ok(())
 }
 
+/// An object that names `_end`, and has relocations.
+fn with_end(alloc: Global, relocations: &[Relocation]) -> Result<Vec<u8>, Fail> {
+    let symbols = [function("_start"), undefined("_end")];
+    relocatable(alloc, &[text_section()], &symbols, relocations)
+}
+
 #[test]
 fn a_linkers_name_is_an_objects_to_define(rt: HostRuntime) -> Result<(), Fail> {
     let alloc = rt.alloc();
-    let user = relocatable(
-        alloc,
-        &[text_section()],
-        &[function("_start"), undefined("_end")],
-        &[in_text(0, R_PC32, 2, 0)],
-    )?;
-    let alone = link_one(alloc, &user)?;
-    assert!(rt; matches!(&alone, Err(LinkError::NotYet)));
+    let user = with_end(alloc, &[in_text(0, R_PC32, 2, 0)])?;
     let definer = object(alloc, &[text_section()], &[function("_end")])?;
     let output = link_two(alloc, &user, &definer)??;
-    assert!(rt; bytes_at(&output, 0x1000, 0x1004)? == [9, 0, 0, 0].as_slice());
-    let unused = object(
-        alloc,
-        &[text_section()],
-        &[function("_start"), undefined("_end")],
-    )?;
-    let unused = link_one(alloc, &unused)?;
-    assert!(rt; matches!(&unused, Ok(_)));
+    assert!(rt; has_bytes(&output, 0x1000, &[9, 0, 0, 0]));
     Ok(())
 }
 
 #[test]
+fn a_linkers_name_is_refused_where_it_is_used(rt: HostRuntime) -> Result<(), Fail> {
+    let user = with_end(rt.alloc(), &[in_text(0, R_PC32, 2, 0)])?;
+    let alone = link_one(rt.alloc(), &user)?;
+    assert!(rt; matches!(&alone, Err(LinkError::NotYet)));
+    let unused = with_end(rt.alloc(), &[])?;
+    let unused = link_one(rt.alloc(), &unused)?;
+    assert!(rt; matches!(&unused, Ok(_)));
+    Ok(())
+}
+
+/// What the link of one object answers that defines `_start` in the first of its sections.
+fn link_sections(
+    alloc: Global,
+    sections: &[Section<'_>],
+) -> Result<Result<Output, LinkError>, Fail> {
+    let bytes = object(alloc, sections, &[function("_start")])?;
+    link_one(alloc, &bytes)
+}
+
+#[test]
 fn refuses_layouts(rt: HostRuntime) -> Result<(), Fail> {
-    let alloc = rt.alloc();
-    let start = [function("_start")];
-    let large = object(alloc, &[text_section(), bss(1 << 46, 1)], &start)?;
-    let large = link_one(alloc, &large)?;
+    let large = link_sections(rt.alloc(), &[text_section(), bss(1 << 46, 1)])?;
     assert!(rt; matches!(&large, Err(LinkError::TooLarge)));
     let both = SHF_WRITE | SHF_EXECINSTR;
-    let both = object(alloc, &[section(".text", both, 1, &TEXT)], &start)?;
-    let both = link_one(alloc, &both)?;
+    let both = link_sections(rt.alloc(), &[section(".text", both, 1, &TEXT)])?;
     assert!(rt; matches!(&both, Err(LinkError::SectionKind)));
-    let twice = link_two(alloc, &OBJECT, &OBJECT)?;
+    Ok(())
+}
+
+#[test]
+fn refuses_a_second_definition(rt: HostRuntime) -> Result<(), Fail> {
+    let twice = link_two(rt.alloc(), &OBJECT, &OBJECT)?;
     assert!(rt;
         matches!(&twice, Err(LinkError::Duplicate(name)) if name.as_slice() == b"_start".as_slice())
     );

@@ -5,6 +5,7 @@ use crate::vectors::{MAP, OBJECT, image};
 use elf_model::InputFile;
 use ld_main::{Linkage, link_map, prepare, prepare_over};
 use std::alloc::Global;
+use std::process::Abort;
 use std::test::Fail;
 use symbols::ListTable;
 
@@ -73,18 +74,26 @@ fn a_prepared_link_has_an_image_and_a_map(rt: HostRuntime) -> Result<(), Fail> {
     Ok(())
 }
 
-#[test]
-fn many_names_link_alike_in_both_tables(rt: HostRuntime) -> Result<(), Fail> {
-    let alloc = rt.alloc();
-    let object = many_names(alloc)?;
-    let files = one_file(alloc, "a.o", &object)?;
-    let words = words_of(alloc, "a.o")?;
-    let (image, map) = by_hash(alloc, &files, &words)?;
-    let (image_by_list, map_by_list) = by_list(alloc, &files, &words)?;
+/// Asserts that the many names, as files, link alike in both tables.
+fn assert_alike(
+    rt: &impl Abort,
+    alloc: Global,
+    files: &[InputFile],
+    words: &[String],
+) -> Result<(), Fail> {
+    let (image, map) = by_hash(alloc, files, words)?;
+    let (image_by_list, map_by_list) = by_list(alloc, files, words)?;
     assert!(rt; image == image_by_list);
     assert!(rt; map == map_by_list);
-    assert_eq!(rt; image.len(), 4105);
-    assert_eq!(rt; map.len(), 131_002);
+    assert_eq!(rt; [image.len(), map.len()], [4105, 131_002]);
     assert!(rt; map.ends_with(b"symbol 0000000000401000 strong 0 1323 n2999\nend\n"));
     Ok(())
+}
+
+#[test]
+fn many_names_link_alike_in_both_tables(rt: HostRuntime) -> Result<(), Fail> {
+    let object = many_names(rt.alloc())?;
+    let files = one_file(rt.alloc(), "a.o", &object)?;
+    let words = words_of(rt.alloc(), "a.o")?;
+    assert_alike(&rt, rt.alloc(), &files, &words)
 }

@@ -1,9 +1,9 @@
 -- An image from its header and its table, and the fault that stands.
-use Rattle.std.proofs.Common.{◌≡◌, ℕ, ◌+◌, ◌*◌, ◌≤◌, List, length, subst, sym, ◌∙◌, ap, arith}
-use Rattle.std.specs.Prelude.{map, AllPairs}
+use Rattle.std.proofs.Common.{◌≡◌, ℕ, ◌+◌, ◌*◌, ◌≤◌, List, length, subst, ◌∙◌, ap, arith}
+use Rattle.std.specs.Prelude.{map}
 use Rattle.std.specs.List.{range_with_len}
 use Rattle.std.proofs.lemmas.List.FromFn.{length-map-range_with_len}
-use Rattle.elf_model.specs.MemoryImage.{HasImageHeader, IsImage, LoadFaultStands, ShareNoPage, program_header_at, program_headers, loads_in, loads, thread_blocks, is_thread_block}
+use Rattle.elf_model.specs.MemoryImage.{HasImageHeader, IsImage, LoadFaultStands, program_header_at, program_headers}
 use Rattle.elf_model.specs.Records.{file_header}
 use Rattle.elf_model.specs.declared.faults.LoadFault.{LoadFault}
 use Rattle.elf_model.specs.declared.faults.LoadFault.TheVariants as fault

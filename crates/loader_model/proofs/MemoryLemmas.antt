@@ -1,6 +1,6 @@
 -- Memory at an address is what the one segment says that maps it.
-use Rattle.std.proofs.Common.{◌≡◌, ℕ, zero, suc, ◌+◌, ◌*◌, ◌/◌, ◌<◌, ◌≤◌, ◌&&◌, Bool, true, false, cond, List, [], ◌∷◌, length, get_or, refl, sym, ◌∙◌, ap, subst, arith}
-use Rattle.std.specs.Prelude.{AllPairs, Contains, Option, Some, None, find, option_map, slice_index, nat_le, nat_lt}
+use Rattle.std.proofs.Common.{◌≡◌, ℕ, zero, suc, ◌+◌, ◌/◌, ◌<◌, ◌≤◌, ◌&&◌, Bool, true, false, cond, List, [], ◌∷◌, length, get_or, refl, sym, ◌∙◌, ap, subst, arith}
+use Rattle.std.specs.Prelude.{AllPairs, Contains, Some, find, option_map, slice_index, nat_le, nat_lt}
 use Rattle.std.proofs.lemmas.Bool.{leb-true, ltb-true, le-leb, lt-ltb}
 use Rattle.elf_model.specs.MemoryImage.{Cell, Encloses, IsImage, ShareNoPage, Touches, cell_of, loads, maps, memory_of, segment_byte}
 use Rattle.elf_model.specs.declared.records.ProgramHeader.{ProgramHeader}

@@ -1,8 +1,11 @@
 //! Memory as an image's segments make it.
 use byteview::View;
-use elf_model::{EM_X86_64, ET_EXEC, FileHeader, PT_GNU_STACK, PT_LOAD, PT_TLS, ProgramHeader};
+use elf_model::{
+    EM_X86_64, ET_EXEC, ET_REL, FileHeader, PT_GNU_STACK, PT_LOAD, PT_TLS, ProgramHeader,
+};
 use loader_model::{LoadFault, Memory, Rights};
 use std::alloc::{AllocError, Global};
+use std::process::Abort;
 use std::test::Fail;
 
 const HEADER: FileHeader = FileHeader {
@@ -32,6 +35,18 @@ const SEGMENT: ProgramHeader = ProgramHeader {
     p_filesz: 176,
     p_memsz: 200,
     p_align: 4096,
+};
+
+/// The header of an object file.
+const OBJECT: FileHeader = FileHeader {
+    e_type: ET_REL,
+    ..HEADER
+};
+
+/// May be read, written and executed.
+const ANY_RIGHT: ProgramHeader = ProgramHeader {
+    p_flags: 7,
+    ..SEGMENT
 };
 
 const STACK: ProgramHeader = ProgramHeader {
@@ -74,6 +89,11 @@ fn an_image(
     Ok(image)
 }
 
+/// An image of `SEGMENT` alone.
+fn one_segment(alloc: Global) -> Result<Vec<u8>, AllocError> {
+    an_image(alloc, &HEADER, &[SEGMENT, STACK])
+}
+
 fn fault_of(
     alloc: Global,
     header: &FileHeader,
@@ -85,11 +105,14 @@ fn fault_of(
 
 #[test]
 fn a_segment_is_bytes_and_then_zeros(rt: HostRuntime) -> Result<(), Fail> {
-    let image = an_image(rt.alloc(), &HEADER, &[SEGMENT, STACK])?;
+    let image = one_segment(rt.alloc())?;
     let memory = Memory::load(rt.alloc(), View::new(&image))?;
-    assert_eq!(rt; memory.byte(0x40_0001), Some(b'E'));
-    assert_eq!(rt; memory.byte(0x40_00b0), Some(0));
-    assert_eq!(rt; memory.byte(0x40_00c8), None);
+    let bytes = [
+        memory.byte(0x40_0001),
+        memory.byte(0x40_00b0),
+        memory.byte(0x40_00c8),
+    ];
+    assert_eq!(rt; bytes, [Some(b'E'), Some(0), None]);
     assert_eq!(rt; memory.rights(0x40_0000), Some(Rights::Read));
     assert_eq!(rt; memory.entry(), 0x40_0000);
     Ok(())
@@ -97,7 +120,7 @@ fn a_segment_is_bytes_and_then_zeros(rt: HostRuntime) -> Result<(), Fail> {
 
 #[test]
 fn headers_are_the_files(rt: HostRuntime) -> Result<(), Fail> {
-    let image = an_image(rt.alloc(), &HEADER, &[SEGMENT, STACK])?;
+    let image = one_segment(rt.alloc())?;
     let memory = Memory::load(rt.alloc(), View::new(&image))?;
     assert_eq!(rt; memory.image().len(), 176);
     assert!(rt; memory.header() == HEADER);
@@ -106,8 +129,8 @@ fn headers_are_the_files(rt: HostRuntime) -> Result<(), Fail> {
     Ok(())
 }
 
-#[test]
-fn a_thread_block_is_told(rt: HostRuntime) -> Result<(), Fail> {
+/// An image whose segment has a thread-local block.
+fn with_thread_block(alloc: Global) -> Result<Vec<u8>, AllocError> {
     let header = FileHeader {
         e_phnum: 3,
         ..HEADER
@@ -117,41 +140,43 @@ fn a_thread_block_is_told(rt: HostRuntime) -> Result<(), Fail> {
         p_memsz: 232,
         ..SEGMENT
     };
-    let image = an_image(rt.alloc(), &header, &[whole, BLOCK, STACK])?;
+    an_image(alloc, &header, &[whole, BLOCK, STACK])
+}
+
+#[test]
+fn a_thread_block_is_told(rt: HostRuntime) -> Result<(), Fail> {
+    let image = with_thread_block(rt.alloc())?;
     let memory = Memory::load(rt.alloc(), View::new(&image))?;
     assert!(rt; memory.thread_blocks() == [BLOCK].as_slice());
     Ok(())
 }
 
-#[test]
-fn runs_lie_in_one_segment(rt: HostRuntime) -> Result<(), Fail> {
-    let image = an_image(rt.alloc(), &HEADER, &[SEGMENT, STACK])?;
-    let memory = Memory::load(rt.alloc(), View::new(&image))?;
+/// Asserts what runs a memory of `SEGMENT` has: of its bytes, of bytes and zeros, and none past either end.
+fn assert_runs(rt: &impl Abort, memory: &Memory<'_>) -> Result<(), Fail> {
     let magic = memory.run(0x40_0000, 4).ok_or("mapped")?;
     assert!(rt; magic.bytes == b"\x7fELF".as_slice());
-    assert_eq!(rt; magic.zeros, 0);
     let last = memory.run(0x40_00ac, 28).ok_or("mapped")?;
     assert_eq!(rt; last.bytes.len(), 4);
-    assert_eq!(rt; last.zeros, 24);
+    assert_eq!(rt; [magic.zeros, last.zeros], [0, 24]);
     assert!(rt; memory.run(0x40_00ac, 29).is_none());
     assert!(rt; memory.run(0x3f_ffff, 2).is_none());
     Ok(())
 }
 
 #[test]
+fn runs_lie_in_one_segment(rt: HostRuntime) -> Result<(), Fail> {
+    let image = one_segment(rt.alloc())?;
+    let memory = Memory::load(rt.alloc(), View::new(&image))?;
+    assert_runs(&rt, &memory)?;
+    Ok(())
+}
+
+#[test]
 fn faults_are_told(rt: HostRuntime) -> Result<(), Fail> {
     let alloc = rt.alloc();
-    let object = FileHeader {
-        e_type: 1,
-        ..HEADER
-    };
-    let fault = fault_of(alloc, &object, &[SEGMENT, STACK])?;
+    let fault = fault_of(alloc, &OBJECT, &[SEGMENT, STACK])?;
     assert!(rt; matches!(fault, Some(LoadFault::BadHeader)));
-    let any = ProgramHeader {
-        p_flags: 7,
-        ..SEGMENT
-    };
-    let fault = fault_of(alloc, &HEADER, &[any, STACK])?;
+    let fault = fault_of(alloc, &HEADER, &[ANY_RIGHT, STACK])?;
     assert!(rt; matches!(fault, Some(LoadFault::BadSegment)));
     let fault = fault_of(alloc, &HEADER, &[STACK, SEGMENT])?;
     assert!(rt; matches!(fault, Some(LoadFault::Order)));

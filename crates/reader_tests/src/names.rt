@@ -20,7 +20,7 @@ const NO_ROW: Row = Row {
     common_align: 0,
 };
 
-fn symbol(object: u32, number: u32) -> SymbolRef {
+fn symbol(object: u64, number: u64) -> SymbolRef {
     SymbolRef {
         object: ObjectId(object),
         symbol: number,
@@ -29,7 +29,7 @@ fn symbol(object: u32, number: u32) -> SymbolRef {
 
 /// The first symbol of an object, as a candidate with a size and an alignment that only a common one's row
 /// takes up.
-fn candidate(kind: CandidateKind, object: u32) -> Candidate {
+fn candidate(kind: CandidateKind, object: u64) -> Candidate {
     Candidate {
         symbol: symbol(object, 1),
         kind,
@@ -38,7 +38,7 @@ fn candidate(kind: CandidateKind, object: u32) -> Candidate {
     }
 }
 
-fn common(object: u32, size: u64, align: u64) -> Candidate {
+fn common(object: u64, size: u64, align: u64) -> Candidate {
     Candidate {
         symbol: symbol(object, 1),
         kind: CandidateKind::Common,
@@ -60,54 +60,51 @@ fn offer_all<'a, T: NameTable<'a>>(
     Ok(())
 }
 
-/// Weak, strong and common definitions of one name: `f` of five objects, between them one of `g`.
-fn mixes_kinds<'a, T: NameTable<'a>>(rt: &impl Abort, table: &mut T) -> Result<(), Fail> {
-    assert_eq!(rt; table.get(b"f"), None);
-    table.offer(b"f", candidate(CandidateKind::Weak, 0))?;
+/// The rows of `f` as its definitions come: a weak one, a strong one, a common one, and a second strong one.
+fn growing_rows() -> [Row; 4] {
     let weak = Row {
         weak: Some(symbol(0, 1)),
         ..NO_ROW
     };
-    assert_eq!(rt; table.get(b"f"), Some(weak));
-    table.offer(b"f", candidate(CandidateKind::Strong, 1))?;
     let strong = Row {
         strong: Some(symbol(1, 1)),
         ..weak
     };
-    assert_eq!(rt; table.get(b"f"), Some(strong));
-    table.offer(b"g", candidate(CandidateKind::Strong, 2))?;
-    table.offer(b"f", candidate(CandidateKind::Weak, 3))?;
-    assert_eq!(rt; table.get(b"f"), Some(strong));
-    table.offer(b"f", common(4, 24, 8))?;
     let mixed = Row {
         common: Some(symbol(4, 1)),
         common_size: 24,
         common_align: 8,
         ..strong
     };
-    assert_eq!(rt; table.get(b"f"), Some(mixed));
-    table.offer(b"f", candidate(CandidateKind::Strong, 5))?;
-    assert_eq!(rt;
-        table.get(b"f"),
-        Some(Row {
-            twice: true,
-            ..mixed
-        })
-    );
-    table.offer(b"f", candidate(CandidateKind::Strong, 6))?;
-    assert_eq!(rt;
-        table.get(b"f"),
-        Some(Row {
-            twice: true,
-            ..mixed
-        })
-    );
+    let twice = Row {
+        twice: true,
+        ..mixed
+    };
+    [weak, strong, mixed, twice]
+}
+
+/// Weak, strong and common definitions of one name: `f` of six objects, between them one of `g`.
+fn mixes_kinds<'a, T: NameTable<'a>>(rt: &impl Abort, table: &mut T) -> Result<(), Fail> {
+    let [weak, strong, mixed, twice] = growing_rows();
     let other = Row {
         strong: Some(symbol(2, 1)),
         ..NO_ROW
     };
-    assert_eq!(rt; table.get(b"g"), Some(other));
-    assert_eq!(rt; table.get(b"F"), None);
+    assert_eq!(rt; table.get(b"f"), None);
+    for (name, candidate, row) in [
+        (b"f", candidate(CandidateKind::Weak, 0), weak),
+        (b"f", candidate(CandidateKind::Strong, 1), strong),
+        (b"g", candidate(CandidateKind::Strong, 2), other),
+        (b"f", candidate(CandidateKind::Weak, 3), strong),
+        (b"f", common(4, 24, 8), mixed),
+        (b"f", candidate(CandidateKind::Strong, 5), twice),
+        (b"f", candidate(CandidateKind::Strong, 6), twice),
+    ] {
+        table.offer(name, candidate)?;
+        assert_eq!(rt; table.get(name), Some(row), "after {candidate:?}");
+    }
+    let rows = [table.get(b"f"), table.get(b"g"), table.get(b"F")];
+    assert_eq!(rt; rows, [Some(twice), Some(other), None]);
     Ok(())
 }
 
@@ -122,7 +119,10 @@ fn takes_a_list<'a, T: NameTable<'a>>(
         (name, candidate(CandidateKind::Strong, 1)),
         (name, candidate(CandidateKind::Strong, 2)),
     ];
+    table.reserve(1000)?;
+    assert_eq!(rt; table.get(name), None);
     offer_all(table, &offers)?;
+    table.reserve(1000)?;
     let row = Row {
         strong: Some(symbol(1, 1)),
         twice: true,
@@ -153,19 +153,28 @@ fn grows_commons<'a, T: NameTable<'a>>(rt: &impl Abort, table: &mut T) -> Result
 static NAMES: &[u8] =
     b"_ZNSt6vectorIiSaIiEE17_M_realloc_insertIJiEEEvN9__gnu_cxx17__normal_iterator";
 
+/// Offers each prefix of a name; in another round, by other objects.
+fn offer_prefixes<'a, T: NameTable<'a>>(
+    table: &mut T,
+    longest: &'a [u8],
+    round: u64,
+) -> Result<(), Fail> {
+    for number in 0..64_u64 {
+        let (name, _) = longest.split_at_checked(number as usize).ok_or("64 bytes")?;
+        table.offer(name, candidate(CandidateKind::Weak, number ^ round))?;
+    }
+    Ok(())
+}
+
 /// The prefixes of a name as names: an offer for one leaves the others' rows.
 fn keeps_prefixes_apart<'a, T: NameTable<'a>>(
     rt: &impl Abort,
     table: &mut T,
     longest: &'a [u8],
 ) -> Result<(), Fail> {
-    for round in 0..2 {
-        for number in 0..64_u32 {
-            let (name, _) = longest.split_at_checked(number as usize).ok_or("64 bytes")?;
-            table.offer(name, candidate(CandidateKind::Weak, number ^ round))?;
-        }
-    }
-    for number in 0..64_u32 {
+    offer_prefixes(table, longest, 0)?;
+    offer_prefixes(table, longest, 1)?;
+    for number in 0..64_u64 {
         let (name, _) = longest.split_at_checked(number as usize).ok_or("64 bytes")?;
         let row = Row {
             weak: Some(symbol(number, 1)),
@@ -183,28 +192,31 @@ fn indexed<'a>(alloc: Global) -> IndexedTable<'a, BuildHasherDefault<FoldHasher>
 
 #[test]
 fn the_list_is_a_table(rt: HostRuntime) -> Result<(), Fail> {
-    let alloc = rt.alloc();
-    mixes_kinds(&rt, &mut ListTable::new(alloc))?;
-    takes_a_list(&rt, &mut ListTable::new(alloc), b"f")?;
-    grows_commons(&rt, &mut ListTable::new(alloc))?;
-    keeps_prefixes_apart(&rt, &mut ListTable::new(alloc), NAMES)?;
-    Ok(())
+    mixes_kinds(&rt, &mut ListTable::new(rt.alloc()))?;
+    takes_a_list(&rt, &mut ListTable::new(rt.alloc()), b"f")
+}
+
+#[test]
+fn the_list_has_each_names_row(rt: HostRuntime) -> Result<(), Fail> {
+    grows_commons(&rt, &mut ListTable::new(rt.alloc()))?;
+    keeps_prefixes_apart(&rt, &mut ListTable::new(rt.alloc()), NAMES)
 }
 
 #[test]
 fn the_index_is_a_table(rt: HostRuntime) -> Result<(), Fail> {
-    let alloc = rt.alloc();
-    mixes_kinds(&rt, &mut indexed(alloc))?;
-    takes_a_list(&rt, &mut indexed(alloc), b"f")?;
-    grows_commons(&rt, &mut indexed(alloc))?;
-    keeps_prefixes_apart(&rt, &mut indexed(alloc), NAMES)?;
-    Ok(())
+    mixes_kinds(&rt, &mut indexed(rt.alloc()))?;
+    takes_a_list(&rt, &mut indexed(rt.alloc()), b"f")
+}
+
+#[test]
+fn the_index_has_each_names_row(rt: HostRuntime) -> Result<(), Fail> {
+    grows_commons(&rt, &mut indexed(rt.alloc()))?;
+    keeps_prefixes_apart(&rt, &mut indexed(rt.alloc()), NAMES)
 }
 
 #[test]
 fn any_hasher_serves(rt: HostRuntime) -> Result<(), Fail> {
     let mut table = IndexedTable::with_hasher(rt.alloc(), RandomState::new(&rt)?);
     mixes_kinds(&rt, &mut table)?;
-    grows_commons(&rt, &mut table)?;
-    Ok(())
+    grows_commons(&rt, &mut table)
 }

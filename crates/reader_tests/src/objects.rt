@@ -6,6 +6,7 @@ use elf_model::{
 };
 use elf_read::{ObjFault, Object, is_plain_object, linker_names};
 use std::alloc::{AllocError, Global};
+use std::process::Abort;
 use std::test::Fail;
 
 const NULL_SECTION: SectionHeader = SectionHeader {
@@ -164,22 +165,31 @@ fn fault_of(alloc: Global, bytes: &[u8]) -> Option<ObjFault> {
     Object::read(alloc, View::new(bytes)).err()
 }
 
-#[test]
-fn an_object_is_read(rt: HostRuntime) -> Result<(), Fail> {
-    let bytes = start_object(rt.alloc())?;
-    let object = Object::read(rt.alloc(), View::new(&bytes))?;
-    assert_eq!(rt; object.sections().len(), 5);
-    assert_eq!(rt; object.symbols().len(), 2);
+/// Asserts the names of the sections and of the symbol of the object of `_start`.
+fn assert_names(rt: &impl Abort, object: &Object<'_>) {
     assert!(rt; object.section_name(0) == Some(b"".as_slice()));
     assert!(rt; object.section_name(1) == Some(b".text".as_slice()));
     assert!(rt; object.section_name(4) == Some(b".shstrtab".as_slice()));
     assert!(rt; object.section_name(5).is_none());
     assert!(rt; object.name(1) == Some(b"_start".as_slice()));
     assert!(rt; object.name(2).is_none());
+}
+
+/// Asserts the bytes of that object and of its sections.
+fn assert_bytes(rt: &impl Abort, object: &Object<'_>) {
     assert!(rt; object.section_bytes(0).is_none());
     assert!(rt; object.section_bytes(1) == Some(TEXT.as_slice()));
     assert!(rt; object.section_bytes(5).is_none());
     assert_eq!(rt; object.bytes().len(), 496);
+}
+
+#[test]
+fn an_object_is_read(rt: HostRuntime) -> Result<(), Fail> {
+    let bytes = start_object(rt.alloc())?;
+    let object = Object::read(rt.alloc(), View::new(&bytes))?;
+    assert_eq!(rt; [object.sections().len(), object.symbols().len()], [5, 2]);
+    assert_names(&rt, &object);
+    assert_bytes(&rt, &object);
     Ok(())
 }
 

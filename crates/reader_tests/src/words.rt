@@ -1,7 +1,8 @@
 //! Words of a command, and the files that its plan may read.
-use command::{CmdFault, Source, candidates, file_named, path_of, read_words};
+use command::{CmdFault, Item, Plan, Source, candidates, file_named, path_of, read_words};
 use elf_model::InputFile;
 use std::alloc::{AllocError, Global};
+use std::process::Abort;
 use std::test::Fail;
 
 /// The words of a line, cut at spaces.
@@ -47,19 +48,23 @@ fn faults(rt: HostRuntime) -> Result<(), Fail> {
     Ok(())
 }
 
-#[test]
-fn defaults(rt: HostRuntime) -> Result<(), Fail> {
-    let words = words(rt.alloc(), "a.o")?;
-    let plan = read_words(rt.alloc(), &words)?;
+/// Asserts what a plan says whose words name one object alone.
+fn assert_defaults(rt: &impl Abort, plan: &Plan<'_>) {
     assert_eq!(rt; plan.entry, "_start");
     assert_eq!(rt; plan.output, "a.out");
     assert_eq!(rt; plan.base, 0x40_0000);
-    assert!(rt; plan.map.is_none());
-    assert!(rt; !plan.check);
+    assert!(rt; plan.map.is_none() && !plan.check);
     assert_eq!(rt; plan.items.len(), 1);
     let item = plan.items[0];
     assert!(rt; !item.archive && !item.whole && item.group.is_none());
     assert!(rt; matches!(item.source, Source::Path("a.o")));
+}
+
+#[test]
+fn defaults(rt: HostRuntime) -> Result<(), Fail> {
+    let words = words(rt.alloc(), "a.o")?;
+    let plan = read_words(rt.alloc(), &words)?;
+    assert_defaults(&rt, &plan);
     Ok(())
 }
 
@@ -78,28 +83,36 @@ fn settings(rt: HostRuntime) -> Result<(), Fail> {
     Ok(())
 }
 
+/// Asserts the items of those words.
+fn assert_items(rt: &impl Abort, items: &[Item<'_>]) {
+    assert_eq!(rt; items.len(), 3);
+    let library = items[1];
+    assert!(rt; library.archive && library.whole);
+    assert_eq!(rt; [library.group, items[2].group], [Some(0), Some(1)]);
+    assert!(rt; matches!(library.source, Source::Library("x")));
+}
+
 #[test]
 fn items(rt: HostRuntime) -> Result<(), Fail> {
     let words = words(rt.alloc(), EACH_SETTING)?;
     let plan = read_words(rt.alloc(), &words)?;
-    assert_eq!(rt; plan.items.len(), 3);
-    let library = plan.items[1];
-    assert!(rt; library.archive && library.whole);
-    assert_eq!(rt; library.group, Some(0));
-    assert!(rt; matches!(library.source, Source::Library("x")));
-    assert_eq!(rt; plan.items[2].group, Some(1));
+    assert_items(&rt, &plan.items);
     Ok(())
+}
+
+/// The files that the plan of a line may read.
+fn candidates_of(alloc: Global, line: &str) -> Result<Vec<String>, Fail> {
+    let words = words(alloc, line)?;
+    let plan = read_words(alloc, &words)?;
+    Ok(candidates(alloc, &plan)?)
 }
 
 #[test]
 fn candidate_files(rt: HostRuntime) -> Result<(), Fail> {
-    let words = words(rt.alloc(), "a.o -L d1 -lx -Ld2 a.o d1/libx.a")?;
-    let plan = read_words(rt.alloc(), &words)?;
-    let files = candidates(rt.alloc(), &plan)?;
+    let files = candidates_of(rt.alloc(), "a.o -L d1 -lx -Ld2 a.o d1/libx.a")?;
     assert_eq!(rt; files.len(), 3);
-    assert_eq!(rt; files[0].as_str(), "a.o");
-    assert_eq!(rt; files[1].as_str(), "d1/libx.a");
-    assert_eq!(rt; files[2].as_str(), "d2/libx.a");
+    let names = [files[0].as_str(), files[1].as_str(), files[2].as_str()];
+    assert_eq!(rt; names, ["a.o", "d1/libx.a", "d2/libx.a"]);
     Ok(())
 }
 

@@ -6,8 +6,8 @@ use Rattle.std.proofs.lemmas.List.Elements.{All-append, All-cons, All-head, All-
 use Rattle.elf_model.specs.Loading.{LoadedObject}
 use Rattle.elf_model.specs.Placement.{Placed}
 use Rattle.elf_model.specs.Relocation.{Fits, Relocation, relocation_kind}
-use Rattle.elf_model.specs.declared.faults.LinkError.{LinkError}
-use Rattle.elf_model.specs.declared.faults.LinkError.TheVariants as error
+use Rattle.relocate.specs.declared.faults.RelocFault.{RelocFault}
+use Rattle.relocate.specs.declared.faults.RelocFault.TheVariants as error
 use Rattle.relocate.specs.Values.{FittingFails, patch_of}
 use Rattle.relocate.specs.declared.patch.Patch.{Patch}
 
@@ -53,7 +53,7 @@ known_part objects ps whole rest here more parts l =
     let k = subst (LeavesToFit objects ps whole) parts l in All-left (λ (r : Relocation). IsSome (relocation_kind r)) here more k.known
 
 pub fitting_fails :
-    (objects : List LoadedObject) (ps : List Placed) (whole rest here more : List Relocation) (e : LinkError) → rest ≡ here ++ more →
+    (objects : List LoadedObject) (ps : List Placed) (whole rest here more : List Relocation) (e : RelocFault) → rest ≡ here ++ more →
     LeavesToFit objects ps whole rest → FittingFails objects ps here e → FittingFails objects ps whole e
 fitting_fails objects ps whole rest here more error.Memory parts l f = tt
 fitting_fails objects ps whole rest here more error.Overflow parts l f = λ all.
@@ -72,8 +72,8 @@ fit_none objects ps whole rest none l = l.fit (subst (All (Fits objects ps)) (sy
 
 -- an error that is passed on
 pub exit_fitting :
-    {X : Type 0} (objects : List LoadedObject) (ps : List Placed) (whole : List Relocation) (r : Result X LinkError) (e : LinkError) →
-    (g : LinkError) × (r ≡ Err g) × (g ≡ e) → FittingFails objects ps whole e → IfErr r (FittingFails objects ps whole)
+    {X : Type 0} (objects : List LoadedObject) (ps : List Placed) (whole : List Relocation) (r : Result X RelocFault) (e : RelocFault) →
+    (g : RelocFault) × (r ≡ Err g) × (g ≡ e) → FittingFails objects ps whole e → IfErr r (FittingFails objects ps whole)
 exit_fitting objects ps whole r e p f = rw (p.1, p.2) f
 
 -- a step of a row of patches

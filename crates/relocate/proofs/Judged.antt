@@ -8,8 +8,8 @@ use Rattle.elf_model.proofs.Pairs.{AllPairs-append, AllPairs-head, AllPairs-nil,
 use Rattle.elf_model.specs.Causes.{IsToDropped, IsUndefinedName}
 use Rattle.elf_model.specs.Loading.{LoadedObject}
 use Rattle.elf_model.specs.Relocation.{AreFieldsApart, IsFieldInside, IsLawfulRelocation, IsThreadMismatch, Relocation, relocation_kind}
-use Rattle.elf_model.specs.declared.faults.LinkError.{LinkError}
-use Rattle.elf_model.specs.declared.faults.LinkError.TheVariants as error
+use Rattle.relocate.specs.declared.faults.RelocFault.{RelocFault}
+use Rattle.relocate.specs.declared.faults.RelocFault.TheVariants as error
 use Rattle.relocate.specs.References.{AreLawful, RelocationFails, RelocationsFail}
 
 module _ {X : Type 0} (P : X → Type 0) where
@@ -37,7 +37,7 @@ module _ {X : Type 0} (R : X → X → Type 0) where
   AllPairs-right [] ys pairs = pairs
   AllPairs-right (x ∷ xs) ys pairs = AllPairs-right xs ys (AllPairs-tail R x (xs ++ ys) pairs)
 
-pub fail_first : (objects : List LoadedObject) (r : Relocation) (rs : List Relocation) (e : LinkError) → RelocationFails objects r e → RelocationsFail objects (r ∷ rs) e
+pub fail_first : (objects : List LoadedObject) (r : Relocation) (rs : List Relocation) (e : RelocFault) → RelocationFails objects r e → RelocationsFail objects (r ∷ rs) e
 fail_first objects r rs error.Memory f = tt
 fail_first objects r rs (error.Undefined name) f = Any-here (IsUndefinedName name.items objects) r rs f
 fail_first objects r rs error.RefToDropped f = Any-here (IsToDropped objects) r rs f
@@ -47,7 +47,7 @@ fail_first objects r rs error.OverlappingFields f = absurd f
 fail_first objects r rs error.TlsMismatch f = Any-here (IsThreadMismatch objects) r rs f
 fail_first objects r rs _ f = absurd f
 
-pub fail_left : (objects : List LoadedObject) (xs ys : List Relocation) (e : LinkError) → RelocationsFail objects xs e → RelocationsFail objects (xs ++ ys) e
+pub fail_left : (objects : List LoadedObject) (xs ys : List Relocation) (e : RelocFault) → RelocationsFail objects xs e → RelocationsFail objects (xs ++ ys) e
 fail_left objects xs ys error.Memory f = tt
 fail_left objects xs ys (error.Undefined name) f = Any-left (IsUndefinedName name.items objects) xs ys f
 fail_left objects xs ys error.RefToDropped f = Any-left (IsToDropped objects) xs ys f
@@ -57,7 +57,7 @@ fail_left objects xs ys error.OverlappingFields f = λ pairs. f (AllPairs-left A
 fail_left objects xs ys error.TlsMismatch f = Any-left (IsThreadMismatch objects) xs ys f
 fail_left objects xs ys _ f = absurd f
 
-pub fail_right : (objects : List LoadedObject) (xs ys : List Relocation) (e : LinkError) → RelocationsFail objects ys e → RelocationsFail objects (xs ++ ys) e
+pub fail_right : (objects : List LoadedObject) (xs ys : List Relocation) (e : RelocFault) → RelocationsFail objects ys e → RelocationsFail objects (xs ++ ys) e
 fail_right objects xs ys error.Memory f = tt
 fail_right objects xs ys (error.Undefined name) f = Any-right (IsUndefinedName name.items objects) xs ys f
 fail_right objects xs ys error.RefToDropped f = Any-right (IsToDropped objects) xs ys f
@@ -70,7 +70,7 @@ fail_right objects xs ys _ f = absurd f
 -- rest is left to judge of the whole
 pub record Leaves (objects : List LoadedObject) (whole rest : List Relocation) : Type 0 where
   pub lawful : All (IsLawfulRelocation objects) rest → All (IsLawfulRelocation objects) whole
-  pub fails : (e : LinkError) → RelocationsFail objects rest e → RelocationsFail objects whole e
+  pub fails : (e : RelocFault) → RelocationsFail objects rest e → RelocationsFail objects whole e
 
 pub leaves_all : (objects : List LoadedObject) (whole rest : List Relocation) → rest ≡ whole → Leaves objects whole rest
 leaves_all objects whole rest same = record {
@@ -93,7 +93,7 @@ leaves_part objects whole rest here more parts each l =
     }
 
 pub leaves_fail :
-    (objects : List LoadedObject) (whole rest here more : List Relocation) (e : LinkError) → rest ≡ here ++ more → RelocationsFail objects here e →
+    (objects : List LoadedObject) (whole rest here more : List Relocation) (e : RelocFault) → rest ≡ here ++ more → RelocationsFail objects here e →
     Leaves objects whole rest → RelocationsFail objects whole e
 leaves_fail objects whole rest here more e parts f l =
     let k = leaves_same objects whole rest (here ++ more) parts l in k.fails e (fail_left objects here more e f)
@@ -109,14 +109,14 @@ leaves_none objects whole rest none l = l.lawful (subst (All (IsLawfulRelocation
 
 -- an error that is passed on
 pub exit_fails :
-    {X : Type 0} (objects : List LoadedObject) (whole : List Relocation) (r : Result X LinkError) (e : LinkError) →
-    (g : LinkError) × (r ≡ Err g) × (g ≡ e) → RelocationsFail objects whole e → IfErr r (RelocationsFail objects whole)
+    {X : Type 0} (objects : List LoadedObject) (whole : List Relocation) (r : Result X RelocFault) (e : RelocFault) →
+    (g : RelocFault) × (r ≡ Err g) × (g ≡ e) → RelocationsFail objects whole e → IfErr r (RelocationsFail objects whole)
 exit_fails objects whole r e p f = rw (p.1, p.2) f
 
 -- the same with the fields of the rest, for all objects
 pub record Remains (objects : List LoadedObject) (whole rest : List Relocation) : Type 0 where
   pub lawful : AreLawful objects rest → AreLawful objects whole
-  pub fails : (e : LinkError) → RelocationsFail objects rest e → RelocationsFail objects whole e
+  pub fails : (e : RelocFault) → RelocationsFail objects rest e → RelocationsFail objects whole e
 
 pub remains_all : (objects : List LoadedObject) (whole : List Relocation) → Remains objects whole whole
 remains_all objects whole = record { lawful = λ a. a; fails = λ e f. f }
@@ -135,7 +135,7 @@ remains_part objects whole rest here more parts a cross l =
     }
 
 pub remains_fail :
-    (objects : List LoadedObject) (whole rest here more : List Relocation) (e : LinkError) → rest ≡ here ++ more → RelocationsFail objects here e →
+    (objects : List LoadedObject) (whole rest here more : List Relocation) (e : RelocFault) → rest ≡ here ++ more → RelocationsFail objects here e →
     Remains objects whole rest → RelocationsFail objects whole e
 remains_fail objects whole rest here more e parts f l =
     let k = subst (Remains objects whole) parts l in k.fails e (fail_left objects here more e f)

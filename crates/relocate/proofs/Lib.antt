@@ -7,6 +7,7 @@ pub mod ObjectFields
 pub mod ObjectRows
 pub mod OwnParts
 pub mod Patched
+pub mod RowCounts
 pub mod Rows
 pub mod Spelled
 pub mod Wanted

@@ -2,28 +2,26 @@
 use Rattle.std.proofs.Common.{◌≡◌, ℕ, ◌+◌, ◌<◌, ◌≤◌, ◌⊎◌, inl, inr, Bool, true, false, List, [], ◌∷◌, ◌++◌, Option, Some, None, Err, IfErr, Result, get_or, length, map, nat_lt, option_map, refl, subst, sym, ap, ◌∙◌, arith}
 use Rattle.std.specs.Prelude.{All, IsSome, find, unwrap_or}
 use Rattle.std.specs.List.{range_with_len, slice_get}
-use Rattle.std.specs.Option.{option_and_then}
 use Rattle.std.specs.Global.{Vec}
 use Rattle.std.proofs.lemmas.Bool.{ltb-false, ltb-true}
-use Rattle.std.proofs.lemmas.List.{get_or_append_left, get_or_past, get_or_push, length-append, nil_from_length}
+use Rattle.std.proofs.lemmas.List.{get_or_append_left, get_or_push, length-append, nil_from_length}
 use Rattle.std.proofs.lemmas.List.Elements.{All-nil, All-weaker}
 use Rattle.std.proofs.lemmas.Option.{same_Some, slice_get_cases, slice_get_within}
 use Rattle.elf_model.specs.Loading.{LoadedObject}
-use Rattle.elf_model.specs.ObjectFile.{null_section, section, sections}
+use Rattle.elf_model.specs.ObjectFile.{section}
 use Rattle.elf_model.specs.OwnLayout.{OwnValuesFit}
 use Rattle.elf_model.specs.Pieces.{Piece}
 use Rattle.elf_model.specs.Placement.{Placed}
 use Rattle.elf_model.specs.Relocation.{AreFieldsApart, AreLawfulRelocations, Fits, IsLawfulRelocation, Relocation, is_in_field, relocation_kind, relocations, relocations_from}
 use Rattle.elf_model.specs.Resolution.{sections_of_object}
 use Rattle.elf_model.specs.WantedBytes.{wanted_byte}
-use Rattle.elf_model.specs.declared.faults.LinkError.{LinkError}
-use Rattle.elf_model.specs.declared.faults.LinkError.TheVariants as error
-use Rattle.elf_model.specs.declared.records.SectionHeader.{SectionHeader}
+use Rattle.relocate.specs.declared.faults.RelocFault.{RelocFault}
+use Rattle.relocate.specs.declared.faults.RelocFault.TheVariants as error
 use Rattle.layout.specs.Placements.{Basis}
 use Rattle.relocate.proofs.OwnParts.{IsPart, all_own, own_byte, own_part, pairs_own}
 use Rattle.relocate.proofs.Wanted.{patched_row, patches_inside}
 use Rattle.relocate.specs.Patches.{FitsIn, byte_of, patched}
-use Rattle.relocate.specs.Values.{ArePatchRows, ArePatches, FittingFails, ValuesFail, patch_of, patches_at, patches_in, placed_in, row_in}
+use Rattle.relocate.specs.Values.{ArePatchRows, ArePatches, FittingFails, ValuesFail, patch_of, patches_in, placed_in, row_at, row_in}
 use Rattle.relocate.specs.declared.patch.Patch.{Patch}
 
 -- the rows of the first n objects
@@ -31,7 +29,7 @@ pub record AreFirstRows (objects : List LoadedObject) (ps : List Placed) (n : �
   pub count : length rows ≡ n
   pub each :
       (k : ℕ) (o : LoadedObject) (d : Vec (Vec Patch)) → k < n → slice_get objects k ≡ Some o →
-      ArePatchRows objects ps (relocations_from k o.bytes) (length (sections o.bytes)) (get_or rows k d).items
+      ArePatchRows objects ps (relocations_from k o.bytes) (get_or rows k d).items
 
 pub no_rows : (objects : List LoadedObject) (ps : List Placed) (rows : List (Vec (Vec Patch))) → rows ≡ [] → AreFirstRows objects ps 0 rows
 no_rows objects ps rows none = record {
@@ -50,7 +48,7 @@ rows_all b objects n rows same lawful whole first =
       each = λ k o d there.
           let here = subst (λ (os : List LoadedObject). slice_get os k ≡ Some o) same there in
           let low = slice_get_within objects k o here in
-          subst (λ (os : List LoadedObject). ArePatchRows os (placed_in b) (relocations_from k o.bytes) (length (sections o.bytes)) (get_or rows k d).items)
+          subst (λ (os : List LoadedObject). ArePatchRows os (placed_in b) (relocations_from k o.bytes) (get_or rows k d).items)
           (sym same) (first.each k o d (omega (arith, low, whole)) here);
     }
 
@@ -60,54 +58,28 @@ pub record IsRowOf (b : Basis) (k s : ℕ) (row : List Patch) : Type 0 where
   pub there : slice_get b.objects k ≡ Some own
   pub is : row ≡ patches_in b.objects (placed_in b) (relocations_from k own.bytes) s
 
--- or there is no such section, and no byte in it
+-- or there is no such object, and no byte in it
 row_cases :
     (b : Basis) (rows : List (Vec (Vec Patch))) (k s size : ℕ) → ArePatches b rows →
     size ≡ (section (sections_of_object (slice_get b.objects k)) s).sh_size →
     IsRowOf b k s (row_in rows k s) ⊎ ((row_in rows k s ≡ []) × (size ≡ 0))
 row_cases b rows k s size are long = by (slice_get_cases b.objects k).1 (slice_get_cases rows k).1
   where
-    inside :
-        (o : LoadedObject) (row : Vec (Vec Patch)) → slice_get b.objects k ≡ Some o → slice_get rows k ≡ Some row →
-        ArePatchRows b.objects (placed_in b) (relocations_from k o.bytes) (length (sections o.bytes)) row.items →
-        ((r : Vec Patch) × (s < length row.items) × (slice_get row.items s ≡ Some r) × (get_or row.items s r ≡ r)) ⊎ ((length row.items ≤ s) × (slice_get row.items s ≡ None)) →
-        IsRowOf b k s (row_in rows k s) ⊎ ((row_in rows k s ≡ []) × (size ≡ 0))
-    inside o row there found of_object (inl r) =
-        let count = of_object.count in
-        let low = r.1 in
-        inl (record {
-          own = o;
-          there = there;
-          is =
-              ap (λ (v : Option (Vec (Vec Patch))). unwrap_or (option_and_then (patches_at s) v) []) found
-              ∙ (ap (λ (v : Option (Vec Patch)). unwrap_or (option_map (λ w. w.items) v) []) r.2
-              ∙ (ap (λ (v : Vec Patch). v.items) (sym r.3) ∙ of_object.each s r.0 (omega (arith, low, count))));
-        })
-    inside o row there found of_object (inr past) =
-        let count = of_object.count in
-        let behind = past.0 in
-        inr (
-          ap (λ (v : Option (Vec (Vec Patch))). unwrap_or (option_and_then (patches_at s) v) []) found
-              ∙ ap (λ (v : Option (Vec Patch)). unwrap_or (option_map (λ w. w.items) v) []) past.1,
-          long
-              ∙ (ap (λ (v : Option LoadedObject). (section (sections_of_object v) s).sh_size) there
-              ∙ ap (λ (h : SectionHeader). h.sh_size) (get_or_past (sections o.bytes) s null_section (omega (arith, behind, count)))),
-        )
-
     by :
         ((o : LoadedObject) × (k < length b.objects) × (slice_get b.objects k ≡ Some o) × (get_or b.objects k o ≡ o)) ⊎ ((length b.objects ≤ k) × (slice_get b.objects k ≡ None)) →
         ((row : Vec (Vec Patch)) × (k < length rows) × (slice_get rows k ≡ Some row) × (get_or rows k row ≡ row)) ⊎ ((length rows ≤ k) × (slice_get rows k ≡ None)) →
         IsRowOf b k s (row_in rows k s) ⊎ ((row_in rows k s ≡ []) × (size ≡ 0))
     by (inl o) (inl row) =
-        inside o.0 row.0 o.2 row.2
-        (subst
-        (λ (v : Vec (Vec Patch)). ArePatchRows b.objects (placed_in b) (relocations_from k o.0.bytes) (length (sections o.0.bytes)) v.items)
-        row.3 (are.each k o.0 row.0 o.2))
-        (slice_get_cases row.0.items s).1
+        let own = subst (λ (v : Vec (Vec Patch)). ArePatchRows b.objects (placed_in b) (relocations_from k o.0.bytes) v.items) row.3 (are.each k o.0 row.0 o.2) in
+        inl (record {
+          own = o.0;
+          there = o.2;
+          is = ap (λ (v : Option (Vec (Vec Patch))). unwrap_or (option_map (λ w. row_at w.items s) v) []) row.2 ∙ own.each s;
+        })
     by (inl o) (inr past) = let low = o.1 in let behind = past.0 in let count = are.count in absurd (omega (arith, low, behind, count))
     by (inr past) (inl row) = let low = row.1 in let behind = past.0 in let count = are.count in absurd (omega (arith, low, behind, count))
     by (inr past) (inr none) = inr (
-      ap (λ (v : Option (Vec (Vec Patch))). unwrap_or (option_and_then (patches_at s) v) []) none.1,
+      ap (λ (v : Option (Vec (Vec Patch))). unwrap_or (option_map (λ w. row_at w.items s) v) []) none.1,
       long ∙ ap (λ (v : Option LoadedObject). (section (sections_of_object v) s).sh_size) past.1,
     )
 
@@ -158,7 +130,7 @@ row_wanted b rows k s base p are long here there bytes = by (row_cases b rows k 
 pub row_more :
     (objects : List LoadedObject) (ps : List Placed) (n : ℕ) (o : LoadedObject) (rows new : List (Vec (Vec Patch))) (row : Vec (Vec Patch)) →
     new ≡ rows ++ row ∷ [] → slice_get objects n ≡ Some o →
-    ArePatchRows objects ps (relocations_from n o.bytes) (length (sections o.bytes)) row.items → AreFirstRows objects ps n rows →
+    ArePatchRows objects ps (relocations_from n o.bytes) row.items → AreFirstRows objects ps n rows →
     AreFirstRows objects ps (n + 1) new
 row_more objects ps n o rows new row pushed there here first = record {
   count = ap (λ (v : List (Vec (Vec Patch))). length v) pushed ∙ (length-append rows (row ∷ []) ∙ ap (λ (k : ℕ). k + 1) first.count);
@@ -167,21 +139,21 @@ row_more objects ps n o rows new row pushed there here first = record {
   where
     by :
         (k : ℕ) (p : LoadedObject) (d : Vec (Vec Patch)) → k < n + 1 → slice_get objects k ≡ Some p → (t : Bool) → nat_lt k n ≡ t →
-        ArePatchRows objects ps (relocations_from k p.bytes) (length (sections p.bytes)) (get_or new k d).items
+        ArePatchRows objects ps (relocations_from k p.bytes) (get_or new k d).items
     by k p d low at true e =
         let before = ltb-true k n e in
         let count = first.count in
-        subst (λ (v : Vec (Vec Patch)). ArePatchRows objects ps (relocations_from k p.bytes) (length (sections p.bytes)) v.items)
+        subst (λ (v : Vec (Vec Patch)). ArePatchRows objects ps (relocations_from k p.bytes) v.items)
         (sym (ap (λ (v : List (Vec (Vec Patch))). get_or v k d) pushed ∙ get_or_append_left rows (row ∷ []) d k (omega (arith, before, count))))
         (first.each k p d before at)
     by k p d low at false e =
         let behind = ltb-false k n e in
         let last : n ≡ k = omega (arith, low, behind) in
         let same = same_Some o p (sym there ∙ (ap (slice_get objects) last ∙ at)) in
-        subst (λ (v : Vec (Vec Patch)). ArePatchRows objects ps (relocations_from k p.bytes) (length (sections p.bytes)) v.items)
+        subst (λ (v : Vec (Vec Patch)). ArePatchRows objects ps (relocations_from k p.bytes) v.items)
         (sym (ap (λ (v : List (Vec (Vec Patch))). get_or v k d) pushed ∙ get_or_push rows row d k (first.count ∙ last)))
-        (subst (λ (q : LoadedObject). ArePatchRows objects ps (relocations_from k q.bytes) (length (sections q.bytes)) row.items) same
-        (subst (λ (m : ℕ). ArePatchRows objects ps (relocations_from m o.bytes) (length (sections o.bytes)) row.items) last here))
+        (subst (λ (q : LoadedObject). ArePatchRows objects ps (relocations_from k q.bytes) row.items) same
+        (subst (λ (m : ℕ). ArePatchRows objects ps (relocations_from m o.bytes) row.items) last here))
 
 -- relocations of known kinds
 pub all_known : (objects : List LoadedObject) → AreLawfulRelocations objects → All (λ r. IsSome (relocation_kind r)) (relocations objects)
@@ -189,14 +161,14 @@ all_known objects lawful =
     All-weaker (IsLawfulRelocation objects) (λ (r : Relocation). IsSome (relocation_kind r)) (λ r l. l.known) (relocations objects) lawful.each
 
 -- why the values of all objects don't fit
-pub values_fail : (b : Basis) (objects : List LoadedObject) (e : LinkError) → b.objects ≡ objects → FittingFails objects (placed_in b) (relocations objects) e → ValuesFail b e
+pub values_fail : (b : Basis) (objects : List LoadedObject) (e : RelocFault) → b.objects ≡ objects → FittingFails objects (placed_in b) (relocations objects) e → ValuesFail b e
 values_fail b objects error.Memory same f = tt
 values_fail b objects error.Overflow same f = subst (λ (os : List LoadedObject). ¬ All (Fits os (placed_in b)) (relocations os)) (sym same) f
 values_fail b objects _ same f = absurd f
 
 -- an error that is passed on
 pub exit_values :
-    {X : Type 0} (b : Basis) (r : Result X LinkError) (e : LinkError) → (g : LinkError) × (r ≡ Err g) × (g ≡ e) → ValuesFail b e → IfErr r (ValuesFail b)
+    {X : Type 0} (b : Basis) (r : Result X RelocFault) (e : RelocFault) → (g : RelocFault) × (r ≡ Err g) × (g ≡ e) → ValuesFail b e → IfErr r (ValuesFail b)
 exit_values b r e p f = rw (p.1, p.2) f
 
 pub values_fit : (b : Basis) (objects : List LoadedObject) → b.objects ≡ objects → All (Fits objects (placed_in b)) (relocations objects) → OwnValuesFit b.base b.objects

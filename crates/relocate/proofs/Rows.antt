@@ -1,24 +1,63 @@
 -- Rows of patches by section, with what is left to add to them.
-use Rattle.std.proofs.Common.{◌≡◌, ℕ, ◌<◌, ◌==◌, Bool, true, false, cond, List, [], ◌∷◌, ◌++◌, get_or, length, map, nat_lt, refl, set, subst, sym, ap, ◌∙◌, arith}
-use Rattle.std.specs.Prelude.{All, filter}
+use Rattle.std.proofs.Common.{◌≡◌, ℕ, ◌+◌, ◌<◌, ◌≤◌, ◌==◌, ◌⊎◌, inl, inr, Bool, true, false, cond, List, [], ◌∷◌, ◌++◌, Option, Some, None, get_or, length, map, refl, set, subst, sym, ap, ◌∙◌, arith}
+use Rattle.std.specs.Prelude.{All, filter, option_map, unwrap_or}
+use Rattle.std.specs.List.{slice_get}
 use Rattle.std.specs.Global.{Vec}
-use Rattle.std.proofs.lemmas.Bool.{eqb-true, eqb-false, eq-eqb, false≢true, ltb-false, ltb-true, ne_eqb}
-use Rattle.std.proofs.lemmas.List.{append_assoc, append-nil, get_or_past, get_or-set_other, get_or-set_same, length-set, map-append}
+use Rattle.std.proofs.lemmas.Bool.{eqb-true, eqb-false, eq-eqb, ne_eqb}
+use Rattle.std.proofs.lemmas.List.{append_assoc, append-nil, get_or-set_other, get_or-set_same, length-set, map-append}
 use Rattle.std.proofs.lemmas.List.Elements.{All-head, All-map, All-tail, filter-append}
+use Rattle.std.proofs.lemmas.Option.{slice_get-get_or, slice_get_cases, slice_get_past}
 use Rattle.elf_model.specs.Loading.{LoadedObject}
-use Rattle.elf_model.specs.ObjectFile.{null_section, relas_of, section, sections}
-use Rattle.elf_model.specs.Pieces.{is_alloc}
-use Rattle.relocate.proofs.KindWidths.{both_true}
+use Rattle.elf_model.specs.ObjectFile.{relas_of, sections}
 use Rattle.elf_model.specs.Placement.{Placed}
 use Rattle.elf_model.specs.Relocation.{Relocation, is_kept_rela, is_some_kind, relocation_of, relocations_in}
 use Rattle.elf_model.specs.declared.records.SectionHeader.{SectionHeader}
-use Rattle.relocate.specs.Values.{ArePatchRows, is_in_section, patch_of, patches_in}
+use Rattle.relocate.specs.Values.{ArePatchRows, IsRowCount, is_in_section, patch_of, patches_in, row_at, rows_for}
 use Rattle.relocate.specs.declared.patch.Patch.{Patch}
 
--- a row for each of n sections, which has the section's patches once those of the rest are added
+-- the patches of a section that has a row, and of one that has none
+row_within : (rows : List (Vec Patch)) (s : ℕ) (d : Vec Patch) → s < length rows → row_at rows s ≡ (get_or rows s d).items
+row_within rows s d low = ap (λ (o : Option (Vec Patch)). unwrap_or (option_map (λ v. v.items) o) []) (slice_get-get_or rows s d low)
+
+row_past : (rows : List (Vec Patch)) (s : ℕ) → length rows ≤ s → row_at rows s ≡ []
+row_past rows s past = ap (λ (o : Option (Vec Patch)). unwrap_or (option_map (λ v. v.items) o) []) (slice_get_past rows s past)
+
+-- of rows with no patch
+row_none : (rows : List (Vec Patch)) (s : ℕ) → All (λ row. row.items ≡ []) rows → row_at rows s ≡ []
+row_none rows s none = by (slice_get_cases rows s).1
+  where
+    by :
+        ((row : Vec Patch) × (s < length rows) × (slice_get rows s ≡ Some row) × (get_or rows s row ≡ row)) ⊎ ((length rows ≤ s) × (slice_get rows s ≡ None)) →
+        row_at rows s ≡ []
+    by (inl r) = row_within rows s r.0 r.1 ∙ none s r.0 r.1
+    by (inr past) = row_past rows s past.0
+
+-- of rows of which one is new
+row_set : (rows : List (Vec Patch)) (t : ℕ) (new : Vec Patch) → t < length rows → row_at (set rows t new) t ≡ new.items
+row_set rows t new low =
+    let long = length-set rows t new in
+    row_within (set rows t new) t new (omega (arith, low, long)) ∙ ap (λ (v : Vec Patch). v.items) (get_or-set_same rows t new new low)
+
+row_kept : (rows : List (Vec Patch)) (t s : ℕ) (new : Vec Patch) → (t ≡ s → ⊥) → row_at (set rows t new) s ≡ row_at rows s
+row_kept rows t s new differ = by (slice_get_cases rows s).1
+  where
+    by :
+        ((row : Vec Patch) × (s < length rows) × (slice_get rows s ≡ Some row) × (get_or rows s row ≡ row)) ⊎ ((length rows ≤ s) × (slice_get rows s ≡ None)) →
+        row_at (set rows t new) s ≡ row_at rows s
+    by (inl r) =
+        let long = length-set rows t new in
+        let low = r.1 in
+        row_within (set rows t new) s r.0 (omega (arith, low, long))
+        ∙ (ap (λ (v : Vec Patch). v.items) (get_or-set_other rows t s new r.0 (λ e. differ (sym e))) ∙ sym (row_within rows s r.0 r.1))
+    by (inr past) =
+        let long = length-set rows t new in
+        let behind = past.0 in
+        row_past (set rows t new) s (omega (arith, behind, long)) ∙ sym (row_past rows s past.0)
+
+-- n rows, in which each section has its patches once those of the rest are added
 pub record AreRowsLeft (objects : List LoadedObject) (ps : List Placed) (whole rest : List Relocation) (n : ℕ) (rows : List (Vec Patch)) : Type 0 where
   pub count : length rows ≡ n
-  pub each : (s : ℕ) (d : Vec Patch) → s < n → (get_or rows s d).items ++ patches_in objects ps rest s ≡ patches_in objects ps whole s
+  pub each : (s : ℕ) → row_at rows s ++ patches_in objects ps rest s ≡ patches_in objects ps whole s
 
 module _ (objects : List LoadedObject) (ps : List Placed) where
   pub patches_append : (here more : List Relocation) (s : ℕ) → patches_in objects ps (here ++ more) s ≡ patches_in objects ps here s ++ patches_in objects ps more s
@@ -48,19 +87,18 @@ module _ (objects : List LoadedObject) (ps : List Placed) where
       AreRowsLeft objects ps whole rest n rows
   rows_all whole rest n rows same count none = record {
     count = count;
-    each = λ s d low.
-        ap (λ (qs : List Patch). qs ++ patches_in objects ps rest s) (none s d (omega (arith, count, low)))
+    each = λ s.
+        ap (λ (qs : List Patch). qs ++ patches_in objects ps rest s) (row_none rows s none)
         ∙ ap (λ (rs : List Relocation). patches_in objects ps rs s) same;
   }
 
   pub rows_none :
       (whole rest : List Relocation) (n : ℕ) (rows : List (Vec Patch)) → rest ≡ [] → AreRowsLeft objects ps whole rest n rows →
-      ArePatchRows objects ps whole n rows
+      ArePatchRows objects ps whole rows
   rows_none whole rest n rows none left = record {
-    count = left.count;
-    each = λ s d low.
-        sym (append-nil (get_or rows s d).items)
-        ∙ (ap (λ (rs : List Relocation). (get_or rows s d).items ++ patches_in objects ps rs s) (sym none) ∙ left.each s d low);
+    each = λ s.
+        sym (append-nil (row_at rows s))
+        ∙ (ap (λ (rs : List Relocation). row_at rows s ++ patches_in objects ps rs s) (sym none) ∙ left.each s);
   }
 
   -- a row with the patches of some relocations of its section more
@@ -71,46 +109,43 @@ module _ (objects : List LoadedObject) (ps : List Placed) where
       AreRowsLeft objects ps whole more n (set rows t new)
   rows_part whole rest here more n rows t row new within parts own at added left = record {
     count = length-set rows t new ∙ left.count;
-    each = λ s d low. by s d low (t == s) refl;
+    each = λ s. by s (t == s) refl;
   }
     where
       split : (s : ℕ) → patches_in objects ps rest s ≡ patches_in objects ps here s ++ patches_in objects ps more s
       split s = ap (λ (rs : List Relocation). patches_in objects ps rs s) parts ∙ patches_append here more s
 
-      same_row : (d : Vec Patch) → (get_or (set rows t new) t d).items ++ patches_in objects ps more t ≡ patches_in objects ps whole t
-      same_row d =
+      same_row : row_at (set rows t new) t ++ patches_in objects ps more t ≡ patches_in objects ps whole t
+      same_row =
           let c = left.count in
-          ap (λ (r : Vec Patch). r.items ++ patches_in objects ps more t) (get_or-set_same rows t new d (omega (arith, c, within)))
-          ∙ (ap (λ (qs : List Patch). qs ++ patches_in objects ps more t) added
+          let low : t < length rows = omega (arith, c, within) in
+          ap (λ (qs : List Patch). qs ++ patches_in objects ps more t) (row_set rows t new low ∙ added)
           ∙ (append_assoc row.items (map (patch_of objects ps) here) (patches_in objects ps more t)
           ∙ (ap (λ (qs : List Patch). row.items ++ (qs ++ patches_in objects ps more t)) (sym (patches_here t here own))
           ∙ (ap (λ (qs : List Patch). row.items ++ qs) (sym (split t))
-          ∙ (ap (λ (r : Vec Patch). r.items ++ patches_in objects ps rest t) at ∙ left.each t row within)))))
+          ∙ (ap (λ (qs : List Patch). qs ++ patches_in objects ps rest t) (ap (λ (r : Vec Patch). r.items) at ∙ sym (row_within rows t row low))
+          ∙ left.each t))))
 
-      other_row : (s : ℕ) (d : Vec Patch) → s < n → (t ≡ s → ⊥) → (get_or (set rows t new) s d).items ++ patches_in objects ps more s ≡ patches_in objects ps whole s
-      other_row s d low differ =
-          ap (λ (r : Vec Patch). r.items ++ patches_in objects ps more s) (get_or-set_other rows t s new d (λ e. differ (sym e)))
-          ∙ (ap (λ (qs : List Patch). (get_or rows s d).items ++ (qs ++ patches_in objects ps more s)) (sym (patches_elsewhere t s here own differ))
-          ∙ (ap (λ (qs : List Patch). (get_or rows s d).items ++ qs) (sym (split s)) ∙ left.each s d low))
+      other_row : (s : ℕ) → (t ≡ s → ⊥) → row_at (set rows t new) s ++ patches_in objects ps more s ≡ patches_in objects ps whole s
+      other_row s differ =
+          ap (λ (qs : List Patch). qs ++ patches_in objects ps more s) (row_kept rows t s new differ)
+          ∙ (ap (λ (qs : List Patch). row_at rows s ++ (qs ++ patches_in objects ps more s)) (sym (patches_elsewhere t s here own differ))
+          ∙ (ap (λ (qs : List Patch). row_at rows s ++ qs) (sym (split s)) ∙ left.each s))
 
-      by : (s : ℕ) (d : Vec Patch) → s < n → (b : Bool) → (t == s) ≡ b → (get_or (set rows t new) s d).items ++ patches_in objects ps more s ≡ patches_in objects ps whole s
-      by s d low true e =
-          let same = eqb-true t s e in
-          subst (λ (k : ℕ). (get_or (set rows t new) k d).items ++ patches_in objects ps more k ≡ patches_in objects ps whole k) same (same_row d)
-      by s d low false e = other_row s d low (eqb-false t s e)
+      by : (s : ℕ) (b : Bool) → (t == s) ≡ b → row_at (set rows t new) s ++ patches_in objects ps more s ≡ patches_in objects ps whole s
+      by s true e = subst (λ (k : ℕ). row_at (set rows t new) k ++ patches_in objects ps more k ≡ patches_in objects ps whole k) (eqb-true t s e) same_row
+      by s false e = other_row s (eqb-false t s e)
 
 -- the relocations of a RELA section are all of the section that it names
 pub own_section : (n : ℕ) (b : List ℕ) (h : SectionHeader) → All (λ r. r.section ≡ h.sh_info) (relocations_in n b h)
 own_section n b h = All-map (λ (r : Relocation). r.section ≡ h.sh_info) (relocation_of n b h.sh_info) (filter is_some_kind (relas_of b h)) (λ k d low. refl)
 
--- a section that is relocated and kept is there
-pub kept_within : (b : List ℕ) (h : SectionHeader) → is_kept_rela b h ≡ true → h.sh_info < length (sections b)
-kept_within b h kept = by (nat_lt h.sh_info (length (sections b))) refl
-  where
-    by : (t : Bool) → nat_lt h.sh_info (length (sections b)) ≡ t → h.sh_info < length (sections b)
-    by true e = ltb-true h.sh_info (length (sections b)) e
-    by false e =
-        let past = ltb-false h.sh_info (length (sections b)) e in
-        let none = get_or_past (sections b) h.sh_info null_section past in
-        let alloc = (both_true (h.sh_type == 4) (is_alloc (section (sections b) h.sh_info)) kept).1 in
-        absurd (false≢true (ap is_alloc (sym none) ∙ alloc))
+-- a section that is relocated and kept has a row
+pub has_row :
+    (b : List ℕ) (hs : List SectionHeader) (i n : ℕ) (d : SectionHeader) → hs ≡ sections b → i < length hs → IsRowCount b n →
+    is_kept_rela b (get_or hs i d) ≡ true → (get_or hs i d).sh_info < n
+has_row b hs i n d same low rows kept =
+    let h = get_or hs i d in
+    let asked : rows_for b h ≡ h.sh_info + 1 = ap (λ (t : Bool). cond t (h.sh_info + 1) 0) kept in
+    let enough : rows_for b h ≤ n = subst (All (λ (s : SectionHeader). rows_for b s ≤ n)) (sym same) rows.enough i d low in
+    omega (arith, enough, asked)

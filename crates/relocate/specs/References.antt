@@ -7,8 +7,8 @@ use Rattle.elf_model.specs.ObjectFile.{sections}
 use Rattle.elf_model.specs.Pieces.{is_alloc}
 use Rattle.elf_model.specs.Relocation.{AreFieldsApart, IsFieldInside, IsLawfulRelocation, IsThreadMismatch, Relocation, relocation_kind, relocations}
 use Rattle.elf_model.specs.Resolution.{binding, is_undefined}
-use Rattle.elf_model.specs.declared.faults.LinkError.{LinkError}
-use Rattle.elf_model.specs.declared.faults.LinkError.TheVariants as error
+use Rattle.relocate.specs.declared.faults.RelocFault.{RelocFault}
+use Rattle.relocate.specs.declared.faults.RelocFault.TheVariants as error
 use Rattle.elf_model.specs.declared.records.SectionHeader.{SectionHeader}
 use Rattle.elf_model.specs.declared.records.Symbol.{Symbol}
 
@@ -30,13 +30,13 @@ pub record AreLawful (objects : List LoadedObject) (rs : List Relocation) : Type
   pub apart : AllPairs AreFieldsApart rs
 
 -- the refusal of an undefined name, but for memory
-abbrev pub IsNamedUndefined : List ℕ → LinkError → Type 0
+abbrev pub IsNamedUndefined : List ℕ → RelocFault → Type 0
 IsNamedUndefined name error.Memory = Unit {0}
 IsNamedUndefined name (error.Undefined n) = n.items ≡ name
 IsNamedUndefined name _ = ⊥
 
 -- why one relocation isn't lawful
-abbrev pub RelocationFails : List LoadedObject → Relocation → LinkError → Type 0
+abbrev pub RelocationFails : List LoadedObject → Relocation → RelocFault → Type 0
 RelocationFails objects r error.Memory = Unit {0}
 RelocationFails objects r (error.Undefined name) = IsUndefinedName name.items objects r
 RelocationFails objects r error.RefToDropped = IsToDropped objects r
@@ -46,7 +46,7 @@ RelocationFails objects r error.TlsMismatch = IsThreadMismatch objects r
 RelocationFails objects r _ = ⊥
 
 -- why relocations aren't lawful
-abbrev pub RelocationsFail : List LoadedObject → List Relocation → LinkError → Type 0
+abbrev pub RelocationsFail : List LoadedObject → List Relocation → RelocFault → Type 0
 RelocationsFail objects rs error.Memory = Unit {0}
 RelocationsFail objects rs (error.Undefined name) = Any (IsUndefinedName name.items objects) rs
 RelocationsFail objects rs error.RefToDropped = Any (IsToDropped objects) rs
@@ -56,5 +56,5 @@ RelocationsFail objects rs error.OverlappingFields = ¬ AllPairs AreFieldsApart 
 RelocationsFail objects rs error.TlsMismatch = Any (IsThreadMismatch objects) rs
 RelocationsFail objects rs _ = ⊥
 
-abbrev pub ReferencesFail : List LoadedObject → LinkError → Type 0
+abbrev pub ReferencesFail : List LoadedObject → RelocFault → Type 0
 ReferencesFail objects = RelocationsFail objects (relocations objects)

@@ -1,14 +1,14 @@
 //! The patches of an object, by the sections that they are for.
 ghost use Rattle.std.specs.Prelude.{◌≡◌, ◌++◌, [], All, IfErr, IfOk, IsSome, OnOk, filter, length, map};
-ghost use Rattle.elf_model.specs.ObjectFile.{sections};
 ghost use Rattle.elf_model.specs.Relocation.{Fits, is_some_kind, relocation_kind, relocation_of, relocations_from, section_address};
 ghost use Rattle.relocate.specs.References.{IsObjectAt};
-ghost use Rattle.relocate.specs.Values.{ArePatchRows, FittingFails, patch_of, placed_in};
+ghost use Rattle.relocate.specs.Values.{ArePatchRows, FittingFails, IsRowCount, patch_of, placed_in, rows_for};
 
+use crate::faults::RelocFault;
 use crate::patch::Patch;
 use crate::targets::{entries_of, is_kept_rela, is_some_kind};
 use crate::values::patch;
-use elf_model::{LinkError, Rela};
+use elf_model::{Rela, SectionHeader};
 use elf_read::Object;
 use layout::Placement;
 use resolve::Resolved;
@@ -34,7 +34,7 @@ fn add_patches(
     target: u64,
     entries: &[Rela],
     row: &mut Vec<Patch>,
-) -> Result<(), LinkError>
+) -> Result<(), RelocFault>
     requires here { IsObjectAt resolved.now number object.now }
     requires known { All (λ r. IsSome (relocation_kind r)) (map (relocation_of number object.now target) (filter is_some_kind entries.now)) }
     ensures patches { OnOk result (row.new.items ≡ row.old.items ++ map (patch_of resolved.now (placed_in placement.now)) (map (relocation_of number object.now target) (filter is_some_kind entries.now))) }
@@ -49,7 +49,7 @@ fn add_patches(
             continue;
         }
         let Some(patch) = patch(resolved, placement, number, object, target, at, &entry) else {
-            return Err(LinkError::Overflow);
+            return Err(RelocFault::Overflow);
         };
         row.push(patch)?;
     }
@@ -68,23 +68,49 @@ fn empty_rows(alloc: Global, count: usize) -> Result<Vec<Vec<Patch>>, AllocError
     Ok(rows)
 }
 
-/// The patches of an object whose relocations are of known kinds, a row for each of its sections. Overflow
-/// where a value doesn't fit.
+/// How many rows the section with the header asks for: as far as the section that it relocates, where this is
+/// kept, else none.
+fn rows_for(object: &Object<'_>, header: &SectionHeader) -> usize
+    ensures { result ≡ rows_for object.now header.now }
+{
+    if is_kept_rela(object, header) {
+        header.sh_info as usize + 1
+    } else {
+        0
+    }
+}
+
+/// How many rows an object's patches take: as far as its last section that is kept and relocated.
+fn row_count(object: &Object<'_>) -> usize
+    ensures { IsRowCount object.now result }
+{
+    let mut count = 0;
+    let headers = object.sections();
+    for i in 0..headers.len() {
+        count = rows_for(object, &headers[i]).max(count);
+    }
+    count
+}
+
+/// The patches of an object whose relocations are of known kinds, a row for each of its sections as far as the
+/// last one that is kept and relocated. Overflow where a value doesn't fit.
 pub fn object_patches(
     alloc: Global,
     resolved: &Resolved<'_, '_>,
     placement: &Placement<'_, '_>,
     number: usize,
     object: &Object<'_>,
-) -> Result<Vec<Vec<Patch>>, LinkError>
+) -> Result<Vec<Vec<Patch>>, RelocFault>
     requires here { IsObjectAt resolved.now number object.now }
     requires known { All (λ r. IsSome (relocation_kind r)) (relocations_from number object.now) }
-    ensures rows { IfOk result (λ v. ArePatchRows resolved.now (placed_in placement.now) (relocations_from number object.now) (length (sections object.now)) v.items) }
+    ensures rows { IfOk result (λ v. ArePatchRows resolved.now (placed_in placement.now) (relocations_from number object.now) v.items) }
+    ensures count { IfOk result (λ v. IsRowCount object.now (length v.items)) }
     ensures fit { OnOk result (All (Fits resolved.now (placed_in placement.now)) (relocations_from number object.now)) }
     ensures fault { IfErr result (FittingFails resolved.now (placed_in placement.now) (relocations_from number object.now)) }
 {
+    let count = row_count(object);
+    let mut rows = empty_rows(alloc, count)?;
     let headers = object.sections();
-    let mut rows = empty_rows(alloc, headers.len())?;
     for i in 0..headers.len() {
         let header = headers[i];
         if !is_kept_rela(object, &header) {

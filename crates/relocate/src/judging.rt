@@ -6,10 +6,11 @@ ghost use Rattle.elf_model.specs.Relocation.{IsLawfulRelocation, relocation_of};
 ghost use Rattle.relocate.specs.Fields.{field_of};
 ghost use Rattle.relocate.specs.References.{IsObjectAt, RelocationFails};
 
+use crate::faults::RelocFault;
 use crate::fields::Field;
 use crate::kinds::{is_mismatch, kind_of};
 use crate::targets::{is_thread_local, is_undefined, name_of, refers_to_dropped, undefined};
-use elf_model::{LinkError, Rela};
+use elf_model::Rela;
 use elf_read::Object;
 use resolve::Resolved;
 use std::alloc::Global;
@@ -24,7 +25,7 @@ pub fn lawful_field(
     target: u64,
     size: u64,
     entry: &Rela,
-) -> Result<Field, LinkError>
+) -> Result<Field, RelocFault>
     requires here { IsObjectAt resolved.now number object.now }
     requires size { size ≡ (section (sections object.now) target).sh_size }
     ensures field { IfOk result (λ f. f ≡ field_of (relocation_of number object.now target entry.now)) }
@@ -32,22 +33,22 @@ pub fn lawful_field(
     ensures fault { IfErr result (RelocationFails resolved.now (relocation_of number object.now target entry.now)) }
 {
     let Some(kind) = kind_of(entry.kind()) else {
-        return Err(LinkError::RelocKind);
+        return Err(RelocFault::RelocKind);
     };
     let symbol = entry.symbol() as usize;
     if is_undefined(resolved, number, object, symbol) {
         return Err(undefined(alloc, name_of(object, symbol)));
     }
     if refers_to_dropped(object, symbol) {
-        return Err(LinkError::RefToDropped);
+        return Err(RelocFault::RefToDropped);
     }
     let inside = is_thread_local(resolved, number, object, symbol);
     if is_mismatch(kind.formula, inside) {
-        return Err(LinkError::TlsMismatch);
+        return Err(RelocFault::TlsMismatch);
     }
     let width = kind.width as u64;
     if entry.r_offset > size || width > size - entry.r_offset {
-        return Err(LinkError::FieldOutside);
+        return Err(RelocFault::FieldOutside);
     }
     Ok(Field {
         section: target,

@@ -7,10 +7,11 @@ ghost use Rattle.relocate.specs.Fields.{field_of};
 ghost use Rattle.relocate.specs.References.{AreLawful, IsObjectAt, ReferencesFail, RelocationsFail};
 ghost use Rattle.search.specs.Views.{loaded_views};
 
+use crate::faults::RelocFault;
 use crate::fields::{Field, are_apart};
 use crate::judging::lawful_field;
 use crate::targets::{entries_of, is_kept_rela, is_some_kind, size_at};
-use elf_model::{LinkError, Rela, SectionHeader};
+use elf_model::{Rela, SectionHeader};
 use elf_read::Object;
 use resolve::Resolved;
 use search::Loaded;
@@ -26,7 +27,7 @@ pub fn references(
     alloc: Global,
     objects: &[Loaded<'_>],
     resolved: &Resolved<'_, '_>,
-) -> Result<(), LinkError>
+) -> Result<(), RelocFault>
     requires { resolved.now ≡ loaded_views objects.now }
     ensures lawful { OnOk result (AreLawfulRelocations (loaded_views objects.now)) }
     ensures fault { IfErr result (ReferencesFail (loaded_views objects.now)) }
@@ -43,14 +44,14 @@ fn judge_object(
     resolved: &Resolved<'_, '_>,
     number: usize,
     object: &Object<'_>,
-) -> Result<(), LinkError>
+) -> Result<(), RelocFault>
     requires { IsObjectAt resolved.now number object.now }
     ensures lawful { OnOk result (AreLawful resolved.now (relocations_from number object.now)) }
     ensures fault { IfErr result (RelocationsFail resolved.now (relocations_from number object.now)) }
 {
     let fields = lawful_fields(alloc, resolved, number, object)?;
     if !are_apart(fields)? {
-        return Err(LinkError::OverlappingFields);
+        return Err(RelocFault::OverlappingFields);
     }
     Ok(())
 }
@@ -61,7 +62,7 @@ fn lawful_fields(
     resolved: &Resolved<'_, '_>,
     number: usize,
     object: &Object<'_>,
-) -> Result<Vec<Field>, LinkError>
+) -> Result<Vec<Field>, RelocFault>
     requires { IsObjectAt resolved.now number object.now }
     ensures fields { IfOk result (λ v. v.items ≡ map field_of (relocations_from number object.now)) }
     ensures lawful { OnOk result (All (IsLawfulRelocation resolved.now) (relocations_from number object.now)) }
@@ -88,7 +89,7 @@ fn add_section(
     i: usize,
     header: &SectionHeader,
     fields: &mut Vec<Field>,
-) -> Result<(), LinkError>
+) -> Result<(), RelocFault>
     requires here { IsObjectAt resolved.now number object.now }
     requires there { slice_get (sections object.now) i ≡ Some header.now }
     requires rela { header.now.sh_type ≡ 4 }
@@ -117,7 +118,7 @@ fn add_fields(
     target: u64,
     entries: &[Rela],
     fields: &mut Vec<Field>,
-) -> Result<(), LinkError>
+) -> Result<(), RelocFault>
     requires { IsObjectAt resolved.now number object.now }
     ensures fields { OnOk result (fields.new.items ≡ fields.old.items ++ map field_of (map (relocation_of number object.now target) (filter is_some_kind entries.now))) }
     ensures lawful { OnOk result (All (IsLawfulRelocation resolved.now) (map (relocation_of number object.now target) (filter is_some_kind entries.now))) }

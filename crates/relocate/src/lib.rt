@@ -4,6 +4,7 @@
 
 mod applying;
 mod collecting;
+mod faults;
 mod fields;
 mod judging;
 mod kinds;
@@ -14,7 +15,7 @@ mod targets;
 mod values;
 
 pub use applying::{PatchTable, Patches};
-pub use elf_model::LinkError;
+pub use faults::RelocFault;
 pub use kinds::{Formula, Kind, Range, Terms, fits, kind_of, value};
 pub use lawful::references;
 pub use patching::patches;

@@ -8,7 +8,7 @@ ghost use Rattle.relocate.specs.Values.{ValuesFail};
 
 use crate::applying::{PatchTable, of_rows};
 use crate::collecting::object_patches;
-use elf_model::LinkError;
+use crate::faults::RelocFault;
 use layout::Placement;
 use resolve::Resolved;
 use search::Loaded;
@@ -24,7 +24,7 @@ pub fn patches<'a>(
     objects: &[Loaded<'a>],
     resolved: &Resolved<'_, 'a>,
     placement: &Placement<'_, 'a>,
-) -> Result<PatchTable, LinkError>
+) -> Result<PatchTable, RelocFault>
     requires resolved { resolved.now ≡ loaded_views objects.now }
     requires placed { placement.now.objects ≡ loaded_views objects.now }
     requires lawful { AreLawfulRelocations (loaded_views objects.now) }

@@ -9,9 +9,8 @@ ghost use Rattle.std.specs.List.{slice_get};
 ghost use Rattle.std.specs.Option.{option_map_or};
 ghost use Rattle.relocate.specs.References.{IsNamedUndefined, IsObjectAt, StandsInDropped, section_in};
 
-use elf_model::{
-    LinkError, Rela, SHF_ALLOC, SHN_UNDEF, SHT_RELA, STB_LOCAL, STB_WEAK, SectionHeader, Symbol,
-};
+use crate::faults::RelocFault;
+use elf_model::{Rela, SHF_ALLOC, SHN_UNDEF, SHT_RELA, STB_LOCAL, STB_WEAK, SectionHeader, Symbol};
 use elf_read::Object;
 use resolve::Resolved;
 use std::alloc::Global;
@@ -155,13 +154,12 @@ pub fn is_thread_local(
 }
 
 /// The refusal of a symbol that has no definition.
-pub fn undefined(alloc: Global, name: &[u8]) -> LinkError
+pub fn undefined(alloc: Global, name: &[u8]) -> RelocFault
     ensures { IsNamedUndefined name.now result }
 {
-    let mut copy = Vec::new(alloc);
-    match copy.extend_from_slice(name) {
-        Ok(()) => LinkError::Undefined(copy),
-        Err(_) => LinkError::Memory,
+    match Vec::from_slice(alloc, name) {
+        Ok(copy) => RelocFault::Undefined(copy),
+        Err(_) => RelocFault::Memory,
     }
 }
 

@@ -8,12 +8,12 @@ use Rattle.std.proofs.lemmas.List.Sorted.{IsPermutation-map}
 use Rattle.elf_model.proofs.RisingNames.{count_permuted}
 use Rattle.elf_model.specs.Loading.{LoadedObject}
 use Rattle.elf_model.specs.Resolution.{AreSoundSymbols, IsDuplicate, SymbolOf, has_name, strong_definitions}
-use Rattle.elf_model.specs.declared.faults.LinkError.{LinkError}
-use Rattle.elf_model.specs.declared.faults.LinkError.TheVariants as error
 use Rattle.resolve.specs.Defined.{AreDefinitions, HasEachNameOnce}
 use Rattle.resolve.specs.Refusals.{ResolvingFails, IsDuplicateOf}
 use Rattle.resolve.specs.Views.{symbol_view, symbol_views}
 use Rattle.resolve.specs.declared.entries.SymbolOf as code
+use Rattle.resolve.specs.declared.faults.ResolveFault.{ResolveFault}
+use Rattle.resolve.specs.declared.faults.ResolveFault.TheVariants as error
 use Rattle.resolve.proofs.NamedOnce.{no_twins}
 
 -- each name of a permutation is that of one too
@@ -24,7 +24,7 @@ once_moved xs ys moved once n =
 
 module _ (L : List LoadedObject) (strong : List code.SymbolOf) (is : symbol_views strong ≡ strong_definitions L) where
   -- two of the definitions have the name that the refusal names
-  pub refused : (n : List ℕ) (e : LinkError) → 2 ≤ count_by (has_name n) (symbol_views strong) → IsDuplicateOf n e → ResolvingFails L e
+  pub refused : (n : List ℕ) (e : ResolveFault) → 2 ≤ count_by (has_name n) (symbol_views strong) → IsDuplicateOf n e → ResolvingFails L e
   refused n error.Memory two named = tt
   refused n (error.Duplicate name) two named =
       subst (IsDuplicate L) (sym named) (subst (λ (ss : List SymbolOf). 2 ≤ count_by (has_name n) ss) is two)

@@ -1,16 +1,11 @@
 -- The strong definitions as candidates that a table of names is offered.
-use Rattle.std.specs.Prelude.{◌<◌, ◌^◌, List, map}
+use Rattle.std.specs.Prelude.{List, map}
 use Rattle.elf_model.specs.Resolution.{SymbolOf}
 use Rattle.elf_model.specs.declared.references.SymbolRef.{SymbolRef}
 use Rattle.symbols.specs.Offers.{Offer, all_offered}
 use Rattle.symbols.specs.Rows.{Rows, no_rows}
 use Rattle.symbols.specs.declared.candidate.Candidate.{Candidate}
 use Rattle.symbols.specs.declared.candidate.CandidateKind.TheVariants.{Strong}
-
--- numbers that a reference to a symbol holds
-pub record HasSmallNumbers (s : SymbolOf) : Type 0 where
-  pub object : s.object < 2 ^ 32
-  pub number : s.number < 2 ^ 32
 
 abbrev pub ref_of : SymbolOf → SymbolRef
 ref_of s = record { object = record { 0 = s.object }; symbol = s.number }

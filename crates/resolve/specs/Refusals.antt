@@ -2,18 +2,17 @@
 use Rattle.std.specs.Prelude.{◌≡◌, ℕ, List}
 use Rattle.elf_model.specs.Loading.{LoadedObject}
 use Rattle.elf_model.specs.Resolution.{AreSoundSymbols, IsDuplicate}
-use Rattle.elf_model.specs.declared.faults.LinkError.{LinkError}
-use Rattle.elf_model.specs.declared.faults.LinkError.TheVariants as error
+use Rattle.resolve.specs.declared.faults.ResolveFault.{ResolveFault}
+use Rattle.resolve.specs.declared.faults.ResolveFault.TheVariants as error
 
 -- why the names of loaded objects could not be resolved
-abbrev pub ResolvingFails : List LoadedObject → LinkError → Type 0
+abbrev pub ResolvingFails : List LoadedObject → ResolveFault → Type 0
 ResolvingFails objects error.Memory = Unit {0}
 ResolvingFails objects (error.Duplicate name) = IsDuplicate objects name.items
 ResolvingFails objects error.BadSymbol = ¬ AreSoundSymbols objects
-ResolvingFails objects _ = ⊥
 
 -- the refusal that names a symbol, but for memory
-abbrev pub IsDuplicateOf : List ℕ → LinkError → Type 0
+abbrev pub IsDuplicateOf : List ℕ → ResolveFault → Type 0
 IsDuplicateOf name error.Memory = Unit {0}
 IsDuplicateOf name (error.Duplicate n) = n.items ≡ name
 IsDuplicateOf name _ = ⊥

@@ -13,9 +13,9 @@ ghost use Rattle.resolve.specs.Views.{symbol_views};
 ghost use Rattle.symbols.specs.Rows.{no_rows};
 
 use crate::entries::{SymbolOf, is_strong, symbol_in};
+use crate::faults::ResolveFault;
 use crate::offering::{first_twin, offer_all};
 use crate::soundness::are_sound;
-use elf_model::LinkError;
 use elf_read::Object;
 use search::Loaded;
 use std::alloc::{AllocError, Global};
@@ -38,9 +38,8 @@ fn add_strong<'a>(
     Ok(())
 }
 
-/// How many strong definitions the objects have, as far as it can be counted: for how many there has to be
-/// room.
-pub fn strong_count(objects: &[Loaded<'_>]) -> usize {
+/// How many strong definitions the objects have, as far as it can be counted: for so many there is to be room.
+fn strong_count(objects: &[Loaded<'_>]) -> usize {
     let mut count: usize = 0;
     for loaded in objects {
         for entry in loaded.object.symbols() {
@@ -65,23 +64,22 @@ pub fn strong_definitions<'a>(
 }
 
 /// The same definitions in the order of their names.
-fn by_name<'a>(strong: Vec<SymbolOf<'a>>) -> Result<Vec<SymbolOf<'a>>, AllocError>
-    ensures same { IfOk result (λ v. IsPermutation strong.entry.items v.items) }
-    ensures rising { IfOk result (λ v. IsSortedByKey (λ s. s.name.now) (slice_cmp nat_cmp) v.items) }
+fn by_name<'a>(strong: Vec<SymbolOf<'a>>) -> Vec<SymbolOf<'a>>
+    ensures same { IsPermutation strong.entry.items result.items }
+    ensures rising { IsSortedByKey (λ s. s.name.now) (slice_cmp nat_cmp) result.items }
 {
     let mut sorted = strong;
-    sorted.sort_by_key(|s| s.name)?;
-    Ok(sorted)
+    sorted.sort_unstable_by_key(|s| s.name);
+    sorted
 }
 
 /// The refusal for a name with two strong definitions.
-fn duplicate(alloc: Global, name: &[u8]) -> LinkError
+fn duplicate(alloc: Global, name: &[u8]) -> ResolveFault
     ensures { IsDuplicateOf name.now result }
 {
-    let mut copy = Vec::new(alloc);
-    match copy.extend_from_slice(name) {
-        Ok(()) => LinkError::Duplicate(copy),
-        Err(_) => LinkError::Memory,
+    match Vec::from_slice(alloc, name) {
+        Ok(copy) => ResolveFault::Duplicate(copy),
+        Err(error) => ResolveFault::from(error),
     }
 }
 
@@ -92,20 +90,20 @@ pub fn define<'a, T: NameTable<'a>>(
     alloc: Global,
     objects: &[Loaded<'a>],
     table: &mut T,
-) -> Result<Vec<SymbolOf<'a>>, LinkError>
+) -> Result<Vec<SymbolOf<'a>>, ResolveFault>
     requires { T.rows table.old ≡ no_rows }
     ensures defined { IfOk result (λ v. AreDefinitions (loaded_views objects.now) v.items) }
     ensures offered { OnOk result (T.rows table.new ≡ rows_of (strong_definitions (loaded_views objects.now))) }
     ensures fault { IfErr result (ResolvingFails (loaded_views objects.now)) }
 {
     if !are_sound(objects) {
-        return Err(LinkError::BadSymbol);
+        return Err(ResolveFault::BadSymbol);
     }
     let strong = strong_definitions(alloc, objects)?;
+    table.reserve(strong.len())?;
     offer_all(table, &strong)?;
     if let Some(name) = first_twin(table, &strong) {
         return Err(duplicate(alloc, name));
     }
-    let sorted = by_name(strong)?;
-    Ok(sorted)
+    Ok(by_name(strong))
 }

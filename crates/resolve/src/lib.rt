@@ -5,6 +5,7 @@
 
 mod defining;
 mod entries;
+mod faults;
 mod offering;
 mod places;
 mod plain;
@@ -13,7 +14,7 @@ mod resolved;
 mod sections;
 mod soundness;
 
-pub use elf_model::LinkError;
 pub use entries::SymbolOf;
+pub use faults::ResolveFault;
 pub use plain::have_plain_names;
 pub use resolved::{Resolved, resolve, resolve_over};

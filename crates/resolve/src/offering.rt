@@ -1,8 +1,8 @@
 //! Definitions offered to a table of names, and what its rows then say of a name.
-ghost use Rattle.std.specs.Prelude.{◌≡◌, ◌≤◌, IfNone, IfSome, OnOk, SomeIff, count_by, unwrap_or};
+ghost use Rattle.std.specs.Prelude.{◌≡◌, ◌≤◌, IfNone, IfSome, OnOk, count_by, unwrap_or};
 ghost use Rattle.elf_model.specs.Resolution.{has_name};
 ghost use Rattle.resolve.specs.Defined.{HasEachNameOnce};
-ghost use Rattle.resolve.specs.Offered.{HasSmallNumbers, candidate_of, offers_of, rows_of};
+ghost use Rattle.resolve.specs.Offered.{candidate_of, offers_of, rows_of};
 ghost use Rattle.resolve.specs.Views.{symbol_view, symbol_views};
 ghost use Rattle.symbols.specs.Offers.{all_offered};
 ghost use Rattle.symbols.specs.Rows.{no_row};
@@ -11,29 +11,22 @@ use crate::entries::SymbolOf;
 use std::alloc::AllocError;
 use symbols::{Candidate, CandidateKind, NameTable, ObjectId, SymbolRef};
 
-/// A definition as a candidate for its name; None where its object's or its own number has more than 32
-/// bits.
-fn candidate_of(symbol: &SymbolOf<'_>) -> Option<Candidate>
-    ensures { SomeIff result (HasSmallNumbers (symbol_view symbol.now)) (candidate_of (symbol_view symbol.now)) }
+/// A definition as a candidate for its name.
+fn candidate_of(symbol: &SymbolOf<'_>) -> Candidate
+    ensures { result ≡ candidate_of (symbol_view symbol.now) }
 {
-    let object = u32::try_from(symbol.object).ok()?;
-    let number = u32::try_from(symbol.number).ok()?;
-    Some(Candidate {
+    Candidate {
         symbol: SymbolRef {
-            object: ObjectId(object),
-            symbol: number,
+            object: ObjectId(symbol.object),
+            symbol: symbol.number,
         },
         kind: CandidateKind::Strong,
         size: symbol.entry.st_size,
         align: symbol.entry.st_value,
-    })
+    }
 }
 
 /// Offers each definition for its name, in order.
-///
-/// # Errors
-///
-/// Where memory is refused, and where there are more objects, or symbols of one, than 32 bits count.
 pub fn offer_all<'a, T: NameTable<'a>>(
     table: &mut T,
     definitions: &[SymbolOf<'a>],
@@ -41,10 +34,7 @@ pub fn offer_all<'a, T: NameTable<'a>>(
     ensures { OnOk result (T.rows table.new ≡ all_offered (offers_of (symbol_views definitions.now)) (T.rows table.old)) }
 {
     for symbol in definitions {
-        let Some(candidate) = candidate_of(symbol) else {
-            return Err(AllocError);
-        };
-        table.offer(symbol.name, candidate)?;
+        table.offer(symbol.name, candidate_of(symbol))?;
     }
     Ok(())
 }

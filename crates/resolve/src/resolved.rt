@@ -13,12 +13,12 @@ ghost use Rattle.resolve.specs.Refusals.{ResolvingFails};
 ghost use Rattle.resolve.specs.Views.{symbol_view, symbol_views};
 ghost use Rattle.symbols.specs.Rows.{no_rows};
 
-use crate::defining::{define, strong_count};
+use crate::defining::define;
 use crate::entries::{SymbolOf, is_local, is_undefined, symbol_in};
+use crate::faults::ResolveFault;
 use crate::places::{Index, place_at, places_of};
 use crate::ranks::ranks_of;
 use crate::sections::is_in_thread_section;
-use elf_model::LinkError;
 use search::Loaded;
 use std::alloc::Global;
 use std::hash::{BuildHasherDefault, FoldHasher};
@@ -58,7 +58,7 @@ pub fn resolve_over<'b, 'a, T: NameTable<'a> + Drop>(
     alloc: Global,
     objects: &'b [Loaded<'a>],
     table: T,
-) -> Result<Resolved<'b, 'a>, LinkError>
+) -> Result<Resolved<'b, 'a>, ResolveFault>
     requires { T.rows table ≡ no_rows }
     ensures exact { IfOk result (λ r. r ≡ loaded_views objects.entry.now) }
     ensures resolved { OnOk result (AreSoundSymbols (loaded_views objects.entry.now) × AreUnique (loaded_views objects.entry.now)) }
@@ -85,19 +85,17 @@ pub fn resolve_over<'b, 'a, T: NameTable<'a> + Drop>(
 ///
 /// # Errors
 ///
-/// BadSymbol where a symbol isn't sound, Duplicate where a name has two strong definitions, Memory where
-/// memory is refused, and where there are more objects, or symbols of one, than 32 bits count.
+/// BadSymbol where a symbol isn't sound, Duplicate where a name has two strong definitions, Memory.
 pub fn resolve<'b, 'a>(
     alloc: Global,
     objects: &'b [Loaded<'a>],
-) -> Result<Resolved<'b, 'a>, LinkError>
+) -> Result<Resolved<'b, 'a>, ResolveFault>
     ensures exact { IfOk result (λ r. r ≡ loaded_views objects.entry.now) }
     ensures resolved { OnOk result (AreSoundSymbols (loaded_views objects.entry.now) × AreUnique (loaded_views objects.entry.now)) }
     ensures fault { IfErr result (ResolvingFails (loaded_views objects.entry.now)) }
 {
     let seed: BuildHasherDefault<FoldHasher> = BuildHasherDefault::new();
-    let table = IndexedTable::with_capacity_and_hasher(alloc, strong_count(objects), seed)?;
-    resolve_over(alloc, objects, table)
+    resolve_over(alloc, objects, IndexedTable::with_hasher(alloc, seed))
 }
 
 /// The definition at a place; None past the end.

@@ -1,5 +1,5 @@
 -- Faults of loading.
-use Rattle.std.proofs.Common.{◌≡◌, ◌≢◌, ℕ, suc, ◌+◌, ◌<◌, Bool, true, false, List, [], ◌∷◌, ◌++◌, length, get_or, drop, drop-cons, refl, ap, ◌∙◌, subst, sym, arith, append_assoc, length-append}
+use Rattle.std.proofs.Common.{◌≡◌, ◌≢◌, ℕ, suc, ◌+◌, ◌<◌, Bool, false, List, [], ◌∷◌, ◌++◌, length, get_or, drop, drop-cons, refl, ap, ◌∙◌, subst, sym, arith, append_assoc, length-append}
 use Rattle.std.specs.Prelude.{All, Any, IfErr, IsTrue, OnOk, Result, Ok, Err, map}
 use Rattle.std.proofs.Math.Seq.{get_or-append_seam}
 use Rattle.std.proofs.lemmas.List.{get_or-map, length-map, map-append}
@@ -10,18 +10,18 @@ use Rattle.elf_model.specs.Command.{Plan}
 use Rattle.elf_model.specs.Files.{File}
 use Rattle.elf_model.specs.Loading.{AreFilesThere, AreObjects, HasFile, LoadedObject, loaded_objects, objects_from}
 use Rattle.elf_model.specs.ObjectFile.{IsObject, ObjFaultStands}
-use Rattle.elf_model.specs.declared.faults.LinkError.{LinkError}
-use Rattle.elf_model.specs.declared.faults.LinkError.TheVariants as error
 use Rattle.elf_model.specs.declared.faults.ObjFault.{ObjFault}
 use Rattle.elf_model.specs.declared.faults.ObjFault.TheVariants as fault
 use Rattle.search.specs.Search.{Becomes, ItemsFail, LoadFails, ReadFails, loaded_item}
 use Rattle.search.specs.Views.{loaded_view, loaded_views}
+use Rattle.search.specs.declared.faults.SearchFault.{SearchFault}
+use Rattle.search.specs.declared.faults.SearchFault.TheVariants as error
 use Rattle.search.specs.declared.loading.Loaded.{Loaded}
 
-named : (bytes : List ℕ) (f : ObjFault) (e : LinkError) → e ≡ error.BadObject f → f ≢ fault.Memory → ObjFaultStands bytes f → ReadFails bytes e
+named : (bytes : List ℕ) (f : ObjFault) (e : SearchFault) → e ≡ error.BadObject f → f ≢ fault.Memory → ObjFaultStands bytes f → ReadFails bytes e
 named bytes f e is other s = subst (ReadFails bytes) (sym is) (other, s)
 
-pub read_fails : (bytes : List ℕ) (f : ObjFault) (e : LinkError) → Becomes f e → ObjFaultStands bytes f → ReadFails bytes e
+pub read_fails : (bytes : List ℕ) (f : ObjFault) (e : SearchFault) → Becomes f e → ObjFaultStands bytes f → ReadFails bytes e
 read_fails bytes fault.Memory e is s = subst (ReadFails bytes) (sym is) tt
 read_fails bytes fault.Truncated e is s = named bytes fault.Truncated e is (λ m. cc) s
 read_fails bytes fault.NotElf64 e is s = named bytes fault.NotElf64 e is (λ m. cc) s
@@ -37,7 +37,7 @@ read_fails bytes fault.TooMany e is s = named bytes fault.TooMany e is (λ m. cc
 
 -- A fault of one object is one of the objects'.
 pub items_fail :
-    (done rest : List LoadedObject) (o : LoadedObject) (whole : List LoadedObject) (e : LinkError) →
+    (done rest : List LoadedObject) (o : LoadedObject) (whole : List LoadedObject) (e : SearchFault) →
     done ++ (o ∷ rest) ≡ whole → ReadFails o.bytes e → ItemsFail whole e
 items_fail done rest o whole error.Memory is s = tt
 items_fail done rest o whole (error.BadObject f) is s =
@@ -97,7 +97,7 @@ there_iff files p items b is all = (
 )
 
 -- A fault of the items is one of the plan's.
-pub load_fails : (files : List File) (p : Plan) (e : LinkError) → AreFilesThere files p → ItemsFail (loaded_objects files p) e → LoadFails files p e
+pub load_fails : (files : List File) (p : Plan) (e : SearchFault) → AreFilesThere files p → ItemsFail (loaded_objects files p) e → LoadFails files p e
 load_fails files p error.Memory there s = tt
 load_fails files p (error.BadObject f) there s = (there, s.0, s.1)
 load_fails files p _ there s = absurd s
@@ -107,7 +107,7 @@ on_ok (Ok x) p = p
 on_ok (Err e) p = tt
 
 pub fail_of_items :
-    {T : Type 0} (files : List File) (p : Plan) (r : Result T LinkError) → AreFilesThere files p → IfErr r (ItemsFail (loaded_objects files p)) →
+    {T : Type 0} (files : List File) (p : Plan) (r : Result T SearchFault) → AreFilesThere files p → IfErr r (ItemsFail (loaded_objects files p)) →
     IfErr r (LoadFails files p)
 fail_of_items files p (Ok x) there s = tt
 fail_of_items files p (Err e) there s = load_fails files p e there s

@@ -7,10 +7,11 @@ ghost use Rattle.elf_model.specs.ObjectFile.{IsObject, ObjFaultStands};
 ghost use Rattle.search.specs.Search.{Becomes, ItemsFail, LoadFails, ReadFails, loaded_item};
 ghost use Rattle.search.specs.Views.{loaded_view, loaded_views};
 
+use crate::faults::SearchFault;
 use crate::files::FileIndex;
 use byteview::View;
 use command::{Item, Plan, path_of};
-use elf_model::{InputFile, LinkError, ObjFault};
+use elf_model::{InputFile, ObjFault};
 use elf_read::Object;
 use std::alloc::Global;
 
@@ -35,25 +36,25 @@ fn have_files(files: &FileIndex<'_>, items: &[Item<'_>]) -> bool
     items.iter().all(|i| has_file(files, i))
 }
 
-/// Reads an object, with its fault as a link's.
-fn read_object<'a>(alloc: Global, bytes: &'a [u8]) -> Result<Object<'a>, LinkError>
+/// Reads an object, with its fault as one of loading.
+fn read_object<'a>(alloc: Global, bytes: &'a [u8]) -> Result<Object<'a>, SearchFault>
     ensures exact { IfOk result (λ o. o ≡ bytes.entry.now) }
     ensures object { OnOk result (IsObject bytes.entry.now) }
     ensures fault { IfErr result (ReadFails bytes.entry.now) }
 {
     match Object::read(alloc, View::new(bytes)) {
         Ok(object) => Ok(object),
-        Err(fault) => Err(link_error(fault)),
+        Err(fault) => Err(search_fault(fault)),
     }
 }
 
-/// An object's fault as a link's.
-fn link_error(fault: ObjFault) -> LinkError
+/// An object's fault as one of loading.
+fn search_fault(fault: ObjFault) -> SearchFault
     ensures { Becomes fault result }
 {
     match fault {
-        ObjFault::Memory => LinkError::Memory,
-        other => LinkError::BadObject(other),
+        ObjFault::Memory => SearchFault::Memory,
+        other => SearchFault::BadObject(other),
     }
 }
 
@@ -63,7 +64,7 @@ fn load_item<'a>(
     files: &FileIndex<'a>,
     item: &Item<'a>,
     number: u64,
-) -> Result<Loaded<'a>, LinkError>
+) -> Result<Loaded<'a>, SearchFault>
     requires file { IsSome (file_named files.now (path_of (item_of item.now))) }
     ensures exact { IfOk result (λ l. loaded_view l ≡ loaded_item files.now number (item_of item.now)) }
     ensures object { OnOk result (IsObject (loaded_item files.now number (item_of item.now)).bytes) }
@@ -86,7 +87,7 @@ fn load_items<'a>(
     alloc: Global,
     files: &FileIndex<'a>,
     items: &[Item<'a>],
-) -> Result<Vec<Loaded<'a>>, LinkError>
+) -> Result<Vec<Loaded<'a>>, SearchFault>
     requires { All (λ i. HasFile files.now (item_of i)) items.now }
     ensures loaded { IfOk result (λ v. loaded_views v.items ≡ objects_from files.now 0 (map item_of items.now)) }
     ensures objects { OnOk result (AreObjects (objects_from files.now 0 (map item_of items.now))) }
@@ -108,7 +109,7 @@ pub fn load<'a>(
     alloc: Global,
     plan: &Plan<'a>,
     files: &'a [InputFile],
-) -> Result<Vec<Loaded<'a>>, LinkError>
+) -> Result<Vec<Loaded<'a>>, SearchFault>
     ensures loaded { IfOk result (λ v. loaded_views v.items ≡ loaded_objects (files_of files.entry.now) plan.now) }
     ensures files { OnOk result (AreFilesThere (files_of files.entry.now) plan.now) }
     ensures objects { OnOk result (AreObjects (loaded_objects (files_of files.entry.now) plan.now)) }
@@ -116,7 +117,7 @@ pub fn load<'a>(
 {
     let index = FileIndex::new(alloc, files)?;
     if !have_files(&index, &plan.items) {
-        return Err(LinkError::FileMissing);
+        return Err(SearchFault::FileMissing);
     }
     load_items(alloc, &index, &plan.items)
 }

@@ -1,5 +1,5 @@
 //! The table of names by hash.
-ghost use Rattle.std.specs.Prelude.{◌≡◌, IfOk};
+ghost use Rattle.std.specs.Prelude.{◌≡◌};
 ghost use Rattle.symbols.specs.Rows.{no_rows};
 ghost use Rattle.symbols.specs.Lists.{row_in};
 
@@ -35,24 +35,6 @@ impl<'a, S: BuildHasher> IndexedTable<'a, S> {
             rows: IndexMap::with_hasher(alloc, hash_builder),
         }
     }
-
-    /// A table without names that has room for `n`, and hashes by `hash_builder`.
-    ///
-    /// # Errors
-    ///
-    /// Where memory is refused.
-    pub fn with_capacity_and_hasher(
-        alloc: Global,
-        n: usize,
-        hash_builder: S,
-    ) -> Result<Self, AllocError>
-    where
-        S: Drop,
-        ensures { IfOk result (λ t. ⟦<IndexedTable<'a, S> as NameTable<'a>>⟧.rows t ≡ no_rows) }
-    {
-        let rows = IndexMap::with_capacity_and_hasher(alloc, n, hash_builder)?;
-        Ok(IndexedTable { rows })
-    }
 }
 
 impl<'a, S: BuildHasher> NameTable<'a> for IndexedTable<'a, S> {
@@ -60,6 +42,10 @@ impl<'a, S: BuildHasher> NameTable<'a> for IndexedTable<'a, S> {
 
     fn get(&self, name: &'a [u8]) -> Option<Row> {
         self.rows.get(name).copied()
+    }
+
+    fn reserve(&mut self, additional: usize) -> Result<(), AllocError> {
+        self.rows.reserve_exact(additional)
     }
 
     fn offer(&mut self, name: &'a [u8], candidate: Candidate) -> Result<(), AllocError> {

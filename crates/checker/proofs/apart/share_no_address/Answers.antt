@@ -3,7 +3,7 @@ use Rattle.std.specs.Prelude.{All, AllPairs}
 use Rattle.std.proofs.lemmas.List.Sorted.{All-permutation, IsPermutation-sym}
 use Rattle.elf_model.specs.Placement.{AreApart}
 use Rattle.checker.specs.Sweeps.{EndFits}
-use Rattle.checker.proofs.PairsPermuted.{AllPairs-permutation}
+use Rattle.elf_model.proofs.PairsPermuted.{AllPairs-permutation}
 use Rattle.checker.proofs.Sweep.{AreApart-symmetric}
 use Rattle.checker.proofs.apart.share_no_address.Goals as goal
 

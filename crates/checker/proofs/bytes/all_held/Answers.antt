@@ -2,7 +2,7 @@ use Rattle.std.specs.Prelude.{All}
 use Rattle.checker.specs.Bytes.{HoldsFields}
 use Rattle.checker.specs.Views.{placed_view}
 use Rattle.checker.specs.declared.things.Placed.{Placed}
-use Rattle.checker.proofs.Rests.{all_more}
+use Rattle.elf_model.proofs.Rests.{all_more}
 use Rattle.checker.proofs.bytes.all_held.Goals as goal
 
 pub loop-q-preserved : goal.loop-q-preserved

@@ -2,7 +2,7 @@ use Rattle.std.proofs.Common.{drop}
 use Rattle.std.specs.Prelude.{All}
 use Rattle.checker.specs.Bytes.{HoldsFields}
 use Rattle.checker.specs.Views.{placed_view}
-use Rattle.checker.proofs.Rests.{Left}
+use Rattle.elf_model.proofs.Rests.{Left}
 use Rattle.checker.proofs.bytes.all_held.Given as goal
 
 abbrev pub invariant-loop-q : goal.invariant-loop-q

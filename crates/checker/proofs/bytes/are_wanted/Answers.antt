@@ -2,7 +2,7 @@ use Rattle.std.proofs.Common.{◌+◌, List, drop, get_or, subst, sym, ◌∙◌
 use Rattle.std.proofs.lemmas.Bool.{false≢true}
 use Rattle.checker.specs.Bytes.{WantedFrom}
 use Rattle.checker.specs.declared.fields.Field.{Field}
-use Rattle.checker.proofs.Rests.{rest_at}
+use Rattle.elf_model.proofs.Rests.{rest_at}
 use Rattle.checker.proofs.Sweeping.{Sweeps, at_least, field_same, front_same, sweep_more}
 use Rattle.checker.proofs.bytes.are_wanted.Goals as goal
 

@@ -1,6 +1,6 @@
 use Rattle.std.specs.Prelude.{All}
 use Rattle.elf_model.specs.RightLink.{EndsRight}
-use Rattle.checker.proofs.Rests.{all_more}
+use Rattle.elf_model.proofs.Rests.{all_more}
 use Rattle.checker.proofs.ends.all_end_right.Goals as goal
 
 pub loop-segment-preserved : goal.loop-segment-preserved

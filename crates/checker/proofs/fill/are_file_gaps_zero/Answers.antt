@@ -6,7 +6,7 @@ use Rattle.elf_model.specs.declared.thing.Thing.{Thing}
 use Rattle.checker.specs.Filled.{part_of}
 use Rattle.checker.specs.Sweeps.{EndFits, RegionFilled}
 use Rattle.checker.proofs.Parts.{gaps_iff, parts_fit, parts_rise}
-use Rattle.checker.proofs.Rests.{Left}
+use Rattle.elf_model.proofs.Rests.{Left}
 use Rattle.checker.proofs.fill.are_file_gaps_zero.Goals as goal
 
 pub are_gaps_zero-zero-requires-clause-fits : goal.are_gaps_zero-zero-requires-clause-fits

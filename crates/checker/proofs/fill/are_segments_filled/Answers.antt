@@ -1,6 +1,6 @@
 use Rattle.std.specs.Prelude.{All}
 use Rattle.checker.specs.Filled.{SegmentFilled}
-use Rattle.checker.proofs.Rests.{all_more}
+use Rattle.elf_model.proofs.Rests.{all_more}
 use Rattle.checker.proofs.fill.are_segments_filled.Goals as goal
 
 pub loop-segment-preserved : goal.loop-segment-preserved

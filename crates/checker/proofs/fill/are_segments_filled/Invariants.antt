@@ -1,7 +1,7 @@
 use Rattle.std.proofs.Common.{drop}
 use Rattle.std.specs.Prelude.{All}
 use Rattle.checker.specs.Filled.{SegmentFilled}
-use Rattle.checker.proofs.Rests.{Left}
+use Rattle.elf_model.proofs.Rests.{Left}
 use Rattle.checker.proofs.fill.are_segments_filled.Given as goal
 
 abbrev pub invariant-loop-segment : goal.invariant-loop-segment

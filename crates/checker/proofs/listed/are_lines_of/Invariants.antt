@@ -3,7 +3,7 @@ use Rattle.std.specs.Prelude.{map}
 use Rattle.elf_model.specs.MapRecord.{symbol_row}
 use Rattle.elf_model.specs.RightLink.{symbol_row_of}
 use Rattle.checker.specs.Views.{symbol_views}
-use Rattle.checker.proofs.Rests.{Left}
+use Rattle.elf_model.proofs.Rests.{Left}
 use Rattle.checker.proofs.listed.are_lines_of.Given as goal
 
 abbrev pub invariant-loop-i : goal.invariant-loop-i

@@ -1,7 +1,7 @@
 use Rattle.std.proofs.Common.{◌≡◌, drop, map}
 use Rattle.elf_model.specs.MapRecord.{object_row}
 use Rattle.elf_model.specs.RightLink.{object_rows}
-use Rattle.checker.proofs.Rests.{Left}
+use Rattle.elf_model.proofs.Rests.{Left}
 use Rattle.checker.specs.Views.{loaded_views}
 use Rattle.checker.proofs.loading.are_lines_of.Given as goal
 

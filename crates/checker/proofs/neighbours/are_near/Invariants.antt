@@ -1,7 +1,7 @@
 use Rattle.checker.specs.Neighbours.{AreNear}
 use Rattle.checker.specs.Views.{placed_views}
 use Rattle.checker.proofs.NextPieces.{HasLasts, NearFrom}
-use Rattle.checker.proofs.Rests.{Left}
+use Rattle.elf_model.proofs.Rests.{Left}
 use Rattle.checker.proofs.neighbours.are_near.Given as goal
 
 abbrev pub invariant-loop-j : goal.invariant-loop-j

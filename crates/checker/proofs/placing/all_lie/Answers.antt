@@ -1,7 +1,7 @@
 use Rattle.std.proofs.Common.{◌≡◌, true, false}
 use Rattle.std.specs.Prelude.{All}
 use Rattle.elf_model.specs.Placement.{LiesInSegment}
-use Rattle.checker.proofs.Rests.{all_more, all_stop}
+use Rattle.elf_model.proofs.Rests.{all_more, all_stop}
 use Rattle.checker.proofs.placing.all_lie.Goals as goal
 
 pub loop-thing-preserved : goal.loop-thing-preserved

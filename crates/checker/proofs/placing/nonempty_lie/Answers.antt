@@ -3,7 +3,7 @@ use Rattle.std.specs.Prelude.{All}
 use Rattle.elf_model.specs.MemoryImage.{loads}
 use Rattle.elf_model.specs.Placement.{LiesInSegment}
 use Rattle.elf_model.specs.declared.thing.Thing.{Thing}
-use Rattle.checker.proofs.Rests.{all_more, all_stop}
+use Rattle.elf_model.proofs.Rests.{all_more, all_stop}
 use Rattle.checker.proofs.placing.nonempty_lie.Goals as goal
 
 pub loop-thing-preserved : goal.loop-thing-preserved

@@ -2,7 +2,7 @@ use Rattle.std.proofs.Common.{◌<◌, drop}
 use Rattle.std.specs.Prelude.{All}
 use Rattle.elf_model.specs.MemoryImage.{loads}
 use Rattle.elf_model.specs.Placement.{LiesInSegment}
-use Rattle.checker.proofs.Rests.{Left}
+use Rattle.elf_model.proofs.Rests.{Left}
 use Rattle.checker.proofs.placing.nonempty_lie.Given as goal
 
 abbrev pub invariant-loop-thing : goal.invariant-loop-thing

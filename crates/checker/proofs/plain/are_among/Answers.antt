@@ -1,6 +1,6 @@
 use Rattle.std.proofs.Common.{refl, arith}
 use Rattle.std.specs.Prelude.{All}
-use Rattle.checker.proofs.Rests.{all_end, all_more}
+use Rattle.elf_model.proofs.Rests.{all_end, all_more}
 use Rattle.checker.specs.Plain.{IsAmong}
 use Rattle.checker.proofs.PlainNames.{Name}
 use Rattle.checker.proofs.plain.are_among.Goals as goal

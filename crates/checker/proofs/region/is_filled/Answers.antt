@@ -1,6 +1,6 @@
 use Rattle.std.proofs.Common.{◌≡◌, ℕ, ◌+◌, true, false, sym, subst, arith, drop}
 use Rattle.checker.specs.Sweeps.{FilledFrom, RegionFilled}
-use Rattle.checker.proofs.Rests.{Left}
+use Rattle.elf_model.proofs.Rests.{Left}
 use Rattle.checker.proofs.Regions.{filled_end, filled_more, filled_stop}
 use Rattle.checker.proofs.region.is_filled.Goals as goal
 

@@ -1,6 +1,6 @@
 use Rattle.std.proofs.Common.{◌≤◌, drop}
 use Rattle.checker.specs.Sweeps.{FilledFrom, RegionFilled}
-use Rattle.checker.proofs.Rests.{Left}
+use Rattle.elf_model.proofs.Rests.{Left}
 use Rattle.checker.proofs.region.is_filled.Given as goal
 
 abbrev pub invariant-loop-thing : goal.invariant-loop-thing

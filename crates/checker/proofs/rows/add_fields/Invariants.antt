@@ -2,7 +2,7 @@ use Rattle.std.proofs.Common.{◌≡◌, ◌++◌, map}
 use Rattle.std.specs.Prelude.{All, filter}
 use Rattle.elf_model.proofs.FlatRelocations.{left_of_entries}
 use Rattle.elf_model.specs.Relocation.{is_some_kind, relocation_of}
-use Rattle.checker.proofs.Rests.{Left}
+use Rattle.elf_model.proofs.Rests.{Left}
 use Rattle.checker.specs.Fields.{IsRight, field_of}
 use Rattle.checker.proofs.rows.add_fields.Given as goal
 

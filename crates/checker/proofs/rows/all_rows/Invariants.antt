@@ -3,7 +3,7 @@ use Rattle.std.specs.Global.{Vec}
 use Rattle.elf_model.proofs.FlatRelocations.{left_of_objects}
 use Rattle.elf_model.specs.Loading.{LoadedObject}
 use Rattle.elf_model.specs.Relocation.{relocations}
-use Rattle.checker.proofs.Rests.{Left}
+use Rattle.elf_model.proofs.Rests.{Left}
 use Rattle.checker.specs.Fields.{AreRight, IsRowOf}
 use Rattle.checker.specs.Views.{loaded_view, loaded_views}
 use Rattle.checker.specs.declared.fields.Field.{Field}

@@ -1,7 +1,7 @@
 use Rattle.std.proofs.Common.{◌≡◌, drop, map}
 use Rattle.elf_model.specs.MapRecord.{place_row}
 use Rattle.elf_model.specs.RightLink.{facts_of_piece, facts_of_row}
-use Rattle.checker.proofs.Rests.{Left}
+use Rattle.elf_model.proofs.Rests.{Left}
 use Rattle.checker.specs.Views.{piece_views}
 use Rattle.checker.proofs.sections.are_lines_of.Given as goal
 

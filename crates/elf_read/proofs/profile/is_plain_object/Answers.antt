@@ -1,6 +1,6 @@
 use Rattle.std.proofs.Common.{List, subst}
 use Rattle.std.specs.Prelude.{All}
-use Rattle.elf_model.specs.Profile.{IsPlainObject, IsPlainSymbol}
+use Rattle.elf_model.specs.Profile.{IsPlainSymbol}
 use Rattle.elf_model.specs.declared.records.Symbol.{Symbol}
 use Rattle.elf_read.proofs.profile.is_plain_object.Goals as goal
 

@@ -1,7 +1,7 @@
-use Rattle.std.proofs.Common.{◌≡◌, ◌+◌, ◌*◌, List, arith, length, ap, subst, sym}
+use Rattle.std.proofs.Common.{◌≡◌, ◌+◌, List, arith, ap, subst, sym}
 use Rattle.std.specs.Prelude.{All}
 use Rattle.elf_model.specs.Loading.{LoadedObject}
-use Rattle.elf_model.specs.OwnLayout.{file_end, own_placed}
+use Rattle.elf_model.specs.OwnLayout.{own_placed}
 use Rattle.elf_model.specs.Placement.{Placed}
 use Rattle.elf_model.proofs.Places.{are_own_placed}
 use Rattle.layout.specs.PlaceViews.{place_views}

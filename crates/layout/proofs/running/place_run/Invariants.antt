@@ -3,7 +3,7 @@ use Rattle.elf_model.specs.OwnLayout.{end_of, placed_from}
 use Rattle.layout.specs.Limits.{AreInLimit}
 use Rattle.layout.specs.PlaceViews.{place_views}
 use Rattle.layout.specs.Views.{piece_views}
-use Rattle.layout.proofs.Rests.{Left}
+use Rattle.elf_model.proofs.Rests.{Left}
 use Rattle.layout.proofs.running.place_run.Given as goal
 
 abbrev pub invariant-loop-piece : goal.invariant-loop-piece

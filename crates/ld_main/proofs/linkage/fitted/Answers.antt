@@ -1,8 +1,9 @@
-use Rattle.std.proofs.Common.{subst}
+use Rattle.std.proofs.Common.{subst, sym}
 use Rattle.elf_model.specs.OwnLayout.{OwnValuesFit}
 use Rattle.layout.specs.Placements.{Basis}
 use Rattle.relocate.specs.Values.{ValuesFail}
 use Rattle.search.specs.Views.{loaded_views}
+use Rattle.ld_main.specs.Outputs.{LinksRefuse}
 use Rattle.ld_main.proofs.Links.{values_refuse}
 use Rattle.ld_main.proofs.linkage.fitted.Goals as goal
 
@@ -14,5 +15,8 @@ returns-in-Ok-clause-linkable c = record {
 
 pub returns-in-Err-clause-fault : goal.returns-in-Err-clause-fault
 returns-in-Err-clause-fault c =
-    values_refuse c.args.plan.now (loaded_views c.args.objects.now) c.requires.laid c.in-Err.error
-    (subst (λ (b : Basis). ValuesFail b c.in-Err.error) c.requires.placed c.in-Err.ensures.fault)
+    let p = c.args.plan.now in
+    let objects = loaded_views c.args.objects.now in
+    subst (LinksRefuse p objects) (sym c.reloc_error.ensures)
+    (values_refuse p objects c.requires.laid c.in-Err.fault
+    (subst (λ (b : Basis). ValuesFail b c.in-Err.fault) c.requires.placed c.in-Err.ensures.fault))

@@ -1,4 +1,4 @@
-use Rattle.std.proofs.Common.{◌≡◌, ℕ, List, subst, sym}
+use Rattle.std.proofs.Common.{List, subst, sym}
 use Rattle.std.specs.Prelude.{All}
 use Rattle.elf_model.specs.ImageFile.{IsOwnMap}
 use Rattle.elf_model.specs.MapRecord.{map_of}

@@ -1,4 +1,5 @@
-use Rattle.std.proofs.Common.{◌≡◌, ◌∙◌, List, ap, subst, sym}
+use Rattle.std.proofs.Common.{List, subst, sym}
+use Rattle.elf_model.specs.Causes.{Cause}
 use Rattle.elf_model.specs.Files.{files_of, words_of}
 use Rattle.elf_model.specs.Profile.{IsInProfile}
 use Rattle.search.specs.Views.{loaded_views}
@@ -9,12 +10,16 @@ use Rattle.ld_main.proofs.FinalRefusals.{denies_links}
 use Rattle.ld_main.proofs.Links.{cause, loading_fails, prepared, right_link}
 use Rattle.ld_main.proofs.linkage.prepare_over.Goals as goal
 
-pub returns-in-Err-load-clause-no_link : goal.returns-in-Err-load-clause-no_link
-returns-in-Err-load-clause-no_link g c =
+pub returns-in-Err-load-clause-cause : goal.returns-in-Err-load-clause-cause
+returns-in-Err-load-clause-cause g c =
     let files = files_of c.args.files.now in
     let words = words_of c.args.words.now in
-    denies_links files words c.in-Err-load.refusal
-    (loading_fails files words c.in-Ok.plan c.in-Ok.ensures.plan c.in-Err-load.refusal c.in-Err-load.ensures.fault)
+    subst (Cause files words) (sym c.search_error.ensures)
+    (loading_fails files words c.in-Ok.plan c.in-Ok.ensures.plan c.in-Err-load.fault c.in-Err-load.ensures.fault)
+
+pub returns-in-Err-load-clause-no_link : goal.returns-in-Err-load-clause-no_link
+returns-in-Err-load-clause-no_link g c =
+    denies_links (files_of c.args.files.now) (words_of c.args.words.now) c.search_error.result (returns-in-Err-load-clause-cause g c)
 
 pub returns-in-Ok-prepare_objects-clause-prepared : goal.returns-in-Ok-prepare_objects-clause-prepared
 returns-in-Ok-prepare_objects-clause-prepared g c =

@@ -1,4 +1,4 @@
-use Rattle.std.proofs.Common.{◌≡◌, ◌∙◌, ℕ, Option, ap, sym, unwrap_or}
+use Rattle.std.proofs.Common.{◌∙◌, ℕ, Option, ap, sym, unwrap_or}
 use Rattle.layout.proofs.OwnAddresses.{address_either}
 use Rattle.ld_main.proofs.own_map.address_of.Goals as goal
 

@@ -3,7 +3,7 @@ use Rattle.std.specs.Prelude.{IsSome, filter}
 use Rattle.std.proofs.lemmas.List.Elements.{All-head}
 use Rattle.elf_model.proofs.FlatRelocations.{entry_more, left_of_entries}
 use Rattle.elf_model.specs.Relocation.{Relocation, is_some_kind, relocation_kind, relocation_of}
-use Rattle.elf_model.specs.declared.faults.LinkError.TheVariants as error
+use Rattle.relocate.specs.declared.faults.RelocFault.TheVariants as error
 use Rattle.elf_model.specs.declared.records.Rela.{Rela}
 use Rattle.relocate.proofs.Fitted.{fit_part, fitting_fails, known_part, one_fails, one_fits, push_patch}
 use Rattle.relocate.specs.Values.{placed_in}

@@ -1,4 +1,4 @@
-use Rattle.std.proofs.Common.{◌≡◌, ◌+◌, ◌++◌, List, true, arith, ap, get_or, length, map, subst, sym, ◌∙◌}
+use Rattle.std.proofs.Common.{◌≡◌, ◌+◌, ◌++◌, List, true, arith, ap, get_or, map, subst, sym, ◌∙◌}
 use Rattle.std.specs.Prelude.{All, IsSome, filter}
 use Rattle.std.specs.List.{flat_map, slice_get}
 use Rattle.std.proofs.lemmas.Option.{slice_get-get_or}
@@ -9,7 +9,7 @@ use Rattle.elf_model.specs.Relocation.{Fits, Relocation, is_kept_rela, is_some_k
 use Rattle.elf_model.specs.declared.records.Rela.{Rela}
 use Rattle.elf_model.specs.declared.records.SectionHeader.{SectionHeader}
 use Rattle.relocate.proofs.Fitted.{exit_fitting, fit_all, fit_part, fitting_fails, known_part}
-use Rattle.relocate.proofs.Rows.{kept_within, own_section, rows_all, rows_part}
+use Rattle.relocate.proofs.Rows.{has_row, own_section, rows_all, rows_part}
 use Rattle.relocate.specs.Values.{FittingFails, patch_of, placed_in}
 use Rattle.relocate.proofs.collecting.object_patches.Goals as goal
 
@@ -24,7 +24,7 @@ loop-i-init c =
     ap (λ (ss : List SectionHeader). flat_map (relocations_in n b) (filter (is_kept_rela b) ss)) c.sections-headers.ensures in
     record {
       rows =
-          rows_all L ps (relocations_from n b) (left_of_sections n b hs 0) (length hs) c.in_ok-rows.rows.items same c.in_ok-rows.ensures.count
+          rows_all L ps (relocations_from n b) (left_of_sections n b hs 0) c.row_count-count.result c.in_ok-rows.rows.items same c.in_ok-rows.ensures.count
           c.in_ok-rows.ensures.each;
       leaves = fit_all L ps (relocations_from n b) (left_of_sections n b hs 0) same c.requires.known;
     }
@@ -47,6 +47,16 @@ add_patches-requires-clause-known c =
     subst (All (λ (r : Relocation). IsSome (relocation_kind r))) (sym read)
     (known_part c.args.resolved.now (placed_in c.args.placement.now) (relocations_from n b) (left_of_sections n b hs i) (relocations_in n b h)
     (left_of_sections n b hs (i + 1)) parts c.loop-i.invariant.leaves)
+
+pub index_mut-row-requires : goal.index_mut-row-requires
+index_mut-row-requires c =
+    let b = c.args.object.now in
+    let hs = c.sections-headers.result.now in
+    let i = c.loop-i.i in
+    let kept : is_kept_rela b (get_or hs i null_section) ≡ true = sym c.is_kept_rela.ensures ∙ c.if-not-is_kept_rela.false in
+    let within = has_row b hs i c.row_count-count.result null_section c.sections-headers.ensures c.loop-i-test.true c.row_count-count.ensures kept in
+    let count = c.loop-i.invariant.rows.count in
+    omega (arith, within, count)
 
 pub returns-in_err-add_patches-clause-fault : goal.returns-in_err-add_patches-clause-fault
 returns-in_err-add_patches-clause-fault c =
@@ -78,12 +88,11 @@ loop-i-preserved c =
     let kept : is_kept_rela b h ≡ true = sym c.is_kept_rela.ensures ∙ c.if-not-is_kept_rela.false in
     let parts = section_more n b hs i null_section c.loop-i-test.true kept in
     let read = ap (λ (es : List Rela). map (relocation_of n b h.sh_info) (filter is_some_kind es)) c.entries_of-entries.ensures in
-    let within = kept_within b h kept in
-    let long = ap (λ (ss : List SectionHeader). length ss) c.sections-headers.ensures in
+    let within = has_row b hs i c.row_count-count.result null_section c.sections-headers.ensures c.loop-i-test.true c.row_count-count.ensures kept in
     record {
       rows =
-          rows_part L ps (relocations_from n b) (left_of_sections n b hs i) (relocations_in n b h) (left_of_sections n b hs (i + 1)) (length hs)
-          c.loop-i.rows.items h.sh_info c.index_mut-row.result.now c.add_patches.new.row (omega (arith, within, long)) parts (own_section n b h)
+          rows_part L ps (relocations_from n b) (left_of_sections n b hs i) (relocations_in n b h) (left_of_sections n b hs (i + 1)) c.row_count-count.result
+          c.loop-i.rows.items h.sh_info c.index_mut-row.result.now c.add_patches.new.row within parts (own_section n b h)
           c.index_mut-row.ensures.value
           (c.in_ok-add_patches.ensures.patches
           ∙ ap (λ (rs : List Relocation). c.index_mut-row.result.now.items ++ map (patch_of L ps) rs) read)

@@ -1,4 +1,3 @@
-use Rattle.std.proofs.Common.{length}
 use Rattle.elf_model.proofs.FlatRelocations.{left_of_sections}
 use Rattle.elf_model.specs.Relocation.{relocations_from}
 use Rattle.relocate.proofs.Fitted.{LeavesToFit}
@@ -10,6 +9,6 @@ abbrev pub invariant-loop-i : goal.invariant-loop-i
 invariant-loop-i l = record {
   rows :
       AreRowsLeft l.resolved (placed_in l.placement) (relocations_from l.number l.object) (left_of_sections l.number l.object l.headers l.i)
-      (length l.headers) l.rows.items;
+      l.count l.rows.items;
   leaves : LeavesToFit l.resolved (placed_in l.placement) (relocations_from l.number l.object) (left_of_sections l.number l.object l.headers l.i);
 }

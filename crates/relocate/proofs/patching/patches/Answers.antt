@@ -1,16 +1,14 @@
-use Rattle.std.proofs.Common.{◌≡◌, ◌+◌, List, get_or, length, map, option_map, refl, subst, sym, ap, ◌∙◌, arith}
-use Rattle.std.specs.Prelude.{All, Option}
-use Rattle.std.specs.List.{slice_get}
+use Rattle.std.proofs.Common.{◌≡◌, ◌+◌, List, get_or, length, option_map, refl, subst, sym, ap, ◌∙◌, arith}
+use Rattle.std.specs.Prelude.{All}
 use Rattle.std.proofs.lemmas.List.{length-map}
 use Rattle.std.proofs.lemmas.Option.{slice_get-get_or, slice_get-map}
 use Rattle.std.proofs.lemmas.Result.{err_from_is_err_and}
-use Rattle.elf_model.proofs.FlatRelocations.{left_of_objects, object_end, object_more}
+use Rattle.elf_model.proofs.FlatRelocations.{left_of_objects, object_more}
 use Rattle.elf_model.specs.Loading.{LoadedObject}
-use Rattle.elf_model.specs.ObjectFile.{sections}
 use Rattle.elf_model.specs.Relocation.{Fits, relocations, relocations_from}
 use Rattle.search.specs.Views.{loaded_view, loaded_views}
-use Rattle.relocate.proofs.Fitted.{fit_all, fit_none, fit_part, fitting_fails, known_part}
-use Rattle.relocate.proofs.ObjectRows.{all_known, exit_values, no_rows, row_more, rows_all, values_fail, values_fit}
+use Rattle.relocate.proofs.Fitted.{fit_all, fit_part, fitting_fails, known_part}
+use Rattle.relocate.proofs.ObjectRows.{all_known, exit_values, no_rows, row_more, rows_all, values_fail}
 use Rattle.relocate.specs.Values.{ArePatchRows, FittingFails, placed_in}
 use Rattle.relocate.proofs.patching.patches.Goals as goal
 
@@ -62,7 +60,7 @@ loop-k-preserved c =
       rows =
           row_more L ps k o c.loop-k.rows.items c.push.new.self.items c.in_ok-row.row c.in_ok-push.ensures.items
           (slice_get-map loaded_view xs k ∙ ap (option_map loaded_view) (slice_get-get_or xs k d c.loop-k-test.true))
-          (subst (λ (os : List LoadedObject). ArePatchRows os ps here (length (sections o.bytes)) c.in_ok-row.row.items) c.requires.resolved c.in_ok-row.ensures.rows)
+          (subst (λ (os : List LoadedObject). ArePatchRows os ps here c.in_ok-row.row.items) c.requires.resolved c.in_ok-row.ensures.rows)
           c.loop-k.invariant.rows;
       leaves =
           fit_part L ps (relocations L) (left_of_objects loaded_view xs k) here (left_of_objects loaded_view xs (k + 1))

@@ -5,4 +5,4 @@ use Rattle.resolve.proofs.defining.by_name.Goals as goal
 
 pub returns-clause-rising : goal.returns-clause-rising
 returns-clause-rising c =
-    c.in_ok-sort_by_key.ensures.sorted (λ (s : code.SymbolOf). s.name) (answers_always _ _ _ (λ f a r q k. search rules))
+    c.sort_unstable_by_key.ensures.sorted (λ (s : code.SymbolOf). s.name) (answers_always _ _ _ (λ f a r q k. search rules))

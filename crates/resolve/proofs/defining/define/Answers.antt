@@ -16,6 +16,6 @@ returns-in-Some-clause-fault g c =
 
 pub returns-clause-defined : goal.returns-clause-defined
 returns-clause-defined g c =
-    definitions (loaded_views c.args.objects.now) c.in_ok-strong.strong.items c.in_ok-strong.ensures c.in_ok-sorted.sorted.items
-    c.in_ok-sorted.ensures.same c.in_ok-sorted.ensures.rising (subst HasEachNameOnce c.deref-2.ensures.value c.in_default.ensures.none)
+    definitions (loaded_views c.args.objects.now) c.in_ok-strong.strong.items c.in_ok-strong.ensures c.by_name.result.items
+    c.by_name.ensures.same c.by_name.ensures.rising (subst HasEachNameOnce c.deref-2.ensures.value c.in_default.ensures.none)
     (c.are_sound.ensures.0 c.if-not-are_sound.false)

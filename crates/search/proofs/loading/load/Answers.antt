@@ -1,12 +1,10 @@
 use Rattle.std.proofs.Common.{◌≡◌, ◌∙◌, List, true, false, ap, subst, sym}
-use Rattle.std.specs.Prelude.{All, IfErr, IsTrue, OnOk, map}
+use Rattle.std.specs.Prelude.{IfErr, map}
 use Rattle.command.specs.Views.{item_of}
-use Rattle.command.specs.declared.items.Item.{Item}
 use Rattle.elf_model.specs.Command as command
 use Rattle.elf_model.specs.Command.{Plan}
 use Rattle.elf_model.specs.Files.{File}
 use Rattle.elf_model.specs.Loading.{AreFilesThere, objects_from}
-use Rattle.elf_model.specs.declared.faults.LinkError.{LinkError}
 use Rattle.search.specs.Search.{ItemsFail, LoadFails}
 use Rattle.search.proofs.Loads.{fail_of_items, on_ok, there_iff}
 use Rattle.search.proofs.loading.load.Goals as goal

@@ -1,5 +1,5 @@
 use Rattle.std.proofs.Common.{◌≡◌, ◌++◌, drop}
-use Rattle.std.specs.Prelude.{All, map}
+use Rattle.std.specs.Prelude.{map}
 use Rattle.command.specs.Views.{item_of}
 use Rattle.elf_model.specs.Loading.{AreObjects, objects_from}
 use Rattle.search.specs.Views.{loaded_views}

@@ -8,6 +8,6 @@ returns-in-Err c = record {
   exact = tt;
   object = tt;
   fault =
-      read_fails c.args.bytes.now c.in-Err.fault c.link_error.result c.link_error.ensures
+      read_fails c.args.bytes.now c.in-Err.fault c.search_fault.result c.search_fault.ensures
       (subst (λ (bytes : List ℕ). ObjFaultStands bytes c.in-Err.fault) c.new.ensures c.in-Err.ensures.fault);
 }

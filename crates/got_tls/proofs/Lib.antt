@@ -1,0 +1,5 @@
+pub mod Blocks
+pub mod ExtentSteps
+pub mod Kept
+pub mod NoSlots
+pub mod Offsets

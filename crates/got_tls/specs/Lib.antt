@@ -1,0 +1,4 @@
+pub mod Extents
+pub mod Slots
+pub mod ThreadStorage
+pub mod Views

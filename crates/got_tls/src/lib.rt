@@ -1,0 +1,13 @@
+//! The GOT and thread-local storage: which slots the relocations of loaded objects ask for, the block of
+//! the pieces with SHF_TLS, and offsets from the thread pointer (AMD64 psABI 4.4; ELF Handling For
+//! Thread-Local Storage, variant II).
+#![tactic(auto)]
+
+mod extents;
+mod requests;
+mod slot_table;
+mod thread_storage;
+
+pub use requests::slots;
+pub use slot_table::{Slot, Slots};
+pub use thread_storage::{TlsBlock, tls_block, tp_offset};

@@ -1,0 +1,61 @@
+//! Faults print as their name and their number.
+use elf_model::ObjFault;
+use layout::LayoutFault;
+use relocate::RelocFault;
+use resolve::ResolveFault;
+use search::SearchFault;
+use std::alloc::Global;
+use std::fmt::Display;
+use std::process::Abort;
+use std::test::Fail;
+
+fn prints<F: Display + Drop>(
+    rt: &impl Abort,
+    alloc: Global,
+    fault: F,
+    text: &str,
+) -> Result<(), Fail> {
+    assert_eq!(rt; format!(in alloc; "{fault}")?.as_str(), text);
+    Ok(())
+}
+
+#[test]
+fn faults_of_loading_print_their_number(rt: HostRuntime) -> Result<(), Fail> {
+    let alloc = rt.alloc();
+    let bad = SearchFault::BadObject(ObjFault::Truncated);
+    prints(&rt, alloc, SearchFault::Memory, "Memory (1)")?;
+    prints(&rt, alloc, SearchFault::FileMissing, "FileMissing (2)")?;
+    prints(&rt, alloc, bad, "BadObject (3): Truncated (2)")
+}
+
+#[test]
+fn faults_of_names_print_their_number(rt: HostRuntime) -> Result<(), Fail> {
+    let alloc = rt.alloc();
+    let name = Vec::from_slice(alloc, b"f")?;
+    prints(&rt, alloc, ResolveFault::Memory, "Memory (1)")?;
+    prints(&rt, alloc, ResolveFault::Duplicate(name), "Duplicate (2)")?;
+    prints(&rt, alloc, ResolveFault::BadSymbol, "BadSymbol (4)")
+}
+
+#[test]
+fn faults_of_layouts_print_their_number(rt: HostRuntime) -> Result<(), Fail> {
+    let alloc = rt.alloc();
+    prints(&rt, alloc, LayoutFault::Memory, "Memory (1)")?;
+    prints(&rt, alloc, LayoutFault::SectionKind, "SectionKind (2)")?;
+    prints(&rt, alloc, LayoutFault::TooLarge, "TooLarge (3)")
+}
+
+#[test]
+fn refusals_of_relocations_print_their_number(rt: HostRuntime) -> Result<(), Fail> {
+    let alloc = rt.alloc();
+    let name = Vec::from_slice(alloc, b"f")?;
+    prints(&rt, alloc, RelocFault::Memory, "Memory (1)")?;
+    prints(&rt, alloc, RelocFault::Undefined(name), "Undefined (2)")?;
+    prints(&rt, alloc, RelocFault::RefToDropped, "RefToDropped (3)")?;
+    prints(&rt, alloc, RelocFault::RelocKind, "RelocKind (4)")?;
+    prints(&rt, alloc, RelocFault::FieldOutside, "FieldOutside (5)")?;
+    let overlap = RelocFault::OverlappingFields;
+    prints(&rt, alloc, overlap, "OverlappingFields (6)")?;
+    prints(&rt, alloc, RelocFault::Overflow, "Overflow (7)")?;
+    prints(&rt, alloc, RelocFault::TlsMismatch, "TlsMismatch (8)")
+}

@@ -1,0 +1,95 @@
+//! Which kept sections are lawful.
+ghost use Rattle.std.specs.Prelude.{◌≡◌, ◌↔◌, All, Contains, IfErr, IsTrue, OnOk, [], ◌∷◌, true};
+ghost use Rattle.elf_model.specs.Pieces as pieces;
+ghost use Rattle.elf_model.specs.Pieces.{AreLawfulKinds, IsLawfulKind};
+ghost use Rattle.search.specs.Views.{loaded_views};
+ghost use Rattle.layout.specs.Kinds.{HasLawfulKinds, IsLawfulIfKept, KindsFail, lawful_types};
+
+use crate::faults::LayoutFault;
+use crate::pieces::{is_alloc, is_executable, is_nobits, is_thread_local, is_writable};
+use elf_model::{
+    SHT_FINI_ARRAY, SHT_INIT_ARRAY, SHT_NOBITS, SHT_NOTE, SHT_PREINIT_ARRAY, SHT_PROGBITS,
+    SHT_X86_64_UNWIND, SectionHeader,
+};
+use elf_read::Object;
+use search::Loaded;
+
+/// The flags that a kept section may have: WRITE, ALLOC, EXECINSTR, MERGE, STRINGS, INFO_LINK, GROUP and TLS.
+const LAWFUL_FLAGS: u64 = 0x677;
+
+fn is_lawful_type(kind: u32) -> bool
+    ensures { IsTrue result ↔ Contains lawful_types kind }
+{
+    kind == SHT_PROGBITS
+        || kind == SHT_NOTE
+        || kind == SHT_NOBITS
+        || kind == SHT_INIT_ARRAY
+        || kind == SHT_FINI_ARRAY
+        || kind == SHT_PREINIT_ARRAY
+        || kind == SHT_X86_64_UNWIND
+}
+
+fn is_lawful_kind(header: &SectionHeader) -> bool
+    ensures { IsTrue result ↔ IsLawfulKind header.now }
+{
+    if !is_lawful_type(header.sh_type) {
+        return false;
+    }
+    if header.sh_flags & LAWFUL_FLAGS != header.sh_flags {
+        return false;
+    }
+    if is_writable(header) {
+        return !is_executable(header);
+    }
+    !is_thread_local(header) && !is_nobits(header)
+}
+
+fn is_lawful_if_kept(header: &SectionHeader) -> bool
+    ensures { IsTrue result ↔ IsLawfulIfKept header.now }
+{
+    !is_alloc(header) || is_lawful_kind(header)
+}
+
+fn are_lawful(headers: &[SectionHeader]) -> bool
+    ensures { IsTrue result ↔ All IsLawfulIfKept headers.now }
+{
+    headers.iter().all(|h| is_lawful_if_kept(h))
+}
+
+fn is_lawful_object(object: &Object<'_>) -> bool
+    ensures { IsTrue result ↔ HasLawfulKinds object.now }
+{
+    are_lawful(object.sections())
+}
+
+fn are_lawful_objects(objects: &[Loaded<'_>]) -> bool
+    ensures { IsTrue result ↔ All (λ l. HasLawfulKinds l.object) objects.now }
+{
+    for loaded in objects {
+        if !is_lawful_object(&loaded.object) {
+            return false;
+        }
+    }
+    true
+}
+
+fn are_lawful_kinds(objects: &[Loaded<'_>]) -> bool
+    ensures { IsTrue result ↔ AreLawfulKinds (loaded_views objects.now) }
+{
+    are_lawful_objects(objects)
+}
+
+/// Judges the kinds of the kept sections of loaded objects (docs/PROFILE.md). It takes no memory.
+///
+/// # Errors
+///
+/// `SectionKind` where one isn't lawful.
+pub fn kinds(objects: &[Loaded<'_>]) -> Result<(), LayoutFault>
+    ensures lawful { OnOk result (AreLawfulKinds (loaded_views objects.now)) }
+    ensures fault { IfErr result (KindsFail (loaded_views objects.now)) }
+{
+    if !are_lawful_kinds(objects) {
+        return Err(LayoutFault::SectionKind);
+    }
+    Ok(())
+}
