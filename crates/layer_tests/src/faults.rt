@@ -1,10 +1,10 @@
-//! Faults print as their name and their number.
+//! Faults print as their name and their number, and refused memory is the fault Memory.
 use elf_model::ObjFault;
 use layout::LayoutFault;
 use relocate::RelocFault;
 use resolve::ResolveFault;
 use search::SearchFault;
-use std::alloc::Global;
+use std::alloc::{AllocError, AllocFailed, Global};
 use std::fmt::Display;
 use std::process::Abort;
 use std::test::Fail;
@@ -58,4 +58,20 @@ fn refusals_of_relocations_print_their_number(rt: HostRuntime) -> Result<(), Fai
     prints(&rt, alloc, overlap, "OverlappingFields (6)")?;
     prints(&rt, alloc, RelocFault::Overflow, "Overflow (7)")?;
     prints(&rt, alloc, RelocFault::TlsMismatch, "TlsMismatch (8)")
+}
+
+/// What `push` answers where memory is refused.
+fn no_room() -> AllocFailed<u8> {
+    AllocFailed { value: 1 }
+}
+
+#[test]
+fn refused_memory_is_the_fault_memory(rt: HostRuntime) {
+    assert!(rt; matches!(SearchFault::from(AllocError), SearchFault::Memory));
+    assert!(rt; matches!(SearchFault::from(no_room()), SearchFault::Memory));
+    assert!(rt; matches!(&ResolveFault::from(AllocError), ResolveFault::Memory));
+    assert!(rt; matches!(LayoutFault::from(AllocError), LayoutFault::Memory));
+    assert!(rt; matches!(LayoutFault::from(no_room()), LayoutFault::Memory));
+    assert!(rt; matches!(&RelocFault::from(AllocError), RelocFault::Memory));
+    assert!(rt; matches!(&RelocFault::from(no_room()), RelocFault::Memory));
 }

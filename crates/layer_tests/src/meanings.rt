@@ -3,10 +3,11 @@ use crate::objects::{
     DATA, ENTRY, ETEXT_NAME, F_NAME, G_NAME, START_NAME, SYMBOLS, TEXT, load_both, object_with,
 };
 use elf_model::{Rela, SHF_ALLOC, SHF_TLS, SHF_WRITE, SectionHeader, Symbol};
-use resolve::{ResolveFault, Resolved, SymbolOf, have_plain_names, resolve};
+use resolve::{ResolveFault, Resolved, SymbolOf, have_plain_names, resolve, resolve_over};
 use std::alloc::{AllocError, Global};
 use std::process::Abort;
 use std::test::Fail;
+use symbols::ListTable;
 
 /// A GLOBAL symbol at the beginning of a section, or an undefined one at section 0.
 fn global(st_name: u32, st_shndx: u16) -> Symbol {
@@ -93,7 +94,7 @@ fn the_entry_stands_outside_thread_storage(rt: HostRuntime) -> Result<(), Fail> 
     let a = object_of(alloc, &[global(START_NAME, 2), global(F_NAME, 0)])?;
     let b = object_of(alloc, &[global(F_NAME, 3), global(G_NAME, 0)])?;
     let objects = load_both(alloc, &a, &b)?;
-    let resolved = resolve(alloc, &objects)?;
+    let resolved = resolve_over(alloc, &objects, ListTable::new(alloc))?;
     assert_entry(&rt, &resolved);
     Ok(())
 }

@@ -4,7 +4,7 @@ use elf_model::{
     CmdFault, FileHeader, LinkError, LoadFault, MapFault, ObjFault, PF_R, PT_LOAD, ProgramHeader,
     Rela, STB_GLOBAL, STT_FUNC, SectionHeader, Symbol,
 };
-use std::alloc::{AllocError, Global};
+use std::alloc::{AllocError, AllocFailed, Global};
 use std::process::Abort;
 use std::test::Fail;
 
@@ -220,11 +220,18 @@ fn refusals_print_their_number(rt: HostRuntime) -> Result<(), Fail> {
     Ok(())
 }
 
+/// What `push` answers where memory is refused.
+fn no_room() -> AllocFailed<u8> {
+    AllocFailed { value: 1 }
+}
+
 #[test]
 fn refused_memory_is_a_fault(rt: HostRuntime) {
     assert!(rt; matches!(CmdFault::from(AllocError), CmdFault::Memory));
+    assert!(rt; matches!(CmdFault::from(no_room()), CmdFault::Memory));
     assert!(rt; matches!(ObjFault::from(AllocError), ObjFault::Memory));
     assert!(rt; matches!(LoadFault::from(AllocError), LoadFault::Memory));
     assert!(rt; matches!(MapFault::from(AllocError), MapFault::Memory));
     assert!(rt; matches!(&LinkError::from(AllocError), LinkError::Memory));
+    assert!(rt; matches!(&LinkError::from(no_room()), LinkError::Memory));
 }
