@@ -6,10 +6,8 @@ pub mod Gathered
 pub mod Gathering
 pub mod ImageFaults
 pub mod KindRows
-pub mod KindWidths
 pub mod Lines
 pub mod Modulo
-pub mod NameKeys
 pub mod NearSteps
 pub mod NextPieces
 pub mod ObjectFields
@@ -22,8 +20,6 @@ pub mod PieceSections
 pub mod PlaceKeys
 pub mod PlaceSteps
 pub mod PlacedFacts
-pub mod PlainNames
-pub mod ProfileLemmas
 pub mod Regions
 pub mod RightParts
 pub mod RowFacts

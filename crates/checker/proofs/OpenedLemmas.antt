@@ -13,7 +13,8 @@ use Rattle.elf_model.specs.Command.{Plan}
 use Rattle.elf_model.specs.Files.{File}
 use Rattle.elf_model.specs.Loading.{AreFilesThere, AreObjects, HasFile, LoadedObject, file_named, loaded_objects, objects_from, path_of}
 use Rattle.elf_model.specs.ObjectFile.{IsObject}
-use Rattle.checker.specs.FileIndex.{IsIndex, found}
+use Rattle.elf_model.proofs.Listed.{All-parts}
+use Rattle.elf_model.specs.FileIndex.{IsIndex, found}
 use Rattle.checker.specs.Opened.{loaded_from, loaded_item}
 use Rattle.checker.specs.Views.{loaded_view, loaded_views}
 use Rattle.checker.specs.declared.things.Loaded.{Loaded}
@@ -71,11 +72,7 @@ item_stops files items i d out whole within is_file never so_far all =
     let rest = objects_from files (i + 1) (map item_of (drop (i + 1) items)) in
     let e : loaded_views out ++ loaded_item files i (item_of (get_or items i d)) ∷ rest ≡ whole =
     ap (λ vs. loaded_views out ++ vs) (sym (file_front files items i d within is_file)) ∙ so_far in
-    never (All-head HasObject (loaded_item files i (item_of (get_or items i d))) rest (behind (loaded_views out) (loaded_item files i (item_of (get_or items i d)) ∷ rest) (subst (All HasObject) (sym e) all)))
-  where
-    behind : (xs ys : List LoadedObject) → All HasObject (xs ++ ys) → All HasObject ys
-    behind [] ys h = h
-    behind (x ∷ xs) ys h = behind xs ys (All-tail HasObject x (xs ++ ys) h)
+    never (All-head HasObject (loaded_item files i (item_of (get_or items i d))) rest (All-parts HasObject (loaded_views out) (loaded_item files i (item_of (get_or items i d)) ∷ rest) (subst (All HasObject) (sym e) all)).1)
 
 -- A file that isn't there has no bytes, which are no object.
 

@@ -5,7 +5,8 @@ use Rattle.std.proofs.lemmas.Option.{same_Some}
 use Rattle.elf_model.specs.MemoryImage.{Cell, Encloses, IsImage, loads, segment_byte}
 use Rattle.elf_model.specs.RightLink.{byte_at}
 use Rattle.elf_model.specs.declared.records.ProgramHeader.{ProgramHeader}
-use Rattle.loader_model.proofs.MemoryLemmas.{maps-true, memory_at}
+use Rattle.elf_model.proofs.Addresses.{maps-true}
+use Rattle.loader_model.proofs.MemoryLemmas.{memory_at}
 use Rattle.std.proofs.lemmas.Bool.{ltb-true, ltb-false}
 use Rattle.std.proofs.lemmas.List.{ext_get_or, get_or-drop, get_or-take, get_or_past}
 

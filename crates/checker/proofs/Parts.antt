@@ -11,12 +11,13 @@ use Rattle.elf_model.specs.RightLink.{IsFilled, fill_of}
 use Rattle.elf_model.specs.declared.records.ProgramHeader.{ProgramHeader}
 use Rattle.elf_model.specs.declared.thing.Thing.{Thing}
 use Rattle.loader_model.specs.Table.{IsBelow, IsLawful}
-use Rattle.loader_model.proofs.MemoryLemmas.{mapped, maps-true, memory_at}
+use Rattle.elf_model.proofs.Addresses.{mapped, maps-true}
+use Rattle.loader_model.proofs.MemoryLemmas.{memory_at}
 use Rattle.loader_model.proofs.TableOrder.{ascending_loads}
 use Rattle.checker.specs.Filled.{HasZeroGaps, SegmentFilled, part_of}
 use Rattle.checker.specs.Sweeps.{EndFits, RegionFilled}
 use Rattle.checker.proofs.Padded.{below_or_not}
-use Rattle.elf_model.proofs.Rests.{All-unmap}
+use Rattle.elf_model.proofs.Listed.{All-unmap}
 
 abbrev GoodIn : List ℕ → ProgramHeader → Type 0
 GoodIn image h = IsGoodLoad (first_address (loads image)) (length image) h

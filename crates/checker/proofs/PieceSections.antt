@@ -19,7 +19,7 @@ use Rattle.checker.specs.Fields.{AreRows}
 use Rattle.checker.specs.Views.{placed_view, placed_views}
 use Rattle.checker.specs.declared.fields.Field.{Field}
 use Rattle.checker.specs.declared.things.Placed.{Placed}
-use Rattle.elf_model.proofs.Rests.{All-unmap}
+use Rattle.elf_model.proofs.Listed.{All-unmap}
 use Rattle.checker.proofs.WantedFields.{byte_wanted, fields_inside}
 
 pub record IsOfSection (objects : List LoadedObject) (p : pieces.Piece) : Type 0 where

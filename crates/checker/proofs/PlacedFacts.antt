@@ -16,7 +16,7 @@ use Rattle.checker.specs.Bytes.{LiesWhole}
 use Rattle.checker.specs.Views.{placed_view, placed_views}
 use Rattle.checker.specs.declared.things.Placed.{Placed}
 use Rattle.checker.proofs.PieceLemmas.{all_short}
-use Rattle.elf_model.proofs.Rests.{All-unmap}
+use Rattle.elf_model.proofs.Listed.{All-parts, All-unmap}
 
 -- pieces keep what all of them have where they are placed
 abbrev Short : pieces.Piece → Type 0
@@ -28,10 +28,6 @@ placed_short (row ∷ rows) [] all = All-nil (λ (q : placement.Placed). Short q
 placed_short (row ∷ rows) (p ∷ ps) all =
     All-cons (λ (q : placement.Placed). Short q.piece) (record { at = row.address; piece = p }) (placed_by rows ps)
     (All-head Short p ps all) (placed_short rows ps (All-tail Short p ps all))
-
-behind : {X : Type 0} (P : X → Type 0) (xs ys : List X) → All P (xs ++ ys) → All P ys
-behind P [] ys h = h
-behind P (x ∷ xs) ys h = behind P xs ys (All-tail P x (xs ++ ys) h)
 
 abbrev Encloses_it : List ProgramHeader → Thing → Type 0
 Encloses_it segments t = 0 < t.size → Any (λ h. Encloses h t.at t.size) segments
@@ -46,12 +42,12 @@ lie_whole s placed same rights =
     let segments = loads s.image in
     let Lies : Thing → Type 0 = λ t. 0 < t.size → LiesInSegment segments t in
     let all = All-tail Lies (headers_thing s.image) (got_things s.map.got ++ map thing_of (placed_of s)) rights.nonempty in
-    let mapped = behind Lies (got_things s.map.got) (map thing_of (placed_of s)) all in
+    let mapped = (All-parts Lies (got_things s.map.got) (map thing_of (placed_of s)) all).1 in
     let lies = All-unmap (λ (q : placement.Placed). Lies (thing_of q)) placed_view placed
     (subst (All (λ (q : placement.Placed). Lies (thing_of q))) (sym same) (All-unmap Lies thing_of (placed_of s) mapped)) in
     let short = All-unmap (λ (q : placement.Placed). Short q.piece) placed_view placed
     (subst (All (λ (q : placement.Placed). Short q.piece)) (sym same)
-    (placed_short s.map.places (pieces_of 0 (objects_of s)) (all_short 0 (objects_of s)))) in
+    (placed_short s.map.places (pieces_of 0 (objects_of s)) (all_short (objects_of s)))) in
     λ k d within. record {
       encloses = enclosed segments (thing_of (placed_view (get_or placed k d))) (lies k d within);
       short = short k d within;

@@ -1,24 +1,18 @@
 -- Each segment of an image ends before the next begins, and what follows where none is found.
-use Rattle.std.proofs.Common.{◌≡◌, ℕ, ◌+◌, ◌/◌, ◌%◌, ◌<◌, List, get_or, refl, arith}
+use Rattle.std.proofs.Common.{◌≡◌, ℕ, List, get_or, refl}
 use Rattle.std.specs.Prelude.{All, AllPairs, Any, Some, None}
 use Rattle.std.proofs.lemmas.List.Elements.{All-contains}
 use Rattle.std.proofs.lemmas.Option.{none-some}
-use Rattle.elf_model.specs.MemoryImage.{Encloses, IsImage, ShareNoPage, loads, program_headers}
+use Rattle.elf_model.specs.MemoryImage.{Encloses, IsImage, loads, program_headers}
 use Rattle.elf_model.specs.declared.records.ProgramHeader.{ProgramHeader}
-use Rattle.loader_model.specs.Table.{EndsBefore, IsBelow}
+use Rattle.loader_model.specs.Table.{EndsBefore}
+use Rattle.loader_model.proofs.Pages.{before_of_apart}
 use Rattle.loader_model.proofs.TableOrder.{ascending_loads}
-
--- segments on pages of their own, by address
-before_of_pages : (g h : ProgramHeader) → h.p_vaddr % 4096 ≡ 0 → 0 < h.p_memsz → IsBelow g h → ShareNoPage g h → EndsBefore g h
-before_of_pages g h page some below apart =
-    let both : h.p_vaddr < g.p_vaddr + g.p_memsz → ⊥ =
-    λ over. apart (h.p_vaddr / 4096) (omega (arith, below, page), omega (arith, over, page)) (omega (arith, page), omega (arith, some, page)) in
-    omega (arith, both)
 
 pub loads_apart : (image : List ℕ) → IsImage image → AllPairs EndsBefore (loads image)
 loads_apart image is i j d low within =
     let good = is.segments.segments j d within in
-    before_of_pages (get_or (loads image) i d) (get_or (loads image) j d) good.on_a_page good.some_memory
+    before_of_apart (get_or (loads image) i d) (get_or (loads image) j d) good.on_a_page good.some_memory
     (ascending_loads (program_headers image) (loads image) refl is.order i j d low within) (is.pages i j d low within)
 
 -- where no segment is found that encloses a range, none does

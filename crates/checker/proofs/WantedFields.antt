@@ -1,43 +1,31 @@
 -- The byte that a row's fields give is the wanted one, and a row's fields lie inside the piece of their section.
 use Rattle.std.proofs.Common.{◌≡◌, ℕ, zero, suc, ◌+◌, ◌<◌, ◌≤◌, ◌==◌, ◌&&◌, ◌⊎◌, inl, inr, Bool, true, false, cond, List, [], ◌∷◌, ◌++◌, Option, Some, None, get_or, length, map, nat_le, nat_lt, option_map, refl, sym, ap, subst, ◌∙◌, arith}
-use Rattle.std.specs.Prelude.{All, AllPairs, Contains, IfSome, IsPermutation, IsSome as IsThere, filter, find, unwrap_or}
+use Rattle.std.specs.Prelude.{All, AllPairs, Contains, IsPermutation, filter, find, unwrap_or}
 use Rattle.std.specs.Global.{Vec}
-use Rattle.std.specs.List.{flat_map, slice_get}
+use Rattle.std.specs.List.{slice_get}
 use Rattle.std.specs.Option.{option_or}
-use Rattle.std.proofs.lemmas.Bool.{eqb-true, eq-eqb, false≢true}
+use Rattle.std.proofs.lemmas.Bool.{eqb-true, eq-eqb}
 use Rattle.std.proofs.lemmas.Bool.Decides.{nat_tests}
-use Rattle.std.proofs.lemmas.List.Elements.{All-append, All-cons, All-contains, All-contains_itself, All-filter, All-head, All-map, All-nil, All-tail, All-weaker, filter_passes}
+use Rattle.std.proofs.lemmas.List.Elements.{All-cons, All-contains, All-contains_itself, All-filter, All-map, All-nil, All-weaker, filter_passes}
 use Rattle.std.proofs.lemmas.List.Folds.{find-append}
 use Rattle.std.proofs.lemmas.List.Sorted.{All-permutation, IsPermutation-sym}
 use Rattle.std.proofs.lemmas.Option.{none-some, slice_get-get_or, slice_get_cases}
 use Rattle.elf_model.proofs.Finding.{find-found, find-none}
-use Rattle.elf_model.proofs.Found.{find-filter, find-map}
+use Rattle.elf_model.proofs.Found.{find-agree, find-filter, find-map, or_none}
 use Rattle.elf_model.proofs.Listed.{find_only}
 use Rattle.elf_model.proofs.Pairs.{related}
+use Rattle.elf_model.proofs.RelocationFields.{ends_inside, in_field, later_objects, own_object, own_sizes, width_some}
 use Rattle.elf_model.specs.Loading.{LoadedObject}
-use Rattle.elf_model.specs.ObjectFile.{relas_of, section, sections}
+use Rattle.elf_model.specs.ObjectFile.{section, sections}
 use Rattle.elf_model.specs.Placement.{Placed}
 use Rattle.elf_model.specs.Pieces.{Piece}
-use Rattle.elf_model.specs.Relocation.{Kind, Relocation, is_in_field, is_kept_rela, is_some_kind, relocation_kind, relocation_of, relocations, relocations_from, relocations_in, relocations_of, width_of}
+use Rattle.elf_model.specs.Relocation.{Relocation, is_in_field, relocations, relocations_from, relocations_of, width_of}
 use Rattle.elf_model.specs.WantedBytes.{byte_or_field, wanted_byte}
-use Rattle.elf_model.specs.declared.records.SectionHeader.{SectionHeader}
 use Rattle.checker.specs.Bytes.{FitsIn, byte_of, covers, fields_in, is_of, row_of}
 use Rattle.checker.specs.Fields.{AreRows, IsBefore, IsRight, IsRow, IsRowOf, LiesIn, field_of}
 use Rattle.checker.specs.declared.fields.Field.{Field}
-use Rattle.checker.proofs.ObjectFields.{in_field, later_objects, own_object, width_some}
 
 -- Searches.
-
--- two tests that agree at each element find the same
-find-agree : {X : Type 0} (p q : X → Bool) (xs : List X) → All (λ x. p x ≡ q x) xs → find p xs ≡ find q xs
-find-agree p q [] same = refl
-find-agree {X} p q (x ∷ xs) same =
-    ap (λ (b : Bool). cond b (Some x) (find p xs)) (All-head (λ (y : X). p y ≡ q y) x xs same)
-    ∙ ap (λ (o : Option X). cond (q x) (Some x) o) (find-agree p q xs (All-tail (λ (y : X). p y ≡ q y) x xs same))
-
-or_none : {X : Type 0} (o : Option X) → option_or o None ≡ o
-or_none None = refl
-or_none (Some x) = refl
 
 find-left : {X : Type 0} (p : X → Bool) (xs ys : List X) → All (λ y. p y ≡ false) ys → find p (xs ++ ys) ≡ find p xs
 find-left {X} p xs ys none =
@@ -222,29 +210,15 @@ module _ (objects : List LoadedObject) (ps : List Placed) (rows : List (Vec Fiel
       let same : (section (sections b) f.section).sh_size ≡ size = ap (λ (j : ℕ). (section (sections b) j).sh_size) of ∙ sym (has x) in
       record { inside = subst (λ (n : ℕ). f.at + f.width ≤ n) same lies.inside; narrow = lies.narrow }
 
--- a relocation's size is its section's
-sizes_in : (n : ℕ) (b : List ℕ) (hs : List SectionHeader) → All (λ r. r.size ≡ (section (sections b) r.section).sh_size) (flat_map (relocations_in n b) hs)
-sizes_in n b [] = All-nil (λ (r : Relocation). r.size ≡ (section (sections b) r.section).sh_size)
-sizes_in n b (h ∷ hs) =
-    All-append (λ (r : Relocation). r.size ≡ (section (sections b) r.section).sh_size) (relocations_in n b h) (flat_map (relocations_in n b) hs)
-    (All-map (λ (r : Relocation). r.size ≡ (section (sections b) r.section).sh_size) (relocation_of n b h.sh_info) (filter is_some_kind (relas_of b h)) (λ k d low. refl))
-    (sizes_in n b hs)
-
-inside_width :
-    (r : Relocation) (o : Option Kind) → IsThere o → IfSome o (λ k. r.entry.r_offset + k.width ≤ r.size) →
-    r.entry.r_offset + unwrap_or (option_map (λ k. k.width) o) 0 ≤ r.size
-inside_width r None there h = absurd (false≢true there)
-inside_width r (Some k) there h = h
-
 -- the fields of right relocations lie inside their sections, in a row of them too
 pub row_inside :
     (objects : List LoadedObject) (ps : List Placed) (n : ℕ) (b : List ℕ) (row : List Field) → All (IsRight objects ps) (relocations_from n b) →
     IsPermutation (map (field_of objects ps) (relocations_from n b)) row → All (LiesIn b) row
 row_inside objects ps n b row right moved =
     All-permutation (LiesIn b) (map (field_of objects ps) (relocations_from n b)) row moved
-    (All-map (LiesIn b) (field_of objects ps) (relocations_from n b) (λ i d low. lies (get_or (relocations_from n b) i d) (right i d low) (sizes_in n b (filter (is_kept_rela b) (sections b)) i d low)))
+    (All-map (LiesIn b) (field_of objects ps) (relocations_from n b) (λ i d low. lies (get_or (relocations_from n b) i d) (right i d low) (own_sizes n b i d low)))
   where
     lies : (r : Relocation) → IsRight objects ps r → r.size ≡ (section (sections b) r.section).sh_size → LiesIn b (field_of objects ps r)
     lies r w size =
-        let inside : r.entry.r_offset + width_of r ≤ r.size = inside_width r (relocation_kind r) w.lawful.known w.lawful.inside in
+        let inside : r.entry.r_offset + width_of r ≤ r.size = ends_inside r w.lawful.known w.lawful.inside in
         record { inside = subst (λ (m : ℕ). r.entry.r_offset + width_of r ≤ m) size inside; narrow = (width_some r w.lawful.known).1 }

@@ -2,7 +2,6 @@ pub mod Bindings
 pub mod Bytes
 pub mod Entering
 pub mod Fields
-pub mod FileIndex
 pub mod Filled
 pub mod Fitting
 pub mod Judged
@@ -10,7 +9,6 @@ pub mod Kinds
 pub mod Neighbours
 pub mod Opened
 pub mod PlaceIndex
-pub mod Plain
 pub mod Sound
 pub mod Subjects
 pub mod Sweeps

@@ -8,7 +8,6 @@ ghost use Rattle.checker.specs.Bindings.{AreChosen, IsOfDropped, IsTargetOf, def
 ghost use Rattle.checker.specs.Views.{loaded_views, symbol_view, symbol_views};
 
 use crate::definitions::{is_in_thread_section, is_strong};
-use crate::flags::is_alloc;
 use crate::places::Places;
 use crate::symbols::section_of;
 use crate::targets::Target;
@@ -108,7 +107,7 @@ fn is_of_dropped(objects: &[Loaded<'_>], symbol: &SymbolOf<'_>) -> bool
         return false;
     }
     match section_of(objects, symbol) {
-        Some(section) => !is_alloc(&section),
+        Some(section) => !section.is_alloc(),
         None => false,
     }
 }

@@ -5,7 +5,6 @@ ghost use Rattle.elf_model.specs.Resolution.{IsEntry, all_symbols, chosen, has_n
 ghost use Rattle.checker.specs.Entering.{Enters};
 ghost use Rattle.checker.specs.Views.{loaded_views, symbol_view, symbol_views};
 
-use crate::flags::is_thread_local;
 use crate::places::Places;
 use crate::symbols::section_of;
 use crate::things::{Loaded, SymbolOf};
@@ -58,7 +57,7 @@ pub fn is_in_thread_section(objects: &[Loaded<'_>], symbol: &SymbolOf<'_>) -> bo
     ensures { result ≡ is_in_thread_section (loaded_views objects.now) (symbol_view symbol.now) }
 {
     match section_of(objects, symbol) {
-        Some(section) => is_thread_local(&section),
+        Some(section) => section.is_thread_local(),
         None => false,
     }
 }

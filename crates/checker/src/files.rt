@@ -3,7 +3,7 @@ ghost use Rattle.std.specs.Prelude.{◌≡◌, ℕ, IfOk, List, None, OnOk, Some
 ghost use Rattle.std.specs.Option.{option_or};
 ghost use Rattle.std.specs.Str.{bytes_eq};
 ghost use Rattle.elf_model.specs.Files.{files_of};
-ghost use Rattle.checker.specs.FileIndex.{IsIndex, found};
+ghost use Rattle.elf_model.specs.FileIndex.{IsIndex, found};
 
 use elf_model::InputFile;
 use std::alloc::{AllocError, Global};

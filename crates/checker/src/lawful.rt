@@ -3,7 +3,6 @@ ghost use Rattle.std.specs.Prelude.{◌≡◌, ◌∷◌, ◌↔◌, [], All, Co
 ghost use Rattle.elf_model.specs.Pieces.{IsLawfulKind};
 ghost use Rattle.checker.specs.Views.{piece_views};
 
-use crate::flags::{is_executable, is_nobits, is_thread_local, is_writable};
 use crate::things::Piece;
 use elf_model::{
     SHF_ALLOC, SHF_EXECINSTR, SHF_GROUP, SHF_INFO_LINK, SHF_MERGE, SHF_STRINGS, SHF_TLS, SHF_WRITE,
@@ -47,10 +46,10 @@ fn is_lawful_kind(header: &SectionHeader) -> bool
     if header.sh_flags & LAWFUL_FLAGS != header.sh_flags {
         return false;
     }
-    if !is_writable(header) {
-        return !is_thread_local(header) && !is_nobits(header);
+    if !header.is_writable() {
+        return !header.is_thread_local() && !header.is_nobits();
     }
-    !is_executable(header)
+    !header.is_executable()
 }
 
 /// Whether all pieces are of lawful kinds.

@@ -12,7 +12,6 @@ mod fields;
 mod files;
 mod fill;
 mod fitting;
-mod flags;
 mod got;
 mod image;
 mod kinds;

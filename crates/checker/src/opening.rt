@@ -4,7 +4,7 @@ ghost use Rattle.command.specs.Views.{item_of};
 ghost use Rattle.elf_model.specs.Files.{files_of};
 ghost use Rattle.elf_model.specs.Loading.{AreFilesThere, AreObjects, loaded_objects, objects_from, path_of};
 ghost use Rattle.elf_model.specs.ObjectFile.{IsObject};
-ghost use Rattle.checker.specs.FileIndex.{found};
+ghost use Rattle.elf_model.specs.FileIndex.{found};
 ghost use Rattle.checker.specs.Views.{loaded_view, loaded_views};
 ghost use Rattle.checker.specs.Opened.{loaded_from};
 

@@ -4,7 +4,6 @@ ghost use Rattle.elf_model.specs.Pieces as pieces;
 ghost use Rattle.checker.specs.Neighbours.{IsOutputSection};
 ghost use Rattle.checker.specs.Views.{piece_view};
 
-use crate::flags::{is_executable, is_nobits, is_thread_local, is_writable};
 use crate::things::Piece;
 
 /// What the pieces of one output section have in common.
@@ -77,9 +76,9 @@ pub fn output_section<'a>(piece: &Piece<'a>) -> OutputSection<'a>
     let header = &piece.header;
     OutputSection {
         name: output_name(piece.name),
-        writable: is_writable(header),
-        executable: is_executable(header),
-        thread_local: is_thread_local(header),
-        nobits: is_nobits(header),
+        writable: header.is_writable(),
+        executable: header.is_executable(),
+        thread_local: header.is_thread_local(),
+        nobits: header.is_nobits(),
     }
 }

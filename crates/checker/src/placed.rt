@@ -7,7 +7,6 @@ ghost use Rattle.elf_model.specs.MemoryImage as placement;
 ghost use Rattle.elf_model.specs.MemoryImage.{loads};
 ghost use Rattle.checker.specs.Views.{piece_views, placed_view, placed_views};
 
-use crate::flags::{is_executable, is_nobits, is_writable};
 use crate::things::{Piece, Placed};
 use elf_model::{GotLine, PlaceLine, SectionHeader, Thing};
 use loader_model::Memory;
@@ -36,9 +35,9 @@ pub fn place<'a>(
 fn section_rights(header: &SectionHeader) -> u64
     ensures { result ≡ rights_of header.now }
 {
-    if is_executable(header) {
+    if header.is_executable() {
         5
-    } else if is_writable(header) {
+    } else if header.is_writable() {
         6
     } else {
         4
@@ -54,7 +53,7 @@ fn thing_of_placed(placed: &Placed<'_>) -> Thing
         size: header.sh_size,
         align: header.sh_addralign.max(1),
         rights: section_rights(header),
-        in_file: !is_nobits(header),
+        in_file: !header.is_nobits(),
     }
 }
 

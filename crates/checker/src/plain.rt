@@ -5,7 +5,7 @@ ghost use Rattle.elf_model.specs.Profile.{HasPlainNames};
 ghost use Rattle.elf_model.specs.Resolution.{strong_definitions};
 ghost use Rattle.elf_read.specs.Names.{name_views};
 ghost use Rattle.checker.specs.Views.{loaded_views, symbol_views};
-ghost use Rattle.checker.specs.Plain.{AreNamesOf, IsAmong, is_among, used_names};
+ghost use Rattle.elf_model.specs.UsedNames.{AreNamesOf, IsAmong, is_among, used_names};
 
 use crate::definitions::strong_definitions;
 use crate::symbols::symbols_of;

@@ -12,7 +12,6 @@ ghost use Rattle.checker.specs.Views.{loaded_views, symbol_views};
 use crate::bindings::Bindings;
 use crate::fields::{Field, in_order};
 use crate::fitting::{Relocated, right_field};
-use crate::flags::is_alloc;
 use crate::places::Places;
 use crate::targets::{Target, targets_of};
 use crate::things::{Loaded, SymbolOf};
@@ -24,7 +23,7 @@ fn is_alloc_at(object: &Object<'_>, number: usize) -> bool
     ensures { result ≡ pieces.is_alloc (section (sections object.now) number) }
 {
     match object.sections().get(number) {
-        Some(header) => is_alloc(header),
+        Some(header) => header.is_alloc(),
         None => false,
     }
 }

@@ -7,7 +7,6 @@ ghost use Rattle.elf_model.specs.RightLink.{AreSectionsListed, facts_of_piece, f
 ghost use Rattle.checker.specs.Subjects.{HasKeptAlone, subject_of};
 ghost use Rattle.checker.specs.Views.{loaded_views, piece_view, piece_views};
 
-use crate::flags::is_alloc;
 use crate::lawful::are_lawful_kinds;
 use crate::link::Link;
 use crate::things::{Loaded, Piece};
@@ -38,7 +37,7 @@ fn add_pieces<'a>(
 {
     let headers = object.sections();
     for (i, header) in headers.iter().enumerate() {
-        if is_alloc(header) {
+        if header.is_alloc() {
             out.push(piece_of(number, object, i, *header))?;
         }
     }

@@ -6,7 +6,6 @@ ghost use Rattle.elf_model.specs.Resolution.{AreSoundSymbols, IsSoundSymbol, all
 ghost use Rattle.checker.specs.Views.{loaded_views, symbol_view, symbol_views};
 ghost use Rattle.checker.specs.Sound.{StandsWell};
 
-use crate::flags::is_alloc;
 use crate::things::{Loaded, SymbolOf};
 use elf_model::{SHN_UNDEF, SectionHeader, Symbol};
 use elf_read::Object;
@@ -88,7 +87,7 @@ fn is_visible(entry: &Symbol) -> bool
 fn stands_well(entry: &Symbol, section: &SectionHeader) -> bool
     ensures { IsTrue result ↔ StandsWell entry.now section.now }
 {
-    if is_alloc(section) {
+    if section.is_alloc() {
         return entry.st_value <= section.sh_size;
     }
     !is_visible(entry)

@@ -12,27 +12,28 @@ bind_ok : {X Y : Type 0} (r : Result X CmdFault) (k : X → Result Y CmdFault) (
 bind_ok (Ok x) k y e = (x, refl, e)
 bind_ok (Err f) k y e = absurd cc
 
-same_phrases : (ps qs : List Phrase) → ◌≡◌ {A = Result (List Phrase) CmdFault} (Ok ps) (Ok qs) → qs ≡ ps
-same_phrases ps qs e = cc
+-- two answers that are one have one value
+pub same_ok : {X : Type 0} (x y : X) → ◌≡◌ {A = Result X CmdFault} (Ok x) (Ok y) → y ≡ x
+same_ok x y e = cc
 
 open_ok : (b : Bool) (ps qs : List Phrase) → cond b (Err GroupNesting) (Ok ps) ≡ Ok qs → (qs ≡ ps) × (b ≡ false)
 open_ok true ps qs e = absurd cc
-open_ok false ps qs e = (same_phrases ps qs e, refl)
+open_ok false ps qs e = (same_ok ps qs e, refl)
 
 close_ok : (b : Bool) (ps qs : List Phrase) → cond b (Ok ps) (Err GroupNesting) ≡ Ok qs → (qs ≡ ps) × (b ≡ true)
-close_ok true ps qs e = (same_phrases ps qs e, refl)
+close_ok true ps qs e = (same_ok ps qs e, refl)
 close_ok false ps qs e = absurd cc
 
 archive_ok : (b a : Bool) (ps qs : List Phrase) → cond (b && not a) (Err NotArchiveInGroup) (Ok ps) ≡ Ok qs → (qs ≡ ps) × (b ≡ true → a ≡ true)
-archive_ok true true ps qs e = (same_phrases ps qs e, λ _. refl)
+archive_ok true true ps qs e = (same_ok ps qs e, λ _. refl)
 archive_ok true false ps qs e = absurd cc
-archive_ok false a ps qs e = (same_phrases ps qs e, λ t. absurd (false≢true t))
+archive_ok false a ps qs e = (same_ok ps qs e, λ t. absurd (false≢true t))
 
 placed_ok : (front : List Phrase) (p : Phrase) (qs : List Phrase) → placed front p ≡ Ok qs → (qs ≡ front ++ p ∷ []) × MayFollow front p
 placed_ok front GroupStart qs e = open_ok (is_open front) (front ++ GroupStart ∷ []) qs e
 placed_ok front GroupEnd qs e = close_ok (is_open front) (front ++ GroupEnd ∷ []) qs e
 placed_ok front (Input s) qs e = archive_ok (is_open front) (is_archive s) (front ++ Input s ∷ []) qs e
-placed_ok front p qs e = (same_phrases (front ++ p ∷ []) qs e, tt)
+placed_ok front p qs e = (same_ok (front ++ p ∷ []) qs e, tt)
 
 -- the phrases that are read behind others
 pub record IsReading (front : List Phrase) (words : List (List ℕ)) (qs : List Phrase) : Type 0 where
@@ -45,7 +46,7 @@ whole_more : (front qs more : List Phrase) (p : Phrase) → qs ≡ (front ++ p �
 whole_more front qs more p e = e ∙ append_assoc front (p ∷ []) more
 
 reading : (n : ℕ) (front : List Phrase) (words : List (List ℕ)) (qs : List Phrase) → length words ≤ n → read_behind front (split words) ≡ Ok qs → IsReading front words qs
-reading n front [] qs few e = record { phrases = []; whole = same_phrases front qs e ∙ sym (append-nil front); spelled = refl; grouped = tt }
+reading n front [] qs few e = record { phrases = []; whole = same_ok front qs e ∙ sym (append-nil front); spelled = refl; grouped = tt }
 reading zero front (w ∷ ws) qs few e = absurd (omega arith)
 reading (suc n) front (w ∷ ws) qs few e =
     let first = bind_ok (phrase_at w ws) (read_on front) qs (sym (split_is front w ws) ∙ e) in
@@ -69,15 +70,12 @@ pub record IsWhole (open_group : Bool) (t plan : Plan) : Type 0 where
   pub some : plan.items ≢ []
   pub mapped : plan.check ≡ true → plan.map ≢ None
 
-same_plan : (s t : Plan) → ◌≡◌ {A = Result Plan CmdFault} (Ok s) (Ok t) → t ≡ s
-same_plan s t e = cc
-
 line_ok : (b n m : Bool) (t plan : Plan) → (t.items ≡ [] → n ≡ true) → (t.check ≡ true → t.map ≡ None → m ≡ true) → cond b (Err GroupNesting) (cond n (Err NoInput) (cond m (Err MissingValue) (Ok t))) ≡ Ok plan → IsWhole b t plan
 line_ok true n m t plan h k e = absurd cc
 line_ok false true m t plan h k e = absurd cc
 line_ok false false true t plan h k e = absurd cc
 line_ok false false false t plan h k e =
-    let same : plan ≡ t = same_plan t plan e in
+    let same : plan ≡ t = same_ok t plan e in
     record {
       closed = refl;
       same = same;

@@ -3,7 +3,7 @@ use Rattle.std.proofs.Common.{◌≡◌, ◌≢◌, ℕ, List, Result, Ok, Err, 
 use Rattle.elf_model.specs.declared.faults.CmdFault.{CmdFault}
 use Rattle.elf_model.specs.declared.faults.CmdFault.TheVariants.{Memory, UnknownOption, MissingValue, BadNumber, GroupNesting, NoInput, NotArchiveInGroup}
 use Rattle.elf_model.specs.Command.{Plan, command_of, IsRefusal, HasPlan, IsBase, IsNamed}
-use Rattle.command.proofs.Found.{found}
+use Rattle.command.proofs.Found.{found, same_ok}
 use Rattle.command.proofs.Back.{back}
 use Rattle.command.proofs.Facts.{base_holds, names_hold}
 
@@ -19,11 +19,8 @@ pub named_at : (words : List (List ℕ)) (r : Result Plan CmdFault) → command_
 named_at words (Ok p) e = let h = found words p e in names_hold words h.0 p h.1
 named_at words (Err f) e = tt
 
-same_plan : (p q : Plan) → ◌≡◌ {A = Result Plan CmdFault} (Ok p) (Ok q) → p ≡ q
-same_plan p q e = cc
-
 pub only_at : (words : List (List ℕ)) (r : Result Plan CmdFault) → command_of words ≡ r → (p : Plan) → HasPlan words p → MatchResult r (λ q. q ≡ p) (λ f. f ≡ Memory)
-only_at words (Ok q) e p h = same_plan q p (sym e ∙ back words h.0 p h.1)
+only_at words (Ok q) e p h = same_ok p q (sym (back words h.0 p h.1) ∙ e)
 only_at words (Err f) e p h = let both : ◌≡◌ {A = Result Plan CmdFault} (Ok p) (Err f) = sym (back words h.0 p h.1) ∙ e in absurd cc
 
 by_memory : (f : CmdFault) → (f ≢ Memory → ⊥) → f ≡ Memory

@@ -1,7 +1,7 @@
 -- The kept relocations of all objects, object after object, section after section, entry after entry: what a
 -- loop has still to come through. The lists of objects, of sections and of entries are given by what is left
 -- of them, `drop i`, and the objects as a view of each.
-use Rattle.std.proofs.Common.{◌≡◌, ℕ, suc, ◌+◌, ◌<◌, ◌≤◌, Bool, true, false, cond, List, [], ◌∷◌, ◌++◌, length, get_or, drop, map, drop-cons, refl, ap, ◌∙◌, arith}
+use Rattle.std.proofs.Common.{◌≡◌, ℕ, ◌+◌, ◌<◌, ◌≤◌, Bool, true, false, cond, List, [], ◌∷◌, ◌++◌, length, get_or, drop, map, refl, ap, ◌∙◌}
 use Rattle.std.specs.Prelude.{filter}
 use Rattle.std.specs.List.{flat_map}
 use Rattle.std.proofs.lemmas.List.{drop_all}
@@ -9,9 +9,7 @@ use Rattle.elf_model.specs.Loading.{LoadedObject}
 use Rattle.elf_model.specs.Relocation.{Relocation, is_kept_rela, is_some_kind, relocation_of, relocations_from, relocations_in, relocations_of}
 use Rattle.elf_model.specs.declared.records.Rela.{Rela}
 use Rattle.elf_model.specs.declared.records.SectionHeader.{SectionHeader}
-
-rest_at : {X : Type 0} (xs : List X) (i : ℕ) (d : X) → i < length xs → drop i xs ≡ get_or xs i d ∷ drop (i + 1) xs
-rest_at xs i d within = let e : i + 1 ≡ suc i = omega arith in rw e (drop-cons xs i d within)
+use Rattle.elf_model.proofs.Rests.{rest_at}
 
 -- the relocations of the objects that are left
 abbrev pub left_of_objects : {X : Type 0} → (X → LoadedObject) → List X → ℕ → List Relocation

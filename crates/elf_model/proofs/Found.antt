@@ -1,6 +1,8 @@
 -- Look-ups in filtered and mapped lists.
-use Rattle.std.proofs.Common.{◌≡◌, List, [], ◌∷◌, refl, ap}
-use Rattle.std.specs.Prelude.{Bool, true, false, cond, ◌&&◌, map, filter, find, Option, Some, option_map}
+use Rattle.std.proofs.Common.{◌≡◌, ◌∙◌, List, [], ◌∷◌, refl, ap}
+use Rattle.std.specs.Prelude.{All, Bool, true, false, cond, ◌&&◌, is_some, map, filter, find, None, Option, Some, option_map}
+use Rattle.std.specs.Option.{option_or}
+use Rattle.std.proofs.lemmas.List.Elements.{All-head, All-tail}
 
 -- the first element that passes a test after a filter passes both
 pub find-filter : {X : Type 0} (p q : X → Bool) (xs : List X) → find q (filter p xs) ≡ find (λ x. p x && q x) xs
@@ -19,3 +21,19 @@ find-map {X} {Y} q f (x ∷ xs) =
       | true ↦ refl
       | false ↦ find-map q f xs
     ]
+
+-- two tests that agree at each element find the same
+pub find-agree : {X : Type 0} (p q : X → Bool) (xs : List X) → All (λ x. p x ≡ q x) xs → find p xs ≡ find q xs
+find-agree p q [] same = refl
+find-agree {X} p q (x ∷ xs) same =
+    ap (λ (b : Bool). cond b (Some x) (find p xs)) (All-head (λ (y : X). p y ≡ q y) x xs same)
+    ∙ ap (λ (o : Option X). cond (q x) (Some x) o) (find-agree p q xs (All-tail (λ (y : X). p y ≡ q y) x xs same))
+
+-- what is found, or else nothing
+pub or_none : {X : Type 0} (o : Option X) → option_or o None ≡ o
+or_none None = refl
+or_none (Some x) = refl
+
+pub none_found : {X : Type 0} (o : Option X) → is_some o ≡ false → o ≡ None
+none_found None e = refl
+none_found (Some x) e = absurd (cc)

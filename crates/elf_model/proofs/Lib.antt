@@ -18,3 +18,11 @@ pub mod PairsPermuted
 pub mod WrappedValues
 pub mod FlatRelocations
 pub mod Rests
+pub mod PieceSteps
+pub mod KindWidths
+pub mod RelocationFields
+pub mod UsedNames
+pub mod FirstNamed
+pub mod Mapped
+pub mod Addresses
+pub mod RangeOrder

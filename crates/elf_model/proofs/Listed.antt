@@ -88,6 +88,12 @@ All-unmap P f xs all =
     All-from_contains (λ x. P (f x)) xs (λ x c. All-contains P (map f xs) (f x) all (Contains-map f xs x c))
 
 -- joined
+pub All-parts : {X : Type 0} (P : X → Type 0) (front rest : List X) → All P (front ++ rest) → All P front × All P rest
+All-parts P front rest all = (
+  All-from_contains P front (λ x c. All-contains P (front ++ rest) x all (Contains-append_left front rest x c)),
+  All-from_contains P rest (λ x c. All-contains P (front ++ rest) x all (Contains-append_right front rest x c)),
+)
+
 pub Contains-flat_map :
     {X Y : Type 0} (f : X → List Y) (xs : List X) (x : X) (y : Y) → Contains xs x → Contains (f x) y → Contains (flat_map f xs) y
 Contains-flat_map f [] x y c d = absurd (Contains-nil x c)

@@ -6,7 +6,7 @@ use Rattle.std.proofs.lemmas.Bool.{cases_order}
 use Rattle.std.proofs.lemmas.List.{get_or-map, get_or_default, length-map}
 use Rattle.std.proofs.lemmas.List.Elements.{All-append, All-cons, All-head, All-nil, All-tail, All-contains}
 use Rattle.std.proofs.lemmas.List.Kept.{AllPairs-cons}
-use Rattle.elf_model.proofs.Listed.{All-from_contains, Contains-from_flat_map}
+use Rattle.elf_model.proofs.Listed.{All-from_contains, All-parts, Contains-from_flat_map}
 
 pub AllPairs-nil : {X : Type 0} (R : X → X → Type 0) → AllPairs R []
 AllPairs-nil R i j d low high = absurd (omega (arith, high))
@@ -24,6 +24,12 @@ AllPairs-append {X} R (x ∷ xs) ys p q cross =
     AllPairs-cons R x (xs ++ ys)
     (All-append (R x) xs ys (AllPairs-head R x xs p) (All-head (λ (z : X). All (R z) ys) x xs cross))
     (AllPairs-append R xs ys (AllPairs-tail R x xs p) q (All-tail (λ (z : X). All (R z) ys) x xs cross))
+
+pub AllPairs-parts : {X : Type 0} (R : X → X → Type 0) (xs ys : List X) → AllPairs R (xs ++ ys) → AllPairs R xs × AllPairs R ys
+AllPairs-parts R [] ys pairs = (AllPairs-nil R, pairs)
+AllPairs-parts R (x ∷ xs) ys pairs =
+    let parts = AllPairs-parts R xs ys (AllPairs-tail R x (xs ++ ys) pairs) in
+    (AllPairs-cons R x xs (All-parts (R x) xs ys (AllPairs-head R x (xs ++ ys) pairs)).0 parts.0, parts.1)
 
 pub AllPairs-weaker : {X : Type 0} (R S : X → X → Type 0) → ((x y : X) → R x y → S x y) → (xs : List X) → AllPairs R xs → AllPairs S xs
 AllPairs-weaker R S h xs pairs i j d low high = h (get_or xs i d) (get_or xs j d) (pairs i j d low high)

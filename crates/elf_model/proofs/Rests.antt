@@ -1,7 +1,7 @@
 -- A claim on a whole list, as a claim on what is left of it: the steps of every tester's loop.
 use Rattle.std.proofs.Common.{◌≡◌, ℕ, suc, ◌+◌, ◌<◌, ◌≤◌, List, ◌∷◌, length, get_or, drop, drop-cons, subst, sym, arith}
-use Rattle.std.specs.Prelude.{All, map}
-use Rattle.std.proofs.lemmas.List.{drop_all, get_or-map, length-map}
+use Rattle.std.specs.Prelude.{All}
+use Rattle.std.proofs.lemmas.List.{drop_all}
 use Rattle.std.proofs.lemmas.List.Elements.{All-cons, All-head, All-nil, All-tail}
 
 abbrev pub Left : Type 0 → Type 0 → Type 0
@@ -26,8 +26,3 @@ all_stop Q P xs i d within never q h =
 
 pub all_end : {X : Type 0} (Q : Type 0) (P : X → Type 0) (xs : List X) (i : ℕ) → length xs ≤ i → Left Q (All P (drop i xs)) → Q
 all_end Q P xs i behind q = q.1 (subst (All P) (sym (drop_all i xs behind)) (All-nil P))
-
--- what holds of all views of a list's elements
-pub All-unmap : {X Y : Type 0} (P : Y → Type 0) (f : X → Y) (xs : List X) → All P (map f xs) → All (λ x. P (f x)) xs
-All-unmap P f xs all k d within =
-    subst P (get_or-map f xs k d (f d) within) (all k (f d) (let n = length-map xs f in omega (arith, n, within)))

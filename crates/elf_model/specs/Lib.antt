@@ -1,5 +1,6 @@
 pub mod Causes
 pub mod Command
+pub mod FileIndex
 pub mod Files
 pub mod ImageFile
 pub mod LinkerNames
@@ -16,4 +17,5 @@ pub mod Records
 pub mod Relocation
 pub mod Resolution
 pub mod RightLink
+pub mod UsedNames
 pub mod WantedBytes

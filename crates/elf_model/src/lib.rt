@@ -1,10 +1,11 @@
-//! The records of ELF-64 files as values and as bytes, the references that name parts of a link, the
-//! link map, and the files that a link reads.
+//! The records of ELF-64 files as values and as bytes, what the flags of a section say, the references
+//! that name parts of a link, the link map, and the files that a link reads.
 #![tactic(auto)]
 
 mod constants;
 mod faults;
 mod fields;
+mod flags;
 mod input_file;
 mod link_map;
 mod records;

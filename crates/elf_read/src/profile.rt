@@ -7,29 +7,13 @@ ghost use Rattle.elf_model.specs.Profile.{IsDigit, IsNumbered, IsNumberedArray, 
 ghost use Rattle.elf_model.specs.Relocation.{is_kept_rela};
 
 use crate::object::Object;
-use elf_model::{
-    Rela, SHF_ALLOC, SHF_TLS, SHN_COMMON, SHT_GROUP, SHT_RELA, STB_WEAK, STT_TLS, SectionHeader,
-    Symbol,
-};
-
-/// Whether a section takes up memory.
-fn is_alloc(header: &SectionHeader) -> bool
-    ensures { result ≡ pieces.is_alloc header.now }
-{
-    header.sh_flags & SHF_ALLOC != 0
-}
-
-fn is_thread_local(header: &SectionHeader) -> bool
-    ensures { result ≡ pieces.is_thread_local header.now }
-{
-    header.sh_flags & SHF_TLS != 0
-}
+use elf_model::{Rela, SHN_COMMON, SHT_GROUP, SHT_RELA, STB_WEAK, STT_TLS, SectionHeader, Symbol};
 
 /// Whether a section is none that is kept with SHF_TLS.
 fn is_plain_storage(header: &SectionHeader) -> bool
     ensures { IsTrue result ↔ (pieces.is_alloc header.now ≡ true → pieces.is_thread_local header.now ≡ false) }
 {
-    !is_alloc(header) || !is_thread_local(header)
+    !header.is_alloc() || !header.is_thread_local()
 }
 
 fn is_digit(byte: u8) -> bool
@@ -100,7 +84,7 @@ fn relocates_kept(object: &Object<'_>, header: &SectionHeader) -> bool
     ensures { result ≡ pieces.is_alloc (section (sections object.now) header.now.sh_info) }
 {
     match object.sections().get(header.sh_info as usize) {
-        Some(relocated) => is_alloc(relocated),
+        Some(relocated) => relocated.is_alloc(),
         None => false,
     }
 }

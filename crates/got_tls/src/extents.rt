@@ -1,13 +1,11 @@
 //! From where to where pieces with SHF_TLS stand, and how they are aligned.
 ghost use Rattle.std.specs.Prelude.{◌≡◌, IfSome, filter};
-ghost use Rattle.elf_model.specs.Pieces as pieces;
 ghost use Rattle.layout.specs.Limits.{AreInLimit, IsInLimit};
 ghost use Rattle.layout.specs.PlaceViews.{place_view, place_views};
 ghost use Rattle.got_tls.specs.Extents as extents;
 ghost use Rattle.got_tls.specs.Extents.{IsExtent};
 ghost use Rattle.got_tls.specs.ThreadStorage.{is_thread_place};
 
-use elf_model::{SHF_TLS, SectionHeader};
 use layout::Place;
 
 /// The least address, the greatest end and the greatest alignment of pieces.
@@ -16,12 +14,6 @@ pub struct Extent {
     pub start: u64,
     pub end: u64,
     pub align: u64,
-}
-
-fn is_thread_local(header: &SectionHeader) -> bool
-    ensures { result ≡ pieces.is_thread_local header.now }
-{
-    header.sh_flags & SHF_TLS != 0
 }
 
 /// The extent of one piece.
@@ -73,7 +65,7 @@ pub fn thread_extent(places: &[Place<'_>]) -> Option<Extent>
 {
     let mut so_far = None;
     for place in places {
-        if is_thread_local(&place.piece.header) {
+        if place.piece.header.is_thread_local() {
             so_far = Some(with_place(so_far, place));
         }
     }

@@ -1,24 +1,25 @@
 -- The own places follow each other, and their bytes with the fill between them are those of the image file.
-use Rattle.std.proofs.Common.{◌≡◌, ◌==◌, ℕ, ◌+◌, ◌-◌, ◌<◌, ◌≤◌, ◌^◌, ◌&&◌, ◌⊎◌, inl, inr, true, false, List, ◌++◌, refl, sym, ◌∙◌, ap, subst, arith}
+use Rattle.std.proofs.Common.{◌≡◌, ◌==◌, ℕ, ◌+◌, ◌-◌, ◌<◌, ◌≤◌, ◌^◌, ◌&&◌, ◌⊎◌, inl, inr, true, false, List, refl, sym, ◌∙◌, ap, subst, arith}
 use Rattle.std.specs.Prelude.{All, Any, Contains, map, nat_le, nat_lt}
 use Rattle.std.specs.List.{range_with_len}
 use Rattle.std.proofs.lemmas.Bool.{and_from, and_parts, cases_Bool, eqb-true, false_from_ne_true, leb-true, ltb-true, lt-ltb, true≢false}
-use Rattle.std.proofs.lemmas.List.{append-nil}
 use Rattle.std.proofs.lemmas.List.Elements.{All-contains}
 use Rattle.std.proofs.lemmas.List.Folds.{list_any_none}
 use Rattle.elf_model.specs.Command.{IsBase}
 use Rattle.elf_model.specs.ImageFile.{covers_address, fill_at, is_code_part, own_byte}
 use Rattle.elf_model.specs.Loading.{AreObjects, LoadedObject}
-use Rattle.elf_model.specs.OwnLayout.{IsNotTooLarge, file_end, is_nonempty, own_code, own_data, own_headers_size, own_in_load_order, own_placed, own_read_only, own_segments, placed_end, placed_has_bytes}
+use Rattle.elf_model.specs.OwnLayout.{IsNotTooLarge, file_end, is_nonempty, own_headers_size, own_in_load_order, own_placed, own_segments, placed_end, placed_has_bytes}
 use Rattle.elf_model.specs.Pieces.{AreLawfulKinds}
 use Rattle.elf_model.specs.Placement.{Placed}
 use Rattle.elf_model.specs.WantedBytes.{wanted_byte}
 use Rattle.elf_model.specs.declared.records.ProgramHeader.{ProgramHeader}
+use Rattle.elf_model.proofs.Addresses.{maps-true}
 use Rattle.elf_model.proofs.Listed.{All-from_contains, Contains-here}
 use Rattle.elf_model.proofs.Places.{AreOwnPlaced, are_own_placed, own_ascending}
-use Rattle.own_link.proofs.Bytes.{byte_cases, covers-true, maps-true, one_segment, piece_byte}
+use Rattle.own_link.proofs.Bytes.{byte_cases, covers-true, one_segment, piece_byte}
 use Rattle.own_link.proofs.Ends.{EndsFile, FileEndsBelow, file_end-holds, file_end-reached}
-use Rattle.own_link.proofs.SegmentHeaders.{AreOwnSegments, IsGoodSegment, own_segments_good}
+use Rattle.own_link.proofs.ImageOwn.{good_segments, placed_in_parts}
+use Rattle.own_link.proofs.SegmentHeaders.{AreOwnSegments, IsGoodSegment}
 use Rattle.own_link.proofs.SegmentPieces.{ArePlacedIn, IsInPart, segment_of_piece}
 use Rattle.own_link.proofs.Segments.{AreGoodParts, own_parts, own_segments_are, part_header, segments_of}
 use Rattle.own_link.proofs.SegmentsOwn.{own_parts_good}
@@ -35,17 +36,10 @@ module _ (base : ℕ) (objects : List LoadedObject) (based : IsBase base) (good 
   parts = own_parts_good base objects kinds based fits stand
 
   segments : AreOwnSegments base (own_headers_size objects) (own_segments base objects)
-  segments =
-      subst (AreOwnSegments base (own_headers_size objects)) (sym (own_segments_are base objects))
-      (own_segments_good base (own_headers_size objects) (own_parts base objects) parts)
+  segments = good_segments base objects kinds based fits stand
 
   in_parts : ArePlacedIn (own_parts base objects) (own_placed base objects) (own_in_load_order base objects)
-  in_parts = record {
-    joined = ap (λ (qs : List Placed). own_read_only base objects ++ (own_code base objects ++ qs)) (sym (append-nil (own_data base objects)));
-    apart = stand.apart;
-    listed = stand.listed;
-    all = stand.all;
-  }
+  in_parts = placed_in_parts base objects kinds based fits stand
 
   in_segment : (q : Placed) → Contains (own_placed base objects) q → 0 < q.piece.size → IsInPart base (own_headers_size objects) (own_parts base objects) q
   in_segment = segment_of_piece base (own_headers_size objects) (own_parts base objects) parts (own_placed base objects) (own_in_load_order base objects) in_parts

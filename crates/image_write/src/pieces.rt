@@ -6,7 +6,6 @@ ghost use Rattle.layout.specs.Views.{piece_view};
 ghost use Rattle.image_write.specs.Parts.{AreWhole, IsWhole, Rise, body_from, bytes_of, is_written};
 
 use crate::filling::{Code, fill};
-use elf_model::SHT_NOBITS;
 use layout::{Piece, Place};
 use relocate::Patches;
 use std::alloc::AllocError;
@@ -15,7 +14,7 @@ use std::alloc::AllocError;
 fn has_bytes(place: &Place<'_>) -> bool
     ensures { result ≡ is_written (place_view place.now) }
 {
-    place.piece.header.sh_type != SHT_NOBITS && place.piece.header.sh_size > 0
+    !place.piece.header.is_nobits() && place.piece.header.sh_size > 0
 }
 
 /// Puts the bytes of a piece, with the values of its relocations over their fields.

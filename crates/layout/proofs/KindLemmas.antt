@@ -1,9 +1,10 @@
 -- Lawful kinds of all kept sections: judged object by object, meant of all pieces.
-use Rattle.std.proofs.Common.{◌≡◌, ℕ, ◌+◌, Bool, true, false, cond, List, [], ◌∷◌, ◌++◌, refl, sym, ◌∙◌}
+use Rattle.std.proofs.Common.{◌≡◌, ℕ, ◌+◌, Bool, true, false, cond, List, [], ◌∷◌, refl, sym, ◌∙◌}
 use Rattle.std.specs.Prelude.{All}
 use Rattle.std.proofs.lemmas.Bool.{false≢true}
 use Rattle.std.proofs.lemmas.List.Elements.{All-append, All-cons, All-head, All-nil, All-tail}
 use Rattle.elf_model.specs.ObjectFile.{sections}
+use Rattle.elf_model.proofs.Listed.{All-parts}
 use Rattle.elf_model.specs.Pieces.{IsLawfulKind, Piece, is_alloc, piece_of, pieces_from, pieces_of}
 use Rattle.elf_model.specs.declared.records.SectionHeader.{SectionHeader}
 use Rattle.search.specs.Views.{loaded_views}
@@ -43,14 +44,6 @@ lawful_kept k bytes i (h ∷ hs) all = by (is_alloc h) refl all (lawful_kept k b
 abbrev IsLawfulObject : Loaded → Type 0
 IsLawfulObject l = HasLawfulKinds l.object
 
-front : {X : Type 0} (P : X → Type 0) (xs ys : List X) → All P (xs ++ ys) → All P xs
-front P [] ys all = All-nil P
-front P (x ∷ xs) ys all = All-cons P x xs (All-head P x (xs ++ ys) all) (front P xs ys (All-tail P x (xs ++ ys) all))
-
-behind : {X : Type 0} (P : X → Type 0) (xs ys : List X) → All P (xs ++ ys) → All P ys
-behind P [] ys all = all
-behind P (x ∷ xs) ys all = behind P xs ys (All-tail P x (xs ++ ys) all)
-
 pub objects_lawful : (k : ℕ) (ls : List Loaded) → All IsLawfulObject ls → All IsLawful (pieces_of k (loaded_views ls))
 objects_lawful k [] all = All-nil IsLawful
 objects_lawful k (l ∷ ls) all =
@@ -63,5 +56,5 @@ lawful_objects k [] all = All-nil IsLawfulObject
 lawful_objects k (l ∷ ls) all =
     let here : List Piece = pieces_from k l.object 0 (sections l.object) in
     let rest : List Piece = pieces_of (k + 1) (loaded_views ls) in
-    All-cons IsLawfulObject l ls (record { each = lawful_kept k l.object 0 (sections l.object) (front IsLawful here rest all) })
-    (lawful_objects (k + 1) ls (behind IsLawful here rest all))
+    All-cons IsLawfulObject l ls (record { each = lawful_kept k l.object 0 (sections l.object) (All-parts IsLawful here rest all).0 })
+    (lawful_objects (k + 1) ls (All-parts IsLawful here rest all).1)

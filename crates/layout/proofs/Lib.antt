@@ -8,5 +8,4 @@ pub mod LaidSteps
 pub mod Leading
 pub mod OwnAddresses
 pub mod PieceEntries
-pub mod PieceSteps
 pub mod RunSteps

@@ -7,7 +7,7 @@ ghost use Rattle.layout.specs.Groups.{AreGroups, output_of, output_view, part_te
 ghost use Rattle.layout.specs.Views.{piece_view, piece_views};
 
 use crate::names::output_name;
-use crate::pieces::{Piece, is_executable, is_nobits, is_thread_local, is_writable};
+use crate::pieces::Piece;
 use elf_model::SectionHeader;
 use indexmap::IndexSet;
 use std::alloc::{AllocError, Global};
@@ -36,10 +36,10 @@ fn output_section_of<'a>(piece: &Piece<'a>) -> OutputSection<'a>
 {
     OutputSection {
         name: output_name(piece.name),
-        writable: is_writable(&piece.header),
-        executable: is_executable(&piece.header),
-        thread_local: is_thread_local(&piece.header),
-        nobits: is_nobits(&piece.header),
+        writable: piece.header.is_writable(),
+        executable: piece.header.is_executable(),
+        thread_local: piece.header.is_thread_local(),
+        nobits: piece.header.is_nobits(),
     }
 }
 
@@ -47,9 +47,9 @@ fn output_section_of<'a>(piece: &Piece<'a>) -> OutputSection<'a>
 fn is_of_part(part: Part, piece: &Piece<'_>) -> bool
     ensures { result ≡ part_test part (piece_view piece.now) }
 {
-    let writable = is_writable(&piece.header);
-    let executable = is_executable(&piece.header);
-    let nobits = is_nobits(&piece.header);
+    let writable = piece.header.is_writable();
+    let executable = piece.header.is_executable();
+    let nobits = piece.header.is_nobits();
     match part {
         Part::ReadOnly => !writable && !executable,
         Part::Code => executable,

@@ -6,7 +6,6 @@ ghost use Rattle.search.specs.Views.{loaded_views};
 ghost use Rattle.layout.specs.Kinds.{HasLawfulKinds, IsLawfulIfKept, KindsFail, lawful_types};
 
 use crate::faults::LayoutFault;
-use crate::pieces::{is_alloc, is_executable, is_nobits, is_thread_local, is_writable};
 use elf_model::{
     SHT_FINI_ARRAY, SHT_INIT_ARRAY, SHT_NOBITS, SHT_NOTE, SHT_PREINIT_ARRAY, SHT_PROGBITS,
     SHT_X86_64_UNWIND, SectionHeader,
@@ -38,16 +37,16 @@ fn is_lawful_kind(header: &SectionHeader) -> bool
     if header.sh_flags & LAWFUL_FLAGS != header.sh_flags {
         return false;
     }
-    if is_writable(header) {
-        return !is_executable(header);
+    if header.is_writable() {
+        return !header.is_executable();
     }
-    !is_thread_local(header) && !is_nobits(header)
+    !header.is_thread_local() && !header.is_nobits()
 }
 
 fn is_lawful_if_kept(header: &SectionHeader) -> bool
     ensures { IsTrue result ↔ IsLawfulIfKept header.now }
 {
-    !is_alloc(header) || is_lawful_kind(header)
+    !header.is_alloc() || is_lawful_kind(header)
 }
 
 fn are_lawful(headers: &[SectionHeader]) -> bool

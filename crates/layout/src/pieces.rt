@@ -5,7 +5,7 @@ ghost use Rattle.elf_model.specs.Pieces as pieces;
 ghost use Rattle.search.specs.Views.{loaded_views};
 ghost use Rattle.layout.specs.Views.{piece_view, piece_views};
 
-use elf_model::{SHF_ALLOC, SHF_EXECINSTR, SHF_TLS, SHF_WRITE, SHT_NOBITS, SectionHeader};
+use elf_model::SectionHeader;
 use elf_read::Object;
 use search::Loaded;
 use std::alloc::{AllocError, Global};
@@ -19,36 +19,6 @@ pub struct Piece<'a> {
     pub header: SectionHeader,
     pub name: &'a [u8],
     pub bytes: &'a [u8],
-}
-
-pub fn is_alloc(header: &SectionHeader) -> bool
-    ensures { result ≡ pieces.is_alloc header.now }
-{
-    header.sh_flags & SHF_ALLOC != 0
-}
-
-pub fn is_writable(header: &SectionHeader) -> bool
-    ensures { result ≡ pieces.is_writable header.now }
-{
-    header.sh_flags & SHF_WRITE != 0
-}
-
-pub fn is_executable(header: &SectionHeader) -> bool
-    ensures { result ≡ pieces.is_executable header.now }
-{
-    header.sh_flags & SHF_EXECINSTR != 0
-}
-
-pub fn is_thread_local(header: &SectionHeader) -> bool
-    ensures { result ≡ pieces.is_thread_local header.now }
-{
-    header.sh_flags & SHF_TLS != 0
-}
-
-pub fn is_nobits(header: &SectionHeader) -> bool
-    ensures { result ≡ pieces.is_nobits header.now }
-{
-    header.sh_type == SHT_NOBITS
 }
 
 /// Section `i` of object `number` as a piece.
@@ -74,7 +44,7 @@ fn add_pieces<'a>(
 {
     let headers = object.sections();
     for (i, header) in headers.iter().enumerate() {
-        if is_alloc(header) {
+        if header.is_alloc() {
             out.push(piece_of(number, object, i, *header))?;
         }
     }

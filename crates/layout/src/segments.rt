@@ -7,7 +7,7 @@ ghost use Rattle.layout.specs.Limits.{AreInLimit, IsInLimit, IsShort};
 ghost use Rattle.layout.specs.PlaceViews.{place_view, place_views};
 ghost use Rattle.layout.specs.Views.{piece_view, piece_views};
 
-use crate::pieces::{Piece, is_nobits};
+use crate::pieces::Piece;
 use crate::running::{PAGE, Place};
 use elf_model::{PT_LOAD, ProgramHeader};
 
@@ -50,7 +50,7 @@ fn further_in_file(end: u64, place: &Place<'_>) -> u64
     ensures above { end ≤ result }
     ensures limit { end ≤ 2 ^ 46 → result ≤ 2 ^ 46 }
 {
-    if is_nobits(&place.piece.header) {
+    if place.piece.header.is_nobits() {
         return end;
     }
     further(end, place)

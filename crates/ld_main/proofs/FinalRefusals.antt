@@ -20,15 +20,13 @@ use Rattle.elf_model.specs.declared.faults.CmdFault.{CmdFault}
 use Rattle.elf_model.specs.declared.faults.LinkError.{LinkError}
 use Rattle.elf_model.specs.declared.faults.LinkError.TheVariants as error
 use Rattle.elf_model.proofs.Listed.{Contains-cons_cases, Contains-here, Contains-map, Contains-nil, Contains-there}
+use Rattle.command.proofs.Found.{same_ok}
 use Rattle.elf_read.proofs.Faults as object_faults
 use Rattle.ld_main.specs.FinalRefusals.{DeniesLinks, IsAddressFree, IsFinal, IsTooWide, NeverFits}
 
 -- what stands of some element and what stands of all exclude each other
 excluded : {X : Type 0} (P Q : X → Type 0) (xs : List X) → Any P xs → All Q xs → ((x : X) → P x → Q x → ⊥) → ⊥
 excluded P Q xs some all not = not some.1 some.4 (All-contains Q xs some.1 all (some.0, some.2, some.3))
-
-same_plan : (p q : Plan) → ◌≡◌ {A = Result Plan CmdFault} (Ok p) (Ok q) → p ≡ q
-same_plan p q e = cc
 
 abbrev is_ok : Result Plan CmdFault → Bool
 is_ok (Ok p) = true
@@ -108,7 +106,7 @@ module _ (files : List File) (words : List (List ℕ)) (image text : List ℕ) (
 
   -- what stands of the plan of the words stands of the link's
   of_plan : (P : Plan → Type 0) (p : Plan) → command_of words ≡ Ok p → P p → P l.plan
-  of_plan P p is here = subst P (same_plan p l.plan (sym is ∙ l.read.plan)) here
+  of_plan P p is here = subst P (same_ok l.plan p (sym l.read.plan ∙ is)) here
 
   deny_relocation :
       (Stands : List LoadedObject → Relocation → Type 0) (p : Plan) → command_of words ≡ Ok p

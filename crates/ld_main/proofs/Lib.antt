@@ -1,4 +1,3 @@
-pub mod ProfileLemmas
 pub mod Values
 pub mod OwnMaps
 pub mod Links

@@ -12,9 +12,7 @@ ghost use Rattle.resolve.specs.Views.{symbol_view, symbol_views};
 ghost use Rattle.search.specs.Views.{loaded_views};
 ghost use Rattle.ld_main.specs.Maps.{IsMapOf, LiesBelow, own_row};
 
-use elf_model::{
-    Definition, LinkMap, ObjectLine, PlaceLine, SHF_ALLOC, SHN_ABS, SectionHeader, SymbolLine,
-};
+use elf_model::{Definition, LinkMap, ObjectLine, PlaceLine, SHN_ABS, SectionHeader, SymbolLine};
 use elf_read::Object;
 use layout::Placement;
 use resolve::SymbolOf;
@@ -89,13 +87,6 @@ fn object_lines(alloc: Global, objects: &[Loaded<'_>]) -> Result<Vec<ObjectLine>
     Ok(lines)
 }
 
-/// Whether a section is kept.
-pub fn is_alloc(header: &SectionHeader) -> bool
-    ensures { result ≡ pieces.is_alloc header.now }
-{
-    header.sh_flags & SHF_ALLOC != 0
-}
-
 /// The address of a section of an object, 0 where it isn't kept.
 pub fn address_of(placement: &Placement<'_, '_>, object: u64, section: usize) -> u64
     ensures { result ≡ unwrap_or (option_map (λ q. q.at) (find (is_of_section object section) (own_placed placement.now.base placement.now.objects))) 0 }
@@ -138,7 +129,7 @@ fn add_place_lines(
 {
     let headers = object.sections();
     for (i, header) in headers.iter().enumerate() {
-        if is_alloc(header) {
+        if header.is_alloc() {
             lines.push(place_line(alloc, placement, number, object, i, header)?)?;
         }
     }

@@ -11,7 +11,7 @@ ghost use Rattle.resolve.specs.Views.{symbol_view, symbol_views};
 ghost use Rattle.search.specs.Views.{loaded_views};
 ghost use Rattle.ld_main.specs.Maps.{LiesBelow, own_record, own_row};
 
-use crate::own_map::{address_of, is_alloc, value};
+use crate::own_map::{address_of, value};
 use elf_model::SectionHeader;
 use elf_read::Object;
 use layout::Placement;
@@ -65,7 +65,7 @@ fn show_places_in(placement: &Placement<'_, '_>, number: u64, object: &Object<'_
 {
     let headers = object.sections();
     for (i, header) in headers.iter().enumerate() {
-        if is_alloc(header) {
+        if header.is_alloc() {
             show_place(placement, number, object, i, header);
         }
     }

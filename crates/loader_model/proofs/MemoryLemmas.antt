@@ -1,24 +1,10 @@
 -- Memory at an address is what the one segment says that maps it.
-use Rattle.std.proofs.Common.{◌≡◌, ℕ, zero, suc, ◌+◌, ◌/◌, ◌<◌, ◌≤◌, ◌&&◌, Bool, true, false, cond, List, [], ◌∷◌, length, get_or, refl, sym, ◌∙◌, ap, subst, arith}
-use Rattle.std.specs.Prelude.{AllPairs, Contains, Some, find, option_map, slice_index, nat_le, nat_lt}
-use Rattle.std.proofs.lemmas.Bool.{leb-true, ltb-true, le-leb, lt-ltb}
+use Rattle.std.proofs.Common.{◌≡◌, ℕ, zero, suc, ◌+◌, ◌/◌, ◌<◌, Bool, true, false, cond, List, [], ◌∷◌, length, get_or, refl, sym, ◌∙◌, ap, subst, arith}
+use Rattle.std.specs.Prelude.{AllPairs, Contains, Some, find, option_map, slice_index}
 use Rattle.elf_model.specs.MemoryImage.{Cell, Encloses, IsImage, ShareNoPage, Touches, cell_of, loads, maps, memory_of, segment_byte}
 use Rattle.elf_model.specs.declared.records.ProgramHeader.{ProgramHeader}
+use Rattle.elf_model.proofs.Addresses.{mapped, maps-true}
 use Rattle.loader_model.specs.Memory.{IsRun}
-
-and_parts : (a b : Bool) → (a && b) ≡ true → (a ≡ true) × (b ≡ true)
-and_parts true b e = (refl, e)
-and_parts false b e = absurd (cc)
-
--- the addresses that a segment maps, as numbers
-pub mapped : (h : ProgramHeader) (a : ℕ) → maps h a ≡ true → (h.p_vaddr ≤ a) × (a < h.p_vaddr + h.p_memsz)
-mapped h a e =
-    let p = and_parts (nat_le h.p_vaddr a) (nat_lt a (h.p_vaddr + h.p_memsz)) e in
-    (leb-true h.p_vaddr a p.0, ltb-true a (h.p_vaddr + h.p_memsz) p.1)
-
-pub maps-true : (h : ProgramHeader) (a : ℕ) → h.p_vaddr ≤ a → a < h.p_vaddr + h.p_memsz → maps h a ≡ true
-maps-true h a low high =
-    let l = le-leb h.p_vaddr a low in let r = lt-ltb a (h.p_vaddr + h.p_memsz) high in rw (l, r) refl
 
 touches : (h : ProgramHeader) (a : ℕ) → maps h a ≡ true → Touches h (a / 4096)
 touches h a e = let m = mapped h a e in (omega (arith, m), omega (arith, m))

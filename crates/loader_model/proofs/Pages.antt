@@ -12,7 +12,7 @@ before_trans f g h p q = omega (arith, p, q)
 apart_of_before : (g h : ProgramHeader) → h.p_vaddr % 4096 ≡ 0 → EndsBefore g h → ShareNoPage g h
 apart_of_before g h page before k tg th = omega (arith, tg.1, th.0, page, before)
 
-before_of_apart : (g h : ProgramHeader) → h.p_vaddr % 4096 ≡ 0 → 0 < h.p_memsz → IsBelow g h → ShareNoPage g h → EndsBefore g h
+pub before_of_apart : (g h : ProgramHeader) → h.p_vaddr % 4096 ≡ 0 → 0 < h.p_memsz → IsBelow g h → ShareNoPage g h → EndsBefore g h
 before_of_apart g h page some below apart =
     let both : h.p_vaddr < g.p_vaddr + g.p_memsz → ⊥ =
     λ over. apart (h.p_vaddr / 4096) (omega (arith, below, page), omega (arith, over, page)) (omega (arith, page), omega (arith, some, page)) in

@@ -11,6 +11,7 @@ use Rattle.elf_model.specs.OwnLayout.{file_end, placed_end}
 use Rattle.elf_model.specs.Placement.{Placed}
 use Rattle.elf_model.specs.RightLink.{fill_of}
 use Rattle.elf_model.specs.declared.records.ProgramHeader.{ProgramHeader}
+use Rattle.elf_model.proofs.Addresses.{mapped, maps-true}
 use Rattle.own_link.proofs.Ends.{FileEndsBelow, file_end-holds}
 use Rattle.elf_model.proofs.Finding.{Any-from_contains, find-found, find-none}
 use Rattle.own_link.proofs.ImageRead.{IsOwnFile}
@@ -25,16 +26,6 @@ byte_here want hs placed a =
     unwrap_or (option_map (λ q. want q (a - q.at)) (find (covers_address a) placed)) (fill_at hs a)
 
 -- the tests as numbers
-pub mapped : (h : ProgramHeader) (a : ℕ) → maps h a ≡ true → (h.p_vaddr ≤ a) × (a < h.p_vaddr + h.p_memsz)
-mapped h a e =
-    let p = and_parts (nat_le h.p_vaddr a) (nat_lt a (h.p_vaddr + h.p_memsz)) e in
-    (leb-true h.p_vaddr a p.0, ltb-true a (h.p_vaddr + h.p_memsz) p.1)
-
-pub maps-true : (h : ProgramHeader) (a : ℕ) → h.p_vaddr ≤ a → a < h.p_vaddr + h.p_memsz → maps h a ≡ true
-maps-true h a low high =
-    and_from (nat_le h.p_vaddr a) (nat_lt a (h.p_vaddr + h.p_memsz)) (le-leb h.p_vaddr a low)
-    (lt-ltb a (h.p_vaddr + h.p_memsz) high)
-
 pub covered : (a : ℕ) (q : Placed) → covers_address a q ≡ true → (q.at ≤ a) × (a < placed_end q)
 covered a q e =
     let p = and_parts (nat_le q.at a) (nat_lt a (placed_end q)) e in

@@ -6,7 +6,8 @@ use Rattle.elf_model.specs.MemoryImage.{Cell, segment_byte}
 use Rattle.elf_model.specs.OwnLayout.{placed_has_bytes}
 use Rattle.elf_model.specs.Placement.{Placed}
 use Rattle.elf_model.specs.RightLink.{byte_at}
-use Rattle.own_link.proofs.Bytes.{byte_here, file_byte, maps-true, memory_at, piece_byte, zero_byte}
+use Rattle.elf_model.proofs.Addresses.{maps-true}
+use Rattle.own_link.proofs.Bytes.{byte_here, file_byte, memory_at, piece_byte, zero_byte}
 use Rattle.own_link.proofs.ImageRead.{IsOwnFile}
 use Rattle.own_link.proofs.SegmentHeaders.{AreOwnSegments, own_segments_good}
 use Rattle.own_link.proofs.SegmentPieces.{ArePlacedIn, IsInPart, segment_of_piece}

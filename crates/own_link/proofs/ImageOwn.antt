@@ -74,13 +74,13 @@ module _ (base : ℕ) (objects : List LoadedObject) (kinds : AreLawfulKinds obje
   good : AreGoodParts base (own_headers_size objects) (own_parts base objects)
   good = own_parts_good base objects kinds based fits stand
 
-  segments : AreOwnSegments base (own_headers_size objects) (own_segments base objects)
-  segments =
+  pub good_segments : AreOwnSegments base (own_headers_size objects) (own_segments base objects)
+  good_segments =
       subst (AreOwnSegments base (own_headers_size objects)) (sym (own_segments_are base objects))
       (own_segments_good base (own_headers_size objects) (own_parts base objects) good)
 
-  in_parts : ArePlacedIn (own_parts base objects) (own_placed base objects) (own_in_load_order base objects)
-  in_parts = record {
+  pub placed_in_parts : ArePlacedIn (own_parts base objects) (own_placed base objects) (own_in_load_order base objects)
+  placed_in_parts = record {
     joined = ap (λ (qs : List Placed). own_read_only base objects ++ (own_code base objects ++ qs)) (sym (append-nil (own_data base objects)));
     apart = stand.apart;
     listed = stand.listed;
@@ -93,7 +93,7 @@ module _ (base : ℕ) (objects : List LoadedObject) (kinds : AreLawfulKinds obje
         (byte_here want (own_segments base objects) (own_placed base objects))
     wanted_file =
         made_is_own entry (header_count objects) base (own_headers_size objects) (own_segments base objects)
-        (byte_here want (own_segments base objects) (own_placed base objects)) segments
+        (byte_here want (own_segments base objects) (own_placed base objects)) good_segments
         (header_count_is base objects) refl small (few_headers objects)
 
     -- the same, of the headers of the parts
@@ -108,27 +108,27 @@ module _ (base : ℕ) (objects : List LoadedObject) (kinds : AreLawfulKinds obje
 
     pub wanted_loads : loads (wanted_image want base objects entry) ≡ own_segments base objects
     wanted_loads =
-        loads_are base (own_headers_size objects) (own_segments base objects) segments (wanted_image want base objects entry) entry
+        loads_are base (own_headers_size objects) (own_segments base objects) good_segments (wanted_image want base objects entry) entry
         (header_count objects) (byte_here want (own_segments base objects) (own_placed base objects)) wanted_file
 
     pub wanted_is_image : IsImage (wanted_image want base objects entry)
     wanted_is_image =
-        own_is_image base (own_headers_size objects) (own_segments base objects) segments (wanted_image want base objects entry) entry
+        own_is_image base (own_headers_size objects) (own_segments base objects) good_segments (wanted_image want base objects entry) entry
         (header_count objects) (byte_here want (own_segments base objects) (own_placed base objects)) wanted_file
 
     pub wanted_no_thread_block : thread_blocks (wanted_image want base objects entry) ≡ []
     wanted_no_thread_block =
-        own_no_thread_block base (own_headers_size objects) (own_segments base objects) segments (wanted_image want base objects entry) entry
+        own_no_thread_block base (own_headers_size objects) (own_segments base objects) good_segments (wanted_image want base objects entry) entry
         (header_count objects) (byte_here want (own_segments base objects) (own_placed base objects)) wanted_file
 
     pub wanted_entry : (file_header (wanted_image want base objects entry)).e_entry ≡ entry
     wanted_entry =
-        own_entry_is base (own_headers_size objects) (own_segments base objects) segments (wanted_image want base objects entry) entry
+        own_entry_is base (own_headers_size objects) (own_segments base objects) good_segments (wanted_image want base objects entry) entry
         (header_count objects) (byte_here want (own_segments base objects) (own_placed base objects)) wanted_file
 
     pub wanted_headers_thing : headers_thing (wanted_image want base objects entry) ≡ own_headers_at base objects
     wanted_headers_thing =
-        own_headers_thing base (own_headers_size objects) (own_segments base objects) segments (wanted_image want base objects entry) entry
+        own_headers_thing base (own_headers_size objects) (own_segments base objects) good_segments (wanted_image want base objects entry) entry
         (header_count objects) (byte_here want (own_segments base objects) (own_placed base objects)) wanted_file
 
     pub wanted_holds :
@@ -136,13 +136,13 @@ module _ (base : ℕ) (objects : List LoadedObject) (kinds : AreLawfulKinds obje
         byte_at (wanted_image want base objects entry) (q.at + k) ≡ Some (want q k)
     wanted_holds =
         own_holds base (own_headers_size objects) (own_parts base objects) good (own_placed base objects) (own_in_load_order base objects)
-        in_parts want zero_filled (wanted_image want base objects entry) entry (header_count objects) file
+        placed_in_parts want zero_filled (wanted_image want base objects entry) entry (header_count objects) file
 
     pub wanted_has_nothing_else :
         HasNothingElse (wanted_image want base objects entry) (own_things_of base objects)
     wanted_has_nothing_else =
         own_has_nothing_else base (own_headers_size objects) (own_parts base objects) good (own_placed base objects)
-        (own_in_load_order base objects) in_parts (omega arith) want zero_filled (wanted_image want base objects entry) entry
+        (own_in_load_order base objects) placed_in_parts (omega arith) want zero_filled (wanted_image want base objects entry) entry
         (header_count objects) file
 
   -- the image file wants the bytes of the input and of the fields

@@ -11,7 +11,8 @@ use Rattle.elf_model.specs.Placement.{Covers, Placed, thing_of}
 use Rattle.elf_model.specs.RightLink.{EndsRight, HasNothingElse, IsFilled, IsInFilePart, fill_of}
 use Rattle.elf_model.specs.declared.records.ProgramHeader.{ProgramHeader}
 use Rattle.elf_model.specs.declared.thing.Thing.{Thing}
-use Rattle.own_link.proofs.Bytes.{bare_byte, byte_cases, byte_here, cell_cases, covered, file_byte, fill_in_segment, mapped, no_fill, zero_byte}
+use Rattle.elf_model.proofs.Addresses.{mapped}
+use Rattle.own_link.proofs.Bytes.{bare_byte, byte_cases, byte_here, cell_cases, covered, file_byte, fill_in_segment, no_fill, zero_byte}
 use Rattle.own_link.proofs.Ends.{EndsFile, file_end-reached}
 use Rattle.own_link.proofs.ImageRead.{IsOwnFile, first_good, first_there}
 use Rattle.own_link.proofs.ImageRight.{loads_are}

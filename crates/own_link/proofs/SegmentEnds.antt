@@ -7,7 +7,8 @@ use Rattle.elf_model.specs.Placement.{Placed, thing_of}
 use Rattle.elf_model.specs.RightLink.{EndsRight, IsOfSegment}
 use Rattle.elf_model.specs.declared.records.ProgramHeader.{ProgramHeader}
 use Rattle.elf_model.specs.declared.thing.Thing.{Thing}
-use Rattle.own_link.proofs.Bytes.{maps-true, one_segment}
+use Rattle.elf_model.proofs.Addresses.{maps-true}
+use Rattle.own_link.proofs.Bytes.{one_segment}
 use Rattle.own_link.proofs.Ends.{Reaches, greatest_end-from, greatest_end-less, greatest_end-reached}
 use Rattle.elf_model.proofs.Finding.{Any-from_contains, Any-here}
 use Rattle.elf_model.proofs.Listed.{All-from_contains, Contains-from_map, Contains-map, Contains-there}

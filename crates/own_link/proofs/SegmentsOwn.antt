@@ -11,17 +11,10 @@ use Rattle.elf_model.specs.OwnLayout.{IsNotTooLarge, any_placed, code_pieces, co
 use Rattle.elf_model.specs.Pieces.{AreLawfulKinds, IsLawfulKind, is_executable, is_nobits, is_writable, pieces}
 use Rattle.elf_model.specs.Placement.{Placed}
 use Rattle.own_link.proofs.Ends.{greatest_end-below, greatest_end-from}
-use Rattle.elf_model.proofs.Listed.{All-from_contains}
+use Rattle.elf_model.proofs.Listed.{All-from_contains, All-parts}
 use Rattle.elf_model.proofs.Pairs.{AllPairs-nil}
 use Rattle.elf_model.proofs.Places.{AreOwnPlaced}
 use Rattle.own_link.proofs.Segments.{AreGoodParts, IsGoodPart, Part, good_later, later_part, own_parts, part_end}
-
--- what holds of all of a joined list holds of its front and of its back
-All-front : {X : Type 0} (P : X → Type 0) (xs ys : List X) → All P (xs ++ ys) → All P xs
-All-front P xs ys all = All-from_contains P xs (λ x c. All-contains P (xs ++ ys) x all (Contains-append_left xs ys x c))
-
-All-back : {X : Type 0} (P : X → Type 0) (xs ys : List X) → All P (xs ++ ys) → All P ys
-All-back P xs ys all = All-from_contains P ys (λ x c. All-contains P (xs ++ ys) x all (Contains-append_right xs ys x c))
 
 page_up-page : (x : ℕ) → page_up x % 4096 ≡ 0
 page_up-page x = mul-mod_left ((x + (4096 - 1)) / 4096) 4096
@@ -59,10 +52,10 @@ module _ (base : ℕ) (objects : List LoadedObject) (kinds : AreLawfulKinds obje
       (stand.all q c)
 
   front_ends : All (λ q. placed_end q ≤ 2 ^ 46) (own_read_only base objects)
-  front_ends = All-front (λ q. placed_end q ≤ 2 ^ 46) (own_read_only base objects) (own_code base objects ++ own_data base objects) fits.ends
+  front_ends = (All-parts (λ q. placed_end q ≤ 2 ^ 46) (own_read_only base objects) (own_code base objects ++ own_data base objects) fits.ends).0
 
   later_ends : All (λ q. placed_end q ≤ 2 ^ 46) (own_code base objects ++ own_data base objects)
-  later_ends = All-back (λ q. placed_end q ≤ 2 ^ 46) (own_read_only base objects) (own_code base objects ++ own_data base objects) fits.ends
+  later_ends = (All-parts (λ q. placed_end q ≤ 2 ^ 46) (own_read_only base objects) (own_code base objects ++ own_data base objects) fits.ends).1
 
   front_good : IsGoodPart base (own_headers_size objects) (record { rights = 4; start = base; from = read_only_start base objects; there = true; placed = own_read_only base objects })
   front_good =
@@ -85,7 +78,7 @@ module _ (base : ℕ) (objects : List LoadedObject) (kinds : AreLawfulKinds obje
       good_later base (own_headers_size objects) 5 (code_start base objects) (code_pieces objects) (omega arith) (omega arith)
       (page_up-page _) stand.starts.0
       (All-weaker (StandsInCode base objects) (λ (q : Placed). code_start base objects ≤ q.at) (λ q h. h.0) (own_code base objects) stand.code)
-      (All-front (λ q. placed_end q ≤ 2 ^ 46) (own_code base objects) (own_data base objects) later_ends)
+      (All-parts (λ q. placed_end q ≤ 2 ^ 46) (own_code base objects) (own_data base objects) later_ends).0
       (λ e. All-from_contains (λ (q : Placed). placed_has_bytes q ≡ true) (own_code base objects)
       (λ q c. code_has_bytes q (placed_lawful q (Contains-append_right (own_read_only base objects) (own_code base objects ++ own_data base objects) q
       (Contains-append_left (own_code base objects) (own_data base objects) q c)))
@@ -96,7 +89,7 @@ module _ (base : ℕ) (objects : List LoadedObject) (kinds : AreLawfulKinds obje
       good_later base (own_headers_size objects) 6 (data_start base objects) (data_pieces objects) (omega arith) (omega arith)
       (page_up-page _) (let s = stand.starts in omega (arith, s))
       (All-weaker (StandsInData base objects) (λ (q : Placed). data_start base objects ≤ q.at) (λ q h. h.0) (own_data base objects) stand.data_)
-      (All-back (λ q. placed_end q ≤ 2 ^ 46) (own_code base objects) (own_data base objects) later_ends)
+      (All-parts (λ q. placed_end q ≤ 2 ^ 46) (own_code base objects) (own_data base objects) later_ends).1
       (λ e. absurd (omega (arith, e)))
 
   -- each ends before the later ones begin

@@ -84,6 +84,45 @@ fn a_section_header_is_read_and_written(rt: HostRuntime) -> Result<(), Fail> {
     Ok(())
 }
 
+fn section_of(sh_type: u32, sh_flags: u64) -> SectionHeader {
+    SectionHeader {
+        sh_name: 0,
+        sh_type,
+        sh_flags,
+        sh_addr: 0,
+        sh_offset: 0,
+        sh_size: 1,
+        sh_link: 0,
+        sh_info: 0,
+        sh_addralign: 1,
+        sh_entsize: 0,
+    }
+}
+
+// SHF_WRITE is 1, SHF_ALLOC 2, SHF_EXECINSTR 4 and SHF_TLS 0x400; 0xbf8 has all other flags up to 0x800.
+// SHT_NULL is 0, SHT_PROGBITS 1, SHT_NOBITS 8 and SHT_REL 9.
+#[test]
+fn a_section_header_tells_its_flags_and_nobits(rt: HostRuntime) {
+    for (flags, writable, alloc, executable, thread_local) in [
+        (0, false, false, false, false),
+        (1, true, false, false, false),
+        (2, false, true, false, false),
+        (4, false, false, true, false),
+        (0x400, false, false, false, true),
+        (0x407, true, true, true, true),
+        (0xbf8, false, false, false, false),
+    ] {
+        let header = section_of(1, flags);
+        assert_eq!(rt; header.is_writable(), writable);
+        assert_eq!(rt; header.is_alloc(), alloc);
+        assert_eq!(rt; header.is_executable(), executable);
+        assert_eq!(rt; header.is_thread_local(), thread_local);
+    }
+    for (kind, nobits) in [(0, false), (1, false), (8, true), (9, false)] {
+        assert_eq!(rt; section_of(kind, 2).is_nobits(), nobits);
+    }
+}
+
 #[test]
 fn a_symbol_is_read_and_written(rt: HostRuntime) -> Result<(), Fail> {
     let start = Symbol::read(View::new(&START)).ok_or("24 bytes")?;

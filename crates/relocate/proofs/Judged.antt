@@ -1,10 +1,9 @@
 -- Why a part of relocations isn't lawful is why the whole isn't, and what is left to judge of the whole.
-use Rattle.std.proofs.Common.{◌≡◌, Err, IfErr, Result, List, [], ◌∷◌, ◌++◌, suc, subst, sym, arith}
-use Rattle.std.specs.Prelude.{All, AllPairs, Any, None}
+use Rattle.std.proofs.Common.{◌≡◌, Err, IfErr, Result, List, [], ◌∷◌, ◌++◌, subst, sym}
+use Rattle.std.specs.Prelude.{All, Any, None}
 use Rattle.std.proofs.lemmas.List.Elements.{All-append, All-cons, All-nil, Contains-append_left, Contains-append_right}
-use Rattle.std.proofs.lemmas.List.Kept.{AllPairs-cons}
-use Rattle.elf_model.proofs.Listed.{Contains-here}
-use Rattle.elf_model.proofs.Pairs.{AllPairs-append, AllPairs-head, AllPairs-nil, AllPairs-tail}
+use Rattle.elf_model.proofs.Finding.{Any-here}
+use Rattle.elf_model.proofs.Pairs.{AllPairs-append, AllPairs-nil, AllPairs-parts}
 use Rattle.elf_model.specs.Causes.{IsToDropped, IsUndefinedName}
 use Rattle.elf_model.specs.Loading.{LoadedObject}
 use Rattle.elf_model.specs.Relocation.{AreFieldsApart, IsFieldInside, IsLawfulRelocation, IsThreadMismatch, Relocation, relocation_kind}
@@ -13,29 +12,11 @@ use Rattle.relocate.specs.declared.faults.RelocFault.TheVariants as error
 use Rattle.relocate.specs.References.{AreLawful, RelocationFails, RelocationsFail}
 
 module _ {X : Type 0} (P : X → Type 0) where
-  pub Any-here : (x : X) (xs : List X) → P x → Any P (x ∷ xs)
-  Any-here x xs p = let c = Contains-here xs x in (c.0, x, c.1, c.2, p)
-
   pub Any-left : (xs ys : List X) → Any P xs → Any P (xs ++ ys)
   Any-left xs ys a = let c = Contains-append_left xs ys a.1 (a.0, a.2, a.3) in (c.0, a.1, c.1, c.2, a.4)
 
   pub Any-right : (xs ys : List X) → Any P ys → Any P (xs ++ ys)
   Any-right xs ys a = let c = Contains-append_right xs ys a.1 (a.0, a.2, a.3) in (c.0, a.1, c.1, c.2, a.4)
-
-module _ {X : Type 0} (R : X → X → Type 0) where
-  pub AllPairs-left : (xs ys : List X) → AllPairs R (xs ++ ys) → AllPairs R xs
-  AllPairs-left [] ys pairs = AllPairs-nil R
-  AllPairs-left (x ∷ xs) ys pairs =
-      AllPairs-cons R x xs (front xs ys (AllPairs-head R x (xs ++ ys) pairs)) (AllPairs-left xs ys (AllPairs-tail R x (xs ++ ys) pairs))
-    where
-      front : (us vs : List X) → All (R x) (us ++ vs) → All (R x) us
-      front [] vs all = All-nil (R x)
-      front (u ∷ us) vs all =
-          All-cons (R x) u us (all 0 u (omega arith)) (front us vs (λ k d low. all (suc k) d (omega (arith, low))))
-
-  pub AllPairs-right : (xs ys : List X) → AllPairs R (xs ++ ys) → AllPairs R ys
-  AllPairs-right [] ys pairs = pairs
-  AllPairs-right (x ∷ xs) ys pairs = AllPairs-right xs ys (AllPairs-tail R x (xs ++ ys) pairs)
 
 pub fail_first : (objects : List LoadedObject) (r : Relocation) (rs : List Relocation) (e : RelocFault) → RelocationFails objects r e → RelocationsFail objects (r ∷ rs) e
 fail_first objects r rs error.Memory f = tt
@@ -53,7 +34,7 @@ fail_left objects xs ys (error.Undefined name) f = Any-left (IsUndefinedName nam
 fail_left objects xs ys error.RefToDropped f = Any-left (IsToDropped objects) xs ys f
 fail_left objects xs ys error.RelocKind f = Any-left (λ (t : Relocation). relocation_kind t ≡ None) xs ys f
 fail_left objects xs ys error.FieldOutside f = Any-left (λ (t : Relocation). ¬ IsFieldInside t) xs ys f
-fail_left objects xs ys error.OverlappingFields f = λ pairs. f (AllPairs-left AreFieldsApart xs ys pairs)
+fail_left objects xs ys error.OverlappingFields f = λ pairs. f (AllPairs-parts AreFieldsApart xs ys pairs).0
 fail_left objects xs ys error.TlsMismatch f = Any-left (IsThreadMismatch objects) xs ys f
 fail_left objects xs ys _ f = absurd f
 
@@ -63,7 +44,7 @@ fail_right objects xs ys (error.Undefined name) f = Any-right (IsUndefinedName n
 fail_right objects xs ys error.RefToDropped f = Any-right (IsToDropped objects) xs ys f
 fail_right objects xs ys error.RelocKind f = Any-right (λ (t : Relocation). relocation_kind t ≡ None) xs ys f
 fail_right objects xs ys error.FieldOutside f = Any-right (λ (t : Relocation). ¬ IsFieldInside t) xs ys f
-fail_right objects xs ys error.OverlappingFields f = λ pairs. f (AllPairs-right AreFieldsApart xs ys pairs)
+fail_right objects xs ys error.OverlappingFields f = λ pairs. f (AllPairs-parts AreFieldsApart xs ys pairs).1
 fail_right objects xs ys error.TlsMismatch f = Any-right (IsThreadMismatch objects) xs ys f
 fail_right objects xs ys _ f = absurd f
 

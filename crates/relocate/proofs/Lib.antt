@@ -1,8 +1,6 @@
-pub mod FieldOrder
 pub mod Fitted
 pub mod Judged
 pub mod KindRows
-pub mod KindWidths
 pub mod ObjectFields
 pub mod ObjectRows
 pub mod OwnParts

@@ -1,44 +1,12 @@
--- The fields of an object's relocations against the relocations themselves, and fields of different objects.
-use Rattle.std.proofs.Common.{◌≡◌, ℕ, ◌+◌, ◌<◌, ◌≤◌, true, List, [], ◌∷◌, ◌++◌, Some, get_or, map, option_map, refl, sym, ap, ◌∙◌, arith}
-use Rattle.std.specs.Prelude.{All, AllPairs, IfSome, IsSome as IsThere, Option, None, filter, unwrap_or}
-use Rattle.std.specs.List.{flat_map}
-use Rattle.std.proofs.lemmas.Bool.{false≢true}
-use Rattle.std.proofs.lemmas.Bool.Decides.{nat_tests}
-use Rattle.std.proofs.lemmas.List.Elements.{All-append, All-map, All-nil, All-weaker}
-use Rattle.elf_model.proofs.Pairs.{AllPairs-map, AllPairs-unmap, AllPairs-weaker}
+-- The fields of an object's relocations against the relocations themselves.
+use Rattle.std.proofs.Common.{◌≡◌, ℕ, List, get_or, map, refl, sym, ◌∙◌, arith}
+use Rattle.std.specs.Prelude.{All, AllPairs}
+use Rattle.std.proofs.lemmas.List.Elements.{All-map, All-weaker}
 use Rattle.elf_model.specs.Loading.{LoadedObject}
-use Rattle.elf_model.specs.Relocation.{AreFieldsApart, IsFieldInside, IsLawfulRelocation, Kind, Relocation, is_in_field, is_kept_rela, is_some_kind, relocation_kind, relocation_of, relocations_from, relocations_in, relocations_of, width_of}
-use Rattle.elf_model.specs.ObjectFile.{rela_type, relas_of, sections}
-use Rattle.elf_model.specs.declared.records.SectionHeader.{SectionHeader}
-use Rattle.relocate.proofs.KindWidths.{kind_width}
+use Rattle.elf_model.specs.Relocation.{AreFieldsApart, IsLawfulRelocation, Relocation}
+use Rattle.elf_model.proofs.Pairs.{AllPairs-map, AllPairs-unmap, AllPairs-weaker}
+use Rattle.elf_model.proofs.RelocationFields.{field_has, in_field, width_some}
 use Rattle.relocate.specs.Fields.{AreApart, IsSome, field_of}
-use Rattle.relocate.specs.declared.fields.Field.{Field}
-use Rattle.std.proofs.lemmas.List.{append_assoc, map-append}
-
--- a relocation of a known kind has a field of 1 to 8 bytes
-pub width_some : (r : Relocation) → IsThere (relocation_kind r) → (0 < width_of r) × (width_of r ≤ 8)
-width_some r there = by (relocation_kind r) there (kind_width (rela_type r.entry) (relocation_kind r) refl)
-  where
-    by : (o : Option Kind) → IsThere o → IfSome o (λ k. (0 < k.width) × (k.width ≤ 8)) → (0 < unwrap_or (option_map (λ k. k.width) o) 0) × (unwrap_or (option_map (λ k. k.width) o) 0 ≤ 8)
-    by None h n = absurd (false≢true h)
-    by (Some k) h n = n
-
--- a field that lies inside its section ends within it
-pub ends_inside : (r : Relocation) → IsThere (relocation_kind r) → IsFieldInside r → r.entry.r_offset + width_of r ≤ r.size
-ends_inside r there inside = by (relocation_kind r) there inside
-  where
-    by : (o : Option Kind) → IsThere o → IfSome o (λ k. r.entry.r_offset + k.width ≤ r.size) → r.entry.r_offset + unwrap_or (option_map (λ k. k.width) o) 0 ≤ r.size
-    by None h n = absurd (false≢true h)
-    by (Some k) h n = n
-
--- byte k lies in a field
-pub in_field : (object s k : ℕ) (r : Relocation) → is_in_field object s k r ≡ true → (r.object ≡ object) × (r.section ≡ s) × (r.entry.r_offset ≤ k) × (k < r.entry.r_offset + width_of r)
-in_field object s k r e = (grind (arith, nat_tests), grind (arith, nat_tests), grind (arith, nat_tests), grind (arith, nat_tests))
-
-field_has :
-    (object s k : ℕ) (r : Relocation) → r.object ≡ object → r.section ≡ s → r.entry.r_offset ≤ k → k < r.entry.r_offset + width_of r →
-    is_in_field object s k r ≡ true
-field_has object s k r o t low high = grind (arith, nat_tests)
 
 apart_fields : (r t : Relocation) → r.object ≡ t.object → AreFieldsApart r t → AreApart (field_of r) (field_of t)
 apart_fields r t same apart at k low high low2 high2 =
@@ -49,10 +17,6 @@ fields_apart r t apart object s k e f =
     let a = in_field object s k r e in
     let b = in_field object s k t f in
     apart (a.1 ∙ sym b.1) k a.2 a.3 b.2 b.3
-
--- fields of different objects are apart
-other_object : (r t : Relocation) → (r.object ≡ t.object → ⊥) → AreFieldsApart r t
-other_object r t differ object s k e f = differ ((in_field object s k r e).0 ∙ sym (in_field object s k t f).0)
 
 -- the fields of lawful relocations aren't empty
 pub some_fields : (objects : List LoadedObject) (rs : List Relocation) → All (IsLawfulRelocation objects) rs → All IsSome (map field_of rs)
@@ -70,50 +34,3 @@ fields_of_apart n rs own pairs =
 pub apart_of_fields : (rs : List Relocation) → AllPairs AreApart (map field_of rs) → AllPairs AreFieldsApart rs
 apart_of_fields rs pairs =
     AllPairs-weaker (λ r t. AreApart (field_of r) (field_of t)) AreFieldsApart fields_apart rs (AllPairs-unmap AreApart field_of rs pairs)
-
--- the relocations of an object have its number
-own_sections : (n : ℕ) (b : List ℕ) (hs : List SectionHeader) → All (λ r. r.object ≡ n) (flat_map (relocations_in n b) hs)
-own_sections n b [] = All-nil (λ (r : Relocation). r.object ≡ n)
-own_sections n b (h ∷ hs) =
-    All-append (λ (r : Relocation). r.object ≡ n) (relocations_in n b h) (flat_map (relocations_in n b) hs)
-    (All-map (λ (r : Relocation). r.object ≡ n) (relocation_of n b h.sh_info) (filter is_some_kind (relas_of b h)) (λ k d low. refl))
-    (own_sections n b hs)
-
-pub own_object : (n : ℕ) (b : List ℕ) → All (λ r. r.object ≡ n) (relocations_from n b)
-own_object n b = own_sections n b (filter (is_kept_rela b) (sections b))
-
--- those of later objects have later numbers
-pub later_objects : (n : ℕ) (os : List LoadedObject) → All (λ r. n ≤ r.object) (relocations_of n os)
-later_objects n [] = All-nil (λ (r : Relocation). n ≤ r.object)
-later_objects n (o ∷ os) =
-    All-append (λ (r : Relocation). n ≤ r.object) (relocations_from n o.bytes) (relocations_of (n + 1) os)
-    (All-weaker (λ (r : Relocation). r.object ≡ n) (λ (r : Relocation). n ≤ r.object) (λ r e. omega (arith, e)) (relocations_from n o.bytes) (own_object n o.bytes))
-    (All-weaker (λ (r : Relocation). n + 1 ≤ r.object) (λ (r : Relocation). n ≤ r.object) (λ r e. omega (arith, e)) (relocations_of (n + 1) os) (later_objects (n + 1) os))
-
--- so the fields of one object meet none of a later one
-pub objects_apart : (n : ℕ) (b : List ℕ) (os : List LoadedObject) → All (λ r. All (AreFieldsApart r) (relocations_of (n + 1) os)) (relocations_from n b)
-objects_apart n b os i d low j e high =
-    let r = get_or (relocations_from n b) i d in
-    let t = get_or (relocations_of (n + 1) os) j e in
-    let here : r.object ≡ n = own_object n b i d low in
-    let there : n + 1 ≤ t.object = later_objects (n + 1) os j e high in
-    other_object r t (λ same. omega (arith, here, there, same))
-
--- a step of the list of fields, by one or by some
-pub push_field :
-    (xs new : List Field) (f : Field) (r : Relocation) (rest more : List Relocation) (total : List Field) →
-    new ≡ xs ++ f ∷ [] → f ≡ field_of r → rest ≡ r ∷ more → xs ++ map field_of rest ≡ total → new ++ map field_of more ≡ total
-push_field xs new f r rest more total pushed is parts so_far =
-    ap (λ (ys : List Field). ys ++ map field_of more) pushed
-    ∙ (append_assoc xs (f ∷ []) (map field_of more)
-    ∙ (ap (λ (g : Field). xs ++ g ∷ map field_of more) is
-    ∙ (ap (λ (rs : List Relocation). xs ++ map field_of rs) (sym parts) ∙ so_far)))
-
-pub append_fields :
-    (xs new : List Field) (here rest more : List Relocation) (total : List Field) →
-    new ≡ xs ++ map field_of here → rest ≡ here ++ more → xs ++ map field_of rest ≡ total → new ++ map field_of more ≡ total
-append_fields xs new here rest more total added parts so_far =
-    ap (λ (ys : List Field). ys ++ map field_of more) added
-    ∙ (append_assoc xs (map field_of here) (map field_of more)
-    ∙ (ap (λ (ys : List Field). xs ++ ys) (sym (map-append field_of here more))
-    ∙ (ap (λ (rs : List Relocation). xs ++ map field_of rs) (sym parts) ∙ so_far)))

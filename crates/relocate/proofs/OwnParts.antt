@@ -13,9 +13,10 @@ use Rattle.elf_model.specs.Pieces.{Piece}
 use Rattle.elf_model.specs.Placement.{Placed}
 use Rattle.elf_model.specs.Relocation.{Relocation, is_in_field, relocations, relocations_from, relocations_of}
 use Rattle.elf_model.specs.WantedBytes.{byte_or_field, wanted_byte}
-use Rattle.relocate.proofs.Fitted.{All-left, All-right}
-use Rattle.relocate.proofs.Judged.{AllPairs-left, AllPairs-right}
-use Rattle.relocate.proofs.ObjectFields.{in_field, later_objects, own_object}
+use Rattle.elf_model.proofs.Found.{or_none}
+use Rattle.elf_model.proofs.Listed.{All-parts}
+use Rattle.elf_model.proofs.Pairs.{AllPairs-parts}
+use Rattle.elf_model.proofs.RelocationFields.{in_field, later_objects, own_object}
 use Rattle.relocate.proofs.Patched.{find_none}
 use Rattle.relocate.specs.Patches.{byte_of}
 use Rattle.relocate.specs.Values.{patch_of}
@@ -62,15 +63,11 @@ own_part k n (suc i) (x ∷ os) o at there =
     }
 
 pub all_own : (P : Relocation → Type 0) (k : ℕ) (own whole : List Relocation) → IsPart k own whole → All P whole → All P own
-all_own P k own whole p all = All-left P own p.back (All-right P p.front (own ++ p.back) (subst (All P) p.parts all))
+all_own P k own whole p all = (All-parts P own p.back (All-parts P p.front (own ++ p.back) (subst (All P) p.parts all)).1).0
 
 pub pairs_own :
     (R : Relocation → Relocation → Type 0) (k : ℕ) (own whole : List Relocation) → IsPart k own whole → AllPairs R whole → AllPairs R own
-pairs_own R k own whole p pairs = AllPairs-left R own p.back (AllPairs-right R p.front (own ++ p.back) (subst (AllPairs R) p.parts pairs))
-
-or_none : {X : Type 0} (o : Option X) → option_or o None ≡ o
-or_none None = refl
-or_none (Some x) = refl
+pairs_own R k own whole p pairs = (AllPairs-parts R own p.back (AllPairs-parts R p.front (own ++ p.back) (subst (AllPairs R) p.parts pairs)).1).0
 
 -- a byte of an object lies in no field of another one
 none_of_others : (k s j : ℕ) (rs : List Relocation) → All (λ r. r.object ≡ k → ⊥) rs → find (is_in_field k s j) rs ≡ None

@@ -1,11 +1,13 @@
 -- Bytes with values over fields that are apart have each value at its field, whatever the order.
-use Rattle.std.proofs.Common.{◌≡◌, ℕ, ◌+◌, ◌-◌, ◌<◌, ◌≤◌, Bool, true, false, cond, List, [], ◌∷◌, ◌++◌, Option, Some, None, drop, length, nat_lt, refl, slice_index, sym, ap, subst, take, ◌∙◌, arith}
+use Rattle.std.proofs.Common.{◌≡◌, ℕ, ◌+◌, ◌-◌, ◌<◌, ◌≤◌, Bool, true, false, cond, List, [], ◌∷◌, ◌++◌, Option, Some, None, drop, get_or, length, nat_lt, refl, slice_index, sym, ap, subst, take, ◌∙◌, arith}
 use Rattle.std.specs.Prelude.{All, AllPairs, find}
+use Rattle.std.proofs.lemmas.Bool.{false_from_ne_true}
 use Rattle.std.proofs.lemmas.Bool.Decides.{nat_tests}
 use Rattle.std.proofs.lemmas.List.{places}
 use Rattle.std.proofs.lemmas.List.Elements.{All-head, All-tail}
 use Rattle.byteview.proofs.NumberLaws.{length-le_bytes}
 use Rattle.byteview.specs.Numbers.{le_bytes}
+use Rattle.elf_model.proofs.Finding.{find-none}
 use Rattle.elf_model.proofs.Pairs.{AllPairs-head, AllPairs-tail}
 use Rattle.relocate.specs.Patches.{AreDisjoint, FitsIn, byte_of, covers, patched, put}
 use Rattle.relocate.specs.declared.patch.Patch.{Patch}
@@ -52,12 +54,7 @@ put_outside base p k fits e = by (nat_lt k p.at) refl
 
 -- where none passes, none is found
 pub find_none : {X : Type 0} (p : X → Bool) (xs : List X) → All (λ x. p x ≡ true → ⊥) xs → find p xs ≡ None
-find_none p [] never = refl
-find_none {X} p (x ∷ xs) never = by (p x) refl (find_none p xs (All-tail (λ (y : X). p y ≡ true → ⊥) x xs never))
-  where
-    by : (b : Bool) → p x ≡ b → find p xs ≡ None → cond (p x) (Some x) (find p xs) ≡ None
-    by true e rest = absurd (All-head (λ (y : X). p y ≡ true → ⊥) x xs never e)
-    by false e rest = ap (λ (b : Bool). cond b (Some x) (find p xs)) e ∙ rest
+find_none p xs never = find-none p xs (λ k d low. false_from_ne_true (p (get_or xs k d)) (never k d low))
 
 -- another field's byte is the same over bytes with this field
 byte_over :

@@ -1,39 +1,22 @@
 -- The bytes of a section with the patches of its object's relocations over them are the wanted ones.
-use Rattle.std.proofs.Common.{◌≡◌, ℕ, ◌+◌, ◌<◌, ◌≤◌, ◌==◌, ◌&&◌, Bool, true, false, cond, List, [], ◌∷◌, Option, Some, get_or, length, map, nat_le, nat_lt, option_map, refl, subst, sym, ap, ◌∙◌, arith}
+use Rattle.std.proofs.Common.{◌≡◌, ℕ, ◌+◌, ◌<◌, ◌≤◌, ◌==◌, ◌&&◌, Bool, true, false, List, get_or, length, map, nat_le, nat_lt, option_map, refl, subst, sym, ap, ◌∙◌, arith}
 use Rattle.std.specs.Prelude.{All, AllPairs, filter, find}
-use Rattle.std.specs.List.{flat_map, range_with_len}
+use Rattle.std.specs.List.{range_with_len}
 use Rattle.std.proofs.lemmas.Bool.{eqb-true, eq-eqb}
 use Rattle.std.proofs.lemmas.List.{ext_get_or}
-use Rattle.std.proofs.lemmas.List.Elements.{All-append, All-filter, All-head, All-map, All-nil, All-tail, filter_passes}
+use Rattle.std.proofs.lemmas.List.Elements.{All-filter, All-map, filter_passes}
 use Rattle.std.proofs.lemmas.List.FromFn.{get_or-map-range_with_len, length-map-range_with_len}
 use Rattle.std.proofs.lemmas.List.Kept.{AllPairs-filter}
+use Rattle.elf_model.proofs.Found.{find-agree, find-filter, find-map}
 use Rattle.elf_model.proofs.Pairs.{AllPairs-map}
+use Rattle.elf_model.proofs.RelocationFields.{ends_inside, own_object, own_sizes, width_some}
 use Rattle.elf_model.specs.Loading.{LoadedObject}
-use Rattle.elf_model.specs.ObjectFile.{relas_of, section, sections}
+use Rattle.elf_model.specs.ObjectFile.{section, sections}
 use Rattle.elf_model.specs.Placement.{Placed}
-use Rattle.elf_model.specs.Relocation.{AreFieldsApart, IsLawfulRelocation, Relocation, is_in_field, is_kept_rela, is_some_kind, relocation_of, relocations_from, relocations_in, width_of}
-use Rattle.elf_model.specs.declared.records.SectionHeader.{SectionHeader}
-use Rattle.relocate.proofs.KindRows.{find-map}
-use Rattle.relocate.proofs.ObjectFields.{ends_inside, own_object, width_some}
+use Rattle.elf_model.specs.Relocation.{AreFieldsApart, IsLawfulRelocation, Relocation, is_in_field, relocations_from, width_of}
 use Rattle.relocate.proofs.Patched.{length-patched, patched_at}
 use Rattle.relocate.specs.Patches.{AreDisjoint, FitsIn, byte_of, covers, patched}
 use Rattle.relocate.specs.Values.{is_in_section, patch_of, patches_in}
-
--- the first that passes a test of those that pass another
-find-filter : {X : Type 0} (q t : X → Bool) (xs : List X) → find q (filter t xs) ≡ find (λ x. t x && q x) xs
-find-filter q t [] = refl
-find-filter {X} q t (x ∷ xs) =
-    elim (t x) as (λ b. find q (cond b (x ∷ filter t xs) (filter t xs)) ≡ cond (b && q x) (Some x) (find (λ y. t y && q y) xs)) [
-      | true ↦ ap (cond (q x) (Some x)) (find-filter q t xs)
-      | false ↦ find-filter q t xs
-    ]
-
--- two tests that agree at each element find the same
-find-agree : {X : Type 0} (p q : X → Bool) (xs : List X) → All (λ x. p x ≡ q x) xs → find p xs ≡ find q xs
-find-agree p q [] same = refl
-find-agree {X} p q (x ∷ xs) same =
-    ap (λ (b : Bool). cond b (Some x) (find p xs)) (All-head (λ (y : X). p y ≡ q y) x xs same)
-    ∙ ap (λ (o : Option X). cond (q x) (Some x) o) (find-agree p q xs (All-tail (λ (y : X). p y ≡ q y) x xs same))
 
 same_test : (a b c : Bool) → b && (a && c) ≡ ((true && b) && a) && c
 same_test a true c = refl
@@ -53,7 +36,7 @@ pub patch_found :
 patch_found objects ps k s j rs own =
     find-map (covers j) (patch_of objects ps) (filter (is_in_section s) rs)
     ∙ ap (option_map (patch_of objects ps))
-    (find-filter (λ r. covers j (patch_of objects ps r)) (is_in_section s) rs
+    (find-filter (is_in_section s) (λ r. covers j (patch_of objects ps r)) rs
     ∙ find-agree (λ r. is_in_section s r && covers j (patch_of objects ps r)) (is_in_field k s j) rs
     (λ i d low. test_is objects ps k s j (get_or rs i d) (own i d low)))
 
@@ -76,14 +59,6 @@ patches_apart objects ps k s rs own apart =
         sym (test_is objects ps k s x r (All-filter (is_in_section s) (λ (t : Relocation). t.object ≡ k) rs own i d low))
         ∙ (ap (λ (b : Bool). b && covers x (patch_of objects ps r)) (filter_passes (is_in_section s) rs i d low) ∙ e)
 
--- a relocation's size is its section's
-sizes_in : (n : ℕ) (b : List ℕ) (hs : List SectionHeader) → All (λ r. r.size ≡ (section (sections b) r.section).sh_size) (flat_map (relocations_in n b) hs)
-sizes_in n b [] = All-nil (λ (r : Relocation). r.size ≡ (section (sections b) r.section).sh_size)
-sizes_in n b (h ∷ hs) =
-    All-append (λ (r : Relocation). r.size ≡ (section (sections b) r.section).sh_size) (relocations_in n b h) (flat_map (relocations_in n b) hs)
-    (All-map (λ (r : Relocation). r.size ≡ (section (sections b) r.section).sh_size) (relocation_of n b h.sh_info) (filter is_some_kind (relas_of b h)) (λ k d low. refl))
-    (sizes_in n b hs)
-
 -- patches of lawful relocations lie inside the section
 pub patches_inside :
     (objects : List LoadedObject) (ps : List Placed) (n : ℕ) (b : List ℕ) (s size : ℕ) → All (IsLawfulRelocation objects) (relocations_from n b) →
@@ -100,8 +75,7 @@ patches_inside objects ps n b s size lawful long =
         let l : IsLawfulRelocation objects r = All-filter (is_in_section s) (IsLawfulRelocation objects) rs lawful i d low in
         let at = eqb-true r.section s (filter_passes (is_in_section s) rs i d low) in
         let own : r.size ≡ (section (sections b) r.section).sh_size =
-        All-filter (is_in_section s) (λ (t : Relocation). t.size ≡ (section (sections b) t.section).sh_size) rs
-        (sizes_in n b (filter (is_kept_rela b) (sections b))) i d low in
+        All-filter (is_in_section s) (λ (t : Relocation). t.size ≡ (section (sections b) t.section).sh_size) rs (own_sizes n b) i d low in
         let same : r.size ≡ size = own ∙ (ap (λ (k : ℕ). (section (sections b) k).sh_size) at ∙ sym long) in
         let inside = ends_inside r l.known l.inside in
         record { inside = subst (λ (m : ℕ). r.entry.r_offset + width_of r ≤ m) same inside; narrow = (width_some r l.known).1 }

@@ -10,7 +10,7 @@ ghost use Rattle.std.specs.Option.{option_map_or};
 ghost use Rattle.relocate.specs.References.{IsNamedUndefined, IsObjectAt, StandsInDropped, section_in};
 
 use crate::faults::RelocFault;
-use elf_model::{Rela, SHF_ALLOC, SHN_UNDEF, SHT_RELA, STB_LOCAL, STB_WEAK, SectionHeader, Symbol};
+use elf_model::{Rela, SHN_UNDEF, SHT_RELA, STB_LOCAL, STB_WEAK, SectionHeader, Symbol};
 use elf_read::Object;
 use resolve::Resolved;
 use std::alloc::Global;
@@ -24,18 +24,11 @@ const NULL_SYMBOL: Symbol = Symbol {
     st_size: 0,
 };
 
-/// Whether a section takes up memory.
-fn is_alloc(header: &SectionHeader) -> bool
-    ensures { result ≡ pieces.is_alloc header.now }
-{
-    header.sh_flags & SHF_ALLOC != 0
-}
-
 fn is_alloc_at(object: &Object<'_>, number: usize) -> bool
     ensures { result ≡ pieces.is_alloc (section (sections object.now) number) }
 {
     match object.sections().get(number) {
-        Some(header) => is_alloc(header),
+        Some(header) => header.is_alloc(),
         None => false,
     }
 }
@@ -103,7 +96,7 @@ fn stands_in_dropped(object: &Object<'_>, entry: &Symbol) -> bool
     ensures { IsTrue result ↔ IsSomeAnd (section_in object.now entry.now) (λ h. pieces.is_alloc h ≡ false) }
 {
     match section_of(object, entry) {
-        Some(header) => !is_alloc(&header),
+        Some(header) => !header.is_alloc(),
         None => false,
     }
 }

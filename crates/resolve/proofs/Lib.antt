@@ -4,10 +4,9 @@ pub mod Gathered
 pub mod Located
 pub mod NamedOnce
 pub mod Offers
-pub mod PlaceRows
-pub mod PlainNames
 pub mod RankedPlaces
 pub mod Rests
 pub mod Searched
 pub mod SoundWalk
 pub mod Walks
+pub mod WrittenPlaces

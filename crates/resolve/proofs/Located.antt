@@ -10,7 +10,7 @@ use Rattle.elf_model.specs.Resolution.{SymbolOf, all_symbols, symbols_from, symb
 use Rattle.elf_model.specs.declared.records.Symbol.{Symbol}
 use Rattle.resolve.specs.Places.{symbol_of}
 use Rattle.resolve.specs.Views.{symbol_in}
-use Rattle.resolve.proofs.Rests.{All-parts}
+use Rattle.elf_model.proofs.Listed.{All-parts}
 
 -- what holds of each element holds of the one at a place
 pub All-at : {X : Type 0} (P : X → Type 0) (xs : List X) (i : ℕ) (x : X) → All P xs → slice_get xs i ≡ Some x → P x

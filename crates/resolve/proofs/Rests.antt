@@ -1,16 +1,10 @@
 -- A claim on a whole list, as a claim on what is left of it: the steps of a tester's loop.
 use Rattle.std.proofs.Common.{◌≡◌, Bool, true, false, List, [], ◌∷◌, ◌++◌, subst, sym, ◌∙◌, true≢false}
 use Rattle.std.specs.Prelude.{◌↔◌, All, IsTrue}
-use Rattle.std.proofs.lemmas.List.Elements.{All-append, All-cons, All-head, All-nil, All-tail}
+use Rattle.std.proofs.lemmas.List.Elements.{All-append, All-cons, All-head, All-nil}
+use Rattle.elf_model.proofs.Listed.{All-parts}
 
 module _ {X : Type 0} (P : X → Type 0) where
-  -- what holds of all elements of two lists holds of each list's
-  pub All-parts : (front rest : List X) → All P (front ++ rest) → All P front × All P rest
-  All-parts [] rest all = (All-nil P, all)
-  All-parts (x ∷ front) rest all =
-      let parts = All-parts front rest (All-tail P x (front ++ rest) all) in
-      (All-cons P x front (All-head P x (front ++ rest) all) parts.0, parts.1)
-
   -- a test of one element, as one of a list
   pub told_one : (x : X) (b : Bool) → (IsTrue b ↔ P x) → IsTrue b ↔ All P (x ∷ [])
   told_one x b told = (λ t. All-cons P x [] (told.0 t) (All-nil P), λ all. told.1 (All-head P x [] all))
@@ -19,7 +13,7 @@ module _ {X : Type 0} (P : X → Type 0) where
     -- the front passes: the claim is one on the rest
     pub rest_more : b ≡ true → Q ↔ All P rest
     rest_more passes = (
-      λ q. (All-parts front rest (subst (All P) is (claim.0 q))).1,
+      λ q. (All-parts P front rest (subst (All P) is (claim.0 q))).1,
       λ all. claim.1 (subst (All P) (sym is) (All-append P front rest (told.0 passes) all)),
     )
 
@@ -27,5 +21,5 @@ module _ {X : Type 0} (P : X → Type 0) where
     pub rest_stop : b ≡ false → IsTrue false ↔ Q
     rest_stop fails = (
       λ t. absurd (true≢false (sym t)),
-      λ q. sym fails ∙ told.1 (All-parts front rest (subst (All P) is (claim.0 q))).0,
+      λ q. sym fails ∙ told.1 (All-parts P front rest (subst (All P) is (claim.0 q))).0,
     )

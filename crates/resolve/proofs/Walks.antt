@@ -26,7 +26,7 @@ abbrev pub symbols_left : ℕ → List Loaded → List SymbolOf
 symbols_left k objects = symbols_of k (drop k (loaded_views objects))
 
 -- the next object
-pub next_loaded :
+next_loaded :
     (objects : List Loaded) (k : ℕ) (d : Loaded) → k < length objects → d ≡ get_or objects k d →
     drop k (loaded_views objects) ≡ loaded_view d ∷ drop (k + 1) (loaded_views objects)
 next_loaded objects k d within is =

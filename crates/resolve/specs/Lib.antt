@@ -2,7 +2,6 @@ pub mod Defined
 pub mod Meaning
 pub mod Offered
 pub mod Places
-pub mod Plain
 pub mod Refusals
 pub mod Sound
 pub mod Views

@@ -1,14 +1,14 @@
 -- Places among the definitions: where each definition stands, and for each symbol where its name's does.
-use Rattle.std.specs.Prelude.{◌≡◌, ℕ, ◌+◌, ◌<◌, List, [], ◌∷◌, Option, Some, length, map, option_map, set, slice_index_or}
+use Rattle.std.specs.Prelude.{◌≡◌, ℕ, ◌<◌, List, [], Option, Some, length, map, option_map, set, slice_index_or}
 use Rattle.std.specs.Global.{Vec}
 use Rattle.std.specs.List.{slice_get}
 use Rattle.std.specs.Option.{option_and_then}
 use Rattle.elf_model.specs.Loading.{LoadedObject}
 use Rattle.elf_model.specs.ObjectFile.{symbols}
-use Rattle.elf_model.specs.Resolution.{SymbolOf, strong_definitions, symbols_from}
+use Rattle.elf_model.specs.Resolution.{SymbolOf, strong_definitions}
 use Rattle.resolve.specs.declared.entries.SymbolOf as code
 use Rattle.resolve.specs.Defined.{AreDefinitions}
-use Rattle.resolve.specs.Meaning.{named_at, named_of}
+use Rattle.resolve.specs.Meaning.{named_at}
 use Rattle.resolve.specs.Offered.{rows_of}
 use Rattle.resolve.specs.Views.{symbol_in, symbol_view}
 use Rattle.symbols.specs.Rows.{Rows}
@@ -34,26 +34,17 @@ abbrev pub symbol_of : List LoadedObject → ℕ → ℕ → Option SymbolOf
 symbol_of objects object number =
     option_and_then (λ o. option_map (symbol_in object o.bytes number) (slice_get (symbols o.bytes) number)) (slice_get objects object)
 
--- each definition's place stands at its object's and its own number
-pub record AreRanked (definitions : List code.SymbolOf) (ranks : List (Vec ℕ)) : Type 0 where
+-- each symbol has a place, and each definition's own stands at its object's and its own number
+pub record AreRanked (objects : List LoadedObject) (definitions : List code.SymbolOf) (places : List (Vec ℕ)) : Type 0 where
+  pub sized : map (λ row. length row.items) places ≡ map (λ o. length (symbols o.bytes)) objects
   pub at :
       (m : ℕ) (d : code.SymbolOf) → m < length definitions →
-      place_at ranks (slice_index_or definitions m d).object (slice_index_or definitions m d).number ≡ Some m
+      place_at places (slice_index_or definitions m d).object (slice_index_or definitions m d).number ≡ Some m
 
--- the definitions by name and by number: a table to which they were offered, and their places
-pub record IsIndex (objects : List LoadedObject) (definitions : List code.SymbolOf) (rows : Rows) (ranks : List (Vec ℕ)) : Type 0 where
+-- the definitions, and a table to which they were offered
+pub record IsIndex (objects : List LoadedObject) (definitions : List code.SymbolOf) (rows : Rows) : Type 0 where
   pub defined : AreDefinitions objects definitions
   pub offered : rows ≡ rows_of (strong_definitions objects)
-  pub ranked : AreRanked definitions ranks
-
--- what the names of an object's symbols mean, in their order
-abbrev pub meanings_in : List LoadedObject → ℕ → List ℕ → List (Option SymbolOf)
-meanings_in objects object bytes = map (named_of objects) (symbols_from object bytes 0 (symbols bytes))
-
--- those of the objects from number k on
-abbrev pub meanings : List LoadedObject → ℕ → List LoadedObject → List (List (Option SymbolOf))
-meanings objects k [] = []
-meanings objects k (o ∷ os) = meanings_in objects k o.bytes ∷ meanings objects (k + 1) os
 
 -- the places for the symbols of each object
 pub record ArePlaces (objects : List LoadedObject) (definitions : List code.SymbolOf) (places : List (Vec ℕ)) : Type 0 where

@@ -11,6 +11,7 @@ mod places;
 mod plain;
 mod ranks;
 mod resolved;
+mod rows;
 mod sections;
 mod soundness;
 

@@ -4,7 +4,7 @@ ghost use Rattle.std.specs.Str.{bytes_eq};
 ghost use Rattle.elf_model.specs.Profile.{HasPlainNames};
 ghost use Rattle.elf_read.specs.Names.{name_views};
 ghost use Rattle.search.specs.Views.{loaded_views};
-ghost use Rattle.resolve.specs.Plain.{AreNamesOf, IsAmong, is_among, used_names};
+ghost use Rattle.elf_model.specs.UsedNames.{AreNamesOf, IsAmong, is_among, used_names};
 ghost use Rattle.resolve.specs.Views.{symbol_views};
 
 use crate::defining::strong_definitions;

@@ -1,11 +1,12 @@
 //! The place of each definition, to be found by its object's and its own number.
-ghost use Rattle.std.specs.Prelude.{◌≡◌, IfOk, length, map, set};
+ghost use Rattle.std.specs.Prelude.{◌≡◌, IfOk, length, map};
 ghost use Rattle.elf_model.specs.ObjectFile.{symbols};
 ghost use Rattle.search.specs.Views.{loaded_views};
 ghost use Rattle.resolve.specs.Defined.{AreDefinitions};
-ghost use Rattle.resolve.specs.Places.{AreRanked, with_place};
+ghost use Rattle.resolve.specs.Places.{AreRanked};
 
 use crate::entries::SymbolOf;
+use crate::rows::put;
 use search::Loaded;
 use std::alloc::{AllocError, Global};
 
@@ -21,33 +22,14 @@ fn blank_rows(alloc: Global, objects: &[Loaded<'_>]) -> Result<Vec<Vec<usize>>, 
     Ok(rows)
 }
 
-/// Writes a place at a number, where the row has it.
-fn put_in(row: &mut Vec<usize>, number: usize, place: usize)
-    ensures { row.new.items ≡ set row.old.items number place }
-{
-    if let Some(cell) = row.get_mut(number) {
-        *cell = place;
-    }
-}
-
-/// Writes the place for symbol `number` of an object, where the rows have it.
-fn put(rows: &mut Vec<Vec<usize>>, object: usize, number: usize, place: usize)
-    ensures { map (λ row. row.items) rows.new.items ≡ with_place object number place (map (λ row. row.items) rows.old.items) }
-{
-    if object >= rows.len() {
-        return;
-    }
-    put_in(&mut rows[object], number, place);
-}
-
-/// The place of each definition, in rows for the symbols of each object.
+/// The place of each definition, in rows for the symbols of each object, and 0 for every other symbol.
 pub fn ranks_of(
     alloc: Global,
     objects: &[Loaded<'_>],
     definitions: &[SymbolOf<'_>],
 ) -> Result<Vec<Vec<usize>>, AllocError>
     requires { AreDefinitions (loaded_views objects.now) definitions.now }
-    ensures { IfOk result (λ v. AreRanked definitions.now v.items) }
+    ensures { IfOk result (λ v. AreRanked (loaded_views objects.now) definitions.now v.items) }
 {
     let mut ranks = blank_rows(alloc, objects)?;
     for (place, symbol) in definitions.iter().enumerate() {

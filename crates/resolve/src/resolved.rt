@@ -16,8 +16,9 @@ ghost use Rattle.symbols.specs.Rows.{no_rows};
 use crate::defining::define;
 use crate::entries::{SymbolOf, is_local, is_undefined, symbol_in};
 use crate::faults::ResolveFault;
-use crate::places::{Index, place_at, places_of};
+use crate::places::{Index, write_places};
 use crate::ranks::ranks_of;
+use crate::rows::place_at;
 use crate::sections::is_in_thread_section;
 use search::Loaded;
 use std::alloc::Global;
@@ -66,14 +67,13 @@ pub fn resolve_over<'b, 'a, T: NameTable<'a> + Drop>(
 {
     let mut offered = table;
     let definitions = define(alloc, objects, &mut offered)?;
-    let ranks = ranks_of(alloc, objects, &definitions)?;
+    let mut places = ranks_of(alloc, objects, &definitions)?;
     let index = Index {
         objects,
         definitions: &definitions,
         table: &offered,
-        ranks: &ranks,
     };
-    let places = places_of(alloc, &index)?;
+    write_places(&index, &mut places);
     Ok(Resolved {
         objects,
         definitions,

@@ -1,14 +1,13 @@
 //! The sections in which symbols are defined.
 ghost use Rattle.std.specs.Prelude.{◌≡◌};
 ghost use Rattle.std.specs.List.{slice_get};
-ghost use Rattle.elf_model.specs.Pieces.{is_alloc, is_thread_local};
 ghost use Rattle.elf_model.specs.Resolution.{is_in_thread_section, sections_of_object};
 ghost use Rattle.search.specs.Views.{loaded_views};
 ghost use Rattle.resolve.specs.Sound.{section_by};
 ghost use Rattle.resolve.specs.Views.{symbol_view};
 
 use crate::entries::{SymbolOf, is_undefined};
-use elf_model::{SHF_ALLOC, SHF_TLS, SectionHeader, Symbol};
+use elf_model::{SectionHeader, Symbol};
 use search::Loaded;
 
 /// The sections of the object that has a number; none where there is no such object.
@@ -33,25 +32,12 @@ pub fn section_of(objects: &[Loaded<'_>], number: usize, entry: &Symbol) -> Opti
     sections.get(entry.st_shndx as usize).copied()
 }
 
-/// Whether a section is kept.
-pub fn is_alloc(section: &SectionHeader) -> bool
-    ensures { result ≡ is_alloc section.now }
-{
-    section.sh_flags & SHF_ALLOC != 0
-}
-
-fn is_thread_local(section: &SectionHeader) -> bool
-    ensures { result ≡ is_thread_local section.now }
-{
-    section.sh_flags & SHF_TLS != 0
-}
-
 /// Whether a symbol stands in a section with SHF_TLS.
 pub fn is_in_thread_section(objects: &[Loaded<'_>], symbol: &SymbolOf<'_>) -> bool
     ensures { result ≡ is_in_thread_section (loaded_views objects.now) (symbol_view symbol.now) }
 {
     match section_of(objects, symbol.object as usize, &symbol.entry) {
-        Some(section) => is_thread_local(&section),
+        Some(section) => section.is_thread_local(),
         None => false,
     }
 }

@@ -7,7 +7,7 @@ ghost use Rattle.resolve.specs.Sound.{StandsWell};
 ghost use Rattle.resolve.specs.Views.{symbol_in};
 
 use crate::entries::name_of;
-use crate::sections::{is_alloc, section_of};
+use crate::sections::section_of;
 use elf_model::{SectionHeader, Symbol};
 use elf_read::Object;
 use search::Loaded;
@@ -23,7 +23,7 @@ fn is_visible(entry: &Symbol) -> bool
 fn stands_well(entry: &Symbol, section: &SectionHeader) -> bool
     ensures { IsTrue result ↔ StandsWell entry.now section.now }
 {
-    if is_alloc(section) {
+    if section.is_alloc() {
         return entry.st_value <= section.sh_size;
     }
     !is_visible(entry)

@@ -2,7 +2,7 @@
 use Rattle.std.proofs.Common.{◌≡◌, ◌≢◌, ℕ, suc, ◌+◌, ◌<◌, Bool, false, List, [], ◌∷◌, ◌++◌, length, get_or, drop, drop-cons, refl, ap, ◌∙◌, subst, sym, arith, append_assoc, length-append}
 use Rattle.std.specs.Prelude.{All, Any, IfErr, IsTrue, OnOk, Result, Ok, Err, map}
 use Rattle.std.proofs.Math.Seq.{get_or-append_seam}
-use Rattle.std.proofs.lemmas.List.{get_or-map, length-map, map-append}
+use Rattle.std.proofs.lemmas.List.{map-append}
 use Rattle.std.proofs.lemmas.List.Elements.{All-map, All-push}
 use Rattle.command.specs.Views.{item_of}
 use Rattle.command.specs.declared.items.Item.{Item}
@@ -12,6 +12,7 @@ use Rattle.elf_model.specs.Loading.{AreFilesThere, AreObjects, HasFile, LoadedOb
 use Rattle.elf_model.specs.ObjectFile.{IsObject, ObjFaultStands}
 use Rattle.elf_model.specs.declared.faults.ObjFault.{ObjFault}
 use Rattle.elf_model.specs.declared.faults.ObjFault.TheVariants as fault
+use Rattle.elf_model.proofs.Listed.{All-unmap}
 use Rattle.search.specs.Search.{Becomes, ItemsFail, LoadFails, ReadFails, loaded_item}
 use Rattle.search.specs.Views.{loaded_view, loaded_views}
 use Rattle.search.specs.declared.faults.SearchFault.{SearchFault}
@@ -81,10 +82,6 @@ objects_more objects new object o is grown one all =
     subst AreObjects (sym views)
     (All-push (λ (x : LoadedObject). IsObject x.bytes) (loaded_views objects) (loaded_view object) all
     (subst (λ (x : LoadedObject). IsObject x.bytes) (sym is) one))
-
-All-unmap : {X Y : Type 0} (P : Y → Type 0) (f : X → Y) (xs : List X) → All P (map f xs) → All (λ x. P (f x)) xs
-All-unmap P f xs all k d within =
-    subst P (get_or-map f xs k d (f d) within) (all k (f d) (let n = length-map xs f in omega (arith, n, within)))
 
 -- The plan's own items, as the definitions see them.
 pub there_iff :

@@ -1,3 +1,2 @@
-pub mod FileIndex
 pub mod Search
 pub mod Views

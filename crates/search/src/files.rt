@@ -4,7 +4,7 @@ ghost use Rattle.std.specs.Option.{option_or};
 ghost use Rattle.std.specs.Str.{bytes_eq};
 ghost use Rattle.elf_model.specs.Files.{files_of};
 ghost use Rattle.elf_model.specs.Loading.{file_named};
-ghost use Rattle.search.specs.FileIndex.{IsIndex, found};
+ghost use Rattle.elf_model.specs.FileIndex.{IsIndex, found};
 
 use elf_model::InputFile;
 use std::alloc::{AllocError, Global};
@@ -21,7 +21,7 @@ pub struct FileIndex<'a> {
 impl<'a> Model for FileIndex<'a> {
     ghost use Rattle.std.specs.Prelude.{List};
     ghost use Rattle.elf_model.specs.Files.{File, files_of};
-    ghost use Rattle.search.specs.FileIndex.{IsIndex};
+    ghost use Rattle.elf_model.specs.FileIndex.{IsIndex};
 
     ghost Value = { List File };
 

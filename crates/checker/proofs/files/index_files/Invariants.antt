@@ -2,7 +2,7 @@ use Rattle.std.proofs.Common.{◌≡◌, List, ℕ, drop}
 use Rattle.std.specs.Option.{option_or}
 use Rattle.elf_model.specs.Files.{files_of}
 use Rattle.elf_model.specs.Loading.{file_named}
-use Rattle.checker.specs.FileIndex.{found}
+use Rattle.elf_model.specs.FileIndex.{found}
 use Rattle.checker.proofs.files.index_files.Given as goal
 
 abbrev pub invariant-loop-file : goal.invariant-loop-file

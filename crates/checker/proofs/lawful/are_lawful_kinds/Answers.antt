@@ -2,7 +2,7 @@ use Rattle.std.proofs.lemmas.List.Elements.{All-map}
 use Rattle.elf_model.specs.Pieces as pieces
 use Rattle.elf_model.specs.Pieces.{IsLawfulKind}
 use Rattle.checker.specs.Views.{piece_view}
-use Rattle.elf_model.proofs.Rests.{All-unmap}
+use Rattle.elf_model.proofs.Listed.{All-unmap}
 use Rattle.checker.proofs.lawful.are_lawful_kinds.Goals as goal
 
 pub returns : goal.returns

@@ -1,4 +1,4 @@
-use Rattle.checker.proofs.PlainNames.{name_added}
+use Rattle.elf_model.proofs.UsedNames.{name_added}
 use Rattle.checker.proofs.plain.add_name.Goals as goal
 
 pub returns : goal.returns

@@ -1,6 +1,6 @@
 use Rattle.std.proofs.Common.{drop}
 use Rattle.std.specs.Prelude.{◌↔◌, All}
-use Rattle.checker.specs.Plain.{IsAmong}
+use Rattle.elf_model.specs.UsedNames.{IsAmong}
 use Rattle.checker.proofs.plain.are_among.Given as goal
 
 abbrev pub invariant-loop-name : goal.invariant-loop-name

@@ -1,7 +1,7 @@
 use Rattle.std.proofs.Common.{List, ◌∙◌, ap, subst}
 use Rattle.std.specs.Prelude.{filter}
 use Rattle.elf_model.specs.Resolution.{SymbolOf, is_strong}
-use Rattle.checker.specs.Plain.{AreNamesOf}
+use Rattle.elf_model.specs.UsedNames.{AreNamesOf}
 use Rattle.checker.specs.Views.{symbol_views}
 use Rattle.checker.specs.declared.things.SymbolOf as code
 use Rattle.checker.proofs.plain.defined_names.Goals as goal

@@ -2,9 +2,9 @@ use Rattle.std.proofs.Common.{◌≡◌, ◌∙◌, [], List, ap, length, refl, 
 use Rattle.std.specs.Prelude.{◌↔◌, All, IsTrue}
 use Rattle.elf_model.specs.Resolution.{strong_definitions}
 use Rattle.elf_read.specs.Names.{name_views}
-use Rattle.checker.specs.Plain.{IsAmong}
+use Rattle.elf_model.specs.UsedNames.{IsAmong}
 use Rattle.checker.specs.Views.{loaded_views}
-use Rattle.checker.proofs.PlainNames.{Name, none_left, plain_among, plain_unused}
+use Rattle.elf_model.proofs.UsedNames.{Name, none_left, plain_among, plain_unused}
 use Rattle.checker.proofs.plain.have_plain_names.Goals as goal
 
 pub returns-then-is_empty : goal.returns-then-is_empty

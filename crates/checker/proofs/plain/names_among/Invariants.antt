@@ -1,7 +1,7 @@
 use Rattle.std.proofs.Common.{◌≡◌, ◌||◌, ℕ, List, drop}
 use Rattle.std.specs.List.{list_any}
 use Rattle.elf_model.specs.Resolution.{has_name}
-use Rattle.checker.specs.Plain.{is_among}
+use Rattle.elf_model.specs.UsedNames.{is_among}
 use Rattle.checker.specs.Views.{symbol_views}
 use Rattle.checker.proofs.plain.names_among.Given as goal
 

@@ -4,8 +4,9 @@ use Rattle.std.proofs.lemmas.Bool.{false≢true}
 use Rattle.elf_model.proofs.FlatRelocations.{entry_end, entry_more, entry_skip, left_of_entries}
 use Rattle.elf_model.specs.Relocation.{is_some_kind, relocation_of}
 use Rattle.elf_model.specs.declared.records.Rela.{Rela}
-use Rattle.checker.specs.Fields.{IsRight}
-use Rattle.checker.proofs.RightParts.{fields_end, fields_same, one_more, one_stop, part_end, part_same, push_field}
+use Rattle.elf_model.proofs.Mapped.{push_mapped}
+use Rattle.checker.specs.Fields.{IsRight, field_of}
+use Rattle.checker.proofs.RightParts.{fields_end, fields_same, one_more, one_stop, part_end, part_same}
 use Rattle.checker.proofs.rows.add_fields.Goals as goal
 
 null_rela : Rela
@@ -57,7 +58,7 @@ loop-i-preserved c =
     let s = rw c.in-Some.is at c.right_field.ensures in
     record {
       fields =
-          push_field c.args.bindings.now.objects c.args.bindings.now.placed c.loop-i.fields.items c.push.new.self.items c.in-Some.field r (left c.loop-i.i)
+          push_mapped (field_of c.args.bindings.now.objects c.args.bindings.now.placed) c.loop-i.fields.items c.push.new.self.items c.in-Some.field r (left c.loop-i.i)
           (left (c.loop-i.i + 1)) _ c.in_ok-push.ensures.items s.1 parts c.loop-i.invariant.fields;
       right = one_more P (All P (map make (filter is_some_kind es))) (left c.loop-i.i) r (left (c.loop-i.i + 1)) parts s.0 c.loop-i.invariant.right;
     }

@@ -9,7 +9,7 @@ use Rattle.checker.specs.Fields.{AreRight, IsRowOf}
 use Rattle.checker.specs.Views.{loaded_view, loaded_views}
 use Rattle.checker.specs.declared.fields.Field.{Field}
 use Rattle.checker.proofs.ByIndex.{by_index_more}
-use Rattle.checker.proofs.ObjectFields.{objects_apart}
+use Rattle.elf_model.proofs.RelocationFields.{objects_apart}
 use Rattle.checker.proofs.RightParts.{right_end, right_more, right_stop}
 use Rattle.checker.proofs.rows.all_rows.Goals as goal
 

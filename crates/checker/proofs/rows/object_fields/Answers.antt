@@ -7,9 +7,10 @@ use Rattle.elf_model.proofs.FlatRelocations.{left_of_sections, section_end, sect
 use Rattle.elf_model.specs.ObjectFile.{null_section}
 use Rattle.elf_model.specs.Relocation.{is_kept_rela, relocations_from, relocations_in}
 use Rattle.elf_model.specs.declared.records.SectionHeader.{SectionHeader}
+use Rattle.elf_model.proofs.Mapped.{append_mapped}
 use Rattle.checker.specs.Fields.{IsRight, field_of}
 use Rattle.checker.specs.declared.fields.Field.{Field}
-use Rattle.checker.proofs.RightParts.{append_fields, fields_end, fields_same, part_all, part_end, part_more, part_same, part_stop}
+use Rattle.checker.proofs.RightParts.{fields_end, fields_same, part_all, part_end, part_more, part_same, part_stop}
 use Rattle.checker.proofs.rows.object_fields.Goals as goal
 
 pub loop-i-init : goal.loop-i-init
@@ -78,7 +79,7 @@ loop-i-preserved c =
     let yes_right = c.if-not-right.false in
     record {
       fields =
-          append_fields c.args.bindings.now.objects c.args.bindings.now.placed c.loop-i.fields.items c.add_section.new.fields.items here
+          append_mapped (field_of c.args.bindings.now.objects c.args.bindings.now.placed) c.loop-i.fields.items c.add_section.new.fields.items here
           (left_of_sections n b hs i) (left_of_sections n b hs (i + 1)) _ (c.in_ok-right.ensures.fields yes_right) parts c.loop-i.invariant.fields;
       right =
           part_more P (All P (relocations_from n b)) (left_of_sections n b hs i) here (left_of_sections n b hs (i + 1)) parts

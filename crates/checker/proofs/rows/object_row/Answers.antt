@@ -3,7 +3,8 @@ use Rattle.std.specs.Prelude.{All, AllPairs}
 use Rattle.std.proofs.lemmas.Bool.{false≢true}
 use Rattle.elf_model.specs.Relocation.{relocations_from}
 use Rattle.checker.specs.Fields.{AreApart, IsNarrow}
-use Rattle.checker.proofs.ObjectFields.{apart_of_fields, fields_of_apart, narrow_fields, own_object}
+use Rattle.elf_model.proofs.RelocationFields.{own_object}
+use Rattle.checker.proofs.ObjectFields.{apart_of_fields, fields_of_apart, narrow_fields}
 use Rattle.checker.proofs.RowFacts.{row_of_object}
 use Rattle.checker.proofs.rows.object_row.Goals as goal
 

@@ -9,4 +9,4 @@ pub returns-clause-sizes : goal.returns-clause-sizes
 returns-clause-sizes c =
     subst (λ (ps : List pieces.Piece). All (λ p. length p.bytes ≤ p.size) ps)
     (sym (objects_end c.loop-k.found.items c.args.objects.now c.loop-k.k _ c.loop-k-test.false c.loop-k.invariant))
-    (all_short 0 (loaded_views c.args.objects.now))
+    (all_short (loaded_views c.args.objects.now))

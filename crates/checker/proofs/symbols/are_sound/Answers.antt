@@ -3,7 +3,7 @@ use Rattle.std.specs.Prelude.{All}
 use Rattle.std.proofs.lemmas.List.Elements.{All-map}
 use Rattle.elf_model.specs.Resolution.{IsSoundSymbol}
 use Rattle.checker.specs.Views.{loaded_views, symbol_view}
-use Rattle.elf_model.proofs.Rests.{All-unmap}
+use Rattle.elf_model.proofs.Listed.{All-unmap}
 use Rattle.checker.proofs.symbols.are_sound.Goals as goal
 
 pub returns : goal.returns

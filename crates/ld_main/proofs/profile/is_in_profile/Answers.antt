@@ -4,8 +4,8 @@ use Rattle.elf_model.specs.Command.{Plan}
 use Rattle.elf_model.specs.Profile.{IsInProfile, IsPlainObject}
 use Rattle.command.specs.Views.{item_of}
 use Rattle.command.specs.declared.items.Item.{Item}
-use Rattle.ld_main.proofs.ProfileLemmas.{fails_by, in_profile, profile_items, profile_objects}
-use Rattle.search.specs.Views.{loaded_views}
+use Rattle.command.proofs.ProfileLemmas.{fails_by, in_profile, profile_items, profile_objects}
+use Rattle.search.specs.Views.{loaded_view, loaded_views}
 use Rattle.search.specs.declared.loading.Loaded.{Loaded}
 use Rattle.ld_main.proofs.profile.is_in_profile.Goals as goal
 
@@ -15,18 +15,18 @@ returns-then-not-have_no_archive c =
     let items = c.deref.result.now in
     let objects = c.args.objects.now in
     fails_by (All (λ (i : Item). i.archive ≡ false) items) (IsInProfile c.args.plan.now (loaded_views objects)) c.have_no_archive.result
-    c.have_no_archive.ensures c.if-not-have_no_archive.true (profile_items c.args.plan.now items objects same)
+    c.have_no_archive.ensures c.if-not-have_no_archive.true (profile_items loaded_view c.args.plan.now items objects same)
 
 pub returns-then-not-are_plain_objects : goal.returns-then-not-are_plain_objects
 returns-then-not-are_plain_objects c =
     let same = ap (map item_of) c.deref.ensures.value ∙ ap (λ (p : Plan). p.items) c.plan.view_is in
     let objects = c.args.objects.now in
     fails_by (All (λ (o : Loaded). IsPlainObject o.object) objects) (IsInProfile c.args.plan.now (loaded_views objects)) c.are_plain_objects.result
-    c.are_plain_objects.ensures c.if-not-are_plain_objects.true (profile_objects c.args.plan.now c.deref.result.now objects same)
+    c.are_plain_objects.ensures c.if-not-are_plain_objects.true (profile_objects loaded_view c.args.plan.now c.deref.result.now objects same)
 
 pub returns : goal.returns
 returns c =
     let same = ap (map item_of) c.deref.ensures.value ∙ ap (λ (p : Plan). p.items) c.plan.view_is in
-    in_profile c.args.plan.now c.deref.result.now c.args.objects.now same
+    in_profile loaded_view c.args.plan.now c.deref.result.now c.args.objects.now same
     (c.have_no_archive.ensures.0 c.if-not-have_no_archive.false) (c.are_plain_objects.ensures.0 c.if-not-are_plain_objects.false)
     c.in_ok-named.named c.in_ok-named.ensures

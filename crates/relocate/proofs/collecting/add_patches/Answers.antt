@@ -5,8 +5,9 @@ use Rattle.elf_model.proofs.FlatRelocations.{entry_more, left_of_entries}
 use Rattle.elf_model.specs.Relocation.{Relocation, is_some_kind, relocation_kind, relocation_of}
 use Rattle.relocate.specs.declared.faults.RelocFault.TheVariants as error
 use Rattle.elf_model.specs.declared.records.Rela.{Rela}
-use Rattle.relocate.proofs.Fitted.{fit_part, fitting_fails, known_part, one_fails, one_fits, push_patch}
-use Rattle.relocate.specs.Values.{placed_in}
+use Rattle.relocate.proofs.Fitted.{fit_part, fitting_fails, known_part, one_fails, one_fits}
+use Rattle.elf_model.proofs.Mapped.{push_mapped}
+use Rattle.relocate.specs.Values.{patch_of, placed_in}
 use Rattle.relocate.proofs.collecting.add_patches.Goals as goal
 
 null_rela : Rela
@@ -52,7 +53,7 @@ loop-i-preserved c =
     let parts = entry_more c.args.number c.args.object.now c.args.target es c.loop-i.i null_rela c.loop-i-test.true kept in
     record {
       patches =
-          push_patch L ps c.loop-i.row.items c.push.new.self.items c.in-Some.patch r (left c.loop-i.i) (left (c.loop-i.i + 1)) _
+          push_mapped (patch_of L ps) c.loop-i.row.items c.push.new.self.items c.in-Some.patch r (left c.loop-i.i) (left (c.loop-i.i + 1)) _
           c.in_ok-push.ensures.items c.in-Some.ensures.1 parts c.loop-i.invariant.patches;
       leaves =
           fit_part L ps (map make (filter is_some_kind es)) (left c.loop-i.i) (r ∷ []) (left (c.loop-i.i + 1)) parts

@@ -2,7 +2,7 @@ use Rattle.std.proofs.Common.{Some, ap, sym, ◌∙◌}
 use Rattle.std.specs.Prelude.{option_map}
 use Rattle.relocate.specs.Kinds.{kind_view}
 use Rattle.relocate.proofs.KindRows.{row_found, row_view}
-use Rattle.relocate.proofs.KindWidths.{kind_width}
+use Rattle.elf_model.proofs.KindWidths.{kind_width}
 use Rattle.relocate.proofs.kinds.kind_of.Goals as goal
 
 pub returns-in_err-row-clause-kind : goal.returns-in_err-row-clause-kind

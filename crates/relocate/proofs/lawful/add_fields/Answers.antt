@@ -5,7 +5,8 @@ use Rattle.elf_model.proofs.FlatRelocations.{entry_more, left_of_entries}
 use Rattle.elf_model.specs.Relocation.{is_some_kind, relocation_of}
 use Rattle.elf_model.specs.declared.records.Rela.{Rela}
 use Rattle.relocate.proofs.Judged.{exit_fails, fail_first, leaves_fail, leaves_one}
-use Rattle.relocate.proofs.ObjectFields.{push_field}
+use Rattle.elf_model.proofs.Mapped.{push_mapped}
+use Rattle.relocate.specs.Fields.{field_of}
 use Rattle.relocate.proofs.lawful.add_fields.Goals as goal
 
 null_rela : Rela
@@ -39,7 +40,7 @@ loop-i-preserved c =
     let parts = entry_more c.args.number c.args.object.now c.args.target es c.loop-i.i null_rela c.loop-i-test.true kept in
     record {
       fields =
-          push_field c.loop-i.fields.items c.push.new.self.items c.in_ok-field.field r (left c.loop-i.i) (left (c.loop-i.i + 1)) _
+          push_mapped field_of c.loop-i.fields.items c.push.new.self.items c.in_ok-field.field r (left c.loop-i.i) (left (c.loop-i.i + 1)) _
           c.in_ok-push.ensures.items c.in_ok-field.ensures.field parts c.loop-i.invariant.fields;
       leaves = leaves_one L (map make (filter is_some_kind es)) (left c.loop-i.i) r (left (c.loop-i.i + 1)) parts c.in_ok-field.ensures.lawful c.loop-i.invariant.leaves;
     }

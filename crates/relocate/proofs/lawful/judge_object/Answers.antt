@@ -2,7 +2,8 @@ use Rattle.std.proofs.Common.{subst, sym, ◌∙◌}
 use Rattle.std.specs.Prelude.{All, AllPairs}
 use Rattle.std.proofs.lemmas.Bool.{false≢true}
 use Rattle.elf_model.specs.Relocation.{relocations_from}
-use Rattle.relocate.proofs.ObjectFields.{apart_of_fields, fields_of_apart, own_object, some_fields}
+use Rattle.elf_model.proofs.RelocationFields.{own_object}
+use Rattle.relocate.proofs.ObjectFields.{apart_of_fields, fields_of_apart, some_fields}
 use Rattle.relocate.specs.Fields.{AreApart, IsSome}
 use Rattle.relocate.proofs.lawful.judge_object.Goals as goal
 

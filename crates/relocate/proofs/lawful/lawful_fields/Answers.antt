@@ -8,7 +8,7 @@ use Rattle.elf_model.specs.ObjectFile.{null_section}
 use Rattle.elf_model.specs.Relocation.{is_kept_rela, relocations_from, relocations_in}
 use Rattle.elf_model.specs.declared.records.SectionHeader.{SectionHeader}
 use Rattle.relocate.proofs.Judged.{exit_fails, leaves_all, leaves_fail, leaves_part}
-use Rattle.relocate.proofs.ObjectFields.{append_fields}
+use Rattle.elf_model.proofs.Mapped.{append_mapped}
 use Rattle.relocate.specs.Fields.{field_of}
 use Rattle.relocate.specs.declared.fields.Field.{Field}
 use Rattle.relocate.proofs.lawful.lawful_fields.Goals as goal
@@ -57,7 +57,7 @@ loop-i-preserved c =
     let parts = section_more n b hs i null_section c.loop-i-test.true kept in
     record {
       fields =
-          append_fields c.loop-i.fields.items c.add_section.new.fields.items here (left_of_sections n b hs i) (left_of_sections n b hs (i + 1)) _
+          append_mapped field_of c.loop-i.fields.items c.add_section.new.fields.items here (left_of_sections n b hs i) (left_of_sections n b hs (i + 1)) _
           c.in_ok-add_section.ensures.fields parts c.loop-i.invariant.fields;
       leaves =
           leaves_part L (relocations_from n b) (left_of_sections n b hs i) here (left_of_sections n b hs (i + 1)) parts

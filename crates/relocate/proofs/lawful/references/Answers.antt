@@ -5,7 +5,7 @@ use Rattle.elf_model.specs.Loading.{LoadedObject}
 use Rattle.elf_model.specs.Relocation.{relocations, relocations_from}
 use Rattle.search.specs.Views.{loaded_view, loaded_views}
 use Rattle.relocate.proofs.Judged.{exit_fails, remains_fail, remains_part}
-use Rattle.relocate.proofs.ObjectFields.{objects_apart}
+use Rattle.elf_model.proofs.RelocationFields.{objects_apart}
 use Rattle.relocate.specs.References.{AreLawful, RelocationsFail}
 use Rattle.relocate.proofs.lawful.references.Goals as goal
 

@@ -1,8 +1,8 @@
 use Rattle.std.proofs.Common.{refl, arith}
 use Rattle.std.specs.Prelude.{All}
 use Rattle.elf_model.proofs.Rests.{all_end, all_more}
-use Rattle.resolve.specs.Plain.{IsAmong}
-use Rattle.resolve.proofs.PlainNames.{Name}
+use Rattle.elf_model.specs.UsedNames.{IsAmong}
+use Rattle.elf_model.proofs.UsedNames.{Name}
 use Rattle.resolve.proofs.plain.are_among.Goals as goal
 
 pub loop-name-preserved : goal.loop-name-preserved

@@ -2,10 +2,10 @@ use Rattle.std.proofs.Common.{◌≡◌, ◌∙◌, [], List, ap, length, refl, 
 use Rattle.std.specs.Prelude.{◌↔◌, All, IsTrue}
 use Rattle.elf_read.specs.Names.{name_views}
 use Rattle.search.specs.Views.{loaded_views}
-use Rattle.resolve.specs.Plain.{AreNamesOf, IsAmong}
+use Rattle.elf_model.specs.UsedNames.{AreNamesOf, IsAmong}
 use Rattle.resolve.specs.Views.{symbol_views}
 use Rattle.resolve.specs.declared.entries.SymbolOf as code
-use Rattle.resolve.proofs.PlainNames.{Name, none_left, plain_among, plain_unused}
+use Rattle.elf_model.proofs.UsedNames.{Name, none_left, plain_among, plain_unused}
 use Rattle.resolve.proofs.plain.have_plain_names.Goals as goal
 
 pub returns-then-is_empty : goal.returns-then-is_empty

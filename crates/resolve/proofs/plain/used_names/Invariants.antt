@@ -1,7 +1,7 @@
 use Rattle.std.proofs.Common.{◌≡◌, ◌++◌, drop}
 use Rattle.elf_read.specs.Names.{name_views}
 use Rattle.search.specs.Views.{loaded_views}
-use Rattle.resolve.specs.Plain.{used_names}
+use Rattle.elf_model.specs.UsedNames.{used_names}
 use Rattle.resolve.proofs.plain.used_names.Given as goal
 
 abbrev pub invariant-loop-loaded : goal.invariant-loop-loaded

@@ -1,6 +1,6 @@
 -- The names of definitions in a set, and the linker's names that objects use.
-use Rattle.std.proofs.Common.{◌≡◌, ℕ, Bool, true, false, cond, ◌||◌, List, [], ◌∷◌, ◌++◌, length, refl, sym, ◌∙◌, ap, subst, true≢false, arith}
-use Rattle.std.specs.Prelude.{◌≢◌, ◌↔◌, All, IsTrue, None, Some, find}
+use Rattle.std.proofs.Common.{◌≡◌, ℕ, Bool, true, false, cond, ◌||◌, List, [], ◌∷◌, length, refl, sym, ◌∙◌, ap, subst, true≢false, arith}
+use Rattle.std.specs.Prelude.{◌≢◌, ◌↔◌, All, IsTrue, None, Some, find, map}
 use Rattle.std.specs.BTreeSet.{BTreeSet, UpdatesBy}
 use Rattle.std.specs.Borrow.{Bor}
 use Rattle.std.specs.Cmp.Lexicographic.{slice_cmp}
@@ -13,9 +13,8 @@ use Rattle.std.proofs.lemmas.Map.Text.{is_eq-slice_cmp}
 use Rattle.elf_model.specs.Loading.{LoadedObject}
 use Rattle.elf_model.specs.Profile.{HasPlainNames, linker_names}
 use Rattle.elf_model.specs.Resolution.{SymbolOf, chosen, has_name, strong_definitions}
-use Rattle.elf_read.specs.Names.{name_views}
-use Rattle.elf_model.proofs.Rests.{All-unmap}
-use Rattle.checker.specs.Plain.{AreNamesOf, IsAmong, is_among, used_names}
+use Rattle.elf_model.specs.UsedNames.{AreNamesOf, IsAmong, is_among, used_names}
+use Rattle.elf_model.proofs.Listed.{All-parts, All-unmap}
 
 abbrev pub Name : Type 0
 Name = Bor (List ℕ)
@@ -53,13 +52,6 @@ any_find {X} p (x ∷ xs) any none = by (p x) refl (any_find p xs)
     by true e rest = let f : Some x ≡ None = sym (ap (λ b. cond b (Some x) (find p xs)) e) ∙ none in cc
     by false e rest =
         rest (sym (ap (λ b. b || list_any p xs) e) ∙ any) (sym (ap (λ b. cond b (Some x) (find p xs)) e) ∙ none)
-
--- what holds of all elements of two lists holds of each list's
-All-parts : {X : Type 0} (P : X → Type 0) (front rest : List X) → All P (front ++ rest) → All P front × All P rest
-All-parts P [] rest all = (All-nil P, all)
-All-parts P (x ∷ front) rest all =
-    let parts = All-parts P front rest (All-tail P x (front ++ rest) all) in
-    (All-cons P x front (All-head P x (front ++ rest) all) parts.0, parts.1)
 
 -- what holds of the elements of each list holds of those of all
 module _ {X Y : Type 0} (P : Y → Type 0) (f : X → List Y) where
@@ -102,7 +94,7 @@ module _ (L : List LoadedObject) where
 
     -- each used name is among the names of the definitions
     pub plain_among :
-        (used : List Name) (b : Bool) → name_views used ≡ used_names L →
+        (used : List Name) (b : Bool) → map (λ (n : Name). n.now) used ≡ used_names L →
         (IsTrue b ↔ All (λ n. IsAmong names n.now) used) → IsTrue b ↔ All (HasPlainNames L) L
     plain_among used b same told = (
       λ t. plain_from_used (subst (All IsDefined) same (All-map IsDefined (λ (n : Name). n.now) used (λ k d within. defined _ (told.0 t k d within)))),

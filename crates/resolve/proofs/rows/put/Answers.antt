@@ -1,6 +1,6 @@
 use Rattle.std.proofs.Common.{arith}
 use Rattle.resolve.proofs.Cells.{row_written}
-use Rattle.resolve.proofs.ranks.put.Goals as goal
+use Rattle.resolve.proofs.rows.put.Goals as goal
 
 pub returns : goal.returns
 returns c =

@@ -1,7 +1,7 @@
 -- Each kind's field has 1 to 8 bytes.
 use Rattle.std.proofs.Common.{◌≡◌, ℕ, ◌<◌, ◌≤◌, ◌==◌, ◌&&◌, Bool, true, false, cond, List, [], ◌∷◌, Option, Some, None, nat_le, nat_lt, refl, subst, sym, arith}
 use Rattle.std.specs.Prelude.{IfSome, find}
-use Rattle.std.proofs.lemmas.Bool.{false≢true}
+use Rattle.std.proofs.lemmas.Bool.{and_parts}
 use Rattle.std.proofs.lemmas.Bool.Decides.{nat_tests}
 use Rattle.elf_model.specs.Relocation.{Kind, kind_of, kinds}
 
@@ -12,15 +12,11 @@ narrow_all : List Kind → Bool
 narrow_all [] = true
 narrow_all (k ∷ ks) = is_narrow k && narrow_all ks
 
-pub both_true : (a b : Bool) → a && b ≡ true → (a ≡ true) × (b ≡ true)
-both_true true b e = (refl, e)
-both_true false b e = absurd (false≢true e)
-
 found_narrow : (p : Kind → Bool) (ks : List Kind) → narrow_all ks ≡ true → IfSome (find p ks) (λ k. is_narrow k ≡ true)
 unfolding narrow_all
 found_narrow p [] e = tt
 found_narrow p (k ∷ ks) e =
-    let two = both_true (is_narrow k) (narrow_all ks) e in
+    let two = and_parts (is_narrow k) (narrow_all ks) e in
     elim (p k) as (λ b. IfSome (cond b (Some k) (find p ks)) (λ j. is_narrow j ≡ true)) [
       | true ↦ two.0
       | false ↦ found_narrow p ks two.1
