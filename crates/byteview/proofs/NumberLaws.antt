@@ -1,8 +1,7 @@
 -- The laws of numbers in bytes that the crates above use.
-use Rattle.std.proofs.Common.{◌≡◌, ℕ, zero, suc, ◌+◌, ◌-◌, ◌*◌, ◌/◌, ◌%◌, ◌^◌, ◌<◌, List, [], ◌∷◌, ◌++◌, length, take, drop, slice_index, refl, ap, sym, ◌∙◌, ◌≤◌, arith}
+use Rattle.std.proofs.Common.{◌≡◌, ℕ, zero, suc, ◌+◌, ◌-◌, ◌*◌, ◌/◌, ◌%◌, ◌^◌, ◌<◌, ◌≤◌, List, [], ◌∷◌, ◌++◌, length, take, slice_index, refl, ap, sym, ◌∙◌, arith}
 use Rattle.std.proofs.Math.Nat.{div-div-eq-div-mul, div-one, pow-suc}
 use Rattle.std.proofs.Math.Seq.{drop-append-add}
-use Rattle.std.proofs.lemmas.List.{drop-append-le, drop-drop, drop-take, length-drop, take-append-le, take-take}
 use Rattle.std.specs.Int.{byte_at, bytes_low_first}
 use Rattle.byteview.specs.Numbers.{le, le_at, le_bytes, part}
 
@@ -14,6 +13,13 @@ pub length-le_bytes : (n x : ℕ) → length (le_bytes n x) ≡ n
 unfolding le_bytes
 length-le_bytes zero x = refl
 length-le_bytes (suc n) x = let e = length-le_bytes n (x / 256) in omega (arith, e)
+
+-- the lowest bytes of a number are its spelling in so many bytes
+pub take-le_bytes : (w n x : ℕ) → w ≤ n → take w (le_bytes n x) ≡ le_bytes w x
+unfolding le_bytes
+take-le_bytes zero n x low = refl
+take-le_bytes (suc w) zero x low = absurd (omega (arith, low))
+take-le_bytes (suc w) (suc n) x low = ap (λ (bs : List ℕ). x % 256 ∷ bs) (take-le_bytes w n (x / 256) (omega (arith, low)))
 
 -- a spelling is read as the number that it spells
 pub le-le_bytes : (n x : ℕ) → x < 256 ^ n → le (le_bytes n x) ≡ x
@@ -82,19 +88,6 @@ pub le_bytes-one : (x : ℕ) → x < 256 → le_bytes 1 x ≡ x ∷ []
 unfolding le_bytes
 le_bytes-one x fits = let e : x % 256 ≡ x = omega (arith, fits) in rw e refl
 
--- a part of the bytes in front, whatever stands behind them
-pub part-front : (xs ys : List ℕ) (at n : ℕ) → at + n ≤ length xs → part (xs ++ ys) at n ≡ part xs at n
-part-front xs ys at n inside =
-    let room : n ≤ length (drop at xs) = omega (arith, length-drop at xs) in
-    ap (take n) (drop-append-le at xs ys (omega arith)) ∙ take-append-le n (drop at xs) ys room
-
 -- a part of the bytes behind others
 pub part-behind : (xs ys : List ℕ) (at k n : ℕ) → at ≡ length xs + k → part (xs ++ ys) at n ≡ part ys k n
 part-behind xs ys at k n e = rw e (ap (take n) (drop-append-add xs ys k))
-
--- a part of a part
-pub part-part : (bytes : List ℕ) (a m b n : ℕ) → b + n ≤ m → part (part bytes a m) b n ≡ part bytes (a + b) n
-part-part bytes a m b n inside =
-    let e : m ≡ b + (m - b) = omega arith in
-    let cut : drop b (take m (drop a bytes)) ≡ take (m - b) (drop b (drop a bytes)) = ap (λ (k : ℕ). drop b (take k (drop a bytes))) e ∙ drop-take b (m - b) (drop a bytes) in
-    ap (take n) cut ∙ take-take n (m - b) (drop b (drop a bytes)) (omega arith) ∙ ap (take n) (drop-drop b a bytes)

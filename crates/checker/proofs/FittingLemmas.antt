@@ -1,14 +1,13 @@
 -- What one entry asks, by what its symbol means, is what is asked of its relocation.
-use Rattle.std.proofs.Common.{◌≡◌, ℕ, suc, ◌+◌, ◌-◌, ◌*◌, ◌/◌, ◌%◌, ◌^◌, ◌≤◌, ℤ, pos, negsuc, ◌+ℤ◌, ◌-ℤ◌, Bool, true, false, List, Option, Some, None, refl, sym, ap, subst, ◌∙◌, arith, lit<, div-add-mod'}
+use Rattle.std.proofs.Common.{◌≡◌, ℕ, suc, ◌+◌, ◌-◌, ◌*◌, ◌/◌, ◌%◌, ◌^◌, ◌≤◌, ℤ, pos, negsuc, ◌+ℤ◌, ◌-ℤ◌, Bool, true, false, List, Option, Some, None, refl, sym, ap, subst, ◌∙◌, arith, div-add-mod'}
 use Rattle.std.specs.Prelude.{IfSome, IsSomeAnd, SomeIff, option_map, unwrap_or}
-use Rattle.std.proofs.Math.Nat.{mod-add-mod}
+use Rattle.std.proofs.Math.Nat.{add-mul-mod_self_right}
 use Rattle.std.proofs.lemmas.Bool.{false≢true}
 use Rattle.std.proofs.lemmas.Int.{ints}
-use Rattle.std.proofs.lemmas.Nat.{mod_below}
 use Rattle.elf_model.proofs.WrappedValues.{modulo_is}
 use Rattle.elf_model.specs.ObjectFile.{rela_symbol, rela_type, section, sections}
 use Rattle.elf_model.specs.Relocation as relocation
-use Rattle.elf_model.specs.Relocation.{Fits, IsInRange, IsLawfulRelocation, IsMismatch, Kind, Relocation, kind_of, modulo_64, relocation_of, section_address, symbol_at, value_of, whole_value}
+use Rattle.elf_model.specs.Relocation.{IsInRange, IsMismatch, Kind, Relocation, kind_of, modulo_64, relocation_of, section_address, symbol_at, value_of, whole_value}
 use Rattle.elf_model.specs.declared.records.Rela.{Rela}
 use Rattle.checker.specs.Bindings.{Bound, IsTargetOf}
 use Rattle.checker.specs.Fields.{IsRight, field_of}
@@ -20,39 +19,30 @@ use Rattle.checker.specs.declared.targets.Target.{Target}
 
 -- Values modulo 2 ^ 64 of terms modulo 2 ^ 64.
 
-sum_same : (n : ℕ) (a : ℤ) → modulo_64 (pos (n % 2 ^ 64) +ℤ a) ≡ modulo_64 (pos n +ℤ a)
-sum_same n (pos a) =
-    modulo_is (pos (n % 2 ^ 64) +ℤ pos a) 0 (n % 2 ^ 64 + a) (omega (arith, ints))
-    ∙ (mod-add-mod n (2 ^ 64) a ∙ sym (modulo_is (pos n +ℤ pos a) 0 (n + a) (omega (arith, ints))))
-sum_same n (negsuc a) =
-    let more : ℕ = suc a * 2 ^ 64 - suc a in
-    modulo_is (pos (n % 2 ^ 64) +ℤ negsuc a) (suc a) (n % 2 ^ 64 + more) (omega (arith, ints))
-    ∙ (mod-add-mod n (2 ^ 64) more ∙ sym (modulo_is (pos n +ℤ negsuc a) (suc a) (n + more) (omega (arith, ints))))
-
-difference_same : (n : ℕ) (a : ℤ) (p : ℕ) → modulo_64 ((pos (n % 2 ^ 64) +ℤ a) -ℤ pos (p % 2 ^ 64)) ≡ modulo_64 ((pos n +ℤ a) -ℤ pos p)
-difference_same n (pos a) p =
-    let whole = div-add-mod' p (2 ^ 64) in
-    let below = mod_below p (2 ^ 64) (lit< tt) in
-    let more : ℕ = a + (2 ^ 64 - p % 2 ^ 64) in
-    modulo_is ((pos (n % 2 ^ 64) +ℤ pos a) -ℤ pos (p % 2 ^ 64)) 1 (n % 2 ^ 64 + more) (omega (arith, ints, below))
-    ∙ (mod-add-mod n (2 ^ 64) more
-    ∙ sym (modulo_is ((pos n +ℤ pos a) -ℤ pos p) (p / 2 ^ 64 + 1) (n + more) (omega (arith, ints, whole, below))))
-difference_same n (negsuc a) p =
-    let whole = div-add-mod' p (2 ^ 64) in
-    let below = mod_below p (2 ^ 64) (lit< tt) in
-    let more : ℕ = (suc a * 2 ^ 64 - suc a) + (2 ^ 64 - p % 2 ^ 64) in
-    modulo_is ((pos (n % 2 ^ 64) +ℤ negsuc a) -ℤ pos (p % 2 ^ 64)) (suc a + 1) (n % 2 ^ 64 + more) (omega (arith, ints, below))
-    ∙ (mod-add-mod n (2 ^ 64) more
-    ∙ sym (modulo_is ((pos n +ℤ negsuc a) -ℤ pos p) (suc a + (p / 2 ^ 64 + 1)) (n + more) (omega (arith, ints, whole, below))))
+-- a multiple of 2 ^ 64 more
+turned : (v : ℤ) (k : ℕ) → modulo_64 (v +ℤ pos (k * 2 ^ 64)) ≡ modulo_64 v
+turned (pos n) k =
+    modulo_is (pos n +ℤ pos (k * 2 ^ 64)) 0 (n + k * 2 ^ 64) (omega (arith, ints))
+    ∙ (add-mul-mod_self_right n k (2 ^ 64) ∙ sym (modulo_is (pos n) 0 n (omega (arith, ints))))
+turned (negsuc n) k =
+    let more : ℕ = suc n * 2 ^ 64 - suc n in
+    modulo_is (negsuc n +ℤ pos (k * 2 ^ 64)) (suc n) (more + k * 2 ^ 64) (omega (arith, ints))
+    ∙ (add-mul-mod_self_right more k (2 ^ 64) ∙ sym (modulo_is (negsuc n) (suc n) more (omega (arith, ints))))
 
 sum_of : (n m : ℕ) (a : ℤ) → m ≡ n % 2 ^ 64 → modulo_64 (pos m +ℤ a) ≡ modulo_64 (pos n +ℤ a)
-sum_of n m a e = ap (λ (x : ℕ). modulo_64 (pos x +ℤ a)) e ∙ sum_same n a
+sum_of n m a e =
+    let whole = div-add-mod' n (2 ^ 64) in
+    let same : (pos m +ℤ a) +ℤ pos (n / 2 ^ 64 * 2 ^ 64) ≡ pos n +ℤ a = omega (arith, ints, whole, e) in
+    sym (turned (pos m +ℤ a) (n / 2 ^ 64)) ∙ ap modulo_64 same
 
 difference_of :
     (n m : ℕ) (a : ℤ) (p q : ℕ) → m ≡ n % 2 ^ 64 → q ≡ p % 2 ^ 64 → modulo_64 ((pos m +ℤ a) -ℤ pos q) ≡ modulo_64 ((pos n +ℤ a) -ℤ pos p)
 difference_of n m a p q e f =
-    ap (λ (x : ℕ). modulo_64 ((pos x +ℤ a) -ℤ pos q)) e
-    ∙ (ap (λ (x : ℕ). modulo_64 ((pos (n % 2 ^ 64) +ℤ a) -ℤ pos x)) f ∙ difference_same n a p)
+    let from_n = div-add-mod' n (2 ^ 64) in
+    let from_p = div-add-mod' p (2 ^ 64) in
+    let same : ((pos m +ℤ a) -ℤ pos q) +ℤ pos (n / 2 ^ 64 * 2 ^ 64) ≡ ((pos n +ℤ a) -ℤ pos p) +ℤ pos (p / 2 ^ 64 * 2 ^ 64) =
+    omega (arith, ints, from_n, from_p, e, f) in
+    sym (turned ((pos m +ℤ a) -ℤ pos q) (n / 2 ^ 64)) ∙ (ap modulo_64 same ∙ turned ((pos n +ℤ a) -ℤ pos p) (p / 2 ^ 64))
 
 no_rest : 0 ≡ 0 % 2 ^ 64
 no_rest = refl

@@ -14,6 +14,7 @@ pub mod ObjectFields
 pub mod OpenedLemmas
 pub mod Padded
 pub mod Parts
+pub mod PartitionPoints
 pub mod PartsOfLists
 pub mod PieceLemmas
 pub mod PieceSections

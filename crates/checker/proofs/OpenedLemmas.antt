@@ -3,8 +3,7 @@ use Rattle.std.proofs.Common.{◌≡◌, ℕ, ◌+◌, ◌<◌, Bool, true, fals
 use Rattle.std.specs.Prelude.{All, IsSome, unwrap_or}
 use Rattle.std.specs.Borrow.{Bor}
 use Rattle.std.specs.BTreeMap.{BTreeMap}
-use Rattle.std.proofs.lemmas.List.{append_assoc, at_drop_more, map-append}
-use Rattle.std.proofs.lemmas.List.Elements.{All-append, All-cons, All-head, All-nil, All-tail}
+use Rattle.std.proofs.lemmas.List.Elements.{All-cons, All-head, All-nil, All-tail}
 use Rattle.command.specs.Views.{item_of}
 use Rattle.command.specs.declared.items.Item.{Item}
 use Rattle.command.specs.declared.items.Source.TheVariants as source
@@ -14,9 +13,10 @@ use Rattle.elf_model.specs.Files.{File}
 use Rattle.elf_model.specs.Loading.{AreFilesThere, AreObjects, HasFile, LoadedObject, file_named, loaded_objects, objects_from, path_of}
 use Rattle.elf_model.specs.ObjectFile.{IsObject}
 use Rattle.elf_model.proofs.Listed.{All-parts}
+use Rattle.elf_model.proofs.ObjectSteps.{objects_front}
 use Rattle.elf_model.specs.FileIndex.{IsIndex, found}
 use Rattle.checker.specs.Opened.{loaded_from, loaded_item}
-use Rattle.checker.specs.Views.{loaded_view, loaded_views}
+use Rattle.checker.specs.Views.{loaded_views}
 use Rattle.checker.specs.declared.things.Loaded.{Loaded}
 
 abbrev pub HasObject : LoadedObject → Type 0
@@ -32,37 +32,6 @@ pub found_item :
     loaded_from (found index (path_of item)) i item ≡ loaded_item files i item
 found_item files index is i item = ap (λ (file : Option (List ℕ)). loaded_from file i item) (is (path_of item))
 
--- what is left of the items' objects where item i is a file
-file_front :
-    (files : List File) (items : List Item) (i : ℕ) (d : Item) → i < length items → (get_or items i d).archive ≡ false →
-    objects_from files i (map item_of (drop i items))
-    ≡ loaded_item files i (item_of (get_or items i d)) ∷ objects_from files (i + 1) (map item_of (drop (i + 1) items))
-file_front files items i d within is_file =
-    let rest = objects_from files (i + 1) (map item_of (drop (i + 1) items)) in
-    let own = λ (b : Bool). cond b [] (loaded_item files i (item_of (get_or items i d)) ∷ []) ++ rest in
-    at_drop_more (λ (xs : List Item). objects_from files i (map item_of xs)) items i d within ∙ ap own is_file
-
-pub item_more :
-    (files : List File) (items : List Item) (i : ℕ) (d : Item) (out next : List Loaded) (l : Loaded) (whole : List LoadedObject) →
-    i < length items → (get_or items i d).archive ≡ false → loaded_view l ≡ loaded_item files i (item_of (get_or items i d)) →
-    next ≡ out ++ l ∷ [] →
-    loaded_views out ++ objects_from files i (map item_of (drop i items)) ≡ whole →
-    loaded_views next ++ objects_from files (i + 1) (map item_of (drop (i + 1) items)) ≡ whole
-item_more files items i d out next l whole within is_file is grown so_far =
-    let rest = objects_from files (i + 1) (map item_of (drop (i + 1) items)) in
-    ap (λ ps. loaded_views ps ++ rest) grown
-    ∙ (ap (λ vs. vs ++ rest) (map-append loaded_view out (l ∷ []))
-    ∙ (append_assoc (loaded_views out) (loaded_view l ∷ []) rest
-    ∙ (ap (λ (v : LoadedObject). loaded_views out ++ v ∷ rest) is
-    ∙ (ap (λ vs. loaded_views out ++ vs) (sym (file_front files items i d within is_file)) ∙ so_far))))
-
-pub objects_more :
-    (out next : List Loaded) (l : Loaded) → next ≡ out ++ l ∷ [] → AreObjects (loaded_views out) → HasObject (loaded_view l) →
-    AreObjects (loaded_views next)
-objects_more out next l grown all here =
-    subst (All HasObject) (sym (ap loaded_views grown ∙ map-append loaded_view out (l ∷ [])))
-    (All-append HasObject (loaded_views out) (loaded_view l ∷ []) all (All-cons HasObject (loaded_view l) [] here (All-nil HasObject)))
-
 -- where a file item has no object, not all have one
 pub item_stops :
     (files : List File) (items : List Item) (i : ℕ) (d : Item) (out : List Loaded) (whole : List LoadedObject) →
@@ -71,7 +40,7 @@ pub item_stops :
 item_stops files items i d out whole within is_file never so_far all =
     let rest = objects_from files (i + 1) (map item_of (drop (i + 1) items)) in
     let e : loaded_views out ++ loaded_item files i (item_of (get_or items i d)) ∷ rest ≡ whole =
-    ap (λ vs. loaded_views out ++ vs) (sym (file_front files items i d within is_file)) ∙ so_far in
+    ap (λ vs. loaded_views out ++ vs) (sym (objects_front item_of files items i d within is_file)) ∙ so_far in
     never (All-head HasObject (loaded_item files i (item_of (get_or items i d))) rest (All-parts HasObject (loaded_views out) (loaded_item files i (item_of (get_or items i d)) ∷ rest) (subst (All HasObject) (sym e) all)).1)
 
 -- A file that isn't there has no bytes, which are no object.

@@ -1,6 +1,6 @@
 -- File parts of an accepted image, and what its segments map.
-use Rattle.std.proofs.Common.{◌≡◌, ℕ, suc, ◌+◌, ◌-◌, ◌<◌, ◌≤◌, ◌^◌, ◌⊎◌, inl, inr, Bool, true, false, cond, List, [], ◌∷◌, length, get_or, refl, subst, arith}
-use Rattle.std.specs.Prelude.{All, AllPairs, Contains, IsTrue, Option, Some, None, find, map, option_map, slice_index}
+use Rattle.std.proofs.Common.{◌≡◌, ℕ, ◌+◌, ◌-◌, ◌<◌, ◌≤◌, ◌⊎◌, inl, inr, Bool, List, length, get_or, refl, subst, arith}
+use Rattle.std.specs.Prelude.{All, AllPairs, IsTrue, Option, Some, None, find, map, option_map, slice_index}
 use Rattle.std.specs.List.Sorted.{IsNonDecreasingBy}
 use Rattle.std.proofs.lemmas.List.{get_or-map, length-map}
 use Rattle.std.proofs.lemmas.List.Elements.{All-contains, All-contains_itself, All-map, All-weaker}
@@ -12,6 +12,7 @@ use Rattle.elf_model.specs.declared.records.ProgramHeader.{ProgramHeader}
 use Rattle.elf_model.specs.declared.thing.Thing.{Thing}
 use Rattle.loader_model.specs.Table.{IsBelow, IsLawful}
 use Rattle.elf_model.proofs.Addresses.{mapped, maps-true}
+use Rattle.elf_model.proofs.Finding.{find-found}
 use Rattle.loader_model.proofs.MemoryLemmas.{memory_at}
 use Rattle.loader_model.proofs.TableOrder.{ascending_loads}
 use Rattle.checker.specs.Filled.{HasZeroGaps, SegmentFilled, part_of}
@@ -29,11 +30,6 @@ pub lawful_loads : (image : List ℕ) → IsImage image → All (IsLawful (lengt
 lawful_loads image is =
     All-weaker (GoodIn image) (IsLawful (length image))
     (λ h g. record { some_rights = g.some_rights; no_other_rights = g.no_other_rights; inside = g.inside }) (loads image) (good image is)
-
-pub loads_end : (image : List ℕ) → IsImage image → All (λ h. h.p_vaddr + h.p_memsz < 2 ^ 64) (loads image)
-loads_end image is =
-    All-weaker (GoodIn image) (λ (h : ProgramHeader). h.p_vaddr + h.p_memsz < 2 ^ 64)
-    (λ h g. let e = g.end in omega (arith, e)) (loads image) (good image is)
 
 pub parts_fit : (image : List ℕ) → IsImage image → All EndFits (map part_of (loads image))
 parts_fit image is =
@@ -81,25 +77,6 @@ gaps_iff image b region = (
       subst (λ (k : ℕ). slice_index image k ≡ 0) z
       (g.gaps a high (All-unmap (λ (t : Thing). Covers t a → ⊥) part_of (loads image) out))),
 )
-
--- What is found stands in the list, and passes the test.
-pub record Found {X : Type 0} (test : X → Bool) (xs : List X) (x : X) : Type 0 where
-  pub there : Contains xs x
-  pub passes : test x ≡ true
-
-found_by :
-    {X : Type 0} (test : X → Bool) (b : Bool) (y : X) (ys : List X) (x : X) → test y ≡ b →
-    cond b (Some y) (find test ys) ≡ Some x → (find test ys ≡ Some x → Found test ys x) → Found test (y ∷ ys) x
-found_by test true y ys x is e rest =
-    let s : y ≡ x = same_Some y x e in
-    record { there = (0, omega arith, s); passes = subst (λ z. test z ≡ true) s is }
-found_by test false y ys x is e rest =
-    let f : Found test ys x = rest e in
-    record { there = (suc (f.there).0, (let w = (f.there).1 in omega (arith, w)), (f.there).2); passes = f.passes }
-
-pub find-found : {X : Type 0} (test : X → Bool) (xs : List X) (x : X) → find test xs ≡ Some x → Found test xs x
-find-found test [] x e = absurd (none-some x e)
-find-found test (y ∷ ys) x e = found_by test (test y) y ys x refl e (find-found test ys x)
 
 -- memory is filled outside of all things where each segment is outside of things that take up the same
 pub filled_iff :

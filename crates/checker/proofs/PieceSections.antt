@@ -43,7 +43,7 @@ all_of_sections objects =
     })
 
 -- pieces keep what all of them have where they are placed
-placed_all : (P : pieces.Piece → Type 0) (rows : List PlaceRow) (ps : List pieces.Piece) → All P ps → All (λ q. P q.piece) (placed_by rows ps)
+pub placed_all : (P : pieces.Piece → Type 0) (rows : List PlaceRow) (ps : List pieces.Piece) → All P ps → All (λ q. P q.piece) (placed_by rows ps)
 placed_all P [] ps all = All-nil (λ (q : placement.Placed). P q.piece)
 placed_all P (row ∷ rows) [] all = All-nil (λ (q : placement.Placed). P q.piece)
 placed_all P (row ∷ rows) (p ∷ ps) all =

@@ -1,14 +1,13 @@
 -- What the clauses before say of the placed pieces: each lies whole in a segment, with no more input bytes
 -- than its size.
-use Rattle.std.proofs.Common.{◌≡◌, ◌<◌, ◌≤◌, List, [], ◌∷◌, ◌++◌, length, get_or, map, subst, sym}
+use Rattle.std.proofs.Common.{◌≡◌, ◌<◌, ◌≤◌, List, ◌++◌, length, get_or, map, subst, sym}
 use Rattle.std.specs.Prelude.{All, Any}
-use Rattle.std.proofs.lemmas.List.Elements.{All-cons, All-head, All-nil, All-tail}
-use Rattle.elf_model.specs.MapRecord.{PlaceRow}
+use Rattle.std.proofs.lemmas.List.Elements.{All-tail}
 use Rattle.elf_model.specs.MemoryImage.{Encloses, loads}
 use Rattle.elf_model.specs.Pieces as pieces
 use Rattle.elf_model.specs.Pieces.{pieces_of}
 use Rattle.elf_model.specs.Placement as placement
-use Rattle.elf_model.specs.Placement.{HasRights, LiesInSegment, got_things, headers_thing, placed_by, thing_of}
+use Rattle.elf_model.specs.Placement.{HasRights, LiesInSegment, got_things, headers_thing, thing_of}
 use Rattle.elf_model.specs.RightLink.{Subject, objects_of, placed_of, things_of}
 use Rattle.elf_model.specs.declared.records.ProgramHeader.{ProgramHeader}
 use Rattle.elf_model.specs.declared.thing.Thing.{Thing}
@@ -16,18 +15,12 @@ use Rattle.checker.specs.Bytes.{LiesWhole}
 use Rattle.checker.specs.Views.{placed_view, placed_views}
 use Rattle.checker.specs.declared.things.Placed.{Placed}
 use Rattle.checker.proofs.PieceLemmas.{all_short}
+use Rattle.checker.proofs.PieceSections.{placed_all}
 use Rattle.elf_model.proofs.Listed.{All-parts, All-unmap}
 
--- pieces keep what all of them have where they are placed
+-- a piece has no more input bytes than its size
 abbrev Short : pieces.Piece → Type 0
 Short p = length p.bytes ≤ p.size
-
-placed_short : (rows : List PlaceRow) (ps : List pieces.Piece) → All Short ps → All (λ q. Short q.piece) (placed_by rows ps)
-placed_short [] ps all = All-nil (λ (q : placement.Placed). Short q.piece)
-placed_short (row ∷ rows) [] all = All-nil (λ (q : placement.Placed). Short q.piece)
-placed_short (row ∷ rows) (p ∷ ps) all =
-    All-cons (λ (q : placement.Placed). Short q.piece) (record { at = row.address; piece = p }) (placed_by rows ps)
-    (All-head Short p ps all) (placed_short rows ps (All-tail Short p ps all))
 
 abbrev Encloses_it : List ProgramHeader → Thing → Type 0
 Encloses_it segments t = 0 < t.size → Any (λ h. Encloses h t.at t.size) segments
@@ -47,7 +40,7 @@ lie_whole s placed same rights =
     (subst (All (λ (q : placement.Placed). Lies (thing_of q))) (sym same) (All-unmap Lies thing_of (placed_of s) mapped)) in
     let short = All-unmap (λ (q : placement.Placed). Short q.piece) placed_view placed
     (subst (All (λ (q : placement.Placed). Short q.piece)) (sym same)
-    (placed_short s.map.places (pieces_of 0 (objects_of s)) (all_short (objects_of s)))) in
+    (placed_all Short s.map.places (pieces_of 0 (objects_of s)) (all_short (objects_of s)))) in
     λ k d within. record {
       encloses = enclosed segments (thing_of (placed_view (get_or placed k d))) (lies k d within);
       short = short k d within;

@@ -1,16 +1,16 @@
 -- The byte that a row's fields give is the wanted one, and a row's fields lie inside the piece of their section.
-use Rattle.std.proofs.Common.{◌≡◌, ℕ, zero, suc, ◌+◌, ◌<◌, ◌≤◌, ◌==◌, ◌&&◌, ◌⊎◌, inl, inr, Bool, true, false, cond, List, [], ◌∷◌, ◌++◌, Option, Some, None, get_or, length, map, nat_le, nat_lt, option_map, refl, sym, ap, subst, ◌∙◌, arith}
+use Rattle.std.proofs.Common.{◌≡◌, ℕ, zero, suc, ◌+◌, ◌<◌, ◌≤◌, ◌&&◌, ◌⊎◌, inl, inr, Bool, true, false, List, [], ◌∷◌, ◌++◌, Option, Some, None, get_or, length, map, option_map, refl, sym, ap, subst, ◌∙◌, arith}
 use Rattle.std.specs.Prelude.{All, AllPairs, Contains, IsPermutation, filter, find, unwrap_or}
 use Rattle.std.specs.Global.{Vec}
 use Rattle.std.specs.List.{slice_get}
 use Rattle.std.specs.Option.{option_or}
-use Rattle.std.proofs.lemmas.Bool.{eqb-true, eq-eqb}
+use Rattle.std.proofs.lemmas.Bool.{eqb-true}
 use Rattle.std.proofs.lemmas.Bool.Decides.{nat_tests}
-use Rattle.std.proofs.lemmas.List.Elements.{All-cons, All-contains, All-contains_itself, All-filter, All-map, All-nil, All-weaker, filter_passes}
+use Rattle.std.proofs.lemmas.List.Elements.{All-contains, All-contains_itself, All-filter, All-map, All-weaker, filter_passes}
 use Rattle.std.proofs.lemmas.List.Folds.{find-append}
 use Rattle.std.proofs.lemmas.List.Sorted.{All-permutation, IsPermutation-sym}
-use Rattle.std.proofs.lemmas.Option.{none-some, slice_get-get_or, slice_get_cases}
-use Rattle.elf_model.proofs.Finding.{find-found, find-none}
+use Rattle.std.proofs.lemmas.Option.{slice_get-get_or, slice_get_cases}
+use Rattle.elf_model.proofs.Finding.{find-found, find-none, none-passes}
 use Rattle.elf_model.proofs.Found.{find-agree, find-filter, find-map, or_none}
 use Rattle.elf_model.proofs.Listed.{find_only}
 use Rattle.elf_model.proofs.Pairs.{related}
@@ -21,6 +21,7 @@ use Rattle.elf_model.specs.Placement.{Placed}
 use Rattle.elf_model.specs.Pieces.{Piece}
 use Rattle.elf_model.specs.Relocation.{Relocation, is_in_field, relocations, relocations_from, relocations_of, width_of}
 use Rattle.elf_model.specs.WantedBytes.{byte_or_field, wanted_byte}
+use Rattle.elf_model.proofs.OwnFields.{in_range}
 use Rattle.checker.specs.Bytes.{FitsIn, byte_of, covers, fields_in, is_of, row_of}
 use Rattle.checker.specs.Fields.{AreRows, IsBefore, IsRight, IsRow, IsRowOf, LiesIn, field_of}
 use Rattle.checker.specs.declared.fields.Field.{Field}
@@ -33,14 +34,6 @@ find-left {X} p xs ys none =
 
 find-right : {X : Type 0} (p : X → Bool) (xs ys : List X) → All (λ x. p x ≡ false) xs → find p (xs ++ ys) ≡ find p ys
 find-right {X} p xs ys none = find-append p xs ys ∙ ap (λ (o : Option X). option_or o (find p ys)) (find-none p xs none)
-
-none_of : {X : Type 0} (p : X → Bool) (xs : List X) → find p xs ≡ None → All (λ x. p x ≡ false) xs
-none_of p [] e = All-nil (λ x. p x ≡ false)
-none_of {X} p (x ∷ xs) e = by (p x) refl e (none_of p xs)
-  where
-    by : (b : Bool) → p x ≡ b → cond b (Some x) (find p xs) ≡ None → (find p xs ≡ None → All (λ y. p y ≡ false) xs) → All (λ y. p y ≡ false) (x ∷ xs)
-    by true is f rest = absurd (none-some x (sym f))
-    by false is f rest = All-cons (λ (y : X). p y ≡ false) x xs is (rest f)
 
 -- a test that two related elements never both pass finds the same in any order
 find-moved :
@@ -71,7 +64,7 @@ find-moved {X} R p xs ys moved pairs apart = by (find p ys) refl
         e
         ∙ sym
         (find-none p xs
-        (All-permutation (λ (x : X). p x ≡ false) ys xs (IsPermutation-sym xs ys moved) (none_of p ys e)))
+        (All-permutation (λ (x : X). p x ≡ false) ys xs (IsPermutation-sym xs ys moved) (none-passes p ys e)))
     by (Some x) e =
         let f = find-found p ys x e in
         e ∙ sym (find_only p xs x (there x f.there) f.passes (λ y c t. only x y f.there (back y c) f.passes t))
@@ -117,17 +110,6 @@ of_all os i s k d low =
 
 -- The fields of one section in a row.
 
-same_test : (a b c : Bool) → b && (a && c) ≡ ((true && b) && a) && c
-same_test a true c = refl
-same_test a false c = refl
-
-test_is :
-    (objects : List LoadedObject) (ps : List Placed) (o s k : ℕ) (r : Relocation) → r.object ≡ o →
-    is_of s (field_of objects ps r) && covers k (field_of objects ps r) ≡ is_in_field o s k r
-test_is objects ps o s k r own =
-    same_test (nat_le r.entry.r_offset k) (r.section == s) (nat_lt k (r.entry.r_offset + width_of r))
-    ∙ ap (λ (b : Bool). ((b && (r.section == s)) && nat_le r.entry.r_offset k) && nat_lt k (r.entry.r_offset + width_of r)) (sym (eq-eqb r.object o own))
-
 both : (s k : ℕ) (f : Field) → (is_of s f && covers k f) ≡ true → (f.section ≡ s) × (f.at ≤ k) × (k < f.at + f.width)
 both s k f e = (grind (arith, nat_tests), grind (arith, nat_tests), grind (arith, nat_tests))
 
@@ -149,7 +131,7 @@ row_found objects ps o s k rs row own is =
     ∙ (find-map (λ (f : Field). is_of s f && covers k f) (field_of objects ps) rs
     ∙ ap (option_map (field_of objects ps))
     (find-agree (λ (r : Relocation). is_of s (field_of objects ps r) && covers k (field_of objects ps r)) (is_in_field o s k) rs
-    (λ i d low. test_is objects ps o s k (get_or rs i d) (own i d low)))))
+    (λ i d low. in_range o s k (get_or rs i d) (own i d low)))))
 
 byte_is :
     (objects : List LoadedObject) (ps : List Placed) (p : Piece) (k : ℕ) (o : Option Relocation) →

@@ -9,7 +9,6 @@ pub mod Kinds
 pub mod Neighbours
 pub mod Opened
 pub mod PlaceIndex
-pub mod Sound
 pub mod Subjects
 pub mod Sweeps
 pub mod Views

@@ -1,10 +1,9 @@
 //! The symbols of the loaded objects, and whether they are sound: a part of the thirteenth clause.
-ghost use Rattle.std.specs.Prelude.{◌≡◌, ◌≤◌, ◌/◌, ◌↔◌, ◌++◌, ℕ, [], All, IfOk, IfSome, IsTrue, OnOk, length, map, option_copied, true, unwrap_or};
+ghost use Rattle.std.specs.Prelude.{◌≡◌, ◌≤◌, ◌/◌, ◌↔◌, ◌++◌, [], All, IfOk, IsTrue, OnOk, true, unwrap_or};
 ghost use Rattle.std.specs.List.{slice_get};
 ghost use Rattle.elf_model.specs.ObjectFile.{symbol_name, symbols};
-ghost use Rattle.elf_model.specs.Resolution.{AreSoundSymbols, IsSoundSymbol, all_symbols, binding, section_of, sections_of_object, symbols_from};
+ghost use Rattle.elf_model.specs.Resolution.{AreSoundSymbols, IsSoundSymbol, StandsWell, all_symbols, binding, section_of, sections_of_object, symbols_from};
 ghost use Rattle.checker.specs.Views.{loaded_views, symbol_view, symbol_views};
-ghost use Rattle.checker.specs.Sound.{StandsWell};
 
 use crate::things::{Loaded, SymbolOf};
 use elf_model::{SHN_UNDEF, SectionHeader, Symbol};

@@ -12,9 +12,6 @@ pub record IsAhead (words : List (List ℕ)) (s : State) (rest : List (List ℕ)
   pub state : s ≡ state_from front
   pub same : read_behind front (split rest) ≡ read_behind [] (split words)
 
-pub ahead_first : (words : List (List ℕ)) → IsAhead words (state_from []) words
-ahead_first words = record { front = []; state = refl; same = refl }
-
 err_back : (r : Result (List Phrase) CmdFault) (f : CmdFault) → and_then r (λ qs. Ok (state_from qs)) ≡ Err f → r ≡ Err f
 err_back (Ok qs) f e = absurd cc
 err_back (Err g) f e = let same : g ≡ f = cc in ap Err same

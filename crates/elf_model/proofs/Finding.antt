@@ -1,7 +1,7 @@
 -- What a search in a list finds, and lists with one element that has a fact.
-use Rattle.std.proofs.Common.{◌≡◌, suc, Bool, true, false, cond, List, [], ◌∷◌, refl, ap, subst, arith}
+use Rattle.std.proofs.Common.{◌≡◌, suc, Bool, true, false, cond, List, [], ◌∷◌, refl, sym, ap, subst, arith}
 use Rattle.std.specs.Prelude.{All, Any, Contains, Some, None, filter, find}
-use Rattle.std.proofs.lemmas.List.Elements.{All-head, All-tail}
+use Rattle.std.proofs.lemmas.List.Elements.{All-cons, All-head, All-nil, All-tail}
 use Rattle.std.proofs.lemmas.Option.{none-some, same_Some}
 use Rattle.elf_model.proofs.Listed.{Contains-there}
 
@@ -40,6 +40,17 @@ find-none test [] none = refl
 find-none test (x ∷ xs) none =
     let e = All-head (λ y. test y ≡ false) x xs none in
     rw e (find-none test xs (All-tail (λ y. test y ≡ false) x xs none))
+
+-- where none is found, none passes
+pub none-passes : {X : Type 0} (test : X → Bool) (xs : List X) → find test xs ≡ None → All (λ x. test x ≡ false) xs
+none-passes test [] e = All-nil (λ x. test x ≡ false)
+none-passes {X} test (x ∷ xs) e = by (test x) refl e (none-passes test xs)
+  where
+    by :
+        (b : Bool) → test x ≡ b → cond b (Some x) (find test xs) ≡ None → (find test xs ≡ None → All (λ y. test y ≡ false) xs) →
+        All (λ y. test y ≡ false) (x ∷ xs)
+    by true is f rest = absurd (none-some x (sym f))
+    by false is f rest = All-cons (λ (y : X). test y ≡ false) x xs is (rest f)
 
 -- a filter that all pass, and one that none passes
 pub filter-all : {X : Type 0} (test : X → Bool) (xs : List X) → All (λ x. test x ≡ true) xs → filter test xs ≡ xs

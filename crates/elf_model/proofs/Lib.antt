@@ -18,6 +18,7 @@ pub mod PairsPermuted
 pub mod WrappedValues
 pub mod FlatRelocations
 pub mod Rests
+pub mod ObjectSteps
 pub mod PieceSteps
 pub mod KindWidths
 pub mod RelocationFields
@@ -25,4 +26,6 @@ pub mod UsedNames
 pub mod FirstNamed
 pub mod Mapped
 pub mod Addresses
+pub mod OwnFields
+pub mod PieceAlignments
 pub mod RangeOrder

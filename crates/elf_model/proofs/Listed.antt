@@ -1,9 +1,10 @@
 -- What stands in a list, in one with an element more in front, in a filtered, mapped or joined one.
 use Rattle.std.proofs.Common.{◌≡◌, ℕ, zero, suc, ◌<◌, ◌⊎◌, inl, inr, Bool, true, false, cond, List, [], ◌∷◌, ◌++◌, length, get_or, refl, sym, ◌∙◌, ap, subst, arith}
 use Rattle.std.specs.Prelude.{All, Contains, Some, filter, find, map}
-use Rattle.std.specs.List.{flat_map}
+use Rattle.std.specs.List.{flat_map, slice_get}
 use Rattle.std.proofs.lemmas.Bool.{false≢true}
 use Rattle.std.proofs.lemmas.List.Elements.{All-contains, All-contains_itself, Contains-append_cases, Contains-append_left, Contains-append_right}
+use Rattle.std.proofs.lemmas.Option.{get_or_from_slice_get, slice_get_within}
 
 pub Contains-here : {X : Type 0} (xs : List X) (x : X) → Contains (x ∷ xs) x
 Contains-here xs x = (0, omega arith, refl)
@@ -20,6 +21,10 @@ Contains-cons_cases {X} y xs x c = at c.0 c.1 c.2
     at : (k : ℕ) → k < suc (length xs) → get_or (y ∷ xs) k x ≡ x → (y ≡ x) ⊎ Contains xs x
     at zero within e = inl e
     at (suc k) within e = inr (k, omega (arith, within), e)
+
+-- what stands at a number
+pub Contains-from_slice_get : {X : Type 0} (xs : List X) (i : ℕ) (x : X) → slice_get xs i ≡ Some x → Contains xs x
+Contains-from_slice_get xs i x e = (i, slice_get_within xs i x e, get_or_from_slice_get xs i x x e)
 
 -- what holds of all that stands in a list holds of each of its elements
 pub All-from_contains : {X : Type 0} (P : X → Type 0) (xs : List X) → ((x : X) → Contains xs x → P x) → All P xs

@@ -1,5 +1,5 @@
--- Each piece is told from every other by its numbers of object and section, and what every piece has.
-use Rattle.std.proofs.Common.{◌≡◌, ℕ, ◌+◌, ◌<◌, ◌≤◌, Bool, true, false, cond, List, [], ◌∷◌, length, length-take, drop, refl, sym, subst, arith}
+-- The pieces ascend by their numbers of object and section, which tell each from every other; and what every piece has.
+use Rattle.std.proofs.Common.{◌≡◌, ◌⊎◌, inl, inr, ℕ, ◌+◌, ◌<◌, ◌≤◌, Bool, true, false, cond, List, [], ◌∷◌, length, length-take, drop, refl, sym, subst, arith}
 use Rattle.std.specs.Prelude.{All, AllPairs, Option, Some, None, unwrap_or, if◌then◌else◌}
 use Rattle.std.specs.List.{slice_get}
 use Rattle.std.specs.Option.{option_and_then}
@@ -10,8 +10,12 @@ use Rattle.elf_model.specs.Loading.{LoadedObject}
 use Rattle.elf_model.specs.ObjectFile.{bytes_in_file, contents, has_no_bytes, section_bytes, sections}
 use Rattle.elf_model.specs.Pieces.{Piece, is_alloc, piece_of, pieces, pieces_from, pieces_of}
 use Rattle.elf_model.specs.declared.records.SectionHeader.{SectionHeader}
-use Rattle.elf_model.proofs.Pairs.{AllPairs-append, AllPairs-nil}
+use Rattle.elf_model.proofs.Pairs.{AllPairs-append, AllPairs-nil, AllPairs-weaker}
 use Rattle.elf_model.proofs.Sectioned.{pieces-each}
+
+-- a piece's object, or else its section, has the lower number
+abbrev pub ComesBefore : Piece → Piece → Type 0
+ComesBefore p q = (p.object < q.object) ⊎ ((p.object ≡ q.object) × (p.section < q.section))
 
 -- two pieces are of different sections
 abbrev pub AreOtherSections : Piece → Piece → Type 0
@@ -19,6 +23,10 @@ AreOtherSections p q = p.object ≡ q.object → p.section ≡ q.section → ⊥
 
 pub other_sections-sym : (p q : Piece) → AreOtherSections p q → AreOtherSections q p
 other_sections-sym p q other e f = other (sym e) (sym f)
+
+before-other : (p q : Piece) → ComesBefore p q → AreOtherSections p q
+before-other p q (inl object) e f = omega (arith, object, e)
+before-other p q (inr section) e f = omega (arith, section, f)
 
 -- a piece of object k, of a section from number i on
 abbrev IsFrom : ℕ → ℕ → Piece → Type 0
@@ -35,16 +43,16 @@ pieces_from-numbers k bytes i (h ∷ hs) =
       | false ↦ behind
     ]
 
-pieces_from-other : (k : ℕ) (bytes : List ℕ) (i : ℕ) (hs : List SectionHeader) → AllPairs AreOtherSections (pieces_from k bytes i hs)
-pieces_from-other k bytes i [] = AllPairs-nil AreOtherSections
-pieces_from-other k bytes i (h ∷ hs) =
+pieces_from-ascend : (k : ℕ) (bytes : List ℕ) (i : ℕ) (hs : List SectionHeader) → AllPairs ComesBefore (pieces_from k bytes i hs)
+pieces_from-ascend k bytes i [] = AllPairs-nil ComesBefore
+pieces_from-ascend k bytes i (h ∷ hs) =
     let rest : List Piece = pieces_from k bytes (i + 1) hs in
     let p : Piece = piece_of k bytes i h in
-    let apart : All (AreOtherSections p) rest =
-    All-weaker (IsFrom k (i + 1)) (AreOtherSections p) (λ q n e f. omega (arith, n, f)) rest (pieces_from-numbers k bytes (i + 1) hs) in
-    let others = pieces_from-other k bytes (i + 1) hs in
-    elim (is_alloc h) as (λ b. AllPairs AreOtherSections (cond b (p ∷ rest) rest)) [
-      | true ↦ AllPairs-cons AreOtherSections p rest apart others
+    let before : All (ComesBefore p) rest =
+    All-weaker (IsFrom k (i + 1)) (ComesBefore p) (λ q n. inr (sym n.0, omega (arith, n))) rest (pieces_from-numbers k bytes (i + 1) hs) in
+    let others = pieces_from-ascend k bytes (i + 1) hs in
+    elim (is_alloc h) as (λ b. AllPairs ComesBefore (cond b (p ∷ rest) rest)) [
+      | true ↦ AllPairs-cons ComesBefore p rest before others
       | false ↦ others
     ]
 
@@ -60,19 +68,23 @@ pieces_of-numbers k (o ∷ objects) =
     (All-weaker (IsFrom k 0) (IsOfObjectFrom k) (λ p n. omega (arith, n)) here (pieces_from-numbers k o.bytes 0 (sections o.bytes)))
     (All-weaker (IsOfObjectFrom (k + 1)) (IsOfObjectFrom k) (λ p n. omega (arith, n)) rest (pieces_of-numbers (k + 1) objects))
 
-pieces_of-other : (k : ℕ) (objects : List LoadedObject) → AllPairs AreOtherSections (pieces_of k objects)
-pieces_of-other k [] = AllPairs-nil AreOtherSections
-pieces_of-other k (o ∷ objects) =
+pieces_of-ascend : (k : ℕ) (objects : List LoadedObject) → AllPairs ComesBefore (pieces_of k objects)
+pieces_of-ascend k [] = AllPairs-nil ComesBefore
+pieces_of-ascend k (o ∷ objects) =
     let here : List Piece = pieces_from k o.bytes 0 (sections o.bytes) in
     let rest : List Piece = pieces_of (k + 1) objects in
-    AllPairs-append AreOtherSections here rest (pieces_from-other k o.bytes 0 (sections o.bytes)) (pieces_of-other (k + 1) objects)
-    (All-weaker (IsFrom k 0) (λ p. All (AreOtherSections p) rest)
-    (λ p n. All-weaker (IsOfObjectFrom (k + 1)) (AreOtherSections p) (λ q m e f. omega (arith, n, m, e)) rest (pieces_of-numbers (k + 1) objects))
+    AllPairs-append ComesBefore here rest (pieces_from-ascend k o.bytes 0 (sections o.bytes)) (pieces_of-ascend (k + 1) objects)
+    (All-weaker (IsFrom k 0) (λ p. All (ComesBefore p) rest)
+    (λ p n. All-weaker (IsOfObjectFrom (k + 1)) (ComesBefore p) (λ q m. inl (omega (arith, n, m))) rest (pieces_of-numbers (k + 1) objects))
     here (pieces_from-numbers k o.bytes 0 (sections o.bytes)))
+
+-- the pieces are in the order of their objects' and sections' numbers
+pub pieces_ascend : (objects : List LoadedObject) → AllPairs ComesBefore (pieces objects)
+pieces_ascend objects = pieces_of-ascend 0 objects
 
 -- no two pieces are of one section
 pub pieces_other : (objects : List LoadedObject) → AllPairs AreOtherSections (pieces objects)
-pieces_other objects = pieces_of-other 0 objects
+pieces_other objects = AllPairs-weaker ComesBefore AreOtherSections before-other (pieces objects) (pieces_ascend objects)
 
 -- each piece has an alignment, and no more bytes than its size
 abbrev pub IsKept : Piece → Type 0

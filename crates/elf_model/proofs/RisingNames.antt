@@ -12,6 +12,7 @@ use Rattle.std.proofs.lemmas.List.Sorted.{All-permutation, IsPermutation-sym, su
 use Rattle.std.proofs.lemmas.List.Sums.{sum_by-cons}
 use Rattle.std.proofs.lemmas.Map.Lookups.{exact_bytes}
 use Rattle.std.proofs.lemmas.Slice.Eq.{bytes_eq-Decides}
+use Rattle.elf_model.proofs.Finding.{find-none, none-passes}
 use Rattle.elf_model.specs.MapRecord.{SymbolRow}
 use Rattle.elf_model.specs.MapText.{Ascends, NameBefore, SymbolBefore}
 
@@ -40,12 +41,6 @@ absent_count p [] h = refl
 absent_count {X} p (x ∷ xs) h =
     counted_no p x xs (All-head (λ (y : X). p y ≡ false) x xs h) ∙ absent_count p xs (All-tail (λ (y : X). p y ≡ false) x xs h)
 
-absent_find : {X : Type 0} (p : X → Bool) (xs : List X) → All (λ x. p x ≡ false) xs → find p xs ≡ None
-absent_find p [] h = refl
-absent_find {X} p (x ∷ xs) h =
-    ap (λ b. cond b (Some x) (find p xs)) (All-head (λ (y : X). p y ≡ false) x xs h)
-    ∙ absent_find p xs (All-tail (λ (y : X). p y ≡ false) x xs h)
-
 absent_from_count : {X : Type 0} (p : X → Bool) (xs : List X) → count_by p xs ≡ 0 → All (λ x. p x ≡ false) xs
 absent_from_count {X} p [] h = All-nil (λ (y : X). p y ≡ false)
 absent_from_count {X} p (x ∷ xs) h = by (p x) refl (absent_from_count p xs)
@@ -53,15 +48,6 @@ absent_from_count {X} p (x ∷ xs) h = by (p x) refl (absent_from_count p xs)
     by : (b : Bool) → p x ≡ b → (count_by p xs ≡ 0 → All (λ y. p y ≡ false) xs) → All (λ y. p y ≡ false) (x ∷ xs)
     by true e rest = absurd (let n = counted_yes p x xs e in omega (arith, n, h))
     by false e rest = All-cons (λ (y : X). p y ≡ false) x xs e (rest (sym (counted_no p x xs e) ∙ h))
-
-absent_from_find : {X : Type 0} (p : X → Bool) (xs : List X) → find p xs ≡ None → All (λ x. p x ≡ false) xs
-absent_from_find {X} p [] h = All-nil (λ (y : X). p y ≡ false)
-absent_from_find {X} p (x ∷ xs) h = by (p x) refl (absent_from_find p xs)
-  where
-    by : (b : Bool) → p x ≡ b → (find p xs ≡ None → All (λ y. p y ≡ false) xs) → All (λ y. p y ≡ false) (x ∷ xs)
-    by true e rest = absurd (let f : Some x ≡ None = ap (λ c. cond c (Some x) (find p xs)) (sym e) ∙ h in cc)
-    by false e rest =
-        All-cons (λ (y : X). p y ≡ false) x xs e (rest (ap (λ c. cond c (Some x) (find p xs)) (sym e) ∙ h))
 
 -- where at most one element passes, each that passes is the one found
 all_found : {X : Type 0} (p : X → Bool) (xs : List X) → count_by p xs ≤ 1 → All (λ y. p y ≡ true → find p xs ≡ Some y) xs
@@ -111,8 +97,8 @@ find_permuted {X} p xs ys moved few =
         (find p ys ≡ None) ⊎ ((y : X) × (find p ys ≡ Some y) × (p y ≡ true) × (p y ≡ true → find p xs ≡ Some y)) →
         find p xs ≡ find p ys
     by (inl none) =
-        absent_find p xs
-        (All-permutation (λ (y : X). p y ≡ false) ys xs (IsPermutation-sym xs ys moved) (absent_from_find p ys none))
+        find-none p xs
+        (All-permutation (λ (y : X). p y ≡ false) ys xs (IsPermutation-sym xs ys moved) (none-passes p ys none))
         ∙ sym none
     by (inr some) = some.3 some.2 ∙ sym some.1
 
@@ -196,23 +182,11 @@ rises_unique (r ∷ rs) n up = by (has n r) refl (rises_unique rs n up.1)
         let m = counted_yes (has n) r rs e in omega (arith, m, none)
     by false e rest = let m = counted_no (has n) r rs e in omega (arith, m, rest)
 
--- sorted rows with no name twice ascend
-pub ascends_from_sorted :
-    (rs : List SymbolRow) →
-    ((k : ℕ) (d : SymbolRow) → k + 1 < length rs → is_lt (slice_cmp nat_cmp (get_or rs (k + 1) d).name (get_or rs k d).name) ≡ false) →
-    ((n : List ℕ) → count_by (has n) rs ≤ 1) → Ascends SymbolBefore rs
-ascends_from_sorted rs sorted unique k d within =
-    before_from_sorted (get_or rs k d).name (get_or rs (k + 1) d).name (sorted k d within)
-    (λ same.
-    let n = (get_or rs k d).name in
-    let two = neighbours_count (has n) rs k d within (has_from_name n (get_or rs k d) refl) (has_from_name n (get_or rs (k + 1) d) (sym same)) in
-    let one = unique n in omega (arith, two, one))
-
 found_first : (r : SymbolRow) (rs : List SymbolRow) → find (has r.name) (r ∷ rs) ≡ Some r
 found_first r rs = ap (λ b. cond b (Some r) (find (has r.name) rs)) (has_from_name r.name r refl)
 
 found_nowhere : (n : List ℕ) (rs : List SymbolRow) → All (λ r. NameBefore n r.name) rs → find (has n) rs ≡ None
-found_nowhere n rs above = absent_find (has n) rs (above_absent n rs above)
+found_nowhere n rs above = find-none (has n) rs (above_absent n rs above)
 
 -- rows that begin above a row do not have its name
 first_above :

@@ -1,12 +1,11 @@
 -- What holds of the piece of each kept section holds of all pieces, and what holds of the relocation of each
 -- entry of a RELA section holds of all relocations.
-use Rattle.std.proofs.Common.{◌≡◌, ◌==◌, ℕ, suc, ◌+◌, Bool, true, false, cond, List, [], ◌∷◌, sym, ◌∙◌, ap, subst, arith}
+use Rattle.std.proofs.Common.{◌≡◌, ℕ, suc, ◌+◌, Bool, true, false, cond, List, [], ◌∷◌, sym, ◌∙◌, ap, subst, arith}
 use Rattle.std.specs.Prelude.{All, Contains, Some, filter}
 use Rattle.std.specs.List.{slice_get}
-use Rattle.std.proofs.lemmas.Bool.{and_parts, eqb-true}
 use Rattle.std.proofs.lemmas.List.Elements.{All-append, All-cons, All-nil}
 use Rattle.elf_model.specs.Loading.{LoadedObject}
-use Rattle.elf_model.specs.ObjectFile.{relas_of, section, sections}
+use Rattle.elf_model.specs.ObjectFile.{relas_of, sections}
 use Rattle.elf_model.specs.Pieces.{Piece, is_alloc, piece_of, pieces, pieces_from, pieces_of}
 use Rattle.elf_model.specs.Relocation.{Relocation, is_kept_rela, is_some_kind, relocation_of, relocations, relocations_from, relocations_in, relocations_of}
 use Rattle.elf_model.specs.declared.records.Rela.{Rela}
@@ -53,21 +52,27 @@ module _ (P : Piece → Type 0) (objects : List LoadedObject) (each : (k : ℕ) 
   pub pieces-each : All P (pieces objects)
   pieces-each = pieces_of-each objects 0 (rest-whole objects)
 
+-- an entry of an object's RELA section, of a kept section, that relocates
+pub record IsEntryOf (bytes : List ℕ) (h : SectionHeader) (r : Rela) : Type 0 where
+  pub section : Contains (sections bytes) h
+  pub kept : is_kept_rela bytes h ≡ true
+  pub entry : Contains (relas_of bytes h) r
+  pub some : is_some_kind r ≡ true
+
 -- the relocations of one object
 relocations_from-each :
-    (P : Relocation → Type 0) (k : ℕ) (bytes : List ℕ) →
-    ((h : SectionHeader) → Contains (sections bytes) h → h.sh_type ≡ 4 → (r : Rela) → P (relocation_of k bytes h.sh_info r)) →
+    (P : Relocation → Type 0) (k : ℕ) (bytes : List ℕ) → ((h : SectionHeader) (r : Rela) → IsEntryOf bytes h r → P (relocation_of k bytes h.sh_info r)) →
     All P (relocations_from k bytes)
 relocations_from-each P k bytes each =
     All-from_contains P (relocations_from k bytes) (λ r c.
     let part = Contains-from_flat_map (relocations_in k bytes) (filter (is_kept_rela bytes) (sections bytes)) r c in
     let kept = Contains-from_filter (is_kept_rela bytes) (sections bytes) part.of part.there in
-    let entry = Contains-from_map (relocation_of k bytes part.of.sh_info) (filter is_some_kind (relas_of bytes part.of)) r part.within in
-    let rela = and_parts (part.of.sh_type == 4) (is_alloc (section (sections bytes) part.of.sh_info)) kept.1 in
-    subst P entry.is (each part.of kept.0 (eqb-true part.of.sh_type 4 rela.0) entry.of))
+    let image = Contains-from_map (relocation_of k bytes part.of.sh_info) (filter is_some_kind (relas_of bytes part.of)) r part.within in
+    let some = Contains-from_filter is_some_kind (relas_of bytes part.of) image.of image.there in
+    subst P image.is (each part.of image.of (record { section = kept.0; kept = kept.1; entry = some.0; some = some.1 })))
 
 -- the relocations of all objects
-module _ (P : Relocation → Type 0) (objects : List LoadedObject) (each : (k : ℕ) (o : LoadedObject) → slice_get objects k ≡ Some o → (h : SectionHeader) → Contains (sections o.bytes) h → h.sh_type ≡ 4 → (r : Rela) → P (relocation_of k o.bytes h.sh_info r)) where
+module _ (P : Relocation → Type 0) (objects : List LoadedObject) (each : (k : ℕ) (o : LoadedObject) → slice_get objects k ≡ Some o → (h : SectionHeader) (r : Rela) → IsEntryOf o.bytes h r → P (relocation_of k o.bytes h.sh_info r)) where
   relocations_of-each : (os : List LoadedObject) (k : ℕ) → IsRest objects k os → All P (relocations_of k os)
   relocations_of-each [] k same = All-nil P
   relocations_of-each (o ∷ os) k same =

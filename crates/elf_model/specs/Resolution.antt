@@ -83,6 +83,11 @@ abbrev pub section_of : List LoadedObject → SymbolOf → Option SectionHeader
 section_of objects s =
     cond (is_undefined s.entry) None (slice_get (sections_of_object (slice_get objects s.object)) s.entry.st_shndx)
 
+-- a GLOBAL or WEAK symbol's section is kept, and a symbol of a kept section lies within it or at its end
+pub record StandsWell (s : Symbol) (h : SectionHeader) : Type 0 where
+  pub kept : 1 ≤ binding s → is_alloc h ≡ true
+  pub within : is_alloc h ≡ true → s.st_value ≤ h.sh_size
+
 -- a symbol that is sound: a GLOBAL or WEAK one has a name, and stands in a kept section where it stands in
 -- one at all; one of any binding in a kept section lies within it or at its end
 pub record IsSoundSymbol (objects : List LoadedObject) (s : SymbolOf) : Type 0 where

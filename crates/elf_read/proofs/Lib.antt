@@ -1,4 +1,5 @@
 pub mod Entries
+mod LinkerSymbols
 mod PowersOfTwo
 mod SectionLemmas
 pub mod Faults

@@ -1,13 +1,13 @@
 //! The names that the linker itself defines where no object does, as relocations use them.
-ghost use Rattle.std.specs.Prelude.{◌≡◌, ◌==◌, ◌++◌, [], IfOk, OnOk, codes, filter, map};
+ghost use Rattle.std.specs.Prelude.{◌≡◌, ◌==◌, ◌++◌, [], IfOk, OnOk, codes, filter, map, slice_index_or, unwrap_or};
 ghost use Rattle.std.specs.List.{list_all, list_any};
 ghost use Rattle.std.specs.Str.{bytes_eq};
 ghost use Rattle.elf_model.specs.LinkerNames as linker;
-ghost use Rattle.elf_model.specs.ObjectFile.{symbol_name};
+ghost use Rattle.elf_model.specs.ObjectFile.{null_symbol, symbol_name, symbols};
 ghost use Rattle.elf_model.specs.Profile as profile;
 ghost use Rattle.elf_model.specs.Relocation.{is_some_kind};
 ghost use Rattle.elf_model.specs.Resolution.{binding};
-ghost use Rattle.elf_read.specs.Names.{name_views};
+ghost use Rattle.elf_read.specs.Names.{has_linker_name, linker_symbols, name_views};
 
 use crate::object::Object;
 use crate::profile::{entries_at, is_kept_rela};
@@ -108,46 +108,72 @@ fn is_linker_name(name: &[u8]) -> bool
     is_boundary_name(name) || is_start_name(name) || is_stop_name(name)
 }
 
-/// The name of the symbol that an entry names.
-fn used_name<'a>(object: &Object<'a>, entry: &Rela) -> &'a [u8]
-    ensures { result.now ≡ profile.used_name object.now entry.now }
+/// The name of a symbol; the empty one where there is no such symbol.
+fn name_at<'a>(object: &Object<'a>, number: usize) -> &'a [u8]
+    ensures { result.now ≡ unwrap_or (symbol_name object.now number) [] }
 {
-    match object.name(entry.symbol() as usize) {
+    match object.name(number) {
         Some(name) => name,
         None => &[],
     }
 }
 
-fn uses_local(object: &Object<'_>, entry: &Rela) -> bool
-    ensures { result ≡ (binding (profile.used_symbol object.now entry.now) == 0) }
+fn is_local(object: &Object<'_>, number: usize) -> bool
+    ensures { result ≡ (binding (slice_index_or (symbols object.now) number null_symbol) == 0) }
 {
-    match object.symbols().get(entry.symbol() as usize) {
+    match object.symbols().get(number) {
         Some(symbol) => symbol.st_info / 16 == STB_LOCAL,
         None => true,
     }
 }
 
-/// Whether an entry relocates, and names a symbol, not a LOCAL one, that has a linker's name.
-fn uses_linker_name(object: &Object<'_>, entry: &Rela) -> bool
-    ensures { result ≡ profile.uses_linker_name object.now entry.now }
+/// Whether a symbol isn't LOCAL, and has a linker's name.
+fn has_linker_name(object: &Object<'_>, number: usize) -> bool
+    ensures { result ≡ has_linker_name object.now number }
 {
-    if entry.kind() == 0 || uses_local(object, entry) {
+    !is_local(object, number) && is_linker_name(name_at(object, number))
+}
+
+/// Of each symbol, whether it isn't LOCAL, and has a linker's name.
+#[tactic(auto, using(crate::proofs::LinkerSymbols::one_more))]
+fn linker_symbols(alloc: Global, object: &Object<'_>) -> Result<Vec<bool>, AllocError>
+    ensures { IfOk result (λ v. v.items ≡ linker_symbols object.now) }
+{
+    let count = object.symbols().len();
+    let mut found = Vec::with_capacity(alloc, count)?;
+    for number in 0..count {
+        found.push(has_linker_name(object, number))?;
+    }
+    Ok(found)
+}
+
+/// Whether an entry relocates, and names a symbol, not a LOCAL one, that has a linker's name.
+fn uses_linker_name(_object: &Object<'_>, found: &[bool], entry: &Rela) -> bool
+    requires { found.now ≡ linker_symbols _object.now }
+    ensures { result ≡ profile.uses_linker_name _object.now entry.now }
+{
+    if entry.kind() == 0 {
         return false;
     }
-    is_linker_name(used_name(object, entry))
+    match found.get(entry.symbol() as usize) {
+        Some(is_linker) => *is_linker,
+        None => false,
+    }
 }
 
 /// Adds the linker's names that entries use.
 fn add_names<'a>(
     names: &mut Vec<&'a [u8]>,
     object: &Object<'a>,
+    found: &[bool],
     entries: &[Rela],
 ) -> Result<(), AllocError>
+    requires { found.now ≡ linker_symbols object.now }
     ensures { OnOk result (name_views names.new.items ≡ name_views names.old.items ++ map (profile.used_name object.now) (filter (profile.uses_linker_name object.now) entries.now)) }
 {
     for entry in entries {
-        if uses_linker_name(object, entry) {
-            names.push(used_name(object, entry))?;
+        if uses_linker_name(object, found, entry) {
+            names.push(name_at(object, entry.symbol() as usize))?;
         }
     }
     Ok(())
@@ -158,10 +184,11 @@ pub fn linker_names<'a>(alloc: Global, object: &Object<'a>) -> Result<Vec<&'a [u
     ensures { IfOk result (λ v. name_views v.items ≡ profile.linker_names object.now) }
 {
     let mut names = Vec::new(alloc);
+    let found = linker_symbols(alloc, object)?;
     let headers = object.sections();
     for (i, header) in headers.iter().enumerate() {
         if is_kept_rela(object, header) {
-            add_names(&mut names, object, entries_at(object, i, header))?;
+            add_names(&mut names, object, &found, entries_at(object, i, header))?;
         }
     }
     Ok(names)

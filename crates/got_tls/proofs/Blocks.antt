@@ -2,19 +2,17 @@
 use Rattle.std.proofs.Common.{◌≡◌, ℕ, ◌+◌, ◌-◌, ◌^◌, ◌≤◌, ◌⊎◌, inl, inr, List, [], ◌∷◌, Option, Some, None, map, sym, subst, ◌∙◌, arith}
 use Rattle.std.specs.Prelude.{All, Contains, IfSome, max, min}
 use Rattle.std.specs.Int.{IsPowerOfTwo}
-use Rattle.std.specs.List.{slice_get}
 use Rattle.std.proofs.lemmas.Bool.{cases_lt}
 use Rattle.std.proofs.lemmas.Nat.{pow_pos}
-use Rattle.std.proofs.lemmas.Option.{get_or_from_slice_get, slice_get_within}
 use Rattle.std.proofs.lemmas.List.Elements.{All-cons, All-contains, All-head, All-nil, All-tail}
 use Rattle.elf_model.specs.Loading.{AreObjects, LoadedObject}
-use Rattle.elf_model.specs.ObjectFile.{IsAlignment, IsObject, IsPlaced, sections}
+use Rattle.elf_model.specs.ObjectFile.{IsAlignment}
 use Rattle.elf_model.specs.OwnLayout.{own_placed, placed_end}
 use Rattle.elf_model.specs.Pieces.{Piece, pieces}
 use Rattle.elf_model.specs.Placement.{Placed}
 use Rattle.elf_model.proofs.Listed.{All-unmap, Contains-cons_cases, Contains-from_filter, Contains-from_map, Contains-here, Contains-there}
 use Rattle.elf_model.proofs.Places.{All-ordered, own_placed_pieces}
-use Rattle.elf_model.proofs.Sectioned.{pieces-each}
+use Rattle.elf_model.proofs.PieceAlignments.{alignments-each}
 use Rattle.got_tls.specs.ThreadStorage.{IsAligned, IsBlockOf, IsGreatest, IsLeast, block_of, greatest, is_thread_place, last_end, least, least_address, thread_block, thread_places}
 use Rattle.got_tls.specs.declared.thread_storage.TlsBlock.{TlsBlock}
 
@@ -82,25 +80,23 @@ pub block_law : (ps : List Placed) (found : Option TlsBlock) → found ≡ threa
 block_law ps found is = subst (λ (o : Option TlsBlock). IfSome o (IsBlockOf (thread_places ps))) (sym is) (block_of_law (thread_places ps))
 
 -- the alignments of pieces of objects
-HasLawfulAlignment : Piece → Type 0
-HasLawfulAlignment p = IsPowerOfTwo p.align × (p.align ≤ 2 ^ 21)
+IsLawfulAlignment : ℕ → Type 0
+IsLawfulAlignment a = IsPowerOfTwo a × (a ≤ 2 ^ 21)
 
-lawful : (a : ℕ) → IsAlignment a → IsPowerOfTwo (max 1 a) × (max 1 a ≤ 2 ^ 21)
+HasLawfulAlignment : Piece → Type 0
+HasLawfulAlignment p = IsLawfulAlignment p.align
+
+lawful : (a : ℕ) → IsAlignment a → IsLawfulAlignment (max 1 a)
+unfolding IsLawfulAlignment
 lawful a (inl none) = ((0, omega (arith, none)), omega (arith, none))
 lawful a (inr some) =
     let positive : 1 ≤ a = let e = some.0.1 in let p = pow_pos some.0.0 in omega (arith, e, p) in
     let same : a ≡ max 1 a = omega (arith, positive) in
-    subst (λ b. IsPowerOfTwo b × (b ≤ 2 ^ 21)) same some
-
-from_get : {X : Type 0} (xs : List X) (i : ℕ) (x : X) → slice_get xs i ≡ Some x → Contains xs x
-from_get xs i x e = (i, slice_get_within xs i x e, get_or_from_slice_get xs i x x e)
+    subst IsLawfulAlignment same some
 
 pieces_lawful : (objects : List LoadedObject) → AreObjects objects → All HasLawfulAlignment (pieces objects)
 unfolding HasLawfulAlignment
-pieces_lawful objects are =
-    pieces-each HasLawfulAlignment objects (λ k o there i h here.
-    let object : IsObject o.bytes = All-contains (λ (p : LoadedObject). IsObject p.bytes) objects o are (from_get objects k o there) in
-    lawful h.sh_addralign (All-contains (IsPlaced _) (sections o.bytes) h object.ranges (from_get (sections o.bytes) i h here)).alignment)
+pieces_lawful objects are = alignments-each IsLawfulAlignment lawful objects are
 
 placed_lawful : (base : ℕ) (objects : List LoadedObject) → AreObjects objects → All (λ q. HasLawfulAlignment q.piece) (own_placed base objects)
 placed_lawful base objects are =
@@ -108,12 +104,12 @@ placed_lawful base objects are =
     (subst (All HasLawfulAlignment) (sym (own_placed_pieces base objects)) (All-ordered HasLawfulAlignment objects (pieces_lawful objects are)))
 
 aligned_one : (base : ℕ) (objects : List LoadedObject) → AreObjects objects → (b : TlsBlock) → IsBlockOf (thread_places (own_placed base objects)) b → IsAligned b
-unfolding HasLawfulAlignment
+unfolding HasLawfulAlignment IsLawfulAlignment
 aligned_one base objects are b is =
     let image = Contains-from_map (λ (q : Placed). q.piece.align) (thread_places (own_placed base objects)) b.align is.aligned.0 in
     let there = (Contains-from_filter is_thread_place (own_placed base objects) image.of image.there).0 in
     let has = All-contains (λ (q : Placed). HasLawfulAlignment q.piece) (own_placed base objects) image.of (placed_lawful base objects are) there in
-    let both = subst (λ a. IsPowerOfTwo a × (a ≤ 2 ^ 21)) image.is has in
+    let both = subst IsLawfulAlignment image.is has in
     record { power = both.0; small = both.1 }
 
 pub block_aligned :

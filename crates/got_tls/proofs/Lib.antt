@@ -1,5 +1,4 @@
 pub mod Blocks
 pub mod ExtentSteps
-pub mod Kept
 pub mod NoSlots
 pub mod Offsets

@@ -15,9 +15,9 @@ use Rattle.elf_model.specs.Relocation.{Formula, S+A, S+A-P, S+A-GOT, G+A, G+GOT+
 use Rattle.elf_model.specs.Resolution.{SymbolOf, chosen}
 use Rattle.elf_model.specs.declared.records.Rela.{Rela}
 use Rattle.elf_model.specs.declared.records.SectionHeader.{SectionHeader}
-use Rattle.elf_model.proofs.Listed.{Contains-filter, Contains-flat_map, Contains-map}
+use Rattle.elf_model.proofs.Listed.{Contains-filter, Contains-flat_map, Contains-from_slice_get, Contains-map}
+use Rattle.elf_model.proofs.Sectioned.{IsEntryOf, relocations-each}
 use Rattle.got_tls.specs.Slots.{asks_for_got, got_name, each_once, got_size, names_got, request_of, slot_kind_of, slots, speaks_of_got, target_of}
-use Rattle.got_tls.proofs.Kept.{IsEntryOf, kept-each}
 
 -- Kinds: those that aren't of a later version don't speak of the GOT.
 
@@ -135,7 +135,7 @@ module _ (L : List LoadedObject) (plain : All (λ o. IsPlainObject o.bytes) L) (
       }
 
   all_quiet : All AsksNothing (relocations L)
-  all_quiet = kept-each AsksNothing L asks_nothing
+  all_quiet = relocations-each AsksNothing L (λ k o there h r entry. asks_nothing k o (Contains-from_slice_get L k o there) h r entry)
 
   no_requests_in : (rs : List Relocation) → All AsksNothing rs → filter_map request_of rs ≡ []
   no_requests_in [] quiet = refl

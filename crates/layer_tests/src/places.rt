@@ -4,7 +4,8 @@ use elf_model::{
     PT_LOAD, ProgramHeader, SHF_ALLOC, SHF_EXECINSTR, SHF_LINK_ORDER, SHF_TLS, SHF_WRITE,
     SHT_STRTAB, SectionHeader,
 };
-use layout::{LayoutFault, Place, Placement, kinds, output_name, place};
+use layout::{LayoutFault, Place, Placement, kinds, place};
+use resolve::output_name;
 use std::alloc::{AllocError, Global};
 use std::test::Fail;
 
@@ -55,6 +56,11 @@ fn refusal(alloc: Global, section: SectionHeader) -> Result<Option<LayoutFault>,
     let other = object_of(alloc, &[section])?;
     let objects = load_both(alloc, &text, &other)?;
     Ok(kinds(&objects).err())
+}
+
+/// A section with these flags and the other fields of `header`.
+fn with_flags(sh_flags: u64, header: SectionHeader) -> SectionHeader {
+    SectionHeader { sh_flags, ..header }
 }
 
 /// Whether the layout of an object with one section is too large.
@@ -159,26 +165,11 @@ fn a_layout_is_too_large_past_the_limit(rt: HostRuntime) -> Result<(), Fail> {
 #[test]
 fn kinds_are_judged(rt: HostRuntime) -> Result<(), Fail> {
     let alloc = rt.alloc();
-    let thread = SectionHeader {
-        sh_flags: SHF_ALLOC | SHF_WRITE | SHF_TLS,
-        ..DATA
-    };
-    let read_only_thread = SectionHeader {
-        sh_flags: SHF_ALLOC | SHF_TLS,
-        ..DATA
-    };
-    let writable_code = SectionHeader {
-        sh_flags: SHF_ALLOC | SHF_WRITE | SHF_EXECINSTR,
-        ..TEXT
-    };
-    let read_only_zeros = SectionHeader {
-        sh_flags: SHF_ALLOC,
-        ..BSS
-    };
-    let linked = SectionHeader {
-        sh_flags: SHF_ALLOC | SHF_LINK_ORDER,
-        ..RODATA
-    };
+    let thread = with_flags(SHF_ALLOC | SHF_WRITE | SHF_TLS, DATA);
+    let read_only_thread = with_flags(SHF_ALLOC | SHF_TLS, DATA);
+    let writable_code = with_flags(SHF_ALLOC | SHF_WRITE | SHF_EXECINSTR, TEXT);
+    let read_only_zeros = with_flags(SHF_ALLOC, BSS);
+    let linked = with_flags(SHF_ALLOC | SHF_LINK_ORDER, RODATA);
     let strings = SectionHeader {
         sh_type: SHT_STRTAB,
         ..RODATA

@@ -10,7 +10,7 @@ ghost use Rattle.search.specs.Views.{loaded_views};
 use crate::objects::{BSS, DATA, ENTRY, RODATA, SYMBOLS, TEXT, load_alone, object_with};
 use elf_model::{Rela, STT_SECTION, SectionHeader, Symbol};
 use layout::{Placement, place};
-use relocate::{PatchTable, Patches, RelocFault, Terms, fits, kind_of, patches, references, value};
+use relocate::{Kind, PatchTable, Patches, RelocFault, Terms, fits, patches, references, value};
 use resolve::{Resolved, resolve};
 use search::Loaded;
 use std::alloc::{AllocError, Global};
@@ -123,11 +123,22 @@ fn entry(offset: u64, kind: u64, symbol: u64, addend: i64) -> Rela
 }
 
 /// The value of a relocation of a type, and whether it fits the type's field.
-fn judged(number: u32, terms: &Terms) -> Option<(u64, bool)> {
-    let kind = kind_of(number)?;
-    let value = value(kind.formula, terms);
-    Some((value, fits(kind.range, kind.width, value)))
+fn judged(number: u32, terms: Terms) -> Option<(u64, bool)> {
+    let kind = Kind::of(number)?;
+    let value = value(kind, terms);
+    Some((value, fits(kind, value)))
 }
+
+/// Terms of which no letter stands for anything.
+const NO_TERMS: Terms = Terms {
+    symbol: 0,
+    addend: 0,
+    place: 0,
+    slot: 0,
+    got: 0,
+    size: 0,
+    thread: 0,
+};
 
 #[test]
 fn values_of_a_symbol_fit_by_their_kind(rt: HostRuntime) -> Result<(), Fail> {
@@ -147,12 +158,11 @@ fn values_of_a_symbol_fit_by_their_kind(rt: HostRuntime) -> Result<(), Fail> {
     ] {
         let terms = Terms {
             symbol,
-            addend: 0,
             place: 0x401001,
-            size: 8,
+            ..NO_TERMS
         };
         assert!(rt;
-            judged(number, &terms) == Some((symbol, fit)),
+            judged(number, terms) == Some((symbol, fit)),
             "at type {number}"
         );
     }
@@ -166,21 +176,68 @@ fn values_are_made_of_their_terms(rt: HostRuntime) -> Result<(), Fail> {
         addend,
         place,
         size: 8,
+        ..NO_TERMS
     };
     // Types 2 and 4 are S + A - P, 1 is S + A and 33 is Z + A, modulo 2 to the 64; 2 and 4 want a signed number
     // of 32 bits.
-    assert!(rt; judged(4, &of(0x401010, -4, 0x401001)) == Some((0xb, true)));
-    assert!(rt; judged(2, &of(0x402000, 0, 0x400120)) == Some((0x1ee0, true)));
-    assert!(rt; judged(2, &of(0, -4, 0x401001)) == Some((0xffff_ffff_ffbf_effb, true)));
-    assert!(rt; judged(2, &of(0, -4, 0x1_0000_1001)) == Some((0xffff_fffe_ffff_effb, false)));
-    assert!(rt; judged(1, &of(0xffff_ffff_ffff_ffff, 2, 0x402000)) == Some((1, true)));
-    assert!(rt; judged(33, &of(0x402000, 1, 0x400130)) == Some((9, true)));
+    assert!(rt; judged(4, of(0x401010, -4, 0x401001)) == Some((0xb, true)));
+    assert!(rt; judged(2, of(0x402000, 0, 0x400120)) == Some((0x1ee0, true)));
+    assert!(rt; judged(2, of(0, -4, 0x401001)) == Some((0xffff_ffff_ffbf_effb, true)));
+    assert!(rt; judged(2, of(0, -4, 0x1_0000_1001)) == Some((0xffff_fffe_ffff_effb, false)));
+    assert!(rt; judged(1, of(0xffff_ffff_ffff_ffff, 2, 0x402000)) == Some((1, true)));
+    assert!(rt; judged(33, of(0x402000, 1, 0x400130)) == Some((9, true)));
+    Ok(())
+}
+
+#[test]
+fn values_of_the_got_are_made_of_their_terms(rt: HostRuntime) -> Result<(), Fail> {
+    let at = |got: u64, addend: i64, place: u64| Terms {
+        symbol: 0x402000,
+        addend,
+        place,
+        slot: 8,
+        got,
+        ..NO_TERMS
+    };
+    // Types 9 and 42 are G + GOT + A - P, as 22 is for the slot of a thread offset; 3 and 27 are G + A, 26 is
+    // GOT + A - P and 25 is S + A - GOT.
+    assert!(rt; judged(9, at(0x402008, -4, 0x401003)) == Some((0x1009, true)));
+    assert!(rt; judged(42, at(0x402008, -4, 0x401003)) == Some((0x1009, true)));
+    assert!(rt; judged(22, at(0x402010, -4, 0x401003)) == Some((0x1011, true)));
+    assert!(rt; judged(3, at(0x402008, 0, 0x400120)) == Some((8, true)));
+    assert!(rt; judged(27, at(0x402008, 0, 0x400138)) == Some((8, true)));
+    assert!(rt; judged(26, at(0x402008, 0, 0x400124)) == Some((0x1ee4, true)));
+    assert!(rt; judged(25, at(0x402008, 0, 0x400128)) == Some((0xffff_ffff_ffff_fff8, true)));
+    Ok(())
+}
+
+#[test]
+fn values_of_thread_storage_are_offsets(rt: HostRuntime) -> Result<(), Fail> {
+    // Types 18 and 23 are the offset from the thread pointer plus A; 23 wants a signed number of 32 bits.
+    for (number, thread, addend, wanted) in [
+        (23, 0xffff_ffff_ffff_fff0, 0, (0xffff_ffff_ffff_fff0, true)),
+        (23, 0xffff_ffff_ffff_fff8, 0, (0xffff_ffff_ffff_fff8, true)),
+        (
+            23,
+            0xffff_ffff_8000_0000,
+            -1,
+            (0xffff_ffff_7fff_ffff, false),
+        ),
+        (18, 0xffff_ffff_ffff_fff8, 12, (4, true)),
+    ] {
+        let terms = Terms {
+            addend,
+            thread,
+            ..NO_TERMS
+        };
+        assert!(rt; judged(number, terms) == Some(wanted), "at type {number}");
+    }
     Ok(())
 }
 
 /// Whether a type has a kind of its own number, whose field has a width.
 fn is_of_width(number: u32, width: u8) -> bool {
-    match kind_of(number) {
+    match Kind::of(number) {
         Some(kind) => kind.width == width && kind.number == number,
         None => false,
     }
@@ -206,7 +263,7 @@ fn fields_have_their_types_width(rt: HostRuntime) {
 fn types_without_a_kind(rt: HostRuntime) -> Result<(), Fail> {
     // NONE, COPY and the first type behind the table.
     for number in [0, 5, 43] {
-        assert!(rt; kind_of(number).is_none(), "at type {number}");
+        assert!(rt; Kind::of(number).is_none(), "at type {number}");
     }
     Ok(())
 }

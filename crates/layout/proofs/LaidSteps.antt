@@ -6,7 +6,6 @@ use Rattle.elf_model.specs.Loading.{LoadedObject}
 use Rattle.elf_model.specs.OwnLayout.{code_pieces, code_start, data_start, end_of, own_code, own_data, own_placed, own_read_only, page_up, placed_from, read_only_pieces, read_only_start, segment}
 use Rattle.elf_model.specs.Pieces.{Piece}
 use Rattle.elf_model.specs.Placement.{Placed}
-use Rattle.layout.specs.Laid.{LayoutFails}
 use Rattle.layout.specs.Limits.{AreInLimit, IsInLimit, RunFails}
 use Rattle.layout.specs.PlaceViews.{place_view, place_views}
 use Rattle.layout.specs.declared.faults.LayoutFault.{LayoutFault}
@@ -84,9 +83,3 @@ data_fails base objects run e is f =
     fails (own_data base objects) (own_placed base objects) e
     (λ all. behind_limit (own_code base objects) (own_data base objects) (behind_limit (own_read_only base objects) (own_code base objects ++ own_data base objects) all))
     (subst (λ (qs : List Placed). RunFails qs e) is f)
-
--- and one of the layout
-pub layout_fails : (base : ℕ) (objects : List LoadedObject) (e : LayoutFault) → RunFails (own_placed base objects) e → LayoutFails base objects e
-layout_fails base objects error.Memory f = f
-layout_fails base objects error.TooLarge f = λ fits. f fits.ends
-layout_fails base objects _ f = absurd f

@@ -6,10 +6,10 @@ ghost use Rattle.std.specs.List.{flat_map};
 ghost use Rattle.layout.specs.Groups.{AreGroups, output_of, output_view, part_test};
 ghost use Rattle.layout.specs.Views.{piece_view, piece_views};
 
-use crate::names::output_name;
 use crate::pieces::Piece;
 use elf_model::SectionHeader;
 use indexmap::IndexSet;
+use resolve::output_name;
 use std::alloc::{AllocError, Global};
 
 /// What the pieces of one output section have in common.

@@ -7,7 +7,6 @@ mod faults;
 mod grouping;
 mod judging;
 mod lay;
-mod names;
 mod order;
 mod pieces;
 mod placement;
@@ -16,7 +15,6 @@ mod segments;
 
 pub use faults::LayoutFault;
 pub use judging::kinds;
-pub use names::output_name;
 pub use pieces::Piece;
 pub use placement::{Placement, Tables, place};
 pub use running::Place;

@@ -1,6 +1,6 @@
 -- From what linking the loaded objects makes to a right link, and from its refusals to causes.
 use Rattle.std.proofs.Common.{◌≡◌, ℕ, ◌<◌, ◌^◌, List, refl, sym, ◌∙◌, ap, subst}
-use Rattle.std.specs.Prelude.{IfErr, IfOk, Ok, Err, Result}
+use Rattle.std.specs.Prelude.{IfOk, Ok, Err, Result}
 use Rattle.elf_model.specs.Causes.{Cause, IsLaidOut, IsLinkable, IsReferred, IsResolved, IsTaken}
 use Rattle.elf_model.specs.Command.{Plan, command_of}
 use Rattle.elf_model.specs.Files.{File}
@@ -11,12 +11,8 @@ use Rattle.elf_model.specs.Profile.{IsInProfile}
 use Rattle.elf_model.specs.RightLink.{IsRightLink}
 use Rattle.elf_model.specs.declared.faults.LinkError.{LinkError}
 use Rattle.elf_model.specs.declared.faults.LinkError.TheVariants as error
-use Rattle.layout.specs.Kinds.{KindsFail}
-use Rattle.layout.specs.Laid.{LayoutFails}
-use Rattle.layout.specs.declared.faults.LayoutFault.{LayoutFault}
 use Rattle.layout.specs.declared.faults.LayoutFault.TheVariants as layout
 use Rattle.own_link.proofs.OwnRight.{own_is_right}
-use Rattle.relocate.specs.References.{ReferencesFail}
 use Rattle.relocate.specs.Values.{ValuesFail}
 use Rattle.relocate.specs.declared.faults.RelocFault.{RelocFault}
 use Rattle.relocate.specs.declared.faults.RelocFault.TheVariants as reloc
@@ -32,17 +28,13 @@ use Rattle.ld_main.specs.Linkages.{IsLinkageOf, IsOwnText, IsPrepared, Prepared}
 use Rattle.ld_main.specs.Maps.{IsMapOf, own_record}
 use Rattle.ld_main.specs.Outputs.{AreLaidOut, AreLinkable, AreReferred, AreResolved, IsOwnLink, LinksRefuse}
 use Rattle.ld_main.specs.Program.{LinksRight}
-use Rattle.ld_main.specs.Refusals.{of_layout, of_reloc, of_resolve, of_search}
+use Rattle.ld_main.specs.Refusals.{of_reloc, of_resolve, of_search}
 use Rattle.ld_main.specs.declared.linkage.Parts.{Parts}
 use Rattle.ld_main.proofs.OwnMaps.{ordered, own_map}
 
 pub ok_more : {X Y : Type 0} (P Q : X → Type 0) (r : Result X Y) → IfOk r P → ((x : X) → P x → Q x) → IfOk r Q
 ok_more P Q (Ok x) is more = more x is
 ok_more P Q (Err y) is more = tt
-
-pub err_more : {X Y : Type 0} (P Q : Y → Type 0) (r : Result X Y) → IfErr r P → ((y : Y) → P y → Q y) → IfErr r Q
-err_more P Q (Ok x) is more = tt
-err_more P Q (Err y) is more = more y is
 
 -- why loading fails is why the link does
 pub loading_fails :
@@ -57,29 +49,6 @@ pub resolving_refuses : (p : Plan) (objects : List LoadedObject) (e : ResolveFau
 resolving_refuses p objects resolve.Memory f = tt
 resolving_refuses p objects (resolve.Duplicate name) f = f
 resolving_refuses p objects resolve.BadSymbol f = f
-
-pub kinds_refuse : (p : Plan) (objects : List LoadedObject) (e : LayoutFault) → KindsFail objects e → LinksRefuse p objects (of_layout e)
-kinds_refuse p objects layout.SectionKind f = f
-kinds_refuse p objects _ f = absurd f
-
-pub references_refuse :
-    (p : Plan) (objects : List LoadedObject) → AreResolved objects → (e : RelocFault) → ReferencesFail objects e →
-    LinksRefuse p objects (of_reloc e)
-references_refuse p objects r reloc.Memory f = tt
-references_refuse p objects r (reloc.Undefined name) f = (r, f)
-references_refuse p objects r reloc.RefToDropped f = (r, f)
-references_refuse p objects r reloc.RelocKind f = (r, f)
-references_refuse p objects r reloc.FieldOutside f = (r, f)
-references_refuse p objects r reloc.OverlappingFields f = (r, f)
-references_refuse p objects r reloc.TlsMismatch f = (r, f)
-references_refuse p objects r _ f = absurd f
-
-pub layout_refuses :
-    (p : Plan) (objects : List LoadedObject) → AreReferred p objects → (e : LayoutFault) → LayoutFails p.base objects e →
-    LinksRefuse p objects (of_layout e)
-layout_refuses p objects r layout.Memory f = tt
-layout_refuses p objects r layout.TooLarge f = (r, f)
-layout_refuses p objects r _ f = absurd f
 
 pub values_refuse :
     (p : Plan) (objects : List LoadedObject) → AreLaidOut p objects → (e : RelocFault) →

@@ -1,23 +1,20 @@
 -- The values of sound definitions lie within the addresses where the objects are laid out.
 use Rattle.std.proofs.Common.{◌≡◌, ◌==◌, ◌&&◌, ℕ, ◌+◌, ◌≤◌, ◌^◌, Bool, true, false, cond, List, get_or, not, refl, sym, ◌∙◌, ap, subst, arith}
-use Rattle.std.specs.Prelude.{All, IfSome, IsPermutation, Option, Some, None, find, option_map, unwrap_or}
+use Rattle.std.specs.Prelude.{All, IfSome, IsPermutation, Option, Some, None, find, option_map}
 use Rattle.std.specs.List.{slice_get}
 use Rattle.std.proofs.lemmas.Bool.{and_parts, eqb-true, false≢true}
 use Rattle.std.proofs.lemmas.List.Elements.{All-contains, All-filter, filter_passes}
 use Rattle.std.proofs.lemmas.List.Sorted.{All-permutation}
-use Rattle.elf_model.specs.ImageFile.{own_entry}
 use Rattle.elf_model.specs.Loading.{LoadedObject}
 use Rattle.elf_model.specs.OwnLayout.{IsNotTooLarge, own_in_load_order, own_placed, placed_end}
 use Rattle.elf_model.specs.Pieces.{AreLawfulKinds, Piece, is_alloc, pieces}
-use Rattle.elf_model.specs.Placement.{Placed, is_of_section, symbol_value}
+use Rattle.elf_model.specs.Placement.{Placed, is_of_section}
 use Rattle.elf_model.specs.Resolution.{AreSoundSymbols, IsSoundSymbol, SymbolOf, all_symbols, binding, chosen, has_name, is_common, is_global, is_strong, is_undefined, section_of, sections_of_object, strong_definitions}
 use Rattle.elf_model.specs.declared.records.SectionHeader.{SectionHeader}
 use Rattle.elf_model.proofs.Finding.{find-found}
 use Rattle.elf_model.proofs.Listed.{All-unmap, Contains-from_map}
 use Rattle.elf_model.proofs.Places.{at_own_address, own_listed}
 use Rattle.elf_model.proofs.Sectioned.{pieces-each}
-use Rattle.layout.specs.Placements.{Basis}
-use Rattle.relocate.specs.Values.{placed_in}
 use Rattle.ld_main.specs.Maps.{LiesBelow}
 use Rattle.resolve.specs.Views.{symbol_view, symbol_views}
 use Rattle.resolve.specs.declared.entries.SymbolOf as code
@@ -97,8 +94,3 @@ module _ (base : ℕ) (objects : List LoadedObject) (kinds : AreLawfulKinds obje
   chosen_lies name s sound is =
       All-contains (LiesBelow (own_in_load_order base objects)) (strong_definitions objects) s (strong_lie sound)
       (find-found (has_name name) (strong_definitions objects) s is).there
-
--- the value at which a link enters is that of the entry's definition
-pub entry_value :
-    (b : Basis) (name : List ℕ) (s : SymbolOf) → chosen b.objects name ≡ Some s → own_entry b.base b.objects name ≡ symbol_value (placed_in b) s
-entry_value b name s is = ap (λ (o : Option SymbolOf). unwrap_or (option_map (symbol_value (placed_in b)) o) 0) is

@@ -1,5 +1,5 @@
-//! The linker: from files and the words of a command to an executable image and a link map, and the whole
-//! program over them.
+//! The linker: from files and the words of a command to an executable image and a link map; the checker's call,
+//! and the whole program over both.
 #![tactic(auto)]
 
 mod linkage;
@@ -10,6 +10,7 @@ mod program;
 mod refusals;
 mod spelling;
 
+pub use checker::{Clause, Verdict, check};
 pub use elf_model::LinkError;
 pub use linkage::{Linkage, image, link_map, prepare, prepare_over};
 pub use linking::{Output, link};

@@ -1,7 +1,8 @@
 //! The program: reads the files that the words name, links or checks them, writes or prints the answer.
-ghost use Rattle.std.specs.Prelude.{◌≡◌, ◌≢◌, ◌⊎◌, ◌≤◌, true, None, IfErr, IfOk, IsErr, IsErrAnd, IsOk, OnOk};
+ghost use Rattle.std.specs.Prelude.{◌≡◌, ◌≢◌, ◌⊎◌, ◌↔◌, ◌≤◌, true, None, IfErr, IfOk, IsErr, IsErrAnd, IsOk, OnOk};
 ghost use Rattle.elf_model.specs.Command.{command_of};
 ghost use Rattle.elf_model.specs.Files.{files_of, words_of};
+ghost use Rattle.elf_model.specs.RightLink.{IsRightLink, Least};
 ghost use Rattle.ld_main.specs.Program.{HasRightLink, LinksRight, error_status, failure_status, outcome_status, words_status};
 
 use crate::linkage::{Linkage, image, prepare};
@@ -285,6 +286,24 @@ fn link_files<'a, R: Files + AllocGlobal>(
     Ok(Outcome::Linked)
 }
 
+/// What a check of an image and a map comes to.
+fn judged(
+    alloc: Global,
+    files: &[InputFile],
+    words: &[String],
+    image: &[u8],
+    map: &[u8],
+) -> Result<Outcome, AllocError>
+    ensures right { IfOk result (λ o. (o ≡ Outcome.Right) ↔ IsRightLink (files_of files.now) (words_of words.now) image.now map.now) }
+    ensures wrong { IfOk result (λ o. (c : Clause) → ((o ≡ Outcome.Wrong c) ↔ Least c (files_of files.now) (words_of words.now) image.now map.now)) }
+    ensures checked { IfOk result (λ o. o ≢ Outcome.Linked) }
+{
+    match check(alloc, files, words, image, map)? {
+        Verdict::Yes => Ok(Outcome::Right),
+        Verdict::No(clause) => Ok(Outcome::Wrong(clause)),
+    }
+}
+
 /// Reads the image and then the map, and checks them.
 fn check_files<'a, R: Files + AllocGlobal>(
     rt: &R,
@@ -301,10 +320,8 @@ fn check_files<'a, R: Files + AllocGlobal>(
     };
     let image = read_file(rt, task.output)?;
     let map = read_file(rt, map_path)?;
-    match check(rt.alloc(), files, words, &image, &map)? {
-        Verdict::Yes => Ok(Outcome::Right),
-        Verdict::No(clause) => Ok(Outcome::Wrong(clause)),
-    }
+    let outcome = judged(rt.alloc(), files, words, &image, &map)?;
+    Ok(outcome)
 }
 
 /// Reads the words, and the files that they name.

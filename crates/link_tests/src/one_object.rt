@@ -1,11 +1,8 @@
 //! A link of one object with one text, and its check.
 use crate::objects::{NamedSymbol, Section, object};
 use crate::vectors::{MAP, OBJECT, TEXT, image};
-use checker::check;
-use elf_model::{
-    Clause, InputFile, LinkError, ObjFault, SHF_ALLOC, SHF_EXECINSTR, SHT_PROGBITS, Verdict,
-};
-use ld_main::{Output, link};
+use elf_model::{InputFile, LinkError, ObjFault, SHF_ALLOC, SHF_EXECINSTR, SHT_PROGBITS};
+use ld_main::{Clause, Output, Verdict, check, link};
 use std::alloc::Global;
 use std::test::Fail;
 

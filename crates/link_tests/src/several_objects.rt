@@ -2,11 +2,10 @@
 use crate::objects::{NamedSymbol, Relocation, Section, object, relocatable};
 use crate::one_object::{function, text_section, words_of};
 use crate::vectors::{OBJECT, TEXT, image};
-use checker::check;
 use elf_model::{
-    InputFile, LinkError, SHF_ALLOC, SHF_EXECINSTR, SHF_WRITE, SHT_NOBITS, SHT_PROGBITS, Verdict,
+    InputFile, LinkError, SHF_ALLOC, SHF_EXECINSTR, SHF_WRITE, SHT_NOBITS, SHT_PROGBITS,
 };
-use ld_main::{Output, link};
+use ld_main::{Output, Verdict, check, link};
 use std::alloc::Global;
 use std::test::Fail;
 

@@ -31,10 +31,6 @@ in_order hs front back n b count some front_is back_is tail near = (
       (subst (λ (m : ℕ). NearBelow (take m hs)) (sym count) (λ k d within. o.ascending k (k + 1) d (omega arith) within))),
 )
 
-pub tail_of :
-    (hs back : List ProgramHeader) (n : ℕ) → n ≡ prefix_len is_load hs → back ≡ drop n hs → IsInOrder hs → IsTail back
-tail_of hs back n count back_is o = subst IsTail (sym back_is) (subst (λ (m : ℕ). IsTail (drop m hs)) (sym count) o.tail)
-
 -- in a table in order the PT_LOADs are the headers in front
 no_load_in_tail : (rest : List ProgramHeader) → IsTail rest → loads_in rest ≡ []
 no_load_in_tail [] t = refl

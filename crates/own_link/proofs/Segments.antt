@@ -34,10 +34,6 @@ part_header base p = segment base p.rights p.start p.from p.placed
 abbrev pub segments_of : ℕ → List Part → List ProgramHeader
 segments_of base parts = map (part_header base) (filter (λ p. p.there) parts)
 
--- R with the headers in front, and a segment that begins with its first piece and is there if one is nonempty
-abbrev pub front_part : ℕ → ℕ → List Piece → Part
-front_part base size ps = record { rights = 4; start = base; from = base + size; there = true; placed = placed_from (base + size) ps }
-
 abbrev pub later_part : ℕ → ℕ → List Piece → Part
 later_part rights start ps = record {
   rights = rights;

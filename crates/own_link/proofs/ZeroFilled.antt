@@ -5,18 +5,18 @@ use Rattle.std.specs.List.{slice_get}
 use Rattle.std.specs.Option.{option_and_then}
 use Rattle.std.proofs.lemmas.Bool.{and_parts, eqb-true, false_from_ne_true, not-false, or_right}
 use Rattle.std.proofs.lemmas.List.Elements.{All-contains}
-use Rattle.std.proofs.lemmas.Option.{get_or_from_slice_get, slice_get_within}
+use Rattle.std.proofs.lemmas.Option.{get_or_from_slice_get}
 use Rattle.elf_model.specs.Loading.{AreObjects, LoadedObject}
 use Rattle.elf_model.specs.ObjectFile.{IsObject, IsRelaSection, bytes_in_file, contents, has_no_bytes, null_section, section, sections}
 use Rattle.elf_model.specs.OwnLayout.{own_placed, placed_has_bytes}
-use Rattle.elf_model.specs.Pieces.{Piece, is_nobits, piece_of, pieces}
+use Rattle.elf_model.specs.Pieces.{Piece, is_alloc, is_nobits, piece_of, pieces}
 use Rattle.elf_model.specs.Placement.{Placed}
 use Rattle.elf_model.specs.Relocation.{Relocation, is_in_field, relocations, width_of}
 use Rattle.elf_model.specs.Resolution.{sections_of_object}
 use Rattle.elf_model.specs.WantedBytes.{byte_or_field, wanted_byte}
 use Rattle.elf_model.specs.declared.records.SectionHeader.{SectionHeader}
 use Rattle.elf_model.proofs.Finding.{find-none}
-use Rattle.elf_model.proofs.Listed.{All-from_contains, Contains-from_map}
+use Rattle.elf_model.proofs.Listed.{All-from_contains, Contains-from_map, Contains-from_slice_get}
 use Rattle.elf_model.proofs.Places.{AreOwnPlaced, at_own_address}
 use Rattle.elf_model.proofs.Sectioned.{pieces-each, relocations-each}
 
@@ -52,7 +52,7 @@ piece_headers objects =
 object_at : (objects : List LoadedObject) → AreObjects objects → (k : ℕ) (o : LoadedObject) → slice_get objects k ≡ Some o → IsObject o.bytes
 object_at objects good k o there =
     All-contains (λ (x : LoadedObject). IsObject x.bytes) objects o good
-    (k, slice_get_within objects k o there, get_or_from_slice_get objects k o o there)
+    (Contains-from_slice_get objects k o there)
 
 relocated_section :
     (bytes : List ℕ) → IsObject bytes → (h : SectionHeader) → Contains (sections bytes) h → h.sh_type ≡ 4 →
@@ -62,9 +62,10 @@ relocated_section bytes good h there rela =
 
 relocation_headers : (objects : List LoadedObject) → AreObjects objects → All (λ r. (header_at objects r.object r.section).sh_type ≢ 8) (relocations objects)
 relocation_headers objects good =
-    relocations-each (λ (r : Relocation). (header_at objects r.object r.section).sh_type ≢ 8) objects (λ k o there h within rela r.
+    relocations-each (λ (r : Relocation). (header_at objects r.object r.section).sh_type ≢ 8) objects (λ k o there h r entry.
+    let rela = (and_parts (h.sh_type == 4) (is_alloc (section (sections o.bytes) h.sh_info)) entry.kept).0 in
     subst (λ (g : SectionHeader). g.sh_type ≢ 8) (sym (header_in objects k o there h.sh_info))
-    (relocated_section o.bytes (object_at objects good k o there) h within rela))
+    (relocated_section o.bytes (object_at objects good k o there) h entry.section (eqb-true h.sh_type 4 rela)))
 
 -- a field in a piece is one of the piece's section
 own_section : (p : Piece) (k : ℕ) (r : Relocation) → is_in_field p.object p.section k r ≡ true → (r.object ≡ p.object) × (r.section ≡ p.section)

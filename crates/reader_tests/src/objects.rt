@@ -53,6 +53,15 @@ const HEADER: FileHeader = FileHeader {
     e_shstrndx: 4,
 };
 
+const NULL_SYMBOL: Symbol = Symbol {
+    st_name: 0,
+    st_info: 0,
+    st_other: 0,
+    st_shndx: 0,
+    st_value: 0,
+    st_size: 0,
+};
+
 const START: Symbol = Symbol {
     st_name: 1,
     st_info: 0x12,
@@ -175,19 +184,33 @@ fn assert_names(rt: &impl Abort, object: &Object<'_>) {
     assert!(rt; object.name(2).is_none());
 }
 
-/// Asserts the bytes of that object and of its sections.
+/// Asserts the bytes of the sections of that object.
 fn assert_bytes(rt: &impl Abort, object: &Object<'_>) {
     assert!(rt; object.section_bytes(0).is_none());
     assert!(rt; object.section_bytes(1) == Some(TEXT.as_slice()));
     assert!(rt; object.section_bytes(5).is_none());
-    assert_eq!(rt; object.bytes().len(), 496);
+}
+
+/// Asserts the tables of that object.
+fn assert_tables(rt: &impl Abort, object: &Object<'_>) {
+    let sections = [
+        NULL_SECTION,
+        TEXT_SECTION,
+        SYMTAB,
+        strings(15, 128, 8),
+        strings(23, 136, 33),
+    ];
+    assert!(rt; object.sections() == sections.as_slice());
+    assert!(rt; object.symbols() == [NULL_SYMBOL, START].as_slice());
 }
 
 #[test]
 fn an_object_is_read(rt: HostRuntime) -> Result<(), Fail> {
     let bytes = start_object(rt.alloc())?;
     let object = Object::read(rt.alloc(), View::new(&bytes))?;
-    assert_eq!(rt; [object.sections().len(), object.symbols().len()], [5, 2]);
+    assert_eq!(rt; bytes.len(), 496);
+    assert!(rt; object.bytes() == bytes.as_slice());
+    assert_tables(&rt, &object);
     assert_names(&rt, &object);
     assert_bytes(&rt, &object);
     Ok(())

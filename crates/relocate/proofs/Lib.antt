@@ -8,4 +8,5 @@ pub mod Patched
 pub mod RowCounts
 pub mod Rows
 pub mod Spelled
+pub mod ThreadSums
 pub mod Wanted

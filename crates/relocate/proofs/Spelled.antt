@@ -1,17 +1,11 @@
 -- What a write of the lowest bytes of a number leaves, by the spelling of the number.
-use Rattle.std.proofs.Common.{◌≡◌, ℕ, zero, suc, ◌+◌, ◌-◌, ◌/◌, ◌%◌, ◌≤◌, List, ◌∷◌, ◌++◌, drop, take, refl, ap, sym, ◌∙◌, arith}
+use Rattle.std.proofs.Common.{◌≡◌, ℕ, ◌+◌, ◌-◌, List, ◌++◌, drop, take, ap, sym, ◌∙◌, arith}
 use Rattle.std.proofs.lemmas.Slice.{put_mid-paste}
 use borrow.Rule.Slice.PartMut.{put_mid}
-use Rattle.byteview.proofs.NumberLaws.{length-le_bytes}
+use Rattle.byteview.proofs.NumberLaws.{length-le_bytes, take-le_bytes}
 use Rattle.byteview.specs.Numbers.{le_bytes}
 use Rattle.relocate.specs.Patches.{put}
 use Rattle.relocate.specs.declared.patch.Patch.{Patch}
-
-pub take-le_bytes : (w n x : ℕ) → w ≤ n → take w (le_bytes n x) ≡ le_bytes w x
-unfolding le_bytes
-take-le_bytes zero n x low = refl
-take-le_bytes (suc w) zero x low = absurd (omega (arith, low))
-take-le_bytes (suc w) (suc n) x low = ap (λ (bs : List ℕ). x % 256 ∷ bs) (take-le_bytes w n (x / 256) (omega (arith, low)))
 
 pub written : (base bytes : List ℕ) (p : Patch) → bytes ≡ le_bytes p.width p.value → put_mid p.at (p.at + p.width - p.at) base bytes ≡ put base p
 written base bytes p e =

@@ -1,8 +1,8 @@
 -- The bytes of a section with the patches of its object's relocations over them are the wanted ones.
-use Rattle.std.proofs.Common.{◌≡◌, ℕ, ◌+◌, ◌<◌, ◌≤◌, ◌==◌, ◌&&◌, Bool, true, false, List, get_or, length, map, nat_le, nat_lt, option_map, refl, subst, sym, ap, ◌∙◌, arith}
+use Rattle.std.proofs.Common.{◌≡◌, ℕ, ◌+◌, ◌<◌, ◌≤◌, ◌&&◌, Bool, true, List, get_or, length, map, option_map, subst, sym, ap, ◌∙◌, arith}
 use Rattle.std.specs.Prelude.{All, AllPairs, filter, find}
 use Rattle.std.specs.List.{range_with_len}
-use Rattle.std.proofs.lemmas.Bool.{eqb-true, eq-eqb}
+use Rattle.std.proofs.lemmas.Bool.{eqb-true}
 use Rattle.std.proofs.lemmas.List.{ext_get_or}
 use Rattle.std.proofs.lemmas.List.Elements.{All-filter, All-map, filter_passes}
 use Rattle.std.proofs.lemmas.List.FromFn.{get_or-map-range_with_len, length-map-range_with_len}
@@ -14,21 +14,10 @@ use Rattle.elf_model.specs.Loading.{LoadedObject}
 use Rattle.elf_model.specs.ObjectFile.{section, sections}
 use Rattle.elf_model.specs.Placement.{Placed}
 use Rattle.elf_model.specs.Relocation.{AreFieldsApart, IsLawfulRelocation, Relocation, is_in_field, relocations_from, width_of}
+use Rattle.elf_model.proofs.OwnFields.{in_range}
 use Rattle.relocate.proofs.Patched.{length-patched, patched_at}
 use Rattle.relocate.specs.Patches.{AreDisjoint, FitsIn, byte_of, covers, patched}
 use Rattle.relocate.specs.Values.{is_in_section, patch_of, patches_in}
-
-same_test : (a b c : Bool) → b && (a && c) ≡ ((true && b) && a) && c
-same_test a true c = refl
-same_test a false c = refl
-
--- byte j of section s lies in a field where it lies in the patch of one of the section's relocations
-test_is :
-    (objects : List LoadedObject) (ps : List Placed) (k s j : ℕ) (r : Relocation) → r.object ≡ k →
-    is_in_section s r && covers j (patch_of objects ps r) ≡ is_in_field k s j r
-test_is objects ps k s j r own =
-    same_test (nat_le r.entry.r_offset j) (r.section == s) (nat_lt j (r.entry.r_offset + width_of r))
-    ∙ ap (λ (b : Bool). ((b && (r.section == s)) && nat_le r.entry.r_offset j) && nat_lt j (r.entry.r_offset + width_of r)) (sym (eq-eqb r.object k own))
 
 pub patch_found :
     (objects : List LoadedObject) (ps : List Placed) (k s j : ℕ) (rs : List Relocation) → All (λ r. r.object ≡ k) rs →
@@ -38,7 +27,7 @@ patch_found objects ps k s j rs own =
     ∙ ap (option_map (patch_of objects ps))
     (find-filter (is_in_section s) (λ r. covers j (patch_of objects ps r)) rs
     ∙ find-agree (λ r. is_in_section s r && covers j (patch_of objects ps r)) (is_in_field k s j) rs
-    (λ i d low. test_is objects ps k s j (get_or rs i d) (own i d low)))
+    (λ i d low. in_range k s j (get_or rs i d) (own i d low)))
 
 -- patches of relocations of one object whose fields are apart
 pub patches_apart :
@@ -56,7 +45,7 @@ patches_apart objects ps k s rs own apart =
         is_in_field k s x (get_or (filter (is_in_section s) rs) i d) ≡ true
     within i d low x e =
         let r = get_or (filter (is_in_section s) rs) i d in
-        sym (test_is objects ps k s x r (All-filter (is_in_section s) (λ (t : Relocation). t.object ≡ k) rs own i d low))
+        sym (in_range k s x r (All-filter (is_in_section s) (λ (t : Relocation). t.object ≡ k) rs own i d low))
         ∙ (ap (λ (b : Bool). b && covers x (patch_of objects ps r)) (filter_passes (is_in_section s) rs i d low) ∙ e)
 
 -- patches of lawful relocations lie inside the section

@@ -1,5 +1,5 @@
 -- The code's kinds as the definitions see them, and the terms of values modulo 2 ^ 64.
-use Rattle.std.specs.Prelude.{◌≡◌, pos, ◌%◌, ◌^◌}
+use Rattle.std.specs.Prelude.{◌≡◌, ◌%◌, ◌^◌}
 use Rattle.elf_model.specs.Relocation as relocation
 use Rattle.relocate.specs.declared.kinds.Formula as code_formula
 use Rattle.relocate.specs.declared.kinds.Formula.TheVariants as formula
@@ -28,12 +28,12 @@ range_view range.Either = relocation.Either
 abbrev pub kind_view : code_kind.Kind → relocation.Kind
 kind_view k = record { number = k.number; width = k.width; formula = formula_view k.formula; range = range_view k.range }
 
--- the code's terms are what some terms leave modulo 2 ^ 64, where there is no GOT and no thread storage
+-- the code's terms are what whole ones leave modulo 2 ^ 64
 pub record Reduces (t : code_terms.Terms) (x : relocation.Terms) : Type 0 where
   pub symbol : t.symbol ≡ x.s % 2 ^ 64
   pub addend : x.a ≡ t.addend
   pub place : t.place ≡ x.p % 2 ^ 64
+  pub slot : t.slot ≡ x.g % 2 ^ 64
+  pub got : t.got ≡ x.got % 2 ^ 64
   pub size : t.size ≡ x.z % 2 ^ 64
-  pub no_slot : x.g ≡ 0
-  pub no_got : x.got ≡ 0
-  pub no_thread : x.t ≡ pos 0
+  pub thread : t.thread ≡ relocation.modulo_64 x.t

@@ -38,6 +38,6 @@ impl<T: Drop> From<AllocFailed<T>> for RelocFault {
     ghost from_gives = { λ _ fault. fault ≡ reloc_fault.Memory };
 
     fn from(_error: AllocFailed<T>) -> RelocFault {
-        RelocFault::Memory
+        RelocFault::from(AllocError)
     }
 }

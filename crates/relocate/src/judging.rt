@@ -8,7 +8,7 @@ ghost use Rattle.relocate.specs.References.{IsObjectAt, RelocationFails};
 
 use crate::faults::RelocFault;
 use crate::fields::Field;
-use crate::kinds::{is_mismatch, kind_of};
+use crate::kinds::{Kind, is_mismatch};
 use crate::targets::{is_thread_local, is_undefined, name_of, refers_to_dropped, undefined};
 use elf_model::Rela;
 use elf_read::Object;
@@ -32,7 +32,7 @@ pub fn lawful_field(
     ensures lawful { OnOk result (IsLawfulRelocation resolved.now (relocation_of number object.now target entry.now)) }
     ensures fault { IfErr result (RelocationFails resolved.now (relocation_of number object.now target entry.now)) }
 {
-    let Some(kind) = kind_of(entry.kind()) else {
+    let Some(kind) = Kind::of(entry.kind()) else {
         return Err(RelocFault::RelocKind);
     };
     let symbol = entry.symbol() as usize;

@@ -1,6 +1,6 @@
 //! The kinds of relocations: the width of their fields, how their values are made, and which values fit
 //! (AMD64 psABI 4.4, "Relocation Types"; the ranges of all kinds but 32 and 32S are the profile's).
-ghost use Rattle.std.specs.Prelude.{◌≡◌, ◌↔◌, ◌+◌, ◌-◌, ◌*◌, ◌%◌, ◌<◌, ◌≤◌, ◌^◌, ◌-ℤ◌, ◌+ℤ◌, ◌==◌, ℕ, IfSome, IsTrue, find, option_copied, option_map, pos};
+ghost use Rattle.std.specs.Prelude.{◌≡◌, ◌↔◌, ◌+◌, ◌-◌, ◌*◌, ◌%◌, ◌<◌, ◌^◌, ◌-ℤ◌, ◌+ℤ◌, ◌==◌, ℕ, ℤ, IsTrue, find, option_copied, option_map, pos};
 ghost use Rattle.elf_model.specs.Relocation as relocation;
 ghost use Rattle.relocate.specs.Kinds.{Reduces, formula_view, kind_view, range_view};
 
@@ -48,6 +48,21 @@ pub struct Kind {
     pub range: Range,
 }
 
+impl Kind {
+    /// The kind of a type; None where the table has none, as for type 0, NONE, which relocates nothing.
+    pub fn of(number: u32) -> Option<Kind>
+        ensures { option_map kind_view result ≡ relocation.kind_of number }
+    {
+        let row = row_of(&KINDS, number)?;
+        Some(Kind {
+            number: row.0,
+            width: row.1,
+            formula: row.2,
+            range: row.3,
+        })
+    }
+}
+
 type Row = (u32, u8, Formula, Range);
 
 /// The number, width, formula and range of each kind.
@@ -78,20 +93,6 @@ static KINDS: [Row; 24] = [
     (42, 4, Formula::SlotFromPlace, Range::Signed),
 ];
 
-/// The kind of a type; None where the table has none, as for type 0, NONE, which relocates nothing.
-pub fn kind_of(number: u32) -> Option<Kind>
-    ensures kind { option_map kind_view result ≡ relocation.kind_of number }
-    ensures width { IfSome result (λ k. (0 < k.width) × (k.width ≤ 8)) }
-{
-    let row = row_of(&KINDS, number)?;
-    Some(Kind {
-        number: row.0,
-        width: row.1,
-        formula: row.2,
-        range: row.3,
-    })
-}
-
 /// The first row of a number.
 fn row_of<'b>(rows: &'b [Row], number: u32) -> Option<&'b Row>
     ensures { option_copied result ≡ find (λ row. row.0 == number) rows.entry.now }
@@ -99,31 +100,58 @@ fn row_of<'b>(rows: &'b [Row], number: u32) -> Option<&'b Row>
     rows.iter().find(|row| row.0 == number)
 }
 
-/// What the letters of the formulas stand for, of numbers modulo 2 to the 64. There is no GOT and no
-/// thread storage, so the letters that speak of these stand for 0.
+/// What the letters of the formulas stand for (AMD64 psABI 4.4), modulo 2 to the 64 but for the addend. Where
+/// there is no GOT its letters stand for 0, where there is no thread-local storage `thread` does.
 #[derive(Clone, Copy, Debug)]
 pub struct Terms {
+    /// S: the value of the symbol.
     pub symbol: u64,
+    /// A: the addend.
     pub addend: i64,
+    /// P: the address of the field's first byte.
     pub place: u64,
+    /// G: the slot's offset from the beginning of the GOT.
+    pub slot: u64,
+    /// GOT: the address of the GOT.
+    pub got: u64,
+    /// Z: the size of the symbol.
     pub size: u64,
+    /// The offset of S from the thread pointer (`ELF Handling For Thread-Local Storage`, variant II).
+    pub thread: u64,
 }
 
-/// The value of a relocation, modulo 2 to the 64, from the terms that some numbers leave.
-pub fn value(formula: Formula, terms: &Terms) -> u64
-    ensures { (x : relocation.Terms) → Reduces terms.now x → result ≡ relocation.modulo_64 (relocation.whole_value (formula_view formula) x) }
+/// The value of a relocation of a kind, modulo 2 to the 64, from what whole terms leave modulo 2 to the 64.
+pub fn value(kind: Kind, terms: Terms) -> u64
+    ensures { (x : relocation.Terms) → Reduces terms x → result ≡ relocation.modulo_64 (relocation.whole_value (formula_view kind.formula) x) }
 {
-    match formula {
+    match kind.formula {
         Formula::Symbol => sum(terms.symbol, terms.addend),
         Formula::SymbolFromPlace => difference(terms.symbol, terms.addend, terms.place),
-        Formula::SymbolFromGot => difference(terms.symbol, terms.addend, 0),
-        Formula::Slot => sum(0, terms.addend),
-        Formula::SlotFromPlace => difference(0, terms.addend, terms.place),
-        Formula::GotFromPlace => difference(0, terms.addend, terms.place),
+        Formula::SymbolFromGot => difference(terms.symbol, terms.addend, terms.got),
+        Formula::Slot => sum(terms.slot, terms.addend),
+        Formula::SlotFromPlace => slot_difference(terms),
+        Formula::GotFromPlace => difference(terms.got, terms.addend, terms.place),
         Formula::Size => sum(terms.size, terms.addend),
-        Formula::ThreadOffset => sum(0, terms.addend),
-        Formula::ThreadSlotFromPlace => difference(0, terms.addend, terms.place),
+        Formula::ThreadOffset => thread_sum(terms.thread, terms.addend),
+        Formula::ThreadSlotFromPlace => slot_difference(terms),
     }
+}
+
+/// G + GOT + A - P
+fn slot_difference(terms: Terms) -> u64
+    ensures { (x : relocation.Terms) → Reduces terms x → result ≡ relocation.modulo_64 ((pos (x.g + x.got) +ℤ x.a) -ℤ pos x.p) }
+{
+    difference(
+        terms.slot.wrapping_add(terms.got),
+        terms.addend,
+        terms.place,
+    )
+}
+
+fn thread_sum(offset: u64, addend: i64) -> u64
+    ensures { (t : ℤ) → offset ≡ relocation.modulo_64 t → result ≡ relocation.modulo_64 (t +ℤ addend) }
+{
+    sum(offset, addend)
 }
 
 fn sum(n: u64, addend: i64) -> u64
@@ -151,14 +179,12 @@ pub fn is_mismatch(formula: Formula, inside: bool) -> bool
     }
 }
 
-/// Whether a value of 64 bits fits a field of so many bytes.
-pub fn fits(range: Range, width: u8, value: u64) -> bool
-    requires some { 0 < width }
-    requires few { width ≤ 8 }
-    ensures { IsTrue result ↔ relocation.IsInRange (range_view range) (8 * width) value }
+/// Whether a value of 64 bits fits the field of a kind.
+pub fn fits(kind: Kind, value: u64) -> bool
+    ensures { IsTrue result ↔ relocation.IsInRange (range_view kind.range) (8 * kind.width) value }
 {
-    let bits = 8 * width as u32;
-    match range {
+    let bits = 8 * kind.width as u32;
+    match kind.range {
         Range::Always => true,
         Range::Signed => is_signed(bits, value),
         Range::Unsigned => is_unsigned(bits, value),
@@ -168,18 +194,21 @@ pub fn fits(range: Range, width: u8, value: u64) -> bool
 
 /// Whether a value of 64 bits is a signed number of so many bits.
 fn is_signed(bits: u32, value: u64) -> bool
-    requires some { 0 < bits }
-    requires few { bits ≤ 64 }
     ensures { IsTrue result ↔ relocation.IsSigned bits value }
 {
-    let half = 1u64 << (bits - 1);
+    if bits > 64 {
+        return true;
+    }
+    let half = 1u64 << bits.saturating_sub(1);
     value < half || value >= half.wrapping_neg()
 }
 
 /// Whether a value of 64 bits is an unsigned number of so many bits.
 fn is_unsigned(bits: u32, value: u64) -> bool
-    requires { bits ≤ 64 }
     ensures { IsTrue result ↔ (value < 2 ^ bits) }
 {
-    bits == 64 || value < 1u64 << bits
+    if bits >= 64 {
+        return true;
+    }
+    value < 1u64 << bits
 }

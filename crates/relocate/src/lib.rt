@@ -16,6 +16,6 @@ mod values;
 
 pub use applying::{PatchTable, Patches};
 pub use faults::RelocFault;
-pub use kinds::{Formula, Kind, Range, Terms, fits, kind_of, value};
+pub use kinds::{Formula, Kind, Range, Terms, fits, value};
 pub use lawful::references;
 pub use patching::patches;

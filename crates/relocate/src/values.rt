@@ -7,7 +7,7 @@ ghost use Rattle.relocate.specs.Kinds.{Reduces};
 ghost use Rattle.relocate.specs.References.{IsObjectAt};
 ghost use Rattle.relocate.specs.Values.{patch_of, placed_in};
 
-use crate::kinds::{Terms, fits, kind_of, value};
+use crate::kinds::{Kind, Terms, fits, value};
 use crate::patch::Patch;
 use elf_model::{Rela, SHN_ABS};
 use elf_read::Object;
@@ -66,7 +66,10 @@ fn terms(
         symbol: value_or_none(placement, &definition),
         addend: entry.r_addend,
         place: at.wrapping_add(entry.r_offset),
+        slot: 0,
+        got: 0,
         size: size_or_none(&definition),
+        thread: 0,
     }
 }
 
@@ -85,12 +88,12 @@ pub fn patch(
     requires known { IsSome (relocation_kind (relocation_of number object.now target entry.now)) }
     ensures { SomeIff result (Fits resolved.now (placed_in placement.now) (relocation_of number object.now target entry.now)) (patch_of resolved.now (placed_in placement.now) (relocation_of number object.now target entry.now)) }
 {
-    let Some(kind) = kind_of(entry.kind()) else {
+    let Some(kind) = Kind::of(entry.kind()) else {
         unreachable!()
     };
     let terms = terms(resolved, placement, number, object, target, at, entry);
-    let value = value(kind.formula, &terms);
-    if !fits(kind.range, kind.width, value) {
+    let value = value(kind, terms);
+    if !fits(kind, value) {
         return None;
     }
     Some(Patch {

@@ -1,6 +1,6 @@
 -- The definition that a binary search by name finds.
-use Rattle.std.proofs.Common.{◌≡◌, ℕ, ◌<◌, Bool, true, false, cond, List, [], ◌∷◌, length, get_or, refl, sym, ◌∙◌, ap, arith}
-use Rattle.std.specs.Prelude.{All, find, nat_lt, None, Some, option_map, slice_get}
+use Rattle.std.proofs.Common.{◌≡◌, ℕ, ◌<◌, Bool, true, false, List, [], ◌∷◌, length, get_or, refl, sym, ◌∙◌, ap, arith}
+use Rattle.std.specs.Prelude.{find, nat_lt, None, Some, option_map, slice_get}
 use Rattle.std.specs.Cmp.Lexicographic.{slice_cmp}
 use Rattle.std.specs.List.{HoldsAt}
 use Rattle.std.specs.List.Sorted.{IsNonDecreasingBy, IsPartitionPoint, IsSortedByKey}
@@ -9,10 +9,11 @@ use Rattle.std.specs.declared.cmp.Ordering.TheVariants.{Less, Equal, Greater}
 use Rattle.std.proofs.lemmas.Bool.{ltb-false, ltb-true}
 use Rattle.std.proofs.lemmas.Cmp.{nat_list_cmp_total}
 use Rattle.std.proofs.lemmas.List.{get_or-map, length-map}
-use Rattle.std.proofs.lemmas.List.Elements.{All-head, All-map, All-tail}
+use Rattle.std.proofs.lemmas.List.Elements.{All-map}
 use Rattle.std.proofs.lemmas.List.Sorted.{searchable_from_sorted}
 use Rattle.std.proofs.lemmas.Map.Text.{is_eq-slice_cmp}
 use Rattle.std.proofs.lemmas.Option.{slice_get-get_or}
+use Rattle.elf_model.proofs.Finding.{find-none}
 use Rattle.elf_model.proofs.RisingNames.{find_permuted}
 use Rattle.elf_model.specs.Loading.{LoadedObject}
 use Rattle.elf_model.specs.Resolution.{SymbolOf, chosen, has_name, strong_definitions}
@@ -20,12 +21,6 @@ use Rattle.resolve.specs.Defined.{AreDefinitions, HasEachNameOnce}
 use Rattle.resolve.specs.Views.{symbol_view, symbol_views}
 use Rattle.resolve.specs.declared.entries.SymbolOf as code
 use Rattle.resolve.proofs.NamedOnce.{found_itself}
-
-absent : {X : Type 0} (p : X → Bool) (xs : List X) → All (λ x. p x ≡ false) xs → find p xs ≡ None
-absent p [] all = refl
-absent {X} p (x ∷ xs) all =
-    ap (λ b. cond b (Some x) (find p xs)) (All-head (λ (y : X). p y ≡ false) x xs all)
-    ∙ absent p xs (All-tail (λ (y : X). p y ≡ false) x xs all)
 
 module _ (xs : List code.SymbolOf) (n : List ℕ) where
   -- it ends at a definition of the name
@@ -54,7 +49,7 @@ module _ (xs : List code.SymbolOf) (n : List ℕ) where
       None ≡ find (has_name n) (symbol_views xs)
   search_missed rising i parted =
       let parts = parted (searchable_from_sorted nat_list_cmp_total (λ (s : code.SymbolOf). s.name.now) xs n rising) in
-      sym (absent (has_name n) (symbol_views xs) (All-map (λ (s : SymbolOf). has_name n s ≡ false) symbol_view xs (λ k d within.
+      sym (find-none (has_name n) (symbol_views xs) (All-map (λ (s : SymbolOf). has_name n s ≡ false) symbol_view xs (λ k d within.
       sym (is_eq-slice_cmp (get_or xs k d).name.now n) ∙ by k d within (nat_lt k i) refl parts)))
     where
       by :

@@ -1,12 +1,13 @@
 //! Which definition a name means: whether the symbols of the loaded objects are sound, the strong
 //! definitions in the order of their names, and for each symbol the definition that a reference to it
-//! uses (System V gABI 4, "Symbol Table"; what is refused is the profile's).
+//! uses (System V gABI 4, "Symbol Table"; what is refused is the profile's); and the names of output sections.
 #![tactic(auto)]
 
 mod defining;
 mod entries;
 mod faults;
 mod offering;
+mod output_names;
 mod places;
 mod plain;
 mod ranks;
@@ -17,5 +18,6 @@ mod soundness;
 
 pub use entries::SymbolOf;
 pub use faults::ResolveFault;
+pub use output_names::output_name;
 pub use plain::have_plain_names;
 pub use resolved::{Resolved, resolve, resolve_over};

@@ -1,9 +1,8 @@
 //! Whether the symbols of the loaded objects are sound.
-ghost use Rattle.std.specs.Prelude.{◌≡◌, ◌≤◌, ◌↔◌, All, IsTrue};
+ghost use Rattle.std.specs.Prelude.{◌≤◌, ◌↔◌, All, IsTrue};
 ghost use Rattle.elf_model.specs.ObjectFile.{symbols};
-ghost use Rattle.elf_model.specs.Resolution.{AreSoundSymbols, IsSoundSymbol, binding, symbols_from};
+ghost use Rattle.elf_model.specs.Resolution.{AreSoundSymbols, IsSoundSymbol, StandsWell, binding, symbols_from};
 ghost use Rattle.search.specs.Views.{loaded_views};
-ghost use Rattle.resolve.specs.Sound.{StandsWell};
 ghost use Rattle.resolve.specs.Views.{symbol_in};
 
 use crate::entries::name_of;

@@ -1,23 +1,20 @@
 -- Faults of loading.
-use Rattle.std.proofs.Common.{◌≡◌, ◌≢◌, ℕ, suc, ◌+◌, ◌<◌, Bool, false, List, [], ◌∷◌, ◌++◌, length, get_or, drop, drop-cons, refl, ap, ◌∙◌, subst, sym, arith, append_assoc, length-append}
+use Rattle.std.proofs.Common.{◌≡◌, ◌≢◌, ℕ, Bool, List, ◌∷◌, ◌++◌, length, get_or, subst, sym, arith, length-append}
 use Rattle.std.specs.Prelude.{All, Any, IfErr, IsTrue, OnOk, Result, Ok, Err, map}
 use Rattle.std.proofs.Math.Seq.{get_or-append_seam}
-use Rattle.std.proofs.lemmas.List.{map-append}
-use Rattle.std.proofs.lemmas.List.Elements.{All-map, All-push}
+use Rattle.std.proofs.lemmas.List.Elements.{All-map}
 use Rattle.command.specs.Views.{item_of}
 use Rattle.command.specs.declared.items.Item.{Item}
 use Rattle.elf_model.specs.Command.{Plan}
 use Rattle.elf_model.specs.Files.{File}
-use Rattle.elf_model.specs.Loading.{AreFilesThere, AreObjects, HasFile, LoadedObject, loaded_objects, objects_from}
-use Rattle.elf_model.specs.ObjectFile.{IsObject, ObjFaultStands}
+use Rattle.elf_model.specs.Loading.{AreFilesThere, HasFile, LoadedObject, loaded_objects}
+use Rattle.elf_model.specs.ObjectFile.{ObjFaultStands}
 use Rattle.elf_model.specs.declared.faults.ObjFault.{ObjFault}
 use Rattle.elf_model.specs.declared.faults.ObjFault.TheVariants as fault
 use Rattle.elf_model.proofs.Listed.{All-unmap}
-use Rattle.search.specs.Search.{Becomes, ItemsFail, LoadFails, ReadFails, loaded_item}
-use Rattle.search.specs.Views.{loaded_view, loaded_views}
+use Rattle.search.specs.Search.{Becomes, ItemsFail, LoadFails, ReadFails}
 use Rattle.search.specs.declared.faults.SearchFault.{SearchFault}
 use Rattle.search.specs.declared.faults.SearchFault.TheVariants as error
-use Rattle.search.specs.declared.loading.Loaded.{Loaded}
 
 named : (bytes : List ℕ) (f : ObjFault) (e : SearchFault) → e ≡ error.BadObject f → f ≢ fault.Memory → ObjFaultStands bytes f → ReadFails bytes e
 named bytes f e is other s = subst (ReadFails bytes) (sym is) (other, s)
@@ -46,42 +43,6 @@ items_fail done rest o whole (error.BadObject f) is s =
     let n = length-append done (o ∷ rest) in
     (s.0, subst (Any (λ (x : LoadedObject). ObjFaultStands x.bytes f)) is (length done, o, omega (arith, n), at, s.1))
 items_fail done rest o whole _ is s = absurd s
-
--- One item more.
-pub split_item :
-    (files : List File) (items : List Item) (i : ℕ) (d : Item) → i < length items → (get_or items i d).archive ≡ false →
-    objects_from files i (map item_of (drop i items))
-    ≡ loaded_item files i (item_of (get_or items i d)) ∷ objects_from files (i + 1) (map item_of (drop (i + 1) items))
-split_item files items i d within file =
-    let e : i + 1 ≡ suc i = omega arith in
-    let s = drop-cons items i d within in
-    ap (λ (xs : List Item). objects_from files i (map item_of xs)) s ∙ rw (file, e) refl
-
-pub load_step :
-    (files : List File) (items : List Item) (i : ℕ) (d : Item) (objects new : List Loaded) (object : Loaded) (whole : List LoadedObject) →
-    i < length items → (get_or items i d).archive ≡ false →
-    loaded_view object ≡ loaded_item files i (item_of (get_or items i d)) →
-    new ≡ objects ++ object ∷ [] →
-    loaded_views objects ++ objects_from files i (map item_of (drop i items)) ≡ whole →
-    loaded_views new ++ objects_from files (i + 1) (map item_of (drop (i + 1) items)) ≡ whole
-load_step files items i d objects new object whole within file is grown done =
-    let rest = objects_from files (i + 1) (map item_of (drop (i + 1) items)) in
-    let views : loaded_views new ≡ loaded_views objects ++ loaded_view object ∷ [] =
-    ap loaded_views grown ∙ map-append loaded_view objects (object ∷ []) in
-    ap (λ (v : List LoadedObject). v ++ rest) views
-    ∙ (append_assoc (loaded_views objects) (loaded_view object ∷ []) rest
-    ∙ (ap (λ (o : LoadedObject). loaded_views objects ++ (o ∷ rest)) is
-    ∙ (ap (λ (v : List LoadedObject). loaded_views objects ++ v) (sym (split_item files items i d within file)) ∙ done)))
-
-pub objects_more :
-    (objects new : List Loaded) (object : Loaded) (o : LoadedObject) → loaded_view object ≡ o → new ≡ objects ++ object ∷ [] → IsObject o.bytes →
-    AreObjects (loaded_views objects) → AreObjects (loaded_views new)
-objects_more objects new object o is grown one all =
-    let views : loaded_views new ≡ loaded_views objects ++ loaded_view object ∷ [] =
-    ap loaded_views grown ∙ map-append loaded_view objects (object ∷ []) in
-    subst AreObjects (sym views)
-    (All-push (λ (x : LoadedObject). IsObject x.bytes) (loaded_views objects) (loaded_view object) all
-    (subst (λ (x : LoadedObject). IsObject x.bytes) (sym is) one))
 
 -- The plan's own items, as the definitions see them.
 pub there_iff :

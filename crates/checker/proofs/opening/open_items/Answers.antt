@@ -1,7 +1,9 @@
 use Rattle.std.proofs.Common.{◌≡◌, ◌∙◌, false, true, get_or, refl, subst, sym}
 use Rattle.command.specs.Views.{item_of}
 use Rattle.elf_model.specs.Files.{files_of}
-use Rattle.checker.proofs.OpenedLemmas.{HasObject, found_item, item_more, item_stops, no_item, objects_more}
+use Rattle.checker.specs.Views.{loaded_view}
+use Rattle.elf_model.proofs.ObjectSteps.{object_more, objects_more}
+use Rattle.checker.proofs.OpenedLemmas.{HasObject, found_item, item_stops, no_item}
 use Rattle.checker.proofs.opening.open_items.Goals as goal
 
 pub returns-in_default-clause-objects : goal.returns-in_default-clause-objects
@@ -25,9 +27,9 @@ loop-i-preserved c =
     let object = rw c.in-Some.is at c.in_ok-object.ensures.object in
     record {
       so_far =
-          item_more files c.args.items.now c.loop-i.i no_item c.loop-i.objects.items c.push.new.self.items c.in-Some.object _
-          c.loop-i-test.true c.if-item.false (exact ∙ same) c.in_ok-push.ensures.items c.loop-i.invariant.so_far;
+          object_more item_of files c.args.items.now c.loop-i.i no_item c.loop-i-test.true c.if-item.false
+          loaded_view c.loop-i.objects.items c.push.new.self.items c.in-Some.object _ (exact ∙ same) c.in_ok-push.ensures.items c.loop-i.invariant.so_far;
       objects =
-          objects_more c.loop-i.objects.items c.push.new.self.items c.in-Some.object c.in_ok-push.ensures.items c.loop-i.invariant.objects
-          (subst HasObject (sym exact) (object.0 refl));
+          objects_more loaded_view c.loop-i.objects.items c.push.new.self.items c.in-Some.object _ exact c.in_ok-push.ensures.items
+          (object.0 refl) c.loop-i.invariant.objects;
     }

@@ -2,9 +2,11 @@ use Rattle.std.proofs.Common.{refl, subst, sym}
 use Rattle.std.specs.Prelude.{All, AllPairs}
 use Rattle.std.proofs.lemmas.Bool.{false≢true}
 use Rattle.elf_model.specs.Relocation.{relocations_from}
-use Rattle.checker.specs.Fields.{AreApart, IsNarrow}
+use Rattle.checker.specs.Fields.{AreApart, IsNarrow, field_of}
+use Rattle.elf_model.proofs.Pairs.{AllPairs-map, AllPairs-unmap}
 use Rattle.elf_model.proofs.RelocationFields.{own_object}
-use Rattle.checker.proofs.ObjectFields.{apart_of_fields, fields_of_apart, narrow_fields}
+use Rattle.elf_model.proofs.OwnFields.{apart_of_ranges, ranges_of_apart}
+use Rattle.checker.proofs.ObjectFields.{narrow_fields}
 use Rattle.checker.proofs.RowFacts.{row_of_object}
 use Rattle.checker.proofs.rows.object_row.Goals as goal
 
@@ -26,14 +28,16 @@ pub returns-clause-right : goal.returns-clause-right
 returns-clause-right c =
     let b = c.args.bindings.now in
     let rs = relocations_from c.args.number c.args.object.now in
+    let field = field_of b.objects b.placed in
     let e = rw c.in-Some.is at c.in_ok-fields.ensures.fields in
     let r = rw c.in-Some.is at c.in_ok-fields.ensures.right in (
       λ t. record {
         each = r.0 refl;
-        apart = apart_of_fields b.objects b.placed rs (subst (AllPairs AreApart) e (c.in_ok-row.ensures.apart.0 t));
+        apart = apart_of_ranges rs (AllPairs-unmap AreApart field rs (subst (AllPairs AreApart) e (c.in_ok-row.ensures.apart.0 t)));
       },
       λ a. c.in_ok-row.ensures.apart.1
-          (subst (AllPairs AreApart) (sym e) (fields_of_apart b.objects b.placed c.args.number rs (own_object c.args.number c.args.object.now) a.apart)),
+          (subst (AllPairs AreApart) (sym e)
+          (AllPairs-map AreApart field rs (ranges_of_apart c.args.number rs (own_object c.args.number c.args.object.now) a.apart))),
     )
 
 pub returns-clause-row : goal.returns-clause-row

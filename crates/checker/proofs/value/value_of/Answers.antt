@@ -10,4 +10,4 @@ returns c =
     c.cast_unsigned.ensures ∙ ap (of_z w64) (to_z-of_z w64 c.args.addend c.ranges.addend) in
     ap (λ (n : ℕ). ((c.base_of.result + n) % 2 ^ 64 + (2 ^ 64 - c.less_of.result)) % 2 ^ 64) bits
     ∙ value_is c.args.formula c.args.s c.args.z c.args.p c.base_of.result c.less_of.result c.args.addend c.ranges.addend
-    (let t = c.cast_unsigned.type_inv in rw (bits) at t) c.less_of.type_inv c.base_of.ensures c.less_of.ensures
+    c.base_of.type_inv c.less_of.type_inv c.base_of.ensures c.less_of.ensures

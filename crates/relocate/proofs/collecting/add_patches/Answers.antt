@@ -1,8 +1,8 @@
-use Rattle.std.proofs.Common.{◌≡◌, ◌+◌, ◌∷◌, [], true, get_or, map, pos, sym, ◌∙◌}
-use Rattle.std.specs.Prelude.{IsSome, filter}
+use Rattle.std.proofs.Common.{◌∷◌, [], pos, sym, ◌∙◌}
+use Rattle.std.specs.Prelude.{IsSome}
 use Rattle.std.proofs.lemmas.List.Elements.{All-head}
-use Rattle.elf_model.proofs.FlatRelocations.{entry_more, left_of_entries}
-use Rattle.elf_model.specs.Relocation.{Relocation, is_some_kind, relocation_kind, relocation_of}
+use Rattle.elf_model.proofs.FlatRelocations.{entry_more}
+use Rattle.elf_model.specs.Relocation.{Relocation, relocation_kind}
 use Rattle.relocate.specs.declared.faults.RelocFault.TheVariants as error
 use Rattle.elf_model.specs.declared.records.Rela.{Rela}
 use Rattle.relocate.proofs.Fitted.{fit_part, fitting_fails, known_part, one_fails, one_fits}
@@ -16,46 +16,25 @@ null_rela = record { r_offset = 0; r_info = 0; r_addend = pos 0 }
 pub patch-requires-clause-known : goal.patch-requires-clause-known
 unfolding null_rela
 patch-requires-clause-known c =
-    let make = relocation_of c.args.number c.args.object.now c.args.target in
-    let es = c.args.entries.now in
-    let left = left_of_entries c.args.number c.args.object.now c.args.target es in
-    let r = make (get_or es c.loop-i.i null_rela) in
-    let kept : is_some_kind (get_or es c.loop-i.i null_rela) ≡ true = sym c.is_some_kind.ensures ∙ c.if-not-is_some_kind.false in
-    let parts = entry_more c.args.number c.args.object.now c.args.target es c.loop-i.i null_rela c.loop-i-test.true kept in
-    All-head (λ (t : Relocation). IsSome (relocation_kind t)) r []
-    (known_part c.args.resolved.now (placed_in c.args.placement.now) (map make (filter is_some_kind es)) (left c.loop-i.i) (r ∷ []) (left (c.loop-i.i + 1)) parts
-    c.loop-i.invariant.leaves)
+    let kept = sym c.is_some_kind.ensures ∙ c.if-not-is_some_kind.false in
+    let parts = entry_more c.args.number c.args.object.now c.args.target c.args.entries.now c.loop-i.i null_rela c.loop-i-test.true kept in
+    All-head (λ (t : Relocation). IsSome (relocation_kind t)) _ [] (known_part _ _ _ _ (_ ∷ []) _ parts c.loop-i.invariant.leaves)
 
 pub returns-in_default-clause-fault : goal.returns-in_default-clause-fault
 unfolding null_rela
 returns-in_default-clause-fault c =
-    let L = c.args.resolved.now in
-    let ps = placed_in c.args.placement.now in
-    let make = relocation_of c.args.number c.args.object.now c.args.target in
-    let es = c.args.entries.now in
-    let left = left_of_entries c.args.number c.args.object.now c.args.target es in
-    let r = make (get_or es c.loop-i.i null_rela) in
-    let kept : is_some_kind (get_or es c.loop-i.i null_rela) ≡ true = sym c.is_some_kind.ensures ∙ c.if-not-is_some_kind.false in
-    let parts = entry_more c.args.number c.args.object.now c.args.target es c.loop-i.i null_rela c.loop-i-test.true kept in
-    fitting_fails L ps (map make (filter is_some_kind es)) (left c.loop-i.i) (r ∷ []) (left (c.loop-i.i + 1)) error.Overflow parts
-    c.loop-i.invariant.leaves (one_fails L ps r c.in_default.ensures)
+    let kept = sym c.is_some_kind.ensures ∙ c.if-not-is_some_kind.false in
+    let parts = entry_more c.args.number c.args.object.now c.args.target c.args.entries.now c.loop-i.i null_rela c.loop-i-test.true kept in
+    fitting_fails _ _ _ _ (_ ∷ []) _ error.Overflow parts c.loop-i.invariant.leaves (one_fails _ _ _ c.in_default.ensures)
 
 pub loop-i-preserved : goal.loop-i-preserved
 unfolding null_rela
 loop-i-preserved c =
-    let L = c.args.resolved.now in
-    let ps = placed_in c.args.placement.now in
-    let make = relocation_of c.args.number c.args.object.now c.args.target in
-    let es = c.args.entries.now in
-    let left = left_of_entries c.args.number c.args.object.now c.args.target es in
-    let r = make (get_or es c.loop-i.i null_rela) in
-    let kept : is_some_kind (get_or es c.loop-i.i null_rela) ≡ true = sym c.is_some_kind.ensures ∙ c.if-not-is_some_kind.false in
-    let parts = entry_more c.args.number c.args.object.now c.args.target es c.loop-i.i null_rela c.loop-i-test.true kept in
+    let kept = sym c.is_some_kind.ensures ∙ c.if-not-is_some_kind.false in
+    let parts = entry_more c.args.number c.args.object.now c.args.target c.args.entries.now c.loop-i.i null_rela c.loop-i-test.true kept in
     record {
       patches =
-          push_mapped (patch_of L ps) c.loop-i.row.items c.push.new.self.items c.in-Some.patch r (left c.loop-i.i) (left (c.loop-i.i + 1)) _
+          push_mapped (patch_of c.args.resolved.now (placed_in c.args.placement.now)) c.loop-i.row.items c.push.new.self.items c.in-Some.patch _ _ _ _
           c.in_ok-push.ensures.items c.in-Some.ensures.1 parts c.loop-i.invariant.patches;
-      leaves =
-          fit_part L ps (map make (filter is_some_kind es)) (left c.loop-i.i) (r ∷ []) (left (c.loop-i.i + 1)) parts
-          (one_fits L ps r c.in-Some.ensures.0) c.loop-i.invariant.leaves;
+      leaves = fit_part _ _ _ _ (_ ∷ []) _ parts (one_fits _ _ _ c.in-Some.ensures.0) c.loop-i.invariant.leaves;
     }

@@ -3,8 +3,10 @@ use Rattle.std.specs.Prelude.{All, AllPairs}
 use Rattle.std.proofs.lemmas.Bool.{false≢true}
 use Rattle.elf_model.specs.Relocation.{relocations_from}
 use Rattle.elf_model.proofs.RelocationFields.{own_object}
-use Rattle.relocate.proofs.ObjectFields.{apart_of_fields, fields_of_apart, some_fields}
-use Rattle.relocate.specs.Fields.{AreApart, IsSome}
+use Rattle.elf_model.proofs.Pairs.{AllPairs-map, AllPairs-unmap}
+use Rattle.elf_model.proofs.OwnFields.{apart_of_ranges, ranges_of_apart}
+use Rattle.relocate.proofs.ObjectFields.{some_fields}
+use Rattle.relocate.specs.Fields.{AreApart, IsSome, field_of}
 use Rattle.relocate.proofs.lawful.judge_object.Goals as goal
 
 pub are_apart-requires : goal.are_apart-requires
@@ -16,13 +18,17 @@ pub returns-then-not-branch-clause-fault : goal.returns-then-not-branch-clause-f
 returns-then-not-branch-clause-fault c = λ pairs.
     let n = c.args.number in
     let b = c.args.object.now in
-    let apart = fields_of_apart n (relocations_from n b) (own_object n b) pairs in
+    let rs = relocations_from n b in
+    let apart = AllPairs-map AreApart field_of rs (ranges_of_apart n rs (own_object n b) pairs) in
     false≢true (sym c.if-not-branch.true ∙ c.in_ok-are_apart.ensures.1 (subst (AllPairs AreApart) (sym c.in_ok-fields.ensures.fields) apart))
 
 pub returns-clause-lawful : goal.returns-clause-lawful
-returns-clause-lawful c = record {
-  each = c.in_ok-fields.ensures.lawful;
-  apart =
-      apart_of_fields (relocations_from c.args.number c.args.object.now)
-      (subst (AllPairs AreApart) c.in_ok-fields.ensures.fields (c.in_ok-are_apart.ensures.0 c.if-not-branch.false));
-}
+returns-clause-lawful c =
+    let rs = relocations_from c.args.number c.args.object.now in
+    record {
+      each = c.in_ok-fields.ensures.lawful;
+      apart =
+          apart_of_ranges rs
+          (AllPairs-unmap AreApart field_of rs
+          (subst (AllPairs AreApart) c.in_ok-fields.ensures.fields (c.in_ok-are_apart.ensures.0 c.if-not-branch.false)));
+    }

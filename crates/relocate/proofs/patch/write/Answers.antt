@@ -1,6 +1,6 @@
 use Rattle.std.proofs.Common.{List, ℕ, ap, take, ◌∙◌}
-use Rattle.byteview.proofs.NumberLaws.{low_first_is}
-use Rattle.relocate.proofs.Spelled.{take-le_bytes, written}
+use Rattle.byteview.proofs.NumberLaws.{low_first_is, take-le_bytes}
+use Rattle.relocate.proofs.Spelled.{written}
 use Rattle.relocate.proofs.patch.write.Goals as goal
 
 pub returns : goal.returns
