@@ -8,8 +8,12 @@ The inputs, each of them also doubled:
     objects      2,000 objects, each with 10 functions that call those of other objects, and a table of them
     relocations  one object with 200,000 relocations, of types 64, PC32 and PLT32
     data         one object with 100 MB of .data
+    archives     20 archives of 500 members in 4 groups, of which each member calls one of another archive
+    groups       2,000 objects with 50 COMDAT groups each, of which 9 of 10 are dropped
+    names        one million symbols in 500 objects, half of them weak, each of these in two objects
+    turns        an archive of 100,000 members, of which every other is taken, one by one from the end
 
-They lie inside the profile (docs/PROFILE.md) and are made by `as`. The linkers: the proved program
+They lie inside the profile (docs/PROFILE.md), and are made by `as` or by elf.py beside this file. The linkers: the proved program
 crates/ld/out/ld, and of ld.bfd, ld.gold, ld.lld and mold those that are on PATH, with one thread and one process
 each, and without a symbol table in what they write (-s), as ours writes none. The first image of each is run, and
 must end with status 0; that of ours is checked too, which must be `yes`. The check is measured like a link.
@@ -29,11 +33,14 @@ import os
 import random
 import shutil
 import statistics
+import struct
 import subprocess
 import sys
 import tempfile
 import time
 from pathlib import Path
+
+import elf
 
 ROOT = Path(__file__).resolve().parent.parent
 PROVED = ROOT / "crates" / "ld" / "out" / "ld"
@@ -118,10 +125,111 @@ def much_data(folder, size):
     return [folder / "data.o"]
 
 
+# incq calls(%rip), with its relocation at 3; call, with its relocation at 1; ret
+COUNT = b"\x48\xff\x05" + bytes(4)
+CALL = b"\xe8" + bytes(4)
+RET = b"\xc3"
+
+
+def start_object(path, calls, expected):
+    """The object that calls functions and expects the number of the calls that they count."""
+    lines = [".globl _start, calls", ".text", "_start:"] + [f"call {name}" for name in calls]
+    lines += [f"cmpq ${expected}, calls(%rip)", EXIT, ".bss", ".balign 8", "calls: .quad 0"]
+    assemble("\n".join(lines) + "\n" + STACK, path)
+
+
+def counting_object(name, called):
+    """An object of one function, which counts a call, and calls another one where there is one."""
+    made = elf.Object()
+    text = made.section(".text", elf.PROGBITS, elf.ALLOC | elf.EXEC, COUNT + (CALL if called else b"") + RET, 16)
+    made.symbol(name, text)
+    entries = [(3, elf.PC32, made.symbol("calls", 0), -4)]
+    if called:
+        entries.append((8, elf.PLT32, made.symbol(called, 0), -4))
+    made.relocations(text, entries)
+    return made.bytes()
+
+
+def many_archives(folder, members):
+    """20 archives in groups of five. In a group the functions stand in a row, in one archive after the other, and
+    each calls the next one; so each round takes a member of each archive."""
+    words = [folder / "start.o"]
+    in_group = 5 * members
+    start_object(words[0], [f"f_{group}_0" for group in range(4)], 4 * in_group)
+    for group in range(4):
+        words.append("-(")
+        for k in range(5):
+            parts = []
+            for s in range(k, in_group, 5):
+                called = f"f_{group}_{s + 1}" if s + 1 < in_group else None
+                parts.append(([f"f_{group}_{s}"], counting_object(f"f_{group}_{s}", called)))
+            words.append(folder / f"lib{group}_{k}.a")
+            words[-1].write_bytes(elf.archive(parts))
+        words.append("-)")
+    return words
+
+
+def many_groups(folder, count):
+    """Objects like those of C++: each has a function, which calls an inline one, and 50 inline functions in COMDAT
+    groups with their relocations, each of which ten objects have."""
+    words = [folder / "start.o"]
+    start_object(words[0], [f"f_{i}" for i in range(count)], count)
+    for i in range(count):
+        made = elf.Object()
+        calls = made.symbol("calls", 0)
+        inline = [f"_ZN6inline8functionILi{(5 * i + k) % (5 * count)}EEEvv" for k in range(50)]
+        for k, name in enumerate(inline):
+            number = len(made.sections) + 1
+            symbol = made.symbol(name, number + 1, elf.WEAK)
+            made.section(".group", elf.GROUP, 0, struct.pack("<III", 1, number + 1, number + 2), 4, symbol)
+            flags = elf.ALLOC | elf.EXEC | elf.IN_GROUP
+            made.section(f".text.{name}", elf.PROGBITS, flags, COUNT + RET, 2)
+            made.relocations(number + 1, [(3, elf.PC32, calls, -4)], elf.IN_GROUP)
+        text = made.section(".text", elf.PROGBITS, elf.ALLOC | elf.EXEC, CALL + RET, 16)
+        made.symbol(f"f_{i}", text)
+        made.relocations(text, [(1, elf.PLT32, calls + 1, -4)])
+        words.append(folder / f"o{i}.o")
+        words[-1].write_bytes(made.bytes())
+    return words
+
+
+def many_names(folder, count):
+    """500 objects with names, half of them weak; each weak one is that of two objects, and the first counts."""
+    each = count // 1000
+    words = [folder / "start.o"]
+    start_object(words[0], ["strong_name_0_0", f"weak_name_249_{each - 1}"], 2)
+    for i in range(500):
+        made = elf.Object()
+        text = made.section(".text", elf.PROGBITS, elf.ALLOC | elf.EXEC, COUNT + RET, 16)
+        made.relocations(text, [(3, elf.PC32, made.symbol("calls", 0), -4)])
+        for j in range(each):
+            made.symbol(f"strong_name_{i}_{j}", text)
+            made.symbol(f"weak_name_{i // 2}_{j}", text, elf.WEAK)
+        words.append(folder / f"o{i}.o")
+        words[-1].write_bytes(made.bytes())
+    return words
+
+
+def many_turns(folder, count):
+    """One archive. Its last member is needed, and calls the last but two, and so on to the first ones."""
+    words = [folder / "start.o", folder / "libturns.a"]
+    start_object(words[0], [f"f_{count - 1}"], count // 2)
+    parts = []
+    for k in range(count):
+        called = f"f_{k - 2}" if k >= 2 else None
+        parts.append(([f"f_{k}"], counting_object(f"f_{k}", called)))
+    words[1].write_bytes(elf.archive(parts))
+    return words
+
+
 INPUTS = {
     "objects": (many_objects, 2_000),
     "relocations": (many_relocations, 200_000),
     "data": (much_data, 100_000_000),
+    "archives": (many_archives, 500),
+    "groups": (many_groups, 2_000),
+    "names": (many_names, 1_000_000),
+    "turns": (many_turns, 100_000),
 }
 
 
@@ -151,10 +259,10 @@ def run_image(image):
         raise Failed(f"{image.name}: the image ends with status {status}")
 
 
-def commands(folder, objects, ours, peers):
+def commands(folder, inputs, ours, peers):
     """The words of each linker, and of the check, by their names. Before the check there is a link with a map,
     which is not measured."""
-    names = [str(path) for path in objects]
+    names = [str(word) for word in inputs]
     table = {}
     if ours:
         checked = [str(PROVED), "-o", str(folder / "checked"), f"-Map={folder / 'map'}"]
@@ -167,11 +275,11 @@ def commands(folder, objects, ours, peers):
     return table
 
 
-def medians(folder, objects, ours, peers, runs):
+def medians(folder, words, ours, peers, runs):
     """The medians of seconds and KiB, and the bytes of inputs and image, by linker. The first round is not counted,
     and its images are run."""
-    table = commands(folder, objects, ours, peers)
-    inputs = sum(path.stat().st_size for path in objects)
+    table = commands(folder, words, ours, peers)
+    inputs = sum(word.stat().st_size for word in words if isinstance(word, Path))
     images = {name: folder / ("checked" if name == "--check" else name) for name in table}
     results = {name: [] for name in table}
     for round_number in range(runs + 1):
@@ -223,8 +331,8 @@ def one_input(folder, name, scale, ours, peers, runs):
         inside = folder / f"{name}{factor}"
         inside.mkdir()
         size = int(count * scale) * factor
-        objects = make(inside, size)
-        tables.append(medians(inside, objects, ours, peers, runs))
+        words = make(inside, size)
+        tables.append(medians(inside, words, ours, peers, runs))
         print_table(f"{name}, {size:,}", tables[-1])
         shutil.rmtree(inside)
     return print_growth(*tables)

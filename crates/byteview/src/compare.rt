@@ -1,3 +1,4 @@
+//! Runs of bytes compared with others, or with one byte.
 ghost use Rattle.std.specs.Prelude.{◌≡◌, ◌↔◌, ℕ, ◌<◌, IsTrue, length, slice_index};
 
 /// Whether the two runs have the same length and the same bytes.

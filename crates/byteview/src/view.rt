@@ -1,3 +1,4 @@
+//! A part of a file's bytes, and the numbers and texts in it; nothing outside of it is read.
 ghost use Rattle.std.specs.Prelude.{◌≡◌, ◌↔◌, ℕ, ◌+◌, ◌<◌, ◌≤◌, ◌==◌, List, length, drop, IfSome, IsTrue, SomeIff, option_copied};
 ghost use Rattle.std.specs.List.{position_or_len};
 ghost use Rattle.byteview.specs.Numbers.{IsInside, HasText, part, text, is_nul, le_at, be_at, signed_at};

@@ -1,17 +1,19 @@
 -- What one entry asks, by what its symbol means, is what is asked of its relocation.
-use Rattle.std.proofs.Common.{◌≡◌, ℕ, suc, ◌+◌, ◌-◌, ◌*◌, ◌/◌, ◌%◌, ◌^◌, ◌≤◌, ℤ, pos, negsuc, ◌+ℤ◌, ◌-ℤ◌, Bool, true, false, List, Option, Some, None, refl, sym, ap, subst, ◌∙◌, arith, div-add-mod'}
+use Rattle.std.proofs.Common.{◌≡◌, ℕ, suc, ◌+◌, ◌-◌, ◌*◌, ◌/◌, ◌%◌, ◌^◌, ◌≤◌, ℤ, pos, negsuc, ◌+ℤ◌, ◌-ℤ◌, ◌&&◌, Bool, true, false, not, Option, Some, None, refl, sym, ap, subst, ◌∙◌, arith, div-add-mod'}
 use Rattle.std.specs.Prelude.{IfSome, IsSomeAnd, SomeIff, option_map, unwrap_or}
 use Rattle.std.proofs.Math.Nat.{add-mul-mod_self_right}
-use Rattle.std.proofs.lemmas.Bool.{false≢true}
+use Rattle.std.proofs.lemmas.Bool.{and_from, and_parts, false≢true}
 use Rattle.std.proofs.lemmas.Int.{ints}
 use Rattle.elf_model.proofs.WrappedValues.{modulo_is}
+use Rattle.elf_model.specs.Loading.{LoadedObject}
 use Rattle.elf_model.specs.ObjectFile.{rela_symbol, rela_type, section, sections}
+use Rattle.elf_model.specs.Placement.{section_address}
 use Rattle.elf_model.specs.Relocation as relocation
-use Rattle.elf_model.specs.Relocation.{IsInRange, IsMismatch, Kind, Relocation, kind_of, modulo_64, relocation_of, section_address, symbol_at, value_of, whole_value}
+use Rattle.elf_model.specs.Relocation.{IsInRange, IsMismatch, Kind, RefersToDropped, Relocation, is_frame_of_dropped, kind_of, modulo_64, relocation_of, symbol_at, value_of, whole_value}
 use Rattle.elf_model.specs.declared.records.Rela.{Rela}
 use Rattle.checker.specs.Bindings.{Bound, IsTargetOf}
 use Rattle.checker.specs.Fields.{IsRight, field_of}
-use Rattle.checker.specs.Fitting.{IsRightWith, field_with, value_with}
+use Rattle.checker.specs.Fitting.{IsRightWith, field_with, is_frames, refers_to_dropped, value_with}
 use Rattle.checker.specs.Kinds.{plain_terms}
 use Rattle.checker.specs.declared.fields.Field.{Field}
 use Rattle.checker.specs.declared.fitting.Relocated.{Relocated}
@@ -64,52 +66,74 @@ not_true : (b : Bool) → (b ≡ true → ⊥) → b ≡ false
 not_true true never = absurd (never refl)
 not_true false never = refl
 
+false_of_not : (b : Bool) → not b ≡ true → b ≡ false
+false_of_not true e = absurd (false≢true e)
+false_of_not false e = refl
+
 not_both : (b : Bool) → b ≡ false → b ≡ true → ⊥
 not_both b e f = false≢true (sym e ∙ f)
 
-module _ (b : Bound) (n : ℕ) (bytes : List ℕ) (to : Relocated) (e : Rela) (t : Target) (means : IsTargetOf b (symbol_at n bytes (rela_symbol e)) t) (size : to.size ≡ (section (sections bytes) to.section).sh_size) (address : to.address ≡ section_address b.placed n to.section) where
+module _ (b : Bound) (n : ℕ) (o : LoadedObject) (to : Relocated) (e : Rela) (t : Target) (means : IsTargetOf b (symbol_at n o (rela_symbol e)) t) (size : to.size ≡ (section (sections o.bytes) to.section).sh_size) (frames : to.frames ≡ is_frames o.bytes to.section) (address : to.address ≡ section_address b.places.placed n to.section) where
   abbrev pub r : Relocation
-  r = relocation_of n bytes to.section e
+  r = relocation_of n o to.section e
 
-  place_is : (to.address + e.r_offset) % 2 ^ 64 ≡ (section_address b.placed n to.section + e.r_offset) % 2 ^ 64
+  place_is : (to.address + e.r_offset) % 2 ^ 64 ≡ (section_address b.places.placed n to.section + e.r_offset) % 2 ^ 64
   place_is = ap (λ (x : ℕ). (x + e.r_offset) % 2 ^ 64) address
 
-  value_by : (k : Option Kind) → value_with k t to e ≡ unwrap_or (option_map (λ j. modulo_64 (whole_value j.formula (relocation.terms_of b.objects b.placed r))) k) 0
+  value_by : (k : Option Kind) → value_with k t to e ≡ unwrap_or (option_map (λ j. modulo_64 (whole_value j.formula (relocation.terms_of b.objects b.places r))) k) 0
   value_by None = refl
   value_by (Some k) =
-      let x = relocation.terms_of b.objects b.placed r in
+      let x = relocation.terms_of b.objects b.places r in
       ap (λ (z : ℕ). modulo_64 (whole_value k.formula (plain_terms t.value e.r_addend ((to.address + e.r_offset) % 2 ^ 64) z))) means.size
       ∙ reduced k.formula x.s t.value x.p ((to.address + e.r_offset) % 2 ^ 64) x.z e.r_addend means.value place_is
 
-  value_is : value_with (kind_of (rela_type e)) t to e ≡ value_of b.objects b.placed r
+  value_is : value_with (kind_of (rela_type e)) t to e ≡ value_of b.objects b.places r
   value_is = value_by (kind_of (rela_type e))
 
   made : ℕ → Field
   made v = record { section = to.section; at = e.r_offset; width = relocation.width_of r; value = v }
 
-  pub field_is : field_with (kind_of (rela_type e)) t to e ≡ field_of b.objects b.placed r
+  pub field_is : field_with (kind_of (rela_type e)) t to e ≡ field_of b.objects b.places r
   unfolding made
   field_is = ap made value_is
 
-  pub right : IsRightWith (kind_of (rela_type e)) t to e → IsRight b.objects b.placed r
+  frame_is : (t.dropped && to.frames) ≡ is_frame_of_dropped r
+  frame_is = ap (λ (b : Bool). b && to.frames) means.dropped ∙ ap (λ (b : Bool). r.symbol.dropped && b) frames
+
+  refers_is : refers_to_dropped t to ≡ (t.unkept && not (is_frame_of_dropped r))
+  refers_is = ap (λ (b : Bool). t.unkept && not b) frame_is
+
+  -- where entries refer to what isn't kept by the symbol and the section, the relocation does
+  pub refers : refers_to_dropped t to ≡ true → RefersToDropped b.objects r
+  refers told =
+      let both = and_parts t.unkept (not (is_frame_of_dropped r)) (sym refers_is ∙ told) in
+      let local = means.unkept.0 both.0 in
+      (local.0, false_of_not (is_frame_of_dropped r) both.1, local.1)
+
+  pub refers_so : RefersToDropped b.objects r → refers_to_dropped t to ≡ true
+  refers_so h = refers_is ∙ and_from t.unkept (not (is_frame_of_dropped r)) (means.unkept.1 (h.0, h.2)) (ap not h.1)
+
+  pub right : IsRightWith (kind_of (rela_type e)) t to e → IsRight b.objects b.places r
   right w = record {
     lawful = record {
       known = w.known;
       defined = λ u. not_both t.undefined w.defined (means.undefined.1 u);
-      kept = λ u. not_both t.dropped w.kept (means.dropped.1 u);
+      kept = λ u. not_both (refers_to_dropped t to) w.kept (refers_so u);
       thread = λ m. w.thread (subst (λ (x : Bool). IsSomeAnd (kind_of (rela_type e)) (λ k. IsMismatch k.formula x)) (sym means.thread_local) m);
       inside = subst (λ (x : ℕ). IfSome (kind_of (rela_type e)) (λ k. e.r_offset + k.width ≤ x)) size w.inside;
+      unmixed = λ u. not_both t.mixed w.unmixed (means.mixed.1 u);
     };
     fits = subst (λ (v : ℕ). IfSome (kind_of (rela_type e)) (λ k. IsInRange k.range (8 * k.width) v)) value_is w.fits;
   }
 
-  pub right_with : IsRight b.objects b.placed r → IsRightWith (kind_of (rela_type e)) t to e
+  pub right_with : IsRight b.objects b.places r → IsRightWith (kind_of (rela_type e)) t to e
   right_with w = record {
     known = w.lawful.known;
     defined = not_true t.undefined (λ u. w.lawful.defined (means.undefined.0 u));
-    kept = not_true t.dropped (λ u. w.lawful.kept (means.dropped.0 u));
+    kept = not_true (refers_to_dropped t to) (λ u. w.lawful.kept (refers u));
     thread = λ m. w.lawful.thread (subst (λ (x : Bool). IsSomeAnd (kind_of (rela_type e)) (λ k. IsMismatch k.formula x)) means.thread_local m);
     inside = subst (λ (x : ℕ). IfSome (kind_of (rela_type e)) (λ k. e.r_offset + k.width ≤ x)) (sym size) w.lawful.inside;
+    unmixed = not_true t.mixed (λ u. w.lawful.unmixed (means.mixed.0 u));
     fits = subst (λ (v : ℕ). IfSome (kind_of (rela_type e)) (λ k. IsInRange k.range (8 * k.width) v)) (sym value_is) w.fits;
   }
 

@@ -1,5 +1,8 @@
+pub mod Asked
+pub mod CommonRows
+pub mod SeenOutputs
 pub mod ByIndex
-pub mod Chosen
+pub mod DropSteps
 pub mod FieldOrder
 pub mod FittingLemmas
 pub mod Gathered
@@ -11,7 +14,6 @@ pub mod Modulo
 pub mod NearSteps
 pub mod NextPieces
 pub mod ObjectFields
-pub mod OpenedLemmas
 pub mod Padded
 pub mod Parts
 pub mod PartitionPoints

@@ -8,8 +8,9 @@ use Rattle.elf_model.specs.declared.link_map.ObjectLine.{ObjectLine}
 use Rattle.elf_model.specs.declared.link_map.PlaceLine.{PlaceLine}
 use Rattle.elf_model.proofs.Rests.{Left}
 use Rattle.checker.specs.Subjects.{row_of}
-use Rattle.checker.specs.Views.{loaded_view, loaded_views, piece_view, piece_views}
-use Rattle.checker.specs.declared.things.Loaded.{Loaded}
+use Rattle.check_load.specs.Views.{loaded_view, loaded_views}
+use Rattle.checker.specs.Views.{piece_view, piece_views}
+use Rattle.check_load.specs.declared.loader.Loaded.{Loaded}
 use Rattle.checker.specs.declared.things.Piece.{Piece}
 
 module _ {Z : Type 0} (Q : Type 0) where

@@ -6,9 +6,10 @@ use Rattle.std.proofs.lemmas.List.Elements.{All-weaker}
 use Rattle.elf_model.specs.Loading.{LoadedObject}
 use Rattle.elf_model.specs.Pieces as pieces
 use Rattle.elf_model.specs.Pieces.{pieces_of}
-use Rattle.elf_model.proofs.PieceNumbers.{IsKept, pieces_kept}
-use Rattle.checker.specs.Views.{loaded_views, piece_views}
-use Rattle.checker.specs.declared.things.Loaded.{Loaded}
+use Rattle.elf_model.proofs.PieceNumbers.{IsKept, kept_whole}
+use Rattle.check_load.specs.Views.{loaded_views}
+use Rattle.checker.specs.Views.{piece_views}
+use Rattle.check_load.specs.declared.loader.Loaded.{Loaded}
 use Rattle.checker.specs.declared.things.Piece.{Piece}
 
 -- behind the last object, what was listed is all
@@ -20,5 +21,5 @@ objects_end out os k whole behind so_far =
     ∙ (ap (λ vs. piece_views out ++ vs) (sym (at_drop_all (λ (xs : List Loaded). pieces_of k (loaded_views xs)) os k behind)) ∙ so_far)
 
 -- a section has at most as many input bytes as its size
-pub all_short : (objects : List LoadedObject) → All (λ p. length p.bytes ≤ p.size) (pieces.pieces objects)
-all_short objects = All-weaker IsKept (λ (p : pieces.Piece). length p.bytes ≤ p.size) (λ p kept. kept.1) (pieces.pieces objects) (pieces_kept objects)
+pub all_short : (objects : List LoadedObject) → All (λ p. length p.bytes ≤ p.size) (pieces.kept_sections objects)
+all_short objects = All-weaker IsKept (λ (p : pieces.Piece). length p.bytes ≤ p.size) (λ p kept. kept.1) (pieces.kept_sections objects) (kept_whole objects)

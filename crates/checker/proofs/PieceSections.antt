@@ -1,20 +1,27 @@
--- A piece is of an object that is there, and has its section's size.
-use Rattle.std.proofs.Common.{◌≡◌, ℕ, ◌<◌, ◌≤◌, ◌⊎◌, inl, inr, List, [], ◌∷◌, Some, None, get_or, length, sym, ap, subst, ◌∙◌}
-use Rattle.std.specs.Prelude.{All}
+-- A piece is of an object that is there, and has its section's size; or it is a common block, which no field is of.
+use Rattle.std.proofs.Common.{◌≡◌, ℕ, ◌+◌, ◌<◌, ◌≤◌, ◌==◌, ◌&&◌, Bool, true, false, ◌⊎◌, inl, inr, List, [], ◌∷◌, Option, Some, None, get_or, length, refl, sym, ap, subst, ◌∙◌, arith}
+use Rattle.std.specs.Prelude.{All, filter, find, nat_le, nat_lt, option_map, unwrap_or}
 use Rattle.std.specs.List.{slice_get}
 use Rattle.std.specs.Global.{Vec}
+use Rattle.std.proofs.lemmas.Bool.{eqb-true}
 use Rattle.std.proofs.lemmas.Option.{get_or_from_slice_get, none-some, slice_get_cases}
-use Rattle.std.proofs.lemmas.List.Elements.{All-cons, All-head, All-nil, All-tail}
-use Rattle.elf_model.proofs.Sectioned.{pieces-each}
+use Rattle.std.proofs.lemmas.List.Elements.{All-append, All-cons, All-head, All-map, All-nil, All-tail, All-weaker}
+use Rattle.elf_model.proofs.Blocks.{blocks-each}
+use Rattle.elf_model.proofs.Finding.{find-none}
+use Rattle.elf_model.proofs.Sectioned.{kept-each, relocations-each}
+use Rattle.elf_model.specs.Commons.{Block, block_of, block_piece, blocks}
 use Rattle.elf_model.specs.Loading.{LoadedObject}
 use Rattle.elf_model.specs.MapRecord.{PlaceRow}
 use Rattle.elf_model.specs.ObjectFile.{null_section, section, sections}
 use Rattle.elf_model.specs.Pieces as pieces
 use Rattle.elf_model.specs.Placement as placement
-use Rattle.elf_model.specs.Placement.{placed_by}
-use Rattle.elf_model.specs.RightLink.{HoldsPiece, Subject, objects_of, placed_of}
+use Rattle.elf_model.specs.Placement.{placed_block, placed_blocks, placed_by}
+use Rattle.elf_model.specs.Relocation.{Relocation, is_in_field, relocations, width_of}
+use Rattle.elf_model.specs.Resolution.{SymbolOf}
+use Rattle.elf_model.specs.RightLink.{HoldsPiece, Subject, objects_of, placed_of, sections_of, where_of}
+use Rattle.elf_model.specs.WantedBytes.{byte_or_field, wanted_byte}
 use Rattle.elf_model.specs.declared.records.SectionHeader.{SectionHeader}
-use Rattle.checker.specs.Bytes.{HasFieldsInside, HoldsFields}
+use Rattle.checker.specs.Bytes.{FitsIn, HasFieldsInside, HoldsFields, byte_of, covers, fields_in, is_of}
 use Rattle.checker.specs.Fields.{AreRows}
 use Rattle.checker.specs.Views.{placed_view, placed_views}
 use Rattle.checker.specs.declared.fields.Field.{Field}
@@ -33,9 +40,9 @@ within {X} xs i x e = of (slice_get_cases xs i).1
     of (inl a) = a.1
     of (inr b) = absurd (none-some x (sym b.1 ∙ e))
 
-all_of_sections : (objects : List LoadedObject) → All (IsOfSection objects) (pieces.pieces objects)
+all_of_sections : (objects : List LoadedObject) → All (IsOfSection objects) (pieces.kept_sections objects)
 all_of_sections objects =
-    pieces-each (IsOfSection objects) objects
+    kept-each (IsOfSection objects) objects
     (λ k o there i h has. record {
       there = within objects k o there;
       size = λ d. sym (ap (λ (x : LoadedObject). (section (sections x.bytes) i).sh_size) (get_or_from_slice_get objects k o d there)
@@ -50,34 +57,93 @@ placed_all P (row ∷ rows) (p ∷ ps) all =
     All-cons (λ (q : placement.Placed). P q.piece) (record { at = row.address; piece = p }) (placed_by rows ps)
     (All-head P p ps all) (placed_all P rows ps (All-tail P p ps all))
 
-placed_of_sections : (s : Subject) → All (λ q. IsOfSection (objects_of s) q.piece) (placed_of s)
-placed_of_sections s = placed_all (IsOfSection (objects_of s)) s.map.places (pieces.pieces (objects_of s)) (all_of_sections (objects_of s))
+-- a piece is a kept section, or is of the object past the last one, as common blocks are
+record IsBlockOf (objects : List LoadedObject) (p : pieces.Piece) : Type 0 where
+  object : p.object ≡ length objects
 
-module _ (s : Subject) (rows : List (Vec Field)) (are : AreRows (objects_of s) (placed_of s) rows) where
+abbrev IsThere : List LoadedObject → pieces.Piece → Type 0
+IsThere objects p = IsOfSection objects p ⊎ IsBlockOf objects p
+
+-- what holds of all kept sections and of all blocks holds of them where they are placed
+pub placed_each :
+    (P : pieces.Piece → Type 0) (s : Subject) → All P (pieces.kept_sections (objects_of s)) →
+    ((k : ℕ) (t : SymbolOf) → P (block_piece (block_of (objects_of s) k t))) → All (λ q. P q.piece) (placed_of s)
+placed_each P s kept each =
+    All-append (λ (q : placement.Placed). P q.piece) (sections_of s) (placed_blocks s.map.commons (blocks (objects_of s)))
+    (placed_all P s.map.places (pieces.kept_sections (objects_of s)) kept)
+    (All-map (λ (q : placement.Placed). P q.piece) (placed_block s.map.commons) (blocks (objects_of s))
+    (blocks-each (objects_of s) (λ (b : Block). P (block_piece b)) (λ k t c. each k t)))
+
+placed_there : (s : Subject) → All (λ q. IsThere (objects_of s) q.piece) (placed_of s)
+placed_there s =
+    placed_each (IsThere (objects_of s)) s
+    (All-weaker (IsOfSection (objects_of s)) (IsThere (objects_of s)) (λ p of. inl of) (pieces.kept_sections (objects_of s)) (all_of_sections (objects_of s)))
+    (λ k t. inr (record { object = refl }))
+
+-- No relocation and no row is of the object past the last one.
+not_in_field : (objects : List LoadedObject) (s k : ℕ) (r : Relocation) → r.object < length objects → is_in_field (length objects) s k r ≡ false
+not_in_field objects s k r low = by (r.object == length objects) refl
+  where
+    by : (t : Bool) → (r.object == length objects) ≡ t → is_in_field (length objects) s k r ≡ false
+    by true e = let same = eqb-true r.object (length objects) e in absurd (omega (arith, same, low))
+    by false e = ap (λ (t : Bool). t && (r.section == s) && nat_le r.entry.r_offset k && nat_lt k (r.entry.r_offset + width_of r)) e
+
+no_relocation : (objects : List LoadedObject) (s k : ℕ) → find (is_in_field (length objects) s k) (relocations objects) ≡ None
+no_relocation objects s k =
+    find-none (is_in_field (length objects) s k) (relocations objects)
+    (All-weaker (λ (r : Relocation). r.object < length objects) (λ (r : Relocation). is_in_field (length objects) s k r ≡ false) (not_in_field objects s k) (relocations objects)
+    (relocations-each (λ (r : Relocation). r.object < length objects) objects (λ n o there i h r is. within objects n o there)))
+
+no_row : {X : Type 0} (rows : List X) (n : ℕ) → length rows ≤ n → slice_get rows n ≡ None
+no_row {X} rows n past = of (slice_get_cases rows n).1
+  where
+    of : ((x : X) × (n < length rows) × (slice_get rows n ≡ Some x) × (get_or rows n x ≡ x)) ⊎ ((length rows ≤ n) × (slice_get rows n ≡ None)) → slice_get rows n ≡ None
+    of (inl a) = let low = a.1 in absurd (omega (arith, low, past))
+    of (inr b) = b.1
+
+module _ (s : Subject) (rows : List (Vec Field)) (are : AreRows (objects_of s) (where_of s) rows) where
+  no_fields : (section : ℕ) → fields_in rows (length (objects_of s)) section ≡ []
+  no_fields section =
+      ap (λ (o : Option (Vec Field)). filter (is_of section) (unwrap_or (option_map (λ row. row.items) o) []))
+      (no_row rows (length (objects_of s)) (let count = are.count in omega (arith, count)))
+
+  -- the byte that the fields give a piece is the wanted one
+  wanted_is :
+      (p : pieces.Piece) (k : ℕ) → IsThere (objects_of s) p →
+      byte_of p.bytes k (find (covers k) (fields_in rows p.object p.section)) ≡ wanted_byte (objects_of s) (where_of s) p k
+  wanted_is p k (inl of) = byte_wanted (objects_of s) (where_of s) rows are p k of.there
+  wanted_is p k (inr block) =
+      ap (λ (n : ℕ). byte_of p.bytes k (find (covers k) (fields_in rows n p.section))) block.object
+      ∙ (ap (λ (fs : List Field). byte_of p.bytes k (find (covers k) fs)) (no_fields p.section)
+      ∙ (sym (ap (byte_or_field (objects_of s) (where_of s) p k) (no_relocation (objects_of s) p.section k))
+      ∙ sym (ap (λ (n : ℕ). byte_or_field (objects_of s) (where_of s) p k (find (is_in_field n p.section k) (relocations (objects_of s)))) block.object)))
+
+  inside_of : (p : pieces.Piece) → IsThere (objects_of s) p → All (FitsIn p.size) (fields_in rows p.object p.section)
+  inside_of p (inl of) = fields_inside (objects_of s) (where_of s) rows are p.object p.section p.size of.there of.size
+  inside_of p (inr block) =
+      subst (All (FitsIn p.size)) (sym (ap (λ (n : ℕ). fields_in rows n p.section) block.object ∙ no_fields p.section)) (All-nil (FitsIn p.size))
+
   -- the fields of a placed piece's section lie inside it
   pub all_inside : (placed : List Placed) → placed_views placed ≡ placed_of s → All (HasFieldsInside rows) placed
   all_inside placed same =
       let all =
-      All-unmap (λ (q : placement.Placed). IsOfSection (objects_of s) q.piece) placed_view placed
-      (subst (All (λ (q : placement.Placed). IsOfSection (objects_of s) q.piece)) (sym same) (placed_of_sections s)) in
-      λ k d low.
-      let p = all k d low in
-      let q = placed_view (get_or placed k d) in
-      fields_inside (objects_of s) (placed_of s) rows are q.piece.object q.piece.section q.piece.size p.there p.size
+      All-unmap (λ (q : placement.Placed). IsThere (objects_of s) q.piece) placed_view placed
+      (subst (All (λ (q : placement.Placed). IsThere (objects_of s) q.piece)) (sym same) (placed_there s)) in
+      λ k d low. inside_of (placed_view (get_or placed k d)).piece (all k d low)
 
-  wants : (q : placement.Placed) → IsOfSection (objects_of s) q.piece → HoldsFields s.image rows q → HoldsPiece (objects_of s) (placed_of s) s.image q
-  wants q p held = record { bytes = λ k below. held.bytes k below ∙ ap Some (byte_wanted (objects_of s) (placed_of s) rows are q.piece k p.there) }
+  wants : (q : placement.Placed) → IsThere (objects_of s) q.piece → HoldsFields s.image rows q → HoldsPiece (objects_of s) (where_of s) s.image q
+  wants q p held = record { bytes = λ k below. held.bytes k below ∙ ap Some (wanted_is q.piece k p) }
 
-  wanted : (q : placement.Placed) → IsOfSection (objects_of s) q.piece → HoldsPiece (objects_of s) (placed_of s) s.image q → HoldsFields s.image rows q
-  wanted q p held = record { bytes = λ k below. held.bytes k below ∙ ap Some (sym (byte_wanted (objects_of s) (placed_of s) rows are q.piece k p.there)) }
+  wanted : (q : placement.Placed) → IsThere (objects_of s) q.piece → HoldsPiece (objects_of s) (where_of s) s.image q → HoldsFields s.image rows q
+  wanted q p held = record { bytes = λ k below. held.bytes k below ∙ ap Some (sym (wanted_is q.piece k p)) }
 
   -- what memory holds by the rows is what the tenth clause asks
-  pub holds_wanted : (placed : List placement.Placed) → placed ≡ placed_of s → All (HoldsFields s.image rows) placed → All (HoldsPiece (objects_of s) (placed_of s) s.image) (placed_of s)
+  pub holds_wanted : (placed : List placement.Placed) → placed ≡ placed_of s → All (HoldsFields s.image rows) placed → All (HoldsPiece (objects_of s) (where_of s) s.image) (placed_of s)
   holds_wanted placed same all =
       let held = subst (All (HoldsFields s.image rows)) same all in
-      λ k d low. wants (get_or (placed_of s) k d) (placed_of_sections s k d low) (held k d low)
+      λ k d low. wants (get_or (placed_of s) k d) (placed_there s k d low) (held k d low)
 
-  pub wanted_holds : (placed : List placement.Placed) → placed ≡ placed_of s → All (HoldsPiece (objects_of s) (placed_of s) s.image) (placed_of s) → All (HoldsFields s.image rows) placed
+  pub wanted_holds : (placed : List placement.Placed) → placed ≡ placed_of s → All (HoldsPiece (objects_of s) (where_of s) s.image) (placed_of s) → All (HoldsFields s.image rows) placed
   wanted_holds placed same all =
       subst (All (HoldsFields s.image rows)) (sym same)
-      (λ k d low. wanted (get_or (placed_of s) k d) (placed_of_sections s k d low) (all k d low))
+      (λ k d low. wanted (get_or (placed_of s) k d) (placed_there s k d low) (all k d low))

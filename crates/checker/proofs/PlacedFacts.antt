@@ -1,21 +1,21 @@
 -- What the clauses before say of the placed pieces: each lies whole in a segment, with no more input bytes
 -- than its size.
-use Rattle.std.proofs.Common.{◌≡◌, ◌<◌, ◌≤◌, List, ◌++◌, length, get_or, map, subst, sym}
+use Rattle.std.proofs.Common.{◌≡◌, ◌<◌, ◌≤◌, List, ◌++◌, length, get_or, map, subst, sym, arith}
 use Rattle.std.specs.Prelude.{All, Any}
-use Rattle.std.proofs.lemmas.List.Elements.{All-tail}
+use Rattle.std.proofs.lemmas.List.Elements.{All-tail, All-weaker}
 use Rattle.elf_model.specs.MemoryImage.{Encloses, loads}
 use Rattle.elf_model.specs.Pieces as pieces
-use Rattle.elf_model.specs.Pieces.{pieces_of}
 use Rattle.elf_model.specs.Placement as placement
-use Rattle.elf_model.specs.Placement.{HasRights, LiesInSegment, got_things, headers_thing, thing_of}
-use Rattle.elf_model.specs.RightLink.{Subject, objects_of, placed_of, things_of}
+use Rattle.elf_model.specs.Placement.{HasRights, IsPlaced, IsWithin, LiesInSegment, got_things, headers_thing, thing_of}
+use Rattle.elf_model.specs.RightLink.{Subject, objects_of, placed_of, sections_of, things_of}
 use Rattle.elf_model.specs.declared.records.ProgramHeader.{ProgramHeader}
 use Rattle.elf_model.specs.declared.thing.Thing.{Thing}
 use Rattle.checker.specs.Bytes.{LiesWhole}
+use Rattle.checker.specs.PieceParts.{AreInLimit, IsInLimit}
 use Rattle.checker.specs.Views.{placed_view, placed_views}
 use Rattle.checker.specs.declared.things.Placed.{Placed}
 use Rattle.checker.proofs.PieceLemmas.{all_short}
-use Rattle.checker.proofs.PieceSections.{placed_all}
+use Rattle.checker.proofs.PieceSections.{placed_each}
 use Rattle.elf_model.proofs.Listed.{All-parts, All-unmap}
 
 -- a piece has no more input bytes than its size
@@ -40,8 +40,19 @@ lie_whole s placed same rights =
     (subst (All (λ (q : placement.Placed). Lies (thing_of q))) (sym same) (All-unmap Lies thing_of (placed_of s) mapped)) in
     let short = All-unmap (λ (q : placement.Placed). Short q.piece) placed_view placed
     (subst (All (λ (q : placement.Placed). Short q.piece)) (sym same)
-    (placed_all Short s.map.places (pieces_of 0 (objects_of s)) (all_short (objects_of s)))) in
+    (placed_each Short s (all_short (objects_of s)) (λ k t. omega arith))) in
     λ k d within. record {
       encloses = enclosed segments (thing_of (placed_view (get_or placed k d))) (lies k d within);
       short = short k d within;
     }
+
+-- where the things of a link are within the addresses, each of its pieces ends at or below 2 ^ 46
+pub in_limit :
+    (s : Subject) (placed : List Placed) → placed_views placed ≡ placed_of s → IsPlaced s.plan.base (things_of s) (sections_of s) →
+    AreInLimit (placed_views placed)
+in_limit s placed same lies =
+    let within = All-tail (IsWithin s.plan.base) (headers_thing s.image) (got_things s.map.got ++ map thing_of (placed_of s)) lies.within in
+    let pieces = (All-parts (IsWithin s.plan.base) (got_things s.map.got) (map thing_of (placed_of s)) within).1 in
+    subst AreInLimit (sym same)
+    (All-weaker (λ (q : placement.Placed). IsWithin s.plan.base (thing_of q)) IsInLimit (λ q w. w.1) (placed_of s)
+    (All-unmap (IsWithin s.plan.base) thing_of (placed_of s) pieces))

@@ -6,7 +6,7 @@ use Rattle.std.proofs.lemmas.List.Elements.{All-append, All-cons, All-head, All-
 use Rattle.elf_model.proofs.Listed.{All-parts}
 use Rattle.elf_model.proofs.Pairs.{AllPairs-append, AllPairs-nil, AllPairs-parts}
 use Rattle.elf_model.specs.Loading.{LoadedObject}
-use Rattle.elf_model.specs.Placement.{Placed}
+use Rattle.elf_model.specs.Placement.{Where}
 use Rattle.elf_model.specs.Relocation.{AreFieldsApart, Relocation}
 use Rattle.checker.specs.Fields.{AreRight, IsRight, field_of}
 use Rattle.checker.specs.declared.fields.Field.{Field}
@@ -45,18 +45,18 @@ module _ {X : Type 0} (P : X → Type 0) where
 
 -- the list of fields: no field of what is passed over, and none left to add
 pub fields_same :
-    (objects : List LoadedObject) (ps : List Placed) (xs : List Field) (rest more : List Relocation) (total : List Field) → rest ≡ more →
+    (objects : List LoadedObject) (ps : Where) (xs : List Field) (rest more : List Relocation) (total : List Field) → rest ≡ more →
     xs ++ map (field_of objects ps) rest ≡ total → xs ++ map (field_of objects ps) more ≡ total
 fields_same objects ps xs rest more total same so_far = ap (λ (rs : List Relocation). xs ++ map (field_of objects ps) rs) (sym same) ∙ so_far
 
 pub fields_end :
-    (objects : List LoadedObject) (ps : List Placed) (xs : List Field) (rest : List Relocation) (total : List Field) → rest ≡ [] →
+    (objects : List LoadedObject) (ps : Where) (xs : List Field) (rest : List Relocation) (total : List Field) → rest ≡ [] →
     xs ++ map (field_of objects ps) rest ≡ total → xs ≡ total
 fields_end objects ps xs rest total none so_far =
     sym (append-nil xs) ∙ (ap (λ (rs : List Relocation). xs ++ map (field_of objects ps) rs) (sym none) ∙ so_far)
 
 -- the same for relocations whose fields are apart
-module _ (objects : List LoadedObject) (ps : List Placed) where
+module _ (objects : List LoadedObject) (ps : Where) where
   pub right_more :
       (Q : Type 0) (rest here more : List Relocation) → rest ≡ here ++ more → AreRight objects ps here →
       All (λ r. All (AreFieldsApart r) more) here → Left Q (AreRight objects ps rest) → Left Q (AreRight objects ps more)

@@ -3,14 +3,14 @@ use Rattle.std.proofs.Common.{◌≡◌, ℕ, List, Option, Some, None, map, sub
 use Rattle.std.specs.Prelude.{All, IfSome}
 use Rattle.std.specs.Global.{Vec}
 use Rattle.elf_model.specs.Loading.{LoadedObject}
-use Rattle.elf_model.specs.Placement.{Placed}
+use Rattle.elf_model.specs.Placement.{Where}
 use Rattle.elf_model.specs.Relocation.{relocations_from}
 use Rattle.checker.specs.Bytes.{AreRising}
 use Rattle.checker.specs.Fields.{AreRows, IsRight, IsRow, IsRowOf, field_of}
 use Rattle.checker.specs.declared.fields.Field.{Field}
 use Rattle.checker.proofs.WantedFields.{row_inside, some_object}
 
-pub all_rising : (objects : List LoadedObject) (ps : List Placed) (rows : List (Vec Field)) → AreRows objects ps rows → AreRising rows
+pub all_rising : (objects : List LoadedObject) (ps : Where) (rows : List (Vec Field)) → AreRows objects ps rows → AreRising rows
 all_rising objects ps rows are k d low =
     let count = are.count in
     let o = (some_object objects k (omega (arith, low, count))).0 in
@@ -18,7 +18,7 @@ all_rising objects ps rows are k d low =
 
 -- the fields of an object's right relocations, put in order, are its row
 pub row_of_object :
-    (objects : List LoadedObject) (ps : List Placed) (n : ℕ) (b : List ℕ) (fs : List Field) (o : Option (Vec Field)) →
+    (objects : List LoadedObject) (ps : Where) (n : ℕ) (b : LoadedObject) (fs : List Field) (o : Option (Vec Field)) →
     fs ≡ map (field_of objects ps) (relocations_from n b) → All (IsRight objects ps) (relocations_from n b) →
     IfSome o (λ v. IsRow fs v.items) → IfSome o (λ v. IsRowOf objects ps n b v.items)
 row_of_object objects ps n b fs None same right is = is

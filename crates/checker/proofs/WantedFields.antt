@@ -17,7 +17,7 @@ use Rattle.elf_model.proofs.Pairs.{related}
 use Rattle.elf_model.proofs.RelocationFields.{ends_inside, in_field, later_objects, own_object, own_sizes, width_some}
 use Rattle.elf_model.specs.Loading.{LoadedObject}
 use Rattle.elf_model.specs.ObjectFile.{section, sections}
-use Rattle.elf_model.specs.Placement.{Placed}
+use Rattle.elf_model.specs.Placement.{Where}
 use Rattle.elf_model.specs.Pieces.{Piece}
 use Rattle.elf_model.specs.Relocation.{Relocation, is_in_field, relocations, relocations_from, relocations_of, width_of}
 use Rattle.elf_model.specs.WantedBytes.{byte_or_field, wanted_byte}
@@ -81,31 +81,31 @@ not_in o s k r differ = by (is_in_field o s k r) refl
 
 of_object :
     (os : List LoadedObject) (n i s k : ℕ) (d : LoadedObject) → i < length os →
-    find (is_in_field (n + i) s k) (relocations_of n os) ≡ find (is_in_field (n + i) s k) (relocations_from (n + i) (get_or os i d).bytes)
+    find (is_in_field (n + i) s k) (relocations_of n os) ≡ find (is_in_field (n + i) s k) (relocations_from (n + i) (get_or os i d))
 of_object [] n i s k d low = absurd (omega (arith, low))
 of_object (o ∷ os) n zero s k d low =
     let e : n + 0 ≡ n = omega arith in
     let one =
-    find-left (is_in_field n s k) (relocations_from n o.bytes) (relocations_of (n + 1) os)
+    find-left (is_in_field n s k) (relocations_from n o) (relocations_of (n + 1) os)
     (All-weaker (λ (r : Relocation). n + 1 ≤ r.object) (λ r. is_in_field n s k r ≡ false) (λ r h. not_in n s k r (λ same. omega (arith, h, same)))
     (relocations_of (n + 1) os) (later_objects (n + 1) os)) in
-    subst (λ (m : ℕ). find (is_in_field m s k) (relocations_of n (o ∷ os)) ≡ find (is_in_field m s k) (relocations_from m o.bytes)) (sym e) one
+    subst (λ (m : ℕ). find (is_in_field m s k) (relocations_of n (o ∷ os)) ≡ find (is_in_field m s k) (relocations_from m o)) (sym e) one
 of_object (o ∷ os) n (suc i) s k d low =
     let e : n + suc i ≡ (n + 1) + i = omega arith in
     let rest = of_object os (n + 1) i s k d (omega (arith, low)) in
     let whole =
-    find-right (is_in_field ((n + 1) + i) s k) (relocations_from n o.bytes) (relocations_of (n + 1) os)
+    find-right (is_in_field ((n + 1) + i) s k) (relocations_from n o) (relocations_of (n + 1) os)
     (All-weaker (λ (r : Relocation). r.object ≡ n) (λ r. is_in_field ((n + 1) + i) s k r ≡ false) (λ r h. not_in ((n + 1) + i) s k r (λ same. omega (arith, h, same)))
-    (relocations_from n o.bytes) (own_object n o.bytes)) ∙ rest in
-    subst (λ (m : ℕ). find (is_in_field m s k) (relocations_of n (o ∷ os)) ≡ find (is_in_field m s k) (relocations_from m (get_or os i d).bytes)) (sym e) whole
+    (relocations_from n o) (own_object n o)) ∙ rest in
+    subst (λ (m : ℕ). find (is_in_field m s k) (relocations_of n (o ∷ os)) ≡ find (is_in_field m s k) (relocations_from m (get_or os i d))) (sym e) whole
 
 -- the first object's number is 0
 of_all :
     (os : List LoadedObject) (i s k : ℕ) (d : LoadedObject) → i < length os →
-    find (is_in_field i s k) (relocations os) ≡ find (is_in_field i s k) (relocations_from i (get_or os i d).bytes)
+    find (is_in_field i s k) (relocations os) ≡ find (is_in_field i s k) (relocations_from i (get_or os i d))
 of_all os i s k d low =
     let e : 0 + i ≡ i = omega arith in
-    subst (λ (m : ℕ). find (is_in_field m s k) (relocations os) ≡ find (is_in_field m s k) (relocations_from m (get_or os i d).bytes)) e
+    subst (λ (m : ℕ). find (is_in_field m s k) (relocations os) ≡ find (is_in_field m s k) (relocations_from m (get_or os i d))) e
     (of_object os 0 i s k d low)
 
 -- The fields of one section in a row.
@@ -122,7 +122,7 @@ not_both s k f g before e h = of before (both s k f e) (both s k g h)
 
 -- the field of a row that has byte k of section s
 row_found :
-    (objects : List LoadedObject) (ps : List Placed) (o s k : ℕ) (rs : List Relocation) (row : List Field) → All (λ r. r.object ≡ o) rs →
+    (objects : List LoadedObject) (ps : Where) (o s k : ℕ) (rs : List Relocation) (row : List Field) → All (λ r. r.object ≡ o) rs →
     IsRow (map (field_of objects ps) rs) row →
     find (covers k) (filter (is_of s) row) ≡ option_map (field_of objects ps) (find (is_in_field o s k) rs)
 row_found objects ps o s k rs row own is =
@@ -134,7 +134,7 @@ row_found objects ps o s k rs row own is =
     (λ i d low. in_range o s k (get_or rs i d) (own i d low)))))
 
 byte_is :
-    (objects : List LoadedObject) (ps : List Placed) (p : Piece) (k : ℕ) (o : Option Relocation) →
+    (objects : List LoadedObject) (ps : Where) (p : Piece) (k : ℕ) (o : Option Relocation) →
     byte_of p.bytes k (option_map (field_of objects ps) o) ≡ byte_or_field objects ps p k o
 byte_is objects ps p k None = refl
 byte_is objects ps p k (Some r) = refl
@@ -158,13 +158,13 @@ some_object os i low = of (slice_get_cases os i).1
     of (inl a) = (a.0, a.2)
     of (inr b) = absurd (omega (arith, low, b.0))
 
-module _ (objects : List LoadedObject) (ps : List Placed) (rows : List (Vec Field)) (are : AreRows objects ps rows) where
-  own_row : (i : ℕ) (o : LoadedObject) → i < length objects → IsRowOf objects ps i (get_or objects i o).bytes (row_of rows i)
+module _ (objects : List LoadedObject) (ps : Where) (rows : List (Vec Field)) (are : AreRows objects ps rows) where
+  own_row : (i : ℕ) (o : LoadedObject) → i < length objects → IsRowOf objects ps i (get_or objects i o) (row_of rows i)
   own_row i o low =
       let count = are.count in
       let there : i < length rows = omega (arith, low, count) in
       let d = (some_row rows i there).0 in
-      subst (IsRowOf objects ps i (get_or objects i o).bytes) (sym (row_at rows i d there)) (are.each i d o there)
+      subst (IsRowOf objects ps i (get_or objects i o)) (sym (row_at rows i d there)) (are.each i d o there)
 
   -- the byte that the fields of its section give a piece of an object that is there
   pub byte_wanted :
@@ -172,9 +172,9 @@ module _ (objects : List LoadedObject) (ps : List Placed) (rows : List (Vec Fiel
       byte_of p.bytes k (find (covers k) (fields_in rows p.object p.section)) ≡ wanted_byte objects ps p k
   byte_wanted p k low =
       let o = (some_object objects p.object low).0 in
-      let rs = relocations_from p.object (get_or objects p.object o).bytes in
+      let rs = relocations_from p.object (get_or objects p.object o) in
       ap (byte_of p.bytes k)
-      (row_found objects ps p.object p.section k rs (row_of rows p.object) (own_object p.object (get_or objects p.object o).bytes) (own_row p.object o low).sorted)
+      (row_found objects ps p.object p.section k rs (row_of rows p.object) (own_object p.object (get_or objects p.object o)) (own_row p.object o low).sorted)
       ∙ (byte_is objects ps p k (find (is_in_field p.object p.section k) rs)
       ∙ ap (byte_or_field objects ps p k) (sym (of_all objects p.object p.section k o low)))
 
@@ -194,13 +194,13 @@ module _ (objects : List LoadedObject) (ps : List Placed) (rows : List (Vec Fiel
 
 -- the fields of right relocations lie inside their sections, in a row of them too
 pub row_inside :
-    (objects : List LoadedObject) (ps : List Placed) (n : ℕ) (b : List ℕ) (row : List Field) → All (IsRight objects ps) (relocations_from n b) →
-    IsPermutation (map (field_of objects ps) (relocations_from n b)) row → All (LiesIn b) row
-row_inside objects ps n b row right moved =
-    All-permutation (LiesIn b) (map (field_of objects ps) (relocations_from n b)) row moved
-    (All-map (LiesIn b) (field_of objects ps) (relocations_from n b) (λ i d low. lies (get_or (relocations_from n b) i d) (right i d low) (own_sizes n b i d low)))
+    (objects : List LoadedObject) (ps : Where) (n : ℕ) (o : LoadedObject) (row : List Field) → All (IsRight objects ps) (relocations_from n o) →
+    IsPermutation (map (field_of objects ps) (relocations_from n o)) row → All (LiesIn o.bytes) row
+row_inside objects ps n o row right moved =
+    All-permutation (LiesIn o.bytes) (map (field_of objects ps) (relocations_from n o)) row moved
+    (All-map (LiesIn o.bytes) (field_of objects ps) (relocations_from n o) (λ i d low. lies (get_or (relocations_from n o) i d) (right i d low) (own_sizes n o i d low)))
   where
-    lies : (r : Relocation) → IsRight objects ps r → r.size ≡ (section (sections b) r.section).sh_size → LiesIn b (field_of objects ps r)
+    lies : (r : Relocation) → IsRight objects ps r → r.size ≡ (section (sections o.bytes) r.section).sh_size → LiesIn o.bytes (field_of objects ps r)
     lies r w size =
         let inside : r.entry.r_offset + width_of r ≤ r.size = ends_inside r w.lawful.known w.lawful.inside in
         record { inside = subst (λ (m : ℕ). r.entry.r_offset + width_of r ≤ m) size inside; narrow = (width_some r w.lawful.known).1 }

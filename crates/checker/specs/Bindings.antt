@@ -1,44 +1,52 @@
 -- What the names and the symbols of objects mean.
-use Rattle.std.specs.Prelude.{◌≡◌, ◌↔◌, ℕ, ◌%◌, ◌^◌, ◌<◌, true, false, IsTrue, List, Option, IsSomeAnd, length, option_map, slice_index_or, unwrap_or}
+use Rattle.std.specs.Prelude.{◌≡◌, ◌↔◌, ℕ, ◌%◌, ◌^◌, ◌<◌, ◌&&◌, Bool, not, true, false, IsTrue, List, Option, IsSomeAnd, length, option_map, slice_index_or, unwrap_or}
 use Rattle.std.specs.Borrow.{Bor}
 use Rattle.std.specs.BTreeMap.{BTreeMap, get_by}
 use Rattle.std.specs.Cmp.Lexicographic.{slice_cmp}
 use Rattle.std.specs.Option.{option_map_or}
 use Rattle.std.specs.Ordering.{nat_cmp}
+use Rattle.elf_model.specs.ChosenSymbols.{is_same_symbol}
 use Rattle.elf_model.specs.Loading.{LoadedObject}
 use Rattle.elf_model.specs.Pieces.{is_alloc}
-use Rattle.elf_model.specs.Placement.{Placed, symbol_value}
-use Rattle.elf_model.specs.Relocation.{IsUndefined, definition_of, is_local, symbol_at}
-use Rattle.elf_model.specs.Resolution.{SymbolOf, chosen, is_in_thread_section, section_of}
+use Rattle.elf_model.specs.Meaning.{is_in_thread_storage, meaning_size, meaning_value}
+use Rattle.elf_model.specs.Placement.{Where}
+use Rattle.elf_model.specs.Relocation.{IsMixed, IsUndefined, definition_of, is_local, symbol_at}
+use Rattle.elf_model.specs.Resolution.{SymbolOf, chosen, section_of}
 use Rattle.checker.specs.Views.{symbol_view}
 use Rattle.checker.specs.declared.targets.Target.{Target}
 use Rattle.checker.specs.declared.things.SymbolOf as code
 
--- the objects and the placed pieces that give symbols their meaning
+-- the objects and where their pieces are, which give symbols their meaning
 pub record Bound : Type 0 where
   pub objects : List LoadedObject
-  pub placed : List Placed
+  pub places : Where
 
 -- the definition that an index has for a name
 abbrev pub definition_in : BTreeMap (Bor (List ℕ)) code.SymbolOf → List ℕ → Option SymbolOf
 definition_in names name = option_map symbol_view (get_by (λ k. slice_cmp nat_cmp name k.now) names)
+
+-- a symbol is the one that an index has for its name
+abbrev pub is_found : BTreeMap (Bor (List ℕ)) code.SymbolOf → SymbolOf → Bool
+is_found names s = option_map_or (is_same_symbol s) (definition_in names s.name) false
 
 -- an index has for each name its chosen definition
 abbrev pub AreChosen : List LoadedObject → BTreeMap (Bor (List ℕ)) code.SymbolOf → Type 0
 AreChosen objects names = (name : List ℕ) → definition_in names name ≡ chosen objects name
 
 -- a LOCAL symbol of a section that isn't kept
-abbrev pub IsOfDropped : List LoadedObject → SymbolOf → Type 0
-IsOfDropped objects s = (is_local s ≡ true) × IsSomeAnd (section_of objects s) (λ h. is_alloc h ≡ false)
+abbrev pub IsOfUnkept : List LoadedObject → SymbolOf → Type 0
+IsOfUnkept objects s = (is_local s ≡ true) × IsSomeAnd (section_of objects s) (λ h. (is_alloc h && not s.dropped) ≡ false)
 
 -- what a symbol means to relocations: the values are those of the definition that they use, modulo 2 ^ 64
 pub record IsTargetOf (b : Bound) (s : SymbolOf) (t : Target) : Type 0 where
   pub undefined : IsTrue t.undefined ↔ IsUndefined b.objects s
-  pub dropped : IsTrue t.dropped ↔ IsOfDropped b.objects s
-  pub thread_local : t.thread_local ≡ option_map_or (is_in_thread_section b.objects) (definition_of b.objects s) false
-  pub value : t.value ≡ unwrap_or (option_map (symbol_value b.placed) (definition_of b.objects s)) 0 % 2 ^ 64
-  pub size : t.size ≡ unwrap_or (option_map (λ d. d.entry.st_size) (definition_of b.objects s)) 0
+  pub unkept : IsTrue t.unkept ↔ IsOfUnkept b.objects s
+  pub dropped : t.dropped ≡ s.dropped
+  pub mixed : IsTrue t.mixed ↔ IsSomeAnd (definition_of b.objects s) (IsMixed b.objects)
+  pub thread_local : t.thread_local ≡ option_map_or (is_in_thread_storage b.objects) (definition_of b.objects s) false
+  pub value : t.value ≡ unwrap_or (option_map (meaning_value b.places) (definition_of b.objects s)) 0 % 2 ^ 64
+  pub size : t.size ≡ unwrap_or (option_map meaning_size (definition_of b.objects s)) 0
 
 -- what the symbols of the object that has a number mean, by their numbers
-abbrev pub AreTargets : Bound → ℕ → List ℕ → List Target → Type 0
-AreTargets b object bytes ts = (j : ℕ) (d : Target) → j < length ts → IsTargetOf b (symbol_at object bytes j) (slice_index_or ts j d)
+abbrev pub AreTargets : Bound → ℕ → LoadedObject → List Target → Type 0
+AreTargets b object o ts = (j : ℕ) (d : Target) → j < length ts → IsTargetOf b (symbol_at object o j) (slice_index_or ts j d)

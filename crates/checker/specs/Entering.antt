@@ -1,10 +1,13 @@
 -- Where a link may enter.
 use Rattle.std.specs.Prelude.{◌≡◌, ℕ, false, IsSomeAnd, List, Option}
+use Rattle.std.specs.Option.{option_and_then}
 use Rattle.elf_model.specs.Loading.{LoadedObject}
-use Rattle.elf_model.specs.Placement.{Placed, symbol_value}
+use Rattle.elf_model.specs.Meaning.{meaning_value, meant}
+use Rattle.elf_model.specs.Placement.{Where}
 use Rattle.elf_model.specs.Resolution.{SymbolOf, is_in_thread_section}
 
--- a definition was found, which stands in no section with SHF_TLS and has a value
-abbrev pub Enters : List LoadedObject → List Placed → ℕ → Option SymbolOf → Type 0
-Enters objects ps value found =
-    IsSomeAnd found (λ s. is_in_thread_section objects s ≡ false) × IsSomeAnd found (λ d. value ≡ symbol_value ps d)
+-- a definition was found, which stands in no section with SHF_TLS and means something that has a value
+abbrev pub Enters : List LoadedObject → Where → ℕ → Option SymbolOf → Type 0
+Enters objects w value found =
+    IsSomeAnd found (λ s. is_in_thread_section objects s ≡ false)
+    × IsSomeAnd (option_and_then (meant objects) found) (λ d. value ≡ meaning_value w d)

@@ -3,22 +3,22 @@ use Rattle.std.specs.Prelude.{◌≡◌, ℕ, ◌+◌, ◌<◌, ◌≤◌, ◌�
 use Rattle.std.specs.Global.{Vec}
 use Rattle.elf_model.specs.Loading.{LoadedObject}
 use Rattle.elf_model.specs.ObjectFile.{section, sections}
-use Rattle.elf_model.specs.Placement.{Placed}
+use Rattle.elf_model.specs.Placement.{Where}
 use Rattle.elf_model.specs.Relocation.{AreFieldsApart, Fits, IsLawfulRelocation, Relocation, relocations_from, value_of, width_of}
 use Rattle.checker.specs.declared.fields.Field.{Field}
 
 -- the field of a relocation, within its object
-abbrev pub field_of : List LoadedObject → List Placed → Relocation → Field
-field_of objects ps r = record { section = r.section; at = r.entry.r_offset; width = width_of r; value = value_of objects ps r }
+abbrev pub field_of : List LoadedObject → Where → Relocation → Field
+field_of objects w r = record { section = r.section; at = r.entry.r_offset; width = width_of r; value = value_of objects w r }
 
 -- a relocation is lawful, and its value fits its field
-pub record IsRight (objects : List LoadedObject) (ps : List Placed) (r : Relocation) : Type 0 where
+pub record IsRight (objects : List LoadedObject) (w : Where) (r : Relocation) : Type 0 where
   pub lawful : IsLawfulRelocation objects r
-  pub fits : Fits objects ps r
+  pub fits : Fits objects w r
 
 -- relocations are right, and no byte lies in the fields of two
-pub record AreRight (objects : List LoadedObject) (ps : List Placed) (rs : List Relocation) : Type 0 where
-  pub each : All (IsRight objects ps) rs
+pub record AreRight (objects : List LoadedObject) (w : Where) (rs : List Relocation) : Type 0 where
+  pub each : All (IsRight objects w) rs
   pub apart : AllPairs AreFieldsApart rs
 
 -- a field has a byte, and at most eight
@@ -56,13 +56,13 @@ pub record LiesIn (bytes : List ℕ) (f : Field) : Type 0 where
   pub narrow : f.width ≤ 8
 
 -- a row is that of the kept relocations of the object that has a number
-pub record IsRowOf (objects : List LoadedObject) (ps : List Placed) (k : ℕ) (bytes : List ℕ) (row : List Field) : Type 0 where
-  pub sorted : IsRow (map (field_of objects ps) (relocations_from k bytes)) row
-  pub inside : All (LiesIn bytes) row
+pub record IsRowOf (objects : List LoadedObject) (w : Where) (k : ℕ) (o : LoadedObject) (row : List Field) : Type 0 where
+  pub sorted : IsRow (map (field_of objects w) (relocations_from k o)) row
+  pub inside : All (LiesIn o.bytes) row
 
 -- rows of fields, object by object
-pub record AreRows (objects : List LoadedObject) (ps : List Placed) (rows : List (Vec Field)) : Type 0 where
+pub record AreRows (objects : List LoadedObject) (w : Where) (rows : List (Vec Field)) : Type 0 where
   pub count : length rows ≡ length objects
   pub each :
       (k : ℕ) (d : Vec Field) (o : LoadedObject) → k < length rows
-      → IsRowOf objects ps k (slice_index_or objects k o).bytes (slice_index_or rows k d).items
+      → IsRowOf objects w k (slice_index_or objects k o) (slice_index_or rows k d).items

@@ -1,11 +1,21 @@
 -- What one relocation asks, by its kind, by what its symbol means, and by the section that it relocates.
-use Rattle.std.specs.Prelude.{ℕ, ◌≡◌, ◌+◌, ◌*◌, ◌%◌, ◌^◌, ◌≤◌, false, Option, IfSome, IsSome, IsSomeAnd, option_map, unwrap_or}
+use Rattle.std.specs.Prelude.{ℕ, ◌≡◌, ◌+◌, ◌*◌, ◌%◌, ◌^◌, ◌≤◌, ◌&&◌, Bool, false, not, codes, List, [], Option, IfSome, IsSome, IsSomeAnd, option_map, unwrap_or}
+use Rattle.std.specs.Str.{bytes_eq}
+use Rattle.elf_model.specs.ObjectFile.{section_name}
 use Rattle.elf_model.specs.Relocation.{IsInRange, IsMismatch, Kind, modulo_64, whole_value}
 use Rattle.elf_model.specs.declared.records.Rela.{Rela}
 use Rattle.checker.specs.Kinds.{plain_terms}
 use Rattle.checker.specs.declared.fields.Field.{Field}
 use Rattle.checker.specs.declared.fitting.Relocated.{Relocated}
 use Rattle.checker.specs.declared.targets.Target.{Target}
+
+-- a section of an object is .eh_frame
+abbrev pub is_frames : List ℕ → ℕ → Bool
+is_frames bytes k = bytes_eq (unwrap_or (section_name bytes k) []) (codes ".eh_frame")
+
+-- entries name a LOCAL symbol of a section that isn't kept, and aren't those of .eh_frame of a dropped one
+abbrev pub refers_to_dropped : Target → Relocated → Bool
+refers_to_dropped t to = t.unkept && not (t.dropped && to.frames)
 
 -- the value of an entry of a kind
 abbrev pub value_with : Option Kind → Target → Relocated → Rela → ℕ
@@ -16,9 +26,10 @@ value_with kind t to e =
 pub record IsRightWith (kind : Option Kind) (t : Target) (to : Relocated) (e : Rela) : Type 0 where
   pub known : IsSome kind
   pub defined : t.undefined ≡ false
-  pub kept : t.dropped ≡ false
+  pub kept : refers_to_dropped t to ≡ false
   pub thread : ¬ IsSomeAnd kind (λ k. IsMismatch k.formula t.thread_local)
   pub inside : IfSome kind (λ k. e.r_offset + k.width ≤ to.size)
+  pub unmixed : t.mixed ≡ false
   pub fits : IfSome kind (λ k. IsInRange k.range (8 * k.width) (value_with kind t to e))
 
 -- its field

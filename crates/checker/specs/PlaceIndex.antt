@@ -1,9 +1,14 @@
--- Addresses of pieces by their sections.
+-- Addresses of pieces by their sections, and the bounds of their parts and output names.
 use Rattle.std.specs.Prelude.{◌≡◌, ℕ, List, Option, find, option_map}
+use Rattle.std.specs.Borrow.{Bor}
 use Rattle.std.specs.BTreeMap.{BTreeMap, get}
 use Rattle.std.specs.Ordering.{nat_cmp, ordering_then}
 use Rattle.std.specs.declared.cmp.Ordering.{Ordering}
 use Rattle.elf_model.specs.Placement.{Placed, is_of_section}
+use Rattle.checker.specs.Outputs.{AreSpans}
+use Rattle.checker.specs.PieceParts.{AreBounds}
+use Rattle.checker.specs.declared.bounds.Bounds.{Bounds}
+use Rattle.checker.specs.declared.bounds.Span.{Span}
 
 -- how an object's and a section's number compare with others
 abbrev pub section_key : ℕ × ℕ → ℕ × ℕ → Ordering
@@ -16,3 +21,8 @@ address_in index object section = get section_key index (object, section)
 -- an index has for each section the address of the first piece that is of it
 abbrev pub IsPlaceIndex : List Placed → BTreeMap (ℕ × ℕ) ℕ → Type 0
 IsPlaceIndex ps index = (object section : ℕ) → address_in index object section ≡ option_map (λ q. q.at) (find (is_of_section object section) ps)
+
+pub record ArePlaces (ps : List Placed) (index : BTreeMap (ℕ × ℕ) ℕ) (bounds : Bounds) (spans : BTreeMap (Bor (List ℕ)) Span) : Type 0 where
+  pub addresses : IsPlaceIndex ps index
+  pub bounds_are : AreBounds ps bounds
+  pub spans_are : AreSpans ps spans

@@ -1,97 +1,53 @@
-//! What names mean: an index of the strong definitions, and the addresses of the placed pieces.
-ghost use Rattle.std.specs.Prelude.{◌≡◌, ◌≢◌, ◌↔◌, ◌&&◌, ◌%◌, ◌^◌, ℕ, IfOk, IsTrue, List, None, OnOk, Some, cond, false, find, option_map, unwrap_or};
-ghost use Rattle.std.specs.Option.{option_map_or, option_or};
-ghost use Rattle.elf_model.specs.Placement.{symbol_value};
-ghost use Rattle.elf_model.specs.Relocation.{definition_of, section_address};
-ghost use Rattle.elf_model.specs.Resolution.{all_symbols, binding, chosen, has_name, is_in_thread_section, is_strong};
-ghost use Rattle.checker.specs.Bindings.{AreChosen, IsOfDropped, IsTargetOf, definition_in};
-ghost use Rattle.checker.specs.Views.{loaded_views, symbol_view, symbol_views};
+//! What names mean: the names of objects, the linker's own, and the addresses of the placed pieces.
+ghost use Rattle.std.specs.Prelude.{◌≡◌, ◌≢◌, ◌↔◌, ◌%◌, ◌^◌, IsSomeAnd, IsTrue, None, false, option_map, unwrap_or};
+ghost use Rattle.std.specs.Option.{option_map_or};
+ghost use Rattle.elf_model.specs.ChosenSymbols.{is_chosen};
+ghost use Rattle.elf_model.specs.LinkerNames.{bound_of, named_output};
+ghost use Rattle.elf_model.specs.Meaning as meanings;
+ghost use Rattle.elf_model.specs.Meaning.{is_in_thread_storage, meaning, meaning_size, meaning_value, meant, object_meaning};
+ghost use Rattle.elf_model.specs.Pieces.{AreOneOutput, kept_sections};
+ghost use Rattle.elf_model.specs.Placement.{section_address, symbol_value};
+ghost use Rattle.elf_model.specs.Relocation.{IsMixed, IsMixedBound, definition_of};
+ghost use Rattle.elf_model.specs.Resolution.{AreSoundSymbols, all_symbols, binding, chosen, is_in_thread_section};
+ghost use Rattle.check_load.specs.Views.{loaded_views};
+ghost use Rattle.checker.specs.Bindings.{IsOfUnkept, IsTargetOf};
+ghost use Rattle.checker.specs.Views.{meaning_view, symbol_view, symbol_views};
 
-use crate::definitions::{is_in_thread_section, is_strong};
+use crate::definitions::{has_value, is_in_thread_section};
+use crate::linker_names::{fixed_bound, named_output, output_bound};
+use crate::names::Names;
+use crate::outputs::Outputs;
 use crate::places::Places;
-use crate::symbols::section_of;
+use crate::symbols::{are_sound, section_of};
 use crate::targets::Target;
-use crate::things::{Loaded, SymbolOf};
-use elf_model::{SHN_ABS, SHN_UNDEF, STB_LOCAL, STB_WEAK};
-use std::alloc::{AllocError, Global};
-use std::collections::BTreeMap;
+use crate::things::{Meaning, SymbolOf};
+use check_load::Loaded;
+use elf_model::{Bound, SHN_ABS, SHN_UNDEF, STB_LOCAL, STB_WEAK};
 use std::marker::Model;
 
-/// What names mean: the loaded objects with an index of their strong definitions, and the placed pieces.
+/// What names mean: the names of the loaded objects, the output names of their kept sections, and the placed pieces.
 #[derive(Drop)]
 pub struct Bindings<'l, 'p, 'a> {
-    objects: &'l [Loaded<'a>],
-    names: BTreeMap<&'a [u8], SymbolOf<'a>>,
+    names: &'l Names<'l, 'a>,
+    outputs: &'l Outputs<'l, 'a>,
     places: &'l Places<'p, 'a>,
 }
 
 impl<'l, 'p, 'a> Model for Bindings<'l, 'p, 'a> {
-    ghost use Rattle.checker.specs.Bindings.{AreChosen, Bound};
-    ghost use Rattle.checker.specs.Views.{loaded_views};
+    ghost use Rattle.std.specs.Prelude.{◌≡◌};
+    ghost use Rattle.elf_model.specs.Pieces.{kept_sections};
+    ghost use Rattle.checker.specs.Bindings.{Bound};
 
     ghost Value = { Bound };
 
-    ghost view = { λ b. record { objects = loaded_views b.objects.now; placed = b.places.now } };
+    ghost view = { λ b. record { objects = b.names.now; places = b.places.now } };
 
-    ghost invariant = { λ b. AreChosen (loaded_views b.objects.now) b.names };
-}
-
-/// Puts a strong definition into the index, unless one of its name is there.
-fn add_definition<'a>(
-    names: &mut BTreeMap<&'a [u8], SymbolOf<'a>>,
-    symbol: &SymbolOf<'a>,
-) -> Result<(), AllocError>
-    ensures { OnOk result ((name : List ℕ) → definition_in names.new name ≡ option_or (definition_in names.old name) (cond (has_name name (symbol_view symbol.now)) (Some (symbol_view symbol.now)) None)) }
-{
-    if !names.contains_key(symbol.name) {
-        names.insert(symbol.name, *symbol)?;
-    }
-    Ok(())
-}
-
-/// Puts a symbol into the index where it is a strong definition, unless one of its name is there.
-fn add_symbol<'a>(
-    names: &mut BTreeMap<&'a [u8], SymbolOf<'a>>,
-    symbol: &SymbolOf<'a>,
-) -> Result<(), AllocError>
-    ensures { OnOk result ((name : List ℕ) → definition_in names.new name ≡ option_or (definition_in names.old name) (cond (is_strong (symbol_view symbol.now) && has_name name (symbol_view symbol.now)) (Some (symbol_view symbol.now)) None)) }
-{
-    if !is_strong(symbol) {
-        return Ok(());
-    }
-    add_definition(names, symbol)
-}
-
-/// The first strong definition of each name. The symbols are those of the objects.
-fn index_names<'a>(
-    alloc: Global,
-    objects: &[Loaded<'a>],
-    symbols: &[SymbolOf<'a>],
-) -> Result<BTreeMap<&'a [u8], SymbolOf<'a>>, AllocError>
-    requires { symbol_views symbols.now ≡ all_symbols (loaded_views objects.now) }
-    ensures { IfOk result (AreChosen (loaded_views objects.now)) }
-{
-    let names = index_symbols(alloc, symbols)?;
-    Ok(names)
-}
-
-/// The first strong definition of each name among symbols.
-fn index_symbols<'a>(
-    alloc: Global,
-    symbols: &[SymbolOf<'a>],
-) -> Result<BTreeMap<&'a [u8], SymbolOf<'a>>, AllocError>
-    ensures { IfOk result (λ names. (name : List ℕ) → definition_in names name ≡ find (λ s. is_strong s && has_name name s) (symbol_views symbols.now)) }
-{
-    let mut names = BTreeMap::new(alloc);
-    for symbol in symbols {
-        add_symbol(&mut names, symbol)?;
-    }
-    Ok(names)
+    ghost invariant = { λ b. b.outputs.now ≡ kept_sections b.names.now };
 }
 
 /// Whether a symbol that isn't number 0 and isn't WEAK has no definition.
-fn is_in_want(symbol: &SymbolOf<'_>, definition: &Option<SymbolOf<'_>>) -> bool
-    ensures { IsTrue result ↔ ((symbol.now.number ≢ 0) × (binding symbol.now.entry ≢ 2) × (option_map symbol_view definition.now ≡ None)) }
+fn is_in_want(symbol: &SymbolOf<'_>, definition: &Option<Meaning<'_>>) -> bool
+    ensures { IsTrue result ↔ ((symbol.now.number ≢ 0) × (binding symbol.now.entry ≢ 2) × (option_map meaning_view definition.now ≡ None)) }
 {
     if symbol.number == 0 || symbol.entry.st_info / 16 == STB_WEAK {
         return false;
@@ -100,24 +56,26 @@ fn is_in_want(symbol: &SymbolOf<'_>, definition: &Option<SymbolOf<'_>>) -> bool
 }
 
 /// Whether a symbol is a LOCAL one of a section that isn't kept.
-fn is_of_dropped(objects: &[Loaded<'_>], symbol: &SymbolOf<'_>) -> bool
-    ensures { IsTrue result ↔ IsOfDropped (loaded_views objects.now) (symbol_view symbol.now) }
+fn is_of_unkept(objects: &[Loaded<'_>], symbol: &SymbolOf<'_>) -> bool
+    ensures { IsTrue result ↔ IsOfUnkept (loaded_views objects.now) (symbol_view symbol.now) }
 {
     if symbol.entry.st_info / 16 != STB_LOCAL {
         return false;
     }
     match section_of(objects, symbol) {
-        Some(section) => !section.is_alloc(),
+        Some(section) => symbol.dropped || !section.is_alloc(),
         None => false,
     }
 }
 
 /// Whether there is a definition, one of a section with SHF_TLS.
-fn is_thread_local(objects: &[Loaded<'_>], definition: &Option<SymbolOf<'_>>) -> bool
-    ensures { result ≡ option_map_or (is_in_thread_section (loaded_views objects.now)) (option_map symbol_view definition.now) false }
+fn is_thread_local(objects: &[Loaded<'_>], definition: &Option<Meaning<'_>>) -> bool
+    ensures { result ≡ option_map_or (is_in_thread_storage (loaded_views objects.now)) (option_map meaning_view definition.now) false }
 {
     match definition {
-        Some(symbol) => is_in_thread_section(objects, symbol),
+        Some(Meaning::Symbol(symbol)) => is_in_thread_section(objects, symbol),
+        Some(Meaning::Common(_)) => false,
+        Some(Meaning::Linker(_, _)) => false,
         None => false,
     }
 }
@@ -125,7 +83,7 @@ fn is_thread_local(objects: &[Loaded<'_>], definition: &Option<SymbolOf<'_>>) ->
 /// The value of a symbol that is defined, modulo 2^64: an absolute one's `st_value`, else the address of its
 /// section plus `st_value`, 0 where the section isn't placed.
 fn symbol_value(places: &Places<'_, '_>, symbol: &SymbolOf<'_>) -> u64
-    ensures { result ≡ symbol_value places.now (symbol_view symbol.now) % 2 ^ 64 }
+    ensures { result ≡ symbol_value places.now.placed (symbol_view symbol.now) % 2 ^ 64 }
 {
     let entry = symbol.entry;
     if entry.st_shndx == SHN_ABS {
@@ -137,63 +95,209 @@ fn symbol_value(places: &Places<'_, '_>, symbol: &SymbolOf<'_>) -> u64
     }
 }
 
-fn value_or_none(places: &Places<'_, '_>, definition: &Option<SymbolOf<'_>>) -> u64
-    ensures { result ≡ unwrap_or (option_map (symbol_value places.now) (option_map symbol_view definition.now)) 0 % 2 ^ 64 }
+/// The address of a section of an object, or of a block by its numbers, 0 where it isn't placed.
+fn address_of(places: &Places<'_, '_>, object: u64, section: u64) -> u64
+    ensures { result ≡ section_address places.now.placed object section }
 {
-    match definition {
-        Some(symbol) => symbol_value(places, symbol),
+    match places.address(object, section) {
+        Some(at) => at,
         None => 0,
     }
 }
 
-fn size_or_none(definition: &Option<SymbolOf<'_>>) -> u64
-    ensures { result ≡ unwrap_or (option_map (λ d. d.entry.st_size) (option_map symbol_view definition.now)) 0 }
+/// The value of what a name means, modulo 2^64.
+fn meaning_value(places: &Places<'_, '_>, meaning: &Meaning<'_>) -> u64
+    ensures { result ≡ meaning_value places.now (meaning_view meaning.now) % 2 ^ 64 }
+{
+    match meaning {
+        Meaning::Symbol(symbol) => symbol_value(places, symbol),
+        Meaning::Common(block) => address_of(places, block.object, block.number),
+        Meaning::Linker(name, bound) => places.bound(name, *bound),
+    }
+}
+
+fn value_or_none(places: &Places<'_, '_>, definition: &Option<Meaning<'_>>) -> u64
+    ensures { result ≡ unwrap_or (option_map (meaning_value places.now) (option_map meaning_view definition.now)) 0 % 2 ^ 64 }
 {
     match definition {
-        Some(symbol) => symbol.entry.st_size,
+        Some(meaning) => meaning_value(places, meaning),
+        None => 0,
+    }
+}
+
+fn size_or_none(definition: &Option<Meaning<'_>>) -> u64
+    ensures { result ≡ unwrap_or (option_map meaning_size (option_map meaning_view definition.now)) 0 }
+{
+    match definition {
+        Some(Meaning::Symbol(symbol)) => symbol.entry.st_size,
+        Some(Meaning::Common(block)) => block.size,
+        Some(Meaning::Linker(_, _)) => 0,
         None => 0,
     }
 }
 
 impl<'l, 'p, 'a> Bindings<'l, 'p, 'a> {
-    /// What the names of loaded objects mean where their pieces are placed. The symbols are the objects'.
+    /// What names mean where the pieces of loaded objects are placed. The outputs are those of the objects' kept
+    /// sections.
     pub fn new(
-        alloc: Global,
-        objects: &'l [Loaded<'a>],
+        names: &'l Names<'l, 'a>,
+        outputs: &'l Outputs<'l, 'a>,
         places: &'l Places<'p, 'a>,
-        symbols: &[SymbolOf<'a>],
-    ) -> Result<Bindings<'l, 'p, 'a>, AllocError>
-        requires { symbol_views symbols.now ≡ all_symbols (loaded_views objects.now) }
-        ensures objects { IfOk result (λ b. b.objects ≡ loaded_views objects.entry.now) }
-        ensures placed { IfOk result (λ b. b.placed ≡ places.entry.now) }
+    ) -> Bindings<'l, 'p, 'a>
+        requires { outputs.now ≡ kept_sections names.now }
+        ensures objects { result.objects ≡ names.entry.now }
+        ensures places { result.places ≡ places.entry.now }
     {
-        let names = index_names(alloc, objects, symbols)?;
-        Ok(Bindings {
-            objects,
+        Bindings {
             names,
+            outputs,
             places,
-        })
+        }
     }
 
-    /// The chosen definition of a name.
-    fn chosen(&self, name: &[u8]) -> Option<SymbolOf<'a>>
+    /// The symbols of the objects, in load order.
+    pub fn symbols(&self) -> &[SymbolOf<'a>]
+        ensures { symbol_views result.now ≡ all_symbols self.entry.now.objects }
+    {
+        self.names.symbols()
+    }
+
+    /// The chosen definition of a name; None where it has none.
+    pub fn chosen(&self, name: &[u8]) -> Option<SymbolOf<'a>>
         ensures { option_map symbol_view result ≡ chosen self.now.objects name.now }
     {
-        self.names.get(name).copied()
+        self.names.chosen(name)
     }
 
-    /// The definition that a relocation uses which names a symbol: the chosen one of its name, or the symbol
-    /// itself where that is LOCAL.
-    fn definition(&self, symbol: &SymbolOf<'a>) -> Option<SymbolOf<'a>>
-        ensures { option_map symbol_view result ≡ definition_of self.now.objects (symbol_view symbol.now) }
+    /// What a chosen definition means.
+    pub fn meant(&self, symbol: &SymbolOf<'a>) -> Option<Meaning<'a>>
+        ensures { option_map meaning_view result ≡ meant self.now.objects (symbol_view symbol.now) }
+    {
+        self.names.meant(symbol)
+    }
+
+    /// What a name means that an object defines.
+    fn object_meaning(&self, name: &[u8]) -> Option<Meaning<'a>>
+        ensures { option_map meaning_view result ≡ object_meaning self.now.objects name.now }
+    {
+        let symbol = self.chosen(name)?;
+        self.meant(&symbol)
+    }
+
+    /// What a name of the linker's stands for; None where the linker defines nothing for it.
+    pub fn bound_of(&self, name: &[u8]) -> Option<Bound>
+        ensures { result ≡ bound_of self.now.objects name.now }
+    {
+        if let Some(bound) = fixed_bound(name) {
+            return Some(bound);
+        }
+        let bound = output_bound(name)?;
+        if self.outputs.has(named_output(name)) {
+            Some(bound)
+        } else {
+            None
+        }
+    }
+
+    /// What the linker defines for a name.
+    pub fn linker_meaning(&self, name: &'a [u8]) -> Option<Meaning<'a>>
+        ensures { option_map meaning_view result ≡ option_map (meanings.Linker name.now) (bound_of self.now.objects name.now) }
+    {
+        let bound = self.bound_of(name)?;
+        Some(Meaning::Linker(name, bound))
+    }
+
+    /// What a name means: what objects define, or else what the linker does.
+    fn meaning(&self, name: &'a [u8]) -> Option<Meaning<'a>>
+        ensures { option_map meaning_view result ≡ meaning self.now.objects name.now }
+    {
+        match self.object_meaning(name) {
+            Some(meaning) => Some(meaning),
+            None => self.linker_meaning(name),
+        }
+    }
+
+    /// Whether all sections of the output name are of one output section of which a name of the linker's speaks.
+    fn is_of_one_output(&self, name: &[u8]) -> bool
+        ensures { IsTrue result ↔ AreOneOutput self.now.objects (named_output name.now) }
+    {
+        self.outputs.are_one(named_output(name))
+    }
+
+    /// Whether a bound is that of an output name whose sections are of several output sections.
+    fn is_mixed_bound(&self, name: &[u8], bound: Bound) -> bool
+        ensures { IsTrue result ↔ IsMixedBound self.now.objects name.now bound }
+    {
+        match bound {
+            Bound::OutputStart | Bound::OutputEnd => !self.is_of_one_output(name),
+            Bound::ImageStart
+            | Bound::CodeEnd
+            | Bound::DataEnd
+            | Bound::ZeroStart
+            | Bound::ImageEnd => false,
+        }
+    }
+
+    /// Whether a definition, if there is one, is such a bound.
+    fn is_mixed(&self, definition: &Option<Meaning<'_>>) -> bool
+        ensures { IsTrue result ↔ IsSomeAnd (option_map meaning_view definition.now) (IsMixed self.now.objects) }
+    {
+        match definition {
+            Some(Meaning::Linker(name, bound)) => self.is_mixed_bound(name, *bound),
+            Some(Meaning::Symbol(_)) | Some(Meaning::Common(_)) | None => false,
+        }
+    }
+
+    /// What a relocation uses which names a symbol: what its name means, or the symbol itself where that is LOCAL.
+    fn definition(&self, symbol: &SymbolOf<'a>) -> Option<Meaning<'a>>
+        ensures { option_map meaning_view result ≡ definition_of self.now.objects (symbol_view symbol.now) }
     {
         if symbol.entry.st_info / 16 != STB_LOCAL {
-            return self.chosen(symbol.name);
+            return self.meaning(symbol.name);
         }
         if symbol.entry.st_shndx == SHN_UNDEF {
             return None;
         }
-        Some(*symbol)
+        Some(Meaning::Symbol(*symbol))
+    }
+
+    /// Whether a symbol is the chosen definition of its name.
+    pub fn is_chosen(&self, symbol: &SymbolOf<'a>) -> bool
+        ensures { result ≡ is_chosen self.now.objects (symbol_view symbol.now) }
+    {
+        self.names.is_chosen(symbol)
+    }
+
+    /// Whether a symbol stands in a section with SHF_TLS.
+    pub fn is_in_thread_section(&self, symbol: &SymbolOf<'_>) -> bool
+        ensures { result ≡ is_in_thread_section self.now.objects (symbol_view symbol.now) }
+    {
+        is_in_thread_section(self.names.objects(), symbol)
+    }
+
+    /// Whether a defined symbol's value is a number. No sum past 2^64 is one.
+    pub fn has_value(&self, symbol: &SymbolOf<'_>, value: u64) -> bool
+        ensures { IsTrue result ↔ (value ≡ symbol_value self.now.places.placed (symbol_view symbol.now)) }
+    {
+        has_value(self.places, symbol, value)
+    }
+
+    /// Whether the value of what a name means is a number.
+    pub fn is_value(&self, meaning: &Meaning<'_>, value: u64) -> bool
+        ensures { IsTrue result ↔ (value ≡ meaning_value self.now.places (meaning_view meaning.now)) }
+    {
+        match meaning {
+            Meaning::Symbol(symbol) => self.has_value(symbol, value),
+            Meaning::Common(block) => value == self.address_of(block.object, block.number),
+            Meaning::Linker(name, bound) => value == self.places.bound(name, *bound),
+        }
+    }
+
+    /// Whether all symbols of the objects are sound.
+    pub fn are_sound(&self) -> bool
+        ensures { IsTrue result ↔ AreSoundSymbols self.now.objects }
+    {
+        are_sound(self.names.objects(), self.symbols())
     }
 
     /// What a symbol means to the relocations that name it.
@@ -203,8 +307,10 @@ impl<'l, 'p, 'a> Bindings<'l, 'p, 'a> {
         let definition = self.definition(symbol);
         Target {
             undefined: is_in_want(symbol, &definition),
-            dropped: is_of_dropped(self.objects, symbol),
-            thread_local: is_thread_local(self.objects, &definition),
+            unkept: is_of_unkept(self.names.objects(), symbol),
+            dropped: symbol.dropped,
+            mixed: self.is_mixed(&definition),
+            thread_local: is_thread_local(self.names.objects(), &definition),
             value: value_or_none(self.places, &definition),
             size: size_or_none(&definition),
         }
@@ -212,11 +318,8 @@ impl<'l, 'p, 'a> Bindings<'l, 'p, 'a> {
 
     /// The address of a section of an object, 0 where it isn't placed.
     pub fn address_of(&self, object: u64, section: u64) -> u64
-        ensures { result ≡ section_address self.now.placed object section }
+        ensures { result ≡ section_address self.now.places.placed object section }
     {
-        match self.places.address(object, section) {
-            Some(at) => at,
-            None => 0,
-        }
+        address_of(self.places, object, section)
     }
 }

@@ -1,55 +1,82 @@
-//! Which symbol a name means, and its value: the twelfth clause.
-ghost use Rattle.std.specs.Prelude.{◌≡◌, ◌&&◌, ◌↔◌, ◌++◌, Bool, IfOk, IfSome, IsSomeAnd, IsTrue, filter, find, length, map, option_copied, option_map};
+//! Which symbols are definitions, where they stand, and their values.
+ghost use Rattle.std.specs.Prelude.{◌≡◌, ◌↔◌, ◌&&◌, IfOk, IsTrue, filter, not};
+ghost use Rattle.elf_model.specs.ChosenSymbols.{is_definition};
 ghost use Rattle.elf_model.specs.Placement.{symbol_value};
-ghost use Rattle.elf_model.specs.Resolution.{IsEntry, all_symbols, chosen, has_name, is_in_thread_section, is_strong, strong_definitions};
-ghost use Rattle.checker.specs.Entering.{Enters};
-ghost use Rattle.checker.specs.Views.{loaded_views, symbol_view, symbol_views};
+ghost use Rattle.elf_model.specs.Commons.{is_common_symbol};
+ghost use Rattle.elf_model.specs.Resolution.{is_common_definition, is_in_thread_section, is_placed_symbol, is_strong, is_weak_definition};
+ghost use Rattle.check_load.specs.Views.{loaded_views};
+ghost use Rattle.checker.specs.Views.{symbol_view, symbol_views};
 
 use crate::places::Places;
 use crate::symbols::section_of;
-use crate::things::{Loaded, SymbolOf};
-use elf_model::{SHN_ABS, SHN_COMMON, SHN_UNDEF, STB_GLOBAL};
+use crate::things::SymbolOf;
+use check_load::Loaded;
+use elf_model::{SHN_ABS, SHN_COMMON, SHN_UNDEF, STB_GLOBAL, STB_WEAK, Symbol};
 use std::alloc::{AllocError, Global};
 
-/// Whether a symbol is a strong definition: GLOBAL, defined, not common.
+/// Whether a symbol stands in a section or is absolute.
+fn is_placed(entry: &Symbol) -> bool
+    ensures { result ≡ is_placed_symbol entry.now }
+{
+    entry.st_shndx != SHN_UNDEF && entry.st_shndx != SHN_COMMON
+}
+
+/// Whether a symbol stands in a section that isn't dropped or is absolute.
+fn is_defined(symbol: &SymbolOf<'_>) -> bool
+    ensures { result ≡ (is_placed_symbol symbol.now.entry && not symbol.now.dropped) }
+{
+    is_placed(&symbol.entry) && !symbol.dropped
+}
+
+/// Whether a symbol is a strong definition: GLOBAL, in a section that isn't dropped or absolute.
 pub fn is_strong(symbol: &SymbolOf<'_>) -> bool
     ensures { result ≡ is_strong (symbol_view symbol.now) }
 {
-    let entry = symbol.entry;
-    entry.st_info / 16 == STB_GLOBAL && entry.st_shndx != SHN_UNDEF && entry.st_shndx != SHN_COMMON
+    symbol.entry.st_info / 16 == STB_GLOBAL && is_defined(symbol)
 }
 
-/// The strong definitions among symbols, in their order.
-pub fn strong_definitions<'a>(
+/// Whether a symbol is a weak definition: WEAK, in a section that isn't dropped or absolute.
+pub fn is_weak_definition(symbol: &SymbolOf<'_>) -> bool
+    ensures { result ≡ is_weak_definition (symbol_view symbol.now) }
+{
+    symbol.entry.st_info / 16 == STB_WEAK && is_defined(symbol)
+}
+
+/// Whether a symbol is a common one.
+pub fn is_common(symbol: &SymbolOf<'_>) -> bool
+    ensures { result ≡ is_common_symbol (symbol_view symbol.now) }
+{
+    symbol.entry.st_shndx == SHN_COMMON
+}
+
+/// Whether a symbol is a common definition: GLOBAL, and a common one.
+pub fn is_common_definition(symbol: &SymbolOf<'_>) -> bool
+    ensures { result ≡ is_common_definition (symbol_view symbol.now) }
+{
+    symbol.entry.st_info / 16 == STB_GLOBAL && (is_common(symbol) && !symbol.dropped)
+}
+
+/// Whether a symbol is a definition, strong, common or weak.
+pub fn is_definition(symbol: &SymbolOf<'_>) -> bool
+    ensures { result ≡ is_definition (symbol_view symbol.now) }
+{
+    is_strong(symbol) || (is_common_definition(symbol) || is_weak_definition(symbol))
+}
+
+/// The definitions among symbols, strong, common and weak, in their order.
+pub fn definitions<'a>(
     alloc: Global,
     symbols: &[SymbolOf<'a>],
 ) -> Result<Vec<SymbolOf<'a>>, AllocError>
-    ensures { IfOk result (λ v. symbol_views v.items ≡ filter is_strong (symbol_views symbols.now)) }
+    ensures { IfOk result (λ v. symbol_views v.items ≡ filter is_definition (symbol_views symbols.now)) }
 {
-    let mut strong = Vec::new(alloc);
+    let mut found = Vec::new(alloc);
     for symbol in symbols {
-        if is_strong(symbol) {
-            strong.push(*symbol)?;
+        if is_definition(symbol) {
+            found.push(*symbol)?;
         }
     }
-    Ok(strong)
-}
-
-/// Whether a symbol is a strong definition of a name.
-fn defines(symbol: &SymbolOf<'_>, name: &[u8]) -> bool
-    ensures { result ≡ (is_strong (symbol_view symbol.now) && has_name name.now (symbol_view symbol.now)) }
-{
-    if !is_strong(symbol) {
-        return false;
-    }
-    symbol.name == name
-}
-
-/// The first strong definition of a name among symbols.
-fn first_definition<'b, 'a>(symbols: &'b [SymbolOf<'a>], name: &[u8]) -> Option<&'b SymbolOf<'a>>
-    ensures { option_copied result ≡ find (λ s. is_strong (symbol_view s) && has_name name.now (symbol_view s)) symbols.entry.now }
-{
-    symbols.iter().find(|s| defines(s, name))
+    Ok(found)
 }
 
 /// Whether a symbol stands in a section with SHF_TLS.
@@ -65,7 +92,7 @@ pub fn is_in_thread_section(objects: &[Loaded<'_>], symbol: &SymbolOf<'_>) -> bo
 /// Whether a defined symbol's value is a number: an absolute one's `st_value`, else the address of its
 /// section plus `st_value`, 0 where the section isn't placed. No sum past 2^64 is one.
 pub fn has_value(places: &Places<'_, '_>, symbol: &SymbolOf<'_>, value: u64) -> bool
-    ensures { IsTrue result ↔ (value ≡ symbol_value places.now (symbol_view symbol.now)) }
+    ensures { IsTrue result ↔ (value ≡ symbol_value places.now.placed (symbol_view symbol.now)) }
 {
     let entry = symbol.entry;
     if entry.st_shndx == SHN_ABS {
@@ -75,39 +102,4 @@ pub fn has_value(places: &Places<'_, '_>, symbol: &SymbolOf<'_>, value: u64) -> 
         Some(at) => at.checked_add(entry.st_value) == Some(value),
         None => value == 0,
     }
-}
-
-/// Whether a definition was found that stands in no section with SHF_TLS, and `e_entry` is its value.
-fn enters_at(
-    objects: &[Loaded<'_>],
-    places: &Places<'_, '_>,
-    found: Option<&SymbolOf<'_>>,
-    e_entry: u64,
-) -> bool
-    ensures { IsTrue result ↔ Enters (loaded_views objects.now) places.now e_entry (option_map symbol_view (option_copied found.entry)) }
-{
-    match found {
-        Some(entry) => {
-            if is_in_thread_section(objects, entry) {
-                return false;
-            }
-            has_value(places, entry, e_entry)
-        }
-        None => false,
-    }
-}
-
-/// Whether the entry's name has a definition that stands in no section with SHF_TLS, and `e_entry` is its
-/// value. The symbols are those of the objects.
-pub fn enters_right(
-    objects: &[Loaded<'_>],
-    places: &Places<'_, '_>,
-    symbols: &[SymbolOf<'_>],
-    name: &[u8],
-    e_entry: u64,
-) -> bool
-    requires { symbol_views symbols.now ≡ all_symbols (loaded_views objects.now) }
-    ensures { let L = loaded_views objects.now in IsTrue result ↔ (IsEntry L name.now × IsSomeAnd (chosen L name.now) (λ d. e_entry ≡ symbol_value places.now d)) }
-{
-    enters_at(objects, places, first_definition(symbols, name), e_entry)
 }

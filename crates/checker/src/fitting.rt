@@ -1,11 +1,13 @@
 //! Whether one relocation is lawful and its value fits, and its field.
 ghost use Rattle.std.specs.Prelude.{◌≡◌, ◌↔◌, IsTrue, Some, SomeIff};
 ghost use Rattle.elf_model.specs.ObjectFile.{rela_type, section, sections};
-ghost use Rattle.elf_model.specs.Relocation.{IsMismatch, relocation_of, section_address};
+ghost use Rattle.elf_model.specs.Placement.{section_address};
+ghost use Rattle.elf_model.specs.Relocation.{IsMismatch, relocation_of};
 ghost use Rattle.elf_model.specs.Relocation as relocation;
+ghost use Rattle.check_load.specs.Views.{loaded_view};
 ghost use Rattle.checker.specs.Bindings.{AreTargets};
 ghost use Rattle.checker.specs.Fields.{IsRight, field_of};
-ghost use Rattle.checker.specs.Fitting.{IsRightWith, field_with};
+ghost use Rattle.checker.specs.Fitting.{IsRightWith, field_with, is_frames, refers_to_dropped};
 ghost use Rattle.checker.specs.Kinds.{formula_view, kind_view};
 ghost use Rattle.checker.specs.Widths.{IsWidth};
 
@@ -14,15 +16,16 @@ use crate::fields::Field;
 use crate::kinds::{Formula, Kind, kind_of};
 use crate::targets::{Target, target_at};
 use crate::value::{fits, value_of};
+use check_load::Loaded;
 use elf_model::Rela;
-use elf_read::Object;
 
-/// What entries relocate: a section's number, its size in bytes and its address.
+/// What entries relocate: a section's number, its size in bytes, its address, and whether it is `.eh_frame`.
 #[derive(Clone, Copy, Debug)]
 pub struct Relocated {
     pub section: u64,
     pub size: u64,
     pub address: u64,
+    pub frames: bool,
 }
 
 /// Whether a formula doesn't suit a symbol that stands in thread-local storage, or one that doesn't.
@@ -41,12 +44,23 @@ fn is_mismatch(formula: Formula, thread_local: bool) -> bool
     }
 }
 
+/// Whether entries refer to what isn't kept: they name a LOCAL symbol of a section that isn't, and aren't those of
+/// `.eh_frame`, which may name one of a dropped section.
+fn refers_to_dropped(target: &Target, to: &Relocated) -> bool
+    ensures { result ≡ refers_to_dropped target.now to.now }
+{
+    if to.frames && target.dropped {
+        return false;
+    }
+    target.unkept
+}
+
 /// The field of an entry of a kind; None where it isn't lawful, and where its value doesn't fit.
 fn field_with(kind: &Kind, target: &Target, to: &Relocated, entry: &Rela) -> Option<Field>
     requires { IsWidth kind.now.width }
     ensures { SomeIff result (IsRightWith (Some (kind_view kind.now)) target.now to.now entry.now) (field_with (Some (kind_view kind.now)) target.now to.now entry.now) }
 {
-    if target.undefined || target.dropped {
+    if target.undefined || target.mixed || refers_to_dropped(target, to) {
         return None;
     }
     if is_mismatch(kind.formula, target.thread_local) {
@@ -92,15 +106,16 @@ pub fn right_field<'a>(
     bindings: &Bindings<'_, '_, 'a>,
     targets: &[Target],
     number: u64,
-    object: &Object<'a>,
+    loaded: &Loaded<'a>,
     to: &Relocated,
     entry: &Rela,
 ) -> Option<Field>
-    requires targets { AreTargets bindings.now number object.now targets.now }
-    requires size { to.now.size ≡ (section (sections object.now) to.now.section).sh_size }
-    requires address { to.now.address ≡ section_address bindings.now.placed number to.now.section }
-    ensures { SomeIff result (IsRight bindings.now.objects bindings.now.placed (relocation_of number object.now to.now.section entry.now)) (field_of bindings.now.objects bindings.now.placed (relocation_of number object.now to.now.section entry.now)) }
+    requires targets { AreTargets bindings.now number (loaded_view loaded.now) targets.now }
+    requires size { to.now.size ≡ (section (sections loaded.now.object) to.now.section).sh_size }
+    requires frames { to.now.frames ≡ is_frames loaded.now.object to.now.section }
+    requires address { to.now.address ≡ section_address bindings.now.places.placed number to.now.section }
+    ensures { SomeIff result (IsRight bindings.now.objects bindings.now.places (relocation_of number (loaded_view loaded.now) to.now.section entry.now)) (field_of bindings.now.objects bindings.now.places (relocation_of number (loaded_view loaded.now) to.now.section entry.now)) }
 {
-    let target = target_at(bindings, targets, number, object, entry.symbol() as usize);
+    let target = target_at(bindings, targets, number, loaded, entry.symbol() as usize);
     field_for(&target, to, entry)
 }

@@ -1,15 +1,20 @@
 //! Decides whether an image and a map are a right link of given files and words. It stands on the readers,
-//! the command, the map and the loader model alone, and shares no layout, resolution or relocation code
-//! with the linker.
+//! the command, its own loading of objects, the map and the loader model alone, and shares no loading, layout,
+//! resolution or relocation code with the linker.
 #![tactic(auto)]
 
 mod apart;
 mod bindings;
+mod bounds;
 mod bytes;
+mod chosen;
+mod common_lines;
+mod commons;
 mod definitions;
+mod drops;
 mod ends;
+mod entering;
 mod fields;
-mod files;
 mod fill;
 mod fitting;
 mod got;
@@ -17,11 +22,14 @@ mod image;
 mod kinds;
 mod lawful;
 mod link;
+mod linker_names;
 mod listed;
 mod loading;
+mod names;
 mod neighbours;
 mod opening;
 mod output;
+mod outputs;
 mod placed;
 mod places;
 mod placing;
@@ -37,6 +45,7 @@ mod stretches;
 mod symbols;
 mod targets;
 mod things;
+mod uses;
 mod value;
 mod verdict;
 

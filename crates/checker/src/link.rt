@@ -1,3 +1,4 @@
+//! What is judged: a plan, the files, and what came out.
 use command::Plan;
 use elf_model::{InputFile, LinkMap};
 

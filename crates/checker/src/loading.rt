@@ -1,16 +1,13 @@
 //! What was loaded, and the second clause of a right link.
-ghost use Rattle.std.specs.Prelude.{◌≡◌, ◌↔◌, IfOk, IsTrue, map};
-ghost use Rattle.elf_model.specs.Loading.{AreFilesThere, AreObjects};
+ghost use Rattle.std.specs.Prelude.{◌≡◌, ◌↔◌, IsTrue, map};
 ghost use Rattle.elf_model.specs.MapRecord.{object_row};
 ghost use Rattle.elf_model.specs.RightLink.{IsLoaded, object_rows, objects_of};
-ghost use Rattle.checker.specs.Subjects.{row_of, subject_of};
-ghost use Rattle.checker.specs.Views.{loaded_view, loaded_views};
+ghost use Rattle.checker.specs.Subjects.{IsOpened, row_of, subject_of};
+ghost use Rattle.check_load.specs.Views.{loaded_view, loaded_views};
 
 use crate::link::Link;
-use crate::profile::is_in_profile;
-use crate::things::Loaded;
+use check_load::Loaded;
 use elf_model::ObjectLine;
-use std::alloc::{AllocError, Global};
 
 /// Whether an object line says of object `number` what was loaded.
 fn is_line_of(line: &ObjectLine, number: u64, object: &Loaded<'_>) -> bool
@@ -37,16 +34,11 @@ fn are_lines_of(lines: &[ObjectLine], objects: &[Loaded<'_>]) -> bool
     true
 }
 
-/// Whether a link whose objects were opened is in the profile, and its map's object lines are those of
-/// the objects.
-pub fn is_loaded(alloc: Global, link: &Link<'_>, objects: &[Loaded<'_>]) -> Result<bool, AllocError>
+/// Whether the map's object lines of a link are those of its objects, which were opened.
+pub fn is_loaded(link: &Link<'_>, objects: &[Loaded<'_>]) -> bool
     requires loaded { loaded_views objects.now ≡ objects_of (subject_of link.now) }
-    requires files { AreFilesThere (subject_of link.now).files link.now.plan }
-    requires objects { AreObjects (objects_of (subject_of link.now)) }
-    ensures { IfOk result (λ b. IsTrue b ↔ IsLoaded (subject_of link.now)) }
+    requires opened { IsOpened (subject_of link.now).files link.now.plan }
+    ensures { IsTrue result ↔ IsLoaded (subject_of link.now) }
 {
-    if !is_in_profile(alloc, &link.plan, objects)? {
-        return Ok(false);
-    }
-    Ok(are_lines_of(&link.map.objects, objects))
+    are_lines_of(&link.map.objects, objects)
 }

@@ -60,7 +60,7 @@ fn gathering_name(name: &[u8]) -> Option<&'static [u8]>
 }
 
 /// The gathering name that a section's name belongs to, or its own.
-fn output_name<'a>(name: &'a [u8]) -> &'a [u8]
+pub fn output_name<'a>(name: &'a [u8]) -> &'a [u8]
     ensures { result.now ≡ pieces.output_name name.now }
 {
     match gathering_name(name) {
@@ -81,4 +81,11 @@ pub fn output_section<'a>(piece: &Piece<'a>) -> OutputSection<'a>
         thread_local: header.is_thread_local(),
         nobits: header.is_nobits(),
     }
+}
+
+/// Whether two pieces are of one output section.
+pub fn same_output(first: &Piece<'_>, second: &Piece<'_>) -> bool
+    ensures { result ≡ pieces.same_output (piece_view first.now) (piece_view second.now) }
+{
+    output_section(first).cmp(&output_section(second)).is_eq()
 }

@@ -1,19 +1,21 @@
 //! The pieces at the addresses of the map, and all things of an image with its map.
-ghost use Rattle.std.specs.Prelude.{◌≡◌, ◌+◌, ◌++◌, ◌∷◌, ◌<◌, IfOk, List, map, max};
+ghost use Rattle.std.specs.Prelude.{◌≡◌, ◌++◌, ◌∷◌, ◌≤◌, IfOk, OnOk, length, map, take};
+ghost use Rattle.elf_model.specs.Commons.{block_piece};
 ghost use Rattle.elf_model.specs.MapRecord.{place_row};
-ghost use Rattle.elf_model.specs.Pieces.{rights_of, is_nobits};
-ghost use Rattle.elf_model.specs.Placement.{got_things, headers_thing, placed_by, thing_of};
+ghost use Rattle.elf_model.specs.Pieces.{rights_of};
+ghost use Rattle.elf_model.specs.Placement.{got_things, headers_thing, placed_blocks, placed_by, thing_of};
 ghost use Rattle.elf_model.specs.MemoryImage as placement;
 ghost use Rattle.elf_model.specs.MemoryImage.{loads};
-ghost use Rattle.checker.specs.Views.{piece_views, placed_view, placed_views};
+ghost use Rattle.checker.specs.Views.{block_view, block_views, piece_view, piece_views, placed_view, placed_views};
 
-use crate::things::{Piece, Placed};
-use elf_model::{GotLine, PlaceLine, SectionHeader, Thing};
+use crate::common_lines::CommonLines;
+use crate::things::{Block, Piece, Placed};
+use elf_model::{GotLine, PlaceLine, SHF_ALLOC, SHF_WRITE, SHT_NOBITS, SectionHeader, Thing};
 use loader_model::Memory;
 use std::alloc::{AllocError, Global};
 
 /// The pieces at the addresses that the place lines give, the k-th line for the k-th piece.
-pub fn place<'a>(
+fn place<'a>(
     alloc: Global,
     rows: &[PlaceLine],
     pieces: &[Piece<'a>],
@@ -29,6 +31,66 @@ pub fn place<'a>(
         })?;
     }
     Ok(placed)
+}
+
+/// A common block as a piece.
+fn block_piece<'a>(block: &Block<'a>) -> Piece<'a>
+    ensures { piece_view result ≡ block_piece (block_view block.now) }
+{
+    Piece {
+        object: block.object,
+        section: block.number,
+        header: SectionHeader {
+            sh_name: 0,
+            sh_type: SHT_NOBITS,
+            sh_flags: SHF_WRITE + SHF_ALLOC,
+            sh_addr: 0,
+            sh_offset: 0,
+            sh_size: block.size,
+            sh_link: 0,
+            sh_info: 0,
+            sh_addralign: block.align.max(1),
+            sh_entsize: 0,
+        },
+        name: &[],
+        bytes: &[],
+    }
+}
+
+/// Puts the common blocks behind the pieces, at the addresses that the common lines give.
+fn place_blocks<'a>(
+    placed: &mut Vec<Placed<'a>>,
+    lines: &CommonLines<'_>,
+    blocks: &[Block<'a>],
+) -> Result<(), AllocError>
+    ensures { OnOk result (placed_views placed.new.items ≡ placed_views placed.old.items ++ placed_blocks lines.now (block_views blocks.now)) }
+{
+    for block in blocks {
+        placed.push(Placed {
+            at: lines.address(block.name),
+            piece: block_piece(block),
+        })?;
+    }
+    Ok(())
+}
+
+/// All pieces at their addresses: the sections where the place lines give them, the k-th line for the k-th section,
+/// and behind them the common blocks where the common lines do. And how many of them are sections.
+pub fn place_all<'a>(
+    alloc: Global,
+    rows: &[PlaceLine],
+    pieces: &[Piece<'a>],
+    lines: &CommonLines<'_>,
+    blocks: &[Block<'a>],
+) -> Result<(Vec<Placed<'a>>, usize), AllocError>
+    ensures count { IfOk result (λ r. r.1 ≤ length r.0.items) }
+    ensures sections { IfOk result (λ r. placed_views (take r.1 r.0.items) ≡ placed_by (map place_row rows.now) (piece_views pieces.now)) }
+    ensures placed { IfOk result (λ r. placed_views r.0.items ≡ placed_by (map place_row rows.now) (piece_views pieces.now) ++ placed_blocks lines.now (block_views blocks.now)) }
+{
+    let mut placed = place(alloc, rows, pieces)?;
+    let count = placed.len();
+    place_blocks(&mut placed, lines, blocks)?;
+    Ok((placed, count))
 }
 
 /// The rights of a section's segment: X 1, W 2, R 4 in sum.

@@ -1,47 +1,103 @@
 //! The addresses of placed pieces, found by their sections.
-ghost use Rattle.std.specs.Prelude.{◌≡◌, ◌==◌, ◌&&◌, ℕ, IfOk, None, OnOk, Option, Some, cond, find, option_map};
+ghost use Rattle.std.specs.Prelude.{◌≡◌, ◌==◌, ◌&&◌, ℕ, IfOk, None, OnOk, Option, Some, cond, find, option_map, unwrap_or};
 ghost use Rattle.std.specs.Option.{option_or};
+ghost use Rattle.elf_model.specs.LinkerValues.{bound_value, end_of_pieces, start_of_pieces};
+ghost use Rattle.elf_model.specs.Pieces.{is_of_output};
 ghost use Rattle.elf_model.specs.Placement.{is_of_section};
+ghost use Rattle.checker.specs.PieceParts.{AreInLimit};
 ghost use Rattle.checker.specs.PlaceIndex.{IsPlaceIndex, address_in};
 ghost use Rattle.checker.specs.Views.{placed_view, placed_views};
 
+use crate::bounds::{Bounds, Span, bounds_of, spans_of};
+use crate::linker_names::named_output;
 use crate::things::Placed;
+use elf_model::Bound;
 use std::alloc::{AllocError, Global};
 use std::collections::BTreeMap;
 use std::marker::Model;
 
-/// Pieces at addresses, with an index of the addresses by object and section.
+/// The base and pieces at addresses, with an index of the addresses by object and section, and the bounds of parts and of output
+/// names.
 #[derive(Drop)]
 pub struct Places<'p, 'a> {
+    base: u64,
     placed: &'p [Placed<'a>],
     addresses: BTreeMap<(u64, u64), u64>,
+    bounds: Bounds,
+    spans: BTreeMap<&'a [u8], Span>,
 }
 
 impl<'p, 'a> Model for Places<'p, 'a> {
-    ghost use Rattle.std.specs.Prelude.{List};
-    ghost use Rattle.elf_model.specs.Placement as placement;
-    ghost use Rattle.checker.specs.PlaceIndex.{IsPlaceIndex};
+    ghost use Rattle.elf_model.specs.Placement.{Where};
+    ghost use Rattle.checker.specs.PlaceIndex.{ArePlaces};
     ghost use Rattle.checker.specs.Views.{placed_views};
 
-    ghost Value = { List placement.Placed };
+    ghost Value = { Where };
 
-    ghost view = { λ p. placed_views p.placed.now };
+    ghost view = { λ p. record { base = p.base; placed = placed_views p.placed.now } };
 
-    ghost invariant = { λ p. IsPlaceIndex (placed_views p.placed.now) p.addresses };
+    ghost invariant = { λ p. ArePlaces (placed_views p.placed.now) p.addresses p.bounds p.spans };
 }
 
 impl<'p, 'a> Places<'p, 'a> {
-    /// An index of pieces at addresses.
-    pub fn new(alloc: Global, placed: &'p [Placed<'a>]) -> Result<Places<'p, 'a>, AllocError>
-        ensures { IfOk result (λ p. p ≡ placed_views placed.entry.now) }
+    /// An index of pieces at addresses, in an image that begins at the base.
+    pub fn new(
+        alloc: Global,
+        base: u64,
+        placed: &'p [Placed<'a>],
+    ) -> Result<Places<'p, 'a>, AllocError>
+        requires { AreInLimit (placed_views placed.now) }
+        ensures { IfOk result (λ p. p ≡ record { base = base; placed = placed_views placed.entry.now }) }
     {
         let addresses = index_places(alloc, placed)?;
-        Ok(Places { placed, addresses })
+        let spans = spans_of(alloc, placed)?;
+        Ok(Places {
+            base,
+            placed,
+            addresses,
+            bounds: bounds_of(placed),
+            spans,
+        })
+    }
+
+    /// Where the pieces of an output name begin, 0 without any.
+    fn output_start(&self, name: &[u8]) -> u64
+        ensures { result ≡ unwrap_or (start_of_pieces (is_of_output name.now) self.now.placed) 0 }
+    {
+        match self.spans.get(name) {
+            Some(span) => span.start,
+            None => 0,
+        }
+    }
+
+    /// Where they end, 0 without any.
+    fn output_end(&self, name: &[u8]) -> u64
+        ensures { result ≡ end_of_pieces (is_of_output name.now) self.now.placed }
+    {
+        match self.spans.get(name) {
+            Some(span) => span.end,
+            None => 0,
+        }
+    }
+
+    /// Where the bound is for which a name of the linker's stands.
+    pub fn bound(&self, name: &[u8], bound: Bound) -> u64
+        ensures { result ≡ bound_value self.now name.now bound }
+    {
+        match bound {
+            Bound::ImageStart => self.base,
+            Bound::CodeEnd => self.bounds.code_end,
+            Bound::DataEnd => self.bounds.data_end,
+            Bound::ZeroStart => self.bounds.zero_start,
+            Bound::ImageEnd => self.bounds.image_end,
+            Bound::OutputStart => self.output_start(named_output(name)),
+            Bound::OutputEnd => self.output_end(named_output(name)),
+        }
     }
 
     /// The address of a section, where it is placed.
     pub fn address(&self, object: u64, section: u64) -> Option<u64>
-        ensures { result ≡ option_map (λ q. q.at) (find (is_of_section object section) self.now) }
+        ensures { result ≡ option_map (λ q. q.at) (find (is_of_section object section) self.now.placed) }
     {
         self.addresses.get(&(object, section)).copied()
     }

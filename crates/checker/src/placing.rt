@@ -44,15 +44,15 @@ fn are_aligned(things: &[Thing]) -> bool
 }
 
 /// Whether each thing has an address that is a multiple of its alignment, all lie from the base on below
-/// 2^46, no two share an address, and each piece stands close behind the one before it in its output
+/// 2^46, no two share an address, and each of the sections stands close behind the one before it in its output
 /// section.
 pub fn is_placed(
     alloc: Global,
     base: u64,
     things: &[Thing],
-    placed: &[Placed<'_>],
+    sections: &[Placed<'_>],
 ) -> Result<bool, AllocError>
-    ensures { IfOk result (λ b. IsTrue b ↔ IsPlaced base things.now (placed_views placed.now)) }
+    ensures { IfOk result (λ b. IsTrue b ↔ IsPlaced base things.now (placed_views sections.now)) }
 {
     if !are_aligned(things) {
         return Ok(false);
@@ -64,7 +64,7 @@ pub fn is_placed(
     if !apart {
         return Ok(false);
     }
-    let near = are_near(alloc, placed)?;
+    let near = are_near(alloc, sections)?;
     Ok(near)
 }
 

@@ -1,26 +1,28 @@
-//! Whether the linker's names that objects use have definitions.
+//! Whether the linker's names of later versions that objects use have definitions.
 ghost use Rattle.std.specs.Prelude.{◌≡◌, ◌||◌, ◌↔◌, ℕ, List, All, IfOk, IsTrue, OnOk, length};
 ghost use Rattle.std.specs.Str.{bytes_eq};
 ghost use Rattle.elf_model.specs.Profile.{HasPlainNames};
-ghost use Rattle.elf_model.specs.Resolution.{strong_definitions};
+ghost use Rattle.elf_model.specs.ChosenSymbols.{definitions};
 ghost use Rattle.elf_read.specs.Names.{name_views};
-ghost use Rattle.checker.specs.Views.{loaded_views, symbol_views};
+ghost use Rattle.check_load.specs.Views.{loaded_views};
+ghost use Rattle.checker.specs.Views.{symbol_views};
 ghost use Rattle.elf_model.specs.UsedNames.{AreNamesOf, IsAmong, is_among, used_names};
 
-use crate::definitions::strong_definitions;
+use crate::definitions::definitions;
 use crate::symbols::symbols_of;
-use crate::things::{Loaded, SymbolOf};
-use elf_read::linker_names;
+use crate::things::SymbolOf;
+use check_load::Loaded;
+use elf_read::later_names;
 use std::alloc::{AllocError, Global};
 use std::collections::BTreeSet;
 
-/// The linker's names that the objects use, in load order.
+/// The linker's names of later versions that the objects use, in load order.
 fn used_names<'a>(alloc: Global, objects: &[Loaded<'a>]) -> Result<Vec<&'a [u8]>, AllocError>
     ensures { IfOk result (λ v. name_views v.items ≡ used_names (loaded_views objects.now)) }
 {
     let mut used = Vec::new(alloc);
     for loaded in objects {
-        let names = linker_names(alloc, &loaded.object)?;
+        let names = later_names(alloc, &loaded.object)?;
         used.extend_from_slice(&names)?;
     }
     Ok(used)
@@ -47,16 +49,16 @@ fn names_among<'a>(
     Ok(names)
 }
 
-/// The names of the strong definitions of all objects.
+/// The names of the definitions of all objects.
 fn defined_names<'a>(
     alloc: Global,
     objects: &[Loaded<'a>],
 ) -> Result<BTreeSet<&'a [u8]>, AllocError>
-    ensures { IfOk result (AreNamesOf (strong_definitions (loaded_views objects.now))) }
+    ensures { IfOk result (AreNamesOf (definitions (loaded_views objects.now))) }
 {
     let symbols = symbols_of(alloc, objects)?;
-    let strong = strong_definitions(alloc, &symbols)?;
-    let names = names_among(alloc, &strong)?;
+    let found = definitions(alloc, &symbols)?;
+    let names = names_among(alloc, &found)?;
     Ok(names)
 }
 
@@ -83,7 +85,7 @@ fn are_among(used: &[&[u8]], names: &BTreeSet<&[u8]>) -> bool
     true
 }
 
-/// Whether no object uses a linker's name that none of them defines.
+/// Whether no object uses a name of later versions that none of them defines.
 ///
 /// # Errors
 ///

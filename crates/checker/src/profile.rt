@@ -1,11 +1,10 @@
-//! Whether a command and its objects are within this profile, which is a part of the second clause.
-ghost use Rattle.std.specs.Prelude.{◌≡◌, ◌↔◌, All, IfOk, IsTrue, false};
+//! Whether loaded objects are within this profile, which is a part of the second clause.
+ghost use Rattle.std.specs.Prelude.{◌↔◌, All, IfOk, IsTrue};
 ghost use Rattle.elf_model.specs.Profile.{IsInProfile, IsPlainObject};
-ghost use Rattle.checker.specs.Views.{loaded_views};
+ghost use Rattle.check_load.specs.Views.{loaded_views};
 
 use crate::plain::have_plain_names;
-use crate::things::Loaded;
-use command::{Item, Plan};
+use check_load::Loaded;
 use elf_read::is_plain_object;
 use std::alloc::{AllocError, Global};
 
@@ -20,24 +19,10 @@ fn are_plain_objects(objects: &[Loaded<'_>]) -> bool
     true
 }
 
-fn have_no_archive(items: &[Item<'_>]) -> bool
-    ensures { IsTrue result ↔ All (λ i. i.archive ≡ false) items.now }
+/// Whether objects are within this profile: plain ones, with names that objects define.
+pub fn is_in_profile(alloc: Global, objects: &[Loaded<'_>]) -> Result<bool, AllocError>
+    ensures { IfOk result (λ b. IsTrue b ↔ IsInProfile (loaded_views objects.now)) }
 {
-    items.iter().all(|i| !i.archive)
-}
-
-/// Whether a command of these objects is within this profile: object files alone, plain ones, with names
-/// that objects define.
-pub fn is_in_profile(
-    alloc: Global,
-    plan: &Plan<'_>,
-    objects: &[Loaded<'_>],
-) -> Result<bool, AllocError>
-    ensures { IfOk result (λ b. IsTrue b ↔ IsInProfile plan.now (loaded_views objects.now)) }
-{
-    if !have_no_archive(&plan.items) {
-        return Ok(false);
-    }
     if !are_plain_objects(objects) {
         return Ok(false);
     }

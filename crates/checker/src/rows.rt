@@ -2,48 +2,31 @@
 ghost use Rattle.std.specs.Prelude.{◌≡◌, ◌↔◌, ◌++◌, All, IfOk, IfSome, IsSome, IsTrue, Some, filter, map};
 ghost use Rattle.std.specs.List.{slice_get};
 ghost use Rattle.elf_model.specs.ObjectFile.{relas_of, section, sections};
-ghost use Rattle.elf_model.specs.Pieces as pieces;
-ghost use Rattle.elf_model.specs.Relocation.{AllFit, AreLawfulRelocations, is_kept_rela, is_some_kind, relocation_of, relocations, relocations_from, relocations_in, section_address};
-ghost use Rattle.elf_model.specs.Resolution.{all_symbols};
+ghost use Rattle.elf_model.specs.Relocation.{AllFit, AreLawfulRelocations, is_some_kind, relocation_of, relocations, relocations_from, relocations_in};
+ghost use Rattle.elf_model.specs.Placement.{section_address};
 ghost use Rattle.checker.specs.Bindings.{AreTargets};
+ghost use Rattle.checker.specs.Fitting.{is_frames};
 ghost use Rattle.checker.specs.Fields.{AreRight, AreRows, IsRight, IsRowOf, field_of};
-ghost use Rattle.checker.specs.Views.{loaded_views, symbol_views};
+ghost use Rattle.check_load.specs.Views.{loaded_view, loaded_views};
 
 use crate::bindings::Bindings;
 use crate::fields::{Field, in_order};
 use crate::fitting::{Relocated, right_field};
-use crate::places::Places;
 use crate::targets::{Target, targets_of};
-use crate::things::{Loaded, SymbolOf};
-use elf_model::{Rela, SHT_RELA, SectionHeader};
+use check_load::Loaded;
+use elf_model::{Rela, SectionHeader};
 use elf_read::Object;
 use std::alloc::{AllocError, Global};
 
-fn is_alloc_at(object: &Object<'_>, number: usize) -> bool
-    ensures { result ≡ pieces.is_alloc (section (sections object.now) number) }
-{
-    match object.sections().get(number) {
-        Some(header) => header.is_alloc(),
-        None => false,
-    }
-}
-
-/// Whether a section holds relocations of one that is kept.
-fn is_kept_rela(object: &Object<'_>, header: &SectionHeader) -> bool
-    ensures { result ≡ is_kept_rela object.now header.now }
-{
-    header.sh_type == SHT_RELA && is_alloc_at(object, header.sh_info as usize)
-}
-
 /// Whether an entry relocates at all: its type isn't NONE.
-fn is_some_kind(entry: &Rela) -> bool
+pub fn is_some_kind(entry: &Rela) -> bool
     ensures { result ≡ is_some_kind entry.now }
 {
     entry.kind() != 0
 }
 
 /// The entries of RELA section `i`, which has the header.
-fn entries_of<'o>(object: &'o Object<'_>, i: usize, header: &SectionHeader) -> &'o [Rela]
+pub fn entries_of<'o>(object: &'o Object<'_>, i: usize, header: &SectionHeader) -> &'o [Rela]
     requires there { slice_get (sections object.now) i ≡ Some header.now }
     requires rela { header.now.sh_type ≡ 4 }
     ensures { result.now ≡ relas_of object.entry.now header.now }
@@ -64,6 +47,16 @@ fn size_at(object: &Object<'_>, number: usize) -> u64
     }
 }
 
+/// Whether a section has the name `.eh_frame`.
+fn is_frames(object: &Object<'_>, number: usize) -> bool
+    ensures { result ≡ is_frames object.now number }
+{
+    match object.section_name(number) {
+        Some(name) => name == b".eh_frame".as_slice(),
+        None => false,
+    }
+}
+
 /// What the entries relocate whose section names the section `target` of the object that has a number.
 fn relocated(
     bindings: &Bindings<'_, '_, '_>,
@@ -73,12 +66,14 @@ fn relocated(
 ) -> Relocated
     ensures section { result.section ≡ target }
     ensures size { result.size ≡ (section (sections object.now) result.section).sh_size }
-    ensures address { result.address ≡ section_address bindings.now.placed number result.section }
+    ensures frames { result.frames ≡ is_frames object.now result.section }
+    ensures address { result.address ≡ section_address bindings.now.places.placed number result.section }
 {
     Relocated {
         section: target as u64,
         size: size_at(object, target as usize),
         address: bindings.address_of(number, target as u64),
+        frames: is_frames(object, target as usize),
     }
 }
 
@@ -87,16 +82,17 @@ fn add_fields<'a>(
     bindings: &Bindings<'_, '_, 'a>,
     targets: &[Target],
     number: u64,
-    object: &Object<'a>,
+    loaded: &Loaded<'a>,
     to: &Relocated,
     entries: &[Rela],
     fields: &mut Vec<Field>,
 ) -> Result<bool, AllocError>
-    requires targets { AreTargets bindings.now number object.now targets.now }
-    requires size { to.now.size ≡ (section (sections object.now) to.now.section).sh_size }
-    requires address { to.now.address ≡ section_address bindings.now.placed number to.now.section }
-    ensures right { IfOk result (λ b. IsTrue b ↔ All (IsRight bindings.now.objects bindings.now.placed) (map (relocation_of number object.now to.now.section) (filter is_some_kind entries.now))) }
-    ensures fields { IfOk result (λ b. IsTrue b → fields.new.items ≡ fields.old.items ++ map (field_of bindings.now.objects bindings.now.placed) (map (relocation_of number object.now to.now.section) (filter is_some_kind entries.now))) }
+    requires targets { AreTargets bindings.now number (loaded_view loaded.now) targets.now }
+    requires size { to.now.size ≡ (section (sections loaded.now.object) to.now.section).sh_size }
+    requires frames { to.now.frames ≡ is_frames loaded.now.object to.now.section }
+    requires address { to.now.address ≡ section_address bindings.now.places.placed number to.now.section }
+    ensures right { IfOk result (λ b. IsTrue b ↔ All (IsRight bindings.now.objects bindings.now.places) (map (relocation_of number (loaded_view loaded.now) to.now.section) (filter is_some_kind entries.now))) }
+    ensures fields { IfOk result (λ b. IsTrue b → fields.new.items ≡ fields.old.items ++ map (field_of bindings.now.objects bindings.now.places) (map (relocation_of number (loaded_view loaded.now) to.now.section) (filter is_some_kind entries.now))) }
 {
     fields.reserve(entries.len())?;
     for i in 0..entries.len() {
@@ -104,7 +100,7 @@ fn add_fields<'a>(
         if !is_some_kind(&entry) {
             continue;
         }
-        let Some(field) = right_field(bindings, targets, number, object, to, &entry) else {
+        let Some(field) = right_field(bindings, targets, number, loaded, to, &entry) else {
             return Ok(false);
         };
         fields.push(field)?;
@@ -117,20 +113,20 @@ fn add_section<'a>(
     bindings: &Bindings<'_, '_, 'a>,
     targets: &[Target],
     number: u64,
-    object: &Object<'a>,
+    loaded: &Loaded<'a>,
     i: usize,
     header: &SectionHeader,
     fields: &mut Vec<Field>,
 ) -> Result<bool, AllocError>
-    requires targets { AreTargets bindings.now number object.now targets.now }
-    requires there { slice_get (sections object.now) i ≡ Some header.now }
+    requires targets { AreTargets bindings.now number (loaded_view loaded.now) targets.now }
+    requires there { slice_get (sections loaded.now.object) i ≡ Some header.now }
     requires rela { header.now.sh_type ≡ 4 }
-    ensures right { IfOk result (λ b. IsTrue b ↔ All (IsRight bindings.now.objects bindings.now.placed) (relocations_in number object.now header.now)) }
-    ensures fields { IfOk result (λ b. IsTrue b → fields.new.items ≡ fields.old.items ++ map (field_of bindings.now.objects bindings.now.placed) (relocations_in number object.now header.now)) }
+    ensures right { IfOk result (λ b. IsTrue b ↔ All (IsRight bindings.now.objects bindings.now.places) (relocations_in number (loaded_view loaded.now) header.now)) }
+    ensures fields { IfOk result (λ b. IsTrue b → fields.new.items ≡ fields.old.items ++ map (field_of bindings.now.objects bindings.now.places) (relocations_in number (loaded_view loaded.now) header.now)) }
 {
-    let to = relocated(bindings, number, object, header.sh_info);
-    let entries = entries_of(object, i, header);
-    let right = add_fields(bindings, targets, number, object, &to, entries, fields)?;
+    let to = relocated(bindings, number, &loaded.object, header.sh_info);
+    let entries = entries_of(&loaded.object, i, header);
+    let right = add_fields(bindings, targets, number, loaded, &to, entries, fields)?;
     Ok(right)
 }
 
@@ -139,20 +135,20 @@ fn object_fields<'a>(
     alloc: Global,
     bindings: &Bindings<'_, '_, 'a>,
     number: u64,
-    object: &Object<'a>,
+    loaded: &Loaded<'a>,
 ) -> Result<Option<Vec<Field>>, AllocError>
-    ensures right { IfOk result (λ o. IsSome o ↔ All (IsRight bindings.now.objects bindings.now.placed) (relocations_from number object.now)) }
-    ensures fields { IfOk result (λ o. IfSome o (λ v. v.items ≡ map (field_of bindings.now.objects bindings.now.placed) (relocations_from number object.now))) }
+    ensures right { IfOk result (λ o. IsSome o ↔ All (IsRight bindings.now.objects bindings.now.places) (relocations_from number (loaded_view loaded.now))) }
+    ensures fields { IfOk result (λ o. IfSome o (λ v. v.items ≡ map (field_of bindings.now.objects bindings.now.places) (relocations_from number (loaded_view loaded.now)))) }
 {
-    let targets = targets_of(alloc, bindings, number, object)?;
+    let targets = targets_of(alloc, bindings, number, loaded)?;
     let mut fields = Vec::new(alloc);
-    let headers = object.sections();
+    let headers = loaded.object.sections();
     for i in 0..headers.len() {
         let header = headers[i];
-        if !is_kept_rela(object, &header) {
+        if !loaded.is_kept_rela(i, &header) {
             continue;
         }
-        let right = add_section(bindings, &targets, number, object, i, &header, &mut fields)?;
+        let right = add_section(bindings, &targets, number, loaded, i, &header, &mut fields)?;
         if !right {
             return Ok(None);
         }
@@ -166,12 +162,12 @@ fn object_row<'a>(
     alloc: Global,
     bindings: &Bindings<'_, '_, 'a>,
     number: u64,
-    object: &Object<'a>,
+    loaded: &Loaded<'a>,
 ) -> Result<Option<Vec<Field>>, AllocError>
-    ensures right { IfOk result (λ o. IsSome o ↔ AreRight bindings.now.objects bindings.now.placed (relocations_from number object.now)) }
-    ensures row { IfOk result (λ o. IfSome o (λ v. IsRowOf bindings.now.objects bindings.now.placed number object.now v.items)) }
+    ensures right { IfOk result (λ o. IsSome o ↔ AreRight bindings.now.objects bindings.now.places (relocations_from number (loaded_view loaded.now))) }
+    ensures row { IfOk result (λ o. IfSome o (λ v. IsRowOf bindings.now.objects bindings.now.places number (loaded_view loaded.now) v.items)) }
 {
-    let Some(fields) = object_fields(alloc, bindings, number, object)? else {
+    let Some(fields) = object_fields(alloc, bindings, number, loaded)? else {
         return Ok(None);
     };
     let row = in_order(fields)?;
@@ -185,12 +181,12 @@ fn all_rows<'a>(
     objects: &[Loaded<'a>],
 ) -> Result<Option<Vec<Vec<Field>>>, AllocError>
     requires { bindings.now.objects ≡ loaded_views objects.now }
-    ensures right { IfOk result (λ o. IsSome o ↔ AreRight (loaded_views objects.now) bindings.now.placed (relocations (loaded_views objects.now))) }
-    ensures rows { IfOk result (λ o. IfSome o (λ v. AreRows (loaded_views objects.now) bindings.now.placed v.items)) }
+    ensures right { IfOk result (λ o. IsSome o ↔ AreRight (loaded_views objects.now) bindings.now.places (relocations (loaded_views objects.now))) }
+    ensures rows { IfOk result (λ o. IfSome o (λ v. AreRows (loaded_views objects.now) bindings.now.places v.items)) }
 {
     let mut rows = Vec::with_capacity(alloc, objects.len())?;
     for k in 0..objects.len() {
-        let Some(row) = object_row(alloc, bindings, k as u64, &objects[k].object)? else {
+        let Some(row) = object_row(alloc, bindings, k as u64, &objects[k])? else {
             return Ok(None);
         };
         rows.push(row)?;
@@ -199,18 +195,16 @@ fn all_rows<'a>(
 }
 
 /// The fields of all kept relocations, a row for each object, where each relocation is lawful, its value fits
-/// and no byte lies in two fields; None where that doesn't hold. The symbols are the objects'.
+/// and no byte lies in two fields; None where that doesn't hold.
 pub fn fields_right<'a>(
     alloc: Global,
+    bindings: &Bindings<'_, '_, 'a>,
     objects: &[Loaded<'a>],
-    places: &Places<'_, 'a>,
-    symbols: &[SymbolOf<'a>],
 ) -> Result<Option<Vec<Vec<Field>>>, AllocError>
-    requires { symbol_views symbols.now ≡ all_symbols (loaded_views objects.now) }
-    ensures right { IfOk result (λ o. IsSome o ↔ (AreLawfulRelocations (loaded_views objects.now) × AllFit (loaded_views objects.now) places.now)) }
-    ensures rows { IfOk result (λ o. IfSome o (λ v. AreRows (loaded_views objects.now) places.now v.items)) }
+    requires { bindings.now.objects ≡ loaded_views objects.now }
+    ensures right { IfOk result (λ o. IsSome o ↔ (AreLawfulRelocations (loaded_views objects.now) × AllFit (loaded_views objects.now) bindings.now.places)) }
+    ensures rows { IfOk result (λ o. IfSome o (λ v. AreRows (loaded_views objects.now) bindings.now.places v.items)) }
 {
-    let bindings = Bindings::new(alloc, objects, places, symbols)?;
-    let rows = all_rows(alloc, &bindings, objects)?;
+    let rows = all_rows(alloc, bindings, objects)?;
     Ok(rows)
 }

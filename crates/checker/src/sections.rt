@@ -3,14 +3,19 @@ ghost use Rattle.std.specs.Prelude.{◌≡◌, ◌≤◌, ◌↔◌, ◌++◌, A
 ghost use Rattle.elf_model.specs.MapRecord.{place_row};
 ghost use Rattle.elf_model.specs.ObjectFile.{sections};
 ghost use Rattle.elf_model.specs.Pieces as piece_words;
-ghost use Rattle.elf_model.specs.RightLink.{AreSectionsListed, facts_of_piece, facts_of_row, objects_of};
-ghost use Rattle.checker.specs.Subjects.{HasKeptAlone, subject_of};
-ghost use Rattle.checker.specs.Views.{loaded_views, piece_view, piece_views};
+ghost use Rattle.elf_model.specs.RightLink.{AreSectionsListed, drop_rows, facts_of_piece, facts_of_row, objects_of};
+ghost use Rattle.checker.specs.Subjects.{subject_of};
+ghost use Rattle.check_load.specs.Views.{loaded_view, loaded_views};
+ghost use Rattle.checker.specs.Views.{piece_view, piece_views};
 
+use crate::common_lines::CommonLines;
+use crate::drops::are_drops;
 use crate::lawful::are_lawful_kinds;
 use crate::link::Link;
-use crate::things::{Loaded, Piece};
-use elf_model::{PlaceLine, SectionHeader};
+use crate::names::Names;
+use crate::things::Piece;
+use check_load::Loaded;
+use elf_model::{DropLine, PlaceLine, SectionHeader};
 use elf_read::Object;
 use std::alloc::{AllocError, Global};
 
@@ -31,14 +36,14 @@ fn piece_of<'a>(number: u64, object: &Object<'a>, i: usize, header: SectionHeade
 fn add_pieces<'a>(
     out: &mut Vec<Piece<'a>>,
     number: u64,
-    object: &Object<'a>,
+    loaded: &Loaded<'a>,
 ) -> Result<(), AllocError>
-    ensures { OnOk result (piece_views out.new.items ≡ piece_views out.old.items ++ piece_words.pieces_from number object.now 0 (sections object.now)) }
+    ensures { OnOk result (piece_views out.new.items ≡ piece_views out.old.items ++ piece_words.pieces_from number (loaded_view loaded.now) 0 (sections loaded.now.object)) }
 {
-    let headers = object.sections();
+    let headers = loaded.object.sections();
     for (i, header) in headers.iter().enumerate() {
-        if header.is_alloc() {
-            out.push(piece_of(number, object, i, *header))?;
+        if loaded.is_kept(i, header) {
+            out.push(piece_of(number, &loaded.object, i, *header))?;
         }
     }
     Ok(())
@@ -46,12 +51,12 @@ fn add_pieces<'a>(
 
 /// The kept sections of all objects, in load order.
 pub fn pieces_of<'a>(alloc: Global, objects: &[Loaded<'a>]) -> Result<Vec<Piece<'a>>, AllocError>
-    ensures pieces { IfOk result (λ v. piece_views v.items ≡ piece_words.pieces (loaded_views objects.now)) }
+    ensures pieces { IfOk result (λ v. piece_views v.items ≡ piece_words.kept_sections (loaded_views objects.now)) }
     ensures sizes { IfOk result (λ v. All (λ p. length p.bytes ≤ p.size) (piece_views v.items)) }
 {
     let mut found = Vec::new(alloc);
     for (k, loaded) in objects.iter().enumerate() {
-        add_pieces(&mut found, k as u64, &loaded.object)?;
+        add_pieces(&mut found, k as u64, loaded)?;
     }
     Ok(found)
 }
@@ -81,24 +86,31 @@ fn are_lines_of(lines: &[PlaceLine], pieces: &[Piece<'_>]) -> bool
     true
 }
 
-/// Whether a link's map has no drop and no common lines.
-fn has_kept_alone(link: &Link<'_>) -> bool
-    ensures { IsTrue result ↔ HasKeptAlone (subject_of link.now) }
-{
-    link.map.drops.is_empty() && link.map.commons.is_empty()
-}
-
-/// Whether each piece is of a lawful kind, and the drop, place and common lines of a link's map are those of
-/// its dropped sections, its pieces and its common blocks. In the profile there are no dropped sections and
-/// no common blocks.
-pub fn are_sections_listed(link: &Link<'_>, pieces: &[Piece<'_>]) -> bool
-    requires pieces { piece_views pieces.now ≡ piece_words.pieces (objects_of (subject_of link.now)) }
+/// Whether each piece is of a lawful kind, the common symbols are sound, and the drop, place and common lines of a link's
+/// map are those of its dropped sections, its pieces and its common blocks.
+pub fn are_sections_listed(
+    link: &Link<'_>,
+    names: &Names<'_, '_>,
+    pieces: &[Piece<'_>],
+    drops: &[DropLine],
+    lines: &CommonLines<'_>,
+) -> bool
+    requires names { names.now ≡ objects_of (subject_of link.now) }
+    requires pieces { piece_views pieces.now ≡ piece_words.kept_sections (objects_of (subject_of link.now)) }
+    requires lines { lines.now ≡ (subject_of link.now).map.commons }
+    requires drops { drops.now ≡ drop_rows 0 (objects_of (subject_of link.now)) }
     ensures { IsTrue result ↔ AreSectionsListed (subject_of link.now) }
 {
     if !are_lawful_kinds(pieces) {
         return false;
     }
-    if !has_kept_alone(link) {
+    if !names.are_sound_commons() {
+        return false;
+    }
+    if !lines.are_of_blocks(names) {
+        return false;
+    }
+    if !are_drops(&link.map.drops, drops) {
         return false;
     }
     are_lines_of(&link.map.places, pieces)

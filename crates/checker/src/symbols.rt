@@ -3,9 +3,11 @@ ghost use Rattle.std.specs.Prelude.{◌≡◌, ◌≤◌, ◌/◌, ◌↔◌, �
 ghost use Rattle.std.specs.List.{slice_get};
 ghost use Rattle.elf_model.specs.ObjectFile.{symbol_name, symbols};
 ghost use Rattle.elf_model.specs.Resolution.{AreSoundSymbols, IsSoundSymbol, StandsWell, all_symbols, binding, section_of, sections_of_object, symbols_from};
-ghost use Rattle.checker.specs.Views.{loaded_views, symbol_view, symbol_views};
+ghost use Rattle.check_load.specs.Views.{loaded_view, loaded_views};
+ghost use Rattle.checker.specs.Views.{symbol_view, symbol_views};
 
-use crate::things::{Loaded, SymbolOf};
+use crate::things::SymbolOf;
+use check_load::Loaded;
 use elf_model::{SHN_UNDEF, SectionHeader, Symbol};
 use elf_read::Object;
 use std::alloc::{AllocError, Global};
@@ -19,7 +21,7 @@ pub fn symbols_of<'a>(
 {
     let mut found = Vec::new(alloc);
     for (k, loaded) in objects.iter().enumerate() {
-        add_symbols(&mut found, k as u64, &loaded.object)?;
+        add_symbols(&mut found, k as u64, loaded)?;
     }
     Ok(found)
 }
@@ -28,17 +30,18 @@ pub fn symbols_of<'a>(
 fn add_symbols<'a>(
     found: &mut Vec<SymbolOf<'a>>,
     number: u64,
-    object: &Object<'a>,
+    loaded: &Loaded<'a>,
 ) -> Result<(), AllocError>
-    ensures { OnOk result (symbol_views found.new.items ≡ symbol_views found.old.items ++ symbols_from number object.now 0 (symbols object.now)) }
+    ensures { OnOk result (symbol_views found.new.items ≡ symbol_views found.old.items ++ symbols_from number (loaded_view loaded.now) 0 (symbols loaded.now.object)) }
 {
-    let entries = object.symbols();
+    let entries = loaded.object.symbols();
     for (j, entry) in entries.iter().enumerate() {
         found.push(SymbolOf {
             object: number,
             number: j as u64,
-            name: name_of(object, j),
+            name: name_of(&loaded.object, j),
             entry: *entry,
+            dropped: loaded.is_dropped(entry.st_shndx as usize),
         })?;
     }
     Ok(())
@@ -93,12 +96,15 @@ fn stands_well(entry: &Symbol, section: &SectionHeader) -> bool
 }
 
 /// Whether a symbol is sound: a GLOBAL or WEAK one has a name, and each stands well in its section where it
-/// has one.
+/// has one that isn't dropped.
 fn is_sound(objects: &[Loaded<'_>], symbol: &SymbolOf<'_>) -> bool
     ensures { IsTrue result ↔ IsSoundSymbol (loaded_views objects.now) (symbol_view symbol.now) }
 {
     if symbol.name.is_empty() && is_visible(&symbol.entry) {
         return false;
+    }
+    if symbol.dropped {
+        return true;
     }
     match section_of(objects, symbol) {
         Some(section) => stands_well(&symbol.entry, &section),

@@ -1,19 +1,23 @@
 //! The whole check: the clauses in their order, each asked where those before it hold.
-ghost use Rattle.std.specs.Prelude.{◌≡◌, ◌↔◌, IfOk, IfSome, IsSome, IsTrue};
+ghost use Rattle.std.specs.Prelude.{◌≡◌, ◌≤◌, ◌↔◌, IfOk, IfSome, IsSome, IsTrue, length, take};
 ghost use Rattle.elf_model.specs.Files.{files_of, words_of};
 ghost use Rattle.elf_model.specs.MapRecord.{map_of};
 ghost use Rattle.elf_model.specs.MapText.{IsMap};
-ghost use Rattle.elf_model.specs.Resolution.{all_symbols};
-ghost use Rattle.elf_model.specs.RightLink.{AreRelocationsRight, AreSymbolsListed, EntersRight, Holds, HoldsBefore, IsLoaded, IsRightLink, Least, objects_of, placed_of, things_of};
+ghost use Rattle.elf_model.specs.Pieces.{kept_sections};
+ghost use Rattle.elf_model.specs.RightLink.{AreRelocationsRight, AreSymbolsListed, EntersRight, Holds, HoldsBefore, IsLoaded, IsRightLink, Least, objects_of, placed_of, sections_of, things_of, where_of};
 ghost use Rattle.elf_model.specs.declared.verdict.Clause.{Clause};
 ghost use Rattle.elf_model.specs.declared.verdict.Clause.TheVariants as clause;
 ghost use Rattle.checker.specs.Fields.{AreRows};
 ghost use Rattle.checker.specs.Judged.{Judges};
-ghost use Rattle.checker.specs.Subjects.{subject_of};
-ghost use Rattle.checker.specs.Views.{loaded_views, placed_views, symbol_views};
+ghost use Rattle.checker.specs.Subjects.{bound_of, subject_of};
+ghost use Rattle.check_load.specs.Views.{loaded_views};
+ghost use Rattle.checker.specs.Views.{piece_views, placed_views};
 
+use crate::bindings::Bindings;
 use crate::bytes::holds_pieces;
-use crate::definitions::enters_right;
+use crate::common_lines::CommonLines;
+use crate::drops::drops_of;
+use crate::entering::enters_right;
 use crate::fields::Field;
 use crate::fill::has_nothing_else;
 use crate::got::{is_got_right, is_thread_block_right};
@@ -21,15 +25,17 @@ use crate::image::load;
 use crate::link::Link;
 use crate::listed::are_symbols_listed;
 use crate::loading::is_loaded;
+use crate::names::Names;
 use crate::opening::open;
-use crate::placed::{got_things_of, place, things_of};
+use crate::outputs::Outputs;
+use crate::placed::{got_things_of, place_all, things_of};
 use crate::places::Places;
 use crate::placing::{has_rights, is_placed};
 use crate::reading::{read_map, read_plan};
 use crate::rows::fields_right;
 use crate::sections::{are_sections_listed, pieces_of};
-use crate::symbols::symbols_of;
-use crate::things::{Loaded, Placed, SymbolOf};
+use crate::things::{Piece, Placed};
+use check_load::Loaded;
 use command::Plan;
 use elf_model::{Clause, InputFile, Thing, Verdict};
 use loader_model::Memory;
@@ -53,17 +59,15 @@ fn entry_of<'a>(plan: &Plan<'a>) -> &'a [u8]
 fn relocation_rows<'a>(
     alloc: Global,
     link: &Link<'_>,
+    bindings: &Bindings<'_, '_, 'a>,
     objects: &[Loaded<'a>],
-    places: &Places<'_, 'a>,
-    symbols: &[SymbolOf<'a>],
 ) -> Result<Option<Vec<Vec<Field>>>, AllocError>
     requires loaded { loaded_views objects.now ≡ objects_of (subject_of link.now) }
-    requires placed { places.now ≡ placed_of (subject_of link.now) }
-    requires symbols { symbol_views symbols.now ≡ all_symbols (loaded_views objects.now) }
+    requires bound { bindings.now ≡ bound_of (subject_of link.now) }
     ensures right { IfOk result (λ o. IsSome o ↔ AreRelocationsRight (subject_of link.now)) }
-    ensures rows { IfOk result (λ o. IfSome o (λ v. AreRows (objects_of (subject_of link.now)) (placed_of (subject_of link.now)) v.items)) }
+    ensures rows { IfOk result (λ o. IfSome o (λ v. AreRows (objects_of (subject_of link.now)) (where_of (subject_of link.now)) v.items)) }
 {
-    let rows = fields_right(alloc, objects, places, symbols)?;
+    let rows = fields_right(alloc, bindings, objects)?;
     Ok(rows)
 }
 
@@ -71,7 +75,7 @@ fn relocation_rows<'a>(
 fn is_held(link: &Link<'_>, memory: &Memory<'_>, placed: &[Placed<'_>], rows: &[Vec<Field>]) -> bool
     requires memory { memory.now ≡ link.now.image.now }
     requires placed { placed_views placed.now ≡ placed_of (subject_of link.now) }
-    requires rows { AreRows (objects_of (subject_of link.now)) (placed_of (subject_of link.now)) rows.now }
+    requires rows { AreRows (objects_of (subject_of link.now)) (where_of (subject_of link.now)) rows.now }
     requires before { HoldsBefore clause.C10 (subject_of link.now) }
     ensures { IsTrue result ↔ Holds clause.C10 (subject_of link.now) }
 {
@@ -79,77 +83,60 @@ fn is_held(link: &Link<'_>, memory: &Memory<'_>, placed: &[Placed<'_>], rows: &[
 }
 
 /// Whether the twelfth clause holds of a link.
-fn is_entry_right(
-    link: &Link<'_>,
-    objects: &[Loaded<'_>],
-    memory: &Memory<'_>,
-    places: &Places<'_, '_>,
-    symbols: &[SymbolOf<'_>],
-) -> bool
-    requires loaded { loaded_views objects.now ≡ objects_of (subject_of link.now) }
+fn is_entry_right(link: &Link<'_>, bindings: &Bindings<'_, '_, '_>, memory: &Memory<'_>) -> bool
+    requires bound { bindings.now ≡ bound_of (subject_of link.now) }
     requires memory { memory.now ≡ link.now.image.now }
-    requires placed { places.now ≡ placed_of (subject_of link.now) }
-    requires symbols { symbol_views symbols.now ≡ all_symbols (loaded_views objects.now) }
     ensures { IsTrue result ↔ EntersRight (subject_of link.now) }
 {
-    enters_right(
-        objects,
-        places,
-        symbols,
-        entry_of(&link.plan),
-        memory.entry(),
-    )
+    enters_right(bindings, entry_of(&link.plan), memory.entry())
 }
 
 /// Whether the thirteenth clause holds of a link.
-fn are_symbols_right(
+fn are_symbols_right<'a>(
     alloc: Global,
     link: &Link<'_>,
-    objects: &[Loaded<'_>],
-    places: &Places<'_, '_>,
-    symbols: &[SymbolOf<'_>],
+    bindings: &Bindings<'_, '_, 'a>,
+    objects: &[Loaded<'a>],
 ) -> Result<bool, AllocError>
-    requires map { IsMap (map_of link.now.map) }
     requires loaded { loaded_views objects.now ≡ objects_of (subject_of link.now) }
-    requires placed { places.now ≡ placed_of (subject_of link.now) }
-    requires symbols { symbol_views symbols.now ≡ all_symbols (loaded_views objects.now) }
+    requires map { IsMap (map_of link.now.map) }
+    requires bound { bindings.now ≡ bound_of (subject_of link.now) }
     ensures { IfOk result (λ b. IsTrue b ↔ AreSymbolsListed (subject_of link.now)) }
 {
-    let listed = are_symbols_listed(alloc, objects, places, symbols, &link.map.symbols)?;
+    let listed = are_symbols_listed(alloc, bindings, objects, &link.map.symbols)?;
     Ok(listed)
 }
 
 /// Judges the twelfth and the thirteenth clause.
-fn judge_symbols(
+fn judge_symbols<'a>(
     alloc: Global,
     link: &Link<'_>,
-    objects: &[Loaded<'_>],
+    bindings: &Bindings<'_, '_, 'a>,
     memory: &Memory<'_>,
-    places: &Places<'_, '_>,
-    symbols: &[SymbolOf<'_>],
+    objects: &[Loaded<'a>],
 ) -> Result<Verdict, AllocError>
-    requires map { IsMap (map_of link.now.map) }
     requires loaded { loaded_views objects.now ≡ objects_of (subject_of link.now) }
+    requires map { IsMap (map_of link.now.map) }
+    requires bound { bindings.now ≡ bound_of (subject_of link.now) }
     requires memory { memory.now ≡ link.now.image.now }
-    requires placed { places.now ≡ placed_of (subject_of link.now) }
-    requires symbols { symbol_views symbols.now ≡ all_symbols (loaded_views objects.now) }
     requires before { HoldsBefore clause.C12 (subject_of link.now) }
     ensures { IfOk result (λ v. Judges v (subject_of link.now)) }
 {
-    if !is_entry_right(link, objects, memory, places, symbols) {
+    if !is_entry_right(link, bindings, memory) {
         return Ok(Verdict::No(Clause::C12));
     }
-    let listed = are_symbols_right(alloc, link, objects, places, symbols)?;
+    let listed = are_symbols_right(alloc, link, bindings, objects)?;
     if !listed {
         return Ok(Verdict::No(Clause::C13));
     }
     Ok(Verdict::Yes)
 }
 
-/// Judges the clauses from the ninth on.
+/// Judges the clauses from the ninth on, given what names mean.
 fn judge_relocations<'a>(
     alloc: Global,
     link: &Link<'_>,
+    bindings: &Bindings<'_, '_, 'a>,
     objects: &[Loaded<'a>],
     memory: &Memory<'_>,
     placed: &[Placed<'a>],
@@ -157,15 +144,14 @@ fn judge_relocations<'a>(
 ) -> Result<Verdict, AllocError>
     requires map { IsMap (map_of link.now.map) }
     requires loaded { loaded_views objects.now ≡ objects_of (subject_of link.now) }
+    requires bound { bindings.now ≡ bound_of (subject_of link.now) }
     requires memory { memory.now ≡ link.now.image.now }
     requires placed { placed_views placed.now ≡ placed_of (subject_of link.now) }
     requires things { things.now ≡ things_of (subject_of link.now) }
     requires before { HoldsBefore clause.C9 (subject_of link.now) }
     ensures { IfOk result (λ v. Judges v (subject_of link.now)) }
 {
-    let symbols = symbols_of(alloc, objects)?;
-    let places = Places::new(alloc, placed)?;
-    let Some(rows) = relocation_rows(alloc, link, objects, &places, &symbols)? else {
+    let Some(rows) = relocation_rows(alloc, link, bindings, objects)? else {
         return Ok(Verdict::No(Clause::C9));
     };
     if !is_held(link, memory, placed, &rows) {
@@ -174,20 +160,55 @@ fn judge_relocations<'a>(
     if !has_nothing_else(alloc, memory, things)? {
         return Ok(Verdict::No(Clause::C11));
     }
-    judge_symbols(alloc, link, objects, memory, &places, &symbols)
+    judge_symbols(alloc, link, bindings, memory, objects)
+}
+
+/// Judges the clauses from the ninth on.
+fn judge_names<'a>(
+    alloc: Global,
+    link: &Link<'_>,
+    names: &Names<'_, 'a>,
+    pieces: &[Piece<'a>],
+    memory: &Memory<'_>,
+    placed: &[Placed<'a>],
+    things: &[Thing],
+) -> Result<Verdict, AllocError>
+    requires map { IsMap (map_of link.now.map) }
+    requires names { names.now ≡ objects_of (subject_of link.now) }
+    requires pieces { piece_views pieces.now ≡ kept_sections (objects_of (subject_of link.now)) }
+    requires memory { memory.now ≡ link.now.image.now }
+    requires placed { placed_views placed.now ≡ placed_of (subject_of link.now) }
+    requires things { things.now ≡ things_of (subject_of link.now) }
+    requires before { HoldsBefore clause.C9 (subject_of link.now) }
+    ensures { IfOk result (λ v. Judges v (subject_of link.now)) }
+{
+    let outputs = Outputs::new(alloc, pieces)?;
+    let places = Places::new(alloc, base_of(&link.plan), placed)?;
+    let bindings = Bindings::new(names, &outputs, &places);
+    judge_relocations(
+        alloc,
+        link,
+        &bindings,
+        names.objects(),
+        memory,
+        placed,
+        things,
+    )
 }
 
 /// Judges the clauses from the seventh on.
 fn judge_bytes<'a>(
     alloc: Global,
     link: &Link<'_>,
-    objects: &[Loaded<'a>],
+    names: &Names<'_, 'a>,
+    pieces: &[Piece<'a>],
     memory: &Memory<'_>,
     placed: &[Placed<'a>],
     things: &[Thing],
 ) -> Result<Verdict, AllocError>
     requires map { IsMap (map_of link.now.map) }
-    requires loaded { loaded_views objects.now ≡ objects_of (subject_of link.now) }
+    requires names { names.now ≡ objects_of (subject_of link.now) }
+    requires pieces { piece_views pieces.now ≡ kept_sections (objects_of (subject_of link.now)) }
     requires memory { memory.now ≡ link.now.image.now }
     requires placed { placed_views placed.now ≡ placed_of (subject_of link.now) }
     requires things { things.now ≡ things_of (subject_of link.now) }
@@ -200,47 +221,81 @@ fn judge_bytes<'a>(
     if !is_thread_block_right(memory) {
         return Ok(Verdict::No(Clause::C8));
     }
-    judge_relocations(alloc, link, objects, memory, placed, things)
+    judge_names(alloc, link, names, pieces, memory, placed, things)
 }
 
-/// The pieces of a link at the addresses that its map gives them.
+/// The sections and the common blocks of a link at the addresses that its map gives them, and how many of them are
+/// sections.
 fn place_pieces<'a>(
     alloc: Global,
     link: &Link<'_>,
-    objects: &[Loaded<'a>],
-) -> Result<Vec<Placed<'a>>, AllocError>
-    requires loaded { loaded_views objects.now ≡ objects_of (subject_of link.now) }
-    ensures { IfOk result (λ v. placed_views v.items ≡ placed_of (subject_of link.now)) }
+    names: &Names<'_, 'a>,
+    pieces: &[Piece<'a>],
+    lines: &CommonLines<'_>,
+) -> Result<(Vec<Placed<'a>>, usize), AllocError>
+    requires names { names.now ≡ objects_of (subject_of link.now) }
+    requires pieces { piece_views pieces.now ≡ kept_sections (objects_of (subject_of link.now)) }
+    requires lines { lines.now ≡ (subject_of link.now).map.commons }
+    ensures count { IfOk result (λ r. r.1 ≤ length r.0.items) }
+    ensures sections { IfOk result (λ r. placed_views (take r.1 r.0.items) ≡ sections_of (subject_of link.now)) }
+    ensures placed { IfOk result (λ r. placed_views r.0.items ≡ placed_of (subject_of link.now)) }
 {
-    let pieces = pieces_of(alloc, objects)?;
-    let placed = place(alloc, &link.map.places, &pieces)?;
+    let placed = place_all(alloc, &link.map.places, pieces, lines, names.blocks())?;
     Ok(placed)
 }
 
 /// Judges the clauses from the fifth on.
-fn judge_places(
+fn judge_places<'a>(
     alloc: Global,
     link: &Link<'_>,
-    objects: &[Loaded<'_>],
+    names: &Names<'_, 'a>,
+    pieces: &[Piece<'a>],
+    lines: &CommonLines<'_>,
     memory: &Memory<'_>,
 ) -> Result<Verdict, AllocError>
     requires map { IsMap (map_of link.now.map) }
-    requires loaded { loaded_views objects.now ≡ objects_of (subject_of link.now) }
+    requires names { names.now ≡ objects_of (subject_of link.now) }
+    requires pieces { piece_views pieces.now ≡ kept_sections (objects_of (subject_of link.now)) }
+    requires lines { lines.now ≡ (subject_of link.now).map.commons }
     requires memory { memory.now ≡ link.now.image.now }
     requires before { HoldsBefore clause.C5 (subject_of link.now) }
     ensures { IfOk result (λ v. Judges v (subject_of link.now)) }
 {
-    let placed = place_pieces(alloc, link, objects)?;
+    let (placed, count) = place_pieces(alloc, link, names, pieces, lines)?;
+    let (sections, _blocks) = placed.split_at(count);
     let gots = got_things_of(alloc, link.map.got)?;
     let things = things_of(alloc, memory, &gots, &placed)?;
     let base = base_of(&link.plan);
-    if !is_placed(alloc, base, &things, &placed)? {
+    if !is_placed(alloc, base, &things, sections)? {
         return Ok(Verdict::No(Clause::C5));
     }
     if !has_rights(memory, base, &things, &gots) {
         return Ok(Verdict::No(Clause::C6));
     }
-    judge_bytes(alloc, link, objects, memory, &placed, &things)
+    judge_bytes(alloc, link, names, pieces, memory, &placed, &things)
+}
+
+/// Judges the clauses from the third on, given the names of the objects.
+fn judge_sections(
+    alloc: Global,
+    link: &Link<'_>,
+    names: &Names<'_, '_>,
+) -> Result<Verdict, AllocError>
+    requires map { IsMap (map_of link.now.map) }
+    requires names { names.now ≡ objects_of (subject_of link.now) }
+    requires holds { IsLoaded (subject_of link.now) }
+    ensures { IfOk result (λ v. Judges v (subject_of link.now)) }
+{
+    let pieces = pieces_of(alloc, names.objects())?;
+    let drops = drops_of(alloc, names.objects())?;
+    let lines = CommonLines::new(alloc, &link.map.commons)?;
+    if !are_sections_listed(link, names, &pieces, &drops, &lines) {
+        return Ok(Verdict::No(Clause::C3));
+    }
+    let Some(memory) = load(alloc, link.image)? else {
+        return Ok(Verdict::No(Clause::C4));
+    };
+    judge_places(alloc, link, names, &pieces, &lines, &memory)
 }
 
 /// Judges the clauses from the third on.
@@ -254,14 +309,8 @@ fn judge_loaded(
     requires holds { IsLoaded (subject_of link.now) }
     ensures { IfOk result (λ v. Judges v (subject_of link.now)) }
 {
-    let pieces = pieces_of(alloc, objects)?;
-    if !are_sections_listed(link, &pieces) {
-        return Ok(Verdict::No(Clause::C3));
-    }
-    let Some(memory) = load(alloc, link.image)? else {
-        return Ok(Verdict::No(Clause::C4));
-    };
-    judge_places(alloc, link, objects, &memory)
+    let names = Names::new(alloc, objects)?;
+    judge_sections(alloc, link, &names)
 }
 
 /// Judges the clauses from the second on.
@@ -272,7 +321,7 @@ fn judge(alloc: Global, link: &Link<'_>) -> Result<Verdict, AllocError>
     let Some(objects) = open(alloc, &link.plan, link.files)? else {
         return Ok(Verdict::No(Clause::C2));
     };
-    if !is_loaded(alloc, link, &objects)? {
+    if !is_loaded(link, &objects) {
         return Ok(Verdict::No(Clause::C2));
     }
     judge_loaded(alloc, link, &objects)

@@ -1,3 +1,4 @@
+//! What a command asks for: its items and its plan.
 use std::marker::Model;
 
 /// What an item of a command names.

@@ -18,13 +18,11 @@
 #![tactic(auto)]
 
 mod items;
-mod opened;
 mod paths;
 mod phrases;
 mod reading;
 
 pub use elf_model::CmdFault;
 pub use items::{Item, Plan, Source};
-pub use opened::{file_named, path_of};
-pub use paths::candidates;
+pub use paths::{candidates, library_path};
 pub use reading::read_words;

@@ -52,8 +52,11 @@ impl Found {
     }
 }
 
-/// The path of an archive of a directory.
-fn library_path(alloc: Global, directory: &str, name: &str) -> Result<String, AllocError>
+/// The path that `-lNAME` means in a directory, `DIRECTORY/libNAME.a`.
+///
+/// # Errors
+/// Where the path can't grow.
+pub fn library_path(alloc: Global, directory: &str, name: &str) -> Result<String, AllocError>
     ensures { IfOk result (λ s. string_bytes s ≡ directory.now ++ (codes "/lib" ++ (name.now ++ codes ".a"))) }
 {
     format!(in alloc; "{directory}/lib{name}.a")

@@ -3,10 +3,9 @@
 -- of them, `drop i`, and the objects as a view of each.
 use Rattle.std.proofs.Common.{◌≡◌, ℕ, ◌+◌, ◌<◌, ◌≤◌, Bool, true, false, cond, List, [], ◌∷◌, ◌++◌, length, get_or, drop, map, refl, ap, ◌∙◌}
 use Rattle.std.specs.Prelude.{filter}
-use Rattle.std.specs.List.{flat_map}
 use Rattle.std.proofs.lemmas.List.{drop_all}
 use Rattle.elf_model.specs.Loading.{LoadedObject}
-use Rattle.elf_model.specs.Relocation.{Relocation, is_kept_rela, is_some_kind, relocation_of, relocations_from, relocations_in, relocations_of}
+use Rattle.elf_model.specs.Relocation.{Relocation, is_kept_rela, is_some_kind, relocation_of, relocations_behind, relocations_from, relocations_in, relocations_of}
 use Rattle.elf_model.specs.declared.records.Rela.{Rela}
 use Rattle.elf_model.specs.declared.records.SectionHeader.{SectionHeader}
 use Rattle.elf_model.proofs.Rests.{rest_at}
@@ -17,77 +16,68 @@ left_of_objects view xs i = relocations_of i (map view (drop i xs))
 
 pub object_more :
     {X : Type 0} (view : X → LoadedObject) (xs : List X) (i : ℕ) (d : X) → i < length xs →
-    left_of_objects view xs i ≡ relocations_from i (view (get_or xs i d)).bytes ++ left_of_objects view xs (i + 1)
+    left_of_objects view xs i ≡ relocations_from i (view (get_or xs i d)) ++ left_of_objects view xs (i + 1)
 object_more {X} view xs i d within = ap (λ (ys : List X). relocations_of i (map view ys)) (rest_at xs i d within)
 
 pub object_end : {X : Type 0} (view : X → LoadedObject) (xs : List X) (i : ℕ) → length xs ≤ i → left_of_objects view xs i ≡ []
 object_end {X} view xs i behind = ap (λ (ys : List X). relocations_of i (map view ys)) (drop_all i xs behind)
 
 -- the relocations of the sections that are left
-abbrev pub left_of_sections : ℕ → List ℕ → List SectionHeader → ℕ → List Relocation
-left_of_sections object bytes hs i = flat_map (relocations_in object bytes) (filter (is_kept_rela bytes) (drop i hs))
+abbrev pub left_of_sections : ℕ → LoadedObject → List SectionHeader → ℕ → List Relocation
+left_of_sections object o hs i = relocations_behind object o i (drop i hs)
 
 section_cases :
-    (object : ℕ) (bytes : List ℕ) (hs : List SectionHeader) (i : ℕ) (d : SectionHeader) → i < length hs → (b : Bool) →
-    is_kept_rela bytes (get_or hs i d) ≡ b →
-    left_of_sections object bytes hs i ≡ cond b (relocations_in object bytes (get_or hs i d)) [] ++ left_of_sections object bytes hs (i + 1)
-section_cases object bytes hs i d within b e =
-    ap (λ (ys : List SectionHeader). flat_map (relocations_in object bytes) (filter (is_kept_rela bytes) ys)) (rest_at hs i d within)
-    ∙ ap (λ (t : Bool). flat_map (relocations_in object bytes) (cond t (get_or hs i d ∷ filter (is_kept_rela bytes) (drop (i + 1) hs)) (filter (is_kept_rela bytes) (drop (i + 1) hs)))) e
-    ∙ by b
-  where
-    by :
-        (t : Bool) →
-        flat_map (relocations_in object bytes) (cond t (get_or hs i d ∷ filter (is_kept_rela bytes) (drop (i + 1) hs)) (filter (is_kept_rela bytes) (drop (i + 1) hs)))
-        ≡ cond t (relocations_in object bytes (get_or hs i d)) [] ++ left_of_sections object bytes hs (i + 1)
-    by true = refl
-    by false = refl
+    (object : ℕ) (o : LoadedObject) (hs : List SectionHeader) (i : ℕ) (d : SectionHeader) → i < length hs → (b : Bool) →
+    is_kept_rela o i (get_or hs i d) ≡ b →
+    left_of_sections object o hs i ≡ cond b (relocations_in object o (get_or hs i d)) [] ++ left_of_sections object o hs (i + 1)
+section_cases object o hs i d within b e =
+    ap (λ (ys : List SectionHeader). relocations_behind object o i ys) (rest_at hs i d within)
+    ∙ ap (λ (t : Bool). cond t (relocations_in object o (get_or hs i d)) [] ++ left_of_sections object o hs (i + 1)) e
 
 pub section_more :
-    (object : ℕ) (bytes : List ℕ) (hs : List SectionHeader) (i : ℕ) (d : SectionHeader) → i < length hs →
-    is_kept_rela bytes (get_or hs i d) ≡ true →
-    left_of_sections object bytes hs i ≡ relocations_in object bytes (get_or hs i d) ++ left_of_sections object bytes hs (i + 1)
-section_more object bytes hs i d within kept = section_cases object bytes hs i d within true kept
+    (object : ℕ) (o : LoadedObject) (hs : List SectionHeader) (i : ℕ) (d : SectionHeader) → i < length hs →
+    is_kept_rela o i (get_or hs i d) ≡ true →
+    left_of_sections object o hs i ≡ relocations_in object o (get_or hs i d) ++ left_of_sections object o hs (i + 1)
+section_more object o hs i d within kept = section_cases object o hs i d within true kept
 
 pub section_skip :
-    (object : ℕ) (bytes : List ℕ) (hs : List SectionHeader) (i : ℕ) (d : SectionHeader) → i < length hs →
-    is_kept_rela bytes (get_or hs i d) ≡ false → left_of_sections object bytes hs i ≡ left_of_sections object bytes hs (i + 1)
-section_skip object bytes hs i d within other = section_cases object bytes hs i d within false other
+    (object : ℕ) (o : LoadedObject) (hs : List SectionHeader) (i : ℕ) (d : SectionHeader) → i < length hs →
+    is_kept_rela o i (get_or hs i d) ≡ false → left_of_sections object o hs i ≡ left_of_sections object o hs (i + 1)
+section_skip object o hs i d within other = section_cases object o hs i d within false other
 
-pub section_end : (object : ℕ) (bytes : List ℕ) (hs : List SectionHeader) (i : ℕ) → length hs ≤ i → left_of_sections object bytes hs i ≡ []
-section_end object bytes hs i behind =
-    ap (λ (ys : List SectionHeader). flat_map (relocations_in object bytes) (filter (is_kept_rela bytes) ys)) (drop_all i hs behind)
+pub section_end : (object : ℕ) (o : LoadedObject) (hs : List SectionHeader) (i : ℕ) → length hs ≤ i → left_of_sections object o hs i ≡ []
+section_end object o hs i behind = ap (λ (ys : List SectionHeader). relocations_behind object o i ys) (drop_all i hs behind)
 
 -- the relocations of the entries that are left, for section k
-abbrev pub left_of_entries : ℕ → List ℕ → ℕ → List Rela → ℕ → List Relocation
-left_of_entries object bytes k rs i = map (relocation_of object bytes k) (filter is_some_kind (drop i rs))
+abbrev pub left_of_entries : ℕ → LoadedObject → ℕ → List Rela → ℕ → List Relocation
+left_of_entries object o k rs i = map (relocation_of object o k) (filter is_some_kind (drop i rs))
 
 entry_cases :
-    (object : ℕ) (bytes : List ℕ) (k : ℕ) (rs : List Rela) (i : ℕ) (d : Rela) → i < length rs → (b : Bool) →
+    (object : ℕ) (o : LoadedObject) (k : ℕ) (rs : List Rela) (i : ℕ) (d : Rela) → i < length rs → (b : Bool) →
     is_some_kind (get_or rs i d) ≡ b →
-    left_of_entries object bytes k rs i ≡ cond b (relocation_of object bytes k (get_or rs i d) ∷ []) [] ++ left_of_entries object bytes k rs (i + 1)
-entry_cases object bytes k rs i d within b e =
-    ap (λ (ys : List Rela). map (relocation_of object bytes k) (filter is_some_kind ys)) (rest_at rs i d within)
-    ∙ ap (λ (t : Bool). map (relocation_of object bytes k) (cond t (get_or rs i d ∷ filter is_some_kind (drop (i + 1) rs)) (filter is_some_kind (drop (i + 1) rs)))) e
+    left_of_entries object o k rs i ≡ cond b (relocation_of object o k (get_or rs i d) ∷ []) [] ++ left_of_entries object o k rs (i + 1)
+entry_cases object o k rs i d within b e =
+    ap (λ (ys : List Rela). map (relocation_of object o k) (filter is_some_kind ys)) (rest_at rs i d within)
+    ∙ ap (λ (t : Bool). map (relocation_of object o k) (cond t (get_or rs i d ∷ filter is_some_kind (drop (i + 1) rs)) (filter is_some_kind (drop (i + 1) rs)))) e
     ∙ by b
   where
     by :
         (t : Bool) →
-        map (relocation_of object bytes k) (cond t (get_or rs i d ∷ filter is_some_kind (drop (i + 1) rs)) (filter is_some_kind (drop (i + 1) rs)))
-        ≡ cond t (relocation_of object bytes k (get_or rs i d) ∷ []) [] ++ left_of_entries object bytes k rs (i + 1)
+        map (relocation_of object o k) (cond t (get_or rs i d ∷ filter is_some_kind (drop (i + 1) rs)) (filter is_some_kind (drop (i + 1) rs)))
+        ≡ cond t (relocation_of object o k (get_or rs i d) ∷ []) [] ++ left_of_entries object o k rs (i + 1)
     by true = refl
     by false = refl
 
 pub entry_more :
-    (object : ℕ) (bytes : List ℕ) (k : ℕ) (rs : List Rela) (i : ℕ) (d : Rela) → i < length rs → is_some_kind (get_or rs i d) ≡ true →
-    left_of_entries object bytes k rs i ≡ relocation_of object bytes k (get_or rs i d) ∷ left_of_entries object bytes k rs (i + 1)
-entry_more object bytes k rs i d within other = entry_cases object bytes k rs i d within true other
+    (object : ℕ) (o : LoadedObject) (k : ℕ) (rs : List Rela) (i : ℕ) (d : Rela) → i < length rs → is_some_kind (get_or rs i d) ≡ true →
+    left_of_entries object o k rs i ≡ relocation_of object o k (get_or rs i d) ∷ left_of_entries object o k rs (i + 1)
+entry_more object o k rs i d within other = entry_cases object o k rs i d within true other
 
 pub entry_skip :
-    (object : ℕ) (bytes : List ℕ) (k : ℕ) (rs : List Rela) (i : ℕ) (d : Rela) → i < length rs → is_some_kind (get_or rs i d) ≡ false →
-    left_of_entries object bytes k rs i ≡ left_of_entries object bytes k rs (i + 1)
-entry_skip object bytes k rs i d within none = entry_cases object bytes k rs i d within false none
+    (object : ℕ) (o : LoadedObject) (k : ℕ) (rs : List Rela) (i : ℕ) (d : Rela) → i < length rs → is_some_kind (get_or rs i d) ≡ false →
+    left_of_entries object o k rs i ≡ left_of_entries object o k rs (i + 1)
+entry_skip object o k rs i d within none = entry_cases object o k rs i d within false none
 
-pub entry_end : (object : ℕ) (bytes : List ℕ) (k : ℕ) (rs : List Rela) (i : ℕ) → length rs ≤ i → left_of_entries object bytes k rs i ≡ []
-entry_end object bytes k rs i behind =
-    ap (λ (ys : List Rela). map (relocation_of object bytes k) (filter is_some_kind ys)) (drop_all i rs behind)
+pub entry_end : (object : ℕ) (o : LoadedObject) (k : ℕ) (rs : List Rela) (i : ℕ) → length rs ≤ i → left_of_entries object o k rs i ≡ []
+entry_end object o k rs i behind =
+    ap (λ (ys : List Rela). map (relocation_of object o k) (filter is_some_kind ys)) (drop_all i rs behind)

@@ -37,3 +37,12 @@ or_none (Some x) = refl
 pub none_found : {X : Type 0} (o : Option X) → is_some o ≡ false → o ≡ None
 none_found None e = refl
 none_found (Some x) e = absurd (cc)
+
+-- a filter of images keeps the images of those whose image passes
+pub filter-map : {X Y : Type 0} (q : Y → Bool) (f : X → Y) (xs : List X) → filter q (map f xs) ≡ map f (filter (λ x. q (f x)) xs)
+filter-map q f [] = refl
+filter-map {X} {Y} q f (x ∷ xs) =
+    elim (q (f x)) as (λ b. cond b (f x ∷ filter q (map f xs)) (filter q (map f xs)) ≡ map f (cond b (x ∷ filter (λ y. q (f y)) xs) (filter (λ y. q (f y)) xs))) [
+      | true ↦ ap (λ (ys : List Y). f x ∷ ys) (filter-map q f xs)
+      | false ↦ filter-map q f xs
+    ]

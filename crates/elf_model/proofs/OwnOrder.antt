@@ -1,18 +1,20 @@
 -- The pieces in the order in which the linker lays them out: each piece of the loaded objects once, and
 -- those that come next to each other in their output section side by side.
-use Rattle.std.proofs.Common.{◌≡◌, Bool, true, false, not, ◌&&◌, ◌⊎◌, inl, inr, List, ◌++◌, refl, sym, ◌∙◌, subst}
+use Rattle.std.proofs.Common.{◌≡◌, ◌<◌, Bool, true, false, not, ◌&&◌, ◌⊎◌, inl, inr, List, ◌++◌, length, refl, sym, ◌∙◌, subst, arith}
 use Rattle.std.specs.Prelude.{All, AllPairs, Contains, filter}
 use Rattle.std.proofs.lemmas.Bool.{and_parts, false≢true, not-true, and_from}
-use Rattle.std.proofs.lemmas.List.Elements.{All-contains, Contains-append_cases, Contains-append_left, Contains-append_right}
+use Rattle.std.proofs.lemmas.List.Elements.{All-append, All-contains, All-weaker, Contains-append_cases, Contains-append_left, Contains-append_right}
 use Rattle.std.proofs.lemmas.List.Kept.{AllPairs-filter}
+use Rattle.elf_model.specs.Commons.{block_of, block_piece, block_pieces, blocks, pieces}
 use Rattle.elf_model.specs.Loading.{LoadedObject}
 use Rattle.elf_model.specs.OwnLayout.{code_pieces, data_pieces, grouped, is_code, is_data, is_read_only, is_zero, read_only_pieces}
-use Rattle.elf_model.specs.Pieces.{AreLawfulKinds, IsLawfulKind, Piece, has_bytes, is_executable, is_writable, pieces, same_output}
+use Rattle.elf_model.specs.Pieces.{AreLawfulKinds, IsLawfulKind, Piece, has_bytes, is_executable, is_writable, kept_sections, same_output}
 use Rattle.elf_model.proofs.Grouped.{AllPairs-grouped, Contains-from_grouped, Contains-grouped, before_grouped, cross_pairs, group_of_filter}
-use Rattle.elf_model.proofs.Listed.{Contains-filter, Contains-from_filter}
+use Rattle.elf_model.proofs.Blocks.{block_bare, block_lawful, block_pieces-ascend, block_pieces-each, block_pieces-object, block_writable}
+use Rattle.elf_model.proofs.Listed.{All-from_contains, Contains-filter, Contains-from_filter, Contains-from_map}
 use Rattle.elf_model.proofs.Neighbours.{StandsBefore, before_left, before_right}
-use Rattle.elf_model.proofs.Pairs.{AllPairs-append}
-use Rattle.elf_model.proofs.PieceNumbers.{AreOtherSections, other_sections-sym, pieces_other}
+use Rattle.elf_model.proofs.Pairs.{AllPairs-append, AllPairs-weaker}
+use Rattle.elf_model.proofs.PieceNumbers.{AreOtherSections, kept_below, kept_other, other_sections-sym, pieces_other}
 use Rattle.elf_model.proofs.SameOutput.{IsOfOutput, is_code-of_output, is_data-of_output, is_read_only-of_output, is_zero-of_output}
 
 -- a piece is read-only, code, data or zero
@@ -46,33 +48,66 @@ data_writable p d = (and_parts (is_writable p.header) (has_bytes p) d).0
 zero_writable : (p : Piece) → is_zero p ≡ true → is_writable p.header ≡ true
 zero_writable p z = (and_parts (is_writable p.header) (not (has_bytes p)) z).0
 
-data_not_zero : (p : Piece) → is_data p ≡ true → is_zero p ≡ true → ⊥
-data_not_zero p d z =
-    let e = (and_parts (is_writable p.header) (not (has_bytes p)) z).1 in
-    let f = (and_parts (is_writable p.header) (has_bytes p) d).1 in
-    false≢true (sym (not-true (has_bytes p) e) ∙ f)
+data_bytes : (p : Piece) → is_data p ≡ true → has_bytes p ≡ false → ⊥
+data_bytes p d bare = false≢true (sym bare ∙ (and_parts (is_writable p.header) (has_bytes p) d).1)
 
--- the pieces that pass a test, grouped
+-- the kept sections that pass a test, grouped
 abbrev chosen : (Piece → Bool) → List LoadedObject → List Piece
-chosen t objects = grouped (filter t (pieces objects))
+chosen t objects = grouped (filter t (kept_sections objects))
 
-to_chosen : (t : Piece → Bool) (objects : List LoadedObject) (p : Piece) → Contains (pieces objects) p → t p ≡ true → Contains (chosen t objects) p
-to_chosen t objects p c passes = Contains-grouped (filter t (pieces objects)) p (Contains-filter t (pieces objects) p c passes)
+to_chosen : (t : Piece → Bool) (objects : List LoadedObject) (p : Piece) → Contains (kept_sections objects) p → t p ≡ true → Contains (chosen t objects) p
+to_chosen t objects p c passes = Contains-grouped (filter t (kept_sections objects)) p (Contains-filter t (kept_sections objects) p c passes)
+
+from_chosen_kept : (t : Piece → Bool) (objects : List LoadedObject) (p : Piece) → Contains (chosen t objects) p → Contains (kept_sections objects) p × (t p ≡ true)
+from_chosen_kept t objects p c = Contains-from_filter t (kept_sections objects) p (Contains-from_grouped (filter t (kept_sections objects)) p c)
+
+kept_is_piece : (objects : List LoadedObject) (p : Piece) → Contains (kept_sections objects) p → Contains (pieces objects) p
+kept_is_piece objects p c = Contains-append_left (kept_sections objects) (block_pieces objects) p c
 
 from_chosen : (t : Piece → Bool) (objects : List LoadedObject) (p : Piece) → Contains (chosen t objects) p → Contains (pieces objects) p × (t p ≡ true)
-from_chosen t objects p c = Contains-from_filter t (pieces objects) p (Contains-from_grouped (filter t (pieces objects)) p c)
+from_chosen t objects p c = let from = from_chosen_kept t objects p c in (kept_is_piece objects p from.0, from.1)
 
 chosen_other : (t : Piece → Bool) (objects : List LoadedObject) → AllPairs AreOtherSections (chosen t objects)
 chosen_other t objects =
-    AllPairs-grouped AreOtherSections (filter t (pieces objects)) other_sections-sym
-    (AllPairs-filter AreOtherSections t (pieces objects) (pieces_other objects))
+    AllPairs-grouped AreOtherSections (filter t (kept_sections objects)) other_sections-sym
+    (AllPairs-filter AreOtherSections t (kept_sections objects) (kept_other objects))
 
 chosen_before :
-    (t : Piece → Bool) (objects : List LoadedObject) (p q : Piece) → IsOfOutput t → Contains (pieces objects) p → t p ≡ true →
-    StandsBefore (filter (same_output p) (pieces objects)) p q → StandsBefore (chosen t objects) p q
+    (t : Piece → Bool) (objects : List LoadedObject) (p q : Piece) → IsOfOutput t → Contains (kept_sections objects) p → t p ≡ true →
+    StandsBefore (filter (same_output p) (kept_sections objects)) p q → StandsBefore (chosen t objects) p q
 chosen_before t objects p q of_output c passes before =
-    before_grouped (filter t (pieces objects)) p q (Contains-filter t (pieces objects) p c passes)
-    (subst (λ (ps : List Piece). StandsBefore ps p q) (sym (group_of_filter t (pieces objects) p of_output passes)) before)
+    before_grouped (filter t (kept_sections objects)) p q (Contains-filter t (kept_sections objects) p c passes)
+    (subst (λ (ps : List Piece). StandsBefore ps p q) (sym (group_of_filter t (kept_sections objects) p of_output passes)) before)
+
+-- a block is a piece, is writable, and has no bytes
+from_blocks : (objects : List LoadedObject) (p : Piece) → Contains (block_pieces objects) p → Contains (pieces objects) p × (is_writable p.header ≡ true) × (has_bytes p ≡ false)
+from_blocks objects p c =
+    let image = Contains-from_map block_piece (blocks objects) p c in (
+      Contains-append_right (kept_sections objects) (block_pieces objects) p c,
+      subst (λ (q : Piece). is_writable q.header ≡ true) image.is (block_writable image.of),
+      subst (λ (q : Piece). has_bytes q ≡ false) image.is (block_bare image.of),
+    )
+
+-- the pieces without bytes that may be written, and among them the blocks
+abbrev zeros : List LoadedObject → List Piece
+zeros objects = chosen is_zero objects ++ block_pieces objects
+
+from_zeros : (objects : List LoadedObject) (p : Piece) → Contains (zeros objects) p → Contains (pieces objects) p × (is_writable p.header ≡ true) × (has_bytes p ≡ false)
+from_zeros objects p c = by (Contains-append_cases (chosen is_zero objects) (block_pieces objects) p c)
+  where
+    by :
+        Contains (chosen is_zero objects) p ⊎ Contains (block_pieces objects) p →
+        Contains (pieces objects) p × (is_writable p.header ≡ true) × (has_bytes p ≡ false)
+    by (inl z) =
+        let f = from_chosen is_zero objects p z in
+        (f.0, zero_writable p f.1, not-true (has_bytes p) (and_parts (is_writable p.header) (not (has_bytes p)) f.1).1)
+    by (inr b) = from_blocks objects p b
+
+-- the kind of each piece is lawful where those of all kept sections are
+pub pieces_lawful : (objects : List LoadedObject) → AreLawfulKinds objects → All (λ p. IsLawfulKind p.header) (pieces objects)
+pieces_lawful objects kinds =
+    All-append (λ p. IsLawfulKind p.header) (kept_sections objects) (block_pieces objects) kinds
+    (block_pieces-each objects (λ p. IsLawfulKind p.header) (λ k s c. block_lawful (block_of objects k s)))
 
 -- where a piece of the own order comes from, and where each piece goes
 pub from_read_only : (objects : List LoadedObject) (p : Piece) → Contains (read_only_pieces objects) p → Contains (pieces objects) p × (is_read_only p ≡ true)
@@ -82,11 +117,11 @@ pub from_code : (objects : List LoadedObject) (p : Piece) → Contains (code_pie
 from_code objects p c = from_chosen is_code objects p c
 
 pub from_data : (objects : List LoadedObject) (p : Piece) → Contains (data_pieces objects) p → Contains (pieces objects) p × (is_writable p.header ≡ true)
-from_data objects p c = by (Contains-append_cases (chosen is_data objects) (chosen is_zero objects) p c)
+from_data objects p c = by (Contains-append_cases (chosen is_data objects) (zeros objects) p c)
   where
-    by : Contains (chosen is_data objects) p ⊎ Contains (chosen is_zero objects) p → Contains (pieces objects) p × (is_writable p.header ≡ true)
+    by : Contains (chosen is_data objects) p ⊎ Contains (zeros objects) p → Contains (pieces objects) p × (is_writable p.header ≡ true)
     by (inl d) = let f = from_chosen is_data objects p d in (f.0, data_writable p f.1)
-    by (inr z) = let f = from_chosen is_zero objects p z in (f.0, zero_writable p f.1)
+    by (inr z) = let f = from_zeros objects p z in (f.0, f.1)
 
 -- all of them
 abbrev pub own_order : List LoadedObject → List Piece
@@ -121,20 +156,26 @@ in_one_part Q objects p R of_test left right part =
     by_part p R
     (λ r. part.read_only (of_test is_read_only is_read_only-of_output r))
     (λ c. part.code (of_test is_code is_code-of_output c))
-    (λ d. part.data_ (left (chosen is_data objects) (chosen is_zero objects) (of_test is_data is_data-of_output d)))
-    (λ z. part.data_ (right (chosen is_data objects) (chosen is_zero objects) (of_test is_zero is_zero-of_output z)))
+    (λ d. part.data_ (left (chosen is_data objects) (zeros objects) (of_test is_data is_data-of_output d)))
+    (λ z. part.data_ (right (chosen is_data objects) (zeros objects) (left (chosen is_zero objects) (block_pieces objects) (of_test is_zero is_zero-of_output z))))
 
 -- each piece stands in one of the three lists
 pub piece_in_part :
     (objects : List LoadedObject) (p : Piece) (R : Type 0) → Contains (pieces objects) p → IsInOnePart (λ ps. Contains ps p) objects R → R
-piece_in_part objects p R c =
-    in_one_part (λ ps. Contains ps p) objects p R (λ t of_output passes. to_chosen t objects p c passes)
-    (λ xs ys there. Contains-append_left xs ys p there) (λ xs ys there. Contains-append_right xs ys p there)
+piece_in_part objects p R c part = by (Contains-append_cases (kept_sections objects) (block_pieces objects) p c)
+  where
+    by : Contains (kept_sections objects) p ⊎ Contains (block_pieces objects) p → R
+    by (inl kept) =
+        in_one_part (λ ps. Contains ps p) objects p R (λ t of_output passes. to_chosen t objects p kept passes)
+        (λ xs ys there. Contains-append_left xs ys p there) (λ xs ys there. Contains-append_right xs ys p there) part
+    by (inr block) =
+        part.data_
+        (Contains-append_right (chosen is_data objects) (zeros objects) p (Contains-append_right (chosen is_zero objects) (block_pieces objects) p block))
 
 -- neighbours in an output section stand side by side in one of the three lists
 pub neighbours_in_part :
-    (objects : List LoadedObject) (p q : Piece) (R : Type 0) → Contains (pieces objects) p →
-    StandsBefore (filter (same_output p) (pieces objects)) p q → IsInOnePart (λ ps. StandsBefore ps p q) objects R → R
+    (objects : List LoadedObject) (p q : Piece) (R : Type 0) → Contains (kept_sections objects) p →
+    StandsBefore (filter (same_output p) (kept_sections objects)) p q → IsInOnePart (λ ps. StandsBefore ps p q) objects R → R
 neighbours_in_part objects p q R c before =
     in_one_part (λ ps. StandsBefore ps p q) objects p R (λ t of_output passes. chosen_before t objects p q of_output c passes before)
     (λ xs ys there. before_left xs ys p q there) (λ xs ys there. before_right xs ys p q there)
@@ -159,12 +200,25 @@ module _ (objects : List LoadedObject) (kinds : AreLawfulKinds objects) where
       All (λ x. All (AreOtherSections x) ys) xs
   cross xs ys = cross_pairs AreOtherSections (pieces objects) xs ys other_sections-sym (pieces_other objects)
 
+  -- a block is no kept section
+  zeros_other : AllPairs AreOtherSections (zeros objects)
+  zeros_other =
+      AllPairs-append AreOtherSections (chosen is_zero objects) (block_pieces objects) (chosen_other is_zero objects) blocks_apart
+      (All-from_contains (λ x. All (AreOtherSections x) (block_pieces objects)) (chosen is_zero objects) (λ x c.
+      let below = All-contains (λ (p : Piece). p.object < length objects) (kept_sections objects) x (kept_below objects) (from_chosen_kept is_zero objects x c).0 in
+      All-weaker (λ (q : Piece). q.object ≡ length objects) (AreOtherSections x) (λ q n e f. omega (arith, below, n, e)) (block_pieces objects) (block_pieces-object objects)))
+    where
+      blocks_apart : AllPairs AreOtherSections (block_pieces objects)
+      blocks_apart =
+          AllPairs-weaker (λ (p q : Piece). (p.object ≡ q.object) × (p.section < q.section)) AreOtherSections (λ p q n e f. omega (arith, n, f))
+          (block_pieces objects) (block_pieces-ascend objects)
+
   data_other : AllPairs AreOtherSections (data_pieces objects)
   data_other =
-      AllPairs-append AreOtherSections (chosen is_data objects) (chosen is_zero objects) (chosen_other is_data objects) (chosen_other is_zero objects)
-      (cross (chosen is_data objects) (chosen is_zero objects)
-      (λ x c. (from_chosen is_data objects x c).0) (λ y c. (from_chosen is_zero objects y c).0)
-      (λ x c e. data_not_zero x (from_chosen is_data objects x c).1 (from_chosen is_zero objects x e).1))
+      AllPairs-append AreOtherSections (chosen is_data objects) (zeros objects) (chosen_other is_data objects) zeros_other
+      (cross (chosen is_data objects) (zeros objects)
+      (λ x c. (from_chosen is_data objects x c).0) (λ y c. (from_zeros objects y c).0)
+      (λ x c e. data_bytes x (from_chosen is_data objects x c).1 (from_zeros objects x e).2))
 
   code_data_other : AllPairs AreOtherSections (code_pieces objects ++ data_pieces objects)
   code_data_other =
@@ -173,7 +227,7 @@ module _ (objects : List LoadedObject) (kinds : AreLawfulKinds objects) where
       (λ x c. (from_code objects x c).0) (λ y c. (from_data objects y c).0)
       (λ x c e.
       let f = from_code objects x c in
-      let lawful = All-contains (λ (p : Piece). IsLawfulKind p.header) (pieces objects) x kinds f.0 in
+      let lawful = All-contains (λ (p : Piece). IsLawfulKind p.header) (pieces objects) x (pieces_lawful objects kinds) f.0 in
       code_not_writable x lawful f.1 (from_data objects x e).1))
 
   not_both_ways : (x : Piece) → Contains (read_only_pieces objects) x → Contains (code_pieces objects ++ data_pieces objects) x → ⊥

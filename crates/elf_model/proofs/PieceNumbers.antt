@@ -6,12 +6,14 @@ use Rattle.std.specs.Option.{option_and_then}
 use Rattle.std.proofs.lemmas.List.Elements.{All-append, All-cons, All-nil, All-weaker}
 use Rattle.std.proofs.lemmas.List.Kept.{AllPairs-cons}
 use Rattle.byteview.specs.Numbers.{part}
+use Rattle.elf_model.specs.Commons.{block_pieces, pieces}
 use Rattle.elf_model.specs.Loading.{LoadedObject}
 use Rattle.elf_model.specs.ObjectFile.{bytes_in_file, contents, has_no_bytes, section_bytes, sections}
-use Rattle.elf_model.specs.Pieces.{Piece, is_alloc, piece_of, pieces, pieces_from, pieces_of}
+use Rattle.elf_model.specs.Pieces.{Piece, is_kept, kept_sections, piece_of, pieces_from, pieces_of}
 use Rattle.elf_model.specs.declared.records.SectionHeader.{SectionHeader}
+use Rattle.elf_model.proofs.Blocks.{block_pieces-ascend, block_pieces-each, block_pieces-object}
 use Rattle.elf_model.proofs.Pairs.{AllPairs-append, AllPairs-nil, AllPairs-weaker}
-use Rattle.elf_model.proofs.Sectioned.{pieces-each}
+use Rattle.elf_model.proofs.Sectioned.{kept-each}
 
 -- a piece's object, or else its section, has the lower number
 abbrev pub ComesBefore : Piece → Piece → Type 0
@@ -32,26 +34,26 @@ before-other p q (inr section) e f = omega (arith, section, f)
 abbrev IsFrom : ℕ → ℕ → Piece → Type 0
 IsFrom k i p = (p.object ≡ k) × (i ≤ p.section)
 
-pieces_from-numbers : (k : ℕ) (bytes : List ℕ) (i : ℕ) (hs : List SectionHeader) → All (IsFrom k i) (pieces_from k bytes i hs)
-pieces_from-numbers k bytes i [] = All-nil (IsFrom k i)
-pieces_from-numbers k bytes i (h ∷ hs) =
-    let rest : List Piece = pieces_from k bytes (i + 1) hs in
+pieces_from-numbers : (k : ℕ) (o : LoadedObject) (i : ℕ) (hs : List SectionHeader) → All (IsFrom k i) (pieces_from k o i hs)
+pieces_from-numbers k o i [] = All-nil (IsFrom k i)
+pieces_from-numbers k o i (h ∷ hs) =
+    let rest : List Piece = pieces_from k o (i + 1) hs in
     let behind : All (IsFrom k i) rest =
-    All-weaker (IsFrom k (i + 1)) (IsFrom k i) (λ p n. (n.0, omega (arith, n))) rest (pieces_from-numbers k bytes (i + 1) hs) in
-    elim (is_alloc h) as (λ b. All (IsFrom k i) (cond b (piece_of k bytes i h ∷ rest) rest)) [
-      | true ↦ All-cons (IsFrom k i) (piece_of k bytes i h) rest (refl, omega arith) behind
+    All-weaker (IsFrom k (i + 1)) (IsFrom k i) (λ p n. (n.0, omega (arith, n))) rest (pieces_from-numbers k o (i + 1) hs) in
+    elim (is_kept o i h) as (λ b. All (IsFrom k i) (cond b (piece_of k o.bytes i h ∷ rest) rest)) [
+      | true ↦ All-cons (IsFrom k i) (piece_of k o.bytes i h) rest (refl, omega arith) behind
       | false ↦ behind
     ]
 
-pieces_from-ascend : (k : ℕ) (bytes : List ℕ) (i : ℕ) (hs : List SectionHeader) → AllPairs ComesBefore (pieces_from k bytes i hs)
-pieces_from-ascend k bytes i [] = AllPairs-nil ComesBefore
-pieces_from-ascend k bytes i (h ∷ hs) =
-    let rest : List Piece = pieces_from k bytes (i + 1) hs in
-    let p : Piece = piece_of k bytes i h in
+pieces_from-ascend : (k : ℕ) (o : LoadedObject) (i : ℕ) (hs : List SectionHeader) → AllPairs ComesBefore (pieces_from k o i hs)
+pieces_from-ascend k o i [] = AllPairs-nil ComesBefore
+pieces_from-ascend k o i (h ∷ hs) =
+    let rest : List Piece = pieces_from k o (i + 1) hs in
+    let p : Piece = piece_of k o.bytes i h in
     let before : All (ComesBefore p) rest =
-    All-weaker (IsFrom k (i + 1)) (ComesBefore p) (λ q n. inr (sym n.0, omega (arith, n))) rest (pieces_from-numbers k bytes (i + 1) hs) in
-    let others = pieces_from-ascend k bytes (i + 1) hs in
-    elim (is_alloc h) as (λ b. AllPairs ComesBefore (cond b (p ∷ rest) rest)) [
+    All-weaker (IsFrom k (i + 1)) (ComesBefore p) (λ q n. inr (sym n.0, omega (arith, n))) rest (pieces_from-numbers k o (i + 1) hs) in
+    let others = pieces_from-ascend k o (i + 1) hs in
+    elim (is_kept o i h) as (λ b. AllPairs ComesBefore (cond b (p ∷ rest) rest)) [
       | true ↦ AllPairs-cons ComesBefore p rest before others
       | false ↦ others
     ]
@@ -62,27 +64,56 @@ IsOfObjectFrom k p = k ≤ p.object
 pieces_of-numbers : (k : ℕ) (objects : List LoadedObject) → All (IsOfObjectFrom k) (pieces_of k objects)
 pieces_of-numbers k [] = All-nil (IsOfObjectFrom k)
 pieces_of-numbers k (o ∷ objects) =
-    let here : List Piece = pieces_from k o.bytes 0 (sections o.bytes) in
+    let here : List Piece = pieces_from k o 0 (sections o.bytes) in
     let rest : List Piece = pieces_of (k + 1) objects in
     All-append (IsOfObjectFrom k) here rest
-    (All-weaker (IsFrom k 0) (IsOfObjectFrom k) (λ p n. omega (arith, n)) here (pieces_from-numbers k o.bytes 0 (sections o.bytes)))
+    (All-weaker (IsFrom k 0) (IsOfObjectFrom k) (λ p n. omega (arith, n)) here (pieces_from-numbers k o 0 (sections o.bytes)))
     (All-weaker (IsOfObjectFrom (k + 1)) (IsOfObjectFrom k) (λ p n. omega (arith, n)) rest (pieces_of-numbers (k + 1) objects))
 
 pieces_of-ascend : (k : ℕ) (objects : List LoadedObject) → AllPairs ComesBefore (pieces_of k objects)
 pieces_of-ascend k [] = AllPairs-nil ComesBefore
 pieces_of-ascend k (o ∷ objects) =
-    let here : List Piece = pieces_from k o.bytes 0 (sections o.bytes) in
+    let here : List Piece = pieces_from k o 0 (sections o.bytes) in
     let rest : List Piece = pieces_of (k + 1) objects in
-    AllPairs-append ComesBefore here rest (pieces_from-ascend k o.bytes 0 (sections o.bytes)) (pieces_of-ascend (k + 1) objects)
+    AllPairs-append ComesBefore here rest (pieces_from-ascend k o 0 (sections o.bytes)) (pieces_of-ascend (k + 1) objects)
     (All-weaker (IsFrom k 0) (λ p. All (ComesBefore p) rest)
     (λ p n. All-weaker (IsOfObjectFrom (k + 1)) (ComesBefore p) (λ q m. inl (omega (arith, n, m))) rest (pieces_of-numbers (k + 1) objects))
-    here (pieces_from-numbers k o.bytes 0 (sections o.bytes)))
+    here (pieces_from-numbers k o 0 (sections o.bytes)))
+
+-- the kept sections are in the order of their objects' and their own numbers
+pub kept_ascend : (objects : List LoadedObject) → AllPairs ComesBefore (kept_sections objects)
+kept_ascend objects = pieces_of-ascend 0 objects
+
+-- each is of an object that is loaded
+pieces_of-below : (k : ℕ) (objects : List LoadedObject) → All (λ p. p.object < k + length objects) (pieces_of k objects)
+pieces_of-below k [] = All-nil (λ p. p.object < k + 0)
+pieces_of-below k (o ∷ objects) =
+    let here : List Piece = pieces_from k o 0 (sections o.bytes) in
+    let rest : List Piece = pieces_of (k + 1) objects in
+    All-append (λ p. p.object < k + length (o ∷ objects)) here rest
+    (All-weaker (IsFrom k 0) (λ p. p.object < k + length (o ∷ objects)) (λ p n. omega (arith, n)) here (pieces_from-numbers k o 0 (sections o.bytes)))
+    (All-weaker (λ p. p.object < (k + 1) + length objects) (λ p. p.object < k + length (o ∷ objects)) (λ p n. omega (arith, n)) rest
+    (pieces_of-below (k + 1) objects))
+
+pub kept_below : (objects : List LoadedObject) → All (λ p. p.object < length objects) (kept_sections objects)
+kept_below objects =
+    All-weaker (λ p. p.object < 0 + length objects) (λ p. p.object < length objects) (λ p n. omega (arith, n)) (kept_sections objects)
+    (pieces_of-below 0 objects)
 
 -- the pieces are in the order of their objects' and sections' numbers
 pub pieces_ascend : (objects : List LoadedObject) → AllPairs ComesBefore (pieces objects)
-pieces_ascend objects = pieces_of-ascend 0 objects
+pieces_ascend objects =
+    AllPairs-append ComesBefore (kept_sections objects) (block_pieces objects) (kept_ascend objects)
+    (AllPairs-weaker (λ p q. (p.object ≡ q.object) × (p.section < q.section)) ComesBefore (λ p q n. inr n) (block_pieces objects)
+    (block_pieces-ascend objects))
+    (All-weaker (λ p. p.object < length objects) (λ p. All (ComesBefore p) (block_pieces objects))
+    (λ p n. All-weaker (λ q. q.object ≡ length objects) (ComesBefore p) (λ q m. inl (omega (arith, n, m))) (block_pieces objects) (block_pieces-object objects))
+    (kept_sections objects) (kept_below objects))
 
--- no two pieces are of one section
+-- no two kept sections, and no two pieces, are of one section
+pub kept_other : (objects : List LoadedObject) → AllPairs AreOtherSections (kept_sections objects)
+kept_other objects = AllPairs-weaker ComesBefore AreOtherSections before-other (kept_sections objects) (kept_ascend objects)
+
 pub pieces_other : (objects : List LoadedObject) → AllPairs AreOtherSections (pieces objects)
 pieces_other objects = AllPairs-weaker ComesBefore AreOtherSections before-other (pieces objects) (pieces_ascend objects)
 
@@ -105,5 +136,10 @@ section_short : (bytes : List ℕ) (i : ℕ) (h : SectionHeader) → slice_get (
 section_short bytes i h there =
     subst (λ (o : Option SectionHeader). length (unwrap_or (option_and_then (bytes_in_file bytes) o) []) ≤ h.sh_size) (sym there) (bytes_short bytes h)
 
+pub kept_whole : (objects : List LoadedObject) → All IsKept (kept_sections objects)
+kept_whole objects = kept-each IsKept objects (λ k o there i h within. (omega arith, section_short o.bytes i h within))
+
 pub pieces_kept : (objects : List LoadedObject) → All IsKept (pieces objects)
-pieces_kept objects = pieces-each IsKept objects (λ k o there i h within. (omega arith, section_short o.bytes i h within))
+pieces_kept objects =
+    All-append IsKept (kept_sections objects) (block_pieces objects) (kept_whole objects)
+    (block_pieces-each objects IsKept (λ k s c. (omega arith, omega arith)))

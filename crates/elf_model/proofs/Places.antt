@@ -6,7 +6,8 @@ use Rattle.std.proofs.lemmas.List.{map-append}
 use Rattle.std.proofs.lemmas.List.Elements.{All-append, All-contains, All-weaker}
 use Rattle.elf_model.specs.Loading.{LoadedObject}
 use Rattle.elf_model.specs.OwnLayout.{code_pieces, code_start, data_pieces, data_start, end_of, is_code, is_read_only, own_address, own_code, own_data, own_headers_size, own_in_load_order, own_placed, own_read_only, placed_end, placed_from, read_only_pieces, read_only_start}
-use Rattle.elf_model.specs.Pieces.{AreLawfulKinds, Piece, is_writable, pieces}
+use Rattle.elf_model.specs.Commons.{pieces}
+use Rattle.elf_model.specs.Pieces.{AreLawfulKinds, Piece, is_writable}
 use Rattle.elf_model.specs.Placement.{Placed, is_of_section}
 use Rattle.elf_model.proofs.Listed.{All-from_contains, All-unmap, Contains-from_map, Contains-map, find_only}
 use Rattle.elf_model.proofs.OwnOrder.{from_code, from_data, from_own_order, from_read_only, own_order, own_order_other, to_own_order}
@@ -63,17 +64,17 @@ own_placed_pieces base objects =
     ∙ ap (λ (ps : List Piece). read_only_pieces objects ++ ps) e)
 
 module _ (base : ℕ) (objects : List LoadedObject) where
-  abbrev InReadOnly : Placed → Type 0
+  abbrev pub InReadOnly : Placed → Type 0
   InReadOnly q = (base + own_headers_size objects ≤ q.at) × (placed_end q ≤ code_start base objects) × (is_read_only q.piece ≡ true)
 
-  abbrev InCode : Placed → Type 0
+  abbrev pub InCode : Placed → Type 0
   InCode q = (code_start base objects ≤ q.at) × (placed_end q ≤ data_start base objects) × (is_code q.piece ≡ true)
 
-  abbrev InData : Placed → Type 0
+  abbrev pub InData : Placed → Type 0
   InData q = (data_start base objects ≤ q.at) × (is_writable q.piece.header ≡ true)
 
   -- each segment's pieces stand from its start on, and before the next one's
-  own_read_only_within : All InReadOnly (own_read_only base objects)
+  pub own_read_only_within : All InReadOnly (own_read_only base objects)
   own_read_only_within k d within =
       let x : ℕ = read_only_start base objects in
       let ps : List Piece = read_only_pieces objects in
@@ -82,7 +83,7 @@ module _ (base : ℕ) (objects : List LoadedObject) where
       let up = paged_up (end_of x ps) in
       (w.0, omega (arith, w, up), kind)
 
-  own_code_within : All InCode (own_code base objects)
+  pub own_code_within : All InCode (own_code base objects)
   own_code_within k d within =
       let x : ℕ = code_start base objects in
       let ps : List Piece = code_pieces objects in
@@ -91,7 +92,7 @@ module _ (base : ℕ) (objects : List LoadedObject) where
       let up = paged_up (end_of x ps) in
       (w.0, omega (arith, w, up), kind)
 
-  own_data_within : All InData (own_data base objects)
+  pub own_data_within : All InData (own_data base objects)
   own_data_within k d within =
       let x : ℕ = data_start base objects in
       let ps : List Piece = data_pieces objects in
@@ -99,7 +100,7 @@ module _ (base : ℕ) (objects : List LoadedObject) where
       let kind = All-placed (λ p. is_writable p.header ≡ true) x ps (All-from_contains (λ p. is_writable p.header ≡ true) ps (λ p c. (from_data objects p c).1)) k d within in
       (w.0, kind)
 
-  own_starts : (base + own_headers_size objects ≤ code_start base objects) × (code_start base objects ≤ data_start base objects)
+  pub own_starts : (base + own_headers_size objects ≤ code_start base objects) × (code_start base objects ≤ data_start base objects)
   own_starts =
       let x : ℕ = read_only_start base objects in
       let y : ℕ = code_start base objects in

@@ -36,7 +36,7 @@ counted_no : {X : Type 0} (p : X → Bool) (x : X) (xs : List X) → p x ≡ fal
 counted_no p x xs e = counted p x xs ∙ ap (λ b. cond b 1 0 + count_by p xs) e ∙ omega arith
 
 -- no element passes
-absent_count : {X : Type 0} (p : X → Bool) (xs : List X) → All (λ x. p x ≡ false) xs → count_by p xs ≡ 0
+pub absent_count : {X : Type 0} (p : X → Bool) (xs : List X) → All (λ x. p x ≡ false) xs → count_by p xs ≡ 0
 absent_count p [] h = refl
 absent_count {X} p (x ∷ xs) h =
     counted_no p x xs (All-head (λ (y : X). p y ≡ false) x xs h) ∙ absent_count p xs (All-tail (λ (y : X). p y ≡ false) x xs h)
@@ -50,7 +50,7 @@ absent_from_count {X} p (x ∷ xs) h = by (p x) refl (absent_from_count p xs)
     by false e rest = All-cons (λ (y : X). p y ≡ false) x xs e (rest (sym (counted_no p x xs e) ∙ h))
 
 -- where at most one element passes, each that passes is the one found
-all_found : {X : Type 0} (p : X → Bool) (xs : List X) → count_by p xs ≤ 1 → All (λ y. p y ≡ true → find p xs ≡ Some y) xs
+pub all_found : {X : Type 0} (p : X → Bool) (xs : List X) → count_by p xs ≤ 1 → All (λ y. p y ≡ true → find p xs ≡ Some y) xs
 all_found {X} p [] few = All-nil (λ (y : X). p y ≡ true → None ≡ Some y)
 all_found {X} p (x ∷ xs) few = by (p x) refl (all_found p xs)
   where

@@ -1,4 +1,4 @@
--- The names of definitions in a set, and the linker's names that objects use.
+-- The names of definitions in a set, and the linker's names of later versions that objects use.
 use Rattle.std.proofs.Common.{◌≡◌, ℕ, Bool, true, false, cond, ◌||◌, List, [], ◌∷◌, length, refl, sym, ◌∙◌, ap, subst, true≢false, arith}
 use Rattle.std.specs.Prelude.{◌≢◌, ◌↔◌, All, IsTrue, None, Some, find, map}
 use Rattle.std.specs.BTreeSet.{BTreeSet, UpdatesBy}
@@ -11,8 +11,10 @@ use Rattle.std.proofs.lemmas.List.Concat.{flat_map-cons}
 use Rattle.std.proofs.lemmas.List.Elements.{All-append, All-cons, All-head, All-map, All-nil, All-tail}
 use Rattle.std.proofs.lemmas.Map.Text.{is_eq-slice_cmp}
 use Rattle.elf_model.specs.Loading.{LoadedObject}
-use Rattle.elf_model.specs.Profile.{HasPlainNames, linker_names}
-use Rattle.elf_model.specs.Resolution.{SymbolOf, chosen, has_name, strong_definitions}
+use Rattle.elf_model.specs.Profile.{HasPlainNames, later_names}
+use Rattle.elf_model.specs.ChosenSymbols.{definitions}
+use Rattle.elf_model.specs.Resolution.{SymbolOf, chosen, has_name}
+use Rattle.elf_model.proofs.ChosenSymbols.{chosen_defined, defined_chosen}
 use Rattle.elf_model.specs.UsedNames.{AreNamesOf, IsAmong, is_among, used_names}
 use Rattle.elf_model.proofs.Listed.{All-parts, All-unmap}
 
@@ -32,26 +34,6 @@ name_added name old new updates n =
       | true ↦ refl
       | false ↦ refl
     ]
-
--- what a search finds, by a test
-find_any : {X : Type 0} (p : X → Bool) (xs : List X) → find p xs ≢ None → list_any p xs ≡ true
-find_any p [] some = absurd (some refl)
-find_any {X} p (x ∷ xs) some = by (p x) refl (find_any p xs)
-  where
-    by : (b : Bool) → p x ≡ b → (find p xs ≢ None → list_any p xs ≡ true) → list_any p (x ∷ xs) ≡ true
-    by true e rest = ap (λ b. b || list_any p xs) e
-    by false e rest =
-        ap (λ b. b || list_any p xs) e
-        ∙ rest (λ none. some (ap (λ b. cond b (Some x) (find p xs)) e ∙ none))
-
-any_find : {X : Type 0} (p : X → Bool) (xs : List X) → list_any p xs ≡ true → find p xs ≢ None
-any_find p [] any none = true≢false (sym any)
-any_find {X} p (x ∷ xs) any none = by (p x) refl (any_find p xs)
-  where
-    by : (b : Bool) → p x ≡ b → (list_any p xs ≡ true → find p xs ≢ None) → ⊥
-    by true e rest = let f : Some x ≡ None = sym (ap (λ b. cond b (Some x) (find p xs)) e) ∙ none in cc
-    by false e rest =
-        rest (sym (ap (λ b. b || list_any p xs) e) ∙ any) (sym (ap (λ b. cond b (Some x) (find p xs)) e) ∙ none)
 
 -- what holds of the elements of each list holds of those of all
 module _ {X Y : Type 0} (P : Y → Type 0) (f : X → List Y) where
@@ -76,21 +58,21 @@ module _ (L : List LoadedObject) where
   IsDefined name = chosen L name ≢ None
 
   plain_from_used : All IsDefined (used_names L) → All (HasPlainNames L) L
-  plain_from_used all k d within = record { defined = flat-All IsDefined (λ (o : LoadedObject). linker_names o.bytes) L all k d within }
+  plain_from_used all k d within = record { defined = flat-All IsDefined (λ (o : LoadedObject). later_names o.bytes) L all k d within }
 
   used_from_plain : All (HasPlainNames L) L → All IsDefined (used_names L)
-  used_from_plain plain = All-flat IsDefined (λ (o : LoadedObject). linker_names o.bytes) L (λ k d within. (plain k d within).defined)
+  used_from_plain plain = All-flat IsDefined (λ (o : LoadedObject). later_names o.bytes) L (λ k d within. (plain k d within).defined)
 
   -- no name is used
   pub plain_unused : used_names L ≡ [] → All (HasPlainNames L) L
   plain_unused none = plain_from_used (subst (All IsDefined) (sym none) (All-nil IsDefined))
 
-  module _ (strong : List SymbolOf) (names : BTreeSet Name) (is : strong ≡ strong_definitions L) (named : AreNamesOf strong names) where
+  module _ (all : List SymbolOf) (names : BTreeSet Name) (is : all ≡ definitions L) (named : AreNamesOf all names) where
     defined : (n : List ℕ) → IsAmong names n → IsDefined n
-    defined n among = any_find (has_name n) (strong_definitions L) (ap (list_any (has_name n)) (sym is) ∙ sym (named n) ∙ among.has)
+    defined n among = defined_chosen L n (ap (list_any (has_name n)) (sym is) ∙ sym (named n) ∙ among.has)
 
     among : (n : List ℕ) → IsDefined n → IsAmong names n
-    among n some = record { has = named n ∙ ap (list_any (has_name n)) is ∙ find_any (has_name n) (strong_definitions L) some }
+    among n some = record { has = named n ∙ ap (list_any (has_name n)) is ∙ chosen_defined L n some }
 
     -- each used name is among the names of the definitions
     pub plain_among :

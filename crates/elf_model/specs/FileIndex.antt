@@ -5,7 +5,7 @@ use Rattle.std.specs.BTreeMap.{BTreeMap, get_by}
 use Rattle.std.specs.Cmp.Lexicographic.{slice_cmp}
 use Rattle.std.specs.Ordering.{nat_cmp}
 use Rattle.elf_model.specs.Files.{File}
-use Rattle.elf_model.specs.Loading.{file_named}
+use Rattle.elf_model.specs.Opening.{file_named}
 
 -- the bytes that an index has for a name
 abbrev pub found : BTreeMap (Bor (List ℕ)) (Bor (List ℕ)) → List ℕ → Option (List ℕ)

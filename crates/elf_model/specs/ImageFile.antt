@@ -3,14 +3,16 @@
 use Rattle.std.specs.Prelude.{◌≡◌, ℕ, ◌+◌, ◌-◌, ◌&&◌, Bool, cond, List, [], ◌∷◌, ◌++◌, None, find, map, nat_le, nat_lt, ◌==◌, unwrap_or, option_map}
 use Rattle.std.specs.List.{flat_map, list_any, range_with_len}
 use Rattle.elf_model.specs.Loading.{LoadedObject}
-use Rattle.elf_model.specs.MapRecord.{MapRecord, PlaceRow}
+use Rattle.elf_model.specs.Commons.{Block, block_named, block_piece}
+use Rattle.elf_model.specs.MapRecord.{CommonRow, MapRecord, PlaceRow}
 use Rattle.elf_model.specs.MapText.{IsOrdered}
 use Rattle.elf_model.specs.MemoryImage.{image_ident}
-use Rattle.elf_model.specs.OwnLayout.{own_segments, own_placed, own_in_load_order, own_headers_size, header_count, file_end}
-use Rattle.elf_model.specs.Placement.{Placed, symbol_value}
+use Rattle.elf_model.specs.Meaning.{meaning_value, object_meaning}
+use Rattle.elf_model.specs.OwnLayout.{own_address, own_segments, own_placed, own_places, own_where, own_headers_size, header_count, file_end}
+use Rattle.elf_model.specs.Pieces.{kept_sections}
+use Rattle.elf_model.specs.Placement.{Placed, is_common_row_of}
 use Rattle.elf_model.specs.Records.{file_header_bytes, program_header_bytes}
-use Rattle.elf_model.specs.Resolution.{chosen}
-use Rattle.elf_model.specs.RightLink.{object_rows, HasLine}
+use Rattle.elf_model.specs.RightLink.{drop_rows, object_rows, HasLine}
 use Rattle.elf_model.specs.WantedBytes.{wanted_byte}
 use Rattle.elf_model.specs.declared.records.FileHeader.{FileHeader}
 use Rattle.elf_model.specs.declared.records.ProgramHeader.{ProgramHeader}
@@ -50,10 +52,10 @@ stack_header = record {
 abbrev pub own_program_headers : ℕ → List LoadedObject → List ProgramHeader
 own_program_headers base objects = own_segments base objects ++ stack_header ∷ []
 
--- the value of the entry's chosen definition
+-- the value of the entry's definition
 abbrev pub own_entry : ℕ → List LoadedObject → List ℕ → ℕ
 own_entry base objects entry =
-    unwrap_or (option_map (symbol_value (own_in_load_order base objects)) (chosen objects entry)) 0
+    unwrap_or (option_map (meaning_value (own_where base objects)) (object_meaning objects entry)) 0
 
 abbrev pub header_bytes : ℕ → List LoadedObject → List ℕ → List ℕ
 header_bytes base objects entry =
@@ -74,7 +76,7 @@ fill_at segments a = cond (list_any (is_code_part a) segments) 0x90 0
 abbrev pub own_byte : ℕ → List LoadedObject → ℕ → ℕ
 own_byte base objects a =
     unwrap_or
-    (option_map (λ q. wanted_byte objects (own_in_load_order base objects) q.piece (a - q.at)) (find (covers_address a) (own_placed base objects)))
+    (option_map (λ q. wanted_byte objects (own_where base objects) q.piece (a - q.at)) (find (covers_address a) (own_placed base objects)))
     (fill_at (own_segments base objects) a)
 
 -- the image file: the headers, then the byte of each address up to the end of the last file part
@@ -84,7 +86,8 @@ image_file base objects entry =
     ++ map (λ i. own_byte base objects (base + i))
     (range_with_len (own_headers_size objects) (file_end (own_segments base objects) - own_headers_size objects))
 
--- the map of the own layout: the loaded objects, the pieces at their addresses, the chosen definitions
+-- the map of the own layout: the loaded objects, the dropped sections, the kept ones and the common blocks at their
+-- addresses, what names mean
 abbrev pub place_row_of : Placed → PlaceRow
 place_row_of q = record {
   address = q.at;
@@ -94,12 +97,25 @@ place_row_of q = record {
   name = q.piece.name;
 }
 
+-- the line of a block at its own address
+abbrev pub common_row_of : ℕ → List LoadedObject → Block → CommonRow
+common_row_of base objects b = record {
+  address = own_address base objects (block_piece b);
+  size = b.size;
+  align = b.align;
+  name = b.name;
+}
+
+abbrev pub HasOwnCommonLine : List CommonRow → ℕ → List LoadedObject → List ℕ → Type 0
+HasOwnCommonLine rows base objects name =
+    find (is_common_row_of name) rows ≡ option_map (common_row_of base objects) (block_named objects name)
+
 pub record IsOwnMap (base : ℕ) (objects : List LoadedObject) (m : MapRecord) : Type 0 where
   pub objects_are : m.objects ≡ object_rows 0 objects
-  pub drops : m.drops ≡ []
-  pub places : m.places ≡ map place_row_of (own_in_load_order base objects)
-  pub commons : m.commons ≡ []
+  pub drops : m.drops ≡ drop_rows 0 objects
+  pub places : m.places ≡ map place_row_of (own_places base objects (kept_sections objects))
+  pub commons : (name : List ℕ) → HasOwnCommonLine m.commons base objects name
   pub got : m.got ≡ None
   pub slots : m.slots ≡ []
-  pub symbols : (name : List ℕ) → HasLine m.symbols objects (own_in_load_order base objects) name
+  pub symbols : (name : List ℕ) → HasLine m.symbols objects (own_where base objects) name
   pub ordered : IsOrdered m

@@ -1,9 +1,9 @@
 -- What a relocatable object file holds, and the faults of one (System V gABI 4). The accessors have a value for every list of bytes; that what they speak of is there is a fact of its own.
-use Rattle.std.specs.Prelude.{ℕ, Bool, ◌≡◌, ◌≢◌, ◌⊎◌, ◌<◌, ◌≤◌, ◌+◌, ◌*◌, ◌/◌, ◌%◌, ◌^◌, ◌==◌, List, [], ◌∷◌, Option, None, Some, length, map, take, slice_index_or, count_by, option_map, unwrap_or, if◌then◌else◌, ◌||◌}
+use Rattle.std.specs.Prelude.{ℕ, Bool, ◌≡◌, ◌≢◌, ◌⊎◌, ◌<◌, ◌≤◌, ◌+◌, ◌-◌, ◌*◌, ◌/◌, ◌%◌, ◌^◌, ◌==◌, List, [], ◌∷◌, Option, None, Some, length, map, filter, take, slice_index_or, count_by, option_map, unwrap_or, if◌then◌else◌, ◌||◌}
 use Rattle.std.specs.Int.{IsPowerOfTwo}
 use Rattle.std.specs.List.{All, Any, find, range_with_len, slice_get}
 use Rattle.std.specs.Option.{option_and_then}
-use Rattle.byteview.specs.Numbers.{HasText, part, text}
+use Rattle.byteview.specs.Numbers.{HasText, le, le_at, part, text}
 use Rattle.elf_model.specs.Records.{file_header, rela, section_header, symbol}
 use Rattle.elf_model.specs.declared.constants.TheConstants.{EM_X86_64, ET_REL, SHN_ABS, SHN_COMMON, SHN_LORESERVE, SHT_GROUP, SHT_NOBITS, SHT_NULL, SHT_REL, SHT_RELA, SHT_STRTAB, SHT_SYMTAB, SHT_SYMTAB_SHNDX}
 use Rattle.elf_model.specs.declared.faults.ObjFault.{ObjFault}
@@ -98,6 +98,37 @@ rela_symbol r = r.r_info / 2 ^ 32
 
 abbrev pub rela_type : Rela → ℕ
 rela_type r = r.r_info % 2 ^ 32
+
+-- a group of sections (gABI 4, "Section Groups"): the number of the GROUP section that lists it, its flags, its signature, and the numbers of its member sections in their order
+pub record Group : Type 0 where
+  pub section : ℕ
+  pub flags : ℕ
+  pub signature : List ℕ
+  pub members : List ℕ
+
+-- a GROUP section holds words of 4 bytes: the first is the group's flags, each other one the number of a member
+abbrev pub group_flags : List ℕ → SectionHeader → ℕ
+group_flags bytes s = le_at 4 bytes s.sh_offset
+
+abbrev pub group_members : List ℕ → SectionHeader → List ℕ
+group_members bytes s = entries le 4 bytes (s.sh_offset + 4) (s.sh_size / 4 - 1)
+
+-- the group that section number i lists; its signature is the name of symbol number sh_info
+abbrev pub group_at : List ℕ → List SectionHeader → (ℕ → List ℕ) → ℕ → Group
+group_at bytes ss symbol_names i = let s = section ss i in record {
+  section = i;
+  flags = group_flags bytes s;
+  signature = symbol_names s.sh_info;
+  members = group_members bytes s;
+}
+
+-- the groups of a file, in the order of their sections; symbol_names gives the name of each symbol by its number
+abbrev pub groups_of : List ℕ → List SectionHeader → (ℕ → List ℕ) → List Group
+groups_of bytes ss symbol_names =
+    map (group_at bytes ss symbol_names) (filter (λ i. (section ss i).sh_type == SHT_GROUP) (range_with_len 0 (length ss)))
+
+abbrev pub groups : List ℕ → List Group
+groups bytes = groups_of bytes (sections bytes) (λ j. unwrap_or (symbol_name bytes j) [])
 
 -- ELF of 64 bits, least significant byte first, version 1 (gABI 4, "ELF Identification")
 pub record IsElf64 (h : FileHeader) : Type 0 where
@@ -194,6 +225,36 @@ pub record HasGoodRelas (bytes : List ℕ) : Type 0 where
   pub tables : AreGoodRelaSections (sections bytes)
   pub entries : All (λ s. s.sh_type ≡ SHT_RELA → AreGoodRelas (length (symbols bytes)) (relas_of bytes s)) (sections bytes)
 
+-- a GROUP section's own header (profile: its sh_entsize is ignored)
+pub record IsGroupSection (ss : List SectionHeader) (s : SectionHeader) : Type 0 where
+  pub some : 0 < s.sh_size
+  pub whole : s.sh_size % 4 ≡ 0
+  pub symbols : LinksToSymbols ss s
+
+abbrev pub AreGoodGroupSections : List SectionHeader → Type 0
+AreGoodGroupSections ss = All (λ s. s.sh_type ≡ SHT_GROUP → IsGroupSection ss s) ss
+
+-- each group's signature names one of n symbols, which may be the null symbol
+abbrev pub HaveSignatures : ℕ → List SectionHeader → Type 0
+HaveSignatures n ss = All (λ s. s.sh_type ≡ SHT_GROUP → s.sh_info < n) ss
+
+-- section number k may be a member of a group (profile: it is there, isn't section 0, and is of no type SYMTAB, STRTAB or GROUP)
+pub record MayBeMember (ss : List SectionHeader) (k : ℕ) : Type 0 where
+  pub numbered : k ≢ 0
+  pub there : k < length ss
+  pub not_symbols : (section ss k).sh_type ≢ SHT_SYMTAB
+  pub not_strings : (section ss k).sh_type ≢ SHT_STRTAB
+  pub not_group : (section ss k).sh_type ≢ SHT_GROUP
+
+abbrev pub AreMembers : List SectionHeader → List ℕ → Type 0
+AreMembers ss members = All (MayBeMember ss) members
+
+-- the groups of a good file
+pub record HasGoodGroups (bytes : List ℕ) : Type 0 where
+  pub tables : AreGoodGroupSections (sections bytes)
+  pub signatures : HaveSignatures (length (symbols bytes)) (sections bytes)
+  pub members : All (λ s. s.sh_type ≡ SHT_GROUP → AreMembers (sections bytes) (group_members bytes s)) (sections bytes)
+
 -- every name is a NUL-ended text of its string table
 abbrev pub AreSectionsNamed : List ℕ → List SectionHeader → Type 0
 AreSectionsNamed strings ss = All (λ s. HasText strings s.sh_name) ss
@@ -222,6 +283,7 @@ pub record IsObject (bytes : List ℕ) : Type 0 where
   pub strings : AreNamed bytes
   pub symbols : HasGoodSymbols bytes
   pub relas : HasGoodRelas bytes
+  pub groups : HasGoodGroups bytes
   pub size : length bytes < 2 ^ 32
 
 -- section names can be read
@@ -251,6 +313,13 @@ pub record HasEntries (len : ℕ) (s : SectionHeader) : Type 0 where
   pub whole : s.sh_size % 24 ≡ 0
   pub inside : LiesInside len s
 
+-- the members that a GROUP section lists can be read
+pub record HasMembers (len : ℕ) (s : SectionHeader) : Type 0 where
+  pub group : s.sh_type ≡ SHT_GROUP
+  pub some : 0 < s.sh_size
+  pub whole : s.sh_size % 4 ≡ 0
+  pub inside : LiesInside len s
+
 -- a fault stands, by the header, the sections and the symbols of the bytes. Truncated excludes the others, and what a fault denies is judged by that fault alone.
 abbrev pub StandsIn : List ℕ → FileHeader → List SectionHeader → List Symbol → ObjFault → Type 0
 StandsIn bytes h ss symbols fault.Memory = Unit {0}
@@ -268,7 +337,10 @@ StandsIn bytes h ss symbols fault.BadSymbolTable =
 StandsIn bytes h ss symbols fault.BadRela =
     (HasTable (length bytes) h × (¬ AreGoodRelaSections ss))
     ⊎ (HasSymbols (length bytes) h ss × Any (λ s. HasEntries (length bytes) s × (¬ AreGoodRelas (length symbols) (relas_of bytes s))) ss)
-StandsIn bytes h ss symbols fault.BadGroup = ⊥
+StandsIn bytes h ss symbols fault.BadGroup =
+    (HasTable (length bytes) h × (¬ AreGoodGroupSections ss))
+    ⊎ (HasSymbols (length bytes) h ss × (¬ HaveSignatures (length symbols) ss))
+    ⊎ (HasTable (length bytes) h × (¬ All (λ s. HasMembers (length bytes) s → AreMembers ss (group_members bytes s)) ss))
 StandsIn bytes h ss symbols fault.TooMany = 2 ^ 32 ≤ length bytes
 
 -- a fault of the bytes as an object file

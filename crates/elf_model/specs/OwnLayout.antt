@@ -3,8 +3,9 @@
 use Rattle.std.specs.Prelude.{ℕ, ◌+◌, ◌-◌, ◌*◌, ◌/◌, ◌^◌, ◌<◌, ◌≤◌, ◌&&◌, Bool, true, not, cond, List, [], ◌∷◌, ◌++◌, All, filter, find, map, max, nat_lt, option_map, unwrap_or}
 use Rattle.std.specs.List.{flat_map, list_any}
 use Rattle.elf_model.specs.Loading.{LoadedObject}
-use Rattle.elf_model.specs.Pieces.{Piece, pieces, is_writable, is_executable, has_bytes, same_output}
-use Rattle.elf_model.specs.Placement.{Placed, is_of_section}
+use Rattle.elf_model.specs.Commons.{block_pieces, pieces}
+use Rattle.elf_model.specs.Pieces.{Piece, kept_sections, is_writable, is_executable, has_bytes, same_output}
+use Rattle.elf_model.specs.Placement.{Placed, Where, is_of_section}
 use Rattle.elf_model.specs.Relocation.{AllFit}
 use Rattle.elf_model.specs.declared.records.ProgramHeader.{ProgramHeader}
 
@@ -36,7 +37,8 @@ leaders (p ∷ ps) = p ∷ filter (λ q. not (same_output p q)) (leaders ps)
 abbrev pub grouped : List Piece → List Piece
 grouped ps = flat_map (λ p. filter (same_output p) ps) (leaders ps)
 
--- the pieces of each segment, in the order in which they stand; in RW those without bytes come last
+-- the pieces of each segment, in the order in which they stand; in RW those without bytes come last, and after them the
+-- common blocks
 abbrev pub is_read_only : Piece → Bool
 is_read_only p = not (is_writable p.header) && not (is_executable p.header)
 
@@ -50,13 +52,14 @@ abbrev pub is_zero : Piece → Bool
 is_zero p = is_writable p.header && not (has_bytes p)
 
 abbrev pub read_only_pieces : List LoadedObject → List Piece
-read_only_pieces objects = grouped (filter is_read_only (pieces objects))
+read_only_pieces objects = grouped (filter is_read_only (kept_sections objects))
 
 abbrev pub code_pieces : List LoadedObject → List Piece
-code_pieces objects = grouped (filter is_code (pieces objects))
+code_pieces objects = grouped (filter is_code (kept_sections objects))
 
 abbrev pub data_pieces : List LoadedObject → List Piece
-data_pieces objects = grouped (filter is_data (pieces objects)) ++ grouped (filter is_zero (pieces objects))
+data_pieces objects =
+    grouped (filter is_data (kept_sections objects)) ++ (grouped (filter is_zero (kept_sections objects)) ++ block_pieces objects)
 
 -- the program headers: PT_LOAD of R, of RX and of RW where a nonempty piece is there, PT_GNU_STACK
 abbrev pub is_nonempty : Piece → Bool
@@ -100,9 +103,16 @@ abbrev pub own_address : ℕ → List LoadedObject → Piece → ℕ
 own_address base objects p =
     unwrap_or (option_map (λ q. q.at) (find (is_of_section p.object p.section) (own_placed base objects))) 0
 
--- all pieces at their own addresses, in load order
+-- pieces at their own addresses, and all of them in load order, the kept sections before the blocks
+abbrev pub own_places : ℕ → List LoadedObject → List Piece → List Placed
+own_places base objects ps = map (λ p. record { at = own_address base objects p; piece = p }) ps
+
 abbrev pub own_in_load_order : ℕ → List LoadedObject → List Placed
-own_in_load_order base objects = map (λ p. record { at = own_address base objects p; piece = p }) (pieces objects)
+own_in_load_order base objects = own_places base objects (pieces objects)
+
+-- where things are by the own layout
+abbrev pub own_where : ℕ → List LoadedObject → Where
+own_where base objects = record { base = base; placed = own_in_load_order base objects }
 
 -- a segment runs to the greatest end of its nonempty pieces; its file part to that of those with bytes
 abbrev pub greatest_end : (Placed → Bool) → ℕ → List Placed → ℕ
@@ -152,4 +162,4 @@ pub record IsNotTooLarge (base : ℕ) (objects : List LoadedObject) : Type 0 whe
 
 -- Overflow does not stand: each kept relocation's value at the own addresses fits its field
 abbrev pub OwnValuesFit : ℕ → List LoadedObject → Type 0
-OwnValuesFit base objects = AllFit objects (own_in_load_order base objects)
+OwnValuesFit base objects = AllFit objects (own_where base objects)

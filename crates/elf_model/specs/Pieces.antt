@@ -1,34 +1,34 @@
--- Sections that are kept, as the pieces of which the output's memory is made (System V gABI 4,
+-- Sections that are kept, as pieces of which the output's memory is made (System V gABI 4,
 -- "Sections"; which kinds are lawful and the output names are the profile's).
-use Rattle.std.specs.Prelude.{◌≡◌, ℕ, ◌+◌, ◌==◌, ◌&&◌, ◌||◌, Bool, true, false, not, cond, List, [], ◌∷◌, ◌++◌, All, Contains, bit_and, codes, unwrap_or, max, find, nat_eq}
-use Rattle.std.specs.List.{starts_with}
+use Rattle.std.specs.Prelude.{◌≡◌, ℕ, ◌+◌, ◌==◌, ◌&&◌, ◌||◌, Bool, true, false, not, cond, List, [], ◌∷◌, ◌++◌, All, AllPairs, Contains, bit_and, codes, unwrap_or, max, find, nat_eq}
+use Rattle.std.specs.List.{list_any, starts_with}
 use Rattle.std.specs.Str.{bytes_eq}
-use Rattle.elf_model.specs.Loading.{LoadedObject}
+use Rattle.elf_model.specs.Loading.{LoadedObject, is_dropped}
 use Rattle.elf_model.specs.ObjectFile.{sections, section_name, section_bytes}
+use Rattle.elf_model.specs.declared.constants.TheConstants.{PF_R, PF_W, PF_X, SHF_ALLOC, SHF_EXECINSTR, SHF_GROUP, SHF_INFO_LINK, SHF_MERGE, SHF_STRINGS, SHF_TLS, SHF_WRITE, SHT_FINI_ARRAY, SHT_INIT_ARRAY, SHT_NOBITS, SHT_NOTE, SHT_PREINIT_ARRAY, SHT_PROGBITS, SHT_X86_64_UNWIND}
 use Rattle.elf_model.specs.declared.records.SectionHeader.{SectionHeader}
 
 -- a flag of sh_flags is set
 abbrev pub has_flag : ℕ → SectionHeader → Bool
 has_flag flag h = not (bit_and h.sh_flags flag == 0)
 
--- SHF_WRITE, SHF_ALLOC, SHF_EXECINSTR, SHF_TLS
 abbrev pub is_writable : SectionHeader → Bool
-is_writable h = has_flag 1 h
+is_writable h = has_flag SHF_WRITE h
 
 abbrev pub is_alloc : SectionHeader → Bool
-is_alloc h = has_flag 2 h
+is_alloc h = has_flag SHF_ALLOC h
 
 abbrev pub is_executable : SectionHeader → Bool
-is_executable h = has_flag 4 h
+is_executable h = has_flag SHF_EXECINSTR h
 
 abbrev pub is_thread_local : SectionHeader → Bool
-is_thread_local h = has_flag 0x400 h
+is_thread_local h = has_flag SHF_TLS h
 
--- SHT_NOBITS
+-- it takes up memory, and has no bytes in the file
 abbrev pub is_nobits : SectionHeader → Bool
-is_nobits h = h.sh_type == 8
+is_nobits h = h.sh_type == SHT_NOBITS
 
--- a piece of the output's memory: a kept section of an object
+-- a piece of the output's memory: a kept section of an object, or a common block (Commons)
 pub record Piece : Type 0 where
   pub object : ℕ
   pub section : ℕ
@@ -51,23 +51,27 @@ piece_of object bytes i h = record {
   bytes = unwrap_or (section_bytes bytes i) [];
 }
 
--- the kept sections of one object, from section number i on: those with SHF_ALLOC
-abbrev pub pieces_from : ℕ → List ℕ → ℕ → List SectionHeader → List Piece
-pieces_from object bytes i [] = []
-pieces_from object bytes i (h ∷ hs) =
-    cond (is_alloc h) (piece_of object bytes i h ∷ pieces_from object bytes (i + 1) hs) (pieces_from object bytes (i + 1) hs)
+-- section i of an object, which has the header, is kept: it has SHF_ALLOC, and it isn't dropped with its group
+abbrev pub is_kept : LoadedObject → ℕ → SectionHeader → Bool
+is_kept o i h = is_alloc h && not (is_dropped o i)
+
+-- the kept sections of one object, from section number i on
+abbrev pub pieces_from : ℕ → LoadedObject → ℕ → List SectionHeader → List Piece
+pieces_from object o i [] = []
+pieces_from object o i (h ∷ hs) =
+    cond (is_kept o i h) (piece_of object o.bytes i h ∷ pieces_from object o (i + 1) hs) (pieces_from object o (i + 1) hs)
 
 -- the kept sections of all objects from number k on, in load order
 abbrev pub pieces_of : ℕ → List LoadedObject → List Piece
 pieces_of k [] = []
-pieces_of k (o ∷ os) = pieces_from k o.bytes 0 (sections o.bytes) ++ pieces_of (k + 1) os
+pieces_of k (o ∷ os) = pieces_from k o 0 (sections o.bytes) ++ pieces_of (k + 1) os
 
-abbrev pub pieces : List LoadedObject → List Piece
-pieces objects = pieces_of 0 objects
+abbrev pub kept_sections : List LoadedObject → List Piece
+kept_sections objects = pieces_of 0 objects
 
--- the rights that a piece's segment has: X 1, W 2, R 4 in sum
+-- the rights that a piece's segment has
 abbrev pub rights_of : SectionHeader → ℕ
-rights_of h = cond (is_executable h) 5 (cond (is_writable h) 6 4)
+rights_of h = cond (is_executable h) (PF_R + PF_X) (cond (is_writable h) (PF_R + PF_W) PF_R)
 
 abbrev pub piece_rights : Piece → ℕ
 piece_rights p = rights_of p.header
@@ -76,18 +80,25 @@ piece_rights p = rights_of p.header
 abbrev pub has_bytes : Piece → Bool
 has_bytes p = not (is_nobits p.header)
 
--- the kind of a kept section is lawful (profile): type PROGBITS, NOTE, NOBITS, INIT_ARRAY, FINI_ARRAY,
--- PREINIT_ARRAY or X86_64_UNWIND; no flag but WRITE, ALLOC, EXECINSTR, MERGE, STRINGS, INFO_LINK, GROUP
--- and TLS; not both WRITE and EXECINSTR; TLS and NOBITS with WRITE alone
+-- the types of which a kept section may be, and the sum of the flags that it may have (profile)
+abbrev pub lawful_types : List ℕ
+lawful_types =
+    SHT_PROGBITS ∷ SHT_NOTE ∷ SHT_NOBITS ∷ SHT_INIT_ARRAY ∷ SHT_FINI_ARRAY ∷ SHT_PREINIT_ARRAY ∷ SHT_X86_64_UNWIND ∷ []
+
+abbrev pub lawful_flags : ℕ
+lawful_flags = SHF_WRITE + SHF_ALLOC + SHF_EXECINSTR + SHF_MERGE + SHF_STRINGS + SHF_INFO_LINK + SHF_GROUP + SHF_TLS
+
+-- the kind of a kept section is lawful (profile): a lawful type, no other flag; not both WRITE and EXECINSTR; TLS
+-- and NOBITS with WRITE only
 pub record IsLawfulKind (h : SectionHeader) : Type 0 where
-  pub type_ : Contains (1 ∷ 7 ∷ 8 ∷ 14 ∷ 15 ∷ 16 ∷ 0x70000001 ∷ []) h.sh_type
-  pub flags : bit_and h.sh_flags 0x677 ≡ h.sh_flags
+  pub type_ : Contains lawful_types h.sh_type
+  pub flags : bit_and h.sh_flags lawful_flags ≡ h.sh_flags
   pub not_both : (is_writable h && is_executable h) ≡ false
   pub thread_local : is_thread_local h ≡ true → is_writable h ≡ true
   pub nobits : is_nobits h ≡ true → is_writable h ≡ true
 
 abbrev pub AreLawfulKinds : List LoadedObject → Type 0
-AreLawfulKinds objects = All (λ p. IsLawfulKind p.header) (pieces objects)
+AreLawfulKinds objects = All (λ p. IsLawfulKind p.header) (kept_sections objects)
 
 -- Output sections (profile).
 
@@ -116,3 +127,16 @@ same_output p q =
     && same_bool (is_executable p.header) (is_executable q.header)
     && same_bool (is_thread_local p.header) (is_thread_local q.header)
     && same_bool (is_nobits p.header) (is_nobits q.header)
+
+-- a piece is of an output name
+abbrev pub is_of_output : List ℕ → Piece → Bool
+is_of_output name p = bytes_eq (output_name p.name) name
+
+-- there are kept sections of an output name
+abbrev pub has_output : List LoadedObject → List ℕ → Bool
+has_output objects name = list_any (is_of_output name) (kept_sections objects)
+
+-- those of an output name are all of one output section
+abbrev pub AreOneOutput : List LoadedObject → List ℕ → Type 0
+AreOneOutput objects name =
+    AllPairs (λ p q. is_of_output name p ≡ true → is_of_output name q ≡ true → same_output p q ≡ true) (kept_sections objects)

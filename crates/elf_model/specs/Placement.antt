@@ -1,8 +1,10 @@
 -- Where pieces lie in memory, and which rights they have there (System V gABI 5, "Program Loading"; the
 -- base, the page rule and the gaps are the profile's).
 use Rattle.std.specs.Prelude.{◌≡◌, ℕ, ◌+◌, ◌%◌, ◌^◌, ◌<◌, ◌≤◌, ◌==◌, ◌&&◌, Bool, true, false, cond, List, [], ◌∷◌, ◌++◌, Option, Some, None, All, AllPairs, Any, find, length, map, option_map, unwrap_or, slice_index_or}
+use Rattle.std.specs.Str.{bytes_eq}
+use Rattle.elf_model.specs.Commons.{Block, block_piece}
 use Rattle.elf_model.specs.Pieces.{Piece, piece_rights, has_bytes, same_output}
-use Rattle.elf_model.specs.MapRecord.{MapRecord, PlaceRow}
+use Rattle.elf_model.specs.MapRecord.{CommonRow, MapRecord, PlaceRow}
 use Rattle.elf_model.specs.MemoryImage.{loads, first_address, headers_size, Encloses}
 use Rattle.elf_model.specs.Resolution.{SymbolOf, is_absolute}
 use Rattle.elf_model.specs.declared.link_map.GotLine.{GotLine}
@@ -14,11 +16,29 @@ pub record Placed : Type 0 where
   pub at : ℕ
   pub piece : Piece
 
--- the pieces at the addresses that a map's place lines give, the k-th line for the k-th piece
+-- where things are: the base, and all pieces at their addresses, the kept sections and the common blocks
+pub record Where : Type 0 where
+  pub base : ℕ
+  pub placed : List Placed
+
+-- the kept sections at the addresses that a map's place lines give, the k-th line for the k-th section
 abbrev pub placed_by : List PlaceRow → List Piece → List Placed
 placed_by [] ps = []
 placed_by (row ∷ rows) [] = []
 placed_by (row ∷ rows) (p ∷ ps) = record { at = row.address; piece = p } ∷ placed_by rows ps
+
+-- the common blocks at the addresses that a map's common lines give by their names, 0 without one
+abbrev pub is_common_row_of : List ℕ → CommonRow → Bool
+is_common_row_of name row = bytes_eq row.name name
+
+abbrev pub common_address : List CommonRow → List ℕ → ℕ
+common_address rows name = unwrap_or (option_map (λ row. row.address) (find (is_common_row_of name) rows)) 0
+
+abbrev pub placed_block : List CommonRow → Block → Placed
+placed_block rows b = record { at = common_address rows b.name; piece = block_piece b }
+
+abbrev pub placed_blocks : List CommonRow → List Block → List Placed
+placed_blocks rows bs = map (placed_block rows) bs
 
 -- a piece at an address, as a thing that takes up memory
 abbrev pub thing_of : Placed → Thing
@@ -69,12 +89,12 @@ IsNext ps i j d =
     × (same_output (slice_index_or ps i d).piece (slice_index_or ps j d).piece ≡ true)
     × ((k : ℕ) → i < k → k < j → same_output (slice_index_or ps i d).piece (slice_index_or ps k d).piece ≡ false)
 
--- q stands behind p, with a gap smaller than q's own alignment
+-- q stands after p, with a gap smaller than q's own alignment
 pub record IsNear (p q : Placed) : Type 0 where
   pub behind : p.at + p.piece.size ≤ q.at
   pub close : q.at < (p.at + p.piece.size) + q.piece.align
 
--- where all things may lie
+-- where all things may lie; neighbours are asked of kept sections only
 pub record IsPlaced (base : ℕ) (ts : List Thing) (ps : List Placed) : Type 0 where
   pub aligned : All (λ t. t.at % t.align ≡ 0) ts
   pub within : All (IsWithin base) ts
@@ -91,10 +111,13 @@ pub record HasRights (base : ℕ) (segments : List ProgramHeader) (ts gots : Lis
   pub nonempty : All (λ t. 0 < t.size → LiesInSegment segments t) ts
   pub got : All (LiesInSegment segments) gots
 
--- the value of a symbol that is defined: an absolute one's st_value; else the address of its section plus
--- st_value, 0 where the section isn't kept
+-- the address of a section of an object, 0 where it isn't kept; and the value of a symbol that is defined: an absolute
+-- one's st_value; else the address of its section plus st_value, 0 where the section isn't kept
 abbrev pub is_of_section : ℕ → ℕ → Placed → Bool
 is_of_section object section q = q.piece.object == object && q.piece.section == section
+
+abbrev pub section_address : List Placed → ℕ → ℕ → ℕ
+section_address ps object section = unwrap_or (option_map (λ q. q.at) (find (is_of_section object section) ps)) 0
 
 abbrev pub symbol_value : List Placed → SymbolOf → ℕ
 symbol_value ps s =

@@ -1,15 +1,15 @@
 -- What this version links: the one predicate that holds back the rest; later versions drop conditions from
--- it. The second clause of a right link and the phases of the causes speak of it; and the third, seventh and
--- eighth clause, which ask for no drop and common lines, no GOT and no PT_TLS, lean on it.
+-- it. The second clause of a right link and the phases of the causes speak of it; and the seventh and the eighth
+-- clause, which ask for no GOT and no PT_TLS, lean on it.
 use Rattle.std.specs.Prelude.{◌≡◌, ◌≢◌, ◌⊎◌, ℕ, ◌≤◌, ◌==◌, ◌&&◌, Bool, true, false, not, List, [], ◌∷◌, None, All, codes, drop, filter, length, map, nat_eq, slice_index_or, unwrap_or}
 use Rattle.std.specs.List.{flat_map, list_any, starts_with}
-use Rattle.elf_model.specs.Command.{Plan}
-use Rattle.elf_model.specs.LinkerNames.{is_linker_name}
+use Rattle.elf_model.specs.LinkerNames.{is_later_name}
 use Rattle.elf_model.specs.Loading.{LoadedObject}
-use Rattle.elf_model.specs.ObjectFile.{name_of_section, null_symbol, rela_symbol, rela_type, relas_of, sections, symbol_name, symbols}
+use Rattle.elf_model.specs.ObjectFile.{name_of_section, null_symbol, rela_symbol, rela_type, relas_of, section, sections, symbol_name, symbols}
 use Rattle.elf_model.specs.Pieces.{is_alloc, is_thread_local}
-use Rattle.elf_model.specs.Relocation.{is_kept_rela, is_some_kind}
-use Rattle.elf_model.specs.Resolution.{binding, chosen, symbol_type, is_common}
+use Rattle.elf_model.specs.Relocation.{is_some_kind}
+use Rattle.elf_model.specs.Resolution.{binding, chosen, symbol_type}
+use Rattle.elf_model.specs.declared.constants.TheConstants.{SHT_RELA, STB_LOCAL, STT_TLS}
 use Rattle.elf_model.specs.declared.records.Rela.{Rela}
 use Rattle.elf_model.specs.declared.records.SectionHeader.{SectionHeader}
 use Rattle.elf_model.specs.declared.records.Symbol.{Symbol}
@@ -31,16 +31,14 @@ IsNumbered prefix name = (starts_with nat_eq name prefix ≡ true) × IsShortNum
 abbrev pub IsNumberedArray : List ℕ → Type 0
 IsNumberedArray name = IsNumbered (codes ".init_array.") name ⊎ IsNumbered (codes ".fini_array.") name
 
--- no WEAK or common symbol, none of type TLS
+-- none of type TLS
 pub record IsPlainSymbol (s : Symbol) : Type 0 where
-  pub not_weak : binding s ≢ 2
-  pub not_common : is_common s ≡ false
-  pub not_thread_local : symbol_type s ≢ 6
+  pub not_thread_local : symbol_type s ≢ STT_TLS
 
--- the types of the known kinds but for 64 (1), PC32 (2) and PLT32 (4)
+-- the types of the known kinds whose value is made of the GOT (3, 9, 25 to 29, 41, 42) or of the offset from the
+-- thread pointer (18, 22, 23)
 abbrev pub later_types : List ℕ
-later_types =
-    3 ∷ 9 ∷ 10 ∷ 11 ∷ 12 ∷ 13 ∷ 14 ∷ 15 ∷ 18 ∷ 22 ∷ 23 ∷ 24 ∷ 25 ∷ 26 ∷ 27 ∷ 28 ∷ 29 ∷ 32 ∷ 33 ∷ 41 ∷ 42 ∷ []
+later_types = 3 ∷ 9 ∷ 18 ∷ 22 ∷ 23 ∷ 25 ∷ 26 ∷ 27 ∷ 28 ∷ 29 ∷ 41 ∷ 42 ∷ []
 
 abbrev pub is_later_type : ℕ → Bool
 is_later_type t = list_any (λ k. k == t) later_types
@@ -51,42 +49,44 @@ pub record IsPlainRela (r : Rela) : Type 0 where
 pub record HasPlainRelas (bytes : List ℕ) (h : SectionHeader) : Type 0 where
   pub each : All IsPlainRela (relas_of bytes h)
 
--- no GROUP (17) section, no thread-local storage that is kept, no numbered array, and in a RELA section of a
--- kept one no relocation of a later kind
+-- a RELA section of one with SHF_ALLOC, which may be dropped
+abbrev pub is_alloc_rela : List ℕ → SectionHeader → Bool
+is_alloc_rela bytes h = h.sh_type == SHT_RELA && is_alloc (section (sections bytes) h.sh_info)
+
+-- no thread-local storage with SHF_ALLOC, no numbered array, and in a RELA section of one with SHF_ALLOC no
+-- relocation of a later kind
 pub record IsPlainSection (bytes : List ℕ) (h : SectionHeader) : Type 0 where
-  pub no_group : h.sh_type ≢ 17
   pub no_thread_storage : is_alloc h ≡ true → is_thread_local h ≡ false
   pub not_numbered : ¬ IsNumberedArray (name_of_section bytes h)
-  pub relas : is_kept_rela bytes h ≡ true → HasPlainRelas bytes h
+  pub relas : is_alloc_rela bytes h ≡ true → HasPlainRelas bytes h
 
 pub record IsPlainObject (bytes : List ℕ) : Type 0 where
   pub plain_sections : All (IsPlainSection bytes) (sections bytes)
   pub plain_symbols : All IsPlainSymbol (symbols bytes)
 
--- the names for which kept relocations of an object use symbols, where these are a linker's names, of symbols
--- that aren't LOCAL
+-- the names for which relocations of an object's sections with SHF_ALLOC use symbols that aren't LOCAL, where the
+-- linker is to define them in a later version
 abbrev pub used_symbol : List ℕ → Rela → Symbol
 used_symbol bytes r = slice_index_or (symbols bytes) (rela_symbol r) null_symbol
 
 abbrev pub used_name : List ℕ → Rela → List ℕ
 used_name bytes r = unwrap_or (symbol_name bytes (rela_symbol r)) []
 
-abbrev pub uses_linker_name : List ℕ → Rela → Bool
-uses_linker_name bytes r =
-    is_some_kind r && (not (binding (used_symbol bytes r) == 0) && is_linker_name (used_name bytes r))
+abbrev pub uses_later_name : List ℕ → Rela → Bool
+uses_later_name bytes r =
+    is_some_kind r && (not (binding (used_symbol bytes r) == STB_LOCAL) && is_later_name (used_name bytes r))
 
-abbrev pub linker_names_in : List ℕ → SectionHeader → List (List ℕ)
-linker_names_in bytes h = map (used_name bytes) (filter (uses_linker_name bytes) (relas_of bytes h))
+abbrev pub later_names_in : List ℕ → SectionHeader → List (List ℕ)
+later_names_in bytes h = map (used_name bytes) (filter (uses_later_name bytes) (relas_of bytes h))
 
-abbrev pub linker_names : List ℕ → List (List ℕ)
-linker_names bytes = flat_map (linker_names_in bytes) (filter (is_kept_rela bytes) (sections bytes))
+abbrev pub later_names : List ℕ → List (List ℕ)
+later_names bytes = flat_map (later_names_in bytes) (filter (is_alloc_rela bytes) (sections bytes))
 
--- an object uses no linker's name that no object defines
+-- an object uses no such name that no object defines
 pub record HasPlainNames (objects : List LoadedObject) (o : LoadedObject) : Type 0 where
-  pub defined : All (λ name. chosen objects name ≢ None) (linker_names o.bytes)
+  pub defined : All (λ name. chosen objects name ≢ None) (later_names o.bytes)
 
--- object files alone, plain ones, with names that objects define
-pub record IsInProfile (plan : Plan) (objects : List LoadedObject) : Type 0 where
-  pub no_archive : All (λ item. item.archive ≡ false) plan.items
+-- plain objects only, with names that objects define
+pub record IsInProfile (objects : List LoadedObject) : Type 0 where
   pub plain : All (λ o. IsPlainObject o.bytes) objects
   pub names : All (HasPlainNames objects) objects

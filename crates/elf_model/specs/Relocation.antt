@@ -1,15 +1,20 @@
 -- Relocations: the kinds, which entries are kept, what they refer to, their values and their fields (AMD64
 -- psABI 4.4, "Relocation"; ELF Handling For Thread-Local Storage for the kinds of the thread offset; the
 -- ranges of all kinds but 32 and 32S are the profile's).
-use Rattle.std.specs.Prelude.{◌≡◌, ◌≢◌, ◌⊎◌, ℕ, ℤ, pos, ◌+ℤ◌, ◌-ℤ◌, unsigned_abs, ◌+◌, ◌-◌, ◌*◌, ◌^◌, ◌<◌, ◌≤◌, ◌==◌, ◌&&◌, Bool, true, false, not, cond, List, [], ◌∷◌, ◌++◌, Option, Some, None, IsSome, IsSomeAnd, IfSome, All, AllPairs, filter, find, map, nat_le, nat_lt, option_map, slice_index_or, unwrap_or}
+use Rattle.std.specs.Prelude.{◌≡◌, ◌≢◌, ◌⊎◌, ℕ, ℤ, pos, ◌+ℤ◌, ◌-ℤ◌, unsigned_abs, ◌+◌, ◌-◌, ◌*◌, ◌^◌, ◌<◌, ◌≤◌, ◌==◌, ◌&&◌, Bool, true, false, not, cond, List, [], ◌∷◌, ◌++◌, Option, Some, None, IsSome, IsSomeAnd, IfSome, All, AllPairs, codes, filter, find, map, nat_le, nat_lt, option_map, slice_index_or, unwrap_or}
 use Rattle.std.specs.Int.{int_rem_euclid}
-use Rattle.std.specs.List.{flat_map}
 use Rattle.std.specs.Option.{option_map_or}
-use Rattle.elf_model.specs.Loading.{LoadedObject}
-use Rattle.elf_model.specs.ObjectFile.{null_symbol, rela_symbol, rela_type, relas_of, section, sections, symbol_name, symbols}
-use Rattle.elf_model.specs.Pieces.{is_alloc}
-use Rattle.elf_model.specs.Placement.{Placed, is_of_section, symbol_value}
-use Rattle.elf_model.specs.Resolution.{SymbolOf, binding, chosen, is_in_thread_section, is_undefined, section_of}
+use Rattle.std.specs.Str.{bytes_eq}
+use Rattle.elf_model.specs.Loading.{LoadedObject, is_dropped}
+use Rattle.elf_model.specs.ObjectFile.{null_symbol, rela_symbol, rela_type, relas_of, section, section_name, sections, symbols}
+use Rattle.elf_model.specs.Pieces.{AreOneOutput, is_alloc, is_kept}
+use Rattle.elf_model.specs.LinkerNames.{named_output}
+use Rattle.elf_model.specs.Meaning.{Common, Linker, Meaning, Symbol, is_in_thread_storage, meaning, meaning_size, meaning_value}
+use Rattle.elf_model.specs.Placement.{Where, section_address}
+use Rattle.elf_model.specs.Resolution.{SymbolOf, binding, is_undefined, section_of, symbol_of}
+use Rattle.elf_model.specs.declared.bound.Bound.{Bound}
+use Rattle.elf_model.specs.declared.bound.Bound.TheVariants.{OutputEnd, OutputStart}
+use Rattle.elf_model.specs.declared.constants.TheConstants.{SHT_RELA, STB_LOCAL, STB_WEAK}
 use Rattle.elf_model.specs.declared.records.Rela.{Rela}
 use Rattle.elf_model.specs.declared.records.SectionHeader.{SectionHeader}
 
@@ -80,51 +85,55 @@ kind_of number = find (λ k. k.number == number) kinds
 
 -- Which entries are kept.
 
--- an entry that relocates a section of an object: the object's number, the section's number and size, the
+-- an entry that relocates a section of an object: the object's number, the section's number, name and size, the
 -- entry, and the symbol that it names
 pub record Relocation : Type 0 where
   pub object : ℕ
   pub section : ℕ
+  pub name : List ℕ
   pub size : ℕ
   pub entry : Rela
   pub symbol : SymbolOf
 
 -- symbol number j of an object
-abbrev pub symbol_at : ℕ → List ℕ → ℕ → SymbolOf
-symbol_at object bytes j = record {
-  object = object;
-  number = j;
-  name = unwrap_or (symbol_name bytes j) [];
-  entry = slice_index_or (symbols bytes) j null_symbol;
-}
+abbrev pub symbol_at : ℕ → LoadedObject → ℕ → SymbolOf
+symbol_at object o j = symbol_of object o j (slice_index_or (symbols o.bytes) j null_symbol)
 
-abbrev pub relocation_of : ℕ → List ℕ → ℕ → Rela → Relocation
-relocation_of object bytes k r = record {
+abbrev pub relocation_of : ℕ → LoadedObject → ℕ → Rela → Relocation
+relocation_of object o k r = record {
   object = object;
   section = k;
-  size = (section (sections bytes) k).sh_size;
+  name = unwrap_or (section_name o.bytes k) [];
+  size = (section (sections o.bytes) k).sh_size;
   entry = r;
-  symbol = symbol_at object bytes (rela_symbol r);
+  symbol = symbol_at object o (rela_symbol r);
 }
 
 -- the entries of a RELA section of which the type isn't NONE
 abbrev pub is_some_kind : Rela → Bool
 is_some_kind r = not (rela_type r == 0)
 
-abbrev pub relocations_in : ℕ → List ℕ → SectionHeader → List Relocation
-relocations_in object bytes h = map (relocation_of object bytes h.sh_info) (filter is_some_kind (relas_of bytes h))
+abbrev pub relocations_in : ℕ → LoadedObject → SectionHeader → List Relocation
+relocations_in object o h = map (relocation_of object o h.sh_info) (filter is_some_kind (relas_of o.bytes h))
 
--- a RELA section whose own section is kept
-abbrev pub is_kept_rela : List ℕ → SectionHeader → Bool
-is_kept_rela bytes h = h.sh_type == 4 && is_alloc (section (sections bytes) h.sh_info)
+-- section i of an object, which has the header, is a RELA section that isn't dropped and relocates a kept one
+abbrev pub is_kept_rela : LoadedObject → ℕ → SectionHeader → Bool
+is_kept_rela o i h =
+    h.sh_type == SHT_RELA && (not (is_dropped o i) && is_kept o h.sh_info (section (sections o.bytes) h.sh_info))
 
-abbrev pub relocations_from : ℕ → List ℕ → List Relocation
-relocations_from object bytes = flat_map (relocations_in object bytes) (filter (is_kept_rela bytes) (sections bytes))
+-- the kept relocations of one object, from section number i on
+abbrev pub relocations_behind : ℕ → LoadedObject → ℕ → List SectionHeader → List Relocation
+relocations_behind object o i [] = []
+relocations_behind object o i (h ∷ hs) =
+    cond (is_kept_rela o i h) (relocations_in object o h) [] ++ relocations_behind object o (i + 1) hs
+
+abbrev pub relocations_from : ℕ → LoadedObject → List Relocation
+relocations_from object o = relocations_behind object o 0 (sections o.bytes)
 
 -- the kept relocations of all objects from number k on, in load order
 abbrev pub relocations_of : ℕ → List LoadedObject → List Relocation
 relocations_of k [] = []
-relocations_of k (o ∷ os) = relocations_from k o.bytes ++ relocations_of (k + 1) os
+relocations_of k (o ∷ os) = relocations_from k o ++ relocations_of (k + 1) os
 
 abbrev pub relocations : List LoadedObject → List Relocation
 relocations objects = relocations_of 0 objects
@@ -132,30 +141,47 @@ relocations objects = relocations_of 0 objects
 -- What a relocation refers to.
 
 abbrev pub is_local : SymbolOf → Bool
-is_local s = binding s.entry == 0
+is_local s = binding s.entry == STB_LOCAL
 
--- the definition that a relocation uses: its name's chosen one, or the symbol itself where that is LOCAL
-abbrev pub definition_of : List LoadedObject → SymbolOf → Option SymbolOf
-definition_of objects s = cond (is_local s) (cond (is_undefined s.entry) None (Some s)) (chosen objects s.name)
+-- what a relocation uses: the meaning of its name, or the symbol itself where that is LOCAL
+abbrev pub definition_of : List LoadedObject → SymbolOf → Option Meaning
+definition_of objects s = cond (is_local s) (cond (is_undefined s.entry) None (Some (Symbol s))) (meaning objects s.name)
 
 -- a reference without a definition; symbol number 0 stands for none, and a WEAK one needs none
 abbrev pub IsUndefined : List LoadedObject → SymbolOf → Type 0
-IsUndefined objects s = (s.number ≢ 0) × (binding s.entry ≢ 2) × (definition_of objects s ≡ None)
+IsUndefined objects s = (s.number ≢ 0) × (binding s.entry ≢ STB_WEAK) × (definition_of objects s ≡ None)
 
--- it names a LOCAL symbol of a section that isn't kept
+-- it relocates .eh_frame and names a symbol of a dropped section: the frames of what is dropped stand there, unedited
+abbrev pub is_frame_of_dropped : Relocation → Bool
+is_frame_of_dropped r = r.symbol.dropped && bytes_eq r.name (codes ".eh_frame")
+
+-- it names a LOCAL symbol of a section that isn't kept, and isn't such a frame's
 abbrev pub RefersToDropped : List LoadedObject → Relocation → Type 0
 RefersToDropped objects r =
-    (is_local r.symbol ≡ true) × IsSomeAnd (section_of objects r.symbol) (λ h. is_alloc h ≡ false)
+    (is_local r.symbol ≡ true)
+    × (is_frame_of_dropped r ≡ false)
+    × IsSomeAnd (section_of objects r.symbol) (λ h. (is_alloc h && not r.symbol.dropped) ≡ false)
 
--- the definition that it uses stands in a section with SHF_TLS
+-- what it uses stands in a section with SHF_TLS
 abbrev pub is_thread_local_use : List LoadedObject → Relocation → Bool
-is_thread_local_use objects r = option_map_or (is_in_thread_section objects) (definition_of objects r.symbol) false
+is_thread_local_use objects r = option_map_or (is_in_thread_storage objects) (definition_of objects r.symbol) false
+
+-- It uses a name of the linker's for where the sections of an output name begin or end, and these are of several
+-- output sections.
+abbrev pub IsMixedBound : List LoadedObject → List ℕ → Bound → Type 0
+IsMixedBound objects name OutputStart = ¬ AreOneOutput objects (named_output name)
+IsMixedBound objects name OutputEnd = ¬ AreOneOutput objects (named_output name)
+IsMixedBound objects name _ = ⊥
+
+abbrev pub IsMixed : List LoadedObject → Meaning → Type 0
+IsMixed objects (Symbol s) = ⊥
+IsMixed objects (Common b) = ⊥
+IsMixed objects (Linker name bound) = IsMixedBound objects name bound
+
+abbrev pub RefersToMixed : List LoadedObject → Relocation → Type 0
+RefersToMixed objects r = IsSomeAnd (definition_of objects r.symbol) (IsMixed objects)
 
 -- Values.
-
--- the address of section k of an object, 0 where it isn't kept
-abbrev pub section_address : List Placed → ℕ → ℕ → ℕ
-section_address ps object k = unwrap_or (option_map (λ q. q.at) (find (is_of_section object k) ps)) 0
 
 -- what the letters of the formulas stand for, but GT, which is G of its own slot. There is no GOT and no thread
 -- storage in the profile, and no kind that speaks of them.
@@ -183,14 +209,14 @@ whole_value GT+GOT+A-P x = (pos (x.g + x.got) +ℤ x.a) -ℤ pos x.p
 abbrev pub modulo_64 : ℤ → ℕ
 modulo_64 v = unsigned_abs (int_rem_euclid v (pos (2 ^ 64)))
 
-abbrev pub terms_of : List LoadedObject → List Placed → Relocation → Terms
-terms_of objects ps r = record {
-  s = unwrap_or (option_map (symbol_value ps) (definition_of objects r.symbol)) 0;
+abbrev pub terms_of : List LoadedObject → Where → Relocation → Terms
+terms_of objects w r = record {
+  s = unwrap_or (option_map (meaning_value w) (definition_of objects r.symbol)) 0;
   a = r.entry.r_addend;
-  p = section_address ps r.object r.section + r.entry.r_offset;
+  p = section_address w.placed r.object r.section + r.entry.r_offset;
   g = 0;
   got = 0;
-  z = unwrap_or (option_map (λ d. d.entry.st_size) (definition_of objects r.symbol)) 0;
+  z = unwrap_or (option_map meaning_size (definition_of objects r.symbol)) 0;
   t = pos 0;
 }
 
@@ -198,9 +224,9 @@ abbrev pub relocation_kind : Relocation → Option Kind
 relocation_kind r = kind_of (rela_type r.entry)
 
 -- the value of a relocation, 0 for one of no kind
-abbrev pub value_of : List LoadedObject → List Placed → Relocation → ℕ
-value_of objects ps r =
-    unwrap_or (option_map (λ k. modulo_64 (whole_value k.formula (terms_of objects ps r))) (relocation_kind r)) 0
+abbrev pub value_of : List LoadedObject → Where → Relocation → ℕ
+value_of objects w r =
+    unwrap_or (option_map (λ k. modulo_64 (whole_value k.formula (terms_of objects w r))) (relocation_kind r)) 0
 
 -- a value of 64 bits fits a field of n bits
 abbrev pub IsSigned : ℕ → ℕ → Type 0
@@ -212,8 +238,8 @@ IsInRange Signed n v = IsSigned n v
 IsInRange Unsigned n v = v < 2 ^ n
 IsInRange Either n v = (v < 2 ^ n) ⊎ IsSigned n v
 
-abbrev pub Fits : List LoadedObject → List Placed → Relocation → Type 0
-Fits objects ps r = IfSome (relocation_kind r) (λ k. IsInRange k.range (8 * k.width) (value_of objects ps r))
+abbrev pub Fits : List LoadedObject → Where → Relocation → Type 0
+Fits objects w r = IfSome (relocation_kind r) (λ k. IsInRange k.range (8 * k.width) (value_of objects w r))
 
 -- Fields.
 
@@ -245,18 +271,19 @@ IsMismatch _ inside = inside ≡ true
 abbrev pub IsThreadMismatch : List LoadedObject → Relocation → Type 0
 IsThreadMismatch objects r = IsSomeAnd (relocation_kind r) (λ k. IsMismatch k.formula (is_thread_local_use objects r))
 
--- What is asked of kept relocations: of each a known kind, a lawful symbol, a kind for what that symbol is, and
--- a field inside its section; fields that are apart; and values that fit.
+-- What is asked of kept relocations: of each a known kind, a lawful symbol, a kind for what that symbol is, a field
+-- inside its section, and no bound of several output sections; fields that are apart; and values that fit.
 pub record IsLawfulRelocation (objects : List LoadedObject) (r : Relocation) : Type 0 where
   pub known : IsSome (relocation_kind r)
   pub defined : ¬ IsUndefined objects r.symbol
   pub kept : ¬ RefersToDropped objects r
   pub thread : ¬ IsThreadMismatch objects r
   pub inside : IsFieldInside r
+  pub unmixed : ¬ RefersToMixed objects r
 
 pub record AreLawfulRelocations (objects : List LoadedObject) : Type 0 where
   pub each : All (IsLawfulRelocation objects) (relocations objects)
   pub apart : AllPairs AreFieldsApart (relocations objects)
 
-abbrev pub AllFit : List LoadedObject → List Placed → Type 0
-AllFit objects ps = All (Fits objects ps) (relocations objects)
+abbrev pub AllFit : List LoadedObject → Where → Type 0
+AllFit objects w = All (Fits objects w) (relocations objects)

@@ -1,23 +1,32 @@
 -- What a right link is: thirteen clauses on the files, the words, the image and the map (System V gABI 4 and
 -- 5; which links are in the profile, and what fills gaps, is the profile's). None of them says how a linker
 -- lays anything out.
-use Rattle.std.specs.Prelude.{◌≡◌, ℕ, ◌+◌, ◌<◌, ◌≤◌, ◌==◌, true, cond, List, [], ◌∷◌, Option, Some, None, Ok, All, Any, find, length, map, option_map, slice_index, IsSomeAnd}
+use Rattle.std.specs.Prelude.{◌≡◌, ℕ, ◌+◌, ◌<◌, ◌≤◌, ◌==◌, true, cond, List, [], ◌∷◌, Option, Some, None, Ok, All, Any, find, length, map, option_map, slice_index, IsSomeAnd, Bool, ◌&&◌, ◌++◌}
 use Rattle.std.specs.Str.{bytes_eq}
 use Rattle.elf_model.specs.Command.{Plan, command_of}
 use Rattle.elf_model.specs.Files.{File}
-use Rattle.elf_model.specs.Loading.{LoadedObject, loaded_objects, AreFilesThere, AreObjects}
-use Rattle.elf_model.specs.MapRecord.{MapRecord, ObjectRow, PlaceRow, SymbolRow}
+use Rattle.elf_model.specs.Listing.{listed}
+use Rattle.elf_model.specs.Loading.{LoadedObject, is_dropped, loaded_objects, AreObjects, HaveLawfulGroups}
+use Rattle.elf_model.specs.Commons.{Block, block_named, blocks}
+use Rattle.elf_model.specs.MapRecord.{CommonRow, MapRecord, ObjectRow, PlaceRow, SymbolRow}
 use Rattle.elf_model.specs.MapText.{text, IsMap}
+use Rattle.elf_model.specs.Meaning as Meaning
+use Rattle.elf_model.specs.Meaning.{Meaning, Symbol, meaning_name, meaning_value, object_meaning}
 use Rattle.elf_model.specs.MemoryImage.{IsImage, Cell, memory_of, loads, thread_blocks, Encloses}
-use Rattle.elf_model.specs.Pieces.{Piece, pieces, AreLawfulKinds}
-use Rattle.elf_model.specs.Placement.{Placed, placed_by, things, got_things, Covers, IsPlaced, HasRights, symbol_value}
+use Rattle.elf_model.specs.Opening.{AreArchives, AreFilesThere, HaveIndexes, opened}
+use Rattle.elf_model.specs.ObjectFile.{sections}
+use Rattle.elf_model.specs.Pieces.{Piece, is_alloc, kept_sections, AreLawfulKinds}
+use Rattle.elf_model.specs.Placement.{Placed, Where, is_common_row_of, placed_blocks, placed_by, things, got_things, Covers, IsPlaced, HasRights}
 use Rattle.elf_model.specs.Profile.{IsInProfile}
 use Rattle.elf_model.specs.Records.{file_header}
 use Rattle.elf_model.specs.Relocation.{AllFit, AreLawfulRelocations}
-use Rattle.elf_model.specs.Resolution.{SymbolOf, chosen, AreUnique, AreSoundSymbols, IsEntry}
+use Rattle.elf_model.specs.Resolution.{SymbolOf, is_weak, AreSoundCommons, AreUnique, AreSoundSymbols, IsEntry}
 use Rattle.elf_model.specs.WantedBytes.{wanted_byte}
-use Rattle.elf_model.specs.declared.link_map.Definition.TheVariants.{Strong}
+use Rattle.elf_model.specs.declared.link_map.Definition.{Definition}
+use Rattle.elf_model.specs.declared.link_map.DropLine.{DropLine}
+use Rattle.elf_model.specs.declared.link_map.Definition.TheVariants.{Common, Linker, Strong, Weak}
 use Rattle.elf_model.specs.declared.records.ProgramHeader.{ProgramHeader}
+use Rattle.elf_model.specs.declared.records.SectionHeader.{SectionHeader}
 use Rattle.elf_model.specs.declared.thing.Thing.{Thing}
 use Rattle.elf_model.specs.declared.verdict.Clause.{Clause}
 use Rattle.elf_model.specs.declared.verdict.Clause.TheVariants.{C1, C2, C3, C4, C5, C6, C7, C8, C9, C10, C11, C12, C13}
@@ -32,8 +41,14 @@ pub record Subject : Type 0 where
 abbrev pub objects_of : Subject → List LoadedObject
 objects_of s = loaded_objects s.files s.plan
 
+abbrev pub sections_of : Subject → List Placed
+sections_of s = placed_by s.map.places (kept_sections (objects_of s))
+
 abbrev pub placed_of : Subject → List Placed
-placed_of s = placed_by s.map.places (pieces (objects_of s))
+placed_of s = sections_of s ++ placed_blocks s.map.commons (blocks (objects_of s))
+
+abbrev pub where_of : Subject → Where
+where_of s = record { base = s.plan.base; placed = placed_of s }
 
 abbrev pub things_of : Subject → List Thing
 things_of s = things s.image s.map (placed_of s)
@@ -44,19 +59,36 @@ pub record IsRead (words : List (List ℕ)) (bytes : List ℕ) (s : Subject) : T
   pub map : IsMap s.map
   pub spelled : bytes ≡ text s.map
 
--- C2. The files are there and are objects in the profile, and the map's objects are those loaded, in order.
+-- C2. The files are there, the archives can be searched, what is loaded are objects in the profile, and the map's
+-- objects are those loaded, in order.
 abbrev pub object_rows : ℕ → List LoadedObject → List ObjectRow
 object_rows k [] = []
 object_rows k (o ∷ os) = record { object = k; item = o.item; offset = o.offset; path = o.path } ∷ object_rows (k + 1) os
 
 pub record IsLoaded (s : Subject) : Type 0 where
   pub files : AreFilesThere s.files s.plan
+  pub archives : AreArchives (opened s.files s.plan)
+  pub indexes : HaveIndexes (opened s.files s.plan)
   pub objects : AreObjects (objects_of s)
-  pub profile : IsInProfile s.plan (objects_of s)
+  pub groups : HaveLawfulGroups (objects_of s)
+  pub profile : IsInProfile (objects_of s)
   pub rows : s.map.objects ≡ object_rows 0 (objects_of s)
 
--- C3. Kept sections have lawful kinds, and the drop, place and common lines are exactly the dropped
--- sections, the kept ones and the common blocks, but for addresses. Nothing is dropped or common in the profile.
+-- C3. Kept sections have lawful kinds, common symbols are sound, and the drop, place and common lines are exactly the
+-- dropped sections with SHF_ALLOC, the kept ones and the common blocks, but for addresses; the common ones name by name.
+abbrev pub is_dropped_line : LoadedObject → ℕ → SectionHeader → Bool
+is_dropped_line o i h = is_alloc h && is_dropped o i
+
+-- the lines of one object, the number k, from section number i on
+abbrev pub drops_from : ℕ → LoadedObject → ℕ → List SectionHeader → List DropLine
+drops_from k o i [] = []
+drops_from k o i (h ∷ hs) =
+    cond (is_dropped_line o i h) (record { object = k; section = i } ∷ drops_from k o (i + 1) hs) (drops_from k o (i + 1) hs)
+
+abbrev pub drop_rows : ℕ → List LoadedObject → List DropLine
+drop_rows k [] = []
+drop_rows k (o ∷ os) = drops_from k o 0 (sections o.bytes) ++ drop_rows (k + 1) os
+
 pub record SectionFacts : Type 0 where
   pub object : ℕ
   pub section : ℕ
@@ -69,11 +101,28 @@ facts_of_row row = record { object = row.object; section = row.section; size = r
 abbrev pub facts_of_piece : Piece → SectionFacts
 facts_of_piece p = record { object = p.object; section = p.section; size = p.size; name = p.name }
 
+-- what a common line says but for its address
+pub record CommonFacts : Type 0 where
+  pub name : List ℕ
+  pub size : ℕ
+  pub align : ℕ
+
+abbrev pub facts_of_common : CommonRow → CommonFacts
+facts_of_common row = record { name = row.name; size = row.size; align = row.align }
+
+abbrev pub facts_of_block : Block → CommonFacts
+facts_of_block b = record { name = b.name; size = b.size; align = b.align }
+
+abbrev pub HasCommonLine : List CommonRow → List LoadedObject → List ℕ → Type 0
+HasCommonLine rows objects name =
+    option_map facts_of_common (find (is_common_row_of name) rows) ≡ option_map facts_of_block (block_named objects name)
+
 pub record AreSectionsListed (s : Subject) : Type 0 where
   pub kinds : AreLawfulKinds (objects_of s)
-  pub drops : s.map.drops ≡ []
-  pub places : map facts_of_row s.map.places ≡ map facts_of_piece (pieces (objects_of s))
-  pub commons : s.map.commons ≡ []
+  pub sound : AreSoundCommons (objects_of s)
+  pub drops : s.map.drops ≡ drop_rows 0 (objects_of s)
+  pub places : map facts_of_row s.map.places ≡ map facts_of_piece (kept_sections (objects_of s))
+  pub commons : (name : List ℕ) → HasCommonLine s.map.commons (objects_of s) name
 
 -- C4. The image is one that a loader maps (`IsImage`).
 -- C5. Pieces, GOT and headers are aligned, within the addresses, and apart (`IsPlaced`).
@@ -91,14 +140,14 @@ IsThreadBlockRight s = thread_blocks s.image ≡ []
 -- C9. Each kept relocation is lawful, and its value fits its field.
 pub record AreRelocationsRight (s : Subject) : Type 0 where
   pub lawful : AreLawfulRelocations (objects_of s)
-  pub fits : AllFit (objects_of s) (placed_of s)
+  pub fits : AllFit (objects_of s) (where_of s)
 
 -- C10. Memory holds each piece: at each of its addresses the byte that is wanted there.
 abbrev pub byte_at : List ℕ → ℕ → Option ℕ
 byte_at image a = option_map (λ c. c.byte) (memory_of image a)
 
-pub record HoldsPiece (objects : List LoadedObject) (ps : List Placed) (image : List ℕ) (q : Placed) : Type 0 where
-  pub bytes : (k : ℕ) → k < q.piece.size → byte_at image (q.at + k) ≡ Some (wanted_byte objects ps q.piece k)
+pub record HoldsPiece (objects : List LoadedObject) (w : Where) (image : List ℕ) (q : Placed) : Type 0 where
+  pub bytes : (k : ℕ) → k < q.piece.size → byte_at image (q.at + k) ≡ Some (wanted_byte objects w q.piece k)
 
 -- C11. Each mapped byte outside all things is fill: 0x90 where it may be executed, else 0.
 abbrev pub fill_of : ℕ → ℕ
@@ -136,21 +185,26 @@ pub record HasNothingElse (image : List ℕ) (ts : List Thing) : Type 0 where
 abbrev pub EntersRight : Subject → Type 0
 EntersRight s =
     IsEntry (objects_of s) s.plan.entry
-    × IsSomeAnd (chosen (objects_of s) s.plan.entry) (λ d. (file_header s.image).e_entry ≡ symbol_value (placed_of s) d)
+    × IsSomeAnd (object_meaning (objects_of s) s.plan.entry) (λ d. (file_header s.image).e_entry ≡ meaning_value (where_of s) d)
 
--- C13. Symbols are sound, no name has two strong definitions, and the symbol lines are exactly the chosen
--- definitions, with their values: each name has the line that its chosen definition asks for, or none.
-abbrev pub symbol_row_of : List Placed → SymbolOf → SymbolRow
-symbol_row_of ps d = record { address = symbol_value ps d; definition = Strong d.object d.number; name = d.name }
+-- C13. Symbols are sound, no name has two strong definitions, and the symbol lines are exactly the definitions of the
+-- names that objects define, and of the linker's names that kept relocations use, with their values: each name has
+-- the line that its definition asks for, or none.
+abbrev pub definition_row : Meaning → Definition
+definition_row (Symbol d) = cond (is_weak d.entry) (Weak d.object d.number) (Strong d.object d.number)
+definition_row (Meaning.Common b) = Common
+definition_row (Meaning.Linker name bound) = Linker
 
-abbrev pub HasLine : List SymbolRow → List LoadedObject → List Placed → List ℕ → Type 0
-HasLine rows objects ps name =
-    find (λ row. bytes_eq row.name name) rows ≡ option_map (symbol_row_of ps) (chosen objects name)
+abbrev pub symbol_row_of : Where → Meaning → SymbolRow
+symbol_row_of w d = record { address = meaning_value w d; definition = definition_row d; name = meaning_name d }
+
+abbrev pub HasLine : List SymbolRow → List LoadedObject → Where → List ℕ → Type 0
+HasLine rows objects w name = find (λ row. bytes_eq row.name name) rows ≡ option_map (symbol_row_of w) (listed objects name)
 
 pub record AreSymbolsListed (s : Subject) : Type 0 where
   pub sound : AreSoundSymbols (objects_of s)
   pub unique : AreUnique (objects_of s)
-  pub lines : (name : List ℕ) → HasLine s.map.symbols (objects_of s) (placed_of s) name
+  pub lines : (name : List ℕ) → HasLine s.map.symbols (objects_of s) (where_of s) name
 
 -- The clauses by number. The first is what makes a subject of words and text, so it holds of each.
 abbrev pub Holds : Clause → Subject → Type 0
@@ -158,12 +212,12 @@ Holds C1 s = Unit {0}
 Holds C2 s = IsLoaded s
 Holds C3 s = AreSectionsListed s
 Holds C4 s = IsImage s.image
-Holds C5 s = IsPlaced s.plan.base (things_of s) (placed_of s)
+Holds C5 s = IsPlaced s.plan.base (things_of s) (sections_of s)
 Holds C6 s = HasRights s.plan.base (loads s.image) (things_of s) (got_things s.map.got)
 Holds C7 s = IsGotRight s
 Holds C8 s = IsThreadBlockRight s
 Holds C9 s = AreRelocationsRight s
-Holds C10 s = All (HoldsPiece (objects_of s) (placed_of s) s.image) (placed_of s)
+Holds C10 s = All (HoldsPiece (objects_of s) (where_of s) s.image) (placed_of s)
 Holds C11 s = HasNothingElse s.image (things_of s)
 Holds C12 s = EntersRight s
 Holds C13 s = AreSymbolsListed s

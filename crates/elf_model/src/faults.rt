@@ -2,6 +2,8 @@
 ghost use Rattle.std.specs.Prelude.{◌≡◌};
 ghost use Rattle.elf_model.specs.declared.faults.CmdFault.TheVariants as cmd_fault;
 ghost use Rattle.elf_model.specs.declared.faults.ObjFault.TheVariants as obj_fault;
+ghost use Rattle.elf_model.specs.declared.faults.ArFault.TheVariants as ar_fault;
+ghost use Rattle.elf_model.specs.declared.faults.GroupFault.TheVariants as group_fault;
 ghost use Rattle.elf_model.specs.declared.faults.LoadFault.TheVariants as load_fault;
 ghost use Rattle.elf_model.specs.declared.faults.MapFault.TheVariants as map_fault;
 ghost use Rattle.elf_model.specs.declared.faults.LinkError.TheVariants as link_error;
@@ -57,6 +59,38 @@ pub enum ObjFault {
     TooMany,
 }
 
+/// Why bytes are no archive of this profile (docs/PROFILE.md).
+#[derive(Clone, Copy, Debug, Error)]
+pub enum ArFault {
+    #[error("Memory (1)")]
+    Memory,
+    #[error("NotArchive (2)")]
+    NotArchive,
+    #[error("Truncated (3)")]
+    Truncated,
+    #[error("BadHeader (4)")]
+    BadHeader,
+    #[error("BadIndex (5)")]
+    BadIndex,
+    #[error("BadName (6)")]
+    BadName,
+    #[error("TooMany (7)")]
+    TooMany,
+}
+
+/// Why the groups of sections of an object are refused (docs/PROFILE.md).
+#[derive(Clone, Copy, Debug, Error)]
+pub enum GroupFault {
+    #[error("Memory (1)")]
+    Memory,
+    #[error("NamelessSignature (2)")]
+    NamelessSignature,
+    #[error("BadFlags (3)")]
+    BadFlags,
+    #[error("TwoGroups (4)")]
+    TwoGroups,
+}
+
 /// Why bytes are no executable that a loader of this profile maps.
 #[derive(Clone, Copy, Debug, Error)]
 pub enum LoadFault {
@@ -92,8 +126,14 @@ pub enum LinkError {
     FileMissing,
     #[error("BadObject (4): {0}")]
     BadObject(ObjFault),
+    #[error("BadArchive (5): {0}")]
+    BadArchive(ArFault),
+    #[error("NoIndex (6)")]
+    NoIndex,
     #[error("SectionKind (7)")]
     SectionKind,
+    #[error("BadGroup (8): {0}")]
+    BadGroup(GroupFault),
     #[error("Duplicate (9)")]
     Duplicate(Vec<u8>),
     #[error("Undefined (10)")]
@@ -110,8 +150,12 @@ pub enum LinkError {
     Overflow,
     #[error("TlsMismatch (16)")]
     TlsMismatch,
+    #[error("BadCommon (17)")]
+    BadCommon,
     #[error("NoEntry (18)")]
     NoEntry,
+    #[error("MixedSection (19)")]
+    MixedSection,
     #[error("TooLarge (20)")]
     TooLarge,
     #[error("BadSymbol (21)")]
@@ -141,6 +185,38 @@ impl From<AllocError> for ObjFault {
 
     fn from(_error: AllocError) -> ObjFault {
         ObjFault::Memory
+    }
+}
+
+impl From<AllocError> for ArFault {
+    ghost from_gives = { λ _ fault. fault ≡ ar_fault.Memory };
+
+    fn from(_error: AllocError) -> ArFault {
+        ArFault::Memory
+    }
+}
+
+impl<T: Drop> From<AllocFailed<T>> for ArFault {
+    ghost from_gives = { λ _ fault. fault ≡ ar_fault.Memory };
+
+    fn from(_error: AllocFailed<T>) -> ArFault {
+        ArFault::Memory
+    }
+}
+
+impl From<AllocError> for GroupFault {
+    ghost from_gives = { λ _ fault. fault ≡ group_fault.Memory };
+
+    fn from(_error: AllocError) -> GroupFault {
+        GroupFault::Memory
+    }
+}
+
+impl<T: Drop> From<AllocFailed<T>> for GroupFault {
+    ghost from_gives = { λ _ fault. fault ≡ group_fault.Memory };
+
+    fn from(_error: AllocFailed<T>) -> GroupFault {
+        GroupFault::Memory
     }
 }
 

@@ -1,3 +1,5 @@
+//! A file as the program read it.
+
 /// A file as the program read it: its name as the command spells it, and all its bytes.
 #[derive(Debug, Drop)]
 pub struct InputFile {

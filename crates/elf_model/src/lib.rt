@@ -2,6 +2,7 @@
 //! that name parts of a link, the link map, and the files that a link reads.
 #![tactic(auto)]
 
+mod bound;
 mod constants;
 mod faults;
 mod fields;
@@ -13,6 +14,7 @@ mod references;
 mod thing;
 mod verdict;
 
+pub use bound::Bound;
 pub use constants::{
     EHDR_SIZE, EI_NIDENT, ELFCLASS64, ELFDATA2LSB, EM_X86_64, ET_EXEC, ET_REL, EV_CURRENT,
     GRP_COMDAT, PF_R, PF_W, PF_X, PHDR_SIZE, PT_GNU_STACK, PT_LOAD, PT_TLS, RELA_SIZE, SHDR_SIZE,
@@ -23,7 +25,7 @@ pub use constants::{
     SHT_SYMTAB_SHNDX, SHT_X86_64_UNWIND, STB_GLOBAL, STB_LOCAL, STB_WEAK, STT_COMMON, STT_FILE,
     STT_FUNC, STT_GNU_IFUNC, STT_NOTYPE, STT_OBJECT, STT_SECTION, STT_TLS, SYM_SIZE,
 };
-pub use faults::{CmdFault, LinkError, LoadFault, MapFault, ObjFault};
+pub use faults::{ArFault, CmdFault, GroupFault, LinkError, LoadFault, MapFault, ObjFault};
 pub use input_file::InputFile;
 pub use link_map::{
     CommonLine, Definition, DropLine, GotLine, LinkMap, ObjectLine, PlaceLine, SlotKind, SlotLine,

@@ -1,3 +1,5 @@
+//! The map of a link, line by line (docs/MAP.md).
+
 /// A loaded object: its number, the number of its item in the command from 0, the offset of its
 /// member's header in bytes (0 for an object item) and the path of its file.
 #[derive(Debug, Drop)]

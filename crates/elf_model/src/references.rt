@@ -1,3 +1,5 @@
+//! Objects, sections and symbols of a link, by number.
+
 /// The number of a loaded object, from 0 in load order.
 #[derive(Clone, Copy, Debug, PartialEq, Eq)]
 pub struct ObjectId(pub u64);

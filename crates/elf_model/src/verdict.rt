@@ -1,3 +1,5 @@
+//! What a check answers: yes, or the clause that fails.
+
 /// A clause of a right link (docs/DEFINITIONS.md).
 #[derive(Clone, Copy, Debug, PartialEq, Eq)]
 pub enum Clause {

@@ -86,7 +86,13 @@ only bytes fault.BadSectionRange o s = absurd (s.1 o.ranges)
 only bytes fault.BadString o s = elim s [ inl bad ↦ absurd (bad.1 o.strings.sections) | inr bad ↦ absurd (bad.1 o.strings.symbols) ]
 only bytes fault.BadSymbolTable o s = elim s [ inl bad ↦ absurd (bad.1 o.symbols.table) | inr bad ↦ absurd (bad.1 o.symbols.symbols) ]
 only bytes fault.BadRela o s = elim s [ inl bad ↦ absurd (bad.1 o.relas.tables) | inr bad ↦ absurd (no_bad_entry bytes o bad.1) ]
-only bytes fault.BadGroup o s = absurd s
+only bytes fault.BadGroup o s = elim s [
+  | inl bad ↦ absurd (bad.1 o.groups.tables)
+  | inr other ↦ elim other [
+    | inl bad ↦ absurd (bad.1 o.groups.signatures)
+    | inr bad ↦ absurd (bad.1 (λ k d within readable. o.groups.members k d within readable.group))
+  ]
+]
 only bytes fault.TooMany o s = absurd (omega (arith, o.size))
 
 pub only_memory : {X : Type 0} (bytes : List ℕ) (r : Result X ObjFault) → IfErr r (ObjFaultStands bytes) → IsObject bytes → IfErr r (λ f. f ≡ fault.Memory)

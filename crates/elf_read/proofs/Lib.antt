@@ -1,5 +1,5 @@
 pub mod Entries
-mod LinkerSymbols
+mod LaterSymbols
 mod PowersOfTwo
 mod SectionLemmas
 pub mod Faults
@@ -7,3 +7,5 @@ mod Whole
 mod RelaLists
 mod RelaRuns
 mod RelaFaults
+mod GroupLists
+mod GroupFaults

@@ -84,17 +84,21 @@ pub record RelasJudged (bytes : List ℕ) (h : FileHeader) (ss : List SectionHea
   pub symbol_table : HasGoodSymbolTable ss
   pub relas : AreGoodRelaSections ss
 
+-- where there is no symbol table, nothing links to it
+pub no_links : (ss : List SectionHeader) (s : SectionHeader) → HasGoodSymbolTable ss → symbol_table ss ≡ null_section → LinksToSymbols ss s → ⊥
+no_links ss s good none links = elim links [
+  | inl several ↦ absurd (omega (arith, several, good.one))
+  | inr one ↦
+      let found = table_kind ss s.sh_link one in
+      let null = ap (λ (t : SectionHeader). t.sh_type) none in
+      absurd (omega (arith, found, null))
+]
+
 -- where there is a good RELA section, symbols can be read
 linked : (bytes : List ℕ) (h : FileHeader) (ss : List SectionHeader) (s : SectionHeader) → RelasJudged bytes h ss → LinksToSymbols ss s → HasSymbols (length bytes) h ss
 linked bytes h ss s judged links = elim (reads_symbols (length bytes) h ss judged.table judged.ranges judged.symbol_table) [
   | inl reads ↦ reads.symbols
-  | inr none ↦ elim links [
-    | inl several ↦ absurd (omega (arith, several, judged.symbol_table.one))
-    | inr one ↦
-        let found = table_kind ss s.sh_link one in
-        let null = ap (λ (t : SectionHeader). t.sh_type) none in
-        absurd (omega (arith, found, null))
-  ]
+  | inr none ↦ absurd (no_links ss s judged.symbol_table none links)
 ]
 
 -- a bad entry among all is a fault of the file

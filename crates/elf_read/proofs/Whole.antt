@@ -3,13 +3,13 @@ use Rattle.std.proofs.Common.{◌≡◌, ℕ, ◌+◌, ◌*◌, ◌<◌, ◌≤�
 use Rattle.std.specs.List.{All}
 use Rattle.std.proofs.lemmas.List.FromFn.{length-map-range_with_len}
 use Rattle.byteview.specs.Numbers.{part}
-use Rattle.elf_model.specs.ObjectFile.{AreGoodRelaSections, AreGoodRelas, AreGoodSymbols, AreSectionsNamed, AreSymbolsNamed, HasGoodSymbolTable, HasTable, IsElf64, IsGoodTable, IsObject, IsPlaced, contents, entries, relas_of, section, sections_of, symbols_of, symbol_table as table_of}
+use Rattle.elf_model.specs.ObjectFile.{AreGoodGroupSections, AreGoodRelaSections, AreGoodRelas, AreMembers, AreGoodSymbols, AreSectionsNamed, AreSymbolsNamed, Group, HasGoodSymbolTable, HasTable, HaveSignatures, IsElf64, IsGoodTable, IsObject, IsPlaced, contents, entries, group_members as members_of, groups_of, relas_of, section, sections_of, symbols_of, symbol_table as table_of}
 use Rattle.elf_model.specs.Records.{file_header, section_header, symbol}
 use Rattle.elf_model.specs.declared.records.FileHeader.{FileHeader}
 use Rattle.elf_model.specs.declared.records.Rela.{Rela}
 use Rattle.elf_model.specs.declared.records.SectionHeader.{SectionHeader}
 use Rattle.elf_model.specs.declared.records.Symbol.{Symbol}
-use Rattle.elf_read.specs.Reading.{AreKept, IsRead}
+use Rattle.elf_read.specs.Reading.{AreKept, IsRead, names_of}
 
 -- all that was found good, of what was read
 pub record IsFound (bytes : List ℕ) (h : FileHeader) (ss : List SectionHeader) (syms : List Symbol) : Type 0 where
@@ -23,6 +23,9 @@ pub record IsFound (bytes : List ℕ) (h : FileHeader) (ss : List SectionHeader)
   pub symbols : AreGoodSymbols h.e_shnum syms
   pub section_names : AreSectionsNamed (contents bytes (section ss h.e_shstrndx)) ss
   pub relas : AreGoodRelaSections ss
+  pub groups : AreGoodGroupSections ss
+  pub group_signatures : HaveSignatures (length syms) ss
+  pub group_members : All (λ s. s.sh_type ≡ 17 → AreMembers ss (members_of bytes s)) ss
   pub rela_entries : All (λ s. s.sh_type ≡ 4 → AreGoodRelas (length syms) (relas_of bytes s)) ss
   pub symbol_names : AreSymbolsNamed (contents bytes (section ss (table_of ss).sh_link)) syms
   pub size : length bytes < 2 ^ 32
@@ -46,6 +49,7 @@ own bytes found = record {
   strings = record { sections = found.section_names; symbols = found.symbol_names };
   symbols = record { table = found.symbol_table; symbols = found.symbols };
   relas = record { tables = found.relas; entries = found.rela_entries };
+  groups = record { tables = found.groups; signatures = found.group_signatures; members = found.group_members };
   size = found.size;
 }
 
@@ -70,15 +74,19 @@ few_sections bytes h ss table are =
 
 -- what is kept of the sections that were read
 pub kept : (bytes : List ℕ) (h : FileHeader) (ss : List SectionHeader) (symbols : List Symbol) (section_strings symbol_strings : List ℕ) (relas : List Rela) (starts : List ℕ)
-    → IsReadOf bytes h ss symbols → IsObject bytes → section_strings ≡ contents bytes (section ss h.e_shstrndx)
-    → symbol_strings ≡ contents bytes (section ss (table_of ss).sh_link) → AreKept bytes ss relas starts → IsRead bytes section_strings symbol_strings ss symbols relas starts
-kept bytes h ss symbols section_strings symbol_strings relas starts is object first second third =
+    (groups : List Group) → IsReadOf bytes h ss symbols → IsObject bytes → section_strings ≡ contents bytes (section ss h.e_shstrndx)
+    → symbol_strings ≡ contents bytes (section ss (table_of ss).sh_link) → AreKept bytes ss relas starts → groups ≡ groups_of bytes ss (names_of symbol_strings symbols)
+    → IsRead bytes section_strings symbol_strings ss symbols relas starts groups
+kept bytes h ss symbols section_strings symbol_strings relas starts groups is object first second third fourth =
     let sections_are = is.sections_are ∙ ap (sections_of bytes) is.header_is in
+    let strings_are = second ∙ (λ i. contents bytes (section (sections_are i) (table_of (sections_are i)).sh_link)) in
+    let symbols_are = is.symbols_are ∙ ap (symbols_of bytes) sections_are in
     record {
       object = object;
       section_strings_are = first ∙ (λ i. contents bytes (section (sections_are i) (is.header_is i).e_shstrndx));
-      symbol_strings_are = second ∙ (λ i. contents bytes (section (sections_are i) (table_of (sections_are i)).sh_link));
+      symbol_strings_are = strings_are;
       sections_are = sections_are;
-      symbols_are = is.symbols_are ∙ ap (symbols_of bytes) sections_are;
+      symbols_are = symbols_are;
       relas_are = subst (λ (ts : List SectionHeader). AreKept bytes ts relas starts) sections_are third;
+      groups_are = fourth ∙ (λ i. groups_of bytes (sections_are i) (names_of (strings_are i) (symbols_are i)));
     }

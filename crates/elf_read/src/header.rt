@@ -1,3 +1,4 @@
+//! The file header and the section header table, and whether an object may have them (System V gABI 4, "ELF Header").
 ghost use Rattle.std.specs.Prelude.{◌≡◌, ◌↔◌, ◌+◌, ◌*◌, ◌<◌, ◌≤◌, ◌^◌, length, IfErr, IfOk, IsTrue};
 ghost use Rattle.byteview.specs.Numbers.{IsInside, part};
 ghost use Rattle.elf_model.specs.ObjectFile.{HasTable, IsElf64, ObjFaultStands, sections_of};

@@ -2,6 +2,7 @@
 //! of the others why they are none.
 #![tactic(auto)]
 
+mod groups;
 mod header;
 mod names;
 mod object;
@@ -11,6 +12,8 @@ mod sections;
 mod symbols;
 
 pub use elf_model::ObjFault;
-pub use names::linker_names;
+pub use groups::Group;
+pub use names::later_names;
 pub use object::Object;
 pub use profile::is_plain_object;
+pub use sections::is_power_of_two;

@@ -1,7 +1,9 @@
-ghost use Rattle.std.specs.Prelude.{◌≡◌, List, ℕ, length, IfErr, IfOk, IfSome, OnOk, option_copied};
-ghost use Rattle.elf_model.specs.ObjectFile.{IsObject, ObjFaultStands, relas, section, section_bytes, section_name, sections, symbol_name, symbols};
+//! A relocatable object file, read whole, and what it holds.
+ghost use Rattle.std.specs.Prelude.{◌≡◌, ◌<◌, List, ℕ, All, length, IfErr, IfOk, IfSome, OnOk, option_copied};
+ghost use Rattle.elf_model.specs.ObjectFile.{IsObject, ObjFaultStands, groups, relas, section, section_bytes, section_name, sections, symbol_name, symbols};
 ghost use Rattle.elf_model.specs.declared.faults.ObjFault.TheVariants as fault;
 
+use crate::groups::{Group, judge_groups};
 use crate::header::{read_header, read_sections};
 use crate::relas::{Relas, are_good_relas, read_relas};
 use crate::sections::{contents, has_no_bytes, judge_sections, section, symbol_table};
@@ -21,6 +23,7 @@ pub struct Object<'a> {
     sections: Vec<SectionHeader>,
     symbols: Vec<Symbol>,
     relas: Relas,
+    groups: Vec<Group<'a>>,
 }
 
 impl<'a> Model for Object<'a> {
@@ -32,7 +35,7 @@ impl<'a> Model for Object<'a> {
 
     ghost view = { λ o. o.file };
 
-    ghost invariant = { λ o. IsRead o.file o.section_strings o.symbol_strings o.sections.items o.symbols.items o.relas.entries.items o.relas.starts.items };
+    ghost invariant = { λ o. IsRead o.file o.section_strings o.symbol_strings o.sections.items o.symbols.items o.relas.entries.items o.relas.starts.items o.groups.items };
 }
 
 impl<'a> Object<'a> {
@@ -60,13 +63,16 @@ impl<'a> Object<'a> {
         }
         let section_names = section(&sections, header.e_shstrndx as usize);
         let symbol_names = section(&sections, table.sh_link as usize);
+        let symbol_strings = contents(&view, &symbol_names);
+        let groups = judge_groups(alloc, &view, &sections, &symbols, &symbol_strings)?;
         Ok(Object {
             section_strings: contents(&view, &section_names),
-            symbol_strings: contents(&view, &symbol_names),
+            symbol_strings,
             file: view,
             sections,
             symbols,
             relas,
+            groups,
         })
     }
 
@@ -132,5 +138,13 @@ impl<'a> Object<'a> {
         }
         let count = section.sh_size as usize / RELA_SIZE;
         Some(self.relas.of_section(i, count))
+    }
+
+    /// The groups of sections, in the order of the sections that list them.
+    pub fn groups(&self) -> &[Group<'a>]
+        ensures exact { result.now ≡ groups self.now }
+        ensures members { All (λ g. All (λ k. k < length (sections self.now)) g.members) result.now }
+    {
+        self.groups.as_slice()
     }
 }

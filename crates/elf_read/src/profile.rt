@@ -3,13 +3,12 @@ ghost use Rattle.std.specs.Prelude.{◌≡◌, ◌↔◌, All, IsTrue, Some, fal
 ghost use Rattle.std.specs.List.{slice_get};
 ghost use Rattle.elf_model.specs.ObjectFile.{name_of_section, relas_of, section, sections, symbols};
 ghost use Rattle.elf_model.specs.Pieces as pieces;
-ghost use Rattle.elf_model.specs.Profile.{IsDigit, IsNumbered, IsNumberedArray, IsPlainObject, IsPlainSection, IsPlainSymbol, HasPlainRelas, IsPlainRela, IsShortNumber, is_later_type};
-ghost use Rattle.elf_model.specs.Relocation.{is_kept_rela};
+ghost use Rattle.elf_model.specs.Profile.{IsDigit, IsNumbered, IsNumberedArray, IsPlainObject, IsPlainSection, IsPlainSymbol, HasPlainRelas, IsPlainRela, IsShortNumber, is_alloc_rela, is_later_type};
 
 use crate::object::Object;
-use elf_model::{Rela, SHN_COMMON, SHT_GROUP, SHT_RELA, STB_WEAK, STT_TLS, SectionHeader, Symbol};
+use elf_model::{Rela, SHT_RELA, STT_TLS, SectionHeader, Symbol};
 
-/// Whether a section is none that is kept with SHF_TLS.
+/// Whether a section is none with both SHF_ALLOC and SHF_TLS.
 fn is_plain_storage(header: &SectionHeader) -> bool
     ensures { IsTrue result ↔ (pieces.is_alloc header.now ≡ true → pieces.is_thread_local header.now ≡ false) }
 {
@@ -56,10 +55,9 @@ fn is_numbered_array(name: &[u8]) -> bool
     is_numbered(b".init_array.", name) || is_numbered(b".fini_array.", name)
 }
 
-/// The types of the known kinds of relocations but for 64, PC32 and PLT32.
-static LATER_TYPES: [u32; 21] = [
-    3, 9, 10, 11, 12, 13, 14, 15, 18, 22, 23, 24, 25, 26, 27, 28, 29, 32, 33, 41, 42,
-];
+/// The types of the known kinds of relocations whose value is made of the GOT or of the offset from the thread
+/// pointer.
+static LATER_TYPES: [u32; 12] = [3, 9, 18, 22, 23, 25, 26, 27, 28, 29, 41, 42];
 
 fn is_later_type(kind: u32) -> bool
     ensures { result ≡ is_later_type kind }
@@ -83,8 +81,8 @@ fn are_plain_relas(entries: &[Rela]) -> bool
     entries.iter().all(|r| is_plain_rela(r))
 }
 
-/// Whether the section that a RELA section relocates is kept.
-fn relocates_kept(object: &Object<'_>, header: &SectionHeader) -> bool
+/// Whether the section that a RELA section relocates has SHF_ALLOC.
+fn relocates_alloc(object: &Object<'_>, header: &SectionHeader) -> bool
     ensures { result ≡ pieces.is_alloc (section (sections object.now) header.now.sh_info) }
 {
     match object.sections().get(header.sh_info as usize) {
@@ -113,20 +111,20 @@ fn has_plain_relas(object: &Object<'_>, i: usize, header: &SectionHeader) -> boo
     are_plain_relas(entries_at(object, i, header))
 }
 
-/// Whether a section holds relocations of one that is kept.
-pub fn is_kept_rela(object: &Object<'_>, header: &SectionHeader) -> bool
-    ensures value { result ≡ is_kept_rela object.now header.now }
+/// Whether a section holds relocations of one with SHF_ALLOC, which may be dropped.
+pub fn is_alloc_rela(object: &Object<'_>, header: &SectionHeader) -> bool
+    ensures value { result ≡ is_alloc_rela object.now header.now }
     ensures rela { result ≡ true → header.now.sh_type ≡ 4 }
 {
-    header.sh_type == SHT_RELA && relocates_kept(object, header)
+    header.sh_type == SHT_RELA && relocates_alloc(object, header)
 }
 
-/// Whether section `i`, which has the header, holds no relocation of a later kind of a section that is kept.
-fn has_plain_relas_if_kept(object: &Object<'_>, i: usize, header: &SectionHeader) -> bool
+/// Whether section `i`, which has the header, holds no relocation of a later kind of a section with SHF_ALLOC.
+fn has_plain_relas_if_alloc(object: &Object<'_>, i: usize, header: &SectionHeader) -> bool
     requires there { slice_get (sections object.now) i ≡ Some header.now }
-    ensures { IsTrue result ↔ (is_kept_rela object.now header.now ≡ true → HasPlainRelas object.now header.now) }
+    ensures { IsTrue result ↔ (is_alloc_rela object.now header.now ≡ true → HasPlainRelas object.now header.now) }
 {
-    if !is_kept_rela(object, header) {
+    if !is_alloc_rela(object, header) {
         return true;
     }
     has_plain_relas(object, i, header)
@@ -143,19 +141,19 @@ fn name_at<'a>(object: &Object<'a>, i: usize, header: &SectionHeader) -> &'a [u8
     }
 }
 
-/// Whether section `i`, which has the header, is plain: no GROUP, not kept with SHF_TLS, no numbered array,
+/// Whether section `i`, which has the header, is plain: not both SHF_ALLOC and SHF_TLS, no numbered array,
 /// and no relocations of a later kind.
 fn is_plain_section(object: &Object<'_>, i: usize, header: &SectionHeader) -> bool
     requires there { slice_get (sections object.now) i ≡ Some header.now }
     ensures { IsTrue result ↔ IsPlainSection object.now header.now }
 {
-    if header.sh_type == SHT_GROUP || !is_plain_storage(header) {
+    if !is_plain_storage(header) {
         return false;
     }
     if is_numbered_array(name_at(object, i, header)) {
         return false;
     }
-    has_plain_relas_if_kept(object, i, header)
+    has_plain_relas_if_alloc(object, i, header)
 }
 
 fn are_plain_sections(object: &Object<'_>) -> bool
@@ -173,9 +171,7 @@ fn are_plain_sections(object: &Object<'_>) -> bool
 fn is_plain_symbol(symbol: &Symbol) -> bool
     ensures { IsTrue result ↔ IsPlainSymbol symbol.now }
 {
-    let binding = symbol.st_info / 16;
-    let kind = symbol.st_info % 16;
-    binding != STB_WEAK && symbol.st_shndx != SHN_COMMON && kind != STT_TLS
+    symbol.st_info % 16 != STT_TLS
 }
 
 fn are_plain_symbols(symbols: &[Symbol]) -> bool
@@ -184,8 +180,8 @@ fn are_plain_symbols(symbols: &[Symbol]) -> bool
     symbols.iter().all(|s| is_plain_symbol(s))
 }
 
-/// Whether an object is of this profile: no GROUP section, no thread-local storage, no numbered array, no
-/// weak or common symbol, and no kept relocation of a later kind.
+/// Whether an object is of this profile: no thread-local storage, no numbered array, and no relocation of a later
+/// kind in a section with SHF_ALLOC.
 pub fn is_plain_object(object: &Object<'_>) -> bool
     ensures { IsTrue result ↔ IsPlainObject object.now }
 {

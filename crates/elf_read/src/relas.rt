@@ -2,11 +2,11 @@
 //! the entries of all of them.
 ghost use Rattle.std.specs.Prelude.{◌≡◌, ◌↔◌, ◌+◌, ◌/◌, ◌<◌, ◌≤◌, ◌^◌, ◌==◌, ◌++◌, All, IfOk, IsTrue, OnOk, count_by, drop, length, slice_index_or, take};
 ghost use Rattle.byteview.specs.Numbers.{IsInside, part};
-ghost use Rattle.elf_model.specs.ObjectFile.{AreGoodRelaSections, AreGoodRelas, IsPlaced, IsRelaSection, LiesInside, LinksToSymbols, MayBeRelocated, entries, relas_of};
+ghost use Rattle.elf_model.specs.ObjectFile.{AreGoodRelaSections, AreGoodRelas, IsPlaced, IsRelaSection, LiesInside, MayBeRelocated, entries, relas_of};
 ghost use Rattle.elf_model.specs.Records.{rela};
 ghost use Rattle.elf_read.specs.Reading.{AreKept, all_relas, rela_count, relas_or_none};
 
-use crate::sections::section;
+use crate::sections::{links_to_symbols, section};
 use byteview::View;
 use elf_model::{
     RELA_SIZE, Rela, SHT_GROUP, SHT_NOBITS, SHT_NULL, SHT_REL, SHT_RELA, SHT_STRTAB, SHT_SYMTAB,
@@ -41,13 +41,6 @@ fn is_rela_section(sections: &[SectionHeader], relas: &SectionHeader) -> bool
         return false;
     }
     links_to_symbols(sections, relas) && may_be_relocated(sections, relas.sh_info as usize)
-}
-
-fn links_to_symbols(sections: &[SectionHeader], relas: &SectionHeader) -> bool
-    requires one { count_by (λ s. s.sh_type == 2) sections.now ≤ 1 }
-    ensures { IsTrue result ↔ LinksToSymbols sections.now relas.now }
-{
-    section(sections, relas.sh_link as usize).sh_type == SHT_SYMTAB
 }
 
 fn may_be_relocated(sections: &[SectionHeader], number: usize) -> bool

@@ -1,10 +1,12 @@
+//! Whether the sections of an object lie inside it and have names (System V gABI 4, "Sections").
 ghost use Rattle.std.specs.Prelude.{◌≡◌, ◌↔◌, ◌+◌, ◌<◌, ◌≤◌, ◌==◌, List, length, IfErr, OnOk, IsTrue, count_by, option_copied};
 ghost use Rattle.std.specs.Int.{IsPowerOfTwo};
 ghost use Rattle.std.specs.List.{All, find};
 ghost use Rattle.byteview.specs.Numbers.{HasText};
 ghost use Rattle.elf_model.specs.declared.records.Symbol.{Symbol};
-ghost use Rattle.elf_model.specs.ObjectFile.{AreGoodRelaSections, AreSectionsNamed, HasGoodSymbolTable, HasTable, IsAlignment, IsGoodTable, IsPlaced, IsStringTable, IsSymbolTable, LiesInside, StandsIn, contents, has_no_bytes, section, symbol_table};
+ghost use Rattle.elf_model.specs.ObjectFile.{AreGoodGroupSections, AreGoodRelaSections, AreSectionsNamed, HasGoodSymbolTable, HasTable, IsAlignment, IsGoodTable, IsPlaced, IsStringTable, IsSymbolTable, LiesInside, LinksToSymbols, StandsIn, contents, has_no_bytes, section, symbol_table};
 
+use crate::groups::are_good_group_sections;
 use crate::relas::are_good_rela_sections;
 use byteview::View;
 use elf_model::{
@@ -42,6 +44,7 @@ pub fn judge_sections(
     ensures ranges { OnOk result (All (IsPlaced (length file.now)) sections.now) }
     ensures symbols { OnOk result (HasGoodSymbolTable sections.now) }
     ensures relas { OnOk result (AreGoodRelaSections sections.now) }
+    ensures groups { OnOk result (AreGoodGroupSections sections.now) }
     ensures fault { IfErr result (λ f. (symbols : List Symbol) → StandsIn file.now header.now sections.now symbols f) }
 {
     if section(sections, 0).sh_type != SHT_NULL {
@@ -59,6 +62,9 @@ pub fn judge_sections(
     }
     if !are_good_rela_sections(sections) {
         return Err(ObjFault::BadRela);
+    }
+    if !are_good_group_sections(sections) {
+        return Err(ObjFault::BadGroup);
     }
     Ok(())
 }
@@ -85,6 +91,14 @@ fn first_symbol_table(sections: &[SectionHeader]) -> Option<&SectionHeader>
     sections
         .iter()
         .find(|section| section.sh_type == SHT_SYMTAB)
+}
+
+/// Whether the section that `sh_link` names is the symbol table.
+pub fn links_to_symbols(sections: &[SectionHeader], linked: &SectionHeader) -> bool
+    requires one { count_by (λ s. s.sh_type == 2) sections.now ≤ 1 }
+    ensures { IsTrue result ↔ LinksToSymbols sections.now linked.now }
+{
+    section(sections, linked.sh_link as usize).sh_type == SHT_SYMTAB
 }
 
 /// The bytes that a section names, as far as the file has them.
@@ -139,7 +153,8 @@ fn is_alignment(align: u64) -> bool
     align == 0 || (is_power_of_two(align) && align <= ALIGN_LIMIT)
 }
 
-fn is_power_of_two(number: u64) -> bool
+/// Whether a number is a power of two.
+pub fn is_power_of_two(number: u64) -> bool
     ensures { IsTrue result ↔ IsPowerOfTwo number }
 {
     number.is_power_of_two()

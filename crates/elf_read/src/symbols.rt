@@ -1,3 +1,4 @@
+//! Whether the symbol table of an object is a good one (System V gABI 4, "Symbol Table").
 ghost use Rattle.std.specs.Prelude.{◌≡◌, ◌↔◌, ◌/◌, ◌<◌, ◌^◌, length, IfErr, IfOk, OnOk, IsTrue};
 ghost use Rattle.byteview.specs.Numbers.{IsInside, part};
 ghost use Rattle.std.specs.List.{All};

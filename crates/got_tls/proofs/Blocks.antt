@@ -1,18 +1,20 @@
 -- The block of the thread-local pieces, as a relation, and its alignment where they are of objects.
-use Rattle.std.proofs.Common.{◌≡◌, ℕ, ◌+◌, ◌-◌, ◌^◌, ◌≤◌, ◌⊎◌, inl, inr, List, [], ◌∷◌, Option, Some, None, map, sym, subst, ◌∙◌, arith}
+use Rattle.std.proofs.Common.{◌≡◌, ℕ, ◌+◌, ◌-◌, ◌^◌, ◌≤◌, ◌⊎◌, inl, inr, true, List, [], ◌∷◌, Option, Some, None, map, sym, subst, ◌∙◌, arith}
 use Rattle.std.specs.Prelude.{All, Contains, IfSome, max, min}
 use Rattle.std.specs.Int.{IsPowerOfTwo}
-use Rattle.std.proofs.lemmas.Bool.{cases_lt}
+use Rattle.std.proofs.lemmas.Bool.{cases_lt, false≢true}
 use Rattle.std.proofs.lemmas.Nat.{pow_pos}
-use Rattle.std.proofs.lemmas.List.Elements.{All-cons, All-contains, All-head, All-nil, All-tail}
+use Rattle.std.proofs.lemmas.List.Elements.{All-append, All-cons, All-contains, All-head, All-nil, All-tail, All-weaker}
 use Rattle.elf_model.specs.Loading.{AreObjects, LoadedObject}
 use Rattle.elf_model.specs.ObjectFile.{IsAlignment}
 use Rattle.elf_model.specs.OwnLayout.{own_placed, placed_end}
-use Rattle.elf_model.specs.Pieces.{Piece, pieces}
+use Rattle.elf_model.specs.Commons.{block_pieces, pieces}
+use Rattle.elf_model.specs.Pieces.{Piece, is_thread_local, kept_sections}
 use Rattle.elf_model.specs.Placement.{Placed}
+use Rattle.elf_model.proofs.Blocks.{block_pieces-each}
 use Rattle.elf_model.proofs.Listed.{All-unmap, Contains-cons_cases, Contains-from_filter, Contains-from_map, Contains-here, Contains-there}
 use Rattle.elf_model.proofs.Places.{All-ordered, own_placed_pieces}
-use Rattle.elf_model.proofs.PieceAlignments.{alignments-each}
+use Rattle.elf_model.proofs.PieceAlignments.{kept_alignments-each}
 use Rattle.got_tls.specs.ThreadStorage.{IsAligned, IsBlockOf, IsGreatest, IsLeast, block_of, greatest, is_thread_place, last_end, least, least_address, thread_block, thread_places}
 use Rattle.got_tls.specs.declared.thread_storage.TlsBlock.{TlsBlock}
 
@@ -79,12 +81,12 @@ block_of_law (q ∷ qs) =
 pub block_law : (ps : List Placed) (found : Option TlsBlock) → found ≡ thread_block ps → IfSome found (IsBlockOf (thread_places ps))
 block_law ps found is = subst (λ (o : Option TlsBlock). IfSome o (IsBlockOf (thread_places ps))) (sym is) (block_of_law (thread_places ps))
 
--- the alignments of pieces of objects
+-- the alignments of thread-local pieces; no common block is one
 IsLawfulAlignment : ℕ → Type 0
 IsLawfulAlignment a = IsPowerOfTwo a × (a ≤ 2 ^ 21)
 
 HasLawfulAlignment : Piece → Type 0
-HasLawfulAlignment p = IsLawfulAlignment p.align
+HasLawfulAlignment p = is_thread_local p.header ≡ true → IsLawfulAlignment p.align
 
 lawful : (a : ℕ) → IsAlignment a → IsLawfulAlignment (max 1 a)
 unfolding IsLawfulAlignment
@@ -96,7 +98,11 @@ lawful a (inr some) =
 
 pieces_lawful : (objects : List LoadedObject) → AreObjects objects → All HasLawfulAlignment (pieces objects)
 unfolding HasLawfulAlignment
-pieces_lawful objects are = alignments-each IsLawfulAlignment lawful objects are
+pieces_lawful objects are =
+    All-append HasLawfulAlignment (kept_sections objects) (block_pieces objects)
+    (All-weaker (λ (p : Piece). IsLawfulAlignment p.align) HasLawfulAlignment (λ p is t. is) (kept_sections objects)
+    (kept_alignments-each IsLawfulAlignment lawful objects are))
+    (block_pieces-each objects HasLawfulAlignment (λ k s c t. absurd (false≢true t)))
 
 placed_lawful : (base : ℕ) (objects : List LoadedObject) → AreObjects objects → All (λ q. HasLawfulAlignment q.piece) (own_placed base objects)
 placed_lawful base objects are =
@@ -107,8 +113,8 @@ aligned_one : (base : ℕ) (objects : List LoadedObject) → AreObjects objects 
 unfolding HasLawfulAlignment IsLawfulAlignment
 aligned_one base objects are b is =
     let image = Contains-from_map (λ (q : Placed). q.piece.align) (thread_places (own_placed base objects)) b.align is.aligned.0 in
-    let there = (Contains-from_filter is_thread_place (own_placed base objects) image.of image.there).0 in
-    let has = All-contains (λ (q : Placed). HasLawfulAlignment q.piece) (own_placed base objects) image.of (placed_lawful base objects are) there in
+    let there = Contains-from_filter is_thread_place (own_placed base objects) image.of image.there in
+    let has = All-contains (λ (q : Placed). HasLawfulAlignment q.piece) (own_placed base objects) image.of (placed_lawful base objects are) there.0 there.1 in
     let both = subst IsLawfulAlignment image.is has in
     record { power = both.0; small = both.1 }
 

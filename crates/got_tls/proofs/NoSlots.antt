@@ -7,12 +7,14 @@ use Rattle.std.specs.Str.{bytes_eq}
 use Rattle.std.proofs.lemmas.Bool.{and_parts, eqb-true, false≢true}
 use Rattle.std.proofs.lemmas.List.Elements.{All-contains, All-head, All-tail}
 use Rattle.std.proofs.lemmas.Slice.Eq.{bytes_eq-Decides}
-use Rattle.elf_model.specs.LinkerNames.{is_linker_name}
-use Rattle.elf_model.specs.Loading.{LoadedObject}
-use Rattle.elf_model.specs.ObjectFile.{rela_symbol, rela_type, relas_of, sections}
-use Rattle.elf_model.specs.Profile.{HasPlainNames, IsPlainObject, IsPlainRela, IsPlainSection, is_later_type, linker_names, linker_names_in, used_name, uses_linker_name}
-use Rattle.elf_model.specs.Relocation.{Formula, S+A, S+A-P, S+A-GOT, G+A, G+GOT+A-P, GOT+A-P, Z+A, T+A, GT+GOT+A-P, Kind, Relocation, is_kept_rela, is_local, is_some_kind, kind_of, kinds, relocation_kind, relocation_of, relocations, symbol_at}
+use Rattle.elf_model.specs.LinkerNames.{is_later_name}
+use Rattle.elf_model.specs.Loading.{LoadedObject, is_dropped}
+use Rattle.elf_model.specs.ObjectFile.{rela_symbol, rela_type, relas_of, section, sections}
+use Rattle.elf_model.specs.Pieces.{is_alloc, is_kept}
+use Rattle.elf_model.specs.Profile.{HasPlainNames, IsPlainObject, IsPlainRela, IsPlainSection, is_alloc_rela, is_later_type, later_names, later_names_in, used_name, uses_later_name}
+use Rattle.elf_model.specs.Relocation.{Formula, S+A, S+A-P, S+A-GOT, G+A, G+GOT+A-P, GOT+A-P, Z+A, T+A, GT+GOT+A-P, Kind, Relocation, is_local, is_some_kind, kind_of, kinds, relocation_kind, relocation_of, relocations, symbol_at}
 use Rattle.elf_model.specs.Resolution.{SymbolOf, chosen}
+use Rattle.elf_model.specs.declared.constants.TheConstants.{SHT_RELA}
 use Rattle.elf_model.specs.declared.records.Rela.{Rela}
 use Rattle.elf_model.specs.declared.records.SectionHeader.{SectionHeader}
 use Rattle.elf_model.proofs.Listed.{Contains-filter, Contains-flat_map, Contains-from_slice_get, Contains-map}
@@ -68,16 +70,28 @@ no_slot GT+GOT+A-P quiet = absurd (false≢true (sym quiet))
 same_bytes : (a b : List ℕ) → bytes_eq a b ≡ true → a ≡ b
 same_bytes a b e = (bytes_eq-Decides a b).0 e
 
-got_is_linker_name : is_linker_name got_name ≡ true
-unfolding is_linker_name
-got_is_linker_name = refl
+got_is_later_name : is_later_name got_name ≡ true
+unfolding is_later_name
+got_is_later_name = refl
 
-used : (bytes : List ℕ) (h : SectionHeader) (r : Rela) → IsEntryOf bytes h r → uses_linker_name bytes r ≡ true → Contains (linker_names bytes) (used_name bytes r)
-used bytes h r entry uses =
-    Contains-flat_map (linker_names_in bytes) (filter (is_kept_rela bytes) (sections bytes)) h (used_name bytes r)
-    (Contains-filter (is_kept_rela bytes) (sections bytes) h entry.section entry.kept)
-    (Contains-map (used_name bytes) (filter (uses_linker_name bytes) (relas_of bytes h)) r
-    (Contains-filter (uses_linker_name bytes) (relas_of bytes h) r entry.entry uses))
+-- a section with kept relocations relocates one with SHF_ALLOC
+relocates : (o : LoadedObject) (i : ℕ) (h : SectionHeader) (r : Rela) → IsEntryOf o i h r → is_alloc_rela o.bytes h ≡ true
+relocates o i h r entry =
+    let own = section (sections o.bytes) h.sh_info in
+    let parts = and_parts (h.sh_type == SHT_RELA) (not (is_dropped o i) && is_kept o h.sh_info own) entry.kept in
+    let kept = and_parts (not (is_dropped o i)) (is_kept o h.sh_info own) parts.1 in
+    let alloc = and_parts (is_alloc own) (not (is_dropped o h.sh_info)) kept.1 in
+    ap (λ b. b && is_alloc own) parts.0 ∙ alloc.0
+
+used :
+    (o : LoadedObject) (i : ℕ) (h : SectionHeader) (r : Rela) → IsEntryOf o i h r → uses_later_name o.bytes r ≡ true →
+    Contains (later_names o.bytes) (used_name o.bytes r)
+used o i h r entry uses =
+    Contains-flat_map (later_names_in o.bytes) (filter (is_alloc_rela o.bytes) (sections o.bytes)) h (used_name o.bytes r)
+    (Contains-filter (is_alloc_rela o.bytes) (sections o.bytes) h (Contains-from_slice_get (sections o.bytes) i h entry.section)
+    (relocates o i h r entry))
+    (Contains-map (used_name o.bytes) (filter (uses_later_name o.bytes) (relas_of o.bytes h)) r
+    (Contains-filter (uses_later_name o.bytes) (relas_of o.bytes h) r entry.entry uses))
 
 none_is : {X : Type 0} (o : Option X) → is_none o ≡ true → o ≡ None
 none_is None e = refl
@@ -106,36 +120,42 @@ module _ (L : List LoadedObject) (plain : All (λ o. IsPlainObject o.bytes) L) (
     no_request : request_of r ≡ None
     no_got : asks_for_got L r ≡ false
 
-  no_name : (k : ℕ) (o : LoadedObject) → Contains L o → (h : SectionHeader) (r : Rela) → IsEntryOf o.bytes h r → names_got L (symbol_at k o.bytes (rela_symbol r)) ≡ false
-  no_name k o there h r entry = never (names_got L s) (λ named.
+  no_name :
+      (k : ℕ) (o : LoadedObject) → Contains L o → (i : ℕ) (h : SectionHeader) (r : Rela) → IsEntryOf o i h r →
+      names_got L (symbol_at k o (rela_symbol r)) ≡ false
+  no_name k o there i h r entry = never (names_got L s) (λ named.
       let parts = and_parts (not (is_local s)) (bytes_eq s.name got_name && is_none (chosen L s.name)) named in
       let found = and_parts (bytes_eq s.name got_name) (is_none (chosen L s.name)) parts.1 in
-      let linkers : is_linker_name s.name ≡ true = ap is_linker_name (same_bytes s.name got_name found.0) ∙ got_is_linker_name in
-      let uses = both (is_some_kind r) (not (is_local s)) (is_linker_name s.name) entry.some parts.0 linkers in
+      let linkers : is_later_name s.name ≡ true = ap is_later_name (same_bytes s.name got_name found.0) ∙ got_is_later_name in
+      let uses = both (is_some_kind r) (not (is_local s)) (is_later_name s.name) entry.some parts.0 linkers in
       let defined = (All-contains (HasPlainNames L) L o names there).defined in
-      All-contains (λ name. chosen L name ≡ None → ⊥) (linker_names o.bytes) (used_name o.bytes r) defined (used o.bytes h r entry uses) (none_is (chosen L s.name) found.1))
+      All-contains (λ name. chosen L name ≡ None → ⊥) (later_names o.bytes) (used_name o.bytes r) defined (used o i h r entry uses) (none_is (chosen L s.name) found.1))
     where
       s : SymbolOf
-      s = symbol_at k o.bytes (rela_symbol r)
+      s = symbol_at k o (rela_symbol r)
 
   -- no kind of a kept relocation speaks of the GOT
-  no_kind : (k : ℕ) (o : LoadedObject) → Contains L o → (h : SectionHeader) (r : Rela) → IsEntryOf o.bytes h r → speaks (kind_of (rela_type r)) ≡ false
-  no_kind k o there h r entry =
+  no_kind :
+      (o : LoadedObject) → Contains L o → (i : ℕ) (h : SectionHeader) (r : Rela) → IsEntryOf o i h r →
+      speaks (kind_of (rela_type r)) ≡ false
+  no_kind o there i h r entry =
       let object : IsPlainObject o.bytes = All-contains (λ (p : LoadedObject). IsPlainObject p.bytes) L o plain there in
-      let section = All-contains (IsPlainSection o.bytes) (sections o.bytes) h object.plain_sections entry.section in
-      let rela = All-contains IsPlainRela (relas_of o.bytes h) r (section.relas entry.kept).each entry.entry in
+      let plain_section = All-contains (IsPlainSection o.bytes) (sections o.bytes) h object.plain_sections (Contains-from_slice_get (sections o.bytes) i h entry.section) in
+      let rela = All-contains IsPlainRela (relas_of o.bytes h) r (plain_section.relas (relocates o i h r entry)).each entry.entry in
       quiet_kind (rela_type r) rela.not_later
 
-  asks_nothing : (k : ℕ) (o : LoadedObject) → Contains L o → (h : SectionHeader) (r : Rela) → IsEntryOf o.bytes h r → AsksNothing (relocation_of k o.bytes h.sh_info r)
-  asks_nothing k o there h r entry =
-      let quiet = no_kind k o there h r entry in
+  asks_nothing :
+      (k : ℕ) (o : LoadedObject) → Contains L o → (i : ℕ) (h : SectionHeader) (r : Rela) → IsEntryOf o i h r →
+      AsksNothing (relocation_of k o h.sh_info r)
+  asks_nothing k o there i h r entry =
+      let quiet = no_kind o there i h r entry in
       record {
-        no_request = no_request_of (relocation_of k o.bytes h.sh_info r) quiet;
-        no_got = neither (speaks (kind_of (rela_type r))) (names_got L (symbol_at k o.bytes (rela_symbol r))) quiet (no_name k o there h r entry);
+        no_request = no_request_of (relocation_of k o h.sh_info r) quiet;
+        no_got = neither (speaks (kind_of (rela_type r))) (names_got L (symbol_at k o (rela_symbol r))) quiet (no_name k o there i h r entry);
       }
 
   all_quiet : All AsksNothing (relocations L)
-  all_quiet = relocations-each AsksNothing L (λ k o there h r entry. asks_nothing k o (Contains-from_slice_get L k o there) h r entry)
+  all_quiet = relocations-each AsksNothing L (λ k o there i h r entry. asks_nothing k o (Contains-from_slice_get L k o there) i h r entry)
 
   no_requests_in : (rs : List Relocation) → All AsksNothing rs → filter_map request_of rs ≡ []
   no_requests_in [] quiet = refl

@@ -7,7 +7,7 @@ use Rattle.std.proofs.lemmas.List.Elements.{All-cons, All-head, All-nil, All-tai
 use Rattle.elf_model.specs.ImageFile.{covers_address}
 use Rattle.elf_model.specs.Loading.{LoadedObject}
 use Rattle.elf_model.specs.OwnLayout.{placed_end}
-use Rattle.elf_model.specs.Placement.{Placed}
+use Rattle.elf_model.specs.Placement.{Placed, Where}
 use Rattle.elf_model.specs.WantedBytes.{wanted_byte}
 use Rattle.elf_model.proofs.Pairs.{AllPairs-head, AllPairs-tail}
 use Rattle.elf_model.proofs.Running.{IsBehind}
@@ -81,9 +81,9 @@ rise_of x to (q ∷ qs) order above pairs ends =
     )
 
 -- the byte of each address is what its place wants, and the fill where none with bytes is
-module _ (objects : List LoadedObject) (ps : List Placed) (c : Code) (to : ℕ) (f : ℕ → ℕ) where
+module _ (objects : List LoadedObject) (placing : Where) (c : Code) (to : ℕ) (f : ℕ → ℕ) where
   abbrev pub Wants : Placed → Type 0
-  Wants q = is_written q ≡ true → (k : ℕ) → k < q.piece.size → f (q.at + k) ≡ wanted_byte objects ps q.piece k
+  Wants q = is_written q ≡ true → (k : ℕ) → k < q.piece.size → f (q.at + k) ≡ wanted_byte objects placing q.piece k
 
   abbrev pub IsBare : ℕ → Placed → Type 0
   IsBare a q = is_written q ≡ true → covers_address a q ≡ false
@@ -97,11 +97,11 @@ module _ (objects : List LoadedObject) (ps : List Placed) (c : Code) (to : ℕ) 
       sym (fill a low
       (All-weaker (BeginsAbove y) (IsBare a) (λ q b w. not_covered a q (let h = b w in λ l. absurd (omega (arith, h, l, high, low)))) qs above)))
 
-  piece_here : (q : Placed) → is_written q ≡ true → Wants q → bytes_of objects ps q.piece ≡ map f (range_with_len q.at (placed_end q - q.at))
+  piece_here : (q : Placed) → is_written q ≡ true → Wants q → bytes_of objects placing q.piece ≡ map f (range_with_len q.at (placed_end q - q.at))
   piece_here q w wants =
       let size : q.piece.size ≡ placed_end q - q.at = omega arith in
       let at : q.at + 0 ≡ q.at = omega arith in
-      map_agree (wanted_byte objects ps q.piece) (λ k. f (q.at + k)) 0 q.piece.size (λ k low high. sym (wants w k (omega (arith, high))))
+      map_agree (wanted_byte objects placing q.piece) (λ k. f (q.at + k)) 0 q.piece.size (λ k low high. sym (wants w k (omega (arith, high))))
       ∙ (map_shifted f q.at 0 q.piece.size
       ∙ (ap (λ (x : ℕ). map f (range_with_len x q.piece.size)) at
       ∙ ap (λ (n : ℕ). map f (range_with_len q.at n)) size))
@@ -109,9 +109,9 @@ module _ (objects : List LoadedObject) (ps : List Placed) (c : Code) (to : ℕ) 
   body_by :
       (b : Bool) (x : ℕ) (q : Placed) (qs : List Placed) → is_written q ≡ b → Rise x to (q ∷ qs) → All Wants (q ∷ qs) →
       FillsFrom x (q ∷ qs) →
-      (Rise (placed_end q) to qs → FillsFrom (placed_end q) qs → body_from objects ps c to (placed_end q) qs ≡ map f (range_with_len (placed_end q) (to - placed_end q))) →
-      (Rise x to qs → FillsFrom x qs → body_from objects ps c to x qs ≡ map f (range_with_len x (to - x))) →
-      cond b (fill_run c x q.at ++ (bytes_of objects ps q.piece ++ body_from objects ps c to (placed_end q) qs)) (body_from objects ps c to x qs)
+      (Rise (placed_end q) to qs → FillsFrom (placed_end q) qs → body_from objects placing c to (placed_end q) qs ≡ map f (range_with_len (placed_end q) (to - placed_end q))) →
+      (Rise x to qs → FillsFrom x qs → body_from objects placing c to x qs ≡ map f (range_with_len x (to - x))) →
+      cond b (fill_run c x q.at ++ (bytes_of objects placing q.piece ++ body_from objects placing c to (placed_end q) qs)) (body_from objects placing c to x qs)
       ≡ map f (range_with_len x (to - x))
   body_by true x q qs is rise wants fill behind skipped =
       let r = rise.0 is in
@@ -123,15 +123,15 @@ module _ (objects : List LoadedObject) (ps : List Placed) (c : Code) (to : ℕ) 
       let first = filled x q.at (q ∷ qs) above fill in
       let second = piece_here q is (All-head Wants q qs wants) in
       let third = behind r.1 (λ a from bare. fill a (omega (arith, from, low)) (All-cons (IsBare a) q qs (λ w. not_covered a q (λ l. from)) bare)) in
-      ap (λ (bs : List ℕ). bs ++ (bytes_of objects ps q.piece ++ body_from objects ps c to (placed_end q) qs)) first
-      ∙ (ap (λ (bs : List ℕ). map f (range_with_len x (q.at - x)) ++ (bs ++ body_from objects ps c to (placed_end q) qs)) second
+      ap (λ (bs : List ℕ). bs ++ (bytes_of objects placing q.piece ++ body_from objects placing c to (placed_end q) qs)) first
+      ∙ (ap (λ (bs : List ℕ). map f (range_with_len x (q.at - x)) ++ (bs ++ body_from objects placing c to (placed_end q) qs)) second
       ∙ (ap (λ (bs : List ℕ). map f (range_with_len x (q.at - x)) ++ (map f (range_with_len q.at (placed_end q - q.at)) ++ bs)) third
       ∙ (ap (λ (bs : List ℕ). map f (range_with_len x (q.at - x)) ++ bs) (map_between f q.at (placed_end q) to (omega arith) high)
       ∙ map_between f x q.at to low (omega (arith, high)))))
   body_by false x q qs is rise wants fill behind skipped =
       skipped (rise.1 is) (λ a from bare. fill a from (All-cons (IsBare a) q qs (λ w. absurd (true≢false (sym w ∙ is))) bare))
 
-  pub body_is : (x : ℕ) (qs : List Placed) → Rise x to qs → All Wants qs → FillsFrom x qs → body_from objects ps c to x qs ≡ map f (range_with_len x (to - x))
+  pub body_is : (x : ℕ) (qs : List Placed) → Rise x to qs → All Wants qs → FillsFrom x qs → body_from objects placing c to x qs ≡ map f (range_with_len x (to - x))
   body_is x [] rise wants fill =
       map_agree (fill_byte c) f x (to - x) (λ a low high. sym (fill a low (All-nil (IsBare a))))
   body_is x (q ∷ qs) rise wants fill =

@@ -5,7 +5,7 @@ use Rattle.std.specs.List.{flat_map, range_with_len}
 use Rattle.elf_model.specs.Command.{IsBase}
 use Rattle.elf_model.specs.ImageFile.{header_bytes, image_file, own_byte, own_entry, own_file_header, own_program_headers}
 use Rattle.elf_model.specs.Loading.{AreObjects, LoadedObject}
-use Rattle.elf_model.specs.OwnLayout.{IsNotTooLarge, file_end, header_count, own_headers_size, own_in_load_order, own_placed, own_segments}
+use Rattle.elf_model.specs.OwnLayout.{IsNotTooLarge, file_end, header_count, own_headers_size, own_placed, own_segments, own_where}
 use Rattle.elf_model.specs.Pieces.{AreLawfulKinds}
 use Rattle.elf_model.specs.Placement.{Placed}
 use Rattle.elf_model.specs.Records.{file_header_bytes, program_header_bytes}
@@ -30,7 +30,7 @@ module _ (base : ℕ) (objects : List LoadedObject) where
       (hs : List ProgramHeader) (qs : List Placed) (entry from to : ℕ) (name : List ℕ) →
       hs ≡ own_segments base objects → qs ≡ own_placed base objects → from ≡ base + (64 + 56 * (length hs + 1)) → to ≡ base + file_end hs →
       own_entry base objects name ≡ entry →
-      headers_of entry hs ++ body_from objects (own_in_load_order base objects) (code_part hs) to from qs ≡ image_file base objects name
+      headers_of entry hs ++ body_from objects (own_where base objects) (code_part hs) to from qs ≡ image_file base objects name
   image_is based good kinds fits hs qs entry from to name is_hs is_qs is_from is_to is_entry =
       let count = header_count_is base objects in
       let size : base + (64 + 56 * (length (own_segments base objects) + 1)) ≡ base + own_headers_size objects =
@@ -38,7 +38,7 @@ module _ (base : ℕ) (objects : List LoadedObject) where
       let at : from ≡ base + own_headers_size objects = is_from ∙ (ap (λ (gs : List ProgramHeader). base + (64 + 56 * (length gs + 1))) is_hs ∙ size) in
       let end : to ≡ base + file_end (own_segments base objects) = is_to ∙ ap (λ (gs : List ProgramHeader). base + file_end gs) is_hs in
       let n : (base + file_end (own_segments base objects)) - (base + own_headers_size objects) ≡ file_end (own_segments base objects) - own_headers_size objects = omega arith in
-      let B : List ProgramHeader → ℕ → ℕ → List Placed → List ℕ = λ gs y x ps. body_from objects (own_in_load_order base objects) (code_part gs) y x ps in
+      let B : List ProgramHeader → ℕ → ℕ → List Placed → List ℕ = λ gs y x ps. body_from objects (own_where base objects) (code_part gs) y x ps in
       let body : B hs to from qs ≡ map (λ i. own_byte base objects (base + i)) (range_with_len (own_headers_size objects) (file_end (own_segments base objects) - own_headers_size objects)) =
       ap (λ (gs : List ProgramHeader). B gs to from qs) is_hs
       ∙ (ap (λ (y : ℕ). B (own_segments base objects) y from qs) end
@@ -80,11 +80,11 @@ pub file_is :
     hs ≡ own_segments r.base r.objects → qs ≡ own_placed r.base r.objects → code ≡ code_part hs →
     from ≡ r.base + (64 + 56 * (length hs + 1)) → to ≡ r.base + file_end hs → own_entry r.base r.objects name ≡ entry →
     out ≡ [] → mid ≡ out ++ headers_of entry hs →
-    new ≡ mid ++ body_from p.objects (own_in_load_order p.base p.objects) code to from qs → new ≡ image_file r.base r.objects name
+    new ≡ mid ++ body_from p.objects (own_where p.base p.objects) code to from qs → new ≡ image_file r.base r.objects name
 file_is r p same based good kinds fits hs qs code entry from to name out mid new is_hs is_qs is_code is_from is_to is_entry is_out is_mid is_new =
     let front : mid ≡ headers_of entry hs = is_mid ∙ ap (λ (bs : List ℕ). bs ++ headers_of entry hs) is_out in
     is_new
-    ∙ (ap (λ (bs : List ℕ). bs ++ body_from p.objects (own_in_load_order p.base p.objects) code to from qs) front
-    ∙ (ap (λ (b : Basis). headers_of entry hs ++ body_from b.objects (own_in_load_order b.base b.objects) code to from qs) same
-    ∙ (ap (λ (c : Code). headers_of entry hs ++ body_from r.objects (own_in_load_order r.base r.objects) c to from qs) is_code
+    ∙ (ap (λ (bs : List ℕ). bs ++ body_from p.objects (own_where p.base p.objects) code to from qs) front
+    ∙ (ap (λ (b : Basis). headers_of entry hs ++ body_from b.objects (own_where b.base b.objects) code to from qs) same
+    ∙ (ap (λ (c : Code). headers_of entry hs ++ body_from r.objects (own_where r.base r.objects) c to from qs) is_code
     ∙ image_is r.base r.objects based good kinds fits hs qs entry from to name is_hs is_qs is_from is_to is_entry)))

@@ -8,7 +8,7 @@ use Rattle.std.proofs.lemmas.List.Folds.{list_any_none}
 use Rattle.elf_model.specs.Command.{IsBase}
 use Rattle.elf_model.specs.ImageFile.{covers_address, fill_at, is_code_part, own_byte}
 use Rattle.elf_model.specs.Loading.{AreObjects, LoadedObject}
-use Rattle.elf_model.specs.OwnLayout.{IsNotTooLarge, file_end, is_nonempty, own_headers_size, own_in_load_order, own_placed, own_segments, placed_end, placed_has_bytes}
+use Rattle.elf_model.specs.OwnLayout.{IsNotTooLarge, file_end, is_nonempty, own_headers_size, own_in_load_order, own_placed, own_segments, own_where, placed_end, placed_has_bytes}
 use Rattle.elf_model.specs.Pieces.{AreLawfulKinds}
 use Rattle.elf_model.specs.Placement.{Placed}
 use Rattle.elf_model.specs.WantedBytes.{wanted_byte}
@@ -115,7 +115,7 @@ module _ (base : ℕ) (objects : List LoadedObject) (based : IsBase base) (good 
 
   -- a place without bytes in the file stands outside of the code
   abbrev wants : Placed → ℕ → ℕ
-  wants q k = wanted_byte objects (own_in_load_order base objects) q.piece k
+  wants q k = wanted_byte objects (own_where base objects) q.piece k
 
   code_has_bytes :
       (q : Placed) → Contains (own_placed base objects) q → (a : ℕ) → q.at ≤ a → a < placed_end q → (h : ProgramHeader) →
@@ -144,9 +144,9 @@ module _ (base : ℕ) (objects : List LoadedObject) (based : IsBase base) (good 
       rw none refl
 
   -- the own byte of an address in a place with bytes is the wanted one, elsewhere it is the fill
-  own_wants : All (Wants objects (own_in_load_order base objects) (code_part (own_segments base objects)) 0 (own_byte base objects)) (own_placed base objects)
+  own_wants : All (Wants objects (own_where base objects) (code_part (own_segments base objects)) 0 (own_byte base objects)) (own_placed base objects)
   own_wants =
-      All-from_contains (Wants objects (own_in_load_order base objects) (code_part (own_segments base objects)) 0 (own_byte base objects)) (own_placed base objects)
+      All-from_contains (Wants objects (own_where base objects) (code_part (own_segments base objects)) 0 (own_byte base objects)) (own_placed base objects)
       (λ q c w k within. piece_byte wants (own_segments base objects) (own_placed base objects) stand.apart q k c within)
 
   abbrev IsFill : ℕ → ℕ → Type 0
@@ -159,23 +159,23 @@ module _ (base : ℕ) (objects : List LoadedObject) (based : IsBase base) (good 
     where
       by : ((placed_has_bytes q ≡ true) ⊎ (placed_has_bytes q ≡ false)) → IsFill a (wants q (a - q.at))
       by (inr none) =
-          own_wants_zero objects good base stand (own_in_load_order base objects) q (a - q.at) c none
+          own_wants_zero objects good base stand (own_where base objects) q (a - q.at) c none
           ∙ (sym (no_fill q c none a low high) ∙ own_fill_is base objects a)
       by (inl some) =
           let w : is_written q ≡ true = and_from (placed_has_bytes q) (is_nonempty q.piece) some (lt-ltb 0 q.piece.size (omega (arith, low, high))) in
           let e = All-contains (λ (p : Placed). is_written p ≡ true → covers_address a p ≡ false) (own_placed base objects) q bare c w in
           absurd (true≢false (sym (covers-true a q low high) ∙ e))
 
-  pub own_fills : (x : ℕ) → FillsFrom objects (own_in_load_order base objects) (code_part (own_segments base objects)) 0 (own_byte base objects) x (own_placed base objects)
+  pub own_fills : (x : ℕ) → FillsFrom objects (own_where base objects) (code_part (own_segments base objects)) 0 (own_byte base objects) x (own_placed base objects)
   own_fills x a from bare =
       byte_cases wants (own_segments base objects) (own_placed base objects) (IsFill a) a (fill_by a bare) (own_fill_is base objects a)
 
   pub own_body_is :
-      body_from objects (own_in_load_order base objects) (code_part (own_segments base objects)) (base + file_end (own_segments base objects))
+      body_from objects (own_where base objects) (code_part (own_segments base objects)) (base + file_end (own_segments base objects))
       (base + own_headers_size objects) (own_placed base objects)
       ≡ map (own_byte base objects)
       (range_with_len (base + own_headers_size objects) ((base + file_end (own_segments base objects)) - (base + own_headers_size objects)))
   own_body_is =
-      body_is objects (own_in_load_order base objects) (code_part (own_segments base objects)) (base + file_end (own_segments base objects))
+      body_is objects (own_where base objects) (code_part (own_segments base objects)) (base + file_end (own_segments base objects))
       (own_byte base objects) (base + own_headers_size objects) (own_placed base objects) own_rise own_wants
       (own_fills (base + own_headers_size objects))

@@ -5,19 +5,22 @@ use Rattle.std.specs.List.{slice_get}
 use Rattle.std.specs.Option.{option_and_then}
 use Rattle.std.proofs.lemmas.Bool.{and_parts, eqb-true, false_from_ne_true, not-true, or_cases, true≢false}
 use Rattle.std.proofs.lemmas.List.{length-drop, length-take-le}
-use Rattle.std.proofs.lemmas.List.Elements.{All-cons, All-contains, All-nil}
+use Rattle.std.proofs.lemmas.List.Elements.{All-cons, All-contains, All-nil, Contains-append_cases}
 use Rattle.std.proofs.lemmas.Option.{get_or_from_slice_get, slice_get_within}
 use Rattle.byteview.specs.Numbers.{part}
 use Rattle.elf_model.specs.Loading.{AreObjects, LoadedObject}
 use Rattle.elf_model.specs.ObjectFile.{IsObject, IsPlaced, LiesInside, bytes_in_file, contents, has_no_bytes, section, section_bytes, sections}
 use Rattle.elf_model.specs.OwnLayout.{is_nonempty, own_placed, placed_has_bytes}
-use Rattle.elf_model.specs.Pieces.{AreLawfulKinds, IsLawfulKind, Piece, is_nobits, piece_of, pieces}
+use Rattle.elf_model.specs.Commons.{block_of, block_pieces, pieces}
+use Rattle.elf_model.specs.Pieces.{AreLawfulKinds, IsLawfulKind, Piece, has_bytes, is_nobits, kept_sections, piece_of}
 use Rattle.elf_model.specs.Placement.{Placed}
 use Rattle.elf_model.specs.Resolution.{sections_of_object}
 use Rattle.elf_model.specs.declared.records.SectionHeader.{SectionHeader}
+use Rattle.elf_model.proofs.Blocks.{block_bare, block_pieces-each}
 use Rattle.elf_model.proofs.Listed.{All-from_contains, Contains-from_map}
 use Rattle.elf_model.proofs.Places.{AreOwnPlaced, at_own_address}
-use Rattle.elf_model.proofs.Sectioned.{pieces-each}
+use Rattle.elf_model.proofs.OwnOrder.{pieces_lawful}
+use Rattle.elf_model.proofs.Sectioned.{kept-each}
 use Rattle.own_link.proofs.ZeroFilled.{piece_headers}
 use Rattle.image_write.specs.Parts.{AreWhole, IsWhole, is_written}
 
@@ -88,9 +91,9 @@ section_whole k bytes good i h there lawful some =
     ap (λ (o : Option SectionHeader). unwrap_or (option_and_then (bytes_in_file bytes) o) []) there ∙ file_bytes bytes h none in
     ap (λ (xs : List ℕ). length xs) is ∙ part_length bytes h.sh_offset h.sh_size (inside_by (length bytes) h placed none)
 
-all_bytes : (objects : List LoadedObject) → AreObjects objects → All HasAllBytes (pieces objects)
+all_bytes : (objects : List LoadedObject) → AreObjects objects → All HasAllBytes (kept_sections objects)
 all_bytes objects good =
-    pieces-each HasAllBytes objects (λ k o there i h within.
+    kept-each HasAllBytes objects (λ k o there i h within.
     section_whole k o.bytes
     (All-contains (λ (x : LoadedObject). IsObject x.bytes) objects o good
     (k, slice_get_within objects k o there, get_or_from_slice_get objects k o o there)) i h within)
@@ -98,8 +101,8 @@ all_bytes objects good =
 abbrev HasItsSize : Piece → Type 0
 HasItsSize p = p.size ≡ p.header.sh_size
 
-own_sizes : (objects : List LoadedObject) → All HasItsSize (pieces objects)
-own_sizes objects = pieces-each HasItsSize objects (λ k o there i h within. refl)
+own_sizes : (objects : List LoadedObject) → All HasItsSize (kept_sections objects)
+own_sizes objects = kept-each HasItsSize objects (λ k o there i h within. refl)
 
 -- of the own places
 pub placed_piece : (base : ℕ) (objects : List LoadedObject) → AreOwnPlaced base objects → (q : Placed) → Contains (own_placed base objects) q → Contains (pieces objects) q.piece
@@ -109,17 +112,30 @@ placed_piece base objects stand q c =
 
 pub placed_lawful : (base : ℕ) (objects : List LoadedObject) → AreLawfulKinds objects → AreOwnPlaced base objects → (q : Placed) → Contains (own_placed base objects) q → IsLawfulKind q.piece.header
 placed_lawful base objects kinds stand q c =
-    All-contains (λ (p : Piece). IsLawfulKind p.header) (pieces objects) q.piece kinds (placed_piece base objects stand q c)
+    All-contains (λ (p : Piece). IsLawfulKind p.header) (pieces objects) q.piece (pieces_lawful objects kinds) (placed_piece base objects stand q c)
+
+-- a place that has bytes in the file is that of a kept section
+placed_kept :
+    (base : ℕ) (objects : List LoadedObject) → AreOwnPlaced base objects → (q : Placed) → Contains (own_placed base objects) q →
+    placed_has_bytes q ≡ true → Contains (kept_sections objects) q.piece
+placed_kept base objects stand q c some = by (Contains-append_cases (kept_sections objects) (block_pieces objects) q.piece (placed_piece base objects stand q c))
+  where
+    by : Contains (kept_sections objects) q.piece ⊎ Contains (block_pieces objects) q.piece → Contains (kept_sections objects) q.piece
+    by (inl kept) = kept
+    by (inr block) =
+        let bare = All-contains (λ (p : Piece). has_bytes p ≡ false) (block_pieces objects) q.piece
+        (block_pieces-each objects (λ (p : Piece). has_bytes p ≡ false) (λ k s there. block_bare (block_of objects k s))) block in
+        absurd (true≢false (sym some ∙ bare))
 
 pub own_whole : (base : ℕ) (objects : List LoadedObject) → AreObjects objects → AreLawfulKinds objects → AreOwnPlaced base objects → AreWhole objects (own_placed base objects)
 own_whole base objects good kinds stand =
     All-from_contains (λ (q : Placed). is_written q ≡ true → IsWhole objects q.piece) (own_placed base objects) (λ q c w.
-    let there = placed_piece base objects stand q c in
     let lawful = placed_lawful base objects kinds stand q c in
     let w' = and_parts (placed_has_bytes q) (is_nonempty q.piece) w in
-    let b = All-contains HasAllBytes (pieces objects) q.piece (all_bytes objects good) there lawful (not-true (is_nobits q.piece.header) w'.0) in
+    let there = placed_kept base objects stand q c w'.0 in
+    let b = All-contains HasAllBytes (kept_sections objects) q.piece (all_bytes objects good) there lawful (not-true (is_nobits q.piece.header) w'.0) in
     let h : section (sections_of_object (slice_get objects q.piece.object)) q.piece.section ≡ q.piece.header =
-    All-contains (λ (p : Piece). section (sections_of_object (slice_get objects p.object)) p.section ≡ p.header) (pieces objects) q.piece
+    All-contains (λ (p : Piece). section (sections_of_object (slice_get objects p.object)) p.section ≡ p.header) (kept_sections objects) q.piece
     (piece_headers objects) there in
-    let n = All-contains HasItsSize (pieces objects) q.piece (own_sizes objects) there in
+    let n = All-contains HasItsSize (kept_sections objects) q.piece (own_sizes objects) there in
     record { bytes = b; section_size = ap (λ (x : SectionHeader). x.sh_size) h ∙ sym n })

@@ -7,7 +7,7 @@ use Rattle.elf_model.specs.Loading.{LoadedObject}
 use Rattle.elf_model.specs.ObjectFile.{section}
 use Rattle.elf_model.specs.OwnLayout.{is_nonempty, placed_end, placed_has_bytes}
 use Rattle.elf_model.specs.Pieces.{Piece}
-use Rattle.elf_model.specs.Placement.{Placed}
+use Rattle.elf_model.specs.Placement.{Placed, Where}
 use Rattle.elf_model.specs.Records.{file_header_bytes, program_header_bytes}
 use Rattle.elf_model.specs.Resolution.{sections_of_object}
 use Rattle.elf_model.specs.WantedBytes.{wanted_byte}
@@ -40,15 +40,15 @@ abbrev pub is_written : Placed → Bool
 is_written q = placed_has_bytes q && is_nonempty q.piece
 
 -- the wanted bytes of a piece
-abbrev pub bytes_of : List LoadedObject → List Placed → Piece → List ℕ
-bytes_of objects ps p = map (wanted_byte objects ps p) (range_with_len 0 p.size)
+abbrev pub bytes_of : List LoadedObject → Where → Piece → List ℕ
+bytes_of objects w p = map (wanted_byte objects w p) (range_with_len 0 p.size)
 
 -- the bytes of the addresses from x to before another: of those places that have bytes, and fill between them
-abbrev pub body_from : List LoadedObject → List Placed → Code → ℕ → ℕ → List Placed → List ℕ
-body_from objects ps c to x [] = fill_run c x to
-body_from objects ps c to x (q ∷ qs) =
-    cond (is_written q) (fill_run c x q.at ++ (bytes_of objects ps q.piece ++ body_from objects ps c to (placed_end q) qs))
-    (body_from objects ps c to x qs)
+abbrev pub body_from : List LoadedObject → Where → Code → ℕ → ℕ → List Placed → List ℕ
+body_from objects w c to x [] = fill_run c x to
+body_from objects w c to x (q ∷ qs) =
+    cond (is_written q) (fill_run c x q.at ++ (bytes_of objects w q.piece ++ body_from objects w c to (placed_end q) qs))
+    (body_from objects w c to x qs)
 
 -- the places that have bytes follow each other from x on, and end at or below another address
 abbrev pub Rise : ℕ → ℕ → List Placed → Type 0

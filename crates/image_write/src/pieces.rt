@@ -1,6 +1,6 @@
 //! The pieces at their places, with their relocated bytes.
 ghost use Rattle.std.specs.Prelude.{◌≡◌, ◌++◌, ◌≤◌, ◌^◌, All, OnOk};
-ghost use Rattle.elf_model.specs.OwnLayout.{own_in_load_order};
+ghost use Rattle.elf_model.specs.OwnLayout.{own_where};
 ghost use Rattle.layout.specs.PlaceViews.{place_view, place_views};
 ghost use Rattle.layout.specs.Views.{piece_view};
 ghost use Rattle.image_write.specs.Parts.{AreWhole, IsWhole, Rise, body_from, bytes_of, is_written};
@@ -24,7 +24,7 @@ fn put_piece(
     piece: &Piece<'_>,
 ) -> Result<(), AllocError>
     requires { IsWhole patches.now.objects (piece_view piece.now) }
-    ensures { OnOk result (out.new.items ≡ out.old.items ++ bytes_of patches.now.objects (own_in_load_order patches.now.base patches.now.objects) (piece_view piece.now)) }
+    ensures { OnOk result (out.new.items ≡ out.old.items ++ bytes_of patches.now.objects (own_where patches.now.base patches.now.objects) (piece_view piece.now)) }
 {
     let at = out.len();
     out.extend_from_slice(piece.bytes)?;
@@ -46,7 +46,7 @@ pub fn put_places(
     requires rise { Rise from to (place_views places.now) }
     requires low { to ≤ 2 ^ 46 }
     requires whole { AreWhole patches.now.objects (place_views places.now) }
-    ensures { OnOk result (out.new.items ≡ out.old.items ++ body_from patches.now.objects (own_in_load_order patches.now.base patches.now.objects) code.now to from (place_views places.now)) }
+    ensures { OnOk result (out.new.items ≡ out.old.items ++ body_from patches.now.objects (own_where patches.now.base patches.now.objects) code.now to from (place_views places.now)) }
 {
     let mut next = from;
     for place in places {

@@ -1,5 +1,5 @@
 //! Faults print as their name and their number, and refused memory is the fault Memory.
-use elf_model::ObjFault;
+use elf_model::{ArFault, GroupFault, ObjFault};
 use layout::LayoutFault;
 use relocate::RelocFault;
 use resolve::ResolveFault;
@@ -25,7 +25,12 @@ fn faults_of_loading_print_their_number(rt: HostRuntime) -> Result<(), Fail> {
     let bad = SearchFault::BadObject(ObjFault::Truncated);
     prints(&rt, alloc, SearchFault::Memory, "Memory (1)")?;
     prints(&rt, alloc, SearchFault::FileMissing, "FileMissing (2)")?;
-    prints(&rt, alloc, bad, "BadObject (3): Truncated (2)")
+    prints(&rt, alloc, bad, "BadObject (3): Truncated (2)")?;
+    let archive = SearchFault::BadArchive(ArFault::NotArchive);
+    prints(&rt, alloc, archive, "BadArchive (4): NotArchive (2)")?;
+    prints(&rt, alloc, SearchFault::NoIndex, "NoIndex (5)")?;
+    let group = SearchFault::Group(GroupFault::BadFlags);
+    prints(&rt, alloc, group, "Group (6): BadFlags (3)")
 }
 
 #[test]
@@ -34,6 +39,7 @@ fn faults_of_names_print_their_number(rt: HostRuntime) -> Result<(), Fail> {
     let name = Vec::from_slice(alloc, b"f")?;
     prints(&rt, alloc, ResolveFault::Memory, "Memory (1)")?;
     prints(&rt, alloc, ResolveFault::Duplicate(name), "Duplicate (2)")?;
+    prints(&rt, alloc, ResolveFault::BadCommon, "BadCommon (3)")?;
     prints(&rt, alloc, ResolveFault::BadSymbol, "BadSymbol (4)")
 }
 
@@ -57,7 +63,8 @@ fn refusals_of_relocations_print_their_number(rt: HostRuntime) -> Result<(), Fai
     let overlap = RelocFault::OverlappingFields;
     prints(&rt, alloc, overlap, "OverlappingFields (6)")?;
     prints(&rt, alloc, RelocFault::Overflow, "Overflow (7)")?;
-    prints(&rt, alloc, RelocFault::TlsMismatch, "TlsMismatch (8)")
+    prints(&rt, alloc, RelocFault::TlsMismatch, "TlsMismatch (8)")?;
+    prints(&rt, alloc, RelocFault::MixedSection, "MixedSection (9)")
 }
 
 /// What `push` answers where memory is refused.

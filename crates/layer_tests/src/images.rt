@@ -3,12 +3,13 @@ ghost use Rattle.elf_model.specs.Loading.{AreObjects};
 ghost use Rattle.search.specs.Views.{loaded_views};
 
 use crate::objects::{DATA, RODATA, TEXT, load_both, object_of};
-use crate::values::patched;
+use crate::values::judged_patches;
 use byteview::View;
 use elf_model::SectionHeader;
 use image_write::image;
 use layout::{Placement, kinds, place};
 use relocate::Patches;
+use resolve::resolve;
 use search::Loaded;
 use std::alloc::Global;
 use std::test::Fail;
@@ -18,9 +19,10 @@ fn image_of(alloc: Global, objects: &[Loaded<'_>], entry: u64) -> Result<Vec<u8>
     requires { AreObjects (loaded_views objects.now) }
 {
     kinds(objects)?;
-    let tables = place(alloc, objects, 0x400000)?;
+    let resolved = resolve(alloc, objects)?;
+    let tables = place(alloc, objects, resolved.blocks(), 0x400000)?;
     let placement = Placement::new(0x400000, &*objects, &tables);
-    let table = patched(alloc, objects, &placement)?;
+    let table = judged_patches(alloc, objects, &resolved, &placement)?;
     let patches = Patches::new(&placement, &table);
     Ok(image(alloc, &placement, &patches, entry)?)
 }

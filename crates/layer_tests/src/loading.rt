@@ -7,7 +7,7 @@ use std::alloc::{AllocError, Global};
 use std::test::Fail;
 
 /// The words of a line, cut at spaces.
-fn words(alloc: Global, line: &str) -> Result<Vec<String>, AllocError> {
+pub fn words(alloc: Global, line: &str) -> Result<Vec<String>, AllocError> {
     let mut list = Vec::new(alloc);
     for word in line.split_whitespace() {
         list.push(String::from_str(alloc, word)?)?;
@@ -30,7 +30,7 @@ fn files(alloc: Global, a: Vec<u8>, b: Vec<u8>) -> Result<Vec<InputFile>, AllocE
 }
 
 /// What comes of the loading of the objects that words name.
-fn load_words<'a>(
+pub fn load_words<'a>(
     alloc: Global,
     words: &'a [String],
     files: &'a [InputFile],
@@ -51,12 +51,12 @@ fn objects_stand_in_command_order(rt: HostRuntime) -> Result<(), Fail> {
     let a = object_of(alloc, &[TEXT])?;
     let b = object_of(alloc, &[DATA, TEXT])?;
     let files = files(alloc, a, b)?;
-    let words = words(alloc, "b.o x.a a.o b.o")?;
+    let words = words(alloc, "b.o a.o b.o")?;
     let objects = load_words(alloc, &words, &files)??;
     assert_eq!(rt; objects.len(), 3);
     assert!(rt; is_loaded(&objects[0], 0, "b.o", 4));
-    assert!(rt; is_loaded(&objects[1], 2, "a.o", 3));
-    assert!(rt; is_loaded(&objects[2], 3, "b.o", 4));
+    assert!(rt; is_loaded(&objects[1], 1, "a.o", 3));
+    assert!(rt; is_loaded(&objects[2], 2, "b.o", 4));
     Ok(())
 }
 

@@ -1,9 +1,11 @@
 //! What names and symbols mean.
 use crate::objects::{
-    DATA, ENTRY, ETEXT_NAME, F_NAME, G_NAME, START_NAME, SYMBOLS, TEXT, load_both, object_with,
+    DATA, ENTRY, F_NAME, G_NAME, GOT_NAME, START_NAME, SYMBOLS, TEXT, load_both, object_with,
 };
-use elf_model::{Rela, SHF_ALLOC, SHF_TLS, SHF_WRITE, SectionHeader, Symbol};
-use resolve::{ResolveFault, Resolved, SymbolOf, have_plain_names, resolve, resolve_over};
+use elf_model::{Rela, SHF_ALLOC, SHF_TLS, SHF_WRITE, SHN_COMMON, SectionHeader, Symbol};
+use resolve::{
+    Block, Meaning, ResolveFault, Resolved, SymbolOf, have_plain_names, resolve, resolve_over,
+};
 use std::alloc::{AllocError, Global};
 use std::process::Abort;
 use std::test::Fail;
@@ -44,6 +46,15 @@ fn numbers(symbol: Option<SymbolOf<'_>>) -> Option<(u64, u64)> {
     Some((symbol.object, symbol.number))
 }
 
+/// Those of the symbol or of the block that is meant; None for the linker's names.
+fn meant_numbers(meaning: Option<Meaning<'_>>) -> Option<(u64, u64)> {
+    match meaning? {
+        Meaning::Symbol(symbol) => numbers(Some(symbol)),
+        Meaning::Common(block) => Some((block.object, block.number)),
+        Meaning::Linker(_, _) => None,
+    }
+}
+
 fn assert_names(rt: &impl Abort, definitions: &[SymbolOf<'_>]) {
     assert_eq!(rt; definitions.len(), 2);
     assert!(rt; definitions[0].name == b"f".as_slice());
@@ -61,7 +72,7 @@ fn assert_definitions(rt: &impl Abort, resolved: &Resolved<'_, '_>) {
         (1, 0, None),
         (2, 1, None),
     ] {
-        let found = numbers(resolved.definition(object, number));
+        let found = meant_numbers(resolved.definition(object, number));
         assert!(rt; found == used, "of symbol {number} of object {object}");
     }
 }
@@ -78,8 +89,31 @@ fn names_mean_strong_definitions(rt: HostRuntime) -> Result<(), Fail> {
     Ok(())
 }
 
+/// A WEAK symbol at the beginning of a section.
+fn weak(st_name: u32, st_shndx: u16) -> Symbol {
+    Symbol {
+        st_info: 0x20,
+        ..global(st_name, st_shndx)
+    }
+}
+
+#[test]
+fn names_mean_weak_definitions_where_none_is_strong(rt: HostRuntime) -> Result<(), Fail> {
+    let alloc = rt.alloc();
+    let a = object_of(alloc, &[weak(G_NAME, 2), weak(F_NAME, 2)])?;
+    let b = object_of(alloc, &[weak(G_NAME, 2), global(F_NAME, 2)])?;
+    let objects = load_both(alloc, &a, &b)?;
+    let resolved = resolve(alloc, &objects)?;
+    assert!(rt; numbers(resolved.chosen(b"g")) == Some((0, 1)));
+    assert!(rt; numbers(resolved.chosen(b"f")) == Some((1, 2)));
+    assert!(rt; meant_numbers(resolved.definition(1, 1)) == Some((0, 1)));
+    assert!(rt; meant_numbers(resolved.definition(0, 2)) == Some((1, 2)));
+    assert_eq!(rt; resolved.definitions().len(), 2);
+    Ok(())
+}
+
 fn assert_entry(rt: &impl Abort, resolved: &Resolved<'_, '_>) {
-    assert!(rt; numbers(resolved.entry(b"_start")) == Some((0, 1)));
+    assert!(rt; meant_numbers(resolved.entry(b"_start")) == Some((0, 1)));
     assert!(rt; resolved.entry(b"f").is_none());
     assert!(rt; resolved.entry(b"g").is_none());
     for (object, number, inside) in [(0, 1, false), (0, 2, true), (1, 1, true), (1, 2, false)] {
@@ -131,14 +165,118 @@ fn unsound_symbols_are_refused(rt: HostRuntime) -> Result<(), Fail> {
     Ok(())
 }
 
-/// Whether the linker's names have definitions where an object uses `_etext` and another has a symbol.
+/// A GLOBAL common symbol.
+fn common(st_name: u32, st_size: u64, st_value: u64) -> Symbol {
+    Symbol {
+        st_name,
+        st_info: 0x11,
+        st_other: 0,
+        st_shndx: SHN_COMMON,
+        st_value,
+        st_size,
+    }
+}
+
+/// A block's numbers, name, size and alignment.
+type BlockRow = (u64, u64, &'static [u8], u64, u64);
+
+fn is_block(block: &Block<'_>, row: &BlockRow) -> bool {
+    let (object, number, name, size, align) = *row;
+    (block.object, block.number, block.size, block.align) == (object, number, size, align)
+        && block.name == name
+}
+
+fn are_blocks(resolved: &Resolved<'_, '_>, rows: &[BlockRow]) -> bool {
+    let blocks = resolved.blocks();
+    blocks.len() == rows.len()
+        && blocks
+            .iter()
+            .zip(rows)
+            .all(|(block, row)| is_block(block, row))
+}
+
+static SHARED: [BlockRow; 2] = [(2, 0, b"g", 4, 16), (2, 1, b"f", 8, 4)];
+
+#[test]
+fn common_symbols_of_one_name_share_a_block(rt: HostRuntime) -> Result<(), Fail> {
+    let alloc = rt.alloc();
+    let a = object_of(alloc, &[common(G_NAME, 4, 16), common(F_NAME, 2, 1)])?;
+    let b = object_of(alloc, &[common(F_NAME, 8, 4), common(G_NAME, 3, 2)])?;
+    let objects = load_both(alloc, &a, &b)?;
+    let resolved = resolve(alloc, &objects)?;
+    assert!(rt; are_blocks(&resolved, &SHARED));
+    let used = [resolved.definition(0, 1), resolved.definition(1, 1)];
+    assert!(rt; used.map(meant_numbers) == [Some((2, 0)), Some((2, 1))]);
+    Ok(())
+}
+
+static ONE_BLOCK: [BlockRow; 1] = [(2, 0, b"f", 8, 4)];
+
+#[test]
+fn a_common_symbol_stands_before_a_weak_definition_alone(rt: HostRuntime) -> Result<(), Fail> {
+    let alloc = rt.alloc();
+    let a = object_of(alloc, &[weak(F_NAME, 2), common(G_NAME, 4, 16)])?;
+    let b = object_of(alloc, &[common(F_NAME, 8, 4), global(G_NAME, 2)])?;
+    let objects = load_both(alloc, &a, &b)?;
+    let resolved = resolve(alloc, &objects)?;
+    assert!(rt; are_blocks(&resolved, &ONE_BLOCK));
+    let used = [resolved.definition(0, 1), resolved.definition(0, 2)];
+    assert!(rt; used.map(meant_numbers) == [Some((2, 0)), Some((1, 2))]);
+    Ok(())
+}
+
+/// A common `f` of 8 bytes.
+const COMMON_F: Symbol = Symbol {
+    st_name: F_NAME,
+    st_info: 0x11,
+    st_other: 0,
+    st_shndx: SHN_COMMON,
+    st_value: 8,
+    st_size: 8,
+};
+
+/// Bindings and types, and alignments of common symbols, and whether these are sound.
+static COMMONS: [(u8, u64, bool); 9] = [
+    (0x10, 1, true),
+    (0x11, 0x20_0000, true),
+    (0x15, 8, true),
+    // LOCAL, WEAK, and of type TLS.
+    (0x01, 8, false),
+    (0x21, 8, false),
+    (0x16, 8, false),
+    // No powers of two, and one too great.
+    (0x11, 0, false),
+    (0x11, 24, false),
+    (0x11, 0x40_0000, false),
+];
+
+#[test]
+fn unsound_common_symbols_are_refused(rt: HostRuntime) -> Result<(), Fail> {
+    let start = [local(2), global(START_NAME, 2)];
+    for (st_info, st_value, sound) in COMMONS {
+        let symbol = Symbol {
+            st_info,
+            st_value,
+            ..COMMON_F
+        };
+        let refused = refusal(rt.alloc(), &[symbol, global(G_NAME, 2)], &start)?;
+        let bad = matches!(&refused, Some(ResolveFault::BadCommon));
+        assert!(rt;
+            bad != sound && refused.is_none() == sound,
+            "{st_info} aligned {st_value}"
+        );
+    }
+    Ok(())
+}
+
+/// Whether the names of later versions have definitions where an object uses that of the GOT and another has a symbol.
 fn are_plain(alloc: Global, other: Symbol) -> Result<bool, Fail> {
     let entries = SectionHeader {
         sh_link: 3,
         sh_info: 2,
         ..ENTRY
     };
-    let symbols = [global(ETEXT_NAME, 0), local(2)];
+    let symbols = [global(GOT_NAME, 0), local(2)];
     // R_X86_64_PC32 at 0 of `.text` against symbol 1.
     let entry = Rela {
         r_offset: 0,
@@ -152,9 +290,9 @@ fn are_plain(alloc: Global, other: Symbol) -> Result<bool, Fail> {
 }
 
 #[test]
-fn an_object_may_define_a_linkers_name(rt: HostRuntime) -> Result<(), Fail> {
+fn an_object_may_define_a_name_of_later_versions(rt: HostRuntime) -> Result<(), Fail> {
     let alloc = rt.alloc();
-    assert!(rt; are_plain(alloc, global(ETEXT_NAME, 2))?);
+    assert!(rt; are_plain(alloc, global(GOT_NAME, 2))?);
     assert!(rt; !are_plain(alloc, global(F_NAME, 2))?);
     Ok(())
 }

@@ -5,9 +5,10 @@ ghost use Rattle.elf_model.specs.ObjectFile.{IsObject};
 ghost use Rattle.search.specs.Views.{loaded_views};
 
 use byteview::View;
+use comdat::Groups;
 use elf_model::{
-    EM_X86_64, ET_REL, FileHeader, ObjFault, Rela, SHF_ALLOC, SHF_EXECINSTR, SHF_WRITE, SHT_NOBITS,
-    SHT_NULL, SHT_PROGBITS, SHT_RELA, SHT_STRTAB, SHT_SYMTAB, SectionHeader, Symbol,
+    EM_X86_64, ET_REL, FileHeader, Rela, SHF_ALLOC, SHF_EXECINSTR, SHF_WRITE, SHT_NOBITS, SHT_NULL,
+    SHT_PROGBITS, SHT_RELA, SHT_STRTAB, SHT_SYMTAB, SectionHeader, Symbol,
 };
 use elf_read::Object;
 use search::Loaded;
@@ -46,19 +47,28 @@ const HEADER: FileHeader = FileHeader {
 
 /// The names of the sections and symbols of every object here: the numbers are where each begins.
 static NAMES: &[u8] =
-    b"\0.shstrtab\0.rodata\0.text\0.data\0.bss\0.rodata.b\0notes\0_start\0_etext\0.symtab\0.rela\0f\0g\0";
+    b"\0.rodata\0.text\0.data\0.bss\0.rodata.b\0notes\0_start\0_etext\0f\0g\0h\0__stop_a\0_GLOBAL_OFFSET_TABLE_\0";
 
-pub const NOTES_NAME: u32 = 46;
+pub const RODATA_B_NAME: u32 = 26;
 
-pub const RODATA_B_NAME: u32 = 36;
+pub const NOTES_NAME: u32 = 36;
 
-pub const START_NAME: u32 = 52;
+pub const START_NAME: u32 = 42;
 
-pub const ETEXT_NAME: u32 = 59;
+pub const ETEXT_NAME: u32 = 49;
 
-pub const F_NAME: u32 = 80;
+pub const F_NAME: u32 = 56;
 
-pub const G_NAME: u32 = 82;
+pub const G_NAME: u32 = 58;
+
+pub const H_NAME: u32 = 60;
+
+pub const STOP_NAME: u32 = 62;
+
+/// The name `a`, with which `__stop_a` ends.
+pub const A_NAME: u32 = 69;
+
+pub const GOT_NAME: u32 = 71;
 
 /// The bytes of `.rodata` at 160, of `.text` at 168 and of `.data` at 184.
 static BYTES: [u8; 32] = [
@@ -67,7 +77,7 @@ static BYTES: [u8; 32] = [
 ];
 
 pub const RODATA: SectionHeader = SectionHeader {
-    sh_name: 11,
+    sh_name: 1,
     sh_type: SHT_PROGBITS,
     sh_flags: SHF_ALLOC,
     sh_offset: 160,
@@ -77,7 +87,7 @@ pub const RODATA: SectionHeader = SectionHeader {
 };
 
 pub const TEXT: SectionHeader = SectionHeader {
-    sh_name: 19,
+    sh_name: 9,
     sh_type: SHT_PROGBITS,
     sh_flags: SHF_ALLOC | SHF_EXECINSTR,
     sh_offset: 168,
@@ -87,7 +97,7 @@ pub const TEXT: SectionHeader = SectionHeader {
 };
 
 pub const DATA: SectionHeader = SectionHeader {
-    sh_name: 25,
+    sh_name: 15,
     sh_type: SHT_PROGBITS,
     sh_flags: SHF_ALLOC | SHF_WRITE,
     sh_offset: 184,
@@ -97,7 +107,7 @@ pub const DATA: SectionHeader = SectionHeader {
 };
 
 pub const BSS: SectionHeader = SectionHeader {
-    sh_name: 31,
+    sh_name: 21,
     sh_type: SHT_NOBITS,
     sh_flags: SHF_ALLOC | SHF_WRITE,
     sh_offset: 192,
@@ -108,7 +118,6 @@ pub const BSS: SectionHeader = SectionHeader {
 
 /// A table of two symbols behind the null symbol.
 pub const SYMBOLS: SectionHeader = SectionHeader {
-    sh_name: 66,
     sh_type: SHT_SYMTAB,
     sh_offset: 192,
     sh_size: 72,
@@ -120,7 +129,6 @@ pub const SYMBOLS: SectionHeader = SectionHeader {
 
 /// One relocation behind these symbols; which section it relocates and which one has the symbols isn't said.
 pub const ENTRY: SectionHeader = SectionHeader {
-    sh_name: 74,
     sh_type: SHT_RELA,
     sh_offset: 264,
     sh_size: 24,
@@ -183,7 +191,6 @@ pub fn object_with(
     bytes.extend_from_slice(&contents)?;
     put_section(&mut bytes, &NULL_SECTION)?;
     let names = SectionHeader {
-        sh_name: 1,
         sh_type: SHT_STRTAB,
         sh_offset: 64,
         sh_size: NAMES.len() as u64,
@@ -202,14 +209,17 @@ pub fn object_of(alloc: Global, sections: &[SectionHeader]) -> Result<Vec<u8>, A
     object_with(alloc, sections, &[], &[])
 }
 
-fn load<'a>(alloc: Global, bytes: &'a [u8]) -> Result<Loaded<'a>, ObjFault>
+fn load<'a>(alloc: Global, bytes: &'a [u8]) -> Result<Loaded<'a>, Fail>
     ensures { IfOk result (λ l. IsObject l.object) }
 {
     let object = Object::read(alloc, View::new(bytes))?;
+    let dropped = Groups::new(alloc).admit(&object)?;
     Ok(Loaded {
         object,
         item: 0,
+        offset: 0,
         path: "a.o",
+        dropped,
     })
 }
 

@@ -1,11 +1,16 @@
-//! Layouts: where pieces stand, and in which segments.
-use crate::objects::{BSS, DATA, NOTES_NAME, RODATA, RODATA_B_NAME, TEXT, load_both, object_of};
+//! Layouts: where pieces stand, and in which segments, and what the linker's names for output sections stand for.
+ghost use Rattle.elf_model.specs.Pieces.{AreLawfulKinds};
+
+use crate::objects::{
+    A_NAME, BSS, DATA, F_NAME, G_NAME, NOTES_NAME, RODATA, RODATA_B_NAME, SYMBOLS, TEXT, load_both,
+    object_of, object_with,
+};
 use elf_model::{
-    PT_LOAD, ProgramHeader, SHF_ALLOC, SHF_EXECINSTR, SHF_LINK_ORDER, SHF_TLS, SHF_WRITE,
-    SHT_STRTAB, SectionHeader,
+    Bound, PT_LOAD, ProgramHeader, SHF_ALLOC, SHF_EXECINSTR, SHF_LINK_ORDER, SHF_TLS, SHF_WRITE,
+    SHN_COMMON, SHT_STRTAB, SectionHeader, Symbol,
 };
 use layout::{LayoutFault, Place, Placement, kinds, place};
-use resolve::output_name;
+use resolve::{output_name, resolve};
 use std::alloc::{AllocError, Global};
 use std::test::Fail;
 
@@ -45,7 +50,8 @@ fn summary_of(alloc: Global, placement: &Placement<'_, '_>) -> Result<Summary, A
 /// The layout of the objects of two files from 0x400000 on.
 fn lay_out(alloc: Global, a: &[u8], b: &[u8]) -> Result<Summary, Fail> {
     let objects = load_both(alloc, a, b)?;
-    let tables = place(alloc, &objects, 0x400000)?;
+    let resolved = resolve(alloc, &objects)?;
+    let tables = place(alloc, &objects, resolved.blocks(), 0x400000)?;
     let placement = Placement::new(0x400000, &objects, &tables);
     Ok(summary_of(alloc, &placement)?)
 }
@@ -68,7 +74,9 @@ fn is_too_large(alloc: Global, section: SectionHeader) -> Result<bool, Fail> {
     let none = object_of(alloc, &[])?;
     let other = object_of(alloc, &[section])?;
     let objects = load_both(alloc, &none, &other)?;
-    Ok(matches!(place(alloc, &objects, 0x400000), Err(LayoutFault::TooLarge)))
+    let resolved = resolve(alloc, &objects)?;
+    let tables = place(alloc, &objects, resolved.blocks(), 0x400000);
+    Ok(matches!(tables, Err(LayoutFault::TooLarge)))
 }
 
 /// A PT_LOAD that the linker lays out from 0x400000 on.
@@ -139,6 +147,79 @@ fn two_objects_share_output_sections(rt: HostRuntime) -> Result<(), Fail> {
     assert_eq!(rt; summary.told, 5);
     let segments = [segment(4, 0, 0xfd, 0xfd), segment(5, 0x1000, 0x19, 0x19)];
     assert!(rt; summary.segments.as_slice() == segments.as_slice());
+    Ok(())
+}
+
+/// A GLOBAL common symbol.
+fn common(st_name: u32, st_size: u64, st_value: u64) -> Symbol {
+    Symbol {
+        st_name,
+        st_info: 0x11,
+        st_other: 0,
+        st_shndx: SHN_COMMON,
+        st_value,
+        st_size,
+    }
+}
+
+#[test]
+fn blocks_stand_after_all_sections(rt: HostRuntime) -> Result<(), Fail> {
+    let alloc = rt.alloc();
+    let commons = [common(G_NAME, 4, 4), common(F_NAME, 16, 16)];
+    let a = object_with(alloc, &[DATA, SYMBOLS], &commons, &[])?;
+    let b = object_of(alloc, &[BSS])?;
+    let summary = lay_out(alloc, &a, &b)?;
+    // Blocks are numbered as sections of an object of number 2.
+    let places = [
+        (0, 2, 0x401000),
+        (1, 2, 0x401008),
+        (2, 0, 0x401010),
+        (2, 1, 0x401020),
+    ];
+    assert!(rt; summary.places.as_slice() == places.as_slice());
+    assert_eq!(rt; summary.told, 4);
+    let segments = [segment(4, 0, 0xe8, 0xe8), segment(6, 0x1000, 8, 0x30)];
+    assert!(rt; summary.segments.as_slice() == segments.as_slice());
+    Ok(())
+}
+
+/// The linker's names and their bounds, with what these are where two sections named `a`, of 5 and of 8 bytes, stand
+/// at 0x401000 and at 0x401008.
+static BOUNDS: [(&[u8], Bound, u64); 6] = [
+    (b"__start_a", Bound::OutputStart, 0x401000),
+    (b"__stop_a", Bound::OutputEnd, 0x401010),
+    (b"__init_array_start", Bound::OutputStart, 0),
+    (b"__fini_array_end", Bound::OutputEnd, 0),
+    (b"_edata", Bound::DataEnd, 0x401010),
+    (b"_end", Bound::ImageEnd, 0x401010),
+];
+
+/// The number of the first of those bounds that has another value.
+fn first_wrong(placement: &Placement<'_, '_>) -> Option<usize>
+    requires { AreLawfulKinds placement.now.objects }
+{
+    BOUNDS.iter().position(|(name, bound, value)| placement.bound(name, *bound) != *value)
+}
+
+#[test]
+fn names_of_output_sections_have_bounds(rt: HostRuntime) -> Result<(), Fail> {
+    let alloc = rt.alloc();
+    let first = SectionHeader {
+        sh_name: A_NAME,
+        ..with_flags(SHF_ALLOC | SHF_WRITE, RODATA)
+    };
+    let second = SectionHeader {
+        sh_name: A_NAME,
+        ..DATA
+    };
+    let a = object_of(alloc, &[first])?;
+    let b = object_of(alloc, &[second])?;
+    let objects = load_both(alloc, &a, &b)?;
+    kinds(&objects)?;
+    let resolved = resolve(alloc, &objects)?;
+    let tables = place(alloc, &objects, resolved.blocks(), 0x400000)?;
+    let placement = Placement::new(0x400000, &objects, &tables);
+    assert!(rt; first_wrong(&placement).is_none());
     Ok(())
 }
 

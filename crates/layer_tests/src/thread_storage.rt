@@ -45,7 +45,8 @@ fn block_of(
     address: u64,
 ) -> Result<Option<(u64, u64, u64, u64)>, Fail> {
     let objects = load_alone(alloc, file)?;
-    let tables = place(alloc, &objects, 0x400000)?;
+    let resolved = resolve(alloc, &objects)?;
+    let tables = place(alloc, &objects, resolved.blocks(), 0x400000)?;
     let placement = Placement::new(0x400000, &objects, &tables);
     let Some(block) = tls_block(&placement) else {
         return Ok(None);

@@ -3,14 +3,19 @@ ghost use Rattle.std.specs.Prelude.{◌≡◌, ◌<◌, IfOk, IfSome, length};
 ghost use Rattle.std.specs.List.{slice_get};
 ghost use Rattle.elf_model.specs.Loading.{AreObjects};
 ghost use Rattle.elf_model.specs.ObjectFile as object_file;
+ghost use Rattle.elf_model.specs.Pieces.{AreLawfulKinds};
 ghost use Rattle.elf_model.specs.Resolution.{sections_of_object};
 ghost use Rattle.relocate.specs.PatchTables.{ArePatchesOf};
 ghost use Rattle.search.specs.Views.{loaded_views};
 
-use crate::objects::{BSS, DATA, ENTRY, RODATA, SYMBOLS, TEXT, load_alone, object_with};
-use elf_model::{Rela, STT_SECTION, SectionHeader, Symbol};
-use layout::{Placement, place};
-use relocate::{Kind, PatchTable, Patches, RelocFault, Terms, fits, patches, references, value};
+use crate::objects::{
+    A_NAME, BSS, DATA, ENTRY, ETEXT_NAME, RODATA, STOP_NAME, SYMBOLS, TEXT, load_alone, object_with,
+};
+use elf_model::{Bound, Rela, SHF_ALLOC, SHF_WRITE, STT_SECTION, SectionHeader, Symbol};
+use layout::{Placement, kinds, place};
+use relocate::{
+    Kind, PatchTable, Patches, RelocFault, Terms, fits, linker_lines, patches, references, value,
+};
 use resolve::{Resolved, resolve};
 use search::Loaded;
 use std::alloc::{AllocError, Global};
@@ -28,9 +33,24 @@ fn section_symbol(number: u16) -> Symbol {
     }
 }
 
+/// An undefined GLOBAL symbol with the name `_etext`.
+const TEXT_END: Symbol = Symbol {
+    st_name: ETEXT_NAME,
+    st_info: 0x10,
+    st_other: 0,
+    st_shndx: 0,
+    st_value: 0,
+    st_size: 0,
+};
+
 /// An object with an entry that relocates `.rodata`, section 2 of 5 bytes, and one for `.data`, section 4 of
-/// 8 bytes. Symbol 1 is `.data` and symbol 2 `.rodata`.
-fn object_of(alloc: Global, rodata: Rela, data_: Rela) -> Result<Vec<u8>, AllocError> {
+/// 8 bytes. Symbol 2 is `.rodata`.
+fn object_over(
+    alloc: Global,
+    first: Symbol,
+    rodata: Rela,
+    data_: Rela,
+) -> Result<Vec<u8>, AllocError> {
     let rodata_entries = SectionHeader {
         sh_link: 6,
         sh_info: 2,
@@ -51,8 +71,13 @@ fn object_of(alloc: Global, rodata: Rela, data_: Rela) -> Result<Vec<u8>, AllocE
         rodata_entries,
         data_entries,
     ];
-    let symbols = [section_symbol(4), section_symbol(2)];
+    let symbols = [first, section_symbol(2)];
     object_with(alloc, &sections, &symbols, &[rodata, data_])
+}
+
+/// Such an object, of which symbol 1 is `.data`.
+fn object_of(alloc: Global, rodata: Rela, data_: Rela) -> Result<Vec<u8>, AllocError> {
+    object_over(alloc, section_symbol(4), rodata, data_)
 }
 
 /// The input bytes of a section of the first object.
@@ -70,7 +95,7 @@ fn wanted(alloc: Global, file: &[u8], number: usize) -> Result<Vec<u8>, Fail> {
 }
 
 /// Judges the relocations of objects, and makes their patches where these are laid out.
-fn judged_patches<'a>(
+pub fn judged_patches<'a>(
     alloc: Global,
     objects: &[Loaded<'a>],
     resolved: &Resolved<'_, 'a>,
@@ -78,23 +103,11 @@ fn judged_patches<'a>(
 ) -> Result<PatchTable, RelocFault>
     requires resolved { resolved.now ≡ loaded_views objects.now }
     requires placed { placement.now.objects ≡ loaded_views objects.now }
+    requires kinds { AreLawfulKinds (loaded_views objects.now) }
     ensures { IfOk result (ArePatchesOf placement.now) }
 {
     references(alloc, objects, resolved)?;
     patches(alloc, objects, resolved, placement)
-}
-
-/// The patches of objects that are laid out.
-pub fn patched<'a>(
-    alloc: Global,
-    objects: &[Loaded<'a>],
-    placement: &Placement<'_, 'a>,
-) -> Result<PatchTable, Fail>
-    requires { placement.now.objects ≡ loaded_views objects.now }
-    ensures { IfOk result (ArePatchesOf placement.now) }
-{
-    let resolved = resolve(alloc, objects)?;
-    Ok(judged_patches(alloc, objects, &resolved, placement)?)
 }
 
 /// The bytes that are wanted of a section of the first object, laid out from 0x400000 on.
@@ -102,9 +115,11 @@ fn applied(alloc: Global, objects: &[Loaded<'_>], number: usize) -> Result<Vec<u
     requires { AreObjects (loaded_views objects.now) }
 {
     let input = input_of(objects, number).ok_or("no section's bytes")?;
-    let tables = place(alloc, objects, 0x400000)?;
+    kinds(objects)?;
+    let resolved = resolve(alloc, objects)?;
+    let tables = place(alloc, objects, resolved.blocks(), 0x400000)?;
     let placement = Placement::new(0x400000, &*objects, &tables);
-    let table = patched(alloc, objects, &placement)?;
+    let table = judged_patches(alloc, objects, &resolved, &placement)?;
     let mut bytes = Vec::from_slice(alloc, input)?;
     Patches::new(&placement, &table).apply(0, number, &mut bytes);
     Ok(bytes)
@@ -283,12 +298,43 @@ fn fields_have_their_values(rt: HostRuntime) -> Result<(), Fail> {
     Ok(())
 }
 
+#[test]
+fn linkers_names_have_values(rt: HostRuntime) -> Result<(), Fail> {
+    let alloc = rt.alloc();
+    let file = object_over(alloc, TEXT_END, entry(0, 10, 1, 0), entry(0, 1, 1, 1))?;
+    let rodata = wanted(alloc, &file, 2)?;
+    let data_ = wanted(alloc, &file, 4)?;
+    // `.text` has 9 bytes at 0x401000.
+    assert!(rt; rodata.as_slice() == [0x09, 0x10, 0x40, 0, 5].as_slice());
+    assert!(rt; data_.as_slice() == [0x0a, 0x10, 0x40, 0, 0, 0, 0, 0].as_slice());
+    Ok(())
+}
+
+#[test]
+fn linkers_names_in_use_have_lines(rt: HostRuntime) -> Result<(), Fail> {
+    let alloc = rt.alloc();
+    let file = object_over(alloc, TEXT_END, entry(0, 10, 1, 0), entry(0, 1, 1, 1))?;
+    let objects = load_alone(alloc, &file)?;
+    let resolved = resolve(alloc, &objects)?;
+    let lines = linker_lines(alloc, &objects, &resolved)?;
+    assert_eq!(rt; lines.len(), 1);
+    let (name, bound) = lines[0];
+    assert!(rt; name == b"_etext".as_slice() && matches!(bound, Bound::CodeEnd));
+    Ok(())
+}
+
 /// What an object with an entry for `.rodata` and a lawful one for `.data` is refused for.
 fn refusal(alloc: Global, rodata: Rela) -> Result<Option<RelocFault>, Fail> {
     let file = object_of(alloc, rodata, entry(0, 1, 2, 1))?;
-    let objects = load_alone(alloc, &file)?;
+    refusal_of(alloc, &file)
+}
+
+/// What the relocations of a file's object are refused for.
+fn refusal_of(alloc: Global, file: &[u8]) -> Result<Option<RelocFault>, Fail> {
+    let objects = load_alone(alloc, file)?;
     let resolved = resolve(alloc, &objects)?;
-    let tables = place(alloc, &objects, 0x400000)?;
+    kinds(&objects)?;
+    let tables = place(alloc, &objects, resolved.blocks(), 0x400000)?;
     let placement = Placement::new(0x400000, &*objects, &tables);
     Ok(judged_patches(alloc, &objects, &resolved, &placement).err())
 }
@@ -307,5 +353,46 @@ fn unlawful_relocations_are_refused(rt: HostRuntime) -> Result<(), Fail> {
     assert!(rt; matches!(&thread, Some(RelocFault::TlsMismatch)));
     let wide = refusal(alloc, entry(0, 14, 1, 0))?;
     assert!(rt; matches!(&wide, Some(RelocFault::Overflow)));
+    Ok(())
+}
+
+/// An undefined GLOBAL symbol with the name `__stop_a`.
+const STOP: Symbol = Symbol {
+    st_name: STOP_NAME,
+    ..TEXT_END
+};
+
+/// An object of two sections named `a`, of which the first, section 2, has flags, and of an entry of the second, which
+/// is data of 8 bytes, for the address of `__stop_a`.
+fn object_with_bound(alloc: Global, sh_flags: u64) -> Result<Vec<u8>, AllocError> {
+    let first = SectionHeader {
+        sh_name: A_NAME,
+        sh_flags,
+        ..RODATA
+    };
+    let second = SectionHeader {
+        sh_name: A_NAME,
+        ..DATA
+    };
+    let entries = SectionHeader {
+        sh_link: 4,
+        sh_info: 3,
+        ..ENTRY
+    };
+    let sections = [first, second, SYMBOLS, entries];
+    let symbols = [STOP, section_symbol(2)];
+    object_with(alloc, &sections, &symbols, &[entry(0, 1, 1, 0)])
+}
+
+#[test]
+fn a_bound_is_that_of_one_output_section(rt: HostRuntime) -> Result<(), Fail> {
+    let alloc = rt.alloc();
+    let one = object_with_bound(alloc, SHF_ALLOC | SHF_WRITE)?;
+    let second = wanted(alloc, &one, 3)?;
+    // The sections stand at 0x401000 and at 0x401008.
+    assert!(rt; second.as_slice() == [0x10, 0x10, 0x40, 0, 0, 0, 0, 0].as_slice());
+    let two = object_with_bound(alloc, SHF_ALLOC)?;
+    let two = refusal_of(alloc, &two)?;
+    assert!(rt; matches!(&two, Some(RelocFault::MixedSection)));
     Ok(())
 }

@@ -1,11 +1,14 @@
 pub mod Alignments
 pub mod EndSteps
+pub mod ExtentSteps
 pub mod Entries
 pub mod GroupSteps
 pub mod KindLemmas
 pub mod Keys
 pub mod LaidSteps
 pub mod Leading
+mod MixedOutputs
 pub mod OwnAddresses
+pub mod OwnBounds
 pub mod PieceEntries
 pub mod RunSteps

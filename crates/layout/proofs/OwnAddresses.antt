@@ -5,7 +5,8 @@ use Rattle.std.proofs.lemmas.Bool.{and_parts, eqb-true, false≢true}
 use Rattle.std.proofs.lemmas.Option.{none-some}
 use Rattle.elf_model.specs.Loading.{LoadedObject}
 use Rattle.elf_model.specs.OwnLayout.{own_address, own_in_load_order, own_placed}
-use Rattle.elf_model.specs.Pieces.{Piece, pieces}
+use Rattle.elf_model.specs.Commons.{pieces}
+use Rattle.elf_model.specs.Pieces.{Piece}
 use Rattle.elf_model.specs.Placement.{Placed, is_of_section}
 use Rattle.elf_model.proofs.Finding.{find-found, find-none}
 use Rattle.elf_model.proofs.Found.{find-map}

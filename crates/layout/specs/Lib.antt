@@ -3,7 +3,9 @@ pub mod Groups
 pub mod Kinds
 pub mod Laid
 pub mod Limits
+pub mod Mixed
 pub mod Orders
+pub mod PieceParts
 pub mod PlaceViews
 pub mod Placements
 pub mod Views

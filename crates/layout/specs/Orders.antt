@@ -1,7 +1,9 @@
 -- The own order of objects' pieces, as it is kept.
-use Rattle.std.specs.Prelude.{◌≡◌, List}
+use Rattle.std.specs.Prelude.{◌≡◌, ◌++◌, List, filter, map}
+use Rattle.elf_model.specs.Commons.{Block, block_piece}
 use Rattle.elf_model.specs.Loading.{LoadedObject}
-use Rattle.elf_model.specs.OwnLayout.{code_pieces, data_pieces, read_only_pieces}
+use Rattle.elf_model.specs.OwnLayout.{code_pieces, data_pieces, grouped, is_data, is_zero, read_only_pieces}
+use Rattle.elf_model.specs.Pieces.{Piece}
 use Rattle.search.specs.Views.{loaded_views}
 use Rattle.layout.specs.Views.{piece_views}
 use Rattle.layout.specs.declared.order.Order.{Order}
@@ -9,6 +11,10 @@ use Rattle.layout.specs.declared.order.Order.{Order}
 -- the objects of which it is
 abbrev pub objects_of : Order → List LoadedObject
 objects_of o = loaded_views o.objects.now
+
+-- what may be written of pieces, and blocks behind it
+abbrev pub writable_in : List Piece → List Block → List Piece
+writable_in ps bs = grouped (filter is_data ps) ++ (grouped (filter is_zero ps) ++ map block_piece bs)
 
 -- its lists are those of the own layout
 pub record IsOrder (o : Order) : Type 0 where

@@ -6,14 +6,17 @@ use Rattle.elf_model.specs.OwnLayout.{own_in_load_order, own_placed, own_segment
 use Rattle.elf_model.specs.Placement.{Placed, is_of_section}
 use Rattle.elf_model.specs.declared.records.ProgramHeader.{ProgramHeader}
 use Rattle.layout.specs.Addresses.{entry}
+use Rattle.layout.specs.PieceParts.{AreBounds}
+use Rattle.layout.specs.declared.bounds.Bounds.{Bounds}
 
 -- the address from which objects are laid out, and the objects
 pub record Basis : Type 0 where
   pub base : ℕ
   pub objects : List LoadedObject
 
--- the places, the segments and the addresses of the own layout
-pub record IsPlacement (base : ℕ) (objects : List LoadedObject) (places : List Placed) (segments : List ProgramHeader) (addresses : List (Vec (Option ℕ))) : Type 0 where
+-- the places, the segments, the addresses and the bounds of the own layout
+pub record IsPlacement (base : ℕ) (objects : List LoadedObject) (places : List Placed) (segments : List ProgramHeader) (addresses : List (Vec (Option ℕ))) (bounds : Bounds) : Type 0 where
   pub places_are : places ≡ own_placed base objects
   pub segments_are : segments ≡ own_segments base objects
   pub addresses_are : (o s : ℕ) → entry addresses o s ≡ option_map (λ q. q.at) (find (is_of_section o s) (own_in_load_order base objects))
+  pub bounds_are : AreBounds (own_placed base objects) bounds

@@ -1,25 +1,39 @@
-//! The address of each kept section, by the numbers of its object and of its own.
-ghost use Rattle.std.specs.Prelude.{◌≡◌, ℕ, All, IfOk, None, Option, Some, cond, find, option_map};
+//! The address of each kept section and of each common block, by the numbers of its object and of its own.
+ghost use Rattle.std.specs.Prelude.{◌≡◌, ◌++◌, ◌∷◌, ℕ, [], All, IfOk, None, OnOk, Option, Some, cond, find, option_map};
 ghost use Rattle.elf_model.specs.Placement.{is_of_section};
 ghost use Rattle.search.specs.Views.{loaded_views};
-ghost use Rattle.layout.specs.Addresses.{HasEntry, HasPlace, entry, section_counts, shape_of};
+ghost use Rattle.layout.specs.Addresses.{HasEntry, HasPlace, entry, piece_counts, shape_of};
 ghost use Rattle.layout.specs.PlaceViews.{place_view, place_views};
 
 use crate::running::Place;
 use search::Loaded;
 use std::alloc::{AllocError, Global};
 
-/// A row for each object with no address for any of its sections.
-fn empty_table(alloc: Global, objects: &[Loaded<'_>]) -> Result<Vec<Vec<Option<u64>>>, AllocError>
-    ensures shape { IfOk result (λ t. shape_of t.items ≡ section_counts (loaded_views objects.now)) }
+/// Puts a row of no addresses behind the rows.
+fn add_row(alloc: Global, table: &mut Vec<Vec<Option<u64>>>, count: usize) -> Result<(), AllocError>
+    ensures shape { OnOk result (shape_of table.new.items ≡ shape_of table.old.items ++ count ∷ []) }
+    ensures empty { OnOk result (((object section : ℕ) → entry table.old.items object section ≡ None) → (object section : ℕ) → entry table.new.items object section ≡ None) }
+{
+    let row: Vec<Option<u64>> = Vec::from_elem(alloc, None, count)?;
+    table.push(row)?;
+    Ok(())
+}
+
+/// A row for each object with no address for any of its sections, and one for so many blocks.
+fn empty_table(
+    alloc: Global,
+    objects: &[Loaded<'_>],
+    blocks: usize,
+) -> Result<Vec<Vec<Option<u64>>>, AllocError>
+    ensures shape { IfOk result (λ t. shape_of t.items ≡ piece_counts (loaded_views objects.now) blocks) }
     ensures empty { IfOk result (λ t. (object section : ℕ) → entry t.items object section ≡ None) }
 {
     let mut table = Vec::with_capacity(alloc, objects.len())?;
     for loaded in objects {
         let count = loaded.object.sections().len();
-        let row: Vec<Option<u64>> = Vec::from_elem(alloc, None, count)?;
-        table.push(row)?;
+        add_row(alloc, &mut table, count)?;
     }
+    add_row(alloc, &mut table, blocks)?;
     Ok(table)
 }
 
@@ -33,16 +47,17 @@ fn put_address(table: &mut Vec<Vec<Option<u64>>>, place: &Place<'_>)
     row[place.piece.section as usize] = Some(place.at);
 }
 
-/// The addresses of places of objects, that of the first where there are several of a section.
+/// The addresses of places of objects and of so many blocks, that of the first where there are several of a section.
 pub fn address_table(
     alloc: Global,
     objects: &[Loaded<'_>],
+    blocks: usize,
     places: &[Place<'_>],
 ) -> Result<Vec<Vec<Option<u64>>>, AllocError>
-    requires { All (HasPlace (section_counts (loaded_views objects.now))) (place_views places.now) }
+    requires { All (HasPlace (piece_counts (loaded_views objects.now) blocks)) (place_views places.now) }
     ensures { IfOk result (λ t. (object section : ℕ) → entry t.items object section ≡ option_map (λ q. q.at) (find (is_of_section object section) (place_views places.now))) }
 {
-    let mut table = empty_table(alloc, objects)?;
+    let mut table = empty_table(alloc, objects, blocks)?;
     let mut left = places.len();
     while left > 0 {
         left -= 1;

@@ -2,7 +2,7 @@
 ghost use Rattle.std.specs.Prelude.{◌≡◌, ◌↔◌, All, Contains, IfErr, IsTrue, OnOk, [], ◌∷◌, true};
 ghost use Rattle.elf_model.specs.Pieces as pieces;
 ghost use Rattle.elf_model.specs.Pieces.{AreLawfulKinds, IsLawfulKind};
-ghost use Rattle.search.specs.Views.{loaded_views};
+ghost use Rattle.search.specs.Views.{loaded_view, loaded_views};
 ghost use Rattle.layout.specs.Kinds.{HasLawfulKinds, IsLawfulIfKept, KindsFail, lawful_types};
 
 use crate::faults::LayoutFault;
@@ -10,7 +10,6 @@ use elf_model::{
     SHT_FINI_ARRAY, SHT_INIT_ARRAY, SHT_NOBITS, SHT_NOTE, SHT_PREINIT_ARRAY, SHT_PROGBITS,
     SHT_X86_64_UNWIND, SectionHeader,
 };
-use elf_read::Object;
 use search::Loaded;
 
 /// The flags that a kept section may have: WRITE, ALLOC, EXECINSTR, MERGE, STRINGS, INFO_LINK, GROUP and TLS.
@@ -43,29 +42,30 @@ fn is_lawful_kind(header: &SectionHeader) -> bool
     !header.is_thread_local() && !header.is_nobits()
 }
 
-fn is_lawful_if_kept(header: &SectionHeader) -> bool
-    ensures { IsTrue result ↔ IsLawfulIfKept header.now }
+/// Whether section `i` of an object, which has the header, is lawful where it is kept.
+fn is_lawful_if_kept(loaded: &Loaded<'_>, i: usize, header: &SectionHeader) -> bool
+    ensures { IsTrue result ↔ IsLawfulIfKept (loaded_view loaded.now) i header.now }
 {
-    !header.is_alloc() || is_lawful_kind(header)
+    !loaded.is_kept(i, header) || is_lawful_kind(header)
 }
 
-fn are_lawful(headers: &[SectionHeader]) -> bool
-    ensures { IsTrue result ↔ All IsLawfulIfKept headers.now }
+fn is_lawful_object(loaded: &Loaded<'_>) -> bool
+    ensures { IsTrue result ↔ HasLawfulKinds (loaded_view loaded.now) }
 {
-    headers.iter().all(|h| is_lawful_if_kept(h))
-}
-
-fn is_lawful_object(object: &Object<'_>) -> bool
-    ensures { IsTrue result ↔ HasLawfulKinds object.now }
-{
-    are_lawful(object.sections())
+    let headers = loaded.object.sections();
+    for (i, header) in headers.iter().enumerate() {
+        if !is_lawful_if_kept(loaded, i, header) {
+            return false;
+        }
+    }
+    true
 }
 
 fn are_lawful_objects(objects: &[Loaded<'_>]) -> bool
-    ensures { IsTrue result ↔ All (λ l. HasLawfulKinds l.object) objects.now }
+    ensures { IsTrue result ↔ All (λ l. HasLawfulKinds (loaded_view l)) objects.now }
 {
     for loaded in objects {
-        if !is_lawful_object(&loaded.object) {
+        if !is_lawful_object(loaded) {
             return false;
         }
     }

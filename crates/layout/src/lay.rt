@@ -4,6 +4,7 @@ ghost use Rattle.elf_model.specs.Command.{IsBase};
 ghost use Rattle.elf_model.specs.Loading.{AreObjects};
 ghost use Rattle.elf_model.specs.OwnLayout as own;
 ghost use Rattle.elf_model.specs.OwnLayout.{IsNotTooLarge, own_placed, own_segments, placed_from};
+ghost use Rattle.elf_model.specs.Resolution.{AreSoundCommons};
 ghost use Rattle.layout.specs.Laid.{IsLaid, IsLayout, LayoutFails};
 ghost use Rattle.layout.specs.Limits.{AreAligned, AreInLimit, RunFails};
 ghost use Rattle.layout.specs.Orders.{IsOrder, objects_of};
@@ -79,6 +80,7 @@ fn lay_pieces<'a>(
     headers_end: u64,
 ) -> Result<Laid<'a>, LayoutFault>
     requires objects { AreObjects (objects_of order.now) }
+    requires commons { AreSoundCommons (objects_of order.now) }
     requires order { IsOrder order.now }
     requires start { headers_end ≡ own.read_only_start base (objects_of order.now) }
     requires above { base ≤ headers_end }
@@ -135,6 +137,7 @@ pub fn lay_out<'a>(
 ) -> Result<Layout<'a>, LayoutFault>
     requires base { IsBase base }
     requires objects { AreObjects (objects_of order.now) }
+    requires commons { AreSoundCommons (objects_of order.now) }
     requires order { IsOrder order.now }
     ensures layout { IfOk result (λ l. IsLayout base (objects_of order.now) l) }
     ensures fits { OnOk result (IsNotTooLarge base (objects_of order.now)) }

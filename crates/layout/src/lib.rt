@@ -3,10 +3,12 @@
 #![tactic(auto)]
 
 mod addresses;
+mod bounds;
 mod faults;
 mod grouping;
 mod judging;
 mod lay;
+mod mixed;
 mod order;
 mod pieces;
 mod placement;
@@ -15,6 +17,7 @@ mod segments;
 
 pub use faults::LayoutFault;
 pub use judging::kinds;
+pub use mixed::mixed_names;
 pub use pieces::Piece;
 pub use placement::{Placement, Tables, place};
 pub use running::Place;

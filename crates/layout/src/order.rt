@@ -1,18 +1,21 @@
 //! The pieces of loaded objects in the order in which they stand.
-ghost use Rattle.std.specs.Prelude.{◌≡◌, ◌≤◌, ◌++◌, IfOk, filter};
+ghost use Rattle.std.specs.Prelude.{◌≡◌, ◌≤◌, All, IfOk};
+ghost use Rattle.elf_model.specs.Commons as commons;
 ghost use Rattle.elf_model.specs.OwnLayout as own;
 ghost use Rattle.search.specs.Views.{loaded_views};
-ghost use Rattle.layout.specs.Orders.{IsOrder, objects_of};
+ghost use Rattle.resolve.specs.Blocks.{block_views};
+ghost use Rattle.layout.specs.Orders.{IsOrder, objects_of, writable_in};
 ghost use Rattle.layout.specs.Views.{piece_views};
 
 use crate::grouping::{Part, grouped};
-use crate::pieces::{Piece, pieces_of};
+use crate::pieces::{Piece, add_blocks, pieces_of};
 use crate::segments::any_nonempty;
+use resolve::Block;
 use search::Loaded;
 use std::alloc::{AllocError, Global};
 
 /// The pieces of objects in own order: those that may only be read, code, and what may be written, of which
-/// those without bytes come last; and how many they are.
+/// those without bytes come last, and behind them the common blocks; and how many they are.
 #[derive(Drop)]
 pub struct Order<'b, 'a> {
     pub objects: &'b [Loaded<'a>],
@@ -22,31 +25,39 @@ pub struct Order<'b, 'a> {
     pub writable: Vec<Piece<'a>>,
 }
 
-/// The pieces that may be written: those with bytes, then those without.
-fn writable_of<'a>(alloc: Global, pieces: &[Piece<'a>]) -> Result<Vec<Piece<'a>>, AllocError>
-    ensures { IfOk result (λ v. piece_views v.items ≡ own.grouped (filter own.is_data (piece_views pieces.now)) ++ own.grouped (filter own.is_zero (piece_views pieces.now))) }
+/// The pieces that may be written: those with bytes, then those without, then the common blocks.
+fn writable_of<'a>(
+    alloc: Global,
+    pieces: &[Piece<'a>],
+    blocks: &[Block<'a>],
+) -> Result<Vec<Piece<'a>>, AllocError>
+    requires { All (λ b. 1 ≤ b.align) blocks.now }
+    ensures { IfOk result (λ v. piece_views v.items ≡ writable_in (piece_views pieces.now) (block_views blocks.now)) }
 {
-    let mut with_bytes = grouped(alloc, pieces, Part::Data)?;
+    let mut writable = grouped(alloc, pieces, Part::Data)?;
     let without = grouped(alloc, pieces, Part::Zero)?;
-    with_bytes.extend_from_slice(without.as_slice())?;
-    Ok(with_bytes)
+    writable.extend_from_slice(without.as_slice())?;
+    add_blocks(&mut writable, blocks)?;
+    Ok(writable)
 }
 
-/// The pieces of objects in own order.
+/// The pieces of objects, whose common blocks these are, in own order.
 pub fn order_of<'b, 'a>(
     alloc: Global,
     objects: &'b [Loaded<'a>],
+    blocks: &[Block<'a>],
 ) -> Result<Order<'b, 'a>, AllocError>
+    requires { block_views blocks.now ≡ commons.blocks (loaded_views objects.now) }
     ensures objects { IfOk result (λ o. objects_of o ≡ loaded_views objects.entry.now) }
     ensures order { IfOk result (λ o. IsOrder o) }
 {
     let pieces = pieces_of(alloc, objects)?;
     Ok(Order {
         objects,
-        count: pieces.len(),
+        count: pieces.len().saturating_add(blocks.len()),
         read_only: grouped(alloc, &pieces, Part::ReadOnly)?,
         code: grouped(alloc, &pieces, Part::Code)?,
-        writable: writable_of(alloc, &pieces)?,
+        writable: writable_of(alloc, &pieces, blocks)?,
     })
 }
 

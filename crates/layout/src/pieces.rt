@@ -1,17 +1,20 @@
-//! The kept sections of loaded objects as pieces.
-ghost use Rattle.std.specs.Prelude.{◌≡◌, ◌++◌, ℕ, IfOk, OnOk, max};
+//! The kept sections of loaded objects and the common blocks as pieces.
+ghost use Rattle.std.specs.Prelude.{◌≡◌, ◌≤◌, ◌++◌, ℕ, All, IfOk, OnOk, map, max};
+ghost use Rattle.elf_model.specs.Commons.{block_piece};
 ghost use Rattle.elf_model.specs.ObjectFile.{sections};
 ghost use Rattle.elf_model.specs.Pieces as pieces;
-ghost use Rattle.search.specs.Views.{loaded_views};
+ghost use Rattle.search.specs.Views.{loaded_view, loaded_views};
+ghost use Rattle.resolve.specs.Blocks.{block_view, block_views};
 ghost use Rattle.layout.specs.Views.{piece_view, piece_views};
 
-use elf_model::SectionHeader;
+use elf_model::{SHF_ALLOC, SHF_WRITE, SHT_NOBITS, SectionHeader};
 use elf_read::Object;
+use resolve::Block;
 use search::Loaded;
 use std::alloc::{AllocError, Global};
 
 /// A kept section of a loaded object: its object's and its own number, its header, its name and its input
-/// bytes (none for NOBITS).
+/// bytes (none for NOBITS). Or a common block, which has the header of a section without bytes that may be written.
 #[derive(Clone, Copy, Debug)]
 pub struct Piece<'a> {
     pub object: u64,
@@ -38,14 +41,14 @@ fn piece_of<'a>(number: u64, object: &Object<'a>, i: usize, header: SectionHeade
 fn add_pieces<'a>(
     out: &mut Vec<Piece<'a>>,
     number: u64,
-    object: &Object<'a>,
+    loaded: &Loaded<'a>,
 ) -> Result<(), AllocError>
-    ensures { OnOk result (piece_views out.new.items ≡ piece_views out.old.items ++ pieces.pieces_from number object.now 0 (sections object.now)) }
+    ensures { OnOk result (piece_views out.new.items ≡ piece_views out.old.items ++ pieces.pieces_from number (loaded_view loaded.now) 0 (sections loaded.now.object)) }
 {
-    let headers = object.sections();
+    let headers = loaded.object.sections();
     for (i, header) in headers.iter().enumerate() {
-        if header.is_alloc() {
-            out.push(piece_of(number, object, i, *header))?;
+        if loaded.is_kept(i, header) {
+            out.push(piece_of(number, &loaded.object, i, *header))?;
         }
     }
     Ok(())
@@ -53,11 +56,47 @@ fn add_pieces<'a>(
 
 /// The kept sections of all objects, in load order.
 pub fn pieces_of<'a>(alloc: Global, objects: &[Loaded<'a>]) -> Result<Vec<Piece<'a>>, AllocError>
-    ensures { IfOk result (λ v. piece_views v.items ≡ pieces.pieces (loaded_views objects.now)) }
+    ensures { IfOk result (λ v. piece_views v.items ≡ pieces.kept_sections (loaded_views objects.now)) }
 {
     let mut found = Vec::new(alloc);
     for (k, loaded) in objects.iter().enumerate() {
-        add_pieces(&mut found, k as u64, &loaded.object)?;
+        add_pieces(&mut found, k as u64, loaded)?;
     }
     Ok(found)
+}
+
+/// A common block as a piece.
+fn block_piece<'a>(block: &Block<'a>) -> Piece<'a>
+    requires { 1 ≤ block.now.align }
+    ensures { piece_view result ≡ block_piece (block_view block.now) }
+{
+    Piece {
+        object: block.object,
+        section: block.number,
+        header: SectionHeader {
+            sh_name: 0,
+            sh_type: SHT_NOBITS,
+            sh_flags: SHF_WRITE + SHF_ALLOC,
+            sh_addr: 0,
+            sh_offset: 0,
+            sh_size: block.size,
+            sh_link: 0,
+            sh_info: 0,
+            sh_addralign: block.align,
+            sh_entsize: 0,
+        },
+        name: &[],
+        bytes: &[],
+    }
+}
+
+/// Puts common blocks behind the pieces.
+pub fn add_blocks<'a>(out: &mut Vec<Piece<'a>>, blocks: &[Block<'a>]) -> Result<(), AllocError>
+    requires { All (λ b. 1 ≤ b.align) blocks.now }
+    ensures { OnOk result (piece_views out.new.items ≡ piece_views out.old.items ++ map block_piece (block_views blocks.now)) }
+{
+    for block in blocks {
+        out.push(block_piece(block))?;
+    }
+    Ok(())
 }

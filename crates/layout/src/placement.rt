@@ -1,31 +1,41 @@
-//! Where the pieces of objects stand, in which segments, and the address of each kept section.
+//! Where the pieces of objects stand, in which segments, and the address of each kept section and common block.
 ghost use Rattle.std.specs.Prelude.{◌≡◌, IfErr, IfOk, OnOk, find, option_map};
 ghost use Rattle.elf_model.specs.Command.{IsBase};
+ghost use Rattle.elf_model.specs.Commons as commons;
+ghost use Rattle.elf_model.specs.LinkerValues.{bound_value};
 ghost use Rattle.elf_model.specs.Loading.{AreObjects};
-ghost use Rattle.elf_model.specs.OwnLayout.{IsNotTooLarge, own_in_load_order, own_placed, own_segments};
+ghost use Rattle.elf_model.specs.OwnAddresses.{AreOwnAddresses};
+ghost use Rattle.elf_model.specs.OwnLayout.{IsNotTooLarge, own_in_load_order, own_placed, own_segments, own_where};
+ghost use Rattle.elf_model.specs.Pieces.{AreLawfulKinds};
 ghost use Rattle.elf_model.specs.Placement.{is_of_section};
+ghost use Rattle.elf_model.specs.Resolution.{AreSoundCommons};
 ghost use Rattle.search.specs.Views.{loaded_views};
+ghost use Rattle.resolve.specs.Blocks.{block_views};
 ghost use Rattle.layout.specs.Laid.{LayoutFails};
 ghost use Rattle.layout.specs.PlaceViews.{place_views};
 ghost use Rattle.layout.specs.Tables.{AreTables};
 
 use crate::addresses::{address_in, address_table};
+use crate::bounds::{Bounds, bound_in, bounds_of};
 use crate::faults::LayoutFault;
 use crate::lay::lay_out;
 use crate::order::order_of;
 use crate::running::Place;
-use elf_model::ProgramHeader;
+use elf_model::{Bound, ProgramHeader};
+use resolve::Block;
 use search::Loaded;
 use std::alloc::Global;
 use std::marker::Model;
 
 /// What the linker's own layout says of loaded objects: the pieces at their addresses, the segments that hold
-/// them, and the address of each kept section. A `Placement` reads them beside the objects.
+/// them, the address of each kept section and common block, and what the linker's own names stand for. A `Placement` reads them beside
+/// the objects.
 #[derive(Drop)]
 pub struct Tables<'a> {
     places: Vec<Place<'a>>,
     segments: Vec<ProgramHeader>,
     addresses: Vec<Vec<Option<u64>>>,
+    bounds: Bounds<'a>,
 }
 
 /// The linker's own layout of loaded objects from a base on: their pieces at their addresses, and the
@@ -49,7 +59,9 @@ impl<'p, 'a> Model for Placement<'p, 'a> {
     ghost invariant = { λ p. AreTables p.base (loaded_views p.objects.now) p.tables.now };
 }
 
-/// Lays out the kept sections of loaded objects from a base on.
+/// Lays out the kept sections of loaded objects and their common blocks from a base on. Where their kinds are lawful, each piece then stands
+/// at the least multiple of its alignment below neither the headers' end, nor its segment's beginning, nor the end of
+/// a piece before it in the order of the segments.
 ///
 /// # Errors
 ///
@@ -58,21 +70,27 @@ impl<'p, 'a> Model for Placement<'p, 'a> {
 pub fn place<'a>(
     alloc: Global,
     objects: &[Loaded<'a>],
+    blocks: &[Block<'a>],
     base: u64,
 ) -> Result<Tables<'a>, LayoutFault>
     requires base { IsBase base }
     requires objects { AreObjects (loaded_views objects.now) }
+    requires commons { AreSoundCommons (loaded_views objects.now) }
+    requires listed { block_views blocks.now ≡ commons.blocks (loaded_views objects.now) }
     ensures tables { IfOk result (AreTables base (loaded_views objects.now)) }
+    ensures addresses { OnOk result (AreLawfulKinds (loaded_views objects.now) → AreOwnAddresses base (loaded_views objects.now)) }
     ensures fits { OnOk result (IsNotTooLarge base (loaded_views objects.now)) }
     ensures fault { IfErr result (LayoutFails base (loaded_views objects.now)) }
 {
-    let order = order_of(alloc, objects)?;
+    let order = order_of(alloc, objects, blocks)?;
     let layout = lay_out(alloc, &order, base)?;
-    let addresses = address_table(alloc, objects, &layout.places)?;
+    let addresses = address_table(alloc, objects, blocks.len(), &layout.places)?;
+    let bounds = bounds_of(alloc, &layout.places)?;
     Ok(Tables {
         places: layout.places,
         segments: layout.segments,
         addresses,
+        bounds,
     })
 }
 
@@ -110,10 +128,19 @@ impl<'p, 'a> Placement<'p, 'a> {
         self.tables.places.as_slice()
     }
 
-    /// The address of a section of an object, by their numbers; None where it isn't kept.
+    /// The address of a section of an object, by their numbers, or of a common block by its own; None where it isn't
+    /// kept.
     pub fn address(&self, object: usize, section: usize) -> Option<u64>
         ensures { result ≡ option_map (λ q. q.at) (find (is_of_section object section) (own_in_load_order self.now.base self.now.objects)) }
     {
         address_in(&self.tables.addresses, object, section)
+    }
+
+    /// The value of one of the linker's own names, which stands for a bound, where the kinds of all sections are lawful.
+    pub fn bound(&self, name: &[u8], bound: Bound) -> u64
+        requires { AreLawfulKinds self.now.objects }
+        ensures { result ≡ bound_value (own_where self.now.base self.now.objects) name.now bound }
+    {
+        bound_in(self.base, &self.tables.bounds, name, bound)
     }
 }

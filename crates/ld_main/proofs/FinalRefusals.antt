@@ -1,28 +1,39 @@
 -- The cause of a final refusal denies a clause of every right link.
-use Rattle.std.proofs.Common.{◌≡◌, ℕ, ◌*◌, ◌⊎◌, inl, inr, Bool, true, false, List, [], ◌∷◌, ◌++◌, refl, sym, ◌∙◌, ap, subst, arith}
+use Rattle.std.proofs.Common.{◌≡◌, ℕ, ◌*◌, ◌⊎◌, inl, inr, Bool, true, false, cond, List, [], ◌∷◌, ◌++◌, ◌+◌, refl, sym, ◌∙◌, ap, subst, arith}
 use Rattle.std.specs.Prelude.{All, AllPairs, Any, Contains, Err, IfErr, IfSome, IsSome, None, Ok, Option, Result, Some, map, option_map, pos, unwrap_or, ◌+ℤ◌}
 use Rattle.std.proofs.lemmas.Bool.{false≢true}
-use Rattle.std.proofs.lemmas.List.Elements.{All-contains, Contains-append_right}
-use Rattle.elf_model.specs.Causes.{Cause, IsToDropped, IsUndefinedName}
+use Rattle.std.proofs.lemmas.List.Elements.{All-append, All-cons, All-contains, All-head, All-map, All-nil, All-tail, Contains-append_cases, Contains-append_left, Contains-append_right}
+use Rattle.elf_model.specs.ArchiveFile.{IsArchive}
+use Rattle.elf_model.specs.Causes.{Cause, HasArchives, HasBadGroups, IsBadArchive, IsBadObject, IsToDropped, IsToMixed, IsUndefinedName, IsWithoutIndex, Reaches}
 use Rattle.elf_model.specs.Command.{Plan, command_of}
+use Rattle.elf_model.specs.Commons.{Block, block_piece, block_pieces, blocks, pieces}
 use Rattle.elf_model.specs.Files.{File}
-use Rattle.elf_model.specs.Loading.{AreFilesThere, LoadedObject, loaded_objects}
-use Rattle.elf_model.specs.MapRecord.{PlaceRow}
-use Rattle.elf_model.specs.ObjectFile.{IsObject, ObjFaultStands}
-use Rattle.elf_model.specs.OwnLayout.{own_in_load_order}
-use Rattle.elf_model.specs.Pieces.{AreLawfulKinds, Piece, pieces}
-use Rattle.elf_model.specs.Placement.{IsPlaced, IsWithin, Placed, got_things, headers_thing, placed_by, symbol_value, thing_of}
+use Rattle.elf_model.specs.Groups.{AreLawfulGroups}
+use Rattle.elf_model.specs.Loading.{LoadedObject, loaded_objects}
+use Rattle.elf_model.specs.MapRecord.{CommonRow, PlaceRow}
+use Rattle.elf_model.specs.ObjectFile.{IsObject, ObjFaultStands, groups}
+use Rattle.elf_model.specs.Opening.{AreFilesThere, lacks_index, opened}
+use Rattle.elf_model.specs.Meaning.{Common, Linker, Meaning, Symbol, meaning_value}
+use Rattle.elf_model.specs.OwnLayout.{own_where}
+use Rattle.elf_model.specs.Pieces.{AreLawfulKinds, Piece, kept_sections}
+use Rattle.elf_model.specs.Placement.{IsPlaced, IsWithin, Placed, Where, got_things, headers_thing, is_of_section, placed_block, placed_blocks, placed_by, symbol_value, thing_of}
 use Rattle.elf_model.specs.Profile.{IsInProfile}
 use Rattle.elf_model.specs.Relocation.{AreFieldsApart, Fits, Formula, IsFieldInside, IsInRange, IsLawfulRelocation, IsThreadMismatch, Kind, Relocation, S+A, Z+A, definition_of, modulo_64, relocation_kind, relocations, terms_of, value_of, whole_value}
-use Rattle.elf_model.specs.Resolution.{AreSoundSymbols, IsDuplicate, IsEntry, SymbolOf, is_absolute}
-use Rattle.elf_model.specs.RightLink.{AreRelocationsRight, AreSectionsListed, EntersRight, IsLoaded, IsRightLink, Subject, facts_of_piece, facts_of_row, placed_of, things_of}
+use Rattle.elf_model.specs.Resolution.{AreSoundCommons, AreSoundSymbols, IsDuplicate, IsEntry, SymbolOf, is_absolute}
+use Rattle.elf_model.specs.RightLink.{AreRelocationsRight, AreSectionsListed, EntersRight, IsLoaded, IsRightLink, Subject, facts_of_piece, facts_of_row, placed_of, sections_of, things_of, where_of}
 use Rattle.elf_model.specs.declared.faults.CmdFault.{CmdFault}
 use Rattle.elf_model.specs.declared.faults.LinkError.{LinkError}
 use Rattle.elf_model.specs.declared.faults.LinkError.TheVariants as error
-use Rattle.elf_model.proofs.Listed.{Contains-cons_cases, Contains-here, Contains-map, Contains-nil, Contains-there}
+use Rattle.elf_model.specs.declared.faults.ObjFault.{ObjFault}
+use Rattle.elf_model.proofs.Finding.{find-none}
+use Rattle.elf_model.proofs.Places.{at_own_address}
+use Rattle.elf_model.proofs.Listed.{All-parts, All-unmap, Contains-cons_cases, Contains-from_map, Contains-here, Contains-map, Contains-nil, Contains-there}
 use Rattle.command.proofs.Found.{same_ok}
+use Rattle.ar_index.proofs.Steps as archive_faults
+use Rattle.comdat.proofs.GroupFaultLemmas as group_faults
+use Rattle.elf_model.proofs.LoadedItems.{item_loaded}
 use Rattle.elf_read.proofs.Faults as object_faults
-use Rattle.ld_main.specs.FinalRefusals.{DeniesLinks, IsAddressFree, IsFinal, IsTooWide, NeverFits}
+use Rattle.ld_main.specs.FinalRefusals.{DeniesLinks, HasNoAddress, IsAddressFree, IsElsewhere, IsFinal, IsTooWide, MeansNoAddress, NeverFits}
 
 -- what stands of some element and what stands of all exclude each other
 excluded : {X : Type 0} (P Q : X → Type 0) (xs : List X) → Any P xs → All Q xs → ((x : X) → P x → Q x → ⊥) → ⊥
@@ -33,35 +44,72 @@ is_ok (Ok p) = true
 is_ok (Err f) = false
 
 -- a value without an address is the same wherever pieces stand
-same_symbol :
-    (ps qs : List Placed) (d : Option SymbolOf) → IfSome d (λ s. is_absolute s.entry ≡ true)
-    → unwrap_or (option_map (symbol_value ps) d) 0 ≡ unwrap_or (option_map (symbol_value qs) d) 0
-same_symbol ps qs None free = refl
-same_symbol ps qs (Some s) free = rw free refl
+abbrev IsApart : SymbolOf → Placed → Type 0
+IsApart s q = is_of_section s.object s.entry.st_shndx q ≡ false
 
-same_whole :
-    (objects : List LoadedObject) (ps qs : List Placed) (r : Relocation) (f : Formula) → IsAddressFree f (definition_of objects r.symbol)
-    → whole_value f (terms_of objects ps r) ≡ whole_value f (terms_of objects qs r)
-same_whole objects ps qs r S+A free = ap (λ (s : ℕ). pos s +ℤ r.entry.r_addend) (same_symbol ps qs (definition_of objects r.symbol) free)
-same_whole objects ps qs r Z+A free = refl
-same_whole objects ps qs r _ free = absurd free
+placed_apart : (s : SymbolOf) (rows : List PlaceRow) (ps : List Piece) → All (IsElsewhere s) ps → All (IsApart s) (placed_by rows ps)
+placed_apart s [] ps none = All-nil (IsApart s)
+placed_apart s (row ∷ rows) [] none = All-nil (IsApart s)
+placed_apart s (row ∷ rows) (p ∷ ps) none =
+    All-cons (IsApart s) (record { at = row.address; piece = p }) (placed_by rows ps) (All-head (IsElsewhere s) p ps none)
+    (placed_apart s rows ps (All-tail (IsElsewhere s) p ps none))
 
-value_at : (objects : List LoadedObject) (ps : List Placed) (r : Relocation) (k : Kind) → relocation_kind r ≡ Some k
-    → value_of objects ps r ≡ modulo_64 (whole_value k.formula (terms_of objects ps r))
-value_at objects ps r k is =
-    ap (λ (known : Option Kind). unwrap_or (option_map (λ h. modulo_64 (whole_value h.formula (terms_of objects ps r))) known) 0) is
+blocks_apart : (s : SymbolOf) (rows : List CommonRow) (bs : List Block) → All (IsElsewhere s) (map block_piece bs) → All (IsApart s) (placed_blocks rows bs)
+blocks_apart s rows bs none = All-map (IsApart s) (placed_block rows) bs (All-unmap (IsElsewhere s) block_piece bs none)
 
-never_fits : (base : ℕ) (objects : List LoadedObject) (ps : List Placed) (r : Relocation) → NeverFits base objects r → Fits objects ps r → ⊥
-never_fits base objects ps r never fits = never.unfit (subst (λ (v : ℕ). IfSome (relocation_kind r) (λ k. IsInRange k.range (8 * k.width) v)) same fits)
-  where
-    own : List Placed
-    own = own_in_load_order base objects
+value_apart : (ps : List Placed) (s : SymbolOf) → All (IsApart s) ps → symbol_value ps s ≡ cond (is_absolute s.entry) s.entry.st_value 0
+value_apart ps s none =
+    ap (λ (o : Option Placed). cond (is_absolute s.entry) s.entry.st_value (unwrap_or (option_map (λ q. q.at + s.entry.st_value) o) 0))
+    (find-none (is_of_section s.object s.entry.st_shndx) ps none)
 
-    same : value_of objects ps r ≡ value_of objects own r
-    same =
-        value_at objects ps r never.kind never.kind_is
-        ∙ ap modulo_64 (same_whole objects ps own r never.kind.formula never.free)
-        ∙ sym (value_at objects own r never.kind never.kind_is)
+module _ (base : ℕ) (objects : List LoadedObject) (rows : List PlaceRow) (commons : List CommonRow) where
+  abbrev own : Where
+  own = own_where base objects
+
+  abbrev mapped : Where
+  mapped = record { base = base; placed = placed_by rows (kept_sections objects) ++ placed_blocks commons (blocks objects) }
+
+  all_apart : (s : SymbolOf) → All (IsElsewhere s) (pieces objects) → All (IsApart s) mapped.placed
+  all_apart s none =
+      let parts = All-parts (IsElsewhere s) (kept_sections objects) (block_pieces objects) none in
+      All-append (IsApart s) (placed_by rows (kept_sections objects)) (placed_blocks commons (blocks objects))
+      (placed_apart s rows (kept_sections objects) parts.0) (blocks_apart s commons (blocks objects) parts.1)
+
+  same_value : (s : SymbolOf) → HasNoAddress objects s → symbol_value mapped.placed s ≡ symbol_value own.placed s
+  same_value s (inl absolute) = rw absolute refl
+  same_value s (inr none) =
+      value_apart mapped.placed s (all_apart s none)
+      ∙ sym (value_apart own.placed s (All-map (IsApart s) (at_own_address base objects) (pieces objects) none))
+
+  same_symbol :
+      (d : Option Meaning) → IfSome d (MeansNoAddress objects) →
+      unwrap_or (option_map (meaning_value mapped) d) 0 ≡ unwrap_or (option_map (meaning_value own) d) 0
+  same_symbol None free = refl
+  same_symbol (Some (Symbol s)) free = same_value s free
+  same_symbol (Some (Common b)) free = absurd free
+  same_symbol (Some (Linker name bound)) free = absurd free
+
+  same_whole :
+      (r : Relocation) (f : Formula) → IsAddressFree objects f (definition_of objects r.symbol) →
+      whole_value f (terms_of objects mapped r) ≡ whole_value f (terms_of objects own r)
+  same_whole r S+A free = ap (λ (s : ℕ). pos s +ℤ r.entry.r_addend) (same_symbol (definition_of objects r.symbol) free)
+  same_whole r Z+A free = refl
+  same_whole r _ free = absurd free
+
+  value_at :
+      (ps : Where) (r : Relocation) (k : Kind) → relocation_kind r ≡ Some k →
+      value_of objects ps r ≡ modulo_64 (whole_value k.formula (terms_of objects ps r))
+  value_at ps r k is =
+      ap (λ (known : Option Kind). unwrap_or (option_map (λ h. modulo_64 (whole_value h.formula (terms_of objects ps r))) known) 0) is
+
+  never_fits : (r : Relocation) → NeverFits base objects r → Fits objects mapped r → ⊥
+  never_fits r never fits = never.unfit (subst (λ (v : ℕ). IfSome (relocation_kind r) (λ k. IsInRange k.range (8 * k.width) v)) same fits)
+    where
+      same : value_of objects mapped r ≡ value_of objects own r
+      same =
+          value_at mapped r never.kind never.kind_is
+          ∙ ap modulo_64 (same_whole r never.kind.formula never.free)
+          ∙ sym (value_at own r never.kind never.kind_is)
 
 -- each piece has a place
 placed_at : (rows : List PlaceRow) (ps : List Piece) (p : Piece) → map facts_of_row rows ≡ map facts_of_piece ps → Contains ps p
@@ -95,7 +143,7 @@ module _ (files : List File) (words : List (List ℕ)) (image text : List ℕ) (
   listed : AreSectionsListed subject
   listed = l.before_last.0.0.0.0.0.0.0.0.0.1
 
-  placed : IsPlaced l.plan.base (things_of subject) (placed_of subject)
+  placed : IsPlaced l.plan.base (things_of subject) (sections_of subject)
   placed = l.before_last.0.0.0.0.0.0.0.1
 
   referred : AreRelocationsRight subject
@@ -119,55 +167,101 @@ module _ (files : List File) (words : List (List ℕ)) (image text : List ℕ) (
   -- a piece that is too wide has no place
   too_wide : (q : Piece) → Contains (pieces objects) q → IsTooWide l.plan.base q → ⊥
   too_wide q there wide =
-      let place = placed_at l.map.places (pieces objects) q listed.places there in
+      let place = somewhere (Contains-append_cases (kept_sections objects) (block_pieces objects) q there) in
       let here : Placed = record { at = place.0; piece = q } in
       let within = All-contains (IsWithin l.plan.base) (things_of subject) (thing_of here) placed.within (thing_there here place.1) in
       let low = within.0 in
       let high = within.1 in
       omega (arith, low, high, wide)
     where
+      ofs : List Placed
+      ofs = placed_blocks l.map.commons (blocks objects)
+
+      somewhere : Contains (kept_sections objects) q ⊎ Contains (block_pieces objects) q → (at : ℕ) × Contains (placed_of subject) (record { at = at; piece = q })
+      somewhere (inl kept) =
+          let place = placed_at l.map.places (kept_sections objects) q listed.places kept in
+          (place.0, Contains-append_left (sections_of subject) ofs (record { at = place.0; piece = q }) place.1)
+      somewhere (inr block) =
+          let image = Contains-from_map block_piece (blocks objects) q block in
+          let here = placed_block l.map.commons image.of in (
+            here.at,
+            Contains-append_right (sections_of subject) ofs (record { at = here.at; piece = q })
+                (subst (λ (p : Piece). Contains ofs (record { at = here.at; piece = p })) image.is
+                (Contains-map (placed_block l.map.commons) (blocks objects) image.of image.there)),
+          )
+
       thing_there : (h : Placed) → Contains (placed_of subject) h → Contains (things_of subject) (thing_of h)
       thing_there h c =
           Contains-there (headers_thing image) (got_things l.map.got ++ map thing_of (placed_of subject)) (thing_of h)
           (Contains-append_right (got_things l.map.got) (map thing_of (placed_of subject)) (thing_of h) (Contains-map thing_of (placed_of subject) h c))
 
+  -- what makes BadObject: an object item, or an object that loading reaches
+  abbrev BadlyLoaded : ObjFault → Plan → Type 0
+  BadlyLoaded fault p = Any (IsBadObject fault) (opened files p) ⊎ (HasArchives files words p × Reaches (loaded_objects files p) (λ o. ObjFaultStands o.bytes fault))
+
+  reached_there : {Stands : LoadedObject → Type 0} (r : Reaches objects Stands) → Contains objects r.reached
+  reached_there r =
+      subst (λ (os : List LoadedObject). Contains os r.reached) (sym r.order)
+      (Contains-append_right r.front (r.reached ∷ r.rest) r.reached (Contains-here r.rest r.reached))
+
   deny : (e : LinkError) → Cause files words e → IsFinal files words e → ⊥
   deny error.Memory c f = f
   deny (error.Command fault) c f = false≢true (ap is_ok (sym c ∙ l.read.plan))
   deny error.FileMissing c f = of_plan (λ p. ¬ AreFilesThere files p) c.0 c.1 c.2 loaded.files
-  deny (error.BadObject fault) c f =
-      excluded (λ o. ObjFaultStands o.bytes fault) (λ o. IsObject o.bytes) objects
-      (of_plan (λ p. Any (λ o. ObjFaultStands o.bytes fault) (loaded_objects files p)) c.0 c.1.words_are c.3) loaded.objects
-      (λ o stands good. c.2 (object_faults.only o.bytes fault good stands))
-  deny error.NotYet c f = of_plan (λ p. ¬ IsInProfile p (loaded_objects files p)) c.0 c.1.before.words_are c.2 loaded.profile
-  deny error.SectionKind c f = of_plan (λ p. ¬ AreLawfulKinds (loaded_objects files p)) c.0 c.1.before.before.words_are c.2 listed.kinds
+  deny (error.BadObject fault) c f = bad_object (of_plan (BadlyLoaded fault) c.0 c.1.words_are c.3)
+    where
+      bad_object : BadlyLoaded fault l.plan → ⊥
+      bad_object (inl item) =
+          let here : IsBadObject fault item.1 = item.4 in
+          let x = item_loaded files l.plan item.1 here.0 (item.0, item.2, item.3) in
+          c.2 (object_faults.only item.1.bytes fault (subst IsObject x.1 (All-contains (λ o. IsObject o.bytes) objects x.0 loaded.objects x.2)) here.1)
+      bad_object (inr reach) =
+          let o = reach.1.reached in
+          c.2 (object_faults.only o.bytes fault (All-contains (λ x. IsObject x.bytes) objects o loaded.objects (reached_there reach.1)) reach.1.stands)
+  deny (error.BadArchive fault) c f =
+      excluded (IsBadArchive fault) (λ o. o.archive ≡ true → IsArchive o.bytes) (opened files l.plan)
+      (of_plan (λ p. Any (IsBadArchive fault) (opened files p)) c.0 c.1.words_are c.3) loaded.archives
+      (λ o stands good. c.2 (archive_faults.only o.bytes fault (good stands.0) stands.1))
+  deny error.NoIndex c f =
+      excluded IsWithoutIndex (λ o. o.archive ≡ true → lacks_index o ≡ false) (opened files l.plan)
+      (of_plan (λ p. Any IsWithoutIndex (opened files p)) c.0 c.1.words_are c.2) loaded.indexes
+      (λ o stands good. false≢true (sym (good stands.0) ∙ stands.2))
+  deny (error.BadGroup fault) c f =
+      let reach = of_plan (λ p. Reaches (loaded_objects files p) (HasBadGroups fault)) c.0 c.1.before.words_are c.3 in
+      let o = reach.reached in
+      c.2 (group_faults.only (groups o.bytes) fault (All-contains (λ x. AreLawfulGroups (groups x.bytes)) objects o loaded.groups (reached_there reach)) reach.stands.1)
+  deny error.NotYet c f = of_plan (λ p. ¬ IsInProfile (loaded_objects files p)) c.0 c.1.before.before.words_are c.2 loaded.profile
+  deny error.SectionKind c f = of_plan (λ p. ¬ AreLawfulKinds (loaded_objects files p)) c.0 c.1.before.before.before.words_are c.2 listed.kinds
   deny (error.Duplicate name) c f =
-      let twice = of_plan (λ p. IsDuplicate (loaded_objects files p) name.items) c.0 c.1.before.before.words_are c.2 in
+      let twice = of_plan (λ p. IsDuplicate (loaded_objects files p) name.items) c.0 c.1.before.before.before.words_are c.2 in
       let once = l.last.unique name.items in
       omega (arith, twice, once)
-  deny error.BadSymbol c f = of_plan (λ p. ¬ AreSoundSymbols (loaded_objects files p)) c.0 c.1.before.before.words_are c.2 l.last.sound
+  deny error.BadCommon c f = of_plan (λ p. ¬ AreSoundCommons (loaded_objects files p)) c.0 c.1.before.before.before.words_are c.2 listed.sound
+  deny error.BadSymbol c f = of_plan (λ p. ¬ AreSoundSymbols (loaded_objects files p)) c.0 c.1.before.before.before.words_are c.2 l.last.sound
   deny (error.Undefined name) c f =
-      deny_relocation (IsUndefinedName name.items) c.0 c.1.before.before.before.words_are c.2 (λ r stands lawful. lawful.defined stands.1)
+      deny_relocation (IsUndefinedName name.items) c.0 c.1.before.before.before.before.words_are c.2 (λ r stands lawful. lawful.defined stands.1)
   deny error.RefToDropped c f =
-      deny_relocation IsToDropped c.0 c.1.before.before.before.words_are c.2 (λ r stands lawful. lawful.kept stands.1)
+      deny_relocation IsToDropped c.0 c.1.before.before.before.before.words_are c.2 (λ r stands lawful. lawful.kept stands.1)
   deny error.RelocKind c f =
-      deny_relocation (λ os r. relocation_kind r ≡ None) c.0 c.1.before.before.before.words_are c.2
+      deny_relocation (λ os r. relocation_kind r ≡ None) c.0 c.1.before.before.before.before.words_are c.2
       (λ r stands lawful. false≢true (subst IsSome stands lawful.known))
   deny error.FieldOutside c f =
-      deny_relocation (λ os r. ¬ IsFieldInside r) c.0 c.1.before.before.before.words_are c.2 (λ r stands lawful. stands lawful.inside)
+      deny_relocation (λ os r. ¬ IsFieldInside r) c.0 c.1.before.before.before.before.words_are c.2 (λ r stands lawful. stands lawful.inside)
   deny error.OverlappingFields c f =
-      of_plan (λ p. ¬ AllPairs AreFieldsApart (relocations (loaded_objects files p))) c.0 c.1.before.before.before.words_are c.2 referred.lawful.apart
+      of_plan (λ p. ¬ AllPairs AreFieldsApart (relocations (loaded_objects files p))) c.0 c.1.before.before.before.before.words_are c.2 referred.lawful.apart
   deny error.TlsMismatch c f =
-      deny_relocation IsThreadMismatch c.0 c.1.before.before.before.words_are c.2 (λ r stands lawful. lawful.thread stands)
+      deny_relocation IsThreadMismatch c.0 c.1.before.before.before.before.words_are c.2 (λ r stands lawful. lawful.thread stands)
+  deny error.MixedSection c f =
+      deny_relocation IsToMixed c.0 c.1.before.before.before.before.words_are c.2 (λ r stands lawful. lawful.unmixed stands.1)
   deny error.NoEntry c f =
-      of_plan (λ p. ¬ IsEntry (loaded_objects files p) p.entry) c.0 c.1.before.before.before.words_are c.2 enters.0
+      of_plan (λ p. ¬ IsEntry (loaded_objects files p) p.entry) c.0 c.1.before.before.before.before.words_are c.2 enters.0
   deny error.TooLarge c f =
       let wide : Any (IsTooWide l.plan.base) (pieces objects) = of_plan (λ p. Any (IsTooWide p.base) (pieces (loaded_objects files p))) f.0 f.1 f.2 in
       too_wide wide.1 (wide.0, wide.2, wide.3) wide.4
   deny error.Overflow c f =
-      excluded (NeverFits l.plan.base objects) (Fits objects (placed_of subject)) (relocations objects)
+      excluded (NeverFits l.plan.base objects) (Fits objects (where_of subject)) (relocations objects)
       (of_plan (λ p. Any (NeverFits p.base (loaded_objects files p)) (relocations (loaded_objects files p))) f.0 f.1 f.2) referred.fits
-      (never_fits l.plan.base objects (placed_of subject))
+      (never_fits l.plan.base objects l.map.places l.map.commons)
 
 pub denies_links : (files : List File) (words : List (List ℕ)) (e : LinkError) → Cause files words e → DeniesLinks files words e
 denies_links files words e cause final image text l = deny files words image text l e cause final

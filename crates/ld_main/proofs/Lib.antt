@@ -1,5 +1,8 @@
+pub mod DropLines
 pub mod Values
+pub mod OwnCommons
 pub mod OwnMaps
 pub mod Links
+pub mod Listings
 pub mod Spellings
 pub mod FinalRefusals

@@ -1,29 +1,29 @@
 -- From what linking the loaded objects makes to a right link, and from its refusals to causes.
-use Rattle.std.proofs.Common.{◌≡◌, ℕ, ◌<◌, ◌^◌, List, refl, sym, ◌∙◌, ap, subst}
+use Rattle.std.proofs.Common.{◌≡◌, ℕ, ◌<◌, ◌^◌, inr, List, refl, sym, ◌∙◌, ap, subst}
 use Rattle.std.specs.Prelude.{IfOk, Ok, Err, Result}
-use Rattle.elf_model.specs.Causes.{Cause, IsLaidOut, IsLinkable, IsReferred, IsResolved, IsTaken}
+use Rattle.elf_model.specs.Causes.{Cause, HasArchives, IsLaidOut, IsLinkable, IsReferred, IsResolved, IsTaken, Reaches}
 use Rattle.elf_model.specs.Command.{Plan, command_of}
 use Rattle.elf_model.specs.Files.{File}
 use Rattle.elf_model.specs.ImageFile.{IsOwnMap, image_file, own_entry}
-use Rattle.elf_model.specs.Loading.{AreFilesThere, AreObjects, LoadedObject, loaded_objects}
+use Rattle.elf_model.specs.Loading.{AreObjects, HaveLawfulGroups, LoadedObject, loaded_objects}
 use Rattle.elf_model.specs.MapText as map_text
+use Rattle.elf_model.specs.Opening.{AreArchives, AreFilesThere, HaveIndexes, opened}
 use Rattle.elf_model.specs.Profile.{IsInProfile}
 use Rattle.elf_model.specs.RightLink.{IsRightLink}
 use Rattle.elf_model.specs.declared.faults.LinkError.{LinkError}
 use Rattle.elf_model.specs.declared.faults.LinkError.TheVariants as error
-use Rattle.layout.specs.declared.faults.LayoutFault.TheVariants as layout
 use Rattle.own_link.proofs.OwnRight.{own_is_right}
 use Rattle.relocate.specs.Values.{ValuesFail}
 use Rattle.relocate.specs.declared.faults.RelocFault.{RelocFault}
 use Rattle.relocate.specs.declared.faults.RelocFault.TheVariants as reloc
-use Rattle.search.specs.Search.{LoadFails}
+use Rattle.search.specs.Faults.{IsSearchable, LoadFails}
 use Rattle.search.specs.declared.faults.SearchFault.{SearchFault}
 use Rattle.search.specs.declared.faults.SearchFault.TheVariants as search
 use Rattle.resolve.specs.Refusals.{ResolvingFails}
 use Rattle.resolve.specs.declared.faults.ResolveFault.{ResolveFault}
 use Rattle.resolve.specs.declared.faults.ResolveFault.TheVariants as resolve
 use Rattle.layout.specs.Placements.{Basis}
-use Rattle.resolve.specs.Views.{symbol_views}
+use Rattle.resolve.specs.Views.{meaning_views}
 use Rattle.ld_main.specs.Linkages.{IsLinkageOf, IsOwnText, IsPrepared, Prepared}
 use Rattle.ld_main.specs.Maps.{IsMapOf, own_record}
 use Rattle.ld_main.specs.Outputs.{AreLaidOut, AreLinkable, AreReferred, AreResolved, IsOwnLink, LinksRefuse}
@@ -36,18 +36,33 @@ pub ok_more : {X Y : Type 0} (P Q : X → Type 0) (r : Result X Y) → IfOk r P 
 ok_more P Q (Ok x) is more = more x is
 ok_more P Q (Err y) is more = tt
 
+-- archives that can be searched, as a phase of the link
+searchable : (files : List File) (words : List (List ℕ)) (p : Plan) → command_of words ≡ Ok p → IsSearchable files p → HasArchives files words p
+searchable files words p is s = record { before = record { words_are = is; files_are = s.files_are }; archives = s.archives; indexes = s.indexes }
+
+-- what is reached of which something stands is reached where less stands
+later : {P Q : LoadedObject → Type 0} {objects : List LoadedObject} → Reaches objects P → ((o : LoadedObject) → P o → Q o) → Reaches objects Q
+later r weaker =
+    record { front = r.front; reached = r.reached; rest = r.rest; order = r.order; are_objects = r.are_objects; lawful = r.lawful; stands = weaker r.reached r.stands }
+
 -- why loading fails is why the link does
 pub loading_fails :
     (files : List File) (words : List (List ℕ)) (p : Plan) → command_of words ≡ Ok p → (e : SearchFault) → LoadFails files p e →
     Cause files words (of_search e)
 loading_fails files words p is search.Memory f = tt
 loading_fails files words p is search.FileMissing f = (p, is, f)
-loading_fails files words p is (search.BadObject fault) f = (p, record { words_are = is; files_are = f.0 }, f.1, f.2)
+loading_fails files words p is (search.BadObject fault) f =
+    (p, record { words_are = is; files_are = f.0.files_are }, f.1.stands.0, inr (searchable files words p is f.0, later f.1 (λ o stands. stands.1)))
+loading_fails files words p is (search.BadArchive fault) f = (p, record { words_are = is; files_are = f.0 }, f.1, f.2)
+loading_fails files words p is search.NoIndex f = (p, record { words_are = is; files_are = f.0 }, f.1)
+loading_fails files words p is (search.Group fault) f =
+    (p, searchable files words p is f.0, f.1.stands.0, later f.1 (λ o stands. stands.1))
 
 -- why a later phase refuses is why linking the objects does
 pub resolving_refuses : (p : Plan) (objects : List LoadedObject) (e : ResolveFault) → ResolvingFails objects e → LinksRefuse p objects (of_resolve e)
 resolving_refuses p objects resolve.Memory f = tt
 resolving_refuses p objects (resolve.Duplicate name) f = f
+resolving_refuses p objects resolve.BadCommon f = f
 resolving_refuses p objects resolve.BadSymbol f = f
 
 pub values_refuse :
@@ -84,15 +99,19 @@ right files words l i image text image_is t =
     subst (λ (j : List ℕ). IsRightLink files words j text) (sym o.bytes.image_is)
     (subst (λ (u : List ℕ). IsRightLink files words (image_file l.plan.base (loaded_objects files l.plan) l.plan.entry) u) (sym o.bytes.spelled) r)
 
-module _ (files : List File) (words : List (List ℕ)) (p : Plan) (objects : List LoadedObject) (are : objects ≡ loaded_objects files p) (plan_is : command_of words ≡ Ok p) (there : AreFilesThere files p) (good : AreObjects (loaded_objects files p)) (profile : IsInProfile p objects) where
+module _ (files : List File) (words : List (List ℕ)) (p : Plan) (objects : List LoadedObject) (are : objects ≡ loaded_objects files p) (plan_is : command_of words ≡ Ok p) (there : AreFilesThere files p) (archives : AreArchives (opened files p)) (indexes : HaveIndexes (opened files p)) (good : AreObjects (loaded_objects files p)) (groups : HaveLawfulGroups (loaded_objects files p)) (profile : IsInProfile objects) where
   taken : IsTaken files words p
   taken = record {
-    before = record { before = record { words_are = plan_is; files_are = there }; objects = good };
-    profile = subst (IsInProfile p) are profile;
+    before = record {
+      before = record { before = record { words_are = plan_is; files_are = there }; archives = archives; indexes = indexes };
+      objects = good;
+      groups = groups;
+    };
+    profile = subst IsInProfile are profile;
   }
 
   resolved : AreResolved (loaded_objects files p) → IsResolved files words p
-  resolved r = record { before = taken; kinds = r.kinds; sound = r.sound; unique = r.unique }
+  resolved r = record { before = taken; kinds = r.kinds; commons = r.commons; sound = r.sound; unique = r.unique }
 
   referred : AreReferred p (loaded_objects files p) → IsReferred files words p
   referred r = record { before = resolved r.resolved; relocations = r.relocations; entry = r.entry }
@@ -115,14 +134,14 @@ module _ (files : List File) (words : List (List ℕ)) (p : Plan) (objects : Lis
   pub right_link : (x : Parts) → IsLinkageOf p objects x → LinksRight files words
   right_link x made =
       let b : Basis = record { base = p.base; objects = objects } in
-      let m = own_record b (symbol_views x.definitions.items) in
-      let is : IsMapOf b (symbol_views x.definitions.items) m =
+      let m = own_record b (meaning_views x.listed.items) in
+      let is : IsMapOf b (meaning_views x.listed.items) m =
       record { objects_are = refl; drops = refl; places = refl; commons = refl; got = refl; slots = refl; symbols_are = refl } in
       let text_is : IsOwnText (record { plan = p; objects = objects }) (map_text.text m) =
       record {
         record_of = m;
-        own_map = own_map b x.definitions.items m is made.definitions;
-        is_map = record { fits = made.spelled; ordered = ordered b x.definitions.items m is made.definitions };
+        own_map = own_map b x.listed.items m is made.listed;
+        is_map = record { fits = made.spelled; ordered = ordered b x.listed.items m is made.listed };
         spelled = refl;
       } in
       let r = prepared x made in
@@ -135,6 +154,7 @@ module _ (files : List File) (words : List (List ℕ)) (p : Plan) (objects : Lis
       of_loaded error.Memory r = tt
       of_loaded error.SectionKind r = (p, taken, r)
       of_loaded (error.Duplicate name) r = (p, taken, r)
+      of_loaded error.BadCommon r = (p, taken, r)
       of_loaded error.BadSymbol r = (p, taken, r)
       of_loaded (error.Undefined name) r = (p, resolved r.0, r.1)
       of_loaded error.RefToDropped r = (p, resolved r.0, r.1)
@@ -142,6 +162,7 @@ module _ (files : List File) (words : List (List ℕ)) (p : Plan) (objects : Lis
       of_loaded error.FieldOutside r = (p, resolved r.0, r.1)
       of_loaded error.OverlappingFields r = (p, resolved r.0, r.1)
       of_loaded error.TlsMismatch r = (p, resolved r.0, r.1)
+      of_loaded error.MixedSection r = (p, resolved r.0, r.1)
       of_loaded error.NoEntry r = (p, resolved r.0, r.1)
       of_loaded error.TooLarge r = (p, referred r.0, r.1)
       of_loaded error.Overflow r = (p, laid_out r.0, r.1)

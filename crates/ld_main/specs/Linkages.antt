@@ -10,8 +10,8 @@ use Rattle.elf_model.specs.MapText.{Fits, IsMap}
 use Rattle.elf_model.specs.MapText as map_text
 use Rattle.layout.specs.Tables.{AreTables}
 use Rattle.relocate.specs.PatchTables.{ArePatchesOf}
-use Rattle.resolve.specs.Defined.{AreDefinitions}
-use Rattle.resolve.specs.Views.{symbol_views}
+use Rattle.resolve.specs.Views.{meaning_views}
+use Rattle.ld_main.specs.Listings.{IsListing}
 use Rattle.ld_main.specs.Maps.{own_record}
 use Rattle.ld_main.specs.Outputs.{AreLinkable}
 use Rattle.ld_main.specs.declared.linkage.Parts.{Parts}
@@ -26,12 +26,12 @@ pub record IsLinkageOf (p : Plan) (objects : List LoadedObject) (x : Parts) : Ty
   pub base : IsBase p.base
   pub are_objects : AreObjects objects
   pub linkable : AreLinkable p objects
-  pub definitions : AreDefinitions objects x.definitions.items
+  pub listed : IsListing objects x.listed.items
   pub tables : AreTables p.base objects x.tables
   pub patches : ArePatchesOf (record { base = p.base; objects = objects }) x.patches
   pub entry : own_entry p.base objects p.entry ≡ x.entry
   pub entry_fits : x.entry < 2 ^ 64
-  pub spelled : Fits (own_record (record { base = p.base; objects = objects }) (symbol_views x.definitions.items))
+  pub spelled : Fits (own_record (record { base = p.base; objects = objects }) (meaning_views x.listed.items))
 
 -- a link of files by words, none of whose phases has a fault
 pub record IsPrepared (files : List File) (words : List (List ℕ)) (l : Prepared) : Type 0 where

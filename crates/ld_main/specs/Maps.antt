@@ -2,40 +2,48 @@
 use Rattle.std.specs.Prelude.{◌≡◌, ◌+◌, ◌≤◌, ◌^◌, List, [], None, IfSome, find, map, option_map}
 use Rattle.elf_model.specs.ImageFile.{place_row_of}
 use Rattle.elf_model.specs.MapRecord.{MapRecord, PlaceRow}
-use Rattle.elf_model.specs.OwnLayout.{own_address}
-use Rattle.elf_model.specs.Pieces.{Piece, pieces}
+use Rattle.elf_model.specs.Meaning.{Common, Linker, Meaning, Symbol}
+use Rattle.elf_model.specs.OwnLayout.{own_address, own_where}
+use Rattle.elf_model.specs.Pieces.{Piece, kept_sections}
 use Rattle.elf_model.specs.Placement.{Placed, is_of_section}
 use Rattle.elf_model.specs.Resolution.{SymbolOf}
-use Rattle.elf_model.specs.RightLink.{object_rows, symbol_row_of}
+use Rattle.elf_model.specs.RightLink.{drop_rows, object_rows, symbol_row_of}
 use Rattle.layout.specs.Placements.{Basis}
-use Rattle.relocate.specs.Values.{placed_in}
+use Rattle.ld_main.specs.CommonRows.{own_commons}
 
 -- a symbol of a section that is placed has a value within the addresses
 abbrev pub LiesBelow : List Placed → SymbolOf → Type 0
 LiesBelow ps s = IfSome (option_map (λ q. q.at) (find (is_of_section s.object s.entry.st_shndx) ps)) (λ at. at + s.entry.st_value ≤ 2 ^ 46)
 
--- the line of a piece at its own address
+-- what a name means has a value below 2 ^ 64
+abbrev pub LiesWithin : List Placed → Meaning → Type 0
+LiesWithin ps (Symbol s) = LiesBelow ps s
+LiesWithin ps (Common b) = Unit {0}
+LiesWithin ps (Linker name bound) = Unit {0}
+
+-- the line of a kept section at its own address
 abbrev pub own_row : Basis → Piece → PlaceRow
 own_row b p = place_row_of (record { at = own_address b.base b.objects p; piece = p })
 
--- a map of the objects, their pieces at their own addresses, and definitions with their values
-pub record IsMapOf (b : Basis) (symbols : List SymbolOf) (m : MapRecord) : Type 0 where
+-- a map of the objects, their dropped sections, their kept ones and their common blocks at their own addresses, and
+-- definitions with their values
+pub record IsMapOf (b : Basis) (listed : List Meaning) (m : MapRecord) : Type 0 where
   pub objects_are : m.objects ≡ object_rows 0 b.objects
-  pub drops : m.drops ≡ []
-  pub places : m.places ≡ map (own_row b) (pieces b.objects)
-  pub commons : m.commons ≡ []
+  pub drops : m.drops ≡ drop_rows 0 b.objects
+  pub places : m.places ≡ map (own_row b) (kept_sections b.objects)
+  pub commons : m.commons ≡ own_commons b.base b.objects listed
   pub got : m.got ≡ None
   pub slots : m.slots ≡ []
-  pub symbols_are : m.symbols ≡ map (symbol_row_of (placed_in b)) symbols
+  pub symbols_are : m.symbols ≡ map (symbol_row_of (own_where b.base b.objects)) listed
 
 -- that map's lines
-abbrev pub own_record : Basis → List SymbolOf → MapRecord
-own_record b symbols = record {
+abbrev pub own_record : Basis → List Meaning → MapRecord
+own_record b listed = record {
   objects = object_rows 0 b.objects;
-  drops = [];
-  places = map (own_row b) (pieces b.objects);
-  commons = [];
+  drops = drop_rows 0 b.objects;
+  places = map (own_row b) (kept_sections b.objects);
+  commons = own_commons b.base b.objects listed;
   got = None;
   slots = [];
-  symbols = map (symbol_row_of (placed_in b)) symbols;
+  symbols = map (symbol_row_of (own_where b.base b.objects)) listed;
 }

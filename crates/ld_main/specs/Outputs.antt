@@ -1,6 +1,6 @@
 -- What the linker makes of the loaded objects, and why it refuses them.
 use Rattle.std.specs.Prelude.{◌≡◌, ℕ, List, AllPairs, Any, None, Some}
-use Rattle.elf_model.specs.Causes.{IsLinkable, IsToDropped, IsUndefinedName}
+use Rattle.elf_model.specs.Causes.{IsLinkable, IsToDropped, IsToMixed, IsUndefinedName}
 use Rattle.elf_model.specs.Command.{Plan}
 use Rattle.elf_model.specs.Files.{File}
 use Rattle.elf_model.specs.ImageFile.{IsOwnMap, image_file}
@@ -8,10 +8,11 @@ use Rattle.elf_model.specs.Loading.{LoadedObject, loaded_objects}
 use Rattle.elf_model.specs.MapRecord.{MapRecord}
 use Rattle.elf_model.specs.MapText.{IsMap}
 use Rattle.elf_model.specs.MapText as map_text
+use Rattle.elf_model.specs.Meaning.{Meaning, object_meaning}
 use Rattle.elf_model.specs.OwnLayout.{IsNotTooLarge, OwnValuesFit}
 use Rattle.elf_model.specs.Pieces.{AreLawfulKinds}
 use Rattle.elf_model.specs.Relocation.{AreFieldsApart, AreLawfulRelocations, IsFieldInside, IsThreadMismatch, Relocation, relocation_kind, relocations}
-use Rattle.elf_model.specs.Resolution.{AreSoundSymbols, AreUnique, IsDuplicate, IsEntry, SymbolOf, chosen}
+use Rattle.elf_model.specs.Resolution.{AreSoundCommons, AreSoundSymbols, AreUnique, IsDuplicate, IsEntry}
 use Rattle.elf_model.specs.declared.faults.LinkError.{LinkError}
 use Rattle.elf_model.specs.declared.faults.LinkError.TheVariants as error
 
@@ -26,6 +27,7 @@ pub record IsOwnBytes (p : Plan) (objects : List LoadedObject) (image map : List
 -- what stands of objects of the profile before each phase: kinds and names, references, layout, values
 pub record AreResolved (objects : List LoadedObject) : Type 0 where
   pub kinds : AreLawfulKinds objects
+  pub commons : AreSoundCommons objects
   pub sound : AreSoundSymbols objects
   pub unique : AreUnique objects
 
@@ -51,6 +53,7 @@ abbrev pub LinksRefuse : Plan → List LoadedObject → LinkError → Type 0
 LinksRefuse p objects error.Memory = Unit {0}
 LinksRefuse p objects error.SectionKind = ¬ AreLawfulKinds objects
 LinksRefuse p objects (error.Duplicate name) = IsDuplicate objects name.items
+LinksRefuse p objects error.BadCommon = ¬ AreSoundCommons objects
 LinksRefuse p objects error.BadSymbol = ¬ AreSoundSymbols objects
 LinksRefuse p objects (error.Undefined name) = RefersBadly objects (IsUndefinedName name.items objects)
 LinksRefuse p objects error.RefToDropped = RefersBadly objects (IsToDropped objects)
@@ -58,14 +61,15 @@ LinksRefuse p objects error.RelocKind = RefersBadly objects (λ r. relocation_ki
 LinksRefuse p objects error.FieldOutside = RefersBadly objects (λ r. ¬ IsFieldInside r)
 LinksRefuse p objects error.OverlappingFields = AreResolved objects × (¬ AllPairs AreFieldsApart (relocations objects))
 LinksRefuse p objects error.TlsMismatch = RefersBadly objects (IsThreadMismatch objects)
+LinksRefuse p objects error.MixedSection = RefersBadly objects (IsToMixed objects)
 LinksRefuse p objects error.NoEntry = AreResolved objects × (¬ IsEntry objects p.entry)
 LinksRefuse p objects error.TooLarge = AreReferred p objects × (¬ IsNotTooLarge p.base objects)
 LinksRefuse p objects error.Overflow = AreLaidOut p objects × (¬ OwnValuesFit p.base objects)
 LinksRefuse p objects _ = ⊥
 
 -- the definition at which a plan's links enter
-abbrev pub EntersAt : Plan → List LoadedObject → SymbolOf → Type 0
-EntersAt p objects s = chosen objects p.entry ≡ Some s
+abbrev pub EntersAt : Plan → List LoadedObject → Meaning → Type 0
+EntersAt p objects m = object_meaning objects p.entry ≡ Some m
 
 -- the link of files by words that the linker makes: the own image and map of the loaded objects
 pub record IsOwnLink (files : List File) (words : List (List ℕ)) (image map : List ℕ) : Type 0 where

@@ -20,10 +20,14 @@ abbrev pub of_search : SearchFault → LinkError
 of_search search.Memory = error.Memory
 of_search search.FileMissing = error.FileMissing
 of_search (search.BadObject f) = error.BadObject f
+of_search (search.BadArchive f) = error.BadArchive f
+of_search search.NoIndex = error.NoIndex
+of_search (search.Group f) = error.BadGroup f
 
 abbrev pub of_resolve : ResolveFault → LinkError
 of_resolve resolve.Memory = error.Memory
 of_resolve (resolve.Duplicate name) = error.Duplicate name
+of_resolve resolve.BadCommon = error.BadCommon
 of_resolve resolve.BadSymbol = error.BadSymbol
 
 abbrev pub of_layout : LayoutFault → LinkError
@@ -40,3 +44,4 @@ of_reloc reloc.FieldOutside = error.FieldOutside
 of_reloc reloc.OverlappingFields = error.OverlappingFields
 of_reloc reloc.Overflow = error.Overflow
 of_reloc reloc.TlsMismatch = error.TlsMismatch
+of_reloc reloc.MixedSection = error.MixedSection

@@ -4,6 +4,7 @@
 
 mod linkage;
 mod linking;
+mod listing;
 mod own_map;
 mod profile;
 mod program;

@@ -10,34 +10,35 @@ ghost use Rattle.elf_model.specs.MapRecord.{map_of};
 ghost use Rattle.layout.specs.Tables.{AreTables};
 ghost use Rattle.relocate.specs.PatchTables.{ArePatchesOf};
 ghost use Rattle.search.specs.Views.{loaded_views};
-ghost use Rattle.resolve.specs.Defined.{AreDefinitions};
-ghost use Rattle.resolve.specs.Views.{symbol_view};
+ghost use Rattle.resolve.specs.Views.{meaning_view};
 ghost use Rattle.symbols.specs.Rows.{no_rows};
 ghost use Rattle.ld_main.specs.FinalRefusals.{DeniesLinks};
 ghost use Rattle.ld_main.specs.Linkages.{IsPrepared, IsLinkageOf};
+ghost use Rattle.ld_main.specs.Listings.{IsListing};
 ghost use Rattle.ld_main.specs.Outputs.{AreLaidOut, AreLinkable, AreReferred, AreResolved, EntersAt, LinksRefuse};
 ghost use Rattle.ld_main.specs.Program.{LinksRight};
 
-use crate::own_map::{map_of_layout, value};
+use crate::listing::listed;
+use crate::own_map::{map_of_layout, meaning_value};
 use crate::profile::is_in_profile;
 use crate::refusals::{command_error, layout_error, reloc_error, resolve_error, search_error};
 use crate::spelling::show_spellings;
 use command::{Plan, read_words};
 use elf_model::{InputFile, LinkError, LinkMap};
 use layout::{Placement, Tables, kinds, place};
-use relocate::{PatchTable, Patches, patches, references};
-use resolve::{Resolved, SymbolOf, resolve_over};
+use relocate::{PatchTable, Patches, linker_lines, patches, references};
+use resolve::{Meaning, Resolved, resolve_over};
 use search::{Loaded, load};
 use std::alloc::{AllocError, Global};
 use std::hash::{BuildHasherDefault, FoldHasher};
 use std::marker::Model;
 use symbols::{IndexedTable, NameTable};
 
-/// What the phases of a link made of loaded objects: the strong definitions in the order of their names, where
+/// What the phases of a link made of loaded objects: the definitions that have a line, in the order of their names, where
 /// the pieces stand, what the relocations want, and the address at which the image is entered.
 #[derive(Drop)]
 pub struct Parts<'a> {
-    pub definitions: Vec<SymbolOf<'a>>,
+    pub listed: Vec<Meaning<'a>>,
     pub tables: Tables<'a>,
     pub patches: PatchTable,
     pub entry: u64,
@@ -91,10 +92,10 @@ fn referred_entry<'a>(
     plan: &Plan<'_>,
     objects: &[Loaded<'a>],
     resolved: &Resolved<'_, 'a>,
-) -> Result<SymbolOf<'a>, LinkError>
+) -> Result<Meaning<'a>, LinkError>
     requires same { resolved.now ≡ loaded_views objects.now }
     requires resolved { AreResolved (loaded_views objects.now) }
-    ensures entry { IfOk result (λ s. EntersAt plan.now (loaded_views objects.now) (symbol_view s)) }
+    ensures entry { IfOk result (λ m. EntersAt plan.now (loaded_views objects.now) (meaning_view m)) }
     ensures referred { OnOk result (AreReferred plan.now (loaded_views objects.now)) }
     ensures fault { IfErr result (LinksRefuse plan.now (loaded_views objects.now)) }
 {
@@ -108,12 +109,14 @@ fn referred_entry<'a>(
     }
 }
 
-/// Objects whose references are lawful, laid out from the plan's base on.
+/// Objects whose references are lawful, laid out with their common blocks from the plan's base on.
 fn laid_out<'a>(
     alloc: Global,
     plan: &Plan<'_>,
     objects: &[Loaded<'a>],
+    resolved: &Resolved<'_, 'a>,
 ) -> Result<Tables<'a>, LinkError>
+    requires same { resolved.now ≡ loaded_views objects.now }
     requires base { IsBase plan.now.base }
     requires objects { AreObjects (loaded_views objects.now) }
     requires referred { AreReferred plan.now (loaded_views objects.now) }
@@ -121,7 +124,7 @@ fn laid_out<'a>(
     ensures laid { OnOk result (AreLaidOut plan.now (loaded_views objects.now)) }
     ensures fault { IfErr result (LinksRefuse plan.now (loaded_views objects.now)) }
 {
-    match place(alloc, objects, plan.base) {
+    match place(alloc, objects, resolved.blocks(), plan.base) {
         Ok(tables) => Ok(tables),
         Err(fault) => Err(layout_error(fault)),
     }
@@ -152,25 +155,25 @@ fn fitted<'a>(
 fn parts_of<'a>(
     plan: &Plan<'_>,
     objects: &[Loaded<'a>],
-    definitions: Vec<SymbolOf<'a>>,
+    listed: Vec<Meaning<'a>>,
     tables: Tables<'a>,
     patches: PatchTable,
-    entry: &SymbolOf<'a>,
+    entry: &Meaning<'a>,
 ) -> Parts<'a>
     requires base { IsBase plan.now.base }
     requires objects { AreObjects (loaded_views objects.now) }
-    requires definitions { AreDefinitions (loaded_views objects.now) definitions.items }
+    requires listed { IsListing (loaded_views objects.now) listed.items }
     requires tables { AreTables plan.now.base (loaded_views objects.now) tables }
     requires patches { ArePatchesOf (record { base = plan.now.base; objects = loaded_views objects.now }) patches }
     requires linkable { AreLinkable plan.now (loaded_views objects.now) }
-    requires entry { EntersAt plan.now (loaded_views objects.now) (symbol_view entry.now) }
+    requires entry { EntersAt plan.now (loaded_views objects.now) (meaning_view entry.now) }
     ensures { IsLinkageOf plan.now (loaded_views objects.now) result }
 {
     let placement = Placement::new(plan.base, &*objects, &tables);
-    let entry = value(&placement, entry);
-    show_spellings(&placement, objects, &definitions);
+    let entry = meaning_value(&placement, entry);
+    show_spellings(&placement, objects, &listed);
     Parts {
-        definitions,
+        listed,
         tables,
         patches,
         entry,
@@ -192,11 +195,12 @@ fn prepare_objects<'a, T: NameTable<'a> + Drop>(
 {
     let resolved = resolved_objects(alloc, plan, objects, table)?;
     let entry = referred_entry(alloc, plan, objects, &resolved)?;
-    let tables = laid_out(alloc, plan, objects)?;
+    let tables = laid_out(alloc, plan, objects, &resolved)?;
     let placement = Placement::new(plan.base, &*objects, &tables);
     let patches = fitted(alloc, plan, objects, &resolved, &placement)?;
-    let definitions = resolved.into_definitions();
-    Ok(parts_of(plan, objects, definitions, tables, patches, &entry))
+    let linkers = linker_lines(alloc, objects, &resolved)?;
+    let listed = listed(alloc, &resolved, &linkers)?;
+    Ok(parts_of(plan, objects, listed, tables, patches, &entry))
 }
 
 /// As `prepare`, with the names of the objects kept in any table of names, which is empty at the start.
@@ -221,7 +225,7 @@ pub fn prepare_over<'a, T: NameTable<'a> + Drop>(
         Ok(objects) => objects,
         Err(fault) => return Err(search_error(fault)),
     };
-    let inside = is_in_profile(alloc, &plan, &objects)?;
+    let inside = is_in_profile(alloc, &objects)?;
     if !inside {
         return Err(LinkError::NotYet);
     }
@@ -240,13 +244,14 @@ pub fn prepare_over<'a, T: NameTable<'a> + Drop>(
 /// # Errors
 ///
 /// A fault of the first phase that has one: the words (Command), the files (FileMissing), the objects
-/// (BadObject), this profile's limits (NotYet), kinds of sections and names (SectionKind, BadSymbol,
-/// Duplicate), references (RelocKind, Undefined, RefToDropped, TlsMismatch, FieldOutside, OverlappingFields,
-/// NoEntry), the layout (TooLarge), values (Overflow). Memory where memory is refused. Where one is answered
-/// other than Memory, TooLarge and Overflow, no image and no map at all are a right link of these files and words
-/// (for NotYet, since a right link is one inside the profile). The same is said of TooLarge where one piece
-/// alone takes up more than all addresses from the base on, and of Overflow where the value that doesn't fit
-/// is `Z+A`, or `S+A` of an absolute definition or of none.
+/// (BadObject, BadArchive, NoIndex, BadGroup), this profile's limits (NotYet), kinds of sections and names
+/// (SectionKind, BadCommon, BadSymbol, Duplicate), references (RelocKind, Undefined, RefToDropped, TlsMismatch,
+/// MixedSection, FieldOutside, OverlappingFields, NoEntry), the layout (TooLarge), values (Overflow). Memory where
+/// memory is refused. Where one is answered other than Memory, TooLarge and Overflow, no image and no map at all
+/// are a right link of these files and words (for NotYet, since a right link is one inside the profile). The same is
+/// said of TooLarge where one section or common block alone takes up more than all addresses from the base on, and of
+/// Overflow where the value that doesn't fit is `Z+A`, or `S+A` of an absolute definition, of one in a section that
+/// isn't kept, or of none.
 pub fn prepare<'a>(
     alloc: Global,
     files: &'a [InputFile],
@@ -279,16 +284,11 @@ pub fn image(alloc: Global, linkage: &Linkage<'_>) -> Result<Vec<u8>, AllocError
     image_write::image(alloc, &placement, &patches, linkage.parts.entry)
 }
 
-/// The map of a link: its objects, their pieces at their addresses, and the chosen definitions with their values;
-/// its lines are in order.
+/// The map of a link: its objects, their dropped sections, their kept ones and the common blocks at their addresses,
+/// and the definitions of names with their values; its lines are in order.
 pub fn link_map(alloc: Global, linkage: &Linkage<'_>) -> Result<LinkMap, AllocError>
     ensures { IfOk result (λ m. IsOwnMap linkage.now.plan.base linkage.now.objects (map_of m)) }
 {
     let placement = linkage.placement();
-    map_of_layout(
-        alloc,
-        &placement,
-        &linkage.objects,
-        &linkage.parts.definitions,
-    )
+    map_of_layout(alloc, &placement, &linkage.objects, &linkage.parts.listed)
 }

@@ -1,29 +1,36 @@
-//! The link map of objects where they are laid out: the objects, their pieces, the definitions with their values.
+//! The link map of objects where they are laid out: the objects, their dropped sections, their kept ones and their
+//! common blocks, the definitions with their values.
 ghost use Rattle.std.specs.Prelude.{◌≡◌, ◌++◌, ◌<◌, ◌^◌, All, IfOk, OnOk, find, map, option_map, unwrap_or};
-ghost use Rattle.elf_model.specs.MapRecord.{map_of, object_row, place_row, symbol_row};
+ghost use Rattle.elf_model.specs.ImageFile.{common_row_of};
+ghost use Rattle.elf_model.specs.MapRecord.{common_row, map_of, object_row, place_row, symbol_row};
 ghost use Rattle.elf_model.specs.ObjectFile.{sections};
-ghost use Rattle.elf_model.specs.OwnLayout.{own_placed};
-ghost use Rattle.elf_model.specs.Pieces as pieces;
-ghost use Rattle.elf_model.specs.Pieces.{piece_of, pieces_from};
-ghost use Rattle.elf_model.specs.Placement.{is_of_section, symbol_value};
-ghost use Rattle.elf_model.specs.RightLink.{object_rows, symbol_row_of};
-ghost use Rattle.relocate.specs.Values.{placed_in};
-ghost use Rattle.resolve.specs.Views.{symbol_view, symbol_views};
-ghost use Rattle.search.specs.Views.{loaded_views};
-ghost use Rattle.ld_main.specs.Maps.{IsMapOf, LiesBelow, own_row};
+ghost use Rattle.elf_model.specs.Meaning.{Symbol, meaning_value};
+ghost use Rattle.elf_model.specs.OwnLayout.{own_in_load_order, own_placed, own_where};
+ghost use Rattle.elf_model.specs.Pieces.{AreLawfulKinds, kept_sections, piece_of, pieces_from};
+ghost use Rattle.elf_model.specs.Placement.{is_of_section, section_address, symbol_value};
+ghost use Rattle.elf_model.specs.RightLink.{definition_row, drop_rows, drops_from, is_dropped_line, object_rows, symbol_row_of};
+ghost use Rattle.resolve.specs.Blocks.{block_view};
+ghost use Rattle.resolve.specs.Views.{meaning_view, meaning_views, symbol_view};
+ghost use Rattle.search.specs.Views.{loaded_view, loaded_views};
+ghost use Rattle.ld_main.specs.CommonRows.{own_commons};
+ghost use Rattle.ld_main.specs.Maps.{IsMapOf, LiesBelow, LiesWithin, own_row};
 
-use elf_model::{Definition, LinkMap, ObjectLine, PlaceLine, SHN_ABS, SectionHeader, SymbolLine};
+use crate::listing::name_of;
+use elf_model::{
+    CommonLine, Definition, DropLine, LinkMap, ObjectLine, PlaceLine, SHN_ABS, STB_WEAK,
+    SectionHeader, SymbolLine,
+};
 use elf_read::Object;
 use layout::Placement;
-use resolve::SymbolOf;
+use resolve::{Block, Meaning, SymbolOf};
 use search::Loaded;
 use std::alloc::{AllocError, Global};
 
 /// The value of a definition: an absolute one's `st_value`, else the address of its section plus `st_value`,
 /// 0 in a section that isn't kept.
 pub fn value(placement: &Placement<'_, '_>, symbol: &SymbolOf<'_>) -> u64
-    requires { LiesBelow (placed_in placement.now) (symbol_view symbol.now) }
-    ensures value { result ≡ symbol_value (placed_in placement.now) (symbol_view symbol.now) }
+    requires { LiesBelow (own_in_load_order placement.now.base placement.now.objects) (symbol_view symbol.now) }
+    ensures value { result ≡ symbol_value (own_in_load_order placement.now.base placement.now.objects) (symbol_view symbol.now) }
     ensures fits { result < 2 ^ 64 }
 {
     let entry = symbol.entry;
@@ -36,22 +43,72 @@ pub fn value(placement: &Placement<'_, '_>, symbol: &SymbolOf<'_>) -> u64
     }
 }
 
+/// The address of a common block.
+pub fn block_address(placement: &Placement<'_, '_>, block: &Block<'_>) -> u64
+    ensures { result ≡ section_address (own_in_load_order placement.now.base placement.now.objects) block.now.object block.now.number }
+{
+    match placement.address(block.object as usize, block.number as usize) {
+        Some(at) => at,
+        None => 0,
+    }
+}
+
+/// The value of what a name means.
+pub fn meaning_value(placement: &Placement<'_, '_>, meaning: &Meaning<'_>) -> u64
+    requires kinds { AreLawfulKinds placement.now.objects }
+    requires within { LiesWithin (own_in_load_order placement.now.base placement.now.objects) (meaning_view meaning.now) }
+    ensures value { result ≡ meaning_value (own_where placement.now.base placement.now.objects) (meaning_view meaning.now) }
+    ensures fits { result < 2 ^ 64 }
+{
+    match meaning {
+        Meaning::Symbol(symbol) => value(placement, symbol),
+        Meaning::Common(block) => block_address(placement, block),
+        Meaning::Linker(name, bound) => placement.bound(name, *bound),
+    }
+}
+
+/// A symbol as a map names it: strong, or weak.
+fn definition_of(symbol: &SymbolOf<'_>) -> Definition
+    ensures { result ≡ definition_row (Symbol (symbol_view symbol.now)) }
+{
+    let (object, number) = (symbol.object, symbol.number);
+    if symbol.entry.st_info / 16 == STB_WEAK {
+        return Definition::Weak {
+            object,
+            symbol: number,
+        };
+    }
+    Definition::Strong {
+        object,
+        symbol: number,
+    }
+}
+
+/// What a name means as a map names it.
+fn row_definition(meaning: &Meaning<'_>) -> Definition
+    ensures { result ≡ definition_row (meaning_view meaning.now) }
+{
+    match meaning {
+        Meaning::Symbol(symbol) => definition_of(symbol),
+        Meaning::Common(_) => Definition::Common,
+        Meaning::Linker(_, _) => Definition::Linker,
+    }
+}
+
 /// The line of a definition.
 fn symbol_line(
     alloc: Global,
     placement: &Placement<'_, '_>,
-    symbol: &SymbolOf<'_>,
+    meaning: &Meaning<'_>,
 ) -> Result<SymbolLine, AllocError>
-    requires { LiesBelow (placed_in placement.now) (symbol_view symbol.now) }
-    ensures { IfOk result (λ l. symbol_row l ≡ symbol_row_of (placed_in placement.now) (symbol_view symbol.now)) }
+    requires kinds { AreLawfulKinds placement.now.objects }
+    requires within { LiesWithin (own_in_load_order placement.now.base placement.now.objects) (meaning_view meaning.now) }
+    ensures { IfOk result (λ l. symbol_row l ≡ symbol_row_of (own_where placement.now.base placement.now.objects) (meaning_view meaning.now)) }
 {
     Ok(SymbolLine {
-        address: value(placement, symbol),
-        definition: Definition::Strong {
-            object: symbol.object,
-            symbol: symbol.number,
-        },
-        name: Vec::from_slice(alloc, symbol.name)?,
+        address: meaning_value(placement, meaning),
+        definition: row_definition(meaning),
+        name: Vec::from_slice(alloc, name_of(meaning))?,
     })
 }
 
@@ -59,14 +116,15 @@ fn symbol_line(
 fn symbol_lines(
     alloc: Global,
     placement: &Placement<'_, '_>,
-    symbols: &[SymbolOf<'_>],
+    listed: &[Meaning<'_>],
 ) -> Result<Vec<SymbolLine>, AllocError>
-    requires { All (λ s. LiesBelow (placed_in placement.now) (symbol_view s)) symbols.now }
-    ensures { IfOk result (λ v. map symbol_row v.items ≡ map (symbol_row_of (placed_in placement.now)) (symbol_views symbols.now)) }
+    requires kinds { AreLawfulKinds placement.now.objects }
+    requires within { All (λ m. LiesWithin (own_in_load_order placement.now.base placement.now.objects) (meaning_view m)) listed.now }
+    ensures { IfOk result (λ v. map symbol_row v.items ≡ map (symbol_row_of (own_where placement.now.base placement.now.objects)) (meaning_views listed.now)) }
 {
-    let mut lines = Vec::with_capacity(alloc, symbols.len())?;
-    for symbol in symbols {
-        lines.push(symbol_line(alloc, placement, symbol)?)?;
+    let mut lines = Vec::with_capacity(alloc, listed.len())?;
+    for meaning in listed {
+        lines.push(symbol_line(alloc, placement, meaning)?)?;
     }
     Ok(lines)
 }
@@ -80,9 +138,47 @@ fn object_lines(alloc: Global, objects: &[Loaded<'_>]) -> Result<Vec<ObjectLine>
         lines.push(ObjectLine {
             object: k as u64,
             item: loaded.item,
-            offset: 0,
+            offset: loaded.offset,
             path: Vec::from_slice(alloc, loaded.path.as_bytes())?,
         })?;
+    }
+    Ok(lines)
+}
+
+/// Whether section `i` of an object has a drop line: it would be kept, were it not dropped.
+fn has_drop_line(loaded: &Loaded<'_>, i: usize, header: &SectionHeader) -> bool
+    ensures { result ≡ is_dropped_line (loaded_view loaded.now) i header.now }
+{
+    header.is_alloc() && loaded.is_dropped(i)
+}
+
+/// Adds the drop lines of the object that has a number.
+fn add_drop_lines(
+    lines: &mut Vec<DropLine>,
+    number: u64,
+    loaded: &Loaded<'_>,
+) -> Result<(), AllocError>
+    ensures { OnOk result (lines.new.items ≡ lines.old.items ++ drops_from number (loaded_view loaded.now) 0 (sections loaded.now.object)) }
+{
+    let headers = loaded.object.sections();
+    for (i, header) in headers.iter().enumerate() {
+        if has_drop_line(loaded, i, header) {
+            lines.push(DropLine {
+                object: number,
+                section: i as u64,
+            })?;
+        }
+    }
+    Ok(())
+}
+
+/// The lines of all dropped sections, in load order.
+fn drop_lines(alloc: Global, objects: &[Loaded<'_>]) -> Result<Vec<DropLine>, AllocError>
+    ensures { IfOk result (λ v. v.items ≡ drop_rows 0 (loaded_views objects.now)) }
+{
+    let mut lines = Vec::new(alloc);
+    for (k, loaded) in objects.iter().enumerate() {
+        add_drop_lines(&mut lines, k as u64, loaded)?;
     }
     Ok(lines)
 }
@@ -123,14 +219,14 @@ fn add_place_lines(
     lines: &mut Vec<PlaceLine>,
     placement: &Placement<'_, '_>,
     number: u64,
-    object: &Object<'_>,
+    loaded: &Loaded<'_>,
 ) -> Result<(), AllocError>
-    ensures { OnOk result (map place_row lines.new.items ≡ map place_row lines.old.items ++ map (own_row placement.now) (pieces_from number object.now 0 (sections object.now))) }
+    ensures { OnOk result (map place_row lines.new.items ≡ map place_row lines.old.items ++ map (own_row placement.now) (pieces_from number (loaded_view loaded.now) 0 (sections loaded.now.object))) }
 {
-    let headers = object.sections();
+    let headers = loaded.object.sections();
     for (i, header) in headers.iter().enumerate() {
-        if header.is_alloc() {
-            lines.push(place_line(alloc, placement, number, object, i, header)?)?;
+        if loaded.is_kept(i, header) {
+            lines.push(place_line(alloc, placement, number, &loaded.object, i, header)?)?;
         }
     }
     Ok(())
@@ -142,33 +238,67 @@ fn place_lines(
     placement: &Placement<'_, '_>,
     objects: &[Loaded<'_>],
 ) -> Result<Vec<PlaceLine>, AllocError>
-    ensures { IfOk result (λ v. map place_row v.items ≡ map (own_row placement.now) (pieces.pieces (loaded_views objects.now))) }
+    ensures { IfOk result (λ v. map place_row v.items ≡ map (own_row placement.now) (kept_sections (loaded_views objects.now))) }
 {
     let mut lines = Vec::with_capacity(alloc, placement.places().len())?;
     for (k, loaded) in objects.iter().enumerate() {
-        add_place_lines(alloc, &mut lines, placement, k as u64, &loaded.object)?;
+        add_place_lines(alloc, &mut lines, placement, k as u64, loaded)?;
     }
     Ok(lines)
 }
 
-/// The map of objects that are laid out with their definitions, in the order of their names.
+/// The line of a common block.
+fn common_line(
+    alloc: Global,
+    placement: &Placement<'_, '_>,
+    block: &Block<'_>,
+) -> Result<CommonLine, AllocError>
+    ensures { IfOk result (λ l. common_row l ≡ common_row_of placement.now.base placement.now.objects (block_view block.now)) }
+{
+    Ok(CommonLine {
+        address: address_of(placement, block.object, block.number as usize),
+        size: block.size,
+        align: block.align,
+        name: Vec::from_slice(alloc, block.name)?,
+    })
+}
+
+/// The lines of the common blocks among definitions, in their order.
+fn common_lines(
+    alloc: Global,
+    placement: &Placement<'_, '_>,
+    listed: &[Meaning<'_>],
+) -> Result<Vec<CommonLine>, AllocError>
+    ensures { IfOk result (λ v. map common_row v.items ≡ own_commons placement.now.base placement.now.objects (meaning_views listed.now)) }
+{
+    let mut lines = Vec::new(alloc);
+    for meaning in listed {
+        if let Meaning::Common(block) = meaning {
+            lines.push(common_line(alloc, placement, block)?)?;
+        }
+    }
+    Ok(lines)
+}
+
+/// The map of objects that are laid out with the definitions that have a line, in the order of their names.
 pub fn map_of_layout(
     alloc: Global,
     placement: &Placement<'_, '_>,
     objects: &[Loaded<'_>],
-    symbols: &[SymbolOf<'_>],
+    listed: &[Meaning<'_>],
 ) -> Result<LinkMap, AllocError>
     requires same { placement.now.objects ≡ loaded_views objects.now }
-    requires inside { All (λ s. LiesBelow (placed_in placement.now) (symbol_view s)) symbols.now }
-    ensures { IfOk result (λ m. IsMapOf placement.now (symbol_views symbols.now) (map_of m)) }
+    requires kinds { AreLawfulKinds placement.now.objects }
+    requires inside { All (λ m. LiesWithin (own_in_load_order placement.now.base placement.now.objects) (meaning_view m)) listed.now }
+    ensures { IfOk result (λ m. IsMapOf placement.now (meaning_views listed.now) (map_of m)) }
 {
     Ok(LinkMap {
         objects: object_lines(alloc, objects)?,
-        drops: Vec::new(alloc),
+        drops: drop_lines(alloc, objects)?,
         places: place_lines(alloc, placement, objects)?,
-        commons: Vec::new(alloc),
+        commons: common_lines(alloc, placement, listed)?,
         got: None,
         slots: Vec::new(alloc),
-        symbols: symbol_lines(alloc, placement, symbols)?,
+        symbols: symbol_lines(alloc, placement, listed)?,
     })
 }

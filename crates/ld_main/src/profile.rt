@@ -1,9 +1,8 @@
-//! Whether a command and its objects are within this profile (docs/PROFILE.md).
-ghost use Rattle.std.specs.Prelude.{◌≡◌, ◌↔◌, All, IfOk, IsTrue, false};
+//! Whether the objects of a link are within this profile (docs/PROFILE.md).
+ghost use Rattle.std.specs.Prelude.{◌↔◌, All, IfOk, IsTrue};
 ghost use Rattle.elf_model.specs.Profile.{IsInProfile, IsPlainObject};
 ghost use Rattle.search.specs.Views.{loaded_views};
 
-use command::{Item, Plan};
 use elf_read::is_plain_object;
 use resolve::have_plain_names;
 use search::Loaded;
@@ -20,24 +19,11 @@ fn are_plain_objects(objects: &[Loaded<'_>]) -> bool
     true
 }
 
-fn have_no_archive(items: &[Item<'_>]) -> bool
-    ensures { IsTrue result ↔ All (λ i. i.archive ≡ false) items.now }
+/// Whether these objects are within this profile: plain ones, that use no name which the linker is to define in a later
+/// version, unless one of them defines it.
+pub fn is_in_profile(alloc: Global, objects: &[Loaded<'_>]) -> Result<bool, AllocError>
+    ensures { IfOk result (λ b. IsTrue b ↔ IsInProfile (loaded_views objects.now)) }
 {
-    items.iter().all(|i| !i.archive)
-}
-
-/// Whether a command of these objects is within this profile: object files alone, plain ones, that use no
-/// linker's name that none of them defines.
-pub fn is_in_profile(
-    alloc: Global,
-    plan: &Plan<'_>,
-    objects: &[Loaded<'_>],
-) -> Result<bool, AllocError>
-    ensures { IfOk result (λ b. IsTrue b ↔ IsInProfile plan.now (loaded_views objects.now)) }
-{
-    if !have_no_archive(&plan.items) {
-        return Ok(false);
-    }
     if !are_plain_objects(objects) {
         return Ok(false);
     }

@@ -26,6 +26,9 @@ pub fn search_error(fault: SearchFault) -> LinkError
         SearchFault::Memory => LinkError::Memory,
         SearchFault::FileMissing => LinkError::FileMissing,
         SearchFault::BadObject(fault) => LinkError::BadObject(fault),
+        SearchFault::BadArchive(fault) => LinkError::BadArchive(fault),
+        SearchFault::NoIndex => LinkError::NoIndex,
+        SearchFault::Group(fault) => LinkError::BadGroup(fault),
     }
 }
 
@@ -36,6 +39,7 @@ pub fn resolve_error(fault: ResolveFault) -> LinkError
     match fault {
         ResolveFault::Memory => LinkError::Memory,
         ResolveFault::Duplicate(name) => LinkError::Duplicate(name),
+        ResolveFault::BadCommon => LinkError::BadCommon,
         ResolveFault::BadSymbol => LinkError::BadSymbol,
     }
 }
@@ -64,5 +68,6 @@ pub fn reloc_error(fault: RelocFault) -> LinkError
         RelocFault::OverlappingFields => LinkError::OverlappingFields,
         RelocFault::Overflow => LinkError::Overflow,
         RelocFault::TlsMismatch => LinkError::TlsMismatch,
+        RelocFault::MixedSection => LinkError::MixedSection,
     }
 }

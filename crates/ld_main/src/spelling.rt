@@ -1,21 +1,24 @@
 //! The own map can always be spelled: its numbers are below 2 ^ 64, and its names are bytes, by the types of what
 //! its lines are made from. Nothing here does anything when the program runs.
 ghost use Rattle.std.specs.Prelude.{◌≡◌, ◌<◌, ◌^◌, All, map};
-ghost use Rattle.elf_model.specs.MapText.{AreBytes, Fits, FitsObject, FitsPlace, FitsSymbol};
+ghost use Rattle.elf_model.specs.ImageFile.{common_row_of};
+ghost use Rattle.elf_model.specs.MapText.{AreBytes, Fits, FitsCommon, FitsDrop, FitsObject, FitsPlace, FitsSymbol};
+ghost use Rattle.elf_model.specs.Meaning.{Common, Linker, Symbol};
 ghost use Rattle.elf_model.specs.ObjectFile.{sections};
-ghost use Rattle.elf_model.specs.Pieces as pieces;
-ghost use Rattle.elf_model.specs.Pieces.{piece_of, pieces_from};
-ghost use Rattle.elf_model.specs.RightLink.{object_rows, symbol_row_of};
-ghost use Rattle.relocate.specs.Values.{placed_in};
-ghost use Rattle.resolve.specs.Views.{symbol_view, symbol_views};
-ghost use Rattle.search.specs.Views.{loaded_views};
-ghost use Rattle.ld_main.specs.Maps.{LiesBelow, own_record, own_row};
+ghost use Rattle.elf_model.specs.OwnLayout.{own_in_load_order, own_where};
+ghost use Rattle.elf_model.specs.Pieces.{AreLawfulKinds, kept_sections, piece_of, pieces_from};
+ghost use Rattle.elf_model.specs.RightLink.{drop_rows, drops_from, object_rows, symbol_row_of};
+ghost use Rattle.resolve.specs.Blocks.{block_view};
+ghost use Rattle.resolve.specs.Views.{meaning_view, meaning_views, symbol_view};
+ghost use Rattle.search.specs.Views.{loaded_view, loaded_views};
+ghost use Rattle.ld_main.specs.CommonRows.{common_rows_of, own_commons};
+ghost use Rattle.ld_main.specs.Maps.{LiesBelow, LiesWithin, own_record, own_row};
 
-use crate::own_map::{address_of, value};
-use elf_model::SectionHeader;
+use crate::own_map::{address_of, block_address, value};
+use elf_model::{Bound, SectionHeader};
 use elf_read::Object;
 use layout::Placement;
-use resolve::SymbolOf;
+use resolve::{Block, Meaning, SymbolOf};
 use search::Loaded;
 
 fn show_number(n: u64)
@@ -28,10 +31,11 @@ fn show_bytes(bytes: &[u8])
 
 /// The line of an object.
 fn show_object(number: u64, loaded: &Loaded<'_>)
-    ensures { FitsObject (record { object = number; item = loaded.now.item; offset = 0; path = loaded.now.path.now }) }
+    ensures { FitsObject (record { object = number; item = loaded.now.item; offset = loaded.now.offset; path = loaded.now.path.now }) }
 {
     show_number(number);
     show_number(loaded.item);
+    show_number(loaded.offset);
     show_bytes(loaded.path.as_bytes());
 }
 
@@ -40,6 +44,31 @@ fn show_objects(objects: &[Loaded<'_>])
 {
     for (k, loaded) in objects.iter().enumerate() {
         show_object(k as u64, loaded);
+    }
+}
+
+/// The drop line of section `i` of the object that has a number.
+fn show_drop(number: u64, i: usize)
+    ensures { FitsDrop (record { object = number; section = i }) }
+{
+    show_number(number);
+    show_number(i as u64);
+}
+
+fn show_drops_in(number: u64, loaded: &Loaded<'_>)
+    ensures { All FitsDrop (drops_from number (loaded_view loaded.now) 0 (sections loaded.now.object)) }
+{
+    let headers = loaded.object.sections();
+    for (i, _) in headers.iter().enumerate() {
+        show_drop(number, i);
+    }
+}
+
+fn show_drops(objects: &[Loaded<'_>])
+    ensures { All FitsDrop (drop_rows 0 (loaded_views objects.now)) }
+{
+    for (k, loaded) in objects.iter().enumerate() {
+        show_drops_in(k as u64, loaded);
     }
 }
 
@@ -60,29 +89,54 @@ fn show_place(
     show_bytes(object.section_name(i).unwrap_or(&[]));
 }
 
-fn show_places_in(placement: &Placement<'_, '_>, number: u64, object: &Object<'_>)
-    ensures { All FitsPlace (map (own_row placement.now) (pieces_from number object.now 0 (sections object.now))) }
+fn show_places_in(placement: &Placement<'_, '_>, number: u64, loaded: &Loaded<'_>)
+    ensures { All FitsPlace (map (own_row placement.now) (pieces_from number (loaded_view loaded.now) 0 (sections loaded.now.object))) }
 {
-    let headers = object.sections();
+    let headers = loaded.object.sections();
     for (i, header) in headers.iter().enumerate() {
-        if header.is_alloc() {
-            show_place(placement, number, object, i, header);
-        }
+        show_place(placement, number, &loaded.object, i, header);
     }
 }
 
 fn show_places(placement: &Placement<'_, '_>, objects: &[Loaded<'_>])
-    ensures { All FitsPlace (map (own_row placement.now) (pieces.pieces (loaded_views objects.now))) }
+    ensures { All FitsPlace (map (own_row placement.now) (kept_sections (loaded_views objects.now))) }
 {
     for (k, loaded) in objects.iter().enumerate() {
-        show_places_in(placement, k as u64, &loaded.object);
+        show_places_in(placement, k as u64, loaded);
     }
 }
 
-/// The line of a definition.
+/// The line of a common block.
+fn show_common_line(placement: &Placement<'_, '_>, block: &Block<'_>)
+    ensures { FitsCommon (common_row_of placement.now.base placement.now.objects (block_view block.now)) }
+{
+    show_number(address_of(placement, block.object, block.number as usize));
+    show_number(block.size);
+    show_number(block.align);
+    show_bytes(block.name);
+}
+
+/// The line of a definition's block, where it is one.
+fn show_common(placement: &Placement<'_, '_>, meaning: &Meaning<'_>)
+    ensures { All FitsCommon (common_rows_of placement.now.base placement.now.objects (meaning_view meaning.now)) }
+{
+    if let Meaning::Common(block) = meaning {
+        show_common_line(placement, block);
+    }
+}
+
+fn show_commons(placement: &Placement<'_, '_>, listed: &[Meaning<'_>])
+    ensures { All FitsCommon (own_commons placement.now.base placement.now.objects (meaning_views listed.now)) }
+{
+    for meaning in listed {
+        show_common(placement, meaning);
+    }
+}
+
+/// The line of a symbol.
 fn show_symbol(placement: &Placement<'_, '_>, symbol: &SymbolOf<'_>)
-    requires { LiesBelow (placed_in placement.now) (symbol_view symbol.now) }
-    ensures { FitsSymbol (symbol_row_of (placed_in placement.now) (symbol_view symbol.now)) }
+    requires { LiesBelow (own_in_load_order placement.now.base placement.now.objects) (symbol_view symbol.now) }
+    ensures { FitsSymbol (symbol_row_of (own_where placement.now.base placement.now.objects) (Symbol (symbol_view symbol.now))) }
 {
     let _ = value(placement, symbol);
     show_number(symbol.object);
@@ -90,26 +144,56 @@ fn show_symbol(placement: &Placement<'_, '_>, symbol: &SymbolOf<'_>)
     show_bytes(symbol.name);
 }
 
-fn show_symbols(placement: &Placement<'_, '_>, symbols: &[SymbolOf<'_>])
-    requires { All (λ s. LiesBelow (placed_in placement.now) (symbol_view s)) symbols.now }
-    ensures { All FitsSymbol (map (symbol_row_of (placed_in placement.now)) (symbol_views symbols.now)) }
+/// The line of the symbol of a common block.
+fn show_block(placement: &Placement<'_, '_>, block: &Block<'_>)
+    ensures { FitsSymbol (symbol_row_of (own_where placement.now.base placement.now.objects) (Common (block_view block.now))) }
 {
-    for symbol in symbols {
-        show_symbol(placement, symbol);
+    show_number(block_address(placement, block));
+    show_bytes(block.name);
+}
+
+/// The line of a name of the linker's.
+fn show_linker(placement: &Placement<'_, '_>, name: &[u8], bound: Bound)
+    requires { AreLawfulKinds placement.now.objects }
+    ensures { FitsSymbol (symbol_row_of (own_where placement.now.base placement.now.objects) (Linker name.now bound)) }
+{
+    show_number(placement.bound(name, bound));
+    show_bytes(name);
+}
+
+/// The line of a definition.
+fn show_meaning(placement: &Placement<'_, '_>, meaning: &Meaning<'_>)
+    requires kinds { AreLawfulKinds placement.now.objects }
+    requires within { LiesWithin (own_in_load_order placement.now.base placement.now.objects) (meaning_view meaning.now) }
+    ensures { FitsSymbol (symbol_row_of (own_where placement.now.base placement.now.objects) (meaning_view meaning.now)) }
+{
+    match meaning {
+        Meaning::Symbol(symbol) => show_symbol(placement, symbol),
+        Meaning::Common(block) => show_block(placement, block),
+        Meaning::Linker(name, bound) => show_linker(placement, name, *bound),
+    }
+}
+
+fn show_symbols(placement: &Placement<'_, '_>, listed: &[Meaning<'_>])
+    requires kinds { AreLawfulKinds placement.now.objects }
+    requires within { All (λ m. LiesWithin (own_in_load_order placement.now.base placement.now.objects) (meaning_view m)) listed.now }
+    ensures { All FitsSymbol (map (symbol_row_of (own_where placement.now.base placement.now.objects)) (meaning_views listed.now)) }
+{
+    for meaning in listed {
+        show_meaning(placement, meaning);
     }
 }
 
 /// The lines of the map of objects where they are laid out.
-pub fn show_spellings(
-    placement: &Placement<'_, '_>,
-    objects: &[Loaded<'_>],
-    symbols: &[SymbolOf<'_>],
-)
+pub fn show_spellings(placement: &Placement<'_, '_>, objects: &[Loaded<'_>], listed: &[Meaning<'_>])
     requires same { placement.now.objects ≡ loaded_views objects.now }
-    requires inside { All (λ s. LiesBelow (placed_in placement.now) (symbol_view s)) symbols.now }
-    ensures { Fits (own_record placement.now (symbol_views symbols.now)) }
+    requires kinds { AreLawfulKinds placement.now.objects }
+    requires inside { All (λ m. LiesWithin (own_in_load_order placement.now.base placement.now.objects) (meaning_view m)) listed.now }
+    ensures { Fits (own_record placement.now (meaning_views listed.now)) }
 {
     show_objects(objects);
+    show_drops(objects);
     show_places(placement, objects);
-    show_symbols(placement, symbols);
+    show_commons(placement, listed);
+    show_symbols(placement, listed);
 }

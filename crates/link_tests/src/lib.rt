@@ -2,9 +2,21 @@
 #![tactic(auto)]
 
 #[cfg(test)]
+mod archives;
+#[cfg(test)]
+mod clauses;
+#[cfg(test)]
+mod common_blocks;
+#[cfg(test)]
+mod groups;
+#[cfg(test)]
+mod linker_names;
+#[cfg(test)]
 mod objects;
 #[cfg(test)]
 mod one_object;
+#[cfg(test)]
+mod output_names;
 #[cfg(test)]
 mod program;
 #[cfg(test)]
@@ -13,3 +25,5 @@ mod several_objects;
 mod tables;
 #[cfg(test)]
 mod vectors;
+#[cfg(test)]
+mod weak_names;

@@ -1,13 +1,13 @@
 //! Makes relocatable objects: sections, symbols and relocations in, the bytes of a file out.
 use elf_model::{
-    EHDR_SIZE, EM_X86_64, ET_REL, EV_CURRENT, FileHeader, Rela, SHT_RELA, SHT_STRTAB, SHT_SYMTAB,
-    SectionHeader, Symbol,
+    EHDR_SIZE, EM_X86_64, ET_REL, EV_CURRENT, FileHeader, Rela, SHT_GROUP, SHT_RELA, SHT_STRTAB,
+    SHT_SYMTAB, SectionHeader, Symbol,
 };
 use std::alloc::Global;
 use std::test::Fail;
 
 /// A section; the first one of an object has the number 1. One of type NOBITS has no bytes, and a size in
-/// memory.
+/// memory; one of type GROUP has the number of its signature's symbol.
 #[derive(Clone, Copy)]
 pub struct Section<'a> {
     pub name: &'a str,
@@ -16,6 +16,7 @@ pub struct Section<'a> {
     pub sh_addralign: u64,
     pub bytes: &'a [u8],
     pub memory: u64,
+    pub signature: u32,
 }
 
 /// A relocation of a section, by the section's and the symbol's number.
@@ -210,6 +211,20 @@ fn file_header(table: usize, sections: usize) -> Result<[u8; 64], Fail> {
     Ok(bytes)
 }
 
+/// The header of a section, in an object whose symbol table has the number.
+fn header_of(section: &Section<'_>, table: u32) -> SectionHeader {
+    let is_group = section.sh_type == SHT_GROUP;
+    SectionHeader {
+        sh_type: section.sh_type,
+        sh_flags: section.sh_flags,
+        sh_addralign: section.sh_addralign,
+        sh_size: section.memory,
+        sh_link: if is_group { table } else { 0 },
+        sh_info: section.signature,
+        ..NULL_SECTION
+    }
+}
+
 /// The bytes of an object without relocations.
 pub fn object(
     alloc: Global,
@@ -228,24 +243,17 @@ pub fn relocatable(
     relocations: &[Relocation],
 ) -> Result<Vec<u8>, Fail> {
     let mut draft = Draft::new(alloc)?;
+    let number = u32::try_from(sections.len())?.saturating_add(1);
     for section in sections {
-        let header = SectionHeader {
-            sh_type: section.sh_type,
-            sh_flags: section.sh_flags,
-            sh_addralign: section.sh_addralign,
-            sh_size: section.memory,
-            ..NULL_SECTION
-        };
-        draft.add(section.name, header, section.bytes)?;
+        draft.add(section.name, header_of(section, number), section.bytes)?;
     }
     let mut names = Vec::from_slice(alloc, &[0])?;
     let table = symbol_table(alloc, symbols, &mut names)?;
     let locals = symbols.iter().filter(|s| s.st_info >> 4 == 0).count();
     draft.add_symbols(&table, locals)?;
     draft.add(".strtab", STRING_TABLE, &names)?;
-    let table = u32::try_from(sections.len())?.saturating_add(1);
-    for section in 1..table {
-        draft.add_relocations(section, table, relocations)?;
+    for section in 1..number {
+        draft.add_relocations(section, number, relocations)?;
     }
     draft.finish()
 }

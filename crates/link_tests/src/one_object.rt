@@ -15,6 +15,7 @@ pub fn text_section() -> Section<'static> {
         sh_addralign: 1,
         bytes: &TEXT,
         memory: 0,
+        signature: 0,
     }
 }
 
@@ -121,7 +122,7 @@ fn refuses_objects(rt: HostRuntime) -> Result<(), Fail> {
 #[test]
 fn refuses_other_files(rt: HostRuntime) -> Result<(), Fail> {
     let archive = link_one(rt.alloc(), &OBJECT, "a.o b.a")?;
-    assert!(rt; matches!(&archive, Err(LinkError::NotYet)));
+    assert!(rt; matches!(&archive, Err(LinkError::FileMissing)));
     let absent = link_one(rt.alloc(), &OBJECT, "b.o")?;
     assert!(rt; matches!(&absent, Err(LinkError::FileMissing)));
     Ok(())

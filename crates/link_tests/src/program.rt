@@ -4,6 +4,7 @@ use crate::one_object::{function, text_section, words_of};
 use crate::several_objects::{R_PC32, in_text, text_with};
 use crate::vectors::{MAP, OBJECT, image};
 use ld_main::run_ld;
+use std::io::{self, Write};
 use std::path::PathBuf;
 use std::process::Abort;
 use std::rt::Files;
@@ -109,11 +110,12 @@ fn refuses_links(rt: HostRuntime) -> Result<(), Fail> {
     write_twice(&rt, "twice.o", "f")?;
     write_twice(&rt, "spaced.o", "f g")?;
     write_caller(&rt)?;
+    fs::write(&rt, "thin.a", "!<thin>\n".as_bytes())?;
     let rows = [
         ("cut.o", "ld: BadObject (4): Truncated (2)\n"),
         ("nameless.o", "ld: BadSymbol (21)\n"),
         ("a.o a.o", "ld: Duplicate (9): _start\n"),
-        ("a.o a.a", "ld: NotYet (22)\n"),
+        ("a.o thin.a", "ld: BadArchive (5): NotArchive (2)\n"),
         ("twice.o", "ld: Duplicate (9): f\n"),
         ("spaced.o", "ld: Duplicate (9): f\\x20g\n"),
         ("caller.o", "ld: Undefined (10): f\n"),
@@ -132,6 +134,7 @@ fn tells_faults_of_files(rt: HostRuntime) -> Result<(), Fail> {
     fs::create_dir(&rt, "d.o")?;
     let rows = [
         ("b.o", "ld: FileMissing (3)\n"),
+        ("a.o b.a", "ld: FileMissing (3)\n"),
         ("d.o", "ld: cannot read d.o\n"),
         ("b.o d.o", "ld: cannot read d.o\n"),
         ("a.o --check -Map=start.map", "ld: cannot read a.out\n"),
@@ -146,5 +149,42 @@ fn tells_faults_of_files(rt: HostRuntime) -> Result<(), Fail> {
         assert_run(&rt, line, 3, "", complaint)?;
     }
     assert_image(&rt, "a.out")?;
+    leave_folder(&rt, &folder)
+}
+
+/// A stream that takes nothing.
+#[derive(Clone, Copy, Debug)]
+struct Closed;
+
+impl Write for Closed {
+    fn write(&mut self, _bytes: &[u8]) -> io::Result<usize> {
+        Err(io::Error::from(io::ErrorKind::BrokenPipe))
+    }
+
+    fn flush(&mut self) -> io::Result<()> {
+        Ok(())
+    }
+}
+
+/// The exit status of a command line whose streams take nothing.
+fn silent_status<R: Files + AllocGlobal>(rt: &R, line: &str) -> Result<u8, Fail> {
+    let words = words_of(rt.alloc(), line)?;
+    Ok(run_ld(rt, &words, &mut Closed, &mut Closed))
+}
+
+#[test]
+fn streams_that_fail_change_no_status(rt: HostRuntime) -> Result<(), Fail> {
+    let folder = enter_folder(&rt, "closed")?;
+    let rows = [
+        ("a.o -o start -Map=start.map", 0),
+        ("a.o -o start -Map=start.map --check", 0),
+        ("b.o -o start -Map=start.map --check", 1),
+        ("a.o -e x", 1),
+        ("a.o -o", 2),
+        ("b.o", 3),
+    ];
+    for (line, status) in rows {
+        assert_eq!(rt; silent_status(&rt, line)?, status, "{line}");
+    }
     leave_folder(&rt, &folder)
 }

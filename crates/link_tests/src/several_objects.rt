@@ -9,11 +9,11 @@ use ld_main::{Output, Verdict, check, link};
 use std::alloc::Global;
 use std::test::Fail;
 
-const R_64: u32 = 1;
+pub const R_64: u32 = 1;
 
 pub const R_PC32: u32 = 2;
 
-const R_PLT32: u32 = 4;
+pub const R_PLT32: u32 = 4;
 
 static CALL_MAP: &[u8] = b"ldmap 1\n\
     object 0 0 0 a.o\n\
@@ -42,7 +42,12 @@ static DATA_MAP: &[u8] = b"ldmap 1\n\
     end\n";
 
 /// A section with bytes in the file.
-fn section<'a>(name: &'a str, sh_flags: u64, sh_addralign: u64, bytes: &'a [u8]) -> Section<'a> {
+pub fn section<'a>(
+    name: &'a str,
+    sh_flags: u64,
+    sh_addralign: u64,
+    bytes: &'a [u8],
+) -> Section<'a> {
     Section {
         name,
         sh_type: SHT_PROGBITS,
@@ -50,11 +55,12 @@ fn section<'a>(name: &'a str, sh_flags: u64, sh_addralign: u64, bytes: &'a [u8])
         sh_addralign,
         bytes,
         memory: 0,
+        signature: 0,
     }
 }
 
 /// A `.bss`.
-fn bss(memory: u64, sh_addralign: u64) -> Section<'static> {
+pub fn bss(memory: u64, sh_addralign: u64) -> Section<'static> {
     Section {
         name: ".bss",
         sh_type: SHT_NOBITS,
@@ -62,11 +68,12 @@ fn bss(memory: u64, sh_addralign: u64) -> Section<'static> {
         sh_addralign,
         bytes: &[],
         memory,
+        signature: 0,
     }
 }
 
 /// The symbol of a section.
-fn section_symbol(st_shndx: u16) -> NamedSymbol<'static> {
+pub fn section_symbol(st_shndx: u16) -> NamedSymbol<'static> {
     NamedSymbol {
         name: "",
         st_info: 3,
@@ -77,7 +84,7 @@ fn section_symbol(st_shndx: u16) -> NamedSymbol<'static> {
 }
 
 /// A global symbol that an object doesn't define.
-fn undefined<'a>(name: &'a str) -> NamedSymbol<'a> {
+pub fn undefined<'a>(name: &'a str) -> NamedSymbol<'a> {
     NamedSymbol {
         name,
         st_info: 0x10,
@@ -98,7 +105,7 @@ pub fn in_text(offset: u64, kind: u32, symbol: u32, addend: i64) -> Relocation {
     }
 }
 
-fn add_file(files: &mut Vec<InputFile>, name: &str, bytes: &[u8]) -> Result<(), Fail> {
+pub fn add_file(files: &mut Vec<InputFile>, name: &str, bytes: &[u8]) -> Result<(), Fail> {
     let alloc = *files.allocator();
     files.push(InputFile {
         name: String::from_str(alloc, name)?,
@@ -107,15 +114,20 @@ fn add_file(files: &mut Vec<InputFile>, name: &str, bytes: &[u8]) -> Result<(), 
     Ok(())
 }
 
-/// The link of `a.o`.
-fn link_one(alloc: Global, a: &[u8]) -> Result<Result<Output, LinkError>, Fail> {
+/// The link of the one file `a.o` by the words of a line.
+pub fn linked_one(alloc: Global, a: &[u8], line: &str) -> Result<Result<Output, LinkError>, Fail> {
     let mut files = Vec::new(alloc);
     add_file(&mut files, "a.o", a)?;
-    linked(alloc, &files, "a.o")
+    linked(alloc, &files, line)
+}
+
+/// The link of `a.o`.
+pub fn link_one(alloc: Global, a: &[u8]) -> Result<Result<Output, LinkError>, Fail> {
+    linked_one(alloc, a, "a.o")
 }
 
 /// The link of `a.o` and `b.o`.
-fn link_two(alloc: Global, a: &[u8], b: &[u8]) -> Result<Result<Output, LinkError>, Fail> {
+pub fn link_two(alloc: Global, a: &[u8], b: &[u8]) -> Result<Result<Output, LinkError>, Fail> {
     let mut files = Vec::new(alloc);
     add_file(&mut files, "a.o", a)?;
     add_file(&mut files, "b.o", b)?;
@@ -123,7 +135,7 @@ fn link_two(alloc: Global, a: &[u8], b: &[u8]) -> Result<Result<Output, LinkErro
 }
 
 /// A link, which the checker finds right where there is one.
-fn linked(
+pub fn linked(
     alloc: Global,
     files: &[InputFile],
     line: &str,
@@ -140,7 +152,7 @@ fn linked(
 }
 
 /// Whether an image has bytes at an offset.
-fn has_bytes(output: &Output, from: usize, bytes: &[u8]) -> bool {
+pub fn has_bytes(output: &Output, from: usize, bytes: &[u8]) -> bool {
     let to = from.saturating_add(bytes.len());
     output.image.get(from..to) == Some(bytes)
 }
@@ -305,7 +317,8 @@ fn refuses_fields(rt: HostRuntime) -> Result<(), Fail> {
 fn refuses_relocations(rt: HostRuntime) -> Result<(), Fail> {
     let unknown = link_text(rt.alloc(), &[in_text(0, 5, 2, 0)])?;
     assert!(rt; matches!(&unknown, Err(LinkError::RelocKind)));
-    let later = link_text(rt.alloc(), &[in_text(0, 10, 2, 0)])?;
+    // GOTPCREL.
+    let later = link_text(rt.alloc(), &[in_text(0, 9, 2, 0)])?;
     assert!(rt; matches!(&later, Err(LinkError::NotYet)));
     Ok(())
 }
@@ -317,33 +330,6 @@ fn refuses_an_undefined_name(rt: HostRuntime) -> Result<(), Fail> {
     assert!(rt;
         matches!(&undefined, Err(LinkError::Undefined(name)) if name.as_slice() == b"f".as_slice())
     );
-    Ok(())
-}
-
-/// An object that names `_end`, and has relocations.
-fn with_end(alloc: Global, relocations: &[Relocation]) -> Result<Vec<u8>, Fail> {
-    let symbols = [function("_start"), undefined("_end")];
-    relocatable(alloc, &[text_section()], &symbols, relocations)
-}
-
-#[test]
-fn a_linkers_name_is_an_objects_to_define(rt: HostRuntime) -> Result<(), Fail> {
-    let alloc = rt.alloc();
-    let user = with_end(alloc, &[in_text(0, R_PC32, 2, 0)])?;
-    let definer = object(alloc, &[text_section()], &[function("_end")])?;
-    let output = link_two(alloc, &user, &definer)??;
-    assert!(rt; has_bytes(&output, 0x1000, &[9, 0, 0, 0]));
-    Ok(())
-}
-
-#[test]
-fn a_linkers_name_is_refused_where_it_is_used(rt: HostRuntime) -> Result<(), Fail> {
-    let user = with_end(rt.alloc(), &[in_text(0, R_PC32, 2, 0)])?;
-    let alone = link_one(rt.alloc(), &user)?;
-    assert!(rt; matches!(&alone, Err(LinkError::NotYet)));
-    let unused = with_end(rt.alloc(), &[])?;
-    let unused = link_one(rt.alloc(), &unused)?;
-    assert!(rt; matches!(&unused, Ok(_)));
     Ok(())
 }
 

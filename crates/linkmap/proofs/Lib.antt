@@ -1,5 +1,4 @@
 pub mod ChainLaws
-pub mod DigitLaws
 pub mod GrowthLaws
 pub mod HexLaws
 pub mod Injective

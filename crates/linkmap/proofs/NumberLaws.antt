@@ -11,7 +11,7 @@ use Rattle.std.proofs.lemmas.List.{append_assoc, take-append-drop, take_at, drop
 use Rattle.std.proofs.lemmas.Option.{some_pair_parts}
 use Rattle.elf_model.specs.MapText.{number, last_number}
 use Rattle.linkmap.specs.Reading.{before, is_canonical, digits_len, decimal_in, decimal_at, number_at, last_number_at}
-use Rattle.linkmap.proofs.DigitLaws.{own, prefix_digits}
+use Rattle.elf_model.proofs.DecimalDigits.{own, prefix_digits}
 use Rattle.linkmap.proofs.HexLaws.{Below}
 use Rattle.linkmap.proofs.Parsers.{IsParser, before_takes}
 use Rattle.linkmap.proofs.Tags.{tag_again, cond_some}

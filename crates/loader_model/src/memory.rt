@@ -1,3 +1,4 @@
+//! Memory as a loader makes it of an image (System V gABI 5, "Program Loading").
 ghost use Rattle.std.specs.Prelude.{◌≡◌, ◌+◌, ◌*◌, ◌<◌, ◌≤◌, IsTrue, List, ℕ, IfOk, IfErr, IfSome, IsSome, SomeIff, true, option_copied, length, option_map, find, slice_index, Contains, Any, ◌↔◌, map, filter};
 ghost use Rattle.std.specs.List.{range_with_len};
 ghost use Rattle.elf_model.specs.MemoryImage.{Encloses, HasImageHeader, image_ident, is_thread_block, segment_byte, IsImage, IsImageHeader, LoadFaultStands, loads, loads_in, maps, memory_of, program_header_at, program_headers, thread_blocks};

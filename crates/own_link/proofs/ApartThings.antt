@@ -6,8 +6,9 @@ use Rattle.std.proofs.lemmas.List.{get_or-map, length-map}
 use Rattle.std.proofs.lemmas.List.Elements.{All-append, All-cons, All-contains, All-map, All-weaker, Contains-append_left, Contains-append_right, Contains-get_or}
 use Rattle.std.proofs.lemmas.List.Kept.{AllPairs-cons}
 use Rattle.elf_model.specs.Loading.{LoadedObject}
-use Rattle.elf_model.specs.OwnLayout.{IsNotTooLarge, code_pieces, code_start, data_pieces, data_start, own_code, own_data, own_headers_size, own_in_load_order, own_placed, own_read_only, read_only_pieces, read_only_start}
-use Rattle.elf_model.specs.Pieces.{AreLawfulKinds, Piece, pieces, same_output}
+use Rattle.elf_model.specs.OwnLayout.{IsNotTooLarge, code_pieces, code_start, data_pieces, data_start, own_code, own_data, own_headers_size, own_in_load_order, own_placed, own_places, own_read_only, read_only_pieces, read_only_start}
+use Rattle.elf_model.specs.Commons.{pieces}
+use Rattle.elf_model.specs.Pieces.{AreLawfulKinds, Piece, kept_sections, same_output}
 use Rattle.elf_model.specs.Placement.{AreApart, IsNear, IsNext, IsPlaced, IsWithin, Placed, thing_of}
 use Rattle.elf_model.specs.declared.thing.Thing.{Thing}
 use Rattle.elf_model.proofs.Listed.{All-from_contains}
@@ -93,7 +94,10 @@ module _ (base : ℕ) (objects : List LoadedObject) (kinds : AreLawfulKinds obje
       (All-loaded (λ q. IsWithin base (thing_of q))
       (λ k d within. let low = own_behind_headers k d within in (omega (arith, low), fits.ends k d within))))
 
-  -- neighbours in an output section, in load order, are near each other
+  -- the kept sections at their own addresses; neighbours in an output section are near each other
+  abbrev own_kept : ℕ → List LoadedObject → List Placed
+  own_kept from os = own_places from os (kept_sections os)
+
   abbrev AreNear : Piece → Piece → Type 0
   AreNear a b = IsNear (at_own_address base objects a) (at_own_address base objects b)
 
@@ -105,7 +109,7 @@ module _ (base : ℕ) (objects : List LoadedObject) (kinds : AreLawfulKinds obje
       let second : n.second ≡ at_own_address base objects b = sym s ∙ ap (at_own_address base objects) n.second_is in
       subst (IsNear (at_own_address base objects a)) second (subst (λ (q : Placed). IsNear q n.second) first n.near)
 
-  near_by_order : (a b : Piece) → Contains (pieces objects) a → StandsBefore (filter (same_output a) (pieces objects)) a b → AreNear a b
+  near_by_order : (a b : Piece) → Contains (kept_sections objects) a → StandsBefore (filter (same_output a) (kept_sections objects)) a b → AreNear a b
   near_by_order a b c before =
       neighbours_in_part objects a b (AreNear a b) c before (record {
         read_only = λ s.
@@ -123,28 +127,28 @@ module _ (base : ℕ) (objects : List LoadedObject) (kinds : AreLawfulKinds obje
             (placed_near (data_start base objects) (data_pieces objects) a b (data_aligned objects) s);
       })
 
-  own_near : (i j : ℕ) (d : Placed) → IsNext (own_in_load_order base objects) i j d → IsNear (get_or (own_in_load_order base objects) i d) (get_or (own_in_load_order base objects) j d)
+  own_near : (i j : ℕ) (d : Placed) → IsNext (own_kept base objects) i j d → IsNear (get_or (own_kept base objects) i d) (get_or (own_kept base objects) j d)
   own_near i j d next =
-      let n = length-map (pieces objects) (at_own_address base objects) in
-      let in_j : j < length (pieces objects) = omega (arith, n, next.1) in
-      let in_i : i < length (pieces objects) = omega (arith, in_j, next.0) in
+      let n = length-map (kept_sections objects) (at_own_address base objects) in
+      let in_j : j < length (kept_sections objects) = omega (arith, n, next.1) in
+      let in_i : i < length (kept_sections objects) = omega (arith, in_j, next.0) in
       let same : same_output (at i) (at j) ≡ true = subst (λ (q : Placed). same_output (at i) q.piece ≡ true) (is j in_j)
-      (subst (λ (q : Placed). same_output q.piece (get_or (own_in_load_order base objects) j d).piece ≡ true) (is i in_i) next.2) in
-      let before = neighbours_passing (same_output (at i)) (pieces objects) i j d.piece next.0 in_j (same_output-refl (at i)) same
+      (subst (λ (q : Placed). same_output q.piece (get_or (own_kept base objects) j d).piece ≡ true) (is i in_i) next.2) in
+      let before = neighbours_passing (same_output (at i)) (kept_sections objects) i j d.piece next.0 in_j (same_output-refl (at i)) same
       (λ k above below.
       subst (λ (q : Placed). same_output (at i) q.piece ≡ false) (is k (omega (arith, below, in_j)))
-      (subst (λ (q : Placed). same_output q.piece (get_or (own_in_load_order base objects) k d).piece ≡ false) (is i in_i) (next.3 k above below))) in
-      let near : AreNear (at i) (at j) = near_by_order (at i) (at j) (Contains-get_or (pieces objects) i d.piece in_i) before in
-      subst (IsNear (get_or (own_in_load_order base objects) i d)) (sym (is j in_j))
+      (subst (λ (q : Placed). same_output q.piece (get_or (own_kept base objects) k d).piece ≡ false) (is i in_i) (next.3 k above below))) in
+      let near : AreNear (at i) (at j) = near_by_order (at i) (at j) (Contains-get_or (kept_sections objects) i d.piece in_i) before in
+      subst (IsNear (get_or (own_kept base objects) i d)) (sym (is j in_j))
       (subst (λ (q : Placed). IsNear q (at_own_address base objects (at j))) (sym (is i in_i)) near)
     where
       at : ℕ → Piece
-      at k = get_or (pieces objects) k d.piece
+      at k = get_or (kept_sections objects) k d.piece
 
-      is : (k : ℕ) → k < length (pieces objects) → get_or (own_in_load_order base objects) k d ≡ at_own_address base objects (at k)
-      is k low = get_or-map (at_own_address base objects) (pieces objects) k d.piece d low
+      is : (k : ℕ) → k < length (kept_sections objects) → get_or (own_kept base objects) k d ≡ at_own_address base objects (at k)
+      is k low = get_or-map (at_own_address base objects) (kept_sections objects) k d.piece d low
 
-  pub own_is_apart : IsNotTooLarge base objects → IsPlaced base (own_things_of base objects) (own_in_load_order base objects)
+  pub own_is_apart : IsNotTooLarge base objects → IsPlaced base (own_things_of base objects) (own_kept base objects)
   own_is_apart fits = record {
     aligned = own_things_aligned;
     within = own_things_within fits;

@@ -8,7 +8,7 @@ use Rattle.elf_model.specs.Command.{IsBase}
 use Rattle.elf_model.specs.ImageFile.{image_file, own_entry}
 use Rattle.elf_model.specs.Loading.{AreObjects, LoadedObject}
 use Rattle.elf_model.specs.MemoryImage.{IsImage, loads, thread_blocks}
-use Rattle.elf_model.specs.OwnLayout.{IsNotTooLarge, code_pieces, code_start, data_pieces, data_start, header_count, is_nonempty, own_code, own_data, own_headers_size, own_in_load_order, own_placed, own_read_only, own_segments, placed_has_bytes, read_only_start, segment}
+use Rattle.elf_model.specs.OwnLayout.{IsNotTooLarge, code_pieces, code_start, data_pieces, data_start, header_count, is_nonempty, own_code, own_data, own_headers_size, own_in_load_order, own_where, own_placed, own_read_only, own_segments, placed_has_bytes, read_only_start, segment}
 use Rattle.elf_model.specs.Pieces.{AreLawfulKinds}
 use Rattle.elf_model.specs.Placement.{Placed, headers_thing}
 use Rattle.elf_model.specs.Records.{file_header}
@@ -61,7 +61,7 @@ pub record IsOwnImage (base : ℕ) (objects : List LoadedObject) (entry : ℕ) (
   pub no_thread_block : thread_blocks image ≡ []
   pub entry_is : (file_header image).e_entry ≡ entry
   pub headers_are : headers_thing image ≡ own_headers_at base objects
-  pub pieces_held : All (HoldsPiece objects (own_in_load_order base objects) image) (own_in_load_order base objects)
+  pub pieces_held : All (HoldsPiece objects (own_where base objects) image) (own_in_load_order base objects)
   pub nothing_else : HasNothingElse image (own_things_of base objects)
 
 -- the own image where any bytes are wanted of the pieces
@@ -148,14 +148,14 @@ module _ (base : ℕ) (objects : List LoadedObject) (kinds : AreLawfulKinds obje
   -- the image file wants the bytes of the input and of the fields
   module _ (are_objects : AreObjects objects) (entry : List ℕ) (small : own_entry base objects entry < 2 ^ 64) where
     abbrev wants : Placed → ℕ → ℕ
-    wants q k = wanted_byte objects (own_in_load_order base objects) q.piece k
+    wants q k = wanted_byte objects (own_where base objects) q.piece k
 
     wants_zero : (q : Placed) (k : ℕ) → Contains (own_placed base objects) q → placed_has_bytes q ≡ false → wants q k ≡ 0
-    wants_zero = own_wants_zero objects are_objects base stand (own_in_load_order base objects)
+    wants_zero = own_wants_zero objects are_objects base stand (own_where base objects)
 
-    pieces_held : All (HoldsPiece objects (own_in_load_order base objects) (image_file base objects entry)) (own_in_load_order base objects)
+    pieces_held : All (HoldsPiece objects (own_where base objects) (image_file base objects entry)) (own_in_load_order base objects)
     pieces_held =
-        All-from_contains (HoldsPiece objects (own_in_load_order base objects) (image_file base objects entry)) (own_in_load_order base objects)
+        All-from_contains (HoldsPiece objects (own_where base objects) (image_file base objects entry)) (own_in_load_order base objects)
         (λ q c. record { bytes = wanted_holds wants wants_zero (own_entry base objects entry) small q c })
 
     pub image_is_own : IsOwnImage base objects (own_entry base objects entry) (image_file base objects entry)

@@ -1,27 +1,35 @@
 -- The own link of linkable inputs is right: all clauses of a right link hold of it.
-use Rattle.std.proofs.Common.{◌≡◌, ℕ, ◌<◌, ◌^◌, false, List, [], ◌∷◌, ◌++◌, refl, sym, ◌∙◌, ap, subst}
-use Rattle.std.specs.Prelude.{All, Option, Some, None, IsSomeAnd, map, option_map, unwrap_or}
+use Rattle.std.proofs.Common.{◌≡◌, ℕ, ◌<◌, ◌^◌, false, true, List, [], ◌∷◌, ◌++◌, refl, sym, ◌∙◌, ap, subst}
+use Rattle.std.specs.Prelude.{All, Option, Some, None, IsSomeAnd, find, is_some, map, option_map, unwrap_or}
+use Rattle.std.specs.Option.{option_and_then}
+use Rattle.std.proofs.lemmas.Bool.{false≢true}
+use Rattle.std.proofs.lemmas.List.{map-append}
+use Rattle.std.proofs.lemmas.List.Elements.{All-head, All-tail}
 use Rattle.elf_model.specs.Causes.{IsLinkable, IsReferred, IsResolved, IsTaken}
 use Rattle.elf_model.specs.Command.{IsBase, Plan}
 use Rattle.elf_model.specs.Files.{File}
-use Rattle.elf_model.specs.ImageFile.{IsOwnMap, image_file, own_entry, place_row_of}
+use Rattle.elf_model.specs.Commons.{Block, block_named, block_piece, block_pieces, blocks}
+use Rattle.elf_model.specs.ImageFile.{IsOwnMap, common_row_of, image_file, own_entry, place_row_of}
 use Rattle.elf_model.specs.Loading.{LoadedObject, loaded_objects}
-use Rattle.elf_model.specs.MapRecord.{MapRecord, PlaceRow}
+use Rattle.elf_model.specs.MapRecord.{CommonRow, MapRecord, PlaceRow}
 use Rattle.elf_model.specs.MapText.{IsMap, text}
+use Rattle.elf_model.specs.Meaning.{Meaning, meaning_value, meant, object_meaning}
 use Rattle.elf_model.specs.MemoryImage.{loads}
-use Rattle.elf_model.specs.OwnLayout.{own_address, own_in_load_order, own_segments}
-use Rattle.elf_model.specs.Pieces.{Piece, pieces}
-use Rattle.elf_model.specs.Placement.{HasRights, IsPlaced, Placed, got_things, headers_thing, placed_by, symbol_value, thing_of, things}
+use Rattle.elf_model.specs.OwnLayout.{own_address, own_in_load_order, own_places, own_segments, own_where}
+use Rattle.elf_model.specs.Pieces.{Piece, kept_sections}
+use Rattle.elf_model.specs.Placement.{HasRights, IsPlaced, Placed, Where, got_things, common_address, headers_thing, is_common_row_of, placed_block, placed_blocks, placed_by, thing_of, things}
 use Rattle.elf_model.specs.Records.{file_header}
 use Rattle.elf_model.specs.Relocation.{AllFit}
 use Rattle.elf_model.specs.Resolution.{SymbolOf, chosen, is_in_thread_section}
-use Rattle.elf_model.specs.RightLink.{AreRelocationsRight, AreSectionsListed, AreSymbolsListed, BeforeC10, BeforeC13, BeforeC7, EntersRight, HasLine, HasNothingElse, HoldsPiece, IsLoaded, IsRightLink, Subject, facts_of_piece, facts_of_row, placed_of, things_of}
+use Rattle.elf_model.specs.RightLink.{AreRelocationsRight, AreSectionsListed, AreSymbolsListed, BeforeC10, BeforeC13, BeforeC7, EntersRight, HasLine, HasNothingElse, HoldsPiece, IsLoaded, IsRightLink, Subject, facts_of_block, facts_of_common, facts_of_piece, facts_of_row, placed_of, sections_of, where_of, things_of}
 use Rattle.elf_model.specs.declared.link_map.GotLine.{GotLine}
 use Rattle.elf_model.specs.declared.records.ProgramHeader.{ProgramHeader}
 use Rattle.elf_model.specs.declared.thing.Thing.{Thing}
 use Rattle.own_link.proofs.ApartThings.{own_is_apart}
 use Rattle.own_link.proofs.ImageOwn.{IsOwnImage, image_is_own}
 use Rattle.own_link.proofs.OwnThings.{own_things_of}
+use Rattle.elf_model.proofs.BlockNames.{blocks_named}
+use Rattle.elf_model.proofs.Listing.{chosen_means}
 use Rattle.elf_model.proofs.Places.{are_own_placed}
 use Rattle.own_link.proofs.Rights.{own_has_rights}
 
@@ -40,10 +48,22 @@ module _ (at : Piece → ℕ) where
 
 -- the entry's value, where there is a chosen definition
 entered :
-    (o : Option SymbolOf) (value : SymbolOf → ℕ) (e : ℕ) (P : SymbolOf → Type 0) →
-    e ≡ unwrap_or (option_map value o) 0 → IsSomeAnd o P → IsSomeAnd o (λ d. e ≡ value d)
-entered None value e P is there = absurd there
-entered (Some d) value e P is there = is
+    (objects : List LoadedObject) (name : List ℕ) (o : Option SymbolOf) (value : Meaning → ℕ) (e : ℕ) (P : SymbolOf → Type 0) →
+    chosen objects name ≡ o → e ≡ unwrap_or (option_map value (option_and_then (meant objects) o)) 0 → IsSomeAnd o P →
+    IsSomeAnd (option_and_then (meant objects) o) (λ d. e ≡ value d)
+entered objects name None value e P chosen_is is there = absurd there
+entered objects name (Some s) value e P chosen_is is there = by (meant objects s) (chosen_means objects name s chosen_is) is
+  where
+    by : (m : Option Meaning) → is_some m ≡ true → e ≡ unwrap_or (option_map value m) 0 → IsSomeAnd m (λ d. e ≡ value d)
+    by None some v = absurd (false≢true some)
+    by (Some d) some v = v
+
+-- what a block's line says but for its address is what it says at its own
+facts_of_lines :
+    (base : ℕ) (objects : List LoadedObject) (o : Option Block) →
+    option_map facts_of_common (option_map (common_row_of base objects) o) ≡ option_map facts_of_block o
+facts_of_lines base objects None = refl
+facts_of_lines base objects (Some b) = refl
 
 module _ (files : List File) (words : List (List ℕ)) (p : Plan) (m : MapRecord) (link : IsLinkable files words p) (based : IsBase p.base) (small : own_entry p.base (loaded_objects files p) p.entry < 2 ^ 64) (own_map : IsOwnMap p.base (loaded_objects files p) m) (is_map : IsMap m) where
   abbrev objects : List LoadedObject
@@ -73,10 +93,37 @@ module _ (files : List File) (words : List (List ℕ)) (p : Plan) (m : MapRecord
       taken.before.objects p.entry small
 
   -- the pieces stand where the map says, and so do all things
+  abbrev own_stand : Piece → Placed
+  own_stand = stand (own_address p.base objects)
+
+  sections_are : sections_of subject ≡ own_places p.base objects (kept_sections objects)
+  sections_are =
+      ap (λ (rows : List PlaceRow). placed_by rows (kept_sections objects)) own_map.places
+      ∙ placed_again (own_address p.base objects) (kept_sections objects)
+
+  block_stands : (b : Block) → block_named objects b.name ≡ Some b → placed_block m.commons b ≡ own_stand (block_piece b)
+  block_stands b named =
+      let row : find (is_common_row_of b.name) m.commons ≡ Some (common_row_of p.base objects b) =
+      own_map.commons b.name ∙ ap (option_map (common_row_of p.base objects)) named in
+      let at : common_address m.commons b.name ≡ own_address p.base objects (block_piece b) =
+      ap (λ (o : Option CommonRow). unwrap_or (option_map (λ (r : CommonRow). r.address) o) 0) row in
+      λ i. record { at = at i; piece = block_piece b }
+
+  blocks_stand : (bs : List Block) → All (λ b. block_named objects b.name ≡ Some b) bs → placed_blocks m.commons bs ≡ map own_stand (map block_piece bs)
+  blocks_stand [] named = refl
+  blocks_stand (b ∷ bs) named =
+      ap (λ (q : Placed). q ∷ placed_blocks m.commons bs) (block_stands b (All-head (λ (c : Block). block_named objects c.name ≡ Some c) b bs named))
+      ∙ ap (λ (qs : List Placed). own_stand (block_piece b) ∷ qs)
+      (blocks_stand bs (All-tail (λ (c : Block). block_named objects c.name ≡ Some c) b bs named))
+
   placed_is : placed_of subject ≡ placed
   placed_is =
-      ap (λ (rows : List PlaceRow). placed_by rows (pieces objects)) own_map.places
-      ∙ placed_again (own_address p.base objects) (pieces objects)
+      ap (λ (qs : List Placed). qs ++ placed_blocks m.commons (blocks objects)) sections_are
+      ∙ ap (λ (qs : List Placed). own_places p.base objects (kept_sections objects) ++ qs) (blocks_stand (blocks objects) (blocks_named objects))
+      ∙ sym (map-append own_stand (kept_sections objects) (block_pieces objects))
+
+  where_is : where_of subject ≡ own_where p.base objects
+  where_is = ap (λ (ps : List Placed). record { base = p.base; placed = ps }) placed_is
 
   things_are : things_of subject ≡ own_things_of p.base objects
   things_are =
@@ -87,8 +134,11 @@ module _ (files : List File) (words : List (List ℕ)) (p : Plan) (m : MapRecord
   -- the clauses that speak of the map and of the pieces' places
   loaded : IsLoaded subject
   loaded = record {
-    files = taken.before.before.files_are;
+    files = taken.before.before.before.files_are;
+    archives = taken.before.before.archives;
+    indexes = taken.before.before.indexes;
     objects = taken.before.objects;
+    groups = taken.before.groups;
     profile = taken.profile;
     rows = own_map.objects_are;
   }
@@ -96,15 +146,17 @@ module _ (files : List File) (words : List (List ℕ)) (p : Plan) (m : MapRecord
   sections_listed : AreSectionsListed subject
   sections_listed = record {
     kinds = resolved.kinds;
+    sound = resolved.commons;
     drops = own_map.drops;
-    places = ap (map facts_of_row) own_map.places ∙ facts_again (own_address p.base objects) (pieces objects);
-    commons = own_map.commons;
+    places = ap (map facts_of_row) own_map.places ∙ facts_again (own_address p.base objects) (kept_sections objects);
+    commons = λ name.
+        ap (option_map facts_of_common) (own_map.commons name) ∙ facts_of_lines p.base objects (block_named objects name);
   }
 
-  placed_right : IsPlaced p.base (things_of subject) (placed_of subject)
+  placed_right : IsPlaced p.base (things_of subject) (sections_of subject)
   placed_right =
-      subst (λ (ts : List Thing). IsPlaced p.base ts (placed_of subject)) (sym things_are)
-      (subst (IsPlaced p.base (own_things_of p.base objects)) (sym placed_is)
+      subst (λ (ts : List Thing). IsPlaced p.base ts (sections_of subject)) (sym things_are)
+      (subst (IsPlaced p.base (own_things_of p.base objects)) (sym sections_are)
       (own_is_apart p.base objects resolved.kinds link.before.not_too_large))
 
   rights_right : HasRights p.base (loads image) (things_of subject) (got_things m.got)
@@ -117,13 +169,13 @@ module _ (files : List File) (words : List (List ℕ)) (p : Plan) (m : MapRecord
   relocations_right : AreRelocationsRight subject
   relocations_right = record {
     lawful = referred.relocations;
-    fits = subst (AllFit objects) (sym placed_is) link.fits;
+    fits = subst (AllFit objects) (sym where_is) link.fits;
   }
 
   -- those that speak of memory
-  pieces_held : All (HoldsPiece objects (placed_of subject) image) (placed_of subject)
+  pieces_held : All (HoldsPiece objects (where_of subject) image) (placed_of subject)
   pieces_held =
-      subst (λ (ps : List Placed). All (HoldsPiece objects ps image) ps) (sym placed_is)
+      subst (λ (w : Where). All (HoldsPiece objects w image) w.placed) (sym where_is)
       own_image.pieces_held
 
   nothing_else : HasNothingElse image (things_of subject)
@@ -134,18 +186,18 @@ module _ (files : List File) (words : List (List ℕ)) (p : Plan) (m : MapRecord
   -- those that speak of symbols
   enters : EntersRight subject
   enters =
-      let value : own_entry p.base objects p.entry ≡ unwrap_or (option_map (symbol_value (placed_of subject)) (chosen objects p.entry)) 0 =
-      ap (λ (ps : List Placed). unwrap_or (option_map (symbol_value ps) (chosen objects p.entry)) 0) (sym placed_is) in (
+      let value : own_entry p.base objects p.entry ≡ unwrap_or (option_map (meaning_value (where_of subject)) (object_meaning objects p.entry)) 0 =
+      ap (λ (w : Where). unwrap_or (option_map (meaning_value w) (object_meaning objects p.entry)) 0) (sym where_is) in (
         referred.entry,
-        entered (chosen objects p.entry) (symbol_value (placed_of subject)) ((file_header image).e_entry)
-            (λ d. is_in_thread_section objects d ≡ false) (own_image.entry_is ∙ value) referred.entry,
+        entered objects p.entry (chosen objects p.entry) (meaning_value (where_of subject)) ((file_header image).e_entry)
+            (λ d. is_in_thread_section objects d ≡ false) refl (own_image.entry_is ∙ value) referred.entry,
       )
 
   symbols_listed : AreSymbolsListed subject
   symbols_listed = record {
     sound = resolved.sound;
     unique = resolved.unique;
-    lines = subst (λ (ps : List Placed). (name : List ℕ) → HasLine m.symbols objects ps name) (sym placed_is) own_map.symbols;
+    lines = subst (λ (w : Where). (name : List ℕ) → HasLine m.symbols objects w name) (sym where_is) own_map.symbols;
   }
 
   -- all clauses, in order
@@ -162,7 +214,7 @@ module _ (files : List File) (words : List (List ℕ)) (p : Plan) (m : MapRecord
   own_is_right = record {
     plan = p;
     map = m;
-    read = record { plan = taken.before.before.words_are; map = is_map; spelled = refl };
+    read = record { plan = taken.before.before.before.words_are; map = is_map; spelled = refl };
     before_last = before_c13;
     last = symbols_listed;
   }

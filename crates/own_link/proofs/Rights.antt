@@ -5,10 +5,11 @@ use Rattle.std.specs.Prelude.{All, Contains}
 use Rattle.std.specs.List.{list_any}
 use Rattle.std.proofs.lemmas.Bool.{and_parts, false_from_ne_true, lt-ltb, not-true, or_left, or_right}
 use Rattle.std.proofs.lemmas.List.Elements.{All-append, All-cons, All-contains, All-map, All-nil, Contains-append_left, Contains-append_right}
+use Rattle.elf_model.specs.Commons.{pieces}
 use Rattle.elf_model.specs.Loading.{LoadedObject}
 use Rattle.elf_model.specs.MemoryImage.{Encloses}
 use Rattle.elf_model.specs.OwnLayout.{any_placed, code_pieces, code_start, data_pieces, data_start, greatest_end, is_code, is_nonempty, is_read_only, own_code, own_data, own_placed, own_read_only, own_segments, own_in_load_order, placed_from, read_only_start, segment, segment_if}
-use Rattle.elf_model.specs.Pieces.{AreLawfulKinds, IsLawfulKind, Piece, is_executable, is_writable, piece_rights, pieces}
+use Rattle.elf_model.specs.Pieces.{AreLawfulKinds, IsLawfulKind, Piece, is_executable, is_writable, piece_rights}
 use Rattle.elf_model.specs.Placement.{HasRights, LiesInSegment, Placed, thing_of}
 use Rattle.elf_model.specs.declared.records.ProgramHeader.{ProgramHeader}
 use Rattle.elf_model.specs.declared.thing.Thing.{Thing}
@@ -16,7 +17,7 @@ use Rattle.own_link.proofs.ApartThings.{All-loaded}
 use Rattle.own_link.proofs.Ends.{EndsBelow, greatest_end-from, greatest_end-holds}
 use Rattle.elf_model.proofs.Finding.{Any-from_contains, Any-here}
 use Rattle.elf_model.proofs.Listed.{All-from_contains, Contains-cons_cases, Contains-here, Contains-map, Contains-nil, Contains-there}
-use Rattle.elf_model.proofs.OwnOrder.{code_not_writable, from_data}
+use Rattle.elf_model.proofs.OwnOrder.{code_not_writable, from_data, pieces_lawful}
 use Rattle.own_link.proofs.OwnThings.{own_headers_at, own_things_of}
 use Rattle.elf_model.proofs.Places.{are_own_placed}
 use Rattle.elf_model.proofs.Running.{placed_pieces}
@@ -113,7 +114,7 @@ module _ (base : ℕ) (objects : List LoadedObject) (kinds : AreLawfulKinds obje
       let piece : Contains (data_pieces objects) q.piece =
       subst (λ (rs : List Piece). Contains rs q.piece) (placed_pieces (data_start base objects) (data_pieces objects))
       (Contains-map (λ (r : Placed). r.piece) (own_data base objects) q c) in
-      All-contains (λ (p : Piece). IsLawfulKind p.header) (pieces objects) q.piece kinds (from_data objects q.piece piece).0
+      All-contains (λ (p : Piece). IsLawfulKind p.header) (pieces objects) q.piece (pieces_lawful objects kinds) (from_data objects q.piece piece).0
 
   data_lie : All LiesRight (own_data base objects)
   data_lie =

@@ -1,24 +1,26 @@
 -- A NOBITS piece wants 0 everywhere: it has no bytes of its input, and no relocation's field lies in it.
-use Rattle.std.proofs.Common.{◌≡◌, ◌==◌, ℕ, ◌+◌, ◌&&◌, Bool, true, false, cond, List, [], refl, sym, ◌∙◌, ap, subst}
+use Rattle.std.proofs.Common.{◌≡◌, ◌⊎◌, inl, inr, ◌==◌, ℕ, ◌+◌, ◌<◌, ◌&&◌, Bool, true, false, not, cond, List, [], length, refl, sym, ◌∙◌, ap, subst, arith}
 use Rattle.std.specs.Prelude.{◌≢◌, All, Contains, Option, Some, None, find, nat_le, nat_lt, slice_index, unwrap_or}
 use Rattle.std.specs.List.{slice_get}
 use Rattle.std.specs.Option.{option_and_then}
 use Rattle.std.proofs.lemmas.Bool.{and_parts, eqb-true, false_from_ne_true, not-false, or_right}
-use Rattle.std.proofs.lemmas.List.Elements.{All-contains}
-use Rattle.std.proofs.lemmas.Option.{get_or_from_slice_get}
-use Rattle.elf_model.specs.Loading.{AreObjects, LoadedObject}
+use Rattle.std.proofs.lemmas.List.Elements.{All-append, All-contains, Contains-append_cases}
+use Rattle.std.proofs.lemmas.Option.{get_or_from_slice_get, slice_get_within}
+use Rattle.elf_model.specs.Commons.{block_pieces, pieces}
+use Rattle.elf_model.specs.Loading.{AreObjects, LoadedObject, is_dropped}
 use Rattle.elf_model.specs.ObjectFile.{IsObject, IsRelaSection, bytes_in_file, contents, has_no_bytes, null_section, section, sections}
 use Rattle.elf_model.specs.OwnLayout.{own_placed, placed_has_bytes}
-use Rattle.elf_model.specs.Pieces.{Piece, is_alloc, is_nobits, piece_of, pieces}
-use Rattle.elf_model.specs.Placement.{Placed}
+use Rattle.elf_model.specs.Pieces.{Piece, is_kept, is_nobits, kept_sections, piece_of}
+use Rattle.elf_model.specs.Placement.{Placed, Where}
 use Rattle.elf_model.specs.Relocation.{Relocation, is_in_field, relocations, width_of}
 use Rattle.elf_model.specs.Resolution.{sections_of_object}
 use Rattle.elf_model.specs.WantedBytes.{byte_or_field, wanted_byte}
 use Rattle.elf_model.specs.declared.records.SectionHeader.{SectionHeader}
+use Rattle.elf_model.proofs.Blocks.{block_pieces-each, block_pieces-object}
 use Rattle.elf_model.proofs.Finding.{find-none}
 use Rattle.elf_model.proofs.Listed.{All-from_contains, Contains-from_map, Contains-from_slice_get}
 use Rattle.elf_model.proofs.Places.{AreOwnPlaced, at_own_address}
-use Rattle.elf_model.proofs.Sectioned.{pieces-each, relocations-each}
+use Rattle.elf_model.proofs.Sectioned.{kept-each, relocations-each}
 
 -- a piece that is NOBITS has no bytes of its input
 abbrev IsBare : Piece → Type 0
@@ -33,7 +35,10 @@ bare_section k bytes i h there nobits =
     ∙ no_contents (has_no_bytes h) (contents bytes h) (or_right (h.sh_type == 0) (h.sh_type == 8) nobits)
 
 bare_pieces : (objects : List LoadedObject) → All IsBare (pieces objects)
-bare_pieces objects = pieces-each IsBare objects (λ k o there i h within. bare_section k o.bytes i h within)
+bare_pieces objects =
+    All-append IsBare (kept_sections objects) (block_pieces objects)
+    (kept-each IsBare objects (λ k o there i h within. bare_section k o.bytes i h within))
+    (block_pieces-each objects IsBare (λ k s c nobits. refl))
 
 -- the header of section i of object k
 abbrev header_at : List LoadedObject → ℕ → ℕ → SectionHeader
@@ -42,10 +47,10 @@ header_at objects k i = section (sections_of_object (slice_get objects k)) i
 header_in : (objects : List LoadedObject) (k : ℕ) (o : LoadedObject) → slice_get objects k ≡ Some o → (i : ℕ) → header_at objects k i ≡ section (sections o.bytes) i
 header_in objects k o there i = ap (λ (x : Option LoadedObject). section (sections_of_object x) i) there
 
--- a piece has the header of its section
-pub piece_headers : (objects : List LoadedObject) → All (λ p. header_at objects p.object p.section ≡ p.header) (pieces objects)
+-- the piece of a kept section has the section's header
+pub piece_headers : (objects : List LoadedObject) → All (λ p. header_at objects p.object p.section ≡ p.header) (kept_sections objects)
 piece_headers objects =
-    pieces-each (λ (p : Piece). header_at objects p.object p.section ≡ p.header) objects (λ k o there i h within.
+    kept-each (λ (p : Piece). header_at objects p.object p.section ≡ p.header) objects (λ k o there i h within.
     header_in objects k o there i ∙ get_or_from_slice_get (sections o.bytes) i h null_section within)
 
 -- no relocation is of a NOBITS section
@@ -62,10 +67,15 @@ relocated_section bytes good h there rela =
 
 relocation_headers : (objects : List LoadedObject) → AreObjects objects → All (λ r. (header_at objects r.object r.section).sh_type ≢ 8) (relocations objects)
 relocation_headers objects good =
-    relocations-each (λ (r : Relocation). (header_at objects r.object r.section).sh_type ≢ 8) objects (λ k o there h r entry.
-    let rela = (and_parts (h.sh_type == 4) (is_alloc (section (sections o.bytes) h.sh_info)) entry.kept).0 in
+    relocations-each (λ (r : Relocation). (header_at objects r.object r.section).sh_type ≢ 8) objects (λ k o there i h r entry.
+    let rela =
+    (and_parts (h.sh_type == 4) (not (is_dropped o i) && is_kept o h.sh_info (section (sections o.bytes) h.sh_info)) entry.kept).0 in
     subst (λ (g : SectionHeader). g.sh_type ≢ 8) (sym (header_in objects k o there h.sh_info))
-    (relocated_section o.bytes (object_at objects good k o there) h entry.section (eqb-true h.sh_type 4 rela)))
+    (relocated_section o.bytes (object_at objects good k o there) h (Contains-from_slice_get (sections o.bytes) i h entry.section) (eqb-true h.sh_type 4 rela)))
+
+-- each relocation is of an object that is loaded
+relocations_below : (objects : List LoadedObject) → All (λ r. r.object < length objects) (relocations objects)
+relocations_below objects = relocations-each (λ (r : Relocation). r.object < length objects) objects (λ k o there i h r entry. slice_get_within objects k o there)
 
 -- a field in a piece is one of the piece's section
 own_section : (p : Piece) (k : ℕ) (r : Relocation) → is_in_field p.object p.section k r ≡ true → (r.object ≡ p.object) × (r.section ≡ p.section)
@@ -78,34 +88,54 @@ own_section p k r e =
     (eqb-true r.object p.object both.0, eqb-true r.section p.section both.1)
 
 module _ (objects : List LoadedObject) (good : AreObjects objects) where
-  -- so no field lies in a NOBITS piece
-  outside :
-      (p : Piece) (k : ℕ) → Contains (pieces objects) p → is_nobits p.header ≡ true → (r : Relocation) →
+  -- so no field lies in a NOBITS section
+  outside_section :
+      (p : Piece) (k : ℕ) → Contains (kept_sections objects) p → is_nobits p.header ≡ true → (r : Relocation) →
       Contains (relocations objects) r → is_in_field p.object p.section k r ≡ false
-  outside p k there nobits r c =
+  outside_section p k there nobits r c =
       false_from_ne_true (is_in_field p.object p.section k r) (λ e.
       let own = own_section p k r e in
       let same : header_at objects r.object r.section ≡ p.header =
       ap (λ (n : ℕ). header_at objects n r.section) own.0
       ∙ (ap (header_at objects p.object) own.1
-      ∙ All-contains (λ (q : Piece). header_at objects q.object q.section ≡ q.header) (pieces objects) p (piece_headers objects) there) in
+      ∙ All-contains (λ (q : Piece). header_at objects q.object q.section ≡ q.header) (kept_sections objects) p (piece_headers objects) there) in
       let kind = All-contains (λ (s : Relocation). (header_at objects s.object s.section).sh_type ≢ 8) (relocations objects) r (relocation_headers objects good) c in
       absurd (kind (ap (λ (h : SectionHeader). h.sh_type) same ∙ eqb-true p.header.sh_type 8 nobits)))
 
+  -- nor in a block
+  outside_block :
+      (p : Piece) (k : ℕ) → Contains (block_pieces objects) p → (r : Relocation) → Contains (relocations objects) r →
+      is_in_field p.object p.section k r ≡ false
+  outside_block p k there r c =
+      false_from_ne_true (is_in_field p.object p.section k r) (λ e.
+      let own = own_section p k r e in
+      let below = All-contains (λ (s : Relocation). s.object < length objects) (relocations objects) r (relocations_below objects) c in
+      let block = All-contains (λ (q : Piece). q.object ≡ length objects) (block_pieces objects) p (block_pieces-object objects) there in
+      omega (arith, own, below, block))
+
+  outside :
+      (p : Piece) (k : ℕ) → Contains (pieces objects) p → is_nobits p.header ≡ true → (r : Relocation) →
+      Contains (relocations objects) r → is_in_field p.object p.section k r ≡ false
+  outside p k there nobits r c = by (Contains-append_cases (kept_sections objects) (block_pieces objects) p there)
+    where
+      by : Contains (kept_sections objects) p ⊎ Contains (block_pieces objects) p → is_in_field p.object p.section k r ≡ false
+      by (inl kept) = outside_section p k kept nobits r c
+      by (inr block) = outside_block p k block r c
+
   wants_zero :
-      (ps : List Placed) (p : Piece) (k : ℕ) → Contains (pieces objects) p → is_nobits p.header ≡ true →
-      wanted_byte objects ps p k ≡ 0
-  wants_zero ps p k there nobits =
+      (w : Where) (p : Piece) (k : ℕ) → Contains (pieces objects) p → is_nobits p.header ≡ true →
+      wanted_byte objects w p k ≡ 0
+  wants_zero w p k there nobits =
       let none : find (is_in_field p.object p.section k) (relocations objects) ≡ None =
       find-none (is_in_field p.object p.section k) (relocations objects)
       (All-from_contains (λ (r : Relocation). is_in_field p.object p.section k r ≡ false) (relocations objects) (outside p k there nobits)) in
-      ap (byte_or_field objects ps p k) none
+      ap (byte_or_field objects w p k) none
       ∙ ap (λ (xs : List ℕ). slice_index xs k) (All-contains IsBare (pieces objects) p (bare_pieces objects) there nobits)
 
   -- of the own layout's pieces those without bytes in the file
   pub own_wants_zero :
-      (base : ℕ) → AreOwnPlaced base objects → (ps : List Placed) (q : Placed) (k : ℕ) → Contains (own_placed base objects) q →
-      placed_has_bytes q ≡ false → wanted_byte objects ps q.piece k ≡ 0
-  own_wants_zero base stand ps q k there e =
+      (base : ℕ) → AreOwnPlaced base objects → (w : Where) (q : Placed) (k : ℕ) → Contains (own_placed base objects) q →
+      placed_has_bytes q ≡ false → wanted_byte objects w q.piece k ≡ 0
+  own_wants_zero base stand w q k there e =
       let i = Contains-from_map (at_own_address base objects) (pieces objects) q (stand.all q there) in
-      wants_zero ps q.piece k (subst (λ (r : Placed). Contains (pieces objects) r.piece) i.is i.there) (not-false (is_nobits q.piece.header) e)
+      wants_zero w q.piece k (subst (λ (r : Placed). Contains (pieces objects) r.piece) i.is i.there) (not-false (is_nobits q.piece.header) e)

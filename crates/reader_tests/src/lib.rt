@@ -1,6 +1,11 @@
-//! Tests of the crates that read and describe: bytes, records, objects, words, maps, memory, tables of names.
+//! Tests of the crates that read and describe: bytes, records, objects, archives, words, maps, memory, tables of
+//! names, groups of sections.
 #![tactic(auto)]
 
+#[cfg(test)]
+mod archives;
+#[cfg(test)]
+mod groups;
 #[cfg(test)]
 mod memories;
 #[cfg(test)]

@@ -3,7 +3,7 @@ use byteview::View;
 use elf_model::{
     EM_X86_64, ET_EXEC, ET_REL, FileHeader, PT_GNU_STACK, PT_LOAD, PT_TLS, ProgramHeader,
 };
-use loader_model::{LoadFault, Memory, Rights};
+use loader_model::{Memory, Rights};
 use std::alloc::{AllocError, Global};
 use std::process::Abort;
 use std::test::Fail;
@@ -94,13 +94,14 @@ fn one_segment(alloc: Global) -> Result<Vec<u8>, AllocError> {
     an_image(alloc, &HEADER, &[SEGMENT, STACK])
 }
 
-fn fault_of(
-    alloc: Global,
-    header: &FileHeader,
-    segments: &[ProgramHeader],
-) -> Result<Option<LoadFault>, AllocError> {
+/// `loaded`, or the fault of an image.
+fn outcome(alloc: Global, header: &FileHeader, segments: &[ProgramHeader]) -> Result<String, Fail> {
     let image = an_image(alloc, header, segments)?;
-    Ok(Memory::load(alloc, View::new(&image)).err())
+    let text = match Memory::load(alloc, View::new(&image)) {
+        Ok(_) => format!(in alloc; "loaded")?,
+        Err(fault) => format!(in alloc; "{fault}")?,
+    };
+    Ok(text)
 }
 
 #[test]
@@ -131,16 +132,11 @@ fn headers_are_the_files(rt: HostRuntime) -> Result<(), Fail> {
 
 /// An image whose segment has a thread-local block.
 fn with_thread_block(alloc: Global) -> Result<Vec<u8>, AllocError> {
-    let header = FileHeader {
-        e_phnum: 3,
-        ..HEADER
-    };
     let whole = ProgramHeader {
-        p_filesz: 232,
         p_memsz: 232,
-        ..SEGMENT
+        ..LONG
     };
-    an_image(alloc, &header, &[whole, BLOCK, STACK])
+    an_image(alloc, &THREE, &[whole, BLOCK, STACK])
 }
 
 #[test]
@@ -171,39 +167,41 @@ fn runs_lie_in_one_segment(rt: HostRuntime) -> Result<(), Fail> {
     Ok(())
 }
 
-#[test]
-fn faults_are_told(rt: HostRuntime) -> Result<(), Fail> {
-    let alloc = rt.alloc();
-    let fault = fault_of(alloc, &OBJECT, &[SEGMENT, STACK])?;
-    assert!(rt; matches!(fault, Some(LoadFault::BadHeader)));
-    let fault = fault_of(alloc, &HEADER, &[ANY_RIGHT, STACK])?;
-    assert!(rt; matches!(fault, Some(LoadFault::BadSegment)));
-    let fault = fault_of(alloc, &HEADER, &[STACK, SEGMENT])?;
-    assert!(rt; matches!(fault, Some(LoadFault::Order)));
-    Ok(())
-}
+/// A second segment, in the page in which the first one ends.
+const NEXT: ProgramHeader = ProgramHeader {
+    p_flags: 6,
+    p_offset: 0x1000,
+    p_vaddr: 0x40_1000,
+    p_paddr: 0x40_1000,
+    p_filesz: 0,
+    p_memsz: 1,
+    ..SEGMENT
+};
+
+/// The header of three program headers, and a segment that ends in a second page.
+const THREE: FileHeader = FileHeader {
+    e_phnum: 3,
+    ..HEADER
+};
+
+const LONG: ProgramHeader = ProgramHeader {
+    p_filesz: 232,
+    p_memsz: 0x1001,
+    ..SEGMENT
+};
+
+/// Headers of images, and the fault that each has.
+static FAULTS: [(FileHeader, &[ProgramHeader], &str); 4] = [
+    (OBJECT, &[SEGMENT, STACK], "BadHeader (2)"),
+    (HEADER, &[ANY_RIGHT, STACK], "BadSegment (3)"),
+    (HEADER, &[STACK, SEGMENT], "Order (4)"),
+    (THREE, &[LONG, NEXT, STACK], "SharedPage (5)"),
+];
 
 #[test]
-fn segments_share_no_page(rt: HostRuntime) -> Result<(), Fail> {
-    let header = FileHeader {
-        e_phnum: 3,
-        ..HEADER
-    };
-    let first = ProgramHeader {
-        p_filesz: 232,
-        p_memsz: 0x1001,
-        ..SEGMENT
-    };
-    let second = ProgramHeader {
-        p_flags: 6,
-        p_offset: 0x1000,
-        p_vaddr: 0x40_1000,
-        p_paddr: 0x40_1000,
-        p_filesz: 0,
-        p_memsz: 1,
-        ..SEGMENT
-    };
-    let fault = fault_of(rt.alloc(), &header, &[first, second, STACK])?;
-    assert!(rt; matches!(fault, Some(LoadFault::SharedPage)));
+fn faults_are_told(rt: HostRuntime) -> Result<(), Fail> {
+    for (header, segments, text) in &FAULTS {
+        assert_eq!(rt; outcome(rt.alloc(), header, segments)?.as_str(), *text);
+    }
     Ok(())
 }

@@ -1,15 +1,15 @@
 //! Objects as they are read.
 use byteview::View;
 use elf_model::{
-    EM_X86_64, ET_REL, FileHeader, Rela, SHF_ALLOC, SHF_EXECINSTR, SHT_NOBITS, SHT_NULL,
-    SHT_PROGBITS, SHT_REL, SHT_RELA, SHT_STRTAB, SHT_SYMTAB, SectionHeader, Symbol,
+    EM_X86_64, ET_REL, FileHeader, Rela, SHF_ALLOC, SHF_EXECINSTR, SHN_COMMON, SHT_NOBITS,
+    SHT_NULL, SHT_PROGBITS, SHT_REL, SHT_RELA, SHT_STRTAB, SHT_SYMTAB, SectionHeader, Symbol,
 };
-use elf_read::{ObjFault, Object, is_plain_object, linker_names};
+use elf_read::{Object, is_plain_object, later_names};
 use std::alloc::{AllocError, Global};
 use std::process::Abort;
 use std::test::Fail;
 
-const NULL_SECTION: SectionHeader = SectionHeader {
+pub const NULL_SECTION: SectionHeader = SectionHeader {
     sh_name: 0,
     sh_type: SHT_NULL,
     sh_flags: 0,
@@ -53,7 +53,7 @@ const HEADER: FileHeader = FileHeader {
     e_shstrndx: 4,
 };
 
-const NULL_SYMBOL: Symbol = Symbol {
+pub const NULL_SYMBOL: Symbol = Symbol {
     st_name: 0,
     st_info: 0,
     st_other: 0,
@@ -110,15 +110,25 @@ fn object_of(
     header: &FileHeader,
     text: &SectionHeader,
 ) -> Result<Vec<u8>, AllocError> {
+    object_with(alloc, header, &START, text)
+}
+
+/// The object of `_start` with another symbol in its place.
+fn object_with(
+    alloc: Global,
+    header: &FileHeader,
+    symbol: &Symbol,
+    text: &SectionHeader,
+) -> Result<Vec<u8>, AllocError> {
     let mut bytes = Vec::new(alloc);
     let mut record = [0; 64];
     header.write_to(&mut record);
     bytes.extend_from_slice(&record)?;
     bytes.extend_from_slice(&TEXT)?;
     bytes.extend_from_slice(&[0; 31])?;
-    let mut start = [0; 24];
-    START.write_to(&mut start);
-    bytes.extend_from_slice(&start)?;
+    let mut entry = [0; 24];
+    symbol.write_to(&mut entry);
+    bytes.extend_from_slice(&entry)?;
     bytes.extend_from_slice(b"\0_start\0")?;
     bytes.extend_from_slice(b"\0.text\0.symtab\0.strtab\0.shstrtab\0")?;
     bytes.extend_from_slice(&[0; 7])?;
@@ -136,11 +146,21 @@ fn relocated_object(
     relocations: &SectionHeader,
     entry: &Rela,
 ) -> Result<Vec<u8>, AllocError> {
+    relocated_with(alloc, &START, relocations, entry)
+}
+
+/// That object with another symbol in the place of `_start`.
+fn relocated_with(
+    alloc: Global,
+    symbol: &Symbol,
+    relocations: &SectionHeader,
+    entry: &Rela,
+) -> Result<Vec<u8>, AllocError> {
     let header = FileHeader {
         e_shnum: 6,
         ..HEADER
     };
-    let mut bytes = object_of(alloc, &header, &TEXT_SECTION)?;
+    let mut bytes = object_with(alloc, &header, symbol, &TEXT_SECTION)?;
     put_section(&mut bytes, relocations)?;
     let mut record = [0; 24];
     entry.write_to(&mut record);
@@ -148,12 +168,7 @@ fn relocated_object(
     Ok(bytes)
 }
 
-fn is_bad_rela(alloc: Global, relocations: &SectionHeader) -> Result<bool, AllocError> {
-    let bytes = relocated_object(alloc, relocations, &CALL)?;
-    Ok(matches!(fault_of(alloc, &bytes), Some(ObjFault::BadRela)))
-}
-
-fn put_section(bytes: &mut Vec<u8>, section: &SectionHeader) -> Result<(), AllocError> {
+pub fn put_section(bytes: &mut Vec<u8>, section: &SectionHeader) -> Result<(), AllocError> {
     let mut record = [0; 64];
     section.write_to(&mut record);
     bytes.extend_from_slice(&record)
@@ -170,8 +185,13 @@ fn strings(name: u32, offset: u64, size: u64) -> SectionHeader {
     }
 }
 
-fn fault_of(alloc: Global, bytes: &[u8]) -> Option<ObjFault> {
-    Object::read(alloc, View::new(bytes)).err()
+/// `read`, or the fault of the bytes.
+pub fn outcome(alloc: Global, bytes: &[u8]) -> Result<String, Fail> {
+    let text = match Object::read(alloc, View::new(bytes)) {
+        Ok(_) => format!(in alloc; "read")?,
+        Err(fault) => format!(in alloc; "{fault}")?,
+    };
+    Ok(text)
 }
 
 /// Asserts the names of the sections and of the symbol of the object of `_start`.
@@ -216,75 +236,61 @@ fn an_object_is_read(rt: HostRuntime) -> Result<(), Fail> {
     Ok(())
 }
 
+/// Beginnings of the object of `_start`, by their length, and what becomes of them.
+static BEGINNINGS: [(usize, &str); 4] = [
+    (63, "Truncated (2)"),
+    (64, "BadSectionTable (6)"),
+    (495, "BadSectionTable (6)"),
+    (496, "read"),
+];
+
 #[test]
 fn a_beginning_is_no_object(rt: HostRuntime) -> Result<(), Fail> {
     let bytes = start_object(rt.alloc())?;
     let file = View::new(&bytes);
-    let alloc = rt.alloc();
-    assert!(rt; matches!(fault_of(alloc, file.part(0, 63)), Some(ObjFault::Truncated)));
-    assert!(rt;
-        matches!(
-            fault_of(alloc, file.part(0, 64)),
-            Some(ObjFault::BadSectionTable)
-        )
-    );
-    assert!(rt;
-        matches!(
-            fault_of(alloc, file.part(0, 495)),
-            Some(ObjFault::BadSectionTable)
-        )
-    );
-    assert!(rt; fault_of(alloc, file.part(0, 496)).is_none());
+    for (len, text) in BEGINNINGS {
+        assert_eq!(rt; outcome(rt.alloc(), file.part(0, len))?.as_str(), text);
+    }
     Ok(())
 }
 
-#[test]
-fn a_table_past_the_end_is_refused(rt: HostRuntime) -> Result<(), Fail> {
-    let header = FileHeader {
-        e_shoff: 0xffff_ffff_ffff_ffc0,
-        ..HEADER
-    };
-    let bytes = object_of(rt.alloc(), &header, &TEXT_SECTION)?;
-    assert!(rt;
-        matches!(
-            fault_of(rt.alloc(), &bytes),
-            Some(ObjFault::BadSectionTable)
-        )
-    );
-    Ok(())
-}
+/// The header and the `.text` of objects, with their faults.
+static FAULTS: [(FileHeader, SectionHeader, &str); 4] = [
+    // A table and a section past the end, a name past the strings.
+    (
+        FileHeader {
+            e_shoff: 0xffff_ffff_ffff_ffc0,
+            ..HEADER
+        },
+        TEXT_SECTION,
+        "BadSectionTable (6)",
+    ),
+    (
+        HEADER,
+        SectionHeader {
+            sh_offset: u64::MAX,
+            ..TEXT_SECTION
+        },
+        "BadSectionRange (7)",
+    ),
+    (
+        HEADER,
+        SectionHeader {
+            sh_name: u32::MAX,
+            ..TEXT_SECTION
+        },
+        "BadString (8)",
+    ),
+    // A second symbol table.
+    (HEADER, SYMTAB, "BadSymbolTable (9)"),
+];
 
 #[test]
-fn a_section_past_the_end_is_refused(rt: HostRuntime) -> Result<(), Fail> {
-    let text = SectionHeader {
-        sh_offset: u64::MAX,
-        ..TEXT_SECTION
-    };
-    let bytes = object_of(rt.alloc(), &HEADER, &text)?;
-    assert!(rt;
-        matches!(
-            fault_of(rt.alloc(), &bytes),
-            Some(ObjFault::BadSectionRange)
-        )
-    );
-    Ok(())
-}
-
-#[test]
-fn a_name_past_the_strings_is_refused(rt: HostRuntime) -> Result<(), Fail> {
-    let text = SectionHeader {
-        sh_name: u32::MAX,
-        ..TEXT_SECTION
-    };
-    let bytes = object_of(rt.alloc(), &HEADER, &text)?;
-    assert!(rt; matches!(fault_of(rt.alloc(), &bytes), Some(ObjFault::BadString)));
-    Ok(())
-}
-
-#[test]
-fn a_second_symbol_table_is_refused(rt: HostRuntime) -> Result<(), Fail> {
-    let bytes = object_of(rt.alloc(), &HEADER, &SYMTAB)?;
-    assert!(rt; matches!(fault_of(rt.alloc(), &bytes), Some(ObjFault::BadSymbolTable)));
+fn faulty_objects_are_refused(rt: HostRuntime) -> Result<(), Fail> {
+    for (header, text_section, text) in &FAULTS {
+        let bytes = object_of(rt.alloc(), header, text_section)?;
+        assert_eq!(rt; outcome(rt.alloc(), &bytes)?.as_str(), *text);
+    }
     Ok(())
 }
 
@@ -312,48 +318,67 @@ fn no_relocation_is_lawful(rt: HostRuntime) -> Result<(), Fail> {
     Ok(())
 }
 
-#[test]
-fn a_relocation_of_no_symbol_is_refused(rt: HostRuntime) -> Result<(), Fail> {
-    let entry = Rela {
-        r_info: 0x2_0000_0004,
-        ..CALL
-    };
-    let bytes = relocated_object(rt.alloc(), &RELOCATIONS, &entry)?;
-    assert!(rt; matches!(fault_of(rt.alloc(), &bytes), Some(ObjFault::BadRela)));
-    Ok(())
-}
+/// RELA sections and entries, with what becomes of their object.
+static RELOCATED: [(SectionHeader, Rela, &str); 7] = [
+    (RELOCATIONS, CALL, "read"),
+    // A relocation of no symbol.
+    (
+        RELOCATIONS,
+        Rela {
+            r_info: 0x2_0000_0004,
+            ..CALL
+        },
+        "BadRela (10)",
+    ),
+    // Entries without addends, half an entry, a link to strings.
+    (
+        SectionHeader {
+            sh_type: SHT_REL,
+            ..RELOCATIONS
+        },
+        CALL,
+        "BadRela (10)",
+    ),
+    (
+        SectionHeader {
+            sh_size: 12,
+            ..RELOCATIONS
+        },
+        CALL,
+        "BadRela (10)",
+    ),
+    (
+        SectionHeader {
+            sh_link: 3,
+            ..RELOCATIONS
+        },
+        CALL,
+        "BadRela (10)",
+    ),
+    // Relocations of strings, and of a section past the table.
+    (
+        SectionHeader {
+            sh_info: 3,
+            ..RELOCATIONS
+        },
+        CALL,
+        "BadRela (10)",
+    ),
+    (
+        SectionHeader {
+            sh_info: 6,
+            ..RELOCATIONS
+        },
+        CALL,
+        "BadRela (10)",
+    ),
+];
 
 #[test]
-fn a_bad_relocation_section_is_refused(rt: HostRuntime) -> Result<(), Fail> {
-    let without_addends = SectionHeader {
-        sh_type: SHT_REL,
-        ..RELOCATIONS
-    };
-    let half_an_entry = SectionHeader {
-        sh_size: 12,
-        ..RELOCATIONS
-    };
-    let link_to_strings = SectionHeader {
-        sh_link: 3,
-        ..RELOCATIONS
-    };
-    let of_strings = SectionHeader {
-        sh_info: 3,
-        ..RELOCATIONS
-    };
-    let past_the_table = SectionHeader {
-        sh_info: 6,
-        ..RELOCATIONS
-    };
-    let sections = [
-        without_addends,
-        half_an_entry,
-        link_to_strings,
-        of_strings,
-        past_the_table,
-    ];
-    for (i, section) in sections.iter().enumerate() {
-        assert!(rt; is_bad_rela(rt.alloc(), section)?, "at {i}");
+fn bad_relocation_sections_are_refused(rt: HostRuntime) -> Result<(), Fail> {
+    for (section, entry, text) in &RELOCATED {
+        let bytes = relocated_object(rt.alloc(), section, entry)?;
+        assert_eq!(rt; outcome(rt.alloc(), &bytes)?.as_str(), *text);
     }
     Ok(())
 }
@@ -371,48 +396,80 @@ fn relocations_of_no_bytes_are_refused(rt: HostRuntime) -> Result<(), Fail> {
     let mut bytes = object_of(rt.alloc(), &header, &text)?;
     put_section(&mut bytes, &RELOCATIONS)?;
     bytes.extend_from_slice(&[0; 24])?;
-    assert!(rt; matches!(fault_of(rt.alloc(), &bytes), Some(ObjFault::BadRela)));
+    assert_eq!(rt; outcome(rt.alloc(), &bytes)?.as_str(), "BadRela (10)");
     Ok(())
 }
 
-/// Whether bytes are those of an object of the profile.
-fn is_plain(alloc: Global, bytes: &[u8]) -> Result<bool, ObjFault> {
-    let object = Object::read(alloc, View::new(bytes))?;
+/// A symbol of an object and its relocation, and whether the object is plain.
+static PLAINNESS: [(Symbol, Rela, bool); 5] = [
+    (START, CALL, true),
+    // WEAK, COMMON, and of type TLS.
+    (
+        Symbol {
+            st_info: 0x22,
+            ..START
+        },
+        CALL,
+        true,
+    ),
+    (
+        Symbol {
+            st_shndx: SHN_COMMON,
+            ..START
+        },
+        CALL,
+        true,
+    ),
+    (
+        Symbol {
+            st_info: 0x16,
+            ..START
+        },
+        CALL,
+        false,
+    ),
+    // R_X86_64_GOTPCREL.
+    (
+        START,
+        Rela {
+            r_info: 0x1_0000_0009,
+            ..CALL
+        },
+        false,
+    ),
+];
+
+fn is_plain(alloc: Global, symbol: &Symbol, entry: &Rela) -> Result<bool, Fail> {
+    let bytes = relocated_with(alloc, symbol, &RELOCATIONS, entry)?;
+    let object = Object::read(alloc, View::new(&bytes))?;
     Ok(is_plain_object(&object))
 }
 
 #[test]
-fn weak_symbols_and_later_kinds_are_not_plain(rt: HostRuntime) -> Result<(), Fail> {
-    let alloc = rt.alloc();
-    let call = relocated_object(alloc, &RELOCATIONS, &CALL)?;
-    assert!(rt; is_plain(alloc, &call)?);
-    // R_X86_64_GOTPCREL.
-    let got = Rela {
-        r_info: 0x1_0000_0009,
-        ..CALL
-    };
-    let got = relocated_object(alloc, &RELOCATIONS, &got)?;
-    assert!(rt; !is_plain(alloc, &got)?);
-    // st_info of symbol 1, whose binding becomes WEAK.
-    let mut weak = start_object(alloc)?;
-    *weak.get_mut(108).ok_or("a symbol")? = 0x22;
-    assert!(rt; !is_plain(alloc, &weak)?);
+fn symbols_and_kinds_of_thread_storage_and_the_got_are_not_plain(rt: HostRuntime) -> Result<(), Fail> {
+    for (symbol, entry, plain) in &PLAINNESS {
+        assert_eq!(rt; is_plain(rt.alloc(), symbol, entry)?, *plain);
+    }
     Ok(())
 }
 
 fn names_used<'a>(alloc: Global, bytes: &'a [u8]) -> Result<Vec<&'a [u8]>, Fail> {
     let object = Object::read(alloc, View::new(bytes))?;
-    Ok(linker_names(alloc, &object)?)
+    Ok(later_names(alloc, &object)?)
 }
 
 #[test]
-fn used_names_of_the_linker_are_listed(rt: HostRuntime) -> Result<(), Fail> {
+fn a_use_of_the_gots_name_is_listed(rt: HostRuntime) -> Result<(), Fail> {
     let mut bytes = relocated_object(rt.alloc(), &RELOCATIONS, &CALL)?;
-    assert_eq!(rt; names_used(rt.alloc(), &bytes)?.len(), 0);
     assert_eq!(rt; bytes.len(), 584);
     bytes[129..135].copy_from_slice(b"_etext");
+    assert_eq!(rt; names_used(rt.alloc(), &bytes)?.len(), 0);
+    // The names of symbols, of section 3, now stand at the end of the file.
+    bytes[392..394].copy_from_slice(&[0x48, 2]);
+    bytes[400] = 23;
+    bytes.extend_from_slice(b"\0_GLOBAL_OFFSET_TABLE_\0")?;
     let names = names_used(rt.alloc(), &bytes)?;
     assert_eq!(rt; names.len(), 1);
-    assert!(rt; names[0] == b"_etext".as_slice());
+    assert!(rt; names[0] == b"_GLOBAL_OFFSET_TABLE_".as_slice());
     Ok(())
 }

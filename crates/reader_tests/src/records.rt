@@ -1,8 +1,8 @@
 //! Records of ELF files, the texts of faults, and what becomes of refused memory.
 use byteview::View;
 use elf_model::{
-    CmdFault, FileHeader, LinkError, LoadFault, MapFault, ObjFault, PF_R, PT_LOAD, ProgramHeader,
-    Rela, STB_GLOBAL, STT_FUNC, SectionHeader, Symbol,
+    CmdFault, FileHeader, GroupFault, LinkError, LoadFault, MapFault, ObjFault, PF_R, PT_LOAD,
+    ProgramHeader, Rela, STB_GLOBAL, STT_FUNC, SectionHeader, Symbol,
 };
 use std::alloc::{AllocError, AllocFailed, Global};
 use std::process::Abort;
@@ -206,6 +206,19 @@ fn faults_of_objects_print_their_number(rt: HostRuntime) -> Result<(), Fail> {
 }
 
 #[test]
+fn faults_of_groups_print_their_number(rt: HostRuntime) -> Result<(), Fail> {
+    for (fault, text) in [
+        (GroupFault::Memory, "Memory (1)"),
+        (GroupFault::NamelessSignature, "NamelessSignature (2)"),
+        (GroupFault::BadFlags, "BadFlags (3)"),
+        (GroupFault::TwoGroups, "TwoGroups (4)"),
+    ] {
+        assert_eq!(rt; format!(in rt.alloc(); "{fault}")?.as_str(), text);
+    }
+    Ok(())
+}
+
+#[test]
 fn faults_of_images_and_maps_print_their_number(rt: HostRuntime) -> Result<(), Fail> {
     for (fault, text) in [
         (LoadFault::Memory, "Memory (1)"),
@@ -249,7 +262,9 @@ fn refusals_print_their_number(rt: HostRuntime) -> Result<(), Fail> {
         (LinkError::OverlappingFields, "OverlappingFields (14)"),
         (LinkError::Overflow, "Overflow (15)"),
         (LinkError::TlsMismatch, "TlsMismatch (16)"),
+        (LinkError::BadCommon, "BadCommon (17)"),
         (LinkError::NoEntry, "NoEntry (18)"),
+        (LinkError::MixedSection, "MixedSection (19)"),
         (LinkError::TooLarge, "TooLarge (20)"),
         (LinkError::BadSymbol, "BadSymbol (21)"),
         (LinkError::NotYet, "NotYet (22)"),
@@ -269,6 +284,8 @@ fn refused_memory_is_a_fault(rt: HostRuntime) {
     assert!(rt; matches!(CmdFault::from(AllocError), CmdFault::Memory));
     assert!(rt; matches!(CmdFault::from(no_room()), CmdFault::Memory));
     assert!(rt; matches!(ObjFault::from(AllocError), ObjFault::Memory));
+    assert!(rt; matches!(GroupFault::from(AllocError), GroupFault::Memory));
+    assert!(rt; matches!(GroupFault::from(no_room()), GroupFault::Memory));
     assert!(rt; matches!(LoadFault::from(AllocError), LoadFault::Memory));
     assert!(rt; matches!(MapFault::from(AllocError), MapFault::Memory));
     assert!(rt; matches!(&LinkError::from(AllocError), LinkError::Memory));

@@ -1,6 +1,5 @@
 //! Words of a command, and the files that its plan may read.
-use command::{CmdFault, Item, Plan, Source, candidates, file_named, path_of, read_words};
-use elf_model::InputFile;
+use command::{CmdFault, Item, Plan, Source, candidates, read_words};
 use std::alloc::{AllocError, Global};
 use std::process::Abort;
 use std::test::Fail;
@@ -29,22 +28,28 @@ fn fault(alloc: Global, line: &str) -> Result<u8, AllocError> {
     })
 }
 
+/// Lines, and the number of the fault that each has, or 0.
+static LINES: [(&str, u8); 13] = [
+    ("", 6),
+    ("a.o -o", 3),
+    ("-( a.o -)", 7),
+    ("a.o -( libx.a", 5),
+    ("a.o -( libx.a -( -)", 5),
+    ("a.o -)", 5),
+    ("a.o -Ttext-segment=0x1001", 4),
+    ("a.o -Ttext-segment=", 3),
+    ("-m elf_i386 a.o", 2),
+    ("-m elf_x86_64 -static -nostdlib a.o", 0),
+    ("a.o --check", 3),
+    ("a.o --check -Map=m", 0),
+    ("a.o -z now", 2),
+];
+
 #[test]
 fn faults(rt: HostRuntime) -> Result<(), Fail> {
-    let alloc = rt.alloc();
-    assert_eq!(rt; fault(alloc, "")?, 6);
-    assert_eq!(rt; fault(alloc, "a.o -o")?, 3);
-    assert_eq!(rt; fault(alloc, "-( a.o -)")?, 7);
-    assert_eq!(rt; fault(alloc, "a.o -( libx.a")?, 5);
-    assert_eq!(rt; fault(alloc, "a.o -( libx.a -( -)")?, 5);
-    assert_eq!(rt; fault(alloc, "a.o -)")?, 5);
-    assert_eq!(rt; fault(alloc, "a.o -Ttext-segment=0x1001")?, 4);
-    assert_eq!(rt; fault(alloc, "a.o -Ttext-segment=")?, 3);
-    assert_eq!(rt; fault(alloc, "-m elf_i386 a.o")?, 2);
-    assert_eq!(rt; fault(alloc, "-m elf_x86_64 -static -nostdlib a.o")?, 0);
-    assert_eq!(rt; fault(alloc, "a.o --check")?, 3);
-    assert_eq!(rt; fault(alloc, "a.o --check -Map=m")?, 0);
-    assert_eq!(rt; fault(alloc, "a.o -z now")?, 2);
+    for (line, number) in LINES {
+        assert_eq!(rt; fault(rt.alloc(), line)?, number, "{line}");
+    }
     Ok(())
 }
 
@@ -113,31 +118,5 @@ fn candidate_files(rt: HostRuntime) -> Result<(), Fail> {
     assert_eq!(rt; files.len(), 3);
     let names = [files[0].as_str(), files[1].as_str(), files[2].as_str()];
     assert_eq!(rt; names, ["a.o", "d1/libx.a", "d2/libx.a"]);
-    Ok(())
-}
-
-#[test]
-fn the_first_file_of_a_name_counts(rt: HostRuntime) -> Result<(), Fail> {
-    let alloc = rt.alloc();
-    let mut files = Vec::new(alloc);
-    for (name, byte) in [("a.o", 1), ("b.o", 2), ("a.o", 3)] {
-        files.push(InputFile {
-            name: String::from_str(alloc, name)?,
-            bytes: Vec::from_slice(alloc, &[byte])?,
-        })?;
-    }
-    assert!(rt; file_named(&files, "a.o") == Some([1].as_slice()));
-    assert!(rt; file_named(&files, "b.o") == Some([2].as_slice()));
-    assert!(rt; file_named(&files, "c.o").is_none());
-    Ok(())
-}
-
-#[test]
-fn libraries_have_no_path(rt: HostRuntime) -> Result<(), Fail> {
-    let words = words(rt.alloc(), "d/a.o -lx")?;
-    let plan = read_words(rt.alloc(), &words)?;
-    assert_eq!(rt; plan.items.len(), 2);
-    assert_eq!(rt; path_of(&plan.items[0]), "d/a.o");
-    assert_eq!(rt; path_of(&plan.items[1]), "");
     Ok(())
 }

@@ -4,7 +4,7 @@ use Rattle.std.specs.Prelude.{All, Any, None}
 use Rattle.std.proofs.lemmas.List.Elements.{All-append, All-cons, All-nil, Contains-append_left, Contains-append_right}
 use Rattle.elf_model.proofs.Finding.{Any-here}
 use Rattle.elf_model.proofs.Pairs.{AllPairs-append, AllPairs-nil, AllPairs-parts}
-use Rattle.elf_model.specs.Causes.{IsToDropped, IsUndefinedName}
+use Rattle.elf_model.specs.Causes.{IsToDropped, IsToMixed, IsUndefinedName}
 use Rattle.elf_model.specs.Loading.{LoadedObject}
 use Rattle.elf_model.specs.Relocation.{AreFieldsApart, IsFieldInside, IsLawfulRelocation, IsThreadMismatch, Relocation, relocation_kind}
 use Rattle.relocate.specs.declared.faults.RelocFault.{RelocFault}
@@ -26,6 +26,7 @@ fail_first objects r rs error.RelocKind f = Any-here (λ (t : Relocation). reloc
 fail_first objects r rs error.FieldOutside f = Any-here (λ (t : Relocation). ¬ IsFieldInside t) r rs f
 fail_first objects r rs error.OverlappingFields f = absurd f
 fail_first objects r rs error.TlsMismatch f = Any-here (IsThreadMismatch objects) r rs f
+fail_first objects r rs error.MixedSection f = Any-here (IsToMixed objects) r rs f
 fail_first objects r rs _ f = absurd f
 
 pub fail_left : (objects : List LoadedObject) (xs ys : List Relocation) (e : RelocFault) → RelocationsFail objects xs e → RelocationsFail objects (xs ++ ys) e
@@ -36,6 +37,7 @@ fail_left objects xs ys error.RelocKind f = Any-left (λ (t : Relocation). reloc
 fail_left objects xs ys error.FieldOutside f = Any-left (λ (t : Relocation). ¬ IsFieldInside t) xs ys f
 fail_left objects xs ys error.OverlappingFields f = λ pairs. f (AllPairs-parts AreFieldsApart xs ys pairs).0
 fail_left objects xs ys error.TlsMismatch f = Any-left (IsThreadMismatch objects) xs ys f
+fail_left objects xs ys error.MixedSection f = Any-left (IsToMixed objects) xs ys f
 fail_left objects xs ys _ f = absurd f
 
 pub fail_right : (objects : List LoadedObject) (xs ys : List Relocation) (e : RelocFault) → RelocationsFail objects ys e → RelocationsFail objects (xs ++ ys) e
@@ -46,6 +48,7 @@ fail_right objects xs ys error.RelocKind f = Any-right (λ (t : Relocation). rel
 fail_right objects xs ys error.FieldOutside f = Any-right (λ (t : Relocation). ¬ IsFieldInside t) xs ys f
 fail_right objects xs ys error.OverlappingFields f = λ pairs. f (AllPairs-parts AreFieldsApart xs ys pairs).1
 fail_right objects xs ys error.TlsMismatch f = Any-right (IsThreadMismatch objects) xs ys f
+fail_right objects xs ys error.MixedSection f = Any-right (IsToMixed objects) xs ys f
 fail_right objects xs ys _ f = absurd f
 
 -- rest is left to judge of the whole

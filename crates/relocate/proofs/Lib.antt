@@ -1,5 +1,6 @@
 pub mod Fitted
 pub mod Judged
+mod LoadedObjects
 pub mod KindRows
 pub mod ObjectFields
 pub mod ObjectRows
@@ -10,3 +11,4 @@ pub mod Rows
 pub mod Spelled
 pub mod ThreadSums
 pub mod Wanted
+pub mod LinkerMeanings

@@ -10,7 +10,7 @@ use Rattle.std.proofs.lemmas.List.Folds.{find-append}
 use Rattle.std.proofs.lemmas.Option.{none-some, same_Some}
 use Rattle.elf_model.specs.Loading.{LoadedObject}
 use Rattle.elf_model.specs.Pieces.{Piece}
-use Rattle.elf_model.specs.Placement.{Placed}
+use Rattle.elf_model.specs.Placement.{Where}
 use Rattle.elf_model.specs.Relocation.{Relocation, is_in_field, relocations, relocations_from, relocations_of}
 use Rattle.elf_model.specs.WantedBytes.{byte_or_field, wanted_byte}
 use Rattle.elf_model.proofs.Found.{or_none}
@@ -31,7 +31,7 @@ pub record IsPart (k : ℕ) (own whole : List Relocation) : Type 0 where
 
 pub own_part :
     (k n i : ℕ) (os : List LoadedObject) (o : LoadedObject) → k ≡ n + i → slice_get os i ≡ Some o →
-    IsPart k (relocations_from k o.bytes) (relocations_of n os)
+    IsPart k (relocations_from k o) (relocations_of n os)
 own_part k n i [] o at there = absurd (none-some o there)
 own_part k n zero (x ∷ os) o at there =
     let same : n ≡ k = omega (arith, at) in
@@ -39,8 +39,8 @@ own_part k n zero (x ∷ os) o at there =
       front = [];
       back = relocations_of (n + 1) os;
       parts =
-          ap (λ (m : ℕ). relocations_from m x.bytes ++ relocations_of (n + 1) os) same
-          ∙ ap (λ (y : LoadedObject). relocations_from k y.bytes ++ relocations_of (n + 1) os) (same_Some x o there);
+          ap (λ (m : ℕ). relocations_from m x ++ relocations_of (n + 1) os) same
+          ∙ ap (λ (y : LoadedObject). relocations_from k y ++ relocations_of (n + 1) os) (same_Some x o there);
       before = All-nil (λ (r : Relocation). r.object ≡ k → ⊥);
       behind =
           All-weaker (λ (r : Relocation). n + 1 ≤ r.object) (λ (r : Relocation). r.object ≡ k → ⊥) (λ r later e. omega (arith, later, e, same))
@@ -48,16 +48,16 @@ own_part k n zero (x ∷ os) o at there =
     }
 own_part k n (suc i) (x ∷ os) o at there =
     let p = own_part k (n + 1) i os o (omega (arith, at)) there in
-    let here = relocations_from n x.bytes in
+    let here = relocations_from n x in
     record {
       front = here ++ p.front;
       back = p.back;
       parts =
           ap (λ (rs : List Relocation). here ++ rs) p.parts
-          ∙ sym (append_assoc here p.front (relocations_from k o.bytes ++ p.back));
+          ∙ sym (append_assoc here p.front (relocations_from k o ++ p.back));
       before =
           All-append (λ (r : Relocation). r.object ≡ k → ⊥) here p.front
-          (All-weaker (λ (r : Relocation). r.object ≡ n) (λ (r : Relocation). r.object ≡ k → ⊥) (λ r is e. omega (arith, is, e, at)) here (own_object n x.bytes))
+          (All-weaker (λ (r : Relocation). r.object ≡ n) (λ (r : Relocation). r.object ≡ k → ⊥) (λ r is e. omega (arith, is, e, at)) here (own_object n x))
           p.before;
       behind = p.behind;
     }
@@ -86,18 +86,18 @@ found_own k s j own whole p =
 
 -- a byte of a piece with the patches of its own object's relocations over it is the wanted one
 same_byte :
-    (objects : List LoadedObject) (ps : List Placed) (p : Piece) (base : List ℕ) (j : ℕ) (o : Option Relocation) → p.bytes ≡ base →
-    byte_of base j (option_map (patch_of objects ps) o) ≡ byte_or_field objects ps p j o
-same_byte objects ps p base j None e = ap (λ (bs : List ℕ). slice_index bs j) (sym e)
-same_byte objects ps p base j (Some r) e = refl
+    (objects : List LoadedObject) (w : Where) (p : Piece) (base : List ℕ) (j : ℕ) (o : Option Relocation) → p.bytes ≡ base →
+    byte_of base j (option_map (patch_of objects w) o) ≡ byte_or_field objects w p j o
+same_byte objects w p base j None e = ap (λ (bs : List ℕ). slice_index bs j) (sym e)
+same_byte objects w p base j (Some r) e = refl
 
 pub own_byte :
-    (objects : List LoadedObject) (ps : List Placed) (p : Piece) (k s j : ℕ) (base : List ℕ) (own : List Relocation) →
+    (objects : List LoadedObject) (w : Where) (p : Piece) (k s j : ℕ) (base : List ℕ) (own : List Relocation) →
     IsPart k own (relocations objects) → p.object ≡ k → p.section ≡ s → p.bytes ≡ base →
-    byte_of base j (option_map (patch_of objects ps) (find (is_in_field k s j) own)) ≡ wanted_byte objects ps p j
-own_byte objects ps p k s j base own part a b e =
+    byte_of base j (option_map (patch_of objects w) (find (is_in_field k s j) own)) ≡ wanted_byte objects w p j
+own_byte objects w p k s j base own part a b e =
     let rs = relocations objects in
-    same_byte objects ps p base j (find (is_in_field k s j) own) e
-    ∙ ap (byte_or_field objects ps p j)
+    same_byte objects w p base j (find (is_in_field k s j) own) e
+    ∙ ap (byte_or_field objects w p j)
     (sym (found_own k s j own rs part)
     ∙ (ap (λ (m : ℕ). find (is_in_field m s j) rs) (sym a) ∙ ap (λ (m : ℕ). find (is_in_field p.object m j) rs) (sym b)))

@@ -4,3 +4,4 @@ pub mod Patches
 pub mod References
 pub mod Values
 pub mod PatchTables
+pub mod Uses

@@ -1,28 +1,43 @@
 -- What is asked of relocations, and why they are refused.
-use Rattle.std.specs.Prelude.{◌≡◌, ◌==◌, ℕ, false, true, cond, List, Option, None, Some, All, AllPairs, Any, IsSomeAnd, option_map}
+use Rattle.std.specs.Prelude.{◌≡◌, ◌≢◌, ◌==◌, ◌&&◌, ℕ, Bool, false, true, cond, List, [], Option, None, Some, All, AllPairs, Any, IsSomeAnd, codes, slice_index_or, unwrap_or}
 use Rattle.std.specs.List.{slice_get}
-use Rattle.elf_model.specs.Causes.{IsToDropped, IsUndefinedName}
-use Rattle.elf_model.specs.Loading.{LoadedObject}
-use Rattle.elf_model.specs.ObjectFile.{sections}
-use Rattle.elf_model.specs.Pieces.{is_alloc}
+use Rattle.std.specs.Str.{bytes_eq}
+use Rattle.elf_model.specs.Causes.{IsToDropped, IsToMixed, IsUndefinedName}
+use Rattle.elf_model.specs.Loading.{LoadedObject, is_dropped}
+use Rattle.elf_model.specs.ObjectFile.{null_symbol, section_name, sections, symbols}
+use Rattle.elf_model.specs.Meaning.{Meaning}
+use Rattle.elf_model.specs.Pieces.{is_kept}
 use Rattle.elf_model.specs.Relocation.{AreFieldsApart, IsFieldInside, IsLawfulRelocation, IsThreadMismatch, Relocation, relocation_kind, relocations}
 use Rattle.elf_model.specs.Resolution.{binding, is_undefined}
 use Rattle.relocate.specs.declared.faults.RelocFault.{RelocFault}
 use Rattle.relocate.specs.declared.faults.RelocFault.TheVariants as error
+use Rattle.elf_model.specs.declared.constants.TheConstants.{STB_WEAK}
 use Rattle.elf_model.specs.declared.records.SectionHeader.{SectionHeader}
 use Rattle.elf_model.specs.declared.records.Symbol.{Symbol}
 
--- object number k of the objects has these bytes
-abbrev pub IsObjectAt : List LoadedObject → ℕ → List ℕ → Type 0
-IsObjectAt objects k bytes = option_map (λ o. o.bytes) (slice_get objects k) ≡ Some bytes
+-- object number k of the objects
+abbrev pub IsObjectAt : List LoadedObject → ℕ → LoadedObject → Type 0
+IsObjectAt objects k o = slice_get objects k ≡ Some o
 
 -- the section of an object in which a symbol of it is defined
 abbrev pub section_in : List ℕ → Symbol → Option SectionHeader
 section_in bytes s = cond (is_undefined s) None (slice_get (sections bytes) s.st_shndx)
 
--- a LOCAL symbol of an object stands in a section that isn't kept
-abbrev pub StandsInDropped : List ℕ → Symbol → Type 0
-StandsInDropped bytes s = ((binding s == 0) ≡ true) × IsSomeAnd (section_in bytes s) (λ h. is_alloc h ≡ false)
+-- a symbol of an object stands in a dropped section, and section k of it has the name .eh_frame
+abbrev pub is_frame_of : LoadedObject → ℕ → Symbol → Bool
+is_frame_of o k s = is_dropped o s.st_shndx && bytes_eq (unwrap_or (section_name o.bytes k) []) (codes ".eh_frame")
+
+-- a LOCAL symbol of an object stands in a section that isn't kept, and section k of it, which refers to that, isn't
+-- a frame of it
+abbrev pub StandsInDropped : LoadedObject → ℕ → Symbol → Type 0
+StandsInDropped o k s =
+    ((binding s == 0) ≡ true)
+    × (is_frame_of o k s ≡ false)
+    × IsSomeAnd (section_in o.bytes s) (λ h. is_kept o s.st_shndx h ≡ false)
+
+-- symbol j of an object needs a definition, and has none
+abbrev pub LacksDefinition : List ℕ → ℕ → Option Meaning → Type 0
+LacksDefinition bytes j definition = (j ≢ 0) × (binding (slice_index_or (symbols bytes) j null_symbol) ≢ STB_WEAK) × (definition ≡ None)
 
 -- what is asked of relocations: each is lawful, and their fields are apart
 pub record AreLawful (objects : List LoadedObject) (rs : List Relocation) : Type 0 where
@@ -43,6 +58,7 @@ RelocationFails objects r error.RefToDropped = IsToDropped objects r
 RelocationFails objects r error.RelocKind = relocation_kind r ≡ None
 RelocationFails objects r error.FieldOutside = ¬ IsFieldInside r
 RelocationFails objects r error.TlsMismatch = IsThreadMismatch objects r
+RelocationFails objects r error.MixedSection = IsToMixed objects r
 RelocationFails objects r _ = ⊥
 
 -- why relocations aren't lawful
@@ -54,6 +70,7 @@ RelocationsFail objects rs error.RelocKind = Any (λ r. relocation_kind r ≡ No
 RelocationsFail objects rs error.FieldOutside = Any (λ r. ¬ IsFieldInside r) rs
 RelocationsFail objects rs error.OverlappingFields = ¬ AllPairs AreFieldsApart rs
 RelocationsFail objects rs error.TlsMismatch = Any (IsThreadMismatch objects) rs
+RelocationsFail objects rs error.MixedSection = Any (IsToMixed objects) rs
 RelocationsFail objects rs _ = ⊥
 
 abbrev pub ReferencesFail : List LoadedObject → RelocFault → Type 0

@@ -6,7 +6,7 @@ ghost use Rattle.elf_model.specs.Pieces.{Piece};
 ghost use Rattle.elf_model.specs.Resolution.{sections_of_object};
 ghost use Rattle.elf_model.specs.WantedBytes.{wanted_byte};
 ghost use Rattle.relocate.specs.PatchTables.{ArePatchesOf};
-ghost use Rattle.relocate.specs.Values.{ArePatches, placed_in, row_in};
+ghost use Rattle.relocate.specs.Values.{ArePatches, where_in, row_in};
 
 use crate::patch::{Patch, write_all};
 use layout::Placement;
@@ -71,7 +71,7 @@ impl<'p, 'a> Patches<'p, 'a> {
     /// the wanted one.
     pub fn apply(&self, object: usize, section: usize, bytes: &mut [u8])
         requires { length bytes.old ≡ (object_file.section (sections_of_object (slice_get self.now.objects object)) section).sh_size }
-        ensures { (p : Piece) → p.object ≡ object → p.section ≡ section → p.bytes ≡ bytes.old → bytes.new ≡ map (wanted_byte self.now.objects (placed_in self.now) p) (range_with_len 0 (length bytes.old)) }
+        ensures { (p : Piece) → p.object ≡ object → p.section ≡ section → p.bytes ≡ bytes.old → bytes.new ≡ map (wanted_byte self.now.objects (where_in self.now) p) (range_with_len 0 (length bytes.old)) }
     {
         write_all(row_in(&self.table.rows, object, section), bytes);
     }

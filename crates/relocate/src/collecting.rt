@@ -1,28 +1,20 @@
 //! The patches of an object, by the sections that they are for.
 ghost use Rattle.std.specs.Prelude.{◌≡◌, ◌++◌, [], All, IfErr, IfOk, IsSome, OnOk, filter, length, map};
-ghost use Rattle.elf_model.specs.Relocation.{Fits, is_some_kind, relocation_kind, relocation_of, relocations_from, section_address};
+ghost use Rattle.elf_model.specs.Pieces.{AreLawfulKinds};
+ghost use Rattle.elf_model.specs.Relocation.{Fits, is_some_kind, relocation_kind, relocation_of, relocations_from};
+ghost use Rattle.search.specs.Views.{loaded_view};
 ghost use Rattle.relocate.specs.References.{IsObjectAt};
-ghost use Rattle.relocate.specs.Values.{ArePatchRows, FittingFails, IsRowCount, patch_of, placed_in, rows_for};
+ghost use Rattle.relocate.specs.Values.{ArePatchRows, FittingFails, IsRowCount, patch_of, where_in, rows_for};
 
 use crate::faults::RelocFault;
 use crate::patch::Patch;
-use crate::targets::{entries_of, is_kept_rela, is_some_kind};
-use crate::values::patch;
+use crate::targets::{entries_of, is_some_kind};
+use crate::values::{address_or_none, patch};
 use elf_model::{Rela, SectionHeader};
-use elf_read::Object;
 use layout::Placement;
 use resolve::Resolved;
+use search::Loaded;
 use std::alloc::{AllocError, Global};
-
-/// The address of a section of an object, 0 where it isn't kept.
-fn address_or_none(placement: &Placement<'_, '_>, number: usize, target: usize) -> u64
-    ensures { result ≡ section_address (placed_in placement.now) number target }
-{
-    match placement.address(number, target) {
-        Some(at) => at,
-        None => 0,
-    }
-}
 
 /// Adds the patches of entries of known kinds that relocate the section `target`. Overflow where a value
 /// doesn't fit.
@@ -30,16 +22,17 @@ fn add_patches(
     resolved: &Resolved<'_, '_>,
     placement: &Placement<'_, '_>,
     number: usize,
-    object: &Object<'_>,
+    loaded: &Loaded<'_>,
     target: u64,
     entries: &[Rela],
     row: &mut Vec<Patch>,
 ) -> Result<(), RelocFault>
-    requires here { IsObjectAt resolved.now number object.now }
-    requires known { All (λ r. IsSome (relocation_kind r)) (map (relocation_of number object.now target) (filter is_some_kind entries.now)) }
-    ensures patches { OnOk result (row.new.items ≡ row.old.items ++ map (patch_of resolved.now (placed_in placement.now)) (map (relocation_of number object.now target) (filter is_some_kind entries.now))) }
-    ensures fit { OnOk result (All (Fits resolved.now (placed_in placement.now)) (map (relocation_of number object.now target) (filter is_some_kind entries.now))) }
-    ensures fault { IfErr result (FittingFails resolved.now (placed_in placement.now) (map (relocation_of number object.now target) (filter is_some_kind entries.now))) }
+    requires kinds { AreLawfulKinds placement.now.objects }
+    requires here { IsObjectAt resolved.now number (loaded_view loaded.now) }
+    requires known { All (λ r. IsSome (relocation_kind r)) (map (relocation_of number (loaded_view loaded.now) target) (filter is_some_kind entries.now)) }
+    ensures patches { OnOk result (row.new.items ≡ row.old.items ++ map (patch_of resolved.now (where_in placement.now)) (map (relocation_of number (loaded_view loaded.now) target) (filter is_some_kind entries.now))) }
+    ensures fit { OnOk result (All (Fits resolved.now (where_in placement.now)) (map (relocation_of number (loaded_view loaded.now) target) (filter is_some_kind entries.now))) }
+    ensures fault { IfErr result (FittingFails resolved.now (where_in placement.now) (map (relocation_of number (loaded_view loaded.now) target) (filter is_some_kind entries.now))) }
 {
     let at = address_or_none(placement, number, target as usize);
     row.reserve(entries.len())?;
@@ -48,7 +41,7 @@ fn add_patches(
         if !is_some_kind(&entry) {
             continue;
         }
-        let Some(patch) = patch(resolved, placement, number, object, target, at, &entry) else {
+        let Some(patch) = patch(resolved, placement, number, loaded, target, at, &entry) else {
             return Err(RelocFault::Overflow);
         };
         row.push(patch)?;
@@ -68,12 +61,12 @@ fn empty_rows(alloc: Global, count: usize) -> Result<Vec<Vec<Patch>>, AllocError
     Ok(rows)
 }
 
-/// How many rows the section with the header asks for: as far as the section that it relocates, where this is
+/// How many rows section `i`, which has the header, asks for: as far as the section that it relocates, where this is
 /// kept, else none.
-fn rows_for(object: &Object<'_>, header: &SectionHeader) -> usize
-    ensures { result ≡ rows_for object.now header.now }
+fn rows_for(loaded: &Loaded<'_>, i: usize, header: &SectionHeader) -> usize
+    ensures { result ≡ rows_for (loaded_view loaded.now) i header.now }
 {
-    if is_kept_rela(object, header) {
+    if loaded.is_kept_rela(i, header) {
         header.sh_info as usize + 1
     } else {
         0
@@ -81,13 +74,13 @@ fn rows_for(object: &Object<'_>, header: &SectionHeader) -> usize
 }
 
 /// How many rows an object's patches take: as far as its last section that is kept and relocated.
-fn row_count(object: &Object<'_>) -> usize
-    ensures { IsRowCount object.now result }
+fn row_count(loaded: &Loaded<'_>) -> usize
+    ensures { IsRowCount (loaded_view loaded.now) result }
 {
     let mut count = 0;
-    let headers = object.sections();
+    let headers = loaded.object.sections();
     for i in 0..headers.len() {
-        count = rows_for(object, &headers[i]).max(count);
+        count = rows_for(loaded, i, &headers[i]).max(count);
     }
     count
 }
@@ -99,31 +92,32 @@ pub fn object_patches(
     resolved: &Resolved<'_, '_>,
     placement: &Placement<'_, '_>,
     number: usize,
-    object: &Object<'_>,
+    loaded: &Loaded<'_>,
 ) -> Result<Vec<Vec<Patch>>, RelocFault>
-    requires here { IsObjectAt resolved.now number object.now }
-    requires known { All (λ r. IsSome (relocation_kind r)) (relocations_from number object.now) }
-    ensures rows { IfOk result (λ v. ArePatchRows resolved.now (placed_in placement.now) (relocations_from number object.now) v.items) }
-    ensures count { IfOk result (λ v. IsRowCount object.now (length v.items)) }
-    ensures fit { OnOk result (All (Fits resolved.now (placed_in placement.now)) (relocations_from number object.now)) }
-    ensures fault { IfErr result (FittingFails resolved.now (placed_in placement.now) (relocations_from number object.now)) }
+    requires kinds { AreLawfulKinds placement.now.objects }
+    requires here { IsObjectAt resolved.now number (loaded_view loaded.now) }
+    requires known { All (λ r. IsSome (relocation_kind r)) (relocations_from number (loaded_view loaded.now)) }
+    ensures rows { IfOk result (λ v. ArePatchRows resolved.now (where_in placement.now) (relocations_from number (loaded_view loaded.now)) v.items) }
+    ensures count { IfOk result (λ v. IsRowCount (loaded_view loaded.now) (length v.items)) }
+    ensures fit { OnOk result (All (Fits resolved.now (where_in placement.now)) (relocations_from number (loaded_view loaded.now))) }
+    ensures fault { IfErr result (FittingFails resolved.now (where_in placement.now) (relocations_from number (loaded_view loaded.now))) }
 {
-    let count = row_count(object);
+    let count = row_count(loaded);
     let mut rows = empty_rows(alloc, count)?;
-    let headers = object.sections();
+    let headers = loaded.object.sections();
     for i in 0..headers.len() {
         let header = headers[i];
-        if !is_kept_rela(object, &header) {
+        if !loaded.is_kept_rela(i, &header) {
             continue;
         }
-        let entries = entries_of(object, i, &header);
+        let entries = entries_of(&loaded.object, i, &header);
         let target = header.sh_info as usize;
         let row = &mut rows[target];
         add_patches(
             resolved,
             placement,
             number,
-            object,
+            loaded,
             target as u64,
             entries,
             row,

@@ -24,6 +24,8 @@ pub enum RelocFault {
     Overflow,
     #[error("TlsMismatch (8)")]
     TlsMismatch,
+    #[error("MixedSection (9)")]
+    MixedSection,
 }
 
 impl From<AllocError> for RelocFault {

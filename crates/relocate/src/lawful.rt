@@ -3,25 +3,27 @@ ghost use Rattle.std.specs.Prelude.{◌≡◌, ◌++◌, All, IfErr, IfOk, OnOk,
 ghost use Rattle.std.specs.List.{slice_get};
 ghost use Rattle.elf_model.specs.ObjectFile.{relas_of, section, sections};
 ghost use Rattle.elf_model.specs.Relocation.{AreLawfulRelocations, IsLawfulRelocation, is_some_kind, relocation_of, relocations_from, relocations_in};
+ghost use Rattle.layout.specs.Mixed.{AreMixed};
 ghost use Rattle.relocate.specs.Fields.{field_of};
 ghost use Rattle.relocate.specs.References.{AreLawful, IsObjectAt, ReferencesFail, RelocationsFail};
-ghost use Rattle.search.specs.Views.{loaded_views};
+ghost use Rattle.search.specs.Views.{loaded_view, loaded_views};
 
 use crate::faults::RelocFault;
 use crate::fields::{Field, are_apart};
 use crate::judging::lawful_field;
-use crate::targets::{entries_of, is_kept_rela, is_some_kind, size_at};
+use crate::targets::{entries_of, is_some_kind, size_at};
 use elf_model::{Rela, SectionHeader};
-use elf_read::Object;
+use layout::mixed_names;
 use resolve::Resolved;
 use search::Loaded;
 use std::alloc::Global;
+use std::collections::BTreeSet;
 
 /// Judges the kept relocations of all objects.
 ///
 /// # Errors
 ///
-/// RelocKind, Undefined, RefToDropped, TlsMismatch and FieldOutside where one of them isn't lawful,
+/// RelocKind, Undefined, RefToDropped, TlsMismatch, FieldOutside and MixedSection where one of them isn't lawful,
 /// OverlappingFields where a byte lies in the fields of two, Memory where memory is refused.
 pub fn references(
     alloc: Global,
@@ -32,8 +34,9 @@ pub fn references(
     ensures lawful { OnOk result (AreLawfulRelocations (loaded_views objects.now)) }
     ensures fault { IfErr result (ReferencesFail (loaded_views objects.now)) }
 {
+    let mixed = mixed_names(alloc, objects)?;
     for k in 0..objects.len() {
-        judge_object(alloc, resolved, k, &objects[k].object)?;
+        judge_object(alloc, resolved, &mixed, k, &objects[k])?;
     }
     Ok(())
 }
@@ -42,14 +45,16 @@ pub fn references(
 fn judge_object(
     alloc: Global,
     resolved: &Resolved<'_, '_>,
+    mixed: &BTreeSet<&[u8]>,
     number: usize,
-    object: &Object<'_>,
+    loaded: &Loaded<'_>,
 ) -> Result<(), RelocFault>
-    requires { IsObjectAt resolved.now number object.now }
-    ensures lawful { OnOk result (AreLawful resolved.now (relocations_from number object.now)) }
-    ensures fault { IfErr result (RelocationsFail resolved.now (relocations_from number object.now)) }
+    requires here { IsObjectAt resolved.now number (loaded_view loaded.now) }
+    requires mixed { AreMixed resolved.now mixed.now }
+    ensures lawful { OnOk result (AreLawful resolved.now (relocations_from number (loaded_view loaded.now))) }
+    ensures fault { IfErr result (RelocationsFail resolved.now (relocations_from number (loaded_view loaded.now))) }
 {
-    let fields = lawful_fields(alloc, resolved, number, object)?;
+    let fields = lawful_fields(alloc, resolved, mixed, number, loaded)?;
     if !are_apart(fields)? {
         return Err(RelocFault::OverlappingFields);
     }
@@ -60,22 +65,33 @@ fn judge_object(
 fn lawful_fields(
     alloc: Global,
     resolved: &Resolved<'_, '_>,
+    mixed: &BTreeSet<&[u8]>,
     number: usize,
-    object: &Object<'_>,
+    loaded: &Loaded<'_>,
 ) -> Result<Vec<Field>, RelocFault>
-    requires { IsObjectAt resolved.now number object.now }
-    ensures fields { IfOk result (λ v. v.items ≡ map field_of (relocations_from number object.now)) }
-    ensures lawful { OnOk result (All (IsLawfulRelocation resolved.now) (relocations_from number object.now)) }
-    ensures fault { IfErr result (RelocationsFail resolved.now (relocations_from number object.now)) }
+    requires here { IsObjectAt resolved.now number (loaded_view loaded.now) }
+    requires mixed { AreMixed resolved.now mixed.now }
+    ensures fields { IfOk result (λ v. v.items ≡ map field_of (relocations_from number (loaded_view loaded.now))) }
+    ensures lawful { OnOk result (All (IsLawfulRelocation resolved.now) (relocations_from number (loaded_view loaded.now))) }
+    ensures fault { IfErr result (RelocationsFail resolved.now (relocations_from number (loaded_view loaded.now))) }
 {
     let mut fields = Vec::new(alloc);
-    let headers = object.sections();
+    let headers = loaded.object.sections();
     for i in 0..headers.len() {
         let header = headers[i];
-        if !is_kept_rela(object, &header) {
+        if !loaded.is_kept_rela(i, &header) {
             continue;
         }
-        add_section(alloc, resolved, number, object, i, &header, &mut fields)?;
+        add_section(
+            alloc,
+            resolved,
+            mixed,
+            number,
+            loaded,
+            i,
+            &header,
+            &mut fields,
+        )?;
     }
     Ok(fields)
 }
@@ -84,25 +100,28 @@ fn lawful_fields(
 fn add_section(
     alloc: Global,
     resolved: &Resolved<'_, '_>,
+    mixed: &BTreeSet<&[u8]>,
     number: usize,
-    object: &Object<'_>,
+    loaded: &Loaded<'_>,
     i: usize,
     header: &SectionHeader,
     fields: &mut Vec<Field>,
 ) -> Result<(), RelocFault>
-    requires here { IsObjectAt resolved.now number object.now }
-    requires there { slice_get (sections object.now) i ≡ Some header.now }
+    requires here { IsObjectAt resolved.now number (loaded_view loaded.now) }
+    requires mixed { AreMixed resolved.now mixed.now }
+    requires there { slice_get (sections loaded.now.object) i ≡ Some header.now }
     requires rela { header.now.sh_type ≡ 4 }
-    ensures fields { OnOk result (fields.new.items ≡ fields.old.items ++ map field_of (relocations_in number object.now header.now)) }
-    ensures lawful { OnOk result (All (IsLawfulRelocation resolved.now) (relocations_in number object.now header.now)) }
-    ensures fault { IfErr result (RelocationsFail resolved.now (relocations_in number object.now header.now)) }
+    ensures fields { OnOk result (fields.new.items ≡ fields.old.items ++ map field_of (relocations_in number (loaded_view loaded.now) header.now)) }
+    ensures lawful { OnOk result (All (IsLawfulRelocation resolved.now) (relocations_in number (loaded_view loaded.now) header.now)) }
+    ensures fault { IfErr result (RelocationsFail resolved.now (relocations_in number (loaded_view loaded.now) header.now)) }
 {
-    let entries = entries_of(object, i, header);
+    let entries = entries_of(&loaded.object, i, header);
     add_fields(
         alloc,
         resolved,
+        mixed,
         number,
-        object,
+        loaded,
         header.sh_info as u64,
         entries,
         fields,
@@ -113,25 +132,27 @@ fn add_section(
 fn add_fields(
     alloc: Global,
     resolved: &Resolved<'_, '_>,
+    mixed: &BTreeSet<&[u8]>,
     number: usize,
-    object: &Object<'_>,
+    loaded: &Loaded<'_>,
     target: u64,
     entries: &[Rela],
     fields: &mut Vec<Field>,
 ) -> Result<(), RelocFault>
-    requires { IsObjectAt resolved.now number object.now }
-    ensures fields { OnOk result (fields.new.items ≡ fields.old.items ++ map field_of (map (relocation_of number object.now target) (filter is_some_kind entries.now))) }
-    ensures lawful { OnOk result (All (IsLawfulRelocation resolved.now) (map (relocation_of number object.now target) (filter is_some_kind entries.now))) }
-    ensures fault { IfErr result (RelocationsFail resolved.now (map (relocation_of number object.now target) (filter is_some_kind entries.now))) }
+    requires here { IsObjectAt resolved.now number (loaded_view loaded.now) }
+    requires mixed { AreMixed resolved.now mixed.now }
+    ensures fields { OnOk result (fields.new.items ≡ fields.old.items ++ map field_of (map (relocation_of number (loaded_view loaded.now) target) (filter is_some_kind entries.now))) }
+    ensures lawful { OnOk result (All (IsLawfulRelocation resolved.now) (map (relocation_of number (loaded_view loaded.now) target) (filter is_some_kind entries.now))) }
+    ensures fault { IfErr result (RelocationsFail resolved.now (map (relocation_of number (loaded_view loaded.now) target) (filter is_some_kind entries.now))) }
 {
-    let size = size_at(object, target as usize);
+    let size = size_at(&loaded.object, target as usize);
     fields.reserve(entries.len())?;
     for i in 0..entries.len() {
         let entry = entries[i];
         if !is_some_kind(&entry) {
             continue;
         }
-        let field = lawful_field(alloc, resolved, number, object, target, size, &entry)?;
+        let field = lawful_field(alloc, resolved, mixed, number, loaded, target, size, &entry)?;
         fields.push(field)?;
     }
     Ok(())

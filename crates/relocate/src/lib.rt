@@ -1,5 +1,6 @@
 //! Relocations (AMD64 psABI 4.4): whether the kept ones of the loaded objects are lawful, the values
-//! that they want at the linker's own places, and the writing of these into the bytes of a section.
+//! that they want at the linker's own places, the writing of these into the bytes of a section, and the linker's own
+//! names that they use.
 #![tactic(auto)]
 
 mod applying;
@@ -12,6 +13,7 @@ mod lawful;
 mod patch;
 mod patching;
 mod targets;
+mod uses;
 mod values;
 
 pub use applying::{PatchTable, Patches};
@@ -19,3 +21,4 @@ pub use faults::RelocFault;
 pub use kinds::{Formula, Kind, Range, Terms, fits, value};
 pub use lawful::references;
 pub use patching::patches;
+pub use uses::linker_lines;

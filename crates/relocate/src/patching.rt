@@ -1,6 +1,7 @@
 //! The patches of all objects.
 ghost use Rattle.std.specs.Prelude.{◌≡◌, IfErr, IfOk, OnOk};
 ghost use Rattle.elf_model.specs.OwnLayout.{OwnValuesFit};
+ghost use Rattle.elf_model.specs.Pieces.{AreLawfulKinds};
 ghost use Rattle.elf_model.specs.Relocation.{AreLawfulRelocations};
 ghost use Rattle.search.specs.Views.{loaded_views};
 ghost use Rattle.relocate.specs.PatchTables.{ArePatchesOf};
@@ -14,7 +15,7 @@ use resolve::Resolved;
 use search::Loaded;
 use std::alloc::Global;
 
-/// The patches of all objects, whose relocations are lawful, where they are laid out.
+/// The patches of all objects, whose sections' kinds and relocations are lawful, where they are laid out.
 ///
 /// # Errors
 ///
@@ -27,6 +28,7 @@ pub fn patches<'a>(
 ) -> Result<PatchTable, RelocFault>
     requires resolved { resolved.now ≡ loaded_views objects.now }
     requires placed { placement.now.objects ≡ loaded_views objects.now }
+    requires kinds { AreLawfulKinds (loaded_views objects.now) }
     requires lawful { AreLawfulRelocations (loaded_views objects.now) }
     ensures table { IfOk result (ArePatchesOf placement.now) }
     ensures fit { OnOk result (OwnValuesFit placement.now.base placement.now.objects) }
@@ -34,7 +36,7 @@ pub fn patches<'a>(
 {
     let mut rows = Vec::with_capacity(alloc, objects.len())?;
     for k in 0..objects.len() {
-        let row = object_patches(alloc, resolved, placement, k, &objects[k].object)?;
+        let row = object_patches(alloc, resolved, placement, k, &objects[k])?;
         rows.push(row)?;
     }
     Ok(of_rows(placement, rows))

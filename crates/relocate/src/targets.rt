@@ -1,19 +1,26 @@
 //! What a relocation refers to, and what is asked of that: the symbols and sections of one object.
-ghost use Rattle.std.specs.Prelude.{◌≡◌, ◌↔◌, [], ◌==◌, IsSomeAnd, IsTrue, false, unwrap_or};
-ghost use Rattle.elf_model.specs.ObjectFile.{null_section, null_symbol, relas_of, section, sections, symbol_name, symbols};
-ghost use Rattle.elf_model.specs.Pieces as pieces;
-ghost use Rattle.elf_model.specs.Relocation.{IsUndefined, definition_of, is_kept_rela, is_some_kind, symbol_at};
-ghost use Rattle.elf_model.specs.Resolution.{binding, is_in_thread_section};
+ghost use Rattle.std.specs.Prelude.{◌≡◌, ◌↔◌, [], ◌==◌, List, IsSomeAnd, IsTrue, false, option_map, unwrap_or};
+ghost use Rattle.elf_model.specs.Meaning.{is_in_thread_storage};
+ghost use Rattle.elf_model.specs.ObjectFile.{null_section, null_symbol, relas_of, section, section_name, sections, symbol_name, symbols};
+ghost use Rattle.elf_model.specs.Pieces.{is_kept};
+ghost use Rattle.elf_model.specs.Loading.{LoadedObject};
+ghost use Rattle.elf_model.specs.Relocation.{IsMixed, IsMixedBound, definition_of, is_some_kind, symbol_at};
+ghost use Rattle.elf_model.specs.Resolution.{binding};
 ghost use Rattle.std.specs.Prelude.{Some, slice_index_or};
 ghost use Rattle.std.specs.List.{slice_get};
 ghost use Rattle.std.specs.Option.{option_map_or};
-ghost use Rattle.relocate.specs.References.{IsNamedUndefined, IsObjectAt, StandsInDropped, section_in};
+ghost use Rattle.search.specs.Views.{loaded_view};
+ghost use Rattle.resolve.specs.Views.{meaning_view};
+ghost use Rattle.layout.specs.Mixed.{AreMixed};
+ghost use Rattle.relocate.specs.References.{IsNamedUndefined, IsObjectAt, LacksDefinition, StandsInDropped, is_frame_of, section_in};
 
 use crate::faults::RelocFault;
-use elf_model::{Rela, SHN_UNDEF, SHT_RELA, STB_LOCAL, STB_WEAK, SectionHeader, Symbol};
+use elf_model::{Bound, Rela, SHN_UNDEF, STB_LOCAL, STB_WEAK, SectionHeader, Symbol};
 use elf_read::Object;
-use resolve::Resolved;
+use resolve::{Meaning, Resolved, named_output};
+use search::Loaded;
 use std::alloc::Global;
+use std::collections::BTreeSet;
 
 const NULL_SYMBOL: Symbol = Symbol {
     st_name: 0,
@@ -23,22 +30,6 @@ const NULL_SYMBOL: Symbol = Symbol {
     st_value: 0,
     st_size: 0,
 };
-
-fn is_alloc_at(object: &Object<'_>, number: usize) -> bool
-    ensures { result ≡ pieces.is_alloc (section (sections object.now) number) }
-{
-    match object.sections().get(number) {
-        Some(header) => header.is_alloc(),
-        None => false,
-    }
-}
-
-/// Whether a section holds relocations of one that is kept.
-pub fn is_kept_rela(object: &Object<'_>, header: &SectionHeader) -> bool
-    ensures { result ≡ is_kept_rela object.now header.now }
-{
-    header.sh_type == SHT_RELA && is_alloc_at(object, header.sh_info as usize)
-}
 
 /// The size of a section in bytes, 0 where there is no such section.
 pub fn size_at(object: &Object<'_>, number: usize) -> u64
@@ -92,21 +83,48 @@ fn section_of(object: &Object<'_>, entry: &Symbol) -> Option<SectionHeader>
     object.sections().get(entry.st_shndx as usize).copied()
 }
 
-fn stands_in_dropped(object: &Object<'_>, entry: &Symbol) -> bool
-    ensures { IsTrue result ↔ IsSomeAnd (section_in object.now entry.now) (λ h. pieces.is_alloc h ≡ false) }
+/// Whether a symbol of an object stands in a section that isn't kept.
+fn stands_in_dropped(loaded: &Loaded<'_>, entry: &Symbol) -> bool
+    ensures { IsTrue result ↔ IsSomeAnd (section_in loaded.now.object entry.now) (λ h. is_kept (loaded_view loaded.now) entry.now.st_shndx h ≡ false) }
 {
-    match section_of(object, entry) {
-        Some(header) => !header.is_alloc(),
+    match section_of(&loaded.object, entry) {
+        Some(header) => !loaded.is_kept(entry.st_shndx as usize, &header),
         None => false,
     }
 }
 
-/// Whether symbol `j` is a LOCAL one of a section that isn't kept.
-pub fn refers_to_dropped(object: &Object<'_>, j: usize) -> bool
-    ensures { IsTrue result ↔ StandsInDropped object.now (slice_index_or (symbols object.now) j null_symbol) }
+/// The name of a section, empty where there is no such section.
+fn section_name_at<'a>(object: &Object<'a>, number: usize) -> &'a [u8]
+    ensures { result.now ≡ unwrap_or (section_name object.now number) [] }
 {
-    let entry = symbol_entry(object, j);
-    entry.st_info / 16 == STB_LOCAL && stands_in_dropped(object, &entry)
+    match object.section_name(number) {
+        Some(name) => name,
+        None => &[],
+    }
+}
+
+/// The section of the frames of code, for unwinding (AMD64 psABI 4.2.4).
+const FRAME_SECTION: &[u8] = b".eh_frame";
+
+/// Whether a symbol of an object stands in a dropped section, and the section `target` holds frames: those of dropped
+/// code are left in it.
+fn is_frame_of(loaded: &Loaded<'_>, target: u64, entry: &Symbol) -> bool
+    ensures { result ≡ is_frame_of (loaded_view loaded.now) target entry.now }
+{
+    loaded.is_dropped(entry.st_shndx as usize)
+        && section_name_at(&loaded.object, target as usize) == FRAME_SECTION
+}
+
+/// Whether symbol `j`, to which the section `target` refers, is a LOCAL one of a section that isn't kept; frames may
+/// refer to dropped sections.
+pub fn refers_to_dropped(loaded: &Loaded<'_>, target: u64, j: usize) -> bool
+    ensures { IsTrue result ↔ StandsInDropped (loaded_view loaded.now) target (slice_index_or (symbols loaded.now.object) j null_symbol) }
+{
+    let entry = symbol_entry(&loaded.object, j);
+    if entry.st_info / 16 != STB_LOCAL || !stands_in_dropped(loaded, &entry) {
+        return false;
+    }
+    !is_frame_of(loaded, target, &entry)
 }
 
 fn is_weak(object: &Object<'_>, j: usize) -> bool
@@ -115,35 +133,61 @@ fn is_weak(object: &Object<'_>, j: usize) -> bool
     symbol_entry(object, j).st_info / 16 == STB_WEAK
 }
 
-/// Whether a reference to symbol `j` of the object that has a number is in want of a definition: symbol 0
-/// stands for none, and a WEAK one needs none.
-pub fn is_undefined(
-    resolved: &Resolved<'_, '_>,
+/// What a reference to symbol `j` of the object that has a number uses.
+pub fn definition_of<'a>(
+    resolved: &Resolved<'_, 'a>,
     number: usize,
-    object: &Object<'_>,
+    _loaded: &Loaded<'_>,
     j: usize,
-) -> bool
-    requires { IsObjectAt resolved.now number object.now }
-    ensures { IsTrue result ↔ IsUndefined resolved.now (symbol_at number object.now j) }
+) -> Option<Meaning<'a>>
+    requires { IsObjectAt resolved.now number (loaded_view _loaded.now) }
+    ensures { option_map meaning_view result ≡ definition_of resolved.now (symbol_at number (loaded_view _loaded.now) j) }
 {
-    if j == 0 || is_weak(object, j) {
-        return false;
-    }
-    resolved.definition(number, j).is_none()
+    resolved.definition(number, j)
 }
 
-/// Whether the definition that a reference to symbol `j` of the object that has a number uses stands in a
-/// section with SHF_TLS.
-pub fn is_thread_local(
-    resolved: &Resolved<'_, '_>,
-    number: usize,
-    object: &Object<'_>,
-    j: usize,
-) -> bool
-    requires { IsObjectAt resolved.now number object.now }
-    ensures { result ≡ option_map_or (is_in_thread_section resolved.now) (definition_of resolved.now (symbol_at number object.now j)) false }
+/// Whether a reference to symbol `j` of an object, which uses a definition if there is one, is in want of it: symbol 0
+/// stands for none, and a WEAK one needs none.
+pub fn is_undefined(loaded: &Loaded<'_>, j: usize, definition: &Option<Meaning<'_>>) -> bool
+    ensures { IsTrue result ↔ LacksDefinition loaded.now.object j (option_map meaning_view definition.now) }
 {
-    resolved.is_thread_local(number, j)
+    if j == 0 || is_weak(&loaded.object, j) {
+        return false;
+    }
+    definition.is_none()
+}
+
+/// Whether what a reference uses stands in a section with SHF_TLS.
+pub fn is_thread_local<'a>(resolved: &Resolved<'_, 'a>, definition: &Option<Meaning<'a>>) -> bool
+    ensures { result ≡ option_map_or (is_in_thread_storage resolved.now) (option_map meaning_view definition.now) false }
+{
+    match definition {
+        Some(meaning) => resolved.is_in_thread_storage(meaning),
+        None => false,
+    }
+}
+
+/// Whether one of the linker's names, which stands for a bound, speaks of an output name of several output sections.
+fn is_mixed_bound(mixed: &BTreeSet<&[u8]>, name: &[u8], bound: Bound) -> bool
+    ensures { (objects : List LoadedObject) → AreMixed objects mixed.now → IsTrue result ↔ IsMixedBound objects name.now bound }
+{
+    match bound {
+        Bound::OutputStart => mixed.contains(named_output(name)),
+        Bound::OutputEnd => mixed.contains(named_output(name)),
+        _ => false,
+    }
+}
+
+/// Whether what a reference uses is such a name of the linker's.
+pub fn is_mixed(mixed: &BTreeSet<&[u8]>, definition: &Option<Meaning<'_>>) -> bool
+    ensures { (objects : List LoadedObject) → AreMixed objects mixed.now → IsTrue result ↔ IsSomeAnd (option_map meaning_view definition.now) (IsMixed objects) }
+{
+    match definition {
+        Some(Meaning::Linker(name, bound)) => is_mixed_bound(mixed, name, *bound),
+        Some(Meaning::Symbol(_)) => false,
+        Some(Meaning::Common(_)) => false,
+        None => false,
+    }
 }
 
 /// The refusal of a symbol that has no definition.

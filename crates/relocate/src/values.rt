@@ -1,23 +1,36 @@
 //! The value that a relocation wants where the objects are laid out.
 ghost use Rattle.std.specs.Prelude.{◌≡◌, ◌%◌, ◌^◌, IsSome, SomeIff, option_map, unwrap_or};
-ghost use Rattle.elf_model.specs.Placement.{symbol_value};
-ghost use Rattle.elf_model.specs.Relocation.{Fits, relocation_kind, relocation_of, section_address, terms_of};
-ghost use Rattle.resolve.specs.Views.{symbol_view};
+ghost use Rattle.elf_model.specs.Meaning.{meaning_size, meaning_value};
+ghost use Rattle.elf_model.specs.Pieces.{AreLawfulKinds};
+ghost use Rattle.elf_model.specs.Placement.{section_address, symbol_value};
+ghost use Rattle.elf_model.specs.Relocation.{Fits, relocation_kind, relocation_of, terms_of};
+ghost use Rattle.search.specs.Views.{loaded_view};
+ghost use Rattle.resolve.specs.Views.{meaning_view, symbol_view};
 ghost use Rattle.relocate.specs.Kinds.{Reduces};
 ghost use Rattle.relocate.specs.References.{IsObjectAt};
-ghost use Rattle.relocate.specs.Values.{patch_of, placed_in};
+ghost use Rattle.relocate.specs.Values.{patch_of, where_in};
 
 use crate::kinds::{Kind, Terms, fits, value};
 use crate::patch::Patch;
 use elf_model::{Rela, SHN_ABS};
-use elf_read::Object;
 use layout::Placement;
-use resolve::{Resolved, SymbolOf};
+use resolve::{Meaning, Resolved, SymbolOf};
+use search::Loaded;
+
+/// The address of a section of an object, or of a common block, 0 where it isn't kept.
+pub fn address_or_none(placement: &Placement<'_, '_>, number: usize, target: usize) -> u64
+    ensures { result ≡ section_address (where_in placement.now).placed number target }
+{
+    match placement.address(number, target) {
+        Some(at) => at,
+        None => 0,
+    }
+}
 
 /// The value of a symbol that is defined, modulo 2 to the 64: an absolute one's own, else the address of its
 /// section plus its own, 0 where the section isn't kept.
-fn value_of(placement: &Placement<'_, '_>, symbol: &SymbolOf<'_>) -> u64
-    ensures { result ≡ symbol_value (placed_in placement.now) (symbol_view symbol.now) % 2 ^ 64 }
+fn symbol_value(placement: &Placement<'_, '_>, symbol: &SymbolOf<'_>) -> u64
+    ensures { result ≡ symbol_value (where_in placement.now).placed (symbol_view symbol.now) % 2 ^ 64 }
 {
     let entry = symbol.entry;
     if entry.st_shndx == SHN_ABS {
@@ -29,20 +42,46 @@ fn value_of(placement: &Placement<'_, '_>, symbol: &SymbolOf<'_>) -> u64
     }
 }
 
-fn value_or_none(placement: &Placement<'_, '_>, definition: &Option<SymbolOf<'_>>) -> u64
-    ensures { result ≡ unwrap_or (option_map (symbol_value (placed_in placement.now)) (option_map symbol_view definition.now)) 0 % 2 ^ 64 }
+/// The value of what a name means, modulo 2 to the 64.
+fn value_of(placement: &Placement<'_, '_>, meaning: &Meaning<'_>) -> u64
+    requires { AreLawfulKinds placement.now.objects }
+    ensures { result ≡ meaning_value (where_in placement.now) (meaning_view meaning.now) % 2 ^ 64 }
+{
+    match meaning {
+        Meaning::Symbol(symbol) => symbol_value(placement, symbol),
+        Meaning::Common(block) => {
+            address_or_none(placement, block.object as usize, block.number as usize)
+        }
+        Meaning::Linker(name, bound) => placement.bound(name, *bound),
+    }
+}
+
+fn value_or_none(placement: &Placement<'_, '_>, definition: &Option<Meaning<'_>>) -> u64
+    requires { AreLawfulKinds placement.now.objects }
+    ensures { result ≡ unwrap_or (option_map (meaning_value (where_in placement.now)) (option_map meaning_view definition.now)) 0 % 2 ^ 64 }
 {
     match definition {
-        Some(symbol) => value_of(placement, symbol),
+        Some(meaning) => value_of(placement, meaning),
         None => 0,
     }
 }
 
-fn size_or_none(definition: &Option<SymbolOf<'_>>) -> u64
-    ensures { result ≡ unwrap_or (option_map (λ d. d.entry.st_size) (option_map symbol_view definition.now)) 0 % 2 ^ 64 }
+/// The size of what a name means; 0 for the linker's own names.
+fn size_of(meaning: &Meaning<'_>) -> u64
+    ensures { result ≡ meaning_size (meaning_view meaning.now) % 2 ^ 64 }
+{
+    match meaning {
+        Meaning::Symbol(symbol) => symbol.entry.st_size,
+        Meaning::Common(block) => block.size,
+        Meaning::Linker(_, _) => 0,
+    }
+}
+
+fn size_or_none(definition: &Option<Meaning<'_>>) -> u64
+    ensures { result ≡ unwrap_or (option_map meaning_size (option_map meaning_view definition.now)) 0 % 2 ^ 64 }
 {
     match definition {
-        Some(symbol) => symbol.entry.st_size,
+        Some(meaning) => size_of(meaning),
         None => 0,
     }
 }
@@ -52,14 +91,15 @@ fn terms(
     resolved: &Resolved<'_, '_>,
     placement: &Placement<'_, '_>,
     number: usize,
-    object: &Object<'_>,
+    loaded: &Loaded<'_>,
     target: u64,
     at: u64,
     entry: &Rela,
 ) -> Terms
-    requires here { IsObjectAt resolved.now number object.now }
-    requires at { at ≡ section_address (placed_in placement.now) number target }
-    ensures { Reduces result (terms_of resolved.now (placed_in placement.now) (relocation_of number object.now target entry.now)) }
+    requires kinds { AreLawfulKinds placement.now.objects }
+    requires here { IsObjectAt resolved.now number (loaded_view loaded.now) }
+    requires at { at ≡ section_address (where_in placement.now).placed number target }
+    ensures { Reduces result (terms_of resolved.now (where_in placement.now) (relocation_of number (loaded_view loaded.now) target entry.now)) }
 {
     let definition = resolved.definition(number, entry.symbol() as usize);
     Terms {
@@ -78,20 +118,21 @@ pub fn patch(
     resolved: &Resolved<'_, '_>,
     placement: &Placement<'_, '_>,
     number: usize,
-    object: &Object<'_>,
+    loaded: &Loaded<'_>,
     target: u64,
     at: u64,
     entry: &Rela,
 ) -> Option<Patch>
-    requires here { IsObjectAt resolved.now number object.now }
-    requires at { at ≡ section_address (placed_in placement.now) number target }
-    requires known { IsSome (relocation_kind (relocation_of number object.now target entry.now)) }
-    ensures { SomeIff result (Fits resolved.now (placed_in placement.now) (relocation_of number object.now target entry.now)) (patch_of resolved.now (placed_in placement.now) (relocation_of number object.now target entry.now)) }
+    requires kinds { AreLawfulKinds placement.now.objects }
+    requires here { IsObjectAt resolved.now number (loaded_view loaded.now) }
+    requires at { at ≡ section_address (where_in placement.now).placed number target }
+    requires known { IsSome (relocation_kind (relocation_of number (loaded_view loaded.now) target entry.now)) }
+    ensures { SomeIff result (Fits resolved.now (where_in placement.now) (relocation_of number (loaded_view loaded.now) target entry.now)) (patch_of resolved.now (where_in placement.now) (relocation_of number (loaded_view loaded.now) target entry.now)) }
 {
     let Some(kind) = Kind::of(entry.kind()) else {
         unreachable!()
     };
-    let terms = terms(resolved, placement, number, object, target, at, entry);
+    let terms = terms(resolved, placement, number, loaded, target, at, entry);
     let value = value(kind, terms);
     if !fits(kind, value) {
         return None;

@@ -1,23 +1,24 @@
--- The strong definitions of the objects, gathered one object after the other.
+-- The definitions of the objects, gathered one object after the other.
 use Rattle.std.proofs.Common.{◌≡◌, ℕ, ◌+◌, ◌<◌, List, ◌++◌, length, get_or, append_assoc, sym, ◌∙◌, ap}
 use Rattle.std.specs.Prelude.{filter}
 use Rattle.std.proofs.lemmas.List.Elements.{filter-append}
-use Rattle.elf_model.specs.Resolution.{SymbolOf, is_strong}
+use Rattle.elf_model.specs.ChosenSymbols.{is_definition}
+use Rattle.elf_model.specs.Resolution.{SymbolOf}
 use Rattle.search.specs.declared.loading.Loaded.{Loaded}
 use Rattle.resolve.proofs.Walks.{next_object, symbols_here, symbols_left}
 
 -- one more object
-pub strong_more :
+pub definitions_more :
     (found more all : List SymbolOf) (objects : List Loaded) (k : ℕ) (d : Loaded) →
-    k < length objects → d ≡ get_or objects k d → more ≡ found ++ filter is_strong (symbols_here k d) →
-    found ++ filter is_strong (symbols_left k objects) ≡ all →
-    more ++ filter is_strong (symbols_left (k + 1) objects) ≡ all
-strong_more found more all objects k d within is added so_far =
-    let here = filter is_strong (symbols_here k d) in
-    let rest = filter is_strong (symbols_left (k + 1) objects) in
-    let front : filter is_strong (symbols_left k objects) ≡ here ++ rest =
-    ap (filter is_strong) (next_object objects k d within is)
-    ∙ filter-append is_strong (symbols_here k d) (symbols_left (k + 1) objects) in
+    k < length objects → d ≡ get_or objects k d → more ≡ found ++ filter is_definition (symbols_here k d) →
+    found ++ filter is_definition (symbols_left k objects) ≡ all →
+    more ++ filter is_definition (symbols_left (k + 1) objects) ≡ all
+definitions_more found more all objects k d within is added so_far =
+    let here = filter is_definition (symbols_here k d) in
+    let rest = filter is_definition (symbols_left (k + 1) objects) in
+    let front : filter is_definition (symbols_left k objects) ≡ here ++ rest =
+    ap (filter is_definition) (next_object objects k d within is)
+    ∙ filter-append is_definition (symbols_here k d) (symbols_left (k + 1) objects) in
     ap (λ (xs : List SymbolOf). xs ++ rest) added
     ∙ append_assoc found here rest
     ∙ ap (λ (xs : List SymbolOf). found ++ xs) (sym front)

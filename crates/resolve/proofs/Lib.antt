@@ -4,6 +4,9 @@ pub mod Gathered
 pub mod Located
 pub mod NamedOnce
 pub mod Offers
+mod OutputWalks
+mod ArrayNames
+mod BlockNames
 pub mod RankedPlaces
 pub mod Rests
 pub mod Searched

@@ -1,12 +1,13 @@
 -- Names of which each is that of one definition at most.
 use Rattle.std.proofs.Common.{◌≡◌, ℕ, zero, suc, ◌+◌, ◌<◌, ◌≤◌, ◌⊎◌, inl, inr, Bool, true, false, cond, List, [], ◌∷◌, length, get_or, refl, ◌∙◌, ap, subst, arith}
 use Rattle.std.specs.Prelude.{All, count_by, find, None, Some}
+use Rattle.std.proofs.lemmas.Bool.{and_parts}
 use Rattle.std.proofs.lemmas.List.{get_or-map, get_or_default, length-map}
 use Rattle.std.proofs.lemmas.List.Elements.{All-map}
 use Rattle.std.proofs.lemmas.Slice.Eq.{bytes_eq-Decides}
 use Rattle.elf_model.proofs.RisingNames.{counted}
-use Rattle.elf_model.specs.Resolution.{SymbolOf, has_name}
-use Rattle.resolve.specs.Defined.{HasEachNameOnce, HasNoTwins}
+use Rattle.elf_model.specs.Resolution.{SymbolOf, has_name, is_strong}
+use Rattle.resolve.specs.Defined.{HasEachNameOnce, HasNoStrongTwins, HasNoTwins, is_strong_of}
 use Rattle.resolve.specs.Views.{symbol_view, symbol_views}
 use Rattle.resolve.specs.declared.entries.SymbolOf as code
 use Rattle.resolve.proofs.Located.{All-found}
@@ -88,15 +89,15 @@ found_itself {X} p (x ∷ xs) (suc i) d few within passes =
         let here = ap {B = ℕ} (λ b. cond b 1 0) e in
         ap (λ b. cond b (Some x) (find p xs)) e ∙ rest (omega (arith, n, here, few)) (omega (arith, within)) passes
 
--- where the name of each symbol is that of one at most, each name is
-pub once_from_each : (ss : List SymbolOf) → All (λ s. count_by (has_name s.name) ss ≤ 1) ss → (n : List ℕ) → count_by (has_name n) ss ≤ 1
-once_from_each ss each n = by (none_or_found (has_name n) ss)
+-- where the name of each symbol is that of one strong one at most, each name is
+pub once_from_each : (ss : List SymbolOf) → All (λ s. count_by (is_strong_of s.name) ss ≤ 1) ss → HasNoStrongTwins ss
+once_from_each ss each n = by (none_or_found (is_strong_of n) ss)
   where
-    by : (count_by (has_name n) ss ≡ 0) ⊎ ((s : SymbolOf) × (find (has_name n) ss ≡ Some s) × (has_name n s ≡ true)) → count_by (has_name n) ss ≤ 1
+    by : (count_by (is_strong_of n) ss ≡ 0) ⊎ ((s : SymbolOf) × (find (is_strong_of n) ss ≡ Some s) × (is_strong_of n s ≡ true)) → count_by (is_strong_of n) ss ≤ 1
     by (inl none) = omega (arith, none)
     by (inr found) =
-        subst (λ (m : List ℕ). count_by (has_name m) ss ≤ 1) ((bytes_eq-Decides found.0.name n).0 found.2)
-        (All-found (λ (s : SymbolOf). count_by (has_name s.name) ss ≤ 1) (has_name n) ss found.0 each found.1)
+        subst (λ (m : List ℕ). count_by (is_strong_of m) ss ≤ 1) ((bytes_eq-Decides found.0.name n).0 (and_parts (is_strong found.0) (has_name n found.0) found.2).1)
+        (All-found (λ (s : SymbolOf). count_by (is_strong_of s.name) ss ≤ 1) (is_strong_of n) ss found.0 each found.1)
 
 module _ (xs : List code.SymbolOf) (once : HasEachNameOnce xs) where
   -- the names of two places differ
@@ -120,15 +121,16 @@ module _ (xs : List code.SymbolOf) (once : HasEachNameOnce xs) where
 -- what is told of the name of a place, whatever stands past the end
 pub told_once :
     (xs : List code.SymbolOf) (i : ℕ) (e : code.SymbolOf) → i < length xs →
-    count_by (has_name (get_or xs i e).name.now) (symbol_views xs) ≤ 1 → (d : code.SymbolOf) →
-    count_by (has_name (get_or xs i d).name.now) (symbol_views xs) ≤ 1
+    count_by (is_strong_of (get_or xs i e).name.now) (symbol_views xs) ≤ 1 → (d : code.SymbolOf) →
+    count_by (is_strong_of (get_or xs i d).name.now) (symbol_views xs) ≤ 1
 told_once xs i e within few d =
-    subst (λ (x : code.SymbolOf). count_by (has_name x.name.now) (symbol_views xs) ≤ 1) (get_or_default xs i e d within) few
+    subst (λ (x : code.SymbolOf). count_by (is_strong_of x.name.now) (symbol_views xs) ≤ 1) (get_or_default xs i e d within) few
 
 -- told of each place
 pub all_once :
     (xs : List code.SymbolOf) (i : ℕ) → length xs ≤ i →
-    ((k : ℕ) → k < i → (d : code.SymbolOf) → count_by (has_name (get_or xs k d).name.now) (symbol_views xs) ≤ 1) → HasEachNameOnce xs
+    ((k : ℕ) → k < i → (d : code.SymbolOf) → count_by (is_strong_of (get_or xs k d).name.now) (symbol_views xs) ≤ 1) →
+    HasNoStrongTwins (symbol_views xs)
 all_once xs i past told =
     once_from_each (symbol_views xs)
-    (All-map (λ (s : SymbolOf). count_by (has_name s.name) (symbol_views xs) ≤ 1) symbol_view xs (λ k d within. told k (omega (arith, within, past)) d))
+    (All-map (λ (s : SymbolOf). count_by (is_strong_of s.name) (symbol_views xs) ≤ 1) symbol_view xs (λ k d within. told k (omega (arith, within, past)) d))

@@ -16,7 +16,9 @@ use Rattle.std.proofs.lemmas.Option.{slice_get-get_or}
 use Rattle.elf_model.proofs.Finding.{find-none}
 use Rattle.elf_model.proofs.RisingNames.{find_permuted}
 use Rattle.elf_model.specs.Loading.{LoadedObject}
-use Rattle.elf_model.specs.Resolution.{SymbolOf, chosen, has_name, strong_definitions}
+use Rattle.elf_model.proofs.ChosenSymbols.{chosen_listed, chosen_once}
+use Rattle.elf_model.specs.ChosenSymbols.{chosen_symbols}
+use Rattle.elf_model.specs.Resolution.{SymbolOf, chosen, has_name}
 use Rattle.resolve.specs.Defined.{AreDefinitions, HasEachNameOnce}
 use Rattle.resolve.specs.Views.{symbol_view, symbol_views}
 use Rattle.resolve.specs.declared.entries.SymbolOf as code
@@ -61,4 +63,5 @@ module _ (xs : List code.SymbolOf) (n : List ℕ) where
 
 -- the definition of a name among the sorted ones is the chosen one
 pub chosen_sorted : (L : List LoadedObject) (xs : List code.SymbolOf) (n : List ℕ) → AreDefinitions L xs → find (has_name n) (symbol_views xs) ≡ chosen L n
-chosen_sorted L xs n d = sym (find_permuted (has_name n) (strong_definitions L) (symbol_views xs) d.same (d.unique n))
+chosen_sorted L xs n d =
+    sym (find_permuted (has_name n) (chosen_symbols L) (symbol_views xs) d.same (chosen_once L n)) ∙ chosen_listed L n

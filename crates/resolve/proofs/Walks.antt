@@ -4,29 +4,28 @@ use Rattle.std.specs.Prelude.{map}
 use Rattle.std.proofs.lemmas.List.{at_drop_more, drop-map, drop_more}
 use Rattle.elf_model.specs.Loading.{LoadedObject}
 use Rattle.elf_model.specs.ObjectFile.{symbols}
-use Rattle.elf_model.specs.Resolution.{SymbolOf, symbols_from, symbols_of}
+use Rattle.elf_model.specs.Resolution.{SymbolOf, symbol_of, symbols_from, symbols_of}
 use Rattle.elf_model.specs.declared.records.Symbol.{Symbol}
 use Rattle.search.specs.Views.{loaded_view, loaded_views}
 use Rattle.search.specs.declared.loading.Loaded.{Loaded}
-use Rattle.resolve.specs.Views.{symbol_in}
 
 -- the next symbol of an object
 pub next_symbol :
-    (object : ℕ) (bytes : List ℕ) (entries : List Symbol) (j : ℕ) (d : Symbol) → j < length entries →
-    symbols_from object bytes j (drop j entries)
-    ≡ symbol_in object bytes j (get_or entries j d) ∷ symbols_from object bytes (j + 1) (drop (j + 1) entries)
-next_symbol object bytes entries j d within = at_drop_more (symbols_from object bytes j) entries j d within
+    (object : ℕ) (o : LoadedObject) (entries : List Symbol) (j : ℕ) (d : Symbol) → j < length entries →
+    symbols_from object o j (drop j entries)
+    ≡ symbol_of object o j (get_or entries j d) ∷ symbols_from object o (j + 1) (drop (j + 1) entries)
+next_symbol object o entries j d within = at_drop_more (symbols_from object o j) entries j d within
 
 -- the symbols of an object that is left
 abbrev pub symbols_here : ℕ → Loaded → List SymbolOf
-symbols_here k l = symbols_from k l.object 0 (symbols l.object)
+symbols_here k l = symbols_from k (loaded_view l) 0 (symbols l.object)
 
 -- the symbols of the objects from number k on
 abbrev pub symbols_left : ℕ → List Loaded → List SymbolOf
 symbols_left k objects = symbols_of k (drop k (loaded_views objects))
 
 -- the next object
-next_loaded :
+pub next_loaded :
     (objects : List Loaded) (k : ℕ) (d : Loaded) → k < length objects → d ≡ get_or objects k d →
     drop k (loaded_views objects) ≡ loaded_view d ∷ drop (k + 1) (loaded_views objects)
 next_loaded objects k d within is =

@@ -8,11 +8,10 @@ use Rattle.std.proofs.lemmas.Option.{get_or_from_slice_get, none-some, same_Some
 use Rattle.elf_model.specs.Loading.{LoadedObject}
 use Rattle.elf_model.specs.ObjectFile.{null_symbol, symbols}
 use Rattle.elf_model.specs.Relocation.{symbol_at}
-use Rattle.elf_model.specs.Resolution.{SymbolOf}
+use Rattle.elf_model.specs.Resolution.{SymbolOf, symbol_of}
 use Rattle.elf_model.specs.declared.records.Symbol.{Symbol}
 use Rattle.resolve.specs.Meaning.{named_at, named_of}
-use Rattle.resolve.specs.Places.{ArePlaces, at_place, at_some, place_at, symbol_of, with_place}
-use Rattle.resolve.specs.Views.{symbol_in}
+use Rattle.resolve.specs.Places.{ArePlaces, at_place, at_some, place_at, symbol_numbered, with_place}
 use Rattle.resolve.specs.declared.entries.SymbolOf as code
 use Rattle.resolve.proofs.Cells.{items, lengths, place_put}
 use Rattle.resolve.proofs.Located.{found_at}
@@ -20,11 +19,11 @@ use Rattle.resolve.proofs.RankedPlaces.{in_range, symbol_counts}
 
 module _ (L : List LoadedObject) where
   -- what the name of the symbol at an object's and its own number means
-  pub named_here : (k j : ℕ) (s : SymbolOf) → symbol_of L k j ≡ Some s → named_at L k j ≡ named_of L s
+  pub named_here : (k j : ℕ) (s : SymbolOf) → symbol_numbered L k j ≡ Some s → named_at L k j ≡ named_of L s
   named_here k j s is =
       let f = found_at L k j s is in
-      ap (option_and_then (λ (o : LoadedObject). named_of L (symbol_at k o.bytes j))) f.2
-      ∙ ap (λ (e : Symbol). named_of L (symbol_in k f.0.bytes j e)) (get_or_from_slice_get (symbols f.0.bytes) j f.1 null_symbol f.3)
+      ap (option_and_then (λ (o : LoadedObject). named_of L (symbol_at k o j))) f.2
+      ∙ ap (λ (e : Symbol). named_of L (symbol_of k f.0 j e)) (get_or_from_slice_get (symbols f.0.bytes) j f.1 null_symbol f.3)
       ∙ ap (named_of L) f.4
 
   module _ (xs : List code.SymbolOf) where
@@ -34,7 +33,7 @@ module _ (L : List LoadedObject) where
 
     -- at a place that was written
     pub put_named :
-        (old new : List (Vec ℕ)) (k j p : ℕ) (s : SymbolOf) → lengths old ≡ symbol_counts L → symbol_of L k j ≡ Some s →
+        (old new : List (Vec ℕ)) (k j p : ℕ) (s : SymbolOf) → lengths old ≡ symbol_counts L → symbol_numbered L k j ≡ Some s →
         items new ≡ with_place k j p (items old) → at_place xs p ≡ named_of L s → IsNamed new k j
     put_named old new k j p s sized is written means =
         let r = in_range L old k j s sized is in
@@ -42,16 +41,16 @@ module _ (L : List LoadedObject) where
 
     -- behind the symbols of an object
     past_row :
-        (k j : ℕ) (bytes row : List ℕ) → length row ≡ length (symbols bytes) → length (symbols bytes) ≤ j →
-        at_some xs (slice_get row j) ≡ named_of L (symbol_at k bytes j)
-    past_row k j bytes row same past =
+        (k j : ℕ) (o : LoadedObject) (row : List ℕ) → length row ≡ length (symbols o.bytes) → length (symbols o.bytes) ≤ j →
+        at_some xs (slice_get row j) ≡ named_of L (symbol_at k o j)
+    past_row k j o row same past =
         ap (at_some xs) (slice_get_past row j (omega (arith, same, past)))
-        ∙ sym (ap (λ (e : Symbol). named_of L (symbol_in k bytes j e)) (get_or_past (symbols bytes) j null_symbol past))
+        ∙ sym (ap (λ (e : Symbol). named_of L (symbol_of k o j e)) (get_or_past (symbols o.bytes) j null_symbol past))
 
     -- at all numbers, where it is so at those of symbols
     pub named_each :
         (rows : List (Vec ℕ)) → lengths rows ≡ symbol_counts L → (k j : ℕ) →
-        ((s : SymbolOf) → symbol_of L k j ≡ Some s → IsNamed rows k j) → IsNamed rows k j
+        ((s : SymbolOf) → symbol_numbered L k j ≡ Some s → IsNamed rows k j) → IsNamed rows k j
     named_each rows sized k j here =
         by (slice_get rows k) (slice_get L k)
         (sym (slice_get-map (λ (row : Vec ℕ). length row.items) rows k)
@@ -63,18 +62,18 @@ module _ (L : List LoadedObject) where
             (row : Vec ℕ) (o : LoadedObject) → length row.items ≡ length (symbols o.bytes) →
             ((x : Symbol) × (j < length (symbols o.bytes)) × (slice_get (symbols o.bytes) j ≡ Some x) × (get_or (symbols o.bytes) j x ≡ x))
             ⊎ ((length (symbols o.bytes) ≤ j) × (slice_get (symbols o.bytes) j ≡ None)) →
-            ((s : SymbolOf) → option_map (symbol_in k o.bytes j) (slice_get (symbols o.bytes) j) ≡ Some s →
-            at_some xs (slice_get row.items j) ≡ named_of L (symbol_at k o.bytes j)) →
-            at_some xs (slice_get row.items j) ≡ named_of L (symbol_at k o.bytes j)
-        in_row row o same (inl there) is = is (symbol_in k o.bytes j there.0) (ap (option_map (symbol_in k o.bytes j)) there.2)
-        in_row row o same (inr past) is = past_row k j o.bytes row.items same past.0
+            ((s : SymbolOf) → option_map (symbol_of k o j) (slice_get (symbols o.bytes) j) ≡ Some s →
+            at_some xs (slice_get row.items j) ≡ named_of L (symbol_at k o j)) →
+            at_some xs (slice_get row.items j) ≡ named_of L (symbol_at k o j)
+        in_row row o same (inl there) is = is (symbol_of k o j there.0) (ap (option_map (symbol_of k o j)) there.2)
+        in_row row o same (inr past) is = past_row k j o row.items same past.0
 
         by :
             (a : Option (Vec ℕ)) (b : Option LoadedObject) →
             option_map (λ (row : Vec ℕ). length row.items) a ≡ option_map (λ (o : LoadedObject). length (symbols o.bytes)) b →
-            ((s : SymbolOf) → option_and_then (λ (o : LoadedObject). option_map (symbol_in k o.bytes j) (slice_get (symbols o.bytes) j)) b ≡ Some s →
-            at_some xs (option_and_then (λ (row : Vec ℕ). slice_get row.items j) a) ≡ option_and_then (λ (o : LoadedObject). named_of L (symbol_at k o.bytes j)) b) →
-            at_some xs (option_and_then (λ (row : Vec ℕ). slice_get row.items j) a) ≡ option_and_then (λ (o : LoadedObject). named_of L (symbol_at k o.bytes j)) b
+            ((s : SymbolOf) → option_and_then (λ (o : LoadedObject). option_map (symbol_of k o j) (slice_get (symbols o.bytes) j)) b ≡ Some s →
+            at_some xs (option_and_then (λ (row : Vec ℕ). slice_get row.items j) a) ≡ option_and_then (λ (o : LoadedObject). named_of L (symbol_at k o j)) b) →
+            at_some xs (option_and_then (λ (row : Vec ℕ). slice_get row.items j) a) ≡ option_and_then (λ (o : LoadedObject). named_of L (symbol_at k o j)) b
         by None None e is = refl
         by None (Some o) e is = absurd (none-some (length (symbols o.bytes)) e)
         by (Some row) None e is = absurd (none-some (length row.items) (sym e))
@@ -83,14 +82,13 @@ module _ (L : List LoadedObject) where
 
     -- at all numbers of an object, once those of its symbols are written
     pub object_named :
-        (rows : List (Vec ℕ)) (k i : ℕ) (bytes : List ℕ) → lengths rows ≡ symbol_counts L →
-        option_map (λ (o : LoadedObject). o.bytes) (slice_get L k) ≡ Some bytes → length (symbols bytes) ≤ i →
-        ((j : ℕ) → j < i → IsNamed rows k j) → (j : ℕ) → IsNamed rows k j
-    object_named rows k i bytes sized there past so_far j =
+        (rows : List (Vec ℕ)) (k i : ℕ) (o : LoadedObject) → lengths rows ≡ symbol_counts L → slice_get L k ≡ Some o →
+        length (symbols o.bytes) ≤ i → ((j : ℕ) → j < i → IsNamed rows k j) → (j : ℕ) → IsNamed rows k j
+    object_named rows k i o sized there past so_far j =
         named_each rows sized k j (λ s is.
         let f = found_at L k j s is in
-        let same = same_Some f.0.bytes bytes (sym (ap (option_map (λ (o : LoadedObject). o.bytes)) f.2) ∙ there) in
-        let within = slice_get_within (symbols bytes) j f.1 (ap (λ (bs : List ℕ). slice_get (symbols bs) j) (sym same) ∙ f.3) in
+        let same : o ≡ f.0 = same_Some o f.0 (sym there ∙ f.2) in
+        let within = slice_get_within (symbols o.bytes) j f.1 (ap (λ (x : LoadedObject). slice_get (symbols x.bytes) j) same ∙ f.3) in
         so_far j (omega (arith, within, past)))
 
     -- at all numbers, once the places of all objects are written

@@ -1,10 +1,11 @@
 -- What the linker's own definitions of names are.
-use Rattle.std.specs.Prelude.{◌≡◌, ℕ, ◌+◌, ◌<◌, ◌≤◌, List, slice_index_or, length, IsPermutation, count_by}
+use Rattle.std.specs.Prelude.{◌≡◌, ℕ, ◌+◌, ◌<◌, ◌≤◌, ◌&&◌, Bool, List, slice_index_or, length, IsPermutation, count_by}
 use Rattle.std.specs.Cmp.Lexicographic.{slice_cmp}
 use Rattle.std.specs.List.Sorted.{IsSortedByKey}
 use Rattle.std.specs.Ordering.{nat_cmp}
 use Rattle.elf_model.specs.Loading.{LoadedObject}
-use Rattle.elf_model.specs.Resolution.{AreSoundSymbols, AreUnique, has_name, strong_definitions}
+use Rattle.elf_model.specs.ChosenSymbols.{chosen_symbols}
+use Rattle.elf_model.specs.Resolution.{AreSoundCommons, AreSoundSymbols, AreUnique, SymbolOf, has_name, is_strong}
 use Rattle.resolve.specs.declared.entries.SymbolOf as code
 use Rattle.resolve.specs.Views.{symbol_views}
 
@@ -17,10 +18,19 @@ HasNoTwins xs =
 abbrev pub HasEachNameOnce : List code.SymbolOf → Type 0
 HasEachNameOnce xs = (name : List ℕ) → count_by (has_name name) (symbol_views xs) ≤ 1
 
--- the strong definitions in the order of their names, each of its own
-pub record AreDefinitions (objects : List LoadedObject) (strong : List code.SymbolOf) : Type 0 where
-  pub same : IsPermutation (strong_definitions objects) (symbol_views strong)
-  pub rising : IsSortedByKey (λ s. s.name.now) (slice_cmp nat_cmp) strong
-  pub no_twins : HasNoTwins strong
+-- a strong definition of a name
+abbrev pub is_strong_of : List ℕ → SymbolOf → Bool
+is_strong_of name s = is_strong s && has_name name s
+
+-- no name has two strong definitions
+abbrev pub HasNoStrongTwins : List SymbolOf → Type 0
+HasNoStrongTwins ss = (name : List ℕ) → count_by (is_strong_of name) ss ≤ 1
+
+-- the chosen definitions in the order of their names
+pub record AreDefinitions (objects : List LoadedObject) (chosen : List code.SymbolOf) : Type 0 where
+  pub same : IsPermutation (chosen_symbols objects) (symbol_views chosen)
+  pub rising : IsSortedByKey (λ s. s.name.now) (slice_cmp nat_cmp) chosen
+  pub no_twins : HasNoTwins chosen
+  pub commons : AreSoundCommons objects
   pub sound : AreSoundSymbols objects
   pub unique : AreUnique objects

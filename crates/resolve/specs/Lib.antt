@@ -1,7 +1,10 @@
+pub mod Blocks
 pub mod Defined
 pub mod Meaning
 pub mod Offered
+pub mod Outputs
 pub mod Places
 pub mod Refusals
 pub mod Sound
+pub mod Tables
 pub mod Views

@@ -1,17 +1,19 @@
 -- What a reference to a symbol means, by its object's and its own number.
-use Rattle.std.specs.Prelude.{ℕ, ◌&&◌, cond, not, List, Option, Some, None}
+use Rattle.std.specs.Prelude.{ℕ, cond, List, Option, Some, None, option_map}
 use Rattle.std.specs.List.{slice_get}
 use Rattle.std.specs.Option.{option_and_then}
 use Rattle.elf_model.specs.Loading.{LoadedObject}
+use Rattle.elf_model.specs.LinkerNames.{bound_of}
+use Rattle.elf_model.specs.Meaning.{Linker, Meaning, Symbol}
 use Rattle.elf_model.specs.Relocation.{definition_of, is_local, symbol_at}
 use Rattle.elf_model.specs.Resolution.{SymbolOf, chosen, is_undefined}
 
 -- what a symbol of an object means; nothing where there is no such object
-abbrev pub at_symbol : (SymbolOf → Option SymbolOf) → List LoadedObject → ℕ → ℕ → Option SymbolOf
-at_symbol means objects object number = option_and_then (λ o. means (symbol_at object o.bytes number)) (slice_get objects object)
+abbrev pub at_symbol : {X : Type 0} → (SymbolOf → Option X) → List LoadedObject → ℕ → ℕ → Option X
+at_symbol means objects object number = option_and_then (λ o. means (symbol_at object o number)) (slice_get objects object)
 
--- the definition that a reference to a symbol uses
-abbrev pub definition_at : List LoadedObject → ℕ → ℕ → Option SymbolOf
+-- what a reference to a symbol uses
+abbrev pub definition_at : List LoadedObject → ℕ → ℕ → Option Meaning
 definition_at objects = at_symbol (definition_of objects) objects
 
 -- the chosen definition of the name of a symbol that isn't LOCAL
@@ -21,9 +23,11 @@ named_of objects s = cond (is_local s) None (chosen objects s.name)
 abbrev pub named_at : List LoadedObject → ℕ → ℕ → Option SymbolOf
 named_at objects = at_symbol (named_of objects) objects
 
--- a LOCAL symbol that is defined, itself
-abbrev pub own_of : SymbolOf → Option SymbolOf
-own_of s = cond (is_local s && not (is_undefined s.entry)) (Some s) None
+-- what a symbol means whose name no object defines: a LOCAL one that is defined, itself; another one, what the
+-- linker defines for its name
+abbrev pub unchosen_of : List LoadedObject → SymbolOf → Option Meaning
+unchosen_of objects s =
+    cond (is_local s) (cond (is_undefined s.entry) None (Some (Symbol s))) (option_map (Linker s.name) (bound_of objects s.name))
 
-abbrev pub own_at : List LoadedObject → ℕ → ℕ → Option SymbolOf
-own_at objects = at_symbol own_of objects
+abbrev pub unchosen_at : List LoadedObject → ℕ → ℕ → Option Meaning
+unchosen_at objects = at_symbol (unchosen_of objects) objects

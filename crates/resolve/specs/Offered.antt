@@ -1,17 +1,30 @@
--- The strong definitions as candidates that a table of names is offered.
-use Rattle.std.specs.Prelude.{List, map}
-use Rattle.elf_model.specs.Resolution.{SymbolOf}
+-- Definitions as candidates that a table of names is offered, and what its rows then say a name means.
+use Rattle.std.specs.Prelude.{ℕ, ◌==◌, ◌&&◌, ◌||◌, Bool, false, cond, not, List, Option, map, unwrap_or}
+use Rattle.std.specs.Option.{option_map_or, option_or}
+use Rattle.elf_model.specs.Resolution.{SymbolOf, is_common, is_common_definition, is_global, is_placed_symbol, is_strong, is_weak}
+use Rattle.elf_model.specs.declared.records.Symbol.{Symbol}
 use Rattle.elf_model.specs.declared.references.SymbolRef.{SymbolRef}
 use Rattle.symbols.specs.Offers.{Offer, all_offered}
-use Rattle.symbols.specs.Rows.{Rows, no_rows}
+use Rattle.symbols.specs.Rows.{Rows, no_row, no_rows}
 use Rattle.symbols.specs.declared.candidate.Candidate.{Candidate}
-use Rattle.symbols.specs.declared.candidate.CandidateKind.TheVariants.{Strong}
+use Rattle.symbols.specs.declared.candidate.CandidateKind.{CandidateKind}
+use Rattle.symbols.specs.declared.candidate.CandidateKind.TheVariants.{Common, Strong, Weak}
+use Rattle.symbols.specs.declared.row.Row.{Row}
 
 abbrev pub ref_of : SymbolOf → SymbolRef
 ref_of s = record { object = record { 0 = s.object }; symbol = s.number }
 
+-- a definition's kind by its entry, and whether it is one
+abbrev pub kind_of : SymbolOf → CandidateKind
+kind_of s = cond (is_strong s) Strong (cond (is_common_definition s) Common Weak)
+
+abbrev pub is_defining : Symbol → Bool → Bool
+is_defining e dropped =
+    (is_global e && (is_placed_symbol e && not dropped))
+    || ((is_global e && (is_common e && not dropped)) || (is_weak e && (is_placed_symbol e && not dropped)))
+
 abbrev pub candidate_of : SymbolOf → Candidate
-candidate_of s = record { symbol = ref_of s; kind = Strong; size = s.entry.st_size; align = s.entry.st_value }
+candidate_of s = record { symbol = ref_of s; kind = kind_of s; size = s.entry.st_size; align = s.entry.st_value }
 
 abbrev pub offer_of : SymbolOf → Offer
 offer_of s = record { name = s.name; candidate = candidate_of s }
@@ -22,3 +35,18 @@ offers_of ss = map offer_of ss
 -- the rows of a table to which definitions are offered, each once, and nothing else
 abbrev pub rows_of : List SymbolOf → Rows
 rows_of ss = all_offered (offers_of ss) no_rows
+
+-- the symbol that a row's name means: the first strong one, else the first common one, else the first weak one
+abbrev pub chosen_ref : Row → Option SymbolRef
+chosen_ref row = option_or row.strong (option_or row.common row.weak)
+
+abbrev pub chosen_in : Rows → List ℕ → Option SymbolRef
+chosen_in rows name = chosen_ref (unwrap_or (rows name) no_row)
+
+-- a symbol has these numbers
+abbrev pub is_referred : SymbolOf → SymbolRef → Bool
+is_referred s r = s.object == r.object.0 && s.number == r.symbol
+
+-- a symbol is the one that its name means
+abbrev pub is_meant : Rows → SymbolOf → Bool
+is_meant rows s = option_map_or (is_referred s) (chosen_in rows s.name) false

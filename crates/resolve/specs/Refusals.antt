@@ -1,7 +1,7 @@
 -- Why names could not be resolved.
 use Rattle.std.specs.Prelude.{◌≡◌, ℕ, List}
 use Rattle.elf_model.specs.Loading.{LoadedObject}
-use Rattle.elf_model.specs.Resolution.{AreSoundSymbols, IsDuplicate}
+use Rattle.elf_model.specs.Resolution.{AreSoundCommons, AreSoundSymbols, IsDuplicate}
 use Rattle.resolve.specs.declared.faults.ResolveFault.{ResolveFault}
 use Rattle.resolve.specs.declared.faults.ResolveFault.TheVariants as error
 
@@ -9,6 +9,7 @@ use Rattle.resolve.specs.declared.faults.ResolveFault.TheVariants as error
 abbrev pub ResolvingFails : List LoadedObject → ResolveFault → Type 0
 ResolvingFails objects error.Memory = Unit {0}
 ResolvingFails objects (error.Duplicate name) = IsDuplicate objects name.items
+ResolvingFails objects error.BadCommon = ¬ AreSoundCommons objects
 ResolvingFails objects error.BadSymbol = ¬ AreSoundSymbols objects
 
 -- the refusal that names a symbol, but for memory

@@ -1,16 +1,29 @@
 -- The crate's own types as the definitions see them.
-use Rattle.std.specs.Prelude.{ℕ, List, [], map, unwrap_or}
-use Rattle.elf_model.specs.ObjectFile.{symbol_name}
+use Rattle.std.specs.Prelude.{ℕ, List, map}
+use Rattle.std.specs.Borrow.{Bor}
 use Rattle.elf_model.specs.Resolution as resolution
-use Rattle.elf_model.specs.declared.records.Symbol.{Symbol}
+use Rattle.elf_model.specs.Meaning as meaning
+use Rattle.resolve.specs.Blocks.{block_view}
 use Rattle.resolve.specs.declared.entries.SymbolOf.{SymbolOf}
+use Rattle.resolve.specs.declared.meaning.Meaning.{Meaning}
+use Rattle.resolve.specs.declared.meaning.Meaning.TheVariants as variant
 
 abbrev pub symbol_view : SymbolOf → resolution.SymbolOf
-symbol_view s = record { object = s.object; number = s.number; name = s.name.now; entry = s.entry }
+symbol_view s = record { object = s.object; number = s.number; name = s.name.now; entry = s.entry; dropped = s.dropped }
 
 abbrev pub symbol_views : List SymbolOf → List resolution.SymbolOf
 symbol_views ss = map symbol_view ss
 
--- symbol number j of an object, with its entry
-abbrev pub symbol_in : ℕ → List ℕ → ℕ → Symbol → resolution.SymbolOf
-symbol_in object bytes j entry = record { object = object; number = j; name = unwrap_or (symbol_name bytes j) []; entry = entry }
+abbrev pub meaning_view : Meaning → meaning.Meaning
+meaning_view (variant.Symbol s) = meaning.Symbol (symbol_view s)
+meaning_view (variant.Common b) = meaning.Common (block_view b)
+meaning_view (variant.Linker name bound) = meaning.Linker name.now bound
+
+abbrev pub meaning_views : List Meaning → List meaning.Meaning
+meaning_views ms = map meaning_view ms
+
+-- the name of what a name means, as the code holds it
+abbrev pub held_name : Meaning → Bor (List ℕ)
+held_name (variant.Symbol s) = s.name
+held_name (variant.Common b) = b.name
+held_name (variant.Linker name bound) = name

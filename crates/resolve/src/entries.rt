@@ -1,19 +1,25 @@
 //! The symbols of loaded objects, and what their entries say.
-ghost use Rattle.std.specs.Prelude.{◌≡◌, ◌/◌, ◌==◌, ◌&&◌, ℕ, [], not, option_copied, unwrap_or};
+ghost use Rattle.std.specs.Prelude.{◌≡◌, ◌/◌, ◌==◌, ◌&&◌, ◌||◌, ℕ, [], not, option_copied, unwrap_or};
+ghost use Rattle.elf_model.specs.Loading.{is_dropped};
 ghost use Rattle.elf_model.specs.ObjectFile.{symbol_name};
-ghost use Rattle.elf_model.specs.Resolution.{binding, is_common, is_global, is_undefined};
-ghost use Rattle.resolve.specs.Views.{symbol_in, symbol_view};
+ghost use Rattle.elf_model.specs.Resolution.{binding, is_common, is_global, is_placed_symbol, is_undefined, is_weak, symbol_of};
+ghost use Rattle.search.specs.Views.{loaded_view};
+ghost use Rattle.resolve.specs.Offered.{is_defining};
+ghost use Rattle.resolve.specs.Views.{symbol_view};
 
-use elf_model::{SHN_COMMON, SHN_UNDEF, STB_GLOBAL, STB_LOCAL, Symbol};
+use elf_model::{SHN_COMMON, SHN_UNDEF, STB_GLOBAL, STB_LOCAL, STB_WEAK, Symbol};
 use elf_read::Object;
+use search::Loaded;
 
-/// A symbol of a loaded object: its object's and its own number, its name, its entry.
+/// A symbol of a loaded object: its object's and its own number, its name, its entry, and whether it stands in a
+/// section that is dropped.
 #[derive(Clone, Copy, Debug)]
 pub struct SymbolOf<'a> {
     pub object: u64,
     pub number: u64,
     pub name: &'a [u8],
     pub entry: Symbol,
+    pub dropped: bool,
 }
 
 /// The name of symbol `j`, empty where there is no such symbol.
@@ -27,15 +33,23 @@ pub fn name_of<'a>(object: &Object<'a>, j: usize) -> &'a [u8]
 }
 
 /// Symbol `j` of the object that has a number, with its entry.
-pub fn symbol_in<'a>(number: u64, object: &Object<'a>, j: usize, entry: &Symbol) -> SymbolOf<'a>
-    ensures { symbol_view result ≡ symbol_in number object.now j entry.now }
+pub fn symbol_in<'a>(number: u64, loaded: &Loaded<'a>, j: usize, entry: &Symbol) -> SymbolOf<'a>
+    ensures { symbol_view result ≡ symbol_of number (loaded_view loaded.now) j entry.now }
 {
     SymbolOf {
         object: number,
         number: j as u64,
-        name: name_of(object, j),
+        name: name_of(&loaded.object, j),
         entry: *entry,
+        dropped: is_dropped(loaded, entry),
     }
+}
+
+/// Whether a symbol of an object stands in a section that is dropped.
+pub fn is_dropped(loaded: &Loaded<'_>, entry: &Symbol) -> bool
+    ensures { result ≡ is_dropped (loaded_view loaded.now) entry.now.st_shndx }
+{
+    loaded.is_dropped(entry.st_shndx as usize)
 }
 
 /// Whether a symbol is LOCAL.
@@ -52,9 +66,46 @@ pub fn is_undefined(entry: &Symbol) -> bool
     entry.st_shndx == SHN_UNDEF
 }
 
-/// Whether a symbol is a strong definition: GLOBAL, defined, not common.
-pub fn is_strong(entry: &Symbol) -> bool
-    ensures { result ≡ (is_global entry.now && not (is_undefined entry.now) && not (is_common entry.now)) }
+/// Whether a symbol stands in a section or is absolute.
+fn is_placed(entry: &Symbol) -> bool
+    ensures { result ≡ is_placed_symbol entry.now }
 {
-    entry.st_info / 16 == STB_GLOBAL && entry.st_shndx != SHN_UNDEF && entry.st_shndx != SHN_COMMON
+    entry.st_shndx != SHN_UNDEF && entry.st_shndx != SHN_COMMON
+}
+
+/// Whether a symbol is common: it asks for a block (System V gABI 4, "Symbol Table", SHN_COMMON).
+pub fn is_common(entry: &Symbol) -> bool
+    ensures { result ≡ is_common entry.now }
+{
+    entry.st_shndx == SHN_COMMON
+}
+
+/// Whether a symbol is a strong definition: GLOBAL, in a section that isn't dropped or absolute.
+pub fn is_strong(entry: &Symbol, dropped: bool) -> bool
+    ensures { result ≡ (is_global entry.now && (is_placed_symbol entry.now && not dropped)) }
+{
+    entry.st_info / 16 == STB_GLOBAL && is_placed(entry) && !dropped
+}
+
+/// Whether a symbol is a weak definition: WEAK, in a section that isn't dropped or absolute.
+fn is_weak_definition(entry: &Symbol, dropped: bool) -> bool
+    ensures { result ≡ (is_weak entry.now && (is_placed_symbol entry.now && not dropped)) }
+{
+    entry.st_info / 16 == STB_WEAK && is_placed(entry) && !dropped
+}
+
+/// Whether a symbol is a definition that asks for a common block: GLOBAL and common.
+pub fn is_common_definition(entry: &Symbol, dropped: bool) -> bool
+    ensures { result ≡ (is_global entry.now && (is_common entry.now && not dropped)) }
+{
+    entry.st_info / 16 == STB_GLOBAL && is_common(entry) && !dropped
+}
+
+/// Whether a symbol is a definition: strong, common or weak.
+pub fn is_definition(entry: &Symbol, dropped: bool) -> bool
+    ensures { result ≡ is_defining entry.now dropped }
+{
+    is_strong(entry, dropped)
+        || is_common_definition(entry, dropped)
+        || is_weak_definition(entry, dropped)
 }

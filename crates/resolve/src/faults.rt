@@ -12,6 +12,8 @@ pub enum ResolveFault {
     Memory,
     #[error("Duplicate (2)")]
     Duplicate(Vec<u8>),
+    #[error("BadCommon (3)")]
+    BadCommon,
     #[error("BadSymbol (4)")]
     BadSymbol,
 }

@@ -1,13 +1,17 @@
-//! Which definition a name means: whether the symbols of the loaded objects are sound, the strong
-//! definitions in the order of their names, and for each symbol the definition that a reference to it
-//! uses (System V gABI 4, "Symbol Table"; what is refused is the profile's); and the names of output sections.
+//! Which definition a name means: whether the symbols of the loaded objects are sound, the chosen
+//! definitions in the order of their names, the common blocks, and for each symbol the definition that a reference
+//! to it uses (System V gABI 4, "Symbol Table"; what is refused is the profile's); and the names of output sections.
 #![tactic(auto)]
 
+mod blocks;
+mod bounds;
 mod defining;
 mod entries;
 mod faults;
+mod meaning;
 mod offering;
 mod output_names;
+mod outputs;
 mod places;
 mod plain;
 mod ranks;
@@ -16,8 +20,11 @@ mod rows;
 mod sections;
 mod soundness;
 
+pub use blocks::Block;
+pub use bounds::named_output;
 pub use entries::SymbolOf;
 pub use faults::ResolveFault;
+pub use meaning::Meaning;
 pub use output_names::output_name;
 pub use plain::have_plain_names;
 pub use resolved::{Resolved, resolve, resolve_over};

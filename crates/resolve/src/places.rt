@@ -1,18 +1,15 @@
 //! The place of each symbol's definition among the definitions, found once.
 ghost use Rattle.std.specs.Prelude.{◌≡◌, ◌≢◌, ℕ, Some, length, unwrap_or};
 ghost use Rattle.std.specs.List.{slice_get};
-ghost use Rattle.std.specs.Option.{option_map};
-ghost use Rattle.elf_model.specs.Resolution.{chosen};
-ghost use Rattle.search.specs.Views.{loaded_views};
+ghost use Rattle.elf_model.specs.Resolution.{chosen, symbol_of};
+ghost use Rattle.search.specs.Views.{loaded_view, loaded_views};
 ghost use Rattle.resolve.specs.Meaning.{named_at, named_of};
-ghost use Rattle.resolve.specs.Places.{ArePlaces, AreRanked, IsIndex, at_place, at_some, place_at, symbol_of};
-ghost use Rattle.resolve.specs.Views.{symbol_in};
+ghost use Rattle.resolve.specs.Places.{ArePlaces, AreRanked, IsIndex, at_place, at_some, place_at, symbol_numbered};
 
-use crate::entries::{SymbolOf, is_local, is_strong, name_of};
-use crate::offering::strong_of;
+use crate::entries::{SymbolOf, is_dropped, is_local, is_strong, name_of};
+use crate::offering::chosen_of;
 use crate::rows::{place_at, put};
 use elf_model::Symbol;
-use elf_read::Object;
 use search::Loaded;
 use symbols::NameTable;
 
@@ -50,7 +47,7 @@ fn name_place<'a, T: NameTable<'a>>(
     requires ranked { AreRanked (loaded_views index.now.objects.now) index.now.definitions.now places.now }
     ensures { at_place index.now.definitions.now result ≡ chosen (loaded_views index.now.objects.now) name.now }
 {
-    match strong_of(index.table, name) {
+    match chosen_of(index.table, name) {
         Some(symbol) => rank(
             index,
             places,
@@ -66,41 +63,42 @@ fn name_place<'a, T: NameTable<'a>>(
 fn symbol_place<'a, T: NameTable<'a>>(
     index: &Index<'_, 'a, T>,
     places: &[Vec<usize>],
-    object: &Object<'a>,
+    loaded: &Loaded<'a>,
     j: usize,
     entry: &Symbol,
 ) -> usize
     requires indexed { IsIndex (loaded_views index.now.objects.now) index.now.definitions.now (T.rows index.now.table.now) }
     requires ranked { AreRanked (loaded_views index.now.objects.now) index.now.definitions.now places.now }
-    ensures { (number : ℕ) → at_place index.now.definitions.now result ≡ named_of (loaded_views index.now.objects.now) (symbol_in number object.now j entry.now) }
+    ensures { (number : ℕ) → at_place index.now.definitions.now result ≡ named_of (loaded_views index.now.objects.now) (symbol_of number (loaded_view loaded.now) j entry.now) }
 {
     if is_local(entry) {
         return index.definitions.len();
     }
-    name_place(index, places, name_of(object, j))
+    name_place(index, places, name_of(&loaded.object, j))
 }
 
 /// Writes the place for symbol `j` of the object that has a number. A strong definition's own stands
-/// there already; every other name is looked up, but for those of LOCAL symbols.
+/// there already; every other name is looked up, but for those of LOCAL symbols. Where that finds the symbol
+/// itself, what is written stands there already.
 fn write_at<'a, T: NameTable<'a>>(
     index: &Index<'_, 'a, T>,
     places: &mut Vec<Vec<usize>>,
     number: usize,
-    object: &Object<'a>,
+    loaded: &Loaded<'a>,
     j: usize,
     entry: &Symbol,
 )
     requires indexed { IsIndex (loaded_views index.now.objects.now) index.now.definitions.now (T.rows index.now.table.now) }
     requires ranked { AreRanked (loaded_views index.now.objects.now) index.now.definitions.now places.old.items }
-    requires there { symbol_of (loaded_views index.now.objects.now) number j ≡ Some (symbol_in number object.now j entry.now) }
+    requires there { symbol_numbered (loaded_views index.now.objects.now) number j ≡ Some (symbol_of number (loaded_view loaded.now) j entry.now) }
     ensures ranked { AreRanked (loaded_views index.now.objects.now) index.now.definitions.now places.new.items }
     ensures here { at_some index.now.definitions.now (place_at places.new.items number j) ≡ named_at (loaded_views index.now.objects.now) number j }
     ensures others { (m n : ℕ) → (m ≡ number → n ≢ j) → place_at places.new.items m n ≡ place_at places.old.items m n }
 {
-    if is_strong(entry) {
+    if is_strong(entry, is_dropped(loaded, entry)) {
         return;
     }
-    let place = symbol_place(index, places.as_slice(), object, j, entry);
+    let place = symbol_place(index, places.as_slice(), loaded, j, entry);
     put(places, number, j, place);
 }
 
@@ -109,18 +107,18 @@ fn write_in<'a, T: NameTable<'a>>(
     index: &Index<'_, 'a, T>,
     places: &mut Vec<Vec<usize>>,
     number: usize,
-    object: &Object<'a>,
+    loaded: &Loaded<'a>,
 )
     requires indexed { IsIndex (loaded_views index.now.objects.now) index.now.definitions.now (T.rows index.now.table.now) }
     requires ranked { AreRanked (loaded_views index.now.objects.now) index.now.definitions.now places.old.items }
-    requires there { option_map (λ o. o.bytes) (slice_get (loaded_views index.now.objects.now) number) ≡ Some object.now }
+    requires there { slice_get (loaded_views index.now.objects.now) number ≡ Some (loaded_view loaded.now) }
     ensures ranked { AreRanked (loaded_views index.now.objects.now) index.now.definitions.now places.new.items }
     ensures here { (j : ℕ) → at_some index.now.definitions.now (place_at places.new.items number j) ≡ named_at (loaded_views index.now.objects.now) number j }
     ensures others { (m n : ℕ) → m ≢ number → place_at places.new.items m n ≡ place_at places.old.items m n }
 {
-    let entries = object.symbols();
+    let entries = loaded.object.symbols();
     for (j, entry) in entries.iter().enumerate() {
-        write_at(index, places, number, object, j, entry);
+        write_at(index, places, number, loaded, j, entry);
     }
 }
 
@@ -131,6 +129,6 @@ pub fn write_places<'a, T: NameTable<'a>>(index: &Index<'_, 'a, T>, places: &mut
     ensures { ArePlaces (loaded_views index.now.objects.now) index.now.definitions.now places.new.items }
 {
     for (k, loaded) in index.objects.iter().enumerate() {
-        write_in(index, places, k, &loaded.object);
+        write_in(index, places, k, loaded);
     }
 }

@@ -1,36 +1,29 @@
-//! Whether the linker's names that objects use have definitions.
-ghost use Rattle.std.specs.Prelude.{◌≡◌, ◌||◌, ◌↔◌, ℕ, List, All, IfOk, IsTrue, OnOk, length};
-ghost use Rattle.std.specs.Str.{bytes_eq};
+//! Whether the names of later versions that objects use have definitions.
+ghost use Rattle.std.specs.Prelude.{◌≡◌, ◌↔◌, All, IfOk, IsTrue, length};
 ghost use Rattle.elf_model.specs.Profile.{HasPlainNames};
 ghost use Rattle.elf_read.specs.Names.{name_views};
 ghost use Rattle.search.specs.Views.{loaded_views};
-ghost use Rattle.elf_model.specs.UsedNames.{AreNamesOf, IsAmong, is_among, used_names};
+ghost use Rattle.elf_model.specs.UsedNames.{AreNamesOf, IsAmong, used_names};
 ghost use Rattle.resolve.specs.Views.{symbol_views};
 
-use crate::defining::strong_definitions;
+use crate::defining::definitions;
 use crate::entries::SymbolOf;
-use elf_read::linker_names;
+use crate::outputs::{add_name, is_among};
+use elf_read::later_names;
 use search::Loaded;
 use std::alloc::{AllocError, Global};
 use std::collections::BTreeSet;
 
-/// The linker's names that the objects use, in load order.
+/// The linker's names of later versions that the objects use, in load order.
 fn used_names<'a>(alloc: Global, objects: &[Loaded<'a>]) -> Result<Vec<&'a [u8]>, AllocError>
     ensures { IfOk result (λ v. name_views v.items ≡ used_names (loaded_views objects.now)) }
 {
     let mut used = Vec::new(alloc);
     for loaded in objects {
-        let names = linker_names(alloc, &loaded.object)?;
+        let names = later_names(alloc, &loaded.object)?;
         used.extend_from_slice(&names)?;
     }
     Ok(used)
-}
-
-fn add_name<'a>(names: &mut BTreeSet<&'a [u8]>, name: &'a [u8]) -> Result<(), AllocError>
-    ensures { OnOk result ((n : List ℕ) → is_among names.new n ≡ (bytes_eq name.entry.now n || is_among names.old n)) }
-{
-    names.insert(name)?;
-    Ok(())
 }
 
 /// The names of definitions.
@@ -53,24 +46,24 @@ fn is_empty(names: &[&[u8]]) -> bool
     names.is_empty()
 }
 
-fn is_among(name: &[u8], names: &BTreeSet<&[u8]>) -> bool
+fn is_defined(name: &[u8], names: &BTreeSet<&[u8]>) -> bool
     ensures { IsTrue result ↔ IsAmong names.now name.now }
 {
-    names.contains(name)
+    is_among(name, names)
 }
 
 fn are_among(used: &[&[u8]], names: &BTreeSet<&[u8]>) -> bool
     ensures { IsTrue result ↔ All (λ n. IsAmong names.now n.now) used.now }
 {
     for name in used {
-        if !is_among(name, names) {
+        if !is_defined(name, names) {
             return false;
         }
     }
     true
 }
 
-/// Whether no object uses a linker's name that none of them defines.
+/// Whether no object uses a name of later versions that none of them defines.
 ///
 /// # Errors
 ///
@@ -82,7 +75,7 @@ pub fn have_plain_names(alloc: Global, objects: &[Loaded<'_>]) -> Result<bool, A
     if is_empty(&used) {
         return Ok(true);
     }
-    let strong = strong_definitions(alloc, objects)?;
-    let defined = names_among(alloc, &strong)?;
+    let all = definitions(alloc, objects)?;
+    let defined = names_among(alloc, &all)?;
     Ok(are_among(&used, &defined))
 }

@@ -1,27 +1,38 @@
 //! What names and symbols mean among the loaded objects.
-ghost use Rattle.std.specs.Prelude.{◌≡◌, IfErr, IfNone, IfOk, IfSome, OnOk, OnSome, Some, false, find};
+ghost use Rattle.std.specs.Prelude.{◌≡◌, IfErr, IfNone, IfOk, IfSome, OnOk, OnSome, None, Some, cond, false, find};
 ghost use Rattle.std.specs.Cmp.Lexicographic.{slice_cmp};
 ghost use Rattle.std.specs.List.{slice_get};
 ghost use Rattle.std.specs.List.Sorted.{IsSortedByKey};
-ghost use Rattle.std.specs.Option.{option_map, option_map_or};
+ghost use Rattle.std.specs.Option.{option_and_then, option_map, option_map_or};
 ghost use Rattle.std.specs.Ordering.{nat_cmp};
-ghost use Rattle.elf_model.specs.Resolution.{AreSoundSymbols, AreUnique, IsEntry, chosen, has_name, is_in_thread_section};
-ghost use Rattle.search.specs.Views.{loaded_views};
+ghost use Rattle.elf_model.specs.Commons.{block_named, blocks};
+ghost use Rattle.elf_model.specs.LinkerNames.{bound_of};
+ghost use Rattle.elf_model.specs.Meaning as meaning;
+ghost use Rattle.elf_model.specs.Meaning.{is_in_thread_storage, object_meaning};
+ghost use Rattle.elf_model.specs.Resolution.{AreSoundCommons, AreSoundSymbols, AreUnique, IsEntry, chosen, has_name, is_undefined, symbol_of};
+ghost use Rattle.search.specs.Views.{loaded_view, loaded_views};
+ghost use Rattle.resolve.specs.Blocks.{block_view, block_views};
 ghost use Rattle.resolve.specs.Defined.{AreDefinitions, HasEachNameOnce};
-ghost use Rattle.resolve.specs.Meaning.{definition_at, named_at, own_at};
+ghost use Rattle.resolve.specs.Meaning.{definition_at, named_at, unchosen_at};
 ghost use Rattle.resolve.specs.Refusals.{ResolvingFails};
-ghost use Rattle.resolve.specs.Views.{symbol_view, symbol_views};
+ghost use Rattle.resolve.specs.Views.{meaning_view, symbol_view, symbol_views};
 ghost use Rattle.symbols.specs.Rows.{no_rows};
 
+use crate::blocks::{Block, index_of};
+use crate::bounds::bound_of;
 use crate::defining::define;
-use crate::entries::{SymbolOf, is_local, is_undefined, symbol_in};
+use crate::entries::{SymbolOf, is_common, is_local, is_undefined, name_of, symbol_in};
 use crate::faults::ResolveFault;
+use crate::meaning::Meaning;
+use crate::outputs::output_names_of;
 use crate::places::{Index, write_places};
 use crate::ranks::ranks_of;
 use crate::rows::place_at;
 use crate::sections::is_in_thread_section;
+use elf_model::{Bound, Symbol};
 use search::Loaded;
 use std::alloc::Global;
+use std::collections::{BTreeMap, BTreeSet};
 use std::hash::{BuildHasherDefault, FoldHasher};
 use std::marker::Model;
 use symbols::{IndexedTable, NameTable};
@@ -33,6 +44,9 @@ pub struct Resolved<'b, 'a> {
     objects: &'b [Loaded<'a>],
     definitions: Vec<SymbolOf<'a>>,
     places: Vec<Vec<usize>>,
+    blocks: Vec<Block<'a>>,
+    named_blocks: BTreeMap<&'a [u8], Block<'a>>,
+    outputs: BTreeSet<&'a [u8]>,
 }
 
 impl<'b, 'a> Model for Resolved<'b, 'a> {
@@ -42,14 +56,14 @@ impl<'b, 'a> Model for Resolved<'b, 'a> {
     ghost Value = { List LoadedObject };
 
     ghost use Rattle.search.specs.Views.{loaded_views};
-    ghost use Rattle.resolve.specs.Places.{AreTables};
+    ghost use Rattle.resolve.specs.Tables.{AreTables};
 
     ghost view = { λ r. loaded_views r.objects.now };
 
-    ghost invariant = { λ r. AreTables (loaded_views r.objects.now) r.definitions.items r.places.items };
+    ghost invariant = { λ r. AreTables (loaded_views r.objects.now) r.definitions.items r.places.items r.blocks.items r.named_blocks r.outputs };
 }
 
-/// Resolves the names of loaded objects by any table of names: offers it each strong definition once, in
+/// Resolves the names of loaded objects by any table of names: offers it each definition once, in
 /// load order, and looks each symbol's name up once, but for LOCAL ones. The table is empty at the start.
 ///
 /// # Errors
@@ -62,22 +76,27 @@ pub fn resolve_over<'b, 'a, T: NameTable<'a> + Drop>(
 ) -> Result<Resolved<'b, 'a>, ResolveFault>
     requires { T.rows table ≡ no_rows }
     ensures exact { IfOk result (λ r. r ≡ loaded_views objects.entry.now) }
-    ensures resolved { OnOk result (AreSoundSymbols (loaded_views objects.entry.now) × AreUnique (loaded_views objects.entry.now)) }
+    ensures resolved { OnOk result (AreSoundCommons (loaded_views objects.entry.now) × AreSoundSymbols (loaded_views objects.entry.now) × AreUnique (loaded_views objects.entry.now)) }
     ensures fault { IfErr result (ResolvingFails (loaded_views objects.entry.now)) }
 {
     let mut offered = table;
-    let definitions = define(alloc, objects, &mut offered)?;
-    let mut places = ranks_of(alloc, objects, &definitions)?;
+    let defined = define(alloc, objects, &mut offered)?;
+    let mut places = ranks_of(alloc, objects, &defined.symbols)?;
     let index = Index {
         objects,
-        definitions: &definitions,
+        definitions: &defined.symbols,
         table: &offered,
     };
     write_places(&index, &mut places);
+    let named_blocks = index_of(alloc, &defined.blocks)?;
+    let outputs = output_names_of(alloc, objects)?;
     Ok(Resolved {
         objects,
-        definitions,
+        definitions: defined.symbols,
         places,
+        blocks: defined.blocks,
+        named_blocks,
+        outputs,
     })
 }
 
@@ -85,13 +104,14 @@ pub fn resolve_over<'b, 'a, T: NameTable<'a> + Drop>(
 ///
 /// # Errors
 ///
-/// BadSymbol where a symbol isn't sound, Duplicate where a name has two strong definitions, Memory.
+/// BadCommon where a common symbol isn't sound, BadSymbol where another one isn't, Duplicate where a name has two
+/// strong definitions, Memory.
 pub fn resolve<'b, 'a>(
     alloc: Global,
     objects: &'b [Loaded<'a>],
 ) -> Result<Resolved<'b, 'a>, ResolveFault>
     ensures exact { IfOk result (λ r. r ≡ loaded_views objects.entry.now) }
-    ensures resolved { OnOk result (AreSoundSymbols (loaded_views objects.entry.now) × AreUnique (loaded_views objects.entry.now)) }
+    ensures resolved { OnOk result (AreSoundCommons (loaded_views objects.entry.now) × AreSoundSymbols (loaded_views objects.entry.now) × AreUnique (loaded_views objects.entry.now)) }
     ensures fault { IfErr result (ResolvingFails (loaded_views objects.entry.now)) }
 {
     let seed: BuildHasherDefault<FoldHasher> = BuildHasherDefault::new();
@@ -117,15 +137,25 @@ fn found<'a>(definitions: &[SymbolOf<'a>], name: &[u8]) -> Option<SymbolOf<'a>>
     }
 }
 
+/// Symbol `j` of an object itself, where it is defined.
+fn itself<'a>(number: u64, loaded: &Loaded<'a>, j: usize, entry: &Symbol) -> Option<Meaning<'a>>
+    ensures { option_map meaning_view result ≡ cond (is_undefined entry.now) None (Some (meaning.Symbol (symbol_of number (loaded_view loaded.now) j entry.now))) }
+{
+    if is_undefined(entry) {
+        return None;
+    }
+    Some(Meaning::Symbol(symbol_in(number, loaded, j, entry)))
+}
+
 impl<'b, 'a> Resolved<'b, 'a> {
-    /// The strong definitions, in the order of their names.
+    /// The chosen definitions, in the order of their names.
     pub fn definitions(&self) -> &[SymbolOf<'a>]
         ensures { AreDefinitions self.now result.now }
     {
         self.definitions.as_slice()
     }
 
-    /// The strong definitions, in the order of their names, without the rest.
+    /// The chosen definitions, in the order of their names, without the rest.
     pub fn into_definitions(self) -> Vec<SymbolOf<'a>>
         ensures { AreDefinitions self.entry result.items }
     {
@@ -139,15 +169,48 @@ impl<'b, 'a> Resolved<'b, 'a> {
         found(&self.definitions, name)
     }
 
-    /// The definition that a reference to symbol `number` of an object uses: its name's chosen one, or
-    /// the symbol itself where that is LOCAL. None where there is none, nor such an object.
-    pub fn definition(&self, object: usize, number: usize) -> Option<SymbolOf<'a>>
-        ensures { option_map symbol_view result ≡ definition_at self.now object number }
+    /// The common blocks, in load order.
+    pub fn blocks(&self) -> &[Block<'a>]
+        ensures { block_views result.now ≡ blocks self.now }
     {
-        match self.named(object, number) {
-            Some(symbol) => Some(symbol),
-            None => self.own(object, number),
+        self.blocks.as_slice()
+    }
+
+    /// The common block of a name; None where it has none.
+    fn block(&self, name: &[u8]) -> Option<Block<'a>>
+        ensures { option_map block_view result ≡ block_named self.now name.now }
+    {
+        self.named_blocks.get(name).copied()
+    }
+
+    /// What a chosen symbol means: a common one, its name's block; another one, itself.
+    pub fn meant(&self, symbol: &SymbolOf<'a>) -> Option<Meaning<'a>>
+        ensures { option_map meaning_view result ≡ meaning.meant self.now (symbol_view symbol.now) }
+    {
+        if !is_common(&symbol.entry) {
+            return Some(Meaning::Symbol(*symbol));
         }
+        let block = self.block(symbol.name)?;
+        Some(Meaning::Common(block))
+    }
+
+    /// What a reference to symbol `number` of an object uses: what its name's chosen definition means, or else the
+    /// linker's; or the symbol itself where that is LOCAL. None where there is none, nor such an object.
+    pub fn definition(&self, object: usize, number: usize) -> Option<Meaning<'a>>
+        ensures { option_map meaning_view result ≡ definition_at self.now object number }
+    {
+        match self.chosen_meaning(object, number) {
+            Some(meaning) => Some(meaning),
+            None => self.unchosen(object, number),
+        }
+    }
+
+    /// What the chosen definition of a symbol's name means, for one that isn't LOCAL.
+    fn chosen_meaning(&self, object: usize, number: usize) -> Option<Meaning<'a>>
+        ensures { option_map meaning_view result ≡ option_and_then (meaning.meant self.now) (named_at self.now object number) }
+    {
+        let symbol = self.named(object, number)?;
+        self.meant(&symbol)
     }
 
     /// The chosen definition of a symbol's name, for one that isn't LOCAL.
@@ -158,32 +221,58 @@ impl<'b, 'a> Resolved<'b, 'a> {
         definition_at(&self.definitions, place)
     }
 
-    /// A symbol itself, for a LOCAL one that is defined.
-    fn own(&self, object: usize, number: usize) -> Option<SymbolOf<'a>>
-        ensures { option_map symbol_view result ≡ own_at self.now object number }
+    /// What the linker itself defines a name as, whether or not an object does.
+    pub fn bound(&self, name: &[u8]) -> Option<Bound>
+        ensures { result ≡ bound_of self.now name.now }
+    {
+        bound_of(&self.outputs, name)
+    }
+
+    /// What the linker defines for a name.
+    fn linker_meaning(&self, name: &'a [u8]) -> Option<Meaning<'a>>
+        ensures { option_map meaning_view result ≡ option_map (meaning.Linker name.now) (bound_of self.now name.now) }
+    {
+        let bound = self.bound(name)?;
+        Some(Meaning::Linker(name, bound))
+    }
+
+    /// A symbol itself, for a LOCAL one that is defined; what the linker defines for the name of another one.
+    fn unchosen(&self, object: usize, number: usize) -> Option<Meaning<'a>>
+        ensures { option_map meaning_view result ≡ unchosen_at self.now object number }
     {
         let loaded = self.objects.get(object)?;
         let entry = loaded.object.symbols().get(number)?;
-        if !is_local(entry) || is_undefined(entry) {
-            return None;
+        if is_local(entry) {
+            return itself(object as u64, loaded, number, entry);
         }
-        Some(symbol_in(object as u64, &loaded.object, number, entry))
+        self.linker_meaning(name_of(&loaded.object, number))
     }
 
-    /// Whether the definition that a reference to symbol `number` of an object uses stands in a section
-    /// with SHF_TLS; one that has no definition doesn't.
+    /// Whether what a name means stands in a section with SHF_TLS; a common block doesn't, nor does the linker's.
+    pub fn is_in_thread_storage(&self, meaning: &Meaning<'a>) -> bool
+        ensures { result ≡ is_in_thread_storage self.now (meaning_view meaning.now) }
+    {
+        match meaning {
+            Meaning::Symbol(symbol) => is_in_thread_section(self.objects, symbol),
+            Meaning::Common(_) => false,
+            Meaning::Linker(_, _) => false,
+        }
+    }
+
+    /// Whether what a reference to symbol `number` of an object uses stands in a section with SHF_TLS; one that has
+    /// no definition doesn't.
     pub fn is_thread_local(&self, object: usize, number: usize) -> bool
-        ensures { result ≡ option_map_or (is_in_thread_section self.now) (definition_at self.now object number) false }
+        ensures { result ≡ option_map_or (is_in_thread_storage self.now) (definition_at self.now object number) false }
     {
         match self.definition(object, number) {
-            Some(symbol) => is_in_thread_section(self.objects, &symbol),
+            Some(meaning) => self.is_in_thread_storage(&meaning),
             None => false,
         }
     }
 
-    /// The entry's definition, by its name, which stands in no section with SHF_TLS.
-    pub fn entry(&self, name: &[u8]) -> Option<SymbolOf<'a>>
-        ensures chosen { IfSome result (λ s. chosen self.now name.now ≡ Some (symbol_view s)) }
+    /// What the entry's name means by its chosen definition, which stands in no section with SHF_TLS.
+    pub fn entry(&self, name: &[u8]) -> Option<Meaning<'a>>
+        ensures meaning { IfSome result (λ m. object_meaning self.now name.now ≡ Some (meaning_view m)) }
         ensures entry { OnSome result (IsEntry self.now name.now) }
         ensures none { IfNone result (¬ IsEntry self.now name.now) }
     {
@@ -191,6 +280,6 @@ impl<'b, 'a> Resolved<'b, 'a> {
         if is_in_thread_section(self.objects, &symbol) {
             return None;
         }
-        Some(symbol)
+        self.meant(&symbol)
     }
 }

@@ -1,14 +1,14 @@
 //! Whether the symbols of the loaded objects are sound.
-ghost use Rattle.std.specs.Prelude.{◌≤◌, ◌↔◌, All, IsTrue};
+ghost use Rattle.std.specs.Prelude.{◌≤◌, ◌^◌, ◌↔◌, All, IsTrue};
+ghost use Rattle.std.specs.Int.{IsPowerOfTwo};
 ghost use Rattle.elf_model.specs.ObjectFile.{symbols};
-ghost use Rattle.elf_model.specs.Resolution.{AreSoundSymbols, IsSoundSymbol, StandsWell, binding, symbols_from};
-ghost use Rattle.search.specs.Views.{loaded_views};
-ghost use Rattle.resolve.specs.Views.{symbol_in};
+ghost use Rattle.elf_model.specs.Resolution.{AreSoundCommons, AreSoundSymbols, IsSoundCommon, IsSoundSymbol, StandsWell, binding, symbol_of, symbols_from};
+ghost use Rattle.search.specs.Views.{loaded_view, loaded_views};
 
-use crate::entries::name_of;
+use crate::entries::{is_common, is_dropped, name_of};
 use crate::sections::section_of;
-use elf_model::{SectionHeader, Symbol};
-use elf_read::Object;
+use elf_model::{STB_GLOBAL, STT_TLS, SectionHeader, Symbol};
+use elf_read::is_power_of_two;
 use search::Loaded;
 
 fn is_visible(entry: &Symbol) -> bool
@@ -29,18 +29,21 @@ fn stands_well(entry: &Symbol, section: &SectionHeader) -> bool
 }
 
 /// Whether symbol `j` of the object that has a number is sound, by its entry: a GLOBAL or WEAK one has a
-/// name, and each stands well in its section where it has one.
+/// name, and each stands well in its section where it has one that isn't dropped.
 fn is_sound(
     objects: &[Loaded<'_>],
     number: u64,
-    object: &Object<'_>,
+    loaded: &Loaded<'_>,
     j: usize,
     entry: &Symbol,
 ) -> bool
-    ensures { IsTrue result ↔ IsSoundSymbol (loaded_views objects.now) (symbol_in number object.now j entry.now) }
+    ensures { IsTrue result ↔ IsSoundSymbol (loaded_views objects.now) (symbol_of number (loaded_view loaded.now) j entry.now) }
 {
-    if is_visible(entry) && name_of(object, j).is_empty() {
+    if is_visible(entry) && name_of(&loaded.object, j).is_empty() {
         return false;
+    }
+    if is_dropped(loaded, entry) {
+        return true;
     }
     match section_of(objects, number as usize, entry) {
         Some(section) => stands_well(entry, &section),
@@ -49,12 +52,12 @@ fn is_sound(
 }
 
 /// Whether the symbols of the object that has a number are sound among the objects.
-fn has_sound_symbols(objects: &[Loaded<'_>], number: u64, object: &Object<'_>) -> bool
-    ensures { IsTrue result ↔ All (IsSoundSymbol (loaded_views objects.now)) (symbols_from number object.now 0 (symbols object.now)) }
+fn has_sound_symbols(objects: &[Loaded<'_>], number: u64, loaded: &Loaded<'_>) -> bool
+    ensures { IsTrue result ↔ All (IsSoundSymbol (loaded_views objects.now)) (symbols_from number (loaded_view loaded.now) 0 (symbols loaded.now.object)) }
 {
-    let entries = object.symbols();
+    let entries = loaded.object.symbols();
     for (j, entry) in entries.iter().enumerate() {
-        if !is_sound(objects, number, object, j, entry) {
+        if !is_sound(objects, number, loaded, j, entry) {
             return false;
         }
     }
@@ -66,7 +69,56 @@ pub fn are_sound(objects: &[Loaded<'_>]) -> bool
     ensures { IsTrue result ↔ AreSoundSymbols (loaded_views objects.now) }
 {
     for (k, loaded) in objects.iter().enumerate() {
-        if !has_sound_symbols(objects, k as u64, &loaded.object) {
+        if !has_sound_symbols(objects, k as u64, loaded) {
+            return false;
+        }
+    }
+    true
+}
+
+/// The greatest alignment of a common symbol, in bytes.
+const ALIGN_LIMIT: u64 = 1 << 21;
+
+fn is_block_alignment(align: u64) -> bool
+    ensures { IsTrue result ↔ (IsPowerOfTwo align × (align ≤ 2 ^ 21)) }
+{
+    is_power_of_two(align) && align <= ALIGN_LIMIT
+}
+
+/// Whether a symbol is sound as a common one, by its entry: where it is common, it is GLOBAL, not of type TLS, and its
+/// st_value is a power of two up to 2 ^ 21.
+fn is_sound_common(number: u64, loaded: &Loaded<'_>, j: usize, entry: &Symbol) -> bool
+    ensures { IsTrue result ↔ IsSoundCommon (symbol_of number (loaded_view loaded.now) j entry.now) }
+{
+    let _numbers = (number, j);
+    if !is_common(entry) {
+        return true;
+    }
+    if entry.st_info / 16 != STB_GLOBAL || entry.st_info % 16 == STT_TLS {
+        return false;
+    }
+    is_block_alignment(entry.st_value)
+}
+
+/// Whether the common symbols of the object that has a number are sound.
+fn has_sound_commons(number: u64, loaded: &Loaded<'_>) -> bool
+    ensures { IsTrue result ↔ All IsSoundCommon (symbols_from number (loaded_view loaded.now) 0 (symbols loaded.now.object)) }
+{
+    let entries = loaded.object.symbols();
+    for (j, entry) in entries.iter().enumerate() {
+        if !is_sound_common(number, loaded, j, entry) {
+            return false;
+        }
+    }
+    true
+}
+
+/// Whether all common symbols of the objects are sound.
+pub fn are_sound_commons(objects: &[Loaded<'_>]) -> bool
+    ensures { IsTrue result ↔ AreSoundCommons (loaded_views objects.now) }
+{
+    for (k, loaded) in objects.iter().enumerate() {
+        if !has_sound_commons(k as u64, loaded) {
             return false;
         }
     }

@@ -1,1 +1,9 @@
-pub mod Loads
+pub mod FaultLaws
+pub mod LoadLaws
+pub mod LoaderLaws
+pub mod NameSets
+pub mod NotedNames
+pub mod OpenedLaws
+pub mod StepLaws
+pub mod TurnLaws
+pub mod WaitLaws

@@ -4,7 +4,7 @@ use Rattle.elf_model.specs.Loading.{LoadedObject}
 use Rattle.search.specs.declared.loading.Loaded.{Loaded}
 
 abbrev pub loaded_view : Loaded → LoadedObject
-loaded_view l = record { bytes = l.object; item = l.item; offset = 0; path = l.path.now }
+loaded_view l = record { bytes = l.object; item = l.item; offset = l.offset; path = l.path.now; dropped = l.dropped }
 
 abbrev pub loaded_views : List Loaded → List LoadedObject
 loaded_views ls = map loaded_view ls

@@ -1,8 +1,9 @@
 //! Why nothing is loaded. Each refusal prints as its name and its number.
 ghost use Rattle.std.specs.Prelude.{◌≡◌};
+ghost use Rattle.search.specs.Faults.{of_archive, of_groups, of_object};
 ghost use Rattle.search.specs.declared.faults.SearchFault.TheVariants as search_fault;
 
-use elf_model::ObjFault;
+use elf_model::{ArFault, GroupFault, ObjFault};
 use std::alloc::{AllocError, AllocFailed};
 use thiserror::Error;
 
@@ -15,6 +16,12 @@ pub enum SearchFault {
     FileMissing,
     #[error("BadObject (3): {0}")]
     BadObject(ObjFault),
+    #[error("BadArchive (4): {0}")]
+    BadArchive(ArFault),
+    #[error("NoIndex (5)")]
+    NoIndex,
+    #[error("Group (6): {0}")]
+    Group(GroupFault),
 }
 
 impl From<AllocError> for SearchFault {
@@ -30,5 +37,35 @@ impl<T: Drop> From<AllocFailed<T>> for SearchFault {
 
     fn from(_error: AllocFailed<T>) -> SearchFault {
         SearchFault::from(AllocError)
+    }
+}
+
+/// A fault of an object as one of loading.
+pub fn object_fault(fault: ObjFault) -> SearchFault
+    ensures { result ≡ of_object fault }
+{
+    match fault {
+        ObjFault::Memory => SearchFault::Memory,
+        other => SearchFault::BadObject(other),
+    }
+}
+
+/// A fault of an archive as one of loading.
+pub fn archive_fault(fault: ArFault) -> SearchFault
+    ensures { result ≡ of_archive fault }
+{
+    match fault {
+        ArFault::Memory => SearchFault::Memory,
+        other => SearchFault::BadArchive(other),
+    }
+}
+
+/// A fault of groups as one of loading.
+pub fn group_fault(fault: GroupFault) -> SearchFault
+    ensures { result ≡ of_groups fault }
+{
+    match fault {
+        GroupFault::Memory => SearchFault::Memory,
+        other => SearchFault::Group(other),
     }
 }

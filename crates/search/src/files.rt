@@ -1,10 +1,10 @@
 //! Finds files by their names.
-ghost use Rattle.std.specs.Prelude.{◌≡◌, ℕ, IfOk, List, None, OnOk, Some, cond, option_copied, string_bytes};
+ghost use Rattle.std.specs.Prelude.{◌≡◌, ℕ, IfOk, IfSome, List, None, OnOk, Some, cond, option_copied, option_map, string_bytes};
 ghost use Rattle.std.specs.Option.{option_or};
 ghost use Rattle.std.specs.Str.{bytes_eq};
 ghost use Rattle.elf_model.specs.Files.{files_of};
-ghost use Rattle.elf_model.specs.Loading.{file_named};
 ghost use Rattle.elf_model.specs.FileIndex.{IsIndex, found};
+ghost use Rattle.elf_model.specs.Opening.{file_named};
 
 use elf_model::InputFile;
 use std::alloc::{AllocError, Global};
@@ -39,11 +39,13 @@ impl<'a> FileIndex<'a> {
         Ok(FileIndex { files, index })
     }
 
-    /// The bytes of the first file of a name.
-    pub fn find(&self, name: &str) -> Option<&'a [u8]>
-        ensures { option_copied result ≡ file_named self.now name.now }
+    /// The name and the bytes of the first file of a name.
+    pub fn find(&self, name: &str) -> Option<(&'a str, &'a [u8])>
+        ensures bytes { option_map (λ f. f.1.now) result ≡ file_named self.now name.now }
+        ensures name { IfSome result (λ f. f.0.now ≡ name.now) }
     {
-        self.index.get(name).copied()
+        let (name, bytes) = self.index.get_key_value(name)?;
+        Some((*name, *bytes))
     }
 }
 

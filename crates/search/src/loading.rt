@@ -1,123 +1,163 @@
-//! Which objects a command loads: opens its items and reads them.
-ghost use Rattle.std.specs.Prelude.{◌≡◌, ◌↔◌, ℕ, All, Any, IfErr, IfOk, IsTrue, IsSome, OnOk, is_some, map};
-ghost use Rattle.command.specs.Views.{item_of};
+//! The whole command: its items in order, groups of archives as one.
+ghost use Rattle.std.specs.Prelude.{◌≡◌, IfErr, IfOk, OnOk, drop, length, ◌≤◌, ◌<◌};
+ghost use Rattle.std.specs.List.{prefix_len};
 ghost use Rattle.elf_model.specs.Files.{files_of};
-ghost use Rattle.elf_model.specs.Loading.{AreFilesThere, AreObjects, HasFile, file_named, loaded_objects, objects_from, path_of};
-ghost use Rattle.elf_model.specs.ObjectFile.{IsObject, ObjFaultStands};
-ghost use Rattle.search.specs.Search.{Becomes, ItemsFail, LoadFails, ReadFails, loaded_item};
-ghost use Rattle.search.specs.Views.{loaded_view, loaded_views};
+ghost use Rattle.elf_model.specs.Loading.{AreObjects, HaveLawfulGroups, Single, group_of, loaded_objects, loaded_step, loaded_steps, steps};
+ghost use Rattle.elf_model.specs.LoadingRules.{FollowsRules};
+ghost use Rattle.elf_model.specs.Opening.{AreArchives, AreFilesThere, HaveIndexes, opened};
+ghost use Rattle.search.specs.Faults.{FailsOn, LoadFails};
+ghost use Rattle.search.specs.Loaders.{IsLater, Knows, loaded};
+ghost use Rattle.search.specs.Steps.{in_group};
+ghost use Rattle.search.specs.Views.{loaded_views};
 
+use crate::archives::{Input, read_inputs};
 use crate::faults::SearchFault;
 use crate::files::FileIndex;
-use byteview::View;
-use command::{Item, Plan, path_of};
-use elf_model::{InputFile, ObjFault};
+use crate::loader::Loader;
+use crate::opening::open;
+use crate::runs::run_rounds;
+use crate::turns::{turn, waits_for};
+use comdat::Dropped;
+use command::Plan;
+use elf_model::InputFile;
 use elf_read::Object;
 use std::alloc::Global;
 
-/// A loaded object: what its bytes hold, the number of its item in the command and the path of its file.
+/// A loaded object.
 #[derive(Drop)]
 pub struct Loaded<'a> {
+    /// What its bytes hold.
     pub object: Object<'a>,
+    /// The number of its item in the command.
     pub item: u64,
+    /// The offset of its member's header in the archive; 0 for an object item.
+    pub offset: u64,
+    /// The path of its file.
     pub path: &'a str,
+    /// Its dropped sections.
+    pub dropped: Dropped,
 }
 
-/// Whether an item that isn't an archive has a file.
-fn has_file(files: &FileIndex<'_>, item: &Item<'_>) -> bool
-    ensures { IsTrue result ↔ HasFile files.now (item_of item.now) }
+/// The number of an archive's group; None of one that is in none, and of an object.
+fn group_of(input: &Input<'_>) -> Option<u64>
+    ensures { result ≡ group_of input.now }
 {
-    item.archive || files.find(path_of(item)).is_some()
+    let item = input.item();
+    if item.archive { item.group } else { None }
 }
 
-fn have_files(files: &FileIndex<'_>, items: &[Item<'_>]) -> bool
-    ensures { IsTrue result ↔ All (λ i. HasFile files.now (item_of i)) items.now }
+/// Whether an input is an archive of a group.
+fn is_in_group(input: &Input<'_>, group: u64) -> bool
+    ensures { result ≡ in_group group input.now }
 {
-    items.iter().all(|i| has_file(files, i))
-}
-
-/// Reads an object, with its fault as one of loading.
-fn read_object<'a>(alloc: Global, bytes: &'a [u8]) -> Result<Object<'a>, SearchFault>
-    ensures exact { IfOk result (λ o. o ≡ bytes.entry.now) }
-    ensures object { OnOk result (IsObject bytes.entry.now) }
-    ensures fault { IfErr result (ReadFails bytes.entry.now) }
-{
-    match Object::read(alloc, View::new(bytes)) {
-        Ok(object) => Ok(object),
-        Err(fault) => Err(search_fault(fault)),
+    match group_of(input) {
+        Some(other) => other == group,
+        None => false,
     }
 }
 
-/// An object's fault as one of loading.
-fn search_fault(fault: ObjFault) -> SearchFault
-    ensures { Becomes fault result }
+/// How many of the first inputs are archives of a group.
+fn run_length(inputs: &[Input<'_>], group: u64) -> usize
+    ensures { result ≡ prefix_len (in_group group) inputs.now }
 {
-    match fault {
-        ObjFault::Memory => SearchFault::Memory,
-        other => SearchFault::BadObject(other),
-    }
+    inputs.iter().take_while(|i| is_in_group(i, group)).count()
 }
 
-/// Reads the object of item `number`, whose file is there.
-fn load_item<'a>(
+/// Loads an item that is in no group.
+fn load_single<'a>(
     alloc: Global,
-    files: &FileIndex<'a>,
-    item: &Item<'a>,
-    number: u64,
-) -> Result<Loaded<'a>, SearchFault>
-    requires file { IsSome (file_named files.now (path_of (item_of item.now))) }
-    ensures exact { IfOk result (λ l. loaded_view l ≡ loaded_item files.now number (item_of item.now)) }
-    ensures object { OnOk result (IsObject (loaded_item files.now number (item_of item.now)).bytes) }
-    ensures fault { IfErr result (ReadFails (loaded_item files.now number (item_of item.now)).bytes) }
+    loader: &mut Loader<'_, 'a>,
+    input: &Input<'a>,
+) -> Result<(), SearchFault>
+    requires known { Knows loader.old }
+    ensures later { OnOk result (IsLater loader.old loader.new) }
+    ensures known { OnOk result (Knows loader.new) }
+    ensures loaded { OnOk result (loaded loader.new ≡ loaded_step loader.old.plan.now (Single input.now) (loaded loader.old)) }
+    ensures fault { IfErr result (FailsOn (loaded_step loader.old.plan.now (Single input.now) (loaded loader.old))) }
 {
-    let path = path_of(item);
-    let Some(bytes) = files.find(path) else {
-        unreachable!()
+    let item = input.item();
+    if item.archive {
+        let mut waits = waits_for(alloc, loader, input)?;
+        turn(alloc, loader, input, &mut waits)?;
+        return Ok(());
+    }
+    loader.add(alloc, &item, 0, item.bytes)
+}
+
+/// Loads the first step of inputs, and answers how many these are.
+fn load_step<'a>(
+    alloc: Global,
+    loader: &mut Loader<'_, 'a>,
+    inputs: &[Input<'a>],
+) -> Result<usize, SearchFault>
+    requires known { Knows loader.old }
+    requires some { 0 < length inputs.now }
+    ensures later { OnOk result (IsLater loader.old loader.new) }
+    ensures known { OnOk result (Knows loader.new) }
+    ensures count { IfOk result (λ n. (0 < n) × (n ≤ length inputs.now)) }
+    ensures loaded { IfOk result (λ n. loaded_steps loader.old.plan.now (steps (drop n inputs.now)) (loaded loader.new) ≡ loaded_steps loader.old.plan.now (steps inputs.now) (loaded loader.old)) }
+    ensures fault { IfErr result (FailsOn (loaded_steps loader.old.plan.now (steps inputs.now) (loaded loader.old))) }
+{
+    let Some(group) = group_of(&inputs[0]) else {
+        load_single(alloc, loader, &inputs[0])?;
+        return Ok(1);
     };
-    let object = read_object(alloc, bytes)?;
-    Ok(Loaded {
-        object,
-        item: number,
-        path,
-    })
+    let count = run_length(inputs, group);
+    let (run, _rest) = inputs.split_at(count);
+    run_rounds(alloc, loader, run)?;
+    Ok(count)
 }
 
-/// Reads the objects of the items, whose files are there, in order.
-fn load_items<'a>(
+/// Loads inputs, in order.
+fn load_inputs<'a>(
     alloc: Global,
-    files: &FileIndex<'a>,
-    items: &[Item<'a>],
-) -> Result<Vec<Loaded<'a>>, SearchFault>
-    requires { All (λ i. HasFile files.now (item_of i)) items.now }
-    ensures loaded { IfOk result (λ v. loaded_views v.items ≡ objects_from files.now 0 (map item_of items.now)) }
-    ensures objects { OnOk result (AreObjects (objects_from files.now 0 (map item_of items.now))) }
-    ensures fault { IfErr result (ItemsFail (objects_from files.now 0 (map item_of items.now))) }
+    loader: &mut Loader<'_, 'a>,
+    inputs: &[Input<'a>],
+) -> Result<(), SearchFault>
+    requires known { Knows loader.old }
+    ensures known { OnOk result (Knows loader.new) }
+    ensures loaded { OnOk result (loaded loader.new ≡ loaded_steps loader.old.plan.now (steps inputs.now) (loaded loader.old)) }
+    ensures fault { IfErr result (FailsOn (loaded_steps loader.old.plan.now (steps inputs.now) (loaded loader.old))) }
 {
-    let mut objects = Vec::new(alloc);
-    for (i, item) in items.iter().enumerate() {
-        if item.archive {
-            continue;
-        }
-        let object = load_item(alloc, files, item, i as u64)?;
-        objects.push(object)?;
+    let mut at = 0;
+    while at < inputs.len() {
+        let (_done, rest) = inputs.split_at(at);
+        at += load_step(alloc, loader, rest)?;
     }
-    Ok(objects)
+    Ok(())
 }
 
-/// The loaded objects of a plan, in load order. FileMissing comes before any fault of an object.
+/// The loaded objects of a plan, in load order (ld(1)).
+///
+/// An object item is loaded where it stands. An archive has one turn: the first entry of its index, in the
+/// index's order, whose name is needed and whose member isn't loaded gives its member, again and again until
+/// there is none. A name is needed where the entry, a `-u` or an undefined GLOBAL symbol of a loaded object
+/// asks for it, and no loaded object defines it. A group of archives has rounds of turns until a whole round
+/// takes nothing, and an archive under `--whole-archive` gives all its members at its first turn. A COMDAT
+/// group whose signature a loaded object has already is dropped (System V gABI 4, "Section Groups").
+///
+/// # Errors
+///
+/// FileMissing where an item has no file, before all others. BadArchive and NoIndex of an archive item, of
+/// whichever; then BadObject and Group of an object that loading comes to. Memory where memory is refused.
 pub fn load<'a>(
     alloc: Global,
     plan: &Plan<'a>,
     files: &'a [InputFile],
 ) -> Result<Vec<Loaded<'a>>, SearchFault>
     ensures loaded { IfOk result (λ v. loaded_views v.items ≡ loaded_objects (files_of files.entry.now) plan.now) }
+    ensures rules { OnOk result (FollowsRules (files_of files.entry.now) plan.now) }
     ensures files { OnOk result (AreFilesThere (files_of files.entry.now) plan.now) }
+    ensures archives { OnOk result (AreArchives (opened (files_of files.entry.now) plan.now)) }
+    ensures indexes { OnOk result (HaveIndexes (opened (files_of files.entry.now) plan.now)) }
     ensures objects { OnOk result (AreObjects (loaded_objects (files_of files.entry.now) plan.now)) }
+    ensures groups { OnOk result (HaveLawfulGroups (loaded_objects (files_of files.entry.now) plan.now)) }
     ensures fault { IfErr result (LoadFails (files_of files.entry.now) plan.now) }
 {
     let index = FileIndex::new(alloc, files)?;
-    if !have_files(&index, &plan.items) {
-        return Err(SearchFault::FileMissing);
-    }
-    load_items(alloc, &index, &plan.items)
+    let items = open(alloc, &index, plan)?;
+    let inputs = read_inputs(alloc, &items)?;
+    let mut loader = Loader::new(alloc, plan)?;
+    load_inputs(alloc, &mut loader, &inputs)?;
+    Ok(loader.into_objects())
 }

@@ -1,9 +1,10 @@
 -- Offers of candidates for names, in order, and what a row says of the candidates of its name, from which the
 -- chosen one can be read: the strong one, else the common block, else the first weak one (System V gABI 4,
 -- "Symbol Table"; that it is the first weak one, and the block's alignment the greatest, is the profile's).
-use Rattle.std.specs.Prelude.{◌≡◌, ℕ, ◌≤◌, ◌↔◌, Bool, true, false, List, [], ◌∷◌, Option, Some, None, IsTrue, count_by, filter, find, map, max}
+use Rattle.std.specs.Prelude.{◌≡◌, ℕ, ◌≤◌, ◌↔◌, Bool, true, false, List, [], ◌∷◌, Option, Some, None, IsTrue, count_by, filter, find, map}
 use Rattle.std.specs.Option.{option_map}
 use Rattle.std.specs.Str.{bytes_eq}
+use Rattle.elf_model.specs.Commons.{greatest}
 use Rattle.elf_model.specs.declared.references.SymbolRef.{SymbolRef}
 use Rattle.symbols.specs.Rows.{Rows, offered, taken}
 use Rattle.symbols.specs.declared.candidate.Candidate.{Candidate}
@@ -65,11 +66,6 @@ is_common c = is_common_kind c.kind
 -- the symbol of the first candidate that passes a test
 abbrev pub first_symbol : (Candidate → Bool) → List Candidate → Option SymbolRef
 first_symbol test cs = option_map (λ c. c.symbol) (find test cs)
-
--- the greatest of numbers, 0 of none
-abbrev pub greatest : List ℕ → ℕ
-greatest [] = 0
-greatest (n ∷ ns) = max n (greatest ns)
 
 -- what a row says of the candidates of its name
 pub record IsRowOf (cs : List Candidate) (row : Row) : Type 0 where

@@ -1,5 +1,6 @@
 use Rattle.std.proofs.Common.{ℕ, subst}
 use Rattle.elf_model.specs.Relocation.{symbol_at}
+use Rattle.check_load.specs.Views.{loaded_view}
 use Rattle.checker.specs.Bindings.{IsTargetOf}
 use Rattle.checker.proofs.FittingLemmas.{field_is, right, right_with, some_iff}
 use Rattle.checker.proofs.fitting.right_field.Goals as goal
@@ -8,10 +9,10 @@ pub returns : goal.returns
 returns c =
     let b = c.args.bindings.now in
     let n = c.args.number in
-    let bytes = c.args.object.now in
+    let o = loaded_view c.args.loaded.now in
     let to = c.args.to.now in
     let e = c.args.entry.now in
     let t = c.target_at-target.result in
-    let m = subst (λ (j : ℕ). IsTargetOf b (symbol_at n bytes j) t) c.symbol.ensures c.target_at-target.ensures in
-    some_iff _ _ _ _ c.field_for.result (right b n bytes to e t m c.requires.size c.requires.address)
-    (right_with b n bytes to e t m c.requires.size c.requires.address) (field_is b n bytes to e t m c.requires.size c.requires.address) c.field_for.ensures
+    let m = subst (λ (j : ℕ). IsTargetOf b (symbol_at n o j) t) c.symbol.ensures c.target_at-target.ensures in
+    some_iff _ _ _ _ c.field_for.result (right b n o to e t m c.requires.size c.requires.frames c.requires.address)
+    (right_with b n o to e t m c.requires.size c.requires.frames c.requires.address) (field_is b n o to e t m c.requires.size c.requires.frames c.requires.address) c.field_for.ensures

@@ -2,7 +2,7 @@ use Rattle.std.proofs.Common.{◌≡◌, drop, map}
 use Rattle.elf_model.specs.MapRecord.{object_row}
 use Rattle.elf_model.specs.RightLink.{object_rows}
 use Rattle.elf_model.proofs.Rests.{Left}
-use Rattle.checker.specs.Views.{loaded_views}
+use Rattle.check_load.specs.Views.{loaded_views}
 use Rattle.checker.proofs.loading.are_lines_of.Given as goal
 
 abbrev pub invariant-loop-k : goal.invariant-loop-k

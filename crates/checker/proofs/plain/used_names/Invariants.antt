@@ -1,6 +1,6 @@
 use Rattle.std.proofs.Common.{◌≡◌, ◌++◌, drop}
 use Rattle.elf_read.specs.Names.{name_views}
-use Rattle.checker.specs.Views.{loaded_views}
+use Rattle.check_load.specs.Views.{loaded_views}
 use Rattle.elf_model.specs.UsedNames.{used_names}
 use Rattle.checker.proofs.plain.used_names.Given as goal
 

@@ -3,7 +3,7 @@ use Rattle.std.specs.Prelude.{All}
 use Rattle.elf_model.specs.Profile.{IsPlainObject}
 use Rattle.command.proofs.ProfileLemmas.{fails_by}
 use Rattle.elf_model.proofs.Rests.{all_end, all_more}
-use Rattle.checker.specs.declared.things.Loaded.{Loaded}
+use Rattle.check_load.specs.declared.loader.Loaded.{Loaded}
 use Rattle.checker.proofs.profile.are_plain_objects.Goals as goal
 
 pub loop-loaded-preserved : goal.loop-loaded-preserved

@@ -5,7 +5,7 @@ use Rattle.elf_model.specs.Loading.{LoadedObject}
 use Rattle.elf_model.specs.Relocation.{relocations}
 use Rattle.elf_model.proofs.Rests.{Left}
 use Rattle.checker.specs.Fields.{AreRight, IsRowOf}
-use Rattle.checker.specs.Views.{loaded_view, loaded_views}
+use Rattle.check_load.specs.Views.{loaded_view, loaded_views}
 use Rattle.checker.specs.declared.fields.Field.{Field}
 use Rattle.checker.proofs.rows.all_rows.Given as goal
 
@@ -14,8 +14,8 @@ invariant-loop-k l = record {
   count : length l.rows.items ≡ l.k;
   rows :
       (k : ℕ) (d : Vec Field) → k < length l.rows.items → (o : LoadedObject)
-      → IsRowOf (loaded_views l.objects) l.bindings.placed k (get_or (loaded_views l.objects) k o).bytes (get_or l.rows.items k d).items;
+      → IsRowOf (loaded_views l.objects) l.bindings.places k (get_or (loaded_views l.objects) k o) (get_or l.rows.items k d).items;
   right :
-      Left (AreRight (loaded_views l.objects) l.bindings.placed (relocations (loaded_views l.objects)))
-      (AreRight (loaded_views l.objects) l.bindings.placed (left_of_objects loaded_view l.objects l.k));
+      Left (AreRight (loaded_views l.objects) l.bindings.places (relocations (loaded_views l.objects)))
+      (AreRight (loaded_views l.objects) l.bindings.places (left_of_objects loaded_view l.objects l.k));
 }

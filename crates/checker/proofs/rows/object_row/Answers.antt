@@ -2,6 +2,7 @@ use Rattle.std.proofs.Common.{refl, subst, sym}
 use Rattle.std.specs.Prelude.{All, AllPairs}
 use Rattle.std.proofs.lemmas.Bool.{false≢true}
 use Rattle.elf_model.specs.Relocation.{relocations_from}
+use Rattle.check_load.specs.Views.{loaded_view}
 use Rattle.checker.specs.Fields.{AreApart, IsNarrow, field_of}
 use Rattle.elf_model.proofs.Pairs.{AllPairs-map, AllPairs-unmap}
 use Rattle.elf_model.proofs.RelocationFields.{own_object}
@@ -22,13 +23,13 @@ in_order-requires c =
     let b = c.args.bindings.now in
     let e = rw c.in-Some.is at c.in_ok-fields.ensures.fields in
     let r = rw c.in-Some.is at c.in_ok-fields.ensures.right in
-    subst (All IsNarrow) (sym e) (narrow_fields b.objects b.placed (relocations_from c.args.number c.args.object.now) (r.0 refl))
+    subst (All IsNarrow) (sym e) (narrow_fields b.objects b.places (relocations_from c.args.number (loaded_view c.args.loaded.now)) (r.0 refl))
 
 pub returns-clause-right : goal.returns-clause-right
 returns-clause-right c =
     let b = c.args.bindings.now in
-    let rs = relocations_from c.args.number c.args.object.now in
-    let field = field_of b.objects b.placed in
+    let rs = relocations_from c.args.number (loaded_view c.args.loaded.now) in
+    let field = field_of b.objects b.places in
     let e = rw c.in-Some.is at c.in_ok-fields.ensures.fields in
     let r = rw c.in-Some.is at c.in_ok-fields.ensures.right in (
       λ t. record {
@@ -37,7 +38,7 @@ returns-clause-right c =
       },
       λ a. c.in_ok-row.ensures.apart.1
           (subst (AllPairs AreApart) (sym e)
-          (AllPairs-map AreApart field rs (ranges_of_apart c.args.number rs (own_object c.args.number c.args.object.now) a.apart))),
+          (AllPairs-map AreApart field rs (ranges_of_apart c.args.number rs (own_object c.args.number (loaded_view c.args.loaded.now)) a.apart))),
     )
 
 pub returns-clause-row : goal.returns-clause-row
@@ -45,4 +46,4 @@ returns-clause-row c =
     let b = c.args.bindings.now in
     let e = rw c.in-Some.is at c.in_ok-fields.ensures.fields in
     let r = rw c.in-Some.is at c.in_ok-fields.ensures.right in
-    row_of_object b.objects b.placed c.args.number c.args.object.now _ c.in_ok-row.row e (r.0 refl) c.in_ok-row.ensures.row
+    row_of_object b.objects b.places c.args.number (loaded_view c.args.loaded.now) _ c.in_ok-row.row e (r.0 refl) c.in_ok-row.ensures.row

@@ -1,7 +1,7 @@
 use Rattle.std.proofs.Common.{subst, sym, length, List, ◌≤◌}
 use Rattle.std.specs.Prelude.{All}
 use Rattle.elf_model.specs.Pieces as pieces
-use Rattle.checker.specs.Views.{loaded_views}
+use Rattle.check_load.specs.Views.{loaded_views}
 use Rattle.checker.proofs.PieceLemmas.{all_short, objects_end}
 use Rattle.checker.proofs.sections.pieces_of.Goals as goal
 

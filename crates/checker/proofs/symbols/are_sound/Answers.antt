@@ -2,7 +2,8 @@ use Rattle.std.proofs.Common.{subst, sym}
 use Rattle.std.specs.Prelude.{All}
 use Rattle.std.proofs.lemmas.List.Elements.{All-map}
 use Rattle.elf_model.specs.Resolution.{IsSoundSymbol}
-use Rattle.checker.specs.Views.{loaded_views, symbol_view}
+use Rattle.check_load.specs.Views.{loaded_views}
+use Rattle.checker.specs.Views.{symbol_view}
 use Rattle.elf_model.proofs.Listed.{All-unmap}
 use Rattle.checker.proofs.symbols.are_sound.Goals as goal
 

@@ -1,6 +1,7 @@
 use Rattle.std.proofs.Common.{◌≡◌, ◌++◌, drop}
 use Rattle.elf_model.specs.Resolution.{all_symbols, symbols_of}
-use Rattle.checker.specs.Views.{loaded_views, symbol_views}
+use Rattle.check_load.specs.Views.{loaded_views}
+use Rattle.checker.specs.Views.{symbol_views}
 use Rattle.checker.proofs.symbols.symbols_of.Given as goal
 
 abbrev pub invariant-loop-k : goal.invariant-loop-k

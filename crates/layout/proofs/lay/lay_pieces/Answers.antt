@@ -13,17 +13,17 @@ use Rattle.layout.proofs.lay.lay_pieces.Goals as goal
 pub lay_segment-requires-clause-aligned : goal.lay_segment-requires-clause-aligned
 lay_segment-requires-clause-aligned c =
     let r : piece_views c.deref.result.now ≡ read_only_pieces (objects_of c.args.order.now) = ap piece_views c.deref.ensures.value ∙ c.requires.order.read_only in
-    subst AreAligned (sym r) (read_only_aligned (objects_of c.args.order.now) c.requires.objects)
+    subst AreAligned (sym r) (read_only_aligned (objects_of c.args.order.now) c.requires.objects c.requires.commons)
 
 pub lay_segment-requires-2-clause-aligned : goal.lay_segment-requires-2-clause-aligned
 lay_segment-requires-2-clause-aligned c =
     let r : piece_views c.deref-2.result.now ≡ code_pieces (objects_of c.args.order.now) = ap piece_views c.deref-2.ensures.value ∙ c.requires.order.code in
-    subst AreAligned (sym r) (code_aligned (objects_of c.args.order.now) c.requires.objects)
+    subst AreAligned (sym r) (code_aligned (objects_of c.args.order.now) c.requires.objects c.requires.commons)
 
 pub lay_segment-requires-3-clause-aligned : goal.lay_segment-requires-3-clause-aligned
 lay_segment-requires-3-clause-aligned c =
     let r : piece_views c.deref-3.result.now ≡ data_pieces (objects_of c.args.order.now) = ap piece_views c.deref-3.ensures.value ∙ c.requires.order.writable in
-    subst AreAligned (sym r) (data_aligned (objects_of c.args.order.now) c.requires.objects)
+    subst AreAligned (sym r) (data_aligned (objects_of c.args.order.now) c.requires.objects c.requires.commons)
 
 pub returns-in_err-read_only-clause-fault : goal.returns-in_err-read_only-clause-fault
 returns-in_err-read_only-clause-fault c =

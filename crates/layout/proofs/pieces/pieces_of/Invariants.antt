@@ -5,4 +5,4 @@ use Rattle.layout.specs.Views.{piece_views}
 use Rattle.layout.proofs.pieces.pieces_of.Given as goal
 
 abbrev pub invariant-loop-k : goal.invariant-loop-k
-invariant-loop-k l = piece_views l.found.items ++ pieces.pieces_of l.k (loaded_views (drop l.k l.objects)) ≡ pieces.pieces (loaded_views l.objects)
+invariant-loop-k l = piece_views l.found.items ++ pieces.pieces_of l.k (loaded_views (drop l.k l.objects)) ≡ pieces.kept_sections (loaded_views l.objects)

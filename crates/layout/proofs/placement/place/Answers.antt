@@ -1,11 +1,17 @@
-use Rattle.std.proofs.Common.{◌≡◌, ◌∙◌, List, ap, subst, sym}
+use Rattle.std.proofs.Common.{◌≡◌, ◌∙◌, List, ap, length, subst, sym}
+use Rattle.std.proofs.lemmas.List.{length-map}
+use Rattle.elf_model.specs.Commons.{Block}
+use Rattle.resolve.specs.Blocks.{block_view}
 use Rattle.std.specs.Prelude.{All, find, option_map}
 use Rattle.elf_model.specs.Loading.{LoadedObject}
 use Rattle.elf_model.specs.OwnLayout.{own_placed, own_segments}
 use Rattle.elf_model.specs.Placement.{Placed, is_of_section}
 use Rattle.search.specs.Views.{loaded_views}
-use Rattle.layout.specs.Addresses.{HasPlace, section_counts}
+use Rattle.layout.specs.Addresses.{HasPlace, piece_counts}
+use Rattle.layout.specs.Limits.{AreInLimit}
+use Rattle.layout.specs.PieceParts.{AreBounds}
 use Rattle.layout.specs.PlaceViews.{place_views}
+use Rattle.elf_model.proofs.OwnRelation.{are_own_addresses}
 use Rattle.layout.proofs.OwnAddresses.{address_either}
 use Rattle.layout.proofs.PieceEntries.{places_there}
 use Rattle.layout.proofs.placement.place.Goals as goal
@@ -16,7 +22,16 @@ address_table-requires c =
     let places : place_views c.deref.result.now ≡ own_placed c.args.base os =
     ap place_views c.deref.ensures.value
     ∙ (c.in_ok-layout.ensures.layout.places ∙ ap (λ (objects : List LoadedObject). own_placed c.args.base objects) c.in_ok-order.ensures.objects) in
-    subst (All (HasPlace (section_counts os))) (sym places) (places_there c.args.base os)
+    subst (All (HasPlace (piece_counts os (length c.args.blocks.now)))) (sym places)
+    (places_there os (length c.args.blocks.now) c.args.base (sym (length-map c.args.blocks.now block_view) ∙ ap (λ (bs : List Block). length bs) c.requires.listed))
+
+pub bounds_of-requires : goal.bounds_of-requires
+bounds_of-requires c =
+    let os = loaded_views c.args.objects.now in
+    let places : place_views c.deref-2.result.now ≡ own_placed c.args.base os =
+    ap place_views c.deref-2.ensures.value
+    ∙ (c.in_ok-layout.ensures.layout.places ∙ ap (λ (objects : List LoadedObject). own_placed c.args.base objects) c.in_ok-order.ensures.objects) in
+    subst AreInLimit (sym places) (subst (λ (objects : List LoadedObject). AreInLimit (own_placed c.args.base objects)) c.in_ok-order.ensures.objects c.in_ok-layout.ensures.fits.ends)
 
 pub returns-clause-tables : goal.returns-clause-tables
 returns-clause-tables c =
@@ -31,4 +46,8 @@ returns-clause-tables c =
       addresses_are =
           λ o s. c.in_ok-addresses.ensures o s
           ∙ (ap (λ (qs : List Placed). option_map (λ q. q.at) (find (is_of_section o s) qs)) seen ∙ address_either c.args.base os o s);
+      bounds_are = subst (λ (qs : List Placed). AreBounds qs c.in_ok-bounds.bounds) (ap place_views c.deref-2.ensures.value ∙ placed) c.in_ok-bounds.ensures;
     }
+
+pub returns-clause-addresses : goal.returns-clause-addresses
+returns-clause-addresses c = are_own_addresses c.args.base (loaded_views c.args.objects.now)

@@ -25,8 +25,9 @@ pub returns-in-Ok-prepare_objects-clause-prepared : goal.returns-in-Ok-prepare_o
 returns-in-Ok-prepare_objects-clause-prepared g c =
     let p = c.in-Ok.plan in
     prepared (files_of c.args.files.now) (words_of c.args.words.now) p (loaded_views c.in-Ok-load.objects.items) c.in-Ok-load.ensures.loaded
-    c.in-Ok.ensures.plan c.in-Ok-load.ensures.files c.in-Ok-load.ensures.objects
-    (subst (λ (xs : List Loaded). IsInProfile p (loaded_views xs)) c.deref.ensures.value (c.in_ok-inside.ensures.0 c.if-not-inside.false))
+    c.in-Ok.ensures.plan c.in-Ok-load.ensures.files c.in-Ok-load.ensures.archives c.in-Ok-load.ensures.indexes c.in-Ok-load.ensures.objects
+    c.in-Ok-load.ensures.groups
+    (subst (λ (xs : List Loaded). IsInProfile (loaded_views xs)) c.deref.ensures.value (c.in_ok-inside.ensures.0 c.if-not-inside.false))
     c.in-Ok-prepare_objects.parts
     (subst (λ (xs : List Loaded). IsLinkageOf p (loaded_views xs) c.in-Ok-prepare_objects.parts) c.deref-2.ensures.value
     c.in-Ok-prepare_objects.ensures.made)
@@ -35,8 +36,9 @@ pub returns-in-Ok-prepare_objects-clause-right : goal.returns-in-Ok-prepare_obje
 returns-in-Ok-prepare_objects-clause-right g c =
     let p = c.in-Ok.plan in
     right_link (files_of c.args.files.now) (words_of c.args.words.now) p (loaded_views c.in-Ok-load.objects.items) c.in-Ok-load.ensures.loaded
-    c.in-Ok.ensures.plan c.in-Ok-load.ensures.files c.in-Ok-load.ensures.objects
-    (subst (λ (xs : List Loaded). IsInProfile p (loaded_views xs)) c.deref.ensures.value (c.in_ok-inside.ensures.0 c.if-not-inside.false))
+    c.in-Ok.ensures.plan c.in-Ok-load.ensures.files c.in-Ok-load.ensures.archives c.in-Ok-load.ensures.indexes c.in-Ok-load.ensures.objects
+    c.in-Ok-load.ensures.groups
+    (subst (λ (xs : List Loaded). IsInProfile (loaded_views xs)) c.deref.ensures.value (c.in_ok-inside.ensures.0 c.if-not-inside.false))
     c.in-Ok-prepare_objects.parts
     (subst (λ (xs : List Loaded). IsLinkageOf p (loaded_views xs) c.in-Ok-prepare_objects.parts) c.deref-2.ensures.value
     c.in-Ok-prepare_objects.ensures.made)
@@ -45,8 +47,9 @@ pub returns-clause-cause : goal.returns-clause-cause
 returns-clause-cause g c =
     let p = c.in-Ok.plan in
     cause (files_of c.args.files.now) (words_of c.args.words.now) p (loaded_views c.in-Ok-load.objects.items) c.in-Ok-load.ensures.loaded
-    c.in-Ok.ensures.plan c.in-Ok-load.ensures.files c.in-Ok-load.ensures.objects
-    (subst (λ (xs : List Loaded). IsInProfile p (loaded_views xs)) c.deref.ensures.value (c.in_ok-inside.ensures.0 c.if-not-inside.false))
+    c.in-Ok.ensures.plan c.in-Ok-load.ensures.files c.in-Ok-load.ensures.archives c.in-Ok-load.ensures.indexes c.in-Ok-load.ensures.objects
+    c.in-Ok-load.ensures.groups
+    (subst (λ (xs : List Loaded). IsInProfile (loaded_views xs)) c.deref.ensures.value (c.in_ok-inside.ensures.0 c.if-not-inside.false))
     c.in-Err-prepare_objects.error
     (subst (λ (xs : List Loaded). LinksRefuse p (loaded_views xs) c.in-Err-prepare_objects.error) c.deref-2.ensures.value
     c.in-Err-prepare_objects.ensures.fault)

@@ -2,7 +2,7 @@ use Rattle.std.proofs.Common.{arith}
 use Rattle.std.proofs.Common.{ap}
 use Rattle.std.specs.Str.Parse.{digits_value}
 use Rattle.std.proofs.lemmas.List.{take_all}
-use Rattle.linkmap.proofs.DigitLaws.{digit_step}
+use Rattle.elf_model.proofs.DecimalDigits.{digit_step}
 use Rattle.linkmap.proofs.digits.digits_value.Goals as goal
 
 pub overflow_sub-digit : goal.overflow_sub-digit

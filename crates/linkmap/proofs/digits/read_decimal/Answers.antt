@@ -1,4 +1,4 @@
-use Rattle.linkmap.proofs.DigitLaws.{prefix_digits}
+use Rattle.elf_model.proofs.DecimalDigits.{prefix_digits}
 use Rattle.linkmap.proofs.digits.read_decimal.Goals as goal
 
 pub digits_value-requires : goal.digits_value-requires

@@ -2,6 +2,7 @@ use Rattle.std.proofs.Common.{◌≡◌, ◌++◌, map}
 use Rattle.std.specs.Prelude.{filter}
 use Rattle.elf_model.proofs.FlatRelocations.{left_of_entries}
 use Rattle.elf_model.specs.Relocation.{is_some_kind, relocation_of}
+use Rattle.search.specs.Views.{loaded_view}
 use Rattle.relocate.proofs.Judged.{Leaves}
 use Rattle.relocate.specs.Fields.{field_of}
 use Rattle.relocate.proofs.lawful.add_fields.Given as goal
@@ -9,9 +10,9 @@ use Rattle.relocate.proofs.lawful.add_fields.Given as goal
 abbrev pub invariant-loop-i : goal.invariant-loop-i
 invariant-loop-i l = record {
   fields :
-      l.fields.items ++ map field_of (left_of_entries l.number l.object l.target l.entries l.i)
-      ≡ l.fn.fields.items ++ map field_of (map (relocation_of l.number l.object l.target) (filter is_some_kind l.entries));
+      l.fields.items ++ map field_of (left_of_entries l.number (loaded_view l.loaded) l.target l.entries l.i)
+      ≡ l.fn.fields.items ++ map field_of (map (relocation_of l.number (loaded_view l.loaded) l.target) (filter is_some_kind l.entries));
   leaves :
-      Leaves l.resolved (map (relocation_of l.number l.object l.target) (filter is_some_kind l.entries))
-      (left_of_entries l.number l.object l.target l.entries l.i);
+      Leaves l.resolved (map (relocation_of l.number (loaded_view l.loaded) l.target) (filter is_some_kind l.entries))
+      (left_of_entries l.number (loaded_view l.loaded) l.target l.entries l.i);
 }

@@ -5,6 +5,7 @@ use Rattle.elf_model.specs.Relocation.{relocations_from}
 use Rattle.elf_model.proofs.RelocationFields.{own_object}
 use Rattle.elf_model.proofs.Pairs.{AllPairs-map, AllPairs-unmap}
 use Rattle.elf_model.proofs.OwnFields.{apart_of_ranges, ranges_of_apart}
+use Rattle.search.specs.Views.{loaded_view}
 use Rattle.relocate.proofs.ObjectFields.{some_fields}
 use Rattle.relocate.specs.Fields.{AreApart, IsSome, field_of}
 use Rattle.relocate.proofs.lawful.judge_object.Goals as goal
@@ -12,19 +13,19 @@ use Rattle.relocate.proofs.lawful.judge_object.Goals as goal
 pub are_apart-requires : goal.are_apart-requires
 are_apart-requires c =
     subst (All IsSome) (sym c.in_ok-fields.ensures.fields)
-    (some_fields c.args.resolved.now (relocations_from c.args.number c.args.object.now) c.in_ok-fields.ensures.lawful)
+    (some_fields c.args.resolved.now (relocations_from c.args.number (loaded_view c.args.loaded.now)) c.in_ok-fields.ensures.lawful)
 
 pub returns-then-not-branch-clause-fault : goal.returns-then-not-branch-clause-fault
 returns-then-not-branch-clause-fault c = λ pairs.
     let n = c.args.number in
-    let b = c.args.object.now in
-    let rs = relocations_from n b in
-    let apart = AllPairs-map AreApart field_of rs (ranges_of_apart n rs (own_object n b) pairs) in
+    let o = loaded_view c.args.loaded.now in
+    let rs = relocations_from n o in
+    let apart = AllPairs-map AreApart field_of rs (ranges_of_apart n rs (own_object n o) pairs) in
     false≢true (sym c.if-not-branch.true ∙ c.in_ok-are_apart.ensures.1 (subst (AllPairs AreApart) (sym c.in_ok-fields.ensures.fields) apart))
 
 pub returns-clause-lawful : goal.returns-clause-lawful
 returns-clause-lawful c =
-    let rs = relocations_from c.args.number c.args.object.now in
+    let rs = relocations_from c.args.number (loaded_view c.args.loaded.now) in
     record {
       each = c.in_ok-fields.ensures.lawful;
       apart =

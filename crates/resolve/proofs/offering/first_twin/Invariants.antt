@@ -1,6 +1,6 @@
 use Rattle.std.proofs.Common.{ℕ, ◌<◌, ◌≤◌, get_or}
 use Rattle.std.specs.Prelude.{count_by}
-use Rattle.elf_model.specs.Resolution.{has_name}
+use Rattle.resolve.specs.Defined.{is_strong_of}
 use Rattle.resolve.specs.Views.{symbol_views}
 use Rattle.resolve.specs.declared.entries.SymbolOf as code
 use Rattle.resolve.proofs.offering.first_twin.Given as goal
@@ -8,4 +8,4 @@ use Rattle.resolve.proofs.offering.first_twin.Given as goal
 abbrev pub invariant-loop-symbol : goal.invariant-loop-symbol
 invariant-loop-symbol g l =
     (k : ℕ) → k < l.symbol-index → (d : code.SymbolOf) →
-    count_by (has_name (get_or l.definitions k d).name.now) (symbol_views l.definitions) ≤ 1
+    count_by (is_strong_of (get_or l.definitions k d).name.now) (symbol_views l.definitions) ≤ 1

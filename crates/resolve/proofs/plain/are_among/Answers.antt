@@ -10,7 +10,7 @@ loop-name-preserved c =
     let names = c.args.names.now in
     let used = c.args.used.now in
     all_more (All (λ (n : Name). IsAmong names n.now) used) (λ (n : Name). IsAmong names n.now) used c.loop-name.name-index _
-    c.loop-name-test.true (c.is_among.ensures.0 c.if-not-is_among.false) c.loop-name.invariant
+    c.loop-name-test.true (c.is_defined.ensures.0 c.if-not-is_defined.false) c.loop-name.invariant
 
 pub returns : goal.returns
 returns c =

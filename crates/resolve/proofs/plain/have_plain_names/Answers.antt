@@ -16,7 +16,7 @@ returns-then-is_empty c =
 pub returns : goal.returns
 returns c =
     let names = c.in_ok-defined.defined in
-    plain_among (loaded_views c.args.objects.now) (symbol_views c.in_ok-strong.strong.items) names c.in_ok-strong.ensures
+    plain_among (loaded_views c.args.objects.now) (symbol_views c.in_ok-all.all.items) names c.in_ok-all.ensures
     (subst (λ (xs : List code.SymbolOf). AreNamesOf (symbol_views xs) names) c.deref-2.ensures.value c.in_ok-defined.ensures)
     c.in_ok-used.used.items c.are_among.result c.in_ok-used.ensures
     (subst (λ (xs : List Name). IsTrue c.are_among.result ↔ All (λ n. IsAmong names n.now) xs) c.deref-3.ensures.value c.are_among.ensures)

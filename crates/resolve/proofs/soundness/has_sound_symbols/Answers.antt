@@ -3,21 +3,21 @@ use Rattle.std.specs.Prelude.{◌↔◌, All, IsTrue}
 use Rattle.elf_model.specs.ObjectFile.{null_symbol}
 use Rattle.elf_model.specs.Resolution.{IsSoundSymbol, symbols_from}
 use Rattle.elf_model.specs.declared.records.Symbol.{Symbol}
-use Rattle.search.specs.Views.{loaded_views}
+use Rattle.search.specs.Views.{loaded_view, loaded_views}
 use Rattle.resolve.proofs.SoundWalk.{sound_more, sound_stop}
 use Rattle.resolve.proofs.soundness.has_sound_symbols.Goals as goal
 
 pub returns-then-not-is_sound : goal.returns-then-not-is_sound
 returns-then-not-is_sound c =
     let L = loaded_views c.args.objects.now in
-    subst (λ (es : List Symbol). IsTrue false ↔ All (IsSoundSymbol L) (symbols_from c.args.number c.args.object.now 0 es)) c.symbols-entries.ensures
-    (sound_stop L c.args.number c.args.object.now c.symbols-entries.result.now c.loop-j.j null_symbol c.loop-j-test.true
+    subst (λ (es : List Symbol). IsTrue false ↔ All (IsSoundSymbol L) (symbols_from c.args.number (loaded_view c.args.loaded.now) 0 es)) c.symbols-entries.ensures
+    (sound_stop (IsSoundSymbol L) c.args.number (loaded_view c.args.loaded.now) c.symbols-entries.result.now c.loop-j.j null_symbol c.loop-j-test.true
     c.is_sound.result c.is_sound.ensures
-    (All (IsSoundSymbol L) (symbols_from c.args.number c.args.object.now 0 c.symbols-entries.result.now)) c.loop-j.invariant c.if-not-is_sound.true)
+    (All (IsSoundSymbol L) (symbols_from c.args.number (loaded_view c.args.loaded.now) 0 c.symbols-entries.result.now)) c.loop-j.invariant c.if-not-is_sound.true)
 
 pub loop-j-preserved : goal.loop-j-preserved
 loop-j-preserved c =
     let L = loaded_views c.args.objects.now in
-    sound_more L c.args.number c.args.object.now c.symbols-entries.result.now c.loop-j.j null_symbol c.loop-j-test.true
+    sound_more (IsSoundSymbol L) c.args.number (loaded_view c.args.loaded.now) c.symbols-entries.result.now c.loop-j.j null_symbol c.loop-j-test.true
     c.is_sound.result c.is_sound.ensures
-    (All (IsSoundSymbol L) (symbols_from c.args.number c.args.object.now 0 c.symbols-entries.result.now)) c.loop-j.invariant c.if-not-is_sound.false
+    (All (IsSoundSymbol L) (symbols_from c.args.number (loaded_view c.args.loaded.now) 0 c.symbols-entries.result.now)) c.loop-j.invariant c.if-not-is_sound.false

@@ -1,10 +1,10 @@
 use Rattle.std.proofs.Common.{drop}
 use Rattle.std.specs.Prelude.{◌↔◌, All}
 use Rattle.elf_model.specs.Resolution.{IsSoundSymbol, symbols_from}
-use Rattle.search.specs.Views.{loaded_views}
+use Rattle.search.specs.Views.{loaded_view, loaded_views}
 use Rattle.resolve.proofs.soundness.has_sound_symbols.Given as goal
 
 abbrev pub invariant-loop-j : goal.invariant-loop-j
 invariant-loop-j l =
-    All (IsSoundSymbol (loaded_views l.objects)) (symbols_from l.number l.object 0 l.entries)
-    ↔ All (IsSoundSymbol (loaded_views l.objects)) (symbols_from l.number l.object l.j (drop l.j l.entries))
+    All (IsSoundSymbol (loaded_views l.objects)) (symbols_from l.number (loaded_view l.loaded) 0 l.entries)
+    ↔ All (IsSoundSymbol (loaded_views l.objects)) (symbols_from l.number (loaded_view l.loaded) l.j (drop l.j l.entries))

@@ -1,7 +1,7 @@
 use Rattle.std.proofs.Common.{◌≡◌, List, ℕ, drop}
 use Rattle.std.specs.Option.{option_or}
 use Rattle.elf_model.specs.Files.{files_of}
-use Rattle.elf_model.specs.Loading.{file_named}
+use Rattle.elf_model.specs.Opening.{file_named}
 use Rattle.elf_model.specs.FileIndex.{found}
 use Rattle.search.proofs.files.index_files.Given as goal
 

@@ -8,7 +8,7 @@ use Rattle.elf_model.specs.WantedBytes.{wanted_byte}
 use Rattle.layout.specs.Placements.{Basis}
 use Rattle.relocate.proofs.ObjectRows.{row_fits, row_wanted}
 use Rattle.relocate.specs.Patches.{FitsIn, patched}
-use Rattle.relocate.specs.Values.{placed_in, row_in}
+use Rattle.relocate.specs.Values.{where_in, row_in}
 use Rattle.relocate.specs.declared.patch.Patch.{Patch}
 use Rattle.relocate.proofs.applying.Patches.apply.Goals as goal
 
@@ -33,4 +33,4 @@ returns c = λ p here there bytes.
     c.write_all.ensures
     ∙ (ap (patched base) row
     ∙ (row_wanted c.self.inside.placement.now c.self.inside.table.now.rows.items k s base p c.self.invariant long here there bytes
-    ∙ ap (λ (b : Basis). map (wanted_byte b.objects (placed_in b) p) (range_with_len 0 (length base))) c.self.view_is))
+    ∙ ap (λ (b : Basis). map (wanted_byte b.objects (where_in b) p) (range_with_len 0 (length base))) c.self.view_is))

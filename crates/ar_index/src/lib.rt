@@ -1,0 +1,15 @@
+//! Reads archives of object files (ar(5)): accepts exactly those of the profile, and says of the others
+//! why they are none.
+#![tactic(auto)]
+
+mod archive;
+mod fields;
+mod index;
+mod members;
+mod names;
+mod stored;
+
+pub use archive::Archive;
+pub use elf_model::ArFault;
+pub use index::IndexEntry;
+pub use members::Member;

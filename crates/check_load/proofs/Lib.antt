@@ -1,0 +1,14 @@
+pub mod AwakeLaws
+pub mod FreeLaws
+pub mod LoadLaws
+pub mod LoaderLaws
+pub mod LostMembers
+pub mod MarkLemmas
+pub mod NotedNames
+pub mod PlaceLaws
+pub mod OpenedLaws
+pub mod SharedSections
+pub mod SignatureLaws
+pub mod StepLaws
+pub mod TakenLaws
+pub mod TurnLaws

@@ -1,0 +1,88 @@
+-- The signatures seen, as a test of names and as a list.
+use Rattle.std.proofs.Common.{◌≡◌, ℕ, Bool, true, false, cond, not, ◌&&◌, ◌||◌, List, [], ◌∷◌, ◌++◌, refl, ap, sym, ◌∙◌, subst}
+use Rattle.std.specs.BTreeSet.{BTreeSet, UpdatesBy}
+use Rattle.std.specs.Borrow.{Bor}
+use Rattle.std.specs.Cmp.Lexicographic.{slice_cmp}
+use Rattle.std.specs.List.{flat_map}
+use Rattle.std.specs.Ordering.{nat_cmp}
+use Rattle.std.specs.Str.{bytes_eq}
+use Rattle.std.proofs.lemmas.List.Folds.{list_any-append}
+use Rattle.std.proofs.lemmas.Slice.Eq.{bytes_eq-Decides}
+use Rattle.elf_model.specs.Groups.{ascending, dropped, dropped_groups, is_comdat, is_seen, seen_after, seen_with}
+use Rattle.elf_model.specs.ObjectFile.{Group}
+use Rattle.elf_model.specs.UsedNames.{is_among}
+use Rattle.elf_model.proofs.SameOutput.{both_ways_equal}
+use Rattle.elf_model.proofs.UsedNames.{name_added}
+use Rattle.check_load.specs.Signatures.{lost_by, lost_groups, seen_by, seen_in, seen_then}
+
+pub same_names : (a b : List ℕ) → bytes_eq a b ≡ bytes_eq b a
+same_names a b = both_ways_equal (bytes_eq a b) (bytes_eq b a) (turn a b) (turn b a)
+  where
+    turn : (x y : List ℕ) → bytes_eq x y ≡ true → bytes_eq y x ≡ true
+    turn x y e = (bytes_eq-Decides y x).1 (sym ((bytes_eq-Decides x y).0 e))
+
+-- what is seen after one group
+group_passed : (seen : List ℕ → Bool) (g : Group) → is_comdat g ≡ false → (name : List ℕ) → seen name ≡ seen_then seen g name
+group_passed seen g plain name = ap (λ (b : Bool). b && bytes_eq g.signature name || seen name) (sym plain)
+
+pub not_comdat : (seen : List ℕ → Bool) (g : Group) → is_comdat g ≡ false → seen ≡ seen_then seen g
+not_comdat seen g plain = λ j n. group_passed seen g plain n j
+
+set_grown : (old new : BTreeSet (Bor (List ℕ))) (key : Bor (List ℕ)) (g : Group) → is_comdat g ≡ true → key.now ≡ g.signature →
+    UpdatesBy (λ x y. slice_cmp nat_cmp x.now y.now) (λ k. slice_cmp nat_cmp key.now k.now) old new true → (n : List ℕ) → seen_in new n ≡ seen_then (seen_in old) g n
+unfolding seen_in
+set_grown old new key g comdat same updates n =
+    name_added key old new updates n
+    ∙ (λ j. (sym comdat j && bytes_eq (same j) n) || seen_in old n)
+
+pub set_then : (old new : BTreeSet (Bor (List ℕ))) (key : Bor (List ℕ)) (g : Group) → is_comdat g ≡ true → key.now ≡ g.signature →
+    UpdatesBy (λ x y. slice_cmp nat_cmp x.now y.now) (λ k. slice_cmp nat_cmp key.now k.now) old new true → seen_in new ≡ seen_then (seen_in old) g
+set_then old new key g comdat same updates = λ j n. set_grown old new key g comdat same updates n j
+
+-- whether a signature was seen, by what its insertion answers
+not_not : (b : Bool) → b ≡ not (not b)
+not_not true = refl
+not_not false = refl
+
+pub seen_unless : (old : BTreeSet (Bor (List ℕ))) (key : Bor (List ℕ)) (g : Group) (added : Bool) → is_comdat g ≡ true → key.now ≡ g.signature →
+    added ≡ not (is_among old key.now) → (is_comdat g && seen_in old g.signature) ≡ not added
+unfolding seen_in
+seen_unless old key g added comdat same is =
+    (λ j. comdat j && seen_in old (sym same j)) ∙ (not_not (seen_in old key.now) ∙ ap not (sym is))
+
+-- with the list of the definitions
+or_last : (a b : Bool) → (a || (b || false)) ≡ (b || a)
+or_last true true = refl
+or_last true false = refl
+or_last false true = refl
+or_last false false = refl
+
+or_known : (a b : Bool) → (a ≡ true → b ≡ true) → b ≡ (a || b)
+or_known true b f = f refl
+or_known false b f = refl
+
+list_then : (seen : List (List ℕ)) (g : Group) (name : List ℕ) → is_seen (seen_with seen g) name ≡ seen_then (is_seen seen) g name
+list_then seen g name = by (is_comdat g) (is_seen seen g.signature) refl
+  where
+    by : (c s : Bool) → is_seen seen g.signature ≡ s → is_seen (cond (c && not s) (seen ++ g.signature ∷ []) seen) name ≡ (c && bytes_eq g.signature name || is_seen seen name)
+    by false s is = refl
+    by true true is = or_known (bytes_eq g.signature name) (is_seen seen name) (λ e. subst (λ (n : List ℕ). is_seen seen n ≡ true) ((bytes_eq-Decides g.signature name).0 e) is)
+    by true false is =
+        list_any-append (bytes_eq name) seen (g.signature ∷ [])
+        ∙ (or_last (is_seen seen name) (bytes_eq name g.signature) ∙ ap (λ (b : Bool). b || is_seen seen name) (same_names name g.signature))
+
+pub list_by : (seen : List (List ℕ)) (gs : List Group) → seen_by (is_seen seen) gs ≡ is_seen (seen_after seen gs)
+list_by seen [] = refl
+list_by seen (g ∷ gs) = ap (λ (f : List ℕ → Bool). seen_by f gs) (λ j n. sym (list_then seen g n) j) ∙ list_by (seen_with seen g) gs
+
+list_lost : (seen : List (List ℕ)) (gs : List Group) → lost_groups (is_seen seen) gs ≡ dropped_groups seen gs
+list_lost seen [] = refl
+list_lost seen (g ∷ gs) =
+    ap (λ (xs : List Group). cond (is_comdat g && is_seen seen g.signature) (g ∷ []) [] ++ xs)
+    (ap (λ (f : List ℕ → Bool). lost_groups f gs) (λ j n. sym (list_then seen g n) j) ∙ list_lost (seen_with seen g) gs)
+
+pub lost_is : (seen : List (List ℕ)) (gs : List Group) → lost_by (is_seen seen) gs ≡ dropped seen gs
+lost_is seen gs = ap (λ (xs : List Group). ascending (members_of xs)) (list_lost seen gs)
+  where
+    members_of : List Group → List ℕ
+    members_of xs = flat_map (λ g. g.members) xs

@@ -1,0 +1,12 @@
+use Rattle.std.proofs.Common.{◌≡◌, drop, length}
+use Rattle.std.specs.Prelude.{AllPairs}
+use Rattle.elf_model.specs.Groups.{ShareNoSection}
+use Rattle.elf_model.proofs.Rests.{Left}
+use Rattle.check_load.proofs.SharedSections.{IsApartFrom}
+use Rattle.check_load.proofs.lawfulness.share_no_section.Given as goal
+
+abbrev pub invariant-loop-group : goal.invariant-loop-group
+invariant-loop-group l = record {
+  size : length l.marks.items ≡ l.count;
+  apart : Left (AllPairs ShareNoSection l.groups) (IsApartFrom l.marks.items (drop l.group-index l.groups));
+}

@@ -1,0 +1,22 @@
+use Rattle.std.proofs.Common.{◌∙◌, ◌&&◌, ◌||◌, List, ℕ, ap, sym, true}
+use Rattle.std.specs.List.{list_any}
+use Rattle.std.proofs.lemmas.Bool.{false≢true}
+use Rattle.std.specs.Str.{bytes_eq}
+use Rattle.command.specs.Views.{texts_of}
+use Rattle.check_load.specs.Names.{defines_name, requests_name}
+use Rattle.check_load.proofs.NotedNames.{none_defined, none_noted, root_first}
+use Rattle.check_load.proofs.names.roots.Goals as goal
+
+pub loop-name-init : goal.loop-name-init
+loop-name-init c = record {
+  requested = λ n.
+      root_first (list_any (λ root. bytes_eq root n) (texts_of c.args.undefined.now)) (bytes_eq c.args.entry.now n) (requests_name c.note_root.new.names n)
+      (requests_name c.new-names.result n)
+      (c.in_ok-note_root.ensures.requested n ∙ ap (λ (name : List ℕ). bytes_eq name n && true || requests_name c.new-names.result n) c.as_bytes.ensures.value)
+      (none_noted c.new-names.result c.new-names.ensures.empty n).0;
+  defined = λ n.
+      none_defined (bytes_eq c.as_bytes.result.now n) (defines_name c.note_root.new.names n) (defines_name c.new-names.result n)
+      (c.in_ok-note_root.ensures.defined n) (none_noted c.new-names.result c.new-names.ensures.empty n).1;
+  woken = c.in_ok-note_root.ensures.woken (λ o q e at entry fresh asked.
+      absurd (false≢true (sym (none_noted c.new-names.result c.new-names.ensures.empty e.name).0 ∙ asked)));
+}

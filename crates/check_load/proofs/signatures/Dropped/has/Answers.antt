@@ -1,0 +1,11 @@
+use Rattle.std.proofs.Common.{◌∙◌, ◌==◌, Bool, List, ℕ, ap}
+use Rattle.std.specs.List.{list_any}
+use Rattle.check_load.specs.Marks.{is_marked}
+use Rattle.check_load.proofs.MarkLemmas.{among_marked}
+use Rattle.check_load.proofs.signatures.Dropped.has.Goals as goal
+
+pub returns : goal.returns
+returns c =
+    c.is_marked.ensures
+    ∙ (ap (λ (m : List Bool). is_marked m c.args.section) c.deref.ensures.value
+    ∙ (among_marked c.self.inside.marks.items c.args.section ∙ ap (λ (ks : List ℕ). list_any (λ k. k == c.args.section) ks) c.self.view_is))

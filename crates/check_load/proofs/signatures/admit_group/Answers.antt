@@ -1,0 +1,28 @@
+use Rattle.std.proofs.Common.{not, cond, ap, sym, ◌∙◌}
+use Rattle.check_load.specs.Marks.{marked}
+use Rattle.check_load.proofs.SignatureLaws.{seen_unless, set_then}
+use Rattle.check_load.proofs.signatures.admit_group.Goals as goal
+
+pub returns-then-branch-clause-marks : goal.returns-then-branch-clause-marks
+returns-then-branch-clause-marks c =
+    let g = c.args.group.now in
+    let kept =
+    seen_unless c.args.seen.now c.signature.result g c.in_ok-insert.field-0 (sym c.is_comdat.ensures ∙ c.if-not-is_comdat.false) c.signature.ensures c.in_ok-insert.ensures.added
+    ∙ ap not c.if-branch.true in
+    ap (λ b. cond b (marked c.args.marks.now g.members) c.args.marks.now) (sym kept)
+
+pub returns-then-branch-clause-seen : goal.returns-then-branch-clause-seen
+returns-then-branch-clause-seen c =
+    set_then c.args.seen.now c.insert.new.self c.signature.result c.args.group.now (sym c.is_comdat.ensures ∙ c.if-not-is_comdat.false) c.signature.ensures c.in_ok-insert.ensures.updates
+
+pub returns-clause-marks : goal.returns-clause-marks
+returns-clause-marks c =
+    let g = c.args.group.now in
+    let lost =
+    seen_unless c.args.seen.now c.signature.result g c.in_ok-insert.field-0 (sym c.is_comdat.ensures ∙ c.if-not-is_comdat.false) c.signature.ensures c.in_ok-insert.ensures.added
+    ∙ ap not c.if-branch.false in
+    c.mark.ensures ∙ ap (marked c.args.marks.now) c.members.ensures ∙ ap (λ b. cond b (marked c.args.marks.now g.members) c.args.marks.now) (sym lost)
+
+pub returns-clause-seen : goal.returns-clause-seen
+returns-clause-seen c =
+    set_then c.args.seen.now c.insert.new.self c.signature.result c.args.group.now (sym c.is_comdat.ensures ∙ c.if-not-is_comdat.false) c.signature.ensures c.in_ok-insert.ensures.updates

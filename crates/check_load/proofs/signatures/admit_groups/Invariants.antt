@@ -1,0 +1,11 @@
+use Rattle.std.proofs.Common.{◌≡◌, drop}
+use Rattle.check_load.specs.Marks.{marked}
+use Rattle.check_load.specs.Signatures.{lost_members, seen_by, seen_in}
+use Rattle.check_load.proofs.signatures.admit_groups.Given as goal
+
+abbrev pub invariant-loop-group : goal.invariant-loop-group
+invariant-loop-group l = record {
+  seen : seen_by (seen_in l.seen) (drop l.group-index l.groups) ≡ seen_by (seen_in l.initial.seen) l.groups;
+  marks : marked l.marks.items (lost_members (seen_in l.seen) (drop l.group-index l.groups))
+      ≡ marked l.initial.marks.items (lost_members (seen_in l.initial.seen) l.groups);
+}

@@ -1,0 +1,12 @@
+pub mod Awake
+pub mod Loaders
+pub mod Marks
+pub mod Names
+pub mod Opened
+pub mod Places
+pub mod Plans
+pub mod Signatures
+pub mod Steps
+pub mod Stops
+pub mod Taken
+pub mod Views

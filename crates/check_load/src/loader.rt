@@ -1,0 +1,259 @@
+//! The objects that are loaded so far, and what loading has to know of them.
+ghost use Rattle.std.specs.Prelude.{true, false, ◌≡◌, [], ℕ, IfErr, IfNone, IfOk, IfSome, IsSomeAnd, OnOk, Some, length, option_map, slice_get};
+ghost use Rattle.std.specs.List.{find};
+ghost use Rattle.elf_model.specs.ArchiveFile as archive;
+ghost use Rattle.elf_model.specs.Loading.{is_begun, is_dropped, next, with_object};
+ghost use Rattle.elf_model.specs.ObjectFile.{IsObject, section, sections};
+ghost use Rattle.elf_model.specs.Pieces.{is_kept};
+ghost use Rattle.elf_model.specs.Relocation.{is_kept_rela};
+ghost use Rattle.check_load.specs.Loaders.{AreFreeAwake, IsLoadable, Knows, is_free, loaded};
+ghost use Rattle.check_load.specs.Awake.{is_awake};
+ghost use Rattle.check_load.specs.Opened.{item_view};
+ghost use Rattle.check_load.specs.Places.{IsAt};
+ghost use Rattle.check_load.specs.Stops.{Refutes};
+ghost use Rattle.check_load.specs.Taken.{has_item};
+ghost use Rattle.check_load.specs.Views.{loaded_view, loaded_views};
+
+use crate::archives::Input;
+use crate::awake::Awake;
+use crate::names::{NameState, note_object, roots, state_of};
+use crate::opening::OpenedItem;
+use crate::places::Places;
+use crate::signatures::{Dropped, admit};
+use crate::stops::Stop;
+use crate::taken::Taken;
+use ar_index::IndexEntry;
+use byteview::View;
+use command::Plan;
+use elf_model::{ObjFault, SHT_RELA, SectionHeader};
+use elf_read::Object;
+use std::alloc::{AllocError, Global};
+use std::collections::{BTreeMap, BTreeSet};
+
+/// A loaded object.
+#[derive(Drop)]
+pub struct Loaded<'a> {
+    /// What its bytes hold.
+    pub object: Object<'a>,
+    /// The number of its item in the command.
+    pub item: u64,
+    /// The offset of its member's header in the archive; 0 for an object item.
+    pub offset: u64,
+    /// The path of its file.
+    pub path: &'a str,
+    /// Its dropped sections.
+    pub dropped: Dropped,
+}
+
+impl<'a> Loaded<'a> {
+    /// Whether a section is dropped with its group. Takes the same time for each.
+    pub fn is_dropped(&self, section: usize) -> bool
+        ensures { result ≡ is_dropped (loaded_view self.now) section }
+    {
+        self.dropped.has(section)
+    }
+
+    /// Whether a section, which has the header, is kept: it has SHF_ALLOC, and isn't dropped.
+    pub fn is_kept(&self, section: usize, header: &SectionHeader) -> bool
+        ensures { result ≡ is_kept (loaded_view self.now) section header.now }
+    {
+        header.is_alloc() && !self.is_dropped(section)
+    }
+
+    /// Whether there is a section of a number, and it is kept.
+    fn keeps(&self, number: usize) -> bool
+        ensures { result ≡ is_kept (loaded_view self.now) number (section (sections self.now.object) number) }
+    {
+        match self.object.sections().get(number) {
+            Some(header) => self.is_kept(number, header),
+            None => false,
+        }
+    }
+
+    /// Whether a section, which has the header, is a RELA section that isn't dropped and relocates one that is kept.
+    pub fn is_kept_rela(&self, section: usize, header: &SectionHeader) -> bool
+        ensures value { result ≡ is_kept_rela (loaded_view self.now) section header.now }
+        ensures rela { result ≡ true → header.now.sh_type ≡ 4 }
+    {
+        if header.sh_type != SHT_RELA || self.is_dropped(section) {
+            return false;
+        }
+        self.keeps(header.sh_info as usize)
+    }
+}
+
+/// The loaded objects of a plan so far.
+#[derive(Drop)]
+pub struct Loader<'p, 'a> {
+    plan: &'p Plan<'a>,
+    objects: Vec<Loaded<'a>>,
+    seen: BTreeSet<&'a [u8]>,
+    names: BTreeMap<&'a [u8], NameState>,
+    taken: Taken,
+    awake: Awake,
+}
+
+/// Reads an object.
+fn read_object<'a>(alloc: Global, bytes: &'a [u8]) -> Result<Object<'a>, Stop>
+    ensures exact { IfOk result (λ o. o ≡ bytes.entry.now) }
+    ensures object { OnOk result (IsObject bytes.entry.now) }
+    ensures stop { IfErr result (Refutes (IsObject bytes.entry.now)) }
+{
+    match Object::read(alloc, View::new(bytes)) {
+        Ok(object) => Ok(object),
+        Err(ObjFault::Memory) => Err(Stop::Memory),
+        Err(_) => Err(Stop::Unlawful),
+    }
+}
+
+/// Whether an entry of an item gives a member: its name is asked for and not defined, and its member isn't taken.
+fn is_free(
+    names: &BTreeMap<&[u8], NameState>,
+    taken: &Taken,
+    item: u64,
+    entry: &IndexEntry<'_>,
+) -> bool
+    ensures { result ≡ is_free names.now taken.now item entry.now }
+{
+    let state = state_of(names, entry.name());
+    if !state.requested || state.defined {
+        return false;
+    }
+    !taken.has_member(item, entry.offset())
+}
+
+/// The offset of the member that entry `i` gives, where there is such an entry and it gives one.
+fn free_at(
+    names: &BTreeMap<&[u8], NameState>,
+    taken: &Taken,
+    item: u64,
+    entries: &[IndexEntry<'_>],
+    i: usize,
+) -> Option<u64>
+    ensures found { IfSome result (λ k. IsSomeAnd (slice_get entries.now i) (λ e. (is_free names.now taken.now item e ≡ true) × (k ≡ e.offset))) }
+    ensures none { IfNone result ((e : archive.IndexEntry) → slice_get entries.now i ≡ Some e → is_free names.now taken.now item e ≡ false) }
+{
+    let Some(entry) = entries.get(i) else {
+        return None;
+    };
+    if !is_free(names, taken, item, entry) {
+        return None;
+    }
+    Some(entry.offset())
+}
+
+/// The offset of the member that the first of an item's entries gives that gives one. Each that does is awake, and
+/// stays so; those that are awake before it go to sleep.
+fn first_free(
+    names: &BTreeMap<&[u8], NameState>,
+    taken: &Taken,
+    awake: &mut Awake,
+    item: u64,
+    entries: &[IndexEntry<'_>],
+) -> Option<u64>
+    requires { AreFreeAwake names.now taken.now item entries.now awake.old }
+    ensures exact { result ≡ option_map (λ e. e.offset) (find (is_free names.now taken.now item) entries.now) }
+    ensures awake { AreFreeAwake names.now taken.now item entries.now awake.new }
+    ensures others { (i q : ℕ) → (i ≡ item → ⊥) → is_awake awake.old i q ≡ true → is_awake awake.new i q ≡ true }
+{
+    while let Some(i) = awake.first(item) {
+        if let Some(offset) = free_at(names, taken, item, entries, i) {
+            return Some(offset);
+        }
+        awake.lull(item, i);
+    }
+    None
+}
+
+impl<'p, 'a> Loader<'p, 'a> {
+    /// Nothing of a plan is loaded.
+    pub fn new(
+        alloc: Global,
+        places: &Places<'_, '_>,
+        plan: &'p Plan<'a>,
+    ) -> Result<Loader<'p, 'a>, AllocError>
+        ensures plan { IfOk result (λ l. l.plan.now ≡ plan.entry.now) }
+        ensures loaded { IfOk result (λ l. loaded l ≡ []) }
+        ensures known { IfOk result (Knows places.now) }
+    {
+        let mut awake = Awake::new(alloc);
+        let names = roots(alloc, places, &mut awake, plan.entry, &plan.undefined)?;
+        Ok(Loader {
+            plan,
+            objects: Vec::new(alloc),
+            seen: BTreeSet::new(alloc),
+            names,
+            taken: Taken::new(alloc),
+            awake,
+        })
+    }
+
+    /// Loads an object of an item, from the offset of its member's header.
+    pub fn add(
+        &mut self,
+        alloc: Global,
+        places: &Places<'_, '_>,
+        item: &OpenedItem<'a>,
+        offset: u64,
+        bytes: &'a [u8],
+    ) -> Result<(), Stop>
+        requires { Knows places.now self.old }
+        ensures plan { OnOk result (self.new.plan.now ≡ self.old.plan.now) }
+        ensures loaded { OnOk result (loaded self.new ≡ with_object (loaded self.old) (item_view item.now) offset bytes.now) }
+        ensures known { OnOk result (Knows places.now self.new) }
+        ensures stop { IfErr result (Refutes (IsLoadable bytes.now)) }
+    {
+        let object = read_object(alloc, bytes)?;
+        let dropped = admit(alloc, &mut self.seen, &object)?;
+        note_object(places, &mut self.awake, &mut self.names, &object, &dropped)?;
+        self.taken.add(item.number, offset)?;
+        self.objects.push(Loaded {
+            object,
+            item: item.number,
+            offset,
+            path: item.path,
+            dropped,
+        })?;
+        Ok(())
+    }
+
+    /// The offset of the member of an archive that is next. Its entries that are awake, give none and stand before
+    /// the one that gives it go to sleep.
+    pub fn next_member(&mut self, places: &Places<'_, '_>, input: &Input<'a>) -> Option<u64>
+        requires known { Knows places.now self.old }
+        requires at { IsAt places.now input.now }
+        requires archive { input.now.archive ≡ true }
+        ensures plan { self.new.plan.now ≡ self.old.plan.now }
+        ensures loaded { loaded self.new ≡ loaded self.old }
+        ensures known { Knows places.now self.new }
+        ensures exact { result ≡ option_map (λ e. e.offset) (next self.old.plan.now (loaded self.old) input.now) }
+    {
+        let Some(entries) = input.entries() else {
+            return None;
+        };
+        let item = input.item().number;
+        first_free(&self.names, &self.taken, &mut self.awake, item, entries)
+    }
+
+    /// Whether an object of an item is loaded.
+    pub fn has_begun(&self, item: u64) -> bool
+        requires { (i : ℕ) → has_item self.now.taken i ≡ is_begun (loaded self.now) i }
+        ensures { result ≡ is_begun (loaded self.now) item }
+    {
+        self.taken.has_item(item)
+    }
+
+    /// How many objects are loaded.
+    pub fn count(&self) -> usize
+        ensures { result ≡ length (loaded self.now) }
+    {
+        self.objects.len()
+    }
+
+    /// The objects that are loaded, in load order.
+    pub fn into_objects(self) -> Vec<Loaded<'a>>
+        ensures { loaded_views result.items ≡ loaded self.entry }
+    {
+        self.objects
+    }
+}

@@ -1,0 +1,58 @@
+//! Groups of archives: rounds, until one takes nothing.
+ghost use Rattle.std.specs.Prelude.{◌≡◌, true, All, IfErr, OnOk};
+ghost use Rattle.elf_model.specs.Loading.{round, rounds};
+ghost use Rattle.check_load.specs.Places.{IsAt};
+ghost use Rattle.check_load.specs.Stops.{Refutes};
+ghost use Rattle.check_load.specs.Loaders.{AreLoadable, Knows, loaded};
+
+use crate::archives::Input;
+use crate::loader::Loader;
+use crate::places::Places;
+use crate::stops::Stop;
+use crate::turns::turn;
+use std::alloc::Global;
+
+/// A turn of each archive, in order.
+fn run_round<'a>(
+    alloc: Global,
+    places: &Places<'_, '_>,
+    loader: &mut Loader<'_, 'a>,
+    inputs: &[Input<'a>],
+) -> Result<(), Stop>
+    requires known { Knows places.now loader.old }
+    requires at { All (IsAt places.now) inputs.now }
+    requires archives { All (λ i. i.archive ≡ true) inputs.now }
+    ensures plan { OnOk result (loader.new.plan.now ≡ loader.old.plan.now) }
+    ensures known { OnOk result (Knows places.now loader.new) }
+    ensures loaded { OnOk result (loaded loader.new ≡ round loader.old.plan.now inputs.now (loaded loader.old)) }
+    ensures stop { IfErr result (Refutes (AreLoadable (round loader.old.plan.now inputs.now (loaded loader.old)))) }
+{
+    for input in inputs {
+        turn(alloc, places, loader, input)?;
+    }
+    Ok(())
+}
+
+/// Rounds of a group of archives, until a whole round takes nothing.
+pub fn run_rounds<'a>(
+    alloc: Global,
+    places: &Places<'_, '_>,
+    loader: &mut Loader<'_, 'a>,
+    inputs: &[Input<'a>],
+) -> Result<(), Stop>
+    requires known { Knows places.now loader.old }
+    requires at { All (IsAt places.now) inputs.now }
+    requires archives { All (λ i. i.archive ≡ true) inputs.now }
+    ensures plan { OnOk result (loader.new.plan.now ≡ loader.old.plan.now) }
+    ensures known { OnOk result (Knows places.now loader.new) }
+    ensures loaded { OnOk result (loaded loader.new ≡ rounds loader.old.plan.now inputs.now (loaded loader.old)) }
+    ensures stop { IfErr result (Refutes (AreLoadable (rounds loader.old.plan.now inputs.now (loaded loader.old)))) }
+{
+    loop {
+        let before = loader.count();
+        run_round(alloc, places, loader, inputs)?;
+        if loader.count() == before {
+            return Ok(());
+        }
+    }
+}

@@ -1,0 +1,30 @@
+//! Why nothing is loaded, inside this crate.
+ghost use Rattle.std.specs.Prelude.{◌≡◌};
+ghost use Rattle.check_load.specs.declared.stops.Stop.TheVariants as stop;
+
+use std::alloc::{AllocError, AllocFailed};
+
+/// Why the objects of a plan could not be loaded.
+#[derive(Clone, Copy)]
+pub enum Stop {
+    /// A growth was refused.
+    Memory,
+    /// A condition of loading fails.
+    Unlawful,
+}
+
+impl From<AllocError> for Stop {
+    ghost from_gives = { λ _ s. s ≡ stop.Memory };
+
+    fn from(_error: AllocError) -> Stop {
+        Stop::Memory
+    }
+}
+
+impl<T: Drop> From<AllocFailed<T>> for Stop {
+    ghost from_gives = { λ _ s. s ≡ stop.Memory };
+
+    fn from(_error: AllocFailed<T>) -> Stop {
+        Stop::from(AllocError)
+    }
+}

@@ -1,0 +1,14 @@
+use Rattle.std.proofs.Common.{◌≡◌, ◌∙◌, ◌&&◌, Bool, List, ap, sym}
+use Rattle.std.specs.Prelude.{filter}
+use Rattle.elf_model.specs.ChosenSymbols.{is_chosen}
+use Rattle.elf_model.specs.Commons.{blocks_from}
+use Rattle.elf_model.specs.Resolution.{SymbolOf}
+use Rattle.check_load.specs.Views.{loaded_views}
+use Rattle.checker.specs.Views.{symbol_views}
+use Rattle.checker.proofs.Asked.{blocks_chosen}
+use Rattle.checker.proofs.commons.blocks_of.Goals as goal
+
+pub returns : goal.returns
+returns c =
+    c.in_ok-blocks.ensures
+    ∙ blocks_chosen (loaded_views c.args.objects.now) c.args.chosen.now (symbol_views c.args.symbols.now) c.requires.chosen c.requires.symbols

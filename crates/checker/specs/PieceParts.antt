@@ -1,0 +1,27 @@
+-- The parts of memory of which bounds tell, and what the bounds are.
+use Rattle.std.specs.Prelude.{◌≡◌, ℕ, ◌+◌, ◌^◌, ◌≤◌, Bool, List, All, unwrap_or}
+use Rattle.elf_model.specs.LinkerValues.{any_piece, end_of_pieces, is_code_piece, is_file_data, is_zero_data, start_of_pieces}
+use Rattle.elf_model.specs.Pieces.{Piece}
+use Rattle.elf_model.specs.Placement.{Placed}
+use Rattle.checker.specs.declared.bounds.Bounds.{Bounds}
+use Rattle.checker.specs.declared.bounds.Part.{Part}
+use Rattle.checker.specs.declared.bounds.Part.TheVariants as part
+
+abbrev pub part_test : Part → Piece → Bool
+part_test part.All = any_piece
+part_test part.Code = is_code_piece
+part_test part.FileData = is_file_data
+part_test part.Zeros = is_zero_data
+
+-- a piece ends at or below 2 ^ 46
+abbrev pub IsInLimit : Placed → Type 0
+IsInLimit q = q.at + q.piece.size ≤ 2 ^ 46
+
+abbrev pub AreInLimit : List Placed → Type 0
+AreInLimit qs = All IsInLimit qs
+
+pub record AreBounds (qs : List Placed) (b : Bounds) : Type 0 where
+  pub code_end : b.code_end ≡ end_of_pieces is_code_piece qs
+  pub data_end : b.data_end ≡ end_of_pieces is_file_data qs
+  pub zero_start : b.zero_start ≡ unwrap_or (start_of_pieces is_zero_data qs) 0
+  pub image_end : b.image_end ≡ end_of_pieces any_piece qs

@@ -1,0 +1,156 @@
+//! Where code, data and all pieces end, where what has no bytes begins, and where the pieces of each output name begin
+//! and end: what the linker's own names stand for.
+ghost use Rattle.std.specs.Prelude.{◌≡◌, ◌+◌, IfOk, OnOk, max, option_map, unwrap_or};
+ghost use Rattle.elf_model.specs.LinkerValues.{end_of_pieces, least_of, start_of_pieces};
+ghost use Rattle.elf_model.proofs.PieceBounds.{earlier, further};
+ghost use Rattle.checker.specs.PieceParts.{AreInLimit, AreBounds, IsInLimit, part_test};
+ghost use Rattle.checker.specs.Outputs.{AreSpans, HasSpanned};
+ghost use Rattle.checker.specs.Views.{piece_view, placed_view, placed_views};
+
+use crate::output::output_name;
+use crate::things::{Piece, Placed};
+use std::alloc::{AllocError, Global};
+use std::collections::BTreeMap;
+
+/// The pieces that a bound is of: all, those of code, those of data in the file, and those without bytes in it that
+/// aren't thread-local.
+#[derive(Clone, Copy, Debug)]
+pub enum Part {
+    All,
+    Code,
+    FileData,
+    Zeros,
+}
+
+/// The least address and the greatest end of pieces, in bytes.
+#[derive(Clone, Copy, Debug)]
+pub struct Span {
+    pub start: u64,
+    pub end: u64,
+}
+
+/// The greatest ends of parts, in bytes, and the least address of what has no bytes, 0 without any.
+#[derive(Clone, Copy, Debug)]
+pub struct Bounds {
+    pub code_end: u64,
+    pub data_end: u64,
+    pub zero_start: u64,
+    pub image_end: u64,
+}
+
+fn is_of(part: Part, piece: &Piece<'_>) -> bool
+    ensures { result ≡ part_test part (piece_view piece.now) }
+{
+    let header = &piece.header;
+    match part {
+        Part::All => true,
+        Part::Code => header.is_executable(),
+        Part::FileData => header.is_writable() && !header.is_nobits(),
+        Part::Zeros => header.is_nobits() && !header.is_thread_local(),
+    }
+}
+
+/// The end of a piece of the part, where it is above another end.
+fn further(part: Part, end: u64, placed: &Placed<'_>) -> u64
+    requires { IsInLimit (placed_view placed.now) }
+    ensures { result ≡ further (part_test part) end (placed_view placed.now) }
+{
+    if is_of(part, &placed.piece) {
+        return end.max(placed.at + placed.piece.header.sh_size);
+    }
+    end
+}
+
+/// The greatest end of the pieces of a part; 0 without any.
+fn end_of(part: Part, placed: &[Placed<'_>]) -> u64
+    requires { AreInLimit (placed_views placed.now) }
+    ensures { result ≡ end_of_pieces (part_test part) (placed_views placed.now) }
+{
+    let mut end = 0;
+    for q in placed {
+        end = further(part, end, q);
+    }
+    end
+}
+
+/// The address of a piece of the part, where it is below another one.
+fn earlier(part: Part, start: Option<u64>, placed: &Placed<'_>) -> Option<u64>
+    ensures { result ≡ earlier (part_test part) start (placed_view placed.now) }
+{
+    if !is_of(part, &placed.piece) {
+        return start;
+    }
+    match start {
+        Some(at) => Some(placed.at.min(at)),
+        None => Some(placed.at),
+    }
+}
+
+/// The least address of the pieces of a part; None without any.
+fn start_of(part: Part, placed: &[Placed<'_>]) -> Option<u64>
+    ensures { result ≡ start_of_pieces (part_test part) (placed_views placed.now) }
+{
+    let mut start = None;
+    for q in placed {
+        start = earlier(part, start, q);
+    }
+    start
+}
+
+/// The span of an output name, once one more piece of it is seen.
+fn with_piece(before: Option<Span>, placed: &Placed<'_>) -> Span
+    requires { IsInLimit (placed_view placed.now) }
+    ensures start { result.start ≡ least_of placed.now.at (option_map (λ s. s.start) before) }
+    ensures end { result.end ≡ max (unwrap_or (option_map (λ s. s.end) before) 0) (placed.now.at + placed.now.piece.header.sh_size) }
+{
+    let end = placed.at + placed.piece.header.sh_size;
+    match before {
+        Some(span) => Span {
+            start: placed.at.min(span.start),
+            end: span.end.max(end),
+        },
+        None => Span {
+            start: placed.at,
+            end,
+        },
+    }
+}
+
+/// Adds a piece to a table of the spans of output names.
+fn add_span<'a>(spans: &mut BTreeMap<&'a [u8], Span>, placed: &Placed<'a>) -> Result<(), AllocError>
+    requires { IsInLimit (placed_view placed.now) }
+    ensures { OnOk result (HasSpanned spans.old spans.new (placed_view placed.now)) }
+{
+    let name = output_name(placed.piece.name);
+    let before = spans.get(name).copied();
+    spans.insert(name, with_piece(before, placed))?;
+    Ok(())
+}
+
+/// The spans of the output names of placed pieces.
+pub fn spans_of<'a>(
+    alloc: Global,
+    placed: &[Placed<'a>],
+) -> Result<BTreeMap<&'a [u8], Span>, AllocError>
+    requires { AreInLimit (placed_views placed.now) }
+    ensures { IfOk result (AreSpans (placed_views placed.now)) }
+{
+    let mut spans = BTreeMap::new(alloc);
+    for q in placed {
+        add_span(&mut spans, q)?;
+    }
+    Ok(spans)
+}
+
+/// The bounds of placed pieces.
+pub fn bounds_of(placed: &[Placed<'_>]) -> Bounds
+    requires { AreInLimit (placed_views placed.now) }
+    ensures { AreBounds (placed_views placed.now) result }
+{
+    Bounds {
+        code_end: end_of(Part::Code, placed),
+        data_end: end_of(Part::FileData, placed),
+        zero_start: start_of(Part::Zeros, placed).unwrap_or(0),
+        image_end: end_of(Part::All, placed),
+    }
+}

@@ -1,0 +1,6 @@
+mod DroppedMembers
+mod DroppedNumbers
+pub mod GroupFaultLemmas
+mod MarkLemmas
+mod SharedSections
+mod SignatureLemmas

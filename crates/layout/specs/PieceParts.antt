@@ -1,0 +1,54 @@
+-- The parts of memory of which bounds tell, and what the bounds are.
+use Rattle.std.specs.Prelude.{◌≡◌, ℕ, Bool, List, Option, option_map, unwrap_or}
+use Rattle.std.specs.BTreeMap.{BTreeMap, get_by}
+use Rattle.std.specs.Borrow.{Bor}
+use Rattle.std.specs.Cmp.Lexicographic.{slice_cmp}
+use Rattle.std.specs.Option.{option_map_or}
+use Rattle.std.specs.Ordering.{nat_cmp}
+use Rattle.elf_model.specs.LinkerNames.{named_output}
+use Rattle.elf_model.specs.LinkerValues.{any_piece, end_of_pieces, is_code_piece, is_file_data, is_zero_data, start_of_pieces}
+use Rattle.elf_model.specs.Pieces.{Piece, is_of_output}
+use Rattle.elf_model.specs.Placement.{Placed}
+use Rattle.elf_model.specs.declared.bound.Bound.{Bound}
+use Rattle.elf_model.specs.declared.bound.Bound.TheVariants.{CodeEnd, DataEnd, ImageEnd, ImageStart, OutputEnd, OutputStart, ZeroStart}
+use Rattle.layout.specs.declared.bounds.Bounds.{Bounds}
+use Rattle.layout.specs.declared.bounds.Extent.{Extent}
+use Rattle.layout.specs.declared.bounds.Part.{Part}
+use Rattle.layout.specs.declared.bounds.Part.TheVariants as part
+
+abbrev pub part_test : Part → Piece → Bool
+part_test part.All = any_piece
+part_test part.Code = is_code_piece
+part_test part.FileData = is_file_data
+part_test part.Zeros = is_zero_data
+
+-- where the pieces of an output name begin and end by a table
+abbrev pub extent_in : BTreeMap (Bor (List ℕ)) Extent → List ℕ → Option Extent
+extent_in extents name = get_by (λ k. slice_cmp nat_cmp name k.now) extents
+
+abbrev pub start_in : BTreeMap (Bor (List ℕ)) Extent → List ℕ → Option ℕ
+start_in extents name = option_map (λ e. e.start) (extent_in extents name)
+
+abbrev pub end_in : BTreeMap (Bor (List ℕ)) Extent → List ℕ → ℕ
+end_in extents name = option_map_or (λ e. e.end) (extent_in extents name) 0
+
+pub record AreExtents (qs : List Placed) (extents : BTreeMap (Bor (List ℕ)) Extent) : Type 0 where
+  pub starts : (name : List ℕ) → start_in extents name ≡ start_of_pieces (is_of_output name) qs
+  pub ends : (name : List ℕ) → end_in extents name ≡ end_of_pieces (is_of_output name) qs
+
+pub record AreBounds (qs : List Placed) (b : Bounds) : Type 0 where
+  pub code_end : b.code_end ≡ end_of_pieces is_code_piece qs
+  pub data_end : b.data_end ≡ end_of_pieces is_file_data qs
+  pub zero_start : b.zero_start ≡ unwrap_or (start_of_pieces is_zero_data qs) 0
+  pub image_end : b.image_end ≡ end_of_pieces any_piece qs
+  pub outputs : AreExtents qs b.outputs
+
+-- what the linker's names stand for by the bounds, in an image that is mapped from a base on
+abbrev pub bound_at : ℕ → Bounds → List ℕ → Bound → ℕ
+bound_at base b name ImageStart = base
+bound_at base b name CodeEnd = b.code_end
+bound_at base b name DataEnd = b.data_end
+bound_at base b name ZeroStart = b.zero_start
+bound_at base b name ImageEnd = b.image_end
+bound_at base b name OutputStart = unwrap_or (start_in b.outputs (named_output name)) 0
+bound_at base b name OutputEnd = end_in b.outputs (named_output name)

@@ -1,0 +1,210 @@
+//! Where code, data and all pieces end, where what has no bytes begins, and where the pieces of each output name begin
+//! and end: what the linker's own names stand for.
+ghost use Rattle.std.specs.Prelude.{◌≡◌, ◌+◌, ℕ, List, IfOk, OnOk, max, option_map, unwrap_or};
+ghost use Rattle.std.specs.Option.{option_map_or};
+ghost use Rattle.elf_model.specs.LinkerValues.{end_of_pieces, least_of, start_of_pieces};
+ghost use Rattle.elf_model.proofs.PieceBounds.{earlier, further};
+ghost use Rattle.elf_model.specs.Pieces.{is_of_output};
+ghost use Rattle.layout.specs.Limits.{AreInLimit, IsInLimit};
+ghost use Rattle.layout.specs.PieceParts.{AreBounds, AreExtents, bound_at, end_in, extent_in, part_test, start_in};
+ghost use Rattle.layout.specs.PlaceViews.{place_view, place_views};
+ghost use Rattle.layout.specs.Views.{piece_view};
+
+use crate::pieces::Piece;
+use crate::running::Place;
+use elf_model::Bound;
+use resolve::{named_output, output_name};
+use std::alloc::{AllocError, Global};
+use std::collections::BTreeMap;
+
+/// The pieces that a bound is of: all, those of code, those of data in the file, and those without bytes in it that
+/// aren't thread-local.
+#[derive(Clone, Copy, Debug)]
+pub enum Part {
+    All,
+    Code,
+    FileData,
+    Zeros,
+}
+
+/// The least address and the greatest end of pieces, in bytes.
+#[derive(Clone, Copy, Debug)]
+pub struct Extent {
+    pub start: u64,
+    pub end: u64,
+}
+
+/// The greatest ends of parts, in bytes; the least address of what has no bytes, 0 without any; and the extents of the
+/// pieces of each output name.
+#[derive(Drop)]
+pub struct Bounds<'a> {
+    pub code_end: u64,
+    pub data_end: u64,
+    pub zero_start: u64,
+    pub image_end: u64,
+    pub outputs: BTreeMap<&'a [u8], Extent>,
+}
+
+fn is_of(part: Part, piece: &Piece<'_>) -> bool
+    ensures { result ≡ part_test part (piece_view piece.now) }
+{
+    let header = &piece.header;
+    match part {
+        Part::All => true,
+        Part::Code => header.is_executable(),
+        Part::FileData => header.is_writable() && !header.is_nobits(),
+        Part::Zeros => header.is_nobits() && !header.is_thread_local(),
+    }
+}
+
+/// The end of a piece of the part, where it is above another end.
+fn further(part: Part, end: u64, place: &Place<'_>) -> u64
+    requires { IsInLimit (place_view place.now) }
+    ensures { result ≡ further (part_test part) end (place_view place.now) }
+{
+    if is_of(part, &place.piece) {
+        return end.max(place.at + place.piece.header.sh_size);
+    }
+    end
+}
+
+/// The greatest end of the pieces of a part; 0 without any.
+fn end_of(part: Part, places: &[Place<'_>]) -> u64
+    requires { AreInLimit (place_views places.now) }
+    ensures { result ≡ end_of_pieces (part_test part) (place_views places.now) }
+{
+    let mut end = 0;
+    for place in places {
+        end = further(part, end, place);
+    }
+    end
+}
+
+/// The address of a piece of the part, where it is below another one.
+fn earlier(part: Part, start: Option<u64>, place: &Place<'_>) -> Option<u64>
+    ensures { result ≡ earlier (part_test part) start (place_view place.now) }
+{
+    if !is_of(part, &place.piece) {
+        return start;
+    }
+    match start {
+        Some(at) => Some(place.at.min(at)),
+        None => Some(place.at),
+    }
+}
+
+/// The least address of the pieces of a part; None without any.
+fn start_of(part: Part, places: &[Place<'_>]) -> Option<u64>
+    ensures { result ≡ start_of_pieces (part_test part) (place_views places.now) }
+{
+    let mut start = None;
+    for place in places {
+        start = earlier(part, start, place);
+    }
+    start
+}
+
+/// What an extent is with one more piece.
+fn grown(extent: Option<Extent>, place: &Place<'_>) -> Extent
+    requires { IsInLimit (place_view place.now) }
+    ensures start { result.start ≡ least_of place.now.at (option_map (λ e. e.start) extent) }
+    ensures end { result.end ≡ max (option_map_or (λ e. e.end) extent 0) (place.now.at + place.now.piece.header.sh_size) }
+{
+    let end = place.at + place.piece.header.sh_size;
+    match extent {
+        Some(old) => Extent {
+            start: place.at.min(old.start),
+            end: old.end.max(end),
+        },
+        None => Extent {
+            start: place.at,
+            end,
+        },
+    }
+}
+
+/// The extent of the pieces of an output name; None without any.
+fn extent_of(extents: &BTreeMap<&[u8], Extent>, name: &[u8]) -> Option<Extent>
+    ensures { result ≡ extent_in extents.now name.now }
+{
+    extents.get(name).copied()
+}
+
+/// Takes a piece into the extent of its output name.
+fn add_place<'a>(
+    extents: &mut BTreeMap<&'a [u8], Extent>,
+    place: &Place<'a>,
+) -> Result<(), AllocError>
+    requires { IsInLimit (place_view place.now) }
+    ensures start { OnOk result ((name : List ℕ) → start_in extents.new name ≡ earlier (is_of_output name) (start_in extents.old name) (place_view place.now)) }
+    ensures end { OnOk result ((name : List ℕ) → end_in extents.new name ≡ further (is_of_output name) (end_in extents.old name) (place_view place.now)) }
+{
+    let name = output_name(place.piece.name);
+    let extent = grown(extent_of(extents, name), place);
+    extents.insert(name, extent)?;
+    Ok(())
+}
+
+/// The extents of the pieces of each output name.
+fn extents_of<'a>(
+    alloc: Global,
+    places: &[Place<'a>],
+) -> Result<BTreeMap<&'a [u8], Extent>, AllocError>
+    requires { AreInLimit (place_views places.now) }
+    ensures { IfOk result (AreExtents (place_views places.now)) }
+{
+    let mut extents = BTreeMap::new(alloc);
+    for place in places {
+        add_place(&mut extents, place)?;
+    }
+    Ok(extents)
+}
+
+/// The bounds of pieces at their places.
+pub fn bounds_of<'a>(alloc: Global, places: &[Place<'a>]) -> Result<Bounds<'a>, AllocError>
+    requires { AreInLimit (place_views places.now) }
+    ensures { IfOk result (AreBounds (place_views places.now)) }
+{
+    Ok(Bounds {
+        code_end: end_of(Part::Code, places),
+        data_end: end_of(Part::FileData, places),
+        zero_start: start_of(Part::Zeros, places).unwrap_or(0),
+        image_end: end_of(Part::All, places),
+        outputs: extents_of(alloc, places)?,
+    })
+}
+
+/// The least address of the pieces of an output name; 0 without any.
+fn output_start(extents: &BTreeMap<&[u8], Extent>, name: &[u8]) -> u64
+    ensures { result ≡ unwrap_or (start_in extents.now name.now) 0 }
+{
+    match extent_of(extents, name) {
+        Some(extent) => extent.start,
+        None => 0,
+    }
+}
+
+/// The greatest end of the pieces of an output name; 0 without any.
+fn output_end(extents: &BTreeMap<&[u8], Extent>, name: &[u8]) -> u64
+    ensures { result ≡ end_in extents.now name.now }
+{
+    match extent_of(extents, name) {
+        Some(extent) => extent.end,
+        None => 0,
+    }
+}
+
+/// What one of the linker's own names stands for, in an image that is mapped from a base on.
+pub fn bound_in(base: u64, bounds: &Bounds<'_>, name: &[u8], bound: Bound) -> u64
+    ensures { result ≡ bound_at base bounds.now name.now bound }
+{
+    match bound {
+        Bound::ImageStart => base,
+        Bound::CodeEnd => bounds.code_end,
+        Bound::DataEnd => bounds.data_end,
+        Bound::ZeroStart => bounds.zero_start,
+        Bound::ImageEnd => bounds.image_end,
+        Bound::OutputStart => output_start(&bounds.outputs, named_output(name)),
+        Bound::OutputEnd => output_end(&bounds.outputs, named_output(name)),
+    }
+}

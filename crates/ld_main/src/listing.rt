@@ -1,0 +1,82 @@
+//! The definitions that have a line in the map, in the order of their names: what the chosen symbols mean, and those
+//! of the linker's names that relocations use.
+ghost use Rattle.std.specs.Prelude.{◌≡◌, ◌++◌, IfOk, IsPermutation, OnOk};
+ghost use Rattle.std.specs.Cmp.Lexicographic.{slice_cmp};
+ghost use Rattle.std.specs.List.Sorted.{IsSortedByKey};
+ghost use Rattle.std.specs.Ordering.{nat_cmp};
+ghost use Rattle.elf_model.specs.Listing.{AreLinkerLines};
+ghost use Rattle.elf_model.specs.Meaning.{meanings_of};
+ghost use Rattle.resolve.specs.Views.{held_name, meaning_views, symbol_views};
+ghost use Rattle.relocate.specs.Uses.{line_views};
+ghost use Rattle.ld_main.specs.Listings.{IsListing};
+
+use elf_model::Bound;
+use resolve::{Meaning, Resolved, SymbolOf};
+use std::alloc::{AllocError, Global};
+
+/// The name of what a name means.
+pub fn name_of<'a>(meaning: &Meaning<'a>) -> &'a [u8]
+    ensures { result ≡ held_name meaning.now }
+{
+    match meaning {
+        Meaning::Symbol(symbol) => symbol.name,
+        Meaning::Common(block) => block.name,
+        Meaning::Linker(name, _) => name,
+    }
+}
+
+/// Adds what symbols mean: a common one, its name's block; another one, itself.
+fn add_symbols<'a>(
+    listed: &mut Vec<Meaning<'a>>,
+    resolved: &Resolved<'_, 'a>,
+    symbols: &[SymbolOf<'a>],
+) -> Result<(), AllocError>
+    ensures { OnOk result (meaning_views listed.new.items ≡ meaning_views listed.old.items ++ meanings_of resolved.now (symbol_views symbols.now)) }
+{
+    for symbol in symbols {
+        if let Some(meaning) = resolved.meant(symbol) {
+            listed.push(meaning)?;
+        }
+    }
+    Ok(())
+}
+
+fn add_linkers<'a>(
+    listed: &mut Vec<Meaning<'a>>,
+    linkers: &[(&'a [u8], Bound)],
+) -> Result<(), AllocError>
+    ensures { OnOk result (meaning_views listed.new.items ≡ meaning_views listed.old.items ++ line_views linkers.now) }
+{
+    for (name, bound) in linkers {
+        listed.push(Meaning::Linker(name, *bound))?;
+    }
+    Ok(())
+}
+
+/// The same definitions in the order of their names.
+fn by_name<'a>(listed: Vec<Meaning<'a>>) -> Result<Vec<Meaning<'a>>, AllocError>
+    ensures same { IfOk result (λ v. IsPermutation (meaning_views listed.entry.items) (meaning_views v.items)) }
+    ensures rising { IfOk result (λ v. IsSortedByKey (λ m. (held_name m).now) (slice_cmp nat_cmp) v.items) }
+{
+    let mut sorted = listed;
+    sorted.sort_by_key(|m| name_of(m))?;
+    Ok(sorted)
+}
+
+/// The definitions of resolved objects that have a line, in the order of their names, given the lines of the linker's
+/// names.
+pub fn listed<'a>(
+    alloc: Global,
+    resolved: &Resolved<'_, 'a>,
+    linkers: &[(&'a [u8], Bound)],
+) -> Result<Vec<Meaning<'a>>, AllocError>
+    requires { AreLinkerLines resolved.now (line_views linkers.now) }
+    ensures { IfOk result (λ v. IsListing resolved.now v.items) }
+{
+    let symbols = resolved.definitions();
+    let mut listed = Vec::with_capacity(alloc, symbols.len())?;
+    add_symbols(&mut listed, resolved, symbols)?;
+    add_linkers(&mut listed, linkers)?;
+    let sorted = by_name(listed)?;
+    Ok(sorted)
+}

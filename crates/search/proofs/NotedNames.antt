@@ -1,0 +1,139 @@
+-- Names as symbols are noted, one after the other.
+use Rattle.std.proofs.Common.{◌≡◌, ℕ, suc, ◌+◌, ◌<◌, ◌≤◌, Bool, true, false, not, ◌&&◌, ◌||◌, List, [], length, get_or, drop, Some, Option, refl, sym, ◌∙◌, ap, subst, arith, drop-cons}
+use Rattle.std.specs.Prelude.{option_copied, option_map}
+use Rattle.std.specs.Borrow.{Bor}
+use Rattle.std.specs.List.{list_any}
+use Rattle.std.specs.Str.{bytes_eq}
+use Rattle.std.proofs.Math.ListN.{drop_of_length-le}
+use Rattle.std.proofs.lemmas.Bool.{and_left, or_parts}
+use Rattle.std.proofs.lemmas.Option.{slice_get-get_or}
+use Rattle.elf_model.specs.Loading.{has_name, is_definition, is_global_or_weak, is_global_symbol, is_left_undefined, is_request}
+use Rattle.elf_model.specs.ObjectFile.{name_of_symbol, symbol_name, symbols}
+use Rattle.elf_model.specs.declared.records.Symbol.{Symbol}
+use Rattle.search.specs.Loaders.{asked_from, defined_from}
+use Rattle.search.specs.Names.{is_among, with_name}
+use Rattle.search.proofs.NameSets.{among_with}
+
+-- after a name that passes a test, and beside one that doesn't
+pub noted : (names : List (List ℕ)) (name : List ℕ) (new : List (List ℕ)) (t : Bool) → new ≡ with_name names name → t ≡ true → (n : List ℕ) →
+    is_among new n ≡ (bytes_eq name n && t || is_among names n)
+noted names name new t is passes n =
+    ap (λ (ns : List (List ℕ)). is_among ns n) is
+    ∙ (among_with names name n ∙ ap (λ (b : Bool). b || is_among names n) (one (bytes_eq name n) t passes))
+  where
+    one : (a b : Bool) → b ≡ true → a ≡ (a && b)
+    one true b e = sym e
+    one false b e = refl
+
+pub not_noted : (a : Bool) (t old : Bool) → t ≡ false → old ≡ (a && t || old)
+not_noted true t old e = rw e refl
+not_noted false t old e = refl
+
+-- one symbol more of a list
+pub any_more : {X : Type 0} (p : X → Bool) (xs : List X) (j : ℕ) (d : X) → j < length xs → list_any p (drop j xs) ≡ (p (get_or xs j d) || list_any p (drop (j + 1) xs))
+any_more p xs j d within = let e : j + 1 ≡ suc j = omega arith in rw e (ap (list_any p) (drop-cons xs j d within))
+
+pub asked_more : (bytes dropped : List ℕ) (ss : List Symbol) (j : ℕ) (d : Symbol) (n : List ℕ) → j < length ss →
+    asked_from bytes dropped (drop j ss) n ≡ (has_name bytes n (get_or ss j d) && is_request dropped (get_or ss j d) || asked_from bytes dropped (drop (j + 1) ss) n)
+unfolding asked_from
+asked_more bytes dropped ss j d n within = any_more (λ s. has_name bytes n s && is_request dropped s) ss j d within
+
+pub defined_more : (bytes dropped : List ℕ) (ss : List Symbol) (j : ℕ) (d : Symbol) (n : List ℕ) → j < length ss →
+    defined_from bytes dropped (drop j ss) n ≡ (has_name bytes n (get_or ss j d) && is_definition dropped (get_or ss j d) || defined_from bytes dropped (drop (j + 1) ss) n)
+unfolding defined_from
+defined_more bytes dropped ss j d n within = any_more (λ s. has_name bytes n s && is_definition dropped s) ss j d within
+
+-- a LOCAL symbol asks for nothing and defines nothing
+pub local_asks : (dropped : List ℕ) (s : Symbol) → is_global_or_weak s ≡ false → is_request dropped s ≡ false
+local_asks dropped s local = and_left (is_global_symbol s) (is_left_undefined dropped s) ((or_parts (is_global_symbol s) _ local).0)
+
+pub local_defines : (dropped : List ℕ) (s : Symbol) → is_global_or_weak s ≡ false → is_definition dropped s ≡ false
+local_defines dropped s local = and_left (is_global_or_weak s) (not (is_left_undefined dropped s)) local
+
+-- the step of a loop, where the symbol's own test is t
+shifted : (first later old total : Bool) → ((first || later) || old) ≡ total → (later || (first || old)) ≡ total
+shifted true later old total is = or_true later ∙ is
+  where
+    or_true : (b : Bool) → (b || true) ≡ true
+    or_true true = refl
+    or_true false = refl
+shifted false later old total is = is
+
+pub stepped : (now first later old new total : Bool) → now ≡ (first || later) → new ≡ (first || old) → (now || old) ≡ total → (later || new) ≡ total
+stepped now first later old new total split next is =
+    rw next (shifted first later old total (sym (ap (λ (b : Bool). b || old) split) ∙ is))
+
+pub passed : (now a t later old total : Bool) → now ≡ (a && t || later) → t ≡ false → (now || old) ≡ total → (later || old) ≡ total
+passed now a t later old total split fails is = stepped now (a && t) later old old total split (not_noted a t old fails) is
+
+-- a symbol that is there has a name
+pub there_named : (bytes : List ℕ) (j : ℕ) (d : Symbol) (name : Option (Bor (List ℕ))) → j < length (symbols bytes) → option_copied name ≡ symbol_name bytes j →
+    option_copied name ≡ Some (name_of_symbol bytes (get_or (symbols bytes) j d))
+there_named bytes j d name within is = is ∙ ap (option_map (name_of_symbol bytes)) (slice_get-get_or (symbols bytes) j d within)
+
+-- the last symbol's names are all of them
+pub asked_done : (bytes dropped : List ℕ) (n : List ℕ) → asked_from bytes dropped [] n ≡ false
+unfolding asked_from
+asked_done bytes dropped n = refl
+
+pub defined_done : (bytes dropped : List ℕ) (n : List ℕ) → defined_from bytes dropped [] n ≡ false
+unfolding defined_from
+defined_done bytes dropped n = refl
+
+-- The step of the loop over symbols, which the code has as items.
+module _ (bytes dropped : List ℕ) (items ss : List Symbol) (same : items ≡ ss) (j : ℕ) (d : Symbol) (within : j < length items) where
+  inside : j < length ss
+  inside = subst (λ (l : List Symbol). j < length l) same within
+
+  pub named_there : (name : Option (Bor (List ℕ))) → ss ≡ symbols bytes → option_copied name ≡ symbol_name bytes j → option_copied name ≡ Some (name_of_symbol bytes (get_or items j d))
+  named_there name all is =
+      there_named bytes j d name (subst (λ (l : List Symbol). j < length l) all inside) is
+      ∙ ap (λ (l : List Symbol). Some (name_of_symbol bytes (get_or l j d))) (sym (same ∙ all))
+
+  pub asked_step : (name n : List ℕ) (old new total : Bool) → name ≡ name_of_symbol bytes (get_or items j d) →
+      new ≡ (bytes_eq name n && is_request dropped (get_or items j d) || old) → (asked_from bytes dropped (drop j ss) n || old) ≡ total →
+      (asked_from bytes dropped (drop (j + 1) ss) n || new) ≡ total
+  asked_step name n old new total called next is =
+      stepped (asked_from bytes dropped (drop j ss) n) (has_name bytes n (get_or ss j d) && is_request dropped (get_or ss j d))
+      (asked_from bytes dropped (drop (j + 1) ss) n) old new total (asked_more bytes dropped ss j d n inside)
+      (next ∙ (ap (λ (m : List ℕ). bytes_eq m n && is_request dropped (get_or items j d) || old) called
+      ∙ ap (λ (l : List Symbol). has_name bytes n (get_or l j d) && is_request dropped (get_or l j d) || old) same)) is
+
+  pub defined_step : (name n : List ℕ) (old new total : Bool) → name ≡ name_of_symbol bytes (get_or items j d) →
+      new ≡ (bytes_eq name n && is_definition dropped (get_or items j d) || old) → (defined_from bytes dropped (drop j ss) n || old) ≡ total →
+      (defined_from bytes dropped (drop (j + 1) ss) n || new) ≡ total
+  defined_step name n old new total called next is =
+      stepped (defined_from bytes dropped (drop j ss) n) (has_name bytes n (get_or ss j d) && is_definition dropped (get_or ss j d))
+      (defined_from bytes dropped (drop (j + 1) ss) n) old new total (defined_more bytes dropped ss j d n inside)
+      (next ∙ (ap (λ (m : List ℕ). bytes_eq m n && is_definition dropped (get_or items j d) || old) called
+      ∙ ap (λ (l : List Symbol). has_name bytes n (get_or l j d) && is_definition dropped (get_or l j d) || old) same)) is
+
+  local_there : is_global_or_weak (get_or items j d) ≡ false → is_global_or_weak (get_or ss j d) ≡ false
+  local_there local = subst (λ (l : List Symbol). is_global_or_weak (get_or l j d) ≡ false) same local
+
+  pub asked_past : (n : List ℕ) (old total : Bool) → is_global_or_weak (get_or items j d) ≡ false →
+      (asked_from bytes dropped (drop j ss) n || old) ≡ total → (asked_from bytes dropped (drop (j + 1) ss) n || old) ≡ total
+  asked_past n old total local is =
+      passed (asked_from bytes dropped (drop j ss) n) (has_name bytes n (get_or ss j d)) (is_request dropped (get_or ss j d))
+      (asked_from bytes dropped (drop (j + 1) ss) n) old total (asked_more bytes dropped ss j d n inside)
+      (local_asks dropped (get_or ss j d) (local_there local)) is
+
+  pub defined_past : (n : List ℕ) (old total : Bool) → is_global_or_weak (get_or items j d) ≡ false →
+      (defined_from bytes dropped (drop j ss) n || old) ≡ total → (defined_from bytes dropped (drop (j + 1) ss) n || old) ≡ total
+  defined_past n old total local is =
+      passed (defined_from bytes dropped (drop j ss) n) (has_name bytes n (get_or ss j d)) (is_definition dropped (get_or ss j d))
+      (defined_from bytes dropped (drop (j + 1) ss) n) old total (defined_more bytes dropped ss j d n inside)
+      (local_defines dropped (get_or ss j d) (local_there local)) is
+
+-- the end of that loop
+pub asked_all : (bytes dropped : List ℕ) (items ss : List Symbol) (j : ℕ) (n : List ℕ) (old total : Bool) → items ≡ ss → length items ≤ j →
+    (asked_from bytes dropped (drop j ss) n || old) ≡ total → old ≡ total
+unfolding asked_from
+asked_all bytes dropped items ss j n old total same past is =
+    sym (ap (λ (l : List Symbol). list_any (λ s. has_name bytes n s && is_request dropped s) l || old) (drop_of_length-le ss (subst (λ (l : List Symbol). length l ≤ j) same past))) ∙ is
+
+pub defined_all : (bytes dropped : List ℕ) (items ss : List Symbol) (j : ℕ) (n : List ℕ) (old total : Bool) → items ≡ ss → length items ≤ j →
+    (defined_from bytes dropped (drop j ss) n || old) ≡ total → old ≡ total
+unfolding defined_from
+defined_all bytes dropped items ss j n old total same past is =
+    sym (ap (λ (l : List Symbol). list_any (λ s. has_name bytes n s && is_definition dropped s) l || old) (drop_of_length-le ss (subst (λ (l : List Symbol). length l ≤ j) same past))) ∙ is

@@ -1,0 +1,10 @@
+use Rattle.std.proofs.Common.{rules, ◌∙◌, ap}
+use Rattle.std.specs.Prelude.{unwrap_or}
+use Rattle.indexmap.specs.Entry.{map_with_value}
+use Rattle.search.proofs.WaitLaws.{place_added}
+use Rattle.search.proofs.waits.add_place.Goals as goal
+
+pub returns : goal.returns
+returns c = λ n.
+    place_added c.args.places.now (map_with_value c.in_ok-places.field-0) c.args.name c.args.place c.or_insert-list.result.now c.push.new.self c.new.result _ c.in_ok-places.ensures.update.0
+    (c.or_insert-list.ensures.value ∙ ap (λ r. unwrap_or r c.new.result) c.in_ok-places.ensures.value) c.new.ensures.items c.in_ok-push.ensures.items (search rules) n

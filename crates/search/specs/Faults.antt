@@ -1,0 +1,78 @@
+-- The faults of objects, archives and groups as those of loading, and when each stands.
+use Rattle.std.specs.Prelude.{◌≢◌, ℕ, List, Any}
+use Rattle.elf_model.specs.Causes.{HasBadGroups, IsBadArchive, IsWithoutIndex, Reaches}
+use Rattle.elf_model.specs.Command.{Plan}
+use Rattle.elf_model.specs.Files.{File}
+use Rattle.elf_model.specs.Groups.{GroupFaultStands}
+use Rattle.elf_model.specs.Loading.{LoadedObject, loaded_objects}
+use Rattle.elf_model.specs.ObjectFile.{IsObject, ObjFaultStands, groups}
+use Rattle.elf_model.specs.Opening.{AreArchives, AreFilesThere, HaveIndexes, Opened, opened}
+use Rattle.elf_model.specs.declared.faults.ArFault.{ArFault}
+use Rattle.elf_model.specs.declared.faults.ArFault.TheVariants as archive_fault
+use Rattle.elf_model.specs.declared.faults.GroupFault.{GroupFault}
+use Rattle.elf_model.specs.declared.faults.GroupFault.TheVariants as group_fault
+use Rattle.elf_model.specs.declared.faults.ObjFault.{ObjFault}
+use Rattle.elf_model.specs.declared.faults.ObjFault.TheVariants as object_fault
+use Rattle.search.specs.declared.faults.SearchFault.{SearchFault}
+use Rattle.search.specs.declared.faults.SearchFault.TheVariants as error
+
+abbrev pub of_object : ObjFault → SearchFault
+of_object object_fault.Memory = error.Memory
+of_object f = error.BadObject f
+
+abbrev pub of_archive : ArFault → SearchFault
+of_archive archive_fault.Memory = error.Memory
+of_archive f = error.BadArchive f
+
+abbrev pub of_groups : GroupFault → SearchFault
+of_groups group_fault.Memory = error.Memory
+of_groups f = error.Group f
+
+-- why an object could not be loaded: its bytes, or its groups
+abbrev pub LoadsBadly : SearchFault → LoadedObject → Type 0
+LoadsBadly (error.BadObject f) o = (f ≢ object_fault.Memory) × ObjFaultStands o.bytes f
+LoadsBadly (error.Group f) o = (f ≢ group_fault.Memory) × HasBadGroups f o
+LoadsBadly _ o = ⊥
+
+-- the same by the object's bytes, or want of memory
+abbrev pub FailsAt : List ℕ → SearchFault → Type 0
+FailsAt bytes error.Memory = Unit {0}
+FailsAt bytes (error.BadObject f) = (f ≢ object_fault.Memory) × ObjFaultStands bytes f
+FailsAt bytes (error.Group f) = (f ≢ group_fault.Memory) × IsObject bytes × GroupFaultStands (groups bytes) f
+FailsAt bytes _ = ⊥
+
+-- why objects could not all be loaded: one that loading reaches, or want of memory
+abbrev pub FailsOn : List LoadedObject → SearchFault → Type 0
+FailsOn objects error.Memory = Unit {0}
+FailsOn objects e = Reaches objects (LoadsBadly e)
+
+-- why items have no files, or want of memory
+abbrev pub OpensBadly : List File → Plan → SearchFault → Type 0
+OpensBadly files plan error.Memory = Unit {0}
+OpensBadly files plan error.FileMissing = ¬ AreFilesThere files plan
+OpensBadly files plan _ = ⊥
+
+-- why an archive item can't be searched, or want of memory
+abbrev pub IsUnsearchable : SearchFault → Opened → Type 0
+IsUnsearchable error.Memory o = Unit {0}
+IsUnsearchable (error.BadArchive f) o = (f ≢ archive_fault.Memory) × IsBadArchive f o
+IsUnsearchable error.NoIndex o = IsWithoutIndex o
+IsUnsearchable _ o = ⊥
+
+abbrev pub AreUnsearchable : List Opened → SearchFault → Type 0
+AreUnsearchable os error.Memory = Unit {0}
+AreUnsearchable os e = Any (IsUnsearchable e) os
+
+-- the files of a plan are there, and its archives can be searched
+pub record IsSearchable (files : List File) (plan : Plan) : Type 0 where
+  pub files_are : AreFilesThere files plan
+  pub archives : AreArchives (opened files plan)
+  pub indexes : HaveIndexes (opened files plan)
+
+-- why a plan could not be loaded
+abbrev pub LoadFails : List File → Plan → SearchFault → Type 0
+LoadFails files plan error.Memory = Unit {0}
+LoadFails files plan error.FileMissing = ¬ AreFilesThere files plan
+LoadFails files plan (error.BadArchive f) = AreFilesThere files plan × (f ≢ archive_fault.Memory) × Any (IsBadArchive f) (opened files plan)
+LoadFails files plan error.NoIndex = AreFilesThere files plan × Any IsWithoutIndex (opened files plan)
+LoadFails files plan e = IsSearchable files plan × Reaches (loaded_objects files plan) (LoadsBadly e)

@@ -1,0 +1,47 @@
+//! What a loaded object keeps: sections with SHF_ALLOC that aren't dropped with their groups, and the relocations of
+//! these.
+ghost use Rattle.std.specs.Prelude.{◌≡◌};
+ghost use Rattle.elf_model.specs.Loading.{is_dropped};
+ghost use Rattle.elf_model.specs.ObjectFile.{section, sections};
+ghost use Rattle.elf_model.specs.Pieces.{is_kept};
+ghost use Rattle.elf_model.specs.Relocation.{is_kept_rela};
+ghost use Rattle.search.specs.Views.{loaded_view};
+
+use crate::loading::Loaded;
+use elf_model::{SHT_RELA, SectionHeader};
+
+impl<'a> Loaded<'a> {
+    /// Whether a section is dropped with its group, by its number.
+    pub fn is_dropped(&self, number: usize) -> bool
+        ensures { result ≡ is_dropped (loaded_view self.now) number }
+    {
+        self.dropped.has(number)
+    }
+
+    /// Whether a section, which has the header, is kept: it has SHF_ALLOC, and isn't dropped.
+    pub fn is_kept(&self, number: usize, header: &SectionHeader) -> bool
+        ensures { result ≡ is_kept (loaded_view self.now) number header.now }
+    {
+        header.is_alloc() && !self.is_dropped(number)
+    }
+
+    /// Whether a section with this number is there and kept.
+    fn is_kept_at(&self, number: usize) -> bool
+        ensures { result ≡ is_kept (loaded_view self.now) number (section (sections self.now.object) number) }
+    {
+        match self.object.sections().get(number) {
+            Some(header) => self.is_kept(number, header),
+            None => false,
+        }
+    }
+
+    /// Whether a section, which has the header, holds relocations that are kept: a RELA section that isn't dropped
+    /// and relocates a kept one.
+    pub fn is_kept_rela(&self, number: usize, header: &SectionHeader) -> bool
+        ensures { result ≡ is_kept_rela (loaded_view self.now) number header.now }
+    {
+        header.sh_type == SHT_RELA
+            && !self.is_dropped(number)
+            && self.is_kept_at(header.sh_info as usize)
+    }
+}

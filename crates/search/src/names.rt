@@ -1,0 +1,61 @@
+//! A set of names, found by hash.
+ghost use Rattle.std.specs.Prelude.{◌≡◌, [], OnOk, length, option_copied, slice_get};
+ghost use Rattle.search.specs.Names.{is_among, with_name};
+
+use indexmap::IndexSet;
+use std::alloc::{AllocError, Global};
+use std::marker::Model;
+
+/// Names, each once, in the order in which they were first added.
+#[derive(Drop)]
+pub struct NameSet<'a> {
+    names: IndexSet<&'a [u8]>,
+}
+
+impl<'a> Model for NameSet<'a> {
+    ghost use Rattle.std.specs.Prelude.{List, ℕ, map};
+
+    ghost Value = { List (List ℕ) };
+
+    ghost view = { λ s. map (λ n. n.now) s.names.keys };
+}
+
+impl<'a> NameSet<'a> {
+    /// No names. Takes no memory.
+    pub fn new(alloc: Global) -> NameSet<'a>
+        ensures { result ≡ [] }
+    {
+        NameSet {
+            names: IndexSet::new(alloc),
+        }
+    }
+
+    /// Adds a name, unless it is there.
+    pub fn add(&mut self, name: &'a [u8]) -> Result<(), AllocError>
+        ensures { OnOk result (self.new ≡ with_name self.old name.now) }
+    {
+        self.names.insert(name)?;
+        Ok(())
+    }
+
+    /// How many names there are.
+    pub fn len(&self) -> usize
+        ensures { result ≡ length self.now }
+    {
+        self.names.len()
+    }
+
+    /// The name that was added as number `i`, from 0; None where there are no more than `i`.
+    pub fn get(&self, i: usize) -> Option<&'a [u8]>
+        ensures { option_copied result ≡ slice_get self.now i }
+    {
+        self.names.get_index(i).copied()
+    }
+
+    /// Whether the name was added.
+    pub fn has(&self, name: &'a [u8]) -> bool
+        ensures { result ≡ is_among self.now name.now }
+    {
+        self.names.contains(name)
+    }
+}

@@ -1,0 +1,3 @@
+#include "text.h"
+
+__attribute__((weak)) const char *prefix(void) { return "library: "; }
