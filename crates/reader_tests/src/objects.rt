@@ -446,7 +446,9 @@ fn is_plain(alloc: Global, symbol: &Symbol, entry: &Rela) -> Result<bool, Fail> 
 }
 
 #[test]
-fn symbols_and_kinds_of_thread_storage_and_the_got_are_not_plain(rt: HostRuntime) -> Result<(), Fail> {
+fn symbols_and_kinds_of_thread_storage_and_the_got_are_not_plain(
+    rt: HostRuntime,
+) -> Result<(), Fail> {
     for (symbol, entry, plain) in &PLAINNESS {
         assert_eq!(rt; is_plain(rt.alloc(), symbol, entry)?, *plain);
     }
