@@ -12,6 +12,7 @@ The inputs, each of them also doubled:
     groups       2,000 objects with 50 COMDAT groups each, of which 9 of 10 are dropped
     names        one million symbols in 500 objects, half of them weak, each of these in two objects
     turns        an archive of 100,000 members, of which every other is taken, one by one from the end
+    slots        one object with 300,000 relocations of type GOTPCREL, to 30,000 names
 
 They lie inside the profile (docs/PROFILE.md), and are made by `as` or by elf.py beside this file. The linkers: the proved program
 crates/ld/out/ld, and of ld.bfd, ld.gold, ld.lld and mold those that are on PATH, with one thread and one process
@@ -222,6 +223,31 @@ def many_turns(folder, count):
     return words
 
 
+# movq through the GOT, with its relocation at 3; call *%rax
+LOAD = b"\x48\x8b\x05" + bytes(4)
+CALL_LOADED = b"\xff\xd0"
+
+
+def many_slots(folder, count):
+    """One object that loads the addresses of another one's names through the GOT, and calls the last one."""
+    names = count // 10
+    words = [folder / "start.o", folder / "loads.o", folder / "names.o"]
+    start_object(words[0], ["loads"], 1)
+    loads = elf.Object()
+    text = loads.section(".text", elf.PROGBITS, elf.ALLOC | elf.EXEC, count * LOAD + CALL_LOADED + RET, 16)
+    loads.symbol("loads", text)
+    numbers = [loads.symbol(f"name_{k}", 0) for k in range(names)]
+    loads.relocations(text, [(7 * k + 3, elf.GOTPCREL, numbers[7 * k % names], -4) for k in range(count)])
+    words[1].write_bytes(loads.bytes())
+    defined = elf.Object()
+    text = defined.section(".text", elf.PROGBITS, elf.ALLOC | elf.EXEC, COUNT + RET, 16)
+    for k in range(names):
+        defined.symbol(f"name_{k}", text)
+    defined.relocations(text, [(3, elf.PC32, defined.symbol("calls", 0), -4)])
+    words[2].write_bytes(defined.bytes())
+    return words
+
+
 INPUTS = {
     "objects": (many_objects, 2_000),
     "relocations": (many_relocations, 200_000),
@@ -230,6 +256,7 @@ INPUTS = {
     "groups": (many_groups, 2_000),
     "names": (many_names, 1_000_000),
     "turns": (many_turns, 100_000),
+    "slots": (many_slots, 300_000),
 }
 
 

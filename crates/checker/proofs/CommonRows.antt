@@ -8,7 +8,7 @@ use Rattle.elf_model.specs.Commons.{Block, block_named, blocks, is_block_of}
 use Rattle.elf_model.specs.Loading.{LoadedObject}
 use Rattle.elf_model.specs.MapRecord.{CommonRow}
 use Rattle.elf_model.specs.Placement.{is_common_row_of}
-use Rattle.elf_model.specs.RightLink.{CommonFacts, HasCommonLine, facts_of_block, facts_of_common}
+use Rattle.elf_model.specs.RightLink.{HasCommonLine, facts_of_block, facts_of_common}
 
 pub every_name :
     (rows : List CommonRow) (objects : List LoadedObject) → All (λ row. HasCommonLine rows objects row.name) rows →

@@ -7,15 +7,17 @@ use Rattle.std.proofs.lemmas.Int.{ints}
 use Rattle.elf_model.proofs.WrappedValues.{modulo_is}
 use Rattle.elf_model.specs.Loading.{LoadedObject}
 use Rattle.elf_model.specs.ObjectFile.{rela_symbol, rela_type, section, sections}
-use Rattle.elf_model.specs.Placement.{section_address}
+use Rattle.elf_model.specs.Placement.{got_start, section_address}
 use Rattle.elf_model.specs.Relocation as relocation
-use Rattle.elf_model.specs.Relocation.{IsInRange, IsMismatch, Kind, RefersToDropped, Relocation, is_frame_of_dropped, kind_of, modulo_64, relocation_of, symbol_at, value_of, whole_value}
+use Rattle.elf_model.specs.Relocation.{IsInRange, IsMismatch, Kind, RefersToDropped, Relocation, Terms, is_frame_of_dropped, kind_of, modulo_64, relocation_of, symbol_at, whole_value}
+use Rattle.elf_model.specs.RelocationValues.{terms_of, value_of}
+use Rattle.elf_model.specs.Slots.{slot_address}
 use Rattle.elf_model.specs.declared.records.Rela.{Rela}
 use Rattle.checker.specs.Bindings.{Bound, IsTargetOf}
 use Rattle.checker.specs.Fields.{IsRight, field_of}
-use Rattle.checker.specs.Fitting.{IsRightWith, field_with, is_frames, refers_to_dropped, value_with}
-use Rattle.checker.specs.Kinds.{plain_terms}
+use Rattle.checker.specs.Fitting.{IsRightWith, field_with, is_frames, refers_to_dropped, terms_with, value_with}
 use Rattle.checker.specs.declared.fields.Field.{Field}
+use Rattle.checker.specs.declared.fitting.GotTerms.{GotTerms}
 use Rattle.checker.specs.declared.fitting.Relocated.{Relocated}
 use Rattle.checker.specs.declared.targets.Target.{Target}
 
@@ -37,30 +39,40 @@ sum_of n m a e =
     let same : (pos m +ℤ a) +ℤ pos (n / 2 ^ 64 * 2 ^ 64) ≡ pos n +ℤ a = omega (arith, ints, whole, e) in
     sym (turned (pos m +ℤ a) (n / 2 ^ 64)) ∙ ap modulo_64 same
 
+less_more :
+    (v : ℤ) (p q : ℕ) → q ≡ p % 2 ^ 64 → modulo_64 (v -ℤ pos q) ≡ modulo_64 (v -ℤ pos p)
+less_more v p q f =
+    let from_p = div-add-mod' p (2 ^ 64) in
+    let same : v -ℤ pos q ≡ (v -ℤ pos p) +ℤ pos (p / 2 ^ 64 * 2 ^ 64) = omega (arith, ints, from_p, f) in
+    ap modulo_64 same ∙ turned (v -ℤ pos p) (p / 2 ^ 64)
+
+base_more :
+    (n m : ℕ) (a : ℤ) (q : ℕ) → m ≡ n % 2 ^ 64 → modulo_64 ((pos m +ℤ a) -ℤ pos q) ≡ modulo_64 ((pos n +ℤ a) -ℤ pos q)
+base_more n m a q e =
+    let whole = div-add-mod' n (2 ^ 64) in
+    let same : ((pos m +ℤ a) -ℤ pos q) +ℤ pos (n / 2 ^ 64 * 2 ^ 64) ≡ (pos n +ℤ a) -ℤ pos q = omega (arith, ints, whole, e) in
+    sym (turned ((pos m +ℤ a) -ℤ pos q) (n / 2 ^ 64)) ∙ ap modulo_64 same
+
 difference_of :
     (n m : ℕ) (a : ℤ) (p q : ℕ) → m ≡ n % 2 ^ 64 → q ≡ p % 2 ^ 64 → modulo_64 ((pos m +ℤ a) -ℤ pos q) ≡ modulo_64 ((pos n +ℤ a) -ℤ pos p)
-difference_of n m a p q e f =
-    let from_n = div-add-mod' n (2 ^ 64) in
-    let from_p = div-add-mod' p (2 ^ 64) in
-    let same : ((pos m +ℤ a) -ℤ pos q) +ℤ pos (n / 2 ^ 64 * 2 ^ 64) ≡ ((pos n +ℤ a) -ℤ pos p) +ℤ pos (p / 2 ^ 64 * 2 ^ 64) =
-    omega (arith, ints, from_n, from_p, e, f) in
-    sym (turned ((pos m +ℤ a) -ℤ pos q) (n / 2 ^ 64)) ∙ (ap modulo_64 same ∙ turned ((pos n +ℤ a) -ℤ pos p) (p / 2 ^ 64))
+difference_of n m a p q e f = base_more n m a q e ∙ less_more (pos n +ℤ a) p q f
 
-no_rest : 0 ≡ 0 % 2 ^ 64
-no_rest = refl
+-- terms, of which the symbol's value and the place count modulo 2 ^ 64
+abbrev pub with_place : Terms → ℕ → ℕ → Terms
+with_place x s p = record x { s = s; p = p }
 
 pub reduced :
-    (f : relocation.Formula) (s t p q z : ℕ) (a : ℤ) → t ≡ s % 2 ^ 64 → q ≡ p % 2 ^ 64 →
-    modulo_64 (whole_value f (plain_terms t a q z)) ≡ modulo_64 (whole_value f (plain_terms s a p z))
-reduced relocation.S+A s t p q z a e g = sum_of s t a e
-reduced relocation.S+A-P s t p q z a e g = difference_of s t a p q e g
-reduced relocation.S+A-GOT s t p q z a e g = difference_of s t a 0 0 e no_rest
-reduced relocation.G+A s t p q z a e g = refl
-reduced relocation.G+GOT+A-P s t p q z a e g = difference_of 0 0 a p q no_rest g
-reduced relocation.GOT+A-P s t p q z a e g = difference_of 0 0 a p q no_rest g
-reduced relocation.Z+A s t p q z a e g = refl
-reduced relocation.T+A s t p q z a e g = refl
-reduced relocation.GT+GOT+A-P s t p q z a e g = difference_of 0 0 a p q no_rest g
+    (f : relocation.Formula) (x : Terms) (t q : ℕ) → t ≡ x.s % 2 ^ 64 → q ≡ x.p % 2 ^ 64 →
+    modulo_64 (whole_value f (with_place x t q)) ≡ modulo_64 (whole_value f x)
+reduced relocation.S+A x t q e g = sum_of x.s t x.a e
+reduced relocation.S+A-P x t q e g = difference_of x.s t x.a x.p q e g
+reduced relocation.S+A-GOT x t q e g = base_more x.s t x.a x.got e
+reduced relocation.G+A x t q e g = refl
+reduced relocation.G+GOT+A-P x t q e g = less_more (pos (x.g + x.got) +ℤ x.a) x.p q g
+reduced relocation.GOT+A-P x t q e g = less_more (pos x.got +ℤ x.a) x.p q g
+reduced relocation.Z+A x t q e g = refl
+reduced relocation.T+A x t q e g = refl
+reduced relocation.GT+GOT+A-P x t q e g = less_more (pos (x.g + x.got) +ℤ x.a) x.p q g
 
 not_true : (b : Bool) → (b ≡ true → ⊥) → b ≡ false
 not_true true never = absurd (never refl)
@@ -73,27 +85,39 @@ false_of_not false e = refl
 not_both : (b : Bool) → b ≡ false → b ≡ true → ⊥
 not_both b e f = false≢true (sym e ∙ f)
 
-module _ (b : Bound) (n : ℕ) (o : LoadedObject) (to : Relocated) (e : Rela) (t : Target) (means : IsTargetOf b (symbol_at n o (rela_symbol e)) t) (size : to.size ≡ (section (sections o.bytes) to.section).sh_size) (frames : to.frames ≡ is_frames o.bytes to.section) (address : to.address ≡ section_address b.places.placed n to.section) where
+module _ (b : Bound) (n : ℕ) (o : LoadedObject) (to : Relocated) (g : GotTerms) (e : Rela) (t : Target) (means : IsTargetOf b (symbol_at n o (rela_symbol e)) t) (size : to.size ≡ (section (sections o.bytes) to.section).sh_size) (frames : to.frames ≡ is_frames o.bytes to.section) (address : to.address ≡ section_address b.places.placed n to.section) (slot : g.slot ≡ slot_address b.places.slots (relocation_of n o to.section e) - got_start b.places.got) (start : g.start ≡ got_start b.places.got) where
   abbrev pub r : Relocation
   r = relocation_of n o to.section e
 
   place_is : (to.address + e.r_offset) % 2 ^ 64 ≡ (section_address b.places.placed n to.section + e.r_offset) % 2 ^ 64
   place_is = ap (λ (x : ℕ). (x + e.r_offset) % 2 ^ 64) address
 
-  value_by : (k : Option Kind) → value_with k t to e ≡ unwrap_or (option_map (λ j. modulo_64 (whole_value j.formula (relocation.terms_of b.objects b.places r))) k) 0
+  abbrev x : Terms
+  x = terms_of b.objects b.places r
+
+  made_terms : ℕ → ℕ → ℕ → Terms
+  made_terms i j z = record { s = t.value; a = e.r_addend; p = (to.address + e.r_offset) % 2 ^ 64; g = i; got = j; z = z; t = pos 0 }
+
+  terms_are : terms_with t to g e ≡ with_place x t.value ((to.address + e.r_offset) % 2 ^ 64)
+  unfolding made_terms
+  terms_are = let all : made_terms g.slot g.start t.size ≡ made_terms x.g x.got x.z = cc3 g.slot g.start t.size x.g x.got x.z slot start means.size in all
+    where
+      cc3 : (i j z k l y : ℕ) → i ≡ k → j ≡ l → z ≡ y → made_terms i j z ≡ made_terms k l y
+      cc3 i j z k l y p q s = cc
+
+  value_by : (k : Option Kind) → value_with k t to g e ≡ unwrap_or (option_map (λ j. modulo_64 (whole_value j.formula x)) k) 0
   value_by None = refl
   value_by (Some k) =
-      let x = relocation.terms_of b.objects b.places r in
-      ap (λ (z : ℕ). modulo_64 (whole_value k.formula (plain_terms t.value e.r_addend ((to.address + e.r_offset) % 2 ^ 64) z))) means.size
-      ∙ reduced k.formula x.s t.value x.p ((to.address + e.r_offset) % 2 ^ 64) x.z e.r_addend means.value place_is
+      ap (λ (y : Terms). modulo_64 (whole_value k.formula y)) terms_are
+      ∙ reduced k.formula x t.value ((to.address + e.r_offset) % 2 ^ 64) means.value place_is
 
-  value_is : value_with (kind_of (rela_type e)) t to e ≡ value_of b.objects b.places r
+  value_is : value_with (kind_of (rela_type e)) t to g e ≡ value_of b.objects b.places r
   value_is = value_by (kind_of (rela_type e))
 
   made : ℕ → Field
   made v = record { section = to.section; at = e.r_offset; width = relocation.width_of r; value = v }
 
-  pub field_is : field_with (kind_of (rela_type e)) t to e ≡ field_of b.objects b.places r
+  pub field_is : field_with (kind_of (rela_type e)) t to g e ≡ field_of b.objects b.places r
   unfolding made
   field_is = ap made value_is
 
@@ -113,7 +137,7 @@ module _ (b : Bound) (n : ℕ) (o : LoadedObject) (to : Relocated) (e : Rela) (t
   pub refers_so : RefersToDropped b.objects r → refers_to_dropped t to ≡ true
   refers_so h = refers_is ∙ and_from t.unkept (not (is_frame_of_dropped r)) (means.unkept.1 (h.0, h.2)) (ap not h.1)
 
-  pub right : IsRightWith (kind_of (rela_type e)) t to e → IsRight b.objects b.places r
+  pub right : IsRightWith (kind_of (rela_type e)) t to g e → IsRight b.objects b.places r
   right w = record {
     lawful = record {
       known = w.known;
@@ -126,7 +150,7 @@ module _ (b : Bound) (n : ℕ) (o : LoadedObject) (to : Relocated) (e : Rela) (t
     fits = subst (λ (v : ℕ). IfSome (kind_of (rela_type e)) (λ k. IsInRange k.range (8 * k.width) v)) value_is w.fits;
   }
 
-  pub right_with : IsRight b.objects b.places r → IsRightWith (kind_of (rela_type e)) t to e
+  pub right_with : IsRight b.objects b.places r → IsRightWith (kind_of (rela_type e)) t to g e
   right_with w = record {
     known = w.lawful.known;
     defined = not_true t.undefined (λ u. w.lawful.defined (means.undefined.0 u));

@@ -38,3 +38,8 @@ pub mod SymbolLines
 pub mod ThingsOfSegment
 pub mod Verdicts
 pub mod WantedFields
+pub mod SameRequest
+pub mod SlotSteps
+pub mod NeedSteps
+pub mod SlotCounts
+pub mod GotSteps

@@ -9,7 +9,7 @@ use Rattle.std.proofs.lemmas.Bool.{eqb-true}
 use Rattle.checker.specs.PlaceIndex.{address_in, section_key}
 
 -- two keys compare equal where both numbers are
-tie : (a b c d : ℕ) → is_eq (section_key (a, b) (c, d)) ≡ (a == c && b == d)
+pub tie : (a b c d : ℕ) → is_eq (section_key (a, b) (c, d)) ≡ (a == c && b == d)
 tie a b c d =
     sym (tied_then (nat_cmp a c) (nat_cmp b d))
     ∙ sym (ap (λ (t : Bool). t && b == d) (unsigned_ties a c) ∙ ap (λ (t : Bool). is_eq (nat_cmp a c) && t) (unsigned_ties b d))

@@ -1,17 +1,19 @@
 -- What the clauses before say of the placed pieces: each lies whole in a segment, with no more input bytes
 -- than its size.
-use Rattle.std.proofs.Common.{◌≡◌, ◌<◌, ◌≤◌, List, ◌++◌, length, get_or, map, subst, sym, arith}
-use Rattle.std.specs.Prelude.{All, Any}
-use Rattle.std.proofs.lemmas.List.Elements.{All-tail, All-weaker}
+use Rattle.std.proofs.Common.{◌≡◌, ◌<◌, ◌≤◌, true, List, [], ◌++◌, Option, None, Some, length, get_or, map, subst, sym, arith}
+use Rattle.std.specs.Prelude.{All, Any, IfSome}
+use Rattle.std.proofs.lemmas.List.Elements.{All-head, All-tail, All-weaker}
 use Rattle.elf_model.specs.MemoryImage.{Encloses, loads}
 use Rattle.elf_model.specs.Pieces as pieces
 use Rattle.elf_model.specs.Placement as placement
 use Rattle.elf_model.specs.Placement.{HasRights, IsPlaced, IsWithin, LiesInSegment, got_things, headers_thing, thing_of}
 use Rattle.elf_model.specs.RightLink.{Subject, objects_of, placed_of, sections_of, things_of}
+use Rattle.elf_model.specs.declared.link_map.GotLine.{GotLine}
 use Rattle.elf_model.specs.declared.records.ProgramHeader.{ProgramHeader}
 use Rattle.elf_model.specs.declared.thing.Thing.{Thing}
 use Rattle.checker.specs.Bytes.{LiesWhole}
-use Rattle.checker.specs.PieceParts.{AreInLimit, IsInLimit}
+use Rattle.checker.specs.Got.{LiesInImage}
+use Rattle.checker.specs.PieceParts.{AreInLimit, IsGotInLimit, IsInLimit}
 use Rattle.checker.specs.Views.{placed_view, placed_views}
 use Rattle.checker.specs.declared.things.Placed.{Placed}
 use Rattle.checker.proofs.PieceLemmas.{all_short}
@@ -56,3 +58,26 @@ in_limit s placed same lies =
     subst AreInLimit (sym same)
     (All-weaker (λ (q : placement.Placed). IsWithin s.plan.base (thing_of q)) IsInLimit (λ q w. w.1) (placed_of s)
     (All-unmap (IsWithin s.plan.base) thing_of (placed_of s) pieces))
+
+abbrev got_thing : GotLine → Thing
+got_thing g = record { at = g.address; size = g.size; align = 8; rights = 6; in_file = true }
+
+-- so does its GOT, where there is one
+pub got_in_limit : (s : Subject) → IsPlaced s.plan.base (things_of s) (sections_of s) → IsGotInLimit s.map.got
+got_in_limit s lies = by s.map.got (All-tail (IsWithin s.plan.base) (headers_thing s.image) (got_things s.map.got ++ map thing_of (placed_of s)) lies.within)
+  where
+    by : (got : Option GotLine) → All (IsWithin s.plan.base) (got_things got ++ map thing_of (placed_of s)) → IsGotInLimit got
+    by None all = tt
+    by (Some g) all = (All-head (IsWithin s.plan.base) (got_thing g) (map thing_of (placed_of s)) all).1
+
+-- and it lies whole in a segment
+pub got_lies :
+    (s : Subject) → IsPlaced s.plan.base (things_of s) (sections_of s) → HasRights s.plan.base (loads s.image) (things_of s) (got_things s.map.got) →
+    IfSome s.map.got (LiesInImage s.image)
+got_lies s lies rights = by s.map.got (got_in_limit s lies) rights.got
+  where
+    by : (got : Option GotLine) → IsGotInLimit got → All (LiesInSegment (loads s.image)) (got_things got) → IfSome got (LiesInImage s.image)
+    by None low all = tt
+    by (Some g) low all =
+        let a = All-head (LiesInSegment (loads s.image)) (got_thing g) [] all in
+        record { encloses = (a.0, a.1, a.2, a.3, a.4.0); low = low }

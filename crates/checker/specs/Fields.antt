@@ -4,7 +4,8 @@ use Rattle.std.specs.Global.{Vec}
 use Rattle.elf_model.specs.Loading.{LoadedObject}
 use Rattle.elf_model.specs.ObjectFile.{section, sections}
 use Rattle.elf_model.specs.Placement.{Where}
-use Rattle.elf_model.specs.Relocation.{AreFieldsApart, Fits, IsLawfulRelocation, Relocation, relocations_from, value_of, width_of}
+use Rattle.elf_model.specs.Relocation.{AreFieldsApart, IsLawfulRelocation, Relocation, relocations_from, width_of}
+use Rattle.elf_model.specs.RelocationValues.{Fits, value_of}
 use Rattle.checker.specs.declared.fields.Field.{Field}
 
 -- the field of a relocation, within its object

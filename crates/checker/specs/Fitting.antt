@@ -1,11 +1,11 @@
 -- What one relocation asks, by its kind, by what its symbol means, and by the section that it relocates.
-use Rattle.std.specs.Prelude.{ℕ, ◌≡◌, ◌+◌, ◌*◌, ◌%◌, ◌^◌, ◌≤◌, ◌&&◌, Bool, false, not, codes, List, [], Option, IfSome, IsSome, IsSomeAnd, option_map, unwrap_or}
+use Rattle.std.specs.Prelude.{ℕ, pos, ◌≡◌, ◌+◌, ◌*◌, ◌%◌, ◌^◌, ◌≤◌, ◌&&◌, Bool, false, not, codes, List, [], Option, IfSome, IsSome, IsSomeAnd, option_map, unwrap_or}
 use Rattle.std.specs.Str.{bytes_eq}
 use Rattle.elf_model.specs.ObjectFile.{section_name}
-use Rattle.elf_model.specs.Relocation.{IsInRange, IsMismatch, Kind, modulo_64, whole_value}
+use Rattle.elf_model.specs.Relocation.{IsInRange, IsMismatch, Kind, Terms, modulo_64, whole_value}
 use Rattle.elf_model.specs.declared.records.Rela.{Rela}
-use Rattle.checker.specs.Kinds.{plain_terms}
 use Rattle.checker.specs.declared.fields.Field.{Field}
+use Rattle.checker.specs.declared.fitting.GotTerms.{GotTerms}
 use Rattle.checker.specs.declared.fitting.Relocated.{Relocated}
 use Rattle.checker.specs.declared.targets.Target.{Target}
 
@@ -17,26 +17,37 @@ is_frames bytes k = bytes_eq (unwrap_or (section_name bytes k) []) (codes ".eh_f
 abbrev pub refers_to_dropped : Target → Relocated → Bool
 refers_to_dropped t to = t.unkept && not (t.dropped && to.frames)
 
+-- the terms of an entry's value
+abbrev pub terms_with : Target → Relocated → GotTerms → Rela → Terms
+terms_with t to g e = record {
+  s = t.value;
+  a = e.r_addend;
+  p = (to.address + e.r_offset) % 2 ^ 64;
+  g = g.slot;
+  got = g.start;
+  z = t.size;
+  t = pos 0;
+}
+
 -- the value of an entry of a kind
-abbrev pub value_with : Option Kind → Target → Relocated → Rela → ℕ
-value_with kind t to e =
-    unwrap_or (option_map (λ k. modulo_64 (whole_value k.formula (plain_terms t.value e.r_addend ((to.address + e.r_offset) % 2 ^ 64) t.size))) kind) 0
+abbrev pub value_with : Option Kind → Target → Relocated → GotTerms → Rela → ℕ
+value_with kind t to g e = unwrap_or (option_map (λ k. modulo_64 (whole_value k.formula (terms_with t to g e))) kind) 0
 
 -- an entry of a kind is lawful, and its value fits
-pub record IsRightWith (kind : Option Kind) (t : Target) (to : Relocated) (e : Rela) : Type 0 where
+pub record IsRightWith (kind : Option Kind) (t : Target) (to : Relocated) (g : GotTerms) (e : Rela) : Type 0 where
   pub known : IsSome kind
   pub defined : t.undefined ≡ false
   pub kept : refers_to_dropped t to ≡ false
   pub thread : ¬ IsSomeAnd kind (λ k. IsMismatch k.formula t.thread_local)
   pub inside : IfSome kind (λ k. e.r_offset + k.width ≤ to.size)
   pub unmixed : t.mixed ≡ false
-  pub fits : IfSome kind (λ k. IsInRange k.range (8 * k.width) (value_with kind t to e))
+  pub fits : IfSome kind (λ k. IsInRange k.range (8 * k.width) (value_with kind t to g e))
 
 -- its field
-abbrev pub field_with : Option Kind → Target → Relocated → Rela → Field
-field_with kind t to e = record {
+abbrev pub field_with : Option Kind → Target → Relocated → GotTerms → Rela → Field
+field_with kind t to g e = record {
   section = to.section;
   at = e.r_offset;
   width = unwrap_or (option_map (λ k. k.width) kind) 0;
-  value = value_with kind t to e;
+  value = value_with kind t to g e;
 }

@@ -1,5 +1,5 @@
 -- The code's kinds as the definitions see them.
-use Rattle.std.specs.Prelude.{ℕ, ℤ, pos}
+use Rattle.std.specs.Prelude.{ℕ, ℤ, ◌+◌, pos}
 use Rattle.elf_model.specs.Relocation as relocation
 use Rattle.elf_model.specs.Relocation.{Terms}
 use Rattle.checker.specs.declared.kinds.Formula.{Formula}
@@ -7,6 +7,7 @@ use Rattle.checker.specs.declared.kinds.Formula.TheVariants as formula
 use Rattle.checker.specs.declared.kinds.Range.{Range}
 use Rattle.checker.specs.declared.kinds.Range.TheVariants as range
 use Rattle.checker.specs.declared.kinds.Kind.{Kind}
+use Rattle.checker.specs.declared.value.Terms as code
 
 abbrev pub formula_view : Formula → relocation.Formula
 formula_view formula.Symbol = relocation.S+A
@@ -28,29 +29,29 @@ range_view range.Either = relocation.Either
 abbrev pub kind_view : Kind → relocation.Kind
 kind_view k = record { number = k.number; width = k.width; formula = formula_view k.formula; range = range_view k.range }
 
--- the terms of a link without a GOT and thread storage
-abbrev pub plain_terms : ℕ → ℤ → ℕ → ℕ → Terms
-plain_terms s a p z = record { s = s; a = a; p = p; g = 0; got = 0; z = z; t = pos 0 }
+-- the terms of the code with an addend: no kind of the profile speaks of thread storage
+abbrev pub terms_view : code.Terms → ℤ → Terms
+terms_view x a = record { s = x.symbol; a = a; p = x.place; g = x.slot; got = x.got; z = x.size; t = pos 0 }
 
 -- what a formula adds the addend to, and what it takes away
-abbrev pub base_in : Formula → ℕ → ℕ → ℕ
-base_in formula.Symbol s z = s
-base_in formula.SymbolFromPlace s z = s
-base_in formula.SymbolFromGot s z = s
-base_in formula.Slot s z = 0
-base_in formula.SlotFromPlace s z = 0
-base_in formula.GotFromPlace s z = 0
-base_in formula.Size s z = z
-base_in formula.ThreadOffset s z = 0
-base_in formula.ThreadSlotFromPlace s z = 0
+abbrev pub base_in : Formula → Terms → ℕ
+base_in formula.Symbol x = x.s
+base_in formula.SymbolFromPlace x = x.s
+base_in formula.SymbolFromGot x = x.s
+base_in formula.Slot x = x.g
+base_in formula.SlotFromPlace x = x.g + x.got
+base_in formula.GotFromPlace x = x.got
+base_in formula.Size x = x.z
+base_in formula.ThreadOffset x = 0
+base_in formula.ThreadSlotFromPlace x = x.g + x.got
 
-abbrev pub less_in : Formula → ℕ → ℕ
-less_in formula.Symbol p = 0
-less_in formula.SymbolFromPlace p = p
-less_in formula.SymbolFromGot p = 0
-less_in formula.Slot p = 0
-less_in formula.SlotFromPlace p = p
-less_in formula.GotFromPlace p = p
-less_in formula.Size p = 0
-less_in formula.ThreadOffset p = 0
-less_in formula.ThreadSlotFromPlace p = p
+abbrev pub less_in : Formula → Terms → ℕ
+less_in formula.Symbol x = 0
+less_in formula.SymbolFromPlace x = x.p
+less_in formula.SymbolFromGot x = x.got
+less_in formula.Slot x = 0
+less_in formula.SlotFromPlace x = x.p
+less_in formula.GotFromPlace x = x.p
+less_in formula.Size x = 0
+less_in formula.ThreadOffset x = 0
+less_in formula.ThreadSlotFromPlace x = x.p

@@ -5,13 +5,16 @@ pub mod Entering
 pub mod Fields
 pub mod Filled
 pub mod Fitting
+pub mod Got
 pub mod Judged
 pub mod Kinds
 pub mod NameIndex
+pub mod Needs
 pub mod Neighbours
 pub mod Outputs
 pub mod PieceParts
 pub mod PlaceIndex
+pub mod Slots
 pub mod Subjects
 pub mod Sweeps
 pub mod Uses

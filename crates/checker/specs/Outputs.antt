@@ -1,5 +1,5 @@
 -- Tables by output names: of the pieces of each whether they are of one output section, and where they begin and end.
-use Rattle.std.specs.Prelude.{◌≡◌, ◌↔◌, ℕ, ◌&&◌, Bool, IsTrue, AllPairs, IfSome, cond, List, [], ◌∷◌, None, Option, Some, option_map, true, unwrap_or}
+use Rattle.std.specs.Prelude.{◌≡◌, ℕ, ◌&&◌, Bool, AllPairs, cond, List, [], ◌∷◌, None, Option, Some, option_map, true, unwrap_or}
 use Rattle.std.specs.Borrow.{Bor}
 use Rattle.std.specs.BTreeMap.{BTreeMap, get_by}
 use Rattle.std.specs.Cmp.Lexicographic.{slice_cmp}

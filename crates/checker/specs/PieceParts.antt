@@ -1,8 +1,9 @@
 -- The parts of memory of which bounds tell, and what the bounds are.
-use Rattle.std.specs.Prelude.{◌≡◌, ℕ, ◌+◌, ◌^◌, ◌≤◌, Bool, List, All, unwrap_or}
+use Rattle.std.specs.Prelude.{◌≡◌, ◌+◌, ◌^◌, ◌≤◌, max, Bool, List, All, Option, IfSome, unwrap_or}
 use Rattle.elf_model.specs.LinkerValues.{any_piece, end_of_pieces, is_code_piece, is_file_data, is_zero_data, start_of_pieces}
 use Rattle.elf_model.specs.Pieces.{Piece}
-use Rattle.elf_model.specs.Placement.{Placed}
+use Rattle.elf_model.specs.Placement.{Placed, got_end}
+use Rattle.elf_model.specs.declared.link_map.GotLine.{GotLine}
 use Rattle.checker.specs.declared.bounds.Bounds.{Bounds}
 use Rattle.checker.specs.declared.bounds.Part.{Part}
 use Rattle.checker.specs.declared.bounds.Part.TheVariants as part
@@ -20,8 +21,12 @@ IsInLimit q = q.at + q.piece.size ≤ 2 ^ 46
 abbrev pub AreInLimit : List Placed → Type 0
 AreInLimit qs = All IsInLimit qs
 
-pub record AreBounds (qs : List Placed) (b : Bounds) : Type 0 where
+-- and so does the GOT, where there is one
+abbrev pub IsGotInLimit : Option GotLine → Type 0
+IsGotInLimit got = IfSome got (λ g. g.address + g.size ≤ 2 ^ 46)
+
+pub record AreBounds (qs : List Placed) (got : Option GotLine) (b : Bounds) : Type 0 where
   pub code_end : b.code_end ≡ end_of_pieces is_code_piece qs
-  pub data_end : b.data_end ≡ end_of_pieces is_file_data qs
+  pub data_end : b.data_end ≡ max (end_of_pieces is_file_data qs) (got_end got)
   pub zero_start : b.zero_start ≡ unwrap_or (start_of_pieces is_zero_data qs) 0
-  pub image_end : b.image_end ≡ end_of_pieces any_piece qs
+  pub image_end : b.image_end ≡ max (end_of_pieces any_piece qs) (got_end got)

@@ -3,14 +3,17 @@ ghost use Rattle.std.specs.Prelude.{◌≡◌, ◌≢◌, ◌↔◌, ◌%◌, �
 ghost use Rattle.std.specs.Option.{option_map_or};
 ghost use Rattle.elf_model.specs.ChosenSymbols.{is_chosen};
 ghost use Rattle.elf_model.specs.LinkerNames.{bound_of, named_output};
+ghost use Rattle.elf_model.specs.LinkerValues.{bound_value};
 ghost use Rattle.elf_model.specs.Meaning as meanings;
 ghost use Rattle.elf_model.specs.Meaning.{is_in_thread_storage, meaning, meaning_size, meaning_value, meant, object_meaning};
 ghost use Rattle.elf_model.specs.Pieces.{AreOneOutput, kept_sections};
-ghost use Rattle.elf_model.specs.Placement.{section_address, symbol_value};
+ghost use Rattle.elf_model.specs.Placement.{got_start, section_address, symbol_value};
 ghost use Rattle.elf_model.specs.Relocation.{IsMixed, IsMixedBound, definition_of};
 ghost use Rattle.elf_model.specs.Resolution.{AreSoundSymbols, all_symbols, binding, chosen, is_in_thread_section};
+ghost use Rattle.elf_model.specs.Slots.{requested_address};
 ghost use Rattle.check_load.specs.Views.{loaded_views};
 ghost use Rattle.checker.specs.Bindings.{IsOfUnkept, IsTargetOf};
+ghost use Rattle.checker.specs.Slots.{request_view};
 ghost use Rattle.checker.specs.Views.{meaning_view, symbol_view, symbol_views};
 
 use crate::definitions::{has_value, is_in_thread_section};
@@ -18,6 +21,7 @@ use crate::linker_names::{fixed_bound, named_output, output_bound};
 use crate::names::Names;
 use crate::outputs::Outputs;
 use crate::places::Places;
+use crate::requests::Request;
 use crate::symbols::{are_sound, section_of};
 use crate::targets::Target;
 use crate::things::{Meaning, SymbolOf};
@@ -234,7 +238,8 @@ impl<'l, 'p, 'a> Bindings<'l, 'p, 'a> {
             | Bound::CodeEnd
             | Bound::DataEnd
             | Bound::ZeroStart
-            | Bound::ImageEnd => false,
+            | Bound::ImageEnd
+            | Bound::GotStart => false,
         }
     }
 
@@ -314,6 +319,47 @@ impl<'l, 'p, 'a> Bindings<'l, 'p, 'a> {
             value: value_or_none(self.places, &definition),
             size: size_or_none(&definition),
         }
+    }
+
+    /// The value of what an entry uses that names a symbol, modulo 2^64, 0 where that is nothing.
+    pub fn symbol_value(&self, symbol: &SymbolOf<'a>) -> u64
+        ensures { result ≡ unwrap_or (option_map (meaning_value self.now.places) (definition_of self.now.objects (symbol_view symbol.now))) 0 % 2 ^ 64 }
+    {
+        value_or_none(self.places, &self.definition(symbol))
+    }
+
+    /// The value of what a name of the linker's stands for, 0 where the linker defines nothing for it.
+    fn bound_value(&self, name: &[u8]) -> u64
+        ensures { result ≡ unwrap_or (option_map (bound_value self.now.places name.now) (bound_of self.now.objects name.now)) 0 }
+    {
+        match self.bound_of(name) {
+            Some(bound) => self.places.bound(name, bound),
+            None => 0,
+        }
+    }
+
+    /// The value of what a name means, modulo 2^64, 0 where it means nothing.
+    pub fn name_value(&self, name: &[u8]) -> u64
+        ensures { result ≡ unwrap_or (option_map (meaning_value self.now.places) (meaning self.now.objects name.now)) 0 % 2 ^ 64 }
+    {
+        match self.object_meaning(name) {
+            Some(meaning) => meaning_value(self.places, &meaning),
+            None => self.bound_value(name),
+        }
+    }
+
+    /// The address of the GOT, 0 without one.
+    pub fn got_start(&self) -> u64
+        ensures { result ≡ got_start self.now.places.got }
+    {
+        self.places.got_start()
+    }
+
+    /// The address of the slot for a request, 0 without one.
+    pub fn slot_address(&self, request: &Request<'a>) -> u64
+        ensures { result ≡ requested_address self.now.places.slots (request_view request.now) }
+    {
+        self.places.slot_address(request)
     }
 
     /// The address of a section of an object, 0 where it isn't placed.

@@ -2,13 +2,15 @@
 //! and end: what the linker's own names stand for.
 ghost use Rattle.std.specs.Prelude.{◌≡◌, ◌+◌, IfOk, OnOk, max, option_map, unwrap_or};
 ghost use Rattle.elf_model.specs.LinkerValues.{end_of_pieces, least_of, start_of_pieces};
+ghost use Rattle.elf_model.specs.Placement.{got_end};
 ghost use Rattle.elf_model.proofs.PieceBounds.{earlier, further};
-ghost use Rattle.checker.specs.PieceParts.{AreInLimit, AreBounds, IsInLimit, part_test};
+ghost use Rattle.checker.specs.PieceParts.{AreBounds, AreInLimit, IsGotInLimit, IsInLimit, part_test};
 ghost use Rattle.checker.specs.Outputs.{AreSpans, HasSpanned};
 ghost use Rattle.checker.specs.Views.{piece_view, placed_view, placed_views};
 
 use crate::output::output_name;
 use crate::things::{Piece, Placed};
+use elf_model::GotLine;
 use std::alloc::{AllocError, Global};
 use std::collections::BTreeMap;
 
@@ -29,7 +31,8 @@ pub struct Span {
     pub end: u64,
 }
 
-/// The greatest ends of parts, in bytes, and the least address of what has no bytes, 0 without any.
+/// The greatest ends of parts, those of the data and of the image with the GOT, in bytes, and the least address of what
+/// has no bytes, 0 without any.
 #[derive(Clone, Copy, Debug)]
 pub struct Bounds {
     pub code_end: u64,
@@ -142,15 +145,28 @@ pub fn spans_of<'a>(
     Ok(spans)
 }
 
-/// The bounds of placed pieces.
-pub fn bounds_of(placed: &[Placed<'_>]) -> Bounds
-    requires { AreInLimit (placed_views placed.now) }
-    ensures { AreBounds (placed_views placed.now) result }
+/// Where the GOT ends, 0 without one.
+fn got_end(got: Option<GotLine>) -> u64
+    requires { IsGotInLimit got }
+    ensures { result ≡ got_end got }
 {
+    match got {
+        Some(got) => got.address + got.size,
+        None => 0,
+    }
+}
+
+/// The bounds of placed pieces and of the GOT, which stands with the data.
+pub fn bounds_of(placed: &[Placed<'_>], got: Option<GotLine>) -> Bounds
+    requires pieces { AreInLimit (placed_views placed.now) }
+    requires got { IsGotInLimit got }
+    ensures { AreBounds (placed_views placed.now) got result }
+{
+    let got_end = got_end(got);
     Bounds {
         code_end: end_of(Part::Code, placed),
-        data_end: end_of(Part::FileData, placed),
+        data_end: end_of(Part::FileData, placed).max(got_end),
         zero_start: start_of(Part::Zeros, placed).unwrap_or(0),
-        image_end: end_of(Part::All, placed),
+        image_end: end_of(Part::All, placed).max(got_end),
     }
 }

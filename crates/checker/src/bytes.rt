@@ -16,7 +16,7 @@ use elf_model::ProgramHeader;
 use loader_model::Memory;
 
 /// Whether two runs are equal where bytes past an end count as 0.
-fn same_padded(a: &[u8], b: &[u8]) -> bool
+pub fn same_padded(a: &[u8], b: &[u8]) -> bool
     ensures { IsTrue result ↔ ((k : ℕ) → slice_index a.now k ≡ slice_index b.now k) }
 {
     let common = a.len().min(b.len());

@@ -1,9 +1,10 @@
 //! Whether one relocation is lawful and its value fits, and its field.
-ghost use Rattle.std.specs.Prelude.{◌≡◌, ◌↔◌, IsTrue, Some, SomeIff};
+ghost use Rattle.std.specs.Prelude.{◌≡◌, ◌-◌, ◌↔◌, ℕ, IsTrue, Some, SomeIff};
 ghost use Rattle.elf_model.specs.ObjectFile.{rela_type, section, sections};
-ghost use Rattle.elf_model.specs.Placement.{section_address};
+ghost use Rattle.elf_model.specs.Placement.{got_start, section_address};
 ghost use Rattle.elf_model.specs.Relocation.{IsMismatch, relocation_of};
 ghost use Rattle.elf_model.specs.Relocation as relocation;
+ghost use Rattle.elf_model.specs.Slots.{slot_address};
 ghost use Rattle.check_load.specs.Views.{loaded_view};
 ghost use Rattle.checker.specs.Bindings.{AreTargets};
 ghost use Rattle.checker.specs.Fields.{IsRight, field_of};
@@ -14,8 +15,9 @@ ghost use Rattle.checker.specs.Widths.{IsWidth};
 use crate::bindings::Bindings;
 use crate::fields::Field;
 use crate::kinds::{Formula, Kind, kind_of};
+use crate::requests::request_of;
 use crate::targets::{Target, target_at};
-use crate::value::{fits, value_of};
+use crate::value::{Terms, fits, value_of};
 use check_load::Loaded;
 use elf_model::Rela;
 
@@ -26,6 +28,14 @@ pub struct Relocated {
     pub size: u64,
     pub address: u64,
     pub frames: bool,
+}
+
+/// What the GOT gives a value: the offset in it of an entry's slot, 0 where it asks for none, and the GOT's address, 0
+/// without one.
+#[derive(Clone, Copy, Debug)]
+pub struct GotTerms {
+    pub slot: u64,
+    pub start: u64,
 }
 
 /// Whether a formula doesn't suit a symbol that stands in thread-local storage, or one that doesn't.
@@ -56,9 +66,15 @@ fn refers_to_dropped(target: &Target, to: &Relocated) -> bool
 }
 
 /// The field of an entry of a kind; None where it isn't lawful, and where its value doesn't fit.
-fn field_with(kind: &Kind, target: &Target, to: &Relocated, entry: &Rela) -> Option<Field>
+fn field_with(
+    kind: &Kind,
+    target: &Target,
+    to: &Relocated,
+    got: &GotTerms,
+    entry: &Rela,
+) -> Option<Field>
     requires { IsWidth kind.now.width }
-    ensures { SomeIff result (IsRightWith (Some (kind_view kind.now)) target.now to.now entry.now) (field_with (Some (kind_view kind.now)) target.now to.now entry.now) }
+    ensures { SomeIff result (IsRightWith (Some (kind_view kind.now)) target.now to.now got.now entry.now) (field_with (Some (kind_view kind.now)) target.now to.now got.now entry.now) }
 {
     if target.undefined || target.mixed || refers_to_dropped(target, to) {
         return None;
@@ -70,14 +86,14 @@ fn field_with(kind: &Kind, target: &Target, to: &Relocated, entry: &Rela) -> Opt
     if at > to.size || kind.width > to.size - at {
         return None;
     }
-    let place = to.address.wrapping_add(at);
-    let value = value_of(
-        kind.formula,
-        target.value,
-        target.size,
-        entry.r_addend,
-        place,
-    );
+    let terms = Terms {
+        symbol: target.value,
+        place: to.address.wrapping_add(at),
+        slot: got.slot,
+        got: got.start,
+        size: target.size,
+    };
+    let value = value_of(kind.formula, entry.r_addend, terms);
     if !fits(kind.range, kind.width, value) {
         return None;
     }
@@ -91,13 +107,46 @@ fn field_with(kind: &Kind, target: &Target, to: &Relocated, entry: &Rela) -> Opt
 
 /// The field of an entry whose symbol means a target; None where it isn't lawful, and where its value
 /// doesn't fit.
-fn field_for(target: &Target, to: &Relocated, entry: &Rela) -> Option<Field>
-    ensures { SomeIff result (IsRightWith (relocation.kind_of (rela_type entry.now)) target.now to.now entry.now) (field_with (relocation.kind_of (rela_type entry.now)) target.now to.now entry.now) }
+fn field_for(target: &Target, to: &Relocated, got: &GotTerms, entry: &Rela) -> Option<Field>
+    ensures { SomeIff result (IsRightWith (relocation.kind_of (rela_type entry.now)) target.now to.now got.now entry.now) (field_with (relocation.kind_of (rela_type entry.now)) target.now to.now got.now entry.now) }
 {
     let Some(kind) = kind_of(entry.kind()) else {
         return None;
     };
-    field_with(&kind, target, to, entry)
+    field_with(&kind, target, to, got, entry)
+}
+
+/// The address of the slot for which an entry asks, 0 where it asks for none and where there is none.
+fn slot_address<'a>(
+    bindings: &Bindings<'_, '_, 'a>,
+    number: u64,
+    loaded: &Loaded<'a>,
+    entry: &Rela,
+) -> u64
+    ensures { (section : ℕ) → result ≡ slot_address bindings.now.places.slots (relocation_of number (loaded_view loaded.now) section entry.now) }
+{
+    match request_of(loaded, number, entry) {
+        Some(request) => bindings.slot_address(&request),
+        None => 0,
+    }
+}
+
+/// What the GOT gives the value of an entry.
+fn got_terms<'a>(
+    bindings: &Bindings<'_, '_, 'a>,
+    number: u64,
+    loaded: &Loaded<'a>,
+    entry: &Rela,
+) -> GotTerms
+    ensures slot { (section : ℕ) → result.slot ≡ slot_address bindings.now.places.slots (relocation_of number (loaded_view loaded.now) section entry.now) - got_start bindings.now.places.got }
+    ensures start { result.start ≡ got_start bindings.now.places.got }
+{
+    let start = bindings.got_start();
+    let address = slot_address(bindings, number, loaded, entry);
+    GotTerms {
+        slot: address.saturating_sub(start),
+        start,
+    }
 }
 
 /// The field of an entry of the object that has a number; None where it isn't lawful, and where its value
@@ -117,5 +166,6 @@ pub fn right_field<'a>(
     ensures { SomeIff result (IsRight bindings.now.objects bindings.now.places (relocation_of number (loaded_view loaded.now) to.now.section entry.now)) (field_of bindings.now.objects bindings.now.places (relocation_of number (loaded_view loaded.now) to.now.section entry.now)) }
 {
     let target = target_at(bindings, targets, number, loaded, entry.symbol() as usize);
-    field_for(&target, to, entry)
+    let got = got_terms(bindings, number, loaded, entry);
+    field_for(&target, to, &got, entry)
 }

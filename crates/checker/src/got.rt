@@ -1,18 +1,120 @@
 //! The global offset table and thread-local storage: the seventh and the eighth clause of a right link.
-ghost use Rattle.std.specs.Prelude.{◌≡◌, ◌↔◌, IsTrue, []};
+ghost use Rattle.std.specs.Prelude.{◌≡◌, ◌↔◌, All, IfOk, IfSome, IsTrue, [], map, true};
+ghost use Rattle.std.specs.List.{list_any};
+ghost use Rattle.elf_model.specs.MapRecord.{slot_row};
 ghost use Rattle.elf_model.specs.MemoryImage.{thread_blocks};
-ghost use Rattle.elf_model.specs.RightLink.{IsGotRight};
-ghost use Rattle.checker.specs.Subjects.{subject_of};
+ghost use Rattle.elf_model.specs.RightLink.{HoldsGot};
+ghost use Rattle.elf_model.specs.Slots.{is_slot_of, row_request};
+ghost use Rattle.check_load.specs.Views.{loaded_views};
+ghost use Rattle.checker.specs.Got.{HaveSlots, IsGot, LiesInImage};
+ghost use Rattle.checker.specs.Needs.{AreNeeds};
+ghost use Rattle.checker.specs.Slots.{is_asked, request_view};
 
-use crate::link::Link;
+use crate::bindings::Bindings;
+use crate::got_bytes::holds_got;
+use crate::needs::{Needs, needs_of};
+use crate::requests::{Request, request_of_line};
+use crate::slots::SlotTable;
+use check_load::Loaded;
+use elf_model::{GotLine, SlotLine};
 use loader_model::Memory;
+use std::alloc::{AllocError, Global};
+use std::collections::BTreeSet;
 
-/// Whether a link's map has the global offset table and the slots that its relocations ask for: none, since
-/// no relocation is in the profile.
-pub fn is_got_right(link: &Link<'_>) -> bool
-    ensures { IsTrue result ↔ IsGotRight (subject_of link.now) }
+/// Whether a line's slot is one of those that are asked for.
+fn is_asked<'a>(requests: &BTreeSet<Request<'a>>, line: &'a SlotLine) -> bool
+    ensures { result ≡ is_asked requests.now (row_request (slot_row line.entry.now)) }
 {
-    link.map.got.is_none() && link.map.slots.is_empty()
+    requests.contains(&request_of_line(line))
+}
+
+/// Whether all lines' slots are asked for.
+fn are_asked<'a>(requests: &BTreeSet<Request<'a>>, lines: &'a [SlotLine]) -> bool
+    ensures { IsTrue result ↔ All (λ line. is_asked requests.now (row_request (slot_row line)) ≡ true) lines.entry.now }
+{
+    for line in lines {
+        if !is_asked(requests, line) {
+            return false;
+        }
+    }
+    true
+}
+
+/// Whether there is a slot for each of requests.
+fn have_slots<'a>(requests: &BTreeSet<Request<'a>>, slots: &SlotTable<'a>) -> bool
+    ensures { IsTrue result ↔ All (λ q. list_any (is_slot_of (request_view q)) slots.now ≡ true) requests.now.keys }
+{
+    for request in requests {
+        if !slots.has(request) {
+            return false;
+        }
+    }
+    true
+}
+
+/// Whether there is one slot for each request of the relocations, and no other.
+fn are_slots_right<'a>(
+    bindings: &Bindings<'_, '_, '_>,
+    needs: &Needs<'a>,
+    slots: &SlotTable<'a>,
+) -> bool
+    requires { AreNeeds bindings.now.objects needs.now }
+    ensures { IsTrue result ↔ HaveSlots slots.now bindings.now.objects }
+{
+    if !slots.are_distinct() {
+        return false;
+    }
+    if !are_asked(&needs.requests, slots.lines()) {
+        return false;
+    }
+    have_slots(&needs.requests, slots)
+}
+
+/// Whether a GOT, if there is one, holds its slots.
+fn holds_if_there<'a>(
+    alloc: Global,
+    bindings: &Bindings<'_, '_, 'a>,
+    objects: &[Loaded<'a>],
+    slots: &SlotTable<'a>,
+    memory: &Memory<'_>,
+    got: &Option<GotLine>,
+) -> Result<bool, AllocError>
+    requires objects { bindings.now.objects ≡ loaded_views objects.now }
+    requires slots { slots.now ≡ bindings.now.places.slots }
+    requires lies { IfSome got.now (LiesInImage memory.now) }
+    ensures { IfOk result (λ b. IsTrue b ↔ IfSome got.now (HoldsGot bindings.now.objects bindings.now.places memory.now)) }
+{
+    match got {
+        Some(got) => holds_got(alloc, bindings, objects, slots, memory, got),
+        None => Ok(true),
+    }
+}
+
+/// Whether the GOT stands exactly where a relocation asks for one, with one slot for each request of a relocation and
+/// no other, and memory holds it.
+pub fn is_got_right<'a>(
+    alloc: Global,
+    bindings: &Bindings<'_, '_, 'a>,
+    objects: &[Loaded<'a>],
+    slots: &SlotTable<'a>,
+    memory: &Memory<'_>,
+    got: &Option<GotLine>,
+) -> Result<bool, AllocError>
+    requires objects { bindings.now.objects ≡ loaded_views objects.now }
+    requires slots { slots.now ≡ bindings.now.places.slots }
+    requires got { got.now ≡ bindings.now.places.got }
+    requires lies { IfSome got.now (LiesInImage memory.now) }
+    ensures { IfOk result (λ b. IsTrue b ↔ IsGot bindings.now.objects bindings.now.places memory.now) }
+{
+    let needs = needs_of(alloc, bindings, objects)?;
+    if got.is_some() != needs.got {
+        return Ok(false);
+    }
+    if !are_slots_right(bindings, &needs, slots) {
+        return Ok(false);
+    }
+    let held = holds_if_there(alloc, bindings, objects, slots, memory, got)?;
+    Ok(held)
 }
 
 /// Whether an image has the PT_TLS header that its thread-local pieces ask for: none, since no such piece

@@ -5,8 +5,8 @@ ghost use Rattle.elf_model.specs.Relocation as relocation;
 ghost use Rattle.checker.specs.Kinds.{kind_view};
 ghost use Rattle.checker.specs.Widths.{IsWidth};
 
-/// What a value is made of: S the symbol's value, A the addend, P the field's address, Z the symbol's size.
-/// The GOT, the place in it and the thread offset are 0 in the profile.
+/// What a value is made of: the symbol's value, the slot's offset in the GOT, the GOT's address, the symbol's size or
+/// its offset from the thread pointer, and the addend, less the field's or the GOT's address.
 #[derive(Clone, Copy, Debug)]
 pub enum Formula {
     Symbol,

@@ -34,6 +34,9 @@ fn edge_bound(name: &[u8]) -> Option<Bound>
     if is_either(b"_end", b"end", name) {
         return Some(Bound::ImageEnd);
     }
+    if b"_GLOBAL_OFFSET_TABLE_".as_slice() == name {
+        return Some(Bound::GotStart);
+    }
     None
 }
 

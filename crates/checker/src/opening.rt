@@ -24,7 +24,7 @@ pub fn open<'a>(
     let Some(objects) = check_load::open(alloc, plan, files)? else {
         return Ok(None);
     };
-    if !is_in_profile(alloc, &objects)? {
+    if !is_in_profile(&objects) {
         return Ok(None);
     }
     Ok(Some(objects))

@@ -3,25 +3,31 @@ ghost use Rattle.std.specs.Prelude.{◌≡◌, ◌==◌, ◌&&◌, ℕ, IfOk, No
 ghost use Rattle.std.specs.Option.{option_or};
 ghost use Rattle.elf_model.specs.LinkerValues.{bound_value, end_of_pieces, start_of_pieces};
 ghost use Rattle.elf_model.specs.Pieces.{is_of_output};
-ghost use Rattle.elf_model.specs.Placement.{is_of_section};
-ghost use Rattle.checker.specs.PieceParts.{AreInLimit};
+ghost use Rattle.elf_model.specs.Placement.{got_start, is_of_section};
+ghost use Rattle.elf_model.specs.Slots.{requested_address};
+ghost use Rattle.checker.specs.PieceParts.{AreInLimit, IsGotInLimit};
 ghost use Rattle.checker.specs.PlaceIndex.{IsPlaceIndex, address_in};
+ghost use Rattle.checker.specs.Slots.{request_view};
 ghost use Rattle.checker.specs.Views.{placed_view, placed_views};
 
 use crate::bounds::{Bounds, Span, bounds_of, spans_of};
 use crate::linker_names::named_output;
+use crate::requests::Request;
+use crate::slots::SlotTable;
 use crate::things::Placed;
-use elf_model::Bound;
+use elf_model::{Bound, GotLine};
 use std::alloc::{AllocError, Global};
 use std::collections::BTreeMap;
 use std::marker::Model;
 
-/// The base and pieces at addresses, with an index of the addresses by object and section, and the bounds of parts and of output
-/// names.
+/// The base, pieces at addresses and the GOT with its slots, with an index of the addresses by object and section, and
+/// the bounds of parts and of output names.
 #[derive(Drop)]
 pub struct Places<'p, 'a> {
     base: u64,
     placed: &'p [Placed<'a>],
+    got: Option<GotLine>,
+    slots: &'p SlotTable<'a>,
     addresses: BTreeMap<(u64, u64), u64>,
     bounds: Bounds,
     spans: BTreeMap<&'a [u8], Span>,
@@ -34,28 +40,33 @@ impl<'p, 'a> Model for Places<'p, 'a> {
 
     ghost Value = { Where };
 
-    ghost view = { λ p. record { base = p.base; placed = placed_views p.placed.now } };
+    ghost view = { λ p. record { base = p.base; placed = placed_views p.placed.now; got = p.got; slots = p.slots.now } };
 
-    ghost invariant = { λ p. ArePlaces (placed_views p.placed.now) p.addresses p.bounds p.spans };
+    ghost invariant = { λ p. ArePlaces (placed_views p.placed.now) p.got p.addresses p.bounds p.spans };
 }
 
 impl<'p, 'a> Places<'p, 'a> {
-    /// An index of pieces at addresses, in an image that begins at the base.
+    /// An index of pieces at addresses, in an image that begins at the base and has the GOT with its slots.
     pub fn new(
         alloc: Global,
         base: u64,
         placed: &'p [Placed<'a>],
+        got: Option<GotLine>,
+        slots: &'p SlotTable<'a>,
     ) -> Result<Places<'p, 'a>, AllocError>
-        requires { AreInLimit (placed_views placed.now) }
-        ensures { IfOk result (λ p. p ≡ record { base = base; placed = placed_views placed.entry.now }) }
+        requires pieces { AreInLimit (placed_views placed.now) }
+        requires got { IsGotInLimit got }
+        ensures { IfOk result (λ p. p ≡ record { base = base; placed = placed_views placed.entry.now; got = got; slots = slots.entry.now }) }
     {
         let addresses = index_places(alloc, placed)?;
         let spans = spans_of(alloc, placed)?;
         Ok(Places {
             base,
             placed,
+            got,
+            slots,
             addresses,
-            bounds: bounds_of(placed),
+            bounds: bounds_of(placed, got),
             spans,
         })
     }
@@ -80,6 +91,23 @@ impl<'p, 'a> Places<'p, 'a> {
         }
     }
 
+    /// The address of the GOT, 0 without one.
+    pub fn got_start(&self) -> u64
+        ensures { result ≡ got_start self.now.got }
+    {
+        match self.got {
+            Some(got) => got.address,
+            None => 0,
+        }
+    }
+
+    /// The address of the slot for a request, 0 without one.
+    pub fn slot_address(&self, request: &Request<'a>) -> u64
+        ensures { result ≡ requested_address self.now.slots (request_view request.now) }
+    {
+        self.slots.address(request)
+    }
+
     /// Where the bound is for which a name of the linker's stands.
     pub fn bound(&self, name: &[u8], bound: Bound) -> u64
         ensures { result ≡ bound_value self.now name.now bound }
@@ -90,6 +118,7 @@ impl<'p, 'a> Places<'p, 'a> {
             Bound::DataEnd => self.bounds.data_end,
             Bound::ZeroStart => self.bounds.zero_start,
             Bound::ImageEnd => self.bounds.image_end,
+            Bound::GotStart => self.got_start(),
             Bound::OutputStart => self.output_start(named_output(name)),
             Bound::OutputEnd => self.output_end(named_output(name)),
         }

@@ -2,7 +2,8 @@
 ghost use Rattle.std.specs.Prelude.{◌≡◌, ◌↔◌, ◌++◌, All, IfOk, IfSome, IsSome, IsTrue, Some, filter, map};
 ghost use Rattle.std.specs.List.{slice_get};
 ghost use Rattle.elf_model.specs.ObjectFile.{relas_of, section, sections};
-ghost use Rattle.elf_model.specs.Relocation.{AllFit, AreLawfulRelocations, is_some_kind, relocation_of, relocations, relocations_from, relocations_in};
+ghost use Rattle.elf_model.specs.Relocation.{AreLawfulRelocations, is_some_kind, relocation_of, relocations, relocations_from, relocations_in};
+ghost use Rattle.elf_model.specs.RelocationValues.{AllFit};
 ghost use Rattle.elf_model.specs.Placement.{section_address};
 ghost use Rattle.checker.specs.Bindings.{AreTargets};
 ghost use Rattle.checker.specs.Fitting.{is_frames};

@@ -1,49 +1,64 @@
 //! What the value of a relocation is modulo 2^64, and whether it fits its field.
-ghost use Rattle.std.specs.Prelude.{◌≡◌, ◌↔◌, ◌*◌, ◌+◌, ◌-◌, ◌≤◌, ◌<◌, ◌^◌, ◌⊎◌, IsTrue};
+ghost use Rattle.std.specs.Prelude.{◌≡◌, ◌↔◌, ◌*◌, ◌+◌, ◌-◌, ◌%◌, ◌≤◌, ◌<◌, ◌^◌, ◌⊎◌, ◌+ℤ◌, ◌-ℤ◌, ℕ, ℤ, IsTrue, pos};
 ghost use Rattle.elf_model.specs.Relocation.{IsInRange, IsSigned, modulo_64, whole_value};
-ghost use Rattle.checker.specs.Kinds.{base_in, formula_view, less_in, plain_terms, range_view};
+ghost use Rattle.checker.specs.Kinds.{base_in, formula_view, less_in, range_view, terms_view};
 ghost use Rattle.checker.specs.Widths.{IsWidth};
 
 use crate::kinds::{Formula, Range};
 
-/// What a formula adds the addend to: S, Z, or 0 for what isn't in the profile.
-fn base_of(formula: Formula, s: u64, z: u64) -> u64
-    ensures { result ≡ base_in formula s z }
+/// The terms of a value but for the addend: the symbol's value, the field's address, the slot's offset in the GOT, the GOT's
+/// address and the symbol's size, each 0 where there is none. All are modulo 2^64.
+#[derive(Clone, Copy, Debug)]
+pub struct Terms {
+    pub symbol: u64,
+    pub place: u64,
+    pub slot: u64,
+    pub got: u64,
+    pub size: u64,
+}
+
+/// What a formula adds the addend to, modulo 2^64; 0 for a thread offset, of which no kind of the profile speaks.
+fn base_of(formula: Formula, terms: Terms) -> u64
+    ensures { (a : ℤ) → result ≡ base_in formula (terms_view terms a) % 2 ^ 64 }
 {
     match formula {
-        Formula::Symbol | Formula::SymbolFromPlace | Formula::SymbolFromGot => s,
-        Formula::Size => z,
-        Formula::Slot
-        | Formula::SlotFromPlace
-        | Formula::GotFromPlace
-        | Formula::ThreadOffset
-        | Formula::ThreadSlotFromPlace => 0,
+        Formula::Symbol | Formula::SymbolFromPlace | Formula::SymbolFromGot => terms.symbol,
+        Formula::Slot => terms.slot,
+        Formula::SlotFromPlace | Formula::ThreadSlotFromPlace => {
+            terms.slot.wrapping_add(terms.got)
+        }
+        Formula::GotFromPlace => terms.got,
+        Formula::Size => terms.size,
+        Formula::ThreadOffset => 0,
     }
 }
 
-/// What a formula takes away: P, or 0.
-fn less_of(formula: Formula, p: u64) -> u64
-    ensures { result ≡ less_in formula p }
+/// What a formula takes away, modulo 2^64: the field's address, the GOT's, or 0.
+fn less_of(formula: Formula, terms: Terms) -> u64
+    ensures { (a : ℤ) → result ≡ less_in formula (terms_view terms a) % 2 ^ 64 }
 {
     match formula {
         Formula::SymbolFromPlace
         | Formula::SlotFromPlace
         | Formula::GotFromPlace
-        | Formula::ThreadSlotFromPlace => p,
-        Formula::Symbol
-        | Formula::SymbolFromGot
-        | Formula::Slot
-        | Formula::Size
-        | Formula::ThreadOffset => 0,
+        | Formula::ThreadSlotFromPlace => terms.place,
+        Formula::SymbolFromGot => terms.got,
+        Formula::Symbol | Formula::Slot | Formula::Size | Formula::ThreadOffset => 0,
     }
 }
 
-/// A value modulo 2^64, of a symbol's value and size, an addend and a field's address.
-pub fn value_of(formula: Formula, s: u64, z: u64, addend: i64, p: u64) -> u64
-    ensures { result ≡ modulo_64 (whole_value (formula_view formula) (plain_terms s addend p z)) }
+/// A sum with an addend, less a number, modulo 2^64.
+fn shifted(base: u64, addend: i64, less: u64) -> u64
+    ensures { (b l : ℕ) → base ≡ b % 2 ^ 64 → less ≡ l % 2 ^ 64 → result ≡ modulo_64 ((pos b +ℤ addend) -ℤ pos l) }
 {
-    let sum = base_of(formula, s, z).wrapping_add(addend.cast_unsigned());
-    sum.wrapping_sub(less_of(formula, p))
+    base.wrapping_add(addend.cast_unsigned()).wrapping_sub(less)
+}
+
+/// A value modulo 2^64, of an addend and the other terms.
+pub fn value_of(formula: Formula, addend: i64, terms: Terms) -> u64
+    ensures { result ≡ modulo_64 (whole_value (formula_view formula) (terms_view terms addend)) }
+{
+    shifted(base_of(formula, terms), addend, less_of(formula, terms))
 }
 
 /// The least number that is negative in a field of a width.

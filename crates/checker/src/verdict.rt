@@ -4,7 +4,7 @@ ghost use Rattle.elf_model.specs.Files.{files_of, words_of};
 ghost use Rattle.elf_model.specs.MapRecord.{map_of};
 ghost use Rattle.elf_model.specs.MapText.{IsMap};
 ghost use Rattle.elf_model.specs.Pieces.{kept_sections};
-ghost use Rattle.elf_model.specs.RightLink.{AreRelocationsRight, AreSymbolsListed, EntersRight, Holds, HoldsBefore, IsLoaded, IsRightLink, Least, objects_of, placed_of, sections_of, things_of, where_of};
+ghost use Rattle.elf_model.specs.RightLink.{AreRelocationsRight, AreSymbolsListed, EntersRight, Holds, HoldsBefore, IsGotRight, IsLoaded, IsRightLink, Least, objects_of, placed_of, sections_of, things_of, where_of};
 ghost use Rattle.elf_model.specs.declared.verdict.Clause.{Clause};
 ghost use Rattle.elf_model.specs.declared.verdict.Clause.TheVariants as clause;
 ghost use Rattle.checker.specs.Fields.{AreRows};
@@ -34,6 +34,7 @@ use crate::placing::{has_rights, is_placed};
 use crate::reading::{read_map, read_plan};
 use crate::rows::fields_right;
 use crate::sections::{are_sections_listed, pieces_of};
+use crate::slots::SlotTable;
 use crate::things::{Piece, Placed};
 use check_load::Loaded;
 use command::Plan;
@@ -163,43 +164,61 @@ fn judge_relocations<'a>(
     judge_symbols(alloc, link, bindings, memory, objects)
 }
 
-/// Judges the clauses from the ninth on.
-fn judge_names<'a>(
+/// Whether the seventh clause holds of a link.
+fn is_got_of_link_right<'a>(
     alloc: Global,
     link: &Link<'_>,
-    names: &Names<'_, 'a>,
-    pieces: &[Piece<'a>],
+    bindings: &Bindings<'_, '_, 'a>,
+    objects: &[Loaded<'a>],
+    slots: &SlotTable<'a>,
+    memory: &Memory<'_>,
+) -> Result<bool, AllocError>
+    requires loaded { loaded_views objects.now ≡ objects_of (subject_of link.now) }
+    requires bound { bindings.now ≡ bound_of (subject_of link.now) }
+    requires slots { slots.now ≡ (subject_of link.now).map.slots }
+    requires memory { memory.now ≡ link.now.image.now }
+    requires before { HoldsBefore clause.C7 (subject_of link.now) }
+    ensures { IfOk result (λ b. IsTrue b ↔ IsGotRight (subject_of link.now)) }
+{
+    let right = is_got_right(alloc, bindings, objects, slots, memory, &link.map.got)?;
+    Ok(right)
+}
+
+/// Judges the clauses from the seventh on, given what names mean.
+fn judge_got<'a>(
+    alloc: Global,
+    link: &Link<'_>,
+    bindings: &Bindings<'_, '_, 'a>,
+    objects: &[Loaded<'a>],
+    slots: &SlotTable<'a>,
     memory: &Memory<'_>,
     placed: &[Placed<'a>],
     things: &[Thing],
 ) -> Result<Verdict, AllocError>
     requires map { IsMap (map_of link.now.map) }
-    requires names { names.now ≡ objects_of (subject_of link.now) }
-    requires pieces { piece_views pieces.now ≡ kept_sections (objects_of (subject_of link.now)) }
+    requires loaded { loaded_views objects.now ≡ objects_of (subject_of link.now) }
+    requires bound { bindings.now ≡ bound_of (subject_of link.now) }
+    requires slots { slots.now ≡ (subject_of link.now).map.slots }
     requires memory { memory.now ≡ link.now.image.now }
     requires placed { placed_views placed.now ≡ placed_of (subject_of link.now) }
     requires things { things.now ≡ things_of (subject_of link.now) }
-    requires before { HoldsBefore clause.C9 (subject_of link.now) }
+    requires before { HoldsBefore clause.C7 (subject_of link.now) }
     ensures { IfOk result (λ v. Judges v (subject_of link.now)) }
 {
-    let outputs = Outputs::new(alloc, pieces)?;
-    let places = Places::new(alloc, base_of(&link.plan), placed)?;
-    let bindings = Bindings::new(names, &outputs, &places);
-    judge_relocations(
-        alloc,
-        link,
-        &bindings,
-        names.objects(),
-        memory,
-        placed,
-        things,
-    )
+    let right = is_got_of_link_right(alloc, link, bindings, objects, slots, memory)?;
+    if !right {
+        return Ok(Verdict::No(Clause::C7));
+    }
+    if !is_thread_block_right(memory) {
+        return Ok(Verdict::No(Clause::C8));
+    }
+    judge_relocations(alloc, link, bindings, objects, memory, placed, things)
 }
 
 /// Judges the clauses from the seventh on.
-fn judge_bytes<'a>(
+fn judge_names<'a>(
     alloc: Global,
-    link: &Link<'_>,
+    link: &'a Link<'_>,
     names: &Names<'_, 'a>,
     pieces: &[Piece<'a>],
     memory: &Memory<'_>,
@@ -213,15 +232,22 @@ fn judge_bytes<'a>(
     requires placed { placed_views placed.now ≡ placed_of (subject_of link.now) }
     requires things { things.now ≡ things_of (subject_of link.now) }
     requires before { HoldsBefore clause.C7 (subject_of link.now) }
-    ensures { IfOk result (λ v. Judges v (subject_of link.now)) }
+    ensures { IfOk result (λ v. Judges v (subject_of link.entry.now)) }
 {
-    if !is_got_right(link) {
-        return Ok(Verdict::No(Clause::C7));
-    }
-    if !is_thread_block_right(memory) {
-        return Ok(Verdict::No(Clause::C8));
-    }
-    judge_names(alloc, link, names, pieces, memory, placed, things)
+    let outputs = Outputs::new(alloc, pieces)?;
+    let slots = SlotTable::new(alloc, &link.map.slots)?;
+    let places = Places::new(alloc, base_of(&link.plan), placed, link.map.got, &slots)?;
+    let bindings = Bindings::new(names, &outputs, &places);
+    judge_got(
+        alloc,
+        link,
+        &bindings,
+        names.objects(),
+        &slots,
+        memory,
+        placed,
+        things,
+    )
 }
 
 /// The sections and the common blocks of a link at the addresses that its map gives them, and how many of them are
@@ -247,7 +273,7 @@ fn place_pieces<'a>(
 /// Judges the clauses from the fifth on.
 fn judge_places<'a>(
     alloc: Global,
-    link: &Link<'_>,
+    link: &'a Link<'_>,
     names: &Names<'_, 'a>,
     pieces: &[Piece<'a>],
     lines: &CommonLines<'_>,
@@ -259,7 +285,7 @@ fn judge_places<'a>(
     requires lines { lines.now ≡ (subject_of link.now).map.commons }
     requires memory { memory.now ≡ link.now.image.now }
     requires before { HoldsBefore clause.C5 (subject_of link.now) }
-    ensures { IfOk result (λ v. Judges v (subject_of link.now)) }
+    ensures { IfOk result (λ v. Judges v (subject_of link.entry.now)) }
 {
     let (placed, count) = place_pieces(alloc, link, names, pieces, lines)?;
     let (sections, _blocks) = placed.split_at(count);
@@ -272,19 +298,19 @@ fn judge_places<'a>(
     if !has_rights(memory, base, &things, &gots) {
         return Ok(Verdict::No(Clause::C6));
     }
-    judge_bytes(alloc, link, names, pieces, memory, &placed, &things)
+    judge_names(alloc, link, names, pieces, memory, &placed, &things)
 }
 
 /// Judges the clauses from the third on, given the names of the objects.
-fn judge_sections(
+fn judge_sections<'a>(
     alloc: Global,
-    link: &Link<'_>,
-    names: &Names<'_, '_>,
+    link: &'a Link<'_>,
+    names: &Names<'_, 'a>,
 ) -> Result<Verdict, AllocError>
     requires map { IsMap (map_of link.now.map) }
     requires names { names.now ≡ objects_of (subject_of link.now) }
     requires holds { IsLoaded (subject_of link.now) }
-    ensures { IfOk result (λ v. Judges v (subject_of link.now)) }
+    ensures { IfOk result (λ v. Judges v (subject_of link.entry.now)) }
 {
     let pieces = pieces_of(alloc, names.objects())?;
     let drops = drops_of(alloc, names.objects())?;
@@ -299,15 +325,15 @@ fn judge_sections(
 }
 
 /// Judges the clauses from the third on.
-fn judge_loaded(
+fn judge_loaded<'a>(
     alloc: Global,
-    link: &Link<'_>,
-    objects: &[Loaded<'_>],
+    link: &'a Link<'_>,
+    objects: &[Loaded<'a>],
 ) -> Result<Verdict, AllocError>
     requires map { IsMap (map_of link.now.map) }
     requires loaded { loaded_views objects.now ≡ objects_of (subject_of link.now) }
     requires holds { IsLoaded (subject_of link.now) }
-    ensures { IfOk result (λ v. Judges v (subject_of link.now)) }
+    ensures { IfOk result (λ v. Judges v (subject_of link.entry.now)) }
 {
     let names = Names::new(alloc, objects)?;
     judge_sections(alloc, link, &names)

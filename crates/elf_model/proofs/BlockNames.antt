@@ -1,5 +1,5 @@
 -- No two blocks have one name, so a search by a block's name finds that block.
-use Rattle.std.proofs.Common.{◌≡◌, ℕ, ◌+◌, ◌≤◌, ◌&&◌, true, cond, List, [], ◌∷◌, get_or, refl, ap, arith}
+use Rattle.std.proofs.Common.{◌≡◌, ℕ, ◌+◌, ◌≤◌, ◌&&◌, List, [], ◌∷◌, get_or, refl, arith}
 use Rattle.std.specs.Prelude.{All, Some, count_by}
 use Rattle.std.proofs.lemmas.Bool.{and_parts}
 use Rattle.std.proofs.lemmas.Slice.Eq.{bytes_eq-Decides}

@@ -1,12 +1,12 @@
 -- The common blocks: what each has, and that they are numbered as sections of an object past the last one.
-use Rattle.std.proofs.Common.{◌≡◌, ℕ, ◌+◌, ◌<◌, ◌≤◌, Bool, true, false, cond, List, [], ◌∷◌, length, map, refl, sym, ◌∙◌, ap, subst, arith}
-use Rattle.std.specs.Prelude.{All, AllPairs, Contains, None, Option, Some, find, is_some, max}
+use Rattle.std.proofs.Common.{◌≡◌, ℕ, ◌+◌, ◌<◌, ◌≤◌, Bool, true, false, cond, List, [], ◌∷◌, length, refl, sym, arith}
+use Rattle.std.specs.Prelude.{All, AllPairs, Contains, Some, find, is_some}
 use Rattle.std.specs.Str.{bytes_eq}
 use Rattle.std.proofs.lemmas.List.Elements.{All-cons, All-map, All-nil, All-weaker}
 use Rattle.std.proofs.lemmas.List.Kept.{AllPairs-cons}
 use Rattle.elf_model.specs.Commons.{Block, block_header, block_of, block_piece, block_pieces, block_symbols, blocks, blocks_from, is_block_of}
 use Rattle.elf_model.specs.Loading.{LoadedObject}
-use Rattle.elf_model.specs.Pieces.{IsLawfulKind, Piece, has_bytes, is_executable, is_nobits, is_thread_local, is_writable}
+use Rattle.elf_model.specs.Pieces.{IsLawfulKind, Piece, has_bytes, is_executable, is_writable}
 use Rattle.elf_model.specs.Resolution.{SymbolOf, has_name}
 use Rattle.elf_model.proofs.Listed.{Contains-here, Contains-there}
 use Rattle.elf_model.proofs.Pairs.{AllPairs-map, AllPairs-nil}

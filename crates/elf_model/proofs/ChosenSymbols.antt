@@ -1,19 +1,19 @@
 -- The list of the chosen symbols has for each name its chosen definition, and no second one.
-use Rattle.std.proofs.Common.{◌≡◌, ℕ, ◌+◌, ◌<◌, ◌≤◌, ◌==◌, ◌⊎◌, inl, inr, Bool, true, false, cond, ◌&&◌, ◌||◌, List, [], ◌∷◌, ◌++◌, get_or, refl, sym, ◌∙◌, ap, subst, arith}
+use Rattle.std.proofs.Common.{◌≡◌, ℕ, ◌+◌, ◌<◌, ◌≤◌, ◌==◌, Bool, true, false, cond, ◌&&◌, ◌||◌, List, [], ◌∷◌, get_or, refl, sym, ◌∙◌, ap, arith}
 use Rattle.std.specs.List.{list_any}
-use Rattle.std.specs.Prelude.{◌≢◌, All, Contains, count_by, filter, find, None, Option, Some, unwrap_or}
+use Rattle.std.specs.Prelude.{◌≢◌, All, Contains, count_by, filter, find, None, Option, Some}
 use Rattle.std.specs.Option.{option_map_or, option_or}
 use Rattle.std.proofs.lemmas.Bool.{and_parts, eq-eqb, eqb-true, false≢true}
 use Rattle.std.proofs.lemmas.List.Elements.{All-contains, All-head, All-tail}
 use Rattle.std.proofs.lemmas.List.Sums.{sum_by-append}
-use Rattle.std.proofs.lemmas.Option.{none-some, same_Some}
+use Rattle.std.proofs.lemmas.Option.{none-some}
 use Rattle.std.proofs.lemmas.Slice.Eq.{bytes_eq-Decides}
 use Rattle.elf_model.specs.ChosenSymbols.{chosen_symbols, definitions, is_chosen, is_definition, is_same_symbol}
 use Rattle.elf_model.specs.Loading.{LoadedObject}
-use Rattle.elf_model.specs.ObjectFile.{symbol_name, symbols}
+use Rattle.elf_model.specs.ObjectFile.{symbols}
 use Rattle.elf_model.specs.Resolution.{AreUnique, SymbolOf, all_symbols, chosen, common_symbols, has_name, is_common_definition, is_strong, is_weak_definition, strong_definitions, symbol_of, symbols_from, symbols_of, weak_definitions}
 use Rattle.elf_model.specs.declared.records.Symbol.{Symbol}
-use Rattle.elf_model.proofs.Finding.{find-found, find-none, none-passes}
+use Rattle.elf_model.proofs.Finding.{find-found, find-none}
 use Rattle.elf_model.proofs.Found.{find-filter}
 use Rattle.elf_model.proofs.Listed.{All-from_contains, Contains-filter, Contains-from_filter}
 use Rattle.elf_model.proofs.RisingNames.{absent_count, all_found, counted}

@@ -1,5 +1,5 @@
 -- What the linker defines for the names of a set: the lines of its names.
-use Rattle.std.proofs.Common.{◌≡◌, ℕ, ◌+◌, ◌≤◌, ◌||◌, Bool, true, false, cond, get_or, List, [], ◌∷◌, ◌++◌, Option, None, Some, refl, sym, ap, ◌∙◌, arith}
+use Rattle.std.proofs.Common.{◌≡◌, ℕ, ◌≤◌, ◌||◌, Bool, true, false, cond, get_or, List, [], ◌∷◌, ◌++◌, Option, None, Some, refl, sym, ap, ◌∙◌, arith}
 use Rattle.std.specs.Prelude.{All, count_by, find, option_map, option_to_list}
 use Rattle.std.specs.BTreeSet.{BTreeSet, IsOrdered}
 use Rattle.std.specs.BTreeMap.{is_at}

@@ -1,7 +1,6 @@
 -- What names mean, as lists: what a search by a name finds in them, and that it finds no other one.
-use Rattle.std.proofs.Common.{◌≡◌, ◌≢◌, ◌∙◌, ℕ, ◌+◌, ◌≤◌, Bool, true, false, not, cond, ◌&&◌, ◌||◌, List, [], ◌∷◌, ◌++◌, Option, None, Some, refl, sym, ap, subst, arith}
-use Rattle.std.specs.Prelude.{All, Contains, IsPermutation, count_by, filter, find, is_some, map, option_map}
-use Rattle.std.specs.List.{flat_map}
+use Rattle.std.proofs.Common.{◌≡◌, ◌∙◌, ℕ, ◌+◌, ◌≤◌, Bool, true, false, not, cond, ◌&&◌, ◌||◌, List, [], ◌∷◌, ◌++◌, Option, None, Some, refl, sym, ap, arith}
+use Rattle.std.specs.Prelude.{Contains, IsPermutation, count_by, find, is_some, map, option_map}
 use Rattle.std.specs.Option.{option_and_then, option_map_or, option_or}
 use Rattle.std.specs.Str.{bytes_eq}
 use Rattle.std.proofs.lemmas.Bool.{false≢true}
@@ -12,14 +11,13 @@ use Rattle.std.proofs.lemmas.Slice.Eq.{bytes_eq-Decides}
 use Rattle.elf_model.specs.ChosenSymbols.{chosen_symbols}
 use Rattle.elf_model.specs.Commons.{Block, block_named, block_symbols, blocks, is_block_of, is_common_symbol}
 use Rattle.elf_model.specs.LinkerNames.{bound_of}
-use Rattle.elf_model.specs.Listing.{AreLinkerLines, AreListed, AreOf, has_linker_line, has_meaning, is_used, linker_line, listed}
+use Rattle.elf_model.specs.Listing.{AreLinkerLines, AreListed, AreOf, has_meaning, is_used, listed}
 use Rattle.elf_model.specs.Loading.{LoadedObject}
-use Rattle.elf_model.specs.Meaning.{Common, Linker, Meaning, Symbol, meaning_name, meanings_of, meant, meant_list, object_meaning}
+use Rattle.elf_model.specs.Meaning.{Common, Linker, Meaning, Symbol, meaning_name, meanings_of, meant, object_meaning}
 use Rattle.elf_model.specs.Resolution.{SymbolOf, chosen, has_name}
-use Rattle.elf_model.specs.declared.bound.Bound.{Bound}
 use Rattle.elf_model.proofs.Blocks.{block_named-some}
 use Rattle.elf_model.proofs.ChosenSymbols.{chosen_listed, chosen_once}
-use Rattle.elf_model.proofs.Finding.{find-found, find-none, none-passes}
+use Rattle.elf_model.proofs.Finding.{find-found, none-passes}
 use Rattle.elf_model.proofs.Listed.{Contains-filter}
 use Rattle.elf_model.proofs.RisingNames.{absent_count, count_permuted, counted, find_permuted}
 

@@ -1,14 +1,13 @@
 -- The objects among a command's items are loaded.
-use Rattle.std.proofs.Common.{◌≡◌, ℕ, ◌==◌, ◌⊎◌, inl, inr, Bool, true, false, cond, List, [], ◌∷◌, ◌++◌, Option, Some, None, refl, sym, ◌∙◌, ap, subst}
+use Rattle.std.proofs.Common.{◌≡◌, ℕ, ◌==◌, ◌⊎◌, inl, inr, Bool, true, false, cond, List, [], ◌∷◌, Option, Some, None, refl, sym, subst}
 use Rattle.std.specs.Prelude.{Contains}
 use Rattle.std.proofs.lemmas.Bool.{cond-false}
 use Rattle.std.proofs.lemmas.List.Elements.{Contains-append_left, Contains-append_right}
 use Rattle.elf_model.specs.Command.{Plan}
 use Rattle.elf_model.specs.Files.{File}
-use Rattle.elf_model.specs.Loading.{Group, LoadedObject, Single, Step, before_steps, group_of, joined, loaded_objects, loaded_step, loaded_steps, object_behind, steps, turn, with_object}
+use Rattle.elf_model.specs.Loading.{Group, LoadedObject, Single, Step, before_steps, group_of, loaded_objects, loaded_step, loaded_steps, object_behind, steps, turn, with_object}
 use Rattle.elf_model.specs.Opening.{Opened, opened}
 use Rattle.elf_model.proofs.Listed.{Contains-cons_cases, Contains-here, Contains-nil, Contains-there}
-use Rattle.elf_model.proofs.LoadingBounds.{Extends}
 use Rattle.elf_model.proofs.LoadingSteps.{steps_behind}
 
 -- a step that isn't a group stays behind an item that joins the steps

@@ -1,16 +1,15 @@
 -- Each step of loading that takes something leaves less to take.
-use Rattle.std.proofs.Common.{◌≡◌, ℕ, zero, suc, ◌+◌, ◌<◌, ◌≤◌, ◌==◌, ◌&&◌, ◌||◌, not, ◌⊎◌, inl, inr, Bool, true, false, cond, List, [], ◌∷◌, ◌++◌, length, Some, None, refl, sym, ◌∙◌, ap, subst, arith, append_assoc, length-append, eq-eqb}
-use Rattle.std.specs.List.{find, list_any}
+use Rattle.std.proofs.Common.{◌≡◌, ℕ, ◌+◌, ◌<◌, ◌≤◌, ◌==◌, ◌&&◌, ◌||◌, not, Bool, true, false, cond, List, [], ◌∷◌, ◌++◌, length, Some, None, refl, sym, ◌∙◌, ap, arith, append_assoc, length-append, eq-eqb}
+use Rattle.std.specs.List.{find}
 use Rattle.std.proofs.lemmas.Bool.{and_from, and_parts, false≢true, not-true, or_left, or_right}
 use Rattle.std.proofs.lemmas.List.{append-nil}
 use Rattle.std.proofs.lemmas.List.Folds.{list_any-append}
 use Rattle.std.proofs.lemmas.Option.{none-some, same_Some}
-use Rattle.elf_model.specs.ArchiveFile.{IndexEntry, Member}
+use Rattle.elf_model.specs.ArchiveFile.{IndexEntry}
 use Rattle.elf_model.specs.Command.{Plan}
-use Rattle.elf_model.specs.Loading.{LoadedObject, is_begun, is_next, is_taken, needed, next, object_behind, turn_of_whole, with_member, with_members, with_object}
-use Rattle.elf_model.specs.LoadingBounds.{left, left_of_all, untaken}
-use Rattle.elf_model.specs.LoadingRules.{Round, SearchedBy, Turn, TurnIf}
-use Rattle.elf_model.specs.Opening.{Opened, archive_entries, archive_members}
+use Rattle.elf_model.specs.Loading.{LoadedObject, is_begun, is_next, is_taken, needed, next, object_behind, with_member, with_object}
+use Rattle.elf_model.specs.LoadingBounds.{untaken}
+use Rattle.elf_model.specs.Opening.{Opened, archive_entries}
 
 -- both cases of a test
 pub by_case : {P : Type 0} (b : Bool) → (b ≡ true → P) → (b ≡ false → P) → P

@@ -1,18 +1,17 @@
 -- The running address puts each piece where the relation of the own addresses asks for it.
-use Rattle.std.proofs.Common.{◌≡◌, ℕ, suc, ◌+◌, ◌-◌, ◌*◌, ◌/◌, ◌%◌, ◌<◌, ◌≤◌, ◌⊎◌, inl, inr, Bool, true, false, not, ◌&&◌, cond, List, [], ◌∷◌, ◌++◌, append_assoc, length, length-append, rules, refl, sym, ◌∙◌, ap, subst, arith, div-add-mod'}
-use Rattle.std.specs.Prelude.{All, map}
+use Rattle.std.proofs.Common.{◌≡◌, ℕ, ◌+◌, ◌-◌, ◌*◌, ◌/◌, ◌%◌, ◌<◌, ◌≤◌, ◌⊎◌, inl, inr, Bool, true, false, not, ◌&&◌, cond, List, [], ◌∷◌, ◌++◌, append_assoc, length, length-append, rules, refl, sym, ◌∙◌, ap, subst, arith, div-add-mod'}
+use Rattle.std.specs.Prelude.{All}
 use Rattle.std.proofs.Math.Nat.{lt_of_mul-lt-mul_right, mul-le-mul_right}
-use Rattle.std.proofs.lemmas.List.Elements.{All-append, All-contains, All-cons, All-head, All-nil, All-tail, All-weaker}
-use Rattle.elf_model.specs.Commons.{pieces}
+use Rattle.std.proofs.lemmas.List.Elements.{All-append, All-contains, All-cons, All-head, All-nil, All-tail}
 use Rattle.elf_model.specs.Loading.{LoadedObject}
 use Rattle.elf_model.specs.OwnAddresses.{AllEndBy, AreOwnAddresses, IsLeastMultiple, MayBegin, MayStand, segment_start}
-use Rattle.elf_model.specs.OwnLayout.{code_pieces, code_start, data_pieces, data_start, end_of, is_code, is_read_only, own_code, own_data, own_headers_size, own_placed, own_read_only, page_up, place_at, placed_end, placed_from, read_only_pieces, read_only_start, round_up}
+use Rattle.elf_model.specs.OwnLayout.{code_pieces, code_start, data_pieces, data_start, end_of, laid_out, is_code, is_read_only, own_code, own_data, own_read_only, page_up, place_at, placed_end, placed_from, read_only_pieces, read_only_start, round_up}
 use Rattle.elf_model.specs.Pieces.{AreLawfulKinds, IsLawfulKind, Piece, is_executable, is_writable}
 use Rattle.elf_model.specs.Placement.{Placed}
 use Rattle.elf_model.proofs.Listed.{All-from_contains, All-parts}
-use Rattle.elf_model.proofs.OwnOrder.{code_not_writable, from_data, pieces_lawful}
+use Rattle.elf_model.proofs.OwnOrder.{code_not_writable, from_data, laid_out_lawful}
 use Rattle.elf_model.proofs.Places.{All-placed, InCode, InData, InReadOnly, code_aligned, data_aligned, own_code_within, own_data_within, own_placed_pieces, own_read_only_within, own_starts, read_only_aligned}
-use Rattle.elf_model.proofs.Running.{HasAlignment, end_of-ge, placed_within, rounded_up}
+use Rattle.elf_model.proofs.Running.{HasAlignment, rounded_up}
 
 nil-cons : {X : Type 0} (ys : List X) (x : X) (xs : List X) → [] ≡ ys ++ x ∷ xs → ⊥
 nil-cons {X} ys x xs is = let n = ap (length {A = X}) is in let m = length-append ys (x ∷ xs) in omega (arith, n, m)
@@ -199,7 +198,7 @@ module _ (base : ℕ) (objects : List LoadedObject) where
         let lawful : IsLawfulKind q.piece.header =
         at_split (λ r. IsLawfulKind r.piece.header) (own_data base objects) before more q is
         (All-placed (λ p. IsLawfulKind p.header) (data_start base objects) (data_pieces objects)
-        (All-from_contains (λ p. IsLawfulKind p.header) (data_pieces objects) (λ p c. All-contains (λ p. IsLawfulKind p.header) (pieces objects) p (pieces_lawful objects kinds) (from_data objects p c).0))) in
+        (All-from_contains (λ p. IsLawfulKind p.header) (data_pieces objects) (λ p c. All-contains (λ p. IsLawfulKind p.header) (laid_out objects) p (laid_out_lawful objects kinds) (from_data objects p c).0))) in
         let start : segment_start base objects q.piece ≡ data_start base objects =
         ap (λ b. cond b base (cond (is_code q.piece) (code_start base objects) (data_start base objects))) (data_other q.piece write)
         ∙ ap (λ b. cond b (code_start base objects) (data_start base objects)) (not_code q.piece lawful write) in

@@ -1,8 +1,8 @@
 -- What holds of each alignment that the standard allows holds of those of the pieces of objects, where common symbols
 -- are sound.
-use Rattle.std.proofs.Common.{◌≡◌, ◌⊎◌, inl, inr, ℕ, ◌<◌, ◌≤◌, List, [], ◌∷◌, ap, arith, map, refl, subst, sym}
-use Rattle.std.specs.Prelude.{All, Contains, filter, max}
-use Rattle.std.proofs.lemmas.List.Elements.{All-append, All-contains, All-head, All-nil, All-tail}
+use Rattle.std.proofs.Common.{◌≡◌, ◌⊎◌, inl, inr, ℕ, ◌<◌, ◌≤◌, List, [], ◌∷◌, arith, map, refl, subst}
+use Rattle.std.specs.Prelude.{All, max}
+use Rattle.std.proofs.lemmas.List.Elements.{All-append, All-contains, All-head, All-tail}
 use Rattle.elf_model.specs.Commons.{block_pieces, commons_named, greatest, pieces}
 use Rattle.elf_model.specs.Loading.{AreObjects, LoadedObject}
 use Rattle.elf_model.specs.ObjectFile.{IsAlignment, IsObject, IsPlaced, sections}

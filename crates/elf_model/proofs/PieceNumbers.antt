@@ -8,6 +8,8 @@ use Rattle.std.proofs.lemmas.List.Kept.{AllPairs-cons}
 use Rattle.byteview.specs.Numbers.{part}
 use Rattle.elf_model.specs.Commons.{block_pieces, pieces}
 use Rattle.elf_model.specs.Loading.{LoadedObject}
+use Rattle.elf_model.specs.OwnLayout.{got_piece, got_pieces, laid_out}
+use Rattle.elf_model.specs.Slots.{has_got}
 use Rattle.elf_model.specs.ObjectFile.{bytes_in_file, contents, has_no_bytes, section_bytes, sections}
 use Rattle.elf_model.specs.Pieces.{Piece, is_kept, kept_sections, piece_of, pieces_from, pieces_of}
 use Rattle.elf_model.specs.declared.records.SectionHeader.{SectionHeader}
@@ -117,6 +119,34 @@ kept_other objects = AllPairs-weaker ComesBefore AreOtherSections before-other (
 pub pieces_other : (objects : List LoadedObject) → AllPairs AreOtherSections (pieces objects)
 pieces_other objects = AllPairs-weaker ComesBefore AreOtherSections before-other (pieces objects) (pieces_ascend objects)
 
+-- none is of an object behind the one that the blocks make
+pub pieces_low : (objects : List LoadedObject) → All (λ p. p.object ≤ length objects) (pieces objects)
+pieces_low objects =
+    All-append (λ p. p.object ≤ length objects) (kept_sections objects) (block_pieces objects)
+    (All-weaker (λ p. p.object < length objects) (λ p. p.object ≤ length objects) (λ p n. omega (arith, n)) (kept_sections objects) (kept_below objects))
+    (All-weaker (λ p. p.object ≡ length objects) (λ p. p.object ≤ length objects) (λ p n. omega (arith, n)) (block_pieces objects) (block_pieces-object objects))
+
+-- what holds of the GOT as a piece holds of each, where there is one
+pub got_pieces-each : (objects : List LoadedObject) (P : Piece → Type 0) → P (got_piece objects) → All P (got_pieces objects)
+got_pieces-each objects P holds =
+    elim (has_got objects) as (λ b. All P (cond b (got_piece objects ∷ []) [])) [
+      | true ↦ All-cons P (got_piece objects) [] holds (All-nil P)
+      | false ↦ All-nil P
+    ]
+
+pub got_pieces-pairs : (objects : List LoadedObject) (R : Piece → Piece → Type 0) → AllPairs R (got_pieces objects)
+got_pieces-pairs objects R =
+    elim (has_got objects) as (λ b. AllPairs R (cond b (got_piece objects ∷ []) [])) [
+      | true ↦ AllPairs-cons R (got_piece objects) [] (All-nil (R (got_piece objects))) (AllPairs-nil R)
+      | false ↦ AllPairs-nil R
+    ]
+
+pub laid_out_other : (objects : List LoadedObject) → AllPairs AreOtherSections (laid_out objects)
+laid_out_other objects =
+    AllPairs-append AreOtherSections (pieces objects) (got_pieces objects) (pieces_other objects) (got_pieces-pairs objects AreOtherSections)
+    (All-weaker (λ p. p.object ≤ length objects) (λ p. All (AreOtherSections p) (got_pieces objects))
+    (λ p n. got_pieces-each objects (AreOtherSections p) (λ e f. omega (arith, n, e))) (pieces objects) (pieces_low objects))
+
 -- each piece has an alignment, and no more bytes than its size
 abbrev pub IsKept : Piece → Type 0
 IsKept p = (0 < p.align) × (length p.bytes ≤ p.size)
@@ -143,3 +173,7 @@ pub pieces_kept : (objects : List LoadedObject) → All IsKept (pieces objects)
 pieces_kept objects =
     All-append IsKept (kept_sections objects) (block_pieces objects) (kept_whole objects)
     (block_pieces-each objects IsKept (λ k s c. (omega arith, omega arith)))
+
+pub laid_out_kept : (objects : List LoadedObject) → All IsKept (laid_out objects)
+laid_out_kept objects =
+    All-append IsKept (pieces objects) (got_pieces objects) (pieces_kept objects) (got_pieces-each objects IsKept (omega arith, omega arith))

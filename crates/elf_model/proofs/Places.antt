@@ -3,16 +3,16 @@ use Rattle.std.proofs.Common.{◌∙◌, ap, arith, inl, inr, refl, subst, sym, 
 use Rattle.std.specs.Prelude.{◌≡◌, ℕ, ◌+◌, ◌<◌, ◌≤◌, ◌⊎◌, true, List, All, AllPairs, Contains, Option, Some, find, length, map, option_map, unwrap_or}
 use Rattle.std.proofs.lemmas.Bool.{and_from, and_parts, eq-eqb, eqb-true}
 use Rattle.std.proofs.lemmas.List.{map-append}
-use Rattle.std.proofs.lemmas.List.Elements.{All-append, All-contains, All-weaker}
+use Rattle.std.proofs.lemmas.List.Elements.{All-append, All-contains, All-weaker, Contains-append_left, Contains-append_right}
 use Rattle.elf_model.specs.Loading.{LoadedObject}
-use Rattle.elf_model.specs.OwnLayout.{code_pieces, code_start, data_pieces, data_start, end_of, is_code, is_read_only, own_address, own_code, own_data, own_headers_size, own_in_load_order, own_placed, own_read_only, placed_end, placed_from, read_only_pieces, read_only_start}
+use Rattle.elf_model.specs.OwnLayout.{laid_out, got_pieces, code_pieces, code_start, data_pieces, data_start, end_of, is_code, is_read_only, own_address, own_code, own_data, own_headers_size, own_in_load_order, own_laid_out, own_placed, own_read_only, placed_end, placed_from, read_only_pieces, read_only_start}
 use Rattle.elf_model.specs.Commons.{pieces}
 use Rattle.elf_model.specs.Pieces.{AreLawfulKinds, Piece, is_writable}
 use Rattle.elf_model.specs.Placement.{Placed, is_of_section}
 use Rattle.elf_model.proofs.Listed.{All-from_contains, All-unmap, Contains-from_map, Contains-map, find_only}
 use Rattle.elf_model.proofs.OwnOrder.{from_code, from_data, from_own_order, from_read_only, own_order, own_order_other, to_own_order}
 use Rattle.elf_model.proofs.Pairs.{AllPairs-append, AllPairs-unmap, AllPairs-weaker, related}
-use Rattle.elf_model.proofs.PieceNumbers.{AreOtherSections, IsKept, pieces_kept}
+use Rattle.elf_model.proofs.PieceNumbers.{AreOtherSections, IsKept, laid_out_kept}
 use Rattle.elf_model.proofs.Running.{HasAlignment, IsAligned, IsBehind, end_of-ge, paged_up, placed_aligned, placed_ascending, placed_pieces, placed_within}
 
 -- what is known of where the own pieces stand
@@ -22,7 +22,7 @@ pub record AreOwnPlaced (base : ℕ) (objects : List LoadedObject) : Type 0 wher
   pub data_ : All (λ q. (data_start base objects ≤ q.at) × (is_writable q.piece.header ≡ true)) (own_data base objects)
   pub apart : AllPairs (λ p q. (placed_end p ≤ q.at) ⊎ (placed_end q ≤ p.at)) (own_placed base objects)
   pub listed : (q : Placed) → Contains (own_in_load_order base objects) q → Contains (own_placed base objects) q
-  pub all : (q : Placed) → Contains (own_placed base objects) q → Contains (own_in_load_order base objects) q
+  pub all : (q : Placed) → Contains (own_placed base objects) q → Contains (own_laid_out base objects) q
   pub kept : All (λ q. (0 < q.piece.align) × (length q.piece.bytes ≤ q.piece.size)) (own_placed base objects)
   pub starts : (base + own_headers_size objects ≤ code_start base objects) × (code_start base objects ≤ data_start base objects)
 
@@ -31,15 +31,15 @@ pub All-placed : (P : Piece → Type 0) (x : ℕ) (ps : List Piece) → All P ps
 All-placed P x ps all = All-unmap P (λ q. q.piece) (placed_from x ps) (subst (All P) (sym (placed_pieces x ps)) all)
 
 -- all pieces have an alignment, so those of the own order have, and of its parts
-pub All-ordered : (P : Piece → Type 0) (objects : List LoadedObject) → All P (pieces objects) → All P (own_order objects)
+pub All-ordered : (P : Piece → Type 0) (objects : List LoadedObject) → All P (laid_out objects) → All P (own_order objects)
 All-ordered P objects all =
-    All-from_contains P (own_order objects) (λ p c. All-contains P (pieces objects) p all (from_own_order objects p c))
+    All-from_contains P (own_order objects) (λ p c. All-contains P (laid_out objects) p all (from_own_order objects p c))
 
-aligned_of : (objects : List LoadedObject) → All HasAlignment (pieces objects)
-aligned_of objects = All-weaker IsKept HasAlignment (λ p k. k.0) (pieces objects) (pieces_kept objects)
+aligned_of : (objects : List LoadedObject) → All HasAlignment (laid_out objects)
+aligned_of objects = All-weaker IsKept HasAlignment (λ p k. k.0) (laid_out objects) (laid_out_kept objects)
 
-chosen_aligned : (objects : List LoadedObject) (ps : List Piece) → ((p : Piece) → Contains ps p → Contains (pieces objects) p) → All HasAlignment ps
-chosen_aligned objects ps from = All-from_contains HasAlignment ps (λ p c. All-contains HasAlignment (pieces objects) p (aligned_of objects) (from p c))
+chosen_aligned : (objects : List LoadedObject) (ps : List Piece) → ((p : Piece) → Contains ps p → Contains (laid_out objects) p) → All HasAlignment ps
+chosen_aligned objects ps from = All-from_contains HasAlignment ps (λ p c. All-contains HasAlignment (laid_out objects) p (aligned_of objects) (from p c))
 
 pub read_only_aligned : (objects : List LoadedObject) → All HasAlignment (read_only_pieces objects)
 read_only_aligned objects = chosen_aligned objects (read_only_pieces objects) (λ p c. (from_read_only objects p c).0)
@@ -134,7 +134,7 @@ module _ (base : ℕ) (objects : List LoadedObject) where
   own_kept : All (λ q. IsKept q.piece) (own_placed base objects)
   own_kept =
       All-unmap IsKept (λ q. q.piece) (own_placed base objects)
-      (subst (All IsKept) (sym (own_placed_pieces base objects)) (All-ordered IsKept objects (pieces_kept objects)))
+      (subst (All IsKept) (sym (own_placed_pieces base objects)) (All-ordered IsKept objects (laid_out_kept objects)))
 
   pub own_aligned : All IsAligned (own_placed base objects)
   own_aligned =
@@ -178,21 +178,33 @@ module _ (base : ℕ) (objects : List LoadedObject) where
         let at : own_address base objects q.piece ≡ q.at = ap (λ (o : Option Placed). unwrap_or (option_map (λ (r : Placed). r.at) o) 0) found in
         λ i. record { at = at i; piece = q.piece }
 
-    pub own_listed : (q : Placed) → Contains (own_in_load_order base objects) q → Contains (own_placed base objects) q
-    own_listed q c =
-        let of_piece = Contains-from_map at_own_address (pieces objects) q c in
+    laid_listed : (q : Placed) → Contains (own_laid_out base objects) q → Contains (own_placed base objects) q
+    laid_listed q c =
+        let of_piece = Contains-from_map at_own_address (laid_out objects) q c in
         let ordered = to_own_order objects of_piece.of of_piece.there in
         let placed = Contains-from_map (λ (r : Placed). r.piece) (own_placed base objects) of_piece.of
         (subst (λ (ps : List Piece). Contains ps of_piece.of) (sym (own_placed_pieces base objects)) ordered) in
         let is : placed.of ≡ q = sym (own_place_is placed.of placed.there) ∙ (ap at_own_address placed.is ∙ of_piece.is) in
         subst (Contains (own_placed base objects)) is placed.there
 
-    pub own_all : (q : Placed) → Contains (own_placed base objects) q → Contains (own_in_load_order base objects) q
+    pub own_listed : (q : Placed) → Contains (own_in_load_order base objects) q → Contains (own_placed base objects) q
+    own_listed q c =
+        laid_listed q
+        (subst (λ (qs : List Placed). Contains qs q) (sym (map-append at_own_address (pieces objects) (got_pieces objects)))
+        (Contains-append_left (own_in_load_order base objects) (map at_own_address (got_pieces objects)) q c))
+
+    -- the GOT stands at its own address
+    pub got_listed : (p : Piece) → Contains (got_pieces objects) p → Contains (own_placed base objects) (at_own_address p)
+    got_listed p c =
+        laid_listed (at_own_address p)
+        (Contains-map at_own_address (laid_out objects) p (Contains-append_right (pieces objects) (got_pieces objects) p c))
+
+    pub own_all : (q : Placed) → Contains (own_placed base objects) q → Contains (own_laid_out base objects) q
     own_all q c =
         let ordered : Contains (own_order objects) q.piece =
         subst (λ (ps : List Piece). Contains ps q.piece) (own_placed_pieces base objects) (Contains-map (λ (r : Placed). r.piece) (own_placed base objects) q c) in
-        subst (Contains (own_in_load_order base objects)) (own_place_is q c)
-        (Contains-map at_own_address (pieces objects) q.piece (from_own_order objects q.piece ordered))
+        subst (Contains (own_laid_out base objects)) (own_place_is q c)
+        (Contains-map at_own_address (laid_out objects) q.piece (from_own_order objects q.piece ordered))
 
     pub are_own_placed : AreOwnPlaced base objects
     are_own_placed = record {

@@ -1,5 +1,5 @@
 -- The symbols that names mean, as a list: each chosen definition once. It says no more than `chosen` does.
-use Rattle.std.specs.Prelude.{ℕ, ◌==◌, ◌&&◌, ◌||◌, Bool, false, List, filter}
+use Rattle.std.specs.Prelude.{◌==◌, ◌&&◌, ◌||◌, Bool, false, List, filter}
 use Rattle.std.specs.Option.{option_map_or}
 use Rattle.elf_model.specs.Loading.{LoadedObject}
 use Rattle.elf_model.specs.Resolution.{SymbolOf, all_symbols, chosen, is_common_definition, is_strong, is_weak_definition}

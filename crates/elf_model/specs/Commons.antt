@@ -1,6 +1,6 @@
 -- Common blocks, and all pieces of the output's memory: the kept sections and the blocks (System V gABI 4, "Symbol
 -- Table", SHN_COMMON; that a block has the greatest alignment of its name's symbols, and the order, is the profile's).
-use Rattle.std.specs.Prelude.{ℕ, ◌+◌, ◌&&◌, Bool, List, [], ◌∷◌, ◌++◌, Option, filter, find, length, map, max}
+use Rattle.std.specs.Prelude.{ℕ, ◌+◌, Bool, List, [], ◌∷◌, ◌++◌, Option, filter, find, length, map, max}
 use Rattle.std.specs.Str.{bytes_eq}
 use Rattle.elf_model.specs.ChosenSymbols.{chosen_symbols}
 use Rattle.elf_model.specs.Loading.{LoadedObject}

@@ -1,6 +1,6 @@
 -- The image file and the map of the linker's own layout (System V gABI 4 and 5; the order of segments, the
 -- fill and the stack's header are the profile's).
-use Rattle.std.specs.Prelude.{◌≡◌, ℕ, ◌+◌, ◌-◌, ◌&&◌, Bool, cond, List, [], ◌∷◌, ◌++◌, None, find, map, nat_le, nat_lt, ◌==◌, unwrap_or, option_map}
+use Rattle.std.specs.Prelude.{◌≡◌, ℕ, ◌+◌, ◌-◌, ◌&&◌, Bool, cond, List, [], ◌∷◌, ◌++◌, find, map, nat_le, nat_lt, slice_index, ◌==◌, unwrap_or, option_map}
 use Rattle.std.specs.List.{flat_map, list_any, range_with_len}
 use Rattle.elf_model.specs.Loading.{LoadedObject}
 use Rattle.elf_model.specs.Commons.{Block, block_named, block_piece}
@@ -8,11 +8,12 @@ use Rattle.elf_model.specs.MapRecord.{CommonRow, MapRecord, PlaceRow}
 use Rattle.elf_model.specs.MapText.{IsOrdered}
 use Rattle.elf_model.specs.MemoryImage.{image_ident}
 use Rattle.elf_model.specs.Meaning.{meaning_value, object_meaning}
-use Rattle.elf_model.specs.OwnLayout.{own_address, own_segments, own_placed, own_places, own_where, own_headers_size, header_count, file_end}
-use Rattle.elf_model.specs.Pieces.{kept_sections}
-use Rattle.elf_model.specs.Placement.{Placed, is_common_row_of}
+use Rattle.elf_model.specs.OwnLayout.{got_number, own_address, own_got, own_segments, own_slots, own_placed, own_places, own_where, own_headers_size, header_count, file_end}
+use Rattle.elf_model.specs.Pieces.{Piece, kept_sections}
+use Rattle.elf_model.specs.Placement.{Placed, Where, is_common_row_of}
 use Rattle.elf_model.specs.Records.{file_header_bytes, program_header_bytes}
 use Rattle.elf_model.specs.RightLink.{drop_rows, object_rows, HasLine}
+use Rattle.elf_model.specs.Slots.{got_bytes}
 use Rattle.elf_model.specs.WantedBytes.{wanted_byte}
 use Rattle.elf_model.specs.declared.records.FileHeader.{FileHeader}
 use Rattle.elf_model.specs.declared.records.ProgramHeader.{ProgramHeader}
@@ -62,8 +63,8 @@ header_bytes base objects entry =
     file_header_bytes (own_file_header (own_entry base objects entry) (header_count objects))
     ++ flat_map program_header_bytes (own_program_headers base objects)
 
--- the byte that stands for an address: a piece's wanted byte; else 0x90 in the file part of an executable
--- segment, and 0 everywhere else
+-- the byte that stands for an address: the GOT's, or another piece's wanted byte; else 0x90 in the file part of an
+-- executable segment, and 0 everywhere else
 abbrev pub covers_address : ℕ → Placed → Bool
 covers_address a q = nat_le q.at a && nat_lt a (q.at + q.piece.size)
 
@@ -73,10 +74,16 @@ is_code_part a h = (h.p_flags == 5) && (nat_le h.p_vaddr a && nat_lt a (h.p_vadd
 abbrev pub fill_at : List ProgramHeader → ℕ → ℕ
 fill_at segments a = cond (list_any (is_code_part a) segments) 0x90 0
 
+abbrev pub is_got_piece : List LoadedObject → Piece → Bool
+is_got_piece objects p = p.object == got_number objects
+
+abbrev pub piece_byte : List LoadedObject → Where → Piece → ℕ → ℕ
+piece_byte objects w p k = cond (is_got_piece objects p) (slice_index (got_bytes objects w) k) (wanted_byte objects w p k)
+
 abbrev pub own_byte : ℕ → List LoadedObject → ℕ → ℕ
 own_byte base objects a =
     unwrap_or
-    (option_map (λ q. wanted_byte objects (own_where base objects) q.piece (a - q.at)) (find (covers_address a) (own_placed base objects)))
+    (option_map (λ q. piece_byte objects (own_where base objects) q.piece (a - q.at)) (find (covers_address a) (own_placed base objects)))
     (fill_at (own_segments base objects) a)
 
 -- the image file: the headers, then the byte of each address up to the end of the last file part
@@ -86,8 +93,8 @@ image_file base objects entry =
     ++ map (λ i. own_byte base objects (base + i))
     (range_with_len (own_headers_size objects) (file_end (own_segments base objects) - own_headers_size objects))
 
--- the map of the own layout: the loaded objects, the dropped sections, the kept ones and the common blocks at their
--- addresses, what names mean
+-- the map of the own layout: the loaded objects, the dropped sections, the kept ones, the common blocks, the GOT and its
+-- slots at their addresses, what names mean
 abbrev pub place_row_of : Placed → PlaceRow
 place_row_of q = record {
   address = q.at;
@@ -115,7 +122,7 @@ pub record IsOwnMap (base : ℕ) (objects : List LoadedObject) (m : MapRecord) :
   pub drops : m.drops ≡ drop_rows 0 objects
   pub places : m.places ≡ map place_row_of (own_places base objects (kept_sections objects))
   pub commons : (name : List ℕ) → HasOwnCommonLine m.commons base objects name
-  pub got : m.got ≡ None
-  pub slots : m.slots ≡ []
+  pub got : m.got ≡ own_got base objects
+  pub slots : m.slots ≡ own_slots base objects
   pub symbols : (name : List ℕ) → HasLine m.symbols objects (own_where base objects) name
   pub ordered : IsOrdered m

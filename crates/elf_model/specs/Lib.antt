@@ -26,7 +26,9 @@ pub mod Placement
 pub mod Profile
 pub mod Records
 pub mod Relocation
+pub mod RelocationValues
 pub mod Resolution
 pub mod RightLink
+pub mod Slots
 pub mod UsedNames
 pub mod WantedBytes

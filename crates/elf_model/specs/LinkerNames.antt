@@ -7,7 +7,7 @@ use Rattle.std.specs.Str.{bytes_eq}
 use Rattle.elf_model.specs.Loading.{LoadedObject}
 use Rattle.elf_model.specs.Pieces.{has_output}
 use Rattle.elf_model.specs.declared.bound.Bound.{Bound}
-use Rattle.elf_model.specs.declared.bound.Bound.TheVariants.{CodeEnd, DataEnd, ImageEnd, ImageStart, OutputEnd, OutputStart, ZeroStart}
+use Rattle.elf_model.specs.declared.bound.Bound.TheVariants.{CodeEnd, DataEnd, GotStart, ImageEnd, ImageStart, OutputEnd, OutputStart, ZeroStart}
 
 -- a name, and what it stands for
 pub record BoundName : Type 0 where
@@ -16,6 +16,10 @@ pub record BoundName : Type 0 where
 
 abbrev pub bound_name : List ℕ → Bound → BoundName
 bound_name name bound = record { name = name; bound = bound }
+
+-- the name by which code finds the GOT
+abbrev pub got_name : List ℕ
+got_name = codes "_GLOBAL_OFFSET_TABLE_"
 
 abbrev pub bound_names : List BoundName
 bound_names =
@@ -28,6 +32,7 @@ bound_names =
     ∷ bound_name (codes "__bss_start") ZeroStart
     ∷ bound_name (codes "_end") ImageEnd
     ∷ bound_name (codes "end") ImageEnd
+    ∷ bound_name got_name GotStart
     ∷ []
 
 -- the names for where arrays of functions begin and end, with the output names of their sections
@@ -97,7 +102,3 @@ output_bound name = cond (is_start_name name) (Some OutputStart) (cond (is_stop_
 abbrev pub bound_of : List LoadedObject → List ℕ → Option Bound
 bound_of objects name =
     option_or (fixed_bound name) (cond (has_output objects (named_output name)) (output_bound name) None)
-
--- the name that this version doesn't define yet: the GOT's
-unfoldable pub is_later_name : List ℕ → Bool
-is_later_name name = bytes_eq name (codes "_GLOBAL_OFFSET_TABLE_")

@@ -2,9 +2,9 @@
 use Rattle.std.specs.Prelude.{ℕ, ◌+◌, ◌&&◌, Bool, true, not, cond, List, [], ◌∷◌, Option, None, Some, max, min, unwrap_or}
 use Rattle.elf_model.specs.LinkerNames.{named_output}
 use Rattle.elf_model.specs.Pieces.{Piece, has_bytes, is_of_output, is_executable, is_nobits, is_thread_local, is_writable}
-use Rattle.elf_model.specs.Placement.{Placed, Where}
+use Rattle.elf_model.specs.Placement.{Placed, Where, got_end, got_start}
 use Rattle.elf_model.specs.declared.bound.Bound.{Bound}
-use Rattle.elf_model.specs.declared.bound.Bound.TheVariants.{CodeEnd, DataEnd, ImageEnd, ImageStart, OutputEnd, OutputStart, ZeroStart}
+use Rattle.elf_model.specs.declared.bound.Bound.TheVariants.{CodeEnd, DataEnd, GotStart, ImageEnd, ImageStart, OutputEnd, OutputStart, ZeroStart}
 
 -- the greatest end of the pieces of which a test is true; 0 of none
 abbrev pub end_of_pieces : (Piece → Bool) → List Placed → ℕ
@@ -38,8 +38,9 @@ any_piece p = true
 abbrev pub bound_value : Where → List ℕ → Bound → ℕ
 bound_value w name ImageStart = w.base
 bound_value w name CodeEnd = end_of_pieces is_code_piece w.placed
-bound_value w name DataEnd = end_of_pieces is_file_data w.placed
+bound_value w name DataEnd = max (end_of_pieces is_file_data w.placed) (got_end w.got)
 bound_value w name ZeroStart = unwrap_or (start_of_pieces is_zero_data w.placed) 0
-bound_value w name ImageEnd = end_of_pieces any_piece w.placed
+bound_value w name ImageEnd = max (end_of_pieces any_piece w.placed) (got_end w.got)
+bound_value w name GotStart = got_start w.got
 bound_value w name OutputStart = unwrap_or (start_of_pieces (is_of_output (named_output name)) w.placed) 0
 bound_value w name OutputEnd = end_of_pieces (is_of_output (named_output name)) w.placed

@@ -1,6 +1,6 @@
 -- What a name means: the definition that objects make of it, or else what the linker itself defines (System V gABI 4,
 -- "Symbol Table"; the linker's names are the profile's).
-use Rattle.std.specs.Prelude.{ℕ, Bool, false, cond, List, [], ◌∷◌, Option, Some, None, option_map}
+use Rattle.std.specs.Prelude.{ℕ, Bool, false, cond, List, [], ◌∷◌, Option, Some, option_map}
 use Rattle.std.specs.List.{flat_map}
 use Rattle.std.specs.Option.{option_and_then, option_map_or, option_or}
 use Rattle.elf_model.specs.Commons.{Block, block_named, is_common_symbol}

@@ -1,13 +1,18 @@
 -- Where the linker itself lays out (profile): segments R (neither writable nor executable), RX and RW, in
 -- this order, R from the base on with the headers in front, RX and RW from page boundaries on.
-use Rattle.std.specs.Prelude.{ℕ, ◌+◌, ◌-◌, ◌*◌, ◌/◌, ◌^◌, ◌<◌, ◌≤◌, ◌&&◌, Bool, true, not, cond, List, [], ◌∷◌, ◌++◌, All, filter, find, map, max, nat_lt, option_map, unwrap_or}
+use Rattle.std.specs.Prelude.{ℕ, ◌+◌, ◌-◌, ◌*◌, ◌/◌, ◌^◌, ◌<◌, ◌≤◌, ◌&&◌, Bool, true, not, cond, List, [], ◌∷◌, ◌++◌, Option, None, Some, All, filter, find, length, map, max, nat_lt, option_map, unwrap_or}
 use Rattle.std.specs.List.{flat_map, list_any}
 use Rattle.elf_model.specs.Loading.{LoadedObject}
+use Rattle.elf_model.specs.MapRecord.{SlotRow}
 use Rattle.elf_model.specs.Commons.{block_pieces, pieces}
 use Rattle.elf_model.specs.Pieces.{Piece, kept_sections, is_writable, is_executable, has_bytes, same_output}
 use Rattle.elf_model.specs.Placement.{Placed, Where, is_of_section}
-use Rattle.elf_model.specs.Relocation.{AllFit}
+use Rattle.elf_model.specs.RelocationValues.{AllFit}
+use Rattle.elf_model.specs.Slots.{Request, got_size, has_got, slots}
+use Rattle.elf_model.specs.declared.constants.TheConstants.{SHF_ALLOC, SHF_WRITE, SHT_PROGBITS}
+use Rattle.elf_model.specs.declared.link_map.GotLine.{GotLine}
 use Rattle.elf_model.specs.declared.records.ProgramHeader.{ProgramHeader}
+use Rattle.elf_model.specs.declared.records.SectionHeader.{SectionHeader}
 
 -- the least multiple of a not below x
 abbrev pub round_up : ℕ → ℕ → ℕ
@@ -37,8 +42,45 @@ leaders (p ∷ ps) = p ∷ filter (λ q. not (same_output p q)) (leaders ps)
 abbrev pub grouped : List Piece → List Piece
 grouped ps = flat_map (λ p. filter (same_output p) ps) (leaders ps)
 
--- the pieces of each segment, in the order in which they stand; in RW those without bytes come last, and after them the
--- common blocks
+-- The GOT as a piece, where there is one: it may be written, has bytes in the file, and stands on a multiple of 8. Its
+-- number is that of the one section of an object behind those that are loaded and the one that the blocks make.
+abbrev pub got_header : ℕ → SectionHeader
+got_header size = record {
+  sh_name = 0;
+  sh_type = SHT_PROGBITS;
+  sh_flags = SHF_WRITE + SHF_ALLOC;
+  sh_addr = 0;
+  sh_offset = 0;
+  sh_size = size;
+  sh_link = 0;
+  sh_info = 0;
+  sh_addralign = 8;
+  sh_entsize = 0;
+}
+
+abbrev pub got_number : List LoadedObject → ℕ
+got_number objects = length objects + 1
+
+abbrev pub got_piece : List LoadedObject → Piece
+got_piece objects = record {
+  object = got_number objects;
+  section = 0;
+  name = [];
+  header = got_header (got_size objects);
+  size = got_size objects;
+  align = 8;
+  bytes = [];
+}
+
+abbrev pub got_pieces : List LoadedObject → List Piece
+got_pieces objects = cond (has_got objects) (got_piece objects ∷ []) []
+
+-- all pieces and the GOT, in the order of their numbers
+abbrev pub laid_out : List LoadedObject → List Piece
+laid_out objects = pieces objects ++ got_pieces objects
+
+-- the pieces of each segment, in the order in which they stand; in RW those with bytes, the GOT, those without bytes, and
+-- the common blocks
 abbrev pub is_read_only : Piece → Bool
 is_read_only p = not (is_writable p.header) && not (is_executable p.header)
 
@@ -59,7 +101,8 @@ code_pieces objects = grouped (filter is_code (kept_sections objects))
 
 abbrev pub data_pieces : List LoadedObject → List Piece
 data_pieces objects =
-    grouped (filter is_data (kept_sections objects)) ++ (grouped (filter is_zero (kept_sections objects)) ++ block_pieces objects)
+    grouped (filter is_data (kept_sections objects))
+    ++ (got_pieces objects ++ (grouped (filter is_zero (kept_sections objects)) ++ block_pieces objects))
 
 -- the program headers: PT_LOAD of R, of RX and of RW where a nonempty piece is there, PT_GNU_STACK
 abbrev pub is_nonempty : Piece → Bool
@@ -110,9 +153,35 @@ own_places base objects ps = map (λ p. record { at = own_address base objects p
 abbrev pub own_in_load_order : ℕ → List LoadedObject → List Placed
 own_in_load_order base objects = own_places base objects (pieces objects)
 
+-- all of them, and the GOT
+abbrev pub own_laid_out : ℕ → List LoadedObject → List Placed
+own_laid_out base objects = own_places base objects (laid_out objects)
+
+-- the GOT at its own address, with the slots behind its first word
+abbrev pub got_line_of : ℕ → List LoadedObject → GotLine
+got_line_of base objects = record { address = own_address base objects (got_piece objects); size = got_size objects }
+
+abbrev pub own_got : ℕ → List LoadedObject → Option GotLine
+own_got base objects = cond (has_got objects) (Some (got_line_of base objects)) None
+
+abbrev pub slot_at : ℕ → Request → SlotRow
+slot_at a q = record { address = a; kind = q.kind; target = q.target }
+
+abbrev pub slots_from : ℕ → List Request → List SlotRow
+slots_from a [] = []
+slots_from a (q ∷ qs) = slot_at a q ∷ slots_from (a + 8) qs
+
+abbrev pub own_slots : ℕ → List LoadedObject → List SlotRow
+own_slots base objects = slots_from (own_address base objects (got_piece objects) + 8) (slots objects)
+
 -- where things are by the own layout
 abbrev pub own_where : ℕ → List LoadedObject → Where
-own_where base objects = record { base = base; placed = own_in_load_order base objects }
+own_where base objects = record {
+  base = base;
+  placed = own_in_load_order base objects;
+  got = own_got base objects;
+  slots = own_slots base objects;
+}
 
 -- a segment runs to the greatest end of its nonempty pieces; its file part to that of those with bytes
 abbrev pub greatest_end : (Placed → Bool) → ℕ → List Placed → ℕ

@@ -1,10 +1,11 @@
 -- Where pieces lie in memory, and which rights they have there (System V gABI 5, "Program Loading"; the
 -- base, the page rule and the gaps are the profile's).
 use Rattle.std.specs.Prelude.{◌≡◌, ℕ, ◌+◌, ◌%◌, ◌^◌, ◌<◌, ◌≤◌, ◌==◌, ◌&&◌, Bool, true, false, cond, List, [], ◌∷◌, ◌++◌, Option, Some, None, All, AllPairs, Any, find, length, map, option_map, unwrap_or, slice_index_or}
+use Rattle.std.specs.Option.{option_map_or}
 use Rattle.std.specs.Str.{bytes_eq}
 use Rattle.elf_model.specs.Commons.{Block, block_piece}
 use Rattle.elf_model.specs.Pieces.{Piece, piece_rights, has_bytes, same_output}
-use Rattle.elf_model.specs.MapRecord.{CommonRow, MapRecord, PlaceRow}
+use Rattle.elf_model.specs.MapRecord.{CommonRow, MapRecord, PlaceRow, SlotRow}
 use Rattle.elf_model.specs.MemoryImage.{loads, first_address, headers_size, Encloses}
 use Rattle.elf_model.specs.Resolution.{SymbolOf, is_absolute}
 use Rattle.elf_model.specs.declared.link_map.GotLine.{GotLine}
@@ -16,10 +17,20 @@ pub record Placed : Type 0 where
   pub at : ℕ
   pub piece : Piece
 
--- where things are: the base, and all pieces at their addresses, the kept sections and the common blocks
+-- where things are: the base, all pieces at their addresses, the kept sections and the common blocks, and the GOT, where
+-- there is one, with its slots
 pub record Where : Type 0 where
   pub base : ℕ
   pub placed : List Placed
+  pub got : Option GotLine
+  pub slots : List SlotRow
+
+-- where the GOT begins and ends, 0 without one
+abbrev pub got_start : Option GotLine → ℕ
+got_start got = option_map_or (λ g. g.address) got 0
+
+abbrev pub got_end : Option GotLine → ℕ
+got_end got = option_map_or (λ g. g.address + g.size) got 0
 
 -- the kept sections at the addresses that a map's place lines give, the k-th line for the k-th section
 abbrev pub placed_by : List PlaceRow → List Piece → List Placed

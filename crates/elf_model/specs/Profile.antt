@@ -1,15 +1,13 @@
 -- What this version links: the one predicate that holds back the rest; later versions drop conditions from
--- it. The second clause of a right link and the phases of the causes speak of it; and the seventh and the eighth
--- clause, which ask for no GOT and no PT_TLS, lean on it.
-use Rattle.std.specs.Prelude.{◌≡◌, ◌≢◌, ◌⊎◌, ℕ, ◌≤◌, ◌==◌, ◌&&◌, Bool, true, false, not, List, [], ◌∷◌, None, All, codes, drop, filter, length, map, nat_eq, slice_index_or, unwrap_or}
-use Rattle.std.specs.List.{flat_map, list_any, starts_with}
-use Rattle.elf_model.specs.LinkerNames.{is_later_name}
+-- it. The second clause of a right link and the phases of the causes speak of it; and the eighth clause, which asks for
+-- no PT_TLS, and the value of a slot lean on it.
+use Rattle.std.specs.Prelude.{◌≡◌, ◌≢◌, ◌⊎◌, ℕ, ◌≤◌, ◌==◌, ◌&&◌, Bool, true, false, List, [], ◌∷◌, All, codes, drop, length, nat_eq}
+use Rattle.std.specs.List.{list_any, starts_with}
 use Rattle.elf_model.specs.Loading.{LoadedObject}
-use Rattle.elf_model.specs.ObjectFile.{name_of_section, null_symbol, rela_symbol, rela_type, relas_of, section, sections, symbol_name, symbols}
+use Rattle.elf_model.specs.ObjectFile.{name_of_section, rela_type, relas_of, section, sections, symbols}
 use Rattle.elf_model.specs.Pieces.{is_alloc, is_thread_local}
-use Rattle.elf_model.specs.Relocation.{is_some_kind}
-use Rattle.elf_model.specs.Resolution.{binding, chosen, symbol_type}
-use Rattle.elf_model.specs.declared.constants.TheConstants.{SHT_RELA, STB_LOCAL, STT_TLS}
+use Rattle.elf_model.specs.Resolution.{symbol_type}
+use Rattle.elf_model.specs.declared.constants.TheConstants.{SHT_RELA, STT_TLS}
 use Rattle.elf_model.specs.declared.records.Rela.{Rela}
 use Rattle.elf_model.specs.declared.records.SectionHeader.{SectionHeader}
 use Rattle.elf_model.specs.declared.records.Symbol.{Symbol}
@@ -35,10 +33,9 @@ IsNumberedArray name = IsNumbered (codes ".init_array.") name ⊎ IsNumbered (co
 pub record IsPlainSymbol (s : Symbol) : Type 0 where
   pub not_thread_local : symbol_type s ≢ STT_TLS
 
--- the types of the known kinds whose value is made of the GOT (3, 9, 25 to 29, 41, 42) or of the offset from the
--- thread pointer (18, 22, 23)
+-- the types of the known kinds whose value is made of the offset from the thread pointer
 abbrev pub later_types : List ℕ
-later_types = 3 ∷ 9 ∷ 18 ∷ 22 ∷ 23 ∷ 25 ∷ 26 ∷ 27 ∷ 28 ∷ 29 ∷ 41 ∷ 42 ∷ []
+later_types = 18 ∷ 22 ∷ 23 ∷ []
 
 abbrev pub is_later_type : ℕ → Bool
 is_later_type t = list_any (λ k. k == t) later_types
@@ -64,29 +61,6 @@ pub record IsPlainObject (bytes : List ℕ) : Type 0 where
   pub plain_sections : All (IsPlainSection bytes) (sections bytes)
   pub plain_symbols : All IsPlainSymbol (symbols bytes)
 
--- the names for which relocations of an object's sections with SHF_ALLOC use symbols that aren't LOCAL, where the
--- linker is to define them in a later version
-abbrev pub used_symbol : List ℕ → Rela → Symbol
-used_symbol bytes r = slice_index_or (symbols bytes) (rela_symbol r) null_symbol
-
-abbrev pub used_name : List ℕ → Rela → List ℕ
-used_name bytes r = unwrap_or (symbol_name bytes (rela_symbol r)) []
-
-abbrev pub uses_later_name : List ℕ → Rela → Bool
-uses_later_name bytes r =
-    is_some_kind r && (not (binding (used_symbol bytes r) == STB_LOCAL) && is_later_name (used_name bytes r))
-
-abbrev pub later_names_in : List ℕ → SectionHeader → List (List ℕ)
-later_names_in bytes h = map (used_name bytes) (filter (uses_later_name bytes) (relas_of bytes h))
-
-abbrev pub later_names : List ℕ → List (List ℕ)
-later_names bytes = flat_map (later_names_in bytes) (filter (is_alloc_rela bytes) (sections bytes))
-
--- an object uses no such name that no object defines
-pub record HasPlainNames (objects : List LoadedObject) (o : LoadedObject) : Type 0 where
-  pub defined : All (λ name. chosen objects name ≢ None) (later_names o.bytes)
-
--- plain objects only, with names that objects define
+-- plain objects only
 pub record IsInProfile (objects : List LoadedObject) : Type 0 where
   pub plain : All (λ o. IsPlainObject o.bytes) objects
-  pub names : All (HasPlainNames objects) objects

@@ -1,7 +1,7 @@
 -- Relocations: the kinds, which entries are kept, what they refer to, their values and their fields (AMD64
 -- psABI 4.4, "Relocation"; ELF Handling For Thread-Local Storage for the kinds of the thread offset; the
 -- ranges of all kinds but 32 and 32S are the profile's).
-use Rattle.std.specs.Prelude.{◌≡◌, ◌≢◌, ◌⊎◌, ℕ, ℤ, pos, ◌+ℤ◌, ◌-ℤ◌, unsigned_abs, ◌+◌, ◌-◌, ◌*◌, ◌^◌, ◌<◌, ◌≤◌, ◌==◌, ◌&&◌, Bool, true, false, not, cond, List, [], ◌∷◌, ◌++◌, Option, Some, None, IsSome, IsSomeAnd, IfSome, All, AllPairs, codes, filter, find, map, nat_le, nat_lt, option_map, slice_index_or, unwrap_or}
+use Rattle.std.specs.Prelude.{◌≡◌, ◌≢◌, ◌⊎◌, ℕ, ℤ, pos, ◌+ℤ◌, ◌-ℤ◌, unsigned_abs, ◌+◌, ◌-◌, ◌^◌, ◌<◌, ◌≤◌, ◌==◌, ◌&&◌, Bool, true, false, not, cond, List, [], ◌∷◌, ◌++◌, Option, Some, None, IsSome, IsSomeAnd, IfSome, All, AllPairs, codes, filter, find, map, nat_le, nat_lt, option_map, slice_index_or, unwrap_or}
 use Rattle.std.specs.Int.{int_rem_euclid}
 use Rattle.std.specs.Option.{option_map_or}
 use Rattle.std.specs.Str.{bytes_eq}
@@ -9,8 +9,7 @@ use Rattle.elf_model.specs.Loading.{LoadedObject, is_dropped}
 use Rattle.elf_model.specs.ObjectFile.{null_symbol, rela_symbol, rela_type, relas_of, section, section_name, sections, symbols}
 use Rattle.elf_model.specs.Pieces.{AreOneOutput, is_alloc, is_kept}
 use Rattle.elf_model.specs.LinkerNames.{named_output}
-use Rattle.elf_model.specs.Meaning.{Common, Linker, Meaning, Symbol, is_in_thread_storage, meaning, meaning_size, meaning_value}
-use Rattle.elf_model.specs.Placement.{Where, section_address}
+use Rattle.elf_model.specs.Meaning.{Common, Linker, Meaning, Symbol, is_in_thread_storage, meaning}
 use Rattle.elf_model.specs.Resolution.{SymbolOf, binding, is_undefined, section_of, symbol_of}
 use Rattle.elf_model.specs.declared.bound.Bound.{Bound}
 use Rattle.elf_model.specs.declared.bound.Bound.TheVariants.{OutputEnd, OutputStart}
@@ -183,8 +182,7 @@ RefersToMixed objects r = IsSomeAnd (definition_of objects r.symbol) (IsMixed ob
 
 -- Values.
 
--- what the letters of the formulas stand for, but GT, which is G of its own slot. There is no GOT and no thread
--- storage in the profile, and no kind that speaks of them.
+-- what the letters of the formulas stand for, but GT, which is G of its own slot (RelocationValues says of a relocation)
 pub record Terms : Type 0 where
   pub s : ℕ
   pub a : ℤ
@@ -209,24 +207,8 @@ whole_value GT+GOT+A-P x = (pos (x.g + x.got) +ℤ x.a) -ℤ pos x.p
 abbrev pub modulo_64 : ℤ → ℕ
 modulo_64 v = unsigned_abs (int_rem_euclid v (pos (2 ^ 64)))
 
-abbrev pub terms_of : List LoadedObject → Where → Relocation → Terms
-terms_of objects w r = record {
-  s = unwrap_or (option_map (meaning_value w) (definition_of objects r.symbol)) 0;
-  a = r.entry.r_addend;
-  p = section_address w.placed r.object r.section + r.entry.r_offset;
-  g = 0;
-  got = 0;
-  z = unwrap_or (option_map meaning_size (definition_of objects r.symbol)) 0;
-  t = pos 0;
-}
-
 abbrev pub relocation_kind : Relocation → Option Kind
 relocation_kind r = kind_of (rela_type r.entry)
-
--- the value of a relocation, 0 for one of no kind
-abbrev pub value_of : List LoadedObject → Where → Relocation → ℕ
-value_of objects w r =
-    unwrap_or (option_map (λ k. modulo_64 (whole_value k.formula (terms_of objects w r))) (relocation_kind r)) 0
 
 -- a value of 64 bits fits a field of n bits
 abbrev pub IsSigned : ℕ → ℕ → Type 0
@@ -237,9 +219,6 @@ IsInRange Always n v = Unit {0}
 IsInRange Signed n v = IsSigned n v
 IsInRange Unsigned n v = v < 2 ^ n
 IsInRange Either n v = (v < 2 ^ n) ⊎ IsSigned n v
-
-abbrev pub Fits : List LoadedObject → Where → Relocation → Type 0
-Fits objects w r = IfSome (relocation_kind r) (λ k. IsInRange k.range (8 * k.width) (value_of objects w r))
 
 -- Fields.
 
@@ -284,6 +263,3 @@ pub record IsLawfulRelocation (objects : List LoadedObject) (r : Relocation) : T
 pub record AreLawfulRelocations (objects : List LoadedObject) : Type 0 where
   pub each : All (IsLawfulRelocation objects) (relocations objects)
   pub apart : AllPairs AreFieldsApart (relocations objects)
-
-abbrev pub AllFit : List LoadedObject → Where → Type 0
-AllFit objects w = All (Fits objects w) (relocations objects)

@@ -1,16 +1,16 @@
 -- What a right link is: thirteen clauses on the files, the words, the image and the map (System V gABI 4 and
 -- 5; which links are in the profile, and what fills gaps, is the profile's). None of them says how a linker
 -- lays anything out.
-use Rattle.std.specs.Prelude.{◌≡◌, ℕ, ◌+◌, ◌<◌, ◌≤◌, ◌==◌, true, cond, List, [], ◌∷◌, Option, Some, None, Ok, All, Any, find, length, map, option_map, slice_index, IsSomeAnd, Bool, ◌&&◌, ◌++◌}
+use Rattle.std.specs.Prelude.{◌≡◌, ℕ, ◌+◌, ◌<◌, ◌≤◌, ◌==◌, true, cond, List, [], ◌∷◌, Option, Some, Ok, All, Any, find, length, map, option_map, slice_index, count_by, is_some, IfSome, IsSomeAnd, Bool, ◌&&◌, ◌++◌}
+use Rattle.std.specs.List.{list_any}
 use Rattle.std.specs.Str.{bytes_eq}
 use Rattle.elf_model.specs.Command.{Plan, command_of}
 use Rattle.elf_model.specs.Files.{File}
 use Rattle.elf_model.specs.Listing.{listed}
 use Rattle.elf_model.specs.Loading.{LoadedObject, is_dropped, loaded_objects, AreObjects, HaveLawfulGroups}
 use Rattle.elf_model.specs.Commons.{Block, block_named, blocks}
-use Rattle.elf_model.specs.MapRecord.{CommonRow, MapRecord, ObjectRow, PlaceRow, SymbolRow}
+use Rattle.elf_model.specs.MapRecord.{CommonRow, MapRecord, ObjectRow, PlaceRow, SlotRow, SymbolRow}
 use Rattle.elf_model.specs.MapText.{text, IsMap}
-use Rattle.elf_model.specs.Meaning as Meaning
 use Rattle.elf_model.specs.Meaning.{Meaning, Symbol, meaning_name, meaning_value, object_meaning}
 use Rattle.elf_model.specs.MemoryImage.{IsImage, Cell, memory_of, loads, thread_blocks, Encloses}
 use Rattle.elf_model.specs.Opening.{AreArchives, AreFilesThere, HaveIndexes, opened}
@@ -19,11 +19,14 @@ use Rattle.elf_model.specs.Pieces.{Piece, is_alloc, kept_sections, AreLawfulKind
 use Rattle.elf_model.specs.Placement.{Placed, Where, is_common_row_of, placed_blocks, placed_by, things, got_things, Covers, IsPlaced, HasRights}
 use Rattle.elf_model.specs.Profile.{IsInProfile}
 use Rattle.elf_model.specs.Records.{file_header}
-use Rattle.elf_model.specs.Relocation.{AllFit, AreLawfulRelocations}
-use Rattle.elf_model.specs.Resolution.{SymbolOf, is_weak, AreSoundCommons, AreUnique, AreSoundSymbols, IsEntry}
+use Rattle.elf_model.specs.Relocation.{AreLawfulRelocations}
+use Rattle.elf_model.specs.RelocationValues.{AllFit}
+use Rattle.elf_model.specs.Resolution.{is_weak, AreSoundCommons, AreUnique, AreSoundSymbols, IsEntry}
+use Rattle.elf_model.specs.Slots.{Request, got_bytes, has_got, is_slot_of, requests, same_request, size_with}
 use Rattle.elf_model.specs.WantedBytes.{wanted_byte}
 use Rattle.elf_model.specs.declared.link_map.Definition.{Definition}
 use Rattle.elf_model.specs.declared.link_map.DropLine.{DropLine}
+use Rattle.elf_model.specs.declared.link_map.GotLine.{GotLine}
 use Rattle.elf_model.specs.declared.link_map.Definition.TheVariants.{Common, Linker, Strong, Weak}
 use Rattle.elf_model.specs.declared.records.ProgramHeader.{ProgramHeader}
 use Rattle.elf_model.specs.declared.records.SectionHeader.{SectionHeader}
@@ -48,7 +51,7 @@ abbrev pub placed_of : Subject → List Placed
 placed_of s = sections_of s ++ placed_blocks s.map.commons (blocks (objects_of s))
 
 abbrev pub where_of : Subject → Where
-where_of s = record { base = s.plan.base; placed = placed_of s }
+where_of s = record { base = s.plan.base; placed = placed_of s; got = s.map.got; slots = s.map.slots }
 
 abbrev pub things_of : Subject → List Thing
 things_of s = things s.image s.map (placed_of s)
@@ -128,10 +131,28 @@ pub record AreSectionsListed (s : Subject) : Type 0 where
 -- C5. Pieces, GOT and headers are aligned, within the addresses, and apart (`IsPlaced`).
 -- C6. Each lies in a segment that has exactly its rights (`HasRights`).
 
--- C7. The GOT stands exactly where a relocation asks for it; no kind of the profile asks for one.
+-- C7. The GOT stands exactly where a relocation asks for one. It has a slot for each request of a relocation, one for
+-- all that are the same, and no other; the slots fill it behind its first word, and memory holds word and slots.
+abbrev pub byte_at : List ℕ → ℕ → Option ℕ
+byte_at image a = option_map (λ c. c.byte) (memory_of image a)
+
+abbrev pub HasSlot : List SlotRow → List LoadedObject → Request → Type 0
+HasSlot rows objects q = count_by (is_slot_of q) rows ≡ cond (list_any (same_request q) (requests objects)) 1 0
+
+-- slots stand one behind the other, from an address on
+abbrev pub StandFrom : ℕ → List SlotRow → Type 0
+StandFrom a [] = Unit {0}
+StandFrom a (row ∷ rows) = (row.address ≡ a) × StandFrom (a + 8) rows
+
+pub record HoldsGot (objects : List LoadedObject) (w : Where) (image : List ℕ) (got : GotLine) : Type 0 where
+  pub size : got.size ≡ size_with (length w.slots)
+  pub places : StandFrom (got.address + 8) w.slots
+  pub bytes : (k : ℕ) → k < got.size → byte_at image (got.address + k) ≡ Some (slice_index (got_bytes objects w) k)
+
 pub record IsGotRight (s : Subject) : Type 0 where
-  pub got : s.map.got ≡ None
-  pub slots : s.map.slots ≡ []
+  pub present : is_some s.map.got ≡ has_got (objects_of s)
+  pub slots : (q : Request) → HasSlot s.map.slots (objects_of s) q
+  pub held : IfSome s.map.got (HoldsGot (objects_of s) (where_of s) s.image)
 
 -- C8. PT_TLS stands exactly where thread-local pieces do; none is in the profile.
 abbrev pub IsThreadBlockRight : Subject → Type 0
@@ -143,9 +164,6 @@ pub record AreRelocationsRight (s : Subject) : Type 0 where
   pub fits : AllFit (objects_of s) (where_of s)
 
 -- C10. Memory holds each piece: at each of its addresses the byte that is wanted there.
-abbrev pub byte_at : List ℕ → ℕ → Option ℕ
-byte_at image a = option_map (λ c. c.byte) (memory_of image a)
-
 pub record HoldsPiece (objects : List LoadedObject) (w : Where) (image : List ℕ) (q : Placed) : Type 0 where
   pub bytes : (k : ℕ) → k < q.piece.size → byte_at image (q.at + k) ≡ Some (wanted_byte objects w q.piece k)
 

@@ -1,21 +1,16 @@
--- The linker's names of later versions that objects use, and sets of the names of definitions.
+-- The linker's names that relocations use, and sets of the names of definitions.
 use Rattle.std.specs.Prelude.{◌≡◌, ℕ, ◌&&◌, ◌||◌, ◌++◌, Bool, not, is_some, List, [], ◌∷◌, Option, option_map, option_to_list, true}
 use Rattle.std.specs.BTreeSet.{BTreeSet, contains_by}
 use Rattle.std.specs.Borrow.{Bor}
 use Rattle.std.specs.Cmp.Lexicographic.{slice_cmp}
-use Rattle.std.specs.List.{flat_map, list_any}
+use Rattle.std.specs.List.{list_any}
 use Rattle.std.specs.Ordering.{nat_cmp}
 use Rattle.std.specs.Str.{bytes_eq}
 use Rattle.elf_model.specs.LinkerNames.{bound_of}
 use Rattle.elf_model.specs.Loading.{LoadedObject}
 use Rattle.elf_model.specs.Meaning.{Linker, Meaning}
-use Rattle.elf_model.specs.Profile.{later_names}
 use Rattle.elf_model.specs.Relocation.{Relocation, is_local}
 use Rattle.elf_model.specs.Resolution.{SymbolOf, chosen, has_name}
-
--- these names, in load order
-abbrev pub used_names : List LoadedObject → List (List ℕ)
-used_names objects = flat_map (λ o. later_names o.bytes) objects
 
 -- whether a set has a name
 abbrev pub is_among : BTreeSet (Bor (List ℕ)) → List ℕ → Bool

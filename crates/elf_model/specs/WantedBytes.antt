@@ -4,7 +4,8 @@ use Rattle.byteview.specs.Numbers.{le_bytes}
 use Rattle.elf_model.specs.Loading.{LoadedObject}
 use Rattle.elf_model.specs.Pieces.{Piece}
 use Rattle.elf_model.specs.Placement.{Where}
-use Rattle.elf_model.specs.Relocation.{Relocation, is_in_field, relocations, value_of, width_of}
+use Rattle.elf_model.specs.Relocation.{Relocation, is_in_field, relocations, width_of}
+use Rattle.elf_model.specs.RelocationValues.{value_of}
 
 -- byte k of a piece: where it lies in a relocation's field, the value's byte there; else the input's, and 0
 -- where the input has none

@@ -1,5 +1,4 @@
 pub mod Entries
-mod LaterSymbols
 mod PowersOfTwo
 mod SectionLemmas
 pub mod Faults

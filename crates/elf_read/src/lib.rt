@@ -4,7 +4,6 @@
 
 mod groups;
 mod header;
-mod names;
 mod object;
 mod profile;
 mod relas;
@@ -13,7 +12,6 @@ mod symbols;
 
 pub use elf_model::ObjFault;
 pub use groups::Group;
-pub use names::later_names;
 pub use object::Object;
 pub use profile::is_plain_object;
 pub use sections::is_power_of_two;

@@ -55,18 +55,11 @@ fn is_numbered_array(name: &[u8]) -> bool
     is_numbered(b".init_array.", name) || is_numbered(b".fini_array.", name)
 }
 
-/// The types of the known kinds of relocations whose value is made of the GOT or of the offset from the thread
-/// pointer.
-static LATER_TYPES: [u32; 12] = [3, 9, 18, 22, 23, 25, 26, 27, 28, 29, 41, 42];
-
+/// The types of the known kinds of relocations whose value is made of the offset from the thread pointer.
 fn is_later_type(kind: u32) -> bool
     ensures { result ≡ is_later_type kind }
 {
-    // The plain types are by far the most frequent.
-    match kind {
-        1 | 2 | 4 => false,
-        _ => LATER_TYPES.contains(&kind),
-    }
+    kind == 18 || kind == 22 || kind == 23
 }
 
 fn is_plain_rela(entry: &Rela) -> bool
@@ -92,7 +85,7 @@ fn relocates_alloc(object: &Object<'_>, header: &SectionHeader) -> bool
 }
 
 /// The entries of section `i`, which has a header of type RELA.
-pub fn entries_at<'o>(object: &'o Object<'_>, i: usize, header: &SectionHeader) -> &'o [Rela]
+fn entries_at<'o>(object: &'o Object<'_>, i: usize, header: &SectionHeader) -> &'o [Rela]
     requires there { slice_get (sections object.now) i ≡ Some header.now }
     requires rela { header.now.sh_type ≡ 4 }
     ensures { result.now ≡ relas_of object.entry.now header.now }
@@ -112,7 +105,7 @@ fn has_plain_relas(object: &Object<'_>, i: usize, header: &SectionHeader) -> boo
 }
 
 /// Whether a section holds relocations of one with SHF_ALLOC, which may be dropped.
-pub fn is_alloc_rela(object: &Object<'_>, header: &SectionHeader) -> bool
+fn is_alloc_rela(object: &Object<'_>, header: &SectionHeader) -> bool
     ensures value { result ≡ is_alloc_rela object.now header.now }
     ensures rela { result ≡ true → header.now.sh_type ≡ 4 }
 {

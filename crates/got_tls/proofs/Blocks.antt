@@ -7,7 +7,7 @@ use Rattle.std.proofs.lemmas.Nat.{pow_pos}
 use Rattle.std.proofs.lemmas.List.Elements.{All-append, All-cons, All-contains, All-head, All-nil, All-tail, All-weaker}
 use Rattle.elf_model.specs.Loading.{AreObjects, LoadedObject}
 use Rattle.elf_model.specs.ObjectFile.{IsAlignment}
-use Rattle.elf_model.specs.OwnLayout.{own_placed, placed_end}
+use Rattle.elf_model.specs.OwnLayout.{got_pieces, laid_out, own_placed, placed_end}
 use Rattle.elf_model.specs.Commons.{block_pieces, pieces}
 use Rattle.elf_model.specs.Pieces.{Piece, is_thread_local, kept_sections}
 use Rattle.elf_model.specs.Placement.{Placed}
@@ -15,6 +15,7 @@ use Rattle.elf_model.proofs.Blocks.{block_pieces-each}
 use Rattle.elf_model.proofs.Listed.{All-unmap, Contains-cons_cases, Contains-from_filter, Contains-from_map, Contains-here, Contains-there}
 use Rattle.elf_model.proofs.Places.{All-ordered, own_placed_pieces}
 use Rattle.elf_model.proofs.PieceAlignments.{kept_alignments-each}
+use Rattle.elf_model.proofs.PieceNumbers.{got_pieces-each}
 use Rattle.got_tls.specs.ThreadStorage.{IsAligned, IsBlockOf, IsGreatest, IsLeast, block_of, greatest, is_thread_place, last_end, least, least_address, thread_block, thread_places}
 use Rattle.got_tls.specs.declared.thread_storage.TlsBlock.{TlsBlock}
 
@@ -104,10 +105,16 @@ pieces_lawful objects are =
     (kept_alignments-each IsLawfulAlignment lawful objects are))
     (block_pieces-each objects HasLawfulAlignment (λ k s c t. absurd (false≢true t)))
 
+laid_out_lawful : (objects : List LoadedObject) → AreObjects objects → All HasLawfulAlignment (laid_out objects)
+unfolding HasLawfulAlignment
+laid_out_lawful objects are =
+    All-append HasLawfulAlignment (pieces objects) (got_pieces objects) (pieces_lawful objects are)
+    (got_pieces-each objects HasLawfulAlignment (λ t. absurd (false≢true t)))
+
 placed_lawful : (base : ℕ) (objects : List LoadedObject) → AreObjects objects → All (λ q. HasLawfulAlignment q.piece) (own_placed base objects)
 placed_lawful base objects are =
     All-unmap HasLawfulAlignment (λ (q : Placed). q.piece) (own_placed base objects)
-    (subst (All HasLawfulAlignment) (sym (own_placed_pieces base objects)) (All-ordered HasLawfulAlignment objects (pieces_lawful objects are)))
+    (subst (All HasLawfulAlignment) (sym (own_placed_pieces base objects)) (All-ordered HasLawfulAlignment objects (laid_out_lawful objects are)))
 
 aligned_one : (base : ℕ) (objects : List LoadedObject) → AreObjects objects → (b : TlsBlock) → IsBlockOf (thread_places (own_placed base objects)) b → IsAligned b
 unfolding HasLawfulAlignment IsLawfulAlignment

@@ -1,4 +1,9 @@
+pub mod AskedOnce
 pub mod Blocks
 pub mod ExtentSteps
-pub mod NoSlots
+pub mod Keys
+pub mod KindRows
+pub mod LoadedObjects
 pub mod Offsets
+pub mod SameRequests
+pub mod SlotPlaces

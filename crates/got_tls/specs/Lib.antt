@@ -1,4 +1,5 @@
+pub mod Asking
 pub mod Extents
-pub mod Slots
+pub mod Kinds
 pub mod ThreadStorage
 pub mod Views

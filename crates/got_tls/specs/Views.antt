@@ -1,17 +1,36 @@
 -- Slots as the definitions see them.
-use Rattle.std.specs.Prelude.{List, map}
+use Rattle.std.specs.Prelude.{ℕ, List, map}
 use Rattle.elf_model.specs.MapRecord.{TargetRow, OfName, OfLocal}
-use Rattle.elf_model.specs.declared.references.Target.{Target}
-use Rattle.elf_model.specs.declared.references.Target.TheVariants as target
-use Rattle.got_tls.specs.Slots.{Request}
+use Rattle.elf_model.specs.declared.link_map.SlotKind.{SlotKind}
+use Rattle.elf_model.specs.declared.link_map.SlotKind.TheVariants as kind
+use Rattle.elf_model.specs.Slots.{Request}
+use Rattle.got_tls.specs.Asking.{Wants}
+use Rattle.got_tls.specs.declared.asking.Asked.{Asked}
+use Rattle.got_tls.specs.declared.slot_table.Content.{Content}
+use Rattle.got_tls.specs.declared.slot_table.Content.TheVariants as content
+use Rattle.got_tls.specs.declared.slot_table.Owner.{Owner}
+use Rattle.got_tls.specs.declared.slot_table.Owner.TheVariants as owner
 use Rattle.got_tls.specs.declared.slot_table.Slot.{Slot}
 
-abbrev pub target_view : Target → TargetRow
-target_view (target.Name name) = OfName name.now
-target_view (target.Local symbol) = OfLocal symbol.object.0 symbol.symbol
+abbrev pub kind_view : Content → SlotKind
+kind_view content.Value = kind.Value
+kind_view content.Thread = kind.Thread
+
+abbrev pub owner_view : Owner → TargetRow
+owner_view (owner.Name name) = OfName name.now
+owner_view (owner.Local object symbol) = OfLocal object symbol
 
 abbrev pub slot_view : Slot → Request
-slot_view s = record { kind = s.kind; target = target_view s.target }
+slot_view s = record { kind = kind_view s.content; target = owner_view s.owner }
 
 abbrev pub slot_views : List Slot → List Request
 slot_views ss = map slot_view ss
+
+-- the GOT: its size in bytes, and its slots
+pub record Got : Type 0 where
+  pub got : ℕ
+  pub slots : List Request
+
+-- what was asked for
+abbrev pub wants : Asked → Wants
+wants a = record { got = a.got; slots = slot_views a.slots.keys }

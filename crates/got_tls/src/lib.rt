@@ -3,11 +3,15 @@
 //! Thread-Local Storage, variant II).
 #![tactic(auto)]
 
+mod asking;
 mod extents;
+mod kinds;
 mod requests;
 mod slot_table;
 mod thread_storage;
+mod wanted;
 
-pub use requests::slots;
+pub use requests::target_of;
 pub use slot_table::{Slot, Slots};
 pub use thread_storage::{TlsBlock, tls_block, tp_offset};
+pub use wanted::slots;

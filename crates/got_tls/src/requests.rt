@@ -1,35 +1,87 @@
-//! Which slots of the GOT the kept relocations of loaded objects ask for.
-ghost use Rattle.std.specs.Prelude.{◌≡◌, All, IfOk};
-ghost use Rattle.elf_model.specs.Profile.{HasPlainNames, IsPlainObject};
-ghost use Rattle.search.specs.Views.{loaded_views};
-ghost use Rattle.got_tls.specs.Slots as wanted;
-ghost use Rattle.got_tls.specs.Views.{slot_views};
+//! What one relocation asks of the GOT.
+ghost use Rattle.std.specs.Prelude.{◌≡◌, ◌==◌, [], option_map, slice_index_or, unwrap_or};
+ghost use Rattle.elf_model.specs.ObjectFile.{null_symbol, symbol_name, symbols};
+ghost use Rattle.elf_model.specs.Relocation.{relocation_of, symbol_at};
+ghost use Rattle.elf_model.specs.Resolution.{binding};
+ghost use Rattle.elf_model.specs.Slots as wanted;
+ghost use Rattle.search.specs.Views.{loaded_view};
+ghost use Rattle.resolve.specs.Views.{target_view};
+ghost use Rattle.got_tls.specs.Asking.{request_at};
+ghost use Rattle.got_tls.specs.Views.{slot_view};
 
-use crate::slot_table::Slots;
+use crate::kinds::{ask_of, asks_of_got, slot_asked};
+use crate::slot_table::Slot;
+use elf_model::{ObjectId, Rela, STB_LOCAL, SymbolRef, Target};
+use elf_read::Object;
 use resolve::Resolved;
 use search::Loaded;
-use std::alloc::{AllocError, Global};
 
-/// The GOT's size and its slots. Plain objects, with names that objects define, ask for none: no kind of
-/// the profile has a slot or speaks of the GOT (docs/PROFILE.md).
-///
-/// # Errors
-///
-/// Only where memory is refused; none is taken yet.
-#[tactic(auto, using(crate::proofs::NoSlots::no_slots, crate::proofs::NoSlots::no_size))]
-pub fn slots<'a>(
-    alloc: Global,
-    objects: &[Loaded<'a>],
-    resolved: &Resolved<'_, 'a>,
-) -> Result<Slots<'a>, AllocError>
-    requires resolved { resolved.now ≡ loaded_views objects.now }
-    requires plain { All (λ o. IsPlainObject o.bytes) (loaded_views objects.now) }
-    requires names { All (HasPlainNames (loaded_views objects.now)) (loaded_views objects.now) }
-    ensures slots { IfOk result (λ s. slot_views s.slots.items ≡ wanted.slots (loaded_views objects.now)) }
-    ensures size { IfOk result (λ s. s.got ≡ wanted.got_size (loaded_views objects.now)) }
+/// Whether symbol `j` is LOCAL, as one that there isn't is taken to be.
+fn is_local(object: &Object<'_>, j: usize) -> bool
+    ensures { result ≡ (binding (slice_index_or (symbols object.now) j null_symbol) == 0) }
 {
-    Ok(Slots {
-        got: 0,
-        slots: Vec::new(alloc),
-    })
+    match object.symbols().get(j) {
+        Some(entry) => entry.st_info / 16 == STB_LOCAL,
+        None => true,
+    }
+}
+
+/// The name of symbol `j`, empty where there is no such symbol.
+fn name_of<'a>(object: &Object<'a>, j: usize) -> &'a [u8]
+    ensures { result.now ≡ unwrap_or (symbol_name object.now j) [] }
+{
+    match object.name(j) {
+        Some(name) => name,
+        None => &[],
+    }
+}
+
+/// The target of a relocation that names symbol `j` of the object that has a number: the symbol itself where that is
+/// LOCAL, else its name.
+pub fn target_of<'a>(number: usize, loaded: &Loaded<'a>, j: usize) -> Target<'a>
+    ensures { target_view result ≡ wanted.target_of (symbol_at number (loaded_view loaded.now) j) }
+{
+    if is_local(&loaded.object, j) {
+        return Target::Local(SymbolRef {
+            object: ObjectId(number as u64),
+            symbol: j as u64,
+        });
+    }
+    Target::Name(name_of(&loaded.object, j))
+}
+
+/// The slot that an entry of the object that has a number asks for; None where it asks for none.
+pub fn slot_of<'a>(number: usize, loaded: &Loaded<'a>, entry: &Rela) -> Option<Slot<'a>>
+    ensures { option_map slot_view result ≡ request_at number (loaded_view loaded.now) entry.now }
+{
+    let kind = slot_asked(ask_of(entry.kind()))?;
+    let target = target_of(number, loaded, entry.symbol() as usize);
+    Some(Slot::new(kind, &target))
+}
+
+/// The name of the GOT.
+const GOT_NAME: &[u8] = b"_GLOBAL_OFFSET_TABLE_";
+
+/// Whether symbol `j`, which isn't LOCAL, has the GOT's name, and no object defines that.
+fn names_got(resolved: &Resolved<'_, '_>, number: usize, loaded: &Loaded<'_>, j: usize) -> bool
+    ensures { result ≡ wanted.names_got resolved.now (symbol_at number (loaded_view loaded.now) j) }
+{
+    if is_local(&loaded.object, j) || name_of(&loaded.object, j) != GOT_NAME {
+        return false;
+    }
+    resolved.chosen(GOT_NAME).is_none()
+}
+
+/// Whether an entry of the object that has a number, which relocates the section `target`, asks for a GOT.
+pub fn asks_for_got(
+    resolved: &Resolved<'_, '_>,
+    number: usize,
+    loaded: &Loaded<'_>,
+    target: u64,
+    entry: &Rela,
+) -> bool
+    ensures { result ≡ wanted.asks_for_got resolved.now (relocation_of number (loaded_view loaded.now) target entry.now) }
+{
+    asks_of_got(ask_of(entry.kind()))
+        || names_got(resolved, number, loaded, entry.symbol() as usize)
 }

@@ -4,11 +4,10 @@ use Rattle.std.specs.Prelude.{All, AllPairs, map, nat_le, nat_lt}
 use Rattle.std.specs.List.{range_with_len}
 use Rattle.std.proofs.lemmas.Bool.{and_parts, false_from_ne_true, leb-true, ltb-true, true≢false}
 use Rattle.std.proofs.lemmas.List.Elements.{All-cons, All-head, All-nil, All-tail, All-weaker}
-use Rattle.elf_model.specs.ImageFile.{covers_address}
+use Rattle.elf_model.specs.ImageFile.{covers_address, piece_byte}
 use Rattle.elf_model.specs.Loading.{LoadedObject}
 use Rattle.elf_model.specs.OwnLayout.{placed_end}
 use Rattle.elf_model.specs.Placement.{Placed, Where}
-use Rattle.elf_model.specs.WantedBytes.{wanted_byte}
 use Rattle.elf_model.proofs.Pairs.{AllPairs-head, AllPairs-tail}
 use Rattle.elf_model.proofs.Running.{IsBehind}
 use Rattle.image_write.specs.Parts.{Rise, body_from, bytes_of, fill_byte, fill_run, is_written}
@@ -83,7 +82,7 @@ rise_of x to (q ∷ qs) order above pairs ends =
 -- the byte of each address is what its place wants, and the fill where none with bytes is
 module _ (objects : List LoadedObject) (placing : Where) (c : Code) (to : ℕ) (f : ℕ → ℕ) where
   abbrev pub Wants : Placed → Type 0
-  Wants q = is_written q ≡ true → (k : ℕ) → k < q.piece.size → f (q.at + k) ≡ wanted_byte objects placing q.piece k
+  Wants q = is_written q ≡ true → (k : ℕ) → k < q.piece.size → f (q.at + k) ≡ piece_byte objects placing q.piece k
 
   abbrev pub IsBare : ℕ → Placed → Type 0
   IsBare a q = is_written q ≡ true → covers_address a q ≡ false
@@ -101,7 +100,7 @@ module _ (objects : List LoadedObject) (placing : Where) (c : Code) (to : ℕ) (
   piece_here q w wants =
       let size : q.piece.size ≡ placed_end q - q.at = omega arith in
       let at : q.at + 0 ≡ q.at = omega arith in
-      map_agree (wanted_byte objects placing q.piece) (λ k. f (q.at + k)) 0 q.piece.size (λ k low high. sym (wants w k (omega (arith, high))))
+      map_agree (piece_byte objects placing q.piece) (λ k. f (q.at + k)) 0 q.piece.size (λ k low high. sym (wants w k (omega (arith, high))))
       ∙ (map_shifted f q.at 0 q.piece.size
       ∙ (ap (λ (x : ℕ). map f (range_with_len x q.piece.size)) at
       ∙ ap (λ (n : ℕ). map f (range_with_len q.at n)) size))

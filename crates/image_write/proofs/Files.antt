@@ -75,16 +75,15 @@ end_low base objects based good kinds fits hs to is_hs is_to =
 
 -- what the code puts, step by step
 pub file_is :
-    (r p : Basis) → p ≡ r → IsBase r.base → AreObjects r.objects → AreLawfulKinds r.objects → IsNotTooLarge r.base r.objects →
+    (r : Basis) → IsBase r.base → AreObjects r.objects → AreLawfulKinds r.objects → IsNotTooLarge r.base r.objects →
     (hs : List ProgramHeader) (qs : List Placed) (code : Code) (entry from to : ℕ) (name out mid new : List ℕ) →
     hs ≡ own_segments r.base r.objects → qs ≡ own_placed r.base r.objects → code ≡ code_part hs →
     from ≡ r.base + (64 + 56 * (length hs + 1)) → to ≡ r.base + file_end hs → own_entry r.base r.objects name ≡ entry →
     out ≡ [] → mid ≡ out ++ headers_of entry hs →
-    new ≡ mid ++ body_from p.objects (own_where p.base p.objects) code to from qs → new ≡ image_file r.base r.objects name
-file_is r p same based good kinds fits hs qs code entry from to name out mid new is_hs is_qs is_code is_from is_to is_entry is_out is_mid is_new =
+    new ≡ mid ++ body_from r.objects (own_where r.base r.objects) code to from qs → new ≡ image_file r.base r.objects name
+file_is r based good kinds fits hs qs code entry from to name out mid new is_hs is_qs is_code is_from is_to is_entry is_out is_mid is_new =
     let front : mid ≡ headers_of entry hs = is_mid ∙ ap (λ (bs : List ℕ). bs ++ headers_of entry hs) is_out in
     is_new
-    ∙ (ap (λ (bs : List ℕ). bs ++ body_from p.objects (own_where p.base p.objects) code to from qs) front
-    ∙ (ap (λ (b : Basis). headers_of entry hs ++ body_from b.objects (own_where b.base b.objects) code to from qs) same
+    ∙ (ap (λ (bs : List ℕ). bs ++ body_from r.objects (own_where r.base r.objects) code to from qs) front
     ∙ (ap (λ (c : Code). headers_of entry hs ++ body_from r.objects (own_where r.base r.objects) c to from qs) is_code
-    ∙ image_is r.base r.objects based good kinds fits hs qs entry from to name is_hs is_qs is_from is_to is_entry)))
+    ∙ image_is r.base r.objects based good kinds fits hs qs entry from to name is_hs is_qs is_from is_to is_entry))

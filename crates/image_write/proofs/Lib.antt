@@ -1,4 +1,5 @@
 pub mod Runs
+mod GotBytes
 pub mod BodySteps
 pub mod BodyBytes
 pub mod Fills

@@ -6,19 +6,20 @@ use Rattle.std.proofs.lemmas.Bool.{and_from, and_parts, cases_Bool, eqb-true, fa
 use Rattle.std.proofs.lemmas.List.Elements.{All-contains}
 use Rattle.std.proofs.lemmas.List.Folds.{list_any_none}
 use Rattle.elf_model.specs.Command.{IsBase}
-use Rattle.elf_model.specs.ImageFile.{covers_address, fill_at, is_code_part, own_byte}
+use Rattle.elf_model.specs.ImageFile.{covers_address, fill_at, is_code_part, own_byte, piece_byte}
 use Rattle.elf_model.specs.Loading.{AreObjects, LoadedObject}
-use Rattle.elf_model.specs.OwnLayout.{IsNotTooLarge, file_end, is_nonempty, own_headers_size, own_in_load_order, own_placed, own_segments, own_where, placed_end, placed_has_bytes}
+use Rattle.elf_model.specs.OwnLayout.{IsNotTooLarge, file_end, is_nonempty, own_headers_size, own_placed, own_segments, own_where, placed_end, placed_has_bytes}
 use Rattle.elf_model.specs.Pieces.{AreLawfulKinds}
 use Rattle.elf_model.specs.Placement.{Placed}
-use Rattle.elf_model.specs.WantedBytes.{wanted_byte}
 use Rattle.elf_model.specs.declared.records.ProgramHeader.{ProgramHeader}
 use Rattle.elf_model.proofs.Addresses.{maps-true}
 use Rattle.elf_model.proofs.Listed.{All-from_contains, Contains-here}
 use Rattle.elf_model.proofs.Places.{AreOwnPlaced, are_own_placed, own_ascending}
-use Rattle.own_link.proofs.Bytes.{byte_cases, covers-true, one_segment, piece_byte}
+use Rattle.own_link.proofs.Bytes as bytes
+use Rattle.own_link.proofs.Bytes.{byte_cases, covers-true, one_segment}
 use Rattle.own_link.proofs.Ends.{EndsFile, FileEndsBelow, file_end-holds, file_end-reached}
 use Rattle.own_link.proofs.ImageOwn.{good_segments, placed_in_parts}
+use Rattle.own_link.proofs.OwnThings.{own_stood}
 use Rattle.own_link.proofs.SegmentHeaders.{AreOwnSegments, IsGoodSegment}
 use Rattle.own_link.proofs.SegmentPieces.{ArePlacedIn, IsInPart, segment_of_piece}
 use Rattle.own_link.proofs.Segments.{AreGoodParts, own_parts, own_segments_are, part_header, segments_of}
@@ -38,11 +39,11 @@ module _ (base : ℕ) (objects : List LoadedObject) (based : IsBase base) (good 
   segments : AreOwnSegments base (own_headers_size objects) (own_segments base objects)
   segments = good_segments base objects kinds based fits stand
 
-  in_parts : ArePlacedIn (own_parts base objects) (own_placed base objects) (own_in_load_order base objects)
+  in_parts : ArePlacedIn (own_parts base objects) (own_placed base objects) (own_stood base objects)
   in_parts = placed_in_parts base objects kinds based fits stand
 
   in_segment : (q : Placed) → Contains (own_placed base objects) q → 0 < q.piece.size → IsInPart base (own_headers_size objects) (own_parts base objects) q
-  in_segment = segment_of_piece base (own_headers_size objects) (own_parts base objects) parts (own_placed base objects) (own_in_load_order base objects) in_parts
+  in_segment = segment_of_piece base (own_headers_size objects) (own_parts base objects) parts (own_placed base objects) (own_stood base objects) in_parts
 
   -- the header of the segment of a place is one of the own segments
   own_segment : (h : ProgramHeader) → Contains (segments_of base (own_parts base objects)) h → Contains (own_segments base objects) h
@@ -115,7 +116,7 @@ module _ (base : ℕ) (objects : List LoadedObject) (based : IsBase base) (good 
 
   -- a place without bytes in the file stands outside of the code
   abbrev wants : Placed → ℕ → ℕ
-  wants q k = wanted_byte objects (own_where base objects) q.piece k
+  wants q k = piece_byte objects (own_where base objects) q.piece k
 
   code_has_bytes :
       (q : Placed) → Contains (own_placed base objects) q → (a : ℕ) → q.at ≤ a → a < placed_end q → (h : ProgramHeader) →
@@ -147,7 +148,7 @@ module _ (base : ℕ) (objects : List LoadedObject) (based : IsBase base) (good 
   own_wants : All (Wants objects (own_where base objects) (code_part (own_segments base objects)) 0 (own_byte base objects)) (own_placed base objects)
   own_wants =
       All-from_contains (Wants objects (own_where base objects) (code_part (own_segments base objects)) 0 (own_byte base objects)) (own_placed base objects)
-      (λ q c w k within. piece_byte wants (own_segments base objects) (own_placed base objects) stand.apart q k c within)
+      (λ q c w k within. bytes.piece_byte wants (own_segments base objects) (own_placed base objects) stand.apart q k c within)
 
   abbrev IsFill : ℕ → ℕ → Type 0
   IsFill a n = n ≡ fill_byte (code_part (own_segments base objects)) a

@@ -1,28 +1,32 @@
--- The pieces that have bytes in the file have all bytes of their sections.
+-- The pieces that have bytes in the file have all bytes of their sections, and the GOT has its own.
 use Rattle.std.proofs.Common.{◌≡◌, ◌==◌, ℕ, ◌+◌, ◌<◌, ◌≤◌, ◌⊎◌, inl, inr, true, false, List, [], ◌∷◌, length, drop, refl, sym, ◌∙◌, ap, subst, arith}
 use Rattle.std.specs.Prelude.{All, Contains, Option, Some, unwrap_or}
 use Rattle.std.specs.List.{slice_get}
 use Rattle.std.specs.Option.{option_and_then}
-use Rattle.std.proofs.lemmas.Bool.{and_parts, eqb-true, false_from_ne_true, not-true, or_cases, true≢false}
+use Rattle.std.proofs.lemmas.Bool.{and_parts, eq-eqb, eqb-true, false_from_ne_true, not-true, or_cases, true≢false}
 use Rattle.std.proofs.lemmas.List.{length-drop, length-take-le}
 use Rattle.std.proofs.lemmas.List.Elements.{All-cons, All-contains, All-nil, Contains-append_cases}
 use Rattle.std.proofs.lemmas.Option.{get_or_from_slice_get, slice_get_within}
 use Rattle.byteview.specs.Numbers.{part}
+use Rattle.elf_model.specs.ImageFile.{is_got_piece}
 use Rattle.elf_model.specs.Loading.{AreObjects, LoadedObject}
 use Rattle.elf_model.specs.ObjectFile.{IsObject, IsPlaced, LiesInside, bytes_in_file, contents, has_no_bytes, section, section_bytes, sections}
-use Rattle.elf_model.specs.OwnLayout.{is_nonempty, own_placed, placed_has_bytes}
+use Rattle.elf_model.specs.OwnLayout.{got_number, got_pieces, is_nonempty, laid_out, own_placed, own_where, placed_has_bytes}
 use Rattle.elf_model.specs.Commons.{block_of, block_pieces, pieces}
 use Rattle.elf_model.specs.Pieces.{AreLawfulKinds, IsLawfulKind, Piece, has_bytes, is_nobits, kept_sections, piece_of}
 use Rattle.elf_model.specs.Placement.{Placed}
 use Rattle.elf_model.specs.Resolution.{sections_of_object}
+use Rattle.elf_model.specs.Slots.{got_bytes}
 use Rattle.elf_model.specs.declared.records.SectionHeader.{SectionHeader}
 use Rattle.elf_model.proofs.Blocks.{block_bare, block_pieces-each}
 use Rattle.elf_model.proofs.Listed.{All-from_contains, Contains-from_map}
 use Rattle.elf_model.proofs.Places.{AreOwnPlaced, at_own_address}
-use Rattle.elf_model.proofs.OwnOrder.{pieces_lawful}
+use Rattle.elf_model.proofs.OwnOrder.{laid_out_lawful}
+use Rattle.elf_model.proofs.PieceNumbers.{got_pieces-each, pieces_low}
 use Rattle.elf_model.proofs.Sectioned.{kept-each}
 use Rattle.own_link.proofs.ZeroFilled.{piece_headers}
-use Rattle.image_write.specs.Parts.{AreWhole, IsWhole, is_written}
+use Rattle.image_write.specs.Parts.{AreFull, IsFull, IsWhole, is_written}
+use Rattle.image_write.proofs.GotBytes.{got_sized}
 
 -- a part that lies inside has its length
 part_length : (bytes : List ℕ) (at n : ℕ) → at + n ≤ length bytes → length (part bytes at n) ≡ n
@@ -105,37 +109,66 @@ own_sizes : (objects : List LoadedObject) → All HasItsSize (kept_sections obje
 own_sizes objects = kept-each HasItsSize objects (λ k o there i h within. refl)
 
 -- of the own places
-pub placed_piece : (base : ℕ) (objects : List LoadedObject) → AreOwnPlaced base objects → (q : Placed) → Contains (own_placed base objects) q → Contains (pieces objects) q.piece
+placed_piece : (base : ℕ) (objects : List LoadedObject) → AreOwnPlaced base objects → (q : Placed) → Contains (own_placed base objects) q → Contains (laid_out objects) q.piece
 placed_piece base objects stand q c =
-    let i = Contains-from_map (at_own_address base objects) (pieces objects) q (stand.all q c) in
-    subst (λ (r : Placed). Contains (pieces objects) r.piece) i.is i.there
+    let i = Contains-from_map (at_own_address base objects) (laid_out objects) q (stand.all q c) in
+    subst (λ (r : Placed). Contains (laid_out objects) r.piece) i.is i.there
 
-pub placed_lawful : (base : ℕ) (objects : List LoadedObject) → AreLawfulKinds objects → AreOwnPlaced base objects → (q : Placed) → Contains (own_placed base objects) q → IsLawfulKind q.piece.header
+placed_lawful : (base : ℕ) (objects : List LoadedObject) → AreLawfulKinds objects → AreOwnPlaced base objects → (q : Placed) → Contains (own_placed base objects) q → IsLawfulKind q.piece.header
 placed_lawful base objects kinds stand q c =
-    All-contains (λ (p : Piece). IsLawfulKind p.header) (pieces objects) q.piece (pieces_lawful objects kinds) (placed_piece base objects stand q c)
+    All-contains (λ (p : Piece). IsLawfulKind p.header) (laid_out objects) q.piece (laid_out_lawful objects kinds) (placed_piece base objects stand q c)
 
--- a place that has bytes in the file is that of a kept section
-placed_kept :
-    (base : ℕ) (objects : List LoadedObject) → AreOwnPlaced base objects → (q : Placed) → Contains (own_placed base objects) q →
-    placed_has_bytes q ≡ true → Contains (kept_sections objects) q.piece
-placed_kept base objects stand q c some = by (Contains-append_cases (kept_sections objects) (block_pieces objects) q.piece (placed_piece base objects stand q c))
+-- what is laid out and isn't the GOT is a piece, and the GOT isn't one
+not_got : (objects : List LoadedObject) (p : Piece) → Contains (laid_out objects) p → is_got_piece objects p ≡ false → Contains (pieces objects) p
+not_got objects p c other = by (Contains-append_cases (pieces objects) (got_pieces objects) p c)
   where
-    by : Contains (kept_sections objects) q.piece ⊎ Contains (block_pieces objects) q.piece → Contains (kept_sections objects) q.piece
+    by : Contains (pieces objects) p ⊎ Contains (got_pieces objects) p → Contains (pieces objects) p
+    by (inl piece) = piece
+    by (inr got) =
+        let number = All-contains (λ (x : Piece). x.object ≡ got_number objects) (got_pieces objects) p
+        (got_pieces-each objects (λ (x : Piece). x.object ≡ got_number objects) refl) got in
+        absurd (true≢false (sym (eq-eqb p.object (got_number objects) number) ∙ other))
+
+the_got : (objects : List LoadedObject) (p : Piece) → Contains (laid_out objects) p → is_got_piece objects p ≡ true → Contains (got_pieces objects) p
+the_got objects p c is = by (Contains-append_cases (pieces objects) (got_pieces objects) p c)
+  where
+    by : Contains (pieces objects) p ⊎ Contains (got_pieces objects) p → Contains (got_pieces objects) p
+    by (inl piece) =
+        let low = All-contains (λ (x : Piece). x.object ≤ length objects) (pieces objects) p (pieces_low objects) piece in
+        let number = eqb-true p.object (got_number objects) is in
+        absurd (omega (arith, low, number))
+    by (inr got) = got
+
+-- a piece that has bytes in the file is a kept section
+kept_piece : (objects : List LoadedObject) (p : Piece) → Contains (pieces objects) p → has_bytes p ≡ true → Contains (kept_sections objects) p
+kept_piece objects p c some = by (Contains-append_cases (kept_sections objects) (block_pieces objects) p c)
+  where
+    by : Contains (kept_sections objects) p ⊎ Contains (block_pieces objects) p → Contains (kept_sections objects) p
     by (inl kept) = kept
     by (inr block) =
-        let bare = All-contains (λ (p : Piece). has_bytes p ≡ false) (block_pieces objects) q.piece
-        (block_pieces-each objects (λ (p : Piece). has_bytes p ≡ false) (λ k s there. block_bare (block_of objects k s))) block in
+        let bare = All-contains (λ (x : Piece). has_bytes x ≡ false) (block_pieces objects) p
+        (block_pieces-each objects (λ (x : Piece). has_bytes x ≡ false) (λ k s there. block_bare (block_of objects k s))) block in
         absurd (true≢false (sym some ∙ bare))
 
-pub own_whole : (base : ℕ) (objects : List LoadedObject) → AreObjects objects → AreLawfulKinds objects → AreOwnPlaced base objects → AreWhole objects (own_placed base objects)
-own_whole base objects good kinds stand =
-    All-from_contains (λ (q : Placed). is_written q ≡ true → IsWhole objects q.piece) (own_placed base objects) (λ q c w.
-    let lawful = placed_lawful base objects kinds stand q c in
-    let w' = and_parts (placed_has_bytes q) (is_nonempty q.piece) w in
-    let there = placed_kept base objects stand q c w'.0 in
-    let b = All-contains HasAllBytes (kept_sections objects) q.piece (all_bytes objects good) there lawful (not-true (is_nobits q.piece.header) w'.0) in
-    let h : section (sections_of_object (slice_get objects q.piece.object)) q.piece.section ≡ q.piece.header =
-    All-contains (λ (p : Piece). section (sections_of_object (slice_get objects p.object)) p.section ≡ p.header) (kept_sections objects) q.piece
-    (piece_headers objects) there in
-    let n = All-contains HasItsSize (kept_sections objects) q.piece (own_sizes objects) there in
-    record { bytes = b; section_size = ap (λ (x : SectionHeader). x.sh_size) h ∙ sym n })
+module _ (base : ℕ) (objects : List LoadedObject) (good : AreObjects objects) (kinds : AreLawfulKinds objects) (stand : AreOwnPlaced base objects) where
+  section_full : (q : Placed) → Contains (own_placed base objects) q → is_written q ≡ true → is_got_piece objects q.piece ≡ false → IsWhole objects q.piece
+  section_full q c w other =
+      let lawful = placed_lawful base objects kinds stand q c in
+      let w' = and_parts (placed_has_bytes q) (is_nonempty q.piece) w in
+      let there = kept_piece objects q.piece (not_got objects q.piece (placed_piece base objects stand q c) other) w'.0 in
+      let b = All-contains HasAllBytes (kept_sections objects) q.piece (all_bytes objects good) there lawful (not-true (is_nobits q.piece.header) w'.0) in
+      let h : section (sections_of_object (slice_get objects q.piece.object)) q.piece.section ≡ q.piece.header =
+      All-contains (λ (p : Piece). section (sections_of_object (slice_get objects p.object)) p.section ≡ p.header) (kept_sections objects) q.piece
+      (piece_headers objects) there in
+      let n = All-contains HasItsSize (kept_sections objects) q.piece (own_sizes objects) there in
+      record { bytes = b; section_size = ap (λ (x : SectionHeader). x.sh_size) h ∙ sym n }
+
+  pub own_full : AreFull objects (own_where base objects) (own_placed base objects)
+  own_full =
+      All-from_contains (λ (q : Placed). is_written q ≡ true → IsFull objects (own_where base objects) q.piece) (own_placed base objects)
+      (λ q c w. record {
+        section = section_full q c w;
+        got = λ is.
+            All-contains (λ (p : Piece). length (got_bytes objects (own_where base objects)) ≡ p.size) (got_pieces objects) q.piece (got_sized base objects)
+            (the_got objects q.piece (placed_piece base objects stand q c) is);
+      })

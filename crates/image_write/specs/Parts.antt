@@ -1,18 +1,21 @@
 -- The image file as it is written: the headers, then the bytes of the places one behind the other, with fill
 -- between them.
-use Rattle.std.specs.Prelude.{◌≡◌, ◌==◌, ℕ, ◌+◌, ◌-◌, ◌≤◌, ◌^◌, ◌&&◌, Bool, true, false, cond, List, [], ◌∷◌, ◌++◌, All, length, map, nat_le, nat_lt}
+use Rattle.std.specs.Prelude.{◌≡◌, ◌==◌, ℕ, ◌+◌, ◌-◌, ◌≤◌, ◌^◌, ◌&&◌, Bool, true, false, cond, List, [], ◌∷◌, ◌++◌, All, length, map, nat_le, nat_lt, replicate}
 use Rattle.std.specs.List.{flat_map, range_with_len, slice_get}
-use Rattle.elf_model.specs.ImageFile.{own_file_header, stack_header}
+use Rattle.byteview.specs.Numbers.{le_bytes}
+use Rattle.elf_model.specs.ImageFile.{is_got_piece, own_file_header, piece_byte, stack_header}
 use Rattle.elf_model.specs.Loading.{LoadedObject}
 use Rattle.elf_model.specs.ObjectFile.{section}
-use Rattle.elf_model.specs.OwnLayout.{is_nonempty, placed_end, placed_has_bytes}
+use Rattle.elf_model.specs.OwnLayout.{is_nonempty, own_where, placed_end, placed_has_bytes}
 use Rattle.elf_model.specs.Pieces.{Piece}
 use Rattle.elf_model.specs.Placement.{Placed, Where}
 use Rattle.elf_model.specs.Records.{file_header_bytes, program_header_bytes}
 use Rattle.elf_model.specs.Resolution.{sections_of_object}
-use Rattle.elf_model.specs.WantedBytes.{wanted_byte}
+use Rattle.elf_model.specs.Slots.{Request, got_bytes, slot_value, slots}
 use Rattle.elf_model.specs.declared.records.ProgramHeader.{ProgramHeader}
+use Rattle.layout.specs.Placements.{Basis}
 use Rattle.image_write.specs.declared.filling.Code.{Code}
+use Rattle.image_write.specs.declared.pieces.Contents.{Contents}
 
 -- the file header, and the program headers of segments and of the stack
 abbrev pub headers_of : ℕ → List ProgramHeader → List ℕ
@@ -39,9 +42,16 @@ fill_run c x y = map (fill_byte c) (range_with_len x (y - x))
 abbrev pub is_written : Placed → Bool
 is_written q = placed_has_bytes q && is_nonempty q.piece
 
--- the wanted bytes of a piece
+-- the wanted bytes of a piece, be it the GOT
 abbrev pub bytes_of : List LoadedObject → Where → Piece → List ℕ
-bytes_of objects w p = map (wanted_byte objects w p) (range_with_len 0 p.size)
+bytes_of objects w p = map (piece_byte objects w p) (range_with_len 0 p.size)
+
+-- the values of slots, and the bytes of a GOT whose slots have some values
+abbrev pub values_of : List LoadedObject → Where → List Request → List ℕ
+values_of objects w qs = map (λ q. slot_value objects w q.kind q.target) qs
+
+abbrev pub got_of : List ℕ → List ℕ
+got_of values = replicate 8 0 ++ flat_map (le_bytes 8) values
 
 -- the bytes of the addresses from x to before another: of those places that have bytes, and fill between them
 abbrev pub body_from : List LoadedObject → Where → Code → ℕ → ℕ → List Placed → List ℕ
@@ -55,10 +65,39 @@ abbrev pub Rise : ℕ → ℕ → List Placed → Type 0
 Rise x to [] = x ≤ to
 Rise x to (q ∷ qs) = (is_written q ≡ true → (x ≤ q.at) × Rise (placed_end q) to qs) × (is_written q ≡ false → Rise x to qs)
 
+-- the values of the slots of objects that are laid out
+abbrev pub slot_values : Basis → List ℕ
+slot_values b = values_of b.objects (own_where b.base b.objects) (slots b.objects)
+
+-- what pieces hold: the values of relocations and of slots, of the layout in which they stand
+abbrev pub basis_of : Contents → Basis
+basis_of c = c.placement.now
+
+abbrev pub all_bytes : Contents → Piece → List ℕ
+all_bytes c p = bytes_of (basis_of c).objects (own_where (basis_of c).base (basis_of c).objects) p
+
+abbrev pub all_body : Contents → Code → ℕ → ℕ → List Placed → List ℕ
+all_body c code to x qs = body_from (basis_of c).objects (own_where (basis_of c).base (basis_of c).objects) code to x qs
+
+pub record AreContents (c : Contents) : Type 0 where
+  pub patches : c.patches.now ≡ c.placement.now
+  pub slots : c.slots.now ≡ slot_values c.placement.now
+
 -- a piece has all bytes of its section
 pub record IsWhole (objects : List LoadedObject) (p : Piece) : Type 0 where
   pub bytes : length p.bytes ≡ p.size
   pub section_size : (section (sections_of_object (slice_get objects p.object)) p.section).sh_size ≡ p.size
 
-abbrev pub AreWhole : List LoadedObject → List Placed → Type 0
-AreWhole objects qs = All (λ q. is_written q ≡ true → IsWhole objects q.piece) qs
+-- so each that isn't the GOT; and that has the size of its own bytes
+pub record IsFull (objects : List LoadedObject) (w : Where) (p : Piece) : Type 0 where
+  pub section : is_got_piece objects p ≡ false → IsWhole objects p
+  pub got : is_got_piece objects p ≡ true → length (got_bytes objects w) ≡ p.size
+
+abbrev pub AreFull : List LoadedObject → Where → List Placed → Type 0
+AreFull objects w qs = All (λ q. is_written q ≡ true → IsFull objects w q.piece) qs
+
+abbrev pub HasContents : Contents → Piece → Type 0
+HasContents c p = IsFull (basis_of c).objects (own_where (basis_of c).base (basis_of c).objects) p
+
+abbrev pub AreFilled : Contents → List Placed → Type 0
+AreFilled c qs = AreFull (basis_of c).objects (own_where (basis_of c).base (basis_of c).objects) qs

@@ -3,6 +3,7 @@
 #![tactic(auto)]
 
 mod filling;
+mod got;
 mod headers;
 mod pieces;
 mod writing;

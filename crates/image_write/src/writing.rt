@@ -6,11 +6,11 @@ ghost use Rattle.elf_model.specs.Loading.{AreObjects};
 ghost use Rattle.elf_model.specs.OwnLayout as own;
 ghost use Rattle.elf_model.specs.OwnLayout.{IsNotTooLarge};
 ghost use Rattle.elf_model.specs.Pieces.{AreLawfulKinds};
-ghost use Rattle.image_write.specs.Parts.{EndsLow};
+ghost use Rattle.image_write.specs.Parts.{EndsLow, slot_values};
 
 use crate::filling::code_of;
 use crate::headers::{headers_size, put_headers};
-use crate::pieces::put_places;
+use crate::pieces::{Contents, put_places};
 use elf_model::ProgramHeader;
 use layout::Placement;
 use relocate::Patches;
@@ -30,12 +30,13 @@ fn file_end(segments: &[ProgramHeader]) -> u64
     end
 }
 
-/// The image file: the headers, the pieces at their offsets with their relocated bytes, and fill between
-/// them.
-pub fn image(
+/// The image file: the headers, the pieces at their offsets with their relocated bytes, the GOT with the values of its
+/// slots, and fill between them.
+pub fn image<'c, 'p, 'a>(
     alloc: Global,
-    placement: &Placement<'_, '_>,
-    patches: &Patches<'_, '_>,
+    placement: &'c Placement<'p, 'a>,
+    patches: &'c Patches<'p, 'a>,
+    slots: &'c [u64],
     entry: u64,
 ) -> Result<Vec<u8>, AllocError>
     requires base { IsBase placement.now.base }
@@ -43,6 +44,7 @@ pub fn image(
     requires kinds { AreLawfulKinds placement.now.objects }
     requires fits { IsNotTooLarge placement.now.base placement.now.objects }
     requires same { patches.now ≡ placement.now }
+    requires slots { slots.now ≡ slot_values placement.now }
     ensures image { IfOk result (λ v. (name : List ℕ) → own_entry placement.now.base placement.now.objects name ≡ entry → v.items ≡ image_file placement.now.base placement.now.objects name) }
 {
     let base = placement.base();
@@ -52,9 +54,14 @@ pub fn image(
     put_headers(&mut out, segments, entry)?;
     let code = code_of(segments);
     let from = base + headers_size(segments);
+    let contents = Contents {
+        placement,
+        patches,
+        slots,
+    };
     put_places(
         &mut out,
-        patches,
+        &contents,
         &code,
         placement.places(),
         from,

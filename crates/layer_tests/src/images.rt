@@ -6,9 +6,10 @@ use crate::objects::{DATA, RODATA, TEXT, load_both, object_of};
 use crate::values::judged_patches;
 use byteview::View;
 use elf_model::SectionHeader;
+use got_tls::slots;
 use image_write::image;
 use layout::{Placement, kinds, place};
-use relocate::Patches;
+use relocate::{Patches, slot_values};
 use resolve::resolve;
 use search::Loaded;
 use std::alloc::Global;
@@ -20,11 +21,13 @@ fn image_of(alloc: Global, objects: &[Loaded<'_>], entry: u64) -> Result<Vec<u8>
 {
     kinds(objects)?;
     let resolved = resolve(alloc, objects)?;
-    let tables = place(alloc, objects, resolved.blocks(), 0x400000)?;
+    let slots = slots(alloc, objects, &resolved)?;
+    let tables = place(alloc, objects, resolved.blocks(), slots.got(), 0x400000)?;
     let placement = Placement::new(0x400000, &*objects, &tables);
-    let table = judged_patches(alloc, objects, &resolved, &placement)?;
+    let table = judged_patches(alloc, objects, &resolved, &placement, &slots)?;
     let patches = Patches::new(&placement, &table);
-    Ok(image(alloc, &placement, &patches, entry)?)
+    let values = slot_values(alloc, &resolved, &placement, &slots)?;
+    Ok(image(alloc, &placement, &patches, &values, entry)?)
 }
 
 /// The image of two objects with these sections.

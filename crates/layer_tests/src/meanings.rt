@@ -1,18 +1,14 @@
 //! What names and symbols mean.
-use crate::objects::{
-    DATA, ENTRY, F_NAME, G_NAME, GOT_NAME, START_NAME, SYMBOLS, TEXT, load_both, object_with,
-};
-use elf_model::{Rela, SHF_ALLOC, SHF_TLS, SHF_WRITE, SHN_COMMON, SectionHeader, Symbol};
-use resolve::{
-    Block, Meaning, ResolveFault, Resolved, SymbolOf, have_plain_names, resolve, resolve_over,
-};
+use crate::objects::{DATA, F_NAME, G_NAME, START_NAME, SYMBOLS, TEXT, load_both, object_with};
+use elf_model::{SHF_ALLOC, SHF_TLS, SHF_WRITE, SHN_COMMON, SectionHeader, Symbol};
+use resolve::{Block, Meaning, ResolveFault, Resolved, SymbolOf, resolve, resolve_over};
 use std::alloc::{AllocError, Global};
 use std::process::Abort;
 use std::test::Fail;
 use symbols::ListTable;
 
 /// A GLOBAL symbol at the beginning of a section, or an undefined one at section 0.
-fn global(st_name: u32, st_shndx: u16) -> Symbol {
+pub fn global(st_name: u32, st_shndx: u16) -> Symbol {
     Symbol {
         st_name,
         st_info: 0x10,
@@ -266,33 +262,5 @@ fn unsound_common_symbols_are_refused(rt: HostRuntime) -> Result<(), Fail> {
             "{st_info} aligned {st_value}"
         );
     }
-    Ok(())
-}
-
-/// Whether the names of later versions have definitions where an object uses that of the GOT and another has a symbol.
-fn are_plain(alloc: Global, other: Symbol) -> Result<bool, Fail> {
-    let entries = SectionHeader {
-        sh_link: 3,
-        sh_info: 2,
-        ..ENTRY
-    };
-    let symbols = [global(GOT_NAME, 0), local(2)];
-    // R_X86_64_PC32 at 0 of `.text` against symbol 1.
-    let entry = Rela {
-        r_offset: 0,
-        r_info: 0x1_0000_0002,
-        r_addend: 0,
-    };
-    let a = object_with(alloc, &[TEXT, SYMBOLS, entries], &symbols, &[entry])?;
-    let b = object_of(alloc, &[local(2), other])?;
-    let objects = load_both(alloc, &a, &b)?;
-    Ok(have_plain_names(alloc, &objects)?)
-}
-
-#[test]
-fn an_object_may_define_a_name_of_later_versions(rt: HostRuntime) -> Result<(), Fail> {
-    let alloc = rt.alloc();
-    assert!(rt; are_plain(alloc, global(GOT_NAME, 2))?);
-    assert!(rt; !are_plain(alloc, global(F_NAME, 2))?);
     Ok(())
 }

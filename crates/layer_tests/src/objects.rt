@@ -68,8 +68,6 @@ pub const STOP_NAME: u32 = 62;
 /// The name `a`, with which `__stop_a` ends.
 pub const A_NAME: u32 = 69;
 
-pub const GOT_NAME: u32 = 71;
-
 /// The bytes of `.rodata` at 160, of `.text` at 168 and of `.data` at 184.
 static BYTES: [u8; 32] = [
     0, 0, 0, 0, 5, 0, 0, 0, 0xb8, 0x3c, 0, 0, 0, 0x31, 0xff, 0x0f, 0x05, 0, 0, 0, 0, 0, 0, 0, 0, 0,

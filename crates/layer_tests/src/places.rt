@@ -9,6 +9,7 @@ use elf_model::{
     Bound, PT_LOAD, ProgramHeader, SHF_ALLOC, SHF_EXECINSTR, SHF_LINK_ORDER, SHF_TLS, SHF_WRITE,
     SHN_COMMON, SHT_STRTAB, SectionHeader, Symbol,
 };
+use got_tls::slots;
 use layout::{LayoutFault, Place, Placement, kinds, place};
 use resolve::{output_name, resolve};
 use std::alloc::{AllocError, Global};
@@ -51,7 +52,8 @@ fn summary_of(alloc: Global, placement: &Placement<'_, '_>) -> Result<Summary, A
 fn lay_out(alloc: Global, a: &[u8], b: &[u8]) -> Result<Summary, Fail> {
     let objects = load_both(alloc, a, b)?;
     let resolved = resolve(alloc, &objects)?;
-    let tables = place(alloc, &objects, resolved.blocks(), 0x400000)?;
+    let slots = slots(alloc, &objects, &resolved)?;
+    let tables = place(alloc, &objects, resolved.blocks(), slots.got(), 0x400000)?;
     let placement = Placement::new(0x400000, &objects, &tables);
     Ok(summary_of(alloc, &placement)?)
 }
@@ -75,7 +77,8 @@ fn is_too_large(alloc: Global, section: SectionHeader) -> Result<bool, Fail> {
     let other = object_of(alloc, &[section])?;
     let objects = load_both(alloc, &none, &other)?;
     let resolved = resolve(alloc, &objects)?;
-    let tables = place(alloc, &objects, resolved.blocks(), 0x400000);
+    let slots = slots(alloc, &objects, &resolved)?;
+    let tables = place(alloc, &objects, resolved.blocks(), slots.got(), 0x400000);
     Ok(matches!(tables, Err(LayoutFault::TooLarge)))
 }
 
@@ -217,7 +220,8 @@ fn names_of_output_sections_have_bounds(rt: HostRuntime) -> Result<(), Fail> {
     let objects = load_both(alloc, &a, &b)?;
     kinds(&objects)?;
     let resolved = resolve(alloc, &objects)?;
-    let tables = place(alloc, &objects, resolved.blocks(), 0x400000)?;
+    let slots = slots(alloc, &objects, &resolved)?;
+    let tables = place(alloc, &objects, resolved.blocks(), slots.got(), 0x400000)?;
     let placement = Placement::new(0x400000, &objects, &tables);
     assert!(rt; first_wrong(&placement).is_none());
     Ok(())

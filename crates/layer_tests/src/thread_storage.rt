@@ -1,40 +1,23 @@
-//! The GOT of plain objects, the block of thread-local storage, and offsets from the thread pointer.
-ghost use Rattle.std.specs.Prelude.{◌<◌, All, IsTrue};
-ghost use Rattle.elf_model.specs.Profile.{IsPlainObject};
-ghost use Rattle.search.specs.Views.{loaded_views};
+//! The size of the GOT, the block of thread-local storage, and offsets from the thread pointer.
+ghost use Rattle.std.specs.Prelude.{◌<◌};
 
-use crate::objects::{BSS, DATA, TEXT, load_alone, object_of};
-use elf_model::{SHF_ALLOC, SHF_TLS, SHF_WRITE, SectionHeader};
-use elf_read::is_plain_object;
+use crate::meanings::global;
+use crate::objects::{
+    BSS, DATA, ENTRY, F_NAME, G_NAME, SYMBOLS, TEXT, load_alone, object_of, object_with,
+};
+use elf_model::{Rela, SHF_ALLOC, SHF_TLS, SHF_WRITE, SectionHeader};
 use got_tls::{TlsBlock, slots, tls_block, tp_offset};
 use layout::{Placement, place};
-use resolve::{have_plain_names, resolve};
+use resolve::resolve;
 use search::Loaded;
 use std::alloc::Global;
 use std::test::Fail;
 
-fn are_plain(objects: &[Loaded<'_>]) -> bool
-    ensures { IsTrue result → All (λ o. IsPlainObject o.bytes) (loaded_views objects.now) }
-{
-    for loaded in objects {
-        if !is_plain_object(&loaded.object) {
-            return false;
-        }
-    }
-    true
-}
-
-/// The GOT's size and the number of its slots, for plain objects with names that they define.
+/// The GOT's size and the number of its slots.
 fn got_of(alloc: Global, objects: &[Loaded<'_>]) -> Result<(u64, usize), Fail> {
-    if !are_plain(objects) {
-        return Err(Fail::new("objects that aren't plain"));
-    }
-    if !have_plain_names(alloc, objects)? {
-        return Err(Fail::new("names that have no definition"));
-    }
     let resolved = resolve(alloc, objects)?;
     let found = slots(alloc, objects, &resolved)?;
-    Ok((found.got, found.slots.len()))
+    Ok((found.got(), found.slots().len()))
 }
 
 /// The start, the size and the alignment of the block of a file's object, laid out from 0x400000 on, and the
@@ -46,7 +29,8 @@ fn block_of(
 ) -> Result<Option<(u64, u64, u64, u64)>, Fail> {
     let objects = load_alone(alloc, file)?;
     let resolved = resolve(alloc, &objects)?;
-    let tables = place(alloc, &objects, resolved.blocks(), 0x400000)?;
+    let slots = slots(alloc, &objects, &resolved)?;
+    let tables = place(alloc, &objects, resolved.blocks(), slots.got(), 0x400000)?;
     let placement = Placement::new(0x400000, &objects, &tables);
     let Some(block) = tls_block(&placement) else {
         return Ok(None);
@@ -86,14 +70,47 @@ fn offset(size: u64, align: u64, address: u64) -> u64
     tp_offset(block, address)
 }
 
+/// Two relocations of a text, by their symbol and type, and the GOT's size and the number of its slots.
+static ASKING: [(u64, u64, u64, usize); 7] = [
+    // R_X86_64_PC32 asks for nothing, R_X86_64_GOTPC32 for a GOT alone.
+    (0x1_0000_0002, 0x2_0000_0002, 0, 0),
+    (0x1_0000_001a, 0x2_0000_0002, 8, 0),
+    // R_X86_64_GOTPCREL and R_X86_64_REX_GOTPCRELX ask for a slot, R_X86_64_GOTTPOFF for another one.
+    (0x1_0000_0009, 0x2_0000_0002, 16, 1),
+    (0x1_0000_0009, 0x2_0000_002a, 24, 2),
+    (0x1_0000_0009, 0x1_0000_002a, 16, 1),
+    (0x1_0000_0009, 0x1_0000_0016, 24, 2),
+    (0x1_0000_0019, 0x2_0000_001d, 8, 0),
+];
+
+/// An entry at an offset.
+fn entry(r_offset: u64, r_info: u64) -> Rela {
+    Rela {
+        r_offset,
+        r_info,
+        r_addend: 0,
+    }
+}
+
 #[test]
-fn plain_objects_have_no_got(rt: HostRuntime) -> Result<(), Fail> {
+fn relocations_ask_for_slots(rt: HostRuntime) -> Result<(), Fail> {
     let alloc = rt.alloc();
-    let file = object_of(alloc, &[TEXT, DATA, BSS])?;
-    let objects = load_alone(alloc, &file)?;
-    let (size, count) = got_of(alloc, &objects)?;
-    assert_eq!(rt; size, 0);
-    assert_eq!(rt; count, 0);
+    let entries = SectionHeader {
+        sh_link: 3,
+        sh_info: 2,
+        sh_size: 48,
+        ..ENTRY
+    };
+    for (first, second, size, count) in ASKING {
+        let relas = [entry(0, first), entry(4, second)];
+        let symbols = [global(F_NAME, 2), global(G_NAME, 2)];
+        let file = object_with(alloc, &[TEXT, SYMBOLS, entries], &symbols, &relas)?;
+        let objects = load_alone(alloc, &file)?;
+        assert!(rt;
+            got_of(alloc, &objects)? == (size, count),
+            "{first} and {second}"
+        );
+    }
     Ok(())
 }
 

@@ -6,12 +6,14 @@ ghost use Rattle.elf_model.specs.ObjectFile as object_file;
 ghost use Rattle.elf_model.specs.Pieces.{AreLawfulKinds};
 ghost use Rattle.elf_model.specs.Resolution.{sections_of_object};
 ghost use Rattle.relocate.specs.PatchTables.{ArePatchesOf};
+ghost use Rattle.elf_model.specs.Slots as wanted;
 ghost use Rattle.search.specs.Views.{loaded_views};
 
 use crate::objects::{
     A_NAME, BSS, DATA, ENTRY, ETEXT_NAME, RODATA, STOP_NAME, SYMBOLS, TEXT, load_alone, object_with,
 };
 use elf_model::{Bound, Rela, SHF_ALLOC, SHF_WRITE, STT_SECTION, SectionHeader, Symbol};
+use got_tls::{Slots, slots};
 use layout::{Placement, kinds, place};
 use relocate::{
     Kind, PatchTable, Patches, RelocFault, Terms, fits, linker_lines, patches, references, value,
@@ -100,14 +102,16 @@ pub fn judged_patches<'a>(
     objects: &[Loaded<'a>],
     resolved: &Resolved<'_, 'a>,
     placement: &Placement<'_, 'a>,
+    slots: &Slots<'a>,
 ) -> Result<PatchTable, RelocFault>
     requires resolved { resolved.now ≡ loaded_views objects.now }
+    requires slots { slots.now.slots ≡ wanted.slots (loaded_views objects.now) }
     requires placed { placement.now.objects ≡ loaded_views objects.now }
     requires kinds { AreLawfulKinds (loaded_views objects.now) }
     ensures { IfOk result (ArePatchesOf placement.now) }
 {
     references(alloc, objects, resolved)?;
-    patches(alloc, objects, resolved, placement)
+    patches(alloc, objects, resolved, placement, slots)
 }
 
 /// The bytes that are wanted of a section of the first object, laid out from 0x400000 on.
@@ -117,9 +121,10 @@ fn applied(alloc: Global, objects: &[Loaded<'_>], number: usize) -> Result<Vec<u
     let input = input_of(objects, number).ok_or("no section's bytes")?;
     kinds(objects)?;
     let resolved = resolve(alloc, objects)?;
-    let tables = place(alloc, objects, resolved.blocks(), 0x400000)?;
+    let slots = slots(alloc, objects, &resolved)?;
+    let tables = place(alloc, objects, resolved.blocks(), slots.got(), 0x400000)?;
     let placement = Placement::new(0x400000, &*objects, &tables);
-    let table = judged_patches(alloc, objects, &resolved, &placement)?;
+    let table = judged_patches(alloc, objects, &resolved, &placement, &slots)?;
     let mut bytes = Vec::from_slice(alloc, input)?;
     Patches::new(&placement, &table).apply(0, number, &mut bytes);
     Ok(bytes)
@@ -334,9 +339,10 @@ fn refusal_of(alloc: Global, file: &[u8]) -> Result<Option<RelocFault>, Fail> {
     let objects = load_alone(alloc, file)?;
     let resolved = resolve(alloc, &objects)?;
     kinds(&objects)?;
-    let tables = place(alloc, &objects, resolved.blocks(), 0x400000)?;
+    let slots = slots(alloc, &objects, &resolved)?;
+    let tables = place(alloc, &objects, resolved.blocks(), slots.got(), 0x400000)?;
     let placement = Placement::new(0x400000, &*objects, &tables);
-    Ok(judged_patches(alloc, &objects, &resolved, &placement).err())
+    Ok(judged_patches(alloc, &objects, &resolved, &placement, &slots).err())
 }
 
 #[test]

@@ -2,12 +2,14 @@ pub mod Alignments
 pub mod EndSteps
 pub mod ExtentSteps
 pub mod Entries
+mod GotPieces
 pub mod GroupSteps
 pub mod KindLemmas
 pub mod Keys
 pub mod LaidSteps
 pub mod Leading
 mod MixedOutputs
+pub mod OtherPlaces
 pub mod OwnAddresses
 pub mod OwnBounds
 pub mod PieceEntries

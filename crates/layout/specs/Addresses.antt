@@ -14,7 +14,7 @@ entry_in row section = option_and_then (λ e. e) (slice_get row section)
 abbrev pub entry : List (Vec (Option ℕ)) → ℕ → ℕ → Option ℕ
 entry table object section = option_and_then (λ row. entry_in row.items section) (slice_get table object)
 
--- how long the rows are, and how many sections the objects have, and so many blocks behind them
+-- how long the rows are, and how many sections the objects have, and so many blocks and the GOT behind them
 abbrev pub shape_of : List (Vec (Option ℕ)) → List ℕ
 shape_of table = map (λ row. length row.items) table
 
@@ -22,7 +22,7 @@ abbrev pub section_counts : List LoadedObject → List ℕ
 section_counts objects = map (λ o. length (sections o.bytes)) objects
 
 abbrev pub piece_counts : List LoadedObject → ℕ → List ℕ
-piece_counts objects blocks = section_counts objects ++ blocks ∷ []
+piece_counts objects blocks = section_counts objects ++ blocks ∷ 1 ∷ []
 
 -- there is such an object with such a section
 pub record HasEntry (counts : List ℕ) (object section : ℕ) : Type 0 where

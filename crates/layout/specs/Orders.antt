@@ -1,8 +1,8 @@
 -- The own order of objects' pieces, as it is kept.
-use Rattle.std.specs.Prelude.{◌≡◌, ◌++◌, List, filter, map}
+use Rattle.std.specs.Prelude.{◌≡◌, ◌++◌, ◌∷◌, [], ℕ, List, cond, filter, map, nat_lt}
 use Rattle.elf_model.specs.Commons.{Block, block_piece}
 use Rattle.elf_model.specs.Loading.{LoadedObject}
-use Rattle.elf_model.specs.OwnLayout.{code_pieces, data_pieces, grouped, is_data, is_zero, read_only_pieces}
+use Rattle.elf_model.specs.OwnLayout.{code_pieces, data_pieces, got_header, grouped, is_data, is_zero, read_only_pieces}
 use Rattle.elf_model.specs.Pieces.{Piece}
 use Rattle.search.specs.Views.{loaded_views}
 use Rattle.layout.specs.Views.{piece_views}
@@ -12,9 +12,24 @@ use Rattle.layout.specs.declared.order.Order.{Order}
 abbrev pub objects_of : Order → List LoadedObject
 objects_of o = loaded_views o.objects.now
 
--- what may be written of pieces, and blocks behind it
-abbrev pub writable_in : List Piece → List Block → List Piece
-writable_in ps bs = grouped (filter is_data ps) ++ (grouped (filter is_zero ps) ++ map block_piece bs)
+-- the GOT as a piece, with its number and its size; and where it has a size
+abbrev pub got_as : ℕ → ℕ → Piece
+got_as number size = record {
+  object = number;
+  section = 0;
+  name = [];
+  header = got_header size;
+  size = size;
+  align = 8;
+  bytes = [];
+}
+
+abbrev pub got_list : ℕ → ℕ → List Piece
+got_list number size = cond (nat_lt 0 size) (got_as number size ∷ []) []
+
+-- what may be written of pieces: those with bytes, the GOT, those without bytes, and blocks behind them
+abbrev pub writable_in : List Piece → List Piece → List Block → List Piece
+writable_in ps got bs = grouped (filter is_data ps) ++ (got ++ (grouped (filter is_zero ps) ++ map block_piece bs))
 
 -- its lists are those of the own layout
 pub record IsOrder (o : Order) : Type 0 where

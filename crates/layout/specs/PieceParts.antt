@@ -1,5 +1,5 @@
 -- The parts of memory of which bounds tell, and what the bounds are.
-use Rattle.std.specs.Prelude.{◌≡◌, ℕ, Bool, List, Option, option_map, unwrap_or}
+use Rattle.std.specs.Prelude.{◌≡◌, ◌==◌, ℕ, Bool, List, Option, filter, not, option_map, unwrap_or}
 use Rattle.std.specs.BTreeMap.{BTreeMap, get_by}
 use Rattle.std.specs.Borrow.{Bor}
 use Rattle.std.specs.Cmp.Lexicographic.{slice_cmp}
@@ -10,7 +10,7 @@ use Rattle.elf_model.specs.LinkerValues.{any_piece, end_of_pieces, is_code_piece
 use Rattle.elf_model.specs.Pieces.{Piece, is_of_output}
 use Rattle.elf_model.specs.Placement.{Placed}
 use Rattle.elf_model.specs.declared.bound.Bound.{Bound}
-use Rattle.elf_model.specs.declared.bound.Bound.TheVariants.{CodeEnd, DataEnd, ImageEnd, ImageStart, OutputEnd, OutputStart, ZeroStart}
+use Rattle.elf_model.specs.declared.bound.Bound.TheVariants.{CodeEnd, DataEnd, GotStart, ImageEnd, ImageStart, OutputEnd, OutputStart, ZeroStart}
 use Rattle.layout.specs.declared.bounds.Bounds.{Bounds}
 use Rattle.layout.specs.declared.bounds.Extent.{Extent}
 use Rattle.layout.specs.declared.bounds.Part.{Part}
@@ -36,19 +36,25 @@ pub record AreExtents (qs : List Placed) (extents : BTreeMap (Bor (List ℕ)) Ex
   pub starts : (name : List ℕ) → start_in extents name ≡ start_of_pieces (is_of_output name) qs
   pub ends : (name : List ℕ) → end_in extents name ≡ end_of_pieces (is_of_output name) qs
 
-pub record AreBounds (qs : List Placed) (b : Bounds) : Type 0 where
+-- a place of another object than the one with a number
+abbrev pub is_other : ℕ → Placed → Bool
+is_other number q = not (q.piece.object == number)
+
+-- the bounds of places: the parts take in the GOT, which has this number, and the output names don't
+pub record AreBounds (got : ℕ) (qs : List Placed) (b : Bounds) : Type 0 where
   pub code_end : b.code_end ≡ end_of_pieces is_code_piece qs
   pub data_end : b.data_end ≡ end_of_pieces is_file_data qs
   pub zero_start : b.zero_start ≡ unwrap_or (start_of_pieces is_zero_data qs) 0
   pub image_end : b.image_end ≡ end_of_pieces any_piece qs
-  pub outputs : AreExtents qs b.outputs
+  pub outputs : AreExtents (filter (is_other got) qs) b.outputs
 
--- what the linker's names stand for by the bounds, in an image that is mapped from a base on
-abbrev pub bound_at : ℕ → Bounds → List ℕ → Bound → ℕ
-bound_at base b name ImageStart = base
-bound_at base b name CodeEnd = b.code_end
-bound_at base b name DataEnd = b.data_end
-bound_at base b name ZeroStart = b.zero_start
-bound_at base b name ImageEnd = b.image_end
-bound_at base b name OutputStart = unwrap_or (start_in b.outputs (named_output name)) 0
-bound_at base b name OutputEnd = end_in b.outputs (named_output name)
+-- what the linker's names stand for by the bounds, in an image that is mapped from a base on, with its GOT at an address
+abbrev pub bound_at : ℕ → ℕ → Bounds → List ℕ → Bound → ℕ
+bound_at base got b name ImageStart = base
+bound_at base got b name CodeEnd = b.code_end
+bound_at base got b name DataEnd = b.data_end
+bound_at base got b name ZeroStart = b.zero_start
+bound_at base got b name ImageEnd = b.image_end
+bound_at base got b name GotStart = got
+bound_at base got b name OutputStart = unwrap_or (start_in b.outputs (named_output name)) 0
+bound_at base got b name OutputEnd = end_in b.outputs (named_output name)

@@ -2,7 +2,7 @@
 use Rattle.std.specs.Prelude.{◌≡◌, ℕ, List, Option, find, option_map}
 use Rattle.std.specs.Global.{Vec}
 use Rattle.elf_model.specs.Loading.{LoadedObject}
-use Rattle.elf_model.specs.OwnLayout.{own_in_load_order, own_placed, own_segments}
+use Rattle.elf_model.specs.OwnLayout.{got_number, own_laid_out, own_placed, own_segments}
 use Rattle.elf_model.specs.Placement.{Placed, is_of_section}
 use Rattle.elf_model.specs.declared.records.ProgramHeader.{ProgramHeader}
 use Rattle.layout.specs.Addresses.{entry}
@@ -18,5 +18,5 @@ pub record Basis : Type 0 where
 pub record IsPlacement (base : ℕ) (objects : List LoadedObject) (places : List Placed) (segments : List ProgramHeader) (addresses : List (Vec (Option ℕ))) (bounds : Bounds) : Type 0 where
   pub places_are : places ≡ own_placed base objects
   pub segments_are : segments ≡ own_segments base objects
-  pub addresses_are : (o s : ℕ) → entry addresses o s ≡ option_map (λ q. q.at) (find (is_of_section o s) (own_in_load_order base objects))
-  pub bounds_are : AreBounds (own_placed base objects) bounds
+  pub addresses_are : (o s : ℕ) → entry addresses o s ≡ option_map (λ q. q.at) (find (is_of_section o s) (own_laid_out base objects))
+  pub bounds_are : AreBounds (got_number objects) (own_placed base objects) bounds

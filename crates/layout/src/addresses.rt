@@ -1,4 +1,4 @@
-//! The address of each kept section and of each common block, by the numbers of its object and of its own.
+//! The address of each kept section, of each common block and of the GOT, by the numbers of its object and of its own.
 ghost use Rattle.std.specs.Prelude.{◌≡◌, ◌++◌, ◌∷◌, ℕ, [], All, IfOk, None, OnOk, Option, Some, cond, find, option_map};
 ghost use Rattle.elf_model.specs.Placement.{is_of_section};
 ghost use Rattle.search.specs.Views.{loaded_views};
@@ -19,7 +19,7 @@ fn add_row(alloc: Global, table: &mut Vec<Vec<Option<u64>>>, count: usize) -> Re
     Ok(())
 }
 
-/// A row for each object with no address for any of its sections, and one for so many blocks.
+/// A row for each object with no address for any of its sections, one for so many blocks, and one for the GOT.
 fn empty_table(
     alloc: Global,
     objects: &[Loaded<'_>],
@@ -34,6 +34,7 @@ fn empty_table(
         add_row(alloc, &mut table, count)?;
     }
     add_row(alloc, &mut table, blocks)?;
+    add_row(alloc, &mut table, 1)?;
     Ok(table)
 }
 
@@ -47,7 +48,8 @@ fn put_address(table: &mut Vec<Vec<Option<u64>>>, place: &Place<'_>)
     row[place.piece.section as usize] = Some(place.at);
 }
 
-/// The addresses of places of objects and of so many blocks, that of the first where there are several of a section.
+/// The addresses of places of objects, of so many blocks and of the GOT, that of the first where there are several of a
+/// section.
 pub fn address_table(
     alloc: Global,
     objects: &[Loaded<'_>],

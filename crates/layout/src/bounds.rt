@@ -1,12 +1,12 @@
 //! Where code, data and all pieces end, where what has no bytes begins, and where the pieces of each output name begin
 //! and end: what the linker's own names stand for.
-ghost use Rattle.std.specs.Prelude.{◌≡◌, ◌+◌, ℕ, List, IfOk, OnOk, max, option_map, unwrap_or};
+ghost use Rattle.std.specs.Prelude.{◌≡◌, ◌+◌, ℕ, List, IfOk, OnOk, filter, max, option_map, unwrap_or};
 ghost use Rattle.std.specs.Option.{option_map_or};
 ghost use Rattle.elf_model.specs.LinkerValues.{end_of_pieces, least_of, start_of_pieces};
 ghost use Rattle.elf_model.proofs.PieceBounds.{earlier, further};
 ghost use Rattle.elf_model.specs.Pieces.{is_of_output};
 ghost use Rattle.layout.specs.Limits.{AreInLimit, IsInLimit};
-ghost use Rattle.layout.specs.PieceParts.{AreBounds, AreExtents, bound_at, end_in, extent_in, part_test, start_in};
+ghost use Rattle.layout.specs.PieceParts.{AreBounds, AreExtents, bound_at, end_in, extent_in, is_other, part_test, start_in};
 ghost use Rattle.layout.specs.PlaceViews.{place_view, place_views};
 ghost use Rattle.layout.specs.Views.{piece_view};
 
@@ -145,32 +145,47 @@ fn add_place<'a>(
     Ok(())
 }
 
-/// The extents of the pieces of each output name.
+/// Whether a place is of another object than the one with a number.
+fn is_other(number: u64, place: &Place<'_>) -> bool
+    ensures { result ≡ is_other number (place_view place.now) }
+{
+    place.piece.object != number
+}
+
+/// The extents of the pieces of each output name, but for the GOT, which has this number.
 fn extents_of<'a>(
     alloc: Global,
+    got: u64,
     places: &[Place<'a>],
 ) -> Result<BTreeMap<&'a [u8], Extent>, AllocError>
     requires { AreInLimit (place_views places.now) }
-    ensures { IfOk result (AreExtents (place_views places.now)) }
+    ensures { IfOk result (AreExtents (filter (is_other got) (place_views places.now))) }
 {
     let mut extents = BTreeMap::new(alloc);
     for place in places {
+        if !is_other(got, place) {
+            continue;
+        }
         add_place(&mut extents, place)?;
     }
     Ok(extents)
 }
 
-/// The bounds of pieces at their places.
-pub fn bounds_of<'a>(alloc: Global, places: &[Place<'a>]) -> Result<Bounds<'a>, AllocError>
+/// The bounds of pieces at their places, of which the GOT has this number.
+pub fn bounds_of<'a>(
+    alloc: Global,
+    got: u64,
+    places: &[Place<'a>],
+) -> Result<Bounds<'a>, AllocError>
     requires { AreInLimit (place_views places.now) }
-    ensures { IfOk result (AreBounds (place_views places.now)) }
+    ensures { IfOk result (AreBounds got (place_views places.now)) }
 {
     Ok(Bounds {
         code_end: end_of(Part::Code, places),
         data_end: end_of(Part::FileData, places),
         zero_start: start_of(Part::Zeros, places).unwrap_or(0),
         image_end: end_of(Part::All, places),
-        outputs: extents_of(alloc, places)?,
+        outputs: extents_of(alloc, got, places)?,
     })
 }
 
@@ -194,9 +209,9 @@ fn output_end(extents: &BTreeMap<&[u8], Extent>, name: &[u8]) -> u64
     }
 }
 
-/// What one of the linker's own names stands for, in an image that is mapped from a base on.
-pub fn bound_in(base: u64, bounds: &Bounds<'_>, name: &[u8], bound: Bound) -> u64
-    ensures { result ≡ bound_at base bounds.now name.now bound }
+/// What one of the linker's own names stands for, in an image that is mapped from a base on, with its GOT at an address.
+pub fn bound_in(base: u64, got: u64, bounds: &Bounds<'_>, name: &[u8], bound: Bound) -> u64
+    ensures { result ≡ bound_at base got bounds.now name.now bound }
 {
     match bound {
         Bound::ImageStart => base,
@@ -204,6 +219,7 @@ pub fn bound_in(base: u64, bounds: &Bounds<'_>, name: &[u8], bound: Bound) -> u6
         Bound::DataEnd => bounds.data_end,
         Bound::ZeroStart => bounds.zero_start,
         Bound::ImageEnd => bounds.image_end,
+        Bound::GotStart => got,
         Bound::OutputStart => output_start(&bounds.outputs, named_output(name)),
         Bound::OutputEnd => output_end(&bounds.outputs, named_output(name)),
     }

@@ -1,20 +1,22 @@
-//! The kept sections of loaded objects and the common blocks as pieces.
+//! The kept sections of loaded objects, the common blocks and the GOT as pieces.
 ghost use Rattle.std.specs.Prelude.{◌≡◌, ◌≤◌, ◌++◌, ℕ, All, IfOk, OnOk, map, max};
 ghost use Rattle.elf_model.specs.Commons.{block_piece};
 ghost use Rattle.elf_model.specs.ObjectFile.{sections};
 ghost use Rattle.elf_model.specs.Pieces as pieces;
 ghost use Rattle.search.specs.Views.{loaded_view, loaded_views};
 ghost use Rattle.resolve.specs.Blocks.{block_view, block_views};
+ghost use Rattle.layout.specs.Orders.{got_as, got_list};
 ghost use Rattle.layout.specs.Views.{piece_view, piece_views};
 
-use elf_model::{SHF_ALLOC, SHF_WRITE, SHT_NOBITS, SectionHeader};
+use elf_model::{SHF_ALLOC, SHF_WRITE, SHT_NOBITS, SHT_PROGBITS, SectionHeader};
 use elf_read::Object;
 use resolve::Block;
 use search::Loaded;
 use std::alloc::{AllocError, Global};
 
 /// A kept section of a loaded object: its object's and its own number, its header, its name and its input
-/// bytes (none for NOBITS). Or a common block, which has the header of a section without bytes that may be written.
+/// bytes (none for NOBITS). Or a common block, which has the header of a section without bytes that may be written. Or
+/// the GOT, which has that of one with bytes; what these are isn't known here.
 #[derive(Clone, Copy, Debug)]
 pub struct Piece<'a> {
     pub object: u64,
@@ -97,6 +99,40 @@ pub fn add_blocks<'a>(out: &mut Vec<Piece<'a>>, blocks: &[Block<'a>]) -> Result<
 {
     for block in blocks {
         out.push(block_piece(block))?;
+    }
+    Ok(())
+}
+
+/// The GOT as a piece, with its number and its size in bytes.
+fn got_piece<'a>(number: u64, size: u64) -> Piece<'a>
+    ensures { piece_view result ≡ got_as number size }
+{
+    Piece {
+        object: number,
+        section: 0,
+        header: SectionHeader {
+            sh_name: 0,
+            sh_type: SHT_PROGBITS,
+            sh_flags: SHF_WRITE + SHF_ALLOC,
+            sh_addr: 0,
+            sh_offset: 0,
+            sh_size: size,
+            sh_link: 0,
+            sh_info: 0,
+            sh_addralign: 8,
+            sh_entsize: 0,
+        },
+        name: &[],
+        bytes: &[],
+    }
+}
+
+/// Puts the GOT behind the pieces, where it has a size.
+pub fn add_got(out: &mut Vec<Piece<'_>>, number: u64, size: u64) -> Result<(), AllocError>
+    ensures { OnOk result (piece_views out.new.items ≡ piece_views out.old.items ++ got_list number size) }
+{
+    if size > 0 {
+        out.push(got_piece(number, size))?;
     }
     Ok(())
 }

@@ -1,25 +1,30 @@
-//! Where the pieces of objects stand, in which segments, and the address of each kept section and common block.
+//! Where the pieces of objects and the GOT stand, in which segments, and the address of each kept section, of each common
+//! block and of the GOT.
 ghost use Rattle.std.specs.Prelude.{◌≡◌, IfErr, IfOk, OnOk, find, option_map};
 ghost use Rattle.elf_model.specs.Command.{IsBase};
 ghost use Rattle.elf_model.specs.Commons as commons;
+ghost use Rattle.elf_model.specs.ImageFile.{is_got_piece};
 ghost use Rattle.elf_model.specs.LinkerValues.{bound_value};
 ghost use Rattle.elf_model.specs.Loading.{AreObjects};
 ghost use Rattle.elf_model.specs.OwnAddresses.{AreOwnAddresses};
-ghost use Rattle.elf_model.specs.OwnLayout.{IsNotTooLarge, own_in_load_order, own_placed, own_segments, own_where};
+ghost use Rattle.elf_model.specs.OwnLayout.{IsNotTooLarge, own_got, own_in_load_order, own_placed, own_segments, own_where};
 ghost use Rattle.elf_model.specs.Pieces.{AreLawfulKinds};
 ghost use Rattle.elf_model.specs.Placement.{is_of_section};
 ghost use Rattle.elf_model.specs.Resolution.{AreSoundCommons};
+ghost use Rattle.elf_model.specs.Slots as slots;
 ghost use Rattle.search.specs.Views.{loaded_views};
 ghost use Rattle.resolve.specs.Blocks.{block_views};
 ghost use Rattle.layout.specs.Laid.{LayoutFails};
 ghost use Rattle.layout.specs.PlaceViews.{place_views};
 ghost use Rattle.layout.specs.Tables.{AreTables};
+ghost use Rattle.layout.specs.Views.{piece_view};
 
 use crate::addresses::{address_in, address_table};
 use crate::bounds::{Bounds, bound_in, bounds_of};
 use crate::faults::LayoutFault;
 use crate::lay::lay_out;
-use crate::order::order_of;
+use crate::order::{got_number, order_of};
+use crate::pieces::Piece;
 use crate::running::Place;
 use elf_model::{Bound, ProgramHeader};
 use resolve::Block;
@@ -27,9 +32,9 @@ use search::Loaded;
 use std::alloc::Global;
 use std::marker::Model;
 
-/// What the linker's own layout says of loaded objects: the pieces at their addresses, the segments that hold
-/// them, the address of each kept section and common block, and what the linker's own names stand for. A `Placement` reads them beside
-/// the objects.
+/// What the linker's own layout says of loaded objects: the pieces and the GOT at their addresses, the segments that hold
+/// them, the address of each kept section and common block and of the GOT, and what the linker's own names stand for. A
+/// `Placement` reads them beside the objects.
 #[derive(Drop)]
 pub struct Tables<'a> {
     places: Vec<Place<'a>>,
@@ -59,33 +64,36 @@ impl<'p, 'a> Model for Placement<'p, 'a> {
     ghost invariant = { λ p. AreTables p.base (loaded_views p.objects.now) p.tables.now };
 }
 
-/// Lays out the kept sections of loaded objects and their common blocks from a base on. Where their kinds are lawful, each piece then stands
-/// at the least multiple of its alignment below neither the headers' end, nor its segment's beginning, nor the end of
-/// a piece before it in the order of the segments.
+/// Lays out the kept sections of loaded objects, their common blocks and their GOT, which has this size in bytes (0
+/// without one), from a base on. Where the kinds of the sections are lawful, each piece then stands at the least multiple
+/// of its alignment below neither the headers' end, nor its segment's beginning, nor the end of a piece before it in the
+/// order of the segments.
 ///
 /// # Errors
 ///
-/// `TooLarge` where the headers or a piece would end above 2 ^ 46, or the file have 2 ^ 32 bytes or more;
+/// `TooLarge` where the headers, a piece or the GOT would end above 2 ^ 46, or the file have 2 ^ 32 bytes or more;
 /// `Memory`.
 pub fn place<'a>(
     alloc: Global,
     objects: &[Loaded<'a>],
     blocks: &[Block<'a>],
+    got_size: u64,
     base: u64,
 ) -> Result<Tables<'a>, LayoutFault>
     requires base { IsBase base }
     requires objects { AreObjects (loaded_views objects.now) }
     requires commons { AreSoundCommons (loaded_views objects.now) }
     requires listed { block_views blocks.now ≡ commons.blocks (loaded_views objects.now) }
+    requires got { got_size ≡ slots.got_size (loaded_views objects.now) }
     ensures tables { IfOk result (AreTables base (loaded_views objects.now)) }
     ensures addresses { OnOk result (AreLawfulKinds (loaded_views objects.now) → AreOwnAddresses base (loaded_views objects.now)) }
     ensures fits { OnOk result (IsNotTooLarge base (loaded_views objects.now)) }
     ensures fault { IfErr result (LayoutFails base (loaded_views objects.now)) }
 {
-    let order = order_of(alloc, objects, blocks)?;
+    let order = order_of(alloc, objects, blocks, got_size)?;
     let layout = lay_out(alloc, &order, base)?;
     let addresses = address_table(alloc, objects, blocks.len(), &layout.places)?;
-    let bounds = bounds_of(alloc, &layout.places)?;
+    let bounds = bounds_of(alloc, got_number(objects), &layout.places)?;
     Ok(Tables {
         places: layout.places,
         segments: layout.segments,
@@ -114,14 +122,14 @@ impl<'p, 'a> Placement<'p, 'a> {
         self.base
     }
 
-    /// The PT_LOAD headers: R, then RX and RW where a piece takes up memory there.
+    /// The PT_LOAD headers: R, then RX and RW where a piece or the GOT takes up memory there.
     pub fn segments(&self) -> &[ProgramHeader]
         ensures { result.now ≡ own_segments self.now.base self.now.objects }
     {
         self.tables.segments.as_slice()
     }
 
-    /// All pieces at their addresses, by ascending address.
+    /// All pieces and the GOT at their addresses, by ascending address.
     pub fn places(&self) -> &[Place<'a>]
         ensures { place_views result.now ≡ own_placed self.now.base self.now.objects }
     {
@@ -133,7 +141,32 @@ impl<'p, 'a> Placement<'p, 'a> {
     pub fn address(&self, object: usize, section: usize) -> Option<u64>
         ensures { result ≡ option_map (λ q. q.at) (find (is_of_section object section) (own_in_load_order self.now.base self.now.objects)) }
     {
+        if object > self.objects.len() {
+            return None;
+        }
         address_in(&self.tables.addresses, object, section)
+    }
+
+    /// The same, and the address of the GOT by its number as a piece.
+    pub fn piece_address(&self, object: usize, section: usize) -> Option<u64>
+        ensures { result ≡ option_map (λ q. q.at) (find (is_of_section object section) (own_placed self.now.base self.now.objects)) }
+    {
+        let table = &*self.tables.addresses;
+        address_in(table, object, section)
+    }
+
+    /// The address of the GOT; None without one.
+    pub fn got(&self) -> Option<u64>
+        ensures { result ≡ option_map (λ g. g.address) (own_got self.now.base self.now.objects) }
+    {
+        address_in(&self.tables.addresses, got_number(self.objects) as usize, 0)
+    }
+
+    /// Whether a piece is the GOT.
+    pub fn is_got(&self, piece: &Piece<'_>) -> bool
+        ensures { result ≡ is_got_piece self.now.objects (piece_view piece.now) }
+    {
+        piece.object == got_number(self.objects)
     }
 
     /// The value of one of the linker's own names, which stands for a bound, where the kinds of all sections are lawful.
@@ -141,6 +174,7 @@ impl<'p, 'a> Placement<'p, 'a> {
         requires { AreLawfulKinds self.now.objects }
         ensures { result ≡ bound_value (own_where self.now.base self.now.objects) name.now bound }
     {
-        bound_in(self.base, &self.tables.bounds, name, bound)
+        let got = self.got().unwrap_or(0);
+        bound_in(self.base, got, &self.tables.bounds, name, bound)
     }
 }

@@ -10,7 +10,7 @@ use Rattle.elf_model.specs.Commons.{Block, block_piece, block_pieces, blocks, pi
 use Rattle.elf_model.specs.Files.{File}
 use Rattle.elf_model.specs.Groups.{AreLawfulGroups}
 use Rattle.elf_model.specs.Loading.{LoadedObject, loaded_objects}
-use Rattle.elf_model.specs.MapRecord.{CommonRow, PlaceRow}
+use Rattle.elf_model.specs.MapRecord.{CommonRow, PlaceRow, SlotRow}
 use Rattle.elf_model.specs.ObjectFile.{IsObject, ObjFaultStands, groups}
 use Rattle.elf_model.specs.Opening.{AreFilesThere, lacks_index, opened}
 use Rattle.elf_model.specs.Meaning.{Common, Linker, Meaning, Symbol, meaning_value}
@@ -18,9 +18,11 @@ use Rattle.elf_model.specs.OwnLayout.{own_where}
 use Rattle.elf_model.specs.Pieces.{AreLawfulKinds, Piece, kept_sections}
 use Rattle.elf_model.specs.Placement.{IsPlaced, IsWithin, Placed, Where, got_things, headers_thing, is_of_section, placed_block, placed_blocks, placed_by, symbol_value, thing_of}
 use Rattle.elf_model.specs.Profile.{IsInProfile}
-use Rattle.elf_model.specs.Relocation.{AreFieldsApart, Fits, Formula, IsFieldInside, IsInRange, IsLawfulRelocation, IsThreadMismatch, Kind, Relocation, S+A, Z+A, definition_of, modulo_64, relocation_kind, relocations, terms_of, value_of, whole_value}
+use Rattle.elf_model.specs.Relocation.{AreFieldsApart, Formula, IsFieldInside, IsInRange, IsLawfulRelocation, IsThreadMismatch, Kind, Relocation, S+A, Z+A, definition_of, modulo_64, relocation_kind, relocations, whole_value}
+use Rattle.elf_model.specs.RelocationValues.{Fits, terms_of, value_of}
 use Rattle.elf_model.specs.Resolution.{AreSoundCommons, AreSoundSymbols, IsDuplicate, IsEntry, SymbolOf, is_absolute}
 use Rattle.elf_model.specs.RightLink.{AreRelocationsRight, AreSectionsListed, EntersRight, IsLoaded, IsRightLink, Subject, facts_of_piece, facts_of_row, placed_of, sections_of, things_of, where_of}
+use Rattle.elf_model.specs.declared.link_map.GotLine.{GotLine}
 use Rattle.elf_model.specs.declared.faults.CmdFault.{CmdFault}
 use Rattle.elf_model.specs.declared.faults.LinkError.{LinkError}
 use Rattle.elf_model.specs.declared.faults.LinkError.TheVariants as error
@@ -62,12 +64,17 @@ value_apart ps s none =
     ap (λ (o : Option Placed). cond (is_absolute s.entry) s.entry.st_value (unwrap_or (option_map (λ q. q.at + s.entry.st_value) o) 0))
     (find-none (is_of_section s.object s.entry.st_shndx) ps none)
 
-module _ (base : ℕ) (objects : List LoadedObject) (rows : List PlaceRow) (commons : List CommonRow) where
+module _ (base : ℕ) (objects : List LoadedObject) (rows : List PlaceRow) (commons : List CommonRow) (got : Option GotLine) (slots : List SlotRow) where
   abbrev own : Where
   own = own_where base objects
 
   abbrev mapped : Where
-  mapped = record { base = base; placed = placed_by rows (kept_sections objects) ++ placed_blocks commons (blocks objects) }
+  mapped = record {
+    base = base;
+    placed = placed_by rows (kept_sections objects) ++ placed_blocks commons (blocks objects);
+    got = got;
+    slots = slots;
+  }
 
   all_apart : (s : SymbolOf) → All (IsElsewhere s) (pieces objects) → All (IsApart s) mapped.placed
   all_apart s none =
@@ -261,7 +268,7 @@ module _ (files : List File) (words : List (List ℕ)) (image text : List ℕ) (
   deny error.Overflow c f =
       excluded (NeverFits l.plan.base objects) (Fits objects (where_of subject)) (relocations objects)
       (of_plan (λ p. Any (NeverFits p.base (loaded_objects files p)) (relocations (loaded_objects files p))) f.0 f.1 f.2) referred.fits
-      (never_fits l.plan.base objects l.map.places l.map.commons)
+      (never_fits l.plan.base objects l.map.places l.map.commons l.map.got l.map.slots)
 
 pub denies_links : (files : List File) (words : List (List ℕ)) (e : LinkError) → Cause files words e → DeniesLinks files words e
 denies_links files words e cause final image text l = deny files words image text l e cause final
@@ -277,3 +284,10 @@ pub no_memory :
     IfErr r (DeniesLinks files words)
 no_memory {X} files words r p =
     subst (λ (s : Result X LinkError). IfErr s (DeniesLinks files words)) (sym (p.1 ∙ ap (λ (e : LinkError). Err e) p.2)) (λ final. absurd final)
+
+-- want of memory has no cause to be told
+pub memory_cause :
+    {X : Type 0} (files : List File) (words : List (List ℕ)) (r : Result X LinkError) → (e : LinkError) × (r ≡ Err e) × (e ≡ error.Memory) →
+    IfErr r (Cause files words)
+memory_cause {X} files words r p =
+    subst (λ (s : Result X LinkError). IfErr s (Cause files words)) (sym (p.1 ∙ ap (λ (e : LinkError). Err e) p.2)) tt

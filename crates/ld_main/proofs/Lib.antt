@@ -6,3 +6,4 @@ pub mod Links
 pub mod Listings
 pub mod Spellings
 pub mod FinalRefusals
+mod SlotLines

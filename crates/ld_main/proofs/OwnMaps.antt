@@ -7,13 +7,15 @@ use Rattle.elf_model.specs.ImageFile.{HasOwnCommonLine, IsOwnMap, place_row_of}
 use Rattle.elf_model.specs.Loading.{LoadedObject}
 use Rattle.elf_model.specs.MapRecord.{CommonRow, MapRecord, ObjectRow, PlaceRow, SymbolRow}
 use Rattle.elf_model.specs.MapText.{AreNumbered, Ascends, CommonBefore, DropBefore, IsOrdered, PlaceBefore, SlotBefore, SymbolBefore}
-use Rattle.elf_model.specs.OwnLayout.{own_places, own_where}
+use Rattle.elf_model.specs.OwnLayout.{got_piece, own_address, own_places, own_where}
+use Rattle.elf_model.specs.Slots.{slots}
 use Rattle.elf_model.specs.Pieces.{Piece, kept_sections}
 use Rattle.elf_model.specs.RightLink.{HasLine, object_rows, symbol_row_of}
 use Rattle.elf_model.specs.declared.records.SectionHeader.{SectionHeader}
 use Rattle.layout.specs.Placements.{Basis}
 use Rattle.resolve.specs.Views.{meaning_view, meaning_views}
 use Rattle.resolve.specs.declared.meaning.Meaning as code
+use Rattle.own_link.proofs.OwnSlots.{slots_ascend}
 use Rattle.ld_main.specs.Listings.{IsListing}
 use Rattle.ld_main.specs.Maps.{IsMapOf, own_row}
 use Rattle.ld_main.proofs.DropLines.{drop_rows-ascend}
@@ -23,9 +25,6 @@ numbered : (j : ℕ) (L : List LoadedObject) (k : ℕ) (d : ObjectRow) → k < l
 numbered j [] k d within = absurd (omega (arith, within))
 numbered j (o ∷ os) zero d within = omega arith
 numbered j (o ∷ os) (suc k) d within = numbered (j + 1) os k d (omega (arith, within)) ∙ omega arith
-
-ascends_none : {X : Type 0} (Before : X → X → Type 0) (xs : List X) → xs ≡ [] → Ascends Before xs
-ascends_none Before xs is k d within = absurd (let n = ap length is in omega (arith, n, within))
 
 rows_ascend_in : (b : Basis) → Ascends PlaceBefore (map (own_row b) (kept_sections b.objects))
 rows_ascend_in b k d within =
@@ -58,7 +57,9 @@ module _ (b : Basis) (listed : List code.Meaning) (m : MapRecord) (is : IsMapOf 
     commons =
         subst (Ascends CommonBefore) (sym is.commons)
         (own_commons_ascend b.base b.objects (own_where b.base b.objects) (meaning_views listed) symbols_ascend);
-    slots = ascends_none SlotBefore m.slots is.slots;
+    slots =
+        subst (Ascends SlotBefore) (sym is.slots)
+        (slots_ascend (own_address b.base b.objects (got_piece b.objects) + 8) (slots b.objects));
     symbols = subst (Ascends SymbolBefore) (sym is.symbols_are) symbols_ascend;
   }
 

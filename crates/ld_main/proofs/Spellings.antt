@@ -4,10 +4,13 @@ use Rattle.std.specs.Prelude.{All}
 use Rattle.std.proofs.lemmas.List.{drop_more, map-append}
 use Rattle.std.proofs.lemmas.List.Elements.{All-append, All-cons}
 use Rattle.elf_model.specs.Loading.{LoadedObject}
-use Rattle.elf_model.specs.MapText.{FitsCommon, FitsDrop, FitsObject, FitsPlace, FitsSymbol}
+use Rattle.elf_model.specs.MapText.{FitsCommon, FitsDrop, FitsObject, FitsPlace, FitsSymbol, FitsTarget}
 use Rattle.elf_model.specs.ObjectFile.{null_section, sections}
 use Rattle.elf_model.specs.Pieces.{is_kept, piece_of, pieces_from, pieces_of}
 use Rattle.elf_model.specs.Placement.{Where}
+use Rattle.elf_model.specs.Slots.{Request}
+use Rattle.got_tls.specs.Views.{slot_view, slot_views}
+use Rattle.got_tls.specs.declared.slot_table.Slot.{Slot}
 use Rattle.elf_model.specs.RightLink.{drop_rows, drops_from, is_dropped_line, object_rows, symbol_row_of}
 use Rattle.elf_model.specs.declared.link_map.DropLine.{DropLine}
 use Rattle.elf_model.specs.declared.records.SectionHeader.{SectionHeader}
@@ -46,6 +49,13 @@ commons_fit b xs k d within fits rest =
     subst (λ (ys : List code.Meaning). All FitsCommon (own_commons b.base b.objects (meaning_views ys))) (sym (drop_more xs k d within))
     (All-append FitsCommon (common_rows_of b.base b.objects (meaning_view (get_or xs k d)))
     (own_commons b.base b.objects (meaning_views (drop (k + 1) xs))) fits rest)
+
+pub targets_fit :
+    (xs : List Slot) (k : ℕ) (d : Slot) → k < length xs → FitsTarget (slot_view (get_or xs k d)).target →
+    All (λ q. FitsTarget q.target) (slot_views (drop (k + 1) xs)) → All (λ q. FitsTarget q.target) (slot_views (drop k xs))
+targets_fit xs k d within fits rest =
+    subst (λ (ys : List Slot). All (λ (q : Request). FitsTarget q.target) (slot_views ys)) (sym (drop_more xs k d within))
+    (All-cons (λ (q : Request). FitsTarget q.target) _ _ fits rest)
 
 -- the lines of the kept sections of an object from one on
 abbrev pub FitFrom : Basis → ℕ → LoadedObject → ℕ → List SectionHeader → Type 0

@@ -10,7 +10,8 @@ use Rattle.elf_model.specs.Loading.{LoadedObject, loaded_objects}
 use Rattle.elf_model.specs.Meaning.{Common, Linker, Meaning, Symbol}
 use Rattle.elf_model.specs.OwnLayout.{own_where}
 use Rattle.elf_model.specs.Pieces.{Piece}
-use Rattle.elf_model.specs.Relocation.{Fits, Formula, Kind, Relocation, S+A, Z+A, definition_of, relocation_kind, relocations}
+use Rattle.elf_model.specs.Relocation.{Formula, Kind, Relocation, S+A, Z+A, definition_of, relocation_kind, relocations}
+use Rattle.elf_model.specs.RelocationValues.{Fits}
 use Rattle.elf_model.specs.Resolution.{SymbolOf, is_absolute}
 use Rattle.elf_model.specs.RightLink.{IsRightLink}
 use Rattle.elf_model.specs.declared.faults.LinkError.{LinkError}

@@ -1,5 +1,5 @@
 -- What a prepared link is of, and what it keeps.
-use Rattle.std.specs.Prelude.{◌≡◌, ℕ, ◌^◌, ◌<◌, List}
+use Rattle.std.specs.Prelude.{◌≡◌, ℕ, ◌^◌, ◌<◌, List, map}
 use Rattle.elf_model.specs.Causes.{IsLinkable}
 use Rattle.elf_model.specs.Command.{IsBase, Plan}
 use Rattle.elf_model.specs.Files.{File}
@@ -8,11 +8,14 @@ use Rattle.elf_model.specs.Loading.{AreObjects, LoadedObject, loaded_objects}
 use Rattle.elf_model.specs.MapRecord.{MapRecord}
 use Rattle.elf_model.specs.MapText.{Fits, IsMap}
 use Rattle.elf_model.specs.MapText as map_text
+use Rattle.elf_model.specs.OwnLayout.{own_where}
+use Rattle.elf_model.specs.Slots.{slots}
 use Rattle.layout.specs.Tables.{AreTables}
 use Rattle.relocate.specs.PatchTables.{ArePatchesOf}
+use Rattle.relocate.specs.Values.{slot_value_of}
 use Rattle.resolve.specs.Views.{meaning_views}
 use Rattle.ld_main.specs.Listings.{IsListing}
-use Rattle.ld_main.specs.Maps.{own_record}
+use Rattle.ld_main.specs.Maps.{own_record, own_table}
 use Rattle.ld_main.specs.Outputs.{AreLinkable}
 use Rattle.ld_main.specs.declared.linkage.Parts.{Parts}
 
@@ -28,6 +31,8 @@ pub record IsLinkageOf (p : Plan) (objects : List LoadedObject) (x : Parts) : Ty
   pub linkable : AreLinkable p objects
   pub listed : IsListing objects x.listed.items
   pub tables : AreTables p.base objects x.tables
+  pub table : x.slots ≡ own_table objects
+  pub values : x.values.items ≡ map (slot_value_of objects (own_where p.base objects)) (slots objects)
   pub patches : ArePatchesOf (record { base = p.base; objects = objects }) x.patches
   pub entry : own_entry p.base objects p.entry ≡ x.entry
   pub entry_fits : x.entry < 2 ^ 64

@@ -1,13 +1,16 @@
 -- The map of objects where they are laid out.
-use Rattle.std.specs.Prelude.{◌≡◌, ◌+◌, ◌≤◌, ◌^◌, List, [], None, IfSome, find, map, option_map}
+use Rattle.std.specs.Prelude.{◌≡◌, ◌+◌, ◌≤◌, ◌^◌, List, IfSome, find, map, option_map}
 use Rattle.elf_model.specs.ImageFile.{place_row_of}
+use Rattle.elf_model.specs.Loading.{LoadedObject}
 use Rattle.elf_model.specs.MapRecord.{MapRecord, PlaceRow}
 use Rattle.elf_model.specs.Meaning.{Common, Linker, Meaning, Symbol}
-use Rattle.elf_model.specs.OwnLayout.{own_address, own_where}
+use Rattle.elf_model.specs.OwnLayout.{own_address, own_got, own_slots, own_where}
 use Rattle.elf_model.specs.Pieces.{Piece, kept_sections}
 use Rattle.elf_model.specs.Placement.{Placed, is_of_section}
 use Rattle.elf_model.specs.Resolution.{SymbolOf}
 use Rattle.elf_model.specs.RightLink.{drop_rows, object_rows, symbol_row_of}
+use Rattle.elf_model.specs.Slots.{got_size, slots}
+use Rattle.got_tls.specs.Views.{Got}
 use Rattle.layout.specs.Placements.{Basis}
 use Rattle.ld_main.specs.CommonRows.{own_commons}
 
@@ -25,15 +28,19 @@ LiesWithin ps (Linker name bound) = Unit {0}
 abbrev pub own_row : Basis → Piece → PlaceRow
 own_row b p = place_row_of (record { at = own_address b.base b.objects p; piece = p })
 
--- a map of the objects, their dropped sections, their kept ones and their common blocks at their own addresses, and
--- definitions with their values
+-- the GOT's size and its slots
+abbrev pub own_table : List LoadedObject → Got
+own_table objects = record { got = got_size objects; slots = slots objects }
+
+-- a map of the objects, their dropped sections, their kept ones, their common blocks, the GOT and its slots at their own
+-- addresses, and definitions with their values
 pub record IsMapOf (b : Basis) (listed : List Meaning) (m : MapRecord) : Type 0 where
   pub objects_are : m.objects ≡ object_rows 0 b.objects
   pub drops : m.drops ≡ drop_rows 0 b.objects
   pub places : m.places ≡ map (own_row b) (kept_sections b.objects)
   pub commons : m.commons ≡ own_commons b.base b.objects listed
-  pub got : m.got ≡ None
-  pub slots : m.slots ≡ []
+  pub got : m.got ≡ own_got b.base b.objects
+  pub slots : m.slots ≡ own_slots b.base b.objects
   pub symbols_are : m.symbols ≡ map (symbol_row_of (own_where b.base b.objects)) listed
 
 -- that map's lines
@@ -43,7 +50,7 @@ own_record b listed = record {
   drops = drop_rows 0 b.objects;
   places = map (own_row b) (kept_sections b.objects);
   commons = own_commons b.base b.objects listed;
-  got = None;
-  slots = [];
+  got = own_got b.base b.objects;
+  slots = own_slots b.base b.objects;
   symbols = map (symbol_row_of (own_where b.base b.objects)) listed;
 }

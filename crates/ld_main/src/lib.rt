@@ -9,6 +9,7 @@ mod own_map;
 mod profile;
 mod program;
 mod refusals;
+mod slot_lines;
 mod spelling;
 
 pub use checker::{Clause, Verdict, check};

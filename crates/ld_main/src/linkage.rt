@@ -1,12 +1,14 @@
 //! A link that is prepared: the loaded objects, where they stand, what their relocations want, and what their
 //! names mean.
-ghost use Rattle.std.specs.Prelude.{◌≡◌, IfErr, IfOk, OnOk};
+ghost use Rattle.std.specs.Prelude.{◌≡◌, IfErr, IfOk, OnOk, map};
 ghost use Rattle.elf_model.specs.Causes.{Cause};
 ghost use Rattle.elf_model.specs.Command.{IsBase};
 ghost use Rattle.elf_model.specs.Files.{files_of, words_of};
 ghost use Rattle.elf_model.specs.ImageFile.{IsOwnMap, image_file};
 ghost use Rattle.elf_model.specs.Loading.{AreObjects};
 ghost use Rattle.elf_model.specs.MapRecord.{map_of};
+ghost use Rattle.elf_model.specs.OwnLayout.{own_where};
+ghost use Rattle.elf_model.specs.Slots as wanted;
 ghost use Rattle.layout.specs.Tables.{AreTables};
 ghost use Rattle.relocate.specs.PatchTables.{ArePatchesOf};
 ghost use Rattle.search.specs.Views.{loaded_views};
@@ -14,7 +16,9 @@ ghost use Rattle.resolve.specs.Views.{meaning_view};
 ghost use Rattle.symbols.specs.Rows.{no_rows};
 ghost use Rattle.ld_main.specs.FinalRefusals.{DeniesLinks};
 ghost use Rattle.ld_main.specs.Linkages.{IsPrepared, IsLinkageOf};
+ghost use Rattle.relocate.specs.Values.{slot_value_of};
 ghost use Rattle.ld_main.specs.Listings.{IsListing};
+ghost use Rattle.ld_main.specs.Maps.{own_table};
 ghost use Rattle.ld_main.specs.Outputs.{AreLaidOut, AreLinkable, AreReferred, AreResolved, EntersAt, LinksRefuse};
 ghost use Rattle.ld_main.specs.Program.{LinksRight};
 
@@ -25,8 +29,9 @@ use crate::refusals::{command_error, layout_error, reloc_error, resolve_error, s
 use crate::spelling::show_spellings;
 use command::{Plan, read_words};
 use elf_model::{InputFile, LinkError, LinkMap};
+use got_tls::{Slots, slots};
 use layout::{Placement, Tables, kinds, place};
-use relocate::{PatchTable, Patches, linker_lines, patches, references};
+use relocate::{PatchTable, Patches, linker_lines, patches, references, slot_values};
 use resolve::{Meaning, Resolved, resolve_over};
 use search::{Loaded, load};
 use std::alloc::{AllocError, Global};
@@ -35,11 +40,14 @@ use std::marker::Model;
 use symbols::{IndexedTable, NameTable};
 
 /// What the phases of a link made of loaded objects: the definitions that have a line, in the order of their names, where
-/// the pieces stand, what the relocations want, and the address at which the image is entered.
+/// the pieces stand, the slots of the GOT and what they hold, what the relocations want, and the address at which the
+/// image is entered.
 #[derive(Drop)]
 pub struct Parts<'a> {
     pub listed: Vec<Meaning<'a>>,
     pub tables: Tables<'a>,
+    pub slots: Slots<'a>,
+    pub values: Vec<u64>,
     pub patches: PatchTable,
     pub entry: u64,
 }
@@ -109,14 +117,17 @@ fn referred_entry<'a>(
     }
 }
 
-/// Objects whose references are lawful, laid out with their common blocks from the plan's base on.
+/// Objects whose references are lawful, laid out with their common blocks and their GOT, of a size in bytes, from the
+/// plan's base on.
 fn laid_out<'a>(
     alloc: Global,
     plan: &Plan<'_>,
     objects: &[Loaded<'a>],
     resolved: &Resolved<'_, 'a>,
+    got_size: u64,
 ) -> Result<Tables<'a>, LinkError>
     requires same { resolved.now ≡ loaded_views objects.now }
+    requires got { got_size ≡ wanted.got_size (loaded_views objects.now) }
     requires base { IsBase plan.now.base }
     requires objects { AreObjects (loaded_views objects.now) }
     requires referred { AreReferred plan.now (loaded_views objects.now) }
@@ -124,7 +135,7 @@ fn laid_out<'a>(
     ensures laid { OnOk result (AreLaidOut plan.now (loaded_views objects.now)) }
     ensures fault { IfErr result (LinksRefuse plan.now (loaded_views objects.now)) }
 {
-    match place(alloc, objects, resolved.blocks(), plan.base) {
+    match place(alloc, objects, resolved.blocks(), got_size, plan.base) {
         Ok(tables) => Ok(tables),
         Err(fault) => Err(layout_error(fault)),
     }
@@ -137,15 +148,17 @@ fn fitted<'a>(
     objects: &[Loaded<'a>],
     resolved: &Resolved<'_, 'a>,
     placement: &Placement<'_, 'a>,
+    slots: &Slots<'a>,
 ) -> Result<PatchTable, LinkError>
     requires same { resolved.now ≡ loaded_views objects.now }
+    requires slots { slots.now ≡ own_table (loaded_views objects.now) }
     requires placed { placement.now ≡ record { base = plan.now.base; objects = loaded_views objects.now } }
     requires laid { AreLaidOut plan.now (loaded_views objects.now) }
     ensures patches { IfOk result (ArePatchesOf placement.now) }
     ensures linkable { OnOk result (AreLinkable plan.now (loaded_views objects.now)) }
     ensures fault { IfErr result (LinksRefuse plan.now (loaded_views objects.now)) }
 {
-    match patches(alloc, objects, resolved, placement) {
+    match patches(alloc, objects, resolved, placement, slots) {
         Ok(patches) => Ok(patches),
         Err(fault) => Err(reloc_error(fault)),
     }
@@ -157,6 +170,8 @@ fn parts_of<'a>(
     objects: &[Loaded<'a>],
     listed: Vec<Meaning<'a>>,
     tables: Tables<'a>,
+    slots: Slots<'a>,
+    values: Vec<u64>,
     patches: PatchTable,
     entry: &Meaning<'a>,
 ) -> Parts<'a>
@@ -164,6 +179,8 @@ fn parts_of<'a>(
     requires objects { AreObjects (loaded_views objects.now) }
     requires listed { IsListing (loaded_views objects.now) listed.items }
     requires tables { AreTables plan.now.base (loaded_views objects.now) tables }
+    requires slots { slots ≡ own_table (loaded_views objects.now) }
+    requires values { values.items ≡ map (slot_value_of (loaded_views objects.now) (own_where plan.now.base (loaded_views objects.now))) (wanted.slots (loaded_views objects.now)) }
     requires patches { ArePatchesOf (record { base = plan.now.base; objects = loaded_views objects.now }) patches }
     requires linkable { AreLinkable plan.now (loaded_views objects.now) }
     requires entry { EntersAt plan.now (loaded_views objects.now) (meaning_view entry.now) }
@@ -171,10 +188,12 @@ fn parts_of<'a>(
 {
     let placement = Placement::new(plan.base, &*objects, &tables);
     let entry = meaning_value(&placement, entry);
-    show_spellings(&placement, objects, &listed);
+    show_spellings(&placement, objects, &slots, &listed);
     Parts {
         listed,
         tables,
+        slots,
+        values,
         patches,
         entry,
     }
@@ -195,12 +214,16 @@ fn prepare_objects<'a, T: NameTable<'a> + Drop>(
 {
     let resolved = resolved_objects(alloc, plan, objects, table)?;
     let entry = referred_entry(alloc, plan, objects, &resolved)?;
-    let tables = laid_out(alloc, plan, objects, &resolved)?;
+    let slots = slots(alloc, objects, &resolved)?;
+    let tables = laid_out(alloc, plan, objects, &resolved, slots.got())?;
     let placement = Placement::new(plan.base, &*objects, &tables);
-    let patches = fitted(alloc, plan, objects, &resolved, &placement)?;
+    let patches = fitted(alloc, plan, objects, &resolved, &placement, &slots)?;
+    let values = slot_values(alloc, &resolved, &placement, &slots)?;
     let linkers = linker_lines(alloc, objects, &resolved)?;
     let listed = listed(alloc, &resolved, &linkers)?;
-    Ok(parts_of(plan, objects, listed, tables, patches, &entry))
+    Ok(parts_of(
+        plan, objects, listed, tables, slots, values, patches, &entry,
+    ))
 }
 
 /// As `prepare`, with the names of the objects kept in any table of names, which is empty at the start.
@@ -225,8 +248,7 @@ pub fn prepare_over<'a, T: NameTable<'a> + Drop>(
         Ok(objects) => objects,
         Err(fault) => return Err(search_error(fault)),
     };
-    let inside = is_in_profile(alloc, &objects)?;
-    if !inside {
+    if !is_in_profile(&objects) {
         return Err(LinkError::NotYet);
     }
     match prepare_objects(alloc, &plan, &objects, table) {
@@ -281,14 +303,26 @@ pub fn image(alloc: Global, linkage: &Linkage<'_>) -> Result<Vec<u8>, AllocError
 {
     let placement = linkage.placement();
     let patches = Patches::new(&placement, &linkage.parts.patches);
-    image_write::image(alloc, &placement, &patches, linkage.parts.entry)
+    image_write::image(
+        alloc,
+        &placement,
+        &patches,
+        &linkage.parts.values,
+        linkage.parts.entry,
+    )
 }
 
-/// The map of a link: its objects, their dropped sections, their kept ones and the common blocks at their addresses,
-/// and the definitions of names with their values; its lines are in order.
+/// The map of a link: its objects, their dropped sections, their kept ones, the common blocks, the GOT and its slots at
+/// their addresses, and the definitions of names with their values; its lines are in order.
 pub fn link_map(alloc: Global, linkage: &Linkage<'_>) -> Result<LinkMap, AllocError>
     ensures { IfOk result (λ m. IsOwnMap linkage.now.plan.base linkage.now.objects (map_of m)) }
 {
     let placement = linkage.placement();
-    map_of_layout(alloc, &placement, &linkage.objects, &linkage.parts.listed)
+    map_of_layout(
+        alloc,
+        &placement,
+        &linkage.objects,
+        &linkage.parts.slots,
+        &linkage.parts.listed,
+    )
 }

@@ -1,11 +1,11 @@
-//! The link map of objects where they are laid out: the objects, their dropped sections, their kept ones and their
-//! common blocks, the definitions with their values.
+//! The link map of objects where they are laid out: the objects, their dropped sections, their kept ones, their common
+//! blocks, the GOT and its slots, the definitions with their values.
 ghost use Rattle.std.specs.Prelude.{◌≡◌, ◌++◌, ◌<◌, ◌^◌, All, IfOk, OnOk, find, map, option_map, unwrap_or};
 ghost use Rattle.elf_model.specs.ImageFile.{common_row_of};
 ghost use Rattle.elf_model.specs.MapRecord.{common_row, map_of, object_row, place_row, symbol_row};
 ghost use Rattle.elf_model.specs.ObjectFile.{sections};
 ghost use Rattle.elf_model.specs.Meaning.{Symbol, meaning_value};
-ghost use Rattle.elf_model.specs.OwnLayout.{own_in_load_order, own_placed, own_where};
+ghost use Rattle.elf_model.specs.OwnLayout.{IsNotTooLarge, own_in_load_order, own_placed, own_where};
 ghost use Rattle.elf_model.specs.Pieces.{AreLawfulKinds, kept_sections, piece_of, pieces_from};
 ghost use Rattle.elf_model.specs.Placement.{is_of_section, section_address, symbol_value};
 ghost use Rattle.elf_model.specs.RightLink.{definition_row, drop_rows, drops_from, is_dropped_line, object_rows, symbol_row_of};
@@ -13,14 +13,16 @@ ghost use Rattle.resolve.specs.Blocks.{block_view};
 ghost use Rattle.resolve.specs.Views.{meaning_view, meaning_views, symbol_view};
 ghost use Rattle.search.specs.Views.{loaded_view, loaded_views};
 ghost use Rattle.ld_main.specs.CommonRows.{own_commons};
-ghost use Rattle.ld_main.specs.Maps.{IsMapOf, LiesBelow, LiesWithin, own_row};
+ghost use Rattle.ld_main.specs.Maps.{IsMapOf, LiesBelow, LiesWithin, own_row, own_table};
 
 use crate::listing::name_of;
+use crate::slot_lines::{got_line, slot_lines};
 use elf_model::{
     CommonLine, Definition, DropLine, LinkMap, ObjectLine, PlaceLine, SHN_ABS, STB_WEAK,
     SectionHeader, SymbolLine,
 };
 use elf_read::Object;
+use got_tls::Slots;
 use layout::Placement;
 use resolve::{Block, Meaning, SymbolOf};
 use search::Loaded;
@@ -187,7 +189,7 @@ fn drop_lines(alloc: Global, objects: &[Loaded<'_>]) -> Result<Vec<DropLine>, Al
 pub fn address_of(placement: &Placement<'_, '_>, object: u64, section: usize) -> u64
     ensures { result ≡ unwrap_or (option_map (λ q. q.at) (find (is_of_section object section) (own_placed placement.now.base placement.now.objects))) 0 }
 {
-    match placement.address(object as usize, section) {
+    match placement.piece_address(object as usize, section) {
         Some(at) => at,
         None => 0,
     }
@@ -280,15 +282,18 @@ fn common_lines(
     Ok(lines)
 }
 
-/// The map of objects that are laid out with the definitions that have a line, in the order of their names.
+/// The map of objects that are laid out with their GOT and the definitions that have a line, in the order of their names.
 pub fn map_of_layout(
     alloc: Global,
     placement: &Placement<'_, '_>,
     objects: &[Loaded<'_>],
+    slots: &Slots<'_>,
     listed: &[Meaning<'_>],
 ) -> Result<LinkMap, AllocError>
     requires same { placement.now.objects ≡ loaded_views objects.now }
+    requires slots { slots.now ≡ own_table placement.now.objects }
     requires kinds { AreLawfulKinds placement.now.objects }
+    requires fits { IsNotTooLarge placement.now.base placement.now.objects }
     requires inside { All (λ m. LiesWithin (own_in_load_order placement.now.base placement.now.objects) (meaning_view m)) listed.now }
     ensures { IfOk result (λ m. IsMapOf placement.now (meaning_views listed.now) (map_of m)) }
 {
@@ -297,8 +302,8 @@ pub fn map_of_layout(
         drops: drop_lines(alloc, objects)?,
         places: place_lines(alloc, placement, objects)?,
         commons: common_lines(alloc, placement, listed)?,
-        got: None,
-        slots: Vec::new(alloc),
+        got: got_line(placement, slots),
+        slots: slot_lines(alloc, placement, slots)?,
         symbols: symbol_lines(alloc, placement, listed)?,
     })
 }

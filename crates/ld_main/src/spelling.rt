@@ -1,22 +1,25 @@
 //! The own map can always be spelled: its numbers are below 2 ^ 64, and its names are bytes, by the types of what
 //! its lines are made from. Nothing here does anything when the program runs.
-ghost use Rattle.std.specs.Prelude.{◌≡◌, ◌<◌, ◌^◌, All, map};
+ghost use Rattle.std.specs.Prelude.{◌≡◌, ◌<◌, ◌^◌, All, map, option_to_list};
 ghost use Rattle.elf_model.specs.ImageFile.{common_row_of};
-ghost use Rattle.elf_model.specs.MapText.{AreBytes, Fits, FitsCommon, FitsDrop, FitsObject, FitsPlace, FitsSymbol};
+ghost use Rattle.elf_model.specs.MapText.{AreBytes, Fits, FitsCommon, FitsDrop, FitsGot, FitsObject, FitsPlace, FitsSlot, FitsSymbol, FitsTarget};
 ghost use Rattle.elf_model.specs.Meaning.{Common, Linker, Symbol};
 ghost use Rattle.elf_model.specs.ObjectFile.{sections};
-ghost use Rattle.elf_model.specs.OwnLayout.{own_in_load_order, own_where};
+ghost use Rattle.elf_model.specs.OwnLayout.{IsNotTooLarge, own_got, own_in_load_order, own_slots, own_where};
 ghost use Rattle.elf_model.specs.Pieces.{AreLawfulKinds, kept_sections, piece_of, pieces_from};
 ghost use Rattle.elf_model.specs.RightLink.{drop_rows, drops_from, object_rows, symbol_row_of};
+ghost use Rattle.got_tls.specs.Views.{slot_view, slot_views};
 ghost use Rattle.resolve.specs.Blocks.{block_view};
 ghost use Rattle.resolve.specs.Views.{meaning_view, meaning_views, symbol_view};
 ghost use Rattle.search.specs.Views.{loaded_view, loaded_views};
 ghost use Rattle.ld_main.specs.CommonRows.{common_rows_of, own_commons};
-ghost use Rattle.ld_main.specs.Maps.{LiesBelow, LiesWithin, own_record, own_row};
+ghost use Rattle.ld_main.specs.Maps.{LiesBelow, LiesWithin, own_record, own_row, own_table};
 
 use crate::own_map::{address_of, block_address, value};
-use elf_model::{Bound, SectionHeader};
+use crate::slot_lines::got_line;
+use elf_model::{Bound, SectionHeader, Target};
 use elf_read::Object;
+use got_tls::{Slot, Slots};
 use layout::Placement;
 use resolve::{Block, Meaning, SymbolOf};
 use search::Loaded;
@@ -184,10 +187,59 @@ fn show_symbols(placement: &Placement<'_, '_>, listed: &[Meaning<'_>])
     }
 }
 
-/// The lines of the map of objects where they are laid out.
-pub fn show_spellings(placement: &Placement<'_, '_>, objects: &[Loaded<'_>], listed: &[Meaning<'_>])
-    requires same { placement.now.objects ≡ loaded_views objects.now }
+/// The line of the GOT.
+fn show_got(placement: &Placement<'_, '_>, slots: &Slots<'_>)
+    requires { slots.now ≡ own_table placement.now.objects }
+    ensures { All FitsGot (option_to_list (own_got placement.now.base placement.now.objects)) }
+{
+    if let Some(line) = got_line(placement, slots) {
+        show_number(line.address);
+        show_number(line.size);
+    }
+}
+
+/// The target of a slot.
+fn show_target(slot: Slot<'_>)
+    ensures { FitsTarget (slot_view slot.entry).target }
+{
+    match slot.target() {
+        Target::Name(name) => show_bytes(name),
+        Target::Local(symbol) => {
+            show_number(symbol.object.0);
+            show_number(symbol.symbol);
+        }
+    }
+}
+
+fn show_targets(slots: &[Slot<'_>])
+    ensures { All (λ q. FitsTarget q.target) (slot_views slots.now) }
+{
+    for slot in slots {
+        show_target(*slot);
+    }
+}
+
+/// The lines of the slots.
+fn show_slots(placement: &Placement<'_, '_>, slots: &Slots<'_>)
+    requires made { slots.now ≡ own_table placement.now.objects }
     requires kinds { AreLawfulKinds placement.now.objects }
+    requires fits { IsNotTooLarge placement.now.base placement.now.objects }
+    ensures { All FitsSlot (own_slots placement.now.base placement.now.objects) }
+{
+    show_targets(slots.slots());
+}
+
+/// The lines of the map of objects where they are laid out.
+pub fn show_spellings(
+    placement: &Placement<'_, '_>,
+    objects: &[Loaded<'_>],
+    slots: &Slots<'_>,
+    listed: &[Meaning<'_>],
+)
+    requires same { placement.now.objects ≡ loaded_views objects.now }
+    requires slots { slots.now ≡ own_table placement.now.objects }
+    requires kinds { AreLawfulKinds placement.now.objects }
+    requires fits { IsNotTooLarge placement.now.base placement.now.objects }
     requires inside { All (λ m. LiesWithin (own_in_load_order placement.now.base placement.now.objects) (meaning_view m)) listed.now }
     ensures { Fits (own_record placement.now (meaning_views listed.now)) }
 {
@@ -195,5 +247,7 @@ pub fn show_spellings(placement: &Placement<'_, '_>, objects: &[Loaded<'_>], lis
     show_drops(objects);
     show_places(placement, objects);
     show_commons(placement, listed);
+    show_got(placement, slots);
+    show_slots(placement, slots);
     show_symbols(placement, listed);
 }

@@ -97,7 +97,7 @@ static ROWS: [(Clause, Change); 19] = [
 ];
 
 /// What the check of `a.o` says.
-fn verdict_of(alloc: Global, object: &[u8], image: &[u8], map: &[u8]) -> Result<Verdict, Fail> {
+pub fn verdict_of(alloc: Global, object: &[u8], image: &[u8], map: &[u8]) -> Result<Verdict, Fail> {
     let files = one_file(alloc, "a.o", object)?;
     let words = words_of(alloc, "a.o")?;
     Ok(check(alloc, &files, &words, image, map)?)

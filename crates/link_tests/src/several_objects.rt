@@ -317,8 +317,8 @@ fn refuses_fields(rt: HostRuntime) -> Result<(), Fail> {
 fn refuses_relocations(rt: HostRuntime) -> Result<(), Fail> {
     let unknown = link_text(rt.alloc(), &[in_text(0, 5, 2, 0)])?;
     assert!(rt; matches!(&unknown, Err(LinkError::RelocKind)));
-    // GOTPCREL.
-    let later = link_text(rt.alloc(), &[in_text(0, 9, 2, 0)])?;
+    // TPOFF32.
+    let later = link_text(rt.alloc(), &[in_text(0, 23, 2, 0)])?;
     assert!(rt; matches!(&later, Err(LinkError::NotYet)));
     Ok(())
 }

@@ -6,18 +6,17 @@ use Rattle.std.proofs.lemmas.List.{get_or-map, length-map}
 use Rattle.std.proofs.lemmas.List.Elements.{All-append, All-cons, All-contains, All-map, All-weaker, Contains-append_left, Contains-append_right, Contains-get_or}
 use Rattle.std.proofs.lemmas.List.Kept.{AllPairs-cons}
 use Rattle.elf_model.specs.Loading.{LoadedObject}
-use Rattle.elf_model.specs.OwnLayout.{IsNotTooLarge, code_pieces, code_start, data_pieces, data_start, own_code, own_data, own_headers_size, own_in_load_order, own_placed, own_places, own_read_only, read_only_pieces, read_only_start}
-use Rattle.elf_model.specs.Commons.{pieces}
+use Rattle.elf_model.specs.OwnLayout.{IsNotTooLarge, code_pieces, code_start, data_pieces, data_start, own_code, own_data, own_headers_size, own_placed, own_places, own_read_only, read_only_pieces, read_only_start}
 use Rattle.elf_model.specs.Pieces.{AreLawfulKinds, Piece, kept_sections, same_output}
 use Rattle.elf_model.specs.Placement.{AreApart, IsNear, IsNext, IsPlaced, IsWithin, Placed, thing_of}
 use Rattle.elf_model.specs.declared.thing.Thing.{Thing}
 use Rattle.elf_model.proofs.Listed.{All-from_contains}
 use Rattle.elf_model.proofs.Neighbours.{StandsBefore, neighbours_passing}
 use Rattle.elf_model.proofs.OwnOrder.{neighbours_in_part}
-use Rattle.own_link.proofs.OwnThings.{own_headers_at, own_things_of}
+use Rattle.own_link.proofs.OwnThings.{own_headers_at, own_stood, own_things_of, stood_listed, stood_other, stood_pieces}
 use Rattle.elf_model.proofs.Pairs.{AllPairs-map, related}
-use Rattle.elf_model.proofs.PieceNumbers.{AreOtherSections, pieces_other}
-use Rattle.elf_model.proofs.Places.{are_own_placed, at_own_address, code_aligned, data_aligned, own_aligned, own_ascending, own_listed, own_place_is, read_only_aligned}
+use Rattle.elf_model.proofs.PieceNumbers.{AreOtherSections}
+use Rattle.elf_model.proofs.Places.{are_own_placed, at_own_address, code_aligned, data_aligned, own_aligned, own_ascending, own_place_is, read_only_aligned}
 use Rattle.elf_model.proofs.Running.{ArePlacedNear, IsAligned, IsBehind, placed_near}
 use Rattle.elf_model.proofs.SameOutput.{same_output-refl}
 
@@ -30,10 +29,10 @@ ahead_apart s t behind a c d = omega (arith, behind, c, d)
 
 module _ (base : ℕ) (objects : List LoadedObject) (kinds : AreLawfulKinds objects) where
   -- what holds of all own places holds of them in load order
-  pub All-loaded : (P : Placed → Type 0) → All P (own_placed base objects) → All P (own_in_load_order base objects)
+  pub All-loaded : (P : Placed → Type 0) → All P (own_placed base objects) → All P (own_stood base objects)
   All-loaded P all =
-      All-from_contains P (own_in_load_order base objects)
-      (λ q c. All-contains P (own_placed base objects) q all (own_listed base objects kinds q c))
+      All-from_contains P (own_stood base objects)
+      (λ q c. All-contains P (own_placed base objects) q all (stood_listed base objects kinds q c))
 
   -- every piece stands behind the headers
   abbrev IsBehindHeaders : Placed → Type 0
@@ -49,22 +48,22 @@ module _ (base : ℕ) (objects : List LoadedObject) (kinds : AreLawfulKinds obje
       (λ k d within. let low = (places.data_ k d within).0 in omega (arith, low, places.starts)))
 
   -- no two pieces share an address
-  loaded_apart : AllPairs (λ p q. AreApart (thing_of p) (thing_of q)) (own_in_load_order base objects)
+  loaded_apart : AllPairs (λ p q. AreApart (thing_of p) (thing_of q)) (own_stood base objects)
   loaded_apart i j d order within =
       by (related IsBehind (own_placed base objects) p q (own_ascending base objects) (there i d (omega (arith, order, within))) (there j d within))
     where
       p : Placed
-      p = get_or (own_in_load_order base objects) i d
+      p = get_or (own_stood base objects) i d
 
       q : Placed
-      q = get_or (own_in_load_order base objects) j d
+      q = get_or (own_stood base objects) j d
 
-      there : (k : ℕ) (d : Placed) → k < length (own_in_load_order base objects) → Contains (own_placed base objects) (get_or (own_in_load_order base objects) k d)
-      there k d low = own_listed base objects kinds (get_or (own_in_load_order base objects) k d) (Contains-get_or (own_in_load_order base objects) k d low)
+      there : (k : ℕ) (d : Placed) → k < length (own_stood base objects) → Contains (own_placed base objects) (get_or (own_stood base objects) k d)
+      there k d low = stood_listed base objects kinds (get_or (own_stood base objects) k d) (Contains-get_or (own_stood base objects) k d low)
 
       other : AreOtherSections p.piece q.piece
       other =
-          AllPairs-map (λ r s. AreOtherSections r.piece s.piece) (at_own_address base objects) (pieces objects) (pieces_other objects)
+          AllPairs-map (λ r s. AreOtherSections r.piece s.piece) (at_own_address base objects) (stood_pieces objects) (stood_other objects)
           i j d order within
 
       by : (p ≡ q) ⊎ (IsBehind p q ⊎ IsBehind q p) → AreApart (thing_of p) (thing_of q)
@@ -74,23 +73,23 @@ module _ (base : ℕ) (objects : List LoadedObject) (kinds : AreLawfulKinds obje
 
   own_apart : AllPairs AreApart (own_things_of base objects)
   own_apart =
-      AllPairs-cons AreApart (own_headers_at base objects) (map thing_of (own_in_load_order base objects))
-      (All-map (AreApart (own_headers_at base objects)) thing_of (own_in_load_order base objects)
+      AllPairs-cons AreApart (own_headers_at base objects) (map thing_of (own_stood base objects))
+      (All-map (AreApart (own_headers_at base objects)) thing_of (own_stood base objects)
       (All-weaker IsBehindHeaders (λ q. AreApart (own_headers_at base objects) (thing_of q))
-      (λ q behind. behind_apart (own_headers_at base objects) (thing_of q) behind) (own_in_load_order base objects)
+      (λ q behind. behind_apart (own_headers_at base objects) (thing_of q) behind) (own_stood base objects)
       (All-loaded IsBehindHeaders own_behind_headers)))
-      (AllPairs-map AreApart thing_of (own_in_load_order base objects) loaded_apart)
+      (AllPairs-map AreApart thing_of (own_stood base objects) loaded_apart)
 
   -- all things are aligned, and lie between the base and 2 ^ 46
   own_things_aligned : All (λ t. t.at % t.align ≡ 0) (own_things_of base objects)
   own_things_aligned =
-      All-cons (λ (t : Thing). t.at % t.align ≡ 0) (own_headers_at base objects) (map thing_of (own_in_load_order base objects)) (omega arith)
-      (All-map (λ (t : Thing). t.at % t.align ≡ 0) thing_of (own_in_load_order base objects) (All-loaded IsAligned (own_aligned base objects)))
+      All-cons (λ (t : Thing). t.at % t.align ≡ 0) (own_headers_at base objects) (map thing_of (own_stood base objects)) (omega arith)
+      (All-map (λ (t : Thing). t.at % t.align ≡ 0) thing_of (own_stood base objects) (All-loaded IsAligned (own_aligned base objects)))
 
   own_things_within : IsNotTooLarge base objects → All (IsWithin base) (own_things_of base objects)
   own_things_within fits =
-      All-cons (IsWithin base) (own_headers_at base objects) (map thing_of (own_in_load_order base objects)) (omega arith, fits.headers)
-      (All-map (IsWithin base) thing_of (own_in_load_order base objects)
+      All-cons (IsWithin base) (own_headers_at base objects) (map thing_of (own_stood base objects)) (omega arith, fits.headers)
+      (All-map (IsWithin base) thing_of (own_stood base objects)
       (All-loaded (λ q. IsWithin base (thing_of q))
       (λ k d within. let low = own_behind_headers k d within in (omega (arith, low), fits.ends k d within))))
 

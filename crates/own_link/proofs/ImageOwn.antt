@@ -1,33 +1,36 @@
 -- The image file of the own layout, for every list of objects: it reads back as its headers, is an image that a
 -- loader maps, has no thread block, holds each piece, and has nothing else.
-use Rattle.std.proofs.Common.{◌≡◌, ℕ, ◌+◌, ◌^◌, ◌<◌, Bool, true, false, cond, List, [], ◌∷◌, ◌++◌, length, refl, sym, ap, subst, arith}
-use Rattle.std.specs.Prelude.{All, Contains, Some}
+use Rattle.std.proofs.Common.{◌≡◌, ℕ, ◌+◌, ◌^◌, ◌<◌, Bool, true, false, cond, List, [], ◌∷◌, ◌++◌, length, map, refl, sym, ◌∙◌, ap, subst, arith}
+use Rattle.std.specs.Prelude.{All, Contains, Some, slice_index}
 use Rattle.std.specs.List.{list_any}
-use Rattle.std.proofs.lemmas.List.{append-nil}
+use Rattle.std.proofs.lemmas.List.{append-nil, map-append}
+use Rattle.std.proofs.lemmas.List.Elements.{Contains-append_left}
 use Rattle.elf_model.specs.Command.{IsBase}
-use Rattle.elf_model.specs.ImageFile.{image_file, own_entry}
+use Rattle.elf_model.specs.Commons.{pieces}
+use Rattle.elf_model.specs.ImageFile.{image_file, own_entry, piece_byte}
 use Rattle.elf_model.specs.Loading.{AreObjects, LoadedObject}
 use Rattle.elf_model.specs.MemoryImage.{IsImage, loads, thread_blocks}
-use Rattle.elf_model.specs.OwnLayout.{IsNotTooLarge, code_pieces, code_start, data_pieces, data_start, header_count, is_nonempty, own_code, own_data, own_headers_size, own_in_load_order, own_where, own_placed, own_read_only, own_segments, placed_has_bytes, read_only_start, segment}
+use Rattle.elf_model.specs.OwnLayout.{IsNotTooLarge, code_pieces, code_start, data_pieces, data_start, got_piece, got_pieces, header_count, is_nonempty, own_address, own_code, own_data, own_headers_size, own_in_load_order, own_where, own_placed, own_read_only, own_segments, placed_has_bytes, read_only_start, segment}
 use Rattle.elf_model.specs.Pieces.{AreLawfulKinds}
 use Rattle.elf_model.specs.Placement.{Placed, headers_thing}
 use Rattle.elf_model.specs.Records.{file_header}
 use Rattle.elf_model.specs.RightLink.{HasNothingElse, HoldsPiece, byte_at}
-use Rattle.elf_model.specs.WantedBytes.{wanted_byte}
+use Rattle.elf_model.specs.Slots.{got_bytes, got_size, has_got}
 use Rattle.elf_model.specs.declared.records.ProgramHeader.{ProgramHeader}
 use Rattle.own_link.proofs.Bytes.{byte_here}
 use Rattle.own_link.proofs.Held.{own_holds}
 use Rattle.own_link.proofs.ImageRead.{IsOwnFile, made_image, made_is_own}
 use Rattle.own_link.proofs.ImageRight.{loads_are, own_entry_is, own_headers_thing, own_is_image, own_no_thread_block}
-use Rattle.elf_model.proofs.Listed.{All-from_contains}
+use Rattle.elf_model.proofs.Listed.{All-from_contains, Contains-from_map, Contains-map}
 use Rattle.own_link.proofs.Nothing.{own_has_nothing_else}
-use Rattle.own_link.proofs.OwnThings.{own_headers_at, own_things_of}
-use Rattle.elf_model.proofs.Places.{AreOwnPlaced}
+use Rattle.own_link.proofs.OwnThings.{laid_out_stood, own_headers_at, own_stood, own_things_of, stood_listed, stood_pieces}
+use Rattle.own_link.proofs.OwnGot.{got_there}
+use Rattle.elf_model.proofs.Places.{AreOwnPlaced, at_own_address}
 use Rattle.own_link.proofs.SegmentHeaders.{AreOwnSegments, own_segments_good}
 use Rattle.own_link.proofs.SegmentPieces.{ArePlacedIn}
 use Rattle.own_link.proofs.Segments.{AreGoodParts, own_parts, own_segments_are, segments_of}
 use Rattle.own_link.proofs.SegmentsOwn.{own_parts_good}
-use Rattle.own_link.proofs.ZeroFilled.{own_wants_zero}
+use Rattle.own_link.proofs.ZeroFilled.{got_wants, own_wants_zero, piece_wants}
 
 -- as many headers are counted as there are, two to four
 counted_by :
@@ -62,6 +65,9 @@ pub record IsOwnImage (base : ℕ) (objects : List LoadedObject) (entry : ℕ) (
   pub entry_is : (file_header image).e_entry ≡ entry
   pub headers_are : headers_thing image ≡ own_headers_at base objects
   pub pieces_held : All (HoldsPiece objects (own_where base objects) image) (own_in_load_order base objects)
+  pub got_held :
+      has_got objects ≡ true → (k : ℕ) → k < got_size objects →
+      byte_at image (own_address base objects (got_piece objects) + k) ≡ Some (slice_index (got_bytes objects (own_where base objects)) k)
   pub nothing_else : HasNothingElse image (own_things_of base objects)
 
 -- the own image where any bytes are wanted of the pieces
@@ -79,12 +85,12 @@ module _ (base : ℕ) (objects : List LoadedObject) (kinds : AreLawfulKinds obje
       subst (AreOwnSegments base (own_headers_size objects)) (sym (own_segments_are base objects))
       (own_segments_good base (own_headers_size objects) (own_parts base objects) good)
 
-  pub placed_in_parts : ArePlacedIn (own_parts base objects) (own_placed base objects) (own_in_load_order base objects)
+  pub placed_in_parts : ArePlacedIn (own_parts base objects) (own_placed base objects) (own_stood base objects)
   placed_in_parts = record {
     joined = ap (λ (qs : List Placed). own_read_only base objects ++ (own_code base objects ++ qs)) (sym (append-nil (own_data base objects)));
     apart = stand.apart;
-    listed = stand.listed;
-    all = stand.all;
+    listed = stood_listed base objects kinds;
+    all = λ q c. laid_out_stood base objects kinds q (stand.all q c);
   }
 
   module _ (want : Placed → ℕ → ℕ) (zero_filled : (q : Placed) (k : ℕ) → Contains (own_placed base objects) q → placed_has_bytes q ≡ false → want q k ≡ 0) (entry : ℕ) (small : entry < 2 ^ 64) where
@@ -132,23 +138,23 @@ module _ (base : ℕ) (objects : List LoadedObject) (kinds : AreLawfulKinds obje
         (header_count objects) (byte_here want (own_segments base objects) (own_placed base objects)) wanted_file
 
     pub wanted_holds :
-        (q : Placed) → Contains (own_in_load_order base objects) q → (k : ℕ) → k < q.piece.size →
+        (q : Placed) → Contains (own_stood base objects) q → (k : ℕ) → k < q.piece.size →
         byte_at (wanted_image want base objects entry) (q.at + k) ≡ Some (want q k)
     wanted_holds =
-        own_holds base (own_headers_size objects) (own_parts base objects) good (own_placed base objects) (own_in_load_order base objects)
+        own_holds base (own_headers_size objects) (own_parts base objects) good (own_placed base objects) (own_stood base objects)
         placed_in_parts want zero_filled (wanted_image want base objects entry) entry (header_count objects) file
 
     pub wanted_has_nothing_else :
         HasNothingElse (wanted_image want base objects entry) (own_things_of base objects)
     wanted_has_nothing_else =
         own_has_nothing_else base (own_headers_size objects) (own_parts base objects) good (own_placed base objects)
-        (own_in_load_order base objects) placed_in_parts (omega arith) want zero_filled (wanted_image want base objects entry) entry
+        (own_stood base objects) placed_in_parts (omega arith) want zero_filled (wanted_image want base objects entry) entry
         (header_count objects) file
 
   -- the image file wants the bytes of the input and of the fields
   module _ (are_objects : AreObjects objects) (entry : List ℕ) (small : own_entry base objects entry < 2 ^ 64) where
     abbrev wants : Placed → ℕ → ℕ
-    wants q k = wanted_byte objects (own_where base objects) q.piece k
+    wants q k = piece_byte objects (own_where base objects) q.piece k
 
     wants_zero : (q : Placed) (k : ℕ) → Contains (own_placed base objects) q → placed_has_bytes q ≡ false → wants q k ≡ 0
     wants_zero = own_wants_zero objects are_objects base stand (own_where base objects)
@@ -156,7 +162,27 @@ module _ (base : ℕ) (objects : List LoadedObject) (kinds : AreLawfulKinds obje
     pieces_held : All (HoldsPiece objects (own_where base objects) (image_file base objects entry)) (own_in_load_order base objects)
     pieces_held =
         All-from_contains (HoldsPiece objects (own_where base objects) (image_file base objects entry)) (own_in_load_order base objects)
-        (λ q c. record { bytes = wanted_holds wants wants_zero (own_entry base objects entry) small q c })
+        (λ q c. record {
+          bytes = λ k within.
+              let i = Contains-from_map (at_own_address base objects) (pieces objects) q c in
+              wanted_holds wants wants_zero (own_entry base objects entry) small q (in_load_order_stood q c) k within
+              ∙ ap Some (piece_wants objects are_objects (own_where base objects) q.piece k (subst (λ (r : Placed). Contains (pieces objects) r.piece) i.is i.there));
+        })
+      where
+        in_load_order_stood : (q : Placed) → Contains (own_in_load_order base objects) q → Contains (own_stood base objects) q
+        in_load_order_stood q c =
+            laid_out_stood base objects kinds q
+            (subst (λ (qs : List Placed). Contains qs q) (sym (map-append (at_own_address base objects) (pieces objects) (got_pieces objects)))
+            (Contains-append_left (own_in_load_order base objects) (map (at_own_address base objects) (got_pieces objects)) q c))
+
+    got_held :
+        has_got objects ≡ true → (k : ℕ) → k < got_size objects →
+        byte_at (image_file base objects entry) (own_address base objects (got_piece objects) + k) ≡ Some (slice_index (got_bytes objects (own_where base objects)) k)
+    got_held there k within =
+        wanted_holds wants wants_zero (own_entry base objects entry) small (at_own_address base objects (got_piece objects))
+        (Contains-map (at_own_address base objects) (stood_pieces objects) (got_piece objects)
+        (Contains-append_left (got_pieces objects) (pieces objects) (got_piece objects) (got_there objects there))) k within
+        ∙ ap Some (got_wants objects are_objects (own_where base objects) k)
 
     pub image_is_own : IsOwnImage base objects (own_entry base objects entry) (image_file base objects entry)
     image_is_own = record {
@@ -166,5 +192,6 @@ module _ (base : ℕ) (objects : List LoadedObject) (kinds : AreLawfulKinds obje
       entry_is = wanted_entry wants wants_zero (own_entry base objects entry) small;
       headers_are = wanted_headers_thing wants wants_zero (own_entry base objects entry) small;
       pieces_held = pieces_held;
+      got_held = got_held;
       nothing_else = wanted_has_nothing_else wants wants_zero (own_entry base objects entry) small;
     }

@@ -15,4 +15,7 @@ pub mod SegmentEnds
 pub mod Nothing
 pub mod ZeroFilled
 pub mod ImageOwn
+pub mod OwnGot
+mod SlotLaws
+pub mod OwnSlots
 pub mod OwnRight

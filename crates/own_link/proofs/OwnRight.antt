@@ -1,6 +1,6 @@
 -- The own link of linkable inputs is right: all clauses of a right link hold of it.
-use Rattle.std.proofs.Common.{◌≡◌, ℕ, ◌<◌, ◌^◌, false, true, List, [], ◌∷◌, ◌++◌, refl, sym, ◌∙◌, ap, subst}
-use Rattle.std.specs.Prelude.{All, Option, Some, None, IsSomeAnd, find, is_some, map, option_map, unwrap_or}
+use Rattle.std.proofs.Common.{◌≡◌, ℕ, ◌+◌, ◌<◌, ◌^◌, Bool, false, true, cond, List, [], ◌∷◌, ◌++◌, refl, sym, ◌∙◌, ap, subst}
+use Rattle.std.specs.Prelude.{All, Option, Some, None, IfSome, IsSomeAnd, count_by, find, is_some, map, option_map, unwrap_or}
 use Rattle.std.specs.Option.{option_and_then}
 use Rattle.std.proofs.lemmas.Bool.{false≢true}
 use Rattle.std.proofs.lemmas.List.{map-append}
@@ -15,19 +15,22 @@ use Rattle.elf_model.specs.MapRecord.{CommonRow, MapRecord, PlaceRow}
 use Rattle.elf_model.specs.MapText.{IsMap, text}
 use Rattle.elf_model.specs.Meaning.{Meaning, meaning_value, meant, object_meaning}
 use Rattle.elf_model.specs.MemoryImage.{loads}
-use Rattle.elf_model.specs.OwnLayout.{own_address, own_in_load_order, own_places, own_segments, own_where}
+use Rattle.elf_model.specs.OwnLayout.{got_line_of, got_piece, own_address, own_in_load_order, own_places, own_segments, own_where}
 use Rattle.elf_model.specs.Pieces.{Piece, kept_sections}
 use Rattle.elf_model.specs.Placement.{HasRights, IsPlaced, Placed, Where, got_things, common_address, headers_thing, is_common_row_of, placed_block, placed_blocks, placed_by, thing_of, things}
 use Rattle.elf_model.specs.Records.{file_header}
-use Rattle.elf_model.specs.Relocation.{AllFit}
+use Rattle.elf_model.specs.RelocationValues.{AllFit}
 use Rattle.elf_model.specs.Resolution.{SymbolOf, chosen, is_in_thread_section}
-use Rattle.elf_model.specs.RightLink.{AreRelocationsRight, AreSectionsListed, AreSymbolsListed, BeforeC10, BeforeC13, BeforeC7, EntersRight, HasLine, HasNothingElse, HoldsPiece, IsLoaded, IsRightLink, Subject, facts_of_block, facts_of_common, facts_of_piece, facts_of_row, placed_of, sections_of, where_of, things_of}
+use Rattle.elf_model.specs.RightLink.{AreRelocationsRight, AreSectionsListed, AreSymbolsListed, BeforeC10, BeforeC13, BeforeC7, EntersRight, HasLine, HasNothingElse, HasSlot, HoldsGot, HoldsPiece, IsGotRight, IsLoaded, IsRightLink, Subject, facts_of_block, facts_of_common, facts_of_piece, facts_of_row, placed_of, sections_of, where_of, things_of}
+use Rattle.elf_model.specs.Slots.{Request, has_got, is_slot_of, requests, size_with, slots}
 use Rattle.elf_model.specs.declared.link_map.GotLine.{GotLine}
 use Rattle.elf_model.specs.declared.records.ProgramHeader.{ProgramHeader}
 use Rattle.elf_model.specs.declared.thing.Thing.{Thing}
 use Rattle.own_link.proofs.ApartThings.{own_is_apart}
 use Rattle.own_link.proofs.ImageOwn.{IsOwnImage, image_is_own}
-use Rattle.own_link.proofs.OwnThings.{own_things_of}
+use Rattle.own_link.proofs.OwnThings.{own_stood, own_things_are, own_things_of}
+use Rattle.own_link.proofs.OwnGot.{got_size_is, slots_count, slots_stand}
+use Rattle.own_link.proofs.SlotLaws.{once_each, slots_count_by}
 use Rattle.elf_model.proofs.BlockNames.{blocks_named}
 use Rattle.elf_model.proofs.Listing.{chosen_means}
 use Rattle.elf_model.proofs.Places.{are_own_placed}
@@ -123,13 +126,14 @@ module _ (files : List File) (words : List (List ℕ)) (p : Plan) (m : MapRecord
       ∙ sym (map-append own_stand (kept_sections objects) (block_pieces objects))
 
   where_is : where_of subject ≡ own_where p.base objects
-  where_is = ap (λ (ps : List Placed). record { base = p.base; placed = ps }) placed_is
+  where_is = λ i. record { base = p.base; placed = placed_is i; got = own_map.got i; slots = own_map.slots i }
 
   things_are : things_of subject ≡ own_things_of p.base objects
   things_are =
       ap (λ (ps : List Placed). things image m ps) placed_is
       ∙ (ap (λ (g : Option GotLine). headers_thing image ∷ (got_things g ++ map thing_of placed)) own_map.got
-      ∙ ap (λ (t : Thing). t ∷ map thing_of placed) own_image.headers_are)
+      ∙ (ap (λ (ts : List Thing). headers_thing image ∷ ts) (own_things_are p.base objects)
+      ∙ ap (λ (t : Thing). t ∷ map thing_of (own_stood p.base objects)) own_image.headers_are))
 
   -- the clauses that speak of the map and of the pieces' places
   loaded : IsLoaded subject
@@ -165,6 +169,38 @@ module _ (files : List File) (words : List (List ℕ)) (p : Plan) (m : MapRecord
       (subst (λ (ts : List Thing). HasRights p.base (own_segments p.base objects) ts (got_things m.got)) (sym things_are)
       (subst (λ (g : Option GotLine). HasRights p.base (own_segments p.base objects) (own_things_of p.base objects) (got_things g)) (sym own_map.got)
       (own_has_rights p.base objects resolved.kinds)))
+
+  -- the GOT stands where one is asked for, and holds its slots
+  got_there_by : (b : Bool) → is_some (cond b (Some (got_line_of p.base objects)) None) ≡ b
+  got_there_by true = refl
+  got_there_by false = refl
+
+  has_slot : (q : Request) → HasSlot m.slots objects q
+  has_slot q =
+      ap (count_by (is_slot_of q)) own_map.slots
+      ∙ (slots_count_by q (own_address p.base objects (got_piece objects) + 8) (slots objects) ∙ once_each q (requests objects))
+
+  abbrev IsHeld : Option GotLine → Type 0
+  IsHeld got = IfSome got (HoldsGot objects (own_where p.base objects) image)
+
+  held_by : (b : Bool) → has_got objects ≡ b → IsHeld (cond b (Some (got_line_of p.base objects)) None)
+  held_by false none = tt
+  held_by true there = record {
+    size =
+        got_size_is objects there
+        ∙ ap size_with (sym (slots_count (own_address p.base objects (got_piece objects) + 8) (slots objects)));
+    places = slots_stand (own_address p.base objects (got_piece objects) + 8) (slots objects);
+    bytes = own_image.got_held there;
+  }
+
+  got_right : IsGotRight subject
+  got_right = record {
+    present = ap is_some own_map.got ∙ got_there_by (has_got objects);
+    slots = has_slot;
+    held =
+        subst (λ (w : Where). IfSome m.got (HoldsGot objects w image)) (sym where_is)
+        (subst IsHeld (sym own_map.got) (held_by (has_got objects) refl));
+  }
 
   relocations_right : AreRelocationsRight subject
   relocations_right = record {
@@ -205,7 +241,7 @@ module _ (files : List File) (words : List (List ℕ)) (p : Plan) (m : MapRecord
   before_c7 = ((((loaded, sections_listed), own_image.accepted), placed_right), rights_right)
 
   before_c10 : BeforeC10 subject
-  before_c10 = (((before_c7, record { got = own_map.got; slots = own_map.slots }), own_image.no_thread_block), relocations_right)
+  before_c10 = (((before_c7, got_right), own_image.no_thread_block), relocations_right)
 
   before_c13 : BeforeC13 subject
   before_c13 = (((before_c10, pieces_held), nothing_else), enters)

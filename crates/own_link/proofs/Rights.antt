@@ -1,25 +1,26 @@
 -- Clause C6 holds of the own layout: the first segment begins at the base, and each nonempty thing lies whole
 -- in a segment with its rights.
-use Rattle.std.proofs.Common.{◌≡◌, ℕ, ◌+◌, ◌<◌, ◌≤◌, ◌⊎◌, ◌||◌, inl, inr, Bool, true, not, List, [], ◌∷◌, ◌++◌, map, refl, sym, ◌∙◌, ap, subst, arith}
-use Rattle.std.specs.Prelude.{All, Contains}
+use Rattle.std.proofs.Common.{◌≡◌, ℕ, ◌+◌, ◌<◌, ◌≤◌, ◌⊎◌, ◌||◌, inl, inr, Bool, true, false, cond, not, List, [], ◌∷◌, ◌++◌, map, refl, sym, ◌∙◌, ap, subst, arith}
+use Rattle.std.specs.Prelude.{All, Contains, Some, None}
 use Rattle.std.specs.List.{list_any}
 use Rattle.std.proofs.lemmas.Bool.{and_parts, false_from_ne_true, lt-ltb, not-true, or_left, or_right}
 use Rattle.std.proofs.lemmas.List.Elements.{All-append, All-cons, All-contains, All-map, All-nil, Contains-append_left, Contains-append_right}
-use Rattle.elf_model.specs.Commons.{pieces}
 use Rattle.elf_model.specs.Loading.{LoadedObject}
 use Rattle.elf_model.specs.MemoryImage.{Encloses}
-use Rattle.elf_model.specs.OwnLayout.{any_placed, code_pieces, code_start, data_pieces, data_start, greatest_end, is_code, is_nonempty, is_read_only, own_code, own_data, own_placed, own_read_only, own_segments, own_in_load_order, placed_from, read_only_start, segment, segment_if}
+use Rattle.elf_model.specs.OwnLayout.{any_placed, code_pieces, code_start, data_pieces, data_start, greatest_end, is_code, is_nonempty, is_read_only, laid_out, own_code, own_data, own_placed, own_read_only, own_segments, own_got, got_line_of, got_piece, placed_from, read_only_start, segment, segment_if}
 use Rattle.elf_model.specs.Pieces.{AreLawfulKinds, IsLawfulKind, Piece, is_executable, is_writable, piece_rights}
-use Rattle.elf_model.specs.Placement.{HasRights, LiesInSegment, Placed, thing_of}
+use Rattle.elf_model.specs.Placement.{HasRights, LiesInSegment, Placed, got_things, thing_of}
+use Rattle.elf_model.specs.Slots.{has_got}
 use Rattle.elf_model.specs.declared.records.ProgramHeader.{ProgramHeader}
 use Rattle.elf_model.specs.declared.thing.Thing.{Thing}
 use Rattle.own_link.proofs.ApartThings.{All-loaded}
 use Rattle.own_link.proofs.Ends.{EndsBelow, greatest_end-from, greatest_end-holds}
+use Rattle.own_link.proofs.OwnGot.{got_nonempty, got_there}
 use Rattle.elf_model.proofs.Finding.{Any-from_contains, Any-here}
 use Rattle.elf_model.proofs.Listed.{All-from_contains, Contains-cons_cases, Contains-here, Contains-map, Contains-nil, Contains-there}
-use Rattle.elf_model.proofs.OwnOrder.{code_not_writable, from_data, pieces_lawful}
-use Rattle.own_link.proofs.OwnThings.{own_headers_at, own_things_of}
-use Rattle.elf_model.proofs.Places.{are_own_placed}
+use Rattle.elf_model.proofs.OwnOrder.{code_not_writable, from_data, laid_out_lawful}
+use Rattle.own_link.proofs.OwnThings.{own_headers_at, own_stood, own_things_of}
+use Rattle.elf_model.proofs.Places.{are_own_placed, at_own_address, got_listed}
 use Rattle.elf_model.proofs.Running.{placed_pieces}
 
 -- the rights of the pieces of each segment
@@ -114,7 +115,7 @@ module _ (base : ℕ) (objects : List LoadedObject) (kinds : AreLawfulKinds obje
       let piece : Contains (data_pieces objects) q.piece =
       subst (λ (rs : List Piece). Contains rs q.piece) (placed_pieces (data_start base objects) (data_pieces objects))
       (Contains-map (λ (r : Placed). r.piece) (own_data base objects) q c) in
-      All-contains (λ (p : Piece). IsLawfulKind p.header) (pieces objects) q.piece (pieces_lawful objects kinds) (from_data objects q.piece piece).0
+      All-contains (λ (p : Piece). IsLawfulKind p.header) (laid_out objects) q.piece (laid_out_lawful objects kinds) (from_data objects q.piece piece).0
 
   data_lie : All LiesRight (own_data base objects)
   data_lie =
@@ -141,13 +142,25 @@ module _ (base : ℕ) (objects : List LoadedObject) (kinds : AreLawfulKinds obje
       Any-here (λ (h : ProgramHeader). Encloses h (own_headers_at base objects).at (own_headers_at base objects).size × (h.p_flags ≡ 4)) read_only_segment
       (segment_if (code_pieces objects) code_segment ++ segment_if (data_pieces objects) data_segment) ((omega arith, omega (arith, from)), refl)
 
-  pub own_has_rights : HasRights base (own_segments base objects) (own_things_of base objects) []
+  -- the GOT lies in a segment as other pieces that stand do
+  got_lies :
+      (b : Bool) → has_got objects ≡ b →
+      All (LiesInSegment (own_segments base objects)) (got_things (cond b (Some (got_line_of base objects)) None))
+  got_lies false none = All-nil (LiesInSegment (own_segments base objects))
+  got_lies true there =
+      let lies : LiesRight (at_own_address base objects (got_piece objects)) =
+      All-contains LiesRight (own_placed base objects) (at_own_address base objects (got_piece objects)) own_places_lie
+      (got_listed base objects kinds (got_piece objects) (got_there objects there)) in
+      All-cons (LiesInSegment (own_segments base objects)) (thing_of (at_own_address base objects (got_piece objects))) []
+      (lies (got_nonempty objects there)) (All-nil (LiesInSegment (own_segments base objects)))
+
+  pub own_has_rights : HasRights base (own_segments base objects) (own_things_of base objects) (got_things (own_got base objects))
   own_has_rights = record {
     first = refl;
     nonempty =
         All-cons (λ (t : Thing). 0 < t.size → LiesInSegment (own_segments base objects) t) (own_headers_at base objects)
-        (map thing_of (own_in_load_order base objects)) (λ some. headers_lie)
-        (All-map (λ (t : Thing). 0 < t.size → LiesInSegment (own_segments base objects) t) thing_of (own_in_load_order base objects)
+        (map thing_of (own_stood base objects)) (λ some. headers_lie)
+        (All-map (λ (t : Thing). 0 < t.size → LiesInSegment (own_segments base objects) t) thing_of (own_stood base objects)
         (All-loaded base objects kinds LiesRight own_places_lie));
-    got = All-nil (LiesInSegment (own_segments base objects));
+    got = got_lies (has_got objects) refl;
   }

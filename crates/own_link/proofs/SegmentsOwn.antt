@@ -6,14 +6,13 @@ use Rattle.std.proofs.lemmas.Bool.{true≢false}
 use Rattle.std.proofs.lemmas.List.Elements.{All-cons, All-nil, All-contains, All-map, All-weaker, Contains-append_left, Contains-append_right}
 use Rattle.std.proofs.lemmas.List.Kept.{AllPairs-cons}
 use Rattle.elf_model.specs.Command.{IsBase}
-use Rattle.elf_model.specs.Commons.{pieces}
 use Rattle.elf_model.specs.Loading.{LoadedObject}
-use Rattle.elf_model.specs.OwnLayout.{IsNotTooLarge, any_placed, code_pieces, code_start, data_pieces, data_start, greatest_end, is_code, is_read_only, own_address, own_code, own_data, own_headers_size, own_in_load_order, own_placed, own_read_only, page_up, placed_end, placed_has_bytes, read_only_start}
+use Rattle.elf_model.specs.OwnLayout.{IsNotTooLarge, any_placed, code_pieces, code_start, data_pieces, data_start, greatest_end, is_code, is_read_only, laid_out, own_address, own_code, own_data, own_headers_size, own_laid_out, own_placed, own_read_only, page_up, placed_end, placed_has_bytes, read_only_start}
 use Rattle.elf_model.specs.Pieces.{AreLawfulKinds, IsLawfulKind, is_executable, is_nobits, is_writable}
 use Rattle.elf_model.specs.Placement.{Placed}
 use Rattle.own_link.proofs.Ends.{greatest_end-below, greatest_end-from}
 use Rattle.elf_model.proofs.Listed.{All-from_contains, All-parts}
-use Rattle.elf_model.proofs.OwnOrder.{pieces_lawful}
+use Rattle.elf_model.proofs.OwnOrder.{laid_out_lawful}
 use Rattle.elf_model.proofs.Pairs.{AllPairs-nil}
 use Rattle.elf_model.proofs.Places.{AreOwnPlaced}
 use Rattle.own_link.proofs.Segments.{AreGoodParts, IsGoodPart, Part, good_later, later_part, own_parts, part_end}
@@ -49,8 +48,8 @@ module _ (base : ℕ) (objects : List LoadedObject) (kinds : AreLawfulKinds obje
   -- the kinds of the pieces that are placed
   placed_lawful : (q : Placed) → Contains (own_placed base objects) q → IsLawfulKind q.piece.header
   placed_lawful q c =
-      All-contains (λ (r : Placed). IsLawfulKind r.piece.header) (own_in_load_order base objects) q
-      (All-map (λ (r : Placed). IsLawfulKind r.piece.header) (λ p. record { at = own_address base objects p; piece = p }) (pieces objects) (pieces_lawful objects kinds))
+      All-contains (λ (r : Placed). IsLawfulKind r.piece.header) (own_laid_out base objects) q
+      (All-map (λ (r : Placed). IsLawfulKind r.piece.header) (λ p. record { at = own_address base objects p; piece = p }) (laid_out objects) (laid_out_lawful objects kinds))
       (stand.all q c)
 
   front_ends : All (λ q. placed_end q ≤ 2 ^ 46) (own_read_only base objects)

@@ -1,25 +1,29 @@
--- A NOBITS piece wants 0 everywhere: it has no bytes of its input, and no relocation's field lies in it.
-use Rattle.std.proofs.Common.{◌≡◌, ◌⊎◌, inl, inr, ◌==◌, ℕ, ◌+◌, ◌<◌, ◌&&◌, Bool, true, false, not, cond, List, [], length, refl, sym, ◌∙◌, ap, subst, arith}
+-- A NOBITS piece wants 0 everywhere: it has no bytes of its input, and no relocation's field lies in it. And the GOT is
+-- none.
+use Rattle.std.proofs.Common.{◌≡◌, ◌⊎◌, inl, inr, ◌==◌, ℕ, ◌+◌, ◌<◌, ◌≤◌, ◌&&◌, Bool, true, false, not, cond, List, [], length, refl, sym, ◌∙◌, ap, subst, arith}
 use Rattle.std.specs.Prelude.{◌≢◌, All, Contains, Option, Some, None, find, nat_le, nat_lt, slice_index, unwrap_or}
 use Rattle.std.specs.List.{slice_get}
 use Rattle.std.specs.Option.{option_and_then}
-use Rattle.std.proofs.lemmas.Bool.{and_parts, eqb-true, false_from_ne_true, not-false, or_right}
+use Rattle.std.proofs.lemmas.Bool.{and_parts, eq-eqb, eqb-true, false_from_ne_true, false≢true, not-false, or_right}
 use Rattle.std.proofs.lemmas.List.Elements.{All-append, All-contains, Contains-append_cases}
 use Rattle.std.proofs.lemmas.Option.{get_or_from_slice_get, slice_get_within}
 use Rattle.elf_model.specs.Commons.{block_pieces, pieces}
 use Rattle.elf_model.specs.Loading.{AreObjects, LoadedObject, is_dropped}
 use Rattle.elf_model.specs.ObjectFile.{IsObject, IsRelaSection, bytes_in_file, contents, has_no_bytes, null_section, section, sections}
-use Rattle.elf_model.specs.OwnLayout.{own_placed, placed_has_bytes}
+use Rattle.elf_model.specs.ImageFile.{is_got_piece, piece_byte}
+use Rattle.elf_model.specs.OwnLayout.{got_number, got_piece, got_pieces, laid_out, own_placed, placed_has_bytes}
 use Rattle.elf_model.specs.Pieces.{Piece, is_kept, is_nobits, kept_sections, piece_of}
 use Rattle.elf_model.specs.Placement.{Placed, Where}
 use Rattle.elf_model.specs.Relocation.{Relocation, is_in_field, relocations, width_of}
 use Rattle.elf_model.specs.Resolution.{sections_of_object}
+use Rattle.elf_model.specs.Slots.{got_bytes}
 use Rattle.elf_model.specs.WantedBytes.{byte_or_field, wanted_byte}
 use Rattle.elf_model.specs.declared.records.SectionHeader.{SectionHeader}
 use Rattle.elf_model.proofs.Blocks.{block_pieces-each, block_pieces-object}
 use Rattle.elf_model.proofs.Finding.{find-none}
 use Rattle.elf_model.proofs.Listed.{All-from_contains, Contains-from_map, Contains-from_slice_get}
 use Rattle.elf_model.proofs.Places.{AreOwnPlaced, at_own_address}
+use Rattle.elf_model.proofs.PieceNumbers.{got_pieces-each, pieces_low}
 use Rattle.elf_model.proofs.Sectioned.{kept-each, relocations-each}
 
 -- a piece that is NOBITS has no bytes of its input
@@ -132,10 +136,34 @@ module _ (objects : List LoadedObject) (good : AreObjects objects) where
       ap (byte_or_field objects w p k) none
       ∙ ap (λ (xs : List ℕ). slice_index xs k) (All-contains IsBare (pieces objects) p (bare_pieces objects) there nobits)
 
+  -- a piece isn't the GOT, so its own bytes are wanted
+  pub piece_wants : (w : Where) (p : Piece) (k : ℕ) → Contains (pieces objects) p → piece_byte objects w p k ≡ wanted_byte objects w p k
+  piece_wants w p k there =
+      let low = All-contains (λ (q : Piece). q.object ≤ length objects) (pieces objects) p (pieces_low objects) there in
+      let other : is_got_piece objects p ≡ false =
+      false_from_ne_true (is_got_piece objects p) (λ e. let same = eqb-true p.object (got_number objects) e in omega (arith, low, same)) in
+      ap (λ (b : Bool). cond b (slice_index (got_bytes objects w) k) (wanted_byte objects w p k)) other
+
+  -- the GOT's are wanted of the GOT
+  pub got_wants : (w : Where) (k : ℕ) → piece_byte objects w (got_piece objects) k ≡ slice_index (got_bytes objects w) k
+  got_wants w k =
+      ap (λ (b : Bool). cond b (slice_index (got_bytes objects w) k) (wanted_byte objects w (got_piece objects) k))
+      (eq-eqb (got_number objects) (got_number objects) refl)
+
+  -- the GOT has bytes
+  got_has_bytes : (p : Piece) → Contains (got_pieces objects) p → is_nobits p.header ≡ false
+  got_has_bytes p c = All-contains (λ (q : Piece). is_nobits q.header ≡ false) (got_pieces objects) p (got_pieces-each objects (λ q. is_nobits q.header ≡ false) refl) c
+
   -- of the own layout's pieces those without bytes in the file
   pub own_wants_zero :
       (base : ℕ) → AreOwnPlaced base objects → (w : Where) (q : Placed) (k : ℕ) → Contains (own_placed base objects) q →
-      placed_has_bytes q ≡ false → wanted_byte objects w q.piece k ≡ 0
+      placed_has_bytes q ≡ false → piece_byte objects w q.piece k ≡ 0
   own_wants_zero base stand w q k there e =
-      let i = Contains-from_map (at_own_address base objects) (pieces objects) q (stand.all q there) in
-      wants_zero w q.piece k (subst (λ (r : Placed). Contains (pieces objects) r.piece) i.is i.there) (not-false (is_nobits q.piece.header) e)
+      let i = Contains-from_map (at_own_address base objects) (laid_out objects) q (stand.all q there) in
+      by
+      (Contains-append_cases (pieces objects) (got_pieces objects) q.piece
+      (subst (λ (r : Placed). Contains (laid_out objects) r.piece) i.is i.there))
+    where
+      by : Contains (pieces objects) q.piece ⊎ Contains (got_pieces objects) q.piece → piece_byte objects w q.piece k ≡ 0
+      by (inl piece) = piece_wants w q.piece k piece ∙ wants_zero w q.piece k piece (not-false (is_nobits q.piece.header) e)
+      by (inr got) = absurd (false≢true (sym (got_has_bytes q.piece got) ∙ not-false (is_nobits q.piece.header) e))

@@ -4,7 +4,7 @@ use elf_model::{
     EM_X86_64, ET_REL, FileHeader, Rela, SHF_ALLOC, SHF_EXECINSTR, SHN_COMMON, SHT_NOBITS,
     SHT_NULL, SHT_PROGBITS, SHT_REL, SHT_RELA, SHT_STRTAB, SHT_SYMTAB, SectionHeader, Symbol,
 };
-use elf_read::{Object, is_plain_object, later_names};
+use elf_read::{Object, is_plain_object};
 use std::alloc::{AllocError, Global};
 use std::process::Abort;
 use std::test::Fail;
@@ -401,7 +401,7 @@ fn relocations_of_no_bytes_are_refused(rt: HostRuntime) -> Result<(), Fail> {
 }
 
 /// A symbol of an object and its relocation, and whether the object is plain.
-static PLAINNESS: [(Symbol, Rela, bool); 5] = [
+static PLAINNESS: [(Symbol, Rela, bool); 6] = [
     (START, CALL, true),
     // WEAK, COMMON, and of type TLS.
     (
@@ -428,11 +428,19 @@ static PLAINNESS: [(Symbol, Rela, bool); 5] = [
         CALL,
         false,
     ),
-    // R_X86_64_GOTPCREL.
+    // R_X86_64_GOTPCREL, R_X86_64_GOTTPOFF.
     (
         START,
         Rela {
             r_info: 0x1_0000_0009,
+            ..CALL
+        },
+        true,
+    ),
+    (
+        START,
+        Rela {
+            r_info: 0x1_0000_0016,
             ..CALL
         },
         false,
@@ -446,32 +454,9 @@ fn is_plain(alloc: Global, symbol: &Symbol, entry: &Rela) -> Result<bool, Fail> 
 }
 
 #[test]
-fn symbols_and_kinds_of_thread_storage_and_the_got_are_not_plain(
-    rt: HostRuntime,
-) -> Result<(), Fail> {
+fn symbols_and_kinds_of_thread_storage_are_not_plain(rt: HostRuntime) -> Result<(), Fail> {
     for (symbol, entry, plain) in &PLAINNESS {
         assert_eq!(rt; is_plain(rt.alloc(), symbol, entry)?, *plain);
     }
-    Ok(())
-}
-
-fn names_used<'a>(alloc: Global, bytes: &'a [u8]) -> Result<Vec<&'a [u8]>, Fail> {
-    let object = Object::read(alloc, View::new(bytes))?;
-    Ok(later_names(alloc, &object)?)
-}
-
-#[test]
-fn a_use_of_the_gots_name_is_listed(rt: HostRuntime) -> Result<(), Fail> {
-    let mut bytes = relocated_object(rt.alloc(), &RELOCATIONS, &CALL)?;
-    assert_eq!(rt; bytes.len(), 584);
-    bytes[129..135].copy_from_slice(b"_etext");
-    assert_eq!(rt; names_used(rt.alloc(), &bytes)?.len(), 0);
-    // The names of symbols, of section 3, now stand at the end of the file.
-    bytes[392..394].copy_from_slice(&[0x48, 2]);
-    bytes[400] = 23;
-    bytes.extend_from_slice(b"\0_GLOBAL_OFFSET_TABLE_\0")?;
-    let names = names_used(rt.alloc(), &bytes)?;
-    assert_eq!(rt; names.len(), 1);
-    assert!(rt; names[0] == b"_GLOBAL_OFFSET_TABLE_".as_slice());
     Ok(())
 }

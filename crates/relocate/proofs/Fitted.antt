@@ -5,7 +5,8 @@ use Rattle.std.proofs.lemmas.List.Elements.{All-append, All-cons, All-head, All-
 use Rattle.elf_model.proofs.Listed.{All-parts}
 use Rattle.elf_model.specs.Loading.{LoadedObject}
 use Rattle.elf_model.specs.Placement.{Where}
-use Rattle.elf_model.specs.Relocation.{Fits, Relocation, relocation_kind}
+use Rattle.elf_model.specs.Relocation.{Relocation, relocation_kind}
+use Rattle.elf_model.specs.RelocationValues.{Fits}
 use Rattle.relocate.specs.declared.faults.RelocFault.{RelocFault}
 use Rattle.relocate.specs.declared.faults.RelocFault.TheVariants as error
 use Rattle.relocate.specs.Values.{FittingFails}

@@ -1,6 +1,5 @@
 pub mod Fitted
 pub mod Judged
-mod LoadedObjects
 pub mod KindRows
 pub mod ObjectFields
 pub mod ObjectRows

@@ -12,7 +12,8 @@ use Rattle.elf_model.specs.ObjectFile.{section}
 use Rattle.elf_model.specs.OwnLayout.{OwnValuesFit}
 use Rattle.elf_model.specs.Pieces.{Piece}
 use Rattle.elf_model.specs.Placement.{Where}
-use Rattle.elf_model.specs.Relocation.{AreFieldsApart, AreLawfulRelocations, Fits, IsLawfulRelocation, Relocation, is_in_field, relocation_kind, relocations, relocations_from}
+use Rattle.elf_model.specs.Relocation.{AreFieldsApart, AreLawfulRelocations, IsLawfulRelocation, Relocation, is_in_field, relocation_kind, relocations, relocations_from}
+use Rattle.elf_model.specs.RelocationValues.{Fits}
 use Rattle.elf_model.specs.Resolution.{sections_of_object}
 use Rattle.elf_model.specs.WantedBytes.{wanted_byte}
 use Rattle.relocate.specs.declared.faults.RelocFault.{RelocFault}

@@ -6,7 +6,9 @@ use Rattle.elf_model.specs.Loading.{LoadedObject}
 use Rattle.elf_model.specs.OwnLayout.{OwnValuesFit, own_where}
 use Rattle.elf_model.specs.ObjectFile.{sections}
 use Rattle.elf_model.specs.Placement.{Where}
-use Rattle.elf_model.specs.Relocation.{AreLawfulRelocations, Fits, Relocation, is_kept_rela, relocations_from, value_of, width_of}
+use Rattle.elf_model.specs.Relocation.{AreLawfulRelocations, Relocation, is_kept_rela, relocations_from, width_of}
+use Rattle.elf_model.specs.RelocationValues.{Fits, value_of}
+use Rattle.elf_model.specs.Slots.{Request, slot_value}
 use Rattle.elf_model.specs.declared.records.SectionHeader.{SectionHeader}
 use Rattle.relocate.specs.declared.faults.RelocFault.{RelocFault}
 use Rattle.relocate.specs.declared.faults.RelocFault.TheVariants as error
@@ -16,6 +18,10 @@ use Rattle.relocate.specs.declared.patch.Patch.{Patch}
 -- where things are by the own layout
 abbrev pub where_in : Basis → Where
 where_in b = own_where b.base b.objects
+
+-- the value of the slot that a request asks for
+abbrev pub slot_value_of : List LoadedObject → Where → Request → ℕ
+slot_value_of objects w q = slot_value objects w q.kind q.target
 
 -- the value that a relocation wants, over its field
 abbrev pub patch_of : List LoadedObject → Where → Relocation → Patch

@@ -1,7 +1,9 @@
 //! The patches of an object, by the sections that they are for.
 ghost use Rattle.std.specs.Prelude.{◌≡◌, ◌++◌, [], All, IfErr, IfOk, IsSome, OnOk, filter, length, map};
 ghost use Rattle.elf_model.specs.Pieces.{AreLawfulKinds};
-ghost use Rattle.elf_model.specs.Relocation.{Fits, is_some_kind, relocation_kind, relocation_of, relocations_from};
+ghost use Rattle.elf_model.specs.Relocation.{is_some_kind, relocation_kind, relocation_of, relocations_from};
+ghost use Rattle.elf_model.specs.RelocationValues.{Fits};
+ghost use Rattle.elf_model.specs.Slots as wanted;
 ghost use Rattle.search.specs.Views.{loaded_view};
 ghost use Rattle.relocate.specs.References.{IsObjectAt};
 ghost use Rattle.relocate.specs.Values.{ArePatchRows, FittingFails, IsRowCount, patch_of, where_in, rows_for};
@@ -11,6 +13,7 @@ use crate::patch::Patch;
 use crate::targets::{entries_of, is_some_kind};
 use crate::values::{address_or_none, patch};
 use elf_model::{Rela, SectionHeader};
+use got_tls::Slots;
 use layout::Placement;
 use resolve::Resolved;
 use search::Loaded;
@@ -21,6 +24,7 @@ use std::alloc::{AllocError, Global};
 fn add_patches(
     resolved: &Resolved<'_, '_>,
     placement: &Placement<'_, '_>,
+    slots: &Slots<'_>,
     number: usize,
     loaded: &Loaded<'_>,
     target: u64,
@@ -28,6 +32,7 @@ fn add_patches(
     row: &mut Vec<Patch>,
 ) -> Result<(), RelocFault>
     requires kinds { AreLawfulKinds placement.now.objects }
+    requires slots { slots.now.slots ≡ wanted.slots placement.now.objects }
     requires here { IsObjectAt resolved.now number (loaded_view loaded.now) }
     requires known { All (λ r. IsSome (relocation_kind r)) (map (relocation_of number (loaded_view loaded.now) target) (filter is_some_kind entries.now)) }
     ensures patches { OnOk result (row.new.items ≡ row.old.items ++ map (patch_of resolved.now (where_in placement.now)) (map (relocation_of number (loaded_view loaded.now) target) (filter is_some_kind entries.now))) }
@@ -41,7 +46,9 @@ fn add_patches(
         if !is_some_kind(&entry) {
             continue;
         }
-        let Some(patch) = patch(resolved, placement, number, loaded, target, at, &entry) else {
+        let Some(patch) = patch(
+            resolved, placement, slots, number, loaded, target, at, &entry,
+        ) else {
             return Err(RelocFault::Overflow);
         };
         row.push(patch)?;
@@ -91,10 +98,12 @@ pub fn object_patches(
     alloc: Global,
     resolved: &Resolved<'_, '_>,
     placement: &Placement<'_, '_>,
+    slots: &Slots<'_>,
     number: usize,
     loaded: &Loaded<'_>,
 ) -> Result<Vec<Vec<Patch>>, RelocFault>
     requires kinds { AreLawfulKinds placement.now.objects }
+    requires slots { slots.now.slots ≡ wanted.slots placement.now.objects }
     requires here { IsObjectAt resolved.now number (loaded_view loaded.now) }
     requires known { All (λ r. IsSome (relocation_kind r)) (relocations_from number (loaded_view loaded.now)) }
     ensures rows { IfOk result (λ v. ArePatchRows resolved.now (where_in placement.now) (relocations_from number (loaded_view loaded.now)) v.items) }
@@ -116,6 +125,7 @@ pub fn object_patches(
         add_patches(
             resolved,
             placement,
+            slots,
             number,
             loaded,
             target as u64,

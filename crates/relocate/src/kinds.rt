@@ -2,7 +2,10 @@
 //! (AMD64 psABI 4.4, "Relocation Types"; the ranges of all kinds but 32 and 32S are the profile's).
 ghost use Rattle.std.specs.Prelude.{◌≡◌, ◌↔◌, ◌+◌, ◌-◌, ◌*◌, ◌%◌, ◌<◌, ◌^◌, ◌-ℤ◌, ◌+ℤ◌, ◌==◌, ℕ, ℤ, IsTrue, find, option_copied, option_map, pos};
 ghost use Rattle.elf_model.specs.Relocation as relocation;
+ghost use Rattle.elf_model.specs.Slots.{slot_kind_of};
 ghost use Rattle.relocate.specs.Kinds.{Reduces, formula_view, kind_view, range_view};
+
+use elf_model::SlotKind;
 
 /// What a value is made of: S the symbol's value, A the addend, P the field's address, G the slot's offset
 /// in the GOT, GOT its address, Z the symbol's size, T the offset of S from the thread pointer.
@@ -176,6 +179,18 @@ pub fn is_mismatch(formula: Formula, inside: bool) -> bool
         Formula::ThreadSlotFromPlace => !inside,
         Formula::Size => false,
         _ => inside,
+    }
+}
+
+/// What kind of slot of the GOT a formula asks for: one for a value where it has G, and None where it hasn't.
+pub fn slot_kind(formula: Formula) -> Option<SlotKind>
+    ensures { result ≡ slot_kind_of (formula_view formula) }
+{
+    match formula {
+        Formula::Slot => Some(SlotKind::Value),
+        Formula::SlotFromPlace => Some(SlotKind::Value),
+        Formula::ThreadSlotFromPlace => Some(SlotKind::Thread),
+        _ => None,
     }
 }
 

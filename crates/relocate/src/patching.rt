@@ -3,6 +3,7 @@ ghost use Rattle.std.specs.Prelude.{◌≡◌, IfErr, IfOk, OnOk};
 ghost use Rattle.elf_model.specs.OwnLayout.{OwnValuesFit};
 ghost use Rattle.elf_model.specs.Pieces.{AreLawfulKinds};
 ghost use Rattle.elf_model.specs.Relocation.{AreLawfulRelocations};
+ghost use Rattle.elf_model.specs.Slots as wanted;
 ghost use Rattle.search.specs.Views.{loaded_views};
 ghost use Rattle.relocate.specs.PatchTables.{ArePatchesOf};
 ghost use Rattle.relocate.specs.Values.{ValuesFail};
@@ -10,12 +11,14 @@ ghost use Rattle.relocate.specs.Values.{ValuesFail};
 use crate::applying::{PatchTable, of_rows};
 use crate::collecting::object_patches;
 use crate::faults::RelocFault;
+use got_tls::Slots;
 use layout::Placement;
 use resolve::Resolved;
 use search::Loaded;
 use std::alloc::Global;
 
-/// The patches of all objects, whose sections' kinds and relocations are lawful, where they are laid out.
+/// The patches of all objects, whose sections' kinds and relocations are lawful, where they are laid out with their GOT,
+/// which has these slots.
 ///
 /// # Errors
 ///
@@ -25,9 +28,11 @@ pub fn patches<'a>(
     objects: &[Loaded<'a>],
     resolved: &Resolved<'_, 'a>,
     placement: &Placement<'_, 'a>,
+    slots: &Slots<'a>,
 ) -> Result<PatchTable, RelocFault>
     requires resolved { resolved.now ≡ loaded_views objects.now }
     requires placed { placement.now.objects ≡ loaded_views objects.now }
+    requires slots { slots.now.slots ≡ wanted.slots (loaded_views objects.now) }
     requires kinds { AreLawfulKinds (loaded_views objects.now) }
     requires lawful { AreLawfulRelocations (loaded_views objects.now) }
     ensures table { IfOk result (ArePatchesOf placement.now) }
@@ -36,7 +41,7 @@ pub fn patches<'a>(
 {
     let mut rows = Vec::with_capacity(alloc, objects.len())?;
     for k in 0..objects.len() {
-        let row = object_patches(alloc, resolved, placement, k, &objects[k])?;
+        let row = object_patches(alloc, resolved, placement, slots, k, &objects[k])?;
         rows.push(row)?;
     }
     Ok(of_rows(placement, rows))

@@ -1,18 +1,23 @@
 //! The value that a relocation wants where the objects are laid out.
-ghost use Rattle.std.specs.Prelude.{◌≡◌, ◌%◌, ◌^◌, IsSome, SomeIff, option_map, unwrap_or};
+ghost use Rattle.std.specs.Prelude.{◌≡◌, ◌%◌, ◌^◌, IsSome, Some, SomeIff, option_map, unwrap_or};
+ghost use Rattle.std.specs.Option.{option_map_or};
 ghost use Rattle.elf_model.specs.Meaning.{meaning_size, meaning_value};
 ghost use Rattle.elf_model.specs.Pieces.{AreLawfulKinds};
-ghost use Rattle.elf_model.specs.Placement.{section_address, symbol_value};
-ghost use Rattle.elf_model.specs.Relocation.{Fits, relocation_kind, relocation_of, terms_of};
+ghost use Rattle.elf_model.specs.Placement.{got_start, section_address, symbol_value};
+ghost use Rattle.elf_model.specs.Relocation.{relocation_kind, relocation_of};
+ghost use Rattle.elf_model.specs.RelocationValues.{Fits, terms_of};
+ghost use Rattle.elf_model.specs.Slots as wanted;
 ghost use Rattle.search.specs.Views.{loaded_view};
 ghost use Rattle.resolve.specs.Views.{meaning_view, symbol_view};
-ghost use Rattle.relocate.specs.Kinds.{Reduces};
+ghost use Rattle.got_tls.specs.Asking.{offset_of};
+ghost use Rattle.relocate.specs.Kinds.{Reduces, kind_view};
 ghost use Rattle.relocate.specs.References.{IsObjectAt};
 ghost use Rattle.relocate.specs.Values.{patch_of, where_in};
 
-use crate::kinds::{Kind, Terms, fits, value};
+use crate::kinds::{Kind, Terms, fits, slot_kind, value};
 use crate::patch::Patch;
 use elf_model::{Rela, SHN_ABS};
+use got_tls::{Slot, Slots, target_of};
 use layout::Placement;
 use resolve::{Meaning, Resolved, SymbolOf};
 use search::Loaded;
@@ -56,7 +61,7 @@ fn value_of(placement: &Placement<'_, '_>, meaning: &Meaning<'_>) -> u64
     }
 }
 
-fn value_or_none(placement: &Placement<'_, '_>, definition: &Option<Meaning<'_>>) -> u64
+pub fn value_or_none(placement: &Placement<'_, '_>, definition: &Option<Meaning<'_>>) -> u64
     requires { AreLawfulKinds placement.now.objects }
     ensures { result ≡ unwrap_or (option_map (meaning_value (where_in placement.now)) (option_map meaning_view definition.now)) 0 % 2 ^ 64 }
 {
@@ -86,19 +91,55 @@ fn size_or_none(definition: &Option<Meaning<'_>>) -> u64
     }
 }
 
-/// The terms of an entry's value; `at` is the address of the section `target` that it relocates.
+/// The address of the GOT, 0 without one.
+fn got_or_none(placement: &Placement<'_, '_>) -> u64
+    ensures { result ≡ got_start (where_in placement.now).got }
+{
+    match placement.got() {
+        Some(at) => at,
+        None => 0,
+    }
+}
+
+/// How far behind the GOT's beginning the slot stands that an entry of a kind asks for, modulo 2 to the 64; 0 where it
+/// asks for none.
+fn slot_offset(
+    slots: &Slots<'_>,
+    number: usize,
+    loaded: &Loaded<'_>,
+    target: u64,
+    kind: Kind,
+    entry: &Rela,
+) -> u64
+    requires { relocation_kind (relocation_of number (loaded_view loaded.now) target entry.now) ≡ Some (kind_view kind) }
+    ensures { result ≡ option_map_or (offset_of slots.now.slots) (wanted.request_of (relocation_of number (loaded_view loaded.now) target entry.now)) 0 % 2 ^ 64 }
+{
+    match slot_kind(kind.formula) {
+        Some(kind) => {
+            let target = target_of(number, loaded, entry.symbol() as usize);
+            slots.offset(Slot::new(kind, &target))
+        }
+        None => 0,
+    }
+}
+
+/// The terms of the value of an entry of a kind; `at` is the address of the section `target` that it relocates.
 fn terms(
     resolved: &Resolved<'_, '_>,
     placement: &Placement<'_, '_>,
+    slots: &Slots<'_>,
     number: usize,
     loaded: &Loaded<'_>,
     target: u64,
     at: u64,
+    kind: Kind,
     entry: &Rela,
 ) -> Terms
     requires kinds { AreLawfulKinds placement.now.objects }
+    requires slots { slots.now.slots ≡ wanted.slots placement.now.objects }
     requires here { IsObjectAt resolved.now number (loaded_view loaded.now) }
     requires at { at ≡ section_address (where_in placement.now).placed number target }
+    requires kind { relocation_kind (relocation_of number (loaded_view loaded.now) target entry.now) ≡ Some (kind_view kind) }
     ensures { Reduces result (terms_of resolved.now (where_in placement.now) (relocation_of number (loaded_view loaded.now) target entry.now)) }
 {
     let definition = resolved.definition(number, entry.symbol() as usize);
@@ -106,8 +147,8 @@ fn terms(
         symbol: value_or_none(placement, &definition),
         addend: entry.r_addend,
         place: at.wrapping_add(entry.r_offset),
-        slot: 0,
-        got: 0,
+        slot: slot_offset(slots, number, loaded, target, kind, entry),
+        got: got_or_none(placement),
         size: size_or_none(&definition),
         thread: 0,
     }
@@ -117,6 +158,7 @@ fn terms(
 pub fn patch(
     resolved: &Resolved<'_, '_>,
     placement: &Placement<'_, '_>,
+    slots: &Slots<'_>,
     number: usize,
     loaded: &Loaded<'_>,
     target: u64,
@@ -124,6 +166,7 @@ pub fn patch(
     entry: &Rela,
 ) -> Option<Patch>
     requires kinds { AreLawfulKinds placement.now.objects }
+    requires slots { slots.now.slots ≡ wanted.slots placement.now.objects }
     requires here { IsObjectAt resolved.now number (loaded_view loaded.now) }
     requires at { at ≡ section_address (where_in placement.now).placed number target }
     requires known { IsSome (relocation_kind (relocation_of number (loaded_view loaded.now) target entry.now)) }
@@ -132,7 +175,9 @@ pub fn patch(
     let Some(kind) = Kind::of(entry.kind()) else {
         unreachable!()
     };
-    let terms = terms(resolved, placement, number, loaded, target, at, entry);
+    let terms = terms(
+        resolved, placement, slots, number, loaded, target, at, kind, entry,
+    );
     let value = value(kind, terms);
     if !fits(kind, value) {
         return None;

@@ -1,5 +1,5 @@
 -- What a chosen symbol means: something, since a common one has a block.
-use Rattle.std.proofs.Common.{◌≡◌, ℕ, List, sym, ◌∙◌, ap, Option, None, Some, option_map}
+use Rattle.std.proofs.Common.{◌≡◌, ℕ, List, ◌∙◌, ap, Option, None, Some, option_map}
 use Rattle.std.specs.Prelude.{IfNone, is_some}
 use Rattle.std.proofs.lemmas.Bool.{false≢true}
 use Rattle.elf_model.specs.Loading.{LoadedObject}

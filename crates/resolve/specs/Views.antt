@@ -1,8 +1,11 @@
 -- The crate's own types as the definitions see them.
 use Rattle.std.specs.Prelude.{ℕ, List, map}
 use Rattle.std.specs.Borrow.{Bor}
-use Rattle.elf_model.specs.Resolution as resolution
+use Rattle.elf_model.specs.MapRecord.{TargetRow, OfName, OfLocal}
 use Rattle.elf_model.specs.Meaning as meaning
+use Rattle.elf_model.specs.Resolution as resolution
+use Rattle.elf_model.specs.declared.references.Target.{Target}
+use Rattle.elf_model.specs.declared.references.Target.TheVariants as target
 use Rattle.resolve.specs.Blocks.{block_view}
 use Rattle.resolve.specs.declared.entries.SymbolOf.{SymbolOf}
 use Rattle.resolve.specs.declared.meaning.Meaning.{Meaning}
@@ -27,3 +30,7 @@ abbrev pub held_name : Meaning → Bor (List ℕ)
 held_name (variant.Symbol s) = s.name
 held_name (variant.Common b) = b.name
 held_name (variant.Linker name bound) = name
+
+abbrev pub target_view : Target → TargetRow
+target_view (target.Name name) = OfName name.now
+target_view (target.Local symbol) = OfLocal symbol.object.0 symbol.symbol

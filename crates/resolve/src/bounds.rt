@@ -35,6 +35,9 @@ fn boundary(name: &[u8]) -> Option<Bound>
     if is(b"_end", name) || is(b"end", name) {
         return Some(Bound::ImageEnd);
     }
+    if is(b"_GLOBAL_OFFSET_TABLE_", name) {
+        return Some(Bound::GotStart);
+    }
     None
 }
 

@@ -10,12 +10,13 @@ ghost use Rattle.elf_model.specs.LinkerNames.{bound_of};
 ghost use Rattle.elf_model.specs.Meaning as meaning;
 ghost use Rattle.elf_model.specs.Meaning.{is_in_thread_storage, object_meaning};
 ghost use Rattle.elf_model.specs.Resolution.{AreSoundCommons, AreSoundSymbols, AreUnique, IsEntry, chosen, has_name, is_undefined, symbol_of};
+ghost use Rattle.elf_model.specs.Slots.{target_meaning};
 ghost use Rattle.search.specs.Views.{loaded_view, loaded_views};
 ghost use Rattle.resolve.specs.Blocks.{block_view, block_views};
 ghost use Rattle.resolve.specs.Defined.{AreDefinitions, HasEachNameOnce};
 ghost use Rattle.resolve.specs.Meaning.{definition_at, named_at, unchosen_at};
 ghost use Rattle.resolve.specs.Refusals.{ResolvingFails};
-ghost use Rattle.resolve.specs.Views.{meaning_view, symbol_view, symbol_views};
+ghost use Rattle.resolve.specs.Views.{meaning_view, symbol_view, symbol_views, target_view};
 ghost use Rattle.symbols.specs.Rows.{no_rows};
 
 use crate::blocks::{Block, index_of};
@@ -29,7 +30,7 @@ use crate::places::{Index, write_places};
 use crate::ranks::ranks_of;
 use crate::rows::place_at;
 use crate::sections::is_in_thread_section;
-use elf_model::{Bound, Symbol};
+use elf_model::{Bound, Symbol, Target};
 use search::Loaded;
 use std::alloc::Global;
 use std::collections::{BTreeMap, BTreeSet};
@@ -246,6 +247,37 @@ impl<'b, 'a> Resolved<'b, 'a> {
             return itself(object as u64, loaded, number, entry);
         }
         self.linker_meaning(name_of(&loaded.object, number))
+    }
+
+    /// What the chosen definition of a name means.
+    fn object_meaning(&self, name: &[u8]) -> Option<Meaning<'a>>
+        ensures { option_map meaning_view result ≡ object_meaning self.now name.now }
+    {
+        let chosen = self.chosen(name)?;
+        self.meant(&chosen)
+    }
+
+    /// What a name means: what its chosen definition does, or else the linker's.
+    fn named_meaning(&self, name: &'a [u8]) -> Option<Meaning<'a>>
+        ensures { option_map meaning_view result ≡ meaning.meaning self.now name.now }
+    {
+        match self.object_meaning(name) {
+            Some(meaning) => Some(meaning),
+            None => self.linker_meaning(name),
+        }
+    }
+
+    /// What the target of a relocation means: what its name does; or the LOCAL symbol itself, by its object's and its
+    /// own number. None where that is undefined (as number 0 is), or where there is no such object.
+    pub fn meaning_of(&self, target: &Target<'a>) -> Option<Meaning<'a>>
+        ensures { option_map meaning_view result ≡ target_meaning self.now (target_view target.now) }
+    {
+        match target {
+            Target::Name(name) => self.named_meaning(name),
+            Target::Local(symbol) => {
+                self.definition(symbol.object.0 as usize, symbol.symbol as usize)
+            }
+        }
     }
 
     /// Whether what a name means stands in a section with SHF_TLS; a common block doesn't, nor does the linker's.

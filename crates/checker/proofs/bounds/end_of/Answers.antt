@@ -1,4 +1,4 @@
-use Rattle.std.proofs.Common.{◌≡◌, ◌∙◌, ◌+◌, ℕ, List, ap, drop, map, max, sym, arith}
+use Rattle.std.proofs.Common.{◌≡◌, ◌∙◌, ◌+◌, List, ap, drop, map, max, sym, arith}
 use Rattle.std.proofs.lemmas.List.{drop_all}
 use Rattle.elf_model.specs.LinkerValues.{end_of_pieces}
 use Rattle.elf_model.proofs.Listed.{All-unmap}

@@ -1,4 +1,4 @@
-use Rattle.std.proofs.Common.{◌≡◌, ◌∙◌, ◌+◌, ℕ, List, Option, ap, drop, map, refl, sym, arith}
+use Rattle.std.proofs.Common.{◌∙◌, ◌+◌, ℕ, List, Option, ap, drop, map, refl, sym, arith}
 use Rattle.std.proofs.lemmas.List.{drop_all}
 use Rattle.elf_model.specs.LinkerValues.{start_of_pieces}
 use Rattle.elf_model.proofs.PieceBounds.{either_least, either_none, start_more}

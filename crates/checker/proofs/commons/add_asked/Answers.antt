@@ -1,10 +1,10 @@
-use Rattle.std.proofs.Common.{◌≡◌, ◌∙◌, ◌&&◌, ℕ, Bool, Option, Some, ap, sym, max, cond, rules, true}
+use Rattle.std.proofs.Common.{◌≡◌, ◌∙◌, ◌&&◌, Bool, Option, Some, ap, sym, max, cond, rules, true}
 use Rattle.std.specs.Prelude.{option_map, unwrap_or}
 use Rattle.std.specs.BTreeMap.{get_by}
 use Rattle.std.specs.Cmp.Lexicographic.{slice_cmp}
 use Rattle.std.specs.Ordering.{nat_cmp}
 use Rattle.std.proofs.lemmas.Map.Text.{btree_map_updates_str}
-use Rattle.elf_model.specs.Resolution.{SymbolOf, has_name, is_common_definition}
+use Rattle.elf_model.specs.Resolution.{has_name, is_common_definition}
 use Rattle.checker.specs.Commons.{asked_in, given_align, given_size}
 use Rattle.checker.specs.Views.{symbol_view}
 use Rattle.checker.specs.declared.commons.Asked.{Asked}

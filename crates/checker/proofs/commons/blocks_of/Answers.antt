@@ -1,8 +1,4 @@
-use Rattle.std.proofs.Common.{◌≡◌, ◌∙◌, ◌&&◌, Bool, List, ap, sym}
-use Rattle.std.specs.Prelude.{filter}
-use Rattle.elf_model.specs.ChosenSymbols.{is_chosen}
-use Rattle.elf_model.specs.Commons.{blocks_from}
-use Rattle.elf_model.specs.Resolution.{SymbolOf}
+use Rattle.std.proofs.Common.{◌∙◌}
 use Rattle.check_load.specs.Views.{loaded_views}
 use Rattle.checker.specs.Views.{symbol_views}
 use Rattle.checker.proofs.Asked.{blocks_chosen}

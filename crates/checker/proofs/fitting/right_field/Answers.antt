@@ -14,5 +14,9 @@ returns c =
     let e = c.args.entry.now in
     let t = c.target_at-target.result in
     let m = subst (λ (j : ℕ). IsTargetOf b (symbol_at n o j) t) c.symbol.ensures c.target_at-target.ensures in
-    some_iff _ _ _ _ c.field_for.result (right b n o to e t m c.requires.size c.requires.frames c.requires.address)
-    (right_with b n o to e t m c.requires.size c.requires.frames c.requires.address) (field_is b n o to e t m c.requires.size c.requires.frames c.requires.address) c.field_for.ensures
+    let g = c.got_terms-got.result in
+    let slot = c.got_terms-got.ensures.slot to.section in
+    let start = c.got_terms-got.ensures.start in
+    some_iff _ _ _ _ c.field_for.result (right b n o to g e t m c.requires.size c.requires.frames c.requires.address slot start)
+    (right_with b n o to g e t m c.requires.size c.requires.frames c.requires.address slot start)
+    (field_is b n o to g e t m c.requires.size c.requires.frames c.requires.address slot start) c.field_for.ensures

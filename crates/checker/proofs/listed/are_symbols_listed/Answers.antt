@@ -1,13 +1,10 @@
-use Rattle.std.proofs.Common.{◌≡◌, ◌++◌, List, ap, map, refl, subst, sym, ◌∙◌}
-use Rattle.std.specs.Prelude.{◌↔◌, All, IfSome, IsSome, Option}
-use Rattle.std.specs.Global.{Vec}
+use Rattle.std.proofs.Common.{◌++◌, List, ap, map, refl, subst, sym, ◌∙◌}
 use Rattle.std.proofs.lemmas.Bool.{false≢true}
 use Rattle.elf_model.specs.Listing.{AreLinkerLines}
 use Rattle.elf_model.specs.Loading.{LoadedObject}
 use Rattle.elf_model.specs.Meaning.{meanings_of}
 use Rattle.elf_model.specs.RightLink.{symbol_row_of}
-use Rattle.checker.specs.Listed.{IsChosenIfStrong, chosen_among}
-use Rattle.checker.specs.Views.{meaning_views, symbol_view, symbol_views}
+use Rattle.checker.specs.Views.{meaning_views, symbol_views}
 use Rattle.checker.specs.declared.things.Meaning as code
 use Rattle.checker.specs.declared.things.SymbolOf as symbols
 use Rattle.elf_model.specs.MapRecord.{symbol_row}

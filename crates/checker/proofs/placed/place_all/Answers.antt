@@ -1,5 +1,4 @@
-use Rattle.std.proofs.Common.{◌≡◌, ◌∙◌, ◌++◌, List, length, rules}
-use Rattle.checker.specs.Views.{placed_views}
+use Rattle.std.proofs.Common.{◌≡◌, ◌∙◌, length, rules}
 use Rattle.checker.proofs.PlaceSteps.{front_of}
 use Rattle.checker.proofs.placed.place_all.Goals as goal
 

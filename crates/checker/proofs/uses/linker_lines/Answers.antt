@@ -1,9 +1,7 @@
 use Rattle.std.proofs.Common.{List, subst, sym}
 use Rattle.elf_model.specs.Listing.{AreLinkerLines}
 use Rattle.elf_model.specs.Loading.{LoadedObject}
-use Rattle.elf_model.specs.Meaning.{Meaning}
 use Rattle.check_load.specs.Views.{loaded_views}
-use Rattle.elf_model.specs.UsedNames.{linker_meanings}
 use Rattle.elf_model.proofs.LinkerLines.{lines_are}
 use Rattle.checker.proofs.uses.linker_lines.Goals as goal
 

@@ -1,6 +1,5 @@
 use Rattle.std.proofs.Common.{◌≡◌, ◌∙◌, ◌∷◌, [], ℕ, Bool, ap, length, length-append, sym, arith}
 use Rattle.elf_model.specs.Relocation.{symbol_at}
-use Rattle.elf_model.specs.Resolution.{SymbolOf}
 use Rattle.elf_model.specs.UsedNames.{is_linker_use}
 use Rattle.check_load.specs.Views.{loaded_view}
 use Rattle.checker.proofs.ByIndex.{by_index_more}

@@ -1,15 +1,13 @@
-use Rattle.std.proofs.Common.{◌≡◌, ◌+◌, List, arith, ap, subst, sym}
+use Rattle.std.proofs.Common.{◌+◌, List, arith, subst, sym}
 use Rattle.std.specs.Prelude.{All}
-use Rattle.elf_model.specs.Loading.{LoadedObject}
-use Rattle.elf_model.specs.OwnLayout.{own_placed}
+use Rattle.elf_model.specs.OwnLayout.{own_where}
 use Rattle.elf_model.specs.Placement.{Placed}
 use Rattle.elf_model.proofs.Places.{are_own_placed}
 use Rattle.layout.specs.PlaceViews.{place_views}
-use Rattle.layout.specs.Placements.{Basis}
-use Rattle.image_write.specs.Parts.{AreWhole, EndsLow}
+use Rattle.image_write.specs.Parts.{AreFull, EndsLow}
 use Rattle.image_write.proofs.Files.{end_low, file_is, rise_is}
 use Rattle.image_write.proofs.OwnBody.{ends_low}
-use Rattle.image_write.proofs.Wholes.{own_whole}
+use Rattle.image_write.proofs.Wholes.{own_full}
 use Rattle.image_write.proofs.writing.image.Goals as goal
 
 pub file_end-end-requires : goal.file_end-end-requires
@@ -38,14 +36,12 @@ put_places-requires-clause-low c =
     end_low c.args.placement.now.base c.args.placement.now.objects c.requires.base c.requires.objects c.requires.kinds c.requires.fits
     c.segments-segments.result.now (c.base-base.result + c.file_end-end.result) c.segments-segments.ensures (omega (arith, b, e))
 
-pub put_places-requires-clause-whole : goal.put_places-requires-clause-whole
-put_places-requires-clause-whole c =
+pub put_places-requires-clause-full : goal.put_places-requires-clause-full
+put_places-requires-clause-full c =
     let base = c.args.placement.now.base in
     let objects = c.args.placement.now.objects in
-    let same : c.args.patches.now.objects ≡ objects = ap (λ (b : Basis). b.objects) c.requires.same in
-    subst (λ (qs : List Placed). AreWhole c.args.patches.now.objects qs) (sym c.places.ensures)
-    (subst (λ (os : List LoadedObject). AreWhole os (own_placed base objects)) (sym same)
-    (own_whole base objects c.requires.objects c.requires.kinds (are_own_placed base objects c.requires.kinds)))
+    subst (λ (qs : List Placed). AreFull objects (own_where base objects) qs) (sym c.places.ensures)
+    (own_full base objects c.requires.objects c.requires.kinds (are_own_placed base objects c.requires.kinds))
 
 pub returns : goal.returns
 returns c = record {
@@ -53,7 +49,7 @@ returns c = record {
       let b = c.base-base.ensures in
       let h = c.headers_size.ensures in
       let e = c.file_end-end.ensures in
-      file_is c.args.placement.now c.args.patches.now c.requires.same c.requires.base c.requires.objects c.requires.kinds c.requires.fits
+      file_is c.args.placement.now c.requires.base c.requires.objects c.requires.kinds c.requires.fits
       c.segments-segments.result.now (place_views c.places.result.now) c.code_of-code.result c.args.entry
       (c.base-base.result + c.headers_size.result) (c.base-base.result + c.file_end-end.result) name c.in_ok-out.out.items
       c.put_headers.new.out.items c.put_places.new.out.items c.segments-segments.ensures c.places.ensures c.code_of-code.ensures

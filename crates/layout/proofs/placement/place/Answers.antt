@@ -1,4 +1,4 @@
-use Rattle.std.proofs.Common.{◌≡◌, ◌∙◌, List, ap, length, subst, sym}
+use Rattle.std.proofs.Common.{ℕ, ◌≡◌, ◌∙◌, List, ap, length, subst, sym}
 use Rattle.std.proofs.lemmas.List.{length-map}
 use Rattle.elf_model.specs.Commons.{Block}
 use Rattle.resolve.specs.Blocks.{block_view}
@@ -46,7 +46,9 @@ returns-clause-tables c =
       addresses_are =
           λ o s. c.in_ok-addresses.ensures o s
           ∙ (ap (λ (qs : List Placed). option_map (λ q. q.at) (find (is_of_section o s) qs)) seen ∙ address_either c.args.base os o s);
-      bounds_are = subst (λ (qs : List Placed). AreBounds qs c.in_ok-bounds.bounds) (ap place_views c.deref-2.ensures.value ∙ placed) c.in_ok-bounds.ensures;
+      bounds_are =
+          subst (λ (n : ℕ). AreBounds n (own_placed c.args.base os) c.in_ok-bounds.bounds) c.got_number.ensures
+          (subst (λ (qs : List Placed). AreBounds c.got_number.result qs c.in_ok-bounds.bounds) (ap place_views c.deref-2.ensures.value ∙ placed) c.in_ok-bounds.ensures);
     }
 
 pub returns-clause-addresses : goal.returns-clause-addresses

@@ -1,10 +1,22 @@
-use Rattle.std.proofs.Common.{◌≡◌, ℕ, List, subst, sym}
+use Rattle.std.proofs.Common.{◌≡◌, ◌∙◌, ℕ, List, map, subst, sym}
+use Rattle.elf_model.specs.OwnLayout.{own_where}
+use Rattle.elf_model.specs.Slots.{slots}
+use Rattle.relocate.specs.Values.{slot_value_of}
 use Rattle.std.specs.Global.{Vec}
 use Rattle.elf_model.specs.ImageFile.{image_file, own_entry}
 use Rattle.layout.specs.Placements.{Basis}
 use Rattle.ld_main.specs.Linkages.{IsLinkageOf, Prepared}
 use Rattle.ld_main.proofs.Links.{ok_more}
 use Rattle.ld_main.proofs.linkage.image.Goals as goal
+
+pub image-requires-clause-slots : goal.image-requires-clause-slots
+image-requires-clause-slots c =
+    let l = c.args.linkage.now in
+    let x = c.linkage.inside.parts in
+    let made : IsLinkageOf l.plan l.objects x = subst (λ (y : Prepared). IsLinkageOf y.plan y.objects x) c.linkage.view_is c.linkage.invariant in
+    let placed = sym c.placement-placement.ensures in
+    c.deref.ensures.value
+    ∙ (made.values ∙ (λ i. map (slot_value_of (placed i).objects (own_where (placed i).base (placed i).objects)) (slots (placed i).objects)))
 
 pub returns : goal.returns
 returns c =

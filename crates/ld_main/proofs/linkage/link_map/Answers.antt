@@ -1,16 +1,16 @@
-use Rattle.std.proofs.Common.{List, subst, sym}
+use Rattle.std.proofs.Common.{◌∙◌, List, ap, subst, sym}
 use Rattle.std.specs.Prelude.{All}
 use Rattle.elf_model.specs.ImageFile.{IsOwnMap}
 use Rattle.elf_model.specs.MapRecord.{map_of}
 use Rattle.elf_model.specs.declared.link_map.LinkMap.{LinkMap}
 use Rattle.elf_model.specs.Pieces.{AreLawfulKinds}
 use Rattle.layout.specs.Placements.{Basis}
-use Rattle.elf_model.specs.OwnLayout.{own_in_load_order}
+use Rattle.elf_model.specs.OwnLayout.{IsNotTooLarge, own_in_load_order}
 use Rattle.resolve.specs.Views.{meaning_view, meaning_views}
 use Rattle.resolve.specs.declared.meaning.Meaning as code
 use Rattle.ld_main.specs.Linkages.{IsLinkageOf, Prepared}
 use Rattle.ld_main.specs.Listings.{IsListing}
-use Rattle.ld_main.specs.Maps.{IsMapOf, LiesWithin}
+use Rattle.ld_main.specs.Maps.{IsMapOf, LiesWithin, own_table}
 use Rattle.elf_model.proofs.Listed.{All-unmap}
 use Rattle.ld_main.proofs.Links.{ok_more}
 use Rattle.ld_main.proofs.OwnMaps.{own_map}
@@ -28,6 +28,20 @@ map_of_layout-requires-clause-inside c =
     (sym c.deref-2.ensures.value)
     (All-unmap (LiesWithin (own_in_load_order l.plan.base l.objects)) meaning_view x.listed.items
     (meanings_lie l.plan.base l.objects laid.referred.resolved.kinds laid.not_too_large made.listed.sound (meaning_views x.listed.items) made.listed.listed)))
+
+pub map_of_layout-requires-clause-slots : goal.map_of_layout-requires-clause-slots
+map_of_layout-requires-clause-slots c =
+    let l = c.args.linkage.now in
+    let x = c.linkage.inside.parts in
+    let made : IsLinkageOf l.plan l.objects x = subst (λ (y : Prepared). IsLinkageOf y.plan y.objects x) c.linkage.view_is c.linkage.invariant in
+    made.table ∙ ap (λ (b : Basis). own_table b.objects) (sym c.placement-placement.ensures)
+
+pub map_of_layout-requires-clause-fits : goal.map_of_layout-requires-clause-fits
+map_of_layout-requires-clause-fits c =
+    let l = c.args.linkage.now in
+    let x = c.linkage.inside.parts in
+    let made : IsLinkageOf l.plan l.objects x = subst (λ (y : Prepared). IsLinkageOf y.plan y.objects x) c.linkage.view_is c.linkage.invariant in
+    subst (λ (b : Basis). IsNotTooLarge b.base b.objects) (sym c.placement-placement.ensures) made.linkable.laid_out.not_too_large
 
 pub returns : goal.returns
 returns c =

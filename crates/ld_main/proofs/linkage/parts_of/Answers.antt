@@ -1,14 +1,17 @@
 use Rattle.std.proofs.Common.{◌≡◌, ◌∙◌, List, ap, subst, sym}
-use Rattle.std.specs.Prelude.{All}
+use Rattle.std.specs.Prelude.{All, Option, option_map, unwrap_or}
+use Rattle.elf_model.specs.ImageFile.{own_entry}
+use Rattle.elf_model.specs.MapText.{Fits}
+use Rattle.elf_model.specs.Meaning.{Meaning, meaning_value}
 use Rattle.elf_model.specs.Command.{Plan}
-use Rattle.elf_model.specs.OwnLayout.{own_in_load_order}
+use Rattle.elf_model.specs.OwnLayout.{IsNotTooLarge, own_in_load_order, own_where}
 use Rattle.elf_model.specs.Pieces.{AreLawfulKinds}
 use Rattle.layout.specs.Placements.{Basis}
 use Rattle.resolve.specs.Views.{meaning_view, meaning_views}
 use Rattle.resolve.specs.declared.meaning.Meaning as code
 use Rattle.search.specs.Views.{loaded_views}
 use Rattle.elf_model.proofs.Listed.{All-unmap}
-use Rattle.ld_main.specs.Maps.{LiesWithin}
+use Rattle.ld_main.specs.Maps.{LiesWithin, own_record, own_table}
 use Rattle.ld_main.proofs.Values.{entry_lies, meanings_lie}
 use Rattle.ld_main.proofs.linkage.parts_of.Goals as goal
 
@@ -45,3 +48,43 @@ show_spellings-requires-clause-kinds c =
     let placed : c.new-placement.result ≡ record { base = c.args.plan.now.base; objects = loaded_views c.args.objects.now } =
     c.new-placement.ensures ∙ ap (λ (p : Plan). record { base = p.base; objects = loaded_views c.args.objects.now }) c.plan.view_is in
     subst (λ (b : Basis). AreLawfulKinds b.objects) (sym placed) c.requires.linkable.laid_out.referred.resolved.kinds
+
+pub show_spellings-requires-clause-slots : goal.show_spellings-requires-clause-slots
+show_spellings-requires-clause-slots c =
+    let placed : c.new-placement.result ≡ record { base = c.args.plan.now.base; objects = loaded_views c.args.objects.now } =
+    c.new-placement.ensures ∙ ap (λ (p : Plan). record { base = p.base; objects = loaded_views c.args.objects.now }) c.plan.view_is in
+    c.requires.slots ∙ ap (λ (b : Basis). own_table b.objects) (sym placed)
+
+pub show_spellings-requires-clause-fits : goal.show_spellings-requires-clause-fits
+show_spellings-requires-clause-fits c =
+    let placed : c.new-placement.result ≡ record { base = c.args.plan.now.base; objects = loaded_views c.args.objects.now } =
+    c.new-placement.ensures ∙ ap (λ (p : Plan). record { base = p.base; objects = loaded_views c.args.objects.now }) c.plan.view_is in
+    subst (λ (b : Basis). IsNotTooLarge b.base b.objects) (sym placed) c.requires.linkable.laid_out.not_too_large
+
+pub returns : goal.returns
+returns c =
+    let p = c.args.plan.now in
+    let objects = loaded_views c.args.objects.now in
+    let placed : c.new-placement.result ≡ record { base = p.base; objects = objects } =
+    c.new-placement.ensures ∙ ap (λ (q : Plan). record { base = q.base; objects = objects }) c.plan.view_is in
+    let m = meaning_view c.args.entry.now in
+    let entered : own_entry p.base objects p.entry ≡ meaning_value (own_where p.base objects) m =
+    ap (λ (o : Option Meaning). unwrap_or (option_map (meaning_value (own_where p.base objects)) o) 0) c.requires.entry in
+    record {
+      base = c.requires.base;
+      are_objects = c.requires.objects;
+      linkable = c.requires.linkable;
+      listed = c.requires.listed;
+      tables = c.requires.tables;
+      table = c.requires.slots;
+      values = c.requires.values;
+      patches = c.requires.patches;
+      entry =
+          entered
+          ∙ (ap (λ (b : Basis). meaning_value (own_where b.base b.objects) m) (sym placed) ∙ sym c.meaning_value-entry.ensures.value);
+      entry_fits = c.meaning_value-entry.ensures.fits;
+      spelled =
+          subst (λ (b : Basis). Fits (own_record b (meaning_views c.args.listed.items))) placed
+          (subst (λ (ms : List code.Meaning). Fits (own_record c.new-placement.result (meaning_views ms))) c.deref.ensures.value
+          c.show_spellings.ensures);
+    }

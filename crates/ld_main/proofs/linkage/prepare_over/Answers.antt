@@ -27,7 +27,7 @@ returns-in-Ok-prepare_objects-clause-prepared g c =
     prepared (files_of c.args.files.now) (words_of c.args.words.now) p (loaded_views c.in-Ok-load.objects.items) c.in-Ok-load.ensures.loaded
     c.in-Ok.ensures.plan c.in-Ok-load.ensures.files c.in-Ok-load.ensures.archives c.in-Ok-load.ensures.indexes c.in-Ok-load.ensures.objects
     c.in-Ok-load.ensures.groups
-    (subst (λ (xs : List Loaded). IsInProfile (loaded_views xs)) c.deref.ensures.value (c.in_ok-inside.ensures.0 c.if-not-inside.false))
+    (subst (λ (xs : List Loaded). IsInProfile (loaded_views xs)) c.deref.ensures.value (c.is_in_profile.ensures.0 c.if-not-is_in_profile.false))
     c.in-Ok-prepare_objects.parts
     (subst (λ (xs : List Loaded). IsLinkageOf p (loaded_views xs) c.in-Ok-prepare_objects.parts) c.deref-2.ensures.value
     c.in-Ok-prepare_objects.ensures.made)
@@ -38,7 +38,7 @@ returns-in-Ok-prepare_objects-clause-right g c =
     right_link (files_of c.args.files.now) (words_of c.args.words.now) p (loaded_views c.in-Ok-load.objects.items) c.in-Ok-load.ensures.loaded
     c.in-Ok.ensures.plan c.in-Ok-load.ensures.files c.in-Ok-load.ensures.archives c.in-Ok-load.ensures.indexes c.in-Ok-load.ensures.objects
     c.in-Ok-load.ensures.groups
-    (subst (λ (xs : List Loaded). IsInProfile (loaded_views xs)) c.deref.ensures.value (c.in_ok-inside.ensures.0 c.if-not-inside.false))
+    (subst (λ (xs : List Loaded). IsInProfile (loaded_views xs)) c.deref.ensures.value (c.is_in_profile.ensures.0 c.if-not-is_in_profile.false))
     c.in-Ok-prepare_objects.parts
     (subst (λ (xs : List Loaded). IsLinkageOf p (loaded_views xs) c.in-Ok-prepare_objects.parts) c.deref-2.ensures.value
     c.in-Ok-prepare_objects.ensures.made)
@@ -49,7 +49,7 @@ returns-clause-cause g c =
     cause (files_of c.args.files.now) (words_of c.args.words.now) p (loaded_views c.in-Ok-load.objects.items) c.in-Ok-load.ensures.loaded
     c.in-Ok.ensures.plan c.in-Ok-load.ensures.files c.in-Ok-load.ensures.archives c.in-Ok-load.ensures.indexes c.in-Ok-load.ensures.objects
     c.in-Ok-load.ensures.groups
-    (subst (λ (xs : List Loaded). IsInProfile (loaded_views xs)) c.deref.ensures.value (c.in_ok-inside.ensures.0 c.if-not-inside.false))
+    (subst (λ (xs : List Loaded). IsInProfile (loaded_views xs)) c.deref.ensures.value (c.is_in_profile.ensures.0 c.if-not-is_in_profile.false))
     c.in-Err-prepare_objects.error
     (subst (λ (xs : List Loaded). LinksRefuse p (loaded_views xs) c.in-Err-prepare_objects.error) c.deref-2.ensures.value
     c.in-Err-prepare_objects.ensures.fault)

@@ -1,6 +1,6 @@
 use Rattle.std.proofs.lemmas.Result.{err_from_is_err_and}
 use Rattle.elf_model.specs.Files.{files_of, words_of}
-use Rattle.ld_main.proofs.FinalRefusals.{no_memory}
+use Rattle.ld_main.proofs.FinalRefusals.{memory_cause, no_memory}
 use Rattle.ld_main.proofs.Links.{own, right}
 use Rattle.ld_main.proofs.linking.link.Goals as goal
 
@@ -23,3 +23,13 @@ pub returns-in_err-map-clause-no_link : goal.returns-in_err-map-clause-no_link
 returns-in_err-map-clause-no_link c =
     let exit = c.from_residual-in_err-map in
     no_memory (files_of c.args.files.now) (words_of c.args.words.now) exit.result (err_from_is_err_and exit.result exit.ensures.1)
+
+pub returns-in_err-image-clause-cause : goal.returns-in_err-image-clause-cause
+returns-in_err-image-clause-cause c =
+    let exit = c.from_residual in
+    memory_cause (files_of c.args.files.now) (words_of c.args.words.now) exit.result (err_from_is_err_and exit.result exit.ensures.1)
+
+pub returns-in_err-map-clause-cause : goal.returns-in_err-map-clause-cause
+returns-in_err-map-clause-cause c =
+    let exit = c.from_residual-in_err-map in
+    memory_cause (files_of c.args.files.now) (words_of c.args.words.now) exit.result (err_from_is_err_and exit.result exit.ensures.1)

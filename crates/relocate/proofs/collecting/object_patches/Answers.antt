@@ -5,7 +5,8 @@ use Rattle.std.proofs.lemmas.Option.{slice_get-get_or}
 use Rattle.std.proofs.lemmas.Result.{err_from_is_err_and}
 use Rattle.elf_model.proofs.FlatRelocations.{left_of_sections, section_more}
 use Rattle.elf_model.specs.ObjectFile.{null_section}
-use Rattle.elf_model.specs.Relocation.{Fits, Relocation, is_kept_rela, is_some_kind, relocation_kind, relocation_of, relocations_behind, relocations_from, relocations_in}
+use Rattle.elf_model.specs.Relocation.{Relocation, is_kept_rela, is_some_kind, relocation_kind, relocation_of, relocations_behind, relocations_from, relocations_in}
+use Rattle.elf_model.specs.RelocationValues.{Fits}
 use Rattle.elf_model.specs.declared.records.Rela.{Rela}
 use Rattle.elf_model.specs.declared.records.SectionHeader.{SectionHeader}
 use Rattle.search.specs.Views.{loaded_view}

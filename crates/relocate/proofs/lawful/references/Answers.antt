@@ -9,7 +9,7 @@ use Rattle.elf_model.specs.Relocation.{relocations, relocations_from}
 use Rattle.search.specs.Views.{loaded_view, loaded_views}
 use Rattle.relocate.proofs.Judged.{exit_fails, remains_fail, remains_part}
 use Rattle.elf_model.proofs.RelocationFields.{objects_apart}
-use Rattle.relocate.proofs.LoadedObjects.{next_relocations}
+use Rattle.got_tls.proofs.LoadedObjects.{next_relocations}
 use Rattle.relocate.specs.References.{AreLawful, RelocationsFail}
 use Rattle.relocate.proofs.lawful.references.Goals as goal
 

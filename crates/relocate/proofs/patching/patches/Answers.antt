@@ -5,10 +5,11 @@ use Rattle.std.proofs.lemmas.Result.{err_from_is_err_and}
 use Rattle.elf_model.proofs.FlatRelocations.{left_of_objects}
 use Rattle.elf_model.specs.Loading.{LoadedObject}
 use Rattle.elf_model.specs.Pieces.{AreLawfulKinds}
-use Rattle.elf_model.specs.Relocation.{Fits, relocations, relocations_from}
+use Rattle.elf_model.specs.Relocation.{relocations, relocations_from}
+use Rattle.elf_model.specs.RelocationValues.{Fits}
 use Rattle.search.specs.Views.{loaded_view, loaded_views}
 use Rattle.relocate.proofs.Fitted.{fit_all, fit_part, fitting_fails, known_part}
-use Rattle.relocate.proofs.LoadedObjects.{next_relocations, next_there}
+use Rattle.got_tls.proofs.LoadedObjects.{next_relocations, next_there}
 use Rattle.relocate.proofs.ObjectRows.{all_known, exit_values, no_rows, row_more, rows_all, values_fail}
 use Rattle.relocate.specs.Values.{ArePatchRows, FittingFails, where_in}
 use Rattle.relocate.proofs.patching.patches.Goals as goal

@@ -6,7 +6,7 @@ use Rattle.elf_model.specs.UsedNames.{Gains, is_among, uses_line}
 use Rattle.elf_model.proofs.FlatRelocations.{left_of_objects}
 use Rattle.elf_model.proofs.LinkerUses.{gained}
 use Rattle.search.specs.Views.{loaded_view, loaded_views}
-use Rattle.relocate.proofs.LoadedObjects.{next_relocations}
+use Rattle.got_tls.proofs.LoadedObjects.{next_relocations}
 use Rattle.relocate.proofs.uses.used_names.Goals as goal
 
 pub loop-k-preserved : goal.loop-k-preserved

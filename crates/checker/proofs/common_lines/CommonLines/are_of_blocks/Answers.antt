@@ -1,4 +1,4 @@
-use Rattle.std.proofs.Common.{List, get_or, subst}
+use Rattle.std.proofs.Common.{get_or, subst}
 use Rattle.std.specs.Prelude.{All}
 use Rattle.std.proofs.lemmas.List.Elements.{All-map}
 use Rattle.elf_model.specs.Commons.{Block}

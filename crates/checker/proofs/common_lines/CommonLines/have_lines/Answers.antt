@@ -1,4 +1,3 @@
-use Rattle.std.proofs.Common.{◌∙◌, List, ap, get_or, subst, sym}
 use Rattle.std.specs.Prelude.{All}
 use Rattle.elf_model.proofs.Rests.{all_more}
 use Rattle.elf_model.specs.RightLink.{HasCommonLine}

@@ -1,4 +1,4 @@
-use Rattle.std.proofs.Common.{◌∙◌, List, ap}
+use Rattle.std.proofs.Common.{◌∙◌, ap}
 use Rattle.std.specs.List.{list_any}
 use Rattle.elf_model.specs.Pieces.{is_of_output}
 use Rattle.checker.specs.Views.{piece_views}

@@ -1,6 +1,7 @@
-use Rattle.std.proofs.Common.{ap, subst, sym, ◌∙◌}
+use Rattle.std.proofs.Common.{ℕ, Option, ap, option_map, subst, sym, ◌∙◌}
+use Rattle.std.specs.Prelude.{unwrap_or}
 use Rattle.elf_model.specs.LinkerValues.{bound_value}
-use Rattle.elf_model.specs.OwnLayout.{own_where}
+use Rattle.elf_model.specs.OwnLayout.{own_got, own_where}
 use Rattle.elf_model.specs.Pieces.{AreLawfulKinds}
 use Rattle.search.specs.Views.{loaded_views}
 use Rattle.layout.specs.Placements.{Basis}
@@ -10,6 +11,10 @@ use Rattle.layout.proofs.placement.Placement.bound.Goals as goal
 pub returns : goal.returns
 returns c =
     c.bound_in.ensures
-    ∙ (own_bound c.self.inside.base (loaded_views c.self.inside.objects.now) c.self.inside.tables.now.bounds c.args.name.now c.args.bound
-    (subst (λ (b : Basis). AreLawfulKinds b.objects) (sym c.self.view_is) c.requires) c.self.invariant.bounds_are
+    ∙ (own_bound c.self.inside.base (loaded_views c.self.inside.objects.now)
+    (subst (λ (b : Basis). AreLawfulKinds b.objects) (sym c.self.view_is) c.requires) _ c.self.inside.tables.now.bounds c.args.name.now c.args.bound
+    (c.unwrap_or-got.ensures
+    ∙ ap (λ (o : Option ℕ). unwrap_or o 0)
+    (c.got.ensures ∙ ap (λ (b : Basis). option_map (λ g. g.address) (own_got b.base b.objects)) (sym c.self.view_is)))
+    c.self.invariant.bounds_are
     ∙ ap (λ (b : Basis). bound_value (own_where b.base b.objects) c.args.name.now c.args.bound) c.self.view_is)

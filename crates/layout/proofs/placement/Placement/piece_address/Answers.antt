@@ -1,0 +1,19 @@
+use Rattle.std.proofs.Common.{◌∙◌, ℕ, List, ap, option_map, sym}
+use Rattle.std.specs.Prelude.{Option, find}
+use Rattle.std.specs.Global.{Vec}
+use Rattle.elf_model.specs.OwnLayout.{own_placed}
+use Rattle.elf_model.specs.Placement.{is_of_section}
+use Rattle.search.specs.Views.{loaded_views}
+use Rattle.layout.specs.Addresses.{entry}
+use Rattle.layout.specs.Placements.{Basis}
+use Rattle.layout.proofs.OwnAddresses.{address_either}
+use Rattle.layout.proofs.placement.Placement.piece_address.Goals as goal
+
+pub returns : goal.returns
+returns c =
+    let objects = loaded_views c.self.inside.objects.now in
+    c.address_in.ensures
+    ∙ (ap (λ (t : List (Vec (Option ℕ))). entry t c.args.object c.args.section) c.deref.ensures.value
+    ∙ (c.self.invariant.addresses_are c.args.object c.args.section
+    ∙ (sym (address_either c.self.inside.base objects c.args.object c.args.section)
+    ∙ ap (λ (b : Basis). option_map (λ q. q.at) (find (is_of_section c.args.object c.args.section) (own_placed b.base b.objects))) c.self.view_is)))
