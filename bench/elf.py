@@ -2,10 +2,11 @@
 
 import struct
 
-PROGBITS, SYMTAB, STRTAB, RELA, NOBITS, GROUP = 1, 2, 3, 4, 8, 17
-WRITE, ALLOC, EXEC, IN_GROUP = 1, 2, 4, 0x200
-PC32, PLT32, GOTPCREL = 2, 4, 9
+PROGBITS, SYMTAB, STRTAB, RELA, NOBITS, INIT_ARRAY, GROUP = 1, 2, 3, 4, 8, 14, 17
+WRITE, ALLOC, EXEC, IN_GROUP, TLS = 1, 2, 4, 0x200, 0x400
+ABS64, PC32, PLT32, GOTPCREL, GOTTPOFF, TPOFF32 = 1, 2, 4, 9, 22, 23
 GLOBAL, WEAK = 1, 2
+THREAD_LOCAL = 6
 
 
 class Strings:
@@ -31,9 +32,9 @@ class Object:
         self.sections.append((name, sh_type, flags, bytes(data), align, info, size))
         return len(self.sections)
 
-    def symbol(self, name, section, binding=GLOBAL, value=0):
+    def symbol(self, name, section, binding=GLOBAL, value=0, kind=0):
         """A symbol of a section, or of none (0)."""
-        self.symbols.append((name, section, binding, value))
+        self.symbols.append((name, section, binding << 4 | kind, value))
         return len(self.symbols)
 
     def relocations(self, section, entries, flags=0):
@@ -46,8 +47,8 @@ class Object:
         table = len(self.sections) + 1
         names = Strings()
         entries = bytearray(24)
-        for name, section, binding, value in self.symbols:
-            entries += struct.pack("<IBBHQQ", names.add(name), binding << 4, 0, section, value, 0)
+        for name, section, info, value in self.symbols:
+            entries += struct.pack("<IBBHQQ", names.add(name), info, 0, section, value, 0)
         rows = self.sections + [
             (".symtab", SYMTAB, 0, bytes(entries), 8, 1, None),
             (".strtab", STRTAB, 0, bytes(names.data), 1, 0, None),

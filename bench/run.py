@@ -13,6 +13,8 @@ The inputs, each of them also doubled:
     names        one million symbols in 500 objects, half of them weak, each of these in two objects
     turns        an archive of 100,000 members, of which every other is taken, one by one from the end
     slots        one object with 300,000 relocations of type GOTPCREL, to 30,000 names
+    threads      one object with 100,000 relocations of types TPOFF32 and GOTTPOFF, to 10,000 thread-local sections
+    arrays       5,000 arrays of a function, each with a number, in 500 objects
 
 They lie inside the profile (docs/PROFILE.md), and are made by `as` or by elf.py beside this file. The linkers: the proved program
 crates/ld/out/ld, and of ld.bfd, ld.gold, ld.lld and mold those that are on PATH, with one thread and one process
@@ -248,6 +250,59 @@ def many_slots(folder, count):
     return words
 
 
+# movl %fs:0, %eax, with its relocation at 4; movq through the GOT, with its relocation at 3
+LOAD_THREAD = b"\x64\x8b\x04\x25" + bytes(4)
+
+
+def many_threads(folder, count):
+    """One object with code that loads thread-local variables, and one with these, each in a section of its own. The
+    code doesn't run, as nothing makes the storage of the thread."""
+    names = count // 10
+    words = [folder / "start.o", folder / "loads.o", folder / "names.o"]
+    start_object(words[0], ["loads"], 1)
+    loads = elf.Object()
+    pair = LOAD_THREAD + LOAD
+    text = loads.section(".text", elf.PROGBITS, elf.ALLOC | elf.EXEC, COUNT + RET + count // 2 * pair, 16)
+    loads.symbol("loads", text)
+    numbers = [loads.symbol(f"name_{k}", 0, kind=elf.THREAD_LOCAL) for k in range(names)]
+    entries = [(3, elf.PC32, loads.symbol("calls", 0), -4)]
+    for k in range(count // 2):
+        at = 8 + k * len(pair)
+        entries.append((at + 4, elf.TPOFF32, numbers[7 * k % names], 0))
+        entries.append((at + 11, elf.GOTTPOFF, numbers[3 * k % names], -4))
+    loads.relocations(text, entries)
+    words[1].write_bytes(loads.bytes())
+    defined = elf.Object()
+    for k in range(names):
+        flags = elf.ALLOC | elf.WRITE | elf.TLS
+        if k % 2:
+            section = defined.section(f".tbss.name_{k}", elf.NOBITS, flags, b"", 8, size=8)
+        else:
+            section = defined.section(f".tdata.name_{k}", elf.PROGBITS, flags, k.to_bytes(8, "little"), 8)
+        defined.symbol(f"name_{k}", section, kind=elf.THREAD_LOCAL)
+    words[2].write_bytes(defined.bytes())
+    return words
+
+
+def many_arrays(folder, count):
+    """Objects with ten numbered arrays each, and a start that calls all functions that these name."""
+    order = random.Random(1)
+    words = [folder / "start.o", folder / "count.o"]
+    lines = [".globl _start, calls", ".text", "_start: movq $__init_array_start, %rbx", "1: cmpq $__init_array_end, %rbx"]
+    lines += ["jae 2f", "call *(%rbx)", "addq $8, %rbx", "jmp 1b", f"2: cmpq ${count}, calls(%rip)", EXIT]
+    assemble("\n".join(lines + [".bss", ".balign 8", "calls: .quad 0"]) + "\n" + STACK, words[0])
+    words[1].write_bytes(counting_object("counted", None))
+    for k in range(count // 10):
+        made = elf.Object()
+        target = made.symbol("counted", 0)
+        for _ in range(10):
+            array = made.section(f".init_array.{order.randrange(65536):05}", elf.INIT_ARRAY, elf.ALLOC | elf.WRITE, bytes(8), 8)
+            made.relocations(array, [(0, elf.ABS64, target, 0)])
+        words.append(folder / f"{k}.o")
+        words[-1].write_bytes(made.bytes())
+    return words
+
+
 INPUTS = {
     "objects": (many_objects, 2_000),
     "relocations": (many_relocations, 200_000),
@@ -257,6 +312,8 @@ INPUTS = {
     "names": (many_names, 1_000_000),
     "turns": (many_turns, 100_000),
     "slots": (many_slots, 300_000),
+    "threads": (many_threads, 100_000),
+    "arrays": (many_arrays, 5_000),
 }
 
 

@@ -23,8 +23,8 @@ fi
 . "$root/examples/which_linker.sh"
 
 # The start files and the library are those that musl's own driver hands to GNU ld, which tells them with -t.
-# -fno-plt has calls go through the global offset table.
-musl-gcc -O2 -fPIC -fno-plt -c -o "$work/words.o" "$source"
+# -fno-plt has calls go through the global offset table, and so does the model of the thread-local variable.
+musl-gcc -O2 -fPIC -fno-plt -ftls-model=initial-exec -c -o "$work/words.o" "$source"
 musl-gcc -static -no-pie -Wl,-t -o "$work/peer" "$work/words.o" >"$work/trace"
 library=$(dirname "$(grep -o "/[^ ()]*/libc.a" "$work/trace" | head -n 1)")
 for name in crt1.o crti.o crtn.o libc.a; do
@@ -49,9 +49,9 @@ ld() {
 echo "\$ ld -o a.out -Map=a.map $words"
 ld
 
-echo "\$ grep -c ^object a.map; grep -e ^got -e ^slot a.map"
+echo "\$ grep -c ^object a.map; grep -e '\\.t[bd]' -e ^got -e ^slot a.map"
 grep -c ^object "$work/a.map"
-grep -e ^got -e ^slot "$work/a.map"
+grep -e '\.t[bd]' -e ^got -e ^slot "$work/a.map"
 
 echo "\$ ld -o a.out -Map=a.map --check $words"
 ld --check

@@ -1,5 +1,7 @@
-// A program on a C library: sorts words, converts numbers, allocates, prints, and takes a signal.
+// A program on a C library: sorts words, converts numbers, allocates, prints, takes a signal, and counts in a second
+// thread, with variables that each thread has for itself.
 #include <errno.h>
+#include <pthread.h>
 #include <signal.h>
 #include <stdio.h>
 #include <stdlib.h>
@@ -7,9 +9,25 @@
 
 static volatile sig_atomic_t signals;
 
+// Of each thread: one variable with a value from the start and one without, the first by an offset in the code, the
+// second by one in the table of global offsets.
+static _Thread_local volatile int first __attribute__((tls_model("local-exec"))) = 40;
+_Thread_local volatile int counted;
+
 static void on_signal(int number)
 {
     signals += number == SIGUSR1;
+    counted++;
+}
+
+static void *count_to(void *to)
+{
+    for (int i = 0; i < *(int *)to; i++) {
+        first++;
+        counted++;
+    }
+    printf("second thread: %d, %d\n", first, counted);
+    return 0;
 }
 
 static int by_text(const void *a, const void *b)
@@ -59,8 +77,13 @@ int main(int count, char **words)
             sum += number;
         free(sorted[i]);
     }
+    pthread_t second;
+    int to = 5;
+    if (pthread_create(&second, 0, count_to, &to) || pthread_join(second, 0))
+        exit(4);
     raise(SIGUSR1);
     raise(SIGUSR1);
     printf("sum %ld, signals %d\n", sum, (int)signals);
+    printf("first thread: %d, %d\n", first, counted);
     return sum == 379 ? 0 : 1;
 }

@@ -12,12 +12,14 @@ use Rattle.elf_model.specs.Relocation as relocation
 use Rattle.elf_model.specs.Relocation.{IsInRange, IsMismatch, Kind, RefersToDropped, Relocation, Terms, is_frame_of_dropped, kind_of, modulo_64, relocation_of, symbol_at, whole_value}
 use Rattle.elf_model.specs.RelocationValues.{terms_of, value_of}
 use Rattle.elf_model.specs.Slots.{slot_address}
+use Rattle.elf_model.specs.ThreadStorage.{block_in}
 use Rattle.elf_model.specs.declared.records.Rela.{Rela}
 use Rattle.checker.specs.Bindings.{Bound, IsTargetOf}
 use Rattle.checker.specs.Fields.{IsRight, field_of}
 use Rattle.checker.specs.Fitting.{IsRightWith, field_with, is_frames, refers_to_dropped, terms_with, value_with}
+use Rattle.checker.specs.ThreadStorage.{pointer_of, thread_pointer}
 use Rattle.checker.specs.declared.fields.Field.{Field}
-use Rattle.checker.specs.declared.fitting.GotTerms.{GotTerms}
+use Rattle.checker.specs.declared.fitting.LinkTerms.{LinkTerms}
 use Rattle.checker.specs.declared.fitting.Relocated.{Relocated}
 use Rattle.checker.specs.declared.targets.Target.{Target}
 
@@ -57,22 +59,29 @@ difference_of :
     (n m : ℕ) (a : ℤ) (p q : ℕ) → m ≡ n % 2 ^ 64 → q ≡ p % 2 ^ 64 → modulo_64 ((pos m +ℤ a) -ℤ pos q) ≡ modulo_64 ((pos n +ℤ a) -ℤ pos p)
 difference_of n m a p q e f = base_more n m a q e ∙ less_more (pos n +ℤ a) p q f
 
--- terms, of which the symbol's value and the place count modulo 2 ^ 64
-abbrev pub with_place : Terms → ℕ → ℕ → Terms
-with_place x s p = record x { s = s; p = p }
+offset_of :
+    (n m : ℕ) (a : ℤ) (p q : ℕ) → m ≡ n % 2 ^ 64 → q ≡ p % 2 ^ 64 → modulo_64 ((pos m -ℤ pos q) +ℤ a) ≡ modulo_64 ((pos n -ℤ pos p) +ℤ a)
+offset_of n m a p q e f =
+    let turned_q : (pos m -ℤ pos q) +ℤ a ≡ (pos m +ℤ a) -ℤ pos q = omega (arith, ints) in
+    let turned_p : (pos n +ℤ a) -ℤ pos p ≡ (pos n -ℤ pos p) +ℤ a = omega (arith, ints) in
+    ap modulo_64 turned_q ∙ difference_of n m a p q e f ∙ ap modulo_64 turned_p
+
+-- terms, of which the symbol's value, the place and the thread pointer count modulo 2 ^ 64
+abbrev pub with_reduced : Terms → ℕ → ℕ → ℕ → Terms
+with_reduced x s p pointer = record x { s = s; p = p; t = pos s -ℤ pos pointer }
 
 pub reduced :
-    (f : relocation.Formula) (x : Terms) (t q : ℕ) → t ≡ x.s % 2 ^ 64 → q ≡ x.p % 2 ^ 64 →
-    modulo_64 (whole_value f (with_place x t q)) ≡ modulo_64 (whole_value f x)
-reduced relocation.S+A x t q e g = sum_of x.s t x.a e
-reduced relocation.S+A-P x t q e g = difference_of x.s t x.a x.p q e g
-reduced relocation.S+A-GOT x t q e g = base_more x.s t x.a x.got e
-reduced relocation.G+A x t q e g = refl
-reduced relocation.G+GOT+A-P x t q e g = less_more (pos (x.g + x.got) +ℤ x.a) x.p q g
-reduced relocation.GOT+A-P x t q e g = less_more (pos x.got +ℤ x.a) x.p q g
-reduced relocation.Z+A x t q e g = refl
-reduced relocation.T+A x t q e g = refl
-reduced relocation.GT+GOT+A-P x t q e g = less_more (pos (x.g + x.got) +ℤ x.a) x.p q g
+    (f : relocation.Formula) (x : Terms) (pointer s p reduced : ℕ) → x.t ≡ pos x.s -ℤ pos pointer → s ≡ x.s % 2 ^ 64 → p ≡ x.p % 2 ^ 64 →
+    reduced ≡ pointer % 2 ^ 64 → modulo_64 (whole_value f (with_reduced x s p reduced)) ≡ modulo_64 (whole_value f x)
+reduced relocation.S+A x pointer s p r t e g h = sum_of x.s s x.a e
+reduced relocation.S+A-P x pointer s p r t e g h = difference_of x.s s x.a x.p p e g
+reduced relocation.S+A-GOT x pointer s p r t e g h = base_more x.s s x.a x.got e
+reduced relocation.G+A x pointer s p r t e g h = refl
+reduced relocation.G+GOT+A-P x pointer s p r t e g h = less_more (pos (x.g + x.got) +ℤ x.a) x.p p g
+reduced relocation.GOT+A-P x pointer s p r t e g h = less_more (pos x.got +ℤ x.a) x.p p g
+reduced relocation.Z+A x pointer s p r t e g h = refl
+reduced relocation.T+A x pointer s p r t e g h = offset_of x.s s x.a pointer r e h ∙ ap (λ (z : ℤ). modulo_64 (z +ℤ x.a)) (sym t)
+reduced relocation.GT+GOT+A-P x pointer s p r t e g h = less_more (pos (x.g + x.got) +ℤ x.a) x.p p g
 
 not_true : (b : Bool) → (b ≡ true → ⊥) → b ≡ false
 not_true true never = absurd (never refl)
@@ -85,7 +94,7 @@ false_of_not false e = refl
 not_both : (b : Bool) → b ≡ false → b ≡ true → ⊥
 not_both b e f = false≢true (sym e ∙ f)
 
-module _ (b : Bound) (n : ℕ) (o : LoadedObject) (to : Relocated) (g : GotTerms) (e : Rela) (t : Target) (means : IsTargetOf b (symbol_at n o (rela_symbol e)) t) (size : to.size ≡ (section (sections o.bytes) to.section).sh_size) (frames : to.frames ≡ is_frames o.bytes to.section) (address : to.address ≡ section_address b.places.placed n to.section) (slot : g.slot ≡ slot_address b.places.slots (relocation_of n o to.section e) - got_start b.places.got) (start : g.start ≡ got_start b.places.got) where
+module _ (b : Bound) (n : ℕ) (o : LoadedObject) (to : Relocated) (g : LinkTerms) (e : Rela) (t : Target) (means : IsTargetOf b (symbol_at n o (rela_symbol e)) t) (size : to.size ≡ (section (sections o.bytes) to.section).sh_size) (frames : to.frames ≡ is_frames o.bytes to.section) (address : to.address ≡ section_address b.places.placed n to.section) (slot : g.slot ≡ slot_address b.places.slots (relocation_of n o to.section e) - got_start b.places.got) (got : g.got ≡ got_start b.places.got) (pointer : g.thread_pointer ≡ thread_pointer b.places.placed) where
   abbrev pub r : Relocation
   r = relocation_of n o to.section e
 
@@ -96,11 +105,19 @@ module _ (b : Bound) (n : ℕ) (o : LoadedObject) (to : Relocated) (g : GotTerms
   x = terms_of b.objects b.places r
 
   made_terms : ℕ → ℕ → ℕ → Terms
-  made_terms i j z = record { s = t.value; a = e.r_addend; p = (to.address + e.r_offset) % 2 ^ 64; g = i; got = j; z = z; t = pos 0 }
+  made_terms i j z = record {
+    s = t.value;
+    a = e.r_addend;
+    p = (to.address + e.r_offset) % 2 ^ 64;
+    g = i;
+    got = j;
+    z = z;
+    t = pos t.value -ℤ pos g.thread_pointer;
+  }
 
-  terms_are : terms_with t to g e ≡ with_place x t.value ((to.address + e.r_offset) % 2 ^ 64)
+  terms_are : terms_with t to g e ≡ with_reduced x t.value ((to.address + e.r_offset) % 2 ^ 64) g.thread_pointer
   unfolding made_terms
-  terms_are = let all : made_terms g.slot g.start t.size ≡ made_terms x.g x.got x.z = cc3 g.slot g.start t.size x.g x.got x.z slot start means.size in all
+  terms_are = let all : made_terms g.slot g.got t.size ≡ made_terms x.g x.got x.z = cc3 g.slot g.got t.size x.g x.got x.z slot got means.size in all
     where
       cc3 : (i j z k l y : ℕ) → i ≡ k → j ≡ l → z ≡ y → made_terms i j z ≡ made_terms k l y
       cc3 i j z k l y p q s = cc
@@ -109,7 +126,7 @@ module _ (b : Bound) (n : ℕ) (o : LoadedObject) (to : Relocated) (g : GotTerms
   value_by None = refl
   value_by (Some k) =
       ap (λ (y : Terms). modulo_64 (whole_value k.formula y)) terms_are
-      ∙ reduced k.formula x t.value ((to.address + e.r_offset) % 2 ^ 64) means.value place_is
+      ∙ reduced k.formula x (pointer_of (block_in b.places)) t.value ((to.address + e.r_offset) % 2 ^ 64) g.thread_pointer refl means.value place_is pointer
 
   value_is : value_with (kind_of (rela_type e)) t to g e ≡ value_of b.objects b.places r
   value_is = value_by (kind_of (rela_type e))

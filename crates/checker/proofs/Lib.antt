@@ -4,6 +4,7 @@ pub mod SeenOutputs
 pub mod ByIndex
 pub mod DropSteps
 pub mod FieldOrder
+pub mod Filtered
 pub mod FittingLemmas
 pub mod Gathered
 pub mod Gathering
@@ -43,3 +44,6 @@ pub mod SlotSteps
 pub mod NeedSteps
 pub mod SlotCounts
 pub mod GotSteps
+pub mod ArrayRanks
+pub mod RoundedUp
+pub mod ThreadBlocks

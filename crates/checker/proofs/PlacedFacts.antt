@@ -1,13 +1,14 @@
 -- What the clauses before say of the placed pieces: each lies whole in a segment, with no more input bytes
 -- than its size.
-use Rattle.std.proofs.Common.{◌≡◌, ◌<◌, ◌≤◌, true, List, [], ◌++◌, Option, None, Some, length, get_or, map, subst, sym, arith}
-use Rattle.std.specs.Prelude.{All, Any, IfSome}
-use Rattle.std.proofs.lemmas.List.Elements.{All-head, All-tail, All-weaker}
+use Rattle.std.proofs.Common.{◌≡◌, ℕ, ◌+◌, ◌^◌, ◌<◌, ◌≤◌, ◌&&◌, Bool, true, false, cond, List, [], ◌++◌, Option, None, Some, length, get_or, map, refl, subst, sym, arith}
+use Rattle.std.specs.Prelude.{All, Any, IfSome, filter}
+use Rattle.std.proofs.lemmas.List.Elements.{All-head, All-tail}
 use Rattle.elf_model.specs.MemoryImage.{Encloses, loads}
 use Rattle.elf_model.specs.Pieces as pieces
 use Rattle.elf_model.specs.Placement as placement
-use Rattle.elf_model.specs.Placement.{HasRights, IsPlaced, IsWithin, LiesInSegment, got_things, headers_thing, thing_of}
-use Rattle.elf_model.specs.RightLink.{Subject, objects_of, placed_of, sections_of, things_of}
+use Rattle.elf_model.specs.Placement.{HasRights, IsWithin, LiesInSegment, got_things, headers_thing, is_thread_place, range_of, thing_of}
+use Rattle.elf_model.specs.RightLink.{Holds, Subject, objects_of, placed_of, things_of}
+use Rattle.elf_model.specs.declared.verdict.Clause.TheVariants.{C5}
 use Rattle.elf_model.specs.declared.link_map.GotLine.{GotLine}
 use Rattle.elf_model.specs.declared.records.ProgramHeader.{ProgramHeader}
 use Rattle.elf_model.specs.declared.thing.Thing.{Thing}
@@ -19,6 +20,7 @@ use Rattle.checker.specs.declared.things.Placed.{Placed}
 use Rattle.checker.proofs.PieceLemmas.{all_short}
 use Rattle.checker.proofs.PieceSections.{placed_each}
 use Rattle.elf_model.proofs.Listed.{All-parts, All-unmap}
+use Rattle.checker.proofs.Filtered.{All-unfilter}
 
 -- a piece has no more input bytes than its size
 abbrev Short : pieces.Piece → Type 0
@@ -48,22 +50,31 @@ lie_whole s placed same rights =
       short = short k d within;
     }
 
--- where the things of a link are within the addresses, each of its pieces ends at or below 2 ^ 46
-pub in_limit :
-    (s : Subject) (placed : List Placed) → placed_views placed ≡ placed_of s → IsPlaced s.plan.base (things_of s) (sections_of s) →
-    AreInLimit (placed_views placed)
+-- a piece ends where its thing does, or where its addresses do, which are asked of a thread-local one
+ends : (base : ℕ) (q : placement.Placed) → IsWithin base (thing_of q) → (is_thread_place q ≡ true → IsWithin base (range_of q)) → IsInLimit q
+ends base q loaded thread = by (pieces.is_thread_piece q.piece) refl (pieces.is_nobits q.piece.header) loaded.1
+  where
+    by :
+        (b : Bool) → pieces.is_thread_piece q.piece ≡ b → (c : Bool) → q.at + cond (pieces.is_thread_piece q.piece && c) 0 q.piece.size ≤ 2 ^ 46 →
+        q.at + q.piece.size ≤ 2 ^ 46
+    by true e c low = (thread e).1
+    by false e c low = subst (λ (t : Bool). q.at + cond (t && c) 0 q.piece.size ≤ 2 ^ 46) e low
+
+-- where the things of a link, and the thread-local pieces, are within the addresses, each piece ends at or below 2 ^ 46
+pub in_limit : (s : Subject) (placed : List Placed) → placed_views placed ≡ placed_of s → Holds C5 s → AreInLimit (placed_views placed)
 in_limit s placed same lies =
-    let within = All-tail (IsWithin s.plan.base) (headers_thing s.image) (got_things s.map.got ++ map thing_of (placed_of s)) lies.within in
-    let pieces = (All-parts (IsWithin s.plan.base) (got_things s.map.got) (map thing_of (placed_of s)) within).1 in
-    subst AreInLimit (sym same)
-    (All-weaker (λ (q : placement.Placed). IsWithin s.plan.base (thing_of q)) IsInLimit (λ q w. w.1) (placed_of s)
-    (All-unmap (IsWithin s.plan.base) thing_of (placed_of s) pieces))
+    let base = s.plan.base in
+    let within = All-tail (IsWithin base) (headers_thing s.image) (got_things s.map.got ++ map thing_of (placed_of s)) lies.within in
+    let loaded = All-unmap (IsWithin base) thing_of (placed_of s) (All-parts (IsWithin base) (got_things s.map.got) (map thing_of (placed_of s)) within).1 in
+    let threads = All-unmap (IsWithin base) range_of (filter is_thread_place (placed_of s)) lies.threads_within in
+    let each = All-unfilter is_thread_place (λ (q : placement.Placed). IsWithin base (range_of q)) (placed_of s) threads in
+    subst AreInLimit (sym same) (λ k d low. ends base (get_or (placed_of s) k d) (loaded k d low) (each k d low))
 
 abbrev got_thing : GotLine → Thing
 got_thing g = record { at = g.address; size = g.size; align = 8; rights = 6; in_file = true }
 
 -- so does its GOT, where there is one
-pub got_in_limit : (s : Subject) → IsPlaced s.plan.base (things_of s) (sections_of s) → IsGotInLimit s.map.got
+pub got_in_limit : (s : Subject) → Holds C5 s → IsGotInLimit s.map.got
 got_in_limit s lies = by s.map.got (All-tail (IsWithin s.plan.base) (headers_thing s.image) (got_things s.map.got ++ map thing_of (placed_of s)) lies.within)
   where
     by : (got : Option GotLine) → All (IsWithin s.plan.base) (got_things got ++ map thing_of (placed_of s)) → IsGotInLimit got
@@ -72,7 +83,7 @@ got_in_limit s lies = by s.map.got (All-tail (IsWithin s.plan.base) (headers_thi
 
 -- and it lies whole in a segment
 pub got_lies :
-    (s : Subject) → IsPlaced s.plan.base (things_of s) (sections_of s) → HasRights s.plan.base (loads s.image) (things_of s) (got_things s.map.got) →
+    (s : Subject) → Holds C5 s → HasRights s.plan.base (loads s.image) (things_of s) (got_things s.map.got) →
     IfSome s.map.got (LiesInImage s.image)
 got_lies s lies rights = by s.map.got (got_in_limit s lies) rights.got
   where

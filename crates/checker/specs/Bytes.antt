@@ -4,15 +4,17 @@ use Rattle.std.specs.List.{slice_get}
 use Rattle.std.specs.Global.{Vec}
 use Rattle.byteview.specs.Numbers.{le_bytes}
 use Rattle.elf_model.specs.MemoryImage.{Encloses, loads}
+use Rattle.elf_model.specs.Pieces.{load_size}
 use Rattle.elf_model.specs.Placement as placement
 use Rattle.elf_model.specs.RightLink.{byte_at}
 use Rattle.checker.specs.Fields.{IsBefore}
+use Rattle.checker.specs.Views.{piece_view}
 use Rattle.checker.specs.declared.fields.Field.{Field}
 use Rattle.checker.specs.declared.things.Placed.{Placed}
 
--- a nonempty piece lies whole in a segment of the image, and no piece has more input bytes than its size
+-- a piece that takes up memory lies whole in a segment of the image, and no piece has more input bytes than its size
 pub record LiesWhole (image : List ℕ) (q : Placed) : Type 0 where
-  pub encloses : 0 < q.piece.header.sh_size → Any (λ h. Encloses h q.at q.piece.header.sh_size) (loads image)
+  pub encloses : 0 < load_size (piece_view q.piece) → Any (λ h. Encloses h q.at (load_size (piece_view q.piece))) (loads image)
   pub short : length q.piece.bytes.now ≤ q.piece.header.sh_size
 
 -- byte k of a section lies in the field
@@ -56,9 +58,9 @@ abbrev pub WantedFrom : List ℕ → List ℕ → List Field → ℕ → ℕ →
 WantedFrom held bytes fs from to =
     (k : ℕ) → from ≤ k → k < to → slice_index held k ≡ byte_of bytes k (find (covers k) fs)
 
--- at each address of a piece memory has the byte of the field's value there, else the input's, and 0 where
+-- at each address that a piece takes up memory has the byte of the field's value there, else the input's, and 0 where
 -- the input has none
 pub record HoldsFields (image : List ℕ) (rows : List (Vec Field)) (q : placement.Placed) : Type 0 where
   pub bytes :
-      (k : ℕ) → k < q.piece.size
+      (k : ℕ) → k < load_size q.piece
       → byte_at image (q.at + k) ≡ Some (byte_of q.piece.bytes k (find (covers k) (fields_in rows q.piece.object q.piece.section)))

@@ -1,11 +1,11 @@
 -- What one relocation asks, by its kind, by what its symbol means, and by the section that it relocates.
-use Rattle.std.specs.Prelude.{ℕ, pos, ◌≡◌, ◌+◌, ◌*◌, ◌%◌, ◌^◌, ◌≤◌, ◌&&◌, Bool, false, not, codes, List, [], Option, IfSome, IsSome, IsSomeAnd, option_map, unwrap_or}
+use Rattle.std.specs.Prelude.{ℕ, pos, ◌-ℤ◌, ◌≡◌, ◌+◌, ◌*◌, ◌%◌, ◌^◌, ◌≤◌, ◌&&◌, Bool, false, not, codes, List, [], Option, IfSome, IsSome, IsSomeAnd, option_map, unwrap_or}
 use Rattle.std.specs.Str.{bytes_eq}
 use Rattle.elf_model.specs.ObjectFile.{section_name}
 use Rattle.elf_model.specs.Relocation.{IsInRange, IsMismatch, Kind, Terms, modulo_64, whole_value}
 use Rattle.elf_model.specs.declared.records.Rela.{Rela}
 use Rattle.checker.specs.declared.fields.Field.{Field}
-use Rattle.checker.specs.declared.fitting.GotTerms.{GotTerms}
+use Rattle.checker.specs.declared.fitting.LinkTerms.{LinkTerms}
 use Rattle.checker.specs.declared.fitting.Relocated.{Relocated}
 use Rattle.checker.specs.declared.targets.Target.{Target}
 
@@ -18,23 +18,23 @@ abbrev pub refers_to_dropped : Target → Relocated → Bool
 refers_to_dropped t to = t.unkept && not (t.dropped && to.frames)
 
 -- the terms of an entry's value
-abbrev pub terms_with : Target → Relocated → GotTerms → Rela → Terms
+abbrev pub terms_with : Target → Relocated → LinkTerms → Rela → Terms
 terms_with t to g e = record {
   s = t.value;
   a = e.r_addend;
   p = (to.address + e.r_offset) % 2 ^ 64;
   g = g.slot;
-  got = g.start;
+  got = g.got;
   z = t.size;
-  t = pos 0;
+  t = pos t.value -ℤ pos g.thread_pointer;
 }
 
 -- the value of an entry of a kind
-abbrev pub value_with : Option Kind → Target → Relocated → GotTerms → Rela → ℕ
+abbrev pub value_with : Option Kind → Target → Relocated → LinkTerms → Rela → ℕ
 value_with kind t to g e = unwrap_or (option_map (λ k. modulo_64 (whole_value k.formula (terms_with t to g e))) kind) 0
 
 -- an entry of a kind is lawful, and its value fits
-pub record IsRightWith (kind : Option Kind) (t : Target) (to : Relocated) (g : GotTerms) (e : Rela) : Type 0 where
+pub record IsRightWith (kind : Option Kind) (t : Target) (to : Relocated) (g : LinkTerms) (e : Rela) : Type 0 where
   pub known : IsSome kind
   pub defined : t.undefined ≡ false
   pub kept : refers_to_dropped t to ≡ false
@@ -44,7 +44,7 @@ pub record IsRightWith (kind : Option Kind) (t : Target) (to : Relocated) (g : G
   pub fits : IfSome kind (λ k. IsInRange k.range (8 * k.width) (value_with kind t to g e))
 
 -- its field
-abbrev pub field_with : Option Kind → Target → Relocated → GotTerms → Rela → Field
+abbrev pub field_with : Option Kind → Target → Relocated → LinkTerms → Rela → Field
 field_with kind t to g e = record {
   section = to.section;
   at = e.r_offset;

@@ -1,5 +1,5 @@
 -- The code's kinds as the definitions see them.
-use Rattle.std.specs.Prelude.{ℕ, ℤ, ◌+◌, pos}
+use Rattle.std.specs.Prelude.{ℕ, ℤ, ◌+◌, ◌-ℤ◌, pos}
 use Rattle.elf_model.specs.Relocation as relocation
 use Rattle.elf_model.specs.Relocation.{Terms}
 use Rattle.checker.specs.declared.kinds.Formula.{Formula}
@@ -29,29 +29,37 @@ range_view range.Either = relocation.Either
 abbrev pub kind_view : Kind → relocation.Kind
 kind_view k = record { number = k.number; width = k.width; formula = formula_view k.formula; range = range_view k.range }
 
--- the terms of the code with an addend: no kind of the profile speaks of thread storage
+-- the terms of the code with an addend
 abbrev pub terms_view : code.Terms → ℤ → Terms
-terms_view x a = record { s = x.symbol; a = a; p = x.place; g = x.slot; got = x.got; z = x.size; t = pos 0 }
+terms_view x a = record {
+  s = x.symbol;
+  a = a;
+  p = x.place;
+  g = x.slot;
+  got = x.got;
+  z = x.size;
+  t = pos x.symbol -ℤ pos x.thread_pointer;
+}
 
 -- what a formula adds the addend to, and what it takes away
-abbrev pub base_in : Formula → Terms → ℕ
-base_in formula.Symbol x = x.s
-base_in formula.SymbolFromPlace x = x.s
-base_in formula.SymbolFromGot x = x.s
-base_in formula.Slot x = x.g
-base_in formula.SlotFromPlace x = x.g + x.got
+abbrev pub base_in : Formula → code.Terms → ℕ
+base_in formula.Symbol x = x.symbol
+base_in formula.SymbolFromPlace x = x.symbol
+base_in formula.SymbolFromGot x = x.symbol
+base_in formula.Slot x = x.slot
+base_in formula.SlotFromPlace x = x.slot + x.got
 base_in formula.GotFromPlace x = x.got
-base_in formula.Size x = x.z
-base_in formula.ThreadOffset x = 0
-base_in formula.ThreadSlotFromPlace x = x.g + x.got
+base_in formula.Size x = x.size
+base_in formula.ThreadOffset x = x.symbol
+base_in formula.ThreadSlotFromPlace x = x.slot + x.got
 
-abbrev pub less_in : Formula → Terms → ℕ
+abbrev pub less_in : Formula → code.Terms → ℕ
 less_in formula.Symbol x = 0
-less_in formula.SymbolFromPlace x = x.p
+less_in formula.SymbolFromPlace x = x.place
 less_in formula.SymbolFromGot x = x.got
 less_in formula.Slot x = 0
-less_in formula.SlotFromPlace x = x.p
-less_in formula.GotFromPlace x = x.p
+less_in formula.SlotFromPlace x = x.place
+less_in formula.GotFromPlace x = x.place
 less_in formula.Size x = 0
-less_in formula.ThreadOffset x = 0
-less_in formula.ThreadSlotFromPlace x = x.p
+less_in formula.ThreadOffset x = x.thread_pointer
+less_in formula.ThreadSlotFromPlace x = x.place

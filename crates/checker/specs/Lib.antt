@@ -8,6 +8,7 @@ pub mod Fitting
 pub mod Got
 pub mod Judged
 pub mod Kinds
+pub mod Listed
 pub mod NameIndex
 pub mod Needs
 pub mod Neighbours
@@ -17,7 +18,8 @@ pub mod PlaceIndex
 pub mod Slots
 pub mod Subjects
 pub mod Sweeps
+pub mod ThreadBlock
+pub mod ThreadStorage
 pub mod Uses
 pub mod Views
 pub mod Widths
-pub mod Listed

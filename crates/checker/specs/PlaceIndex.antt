@@ -8,6 +8,7 @@ use Rattle.elf_model.specs.Placement.{Placed, is_of_section}
 use Rattle.elf_model.specs.declared.link_map.GotLine.{GotLine}
 use Rattle.checker.specs.Outputs.{AreSpans}
 use Rattle.checker.specs.PieceParts.{AreBounds}
+use Rattle.checker.specs.ThreadStorage.{thread_pointer}
 use Rattle.checker.specs.declared.bounds.Bounds.{Bounds}
 use Rattle.checker.specs.declared.bounds.Span.{Span}
 
@@ -23,7 +24,8 @@ address_in index object section = get section_key index (object, section)
 abbrev pub IsPlaceIndex : List Placed → BTreeMap (ℕ × ℕ) ℕ → Type 0
 IsPlaceIndex ps index = (object section : ℕ) → address_in index object section ≡ option_map (λ q. q.at) (find (is_of_section object section) ps)
 
-pub record ArePlaces (ps : List Placed) (got : Option GotLine) (index : BTreeMap (ℕ × ℕ) ℕ) (bounds : Bounds) (spans : BTreeMap (Bor (List ℕ)) Span) : Type 0 where
+pub record ArePlaces (ps : List Placed) (got : Option GotLine) (index : BTreeMap (ℕ × ℕ) ℕ) (bounds : Bounds) (spans : BTreeMap (Bor (List ℕ)) Span) (pointer : ℕ) : Type 0 where
   pub addresses : IsPlaceIndex ps index
   pub bounds_are : AreBounds ps got bounds
   pub spans_are : AreSpans ps spans
+  pub pointer_is : pointer ≡ thread_pointer ps

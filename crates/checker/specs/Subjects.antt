@@ -1,12 +1,9 @@
 -- A link that is checked, as the clauses see it.
-use Rattle.elf_model.specs.Files.{File, files_of}
-use Rattle.std.specs.Prelude.{ℕ, List}
-use Rattle.elf_model.specs.Command.{Plan}
-use Rattle.elf_model.specs.Loading.{LoadedObject, loaded_objects}
+use Rattle.elf_model.specs.Files.{files_of}
+use Rattle.std.specs.Prelude.{ℕ}
+use Rattle.elf_model.specs.Loading.{LoadedObject}
 use Rattle.elf_model.specs.MapRecord.{ObjectRow, map_of}
-use Rattle.elf_model.specs.Profile.{IsInProfile}
 use Rattle.elf_model.specs.RightLink.{Subject, objects_of, where_of}
-use Rattle.check_load.specs.Plans.{CanLoad}
 use Rattle.checker.specs.Bindings.{Bound}
 use Rattle.checker.specs.declared.link.Link.{Link}
 
@@ -20,8 +17,3 @@ bound_of s = record { objects = objects_of s; places = where_of s }
 -- the map's row for object number k
 abbrev pub row_of : ℕ → LoadedObject → ObjectRow
 row_of k o = record { object = k; item = o.item; offset = o.offset; path = o.path }
-
--- all that the second clause asks of files and loaded objects
-pub record IsOpened (files : List File) (plan : Plan) : Type 0 where
-  pub loads : CanLoad files plan
-  pub profile : IsInProfile (loaded_objects files plan)

@@ -14,6 +14,7 @@ ghost use Rattle.elf_model.specs.Slots.{requested_address};
 ghost use Rattle.check_load.specs.Views.{loaded_views};
 ghost use Rattle.checker.specs.Bindings.{IsOfUnkept, IsTargetOf};
 ghost use Rattle.checker.specs.Slots.{request_view};
+ghost use Rattle.checker.specs.ThreadStorage.{thread_pointer};
 ghost use Rattle.checker.specs.Views.{meaning_view, symbol_view, symbol_views};
 
 use crate::definitions::{has_value, is_in_thread_section};
@@ -353,6 +354,13 @@ impl<'l, 'p, 'a> Bindings<'l, 'p, 'a> {
         ensures { result ≡ got_start self.now.places.got }
     {
         self.places.got_start()
+    }
+
+    /// The thread pointer, modulo 2^64; 0 without thread-local pieces.
+    pub fn thread_pointer(&self) -> u64
+        ensures { result ≡ thread_pointer self.now.places.placed }
+    {
+        self.places.thread_pointer()
     }
 
     /// The address of the slot for a request, 0 without one.

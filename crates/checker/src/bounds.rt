@@ -1,27 +1,33 @@
-//! Where code, data and all pieces end, where what has no bytes begins, and where the pieces of each output name begin
-//! and end: what the linker's own names stand for.
+//! Where parts of the pieces begin and end, and where the pieces of each output name do: what the linker's own names
+//! stand for, and the block of thread-local storage.
 ghost use Rattle.std.specs.Prelude.{◌≡◌, ◌+◌, IfOk, OnOk, max, option_map, unwrap_or};
 ghost use Rattle.elf_model.specs.LinkerValues.{end_of_pieces, least_of, start_of_pieces};
 ghost use Rattle.elf_model.specs.Placement.{got_end};
+ghost use Rattle.elf_model.specs.ThreadStorage.{is_thread_data};
 ghost use Rattle.elf_model.proofs.PieceBounds.{earlier, further};
 ghost use Rattle.checker.specs.PieceParts.{AreBounds, AreInLimit, IsGotInLimit, IsInLimit, part_test};
 ghost use Rattle.checker.specs.Outputs.{AreSpans, HasSpanned};
 ghost use Rattle.checker.specs.Views.{piece_view, placed_view, placed_views};
 
+use crate::load_size::is_thread_zero;
 use crate::output::output_name;
 use crate::things::{Piece, Placed};
 use elf_model::GotLine;
 use std::alloc::{AllocError, Global};
 use std::collections::BTreeMap;
 
-/// The pieces that a bound is of: all, those of code, those of data in the file, and those without bytes in it that
-/// aren't thread-local.
+/// The pieces that a bound is of: those that memory has a place for, those of code, those of data in the file, those
+/// without bytes in it that aren't thread-local; the thread-local ones, those of them with bytes, and the nonempty ones
+/// of these.
 #[derive(Clone, Copy, Debug)]
 pub enum Part {
-    All,
+    Loaded,
     Code,
     FileData,
     Zeros,
+    Thread,
+    ThreadData,
+    SomeThreadData,
 }
 
 /// The least address and the greatest end of pieces, in bytes.
@@ -41,15 +47,25 @@ pub struct Bounds {
     pub image_end: u64,
 }
 
+/// Whether a piece is thread-local and has bytes in the file.
+fn is_thread_data(piece: &Piece<'_>) -> bool
+    ensures { result ≡ is_thread_data (piece_view piece.now) }
+{
+    piece.header.is_thread_local() && !piece.header.is_nobits()
+}
+
 fn is_of(part: Part, piece: &Piece<'_>) -> bool
     ensures { result ≡ part_test part (piece_view piece.now) }
 {
     let header = &piece.header;
     match part {
-        Part::All => true,
+        Part::Loaded => !is_thread_zero(piece),
         Part::Code => header.is_executable(),
         Part::FileData => header.is_writable() && !header.is_nobits(),
         Part::Zeros => header.is_nobits() && !header.is_thread_local(),
+        Part::Thread => header.is_thread_local(),
+        Part::ThreadData => is_thread_data(piece),
+        Part::SomeThreadData => is_thread_data(piece) && header.sh_size > 0,
     }
 }
 
@@ -65,7 +81,7 @@ fn further(part: Part, end: u64, placed: &Placed<'_>) -> u64
 }
 
 /// The greatest end of the pieces of a part; 0 without any.
-fn end_of(part: Part, placed: &[Placed<'_>]) -> u64
+pub fn end_of(part: Part, placed: &[Placed<'_>]) -> u64
     requires { AreInLimit (placed_views placed.now) }
     ensures { result ≡ end_of_pieces (part_test part) (placed_views placed.now) }
 {
@@ -90,7 +106,7 @@ fn earlier(part: Part, start: Option<u64>, placed: &Placed<'_>) -> Option<u64>
 }
 
 /// The least address of the pieces of a part; None without any.
-fn start_of(part: Part, placed: &[Placed<'_>]) -> Option<u64>
+pub fn start_of(part: Part, placed: &[Placed<'_>]) -> Option<u64>
     ensures { result ≡ start_of_pieces (part_test part) (placed_views placed.now) }
 {
     let mut start = None;
@@ -167,6 +183,6 @@ pub fn bounds_of(placed: &[Placed<'_>], got: Option<GotLine>) -> Bounds
         code_end: end_of(Part::Code, placed),
         data_end: end_of(Part::FileData, placed).max(got_end),
         zero_start: start_of(Part::Zeros, placed).unwrap_or(0),
-        image_end: end_of(Part::All, placed).max(got_end),
+        image_end: end_of(Part::Loaded, placed).max(got_end),
     }
 }

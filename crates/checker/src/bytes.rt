@@ -8,6 +8,7 @@ ghost use Rattle.checker.specs.Bytes.{AreRising, EndsBefore, FitsIn, HasFieldsIn
 ghost use Rattle.checker.specs.Fields.{IsBefore};
 
 use crate::fields::Field;
+use crate::load_size::load_size;
 use crate::sectioned::fields_in;
 use crate::segments::{enclosing, file_bytes, sub_part};
 use crate::things::Placed;
@@ -72,20 +73,25 @@ fn are_wanted(held: &[u8], bytes: &[u8], fields: &[Field], size: u64) -> bool
     same_between(held, bytes, from, size)
 }
 
-/// Whether a segment that a piece lies whole in holds the piece's wanted bytes at its address.
-fn is_held_by(image: &[u8], segment: &ProgramHeader, placed: &Placed<'_>, fields: &[Field]) -> bool
+/// Whether a segment that a piece of a size lies whole in holds the piece's wanted bytes at its address.
+fn is_held_by(
+    image: &[u8],
+    segment: &ProgramHeader,
+    placed: &Placed<'_>,
+    size: u64,
+    fields: &[Field],
+) -> bool
     requires lawful { IsLawful (length image.now) segment.now }
-    requires enclosed { Encloses segment.now placed.now.at placed.now.piece.header.sh_size }
-    requires inside { All (FitsIn placed.now.piece.header.sh_size) fields.now }
+    requires enclosed { Encloses segment.now placed.now.at size }
+    requires inside { All (FitsIn size) fields.now }
     requires rising { AllPairs EndsBefore fields.now }
-    ensures { IsTrue result ↔ ((k : ℕ) → k < placed.now.piece.header.sh_size → segment_byte image.now segment.now (placed.now.at + k) ≡ byte_of placed.now.piece.bytes.now k (find (covers k) fields.now)) }
+    ensures { IsTrue result ↔ ((k : ℕ) → k < size → segment_byte image.now segment.now (placed.now.at + k) ≡ byte_of placed.now.piece.bytes.now k (find (covers k) fields.now)) }
 {
-    let piece = &placed.piece;
-    let held = file_bytes(image, segment, placed.at, piece.header.sh_size);
-    are_wanted(held, piece.bytes, fields, piece.header.sh_size)
+    let held = file_bytes(image, segment, placed.at, size);
+    are_wanted(held, placed.piece.bytes, fields, size)
 }
 
-/// Whether memory holds a piece's wanted bytes at its address.
+/// Whether memory holds a piece's wanted bytes at its address, as far as the piece takes up memory.
 fn holds_piece(memory: &Memory<'_>, rows: &[Vec<Field>], placed: &Placed<'_>) -> bool
     requires whole { LiesWhole memory.now placed.now }
     requires rising { AreRising rows.now }
@@ -93,18 +99,19 @@ fn holds_piece(memory: &Memory<'_>, rows: &[Vec<Field>], placed: &Placed<'_>) ->
     ensures { IsTrue result ↔ HoldsFields memory.now rows.now (placed_view placed.now) }
 {
     let piece = &placed.piece;
-    if piece.header.sh_size == 0 {
+    let size = load_size(piece);
+    if size == 0 {
         return true;
     }
     let fields = fields_in(rows, piece.object, piece.section);
-    match enclosing(memory, placed.at, piece.header.sh_size) {
-        Some(segment) => is_held_by(memory.image(), &segment, placed, fields),
+    match enclosing(memory, placed.at, size) {
+        Some(segment) => is_held_by(memory.image(), &segment, placed, size, fields),
         None => false,
     }
 }
 
-/// Whether memory holds the wanted bytes of every piece, given the rows of fields by objects. Each nonempty
-/// piece lies in a segment, and the fields of its section lie inside it.
+/// Whether memory holds the wanted bytes of every piece, given the rows of fields by objects. Each piece that takes up
+/// memory lies in a segment, and the fields of its section lie inside it.
 pub fn holds_pieces(memory: &Memory<'_>, rows: &[Vec<Field>], placed: &[Placed<'_>]) -> bool
     requires whole { All (LiesWhole memory.now) placed.now }
     requires rising { AreRising rows.now }

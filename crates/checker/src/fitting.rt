@@ -10,6 +10,7 @@ ghost use Rattle.checker.specs.Bindings.{AreTargets};
 ghost use Rattle.checker.specs.Fields.{IsRight, field_of};
 ghost use Rattle.checker.specs.Fitting.{IsRightWith, field_with, is_frames, refers_to_dropped};
 ghost use Rattle.checker.specs.Kinds.{formula_view, kind_view};
+ghost use Rattle.checker.specs.ThreadStorage.{thread_pointer};
 ghost use Rattle.checker.specs.Widths.{IsWidth};
 
 use crate::bindings::Bindings;
@@ -30,12 +31,13 @@ pub struct Relocated {
     pub frames: bool,
 }
 
-/// What the GOT gives a value: the offset in it of an entry's slot, 0 where it asks for none, and the GOT's address, 0
-/// without one.
+/// What the GOT and the block of thread-local storage give a value: the offset in the GOT of an entry's slot, 0 where it
+/// asks for none, the GOT's address, 0 without one, and the thread pointer, modulo 2^64.
 #[derive(Clone, Copy, Debug)]
-pub struct GotTerms {
+pub struct LinkTerms {
     pub slot: u64,
-    pub start: u64,
+    pub got: u64,
+    pub thread_pointer: u64,
 }
 
 /// Whether a formula doesn't suit a symbol that stands in thread-local storage, or one that doesn't.
@@ -70,11 +72,11 @@ fn field_with(
     kind: &Kind,
     target: &Target,
     to: &Relocated,
-    got: &GotTerms,
+    given: &LinkTerms,
     entry: &Rela,
 ) -> Option<Field>
     requires { IsWidth kind.now.width }
-    ensures { SomeIff result (IsRightWith (Some (kind_view kind.now)) target.now to.now got.now entry.now) (field_with (Some (kind_view kind.now)) target.now to.now got.now entry.now) }
+    ensures { SomeIff result (IsRightWith (Some (kind_view kind.now)) target.now to.now given.now entry.now) (field_with (Some (kind_view kind.now)) target.now to.now given.now entry.now) }
 {
     if target.undefined || target.mixed || refers_to_dropped(target, to) {
         return None;
@@ -89,9 +91,10 @@ fn field_with(
     let terms = Terms {
         symbol: target.value,
         place: to.address.wrapping_add(at),
-        slot: got.slot,
-        got: got.start,
+        slot: given.slot,
+        got: given.got,
         size: target.size,
+        thread_pointer: given.thread_pointer,
     };
     let value = value_of(kind.formula, entry.r_addend, terms);
     if !fits(kind.range, kind.width, value) {
@@ -107,13 +110,13 @@ fn field_with(
 
 /// The field of an entry whose symbol means a target; None where it isn't lawful, and where its value
 /// doesn't fit.
-fn field_for(target: &Target, to: &Relocated, got: &GotTerms, entry: &Rela) -> Option<Field>
-    ensures { SomeIff result (IsRightWith (relocation.kind_of (rela_type entry.now)) target.now to.now got.now entry.now) (field_with (relocation.kind_of (rela_type entry.now)) target.now to.now got.now entry.now) }
+fn field_for(target: &Target, to: &Relocated, given: &LinkTerms, entry: &Rela) -> Option<Field>
+    ensures { SomeIff result (IsRightWith (relocation.kind_of (rela_type entry.now)) target.now to.now given.now entry.now) (field_with (relocation.kind_of (rela_type entry.now)) target.now to.now given.now entry.now) }
 {
     let Some(kind) = kind_of(entry.kind()) else {
         return None;
     };
-    field_with(&kind, target, to, got, entry)
+    field_with(&kind, target, to, given, entry)
 }
 
 /// The address of the slot for which an entry asks, 0 where it asks for none and where there is none.
@@ -131,21 +134,23 @@ fn slot_address<'a>(
     }
 }
 
-/// What the GOT gives the value of an entry.
-fn got_terms<'a>(
+/// What the GOT and the block of thread-local storage give the value of an entry.
+fn link_terms<'a>(
     bindings: &Bindings<'_, '_, 'a>,
     number: u64,
     loaded: &Loaded<'a>,
     entry: &Rela,
-) -> GotTerms
+) -> LinkTerms
     ensures slot { (section : ℕ) → result.slot ≡ slot_address bindings.now.places.slots (relocation_of number (loaded_view loaded.now) section entry.now) - got_start bindings.now.places.got }
-    ensures start { result.start ≡ got_start bindings.now.places.got }
+    ensures got { result.got ≡ got_start bindings.now.places.got }
+    ensures pointer { result.thread_pointer ≡ thread_pointer bindings.now.places.placed }
 {
-    let start = bindings.got_start();
+    let got = bindings.got_start();
     let address = slot_address(bindings, number, loaded, entry);
-    GotTerms {
-        slot: address.saturating_sub(start),
-        start,
+    LinkTerms {
+        slot: address.saturating_sub(got),
+        got,
+        thread_pointer: bindings.thread_pointer(),
     }
 }
 
@@ -166,6 +171,6 @@ pub fn right_field<'a>(
     ensures { SomeIff result (IsRight bindings.now.objects bindings.now.places (relocation_of number (loaded_view loaded.now) to.now.section entry.now)) (field_of bindings.now.objects bindings.now.places (relocation_of number (loaded_view loaded.now) to.now.section entry.now)) }
 {
     let target = target_at(bindings, targets, number, loaded, entry.symbol() as usize);
-    let got = got_terms(bindings, number, loaded, entry);
-    field_for(&target, to, &got, entry)
+    let given = link_terms(bindings, number, loaded, entry);
+    field_for(&target, to, &given, entry)
 }

@@ -1,8 +1,7 @@
-//! The global offset table and thread-local storage: the seventh and the eighth clause of a right link.
-ghost use Rattle.std.specs.Prelude.{◌≡◌, ◌↔◌, All, IfOk, IfSome, IsTrue, [], map, true};
+//! The global offset table: the seventh clause of a right link.
+ghost use Rattle.std.specs.Prelude.{◌≡◌, ◌↔◌, All, IfOk, IfSome, IsTrue, true};
 ghost use Rattle.std.specs.List.{list_any};
 ghost use Rattle.elf_model.specs.MapRecord.{slot_row};
-ghost use Rattle.elf_model.specs.MemoryImage.{thread_blocks};
 ghost use Rattle.elf_model.specs.RightLink.{HoldsGot};
 ghost use Rattle.elf_model.specs.Slots.{is_slot_of, row_request};
 ghost use Rattle.check_load.specs.Views.{loaded_views};
@@ -115,12 +114,4 @@ pub fn is_got_right<'a>(
     }
     let held = holds_if_there(alloc, bindings, objects, slots, memory, got)?;
     Ok(held)
-}
-
-/// Whether an image has the PT_TLS header that its thread-local pieces ask for: none, since no such piece
-/// is in the profile.
-pub fn is_thread_block_right(memory: &Memory<'_>) -> bool
-    ensures { IsTrue result ↔ (thread_blocks memory.now ≡ []) }
-{
-    memory.thread_blocks().is_empty()
 }

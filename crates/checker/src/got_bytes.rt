@@ -1,5 +1,5 @@
 //! What memory holds at the global offset table: a first word of zeros, then each slot's value.
-ghost use Rattle.std.specs.Prelude.{◌≡◌, ◌+◌, ◌*◌, ◌≤◌, ◌<◌, ◌^◌, ◌++◌, ◌↔◌, Any, IfOk, IsTrue, OnOk, length, map, option_map, replicate};
+ghost use Rattle.std.specs.Prelude.{◌≡◌, ◌+◌, ◌*◌, ◌%◌, ◌≤◌, ◌<◌, ◌^◌, ◌++◌, ◌↔◌, Any, IfOk, IsTrue, OnOk, length, map, option_map, replicate};
 ghost use Rattle.std.specs.List.{flat_map};
 ghost use Rattle.byteview.specs.Numbers.{le_bytes};
 ghost use Rattle.elf_model.specs.MapRecord.{OfLocal, slot_row, target_row};
@@ -7,7 +7,6 @@ ghost use Rattle.elf_model.specs.MemoryImage.{Encloses, loads};
 ghost use Rattle.elf_model.specs.RightLink.{HoldsGot, StandFrom};
 ghost use Rattle.elf_model.specs.Slots as slots;
 ghost use Rattle.elf_model.specs.Slots.{size_with, slot_bytes};
-ghost use Rattle.elf_model.specs.declared.link_map.SlotKind.TheVariants as slotkind;
 ghost use Rattle.check_load.specs.Views.{loaded_views};
 ghost use Rattle.checker.specs.Got.{HoldsBytes, LiesInImage};
 
@@ -30,7 +29,7 @@ fn local_value<'a>(
     symbol: u64,
 ) -> u64
     requires { bindings.now.objects ≡ loaded_views objects.now }
-    ensures { result ≡ slots.slot_value bindings.now.objects bindings.now.places slotkind.Value (OfLocal object symbol) }
+    ensures { result ≡ slots.target_value bindings.now.objects bindings.now.places (OfLocal object symbol) % 2 ^ 64 }
 {
     match objects.get(object as usize) {
         Some(loaded) => bindings.symbol_value(&symbol_at(loaded, object, symbol as usize)),
@@ -45,7 +44,7 @@ fn target_value<'a>(
     target: &SlotTarget,
 ) -> u64
     requires { bindings.now.objects ≡ loaded_views objects.now }
-    ensures { result ≡ slots.slot_value bindings.now.objects bindings.now.places slotkind.Value (target_row target.now) }
+    ensures { result ≡ slots.target_value bindings.now.objects bindings.now.places (target_row target.now) % 2 ^ 64 }
 {
     match target {
         SlotTarget::Name(name) => bindings.name_value(name),
@@ -53,14 +52,15 @@ fn target_value<'a>(
     }
 }
 
-/// What a line's slot holds: the value of what it stands for; 0 for a thread offset, which isn't in the profile.
+/// What a line's slot holds: the value of what it stands for, or that value's offset from the thread pointer, modulo 2^64.
 fn slot_value<'a>(bindings: &Bindings<'_, '_, 'a>, objects: &[Loaded<'a>], line: &SlotLine) -> u64
     requires { bindings.now.objects ≡ loaded_views objects.now }
     ensures { result ≡ slots.slot_value bindings.now.objects bindings.now.places line.now.kind (target_row line.now.target) }
 {
+    let value = target_value(bindings, objects, &line.target);
     match line.kind {
-        SlotKind::Value => target_value(bindings, objects, &line.target),
-        SlotKind::Thread => 0,
+        SlotKind::Value => value,
+        SlotKind::Thread => value.wrapping_sub(bindings.thread_pointer()),
     }
 }
 

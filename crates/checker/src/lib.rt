@@ -4,6 +4,7 @@
 #![tactic(auto)]
 
 mod apart;
+mod array_order;
 mod bindings;
 mod bounds;
 mod bytes;
@@ -25,17 +26,16 @@ mod lawful;
 mod link;
 mod linker_names;
 mod listed;
+mod load_size;
 mod loading;
 mod names;
 mod needs;
 mod neighbours;
-mod opening;
 mod output;
 mod outputs;
 mod placed;
 mod places;
 mod placing;
-mod profile;
 mod reading;
 mod region;
 mod requests;
@@ -48,6 +48,8 @@ mod stretches;
 mod symbols;
 mod targets;
 mod things;
+mod thread_block;
+mod thread_storage;
 mod uses;
 mod value;
 mod verdict;

@@ -2,7 +2,8 @@
 ghost use Rattle.std.specs.Prelude.{◌≡◌, ◌↔◌, IsTrue, map};
 ghost use Rattle.elf_model.specs.MapRecord.{object_row};
 ghost use Rattle.elf_model.specs.RightLink.{IsLoaded, object_rows, objects_of};
-ghost use Rattle.checker.specs.Subjects.{IsOpened, row_of, subject_of};
+ghost use Rattle.checker.specs.Subjects.{row_of, subject_of};
+ghost use Rattle.check_load.specs.Plans.{CanLoad};
 ghost use Rattle.check_load.specs.Views.{loaded_view, loaded_views};
 
 use crate::link::Link;
@@ -37,7 +38,7 @@ fn are_lines_of(lines: &[ObjectLine], objects: &[Loaded<'_>]) -> bool
 /// Whether the map's object lines of a link are those of its objects, which were opened.
 pub fn is_loaded(link: &Link<'_>, objects: &[Loaded<'_>]) -> bool
     requires loaded { loaded_views objects.now ≡ objects_of (subject_of link.now) }
-    requires opened { IsOpened (subject_of link.now).files link.now.plan }
+    requires opened { CanLoad (subject_of link.now).files link.now.plan }
     ensures { IsTrue result ↔ IsLoaded (subject_of link.now) }
 {
     are_lines_of(&link.map.objects, objects)

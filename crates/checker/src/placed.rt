@@ -1,14 +1,15 @@
 //! The pieces at the addresses of the map, and all things of an image with its map.
-ghost use Rattle.std.specs.Prelude.{◌≡◌, ◌++◌, ◌∷◌, ◌≤◌, IfOk, OnOk, length, map, take};
+ghost use Rattle.std.specs.Prelude.{◌≡◌, ◌++◌, ◌∷◌, ◌≤◌, IfOk, OnOk, Some, [], length, map, take};
 ghost use Rattle.elf_model.specs.Commons.{block_piece};
 ghost use Rattle.elf_model.specs.MapRecord.{place_row};
 ghost use Rattle.elf_model.specs.Pieces.{rights_of};
-ghost use Rattle.elf_model.specs.Placement.{got_things, headers_thing, placed_blocks, placed_by, thing_of};
+ghost use Rattle.elf_model.specs.Placement.{got_things, headers_thing, placed_blocks, placed_by, range_of, thing_of, thread_ranges};
 ghost use Rattle.elf_model.specs.MemoryImage as placement;
 ghost use Rattle.elf_model.specs.MemoryImage.{loads};
 ghost use Rattle.checker.specs.Views.{block_view, block_views, piece_view, piece_views, placed_view, placed_views};
 
 use crate::common_lines::CommonLines;
+use crate::load_size::load_size;
 use crate::things::{Block, Piece, Placed};
 use elf_model::{GotLine, PlaceLine, SHF_ALLOC, SHF_WRITE, SHT_NOBITS, SectionHeader, Thing};
 use loader_model::Memory;
@@ -106,8 +107,9 @@ fn section_rights(header: &SectionHeader) -> u64
     }
 }
 
-fn thing_of_placed(placed: &Placed<'_>) -> Thing
-    ensures { result ≡ thing_of (placed_view placed.now) }
+/// The addresses of a piece, those of a thread-local one without bytes too, which takes up none of them.
+fn range_of_placed(placed: &Placed<'_>) -> Thing
+    ensures { result ≡ range_of (placed_view placed.now) }
 {
     let header = &placed.piece.header;
     Thing {
@@ -116,6 +118,16 @@ fn thing_of_placed(placed: &Placed<'_>) -> Thing
         align: header.sh_addralign.max(1),
         rights: section_rights(header),
         in_file: !header.is_nobits(),
+    }
+}
+
+/// A piece as a thing that takes up memory.
+pub fn thing_of_placed(placed: &Placed<'_>) -> Thing
+    ensures { result ≡ thing_of (placed_view placed.now) }
+{
+    Thing {
+        size: load_size(&placed.piece),
+        ..range_of_placed(placed)
     }
 }
 
@@ -141,21 +153,41 @@ pub fn first_address(memory: &Memory<'_>) -> u64
     }
 }
 
+/// The GOT as a thing.
+pub fn got_thing(line: GotLine) -> Thing
+    ensures { got_things (Some line) ≡ result ∷ [] }
+{
+    Thing {
+        at: line.address,
+        size: line.size,
+        align: 8,
+        rights: 6,
+        in_file: true,
+    }
+}
+
 /// The GOT, where the map has a line for it.
 pub fn got_things_of(alloc: Global, got: Option<GotLine>) -> Result<Vec<Thing>, AllocError>
     ensures { IfOk result (λ v. v.items ≡ got_things got) }
 {
     let mut things = Vec::new(alloc);
     if let Some(line) = got {
-        things.push(Thing {
-            at: line.address,
-            size: line.size,
-            align: 8,
-            rights: 6,
-            in_file: true,
-        })?;
+        things.push(got_thing(line))?;
     }
     Ok(things)
+}
+
+/// The addresses of the thread-local pieces.
+pub fn thread_ranges_of(alloc: Global, placed: &[Placed<'_>]) -> Result<Vec<Thing>, AllocError>
+    ensures { IfOk result (λ v. v.items ≡ thread_ranges (placed_views placed.now)) }
+{
+    let mut ranges = Vec::new(alloc);
+    for q in placed {
+        if q.piece.header.is_thread_local() {
+            ranges.push(range_of_placed(q))?;
+        }
+    }
+    Ok(ranges)
 }
 
 /// All things: the headers, the GOT where the map has one, the pieces.

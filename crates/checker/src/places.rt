@@ -8,6 +8,7 @@ ghost use Rattle.elf_model.specs.Slots.{requested_address};
 ghost use Rattle.checker.specs.PieceParts.{AreInLimit, IsGotInLimit};
 ghost use Rattle.checker.specs.PlaceIndex.{IsPlaceIndex, address_in};
 ghost use Rattle.checker.specs.Slots.{request_view};
+ghost use Rattle.checker.specs.ThreadStorage.{thread_pointer};
 ghost use Rattle.checker.specs.Views.{placed_view, placed_views};
 
 use crate::bounds::{Bounds, Span, bounds_of, spans_of};
@@ -15,13 +16,14 @@ use crate::linker_names::named_output;
 use crate::requests::Request;
 use crate::slots::SlotTable;
 use crate::things::Placed;
+use crate::thread_storage::thread_pointer;
 use elf_model::{Bound, GotLine};
 use std::alloc::{AllocError, Global};
 use std::collections::BTreeMap;
 use std::marker::Model;
 
-/// The base, pieces at addresses and the GOT with its slots, with an index of the addresses by object and section, and
-/// the bounds of parts and of output names.
+/// The base, pieces at addresses and the GOT with its slots, with an index of the addresses by object and section, the
+/// bounds of parts and of output names, and the thread pointer.
 #[derive(Drop)]
 pub struct Places<'p, 'a> {
     base: u64,
@@ -31,6 +33,7 @@ pub struct Places<'p, 'a> {
     addresses: BTreeMap<(u64, u64), u64>,
     bounds: Bounds,
     spans: BTreeMap<&'a [u8], Span>,
+    thread_pointer: u64,
 }
 
 impl<'p, 'a> Model for Places<'p, 'a> {
@@ -42,7 +45,7 @@ impl<'p, 'a> Model for Places<'p, 'a> {
 
     ghost view = { λ p. record { base = p.base; placed = placed_views p.placed.now; got = p.got; slots = p.slots.now } };
 
-    ghost invariant = { λ p. ArePlaces (placed_views p.placed.now) p.got p.addresses p.bounds p.spans };
+    ghost invariant = { λ p. ArePlaces (placed_views p.placed.now) p.got p.addresses p.bounds p.spans p.thread_pointer };
 }
 
 impl<'p, 'a> Places<'p, 'a> {
@@ -68,6 +71,7 @@ impl<'p, 'a> Places<'p, 'a> {
             addresses,
             bounds: bounds_of(placed, got),
             spans,
+            thread_pointer: thread_pointer(placed),
         })
     }
 
@@ -99,6 +103,13 @@ impl<'p, 'a> Places<'p, 'a> {
             Some(got) => got.address,
             None => 0,
         }
+    }
+
+    /// The thread pointer, modulo 2^64; 0 without thread-local pieces.
+    pub fn thread_pointer(&self) -> u64
+        ensures { result ≡ thread_pointer self.now.placed }
+    {
+        self.thread_pointer
     }
 
     /// The address of the slot for a request, 0 without one.

@@ -1,11 +1,12 @@
 //! Where things lie, and with which rights: the fifth and the sixth clause.
 ghost use Rattle.std.specs.Prelude.{◌≡◌, ◌+◌, ◌≤◌, ◌<◌, ◌^◌, ◌%◌, ◌↔◌, All, AllPairs, IfOk, IsTrue};
+ghost use Rattle.elf_model.specs.ArrayOrder.{placed_in_array_order};
 ghost use Rattle.elf_model.specs.MemoryImage.{Encloses, loads};
 ghost use Rattle.elf_model.specs.Placement.{AreApart, HasRights, IsPlaced, IsWithin, LiesInSegment};
 ghost use Rattle.checker.specs.Views.{placed_views};
 
 use crate::apart::share_no_address;
-use crate::neighbours::are_near;
+use crate::array_order::are_near_in_array_order;
 use crate::placed::first_address;
 use crate::segments::{encloses, enclosing};
 use crate::things::Placed;
@@ -43,28 +44,39 @@ fn are_aligned(things: &[Thing]) -> bool
     things.iter().all(|t| is_aligned(t))
 }
 
-/// Whether each thing has an address that is a multiple of its alignment, all lie from the base on below
-/// 2^46, no two share an address, and each of the sections stands close behind the one before it in its output
-/// section.
-pub fn is_placed(
-    alloc: Global,
-    base: u64,
-    things: &[Thing],
-    sections: &[Placed<'_>],
-) -> Result<bool, AllocError>
-    ensures { IfOk result (λ b. IsTrue b ↔ IsPlaced base things.now (placed_views sections.now)) }
+/// Whether all things lie from the base on below 2^46, and no two share an address.
+fn lie_apart(alloc: Global, base: u64, things: &[Thing]) -> Result<bool, AllocError>
+    ensures { IfOk result (λ b. IsTrue b ↔ (All (IsWithin base) things.now × AllPairs AreApart things.now)) }
 {
-    if !are_aligned(things) {
-        return Ok(false);
-    }
     if !are_within(base, things) {
         return Ok(false);
     }
     let apart = share_no_address(alloc, things)?;
-    if !apart {
+    Ok(apart)
+}
+
+/// Whether each thing has an address that is a multiple of its alignment, all lie from the base on below 2^46, no two share
+/// an address, nor do two thread-local pieces; and each of the sections stands close after the one before it in its
+/// output section.
+pub fn is_placed(
+    alloc: Global,
+    base: u64,
+    things: &[Thing],
+    threads: &[Thing],
+    sections: &[Placed<'_>],
+) -> Result<bool, AllocError>
+    ensures { IfOk result (λ b. IsTrue b ↔ IsPlaced base things.now threads.now (placed_in_array_order (placed_views sections.now))) }
+{
+    if !are_aligned(things) {
         return Ok(false);
     }
-    let near = are_near(alloc, sections)?;
+    if !lie_apart(alloc, base, things)? {
+        return Ok(false);
+    }
+    if !lie_apart(alloc, base, threads)? {
+        return Ok(false);
+    }
+    let near = are_near_in_array_order(alloc, sections)?;
     Ok(near)
 }
 

@@ -7,7 +7,7 @@ ghost use Rattle.checker.specs.Widths.{IsWidth};
 use crate::kinds::{Formula, Range};
 
 /// The terms of a value but for the addend: the symbol's value, the field's address, the slot's offset in the GOT, the GOT's
-/// address and the symbol's size, each 0 where there is none. All are modulo 2^64.
+/// address, the symbol's size and the thread pointer, each 0 where there is none. All are modulo 2^64.
 #[derive(Clone, Copy, Debug)]
 pub struct Terms {
     pub symbol: u64,
@@ -15,27 +15,30 @@ pub struct Terms {
     pub slot: u64,
     pub got: u64,
     pub size: u64,
+    pub thread_pointer: u64,
 }
 
-/// What a formula adds the addend to, modulo 2^64; 0 for a thread offset, of which no kind of the profile speaks.
+/// What a formula adds the addend to, modulo 2^64.
 fn base_of(formula: Formula, terms: Terms) -> u64
-    ensures { (a : ℤ) → result ≡ base_in formula (terms_view terms a) % 2 ^ 64 }
+    ensures { result ≡ base_in formula terms % 2 ^ 64 }
 {
     match formula {
-        Formula::Symbol | Formula::SymbolFromPlace | Formula::SymbolFromGot => terms.symbol,
+        Formula::Symbol
+        | Formula::SymbolFromPlace
+        | Formula::SymbolFromGot
+        | Formula::ThreadOffset => terms.symbol,
         Formula::Slot => terms.slot,
         Formula::SlotFromPlace | Formula::ThreadSlotFromPlace => {
             terms.slot.wrapping_add(terms.got)
         }
         Formula::GotFromPlace => terms.got,
         Formula::Size => terms.size,
-        Formula::ThreadOffset => 0,
     }
 }
 
-/// What a formula takes away, modulo 2^64: the field's address, the GOT's, or 0.
+/// What a formula takes away, modulo 2^64: the field's address, the GOT's, the thread pointer, or 0.
 fn less_of(formula: Formula, terms: Terms) -> u64
-    ensures { (a : ℤ) → result ≡ less_in formula (terms_view terms a) % 2 ^ 64 }
+    ensures { result ≡ less_in formula terms % 2 ^ 64 }
 {
     match formula {
         Formula::SymbolFromPlace
@@ -43,7 +46,8 @@ fn less_of(formula: Formula, terms: Terms) -> u64
         | Formula::GotFromPlace
         | Formula::ThreadSlotFromPlace => terms.place,
         Formula::SymbolFromGot => terms.got,
-        Formula::Symbol | Formula::Slot | Formula::Size | Formula::ThreadOffset => 0,
+        Formula::ThreadOffset => terms.thread_pointer,
+        Formula::Symbol | Formula::Slot | Formula::Size => 0,
     }
 }
 

@@ -4,7 +4,7 @@ ghost use Rattle.elf_model.specs.Files.{files_of, words_of};
 ghost use Rattle.elf_model.specs.MapRecord.{map_of};
 ghost use Rattle.elf_model.specs.MapText.{IsMap};
 ghost use Rattle.elf_model.specs.Pieces.{kept_sections};
-ghost use Rattle.elf_model.specs.RightLink.{AreRelocationsRight, AreSymbolsListed, EntersRight, Holds, HoldsBefore, IsGotRight, IsLoaded, IsRightLink, Least, objects_of, placed_of, sections_of, things_of, where_of};
+ghost use Rattle.elf_model.specs.RightLink.{AreRelocationsRight, AreSymbolsListed, EntersRight, Holds, HoldsBefore, IsGotRight, IsLoaded, IsRightLink, IsThreadBlockRight, Least, objects_of, placed_of, sections_of, things_of, where_of};
 ghost use Rattle.elf_model.specs.declared.verdict.Clause.{Clause};
 ghost use Rattle.elf_model.specs.declared.verdict.Clause.TheVariants as clause;
 ghost use Rattle.checker.specs.Fields.{AreRows};
@@ -20,15 +20,14 @@ use crate::drops::drops_of;
 use crate::entering::enters_right;
 use crate::fields::Field;
 use crate::fill::has_nothing_else;
-use crate::got::{is_got_right, is_thread_block_right};
+use crate::got::is_got_right;
 use crate::image::load;
 use crate::link::Link;
 use crate::listed::are_symbols_listed;
 use crate::loading::is_loaded;
 use crate::names::Names;
-use crate::opening::open;
 use crate::outputs::Outputs;
-use crate::placed::{got_things_of, place_all, things_of};
+use crate::placed::{got_things_of, place_all, things_of, thread_ranges_of};
 use crate::places::Places;
 use crate::placing::{has_rights, is_placed};
 use crate::reading::{read_map, read_plan};
@@ -36,7 +35,8 @@ use crate::rows::fields_right;
 use crate::sections::{are_sections_listed, pieces_of};
 use crate::slots::SlotTable;
 use crate::things::{Piece, Placed};
-use check_load::Loaded;
+use crate::thread_block::is_thread_block_right;
+use check_load::{Loaded, open};
 use command::Plan;
 use elf_model::{Clause, InputFile, Thing, Verdict};
 use loader_model::Memory;
@@ -184,6 +184,20 @@ fn is_got_of_link_right<'a>(
     Ok(right)
 }
 
+/// Whether the eighth clause holds of a link.
+fn is_thread_block_of_link_right(
+    link: &Link<'_>,
+    memory: &Memory<'_>,
+    placed: &[Placed<'_>],
+) -> bool
+    requires memory { memory.now ≡ link.now.image.now }
+    requires placed { placed_views placed.now ≡ placed_of (subject_of link.now) }
+    requires before { HoldsBefore clause.C7 (subject_of link.now) }
+    ensures { IsTrue result ↔ IsThreadBlockRight (subject_of link.now) }
+{
+    is_thread_block_right(memory, base_of(&link.plan), &link.map.got, placed)
+}
+
 /// Judges the clauses from the seventh on, given what names mean.
 fn judge_got<'a>(
     alloc: Global,
@@ -209,7 +223,7 @@ fn judge_got<'a>(
     if !right {
         return Ok(Verdict::No(Clause::C7));
     }
-    if !is_thread_block_right(memory) {
+    if !is_thread_block_of_link_right(link, memory, placed) {
         return Ok(Verdict::No(Clause::C8));
     }
     judge_relocations(alloc, link, bindings, objects, memory, placed, things)
@@ -291,8 +305,9 @@ fn judge_places<'a>(
     let (sections, _blocks) = placed.split_at(count);
     let gots = got_things_of(alloc, link.map.got)?;
     let things = things_of(alloc, memory, &gots, &placed)?;
+    let threads = thread_ranges_of(alloc, &placed)?;
     let base = base_of(&link.plan);
-    if !is_placed(alloc, base, &things, sections)? {
+    if !is_placed(alloc, base, &things, &threads, sections)? {
         return Ok(Verdict::No(Clause::C5));
     }
     if !has_rights(memory, base, &things, &gots) {

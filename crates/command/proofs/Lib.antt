@@ -10,4 +10,3 @@ pub mod Ahead
 pub mod Splitting
 pub mod Growth
 pub mod Hexadecimal
-pub mod ProfileLemmas

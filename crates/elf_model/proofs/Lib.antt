@@ -1,3 +1,4 @@
+pub mod ArrayOrder
 pub mod BlockNames
 pub mod Blocks
 pub mod DecimalDigits
@@ -43,3 +44,5 @@ pub mod OwnFields
 pub mod PieceAlignments
 pub mod RangeOrder
 pub mod OwnRelation
+pub mod PowersOfTwo
+pub mod ThreadPlaces

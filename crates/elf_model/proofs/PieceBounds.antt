@@ -15,13 +15,13 @@ IsWithinList qs rs = (q : Placed) → Contains qs q → Contains rs q
 
 module _ (test : Piece → Bool) where
   -- a piece of which the test is true doesn't end after an address, or doesn't begin before it
-  abbrev EndsBy : ℕ → Placed → Type 0
+  abbrev pub EndsBy : ℕ → Placed → Type 0
   EndsBy x q = test q.piece ≡ true → q.at + q.piece.size ≤ x
 
-  abbrev BeginsFrom : ℕ → Placed → Type 0
+  abbrev pub BeginsFrom : ℕ → Placed → Type 0
   BeginsFrom x q = test q.piece ≡ true → x ≤ q.at
 
-  all_end : (qs : List Placed) → All (EndsBy (end_of_pieces test qs)) qs
+  pub all_end : (qs : List Placed) → All (EndsBy (end_of_pieces test qs)) qs
   all_end [] = All-nil (EndsBy 0)
   all_end (q ∷ qs) = by (test q.piece) refl (all_end qs)
     where
@@ -34,7 +34,7 @@ module _ (test : Piece → Bool) where
           (All-weaker (EndsBy (end_of_pieces test qs)) (EndsBy x) (λ r ends t. let l = ends t in omega (arith, l)) qs rest)
       by false e rest = All-cons (EndsBy (end_of_pieces test qs)) q qs (λ t. absurd (false≢true (sym e ∙ t))) rest
 
-  end_by : (x : ℕ) (qs : List Placed) → All (EndsBy x) qs → end_of_pieces test qs ≤ x
+  pub end_by : (x : ℕ) (qs : List Placed) → All (EndsBy x) qs → end_of_pieces test qs ≤ x
   end_by x [] all = omega arith
   end_by x (q ∷ qs) all = by (test q.piece) refl (end_by x qs (All-tail (EndsBy x) q qs all))
     where
@@ -56,11 +56,11 @@ module _ (test : Piece → Bool) where
       omega (arith, l, g)
 
   -- what the least address is
-  abbrev IsStart : Option ℕ → List Placed → Type 0
+  abbrev pub IsStart : Option ℕ → List Placed → Type 0
   IsStart None qs = All (λ q. test q.piece ≡ true → ⊥) qs
   IsStart (Some a) qs = All (BeginsFrom a) qs × ((q : Placed) × Contains qs q × (test q.piece ≡ true) × (q.at ≡ a))
 
-  start_is : (qs : List Placed) → IsStart (start_of_pieces test qs) qs
+  pub start_is : (qs : List Placed) → IsStart (start_of_pieces test qs) qs
   start_is [] = All-nil (λ q. test q.piece ≡ true → ⊥)
   start_is (q ∷ qs) = by (test q.piece) refl (start_of_pieces test qs) (start_is qs)
     where

@@ -1,26 +1,29 @@
 -- Where the pieces of the own layout stand.
 use Rattle.std.proofs.Common.{◌∙◌, ap, arith, inl, inr, refl, subst, sym, ◌++◌, ◌==◌}
-use Rattle.std.specs.Prelude.{◌≡◌, ℕ, ◌+◌, ◌<◌, ◌≤◌, ◌⊎◌, true, List, All, AllPairs, Contains, Option, Some, find, length, map, option_map, unwrap_or}
+use Rattle.std.specs.Prelude.{◌≡◌, ℕ, ◌+◌, ◌<◌, ◌≤◌, ◌⊎◌, Bool, true, false, cond, max, List, [], ◌∷◌, All, AllPairs, Contains, Option, Some, find, length, map, option_map, unwrap_or}
 use Rattle.std.proofs.lemmas.Bool.{and_from, and_parts, eq-eqb, eqb-true}
 use Rattle.std.proofs.lemmas.List.{map-append}
 use Rattle.std.proofs.lemmas.List.Elements.{All-append, All-contains, All-weaker, Contains-append_left, Contains-append_right}
 use Rattle.elf_model.specs.Loading.{LoadedObject}
-use Rattle.elf_model.specs.OwnLayout.{laid_out, got_pieces, code_pieces, code_start, data_pieces, data_start, end_of, is_code, is_read_only, own_address, own_code, own_data, own_headers_size, own_in_load_order, own_laid_out, own_placed, own_read_only, placed_end, placed_from, read_only_pieces, read_only_start}
+use Rattle.elf_model.specs.OwnLayout.{laid_out, got_pieces, code_pieces, code_start, data_pieces, data_start, end_of, first_start, initial_pieces, is_code, is_read_only, loaded_start, own_address, own_code, own_data, own_headers_size, own_in_load_order, own_laid_out, own_loaded, own_placed, own_read_only, own_thread_rest, placed_end, placed_from, read_only_pieces, read_only_start, thread_rest_pieces, thread_rest_start, thread_start}
 use Rattle.elf_model.specs.Commons.{pieces}
-use Rattle.elf_model.specs.Pieces.{AreLawfulKinds, Piece, is_writable}
+use Rattle.elf_model.specs.Pieces.{AreLawfulKinds, Piece, is_thread_piece, is_thread_zero, is_writable, kept_sections}
 use Rattle.elf_model.specs.Placement.{Placed, is_of_section}
+use Rattle.elf_model.specs.ThreadStorage.{alignment_of}
 use Rattle.elf_model.proofs.Listed.{All-from_contains, All-unmap, Contains-from_map, Contains-map, find_only}
-use Rattle.elf_model.proofs.OwnOrder.{from_code, from_data, from_own_order, from_read_only, own_order, own_order_other, to_own_order}
+use Rattle.elf_model.proofs.OwnOrder.{from_code, from_data, from_initial, from_own_order, from_read_only, from_thread_rest, loaded_order, loaded_whole, own_order, own_order_other, thread_rest_bare, to_own_order}
 use Rattle.elf_model.proofs.Pairs.{AllPairs-append, AllPairs-unmap, AllPairs-weaker, related}
 use Rattle.elf_model.proofs.PieceNumbers.{AreOtherSections, IsKept, laid_out_kept}
-use Rattle.elf_model.proofs.Running.{HasAlignment, IsAligned, IsBehind, end_of-ge, paged_up, placed_aligned, placed_ascending, placed_pieces, placed_within}
+use Rattle.elf_model.proofs.Running.{HasAlignment, IsAligned, IsBehind, end_of-ge, paged_up, rounded_up, placed_aligned, placed_ascending, placed_pieces, placed_within}
 
 -- what is known of where the own pieces stand
 pub record AreOwnPlaced (base : ℕ) (objects : List LoadedObject) : Type 0 where
   pub read_only : All (λ q. (base + own_headers_size objects ≤ q.at) × (placed_end q ≤ code_start base objects) × (is_read_only q.piece ≡ true)) (own_read_only base objects)
   pub code : All (λ q. (code_start base objects ≤ q.at) × (placed_end q ≤ data_start base objects) × (is_code q.piece ≡ true)) (own_code base objects)
   pub data_ : All (λ q. (data_start base objects ≤ q.at) × (is_writable q.piece.header ≡ true)) (own_data base objects)
-  pub apart : AllPairs (λ p q. (placed_end p ≤ q.at) ⊎ (placed_end q ≤ p.at)) (own_placed base objects)
+  pub thread_rest : All (λ q. (thread_rest_start base objects ≤ q.at) × (is_thread_zero q.piece ≡ true)) (own_thread_rest base objects)
+  pub apart : AllPairs (λ p q. (placed_end p ≤ q.at) ⊎ (placed_end q ≤ p.at)) (own_loaded base objects)
+  pub whole : All (λ q. is_thread_zero q.piece ≡ false) (own_loaded base objects)
   pub listed : (q : Placed) → Contains (own_in_load_order base objects) q → Contains (own_placed base objects) q
   pub all : (q : Placed) → Contains (own_placed base objects) q → Contains (own_laid_out base objects) q
   pub kept : All (λ q. (0 < q.piece.align) × (length q.piece.bytes ≤ q.piece.size)) (own_placed base objects)
@@ -50,18 +53,40 @@ code_aligned objects = chosen_aligned objects (code_pieces objects) (λ p c. (fr
 pub data_aligned : (objects : List LoadedObject) → All HasAlignment (data_pieces objects)
 data_aligned objects = chosen_aligned objects (data_pieces objects) (λ p c. (from_data objects p c).0)
 
+pub initial_aligned : (objects : List LoadedObject) → All HasAlignment (initial_pieces objects)
+initial_aligned objects = chosen_aligned objects (initial_pieces objects) (λ p c. (from_initial objects p c).0)
+
+pub thread_rest_aligned : (objects : List LoadedObject) → All HasAlignment (thread_rest_pieces objects)
+thread_rest_aligned objects = chosen_aligned objects (thread_rest_pieces objects) (λ p c. (from_thread_rest objects p c).0)
+
+-- there is always a greatest alignment
+pub some_alignment : (test : Piece → Bool) (ps : List Piece) → 0 < alignment_of test ps
+some_alignment test [] = omega arith
+some_alignment test (p ∷ ps) = by (test p) (some_alignment test ps)
+  where
+    by : (b : Bool) → 0 < alignment_of test ps → 0 < cond b (max p.align (alignment_of test ps)) (alignment_of test ps)
+    by true rest = omega (arith, rest)
+    by false rest = rest
+
 -- the own places are those of the own order
-pub own_placed_pieces : (base : ℕ) (objects : List LoadedObject) → map (λ q. q.piece) (own_placed base objects) ≡ own_order objects
-own_placed_pieces base objects =
+pub own_loaded_pieces : (base : ℕ) (objects : List LoadedObject) → map (λ q. q.piece) (own_loaded base objects) ≡ loaded_order objects
+own_loaded_pieces base objects =
     let f : Placed → Piece = λ q. q.piece in
     let r = placed_pieces (read_only_start base objects) (read_only_pieces objects) in
     let c = placed_pieces (code_start base objects) (code_pieces objects) in
-    let d = placed_pieces (data_start base objects) (data_pieces objects) in
+    let d = placed_pieces (loaded_start base objects) (data_pieces objects) in
     let e : map f (own_code base objects ++ own_data base objects) ≡ code_pieces objects ++ data_pieces objects =
     map-append f (own_code base objects) (own_data base objects) ∙ (ap (λ (ps : List Piece). ps ++ map f (own_data base objects)) c ∙ ap (λ (ps : List Piece). code_pieces objects ++ ps) d) in
     map-append f (own_read_only base objects) (own_code base objects ++ own_data base objects)
     ∙ (ap (λ (ps : List Piece). ps ++ map f (own_code base objects ++ own_data base objects)) r
     ∙ ap (λ (ps : List Piece). read_only_pieces objects ++ ps) e)
+
+pub own_placed_pieces : (base : ℕ) (objects : List LoadedObject) → map (λ q. q.piece) (own_placed base objects) ≡ own_order objects
+own_placed_pieces base objects =
+    let f : Placed → Piece = λ q. q.piece in
+    let t = placed_pieces (thread_rest_start base objects) (thread_rest_pieces objects) in
+    map-append f (own_loaded base objects) (own_thread_rest base objects)
+    ∙ (ap (λ (ps : List Piece). ps ++ map f (own_thread_rest base objects)) (own_loaded_pieces base objects) ∙ ap (λ (ps : List Piece). loaded_order objects ++ ps) t)
 
 module _ (base : ℕ) (objects : List LoadedObject) where
   abbrev pub InReadOnly : Placed → Type 0
@@ -72,6 +97,21 @@ module _ (base : ℕ) (objects : List LoadedObject) where
 
   abbrev pub InData : Placed → Type 0
   InData q = (data_start base objects ≤ q.at) × (is_writable q.piece.header ≡ true)
+
+  abbrev pub InThreadRest : Placed → Type 0
+  InThreadRest q = (thread_rest_start base objects ≤ q.at) × (is_thread_zero q.piece ≡ true)
+
+  -- the thread-local pieces begin in RW, and so do its own
+  pub thread_start_high : data_start base objects ≤ thread_start base objects
+  thread_start_high =
+      (rounded_up (alignment_of is_thread_piece (kept_sections objects)) (data_start base objects) (some_alignment is_thread_piece (kept_sections objects))).0
+
+  pub loaded_start_high : data_start base objects ≤ loaded_start base objects
+  loaded_start_high = by (initial_pieces objects)
+    where
+      by : (ps : List Piece) → data_start base objects ≤ first_start base objects ps
+      by [] = omega arith
+      by (p ∷ ps) = thread_start_high
 
   -- each segment's pieces stand from its start on, and before the next one's
   pub own_read_only_within : All InReadOnly (own_read_only base objects)
@@ -94,10 +134,19 @@ module _ (base : ℕ) (objects : List LoadedObject) where
 
   pub own_data_within : All InData (own_data base objects)
   own_data_within k d within =
-      let x : ℕ = data_start base objects in
+      let x : ℕ = loaded_start base objects in
       let ps : List Piece = data_pieces objects in
       let w = placed_within x ps (data_aligned objects) k d within in
+      let high = loaded_start_high in
       let kind = All-placed (λ p. is_writable p.header ≡ true) x ps (All-from_contains (λ p. is_writable p.header ≡ true) ps (λ p c. (from_data objects p c).1)) k d within in
+      (omega (arith, w, high), kind)
+
+  pub own_thread_rest_within : All InThreadRest (own_thread_rest base objects)
+  own_thread_rest_within k d within =
+      let x : ℕ = thread_rest_start base objects in
+      let ps : List Piece = thread_rest_pieces objects in
+      let w = placed_within x ps (thread_rest_aligned objects) k d within in
+      let kind = All-placed (λ p. is_thread_zero p ≡ true) x ps (All-from_contains (λ p. is_thread_zero p ≡ true) ps (thread_rest_bare objects)) k d within in
       (w.0, kind)
 
   pub own_starts : (base + own_headers_size objects ≤ code_start base objects) × (code_start base objects ≤ data_start base objects)
@@ -115,12 +164,12 @@ module _ (base : ℕ) (objects : List LoadedObject) where
   code_data_ascending =
       AllPairs-append IsBehind (own_code base objects) (own_data base objects)
       (placed_ascending (code_start base objects) (code_pieces objects) (code_aligned objects))
-      (placed_ascending (data_start base objects) (data_pieces objects) (data_aligned objects))
+      (placed_ascending (loaded_start base objects) (data_pieces objects) (data_aligned objects))
       (All-weaker InCode (λ p. All (IsBehind p) (own_data base objects))
       (λ p c. All-weaker InData (IsBehind p) (λ q d. omega (arith, c.1, d.0)) (own_data base objects) own_data_within)
       (own_code base objects) own_code_within)
 
-  pub own_ascending : AllPairs IsBehind (own_placed base objects)
+  pub own_ascending : AllPairs IsBehind (own_loaded base objects)
   own_ascending =
       AllPairs-append IsBehind (own_read_only base objects) (own_code base objects ++ own_data base objects)
       (placed_ascending (read_only_start base objects) (read_only_pieces objects) (read_only_aligned objects))
@@ -138,11 +187,13 @@ module _ (base : ℕ) (objects : List LoadedObject) where
 
   pub own_aligned : All IsAligned (own_placed base objects)
   own_aligned =
-      All-append IsAligned (own_read_only base objects) (own_code base objects ++ own_data base objects)
+      All-append IsAligned (own_loaded base objects) (own_thread_rest base objects)
+      (All-append IsAligned (own_read_only base objects) (own_code base objects ++ own_data base objects)
       (placed_aligned (read_only_start base objects) (read_only_pieces objects) (read_only_aligned objects))
       (All-append IsAligned (own_code base objects) (own_data base objects)
       (placed_aligned (code_start base objects) (code_pieces objects) (code_aligned objects))
-      (placed_aligned (data_start base objects) (data_pieces objects) (data_aligned objects)))
+      (placed_aligned (loaded_start base objects) (data_pieces objects) (data_aligned objects))))
+      (placed_aligned (thread_rest_start base objects) (thread_rest_pieces objects) (thread_rest_aligned objects))
 
   -- a piece at its own address
   abbrev pub at_own_address : Piece → Placed
@@ -206,12 +257,20 @@ module _ (base : ℕ) (objects : List LoadedObject) where
         subst (Contains (own_laid_out base objects)) (own_place_is q c)
         (Contains-map at_own_address (laid_out objects) q.piece (from_own_order objects q.piece ordered))
 
+    own_whole : All (λ q. is_thread_zero q.piece ≡ false) (own_loaded base objects)
+    own_whole =
+        All-from_contains (λ q. is_thread_zero q.piece ≡ false) (own_loaded base objects) (λ q c.
+        loaded_whole objects kinds q.piece
+        (subst (λ (ps : List Piece). Contains ps q.piece) (own_loaded_pieces base objects) (Contains-map (λ (r : Placed). r.piece) (own_loaded base objects) q c)))
+
     pub are_own_placed : AreOwnPlaced base objects
     are_own_placed = record {
       read_only = own_read_only_within;
       code = own_code_within;
       data_ = own_data_within;
-      apart = AllPairs-weaker IsBehind (λ p q. (placed_end p ≤ q.at) ⊎ (placed_end q ≤ p.at)) (λ p q behind. inl behind) (own_placed base objects) own_ascending;
+      thread_rest = own_thread_rest_within;
+      apart = AllPairs-weaker IsBehind (λ p q. (placed_end p ≤ q.at) ⊎ (placed_end q ≤ p.at)) (λ p q behind. inl behind) (own_loaded base objects) own_ascending;
+      whole = own_whole;
       listed = own_listed;
       all = own_all;
       kept = own_kept;

@@ -6,9 +6,9 @@ use Rattle.std.proofs.lemmas.Nat.{mod_below}
 use Rattle.std.proofs.Math.Nat.{mul-mod_left}
 use Rattle.std.proofs.lemmas.List.Elements.{All-cons, All-head, All-nil, All-tail, All-weaker}
 use Rattle.std.proofs.lemmas.List.Kept.{AllPairs-cons}
-use Rattle.elf_model.specs.OwnLayout.{end_of, page_up, place_at, placed_end, placed_from, round_up}
+use Rattle.elf_model.specs.OwnLayout.{end_of, page_up, place_at, placed_end, placed_from}
 use Rattle.elf_model.specs.Pieces.{Piece}
-use Rattle.elf_model.specs.Placement.{IsNear, Placed}
+use Rattle.elf_model.specs.Placement.{IsNear, Placed, round_up}
 use Rattle.elf_model.proofs.Listed.{Contains-here, Contains-there}
 use Rattle.elf_model.proofs.Neighbours.{StandsBefore}
 use Rattle.elf_model.proofs.Pairs.{AllPairs-nil}
@@ -33,6 +33,11 @@ end_of-ge x (p ∷ ps) aligned =
     let r = (rounded_up p.align x (All-head HasAlignment p ps aligned)).0 in
     let e = end_of-ge (placed_end (place_at x p)) ps (All-tail HasAlignment p ps aligned) in
     omega (arith, r, e)
+
+-- a run of two lists is the one behind the other
+pub placed_append : (x : ℕ) (ps qs : List Piece) → placed_from x (ps ++ qs) ≡ placed_from x ps ++ placed_from (end_of x ps) qs
+placed_append x [] qs = refl
+placed_append x (p ∷ ps) qs = ap (λ (rs : List Placed). place_at x p ∷ rs) (placed_append (placed_end (place_at x p)) ps qs)
 
 abbrev pub StandsWithin : ℕ → ℕ → Placed → Type 0
 StandsWithin low high q = (low ≤ q.at) × (placed_end q ≤ high)

@@ -3,7 +3,7 @@ use Rattle.std.proofs.Common.{◌≡◌, Bool, true, false, ◌&&◌, refl, sym,
 use Rattle.std.specs.Str.{bytes_eq}
 use Rattle.std.proofs.lemmas.Bool.{and_from, and_parts, false≢true}
 use Rattle.std.proofs.lemmas.Slice.Eq.{bytes_eq-Decides}
-use Rattle.elf_model.specs.OwnLayout.{is_code, is_data, is_read_only, is_zero}
+use Rattle.elf_model.specs.OwnLayout.{is_code, is_data, is_initial, is_read_only, is_thread_rest, is_zero}
 use Rattle.elf_model.specs.Pieces.{Piece, is_executable, is_nobits, is_thread_local, is_writable, output_name, same_bool, same_output}
 
 same_bool-true : (a b : Bool) → same_bool a b ≡ true → a ≡ b
@@ -111,7 +111,13 @@ pub is_code-of_output : IsOfOutput is_code
 is_code-of_output p q e = (alike p q e).executable
 
 pub is_data-of_output : IsOfOutput is_data
-is_data-of_output p q e = let a = alike p q e in rw (a.writable, a.nobits) refl
+is_data-of_output p q e = let a = alike p q e in rw (a.writable, a.thread_local, a.nobits) refl
 
 pub is_zero-of_output : IsOfOutput is_zero
-is_zero-of_output p q e = let a = alike p q e in rw (a.writable, a.nobits) refl
+is_zero-of_output p q e = let a = alike p q e in rw (a.writable, a.thread_local, a.nobits) refl
+
+pub is_initial-of_output : IsOfOutput is_initial
+is_initial-of_output p q e = let a = alike p q e in rw (a.writable, a.thread_local, a.nobits) refl
+
+pub is_thread_rest-of_output : IsOfOutput is_thread_rest
+is_thread_rest-of_output p q e = let a = alike p q e in rw (a.writable, a.thread_local, a.nobits) refl

@@ -1,4 +1,4 @@
--- When a link is refused, and by which error (profile). The phases are the words, the files, loading, the profile,
+-- When a link is refused, and by which error (profile). The phases are the words, the files, loading,
 -- resolution, references, layout and values; an error stands only where no fault of an earlier phase does. What
 -- loading takes from archives depends on what stands before it, so a fault of a member and one of groups stand
 -- only where loading comes to them.
@@ -12,7 +12,6 @@ use Rattle.elf_model.specs.ObjectFile.{IsObject, ObjFaultStands, groups}
 use Rattle.elf_model.specs.Opening.{AreArchives, AreFilesThere, HaveIndexes, Opened, lacks_index, opened}
 use Rattle.elf_model.specs.OwnLayout.{IsNotTooLarge, OwnValuesFit}
 use Rattle.elf_model.specs.Pieces.{AreLawfulKinds}
-use Rattle.elf_model.specs.Profile.{IsInProfile}
 use Rattle.elf_model.specs.Relocation.{Relocation, AreFieldsApart, AreLawfulRelocations, IsFieldInside, IsThreadMismatch, IsUndefined, RefersToDropped, RefersToMixed, relocation_kind, relocations}
 use Rattle.elf_model.specs.Resolution.{IsDuplicate, AreSoundCommons, AreUnique, AreSoundSymbols, IsEntry}
 use Rattle.elf_model.specs.declared.faults.ArFault.{ArFault}
@@ -39,12 +38,8 @@ pub record HasObjects (files : List File) (words : List (List ℕ)) (p : Plan) :
   pub objects : AreObjects (loaded_objects files p)
   pub groups : HaveLawfulGroups (loaded_objects files p)
 
-pub record IsTaken (files : List File) (words : List (List ℕ)) (p : Plan) : Type 0 where
-  pub before : HasObjects files words p
-  pub profile : IsInProfile (loaded_objects files p)
-
 pub record IsResolved (files : List File) (words : List (List ℕ)) (p : Plan) : Type 0 where
-  pub before : IsTaken files words p
+  pub before : HasObjects files words p
   pub kinds : AreLawfulKinds (loaded_objects files p)
   pub commons : AreSoundCommons (loaded_objects files p)
   pub sound : AreSoundSymbols (loaded_objects files p)
@@ -122,11 +117,10 @@ Cause files words error.NoIndex =
     (p : Plan) × HasFiles files words p × Any IsWithoutIndex (opened files p)
 Cause files words (error.BadGroup f) =
     (p : Plan) × HasArchives files words p × (f ≢ group_fault.Memory) × Reaches (loaded_objects files p) (HasBadGroups f)
-Cause files words error.NotYet = (p : Plan) × HasObjects files words p × (¬ IsInProfile (loaded_objects files p))
-Cause files words error.SectionKind = (p : Plan) × IsTaken files words p × (¬ AreLawfulKinds (loaded_objects files p))
-Cause files words (error.Duplicate name) = (p : Plan) × IsTaken files words p × IsDuplicate (loaded_objects files p) name.items
-Cause files words error.BadCommon = (p : Plan) × IsTaken files words p × (¬ AreSoundCommons (loaded_objects files p))
-Cause files words error.BadSymbol = (p : Plan) × IsTaken files words p × (¬ AreSoundSymbols (loaded_objects files p))
+Cause files words error.SectionKind = (p : Plan) × HasObjects files words p × (¬ AreLawfulKinds (loaded_objects files p))
+Cause files words (error.Duplicate name) = (p : Plan) × HasObjects files words p × IsDuplicate (loaded_objects files p) name.items
+Cause files words error.BadCommon = (p : Plan) × HasObjects files words p × (¬ AreSoundCommons (loaded_objects files p))
+Cause files words error.BadSymbol = (p : Plan) × HasObjects files words p × (¬ AreSoundSymbols (loaded_objects files p))
 Cause files words (error.Undefined name) = AnyRelocation files words (IsUndefinedName name.items)
 Cause files words error.RefToDropped = AnyRelocation files words IsToDropped
 Cause files words error.RelocKind = AnyRelocation files words (λ objects r. relocation_kind r ≡ None)

@@ -8,12 +8,13 @@ use Rattle.elf_model.specs.MapRecord.{CommonRow, MapRecord, PlaceRow}
 use Rattle.elf_model.specs.MapText.{IsOrdered}
 use Rattle.elf_model.specs.MemoryImage.{image_ident}
 use Rattle.elf_model.specs.Meaning.{meaning_value, object_meaning}
-use Rattle.elf_model.specs.OwnLayout.{got_number, own_address, own_got, own_segments, own_slots, own_placed, own_places, own_where, own_headers_size, header_count, file_end}
+use Rattle.elf_model.specs.OwnLayout.{got_number, own_address, own_got, own_segments, own_slots, own_in_load_order, own_loaded, own_places, own_where, own_headers_size, header_count, file_end}
 use Rattle.elf_model.specs.Pieces.{Piece, kept_sections}
 use Rattle.elf_model.specs.Placement.{Placed, Where, is_common_row_of}
 use Rattle.elf_model.specs.Records.{file_header_bytes, program_header_bytes}
 use Rattle.elf_model.specs.RightLink.{drop_rows, object_rows, HasLine}
 use Rattle.elf_model.specs.Slots.{got_bytes}
+use Rattle.elf_model.specs.ThreadStorage.{thread_headers}
 use Rattle.elf_model.specs.WantedBytes.{wanted_byte}
 use Rattle.elf_model.specs.declared.records.FileHeader.{FileHeader}
 use Rattle.elf_model.specs.declared.records.ProgramHeader.{ProgramHeader}
@@ -51,7 +52,8 @@ stack_header = record {
 }
 
 abbrev pub own_program_headers : ℕ → List LoadedObject → List ProgramHeader
-own_program_headers base objects = own_segments base objects ++ stack_header ∷ []
+own_program_headers base objects =
+    own_segments base objects ++ (thread_headers base (own_in_load_order base objects) ++ stack_header ∷ [])
 
 -- the value of the entry's definition
 abbrev pub own_entry : ℕ → List LoadedObject → List ℕ → ℕ
@@ -83,7 +85,7 @@ piece_byte objects w p k = cond (is_got_piece objects p) (slice_index (got_bytes
 abbrev pub own_byte : ℕ → List LoadedObject → ℕ → ℕ
 own_byte base objects a =
     unwrap_or
-    (option_map (λ q. piece_byte objects (own_where base objects) q.piece (a - q.at)) (find (covers_address a) (own_placed base objects)))
+    (option_map (λ q. piece_byte objects (own_where base objects) q.piece (a - q.at)) (find (covers_address a) (own_loaded base objects)))
     (fill_at (own_segments base objects) a)
 
 -- the image file: the headers, then the byte of each address up to the end of the last file part

@@ -1,4 +1,5 @@
 pub mod ArchiveFile
+pub mod ArrayOrder
 pub mod Causes
 pub mod ChosenSymbols
 pub mod Command
@@ -23,12 +24,12 @@ pub mod OwnAddresses
 pub mod OwnLayout
 pub mod Pieces
 pub mod Placement
-pub mod Profile
 pub mod Records
 pub mod Relocation
 pub mod RelocationValues
 pub mod Resolution
 pub mod RightLink
 pub mod Slots
+pub mod ThreadStorage
 pub mod UsedNames
 pub mod WantedBytes

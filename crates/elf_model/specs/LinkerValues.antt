@@ -1,7 +1,7 @@
 -- Where the names that the linker itself defines stand (profile).
-use Rattle.std.specs.Prelude.{ℕ, ◌+◌, ◌&&◌, Bool, true, not, cond, List, [], ◌∷◌, Option, None, Some, max, min, unwrap_or}
+use Rattle.std.specs.Prelude.{ℕ, ◌+◌, ◌&&◌, Bool, not, cond, List, [], ◌∷◌, Option, None, Some, max, min, unwrap_or}
 use Rattle.elf_model.specs.LinkerNames.{named_output}
-use Rattle.elf_model.specs.Pieces.{Piece, has_bytes, is_of_output, is_executable, is_nobits, is_thread_local, is_writable}
+use Rattle.elf_model.specs.Pieces.{Piece, has_bytes, is_of_output, is_executable, is_nobits, is_thread_local, is_thread_zero, is_writable}
 use Rattle.elf_model.specs.Placement.{Placed, Where, got_end, got_start}
 use Rattle.elf_model.specs.declared.bound.Bound.{Bound}
 use Rattle.elf_model.specs.declared.bound.Bound.TheVariants.{CodeEnd, DataEnd, GotStart, ImageEnd, ImageStart, OutputEnd, OutputStart, ZeroStart}
@@ -31,8 +31,8 @@ is_file_data p = is_writable p.header && has_bytes p
 abbrev pub is_zero_data : Piece → Bool
 is_zero_data p = is_nobits p.header && not (is_thread_local p.header)
 
-abbrev pub any_piece : Piece → Bool
-any_piece p = true
+abbrev pub is_loaded_piece : Piece → Bool
+is_loaded_piece p = not (is_thread_zero p)
 
 -- the value of a name of the linker's, which stands for a bound
 abbrev pub bound_value : Where → List ℕ → Bound → ℕ
@@ -40,7 +40,7 @@ bound_value w name ImageStart = w.base
 bound_value w name CodeEnd = end_of_pieces is_code_piece w.placed
 bound_value w name DataEnd = max (end_of_pieces is_file_data w.placed) (got_end w.got)
 bound_value w name ZeroStart = unwrap_or (start_of_pieces is_zero_data w.placed) 0
-bound_value w name ImageEnd = max (end_of_pieces any_piece w.placed) (got_end w.got)
+bound_value w name ImageEnd = max (end_of_pieces is_loaded_piece w.placed) (got_end w.got)
 bound_value w name GotStart = got_start w.got
 bound_value w name OutputStart = unwrap_or (start_of_pieces (is_of_output (named_output name)) w.placed) 0
 bound_value w name OutputEnd = end_of_pieces (is_of_output (named_output name)) w.placed

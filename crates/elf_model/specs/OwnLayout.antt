@@ -1,22 +1,21 @@
 -- Where the linker itself lays out (profile): segments R (neither writable nor executable), RX and RW, in
--- this order, R from the base on with the headers in front, RX and RW from page boundaries on.
+-- this order, R from the base on with the headers in front, RX and RW from page boundaries on. Thread-local pieces
+-- without bytes have addresses behind those with bytes, and nothing makes room for them.
 use Rattle.std.specs.Prelude.{ℕ, ◌+◌, ◌-◌, ◌*◌, ◌/◌, ◌^◌, ◌<◌, ◌≤◌, ◌&&◌, Bool, true, not, cond, List, [], ◌∷◌, ◌++◌, Option, None, Some, All, filter, find, length, map, max, nat_lt, option_map, unwrap_or}
 use Rattle.std.specs.List.{flat_map, list_any}
+use Rattle.elf_model.specs.ArrayOrder.{in_array_order}
 use Rattle.elf_model.specs.Loading.{LoadedObject}
 use Rattle.elf_model.specs.MapRecord.{SlotRow}
 use Rattle.elf_model.specs.Commons.{block_pieces, pieces}
-use Rattle.elf_model.specs.Pieces.{Piece, kept_sections, is_writable, is_executable, has_bytes, same_output}
-use Rattle.elf_model.specs.Placement.{Placed, Where, is_of_section}
+use Rattle.elf_model.specs.Pieces.{Piece, kept_sections, is_writable, is_executable, is_thread_piece, has_bytes, same_output}
+use Rattle.elf_model.specs.Placement.{Placed, Where, is_of_section, round_up}
 use Rattle.elf_model.specs.RelocationValues.{AllFit}
 use Rattle.elf_model.specs.Slots.{Request, got_size, has_got, slots}
+use Rattle.elf_model.specs.ThreadStorage.{alignment_of}
 use Rattle.elf_model.specs.declared.constants.TheConstants.{SHF_ALLOC, SHF_WRITE, SHT_PROGBITS}
 use Rattle.elf_model.specs.declared.link_map.GotLine.{GotLine}
 use Rattle.elf_model.specs.declared.records.ProgramHeader.{ProgramHeader}
 use Rattle.elf_model.specs.declared.records.SectionHeader.{SectionHeader}
-
--- the least multiple of a not below x
-abbrev pub round_up : ℕ → ℕ → ℕ
-round_up a x = (x + (a - 1)) / a * a
 
 -- each piece at the least multiple of its alignment not below the running address, which then is its end
 abbrev pub place_at : ℕ → Piece → Placed
@@ -34,13 +33,13 @@ abbrev pub end_of : ℕ → List Piece → ℕ
 end_of x [] = x
 end_of x (p ∷ ps) = end_of (placed_end (place_at x p)) ps
 
--- output sections by first appearance in load order, their pieces in load order
+-- output sections by first appearance in load order, the pieces of each in their order
 abbrev pub leaders : List Piece → List Piece
 leaders [] = []
 leaders (p ∷ ps) = p ∷ filter (λ q. not (same_output p q)) (leaders ps)
 
 abbrev pub grouped : List Piece → List Piece
-grouped ps = flat_map (λ p. filter (same_output p) ps) (leaders ps)
+grouped ps = flat_map (λ p. in_array_order (filter (same_output p) ps)) (leaders ps)
 
 -- The GOT as a piece, where there is one: it may be written, has bytes in the file, and stands on a multiple of 8. Its
 -- number is that of the one section of an object behind those that are loaded and the one that the blocks make.
@@ -79,19 +78,25 @@ got_pieces objects = cond (has_got objects) (got_piece objects ∷ []) []
 abbrev pub laid_out : List LoadedObject → List Piece
 laid_out objects = pieces objects ++ got_pieces objects
 
--- the pieces of each segment, in the order in which they stand; in RW those with bytes, the GOT, those without bytes, and
--- the common blocks
+-- the pieces of each segment, in the order in which they stand; in RW the thread-local ones with bytes, other ones with
+-- bytes, the GOT, those without bytes, and the common blocks
 abbrev pub is_read_only : Piece → Bool
 is_read_only p = not (is_writable p.header) && not (is_executable p.header)
 
 abbrev pub is_code : Piece → Bool
 is_code p = is_executable p.header
 
+abbrev pub is_initial : Piece → Bool
+is_initial p = is_writable p.header && (is_thread_piece p && has_bytes p)
+
+abbrev pub is_thread_rest : Piece → Bool
+is_thread_rest p = is_writable p.header && (is_thread_piece p && not (has_bytes p))
+
 abbrev pub is_data : Piece → Bool
-is_data p = is_writable p.header && has_bytes p
+is_data p = is_writable p.header && (not (is_thread_piece p) && has_bytes p)
 
 abbrev pub is_zero : Piece → Bool
-is_zero p = is_writable p.header && not (has_bytes p)
+is_zero p = is_writable p.header && (not (is_thread_piece p) && not (has_bytes p))
 
 abbrev pub read_only_pieces : List LoadedObject → List Piece
 read_only_pieces objects = grouped (filter is_read_only (kept_sections objects))
@@ -99,18 +104,35 @@ read_only_pieces objects = grouped (filter is_read_only (kept_sections objects))
 abbrev pub code_pieces : List LoadedObject → List Piece
 code_pieces objects = grouped (filter is_code (kept_sections objects))
 
+abbrev pub initial_pieces : List LoadedObject → List Piece
+initial_pieces objects = grouped (filter is_initial (kept_sections objects))
+
 abbrev pub data_pieces : List LoadedObject → List Piece
 data_pieces objects =
-    grouped (filter is_data (kept_sections objects))
-    ++ (got_pieces objects ++ (grouped (filter is_zero (kept_sections objects)) ++ block_pieces objects))
+    initial_pieces objects
+    ++ (grouped (filter is_data (kept_sections objects))
+    ++ (got_pieces objects ++ (grouped (filter is_zero (kept_sections objects)) ++ block_pieces objects)))
 
--- the program headers: PT_LOAD of R, of RX and of RW where a nonempty piece is there, PT_GNU_STACK
+-- the thread-local pieces without bytes
+abbrev pub thread_rest_pieces : List LoadedObject → List Piece
+thread_rest_pieces objects = grouped (filter is_thread_rest (kept_sections objects))
+
+-- the program headers: PT_LOAD of R, of RX and of RW where a nonempty piece is there, PT_TLS where a thread-local piece
+-- is there, be it empty, PT_GNU_STACK
 abbrev pub is_nonempty : Piece → Bool
 is_nonempty p = nat_lt 0 p.size
 
+abbrev pub has_thread_pieces : List LoadedObject → Bool
+has_thread_pieces objects = list_any is_thread_piece (kept_sections objects)
+
+abbrev pub count_if : Bool → ℕ
+count_if b = cond b 1 0
+
 abbrev pub header_count : List LoadedObject → ℕ
 header_count objects =
-    2 + (cond (list_any is_nonempty (code_pieces objects)) 1 0 + cond (list_any is_nonempty (data_pieces objects)) 1 0)
+    2
+    + (count_if (list_any is_nonempty (code_pieces objects))
+    + (count_if (list_any is_nonempty (data_pieces objects)) + count_if (has_thread_pieces objects)))
 
 abbrev pub own_headers_size : List LoadedObject → ℕ
 own_headers_size objects = 64 + 56 * header_count objects
@@ -128,6 +150,21 @@ code_start base objects = page_up (end_of (read_only_start base objects) (read_o
 abbrev pub data_start : ℕ → List LoadedObject → ℕ
 data_start base objects = page_up (end_of (code_start base objects) (code_pieces objects))
 
+-- where the thread-local pieces begin: at a multiple of their greatest alignment; and where the pieces of RW do, at the
+-- beginning of RW where none of them is thread-local
+abbrev pub thread_start : ℕ → List LoadedObject → ℕ
+thread_start base objects = round_up (alignment_of is_thread_piece (kept_sections objects)) (data_start base objects)
+
+abbrev pub first_start : ℕ → List LoadedObject → List Piece → ℕ
+first_start base objects [] = data_start base objects
+first_start base objects (p ∷ ps) = thread_start base objects
+
+abbrev pub loaded_start : ℕ → List LoadedObject → ℕ
+loaded_start base objects = first_start base objects (initial_pieces objects)
+
+abbrev pub thread_rest_start : ℕ → List LoadedObject → ℕ
+thread_rest_start base objects = end_of (thread_start base objects) (initial_pieces objects)
+
 abbrev pub own_read_only : ℕ → List LoadedObject → List Placed
 own_read_only base objects = placed_from (read_only_start base objects) (read_only_pieces objects)
 
@@ -135,11 +172,17 @@ abbrev pub own_code : ℕ → List LoadedObject → List Placed
 own_code base objects = placed_from (code_start base objects) (code_pieces objects)
 
 abbrev pub own_data : ℕ → List LoadedObject → List Placed
-own_data base objects = placed_from (data_start base objects) (data_pieces objects)
+own_data base objects = placed_from (loaded_start base objects) (data_pieces objects)
 
--- all pieces at their own addresses, in the order in which they stand
+abbrev pub own_thread_rest : ℕ → List LoadedObject → List Placed
+own_thread_rest base objects = placed_from (thread_rest_start base objects) (thread_rest_pieces objects)
+
+-- the pieces for which memory has a place, at their own addresses, in the order in which they stand; and all of them
+abbrev pub own_loaded : ℕ → List LoadedObject → List Placed
+own_loaded base objects = own_read_only base objects ++ (own_code base objects ++ own_data base objects)
+
 abbrev pub own_placed : ℕ → List LoadedObject → List Placed
-own_placed base objects = own_read_only base objects ++ (own_code base objects ++ own_data base objects)
+own_placed base objects = own_loaded base objects ++ own_thread_rest base objects
 
 -- the own address of a piece
 abbrev pub own_address : ℕ → List LoadedObject → Piece → ℕ

@@ -80,6 +80,18 @@ piece_rights p = rights_of p.header
 abbrev pub has_bytes : Piece → Bool
 has_bytes p = not (is_nobits p.header)
 
+-- a piece of thread-local storage, of which each thread has its own copy
+abbrev pub is_thread_piece : Piece → Bool
+is_thread_piece p = is_thread_local p.header
+
+-- one without bytes in the file: each thread has its zeros, and memory as the segments make it has no place for them
+abbrev pub is_thread_zero : Piece → Bool
+is_thread_zero p = is_thread_piece p && is_nobits p.header
+
+-- the size that a piece takes up in this memory
+abbrev pub load_size : Piece → ℕ
+load_size p = cond (is_thread_zero p) 0 p.size
+
 -- the types of which a kept section may be, and the sum of the flags that it may have (profile)
 abbrev pub lawful_types : List ℕ
 lawful_types =

@@ -1,16 +1,20 @@
 -- Where pieces lie in memory, and which rights they have there (System V gABI 5, "Program Loading"; the
 -- base, the page rule and the gaps are the profile's).
-use Rattle.std.specs.Prelude.{◌≡◌, ℕ, ◌+◌, ◌%◌, ◌^◌, ◌<◌, ◌≤◌, ◌==◌, ◌&&◌, Bool, true, false, cond, List, [], ◌∷◌, ◌++◌, Option, Some, None, All, AllPairs, Any, find, length, map, option_map, unwrap_or, slice_index_or}
+use Rattle.std.specs.Prelude.{◌≡◌, ℕ, ◌+◌, ◌-◌, ◌*◌, ◌/◌, ◌%◌, ◌^◌, ◌<◌, ◌≤◌, ◌==◌, ◌&&◌, Bool, true, false, cond, List, [], ◌∷◌, ◌++◌, Option, Some, None, All, AllPairs, Any, filter, find, length, map, option_map, unwrap_or, slice_index_or}
 use Rattle.std.specs.Option.{option_map_or}
 use Rattle.std.specs.Str.{bytes_eq}
 use Rattle.elf_model.specs.Commons.{Block, block_piece}
-use Rattle.elf_model.specs.Pieces.{Piece, piece_rights, has_bytes, same_output}
+use Rattle.elf_model.specs.Pieces.{Piece, piece_rights, has_bytes, is_thread_piece, load_size, same_output}
 use Rattle.elf_model.specs.MapRecord.{CommonRow, MapRecord, PlaceRow, SlotRow}
 use Rattle.elf_model.specs.MemoryImage.{loads, first_address, headers_size, Encloses}
 use Rattle.elf_model.specs.Resolution.{SymbolOf, is_absolute}
 use Rattle.elf_model.specs.declared.link_map.GotLine.{GotLine}
 use Rattle.elf_model.specs.declared.thing.Thing.{Thing}
 use Rattle.elf_model.specs.declared.records.ProgramHeader.{ProgramHeader}
+
+-- the least multiple of a not below x
+abbrev pub round_up : ℕ → ℕ → ℕ
+round_up a x = (x + (a - 1)) / a * a
 
 -- a piece at an address
 pub record Placed : Type 0 where
@@ -55,11 +59,27 @@ placed_blocks rows bs = map (placed_block rows) bs
 abbrev pub thing_of : Placed → Thing
 thing_of q = record {
   at = q.at;
+  size = load_size q.piece;
+  align = q.piece.align;
+  rights = piece_rights q.piece;
+  in_file = has_bytes q.piece;
+}
+
+-- the addresses of the thread-local pieces, those of the ones without bytes too, which take up no memory
+abbrev pub is_thread_place : Placed → Bool
+is_thread_place q = is_thread_piece q.piece
+
+abbrev pub range_of : Placed → Thing
+range_of q = record {
+  at = q.at;
   size = q.piece.size;
   align = q.piece.align;
   rights = piece_rights q.piece;
   in_file = has_bytes q.piece;
 }
+
+abbrev pub thread_ranges : List Placed → List Thing
+thread_ranges qs = map range_of (filter is_thread_place qs)
 
 -- the file header and the program headers, where the image has them: at the first PT_LOAD's address
 abbrev pub headers_thing : List ℕ → Thing
@@ -105,11 +125,14 @@ pub record IsNear (p q : Placed) : Type 0 where
   pub behind : p.at + p.piece.size ≤ q.at
   pub close : q.at < (p.at + p.piece.size) + q.piece.align
 
--- where all things may lie; neighbours are asked of kept sections only
-pub record IsPlaced (base : ℕ) (ts : List Thing) (ps : List Placed) : Type 0 where
+-- where all things may lie, and the addresses of the thread-local pieces; neighbours are asked of kept sections only, in
+-- the order of their output sections
+pub record IsPlaced (base : ℕ) (ts threads : List Thing) (ps : List Placed) : Type 0 where
   pub aligned : All (λ t. t.at % t.align ≡ 0) ts
   pub within : All (IsWithin base) ts
   pub apart : AllPairs AreApart ts
+  pub threads_within : All (IsWithin base) threads
+  pub threads_apart : AllPairs AreApart threads
   pub near : (i j : ℕ) (d : Placed) → IsNext ps i j d → IsNear (slice_index_or ps i d) (slice_index_or ps j d)
 
 -- a thing lies whole in one PT_LOAD that has exactly its rights

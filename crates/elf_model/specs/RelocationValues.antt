@@ -1,22 +1,26 @@
 -- The values of relocations, and whether they fit their fields (AMD64 psABI 4.4, "Relocation Types"; the ranges of all
 -- kinds but 32 and 32S are the profile's).
-use Rattle.std.specs.Prelude.{ℕ, pos, ◌+◌, ◌-◌, ◌*◌, List, IfSome, All, option_map, unwrap_or}
+use Rattle.std.specs.Prelude.{ℕ, ◌+◌, ◌-◌, ◌*◌, List, IfSome, All, option_map, unwrap_or}
 use Rattle.elf_model.specs.Loading.{LoadedObject}
 use Rattle.elf_model.specs.Meaning.{meaning_size, meaning_value}
 use Rattle.elf_model.specs.Placement.{Where, got_start, section_address}
 use Rattle.elf_model.specs.Relocation.{IsInRange, Relocation, Terms, definition_of, modulo_64, relocation_kind, relocations, whole_value}
 use Rattle.elf_model.specs.Slots.{slot_address}
+use Rattle.elf_model.specs.ThreadStorage.{block_in, thread_offset}
 
--- the terms of a relocation: no kind of the profile speaks of thread storage
+-- the value of what a relocation uses, 0 of nothing; and the terms
+abbrev pub used_value : List LoadedObject → Where → Relocation → ℕ
+used_value objects w r = unwrap_or (option_map (meaning_value w) (definition_of objects r.symbol)) 0
+
 abbrev pub terms_of : List LoadedObject → Where → Relocation → Terms
 terms_of objects w r = record {
-  s = unwrap_or (option_map (meaning_value w) (definition_of objects r.symbol)) 0;
+  s = used_value objects w r;
   a = r.entry.r_addend;
   p = section_address w.placed r.object r.section + r.entry.r_offset;
   g = slot_address w.slots r - got_start w.got;
   got = got_start w.got;
   z = unwrap_or (option_map meaning_size (definition_of objects r.symbol)) 0;
-  t = pos 0;
+  t = thread_offset (block_in w) (used_value objects w r);
 }
 
 -- the value of a relocation, 0 for one of no kind

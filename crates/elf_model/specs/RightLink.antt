@@ -1,10 +1,11 @@
 -- What a right link is: thirteen clauses on the files, the words, the image and the map (System V gABI 4 and
--- 5; which links are in the profile, and what fills gaps, is the profile's). None of them says how a linker
+-- 5; ELF Handling For Thread-Local Storage; what fills gaps is the profile's). None of them says how a linker
 -- lays anything out.
-use Rattle.std.specs.Prelude.{◌≡◌, ℕ, ◌+◌, ◌<◌, ◌≤◌, ◌==◌, true, cond, List, [], ◌∷◌, Option, Some, Ok, All, Any, find, length, map, option_map, slice_index, count_by, is_some, IfSome, IsSomeAnd, Bool, ◌&&◌, ◌++◌}
+use Rattle.std.specs.Prelude.{◌≡◌, ℕ, ◌+◌, ◌<◌, ◌≤◌, ◌==◌, true, not, cond, List, [], ◌∷◌, Option, Some, Ok, All, Any, filter, find, length, map, option_map, slice_index, count_by, is_some, IfSome, IsSomeAnd, Bool, ◌&&◌, ◌++◌}
 use Rattle.std.specs.List.{list_any}
 use Rattle.std.specs.Str.{bytes_eq}
 use Rattle.elf_model.specs.Command.{Plan, command_of}
+use Rattle.elf_model.specs.ArrayOrder.{placed_in_array_order}
 use Rattle.elf_model.specs.Files.{File}
 use Rattle.elf_model.specs.Listing.{listed}
 use Rattle.elf_model.specs.Loading.{LoadedObject, is_dropped, loaded_objects, AreObjects, HaveLawfulGroups}
@@ -15,14 +16,15 @@ use Rattle.elf_model.specs.Meaning.{Meaning, Symbol, meaning_name, meaning_value
 use Rattle.elf_model.specs.MemoryImage.{IsImage, Cell, memory_of, loads, thread_blocks, Encloses}
 use Rattle.elf_model.specs.Opening.{AreArchives, AreFilesThere, HaveIndexes, opened}
 use Rattle.elf_model.specs.ObjectFile.{sections}
-use Rattle.elf_model.specs.Pieces.{Piece, is_alloc, kept_sections, AreLawfulKinds}
-use Rattle.elf_model.specs.Placement.{Placed, Where, is_common_row_of, placed_blocks, placed_by, things, got_things, Covers, IsPlaced, HasRights}
-use Rattle.elf_model.specs.Profile.{IsInProfile}
+use Rattle.elf_model.specs.LinkerValues.{end_of_pieces}
+use Rattle.elf_model.specs.Pieces.{Piece, is_alloc, is_thread_zero, kept_sections, load_size, AreLawfulKinds}
+use Rattle.elf_model.specs.Placement.{Placed, Where, is_common_row_of, placed_blocks, placed_by, things, thing_of, thread_ranges, is_thread_place, got_things, Covers, IsPlaced, HasRights}
 use Rattle.elf_model.specs.Records.{file_header}
 use Rattle.elf_model.specs.Relocation.{AreLawfulRelocations}
 use Rattle.elf_model.specs.RelocationValues.{AllFit}
 use Rattle.elf_model.specs.Resolution.{is_weak, AreSoundCommons, AreUnique, AreSoundSymbols, IsEntry}
 use Rattle.elf_model.specs.Slots.{Request, got_bytes, has_got, is_slot_of, requests, same_request, size_with}
+use Rattle.elf_model.specs.ThreadStorage.{is_thread_data, thread_headers}
 use Rattle.elf_model.specs.WantedBytes.{wanted_byte}
 use Rattle.elf_model.specs.declared.link_map.Definition.{Definition}
 use Rattle.elf_model.specs.declared.link_map.DropLine.{DropLine}
@@ -62,7 +64,7 @@ pub record IsRead (words : List (List ℕ)) (bytes : List ℕ) (s : Subject) : T
   pub map : IsMap s.map
   pub spelled : bytes ≡ text s.map
 
--- C2. The files are there, the archives can be searched, what is loaded are objects in the profile, and the map's
+-- C2. The files are there, the archives can be searched, what is loaded are objects with lawful groups, and the map's
 -- objects are those loaded, in order.
 abbrev pub object_rows : ℕ → List LoadedObject → List ObjectRow
 object_rows k [] = []
@@ -74,7 +76,6 @@ pub record IsLoaded (s : Subject) : Type 0 where
   pub indexes : HaveIndexes (opened s.files s.plan)
   pub objects : AreObjects (objects_of s)
   pub groups : HaveLawfulGroups (objects_of s)
-  pub profile : IsInProfile (objects_of s)
   pub rows : s.map.objects ≡ object_rows 0 (objects_of s)
 
 -- C3. Kept sections have lawful kinds, common symbols are sound, and the drop, place and common lines are exactly the
@@ -128,8 +129,9 @@ pub record AreSectionsListed (s : Subject) : Type 0 where
   pub commons : (name : List ℕ) → HasCommonLine s.map.commons (objects_of s) name
 
 -- C4. The image is one that a loader maps (`IsImage`).
--- C5. Pieces, GOT and headers are aligned, within the addresses, and apart (`IsPlaced`).
--- C6. Each lies in a segment that has exactly its rights (`HasRights`).
+-- C5. Pieces, GOT and headers are aligned, within the addresses, and apart; so are the thread-local pieces among
+-- themselves; and the pieces of an output section are near one another, in their order (`IsPlaced`).
+-- C6. Each thing lies in a segment that has exactly its rights (`HasRights`).
 
 -- C7. The GOT stands exactly where a relocation asks for one. It has a slot for each request of a relocation, one for
 -- all that are the same, and no other; the slots fill it behind its first word, and memory holds word and slots.
@@ -154,18 +156,36 @@ pub record IsGotRight (s : Subject) : Type 0 where
   pub slots : (q : Request) → HasSlot s.map.slots (objects_of s) q
   pub held : IfSome s.map.got (HoldsGot (objects_of s) (where_of s) s.image)
 
--- C8. PT_TLS stands exactly where thread-local pieces do; none is in the profile.
-abbrev pub IsThreadBlockRight : Subject → Type 0
-IsThreadBlockRight s = thread_blocks s.image ≡ []
+-- C8. PT_TLS stands exactly where thread-local pieces do, and says where these are. Those with bytes end before those
+-- without begin; nothing else stands between the block's beginning and the end of those with bytes; and one PT_LOAD
+-- holds the initial bytes.
+abbrev pub other_things : Subject → List Thing
+other_things s = got_things s.map.got ++ map thing_of (filter (λ q. not (is_thread_place q)) (placed_of s))
+
+abbrev pub thread_data_end : Subject → ℕ
+thread_data_end s = end_of_pieces is_thread_data (placed_of s)
+
+-- a thing has no address from one address on and below another
+abbrev pub IsClearOf : ℕ → ℕ → Thing → Type 0
+IsClearOf start end t = (a : ℕ) → start ≤ a → a < end → Covers t a → ⊥
+
+abbrev pub HoldsInitial : List ProgramHeader → ProgramHeader → Type 0
+HoldsInitial segments h = 0 < h.p_filesz → Any (λ g. Encloses g h.p_vaddr h.p_filesz) segments
+
+pub record IsThreadBlockRight (s : Subject) : Type 0 where
+  pub headers : thread_blocks s.image ≡ thread_headers s.plan.base (placed_of s)
+  pub before : All (λ q. is_thread_zero q.piece ≡ true → thread_data_end s ≤ q.at) (placed_of s)
+  pub clear : All (λ h. All (IsClearOf h.p_vaddr (thread_data_end s)) (other_things s)) (thread_blocks s.image)
+  pub held : All (HoldsInitial (loads s.image)) (thread_blocks s.image)
 
 -- C9. Each kept relocation is lawful, and its value fits its field.
 pub record AreRelocationsRight (s : Subject) : Type 0 where
   pub lawful : AreLawfulRelocations (objects_of s)
   pub fits : AllFit (objects_of s) (where_of s)
 
--- C10. Memory holds each piece: at each of its addresses the byte that is wanted there.
+-- C10. Memory holds each piece that takes up some: at each of its addresses the byte that is wanted there.
 pub record HoldsPiece (objects : List LoadedObject) (w : Where) (image : List ℕ) (q : Placed) : Type 0 where
-  pub bytes : (k : ℕ) → k < q.piece.size → byte_at image (q.at + k) ≡ Some (wanted_byte objects w q.piece k)
+  pub bytes : (k : ℕ) → k < load_size q.piece → byte_at image (q.at + k) ≡ Some (wanted_byte objects w q.piece k)
 
 -- C11. Each mapped byte outside all things is fill: 0x90 where it may be executed, else 0.
 abbrev pub fill_of : ℕ → ℕ
@@ -230,7 +250,7 @@ Holds C1 s = Unit {0}
 Holds C2 s = IsLoaded s
 Holds C3 s = AreSectionsListed s
 Holds C4 s = IsImage s.image
-Holds C5 s = IsPlaced s.plan.base (things_of s) (sections_of s)
+Holds C5 s = IsPlaced s.plan.base (things_of s) (thread_ranges (placed_of s)) (placed_in_array_order (sections_of s))
 Holds C6 s = HasRights s.plan.base (loads s.image) (things_of s) (got_things s.map.got)
 Holds C7 s = IsGotRight s
 Holds C8 s = IsThreadBlockRight s

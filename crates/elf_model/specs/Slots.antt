@@ -11,8 +11,9 @@ use Rattle.elf_model.specs.Loading.{LoadedObject}
 use Rattle.elf_model.specs.MapRecord.{SlotRow, TargetRow, OfName, OfLocal}
 use Rattle.elf_model.specs.Meaning.{Meaning, meaning, meaning_value}
 use Rattle.elf_model.specs.Placement.{Where}
-use Rattle.elf_model.specs.Relocation.{Formula, S+A-GOT, G+A, G+GOT+A-P, GOT+A-P, GT+GOT+A-P, Relocation, definition_of, is_local, relocation_kind, relocations, symbol_at}
+use Rattle.elf_model.specs.Relocation.{Formula, S+A-GOT, G+A, G+GOT+A-P, GOT+A-P, GT+GOT+A-P, Relocation, definition_of, is_local, modulo_64, relocation_kind, relocations, symbol_at}
 use Rattle.elf_model.specs.Resolution.{SymbolOf, chosen}
+use Rattle.elf_model.specs.ThreadStorage.{block_in, thread_offset}
 use Rattle.elf_model.specs.declared.link_map.SlotKind.{SlotKind}
 use Rattle.elf_model.specs.declared.link_map.SlotKind.TheVariants as slot
 
@@ -113,12 +114,14 @@ abbrev pub target_meaning : List LoadedObject → TargetRow → Option Meaning
 target_meaning objects (OfName name) = meaning objects name
 target_meaning objects (OfLocal object number) = local_meaning objects object number
 
--- the value of a slot: the value of its target, 0 where that means nothing; no slot of a thread offset is in the
--- profile
+-- the value of a target, 0 where it means nothing; and that of a slot: the target's, or its offset from the thread
+-- pointer, modulo 2 ^ 64
+abbrev pub target_value : List LoadedObject → Where → TargetRow → ℕ
+target_value objects w target = unwrap_or (option_map (meaning_value w) (target_meaning objects target)) 0
+
 abbrev pub slot_value : List LoadedObject → Where → SlotKind → TargetRow → ℕ
-slot_value objects w slot.Value target =
-    unwrap_or (option_map (meaning_value w) (target_meaning objects target)) 0 % 2 ^ 64
-slot_value objects w slot.Thread target = 0
+slot_value objects w slot.Value target = target_value objects w target % 2 ^ 64
+slot_value objects w slot.Thread target = modulo_64 (thread_offset (block_in w) (target_value objects w target))
 
 abbrev pub slot_bytes : List LoadedObject → Where → SlotRow → List ℕ
 slot_bytes objects w row = le_bytes 8 (slot_value objects w row.kind row.target)

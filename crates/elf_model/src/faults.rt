@@ -160,8 +160,6 @@ pub enum LinkError {
     TooLarge,
     #[error("BadSymbol (21)")]
     BadSymbol,
-    #[error("NotYet (22)")]
-    NotYet,
 }
 
 impl From<AllocError> for CmdFault {

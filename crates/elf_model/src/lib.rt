@@ -12,6 +12,7 @@ mod link_map;
 mod records;
 mod references;
 mod thing;
+mod tls_block;
 mod verdict;
 
 pub use bound::Bound;
@@ -34,4 +35,5 @@ pub use link_map::{
 pub use records::{FileHeader, ProgramHeader, Rela, SectionHeader, Symbol};
 pub use references::{ObjectId, SectionRef, SymbolRef, Target};
 pub use thing::Thing;
+pub use tls_block::TlsBlock;
 pub use verdict::{Clause, Verdict};

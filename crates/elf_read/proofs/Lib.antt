@@ -1,5 +1,4 @@
 pub mod Entries
-mod PowersOfTwo
 mod SectionLemmas
 pub mod Faults
 mod Whole

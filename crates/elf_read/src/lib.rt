@@ -5,7 +5,6 @@
 mod groups;
 mod header;
 mod object;
-mod profile;
 mod relas;
 mod sections;
 mod symbols;
@@ -13,5 +12,4 @@ mod symbols;
 pub use elf_model::ObjFault;
 pub use groups::Group;
 pub use object::Object;
-pub use profile::is_plain_object;
 pub use sections::is_power_of_two;

@@ -4,7 +4,7 @@ use Rattle.std.proofs.Math.Nat.{mod-add-mod, mod_self}
 use Rattle.std.proofs.lemmas.Int.{ints}
 use Rattle.std.proofs.lemmas.Nat.{div-add-mod', div-mul-add, mod-mul-add, mod_below}
 use Rattle.elf_model.proofs.WrappedValues.{modulo_is}
-use Rattle.elf_model.specs.OwnLayout.{round_up}
+use Rattle.elf_model.specs.Placement.{round_up}
 use Rattle.elf_model.specs.Relocation.{modulo_64}
 
 -- q times a and r more, rounded up to a multiple of a
@@ -32,6 +32,16 @@ round_up_is a s some =
     ap (round_up a) (sym whole)
     ∙ (round_up_parts a (s / a) (s % a) (mod_below s a some) ∙ ap (λ (x : ℕ). x + (a - s % a) % a) whole)
 
+-- the thread pointer, as the sum of the block's beginning, its size and what rounds that up
+pub pointer_is :
+    (start size align : ℕ) → 0 < align →
+    ((start + size) % 2 ^ 64 + (align - size % align) % align) % 2 ^ 64 ≡ (start + round_up align size) % 2 ^ 64
+pointer_is start size align some =
+    let pad : ℕ = (align - size % align) % align in
+    let turn : start + size + pad ≡ start + (size + pad) = omega arith in
+    mod-add-mod (start + size) (2 ^ 64) pad
+    ∙ ap (λ (e : ℕ). e % 2 ^ 64) (turn ∙ ap (λ (e : ℕ). start + e) (sym (round_up_is align size some)))
+
 -- a number less another one
 difference : (x p : ℕ) → (x + (2 ^ 64 - p % 2 ^ 64)) % 2 ^ 64 ≡ modulo_64 (pos x -ℤ pos p)
 difference x p =
@@ -40,11 +50,11 @@ difference x p =
     sym (modulo_is (pos x -ℤ pos p) (p / 2 ^ 64 + 1) (x + (2 ^ 64 - p % 2 ^ 64)) (omega (arith, ints)))
 
 pub offset_is :
-    (start size align x : ℕ) → 0 < align →
-    (x + (2 ^ 64 - ((start + size) % 2 ^ 64 + (align - size % align) % align) % 2 ^ 64)) % 2 ^ 64 ≡ modulo_64 (pos x -ℤ pos (start + round_up align size))
-offset_is start size align x some =
-    let pad : ℕ = (align - size % align) % align in
-    let turn : start + size + pad ≡ start + (size + pad) = omega arith in
-    ap (λ (e : ℕ). (x + (2 ^ 64 - e)) % 2 ^ 64) (mod-add-mod (start + size) (2 ^ 64) pad)
-    ∙ (ap (λ (e : ℕ). (x + (2 ^ 64 - e % 2 ^ 64)) % 2 ^ 64) (turn ∙ ap (λ (e : ℕ). start + e) (sym (round_up_is align size some)))
-    ∙ difference x (start + round_up align size))
+    (x y p : ℕ) → y ≡ p % 2 ^ 64 → (x + (2 ^ 64 - y)) % 2 ^ 64 ≡ modulo_64 (pos x -ℤ pos p)
+offset_is x y p e = ap (λ (z : ℕ). (x + (2 ^ 64 - z)) % 2 ^ 64) e ∙ difference x p
+
+-- the same of what a number leaves modulo 2 ^ 64
+pub offset_of_rest :
+    (x n y p : ℕ) → x ≡ n % 2 ^ 64 → y ≡ p % 2 ^ 64 → (x + (2 ^ 64 - y)) % 2 ^ 64 ≡ modulo_64 (pos n -ℤ pos p)
+offset_of_rest x n y p e f =
+    ap (λ (z : ℕ). (z + (2 ^ 64 - y)) % 2 ^ 64) e ∙ (mod-add-mod n (2 ^ 64) (2 ^ 64 - y) ∙ offset_is n y p f)

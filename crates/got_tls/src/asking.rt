@@ -4,10 +4,10 @@ ghost use Rattle.std.specs.List.{slice_get};
 ghost use Rattle.elf_model.specs.ObjectFile.{relas_of, sections};
 ghost use Rattle.elf_model.specs.Relocation.{is_some_kind, relocation_of, relocations, relocations_from, relocations_in};
 ghost use Rattle.search.specs.Views.{loaded_view, loaded_views};
-ghost use Rattle.got_tls.specs.Asking.{nothing, with_relocation, with_relocations};
+ghost use Rattle.got_tls.specs.Asking.{TellsOfGot, nothing, with_relocation, with_relocations};
 ghost use Rattle.got_tls.specs.Views.{wants};
 
-use crate::requests::{asks_for_got, slot_of};
+use crate::requests::{asks_for_got, slot_of, tells_of_got};
 use crate::slot_table::Slot;
 use elf_model::{Rela, SectionHeader};
 use elf_read::Object;
@@ -23,18 +23,21 @@ pub struct Asked<'a> {
     pub slots: IndexSet<Slot<'a>>,
 }
 
-/// Takes in what an entry of the object that has a number asks for, which relocates the section `target`.
+/// Takes in what an entry of the object that has a number asks for, which relocates the section `target`; `named` tells
+/// whether the object names the GOT at all.
 fn add_entry<'a>(
     asked: &mut Asked<'a>,
     resolved: &Resolved<'_, 'a>,
     number: usize,
     loaded: &Loaded<'a>,
+    named: bool,
     target: u64,
     entry: &Rela,
 ) -> Result<(), AllocError>
+    requires { TellsOfGot loaded.now.object named }
     ensures { OnOk result (wants asked.new ≡ with_relocation resolved.now (wants asked.old) (relocation_of number (loaded_view loaded.now) target entry.now)) }
 {
-    asked.got = asked.got || asks_for_got(resolved, number, loaded, target, entry);
+    asked.got = asked.got || asks_for_got(resolved, number, loaded, named, target, entry);
     if let Some(slot) = slot_of(number, loaded, entry) {
         asked.slots.insert(slot)?;
     }
@@ -47,9 +50,11 @@ fn add_entries<'a>(
     resolved: &Resolved<'_, 'a>,
     number: usize,
     loaded: &Loaded<'a>,
+    named: bool,
     target: u64,
     entries: &[Rela],
 ) -> Result<(), AllocError>
+    requires { TellsOfGot loaded.now.object named }
     ensures { OnOk result (wants asked.new ≡ with_relocations resolved.now (wants asked.old) (map (relocation_of number (loaded_view loaded.now) target) (filter is_some_kind entries.now))) }
 {
     for i in 0..entries.len() {
@@ -57,7 +62,7 @@ fn add_entries<'a>(
         if entry.kind() == 0 {
             continue;
         }
-        add_entry(asked, resolved, number, loaded, target, &entry)?;
+        add_entry(asked, resolved, number, loaded, named, target, &entry)?;
     }
     Ok(())
 }
@@ -80,9 +85,11 @@ fn add_section<'a>(
     resolved: &Resolved<'_, 'a>,
     number: usize,
     loaded: &Loaded<'a>,
+    named: bool,
     i: usize,
     header: &SectionHeader,
 ) -> Result<(), AllocError>
+    requires named { TellsOfGot loaded.now.object named }
     requires there { slice_get (sections loaded.now.object) i ≡ Some header.now }
     requires rela { header.now.sh_type ≡ 4 }
     ensures { OnOk result (wants asked.new ≡ with_relocations resolved.now (wants asked.old) (relocations_in number (loaded_view loaded.now) header.now)) }
@@ -93,6 +100,7 @@ fn add_section<'a>(
         resolved,
         number,
         loaded,
+        named,
         header.sh_info as u64,
         entries,
     )
@@ -107,13 +115,14 @@ fn add_object<'a>(
 ) -> Result<(), AllocError>
     ensures { OnOk result (wants asked.new ≡ with_relocations resolved.now (wants asked.old) (relocations_from number (loaded_view loaded.now))) }
 {
+    let named = tells_of_got(&loaded.object);
     let headers = loaded.object.sections();
     for i in 0..headers.len() {
         let header = headers[i];
         if !loaded.is_kept_rela(i, &header) {
             continue;
         }
-        add_section(asked, resolved, number, loaded, i, &header)?;
+        add_section(asked, resolved, number, loaded, named, i, &header)?;
     }
     Ok(())
 }

@@ -4,14 +4,14 @@
 #![tactic(auto)]
 
 mod asking;
-mod extents;
 mod kinds;
 mod requests;
 mod slot_table;
 mod thread_storage;
 mod wanted;
 
+pub use elf_model::TlsBlock;
 pub use requests::target_of;
 pub use slot_table::{Slot, Slots};
-pub use thread_storage::{TlsBlock, tls_block, tp_offset};
+pub use thread_storage::{thread_pointer, tls_block, tp_offset};
 pub use wanted::slots;

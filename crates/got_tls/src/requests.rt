@@ -6,7 +6,7 @@ ghost use Rattle.elf_model.specs.Resolution.{binding};
 ghost use Rattle.elf_model.specs.Slots as wanted;
 ghost use Rattle.search.specs.Views.{loaded_view};
 ghost use Rattle.resolve.specs.Views.{target_view};
-ghost use Rattle.got_tls.specs.Asking.{request_at};
+ghost use Rattle.got_tls.specs.Asking.{TellsOfGot, is_got_symbol, request_at};
 ghost use Rattle.got_tls.specs.Views.{slot_view};
 
 use crate::kinds::{ask_of, asks_of_got, slot_asked};
@@ -62,26 +62,60 @@ pub fn slot_of<'a>(number: usize, loaded: &Loaded<'a>, entry: &Rela) -> Option<S
 /// The name of the GOT.
 const GOT_NAME: &[u8] = b"_GLOBAL_OFFSET_TABLE_";
 
-/// Whether symbol `j`, which isn't LOCAL, has the GOT's name, and no object defines that.
-fn names_got(resolved: &Resolved<'_, '_>, number: usize, loaded: &Loaded<'_>, j: usize) -> bool
+/// Whether symbol `j` isn't LOCAL and has the GOT's name.
+fn is_got_symbol(object: &Object<'_>, j: usize) -> bool
+    ensures { result ≡ is_got_symbol object.now j }
+{
+    !is_local(object, j) && name_of(object, j) == GOT_NAME
+}
+
+/// Whether an object has a symbol that isn't LOCAL and has the GOT's name. Where it hasn't, no name of a symbol need be
+/// read for each of its relocations.
+pub fn tells_of_got(object: &Object<'_>) -> bool
+    ensures { TellsOfGot object.now result }
+{
+    for j in 0..object.symbols().len() {
+        if is_got_symbol(object, j) {
+            return true;
+        }
+    }
+    false
+}
+
+/// Whether symbol `j` isn't LOCAL and has the GOT's name, and no object defines that; `named` tells whether the object has
+/// such a symbol at all.
+fn names_got(
+    resolved: &Resolved<'_, '_>,
+    number: usize,
+    loaded: &Loaded<'_>,
+    named: bool,
+    j: usize,
+) -> bool
+    requires { TellsOfGot loaded.now.object named }
     ensures { result ≡ wanted.names_got resolved.now (symbol_at number (loaded_view loaded.now) j) }
 {
-    if is_local(&loaded.object, j) || name_of(&loaded.object, j) != GOT_NAME {
+    if !named {
+        return false;
+    }
+    if !is_got_symbol(&loaded.object, j) {
         return false;
     }
     resolved.chosen(GOT_NAME).is_none()
 }
 
-/// Whether an entry of the object that has a number, which relocates the section `target`, asks for a GOT.
+/// Whether an entry of the object that has a number, which relocates the section `target`, asks for a GOT; `named` tells
+/// whether the object names the GOT at all.
 pub fn asks_for_got(
     resolved: &Resolved<'_, '_>,
     number: usize,
     loaded: &Loaded<'_>,
+    named: bool,
     target: u64,
     entry: &Rela,
 ) -> bool
+    requires { TellsOfGot loaded.now.object named }
     ensures { result ≡ wanted.asks_for_got resolved.now (relocation_of number (loaded_view loaded.now) target entry.now) }
 {
     asks_of_got(ask_of(entry.kind()))
-        || names_got(resolved, number, loaded, entry.symbol() as usize)
+        || names_got(resolved, number, loaded, named, entry.symbol() as usize)
 }

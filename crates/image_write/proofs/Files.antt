@@ -1,41 +1,68 @@
 -- The image file is the headers of the own segments, then the bytes of the own places with fill between them.
-use Rattle.std.proofs.Common.{◌≡◌, ℕ, ◌+◌, ◌-◌, ◌*◌, ◌^◌, ◌≤◌, List, [], ◌++◌, length, sym, ◌∙◌, ap, subst, arith}
-use Rattle.std.specs.Prelude.{map}
+use Rattle.std.proofs.Common.{◌≡◌, ℕ, ◌+◌, ◌-◌, ◌*◌, ◌^◌, ◌≤◌, List, [], ◌∷◌, ◌++◌, refl, sym, ◌∙◌, ap, subst, arith}
+use Rattle.std.specs.Prelude.{None, Option, Some, map, option_map}
 use Rattle.std.specs.List.{flat_map, range_with_len}
+use Rattle.std.specs.Option.{option_map_or}
 use Rattle.elf_model.specs.Command.{IsBase}
 use Rattle.elf_model.specs.ImageFile.{header_bytes, image_file, own_byte, own_entry, own_file_header, own_program_headers}
 use Rattle.elf_model.specs.Loading.{AreObjects, LoadedObject}
-use Rattle.elf_model.specs.OwnLayout.{IsNotTooLarge, file_end, header_count, own_headers_size, own_placed, own_segments, own_where}
+use Rattle.elf_model.specs.OwnLayout.{IsNotTooLarge, file_end, header_count, own_headers_size, own_in_load_order, own_loaded, own_segments, own_where}
 use Rattle.elf_model.specs.Pieces.{AreLawfulKinds}
 use Rattle.elf_model.specs.Placement.{Placed}
 use Rattle.elf_model.specs.Records.{file_header_bytes, program_header_bytes}
+use Rattle.elf_model.specs.ThreadStorage.{thread_block, thread_header, thread_headers}
 use Rattle.elf_model.specs.declared.records.ProgramHeader.{ProgramHeader}
+use Rattle.elf_model.specs.declared.tls_block.TlsBlock.{TlsBlock}
 use Rattle.layout.specs.Placements.{Basis}
-use Rattle.own_link.proofs.ImageOwn.{header_count_is}
-use Rattle.image_write.specs.Parts.{Rise, body_from, code_part, headers_of}
+use Rattle.layout.specs.Threads.{header_in}
+use Rattle.own_link.proofs.ImageOwn.{header_count_is, own_thread_headers_of}
+use Rattle.image_write.specs.Parts.{Rise, as_list, body_from, code_part, count_of, headers_of}
 use Rattle.image_write.specs.declared.filling.Code.{Code}
 use Rattle.image_write.proofs.OwnBody.{file_low, own_body_is, own_rise}
 use Rattle.image_write.proofs.Runs.{map_shifted}
 
+-- a PT_TLS that may be there, as a list
+pub threads_are : (base : ℕ) (qs : List Placed) → as_list (header_in base qs) ≡ thread_headers base qs
+threads_are base qs = by (thread_block qs)
+  where
+    by :
+        (b : Option TlsBlock) →
+        as_list (option_map (thread_header base qs) b) ≡ option_map_or (λ (c : TlsBlock). thread_header base qs c ∷ []) b []
+    by None = refl
+    by (Some c) = refl
+
+pub threads_is :
+    (b : Basis) (header : Option ProgramHeader) → header ≡ header_in b.base (own_in_load_order b.base b.objects) → as_list header ≡ own_thread_headers_of b.base b.objects
+threads_is b header is = ap as_list is ∙ threads_are b.base (own_in_load_order b.base b.objects)
+
 module _ (base : ℕ) (objects : List LoadedObject) where
-  own_headers_are : (entry : ℕ) (name : List ℕ) → own_entry base objects name ≡ entry → headers_of entry (own_segments base objects) ≡ header_bytes base objects name
+  own_headers_are :
+      (entry : ℕ) (name : List ℕ) → own_entry base objects name ≡ entry →
+      headers_of entry (own_segments base objects) (own_thread_headers_of base objects) ≡ header_bytes base objects name
   own_headers_are entry name e =
       let count = header_count_is base objects in
       ap (λ (n : ℕ). file_header_bytes (own_file_header entry n) ++ flat_map program_header_bytes (own_program_headers base objects)) (sym count)
       ∙ ap (λ (n : ℕ). file_header_bytes (own_file_header n (header_count objects)) ++ flat_map program_header_bytes (own_program_headers base objects)) (sym e)
 
+  -- where the headers end
+  pub from_is :
+      (hs ts : List ProgramHeader) (from : ℕ) → hs ≡ own_segments base objects → ts ≡ own_thread_headers_of base objects →
+      from ≡ base + (64 + 56 * count_of hs ts) → from ≡ base + own_headers_size objects
+  from_is hs ts from is_hs is_ts is =
+      is
+      ∙ (ap (λ (gs : List ProgramHeader). base + (64 + 56 * count_of gs ts)) is_hs
+      ∙ (ap (λ (gs : List ProgramHeader). base + (64 + 56 * count_of (own_segments base objects) gs)) is_ts
+      ∙ ap (λ (n : ℕ). base + (64 + 56 * n)) (sym (header_count_is base objects))))
+
   -- what the code puts, where its numbers and lists are those of the own layout
   pub image_is :
       (based : IsBase base) (good : AreObjects objects) (kinds : AreLawfulKinds objects) (fits : IsNotTooLarge base objects) →
-      (hs : List ProgramHeader) (qs : List Placed) (entry from to : ℕ) (name : List ℕ) →
-      hs ≡ own_segments base objects → qs ≡ own_placed base objects → from ≡ base + (64 + 56 * (length hs + 1)) → to ≡ base + file_end hs →
+      (hs ts : List ProgramHeader) (qs : List Placed) (entry from to : ℕ) (name : List ℕ) →
+      hs ≡ own_segments base objects → ts ≡ own_thread_headers_of base objects → qs ≡ own_loaded base objects → from ≡ base + (64 + 56 * count_of hs ts) → to ≡ base + file_end hs →
       own_entry base objects name ≡ entry →
-      headers_of entry hs ++ body_from objects (own_where base objects) (code_part hs) to from qs ≡ image_file base objects name
-  image_is based good kinds fits hs qs entry from to name is_hs is_qs is_from is_to is_entry =
-      let count = header_count_is base objects in
-      let size : base + (64 + 56 * (length (own_segments base objects) + 1)) ≡ base + own_headers_size objects =
-      ap (λ (n : ℕ). base + (64 + 56 * n)) (sym count) in
-      let at : from ≡ base + own_headers_size objects = is_from ∙ (ap (λ (gs : List ProgramHeader). base + (64 + 56 * (length gs + 1))) is_hs ∙ size) in
+      headers_of entry hs ts ++ body_from objects (own_where base objects) (code_part hs) to from qs ≡ image_file base objects name
+  image_is based good kinds fits hs ts qs entry from to name is_hs is_ts is_qs is_from is_to is_entry =
+      let at : from ≡ base + own_headers_size objects = from_is hs ts from is_hs is_ts is_from in
       let end : to ≡ base + file_end (own_segments base objects) = is_to ∙ ap (λ (gs : List ProgramHeader). base + file_end gs) is_hs in
       let n : (base + file_end (own_segments base objects)) - (base + own_headers_size objects) ≡ file_end (own_segments base objects) - own_headers_size objects = omega arith in
       let B : List ProgramHeader → ℕ → ℕ → List Placed → List ℕ = λ gs y x ps. body_from objects (own_where base objects) (code_part gs) y x ps in
@@ -47,19 +74,19 @@ module _ (base : ℕ) (objects : List LoadedObject) where
       ∙ (own_body_is base objects based good kinds fits
       ∙ (ap (λ (k : ℕ). map (own_byte base objects) (range_with_len (base + own_headers_size objects) k)) n
       ∙ sym (map_shifted (own_byte base objects) base (own_headers_size objects) (file_end (own_segments base objects) - own_headers_size objects))))))) in
-      ap (λ (gs : List ProgramHeader). headers_of entry gs ++ B hs to from qs) is_hs
+      ap (λ (gs : List ProgramHeader). headers_of entry gs ts ++ B hs to from qs) is_hs
+      ∙ (ap (λ (gs : List ProgramHeader). headers_of entry (own_segments base objects) gs ++ B hs to from qs) is_ts
       ∙ (ap (λ (bs : List ℕ). bs ++ B hs to from qs) (own_headers_are entry name is_entry)
-      ∙ ap (λ (bs : List ℕ). header_bytes base objects name ++ bs) body)
+      ∙ ap (λ (bs : List ℕ). header_bytes base objects name ++ bs) body))
 
 -- the places of the own layout follow each other between the numbers that the code makes
 pub rise_is :
     (base : ℕ) (objects : List LoadedObject) → IsBase base → AreObjects objects → AreLawfulKinds objects → IsNotTooLarge base objects →
-    (hs : List ProgramHeader) (qs : List Placed) (from to : ℕ) → hs ≡ own_segments base objects → qs ≡ own_placed base objects →
-    from ≡ base + (64 + 56 * (length hs + 1)) → to ≡ base + file_end hs → Rise from to qs
-rise_is base objects based good kinds fits hs qs from to is_hs is_qs is_from is_to =
-    let count = header_count_is base objects in
-    let at : from ≡ base + own_headers_size objects =
-    is_from ∙ (ap (λ (gs : List ProgramHeader). base + (64 + 56 * (length gs + 1))) is_hs ∙ ap (λ (n : ℕ). base + (64 + 56 * n)) (sym count)) in
+    (hs ts : List ProgramHeader) (qs : List Placed) (from to : ℕ) → hs ≡ own_segments base objects → ts ≡ own_thread_headers_of base objects →
+    qs ≡ own_loaded base objects →
+    from ≡ base + (64 + 56 * count_of hs ts) → to ≡ base + file_end hs → Rise from to qs
+rise_is base objects based good kinds fits hs ts qs from to is_hs is_ts is_qs is_from is_to =
+    let at : from ≡ base + own_headers_size objects = from_is base objects hs ts from is_hs is_ts is_from in
     let end : to ≡ base + file_end (own_segments base objects) = is_to ∙ ap (λ (gs : List ProgramHeader). base + file_end gs) is_hs in
     subst (λ (x : ℕ). Rise x to qs) (sym at)
     (subst (λ (y : ℕ). Rise (base + own_headers_size objects) y qs) (sym end)
@@ -76,14 +103,14 @@ end_low base objects based good kinds fits hs to is_hs is_to =
 -- what the code puts, step by step
 pub file_is :
     (r : Basis) → IsBase r.base → AreObjects r.objects → AreLawfulKinds r.objects → IsNotTooLarge r.base r.objects →
-    (hs : List ProgramHeader) (qs : List Placed) (code : Code) (entry from to : ℕ) (name out mid new : List ℕ) →
-    hs ≡ own_segments r.base r.objects → qs ≡ own_placed r.base r.objects → code ≡ code_part hs →
-    from ≡ r.base + (64 + 56 * (length hs + 1)) → to ≡ r.base + file_end hs → own_entry r.base r.objects name ≡ entry →
-    out ≡ [] → mid ≡ out ++ headers_of entry hs →
+    (hs ts : List ProgramHeader) (qs : List Placed) (code : Code) (entry from to : ℕ) (name out mid new : List ℕ) →
+    hs ≡ own_segments r.base r.objects → ts ≡ own_thread_headers_of r.base r.objects → qs ≡ own_loaded r.base r.objects → code ≡ code_part hs →
+    from ≡ r.base + (64 + 56 * count_of hs ts) → to ≡ r.base + file_end hs → own_entry r.base r.objects name ≡ entry →
+    out ≡ [] → mid ≡ out ++ headers_of entry hs ts →
     new ≡ mid ++ body_from r.objects (own_where r.base r.objects) code to from qs → new ≡ image_file r.base r.objects name
-file_is r based good kinds fits hs qs code entry from to name out mid new is_hs is_qs is_code is_from is_to is_entry is_out is_mid is_new =
-    let front : mid ≡ headers_of entry hs = is_mid ∙ ap (λ (bs : List ℕ). bs ++ headers_of entry hs) is_out in
+file_is r based good kinds fits hs ts qs code entry from to name out mid new is_hs is_ts is_qs is_code is_from is_to is_entry is_out is_mid is_new =
+    let front : mid ≡ headers_of entry hs ts = is_mid ∙ ap (λ (bs : List ℕ). bs ++ headers_of entry hs ts) is_out in
     is_new
     ∙ (ap (λ (bs : List ℕ). bs ++ body_from r.objects (own_where r.base r.objects) code to from qs) front
-    ∙ (ap (λ (c : Code). headers_of entry hs ++ body_from r.objects (own_where r.base r.objects) c to from qs) is_code
-    ∙ image_is r.base r.objects based good kinds fits hs qs entry from to name is_hs is_qs is_from is_to is_entry))
+    ∙ (ap (λ (c : Code). headers_of entry hs ts ++ body_from r.objects (own_where r.base r.objects) c to from qs) is_code
+    ∙ image_is r.base r.objects based good kinds fits hs ts qs entry from to name is_hs is_ts is_qs is_from is_to is_entry))

@@ -3,12 +3,12 @@ use Rattle.std.proofs.Common.{◌≡◌, ◌==◌, ℕ, ◌+◌, ◌-◌, ◌<�
 use Rattle.std.specs.Prelude.{All, Any, Contains, map, nat_le, nat_lt}
 use Rattle.std.specs.List.{range_with_len}
 use Rattle.std.proofs.lemmas.Bool.{and_from, and_parts, cases_Bool, eqb-true, false_from_ne_true, leb-true, ltb-true, lt-ltb, true≢false}
-use Rattle.std.proofs.lemmas.List.Elements.{All-contains}
+use Rattle.std.proofs.lemmas.List.Elements.{All-contains, Contains-append_left}
 use Rattle.std.proofs.lemmas.List.Folds.{list_any_none}
 use Rattle.elf_model.specs.Command.{IsBase}
 use Rattle.elf_model.specs.ImageFile.{covers_address, fill_at, is_code_part, own_byte, piece_byte}
 use Rattle.elf_model.specs.Loading.{AreObjects, LoadedObject}
-use Rattle.elf_model.specs.OwnLayout.{IsNotTooLarge, file_end, is_nonempty, own_headers_size, own_placed, own_segments, own_where, placed_end, placed_has_bytes}
+use Rattle.elf_model.specs.OwnLayout.{IsNotTooLarge, file_end, is_nonempty, own_headers_size, own_loaded, own_segments, own_thread_rest, own_where, placed_end, placed_has_bytes}
 use Rattle.elf_model.specs.Pieces.{AreLawfulKinds}
 use Rattle.elf_model.specs.Placement.{Placed}
 use Rattle.elf_model.specs.declared.records.ProgramHeader.{ProgramHeader}
@@ -19,7 +19,6 @@ use Rattle.own_link.proofs.Bytes as bytes
 use Rattle.own_link.proofs.Bytes.{byte_cases, covers-true, one_segment}
 use Rattle.own_link.proofs.Ends.{EndsFile, FileEndsBelow, file_end-holds, file_end-reached}
 use Rattle.own_link.proofs.ImageOwn.{good_segments, placed_in_parts}
-use Rattle.own_link.proofs.OwnThings.{own_stood}
 use Rattle.own_link.proofs.SegmentHeaders.{AreOwnSegments, IsGoodSegment}
 use Rattle.own_link.proofs.SegmentPieces.{ArePlacedIn, IsInPart, segment_of_piece}
 use Rattle.own_link.proofs.Segments.{AreGoodParts, own_parts, own_segments_are, part_header, segments_of}
@@ -37,13 +36,13 @@ module _ (base : ℕ) (objects : List LoadedObject) (based : IsBase base) (good 
   parts = own_parts_good base objects kinds based fits stand
 
   segments : AreOwnSegments base (own_headers_size objects) (own_segments base objects)
-  segments = good_segments base objects kinds based fits stand
+  segments = good_segments base objects kinds based fits stand good
 
-  in_parts : ArePlacedIn (own_parts base objects) (own_placed base objects) (own_stood base objects)
-  in_parts = placed_in_parts base objects kinds based fits stand
+  in_parts : ArePlacedIn (own_parts base objects) (own_loaded base objects) (own_loaded base objects)
+  in_parts = placed_in_parts base objects kinds based fits stand good
 
-  in_segment : (q : Placed) → Contains (own_placed base objects) q → 0 < q.piece.size → IsInPart base (own_headers_size objects) (own_parts base objects) q
-  in_segment = segment_of_piece base (own_headers_size objects) (own_parts base objects) parts (own_placed base objects) (own_stood base objects) in_parts
+  in_segment : (q : Placed) → Contains (own_loaded base objects) q → 0 < q.piece.size → IsInPart base (own_headers_size objects) (own_parts base objects) q
+  in_segment = segment_of_piece base (own_headers_size objects) (own_parts base objects) parts (own_loaded base objects) (own_loaded base objects) in_parts
 
   -- the header of the segment of a place is one of the own segments
   own_segment : (h : ProgramHeader) → Contains (segments_of base (own_parts base objects)) h → Contains (own_segments base objects) h
@@ -101,12 +100,12 @@ module _ (base : ℕ) (objects : List LoadedObject) (based : IsBase base) (good 
   nonempty : (q : Placed) → is_written q ≡ true → 0 < q.piece.size
   nonempty q w = ltb-true 0 q.piece.size (and_parts (placed_has_bytes q) (is_nonempty q.piece) w).1
 
-  pub own_rise : Rise (base + own_headers_size objects) (base + file_end (own_segments base objects)) (own_placed base objects)
+  pub own_rise : Rise (base + own_headers_size objects) (base + file_end (own_segments base objects)) (own_loaded base objects)
   own_rise =
-      rise_of (base + own_headers_size objects) (base + file_end (own_segments base objects)) (own_placed base objects) headers_in_file
-      (All-from_contains (BeginsAbove (base + own_headers_size objects)) (own_placed base objects) (λ q c w. (in_segment q c (nonempty q w)).behind))
+      rise_of (base + own_headers_size objects) (base + file_end (own_segments base objects)) (own_loaded base objects) headers_in_file
+      (All-from_contains (BeginsAbove (base + own_headers_size objects)) (own_loaded base objects) (λ q c w. (in_segment q c (nonempty q w)).behind))
       (own_ascending base objects)
-      (All-from_contains (EndsAt (base + file_end (own_segments base objects))) (own_placed base objects) (λ q c w.
+      (All-from_contains (EndsAt (base + file_end (own_segments base objects))) (own_loaded base objects) (λ q c w.
       let some = nonempty q w in
       let i = in_segment q c some in
       let e = i.file (and_parts (placed_has_bytes q) (is_nonempty q.piece) w).0 in
@@ -119,7 +118,7 @@ module _ (base : ℕ) (objects : List LoadedObject) (based : IsBase base) (good 
   wants q k = piece_byte objects (own_where base objects) q.piece k
 
   code_has_bytes :
-      (q : Placed) → Contains (own_placed base objects) q → (a : ℕ) → q.at ≤ a → a < placed_end q → (h : ProgramHeader) →
+      (q : Placed) → Contains (own_loaded base objects) q → (a : ℕ) → q.at ≤ a → a < placed_end q → (h : ProgramHeader) →
       Contains (own_segments base objects) h → is_code_part a h ≡ true → placed_has_bytes q ≡ true
   code_has_bytes q c a low high h there is =
       let p = and_parts (h.p_flags == 5) (nat_le h.p_vaddr a && nat_lt a (h.p_vaddr + h.p_filesz)) is in
@@ -137,7 +136,7 @@ module _ (base : ℕ) (objects : List LoadedObject) (based : IsBase base) (good 
       let five : i.part.rights ≡ 5 = ap (λ (x : ProgramHeader). x.p_flags) same ∙ eqb-true h.p_flags 5 p.0 in
       All-contains (λ (r : Placed). placed_has_bytes r ≡ true) i.part.placed q (i.good.code five) i.holds
 
-  no_fill : (q : Placed) → Contains (own_placed base objects) q → placed_has_bytes q ≡ false → (a : ℕ) → q.at ≤ a → a < placed_end q → fill_at (own_segments base objects) a ≡ 0
+  no_fill : (q : Placed) → Contains (own_loaded base objects) q → placed_has_bytes q ≡ false → (a : ℕ) → q.at ≤ a → a < placed_end q → fill_at (own_segments base objects) a ≡ 0
   no_fill q c bare a low high =
       let none = list_any_none (is_code_part a) (own_segments base objects)
       (All-from_contains (λ (h : ProgramHeader). is_code_part a h ≡ false) (own_segments base objects) (λ h there.
@@ -145,38 +144,39 @@ module _ (base : ℕ) (objects : List LoadedObject) (based : IsBase base) (good 
       rw none refl
 
   -- the own byte of an address in a place with bytes is the wanted one, elsewhere it is the fill
-  own_wants : All (Wants objects (own_where base objects) (code_part (own_segments base objects)) 0 (own_byte base objects)) (own_placed base objects)
+  own_wants : All (Wants objects (own_where base objects) (code_part (own_segments base objects)) 0 (own_byte base objects)) (own_loaded base objects)
   own_wants =
-      All-from_contains (Wants objects (own_where base objects) (code_part (own_segments base objects)) 0 (own_byte base objects)) (own_placed base objects)
-      (λ q c w k within. bytes.piece_byte wants (own_segments base objects) (own_placed base objects) stand.apart q k c within)
+      All-from_contains (Wants objects (own_where base objects) (code_part (own_segments base objects)) 0 (own_byte base objects)) (own_loaded base objects)
+      (λ q c w k within. bytes.piece_byte wants (own_segments base objects) (own_loaded base objects) stand.apart q k c within)
 
   abbrev IsFill : ℕ → ℕ → Type 0
   IsFill a n = n ≡ fill_byte (code_part (own_segments base objects)) a
 
   fill_by :
-      (a : ℕ) → All (λ q. is_written q ≡ true → covers_address a q ≡ false) (own_placed base objects) →
-      (q : Placed) → Contains (own_placed base objects) q → q.at ≤ a → a < placed_end q → IsFill a (wants q (a - q.at))
+      (a : ℕ) → All (λ q. is_written q ≡ true → covers_address a q ≡ false) (own_loaded base objects) →
+      (q : Placed) → Contains (own_loaded base objects) q → q.at ≤ a → a < placed_end q → IsFill a (wants q (a - q.at))
   fill_by a bare q c low high = by (cases_Bool (placed_has_bytes q))
     where
       by : ((placed_has_bytes q ≡ true) ⊎ (placed_has_bytes q ≡ false)) → IsFill a (wants q (a - q.at))
       by (inr none) =
-          own_wants_zero objects good base stand (own_where base objects) q (a - q.at) c none
+          own_wants_zero objects good base stand (own_where base objects) q (a - q.at)
+          (Contains-append_left (own_loaded base objects) (own_thread_rest base objects) q c) none
           ∙ (sym (no_fill q c none a low high) ∙ own_fill_is base objects a)
       by (inl some) =
           let w : is_written q ≡ true = and_from (placed_has_bytes q) (is_nonempty q.piece) some (lt-ltb 0 q.piece.size (omega (arith, low, high))) in
-          let e = All-contains (λ (p : Placed). is_written p ≡ true → covers_address a p ≡ false) (own_placed base objects) q bare c w in
+          let e = All-contains (λ (p : Placed). is_written p ≡ true → covers_address a p ≡ false) (own_loaded base objects) q bare c w in
           absurd (true≢false (sym (covers-true a q low high) ∙ e))
 
-  pub own_fills : (x : ℕ) → FillsFrom objects (own_where base objects) (code_part (own_segments base objects)) 0 (own_byte base objects) x (own_placed base objects)
+  pub own_fills : (x : ℕ) → FillsFrom objects (own_where base objects) (code_part (own_segments base objects)) 0 (own_byte base objects) x (own_loaded base objects)
   own_fills x a from bare =
-      byte_cases wants (own_segments base objects) (own_placed base objects) (IsFill a) a (fill_by a bare) (own_fill_is base objects a)
+      byte_cases wants (own_segments base objects) (own_loaded base objects) (IsFill a) a (fill_by a bare) (own_fill_is base objects a)
 
   pub own_body_is :
       body_from objects (own_where base objects) (code_part (own_segments base objects)) (base + file_end (own_segments base objects))
-      (base + own_headers_size objects) (own_placed base objects)
+      (base + own_headers_size objects) (own_loaded base objects)
       ≡ map (own_byte base objects)
       (range_with_len (base + own_headers_size objects) ((base + file_end (own_segments base objects)) - (base + own_headers_size objects)))
   own_body_is =
       body_is objects (own_where base objects) (code_part (own_segments base objects)) (base + file_end (own_segments base objects))
-      (own_byte base objects) (base + own_headers_size objects) (own_placed base objects) own_rise own_wants
+      (own_byte base objects) (base + own_headers_size objects) (own_loaded base objects) own_rise own_wants
       (own_fills (base + own_headers_size objects))

@@ -11,7 +11,7 @@ use Rattle.byteview.specs.Numbers.{part}
 use Rattle.elf_model.specs.ImageFile.{is_got_piece}
 use Rattle.elf_model.specs.Loading.{AreObjects, LoadedObject}
 use Rattle.elf_model.specs.ObjectFile.{IsObject, IsPlaced, LiesInside, bytes_in_file, contents, has_no_bytes, section, section_bytes, sections}
-use Rattle.elf_model.specs.OwnLayout.{got_number, got_pieces, is_nonempty, laid_out, own_placed, own_where, placed_has_bytes}
+use Rattle.elf_model.specs.OwnLayout.{got_number, got_pieces, is_nonempty, laid_out, own_loaded, own_placed, own_thread_rest, own_where, placed_has_bytes}
 use Rattle.elf_model.specs.Commons.{block_of, block_pieces, pieces}
 use Rattle.elf_model.specs.Pieces.{AreLawfulKinds, IsLawfulKind, Piece, has_bytes, is_nobits, kept_sections, piece_of}
 use Rattle.elf_model.specs.Placement.{Placed}
@@ -19,7 +19,7 @@ use Rattle.elf_model.specs.Resolution.{sections_of_object}
 use Rattle.elf_model.specs.Slots.{got_bytes}
 use Rattle.elf_model.specs.declared.records.SectionHeader.{SectionHeader}
 use Rattle.elf_model.proofs.Blocks.{block_bare, block_pieces-each}
-use Rattle.elf_model.proofs.Listed.{All-from_contains, Contains-from_map}
+use Rattle.elf_model.proofs.Listed.{All-from_contains, All-parts, Contains-from_map}
 use Rattle.elf_model.proofs.Places.{AreOwnPlaced, at_own_address}
 use Rattle.elf_model.proofs.OwnOrder.{laid_out_lawful}
 use Rattle.elf_model.proofs.PieceNumbers.{got_pieces-each, pieces_low}
@@ -163,8 +163,8 @@ module _ (base : ℕ) (objects : List LoadedObject) (good : AreObjects objects) 
       let n = All-contains HasItsSize (kept_sections objects) q.piece (own_sizes objects) there in
       record { bytes = b; section_size = ap (λ (x : SectionHeader). x.sh_size) h ∙ sym n }
 
-  pub own_full : AreFull objects (own_where base objects) (own_placed base objects)
-  own_full =
+  placed_full : AreFull objects (own_where base objects) (own_placed base objects)
+  placed_full =
       All-from_contains (λ (q : Placed). is_written q ≡ true → IsFull objects (own_where base objects) q.piece) (own_placed base objects)
       (λ q c w. record {
         section = section_full q c w;
@@ -172,3 +172,8 @@ module _ (base : ℕ) (objects : List LoadedObject) (good : AreObjects objects) 
             All-contains (λ (p : Piece). length (got_bytes objects (own_where base objects)) ≡ p.size) (got_pieces objects) q.piece (got_sized base objects)
             (the_got objects q.piece (placed_piece base objects stand q c) is);
       })
+
+  pub own_full : AreFull objects (own_where base objects) (own_loaded base objects)
+  own_full =
+      (All-parts (λ (q : Placed). is_written q ≡ true → IsFull objects (own_where base objects) q.piece) (own_loaded base objects) (own_thread_rest base objects)
+      placed_full).0

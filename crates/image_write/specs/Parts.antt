@@ -1,7 +1,8 @@
 -- The image file as it is written: the headers, then the bytes of the places one behind the other, with fill
 -- between them.
-use Rattle.std.specs.Prelude.{◌≡◌, ◌==◌, ℕ, ◌+◌, ◌-◌, ◌≤◌, ◌^◌, ◌&&◌, Bool, true, false, cond, List, [], ◌∷◌, ◌++◌, All, length, map, nat_le, nat_lt, replicate}
+use Rattle.std.specs.Prelude.{◌≡◌, ◌==◌, ℕ, ◌+◌, ◌-◌, ◌≤◌, ◌^◌, ◌&&◌, Bool, true, false, cond, List, [], ◌∷◌, ◌++◌, Option, All, length, map, nat_le, nat_lt, replicate}
 use Rattle.std.specs.List.{flat_map, range_with_len, slice_get}
+use Rattle.std.specs.Option.{option_map_or}
 use Rattle.byteview.specs.Numbers.{le_bytes}
 use Rattle.elf_model.specs.ImageFile.{is_got_piece, own_file_header, piece_byte, stack_header}
 use Rattle.elf_model.specs.Loading.{LoadedObject}
@@ -17,9 +18,16 @@ use Rattle.layout.specs.Placements.{Basis}
 use Rattle.image_write.specs.declared.filling.Code.{Code}
 use Rattle.image_write.specs.declared.pieces.Contents.{Contents}
 
--- the file header, and the program headers of segments and of the stack
-abbrev pub headers_of : ℕ → List ProgramHeader → List ℕ
-headers_of entry hs = file_header_bytes (own_file_header entry (length hs + 1)) ++ flat_map program_header_bytes (hs ++ stack_header ∷ [])
+-- the file header, and the program headers of segments, of thread-local storage, where there is one, and of the stack
+abbrev pub as_list : Option ProgramHeader → List ProgramHeader
+as_list header = option_map_or (λ h. h ∷ []) header []
+
+abbrev pub count_of : List ProgramHeader → List ProgramHeader → ℕ
+count_of hs ts = length hs + (length ts + 1)
+
+abbrev pub headers_of : ℕ → List ProgramHeader → List ProgramHeader → List ℕ
+headers_of entry hs ts =
+    file_header_bytes (own_file_header entry (count_of hs ts)) ++ flat_map program_header_bytes (hs ++ (ts ++ stack_header ∷ []))
 
 -- a segment's file part ends low enough to be counted
 pub record EndsLow (h : ProgramHeader) : Type 0 where

@@ -4,7 +4,7 @@ ghost use Rattle.std.specs.List.{flat_map};
 ghost use Rattle.elf_model.specs.ImageFile as forms;
 ghost use Rattle.elf_model.specs.ImageFile.{own_file_header};
 ghost use Rattle.elf_model.specs.Records.{file_header_bytes, program_header_bytes};
-ghost use Rattle.image_write.specs.Parts.{headers_of};
+ghost use Rattle.image_write.specs.Parts.{as_list, count_of, headers_of};
 
 use elf_model::{
     EHDR_SIZE, ELFCLASS64, ELFDATA2LSB, EM_X86_64, ET_EXEC, EV_CURRENT, FileHeader, PF_R, PF_W,
@@ -92,25 +92,49 @@ fn put_segments(out: &mut Vec<u8>, segments: &[ProgramHeader]) -> Result<(), All
     Ok(())
 }
 
-/// Puts the file header, the program headers of the segments and that of the stack.
+/// Puts the program header of thread-local storage, where there is one.
+fn put_thread_header(out: &mut Vec<u8>, header: Option<ProgramHeader>) -> Result<(), AllocError>
+    ensures { OnOk result (out.new.items ≡ out.old.items ++ flat_map program_header_bytes (as_list header)) }
+{
+    if let Some(header) = header {
+        put_program_header(out, &header)?;
+    }
+    Ok(())
+}
+
+/// The number of program headers: those of the segments, that of thread-local storage, where there is one, and that of
+/// the stack.
+fn header_count(segments: &[ProgramHeader], threads: Option<ProgramHeader>) -> u16
+    requires few { length segments.now + 2 < 2 ^ 16 }
+    ensures { result ≡ count_of segments.now (as_list threads) }
+{
+    let count = segments.len() as u16 + 1;
+    if threads.is_some() { count + 1 } else { count }
+}
+
+/// Puts the file header, the program headers of the segments, that of thread-local storage, where there is one, and that
+/// of the stack.
 pub fn put_headers(
     out: &mut Vec<u8>,
     segments: &[ProgramHeader],
+    threads: Option<ProgramHeader>,
     entry: u64,
 ) -> Result<(), AllocError>
-    requires few { length segments.now + 1 < 2 ^ 16 }
-    ensures { OnOk result (out.new.items ≡ out.old.items ++ headers_of entry segments.now) }
+    requires few { length segments.now + 2 < 2 ^ 16 }
+    ensures { OnOk result (out.new.items ≡ out.old.items ++ headers_of entry segments.now (as_list threads)) }
 {
-    put_file_header(out, &file_header(entry, segments.len() as u16 + 1))?;
+    put_file_header(out, &file_header(entry, header_count(segments, threads)))?;
     put_segments(out, segments)?;
+    put_thread_header(out, threads)?;
     put_program_header(out, &stack_header())?;
     Ok(())
 }
 
 /// The size of the headers in bytes.
-pub fn headers_size(segments: &[ProgramHeader]) -> u64
-    requires few { length segments.now + 1 < 2 ^ 16 }
-    ensures { result ≡ 64 + 56 * (length segments.now + 1) }
+pub fn headers_size(segments: &[ProgramHeader], threads: Option<ProgramHeader>) -> u64
+    requires few { length segments.now + 2 < 2 ^ 16 }
+    ensures { result ≡ 64 + 56 * count_of segments.now (as_list threads) }
 {
-    (EHDR_SIZE + PHDR_SIZE * (segments.len() + 1)) as u64
+    let count = usize::from(header_count(segments, threads));
+    (EHDR_SIZE + PHDR_SIZE * count) as u64
 }

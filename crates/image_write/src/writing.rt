@@ -30,8 +30,8 @@ fn file_end(segments: &[ProgramHeader]) -> u64
     end
 }
 
-/// The image file: the headers, the pieces at their offsets with their relocated bytes, the GOT with the values of its
-/// slots, and fill between them.
+/// The image file: the headers, the pieces for which memory has a place at their offsets with their relocated bytes, the
+/// GOT with the values of its slots, and fill between them.
 pub fn image<'c, 'p, 'a>(
     alloc: Global,
     placement: &'c Placement<'p, 'a>,
@@ -49,11 +49,12 @@ pub fn image<'c, 'p, 'a>(
 {
     let base = placement.base();
     let segments = placement.segments();
+    let threads = placement.thread_header();
     let end = file_end(segments);
     let mut out = Vec::with_capacity(alloc, end as usize)?;
-    put_headers(&mut out, segments, entry)?;
+    put_headers(&mut out, segments, threads, entry)?;
     let code = code_of(segments);
-    let from = base + headers_size(segments);
+    let from = base + headers_size(segments, threads);
     let contents = Contents {
         placement,
         patches,
@@ -63,7 +64,7 @@ pub fn image<'c, 'p, 'a>(
         &mut out,
         &contents,
         &code,
-        placement.places(),
+        placement.loaded_places(),
         from,
         base + end,
     )?;

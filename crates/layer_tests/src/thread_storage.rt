@@ -125,7 +125,7 @@ fn no_thread_storage_has_no_block(rt: HostRuntime) -> Result<(), Fail> {
 #[test]
 fn thread_storage_is_a_block(rt: HostRuntime) -> Result<(), Fail> {
     let alloc = rt.alloc();
-    // .tdata at 0x402000, .tbss at 0x402008, .bss at 0x402010
+    // .tdata at 0x402000, .tbss and .bss at 0x402008
     let file = object_of(alloc, &[TEXT, thread_data(4), thread_zeros(8), BSS])?;
     let block = block_of(alloc, &file, 0x402008)?;
     assert!(rt; block == Some((0x402000, 0x10, 8, 0xffff_ffff_ffff_fff8)));

@@ -5,6 +5,8 @@ use Rattle.std.specs.Global.{Vec}
 use Rattle.std.specs.List.{flat_map, list_any, slice_get}
 use Rattle.std.proofs.lemmas.List.{append-nil, get_or-map, length-map, map-append, take_all}
 use Rattle.std.proofs.lemmas.List.Elements.{filter_more}
+use Rattle.std.proofs.lemmas.List.Folds.{flat_map-map}
+use Rattle.elf_model.specs.ArrayOrder.{in_array_order}
 use Rattle.elf_model.specs.OwnLayout.{grouped, leaders}
 use Rattle.elf_model.specs.Pieces as pieces
 use Rattle.elf_model.specs.Pieces.{same_output}
@@ -142,21 +144,11 @@ groups_put eq decides keys groups v k done q i of_q there e same groups_are =
     ap (λ (gs : List (List pieces.Piece)). put_at gs i q) groups_are
     ∙ put_at_leader done (leaders (done ++ q ∷ [])) i l.0 q l.1 s (leaders_other (done ++ q ∷ []))
 
--- all groups one behind the other
-pub joined_groups : (groups : List (Vec Piece)) (done ls : List pieces.Piece) → group_views groups ≡ map (group done) ls → piece_views (flat_map (λ g. g.items) groups) ≡ flat_map (group done) ls
-joined_groups [] done [] same = refl
-joined_groups [] done (l ∷ ls) same = absurd (cc)
-joined_groups (g ∷ groups) done [] same = absurd (cc)
-joined_groups (g ∷ groups) done (l ∷ ls) same =
-    map-append piece_view g.items (flat_map (λ h. h.items) groups)
-    ∙ (ap (λ (ps : List pieces.Piece). ps ++ piece_views (flat_map (λ h. h.items) groups)) (head same)
-    ∙ ap (λ (ps : List pieces.Piece). group done l ++ ps) (joined_groups groups done ls (tail same)))
-  where
-    head : piece_views g.items ∷ group_views groups ≡ group done l ∷ map (group done) ls → piece_views g.items ≡ group done l
-    head e = cc
-
-    tail : piece_views g.items ∷ group_views groups ≡ group done l ∷ map (group done) ls → group_views groups ≡ map (group done) ls
-    tail e = cc
+-- all groups one behind the other, each in its order
+pub joined_groups :
+    (groups : List (Vec Piece)) (done ls : List pieces.Piece) → group_views groups ≡ map (group done) ls →
+    flat_map in_array_order (group_views groups) ≡ flat_map (λ l. in_array_order (group done l)) ls
+joined_groups groups done ls same = ap (flat_map in_array_order) same ∙ flat_map-map in_array_order (group done) ls
 
 -- one more piece of a part, and one that isn't of it
 pub kept_same :
@@ -184,10 +176,18 @@ kept_more part ps i d within e =
 pub grouped_all :
     (part : Part) (ps : List Piece) (i : ℕ) (keys : List OutputSection) (groups seen : List (Vec Piece)) (items : List Piece) →
     length ps ≤ i → AreGroups keys groups (filter (part_test part) (take i (piece_views ps))) → seen ≡ groups →
-    items ≡ flat_map (λ g. g.items) seen → piece_views items ≡ grouped (filter (part_test part) (piece_views ps))
+    piece_views items ≡ flat_map in_array_order (group_views seen) → piece_views items ≡ grouped (filter (part_test part) (piece_views ps))
 grouped_all part ps i keys groups seen items behind are same all =
     let n = length-map ps piece_view in
     let whole : take i (piece_views ps) ≡ piece_views ps = take_all i (piece_views ps) (omega (arith, n, behind)) in
-    ap piece_views (all ∙ ap (λ (gs : List (Vec Piece)). flat_map (λ g. g.items) gs) same)
+    all
+    ∙ (ap (λ (gs : List (Vec Piece)). flat_map in_array_order (group_views gs)) same
     ∙ (joined_groups groups (filter (part_test part) (take i (piece_views ps))) (leaders (filter (part_test part) (take i (piece_views ps)))) are.groups_are
-    ∙ ap (λ (qs : List pieces.Piece). grouped (filter (part_test part) qs)) whole)
+    ∙ ap (λ (qs : List pieces.Piece). grouped (filter (part_test part) qs)) whole))
+
+-- the pieces of an output section behind others, as they are and sorted
+pub group_behind :
+    (out new group added : List Piece) → new ≡ out ++ added → piece_views added ≡ in_array_order (piece_views group) →
+    piece_views new ≡ piece_views out ++ in_array_order (piece_views group)
+group_behind out new more added is order =
+    ap piece_views is ∙ (map-append piece_view out added ∙ ap (λ (ps : List pieces.Piece). piece_views out ++ ps) order)

@@ -1,4 +1,5 @@
 pub mod Alignments
+pub mod ArraySteps
 pub mod EndSteps
 pub mod ExtentSteps
 pub mod Entries
@@ -12,5 +13,7 @@ mod MixedOutputs
 pub mod OtherPlaces
 pub mod OwnAddresses
 pub mod OwnBounds
+pub mod OwnThreads
 pub mod PieceEntries
 pub mod RunSteps
+pub mod ThreadSteps

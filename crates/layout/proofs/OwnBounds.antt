@@ -6,7 +6,7 @@ use Rattle.std.proofs.lemmas.List.{map-append}
 use Rattle.std.proofs.lemmas.List.Elements.{All-contains, Contains-append_cases}
 use Rattle.elf_model.specs.Commons.{pieces}
 use Rattle.elf_model.specs.LinkerNames.{named_output}
-use Rattle.elf_model.specs.LinkerValues.{any_piece, bound_value, end_of_pieces, is_code_piece, is_file_data, is_zero_data, least_of, start_of_pieces}
+use Rattle.elf_model.specs.LinkerValues.{bound_value, end_of_pieces, is_code_piece, is_file_data, is_loaded_piece, is_zero_data, least_of, start_of_pieces}
 use Rattle.elf_model.specs.Loading.{LoadedObject}
 use Rattle.elf_model.specs.OwnLayout.{got_line_of, got_number, got_piece, got_pieces, own_address, own_got, own_in_load_order, own_laid_out, own_placed, own_where}
 use Rattle.elf_model.specs.Pieces.{AreLawfulKinds, Piece, is_of_output}
@@ -142,7 +142,7 @@ module _ (base : ℕ) (objects : List LoadedObject) where
         end_of_pieces test (own_placed base objects) ≡ max (end_of_pieces test (own_in_load_order base objects)) (got_end (own_got base objects))
     with_got test is = whole_end test ∙ ap (max (end_of_pieces test (own_in_load_order base objects))) (got_ends test is)
 
-    without_got :
+    pub without_got :
         (test : Piece → Bool) → test (got_piece objects) ≡ false →
         end_of_pieces test (own_placed base objects) ≡ end_of_pieces test (own_in_load_order base objects)
     without_got test is =
@@ -150,7 +150,7 @@ module _ (base : ℕ) (objects : List LoadedObject) where
         let e = whole_end test in
         omega (arith, e, rest)
 
-    started :
+    pub started :
         (test : Piece → Bool) → test (got_piece objects) ≡ false →
         start_of_pieces test (own_placed base objects) ≡ start_of_pieces test (own_in_load_order base objects)
     started test is =
@@ -165,7 +165,7 @@ module _ (base : ℕ) (objects : List LoadedObject) where
     own_bound got b name CodeEnd is are = are.code_end ∙ without_got is_code_piece refl
     own_bound got b name DataEnd is are = are.data_end ∙ with_got is_file_data refl
     own_bound got b name ZeroStart is are = are.zero_start ∙ ap (λ (o : Option ℕ). unwrap_or o 0) (started is_zero_data refl)
-    own_bound got b name ImageEnd is are = are.image_end ∙ with_got any_piece refl
+    own_bound got b name ImageEnd is are = are.image_end ∙ with_got is_loaded_piece refl
     own_bound got b name GotStart is are = is ∙ start_by (own_got base objects)
     own_bound got b name OutputStart is are =
         ap (λ (o : Option ℕ). unwrap_or o 0)

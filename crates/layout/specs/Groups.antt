@@ -1,7 +1,7 @@
 -- Pieces by output section, as they are gathered.
 use Rattle.std.specs.Prelude.{◌≡◌, ℕ, Bool, List, map, filter}
 use Rattle.std.specs.Global.{Vec}
-use Rattle.elf_model.specs.OwnLayout.{is_code, is_data, is_read_only, is_zero, leaders}
+use Rattle.elf_model.specs.OwnLayout.{is_code, is_data, is_initial, is_read_only, is_thread_rest, is_zero, leaders}
 use Rattle.elf_model.specs.Pieces as pieces
 use Rattle.elf_model.specs.Pieces.{is_executable, is_nobits, is_thread_local, is_writable, output_name, same_output}
 use Rattle.layout.specs.Views.{piece_views}
@@ -40,8 +40,10 @@ output_view o = record {
 abbrev pub part_test : Part → pieces.Piece → Bool
 part_test part.ReadOnly p = is_read_only p
 part_test part.Code p = is_code p
+part_test part.Initial p = is_initial p
 part_test part.Data p = is_data p
 part_test part.Zero p = is_zero p
+part_test part.ThreadRest p = is_thread_rest p
 
 -- the pieces of a leader's output section
 abbrev pub group : List pieces.Piece → pieces.Piece → List pieces.Piece

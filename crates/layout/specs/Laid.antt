@@ -1,7 +1,8 @@
 -- A layout, as it is made: the pieces at their addresses and the segments that hold them.
-use Rattle.std.specs.Prelude.{◌≡◌, ℕ, List}
+use Rattle.std.specs.Prelude.{◌≡◌, ℕ, List, [], ◌∷◌, length}
 use Rattle.elf_model.specs.Loading.{LoadedObject}
-use Rattle.elf_model.specs.OwnLayout.{IsNotTooLarge, code_start, data_start, own_code, own_data, own_placed, own_read_only, own_segments, read_only_start, segment}
+use Rattle.elf_model.specs.OwnLayout.{IsNotTooLarge, code_start, data_start, own_code, own_data, own_loaded, own_placed, own_read_only, own_segments, read_only_start, segment}
+use Rattle.elf_model.specs.Pieces.{Piece}
 use Rattle.layout.specs.Limits.{AreInLimit}
 use Rattle.layout.specs.PlaceViews.{place_views}
 use Rattle.layout.specs.declared.faults.LayoutFault.{LayoutFault}
@@ -9,8 +10,14 @@ use Rattle.layout.specs.declared.faults.LayoutFault.TheVariants as error
 use Rattle.layout.specs.declared.lay.Laid.{Laid}
 use Rattle.layout.specs.declared.lay.Layout.{Layout}
 
+-- where the pieces of RW that aren't thread-local begin: with RW, or behind thread-local ones with bytes
+abbrev pub plain_start : List Piece → ℕ → ℕ → ℕ
+plain_start [] start end = start
+plain_start (p ∷ ps) start end = end
+
 pub record IsLaid (base : ℕ) (objects : List LoadedObject) (l : Laid) : Type 0 where
   pub places : place_views l.places.items ≡ own_placed base objects
+  pub loaded : l.loaded ≡ length (own_loaded base objects)
   pub read_only : l.read_only ≡ segment base 4 base (read_only_start base objects) (own_read_only base objects)
   pub code : l.code ≡ segment base 5 (code_start base objects) (code_start base objects) (own_code base objects)
   pub writable : l.writable ≡ segment base 6 (data_start base objects) (data_start base objects) (own_data base objects)
@@ -18,6 +25,7 @@ pub record IsLaid (base : ℕ) (objects : List LoadedObject) (l : Laid) : Type 0
 
 pub record IsLayout (base : ℕ) (objects : List LoadedObject) (l : Layout) : Type 0 where
   pub places : place_views l.places.items ≡ own_placed base objects
+  pub loaded : l.loaded ≡ length (own_loaded base objects)
   pub segments : l.segments.items ≡ own_segments base objects
 
 -- why there is no layout

@@ -1,4 +1,5 @@
 pub mod Addresses
+pub mod Arrays
 pub mod Groups
 pub mod Kinds
 pub mod Laid
@@ -8,5 +9,6 @@ pub mod Orders
 pub mod PieceParts
 pub mod PlaceViews
 pub mod Placements
-pub mod Views
 pub mod Tables
+pub mod Threads
+pub mod Views

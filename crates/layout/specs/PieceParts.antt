@@ -1,26 +1,34 @@
 -- The parts of memory of which bounds tell, and what the bounds are.
-use Rattle.std.specs.Prelude.{◌≡◌, ◌==◌, ℕ, Bool, List, Option, filter, not, option_map, unwrap_or}
+use Rattle.std.specs.Prelude.{◌≡◌, ◌==◌, ◌&&◌, ℕ, Bool, List, Option, filter, nat_lt, not, option_map, unwrap_or}
 use Rattle.std.specs.BTreeMap.{BTreeMap, get_by}
 use Rattle.std.specs.Borrow.{Bor}
 use Rattle.std.specs.Cmp.Lexicographic.{slice_cmp}
 use Rattle.std.specs.Option.{option_map_or}
 use Rattle.std.specs.Ordering.{nat_cmp}
 use Rattle.elf_model.specs.LinkerNames.{named_output}
-use Rattle.elf_model.specs.LinkerValues.{any_piece, end_of_pieces, is_code_piece, is_file_data, is_zero_data, start_of_pieces}
-use Rattle.elf_model.specs.Pieces.{Piece, is_of_output}
+use Rattle.elf_model.specs.LinkerValues.{end_of_pieces, is_code_piece, is_file_data, is_loaded_piece, is_zero_data, start_of_pieces}
+use Rattle.elf_model.specs.Pieces.{Piece, is_nobits, is_of_output, is_thread_local, is_thread_piece}
 use Rattle.elf_model.specs.Placement.{Placed}
+use Rattle.elf_model.specs.ThreadStorage.{is_some_thread_data}
 use Rattle.elf_model.specs.declared.bound.Bound.{Bound}
+use Rattle.elf_model.specs.declared.records.SectionHeader.{SectionHeader}
 use Rattle.elf_model.specs.declared.bound.Bound.TheVariants.{CodeEnd, DataEnd, GotStart, ImageEnd, ImageStart, OutputEnd, OutputStart, ZeroStart}
 use Rattle.layout.specs.declared.bounds.Bounds.{Bounds}
 use Rattle.layout.specs.declared.bounds.Extent.{Extent}
 use Rattle.layout.specs.declared.bounds.Part.{Part}
 use Rattle.layout.specs.declared.bounds.Part.TheVariants as part
 
+-- a section is thread-local, and has some bytes in the file
+abbrev pub is_nonempty_thread_data : SectionHeader → Bool
+is_nonempty_thread_data h = (is_thread_local h && not (is_nobits h)) && nat_lt 0 h.sh_size
+
 abbrev pub part_test : Part → Piece → Bool
-part_test part.All = any_piece
+part_test part.Loaded = is_loaded_piece
 part_test part.Code = is_code_piece
 part_test part.FileData = is_file_data
 part_test part.Zeros = is_zero_data
+part_test part.Threads = is_thread_piece
+part_test part.ThreadData = is_some_thread_data
 
 -- where the pieces of an output name begin and end by a table
 abbrev pub extent_in : BTreeMap (Bor (List ℕ)) Extent → List ℕ → Option Extent
@@ -45,7 +53,7 @@ pub record AreBounds (got : ℕ) (qs : List Placed) (b : Bounds) : Type 0 where
   pub code_end : b.code_end ≡ end_of_pieces is_code_piece qs
   pub data_end : b.data_end ≡ end_of_pieces is_file_data qs
   pub zero_start : b.zero_start ≡ unwrap_or (start_of_pieces is_zero_data qs) 0
-  pub image_end : b.image_end ≡ end_of_pieces any_piece qs
+  pub image_end : b.image_end ≡ end_of_pieces is_loaded_piece qs
   pub outputs : AreExtents (filter (is_other got) qs) b.outputs
 
 -- what the linker's names stand for by the bounds, in an image that is mapped from a base on, with its GOT at an address

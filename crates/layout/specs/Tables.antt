@@ -6,4 +6,4 @@ use Rattle.layout.specs.PlaceViews.{place_views}
 use Rattle.layout.specs.declared.placement.Tables.{Tables}
 
 abbrev pub AreTables : ℕ → List LoadedObject → Tables → Type 0
-AreTables base objects t = IsPlacement base objects (place_views t.places.items) t.segments.items t.addresses.items t.bounds
+AreTables base objects t = IsPlacement base objects (place_views t.places.items) t.loaded t.segments.items t.thread_header t.addresses.items t.bounds

@@ -1,30 +1,32 @@
-//! Where code, data and all pieces end, where what has no bytes begins, and where the pieces of each output name begin
-//! and end: what the linker's own names stand for.
+//! Where code, data and all that memory has a place for end, where what has no bytes begins, and where the pieces of each
+//! output name begin and end: what the linker's own names stand for.
 ghost use Rattle.std.specs.Prelude.{◌≡◌, ◌+◌, ℕ, List, IfOk, OnOk, filter, max, option_map, unwrap_or};
 ghost use Rattle.std.specs.Option.{option_map_or};
 ghost use Rattle.elf_model.specs.LinkerValues.{end_of_pieces, least_of, start_of_pieces};
 ghost use Rattle.elf_model.proofs.PieceBounds.{earlier, further};
 ghost use Rattle.elf_model.specs.Pieces.{is_of_output};
 ghost use Rattle.layout.specs.Limits.{AreInLimit, IsInLimit};
-ghost use Rattle.layout.specs.PieceParts.{AreBounds, AreExtents, bound_at, end_in, extent_in, is_other, part_test, start_in};
+ghost use Rattle.layout.specs.PieceParts.{AreBounds, AreExtents, bound_at, end_in, extent_in, is_nonempty_thread_data, is_other, part_test, start_in};
 ghost use Rattle.layout.specs.PlaceViews.{place_view, place_views};
 ghost use Rattle.layout.specs.Views.{piece_view};
 
 use crate::pieces::Piece;
 use crate::running::Place;
-use elf_model::Bound;
+use elf_model::{Bound, SectionHeader};
 use resolve::{named_output, output_name};
 use std::alloc::{AllocError, Global};
 use std::collections::BTreeMap;
 
-/// The pieces that a bound is of: all, those of code, those of data in the file, and those without bytes in it that
-/// aren't thread-local.
+/// The pieces that a bound is of: all but thread-local ones without bytes, those of code, those of data in the file, those
+/// without bytes in it that aren't thread-local, thread-local ones, and the nonempty ones of these with bytes.
 #[derive(Clone, Copy, Debug)]
 pub enum Part {
-    All,
+    Loaded,
     Code,
     FileData,
     Zeros,
+    Threads,
+    ThreadData,
 }
 
 /// The least address and the greatest end of pieces, in bytes.
@@ -45,15 +47,24 @@ pub struct Bounds<'a> {
     pub outputs: BTreeMap<&'a [u8], Extent>,
 }
 
+/// Whether a section is thread-local and has some bytes in the file.
+fn is_thread_data(header: &SectionHeader) -> bool
+    ensures { result ≡ is_nonempty_thread_data header.now }
+{
+    header.is_thread_local() && !header.is_nobits() && header.sh_size > 0
+}
+
 fn is_of(part: Part, piece: &Piece<'_>) -> bool
     ensures { result ≡ part_test part (piece_view piece.now) }
 {
     let header = &piece.header;
     match part {
-        Part::All => true,
+        Part::Loaded => !(header.is_thread_local() && header.is_nobits()),
         Part::Code => header.is_executable(),
         Part::FileData => header.is_writable() && !header.is_nobits(),
         Part::Zeros => header.is_nobits() && !header.is_thread_local(),
+        Part::Threads => header.is_thread_local(),
+        Part::ThreadData => is_thread_data(header),
     }
 }
 
@@ -69,7 +80,7 @@ fn further(part: Part, end: u64, place: &Place<'_>) -> u64
 }
 
 /// The greatest end of the pieces of a part; 0 without any.
-fn end_of(part: Part, places: &[Place<'_>]) -> u64
+pub fn end_of(part: Part, places: &[Place<'_>]) -> u64
     requires { AreInLimit (place_views places.now) }
     ensures { result ≡ end_of_pieces (part_test part) (place_views places.now) }
 {
@@ -94,7 +105,7 @@ fn earlier(part: Part, start: Option<u64>, place: &Place<'_>) -> Option<u64>
 }
 
 /// The least address of the pieces of a part; None without any.
-fn start_of(part: Part, places: &[Place<'_>]) -> Option<u64>
+pub fn start_of(part: Part, places: &[Place<'_>]) -> Option<u64>
     ensures { result ≡ start_of_pieces (part_test part) (place_views places.now) }
 {
     let mut start = None;
@@ -184,7 +195,7 @@ pub fn bounds_of<'a>(
         code_end: end_of(Part::Code, places),
         data_end: end_of(Part::FileData, places),
         zero_start: start_of(Part::Zeros, places).unwrap_or(0),
-        image_end: end_of(Part::All, places),
+        image_end: end_of(Part::Loaded, places),
         outputs: extents_of(alloc, got, places)?,
     })
 }

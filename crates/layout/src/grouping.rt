@@ -1,11 +1,14 @@
-//! Pieces by output section: output sections by first appearance, their pieces in load order.
+//! Pieces by output section: output sections by first appearance, the pieces of each in load order, but for arrays of
+//! functions, where numbered ones stand first.
 ghost use Rattle.std.specs.Prelude.{◌≡◌, ◌++◌, ◌∷◌, [], IfOk, OnOk, List, filter, length};
+ghost use Rattle.elf_model.specs.ArrayOrder.{in_array_order};
 ghost use Rattle.elf_model.specs.OwnLayout as own;
 ghost use Rattle.elf_model.specs.Pieces as pieces;
 ghost use Rattle.std.specs.List.{flat_map};
-ghost use Rattle.layout.specs.Groups.{AreGroups, output_of, output_view, part_test};
+ghost use Rattle.layout.specs.Groups.{AreGroups, group_views, output_of, output_view, part_test};
 ghost use Rattle.layout.specs.Views.{piece_view, piece_views};
 
+use crate::array_order::{any_numbered, sorted_by_rank};
 use crate::pieces::Piece;
 use elf_model::SectionHeader;
 use indexmap::IndexSet;
@@ -22,13 +25,16 @@ pub struct OutputSection<'a> {
     pub nobits: bool,
 }
 
-/// The parts of the own order: what may only be read, code, data with bytes, and data without.
+/// The parts of the own order: what may only be read, and code; of what may be written, thread-local data with bytes, other
+/// data with bytes and without, and thread-local data without.
 #[derive(Clone, Copy, Debug)]
 pub enum Part {
     ReadOnly,
     Code,
+    Initial,
     Data,
     Zero,
+    ThreadRest,
 }
 
 fn output_section_of<'a>(piece: &Piece<'a>) -> OutputSection<'a>
@@ -49,12 +55,15 @@ fn is_of_part(part: Part, piece: &Piece<'_>) -> bool
 {
     let writable = piece.header.is_writable();
     let executable = piece.header.is_executable();
+    let thread_local = piece.header.is_thread_local();
     let nobits = piece.header.is_nobits();
     match part {
         Part::ReadOnly => !writable && !executable,
         Part::Code => executable,
-        Part::Data => writable && !nobits,
-        Part::Zero => writable && nobits,
+        Part::Initial => writable && thread_local && !nobits,
+        Part::Data => writable && !thread_local && !nobits,
+        Part::Zero => writable && !thread_local && nobits,
+        Part::ThreadRest => writable && thread_local && nobits,
     }
 }
 
@@ -77,22 +86,39 @@ fn add_piece<'a>(
     Ok(())
 }
 
-/// Lists of pieces one behind the other.
+/// Puts the pieces of an output section behind others, in their order.
+fn add_group<'a>(
+    alloc: Global,
+    out: &mut Vec<Piece<'a>>,
+    group: &[Piece<'a>],
+) -> Result<(), AllocError>
+    ensures { OnOk result (piece_views out.new.items ≡ piece_views out.old.items ++ in_array_order (piece_views group.now)) }
+{
+    if !any_numbered(group) {
+        out.extend_from_slice(group)?;
+        return Ok(());
+    }
+    let sorted = sorted_by_rank(alloc, group)?;
+    out.extend_from_slice(sorted.as_slice())?;
+    Ok(())
+}
+
+/// The pieces of output sections one behind the other, those of each in their order.
 fn joined<'a>(
     alloc: Global,
     groups: &[Vec<Piece<'a>>],
     count: usize,
 ) -> Result<Vec<Piece<'a>>, AllocError>
-    ensures { IfOk result (λ v. v.items ≡ flat_map (λ g. g.items) groups.now) }
+    ensures { IfOk result (λ v. piece_views v.items ≡ flat_map in_array_order (group_views groups.now)) }
 {
     let mut all = Vec::with_capacity(alloc, count)?;
     for group in groups {
-        all.extend_from_slice(group.as_slice())?;
+        add_group(alloc, &mut all, group.as_slice())?;
     }
     Ok(all)
 }
 
-/// The pieces of a part, grouped by output section.
+/// The pieces of a part, grouped by output section, those of each in their order.
 pub fn grouped<'a>(
     alloc: Global,
     pieces: &[Piece<'a>],

@@ -3,6 +3,7 @@
 #![tactic(auto)]
 
 mod addresses;
+mod array_order;
 mod bounds;
 mod faults;
 mod grouping;
@@ -14,6 +15,7 @@ mod pieces;
 mod placement;
 mod running;
 mod segments;
+mod threads;
 
 pub use faults::LayoutFault;
 pub use judging::kinds;

@@ -7,16 +7,18 @@ ghost use Rattle.elf_model.specs.ImageFile.{is_got_piece};
 ghost use Rattle.elf_model.specs.LinkerValues.{bound_value};
 ghost use Rattle.elf_model.specs.Loading.{AreObjects};
 ghost use Rattle.elf_model.specs.OwnAddresses.{AreOwnAddresses};
-ghost use Rattle.elf_model.specs.OwnLayout.{IsNotTooLarge, own_got, own_in_load_order, own_placed, own_segments, own_where};
+ghost use Rattle.elf_model.specs.OwnLayout.{IsNotTooLarge, own_got, own_in_load_order, own_loaded, own_placed, own_segments, own_where};
 ghost use Rattle.elf_model.specs.Pieces.{AreLawfulKinds};
 ghost use Rattle.elf_model.specs.Placement.{is_of_section};
 ghost use Rattle.elf_model.specs.Resolution.{AreSoundCommons};
 ghost use Rattle.elf_model.specs.Slots as slots;
+ghost use Rattle.elf_model.specs.ThreadStorage.{thread_block};
 ghost use Rattle.search.specs.Views.{loaded_views};
 ghost use Rattle.resolve.specs.Blocks.{block_views};
 ghost use Rattle.layout.specs.Laid.{LayoutFails};
 ghost use Rattle.layout.specs.PlaceViews.{place_views};
 ghost use Rattle.layout.specs.Tables.{AreTables};
+ghost use Rattle.layout.specs.Threads.{header_in};
 ghost use Rattle.layout.specs.Views.{piece_view};
 
 use crate::addresses::{address_in, address_table};
@@ -26,19 +28,23 @@ use crate::lay::lay_out;
 use crate::order::{got_number, order_of};
 use crate::pieces::Piece;
 use crate::running::Place;
-use elf_model::{Bound, ProgramHeader};
+use crate::threads::{block_of, thread_header};
+use elf_model::{Bound, ProgramHeader, TlsBlock};
 use resolve::Block;
 use search::Loaded;
 use std::alloc::Global;
 use std::marker::Model;
 
-/// What the linker's own layout says of loaded objects: the pieces and the GOT at their addresses, the segments that hold
-/// them, the address of each kept section and common block and of the GOT, and what the linker's own names stand for. A
-/// `Placement` reads them beside the objects.
+/// What the linker's own layout says of loaded objects: the pieces and the GOT at their addresses, of which memory has
+/// a place for the first ones, the segments that hold them, the program header of thread-local storage, the address of each
+/// kept section and common block and of the GOT, and what the linker's own names stand for. A `Placement` reads them beside
+/// the objects.
 #[derive(Drop)]
 pub struct Tables<'a> {
     places: Vec<Place<'a>>,
+    loaded: usize,
     segments: Vec<ProgramHeader>,
+    thread_header: Option<ProgramHeader>,
     addresses: Vec<Vec<Option<u64>>>,
     bounds: Bounds<'a>,
 }
@@ -67,7 +73,8 @@ impl<'p, 'a> Model for Placement<'p, 'a> {
 /// Lays out the kept sections of loaded objects, their common blocks and their GOT, which has this size in bytes (0
 /// without one), from a base on. Where the kinds of the sections are lawful, each piece then stands at the least multiple
 /// of its alignment below neither the headers' end, nor its segment's beginning, nor the end of a piece before it in the
-/// order of the segments.
+/// order of the segments that takes up memory; a thread-local one below neither the beginning of thread-local storage, nor
+/// the end of a thread-local one before it.
 ///
 /// # Errors
 ///
@@ -94,9 +101,12 @@ pub fn place<'a>(
     let layout = lay_out(alloc, &order, base)?;
     let addresses = address_table(alloc, objects, blocks.len(), &layout.places)?;
     let bounds = bounds_of(alloc, got_number(objects), &layout.places)?;
+    let thread_header = thread_header(base, order.thread_align, &layout.places);
     Ok(Tables {
         places: layout.places,
+        loaded: layout.loaded,
         segments: layout.segments,
+        thread_header,
         addresses,
         bounds,
     })
@@ -129,11 +139,36 @@ impl<'p, 'a> Placement<'p, 'a> {
         self.tables.segments.as_slice()
     }
 
-    /// All pieces and the GOT at their addresses, by ascending address.
+    /// All pieces and the GOT at their addresses: those for which memory has a place, then the thread-local ones without
+    /// bytes; both by ascending address.
     pub fn places(&self) -> &[Place<'a>]
         ensures { place_views result.now ≡ own_placed self.now.base self.now.objects }
     {
         self.tables.places.as_slice()
+    }
+
+    /// The pieces for which memory has a place, and the GOT, at their addresses, by ascending address.
+    pub fn loaded_places(&self) -> &[Place<'a>]
+        ensures { place_views result.now ≡ own_loaded self.now.base self.now.objects }
+    {
+        let (loaded, _) = self.tables.places.split_at(self.tables.loaded);
+        loaded
+    }
+
+    /// The PT_TLS header, where the kinds of all sections are lawful; None without thread-local pieces.
+    pub fn thread_header(&self) -> Option<ProgramHeader>
+        requires { AreLawfulKinds self.now.objects }
+        ensures { result ≡ header_in self.now.base (own_in_load_order self.now.base self.now.objects) }
+    {
+        self.tables.thread_header
+    }
+
+    /// The block of thread-local storage; None without thread-local pieces.
+    pub fn thread_block(&self) -> Option<TlsBlock>
+        ensures placed { result ≡ thread_block (own_placed self.now.base self.now.objects) }
+        ensures listed { AreLawfulKinds self.now.objects → result ≡ thread_block (own_in_load_order self.now.base self.now.objects) }
+    {
+        self.tables.thread_header.map(|h| block_of(&h))
     }
 
     /// The address of a section of an object, by their numbers, or of a common block by its own; None where it isn't

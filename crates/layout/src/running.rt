@@ -2,6 +2,7 @@
 ghost use Rattle.std.specs.Prelude.{◌≡◌, ◌+◌, ◌<◌, ◌≤◌, ◌^◌, ◌++◌, All, IfErr, IfOk, IfSome, OnOk, SomeIff, max};
 ghost use Rattle.elf_model.specs.OwnLayout as own;
 ghost use Rattle.elf_model.specs.OwnLayout.{place_at, placed_end, placed_from};
+ghost use Rattle.elf_model.specs.Placement.{round_up};
 ghost use Rattle.layout.specs.Limits.{AreInLimit, HasSmallAlignment, IsInLimit, RunFails};
 ghost use Rattle.layout.specs.Views.{piece_view, piece_views};
 ghost use Rattle.layout.specs.PlaceViews.{place_view, place_views};
@@ -23,8 +24,9 @@ pub const ADDRESS_LIMIT: u64 = 1 << 46;
 pub fn round_up(align: u64, address: u64) -> u64
     requires some { 0 < align }
     requires fits { address + align < 2 ^ 64 }
-    ensures multiple { result ≡ own.round_up align address }
+    ensures multiple { result ≡ round_up align address }
     ensures above { address ≤ result }
+    ensures below { result < address + align }
 {
     (address + (align - 1)) / align * align
 }
@@ -44,7 +46,7 @@ pub fn page_up(address: u64) -> u64
 
 /// Where a piece stands that comes next at an address. None where it would end past the limit.
 fn address_of(address: u64, piece: &Piece<'_>) -> Option<u64>
-    requires low { address ≤ 2 ^ 46 }
+    requires low { address ≤ 2 ^ 47 }
     requires aligned { HasSmallAlignment (piece_view piece.now) }
     ensures place { SomeIff result (IsInLimit (place_at address (piece_view piece.now))) (place_at address (piece_view piece.now)).at }
     ensures above { IfSome result (λ at. address ≤ at) }
@@ -63,12 +65,12 @@ pub fn place_run<'a>(
     pieces: &[Piece<'a>],
     from: u64,
 ) -> Result<u64, LayoutFault>
-    requires low { from ≤ 2 ^ 46 }
+    requires low { from ≤ 2 ^ 47 }
     requires aligned { All HasSmallAlignment (piece_views pieces.now) }
     ensures placed { OnOk result (place_views out.new.items ≡ place_views out.old.items ++ placed_from from (piece_views pieces.now)) }
     ensures end { IfOk result (λ end. end ≡ own.end_of from (piece_views pieces.now)) }
     ensures above { IfOk result (λ end. from ≤ end) }
-    ensures low { IfOk result (λ end. end ≤ 2 ^ 46) }
+    ensures low { IfOk result (λ end. end ≤ max from (2 ^ 46)) }
     ensures limit { OnOk result (AreInLimit (placed_from from (piece_views pieces.now))) }
     ensures fault { IfErr result (RunFails (placed_from from (piece_views pieces.now))) }
 {

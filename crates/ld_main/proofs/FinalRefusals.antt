@@ -1,8 +1,9 @@
 -- The cause of a final refusal denies a clause of every right link.
 use Rattle.std.proofs.Common.{◌≡◌, ℕ, ◌*◌, ◌⊎◌, inl, inr, Bool, true, false, cond, List, [], ◌∷◌, ◌++◌, ◌+◌, refl, sym, ◌∙◌, ap, subst, arith}
-use Rattle.std.specs.Prelude.{All, AllPairs, Any, Contains, Err, IfErr, IfSome, IsSome, None, Ok, Option, Result, Some, map, option_map, pos, unwrap_or, ◌+ℤ◌}
-use Rattle.std.proofs.lemmas.Bool.{false≢true}
+use Rattle.std.specs.Prelude.{All, AllPairs, Any, Contains, Err, IfErr, IfSome, IsSome, None, Ok, Option, Result, Some, filter, map, option_map, pos, unwrap_or, ◌+ℤ◌}
+use Rattle.std.proofs.lemmas.Bool.{and_parts, false≢true}
 use Rattle.std.proofs.lemmas.List.Elements.{All-append, All-cons, All-contains, All-head, All-map, All-nil, All-tail, Contains-append_cases, Contains-append_left, Contains-append_right}
+use Rattle.elf_model.specs.ArrayOrder.{placed_in_array_order}
 use Rattle.elf_model.specs.ArchiveFile.{IsArchive}
 use Rattle.elf_model.specs.Causes.{Cause, HasArchives, HasBadGroups, IsBadArchive, IsBadObject, IsToDropped, IsToMixed, IsUndefinedName, IsWithoutIndex, Reaches}
 use Rattle.elf_model.specs.Command.{Plan, command_of}
@@ -15,9 +16,8 @@ use Rattle.elf_model.specs.ObjectFile.{IsObject, ObjFaultStands, groups}
 use Rattle.elf_model.specs.Opening.{AreFilesThere, lacks_index, opened}
 use Rattle.elf_model.specs.Meaning.{Common, Linker, Meaning, Symbol, meaning_value}
 use Rattle.elf_model.specs.OwnLayout.{own_where}
-use Rattle.elf_model.specs.Pieces.{AreLawfulKinds, Piece, kept_sections}
-use Rattle.elf_model.specs.Placement.{IsPlaced, IsWithin, Placed, Where, got_things, headers_thing, is_of_section, placed_block, placed_blocks, placed_by, symbol_value, thing_of}
-use Rattle.elf_model.specs.Profile.{IsInProfile}
+use Rattle.elf_model.specs.Pieces.{AreLawfulKinds, Piece, is_nobits, is_thread_piece, is_thread_zero, kept_sections, load_size}
+use Rattle.elf_model.specs.Placement.{IsPlaced, IsWithin, Placed, Where, got_things, headers_thing, is_of_section, is_thread_place, placed_block, placed_blocks, placed_by, range_of, symbol_value, thing_of, thread_ranges}
 use Rattle.elf_model.specs.Relocation.{AreFieldsApart, Formula, IsFieldInside, IsInRange, IsLawfulRelocation, IsThreadMismatch, Kind, Relocation, S+A, Z+A, definition_of, modulo_64, relocation_kind, relocations, whole_value}
 use Rattle.elf_model.specs.RelocationValues.{Fits, terms_of, value_of}
 use Rattle.elf_model.specs.Resolution.{AreSoundCommons, AreSoundSymbols, IsDuplicate, IsEntry, SymbolOf, is_absolute}
@@ -29,7 +29,7 @@ use Rattle.elf_model.specs.declared.faults.LinkError.TheVariants as error
 use Rattle.elf_model.specs.declared.faults.ObjFault.{ObjFault}
 use Rattle.elf_model.proofs.Finding.{find-none}
 use Rattle.elf_model.proofs.Places.{at_own_address}
-use Rattle.elf_model.proofs.Listed.{All-parts, All-unmap, Contains-cons_cases, Contains-from_map, Contains-here, Contains-map, Contains-nil, Contains-there}
+use Rattle.elf_model.proofs.Listed.{All-parts, All-unmap, Contains-cons_cases, Contains-filter, Contains-from_map, Contains-here, Contains-map, Contains-nil, Contains-there}
 use Rattle.command.proofs.Found.{same_ok}
 use Rattle.ar_index.proofs.Steps as archive_faults
 use Rattle.comdat.proofs.GroupFaultLemmas as group_faults
@@ -150,7 +150,7 @@ module _ (files : List File) (words : List (List ℕ)) (image text : List ℕ) (
   listed : AreSectionsListed subject
   listed = l.before_last.0.0.0.0.0.0.0.0.0.1
 
-  placed : IsPlaced l.plan.base (things_of subject) (sections_of subject)
+  placed : IsPlaced l.plan.base (things_of subject) (thread_ranges (placed_of subject)) (placed_in_array_order (sections_of subject))
   placed = l.before_last.0.0.0.0.0.0.0.1
 
   referred : AreRelocationsRight subject
@@ -176,10 +176,7 @@ module _ (files : List File) (words : List (List ℕ)) (image text : List ℕ) (
   too_wide q there wide =
       let place = somewhere (Contains-append_cases (kept_sections objects) (block_pieces objects) q there) in
       let here : Placed = record { at = place.0; piece = q } in
-      let within = All-contains (IsWithin l.plan.base) (things_of subject) (thing_of here) placed.within (thing_there here place.1) in
-      let low = within.0 in
-      let high = within.1 in
-      omega (arith, low, high, wide)
+      bounded here place.1 (is_thread_zero q) refl refl
     where
       ofs : List Placed
       ofs = placed_blocks l.map.commons (blocks objects)
@@ -201,6 +198,24 @@ module _ (files : List File) (words : List (List ℕ)) (image text : List ℕ) (
       thing_there h c =
           Contains-there (headers_thing image) (got_things l.map.got ++ map thing_of (placed_of subject)) (thing_of h)
           (Contains-append_right (got_things l.map.got) (map thing_of (placed_of subject)) (thing_of h) (Contains-map thing_of (placed_of subject) h c))
+
+      -- of a thread-local piece without bytes the range is bounded, of another one its memory
+      bounded : (h : Placed) → Contains (placed_of subject) h → (b : Bool) → is_thread_zero h.piece ≡ b → h.piece ≡ q → ⊥
+      bounded h c true bare same =
+          let t = (and_parts (is_thread_piece h.piece) (is_nobits h.piece.header) bare).0 in
+          let within = All-contains (IsWithin l.plan.base) (thread_ranges (placed_of subject)) (range_of h) placed.threads_within
+          (Contains-map range_of (filter is_thread_place (placed_of subject)) h (Contains-filter is_thread_place (placed_of subject) h c t)) in
+          let size = ap (λ (p : Piece). p.size) same in
+          let low = within.0 in
+          let high = within.1 in
+          omega (arith, low, high, wide, size)
+      bounded h c false whole same =
+          let within = All-contains (IsWithin l.plan.base) (things_of subject) (thing_of h) placed.within (thing_there h c) in
+          let full : load_size h.piece ≡ h.piece.size = ap (λ b. cond b 0 h.piece.size) whole in
+          let size = ap (λ (p : Piece). p.size) same in
+          let low = within.0 in
+          let high = within.1 in
+          omega (arith, low, high, wide, full, size)
 
   -- what makes BadObject: an object item, or an object that loading reaches
   abbrev BadlyLoaded : ObjFault → Plan → Type 0
@@ -237,31 +252,30 @@ module _ (files : List File) (words : List (List ℕ)) (image text : List ℕ) (
       let reach = of_plan (λ p. Reaches (loaded_objects files p) (HasBadGroups fault)) c.0 c.1.before.words_are c.3 in
       let o = reach.reached in
       c.2 (group_faults.only (groups o.bytes) fault (All-contains (λ x. AreLawfulGroups (groups x.bytes)) objects o loaded.groups (reached_there reach)) reach.stands.1)
-  deny error.NotYet c f = of_plan (λ p. ¬ IsInProfile (loaded_objects files p)) c.0 c.1.before.before.words_are c.2 loaded.profile
-  deny error.SectionKind c f = of_plan (λ p. ¬ AreLawfulKinds (loaded_objects files p)) c.0 c.1.before.before.before.words_are c.2 listed.kinds
+  deny error.SectionKind c f = of_plan (λ p. ¬ AreLawfulKinds (loaded_objects files p)) c.0 c.1.before.before.words_are c.2 listed.kinds
   deny (error.Duplicate name) c f =
-      let twice = of_plan (λ p. IsDuplicate (loaded_objects files p) name.items) c.0 c.1.before.before.before.words_are c.2 in
+      let twice = of_plan (λ p. IsDuplicate (loaded_objects files p) name.items) c.0 c.1.before.before.words_are c.2 in
       let once = l.last.unique name.items in
       omega (arith, twice, once)
-  deny error.BadCommon c f = of_plan (λ p. ¬ AreSoundCommons (loaded_objects files p)) c.0 c.1.before.before.before.words_are c.2 listed.sound
-  deny error.BadSymbol c f = of_plan (λ p. ¬ AreSoundSymbols (loaded_objects files p)) c.0 c.1.before.before.before.words_are c.2 l.last.sound
+  deny error.BadCommon c f = of_plan (λ p. ¬ AreSoundCommons (loaded_objects files p)) c.0 c.1.before.before.words_are c.2 listed.sound
+  deny error.BadSymbol c f = of_plan (λ p. ¬ AreSoundSymbols (loaded_objects files p)) c.0 c.1.before.before.words_are c.2 l.last.sound
   deny (error.Undefined name) c f =
-      deny_relocation (IsUndefinedName name.items) c.0 c.1.before.before.before.before.words_are c.2 (λ r stands lawful. lawful.defined stands.1)
+      deny_relocation (IsUndefinedName name.items) c.0 c.1.before.before.before.words_are c.2 (λ r stands lawful. lawful.defined stands.1)
   deny error.RefToDropped c f =
-      deny_relocation IsToDropped c.0 c.1.before.before.before.before.words_are c.2 (λ r stands lawful. lawful.kept stands.1)
+      deny_relocation IsToDropped c.0 c.1.before.before.before.words_are c.2 (λ r stands lawful. lawful.kept stands.1)
   deny error.RelocKind c f =
-      deny_relocation (λ os r. relocation_kind r ≡ None) c.0 c.1.before.before.before.before.words_are c.2
+      deny_relocation (λ os r. relocation_kind r ≡ None) c.0 c.1.before.before.before.words_are c.2
       (λ r stands lawful. false≢true (subst IsSome stands lawful.known))
   deny error.FieldOutside c f =
-      deny_relocation (λ os r. ¬ IsFieldInside r) c.0 c.1.before.before.before.before.words_are c.2 (λ r stands lawful. stands lawful.inside)
+      deny_relocation (λ os r. ¬ IsFieldInside r) c.0 c.1.before.before.before.words_are c.2 (λ r stands lawful. stands lawful.inside)
   deny error.OverlappingFields c f =
-      of_plan (λ p. ¬ AllPairs AreFieldsApart (relocations (loaded_objects files p))) c.0 c.1.before.before.before.before.words_are c.2 referred.lawful.apart
+      of_plan (λ p. ¬ AllPairs AreFieldsApart (relocations (loaded_objects files p))) c.0 c.1.before.before.before.words_are c.2 referred.lawful.apart
   deny error.TlsMismatch c f =
-      deny_relocation IsThreadMismatch c.0 c.1.before.before.before.before.words_are c.2 (λ r stands lawful. lawful.thread stands)
+      deny_relocation IsThreadMismatch c.0 c.1.before.before.before.words_are c.2 (λ r stands lawful. lawful.thread stands)
   deny error.MixedSection c f =
-      deny_relocation IsToMixed c.0 c.1.before.before.before.before.words_are c.2 (λ r stands lawful. lawful.unmixed stands.1)
+      deny_relocation IsToMixed c.0 c.1.before.before.before.words_are c.2 (λ r stands lawful. lawful.unmixed stands.1)
   deny error.NoEntry c f =
-      of_plan (λ p. ¬ IsEntry (loaded_objects files p) p.entry) c.0 c.1.before.before.before.before.words_are c.2 enters.0
+      of_plan (λ p. ¬ IsEntry (loaded_objects files p) p.entry) c.0 c.1.before.before.before.words_are c.2 enters.0
   deny error.TooLarge c f =
       let wide : Any (IsTooWide l.plan.base) (pieces objects) = of_plan (λ p. Any (IsTooWide p.base) (pieces (loaded_objects files p))) f.0 f.1 f.2 in
       too_wide wide.1 (wide.0, wide.2, wide.3) wide.4

@@ -1,14 +1,13 @@
 -- From what linking the loaded objects makes to a right link, and from its refusals to causes.
 use Rattle.std.proofs.Common.{◌≡◌, ℕ, ◌<◌, ◌^◌, inr, List, refl, sym, ◌∙◌, ap, subst}
 use Rattle.std.specs.Prelude.{IfOk, Ok, Err, Result}
-use Rattle.elf_model.specs.Causes.{Cause, HasArchives, IsLaidOut, IsLinkable, IsReferred, IsResolved, IsTaken, Reaches}
+use Rattle.elf_model.specs.Causes.{Cause, HasArchives, HasObjects, IsLaidOut, IsLinkable, IsReferred, IsResolved, Reaches}
 use Rattle.elf_model.specs.Command.{Plan, command_of}
 use Rattle.elf_model.specs.Files.{File}
 use Rattle.elf_model.specs.ImageFile.{IsOwnMap, image_file, own_entry}
 use Rattle.elf_model.specs.Loading.{AreObjects, HaveLawfulGroups, LoadedObject, loaded_objects}
 use Rattle.elf_model.specs.MapText as map_text
 use Rattle.elf_model.specs.Opening.{AreArchives, AreFilesThere, HaveIndexes, opened}
-use Rattle.elf_model.specs.Profile.{IsInProfile}
 use Rattle.elf_model.specs.RightLink.{IsRightLink}
 use Rattle.elf_model.specs.declared.faults.LinkError.{LinkError}
 use Rattle.elf_model.specs.declared.faults.LinkError.TheVariants as error
@@ -99,15 +98,12 @@ right files words l i image text image_is t =
     subst (λ (j : List ℕ). IsRightLink files words j text) (sym o.bytes.image_is)
     (subst (λ (u : List ℕ). IsRightLink files words (image_file l.plan.base (loaded_objects files l.plan) l.plan.entry) u) (sym o.bytes.spelled) r)
 
-module _ (files : List File) (words : List (List ℕ)) (p : Plan) (objects : List LoadedObject) (are : objects ≡ loaded_objects files p) (plan_is : command_of words ≡ Ok p) (there : AreFilesThere files p) (archives : AreArchives (opened files p)) (indexes : HaveIndexes (opened files p)) (good : AreObjects (loaded_objects files p)) (groups : HaveLawfulGroups (loaded_objects files p)) (profile : IsInProfile objects) where
-  taken : IsTaken files words p
+module _ (files : List File) (words : List (List ℕ)) (p : Plan) (objects : List LoadedObject) (are : objects ≡ loaded_objects files p) (plan_is : command_of words ≡ Ok p) (there : AreFilesThere files p) (archives : AreArchives (opened files p)) (indexes : HaveIndexes (opened files p)) (good : AreObjects (loaded_objects files p)) (groups : HaveLawfulGroups (loaded_objects files p)) where
+  taken : HasObjects files words p
   taken = record {
-    before = record {
-      before = record { before = record { words_are = plan_is; files_are = there }; archives = archives; indexes = indexes };
-      objects = good;
-      groups = groups;
-    };
-    profile = subst IsInProfile are profile;
+    before = record { before = record { words_are = plan_is; files_are = there }; archives = archives; indexes = indexes };
+    objects = good;
+    groups = groups;
   }
 
   resolved : AreResolved (loaded_objects files p) → IsResolved files words p

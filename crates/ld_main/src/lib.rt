@@ -6,7 +6,6 @@ mod linkage;
 mod linking;
 mod listing;
 mod own_map;
-mod profile;
 mod program;
 mod refusals;
 mod slot_lines;

@@ -24,7 +24,6 @@ ghost use Rattle.ld_main.specs.Program.{LinksRight};
 
 use crate::listing::listed;
 use crate::own_map::{map_of_layout, meaning_value};
-use crate::profile::is_in_profile;
 use crate::refusals::{command_error, layout_error, reloc_error, resolve_error, search_error};
 use crate::spelling::show_spellings;
 use command::{Plan, read_words};
@@ -199,7 +198,7 @@ fn parts_of<'a>(
     }
 }
 
-/// Resolves, lays out and judges objects of the profile.
+/// Resolves, lays out and judges loaded objects.
 fn prepare_objects<'a, T: NameTable<'a> + Drop>(
     alloc: Global,
     plan: &Plan<'_>,
@@ -248,9 +247,6 @@ pub fn prepare_over<'a, T: NameTable<'a> + Drop>(
         Ok(objects) => objects,
         Err(fault) => return Err(search_error(fault)),
     };
-    if !is_in_profile(&objects) {
-        return Err(LinkError::NotYet);
-    }
     match prepare_objects(alloc, &plan, &objects, table) {
         Ok(parts) => Ok(Linkage {
             plan,
@@ -266,12 +262,11 @@ pub fn prepare_over<'a, T: NameTable<'a> + Drop>(
 /// # Errors
 ///
 /// A fault of the first phase that has one: the words (Command), the files (FileMissing), the objects
-/// (BadObject, BadArchive, NoIndex, BadGroup), this profile's limits (NotYet), kinds of sections and names
-/// (SectionKind, BadCommon, BadSymbol, Duplicate), references (RelocKind, Undefined, RefToDropped, TlsMismatch,
-/// MixedSection, FieldOutside, OverlappingFields, NoEntry), the layout (TooLarge), values (Overflow). Memory where
-/// memory is refused. Where one is answered other than Memory, TooLarge and Overflow, no image and no map at all
-/// are a right link of these files and words (for NotYet, since a right link is one inside the profile). The same is
-/// said of TooLarge where one section or common block alone takes up more than all addresses from the base on, and of
+/// (BadObject, BadArchive, NoIndex, BadGroup), kinds of sections and names (SectionKind, BadCommon, BadSymbol,
+/// Duplicate), references (RelocKind, Undefined, RefToDropped, TlsMismatch, MixedSection, FieldOutside,
+/// OverlappingFields, NoEntry), the layout (TooLarge), values (Overflow). Memory where memory is refused. Where one
+/// is answered other than Memory, TooLarge and Overflow, no image and no map at all are a right link of these files
+/// and words. The same is said of TooLarge where one section or common block alone takes up more than all addresses from the base on, and of
 /// Overflow where the value that doesn't fit is `Z+A`, or `S+A` of an absolute definition, of one in a section that
 /// isn't kept, or of none.
 pub fn prepare<'a>(

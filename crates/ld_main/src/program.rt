@@ -369,7 +369,7 @@ fn run<'a, R: Files + AllocGlobal>(rt: &R, words: &'a [String]) -> Result<Outcom
 /// - 4: memory can't be had.
 ///
 /// Where nothing is written or checked, `err` has one line: `ld: ` and the error's name and number, as
-/// `ld: NotYet (22)`; behind that `: ` and the name and number of the fault of the words or of an object,
+/// `ld: NoEntry (18)`; behind that `: ` and the name and number of the fault of the words or of an object,
 /// or a symbol's name, spelled as in a map; or `ld: cannot read PATH` or `ld: cannot write PATH`.
 pub fn run_ld<R: Files + AllocGlobal, O: Write, E: Write>(
     rt: &R,

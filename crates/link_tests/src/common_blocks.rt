@@ -365,7 +365,7 @@ static SOUNDNESS: [(u8, u64, &str); 10] = [
     (0x11, 24, "BadCommon (17)"),
     (0x11, 1 << 22, "BadCommon (17)"),
     (0x11, u64::MAX, "BadCommon (17)"),
-    (0x16, 8, "NotYet (22)"),
+    (0x16, 8, "BadCommon (17)"),
 ];
 
 /// What the link of an object with a common symbol, which stands before `_start`, answers.

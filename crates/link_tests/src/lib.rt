@@ -14,6 +14,8 @@ mod groups;
 #[cfg(test)]
 mod linker_names;
 #[cfg(test)]
+mod numbered_arrays;
+#[cfg(test)]
 mod objects;
 #[cfg(test)]
 mod one_object;
@@ -25,6 +27,8 @@ mod program;
 mod several_objects;
 #[cfg(test)]
 mod tables;
+#[cfg(test)]
+mod thread_local;
 #[cfg(test)]
 mod vectors;
 #[cfg(test)]

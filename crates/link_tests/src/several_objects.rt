@@ -317,9 +317,9 @@ fn refuses_fields(rt: HostRuntime) -> Result<(), Fail> {
 fn refuses_relocations(rt: HostRuntime) -> Result<(), Fail> {
     let unknown = link_text(rt.alloc(), &[in_text(0, 5, 2, 0)])?;
     assert!(rt; matches!(&unknown, Err(LinkError::RelocKind)));
-    // TPOFF32.
-    let later = link_text(rt.alloc(), &[in_text(0, 23, 2, 0)])?;
-    assert!(rt; matches!(&later, Err(LinkError::NotYet)));
+    // TLSGD.
+    let left_out = link_text(rt.alloc(), &[in_text(0, 19, 2, 0)])?;
+    assert!(rt; matches!(&left_out, Err(LinkError::RelocKind)));
     Ok(())
 }
 

@@ -6,7 +6,7 @@ use Rattle.std.proofs.lemmas.List.{get_or-append_right, length-append}
 use Rattle.std.proofs.lemmas.List.Elements.{All-append, All-cons, All-contains, All-nil, All-weaker}
 use Rattle.std.proofs.lemmas.List.FromFn.{get_or-map-range_with_len, length-map-range_with_len}
 use Rattle.elf_model.specs.ImageFile.{own_file_header, stack_header}
-use Rattle.elf_model.specs.MemoryImage.{program_headers}
+use Rattle.elf_model.specs.MemoryImage.{IsGoodThreadBlock, program_headers}
 use Rattle.elf_model.specs.OwnLayout.{file_end}
 use Rattle.elf_model.specs.Records.{file_header, file_header_bytes, program_header_bytes, FitsFileHeader, FitsProgramHeader}
 use Rattle.elf_model.specs.declared.records.FileHeader.{FileHeader}
@@ -16,21 +16,36 @@ use Rattle.own_link.proofs.HeaderTable.{headed, headed-header, headed-table, len
 use Rattle.elf_model.proofs.Listed.{Contains-here}
 use Rattle.own_link.proofs.SegmentHeaders.{AreOwnSegments, IsGoodSegment}
 
--- headers of segments, PT_GNU_STACK's, and the byte of each address up to the file's end
-abbrev pub made_headers : ℕ → ℕ → List ProgramHeader → List ℕ
-made_headers entry count hs =
-    file_header_bytes (own_file_header entry count) ++ flat_map program_header_bytes (hs ++ stack_header ∷ [])
+-- what is known of the headers of thread blocks, of which there is at most one
+pub record IsThreadHeader (base : ℕ) (h : ProgramHeader) : Type 0 where
+  pub type_ : h.p_type ≡ 7
+  pub good : IsGoodThreadBlock base h
+  pub small : h.p_align < 2 ^ 64
 
-abbrev pub made_image : ℕ → ℕ → ℕ → ℕ → List ProgramHeader → (ℕ → ℕ) → List ℕ
-made_image entry count base size hs byte =
-    made_headers entry count hs ++ map (λ i. byte (base + i)) (range_with_len size (file_end hs - size))
+pub record AreThreadHeaders (base : ℕ) (ts : List ProgramHeader) : Type 0 where
+  pub each : All (IsThreadHeader base) ts
+  pub few : length ts ≤ 1
+
+-- headers of segments and of thread blocks, PT_GNU_STACK's, and the byte of each address up to the file's end
+abbrev pub table_of : List ProgramHeader → List ProgramHeader → List ProgramHeader
+table_of hs ts = hs ++ (ts ++ stack_header ∷ [])
+
+abbrev pub made_headers : ℕ → ℕ → List ProgramHeader → List ProgramHeader → List ℕ
+made_headers entry count hs ts =
+    file_header_bytes (own_file_header entry count) ++ flat_map program_header_bytes (table_of hs ts)
+
+abbrev pub made_image : ℕ → ℕ → ℕ → ℕ → List ProgramHeader → List ProgramHeader → (ℕ → ℕ) → List ℕ
+made_image entry count base size hs ts byte =
+    made_headers entry count hs ts ++ map (λ i. byte (base + i)) (range_with_len size (file_end hs - size))
 
 -- what is read of such an image
 pub record IsOwnFile (image : List ℕ) (entry count base size : ℕ) (hs : List ProgramHeader) (byte : ℕ → ℕ) : Type 0 where
-  pub counted : count ≡ length hs + 1
+  pub threads : List ProgramHeader
+  pub threads_are : AreThreadHeaders base threads
+  pub counted : count ≡ length hs + (length threads + 1)
   pub size_is : size ≡ 64 + 56 * count
   pub header : file_header image ≡ own_file_header entry count
-  pub table : program_headers image ≡ hs ++ stack_header ∷ []
+  pub table : program_headers image ≡ table_of hs threads
   pub len : length image ≡ file_end hs
   pub long : size ≤ file_end hs
   pub bytes : (i : ℕ) → size ≤ i → i < file_end hs → slice_index image i ≡ byte (base + i)
@@ -65,6 +80,24 @@ fits_segment base h g = record {
   p_align = omega (arith, g.align);
 }
 
+fits_threads : (base : ℕ) (h : ProgramHeader) → IsThreadHeader base h → FitsProgramHeader h
+fits_threads base h t =
+    let g = t.good in
+    let e = g.end in
+    let f = g.file_in_memory in
+    let o = g.offset in
+    let p = g.physical in
+    record {
+      p_type = omega (arith, t.type_);
+      p_flags = omega (arith, g.rights);
+      p_offset = omega (arith, e, o);
+      p_vaddr = omega (arith, e);
+      p_paddr = omega (arith, e, p);
+      p_filesz = omega (arith, e, f);
+      p_memsz = omega (arith, e);
+      p_align = t.small;
+    }
+
 fits_stack : FitsProgramHeader stack_header
 fits_stack = record {
   p_type = omega arith;
@@ -93,34 +126,40 @@ module _ (base size : ℕ) (hs : List ProgramHeader) (own : AreOwnSegments base 
       omega (arith, b, h)
 
 pub made_is_own :
-    (entry count base size : ℕ) (hs : List ProgramHeader) (byte : ℕ → ℕ) → AreOwnSegments base size hs →
-    count ≡ length hs + 1 → size ≡ 64 + 56 * count → entry < 2 ^ 64 → count < 2 ^ 16 →
-    IsOwnFile (made_image entry count base size hs byte) entry count base size hs byte
-made_is_own entry count base size hs byte own counted sized e c =
-    let table = hs ++ stack_header ∷ [] in
+    (entry count base size : ℕ) (hs ts : List ProgramHeader) (byte : ℕ → ℕ) → AreOwnSegments base size hs → AreThreadHeaders base ts →
+    count ≡ length hs + (length ts + 1) → size ≡ 64 + 56 * count → entry < 2 ^ 64 → count < 2 ^ 16 →
+    (file : IsOwnFile (made_image entry count base size hs ts byte) entry count base size hs byte) × (file.threads ≡ ts)
+made_is_own entry count base size hs ts byte own blocks counted sized e c =
+    let table : List ProgramHeader = table_of hs ts in
     let h : FileHeader = own_file_header entry count in
     let fh = fits_header entry count e c in
     let body : List ℕ = map (λ i. byte (base + i)) (range_with_len size (file_end hs - size)) in
-    let fit : All FitsProgramHeader (hs ++ stack_header ∷ []) =
-    All-append FitsProgramHeader hs (stack_header ∷ []) (All-weaker (IsGoodSegment base) FitsProgramHeader (fits_segment base) hs own.each)
-    (All-cons FitsProgramHeader stack_header [] fits_stack (All-nil FitsProgramHeader)) in
-    let longer : length (hs ++ stack_header ∷ []) ≡ length hs + 1 = length-append hs (stack_header ∷ []) in
-    let whole : made_image entry count base size hs byte ≡ headed h (hs ++ stack_header ∷ []) body =
-    append_assoc (file_header_bytes h) (flat_map program_header_bytes (hs ++ stack_header ∷ [])) body in
-    let front : length (made_headers entry count hs) ≡ size =
-    length-headers h (hs ++ stack_header ∷ []) refl ∙ omega (arith, longer, counted, sized) in
-    let long = file_end-long base size hs own (omega (arith, sized)) in
-    record {
-      counted = counted;
-      size_is = sized;
-      header = ap file_header whole ∙ headed-header h (hs ++ stack_header ∷ []) body fh;
-      table = ap program_headers whole ∙ headed-table h (hs ++ stack_header ∷ []) body fh fit (counted ∙ sym longer);
-      len =
-          length-append (made_headers entry count hs) body
-          ∙ omega (arith, front, long, length-map-range_with_len (λ i. byte (base + i)) size (file_end hs - size));
-      long = long;
-      bytes = λ i low high.
-          get_or-append_right (made_headers entry count hs) body size i 0 front low
-          ∙ get_or-map-range_with_len (λ k. byte (base + k)) size (file_end hs - size) (i - size) i 0
-          (omega (arith, low, high)) (omega (arith, low));
-    }
+    let fit : All FitsProgramHeader table =
+    All-append FitsProgramHeader hs (ts ++ stack_header ∷ []) (All-weaker (IsGoodSegment base) FitsProgramHeader (fits_segment base) hs own.each)
+    (All-append FitsProgramHeader ts (stack_header ∷ []) (All-weaker (IsThreadHeader base) FitsProgramHeader (fits_threads base) ts blocks.each)
+    (All-cons FitsProgramHeader stack_header [] fits_stack (All-nil FitsProgramHeader))) in
+    let longer : length table ≡ length hs + (length ts + 1) =
+    length-append hs (ts ++ stack_header ∷ []) ∙ ap (λ (n : ℕ). length hs + n) (length-append ts (stack_header ∷ [])) in
+    let whole : made_image entry count base size hs ts byte ≡ headed h table body =
+    append_assoc (file_header_bytes h) (flat_map program_header_bytes table) body in
+    let front : length (made_headers entry count hs ts) ≡ size =
+    length-headers h table refl ∙ omega (arith, longer, counted, sized) in
+    let long = file_end-long base size hs own (omega (arith, sized)) in (
+      record {
+        threads = ts;
+        threads_are = blocks;
+        counted = counted;
+        size_is = sized;
+        header = ap file_header whole ∙ headed-header h table body fh;
+        table = ap program_headers whole ∙ headed-table h table body fh fit (counted ∙ sym longer);
+        len =
+            length-append (made_headers entry count hs ts) body
+            ∙ omega (arith, front, long, length-map-range_with_len (λ i. byte (base + i)) size (file_end hs - size));
+        long = long;
+        bytes = λ i low high.
+            get_or-append_right (made_headers entry count hs ts) body size i 0 front low
+            ∙ get_or-map-range_with_len (λ k. byte (base + k)) size (file_end hs - size) (i - size) i 0
+            (omega (arith, low, high)) (omega (arith, low));
+      },
+      refl,
+    )

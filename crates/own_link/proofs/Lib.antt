@@ -14,6 +14,9 @@ pub mod SegmentsOwn
 pub mod SegmentEnds
 pub mod Nothing
 pub mod ZeroFilled
+pub mod LoadedThings
+pub mod ThreadBlock
+pub mod ThreadHeaders
 pub mod ImageOwn
 pub mod OwnGot
 mod SlotLaws

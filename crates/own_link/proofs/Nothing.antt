@@ -7,7 +7,7 @@ use Rattle.std.proofs.lemmas.List.Elements.{All-contains, All-head, All-tail}
 use Rattle.elf_model.specs.ImageFile.{covers_address}
 use Rattle.elf_model.specs.MemoryImage.{Cell, loads, maps, segment_byte}
 use Rattle.elf_model.specs.OwnLayout.{file_end, placed_end, placed_has_bytes}
-use Rattle.elf_model.specs.Placement.{Covers, Placed, thing_of}
+use Rattle.elf_model.specs.Placement.{Covers, Placed, range_of}
 use Rattle.elf_model.specs.RightLink.{EndsRight, HasNothingElse, IsFilled, IsInFilePart, fill_of}
 use Rattle.elf_model.specs.declared.records.ProgramHeader.{ProgramHeader}
 use Rattle.elf_model.specs.declared.thing.Thing.{Thing}
@@ -36,12 +36,12 @@ module _ (base size : ℕ) (parts : List Part) (good : AreGoodParts base size pa
       by (inl inside) = absurd (out (low, inside))
       by (inr behind) = behind
 
-  outside_pieces : (a : ℕ) → All (λ t. Covers t a → ⊥) (map thing_of order) → All (λ q. covers_address a q ≡ false) placed
+  outside_pieces : (a : ℕ) → All (λ t. Covers t a → ⊥) (map range_of order) → All (λ q. covers_address a q ≡ false) placed
   outside_pieces a out =
       All-from_contains (λ (q : Placed). covers_address a q ≡ false) placed (λ q c.
       false_from_ne_true (covers_address a q) (λ e.
-      All-contains (λ (t : Thing). Covers t a → ⊥) (map thing_of order) (thing_of q) out
-      (Contains-map thing_of order q (stand.all q c)) (covered a q e)))
+      All-contains (λ (t : Thing). Covers t a → ⊥) (map range_of order) (range_of q) out
+      (Contains-map range_of order q (stand.all q c)) (covered a q e)))
 
   filled_segment :
       (a : ℕ) (h : ProgramHeader) → Contains (segments_of base parts) h → maps h a ≡ true →
@@ -62,11 +62,11 @@ module _ (base size : ℕ) (parts : List Part) (good : AreGoodParts base size pa
       by (inl inside) =
           let o = good_h.offset in
           let low : base ≤ a = omega (arith, bounds, o) in
-          let behind = outside_headers a low (All-head (λ (t : Thing). Covers t a → ⊥) (headers_of base size) (map thing_of order) out) in
+          let behind = outside_headers a low (All-head (λ (t : Thing). Covers t a → ⊥) (headers_of base size) (map range_of order) out) in
           file_byte base size (segments_of base parts) own image entry count (byte_here want (segments_of base parts) placed) file
           a h there bounds.0 inside behind
           ∙ (bare_byte want (segments_of base parts) placed a
-          (outside_pieces a (All-tail (λ (t : Thing). Covers t a → ⊥) (headers_of base size) (map thing_of order) out))
+          (outside_pieces a (All-tail (λ (t : Thing). Covers t a → ⊥) (headers_of base size) (map range_of order) out))
           ∙ fill_in_segment base size (segments_of base parts) own a h there bounds.0 inside)
       by (inr behind) =
           zero_byte base size (segments_of base parts) own image entry count (byte_here want (segments_of base parts) placed) file a h behind

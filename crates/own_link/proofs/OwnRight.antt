@@ -5,7 +5,8 @@ use Rattle.std.specs.Option.{option_and_then}
 use Rattle.std.proofs.lemmas.Bool.{false≢true}
 use Rattle.std.proofs.lemmas.List.{map-append}
 use Rattle.std.proofs.lemmas.List.Elements.{All-head, All-tail}
-use Rattle.elf_model.specs.Causes.{IsLinkable, IsReferred, IsResolved, IsTaken}
+use Rattle.elf_model.specs.ArrayOrder.{placed_in_array_order}
+use Rattle.elf_model.specs.Causes.{HasObjects, IsLinkable, IsReferred, IsResolved}
 use Rattle.elf_model.specs.Command.{IsBase, Plan}
 use Rattle.elf_model.specs.Files.{File}
 use Rattle.elf_model.specs.Commons.{Block, block_named, block_piece, block_pieces, blocks}
@@ -17,11 +18,11 @@ use Rattle.elf_model.specs.Meaning.{Meaning, meaning_value, meant, object_meanin
 use Rattle.elf_model.specs.MemoryImage.{loads}
 use Rattle.elf_model.specs.OwnLayout.{got_line_of, got_piece, own_address, own_in_load_order, own_places, own_segments, own_where}
 use Rattle.elf_model.specs.Pieces.{Piece, kept_sections}
-use Rattle.elf_model.specs.Placement.{HasRights, IsPlaced, Placed, Where, got_things, common_address, headers_thing, is_common_row_of, placed_block, placed_blocks, placed_by, thing_of, things}
+use Rattle.elf_model.specs.Placement.{HasRights, IsPlaced, Placed, Where, got_things, common_address, headers_thing, is_common_row_of, placed_block, placed_blocks, placed_by, thing_of, thread_ranges, things}
 use Rattle.elf_model.specs.Records.{file_header}
 use Rattle.elf_model.specs.RelocationValues.{AllFit}
 use Rattle.elf_model.specs.Resolution.{SymbolOf, chosen, is_in_thread_section}
-use Rattle.elf_model.specs.RightLink.{AreRelocationsRight, AreSectionsListed, AreSymbolsListed, BeforeC10, BeforeC13, BeforeC7, EntersRight, HasLine, HasNothingElse, HasSlot, HoldsGot, HoldsPiece, IsGotRight, IsLoaded, IsRightLink, Subject, facts_of_block, facts_of_common, facts_of_piece, facts_of_row, placed_of, sections_of, where_of, things_of}
+use Rattle.elf_model.specs.RightLink.{AreRelocationsRight, AreSectionsListed, AreSymbolsListed, BeforeC10, BeforeC13, BeforeC7, EntersRight, HasLine, HasNothingElse, HasSlot, HoldsGot, HoldsPiece, IsThreadBlockRight, IsGotRight, IsLoaded, IsRightLink, Subject, facts_of_block, facts_of_common, facts_of_piece, facts_of_row, placed_of, sections_of, where_of, things_of}
 use Rattle.elf_model.specs.Slots.{Request, has_got, is_slot_of, requests, size_with, slots}
 use Rattle.elf_model.specs.declared.link_map.GotLine.{GotLine}
 use Rattle.elf_model.specs.declared.records.ProgramHeader.{ProgramHeader}
@@ -35,6 +36,7 @@ use Rattle.elf_model.proofs.BlockNames.{blocks_named}
 use Rattle.elf_model.proofs.Listing.{chosen_means}
 use Rattle.elf_model.proofs.Places.{are_own_placed}
 use Rattle.own_link.proofs.Rights.{own_has_rights}
+use Rattle.own_link.proofs.ThreadBlock.{own_thread_block}
 
 -- the place lines of pieces at any addresses give these addresses back, and name these pieces
 module _ (at : Piece → ℕ) where
@@ -87,13 +89,13 @@ module _ (files : List File) (words : List (List ℕ)) (p : Plan) (m : MapRecord
   resolved : IsResolved files words p
   resolved = referred.before
 
-  taken : IsTaken files words p
-  taken = resolved.before
+  loading : HasObjects files words p
+  loading = resolved.before
 
   own_image : IsOwnImage p.base objects (own_entry p.base objects p.entry) image
   own_image =
       image_is_own p.base objects resolved.kinds based link.before.not_too_large (are_own_placed p.base objects resolved.kinds)
-      taken.before.objects p.entry small
+      loading.objects p.entry small
 
   -- the pieces stand where the map says, and so do all things
   abbrev own_stand : Piece → Placed
@@ -138,12 +140,11 @@ module _ (files : List File) (words : List (List ℕ)) (p : Plan) (m : MapRecord
   -- the clauses that speak of the map and of the pieces' places
   loaded : IsLoaded subject
   loaded = record {
-    files = taken.before.before.before.files_are;
-    archives = taken.before.before.archives;
-    indexes = taken.before.before.indexes;
-    objects = taken.before.objects;
-    groups = taken.before.groups;
-    profile = taken.profile;
+    files = loading.before.before.files_are;
+    archives = loading.before.archives;
+    indexes = loading.before.indexes;
+    objects = loading.objects;
+    groups = loading.groups;
     rows = own_map.objects_are;
   }
 
@@ -157,11 +158,12 @@ module _ (files : List File) (words : List (List ℕ)) (p : Plan) (m : MapRecord
         ap (option_map facts_of_common) (own_map.commons name) ∙ facts_of_lines p.base objects (block_named objects name);
   }
 
-  placed_right : IsPlaced p.base (things_of subject) (sections_of subject)
+  placed_right : IsPlaced p.base (things_of subject) (thread_ranges (placed_of subject)) (placed_in_array_order (sections_of subject))
   placed_right =
-      subst (λ (ts : List Thing). IsPlaced p.base ts (sections_of subject)) (sym things_are)
-      (subst (IsPlaced p.base (own_things_of p.base objects)) (sym sections_are)
-      (own_is_apart p.base objects resolved.kinds link.before.not_too_large))
+      subst (λ (ts : List Thing). IsPlaced p.base ts (thread_ranges (placed_of subject)) (placed_in_array_order (sections_of subject))) (sym things_are)
+      (subst (λ (qs : List Placed). IsPlaced p.base (own_things_of p.base objects) (thread_ranges qs) (placed_in_array_order (sections_of subject))) (sym placed_is)
+      (subst (λ (qs : List Placed). IsPlaced p.base (own_things_of p.base objects) (thread_ranges placed) (placed_in_array_order qs)) (sym sections_are)
+      (own_is_apart p.base objects resolved.kinds link.before.not_too_large)))
 
   rights_right : HasRights p.base (loads image) (things_of subject) (got_things m.got)
   rights_right =
@@ -202,6 +204,12 @@ module _ (files : List File) (words : List (List ℕ)) (p : Plan) (m : MapRecord
         (subst IsHeld (sym own_map.got) (held_by (has_got objects) refl));
   }
 
+  -- the thread block stands where the thread-local pieces do
+  thread_block_right : IsThreadBlockRight subject
+  thread_block_right =
+      own_thread_block p.base objects resolved.kinds loading.objects link.before.not_too_large subject placed_is own_image.loads_are
+      own_image.thread_blocks_are refl own_map.got
+
   relocations_right : AreRelocationsRight subject
   relocations_right = record {
     lawful = referred.relocations;
@@ -241,7 +249,7 @@ module _ (files : List File) (words : List (List ℕ)) (p : Plan) (m : MapRecord
   before_c7 = ((((loaded, sections_listed), own_image.accepted), placed_right), rights_right)
 
   before_c10 : BeforeC10 subject
-  before_c10 = (((before_c7, got_right), own_image.no_thread_block), relocations_right)
+  before_c10 = (((before_c7, got_right), thread_block_right), relocations_right)
 
   before_c13 : BeforeC13 subject
   before_c13 = (((before_c10, pieces_held), nothing_else), enters)
@@ -250,7 +258,7 @@ module _ (files : List File) (words : List (List ℕ)) (p : Plan) (m : MapRecord
   own_is_right = record {
     plan = p;
     map = m;
-    read = record { plan = taken.before.before.before.words_are; map = is_map; spelled = refl };
+    read = record { plan = loading.before.before.words_are; map = is_map; spelled = refl };
     before_last = before_c13;
     last = symbols_listed;
   }

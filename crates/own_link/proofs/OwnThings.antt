@@ -7,7 +7,7 @@ use Rattle.elf_model.specs.Commons.{pieces}
 use Rattle.elf_model.specs.Loading.{LoadedObject}
 use Rattle.elf_model.specs.OwnLayout.{got_line_of, got_piece, got_pieces, laid_out, own_got, own_headers_size, own_in_load_order, own_laid_out, own_placed, own_places}
 use Rattle.elf_model.specs.Pieces.{AreLawfulKinds, Piece}
-use Rattle.elf_model.specs.Placement.{Placed, got_things, thing_of}
+use Rattle.elf_model.specs.Placement.{Placed, got_things, range_of, thing_of}
 use Rattle.elf_model.specs.Slots.{has_got}
 use Rattle.elf_model.specs.declared.thing.Thing.{Thing}
 use Rattle.elf_model.proofs.Listed.{Contains-from_map, Contains-map}
@@ -18,8 +18,9 @@ use Rattle.elf_model.proofs.Places.{at_own_address, got_listed, own_listed}
 abbrev pub headers_of : ℕ → ℕ → Thing
 headers_of base size = record { at = base; size = size; align = 1; rights = 4; in_file = true }
 
+-- headers of a size, and pieces that memory has a place for
 abbrev pub things_in : ℕ → ℕ → List Placed → List Thing
-things_in base size order = headers_of base size ∷ map thing_of order
+things_in base size order = headers_of base size ∷ map range_of order
 
 -- those of the own layout: the GOT comes before the pieces
 abbrev pub own_headers_at : ℕ → List LoadedObject → Thing
@@ -32,7 +33,7 @@ abbrev pub own_stood : ℕ → List LoadedObject → List Placed
 own_stood base objects = own_places base objects (stood_pieces objects)
 
 abbrev pub own_things_of : ℕ → List LoadedObject → List Thing
-own_things_of base objects = things_in base (own_headers_size objects) (own_stood base objects)
+own_things_of base objects = own_headers_at base objects ∷ map thing_of (own_stood base objects)
 
 -- the GOT is the thing that its line tells
 got_things_by :

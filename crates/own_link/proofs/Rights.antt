@@ -4,23 +4,23 @@ use Rattle.std.proofs.Common.{◌≡◌, ℕ, ◌+◌, ◌<◌, ◌≤◌, ◌�
 use Rattle.std.specs.Prelude.{All, Contains, Some, None}
 use Rattle.std.specs.List.{list_any}
 use Rattle.std.proofs.lemmas.Bool.{and_parts, false_from_ne_true, lt-ltb, not-true, or_left, or_right}
-use Rattle.std.proofs.lemmas.List.Elements.{All-append, All-cons, All-contains, All-map, All-nil, Contains-append_left, Contains-append_right}
+use Rattle.std.proofs.lemmas.List.Elements.{All-append, All-cons, All-contains, All-nil, Contains-append_left, Contains-append_right}
 use Rattle.elf_model.specs.Loading.{LoadedObject}
 use Rattle.elf_model.specs.MemoryImage.{Encloses}
-use Rattle.elf_model.specs.OwnLayout.{any_placed, code_pieces, code_start, data_pieces, data_start, greatest_end, is_code, is_nonempty, is_read_only, laid_out, own_code, own_data, own_placed, own_read_only, own_segments, own_got, got_line_of, got_piece, placed_from, read_only_start, segment, segment_if}
+use Rattle.elf_model.specs.OwnLayout.{any_placed, code_pieces, code_start, data_pieces, data_start, greatest_end, is_code, is_nonempty, is_read_only, laid_out, loaded_start, own_code, own_data, own_loaded, own_read_only, own_segments, own_got, got_line_of, got_piece, placed_from, read_only_start, segment, segment_if}
 use Rattle.elf_model.specs.Pieces.{AreLawfulKinds, IsLawfulKind, Piece, is_executable, is_writable, piece_rights}
-use Rattle.elf_model.specs.Placement.{HasRights, LiesInSegment, Placed, got_things, thing_of}
+use Rattle.elf_model.specs.Placement.{HasRights, LiesInSegment, Placed, got_things, range_of}
 use Rattle.elf_model.specs.Slots.{has_got}
 use Rattle.elf_model.specs.declared.records.ProgramHeader.{ProgramHeader}
 use Rattle.elf_model.specs.declared.thing.Thing.{Thing}
-use Rattle.own_link.proofs.ApartThings.{All-loaded}
+use Rattle.own_link.proofs.LoadedThings.{got_loaded, nonempty_of_all}
 use Rattle.own_link.proofs.Ends.{EndsBelow, greatest_end-from, greatest_end-holds}
-use Rattle.own_link.proofs.OwnGot.{got_nonempty, got_there}
+use Rattle.own_link.proofs.OwnGot.{got_nonempty}
 use Rattle.elf_model.proofs.Finding.{Any-from_contains, Any-here}
 use Rattle.elf_model.proofs.Listed.{All-from_contains, Contains-cons_cases, Contains-here, Contains-map, Contains-nil, Contains-there}
 use Rattle.elf_model.proofs.OwnOrder.{code_not_writable, from_data, laid_out_lawful}
-use Rattle.own_link.proofs.OwnThings.{own_headers_at, own_stood, own_things_of}
-use Rattle.elf_model.proofs.Places.{are_own_placed, at_own_address, got_listed}
+use Rattle.own_link.proofs.OwnThings.{own_headers_at, own_things_of}
+use Rattle.elf_model.proofs.Places.{are_own_placed, at_own_address}
 use Rattle.elf_model.proofs.Running.{placed_pieces}
 
 -- the rights of the pieces of each segment
@@ -40,7 +40,7 @@ data_rights p lawful w =
     rw (x, w) refl
 
 -- a segment encloses each nonempty piece of its own that stands from its start on
-segment_encloses :
+pub segment_encloses :
     (base rights start from : ℕ) (qs : List Placed) (q : Placed) → Contains qs q → start ≤ q.at → 0 < q.piece.size →
     Encloses (segment base rights start from qs) q.at q.piece.size
 segment_encloses base rights start from qs q c low some =
@@ -58,7 +58,7 @@ any_passes {X} t (y ∷ ys) x c e = by (Contains-cons_cases y ys x c) (λ there.
     by (inl same) rest = or_left (t y) (list_any t ys) (ap t same ∙ e)
     by (inr there) rest = or_right (t y) (list_any t ys) (rest there)
 
-segment_there : (x : ℕ) (ps : List Piece) (h : ProgramHeader) (q : Placed) → Contains (placed_from x ps) q → 0 < q.piece.size → Contains (segment_if ps h) h
+pub segment_there : (x : ℕ) (ps : List Piece) (h : ProgramHeader) (q : Placed) → Contains (placed_from x ps) q → 0 < q.piece.size → Contains (segment_if ps h) h
 segment_there x ps h q c some =
     let piece : Contains ps q.piece =
     subst (λ (rs : List Piece). Contains rs q.piece) (placed_pieces x ps) (Contains-map (λ (r : Placed). r.piece) (placed_from x ps) q c) in
@@ -67,21 +67,21 @@ segment_there x ps h q c some =
 
 module _ (base : ℕ) (objects : List LoadedObject) (kinds : AreLawfulKinds objects) where
   -- the three segments
-  abbrev read_only_segment : ProgramHeader
+  abbrev pub read_only_segment : ProgramHeader
   read_only_segment = segment base 4 base (read_only_start base objects) (own_read_only base objects)
 
-  abbrev code_segment : ProgramHeader
+  abbrev pub code_segment : ProgramHeader
   code_segment = segment base 5 (code_start base objects) (code_start base objects) (own_code base objects)
 
-  abbrev data_segment : ProgramHeader
+  abbrev pub data_segment : ProgramHeader
   data_segment = segment base 6 (data_start base objects) (data_start base objects) (own_data base objects)
 
   abbrev LiesRight : Placed → Type 0
-  LiesRight q = 0 < q.piece.size → LiesInSegment (own_segments base objects) (thing_of q)
+  LiesRight q = 0 < q.piece.size → LiesInSegment (own_segments base objects) (range_of q)
 
   in_segment :
       (h : ProgramHeader) (q : Placed) → Contains (own_segments base objects) h → Encloses h q.at q.piece.size →
-      h.p_flags ≡ piece_rights q.piece → LiesInSegment (own_segments base objects) (thing_of q)
+      h.p_flags ≡ piece_rights q.piece → LiesInSegment (own_segments base objects) (range_of q)
   in_segment h q c inside rights =
       Any-from_contains (λ (g : ProgramHeader). Encloses g q.at q.piece.size × (g.p_flags ≡ piece_rights q.piece)) (own_segments base objects) h c (inside, rights)
 
@@ -113,7 +113,7 @@ module _ (base : ℕ) (objects : List LoadedObject) (kinds : AreLawfulKinds obje
   data_lawful : (q : Placed) → Contains (own_data base objects) q → IsLawfulKind q.piece.header
   data_lawful q c =
       let piece : Contains (data_pieces objects) q.piece =
-      subst (λ (rs : List Piece). Contains rs q.piece) (placed_pieces (data_start base objects) (data_pieces objects))
+      subst (λ (rs : List Piece). Contains rs q.piece) (placed_pieces (loaded_start base objects) (data_pieces objects))
       (Contains-map (λ (r : Placed). r.piece) (own_data base objects) q c) in
       All-contains (λ (p : Piece). IsLawfulKind p.header) (laid_out objects) q.piece (laid_out_lawful objects kinds) (from_data objects q.piece piece).0
 
@@ -126,11 +126,11 @@ module _ (base : ℕ) (objects : List LoadedObject) (kinds : AreLawfulKinds obje
       in_segment data_segment q
       (Contains-there read_only_segment (segment_if (code_pieces objects) code_segment ++ segment_if (data_pieces objects) data_segment) data_segment
       (Contains-append_right (segment_if (code_pieces objects) code_segment) (segment_if (data_pieces objects) data_segment) data_segment
-      (segment_there (data_start base objects) (data_pieces objects) data_segment q c some)))
+      (segment_there (loaded_start base objects) (data_pieces objects) data_segment q c some)))
       (segment_encloses base 6 (data_start base objects) (data_start base objects) (own_data base objects) q c here.0 some)
       (sym (data_rights q.piece (data_lawful q c) here.1)))
 
-  own_places_lie : All LiesRight (own_placed base objects)
+  pub own_places_lie : All LiesRight (own_loaded base objects)
   own_places_lie =
       All-append LiesRight (own_read_only base objects) (own_code base objects ++ own_data base objects) read_only_lie
       (All-append LiesRight (own_code base objects) (own_data base objects) code_lie data_lie)
@@ -149,18 +149,18 @@ module _ (base : ℕ) (objects : List LoadedObject) (kinds : AreLawfulKinds obje
   got_lies false none = All-nil (LiesInSegment (own_segments base objects))
   got_lies true there =
       let lies : LiesRight (at_own_address base objects (got_piece objects)) =
-      All-contains LiesRight (own_placed base objects) (at_own_address base objects (got_piece objects)) own_places_lie
-      (got_listed base objects kinds (got_piece objects) (got_there objects there)) in
-      All-cons (LiesInSegment (own_segments base objects)) (thing_of (at_own_address base objects (got_piece objects))) []
+      All-contains LiesRight (own_loaded base objects) (at_own_address base objects (got_piece objects)) own_places_lie
+      (got_loaded base objects kinds there) in
+      All-cons (LiesInSegment (own_segments base objects)) (range_of (at_own_address base objects (got_piece objects))) []
       (lies (got_nonempty objects there)) (All-nil (LiesInSegment (own_segments base objects)))
 
   pub own_has_rights : HasRights base (own_segments base objects) (own_things_of base objects) (got_things (own_got base objects))
   own_has_rights = record {
     first = refl;
     nonempty =
-        All-cons (λ (t : Thing). 0 < t.size → LiesInSegment (own_segments base objects) t) (own_headers_at base objects)
-        (map thing_of (own_stood base objects)) (λ some. headers_lie)
-        (All-map (λ (t : Thing). 0 < t.size → LiesInSegment (own_segments base objects) t) thing_of (own_stood base objects)
-        (All-loaded base objects kinds LiesRight own_places_lie));
+        nonempty_of_all base objects kinds (LiesInSegment (own_segments base objects))
+        (λ some. headers_lie)
+        (All-from_contains (λ q. 0 < (range_of q).size → LiesInSegment (own_segments base objects) (range_of q)) (own_loaded base objects)
+        (λ q c. All-contains LiesRight (own_loaded base objects) q own_places_lie c));
     got = got_lies (has_got objects) refl;
   }

@@ -3,7 +3,7 @@ use Rattle.std.proofs.Common.{◌≡◌, ℕ, ◌+◌, ◌<◌, ◌≤◌, ◌�
 use Rattle.std.specs.Prelude.{All, Any, Contains, map}
 use Rattle.std.proofs.lemmas.List.Elements.{All-cons, All-contains}
 use Rattle.elf_model.specs.OwnLayout.{any_placed, placed_end, placed_has_bytes}
-use Rattle.elf_model.specs.Placement.{Placed, thing_of}
+use Rattle.elf_model.specs.Placement.{Placed, range_of}
 use Rattle.elf_model.specs.RightLink.{EndsRight, IsOfSegment}
 use Rattle.elf_model.specs.declared.records.ProgramHeader.{ProgramHeader}
 use Rattle.elf_model.specs.declared.thing.Thing.{Thing}
@@ -19,21 +19,21 @@ use Rattle.own_link.proofs.Segments.{AreGoodParts, IsGoodPart, Part, part_end, p
 
 module _ (base size : ℕ) (parts : List Part) (good : AreGoodParts base size parts) (placed order : List Placed) (stand : ArePlacedIn parts placed order) (some_headers : 0 < size) where
   -- the thing of a piece is among the things, and what holds of the headers and of each piece's holds of all
-  thing_there : (q : Placed) → Contains order q → Contains (things_in base size order) (thing_of q)
-  thing_there q c = Contains-there (headers_of base size) (map thing_of order) (thing_of q) (Contains-map thing_of order q c)
+  thing_there : (q : Placed) → Contains order q → Contains (things_in base size order) (range_of q)
+  thing_there q c = Contains-there (headers_of base size) (map range_of order) (range_of q) (Contains-map range_of order q c)
 
   all_things :
-      (P : Thing → Type 0) → P (headers_of base size) → ((q : Placed) → Contains order q → P (thing_of q)) →
+      (P : Thing → Type 0) → P (headers_of base size) → ((q : Placed) → Contains order q → P (range_of q)) →
       All P (things_in base size order)
   all_things P headers pieces =
-      All-cons P (headers_of base size) (map thing_of order) headers
-      (All-from_contains P (map thing_of order) (λ t c.
-      let i = Contains-from_map thing_of order t c in
+      All-cons P (headers_of base size) (map range_of order) headers
+      (All-from_contains P (map range_of order) (λ t c.
+      let i = Contains-from_map range_of order t c in
       subst P i.is (pieces i.of i.there)))
 
   -- a segment's end that is the greatest of its pieces' ends or of their beginning is the end of a thing
   module _ (p : Part) (c : Contains parts p) (there : p.there ≡ true) (g : IsGoodPart base size p) where
-    piece_in : (q : Placed) → Contains p.placed q → 0 < q.piece.size → placed_end q ≤ part_end p → IsOfSegment (part_header base p) (thing_of q)
+    piece_in : (q : Placed) → Contains p.placed q → 0 < q.piece.size → placed_end q ≤ part_end p → IsOfSegment (part_header base p) (range_of q)
     piece_in q holds some below =
         let f = part_from base size p g in
         let a = All-contains (λ (r : Placed). p.from ≤ r.at) p.placed q g.pieces_from holds in
@@ -50,19 +50,19 @@ module _ (base size : ℕ) (parts : List Part) (good : AreGoodParts base size pa
         (P : Thing → Type 0) (test : Placed → Bool) (n : ℕ) → p.start < n → n ≤ part_end p →
         ((n ≡ p.from) ⊎ Any (Reaches test n) p.placed) →
         (IsOfSegment (part_header base p) (headers_of base size) → base + size ≡ n → P (headers_of base size)) →
-        ((q : Placed) → IsOfSegment (part_header base p) (thing_of q) → test q ≡ true → placed_end q ≡ n → P (thing_of q)) →
+        ((q : Placed) → IsOfSegment (part_header base p) (range_of q) → test q ≡ true → placed_end q ≡ n → P (range_of q)) →
         Any P (things_in base size order)
     ends_with P test n some below (inl start) headers piece = by g.begins
       where
         by : ((p.start ≡ base) × (p.from ≡ base + size)) ⊎ ((p.from ≡ p.start) × (base + size ≤ p.start)) → Any P (things_in base size order)
         by (inl front) =
-            Any-here P (headers_of base size) (map thing_of order) (headers (headers_in front.0 front.1) (omega (arith, start, front)))
+            Any-here P (headers_of base size) (map range_of order) (headers (headers_in front.0 front.1) (omega (arith, start, front)))
         by (inr later) = absurd (omega (arith, start, later, some))
     ends_with P test n some below (inr a) headers piece =
         let r = a.4 in
         let holds : Contains p.placed a.1 = (a.0, a.2, a.3) in
         let e = r.end in
-        Any-from_contains P (things_in base size order) (thing_of a.1)
+        Any-from_contains P (things_in base size order) (range_of a.1)
         (thing_there a.1 (listed_piece base size parts good placed order stand p a.1 c holds))
         (piece a.1 (piece_in a.1 holds r.some (omega (arith, e, below))) r.passes r.end)
 
@@ -77,7 +77,7 @@ module _ (base size : ℕ) (parts : List Part) (good : AreGoodParts base size pa
         by (inr later) = absurd (let i = inside.inside.0 in omega (arith, i, later, some_headers))
 
     piece_ends :
-        (q : Placed) → Contains order q → IsOfSegment (part_header base p) (thing_of q) → placed_has_bytes q ≡ true →
+        (q : Placed) → Contains order q → IsOfSegment (part_header base p) (range_of q) → placed_has_bytes q ≡ true →
         placed_end q ≤ (part_header base p).p_vaddr + (part_header base p).p_filesz
     piece_ends q listed inside bytes =
         let some : 0 < q.piece.size = inside.some_bytes in

@@ -5,7 +5,7 @@ use Rattle.std.specs.List.{list_any}
 use Rattle.std.proofs.lemmas.Bool.{false≢true, ltb-true, ltb-false, or_cases, or_parts}
 use Rattle.std.proofs.lemmas.List.Elements.{All-cons, All-nil, All-contains}
 use Rattle.elf_model.specs.Loading.{LoadedObject}
-use Rattle.elf_model.specs.OwnLayout.{any_placed, code_pieces, code_start, data_pieces, data_start, greatest_end, is_nonempty, own_read_only, own_segments, place_at, placed_end, placed_from, placed_has_bytes, read_only_start, segment}
+use Rattle.elf_model.specs.OwnLayout.{any_placed, code_pieces, code_start, data_pieces, data_start, greatest_end, is_nonempty, loaded_start, own_read_only, own_segments, place_at, placed_end, placed_from, placed_has_bytes, read_only_start, segment}
 use Rattle.elf_model.specs.Pieces.{Piece}
 use Rattle.elf_model.specs.Placement.{Placed}
 use Rattle.elf_model.specs.declared.records.ProgramHeader.{ProgramHeader}
@@ -34,20 +34,21 @@ part_header base p = segment base p.rights p.start p.from p.placed
 abbrev pub segments_of : ℕ → List Part → List ProgramHeader
 segments_of base parts = map (part_header base) (filter (λ p. p.there) parts)
 
-abbrev pub later_part : ℕ → ℕ → List Piece → Part
-later_part rights start ps = record {
+-- one of pieces that stand in a run from an address on, at or behind its beginning
+abbrev pub later_part : ℕ → ℕ → ℕ → List Piece → Part
+later_part rights start first ps = record {
   rights = rights;
   start = start;
   from = start;
   there = list_any is_nonempty ps;
-  placed = placed_from start ps;
+  placed = placed_from first ps;
 }
 
 abbrev pub own_parts : ℕ → List LoadedObject → List Part
 own_parts base objects =
     record { rights = 4; start = base; from = read_only_start base objects; there = true; placed = own_read_only base objects }
-    ∷ (later_part 5 (code_start base objects) (code_pieces objects)
-    ∷ (later_part 6 (data_start base objects) (data_pieces objects) ∷ []))
+    ∷ (later_part 5 (code_start base objects) (code_start base objects) (code_pieces objects)
+    ∷ (later_part 6 (data_start base objects) (loaded_start base objects) (data_pieces objects) ∷ []))
 
 chosen :
     (f : Part → ProgramHeader) (x w : Part) (b c : Bool) →
@@ -60,8 +61,8 @@ chosen f x w false false = refl
 pub own_segments_are : (base : ℕ) (objects : List LoadedObject) → own_segments base objects ≡ segments_of base (own_parts base objects)
 own_segments_are base objects =
     ap (λ (hs : List ProgramHeader). segment base 4 base (read_only_start base objects) (own_read_only base objects) ∷ hs)
-    (chosen (part_header base) (later_part 5 (code_start base objects) (code_pieces objects))
-    (later_part 6 (data_start base objects) (data_pieces objects))
+    (chosen (part_header base) (later_part 5 (code_start base objects) (code_start base objects) (code_pieces objects))
+    (later_part 6 (data_start base objects) (loaded_start base objects) (data_pieces objects))
     (list_any is_nonempty (code_pieces objects)) (list_any is_nonempty (data_pieces objects)))
 
 -- what is known of a segment behind headers of a size
@@ -109,21 +110,21 @@ no_piece (p ∷ ps) x e =
     All-cons (λ (q : Placed). q.piece.size ≡ 0) (place_at x p) (placed_from (placed_end (place_at x p)) ps)
     (let z = ltb-false 0 p.size n.0 in omega (arith, z)) (no_piece ps (placed_end (place_at x p)) n.1)
 
--- a segment of pieces that begin with it
-module _ (base size rights start : ℕ) (ps : List Piece) (low : 4 ≤ rights) (high : rights ≤ 6) (page : start % 4096 ≡ 0) (behind : base + size ≤ start) (from : All (λ q. start ≤ q.at) (placed_from start ps)) (ends : All (λ q. placed_end q ≤ 2 ^ 46) (placed_from start ps)) (code : rights ≡ 5 → All (λ q. placed_has_bytes q ≡ true) (placed_from start ps)) where
+-- a segment of pieces in a run from an address on
+module _ (base size rights start first : ℕ) (ps : List Piece) (low : 4 ≤ rights) (high : rights ≤ 6) (page : start % 4096 ≡ 0) (behind : base + size ≤ start) (from : All (λ q. start ≤ q.at) (placed_from first ps)) (ends : All (λ q. placed_end q ≤ 2 ^ 46) (placed_from first ps)) (code : rights ≡ 5 → All (λ q. placed_has_bytes q ≡ true) (placed_from first ps)) where
   -- the piece that is nonempty is inside
-  later_some : list_any is_nonempty ps ≡ true → (start < greatest_end any_placed start (placed_from start ps)) × (start ≤ 2 ^ 46)
+  later_some : list_any is_nonempty ps ≡ true → (start < greatest_end any_placed start (placed_from first ps)) × (start ≤ 2 ^ 46)
   later_some e =
-      let a = some_piece ps start e in
-      let c : Contains (placed_from start ps) a.1 = (a.0, a.2, a.3) in
-      let f = All-contains (λ (q : Placed). start ≤ q.at) (placed_from start ps) a.1 from c in
-      let t = All-contains (λ (q : Placed). placed_end q ≤ 2 ^ 46) (placed_from start ps) a.1 ends c in
-      let g = All-contains (EndsBelow any_placed (greatest_end any_placed start (placed_from start ps))) (placed_from start ps) a.1
-      (greatest_end-holds any_placed start (placed_from start ps) (greatest_end any_placed start (placed_from start ps)) (omega arith)) c refl a.4 in
+      let a = some_piece ps first e in
+      let c : Contains (placed_from first ps) a.1 = (a.0, a.2, a.3) in
+      let f = All-contains (λ (q : Placed). start ≤ q.at) (placed_from first ps) a.1 from c in
+      let t = All-contains (λ (q : Placed). placed_end q ≤ 2 ^ 46) (placed_from first ps) a.1 ends c in
+      let g = All-contains (EndsBelow any_placed (greatest_end any_placed start (placed_from first ps))) (placed_from first ps) a.1
+      (greatest_end-holds any_placed start (placed_from first ps) (greatest_end any_placed start (placed_from first ps)) (omega arith)) c refl a.4 in
       let s : 0 < a.1.piece.size = a.4 in
       (omega (arith, f, g, s), omega (arith, f, t, s))
 
-  pub good_later : IsGoodPart base size (later_part rights start ps)
+  pub good_later : IsGoodPart base size (later_part rights start first ps)
   good_later = record {
     rights_low = low;
     rights_high = high;
@@ -131,8 +132,8 @@ module _ (base size rights start : ℕ) (ps : List Piece) (low : 4 ≤ rights) (
     low = omega (arith, behind);
     begins = inr (refl, behind);
     pieces_from = from;
-    none = no_piece ps start;
+    none = no_piece ps first;
     some = λ e. (later_some e).0;
-    high = λ e. greatest_end-below any_placed start (placed_from start ps) (2 ^ 46) (later_some e).1 ends;
+    high = λ e. greatest_end-below any_placed start (placed_from first ps) (2 ^ 46) (later_some e).1 ends;
     code = code;
   }

@@ -7,7 +7,7 @@ use Rattle.std.proofs.lemmas.List.Elements.{All-cons, All-nil, All-contains, All
 use Rattle.std.proofs.lemmas.List.Kept.{AllPairs-cons}
 use Rattle.elf_model.specs.Command.{IsBase}
 use Rattle.elf_model.specs.Loading.{LoadedObject}
-use Rattle.elf_model.specs.OwnLayout.{IsNotTooLarge, any_placed, code_pieces, code_start, data_pieces, data_start, greatest_end, is_code, is_read_only, laid_out, own_address, own_code, own_data, own_headers_size, own_laid_out, own_placed, own_read_only, page_up, placed_end, placed_has_bytes, read_only_start}
+use Rattle.elf_model.specs.OwnLayout.{IsNotTooLarge, any_placed, code_pieces, code_start, data_pieces, data_start, greatest_end, is_code, is_read_only, laid_out, loaded_start, own_address, own_code, own_data, own_headers_size, own_laid_out, own_loaded, own_read_only, own_thread_rest, page_up, placed_end, placed_has_bytes, read_only_start}
 use Rattle.elf_model.specs.Pieces.{AreLawfulKinds, IsLawfulKind, is_executable, is_nobits, is_writable}
 use Rattle.elf_model.specs.Placement.{Placed}
 use Rattle.own_link.proofs.Ends.{greatest_end-below, greatest_end-from}
@@ -46,17 +46,20 @@ StandsInData base objects q = (data_start base objects ≤ q.at) × (is_writable
 -- the segments of the own layout are good
 module _ (base : ℕ) (objects : List LoadedObject) (kinds : AreLawfulKinds objects) (based : IsBase base) (fits : IsNotTooLarge base objects) (stand : AreOwnPlaced base objects) where
   -- the kinds of the pieces that are placed
-  placed_lawful : (q : Placed) → Contains (own_placed base objects) q → IsLawfulKind q.piece.header
+  placed_lawful : (q : Placed) → Contains (own_loaded base objects) q → IsLawfulKind q.piece.header
   placed_lawful q c =
       All-contains (λ (r : Placed). IsLawfulKind r.piece.header) (own_laid_out base objects) q
       (All-map (λ (r : Placed). IsLawfulKind r.piece.header) (λ p. record { at = own_address base objects p; piece = p }) (laid_out objects) (laid_out_lawful objects kinds))
-      (stand.all q c)
+      (stand.all q (Contains-append_left (own_loaded base objects) (own_thread_rest base objects) q c))
+
+  loaded_ends : All (λ q. placed_end q ≤ 2 ^ 46) (own_loaded base objects)
+  loaded_ends = (All-parts (λ q. placed_end q ≤ 2 ^ 46) (own_loaded base objects) (own_thread_rest base objects) fits.ends).0
 
   front_ends : All (λ q. placed_end q ≤ 2 ^ 46) (own_read_only base objects)
-  front_ends = (All-parts (λ q. placed_end q ≤ 2 ^ 46) (own_read_only base objects) (own_code base objects ++ own_data base objects) fits.ends).0
+  front_ends = (All-parts (λ q. placed_end q ≤ 2 ^ 46) (own_read_only base objects) (own_code base objects ++ own_data base objects) loaded_ends).0
 
   later_ends : All (λ q. placed_end q ≤ 2 ^ 46) (own_code base objects ++ own_data base objects)
-  later_ends = (All-parts (λ q. placed_end q ≤ 2 ^ 46) (own_read_only base objects) (own_code base objects ++ own_data base objects) fits.ends).1
+  later_ends = (All-parts (λ q. placed_end q ≤ 2 ^ 46) (own_read_only base objects) (own_code base objects ++ own_data base objects) loaded_ends).1
 
   front_good : IsGoodPart base (own_headers_size objects) (record { rights = 4; start = base; from = read_only_start base objects; there = true; placed = own_read_only base objects })
   front_good =
@@ -74,9 +77,9 @@ module _ (base : ℕ) (objects : List LoadedObject) (kinds : AreLawfulKinds obje
         code = λ e. absurd (omega (arith, e));
       }
 
-  code_good : IsGoodPart base (own_headers_size objects) (later_part 5 (code_start base objects) (code_pieces objects))
+  code_good : IsGoodPart base (own_headers_size objects) (later_part 5 (code_start base objects) (code_start base objects) (code_pieces objects))
   code_good =
-      good_later base (own_headers_size objects) 5 (code_start base objects) (code_pieces objects) (omega arith) (omega arith)
+      good_later base (own_headers_size objects) 5 (code_start base objects) (code_start base objects) (code_pieces objects) (omega arith) (omega arith)
       (page_up-page _) stand.starts.0
       (All-weaker (StandsInCode base objects) (λ (q : Placed). code_start base objects ≤ q.at) (λ q h. h.0) (own_code base objects) stand.code)
       (All-parts (λ q. placed_end q ≤ 2 ^ 46) (own_code base objects) (own_data base objects) later_ends).0
@@ -85,9 +88,9 @@ module _ (base : ℕ) (objects : List LoadedObject) (kinds : AreLawfulKinds obje
       (Contains-append_left (own_code base objects) (own_data base objects) q c)))
       (All-contains (StandsInCode base objects) (own_code base objects) q stand.code c).2))
 
-  data_good : IsGoodPart base (own_headers_size objects) (later_part 6 (data_start base objects) (data_pieces objects))
+  data_good : IsGoodPart base (own_headers_size objects) (later_part 6 (data_start base objects) (loaded_start base objects) (data_pieces objects))
   data_good =
-      good_later base (own_headers_size objects) 6 (data_start base objects) (data_pieces objects) (omega arith) (omega arith)
+      good_later base (own_headers_size objects) 6 (data_start base objects) (loaded_start base objects) (data_pieces objects) (omega arith) (omega arith)
       (page_up-page _) (let s = stand.starts in omega (arith, s))
       (All-weaker (StandsInData base objects) (λ (q : Placed). data_start base objects ≤ q.at) (λ q h. h.0) (own_data base objects) stand.data_)
       (All-parts (λ q. placed_end q ≤ 2 ^ 46) (own_code base objects) (own_data base objects) later_ends).1
@@ -107,8 +110,8 @@ module _ (base : ℕ) (objects : List LoadedObject) (kinds : AreLawfulKinds obje
 
   pub own_parts_good : AreGoodParts base (own_headers_size objects) (own_parts base objects)
   own_parts_good =
-      let code = later_part 5 (code_start base objects) (code_pieces objects) in
-      let last = later_part 6 (data_start base objects) (data_pieces objects) in
+      let code = later_part 5 (code_start base objects) (code_start base objects) (code_pieces objects) in
+      let last = later_part 6 (data_start base objects) (loaded_start base objects) (data_pieces objects) in
       let front : Part = record { rights = 4; start = base; from = read_only_start base objects; there = true; placed = own_read_only base objects } in
       let G : Part → Type 0 = IsGoodPart base (own_headers_size objects) in
       let R : Part → Part → Type 0 = λ p q. part_end p ≤ q.start in

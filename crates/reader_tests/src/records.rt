@@ -267,7 +267,6 @@ fn refusals_print_their_number(rt: HostRuntime) -> Result<(), Fail> {
         (LinkError::MixedSection, "MixedSection (19)"),
         (LinkError::TooLarge, "TooLarge (20)"),
         (LinkError::BadSymbol, "BadSymbol (21)"),
-        (LinkError::NotYet, "NotYet (22)"),
     ] {
         prints(&rt, alloc, error, text)?;
     }

@@ -1,5 +1,5 @@
 -- The values that relocations want in a layout, as patches, and why there are none.
-use Rattle.std.specs.Prelude.{◌≡◌, ◌==◌, ◌+◌, ◌≤◌, ◌⊎◌, ℕ, Bool, List, [], Some, All, cond, filter, length, map, option_map, slice_index_or, unwrap_or}
+use Rattle.std.specs.Prelude.{◌≡◌, ◌==◌, ◌+◌, ◌%◌, ◌^◌, ◌≤◌, ◌⊎◌, ℕ, Bool, List, [], Some, All, cond, filter, length, map, option_map, slice_index_or, unwrap_or}
 use Rattle.std.specs.List.{slice_get}
 use Rattle.std.specs.Global.{Vec}
 use Rattle.elf_model.specs.Loading.{LoadedObject}
@@ -9,15 +9,21 @@ use Rattle.elf_model.specs.Placement.{Where}
 use Rattle.elf_model.specs.Relocation.{AreLawfulRelocations, Relocation, is_kept_rela, relocations_from, width_of}
 use Rattle.elf_model.specs.RelocationValues.{Fits, value_of}
 use Rattle.elf_model.specs.Slots.{Request, slot_value}
+use Rattle.elf_model.specs.ThreadStorage.{block_in}
 use Rattle.elf_model.specs.declared.records.SectionHeader.{SectionHeader}
 use Rattle.relocate.specs.declared.faults.RelocFault.{RelocFault}
 use Rattle.relocate.specs.declared.faults.RelocFault.TheVariants as error
 use Rattle.layout.specs.Placements.{Basis}
+use Rattle.got_tls.specs.ThreadStorage.{thread_pointer}
 use Rattle.relocate.specs.declared.patch.Patch.{Patch}
 
 -- where things are by the own layout
 abbrev pub where_in : Basis → Where
 where_in b = own_where b.base b.objects
+
+-- the thread pointer, modulo 2 ^ 64
+abbrev pub pointer_in : Where → ℕ
+pointer_in w = thread_pointer (block_in w) % 2 ^ 64
 
 -- the value of the slot that a request asks for
 abbrev pub slot_value_of : List LoadedObject → Where → Request → ℕ

@@ -6,7 +6,7 @@ ghost use Rattle.elf_model.specs.RelocationValues.{Fits};
 ghost use Rattle.elf_model.specs.Slots as wanted;
 ghost use Rattle.search.specs.Views.{loaded_view};
 ghost use Rattle.relocate.specs.References.{IsObjectAt};
-ghost use Rattle.relocate.specs.Values.{ArePatchRows, FittingFails, IsRowCount, patch_of, where_in, rows_for};
+ghost use Rattle.relocate.specs.Values.{ArePatchRows, FittingFails, IsRowCount, patch_of, pointer_in, where_in, rows_for};
 
 use crate::faults::RelocFault;
 use crate::patch::Patch;
@@ -25,6 +25,7 @@ fn add_patches(
     resolved: &Resolved<'_, '_>,
     placement: &Placement<'_, '_>,
     slots: &Slots<'_>,
+    pointer: u64,
     number: usize,
     loaded: &Loaded<'_>,
     target: u64,
@@ -33,6 +34,7 @@ fn add_patches(
 ) -> Result<(), RelocFault>
     requires kinds { AreLawfulKinds placement.now.objects }
     requires slots { slots.now.slots ≡ wanted.slots placement.now.objects }
+    requires pointer { pointer ≡ pointer_in (where_in placement.now) }
     requires here { IsObjectAt resolved.now number (loaded_view loaded.now) }
     requires known { All (λ r. IsSome (relocation_kind r)) (map (relocation_of number (loaded_view loaded.now) target) (filter is_some_kind entries.now)) }
     ensures patches { OnOk result (row.new.items ≡ row.old.items ++ map (patch_of resolved.now (where_in placement.now)) (map (relocation_of number (loaded_view loaded.now) target) (filter is_some_kind entries.now))) }
@@ -47,7 +49,7 @@ fn add_patches(
             continue;
         }
         let Some(patch) = patch(
-            resolved, placement, slots, number, loaded, target, at, &entry,
+            resolved, placement, slots, pointer, number, loaded, target, at, &entry,
         ) else {
             return Err(RelocFault::Overflow);
         };
@@ -99,11 +101,13 @@ pub fn object_patches(
     resolved: &Resolved<'_, '_>,
     placement: &Placement<'_, '_>,
     slots: &Slots<'_>,
+    pointer: u64,
     number: usize,
     loaded: &Loaded<'_>,
 ) -> Result<Vec<Vec<Patch>>, RelocFault>
     requires kinds { AreLawfulKinds placement.now.objects }
     requires slots { slots.now.slots ≡ wanted.slots placement.now.objects }
+    requires pointer { pointer ≡ pointer_in (where_in placement.now) }
     requires here { IsObjectAt resolved.now number (loaded_view loaded.now) }
     requires known { All (λ r. IsSome (relocation_kind r)) (relocations_from number (loaded_view loaded.now)) }
     ensures rows { IfOk result (λ v. ArePatchRows resolved.now (where_in placement.now) (relocations_from number (loaded_view loaded.now)) v.items) }
@@ -126,6 +130,7 @@ pub fn object_patches(
             resolved,
             placement,
             slots,
+            pointer,
             number,
             loaded,
             target as u64,

@@ -104,7 +104,7 @@ fn row_of<'b>(rows: &'b [Row], number: u32) -> Option<&'b Row>
 }
 
 /// What the letters of the formulas stand for (AMD64 psABI 4.4), modulo 2 to the 64 but for the addend. Where
-/// there is no GOT its letters stand for 0, where there is no thread-local storage `thread` does.
+/// there is no GOT its letters stand for 0, and where there is no thread-local storage the thread pointer is 0.
 #[derive(Clone, Copy, Debug)]
 pub struct Terms {
     /// S: the value of the symbol.

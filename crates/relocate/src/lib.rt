@@ -14,6 +14,7 @@ mod patch;
 mod patching;
 mod slots;
 mod targets;
+mod thread_pointer;
 mod uses;
 mod values;
 

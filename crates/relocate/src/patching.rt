@@ -11,6 +11,7 @@ ghost use Rattle.relocate.specs.Values.{ValuesFail};
 use crate::applying::{PatchTable, of_rows};
 use crate::collecting::object_patches;
 use crate::faults::RelocFault;
+use crate::thread_pointer::pointer_of;
 use got_tls::Slots;
 use layout::Placement;
 use resolve::Resolved;
@@ -39,9 +40,10 @@ pub fn patches<'a>(
     ensures fit { OnOk result (OwnValuesFit placement.now.base placement.now.objects) }
     ensures fault { IfErr result (ValuesFail placement.now) }
 {
+    let pointer = pointer_of(placement);
     let mut rows = Vec::with_capacity(alloc, objects.len())?;
     for k in 0..objects.len() {
-        let row = object_patches(alloc, resolved, placement, slots, k, &objects[k])?;
+        let row = object_patches(alloc, resolved, placement, slots, pointer, k, &objects[k])?;
         rows.push(row)?;
     }
     Ok(of_rows(placement, rows))

@@ -12,10 +12,11 @@ ghost use Rattle.resolve.specs.Views.{meaning_view, symbol_view};
 ghost use Rattle.got_tls.specs.Asking.{offset_of};
 ghost use Rattle.relocate.specs.Kinds.{Reduces, kind_view};
 ghost use Rattle.relocate.specs.References.{IsObjectAt};
-ghost use Rattle.relocate.specs.Values.{patch_of, where_in};
+ghost use Rattle.relocate.specs.Values.{patch_of, pointer_in, where_in};
 
 use crate::kinds::{Kind, Terms, fits, slot_kind, value};
 use crate::patch::Patch;
+use crate::thread_pointer::offset_from;
 use elf_model::{Rela, SHN_ABS};
 use got_tls::{Slot, Slots, target_of};
 use layout::Placement;
@@ -123,11 +124,13 @@ fn slot_offset(
     }
 }
 
-/// The terms of the value of an entry of a kind; `at` is the address of the section `target` that it relocates.
+/// The terms of the value of an entry of a kind; `pointer` is the thread pointer, and `at` the address of the section
+/// `target` that it relocates.
 fn terms(
     resolved: &Resolved<'_, '_>,
     placement: &Placement<'_, '_>,
     slots: &Slots<'_>,
+    pointer: u64,
     number: usize,
     loaded: &Loaded<'_>,
     target: u64,
@@ -137,20 +140,22 @@ fn terms(
 ) -> Terms
     requires kinds { AreLawfulKinds placement.now.objects }
     requires slots { slots.now.slots ≡ wanted.slots placement.now.objects }
+    requires pointer { pointer ≡ pointer_in (where_in placement.now) }
     requires here { IsObjectAt resolved.now number (loaded_view loaded.now) }
     requires at { at ≡ section_address (where_in placement.now).placed number target }
     requires kind { relocation_kind (relocation_of number (loaded_view loaded.now) target entry.now) ≡ Some (kind_view kind) }
     ensures { Reduces result (terms_of resolved.now (where_in placement.now) (relocation_of number (loaded_view loaded.now) target entry.now)) }
 {
     let definition = resolved.definition(number, entry.symbol() as usize);
+    let symbol = value_or_none(placement, &definition);
     Terms {
-        symbol: value_or_none(placement, &definition),
+        symbol,
         addend: entry.r_addend,
         place: at.wrapping_add(entry.r_offset),
         slot: slot_offset(slots, number, loaded, target, kind, entry),
         got: got_or_none(placement),
         size: size_or_none(&definition),
-        thread: 0,
+        thread: offset_from(pointer, symbol),
     }
 }
 
@@ -159,6 +164,7 @@ pub fn patch(
     resolved: &Resolved<'_, '_>,
     placement: &Placement<'_, '_>,
     slots: &Slots<'_>,
+    pointer: u64,
     number: usize,
     loaded: &Loaded<'_>,
     target: u64,
@@ -167,6 +173,7 @@ pub fn patch(
 ) -> Option<Patch>
     requires kinds { AreLawfulKinds placement.now.objects }
     requires slots { slots.now.slots ≡ wanted.slots placement.now.objects }
+    requires pointer { pointer ≡ pointer_in (where_in placement.now) }
     requires here { IsObjectAt resolved.now number (loaded_view loaded.now) }
     requires at { at ≡ section_address (where_in placement.now).placed number target }
     requires known { IsSome (relocation_kind (relocation_of number (loaded_view loaded.now) target entry.now)) }
@@ -176,7 +183,7 @@ pub fn patch(
         unreachable!()
     };
     let terms = terms(
-        resolved, placement, slots, number, loaded, target, at, kind, entry,
+        resolved, placement, slots, pointer, number, loaded, target, at, kind, entry,
     );
     let value = value(kind, terms);
     if !fits(kind, value) {

@@ -14,9 +14,10 @@ returns c =
     let e = c.args.entry.now in
     let t = c.target_at-target.result in
     let m = subst (λ (j : ℕ). IsTargetOf b (symbol_at n o j) t) c.symbol.ensures c.target_at-target.ensures in
-    let g = c.got_terms-got.result in
-    let slot = c.got_terms-got.ensures.slot to.section in
-    let start = c.got_terms-got.ensures.start in
-    some_iff _ _ _ _ c.field_for.result (right b n o to g e t m c.requires.size c.requires.frames c.requires.address slot start)
-    (right_with b n o to g e t m c.requires.size c.requires.frames c.requires.address slot start)
-    (field_is b n o to g e t m c.requires.size c.requires.frames c.requires.address slot start) c.field_for.ensures
+    let g = c.link_terms-given.result in
+    let slot = c.link_terms-given.ensures.slot to.section in
+    let got = c.link_terms-given.ensures.got in
+    let pointer = c.link_terms-given.ensures.pointer in
+    some_iff _ _ _ _ c.field_for.result (right b n o to g e t m c.requires.size c.requires.frames c.requires.address slot got pointer)
+    (right_with b n o to g e t m c.requires.size c.requires.frames c.requires.address slot got pointer)
+    (field_is b n o to g e t m c.requires.size c.requires.frames c.requires.address slot got pointer) c.field_for.ensures

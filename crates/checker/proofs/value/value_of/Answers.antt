@@ -1,9 +1,8 @@
-use Rattle.std.proofs.Common.{◌≡◌, ◌%◌, ◌^◌, ℕ, ℤ, pos, refl, subst}
+use Rattle.std.proofs.Common.{◌≡◌, ◌%◌, ◌^◌, ℕ, ℤ, pos, subst}
 use Rattle.std.specs.Prelude.{◌+ℤ◌, ◌-ℤ◌}
 use Rattle.std.proofs.lemmas.Int.{to_z-of_z}
 use Rattle.std.specs.Int.{w64}
 use Rattle.elf_model.specs.Relocation.{modulo_64}
-use Rattle.checker.specs.Kinds.{terms_view}
 use Rattle.checker.proofs.Modulo.{value_is}
 use Rattle.checker.proofs.value.value_of.Goals as goal
 
@@ -14,4 +13,4 @@ returns c =
     subst
     (λ (z : ℤ). (n l : ℕ) → c.base_of.result ≡ n % 2 ^ 64 → c.less_of.result ≡ l % 2 ^ 64 → c.shifted.result ≡ modulo_64 ((pos n +ℤ z) -ℤ pos l))
     (to_z-of_z w64 a c.ranges.addend) c.shifted.ensures in
-    value_is c.args.formula (terms_view c.args.terms a) c.shifted.result c.base_of.result c.less_of.result refl (c.base_of.ensures a) (c.less_of.ensures a) is
+    value_is c.args.formula c.args.terms a c.shifted.result c.base_of.result c.less_of.result c.base_of.ensures c.less_of.ensures is

@@ -1,4 +1,4 @@
-use Rattle.elf_read.proofs.PowersOfTwo.{power_test}
+use Rattle.elf_model.proofs.PowersOfTwo.{power_test}
 use Rattle.elf_read.proofs.sections.is_power_of_two.Goals as goal
 
 pub returns : goal.returns

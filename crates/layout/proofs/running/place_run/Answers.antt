@@ -1,4 +1,4 @@
-use Rattle.std.proofs.Common.{◌≤◌, ◌^◌, ℕ, get_or, arith, refl, subst, sym}
+use Rattle.std.proofs.Common.{◌+◌, ◌≤◌, ◌^◌, ℕ, get_or, arith, refl, subst, sym}
 use Rattle.elf_model.proofs.Listed.{All-unmap}
 use Rattle.layout.specs.Limits.{HasSmallAlignment}
 use Rattle.layout.specs.Views.{piece_view}
@@ -21,7 +21,10 @@ loop-piece-preserved c =
     let first = first_left c.args.pieces.now c.loop-piece.piece-index no_piece c.loop-piece-test.true in
     record {
       above = let a = c.loop-piece.invariant.above in let b = c.in-Some.ensures.above in omega (arith, a, b);
-      low = subst (λ (n : ℕ). n ≤ 2 ^ 46) (sym (behind c.loop-piece.next c.in-Some.at (piece_view p) c.in-Some.ensures.place.1)) c.in-Some.ensures.place.0;
+      low =
+          let end : c.in-Some.at + p.header.sh_size ≤ 2 ^ 46 =
+          subst (λ (n : ℕ). n ≤ 2 ^ 46) (sym (behind c.loop-piece.next c.in-Some.at (piece_view p) c.in-Some.ensures.place.1)) c.in-Some.ensures.place.0 in
+          omega (arith, end);
       done =
           placed_more c.loop-piece.out.items c.push.new.self.items (record { at = c.in-Some.at; piece = p }) c.loop-piece.next c.in-Some.at p _ _ _
           c.in_ok-push.ensures.items refl refl c.in-Some.ensures.place.1 first c.loop-piece.invariant.done;

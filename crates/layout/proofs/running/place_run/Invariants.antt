@@ -1,4 +1,4 @@
-use Rattle.std.proofs.Common.{◌≡◌, ◌≤◌, ◌^◌, ◌++◌, drop}
+use Rattle.std.proofs.Common.{◌≡◌, ◌≤◌, ◌^◌, ◌++◌, drop, max}
 use Rattle.elf_model.specs.OwnLayout.{end_of, placed_from}
 use Rattle.layout.specs.Limits.{AreInLimit}
 use Rattle.layout.specs.PlaceViews.{place_views}
@@ -9,7 +9,7 @@ use Rattle.layout.proofs.running.place_run.Given as goal
 abbrev pub invariant-loop-piece : goal.invariant-loop-piece
 invariant-loop-piece l = record {
   above : l.fn.from ≤ l.next;
-  low : l.next ≤ 2 ^ 46;
+  low : l.next ≤ max l.fn.from (2 ^ 46);
   done :
       place_views l.out.items ++ placed_from l.next (piece_views (drop l.piece-index l.pieces))
       ≡ place_views l.initial.out.items ++ placed_from l.fn.from (piece_views l.pieces);

@@ -1,7 +1,6 @@
 use Rattle.std.proofs.Common.{List, subst, sym}
 use Rattle.elf_model.specs.Causes.{Cause}
 use Rattle.elf_model.specs.Files.{files_of, words_of}
-use Rattle.elf_model.specs.Profile.{IsInProfile}
 use Rattle.search.specs.Views.{loaded_views}
 use Rattle.search.specs.declared.loading.Loaded.{Loaded}
 use Rattle.ld_main.specs.Linkages.{IsLinkageOf}
@@ -27,9 +26,8 @@ returns-in-Ok-prepare_objects-clause-prepared g c =
     prepared (files_of c.args.files.now) (words_of c.args.words.now) p (loaded_views c.in-Ok-load.objects.items) c.in-Ok-load.ensures.loaded
     c.in-Ok.ensures.plan c.in-Ok-load.ensures.files c.in-Ok-load.ensures.archives c.in-Ok-load.ensures.indexes c.in-Ok-load.ensures.objects
     c.in-Ok-load.ensures.groups
-    (subst (λ (xs : List Loaded). IsInProfile (loaded_views xs)) c.deref.ensures.value (c.is_in_profile.ensures.0 c.if-not-is_in_profile.false))
     c.in-Ok-prepare_objects.parts
-    (subst (λ (xs : List Loaded). IsLinkageOf p (loaded_views xs) c.in-Ok-prepare_objects.parts) c.deref-2.ensures.value
+    (subst (λ (xs : List Loaded). IsLinkageOf p (loaded_views xs) c.in-Ok-prepare_objects.parts) c.deref.ensures.value
     c.in-Ok-prepare_objects.ensures.made)
 
 pub returns-in-Ok-prepare_objects-clause-right : goal.returns-in-Ok-prepare_objects-clause-right
@@ -38,9 +36,8 @@ returns-in-Ok-prepare_objects-clause-right g c =
     right_link (files_of c.args.files.now) (words_of c.args.words.now) p (loaded_views c.in-Ok-load.objects.items) c.in-Ok-load.ensures.loaded
     c.in-Ok.ensures.plan c.in-Ok-load.ensures.files c.in-Ok-load.ensures.archives c.in-Ok-load.ensures.indexes c.in-Ok-load.ensures.objects
     c.in-Ok-load.ensures.groups
-    (subst (λ (xs : List Loaded). IsInProfile (loaded_views xs)) c.deref.ensures.value (c.is_in_profile.ensures.0 c.if-not-is_in_profile.false))
     c.in-Ok-prepare_objects.parts
-    (subst (λ (xs : List Loaded). IsLinkageOf p (loaded_views xs) c.in-Ok-prepare_objects.parts) c.deref-2.ensures.value
+    (subst (λ (xs : List Loaded). IsLinkageOf p (loaded_views xs) c.in-Ok-prepare_objects.parts) c.deref.ensures.value
     c.in-Ok-prepare_objects.ensures.made)
 
 pub returns-clause-cause : goal.returns-clause-cause
@@ -49,9 +46,8 @@ returns-clause-cause g c =
     cause (files_of c.args.files.now) (words_of c.args.words.now) p (loaded_views c.in-Ok-load.objects.items) c.in-Ok-load.ensures.loaded
     c.in-Ok.ensures.plan c.in-Ok-load.ensures.files c.in-Ok-load.ensures.archives c.in-Ok-load.ensures.indexes c.in-Ok-load.ensures.objects
     c.in-Ok-load.ensures.groups
-    (subst (λ (xs : List Loaded). IsInProfile (loaded_views xs)) c.deref.ensures.value (c.is_in_profile.ensures.0 c.if-not-is_in_profile.false))
     c.in-Err-prepare_objects.error
-    (subst (λ (xs : List Loaded). LinksRefuse p (loaded_views xs) c.in-Err-prepare_objects.error) c.deref-2.ensures.value
+    (subst (λ (xs : List Loaded). LinksRefuse p (loaded_views xs) c.in-Err-prepare_objects.error) c.deref.ensures.value
     c.in-Err-prepare_objects.ensures.fault)
 
 pub returns-clause-no_link : goal.returns-clause-no_link

@@ -1,0 +1,17 @@
+use Rattle.std.proofs.Common.{◌∙◌, List, ap, take}
+use Rattle.elf_model.specs.OwnLayout.{own_loaded, own_thread_rest}
+use Rattle.search.specs.Views.{loaded_views}
+use Rattle.layout.specs.Placements.{Basis}
+use Rattle.layout.specs.PlaceViews.{place_views}
+use Rattle.layout.specs.declared.running.Place.{Place}
+use Rattle.layout.proofs.OwnThreads.{loaded_front}
+use Rattle.layout.proofs.placement.Placement.loaded_places.Goals as goal
+
+pub returns : goal.returns
+returns c =
+    let base = c.self.inside.base in
+    let objects = loaded_views c.self.inside.objects.now in
+    let n = c.self.inside.tables.now.loaded in
+    ap place_views (c.split_at.ensures.front ∙ ap (λ (ps : List Place). take n ps) c.deref.ensures.value)
+    ∙ (loaded_front c.self.inside.tables.now.places.items n (own_loaded base objects) (own_thread_rest base objects) c.self.invariant.places_are c.self.invariant.loaded_are
+    ∙ ap (λ (b : Basis). own_loaded b.base b.objects) c.self.view_is)

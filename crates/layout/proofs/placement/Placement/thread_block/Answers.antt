@@ -1,0 +1,19 @@
+use Rattle.std.proofs.Common.{rules, ◌≡◌, ◌∙◌, ap, option_map, subst, sym}
+use Rattle.elf_model.specs.OwnLayout.{own_in_load_order, own_placed}
+use Rattle.elf_model.specs.Pieces.{AreLawfulKinds}
+use Rattle.elf_model.specs.ThreadStorage.{thread_block}
+use Rattle.search.specs.Views.{loaded_views}
+use Rattle.layout.specs.Placements.{Basis}
+use Rattle.layout.specs.Threads.{block_of}
+use Rattle.layout.proofs.OwnThreads.{told_block, threads_same}
+use Rattle.layout.proofs.placement.Placement.thread_block.Goals as goal
+
+pub returns-clause-listed : goal.returns-clause-listed
+returns-clause-listed c = λ kinds.
+    let base = c.self.inside.base in
+    let objects = loaded_views c.self.inside.objects.now in
+    let is : c.map.result ≡ option_map block_of c.self.inside.tables.now.thread_header = search rules in
+    is
+    ∙ (told_block base (own_placed base objects) c.self.inside.tables.now.thread_header c.self.invariant.header_is
+    ∙ (threads_same base objects (subst (λ (b : Basis). AreLawfulKinds b.objects) (sym c.self.view_is) kinds)
+    ∙ ap (λ (b : Basis). thread_block (own_in_load_order b.base b.objects)) c.self.view_is))

@@ -1,0 +1,91 @@
+//! Thread-local storage: how its pieces are aligned, and the program header that says where they stand.
+ghost use Rattle.std.specs.Prelude.{◌≡◌, ◌≤◌, All};
+ghost use Rattle.std.specs.List.{list_any};
+ghost use Rattle.elf_model.specs.Pieces.{is_thread_piece};
+ghost use Rattle.elf_model.specs.ThreadStorage.{alignment_of};
+ghost use Rattle.layout.specs.Limits.{AreInLimit};
+ghost use Rattle.layout.specs.PlaceViews.{place_views};
+ghost use Rattle.layout.specs.Threads.{block_of, header_in, placed_alignment, wider};
+ghost use Rattle.layout.specs.Views.{piece_view, piece_views};
+
+use crate::bounds::{Part, end_of, start_of};
+use crate::pieces::Piece;
+use crate::running::Place;
+use elf_model::{PF_R, PT_TLS, ProgramHeader, TlsBlock};
+
+/// Whether a piece is thread-local.
+fn is_thread_piece(piece: &Piece<'_>) -> bool
+    ensures { result ≡ is_thread_piece (piece_view piece.now) }
+{
+    piece.header.is_thread_local()
+}
+
+/// Whether a thread-local piece is among pieces.
+pub fn any_thread_piece(pieces: &[Piece<'_>]) -> bool
+    ensures { result ≡ list_any is_thread_piece (piece_views pieces.now) }
+{
+    for piece in pieces {
+        if is_thread_piece(piece) {
+            return true;
+        }
+    }
+    false
+}
+
+/// The alignment of a thread-local piece, where it is greater than another one.
+fn wider(align: u64, piece: &Piece<'_>) -> u64
+    requires some { 1 ≤ align }
+    ensures value { result ≡ wider align (piece_view piece.now) }
+    ensures above { align ≤ result }
+{
+    if is_thread_piece(piece) {
+        return align.max(piece.header.sh_addralign);
+    }
+    align
+}
+
+/// The greatest alignment of the thread-local ones among pieces; 1 without any.
+pub fn thread_align(pieces: &[Piece<'_>]) -> u64
+    ensures { result ≡ alignment_of is_thread_piece (piece_views pieces.now) }
+{
+    let mut align = 1;
+    for piece in pieces {
+        align = wider(align, piece);
+    }
+    align
+}
+
+/// PT_TLS of an image that is mapped from a base on, with pieces at their places, of which the thread-local ones have
+/// this greatest alignment (System V gABI 5, "Program Header"; ELF Handling For Thread-Local Storage). None without
+/// thread-local pieces.
+pub fn thread_header(base: u64, align: u64, places: &[Place<'_>]) -> Option<ProgramHeader>
+    requires limit { AreInLimit (place_views places.now) }
+    requires above { All (λ q. base ≤ q.at) (place_views places.now) }
+    requires align { align ≡ placed_alignment (place_views places.now) }
+    ensures { result ≡ header_in base (place_views places.now) }
+{
+    let start = start_of(Part::Threads, places)?;
+    let end = end_of(Part::Threads, places);
+    let initial_end = end_of(Part::ThreadData, places);
+    Some(ProgramHeader {
+        p_type: PT_TLS,
+        p_flags: PF_R,
+        p_offset: start - base,
+        p_vaddr: start,
+        p_paddr: start,
+        p_filesz: initial_end.saturating_sub(start),
+        p_memsz: end - start,
+        p_align: align,
+    })
+}
+
+/// The block of which a PT_TLS tells.
+pub fn block_of(header: &ProgramHeader) -> TlsBlock
+    ensures { result ≡ block_of header.now }
+{
+    TlsBlock {
+        start: header.p_vaddr,
+        size: header.p_memsz,
+        align: header.p_align,
+    }
+}
