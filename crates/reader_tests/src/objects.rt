@@ -1,10 +1,10 @@
 //! Objects as they are read.
 use byteview::View;
 use elf_model::{
-    EM_X86_64, ET_REL, FileHeader, Rela, SHF_ALLOC, SHF_EXECINSTR, SHN_COMMON, SHT_NOBITS,
-    SHT_NULL, SHT_PROGBITS, SHT_REL, SHT_RELA, SHT_STRTAB, SHT_SYMTAB, SectionHeader, Symbol,
+    EM_X86_64, ET_REL, FileHeader, Rela, SHF_ALLOC, SHF_EXECINSTR, SHT_NOBITS, SHT_NULL,
+    SHT_PROGBITS, SHT_REL, SHT_RELA, SHT_STRTAB, SHT_SYMTAB, SectionHeader, Symbol,
 };
-use elf_read::{Object, is_plain_object};
+use elf_read::Object;
 use std::alloc::{AllocError, Global};
 use std::process::Abort;
 use std::test::Fail;
@@ -110,16 +110,6 @@ fn object_of(
     header: &FileHeader,
     text: &SectionHeader,
 ) -> Result<Vec<u8>, AllocError> {
-    object_with(alloc, header, &START, text)
-}
-
-/// The object of `_start` with another symbol in its place.
-fn object_with(
-    alloc: Global,
-    header: &FileHeader,
-    symbol: &Symbol,
-    text: &SectionHeader,
-) -> Result<Vec<u8>, AllocError> {
     let mut bytes = Vec::new(alloc);
     let mut record = [0; 64];
     header.write_to(&mut record);
@@ -127,7 +117,7 @@ fn object_with(
     bytes.extend_from_slice(&TEXT)?;
     bytes.extend_from_slice(&[0; 31])?;
     let mut entry = [0; 24];
-    symbol.write_to(&mut entry);
+    START.write_to(&mut entry);
     bytes.extend_from_slice(&entry)?;
     bytes.extend_from_slice(b"\0_start\0")?;
     bytes.extend_from_slice(b"\0.text\0.symtab\0.strtab\0.shstrtab\0")?;
@@ -146,21 +136,11 @@ fn relocated_object(
     relocations: &SectionHeader,
     entry: &Rela,
 ) -> Result<Vec<u8>, AllocError> {
-    relocated_with(alloc, &START, relocations, entry)
-}
-
-/// That object with another symbol in the place of `_start`.
-fn relocated_with(
-    alloc: Global,
-    symbol: &Symbol,
-    relocations: &SectionHeader,
-    entry: &Rela,
-) -> Result<Vec<u8>, AllocError> {
     let header = FileHeader {
         e_shnum: 6,
         ..HEADER
     };
-    let mut bytes = object_with(alloc, &header, symbol, &TEXT_SECTION)?;
+    let mut bytes = object_of(alloc, &header, &TEXT_SECTION)?;
     put_section(&mut bytes, relocations)?;
     let mut record = [0; 24];
     entry.write_to(&mut record);
@@ -397,66 +377,5 @@ fn relocations_of_no_bytes_are_refused(rt: HostRuntime) -> Result<(), Fail> {
     put_section(&mut bytes, &RELOCATIONS)?;
     bytes.extend_from_slice(&[0; 24])?;
     assert_eq!(rt; outcome(rt.alloc(), &bytes)?.as_str(), "BadRela (10)");
-    Ok(())
-}
-
-/// A symbol of an object and its relocation, and whether the object is plain.
-static PLAINNESS: [(Symbol, Rela, bool); 6] = [
-    (START, CALL, true),
-    // WEAK, COMMON, and of type TLS.
-    (
-        Symbol {
-            st_info: 0x22,
-            ..START
-        },
-        CALL,
-        true,
-    ),
-    (
-        Symbol {
-            st_shndx: SHN_COMMON,
-            ..START
-        },
-        CALL,
-        true,
-    ),
-    (
-        Symbol {
-            st_info: 0x16,
-            ..START
-        },
-        CALL,
-        false,
-    ),
-    // R_X86_64_GOTPCREL, R_X86_64_GOTTPOFF.
-    (
-        START,
-        Rela {
-            r_info: 0x1_0000_0009,
-            ..CALL
-        },
-        true,
-    ),
-    (
-        START,
-        Rela {
-            r_info: 0x1_0000_0016,
-            ..CALL
-        },
-        false,
-    ),
-];
-
-fn is_plain(alloc: Global, symbol: &Symbol, entry: &Rela) -> Result<bool, Fail> {
-    let bytes = relocated_with(alloc, symbol, &RELOCATIONS, entry)?;
-    let object = Object::read(alloc, View::new(&bytes))?;
-    Ok(is_plain_object(&object))
-}
-
-#[test]
-fn symbols_and_kinds_of_thread_storage_are_not_plain(rt: HostRuntime) -> Result<(), Fail> {
-    for (symbol, entry, plain) in &PLAINNESS {
-        assert_eq!(rt; is_plain(rt.alloc(), symbol, entry)?, *plain);
-    }
     Ok(())
 }
