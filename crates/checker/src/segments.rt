@@ -2,7 +2,6 @@
 ghost use Rattle.std.specs.Prelude.{◌≡◌, ◌+◌, ◌≤◌, ◌<◌, ◌↔◌, ℕ, All, AllPairs, IsTrue, length, slice_index, Contains, IfSome, Some, slice_index_or};
 ghost use Rattle.elf_model.specs.MemoryImage.{Encloses, segment_byte, loads};
 ghost use Rattle.loader_model.specs.Table.{IsLawful, EndsBefore};
-ghost use Rattle.check_relocs.specs.Bytes.{EndsBefore};
 ghost use Rattle.std.specs.List.Sorted.{IsNonDecreasingBy};
 
 use byteview::{all_byte, equal_run};
