@@ -60,9 +60,9 @@ abbrev pub own_entry : ℕ → List LoadedObject → List ℕ → ℕ
 own_entry base objects entry =
     unwrap_or (option_map (meaning_value (own_where base objects)) (object_meaning objects entry)) 0
 
-abbrev pub header_bytes : ℕ → List LoadedObject → List ℕ → List ℕ
+abbrev pub header_bytes : ℕ → List LoadedObject → ℕ → List ℕ
 header_bytes base objects entry =
-    file_header_bytes (own_file_header (own_entry base objects entry) (header_count objects))
+    file_header_bytes (own_file_header entry (header_count objects))
     ++ flat_map program_header_bytes (own_program_headers base objects)
 
 -- the byte that stands for an address: the GOT's, or another piece's wanted byte; else 0x90 in the file part of an
@@ -88,8 +88,9 @@ own_byte base objects a =
     (option_map (λ q. piece_byte objects (own_where base objects) q.piece (a - q.at)) (find (covers_address a) (own_loaded base objects)))
     (fill_at (own_segments base objects) a)
 
--- the image file: the headers, then the byte of each address up to the end of the last file part
-abbrev pub image_file : ℕ → List LoadedObject → List ℕ → List ℕ
+-- the image file that is entered at an address: the headers, then the byte of each address up to the end of the last
+-- file part
+abbrev pub image_file : ℕ → List LoadedObject → ℕ → List ℕ
 image_file base objects entry =
     header_bytes base objects entry
     ++ map (λ i. own_byte base objects (base + i))

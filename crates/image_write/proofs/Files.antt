@@ -4,7 +4,7 @@ use Rattle.std.specs.Prelude.{None, Option, Some, map, option_map}
 use Rattle.std.specs.List.{flat_map, range_with_len}
 use Rattle.std.specs.Option.{option_map_or}
 use Rattle.elf_model.specs.Command.{IsBase}
-use Rattle.elf_model.specs.ImageFile.{header_bytes, image_file, own_byte, own_entry, own_file_header, own_program_headers}
+use Rattle.elf_model.specs.ImageFile.{header_bytes, image_file, own_byte, own_file_header, own_program_headers}
 use Rattle.elf_model.specs.Loading.{AreObjects, LoadedObject}
 use Rattle.elf_model.specs.OwnLayout.{IsNotTooLarge, file_end, header_count, own_headers_size, own_in_load_order, own_loaded, own_segments, own_where}
 use Rattle.elf_model.specs.Pieces.{AreLawfulKinds}
@@ -37,12 +37,11 @@ threads_is b header is = ap as_list is ∙ threads_are b.base (own_in_load_order
 
 module _ (base : ℕ) (objects : List LoadedObject) where
   own_headers_are :
-      (entry : ℕ) (name : List ℕ) → own_entry base objects name ≡ entry →
-      headers_of entry (own_segments base objects) (own_thread_headers_of base objects) ≡ header_bytes base objects name
-  own_headers_are entry name e =
-      let count = header_count_is base objects in
-      ap (λ (n : ℕ). file_header_bytes (own_file_header entry n) ++ flat_map program_header_bytes (own_program_headers base objects)) (sym count)
-      ∙ ap (λ (n : ℕ). file_header_bytes (own_file_header n (header_count objects)) ++ flat_map program_header_bytes (own_program_headers base objects)) (sym e)
+      (entry : ℕ) →
+      headers_of entry (own_segments base objects) (own_thread_headers_of base objects) ≡ header_bytes base objects entry
+  own_headers_are entry =
+      ap (λ (n : ℕ). file_header_bytes (own_file_header entry n) ++ flat_map program_header_bytes (own_program_headers base objects))
+      (sym (header_count_is base objects))
 
   -- where the headers end
   pub from_is :
@@ -57,11 +56,10 @@ module _ (base : ℕ) (objects : List LoadedObject) where
   -- what the code puts, where its numbers and lists are those of the own layout
   pub image_is :
       (based : IsBase base) (good : AreObjects objects) (kinds : AreLawfulKinds objects) (fits : IsNotTooLarge base objects) →
-      (hs ts : List ProgramHeader) (qs : List Placed) (entry from to : ℕ) (name : List ℕ) →
+      (hs ts : List ProgramHeader) (qs : List Placed) (entry from to : ℕ) →
       hs ≡ own_segments base objects → ts ≡ own_thread_headers_of base objects → qs ≡ own_loaded base objects → from ≡ base + (64 + 56 * count_of hs ts) → to ≡ base + file_end hs →
-      own_entry base objects name ≡ entry →
-      headers_of entry hs ts ++ body_from objects (own_where base objects) (code_part hs) to from qs ≡ image_file base objects name
-  image_is based good kinds fits hs ts qs entry from to name is_hs is_ts is_qs is_from is_to is_entry =
+      headers_of entry hs ts ++ body_from objects (own_where base objects) (code_part hs) to from qs ≡ image_file base objects entry
+  image_is based good kinds fits hs ts qs entry from to is_hs is_ts is_qs is_from is_to =
       let at : from ≡ base + own_headers_size objects = from_is hs ts from is_hs is_ts is_from in
       let end : to ≡ base + file_end (own_segments base objects) = is_to ∙ ap (λ (gs : List ProgramHeader). base + file_end gs) is_hs in
       let n : (base + file_end (own_segments base objects)) - (base + own_headers_size objects) ≡ file_end (own_segments base objects) - own_headers_size objects = omega arith in
@@ -76,8 +74,8 @@ module _ (base : ℕ) (objects : List LoadedObject) where
       ∙ sym (map_shifted (own_byte base objects) base (own_headers_size objects) (file_end (own_segments base objects) - own_headers_size objects))))))) in
       ap (λ (gs : List ProgramHeader). headers_of entry gs ts ++ B hs to from qs) is_hs
       ∙ (ap (λ (gs : List ProgramHeader). headers_of entry (own_segments base objects) gs ++ B hs to from qs) is_ts
-      ∙ (ap (λ (bs : List ℕ). bs ++ B hs to from qs) (own_headers_are entry name is_entry)
-      ∙ ap (λ (bs : List ℕ). header_bytes base objects name ++ bs) body))
+      ∙ (ap (λ (bs : List ℕ). bs ++ B hs to from qs) (own_headers_are entry)
+      ∙ ap (λ (bs : List ℕ). header_bytes base objects entry ++ bs) body))
 
 -- the places of the own layout follow each other between the numbers that the code makes
 pub rise_is :
@@ -103,14 +101,14 @@ end_low base objects based good kinds fits hs to is_hs is_to =
 -- what the code puts, step by step
 pub file_is :
     (r : Basis) → IsBase r.base → AreObjects r.objects → AreLawfulKinds r.objects → IsNotTooLarge r.base r.objects →
-    (hs ts : List ProgramHeader) (qs : List Placed) (code : Code) (entry from to : ℕ) (name out mid new : List ℕ) →
+    (hs ts : List ProgramHeader) (qs : List Placed) (code : Code) (entry from to : ℕ) (out mid new : List ℕ) →
     hs ≡ own_segments r.base r.objects → ts ≡ own_thread_headers_of r.base r.objects → qs ≡ own_loaded r.base r.objects → code ≡ code_part hs →
-    from ≡ r.base + (64 + 56 * count_of hs ts) → to ≡ r.base + file_end hs → own_entry r.base r.objects name ≡ entry →
+    from ≡ r.base + (64 + 56 * count_of hs ts) → to ≡ r.base + file_end hs →
     out ≡ [] → mid ≡ out ++ headers_of entry hs ts →
-    new ≡ mid ++ body_from r.objects (own_where r.base r.objects) code to from qs → new ≡ image_file r.base r.objects name
-file_is r based good kinds fits hs ts qs code entry from to name out mid new is_hs is_ts is_qs is_code is_from is_to is_entry is_out is_mid is_new =
+    new ≡ mid ++ body_from r.objects (own_where r.base r.objects) code to from qs → new ≡ image_file r.base r.objects entry
+file_is r based good kinds fits hs ts qs code entry from to out mid new is_hs is_ts is_qs is_code is_from is_to is_out is_mid is_new =
     let front : mid ≡ headers_of entry hs ts = is_mid ∙ ap (λ (bs : List ℕ). bs ++ headers_of entry hs ts) is_out in
     is_new
     ∙ (ap (λ (bs : List ℕ). bs ++ body_from r.objects (own_where r.base r.objects) code to from qs) front
     ∙ (ap (λ (c : Code). headers_of entry hs ts ++ body_from r.objects (own_where r.base r.objects) c to from qs) is_code
-    ∙ image_is r.base r.objects based good kinds fits hs ts qs entry from to name is_hs is_ts is_qs is_from is_to is_entry))
+    ∙ image_is r.base r.objects based good kinds fits hs ts qs entry from to is_hs is_ts is_qs is_from is_to))

@@ -1,7 +1,7 @@
 //! The image file of a layout.
-ghost use Rattle.std.specs.Prelude.{◌≡◌, ℕ, All, IfOk, List};
+ghost use Rattle.std.specs.Prelude.{◌≡◌, All, IfOk};
 ghost use Rattle.elf_model.specs.Command.{IsBase};
-ghost use Rattle.elf_model.specs.ImageFile.{image_file, own_entry};
+ghost use Rattle.elf_model.specs.ImageFile.{image_file};
 ghost use Rattle.elf_model.specs.Loading.{AreObjects};
 ghost use Rattle.elf_model.specs.OwnLayout as own;
 ghost use Rattle.elf_model.specs.OwnLayout.{IsNotTooLarge};
@@ -30,7 +30,7 @@ fn file_end(segments: &[ProgramHeader]) -> u64
     end
 }
 
-/// The image file: the headers, the pieces for which memory has a place at their offsets with their relocated bytes, the
+/// The image file that is entered at an address: the headers, the pieces for which memory has a place at their offsets with their relocated bytes, the
 /// GOT with the values of its slots, and fill between them.
 pub fn image<'c, 'p, 'a>(
     alloc: Global,
@@ -45,7 +45,7 @@ pub fn image<'c, 'p, 'a>(
     requires fits { IsNotTooLarge placement.now.base placement.now.objects }
     requires same { patches.now ≡ placement.now }
     requires slots { slots.now ≡ slot_values placement.now }
-    ensures image { IfOk result (λ v. (name : List ℕ) → own_entry placement.now.base placement.now.objects name ≡ entry → v.items ≡ image_file placement.now.base placement.now.objects name) }
+    ensures { IfOk result (λ v. v.items ≡ image_file placement.now.base placement.now.objects entry) }
 {
     let base = placement.base();
     let segments = placement.segments();

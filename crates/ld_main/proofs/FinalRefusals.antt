@@ -1,8 +1,9 @@
 -- The cause of a final refusal denies a clause of every right link.
 use Rattle.std.proofs.Common.{◌≡◌, ℕ, ◌*◌, ◌⊎◌, inl, inr, Bool, true, false, cond, List, [], ◌∷◌, ◌++◌, ◌+◌, refl, sym, ◌∙◌, ap, subst, arith}
-use Rattle.std.specs.Prelude.{All, AllPairs, Any, Contains, Err, IfErr, IfSome, IsSome, None, Ok, Option, Result, Some, filter, map, option_map, pos, unwrap_or, ◌+ℤ◌}
+use Rattle.std.specs.Prelude.{All, AllPairs, Any, Contains, Err, IfErr, IfSome, IsSome, None, Ok, Option, Result, Some, filter, is_some, map, max, option_map, pos, unwrap_or, ◌+ℤ◌}
 use Rattle.std.proofs.lemmas.Bool.{and_parts, false≢true}
-use Rattle.std.proofs.lemmas.List.Elements.{All-append, All-cons, All-contains, All-head, All-map, All-nil, All-tail, Contains-append_cases, Contains-append_left, Contains-append_right}
+use Rattle.std.proofs.lemmas.List.{map-append}
+use Rattle.std.proofs.lemmas.List.Elements.{All-contains, All-head, All-tail, Contains-append_cases, Contains-append_left, Contains-append_right}
 use Rattle.elf_model.specs.ArrayOrder.{placed_in_array_order}
 use Rattle.elf_model.specs.ArchiveFile.{IsArchive}
 use Rattle.elf_model.specs.Causes.{Cause, HasArchives, HasBadGroups, IsBadArchive, IsBadObject, IsToDropped, IsToMixed, IsUndefinedName, IsWithoutIndex, Reaches}
@@ -11,32 +12,35 @@ use Rattle.elf_model.specs.Commons.{Block, block_piece, block_pieces, blocks, pi
 use Rattle.elf_model.specs.Files.{File}
 use Rattle.elf_model.specs.Groups.{AreLawfulGroups}
 use Rattle.elf_model.specs.Loading.{LoadedObject, loaded_objects}
-use Rattle.elf_model.specs.MapRecord.{CommonRow, PlaceRow, SlotRow}
+use Rattle.elf_model.specs.MapRecord.{CommonRow, PlaceRow}
 use Rattle.elf_model.specs.ObjectFile.{IsObject, ObjFaultStands, groups}
 use Rattle.elf_model.specs.Opening.{AreFilesThere, lacks_index, opened}
 use Rattle.elf_model.specs.Meaning.{Common, Linker, Meaning, Symbol, meaning_value}
-use Rattle.elf_model.specs.OwnLayout.{own_where}
-use Rattle.elf_model.specs.Pieces.{AreLawfulKinds, Piece, is_nobits, is_thread_piece, is_thread_zero, kept_sections, load_size}
-use Rattle.elf_model.specs.Placement.{IsPlaced, IsWithin, Placed, Where, got_things, headers_thing, is_of_section, is_thread_place, placed_block, placed_blocks, placed_by, range_of, symbol_value, thing_of, thread_ranges}
+use Rattle.elf_model.specs.LinkerNames.{named_output}
+use Rattle.elf_model.specs.LinkerValues.{bound_value, end_of_pieces, is_code_piece, is_file_data, is_loaded_piece, is_zero_data, least_of, start_of_pieces}
+use Rattle.elf_model.specs.Pieces.{AreLawfulKinds, Piece, is_nobits, is_thread_piece, is_thread_zero, kept_sections, load_size, is_of_output}
+use Rattle.elf_model.specs.Placement.{IsPlaced, IsWithin, Placed, Where, got_end, got_things, headers_thing, is_of_section, is_thread_place, placed_block, placed_blocks, placed_by, range_of, symbol_value, thing_of, thread_ranges}
 use Rattle.elf_model.specs.Relocation.{AreFieldsApart, Formula, IsFieldInside, IsInRange, IsLawfulRelocation, IsThreadMismatch, Kind, Relocation, S+A, Z+A, definition_of, modulo_64, relocation_kind, relocations, whole_value}
 use Rattle.elf_model.specs.RelocationValues.{Fits, terms_of, value_of}
 use Rattle.elf_model.specs.Resolution.{AreSoundCommons, AreSoundSymbols, IsDuplicate, IsEntry, SymbolOf, is_absolute}
-use Rattle.elf_model.specs.RightLink.{AreRelocationsRight, AreSectionsListed, EntersRight, IsLoaded, IsRightLink, Subject, facts_of_piece, facts_of_row, placed_of, sections_of, things_of, where_of}
+use Rattle.elf_model.specs.RightLink.{AreRelocationsRight, AreSectionsListed, EntersRight, IsGotRight, IsLoaded, IsRightLink, Subject, facts_of_piece, facts_of_row, placed_of, sections_of, things_of, where_of}
 use Rattle.elf_model.specs.declared.link_map.GotLine.{GotLine}
+use Rattle.elf_model.specs.Slots.{has_got}
+use Rattle.elf_model.specs.declared.bound.Bound.{Bound}
+use Rattle.elf_model.specs.declared.bound.Bound.TheVariants.{CodeEnd, DataEnd, GotStart, ImageEnd, ImageStart, OutputEnd, OutputStart, ZeroStart}
 use Rattle.elf_model.specs.declared.faults.CmdFault.{CmdFault}
 use Rattle.elf_model.specs.declared.faults.LinkError.{LinkError}
 use Rattle.elf_model.specs.declared.faults.LinkError.TheVariants as error
 use Rattle.elf_model.specs.declared.faults.ObjFault.{ObjFault}
 use Rattle.elf_model.specs.declared.verdict.Clause.TheVariants.{C2, C3, C5, C9, C12, C13}
 use Rattle.elf_model.proofs.Finding.{find-none}
-use Rattle.elf_model.proofs.Places.{at_own_address}
-use Rattle.elf_model.proofs.Listed.{All-parts, All-unmap, Contains-cons_cases, Contains-filter, Contains-from_map, Contains-here, Contains-map, Contains-nil, Contains-there}
+use Rattle.elf_model.proofs.Listed.{All-unmap, Contains-cons_cases, Contains-filter, Contains-from_map, Contains-here, Contains-map, Contains-nil, Contains-there}
 use Rattle.command.proofs.Found.{same_ok}
 use Rattle.ar_index.proofs.Steps as archive_faults
 use Rattle.comdat.proofs.GroupFaultLemmas as group_faults
 use Rattle.elf_model.proofs.LoadedItems.{item_loaded}
 use Rattle.elf_read.proofs.Faults as object_faults
-use Rattle.ld_main.specs.FinalRefusals.{DeniesLinks, HasNoAddress, IsAddressFree, IsElsewhere, IsFinal, IsTooWide, MeansNoAddress, NeverFits}
+use Rattle.ld_main.specs.FinalRefusals.{DeniesLinks, HasNoAddress, HasNone, IsElsewhere, IsFinal, IsLayout, IsSettled, IsSettledBound, IsSettledMeaning, IsTooWide, NeverFits}
 
 -- what stands of some element and what stands of all exclude each other
 excluded : {X : Type 0} (P Q : X → Type 0) (xs : List X) → Any P xs → All Q xs → ((x : X) → P x → Q x → ⊥) → ⊥
@@ -46,78 +50,114 @@ abbrev is_ok : Result Plan CmdFault → Bool
 is_ok (Ok p) = true
 is_ok (Err f) = false
 
--- a value without an address is the same wherever pieces stand
+-- a symbol without an address has the same value wherever pieces stand
 abbrev IsApart : SymbolOf → Placed → Type 0
 IsApart s q = is_of_section s.object s.entry.st_shndx q ≡ false
-
-placed_apart : (s : SymbolOf) (rows : List PlaceRow) (ps : List Piece) → All (IsElsewhere s) ps → All (IsApart s) (placed_by rows ps)
-placed_apart s [] ps none = All-nil (IsApart s)
-placed_apart s (row ∷ rows) [] none = All-nil (IsApart s)
-placed_apart s (row ∷ rows) (p ∷ ps) none =
-    All-cons (IsApart s) (record { at = row.address; piece = p }) (placed_by rows ps) (All-head (IsElsewhere s) p ps none)
-    (placed_apart s rows ps (All-tail (IsElsewhere s) p ps none))
-
-blocks_apart : (s : SymbolOf) (rows : List CommonRow) (bs : List Block) → All (IsElsewhere s) (map block_piece bs) → All (IsApart s) (placed_blocks rows bs)
-blocks_apart s rows bs none = All-map (IsApart s) (placed_block rows) bs (All-unmap (IsElsewhere s) block_piece bs none)
 
 value_apart : (ps : List Placed) (s : SymbolOf) → All (IsApart s) ps → symbol_value ps s ≡ cond (is_absolute s.entry) s.entry.st_value 0
 value_apart ps s none =
     ap (λ (o : Option Placed). cond (is_absolute s.entry) s.entry.st_value (unwrap_or (option_map (λ q. q.at + s.entry.st_value) o) 0))
     (find-none (is_of_section s.object s.entry.st_shndx) ps none)
 
-module _ (base : ℕ) (objects : List LoadedObject) (rows : List PlaceRow) (commons : List CommonRow) (got : Option GotLine) (slots : List SlotRow) where
-  abbrev own : Where
-  own = own_where base objects
+-- where no piece passes a test, the end of those that do is 0, and their beginning is none
+abbrev FailsAll : (Piece → Bool) → List Placed → Type 0
+FailsAll test ps = All (λ p. test p ≡ false) (map (λ q. q.piece) ps)
 
-  abbrev mapped : Where
-  mapped = record {
-    base = base;
-    placed = placed_by rows (kept_sections objects) ++ placed_blocks commons (blocks objects);
-    got = got;
-    slots = slots;
-  }
+no_end : (test : Piece → Bool) (ps : List Placed) → FailsAll test ps → end_of_pieces test ps ≡ 0
+no_end test [] none = refl
+no_end test (q ∷ qs) none =
+    let here = All-head (λ p. test p ≡ false) q.piece (map (λ q. q.piece) qs) none in
+    let more = no_end test qs (All-tail (λ p. test p ≡ false) q.piece (map (λ q. q.piece) qs) none) in
+    ap (λ b. cond b (max (q.at + q.piece.size) (end_of_pieces test qs)) (end_of_pieces test qs)) here ∙ more
 
-  all_apart : (s : SymbolOf) → All (IsElsewhere s) (pieces objects) → All (IsApart s) mapped.placed
-  all_apart s none =
-      let parts = All-parts (IsElsewhere s) (kept_sections objects) (block_pieces objects) none in
-      All-append (IsApart s) (placed_by rows (kept_sections objects)) (placed_blocks commons (blocks objects))
-      (placed_apart s rows (kept_sections objects) parts.0) (blocks_apart s commons (blocks objects) parts.1)
+no_start : (test : Piece → Bool) (ps : List Placed) → FailsAll test ps → start_of_pieces test ps ≡ None
+no_start test [] none = refl
+no_start test (q ∷ qs) none =
+    let here = All-head (λ p. test p ≡ false) q.piece (map (λ q. q.piece) qs) none in
+    let more = no_start test qs (All-tail (λ p. test p ≡ false) q.piece (map (λ q. q.piece) qs) none) in
+    ap (λ b. cond b (Some (least_of q.at (start_of_pieces test qs))) (start_of_pieces test qs)) here ∙ more
 
-  same_value : (s : SymbolOf) → HasNoAddress objects s → symbol_value mapped.placed s ≡ symbol_value own.placed s
+no_got : (got : Option GotLine) → is_some got ≡ false → got_end got ≡ 0
+no_got None none = refl
+no_got (Some g) none = absurd (false≢true (sym none))
+
+-- a value that is settled is the same in two layouts
+module _ (base : ℕ) (objects : List LoadedObject) (w v : Where) (of_w : IsLayout base objects w) (of_v : IsLayout base objects v) where
+  fails_all : (u : Where) → IsLayout base objects u → (test : Piece → Bool) → HasNone test objects → FailsAll test u.placed
+  fails_all u of_u test none = subst (λ (ps : List Piece). All (λ p. test p ≡ false) ps) (sym of_u.placed_are) none
+
+  ends_at : (u : Where) → IsLayout base objects u → (test : Piece → Bool) → HasNone test objects → end_of_pieces test u.placed ≡ 0
+  ends_at u of_u test none = no_end test u.placed (fails_all u of_u test none)
+
+  starts_at : (u : Where) → IsLayout base objects u → (test : Piece → Bool) → HasNone test objects → unwrap_or (start_of_pieces test u.placed) 0 ≡ 0
+  starts_at u of_u test none = ap (λ (o : Option ℕ). unwrap_or o 0) (no_start test u.placed (fails_all u of_u test none))
+
+  ends_without_got :
+      (u : Where) → IsLayout base objects u → (test : Piece → Bool) → HasNone test objects → has_got objects ≡ false →
+      max (end_of_pieces test u.placed) (got_end u.got) ≡ 0
+  ends_without_got u of_u test none bare =
+      let end = ends_at u of_u test none in
+      let got = no_got u.got (of_u.got_is ∙ bare) in
+      ap (λ (x : ℕ). max x (got_end u.got)) end ∙ ap (λ (x : ℕ). max 0 x) got
+
+  same_bound : (name : List ℕ) (bound : Bound) → IsSettledBound objects name bound → bound_value w name bound ≡ bound_value v name bound
+  same_bound name ImageStart settled = of_w.base_is ∙ sym of_v.base_is
+  same_bound name CodeEnd settled = ends_at w of_w is_code_piece settled ∙ sym (ends_at v of_v is_code_piece settled)
+  same_bound name DataEnd settled =
+      ends_without_got w of_w is_file_data settled.0 settled.1 ∙ sym (ends_without_got v of_v is_file_data settled.0 settled.1)
+  same_bound name ZeroStart settled = starts_at w of_w is_zero_data settled ∙ sym (starts_at v of_v is_zero_data settled)
+  same_bound name ImageEnd settled =
+      ends_without_got w of_w is_loaded_piece settled.0 settled.1 ∙ sym (ends_without_got v of_v is_loaded_piece settled.0 settled.1)
+  same_bound name GotStart settled = absurd settled
+  same_bound name OutputStart settled =
+      starts_at w of_w (is_of_output (named_output name)) settled ∙ sym (starts_at v of_v (is_of_output (named_output name)) settled)
+  same_bound name OutputEnd settled =
+      ends_at w of_w (is_of_output (named_output name)) settled ∙ sym (ends_at v of_v (is_of_output (named_output name)) settled)
+
+  all_apart : (u : Where) → IsLayout base objects u → (s : SymbolOf) → All (IsElsewhere s) (pieces objects) → All (IsApart s) u.placed
+  all_apart u of_u s none =
+      All-unmap (IsElsewhere s) (λ (q : Placed). q.piece) u.placed (subst (λ (ps : List Piece). All (IsElsewhere s) ps) (sym of_u.placed_are) none)
+
+  same_value : (s : SymbolOf) → HasNoAddress objects s → symbol_value w.placed s ≡ symbol_value v.placed s
   same_value s (inl absolute) = rw absolute refl
-  same_value s (inr none) =
-      value_apart mapped.placed s (all_apart s none)
-      ∙ sym (value_apart own.placed s (All-map (IsApart s) (at_own_address base objects) (pieces objects) none))
+  same_value s (inr none) = value_apart w.placed s (all_apart w of_w s none) ∙ sym (value_apart v.placed s (all_apart v of_v s none))
 
   same_symbol :
-      (d : Option Meaning) → IfSome d (MeansNoAddress objects) →
-      unwrap_or (option_map (meaning_value mapped) d) 0 ≡ unwrap_or (option_map (meaning_value own) d) 0
-  same_symbol None free = refl
-  same_symbol (Some (Symbol s)) free = same_value s free
-  same_symbol (Some (Common b)) free = absurd free
-  same_symbol (Some (Linker name bound)) free = absurd free
+      (d : Option Meaning) → IfSome d (IsSettledMeaning objects) →
+      unwrap_or (option_map (meaning_value w) d) 0 ≡ unwrap_or (option_map (meaning_value v) d) 0
+  same_symbol None settled = refl
+  same_symbol (Some (Symbol s)) settled = same_value s settled
+  same_symbol (Some (Common b)) settled = absurd settled
+  same_symbol (Some (Linker name bound)) settled = same_bound name bound settled
 
   same_whole :
-      (r : Relocation) (f : Formula) → IsAddressFree objects f (definition_of objects r.symbol) →
-      whole_value f (terms_of objects mapped r) ≡ whole_value f (terms_of objects own r)
-  same_whole r S+A free = ap (λ (s : ℕ). pos s +ℤ r.entry.r_addend) (same_symbol (definition_of objects r.symbol) free)
-  same_whole r Z+A free = refl
-  same_whole r _ free = absurd free
+      (r : Relocation) (f : Formula) → IsSettled objects f (definition_of objects r.symbol) →
+      whole_value f (terms_of objects w r) ≡ whole_value f (terms_of objects v r)
+  same_whole r S+A settled = ap (λ (s : ℕ). pos s +ℤ r.entry.r_addend) (same_symbol (definition_of objects r.symbol) settled)
+  same_whole r Z+A settled = refl
+  same_whole r _ settled = absurd settled
 
   value_at :
-      (ps : Where) (r : Relocation) (k : Kind) → relocation_kind r ≡ Some k →
-      value_of objects ps r ≡ modulo_64 (whole_value k.formula (terms_of objects ps r))
-  value_at ps r k is =
-      ap (λ (known : Option Kind). unwrap_or (option_map (λ h. modulo_64 (whole_value h.formula (terms_of objects ps r))) known) 0) is
+      (u : Where) (r : Relocation) (k : Kind) → relocation_kind r ≡ Some k →
+      value_of objects u r ≡ modulo_64 (whole_value k.formula (terms_of objects u r))
+  value_at u r k is =
+      ap (λ (known : Option Kind). unwrap_or (option_map (λ h. modulo_64 (whole_value h.formula (terms_of objects u r))) known) 0) is
 
-  never_fits : (r : Relocation) → NeverFits base objects r → Fits objects mapped r → ⊥
-  never_fits r never fits = never.unfit (subst (λ (v : ℕ). IfSome (relocation_kind r) (λ k. IsInRange k.range (8 * k.width) v)) same fits)
-    where
-      same : value_of objects mapped r ≡ value_of objects own r
-      same =
-          value_at mapped r never.kind never.kind_is
-          ∙ ap modulo_64 (same_whole r never.kind.formula never.free)
-          ∙ sym (value_at own r never.kind never.kind_is)
+  same_fit : (r : Relocation) (k : Kind) → relocation_kind r ≡ Some k → IsSettled objects k.formula (definition_of objects r.symbol) → Fits objects w r → Fits objects v r
+  same_fit r k is settled fits =
+      let same : value_of objects w r ≡ value_of objects v r = value_at w r k is ∙ (ap modulo_64 (same_whole r k.formula settled) ∙ sym (value_at v r k is)) in
+      subst (λ (x : ℕ). IfSome (relocation_kind r) (λ k. IsInRange k.range (8 * k.width) x)) same fits
+
+-- the pieces of a map's places are those that are placed
+placed_again : (rows : List PlaceRow) (ps : List Piece) → map facts_of_row rows ≡ map facts_of_piece ps → map (λ q. q.piece) (placed_by rows ps) ≡ ps
+placed_again [] [] listed = refl
+placed_again [] (p ∷ ps) listed = absurd cc
+placed_again (row ∷ rows) [] listed = absurd cc
+placed_again (row ∷ rows) (p ∷ ps) listed = ap (λ (qs : List Piece). p ∷ qs) (placed_again rows ps cc)
+
+blocks_again : (rows : List CommonRow) (bs : List Block) → map (λ q. q.piece) (placed_blocks rows bs) ≡ map block_piece bs
+blocks_again rows [] = refl
+blocks_again rows (b ∷ bs) = ap (λ (qs : List Piece). block_piece b ∷ qs) (blocks_again rows bs)
 
 -- each piece has a place
 placed_at : (rows : List PlaceRow) (ps : List Piece) (p : Piece) → map facts_of_row rows ≡ map facts_of_piece ps → Contains ps p
@@ -154,8 +194,23 @@ module _ (files : List File) (words : List (List ℕ)) (image text : List ℕ) (
   placed : IsPlaced l.plan.base (things_of subject) (thread_ranges (placed_of subject)) (placed_in_array_order (sections_of subject))
   placed = l.holds C5
 
+  got_right : IsGotRight subject
+  got_right = l.before_last.0.0.0.0.0.1
+
   referred : AreRelocationsRight subject
   referred = l.holds C9
+
+  -- what the map says is a layout
+  mapped : IsLayout l.plan.base objects (where_of subject)
+  mapped = record {
+    base_is = refl;
+    placed_are =
+        map-append (λ (q : Placed). q.piece) (sections_of subject) (placed_blocks l.map.commons (blocks objects))
+        ∙ (ap (λ (qs : List Piece). qs ++ map (λ q. q.piece) (placed_blocks l.map.commons (blocks objects)))
+        (placed_again l.map.places (kept_sections objects) listed.places)
+        ∙ ap (λ (qs : List Piece). kept_sections objects ++ qs) (blocks_again l.map.commons (blocks objects)));
+    got_is = got_right.present;
+  }
 
   enters : EntersRight subject
   enters = l.holds C12
@@ -283,7 +338,7 @@ module _ (files : List File) (words : List (List ℕ)) (image text : List ℕ) (
   deny error.Overflow c f =
       excluded (NeverFits l.plan.base objects) (Fits objects (where_of subject)) (relocations objects)
       (of_plan (λ p. Any (NeverFits p.base (loaded_objects files p)) (relocations (loaded_objects files p))) f.0 f.1 f.2) referred.fits
-      (never_fits l.plan.base objects l.map.places l.map.commons l.map.got l.map.slots)
+      (λ r never fits. never.unfit (same_fit l.plan.base objects (where_of subject) never.layout mapped never.is_layout r never.kind never.kind_is never.settled fits))
 
 pub denies_links : (files : List File) (words : List (List ℕ)) (e : LinkError) → Cause files words e → DeniesLinks files words e
 denies_links files words e cause final image text l = deny files words image text l e cause final

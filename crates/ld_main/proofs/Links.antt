@@ -23,7 +23,7 @@ use Rattle.resolve.specs.declared.faults.ResolveFault.{ResolveFault}
 use Rattle.resolve.specs.declared.faults.ResolveFault.TheVariants as resolve
 use Rattle.layout.specs.Placements.{Basis}
 use Rattle.resolve.specs.Views.{meaning_views}
-use Rattle.ld_main.specs.Linkages.{IsLinkageOf, IsOwnText, IsPrepared, Prepared}
+use Rattle.ld_main.specs.Linkages.{AreOwnMapsRight, IsLinkageOf, IsOwnText, IsPrepared, Prepared, own_image}
 use Rattle.ld_main.specs.Maps.{IsMapOf, own_record}
 use Rattle.ld_main.specs.Outputs.{AreLaidOut, AreLinkable, AreReferred, AreResolved, IsOwnLink, LinksRefuse}
 use Rattle.ld_main.specs.Program.{LinksRight}
@@ -74,7 +74,7 @@ values_refuse p objects l _ f = absurd f
 -- the bytes of a prepared link: its own image, and the text of its own map
 pub own :
     (files : List File) (words : List (List ℕ)) (l : Prepared) → IsPrepared files words l → (image text : List ℕ) →
-    image ≡ image_file l.plan.base l.objects l.plan.entry → IsOwnText l text → IsOwnLink files words image text
+    image ≡ own_image l → IsOwnText l text → IsOwnLink files words image text
 own files words l i image text image_is t = record {
   plan = l.plan;
   linkable = i.linkable;
@@ -83,20 +83,25 @@ own files words l i image text image_is t = record {
     own_map = subst (λ (os : List LoadedObject). IsOwnMap l.plan.base os t.record_of) i.objects t.own_map;
     is_map = t.is_map;
     spelled = t.spelled;
-    image_is = image_is ∙ ap (λ (os : List LoadedObject). image_file l.plan.base os l.plan.entry) i.objects;
+    image_is = image_is ∙ ap (λ (os : List LoadedObject). image_file l.plan.base os (own_entry l.plan.base os l.plan.entry)) i.objects;
   };
 }
 
+-- with its own image, each own map is a right link
+pub own_maps_right : (files : List File) (words : List (List ℕ)) (l : Prepared) → IsPrepared files words l → AreOwnMapsRight files words l
+own_maps_right files words l i m own is_map =
+    let small = subst (λ (os : List LoadedObject). own_entry l.plan.base os l.plan.entry < 2 ^ 64) i.objects i.entry_fits in
+    subst (λ (os : List LoadedObject). IsRightLink files words (image_file l.plan.base os (own_entry l.plan.base os l.plan.entry)) (map_text.text m))
+    (sym i.objects)
+    (own_is_right files words l.plan m i.linkable i.base small (subst (λ (os : List LoadedObject). IsOwnMap l.plan.base os m) i.objects own) is_map)
+
 pub right :
     (files : List File) (words : List (List ℕ)) (l : Prepared) → IsPrepared files words l → (image text : List ℕ) →
-    image ≡ image_file l.plan.base l.objects l.plan.entry → IsOwnText l text → IsRightLink files words image text
-unfolding own
+    image ≡ own_image l → IsOwnText l text → IsRightLink files words image text
 right files words l i image text image_is t =
-    let o = own files words l i image text image_is t in
-    let small = subst (λ (os : List LoadedObject). own_entry l.plan.base os l.plan.entry < 2 ^ 64) i.objects i.entry_fits in
-    let r = own_is_right files words l.plan t.record_of i.linkable i.base small o.bytes.own_map o.bytes.is_map in
-    subst (λ (j : List ℕ). IsRightLink files words j text) (sym o.bytes.image_is)
-    (subst (λ (u : List ℕ). IsRightLink files words (image_file l.plan.base (loaded_objects files l.plan) l.plan.entry) u) (sym o.bytes.spelled) r)
+    subst (λ (j : List ℕ). IsRightLink files words j text) (sym image_is)
+    (subst (λ (u : List ℕ). IsRightLink files words (own_image l) u) (sym t.spelled)
+    (own_maps_right files words l i t.record_of t.own_map t.is_map))
 
 module _ (files : List File) (words : List (List ℕ)) (p : Plan) (objects : List LoadedObject) (are : objects ≡ loaded_objects files p) (plan_is : command_of words ≡ Ok p) (there : AreFilesThere files p) (archives : AreArchives (opened files p)) (indexes : HaveIndexes (opened files p)) (good : AreObjects (loaded_objects files p)) (groups : HaveLawfulGroups (loaded_objects files p)) where
   taken : HasObjects files words p
@@ -141,7 +146,7 @@ module _ (files : List File) (words : List (List ℕ)) (p : Plan) (objects : Lis
         spelled = refl;
       } in
       let r = prepared x made in
-      (image_file p.base objects p.entry, map_text.text m, right files words (record { plan = p; objects = objects }) r _ _ refl text_is)
+      (own_image (record { plan = p; objects = objects }), map_text.text m, right files words (record { plan = p; objects = objects }) r _ _ refl text_is)
 
   pub cause : (e : LinkError) → LinksRefuse p objects e → Cause files words e
   cause e refused = of_loaded e (subst (λ (os : List LoadedObject). LinksRefuse p os e) are refused)

@@ -1,19 +1,24 @@
 -- Which refusals are final: where one stands, no image and no map at all are a right link of these files and
 -- words. Want of memory says nothing of them. A link that is too large, or of which a value doesn't fit, could
--- be right in another layout: of these it is said only where one piece alone is too wide, and where the value
--- has no address in it.
-use Rattle.std.specs.Prelude.{◌≡◌, ◌⊎◌, ℕ, ◌+◌, ◌^◌, ◌<◌, ◌==◌, ◌&&◌, true, false, List, Option, Some, IfSome, Ok, All, Any}
+-- be right in another layout: of these it is said only where one piece alone is too wide, and where a value that
+-- doesn't fit is the same in every layout.
+use Rattle.std.specs.Prelude.{◌≡◌, ◌⊎◌, ℕ, ◌+◌, ◌^◌, ◌<◌, ◌==◌, ◌&&◌, Bool, true, false, List, Option, Some, IfSome, Ok, All, Any, is_some, map}
 use Rattle.elf_model.specs.Command.{Plan, command_of}
 use Rattle.elf_model.specs.Commons.{pieces}
 use Rattle.elf_model.specs.Files.{File}
+use Rattle.elf_model.specs.LinkerNames.{named_output}
+use Rattle.elf_model.specs.LinkerValues.{is_code_piece, is_file_data, is_loaded_piece, is_zero_data}
 use Rattle.elf_model.specs.Loading.{LoadedObject, loaded_objects}
 use Rattle.elf_model.specs.Meaning.{Common, Linker, Meaning, Symbol}
-use Rattle.elf_model.specs.OwnLayout.{own_where}
-use Rattle.elf_model.specs.Pieces.{Piece}
+use Rattle.elf_model.specs.Pieces.{Piece, is_of_output}
+use Rattle.elf_model.specs.Placement.{Where}
 use Rattle.elf_model.specs.Relocation.{Formula, Kind, Relocation, S+A, Z+A, definition_of, relocation_kind, relocations}
 use Rattle.elf_model.specs.RelocationValues.{Fits}
 use Rattle.elf_model.specs.Resolution.{SymbolOf, is_absolute}
 use Rattle.elf_model.specs.RightLink.{IsRightLink}
+use Rattle.elf_model.specs.Slots.{has_got}
+use Rattle.elf_model.specs.declared.bound.Bound.{Bound}
+use Rattle.elf_model.specs.declared.bound.Bound.TheVariants.{CodeEnd, DataEnd, GotStart, ImageEnd, ImageStart, OutputEnd, OutputStart, ZeroStart}
 use Rattle.elf_model.specs.declared.faults.LinkError.{LinkError}
 use Rattle.elf_model.specs.declared.faults.LinkError.TheVariants as error
 
@@ -25,33 +30,55 @@ HasNoRightLink files words = (image map : List ℕ) → IsRightLink files words 
 abbrev pub IsTooWide : ℕ → Piece → Type 0
 IsTooWide base q = 2 ^ 46 < base + q.size
 
+-- a layout of objects from a base on, whoever laid out: each piece has an address, and a GOT that is asked for has one
+pub record IsLayout (base : ℕ) (objects : List LoadedObject) (w : Where) : Type 0 where
+  pub base_is : w.base ≡ base
+  pub placed_are : map (λ q. q.piece) w.placed ≡ pieces objects
+  pub got_is : is_some w.got ≡ has_got objects
+
 -- a piece is not the section of a definition
 abbrev pub IsElsewhere : SymbolOf → Piece → Type 0
 IsElsewhere s q = (q.object == s.object && q.section == s.entry.st_shndx) ≡ false
 
--- a definition's value has no address in it: it is absolute, or its section isn't kept, and the value is 0
+-- a symbol's value has no address in it: it is absolute, or its section isn't kept, and the value is 0
 abbrev pub HasNoAddress : List LoadedObject → SymbolOf → Type 0
 HasNoAddress objects s = (is_absolute s.entry ≡ true) ⊎ All (IsElsewhere s) (pieces objects)
 
--- neither has what a name means: a symbol of which that holds, never a common block or a name of the linker's
-abbrev pub MeansNoAddress : List LoadedObject → Meaning → Type 0
-MeansNoAddress objects (Symbol s) = HasNoAddress objects s
-MeansNoAddress objects (Common b) = ⊥
-MeansNoAddress objects (Linker name bound) = ⊥
+-- no piece is one of which a test is true
+abbrev pub HasNone : (Piece → Bool) → List LoadedObject → Type 0
+HasNone test objects = All (λ p. test p ≡ false) (pieces objects)
 
--- a formula's value has no address in it: the addend is added to the size of the definition, or to the value of
--- one without an address or of none
-abbrev pub IsAddressFree : List LoadedObject → Formula → Option Meaning → Type 0
-IsAddressFree objects Z+A d = Unit {0}
-IsAddressFree objects S+A d = IfSome d (MeansNoAddress objects)
-IsAddressFree objects _ d = ⊥
+-- a name of the linker's stands for the base, or for the beginning or the end of nothing, which is 0
+abbrev pub IsSettledBound : List LoadedObject → List ℕ → Bound → Type 0
+IsSettledBound objects name ImageStart = Unit {0}
+IsSettledBound objects name CodeEnd = HasNone is_code_piece objects
+IsSettledBound objects name DataEnd = HasNone is_file_data objects × (has_got objects ≡ false)
+IsSettledBound objects name ZeroStart = HasNone is_zero_data objects
+IsSettledBound objects name ImageEnd = HasNone is_loaded_piece objects × (has_got objects ≡ false)
+IsSettledBound objects name GotStart = ⊥
+IsSettledBound objects name OutputStart = HasNone (is_of_output (named_output name)) objects
+IsSettledBound objects name OutputEnd = HasNone (is_of_output (named_output name)) objects
 
--- such a value doesn't fit its field
+-- what a name means has the same value in every layout; a common block never has
+abbrev pub IsSettledMeaning : List LoadedObject → Meaning → Type 0
+IsSettledMeaning objects (Symbol s) = HasNoAddress objects s
+IsSettledMeaning objects (Common b) = ⊥
+IsSettledMeaning objects (Linker name bound) = IsSettledBound objects name bound
+
+-- so has a formula: the addend is added to the size of the definition, or to the value of such a one or of none
+abbrev pub IsSettled : List LoadedObject → Formula → Option Meaning → Type 0
+IsSettled objects Z+A d = Unit {0}
+IsSettled objects S+A d = IfSome d (IsSettledMeaning objects)
+IsSettled objects _ d = ⊥
+
+-- such a value doesn't fit its field in some layout, and so in none
 pub record NeverFits (base : ℕ) (objects : List LoadedObject) (r : Relocation) : Type 0 where
   pub kind : Kind
   pub kind_is : relocation_kind r ≡ Some kind
-  pub free : IsAddressFree objects kind.formula (definition_of objects r.symbol)
-  pub unfit : ¬ Fits objects (own_where base objects) r
+  pub settled : IsSettled objects kind.formula (definition_of objects r.symbol)
+  pub layout : Where
+  pub is_layout : IsLayout base objects layout
+  pub unfit : ¬ Fits objects layout r
 
 -- an error is final
 abbrev pub IsFinal : List File → List (List ℕ) → LinkError → Type 0

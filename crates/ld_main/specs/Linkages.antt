@@ -3,12 +3,13 @@ use Rattle.std.specs.Prelude.{◌≡◌, ℕ, ◌^◌, ◌<◌, List, map}
 use Rattle.elf_model.specs.Causes.{IsLinkable}
 use Rattle.elf_model.specs.Command.{IsBase, Plan}
 use Rattle.elf_model.specs.Files.{File}
-use Rattle.elf_model.specs.ImageFile.{IsOwnMap, own_entry}
+use Rattle.elf_model.specs.ImageFile.{IsOwnMap, image_file, own_entry}
 use Rattle.elf_model.specs.Loading.{AreObjects, LoadedObject, loaded_objects}
 use Rattle.elf_model.specs.MapRecord.{MapRecord}
 use Rattle.elf_model.specs.MapText.{Fits, IsMap}
 use Rattle.elf_model.specs.MapText as map_text
 use Rattle.elf_model.specs.OwnLayout.{own_where}
+use Rattle.elf_model.specs.RightLink.{IsRightLink}
 use Rattle.elf_model.specs.Slots.{slots}
 use Rattle.layout.specs.Tables.{AreTables}
 use Rattle.relocate.specs.PatchTables.{ArePatchesOf}
@@ -44,6 +45,15 @@ pub record IsPrepared (files : List File) (words : List (List ℕ)) (l : Prepare
   pub linkable : IsLinkable files words l.plan
   pub base : IsBase l.plan.base
   pub entry_fits : own_entry l.plan.base l.objects l.plan.entry < 2 ^ 64
+
+-- the image file of a link's own layout
+abbrev pub own_image : Prepared → List ℕ
+own_image l = image_file l.plan.base l.objects (own_entry l.plan.base l.objects l.plan.entry)
+
+-- with that image, each own map that has a text is a right link of files by words
+abbrev pub AreOwnMapsRight : List File → List (List ℕ) → Prepared → Type 0
+AreOwnMapsRight files words l =
+    (m : MapRecord) → IsOwnMap l.plan.base l.objects m → IsMap m → IsRightLink files words (own_image l) (map_text.text m)
 
 -- the text of a link's own map
 pub record IsOwnText (l : Prepared) (text : List ℕ) : Type 0 where

@@ -3,7 +3,7 @@ use Rattle.std.specs.Prelude.{◌≡◌, ℕ, List, AllPairs, Any, None, Some}
 use Rattle.elf_model.specs.Causes.{IsLinkable, IsToDropped, IsToMixed, IsUndefinedName}
 use Rattle.elf_model.specs.Command.{Plan}
 use Rattle.elf_model.specs.Files.{File}
-use Rattle.elf_model.specs.ImageFile.{IsOwnMap, image_file}
+use Rattle.elf_model.specs.ImageFile.{IsOwnMap, image_file, own_entry}
 use Rattle.elf_model.specs.Loading.{LoadedObject, loaded_objects}
 use Rattle.elf_model.specs.MapRecord.{MapRecord}
 use Rattle.elf_model.specs.MapText.{IsMap}
@@ -22,7 +22,7 @@ pub record IsOwnBytes (p : Plan) (objects : List LoadedObject) (image map : List
   pub own_map : IsOwnMap p.base objects record_of
   pub is_map : IsMap record_of
   pub spelled : map ≡ map_text.text record_of
-  pub image_is : image ≡ image_file p.base objects p.entry
+  pub image_is : image ≡ image_file p.base objects (own_entry p.base objects p.entry)
 
 -- what stands of objects of the profile before each phase: kinds and names, references, layout, values
 pub record AreResolved (objects : List LoadedObject) : Type 0 where

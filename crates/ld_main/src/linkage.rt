@@ -4,7 +4,7 @@ ghost use Rattle.std.specs.Prelude.{◌≡◌, IfErr, IfOk, OnOk, map};
 ghost use Rattle.elf_model.specs.Causes.{Cause};
 ghost use Rattle.elf_model.specs.Command.{IsBase};
 ghost use Rattle.elf_model.specs.Files.{files_of, words_of};
-ghost use Rattle.elf_model.specs.ImageFile.{IsOwnMap, image_file};
+ghost use Rattle.elf_model.specs.ImageFile.{IsOwnMap};
 ghost use Rattle.elf_model.specs.Loading.{AreObjects};
 ghost use Rattle.elf_model.specs.MapRecord.{map_of};
 ghost use Rattle.elf_model.specs.OwnLayout.{own_where};
@@ -15,7 +15,7 @@ ghost use Rattle.search.specs.Views.{loaded_views};
 ghost use Rattle.resolve.specs.Views.{meaning_view};
 ghost use Rattle.symbols.specs.Rows.{no_rows};
 ghost use Rattle.ld_main.specs.FinalRefusals.{DeniesLinks};
-ghost use Rattle.ld_main.specs.Linkages.{IsPrepared, IsLinkageOf};
+ghost use Rattle.ld_main.specs.Linkages.{AreOwnMapsRight, IsPrepared, IsLinkageOf, own_image};
 ghost use Rattle.relocate.specs.Values.{slot_value_of};
 ghost use Rattle.ld_main.specs.Listings.{IsListing};
 ghost use Rattle.ld_main.specs.Maps.{own_table};
@@ -235,6 +235,7 @@ pub fn prepare_over<'a, T: NameTable<'a> + Drop>(
 ) -> Result<Linkage<'a>, LinkError>
     requires empty { T.rows table ≡ no_rows }
     ensures prepared { IfOk result (IsPrepared (files_of files.entry.now) (words_of words.entry.now)) }
+    ensures own { IfOk result (AreOwnMapsRight (files_of files.entry.now) (words_of words.entry.now)) }
     ensures right { OnOk result (LinksRight (files_of files.entry.now) (words_of words.entry.now)) }
     ensures cause { IfErr result (Cause (files_of files.entry.now) (words_of words.entry.now)) }
     ensures no_link { IfErr result (DeniesLinks (files_of files.entry.now) (words_of words.entry.now)) }
@@ -267,14 +268,17 @@ pub fn prepare_over<'a, T: NameTable<'a> + Drop>(
 /// OverlappingFields, NoEntry), the layout (TooLarge), values (Overflow). Memory where memory is refused. Where one
 /// is answered other than Memory, TooLarge and Overflow, no image and no map at all are a right link of these files
 /// and words. The same is said of TooLarge where one section or common block alone takes up more than all addresses from the base on, and of
-/// Overflow where the value that doesn't fit is `Z+A`, or `S+A` of an absolute definition, of one in a section that
-/// isn't kept, or of none.
+/// Overflow where the value that doesn't fit is the same in every layout: `Z+A`, or `S+A` of an absolute definition, of
+/// one in a section that isn't kept, of none, or of a linker's name that stands for the base or for nothing.
+///
+/// Of what is prepared, the image and each own map that has a text are a right link.
 pub fn prepare<'a>(
     alloc: Global,
     files: &'a [InputFile],
     words: &'a [String],
 ) -> Result<Linkage<'a>, LinkError>
     ensures prepared { IfOk result (IsPrepared (files_of files.entry.now) (words_of words.entry.now)) }
+    ensures own { IfOk result (AreOwnMapsRight (files_of files.entry.now) (words_of words.entry.now)) }
     ensures right { OnOk result (LinksRight (files_of files.entry.now) (words_of words.entry.now)) }
     ensures cause { IfErr result (Cause (files_of files.entry.now) (words_of words.entry.now)) }
     ensures no_link { IfErr result (DeniesLinks (files_of files.entry.now) (words_of words.entry.now)) }
@@ -294,7 +298,7 @@ impl<'a> Linkage<'a> {
 
 /// The image file of a link.
 pub fn image(alloc: Global, linkage: &Linkage<'_>) -> Result<Vec<u8>, AllocError>
-    ensures { IfOk result (λ v. v.items ≡ image_file linkage.now.plan.base linkage.now.objects linkage.now.plan.entry) }
+    ensures { IfOk result (λ v. v.items ≡ own_image linkage.now) }
 {
     let placement = linkage.placement();
     let patches = Patches::new(&placement, &linkage.parts.patches);

@@ -9,7 +9,7 @@ use Rattle.std.proofs.lemmas.List.Folds.{list_any_none}
 use Rattle.std.proofs.lemmas.List.Elements.{Contains-append_left}
 use Rattle.elf_model.specs.Command.{IsBase}
 use Rattle.elf_model.specs.Commons.{block_pieces, pieces}
-use Rattle.elf_model.specs.ImageFile.{image_file, own_entry, piece_byte}
+use Rattle.elf_model.specs.ImageFile.{image_file, piece_byte}
 use Rattle.elf_model.specs.Loading.{AreObjects, LoadedObject}
 use Rattle.elf_model.specs.MemoryImage.{IsImage, loads, thread_blocks}
 use Rattle.elf_model.specs.LinkerValues.{least_of, start_of_pieces}
@@ -214,7 +214,7 @@ module _ (base : ℕ) (objects : List LoadedObject) (kinds : AreLawfulKinds obje
         (header_count objects) file)
 
   -- the image file wants the bytes of the input and of the fields
-  module _ (entry : List ℕ) (small : own_entry base objects entry < 2 ^ 64) where
+  module _ (entry : ℕ) (small : entry < 2 ^ 64) where
     abbrev wants : Placed → ℕ → ℕ
     wants q k = piece_byte objects (own_where base objects) q.piece k
 
@@ -229,7 +229,7 @@ module _ (base : ℕ) (objects : List LoadedObject) (kinds : AreLawfulKinds obje
         (λ q c. record {
           bytes = λ k within.
               let i = Contains-from_map (at_own_address base objects) (pieces objects) q c in
-              wanted_holds wants wants_zero (own_entry base objects entry) small q
+              wanted_holds wants wants_zero entry small q
               (loaded_by_size base objects kinds q (own_listed base objects kinds q c) (omega (arith, within))) k (let less = load_size-less q.piece in omega (arith, within, less))
               ∙ ap Some (piece_wants objects are_objects (own_where base objects) q.piece k (subst (λ (r : Placed). Contains (pieces objects) r.piece) i.is i.there));
         })
@@ -238,18 +238,18 @@ module _ (base : ℕ) (objects : List LoadedObject) (kinds : AreLawfulKinds obje
         has_got objects ≡ true → (k : ℕ) → k < got_size objects →
         byte_at (image_file base objects entry) (own_address base objects (got_piece objects) + k) ≡ Some (slice_index (got_bytes objects (own_where base objects)) k)
     got_held there k within =
-        wanted_holds wants wants_zero (own_entry base objects entry) small (at_own_address base objects (got_piece objects))
+        wanted_holds wants wants_zero entry small (at_own_address base objects (got_piece objects))
         (got_loaded base objects kinds there) k within
         ∙ ap Some (got_wants objects are_objects (own_where base objects) k)
 
-    pub image_is_own : IsOwnImage base objects (own_entry base objects entry) (image_file base objects entry)
+    pub image_is_own : IsOwnImage base objects entry (image_file base objects entry)
     image_is_own = record {
-      loads_are = wanted_loads wants wants_zero (own_entry base objects entry) small;
-      accepted = wanted_is_image wants wants_zero (own_entry base objects entry) small;
-      thread_blocks_are = wanted_thread_blocks wants wants_zero (own_entry base objects entry) small;
-      entry_is = wanted_entry wants wants_zero (own_entry base objects entry) small;
-      headers_are = wanted_headers_thing wants wants_zero (own_entry base objects entry) small;
+      loads_are = wanted_loads wants wants_zero entry small;
+      accepted = wanted_is_image wants wants_zero entry small;
+      thread_blocks_are = wanted_thread_blocks wants wants_zero entry small;
+      entry_is = wanted_entry wants wants_zero entry small;
+      headers_are = wanted_headers_thing wants wants_zero entry small;
       pieces_held = pieces_held;
       got_held = got_held;
-      nothing_else = wanted_has_nothing_else wants wants_zero (own_entry base objects entry) small;
+      nothing_else = wanted_has_nothing_else wants wants_zero entry small;
     }

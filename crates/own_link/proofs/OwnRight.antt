@@ -77,7 +77,7 @@ module _ (files : List File) (words : List (List ℕ)) (p : Plan) (m : MapRecord
   objects = loaded_objects files p
 
   abbrev image : List ℕ
-  image = image_file p.base objects p.entry
+  image = image_file p.base objects (own_entry p.base objects p.entry)
 
   abbrev placed : List Placed
   placed = own_in_load_order p.base objects
@@ -97,7 +97,7 @@ module _ (files : List File) (words : List (List ℕ)) (p : Plan) (m : MapRecord
   own_image : IsOwnImage p.base objects (own_entry p.base objects p.entry) image
   own_image =
       image_is_own p.base objects resolved.kinds based link.before.not_too_large (are_own_placed p.base objects resolved.kinds)
-      loading.objects p.entry small
+      loading.objects (own_entry p.base objects p.entry) small
 
   -- the pieces stand where the map says, and so do all things
   abbrev own_stand : Piece → Placed
@@ -261,7 +261,7 @@ module _ (files : List File) (words : List (List ℕ)) (p : Plan) (m : MapRecord
   right C12 = enters
   right C13 = symbols_listed
 
-  pub own_is_right : IsRightLink files words (image_file p.base (loaded_objects files p) p.entry) (text m)
+  pub own_is_right : IsRightLink files words (image_file p.base (loaded_objects files p) (own_entry p.base (loaded_objects files p) p.entry)) (text m)
   own_is_right = record {
     plan = p;
     map = m;

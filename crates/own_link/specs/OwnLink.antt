@@ -20,4 +20,4 @@ OwnLinkIsRight =
     → own_entry p.base (loaded_objects files p) p.entry < 2 ^ 64
     → IsOwnMap p.base (loaded_objects files p) m
     → IsMap m
-    → IsRightLink files words (image_file p.base (loaded_objects files p) p.entry) (text m)
+    → IsRightLink files words (image_file p.base (loaded_objects files p) (own_entry p.base (loaded_objects files p) p.entry)) (text m)

@@ -45,15 +45,13 @@ put_places-requires-clause-full c =
     (own_full base objects c.requires.objects c.requires.kinds (are_own_placed base objects c.requires.kinds))
 
 pub returns : goal.returns
-returns c = record {
-  image = λ name is_entry.
-      let t = threads_is c.args.placement.now c.thread_header-threads.result c.thread_header-threads.ensures in
-      let b = c.base-base.ensures in
-      let h = c.headers_size.ensures in
-      let e = c.file_end-end.ensures in
-      file_is c.args.placement.now c.requires.base c.requires.objects c.requires.kinds c.requires.fits
-      c.segments-segments.result.now (as_list c.thread_header-threads.result) (place_views c.loaded_places.result.now) c.code_of-code.result c.args.entry
-      (c.base-base.result + c.headers_size.result) (c.base-base.result + c.file_end-end.result) name c.in_ok-out.out.items
-      c.put_headers.new.out.items c.put_places.new.out.items c.segments-segments.ensures t c.loaded_places.ensures c.code_of-code.ensures
-      (omega (arith, b, h)) (omega (arith, b, e)) is_entry c.in_ok-out.ensures.items c.in_ok-put_headers.ensures c.in_ok-put_places.ensures;
-}
+returns c =
+    let t = threads_is c.args.placement.now c.thread_header-threads.result c.thread_header-threads.ensures in
+    let b = c.base-base.ensures in
+    let h = c.headers_size.ensures in
+    let e = c.file_end-end.ensures in
+    file_is c.args.placement.now c.requires.base c.requires.objects c.requires.kinds c.requires.fits
+    c.segments-segments.result.now (as_list c.thread_header-threads.result) (place_views c.loaded_places.result.now) c.code_of-code.result c.args.entry
+    (c.base-base.result + c.headers_size.result) (c.base-base.result + c.file_end-end.result) c.in_ok-out.out.items
+    c.put_headers.new.out.items c.put_places.new.out.items c.segments-segments.ensures t c.loaded_places.ensures c.code_of-code.ensures
+    (omega (arith, b, h)) (omega (arith, b, e)) c.in_ok-out.ensures.items c.in_ok-put_headers.ensures c.in_ok-put_places.ensures

@@ -6,7 +6,7 @@ use Rattle.search.specs.declared.loading.Loaded.{Loaded}
 use Rattle.ld_main.specs.Linkages.{IsLinkageOf}
 use Rattle.ld_main.specs.Outputs.{LinksRefuse}
 use Rattle.ld_main.proofs.FinalRefusals.{denies_links}
-use Rattle.ld_main.proofs.Links.{cause, loading_fails, prepared, right_link}
+use Rattle.ld_main.proofs.Links.{cause, loading_fails, own_maps_right, prepared, right_link}
 use Rattle.ld_main.proofs.linkage.prepare_over.Goals as goal
 
 pub returns-in-Err-load-clause-cause : goal.returns-in-Err-load-clause-cause
@@ -29,6 +29,11 @@ returns-in-Ok-prepare_objects-clause-prepared g c =
     c.in-Ok-prepare_objects.parts
     (subst (λ (xs : List Loaded). IsLinkageOf p (loaded_views xs) c.in-Ok-prepare_objects.parts) c.deref.ensures.value
     c.in-Ok-prepare_objects.ensures.made)
+
+pub returns-in-Ok-prepare_objects-clause-own : goal.returns-in-Ok-prepare_objects-clause-own
+returns-in-Ok-prepare_objects-clause-own g c =
+    own_maps_right (files_of c.args.files.now) (words_of c.args.words.now)
+    (record { plan = c.in-Ok.plan; objects = loaded_views c.in-Ok-load.objects.items }) (returns-in-Ok-prepare_objects-clause-prepared g c)
 
 pub returns-in-Ok-prepare_objects-clause-right : goal.returns-in-Ok-prepare_objects-clause-right
 returns-in-Ok-prepare_objects-clause-right g c =
