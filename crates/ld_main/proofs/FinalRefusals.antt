@@ -32,7 +32,7 @@ use Rattle.elf_model.specs.declared.faults.CmdFault.{CmdFault}
 use Rattle.elf_model.specs.declared.faults.LinkError.{LinkError}
 use Rattle.elf_model.specs.declared.faults.LinkError.TheVariants as error
 use Rattle.elf_model.specs.declared.faults.ObjFault.{ObjFault}
-use Rattle.elf_model.specs.declared.verdict.Clause.TheVariants.{C2, C3, C5, C9, C12, C13}
+use Rattle.elf_model.specs.declared.verdict.Clause.TheVariants.{C2, C3, C5, C7, C9, C12, C13}
 use Rattle.elf_model.proofs.Finding.{find-none}
 use Rattle.elf_model.proofs.Listed.{All-unmap, Contains-cons_cases, Contains-filter, Contains-from_map, Contains-here, Contains-map, Contains-nil, Contains-there}
 use Rattle.command.proofs.Found.{same_ok}
@@ -195,7 +195,7 @@ module _ (files : List File) (words : List (List ℕ)) (image text : List ℕ) (
   placed = l.holds C5
 
   got_right : IsGotRight subject
-  got_right = l.before_last.0.0.0.0.0.1
+  got_right = l.holds C7
 
   referred : AreRelocationsRight subject
   referred = l.holds C9
