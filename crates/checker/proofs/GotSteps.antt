@@ -14,8 +14,8 @@ use Rattle.elf_model.specs.declared.link_map.GotLine.{GotLine}
 use Rattle.elf_model.specs.declared.link_map.SlotLine.{SlotLine}
 use Rattle.elf_model.proofs.Rests.{Left}
 use Rattle.checker.specs.Got.{HoldsBytes}
-use Rattle.checker.proofs.Padded.{SamePadded, below_or_not}
-use Rattle.checker.proofs.SlotSteps.{rows_from, rows_more}
+use Rattle.check_link.proofs.Padded.{SamePadded, below_or_not}
+use Rattle.check_link.proofs.SlotSteps.{rows_from, rows_more}
 
 -- a claim on all that are left, where the first of them passes
 pub first_passes :

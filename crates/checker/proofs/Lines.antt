@@ -7,11 +7,11 @@ use Rattle.elf_model.specs.RightLink.{facts_of_piece, facts_of_row, object_rows}
 use Rattle.elf_model.specs.declared.link_map.ObjectLine.{ObjectLine}
 use Rattle.elf_model.specs.declared.link_map.PlaceLine.{PlaceLine}
 use Rattle.elf_model.proofs.Rests.{Left}
-use Rattle.checker.specs.Subjects.{row_of}
+use Rattle.check_link.specs.Subjects.{row_of}
 use Rattle.check_load.specs.Views.{loaded_view, loaded_views}
-use Rattle.checker.specs.Views.{piece_view, piece_views}
+use Rattle.check_link.specs.Views.{piece_view, piece_views}
 use Rattle.check_load.specs.declared.loader.Loaded.{Loaded}
-use Rattle.checker.specs.declared.things.Piece.{Piece}
+use Rattle.check_link.specs.declared.things.Piece.{Piece}
 
 module _ {Z : Type 0} (Q : Type 0) where
   pub cells_more : (a b : Z) (us vs us' vs' : List Z) → us ≡ a ∷ us' → vs ≡ b ∷ vs' → a ≡ b → Left Q (us ≡ vs) → Left Q (us' ≡ vs')

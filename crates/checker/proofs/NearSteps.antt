@@ -5,10 +5,10 @@ use Rattle.std.specs.BTreeMap.{BTreeMap, Updates, get}
 use Rattle.std.proofs.lemmas.List.{get_or-map, length-map}
 use Rattle.elf_model.specs.Placement as placement
 use Rattle.elf_model.specs.Placement.{IsNear}
-use Rattle.checker.specs.Neighbours.{IsOutputSection, section_order}
-use Rattle.checker.specs.Views.{placed_view, placed_views}
-use Rattle.checker.specs.declared.output.OutputSection.{OutputSection}
-use Rattle.checker.specs.declared.things.Placed.{Placed}
+use Rattle.check_link.specs.OutputSections.{IsOutputSection, section_order}
+use Rattle.check_link.specs.Views.{placed_view, placed_views}
+use Rattle.check_link.specs.declared.output.OutputSection.{OutputSection}
+use Rattle.check_link.specs.declared.things.Placed.{Placed}
 use Rattle.checker.proofs.NextPieces.{HasLasts, IsLast, NearFrom, StandsAt, lasts_more, near_more, near_stop}
 use Rattle.elf_model.proofs.Rests.{Left}
 

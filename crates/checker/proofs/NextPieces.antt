@@ -5,11 +5,11 @@ use Rattle.std.specs.BTreeMap.{BTreeMap, Updates, get}
 use Rattle.std.specs.Ordering.{is_eq}
 use Rattle.elf_model.specs.Pieces.{Piece, same_output}
 use Rattle.elf_model.specs.Placement.{IsNear, IsNext, Placed}
-use Rattle.checker.specs.Neighbours.{IsOutputSection, section_order}
-use Rattle.checker.specs.declared.output.OutputSection.{OutputSection}
-use Rattle.checker.proofs.Padded.{below_or_not}
+use Rattle.check_link.specs.OutputSections.{IsOutputSection, section_order}
+use Rattle.check_link.specs.declared.output.OutputSection.{OutputSection}
+use Rattle.check_link.proofs.Padded.{below_or_not}
 use Rattle.elf_model.proofs.Rests.{Left}
-use Rattle.checker.proofs.SameOutput.{differ_by_third, same_by_third, sections_tie}
+use Rattle.check_link.proofs.SameOutput.{differ_by_third, same_by_third, sections_tie}
 
 -- of the first j pieces, number i is the last that is of one output section with q
 pub record IsLastAt (ps : List Placed) (j : ℕ) (q : Piece) (i : ℕ) : Type 0 where

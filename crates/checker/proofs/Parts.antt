@@ -17,7 +17,7 @@ use Rattle.loader_model.proofs.MemoryLemmas.{memory_at}
 use Rattle.loader_model.proofs.TableOrder.{ascending_loads}
 use Rattle.checker.specs.Filled.{HasZeroGaps, SegmentFilled, part_of}
 use Rattle.checker.specs.Sweeps.{EndFits, RegionFilled}
-use Rattle.checker.proofs.Padded.{below_or_not}
+use Rattle.check_link.proofs.Padded.{below_or_not}
 use Rattle.elf_model.proofs.Listed.{All-unmap}
 
 abbrev GoodIn : List ℕ → ProgramHeader → Type 0

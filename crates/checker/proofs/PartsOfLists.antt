@@ -3,7 +3,7 @@ use Rattle.std.proofs.Common.{◌≡◌, ℕ, ◌+◌, ◌-◌, ◌<◌, ◌≤�
 use Rattle.std.specs.Prelude.{All, Contains}
 use Rattle.std.proofs.lemmas.List.{get_or-drop, get_or-take}
 use Rattle.std.proofs.lemmas.List.Elements.{Contains-get_or}
-use Rattle.checker.proofs.Padded.{below_or_not}
+use Rattle.check_link.proofs.Padded.{below_or_not}
 
 module _ {X : Type 0} (xs : List X) (low high : ℕ) where
   -- what stands at a place of the stretch

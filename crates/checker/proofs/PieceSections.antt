@@ -21,13 +21,13 @@ use Rattle.elf_model.specs.Resolution.{SymbolOf}
 use Rattle.elf_model.specs.RightLink.{HoldsPiece, Subject, objects_of, placed_of, sections_of, where_of}
 use Rattle.elf_model.specs.WantedBytes.{byte_or_field, wanted_byte}
 use Rattle.elf_model.specs.declared.records.SectionHeader.{SectionHeader}
-use Rattle.checker.specs.Bytes.{FitsIn, HasFieldsInside, HoldsFields, byte_of, covers, fields_in, is_of}
-use Rattle.checker.specs.Fields.{AreRows}
-use Rattle.checker.specs.Views.{placed_view, placed_views}
-use Rattle.checker.specs.declared.fields.Field.{Field}
-use Rattle.checker.specs.declared.things.Placed.{Placed}
+use Rattle.check_relocs.specs.Bytes.{FitsIn, HasFieldsInside, HoldsFields, byte_of, covers, fields_in, is_of}
+use Rattle.check_relocs.specs.Fields.{AreRows}
+use Rattle.check_link.specs.Views.{placed_view, placed_views}
+use Rattle.check_relocs.specs.declared.fields.Field.{Field}
+use Rattle.check_link.specs.declared.things.Placed.{Placed}
 use Rattle.elf_model.proofs.Listed.{All-unmap}
-use Rattle.checker.proofs.WantedFields.{byte_wanted, fields_inside}
+use Rattle.check_relocs.proofs.WantedFields.{byte_wanted, fields_inside}
 
 pub record IsOfSection (objects : List LoadedObject) (p : pieces.Piece) : Type 0 where
   pub there : p.object < length objects

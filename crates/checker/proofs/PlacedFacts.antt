@@ -12,12 +12,12 @@ use Rattle.elf_model.specs.declared.verdict.Clause.TheVariants.{C5}
 use Rattle.elf_model.specs.declared.link_map.GotLine.{GotLine}
 use Rattle.elf_model.specs.declared.records.ProgramHeader.{ProgramHeader}
 use Rattle.elf_model.specs.declared.thing.Thing.{Thing}
-use Rattle.checker.specs.Bytes.{LiesWhole}
+use Rattle.check_relocs.specs.Bytes.{LiesWhole}
 use Rattle.checker.specs.Got.{LiesInImage}
-use Rattle.checker.specs.PieceParts.{AreInLimit, IsGotInLimit, IsInLimit}
-use Rattle.checker.specs.Views.{placed_view, placed_views}
-use Rattle.checker.specs.declared.things.Placed.{Placed}
-use Rattle.checker.proofs.PieceLemmas.{all_short}
+use Rattle.check_link.specs.PieceParts.{AreInLimit, IsGotInLimit, IsInLimit}
+use Rattle.check_link.specs.Views.{placed_view, placed_views}
+use Rattle.check_link.specs.declared.things.Placed.{Placed}
+use Rattle.check_link.proofs.PieceLemmas.{all_short}
 use Rattle.checker.proofs.PieceSections.{placed_each}
 use Rattle.elf_model.proofs.Listed.{All-parts, All-unmap}
 use Rattle.checker.proofs.Filtered.{All-unfilter}

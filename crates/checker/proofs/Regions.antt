@@ -7,7 +7,7 @@ use Rattle.std.specs.List.Sorted.{IsNonDecreasingBy}
 use Rattle.elf_model.specs.Placement.{Covers}
 use Rattle.elf_model.specs.declared.thing.Thing.{Thing}
 use Rattle.checker.specs.Sweeps.{FilledFrom, GapIs}
-use Rattle.checker.proofs.Padded.{below_or_not}
+use Rattle.check_link.proofs.Padded.{below_or_not}
 use Rattle.elf_model.proofs.Rests.{Left}
 use Rattle.checker.proofs.Sweep.{front, rises}
 

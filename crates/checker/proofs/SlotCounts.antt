@@ -15,11 +15,11 @@ use Rattle.elf_model.specs.MapRecord.{SlotRow, slot_row}
 use Rattle.elf_model.specs.declared.link_map.SlotLine.{SlotLine}
 use Rattle.elf_model.specs.Slots.{Request, is_slot_of, requests, row_request, same_request}
 use Rattle.checker.specs.Got.{HaveSlots}
-use Rattle.checker.specs.Needs.{AreNeeds}
-use Rattle.checker.specs.Slots.{are_distinct, are_fresh, is_asked, key_of, none_seen, request_order, request_view}
-use Rattle.checker.specs.declared.needs.Needs.{Needs}
-use Rattle.checker.specs.declared.requests.Request as code
-use Rattle.checker.proofs.SameRequest.{requests_equal, same_itself, same_sym, tied, view_of_key}
+use Rattle.check_relocs.specs.Needs.{AreNeeds}
+use Rattle.check_link.specs.Slots.{are_distinct, are_fresh, is_asked, key_of, none_seen, request_order, request_view}
+use Rattle.check_relocs.specs.declared.needs.Needs.{Needs}
+use Rattle.check_link.specs.declared.requests.Request as code
+use Rattle.check_link.proofs.SameRequest.{requests_equal, same_itself, same_sym, tied, view_of_key}
 
 -- how many slots a request has
 count : Request → List SlotRow → ℕ

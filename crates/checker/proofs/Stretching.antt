@@ -7,7 +7,7 @@ use Rattle.std.proofs.lemmas.List.Elements.{All-cons, All-head, All-nil, All-tai
 use Rattle.elf_model.specs.Placement.{Covers}
 use Rattle.elf_model.specs.declared.thing.Thing.{Thing}
 use Rattle.checker.specs.Sweeps.{EndFits, stretched}
-use Rattle.checker.proofs.Padded.{below_or_not}
+use Rattle.check_link.proofs.Padded.{below_or_not}
 
 -- where a thing ends that reaches up to the greatest end so far, and that thing
 abbrev reach : ℕ → Thing → ℕ

@@ -7,9 +7,9 @@ use Rattle.std.proofs.lemmas.List.Elements.{All-head, All-tail, All-weaker}
 use Rattle.byteview.specs.Numbers.{le_bytes}
 use Rattle.elf_model.proofs.Finding.{find-none}
 use Rattle.elf_model.proofs.Pairs.{AllPairs-head, AllPairs-tail}
-use Rattle.checker.specs.Bytes.{EndsBefore, FitsIn, WantedFrom, byte_of, covers}
-use Rattle.checker.specs.declared.fields.Field.{Field}
-use Rattle.checker.proofs.Padded.{SamePadded, below_or_not}
+use Rattle.check_relocs.specs.Bytes.{EndsBefore, FitsIn, WantedFrom, byte_of, covers}
+use Rattle.check_relocs.specs.declared.fields.Field.{Field}
+use Rattle.check_link.proofs.Padded.{SamePadded, below_or_not}
 use Rattle.elf_model.proofs.Rests.{Left}
 
 below_field : (k : ℕ) (f : Field) → k < f.at → covers k f ≡ false

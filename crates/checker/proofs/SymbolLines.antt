@@ -24,10 +24,10 @@ use Rattle.elf_model.specs.RightLink.{HasLine, symbol_row_of}
 use Rattle.elf_model.proofs.Listing.{joined_listed, permuted_is_of}
 use Rattle.elf_model.proofs.RisingNames.{has, neighbours_count, rises_from_ascends, same_from_look_ups}
 use Rattle.elf_model.proofs.SymbolRows.{look_up, rows_ascend}
-use Rattle.checker.specs.Views.{held_name, meaning_view, meaning_views, symbol_view, symbol_views}
-use Rattle.checker.specs.declared.things.Meaning as things
-use Rattle.checker.specs.declared.things.Meaning.TheVariants as variant
-use Rattle.checker.specs.declared.things.SymbolOf as code
+use Rattle.check_link.specs.Views.{held_name, meaning_view, meaning_views, symbol_view, symbol_views}
+use Rattle.check_link.specs.declared.things.Meaning as things
+use Rattle.check_link.specs.declared.things.Meaning.TheVariants as variant
+use Rattle.check_link.specs.declared.things.SymbolOf as code
 
 -- each name has one definition, so no two neighbours have one name
 differ :

@@ -1,57 +1,22 @@
-//! Decides whether an image and a map are a right link of given files and words. It stands on the readers,
-//! the command, its own loading of objects, the map and the loader model alone, and shares no loading, layout,
+//! Decides whether an image and a map are a right link of given files and words, clause by clause. It stands on the
+//! readers, the command, its own loading of objects, the map and the loader model only, and shares no loading, layout,
 //! resolution or relocation code with the linker.
 #![tactic(auto)]
 
-mod apart;
-mod array_order;
-mod bindings;
-mod bounds;
-mod bytes;
-mod chosen;
-mod common_lines;
-mod commons;
-mod definitions;
-mod drops;
-mod ends;
-mod entering;
-mod fields;
-mod fill;
-mod fitting;
-mod got;
-mod got_bytes;
-mod image;
-mod kinds;
-mod lawful;
-mod link;
-mod linker_names;
-mod listed;
-mod load_size;
-mod loading;
-mod names;
-mod needs;
-mod neighbours;
-mod output;
-mod outputs;
-mod placed;
-mod places;
-mod placing;
-mod reading;
-mod region;
-mod requests;
-mod rows;
-mod sectioned;
-mod sections;
+mod c02_loaded;
+mod c03_sections;
+mod c04_image;
+mod c05_placed;
+mod c06_rights;
+mod c07_got;
+mod c08_thread_block;
+mod c09_relocations;
+mod c10_bytes;
+mod c11_fill;
+mod c12_entry;
+mod c13_symbols;
 mod segments;
-mod slots;
-mod stretches;
-mod symbols;
-mod targets;
-mod things;
-mod thread_block;
-mod thread_storage;
-mod uses;
-mod value;
+mod sorted_things;
 mod verdict;
 
 pub use elf_model::{Clause, Verdict};

@@ -1,9 +1,10 @@
 //! The segment in which a range of addresses lies, and what the file has for it.
-ghost use Rattle.std.specs.Prelude.{◌≡◌, ◌+◌, ◌≤◌, ◌<◌, ℕ, All, AllPairs, Contains, IfSome, IsTrue, ◌↔◌, Some, length, slice_index, slice_index_or};
+ghost use Rattle.std.specs.Prelude.{◌≡◌, ◌+◌, ◌≤◌, ◌<◌, ◌↔◌, ℕ, All, AllPairs, IsTrue, length, slice_index, Contains, IfSome, Some, slice_index_or};
+ghost use Rattle.elf_model.specs.MemoryImage.{Encloses, segment_byte, loads};
+ghost use Rattle.loader_model.specs.Table.{IsLawful, EndsBefore};
 ghost use Rattle.std.specs.List.Sorted.{IsNonDecreasingBy};
-ghost use Rattle.elf_model.specs.MemoryImage.{Encloses, loads, segment_byte};
-ghost use Rattle.loader_model.specs.Table.{EndsBefore, IsLawful};
 
+use byteview::{all_byte, equal_run};
 use elf_model::ProgramHeader;
 use loader_model::Memory;
 
@@ -89,4 +90,20 @@ pub fn file_bytes<'f>(image: &'f [u8], segment: &ProgramHeader, at: u64, len: u6
 {
     let part = file_part(image, segment);
     sub_part(part, (at - segment.p_vaddr) as usize, len as usize)
+}
+
+/// Whether two runs are equal where bytes past an end count as 0.
+pub fn same_padded(a: &[u8], b: &[u8]) -> bool
+    ensures { IsTrue result ↔ ((k : ℕ) → slice_index a.now k ≡ slice_index b.now k) }
+{
+    let common = a.len().min(b.len());
+    let (a_front, a_rest) = a.split_at(common);
+    let (b_front, b_rest) = b.split_at(common);
+    if !equal_run(a_front, b_front) {
+        return false;
+    }
+    if !all_byte(a_rest, 0) {
+        return false;
+    }
+    all_byte(b_rest, 0)
 }

@@ -260,62 +260,32 @@ Holds C11 s = HasNothingElse s.image (things_of s)
 Holds C12 s = EntersRight s
 Holds C13 s = AreSymbolsListed s
 
--- all clauses before a clause hold
-abbrev pub BeforeC3 : Subject → Type 0
-BeforeC3 s = Holds C2 s
+-- the place of a clause in their order
+abbrev pub clause_number : Clause → ℕ
+clause_number C1 = 1
+clause_number C2 = 2
+clause_number C3 = 3
+clause_number C4 = 4
+clause_number C5 = 5
+clause_number C6 = 6
+clause_number C7 = 7
+clause_number C8 = 8
+clause_number C9 = 9
+clause_number C10 = 10
+clause_number C11 = 11
+clause_number C12 = 12
+clause_number C13 = 13
 
-abbrev pub BeforeC4 : Subject → Type 0
-BeforeC4 s = BeforeC3 s × Holds C3 s
-
-abbrev pub BeforeC5 : Subject → Type 0
-BeforeC5 s = BeforeC4 s × Holds C4 s
-
-abbrev pub BeforeC6 : Subject → Type 0
-BeforeC6 s = BeforeC5 s × Holds C5 s
-
-abbrev pub BeforeC7 : Subject → Type 0
-BeforeC7 s = BeforeC6 s × Holds C6 s
-
-abbrev pub BeforeC8 : Subject → Type 0
-BeforeC8 s = BeforeC7 s × Holds C7 s
-
-abbrev pub BeforeC9 : Subject → Type 0
-BeforeC9 s = BeforeC8 s × Holds C8 s
-
-abbrev pub BeforeC10 : Subject → Type 0
-BeforeC10 s = BeforeC9 s × Holds C9 s
-
-abbrev pub BeforeC11 : Subject → Type 0
-BeforeC11 s = BeforeC10 s × Holds C10 s
-
-abbrev pub BeforeC12 : Subject → Type 0
-BeforeC12 s = BeforeC11 s × Holds C11 s
-
-abbrev pub BeforeC13 : Subject → Type 0
-BeforeC13 s = BeforeC12 s × Holds C12 s
-
+-- all clauses with a smaller number hold
 abbrev pub HoldsBefore : Clause → Subject → Type 0
-HoldsBefore C1 s = Unit {0}
-HoldsBefore C2 s = Unit {0}
-HoldsBefore C3 s = BeforeC3 s
-HoldsBefore C4 s = BeforeC4 s
-HoldsBefore C5 s = BeforeC5 s
-HoldsBefore C6 s = BeforeC6 s
-HoldsBefore C7 s = BeforeC7 s
-HoldsBefore C8 s = BeforeC8 s
-HoldsBefore C9 s = BeforeC9 s
-HoldsBefore C10 s = BeforeC10 s
-HoldsBefore C11 s = BeforeC11 s
-HoldsBefore C12 s = BeforeC12 s
-HoldsBefore C13 s = BeforeC13 s
+HoldsBefore c s = (d : Clause) → clause_number d < clause_number c → Holds d s
 
 -- A right link: the words are a plan and the text a map, and all clauses hold.
 pub record IsRightLink (files : List File) (words : List (List ℕ)) (image bytes : List ℕ) : Type 0 where
   pub plan : Plan
   pub map : MapRecord
   pub read : IsRead words bytes (record { plan = plan; files = files; image = image; map = map })
-  pub before_last : HoldsBefore C13 (record { plan = plan; files = files; image = image; map = map })
-  pub last : Holds C13 (record { plan = plan; files = files; image = image; map = map })
+  pub holds : (c : Clause) → Holds c (record { plan = plan; files = files; image = image; map = map })
 
 -- The least clause that fails, from the second on: those before it hold, it does not. The first fails where
 -- words and text make no subject (`IsUnread`).

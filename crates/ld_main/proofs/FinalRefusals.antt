@@ -32,6 +32,7 @@ use Rattle.elf_model.specs.declared.faults.CmdFault.{CmdFault}
 use Rattle.elf_model.specs.declared.faults.LinkError.{LinkError}
 use Rattle.elf_model.specs.declared.faults.LinkError.TheVariants as error
 use Rattle.elf_model.specs.declared.faults.ObjFault.{ObjFault}
+use Rattle.elf_model.specs.declared.verdict.Clause.TheVariants.{C2, C3, C5, C7, C9, C12, C13}
 use Rattle.elf_model.proofs.Finding.{find-none}
 use Rattle.elf_model.proofs.Listed.{All-unmap, Contains-cons_cases, Contains-filter, Contains-from_map, Contains-here, Contains-map, Contains-nil, Contains-there}
 use Rattle.command.proofs.Found.{same_ok}
@@ -185,19 +186,19 @@ module _ (files : List File) (words : List (List ℕ)) (image text : List ℕ) (
   objects = loaded_objects files l.plan
 
   loaded : IsLoaded subject
-  loaded = l.before_last.0.0.0.0.0.0.0.0.0.0
+  loaded = l.holds C2
 
   listed : AreSectionsListed subject
-  listed = l.before_last.0.0.0.0.0.0.0.0.0.1
+  listed = l.holds C3
 
   placed : IsPlaced l.plan.base (things_of subject) (thread_ranges (placed_of subject)) (placed_in_array_order (sections_of subject))
-  placed = l.before_last.0.0.0.0.0.0.0.1
+  placed = l.holds C5
 
   got_right : IsGotRight subject
-  got_right = l.before_last.0.0.0.0.0.1
+  got_right = l.holds C7
 
   referred : AreRelocationsRight subject
-  referred = l.before_last.0.0.0.1
+  referred = l.holds C9
 
   -- what the map says is a layout
   mapped : IsLayout l.plan.base objects (where_of subject)
@@ -212,7 +213,7 @@ module _ (files : List File) (words : List (List ℕ)) (image text : List ℕ) (
   }
 
   enters : EntersRight subject
-  enters = l.before_last.1
+  enters = l.holds C12
 
   -- what stands of the plan of the words stands of the link's
   of_plan : (P : Plan → Type 0) (p : Plan) → command_of words ≡ Ok p → P p → P l.plan
@@ -310,10 +311,10 @@ module _ (files : List File) (words : List (List ℕ)) (image text : List ℕ) (
   deny error.SectionKind c f = of_plan (λ p. ¬ AreLawfulKinds (loaded_objects files p)) c.0 c.1.before.before.words_are c.2 listed.kinds
   deny (error.Duplicate name) c f =
       let twice = of_plan (λ p. IsDuplicate (loaded_objects files p) name.items) c.0 c.1.before.before.words_are c.2 in
-      let once = l.last.unique name.items in
+      let once = (l.holds C13).unique name.items in
       omega (arith, twice, once)
   deny error.BadCommon c f = of_plan (λ p. ¬ AreSoundCommons (loaded_objects files p)) c.0 c.1.before.before.words_are c.2 listed.sound
-  deny error.BadSymbol c f = of_plan (λ p. ¬ AreSoundSymbols (loaded_objects files p)) c.0 c.1.before.before.words_are c.2 l.last.sound
+  deny error.BadSymbol c f = of_plan (λ p. ¬ AreSoundSymbols (loaded_objects files p)) c.0 c.1.before.before.words_are c.2 (l.holds C13).sound
   deny (error.Undefined name) c f =
       deny_relocation (IsUndefinedName name.items) c.0 c.1.before.before.before.words_are c.2 (λ r stands lawful. lawful.defined stands.1)
   deny error.RefToDropped c f =

@@ -22,11 +22,13 @@ use Rattle.elf_model.specs.Placement.{HasRights, IsPlaced, Placed, Where, got_th
 use Rattle.elf_model.specs.Records.{file_header}
 use Rattle.elf_model.specs.RelocationValues.{AllFit}
 use Rattle.elf_model.specs.Resolution.{SymbolOf, chosen, is_in_thread_section}
-use Rattle.elf_model.specs.RightLink.{AreRelocationsRight, AreSectionsListed, AreSymbolsListed, BeforeC10, BeforeC13, BeforeC7, EntersRight, HasLine, HasNothingElse, HasSlot, HoldsGot, HoldsPiece, IsThreadBlockRight, IsGotRight, IsLoaded, IsRightLink, Subject, facts_of_block, facts_of_common, facts_of_piece, facts_of_row, placed_of, sections_of, where_of, things_of}
+use Rattle.elf_model.specs.RightLink.{AreRelocationsRight, AreSectionsListed, AreSymbolsListed, EntersRight, HasLine, HasNothingElse, HasSlot, Holds, HoldsGot, HoldsPiece, IsThreadBlockRight, IsGotRight, IsLoaded, IsRightLink, Subject, facts_of_block, facts_of_common, facts_of_piece, facts_of_row, placed_of, sections_of, where_of, things_of}
 use Rattle.elf_model.specs.Slots.{Request, has_got, is_slot_of, requests, size_with, slots}
 use Rattle.elf_model.specs.declared.link_map.GotLine.{GotLine}
 use Rattle.elf_model.specs.declared.records.ProgramHeader.{ProgramHeader}
 use Rattle.elf_model.specs.declared.thing.Thing.{Thing}
+use Rattle.elf_model.specs.declared.verdict.Clause.{Clause}
+use Rattle.elf_model.specs.declared.verdict.Clause.TheVariants.{C1, C2, C3, C4, C5, C6, C7, C8, C9, C10, C11, C12, C13}
 use Rattle.own_link.proofs.ApartThings.{own_is_apart}
 use Rattle.own_link.proofs.ImageOwn.{IsOwnImage, image_is_own}
 use Rattle.own_link.proofs.OwnThings.{own_stood, own_things_are, own_things_of}
@@ -244,21 +246,25 @@ module _ (files : List File) (words : List (List ℕ)) (p : Plan) (m : MapRecord
     lines = subst (λ (w : Where). (name : List ℕ) → HasLine m.symbols objects w name) (sym where_is) own_map.symbols;
   }
 
-  -- all clauses, in order
-  before_c7 : BeforeC7 subject
-  before_c7 = ((((loaded, sections_listed), own_image.accepted), placed_right), rights_right)
-
-  before_c10 : BeforeC10 subject
-  before_c10 = (((before_c7, got_right), thread_block_right), relocations_right)
-
-  before_c13 : BeforeC13 subject
-  before_c13 = (((before_c10, pieces_held), nothing_else), enters)
+  right : (c : Clause) → Holds c subject
+  right C1 = tt
+  right C2 = loaded
+  right C3 = sections_listed
+  right C4 = own_image.accepted
+  right C5 = placed_right
+  right C6 = rights_right
+  right C7 = got_right
+  right C8 = thread_block_right
+  right C9 = relocations_right
+  right C10 = pieces_held
+  right C11 = nothing_else
+  right C12 = enters
+  right C13 = symbols_listed
 
   pub own_is_right : IsRightLink files words (image_file p.base (loaded_objects files p) (own_entry p.base (loaded_objects files p) p.entry)) (text m)
   own_is_right = record {
     plan = p;
     map = m;
     read = record { plan = loading.before.before.words_are; map = is_map; spelled = refl };
-    before_last = before_c13;
-    last = symbols_listed;
+    holds = right;
   }

@@ -1,6 +1,6 @@
 use Rattle.std.proofs.Common.{rules}
 use Rattle.elf_model.specs.declared.records.ProgramHeader.{ProgramHeader}
-use Rattle.checker.proofs.PartitionPoints.{parted_through}
+use Rattle.check_relocs.proofs.PartitionPoints.{parted_through}
 use Rattle.checker.proofs.segments.begun_at.Goals as goal
 
 pub returns-clause-begun : goal.returns-clause-begun

@@ -1,8 +1,13 @@
-use Rattle.std.proofs.Common.{◌≡◌, true}
+use Rattle.std.proofs.Common.{refl}
+use Rattle.elf_model.specs.declared.verdict.Clause.TheVariants.{C12, C13}
+use Rattle.check_link.specs.Subjects.{subject_of}
+use Rattle.checker.proofs.Clauses.{all_hold, before_next}
 use Rattle.checker.proofs.verdict.judge_symbols.Goals as goal
 
-pub returns-then-not-listed : goal.returns-then-not-listed
-returns-then-not-listed c = (
-  (c.requires.before, c.is_entry_right.ensures.0 c.if-not-is_entry_right.false),
-  λ l. let n : c.in_ok-listed.listed ≡ true = c.in_ok-listed.ensures.1 l in let e = c.if-not-listed.true in cc,
-)
+pub no-2-requires-clause-before : goal.no-2-requires-clause-before
+no-2-requires-clause-before c = before_next (subject_of c.args.link.now) C12 C13 refl c.requires.before (c.holds.ensures.0 c.if-not-holds.false)
+
+pub returns : goal.returns
+returns c = 
+    all_hold (subject_of c.args.link.now) (before_next (subject_of c.args.link.now) C12 C13 refl c.requires.before (c.holds.ensures.0 c.if-not-holds.false))
+    (c.in_ok-holds.ensures.0 c.if-not-branch.false)

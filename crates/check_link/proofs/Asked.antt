@@ -1,0 +1,155 @@
+-- What common symbols ask for, one symbol more; and the blocks of chosen ones, one more.
+use Rattle.std.proofs.Common.{◌≡◌, ℕ, ◌+◌, ◌<◌, ◌≤◌, ◌&&◌, Bool, true, false, cond, max, List, [], ◌∷◌, ◌++◌, append_assoc, Option, Some, drop, get_or, length, length-append, map, refl, sym, ap, ◌∙◌, arith}
+use Rattle.std.specs.Prelude.{filter, option_map, unwrap_or}
+use Rattle.std.specs.Borrow.{Bor}
+use Rattle.std.specs.BTreeMap.{BTreeMap, get_by}
+use Rattle.std.specs.Cmp.Lexicographic.{slice_cmp}
+use Rattle.std.specs.Option.{option_map_or}
+use Rattle.std.specs.Ordering.{nat_cmp}
+use Rattle.std.specs.Str.{bytes_eq}
+use Rattle.std.proofs.lemmas.List.{append-nil, drop_all, length-map}
+use Rattle.std.proofs.lemmas.Slice.Eq.{bytes_eq-Decides}
+use Rattle.elf_model.proofs.Rests.{rest_at}
+use Rattle.elf_model.specs.ChosenSymbols.{is_chosen, is_definition, is_same_symbol}
+use Rattle.elf_model.specs.Commons.{Block, block_of, blocks, blocks_from, greatest, is_common_symbol}
+use Rattle.elf_model.specs.Loading.{LoadedObject}
+use Rattle.elf_model.specs.Resolution.{SymbolOf, all_symbols, has_name, is_common_definition}
+use Rattle.check_link.specs.Chosen.{AreChosen, is_found}
+use Rattle.check_link.specs.Commons.{asked_in, gives, greatest_given, is_block_symbol}
+use Rattle.check_link.specs.Views.{block_view, block_views, symbol_view, symbol_views}
+use Rattle.check_link.specs.declared.commons.Asked.{Asked}
+use Rattle.check_link.specs.declared.things.Block as things
+use Rattle.check_link.specs.declared.things.SymbolOf as code
+
+-- the greatest that is given, with one symbol more
+given_more :
+    (part : SymbolOf → ℕ) (n : List ℕ) (s : SymbolOf) (ss : List SymbolOf) →
+    greatest_given part n (s ∷ ss) ≡ max (gives part n s) (greatest_given part n ss)
+given_more part n s ss = by (is_common_definition s)
+  where
+    rest : List SymbolOf
+    rest = filter is_common_definition ss
+
+    named : List SymbolOf
+    named = filter (has_name n) rest
+
+    of_name : (c : Bool) → greatest (map part (cond c (s ∷ named) named)) ≡ max (cond c (part s) 0) (greatest (map part named))
+    of_name true = refl
+    of_name false = omega arith
+
+    by :
+        (b : Bool) →
+        greatest (map part (filter (has_name n) (cond b (s ∷ rest) rest))) ≡ max (cond (b && has_name n s) (part s) 0) (greatest (map part named))
+    by true = of_name (has_name n s)
+    by false = omega arith
+
+module _ (part : SymbolOf → ℕ) (n : List ℕ) (xs : List code.SymbolOf) (i : ℕ) where
+  pub asked_step :
+      (d : code.SymbolOf) (a b whole : ℕ) → i < length xs → b ≡ max a (gives part n (symbol_view (get_or xs i d))) →
+      max a (greatest_given part n (symbol_views (drop i xs))) ≡ whole → max b (greatest_given part n (symbol_views (drop (i + 1) xs))) ≡ whole
+  asked_step d a b whole within more so_far =
+      let here = given_more part n (symbol_view (get_or xs i d)) (symbol_views (drop (i + 1) xs)) in
+      let split = ap (λ (ys : List code.SymbolOf). greatest_given part n (symbol_views ys)) (rest_at xs i d within) in
+      omega (arith, here, split, more, so_far)
+
+  pub asked_end : (a whole : ℕ) → length xs ≤ i → max a (greatest_given part n (symbol_views (drop i xs))) ≡ whole → a ≡ whole
+  asked_end a whole behind so_far =
+      let none = ap (λ (ys : List code.SymbolOf). greatest_given part n (symbol_views ys)) (drop_all i xs behind) in
+      omega (arith, none, so_far)
+
+-- what a table has for each name, once a number came in for one
+pub asked_put :
+    (part : Asked → ℕ) (old new : BTreeMap (Bor (List ℕ)) Asked) (name n : List ℕ) (v : Asked) (x : ℕ) →
+    get_by (λ k. slice_cmp nat_cmp n k.now) new ≡ cond (bytes_eq name n) (Some v) (get_by (λ k. slice_cmp nat_cmp n k.now) old) →
+    part v ≡ max (asked_in part old name) x → asked_in part new n ≡ max (asked_in part old n) (cond (bytes_eq name n) x 0)
+asked_put part old new name n v x e is = ap (λ (o : Option Asked). unwrap_or (option_map part o) 0) e ∙ by (bytes_eq name n) refl
+  where
+    by :
+        (b : Bool) → bytes_eq name n ≡ b →
+        unwrap_or (option_map part (cond b (Some v) (get_by (λ k. slice_cmp nat_cmp n k.now) old))) 0 ≡ max (asked_in part old n) (cond b x 0)
+    by true same = is ∙ ap (λ (m : List ℕ). max (asked_in part old m) x) ((bytes_eq-Decides name n).0 same)
+    by false same = omega arith
+
+-- The blocks, with one symbol more.
+module _ (objects : List LoadedObject) (p : SymbolOf → Bool) (xs : List code.SymbolOf) (i : ℕ) where
+  pub blocks_step :
+      (d : code.SymbolOf) (old new : List things.Block) (whole : List Block) → i < length xs →
+      block_views new ≡ block_views old ++ blocks_from objects (length old) (filter p (symbol_view (get_or xs i d) ∷ [])) →
+      block_views old ++ blocks_from objects (length old) (filter p (symbol_views (drop i xs))) ≡ whole →
+      block_views new ++ blocks_from objects (length new) (filter p (symbol_views (drop (i + 1) xs))) ≡ whole
+  blocks_step d old new whole within grown so_far =
+      by (p s) grown
+      (sym (ap (λ (ys : List code.SymbolOf). block_views old ++ blocks_from objects (length old) (filter p (symbol_views ys))) (rest_at xs i d within)) ∙ so_far)
+    where
+      s : SymbolOf
+      s = symbol_view (get_or xs i d)
+
+      rest : List SymbolOf
+      rest = filter p (symbol_views (drop (i + 1) xs))
+
+      long : (vs : List Block) → block_views new ≡ block_views old ++ vs → length new ≡ length old + length vs
+      long vs e =
+          let n = length-map new block_view in
+          let o = length-map old block_view in
+          let both = length-append (block_views old) vs in
+          let same = ap (length {A = Block}) e in
+          omega (arith, n, o, both, same)
+
+      by :
+          (b : Bool) → block_views new ≡ block_views old ++ blocks_from objects (length old) (cond b (s ∷ []) []) →
+          block_views old ++ blocks_from objects (length old) (cond b (s ∷ rest) rest) ≡ whole →
+          block_views new ++ blocks_from objects (length new) rest ≡ whole
+      by true e w =
+          ap (λ (k : ℕ). block_views new ++ blocks_from objects k rest) (long (block_of objects (length old) s ∷ []) e)
+          ∙ (ap (λ (vs : List Block). vs ++ blocks_from objects (length old + 1) rest) e
+          ∙ (append_assoc (block_views old) (block_of objects (length old) s ∷ []) (blocks_from objects (length old + 1) rest) ∙ w))
+      by false e w =
+          let same : length new ≡ length old = let l = long [] e in omega (arith, l) in
+          ap (λ (k : ℕ). block_views new ++ blocks_from objects k rest) same
+          ∙ (ap (λ (vs : List Block). vs ++ blocks_from objects (length old) rest) (e ∙ append-nil (block_views old)) ∙ w)
+
+  pub blocks_end :
+      (found : List things.Block) (whole : List Block) → length xs ≤ i →
+      block_views found ++ blocks_from objects (length found) (filter p (symbol_views (drop i xs))) ≡ whole → block_views found ≡ whole
+  blocks_end found whole behind so_far =
+      sym (append-nil (block_views found))
+      ∙ (sym (ap (λ (ys : List code.SymbolOf). block_views found ++ blocks_from objects (length found) (filter p (symbol_views ys))) (drop_all i xs behind)) ∙ so_far)
+
+-- The blocks of those that an index of the chosen symbols has are the objects' blocks.
+kept_thrice : {X : Type 0} (p q r : X → Bool) (xs : List X) → filter (λ x. p x && (q x && r x)) xs ≡ filter p (filter q (filter r xs))
+kept_thrice p q r [] = refl
+kept_thrice {X} p q r (x ∷ xs) = by (p x) (q x) (r x) refl refl (kept_thrice p q r xs)
+  where
+    rest : List X
+    rest = filter r xs
+
+    by :
+        (a b c : Bool) → p x ≡ a → q x ≡ b → filter (λ y. p y && (q y && r y)) xs ≡ filter p (filter q rest) →
+        cond (a && (b && c)) (x ∷ filter (λ y. p y && (q y && r y)) xs) (filter (λ y. p y && (q y && r y)) xs)
+        ≡ filter p (filter q (cond c (x ∷ rest) rest))
+    by true true true e f so =
+        ap (λ (ys : List X). x ∷ ys) so
+        ∙ sym (ap (λ (t : Bool). filter p (cond t (x ∷ filter q rest) (filter q rest))) f
+        ∙ ap (λ (t : Bool). cond t (x ∷ filter p (filter q rest)) (filter p (filter q rest))) e)
+    by false true true e f so =
+        so
+        ∙ sym (ap (λ (t : Bool). filter p (cond t (x ∷ filter q rest) (filter q rest))) f
+        ∙ ap (λ (t : Bool). cond t (x ∷ filter p (filter q rest)) (filter p (filter q rest))) e)
+    by a false true e f so = none a ∙ so ∙ sym (ap (λ (t : Bool). filter p (cond t (x ∷ filter q rest) (filter q rest))) f)
+      where
+        none : (t : Bool) → cond (t && false) (x ∷ filter (λ y. p y && (q y && r y)) xs) (filter (λ y. p y && (q y && r y)) xs) ≡ filter (λ y. p y && (q y && r y)) xs
+        none true = refl
+        none false = refl
+    by true true false e f so = so
+    by true false false e f so = so
+    by false b false e f so = so
+
+pub blocks_chosen :
+    (objects : List LoadedObject) (chosen : BTreeMap (Bor (List ℕ)) code.SymbolOf) (all : List SymbolOf) → AreChosen objects chosen →
+    all ≡ all_symbols objects → blocks_from objects 0 (filter (is_block_symbol chosen) all) ≡ blocks objects
+blocks_chosen objects chosen all are is =
+    let same : is_found chosen ≡ is_chosen objects = λ i s. ap (λ (o : Option SymbolOf). option_map_or (is_same_symbol s) o false) (are s.name) i in
+    ap (λ (ss : List SymbolOf). blocks_from objects 0 ss)
+    (kept_thrice is_common_symbol (is_found chosen) is_definition all
+    ∙ ap (λ (p : SymbolOf → Bool). filter is_common_symbol (filter p (filter is_definition all))) same
+    ∙ ap (λ (ss : List SymbolOf). filter is_common_symbol (filter (is_chosen objects) (filter is_definition ss))) is)

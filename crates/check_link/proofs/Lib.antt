@@ -1,0 +1,14 @@
+pub mod Alignments
+pub mod Asked
+pub mod CommonRows
+pub mod Gathered
+pub mod Gathering
+pub mod Padded
+pub mod PieceLemmas
+pub mod PlaceKeys
+pub mod PlaceSteps
+pub mod RoundedUp
+pub mod SameOutput
+pub mod SameRequest
+pub mod SeenOutputs
+pub mod SlotSteps

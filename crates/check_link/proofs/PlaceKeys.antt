@@ -1,0 +1,46 @@
+-- One more piece in the index of addresses by sections.
+use Rattle.std.proofs.Common.{◌≡◌, ℕ, ◌==◌, ◌&&◌, Bool, true, false, cond, Option, Some, None, refl, sym, ◌∙◌, ap, subst}
+use Rattle.std.specs.Prelude.{is_some}
+use Rattle.std.specs.BTreeMap.{BTreeMap, Updates}
+use Rattle.std.specs.Cmp.{tied_then, unsigned_ties}
+use Rattle.std.specs.Option.{option_or}
+use Rattle.std.specs.Ordering.{is_eq, nat_cmp}
+use Rattle.std.proofs.lemmas.Bool.{eqb-true}
+use Rattle.check_link.specs.PlaceIndex.{address_in, section_key}
+
+-- two keys compare equal where both numbers are
+pub tie : (a b c d : ℕ) → is_eq (section_key (a, b) (c, d)) ≡ (a == c && b == d)
+tie a b c d =
+    sym (tied_then (nat_cmp a c) (nat_cmp b d))
+    ∙ sym (ap (λ (t : Bool). t && b == d) (unsigned_ties a c) ∙ ap (λ (t : Bool). is_eq (nat_cmp a c) && t) (unsigned_ties b d))
+
+-- the test of a section tells that both numbers are its
+both_equal : (a b c d : ℕ) → (a == c && b == d) ≡ true → (a ≡ c) × (b ≡ d)
+both_equal a b c d e = by (a == c) refl e
+  where
+    by : (t : Bool) → (a == c) ≡ t → (t && b == d) ≡ true → (a ≡ c) × (b ≡ d)
+    by true s f = (eqb-true a c s, eqb-true b d f)
+    by false s f = absurd (cc)
+
+-- the value at each key after a new key came in, where no key that is the same was there
+put_first : (old new : Option ℕ) (same : Bool) (at : ℕ) → new ≡ cond same (Some at) old → (same ≡ true → old ≡ None) → new ≡ option_or old (cond same (Some at) None)
+put_first old new true at e absent = e ∙ ap (λ (o : Option ℕ). option_or o (Some at)) (sym (absent refl))
+put_first None new false at e absent = e
+put_first (Some x) new false at e absent = e
+
+module _ (old : BTreeMap (ℕ × ℕ) ℕ) (o s at : ℕ) where
+  -- the section of a piece is no key yet
+  pub place_added :
+      (new : BTreeMap (ℕ × ℕ) ℕ) → Updates section_key old new (o, s) (Some at) → address_in old o s ≡ None → (object section : ℕ) →
+      address_in new object section ≡ option_or (address_in old object section) (cond (o == object && s == section) (Some at) None)
+  place_added new updates none object section =
+      put_first (address_in old object section) (address_in new object section) (o == object && s == section) at
+      (updates.0 (object, section) ∙ ap (λ (t : Bool). cond t (Some at) (address_in old object section)) (tie o s object section))
+      (λ e.
+      let same = both_equal o s object section e in
+      subst (λ (i : ℕ). address_in old object i ≡ None) same.1 (subst (λ (i : ℕ). address_in old i s ≡ None) same.0 none))
+
+-- what is not found is none
+pub no_address : (o : Option ℕ) → is_some o ≡ false → o ≡ None
+no_address None e = refl
+no_address (Some x) e = absurd (cc)

@@ -1,0 +1,74 @@
+-- Pieces that are compared with a third, and the comparison of the checker's output sections, which decides
+-- whether pieces are of one output section.
+use Rattle.std.proofs.Common.{◌≡◌, Bool, true, false, ◌&&◌, List, ℕ, refl, sym, ◌∙◌}
+use Rattle.std.specs.Cmp.Lexicographic.{slice_cmp}
+use Rattle.std.specs.Ordering.{is_eq, bool_cmp, nat_cmp, ordering_then}
+use Rattle.std.specs.declared.cmp.Ordering.{Ordering}
+use Rattle.std.specs.declared.cmp.Ordering.TheVariants.{Less, Equal, Greater}
+use Rattle.std.proofs.lemmas.Bool.{false_from_ne_true, true≢false}
+use Rattle.std.proofs.lemmas.Map.Text.{is_eq-slice_cmp}
+use Rattle.std.specs.Str.{bytes_eq}
+use Rattle.elf_model.specs.Pieces.{Piece, is_executable, is_nobits, is_thread_local, is_writable, output_name, same_bool, same_output}
+use Rattle.elf_model.proofs.SameOutput.{same_output-sym, same_output-trans}
+use Rattle.check_link.specs.OutputSections.{IsOutputSection, section_order}
+use Rattle.check_link.specs.declared.output.OutputSection.{OutputSection}
+
+-- two pieces that are each of one output section with a third
+pub same_by_third : (p q r : Piece) → same_output p r ≡ true → same_output q r ≡ true → same_output p q ≡ true
+same_by_third p q r e f = same_output-trans p r q e (same_output-sym q r f)
+
+-- a piece of the one output section and a piece of another
+pub differ_by_third : (p q r : Piece) → same_output p r ≡ true → same_output q r ≡ false → same_output p q ≡ false
+differ_by_third p q r e f =
+    false_from_ne_true (same_output p q) (λ t. true≢false (sym (same_output-trans q p r (same_output-sym p q t) e) ∙ f))
+
+-- comparisons that answer `Equal`, as tests
+tie_bools : (a b : Bool) → is_eq (bool_cmp a b) ≡ same_bool a b
+tie_bools true true = refl
+tie_bools true false = refl
+tie_bools false true = refl
+tie_bools false false = refl
+
+tie_five :
+    (a b c d e : Ordering) →
+    is_eq (ordering_then a (ordering_then b (ordering_then c (ordering_then d e))))
+    ≡ (is_eq a && is_eq b && is_eq c && is_eq d && is_eq e)
+tie_five Less b c d e = refl
+tie_five Greater b c d e = refl
+tie_five Equal Less c d e = refl
+tie_five Equal Greater c d e = refl
+tie_five Equal Equal Less d e = refl
+tie_five Equal Equal Greater d e = refl
+tie_five Equal Equal Equal Less e = refl
+tie_five Equal Equal Equal Greater e = refl
+tie_five Equal Equal Equal Equal e = refl
+
+all_alike :
+    (a b c d e v w x y z : Bool) → a ≡ v → b ≡ w → c ≡ x → d ≡ y → e ≡ z →
+    (a && b && c && d && e) ≡ (v && w && x && y && z)
+all_alike a b c d e v w x y z p q r s t = rw (p, q, r, s, t) refl
+
+tie_flags : (a b v w : Bool) → a ≡ v → b ≡ w → is_eq (bool_cmp a b) ≡ same_bool v w
+tie_flags a b v w p q = rw (p, q) (tie_bools v w)
+
+tie_names : (a b v w : List ℕ) → a ≡ v → b ≡ w → is_eq (slice_cmp nat_cmp a b) ≡ bytes_eq v w
+tie_names a b v w p q = rw (p, q) (is_eq-slice_cmp v w)
+
+-- equal output sections are those of two pieces of one
+pub sections_tie :
+    (p q : Piece) (s t : OutputSection) → IsOutputSection p s → IsOutputSection q t →
+    is_eq (section_order s t) ≡ same_output p q
+unfolding same_output
+sections_tie p q s t is_p is_q =
+    tie_five (slice_cmp nat_cmp s.name.now t.name.now) (bool_cmp s.writable t.writable) (bool_cmp s.executable t.executable)
+    (bool_cmp s.thread_local t.thread_local) (bool_cmp s.nobits t.nobits)
+    ∙ all_alike (is_eq (slice_cmp nat_cmp s.name.now t.name.now)) (is_eq (bool_cmp s.writable t.writable))
+    (is_eq (bool_cmp s.executable t.executable)) (is_eq (bool_cmp s.thread_local t.thread_local)) (is_eq (bool_cmp s.nobits t.nobits))
+    (bytes_eq (output_name p.name) (output_name q.name)) (same_bool (is_writable p.header) (is_writable q.header))
+    (same_bool (is_executable p.header) (is_executable q.header)) (same_bool (is_thread_local p.header) (is_thread_local q.header))
+    (same_bool (is_nobits p.header) (is_nobits q.header))
+    (tie_names s.name.now t.name.now (output_name p.name) (output_name q.name) is_p.name is_q.name)
+    (tie_flags s.writable t.writable (is_writable p.header) (is_writable q.header) is_p.writable is_q.writable)
+    (tie_flags s.executable t.executable (is_executable p.header) (is_executable q.header) is_p.executable is_q.executable)
+    (tie_flags s.thread_local t.thread_local (is_thread_local p.header) (is_thread_local q.header) is_p.thread_local is_q.thread_local)
+    (tie_flags s.nobits t.nobits (is_nobits p.header) (is_nobits q.header) is_p.nobits is_q.nobits)

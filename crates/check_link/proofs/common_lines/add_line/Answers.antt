@@ -1,0 +1,15 @@
+use Rattle.std.proofs.Common.{sym, ◌∙◌, ◌≡◌, List, ℕ, None, Option, Some, cond, subst}
+use Rattle.std.specs.Option.{option_or}
+use Rattle.std.specs.Str.{bytes_eq}
+use Rattle.elf_model.proofs.FirstNamed.{first_added}
+use Rattle.elf_model.specs.MapRecord.{CommonRow, common_row}
+use Rattle.check_link.specs.Commons.{line_in, line_view}
+use Rattle.check_link.proofs.common_lines.add_line.Goals as goal
+
+pub returns-in_ok-insert : goal.returns-in_ok-insert
+returns-in_ok-insert c = λ n.
+    subst
+    (λ (bytes : List ℕ). line_in c.insert.new.self n ≡ option_or (line_in c.args.index.now n) (cond {A = Option CommonRow} (bytes_eq bytes n) (Some (common_row c.args.line.now)) None))
+    c.as_slice-name.ensures.value
+    (first_added line_view c.args.index.now c.insert.new.self c.as_slice-name.result.now c.args.line
+    (sym c.contains_key.ensures ∙ c.if-not-contains_key.true) c.in_ok-insert.ensures.updates n)

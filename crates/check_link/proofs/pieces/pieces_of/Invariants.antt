@@ -1,0 +1,8 @@
+use Rattle.std.proofs.Common.{◌≡◌, ◌++◌, drop}
+use Rattle.elf_model.specs.Pieces as pieces
+use Rattle.check_load.specs.Views.{loaded_views}
+use Rattle.check_link.specs.Views.{piece_views}
+use Rattle.check_link.proofs.pieces.pieces_of.Given as goal
+
+abbrev pub invariant-loop-k : goal.invariant-loop-k
+invariant-loop-k l = piece_views l.found.items ++ pieces.pieces_of l.k (loaded_views (drop l.k l.objects)) ≡ pieces.kept_sections (loaded_views l.objects)

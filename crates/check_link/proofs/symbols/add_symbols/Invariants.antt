@@ -1,0 +1,10 @@
+use Rattle.std.proofs.Common.{◌≡◌, ◌++◌, drop}
+use Rattle.elf_model.specs.Resolution.{symbols_from}
+use Rattle.check_load.specs.Views.{loaded_view}
+use Rattle.check_link.specs.Views.{symbol_views}
+use Rattle.check_link.proofs.symbols.add_symbols.Given as goal
+
+abbrev pub invariant-loop-j : goal.invariant-loop-j
+invariant-loop-j l =
+    symbol_views l.found.items ++ symbols_from l.number (loaded_view l.loaded) l.j (drop l.j l.entries)
+    ≡ symbol_views l.fn.found.items ++ symbols_from l.number (loaded_view l.loaded) 0 l.entries

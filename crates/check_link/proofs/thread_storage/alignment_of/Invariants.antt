@@ -1,0 +1,13 @@
+use Rattle.std.specs.Prelude.{◌≡◌, ◌≤◌, drop, map, max}
+use Rattle.elf_model.specs.Pieces.{is_thread_piece}
+use Rattle.elf_model.specs.ThreadStorage.{alignment_of}
+use Rattle.check_link.specs.Views.{placed_views}
+use Rattle.check_link.proofs.thread_storage.alignment_of.Given as goal
+
+abbrev pub invariant-loop-q : goal.invariant-loop-q
+invariant-loop-q l = record {
+  some : 1 ≤ l.align;
+  greatest :
+      max l.align (alignment_of is_thread_piece (map (λ q. q.piece) (placed_views (drop l.q-index l.placed))))
+      ≡ alignment_of is_thread_piece (map (λ q. q.piece) (placed_views l.placed));
+}

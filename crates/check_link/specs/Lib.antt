@@ -1,0 +1,11 @@
+pub mod Chosen
+pub mod Commons
+pub mod NameIndex
+pub mod OutputSections
+pub mod Outputs
+pub mod PieceParts
+pub mod PlaceIndex
+pub mod Slots
+pub mod Subjects
+pub mod ThreadStorage
+pub mod Views

@@ -1,0 +1,46 @@
+//! What the checker reads and lists of a link: the plan and the map, the pieces, the symbols and the common blocks of
+//! the loaded objects, what names mean, and where the map puts things.
+#![tactic(auto)]
+
+mod bounds;
+mod chosen;
+mod common_lines;
+mod commons;
+mod definitions;
+mod inputs;
+mod link;
+mod linker_names;
+mod names;
+mod output;
+mod outputs;
+mod pieces;
+mod placed;
+mod places;
+mod requests;
+mod sizes;
+mod slots;
+mod symbols;
+mod things;
+mod thread_storage;
+
+pub use bounds::{Part, end_of};
+pub use common_lines::CommonLines;
+pub use definitions::{has_value, is_definition, is_in_thread_section, is_strong};
+pub use inputs::{read_map, read_plan};
+pub use link::{Link, base_of, entry_of};
+pub use linker_names::{fixed_bound, named_output, output_bound};
+pub use names::Names;
+pub use output::output_section;
+pub use outputs::Outputs;
+pub use pieces::pieces_of;
+pub use placed::{
+    first_address, got_thing, got_things_of, place_all, thing_of_placed, things_of,
+    thread_ranges_of,
+};
+pub use places::Places;
+pub use requests::{Request, Wanted, is_thread, request_of_line};
+pub use sizes::{is_thread_zero, load_size};
+pub use slots::SlotTable;
+pub use symbols::{are_sound, name_of, section_of};
+pub use things::{Meaning, Piece, Placed, SymbolOf};
+pub use thread_storage::thread_block;

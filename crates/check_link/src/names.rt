@@ -1,0 +1,121 @@
+//! The symbols of loaded objects, their chosen definitions and their common blocks, found by their names.
+ghost use Rattle.std.specs.Prelude.{◌≡◌, ◌↔◌, IfOk, IsTrue, option_map};
+ghost use Rattle.elf_model.specs.ChosenSymbols.{is_chosen};
+ghost use Rattle.elf_model.specs.Commons.{block_named, blocks};
+ghost use Rattle.elf_model.specs.Meaning.{meant};
+ghost use Rattle.elf_model.specs.Resolution.{AreSoundCommons, all_symbols, chosen};
+ghost use Rattle.check_load.specs.Views.{loaded_views};
+ghost use Rattle.check_link.specs.Views.{block_view, block_views, meaning_view, symbol_view, symbol_views};
+
+use crate::chosen::{index_names, is_chosen};
+use crate::commons::{are_sound_commons, blocks_of, index_blocks};
+use crate::definitions::is_common;
+use crate::symbols::symbols_of;
+use crate::things::{Block, Meaning, SymbolOf};
+use check_load::Loaded;
+use std::alloc::{AllocError, Global};
+use std::collections::BTreeMap;
+use std::marker::Model;
+
+/// The loaded objects with their symbols and their common blocks in load order, and indexes of the chosen definitions
+/// and of the blocks.
+#[derive(Drop)]
+pub struct Names<'l, 'a> {
+    objects: &'l [Loaded<'a>],
+    symbols: Vec<SymbolOf<'a>>,
+    definitions: BTreeMap<&'a [u8], SymbolOf<'a>>,
+    blocks: Vec<Block<'a>>,
+    blocks_by_name: BTreeMap<&'a [u8], Block<'a>>,
+}
+
+impl<'l, 'a> Model for Names<'l, 'a> {
+    ghost use Rattle.std.specs.Prelude.{List};
+    ghost use Rattle.elf_model.specs.Loading.{LoadedObject};
+    ghost use Rattle.check_load.specs.Views.{loaded_views};
+    ghost use Rattle.check_link.specs.NameIndex.{AreNames};
+
+    ghost Value = { List LoadedObject };
+
+    ghost view = { λ n. loaded_views n.objects.now };
+
+    ghost invariant = { λ n. AreNames (loaded_views n.objects.now) n.symbols.items n.definitions n.blocks.items n.blocks_by_name };
+}
+
+impl<'l, 'a> Names<'l, 'a> {
+    /// The names of loaded objects.
+    pub fn new(alloc: Global, objects: &'l [Loaded<'a>]) -> Result<Names<'l, 'a>, AllocError>
+        ensures { IfOk result (λ n. n ≡ loaded_views objects.entry.now) }
+    {
+        let symbols = symbols_of(alloc, objects)?;
+        let definitions = index_names(alloc, objects, &symbols)?;
+        let blocks = blocks_of(alloc, objects, &definitions, &symbols)?;
+        let blocks_by_name = index_blocks(alloc, &blocks)?;
+        Ok(Names {
+            objects,
+            symbols,
+            definitions,
+            blocks,
+            blocks_by_name,
+        })
+    }
+
+    /// The loaded objects.
+    pub fn objects(&self) -> &[Loaded<'a>]
+        ensures { loaded_views result.now ≡ self.entry.now }
+    {
+        self.objects
+    }
+
+    /// The symbols of the objects, in load order.
+    pub fn symbols(&self) -> &[SymbolOf<'a>]
+        ensures { symbol_views result.now ≡ all_symbols self.entry.now }
+    {
+        &self.symbols
+    }
+
+    /// The common blocks, in load order.
+    pub fn blocks(&self) -> &[Block<'a>]
+        ensures { block_views result.now ≡ blocks self.entry.now }
+    {
+        &self.blocks
+    }
+
+    /// Whether all common symbols are sound.
+    pub fn are_sound_commons(&self) -> bool
+        ensures { IsTrue result ↔ AreSoundCommons self.now }
+    {
+        are_sound_commons(self.symbols())
+    }
+
+    /// The chosen definition of a name; None where it has none.
+    pub fn chosen(&self, name: &[u8]) -> Option<SymbolOf<'a>>
+        ensures { option_map symbol_view result ≡ chosen self.now name.now }
+    {
+        self.definitions.get(name).copied()
+    }
+
+    /// Whether a symbol is the chosen definition of its name.
+    pub fn is_chosen(&self, symbol: &SymbolOf<'a>) -> bool
+        ensures { result ≡ is_chosen self.now (symbol_view symbol.now) }
+    {
+        is_chosen(&self.definitions, symbol)
+    }
+
+    /// The common block of a name; None where it has none.
+    pub fn block(&self, name: &[u8]) -> Option<Block<'a>>
+        ensures { option_map block_view result ≡ block_named self.now name.now }
+    {
+        self.blocks_by_name.get(name).copied()
+    }
+
+    /// What a chosen definition means: a common one, its name's block; another one, itself.
+    pub fn meant(&self, symbol: &SymbolOf<'a>) -> Option<Meaning<'a>>
+        ensures { option_map meaning_view result ≡ meant self.now (symbol_view symbol.now) }
+    {
+        if !is_common(symbol) {
+            return Some(Meaning::Symbol(*symbol));
+        }
+        let block = self.block(symbol.name)?;
+        Some(Meaning::Common(block))
+    }
+}

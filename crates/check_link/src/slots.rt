@@ -1,0 +1,112 @@
+//! The map's slot lines, found by what they are slots of.
+ghost use Rattle.std.specs.Prelude.{◌≡◌, ◌&&◌, IfOk, List, None, OnOk, Some, cond, find, map, not, option_map};
+ghost use Rattle.std.specs.List.{list_any};
+ghost use Rattle.std.specs.Option.{option_or};
+ghost use Rattle.elf_model.specs.MapRecord.{slot_row};
+ghost use Rattle.elf_model.specs.Slots as slots;
+ghost use Rattle.elf_model.specs.Slots.{is_slot_of, requested_address, row_request};
+ghost use Rattle.check_link.specs.Slots.{IsSlotIndex, address_in, are_distinct, has_in, request_view};
+
+use crate::requests::{Request, request_of_line};
+use elf_model::SlotLine;
+use std::alloc::{AllocError, Global};
+use std::collections::BTreeMap;
+use std::marker::Model;
+
+/// Slot lines, with the address of the first one for each request, and whether there is at most one for each.
+#[derive(Drop)]
+pub struct SlotTable<'m> {
+    lines: &'m [SlotLine],
+    addresses: BTreeMap<Request<'m>, u64>,
+    distinct: bool,
+}
+
+impl<'m> Model for SlotTable<'m> {
+    ghost use Rattle.std.specs.Prelude.{List, map};
+    ghost use Rattle.elf_model.specs.MapRecord.{SlotRow, slot_row};
+    ghost use Rattle.check_link.specs.Slots.{IsSlotTable};
+
+    ghost Value = { List SlotRow };
+
+    ghost view = { λ t. map slot_row t.lines.now };
+
+    ghost invariant = { λ t. IsSlotTable (map slot_row t.lines.now) t.addresses t.distinct };
+}
+
+/// Puts a line's slot into a table, unless one for the same request is there. True where it is put there.
+fn add_slot<'m>(
+    addresses: &mut BTreeMap<Request<'m>, u64>,
+    line: &'m SlotLine,
+) -> Result<bool, AllocError>
+    ensures addresses { OnOk result ((q : slots.Request) → address_in addresses.new q ≡ option_or (address_in addresses.old q) (cond (is_slot_of q (slot_row line.entry.now)) (Some line.entry.now.address) None)) }
+    ensures fresh { IfOk result (λ b. b ≡ not (has_in addresses.old (row_request (slot_row line.entry.now)))) }
+{
+    let request = request_of_line(line);
+    if addresses.contains_key(&request) {
+        return Ok(false);
+    }
+    addresses.insert(request, line.address)?;
+    Ok(true)
+}
+
+/// The address of the first slot for each request, and whether no two lines are for the same.
+fn index_slots<'m>(
+    alloc: Global,
+    lines: &'m [SlotLine],
+) -> Result<(BTreeMap<Request<'m>, u64>, bool), AllocError>
+    ensures index { IfOk result (λ r. IsSlotIndex (map slot_row lines.entry.now) r.0) }
+    ensures distinct { IfOk result (λ r. r.1 ≡ are_distinct (map row_request (map slot_row lines.entry.now))) }
+{
+    let mut addresses = BTreeMap::new(alloc);
+    let mut distinct = true;
+    for line in lines {
+        let fresh = add_slot(&mut addresses, line)?;
+        distinct &= fresh;
+    }
+    Ok((addresses, distinct))
+}
+
+impl<'m> SlotTable<'m> {
+    /// A table of slot lines.
+    pub fn new(alloc: Global, lines: &'m [SlotLine]) -> Result<SlotTable<'m>, AllocError>
+        ensures { IfOk result (λ t. t ≡ map slot_row lines.entry.now) }
+    {
+        let (addresses, distinct) = index_slots(alloc, lines)?;
+        Ok(SlotTable {
+            lines,
+            addresses,
+            distinct,
+        })
+    }
+
+    /// The address of the first slot for a request, 0 without one.
+    pub fn address(&self, request: &Request<'m>) -> u64
+        ensures { result ≡ requested_address self.now (request_view request.now) }
+    {
+        match self.addresses.get(request) {
+            Some(address) => *address,
+            None => 0,
+        }
+    }
+
+    /// Whether there is a slot for a request.
+    pub fn has(&self, request: &Request<'m>) -> bool
+        ensures { result ≡ list_any (is_slot_of (request_view request.now)) self.now }
+    {
+        self.addresses.contains_key(request)
+    }
+
+    /// Whether no two lines are for the same request.
+    pub fn are_distinct(&self) -> bool
+        ensures { result ≡ are_distinct (map row_request self.now) }
+    {
+        self.distinct
+    }
+
+    /// The lines.
+    pub fn lines(&self) -> &'m [SlotLine]
+        ensures { map slot_row result.now ≡ self.now }
+    {
+        self.lines
+    }
+}

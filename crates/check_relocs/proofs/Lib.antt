@@ -1,0 +1,13 @@
+pub mod ByIndex
+pub mod FieldOrder
+pub mod FittingLemmas
+pub mod KindRows
+pub mod Modulo
+pub mod NeedSteps
+pub mod ObjectFields
+pub mod PartitionPoints
+pub mod RightParts
+pub mod RowFacts
+pub mod RowLookup
+pub mod SectionParts
+pub mod WantedFields

@@ -1,0 +1,23 @@
+use Rattle.std.proofs.Common.{ℕ, subst}
+use Rattle.elf_model.specs.Relocation.{symbol_at}
+use Rattle.check_load.specs.Views.{loaded_view}
+use Rattle.check_relocs.specs.Bindings.{IsTargetOf}
+use Rattle.check_relocs.proofs.FittingLemmas.{field_is, right, right_with, some_iff}
+use Rattle.check_relocs.proofs.lawful_fields.right_field.Goals as goal
+
+pub returns : goal.returns
+returns c =
+    let b = c.args.bindings.now in
+    let n = c.args.number in
+    let o = loaded_view c.args.loaded.now in
+    let to = c.args.to.now in
+    let e = c.args.entry.now in
+    let t = c.target_at-target.result in
+    let m = subst (λ (j : ℕ). IsTargetOf b (symbol_at n o j) t) c.symbol.ensures c.target_at-target.ensures in
+    let g = c.link_terms-given.result in
+    let slot = c.link_terms-given.ensures.slot to.section in
+    let got = c.link_terms-given.ensures.got in
+    let pointer = c.link_terms-given.ensures.pointer in
+    some_iff _ _ _ _ c.field_for.result (right b n o to g e t m c.requires.size c.requires.frames c.requires.address slot got pointer)
+    (right_with b n o to g e t m c.requires.size c.requires.frames c.requires.address slot got pointer)
+    (field_is b n o to g e t m c.requires.size c.requires.frames c.requires.address slot got pointer) c.field_for.ensures

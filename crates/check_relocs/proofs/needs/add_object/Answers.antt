@@ -1,0 +1,55 @@
+use Rattle.std.proofs.Common.{◌≡◌, ◌+◌, ◌∙◌, List, false, true, ap, get_or, sym}
+use Rattle.std.specs.List.{slice_get}
+use Rattle.std.proofs.lemmas.Option.{slice_get-get_or}
+use Rattle.elf_model.proofs.FlatRelocations.{left_of_sections, section_end, section_more, section_skip}
+use Rattle.elf_model.specs.ObjectFile.{null_section}
+use Rattle.elf_model.specs.Relocation.{is_kept_rela, relocations_behind, relocations_from, relocations_in}
+use Rattle.elf_model.specs.declared.records.SectionHeader.{SectionHeader}
+use Rattle.check_load.specs.Views.{loaded_view}
+use Rattle.check_link.specs.Slots.{is_asked}
+use Rattle.check_relocs.proofs.NeedSteps.{gaining_all, gaining_end, gaining_more, gaining_same}
+use Rattle.check_relocs.proofs.needs.add_object.Goals as goal
+
+pub loop-i-init : goal.loop-i-init
+loop-i-init c =
+    let n = c.args.number in
+    let o = loaded_view c.args.loaded.now in
+    let same : left_of_sections n o c.sections-headers.result.now 0 ≡ relocations_from n o =
+    ap (λ (ss : List SectionHeader). relocations_behind n o 0 ss) c.sections-headers.ensures in
+    gaining_all c.args.bindings.now.objects (left_of_sections n o c.sections-headers.result.now 0) (relocations_from n o) c.args.needs.now same
+
+pub add_section-requires-clause-there : goal.add_section-requires-clause-there
+add_section-requires-clause-there c =
+    ap (λ (ss : List SectionHeader). slice_get ss c.loop-i.i) (sym c.sections-headers.ensures)
+    ∙ slice_get-get_or c.sections-headers.result.now c.loop-i.i null_section c.loop-i-test.true
+
+pub loop-i-preserved : goal.loop-i-preserved
+loop-i-preserved c =
+    let n = c.args.number in
+    let o = loaded_view c.args.loaded.now in
+    let hs = c.sections-headers.result.now in
+    let i = c.loop-i.i in
+    let old = c.args.needs.now in
+    let kept : is_kept_rela o i (get_or hs i null_section) ≡ true = sym c.is_kept_rela.ensures.value ∙ c.if-not-is_kept_rela.false in
+    gaining_more c.args.bindings.now.objects (relocations_from n o) old.got (is_asked old.requests) c.loop-i.needs (left_of_sections n o hs i)
+    (relocations_in n o (get_or hs i null_section)) (left_of_sections n o hs (i + 1)) c.add_section.new.needs
+    (section_more n o hs i null_section c.loop-i-test.true kept) c.in_ok-add_section.ensures c.loop-i.invariant
+
+pub loop-i-preserved-then-not-is_kept_rela : goal.loop-i-preserved-then-not-is_kept_rela
+loop-i-preserved-then-not-is_kept_rela c =
+    let n = c.args.number in
+    let o = loaded_view c.args.loaded.now in
+    let hs = c.sections-headers.result.now in
+    let i = c.loop-i.i in
+    let old = c.args.needs.now in
+    let other : is_kept_rela o i (get_or hs i null_section) ≡ false = sym c.is_kept_rela.ensures.value ∙ c.if-not-is_kept_rela.true in
+    gaining_same c.args.bindings.now.objects (relocations_from n o) old.got (is_asked old.requests) c.loop-i.needs (left_of_sections n o hs i)
+    (left_of_sections n o hs (i + 1)) (section_skip n o hs i null_section c.loop-i-test.true other) c.loop-i.invariant
+
+pub returns : goal.returns
+returns c =
+    let n = c.args.number in
+    let o = loaded_view c.args.loaded.now in
+    let hs = c.sections-headers.result.now in
+    gaining_end c.args.bindings.now.objects (left_of_sections n o hs c.loop-i.i) (relocations_from n o) c.args.needs.now c.loop-i.needs
+    (section_end n o hs c.loop-i.i c.loop-i-test.false) c.loop-i.invariant

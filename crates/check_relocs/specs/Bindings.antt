@@ -1,0 +1,38 @@
+-- What the names and the symbols of objects mean.
+use Rattle.std.specs.Prelude.{◌≡◌, ◌↔◌, ℕ, ◌%◌, ◌^◌, ◌<◌, ◌&&◌, not, true, false, IsTrue, List, Option, IsSomeAnd, length, option_map, slice_index_or, unwrap_or}
+use Rattle.std.specs.Option.{option_map_or}
+use Rattle.elf_model.specs.Loading.{LoadedObject}
+use Rattle.elf_model.specs.Pieces.{is_alloc}
+use Rattle.elf_model.specs.Meaning.{is_in_thread_storage, meaning_size, meaning_value}
+use Rattle.elf_model.specs.Placement.{Where}
+use Rattle.elf_model.specs.Relocation.{IsMixed, IsUndefined, definition_of, is_local, symbol_at}
+use Rattle.elf_model.specs.Resolution.{SymbolOf, section_of}
+use Rattle.elf_model.specs.RightLink.{Subject, objects_of, where_of}
+use Rattle.check_relocs.specs.declared.targets.Target.{Target}
+
+-- the objects and where their pieces are, which give symbols their meaning
+pub record Bound : Type 0 where
+  pub objects : List LoadedObject
+  pub places : Where
+
+-- the objects of a link, and where their pieces are
+abbrev pub bound_of : Subject → Bound
+bound_of s = record { objects = objects_of s; places = where_of s }
+
+-- a LOCAL symbol of a section that isn't kept
+abbrev pub IsOfUnkept : List LoadedObject → SymbolOf → Type 0
+IsOfUnkept objects s = (is_local s ≡ true) × IsSomeAnd (section_of objects s) (λ h. (is_alloc h && not s.dropped) ≡ false)
+
+-- what a symbol means to relocations: the values are those of the definition that they use, modulo 2 ^ 64
+pub record IsTargetOf (b : Bound) (s : SymbolOf) (t : Target) : Type 0 where
+  pub undefined : IsTrue t.undefined ↔ IsUndefined b.objects s
+  pub unkept : IsTrue t.unkept ↔ IsOfUnkept b.objects s
+  pub dropped : t.dropped ≡ s.dropped
+  pub mixed : IsTrue t.mixed ↔ IsSomeAnd (definition_of b.objects s) (IsMixed b.objects)
+  pub thread_local : t.thread_local ≡ option_map_or (is_in_thread_storage b.objects) (definition_of b.objects s) false
+  pub value : t.value ≡ unwrap_or (option_map (meaning_value b.places) (definition_of b.objects s)) 0 % 2 ^ 64
+  pub size : t.size ≡ unwrap_or (option_map meaning_size (definition_of b.objects s)) 0
+
+-- what the symbols of the object that has a number mean, by their numbers
+abbrev pub AreTargets : Bound → ℕ → LoadedObject → List Target → Type 0
+AreTargets b object o ts = (j : ℕ) (d : Target) → j < length ts → IsTargetOf b (symbol_at object o j) (slice_index_or ts j d)

@@ -1,0 +1,27 @@
+-- What kept relocations ask of the GOT.
+use Rattle.std.specs.Prelude.{◌≡◌, ℕ, ◌<◌, ◌||◌, Bool, false, List, length, slice_index_or}
+use Rattle.std.specs.List.{list_any}
+use Rattle.std.specs.Option.{option_map_or}
+use Rattle.elf_model.specs.Loading.{LoadedObject}
+use Rattle.elf_model.specs.Relocation.{Relocation, symbol_at}
+use Rattle.elf_model.specs.Slots.{Request, asks_for_got, has_got, names_got, request_of, requests, same_request}
+use Rattle.check_link.specs.Slots.{is_asked}
+use Rattle.check_relocs.specs.declared.needs.Needs.{Needs}
+
+-- by their numbers, which symbols of the object that has a number have the GOT's name
+abbrev pub AreGotNames : List LoadedObject → ℕ → LoadedObject → List Bool → Type 0
+AreGotNames objects number o us = (j : ℕ) (d : Bool) → j < length us → slice_index_or us j d ≡ names_got objects (symbol_at number o j)
+
+-- a relocation asks for the slot of a request
+abbrev pub asks_for_slot : Request → Relocation → Bool
+asks_for_slot q r = option_map_or (same_request q) (request_of r) false
+
+-- needs have gained those of relocations
+pub record HaveGained (objects : List LoadedObject) (rs : List Relocation) (old new : Needs) : Type 0 where
+  pub got : new.got ≡ (old.got || list_any (asks_for_got objects) rs)
+  pub slots : (q : Request) → is_asked new.requests q ≡ (is_asked old.requests q || list_any (asks_for_slot q) rs)
+
+-- needs are those of all kept relocations
+pub record AreNeeds (objects : List LoadedObject) (needs : Needs) : Type 0 where
+  pub got : needs.got ≡ has_got objects
+  pub slots : (q : Request) → is_asked needs.requests q ≡ list_any (same_request q) (requests objects)

@@ -1,0 +1,86 @@
+//! The kinds of relocations: the width, the formula and the range of each (AMD64 psABI 4.4, "Relocation
+//! Types"; the ranges of all kinds but 32 and 32S are the profile's).
+ghost use Rattle.std.specs.Prelude.{◌≡◌, IfSome, Some, option_map};
+ghost use Rattle.elf_model.specs.Relocation as relocation;
+ghost use Rattle.check_relocs.specs.Kinds.{kind_view};
+ghost use Rattle.check_relocs.specs.Widths.{IsWidth};
+
+/// What a value is made of: the symbol's value, the slot's offset in the GOT, the GOT's address, the symbol's size or
+/// its offset from the thread pointer, and the addend, less the field's or the GOT's address.
+#[derive(Clone, Copy, Debug)]
+pub enum Formula {
+    Symbol,
+    SymbolFromPlace,
+    SymbolFromGot,
+    Slot,
+    SlotFromPlace,
+    GotFromPlace,
+    Size,
+    ThreadOffset,
+    ThreadSlotFromPlace,
+}
+
+/// Which values fit a field: all; signed numbers of the field's bits; unsigned ones; either.
+#[derive(Clone, Copy, Debug)]
+pub enum Range {
+    Always,
+    Signed,
+    Unsigned,
+    Either,
+}
+
+/// A kind: its number, the width of its field in bytes, its formula, its range.
+#[derive(Clone, Copy, Debug)]
+pub struct Kind {
+    pub number: u32,
+    pub width: u64,
+    pub formula: Formula,
+    pub range: Range,
+}
+
+fn made(number: u32, width: u64, formula: Formula, range: Range) -> Option<Kind>
+    requires { IsWidth width }
+    ensures kind { result ≡ Some (record { number = number; width = width; formula = formula; range = range }) }
+    ensures width { IfSome result (λ k. IsWidth k.width) }
+{
+    Some(Kind {
+        number,
+        width,
+        formula,
+        range,
+    })
+}
+
+/// The kind of a type, None where there is none.
+pub fn kind_of(number: u32) -> Option<Kind>
+    ensures kind { option_map kind_view result ≡ relocation.kind_of number }
+    ensures width { IfSome result (λ k. IsWidth k.width) }
+{
+    match number {
+        1 => made(1, 8, Formula::Symbol, Range::Always),
+        2 => made(2, 4, Formula::SymbolFromPlace, Range::Signed),
+        3 => made(3, 4, Formula::Slot, Range::Signed),
+        4 => made(4, 4, Formula::SymbolFromPlace, Range::Signed),
+        9 => made(9, 4, Formula::SlotFromPlace, Range::Signed),
+        10 => made(10, 4, Formula::Symbol, Range::Unsigned),
+        11 => made(11, 4, Formula::Symbol, Range::Signed),
+        12 => made(12, 2, Formula::Symbol, Range::Either),
+        13 => made(13, 2, Formula::SymbolFromPlace, Range::Signed),
+        14 => made(14, 1, Formula::Symbol, Range::Either),
+        15 => made(15, 1, Formula::SymbolFromPlace, Range::Signed),
+        18 => made(18, 8, Formula::ThreadOffset, Range::Always),
+        22 => made(22, 4, Formula::ThreadSlotFromPlace, Range::Signed),
+        23 => made(23, 4, Formula::ThreadOffset, Range::Signed),
+        24 => made(24, 8, Formula::SymbolFromPlace, Range::Always),
+        25 => made(25, 8, Formula::SymbolFromGot, Range::Always),
+        26 => made(26, 4, Formula::GotFromPlace, Range::Signed),
+        27 => made(27, 8, Formula::Slot, Range::Always),
+        28 => made(28, 8, Formula::SlotFromPlace, Range::Always),
+        29 => made(29, 8, Formula::GotFromPlace, Range::Always),
+        32 => made(32, 4, Formula::Size, Range::Unsigned),
+        33 => made(33, 8, Formula::Size, Range::Always),
+        41 => made(41, 4, Formula::SlotFromPlace, Range::Signed),
+        42 => made(42, 4, Formula::SlotFromPlace, Range::Signed),
+        _ => None,
+    }
+}

@@ -1,0 +1,176 @@
+//! Whether one relocation is lawful and its value fits, and its field.
+ghost use Rattle.std.specs.Prelude.{◌≡◌, ◌-◌, ◌↔◌, ℕ, IsTrue, Some, SomeIff};
+ghost use Rattle.elf_model.specs.ObjectFile.{rela_type, section, sections};
+ghost use Rattle.elf_model.specs.Placement.{got_start, section_address};
+ghost use Rattle.elf_model.specs.Relocation.{IsMismatch, relocation_of};
+ghost use Rattle.elf_model.specs.Relocation as relocation;
+ghost use Rattle.elf_model.specs.Slots.{slot_address};
+ghost use Rattle.check_load.specs.Views.{loaded_view};
+ghost use Rattle.check_relocs.specs.Bindings.{AreTargets};
+ghost use Rattle.check_relocs.specs.Fields.{IsRight, field_of};
+ghost use Rattle.check_relocs.specs.LawfulFields.{IsRightWith, field_with, is_frames, refers_to_dropped};
+ghost use Rattle.check_relocs.specs.Kinds.{formula_view, kind_view};
+ghost use Rattle.check_link.specs.ThreadStorage.{thread_pointer};
+ghost use Rattle.check_relocs.specs.Widths.{IsWidth};
+
+use crate::bindings::Bindings;
+use crate::entry_requests::request_of;
+use crate::fields::Field;
+use crate::kinds::{Formula, Kind, kind_of};
+use crate::targets::{Target, target_at};
+use crate::values::{Terms, fits, value_of};
+use check_load::Loaded;
+use elf_model::Rela;
+
+/// What entries relocate: a section's number, its size in bytes, its address, and whether it is `.eh_frame`.
+#[derive(Clone, Copy, Debug)]
+pub struct Relocated {
+    pub section: u64,
+    pub size: u64,
+    pub address: u64,
+    pub frames: bool,
+}
+
+/// What the GOT and the block of thread-local storage give a value: the offset in the GOT of an entry's slot, 0 where it
+/// asks for none, the GOT's address, 0 without one, and the thread pointer, modulo 2^64.
+#[derive(Clone, Copy, Debug)]
+pub struct LinkTerms {
+    pub slot: u64,
+    pub got: u64,
+    pub thread_pointer: u64,
+}
+
+/// Whether a formula doesn't suit a symbol that stands in thread-local storage, or one that doesn't.
+fn is_mismatch(formula: Formula, thread_local: bool) -> bool
+    ensures { IsTrue result ↔ IsMismatch (formula_view formula) thread_local }
+{
+    match formula {
+        Formula::ThreadOffset | Formula::ThreadSlotFromPlace => !thread_local,
+        Formula::Size => false,
+        Formula::Symbol
+        | Formula::SymbolFromPlace
+        | Formula::SymbolFromGot
+        | Formula::Slot
+        | Formula::SlotFromPlace
+        | Formula::GotFromPlace => thread_local,
+    }
+}
+
+/// Whether entries refer to what isn't kept: they name a LOCAL symbol of a section that isn't, and aren't those of
+/// `.eh_frame`, which may name one of a dropped section.
+fn refers_to_dropped(target: &Target, to: &Relocated) -> bool
+    ensures { result ≡ refers_to_dropped target.now to.now }
+{
+    if to.frames && target.dropped {
+        return false;
+    }
+    target.unkept
+}
+
+/// The field of an entry of a kind; None where it isn't lawful, and where its value doesn't fit.
+fn field_with(
+    kind: &Kind,
+    target: &Target,
+    to: &Relocated,
+    given: &LinkTerms,
+    entry: &Rela,
+) -> Option<Field>
+    requires { IsWidth kind.now.width }
+    ensures { SomeIff result (IsRightWith (Some (kind_view kind.now)) target.now to.now given.now entry.now) (field_with (Some (kind_view kind.now)) target.now to.now given.now entry.now) }
+{
+    if target.undefined || target.mixed || refers_to_dropped(target, to) {
+        return None;
+    }
+    if is_mismatch(kind.formula, target.thread_local) {
+        return None;
+    }
+    let at = entry.r_offset;
+    if at > to.size || kind.width > to.size - at {
+        return None;
+    }
+    let terms = Terms {
+        symbol: target.value,
+        place: to.address.wrapping_add(at),
+        slot: given.slot,
+        got: given.got,
+        size: target.size,
+        thread_pointer: given.thread_pointer,
+    };
+    let value = value_of(kind.formula, entry.r_addend, terms);
+    if !fits(kind.range, kind.width, value) {
+        return None;
+    }
+    Some(Field {
+        section: to.section,
+        at,
+        width: kind.width,
+        value,
+    })
+}
+
+/// The field of an entry whose symbol means a target; None where it isn't lawful, and where its value
+/// doesn't fit.
+fn field_for(target: &Target, to: &Relocated, given: &LinkTerms, entry: &Rela) -> Option<Field>
+    ensures { SomeIff result (IsRightWith (relocation.kind_of (rela_type entry.now)) target.now to.now given.now entry.now) (field_with (relocation.kind_of (rela_type entry.now)) target.now to.now given.now entry.now) }
+{
+    let Some(kind) = kind_of(entry.kind()) else {
+        return None;
+    };
+    field_with(&kind, target, to, given, entry)
+}
+
+/// The address of the slot for which an entry asks, 0 where it asks for none and where there is none.
+fn slot_address<'a>(
+    bindings: &Bindings<'_, '_, 'a>,
+    number: u64,
+    loaded: &Loaded<'a>,
+    entry: &Rela,
+) -> u64
+    ensures { (section : ℕ) → result ≡ slot_address bindings.now.places.slots (relocation_of number (loaded_view loaded.now) section entry.now) }
+{
+    match request_of(loaded, number, entry) {
+        Some(request) => bindings.slot_address(&request),
+        None => 0,
+    }
+}
+
+/// What the GOT and the block of thread-local storage give the value of an entry.
+fn link_terms<'a>(
+    bindings: &Bindings<'_, '_, 'a>,
+    number: u64,
+    loaded: &Loaded<'a>,
+    entry: &Rela,
+) -> LinkTerms
+    ensures slot { (section : ℕ) → result.slot ≡ slot_address bindings.now.places.slots (relocation_of number (loaded_view loaded.now) section entry.now) - got_start bindings.now.places.got }
+    ensures got { result.got ≡ got_start bindings.now.places.got }
+    ensures pointer { result.thread_pointer ≡ thread_pointer bindings.now.places.placed }
+{
+    let got = bindings.got_start();
+    let address = slot_address(bindings, number, loaded, entry);
+    LinkTerms {
+        slot: address.saturating_sub(got),
+        got,
+        thread_pointer: bindings.thread_pointer(),
+    }
+}
+
+/// The field of an entry of the object that has a number; None where it isn't lawful, and where its value
+/// doesn't fit.
+pub fn right_field<'a>(
+    bindings: &Bindings<'_, '_, 'a>,
+    targets: &[Target],
+    number: u64,
+    loaded: &Loaded<'a>,
+    to: &Relocated,
+    entry: &Rela,
+) -> Option<Field>
+    requires targets { AreTargets bindings.now number (loaded_view loaded.now) targets.now }
+    requires size { to.now.size ≡ (section (sections loaded.now.object) to.now.section).sh_size }
+    requires frames { to.now.frames ≡ is_frames loaded.now.object to.now.section }
+    requires address { to.now.address ≡ section_address bindings.now.places.placed number to.now.section }
+    ensures { SomeIff result (IsRight bindings.now.objects bindings.now.places (relocation_of number (loaded_view loaded.now) to.now.section entry.now)) (field_of bindings.now.objects bindings.now.places (relocation_of number (loaded_view loaded.now) to.now.section entry.now)) }
+{
+    let target = target_at(bindings, targets, number, loaded, entry.symbol() as usize);
+    let given = link_terms(bindings, number, loaded, entry);
+    field_for(&target, to, &given, entry)
+}

@@ -1,0 +1,23 @@
+//! What relocations want, as the checker has it: the kinds, the targets and the values of entries, the requests for slots,
+//! and the fields with the bytes that they want.
+#![tactic(auto)]
+
+mod bindings;
+mod entry_requests;
+mod field_rows;
+mod fields;
+mod kinds;
+mod lawful_fields;
+mod linker_uses;
+mod needs;
+mod section_fields;
+mod targets;
+mod values;
+
+pub use bindings::Bindings;
+pub use field_rows::fields_right;
+pub use fields::Field;
+pub use linker_uses::linker_lines;
+pub use needs::{Needs, needs_of};
+pub use section_fields::fields_in;
+pub use targets::symbol_at;

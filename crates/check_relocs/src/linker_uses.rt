@@ -1,0 +1,226 @@
+//! The linker's names that kept relocations use: which of them have a line in the map.
+ghost use Rattle.std.specs.Prelude.{◌≡◌, ◌∷◌, ◌++◌, ◌||◌, ℕ, [], List, IfOk, OnOk, Some, filter, map, option_to_list};
+ghost use Rattle.std.specs.List.{list_any, slice_get};
+ghost use Rattle.std.specs.Str.{bytes_eq};
+ghost use Rattle.std.specs.BTreeSet.{IsOrdered};
+ghost use Rattle.std.specs.Cmp.Lexicographic.{slice_cmp};
+ghost use Rattle.std.specs.Ordering.{nat_cmp};
+ghost use Rattle.elf_model.specs.Listing.{AreLinkerLines};
+ghost use Rattle.elf_model.specs.ObjectFile.{sections};
+ghost use Rattle.elf_model.specs.Relocation.{is_some_kind, relocation_of, relocations, relocations_from, relocations_in, symbol_at};
+ghost use Rattle.elf_model.specs.UsedNames.{Gains, is_among, is_linker_use, linker_meaning, linker_meanings, uses_line};
+ghost use Rattle.check_load.specs.Views.{loaded_view, loaded_views};
+ghost use Rattle.check_relocs.specs.LinkerUses.{AreUses};
+ghost use Rattle.check_link.specs.Views.{meaning_views, symbol_view};
+
+use crate::bindings::Bindings;
+use crate::field_rows::{entries_of, is_some_kind};
+use crate::targets::symbol_at;
+use check_link::{Meaning, SymbolOf, name_of};
+use check_load::Loaded;
+use elf_model::{Rela, STB_LOCAL, SectionHeader};
+use std::alloc::{AllocError, Global};
+use std::collections::BTreeSet;
+
+/// Whether a symbol isn't LOCAL and has a name that the linker defines and no object does.
+fn is_linker_use(bindings: &Bindings<'_, '_, '_>, symbol: &SymbolOf<'_>) -> bool
+    ensures { result ≡ is_linker_use bindings.now.objects (symbol_view symbol.now) }
+{
+    if symbol.entry.st_info / 16 == STB_LOCAL {
+        return false;
+    }
+    bindings.bound_of(symbol.name).is_some() && bindings.chosen(symbol.name).is_none()
+}
+
+/// Of each symbol of the object that has a number, whether it is such a one.
+fn linker_symbols<'a>(
+    alloc: Global,
+    bindings: &Bindings<'_, '_, 'a>,
+    number: u64,
+    loaded: &Loaded<'a>,
+) -> Result<Vec<bool>, AllocError>
+    ensures { IfOk result (λ v. AreUses bindings.now.objects number (loaded_view loaded.now) v.items) }
+{
+    let count = loaded.object.symbols().len();
+    let mut found = Vec::with_capacity(alloc, count)?;
+    for j in 0..count {
+        found.push(is_linker_use(bindings, &symbol_at(loaded, number, j)))?;
+    }
+    Ok(found)
+}
+
+/// Whether symbol `j` is such a one.
+fn is_use<'a>(
+    bindings: &Bindings<'_, '_, 'a>,
+    uses: &[bool],
+    number: u64,
+    loaded: &Loaded<'a>,
+    j: usize,
+) -> bool
+    requires { AreUses bindings.now.objects number (loaded_view loaded.now) uses.now }
+    ensures { result ≡ is_linker_use bindings.now.objects (symbol_at number (loaded_view loaded.now) j) }
+{
+    match uses.get(j) {
+        Some(is_use) => *is_use,
+        None => is_linker_use(bindings, &symbol_at(loaded, number, j)),
+    }
+}
+
+fn add_name<'a>(names: &mut BTreeSet<&'a [u8]>, name: &'a [u8]) -> Result<(), AllocError>
+    ensures { OnOk result ((n : List ℕ) → is_among names.new n ≡ (bytes_eq name.entry.now n || is_among names.old n)) }
+{
+    names.insert(name)?;
+    Ok(())
+}
+
+/// Adds the name that an entry uses, where that is a linker's.
+fn add_use<'a>(
+    names: &mut BTreeSet<&'a [u8]>,
+    bindings: &Bindings<'_, '_, 'a>,
+    uses: &[bool],
+    number: u64,
+    loaded: &Loaded<'a>,
+    to: u64,
+    entry: &Rela,
+) -> Result<(), AllocError>
+    requires { AreUses bindings.now.objects number (loaded_view loaded.now) uses.now }
+    ensures { OnOk result (Gains bindings.now.objects (relocation_of number (loaded_view loaded.now) to entry.now ∷ []) names.old names.new) }
+{
+    let j = entry.symbol() as usize;
+    if !is_use(bindings, uses, number, loaded, j) {
+        return Ok(());
+    }
+    add_name(names, name_of(&loaded.object, j))
+}
+
+/// Adds the linker's names that entries use which relocate the section `to` of the object that has a number.
+fn add_entries<'a>(
+    names: &mut BTreeSet<&'a [u8]>,
+    bindings: &Bindings<'_, '_, 'a>,
+    uses: &[bool],
+    number: u64,
+    loaded: &Loaded<'a>,
+    to: u64,
+    entries: &[Rela],
+) -> Result<(), AllocError>
+    requires { AreUses bindings.now.objects number (loaded_view loaded.now) uses.now }
+    ensures { OnOk result (Gains bindings.now.objects (map (relocation_of number (loaded_view loaded.now) to) (filter is_some_kind entries.now)) names.old names.new) }
+{
+    for i in 0..entries.len() {
+        let entry = entries[i];
+        if !is_some_kind(&entry) {
+            continue;
+        }
+        add_use(names, bindings, uses, number, loaded, to, &entry)?;
+    }
+    Ok(())
+}
+
+/// Adds those that the entries of RELA section `i` use, which has the header.
+fn add_section<'a>(
+    names: &mut BTreeSet<&'a [u8]>,
+    bindings: &Bindings<'_, '_, 'a>,
+    uses: &[bool],
+    number: u64,
+    loaded: &Loaded<'a>,
+    i: usize,
+    header: &SectionHeader,
+) -> Result<(), AllocError>
+    requires uses { AreUses bindings.now.objects number (loaded_view loaded.now) uses.now }
+    requires there { slice_get (sections loaded.now.object) i ≡ Some header.now }
+    requires rela { header.now.sh_type ≡ 4 }
+    ensures { OnOk result (Gains bindings.now.objects (relocations_in number (loaded_view loaded.now) header.now) names.old names.new) }
+{
+    let entries = entries_of(&loaded.object, i, header);
+    add_entries(
+        names,
+        bindings,
+        uses,
+        number,
+        loaded,
+        header.sh_info as u64,
+        entries,
+    )
+}
+
+/// Adds those that the kept relocations of an object use.
+fn add_object<'a>(
+    alloc: Global,
+    names: &mut BTreeSet<&'a [u8]>,
+    bindings: &Bindings<'_, '_, 'a>,
+    number: u64,
+    loaded: &Loaded<'a>,
+) -> Result<(), AllocError>
+    ensures { OnOk result (Gains bindings.now.objects (relocations_from number (loaded_view loaded.now)) names.old names.new) }
+{
+    let uses = linker_symbols(alloc, bindings, number, loaded)?;
+    let headers = loaded.object.sections();
+    for i in 0..headers.len() {
+        let header = headers[i];
+        if !loaded.is_kept_rela(i, &header) {
+            continue;
+        }
+        add_section(names, bindings, &uses, number, loaded, i, &header)?;
+    }
+    Ok(())
+}
+
+/// The linker's names that kept relocations use and no object defines.
+fn used_names<'a>(
+    alloc: Global,
+    bindings: &Bindings<'_, '_, 'a>,
+    objects: &[Loaded<'a>],
+) -> Result<BTreeSet<&'a [u8]>, AllocError>
+    requires { bindings.now.objects ≡ loaded_views objects.now }
+    ensures { IfOk result (λ s. (n : List ℕ) → is_among s n ≡ list_any (uses_line (loaded_views objects.now) n) (relocations (loaded_views objects.now))) }
+{
+    let mut names = BTreeSet::new(alloc);
+    for k in 0..objects.len() {
+        add_object(alloc, &mut names, bindings, k as u64, &objects[k])?;
+    }
+    Ok(names)
+}
+
+/// Adds what the linker defines for a name.
+fn add_line<'a>(
+    bindings: &Bindings<'_, '_, 'a>,
+    name: &'a [u8],
+    lines: &mut Vec<Meaning<'a>>,
+) -> Result<(), AllocError>
+    ensures { OnOk result (meaning_views lines.new.items ≡ meaning_views lines.old.items ++ option_to_list (linker_meaning bindings.now.objects name.entry.now)) }
+{
+    if let Some(meaning) = bindings.linker_meaning(name) {
+        lines.push(meaning)?;
+    }
+    Ok(())
+}
+
+/// What the linker defines for the names of a set.
+fn lines_of<'a>(
+    alloc: Global,
+    bindings: &Bindings<'_, '_, 'a>,
+    names: &BTreeSet<&'a [u8]>,
+) -> Result<Vec<Meaning<'a>>, AllocError>
+    ensures lines { IfOk result (λ v. meaning_views v.items ≡ linker_meanings bindings.now.objects names.now.keys) }
+    ensures ordered { IfOk result (λ v. IsOrdered (λ a b. slice_cmp nat_cmp a.now b.now) names.now) }
+{
+    let mut lines = Vec::new(alloc);
+    for name in names {
+        add_line(bindings, name, &mut lines)?;
+    }
+    Ok(lines)
+}
+
+/// What the linker's names mean that have a line in the map.
+pub fn linker_lines<'a>(
+    alloc: Global,
+    bindings: &Bindings<'_, '_, 'a>,
+    objects: &[Loaded<'a>],
+) -> Result<Vec<Meaning<'a>>, AllocError>
+    requires { bindings.now.objects ≡ loaded_views objects.now }
+    ensures { IfOk result (λ v. AreLinkerLines (loaded_views objects.now) (meaning_views v.items)) }
+{
+    let names = used_names(alloc, bindings, objects)?;
+    let lines = lines_of(alloc, bindings, &names)?;
+    Ok(lines)
+}

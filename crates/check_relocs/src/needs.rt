@@ -1,0 +1,238 @@
+//! What the kept relocations ask of the global offset table: whether there is one, and which slots it has.
+ghost use Rattle.std.specs.Prelude.{◌≡◌, ◌∷◌, ◌||◌, ℕ, [], false, IfOk, OnOk, Some, filter, map, option_map};
+ghost use Rattle.std.specs.List.{list_any, slice_get};
+ghost use Rattle.std.specs.Option.{option_map_or};
+ghost use Rattle.elf_model.specs.ObjectFile.{rela_type, sections};
+ghost use Rattle.elf_model.specs.Relocation as relocation;
+ghost use Rattle.elf_model.specs.Relocation.{is_some_kind, relocation_of, relocations_from, relocations_in, symbol_at};
+ghost use Rattle.elf_model.specs.Slots as slots;
+ghost use Rattle.elf_model.specs.Slots.{asks_for_got, names_got, same_request};
+ghost use Rattle.check_load.specs.Views.{loaded_view, loaded_views};
+ghost use Rattle.check_relocs.specs.Needs.{AreGotNames, AreNeeds, HaveGained};
+ghost use Rattle.check_link.specs.Slots.{is_asked, request_view};
+ghost use Rattle.check_link.specs.Views.{symbol_view};
+
+use crate::bindings::Bindings;
+use crate::entry_requests::{request_of, speaks_of_got};
+use crate::field_rows::{entries_of, is_some_kind};
+use crate::kinds::kind_of;
+use crate::targets::symbol_at;
+use check_link::{Request, SymbolOf};
+use check_load::Loaded;
+use elf_model::{Rela, STB_LOCAL, SectionHeader};
+use std::alloc::{AllocError, Global};
+use std::collections::BTreeSet;
+
+/// Whether relocations ask for a GOT, and their requests for slots, each once.
+#[derive(Drop)]
+pub struct Needs<'a> {
+    pub got: bool,
+    pub requests: BTreeSet<Request<'a>>,
+}
+
+/// Whether a symbol isn't LOCAL and has the name of the GOT, which no object defines.
+fn names_got(bindings: &Bindings<'_, '_, '_>, symbol: &SymbolOf<'_>) -> bool
+    ensures { result ≡ names_got bindings.now.objects (symbol_view symbol.now) }
+{
+    if symbol.entry.st_info / 16 == STB_LOCAL {
+        return false;
+    }
+    if symbol.name != b"_GLOBAL_OFFSET_TABLE_".as_slice() {
+        return false;
+    }
+    bindings.chosen(symbol.name).is_none()
+}
+
+/// Of each symbol of the object that has a number, whether it is such a one.
+fn got_names<'a>(
+    alloc: Global,
+    bindings: &Bindings<'_, '_, 'a>,
+    number: u64,
+    loaded: &Loaded<'a>,
+) -> Result<Vec<bool>, AllocError>
+    ensures { IfOk result (λ v. AreGotNames bindings.now.objects number (loaded_view loaded.now) v.items) }
+{
+    let count = loaded.object.symbols().len();
+    let mut found = Vec::with_capacity(alloc, count)?;
+    for j in 0..count {
+        found.push(names_got(bindings, &symbol_at(loaded, number, j)))?;
+    }
+    Ok(found)
+}
+
+/// Whether symbol `j` is such a one.
+fn names_got_at<'a>(
+    bindings: &Bindings<'_, '_, 'a>,
+    named: &[bool],
+    number: u64,
+    loaded: &Loaded<'a>,
+    j: usize,
+) -> bool
+    requires { AreGotNames bindings.now.objects number (loaded_view loaded.now) named.now }
+    ensures { result ≡ names_got bindings.now.objects (symbol_at number (loaded_view loaded.now) j) }
+{
+    match named.get(j) {
+        Some(named) => *named,
+        None => names_got(bindings, &symbol_at(loaded, number, j)),
+    }
+}
+
+/// Whether an entry asks for a GOT by its kind.
+fn is_of_got(entry: &Rela) -> bool
+    ensures { result ≡ option_map_or (λ k. slots.speaks_of_got k.formula) (relocation.kind_of (rela_type entry.now)) false }
+{
+    match kind_of(entry.kind()) {
+        Some(kind) => speaks_of_got(kind.formula),
+        None => false,
+    }
+}
+
+/// Whether an entry of the object that has a number asks for a GOT, by its kind or by the name.
+fn asks_for_got<'a>(
+    bindings: &Bindings<'_, '_, 'a>,
+    named: &[bool],
+    number: u64,
+    loaded: &Loaded<'a>,
+    entry: &Rela,
+) -> bool
+    requires { AreGotNames bindings.now.objects number (loaded_view loaded.now) named.now }
+    ensures { (section : ℕ) → result ≡ asks_for_got bindings.now.objects (relocation_of number (loaded_view loaded.now) section entry.now) }
+{
+    if is_of_got(entry) {
+        return true;
+    }
+    names_got_at(bindings, named, number, loaded, entry.symbol() as usize)
+}
+
+fn add_request<'a>(
+    requests: &mut BTreeSet<Request<'a>>,
+    request: Request<'a>,
+) -> Result<(), AllocError>
+    ensures { OnOk result ((q : slots.Request) → is_asked requests.new q ≡ (is_asked requests.old q || same_request q (request_view request.entry))) }
+{
+    requests.insert(request)?;
+    Ok(())
+}
+
+/// Adds a request, if there is one.
+fn add_if_asked<'a>(
+    requests: &mut BTreeSet<Request<'a>>,
+    request: Option<Request<'a>>,
+) -> Result<(), AllocError>
+    ensures { OnOk result ((q : slots.Request) → is_asked requests.new q ≡ (is_asked requests.old q || option_map_or (same_request q) (option_map request_view request.entry) false)) }
+{
+    match request {
+        Some(request) => add_request(requests, request),
+        None => Ok(()),
+    }
+}
+
+/// Adds what an entry asks for which relocates the section `to` of the object that has a number.
+fn add_entry<'a>(
+    needs: &mut Needs<'a>,
+    bindings: &Bindings<'_, '_, 'a>,
+    named: &[bool],
+    number: u64,
+    loaded: &Loaded<'a>,
+    to: u64,
+    entry: &Rela,
+) -> Result<(), AllocError>
+    requires { AreGotNames bindings.now.objects number (loaded_view loaded.now) named.now }
+    ensures { OnOk result (HaveGained bindings.now.objects (relocation_of number (loaded_view loaded.now) to entry.now ∷ []) needs.old needs.new) }
+{
+    let got = asks_for_got(bindings, named, number, loaded, entry);
+    needs.got |= got;
+    add_if_asked(&mut needs.requests, request_of(loaded, number, entry))?;
+    Ok(())
+}
+
+/// Adds what entries ask for which relocate the section `to` of the object that has a number.
+fn add_entries<'a>(
+    needs: &mut Needs<'a>,
+    bindings: &Bindings<'_, '_, 'a>,
+    named: &[bool],
+    number: u64,
+    loaded: &Loaded<'a>,
+    to: u64,
+    entries: &[Rela],
+) -> Result<(), AllocError>
+    requires { AreGotNames bindings.now.objects number (loaded_view loaded.now) named.now }
+    ensures { OnOk result (HaveGained bindings.now.objects (map (relocation_of number (loaded_view loaded.now) to) (filter is_some_kind entries.now)) needs.old needs.new) }
+{
+    for i in 0..entries.len() {
+        let entry = entries[i];
+        if !is_some_kind(&entry) {
+            continue;
+        }
+        add_entry(needs, bindings, named, number, loaded, to, &entry)?;
+    }
+    Ok(())
+}
+
+/// Adds what the entries of RELA section `i` ask for, which has the header.
+fn add_section<'a>(
+    needs: &mut Needs<'a>,
+    bindings: &Bindings<'_, '_, 'a>,
+    named: &[bool],
+    number: u64,
+    loaded: &Loaded<'a>,
+    i: usize,
+    header: &SectionHeader,
+) -> Result<(), AllocError>
+    requires named { AreGotNames bindings.now.objects number (loaded_view loaded.now) named.now }
+    requires there { slice_get (sections loaded.now.object) i ≡ Some header.now }
+    requires rela { header.now.sh_type ≡ 4 }
+    ensures { OnOk result (HaveGained bindings.now.objects (relocations_in number (loaded_view loaded.now) header.now) needs.old needs.new) }
+{
+    let entries = entries_of(&loaded.object, i, header);
+    add_entries(
+        needs,
+        bindings,
+        named,
+        number,
+        loaded,
+        header.sh_info as u64,
+        entries,
+    )
+}
+
+/// Adds what the kept relocations of an object ask for.
+fn add_object<'a>(
+    alloc: Global,
+    needs: &mut Needs<'a>,
+    bindings: &Bindings<'_, '_, 'a>,
+    number: u64,
+    loaded: &Loaded<'a>,
+) -> Result<(), AllocError>
+    ensures { OnOk result (HaveGained bindings.now.objects (relocations_from number (loaded_view loaded.now)) needs.old needs.new) }
+{
+    let named = got_names(alloc, bindings, number, loaded)?;
+    let headers = loaded.object.sections();
+    for i in 0..headers.len() {
+        let header = headers[i];
+        if !loaded.is_kept_rela(i, &header) {
+            continue;
+        }
+        add_section(needs, bindings, &named, number, loaded, i, &header)?;
+    }
+    Ok(())
+}
+
+/// What the kept relocations of all objects ask of the GOT.
+pub fn needs_of<'a>(
+    alloc: Global,
+    bindings: &Bindings<'_, '_, 'a>,
+    objects: &[Loaded<'a>],
+) -> Result<Needs<'a>, AllocError>
+    requires { bindings.now.objects ≡ loaded_views objects.now }
+    ensures { IfOk result (AreNeeds (loaded_views objects.now)) }
+{
+    let mut needs = Needs {
+        got: false,
+        requests: BTreeSet::new(alloc),
+    };
+    for k in 0..objects.len() {
+        add_object(alloc, &mut needs, bindings, k as u64, &objects[k])?;
+    }
+    Ok(needs)
+}

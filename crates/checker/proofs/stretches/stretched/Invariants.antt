@@ -1,6 +1,0 @@
-use Rattle.std.proofs.Common.{◌≡◌, ◌++◌, drop}
-use Rattle.checker.specs.Sweeps.{stretched}
-use Rattle.checker.proofs.stretches.stretched.Given as goal
-
-abbrev pub invariant-loop-thing : goal.invariant-loop-thing
-invariant-loop-thing l = l.out.items ++ stretched l.end (drop l.thing-index l.sorted) ≡ stretched 0 l.sorted

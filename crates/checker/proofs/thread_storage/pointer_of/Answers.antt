@@ -1,5 +1,0 @@
-use Rattle.checker.proofs.RoundedUp.{pointer_is_rounded}
-use Rattle.checker.proofs.thread_storage.pointer_of.Goals as goal
-
-pub returns : goal.returns
-returns c = pointer_is_rounded c.args.block.now.start c.args.block.now.size c.args.block.now.align c.requires

@@ -1,0 +1,91 @@
+//! C3: whether kept sections have lawful kinds, common symbols are sound, and the drop, place and common lines of the map
+//! are those of the objects.
+ghost use Rattle.std.specs.Prelude.{◌≡◌, ◌↔◌, IfOk, IsTrue, map};
+ghost use Rattle.elf_model.specs.MapRecord.{place_row};
+ghost use Rattle.elf_model.specs.ObjectFile.{sections};
+ghost use Rattle.elf_model.specs.Pieces as piece_words;
+ghost use Rattle.elf_model.specs.RightLink.{AreSectionsListed, drop_rows, facts_of_piece, facts_of_row, objects_of};
+ghost use Rattle.check_link.specs.Subjects.{subject_of};
+ghost use Rattle.check_link.specs.Views.{piece_view, piece_views};
+
+use crate::c03_sections::drops::{are_drops, drops_of};
+use crate::c03_sections::kinds::are_lawful_kinds;
+use check_link::{CommonLines, Link, Names, Piece};
+use elf_model::{DropLine, PlaceLine};
+use std::alloc::{AllocError, Global};
+
+mod drops;
+mod kinds;
+
+/// Whether a place line says of a piece what it is.
+fn is_line_of(line: &PlaceLine, piece: &Piece<'_>) -> bool
+    ensures { IsTrue result ↔ (facts_of_row (place_row line.now) ≡ facts_of_piece (piece_view piece.now)) }
+{
+    if line.object != piece.object || line.section != piece.section {
+        return false;
+    }
+    line.size == piece.header.sh_size && line.name.as_slice() == piece.name
+}
+
+/// Whether the place lines are those of the pieces, in order, but for addresses.
+fn are_lines_of(lines: &[PlaceLine], pieces: &[Piece<'_>]) -> bool
+    ensures { IsTrue result ↔ (map facts_of_row (map place_row lines.now) ≡ map facts_of_piece (piece_views pieces.now)) }
+{
+    if lines.len() != pieces.len() {
+        return false;
+    }
+    for (k, line) in lines.iter().enumerate() {
+        if !is_line_of(line, &pieces[k]) {
+            return false;
+        }
+    }
+    true
+}
+
+/// Whether the third clause holds of a link.
+pub fn holds(
+    alloc: Global,
+    link: &Link<'_>,
+    names: &Names<'_, '_>,
+    pieces: &[Piece<'_>],
+    lines: &CommonLines<'_>,
+) -> Result<bool, AllocError>
+    requires names { names.now ≡ objects_of (subject_of link.now) }
+    requires pieces { piece_views pieces.now ≡ piece_words.kept_sections (objects_of (subject_of link.now)) }
+    requires lines { lines.now ≡ (subject_of link.now).map.commons }
+    ensures { IfOk result (λ b. IsTrue b ↔ AreSectionsListed (subject_of link.now)) }
+{
+    let drops = drops_of(alloc, names.objects())?;
+    let listed = are_sections_listed(link, names, pieces, &drops, lines);
+    Ok(listed)
+}
+
+/// Whether each piece is of a lawful kind, the common symbols are sound, and the drop, place and common lines of a link's
+/// map are those of its dropped sections, its pieces and its common blocks.
+fn are_sections_listed(
+    link: &Link<'_>,
+    names: &Names<'_, '_>,
+    pieces: &[Piece<'_>],
+    drops: &[DropLine],
+    lines: &CommonLines<'_>,
+) -> bool
+    requires names { names.now ≡ objects_of (subject_of link.now) }
+    requires pieces { piece_views pieces.now ≡ piece_words.kept_sections (objects_of (subject_of link.now)) }
+    requires lines { lines.now ≡ (subject_of link.now).map.commons }
+    requires drops { drops.now ≡ drop_rows 0 (objects_of (subject_of link.now)) }
+    ensures { IsTrue result ↔ AreSectionsListed (subject_of link.now) }
+{
+    if !are_lawful_kinds(pieces) {
+        return false;
+    }
+    if !names.are_sound_commons() {
+        return false;
+    }
+    if !lines.are_of_blocks(names) {
+        return false;
+    }
+    if !are_drops(&link.map.drops, drops) {
+        return false;
+    }
+    are_lines_of(&link.map.places, pieces)
+}

@@ -1,0 +1,101 @@
+//! C5: whether all things are aligned, within the addresses and apart, and the pieces of an output section near one another.
+ghost use Rattle.std.specs.Prelude.{◌≡◌, ◌<◌, ◌^◌, ◌%◌, ◌↔◌, All, AllPairs, IfOk, IsTrue};
+ghost use Rattle.elf_model.specs.ArrayOrder.{placed_in_array_order};
+ghost use Rattle.elf_model.specs.Placement.{AreApart, IsPlaced, IsWithin, thread_ranges};
+ghost use Rattle.check_link.specs.Views.{placed_views};
+ghost use Rattle.elf_model.specs.RightLink.{Holds, placed_of, sections_of, things_of};
+ghost use Rattle.elf_model.specs.declared.verdict.Clause.TheVariants as clause;
+ghost use Rattle.check_link.specs.Subjects.{subject_of};
+
+use crate::c05_placed::apart::share_no_address;
+use crate::c05_placed::array_order::are_near_in_array_order;
+use check_link::{Link, Placed, base_of};
+use elf_model::Thing;
+use std::alloc::{AllocError, Global};
+
+mod apart;
+mod array_order;
+mod neighbours;
+
+/// Whether the fifth clause holds of a link.
+pub fn holds(
+    alloc: Global,
+    link: &Link<'_>,
+    things: &[Thing],
+    threads: &[Thing],
+    sections: &[Placed<'_>],
+) -> Result<bool, AllocError>
+    requires things { things.now ≡ things_of (subject_of link.now) }
+    requires threads { threads.now ≡ thread_ranges (placed_of (subject_of link.now)) }
+    requires sections { placed_views sections.now ≡ sections_of (subject_of link.now) }
+    ensures { IfOk result (λ b. IsTrue b ↔ Holds clause.C5 (subject_of link.now)) }
+{
+    let placed = is_placed(alloc, base_of(&link.plan), things, threads, sections)?;
+    Ok(placed)
+}
+
+/// Addresses end here.
+const ADDRESS_END: u64 = 1 << 46;
+
+fn is_within(base: u64, thing: &Thing) -> bool
+    ensures { IsTrue result ↔ IsWithin base thing.now }
+{
+    base <= thing.at && thing.at <= ADDRESS_END && thing.size <= ADDRESS_END - thing.at
+}
+
+fn are_within(base: u64, things: &[Thing]) -> bool
+    ensures { IsTrue result ↔ All (IsWithin base) things.now }
+{
+    things.iter().all(|t| is_within(base, t))
+}
+
+fn is_aligned(thing: &Thing) -> bool
+    ensures { IsTrue result ↔ (thing.now.at % thing.now.align ≡ 0) }
+{
+    if thing.align == 0 {
+        return thing.at == 0;
+    }
+    thing.at % thing.align == 0
+}
+
+fn are_aligned(things: &[Thing]) -> bool
+    ensures { IsTrue result ↔ All (λ t. t.at % t.align ≡ 0) things.now }
+{
+    things.iter().all(|t| is_aligned(t))
+}
+
+/// Whether all things lie from the base on below 2^46, and no two share an address.
+fn lie_apart(alloc: Global, base: u64, things: &[Thing]) -> Result<bool, AllocError>
+    ensures { IfOk result (λ b. IsTrue b ↔ (All (IsWithin base) things.now × AllPairs AreApart things.now)) }
+{
+    if !are_within(base, things) {
+        return Ok(false);
+    }
+    let apart = share_no_address(alloc, things)?;
+    Ok(apart)
+}
+
+/// Whether each thing has an address that is a multiple of its alignment, all lie from the base on below 2^46, no two share
+/// an address, nor do two thread-local pieces; and each of the sections stands close after the one before it in its
+/// output section.
+fn is_placed(
+    alloc: Global,
+    base: u64,
+    things: &[Thing],
+    threads: &[Thing],
+    sections: &[Placed<'_>],
+) -> Result<bool, AllocError>
+    ensures { IfOk result (λ b. IsTrue b ↔ IsPlaced base things.now threads.now (placed_in_array_order (placed_views sections.now))) }
+{
+    if !are_aligned(things) {
+        return Ok(false);
+    }
+    if !lie_apart(alloc, base, things)? {
+        return Ok(false);
+    }
+    if !lie_apart(alloc, base, threads)? {
+        return Ok(false);
+    }
+    let near = are_near_in_array_order(alloc, sections)?;
+    Ok(near)
+}

@@ -1,0 +1,88 @@
+//! C6: whether each thing lies in a segment with exactly its rights.
+ghost use Rattle.std.specs.Prelude.{◌≡◌, ◌<◌, ◌↔◌, All, IsTrue};
+ghost use Rattle.elf_model.specs.MemoryImage.{Encloses, loads};
+ghost use Rattle.elf_model.specs.Placement.{HasRights, LiesInSegment, got_things};
+ghost use Rattle.elf_model.specs.RightLink.{Holds, things_of};
+ghost use Rattle.elf_model.specs.declared.verdict.Clause.TheVariants as clause;
+ghost use Rattle.check_link.specs.Subjects.{subject_of};
+
+use crate::segments::{encloses, enclosing};
+use check_link::{Link, base_of, first_address};
+use elf_model::{ProgramHeader, Thing};
+use loader_model::Memory;
+
+/// Whether the sixth clause holds of a link.
+pub fn holds(link: &Link<'_>, memory: &Memory<'_>, things: &[Thing], gots: &[Thing]) -> bool
+    requires memory { memory.now ≡ link.now.image.now }
+    requires things { things.now ≡ things_of (subject_of link.now) }
+    requires gots { gots.now ≡ got_things (subject_of link.now).map.got }
+    ensures { IsTrue result ↔ Holds clause.C6 (subject_of link.now) }
+{
+    has_rights(memory, base_of(&link.plan), things, gots)
+}
+
+/// Whether a nonempty thing lies whole in a segment with exactly its rights.
+fn lies_if_nonempty(memory: &Memory<'_>, thing: &Thing) -> bool
+    ensures { IsTrue result ↔ (0 < thing.now.size → LiesInSegment (loads memory.now) thing.now) }
+{
+    if thing.size == 0 {
+        return true;
+    }
+    match enclosing(memory, thing.at, thing.size) {
+        Some(segment) => segment.p_flags as u64 == thing.rights,
+        None => false,
+    }
+}
+
+fn nonempty_lie(memory: &Memory<'_>, things: &[Thing]) -> bool
+    ensures { IsTrue result ↔ All (λ t. 0 < t.size → LiesInSegment (loads memory.now) t) things.now }
+{
+    for thing in things {
+        if !lies_if_nonempty(memory, thing) {
+            return false;
+        }
+    }
+    true
+}
+
+fn lies_in(segment: &ProgramHeader, thing: &Thing) -> bool
+    ensures { IsTrue result ↔ (Encloses segment.now thing.now.at thing.now.size × (segment.now.p_flags ≡ thing.now.rights)) }
+{
+    if !encloses(segment, thing.at, thing.size) {
+        return false;
+    }
+    segment.p_flags as u64 == thing.rights
+}
+
+fn lies_in_segment(segments: &[ProgramHeader], thing: &Thing) -> bool
+    ensures { IsTrue result ↔ LiesInSegment segments.now thing.now }
+{
+    segments.iter().any(|h| lies_in(h, thing))
+}
+
+/// Whether each thing, empty ones too, lies in a segment with exactly its rights. It looks at each segment
+/// for each thing, and is asked of the GOT alone.
+fn all_lie(segments: &[ProgramHeader], things: &[Thing]) -> bool
+    ensures { IsTrue result ↔ All (LiesInSegment segments.now) things.now }
+{
+    for thing in things {
+        if !lies_in_segment(segments, thing) {
+            return false;
+        }
+    }
+    true
+}
+
+/// Whether the first segment of an image begins at the base, and each nonempty thing, and the GOT, lies
+/// whole in one segment with exactly its rights.
+fn has_rights(memory: &Memory<'_>, base: u64, things: &[Thing], gots: &[Thing]) -> bool
+    ensures { IsTrue result ↔ HasRights base (loads memory.now) things.now gots.now }
+{
+    if first_address(memory) != base {
+        return false;
+    }
+    if !nonempty_lie(memory, things) {
+        return false;
+    }
+    all_lie(memory.segments(), gots)
+}

@@ -1,0 +1,141 @@
+//! C7: whether the global offset table stands where a relocation asks for one, with a slot for each request and no other.
+ghost use Rattle.std.specs.Prelude.{◌≡◌, ◌↔◌, All, IfOk, IfSome, IsTrue, true};
+ghost use Rattle.std.specs.List.{list_any};
+ghost use Rattle.elf_model.specs.MapRecord.{slot_row};
+ghost use Rattle.elf_model.specs.RightLink.{HoldsGot, Holds, IsGotRight, objects_of};
+ghost use Rattle.elf_model.specs.Slots.{is_slot_of, row_request};
+ghost use Rattle.check_load.specs.Views.{loaded_views};
+ghost use Rattle.checker.specs.Got.{HaveSlots, IsGot, LiesInImage};
+ghost use Rattle.check_relocs.specs.Needs.{AreNeeds};
+ghost use Rattle.check_link.specs.Slots.{is_asked, request_view};
+ghost use Rattle.elf_model.specs.declared.verdict.Clause.TheVariants as clause;
+ghost use Rattle.check_relocs.specs.Bindings.{bound_of};
+ghost use Rattle.check_link.specs.Subjects.{subject_of};
+
+use crate::c07_got::got_bytes::holds_got;
+use check_link::{Link, Request, SlotTable, request_of_line};
+use check_load::Loaded;
+use check_relocs::{Bindings, Needs, needs_of};
+use elf_model::{GotLine, SlotLine};
+use loader_model::Memory;
+use std::alloc::{AllocError, Global};
+use std::collections::BTreeSet;
+
+mod got_bytes;
+
+/// Whether the seventh clause holds of a link.
+pub fn holds<'a>(
+    alloc: Global,
+    link: &Link<'_>,
+    bindings: &Bindings<'_, '_, 'a>,
+    objects: &[Loaded<'a>],
+    slots: &SlotTable<'a>,
+    memory: &Memory<'_>,
+) -> Result<bool, AllocError>
+    requires loaded { loaded_views objects.now ≡ objects_of (subject_of link.now) }
+    requires bound { bindings.now ≡ bound_of (subject_of link.now) }
+    requires slots { slots.now ≡ (subject_of link.now).map.slots }
+    requires memory { memory.now ≡ link.now.image.now }
+    requires end { Holds clause.C5 (subject_of link.now) }
+    requires lie { Holds clause.C6 (subject_of link.now) }
+    ensures { IfOk result (λ b. IsTrue b ↔ IsGotRight (subject_of link.now)) }
+{
+    let right = is_got_right(alloc, bindings, objects, slots, memory, &link.map.got)?;
+    Ok(right)
+}
+
+/// Whether a line's slot is one of those that are asked for.
+fn is_asked<'a>(requests: &BTreeSet<Request<'a>>, line: &'a SlotLine) -> bool
+    ensures { result ≡ is_asked requests.now (row_request (slot_row line.entry.now)) }
+{
+    requests.contains(&request_of_line(line))
+}
+
+/// Whether all lines' slots are asked for.
+fn are_asked<'a>(requests: &BTreeSet<Request<'a>>, lines: &'a [SlotLine]) -> bool
+    ensures { IsTrue result ↔ All (λ line. is_asked requests.now (row_request (slot_row line)) ≡ true) lines.entry.now }
+{
+    for line in lines {
+        if !is_asked(requests, line) {
+            return false;
+        }
+    }
+    true
+}
+
+/// Whether there is a slot for each of requests.
+fn have_slots<'a>(requests: &BTreeSet<Request<'a>>, slots: &SlotTable<'a>) -> bool
+    ensures { IsTrue result ↔ All (λ q. list_any (is_slot_of (request_view q)) slots.now ≡ true) requests.now.keys }
+{
+    for request in requests {
+        if !slots.has(request) {
+            return false;
+        }
+    }
+    true
+}
+
+/// Whether there is one slot for each request of the relocations, and no other.
+fn are_slots_right<'a>(
+    bindings: &Bindings<'_, '_, '_>,
+    needs: &Needs<'a>,
+    slots: &SlotTable<'a>,
+) -> bool
+    requires { AreNeeds bindings.now.objects needs.now }
+    ensures { IsTrue result ↔ HaveSlots slots.now bindings.now.objects }
+{
+    if !slots.are_distinct() {
+        return false;
+    }
+    if !are_asked(&needs.requests, slots.lines()) {
+        return false;
+    }
+    have_slots(&needs.requests, slots)
+}
+
+/// Whether a GOT, if there is one, holds its slots.
+fn holds_if_there<'a>(
+    alloc: Global,
+    bindings: &Bindings<'_, '_, 'a>,
+    objects: &[Loaded<'a>],
+    slots: &SlotTable<'a>,
+    memory: &Memory<'_>,
+    got: &Option<GotLine>,
+) -> Result<bool, AllocError>
+    requires objects { bindings.now.objects ≡ loaded_views objects.now }
+    requires slots { slots.now ≡ bindings.now.places.slots }
+    requires lies { IfSome got.now (LiesInImage memory.now) }
+    ensures { IfOk result (λ b. IsTrue b ↔ IfSome got.now (HoldsGot bindings.now.objects bindings.now.places memory.now)) }
+{
+    match got {
+        Some(got) => holds_got(alloc, bindings, objects, slots, memory, got),
+        None => Ok(true),
+    }
+}
+
+/// Whether the GOT stands exactly where a relocation asks for one, with one slot for each request of a relocation and
+/// no other, and memory holds it.
+fn is_got_right<'a>(
+    alloc: Global,
+    bindings: &Bindings<'_, '_, 'a>,
+    objects: &[Loaded<'a>],
+    slots: &SlotTable<'a>,
+    memory: &Memory<'_>,
+    got: &Option<GotLine>,
+) -> Result<bool, AllocError>
+    requires objects { bindings.now.objects ≡ loaded_views objects.now }
+    requires slots { slots.now ≡ bindings.now.places.slots }
+    requires got { got.now ≡ bindings.now.places.got }
+    requires lies { IfSome got.now (LiesInImage memory.now) }
+    ensures { IfOk result (λ b. IsTrue b ↔ IsGot bindings.now.objects bindings.now.places memory.now) }
+{
+    let needs = needs_of(alloc, bindings, objects)?;
+    if got.is_some() != needs.got {
+        return Ok(false);
+    }
+    if !are_slots_right(bindings, &needs, slots) {
+        return Ok(false);
+    }
+    let held = holds_if_there(alloc, bindings, objects, slots, memory, got)?;
+    Ok(held)
+}

@@ -1,0 +1,136 @@
+//! C10: whether memory holds the wanted bytes of each piece.
+ghost use Rattle.std.specs.Prelude.{◌≡◌, ◌+◌, ◌≤◌, ◌<◌, ◌↔◌, ℕ, All, AllPairs, IsTrue, find, length, slice_index};
+ghost use Rattle.byteview.specs.Numbers.{le_bytes};
+ghost use Rattle.elf_model.specs.MemoryImage.{Encloses, segment_byte};
+ghost use Rattle.loader_model.specs.Table.{IsLawful};
+ghost use Rattle.check_link.specs.Views.{placed_view, placed_views};
+ghost use Rattle.check_relocs.specs.Bytes.{AreRising, EndsBefore, FitsIn, HasFieldsInside, HoldsFields, LiesWhole, WantedFrom, byte_of, covers, fields_in};
+ghost use Rattle.elf_model.specs.RightLink.{Holds, objects_of, placed_of, where_of};
+ghost use Rattle.elf_model.specs.declared.verdict.Clause.TheVariants as clause;
+ghost use Rattle.check_relocs.specs.Fields.{AreRows};
+ghost use Rattle.check_link.specs.Subjects.{subject_of};
+
+use crate::segments::{enclosing, file_bytes, same_padded, sub_part};
+use check_link::{Link, Placed, load_size};
+use check_relocs::{Field, fields_in};
+use elf_model::ProgramHeader;
+use loader_model::Memory;
+
+/// Whether the tenth clause holds of a link, given the fields of its relocations by objects.
+pub fn holds(
+    link: &Link<'_>,
+    memory: &Memory<'_>,
+    placed: &[Placed<'_>],
+    rows: &[Vec<Field>],
+) -> bool
+    requires memory { memory.now ≡ link.now.image.now }
+    requires placed { placed_views placed.now ≡ placed_of (subject_of link.now) }
+    requires rows { AreRows (objects_of (subject_of link.now)) (where_of (subject_of link.now)) rows.now }
+    requires lie { Holds clause.C6 (subject_of link.now) }
+    ensures { IsTrue result ↔ Holds clause.C10 (subject_of link.now) }
+{
+    holds_pieces(memory, rows, placed)
+}
+
+/// Whether two runs are equal from one byte on and below another; bytes past an end count as 0.
+fn same_between(a: &[u8], b: &[u8], from: u64, to: u64) -> bool
+    requires { from ≤ to }
+    ensures { IsTrue result ↔ ((k : ℕ) → from ≤ k → k < to → slice_index a.now k ≡ slice_index b.now k) }
+{
+    let start = from as usize;
+    let len = (to - from) as usize;
+    same_padded(sub_part(a, start, len), sub_part(b, start, len))
+}
+
+/// Whether a field has the bytes of its value, the least significant first.
+fn has_value_at(held: &[u8], field: &Field) -> bool
+    requires { field.now.width ≤ 8 }
+    ensures { IsTrue result ↔ ((j : ℕ) → j < field.now.width → slice_index held.now (field.now.at + j) ≡ slice_index (le_bytes field.now.width field.now.value) j) }
+{
+    let spelled = field.value.to_le_bytes();
+    let width = field.width as usize;
+    let (low, _high) = spelled.split_at(width);
+    same_padded(sub_part(held, field.at as usize, width), low)
+}
+
+/// Whether the bytes of a section of a size are the wanted ones: each field's value, and between the fields,
+/// which stand in order, the input's.
+fn are_wanted(held: &[u8], bytes: &[u8], fields: &[Field], size: u64) -> bool
+    requires inside { All (FitsIn size) fields.now }
+    requires rising { AllPairs EndsBefore fields.now }
+    ensures { IsTrue result ↔ WantedFrom held.now bytes.now fields.now 0 size }
+{
+    let mut from = 0;
+    for field in fields {
+        if !same_between(held, bytes, from, field.at) {
+            return false;
+        }
+        if !has_value_at(held, field) {
+            return false;
+        }
+        from = field.at + field.width;
+    }
+    same_between(held, bytes, from, size)
+}
+
+/// Whether a segment that a piece of a size lies whole in holds the piece's wanted bytes at its address.
+fn is_held_by(
+    image: &[u8],
+    segment: &ProgramHeader,
+    placed: &Placed<'_>,
+    size: u64,
+    fields: &[Field],
+) -> bool
+    requires lawful { IsLawful (length image.now) segment.now }
+    requires enclosed { Encloses segment.now placed.now.at size }
+    requires inside { All (FitsIn size) fields.now }
+    requires rising { AllPairs EndsBefore fields.now }
+    ensures { IsTrue result ↔ ((k : ℕ) → k < size → segment_byte image.now segment.now (placed.now.at + k) ≡ byte_of placed.now.piece.bytes.now k (find (covers k) fields.now)) }
+{
+    let held = file_bytes(image, segment, placed.at, size);
+    are_wanted(held, placed.piece.bytes, fields, size)
+}
+
+/// Whether memory holds a piece's wanted bytes at its address, as far as the piece takes up memory.
+fn holds_piece(memory: &Memory<'_>, rows: &[Vec<Field>], placed: &Placed<'_>) -> bool
+    requires whole { LiesWhole memory.now placed.now }
+    requires rising { AreRising rows.now }
+    requires inside { HasFieldsInside rows.now placed.now }
+    ensures { IsTrue result ↔ HoldsFields memory.now rows.now (placed_view placed.now) }
+{
+    let piece = &placed.piece;
+    let size = load_size(piece);
+    if size == 0 {
+        return true;
+    }
+    let fields = fields_in(rows, piece.object, piece.section);
+    match enclosing(memory, placed.at, size) {
+        Some(segment) => is_held_by(memory.image(), &segment, placed, size, fields),
+        None => false,
+    }
+}
+
+/// Whether memory holds the wanted bytes of every piece, given the rows of fields by objects. Each piece that takes up
+/// memory lies in a segment, and the fields of its section lie inside it.
+fn holds_pieces(memory: &Memory<'_>, rows: &[Vec<Field>], placed: &[Placed<'_>]) -> bool
+    requires whole { All (LiesWhole memory.now) placed.now }
+    requires rising { AreRising rows.now }
+    requires inside { All (HasFieldsInside rows.now) placed.now }
+    ensures { IsTrue result ↔ All (HoldsFields memory.now rows.now) (placed_views placed.now) }
+{
+    all_held(memory, rows, placed)
+}
+
+fn all_held(memory: &Memory<'_>, rows: &[Vec<Field>], placed: &[Placed<'_>]) -> bool
+    requires whole { All (LiesWhole memory.now) placed.now }
+    requires rising { AreRising rows.now }
+    requires inside { All (HasFieldsInside rows.now) placed.now }
+    ensures { IsTrue result ↔ All (λ q. HoldsFields memory.now rows.now (placed_view q)) placed.now }
+{
+    for q in placed {
+        if !holds_piece(memory, rows, q) {
+            return false;
+        }
+    }
+    true
+}

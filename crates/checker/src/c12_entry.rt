@@ -1,0 +1,60 @@
+//! C12: whether the entry is lawful, and `e_entry` is its value.
+ghost use Rattle.std.specs.Prelude.{◌≡◌, ◌↔◌, IsSomeAnd, IsTrue, option_map};
+ghost use Rattle.elf_model.specs.Meaning.{meaning_value, meant, object_meaning};
+ghost use Rattle.elf_model.specs.Resolution.{IsEntry};
+ghost use Rattle.checker.specs.Entering.{Enters};
+ghost use Rattle.check_link.specs.Views.{symbol_view};
+ghost use Rattle.elf_model.specs.RightLink.{EntersRight};
+ghost use Rattle.elf_model.specs.declared.verdict.Clause.TheVariants as clause;
+ghost use Rattle.check_relocs.specs.Bindings.{bound_of};
+ghost use Rattle.check_link.specs.Subjects.{subject_of};
+
+use check_link::{Link, SymbolOf, entry_of};
+use check_relocs::Bindings;
+use loader_model::Memory;
+
+/// Whether the twelfth clause holds of a link.
+pub fn holds(link: &Link<'_>, bindings: &Bindings<'_, '_, '_>, memory: &Memory<'_>) -> bool
+    requires bound { bindings.now ≡ bound_of (subject_of link.now) }
+    requires memory { memory.now ≡ link.now.image.now }
+    ensures { IsTrue result ↔ EntersRight (subject_of link.now) }
+{
+    enters_right(bindings, entry_of(&link.plan), memory.entry())
+}
+
+/// Whether a chosen definition means something, of which `e_entry` is the value.
+fn has_value<'a>(bindings: &Bindings<'_, '_, 'a>, entry: &SymbolOf<'a>, e_entry: u64) -> bool
+    ensures { IsTrue result ↔ IsSomeAnd (meant bindings.now.objects (symbol_view entry.now)) (λ d. e_entry ≡ meaning_value bindings.now.places d) }
+{
+    match bindings.meant(entry) {
+        Some(meaning) => bindings.is_value(&meaning, e_entry),
+        None => false,
+    }
+}
+
+/// Whether a definition was found that stands in no section with SHF_TLS, and `e_entry` is the value of what it means.
+fn enters_at<'a>(
+    bindings: &Bindings<'_, '_, 'a>,
+    found: &Option<SymbolOf<'a>>,
+    e_entry: u64,
+) -> bool
+    ensures { IsTrue result ↔ Enters bindings.now.objects bindings.now.places e_entry (option_map symbol_view found.now) }
+{
+    match found {
+        Some(entry) => {
+            if bindings.is_in_thread_section(entry) {
+                return false;
+            }
+            has_value(bindings, entry, e_entry)
+        }
+        None => false,
+    }
+}
+
+/// Whether the entry's name has a chosen definition that stands in no section with SHF_TLS, and `e_entry` is its
+/// value.
+fn enters_right(bindings: &Bindings<'_, '_, '_>, name: &[u8], e_entry: u64) -> bool
+    ensures { IsTrue result ↔ (IsEntry bindings.now.objects name.now × IsSomeAnd (object_meaning bindings.now.objects name.now) (λ d. e_entry ≡ meaning_value bindings.now.places d)) }
+{
+    enters_at(bindings, &bindings.chosen(name), e_entry)
+}
