@@ -76,5 +76,5 @@ pub record IsValued (v : Valued) : Type 0 where
   pub kinds : AreLawfulKinds v.placement.now.objects
   pub slots : v.slots.now.slots ≡ slots v.placement.now.objects
   pub pointer : v.pointer ≡ pointer_in (where_of v)
-  pub got : v.got ≡ got_start (where_of v).got
+  pub got : v.got ≡ got_start (where_of v).got % 2 ^ 64
   pub table : AreValues (all_valued v) (where_of v) v.number (valued_object v) v.table.items

@@ -17,7 +17,7 @@ use std::alloc::Global;
 /// The field of a lawful entry that relocates a section of an object.
 pub fn lawful_field(
     alloc: Global,
-    referrer: &Referrer<'_, '_>,
+    referrer: &Referrer<'_, '_, '_>,
     target: Relocated,
     entry: &Rela,
 ) -> Result<Field, RelocFault>

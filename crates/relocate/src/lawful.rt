@@ -27,10 +27,10 @@ use std::collections::BTreeSet;
 ///
 /// RelocKind, Undefined, RefToDropped, TlsMismatch, FieldOutside and MixedSection where one of them isn't lawful,
 /// OverlappingFields where a byte lies in the fields of two, Memory where memory is refused.
-pub fn references(
+pub fn references<'a>(
     alloc: Global,
-    objects: &[Loaded<'_>],
-    resolved: &Resolved<'_, '_>,
+    objects: &[Loaded<'a>],
+    resolved: &Resolved<'_, 'a>,
 ) -> Result<(), RelocFault>
     requires { resolved.now ≡ loaded_views objects.now }
     ensures lawful { OnOk result (AreLawfulRelocations (loaded_views objects.now)) }
@@ -47,7 +47,7 @@ pub fn references(
 fn judge_object<'a>(
     alloc: Global,
     resolved: &Resolved<'_, 'a>,
-    mixed: &BTreeSet<&'a [u8]>,
+    mixed: &BTreeSet<&[u8]>,
     number: usize,
     loaded: &Loaded<'a>,
 ) -> Result<(), RelocFault>
@@ -57,7 +57,16 @@ fn judge_object<'a>(
     ensures fault { IfErr result (RelocationsFail resolved.now (relocations_from number (loaded_view loaded.now))) }
 {
     let referrer = Referrer::new(alloc, resolved, mixed, number, loaded)?;
-    let fields = lawful_fields(alloc, &referrer)?;
+    judge_referrer(alloc, &referrer)
+}
+
+/// Judges the relocations of an object.
+fn judge_referrer(alloc: Global, referrer: &Referrer<'_, '_, '_>) -> Result<(), RelocFault>
+    requires { IsReferrer referrer.now }
+    ensures lawful { OnOk result (AreLawful (all_of referrer.now) (relocations_from referrer.now.number (referring referrer.now))) }
+    ensures fault { IfErr result (RelocationsFail (all_of referrer.now) (relocations_from referrer.now.number (referring referrer.now))) }
+{
+    let fields = lawful_fields(alloc, referrer)?;
     if !are_apart(fields)? {
         return Err(RelocFault::OverlappingFields);
     }
@@ -65,7 +74,7 @@ fn judge_object<'a>(
 }
 
 /// The fields of an object's relocations, each of which is lawful.
-fn lawful_fields(alloc: Global, referrer: &Referrer<'_, '_>) -> Result<Vec<Field>, RelocFault>
+fn lawful_fields(alloc: Global, referrer: &Referrer<'_, '_, '_>) -> Result<Vec<Field>, RelocFault>
     requires { IsReferrer referrer.now }
     ensures fields { IfOk result (λ v. v.items ≡ map field_of (relocations_from referrer.now.number (referring referrer.now))) }
     ensures lawful { OnOk result (All (IsLawfulRelocation (all_of referrer.now)) (relocations_from referrer.now.number (referring referrer.now))) }
@@ -86,7 +95,7 @@ fn lawful_fields(alloc: Global, referrer: &Referrer<'_, '_>) -> Result<Vec<Field
 /// Adds the fields of RELA section `i`, which has the header.
 fn add_section(
     alloc: Global,
-    referrer: &Referrer<'_, '_>,
+    referrer: &Referrer<'_, '_, '_>,
     i: usize,
     header: &SectionHeader,
     fields: &mut Vec<Field>,
@@ -106,7 +115,7 @@ fn add_section(
 /// Adds the fields of entries that relocate a section.
 fn add_fields(
     alloc: Global,
-    referrer: &Referrer<'_, '_>,
+    referrer: &Referrer<'_, '_, '_>,
     target: Relocated,
     entries: &[Rela],
     fields: &mut Vec<Field>,

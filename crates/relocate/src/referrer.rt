@@ -34,9 +34,9 @@ pub struct Reference {
 
 /// An object whose relocations are judged, with its number. The output names of several output sections are `mixed`.
 #[derive(Drop)]
-pub struct Referrer<'r, 'a> {
+pub struct Referrer<'r, 'm, 'a> {
     pub resolved: &'r Resolved<'r, 'a>,
-    pub mixed: &'r BTreeSet<&'a [u8]>,
+    pub mixed: &'r BTreeSet<&'m [u8]>,
     pub number: usize,
     pub loaded: &'r Loaded<'a>,
     /// What a reference to each symbol is, as far as there are rows.
@@ -54,7 +54,7 @@ pub struct Relocated {
 /// What a reference to symbol `j` of the object that has a number is.
 fn reference_to<'a>(
     resolved: &Resolved<'_, 'a>,
-    mixed: &BTreeSet<&'a [u8]>,
+    mixed: &BTreeSet<&[u8]>,
     number: usize,
     loaded: &Loaded<'a>,
     j: usize,
@@ -89,7 +89,7 @@ pub fn refers_often(loaded: &Loaded<'_>) -> bool {
 fn table_of<'a>(
     alloc: Global,
     resolved: &Resolved<'_, 'a>,
-    mixed: &BTreeSet<&'a [u8]>,
+    mixed: &BTreeSet<&[u8]>,
     number: usize,
     loaded: &Loaded<'a>,
 ) -> Result<Vec<Reference>, AllocError>
@@ -109,15 +109,15 @@ fn table_of<'a>(
     Ok(table)
 }
 
-impl<'r, 'a> Referrer<'r, 'a> {
+impl<'r, 'm, 'a> Referrer<'r, 'm, 'a> {
     /// The object that has a number.
     pub fn new(
         alloc: Global,
         resolved: &'r Resolved<'r, 'a>,
-        mixed: &'r BTreeSet<&'a [u8]>,
+        mixed: &'r BTreeSet<&'m [u8]>,
         number: usize,
         loaded: &'r Loaded<'a>,
-    ) -> Result<Referrer<'r, 'a>, AllocError>
+    ) -> Result<Referrer<'r, 'm, 'a>, AllocError>
         requires here { IsObjectAt resolved.now number (loaded_view loaded.now) }
         requires mixed { AreMixed resolved.now mixed.now }
         ensures known { IfOk result IsReferrer }

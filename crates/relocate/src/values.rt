@@ -91,9 +91,9 @@ pub fn size_or_none(definition: &Option<Meaning<'_>>) -> u64
     }
 }
 
-/// The address of the GOT, 0 without one.
+/// The address of the GOT, modulo 2 to the 64; 0 without one.
 pub fn got_or_none(placement: &Placement<'_, '_>) -> u64
-    ensures { result ≡ got_start (where_in placement.now).got }
+    ensures { result ≡ got_start (where_in placement.now).got % 2 ^ 64 }
 {
     match placement.got() {
         Some(at) => at,
