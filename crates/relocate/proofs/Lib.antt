@@ -11,3 +11,4 @@ pub mod Spelled
 pub mod ThreadSums
 pub mod Wanted
 pub mod LinkerMeanings
+pub mod SymbolTables

@@ -5,3 +5,4 @@ pub mod References
 pub mod Values
 pub mod PatchTables
 pub mod Uses
+pub mod SymbolTables

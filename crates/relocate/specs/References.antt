@@ -23,21 +23,9 @@ IsObjectAt objects k o = slice_get objects k ≡ Some o
 abbrev pub section_in : List ℕ → Symbol → Option SectionHeader
 section_in bytes s = cond (is_undefined s) None (slice_get (sections bytes) s.st_shndx)
 
--- a symbol of an object stands in a dropped section, and section k of it has the name .eh_frame
-abbrev pub is_frame_of : LoadedObject → ℕ → Symbol → Bool
-is_frame_of o k s = is_dropped o s.st_shndx && bytes_eq (unwrap_or (section_name o.bytes k) []) (codes ".eh_frame")
-
--- a LOCAL symbol of an object stands in a section that isn't kept, and section k of it, which refers to that, isn't
--- a frame of it
-abbrev pub StandsInDropped : LoadedObject → ℕ → Symbol → Type 0
-StandsInDropped o k s =
-    ((binding s == 0) ≡ true)
-    × (is_frame_of o k s ≡ false)
-    × IsSomeAnd (section_in o.bytes s) (λ h. is_kept o s.st_shndx h ≡ false)
-
--- symbol j of an object needs a definition, and has none
-abbrev pub LacksDefinition : List ℕ → ℕ → Option Meaning → Type 0
-LacksDefinition bytes j definition = (j ≢ 0) × (binding (slice_index_or (symbols bytes) j null_symbol) ≢ STB_WEAK) × (definition ≡ None)
+-- symbol number j, which has the entry, needs a definition, and has none
+abbrev pub LacksDefinition : ℕ → Symbol → Option Meaning → Type 0
+LacksDefinition j entry definition = (j ≢ 0) × (binding entry ≢ STB_WEAK) × (definition ≡ None)
 
 -- what is asked of relocations: each is lawful, and their fields are apart
 pub record AreLawful (objects : List LoadedObject) (rs : List Relocation) : Type 0 where

@@ -1,8 +1,15 @@
 -- The linker's names with what they stand for, as the code has them.
-use Rattle.std.specs.Prelude.{Bool, false, true, ℕ, List, Option, None, Some, map}
+use Rattle.std.specs.Prelude.{◌≡◌, Bool, false, true, ℕ, List, Option, None, Some, map}
 use Rattle.std.specs.Borrow.{Bor}
+use Rattle.elf_model.specs.Loading.{LoadedObject}
 use Rattle.elf_model.specs.Meaning.{Common, Linker, Meaning, Symbol}
+use Rattle.elf_model.specs.Relocation.{symbol_at}
+use Rattle.elf_model.specs.UsedNames.{is_linker_use}
 use Rattle.elf_model.specs.declared.bound.Bound.{Bound}
+use Rattle.search.specs.Views.{loaded_view}
+use Rattle.relocate.specs.References.{IsObjectAt}
+use Rattle.relocate.specs.SymbolTables.{EachTells}
+use Rattle.relocate.specs.declared.uses.User.{User}
 
 abbrev pub line_view : Bor (List ℕ) × Bound → Meaning
 line_view e = Linker e.0.now e.1
@@ -16,3 +23,14 @@ is_linkers None = false
 is_linkers (Some (Symbol s)) = false
 is_linkers (Some (Common b)) = false
 is_linkers (Some (Linker name bound)) = true
+
+-- rows that tell which symbols of an object are of linker's names, and an object whose relocations use names
+abbrev pub AreLinkerUses : List LoadedObject → ℕ → LoadedObject → List Bool → Type 0
+AreLinkerUses objects n o = EachTells (λ j uses. uses ≡ is_linker_use objects (symbol_at n o j))
+
+abbrev pub using : User → LoadedObject
+using u = loaded_view u.loaded.now
+
+pub record IsUser (u : User) : Type 0 where
+  pub here : IsObjectAt u.resolved.now u.number (using u)
+  pub table : AreLinkerUses u.resolved.now u.number (using u) u.table.items

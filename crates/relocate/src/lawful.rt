@@ -1,17 +1,19 @@
 //! Whether the kept relocations of all objects are lawful.
 ghost use Rattle.std.specs.Prelude.{◌≡◌, ◌++◌, All, IfErr, IfOk, OnOk, Some, filter, map};
 ghost use Rattle.std.specs.List.{slice_get};
-ghost use Rattle.elf_model.specs.ObjectFile.{relas_of, section, sections};
+ghost use Rattle.elf_model.specs.ObjectFile.{relas_of, sections};
 ghost use Rattle.elf_model.specs.Relocation.{AreLawfulRelocations, IsLawfulRelocation, is_some_kind, relocation_of, relocations_from, relocations_in};
 ghost use Rattle.layout.specs.Mixed.{AreMixed};
 ghost use Rattle.relocate.specs.Fields.{field_of};
 ghost use Rattle.relocate.specs.References.{AreLawful, IsObjectAt, ReferencesFail, RelocationsFail};
+ghost use Rattle.relocate.specs.SymbolTables.{IsReferrer, IsRelocated, all_of, referring};
 ghost use Rattle.search.specs.Views.{loaded_view, loaded_views};
 
 use crate::faults::RelocFault;
 use crate::fields::{Field, are_apart};
 use crate::judging::lawful_field;
-use crate::targets::{entries_of, is_some_kind, size_at};
+use crate::referrer::{Referrer, Relocated};
+use crate::targets::{entries_of, is_some_kind};
 use elf_model::{Rela, SectionHeader};
 use layout::mixed_names;
 use resolve::Resolved;
@@ -25,10 +27,10 @@ use std::collections::BTreeSet;
 ///
 /// RelocKind, Undefined, RefToDropped, TlsMismatch, FieldOutside and MixedSection where one of them isn't lawful,
 /// OverlappingFields where a byte lies in the fields of two, Memory where memory is refused.
-pub fn references(
+pub fn references<'a>(
     alloc: Global,
-    objects: &[Loaded<'_>],
-    resolved: &Resolved<'_, '_>,
+    objects: &[Loaded<'a>],
+    resolved: &Resolved<'_, 'a>,
 ) -> Result<(), RelocFault>
     requires { resolved.now ≡ loaded_views objects.now }
     ensures lawful { OnOk result (AreLawfulRelocations (loaded_views objects.now)) }
@@ -42,19 +44,29 @@ pub fn references(
 }
 
 /// Judges the relocations of the object that has a number. A field of it meets none of another object's.
-fn judge_object(
+fn judge_object<'a>(
     alloc: Global,
-    resolved: &Resolved<'_, '_>,
+    resolved: &Resolved<'_, 'a>,
     mixed: &BTreeSet<&[u8]>,
     number: usize,
-    loaded: &Loaded<'_>,
+    loaded: &Loaded<'a>,
 ) -> Result<(), RelocFault>
     requires here { IsObjectAt resolved.now number (loaded_view loaded.now) }
     requires mixed { AreMixed resolved.now mixed.now }
     ensures lawful { OnOk result (AreLawful resolved.now (relocations_from number (loaded_view loaded.now))) }
     ensures fault { IfErr result (RelocationsFail resolved.now (relocations_from number (loaded_view loaded.now))) }
 {
-    let fields = lawful_fields(alloc, resolved, mixed, number, loaded)?;
+    let referrer = Referrer::new(alloc, resolved, mixed, number, loaded)?;
+    judge_referrer(alloc, &referrer)
+}
+
+/// Judges the relocations of an object.
+fn judge_referrer(alloc: Global, referrer: &Referrer<'_, '_, '_>) -> Result<(), RelocFault>
+    requires { IsReferrer referrer.now }
+    ensures lawful { OnOk result (AreLawful (all_of referrer.now) (relocations_from referrer.now.number (referring referrer.now))) }
+    ensures fault { IfErr result (RelocationsFail (all_of referrer.now) (relocations_from referrer.now.number (referring referrer.now))) }
+{
+    let fields = lawful_fields(alloc, referrer)?;
     if !are_apart(fields)? {
         return Err(RelocFault::OverlappingFields);
     }
@@ -62,36 +74,20 @@ fn judge_object(
 }
 
 /// The fields of an object's relocations, each of which is lawful.
-fn lawful_fields(
-    alloc: Global,
-    resolved: &Resolved<'_, '_>,
-    mixed: &BTreeSet<&[u8]>,
-    number: usize,
-    loaded: &Loaded<'_>,
-) -> Result<Vec<Field>, RelocFault>
-    requires here { IsObjectAt resolved.now number (loaded_view loaded.now) }
-    requires mixed { AreMixed resolved.now mixed.now }
-    ensures fields { IfOk result (λ v. v.items ≡ map field_of (relocations_from number (loaded_view loaded.now))) }
-    ensures lawful { OnOk result (All (IsLawfulRelocation resolved.now) (relocations_from number (loaded_view loaded.now))) }
-    ensures fault { IfErr result (RelocationsFail resolved.now (relocations_from number (loaded_view loaded.now))) }
+fn lawful_fields(alloc: Global, referrer: &Referrer<'_, '_, '_>) -> Result<Vec<Field>, RelocFault>
+    requires { IsReferrer referrer.now }
+    ensures fields { IfOk result (λ v. v.items ≡ map field_of (relocations_from referrer.now.number (referring referrer.now))) }
+    ensures lawful { OnOk result (All (IsLawfulRelocation (all_of referrer.now)) (relocations_from referrer.now.number (referring referrer.now))) }
+    ensures fault { IfErr result (RelocationsFail (all_of referrer.now) (relocations_from referrer.now.number (referring referrer.now))) }
 {
     let mut fields = Vec::new(alloc);
-    let headers = loaded.object.sections();
+    let headers = referrer.loaded.object.sections();
     for i in 0..headers.len() {
         let header = headers[i];
-        if !loaded.is_kept_rela(i, &header) {
+        if !referrer.loaded.is_kept_rela(i, &header) {
             continue;
         }
-        add_section(
-            alloc,
-            resolved,
-            mixed,
-            number,
-            loaded,
-            i,
-            &header,
-            &mut fields,
-        )?;
+        add_section(alloc, referrer, i, &header, &mut fields)?;
     }
     Ok(fields)
 }
@@ -99,60 +95,44 @@ fn lawful_fields(
 /// Adds the fields of RELA section `i`, which has the header.
 fn add_section(
     alloc: Global,
-    resolved: &Resolved<'_, '_>,
-    mixed: &BTreeSet<&[u8]>,
-    number: usize,
-    loaded: &Loaded<'_>,
+    referrer: &Referrer<'_, '_, '_>,
     i: usize,
     header: &SectionHeader,
     fields: &mut Vec<Field>,
 ) -> Result<(), RelocFault>
-    requires here { IsObjectAt resolved.now number (loaded_view loaded.now) }
-    requires mixed { AreMixed resolved.now mixed.now }
-    requires there { slice_get (sections loaded.now.object) i ≡ Some header.now }
+    requires known { IsReferrer referrer.now }
+    requires there { slice_get (sections (referring referrer.now).bytes) i ≡ Some header.now }
     requires rela { header.now.sh_type ≡ 4 }
-    ensures fields { OnOk result (fields.new.items ≡ fields.old.items ++ map field_of (relocations_in number (loaded_view loaded.now) header.now)) }
-    ensures lawful { OnOk result (All (IsLawfulRelocation resolved.now) (relocations_in number (loaded_view loaded.now) header.now)) }
-    ensures fault { IfErr result (RelocationsFail resolved.now (relocations_in number (loaded_view loaded.now) header.now)) }
+    ensures fields { OnOk result (fields.new.items ≡ fields.old.items ++ map field_of (relocations_in referrer.now.number (referring referrer.now) header.now)) }
+    ensures lawful { OnOk result (All (IsLawfulRelocation (all_of referrer.now)) (relocations_in referrer.now.number (referring referrer.now) header.now)) }
+    ensures fault { IfErr result (RelocationsFail (all_of referrer.now) (relocations_in referrer.now.number (referring referrer.now) header.now)) }
 {
-    let entries = entries_of(&loaded.object, i, header);
-    add_fields(
-        alloc,
-        resolved,
-        mixed,
-        number,
-        loaded,
-        header.sh_info as u64,
-        entries,
-        fields,
-    )
+    let entries = entries_of(&referrer.loaded.object, i, header);
+    let target = referrer.relocated(header.sh_info as u64);
+    add_fields(alloc, referrer, target, entries, fields)
 }
 
-/// Adds the fields of entries that relocate the section `target`.
+/// Adds the fields of entries that relocate a section.
 fn add_fields(
     alloc: Global,
-    resolved: &Resolved<'_, '_>,
-    mixed: &BTreeSet<&[u8]>,
-    number: usize,
-    loaded: &Loaded<'_>,
-    target: u64,
+    referrer: &Referrer<'_, '_, '_>,
+    target: Relocated,
     entries: &[Rela],
     fields: &mut Vec<Field>,
 ) -> Result<(), RelocFault>
-    requires here { IsObjectAt resolved.now number (loaded_view loaded.now) }
-    requires mixed { AreMixed resolved.now mixed.now }
-    ensures fields { OnOk result (fields.new.items ≡ fields.old.items ++ map field_of (map (relocation_of number (loaded_view loaded.now) target) (filter is_some_kind entries.now))) }
-    ensures lawful { OnOk result (All (IsLawfulRelocation resolved.now) (map (relocation_of number (loaded_view loaded.now) target) (filter is_some_kind entries.now))) }
-    ensures fault { IfErr result (RelocationsFail resolved.now (map (relocation_of number (loaded_view loaded.now) target) (filter is_some_kind entries.now))) }
+    requires known { IsReferrer referrer.now }
+    requires target { IsRelocated (referring referrer.now) target }
+    ensures fields { OnOk result (fields.new.items ≡ fields.old.items ++ map field_of (map (relocation_of referrer.now.number (referring referrer.now) target.number) (filter is_some_kind entries.now))) }
+    ensures lawful { OnOk result (All (IsLawfulRelocation (all_of referrer.now)) (map (relocation_of referrer.now.number (referring referrer.now) target.number) (filter is_some_kind entries.now))) }
+    ensures fault { IfErr result (RelocationsFail (all_of referrer.now) (map (relocation_of referrer.now.number (referring referrer.now) target.number) (filter is_some_kind entries.now))) }
 {
-    let size = size_at(&loaded.object, target as usize);
     fields.reserve(entries.len())?;
     for i in 0..entries.len() {
         let entry = entries[i];
         if !is_some_kind(&entry) {
             continue;
         }
-        let field = lawful_field(alloc, resolved, mixed, number, loaded, target, size, &entry)?;
+        let field = lawful_field(alloc, referrer, target, &entry)?;
         fields.push(field)?;
     }
     Ok(())

@@ -1,22 +1,50 @@
 //! The patches of all objects.
-ghost use Rattle.std.specs.Prelude.{◌≡◌, IfErr, IfOk, OnOk};
+ghost use Rattle.std.specs.Prelude.{◌≡◌, All, IfErr, IfOk, IsSome, OnOk, length};
 ghost use Rattle.elf_model.specs.OwnLayout.{OwnValuesFit};
 ghost use Rattle.elf_model.specs.Pieces.{AreLawfulKinds};
-ghost use Rattle.elf_model.specs.Relocation.{AreLawfulRelocations};
+ghost use Rattle.elf_model.specs.Relocation.{AreLawfulRelocations, relocation_kind, relocations_from};
+ghost use Rattle.elf_model.specs.RelocationValues.{Fits};
 ghost use Rattle.elf_model.specs.Slots as wanted;
-ghost use Rattle.search.specs.Views.{loaded_views};
+ghost use Rattle.search.specs.Views.{loaded_view, loaded_views};
 ghost use Rattle.relocate.specs.PatchTables.{ArePatchesOf};
-ghost use Rattle.relocate.specs.Values.{ValuesFail};
+ghost use Rattle.relocate.specs.References.{IsObjectAt};
+ghost use Rattle.relocate.specs.Values.{ArePatchRows, FittingFails, IsRowCount, ValuesFail, pointer_in, where_in};
 
 use crate::applying::{PatchTable, of_rows};
 use crate::collecting::object_patches;
 use crate::faults::RelocFault;
+use crate::patch::Patch;
+use crate::symbol_values::Valued;
 use crate::thread_pointer::pointer_of;
 use got_tls::Slots;
 use layout::Placement;
 use resolve::Resolved;
 use search::Loaded;
 use std::alloc::Global;
+
+/// The rows of patches of the object that has a number.
+fn row_of<'a>(
+    alloc: Global,
+    resolved: &Resolved<'_, 'a>,
+    placement: &Placement<'_, 'a>,
+    slots: &Slots<'a>,
+    pointer: u64,
+    number: usize,
+    loaded: &Loaded<'a>,
+) -> Result<Vec<Vec<Patch>>, RelocFault>
+    requires kinds { AreLawfulKinds placement.now.objects }
+    requires slots { slots.now.slots ≡ wanted.slots placement.now.objects }
+    requires pointer { pointer ≡ pointer_in (where_in placement.now) }
+    requires here { IsObjectAt resolved.now number (loaded_view loaded.now) }
+    requires known { All (λ r. IsSome (relocation_kind r)) (relocations_from number (loaded_view loaded.now)) }
+    ensures rows { IfOk result (λ v. ArePatchRows resolved.now (where_in placement.now) (relocations_from number (loaded_view loaded.now)) v.items) }
+    ensures count { IfOk result (λ v. IsRowCount (loaded_view loaded.now) (length v.items)) }
+    ensures fit { OnOk result (All (Fits resolved.now (where_in placement.now)) (relocations_from number (loaded_view loaded.now))) }
+    ensures fault { IfErr result (FittingFails resolved.now (where_in placement.now) (relocations_from number (loaded_view loaded.now))) }
+{
+    let valued = Valued::new(alloc, resolved, placement, slots, pointer, number, loaded)?;
+    object_patches(alloc, &valued)
+}
 
 /// The patches of all objects, whose sections' kinds and relocations are lawful, where they are laid out with their GOT,
 /// which has these slots.
@@ -43,7 +71,7 @@ pub fn patches<'a>(
     let pointer = pointer_of(placement);
     let mut rows = Vec::with_capacity(alloc, objects.len())?;
     for k in 0..objects.len() {
-        let row = object_patches(alloc, resolved, placement, slots, pointer, k, &objects[k])?;
+        let row = row_of(alloc, resolved, placement, slots, pointer, k, &objects[k])?;
         rows.push(row)?;
     }
     Ok(of_rows(placement, rows))

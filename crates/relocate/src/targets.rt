@@ -1,9 +1,10 @@
 //! What a relocation refers to, and what is asked of that: the symbols and sections of one object.
-ghost use Rattle.std.specs.Prelude.{◌≡◌, ◌↔◌, [], ◌==◌, List, IsSomeAnd, IsTrue, false, option_map, unwrap_or};
+ghost use Rattle.std.specs.Prelude.{◌≡◌, ◌↔◌, [], ◌==◌, List, IsSomeAnd, IsTrue, codes, false, option_map, unwrap_or};
+ghost use Rattle.std.specs.Str.{bytes_eq};
 ghost use Rattle.elf_model.specs.Meaning.{is_in_thread_storage};
 ghost use Rattle.elf_model.specs.ObjectFile.{null_section, null_symbol, relas_of, section, section_name, sections, symbol_name, symbols};
 ghost use Rattle.elf_model.specs.Pieces.{is_kept};
-ghost use Rattle.elf_model.specs.Loading.{LoadedObject};
+ghost use Rattle.elf_model.specs.Loading.{LoadedObject, is_dropped};
 ghost use Rattle.elf_model.specs.Relocation.{IsMixed, IsMixedBound, definition_of, is_some_kind, symbol_at};
 ghost use Rattle.elf_model.specs.Resolution.{binding};
 ghost use Rattle.std.specs.Prelude.{Some, slice_index_or};
@@ -12,7 +13,7 @@ ghost use Rattle.std.specs.Option.{option_map_or};
 ghost use Rattle.search.specs.Views.{loaded_view};
 ghost use Rattle.resolve.specs.Views.{meaning_view};
 ghost use Rattle.layout.specs.Mixed.{AreMixed};
-ghost use Rattle.relocate.specs.References.{IsNamedUndefined, IsObjectAt, LacksDefinition, StandsInDropped, is_frame_of, section_in};
+ghost use Rattle.relocate.specs.References.{IsNamedUndefined, IsObjectAt, LacksDefinition, section_in};
 
 use crate::faults::RelocFault;
 use elf_model::{Bound, Rela, SHN_UNDEF, STB_LOCAL, STB_WEAK, SectionHeader, Symbol};
@@ -83,14 +84,35 @@ fn section_of(object: &Object<'_>, entry: &Symbol) -> Option<SectionHeader>
     object.sections().get(entry.st_shndx as usize).copied()
 }
 
+/// Whether a symbol is LOCAL.
+pub fn is_local(entry: &Symbol) -> bool
+    ensures { result ≡ (binding entry.now == 0) }
+{
+    entry.st_info / 16 == STB_LOCAL
+}
+
+/// Whether a symbol is WEAK.
+fn is_weak(entry: &Symbol) -> bool
+    ensures { result ≡ (binding entry.now == 2) }
+{
+    entry.st_info / 16 == STB_WEAK
+}
+
 /// Whether a symbol of an object stands in a section that isn't kept.
-fn stands_in_dropped(loaded: &Loaded<'_>, entry: &Symbol) -> bool
+pub fn stands_in_unkept(loaded: &Loaded<'_>, entry: &Symbol) -> bool
     ensures { IsTrue result ↔ IsSomeAnd (section_in loaded.now.object entry.now) (λ h. is_kept (loaded_view loaded.now) entry.now.st_shndx h ≡ false) }
 {
     match section_of(&loaded.object, entry) {
         Some(header) => !loaded.is_kept(entry.st_shndx as usize, &header),
         None => false,
     }
+}
+
+/// Whether a symbol of an object stands in a section that is dropped with its group.
+pub fn is_dropped(loaded: &Loaded<'_>, entry: &Symbol) -> bool
+    ensures { result ≡ is_dropped (loaded_view loaded.now) entry.now.st_shndx }
+{
+    loaded.is_dropped(entry.st_shndx as usize)
 }
 
 /// The name of a section, empty where there is no such section.
@@ -106,31 +128,11 @@ fn section_name_at<'a>(object: &Object<'a>, number: usize) -> &'a [u8]
 /// The section of the frames of code, for unwinding (AMD64 psABI 4.2.4).
 const FRAME_SECTION: &[u8] = b".eh_frame";
 
-/// Whether a symbol of an object stands in a dropped section, and the section `target` holds frames: those of dropped
-/// code are left in it.
-fn is_frame_of(loaded: &Loaded<'_>, target: u64, entry: &Symbol) -> bool
-    ensures { result ≡ is_frame_of (loaded_view loaded.now) target entry.now }
+/// Whether a section holds frames: those of dropped code are left in it, and may refer to what is dropped.
+pub fn holds_frames(object: &Object<'_>, number: usize) -> bool
+    ensures { result ≡ bytes_eq (unwrap_or (section_name object.now number) []) (codes ".eh_frame") }
 {
-    loaded.is_dropped(entry.st_shndx as usize)
-        && section_name_at(&loaded.object, target as usize) == FRAME_SECTION
-}
-
-/// Whether symbol `j`, to which the section `target` refers, is a LOCAL one of a section that isn't kept; frames may
-/// refer to dropped sections.
-pub fn refers_to_dropped(loaded: &Loaded<'_>, target: u64, j: usize) -> bool
-    ensures { IsTrue result ↔ StandsInDropped (loaded_view loaded.now) target (slice_index_or (symbols loaded.now.object) j null_symbol) }
-{
-    let entry = symbol_entry(&loaded.object, j);
-    if entry.st_info / 16 != STB_LOCAL || !stands_in_dropped(loaded, &entry) {
-        return false;
-    }
-    !is_frame_of(loaded, target, &entry)
-}
-
-fn is_weak(object: &Object<'_>, j: usize) -> bool
-    ensures { result ≡ (binding (slice_index_or (symbols object.now) j null_symbol) == 2) }
-{
-    symbol_entry(object, j).st_info / 16 == STB_WEAK
+    section_name_at(object, number) == FRAME_SECTION
 }
 
 /// What a reference to symbol `j` of the object that has a number uses.
@@ -146,12 +148,12 @@ pub fn definition_of<'a>(
     resolved.definition(number, j)
 }
 
-/// Whether a reference to symbol `j` of an object, which uses a definition if there is one, is in want of it: symbol 0
-/// stands for none, and a WEAK one needs none.
-pub fn is_undefined(loaded: &Loaded<'_>, j: usize, definition: &Option<Meaning<'_>>) -> bool
-    ensures { IsTrue result ↔ LacksDefinition loaded.now.object j (option_map meaning_view definition.now) }
+/// Whether a reference to symbol number `j`, which has the entry and uses a definition if there is one, is in want of it:
+/// symbol 0 stands for none, and a WEAK one needs none.
+pub fn is_undefined(j: usize, entry: &Symbol, definition: &Option<Meaning<'_>>) -> bool
+    ensures { IsTrue result ↔ LacksDefinition j entry.now (option_map meaning_view definition.now) }
 {
-    if j == 0 || is_weak(&loaded.object, j) {
+    if j == 0 || is_weak(entry) {
         return false;
     }
     definition.is_none()

@@ -12,8 +12,9 @@ ghost use Rattle.elf_model.specs.UsedNames.{Gains, is_among, is_linker_use, link
 ghost use Rattle.search.specs.Views.{loaded_view, loaded_views};
 ghost use Rattle.resolve.specs.Views.{meaning_view};
 ghost use Rattle.relocate.specs.References.{IsObjectAt};
-ghost use Rattle.relocate.specs.Uses.{is_linkers, line_views};
+ghost use Rattle.relocate.specs.Uses.{AreLinkerUses, IsUser, is_linkers, line_views, using};
 
+use crate::referrer::refers_often;
 use crate::targets::{entries_of, is_some_kind, name_of};
 use elf_model::{Bound, Rela, SectionHeader};
 use resolve::{Meaning, Resolved};
@@ -49,43 +50,84 @@ fn add_name<'a>(names: &mut BTreeSet<&'a [u8]>, name: &'a [u8]) -> Result<(), Al
     Ok(())
 }
 
+/// An object whose relocations use names, with its number.
+#[derive(Drop)]
+struct User<'u, 'a> {
+    resolved: &'u Resolved<'u, 'a>,
+    number: usize,
+    loaded: &'u Loaded<'a>,
+    /// Whether each symbol is one of a linker's name, as far as there are rows.
+    table: Vec<bool>,
+}
+
+/// A row for each symbol of an object that refers often, and none of another one.
+fn table_of(
+    alloc: Global,
+    resolved: &Resolved<'_, '_>,
+    number: usize,
+    loaded: &Loaded<'_>,
+) -> Result<Vec<bool>, AllocError>
+    requires { IsObjectAt resolved.now number (loaded_view loaded.now) }
+    ensures { IfOk result (λ v. AreLinkerUses resolved.now number (loaded_view loaded.now) v.items) }
+{
+    let mut table = Vec::new(alloc);
+    if !refers_often(loaded) {
+        return Ok(table);
+    }
+    let count = loaded.object.symbols().len();
+    table.reserve(count)?;
+    for j in 0..count {
+        table.push(is_linker_use(resolved, number, loaded, j))?;
+    }
+    Ok(table)
+}
+
+impl<'u, 'a> User<'u, 'a> {
+    /// Whether symbol `j` isn't LOCAL and has a name that the linker defines and no object does.
+    fn is_linker_use(&self, j: usize) -> bool
+        requires { IsUser self.now }
+        ensures { result ≡ is_linker_use self.now.resolved.now (symbol_at self.now.number (using self.now) j) }
+    {
+        match self.table.get(j) {
+            Some(uses) => *uses,
+            None => is_linker_use(self.resolved, self.number, self.loaded, j),
+        }
+    }
+}
+
 /// Adds the name that an entry uses, where that is a linker's.
 fn add_use<'a>(
     names: &mut BTreeSet<&'a [u8]>,
-    resolved: &Resolved<'_, 'a>,
-    number: usize,
-    loaded: &Loaded<'a>,
+    user: &User<'_, 'a>,
     target: u64,
     entry: &Rela,
 ) -> Result<(), AllocError>
-    requires { IsObjectAt resolved.now number (loaded_view loaded.now) }
-    ensures { OnOk result (Gains resolved.now (relocation_of number (loaded_view loaded.now) target entry.now ∷ []) names.old names.new) }
+    requires { IsUser user.now }
+    ensures { OnOk result (Gains user.now.resolved.now (relocation_of user.now.number (using user.now) target entry.now ∷ []) names.old names.new) }
 {
     let j = entry.symbol() as usize;
-    if !is_linker_use(resolved, number, loaded, j) {
+    if !user.is_linker_use(j) {
         return Ok(());
     }
-    add_name(names, name_of(&loaded.object, j))
+    add_name(names, name_of(&user.loaded.object, j))
 }
 
-/// Adds the linker's names that entries use which relocate the section `target` of the object that has a number.
+/// Adds the linker's names that entries use which relocate the section `target` of an object.
 fn add_entries<'a>(
     names: &mut BTreeSet<&'a [u8]>,
-    resolved: &Resolved<'_, 'a>,
-    number: usize,
-    loaded: &Loaded<'a>,
+    user: &User<'_, 'a>,
     target: u64,
     entries: &[Rela],
 ) -> Result<(), AllocError>
-    requires { IsObjectAt resolved.now number (loaded_view loaded.now) }
-    ensures { OnOk result (Gains resolved.now (map (relocation_of number (loaded_view loaded.now) target) (filter is_some_kind entries.now)) names.old names.new) }
+    requires { IsUser user.now }
+    ensures { OnOk result (Gains user.now.resolved.now (map (relocation_of user.now.number (using user.now) target) (filter is_some_kind entries.now)) names.old names.new) }
 {
     for i in 0..entries.len() {
         let entry = entries[i];
         if !is_some_kind(&entry) {
             continue;
         }
-        add_use(names, resolved, number, loaded, target, &entry)?;
+        add_use(names, user, target, &entry)?;
     }
     Ok(())
 }
@@ -93,30 +135,41 @@ fn add_entries<'a>(
 /// Adds those that the entries of RELA section `i` use, which has the header.
 fn add_section<'a>(
     names: &mut BTreeSet<&'a [u8]>,
-    resolved: &Resolved<'_, 'a>,
-    number: usize,
-    loaded: &Loaded<'a>,
+    user: &User<'_, 'a>,
     i: usize,
     header: &SectionHeader,
 ) -> Result<(), AllocError>
-    requires here { IsObjectAt resolved.now number (loaded_view loaded.now) }
-    requires there { slice_get (sections loaded.now.object) i ≡ Some header.now }
+    requires user { IsUser user.now }
+    requires there { slice_get (sections (using user.now).bytes) i ≡ Some header.now }
     requires rela { header.now.sh_type ≡ 4 }
-    ensures { OnOk result (Gains resolved.now (relocations_in number (loaded_view loaded.now) header.now) names.old names.new) }
+    ensures { OnOk result (Gains user.now.resolved.now (relocations_in user.now.number (using user.now) header.now) names.old names.new) }
 {
-    let entries = entries_of(&loaded.object, i, header);
-    add_entries(
-        names,
-        resolved,
-        number,
-        loaded,
-        header.sh_info as u64,
-        entries,
-    )
+    let entries = entries_of(&user.loaded.object, i, header);
+    add_entries(names, user, header.sh_info as u64, entries)
 }
 
 /// Adds those that the kept relocations of an object use.
+fn add_relocations<'a>(
+    names: &mut BTreeSet<&'a [u8]>,
+    user: &User<'_, 'a>,
+) -> Result<(), AllocError>
+    requires { IsUser user.now }
+    ensures { OnOk result (Gains user.now.resolved.now (relocations_from user.now.number (using user.now)) names.old names.new) }
+{
+    let headers = user.loaded.object.sections();
+    for i in 0..headers.len() {
+        let header = headers[i];
+        if !user.loaded.is_kept_rela(i, &header) {
+            continue;
+        }
+        add_section(names, user, i, &header)?;
+    }
+    Ok(())
+}
+
+/// Adds those that the kept relocations of the object that has a number use.
 fn add_object<'a>(
+    alloc: Global,
     names: &mut BTreeSet<&'a [u8]>,
     resolved: &Resolved<'_, 'a>,
     number: usize,
@@ -125,15 +178,14 @@ fn add_object<'a>(
     requires { IsObjectAt resolved.now number (loaded_view loaded.now) }
     ensures { OnOk result (Gains resolved.now (relocations_from number (loaded_view loaded.now)) names.old names.new) }
 {
-    let headers = loaded.object.sections();
-    for i in 0..headers.len() {
-        let header = headers[i];
-        if !loaded.is_kept_rela(i, &header) {
-            continue;
-        }
-        add_section(names, resolved, number, loaded, i, &header)?;
-    }
-    Ok(())
+    let table = table_of(alloc, resolved, number, loaded)?;
+    let user = User {
+        resolved,
+        number,
+        loaded,
+        table,
+    };
+    add_relocations(names, &user)
 }
 
 /// The linker's names that kept relocations use and no object defines.
@@ -147,7 +199,7 @@ fn used_names<'a>(
 {
     let mut names = BTreeSet::new(alloc);
     for k in 0..objects.len() {
-        add_object(&mut names, resolved, k, &objects[k])?;
+        add_object(alloc, &mut names, resolved, k, &objects[k])?;
     }
     Ok(names)
 }

@@ -7,21 +7,20 @@ ghost use Rattle.elf_model.specs.Placement.{got_start, section_address, symbol_v
 ghost use Rattle.elf_model.specs.Relocation.{relocation_kind, relocation_of};
 ghost use Rattle.elf_model.specs.RelocationValues.{Fits, terms_of};
 ghost use Rattle.elf_model.specs.Slots as wanted;
-ghost use Rattle.search.specs.Views.{loaded_view};
 ghost use Rattle.resolve.specs.Views.{meaning_view, symbol_view};
 ghost use Rattle.got_tls.specs.Asking.{offset_of};
 ghost use Rattle.relocate.specs.Kinds.{Reduces, kind_view};
-ghost use Rattle.relocate.specs.References.{IsObjectAt};
-ghost use Rattle.relocate.specs.Values.{patch_of, pointer_in, where_in};
+ghost use Rattle.relocate.specs.SymbolTables.{IsValued, all_valued, valued_object, where_of};
+ghost use Rattle.relocate.specs.Values.{patch_of, where_in};
 
 use crate::kinds::{Kind, Terms, fits, slot_kind, value};
 use crate::patch::Patch;
+use crate::symbol_values::Valued;
 use crate::thread_pointer::offset_from;
 use elf_model::{Rela, SHN_ABS};
-use got_tls::{Slot, Slots, target_of};
+use got_tls::{Slot, target_of};
 use layout::Placement;
-use resolve::{Meaning, Resolved, SymbolOf};
-use search::Loaded;
+use resolve::{Meaning, SymbolOf};
 
 /// The address of a section of an object, or of a common block, 0 where it isn't kept.
 pub fn address_or_none(placement: &Placement<'_, '_>, number: usize, target: usize) -> u64
@@ -83,7 +82,7 @@ fn size_of(meaning: &Meaning<'_>) -> u64
     }
 }
 
-fn size_or_none(definition: &Option<Meaning<'_>>) -> u64
+pub fn size_or_none(definition: &Option<Meaning<'_>>) -> u64
     ensures { result ≡ unwrap_or (option_map meaning_size (option_map meaning_view definition.now)) 0 % 2 ^ 64 }
 {
     match definition {
@@ -92,9 +91,9 @@ fn size_or_none(definition: &Option<Meaning<'_>>) -> u64
     }
 }
 
-/// The address of the GOT, 0 without one.
-fn got_or_none(placement: &Placement<'_, '_>) -> u64
-    ensures { result ≡ got_start (where_in placement.now).got }
+/// The address of the GOT, modulo 2 to the 64; 0 without one.
+pub fn got_or_none(placement: &Placement<'_, '_>) -> u64
+    ensures { result ≡ got_start (where_in placement.now).got % 2 ^ 64 }
 {
     match placement.got() {
         Some(at) => at,
@@ -104,87 +103,49 @@ fn got_or_none(placement: &Placement<'_, '_>) -> u64
 
 /// How far behind the GOT's beginning the slot stands that an entry of a kind asks for, modulo 2 to the 64; 0 where it
 /// asks for none.
-fn slot_offset(
-    slots: &Slots<'_>,
-    number: usize,
-    loaded: &Loaded<'_>,
-    target: u64,
-    kind: Kind,
-    entry: &Rela,
-) -> u64
-    requires { relocation_kind (relocation_of number (loaded_view loaded.now) target entry.now) ≡ Some (kind_view kind) }
-    ensures { result ≡ option_map_or (offset_of slots.now.slots) (wanted.request_of (relocation_of number (loaded_view loaded.now) target entry.now)) 0 % 2 ^ 64 }
+fn slot_offset(valued: &Valued<'_, '_>, target: u64, kind: Kind, entry: &Rela) -> u64
+    requires { relocation_kind (relocation_of valued.now.number (valued_object valued.now) target entry.now) ≡ Some (kind_view kind) }
+    ensures { result ≡ option_map_or (offset_of valued.now.slots.now.slots) (wanted.request_of (relocation_of valued.now.number (valued_object valued.now) target entry.now)) 0 % 2 ^ 64 }
 {
     match slot_kind(kind.formula) {
         Some(kind) => {
-            let target = target_of(number, loaded, entry.symbol() as usize);
-            slots.offset(Slot::new(kind, &target))
+            let target = target_of(valued.number, valued.loaded, entry.symbol() as usize);
+            valued.slots.offset(Slot::new(kind, &target))
         }
         None => 0,
     }
 }
 
-/// The terms of the value of an entry of a kind; `pointer` is the thread pointer, and `at` the address of the section
-/// `target` that it relocates.
-fn terms(
-    resolved: &Resolved<'_, '_>,
-    placement: &Placement<'_, '_>,
-    slots: &Slots<'_>,
-    pointer: u64,
-    number: usize,
-    loaded: &Loaded<'_>,
-    target: u64,
-    at: u64,
-    kind: Kind,
-    entry: &Rela,
-) -> Terms
-    requires kinds { AreLawfulKinds placement.now.objects }
-    requires slots { slots.now.slots ≡ wanted.slots placement.now.objects }
-    requires pointer { pointer ≡ pointer_in (where_in placement.now) }
-    requires here { IsObjectAt resolved.now number (loaded_view loaded.now) }
-    requires at { at ≡ section_address (where_in placement.now).placed number target }
-    requires kind { relocation_kind (relocation_of number (loaded_view loaded.now) target entry.now) ≡ Some (kind_view kind) }
-    ensures { Reduces result (terms_of resolved.now (where_in placement.now) (relocation_of number (loaded_view loaded.now) target entry.now)) }
+/// The terms of the value of an entry of a kind; `at` is the address of the section `target` that it relocates.
+fn terms(valued: &Valued<'_, '_>, target: u64, at: u64, kind: Kind, entry: &Rela) -> Terms
+    requires known { IsValued valued.now }
+    requires at { at ≡ section_address (where_of valued.now).placed valued.now.number target }
+    requires kind { relocation_kind (relocation_of valued.now.number (valued_object valued.now) target entry.now) ≡ Some (kind_view kind) }
+    ensures { Reduces result (terms_of (all_valued valued.now) (where_of valued.now) (relocation_of valued.now.number (valued_object valued.now) target entry.now)) }
 {
-    let definition = resolved.definition(number, entry.symbol() as usize);
-    let symbol = value_or_none(placement, &definition);
+    let symbol = valued.symbol_value(entry.symbol() as usize);
     Terms {
-        symbol,
+        symbol: symbol.value,
         addend: entry.r_addend,
         place: at.wrapping_add(entry.r_offset),
-        slot: slot_offset(slots, number, loaded, target, kind, entry),
-        got: got_or_none(placement),
-        size: size_or_none(&definition),
-        thread: offset_from(pointer, symbol),
+        slot: slot_offset(valued, target, kind, entry),
+        got: valued.got,
+        size: symbol.size,
+        thread: offset_from(valued.pointer, symbol.value),
     }
 }
 
 /// The patch that an entry of a known kind wants; None where its value doesn't fit its field.
-pub fn patch(
-    resolved: &Resolved<'_, '_>,
-    placement: &Placement<'_, '_>,
-    slots: &Slots<'_>,
-    pointer: u64,
-    number: usize,
-    loaded: &Loaded<'_>,
-    target: u64,
-    at: u64,
-    entry: &Rela,
-) -> Option<Patch>
-    requires kinds { AreLawfulKinds placement.now.objects }
-    requires slots { slots.now.slots ≡ wanted.slots placement.now.objects }
-    requires pointer { pointer ≡ pointer_in (where_in placement.now) }
-    requires here { IsObjectAt resolved.now number (loaded_view loaded.now) }
-    requires at { at ≡ section_address (where_in placement.now).placed number target }
-    requires known { IsSome (relocation_kind (relocation_of number (loaded_view loaded.now) target entry.now)) }
-    ensures { SomeIff result (Fits resolved.now (where_in placement.now) (relocation_of number (loaded_view loaded.now) target entry.now)) (patch_of resolved.now (where_in placement.now) (relocation_of number (loaded_view loaded.now) target entry.now)) }
+pub fn patch(valued: &Valued<'_, '_>, target: u64, at: u64, entry: &Rela) -> Option<Patch>
+    requires valued { IsValued valued.now }
+    requires at { at ≡ section_address (where_of valued.now).placed valued.now.number target }
+    requires known { IsSome (relocation_kind (relocation_of valued.now.number (valued_object valued.now) target entry.now)) }
+    ensures { SomeIff result (Fits (all_valued valued.now) (where_of valued.now) (relocation_of valued.now.number (valued_object valued.now) target entry.now)) (patch_of (all_valued valued.now) (where_of valued.now) (relocation_of valued.now.number (valued_object valued.now) target entry.now)) }
 {
     let Some(kind) = Kind::of(entry.kind()) else {
         unreachable!()
     };
-    let terms = terms(
-        resolved, placement, slots, pointer, number, loaded, target, at, kind, entry,
-    );
+    let terms = terms(valued, target, at, kind, entry);
     let value = value(kind, terms);
     if !fits(kind, value) {
         return None;

@@ -9,18 +9,18 @@ use Rattle.elf_model.specs.Relocation.{Relocation, is_kept_rela, is_some_kind, r
 use Rattle.elf_model.specs.RelocationValues.{Fits}
 use Rattle.elf_model.specs.declared.records.Rela.{Rela}
 use Rattle.elf_model.specs.declared.records.SectionHeader.{SectionHeader}
-use Rattle.search.specs.Views.{loaded_view}
 use Rattle.relocate.proofs.Fitted.{exit_fitting, fit_all, fit_part, fitting_fails, known_part}
 use Rattle.relocate.proofs.Rows.{has_row, own_section, rows_all, rows_part}
-use Rattle.relocate.specs.Values.{FittingFails, patch_of, where_in}
+use Rattle.relocate.specs.SymbolTables.{all_valued, valued_object, where_of}
+use Rattle.relocate.specs.Values.{FittingFails, patch_of}
 use Rattle.relocate.proofs.collecting.object_patches.Goals as goal
 
 pub loop-i-init : goal.loop-i-init
 loop-i-init c =
-    let n = c.args.number in
-    let o = loaded_view c.args.loaded.now in
-    let L = c.args.resolved.now in
-    let w = where_in c.args.placement.now in
+    let n = c.args.valued.now.number in
+    let o = valued_object c.args.valued.now in
+    let L = all_valued c.args.valued.now in
+    let w = where_of c.args.valued.now in
     let hs = c.sections-headers.result.now in
     let same : left_of_sections n o hs 0 ≡ relocations_from n o =
     ap (λ (ss : List SectionHeader). relocations_behind n o 0 ss) c.sections-headers.ensures in
@@ -38,8 +38,8 @@ entries_of-entries-requires-clause-there c =
 
 pub add_patches-requires-clause-known : goal.add_patches-requires-clause-known
 add_patches-requires-clause-known c =
-    let n = c.args.number in
-    let o = loaded_view c.args.loaded.now in
+    let n = c.args.valued.now.number in
+    let o = valued_object c.args.valued.now in
     let hs = c.sections-headers.result.now in
     let i = c.loop-i.i in
     let h = get_or hs i null_section in
@@ -47,12 +47,12 @@ add_patches-requires-clause-known c =
     let parts = section_more n o hs i null_section c.loop-i-test.true kept in
     let read = ap (λ (es : List Rela). map (relocation_of n o h.sh_info) (filter is_some_kind es)) c.entries_of-entries.ensures in
     subst (All (λ (r : Relocation). IsSome (relocation_kind r))) (sym read)
-    (known_part c.args.resolved.now (where_in c.args.placement.now) (relocations_from n o) (left_of_sections n o hs i) (relocations_in n o h)
+    (known_part (all_valued c.args.valued.now) (where_of c.args.valued.now) (relocations_from n o) (left_of_sections n o hs i) (relocations_in n o h)
     (left_of_sections n o hs (i + 1)) parts c.loop-i.invariant.leaves)
 
 pub index_mut-row-requires : goal.index_mut-row-requires
 index_mut-row-requires c =
-    let o = loaded_view c.args.loaded.now in
+    let o = valued_object c.args.valued.now in
     let hs = c.sections-headers.result.now in
     let i = c.loop-i.i in
     let kept : is_kept_rela o i (get_or hs i null_section) ≡ true = sym c.is_kept_rela.ensures ∙ c.if-not-is_kept_rela.false in
@@ -62,10 +62,10 @@ index_mut-row-requires c =
 
 pub returns-in_err-add_patches-clause-fault : goal.returns-in_err-add_patches-clause-fault
 returns-in_err-add_patches-clause-fault c =
-    let n = c.args.number in
-    let o = loaded_view c.args.loaded.now in
-    let L = c.args.resolved.now in
-    let w = where_in c.args.placement.now in
+    let n = c.args.valued.now.number in
+    let o = valued_object c.args.valued.now in
+    let L = all_valued c.args.valued.now in
+    let w = where_of c.args.valued.now in
     let hs = c.sections-headers.result.now in
     let i = c.loop-i.i in
     let h = get_or hs i null_section in
@@ -80,10 +80,10 @@ returns-in_err-add_patches-clause-fault c =
 
 pub loop-i-preserved : goal.loop-i-preserved
 loop-i-preserved c =
-    let n = c.args.number in
-    let o = loaded_view c.args.loaded.now in
-    let L = c.args.resolved.now in
-    let w = where_in c.args.placement.now in
+    let n = c.args.valued.now.number in
+    let o = valued_object c.args.valued.now in
+    let L = all_valued c.args.valued.now in
+    let w = where_of c.args.valued.now in
     let hs = c.sections-headers.result.now in
     let i = c.loop-i.i in
     let h = get_or hs i null_section in

@@ -2,7 +2,7 @@ use Rattle.std.proofs.Common.{◌∷◌, [], pos, sym, ◌∙◌}
 use Rattle.std.proofs.lemmas.Result.{err_from_is_err_and}
 use Rattle.elf_model.proofs.FlatRelocations.{entry_more}
 use Rattle.elf_model.specs.declared.records.Rela.{Rela}
-use Rattle.search.specs.Views.{loaded_view}
+use Rattle.relocate.specs.SymbolTables.{referring}
 use Rattle.relocate.proofs.Judged.{exit_fails, fail_first, leaves_fail, leaves_one}
 use Rattle.elf_model.proofs.Mapped.{push_mapped}
 use Rattle.relocate.specs.Fields.{field_of}
@@ -15,7 +15,7 @@ pub returns-in_err-field-clause-fault : goal.returns-in_err-field-clause-fault
 unfolding null_rela
 returns-in_err-field-clause-fault c =
     let kept = sym c.is_some_kind.ensures ∙ c.if-not-is_some_kind.false in
-    let parts = entry_more c.args.number (loaded_view c.args.loaded.now) c.args.target c.args.entries.now c.loop-i.i null_rela c.loop-i-test.true kept in
+    let parts = entry_more c.args.referrer.now.number (referring c.args.referrer.now) c.args.target.number c.args.entries.now c.loop-i.i null_rela c.loop-i-test.true kept in
     let exit = c.from_residual-in_err-field in
     let e = c.in_err-field.field-0.0 in
     exit_fails _ _ exit.result e (err_from_is_err_and exit.result exit.ensures.1)
@@ -25,7 +25,7 @@ pub loop-i-preserved : goal.loop-i-preserved
 unfolding null_rela
 loop-i-preserved c =
     let kept = sym c.is_some_kind.ensures ∙ c.if-not-is_some_kind.false in
-    let parts = entry_more c.args.number (loaded_view c.args.loaded.now) c.args.target c.args.entries.now c.loop-i.i null_rela c.loop-i-test.true kept in
+    let parts = entry_more c.args.referrer.now.number (referring c.args.referrer.now) c.args.target.number c.args.entries.now c.loop-i.i null_rela c.loop-i-test.true kept in
     record {
       fields =
           push_mapped field_of c.loop-i.fields.items c.push.new.self.items c.in_ok-field.field _ _ _ _ c.in_ok-push.ensures.items

@@ -6,7 +6,7 @@ use Rattle.elf_model.proofs.FlatRelocations.{left_of_sections, section_more}
 use Rattle.elf_model.specs.ObjectFile.{null_section}
 use Rattle.elf_model.specs.Relocation.{is_kept_rela, relocations_behind, relocations_from, relocations_in}
 use Rattle.elf_model.specs.declared.records.SectionHeader.{SectionHeader}
-use Rattle.search.specs.Views.{loaded_view}
+use Rattle.relocate.specs.SymbolTables.{all_of, referring}
 use Rattle.relocate.proofs.Judged.{exit_fails, leaves_all, leaves_fail, leaves_part}
 use Rattle.elf_model.proofs.Mapped.{append_mapped}
 use Rattle.relocate.specs.Fields.{field_of}
@@ -15,15 +15,15 @@ use Rattle.relocate.proofs.lawful.lawful_fields.Goals as goal
 
 pub loop-i-init : goal.loop-i-init
 loop-i-init c =
-    let n = c.args.number in
-    let o = loaded_view c.args.loaded.now in
+    let n = c.args.referrer.now.number in
+    let o = referring c.args.referrer.now in
     let hs = c.sections-headers.result.now in
     let same : left_of_sections n o hs 0 ≡ relocations_from n o =
     ap (λ (ss : List SectionHeader). relocations_behind n o 0 ss) c.sections-headers.ensures in
     record {
       fields =
           ap (λ (xs : List Field). xs ++ map field_of (left_of_sections n o hs 0)) c.new-fields.ensures.items ∙ ap (map field_of) same;
-      leaves = leaves_all c.args.resolved.now (relocations_from n o) (left_of_sections n o hs 0) same;
+      leaves = leaves_all (all_of c.args.referrer.now) (relocations_from n o) (left_of_sections n o hs 0) same;
     }
 
 pub add_section-requires-clause-there : goal.add_section-requires-clause-there
@@ -33,9 +33,9 @@ add_section-requires-clause-there c =
 
 pub returns-in_err-add_section-clause-fault : goal.returns-in_err-add_section-clause-fault
 returns-in_err-add_section-clause-fault c =
-    let L = c.args.resolved.now in
-    let n = c.args.number in
-    let o = loaded_view c.args.loaded.now in
+    let L = all_of c.args.referrer.now in
+    let n = c.args.referrer.now.number in
+    let o = referring c.args.referrer.now in
     let hs = c.sections-headers.result.now in
     let i = c.loop-i.i in
     let kept : is_kept_rela o i (get_or hs i null_section) ≡ true = sym c.is_kept_rela.ensures ∙ c.if-not-is_kept_rela.false in
@@ -47,9 +47,9 @@ returns-in_err-add_section-clause-fault c =
 
 pub loop-i-preserved : goal.loop-i-preserved
 loop-i-preserved c =
-    let L = c.args.resolved.now in
-    let n = c.args.number in
-    let o = loaded_view c.args.loaded.now in
+    let L = all_of c.args.referrer.now in
+    let n = c.args.referrer.now.number in
+    let o = referring c.args.referrer.now in
     let hs = c.sections-headers.result.now in
     let i = c.loop-i.i in
     let here = relocations_in n o (get_or hs i null_section) in

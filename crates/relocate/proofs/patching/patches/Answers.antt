@@ -23,11 +23,11 @@ loop-k-init c =
       leaves = fit_all L w (relocations L) (relocations L) refl (all_known L c.requires.lawful);
     }
 
-pub object_patches-requires-clause-kinds : goal.object_patches-requires-clause-kinds
-object_patches-requires-clause-kinds c = subst AreLawfulKinds (sym c.requires.placed) c.requires.kinds
+pub row_of-requires-clause-kinds : goal.row_of-requires-clause-kinds
+row_of-requires-clause-kinds c = subst AreLawfulKinds (sym c.requires.placed) c.requires.kinds
 
-pub object_patches-requires-clause-known : goal.object_patches-requires-clause-known
-object_patches-requires-clause-known c =
+pub row_of-requires-clause-known : goal.row_of-requires-clause-known
+row_of-requires-clause-known c =
     let xs = c.args.objects.now in
     let L = loaded_views xs in
     let k = c.loop-k.k in

@@ -1,0 +1,160 @@
+//! An object that refers: what a reference to each of its symbols is, found once a symbol, and read by each relocation
+//! that names it.
+ghost use Rattle.std.specs.Prelude.{◌≡◌, IfOk};
+ghost use Rattle.elf_model.specs.Relocation.{symbol_at};
+ghost use Rattle.search.specs.Views.{loaded_view};
+ghost use Rattle.layout.specs.Mixed.{AreMixed};
+ghost use Rattle.relocate.specs.References.{IsObjectAt};
+ghost use Rattle.relocate.specs.SymbolTables.{AreReferences, IsReference, IsReferrer, IsRelocated, all_of, referring};
+
+use crate::targets::{
+    definition_of, holds_frames, is_dropped, is_local, is_mixed, is_thread_local, is_undefined,
+    size_at, stands_in_unkept, symbol_entry,
+};
+use elf_model::{RELA_SIZE, SHT_RELA};
+use resolve::Resolved;
+use search::Loaded;
+use std::alloc::{AllocError, Global};
+use std::collections::BTreeSet;
+
+/// What a reference to a symbol is, whatever the relocation.
+#[derive(Clone, Copy, Debug)]
+pub struct Reference {
+    /// It needs a definition, and has none.
+    pub undefined: bool,
+    /// Its symbol is LOCAL, and stands in a section that isn't kept.
+    pub unkept: bool,
+    /// Its symbol stands in a section that is dropped with its group.
+    pub dropped: bool,
+    /// What it uses stands in a section with SHF_TLS.
+    pub thread_local: bool,
+    /// What it uses is a bound of an output name of several output sections.
+    pub mixed: bool,
+}
+
+/// An object whose relocations are judged, with its number. The output names of several output sections are `mixed`.
+#[derive(Drop)]
+pub struct Referrer<'r, 'm, 'a> {
+    pub resolved: &'r Resolved<'r, 'a>,
+    pub mixed: &'r BTreeSet<&'m [u8]>,
+    pub number: usize,
+    pub loaded: &'r Loaded<'a>,
+    /// What a reference to each symbol is, as far as there are rows.
+    pub table: Vec<Reference>,
+}
+
+/// A section that entries relocate: its number, its size in bytes, and whether it holds frames of code.
+#[derive(Clone, Copy, Debug)]
+pub struct Relocated {
+    pub number: u64,
+    pub size: u64,
+    pub frames: bool,
+}
+
+/// What a reference to symbol `j` of the object that has a number is.
+fn reference_to<'a>(
+    resolved: &Resolved<'_, 'a>,
+    mixed: &BTreeSet<&[u8]>,
+    number: usize,
+    loaded: &Loaded<'a>,
+    j: usize,
+) -> Reference
+    requires here { IsObjectAt resolved.now number (loaded_view loaded.now) }
+    requires mixed { AreMixed resolved.now mixed.now }
+    ensures { IsReference resolved.now (symbol_at number (loaded_view loaded.now) j) result }
+{
+    let entry = symbol_entry(&loaded.object, j);
+    let definition = definition_of(resolved, number, loaded, j);
+    Reference {
+        undefined: is_undefined(j, &entry, &definition),
+        unkept: is_local(&entry) && stands_in_unkept(loaded, &entry),
+        dropped: is_dropped(loaded, &entry),
+        thread_local: is_thread_local(resolved, &definition),
+        mixed: is_mixed(mixed, &definition),
+    }
+}
+
+/// Whether an object has more relocations than symbols, so that a row for each symbol saves work.
+pub fn refers_often(loaded: &Loaded<'_>) -> bool {
+    let mut size: u64 = 0;
+    for header in loaded.object.sections() {
+        if header.sh_type == SHT_RELA {
+            size = size.saturating_add(header.sh_size);
+        }
+    }
+    size / RELA_SIZE as u64 > loaded.object.symbols().len() as u64
+}
+
+/// A row for each symbol of an object that refers often, and none of another one.
+fn table_of<'a>(
+    alloc: Global,
+    resolved: &Resolved<'_, 'a>,
+    mixed: &BTreeSet<&[u8]>,
+    number: usize,
+    loaded: &Loaded<'a>,
+) -> Result<Vec<Reference>, AllocError>
+    requires here { IsObjectAt resolved.now number (loaded_view loaded.now) }
+    requires mixed { AreMixed resolved.now mixed.now }
+    ensures { IfOk result (λ v. AreReferences resolved.now number (loaded_view loaded.now) v.items) }
+{
+    let mut table = Vec::new(alloc);
+    if !refers_often(loaded) {
+        return Ok(table);
+    }
+    let count = loaded.object.symbols().len();
+    table.reserve(count)?;
+    for j in 0..count {
+        table.push(reference_to(resolved, mixed, number, loaded, j))?;
+    }
+    Ok(table)
+}
+
+impl<'r, 'm, 'a> Referrer<'r, 'm, 'a> {
+    /// The object that has a number.
+    pub fn new(
+        alloc: Global,
+        resolved: &'r Resolved<'r, 'a>,
+        mixed: &'r BTreeSet<&'m [u8]>,
+        number: usize,
+        loaded: &'r Loaded<'a>,
+    ) -> Result<Referrer<'r, 'm, 'a>, AllocError>
+        requires here { IsObjectAt resolved.now number (loaded_view loaded.now) }
+        requires mixed { AreMixed resolved.now mixed.now }
+        ensures known { IfOk result IsReferrer }
+        ensures all { IfOk result (λ r. all_of r ≡ resolved.entry.now) }
+        ensures number { IfOk result (λ r. r.number ≡ number) }
+        ensures own { IfOk result (λ r. referring r ≡ loaded_view loaded.entry.now) }
+    {
+        let table = table_of(alloc, resolved, mixed, number, loaded)?;
+        Ok(Referrer {
+            resolved,
+            mixed,
+            number,
+            loaded,
+            table,
+        })
+    }
+
+    /// What a reference to symbol `j` is.
+    pub fn reference(&self, j: usize) -> Reference
+        requires { IsReferrer self.now }
+        ensures { IsReference (all_of self.now) (symbol_at self.now.number (referring self.now) j) result }
+    {
+        match self.table.get(j) {
+            Some(reference) => *reference,
+            None => reference_to(self.resolved, self.mixed, self.number, self.loaded, j),
+        }
+    }
+
+    /// The section that has a number, which entries relocate.
+    pub fn relocated(&self, number: u64) -> Relocated
+        ensures number { result.number ≡ number }
+        ensures known { IsRelocated (referring self.now) result }
+    {
+        Relocated {
+            number,
+            size: size_at(&self.loaded.object, number as usize),
+            frames: holds_frames(&self.loaded.object, number as usize),
+        }
+    }
+}
