@@ -7,8 +7,8 @@ use Rattle.checker.proofs.verdict.judge.Goals as goal
 pub no-requires-clause-before : goal.no-requires-clause-before
 no-requires-clause-before c = before_second (subject_of c.args.link.now)
 
-pub no-2-requires-clause-before : goal.no-2-requires-clause-before
-no-2-requires-clause-before c = before_second (subject_of c.args.link.now)
+pub no-requires-then-not-holds-clause-before : goal.no-requires-then-not-holds-clause-before
+no-requires-then-not-holds-clause-before c = before_second (subject_of c.args.link.now)
 
 pub judge_loaded-requires-clause-before : goal.judge_loaded-requires-clause-before
 judge_loaded-requires-clause-before c = 

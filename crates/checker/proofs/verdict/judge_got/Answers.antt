@@ -10,11 +10,11 @@ holds-requires-clause-end c = c.requires.before C5 (omega arith)
 pub holds-requires-clause-lie : goal.holds-requires-clause-lie
 holds-requires-clause-lie c = c.requires.before C6 (omega arith)
 
-pub holds-2-requires-clause-end : goal.holds-2-requires-clause-end
-holds-2-requires-clause-end c = c.requires.before C5 (omega arith)
+pub holds-requires-2-clause-end : goal.holds-requires-2-clause-end
+holds-requires-2-clause-end c = c.requires.before C5 (omega arith)
 
-pub no-2-requires-clause-before : goal.no-2-requires-clause-before
-no-2-requires-clause-before c = before_next (subject_of c.args.link.now) C7 C8 refl c.requires.before (c.in_ok-holds.ensures.0 c.if-not-branch.false)
+pub no-requires-then-not-holds-clause-before : goal.no-requires-then-not-holds-clause-before
+no-requires-then-not-holds-clause-before c = before_next (subject_of c.args.link.now) C7 C8 refl c.requires.before (c.in_ok-holds.ensures.0 c.if-not-branch.false)
 
 pub judge_relocations-requires-clause-before : goal.judge_relocations-requires-clause-before
 judge_relocations-requires-clause-before c = 

@@ -4,8 +4,8 @@ use Rattle.check_link.specs.Subjects.{subject_of}
 use Rattle.checker.proofs.Clauses.{before_next}
 use Rattle.checker.proofs.verdict.judge_places.Goals as goal
 
-pub no-2-requires-clause-before : goal.no-2-requires-clause-before
-no-2-requires-clause-before c = before_next (subject_of c.args.link.now) C5 C6 refl c.requires.before (c.in_ok-holds.ensures.0 c.if-not-branch.false)
+pub no-requires-then-not-holds-clause-before : goal.no-requires-then-not-holds-clause-before
+no-requires-then-not-holds-clause-before c = before_next (subject_of c.args.link.now) C5 C6 refl c.requires.before (c.in_ok-holds.ensures.0 c.if-not-branch.false)
 
 pub judge_names-requires-clause-before : goal.judge_names-requires-clause-before
 judge_names-requires-clause-before c = 
