@@ -11,5 +11,5 @@ pub no-requires-then-not-holds-clause-before : goal.no-requires-then-not-holds-c
 no-requires-then-not-holds-clause-before c = before_second (subject_of c.args.link.now)
 
 pub judge_loaded-requires-clause-before : goal.judge_loaded-requires-clause-before
-judge_loaded-requires-clause-before c = 
+judge_loaded-requires-clause-before c =
     before_next (subject_of c.args.link.now) C2 C3 refl (before_second (subject_of c.args.link.now)) (c.holds.ensures.0 c.if-not-holds.false)

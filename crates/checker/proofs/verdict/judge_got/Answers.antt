@@ -17,6 +17,6 @@ pub no-requires-then-not-holds-clause-before : goal.no-requires-then-not-holds-c
 no-requires-then-not-holds-clause-before c = before_next (subject_of c.args.link.now) C7 C8 refl c.requires.before (c.in_ok-holds.ensures.0 c.if-not-branch.false)
 
 pub judge_relocations-requires-clause-before : goal.judge_relocations-requires-clause-before
-judge_relocations-requires-clause-before c = 
+judge_relocations-requires-clause-before c =
     let seventh = before_next (subject_of c.args.link.now) C7 C8 refl c.requires.before (c.in_ok-holds.ensures.0 c.if-not-branch.false) in
     before_next (subject_of c.args.link.now) C8 C9 refl seventh (c.holds-2.ensures.0 c.if-not-holds.false)

@@ -9,6 +9,6 @@ pub no-requires-in_default-clause-before : goal.no-requires-in_default-clause-be
 no-requires-in_default-clause-before c = before_next (subject_of c.args.link.now) C3 C4 refl c.requires.before (c.in_ok-holds.ensures.0 c.if-not-branch.false)
 
 pub judge_places-requires-clause-before : goal.judge_places-requires-clause-before
-judge_places-requires-clause-before c = 
+judge_places-requires-clause-before c =
     let third = before_next (subject_of c.args.link.now) C3 C4 refl c.requires.before (c.in_ok-holds.ensures.0 c.if-not-branch.false) in
     before_next (subject_of c.args.link.now) C4 C5 refl third (c.in_ok-memory.ensures.image.0 (subst IsSome (sym c.in-Some.is) refl))

@@ -8,6 +8,6 @@ pub no-requires-then-not-branch-clause-before : goal.no-requires-then-not-branch
 no-requires-then-not-branch-clause-before c = before_next (subject_of c.args.link.now) C12 C13 refl c.requires.before (c.holds.ensures.0 c.if-not-holds.false)
 
 pub returns : goal.returns
-returns c = 
+returns c =
     all_hold (subject_of c.args.link.now) (before_next (subject_of c.args.link.now) C12 C13 refl c.requires.before (c.holds.ensures.0 c.if-not-holds.false))
     (c.in_ok-holds.ensures.0 c.if-not-branch.false)
