@@ -135,28 +135,31 @@ fn put_objects(files: &mut Vec<InputFile>, alloc: Global) -> Result<(), AllocErr
     put_file(files, alloc, "w.o", object(alloc, START, MAY_WANT_F)?)
 }
 
-/// Archives of one member: `libx.a` and two in directories have `f`, `libq.a` has `g`, which wants `h`,
-/// `libs.a` has the entry, `libn.a` has no index, and the member of `libt.a` is no object.
+/// The path of an archive of one member, this one's symbols, its offset and the names in the index; no names: none.
+type Single = (&'static str, Symbol, Symbol, u32, &'static [u8]);
+
+/// `libx.a` and three in directories have `f`, `libq.a` has `g`, which wants `h`, `libs.a` has the entry, and
+/// `libn.a` has no index.
+static SINGLE_ARCHIVES: [Single; 7] = [
+    ("libx.a", F, START, 78, b"f\0"),
+    ("d1/liby.a", F, START, 78, b"f\0"),
+    ("d2/liby.a", F, START, 78, b"f\0"),
+    ("d2/libz.a", F, START, 78, b"f\0"),
+    ("libq.a", G, WANTS_H, 78, b"g\0"),
+    ("libs.a", START, F, 84, b"_start\0"),
+    ("libn.a", START, F, 0, b""),
+];
+
+fn single_archive(alloc: Global, row: &Single) -> Result<Vec<u8>, AllocError> {
+    let members = one(alloc, object(alloc, row.1, row.2)?)?;
+    archive(alloc, &[row.3], row.4, &members)
+}
+
+/// Archives of one member: those, and `libt.a`, whose member is no object.
 fn put_single_archives(files: &mut Vec<InputFile>, alloc: Global) -> Result<(), AllocError> {
-    for name in ["libx.a", "d1/liby.a", "d2/liby.a", "d2/libz.a"] {
-        let members = one(alloc, object(alloc, F, START)?)?;
-        put_file(files, alloc, name, archive(alloc, &[78], b"f\0", &members)?)?;
+    for row in &SINGLE_ARCHIVES {
+        put_file(files, alloc, row.0, single_archive(alloc, row)?)?;
     }
-    let members = one(alloc, object(alloc, G, WANTS_H)?)?;
-    put_file(
-        files,
-        alloc,
-        "libq.a",
-        archive(alloc, &[78], b"g\0", &members)?,
-    )?;
-    let members = one(alloc, object(alloc, START, F)?)?;
-    put_file(
-        files,
-        alloc,
-        "libs.a",
-        archive(alloc, &[84], b"_start\0", &members)?,
-    )?;
-    put_file(files, alloc, "libn.a", archive(alloc, &[], b"", &members)?)?;
     let short = one(alloc, Vec::from_slice(alloc, &[0; 63])?)?;
     put_file(
         files,

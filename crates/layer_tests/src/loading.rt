@@ -45,18 +45,29 @@ fn is_loaded(loaded: &Loaded<'_>, item: u64, path: &str, sections: usize) -> boo
     loaded.item == item && loaded.path == path && loaded.object.sections().len() == sections
 }
 
-#[test]
-fn objects_stand_in_command_order(rt: HostRuntime) -> Result<(), Fail> {
-    let alloc = rt.alloc();
+/// The paths and the numbers of sections of objects that are loaded, as items in order.
+static LOADED: [(&str, usize); 3] = [("b.o", 4), ("a.o", 3), ("b.o", 4)];
+
+fn are_loaded(objects: &[Loaded<'_>]) -> bool {
+    objects.len() == LOADED.len()
+        && objects.iter().zip(&LOADED).enumerate().all(|(i, (loaded, row))| is_loaded(
+            loaded, i as u64, row.0, row.1,
+        ))
+}
+
+/// Files with one and with two sections besides those of each object.
+fn two_files(alloc: Global) -> Result<Vec<InputFile>, AllocError> {
     let a = object_of(alloc, &[TEXT])?;
     let b = object_of(alloc, &[DATA, TEXT])?;
-    let files = files(alloc, a, b)?;
-    let words = words(alloc, "b.o a.o b.o")?;
-    let objects = load_words(alloc, &words, &files)??;
-    assert_eq!(rt; objects.len(), 3);
-    assert!(rt; is_loaded(&objects[0], 0, "b.o", 4));
-    assert!(rt; is_loaded(&objects[1], 1, "a.o", 3));
-    assert!(rt; is_loaded(&objects[2], 2, "b.o", 4));
+    files(alloc, a, b)
+}
+
+#[test]
+fn objects_stand_in_command_order(rt: HostRuntime) -> Result<(), Fail> {
+    let files = two_files(rt.alloc())?;
+    let words = words(rt.alloc(), "b.o a.o b.o")?;
+    let objects = load_words(rt.alloc(), &words, &files)??;
+    assert!(rt; are_loaded(&objects));
     Ok(())
 }
 

@@ -137,27 +137,56 @@ fn refusal(alloc: Global, a: &[Symbol; 2], b: &[Symbol; 2]) -> Result<Option<Res
     Ok(resolve(alloc, &objects).err())
 }
 
+/// What they are refused for, with the name that has two definitions, or `sound`.
+fn told(alloc: Global, a: &[Symbol; 2], b: &[Symbol; 2]) -> Result<String, Fail> {
+    let text = match refusal(alloc, a, b)? {
+        Some(ResolveFault::Duplicate(name)) => format!(in alloc; "Duplicate {name:?}")?,
+        Some(fault) => format!(in alloc; "{fault}")?,
+        None => format!(in alloc; "sound")?,
+    };
+    Ok(text)
+}
+
+const GLOBAL_F: Symbol = Symbol {
+    st_name: F_NAME,
+    st_info: 0x10,
+    st_other: 0,
+    st_shndx: 2,
+    st_value: 0,
+    st_size: 0,
+};
+
+const NAMELESS: Symbol = Symbol {
+    st_name: 0,
+    ..GLOBAL_F
+};
+
+/// The symbol of `.text`, which has 9 bytes.
+const TEXT_SYMBOL: Symbol = Symbol {
+    st_info: 3,
+    ..NAMELESS
+};
+
+/// A symbol of an object behind the one of `.text`, whose value is given, and what becomes of it after an object
+/// that defines `f`.
+static UNSOUND: [(Symbol, u64, &str); 5] = [
+    (GLOBAL_F, 0, "Duplicate [102]"),
+    (NAMELESS, 0, "BadSymbol (4)"),
+    (TEXT_SYMBOL, 0, "sound"),
+    (TEXT_SYMBOL, 9, "sound"),
+    (TEXT_SYMBOL, 10, "BadSymbol (4)"),
+];
+
 #[test]
 fn unsound_symbols_are_refused(rt: HostRuntime) -> Result<(), Fail> {
-    let alloc = rt.alloc();
     let sound = [global(START_NAME, 2), global(F_NAME, 2)];
-    let twice = refusal(alloc, &sound, &[local(2), global(F_NAME, 2)])?;
-    assert!(rt;
-        matches!(&twice, Some(ResolveFault::Duplicate(name)) if name.as_slice() == b"f".as_slice())
-    );
-    let nameless = refusal(alloc, &sound, &[local(2), global(0, 2)])?;
-    assert!(rt; matches!(&nameless, Some(ResolveFault::BadSymbol)));
-    let last = Symbol {
-        st_value: 9,
-        ..local(2)
-    };
-    assert!(rt; refusal(alloc, &sound, &[last, local(0)])?.is_none());
-    let behind = Symbol {
-        st_value: 10,
-        ..last
-    };
-    let behind = refusal(alloc, &sound, &[behind, local(0)])?;
-    assert!(rt; matches!(&behind, Some(ResolveFault::BadSymbol)));
+    for (second, st_value, text) in UNSOUND {
+        let own = Symbol {
+            st_value,
+            ..TEXT_SYMBOL
+        };
+        assert_eq!(rt; told(rt.alloc(), &sound, &[own, second])?.as_str(), text);
+    }
     Ok(())
 }
 

@@ -28,6 +28,15 @@ pub const NULL_SECTION: SectionHeader = SectionHeader {
     sh_entsize: 0,
 };
 
+pub const NULL_SYMBOL: Symbol = Symbol {
+    st_name: 0,
+    st_info: 0,
+    st_other: 0,
+    st_shndx: 0,
+    st_value: 0,
+    st_size: 0,
+};
+
 const HEADER: FileHeader = FileHeader {
     e_ident: [0x7f, b'E', b'L', b'F', 2, 1, 1, 0, 0, 0, 0, 0, 0, 0, 0, 0],
     e_type: ET_REL,
@@ -168,7 +177,7 @@ fn contents_of(alloc: Global, symbols: &[Symbol], entries: &[Rela]) -> Result<Ve
     Ok(bytes)
 }
 
-/// An object with these sections, 8 at most, behind the null section and the names, which are section 1. Symbols
+/// An object with these sections, 4096 at most, behind the null section and the names, which are section 1. Symbols
 /// stand from 192 on, the null one too, and relocations behind them.
 pub fn object_with(
     alloc: Global,
@@ -177,7 +186,7 @@ pub fn object_with(
     entries: &[Rela],
 ) -> Result<Vec<u8>, AllocError> {
     let contents = contents_of(alloc, symbols, entries)?;
-    let count = sections.len().min(8) as u16;
+    let count = sections.len().min(4096) as u16;
     let header = FileHeader {
         e_shoff: (contents.len() as u64).saturating_add(64),
         e_shnum: 2 + count,
@@ -202,7 +211,7 @@ pub fn object_with(
     Ok(bytes)
 }
 
-/// An object with these sections, 8 at most, behind the null section and the section names.
+/// An object with these sections, 4096 at most, behind the null section and the section names.
 pub fn object_of(alloc: Global, sections: &[SectionHeader]) -> Result<Vec<u8>, AllocError> {
     object_with(alloc, sections, &[], &[])
 }

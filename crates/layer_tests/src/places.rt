@@ -1,5 +1,7 @@
 //! Layouts: where pieces stand, and in which segments, and what the linker's names for output sections stand for.
+ghost use Rattle.elf_model.specs.Loading.{AreObjects};
 ghost use Rattle.elf_model.specs.Pieces.{AreLawfulKinds};
+ghost use Rattle.search.specs.Views.{loaded_views};
 
 use crate::objects::{
     A_NAME, BSS, DATA, F_NAME, G_NAME, NOTES_NAME, RODATA, RODATA_B_NAME, SYMBOLS, TEXT, load_both,
@@ -12,6 +14,7 @@ use elf_model::{
 use got_tls::slots;
 use layout::{LayoutFault, Place, Placement, kinds, place};
 use resolve::{output_name, resolve};
+use search::Loaded;
 use std::alloc::{AllocError, Global};
 use std::test::Fail;
 
@@ -71,10 +74,10 @@ fn with_flags(sh_flags: u64, header: SectionHeader) -> SectionHeader {
     SectionHeader { sh_flags, ..header }
 }
 
-/// Whether the layout of an object with one section is too large.
-fn is_too_large(alloc: Global, section: SectionHeader) -> Result<bool, Fail> {
+/// Whether the layout of an object is too large.
+fn is_too_large(alloc: Global, sections: &[SectionHeader]) -> Result<bool, Fail> {
     let none = object_of(alloc, &[])?;
-    let other = object_of(alloc, &[section])?;
+    let other = object_of(alloc, sections)?;
     let objects = load_both(alloc, &none, &other)?;
     let resolved = resolve(alloc, &objects)?;
     let slots = slots(alloc, &objects, &resolved)?;
@@ -204,9 +207,26 @@ fn first_wrong(placement: &Placement<'_, '_>) -> Option<usize>
     BOUNDS.iter().position(|(name, bound, value)| placement.bound(name, *bound) != *value)
 }
 
+/// That of the layout of objects.
+fn first_wrong_in(alloc: Global, objects: &[Loaded<'_>]) -> Result<Option<usize>, Fail>
+    requires { AreObjects (loaded_views objects.now) }
+{
+    kinds(objects)?;
+    let resolved = resolve(alloc, objects)?;
+    let slots = slots(alloc, objects, &resolved)?;
+    let tables = place(alloc, objects, resolved.blocks(), slots.got(), 0x400000)?;
+    let placement = Placement::new(0x400000, &*objects, &tables);
+    Ok(first_wrong(&placement))
+}
+
+/// That of the layout of the objects of two files.
+fn first_wrong_of(alloc: Global, a: &[u8], b: &[u8]) -> Result<Option<usize>, Fail> {
+    let objects = load_both(alloc, a, b)?;
+    first_wrong_in(alloc, &objects)
+}
+
 #[test]
 fn names_of_output_sections_have_bounds(rt: HostRuntime) -> Result<(), Fail> {
-    let alloc = rt.alloc();
     let first = SectionHeader {
         sh_name: A_NAME,
         ..with_flags(SHF_ALLOC | SHF_WRITE, RODATA)
@@ -215,35 +235,50 @@ fn names_of_output_sections_have_bounds(rt: HostRuntime) -> Result<(), Fail> {
         sh_name: A_NAME,
         ..DATA
     };
-    let a = object_of(alloc, &[first])?;
-    let b = object_of(alloc, &[second])?;
-    let objects = load_both(alloc, &a, &b)?;
-    kinds(&objects)?;
-    let resolved = resolve(alloc, &objects)?;
-    let slots = slots(alloc, &objects, &resolved)?;
-    let tables = place(alloc, &objects, resolved.blocks(), slots.got(), 0x400000)?;
-    let placement = Placement::new(0x400000, &objects, &tables);
-    assert!(rt; first_wrong(&placement).is_none());
+    let a = object_of(rt.alloc(), &[first])?;
+    let b = object_of(rt.alloc(), &[second])?;
+    assert_eq!(rt; first_wrong_of(rt.alloc(), &a, &b)?, None);
     Ok(())
 }
 
+/// Sizes of a `.bss`, which stands at 0x401000, and whether its layout is too large.
+static SIZES: [(u64, bool); 3] = [
+    ((1 << 46) - 0x401000, false),
+    ((1 << 46) - 0x400fff, true),
+    (u64::MAX, true),
+];
+
 #[test]
 fn a_layout_is_too_large_past_the_limit(rt: HostRuntime) -> Result<(), Fail> {
-    let whole = SectionHeader {
-        sh_size: (1 << 46) - 0x401000,
-        ..BSS
-    };
-    let more = SectionHeader {
-        sh_size: (1 << 46) - 0x400fff,
-        ..BSS
-    };
-    let most = SectionHeader {
-        sh_size: u64::MAX,
-        ..BSS
-    };
-    assert!(rt; !is_too_large(rt.alloc(), whole)?);
-    assert!(rt; is_too_large(rt.alloc(), more)?);
-    assert!(rt; is_too_large(rt.alloc(), most)?);
+    for (sh_size, large) in SIZES {
+        let section = SectionHeader { sh_size, ..BSS };
+        assert_eq!(rt;
+            is_too_large(rt.alloc(), &[section])?,
+            large,
+            "of {sh_size} bytes"
+        );
+    }
+    Ok(())
+}
+
+/// A byte at the next multiple of 0x200000.
+const FAR: SectionHeader = SectionHeader {
+    sh_size: 1,
+    sh_addralign: 0x20_0000,
+    ..RODATA
+};
+
+#[test]
+fn a_layout_of_a_large_file_is_too_large(rt: HostRuntime) -> Result<(), Fail> {
+    // They stand at 0x600000 and on, so the file ends with byte 0x200000 * count.
+    for (count, large) in [(2047, false), (2048, true)] {
+        let sections = vec![in rt.alloc(); FAR; count]?;
+        assert_eq!(rt;
+            is_too_large(rt.alloc(), &sections)?,
+            large,
+            "of {count} sections"
+        );
+    }
     Ok(())
 }
 

@@ -10,7 +10,8 @@ ghost use Rattle.elf_model.specs.Slots as wanted;
 ghost use Rattle.search.specs.Views.{loaded_views};
 
 use crate::objects::{
-    A_NAME, BSS, DATA, ENTRY, ETEXT_NAME, RODATA, STOP_NAME, SYMBOLS, TEXT, load_alone, object_with,
+    A_NAME, BSS, DATA, ENTRY, ETEXT_NAME, F_NAME, NULL_SYMBOL, RODATA, STOP_NAME, SYMBOLS, TEXT,
+    load_alone, object_with,
 };
 use elf_model::{Bound, Rela, SHF_ALLOC, SHF_WRITE, STT_SECTION, SectionHeader, Symbol};
 use got_tls::{Slots, slots};
@@ -45,22 +46,23 @@ const TEXT_END: Symbol = Symbol {
     st_size: 0,
 };
 
-/// An object with an entry that relocates `.rodata`, section 2 of 5 bytes, and one for `.data`, section 4 of
-/// 8 bytes. Symbol 2 is `.rodata`.
+/// An object with an entry that relocates `.rodata`, section 2 of 5 bytes, and one for another section, of which `.data`
+/// is number 4 and has 8 bytes. Symbol 2 is `.rodata`.
 fn object_over(
     alloc: Global,
     first: Symbol,
     rodata: Rela,
-    data_: Rela,
+    section: u32,
+    second: Rela,
 ) -> Result<Vec<u8>, AllocError> {
     let rodata_entries = SectionHeader {
         sh_link: 6,
         sh_info: 2,
         ..ENTRY
     };
-    let data_entries = SectionHeader {
+    let second_entries = SectionHeader {
         sh_link: 6,
-        sh_info: 4,
+        sh_info: section,
         sh_offset: 288,
         ..ENTRY
     };
@@ -71,15 +73,15 @@ fn object_over(
         BSS,
         SYMBOLS,
         rodata_entries,
-        data_entries,
+        second_entries,
     ];
     let symbols = [first, section_symbol(2)];
-    object_with(alloc, &sections, &symbols, &[rodata, data_])
+    object_with(alloc, &sections, &symbols, &[rodata, second])
 }
 
 /// Such an object, of which symbol 1 is `.data`.
 fn object_of(alloc: Global, rodata: Rela, data_: Rela) -> Result<Vec<u8>, AllocError> {
-    object_over(alloc, section_symbol(4), rodata, data_)
+    object_over(alloc, section_symbol(4), rodata, 4, data_)
 }
 
 /// The input bytes of a section of the first object.
@@ -306,7 +308,7 @@ fn fields_have_their_values(rt: HostRuntime) -> Result<(), Fail> {
 #[test]
 fn linkers_names_have_values(rt: HostRuntime) -> Result<(), Fail> {
     let alloc = rt.alloc();
-    let file = object_over(alloc, TEXT_END, entry(0, 10, 1, 0), entry(0, 1, 1, 1))?;
+    let file = object_over(alloc, TEXT_END, entry(0, 10, 1, 0), 4, entry(0, 1, 1, 1))?;
     let rodata = wanted(alloc, &file, 2)?;
     let data_ = wanted(alloc, &file, 4)?;
     // `.text` has 9 bytes at 0x401000.
@@ -318,7 +320,7 @@ fn linkers_names_have_values(rt: HostRuntime) -> Result<(), Fail> {
 #[test]
 fn linkers_names_in_use_have_lines(rt: HostRuntime) -> Result<(), Fail> {
     let alloc = rt.alloc();
-    let file = object_over(alloc, TEXT_END, entry(0, 10, 1, 0), entry(0, 1, 1, 1))?;
+    let file = object_over(alloc, TEXT_END, entry(0, 10, 1, 0), 4, entry(0, 1, 1, 1))?;
     let objects = load_alone(alloc, &file)?;
     let resolved = resolve(alloc, &objects)?;
     let lines = linker_lines(alloc, &objects, &resolved)?;
@@ -328,37 +330,156 @@ fn linkers_names_in_use_have_lines(rt: HostRuntime) -> Result<(), Fail> {
     Ok(())
 }
 
-/// What an object with an entry for `.rodata` and a lawful one for `.data` is refused for.
-fn refusal(alloc: Global, rodata: Rela) -> Result<Option<RelocFault>, Fail> {
-    let file = object_of(alloc, rodata, entry(0, 1, 2, 1))?;
-    refusal_of(alloc, &file)
+/// What the relocations of objects are refused for, or `lawful`.
+fn refusal(alloc: Global, objects: &[Loaded<'_>]) -> Result<String, Fail>
+    requires { AreObjects (loaded_views objects.now) }
+{
+    kinds(objects)?;
+    let resolved = resolve(alloc, objects)?;
+    let slots = slots(alloc, objects, &resolved)?;
+    let tables = place(alloc, objects, resolved.blocks(), slots.got(), 0x400000)?;
+    let placement = Placement::new(0x400000, &*objects, &tables);
+    let text = match judged_patches(alloc, objects, &resolved, &placement, &slots) {
+        Ok(_) => format!(in alloc; "lawful")?,
+        Err(fault) => format!(in alloc; "{fault}")?,
+    };
+    Ok(text)
 }
 
-/// What the relocations of a file's object are refused for.
-fn refusal_of(alloc: Global, file: &[u8]) -> Result<Option<RelocFault>, Fail> {
+/// That of a file's object.
+fn refusal_of(alloc: Global, file: &[u8]) -> Result<String, Fail> {
     let objects = load_alone(alloc, file)?;
-    let resolved = resolve(alloc, &objects)?;
-    kinds(&objects)?;
-    let slots = slots(alloc, &objects, &resolved)?;
-    let tables = place(alloc, &objects, resolved.blocks(), slots.got(), 0x400000)?;
-    let placement = Placement::new(0x400000, &*objects, &tables);
-    Ok(judged_patches(alloc, &objects, &resolved, &placement, &slots).err())
+    refusal(alloc, &objects)
 }
+
+/// The symbols of the sections `.data` and of the symbols, which isn't kept, and an undefined `f`.
+const DATA_SYMBOL: Symbol = Symbol {
+    st_info: STT_SECTION,
+    st_shndx: 4,
+    ..NULL_SYMBOL
+};
+
+const SYMBOLS_SYMBOL: Symbol = Symbol {
+    st_shndx: 6,
+    ..DATA_SYMBOL
+};
+
+const UNDEFINED_F: Symbol = Symbol {
+    st_name: F_NAME,
+    ..TEXT_END
+};
+
+/// S + A - P of symbol 1 in four bytes, and S + A of `.rodata` in eight.
+const DISTANCE: Rela = Rela {
+    r_offset: 0,
+    r_info: 0x1_0000_0002,
+    r_addend: 0,
+};
+
+const ADDRESS: Rela = Rela {
+    r_offset: 0,
+    r_info: 0x2_0000_0001,
+    r_addend: 1,
+};
+
+/// Symbol 1 of an object, an entry for `.rodata`, the section of another entry and this entry, and what they are
+/// refused for.
+static REFUSALS: [(Symbol, Rela, u32, Rela, &str); 10] = [
+    // A field of 4 bytes at 1 ends with the 5 bytes of `.rodata`.
+    (
+        DATA_SYMBOL,
+        Rela {
+            r_offset: 1,
+            ..DISTANCE
+        },
+        4,
+        ADDRESS,
+        "lawful",
+    ),
+    (
+        DATA_SYMBOL,
+        Rela {
+            r_offset: 2,
+            ..DISTANCE
+        },
+        4,
+        ADDRESS,
+        "FieldOutside (5)",
+    ),
+    (UNDEFINED_F, DISTANCE, 4, ADDRESS, "Undefined (2)"),
+    (SYMBOLS_SYMBOL, DISTANCE, 4, ADDRESS, "RefToDropped (3)"),
+    // Type 5 is COPY, 23 a thread offset, and 14 wants a number of 8 bits, which 0x402000 isn't.
+    (
+        DATA_SYMBOL,
+        Rela {
+            r_info: 0x1_0000_0005,
+            ..DISTANCE
+        },
+        4,
+        ADDRESS,
+        "RelocKind (4)",
+    ),
+    (
+        DATA_SYMBOL,
+        Rela {
+            r_info: 0x1_0000_0017,
+            ..DISTANCE
+        },
+        4,
+        ADDRESS,
+        "TlsMismatch (8)",
+    ),
+    (
+        DATA_SYMBOL,
+        Rela {
+            r_info: 0x1_0000_000e,
+            ..DISTANCE
+        },
+        4,
+        ADDRESS,
+        "Overflow (7)",
+    ),
+    // Two fields of `.rodata` share three bytes, or one byte; with type NONE there is one field.
+    (
+        DATA_SYMBOL,
+        DISTANCE,
+        2,
+        Rela {
+            r_offset: 1,
+            ..DISTANCE
+        },
+        "OverlappingFields (6)",
+    ),
+    (
+        DATA_SYMBOL,
+        DISTANCE,
+        2,
+        Rela {
+            r_offset: 3,
+            r_info: 0x1_0000_000c,
+            r_addend: 0,
+        },
+        "OverlappingFields (6)",
+    ),
+    (
+        DATA_SYMBOL,
+        DISTANCE,
+        2,
+        Rela {
+            r_offset: 1,
+            r_info: 0,
+            r_addend: 0,
+        },
+        "lawful",
+    ),
+];
 
 #[test]
 fn unlawful_relocations_are_refused(rt: HostRuntime) -> Result<(), Fail> {
-    let alloc = rt.alloc();
-    // A field of 4 bytes at 1 ends with the 5 bytes of `.rodata`; 0x402000 is no number of 8 bits.
-    let last = refusal(alloc, entry(1, 2, 1, 0))?;
-    assert!(rt; last.is_none());
-    let outside = refusal(alloc, entry(2, 2, 1, 0))?;
-    assert!(rt; matches!(&outside, Some(RelocFault::FieldOutside)));
-    let unknown = refusal(alloc, entry(0, 5, 1, 0))?;
-    assert!(rt; matches!(&unknown, Some(RelocFault::RelocKind)));
-    let thread = refusal(alloc, entry(0, 23, 1, 0))?;
-    assert!(rt; matches!(&thread, Some(RelocFault::TlsMismatch)));
-    let wide = refusal(alloc, entry(0, 14, 1, 0))?;
-    assert!(rt; matches!(&wide, Some(RelocFault::Overflow)));
+    for (first, rodata, section, second, text) in &REFUSALS {
+        let file = object_over(rt.alloc(), *first, *rodata, *section, *second)?;
+        assert_eq!(rt; refusal_of(rt.alloc(), &file)?.as_str(), *text);
+    }
     Ok(())
 }
 
@@ -398,7 +519,6 @@ fn a_bound_is_that_of_one_output_section(rt: HostRuntime) -> Result<(), Fail> {
     // The sections stand at 0x401000 and at 0x401008.
     assert!(rt; second.as_slice() == [0x10, 0x10, 0x40, 0, 0, 0, 0, 0].as_slice());
     let two = object_with_bound(alloc, SHF_ALLOC)?;
-    let two = refusal_of(alloc, &two)?;
-    assert!(rt; matches!(&two, Some(RelocFault::MixedSection)));
+    assert_eq!(rt; refusal_of(alloc, &two)?.as_str(), "MixedSection (9)");
     Ok(())
 }

@@ -95,13 +95,18 @@ fn one_segment(alloc: Global) -> Result<Vec<u8>, AllocError> {
 }
 
 /// `loaded`, or the fault of an image.
-fn outcome(alloc: Global, header: &FileHeader, segments: &[ProgramHeader]) -> Result<String, Fail> {
-    let image = an_image(alloc, header, segments)?;
-    let text = match Memory::load(alloc, View::new(&image)) {
+fn outcome_of(alloc: Global, image: &[u8]) -> Result<String, Fail> {
+    let text = match Memory::load(alloc, View::new(image)) {
         Ok(_) => format!(in alloc; "loaded")?,
         Err(fault) => format!(in alloc; "{fault}")?,
     };
     Ok(text)
+}
+
+/// `loaded`, or the fault of an image of these headers.
+fn outcome(alloc: Global, header: &FileHeader, segments: &[ProgramHeader]) -> Result<String, Fail> {
+    let image = an_image(alloc, header, segments)?;
+    outcome_of(alloc, &image)
 }
 
 #[test]
@@ -202,6 +207,23 @@ static FAULTS: [(FileHeader, &[ProgramHeader], &str); 4] = [
 fn faults_are_told(rt: HostRuntime) -> Result<(), Fail> {
     for (header, segments, text) in &FAULTS {
         assert_eq!(rt; outcome(rt.alloc(), header, segments)?.as_str(), *text);
+    }
+    Ok(())
+}
+
+#[test]
+fn a_beginning_is_no_image(rt: HostRuntime) -> Result<(), Fail> {
+    let image = one_segment(rt.alloc())?;
+    // The file header has 64 bytes, and both program headers end at 176.
+    for (len, text) in [
+        (63, "BadHeader (2)"),
+        (175, "BadHeader (2)"),
+        (176, "loaded"),
+    ] {
+        assert_eq!(rt;
+            outcome_of(rt.alloc(), View::new(&image).part(0, len))?.as_str(),
+            text
+        );
     }
     Ok(())
 }

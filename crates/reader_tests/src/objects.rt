@@ -234,42 +234,32 @@ fn a_beginning_is_no_object(rt: HostRuntime) -> Result<(), Fail> {
     Ok(())
 }
 
-/// The header and the `.text` of objects, with their faults.
-static FAULTS: [(FileHeader, SectionHeader, &str); 4] = [
-    // A table and a section past the end, a name past the strings.
-    (
-        FileHeader {
-            e_shoff: 0xffff_ffff_ffff_ffc0,
-            ..HEADER
-        },
-        TEXT_SECTION,
-        "BadSectionTable (6)",
-    ),
-    (
-        HEADER,
-        SectionHeader {
-            sh_offset: u64::MAX,
-            ..TEXT_SECTION
-        },
-        "BadSectionRange (7)",
-    ),
-    (
-        HEADER,
-        SectionHeader {
-            sh_name: u32::MAX,
-            ..TEXT_SECTION
-        },
-        "BadString (8)",
-    ),
-    // A second symbol table.
-    (HEADER, SYMTAB, "BadSymbolTable (9)"),
+/// Bytes of the object of `_start`, each by its offset with another value, and what becomes of the object.
+static FAULTS: [(usize, u8, &str); 13] = [
+    // EI_CLASS, e_type, e_machine, e_shoff, e_shnum, and e_shstrndx, which names `.text`.
+    (4, 1, "NotElf64 (3)"),
+    (16, 2, "NotRelocatable (4)"),
+    (18, 3, "WrongMachine (5)"),
+    (47, 0xff, "BadSectionTable (6)"),
+    (60, 6, "BadSectionTable (6)"),
+    (62, 1, "BadSectionTable (6)"),
+    // The type of section 0; the offset, the name and the type of `.text`, which becomes a second symbol table.
+    (180, 1, "BadSectionTable (6)"),
+    (271, 0xff, "BadSectionRange (7)"),
+    (243, 0xff, "BadString (8)"),
+    (244, 2, "BadSymbolTable (9)"),
+    // The name, the binding and the section of `_start`.
+    (104, 8, "BadString (8)"),
+    (108, 0x32, "BadSymbolTable (9)"),
+    (110, 5, "BadSymbolTable (9)"),
 ];
 
 #[test]
 fn faulty_objects_are_refused(rt: HostRuntime) -> Result<(), Fail> {
-    for (header, text_section, text) in &FAULTS {
-        let bytes = object_of(rt.alloc(), header, text_section)?;
-        assert_eq!(rt; outcome(rt.alloc(), &bytes)?.as_str(), *text);
+    for (at, byte, text) in FAULTS {
+        let mut bytes = start_object(rt.alloc())?;
+        *bytes.get_mut(at).ok_or("the object")? = byte;
+        assert_eq!(rt; outcome(rt.alloc(), &bytes)?.as_str(), text);
     }
     Ok(())
 }

@@ -1,4 +1,5 @@
 //! Texts of link maps.
+use byteview::View;
 use elf_model::{Definition, DropLine, GotLine, ObjectLine, PlaceLine, SymbolLine};
 use linkmap::{LinkMap, MapFault, escape, ordered, print, read};
 use std::alloc::{AllocError, Global};
@@ -66,20 +67,81 @@ fn reads_what_it_prints(rt: HostRuntime) -> Result<(), Fail> {
     Ok(())
 }
 
+/// Lines, each of which is wrong as the second one of a text: each field of each kind of line is, in one of them.
+static WRONG_LINES: [&str; 27] = [
+    "object x 0 0 a.o\nend\n",
+    "object 0 x 0 a.o\nend\n",
+    "object 0 0 x a.o\nend\n",
+    "object 0 0 0 a o\nend\n",
+    "object 0 0 0 a.o",
+    "object 0 0 0 \\x61.o\nend\n",
+    "object 1 0 0 a.o\nend\n",
+    "drop x 1\nend\n",
+    "drop 0 1 \nend\n",
+    "place 000000000040100 9 0 1 .text\nend\n",
+    "place 0000000000401000 x 0 1 .text\nend\n",
+    "place 0000000000401000 9 x 1 .text\nend\n",
+    "place 0000000000401000 9 0 x .text\nend\n",
+    "common 000000000040100X 8 8 c\nend\n",
+    "common 0000000000401000 x 8 c\nend\n",
+    "common 0000000000401000 8 x c\nend\n",
+    "got 000000000040200 16\nend\n",
+    "got 0000000000402000 x\nend\n",
+    "slot 000000000040200 value name f\nend\n",
+    "slot 0000000000402000 other name f\nend\n",
+    "slot 0000000000402000 value other f\nend\n",
+    "slot 0000000000402000 value local x 5\nend\n",
+    "slot 0000000000402000 value local 1 x\nend\n",
+    "symbol 000000000040100 strong 0 1 f\nend\n",
+    "symbol 0000000000401000 other 0 1 f\nend\n",
+    "symbol 0000000000401000 weak 0 x f\nend\n",
+    "End\n",
+];
+
+/// The number of the first of those lines after which the text has another fault.
+fn first_other(alloc: Global) -> Result<Option<usize>, Fail> {
+    for (number, line) in WRONG_LINES.iter().enumerate() {
+        let text = format!(in alloc; "ldmap 1\n{line}")?;
+        if wrong_line(alloc, text.as_bytes()) != 2 {
+            return Ok(Some(number));
+        }
+    }
+    Ok(None)
+}
+
+#[test]
+fn wrong_lines_are_found(rt: HostRuntime) -> Result<(), Fail> {
+    assert_eq!(rt; first_other(rt.alloc())?, None);
+    Ok(())
+}
+
+/// Texts, and the line of each at which it is no beginning of a map.
+static WRONG_TEXTS: [(&[u8], u64); 5] = [
+    (SAME_PLACE_TWICE, 4),
+    (ZERO_IN_FRONT, 3),
+    (b"", 1),
+    (b"ldmap 1\n", 2),
+    (b"ldmap 1\nend\n\n", 3),
+];
+
 #[test]
 fn finds_the_first_wrong_line(rt: HostRuntime) {
-    let without_newline = &ONE_OBJECT[..105];
-    let without_end = &ONE_OBJECT[..102];
-    for (text, line) in [
-        (SAME_PLACE_TWICE, 4),
-        (ZERO_IN_FRONT, 3),
-        (without_newline, 5),
-        (without_end, 5),
-        (b"".as_slice(), 1),
-        (b"ldmap 1\nend\n\n".as_slice(), 3),
-    ] {
+    for (text, line) in WRONG_TEXTS {
         let len = text.len();
         assert_eq!(rt; wrong_line(rt.alloc(), text), line, "of {len} bytes");
+    }
+}
+
+#[test]
+fn beginnings_are_wrong_at_their_last_line(rt: HostRuntime) {
+    // Without the last newline, and without the last line.
+    let beginning = View::new(ONE_OBJECT);
+    for len in [105, 102] {
+        assert_eq!(rt;
+            wrong_line(rt.alloc(), beginning.part(0, len)),
+            5,
+            "of {len} bytes"
+        );
     }
 }
 
