@@ -30,7 +30,8 @@ HasNoRightLink files words = (image map : List ℕ) → IsRightLink files words 
 abbrev pub IsTooWide : ℕ → Piece → Type 0
 IsTooWide base q = 2 ^ 46 < base + q.size
 
--- a layout of objects from a base on, whoever laid out: each piece has an address, and a GOT that is asked for has one
+-- a layout of objects from a base on, whoever laid out: each piece has some address, and there is a GOT just where one
+-- is asked for
 pub record IsLayout (base : ℕ) (objects : List LoadedObject) (w : Where) : Type 0 where
   pub base_is : w.base ≡ base
   pub placed_are : map (λ q. q.piece) w.placed ≡ pieces objects
@@ -40,7 +41,7 @@ pub record IsLayout (base : ℕ) (objects : List LoadedObject) (w : Where) : Typ
 abbrev pub IsElsewhere : SymbolOf → Piece → Type 0
 IsElsewhere s q = (q.object == s.object && q.section == s.entry.st_shndx) ≡ false
 
--- a symbol's value has no address in it: it is absolute, or its section isn't kept, and the value is 0
+-- a symbol's value has no address in it: it is absolute; or its section isn't kept, and then the value is 0
 abbrev pub HasNoAddress : List LoadedObject → SymbolOf → Type 0
 HasNoAddress objects s = (is_absolute s.entry ≡ true) ⊎ All (IsElsewhere s) (pieces objects)
 
@@ -71,7 +72,7 @@ IsSettled objects Z+A d = Unit {0}
 IsSettled objects S+A d = IfSome d (IsSettledMeaning objects)
 IsSettled objects _ d = ⊥
 
--- such a value doesn't fit its field in some layout, and so in none
+-- such a value fails to fit its field in one layout, the own one say, and so it fits in none
 pub record NeverFits (base : ℕ) (objects : List LoadedObject) (r : Relocation) : Type 0 where
   pub kind : Kind
   pub kind_is : relocation_kind r ≡ Some kind
