@@ -7,15 +7,19 @@ use ld_main::{Clause, Verdict, check};
 use std::alloc::Global;
 use std::test::Fail;
 
-/// What is changed: a byte of the object, or of the image, at an offset, or the map.
+/// What is changed: the words, a byte of the object, or of the image, at an offset, or the map.
 enum Change {
+    Words(&'static str),
     Object(usize, u8),
     Image(usize, u8),
     Map(&'static [u8]),
 }
 
-static ROWS: [(Clause, Change); 19] = [
+static ROWS: [(Clause, Change); 21] = [
+    (Clause::C1, Change::Words("a.o -o")),
     (Clause::C1, Change::Map(b"ldmap 2\nend\n")),
+    // No such file.
+    (Clause::C2, Change::Words("a.o b.o")),
     // e_machine; the path of the object.
     (Clause::C2, Change::Object(18, 3)),
     (
@@ -96,11 +100,22 @@ static ROWS: [(Clause, Change); 19] = [
     ),
 ];
 
+/// What the check says of a line of words, where `a.o` is the one file.
+fn verdict_by(
+    alloc: Global,
+    line: &str,
+    object: &[u8],
+    image: &[u8],
+    map: &[u8],
+) -> Result<Verdict, Fail> {
+    let files = one_file(alloc, "a.o", object)?;
+    let words = words_of(alloc, line)?;
+    Ok(check(alloc, &files, &words, image, map)?)
+}
+
 /// What the check of `a.o` says.
 pub fn verdict_of(alloc: Global, object: &[u8], image: &[u8], map: &[u8]) -> Result<Verdict, Fail> {
-    let files = one_file(alloc, "a.o", object)?;
-    let words = words_of(alloc, "a.o")?;
-    Ok(check(alloc, &files, &words, image, map)?)
+    verdict_by(alloc, "a.o", object, image, map)
 }
 
 /// What the check of the link of `a.o` says once it is changed.
@@ -108,12 +123,14 @@ fn changed(alloc: Global, change: &Change) -> Result<Verdict, Fail> {
     let mut object = Vec::from_slice(alloc, &OBJECT)?;
     let mut image = image(alloc)?;
     let mut map = MAP;
+    let mut line = "a.o";
     match change {
+        Change::Words(words) => line = words,
         Change::Object(at, byte) => *object.get_mut(*at).ok_or("the object")? = *byte,
         Change::Image(at, byte) => *image.get_mut(*at).ok_or("the image")? = *byte,
         Change::Map(text) => map = text,
     }
-    verdict_of(alloc, &object, &image, map)
+    verdict_by(alloc, line, &object, &image, map)
 }
 
 #[test]

@@ -4,7 +4,8 @@ use crate::linker_names::naming;
 use crate::objects::{NamedSymbol, Relocation, object, relocatable};
 use crate::one_object::{function, text_section};
 use crate::several_objects::{
-    R_64, R_PC32, add_file, has_bytes, in_text, link_one, link_two, linked, section, undefined,
+    Part, R_64, R_PC32, add_file, has_bytes, has_parts, in_text, link_one, link_two, linked,
+    section, undefined,
 };
 use elf_model::{InputFile, SHF_EXECINSTR, SHF_WRITE};
 use ld_main::{Clause, Output, Verdict};
@@ -184,22 +185,44 @@ static NO_GOT_MAP: &[u8] = b"ldmap 1\n\
     symbol 0000000000401000 strong 0 1 _start\n\
     end\n";
 
+const NAME: &str = "_GLOBAL_OFFSET_TABLE_";
+
+/// The link of a text whose object has the name undefined, with these relocations.
+fn linked_naming(alloc: Global, relocations: &[Relocation]) -> Result<Output, Fail> {
+    let user = naming(alloc, NAME, relocations)?;
+    Ok(link_one(alloc, &user)??)
+}
+
+static NAME_PARTS: [Part; 2] = [(0x1000, &[0, 0x10, 0, 0]), (0x2000, &[0; 8])];
+
 #[test]
 fn its_name_makes_a_table(rt: HostRuntime) -> Result<(), Fail> {
-    let name = "_GLOBAL_OFFSET_TABLE_";
-    let alloc = rt.alloc();
-    let user = naming(alloc, name, &[in_text(0, R_PC32, 2, 0)])?;
-    let alone = link_one(alloc, &user)??;
-    assert!(rt; has_bytes(&alone, 0x1000, &[0, 0x10, 0, 0]));
-    assert!(rt; has_bytes(&alone, 0x2000, &[0; 8]));
-    assert_eq!(rt; alone.image.len(), 0x2008);
-    assert!(rt; alone.map.as_slice() == NAME_MAP);
-    let definer = object(alloc, &[text_section()], &[function(name)])?;
-    let defined = link_two(alloc, &user, &definer)??;
-    assert!(rt; has_bytes(&defined, 0x1000, &[9, 0, 0, 0]));
-    assert_eq!(rt; defined.image.len(), 0x1012);
-    let unused = link_one(alloc, &naming(alloc, name, &[])?)??;
-    assert!(rt; unused.map.as_slice() == NO_GOT_MAP);
+    let output = linked_naming(rt.alloc(), &[in_text(0, R_PC32, 2, 0)])?;
+    assert!(rt; has_parts(&output, 0x2008, &NAME_PARTS));
+    assert!(rt; output.map.as_slice() == NAME_MAP);
+    Ok(())
+}
+
+#[test]
+fn its_name_without_a_relocation_makes_none(rt: HostRuntime) -> Result<(), Fail> {
+    let output = linked_naming(rt.alloc(), &[])?;
+    assert!(rt; output.map.as_slice() == NO_GOT_MAP);
+    Ok(())
+}
+
+/// The link of a text that uses the name, and of an object that defines it.
+fn linked_definer(alloc: Global) -> Result<Output, Fail> {
+    let user = naming(alloc, NAME, &[in_text(0, R_PC32, 2, 0)])?;
+    let definer = object(alloc, &[text_section()], &[function(NAME)])?;
+    Ok(link_two(alloc, &user, &definer)??)
+}
+
+static DEFINED_PARTS: [Part; 1] = [(0x1000, &[9, 0, 0, 0])];
+
+#[test]
+fn its_name_may_be_an_objects(rt: HostRuntime) -> Result<(), Fail> {
+    let output = linked_definer(rt.alloc())?;
+    assert!(rt; has_parts(&output, 0x1012, &DEFINED_PARTS));
     Ok(())
 }
 

@@ -4,7 +4,7 @@ use crate::objects::{Relocation, Section, object, relocatable};
 use crate::one_object::{function, text_section};
 use crate::several_objects::{R_64, add_file, has_bytes, link_one, linked, section, undefined};
 use elf_model::{InputFile, SHF_WRITE};
-use ld_main::{Clause, Verdict};
+use ld_main::{Clause, Output, Verdict};
 use std::alloc::Global;
 use std::test::Fail;
 
@@ -77,30 +77,46 @@ static ORDERS: [Row; 3] = [
     ),
 ];
 
+/// The paths of the objects with an array, and the bytes of these.
+static ARRAYS: [(&str, u8); 4] = [("0.o", 1), ("1.o", 2), ("2.o", 3), ("3.o", 4)];
+
+/// Objects with an array each, and one that holds where the arrays begin and end.
+fn files_of(alloc: Global, names: &[&'static str; 4]) -> Result<Vec<InputFile>, Fail> {
+    let mut files = Vec::new(alloc);
+    for ((path, byte), name) in ARRAYS.iter().zip(names) {
+        let object = with_array(alloc, name, *byte, *byte == 1)?;
+        add_file(&mut files, path, &object)?;
+    }
+    add_file(&mut files, "4.o", &bounds(alloc)?)?;
+    Ok(files)
+}
+
+/// Their link.
+fn linked_arrays(alloc: Global, names: &[&'static str; 4]) -> Result<Output, Fail> {
+    let files = files_of(alloc, names)?;
+    Ok(linked(alloc, &files, "0.o 1.o 2.o 3.o 4.o")??)
+}
+
+/// Where the arrays begin and end: 0x402000 and 0x402020.
+static ENDS: [u8; 16] = [
+    0, 0x20, 0x40, 0, 0, 0, 0, 0, 0x20, 0x20, 0x40, 0, 0, 0, 0, 0,
+];
+
+/// Whether the arrays stand in an order of their bytes, and the ends behind them.
+fn is_ordered(output: &Output, order: &[u8; 4]) -> bool {
+    for (k, byte) in order.iter().enumerate() {
+        if !has_bytes(output, 0x2000 + 8 * k, &[*byte; 8]) {
+            return false;
+        }
+    }
+    has_bytes(output, 0x2020, &ENDS)
+}
+
 #[test]
 fn numbers_come_first(rt: HostRuntime) -> Result<(), Fail> {
-    let alloc = rt.alloc();
     for (names, order) in &ORDERS {
-        let mut files: Vec<InputFile> = Vec::new(alloc);
-        for (i, name) in names.iter().enumerate() {
-            let path = format!(in alloc; "{i}.o")?;
-            let byte = u8::try_from(i)? + 1;
-            add_file(
-                &mut files,
-                path.as_str(),
-                &with_array(alloc, name, byte, i == 0)?,
-            )?;
-        }
-        add_file(&mut files, "4.o", &bounds(alloc)?)?;
-        let output = linked(alloc, &files, "0.o 1.o 2.o 3.o 4.o")??;
-        for (k, byte) in order.iter().enumerate() {
-            assert!(rt;
-                has_bytes(&output, 0x2000 + 8 * k, &[*byte; 8]),
-                "{names:?} at {k}"
-            );
-        }
-        let ends = [0, 0x20, 0x40, 0, 0, 0, 0, 0, 0x20, 0x20, 0x40, 0];
-        assert!(rt; has_bytes(&output, 0x2020, &ends), "{names:?}");
+        let output = linked_arrays(rt.alloc(), names)?;
+        assert!(rt; is_ordered(&output, order), "{names:?}");
     }
     Ok(())
 }

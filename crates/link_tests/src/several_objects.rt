@@ -157,6 +157,17 @@ pub fn has_bytes(output: &Output, from: usize, bytes: &[u8]) -> bool {
     output.image.get(from..to) == Some(bytes)
 }
 
+/// Bytes of an image at offsets.
+pub type Part = (usize, &'static [u8]);
+
+/// Whether an image has a length, and bytes at offsets.
+pub fn has_parts(output: &Output, len: usize, parts: &[Part]) -> bool {
+    output.image.len() == len
+        && parts
+            .iter()
+            .all(|(at, bytes)| has_bytes(output, *at, bytes))
+}
+
 /// An object that calls `f`.
 fn caller(alloc: Global) -> Result<Vec<u8>, Fail> {
     let call = [0xe8, 0, 0, 0, 0, 0xb8, 0x3c, 0, 0, 0, 0x31, 0xff, 0x0f, 5];

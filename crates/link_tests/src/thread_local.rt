@@ -4,10 +4,10 @@ use crate::clauses::verdict_of;
 use crate::objects::{NamedSymbol, Relocation, Section, object, relocatable};
 use crate::one_object::{function, text_section};
 use crate::several_objects::{
-    R_PC32, bss, has_bytes, in_text, link_one, linked_one, section, section_symbol,
+    Part, R_PC32, bss, has_bytes, has_parts, in_text, link_one, linked_one, section, section_symbol,
 };
 use elf_model::{LinkError, SHF_ALLOC, SHF_EXECINSTR, SHF_TLS, SHF_WRITE};
-use ld_main::{Clause, Verdict};
+use ld_main::{Clause, Output, Verdict};
 use std::alloc::Global;
 use std::test::Fail;
 
@@ -253,28 +253,42 @@ static ZEROS_AND_DATA_MAP: &[u8] = b"ldmap 1\n\
     symbol 0000000000401000 strong 0 1 _start\n\
     end\n";
 
+/// The link of a text, of zeros of threads and of nothing more.
+fn linked_zeros(alloc: Global) -> Result<Output, Fail> {
+    let sections = [text_section(), thread_zeros(8, 8)];
+    let bytes = object(alloc, &sections, &[function("_start")])?;
+    Ok(link_one(alloc, &bytes)??)
+}
+
+/// p_filesz and p_memsz of the one segment in front of the code.
+static ZEROS_PARTS: [Part; 1] = [(0x60, &[0x20, 1, 0, 0, 0, 0, 0, 0, 0x20, 1, 0, 0])];
+
 #[test]
 fn zeros_alone_make_no_segment(rt: HostRuntime) -> Result<(), Fail> {
-    let alloc = rt.alloc();
-    let bytes = object(
-        alloc,
-        &[text_section(), thread_zeros(8, 8)],
-        &[function("_start")],
-    )?;
-    let alone = link_one(alloc, &bytes)??;
-    assert_eq!(rt; alone.image.len(), 4105);
-    assert!(rt; has_bytes(&alone, 0x60, &[0x20, 1, 0, 0, 0, 0, 0, 0, 0x20, 1, 0, 0]));
-    assert!(rt; alone.map.as_slice() == ZEROS_MAP);
+    let output = linked_zeros(rt.alloc())?;
+    assert!(rt; has_parts(&output, 4105, &ZEROS_PARTS));
+    assert!(rt; output.map.as_slice() == ZEROS_MAP);
+    Ok(())
+}
+
+/// The same with data of 8 bytes.
+fn linked_zeros_and_data(alloc: Global) -> Result<Output, Fail> {
     let sections = [
         text_section(),
         thread_zeros(8, 8),
         section(".data", SHF_WRITE, 1, &[7; 8]),
     ];
     let bytes = object(alloc, &sections, &[function("_start")])?;
-    let beside = link_one(alloc, &bytes)??;
-    assert!(rt; beside.map.as_slice() == ZEROS_AND_DATA_MAP);
-    assert!(rt; has_bytes(&beside, 0x2000, &[7; 8]));
-    assert_eq!(rt; beside.image.len(), 0x2008);
+    Ok(link_one(alloc, &bytes)??)
+}
+
+static DATA_PARTS: [Part; 1] = [(0x2000, &[7; 8])];
+
+#[test]
+fn zeros_of_threads_push_no_data(rt: HostRuntime) -> Result<(), Fail> {
+    let output = linked_zeros_and_data(rt.alloc())?;
+    assert!(rt; has_parts(&output, 0x2008, &DATA_PARTS));
+    assert!(rt; output.map.as_slice() == ZEROS_AND_DATA_MAP);
     Ok(())
 }
 

@@ -65,9 +65,10 @@ static KINDS: [KindRow; 14] = [
     (32, 0, &[8, 0, 0, 0]),
 ];
 
-fn is_as_wanted(answer: &Result<Output, LinkError>, bytes: &[u8]) -> bool {
+/// Whether a link's image has bytes at an offset; where there are none, whether a value doesn't fit.
+fn is_as_wanted(answer: &Result<Output, LinkError>, at: usize, bytes: &[u8]) -> bool {
     match answer {
-        Ok(output) => !bytes.is_empty() && has_bytes(output, 0x1000, bytes),
+        Ok(output) => !bytes.is_empty() && has_bytes(output, at, bytes),
         Err(LinkError::Overflow) => bytes.is_empty(),
         Err(_) => false,
     }
@@ -78,22 +79,37 @@ fn plain_kinds_have_their_values(rt: HostRuntime) -> Result<(), Fail> {
     for (kind, value, bytes) in KINDS {
         let object = text_naming(rt.alloc(), absolute("f", value), in_text(0, kind, 2, 0))?;
         let answer = link_one(rt.alloc(), &object)?;
-        assert!(rt; is_as_wanted(&answer, bytes), "kind {kind} of {value}");
+        assert!(rt;
+            is_as_wanted(&answer, 0x1000, bytes),
+            "kind {kind} of {value}"
+        );
     }
     Ok(())
 }
 
+/// What the link of a weak name without a definition answers, which a relocation of the text uses.
+fn weakly_linked(
+    alloc: Global,
+    relocation: Relocation,
+    line: &str,
+) -> Result<Result<Output, LinkError>, Fail> {
+    let object = text_naming(alloc, weak("f", 0), relocation)?;
+    linked_one(alloc, &object, line)
+}
+
+/// Relocations by their offset, kind and addend, the words, and the bytes of the field, or that the value doesn't fit.
+static WEAK_ROWS: [(u64, u32, i64, &str, &[u8]); 3] = [
+    (1, 1, 5, "a.o", &[5, 0, 0, 0, 0, 0, 0, 0]),
+    (1, 2, -4, "a.o", &[0xfb, 0xef, 0xbf, 0xff]),
+    (1, 2, -4, "a.o -Ttext-segment=0x100000000", &[]),
+];
+
 #[test]
 fn a_weak_name_without_a_definition_is_zero(rt: HostRuntime) -> Result<(), Fail> {
-    let alloc = rt.alloc();
-    let absolute = text_naming(alloc, weak("f", 0), in_text(0, 1, 2, 5))?;
-    let absolute = link_one(alloc, &absolute)??;
-    assert!(rt; has_bytes(&absolute, 0x1000, &[5, 0, 0, 0, 0, 0, 0, 0]));
-    let relative = text_naming(alloc, weak("f", 0), in_text(1, 2, 2, -4))?;
-    let near = link_one(alloc, &relative)??;
-    assert!(rt; has_bytes(&near, 0x1001, &[0xfb, 0xef, 0xbf, 0xff]));
-    let far = linked_one(alloc, &relative, "a.o -Ttext-segment=0x100000000")?;
-    assert!(rt; matches!(&far, Err(LinkError::Overflow)));
+    for (offset, kind, addend, line, bytes) in WEAK_ROWS {
+        let answer = weakly_linked(rt.alloc(), in_text(offset, kind, 2, addend), line)?;
+        assert!(rt; is_as_wanted(&answer, 0x1001, bytes), "kind {kind}: {line}");
+    }
     Ok(())
 }
 
