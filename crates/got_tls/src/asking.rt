@@ -13,7 +13,7 @@ use elf_model::{Rela, SectionHeader};
 use elf_read::Object;
 use indexmap::IndexSet;
 use resolve::Resolved;
-use search::Loaded;
+use search::LoadedObject;
 use std::alloc::{AllocError, Global};
 
 /// What was asked for: whether a GOT, and its slots in the order of first request.
@@ -27,9 +27,9 @@ pub struct Asked<'a> {
 /// whether the object names the GOT at all.
 fn add_entry<'a>(
     asked: &mut Asked<'a>,
-    resolved: &Resolved<'_, 'a>,
+    resolved: &Resolved<'a>,
     number: usize,
-    loaded: &Loaded<'a>,
+    loaded: &LoadedObject<'a>,
     named: bool,
     target: u64,
     entry: &Rela,
@@ -47,9 +47,9 @@ fn add_entry<'a>(
 /// Takes in what entries ask for which relocate the section `target` of the object that has a number.
 fn add_entries<'a>(
     asked: &mut Asked<'a>,
-    resolved: &Resolved<'_, 'a>,
+    resolved: &Resolved<'a>,
     number: usize,
-    loaded: &Loaded<'a>,
+    loaded: &LoadedObject<'a>,
     named: bool,
     target: u64,
     entries: &[Rela],
@@ -82,9 +82,9 @@ fn entries_of<'o>(object: &'o Object<'_>, i: usize, header: &SectionHeader) -> &
 /// Takes in what the entries of RELA section `i` ask for, which has the header.
 fn add_section<'a>(
     asked: &mut Asked<'a>,
-    resolved: &Resolved<'_, 'a>,
+    resolved: &Resolved<'a>,
     number: usize,
-    loaded: &Loaded<'a>,
+    loaded: &LoadedObject<'a>,
     named: bool,
     i: usize,
     header: &SectionHeader,
@@ -109,9 +109,9 @@ fn add_section<'a>(
 /// Takes in what the kept relocations of the object that has a number ask for.
 fn add_object<'a>(
     asked: &mut Asked<'a>,
-    resolved: &Resolved<'_, 'a>,
+    resolved: &Resolved<'a>,
     number: usize,
-    loaded: &Loaded<'a>,
+    loaded: &LoadedObject<'a>,
 ) -> Result<(), AllocError>
     ensures { OnOk result (wants asked.new ≡ with_relocations resolved.now (wants asked.old) (relocations_from number (loaded_view loaded.now))) }
 {
@@ -130,8 +130,8 @@ fn add_object<'a>(
 /// What the kept relocations of objects ask for.
 pub fn asked_by<'a>(
     alloc: Global,
-    objects: &[Loaded<'a>],
-    resolved: &Resolved<'_, 'a>,
+    objects: &[LoadedObject<'a>],
+    resolved: &Resolved<'a>,
 ) -> Result<Asked<'a>, AllocError>
     requires { resolved.now ≡ loaded_views objects.now }
     ensures { IfOk result (λ a. wants a ≡ with_relocations (loaded_views objects.now) nothing (relocations (loaded_views objects.now))) }

@@ -14,7 +14,7 @@ use crate::slot_table::Slot;
 use elf_model::{ObjectId, Rela, STB_LOCAL, SymbolRef, Target};
 use elf_read::Object;
 use resolve::Resolved;
-use search::Loaded;
+use search::LoadedObject;
 
 /// Whether symbol `j` is LOCAL, as one that there isn't is taken to be.
 fn is_local(object: &Object<'_>, j: usize) -> bool
@@ -38,7 +38,7 @@ fn name_of<'a>(object: &Object<'a>, j: usize) -> &'a [u8]
 
 /// The target of a relocation that names symbol `j` of the object that has a number: the symbol itself where that is
 /// LOCAL, else its name.
-pub fn target_of<'a>(number: usize, loaded: &Loaded<'a>, j: usize) -> Target<'a>
+pub fn target_of<'a>(number: usize, loaded: &LoadedObject<'a>, j: usize) -> Target<'a>
     ensures { target_view result ≡ wanted.target_of (symbol_at number (loaded_view loaded.now) j) }
 {
     if is_local(&loaded.object, j) {
@@ -51,7 +51,7 @@ pub fn target_of<'a>(number: usize, loaded: &Loaded<'a>, j: usize) -> Target<'a>
 }
 
 /// The slot that an entry of the object that has a number asks for; None where it asks for none.
-pub fn slot_of<'a>(number: usize, loaded: &Loaded<'a>, entry: &Rela) -> Option<Slot<'a>>
+pub fn slot_of<'a>(number: usize, loaded: &LoadedObject<'a>, entry: &Rela) -> Option<Slot<'a>>
     ensures { option_map slot_view result ≡ request_at number (loaded_view loaded.now) entry.now }
 {
     let kind = slot_asked(ask_of(entry.kind()))?;
@@ -85,9 +85,9 @@ pub fn tells_of_got(object: &Object<'_>) -> bool
 /// Whether symbol `j` isn't LOCAL and has the GOT's name, and no object defines that; `named` tells whether the object has
 /// such a symbol at all.
 fn names_got(
-    resolved: &Resolved<'_, '_>,
+    resolved: &Resolved<'_>,
     number: usize,
-    loaded: &Loaded<'_>,
+    loaded: &LoadedObject<'_>,
     named: bool,
     j: usize,
 ) -> bool
@@ -106,9 +106,9 @@ fn names_got(
 /// Whether an entry of the object that has a number, which relocates the section `target`, asks for a GOT; `named` tells
 /// whether the object names the GOT at all.
 pub fn asks_for_got(
-    resolved: &Resolved<'_, '_>,
+    resolved: &Resolved<'_>,
     number: usize,
-    loaded: &Loaded<'_>,
+    loaded: &LoadedObject<'_>,
     named: bool,
     target: u64,
     entry: &Rela,

@@ -13,7 +13,7 @@ use layout::Placement;
 /// The block of the pieces with SHF_TLS, which each thread gets a copy of: from their least address to their greatest
 /// end, with their greatest alignment. None where there are no such pieces.
 #[tactic(auto, using(crate::proofs::Blocks::own_block_law, crate::proofs::Blocks::block_some, crate::proofs::Blocks::block_low, crate::proofs::Blocks::block_aligned))]
-pub fn tls_block(placement: &Placement<'_, '_>) -> Option<TlsBlock>
+pub fn tls_block(placement: &Placement<'_>) -> Option<TlsBlock>
     ensures block { result ≡ thread_block (own_placed placement.now.base placement.now.objects) }
     ensures listed { AreLawfulKinds placement.now.objects → result ≡ thread_block (own_in_load_order placement.now.base placement.now.objects) }
     ensures law { IfSome result (IsBlockOf (thread_places (own_placed placement.now.base placement.now.objects))) }

@@ -6,7 +6,7 @@ ghost use Rattle.elf_model.specs.Slots as wanted;
 use crate::asking::asked_by;
 use crate::slot_table::Slots;
 use resolve::Resolved;
-use search::Loaded;
+use search::LoadedObject;
 use std::alloc::{AllocError, Global};
 
 /// The GOT's size and its slots: those that the kept relocations of the objects ask for, each once, in the order of first
@@ -18,8 +18,8 @@ use std::alloc::{AllocError, Global};
 #[tactic(auto, using(crate::proofs::AskedOnce::slots_are, crate::proofs::AskedOnce::got_is))]
 pub fn slots<'a>(
     alloc: Global,
-    objects: &[Loaded<'a>],
-    resolved: &Resolved<'_, 'a>,
+    objects: &[LoadedObject<'a>],
+    resolved: &Resolved<'a>,
 ) -> Result<Slots<'a>, AllocError>
     requires { resolved.now ≡ loaded_views objects.now }
     ensures slots { IfOk result (λ s. s.slots ≡ wanted.slots (loaded_views objects.now)) }

@@ -15,8 +15,8 @@ use std::alloc::AllocError;
 /// What the pieces of a layout hold: the values of relocations, and those of the slots of the GOT, in their order.
 #[derive(Clone, Copy)]
 pub struct Contents<'c, 'p, 'a> {
-    pub placement: &'c Placement<'p, 'a>,
-    pub patches: &'c Patches<'p, 'a>,
+    pub placement: &'c Placement<'a>,
+    pub patches: &'c Patches<'a>,
     pub slots: &'c [u64],
 }
 
@@ -30,7 +30,7 @@ fn has_bytes(place: &Place<'_>) -> bool
 /// Puts the bytes of a section, with the values of its relocations over their fields.
 fn put_section(
     out: &mut Vec<u8>,
-    patches: &Patches<'_, '_>,
+    patches: &Patches<'_>,
     piece: &Piece<'_>,
 ) -> Result<(), AllocError>
     requires other { is_got_piece patches.now.objects (piece_view piece.now) ≡ false }

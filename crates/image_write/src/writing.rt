@@ -34,8 +34,8 @@ fn file_end(segments: &[ProgramHeader]) -> u64
 /// GOT with the values of its slots, and fill between them.
 pub fn image<'c, 'p, 'a>(
     alloc: Global,
-    placement: &'c Placement<'p, 'a>,
-    patches: &'c Patches<'p, 'a>,
+    placement: &'c Placement<'a>,
+    patches: &'c Patches<'a>,
     slots: &'c [u64],
     entry: u64,
 ) -> Result<Vec<u8>, AllocError>

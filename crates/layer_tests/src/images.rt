@@ -11,12 +11,12 @@ use image_write::image;
 use layout::{Placement, kinds, place};
 use relocate::{Patches, slot_values};
 use resolve::resolve;
-use search::Loaded;
+use search::LoadedObject;
 use std::alloc::Global;
 use std::test::Fail;
 
 /// The image of loaded objects from 0x400000 on, which is entered at an address.
-fn image_of(alloc: Global, objects: &[Loaded<'_>], entry: u64) -> Result<Vec<u8>, Fail>
+fn image_of(alloc: Global, objects: &[LoadedObject<'_>], entry: u64) -> Result<Vec<u8>, Fail>
     requires { AreObjects (loaded_views objects.now) }
 {
     kinds(objects)?;

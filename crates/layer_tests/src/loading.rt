@@ -2,7 +2,7 @@
 use crate::objects::{DATA, TEXT, object_of};
 use command::read_words;
 use elf_model::{CmdFault, InputFile, ObjFault};
-use search::{Loaded, SearchFault, load};
+use search::{LoadedObject, SearchFault, load};
 use std::alloc::{AllocError, Global};
 use std::test::Fail;
 
@@ -34,21 +34,21 @@ pub fn load_words<'a>(
     alloc: Global,
     words: &'a [String],
     files: &'a [InputFile],
-) -> Result<Result<Vec<Loaded<'a>>, SearchFault>, CmdFault> {
+) -> Result<Result<Vec<LoadedObject<'a>>, SearchFault>, CmdFault> {
     let plan = read_words(alloc, words)?;
     let objects = load(alloc, &plan, files);
     Ok(objects)
 }
 
 /// Whether an object is of an item, of a path, and has a number of sections.
-fn is_loaded(loaded: &Loaded<'_>, item: u64, path: &str, sections: usize) -> bool {
+fn is_loaded(loaded: &LoadedObject<'_>, item: u64, path: &str, sections: usize) -> bool {
     loaded.item == item && loaded.path == path && loaded.object.sections().len() == sections
 }
 
 /// The paths and the numbers of sections of objects that are loaded, as items in order.
 static LOADED: [(&str, usize); 3] = [("b.o", 4), ("a.o", 3), ("b.o", 4)];
 
-fn are_loaded(objects: &[Loaded<'_>]) -> bool {
+fn are_loaded(objects: &[LoadedObject<'_>]) -> bool {
     objects.len() == LOADED.len()
         && objects.iter().zip(&LOADED).enumerate().all(|(i, (loaded, row))| is_loaded(
             loaded, i as u64, row.0, row.1,

@@ -1,7 +1,7 @@
 //! What names and symbols mean.
 use crate::objects::{DATA, F_NAME, G_NAME, START_NAME, SYMBOLS, TEXT, load_both, object_with};
 use elf_model::{SHF_ALLOC, SHF_TLS, SHF_WRITE, SHN_COMMON, SectionHeader, Symbol};
-use resolve::{Block, Meaning, ResolveFault, Resolved, SymbolOf, resolve, resolve_over};
+use resolve::{Block, Definition, ResolveFault, Resolved, SymbolOf, resolve, resolve_over};
 use std::alloc::{AllocError, Global};
 use std::process::Abort;
 use std::test::Fail;
@@ -43,11 +43,11 @@ fn numbers(symbol: Option<SymbolOf<'_>>) -> Option<(u64, u64)> {
 }
 
 /// Those of the symbol or of the block that is meant; None for the linker's names.
-fn meant_numbers(meaning: Option<Meaning<'_>>) -> Option<(u64, u64)> {
+fn meant_numbers(meaning: Option<Definition<'_>>) -> Option<(u64, u64)> {
     match meaning? {
-        Meaning::Symbol(symbol) => numbers(Some(symbol)),
-        Meaning::Common(block) => Some((block.object, block.number)),
-        Meaning::Linker(_, _) => None,
+        Definition::Symbol(symbol) => numbers(Some(symbol)),
+        Definition::Common(block) => Some((block.object, block.number)),
+        Definition::Linker(_, _) => None,
     }
 }
 
@@ -57,7 +57,7 @@ fn assert_names(rt: &impl Abort, definitions: &[SymbolOf<'_>]) {
     assert!(rt; definitions[1].name == b"g".as_slice());
 }
 
-fn assert_definitions(rt: &impl Abort, resolved: &Resolved<'_, '_>) {
+fn assert_definitions(rt: &impl Abort, resolved: &Resolved<'_>) {
     assert_names(rt, resolved.definitions());
     assert!(rt; numbers(resolved.chosen(b"f")) == Some((1, 2)));
     assert!(rt; resolved.chosen(b"h").is_none());
@@ -108,7 +108,7 @@ fn names_mean_weak_definitions_where_none_is_strong(rt: HostRuntime) -> Result<(
     Ok(())
 }
 
-fn assert_entry(rt: &impl Abort, resolved: &Resolved<'_, '_>) {
+fn assert_entry(rt: &impl Abort, resolved: &Resolved<'_>) {
     assert!(rt; meant_numbers(resolved.entry(b"_start")) == Some((0, 1)));
     assert!(rt; resolved.entry(b"f").is_none());
     assert!(rt; resolved.entry(b"g").is_none());
@@ -211,7 +211,7 @@ fn is_block(block: &Block<'_>, row: &BlockRow) -> bool {
         && block.name == name
 }
 
-fn are_blocks(resolved: &Resolved<'_, '_>, rows: &[BlockRow]) -> bool {
+fn are_blocks(resolved: &Resolved<'_>, rows: &[BlockRow]) -> bool {
     let blocks = resolved.blocks();
     blocks.len() == rows.len()
         && blocks

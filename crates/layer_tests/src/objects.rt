@@ -11,7 +11,7 @@ use elf_model::{
     SHT_PROGBITS, SHT_RELA, SHT_STRTAB, SHT_SYMTAB, SectionHeader, Symbol,
 };
 use elf_read::Object;
-use search::Loaded;
+use search::LoadedObject;
 use std::alloc::{AllocError, Global};
 use std::test::Fail;
 
@@ -216,12 +216,12 @@ pub fn object_of(alloc: Global, sections: &[SectionHeader]) -> Result<Vec<u8>, A
     object_with(alloc, sections, &[], &[])
 }
 
-fn load<'a>(alloc: Global, bytes: &'a [u8]) -> Result<Loaded<'a>, Fail>
+fn load<'a>(alloc: Global, bytes: &'a [u8]) -> Result<LoadedObject<'a>, Fail>
     ensures { IfOk result (λ l. IsObject l.object) }
 {
     let object = Object::read(alloc, View::new(bytes))?;
     let dropped = Groups::new(alloc).admit(&object)?;
-    Ok(Loaded {
+    Ok(LoadedObject {
         object,
         item: 0,
         offset: 0,
@@ -231,7 +231,7 @@ fn load<'a>(alloc: Global, bytes: &'a [u8]) -> Result<Loaded<'a>, Fail>
 }
 
 /// The object of a file, alone.
-pub fn load_alone<'a>(alloc: Global, bytes: &'a [u8]) -> Result<Vec<Loaded<'a>>, Fail>
+pub fn load_alone<'a>(alloc: Global, bytes: &'a [u8]) -> Result<Vec<LoadedObject<'a>>, Fail>
     ensures { IfOk result (λ v. AreObjects (loaded_views v.items)) }
 {
     let object = load(alloc, bytes)?;
@@ -241,7 +241,7 @@ pub fn load_alone<'a>(alloc: Global, bytes: &'a [u8]) -> Result<Vec<Loaded<'a>>,
 }
 
 /// The objects of two files.
-pub fn load_both<'a>(alloc: Global, a: &'a [u8], b: &'a [u8]) -> Result<Vec<Loaded<'a>>, Fail>
+pub fn load_both<'a>(alloc: Global, a: &'a [u8], b: &'a [u8]) -> Result<Vec<LoadedObject<'a>>, Fail>
     ensures { IfOk result (λ v. AreObjects (loaded_views v.items)) }
 {
     let mut objects = load_alone(alloc, a)?;

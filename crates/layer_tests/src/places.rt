@@ -14,7 +14,7 @@ use elf_model::{
 use got_tls::slots;
 use layout::{LayoutFault, Place, Placement, kinds, place};
 use resolve::{output_name, resolve};
-use search::Loaded;
+use search::LoadedObject;
 use std::alloc::{AllocError, Global};
 use std::test::Fail;
 
@@ -29,11 +29,11 @@ struct Summary {
 }
 
 /// Whether a layout tells the address of a place by its numbers.
-fn tells(placement: &Placement<'_, '_>, place: &Place<'_>) -> bool {
+fn tells(placement: &Placement<'_>, place: &Place<'_>) -> bool {
     placement.address(place.piece.object as usize, place.piece.section as usize) == Some(place.at)
 }
 
-fn summary_of(alloc: Global, placement: &Placement<'_, '_>) -> Result<Summary, AllocError> {
+fn summary_of(alloc: Global, placement: &Placement<'_>) -> Result<Summary, AllocError> {
     let mut places = Vec::new(alloc);
     for place in placement.places() {
         places.push((place.piece.object, place.piece.section, place.at))?;
@@ -201,14 +201,14 @@ static BOUNDS: [(&[u8], Bound, u64); 6] = [
 ];
 
 /// The number of the first of those bounds that has another value.
-fn first_wrong(placement: &Placement<'_, '_>) -> Option<usize>
+fn first_wrong(placement: &Placement<'_>) -> Option<usize>
     requires { AreLawfulKinds placement.now.objects }
 {
     BOUNDS.iter().position(|(name, bound, value)| placement.bound(name, *bound) != *value)
 }
 
 /// That of the layout of objects.
-fn first_wrong_in(alloc: Global, objects: &[Loaded<'_>]) -> Result<Option<usize>, Fail>
+fn first_wrong_in(alloc: Global, objects: &[LoadedObject<'_>]) -> Result<Option<usize>, Fail>
     requires { AreObjects (loaded_views objects.now) }
 {
     kinds(objects)?;

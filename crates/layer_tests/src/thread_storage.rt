@@ -9,12 +9,12 @@ use elf_model::{Rela, SHF_ALLOC, SHF_TLS, SHF_WRITE, SectionHeader};
 use got_tls::{TlsBlock, slots, tls_block, tp_offset};
 use layout::{Placement, place};
 use resolve::resolve;
-use search::Loaded;
+use search::LoadedObject;
 use std::alloc::Global;
 use std::test::Fail;
 
 /// The GOT's size and the number of its slots.
-fn got_of(alloc: Global, objects: &[Loaded<'_>]) -> Result<(u64, usize), Fail> {
+fn got_of(alloc: Global, objects: &[LoadedObject<'_>]) -> Result<(u64, usize), Fail> {
     let resolved = resolve(alloc, objects)?;
     let found = slots(alloc, objects, &resolved)?;
     Ok((found.got(), found.slots().len()))

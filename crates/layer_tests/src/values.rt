@@ -20,7 +20,7 @@ use relocate::{
     Kind, PatchTable, Patches, RelocFault, Terms, fits, linker_lines, patches, references, value,
 };
 use resolve::{Resolved, resolve};
-use search::Loaded;
+use search::LoadedObject;
 use std::alloc::{AllocError, Global};
 use std::test::Fail;
 
@@ -85,7 +85,7 @@ fn object_of(alloc: Global, rodata: Rela, data_: Rela) -> Result<Vec<u8>, AllocE
 }
 
 /// The input bytes of a section of the first object.
-fn input_of<'a>(objects: &[Loaded<'a>], number: usize) -> Option<&'a [u8]>
+fn input_of<'a>(objects: &[LoadedObject<'a>], number: usize) -> Option<&'a [u8]>
     ensures { IfSome result (λ bytes. length bytes.now ≡ (object_file.section (sections_of_object (slice_get (loaded_views objects.now) 0)) number).sh_size) }
 {
     let first = objects.first()?;
@@ -101,9 +101,9 @@ fn wanted(alloc: Global, file: &[u8], number: usize) -> Result<Vec<u8>, Fail> {
 /// Judges the relocations of objects, and makes their patches where these are laid out.
 pub fn judged_patches<'a>(
     alloc: Global,
-    objects: &[Loaded<'a>],
-    resolved: &Resolved<'_, 'a>,
-    placement: &Placement<'_, 'a>,
+    objects: &[LoadedObject<'a>],
+    resolved: &Resolved<'a>,
+    placement: &Placement<'a>,
     slots: &Slots<'a>,
 ) -> Result<PatchTable, RelocFault>
     requires resolved { resolved.now ≡ loaded_views objects.now }
@@ -117,7 +117,7 @@ pub fn judged_patches<'a>(
 }
 
 /// The bytes that are wanted of a section of the first object, laid out from 0x400000 on.
-fn applied(alloc: Global, objects: &[Loaded<'_>], number: usize) -> Result<Vec<u8>, Fail>
+fn applied(alloc: Global, objects: &[LoadedObject<'_>], number: usize) -> Result<Vec<u8>, Fail>
     requires { AreObjects (loaded_views objects.now) }
 {
     let input = input_of(objects, number).ok_or("no section's bytes")?;
@@ -331,7 +331,7 @@ fn linkers_names_in_use_have_lines(rt: HostRuntime) -> Result<(), Fail> {
 }
 
 /// What the relocations of objects are refused for, or `lawful`.
-fn refusal(alloc: Global, objects: &[Loaded<'_>]) -> Result<String, Fail>
+fn refusal(alloc: Global, objects: &[LoadedObject<'_>]) -> Result<String, Fail>
     requires { AreObjects (loaded_views objects.now) }
 {
     kinds(objects)?;

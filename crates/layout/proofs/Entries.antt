@@ -9,7 +9,7 @@ use Rattle.std.proofs.lemmas.List.{append_assoc, get_or-map, length-map}
 use Rattle.elf_model.specs.ObjectFile.{sections}
 use Rattle.elf_model.specs.Placement.{Placed, is_of_section}
 use Rattle.search.specs.Views.{loaded_views}
-use Rattle.search.specs.declared.loading.Loaded.{Loaded}
+use Rattle.search.specs.declared.loaded.LoadedObject as code
 use Rattle.layout.specs.Addresses.{HasEntry, entry, entry_in, section_counts, shape_of}
 use Rattle.layout.specs.PlaceViews.{place_view, place_views}
 use Rattle.layout.specs.declared.running.Place.{Place}
@@ -138,15 +138,15 @@ empty_more table new row n grown empty none o s = ap (λ (t : List (Vec (Option 
     at (r ∷ t) (suc k) h = at t k (λ i j. h (suc i) j)
 
 pub shape_more :
-    (table new : List (Vec (Option ℕ))) (n : ℕ) (objects : List Loaded) (i : ℕ) (d : Loaded) (whole : List ℕ) →
+    (table new : List (Vec (Option ℕ))) (n : ℕ) (objects : List code.LoadedObject) (i : ℕ) (d : code.LoadedObject) (whole : List ℕ) →
     i < length objects → d ≡ get_or objects i d → shape_of new ≡ shape_of table ++ n ∷ [] → n ≡ length (sections d.object) →
     shape_of table ++ section_counts (loaded_views (drop i objects)) ≡ whole →
     shape_of new ++ section_counts (loaded_views (drop (i + 1) objects)) ≡ whole
 shape_more table new n objects i d whole within is grown count so_far =
     let rest : List ℕ = section_counts (loaded_views (drop (i + 1) objects)) in
     let front : section_counts (loaded_views (drop i objects)) ≡ length (sections d.object) ∷ rest =
-    ap (λ (os : List Loaded). section_counts (loaded_views os)) (rest_at objects i d within)
-    ∙ ap (λ (o : Loaded). length (sections o.object) ∷ rest) (sym is) in
+    ap (λ (os : List code.LoadedObject). section_counts (loaded_views os)) (rest_at objects i d within)
+    ∙ ap (λ (o : code.LoadedObject). length (sections o.object) ∷ rest) (sym is) in
     ap (λ (ns : List ℕ). ns ++ rest) grown
     ∙ (append_assoc (shape_of table) (n ∷ []) rest
     ∙ (ap (λ (m : ℕ). shape_of table ++ m ∷ rest) count

@@ -11,7 +11,7 @@ use Rattle.elf_model.proofs.Rests.{Left, rest_at}
 use Rattle.elf_model.specs.Pieces.{IsLawfulKind, Piece, is_kept, piece_of, pieces_from, pieces_of}
 use Rattle.elf_model.specs.declared.records.SectionHeader.{SectionHeader}
 use Rattle.search.specs.Views.{loaded_view, loaded_views}
-use Rattle.search.specs.declared.loading.Loaded.{Loaded}
+use Rattle.search.specs.declared.loaded.LoadedObject as code
 use Rattle.layout.specs.Kinds.{AreLawfulFrom, HasLawfulKinds, IsLawfulIfKept}
 
 abbrev IsLawful : Piece → Type 0
@@ -61,17 +61,17 @@ module _ (Q : Type 0) (o : LoadedObject) (hs : List SectionHeader) (i : ℕ) (cl
   lawful_end behind = claim.1 (subst (AreLawfulFrom o i) (sym (drop_all i hs behind)) tt)
 
 -- of all objects
-abbrev IsLawfulObject : Loaded → Type 0
+abbrev IsLawfulObject : code.LoadedObject → Type 0
 IsLawfulObject l = HasLawfulKinds (loaded_view l)
 
-pub objects_lawful : (k : ℕ) (ls : List Loaded) → All IsLawfulObject ls → All IsLawful (pieces_of k (loaded_views ls))
+pub objects_lawful : (k : ℕ) (ls : List code.LoadedObject) → All IsLawfulObject ls → All IsLawful (pieces_of k (loaded_views ls))
 objects_lawful k [] all = All-nil IsLawful
 objects_lawful k (l ∷ ls) all =
     All-append IsLawful (pieces_from k (loaded_view l) 0 (sections l.object)) (pieces_of (k + 1) (loaded_views ls))
     (kept_lawful k (loaded_view l) 0 (sections l.object) (All-head IsLawfulObject l ls all).each)
     (objects_lawful (k + 1) ls (All-tail IsLawfulObject l ls all))
 
-pub lawful_objects : (k : ℕ) (ls : List Loaded) → All IsLawful (pieces_of k (loaded_views ls)) → All IsLawfulObject ls
+pub lawful_objects : (k : ℕ) (ls : List code.LoadedObject) → All IsLawful (pieces_of k (loaded_views ls)) → All IsLawfulObject ls
 lawful_objects k [] all = All-nil IsLawfulObject
 lawful_objects k (l ∷ ls) all =
     let here : List Piece = pieces_from k (loaded_view l) 0 (sections l.object) in

@@ -6,7 +6,7 @@ ghost use Rattle.layout.specs.Addresses.{HasEntry, HasPlace, entry, piece_counts
 ghost use Rattle.layout.specs.PlaceViews.{place_view, place_views};
 
 use crate::running::Place;
-use search::Loaded;
+use search::LoadedObject;
 use std::alloc::{AllocError, Global};
 
 /// Puts a row of no addresses behind the rows.
@@ -22,7 +22,7 @@ fn add_row(alloc: Global, table: &mut Vec<Vec<Option<u64>>>, count: usize) -> Re
 /// A row for each object with no address for any of its sections, one for so many blocks, and one for the GOT.
 fn empty_table(
     alloc: Global,
-    objects: &[Loaded<'_>],
+    objects: &[LoadedObject<'_>],
     blocks: usize,
 ) -> Result<Vec<Vec<Option<u64>>>, AllocError>
     ensures shape { IfOk result (λ t. shape_of t.items ≡ piece_counts (loaded_views objects.now) blocks) }
@@ -52,7 +52,7 @@ fn put_address(table: &mut Vec<Vec<Option<u64>>>, place: &Place<'_>)
 /// section.
 pub fn address_table(
     alloc: Global,
-    objects: &[Loaded<'_>],
+    objects: &[LoadedObject<'_>],
     blocks: usize,
     places: &[Place<'_>],
 ) -> Result<Vec<Vec<Option<u64>>>, AllocError>

@@ -10,7 +10,7 @@ use elf_model::{
     SHT_FINI_ARRAY, SHT_INIT_ARRAY, SHT_NOBITS, SHT_NOTE, SHT_PREINIT_ARRAY, SHT_PROGBITS,
     SHT_X86_64_UNWIND, SectionHeader,
 };
-use search::Loaded;
+use search::{Loaded, LoadedObject};
 
 /// The flags that a kept section may have: WRITE, ALLOC, EXECINSTR, MERGE, STRINGS, INFO_LINK, GROUP and TLS.
 const LAWFUL_FLAGS: u64 = 0x677;
@@ -43,13 +43,13 @@ fn is_lawful_kind(header: &SectionHeader) -> bool
 }
 
 /// Whether section `i` of an object, which has the header, is lawful where it is kept.
-fn is_lawful_if_kept(loaded: &Loaded<'_>, i: usize, header: &SectionHeader) -> bool
+fn is_lawful_if_kept(loaded: &LoadedObject<'_>, i: usize, header: &SectionHeader) -> bool
     ensures { IsTrue result ↔ IsLawfulIfKept (loaded_view loaded.now) i header.now }
 {
     !loaded.is_kept(i, header) || is_lawful_kind(header)
 }
 
-fn is_lawful_object(loaded: &Loaded<'_>) -> bool
+fn is_lawful_object(loaded: &LoadedObject<'_>) -> bool
     ensures { IsTrue result ↔ HasLawfulKinds (loaded_view loaded.now) }
 {
     let headers = loaded.object.sections();
@@ -61,7 +61,7 @@ fn is_lawful_object(loaded: &Loaded<'_>) -> bool
     true
 }
 
-fn are_lawful_objects(objects: &[Loaded<'_>]) -> bool
+fn are_lawful_objects(objects: &[LoadedObject<'_>]) -> bool
     ensures { IsTrue result ↔ All (λ l. HasLawfulKinds (loaded_view l)) objects.now }
 {
     for loaded in objects {
@@ -72,22 +72,22 @@ fn are_lawful_objects(objects: &[Loaded<'_>]) -> bool
     true
 }
 
-fn are_lawful_kinds(objects: &[Loaded<'_>]) -> bool
+fn are_lawful_kinds(objects: &[LoadedObject<'_>]) -> bool
     ensures { IsTrue result ↔ AreLawfulKinds (loaded_views objects.now) }
 {
     are_lawful_objects(objects)
 }
 
-/// Judges the kinds of the kept sections of loaded objects (docs/PROFILE.md). It takes no memory.
+/// Judges the kinds of the kept sections of what is loaded (docs/PROFILE.md). It takes no memory.
 ///
 /// # Errors
 ///
 /// `SectionKind` where one isn't lawful.
-pub fn kinds(objects: &[Loaded<'_>]) -> Result<(), LayoutFault>
-    ensures lawful { OnOk result (AreLawfulKinds (loaded_views objects.now)) }
-    ensures fault { IfErr result (KindsFail (loaded_views objects.now)) }
+pub fn kinds(loaded: &Loaded<'_>) -> Result<(), LayoutFault>
+    ensures lawful { OnOk result (AreLawfulKinds loaded.now.objects) }
+    ensures fault { IfErr result (KindsFail loaded.now.objects) }
 {
-    if !are_lawful_kinds(objects) {
+    if !are_lawful_kinds(loaded.objects()) {
         return Err(LayoutFault::SectionKind);
     }
     Ok(())

@@ -6,6 +6,7 @@ mod addresses;
 mod array_order;
 mod bounds;
 mod faults;
+mod got_size;
 mod grouping;
 mod judging;
 mod lay;
@@ -18,8 +19,9 @@ mod segments;
 mod threads;
 
 pub use faults::LayoutFault;
+pub use got_size::GotSize;
 pub use judging::kinds;
 pub use mixed::mixed_names;
 pub use pieces::Piece;
-pub use placement::{Placement, Tables, place};
+pub use placement::{Placement, place};
 pub use running::Place;

@@ -11,7 +11,7 @@ ghost use Rattle.layout.specs.Views.{piece_view, piece_views};
 
 use crate::pieces::{Piece, pieces_of};
 use resolve::output_name;
-use search::Loaded;
+use search::LoadedObject;
 use std::alloc::{AllocError, Global};
 use std::collections::{BTreeMap, BTreeSet};
 
@@ -117,7 +117,7 @@ fn odd_names<'a>(
 /// Only where memory is refused.
 pub fn mixed_names<'a>(
     alloc: Global,
-    objects: &[Loaded<'a>],
+    objects: &[LoadedObject<'a>],
 ) -> Result<BTreeSet<&'a [u8]>, AllocError>
     ensures { IfOk result (AreMixed (loaded_views objects.now)) }
 {

@@ -14,7 +14,7 @@ use crate::pieces::{Piece, add_blocks, add_got, pieces_of};
 use crate::segments::any_nonempty;
 use crate::threads::{any_thread_piece, thread_align};
 use resolve::Block;
-use search::Loaded;
+use search::LoadedObject;
 use std::alloc::{AllocError, Global};
 
 /// The pieces of objects in own order: those that may only be read, code, and what may be written: thread-local ones with
@@ -23,7 +23,7 @@ use std::alloc::{AllocError, Global};
 /// whether there are any.
 #[derive(Drop)]
 pub struct Order<'b, 'a> {
-    pub objects: &'b [Loaded<'a>],
+    pub objects: &'b [LoadedObject<'a>],
     pub count: usize,
     pub read_only: Vec<Piece<'a>>,
     pub code: Vec<Piece<'a>>,
@@ -56,7 +56,7 @@ fn data_of<'a>(
 
 /// The number of the GOT among objects: it is numbered like the one section of an object behind the loaded ones and the
 /// one that the common blocks make.
-pub fn got_number(objects: &[Loaded<'_>]) -> u64
+pub fn got_number(objects: &[LoadedObject<'_>]) -> u64
     ensures { result ≡ own.got_number (loaded_views objects.now) }
 {
     objects.len() as u64 + 1
@@ -65,7 +65,7 @@ pub fn got_number(objects: &[Loaded<'_>]) -> u64
 /// The pieces of objects, whose common blocks these are, in own order, with the GOT of this size in bytes.
 pub fn order_of<'b, 'a>(
     alloc: Global,
-    objects: &'b [Loaded<'a>],
+    objects: &'b [LoadedObject<'a>],
     blocks: &[Block<'a>],
     got_size: u64,
 ) -> Result<Order<'b, 'a>, AllocError>

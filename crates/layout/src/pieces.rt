@@ -11,7 +11,7 @@ ghost use Rattle.layout.specs.Views.{piece_view, piece_views};
 use elf_model::{SHF_ALLOC, SHF_WRITE, SHT_NOBITS, SHT_PROGBITS, SectionHeader};
 use elf_read::Object;
 use resolve::Block;
-use search::Loaded;
+use search::LoadedObject;
 use std::alloc::{AllocError, Global};
 
 /// A kept section of a loaded object: its object's and its own number, its header, its name and its input
@@ -43,7 +43,7 @@ fn piece_of<'a>(number: u64, object: &Object<'a>, i: usize, header: SectionHeade
 fn add_pieces<'a>(
     out: &mut Vec<Piece<'a>>,
     number: u64,
-    loaded: &Loaded<'a>,
+    loaded: &LoadedObject<'a>,
 ) -> Result<(), AllocError>
     ensures { OnOk result (piece_views out.new.items ≡ piece_views out.old.items ++ pieces.pieces_from number (loaded_view loaded.now) 0 (sections loaded.now.object)) }
 {
@@ -57,7 +57,7 @@ fn add_pieces<'a>(
 }
 
 /// The kept sections of all objects, in load order.
-pub fn pieces_of<'a>(alloc: Global, objects: &[Loaded<'a>]) -> Result<Vec<Piece<'a>>, AllocError>
+pub fn pieces_of<'a>(alloc: Global, objects: &[LoadedObject<'a>]) -> Result<Vec<Piece<'a>>, AllocError>
     ensures { IfOk result (λ v. piece_views v.items ≡ pieces.kept_sections (loaded_views objects.now)) }
 {
     let mut found = Vec::new(alloc);

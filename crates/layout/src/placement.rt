@@ -1,6 +1,7 @@
 //! Where the pieces of objects and the GOT stand, in which segments, and the address of each kept section, of each common
 //! block and of the GOT.
 ghost use Rattle.std.specs.Prelude.{◌≡◌, IfErr, IfOk, OnOk, find, option_map};
+ghost use Rattle.std.specs.Option.{option_and_then};
 ghost use Rattle.elf_model.specs.Command.{IsBase};
 ghost use Rattle.elf_model.specs.Commons as commons;
 ghost use Rattle.elf_model.specs.ImageFile.{is_got_piece};
@@ -14,7 +15,7 @@ ghost use Rattle.elf_model.specs.Resolution.{AreSoundCommons};
 ghost use Rattle.elf_model.specs.Slots as slots;
 ghost use Rattle.elf_model.specs.ThreadStorage.{thread_block};
 ghost use Rattle.search.specs.Views.{loaded_views};
-ghost use Rattle.resolve.specs.Blocks.{block_views};
+ghost use Rattle.resolve.specs.Blocks.{block_view, block_views};
 ghost use Rattle.layout.specs.Laid.{LayoutFails};
 ghost use Rattle.layout.specs.PlaceViews.{place_views};
 ghost use Rattle.layout.specs.Tables.{AreTables};
@@ -24,23 +25,25 @@ ghost use Rattle.layout.specs.Views.{piece_view};
 use crate::addresses::{address_in, address_table};
 use crate::bounds::{Bounds, bound_in, bounds_of};
 use crate::faults::LayoutFault;
+use crate::got_size::GotSize;
 use crate::lay::lay_out;
 use crate::order::{got_number, order_of};
 use crate::pieces::Piece;
 use crate::running::Place;
 use crate::threads::{block_of, thread_header};
-use elf_model::{Bound, ProgramHeader, TlsBlock};
-use resolve::Block;
-use search::Loaded;
+use elf_model::{Bound, ProgramHeader, SectionRef, TlsBlock};
+use resolve::{Block, Resolved};
+use search::{Loaded, LoadedObject};
 use std::alloc::Global;
+use std::collections::BTreeMap;
 use std::marker::Model;
+use std::rc::Rc;
 
 /// What the linker's own layout says of loaded objects: the pieces and the GOT at their addresses, of which memory has
 /// a place for the first ones, the segments that hold them, the program header of thread-local storage, the address of each
-/// kept section and common block and of the GOT, and what the linker's own names stand for. A `Placement` reads them beside
-/// the objects.
+/// kept section and common block and of the GOT, and what the linker's own names stand for.
 #[derive(Drop)]
-pub struct Tables<'a> {
+struct Tables<'a> {
     places: Vec<Place<'a>>,
     loaded: usize,
     segments: Vec<ProgramHeader>,
@@ -49,40 +52,31 @@ pub struct Tables<'a> {
     bounds: Bounds<'a>,
 }
 
-/// The linker's own layout of loaded objects from a base on: their pieces at their addresses, and the
-/// segments that hold them.
+/// The linker's own layout of what is loaded, from a base on: the pieces and the GOT at their addresses, the segments that
+/// hold them, and what the linker's own names stand for.
 #[derive(Drop)]
-pub struct Placement<'p, 'a> {
+pub struct Placement<'a> {
     base: u64,
-    objects: &'p [Loaded<'a>],
-    tables: &'p Tables<'a>,
+    loaded: Loaded<'a>,
+    named_blocks: Rc<BTreeMap<&'a [u8], Block<'a>>>,
+    tables: Tables<'a>,
 }
 
-impl<'p, 'a> Model for Placement<'p, 'a> {
-    ghost use Rattle.search.specs.Views.{loaded_views};
+impl<'a> Model for Placement<'a> {
     ghost use Rattle.layout.specs.Placements.{Basis};
-    ghost use Rattle.layout.specs.Tables.{AreTables};
+    ghost use Rattle.layout.specs.Tables.{AreTables, IsNamed};
 
     ghost Value = { Basis };
 
-    ghost view = { λ p. record { base = p.base; objects = loaded_views p.objects.now } };
+    ghost view = { λ p. record { base = p.base; objects = p.loaded.objects } };
 
-    ghost invariant = { λ p. AreTables p.base (loaded_views p.objects.now) p.tables.now };
+    ghost invariant = { λ p. AreTables p.base p.loaded.objects p.tables × IsNamed p.loaded.objects p.named_blocks.value };
 }
 
-/// Lays out the kept sections of loaded objects, their common blocks and their GOT, which has this size in bytes (0
-/// without one), from a base on. Where the kinds of the sections are lawful, each piece then stands at the least multiple
-/// of its alignment below neither the headers' end, nor its segment's beginning, nor the end of a piece before it in the
-/// order of the segments that takes up memory; a thread-local one below neither the beginning of thread-local storage, nor
-/// the end of a thread-local one before it.
-///
-/// # Errors
-///
-/// `TooLarge` where the headers, a piece or the GOT would end above 2 ^ 46, or the file have 2 ^ 32 bytes or more;
-/// `Memory`.
-pub fn place<'a>(
+/// The tables of the own layout of objects, whose common blocks these are, with a GOT of this size in bytes.
+fn tables_of<'a>(
     alloc: Global,
-    objects: &[Loaded<'a>],
+    objects: &[LoadedObject<'a>],
     blocks: &[Block<'a>],
     got_size: u64,
     base: u64,
@@ -112,19 +106,41 @@ pub fn place<'a>(
     })
 }
 
-impl<'p, 'a> Placement<'p, 'a> {
-    /// The layout of loaded objects from a base on, by the tables that `place` made of them.
-    pub fn new(base: u64, objects: &'p [Loaded<'a>], tables: &'p Tables<'a>) -> Placement<'p, 'a>
-        requires { AreTables base (loaded_views objects.now) tables.now }
-        ensures { result ≡ record { base = base; objects = loaded_views objects.entry.now } }
-    {
-        Placement {
-            base,
-            objects,
-            tables,
-        }
-    }
+/// Lays out the kept sections of what is loaded, its common blocks and its GOT, which has this size (0 without one), from a
+/// base on. Where the kinds of the sections are lawful, each piece then stands at the least multiple of its alignment below
+/// neither the headers' end, nor its segment's beginning, nor the end of a piece before it in the order of the segments that
+/// takes up memory; a thread-local one below neither the beginning of thread-local storage, nor the end of a thread-local
+/// one before it.
+///
+/// # Errors
+///
+/// `TooLarge` where the headers, a piece or the GOT would end above 2 ^ 46, or the file have 2 ^ 32 bytes or more;
+/// `Memory`.
+pub fn place<'a>(
+    alloc: Global,
+    loaded: &Loaded<'a>,
+    resolved: &Resolved<'a>,
+    got: GotSize,
+    base: u64,
+) -> Result<Placement<'a>, LayoutFault>
+    requires base { IsBase base }
+    requires resolved { resolved.now ≡ loaded.now.objects }
+    requires got { got.0 ≡ slots.got_size loaded.now.objects }
+    ensures exact { IfOk result (λ p. p ≡ record { base = base; objects = loaded.now.objects }) }
+    ensures addresses { OnOk result (AreLawfulKinds loaded.now.objects → AreOwnAddresses base loaded.now.objects) }
+    ensures fits { OnOk result (IsNotTooLarge base loaded.now.objects) }
+    ensures fault { IfErr result (LayoutFails base loaded.now.objects) }
+{
+    let tables = tables_of(alloc, loaded.objects(), resolved.blocks(), got.0, base)?;
+    Ok(Placement {
+        base,
+        loaded: loaded.clone()?,
+        named_blocks: resolved.named_blocks().clone()?,
+        tables,
+    })
+}
 
+impl<'a> Placement<'a> {
     /// The address from which the image is mapped.
     pub fn base(&self) -> u64
         ensures { result ≡ self.now.base }
@@ -171,37 +187,53 @@ impl<'p, 'a> Placement<'p, 'a> {
         self.tables.thread_header.map(|h| block_of(&h))
     }
 
-    /// The address of a section of an object, by their numbers, or of a common block by its own; None where it isn't
-    /// kept.
-    pub fn address(&self, object: usize, section: usize) -> Option<u64>
-        ensures { result ≡ option_map (λ q. q.at) (find (is_of_section object section) (own_in_load_order self.now.base self.now.objects)) }
+    /// The address of a section of an object, or of a common block, which is numbered like a section of one object more
+    /// than are loaded; None where it isn't kept.
+    pub fn address(&self, section: SectionRef) -> Option<u64>
+        ensures { result ≡ option_map (λ q. q.at) (find (is_of_section section.object.0 section.section) (own_in_load_order self.now.base self.now.objects)) }
     {
-        if object > self.objects.len() {
+        let object = section.object.0 as usize;
+        if object > self.loaded.objects().len() {
             return None;
         }
-        address_in(&self.tables.addresses, object, section)
+        address_in(&self.tables.addresses, object, section.section as usize)
     }
 
-    /// The same, and the address of the GOT by its number as a piece.
-    pub fn piece_address(&self, object: usize, section: usize) -> Option<u64>
-        ensures { result ≡ option_map (λ q. q.at) (find (is_of_section object section) (own_placed self.now.base self.now.objects)) }
+    /// The address of the common block of a name; None where the name has none.
+    pub fn common(&self, name: &[u8]) -> Option<u64>
+        ensures { result ≡ option_and_then (λ b. option_map (λ q. q.at) (find (is_of_section b.object b.number) (own_in_load_order self.now.base self.now.objects))) (commons.block_named self.now.objects name.now) }
+    {
+        let block = self.named_block(name)?;
+        self.address(block.section())
+    }
+
+    /// The common block of a name; None where it has none.
+    fn named_block(&self, name: &[u8]) -> Option<Block<'a>>
+        ensures { option_map block_view result ≡ commons.block_named self.now.objects name.now }
+    {
+        self.named_blocks.get(name).copied()
+    }
+
+    /// The address of a section or a common block, and also that of the GOT by its numbers as a piece.
+    pub fn piece_address(&self, section: SectionRef) -> Option<u64>
+        ensures { result ≡ option_map (λ q. q.at) (find (is_of_section section.object.0 section.section) (own_placed self.now.base self.now.objects)) }
     {
         let table = &*self.tables.addresses;
-        address_in(table, object, section)
+        address_in(table, section.object.0 as usize, section.section as usize)
     }
 
     /// The address of the GOT; None without one.
     pub fn got(&self) -> Option<u64>
         ensures { result ≡ option_map (λ g. g.address) (own_got self.now.base self.now.objects) }
     {
-        address_in(&self.tables.addresses, got_number(self.objects) as usize, 0)
+        address_in(&self.tables.addresses, got_number(self.loaded.objects()) as usize, 0)
     }
 
     /// Whether a piece is the GOT.
     pub fn is_got(&self, piece: &Piece<'_>) -> bool
         ensures { result ≡ is_got_piece self.now.objects (piece_view piece.now) }
     {
-        piece.object == got_number(self.objects)
+        piece.object == got_number(self.loaded.objects())
     }
 
     /// The value of one of the linker's own names, which stands for a bound, where the kinds of all sections are lawful.

@@ -14,23 +14,23 @@ use Rattle.elf_model.proofs.RisingNames.{neighbours_count}
 use Rattle.resolve.specs.Defined.{AreDefinitions}
 use Rattle.resolve.specs.Views.{held_name, meaning_view, meaning_views, symbol_views}
 use Rattle.resolve.specs.declared.entries.SymbolOf as symbols
-use Rattle.resolve.specs.declared.meaning.Meaning as code
-use Rattle.resolve.specs.declared.meaning.Meaning.TheVariants as variant
+use Rattle.resolve.specs.declared.definition.Definition as code
+use Rattle.resolve.specs.declared.definition.Definition.TheVariants as variant
 use Rattle.ld_main.specs.Listings.{HasNoTwins, IsListing}
 
-held_is : (m : code.Meaning) → (held_name m).now ≡ meaning_name (meaning_view m)
+held_is : (m : code.Definition) → (held_name m).now ≡ meaning_name (meaning_view m)
 held_is (variant.Symbol s) = refl
 held_is (variant.Common b) = refl
 held_is (variant.Linker name bound) = refl
 
 by_names :
-    (sorted : List code.Meaning) → IsSortedByKey (λ m. (held_name m).now) (slice_cmp nat_cmp) sorted →
+    (sorted : List code.Definition) → IsSortedByKey (λ m. (held_name m).now) (slice_cmp nat_cmp) sorted →
     IsSortedByKey (λ m. meaning_name (meaning_view m)) (slice_cmp nat_cmp) sorted
 by_names sorted up =
-    let same : (λ (m : code.Meaning). (held_name m).now) ≡ (λ (m : code.Meaning). meaning_name (meaning_view m)) = λ i m. held_is m i in
-    subst (λ (key : code.Meaning → List ℕ). IsSortedByKey key (slice_cmp nat_cmp) sorted) same up
+    let same : (λ (m : code.Definition). (held_name m).now) ≡ (λ (m : code.Definition). meaning_name (meaning_view m)) = λ i m. held_is m i in
+    subst (λ (key : code.Definition → List ℕ). IsSortedByKey key (slice_cmp nat_cmp) sorted) same up
 
-module _ (objects : List LoadedObject) (sorted : List code.Meaning) (are : AreListed objects (meaning_views sorted)) where
+module _ (objects : List LoadedObject) (sorted : List code.Definition) (are : AreListed objects (meaning_views sorted)) where
   no_twins : HasNoTwins sorted
   no_twins k d within same =
       let n = meaning_name (meaning_view (get_or sorted k d)) in
@@ -48,7 +48,7 @@ module _ (objects : List LoadedObject) (sorted : List code.Meaning) (are : AreLi
 
 -- what the chosen symbols mean, in some order, and the linker's lines, joined and sorted
 pub is_listing :
-    (objects : List LoadedObject) (found : List symbols.SymbolOf) (lines : List Meaning) (joined sorted : List code.Meaning) →
+    (objects : List LoadedObject) (found : List symbols.SymbolOf) (lines : List Meaning) (joined sorted : List code.Definition) →
     AreDefinitions objects found → AreLinkerLines objects lines →
     meaning_views joined ≡ meanings_of objects (symbol_views found) ++ lines →
     IsPermutation (meaning_views joined) (meaning_views sorted) →

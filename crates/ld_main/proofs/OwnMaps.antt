@@ -14,7 +14,7 @@ use Rattle.elf_model.specs.RightLink.{HasLine, object_rows, symbol_row_of}
 use Rattle.elf_model.specs.declared.records.SectionHeader.{SectionHeader}
 use Rattle.layout.specs.Placements.{Basis}
 use Rattle.resolve.specs.Views.{meaning_view, meaning_views}
-use Rattle.resolve.specs.declared.meaning.Meaning as code
+use Rattle.resolve.specs.declared.definition.Definition as code
 use Rattle.own_link.proofs.OwnSlots.{slots_ascend}
 use Rattle.ld_main.specs.Listings.{IsListing}
 use Rattle.ld_main.specs.Maps.{IsMapOf, own_row}
@@ -45,7 +45,7 @@ rows_placed : (b : Basis) (ps : List Piece) → map (own_row b) ps ≡ map place
 rows_placed b [] = refl
 rows_placed b (p ∷ ps) = ap (λ (rows : List PlaceRow). own_row b p ∷ rows) (rows_placed b ps)
 
-module _ (b : Basis) (listed : List code.Meaning) (m : MapRecord) (is : IsMapOf b (meaning_views listed) m) (d : IsListing b.objects listed) where
+module _ (b : Basis) (listed : List code.Definition) (m : MapRecord) (is : IsMapOf b (meaning_views listed) m) (d : IsListing b.objects listed) where
   symbols_ascend : Ascends SymbolBefore (map (symbol_row_of (own_where b.base b.objects)) (meaning_views listed))
   symbols_ascend = rows_ascend meaning_view (own_where b.base b.objects) listed d.rising d.no_twins
 

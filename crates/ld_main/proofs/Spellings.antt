@@ -16,9 +16,9 @@ use Rattle.elf_model.specs.declared.link_map.DropLine.{DropLine}
 use Rattle.elf_model.specs.declared.records.SectionHeader.{SectionHeader}
 use Rattle.layout.specs.Placements.{Basis}
 use Rattle.resolve.specs.Views.{meaning_view, meaning_views}
-use Rattle.resolve.specs.declared.meaning.Meaning as code
+use Rattle.resolve.specs.declared.definition.Definition as code
 use Rattle.search.specs.Views.{loaded_view, loaded_views}
-use Rattle.search.specs.declared.loading.Loaded.{Loaded}
+use Rattle.search.specs.declared.loaded.LoadedObject as held
 use Rattle.ld_main.specs.CommonRows.{common_rows_of, own_commons}
 use Rattle.ld_main.specs.Maps.{own_row}
 
@@ -27,26 +27,26 @@ front : {X : Type 0} (xs : List X) (k : ℕ) (x : X) → k < length xs → x ≡
 front {X} xs k x within is = drop_more xs k x within ∙ ap (λ (y : X). y ∷ drop (k + 1) xs) (sym is)
 
 pub objects_fit :
-    (xs : List Loaded) (k : ℕ) (x : Loaded) → k < length xs → x ≡ get_or xs k x →
+    (xs : List held.LoadedObject) (k : ℕ) (x : held.LoadedObject) → k < length xs → x ≡ get_or xs k x →
     FitsObject (record { object = k; item = (loaded_view x).item; offset = (loaded_view x).offset; path = (loaded_view x).path }) →
     All FitsObject (object_rows (k + 1) (loaded_views (drop (k + 1) xs))) → All FitsObject (object_rows k (loaded_views (drop k xs)))
 objects_fit xs k x within is fits rest =
-    subst (λ (ys : List Loaded). All FitsObject (object_rows k (loaded_views ys))) (sym (front xs k x within is)) (All-cons FitsObject _ _ fits rest)
+    subst (λ (ys : List held.LoadedObject). All FitsObject (object_rows k (loaded_views ys))) (sym (front xs k x within is)) (All-cons FitsObject _ _ fits rest)
 
 pub symbols_fit :
-    (w : Where) (xs : List code.Meaning) (k : ℕ) (d : code.Meaning) → k < length xs → FitsSymbol (symbol_row_of w (meaning_view (get_or xs k d))) →
+    (w : Where) (xs : List code.Definition) (k : ℕ) (d : code.Definition) → k < length xs → FitsSymbol (symbol_row_of w (meaning_view (get_or xs k d))) →
     All FitsSymbol (map (symbol_row_of w) (meaning_views (drop (k + 1) xs))) → All FitsSymbol (map (symbol_row_of w) (meaning_views (drop k xs)))
 symbols_fit w xs k d within fits rest =
-    subst (λ (ys : List code.Meaning). All FitsSymbol (map (symbol_row_of w) (meaning_views ys))) (sym (drop_more xs k d within))
+    subst (λ (ys : List code.Definition). All FitsSymbol (map (symbol_row_of w) (meaning_views ys))) (sym (drop_more xs k d within))
     (All-cons FitsSymbol _ _ fits rest)
 
 pub commons_fit :
-    (b : Basis) (xs : List code.Meaning) (k : ℕ) (d : code.Meaning) → k < length xs →
+    (b : Basis) (xs : List code.Definition) (k : ℕ) (d : code.Definition) → k < length xs →
     All FitsCommon (common_rows_of b.base b.objects (meaning_view (get_or xs k d))) →
     All FitsCommon (own_commons b.base b.objects (meaning_views (drop (k + 1) xs))) →
     All FitsCommon (own_commons b.base b.objects (meaning_views (drop k xs)))
 commons_fit b xs k d within fits rest =
-    subst (λ (ys : List code.Meaning). All FitsCommon (own_commons b.base b.objects (meaning_views ys))) (sym (drop_more xs k d within))
+    subst (λ (ys : List code.Definition). All FitsCommon (own_commons b.base b.objects (meaning_views ys))) (sym (drop_more xs k d within))
     (All-append FitsCommon (common_rows_of b.base b.objects (meaning_view (get_or xs k d)))
     (own_commons b.base b.objects (meaning_views (drop (k + 1) xs))) fits rest)
 
@@ -79,14 +79,14 @@ abbrev pub FitOf : Basis → ℕ → List LoadedObject → Type 0
 FitOf b k os = All FitsPlace (map (own_row b) (pieces_of k os))
 
 pub all_places_fit :
-    (b : Basis) (xs : List Loaded) (k : ℕ) (x : Loaded) → k < length xs → x ≡ get_or xs k x →
+    (b : Basis) (xs : List held.LoadedObject) (k : ℕ) (x : held.LoadedObject) → k < length xs → x ≡ get_or xs k x →
     FitFrom b k (loaded_view x) 0 (sections (loaded_view x).bytes) → FitOf b (k + 1) (loaded_views (drop (k + 1) xs)) →
     FitOf b k (loaded_views (drop k xs))
 all_places_fit b xs k x within is fits rest =
     let o = loaded_view x in
     let here = pieces_from k o 0 (sections o.bytes) in
     let left = pieces_of (k + 1) (loaded_views (drop (k + 1) xs)) in
-    subst (λ (ys : List Loaded). FitOf b k (loaded_views ys)) (sym (front xs k x within is))
+    subst (λ (ys : List held.LoadedObject). FitOf b k (loaded_views ys)) (sym (front xs k x within is))
     (subst (All FitsPlace) (sym (map-append (own_row b) here left)) (All-append FitsPlace (map (own_row b) here) (map (own_row b) left) fits rest))
 
 -- the drop lines of an object from one section on
@@ -110,10 +110,10 @@ abbrev pub DropsFitOf : ℕ → List LoadedObject → Type 0
 DropsFitOf k os = All FitsDrop (drop_rows k os)
 
 pub all_drops_fit :
-    (xs : List Loaded) (k : ℕ) (x : Loaded) → k < length xs → x ≡ get_or xs k x →
+    (xs : List held.LoadedObject) (k : ℕ) (x : held.LoadedObject) → k < length xs → x ≡ get_or xs k x →
     DropsFitFrom k (loaded_view x) 0 (sections (loaded_view x).bytes) → DropsFitOf (k + 1) (loaded_views (drop (k + 1) xs)) →
     DropsFitOf k (loaded_views (drop k xs))
 all_drops_fit xs k x within is fits rest =
     let o = loaded_view x in
-    subst (λ (ys : List Loaded). DropsFitOf k (loaded_views ys)) (sym (front xs k x within is))
+    subst (λ (ys : List held.LoadedObject). DropsFitOf k (loaded_views ys)) (sym (front xs k x within is))
     (All-append FitsDrop (drops_from k o 0 (sections o.bytes)) (drop_rows (k + 1) (loaded_views (drop (k + 1) xs))) fits rest)

@@ -31,8 +31,8 @@ use elf_model::{InputFile, LinkError, LinkMap};
 use got_tls::{Slots, slots};
 use layout::{Placement, Tables, kinds, place};
 use relocate::{PatchTable, Patches, linker_lines, patches, references, slot_values};
-use resolve::{Meaning, Resolved, resolve_over};
-use search::{Loaded, load};
+use resolve::{Definition, Resolved, resolve_over};
+use search::{LoadedObject, load};
 use std::alloc::{AllocError, Global};
 use std::hash::{BuildHasherDefault, FoldHasher};
 use std::marker::Model;
@@ -43,7 +43,7 @@ use symbols::{IndexedTable, NameTable};
 /// image is entered.
 #[derive(Drop)]
 pub struct Parts<'a> {
-    pub listed: Vec<Meaning<'a>>,
+    pub listed: Vec<Definition<'a>>,
     pub tables: Tables<'a>,
     pub slots: Slots<'a>,
     pub values: Vec<u64>,
@@ -56,7 +56,7 @@ pub struct Parts<'a> {
 #[derive(Drop)]
 pub struct Linkage<'a> {
     plan: Plan<'a>,
-    objects: Vec<Loaded<'a>>,
+    objects: Vec<LoadedObject<'a>>,
     parts: Parts<'a>,
 }
 
@@ -75,9 +75,9 @@ impl<'a> Model for Linkage<'a> {
 fn resolved_objects<'b, 'a, T: NameTable<'a> + Drop>(
     alloc: Global,
     plan: &Plan<'_>,
-    objects: &'b [Loaded<'a>],
+    objects: &'b [LoadedObject<'a>],
     table: T,
-) -> Result<Resolved<'b, 'a>, LinkError>
+) -> Result<Resolved<'a>, LinkError>
     requires { T.rows table ≡ no_rows }
     ensures exact { IfOk result (λ r. r ≡ loaded_views objects.entry.now) }
     ensures resolved { OnOk result (AreResolved (loaded_views objects.entry.now)) }
@@ -97,9 +97,9 @@ fn resolved_objects<'b, 'a, T: NameTable<'a> + Drop>(
 fn referred_entry<'a>(
     alloc: Global,
     plan: &Plan<'_>,
-    objects: &[Loaded<'a>],
-    resolved: &Resolved<'_, 'a>,
-) -> Result<Meaning<'a>, LinkError>
+    objects: &[LoadedObject<'a>],
+    resolved: &Resolved<'a>,
+) -> Result<Definition<'a>, LinkError>
     requires same { resolved.now ≡ loaded_views objects.now }
     requires resolved { AreResolved (loaded_views objects.now) }
     ensures entry { IfOk result (λ m. EntersAt plan.now (loaded_views objects.now) (meaning_view m)) }
@@ -121,8 +121,8 @@ fn referred_entry<'a>(
 fn laid_out<'a>(
     alloc: Global,
     plan: &Plan<'_>,
-    objects: &[Loaded<'a>],
-    resolved: &Resolved<'_, 'a>,
+    objects: &[LoadedObject<'a>],
+    resolved: &Resolved<'a>,
     got_size: u64,
 ) -> Result<Tables<'a>, LinkError>
     requires same { resolved.now ≡ loaded_views objects.now }
@@ -144,9 +144,9 @@ fn laid_out<'a>(
 fn fitted<'a>(
     alloc: Global,
     plan: &Plan<'_>,
-    objects: &[Loaded<'a>],
-    resolved: &Resolved<'_, 'a>,
-    placement: &Placement<'_, 'a>,
+    objects: &[LoadedObject<'a>],
+    resolved: &Resolved<'a>,
+    placement: &Placement<'a>,
     slots: &Slots<'a>,
 ) -> Result<PatchTable, LinkError>
     requires same { resolved.now ≡ loaded_views objects.now }
@@ -166,13 +166,13 @@ fn fitted<'a>(
 /// What has been made of objects, once all of it is there.
 fn parts_of<'a>(
     plan: &Plan<'_>,
-    objects: &[Loaded<'a>],
-    listed: Vec<Meaning<'a>>,
+    objects: &[LoadedObject<'a>],
+    listed: Vec<Definition<'a>>,
     tables: Tables<'a>,
     slots: Slots<'a>,
     values: Vec<u64>,
     patches: PatchTable,
-    entry: &Meaning<'a>,
+    entry: &Definition<'a>,
 ) -> Parts<'a>
     requires base { IsBase plan.now.base }
     requires objects { AreObjects (loaded_views objects.now) }
@@ -202,7 +202,7 @@ fn parts_of<'a>(
 fn prepare_objects<'a, T: NameTable<'a> + Drop>(
     alloc: Global,
     plan: &Plan<'_>,
-    objects: &[Loaded<'a>],
+    objects: &[LoadedObject<'a>],
     table: T,
 ) -> Result<Parts<'a>, LinkError>
     requires empty { T.rows table ≡ no_rows }
@@ -289,7 +289,7 @@ pub fn prepare<'a>(
 
 impl<'a> Linkage<'a> {
     /// Where its objects stand.
-    fn placement<'p>(&'p self) -> Placement<'p, 'a>
+    fn placement<'p>(&'p self) -> Placement<'a>
         ensures { result ≡ record { base = self.entry.now.plan.base; objects = self.entry.now.objects } }
     {
         Placement::new(self.plan.base, &self.objects, &self.parts.tables)

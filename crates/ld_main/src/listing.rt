@@ -11,24 +11,24 @@ ghost use Rattle.relocate.specs.Uses.{line_views};
 ghost use Rattle.ld_main.specs.Listings.{IsListing};
 
 use elf_model::Bound;
-use resolve::{Meaning, Resolved, SymbolOf};
+use resolve::{Definition, Resolved, SymbolOf};
 use std::alloc::{AllocError, Global};
 
 /// The name of what a name means.
-pub fn name_of<'a>(meaning: &Meaning<'a>) -> &'a [u8]
+pub fn name_of<'a>(meaning: &Definition<'a>) -> &'a [u8]
     ensures { result ≡ held_name meaning.now }
 {
     match meaning {
-        Meaning::Symbol(symbol) => symbol.name,
-        Meaning::Common(block) => block.name,
-        Meaning::Linker(name, _) => name,
+        Definition::Symbol(symbol) => symbol.name,
+        Definition::Common(block) => block.name,
+        Definition::Linker(name, _) => name,
     }
 }
 
 /// Adds what symbols mean: a common one, its name's block; another one, itself.
 fn add_symbols<'a>(
-    listed: &mut Vec<Meaning<'a>>,
-    resolved: &Resolved<'_, 'a>,
+    listed: &mut Vec<Definition<'a>>,
+    resolved: &Resolved<'a>,
     symbols: &[SymbolOf<'a>],
 ) -> Result<(), AllocError>
     ensures { OnOk result (meaning_views listed.new.items ≡ meaning_views listed.old.items ++ meanings_of resolved.now (symbol_views symbols.now)) }
@@ -42,19 +42,19 @@ fn add_symbols<'a>(
 }
 
 fn add_linkers<'a>(
-    listed: &mut Vec<Meaning<'a>>,
+    listed: &mut Vec<Definition<'a>>,
     linkers: &[(&'a [u8], Bound)],
 ) -> Result<(), AllocError>
     ensures { OnOk result (meaning_views listed.new.items ≡ meaning_views listed.old.items ++ line_views linkers.now) }
 {
     for (name, bound) in linkers {
-        listed.push(Meaning::Linker(name, *bound))?;
+        listed.push(Definition::Linker(name, *bound))?;
     }
     Ok(())
 }
 
 /// The same definitions in the order of their names.
-fn by_name<'a>(listed: Vec<Meaning<'a>>) -> Result<Vec<Meaning<'a>>, AllocError>
+fn by_name<'a>(listed: Vec<Definition<'a>>) -> Result<Vec<Definition<'a>>, AllocError>
     ensures same { IfOk result (λ v. IsPermutation (meaning_views listed.entry.items) (meaning_views v.items)) }
     ensures rising { IfOk result (λ v. IsSortedByKey (λ m. (held_name m).now) (slice_cmp nat_cmp) v.items) }
 {
@@ -67,9 +67,9 @@ fn by_name<'a>(listed: Vec<Meaning<'a>>) -> Result<Vec<Meaning<'a>>, AllocError>
 /// names.
 pub fn listed<'a>(
     alloc: Global,
-    resolved: &Resolved<'_, 'a>,
+    resolved: &Resolved<'a>,
     linkers: &[(&'a [u8], Bound)],
-) -> Result<Vec<Meaning<'a>>, AllocError>
+) -> Result<Vec<Definition<'a>>, AllocError>
     requires { AreLinkerLines resolved.now (line_views linkers.now) }
     ensures { IfOk result (λ v. IsListing resolved.now v.items) }
 {

@@ -18,19 +18,19 @@ ghost use Rattle.ld_main.specs.Maps.{IsMapOf, LiesBelow, LiesWithin, own_row, ow
 use crate::listing::name_of;
 use crate::slot_lines::{got_line, slot_lines};
 use elf_model::{
-    CommonLine, Definition, DropLine, LinkMap, ObjectLine, PlaceLine, SHN_ABS, STB_WEAK,
+    CommonLine, Definition as Told, DropLine, LinkMap, ObjectLine, PlaceLine, SHN_ABS, STB_WEAK,
     SectionHeader, SymbolLine,
 };
 use elf_read::Object;
 use got_tls::Slots;
 use layout::Placement;
-use resolve::{Block, Meaning, SymbolOf};
-use search::Loaded;
+use resolve::{Block, Definition, SymbolOf};
+use search::LoadedObject;
 use std::alloc::{AllocError, Global};
 
 /// The value of a definition: an absolute one's `st_value`, else the address of its section plus `st_value`,
 /// 0 in a section that isn't kept.
-pub fn value(placement: &Placement<'_, '_>, symbol: &SymbolOf<'_>) -> u64
+pub fn value(placement: &Placement<'_>, symbol: &SymbolOf<'_>) -> u64
     requires { LiesBelow (own_in_load_order placement.now.base placement.now.objects) (symbol_view symbol.now) }
     ensures value { result ≡ symbol_value (own_in_load_order placement.now.base placement.now.objects) (symbol_view symbol.now) }
     ensures fits { result < 2 ^ 64 }
@@ -46,7 +46,7 @@ pub fn value(placement: &Placement<'_, '_>, symbol: &SymbolOf<'_>) -> u64
 }
 
 /// The address of a common block.
-pub fn block_address(placement: &Placement<'_, '_>, block: &Block<'_>) -> u64
+pub fn block_address(placement: &Placement<'_>, block: &Block<'_>) -> u64
     ensures { result ≡ section_address (own_in_load_order placement.now.base placement.now.objects) block.now.object block.now.number }
 {
     match placement.address(block.object as usize, block.number as usize) {
@@ -56,52 +56,52 @@ pub fn block_address(placement: &Placement<'_, '_>, block: &Block<'_>) -> u64
 }
 
 /// The value of what a name means.
-pub fn meaning_value(placement: &Placement<'_, '_>, meaning: &Meaning<'_>) -> u64
+pub fn meaning_value(placement: &Placement<'_>, meaning: &Definition<'_>) -> u64
     requires kinds { AreLawfulKinds placement.now.objects }
     requires within { LiesWithin (own_in_load_order placement.now.base placement.now.objects) (meaning_view meaning.now) }
     ensures value { result ≡ meaning_value (own_where placement.now.base placement.now.objects) (meaning_view meaning.now) }
     ensures fits { result < 2 ^ 64 }
 {
     match meaning {
-        Meaning::Symbol(symbol) => value(placement, symbol),
-        Meaning::Common(block) => block_address(placement, block),
-        Meaning::Linker(name, bound) => placement.bound(name, *bound),
+        Definition::Symbol(symbol) => value(placement, symbol),
+        Definition::Common(block) => block_address(placement, block),
+        Definition::Linker(name, bound) => placement.bound(name, *bound),
     }
 }
 
 /// A symbol as a map names it: strong, or weak.
-fn definition_of(symbol: &SymbolOf<'_>) -> Definition
+fn definition_of(symbol: &SymbolOf<'_>) -> Told
     ensures { result ≡ definition_row (Symbol (symbol_view symbol.now)) }
 {
     let (object, number) = (symbol.object, symbol.number);
     if symbol.entry.st_info / 16 == STB_WEAK {
-        return Definition::Weak {
+        return Told::Weak {
             object,
             symbol: number,
         };
     }
-    Definition::Strong {
+    Told::Strong {
         object,
         symbol: number,
     }
 }
 
 /// What a name means as a map names it.
-fn row_definition(meaning: &Meaning<'_>) -> Definition
+fn row_definition(meaning: &Definition<'_>) -> Told
     ensures { result ≡ definition_row (meaning_view meaning.now) }
 {
     match meaning {
-        Meaning::Symbol(symbol) => definition_of(symbol),
-        Meaning::Common(_) => Definition::Common,
-        Meaning::Linker(_, _) => Definition::Linker,
+        Definition::Symbol(symbol) => definition_of(symbol),
+        Definition::Common(_) => Told::Common,
+        Definition::Linker(_, _) => Told::Linker,
     }
 }
 
 /// The line of a definition.
 fn symbol_line(
     alloc: Global,
-    placement: &Placement<'_, '_>,
-    meaning: &Meaning<'_>,
+    placement: &Placement<'_>,
+    meaning: &Definition<'_>,
 ) -> Result<SymbolLine, AllocError>
     requires kinds { AreLawfulKinds placement.now.objects }
     requires within { LiesWithin (own_in_load_order placement.now.base placement.now.objects) (meaning_view meaning.now) }
@@ -117,8 +117,8 @@ fn symbol_line(
 /// The lines of definitions, in their order.
 fn symbol_lines(
     alloc: Global,
-    placement: &Placement<'_, '_>,
-    listed: &[Meaning<'_>],
+    placement: &Placement<'_>,
+    listed: &[Definition<'_>],
 ) -> Result<Vec<SymbolLine>, AllocError>
     requires kinds { AreLawfulKinds placement.now.objects }
     requires within { All (λ m. LiesWithin (own_in_load_order placement.now.base placement.now.objects) (meaning_view m)) listed.now }
@@ -132,7 +132,7 @@ fn symbol_lines(
 }
 
 /// The lines of loaded objects.
-fn object_lines(alloc: Global, objects: &[Loaded<'_>]) -> Result<Vec<ObjectLine>, AllocError>
+fn object_lines(alloc: Global, objects: &[LoadedObject<'_>]) -> Result<Vec<ObjectLine>, AllocError>
     ensures { IfOk result (λ v. map object_row v.items ≡ object_rows 0 (loaded_views objects.now)) }
 {
     let mut lines = Vec::with_capacity(alloc, objects.len())?;
@@ -148,7 +148,7 @@ fn object_lines(alloc: Global, objects: &[Loaded<'_>]) -> Result<Vec<ObjectLine>
 }
 
 /// Whether section `i` of an object has a drop line: it would be kept, were it not dropped.
-fn has_drop_line(loaded: &Loaded<'_>, i: usize, header: &SectionHeader) -> bool
+fn has_drop_line(loaded: &LoadedObject<'_>, i: usize, header: &SectionHeader) -> bool
     ensures { result ≡ is_dropped_line (loaded_view loaded.now) i header.now }
 {
     header.is_alloc() && loaded.is_dropped(i)
@@ -158,7 +158,7 @@ fn has_drop_line(loaded: &Loaded<'_>, i: usize, header: &SectionHeader) -> bool
 fn add_drop_lines(
     lines: &mut Vec<DropLine>,
     number: u64,
-    loaded: &Loaded<'_>,
+    loaded: &LoadedObject<'_>,
 ) -> Result<(), AllocError>
     ensures { OnOk result (lines.new.items ≡ lines.old.items ++ drops_from number (loaded_view loaded.now) 0 (sections loaded.now.object)) }
 {
@@ -175,7 +175,7 @@ fn add_drop_lines(
 }
 
 /// The lines of all dropped sections, in load order.
-fn drop_lines(alloc: Global, objects: &[Loaded<'_>]) -> Result<Vec<DropLine>, AllocError>
+fn drop_lines(alloc: Global, objects: &[LoadedObject<'_>]) -> Result<Vec<DropLine>, AllocError>
     ensures { IfOk result (λ v. v.items ≡ drop_rows 0 (loaded_views objects.now)) }
 {
     let mut lines = Vec::new(alloc);
@@ -186,7 +186,7 @@ fn drop_lines(alloc: Global, objects: &[Loaded<'_>]) -> Result<Vec<DropLine>, Al
 }
 
 /// The address of a section of an object, 0 where it isn't kept.
-pub fn address_of(placement: &Placement<'_, '_>, object: u64, section: usize) -> u64
+pub fn address_of(placement: &Placement<'_>, object: u64, section: usize) -> u64
     ensures { result ≡ unwrap_or (option_map (λ q. q.at) (find (is_of_section object section) (own_placed placement.now.base placement.now.objects))) 0 }
 {
     match placement.piece_address(object as usize, section) {
@@ -198,7 +198,7 @@ pub fn address_of(placement: &Placement<'_, '_>, object: u64, section: usize) ->
 /// The line of section `i` of the object that has a number.
 fn place_line(
     alloc: Global,
-    placement: &Placement<'_, '_>,
+    placement: &Placement<'_>,
     number: u64,
     object: &Object<'_>,
     i: usize,
@@ -219,9 +219,9 @@ fn place_line(
 fn add_place_lines(
     alloc: Global,
     lines: &mut Vec<PlaceLine>,
-    placement: &Placement<'_, '_>,
+    placement: &Placement<'_>,
     number: u64,
-    loaded: &Loaded<'_>,
+    loaded: &LoadedObject<'_>,
 ) -> Result<(), AllocError>
     ensures { OnOk result (map place_row lines.new.items ≡ map place_row lines.old.items ++ map (own_row placement.now) (pieces_from number (loaded_view loaded.now) 0 (sections loaded.now.object))) }
 {
@@ -237,8 +237,8 @@ fn add_place_lines(
 /// The lines of all kept sections, in load order.
 fn place_lines(
     alloc: Global,
-    placement: &Placement<'_, '_>,
-    objects: &[Loaded<'_>],
+    placement: &Placement<'_>,
+    objects: &[LoadedObject<'_>],
 ) -> Result<Vec<PlaceLine>, AllocError>
     ensures { IfOk result (λ v. map place_row v.items ≡ map (own_row placement.now) (kept_sections (loaded_views objects.now))) }
 {
@@ -252,7 +252,7 @@ fn place_lines(
 /// The line of a common block.
 fn common_line(
     alloc: Global,
-    placement: &Placement<'_, '_>,
+    placement: &Placement<'_>,
     block: &Block<'_>,
 ) -> Result<CommonLine, AllocError>
     ensures { IfOk result (λ l. common_row l ≡ common_row_of placement.now.base placement.now.objects (block_view block.now)) }
@@ -268,14 +268,14 @@ fn common_line(
 /// The lines of the common blocks among definitions, in their order.
 fn common_lines(
     alloc: Global,
-    placement: &Placement<'_, '_>,
-    listed: &[Meaning<'_>],
+    placement: &Placement<'_>,
+    listed: &[Definition<'_>],
 ) -> Result<Vec<CommonLine>, AllocError>
     ensures { IfOk result (λ v. map common_row v.items ≡ own_commons placement.now.base placement.now.objects (meaning_views listed.now)) }
 {
     let mut lines = Vec::new(alloc);
     for meaning in listed {
-        if let Meaning::Common(block) = meaning {
+        if let Definition::Common(block) = meaning {
             lines.push(common_line(alloc, placement, block)?)?;
         }
     }
@@ -285,10 +285,10 @@ fn common_lines(
 /// The map of objects that are laid out with their GOT and the definitions that have a line, in the order of their names.
 pub fn map_of_layout(
     alloc: Global,
-    placement: &Placement<'_, '_>,
-    objects: &[Loaded<'_>],
+    placement: &Placement<'_>,
+    objects: &[LoadedObject<'_>],
     slots: &Slots<'_>,
-    listed: &[Meaning<'_>],
+    listed: &[Definition<'_>],
 ) -> Result<LinkMap, AllocError>
     requires same { placement.now.objects ≡ loaded_views objects.now }
     requires slots { slots.now ≡ own_table placement.now.objects }

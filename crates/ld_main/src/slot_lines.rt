@@ -13,7 +13,7 @@ use layout::Placement;
 use std::alloc::{AllocError, Global};
 
 /// The line of the GOT, where there is one.
-pub fn got_line(placement: &Placement<'_, '_>, slots: &Slots<'_>) -> Option<GotLine>
+pub fn got_line(placement: &Placement<'_>, slots: &Slots<'_>) -> Option<GotLine>
     requires { slots.now ≡ own_table placement.now.objects }
     ensures { result ≡ own_got placement.now.base placement.now.objects }
 {
@@ -68,7 +68,7 @@ fn lines_from(alloc: Global, got: u64, slots: &[Slot<'_>]) -> Result<Vec<SlotLin
 /// The lines of the slots, in the order in which they stand.
 pub fn slot_lines(
     alloc: Global,
-    placement: &Placement<'_, '_>,
+    placement: &Placement<'_>,
     slots: &Slots<'_>,
 ) -> Result<Vec<SlotLine>, AllocError>
     requires made { slots.now ≡ own_table placement.now.objects }

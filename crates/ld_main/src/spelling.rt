@@ -21,8 +21,8 @@ use elf_model::{Bound, SectionHeader, Target};
 use elf_read::Object;
 use got_tls::{Slot, Slots};
 use layout::Placement;
-use resolve::{Block, Meaning, SymbolOf};
-use search::Loaded;
+use resolve::{Block, Definition, SymbolOf};
+use search::LoadedObject;
 
 fn show_number(n: u64)
     ensures { n < 2 ^ 64 }
@@ -33,7 +33,7 @@ fn show_bytes(bytes: &[u8])
 {}
 
 /// The line of an object.
-fn show_object(number: u64, loaded: &Loaded<'_>)
+fn show_object(number: u64, loaded: &LoadedObject<'_>)
     ensures { FitsObject (record { object = number; item = loaded.now.item; offset = loaded.now.offset; path = loaded.now.path.now }) }
 {
     show_number(number);
@@ -42,7 +42,7 @@ fn show_object(number: u64, loaded: &Loaded<'_>)
     show_bytes(loaded.path.as_bytes());
 }
 
-fn show_objects(objects: &[Loaded<'_>])
+fn show_objects(objects: &[LoadedObject<'_>])
     ensures { All FitsObject (object_rows 0 (loaded_views objects.now)) }
 {
     for (k, loaded) in objects.iter().enumerate() {
@@ -58,7 +58,7 @@ fn show_drop(number: u64, i: usize)
     show_number(i as u64);
 }
 
-fn show_drops_in(number: u64, loaded: &Loaded<'_>)
+fn show_drops_in(number: u64, loaded: &LoadedObject<'_>)
     ensures { All FitsDrop (drops_from number (loaded_view loaded.now) 0 (sections loaded.now.object)) }
 {
     let headers = loaded.object.sections();
@@ -67,7 +67,7 @@ fn show_drops_in(number: u64, loaded: &Loaded<'_>)
     }
 }
 
-fn show_drops(objects: &[Loaded<'_>])
+fn show_drops(objects: &[LoadedObject<'_>])
     ensures { All FitsDrop (drop_rows 0 (loaded_views objects.now)) }
 {
     for (k, loaded) in objects.iter().enumerate() {
@@ -77,7 +77,7 @@ fn show_drops(objects: &[Loaded<'_>])
 
 /// The line of section `i` of the object that has a number.
 fn show_place(
-    placement: &Placement<'_, '_>,
+    placement: &Placement<'_>,
     number: u64,
     object: &Object<'_>,
     i: usize,
@@ -92,7 +92,7 @@ fn show_place(
     show_bytes(object.section_name(i).unwrap_or(&[]));
 }
 
-fn show_places_in(placement: &Placement<'_, '_>, number: u64, loaded: &Loaded<'_>)
+fn show_places_in(placement: &Placement<'_>, number: u64, loaded: &LoadedObject<'_>)
     ensures { All FitsPlace (map (own_row placement.now) (pieces_from number (loaded_view loaded.now) 0 (sections loaded.now.object))) }
 {
     let headers = loaded.object.sections();
@@ -101,7 +101,7 @@ fn show_places_in(placement: &Placement<'_, '_>, number: u64, loaded: &Loaded<'_
     }
 }
 
-fn show_places(placement: &Placement<'_, '_>, objects: &[Loaded<'_>])
+fn show_places(placement: &Placement<'_>, objects: &[LoadedObject<'_>])
     ensures { All FitsPlace (map (own_row placement.now) (kept_sections (loaded_views objects.now))) }
 {
     for (k, loaded) in objects.iter().enumerate() {
@@ -110,7 +110,7 @@ fn show_places(placement: &Placement<'_, '_>, objects: &[Loaded<'_>])
 }
 
 /// The line of a common block.
-fn show_common_line(placement: &Placement<'_, '_>, block: &Block<'_>)
+fn show_common_line(placement: &Placement<'_>, block: &Block<'_>)
     ensures { FitsCommon (common_row_of placement.now.base placement.now.objects (block_view block.now)) }
 {
     show_number(address_of(placement, block.object, block.number as usize));
@@ -120,15 +120,15 @@ fn show_common_line(placement: &Placement<'_, '_>, block: &Block<'_>)
 }
 
 /// The line of a definition's block, where it is one.
-fn show_common(placement: &Placement<'_, '_>, meaning: &Meaning<'_>)
+fn show_common(placement: &Placement<'_>, meaning: &Definition<'_>)
     ensures { All FitsCommon (common_rows_of placement.now.base placement.now.objects (meaning_view meaning.now)) }
 {
-    if let Meaning::Common(block) = meaning {
+    if let Definition::Common(block) = meaning {
         show_common_line(placement, block);
     }
 }
 
-fn show_commons(placement: &Placement<'_, '_>, listed: &[Meaning<'_>])
+fn show_commons(placement: &Placement<'_>, listed: &[Definition<'_>])
     ensures { All FitsCommon (own_commons placement.now.base placement.now.objects (meaning_views listed.now)) }
 {
     for meaning in listed {
@@ -137,7 +137,7 @@ fn show_commons(placement: &Placement<'_, '_>, listed: &[Meaning<'_>])
 }
 
 /// The line of a symbol.
-fn show_symbol(placement: &Placement<'_, '_>, symbol: &SymbolOf<'_>)
+fn show_symbol(placement: &Placement<'_>, symbol: &SymbolOf<'_>)
     requires { LiesBelow (own_in_load_order placement.now.base placement.now.objects) (symbol_view symbol.now) }
     ensures { FitsSymbol (symbol_row_of (own_where placement.now.base placement.now.objects) (Symbol (symbol_view symbol.now))) }
 {
@@ -148,7 +148,7 @@ fn show_symbol(placement: &Placement<'_, '_>, symbol: &SymbolOf<'_>)
 }
 
 /// The line of the symbol of a common block.
-fn show_block(placement: &Placement<'_, '_>, block: &Block<'_>)
+fn show_block(placement: &Placement<'_>, block: &Block<'_>)
     ensures { FitsSymbol (symbol_row_of (own_where placement.now.base placement.now.objects) (Common (block_view block.now))) }
 {
     show_number(block_address(placement, block));
@@ -156,7 +156,7 @@ fn show_block(placement: &Placement<'_, '_>, block: &Block<'_>)
 }
 
 /// The line of a name of the linker's.
-fn show_linker(placement: &Placement<'_, '_>, name: &[u8], bound: Bound)
+fn show_linker(placement: &Placement<'_>, name: &[u8], bound: Bound)
     requires { AreLawfulKinds placement.now.objects }
     ensures { FitsSymbol (symbol_row_of (own_where placement.now.base placement.now.objects) (Linker name.now bound)) }
 {
@@ -165,19 +165,19 @@ fn show_linker(placement: &Placement<'_, '_>, name: &[u8], bound: Bound)
 }
 
 /// The line of a definition.
-fn show_meaning(placement: &Placement<'_, '_>, meaning: &Meaning<'_>)
+fn show_meaning(placement: &Placement<'_>, meaning: &Definition<'_>)
     requires kinds { AreLawfulKinds placement.now.objects }
     requires within { LiesWithin (own_in_load_order placement.now.base placement.now.objects) (meaning_view meaning.now) }
     ensures { FitsSymbol (symbol_row_of (own_where placement.now.base placement.now.objects) (meaning_view meaning.now)) }
 {
     match meaning {
-        Meaning::Symbol(symbol) => show_symbol(placement, symbol),
-        Meaning::Common(block) => show_block(placement, block),
-        Meaning::Linker(name, bound) => show_linker(placement, name, *bound),
+        Definition::Symbol(symbol) => show_symbol(placement, symbol),
+        Definition::Common(block) => show_block(placement, block),
+        Definition::Linker(name, bound) => show_linker(placement, name, *bound),
     }
 }
 
-fn show_symbols(placement: &Placement<'_, '_>, listed: &[Meaning<'_>])
+fn show_symbols(placement: &Placement<'_>, listed: &[Definition<'_>])
     requires kinds { AreLawfulKinds placement.now.objects }
     requires within { All (λ m. LiesWithin (own_in_load_order placement.now.base placement.now.objects) (meaning_view m)) listed.now }
     ensures { All FitsSymbol (map (symbol_row_of (own_where placement.now.base placement.now.objects)) (meaning_views listed.now)) }
@@ -188,7 +188,7 @@ fn show_symbols(placement: &Placement<'_, '_>, listed: &[Meaning<'_>])
 }
 
 /// The line of the GOT.
-fn show_got(placement: &Placement<'_, '_>, slots: &Slots<'_>)
+fn show_got(placement: &Placement<'_>, slots: &Slots<'_>)
     requires { slots.now ≡ own_table placement.now.objects }
     ensures { All FitsGot (option_to_list (own_got placement.now.base placement.now.objects)) }
 {
@@ -220,7 +220,7 @@ fn show_targets(slots: &[Slot<'_>])
 }
 
 /// The lines of the slots.
-fn show_slots(placement: &Placement<'_, '_>, slots: &Slots<'_>)
+fn show_slots(placement: &Placement<'_>, slots: &Slots<'_>)
     requires made { slots.now ≡ own_table placement.now.objects }
     requires kinds { AreLawfulKinds placement.now.objects }
     requires fits { IsNotTooLarge placement.now.base placement.now.objects }
@@ -231,10 +231,10 @@ fn show_slots(placement: &Placement<'_, '_>, slots: &Slots<'_>)
 
 /// The lines of the map of objects where they are laid out.
 pub fn show_spellings(
-    placement: &Placement<'_, '_>,
-    objects: &[Loaded<'_>],
+    placement: &Placement<'_>,
+    objects: &[LoadedObject<'_>],
     slots: &Slots<'_>,
-    listed: &[Meaning<'_>],
+    listed: &[Definition<'_>],
 )
     requires same { placement.now.objects ≡ loaded_views objects.now }
     requires slots { slots.now ≡ own_table placement.now.objects }

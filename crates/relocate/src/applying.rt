@@ -21,12 +21,12 @@ pub struct PatchTable {
 
 /// The values that the kept relocations of loaded objects want where these are laid out, over their fields.
 #[derive(Drop)]
-pub struct Patches<'p, 'a> {
-    placement: &'p Placement<'p, 'a>,
+pub struct Patches<'a> {
+    placement: &'p Placement<'a>,
     table: &'p PatchTable,
 }
 
-impl<'p, 'a> Model for Patches<'p, 'a> {
+impl<'p, 'a> Model for Patches<'a> {
     ghost use Rattle.layout.specs.Placements.{Basis};
     ghost use Rattle.relocate.specs.PatchTables.{ArePatchesOf};
 
@@ -38,7 +38,7 @@ impl<'p, 'a> Model for Patches<'p, 'a> {
 }
 
 /// The table of rows of patches of the objects that are laid out.
-pub fn of_rows(_placement: &Placement<'_, '_>, rows: Vec<Vec<Vec<Patch>>>) -> PatchTable
+pub fn of_rows(_placement: &Placement<'_>, rows: Vec<Vec<Vec<Patch>>>) -> PatchTable
     requires { ArePatches _placement.now rows.items }
     ensures { ArePatchesOf _placement.now result }
 {
@@ -58,9 +58,9 @@ fn row_in<'r>(rows: &'r [Vec<Vec<Patch>>], object: usize, section: usize) -> &'r
     }
 }
 
-impl<'p, 'a> Patches<'p, 'a> {
+impl<'p, 'a> Patches<'a> {
     /// The patches of objects that are laid out, by the table that `patches` made of them.
-    pub fn new(placement: &'p Placement<'p, 'a>, table: &'p PatchTable) -> Patches<'p, 'a>
+    pub fn new(placement: &'p Placement<'a>, table: &'p PatchTable) -> Patches<'a>
         requires { ArePatchesOf placement.now table.now }
         ensures { result ≡ placement.entry.now }
     {

@@ -12,7 +12,7 @@ use crate::symbol_values::Valued;
 use crate::targets::{entries_of, is_some_kind};
 use crate::values::{address_or_none, patch};
 use elf_model::{Rela, SectionHeader};
-use search::Loaded;
+use search::LoadedObject;
 use std::alloc::{AllocError, Global};
 
 /// Adds the patches of entries of known kinds that relocate the section `target` of an object. Overflow where a value
@@ -58,7 +58,7 @@ fn empty_rows(alloc: Global, count: usize) -> Result<Vec<Vec<Patch>>, AllocError
 
 /// How many rows section `i`, which has the header, asks for: as far as the section that it relocates, where this is
 /// kept, else none.
-fn rows_for(loaded: &Loaded<'_>, i: usize, header: &SectionHeader) -> usize
+fn rows_for(loaded: &LoadedObject<'_>, i: usize, header: &SectionHeader) -> usize
     ensures { result ≡ rows_for (loaded_view loaded.now) i header.now }
 {
     if loaded.is_kept_rela(i, header) {
@@ -69,7 +69,7 @@ fn rows_for(loaded: &Loaded<'_>, i: usize, header: &SectionHeader) -> usize
 }
 
 /// How many rows an object's patches take: as far as its last section that is kept and relocated.
-fn row_count(loaded: &Loaded<'_>) -> usize
+fn row_count(loaded: &LoadedObject<'_>) -> usize
     ensures { IsRowCount (loaded_view loaded.now) result }
 {
     let mut count = 0;

@@ -17,7 +17,7 @@ use crate::targets::{entries_of, is_some_kind};
 use elf_model::{Rela, SectionHeader};
 use layout::mixed_names;
 use resolve::Resolved;
-use search::Loaded;
+use search::LoadedObject;
 use std::alloc::Global;
 use std::collections::BTreeSet;
 
@@ -29,8 +29,8 @@ use std::collections::BTreeSet;
 /// OverlappingFields where a byte lies in the fields of two, Memory where memory is refused.
 pub fn references<'a>(
     alloc: Global,
-    objects: &[Loaded<'a>],
-    resolved: &Resolved<'_, 'a>,
+    objects: &[LoadedObject<'a>],
+    resolved: &Resolved<'a>,
 ) -> Result<(), RelocFault>
     requires { resolved.now ≡ loaded_views objects.now }
     ensures lawful { OnOk result (AreLawfulRelocations (loaded_views objects.now)) }
@@ -46,10 +46,10 @@ pub fn references<'a>(
 /// Judges the relocations of the object that has a number. A field of it meets none of another object's.
 fn judge_object<'a>(
     alloc: Global,
-    resolved: &Resolved<'_, 'a>,
+    resolved: &Resolved<'a>,
     mixed: &BTreeSet<&[u8]>,
     number: usize,
-    loaded: &Loaded<'a>,
+    loaded: &LoadedObject<'a>,
 ) -> Result<(), RelocFault>
     requires here { IsObjectAt resolved.now number (loaded_view loaded.now) }
     requires mixed { AreMixed resolved.now mixed.now }

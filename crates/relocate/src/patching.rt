@@ -19,18 +19,18 @@ use crate::thread_pointer::pointer_of;
 use got_tls::Slots;
 use layout::Placement;
 use resolve::Resolved;
-use search::Loaded;
+use search::LoadedObject;
 use std::alloc::Global;
 
 /// The rows of patches of the object that has a number.
 fn row_of<'a>(
     alloc: Global,
-    resolved: &Resolved<'_, 'a>,
-    placement: &Placement<'_, 'a>,
+    resolved: &Resolved<'a>,
+    placement: &Placement<'a>,
     slots: &Slots<'a>,
     pointer: u64,
     number: usize,
-    loaded: &Loaded<'a>,
+    loaded: &LoadedObject<'a>,
 ) -> Result<Vec<Vec<Patch>>, RelocFault>
     requires kinds { AreLawfulKinds placement.now.objects }
     requires slots { slots.now.slots ≡ wanted.slots placement.now.objects }
@@ -54,9 +54,9 @@ fn row_of<'a>(
 /// `Overflow` where the value of a relocation doesn't fit its field; `Memory`.
 pub fn patches<'a>(
     alloc: Global,
-    objects: &[Loaded<'a>],
-    resolved: &Resolved<'_, 'a>,
-    placement: &Placement<'_, 'a>,
+    objects: &[LoadedObject<'a>],
+    resolved: &Resolved<'a>,
+    placement: &Placement<'a>,
     slots: &Slots<'a>,
 ) -> Result<PatchTable, RelocFault>
     requires resolved { resolved.now ≡ loaded_views objects.now }

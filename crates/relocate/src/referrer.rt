@@ -13,7 +13,7 @@ use crate::targets::{
 };
 use elf_model::{RELA_SIZE, SHT_RELA};
 use resolve::Resolved;
-use search::Loaded;
+use search::LoadedObject;
 use std::alloc::{AllocError, Global};
 use std::collections::BTreeSet;
 
@@ -35,10 +35,10 @@ pub struct Reference {
 /// An object whose relocations are judged, with its number. The output names of several output sections are `mixed`.
 #[derive(Drop)]
 pub struct Referrer<'r, 'm, 'a> {
-    pub resolved: &'r Resolved<'r, 'a>,
+    pub resolved: &'r Resolved<'a>,
     pub mixed: &'r BTreeSet<&'m [u8]>,
     pub number: usize,
-    pub loaded: &'r Loaded<'a>,
+    pub loaded: &'r LoadedObject<'a>,
     /// What a reference to each symbol is, as far as there are rows.
     pub table: Vec<Reference>,
 }
@@ -53,10 +53,10 @@ pub struct Relocated {
 
 /// What a reference to symbol `j` of the object that has a number is.
 fn reference_to<'a>(
-    resolved: &Resolved<'_, 'a>,
+    resolved: &Resolved<'a>,
     mixed: &BTreeSet<&[u8]>,
     number: usize,
-    loaded: &Loaded<'a>,
+    loaded: &LoadedObject<'a>,
     j: usize,
 ) -> Reference
     requires here { IsObjectAt resolved.now number (loaded_view loaded.now) }
@@ -75,7 +75,7 @@ fn reference_to<'a>(
 }
 
 /// Whether an object has more relocations than symbols, so that a row for each symbol saves work.
-pub fn refers_often(loaded: &Loaded<'_>) -> bool {
+pub fn refers_often(loaded: &LoadedObject<'_>) -> bool {
     let mut size: u64 = 0;
     for header in loaded.object.sections() {
         if header.sh_type == SHT_RELA {
@@ -88,10 +88,10 @@ pub fn refers_often(loaded: &Loaded<'_>) -> bool {
 /// A row for each symbol of an object that refers often, and none of another one.
 fn table_of<'a>(
     alloc: Global,
-    resolved: &Resolved<'_, 'a>,
+    resolved: &Resolved<'a>,
     mixed: &BTreeSet<&[u8]>,
     number: usize,
-    loaded: &Loaded<'a>,
+    loaded: &LoadedObject<'a>,
 ) -> Result<Vec<Reference>, AllocError>
     requires here { IsObjectAt resolved.now number (loaded_view loaded.now) }
     requires mixed { AreMixed resolved.now mixed.now }
@@ -113,10 +113,10 @@ impl<'r, 'm, 'a> Referrer<'r, 'm, 'a> {
     /// The object that has a number.
     pub fn new(
         alloc: Global,
-        resolved: &'r Resolved<'r, 'a>,
+        resolved: &'r Resolved<'a>,
         mixed: &'r BTreeSet<&'m [u8]>,
         number: usize,
-        loaded: &'r Loaded<'a>,
+        loaded: &'r LoadedObject<'a>,
     ) -> Result<Referrer<'r, 'm, 'a>, AllocError>
         requires here { IsObjectAt resolved.now number (loaded_view loaded.now) }
         requires mixed { AreMixed resolved.now mixed.now }

@@ -15,8 +15,8 @@ use std::alloc::{AllocError, Global};
 
 /// The value of a slot's target modulo 2 to the 64, 0 where that means nothing.
 fn target_value<'a>(
-    resolved: &Resolved<'_, 'a>,
-    placement: &Placement<'_, '_>,
+    resolved: &Resolved<'a>,
+    placement: &Placement<'_>,
     slot: Slot<'a>,
 ) -> u64
     requires { AreLawfulKinds placement.now.objects }
@@ -27,8 +27,8 @@ fn target_value<'a>(
 
 /// What a slot holds: the value of its target, or that one's offset from the thread pointer, modulo 2 to the 64.
 fn slot_value<'a>(
-    resolved: &Resolved<'_, 'a>,
-    placement: &Placement<'_, '_>,
+    resolved: &Resolved<'a>,
+    placement: &Placement<'_>,
     pointer: u64,
     slot: Slot<'a>,
 ) -> u64
@@ -50,8 +50,8 @@ fn slot_value<'a>(
 /// Only where memory is refused.
 pub fn slot_values<'a>(
     alloc: Global,
-    resolved: &Resolved<'_, 'a>,
-    placement: &Placement<'_, '_>,
+    resolved: &Resolved<'a>,
+    placement: &Placement<'_>,
     slots: &Slots<'a>,
 ) -> Result<Vec<u64>, AllocError>
     requires { AreLawfulKinds placement.now.objects }

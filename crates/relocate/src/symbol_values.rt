@@ -15,7 +15,7 @@ use crate::values::{got_or_none, size_or_none, value_or_none};
 use got_tls::Slots;
 use layout::Placement;
 use resolve::Resolved;
-use search::Loaded;
+use search::LoadedObject;
 use std::alloc::{AllocError, Global};
 
 /// The value and the size of what a reference to a symbol uses, modulo 2 to the 64; 0 of nothing.
@@ -28,25 +28,25 @@ pub struct SymbolValue {
 /// An object whose relocations are given their values where the objects are laid out, with its number.
 #[derive(Drop)]
 pub struct Valued<'v, 'a> {
-    pub resolved: &'v Resolved<'v, 'a>,
-    pub placement: &'v Placement<'v, 'a>,
+    pub resolved: &'v Resolved<'a>,
+    pub placement: &'v Placement<'a>,
     pub slots: &'v Slots<'a>,
     /// The thread pointer, modulo 2 to the 64.
     pub pointer: u64,
     /// The address of the GOT, 0 without one.
     pub got: u64,
     pub number: usize,
-    pub loaded: &'v Loaded<'a>,
+    pub loaded: &'v LoadedObject<'a>,
     /// What each symbol is worth, as far as there are rows.
     pub table: Vec<SymbolValue>,
 }
 
 /// What symbol `j` of the object that has a number is worth.
 fn value_of_symbol<'a>(
-    resolved: &Resolved<'_, 'a>,
-    placement: &Placement<'_, 'a>,
+    resolved: &Resolved<'a>,
+    placement: &Placement<'a>,
     number: usize,
-    loaded: &Loaded<'a>,
+    loaded: &LoadedObject<'a>,
     j: usize,
 ) -> SymbolValue
     requires here { IsObjectAt resolved.now number (loaded_view loaded.now) }
@@ -63,10 +63,10 @@ fn value_of_symbol<'a>(
 /// A row for each symbol of an object that refers often, and none of another one.
 fn table_of<'a>(
     alloc: Global,
-    resolved: &Resolved<'_, 'a>,
-    placement: &Placement<'_, 'a>,
+    resolved: &Resolved<'a>,
+    placement: &Placement<'a>,
     number: usize,
-    loaded: &Loaded<'a>,
+    loaded: &LoadedObject<'a>,
 ) -> Result<Vec<SymbolValue>, AllocError>
     requires here { IsObjectAt resolved.now number (loaded_view loaded.now) }
     requires kinds { AreLawfulKinds placement.now.objects }
@@ -88,12 +88,12 @@ impl<'v, 'a> Valued<'v, 'a> {
     /// The object that has a number, where the GOT has these slots and the thread pointer is known.
     pub fn new(
         alloc: Global,
-        resolved: &'v Resolved<'v, 'a>,
-        placement: &'v Placement<'v, 'a>,
+        resolved: &'v Resolved<'a>,
+        placement: &'v Placement<'a>,
         slots: &'v Slots<'a>,
         pointer: u64,
         number: usize,
-        loaded: &'v Loaded<'a>,
+        loaded: &'v LoadedObject<'a>,
     ) -> Result<Valued<'v, 'a>, AllocError>
         requires here { IsObjectAt resolved.now number (loaded_view loaded.now) }
         requires kinds { AreLawfulKinds placement.now.objects }

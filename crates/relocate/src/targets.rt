@@ -18,8 +18,8 @@ ghost use Rattle.relocate.specs.References.{IsNamedUndefined, IsObjectAt, LacksD
 use crate::faults::RelocFault;
 use elf_model::{Bound, Rela, SHN_UNDEF, STB_LOCAL, STB_WEAK, SectionHeader, Symbol};
 use elf_read::Object;
-use resolve::{Meaning, Resolved, named_output};
-use search::Loaded;
+use resolve::{Definition, Resolved, named_output};
+use search::LoadedObject;
 use std::alloc::Global;
 use std::collections::BTreeSet;
 
@@ -99,7 +99,7 @@ fn is_weak(entry: &Symbol) -> bool
 }
 
 /// Whether a symbol of an object stands in a section that isn't kept.
-pub fn stands_in_unkept(loaded: &Loaded<'_>, entry: &Symbol) -> bool
+pub fn stands_in_unkept(loaded: &LoadedObject<'_>, entry: &Symbol) -> bool
     ensures { IsTrue result ↔ IsSomeAnd (section_in loaded.now.object entry.now) (λ h. is_kept (loaded_view loaded.now) entry.now.st_shndx h ≡ false) }
 {
     match section_of(&loaded.object, entry) {
@@ -109,7 +109,7 @@ pub fn stands_in_unkept(loaded: &Loaded<'_>, entry: &Symbol) -> bool
 }
 
 /// Whether a symbol of an object stands in a section that is dropped with its group.
-pub fn is_dropped(loaded: &Loaded<'_>, entry: &Symbol) -> bool
+pub fn is_dropped(loaded: &LoadedObject<'_>, entry: &Symbol) -> bool
     ensures { result ≡ is_dropped (loaded_view loaded.now) entry.now.st_shndx }
 {
     loaded.is_dropped(entry.st_shndx as usize)
@@ -137,11 +137,11 @@ pub fn holds_frames(object: &Object<'_>, number: usize) -> bool
 
 /// What a reference to symbol `j` of the object that has a number uses.
 pub fn definition_of<'a>(
-    resolved: &Resolved<'_, 'a>,
+    resolved: &Resolved<'a>,
     number: usize,
-    _loaded: &Loaded<'_>,
+    _loaded: &LoadedObject<'_>,
     j: usize,
-) -> Option<Meaning<'a>>
+) -> Option<Definition<'a>>
     requires { IsObjectAt resolved.now number (loaded_view _loaded.now) }
     ensures { option_map meaning_view result ≡ definition_of resolved.now (symbol_at number (loaded_view _loaded.now) j) }
 {
@@ -150,7 +150,7 @@ pub fn definition_of<'a>(
 
 /// Whether a reference to symbol number `j`, which has the entry and uses a definition if there is one, is in want of it:
 /// symbol 0 stands for none, and a WEAK one needs none.
-pub fn is_undefined(j: usize, entry: &Symbol, definition: &Option<Meaning<'_>>) -> bool
+pub fn is_undefined(j: usize, entry: &Symbol, definition: &Option<Definition<'_>>) -> bool
     ensures { IsTrue result ↔ LacksDefinition j entry.now (option_map meaning_view definition.now) }
 {
     if j == 0 || is_weak(entry) {
@@ -160,7 +160,7 @@ pub fn is_undefined(j: usize, entry: &Symbol, definition: &Option<Meaning<'_>>) 
 }
 
 /// Whether what a reference uses stands in a section with SHF_TLS.
-pub fn is_thread_local<'a>(resolved: &Resolved<'_, 'a>, definition: &Option<Meaning<'a>>) -> bool
+pub fn is_thread_local<'a>(resolved: &Resolved<'a>, definition: &Option<Definition<'a>>) -> bool
     ensures { result ≡ option_map_or (is_in_thread_storage resolved.now) (option_map meaning_view definition.now) false }
 {
     match definition {
@@ -181,13 +181,13 @@ fn is_mixed_bound(mixed: &BTreeSet<&[u8]>, name: &[u8], bound: Bound) -> bool
 }
 
 /// Whether what a reference uses is such a name of the linker's.
-pub fn is_mixed(mixed: &BTreeSet<&[u8]>, definition: &Option<Meaning<'_>>) -> bool
+pub fn is_mixed(mixed: &BTreeSet<&[u8]>, definition: &Option<Definition<'_>>) -> bool
     ensures { (objects : List LoadedObject) → AreMixed objects mixed.now → IsTrue result ↔ IsSomeAnd (option_map meaning_view definition.now) (IsMixed objects) }
 {
     match definition {
-        Some(Meaning::Linker(name, bound)) => is_mixed_bound(mixed, name, *bound),
-        Some(Meaning::Symbol(_)) => false,
-        Some(Meaning::Common(_)) => false,
+        Some(Definition::Linker(name, bound)) => is_mixed_bound(mixed, name, *bound),
+        Some(Definition::Symbol(_)) => false,
+        Some(Definition::Common(_)) => false,
         None => false,
     }
 }

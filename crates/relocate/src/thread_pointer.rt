@@ -8,7 +8,7 @@ use got_tls::{thread_pointer, tls_block};
 use layout::Placement;
 
 /// The thread pointer where objects are laid out, modulo 2 to the 64; 0 without thread-local storage.
-pub fn pointer_of(placement: &Placement<'_, '_>) -> u64
+pub fn pointer_of(placement: &Placement<'_>) -> u64
     requires { AreLawfulKinds placement.now.objects }
     ensures { result ≡ pointer_in (where_in placement.now) }
 {

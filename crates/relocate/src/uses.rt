@@ -17,26 +17,26 @@ ghost use Rattle.relocate.specs.Uses.{AreLinkerUses, IsUser, is_linkers, line_vi
 use crate::referrer::refers_often;
 use crate::targets::{entries_of, is_some_kind, name_of};
 use elf_model::{Bound, Rela, SectionHeader};
-use resolve::{Meaning, Resolved};
-use search::Loaded;
+use resolve::{Definition, Resolved};
+use search::LoadedObject;
 use std::alloc::{AllocError, Global};
 use std::collections::BTreeSet;
 
 /// Whether what a symbol uses is the linker's.
-fn is_linkers(definition: &Option<Meaning<'_>>) -> bool
+fn is_linkers(definition: &Option<Definition<'_>>) -> bool
     ensures { result ≡ is_linkers (option_map meaning_view definition.now) }
 {
     match definition {
-        Some(Meaning::Linker(_, _)) => true,
-        Some(Meaning::Symbol(_)) => false,
-        Some(Meaning::Common(_)) => false,
+        Some(Definition::Linker(_, _)) => true,
+        Some(Definition::Symbol(_)) => false,
+        Some(Definition::Common(_)) => false,
         None => false,
     }
 }
 
 /// Whether symbol `j` of the object that has a number isn't LOCAL and has a name that the linker defines and no object
 /// does.
-fn is_linker_use(resolved: &Resolved<'_, '_>, number: usize, loaded: &Loaded<'_>, j: usize) -> bool
+fn is_linker_use(resolved: &Resolved<'_>, number: usize, loaded: &LoadedObject<'_>, j: usize) -> bool
     requires { IsObjectAt resolved.now number (loaded_view loaded.now) }
     ensures { result ≡ is_linker_use resolved.now (symbol_at number (loaded_view loaded.now) j) }
 {
@@ -53,9 +53,9 @@ fn add_name<'a>(names: &mut BTreeSet<&'a [u8]>, name: &'a [u8]) -> Result<(), Al
 /// An object whose relocations use names, with its number.
 #[derive(Drop)]
 struct User<'u, 'a> {
-    resolved: &'u Resolved<'u, 'a>,
+    resolved: &'u Resolved<'a>,
     number: usize,
-    loaded: &'u Loaded<'a>,
+    loaded: &'u LoadedObject<'a>,
     /// Whether each symbol is one of a linker's name, as far as there are rows.
     table: Vec<bool>,
 }
@@ -63,9 +63,9 @@ struct User<'u, 'a> {
 /// A row for each symbol of an object that refers often, and none of another one.
 fn table_of(
     alloc: Global,
-    resolved: &Resolved<'_, '_>,
+    resolved: &Resolved<'_>,
     number: usize,
-    loaded: &Loaded<'_>,
+    loaded: &LoadedObject<'_>,
 ) -> Result<Vec<bool>, AllocError>
     requires { IsObjectAt resolved.now number (loaded_view loaded.now) }
     ensures { IfOk result (λ v. AreLinkerUses resolved.now number (loaded_view loaded.now) v.items) }
@@ -171,9 +171,9 @@ fn add_relocations<'a>(
 fn add_object<'a>(
     alloc: Global,
     names: &mut BTreeSet<&'a [u8]>,
-    resolved: &Resolved<'_, 'a>,
+    resolved: &Resolved<'a>,
     number: usize,
-    loaded: &Loaded<'a>,
+    loaded: &LoadedObject<'a>,
 ) -> Result<(), AllocError>
     requires { IsObjectAt resolved.now number (loaded_view loaded.now) }
     ensures { OnOk result (Gains resolved.now (relocations_from number (loaded_view loaded.now)) names.old names.new) }
@@ -191,8 +191,8 @@ fn add_object<'a>(
 /// The linker's names that kept relocations use and no object defines.
 fn used_names<'a>(
     alloc: Global,
-    objects: &[Loaded<'a>],
-    resolved: &Resolved<'_, 'a>,
+    objects: &[LoadedObject<'a>],
+    resolved: &Resolved<'a>,
 ) -> Result<BTreeSet<&'a [u8]>, AllocError>
     requires { resolved.now ≡ loaded_views objects.now }
     ensures { IfOk result (λ s. (n : List ℕ) → is_among s n ≡ list_any (uses_line (loaded_views objects.now) n) (relocations (loaded_views objects.now))) }
@@ -207,7 +207,7 @@ fn used_names<'a>(
 /// Adds a name with what the linker defines it as, where it does.
 fn add_line<'a>(
     lines: &mut Vec<(&'a [u8], Bound)>,
-    resolved: &Resolved<'_, '_>,
+    resolved: &Resolved<'_>,
     name: &'a [u8],
 ) -> Result<(), AllocError>
     ensures { OnOk result (line_views lines.new.items ≡ line_views lines.old.items ++ option_to_list (linker_meaning resolved.now name.entry.now)) }
@@ -221,7 +221,7 @@ fn add_line<'a>(
 /// What the linker defines the names of a set as, where it does.
 fn lines_of<'a>(
     alloc: Global,
-    resolved: &Resolved<'_, '_>,
+    resolved: &Resolved<'_>,
     names: &BTreeSet<&'a [u8]>,
 ) -> Result<Vec<(&'a [u8], Bound)>, AllocError>
     ensures lines { IfOk result (λ v. line_views v.items ≡ linker_meanings resolved.now names.now.keys) }
@@ -242,8 +242,8 @@ fn lines_of<'a>(
 /// Only where memory is refused.
 pub fn linker_lines<'a>(
     alloc: Global,
-    objects: &[Loaded<'a>],
-    resolved: &Resolved<'_, 'a>,
+    objects: &[LoadedObject<'a>],
+    resolved: &Resolved<'a>,
 ) -> Result<Vec<(&'a [u8], Bound)>, AllocError>
     requires { resolved.now ≡ loaded_views objects.now }
     ensures { IfOk result (λ v. AreLinkerLines (loaded_views objects.now) (line_views v.items)) }

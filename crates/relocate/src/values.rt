@@ -20,10 +20,10 @@ use crate::thread_pointer::offset_from;
 use elf_model::{Rela, SHN_ABS};
 use got_tls::{Slot, target_of};
 use layout::Placement;
-use resolve::{Meaning, SymbolOf};
+use resolve::{Definition, SymbolOf};
 
 /// The address of a section of an object, or of a common block, 0 where it isn't kept.
-pub fn address_or_none(placement: &Placement<'_, '_>, number: usize, target: usize) -> u64
+pub fn address_or_none(placement: &Placement<'_>, number: usize, target: usize) -> u64
     ensures { result ≡ section_address (where_in placement.now).placed number target }
 {
     match placement.address(number, target) {
@@ -34,7 +34,7 @@ pub fn address_or_none(placement: &Placement<'_, '_>, number: usize, target: usi
 
 /// The value of a symbol that is defined, modulo 2 to the 64: an absolute one's own, else the address of its
 /// section plus its own, 0 where the section isn't kept.
-fn symbol_value(placement: &Placement<'_, '_>, symbol: &SymbolOf<'_>) -> u64
+fn symbol_value(placement: &Placement<'_>, symbol: &SymbolOf<'_>) -> u64
     ensures { result ≡ symbol_value (where_in placement.now).placed (symbol_view symbol.now) % 2 ^ 64 }
 {
     let entry = symbol.entry;
@@ -48,20 +48,20 @@ fn symbol_value(placement: &Placement<'_, '_>, symbol: &SymbolOf<'_>) -> u64
 }
 
 /// The value of what a name means, modulo 2 to the 64.
-fn value_of(placement: &Placement<'_, '_>, meaning: &Meaning<'_>) -> u64
+fn value_of(placement: &Placement<'_>, meaning: &Definition<'_>) -> u64
     requires { AreLawfulKinds placement.now.objects }
     ensures { result ≡ meaning_value (where_in placement.now) (meaning_view meaning.now) % 2 ^ 64 }
 {
     match meaning {
-        Meaning::Symbol(symbol) => symbol_value(placement, symbol),
-        Meaning::Common(block) => {
+        Definition::Symbol(symbol) => symbol_value(placement, symbol),
+        Definition::Common(block) => {
             address_or_none(placement, block.object as usize, block.number as usize)
         }
-        Meaning::Linker(name, bound) => placement.bound(name, *bound),
+        Definition::Linker(name, bound) => placement.bound(name, *bound),
     }
 }
 
-pub fn value_or_none(placement: &Placement<'_, '_>, definition: &Option<Meaning<'_>>) -> u64
+pub fn value_or_none(placement: &Placement<'_>, definition: &Option<Definition<'_>>) -> u64
     requires { AreLawfulKinds placement.now.objects }
     ensures { result ≡ unwrap_or (option_map (meaning_value (where_in placement.now)) (option_map meaning_view definition.now)) 0 % 2 ^ 64 }
 {
@@ -72,17 +72,17 @@ pub fn value_or_none(placement: &Placement<'_, '_>, definition: &Option<Meaning<
 }
 
 /// The size of what a name means; 0 for the linker's own names.
-fn size_of(meaning: &Meaning<'_>) -> u64
+fn size_of(meaning: &Definition<'_>) -> u64
     ensures { result ≡ meaning_size (meaning_view meaning.now) % 2 ^ 64 }
 {
     match meaning {
-        Meaning::Symbol(symbol) => symbol.entry.st_size,
-        Meaning::Common(block) => block.size,
-        Meaning::Linker(_, _) => 0,
+        Definition::Symbol(symbol) => symbol.entry.st_size,
+        Definition::Common(block) => block.size,
+        Definition::Linker(_, _) => 0,
     }
 }
 
-pub fn size_or_none(definition: &Option<Meaning<'_>>) -> u64
+pub fn size_or_none(definition: &Option<Definition<'_>>) -> u64
     ensures { result ≡ unwrap_or (option_map meaning_size (option_map meaning_view definition.now)) 0 % 2 ^ 64 }
 {
     match definition {
@@ -92,7 +92,7 @@ pub fn size_or_none(definition: &Option<Meaning<'_>>) -> u64
 }
 
 /// The address of the GOT, modulo 2 to the 64; 0 without one.
-pub fn got_or_none(placement: &Placement<'_, '_>) -> u64
+pub fn got_or_none(placement: &Placement<'_>) -> u64
     ensures { result ≡ got_start (where_in placement.now).got % 2 ^ 64 }
 {
     match placement.got() {

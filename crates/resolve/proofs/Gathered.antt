@@ -4,12 +4,12 @@ use Rattle.std.specs.Prelude.{filter}
 use Rattle.std.proofs.lemmas.List.Elements.{filter-append}
 use Rattle.elf_model.specs.ChosenSymbols.{is_definition}
 use Rattle.elf_model.specs.Resolution.{SymbolOf}
-use Rattle.search.specs.declared.loading.Loaded.{Loaded}
+use Rattle.search.specs.declared.loaded.LoadedObject as code
 use Rattle.resolve.proofs.Walks.{next_object, symbols_here, symbols_left}
 
 -- one more object
 pub definitions_more :
-    (found more all : List SymbolOf) (objects : List Loaded) (k : ℕ) (d : Loaded) →
+    (found more all : List SymbolOf) (objects : List code.LoadedObject) (k : ℕ) (d : code.LoadedObject) →
     k < length objects → d ≡ get_or objects k d → more ≡ found ++ filter is_definition (symbols_here k d) →
     found ++ filter is_definition (symbols_left k objects) ≡ all →
     more ++ filter is_definition (symbols_left (k + 1) objects) ≡ all

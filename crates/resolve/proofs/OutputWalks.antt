@@ -8,7 +8,7 @@ use Rattle.elf_model.specs.Pieces.{Piece, is_kept, is_of_output, piece_of, piece
 use Rattle.elf_model.specs.declared.records.SectionHeader.{SectionHeader}
 use Rattle.elf_model.proofs.Rests.{rest_at}
 use Rattle.search.specs.Views.{loaded_view, loaded_views}
-use Rattle.search.specs.declared.loading.Loaded.{Loaded}
+use Rattle.search.specs.declared.loaded.LoadedObject as code
 use Rattle.resolve.specs.Outputs.{is_output_of}
 use Rattle.resolve.proofs.Walks.{next_loaded}
 
@@ -56,7 +56,7 @@ module _ (n : List ℕ) where
 
   -- the objects that are left
   pub object_more :
-      (objects : List Loaded) (k : ℕ) (d : Loaded) (old new whole : Bool) → k < length objects → d ≡ get_or objects k d →
+      (objects : List code.LoadedObject) (k : ℕ) (d : code.LoadedObject) (old new whole : Bool) → k < length objects → d ≡ get_or objects k d →
       new ≡ (old || list_any (is_of_output n) (pieces_from k (loaded_view d) 0 (sections d.object))) →
       (old || list_any (is_of_output n) (pieces_of k (drop k (loaded_views objects)))) ≡ whole →
       (new || list_any (is_of_output n) (pieces_of (k + 1) (drop (k + 1) (loaded_views objects)))) ≡ whole

@@ -1,12 +1,14 @@
 -- What a reference to a symbol means, by its object's and its own number.
 use Rattle.std.specs.Prelude.{ℕ, cond, List, Option, Some, None, option_map}
 use Rattle.std.specs.List.{slice_get}
-use Rattle.std.specs.Option.{option_and_then}
+use Rattle.std.specs.Option.{option_and_then, option_map_or}
 use Rattle.elf_model.specs.Loading.{LoadedObject}
 use Rattle.elf_model.specs.LinkerNames.{bound_of}
+use Rattle.elf_model.specs.MapRecord.{OfLocal, TargetRow}
 use Rattle.elf_model.specs.Meaning.{Linker, Meaning, Symbol}
 use Rattle.elf_model.specs.Relocation.{definition_of, is_local, symbol_at}
 use Rattle.elf_model.specs.Resolution.{SymbolOf, chosen, is_undefined}
+use Rattle.elf_model.specs.Slots.{target_of}
 
 -- what a symbol of an object means; nothing where there is no such object
 abbrev pub at_symbol : {X : Type 0} → (SymbolOf → Option X) → List LoadedObject → ℕ → ℕ → Option X
@@ -31,3 +33,8 @@ unchosen_of objects s =
 
 abbrev pub unchosen_at : List LoadedObject → ℕ → ℕ → Option Meaning
 unchosen_at objects = at_symbol (unchosen_of objects) objects
+
+-- the target of a reference to a symbol: itself where it is LOCAL, or where there is no such object; else its name
+abbrev pub target_at : List LoadedObject → ℕ → ℕ → TargetRow
+target_at objects object number =
+    option_map_or (λ o. target_of (symbol_at object o number)) (slice_get objects object) (OfLocal object number)

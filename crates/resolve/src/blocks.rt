@@ -8,6 +8,7 @@ ghost use Rattle.resolve.specs.Blocks.{block_by, block_in, block_view, block_vie
 ghost use Rattle.resolve.specs.Views.{symbol_view, symbol_views};
 
 use crate::entries::{SymbolOf, is_common};
+use elf_model::{ObjectId, SectionRef};
 use std::alloc::{AllocError, Global};
 use std::collections::BTreeMap;
 use symbols::NameTable;
@@ -21,6 +22,19 @@ pub struct Block<'a> {
     pub name: &'a [u8],
     pub size: u64,
     pub align: u64,
+}
+
+impl<'a> Block<'a> {
+    /// Its numbers, as those of a section.
+    pub fn section(&self) -> SectionRef
+        ensures object { result.object.0 ≡ self.now.object }
+        ensures section { result.section ≡ self.now.number }
+    {
+        SectionRef {
+            object: ObjectId(self.object),
+            section: self.number,
+        }
+    }
 }
 
 /// What the common symbols of a name ask for: the greatest size, and the greatest alignment, at least 1.

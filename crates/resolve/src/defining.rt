@@ -20,7 +20,7 @@ use crate::entries::{SymbolOf, is_definition, is_dropped, symbol_in};
 use crate::faults::ResolveFault;
 use crate::offering::{first_twin, keep_meant, offer_all};
 use crate::soundness::{are_sound, are_sound_commons};
-use search::Loaded;
+use search::LoadedObject;
 use std::alloc::{AllocError, Global};
 use symbols::NameTable;
 
@@ -28,7 +28,7 @@ use symbols::NameTable;
 fn add_definitions<'a>(
     found: &mut Vec<SymbolOf<'a>>,
     number: u64,
-    loaded: &Loaded<'a>,
+    loaded: &LoadedObject<'a>,
 ) -> Result<(), AllocError>
     ensures { OnOk result (symbol_views found.new.items ≡ symbol_views found.old.items ++ filter is_definition (symbols_from number (loaded_view loaded.now) 0 (symbols loaded.now.object))) }
 {
@@ -42,7 +42,7 @@ fn add_definitions<'a>(
 }
 
 /// How many definitions the objects have, as far as it can be counted: for so many there is to be room.
-fn definition_count(objects: &[Loaded<'_>]) -> usize {
+fn definition_count(objects: &[LoadedObject<'_>]) -> usize {
     let mut count: usize = 0;
     for loaded in objects {
         for entry in loaded.object.symbols() {
@@ -58,7 +58,7 @@ fn definition_count(objects: &[Loaded<'_>]) -> usize {
 /// The definitions of all objects, strong, common and weak, in load order.
 pub fn definitions<'a>(
     alloc: Global,
-    objects: &[Loaded<'a>],
+    objects: &[LoadedObject<'a>],
 ) -> Result<Vec<SymbolOf<'a>>, AllocError>
     ensures { IfOk result (λ v. symbol_views v.items ≡ definitions (loaded_views objects.now)) }
 {
@@ -101,7 +101,7 @@ pub struct Defined<'a> {
 /// Memory where memory is refused.
 pub fn define<'a, T: NameTable<'a>>(
     alloc: Global,
-    objects: &[Loaded<'a>],
+    objects: &[LoadedObject<'a>],
     table: &mut T,
 ) -> Result<Defined<'a>, ResolveFault>
     requires { T.rows table.old ≡ no_rows }

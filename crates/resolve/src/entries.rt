@@ -9,7 +9,7 @@ ghost use Rattle.resolve.specs.Views.{symbol_view};
 
 use elf_model::{SHN_COMMON, SHN_UNDEF, STB_GLOBAL, STB_LOCAL, STB_WEAK, Symbol};
 use elf_read::Object;
-use search::Loaded;
+use search::LoadedObject;
 
 /// A symbol of a loaded object: its object's and its own number, its name, its entry, and whether it stands in a
 /// section that is dropped.
@@ -33,7 +33,7 @@ pub fn name_of<'a>(object: &Object<'a>, j: usize) -> &'a [u8]
 }
 
 /// Symbol `j` of the object that has a number, with its entry.
-pub fn symbol_in<'a>(number: u64, loaded: &Loaded<'a>, j: usize, entry: &Symbol) -> SymbolOf<'a>
+pub fn symbol_in<'a>(number: u64, loaded: &LoadedObject<'a>, j: usize, entry: &Symbol) -> SymbolOf<'a>
     ensures { symbol_view result ≡ symbol_of number (loaded_view loaded.now) j entry.now }
 {
     SymbolOf {
@@ -46,7 +46,7 @@ pub fn symbol_in<'a>(number: u64, loaded: &Loaded<'a>, j: usize, entry: &Symbol)
 }
 
 /// Whether a symbol of an object stands in a section that is dropped.
-pub fn is_dropped(loaded: &Loaded<'_>, entry: &Symbol) -> bool
+pub fn is_dropped(loaded: &LoadedObject<'_>, entry: &Symbol) -> bool
     ensures { result ≡ is_dropped (loaded_view loaded.now) entry.now.st_shndx }
 {
     loaded.is_dropped(entry.st_shndx as usize)

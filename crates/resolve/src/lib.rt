@@ -6,9 +6,9 @@
 mod blocks;
 mod bounds;
 mod defining;
+mod definition;
 mod entries;
 mod faults;
-mod meaning;
 mod offering;
 mod output_names;
 mod outputs;
@@ -18,11 +18,12 @@ mod resolved;
 mod rows;
 mod sections;
 mod soundness;
+mod targets;
 
 pub use blocks::Block;
 pub use bounds::named_output;
 pub use entries::SymbolOf;
+pub use definition::Definition;
 pub use faults::ResolveFault;
-pub use meaning::Meaning;
 pub use output_names::output_name;
 pub use resolved::{Resolved, resolve, resolve_over};

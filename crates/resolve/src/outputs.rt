@@ -11,7 +11,7 @@ ghost use Rattle.resolve.specs.Outputs.{AreOutputs, is_output_of};
 use crate::output_names::output_name;
 use elf_model::SectionHeader;
 use elf_read::Object;
-use search::Loaded;
+use search::LoadedObject;
 use std::alloc::{AllocError, Global};
 use std::collections::BTreeSet;
 
@@ -40,7 +40,7 @@ fn output_name_at<'a>(object: &Object<'a>, i: usize) -> &'a [u8]
 /// Adds the output name of section `i`, which has the header, where it is kept.
 fn add_section<'a>(
     names: &mut BTreeSet<&'a [u8]>,
-    loaded: &Loaded<'a>,
+    loaded: &LoadedObject<'a>,
     i: usize,
     header: &SectionHeader,
 ) -> Result<(), AllocError>
@@ -56,7 +56,7 @@ fn add_section<'a>(
 fn add_object<'a>(
     names: &mut BTreeSet<&'a [u8]>,
     number: usize,
-    loaded: &Loaded<'a>,
+    loaded: &LoadedObject<'a>,
 ) -> Result<(), AllocError>
     ensures { OnOk result ((n : List ℕ) → is_among names.new n ≡ (is_among names.old n || list_any (is_of_output n) (pieces_from number (loaded_view loaded.now) 0 (sections loaded.now.object)))) }
 {
@@ -71,7 +71,7 @@ fn add_object<'a>(
 /// The output names of the kept sections of all objects.
 pub fn output_names_of<'a>(
     alloc: Global,
-    objects: &[Loaded<'a>],
+    objects: &[LoadedObject<'a>],
 ) -> Result<BTreeSet<&'a [u8]>, AllocError>
     ensures { IfOk result (AreOutputs (loaded_views objects.now)) }
 {

@@ -10,14 +10,14 @@ use crate::entries::{SymbolOf, is_dropped, is_local, is_strong, name_of};
 use crate::offering::chosen_of;
 use crate::rows::{place_at, put};
 use elf_model::Symbol;
-use search::Loaded;
+use search::LoadedObject;
 use symbols::NameTable;
 
 /// What definitions are found by: the loaded objects, their definitions in the order of their names, and
 /// the table to which these were offered.
 #[derive(Drop)]
 pub struct Index<'i, 'a, T> {
-    pub objects: &'i [Loaded<'a>],
+    pub objects: &'i [LoadedObject<'a>],
     pub definitions: &'i [SymbolOf<'a>],
     pub table: &'i T,
 }
@@ -63,7 +63,7 @@ fn name_place<'a, T: NameTable<'a>>(
 fn symbol_place<'a, T: NameTable<'a>>(
     index: &Index<'_, 'a, T>,
     places: &[Vec<usize>],
-    loaded: &Loaded<'a>,
+    loaded: &LoadedObject<'a>,
     j: usize,
     entry: &Symbol,
 ) -> usize
@@ -84,7 +84,7 @@ fn write_at<'a, T: NameTable<'a>>(
     index: &Index<'_, 'a, T>,
     places: &mut Vec<Vec<usize>>,
     number: usize,
-    loaded: &Loaded<'a>,
+    loaded: &LoadedObject<'a>,
     j: usize,
     entry: &Symbol,
 )
@@ -107,7 +107,7 @@ fn write_in<'a, T: NameTable<'a>>(
     index: &Index<'_, 'a, T>,
     places: &mut Vec<Vec<usize>>,
     number: usize,
-    loaded: &Loaded<'a>,
+    loaded: &LoadedObject<'a>,
 )
     requires indexed { IsIndex (loaded_views index.now.objects.now) index.now.definitions.now (T.rows index.now.table.now) }
     requires ranked { AreRanked (loaded_views index.now.objects.now) index.now.definitions.now places.old.items }

@@ -7,11 +7,11 @@ ghost use Rattle.resolve.specs.Places.{AreRanked};
 
 use crate::entries::SymbolOf;
 use crate::rows::put;
-use search::Loaded;
+use search::LoadedObject;
 use std::alloc::{AllocError, Global};
 
 /// Rows of zeros, one for each object with one for each of its symbols.
-fn blank_rows(alloc: Global, objects: &[Loaded<'_>]) -> Result<Vec<Vec<usize>>, AllocError>
+fn blank_rows(alloc: Global, objects: &[LoadedObject<'_>]) -> Result<Vec<Vec<usize>>, AllocError>
     ensures { IfOk result (λ v. map (λ row. length row.items) v.items ≡ map (λ o. length (symbols o.bytes)) (loaded_views objects.now)) }
 {
     let mut rows = Vec::with_capacity(alloc, objects.len())?;
@@ -25,7 +25,7 @@ fn blank_rows(alloc: Global, objects: &[Loaded<'_>]) -> Result<Vec<Vec<usize>>, 
 /// The place of each definition, in rows for the symbols of each object, and 0 for every other symbol.
 pub fn ranks_of(
     alloc: Global,
-    objects: &[Loaded<'_>],
+    objects: &[LoadedObject<'_>],
     definitions: &[SymbolOf<'_>],
 ) -> Result<Vec<Vec<usize>>, AllocError>
     requires { AreDefinitions (loaded_views objects.now) definitions.now }

@@ -1,5 +1,5 @@
 //! What names and symbols mean among the loaded objects.
-ghost use Rattle.std.specs.Prelude.{◌≡◌, IfErr, IfNone, IfOk, IfSome, OnOk, OnSome, None, Some, cond, false, find};
+ghost use Rattle.std.specs.Prelude.{◌≡◌, ℕ, List, IfErr, IfNone, IfOk, IfSome, OnOk, OnSome, None, Some, cond, false, find};
 ghost use Rattle.std.specs.Cmp.Lexicographic.{slice_cmp};
 ghost use Rattle.std.specs.List.{slice_get};
 ghost use Rattle.std.specs.List.Sorted.{IsSortedByKey};
@@ -11,10 +11,10 @@ ghost use Rattle.elf_model.specs.Meaning as meaning;
 ghost use Rattle.elf_model.specs.Meaning.{is_in_thread_storage, object_meaning};
 ghost use Rattle.elf_model.specs.Resolution.{AreSoundCommons, AreSoundSymbols, AreUnique, IsEntry, chosen, has_name, is_undefined, symbol_of};
 ghost use Rattle.elf_model.specs.Slots.{target_meaning};
-ghost use Rattle.search.specs.Views.{loaded_view, loaded_views};
-ghost use Rattle.resolve.specs.Blocks.{block_view, block_views};
+ghost use Rattle.search.specs.Views.{loaded_view};
+ghost use Rattle.resolve.specs.Blocks.{block_in, block_view, block_views};
 ghost use Rattle.resolve.specs.Defined.{AreDefinitions, HasEachNameOnce};
-ghost use Rattle.resolve.specs.Meaning.{definition_at, named_at, unchosen_at};
+ghost use Rattle.resolve.specs.Meaning.{definition_at, named_at, target_at, unchosen_at};
 ghost use Rattle.resolve.specs.Refusals.{ResolvingFails};
 ghost use Rattle.resolve.specs.Views.{meaning_view, symbol_view, symbol_views, target_view};
 ghost use Rattle.symbols.specs.Rows.{no_rows};
@@ -24,62 +24,77 @@ use crate::bounds::bound_of;
 use crate::defining::define;
 use crate::entries::{SymbolOf, is_common, is_local, is_undefined, name_of, symbol_in};
 use crate::faults::ResolveFault;
-use crate::meaning::Meaning;
+use crate::definition::Definition;
 use crate::outputs::output_names_of;
 use crate::places::{Index, write_places};
 use crate::ranks::ranks_of;
 use crate::rows::place_at;
 use crate::sections::is_in_thread_section;
-use elf_model::{Bound, Symbol, Target};
-use search::Loaded;
-use std::alloc::Global;
+use crate::targets::target_of;
+use elf_model::{Bound, Symbol, SymbolRef, Target};
+use search::{Loaded, LoadedObject};
+use std::alloc::{AllocError, Global};
 use std::collections::{BTreeMap, BTreeSet};
 use std::hash::{BuildHasherDefault, FoldHasher};
 use std::marker::Model;
+use std::rc::Rc;
 use symbols::{IndexedTable, NameTable};
 
 /// The loaded objects, whose symbols are sound and whose names have one strong definition at most, with
 /// the definitions that their names and symbols mean.
 #[derive(Drop)]
-pub struct Resolved<'b, 'a> {
-    objects: &'b [Loaded<'a>],
+pub struct Resolved<'a> {
+    loaded: Loaded<'a>,
     definitions: Vec<SymbolOf<'a>>,
     places: Vec<Vec<usize>>,
     blocks: Vec<Block<'a>>,
-    named_blocks: BTreeMap<&'a [u8], Block<'a>>,
+    named_blocks: Rc<BTreeMap<&'a [u8], Block<'a>>>,
     outputs: BTreeSet<&'a [u8]>,
 }
 
-impl<'b, 'a> Model for Resolved<'b, 'a> {
+impl<'a> Model for Resolved<'a> {
     ghost use Rattle.std.specs.Prelude.{List};
-    ghost use Rattle.elf_model.specs.Loading.{LoadedObject};
+    ghost use Rattle.elf_model.specs.Loading as loading;
 
-    ghost Value = { List LoadedObject };
+    ghost Value = { List loading.LoadedObject };
 
-    ghost use Rattle.search.specs.Views.{loaded_views};
     ghost use Rattle.resolve.specs.Tables.{AreTables};
 
-    ghost view = { λ r. loaded_views r.objects.now };
+    ghost view = { λ r. r.loaded.objects };
 
-    ghost invariant = { λ r. AreTables (loaded_views r.objects.now) r.definitions.items r.places.items r.blocks.items r.named_blocks r.outputs };
+    ghost invariant = { λ r. AreTables r.loaded.objects r.definitions.items r.places.items r.blocks.items r.named_blocks.value r.outputs };
 }
 
-/// Resolves the names of loaded objects by any table of names: offers it each definition once, in
+/// An index of common blocks that several values hold.
+fn shared<'a>(
+    alloc: Global,
+    index: BTreeMap<&'a [u8], Block<'a>>,
+) -> Result<Rc<BTreeMap<&'a [u8], Block<'a>>>, AllocError>
+    ensures { IfOk result (λ r. r.value ≡ index.entry) }
+{
+    match Rc::new(alloc, index) {
+        Ok(index) => Ok(index),
+        Err(_refused) => Err(AllocError),
+    }
+}
+
+/// Resolves the names of what is loaded by any table of names: offers it each definition once, in
 /// load order, and looks each symbol's name up once, but for LOCAL ones. The table is empty at the start.
 ///
 /// # Errors
 ///
 /// As `resolve`.
-pub fn resolve_over<'b, 'a, T: NameTable<'a> + Drop>(
+pub fn resolve_over<'a, T: NameTable<'a> + Drop>(
     alloc: Global,
-    objects: &'b [Loaded<'a>],
+    loaded: &Loaded<'a>,
     table: T,
-) -> Result<Resolved<'b, 'a>, ResolveFault>
+) -> Result<Resolved<'a>, ResolveFault>
     requires { T.rows table ≡ no_rows }
-    ensures exact { IfOk result (λ r. r ≡ loaded_views objects.entry.now) }
-    ensures resolved { OnOk result (AreSoundCommons (loaded_views objects.entry.now) × AreSoundSymbols (loaded_views objects.entry.now) × AreUnique (loaded_views objects.entry.now)) }
-    ensures fault { IfErr result (ResolvingFails (loaded_views objects.entry.now)) }
+    ensures exact { IfOk result (λ r. r ≡ loaded.now.objects) }
+    ensures resolved { OnOk result (AreSoundCommons loaded.now.objects × AreSoundSymbols loaded.now.objects × AreUnique loaded.now.objects) }
+    ensures fault { IfErr result (ResolvingFails loaded.now.objects) }
 {
+    let objects = loaded.objects();
     let mut offered = table;
     let defined = define(alloc, objects, &mut offered)?;
     let mut places = ranks_of(alloc, objects, &defined.symbols)?;
@@ -92,31 +107,28 @@ pub fn resolve_over<'b, 'a, T: NameTable<'a> + Drop>(
     let named_blocks = index_of(alloc, &defined.blocks)?;
     let outputs = output_names_of(alloc, objects)?;
     Ok(Resolved {
-        objects,
+        loaded: loaded.clone()?,
         definitions: defined.symbols,
         places,
         blocks: defined.blocks,
-        named_blocks,
+        named_blocks: shared(alloc, named_blocks)?,
         outputs,
     })
 }
 
-/// Resolves the names of loaded objects.
+/// Resolves the names of what is loaded.
 ///
 /// # Errors
 ///
 /// BadCommon where a common symbol isn't sound, BadSymbol where another one isn't, Duplicate where a name has two
 /// strong definitions, Memory.
-pub fn resolve<'b, 'a>(
-    alloc: Global,
-    objects: &'b [Loaded<'a>],
-) -> Result<Resolved<'b, 'a>, ResolveFault>
-    ensures exact { IfOk result (λ r. r ≡ loaded_views objects.entry.now) }
-    ensures resolved { OnOk result (AreSoundCommons (loaded_views objects.entry.now) × AreSoundSymbols (loaded_views objects.entry.now) × AreUnique (loaded_views objects.entry.now)) }
-    ensures fault { IfErr result (ResolvingFails (loaded_views objects.entry.now)) }
+pub fn resolve<'a>(alloc: Global, loaded: &Loaded<'a>) -> Result<Resolved<'a>, ResolveFault>
+    ensures exact { IfOk result (λ r. r ≡ loaded.now.objects) }
+    ensures resolved { OnOk result (AreSoundCommons loaded.now.objects × AreSoundSymbols loaded.now.objects × AreUnique loaded.now.objects) }
+    ensures fault { IfErr result (ResolvingFails loaded.now.objects) }
 {
     let seed: BuildHasherDefault<FoldHasher> = BuildHasherDefault::new();
-    resolve_over(alloc, objects, IndexedTable::with_hasher(alloc, seed))
+    resolve_over(alloc, loaded, IndexedTable::with_hasher(alloc, seed))
 }
 
 /// The definition at a place; None past the end.
@@ -139,16 +151,16 @@ fn found<'a>(definitions: &[SymbolOf<'a>], name: &[u8]) -> Option<SymbolOf<'a>>
 }
 
 /// Symbol `j` of an object itself, where it is defined.
-fn itself<'a>(number: u64, loaded: &Loaded<'a>, j: usize, entry: &Symbol) -> Option<Meaning<'a>>
+fn itself<'a>(number: u64, loaded: &LoadedObject<'a>, j: usize, entry: &Symbol) -> Option<Definition<'a>>
     ensures { option_map meaning_view result ≡ cond (is_undefined entry.now) None (Some (meaning.Symbol (symbol_of number (loaded_view loaded.now) j entry.now))) }
 {
     if is_undefined(entry) {
         return None;
     }
-    Some(Meaning::Symbol(symbol_in(number, loaded, j, entry)))
+    Some(Definition::Symbol(symbol_in(number, loaded, j, entry)))
 }
 
-impl<'b, 'a> Resolved<'b, 'a> {
+impl<'a> Resolved<'a> {
     /// The chosen definitions, in the order of their names.
     pub fn definitions(&self) -> &[SymbolOf<'a>]
         ensures { AreDefinitions self.now result.now }
@@ -163,8 +175,8 @@ impl<'b, 'a> Resolved<'b, 'a> {
         self.definitions
     }
 
-    /// The chosen definition of a name; None where it has none.
-    pub fn chosen(&self, name: &[u8]) -> Option<SymbolOf<'a>>
+    /// The symbol that defines a name; None where no object does.
+    pub fn symbol(&self, name: &[u8]) -> Option<SymbolOf<'a>>
         ensures { option_map symbol_view result ≡ chosen self.now name.now }
     {
         found(&self.definitions, name)
@@ -172,9 +184,17 @@ impl<'b, 'a> Resolved<'b, 'a> {
 
     /// The common blocks, in load order.
     pub fn blocks(&self) -> &[Block<'a>]
-        ensures { block_views result.now ≡ blocks self.now }
+        ensures exact { block_views result.now ≡ blocks self.now }
+        ensures sound { AreSoundCommons self.now }
     {
         self.blocks.as_slice()
+    }
+
+    /// The common blocks by their names, as several values may hold them.
+    pub fn named_blocks(&self) -> &Rc<BTreeMap<&'a [u8], Block<'a>>>
+        ensures { (name : List ℕ) → block_in result.now.value name ≡ block_named self.now name }
+    {
+        &self.named_blocks
     }
 
     /// The common block of a name; None where it has none.
@@ -185,21 +205,34 @@ impl<'b, 'a> Resolved<'b, 'a> {
     }
 
     /// What a chosen symbol means: a common one, its name's block; another one, itself.
-    pub fn meant(&self, symbol: &SymbolOf<'a>) -> Option<Meaning<'a>>
+    pub fn meant(&self, symbol: &SymbolOf<'a>) -> Option<Definition<'a>>
         ensures { option_map meaning_view result ≡ meaning.meant self.now (symbol_view symbol.now) }
     {
         if !is_common(&symbol.entry) {
-            return Some(Meaning::Symbol(*symbol));
+            return Some(Definition::Symbol(*symbol));
         }
         let block = self.block(symbol.name)?;
-        Some(Meaning::Common(block))
+        Some(Definition::Common(block))
     }
 
-    /// What a reference to symbol `number` of an object uses: what its name's chosen definition means, or else the
-    /// linker's; or the symbol itself where that is LOCAL. None where there is none, nor such an object.
-    pub fn definition(&self, object: usize, number: usize) -> Option<Meaning<'a>>
-        ensures { option_map meaning_view result ≡ definition_at self.now object number }
+    /// The target of a reference to a symbol: the symbol itself where that is LOCAL, or where there is no such symbol; else
+    /// its name.
+    pub fn definition(&self, symbol: SymbolRef) -> Target<'a>
+        ensures { target_view result ≡ target_at self.now symbol.object.0 symbol.symbol }
     {
+        match self.loaded.objects().get(symbol.object.0 as usize) {
+            Some(loaded) => target_of(symbol, loaded),
+            None => Target::Local(symbol),
+        }
+    }
+
+    /// The definition that a reference to a symbol uses: as `chosen` of its target, found by the symbol's number, without a
+    /// look-up of its name.
+    pub fn used(&self, symbol: SymbolRef) -> Option<Definition<'a>>
+        ensures { option_map meaning_view result ≡ definition_at self.now symbol.object.0 symbol.symbol }
+    {
+        let object = symbol.object.0 as usize;
+        let number = symbol.symbol as usize;
         match self.chosen_meaning(object, number) {
             Some(meaning) => Some(meaning),
             None => self.unchosen(object, number),
@@ -207,7 +240,7 @@ impl<'b, 'a> Resolved<'b, 'a> {
     }
 
     /// What the chosen definition of a symbol's name means, for one that isn't LOCAL.
-    fn chosen_meaning(&self, object: usize, number: usize) -> Option<Meaning<'a>>
+    fn chosen_meaning(&self, object: usize, number: usize) -> Option<Definition<'a>>
         ensures { option_map meaning_view result ≡ option_and_then (meaning.meant self.now) (named_at self.now object number) }
     {
         let symbol = self.named(object, number)?;
@@ -230,18 +263,18 @@ impl<'b, 'a> Resolved<'b, 'a> {
     }
 
     /// What the linker defines for a name.
-    fn linker_meaning(&self, name: &'a [u8]) -> Option<Meaning<'a>>
+    fn linker_meaning(&self, name: &'a [u8]) -> Option<Definition<'a>>
         ensures { option_map meaning_view result ≡ option_map (meaning.Linker name.now) (bound_of self.now name.now) }
     {
         let bound = self.bound(name)?;
-        Some(Meaning::Linker(name, bound))
+        Some(Definition::Linker(name, bound))
     }
 
     /// A symbol itself, for a LOCAL one that is defined; what the linker defines for the name of another one.
-    fn unchosen(&self, object: usize, number: usize) -> Option<Meaning<'a>>
+    fn unchosen(&self, object: usize, number: usize) -> Option<Definition<'a>>
         ensures { option_map meaning_view result ≡ unchosen_at self.now object number }
     {
-        let loaded = self.objects.get(object)?;
+        let loaded = self.loaded.objects().get(object)?;
         let entry = loaded.object.symbols().get(number)?;
         if is_local(entry) {
             return itself(object as u64, loaded, number, entry);
@@ -250,15 +283,15 @@ impl<'b, 'a> Resolved<'b, 'a> {
     }
 
     /// What the chosen definition of a name means.
-    fn object_meaning(&self, name: &[u8]) -> Option<Meaning<'a>>
+    fn object_meaning(&self, name: &[u8]) -> Option<Definition<'a>>
         ensures { option_map meaning_view result ≡ object_meaning self.now name.now }
     {
-        let chosen = self.chosen(name)?;
-        self.meant(&chosen)
+        let symbol = self.symbol(name)?;
+        self.meant(&symbol)
     }
 
     /// What a name means: what its chosen definition does, or else the linker's.
-    fn named_meaning(&self, name: &'a [u8]) -> Option<Meaning<'a>>
+    fn named_meaning(&self, name: &'a [u8]) -> Option<Definition<'a>>
         ensures { option_map meaning_view result ≡ meaning.meaning self.now name.now }
     {
         match self.object_meaning(name) {
@@ -267,49 +300,46 @@ impl<'b, 'a> Resolved<'b, 'a> {
         }
     }
 
-    /// What the target of a relocation means: what its name does; or the LOCAL symbol itself, by its object's and its
-    /// own number. None where that is undefined (as number 0 is), or where there is no such object.
-    pub fn meaning_of(&self, target: &Target<'a>) -> Option<Meaning<'a>>
+    /// The chosen definition of a target: of a name what its strong, common or weak definition is, or else the linker's; of
+    /// a LOCAL symbol that itself. None where that is undefined (as number 0 is), or where there is no such object.
+    pub fn chosen(&self, target: &Target<'a>) -> Option<Definition<'a>>
         ensures { option_map meaning_view result ≡ target_meaning self.now (target_view target.now) }
     {
         match target {
             Target::Name(name) => self.named_meaning(name),
-            Target::Local(symbol) => {
-                self.definition(symbol.object.0 as usize, symbol.symbol as usize)
-            }
+            Target::Local(symbol) => self.used(*symbol),
         }
     }
 
     /// Whether what a name means stands in a section with SHF_TLS; a common block doesn't, nor does the linker's.
-    pub fn is_in_thread_storage(&self, meaning: &Meaning<'a>) -> bool
+    pub fn is_in_thread_storage(&self, meaning: &Definition<'a>) -> bool
         ensures { result ≡ is_in_thread_storage self.now (meaning_view meaning.now) }
     {
         match meaning {
-            Meaning::Symbol(symbol) => is_in_thread_section(self.objects, symbol),
-            Meaning::Common(_) => false,
-            Meaning::Linker(_, _) => false,
+            Definition::Symbol(symbol) => is_in_thread_section(self.loaded.objects(), symbol),
+            Definition::Common(_) => false,
+            Definition::Linker(_, _) => false,
         }
     }
 
-    /// Whether what a reference to symbol `number` of an object uses stands in a section with SHF_TLS; one that has
-    /// no definition doesn't.
-    pub fn is_thread_local(&self, object: usize, number: usize) -> bool
-        ensures { result ≡ option_map_or (is_in_thread_storage self.now) (definition_at self.now object number) false }
+    /// Whether what a reference to a symbol uses stands in a section with SHF_TLS; one that has no definition doesn't.
+    pub fn is_thread_local(&self, symbol: SymbolRef) -> bool
+        ensures { result ≡ option_map_or (is_in_thread_storage self.now) (definition_at self.now symbol.object.0 symbol.symbol) false }
     {
-        match self.definition(object, number) {
+        match self.used(symbol) {
             Some(meaning) => self.is_in_thread_storage(&meaning),
             None => false,
         }
     }
 
     /// What the entry's name means by its chosen definition, which stands in no section with SHF_TLS.
-    pub fn entry(&self, name: &[u8]) -> Option<Meaning<'a>>
+    pub fn entry(&self, name: &[u8]) -> Option<Definition<'a>>
         ensures meaning { IfSome result (λ m. object_meaning self.now name.now ≡ Some (meaning_view m)) }
         ensures entry { OnSome result (IsEntry self.now name.now) }
         ensures none { IfNone result (¬ IsEntry self.now name.now) }
     {
-        let symbol = self.chosen(name)?;
-        if is_in_thread_section(self.objects, &symbol) {
+        let symbol = self.symbol(name)?;
+        if is_in_thread_section(self.loaded.objects(), &symbol) {
             return None;
         }
         self.meant(&symbol)

@@ -8,10 +8,10 @@ ghost use Rattle.resolve.specs.Views.{symbol_view};
 
 use crate::entries::{SymbolOf, is_undefined};
 use elf_model::{SectionHeader, Symbol};
-use search::Loaded;
+use search::LoadedObject;
 
 /// The sections of the object that has a number; none where there is no such object.
-fn sections_at<'b>(objects: &'b [Loaded<'_>], number: usize) -> &'b [SectionHeader]
+fn sections_at<'b>(objects: &'b [LoadedObject<'_>], number: usize) -> &'b [SectionHeader]
     ensures { result.now ≡ sections_of_object (slice_get (loaded_views objects.entry.now) number) }
 {
     match objects.get(number) {
@@ -22,7 +22,7 @@ fn sections_at<'b>(objects: &'b [Loaded<'_>], number: usize) -> &'b [SectionHead
 
 /// The section in which a symbol of the object that has a number is defined; None where it is undefined,
 /// absolute or common.
-pub fn section_of(objects: &[Loaded<'_>], number: usize, entry: &Symbol) -> Option<SectionHeader>
+pub fn section_of(objects: &[LoadedObject<'_>], number: usize, entry: &Symbol) -> Option<SectionHeader>
     ensures { result ≡ section_by (loaded_views objects.now) number entry.now }
 {
     if is_undefined(entry) {
@@ -33,7 +33,7 @@ pub fn section_of(objects: &[Loaded<'_>], number: usize, entry: &Symbol) -> Opti
 }
 
 /// Whether a symbol stands in a section with SHF_TLS.
-pub fn is_in_thread_section(objects: &[Loaded<'_>], symbol: &SymbolOf<'_>) -> bool
+pub fn is_in_thread_section(objects: &[LoadedObject<'_>], symbol: &SymbolOf<'_>) -> bool
     ensures { result ≡ is_in_thread_section (loaded_views objects.now) (symbol_view symbol.now) }
 {
     match section_of(objects, symbol.object as usize, &symbol.entry) {

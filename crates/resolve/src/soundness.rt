@@ -9,7 +9,7 @@ use crate::entries::{is_common, is_dropped, name_of};
 use crate::sections::section_of;
 use elf_model::{STB_GLOBAL, STT_TLS, SectionHeader, Symbol};
 use elf_read::is_power_of_two;
-use search::Loaded;
+use search::LoadedObject;
 
 fn is_visible(entry: &Symbol) -> bool
     ensures { IsTrue result ↔ (1 ≤ binding entry.now) }
@@ -31,9 +31,9 @@ fn stands_well(entry: &Symbol, section: &SectionHeader) -> bool
 /// Whether symbol `j` of the object that has a number is sound, by its entry: a GLOBAL or WEAK one has a
 /// name, and each stands well in its section where it has one that isn't dropped.
 fn is_sound(
-    objects: &[Loaded<'_>],
+    objects: &[LoadedObject<'_>],
     number: u64,
-    loaded: &Loaded<'_>,
+    loaded: &LoadedObject<'_>,
     j: usize,
     entry: &Symbol,
 ) -> bool
@@ -52,7 +52,7 @@ fn is_sound(
 }
 
 /// Whether the symbols of the object that has a number are sound among the objects.
-fn has_sound_symbols(objects: &[Loaded<'_>], number: u64, loaded: &Loaded<'_>) -> bool
+fn has_sound_symbols(objects: &[LoadedObject<'_>], number: u64, loaded: &LoadedObject<'_>) -> bool
     ensures { IsTrue result ↔ All (IsSoundSymbol (loaded_views objects.now)) (symbols_from number (loaded_view loaded.now) 0 (symbols loaded.now.object)) }
 {
     let entries = loaded.object.symbols();
@@ -65,7 +65,7 @@ fn has_sound_symbols(objects: &[Loaded<'_>], number: u64, loaded: &Loaded<'_>) -
 }
 
 /// Whether all symbols of the objects are sound.
-pub fn are_sound(objects: &[Loaded<'_>]) -> bool
+pub fn are_sound(objects: &[LoadedObject<'_>]) -> bool
     ensures { IsTrue result ↔ AreSoundSymbols (loaded_views objects.now) }
 {
     for (k, loaded) in objects.iter().enumerate() {
@@ -87,7 +87,7 @@ fn is_block_alignment(align: u64) -> bool
 
 /// Whether a symbol is sound as a common one, by its entry: where it is common, it is GLOBAL, not of type TLS, and its
 /// st_value is a power of two up to 2 ^ 21.
-fn is_sound_common(number: u64, loaded: &Loaded<'_>, j: usize, entry: &Symbol) -> bool
+fn is_sound_common(number: u64, loaded: &LoadedObject<'_>, j: usize, entry: &Symbol) -> bool
     ensures { IsTrue result ↔ IsSoundCommon (symbol_of number (loaded_view loaded.now) j entry.now) }
 {
     let _numbers = (number, j);
@@ -101,7 +101,7 @@ fn is_sound_common(number: u64, loaded: &Loaded<'_>, j: usize, entry: &Symbol) -
 }
 
 /// Whether the common symbols of the object that has a number are sound.
-fn has_sound_commons(number: u64, loaded: &Loaded<'_>) -> bool
+fn has_sound_commons(number: u64, loaded: &LoadedObject<'_>) -> bool
     ensures { IsTrue result ↔ All IsSoundCommon (symbols_from number (loaded_view loaded.now) 0 (symbols loaded.now.object)) }
 {
     let entries = loaded.object.symbols();
@@ -114,7 +114,7 @@ fn has_sound_commons(number: u64, loaded: &Loaded<'_>) -> bool
 }
 
 /// Whether all common symbols of the objects are sound.
-pub fn are_sound_commons(objects: &[Loaded<'_>]) -> bool
+pub fn are_sound_commons(objects: &[LoadedObject<'_>]) -> bool
     ensures { IsTrue result ↔ AreSoundCommons (loaded_views objects.now) }
 {
     for (k, loaded) in objects.iter().enumerate() {

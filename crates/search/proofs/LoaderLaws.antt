@@ -19,7 +19,7 @@ use Rattle.search.specs.Loaders.{Knows, asked_from, asked_in, defined_from, defi
 use Rattle.search.specs.Names.{is_among, with_name}
 use Rattle.search.specs.Taken.{TakenMembers, has_item, has_member, with_member_taken}
 use Rattle.search.specs.Views.{loaded_view, loaded_views}
-use Rattle.search.specs.declared.loading.Loaded.{Loaded}
+use Rattle.search.specs.declared.loaded.LoadedObject as code
 use Rattle.search.proofs.NameSets.{among_with}
 use Rattle.search.proofs.NotedNames.{stepped}
 use Rattle.search.specs.declared.loader.Loader.{Loader}
@@ -180,10 +180,10 @@ roots_step us j d n old new total within next is =
 
 -- An object that is pushed.
 pub pushed :
-    (ls new : List Loaded) (x : Loaded) (os : List LoadedObject) (o : Opened) (offset : ℕ) (bytes : List ℕ) → loaded_views ls ≡ os → new ≡ ls ++ x ∷ [] →
+    (ls new : List code.LoadedObject) (x : code.LoadedObject) (os : List LoadedObject) (o : Opened) (offset : ℕ) (bytes : List ℕ) → loaded_views ls ≡ os → new ≡ ls ++ x ∷ [] →
     loaded_view x ≡ object_behind os o offset bytes → loaded_views new ≡ with_object os o offset bytes
 pushed ls new x os o offset bytes old is one =
-    ap (λ (l : List Loaded). loaded_views l) is
+    ap (λ (l : List code.LoadedObject). loaded_views l) is
     ∙ (map-append loaded_view ls (x ∷ []) ∙ (ap (λ (l : List LoadedObject). l ++ loaded_view x ∷ []) old ∙ ap (λ (y : LoadedObject). os ++ y ∷ []) one))
 
 -- The sections that are dropped behind what is loaded.

@@ -1,5 +1,6 @@
 pub mod Faults
 pub mod Loaders
+pub mod Loads
 pub mod Names
 pub mod Opened
 pub mod Steps

@@ -7,10 +7,10 @@ ghost use Rattle.elf_model.specs.Pieces.{is_kept};
 ghost use Rattle.elf_model.specs.Relocation.{is_kept_rela};
 ghost use Rattle.search.specs.Views.{loaded_view};
 
-use crate::loading::Loaded;
+use crate::loaded::LoadedObject;
 use elf_model::{SHT_RELA, SectionHeader};
 
-impl<'a> Loaded<'a> {
+impl<'a> LoadedObject<'a> {
     /// Whether a section is dropped with its group, by its number.
     pub fn is_dropped(&self, number: usize) -> bool
         ensures { result ≡ is_dropped (loaded_view self.now) number }

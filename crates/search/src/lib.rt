@@ -6,6 +6,7 @@ mod archives;
 mod faults;
 mod files;
 mod keeping;
+mod loaded;
 mod loader;
 mod loading;
 mod names;
@@ -16,4 +17,5 @@ mod turns;
 mod waits;
 
 pub use faults::SearchFault;
-pub use loading::{Loaded, load};
+pub use loaded::{Loaded, LoadedObject};
+pub use loading::load;

@@ -13,7 +13,7 @@ ghost use Rattle.search.specs.Opened.{item_view};
 ghost use Rattle.search.specs.Views.{loaded_views};
 
 use crate::faults::{SearchFault, group_fault, object_fault};
-use crate::loading::Loaded;
+use crate::loaded::LoadedObject;
 use crate::names::NameSet;
 use crate::opening::OpenedItem;
 use crate::taken::Taken;
@@ -35,7 +35,7 @@ pub struct Names<'a> {
 #[derive(Drop)]
 pub struct Loader<'p, 'a> {
     plan: &'p Plan<'a>,
-    objects: Vec<Loaded<'a>>,
+    objects: Vec<LoadedObject<'a>>,
     groups: Groups<'a>,
     names: Names<'a>,
     taken: Taken,
@@ -174,7 +174,7 @@ impl<'p, 'a> Loader<'p, 'a> {
         };
         note_names(&mut self.names, &object, &dropped)?;
         self.taken.add(item.number, offset)?;
-        self.objects.push(Loaded {
+        self.objects.push(LoadedObject {
             object,
             item: item.number,
             offset,
@@ -225,7 +225,7 @@ impl<'p, 'a> Loader<'p, 'a> {
     }
 
     /// The objects that are loaded, in load order.
-    pub fn into_objects(self) -> Vec<Loaded<'a>>
+    pub fn into_objects(self) -> Vec<LoadedObject<'a>>
         ensures { loaded_views result.items ≡ loaded self.entry }
     {
         self.objects

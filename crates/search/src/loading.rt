@@ -13,30 +13,14 @@ ghost use Rattle.search.specs.Views.{loaded_views};
 use crate::archives::{Input, read_inputs};
 use crate::faults::SearchFault;
 use crate::files::FileIndex;
+use crate::loaded::Loaded;
 use crate::loader::Loader;
 use crate::opening::open;
 use crate::runs::run_rounds;
 use crate::turns::{turn, waits_for};
-use comdat::Dropped;
 use command::Plan;
 use elf_model::InputFile;
-use elf_read::Object;
 use std::alloc::Global;
-
-/// A loaded object.
-#[derive(Drop)]
-pub struct Loaded<'a> {
-    /// What its bytes hold.
-    pub object: Object<'a>,
-    /// The number of its item in the command.
-    pub item: u64,
-    /// The offset of its member's header in the archive; 0 for an object item.
-    pub offset: u64,
-    /// The path of its file.
-    pub path: &'a str,
-    /// Its dropped sections.
-    pub dropped: Dropped,
-}
 
 /// The number of an archive's group; None of one that is in none, and of an object.
 fn group_of(input: &Input<'_>) -> Option<u64>
@@ -127,7 +111,7 @@ fn load_inputs<'a>(
     Ok(())
 }
 
-/// The loaded objects of a plan, in load order (ld(1)).
+/// The plan, and the objects that it loads, in load order (ld(1)).
 ///
 /// An object item is loaded where it stands. An archive has one turn: the first entry of its index, in the
 /// index's order, whose name is needed and whose member isn't loaded gives its member, again and again until
@@ -144,8 +128,9 @@ pub fn load<'a>(
     alloc: Global,
     plan: &Plan<'a>,
     files: &'a [InputFile],
-) -> Result<Vec<Loaded<'a>>, SearchFault>
-    ensures loaded { IfOk result (λ v. loaded_views v.items ≡ loaded_objects (files_of files.entry.now) plan.now) }
+) -> Result<Loaded<'a>, SearchFault>
+    ensures plan { IfOk result (λ l. l.plan ≡ plan.now) }
+    ensures loaded { IfOk result (λ l. l.objects ≡ loaded_objects (files_of files.entry.now) plan.now) }
     ensures rules { OnOk result (FollowsRules (files_of files.entry.now) plan.now) }
     ensures files { OnOk result (AreFilesThere (files_of files.entry.now) plan.now) }
     ensures archives { OnOk result (AreArchives (opened (files_of files.entry.now) plan.now)) }
@@ -159,5 +144,6 @@ pub fn load<'a>(
     let inputs = read_inputs(alloc, &items)?;
     let mut loader = Loader::new(alloc, plan)?;
     load_inputs(alloc, &mut loader, &inputs)?;
-    Ok(loader.into_objects())
+    let loaded = Loaded::new(alloc, plan, loader.into_objects())?;
+    Ok(loaded)
 }

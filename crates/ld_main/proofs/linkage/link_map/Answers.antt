@@ -7,7 +7,7 @@ use Rattle.elf_model.specs.Pieces.{AreLawfulKinds}
 use Rattle.layout.specs.Placements.{Basis}
 use Rattle.elf_model.specs.OwnLayout.{IsNotTooLarge, own_in_load_order}
 use Rattle.resolve.specs.Views.{meaning_view, meaning_views}
-use Rattle.resolve.specs.declared.meaning.Meaning as code
+use Rattle.resolve.specs.declared.definition.Definition as code
 use Rattle.ld_main.specs.Linkages.{IsLinkageOf, Prepared}
 use Rattle.ld_main.specs.Listings.{IsListing}
 use Rattle.ld_main.specs.Maps.{IsMapOf, LiesWithin, own_table}
@@ -23,8 +23,8 @@ map_of_layout-requires-clause-inside c =
     let x = c.linkage.inside.parts in
     let made : IsLinkageOf l.plan l.objects x = subst (λ (y : Prepared). IsLinkageOf y.plan y.objects x) c.linkage.view_is c.linkage.invariant in
     let laid = made.linkable.laid_out in
-    subst (λ (b : Basis). All (λ (m : code.Meaning). LiesWithin (own_in_load_order b.base b.objects) (meaning_view m)) c.deref-2.result.now) (sym c.placement-placement.ensures)
-    (subst (λ (ds : List code.Meaning). All (λ (m : code.Meaning). LiesWithin (own_in_load_order l.plan.base l.objects) (meaning_view m)) ds)
+    subst (λ (b : Basis). All (λ (m : code.Definition). LiesWithin (own_in_load_order b.base b.objects) (meaning_view m)) c.deref-2.result.now) (sym c.placement-placement.ensures)
+    (subst (λ (ds : List code.Definition). All (λ (m : code.Definition). LiesWithin (own_in_load_order l.plan.base l.objects) (meaning_view m)) ds)
     (sym c.deref-2.ensures.value)
     (All-unmap (LiesWithin (own_in_load_order l.plan.base l.objects)) meaning_view x.listed.items
     (meanings_lie l.plan.base l.objects laid.referred.resolved.kinds laid.not_too_large made.listed.sound (meaning_views x.listed.items) made.listed.listed)))

@@ -8,7 +8,7 @@ use Rattle.elf_model.specs.OwnLayout.{IsNotTooLarge, own_in_load_order, own_wher
 use Rattle.elf_model.specs.Pieces.{AreLawfulKinds}
 use Rattle.layout.specs.Placements.{Basis}
 use Rattle.resolve.specs.Views.{meaning_view, meaning_views}
-use Rattle.resolve.specs.declared.meaning.Meaning as code
+use Rattle.resolve.specs.declared.definition.Definition as code
 use Rattle.search.specs.Views.{loaded_views}
 use Rattle.elf_model.proofs.Listed.{All-unmap}
 use Rattle.ld_main.specs.Maps.{LiesWithin, own_record, own_table}
@@ -30,8 +30,8 @@ show_spellings-requires-clause-inside c =
     let placed : c.new-placement.result ≡ record { base = c.args.plan.now.base; objects = loaded_views c.args.objects.now } =
     c.new-placement.ensures ∙ ap (λ (p : Plan). record { base = p.base; objects = loaded_views c.args.objects.now }) c.plan.view_is in
     let d = c.requires.listed in
-    subst (λ (b : Basis). All (λ (m : code.Meaning). LiesWithin (own_in_load_order b.base b.objects) (meaning_view m)) c.deref.result.now) (sym placed)
-    (subst (λ (ds : List code.Meaning). All (λ (m : code.Meaning). LiesWithin (own_in_load_order c.args.plan.now.base (loaded_views c.args.objects.now)) (meaning_view m)) ds)
+    subst (λ (b : Basis). All (λ (m : code.Definition). LiesWithin (own_in_load_order b.base b.objects) (meaning_view m)) c.deref.result.now) (sym placed)
+    (subst (λ (ds : List code.Definition). All (λ (m : code.Definition). LiesWithin (own_in_load_order c.args.plan.now.base (loaded_views c.args.objects.now)) (meaning_view m)) ds)
     (sym c.deref.ensures.value)
     (All-unmap (LiesWithin (own_in_load_order c.args.plan.now.base (loaded_views c.args.objects.now))) meaning_view c.args.listed.items
     (meanings_lie c.args.plan.now.base (loaded_views c.args.objects.now) laid.referred.resolved.kinds laid.not_too_large d.sound
@@ -85,6 +85,6 @@ returns c =
       entry_fits = c.meaning_value-entry.ensures.fits;
       spelled =
           subst (λ (b : Basis). Fits (own_record b (meaning_views c.args.listed.items))) placed
-          (subst (λ (ms : List code.Meaning). Fits (own_record c.new-placement.result (meaning_views ms))) c.deref.ensures.value
+          (subst (λ (ms : List code.Definition). Fits (own_record c.new-placement.result (meaning_views ms))) c.deref.ensures.value
           c.show_spellings.ensures);
     }

@@ -2,7 +2,7 @@ use Rattle.std.proofs.Common.{List, subst, sym}
 use Rattle.elf_model.specs.Causes.{Cause}
 use Rattle.elf_model.specs.Files.{files_of, words_of}
 use Rattle.search.specs.Views.{loaded_views}
-use Rattle.search.specs.declared.loading.Loaded.{Loaded}
+use Rattle.search.specs.declared.loaded.LoadedObject as code
 use Rattle.ld_main.specs.Linkages.{IsLinkageOf}
 use Rattle.ld_main.specs.Outputs.{LinksRefuse}
 use Rattle.ld_main.proofs.FinalRefusals.{denies_links}
@@ -27,7 +27,7 @@ returns-in-Ok-prepare_objects-clause-prepared g c =
     c.in-Ok.ensures.plan c.in-Ok-load.ensures.files c.in-Ok-load.ensures.archives c.in-Ok-load.ensures.indexes c.in-Ok-load.ensures.objects
     c.in-Ok-load.ensures.groups
     c.in-Ok-prepare_objects.parts
-    (subst (λ (xs : List Loaded). IsLinkageOf p (loaded_views xs) c.in-Ok-prepare_objects.parts) c.deref.ensures.value
+    (subst (λ (xs : List code.LoadedObject). IsLinkageOf p (loaded_views xs) c.in-Ok-prepare_objects.parts) c.deref.ensures.value
     c.in-Ok-prepare_objects.ensures.made)
 
 pub returns-in-Ok-prepare_objects-clause-own : goal.returns-in-Ok-prepare_objects-clause-own
@@ -42,7 +42,7 @@ returns-in-Ok-prepare_objects-clause-right g c =
     c.in-Ok.ensures.plan c.in-Ok-load.ensures.files c.in-Ok-load.ensures.archives c.in-Ok-load.ensures.indexes c.in-Ok-load.ensures.objects
     c.in-Ok-load.ensures.groups
     c.in-Ok-prepare_objects.parts
-    (subst (λ (xs : List Loaded). IsLinkageOf p (loaded_views xs) c.in-Ok-prepare_objects.parts) c.deref.ensures.value
+    (subst (λ (xs : List code.LoadedObject). IsLinkageOf p (loaded_views xs) c.in-Ok-prepare_objects.parts) c.deref.ensures.value
     c.in-Ok-prepare_objects.ensures.made)
 
 pub returns-clause-cause : goal.returns-clause-cause
@@ -52,7 +52,7 @@ returns-clause-cause g c =
     c.in-Ok.ensures.plan c.in-Ok-load.ensures.files c.in-Ok-load.ensures.archives c.in-Ok-load.ensures.indexes c.in-Ok-load.ensures.objects
     c.in-Ok-load.ensures.groups
     c.in-Err-prepare_objects.error
-    (subst (λ (xs : List Loaded). LinksRefuse p (loaded_views xs) c.in-Err-prepare_objects.error) c.deref.ensures.value
+    (subst (λ (xs : List code.LoadedObject). LinksRefuse p (loaded_views xs) c.in-Err-prepare_objects.error) c.deref.ensures.value
     c.in-Err-prepare_objects.ensures.fault)
 
 pub returns-clause-no_link : goal.returns-clause-no_link

@@ -4,7 +4,7 @@ use Rattle.std.proofs.lemmas.List.{drop_all}
 use Rattle.std.proofs.lemmas.List.Elements.{All-nil}
 use Rattle.elf_model.specs.MapText.{FitsCommon}
 use Rattle.resolve.specs.Views.{meaning_views}
-use Rattle.resolve.specs.declared.meaning.Meaning as code
+use Rattle.resolve.specs.declared.definition.Definition as code
 use Rattle.ld_main.specs.CommonRows.{own_commons}
 use Rattle.ld_main.proofs.Spellings.{commons_fit}
 use Rattle.ld_main.proofs.spelling.show_commons.Goals as goal
@@ -20,5 +20,5 @@ returns c =
     let end : drop c.loop-meaning.meaning-index c.args.listed.now ≡ [] =
     drop_all c.loop-meaning.meaning-index c.args.listed.now (omega (arith, past)) in
     c.loop-meaning.invariant
-    (subst (λ (ys : List code.Meaning). All FitsCommon (own_commons c.args.placement.now.base c.args.placement.now.objects (meaning_views ys))) (sym end)
+    (subst (λ (ys : List code.Definition). All FitsCommon (own_commons c.args.placement.now.base c.args.placement.now.objects (meaning_views ys))) (sym end)
     (All-nil FitsCommon))

@@ -6,7 +6,7 @@ use Rattle.elf_model.specs.MapText.{FitsSymbol}
 use Rattle.elf_model.specs.RightLink.{symbol_row_of}
 use Rattle.elf_model.specs.OwnLayout.{own_where}
 use Rattle.resolve.specs.Views.{meaning_views}
-use Rattle.resolve.specs.declared.meaning.Meaning as code
+use Rattle.resolve.specs.declared.definition.Definition as code
 use Rattle.ld_main.proofs.Spellings.{symbols_fit}
 use Rattle.ld_main.proofs.spelling.show_symbols.Goals as goal
 
@@ -21,5 +21,5 @@ returns c =
     let end : drop c.loop-meaning.meaning-index c.args.listed.now ≡ [] =
     drop_all c.loop-meaning.meaning-index c.args.listed.now (omega (arith, past)) in
     c.loop-meaning.invariant
-    (subst (λ (ys : List code.Meaning). All FitsSymbol (map (symbol_row_of (own_where c.args.placement.now.base c.args.placement.now.objects)) (meaning_views ys))) (sym end)
+    (subst (λ (ys : List code.Definition). All FitsSymbol (map (symbol_row_of (own_where c.args.placement.now.base c.args.placement.now.objects)) (meaning_views ys))) (sym end)
     (All-nil FitsSymbol))

@@ -1,7 +1,7 @@
 use Rattle.std.proofs.Common.{◌+◌, ◌∙◌, List, Some, ap, drop, map, option_map, subst, sym}
 use Rattle.std.specs.List.{slice_get}
 use Rattle.std.proofs.lemmas.Option.{slice_get-get_or, slice_get-map}
-use Rattle.search.specs.declared.loading.Loaded.{Loaded}
+use Rattle.search.specs.declared.loaded.LoadedObject as code
 use Rattle.std.proofs.lemmas.Result.{err_from_is_err_and}
 use Rattle.elf_model.proofs.FlatRelocations.{left_of_objects}
 use Rattle.elf_model.specs.Loading.{LoadedObject}
@@ -42,4 +42,4 @@ judge_object-requires-clause-here c =
     ap (λ (L : List LoadedObject). slice_get L c.loop-k.k) c.requires
     ∙ slice_get-map loaded_view c.args.objects.now c.loop-k.k
     ∙ ap (option_map loaded_view) (slice_get-get_or c.args.objects.now c.loop-k.k c.index-objects-k.result c.loop-k-test.true)
-    ∙ ap (λ (x : Loaded). Some (loaded_view x)) (sym c.index-objects-k.is)
+    ∙ ap (λ (x : code.LoadedObject). Some (loaded_view x)) (sym c.index-objects-k.is)

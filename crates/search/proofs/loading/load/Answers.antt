@@ -44,15 +44,16 @@ returns-clause-loaded c =
     let items : map item_view c.deref.result.now ≡ opened files plan =
     ap (λ (l : List OpenedItem). map item_view l) c.deref.ensures.value ∙ (c.in_ok-items.ensures.opened ∙ ap (λ (fs : List File). opened fs plan) c.in_ok-index.ensures) in
     let inputs : c.deref-2.result.now ≡ opened files plan = c.deref-2.ensures.value ∙ (c.in_ok-inputs.ensures.exact ∙ items) in
-    c.into_objects.ensures
+    c.in_ok-loaded.ensures.objects
+    ∙ (c.into_objects.ensures
     ∙ (c.in_ok-load_inputs.ensures.loaded
-    ∙ whole files plan c.in_ok-loader.loader.plan.now c.deref-2.result.now (loaded c.in_ok-loader.loader) c.in_ok-loader.ensures.plan inputs c.in_ok-loader.ensures.loaded)
+    ∙ whole files plan c.in_ok-loader.loader.plan.now c.deref-2.result.now (loaded c.in_ok-loader.loader) c.in_ok-loader.ensures.plan inputs c.in_ok-loader.ensures.loaded))
 
 pub returns-clause-rules : goal.returns-clause-rules
 returns-clause-rules c = follows_rules (files_of c.args.files.now) c.args.plan.now
 
 pub returns-clause-objects : goal.returns-clause-objects
-returns-clause-objects c = subst AreObjects (sym c.into_objects.ensures ∙ returns-clause-loaded c) c.in_ok-load_inputs.ensures.known.objects
+returns-clause-objects c = subst AreObjects (sym (c.in_ok-loaded.ensures.objects ∙ c.into_objects.ensures) ∙ returns-clause-loaded c) c.in_ok-load_inputs.ensures.known.objects
 
 pub returns-clause-groups : goal.returns-clause-groups
-returns-clause-groups c = subst HaveLawfulGroups (sym c.into_objects.ensures ∙ returns-clause-loaded c) c.in_ok-load_inputs.ensures.known.lawful
+returns-clause-groups c = subst HaveLawfulGroups (sym (c.in_ok-loaded.ensures.objects ∙ c.into_objects.ensures) ∙ returns-clause-loaded c) c.in_ok-load_inputs.ensures.known.lawful

@@ -12,7 +12,7 @@ use Rattle.layout.proofs.placement.Placement.address.Goals as goal
 
 pub returns-then-object-self : goal.returns-then-object-self
 returns-then-object-self c =
-    let objects = loaded_views c.self.inside.objects.now in
+    let objects = c.self.inside.loaded.objects in
     let count = length-map c.self.inside.objects.now loaded_view in
     let above = c.if-object-self.true in
     let high : length objects < c.args.object = omega (arith, count, above) in
@@ -21,12 +21,12 @@ returns-then-object-self c =
 
 pub returns : goal.returns
 returns c =
-    let objects = loaded_views c.self.inside.objects.now in
+    let objects = c.self.inside.loaded.objects in
     let count = length-map c.self.inside.objects.now loaded_view in
     let within = c.if-object-self.false in
     let low : c.args.object ≤ length objects = omega (arith, count, within) in
     c.address_in.ensures
     ∙ (ap (λ (t : List (Vec (Option ℕ))). entry t c.args.object c.args.section) c.deref.ensures.value
-    ∙ (c.self.invariant.addresses_are c.args.object c.args.section
+    ∙ (c.self.invariant.0.addresses_are c.args.object c.args.section
     ∙ (object_address c.self.inside.base objects c.args.object c.args.section low
     ∙ ap (λ (b : Basis). option_map (λ q. q.at) (find (is_of_section c.args.object c.args.section) (own_in_load_order b.base b.objects))) c.self.view_is)))

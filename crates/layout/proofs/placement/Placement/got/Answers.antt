@@ -10,9 +10,9 @@ use Rattle.layout.proofs.placement.Placement.got.Goals as goal
 
 pub returns : goal.returns
 returns c =
-    let objects = loaded_views c.self.inside.objects.now in
+    let objects = c.self.inside.loaded.objects in
     c.address_in.ensures
     ∙ (ap (λ (t : List (Vec (Option ℕ))). entry t c.got_number.result 0) c.deref.ensures.value
-    ∙ (ap (λ (n : ℕ). entry c.self.inside.tables.now.addresses.items n 0) c.got_number.ensures
-    ∙ (c.self.invariant.addresses_are _ 0
+    ∙ (ap (λ (n : ℕ). entry c.self.inside.tables.addresses.items n 0) c.got_number.ensures
+    ∙ (c.self.invariant.0.addresses_are _ 0
     ∙ (got_address c.self.inside.base objects ∙ ap (λ (b : Basis). option_map (λ g. g.address) (own_got b.base b.objects)) c.self.view_is))))

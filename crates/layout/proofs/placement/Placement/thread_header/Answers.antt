@@ -9,6 +9,6 @@ use Rattle.layout.proofs.placement.Placement.thread_header.Goals as goal
 
 pub returns : goal.returns
 returns c =
-    c.self.invariant.header_is
-    ∙ (headers_same c.self.inside.base (loaded_views c.self.inside.objects.now) (subst (λ (b : Basis). AreLawfulKinds b.objects) (sym c.self.view_is) c.requires)
+    c.self.invariant.0.header_is
+    ∙ (headers_same c.self.inside.base c.self.inside.loaded.objects (subst (λ (b : Basis). AreLawfulKinds b.objects) (sym c.self.view_is) c.requires)
     ∙ ap (λ (b : Basis). header_in b.base (own_in_load_order b.base b.objects)) c.self.view_is)

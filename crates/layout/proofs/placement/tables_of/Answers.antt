@@ -19,7 +19,7 @@ use Rattle.elf_model.proofs.OwnRelation.{are_own_addresses}
 use Rattle.layout.proofs.OwnAddresses.{address_either}
 use Rattle.layout.proofs.OwnThreads.{own_above, own_alignment}
 use Rattle.layout.proofs.PieceEntries.{places_there}
-use Rattle.layout.proofs.placement.place.Goals as goal
+use Rattle.layout.proofs.placement.tables_of.Goals as goal
 
 pub address_table-requires : goal.address_table-requires
 address_table-requires c =
