@@ -11,7 +11,6 @@ mod thread_storage;
 mod wanted;
 
 pub use elf_model::TlsBlock;
-pub use requests::target_of;
 pub use slot_table::{Slot, Slots};
 pub use thread_storage::{thread_pointer, tls_block, tp_offset};
 pub use wanted::slots;

@@ -5,15 +5,14 @@ ghost use Rattle.elf_model.specs.Relocation.{relocation_of, symbol_at};
 ghost use Rattle.elf_model.specs.Resolution.{binding};
 ghost use Rattle.elf_model.specs.Slots as wanted;
 ghost use Rattle.search.specs.Views.{loaded_view};
-ghost use Rattle.resolve.specs.Views.{target_view};
 ghost use Rattle.got_tls.specs.Asking.{TellsOfGot, is_got_symbol, request_at};
 ghost use Rattle.got_tls.specs.Views.{slot_view};
 
 use crate::kinds::{ask_of, asks_of_got, slot_asked};
 use crate::slot_table::Slot;
-use elf_model::{ObjectId, Rela, STB_LOCAL, SymbolRef, Target};
+use elf_model::{ObjectId, Rela, STB_LOCAL, SymbolRef};
 use elf_read::Object;
-use resolve::Resolved;
+use resolve::{Resolved, target_of};
 use search::LoadedObject;
 
 /// Whether symbol `j` is LOCAL, as one that there isn't is taken to be.
@@ -36,26 +35,16 @@ fn name_of<'a>(object: &Object<'a>, j: usize) -> &'a [u8]
     }
 }
 
-/// The target of a relocation that names symbol `j` of the object that has a number: the symbol itself where that is
-/// LOCAL, else its name.
-pub fn target_of<'a>(number: usize, loaded: &LoadedObject<'a>, j: usize) -> Target<'a>
-    ensures { target_view result ≡ wanted.target_of (symbol_at number (loaded_view loaded.now) j) }
-{
-    if is_local(&loaded.object, j) {
-        return Target::Local(SymbolRef {
-            object: ObjectId(number as u64),
-            symbol: j as u64,
-        });
-    }
-    Target::Name(name_of(&loaded.object, j))
-}
-
 /// The slot that an entry of the object that has a number asks for; None where it asks for none.
 pub fn slot_of<'a>(number: usize, loaded: &LoadedObject<'a>, entry: &Rela) -> Option<Slot<'a>>
     ensures { option_map slot_view result ≡ request_at number (loaded_view loaded.now) entry.now }
 {
     let kind = slot_asked(ask_of(entry.kind()))?;
-    let target = target_of(number, loaded, entry.symbol() as usize);
+    let symbol = SymbolRef {
+        object: ObjectId(number as u64),
+        symbol: entry.symbol() as u64,
+    };
+    let target = target_of(symbol, loaded);
     Some(Slot::new(kind, &target))
 }
 
@@ -100,7 +89,7 @@ fn names_got(
     if !is_got_symbol(&loaded.object, j) {
         return false;
     }
-    resolved.chosen(GOT_NAME).is_none()
+    resolved.symbol(GOT_NAME).is_none()
 }
 
 /// Whether an entry of the object that has a number, which relocates the section `target`, asks for a GOT; `named` tells

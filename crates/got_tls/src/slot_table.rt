@@ -8,6 +8,7 @@ ghost use Rattle.got_tls.specs.Views.{kind_view, owner_view, slot_view, slot_vie
 use crate::asking::Asked;
 use elf_model::{ObjectId, SlotKind, SymbolRef, Target};
 use indexmap::IndexSet;
+use layout::GotSize;
 use std::alloc::AllocError;
 use std::marker::Model;
 
@@ -135,11 +136,11 @@ impl<'a> Slots<'a> {
         })
     }
 
-    /// The GOT's size in bytes, 0 where there is none.
-    pub fn got(&self) -> u64
-        ensures { result ≡ self.now.got }
+    /// The GOT's size, 0 where there is none.
+    pub fn got(&self) -> GotSize
+        ensures { result.0 ≡ self.now.got }
     {
-        self.got
+        GotSize(self.got)
     }
 
     /// The slots of 8 bytes each, in the order in which they stand behind the GOT's first word.

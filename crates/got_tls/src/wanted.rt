@@ -1,12 +1,11 @@
 //! The GOT that the kept relocations of loaded objects ask for.
 ghost use Rattle.std.specs.Prelude.{◌≡◌, IfOk};
-ghost use Rattle.search.specs.Views.{loaded_views};
 ghost use Rattle.elf_model.specs.Slots as wanted;
 
 use crate::asking::asked_by;
 use crate::slot_table::Slots;
 use resolve::Resolved;
-use search::LoadedObject;
+use search::Loaded;
 use std::alloc::{AllocError, Global};
 
 /// The GOT's size and its slots: those that the kept relocations of the objects ask for, each once, in the order of first
@@ -18,13 +17,13 @@ use std::alloc::{AllocError, Global};
 #[tactic(auto, using(crate::proofs::AskedOnce::slots_are, crate::proofs::AskedOnce::got_is))]
 pub fn slots<'a>(
     alloc: Global,
-    objects: &[LoadedObject<'a>],
+    loaded: &Loaded<'a>,
     resolved: &Resolved<'a>,
 ) -> Result<Slots<'a>, AllocError>
-    requires { resolved.now ≡ loaded_views objects.now }
-    ensures slots { IfOk result (λ s. s.slots ≡ wanted.slots (loaded_views objects.now)) }
-    ensures size { IfOk result (λ s. s.got ≡ wanted.got_size (loaded_views objects.now)) }
+    requires { resolved.now ≡ loaded.now.objects }
+    ensures slots { IfOk result (λ s. s.slots ≡ wanted.slots loaded.now.objects) }
+    ensures size { IfOk result (λ s. s.got ≡ wanted.got_size loaded.now.objects) }
 {
-    let asked = asked_by(alloc, objects, resolved)?;
+    let asked = asked_by(alloc, loaded.objects(), resolved)?;
     Slots::new(asked)
 }

@@ -5,7 +5,8 @@
 mod filling;
 mod got;
 mod headers;
+mod linkage;
 mod pieces;
 mod writing;
 
-pub use writing::image;
+pub use linkage::{Linkage, Parts, image};

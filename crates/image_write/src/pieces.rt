@@ -8,13 +8,14 @@ ghost use Rattle.image_write.specs.Parts.{AreContents, AreFilled, HasContents, I
 
 use crate::filling::{Code, fill};
 use crate::got::put_got;
+use elf_model::{ObjectId, SectionRef};
 use layout::{Piece, Place, Placement};
-use relocate::Patches;
+use relocate::{Patches, apply};
 use std::alloc::AllocError;
 
 /// What the pieces of a layout hold: the values of relocations, and those of the slots of the GOT, in their order.
 #[derive(Clone, Copy)]
-pub struct Contents<'c, 'p, 'a> {
+pub struct Contents<'c, 'a> {
     pub placement: &'c Placement<'a>,
     pub patches: &'c Patches<'a>,
     pub slots: &'c [u64],
@@ -40,14 +41,18 @@ fn put_section(
     let at = out.len();
     out.extend_from_slice(piece.bytes)?;
     let (_, bytes) = out.split_at_mut(at);
-    patches.apply(piece.object as usize, piece.section as usize, bytes);
+    let section = SectionRef {
+        object: ObjectId(piece.object),
+        section: piece.section,
+    };
+    apply(patches, section, bytes);
     Ok(())
 }
 
 /// Puts the bytes of a piece, be it the GOT.
 fn put_piece(
     out: &mut Vec<u8>,
-    contents: &Contents<'_, '_, '_>,
+    contents: &Contents<'_, '_>,
     piece: &Piece<'_>,
 ) -> Result<(), AllocError>
     requires contents { AreContents contents.now }
@@ -64,7 +69,7 @@ fn put_piece(
 /// file, which rise from the first to the last, and fill between them.
 pub fn put_places(
     out: &mut Vec<u8>,
-    contents: &Contents<'_, '_, '_>,
+    contents: &Contents<'_, '_>,
     code: &Code,
     places: &[Place<'_>],
     from: u64,

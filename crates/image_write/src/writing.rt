@@ -32,7 +32,7 @@ fn file_end(segments: &[ProgramHeader]) -> u64
 
 /// The image file that is entered at an address: the headers, the pieces for which memory has a place at their offsets with their relocated bytes, the
 /// GOT with the values of its slots, and fill between them.
-pub fn image<'c, 'p, 'a>(
+pub fn file_of<'c, 'a>(
     alloc: Global,
     placement: &'c Placement<'a>,
     patches: &'c Patches<'a>,

@@ -24,7 +24,7 @@ use Rattle.resolve.specs.declared.faults.ResolveFault.TheVariants as resolve
 use Rattle.layout.specs.Placements.{Basis}
 use Rattle.resolve.specs.Views.{meaning_views}
 use Rattle.ld_main.specs.Linkages.{AreOwnMapsRight, IsLinkageOf, IsOwnText, IsPrepared, Prepared, own_image}
-use Rattle.ld_main.specs.Maps.{IsMapOf, own_record}
+use Rattle.image_write.specs.Maps.{IsMapOf, own_record}
 use Rattle.ld_main.specs.Outputs.{AreLaidOut, AreLinkable, AreReferred, AreResolved, IsOwnLink, LinksRefuse}
 use Rattle.ld_main.specs.Program.{LinksRight}
 use Rattle.ld_main.specs.Refusals.{of_reloc, of_resolve, of_search}

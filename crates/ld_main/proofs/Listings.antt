@@ -16,7 +16,7 @@ use Rattle.resolve.specs.Views.{held_name, meaning_view, meaning_views, symbol_v
 use Rattle.resolve.specs.declared.entries.SymbolOf as symbols
 use Rattle.resolve.specs.declared.definition.Definition as code
 use Rattle.resolve.specs.declared.definition.Definition.TheVariants as variant
-use Rattle.ld_main.specs.Listings.{HasNoTwins, IsListing}
+use Rattle.image_write.specs.Listings.{HasNoTwins, IsListing}
 
 held_is : (m : code.Definition) → (held_name m).now ≡ meaning_name (meaning_view m)
 held_is (variant.Symbol s) = refl

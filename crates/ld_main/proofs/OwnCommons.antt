@@ -28,7 +28,7 @@ use Rattle.elf_model.proofs.Found.{none_found}
 use Rattle.elf_model.proofs.Listed.{Contains-from_filter}
 use Rattle.elf_model.proofs.Pairs.{AllPairs-nil}
 use Rattle.elf_model.proofs.RisingNames.{Rises, all_found, counted, rises_from_ascends}
-use Rattle.ld_main.specs.CommonRows.{own_commons}
+use Rattle.image_write.specs.CommonRows.{own_commons}
 
 -- the block of what a name means
 abbrev block_in : Option Meaning → Option Block

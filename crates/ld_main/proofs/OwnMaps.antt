@@ -16,8 +16,8 @@ use Rattle.layout.specs.Placements.{Basis}
 use Rattle.resolve.specs.Views.{meaning_view, meaning_views}
 use Rattle.resolve.specs.declared.definition.Definition as code
 use Rattle.own_link.proofs.OwnSlots.{slots_ascend}
-use Rattle.ld_main.specs.Listings.{IsListing}
-use Rattle.ld_main.specs.Maps.{IsMapOf, own_row}
+use Rattle.image_write.specs.Listings.{IsListing}
+use Rattle.image_write.specs.Maps.{IsMapOf, own_row}
 use Rattle.ld_main.proofs.DropLines.{drop_rows-ascend}
 use Rattle.ld_main.proofs.OwnCommons.{own_commons_ascend, own_commons_found}
 

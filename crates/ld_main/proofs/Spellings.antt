@@ -19,8 +19,8 @@ use Rattle.resolve.specs.Views.{meaning_view, meaning_views}
 use Rattle.resolve.specs.declared.definition.Definition as code
 use Rattle.search.specs.Views.{loaded_view, loaded_views}
 use Rattle.search.specs.declared.loaded.LoadedObject as held
-use Rattle.ld_main.specs.CommonRows.{common_rows_of, own_commons}
-use Rattle.ld_main.specs.Maps.{own_row}
+use Rattle.image_write.specs.CommonRows.{common_rows_of, own_commons}
+use Rattle.image_write.specs.Maps.{own_row}
 
 -- what is left of a list begins with the element at which it is
 front : {X : Type 0} (xs : List X) (k : ℕ) (x : X) → k < length xs → x ≡ get_or xs k x → drop k xs ≡ x ∷ drop (k + 1) xs

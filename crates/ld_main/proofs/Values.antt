@@ -29,7 +29,7 @@ use Rattle.elf_model.proofs.Listed.{All-from_contains, Contains-from_filter, Con
 use Rattle.elf_model.proofs.Places.{at_own_address, own_listed}
 use Rattle.elf_model.proofs.RisingNames.{all_found}
 use Rattle.elf_model.proofs.Sectioned.{kept-each}
-use Rattle.ld_main.specs.Maps.{LiesBelow, LiesWithin}
+use Rattle.image_write.specs.Maps.{LiesBelow, LiesWithin}
 
 -- the header of a kept section is that of its section in its object
 abbrev HasHeader : List LoadedObject → Piece → Type 0

@@ -17,8 +17,8 @@ ghost use Rattle.symbols.specs.Rows.{no_rows};
 ghost use Rattle.ld_main.specs.FinalRefusals.{DeniesLinks};
 ghost use Rattle.ld_main.specs.Linkages.{AreOwnMapsRight, IsPrepared, IsLinkageOf, own_image};
 ghost use Rattle.relocate.specs.Values.{slot_value_of};
-ghost use Rattle.ld_main.specs.Listings.{IsListing};
-ghost use Rattle.ld_main.specs.Maps.{own_table};
+ghost use Rattle.image_write.specs.Listings.{IsListing};
+ghost use Rattle.image_write.specs.Maps.{own_table};
 ghost use Rattle.ld_main.specs.Outputs.{AreLaidOut, AreLinkable, AreReferred, AreResolved, EntersAt, LinksRefuse};
 ghost use Rattle.ld_main.specs.Program.{LinksRight};
 

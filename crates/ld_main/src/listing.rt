@@ -8,7 +8,7 @@ ghost use Rattle.elf_model.specs.Listing.{AreLinkerLines};
 ghost use Rattle.elf_model.specs.Meaning.{meanings_of};
 ghost use Rattle.resolve.specs.Views.{held_name, meaning_views, symbol_views};
 ghost use Rattle.relocate.specs.Uses.{line_views};
-ghost use Rattle.ld_main.specs.Listings.{IsListing};
+ghost use Rattle.image_write.specs.Listings.{IsListing};
 
 use elf_model::Bound;
 use resolve::{Definition, Resolved, SymbolOf};

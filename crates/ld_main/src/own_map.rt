@@ -12,8 +12,8 @@ ghost use Rattle.elf_model.specs.RightLink.{definition_row, drop_rows, drops_fro
 ghost use Rattle.resolve.specs.Blocks.{block_view};
 ghost use Rattle.resolve.specs.Views.{meaning_view, meaning_views, symbol_view};
 ghost use Rattle.search.specs.Views.{loaded_view, loaded_views};
-ghost use Rattle.ld_main.specs.CommonRows.{own_commons};
-ghost use Rattle.ld_main.specs.Maps.{IsMapOf, LiesBelow, LiesWithin, own_row, own_table};
+ghost use Rattle.image_write.specs.CommonRows.{own_commons};
+ghost use Rattle.image_write.specs.Maps.{IsMapOf, LiesBelow, LiesWithin, own_row, own_table};
 
 use crate::listing::name_of;
 use crate::slot_lines::{got_line, slot_lines};

@@ -5,7 +5,7 @@ ghost use Rattle.elf_model.specs.OwnLayout.{IsNotTooLarge, own_got, own_slots, s
 ghost use Rattle.elf_model.specs.Pieces.{AreLawfulKinds};
 ghost use Rattle.resolve.specs.Views.{target_view};
 ghost use Rattle.got_tls.specs.Views.{slot_view, slot_views};
-ghost use Rattle.ld_main.specs.Maps.{own_table};
+ghost use Rattle.image_write.specs.Maps.{own_table};
 
 use elf_model::{GotLine, SlotLine, SlotTarget, Target};
 use got_tls::{Slot, Slots};

@@ -12,8 +12,8 @@ ghost use Rattle.got_tls.specs.Views.{slot_view, slot_views};
 ghost use Rattle.resolve.specs.Blocks.{block_view};
 ghost use Rattle.resolve.specs.Views.{meaning_view, meaning_views, symbol_view};
 ghost use Rattle.search.specs.Views.{loaded_view, loaded_views};
-ghost use Rattle.ld_main.specs.CommonRows.{common_rows_of, own_commons};
-ghost use Rattle.ld_main.specs.Maps.{LiesBelow, LiesWithin, own_record, own_row, own_table};
+ghost use Rattle.image_write.specs.CommonRows.{common_rows_of, own_commons};
+ghost use Rattle.image_write.specs.Maps.{LiesBelow, LiesWithin, own_record, own_row, own_table};
 
 use crate::own_map::{address_of, block_address, value};
 use crate::slot_lines::got_line;

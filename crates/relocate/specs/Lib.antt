@@ -3,6 +3,5 @@ pub mod Kinds
 pub mod Patches
 pub mod References
 pub mod Values
-pub mod PatchTables
 pub mod Uses
 pub mod SymbolTables

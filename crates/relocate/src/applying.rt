@@ -1,48 +1,37 @@
 //! The patches of all objects by their sections, and their writing into the bytes of one.
-ghost use Rattle.std.specs.Prelude.{◌≡◌, length, map};
+ghost use Rattle.std.specs.Prelude.{◌≡◌, IfOk, length, map};
 ghost use Rattle.std.specs.List.{range_with_len, slice_get};
 ghost use Rattle.elf_model.specs.ObjectFile as object_file;
 ghost use Rattle.elf_model.specs.Pieces.{Piece};
 ghost use Rattle.elf_model.specs.Resolution.{sections_of_object};
 ghost use Rattle.elf_model.specs.WantedBytes.{wanted_byte};
-ghost use Rattle.relocate.specs.PatchTables.{ArePatchesOf};
 ghost use Rattle.relocate.specs.Values.{ArePatches, where_in, row_in};
 
 use crate::patch::{Patch, write_all};
+use elf_model::SectionRef;
 use layout::Placement;
+use search::Loaded;
+use std::alloc::AllocError;
 use std::marker::Model;
 
-/// The values that the kept relocations of loaded objects want, over their fields: a row for each section of
-/// each object. `Patches` reads them beside the layout for which they were made.
+/// The values that the kept relocations of what is loaded want where it is laid out, over their fields: a row for each
+/// section of each object.
 #[derive(Drop)]
-pub struct PatchTable {
+pub struct Patches<'a> {
+    base: u64,
+    loaded: Loaded<'a>,
     rows: Vec<Vec<Vec<Patch>>>,
 }
 
-/// The values that the kept relocations of loaded objects want where these are laid out, over their fields.
-#[derive(Drop)]
-pub struct Patches<'a> {
-    placement: &'p Placement<'a>,
-    table: &'p PatchTable,
-}
-
-impl<'p, 'a> Model for Patches<'a> {
+impl<'a> Model for Patches<'a> {
     ghost use Rattle.layout.specs.Placements.{Basis};
-    ghost use Rattle.relocate.specs.PatchTables.{ArePatchesOf};
+    ghost use Rattle.relocate.specs.Values.{ArePatches};
 
     ghost Value = { Basis };
 
-    ghost view = { λ p. p.placement.now };
+    ghost view = { λ p. record { base = p.base; objects = p.loaded.objects } };
 
-    ghost invariant = { λ p. ArePatchesOf p.placement.now p.table.now };
-}
-
-/// The table of rows of patches of the objects that are laid out.
-pub fn of_rows(_placement: &Placement<'_>, rows: Vec<Vec<Vec<Patch>>>) -> PatchTable
-    requires { ArePatches _placement.now rows.items }
-    ensures { ArePatchesOf _placement.now result }
-{
-    PatchTable { rows }
+    ghost invariant = { λ p. ArePatches (record { base = p.base; objects = p.loaded.objects }) p.rows.items };
 }
 
 /// The patches of a section of an object, by their numbers; none where there is no such section.
@@ -58,21 +47,30 @@ fn row_in<'r>(rows: &'r [Vec<Vec<Patch>>], object: usize, section: usize) -> &'r
     }
 }
 
-impl<'p, 'a> Patches<'a> {
-    /// The patches of objects that are laid out, by the table that `patches` made of them.
-    pub fn new(placement: &'p Placement<'a>, table: &'p PatchTable) -> Patches<'a>
-        requires { ArePatchesOf placement.now table.now }
-        ensures { result ≡ placement.entry.now }
+impl<'a> Patches<'a> {
+    /// The patches of what is loaded and laid out, in their rows.
+    pub(crate) fn new(
+        loaded: &Loaded<'a>,
+        placement: &Placement<'a>,
+        rows: Vec<Vec<Vec<Patch>>>,
+    ) -> Result<Patches<'a>, AllocError>
+        requires placed { placement.now.objects ≡ loaded.now.objects }
+        requires rows { ArePatches placement.now rows.items }
+        ensures { IfOk result (λ p. p ≡ placement.now) }
     {
-        Patches { placement, table }
+        Ok(Patches {
+            base: placement.base(),
+            loaded: loaded.clone()?,
+            rows,
+        })
     }
+}
 
-    /// Writes the values into the input bytes of a section of an object, by their numbers: each byte is then
-    /// the wanted one.
-    pub fn apply(&self, object: usize, section: usize, bytes: &mut [u8])
-        requires { length bytes.old ≡ (object_file.section (sections_of_object (slice_get self.now.objects object)) section).sh_size }
-        ensures { (p : Piece) → p.object ≡ object → p.section ≡ section → p.bytes ≡ bytes.old → bytes.new ≡ map (wanted_byte self.now.objects (where_in self.now) p) (range_with_len 0 (length bytes.old)) }
-    {
-        write_all(row_in(&self.table.rows, object, section), bytes);
-    }
+/// Writes the values into the input bytes of a section: each byte is then the wanted one. It takes no memory.
+pub fn apply(patches: &Patches<'_>, section: SectionRef, bytes: &mut [u8])
+    requires { length bytes.old ≡ (object_file.section (sections_of_object (slice_get patches.now.objects section.object.0)) section.section).sh_size }
+    ensures { (p : Piece) → p.object ≡ section.object.0 → p.section ≡ section.section → p.bytes ≡ bytes.old → bytes.new ≡ map (wanted_byte patches.now.objects (where_in patches.now) p) (range_with_len 0 (length bytes.old)) }
+{
+    let object = section.object.0 as usize;
+    write_all(row_in(&patches.rows, object, section.section as usize), bytes);
 }

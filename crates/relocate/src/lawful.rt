@@ -17,17 +17,30 @@ use crate::targets::{entries_of, is_some_kind};
 use elf_model::{Rela, SectionHeader};
 use layout::mixed_names;
 use resolve::Resolved;
-use search::LoadedObject;
+use search::{Loaded, LoadedObject};
 use std::alloc::Global;
 use std::collections::BTreeSet;
 
-/// Judges the kept relocations of all objects.
+/// Judges the kept relocations of all that is loaded.
 ///
 /// # Errors
 ///
 /// RelocKind, Undefined, RefToDropped, TlsMismatch, FieldOutside and MixedSection where one of them isn't lawful,
 /// OverlappingFields where a byte lies in the fields of two, Memory where memory is refused.
 pub fn references<'a>(
+    alloc: Global,
+    loaded: &Loaded<'a>,
+    resolved: &Resolved<'a>,
+) -> Result<(), RelocFault>
+    requires { resolved.now ≡ loaded.now.objects }
+    ensures lawful { OnOk result (AreLawfulRelocations loaded.now.objects) }
+    ensures fault { IfErr result (ReferencesFail loaded.now.objects) }
+{
+    judge_objects(alloc, loaded.objects(), resolved)
+}
+
+/// Judges the relocations of all objects.
+fn judge_objects<'a>(
     alloc: Global,
     objects: &[LoadedObject<'a>],
     resolved: &Resolved<'a>,

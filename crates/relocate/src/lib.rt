@@ -20,7 +20,7 @@ mod thread_pointer;
 mod uses;
 mod values;
 
-pub use applying::{PatchTable, Patches};
+pub use applying::{Patches, apply};
 pub use faults::RelocFault;
 pub use kinds::{Formula, Kind, Range, Terms, fits, value};
 pub use lawful::references;

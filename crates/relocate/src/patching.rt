@@ -6,11 +6,10 @@ ghost use Rattle.elf_model.specs.Relocation.{AreLawfulRelocations, relocation_ki
 ghost use Rattle.elf_model.specs.RelocationValues.{Fits};
 ghost use Rattle.elf_model.specs.Slots as wanted;
 ghost use Rattle.search.specs.Views.{loaded_view, loaded_views};
-ghost use Rattle.relocate.specs.PatchTables.{ArePatchesOf};
 ghost use Rattle.relocate.specs.References.{IsObjectAt};
-ghost use Rattle.relocate.specs.Values.{ArePatchRows, FittingFails, IsRowCount, ValuesFail, pointer_in, where_in};
+ghost use Rattle.relocate.specs.Values.{ArePatchRows, ArePatches, FittingFails, IsRowCount, ValuesFail, pointer_in, where_in};
 
-use crate::applying::{PatchTable, of_rows};
+use crate::applying::Patches;
 use crate::collecting::object_patches;
 use crate::faults::RelocFault;
 use crate::patch::Patch;
@@ -19,7 +18,7 @@ use crate::thread_pointer::pointer_of;
 use got_tls::Slots;
 use layout::Placement;
 use resolve::Resolved;
-use search::LoadedObject;
+use search::{Loaded, LoadedObject};
 use std::alloc::Global;
 
 /// The rows of patches of the object that has a number.
@@ -46,25 +45,20 @@ fn row_of<'a>(
     object_patches(alloc, &valued)
 }
 
-/// The patches of all objects, whose sections' kinds and relocations are lawful, where they are laid out with their GOT,
-/// which has these slots.
-///
-/// # Errors
-///
-/// `Overflow` where the value of a relocation doesn't fit its field; `Memory`.
-pub fn patches<'a>(
+/// The rows of patches of all objects.
+fn rows_of<'a>(
     alloc: Global,
     objects: &[LoadedObject<'a>],
     resolved: &Resolved<'a>,
     placement: &Placement<'a>,
     slots: &Slots<'a>,
-) -> Result<PatchTable, RelocFault>
+) -> Result<Vec<Vec<Vec<Patch>>>, RelocFault>
     requires resolved { resolved.now ≡ loaded_views objects.now }
     requires placed { placement.now.objects ≡ loaded_views objects.now }
     requires slots { slots.now.slots ≡ wanted.slots (loaded_views objects.now) }
     requires kinds { AreLawfulKinds (loaded_views objects.now) }
     requires lawful { AreLawfulRelocations (loaded_views objects.now) }
-    ensures table { IfOk result (ArePatchesOf placement.now) }
+    ensures rows { IfOk result (λ v. ArePatches placement.now v.items) }
     ensures fit { OnOk result (OwnValuesFit placement.now.base placement.now.objects) }
     ensures fault { IfErr result (ValuesFail placement.now) }
 {
@@ -74,5 +68,32 @@ pub fn patches<'a>(
         let row = row_of(alloc, resolved, placement, slots, pointer, k, &objects[k])?;
         rows.push(row)?;
     }
-    Ok(of_rows(placement, rows))
+    Ok(rows)
+}
+
+/// The patches of what is loaded, whose sections' kinds and relocations are lawful, where it is laid out with its GOT,
+/// which has these slots.
+///
+/// # Errors
+///
+/// `Overflow` where the value of a relocation doesn't fit its field; `Memory`.
+pub fn patches<'a>(
+    alloc: Global,
+    loaded: &Loaded<'a>,
+    resolved: &Resolved<'a>,
+    placement: &Placement<'a>,
+    slots: &Slots<'a>,
+) -> Result<Patches<'a>, RelocFault>
+    requires resolved { resolved.now ≡ loaded.now.objects }
+    requires placed { placement.now.objects ≡ loaded.now.objects }
+    requires slots { slots.now.slots ≡ wanted.slots loaded.now.objects }
+    requires kinds { AreLawfulKinds loaded.now.objects }
+    requires lawful { AreLawfulRelocations loaded.now.objects }
+    ensures exact { IfOk result (λ p. p ≡ placement.now) }
+    ensures fit { OnOk result (OwnValuesFit placement.now.base placement.now.objects) }
+    ensures fault { IfErr result (ValuesFail placement.now) }
+{
+    let rows = rows_of(alloc, loaded.objects(), resolved, placement, slots)?;
+    let patches = Patches::new(loaded, placement, rows)?;
+    Ok(patches)
 }

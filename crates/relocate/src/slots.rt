@@ -22,7 +22,7 @@ fn target_value<'a>(
     requires { AreLawfulKinds placement.now.objects }
     ensures { result ≡ wanted.target_value resolved.now (where_in placement.now) (slot_view slot.entry).target % 2 ^ 64 }
 {
-    value_or_none(placement, &resolved.meaning_of(&slot.target()))
+    value_or_none(placement, &resolved.chosen(&slot.target()))
 }
 
 /// What a slot holds: the value of its target, or that one's offset from the thread pointer, modulo 2 to the 64.

@@ -16,7 +16,9 @@ ghost use Rattle.layout.specs.Mixed.{AreMixed};
 ghost use Rattle.relocate.specs.References.{IsNamedUndefined, IsObjectAt, LacksDefinition, section_in};
 
 use crate::faults::RelocFault;
-use elf_model::{Bound, Rela, SHN_UNDEF, STB_LOCAL, STB_WEAK, SectionHeader, Symbol};
+use elf_model::{
+    Bound, ObjectId, Rela, SHN_UNDEF, STB_LOCAL, STB_WEAK, SectionHeader, Symbol, SymbolRef,
+};
 use elf_read::Object;
 use resolve::{Definition, Resolved, named_output};
 use search::LoadedObject;
@@ -145,7 +147,10 @@ pub fn definition_of<'a>(
     requires { IsObjectAt resolved.now number (loaded_view _loaded.now) }
     ensures { option_map meaning_view result ≡ definition_of resolved.now (symbol_at number (loaded_view _loaded.now) j) }
 {
-    resolved.definition(number, j)
+    resolved.used(SymbolRef {
+        object: ObjectId(number as u64),
+        symbol: j as u64,
+    })
 }
 
 /// Whether a reference to symbol number `j`, which has the entry and uses a definition if there is one, is in want of it:

@@ -16,9 +16,9 @@ ghost use Rattle.relocate.specs.Uses.{AreLinkerUses, IsUser, is_linkers, line_vi
 
 use crate::referrer::refers_often;
 use crate::targets::{entries_of, is_some_kind, name_of};
-use elf_model::{Bound, Rela, SectionHeader};
+use elf_model::{Bound, ObjectId, Rela, SectionHeader, SymbolRef};
 use resolve::{Definition, Resolved};
-use search::LoadedObject;
+use search::{Loaded, LoadedObject};
 use std::alloc::{AllocError, Global};
 use std::collections::BTreeSet;
 
@@ -40,7 +40,10 @@ fn is_linker_use(resolved: &Resolved<'_>, number: usize, loaded: &LoadedObject<'
     requires { IsObjectAt resolved.now number (loaded_view loaded.now) }
     ensures { result ≡ is_linker_use resolved.now (symbol_at number (loaded_view loaded.now) j) }
 {
-    is_linkers(&resolved.definition(number, j))
+    is_linkers(&resolved.used(SymbolRef {
+        object: ObjectId(number as u64),
+        symbol: j as u64,
+    }))
 }
 
 fn add_name<'a>(names: &mut BTreeSet<&'a [u8]>, name: &'a [u8]) -> Result<(), AllocError>
@@ -234,6 +237,20 @@ fn lines_of<'a>(
     Ok(lines)
 }
 
+/// The lines of the linker's names that kept relocations of objects use.
+fn used_lines<'a>(
+    alloc: Global,
+    objects: &[LoadedObject<'a>],
+    resolved: &Resolved<'a>,
+) -> Result<Vec<(&'a [u8], Bound)>, AllocError>
+    requires { resolved.now ≡ loaded_views objects.now }
+    ensures { IfOk result (λ v. AreLinkerLines resolved.now (line_views v.items)) }
+{
+    let names = used_names(alloc, objects, resolved)?;
+    let lines = lines_of(alloc, resolved, &names)?;
+    Ok(lines)
+}
+
 /// The linker's names that have a line in the map, and what they stand for: those that kept relocations use and no
 /// object defines.
 ///
@@ -242,13 +259,11 @@ fn lines_of<'a>(
 /// Only where memory is refused.
 pub fn linker_lines<'a>(
     alloc: Global,
-    objects: &[LoadedObject<'a>],
+    loaded: &Loaded<'a>,
     resolved: &Resolved<'a>,
 ) -> Result<Vec<(&'a [u8], Bound)>, AllocError>
-    requires { resolved.now ≡ loaded_views objects.now }
-    ensures { IfOk result (λ v. AreLinkerLines (loaded_views objects.now) (line_views v.items)) }
+    requires { resolved.now ≡ loaded.now.objects }
+    ensures { IfOk result (λ v. AreLinkerLines resolved.now (line_views v.items)) }
 {
-    let names = used_names(alloc, objects, resolved)?;
-    let lines = lines_of(alloc, resolved, &names)?;
-    Ok(lines)
+    used_lines(alloc, loaded.objects(), resolved)
 }

@@ -17,16 +17,27 @@ use crate::kinds::{Kind, Terms, fits, slot_kind, value};
 use crate::patch::Patch;
 use crate::symbol_values::Valued;
 use crate::thread_pointer::offset_from;
-use elf_model::{Rela, SHN_ABS};
-use got_tls::{Slot, target_of};
+use elf_model::{ObjectId, Rela, SHN_ABS, SectionRef, SymbolRef};
+use got_tls::Slot;
 use layout::Placement;
-use resolve::{Definition, SymbolOf};
+use resolve::{Definition, SymbolOf, target_of};
+
+/// A section of an object, by their numbers.
+fn section_ref(object: u64, section: u64) -> SectionRef
+    ensures object { result.object.0 ≡ object }
+    ensures section { result.section ≡ section }
+{
+    SectionRef {
+        object: ObjectId(object),
+        section,
+    }
+}
 
 /// The address of a section of an object, or of a common block, 0 where it isn't kept.
 pub fn address_or_none(placement: &Placement<'_>, number: usize, target: usize) -> u64
     ensures { result ≡ section_address (where_in placement.now).placed number target }
 {
-    match placement.address(number, target) {
+    match placement.address(section_ref(number as u64, target as u64)) {
         Some(at) => at,
         None => 0,
     }
@@ -41,7 +52,7 @@ fn symbol_value(placement: &Placement<'_>, symbol: &SymbolOf<'_>) -> u64
     if entry.st_shndx == SHN_ABS {
         return entry.st_value;
     }
-    match placement.address(symbol.object as usize, entry.st_shndx as usize) {
+    match placement.address(section_ref(symbol.object, entry.st_shndx as u64)) {
         Some(at) => at.wrapping_add(entry.st_value),
         None => 0,
     }
@@ -109,7 +120,11 @@ fn slot_offset(valued: &Valued<'_, '_>, target: u64, kind: Kind, entry: &Rela) -
 {
     match slot_kind(kind.formula) {
         Some(kind) => {
-            let target = target_of(valued.number, valued.loaded, entry.symbol() as usize);
+            let symbol = SymbolRef {
+                object: ObjectId(valued.number as u64),
+                symbol: entry.symbol() as u64,
+            };
+            let target = target_of(symbol, valued.loaded);
             valued.slots.offset(Slot::new(kind, &target))
         }
         None => 0,

@@ -27,3 +27,4 @@ pub use definition::Definition;
 pub use faults::ResolveFault;
 pub use output_names::output_name;
 pub use resolved::{Resolved, resolve, resolve_over};
+pub use targets::target_of;

@@ -13,5 +13,5 @@ returns-then-not-is_got_symbol c =
 
 pub returns : goal.returns
 returns c =
-    named c.args.resolved.now c.args.number (loaded_view c.args.loaded.now) c.args.j symbol_view c.chosen.result c.is_none.result c.is_none.ensures
-    c.chosen.ensures (sym c.is_got_symbol.ensures ∙ c.if-not-is_got_symbol.false)
+    named c.args.resolved.now c.args.number (loaded_view c.args.loaded.now) c.args.j symbol_view c.symbol.result c.is_none.result c.is_none.ensures
+    c.symbol.ensures (sym c.is_got_symbol.ensures ∙ c.if-not-is_got_symbol.false)

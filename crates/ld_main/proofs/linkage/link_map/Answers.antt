@@ -9,8 +9,8 @@ use Rattle.elf_model.specs.OwnLayout.{IsNotTooLarge, own_in_load_order}
 use Rattle.resolve.specs.Views.{meaning_view, meaning_views}
 use Rattle.resolve.specs.declared.definition.Definition as code
 use Rattle.ld_main.specs.Linkages.{IsLinkageOf, Prepared}
-use Rattle.ld_main.specs.Listings.{IsListing}
-use Rattle.ld_main.specs.Maps.{IsMapOf, LiesWithin, own_table}
+use Rattle.image_write.specs.Listings.{IsListing}
+use Rattle.image_write.specs.Maps.{IsMapOf, LiesWithin, own_table}
 use Rattle.elf_model.proofs.Listed.{All-unmap}
 use Rattle.ld_main.proofs.Links.{ok_more}
 use Rattle.ld_main.proofs.OwnMaps.{own_map}

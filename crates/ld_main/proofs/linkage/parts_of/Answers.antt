@@ -11,7 +11,7 @@ use Rattle.resolve.specs.Views.{meaning_view, meaning_views}
 use Rattle.resolve.specs.declared.definition.Definition as code
 use Rattle.search.specs.Views.{loaded_views}
 use Rattle.elf_model.proofs.Listed.{All-unmap}
-use Rattle.ld_main.specs.Maps.{LiesWithin, own_record, own_table}
+use Rattle.image_write.specs.Maps.{LiesWithin, own_record, own_table}
 use Rattle.ld_main.proofs.Values.{entry_lies, meanings_lie}
 use Rattle.ld_main.proofs.linkage.parts_of.Goals as goal
 

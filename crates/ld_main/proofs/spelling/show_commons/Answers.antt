@@ -5,7 +5,7 @@ use Rattle.std.proofs.lemmas.List.Elements.{All-nil}
 use Rattle.elf_model.specs.MapText.{FitsCommon}
 use Rattle.resolve.specs.Views.{meaning_views}
 use Rattle.resolve.specs.declared.definition.Definition as code
-use Rattle.ld_main.specs.CommonRows.{own_commons}
+use Rattle.image_write.specs.CommonRows.{own_commons}
 use Rattle.ld_main.proofs.Spellings.{commons_fit}
 use Rattle.ld_main.proofs.spelling.show_commons.Goals as goal
 

@@ -2,7 +2,7 @@ use Rattle.std.proofs.Common.{drop}
 use Rattle.std.specs.Prelude.{All}
 use Rattle.elf_model.specs.MapText.{FitsCommon}
 use Rattle.resolve.specs.Views.{meaning_views}
-use Rattle.ld_main.specs.CommonRows.{own_commons}
+use Rattle.image_write.specs.CommonRows.{own_commons}
 use Rattle.ld_main.proofs.spelling.show_commons.Given as goal
 
 abbrev pub invariant-loop-meaning : goal.invariant-loop-meaning

@@ -13,20 +13,20 @@ use Rattle.layout.proofs.placement.Placement.address.Goals as goal
 pub returns-then-object-self : goal.returns-then-object-self
 returns-then-object-self c =
     let objects = c.self.inside.loaded.objects in
-    let count = length-map c.self.inside.objects.now loaded_view in
+    let count = ap (λ (os : List LoadedObject). length os) (sym c.objects.ensures.exact) ∙ length-map c.objects.result.now loaded_view in
     let above = c.if-object-self.true in
-    let high : length objects < c.args.object = omega (arith, count, above) in
-    no_address c.self.inside.base objects c.args.object c.args.section high
-    ∙ ap (λ (b : Basis). option_map (λ q. q.at) (find (is_of_section c.args.object c.args.section) (own_in_load_order b.base b.objects))) c.self.view_is
+    let high : length objects < c.args.section.object.0 = omega (arith, count, above) in
+    no_address c.self.inside.base objects c.args.section.object.0 c.args.section.section high
+    ∙ ap (λ (b : Basis). option_map (λ q. q.at) (find (is_of_section c.args.section.object.0 c.args.section.section) (own_in_load_order b.base b.objects))) c.self.view_is
 
 pub returns : goal.returns
 returns c =
     let objects = c.self.inside.loaded.objects in
-    let count = length-map c.self.inside.objects.now loaded_view in
+    let count = ap (λ (os : List LoadedObject). length os) (sym c.objects.ensures.exact) ∙ length-map c.objects.result.now loaded_view in
     let within = c.if-object-self.false in
-    let low : c.args.object ≤ length objects = omega (arith, count, within) in
+    let low : c.args.section.object.0 ≤ length objects = omega (arith, count, within) in
     c.address_in.ensures
-    ∙ (ap (λ (t : List (Vec (Option ℕ))). entry t c.args.object c.args.section) c.deref.ensures.value
-    ∙ (c.self.invariant.0.addresses_are c.args.object c.args.section
-    ∙ (object_address c.self.inside.base objects c.args.object c.args.section low
-    ∙ ap (λ (b : Basis). option_map (λ q. q.at) (find (is_of_section c.args.object c.args.section) (own_in_load_order b.base b.objects))) c.self.view_is)))
+    ∙ (ap (λ (t : List (Vec (Option ℕ))). entry t c.args.section.object.0 c.args.section.section) c.deref.ensures.value
+    ∙ (c.self.invariant.0.addresses_are c.args.section.object.0 c.args.section.section
+    ∙ (object_address c.self.inside.base objects c.args.section.object.0 c.args.section.section low
+    ∙ ap (λ (b : Basis). option_map (λ q. q.at) (find (is_of_section c.args.section.object.0 c.args.section.section) (own_in_load_order b.base b.objects))) c.self.view_is)))

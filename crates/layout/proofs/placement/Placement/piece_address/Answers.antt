@@ -13,7 +13,7 @@ pub returns : goal.returns
 returns c =
     let objects = c.self.inside.loaded.objects in
     c.address_in.ensures
-    ∙ (ap (λ (t : List (Vec (Option ℕ))). entry t c.args.object c.args.section) c.deref.ensures.value
-    ∙ (c.self.invariant.0.addresses_are c.args.object c.args.section
-    ∙ (sym (address_either c.self.inside.base objects c.args.object c.args.section)
-    ∙ ap (λ (b : Basis). option_map (λ q. q.at) (find (is_of_section c.args.object c.args.section) (own_placed b.base b.objects))) c.self.view_is)))
+    ∙ (ap (λ (t : List (Vec (Option ℕ))). entry t c.args.section.object.0 c.args.section.section) c.deref.ensures.value
+    ∙ (c.self.invariant.0.addresses_are c.args.section.object.0 c.args.section
+    ∙ (sym (address_either c.self.inside.base objects c.args.section.object.0 c.args.section.section)
+    ∙ ap (λ (b : Basis). option_map (λ q. q.at) (find (is_of_section c.args.section.object.0 c.args.section.section) (own_placed b.base b.objects))) c.self.view_is)))

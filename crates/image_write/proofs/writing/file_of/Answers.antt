@@ -8,7 +8,7 @@ use Rattle.image_write.specs.Parts.{AreFull, EndsLow, as_list}
 use Rattle.image_write.proofs.Files.{end_low, file_is, rise_is, threads_is}
 use Rattle.image_write.proofs.OwnBody.{ends_low}
 use Rattle.image_write.proofs.Wholes.{own_full}
-use Rattle.image_write.proofs.writing.image.Goals as goal
+use Rattle.image_write.proofs.writing.file_of.Goals as goal
 
 pub file_end-end-requires : goal.file_end-end-requires
 file_end-end-requires c =

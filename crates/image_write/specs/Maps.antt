@@ -12,7 +12,7 @@ use Rattle.elf_model.specs.RightLink.{drop_rows, object_rows, symbol_row_of}
 use Rattle.elf_model.specs.Slots.{got_size, slots}
 use Rattle.got_tls.specs.Views.{Got}
 use Rattle.layout.specs.Placements.{Basis}
-use Rattle.ld_main.specs.CommonRows.{own_commons}
+use Rattle.image_write.specs.CommonRows.{own_commons}
 
 -- a symbol of a section that is placed has a value within the addresses
 abbrev pub LiesBelow : List Placed → SymbolOf → Type 0

@@ -4,7 +4,7 @@ use Rattle.relocate.proofs.Fitted.{LeavesToFit}
 use Rattle.relocate.proofs.ObjectRows.{AreFirstRows}
 use Rattle.relocate.specs.Values.{where_in}
 use Rattle.search.specs.Views.{loaded_view, loaded_views}
-use Rattle.relocate.proofs.patching.patches.Given as goal
+use Rattle.relocate.proofs.patching.rows_of.Given as goal
 
 abbrev pub invariant-loop-k : goal.invariant-loop-k
 invariant-loop-k l = record {

@@ -12,7 +12,7 @@ use Rattle.relocate.proofs.Fitted.{fit_all, fit_part, fitting_fails, known_part}
 use Rattle.got_tls.proofs.LoadedObjects.{next_relocations, next_there}
 use Rattle.relocate.proofs.ObjectRows.{all_known, exit_values, no_rows, row_more, rows_all, values_fail}
 use Rattle.relocate.specs.Values.{ArePatchRows, FittingFails, where_in}
-use Rattle.relocate.proofs.patching.patches.Goals as goal
+use Rattle.relocate.proofs.patching.rows_of.Goals as goal
 
 pub loop-k-init : goal.loop-k-init
 loop-k-init c =
@@ -73,8 +73,8 @@ loop-k-preserved c =
           (subst (λ (os : List LoadedObject). All (Fits os w) here) c.requires.resolved c.in_ok-row.ensures.fit) c.loop-k.invariant.leaves;
     }
 
-pub of_rows-requires : goal.of_rows-requires
-of_rows-requires c =
+pub returns-clause-rows : goal.returns-clause-rows
+returns-clause-rows c =
     let xs = c.args.objects.now in
     let low = c.loop-k.auto.k-end in
     let high = c.loop-k-test.false in

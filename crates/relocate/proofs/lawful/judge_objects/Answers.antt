@@ -11,7 +11,7 @@ use Rattle.relocate.proofs.Judged.{exit_fails, remains_fail, remains_part}
 use Rattle.elf_model.proofs.RelocationFields.{objects_apart}
 use Rattle.got_tls.proofs.LoadedObjects.{next_relocations}
 use Rattle.relocate.specs.References.{AreLawful, RelocationsFail}
-use Rattle.relocate.proofs.lawful.references.Goals as goal
+use Rattle.relocate.proofs.lawful.judge_objects.Goals as goal
 
 pub returns-in_err-judge_object-clause-fault : goal.returns-in_err-judge_object-clause-fault
 returns-in_err-judge_object-clause-fault c =

@@ -3,7 +3,7 @@ use Rattle.elf_model.specs.Listing.{AreLinkerLines}
 use Rattle.elf_model.specs.Loading.{LoadedObject}
 use Rattle.elf_model.proofs.LinkerLines.{lines_are}
 use Rattle.search.specs.Views.{loaded_views}
-use Rattle.relocate.proofs.uses.linker_lines.Goals as goal
+use Rattle.relocate.proofs.uses.used_lines.Goals as goal
 
 pub returns : goal.returns
 returns c =

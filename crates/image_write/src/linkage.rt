@@ -1,0 +1,86 @@
+//! A link that is prepared: what is loaded, where it stands, what its relocations want, and what its names mean.
+ghost use Rattle.std.specs.Prelude.{◌≡◌, IfOk};
+ghost use Rattle.image_write.specs.Linkages.{AreParts, own_image};
+
+use crate::writing::file_of;
+use got_tls::Slots;
+use layout::Placement;
+use relocate::Patches;
+use resolve::Definition;
+use search::Loaded;
+use std::alloc::{AllocError, Global};
+use std::marker::Model;
+
+/// What the layers make of what is loaded: the definitions that have a line in the map, in the order of their names, where
+/// the pieces stand, the slots of the GOT and what they hold, what the relocations want, and the address at which the image
+/// is entered.
+#[derive(Drop)]
+pub struct Parts<'a> {
+    pub listed: Vec<Definition<'a>>,
+    pub placement: Placement<'a>,
+    pub slots: Slots<'a>,
+    pub values: Vec<u64>,
+    pub patches: Patches<'a>,
+    pub entry: u64,
+}
+
+/// A link without a fault: the plan of a command with its loaded objects, and all that their image and their map are made
+/// from. Names are borrowed from the words, and bytes from the files.
+#[derive(Drop)]
+pub struct Linkage<'a> {
+    loaded: Loaded<'a>,
+    parts: Parts<'a>,
+}
+
+impl<'a> Model for Linkage<'a> {
+    ghost use Rattle.search.specs.Loads.{LoadedPlan};
+    ghost use Rattle.image_write.specs.Linkages.{AreParts};
+
+    ghost Value = { LoadedPlan };
+
+    ghost view = { λ l. l.loaded };
+
+    ghost invariant = { λ l. AreParts l.loaded l.parts };
+}
+
+impl<'a> Linkage<'a> {
+    /// The link of what is loaded, of the parts that the layers made of it.
+    pub fn new(loaded: Loaded<'a>, parts: Parts<'a>) -> Linkage<'a>
+        requires { AreParts loaded parts }
+        ensures { result ≡ loaded.entry }
+    {
+        Linkage { loaded, parts }
+    }
+
+    /// What is loaded.
+    pub fn loaded(&self) -> &Loaded<'a>
+        ensures { result.now ≡ self.now }
+    {
+        &self.loaded
+    }
+
+    /// What the layers made of it.
+    pub fn parts(&self) -> &Parts<'a>
+        ensures { AreParts self.now result.now }
+    {
+        &self.parts
+    }
+}
+
+/// The image file of a link.
+///
+/// # Errors
+///
+/// Only where memory is refused.
+pub fn image(alloc: Global, linkage: &Linkage<'_>) -> Result<Vec<u8>, AllocError>
+    ensures { IfOk result (λ v. v.items ≡ own_image linkage.now) }
+{
+    let parts = linkage.parts();
+    file_of(
+        alloc,
+        &parts.placement,
+        &parts.patches,
+        &parts.values,
+        parts.entry,
+    )
+}
