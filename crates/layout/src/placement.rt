@@ -15,7 +15,7 @@ ghost use Rattle.elf_model.specs.Resolution.{AreSoundCommons};
 ghost use Rattle.elf_model.specs.Slots as slots;
 ghost use Rattle.elf_model.specs.ThreadStorage.{thread_block};
 ghost use Rattle.search.specs.Views.{loaded_views};
-ghost use Rattle.resolve.specs.Blocks.{block_view, block_views};
+ghost use Rattle.resolve.specs.Blocks.{block_in, block_view, block_views};
 ghost use Rattle.layout.specs.Laid.{LayoutFails};
 ghost use Rattle.layout.specs.PlaceViews.{place_views};
 ghost use Rattle.layout.specs.Tables.{AreTables};
@@ -140,6 +140,13 @@ pub fn place<'a>(
     })
 }
 
+/// The common block that an index finds by a name.
+fn block_in<'a>(index: &BTreeMap<&'a [u8], Block<'a>>, name: &[u8]) -> Option<Block<'a>>
+    ensures { option_map block_view result ≡ block_in index.now name.now }
+{
+    index.get(name).copied()
+}
+
 impl<'a> Placement<'a> {
     /// The address from which the image is mapped.
     pub fn base(&self) -> u64
@@ -211,7 +218,7 @@ impl<'a> Placement<'a> {
     fn named_block(&self, name: &[u8]) -> Option<Block<'a>>
         ensures { option_map block_view result ≡ commons.block_named self.now.objects name.now }
     {
-        self.named_blocks.get(name).copied()
+        block_in(&self.named_blocks, name)
     }
 
     /// The address of a section or a common block, and also that of the GOT by its numbers as a piece.

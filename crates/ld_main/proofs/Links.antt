@@ -23,12 +23,14 @@ use Rattle.resolve.specs.declared.faults.ResolveFault.{ResolveFault}
 use Rattle.resolve.specs.declared.faults.ResolveFault.TheVariants as resolve
 use Rattle.layout.specs.Placements.{Basis}
 use Rattle.resolve.specs.Views.{meaning_views}
-use Rattle.ld_main.specs.Linkages.{AreOwnMapsRight, IsLinkageOf, IsOwnText, IsPrepared, Prepared, own_image}
+use Rattle.image_write.specs.Linkages.{AreParts, own_image}
+use Rattle.image_write.specs.declared.linkage.Parts.{Parts}
+use Rattle.search.specs.Loads.{LoadedPlan}
+use Rattle.ld_main.specs.Linkages.{AreOwnMapsRight, IsOwnText, IsPrepared}
 use Rattle.image_write.specs.Maps.{IsMapOf, own_record}
 use Rattle.ld_main.specs.Outputs.{AreLaidOut, AreLinkable, AreReferred, AreResolved, IsOwnLink, LinksRefuse}
 use Rattle.ld_main.specs.Program.{LinksRight}
 use Rattle.ld_main.specs.Refusals.{of_reloc, of_resolve, of_search}
-use Rattle.ld_main.specs.declared.linkage.Parts.{Parts}
 use Rattle.ld_main.proofs.OwnMaps.{ordered, own_map}
 
 pub ok_more : {X Y : Type 0} (P Q : X → Type 0) (r : Result X Y) → IfOk r P → ((x : X) → P x → Q x) → IfOk r Q
@@ -73,7 +75,7 @@ values_refuse p objects l _ f = absurd f
 
 -- the bytes of a prepared link: its own image, and the text of its own map
 pub own :
-    (files : List File) (words : List (List ℕ)) (l : Prepared) → IsPrepared files words l → (image text : List ℕ) →
+    (files : List File) (words : List (List ℕ)) (l : LoadedPlan) → IsPrepared files words l → (image text : List ℕ) →
     image ≡ own_image l → IsOwnText l text → IsOwnLink files words image text
 own files words l i image text image_is t = record {
   plan = l.plan;
@@ -88,7 +90,7 @@ own files words l i image text image_is t = record {
 }
 
 -- with its own image, each own map is a right link
-pub own_maps_right : (files : List File) (words : List (List ℕ)) (l : Prepared) → IsPrepared files words l → AreOwnMapsRight files words l
+pub own_maps_right : (files : List File) (words : List (List ℕ)) (l : LoadedPlan) → IsPrepared files words l → AreOwnMapsRight files words l
 own_maps_right files words l i m own is_map =
     let small = subst (λ (os : List LoadedObject). own_entry l.plan.base os l.plan.entry < 2 ^ 64) i.objects i.entry_fits in
     subst (λ (os : List LoadedObject). IsRightLink files words (image_file l.plan.base os (own_entry l.plan.base os l.plan.entry)) (map_text.text m))
@@ -96,7 +98,7 @@ own_maps_right files words l i m own is_map =
     (own_is_right files words l.plan m i.linkable i.base small (subst (λ (os : List LoadedObject). IsOwnMap l.plan.base os m) i.objects own) is_map)
 
 pub right :
-    (files : List File) (words : List (List ℕ)) (l : Prepared) → IsPrepared files words l → (image text : List ℕ) →
+    (files : List File) (words : List (List ℕ)) (l : LoadedPlan) → IsPrepared files words l → (image text : List ℕ) →
     image ≡ own_image l → IsOwnText l text → IsRightLink files words image text
 right files words l i image text image_is t =
     subst (λ (j : List ℕ). IsRightLink files words j text) (sym image_is)
@@ -123,17 +125,17 @@ module _ (files : List File) (words : List (List ℕ)) (p : Plan) (objects : Lis
   linkable : AreLinkable p (loaded_objects files p) → IsLinkable files words p
   linkable l = record { before = laid_out l.laid_out; fits = l.fits }
 
-  pub prepared : (x : Parts) → IsLinkageOf p objects x → IsPrepared files words (record { plan = p; objects = objects })
-  prepared x made = record {
+  pub prepared : (x : Parts) → AreLinkable p objects → AreParts (record { plan = p; objects = objects }) x → IsPrepared files words (record { plan = p; objects = objects })
+  prepared x links made = record {
     objects = are;
-    linkable = linkable (subst (AreLinkable p) are made.linkable);
+    linkable = linkable (subst (AreLinkable p) are links);
     base = made.base;
     entry_fits = subst (λ (e : ℕ). e < 2 ^ 64) (sym made.entry) made.entry_fits;
   }
 
   -- the own image and the own map, which can be spelled
-  pub right_link : (x : Parts) → IsLinkageOf p objects x → LinksRight files words
-  right_link x made =
+  pub right_link : (x : Parts) → AreLinkable p objects → AreParts (record { plan = p; objects = objects }) x → LinksRight files words
+  right_link x links made =
       let b : Basis = record { base = p.base; objects = objects } in
       let m = own_record b (meaning_views x.listed.items) in
       let is : IsMapOf b (meaning_views x.listed.items) m =
@@ -145,7 +147,7 @@ module _ (files : List File) (words : List (List ℕ)) (p : Plan) (objects : Lis
         is_map = record { fits = made.spelled; ordered = ordered b x.listed.items m is made.listed };
         spelled = refl;
       } in
-      let r = prepared x made in
+      let r = prepared x links made in
       (own_image (record { plan = p; objects = objects }), map_text.text m, right files words (record { plan = p; objects = objects }) r _ _ refl text_is)
 
   pub cause : (e : LinkError) → LinksRefuse p objects e → Cause files words e

@@ -13,6 +13,7 @@ mod spelling;
 
 pub use checker::{Clause, Verdict, check};
 pub use elf_model::LinkError;
-pub use linkage::{Linkage, image, link_map, prepare, prepare_over};
+pub use image_write::{Linkage, image};
+pub use linkage::{link_map, prepare, prepare_over};
 pub use linking::{Output, link};
 pub use program::run_ld;

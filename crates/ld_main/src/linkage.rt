@@ -1,24 +1,20 @@
-//! A link that is prepared: the loaded objects, where they stand, what their relocations want, and what their
-//! names mean.
+//! From the words and the files to a link that is prepared, phase by phase, and from that to its map.
 ghost use Rattle.std.specs.Prelude.{◌≡◌, IfErr, IfOk, OnOk, map};
 ghost use Rattle.elf_model.specs.Causes.{Cause};
 ghost use Rattle.elf_model.specs.Command.{IsBase};
 ghost use Rattle.elf_model.specs.Files.{files_of, words_of};
 ghost use Rattle.elf_model.specs.ImageFile.{IsOwnMap};
-ghost use Rattle.elf_model.specs.Loading.{AreObjects};
 ghost use Rattle.elf_model.specs.MapRecord.{map_of};
 ghost use Rattle.elf_model.specs.OwnLayout.{own_where};
 ghost use Rattle.elf_model.specs.Slots as wanted;
-ghost use Rattle.layout.specs.Tables.{AreTables};
-ghost use Rattle.relocate.specs.PatchTables.{ArePatchesOf};
-ghost use Rattle.search.specs.Views.{loaded_views};
 ghost use Rattle.resolve.specs.Views.{meaning_view};
 ghost use Rattle.symbols.specs.Rows.{no_rows};
-ghost use Rattle.ld_main.specs.FinalRefusals.{DeniesLinks};
-ghost use Rattle.ld_main.specs.Linkages.{AreOwnMapsRight, IsPrepared, IsLinkageOf, own_image};
 ghost use Rattle.relocate.specs.Values.{slot_value_of};
+ghost use Rattle.image_write.specs.Linkages.{AreParts};
 ghost use Rattle.image_write.specs.Listings.{IsListing};
 ghost use Rattle.image_write.specs.Maps.{own_table};
+ghost use Rattle.ld_main.specs.FinalRefusals.{DeniesLinks};
+ghost use Rattle.ld_main.specs.Linkages.{AreOwnMapsRight, IsPrepared};
 ghost use Rattle.ld_main.specs.Outputs.{AreLaidOut, AreLinkable, AreReferred, AreResolved, EntersAt, LinksRefuse};
 ghost use Rattle.ld_main.specs.Program.{LinksRight};
 
@@ -26,68 +22,34 @@ use crate::listing::listed;
 use crate::own_map::{map_of_layout, meaning_value};
 use crate::refusals::{command_error, layout_error, reloc_error, resolve_error, search_error};
 use crate::spelling::show_spellings;
-use command::{Plan, read_words};
+use command::read_words;
 use elf_model::{InputFile, LinkError, LinkMap};
 use got_tls::{Slots, slots};
-use layout::{Placement, Tables, kinds, place};
-use relocate::{PatchTable, Patches, linker_lines, patches, references, slot_values};
+use image_write::{Linkage, Parts};
+use layout::{GotSize, Placement, kinds, place};
+use relocate::{Patches, linker_lines, patches, references, slot_values};
 use resolve::{Definition, Resolved, resolve_over};
-use search::{LoadedObject, load};
+use search::{Loaded, load};
 use std::alloc::{AllocError, Global};
 use std::hash::{BuildHasherDefault, FoldHasher};
-use std::marker::Model;
 use symbols::{IndexedTable, NameTable};
 
-/// What the phases of a link made of loaded objects: the definitions that have a line, in the order of their names, where
-/// the pieces stand, the slots of the GOT and what they hold, what the relocations want, and the address at which the
-/// image is entered.
-#[derive(Drop)]
-pub struct Parts<'a> {
-    pub listed: Vec<Definition<'a>>,
-    pub tables: Tables<'a>,
-    pub slots: Slots<'a>,
-    pub values: Vec<u64>,
-    pub patches: PatchTable,
-    pub entry: u64,
-}
-
-/// A link without a fault: the plan of a command, its loaded objects, and all that their image and their map
-/// are made from. Names are borrowed from the words, and bytes from the files.
-#[derive(Drop)]
-pub struct Linkage<'a> {
-    plan: Plan<'a>,
-    objects: Vec<LoadedObject<'a>>,
-    parts: Parts<'a>,
-}
-
-impl<'a> Model for Linkage<'a> {
-    ghost use Rattle.search.specs.Views.{loaded_views};
-    ghost use Rattle.ld_main.specs.Linkages.{Prepared, IsLinkageOf};
-
-    ghost Value = { Prepared };
-
-    ghost view = { λ l. record { plan = l.plan; objects = loaded_views l.objects.items } };
-
-    ghost invariant = { λ l. IsLinkageOf l.plan (loaded_views l.objects.items) l.parts };
-}
-
-/// The names of objects whose kept sections are of lawful kinds, resolved.
-fn resolved_objects<'b, 'a, T: NameTable<'a> + Drop>(
+/// The names of what is loaded, whose kept sections are of lawful kinds, resolved.
+fn resolved_names<'a, T: NameTable<'a> + Drop>(
     alloc: Global,
-    plan: &Plan<'_>,
-    objects: &'b [LoadedObject<'a>],
+    loaded: &Loaded<'a>,
     table: T,
 ) -> Result<Resolved<'a>, LinkError>
     requires { T.rows table ≡ no_rows }
-    ensures exact { IfOk result (λ r. r ≡ loaded_views objects.entry.now) }
-    ensures resolved { OnOk result (AreResolved (loaded_views objects.entry.now)) }
-    ensures fault { IfErr result (LinksRefuse plan.now (loaded_views objects.entry.now)) }
+    ensures exact { IfOk result (λ r. r ≡ loaded.now.objects) }
+    ensures resolved { OnOk result (AreResolved loaded.now.objects) }
+    ensures fault { IfErr result (LinksRefuse loaded.now.plan loaded.now.objects) }
 {
-    match kinds(objects) {
+    match kinds(loaded) {
         Ok(()) => {}
         Err(fault) => return Err(layout_error(fault)),
     }
-    match resolve_over(alloc, objects, table) {
+    match resolve_over(alloc, loaded, table) {
         Ok(resolved) => Ok(resolved),
         Err(fault) => Err(resolve_error(fault)),
     }
@@ -96,101 +58,94 @@ fn resolved_objects<'b, 'a, T: NameTable<'a> + Drop>(
 /// The definition of the entry, where all kept relocations are lawful.
 fn referred_entry<'a>(
     alloc: Global,
-    plan: &Plan<'_>,
-    objects: &[LoadedObject<'a>],
+    loaded: &Loaded<'a>,
     resolved: &Resolved<'a>,
 ) -> Result<Definition<'a>, LinkError>
-    requires same { resolved.now ≡ loaded_views objects.now }
-    requires resolved { AreResolved (loaded_views objects.now) }
-    ensures entry { IfOk result (λ m. EntersAt plan.now (loaded_views objects.now) (meaning_view m)) }
-    ensures referred { OnOk result (AreReferred plan.now (loaded_views objects.now)) }
-    ensures fault { IfErr result (LinksRefuse plan.now (loaded_views objects.now)) }
+    requires same { resolved.now ≡ loaded.now.objects }
+    requires resolved { AreResolved loaded.now.objects }
+    ensures entry { IfOk result (λ m. EntersAt loaded.now.plan loaded.now.objects (meaning_view m)) }
+    ensures referred { OnOk result (AreReferred loaded.now.plan loaded.now.objects) }
+    ensures fault { IfErr result (LinksRefuse loaded.now.plan loaded.now.objects) }
 {
-    match references(alloc, objects, resolved) {
+    match references(alloc, loaded, resolved) {
         Ok(()) => {}
         Err(fault) => return Err(reloc_error(fault)),
     }
-    match resolved.entry(plan.entry.as_bytes()) {
+    match resolved.entry(loaded.plan().entry.as_bytes()) {
         Some(entry) => Ok(entry),
         None => Err(LinkError::NoEntry),
     }
 }
 
-/// Objects whose references are lawful, laid out with their common blocks and their GOT, of a size in bytes, from the
+/// What is loaded, whose references are lawful, laid out with its common blocks and its GOT, which has this size, from the
 /// plan's base on.
 fn laid_out<'a>(
     alloc: Global,
-    plan: &Plan<'_>,
-    objects: &[LoadedObject<'a>],
+    loaded: &Loaded<'a>,
     resolved: &Resolved<'a>,
-    got_size: u64,
-) -> Result<Tables<'a>, LinkError>
-    requires same { resolved.now ≡ loaded_views objects.now }
-    requires got { got_size ≡ wanted.got_size (loaded_views objects.now) }
-    requires base { IsBase plan.now.base }
-    requires objects { AreObjects (loaded_views objects.now) }
-    requires referred { AreReferred plan.now (loaded_views objects.now) }
-    ensures tables { IfOk result (AreTables plan.now.base (loaded_views objects.now)) }
-    ensures laid { OnOk result (AreLaidOut plan.now (loaded_views objects.now)) }
-    ensures fault { IfErr result (LinksRefuse plan.now (loaded_views objects.now)) }
+    got: GotSize,
+) -> Result<Placement<'a>, LinkError>
+    requires same { resolved.now ≡ loaded.now.objects }
+    requires got { got.0 ≡ wanted.got_size loaded.now.objects }
+    requires base { IsBase loaded.now.plan.base }
+    requires referred { AreReferred loaded.now.plan loaded.now.objects }
+    ensures placed { IfOk result (λ p. p ≡ record { base = loaded.now.plan.base; objects = loaded.now.objects }) }
+    ensures laid { OnOk result (AreLaidOut loaded.now.plan loaded.now.objects) }
+    ensures fault { IfErr result (LinksRefuse loaded.now.plan loaded.now.objects) }
 {
-    match place(alloc, objects, resolved.blocks(), got_size, plan.base) {
-        Ok(tables) => Ok(tables),
+    match place(alloc, loaded, resolved, got, loaded.plan().base) {
+        Ok(placement) => Ok(placement),
         Err(fault) => Err(layout_error(fault)),
     }
 }
 
-/// The patches of objects that are laid out.
+/// The patches of what is laid out.
 fn fitted<'a>(
     alloc: Global,
-    plan: &Plan<'_>,
-    objects: &[LoadedObject<'a>],
+    loaded: &Loaded<'a>,
     resolved: &Resolved<'a>,
     placement: &Placement<'a>,
     slots: &Slots<'a>,
-) -> Result<PatchTable, LinkError>
-    requires same { resolved.now ≡ loaded_views objects.now }
-    requires slots { slots.now ≡ own_table (loaded_views objects.now) }
-    requires placed { placement.now ≡ record { base = plan.now.base; objects = loaded_views objects.now } }
-    requires laid { AreLaidOut plan.now (loaded_views objects.now) }
-    ensures patches { IfOk result (ArePatchesOf placement.now) }
-    ensures linkable { OnOk result (AreLinkable plan.now (loaded_views objects.now)) }
-    ensures fault { IfErr result (LinksRefuse plan.now (loaded_views objects.now)) }
+) -> Result<Patches<'a>, LinkError>
+    requires same { resolved.now ≡ loaded.now.objects }
+    requires slots { slots.now ≡ own_table loaded.now.objects }
+    requires placed { placement.now ≡ record { base = loaded.now.plan.base; objects = loaded.now.objects } }
+    requires laid { AreLaidOut loaded.now.plan loaded.now.objects }
+    ensures patches { IfOk result (λ p. p ≡ placement.now) }
+    ensures linkable { OnOk result (AreLinkable loaded.now.plan loaded.now.objects) }
+    ensures fault { IfErr result (LinksRefuse loaded.now.plan loaded.now.objects) }
 {
-    match patches(alloc, objects, resolved, placement, slots) {
+    match patches(alloc, loaded, resolved, placement, slots) {
         Ok(patches) => Ok(patches),
         Err(fault) => Err(reloc_error(fault)),
     }
 }
 
-/// What has been made of objects, once all of it is there.
+/// What the layers made of what is loaded, once all of it is there.
 fn parts_of<'a>(
-    plan: &Plan<'_>,
-    objects: &[LoadedObject<'a>],
+    loaded: &Loaded<'a>,
     listed: Vec<Definition<'a>>,
-    tables: Tables<'a>,
+    placement: Placement<'a>,
     slots: Slots<'a>,
     values: Vec<u64>,
-    patches: PatchTable,
+    patches: Patches<'a>,
     entry: &Definition<'a>,
 ) -> Parts<'a>
-    requires base { IsBase plan.now.base }
-    requires objects { AreObjects (loaded_views objects.now) }
-    requires listed { IsListing (loaded_views objects.now) listed.items }
-    requires tables { AreTables plan.now.base (loaded_views objects.now) tables }
-    requires slots { slots ≡ own_table (loaded_views objects.now) }
-    requires values { values.items ≡ map (slot_value_of (loaded_views objects.now) (own_where plan.now.base (loaded_views objects.now))) (wanted.slots (loaded_views objects.now)) }
-    requires patches { ArePatchesOf (record { base = plan.now.base; objects = loaded_views objects.now }) patches }
-    requires linkable { AreLinkable plan.now (loaded_views objects.now) }
-    requires entry { EntersAt plan.now (loaded_views objects.now) (meaning_view entry.now) }
-    ensures { IsLinkageOf plan.now (loaded_views objects.now) result }
+    requires base { IsBase loaded.now.plan.base }
+    requires listed { IsListing loaded.now.objects listed.items }
+    requires placed { placement ≡ record { base = loaded.now.plan.base; objects = loaded.now.objects } }
+    requires slots { slots ≡ own_table loaded.now.objects }
+    requires values { values.items ≡ map (slot_value_of loaded.now.objects (own_where loaded.now.plan.base loaded.now.objects)) (wanted.slots loaded.now.objects) }
+    requires patches { patches ≡ placement }
+    requires linkable { AreLinkable loaded.now.plan loaded.now.objects }
+    requires entry { EntersAt loaded.now.plan loaded.now.objects (meaning_view entry.now) }
+    ensures { AreParts loaded.now result }
 {
-    let placement = Placement::new(plan.base, &*objects, &tables);
     let entry = meaning_value(&placement, entry);
-    show_spellings(&placement, objects, &slots, &listed);
+    show_spellings(&placement, loaded.objects(), &slots, &listed);
     Parts {
         listed,
-        tables,
+        placement,
         slots,
         values,
         patches,
@@ -198,30 +153,28 @@ fn parts_of<'a>(
     }
 }
 
-/// Resolves, lays out and judges loaded objects.
-fn prepare_objects<'a, T: NameTable<'a> + Drop>(
+/// Resolves, lays out and judges what is loaded.
+fn prepare_loaded<'a, T: NameTable<'a> + Drop>(
     alloc: Global,
-    plan: &Plan<'_>,
-    objects: &[LoadedObject<'a>],
+    loaded: &Loaded<'a>,
     table: T,
 ) -> Result<Parts<'a>, LinkError>
     requires empty { T.rows table ≡ no_rows }
-    requires base { IsBase plan.now.base }
-    requires objects { AreObjects (loaded_views objects.now) }
-    ensures made { IfOk result (IsLinkageOf plan.now (loaded_views objects.now)) }
-    ensures fault { IfErr result (LinksRefuse plan.now (loaded_views objects.now)) }
+    requires base { IsBase loaded.now.plan.base }
+    ensures made { IfOk result (AreParts loaded.now) }
+    ensures linkable { OnOk result (AreLinkable loaded.now.plan loaded.now.objects) }
+    ensures fault { IfErr result (LinksRefuse loaded.now.plan loaded.now.objects) }
 {
-    let resolved = resolved_objects(alloc, plan, objects, table)?;
-    let entry = referred_entry(alloc, plan, objects, &resolved)?;
-    let slots = slots(alloc, objects, &resolved)?;
-    let tables = laid_out(alloc, plan, objects, &resolved, slots.got())?;
-    let placement = Placement::new(plan.base, &*objects, &tables);
-    let patches = fitted(alloc, plan, objects, &resolved, &placement, &slots)?;
+    let resolved = resolved_names(alloc, loaded, table)?;
+    let entry = referred_entry(alloc, loaded, &resolved)?;
+    let slots = slots(alloc, loaded, &resolved)?;
+    let placement = laid_out(alloc, loaded, &resolved, slots.got())?;
+    let patches = fitted(alloc, loaded, &resolved, &placement, &slots)?;
     let values = slot_values(alloc, &resolved, &placement, &slots)?;
-    let linkers = linker_lines(alloc, objects, &resolved)?;
+    let linkers = linker_lines(alloc, loaded, &resolved)?;
     let listed = listed(alloc, &resolved, &linkers)?;
     Ok(parts_of(
-        plan, objects, listed, tables, slots, values, patches, &entry,
+        loaded, listed, placement, slots, values, patches, &entry,
     ))
 }
 
@@ -244,16 +197,12 @@ pub fn prepare_over<'a, T: NameTable<'a> + Drop>(
         Ok(plan) => plan,
         Err(fault) => return Err(command_error(fault)),
     };
-    let objects = match load(alloc, &plan, files) {
-        Ok(objects) => objects,
+    let loaded = match load(alloc, &plan, files) {
+        Ok(loaded) => loaded,
         Err(fault) => return Err(search_error(fault)),
     };
-    match prepare_objects(alloc, &plan, &objects, table) {
-        Ok(parts) => Ok(Linkage {
-            plan,
-            objects,
-            parts,
-        }),
+    match prepare_loaded(alloc, &loaded, table) {
+        Ok(parts) => Ok(Linkage::new(loaded, parts)),
         Err(error) => Err(error),
     }
 }
@@ -287,41 +236,17 @@ pub fn prepare<'a>(
     prepare_over(alloc, files, words, IndexedTable::with_hasher(alloc, seed))
 }
 
-impl<'a> Linkage<'a> {
-    /// Where its objects stand.
-    fn placement<'p>(&'p self) -> Placement<'a>
-        ensures { result ≡ record { base = self.entry.now.plan.base; objects = self.entry.now.objects } }
-    {
-        Placement::new(self.plan.base, &self.objects, &self.parts.tables)
-    }
-}
-
-/// The image file of a link.
-pub fn image(alloc: Global, linkage: &Linkage<'_>) -> Result<Vec<u8>, AllocError>
-    ensures { IfOk result (λ v. v.items ≡ own_image linkage.now) }
-{
-    let placement = linkage.placement();
-    let patches = Patches::new(&placement, &linkage.parts.patches);
-    image_write::image(
-        alloc,
-        &placement,
-        &patches,
-        &linkage.parts.values,
-        linkage.parts.entry,
-    )
-}
-
 /// The map of a link: its objects, their dropped sections, their kept ones, the common blocks, the GOT and its slots at
 /// their addresses, and the definitions of names with their values; its lines are in order.
 pub fn link_map(alloc: Global, linkage: &Linkage<'_>) -> Result<LinkMap, AllocError>
     ensures { IfOk result (λ m. IsOwnMap linkage.now.plan.base linkage.now.objects (map_of m)) }
 {
-    let placement = linkage.placement();
+    let parts = linkage.parts();
     map_of_layout(
         alloc,
-        &placement,
-        &linkage.objects,
-        &linkage.parts.slots,
-        &linkage.parts.listed,
+        &parts.placement,
+        linkage.loaded().objects(),
+        &parts.slots,
+        &parts.listed,
     )
 }

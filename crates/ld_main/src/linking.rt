@@ -7,8 +7,9 @@ ghost use Rattle.ld_main.specs.FinalRefusals.{DeniesLinks};
 ghost use Rattle.ld_main.specs.Linkages.{IsOwnText};
 ghost use Rattle.ld_main.specs.Outputs.{IsOwnLink};
 
-use crate::linkage::{Linkage, image, link_map, prepare};
+use crate::linkage::{link_map, prepare};
 use elf_model::{InputFile, LinkError};
+use image_write::{Linkage, image};
 use std::alloc::{AllocError, Global};
 
 /// What a link makes: the bytes of the image and of the map.

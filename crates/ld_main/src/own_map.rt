@@ -18,8 +18,8 @@ ghost use Rattle.image_write.specs.Maps.{IsMapOf, LiesBelow, LiesWithin, own_row
 use crate::listing::name_of;
 use crate::slot_lines::{got_line, slot_lines};
 use elf_model::{
-    CommonLine, Definition as Told, DropLine, LinkMap, ObjectLine, PlaceLine, SHN_ABS, STB_WEAK,
-    SectionHeader, SymbolLine,
+    CommonLine, Definition as Told, DropLine, LinkMap, ObjectId, ObjectLine, PlaceLine, SHN_ABS, STB_WEAK,
+    SectionHeader, SectionRef, SymbolLine,
 };
 use elf_read::Object;
 use got_tls::Slots;
@@ -39,7 +39,10 @@ pub fn value(placement: &Placement<'_>, symbol: &SymbolOf<'_>) -> u64
     if entry.st_shndx == SHN_ABS {
         return entry.st_value;
     }
-    match placement.address(symbol.object as usize, entry.st_shndx as usize) {
+    match placement.address(SectionRef {
+        object: ObjectId(symbol.object),
+        section: entry.st_shndx as u64,
+    }) {
         Some(at) => at + entry.st_value,
         None => 0,
     }
@@ -49,7 +52,7 @@ pub fn value(placement: &Placement<'_>, symbol: &SymbolOf<'_>) -> u64
 pub fn block_address(placement: &Placement<'_>, block: &Block<'_>) -> u64
     ensures { result ≡ section_address (own_in_load_order placement.now.base placement.now.objects) block.now.object block.now.number }
 {
-    match placement.address(block.object as usize, block.number as usize) {
+    match placement.address(block.section()) {
         Some(at) => at,
         None => 0,
     }
@@ -189,7 +192,10 @@ fn drop_lines(alloc: Global, objects: &[LoadedObject<'_>]) -> Result<Vec<DropLin
 pub fn address_of(placement: &Placement<'_>, object: u64, section: usize) -> u64
     ensures { result ≡ unwrap_or (option_map (λ q. q.at) (find (is_of_section object section) (own_placed placement.now.base placement.now.objects))) 0 }
 {
-    match placement.piece_address(object as usize, section) {
+    match placement.piece_address(SectionRef {
+        object: ObjectId(object),
+        section: section as u64,
+    }) {
         Some(at) => at,
         None => 0,
     }

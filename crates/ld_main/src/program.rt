@@ -5,12 +5,13 @@ ghost use Rattle.elf_model.specs.Files.{files_of, words_of};
 ghost use Rattle.elf_model.specs.RightLink.{IsRightLink, Least};
 ghost use Rattle.ld_main.specs.Program.{HasRightLink, LinksRight, error_status, failure_status, outcome_status, words_status};
 
-use crate::linkage::{Linkage, image, prepare};
+use crate::linkage::prepare;
 use crate::linking::map_text;
 use crate::refusals::command_error;
 use checker::check;
 use command::{Plan, candidates, read_words};
 use elf_model::{Clause, CmdFault, InputFile, LinkError, Verdict};
+use image_write::{Linkage, image};
 use linkmap::escape;
 use std::alloc::{AllocError, AllocFailed, Global};
 use std::borrow::CowStr;

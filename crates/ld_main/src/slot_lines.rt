@@ -20,7 +20,7 @@ pub fn got_line(placement: &Placement<'_>, slots: &Slots<'_>) -> Option<GotLine>
     match placement.got() {
         Some(address) => Some(GotLine {
             address,
-            size: slots.got(),
+            size: slots.got().0,
         }),
         None => None,
     }

@@ -2,7 +2,6 @@ use Rattle.std.proofs.Common.{subst, sym}
 use Rattle.elf_model.specs.OwnLayout.{OwnValuesFit}
 use Rattle.layout.specs.Placements.{Basis}
 use Rattle.relocate.specs.Values.{ValuesFail}
-use Rattle.search.specs.Views.{loaded_views}
 use Rattle.ld_main.specs.Outputs.{LinksRefuse}
 use Rattle.ld_main.proofs.Links.{values_refuse}
 use Rattle.ld_main.proofs.linkage.fitted.Goals as goal
@@ -15,8 +14,8 @@ returns-in-Ok-clause-linkable c = record {
 
 pub returns-in-Err-clause-fault : goal.returns-in-Err-clause-fault
 returns-in-Err-clause-fault c =
-    let p = c.args.plan.now in
-    let objects = loaded_views c.args.objects.now in
+    let p = c.args.loaded.now.plan in
+    let objects = c.args.loaded.now.objects in
     subst (LinksRefuse p objects) (sym c.reloc_error.ensures)
     (values_refuse p objects c.requires.laid c.in-Err.fault
     (subst (λ (b : Basis). ValuesFail b c.in-Err.fault) c.requires.placed c.in-Err.ensures.fault))

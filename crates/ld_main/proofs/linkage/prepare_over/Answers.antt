@@ -20,41 +20,37 @@ pub returns-in-Err-load-clause-no_link : goal.returns-in-Err-load-clause-no_link
 returns-in-Err-load-clause-no_link g c =
     denies_links (files_of c.args.files.now) (words_of c.args.words.now) c.search_error.result (returns-in-Err-load-clause-cause g c)
 
-pub returns-in-Ok-prepare_objects-clause-prepared : goal.returns-in-Ok-prepare_objects-clause-prepared
-returns-in-Ok-prepare_objects-clause-prepared g c =
+pub returns-in-Ok-prepare_loaded-clause-prepared : goal.returns-in-Ok-prepare_loaded-clause-prepared
+returns-in-Ok-prepare_loaded-clause-prepared g c =
     let p = c.in-Ok.plan in
-    prepared (files_of c.args.files.now) (words_of c.args.words.now) p (loaded_views c.in-Ok-load.objects.items) c.in-Ok-load.ensures.loaded
+    prepared (files_of c.args.files.now) (words_of c.args.words.now) p c.in-Ok-load.loaded.objects c.in-Ok-load.ensures.loaded
     c.in-Ok.ensures.plan c.in-Ok-load.ensures.files c.in-Ok-load.ensures.archives c.in-Ok-load.ensures.indexes c.in-Ok-load.ensures.objects
     c.in-Ok-load.ensures.groups
-    c.in-Ok-prepare_objects.parts
-    (subst (λ (xs : List code.LoadedObject). IsLinkageOf p (loaded_views xs) c.in-Ok-prepare_objects.parts) c.deref.ensures.value
-    c.in-Ok-prepare_objects.ensures.made)
+    c.in-Ok-prepare_loaded.parts (linkable g c) (made g c)
 
-pub returns-in-Ok-prepare_objects-clause-own : goal.returns-in-Ok-prepare_objects-clause-own
-returns-in-Ok-prepare_objects-clause-own g c =
+pub returns-in-Ok-prepare_loaded-clause-own : goal.returns-in-Ok-prepare_loaded-clause-own
+returns-in-Ok-prepare_loaded-clause-own g c =
     own_maps_right (files_of c.args.files.now) (words_of c.args.words.now)
-    (record { plan = c.in-Ok.plan; objects = loaded_views c.in-Ok-load.objects.items }) (returns-in-Ok-prepare_objects-clause-prepared g c)
+    (record { plan = c.in-Ok.plan; objects = c.in-Ok-load.loaded.objects }) (returns-in-Ok-prepare_loaded-clause-prepared g c)
 
-pub returns-in-Ok-prepare_objects-clause-right : goal.returns-in-Ok-prepare_objects-clause-right
-returns-in-Ok-prepare_objects-clause-right g c =
+pub returns-in-Ok-prepare_loaded-clause-right : goal.returns-in-Ok-prepare_loaded-clause-right
+returns-in-Ok-prepare_loaded-clause-right g c =
     let p = c.in-Ok.plan in
-    right_link (files_of c.args.files.now) (words_of c.args.words.now) p (loaded_views c.in-Ok-load.objects.items) c.in-Ok-load.ensures.loaded
+    right_link (files_of c.args.files.now) (words_of c.args.words.now) p c.in-Ok-load.loaded.objects c.in-Ok-load.ensures.loaded
     c.in-Ok.ensures.plan c.in-Ok-load.ensures.files c.in-Ok-load.ensures.archives c.in-Ok-load.ensures.indexes c.in-Ok-load.ensures.objects
     c.in-Ok-load.ensures.groups
-    c.in-Ok-prepare_objects.parts
-    (subst (λ (xs : List code.LoadedObject). IsLinkageOf p (loaded_views xs) c.in-Ok-prepare_objects.parts) c.deref.ensures.value
-    c.in-Ok-prepare_objects.ensures.made)
+    c.in-Ok-prepare_loaded.parts (linkable g c) (made g c)
 
 pub returns-clause-cause : goal.returns-clause-cause
 returns-clause-cause g c =
     let p = c.in-Ok.plan in
-    cause (files_of c.args.files.now) (words_of c.args.words.now) p (loaded_views c.in-Ok-load.objects.items) c.in-Ok-load.ensures.loaded
+    cause (files_of c.args.files.now) (words_of c.args.words.now) p c.in-Ok-load.loaded.objects c.in-Ok-load.ensures.loaded
     c.in-Ok.ensures.plan c.in-Ok-load.ensures.files c.in-Ok-load.ensures.archives c.in-Ok-load.ensures.indexes c.in-Ok-load.ensures.objects
     c.in-Ok-load.ensures.groups
-    c.in-Err-prepare_objects.error
-    (subst (λ (xs : List code.LoadedObject). LinksRefuse p (loaded_views xs) c.in-Err-prepare_objects.error) c.deref.ensures.value
-    c.in-Err-prepare_objects.ensures.fault)
+    c.in-Err-prepare_loaded.error
+    (subst (λ (q : Plan). LinksRefuse q c.in-Ok-load.loaded.objects c.in-Err-prepare_loaded.error) c.in-Ok-load.ensures.plan
+    c.in-Err-prepare_loaded.ensures.fault)
 
 pub returns-clause-no_link : goal.returns-clause-no_link
 returns-clause-no_link g c =
-    denies_links (files_of c.args.files.now) (words_of c.args.words.now) c.in-Err-prepare_objects.error (returns-clause-cause g c)
+    denies_links (files_of c.args.files.now) (words_of c.args.words.now) c.in-Err-prepare_loaded.error (returns-clause-cause g c)

@@ -14,6 +14,6 @@ returns c =
     let objects = c.self.inside.loaded.objects in
     c.address_in.ensures
     ∙ (ap (λ (t : List (Vec (Option ℕ))). entry t c.args.section.object.0 c.args.section.section) c.deref.ensures.value
-    ∙ (c.self.invariant.0.addresses_are c.args.section.object.0 c.args.section
+    ∙ (c.self.invariant.0.addresses_are c.args.section.object.0 c.args.section.section
     ∙ (sym (address_either c.self.inside.base objects c.args.section.object.0 c.args.section.section)
     ∙ ap (λ (b : Basis). option_map (λ q. q.at) (find (is_of_section c.args.section.object.0 c.args.section.section) (own_placed b.base b.objects))) c.self.view_is)))

@@ -1,0 +1,9 @@
+use Rattle.std.proofs.Common.{List, subst}
+use Rattle.elf_model.specs.Loading.{LoadedObject}
+use Rattle.elf_model.specs.OwnAddresses.{AreOwnAddresses}
+use Rattle.elf_model.specs.Pieces.{AreLawfulKinds}
+use Rattle.layout.proofs.placement.place.Goals as goal
+
+pub returns-clause-addresses : goal.returns-clause-addresses
+returns-clause-addresses c =
+    subst (λ (os : List LoadedObject). AreLawfulKinds os → AreOwnAddresses c.args.base os) c.objects.ensures.exact c.in_ok-tables.ensures.addresses
