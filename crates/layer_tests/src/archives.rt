@@ -203,8 +203,8 @@ fn loads(alloc: Global, line: &str) -> Result<String, Fail> {
     let words = words(alloc, line)?;
     let mut text = String::new(alloc);
     match load_words(alloc, &words, &files)? {
-        Ok(objects) => {
-            for o in &objects {
+        Ok(loaded) => {
+            for o in loaded.objects() {
                 let line = format!(in alloc; "{} {} {};", o.item, o.offset, o.path)?;
                 text.push_str(&line)?;
             }

@@ -1,12 +1,10 @@
-//! Tests of the linker's layers: loading, what names mean, the layout, relocations, the image.
+//! Tests of the linker's layers: loading, what names mean, the layout, relocations.
 #![tactic(auto)]
 
 #[cfg(test)]
 mod archives;
 #[cfg(test)]
 mod faults;
-#[cfg(test)]
-mod images;
 #[cfg(test)]
 mod loading;
 #[cfg(test)]

@@ -2,7 +2,7 @@
 use crate::objects::{DATA, TEXT, object_of};
 use command::read_words;
 use elf_model::{CmdFault, InputFile, ObjFault};
-use search::{LoadedObject, SearchFault, load};
+use search::{Loaded, LoadedObject, SearchFault, load};
 use std::alloc::{AllocError, Global};
 use std::test::Fail;
 
@@ -34,10 +34,10 @@ pub fn load_words<'a>(
     alloc: Global,
     words: &'a [String],
     files: &'a [InputFile],
-) -> Result<Result<Vec<LoadedObject<'a>>, SearchFault>, CmdFault> {
+) -> Result<Result<Loaded<'a>, SearchFault>, CmdFault> {
     let plan = read_words(alloc, words)?;
-    let objects = load(alloc, &plan, files);
-    Ok(objects)
+    let loaded = load(alloc, &plan, files);
+    Ok(loaded)
 }
 
 /// Whether an object is of an item, of a path, and has a number of sections.
@@ -66,8 +66,8 @@ fn two_files(alloc: Global) -> Result<Vec<InputFile>, AllocError> {
 fn objects_stand_in_command_order(rt: HostRuntime) -> Result<(), Fail> {
     let files = two_files(rt.alloc())?;
     let words = words(rt.alloc(), "b.o a.o b.o")?;
-    let objects = load_words(rt.alloc(), &words, &files)??;
-    assert!(rt; are_loaded(&objects));
+    let loaded = load_words(rt.alloc(), &words, &files)??;
+    assert!(rt; are_loaded(loaded.objects()) && loaded.plan().items.len() == LOADED.len());
     Ok(())
 }
 
@@ -77,8 +77,8 @@ fn refusal(alloc: Global, line: &str) -> Result<Option<SearchFault>, Fail> {
     let b = Vec::from_slice(alloc, &[0; 63])?;
     let files = files(alloc, a, b)?;
     let words = words(alloc, line)?;
-    let objects = load_words(alloc, &words, &files)?;
-    Ok(objects.err())
+    let loaded = load_words(alloc, &words, &files)?;
+    Ok(loaded.err())
 }
 
 #[test]

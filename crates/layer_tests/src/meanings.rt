@@ -1,6 +1,8 @@
 //! What names and symbols mean.
 use crate::objects::{DATA, F_NAME, G_NAME, START_NAME, SYMBOLS, TEXT, load_both, object_with};
-use elf_model::{SHF_ALLOC, SHF_TLS, SHF_WRITE, SHN_COMMON, SectionHeader, Symbol};
+use elf_model::{
+    ObjectId, SHF_ALLOC, SHF_TLS, SHF_WRITE, SHN_COMMON, SectionHeader, Symbol, SymbolRef, Target,
+};
 use resolve::{Block, Definition, ResolveFault, Resolved, SymbolOf, resolve, resolve_over};
 use std::alloc::{AllocError, Global};
 use std::process::Abort;
@@ -42,6 +44,13 @@ fn numbers(symbol: Option<SymbolOf<'_>>) -> Option<(u64, u64)> {
     Some((symbol.object, symbol.number))
 }
 
+fn symbol_ref(object: u64, symbol: u64) -> SymbolRef {
+    SymbolRef {
+        object: ObjectId(object),
+        symbol,
+    }
+}
+
 /// Those of the symbol or of the block that is meant; None for the linker's names.
 fn meant_numbers(meaning: Option<Definition<'_>>) -> Option<(u64, u64)> {
     match meaning? {
@@ -57,10 +66,40 @@ fn assert_names(rt: &impl Abort, definitions: &[SymbolOf<'_>]) {
     assert!(rt; definitions[1].name == b"g".as_slice());
 }
 
+/// The name that a reference to a symbol is to; None where it is to the symbol itself.
+fn target_name<'a>(resolved: &Resolved<'a>, symbol: SymbolRef) -> Option<&'a [u8]> {
+    match resolved.definition(symbol) {
+        Target::Name(name) => Some(name),
+        Target::Local(_) => None,
+    }
+}
+
+#[test]
+fn targets_are_names_and_local_symbols(rt: HostRuntime) -> Result<(), Fail> {
+    let alloc = rt.alloc();
+    let a = object_of(alloc, &[global(G_NAME, 2), global(F_NAME, 0)])?;
+    let b = object_of(alloc, &[local(2), global(F_NAME, 2)])?;
+    let loaded = load_both(alloc, &a, &b)?;
+    let resolved = resolve(alloc, &loaded)?;
+    for (object, number, name) in [
+        (0, 1, Some(b"g".as_slice())),
+        (0, 2, Some(b"f".as_slice())),
+        // A LOCAL symbol, symbol number 0, no such symbol, no such object.
+        (1, 1, None),
+        (1, 0, None),
+        (1, 9, None),
+        (2, 1, None),
+    ] {
+        let found = target_name(&resolved, symbol_ref(object, number));
+        assert!(rt; found == name, "of symbol {number} of object {object}");
+    }
+    Ok(())
+}
+
 fn assert_definitions(rt: &impl Abort, resolved: &Resolved<'_>) {
     assert_names(rt, resolved.definitions());
-    assert!(rt; numbers(resolved.chosen(b"f")) == Some((1, 2)));
-    assert!(rt; resolved.chosen(b"h").is_none());
+    assert!(rt; numbers(resolved.symbol(b"f")) == Some((1, 2)));
+    assert!(rt; resolved.symbol(b"h").is_none());
     // A name of another object, a LOCAL symbol itself, symbol number 0, no object.
     for (object, number, used) in [
         (0, 2, Some((1, 2))),
@@ -68,8 +107,11 @@ fn assert_definitions(rt: &impl Abort, resolved: &Resolved<'_>) {
         (1, 0, None),
         (2, 1, None),
     ] {
-        let found = meant_numbers(resolved.definition(object, number));
+        let symbol = symbol_ref(object, number);
+        let found = meant_numbers(resolved.used(symbol));
         assert!(rt; found == used, "of symbol {number} of object {object}");
+        let chosen = meant_numbers(resolved.chosen(&resolved.definition(symbol)));
+        assert!(rt; chosen == used, "of the target of {number} of object {object}");
     }
 }
 
@@ -78,8 +120,8 @@ fn names_mean_strong_definitions(rt: HostRuntime) -> Result<(), Fail> {
     let alloc = rt.alloc();
     let a = object_of(alloc, &[global(G_NAME, 2), global(F_NAME, 0)])?;
     let b = object_of(alloc, &[local(2), global(F_NAME, 2)])?;
-    let objects = load_both(alloc, &a, &b)?;
-    let resolved = resolve(alloc, &objects)?;
+    let loaded = load_both(alloc, &a, &b)?;
+    let resolved = resolve(alloc, &loaded)?;
     assert_definitions(&rt, &resolved);
     assert_names(&rt, &resolved.into_definitions());
     Ok(())
@@ -98,12 +140,12 @@ fn names_mean_weak_definitions_where_none_is_strong(rt: HostRuntime) -> Result<(
     let alloc = rt.alloc();
     let a = object_of(alloc, &[weak(G_NAME, 2), weak(F_NAME, 2)])?;
     let b = object_of(alloc, &[weak(G_NAME, 2), global(F_NAME, 2)])?;
-    let objects = load_both(alloc, &a, &b)?;
-    let resolved = resolve(alloc, &objects)?;
-    assert!(rt; numbers(resolved.chosen(b"g")) == Some((0, 1)));
-    assert!(rt; numbers(resolved.chosen(b"f")) == Some((1, 2)));
-    assert!(rt; meant_numbers(resolved.definition(1, 1)) == Some((0, 1)));
-    assert!(rt; meant_numbers(resolved.definition(0, 2)) == Some((1, 2)));
+    let loaded = load_both(alloc, &a, &b)?;
+    let resolved = resolve(alloc, &loaded)?;
+    assert!(rt; numbers(resolved.symbol(b"g")) == Some((0, 1)));
+    assert!(rt; numbers(resolved.symbol(b"f")) == Some((1, 2)));
+    assert!(rt; meant_numbers(resolved.used(symbol_ref(1, 1))) == Some((0, 1)));
+    assert!(rt; meant_numbers(resolved.used(symbol_ref(0, 2))) == Some((1, 2)));
     assert_eq!(rt; resolved.definitions().len(), 2);
     Ok(())
 }
@@ -113,7 +155,7 @@ fn assert_entry(rt: &impl Abort, resolved: &Resolved<'_>) {
     assert!(rt; resolved.entry(b"f").is_none());
     assert!(rt; resolved.entry(b"g").is_none());
     for (object, number, inside) in [(0, 1, false), (0, 2, true), (1, 1, true), (1, 2, false)] {
-        let found = resolved.is_thread_local(object, number);
+        let found = resolved.is_thread_local(symbol_ref(object, number));
         assert_eq!(rt; found, inside, "symbol {number} of object {object}");
     }
 }
@@ -123,8 +165,8 @@ fn the_entry_stands_outside_thread_storage(rt: HostRuntime) -> Result<(), Fail> 
     let alloc = rt.alloc();
     let a = object_of(alloc, &[global(START_NAME, 2), global(F_NAME, 0)])?;
     let b = object_of(alloc, &[global(F_NAME, 3), global(G_NAME, 0)])?;
-    let objects = load_both(alloc, &a, &b)?;
-    let resolved = resolve_over(alloc, &objects, ListTable::new(alloc))?;
+    let loaded = load_both(alloc, &a, &b)?;
+    let resolved = resolve_over(alloc, &loaded, ListTable::new(alloc))?;
     assert_entry(&rt, &resolved);
     Ok(())
 }
@@ -133,8 +175,8 @@ fn the_entry_stands_outside_thread_storage(rt: HostRuntime) -> Result<(), Fail> 
 fn refusal(alloc: Global, a: &[Symbol; 2], b: &[Symbol; 2]) -> Result<Option<ResolveFault>, Fail> {
     let a = object_of(alloc, a)?;
     let b = object_of(alloc, b)?;
-    let objects = load_both(alloc, &a, &b)?;
-    Ok(resolve(alloc, &objects).err())
+    let loaded = load_both(alloc, &a, &b)?;
+    Ok(resolve(alloc, &loaded).err())
 }
 
 /// What they are refused for, with the name that has two definitions, or `sound`.
@@ -227,10 +269,10 @@ fn common_symbols_of_one_name_share_a_block(rt: HostRuntime) -> Result<(), Fail>
     let alloc = rt.alloc();
     let a = object_of(alloc, &[common(G_NAME, 4, 16), common(F_NAME, 2, 1)])?;
     let b = object_of(alloc, &[common(F_NAME, 8, 4), common(G_NAME, 3, 2)])?;
-    let objects = load_both(alloc, &a, &b)?;
-    let resolved = resolve(alloc, &objects)?;
+    let loaded = load_both(alloc, &a, &b)?;
+    let resolved = resolve(alloc, &loaded)?;
     assert!(rt; are_blocks(&resolved, &SHARED));
-    let used = [resolved.definition(0, 1), resolved.definition(1, 1)];
+    let used = [resolved.used(symbol_ref(0, 1)), resolved.used(symbol_ref(1, 1))];
     assert!(rt; used.map(meant_numbers) == [Some((2, 0)), Some((2, 1))]);
     Ok(())
 }
@@ -242,10 +284,10 @@ fn a_common_symbol_stands_before_a_weak_definition_alone(rt: HostRuntime) -> Res
     let alloc = rt.alloc();
     let a = object_of(alloc, &[weak(F_NAME, 2), common(G_NAME, 4, 16)])?;
     let b = object_of(alloc, &[common(F_NAME, 8, 4), global(G_NAME, 2)])?;
-    let objects = load_both(alloc, &a, &b)?;
-    let resolved = resolve(alloc, &objects)?;
+    let loaded = load_both(alloc, &a, &b)?;
+    let resolved = resolve(alloc, &loaded)?;
     assert!(rt; are_blocks(&resolved, &ONE_BLOCK));
-    let used = [resolved.definition(0, 1), resolved.definition(0, 2)];
+    let used = [resolved.used(symbol_ref(0, 1)), resolved.used(symbol_ref(0, 2))];
     assert!(rt; used.map(meant_numbers) == [Some((2, 0)), Some((1, 2))]);
     Ok(())
 }

@@ -6,12 +6,13 @@ ghost use Rattle.search.specs.Views.{loaded_views};
 
 use byteview::View;
 use comdat::Groups;
+use command::Plan;
 use elf_model::{
     EM_X86_64, ET_REL, FileHeader, Rela, SHF_ALLOC, SHF_EXECINSTR, SHF_WRITE, SHT_NOBITS, SHT_NULL,
     SHT_PROGBITS, SHT_RELA, SHT_STRTAB, SHT_SYMTAB, SectionHeader, Symbol,
 };
 use elf_read::Object;
-use search::LoadedObject;
+use search::{Loaded, LoadedObject};
 use std::alloc::{AllocError, Global};
 use std::test::Fail;
 
@@ -230,8 +231,24 @@ fn load<'a>(alloc: Global, bytes: &'a [u8]) -> Result<LoadedObject<'a>, Fail>
     })
 }
 
-/// The object of a file, alone.
-pub fn load_alone<'a>(alloc: Global, bytes: &'a [u8]) -> Result<Vec<LoadedObject<'a>>, Fail>
+/// Objects as a plan without items would load them.
+fn loaded_of<'a>(alloc: Global, objects: Vec<LoadedObject<'a>>) -> Result<Loaded<'a>, Fail>
+    requires { AreObjects (loaded_views objects.items) }
+{
+    let plan = Plan {
+        items: Vec::new(alloc),
+        directories: Vec::new(alloc),
+        undefined: Vec::new(alloc),
+        entry: "_start",
+        base: 0x400000,
+        output: "a.out",
+        map: None,
+        check: false,
+    };
+    Ok(Loaded::new(alloc, &plan, objects)?)
+}
+
+fn one_object<'a>(alloc: Global, bytes: &'a [u8]) -> Result<Vec<LoadedObject<'a>>, Fail>
     ensures { IfOk result (λ v. AreObjects (loaded_views v.items)) }
 {
     let object = load(alloc, bytes)?;
@@ -240,11 +257,15 @@ pub fn load_alone<'a>(alloc: Global, bytes: &'a [u8]) -> Result<Vec<LoadedObject
     Ok(objects)
 }
 
+/// The object of a file, alone.
+pub fn load_alone<'a>(alloc: Global, bytes: &'a [u8]) -> Result<Loaded<'a>, Fail> {
+    let objects = one_object(alloc, bytes)?;
+    loaded_of(alloc, objects)
+}
+
 /// The objects of two files.
-pub fn load_both<'a>(alloc: Global, a: &'a [u8], b: &'a [u8]) -> Result<Vec<LoadedObject<'a>>, Fail>
-    ensures { IfOk result (λ v. AreObjects (loaded_views v.items)) }
-{
-    let mut objects = load_alone(alloc, a)?;
+pub fn load_both<'a>(alloc: Global, a: &'a [u8], b: &'a [u8]) -> Result<Loaded<'a>, Fail> {
+    let mut objects = one_object(alloc, a)?;
     objects.push(load(alloc, b)?)?;
-    Ok(objects)
+    loaded_of(alloc, objects)
 }

@@ -1,20 +1,18 @@
 //! Layouts: where pieces stand, and in which segments, and what the linker's names for output sections stand for.
-ghost use Rattle.elf_model.specs.Loading.{AreObjects};
 ghost use Rattle.elf_model.specs.Pieces.{AreLawfulKinds};
-ghost use Rattle.search.specs.Views.{loaded_views};
 
 use crate::objects::{
     A_NAME, BSS, DATA, F_NAME, G_NAME, NOTES_NAME, RODATA, RODATA_B_NAME, SYMBOLS, TEXT, load_both,
     object_of, object_with,
 };
 use elf_model::{
-    Bound, PT_LOAD, ProgramHeader, SHF_ALLOC, SHF_EXECINSTR, SHF_LINK_ORDER, SHF_TLS, SHF_WRITE,
-    SHN_COMMON, SHT_STRTAB, SectionHeader, Symbol,
+    Bound, ObjectId, PT_LOAD, ProgramHeader, SHF_ALLOC, SHF_EXECINSTR, SHF_LINK_ORDER, SHF_TLS,
+    SHF_WRITE, SHN_COMMON, SHT_STRTAB, SectionHeader, SectionRef, Symbol,
 };
 use got_tls::slots;
 use layout::{LayoutFault, Place, Placement, kinds, place};
 use resolve::{output_name, resolve};
-use search::LoadedObject;
+use search::Loaded;
 use std::alloc::{AllocError, Global};
 use std::test::Fail;
 
@@ -30,7 +28,11 @@ struct Summary {
 
 /// Whether a layout tells the address of a place by its numbers.
 fn tells(placement: &Placement<'_>, place: &Place<'_>) -> bool {
-    placement.address(place.piece.object as usize, place.piece.section as usize) == Some(place.at)
+    let section = SectionRef {
+        object: ObjectId(place.piece.object),
+        section: place.piece.section,
+    };
+    placement.address(section) == Some(place.at)
 }
 
 fn summary_of(alloc: Global, placement: &Placement<'_>) -> Result<Summary, AllocError> {
@@ -53,11 +55,10 @@ fn summary_of(alloc: Global, placement: &Placement<'_>) -> Result<Summary, Alloc
 
 /// The layout of the objects of two files from 0x400000 on.
 fn lay_out(alloc: Global, a: &[u8], b: &[u8]) -> Result<Summary, Fail> {
-    let objects = load_both(alloc, a, b)?;
-    let resolved = resolve(alloc, &objects)?;
-    let slots = slots(alloc, &objects, &resolved)?;
-    let tables = place(alloc, &objects, resolved.blocks(), slots.got(), 0x400000)?;
-    let placement = Placement::new(0x400000, &objects, &tables);
+    let loaded = load_both(alloc, a, b)?;
+    let resolved = resolve(alloc, &loaded)?;
+    let slots = slots(alloc, &loaded, &resolved)?;
+    let placement = place(alloc, &loaded, &resolved, slots.got(), 0x400000)?;
     Ok(summary_of(alloc, &placement)?)
 }
 
@@ -65,8 +66,8 @@ fn lay_out(alloc: Global, a: &[u8], b: &[u8]) -> Result<Summary, Fail> {
 fn refusal(alloc: Global, section: SectionHeader) -> Result<Option<LayoutFault>, Fail> {
     let text = object_of(alloc, &[TEXT])?;
     let other = object_of(alloc, &[section])?;
-    let objects = load_both(alloc, &text, &other)?;
-    Ok(kinds(&objects).err())
+    let loaded = load_both(alloc, &text, &other)?;
+    Ok(kinds(&loaded).err())
 }
 
 /// A section with these flags and the other fields of `header`.
@@ -78,11 +79,11 @@ fn with_flags(sh_flags: u64, header: SectionHeader) -> SectionHeader {
 fn is_too_large(alloc: Global, sections: &[SectionHeader]) -> Result<bool, Fail> {
     let none = object_of(alloc, &[])?;
     let other = object_of(alloc, sections)?;
-    let objects = load_both(alloc, &none, &other)?;
-    let resolved = resolve(alloc, &objects)?;
-    let slots = slots(alloc, &objects, &resolved)?;
-    let tables = place(alloc, &objects, resolved.blocks(), slots.got(), 0x400000);
-    Ok(matches!(tables, Err(LayoutFault::TooLarge)))
+    let loaded = load_both(alloc, &none, &other)?;
+    let resolved = resolve(alloc, &loaded)?;
+    let slots = slots(alloc, &loaded, &resolved)?;
+    let placement = place(alloc, &loaded, &resolved, slots.got(), 0x400000);
+    Ok(matches!(placement, Err(LayoutFault::TooLarge)))
 }
 
 /// A PT_LOAD that the linker lays out from 0x400000 on.
@@ -168,6 +169,36 @@ fn common(st_name: u32, st_size: u64, st_value: u64) -> Symbol {
     }
 }
 
+/// The addresses of the common blocks of `f`, `g` and `h`, and of the GOT.
+fn addresses_in(
+    alloc: Global,
+    a: &[u8],
+    b: &[u8],
+) -> Result<[Option<u64>; 4], Fail> {
+    let loaded = load_both(alloc, a, b)?;
+    let resolved = resolve(alloc, &loaded)?;
+    let slots = slots(alloc, &loaded, &resolved)?;
+    let placement = place(alloc, &loaded, &resolved, slots.got(), 0x400000)?;
+    Ok([
+        placement.common(b"f"),
+        placement.common(b"g"),
+        placement.common(b"h"),
+        placement.got(),
+    ])
+}
+
+#[test]
+fn blocks_have_addresses_by_their_names(rt: HostRuntime) -> Result<(), Fail> {
+    let alloc = rt.alloc();
+    let commons = [common(G_NAME, 4, 4), common(F_NAME, 16, 16)];
+    let a = object_with(alloc, &[DATA, SYMBOLS], &commons, &[])?;
+    let b = object_of(alloc, &[BSS])?;
+    // `.data` at 0x401000, `.bss` at 0x401008, `g` behind it, `f` at the next multiple of 16; no GOT.
+    let wanted = [Some(0x401020), Some(0x401010), None, None];
+    assert!(rt; addresses_in(alloc, &a, &b)? == wanted);
+    Ok(())
+}
+
 #[test]
 fn blocks_stand_after_all_sections(rt: HostRuntime) -> Result<(), Fail> {
     let alloc = rt.alloc();
@@ -208,21 +239,19 @@ fn first_wrong(placement: &Placement<'_>) -> Option<usize>
 }
 
 /// That of the layout of objects.
-fn first_wrong_in(alloc: Global, objects: &[LoadedObject<'_>]) -> Result<Option<usize>, Fail>
-    requires { AreObjects (loaded_views objects.now) }
+fn first_wrong_in(alloc: Global, loaded: &Loaded<'_>) -> Result<Option<usize>, Fail>
 {
-    kinds(objects)?;
-    let resolved = resolve(alloc, objects)?;
-    let slots = slots(alloc, objects, &resolved)?;
-    let tables = place(alloc, objects, resolved.blocks(), slots.got(), 0x400000)?;
-    let placement = Placement::new(0x400000, &*objects, &tables);
+    kinds(loaded)?;
+    let resolved = resolve(alloc, loaded)?;
+    let slots = slots(alloc, loaded, &resolved)?;
+    let placement = place(alloc, loaded, &resolved, slots.got(), 0x400000)?;
     Ok(first_wrong(&placement))
 }
 
 /// That of the layout of the objects of two files.
 fn first_wrong_of(alloc: Global, a: &[u8], b: &[u8]) -> Result<Option<usize>, Fail> {
-    let objects = load_both(alloc, a, b)?;
-    first_wrong_in(alloc, &objects)
+    let loaded = load_both(alloc, a, b)?;
+    first_wrong_in(alloc, &loaded)
 }
 
 #[test]

@@ -7,17 +7,17 @@ use crate::objects::{
 };
 use elf_model::{Rela, SHF_ALLOC, SHF_TLS, SHF_WRITE, SectionHeader};
 use got_tls::{TlsBlock, slots, tls_block, tp_offset};
-use layout::{Placement, place};
+use layout::place;
 use resolve::resolve;
-use search::LoadedObject;
+use search::Loaded;
 use std::alloc::Global;
 use std::test::Fail;
 
 /// The GOT's size and the number of its slots.
-fn got_of(alloc: Global, objects: &[LoadedObject<'_>]) -> Result<(u64, usize), Fail> {
-    let resolved = resolve(alloc, objects)?;
-    let found = slots(alloc, objects, &resolved)?;
-    Ok((found.got(), found.slots().len()))
+fn got_of(alloc: Global, loaded: &Loaded<'_>) -> Result<(u64, usize), Fail> {
+    let resolved = resolve(alloc, loaded)?;
+    let found = slots(alloc, loaded, &resolved)?;
+    Ok((found.got().0, found.slots().len()))
 }
 
 /// The start, the size and the alignment of the block of a file's object, laid out from 0x400000 on, and the
@@ -27,11 +27,10 @@ fn block_of(
     file: &[u8],
     address: u64,
 ) -> Result<Option<(u64, u64, u64, u64)>, Fail> {
-    let objects = load_alone(alloc, file)?;
-    let resolved = resolve(alloc, &objects)?;
-    let slots = slots(alloc, &objects, &resolved)?;
-    let tables = place(alloc, &objects, resolved.blocks(), slots.got(), 0x400000)?;
-    let placement = Placement::new(0x400000, &objects, &tables);
+    let loaded = load_alone(alloc, file)?;
+    let resolved = resolve(alloc, &loaded)?;
+    let slots = slots(alloc, &loaded, &resolved)?;
+    let placement = place(alloc, &loaded, &resolved, slots.got(), 0x400000)?;
     let Some(block) = tls_block(&placement) else {
         return Ok(None);
     };
@@ -105,9 +104,9 @@ fn relocations_ask_for_slots(rt: HostRuntime) -> Result<(), Fail> {
         let relas = [entry(0, first), entry(4, second)];
         let symbols = [global(F_NAME, 2), global(G_NAME, 2)];
         let file = object_with(alloc, &[TEXT, SYMBOLS, entries], &symbols, &relas)?;
-        let objects = load_alone(alloc, &file)?;
+        let loaded = load_alone(alloc, &file)?;
         assert!(rt;
-            got_of(alloc, &objects)? == (size, count),
+            got_of(alloc, &loaded)? == (size, count),
             "{first} and {second}"
         );
     }

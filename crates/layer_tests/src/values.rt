@@ -1,26 +1,25 @@
 //! Relocations: their values, whether these fit, and the bytes that they want.
 ghost use Rattle.std.specs.Prelude.{◌≡◌, ◌<◌, IfOk, IfSome, length};
 ghost use Rattle.std.specs.List.{slice_get};
-ghost use Rattle.elf_model.specs.Loading.{AreObjects};
 ghost use Rattle.elf_model.specs.ObjectFile as object_file;
 ghost use Rattle.elf_model.specs.Pieces.{AreLawfulKinds};
 ghost use Rattle.elf_model.specs.Resolution.{sections_of_object};
-ghost use Rattle.relocate.specs.PatchTables.{ArePatchesOf};
 ghost use Rattle.elf_model.specs.Slots as wanted;
-ghost use Rattle.search.specs.Views.{loaded_views};
 
 use crate::objects::{
     A_NAME, BSS, DATA, ENTRY, ETEXT_NAME, F_NAME, NULL_SYMBOL, RODATA, STOP_NAME, SYMBOLS, TEXT,
     load_alone, object_with,
 };
-use elf_model::{Bound, Rela, SHF_ALLOC, SHF_WRITE, STT_SECTION, SectionHeader, Symbol};
+use elf_model::{
+    Bound, ObjectId, Rela, SHF_ALLOC, SHF_WRITE, STT_SECTION, SectionHeader, SectionRef, Symbol,
+};
 use got_tls::{Slots, slots};
 use layout::{Placement, kinds, place};
 use relocate::{
-    Kind, PatchTable, Patches, RelocFault, Terms, fits, linker_lines, patches, references, value,
+    Kind, Patches, RelocFault, Terms, apply, fits, linker_lines, patches, references, value,
 };
 use resolve::{Resolved, resolve};
-use search::LoadedObject;
+use search::Loaded;
 use std::alloc::{AllocError, Global};
 use std::test::Fail;
 
@@ -85,50 +84,52 @@ fn object_of(alloc: Global, rodata: Rela, data_: Rela) -> Result<Vec<u8>, AllocE
 }
 
 /// The input bytes of a section of the first object.
-fn input_of<'a>(objects: &[LoadedObject<'a>], number: usize) -> Option<&'a [u8]>
-    ensures { IfSome result (λ bytes. length bytes.now ≡ (object_file.section (sections_of_object (slice_get (loaded_views objects.now) 0)) number).sh_size) }
+fn input_of<'a>(loaded: &Loaded<'a>, number: usize) -> Option<&'a [u8]>
+    ensures { IfSome result (λ bytes. length bytes.now ≡ (object_file.section (sections_of_object (slice_get loaded.now.objects 0)) number).sh_size) }
 {
-    let first = objects.first()?;
+    let first = loaded.objects().first()?;
     first.object.section_bytes(number)
 }
 
 /// The bytes that are wanted of a section of a file's object, laid out from 0x400000 on.
 fn wanted(alloc: Global, file: &[u8], number: usize) -> Result<Vec<u8>, Fail> {
-    let objects = load_alone(alloc, file)?;
-    applied(alloc, &objects, number)
+    let loaded = load_alone(alloc, file)?;
+    applied(alloc, &loaded, number)
 }
 
 /// Judges the relocations of objects, and makes their patches where these are laid out.
-pub fn judged_patches<'a>(
+fn judged_patches<'a>(
     alloc: Global,
-    objects: &[LoadedObject<'a>],
+    loaded: &Loaded<'a>,
     resolved: &Resolved<'a>,
     placement: &Placement<'a>,
     slots: &Slots<'a>,
-) -> Result<PatchTable, RelocFault>
-    requires resolved { resolved.now ≡ loaded_views objects.now }
-    requires slots { slots.now.slots ≡ wanted.slots (loaded_views objects.now) }
-    requires placed { placement.now.objects ≡ loaded_views objects.now }
-    requires kinds { AreLawfulKinds (loaded_views objects.now) }
-    ensures { IfOk result (ArePatchesOf placement.now) }
+) -> Result<Patches<'a>, RelocFault>
+    requires resolved { resolved.now ≡ loaded.now.objects }
+    requires slots { slots.now.slots ≡ wanted.slots loaded.now.objects }
+    requires placed { placement.now.objects ≡ loaded.now.objects }
+    requires kinds { AreLawfulKinds loaded.now.objects }
+    ensures { IfOk result (λ p. p ≡ placement.now) }
 {
-    references(alloc, objects, resolved)?;
-    patches(alloc, objects, resolved, placement, slots)
+    references(alloc, loaded, resolved)?;
+    patches(alloc, loaded, resolved, placement, slots)
 }
 
 /// The bytes that are wanted of a section of the first object, laid out from 0x400000 on.
-fn applied(alloc: Global, objects: &[LoadedObject<'_>], number: usize) -> Result<Vec<u8>, Fail>
-    requires { AreObjects (loaded_views objects.now) }
+fn applied(alloc: Global, loaded: &Loaded<'_>, number: usize) -> Result<Vec<u8>, Fail>
 {
-    let input = input_of(objects, number).ok_or("no section's bytes")?;
-    kinds(objects)?;
-    let resolved = resolve(alloc, objects)?;
-    let slots = slots(alloc, objects, &resolved)?;
-    let tables = place(alloc, objects, resolved.blocks(), slots.got(), 0x400000)?;
-    let placement = Placement::new(0x400000, &*objects, &tables);
-    let table = judged_patches(alloc, objects, &resolved, &placement, &slots)?;
+    let input = input_of(loaded, number).ok_or("no section's bytes")?;
+    kinds(loaded)?;
+    let resolved = resolve(alloc, loaded)?;
+    let slots = slots(alloc, loaded, &resolved)?;
+    let placement = place(alloc, loaded, &resolved, slots.got(), 0x400000)?;
+    let patches = judged_patches(alloc, loaded, &resolved, &placement, &slots)?;
     let mut bytes = Vec::from_slice(alloc, input)?;
-    Patches::new(&placement, &table).apply(0, number, &mut bytes);
+    let section = SectionRef {
+        object: ObjectId(0),
+        section: number as u64,
+    };
+    apply(&patches, section, &mut bytes);
     Ok(bytes)
 }
 
@@ -321,9 +322,9 @@ fn linkers_names_have_values(rt: HostRuntime) -> Result<(), Fail> {
 fn linkers_names_in_use_have_lines(rt: HostRuntime) -> Result<(), Fail> {
     let alloc = rt.alloc();
     let file = object_over(alloc, TEXT_END, entry(0, 10, 1, 0), 4, entry(0, 1, 1, 1))?;
-    let objects = load_alone(alloc, &file)?;
-    let resolved = resolve(alloc, &objects)?;
-    let lines = linker_lines(alloc, &objects, &resolved)?;
+    let loaded = load_alone(alloc, &file)?;
+    let resolved = resolve(alloc, &loaded)?;
+    let lines = linker_lines(alloc, &loaded, &resolved)?;
     assert_eq!(rt; lines.len(), 1);
     let (name, bound) = lines[0];
     assert!(rt; name == b"_etext".as_slice() && matches!(bound, Bound::CodeEnd));
@@ -331,15 +332,13 @@ fn linkers_names_in_use_have_lines(rt: HostRuntime) -> Result<(), Fail> {
 }
 
 /// What the relocations of objects are refused for, or `lawful`.
-fn refusal(alloc: Global, objects: &[LoadedObject<'_>]) -> Result<String, Fail>
-    requires { AreObjects (loaded_views objects.now) }
+fn refusal(alloc: Global, loaded: &Loaded<'_>) -> Result<String, Fail>
 {
-    kinds(objects)?;
-    let resolved = resolve(alloc, objects)?;
-    let slots = slots(alloc, objects, &resolved)?;
-    let tables = place(alloc, objects, resolved.blocks(), slots.got(), 0x400000)?;
-    let placement = Placement::new(0x400000, &*objects, &tables);
-    let text = match judged_patches(alloc, objects, &resolved, &placement, &slots) {
+    kinds(loaded)?;
+    let resolved = resolve(alloc, loaded)?;
+    let slots = slots(alloc, loaded, &resolved)?;
+    let placement = place(alloc, loaded, &resolved, slots.got(), 0x400000)?;
+    let text = match judged_patches(alloc, loaded, &resolved, &placement, &slots) {
         Ok(_) => format!(in alloc; "lawful")?,
         Err(fault) => format!(in alloc; "{fault}")?,
     };
@@ -348,8 +347,8 @@ fn refusal(alloc: Global, objects: &[LoadedObject<'_>]) -> Result<String, Fail>
 
 /// That of a file's object.
 fn refusal_of(alloc: Global, file: &[u8]) -> Result<String, Fail> {
-    let objects = load_alone(alloc, file)?;
-    refusal(alloc, &objects)
+    let loaded = load_alone(alloc, file)?;
+    refusal(alloc, &loaded)
 }
 
 /// The symbols of the sections `.data` and of the symbols, which isn't kept, and an undefined `f`.

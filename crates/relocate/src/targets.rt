@@ -4,7 +4,8 @@ ghost use Rattle.std.specs.Str.{bytes_eq};
 ghost use Rattle.elf_model.specs.Meaning.{is_in_thread_storage};
 ghost use Rattle.elf_model.specs.ObjectFile.{null_section, null_symbol, relas_of, section, section_name, sections, symbol_name, symbols};
 ghost use Rattle.elf_model.specs.Pieces.{is_kept};
-ghost use Rattle.elf_model.specs.Loading.{LoadedObject, is_dropped};
+ghost use Rattle.elf_model.specs.Loading as loading;
+ghost use Rattle.elf_model.specs.Loading.{is_dropped};
 ghost use Rattle.elf_model.specs.Relocation.{IsMixed, IsMixedBound, definition_of, is_some_kind, symbol_at};
 ghost use Rattle.elf_model.specs.Resolution.{binding};
 ghost use Rattle.std.specs.Prelude.{Some, slice_index_or};
@@ -176,7 +177,7 @@ pub fn is_thread_local<'a>(resolved: &Resolved<'a>, definition: &Option<Definiti
 
 /// Whether one of the linker's names, which stands for a bound, speaks of an output name of several output sections.
 fn is_mixed_bound(mixed: &BTreeSet<&[u8]>, name: &[u8], bound: Bound) -> bool
-    ensures { (objects : List LoadedObject) → AreMixed objects mixed.now → IsTrue result ↔ IsMixedBound objects name.now bound }
+    ensures { (objects : List loading.LoadedObject) → AreMixed objects mixed.now → IsTrue result ↔ IsMixedBound objects name.now bound }
 {
     match bound {
         Bound::OutputStart => mixed.contains(named_output(name)),
@@ -187,7 +188,7 @@ fn is_mixed_bound(mixed: &BTreeSet<&[u8]>, name: &[u8], bound: Bound) -> bool
 
 /// Whether what a reference uses is such a name of the linker's.
 pub fn is_mixed(mixed: &BTreeSet<&[u8]>, definition: &Option<Definition<'_>>) -> bool
-    ensures { (objects : List LoadedObject) → AreMixed objects mixed.now → IsTrue result ↔ IsSomeAnd (option_map meaning_view definition.now) (IsMixed objects) }
+    ensures { (objects : List loading.LoadedObject) → AreMixed objects mixed.now → IsTrue result ↔ IsSomeAnd (option_map meaning_view definition.now) (IsMixed objects) }
 {
     match definition {
         Some(Definition::Linker(name, bound)) => is_mixed_bound(mixed, name, *bound),

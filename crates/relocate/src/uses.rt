@@ -244,7 +244,7 @@ fn used_lines<'a>(
     resolved: &Resolved<'a>,
 ) -> Result<Vec<(&'a [u8], Bound)>, AllocError>
     requires { resolved.now ≡ loaded_views objects.now }
-    ensures { IfOk result (λ v. AreLinkerLines resolved.now (line_views v.items)) }
+    ensures { IfOk result (λ v. AreLinkerLines (loaded_views objects.now) (line_views v.items)) }
 {
     let names = used_names(alloc, objects, resolved)?;
     let lines = lines_of(alloc, resolved, &names)?;

@@ -7,5 +7,5 @@ use Rattle.relocate.proofs.uses.is_linker_use.Goals as goal
 pub returns : goal.returns
 returns c =
     c.is_linkers.ensures
-    ∙ (ap is_linkers c.definition.ensures
+    ∙ (ap is_linkers c.used.ensures
     ∙ linker_use_at c.args.resolved.now c.args.number (loaded_view c.args.loaded.now) c.args.j c.requires)
