@@ -26,10 +26,9 @@ use Rattle.resolve.specs.Views.{meaning_views}
 use Rattle.image_write.specs.Linkages.{AreParts, own_image}
 use Rattle.image_write.specs.declared.linkage.Parts.{Parts}
 use Rattle.search.specs.Loads.{LoadedPlan}
-use Rattle.ld_main.specs.Linkages.{AreOwnMapsRight, IsOwnText, IsPrepared}
+use Rattle.ld_main.specs.Linkages.{AreOwnMapsRight, HasOwnLink, IsOwnText, IsPrepared}
 use Rattle.image_write.specs.Maps.{IsMapOf, own_record}
 use Rattle.ld_main.specs.Outputs.{AreLaidOut, AreLinkable, AreReferred, AreResolved, IsOwnLink, LinksRefuse}
-use Rattle.ld_main.specs.Program.{LinksRight}
 use Rattle.ld_main.specs.Refusals.{of_reloc, of_resolve, of_search}
 use Rattle.ld_main.proofs.OwnMaps.{ordered, own_map}
 
@@ -134,7 +133,8 @@ module _ (files : List File) (words : List (List ℕ)) (p : Plan) (objects : Lis
   }
 
   -- the own image and the own map, which can be spelled
-  pub right_link : (x : Parts) → AreLinkable p objects → AreParts (record { plan = p; objects = objects }) x → LinksRight files words
+  pub right_link : (x : Parts) → AreLinkable p objects → AreParts (record { plan = p; objects = objects }) x →
+      HasOwnLink files words (record { plan = p; objects = objects })
   right_link x links made =
       let b : Basis = record { base = p.base; objects = objects } in
       let m = own_record b (meaning_views x.listed.items) in
@@ -148,7 +148,11 @@ module _ (files : List File) (words : List (List ℕ)) (p : Plan) (objects : Lis
         spelled = refl;
       } in
       let r = prepared x links made in
-      (own_image (record { plan = p; objects = objects }), map_text.text m, right files words (record { plan = p; objects = objects }) r _ _ refl text_is)
+      record {
+        text = map_text.text m;
+        own_text = text_is;
+        right = right files words (record { plan = p; objects = objects }) r _ _ refl text_is;
+      }
 
   pub cause : (e : LinkError) → LinksRefuse p objects e → Cause files words e
   cause e refused = of_loaded e (subst (λ (os : List LoadedObject). LinksRefuse p os e) are refused)

@@ -30,3 +30,9 @@ pub record IsOwnText (l : LoadedPlan) (text : List ℕ) : Type 0 where
   pub own_map : IsOwnMap l.plan.base l.objects record_of
   pub is_map : IsMap record_of
   pub spelled : text ≡ map_text.text record_of
+
+-- the text of a link's own map, which with the link's own image is a right link of files by words
+pub record HasOwnLink (files : List File) (words : List (List ℕ)) (l : LoadedPlan) : Type 0 where
+  pub text : List ℕ
+  pub own_text : IsOwnText l text
+  pub right : IsRightLink files words (own_image l) text

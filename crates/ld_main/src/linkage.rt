@@ -14,9 +14,8 @@ ghost use Rattle.image_write.specs.Linkages.{AreParts};
 ghost use Rattle.image_write.specs.Listings.{IsListing};
 ghost use Rattle.image_write.specs.Maps.{own_table};
 ghost use Rattle.ld_main.specs.FinalRefusals.{DeniesLinks};
-ghost use Rattle.ld_main.specs.Linkages.{AreOwnMapsRight, IsPrepared};
+ghost use Rattle.ld_main.specs.Linkages.{AreOwnMapsRight, HasOwnLink, IsPrepared};
 ghost use Rattle.ld_main.specs.Outputs.{AreLaidOut, AreLinkable, AreReferred, AreResolved, EntersAt, LinksRefuse};
-ghost use Rattle.ld_main.specs.Program.{LinksRight};
 
 use crate::listing::listed;
 use crate::own_map::{map_of_layout, meaning_value};
@@ -153,6 +152,33 @@ fn parts_of<'a>(
     }
 }
 
+/// The parts of a link whose values fit, with the values of its slots and the definitions that have a line.
+fn listed_parts<'a>(
+    alloc: Global,
+    loaded: &Loaded<'a>,
+    resolved: &Resolved<'a>,
+    entry: &Definition<'a>,
+    placement: Placement<'a>,
+    slots: Slots<'a>,
+    patches: Patches<'a>,
+) -> Result<Parts<'a>, AllocError>
+    requires base { IsBase loaded.now.plan.base }
+    requires same { resolved.now ≡ loaded.now.objects }
+    requires placed { placement ≡ record { base = loaded.now.plan.base; objects = loaded.now.objects } }
+    requires slots { slots ≡ own_table loaded.now.objects }
+    requires patches { patches ≡ placement }
+    requires linkable { AreLinkable loaded.now.plan loaded.now.objects }
+    requires entry { EntersAt loaded.now.plan loaded.now.objects (meaning_view entry.now) }
+    ensures { IfOk result (AreParts loaded.now) }
+{
+    let values = slot_values(alloc, resolved, &placement, &slots)?;
+    let linkers = linker_lines(alloc, loaded, resolved)?;
+    let listed = listed(alloc, resolved, &linkers)?;
+    Ok(parts_of(
+        loaded, listed, placement, slots, values, patches, entry,
+    ))
+}
+
 /// Resolves, lays out and judges what is loaded.
 fn prepare_loaded<'a, T: NameTable<'a> + Drop>(
     alloc: Global,
@@ -170,12 +196,8 @@ fn prepare_loaded<'a, T: NameTable<'a> + Drop>(
     let slots = slots(alloc, loaded, &resolved)?;
     let placement = laid_out(alloc, loaded, &resolved, slots.got())?;
     let patches = fitted(alloc, loaded, &resolved, &placement, &slots)?;
-    let values = slot_values(alloc, &resolved, &placement, &slots)?;
-    let linkers = linker_lines(alloc, loaded, &resolved)?;
-    let listed = listed(alloc, &resolved, &linkers)?;
-    Ok(parts_of(
-        loaded, listed, placement, slots, values, patches, &entry,
-    ))
+    let parts = listed_parts(alloc, loaded, &resolved, &entry, placement, slots, patches)?;
+    Ok(parts)
 }
 
 /// As `prepare`, with the names of the objects kept in any table of names, which is empty at the start.
@@ -189,7 +211,7 @@ pub fn prepare_over<'a, T: NameTable<'a> + Drop>(
     requires empty { T.rows table ≡ no_rows }
     ensures prepared { IfOk result (IsPrepared (files_of files.entry.now) (words_of words.entry.now)) }
     ensures own { IfOk result (AreOwnMapsRight (files_of files.entry.now) (words_of words.entry.now)) }
-    ensures right { OnOk result (LinksRight (files_of files.entry.now) (words_of words.entry.now)) }
+    ensures right { IfOk result (HasOwnLink (files_of files.entry.now) (words_of words.entry.now)) }
     ensures cause { IfErr result (Cause (files_of files.entry.now) (words_of words.entry.now)) }
     ensures no_link { IfErr result (DeniesLinks (files_of files.entry.now) (words_of words.entry.now)) }
 {
@@ -220,7 +242,7 @@ pub fn prepare_over<'a, T: NameTable<'a> + Drop>(
 /// Overflow where the value that doesn't fit is the same in every layout: `Z+A`, or `S+A` of an absolute definition, of
 /// one in a section that isn't kept, of none, or of a linker's name that stands for the base or for nothing.
 ///
-/// Of what is prepared, the image and each own map that has a text are a right link.
+/// Of what is prepared, the own map has a text, and the image and each own map that has one are a right link.
 pub fn prepare<'a>(
     alloc: Global,
     files: &'a [InputFile],
@@ -228,7 +250,7 @@ pub fn prepare<'a>(
 ) -> Result<Linkage<'a>, LinkError>
     ensures prepared { IfOk result (IsPrepared (files_of files.entry.now) (words_of words.entry.now)) }
     ensures own { IfOk result (AreOwnMapsRight (files_of files.entry.now) (words_of words.entry.now)) }
-    ensures right { OnOk result (LinksRight (files_of files.entry.now) (words_of words.entry.now)) }
+    ensures right { IfOk result (HasOwnLink (files_of files.entry.now) (words_of words.entry.now)) }
     ensures cause { IfErr result (Cause (files_of files.entry.now) (words_of words.entry.now)) }
     ensures no_link { IfErr result (DeniesLinks (files_of files.entry.now) (words_of words.entry.now)) }
 {

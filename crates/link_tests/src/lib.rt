@@ -8,6 +8,8 @@ mod clauses;
 #[cfg(test)]
 mod common_blocks;
 #[cfg(test)]
+mod fills;
+#[cfg(test)]
 mod global_offsets;
 #[cfg(test)]
 mod groups;

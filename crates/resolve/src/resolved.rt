@@ -286,8 +286,8 @@ impl<'a> Resolved<'a> {
     fn object_meaning(&self, name: &[u8]) -> Option<Definition<'a>>
         ensures { option_map meaning_view result ≡ object_meaning self.now name.now }
     {
-        let symbol = self.symbol(name)?;
-        self.meant(&symbol)
+        let defining = self.symbol(name)?;
+        self.meant(&defining)
     }
 
     /// What a name means: what its chosen definition does, or else the linker's.

@@ -1,10 +1,10 @@
-use Rattle.std.proofs.Common.{List, subst, sym}
+use Rattle.std.proofs.Common.{◌∙◌, List, ap, subst, sym}
 use Rattle.elf_model.specs.Causes.{Cause}
+use Rattle.elf_model.specs.Command.{Plan}
 use Rattle.elf_model.specs.Files.{files_of, words_of}
-use Rattle.search.specs.Views.{loaded_views}
-use Rattle.search.specs.declared.loaded.LoadedObject as code
-use Rattle.ld_main.specs.Linkages.{IsLinkageOf}
-use Rattle.ld_main.specs.Outputs.{LinksRefuse}
+use Rattle.ld_main.specs.Linkages.{HasOwnLink, IsPrepared}
+use Rattle.image_write.specs.Linkages.{AreParts}
+use Rattle.ld_main.specs.Outputs.{AreLinkable, LinksRefuse}
 use Rattle.ld_main.proofs.FinalRefusals.{denies_links}
 use Rattle.ld_main.proofs.Links.{cause, loading_fails, own_maps_right, prepared, right_link}
 use Rattle.ld_main.proofs.linkage.prepare_over.Goals as goal
@@ -22,24 +22,33 @@ returns-in-Err-load-clause-no_link g c =
 
 pub returns-in-Ok-prepare_loaded-clause-prepared : goal.returns-in-Ok-prepare_loaded-clause-prepared
 returns-in-Ok-prepare_loaded-clause-prepared g c =
+    let l = c.in-Ok-load.loaded in
     let p = c.in-Ok.plan in
-    prepared (files_of c.args.files.now) (words_of c.args.words.now) p c.in-Ok-load.loaded.objects c.in-Ok-load.ensures.loaded
-    c.in-Ok.ensures.plan c.in-Ok-load.ensures.files c.in-Ok-load.ensures.archives c.in-Ok-load.ensures.indexes c.in-Ok-load.ensures.objects
-    c.in-Ok-load.ensures.groups
-    c.in-Ok-prepare_loaded.parts (linkable g c) (made g c)
+    let x = c.in-Ok-prepare_loaded.parts in
+    let is = c.in-Ok-load.ensures.plan in
+    subst (IsPrepared (files_of c.args.files.now) (words_of c.args.words.now))
+    (ap (λ (q : Plan). record { plan = q; objects = l.objects }) (sym is) ∙ sym c.new.ensures)
+    (prepared (files_of c.args.files.now) (words_of c.args.words.now) p l.objects c.in-Ok-load.ensures.loaded c.in-Ok.ensures.plan
+    c.in-Ok-load.ensures.files c.in-Ok-load.ensures.archives c.in-Ok-load.ensures.indexes c.in-Ok-load.ensures.objects c.in-Ok-load.ensures.groups x
+    (subst (λ (q : Plan). AreLinkable q l.objects) is c.in-Ok-prepare_loaded.ensures.linkable)
+    (subst (λ (q : Plan). AreParts (record { plan = q; objects = l.objects }) x) is c.in-Ok-prepare_loaded.ensures.made))
 
 pub returns-in-Ok-prepare_loaded-clause-own : goal.returns-in-Ok-prepare_loaded-clause-own
 returns-in-Ok-prepare_loaded-clause-own g c =
-    own_maps_right (files_of c.args.files.now) (words_of c.args.words.now)
-    (record { plan = c.in-Ok.plan; objects = c.in-Ok-load.loaded.objects }) (returns-in-Ok-prepare_loaded-clause-prepared g c)
+    own_maps_right (files_of c.args.files.now) (words_of c.args.words.now) c.new.result (returns-in-Ok-prepare_loaded-clause-prepared g c)
 
 pub returns-in-Ok-prepare_loaded-clause-right : goal.returns-in-Ok-prepare_loaded-clause-right
 returns-in-Ok-prepare_loaded-clause-right g c =
+    let l = c.in-Ok-load.loaded in
     let p = c.in-Ok.plan in
-    right_link (files_of c.args.files.now) (words_of c.args.words.now) p c.in-Ok-load.loaded.objects c.in-Ok-load.ensures.loaded
-    c.in-Ok.ensures.plan c.in-Ok-load.ensures.files c.in-Ok-load.ensures.archives c.in-Ok-load.ensures.indexes c.in-Ok-load.ensures.objects
-    c.in-Ok-load.ensures.groups
-    c.in-Ok-prepare_loaded.parts (linkable g c) (made g c)
+    let x = c.in-Ok-prepare_loaded.parts in
+    let is = c.in-Ok-load.ensures.plan in
+    subst (HasOwnLink (files_of c.args.files.now) (words_of c.args.words.now))
+    (ap (λ (q : Plan). record { plan = q; objects = l.objects }) (sym is) ∙ sym c.new.ensures)
+    (right_link (files_of c.args.files.now) (words_of c.args.words.now) p l.objects c.in-Ok-load.ensures.loaded c.in-Ok.ensures.plan
+    c.in-Ok-load.ensures.files c.in-Ok-load.ensures.archives c.in-Ok-load.ensures.indexes c.in-Ok-load.ensures.objects c.in-Ok-load.ensures.groups x
+    (subst (λ (q : Plan). AreLinkable q l.objects) is c.in-Ok-prepare_loaded.ensures.linkable)
+    (subst (λ (q : Plan). AreParts (record { plan = q; objects = l.objects }) x) is c.in-Ok-prepare_loaded.ensures.made))
 
 pub returns-clause-cause : goal.returns-clause-cause
 returns-clause-cause g c =
