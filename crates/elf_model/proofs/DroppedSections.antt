@@ -7,13 +7,13 @@ use Rattle.std.specs.Str.{bytes_eq}
 use Rattle.std.proofs.lemmas.Bool.{and_from, and_parts, eq-eqb, eqb-true, or_left}
 use Rattle.std.proofs.lemmas.List.Elements.{Contains-append_right}
 use Rattle.std.proofs.lemmas.List.Folds.{Any-from_list_any, list_any-append, list_any-from_Any}
-use Rattle.std.proofs.lemmas.List.FromFn.{get_or-range_with_len, length-range_with_len}
 use Rattle.std.proofs.lemmas.List.Sums.{fold-append}
 use Rattle.std.proofs.lemmas.Map.Views.{Contains-from_any, list_any-from_Contains}
 use Rattle.std.proofs.lemmas.Slice.Eq.{bytes_eq-Decides}
 use Rattle.elf_model.specs.Groups.{HasSignature, IsDropped, ascending, dropped, dropped_groups, is_comdat, is_seen, limit, seen_after, seen_with}
 use Rattle.elf_model.specs.ObjectFile.{Group}
 use Rattle.elf_model.proofs.Listed.{Contains-cons_cases, Contains-filter, Contains-flat_map, Contains-from_filter, Contains-from_flat_map, Contains-here, Contains-nil}
+use Rattle.elf_model.proofs.Numbering.{in_range}
 
 -- a number stands in a list where it stands in the ascending one
 below_limit : (ks : List ℕ) (k : ℕ) → Contains ks k → k < limit ks
@@ -23,10 +23,6 @@ below_limit (j ∷ ks) k there = by (Contains-cons_cases j ks k there) (below_li
     by : (j ≡ k) ⊎ Contains ks k → (Contains ks k → k < limit ks) → k < limit (j ∷ ks)
     by (inl same) rest = omega (arith, same)
     by (inr later) rest = let low = rest later in omega (arith, low)
-
-in_range : (n k : ℕ) → k < n → Contains (range_with_len 0 n) k
-in_range n k within =
-    (k, omega (arith, within, length-range_with_len 0 n), get_or-range_with_len 0 n k k within ∙ omega arith)
 
 pub from_ascending : (ks : List ℕ) (k : ℕ) → Contains (ascending ks) k → Contains ks k
 from_ascending ks k there =

@@ -17,8 +17,12 @@ pub mod Neighbours
 pub mod Numbering
 pub mod Running
 pub mod SameOutput
+pub mod SameRequests
+pub mod RoundedUp
 pub mod Grouped
 pub mod DroppedSections
+pub mod Marks
+pub mod SharedSections
 pub mod Sectioned
 pub mod PieceBounds
 pub mod PieceNumbers
