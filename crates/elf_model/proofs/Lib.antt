@@ -14,6 +14,7 @@ pub mod Listing
 pub mod Finding
 pub mod Pairs
 pub mod Neighbours
+pub mod NoSlots
 pub mod Numbering
 pub mod Running
 pub mod SameOutput

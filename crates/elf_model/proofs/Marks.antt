@@ -4,6 +4,7 @@ use Rattle.std.specs.Cmp.{nat_eq_equiv}
 use Rattle.std.specs.Prelude.{Contains, filter, nat_eq}
 use Rattle.std.specs.List.{All, list_any, range_with_len}
 use Rattle.std.proofs.Math.Seq.{take-append_seam}
+use Rattle.std.proofs.Math.Bool.{or-false, or_assoc}
 use Rattle.std.proofs.lemmas.Bool.{cases_eq, eq-eqb, eqb-true, ne_eqb, or_from}
 use Rattle.std.proofs.lemmas.List.{append-nil, get_or-replicate, get_or-set_other, get_or-set_same, length-replicate, length-set}
 use Rattle.std.proofs.lemmas.List.Elements.{All-head, All-tail}
@@ -16,17 +17,9 @@ pub length-marked : (marks : List Bool) (ks : List ℕ) → length (marked marks
 length-marked marks [] = refl
 length-marked marks (k ∷ ks) = length-marked (set marks k true) ks ∙ length-set marks k true
 
-or_false : (b : Bool) → (b || false) ≡ b
-or_false true = refl
-or_false false = refl
-
 or_true : (b : Bool) → (b || true) ≡ true
 or_true true = refl
 or_true false = refl
-
-or_assoc : (a b c : Bool) → ((a || b) || c) ≡ (a || (b || c))
-or_assoc true b c = refl
-or_assoc false b c = refl
 
 -- one more mark
 marked_one : (marks : List Bool) (j k : ℕ) → k < length marks → is_marked (set marks j true) k ≡ (is_marked marks k || nat_eq k j)
@@ -36,11 +29,11 @@ marked_one marks j k within = elim (cases_eq k j) [
       ∙ sym (or_true (is_marked marks k)) ∙ ap (λ b. is_marked marks k || b) (sym (eq-eqb k j same))
   | inr other ↦
       get_or-set_other marks j k true false other
-      ∙ sym (or_false (is_marked marks k)) ∙ ap (λ b. is_marked marks k || b) (sym (ne_eqb k j other))
+      ∙ sym (or-false (is_marked marks k)) ∙ ap (λ b. is_marked marks k || b) (sym (ne_eqb k j other))
 ]
 
 pub is_marked-marked : (marks : List Bool) (ks : List ℕ) (k : ℕ) → k < length marks → is_marked (marked marks ks) k ≡ (is_marked marks k || list_any (nat_eq k) ks)
-is_marked-marked marks [] k within = sym (or_false (is_marked marks k))
+is_marked-marked marks [] k within = sym (or-false (is_marked marks k))
 is_marked-marked marks (j ∷ ks) k within =
     is_marked-marked (set marks j true) ks k (omega (arith, within, length-set marks j true))
     ∙ ap (λ b. b || list_any (nat_eq k) ks) (marked_one marks j k within)
