@@ -12,7 +12,7 @@ use Rattle.elf_model.specs.Pieces.{AreLawfulKinds}
 use Rattle.elf_model.specs.Placement.{Placed, is_of_section}
 use Rattle.elf_model.specs.Slots.{Request, asks_for_got, each_once, has_got, names_got, request_of, slot_kind_of, slots, speaks_of_got, target_of}
 use Rattle.elf_model.proofs.Finding.{find-found}
-use Rattle.elf_model.proofs.NoSlots.{no_slots}
+pub use Rattle.elf_model.proofs.NoSlots.{no_slots}
 use Rattle.elf_model.proofs.Places.{at_own_address, got_listed}
 use Rattle.own_link.proofs.OwnGot.{got_size_is, got_there}
 
