@@ -7,7 +7,6 @@ pub mod Padded
 pub mod PieceLemmas
 pub mod PlaceKeys
 pub mod PlaceSteps
-pub mod RoundedUp
 pub mod SameOutput
 pub mod SameRequest
 pub mod SeenOutputs

@@ -1,12 +1,10 @@
--- How requests compare, in tables and in sets of them.
-use Rattle.std.proofs.Common.{◌≡◌, ℕ, ◌==◌, ◌&&◌, Bool, true, false, refl, sym, ◌∙◌, ap, subst, arith}
+-- How requests compare, in tables and in sets of them: the code's order says whether they are the same.
+use Rattle.std.proofs.Common.{◌≡◌, ◌&&◌, Bool, true, false, refl, ◌∙◌, ap}
 use Rattle.std.specs.Cmp.Lexicographic.{slice_cmp}
 use Rattle.std.specs.Ordering.{bool_cmp, is_eq, nat_cmp, ordering_then}
 use Rattle.std.specs.declared.cmp.Ordering.{Ordering}
 use Rattle.std.specs.declared.cmp.Ordering.TheVariants.{Less, Equal, Greater}
-use Rattle.std.proofs.lemmas.Bool.{eqb-true}
 use Rattle.std.proofs.lemmas.Map.Text.{is_eq-slice_cmp}
-use Rattle.std.proofs.lemmas.Slice.Eq.{bytes_eq-Decides}
 use Rattle.elf_model.specs.MapRecord.{OfLocal, OfName, TargetRow}
 use Rattle.elf_model.specs.Slots.{Request, same_kind, same_request, same_target}
 use Rattle.elf_model.specs.declared.link_map.SlotKind.{SlotKind}
@@ -18,51 +16,6 @@ use Rattle.check_link.specs.declared.requests.Wanted.TheVariants as wanted
 use Rattle.check_link.proofs.PlaceKeys.{tie}
 use Rattle.check_link.specs.PlaceIndex.{section_key}
 
--- Requests are the same where they are equal.
-target_equal : (t u : TargetRow) → same_target t u ≡ true → t ≡ u
-target_equal (OfName a) (OfName b) e = ap OfName ((bytes_eq-Decides a b).0 e)
-target_equal (OfName a) (OfLocal p k) e = absurd (cc)
-target_equal (OfLocal o j) (OfName b) e = absurd (cc)
-target_equal (OfLocal o j) (OfLocal p k) e = by (o == p) refl e
-  where
-    by : (b : Bool) → (o == p) ≡ b → (b && j == k) ≡ true → OfLocal o j ≡ OfLocal p k
-    by true f g = ap (λ (n : ℕ). OfLocal n j) (eqb-true o p f) ∙ ap (λ (n : ℕ). OfLocal p n) (eqb-true j k g)
-    by false f g = absurd (cc)
-
-kind_equal : (k l : SlotKind) → same_kind k l ≡ true → k ≡ l
-kind_equal slot.Value slot.Value e = refl
-kind_equal slot.Value slot.Thread e = absurd (cc)
-kind_equal slot.Thread slot.Value e = absurd (cc)
-kind_equal slot.Thread slot.Thread e = refl
-
-made : SlotKind → TargetRow → Request
-made k t = record { kind = k; target = t }
-
-pub requests_equal : (q r : Request) → same_request q r ≡ true → q ≡ r
-unfolding made
-requests_equal q r e = by (same_kind q.kind r.kind) refl e
-  where
-    by : (b : Bool) → same_kind q.kind r.kind ≡ b → (b && same_target q.target r.target) ≡ true → q ≡ r
-    by true f g =
-        let same : made q.kind q.target ≡ made r.kind r.target = ap (λ (k : SlotKind). made k q.target) (kind_equal q.kind r.kind f) ∙ ap (λ (t : TargetRow). made r.kind t) (target_equal q.target r.target g) in
-        same
-    by false f g = absurd (cc)
-
-equal_numbers : (n : ℕ) → (n == n) ≡ true
-equal_numbers n = grind arith
-
-target_itself : (t : TargetRow) → same_target t t ≡ true
-target_itself (OfName a) = (bytes_eq-Decides a a).1 refl
-target_itself (OfLocal o j) = ap (λ b. b && j == j) (equal_numbers o) ∙ equal_numbers j
-
-pub same_itself : (q : Request) → same_request q q ≡ true
-same_itself q = by q.kind
-  where
-    by : (k : SlotKind) → (same_kind k k && same_target q.target q.target) ≡ true
-    by slot.Value = target_itself q.target
-    by slot.Thread = target_itself q.target
-
--- The code's order of requests says whether they are the same.
 tie_then : (a b : Ordering) → is_eq (ordering_then a b) ≡ (is_eq a && is_eq b)
 tie_then Less b = refl
 tie_then Greater b = refl
@@ -109,12 +62,3 @@ ordered_alike k = λ i r. by k.thread k.target r.target r.thread i
     by true (wanted.Local o j) u b = refl
     by false (wanted.Name m) u b = refl
     by false (wanted.Local o j) u b = refl
-
-pub same_sym : (q r : Request) → same_request q r ≡ same_request r q
-same_sym q r = by (same_request q r) (same_request r q) refl refl
-  where
-    by : (a b : Bool) → same_request q r ≡ a → same_request r q ≡ b → a ≡ b
-    by true true e f = refl
-    by false false e f = refl
-    by true false e f = sym (same_itself r) ∙ subst (λ (s : Request). same_request r s ≡ false) (requests_equal q r e) f
-    by false true e f = sym (sym (same_itself q) ∙ subst (λ (s : Request). same_request q s ≡ false) (requests_equal r q f) e)

@@ -16,7 +16,8 @@ use Rattle.elf_model.specs.declared.link_map.SlotLine.{SlotLine}
 use Rattle.elf_model.proofs.Rests.{rest_at}
 use Rattle.check_link.specs.Slots.{address_in, are_fresh, has_in, is_asked, key_of, request_order, request_view}
 use Rattle.check_link.specs.declared.requests.Request as code
-use Rattle.check_link.proofs.SameRequest.{ordered_alike, requests_equal, same_sym, tied, view_of_key}
+use Rattle.elf_model.proofs.SameRequests.{requests_equal, same_sym}
+use Rattle.check_link.proofs.SameRequest.{ordered_alike, tied, view_of_key}
 
 -- what a table has for a request, as the code has it
 pub get_is : (table : BTreeMap code.Request ℕ) (k : code.Request) → address_in table (request_view k) ≡ get request_order table k

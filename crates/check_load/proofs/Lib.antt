@@ -2,12 +2,12 @@ pub mod AwakeLaws
 pub mod FreeLaws
 pub mod LoadLaws
 pub mod LoaderLaws
+pub mod LawfulGroups
 pub mod LostMembers
 pub mod MarkLemmas
 pub mod NotedNames
 pub mod PlaceLaws
 pub mod OpenedLaws
-pub mod SharedSections
 pub mod SignatureLaws
 pub mod StepLaws
 pub mod TakenLaws

@@ -32,7 +32,7 @@ use Rattle.check_load.specs.declared.loader.Loader.{Loader}
 use Rattle.check_load.specs.declared.stops.Stop.{Stop}
 use Rattle.check_load.specs.declared.taken.Taken.{Taken}
 use Rattle.check_load.specs.declared.stops.Stop.TheVariants as stop
-use Rattle.check_load.proofs.SignatureLaws.{list_by, lost_is}
+use Rattle.check_load.proofs.SignatureLaws.{list_by, lost_is, or_last}
 
 -- The signatures that are seen.
 pub seen_more : (seen : List (List ℕ)) (os : List LoadedObject) (x : LoadedObject) → seen_behind seen (os ++ x ∷ []) ≡ seen_after (seen_behind seen os) (groups x.bytes)
@@ -47,12 +47,6 @@ or_first false true true = refl
 or_first false true false = refl
 or_first false false true = refl
 or_first false false false = refl
-
-or_last : (l q : Bool) → (l || (q || false)) ≡ (q || l)
-or_last true true = refl
-or_last true false = refl
-or_last false true = refl
-or_last false false = refl
 
 pub requested_more : (plan : Plan) (os : List LoadedObject) (x : LoadedObject) (n : List ℕ) → is_requested plan (os ++ x ∷ []) n ≡ (asked_in x.bytes x.dropped n || is_requested plan os n)
 unfolding is_requested requests asked_from

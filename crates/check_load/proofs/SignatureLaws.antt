@@ -2,7 +2,7 @@
 use Rattle.std.proofs.Common.{◌≡◌, ℕ, Bool, true, false, cond, not, ◌&&◌, ◌||◌, List, [], ◌∷◌, ◌++◌, refl, ap, sym, ◌∙◌, subst}
 use Rattle.std.specs.BTreeSet.{BTreeSet, UpdatesBy}
 use Rattle.std.specs.Borrow.{Bor}
-use Rattle.std.specs.Cmp.Lexicographic.{slice_cmp}
+use Rattle.std.specs.Cmp.Lexicographic.{nat_list_eq_equiv, slice_cmp}
 use Rattle.std.specs.List.{flat_map}
 use Rattle.std.specs.Ordering.{nat_cmp}
 use Rattle.std.specs.Str.{bytes_eq}
@@ -11,15 +11,11 @@ use Rattle.std.proofs.lemmas.Slice.Eq.{bytes_eq-Decides}
 use Rattle.elf_model.specs.Groups.{ascending, dropped, dropped_groups, is_comdat, is_seen, seen_after, seen_with}
 use Rattle.elf_model.specs.ObjectFile.{Group}
 use Rattle.elf_model.specs.UsedNames.{is_among}
-use Rattle.elf_model.proofs.SameOutput.{both_ways_equal}
 use Rattle.elf_model.proofs.UsedNames.{name_added}
 use Rattle.check_load.specs.Signatures.{lost_by, lost_groups, seen_by, seen_in, seen_then}
 
 pub same_names : (a b : List ℕ) → bytes_eq a b ≡ bytes_eq b a
-same_names a b = both_ways_equal (bytes_eq a b) (bytes_eq b a) (turn a b) (turn b a)
-  where
-    turn : (x y : List ℕ) → bytes_eq x y ≡ true → bytes_eq y x ≡ true
-    turn x y e = (bytes_eq-Decides y x).1 (sym ((bytes_eq-Decides x y).0 e))
+same_names a b = nat_list_eq_equiv.symm a b
 
 -- what is seen after one group
 group_passed : (seen : List ℕ → Bool) (g : Group) → is_comdat g ≡ false → (name : List ℕ) → seen name ≡ seen_then seen g name
@@ -51,7 +47,7 @@ seen_unless old key g added comdat same is =
     (λ j. comdat j && seen_in old (sym same j)) ∙ (not_not (seen_in old key.now) ∙ ap not (sym is))
 
 -- with the list of the definitions
-or_last : (a b : Bool) → (a || (b || false)) ≡ (b || a)
+pub or_last : (a b : Bool) → (a || (b || false)) ≡ (b || a)
 or_last true true = refl
 or_last true false = refl
 or_last false true = refl

@@ -19,7 +19,8 @@ use Rattle.check_relocs.specs.Needs.{AreNeeds}
 use Rattle.check_link.specs.Slots.{are_distinct, are_fresh, is_asked, key_of, none_seen, request_order, request_view}
 use Rattle.check_relocs.specs.declared.needs.Needs.{Needs}
 use Rattle.check_link.specs.declared.requests.Request as code
-use Rattle.check_link.proofs.SameRequest.{requests_equal, same_itself, same_sym, tied, view_of_key}
+use Rattle.elf_model.proofs.SameRequests.{requests_equal, same_itself, same_sym}
+use Rattle.check_link.proofs.SameRequest.{tied, view_of_key}
 
 -- how many slots a request has
 count : Request → List SlotRow → ℕ

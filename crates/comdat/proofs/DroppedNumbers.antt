@@ -11,7 +11,8 @@ use Rattle.std.proofs.lemmas.List.FromFn.{get_or-range_with_len, length-range_wi
 use Rattle.std.proofs.lemmas.List.Kept.{AllPairs-from_increasing, IsStrictlyIncreasing-filter}
 use Rattle.std.proofs.lemmas.List.Folds.{Any-from_list_any, list_any_at}
 use Rattle.std.proofs.lemmas.List.Sorted.{searched}
-use Rattle.comdat.specs.Marks.{Rises, is_marked, marked_numbers}
+use Rattle.elf_model.specs.Marks.{is_marked, marked_numbers}
+use Rattle.comdat.specs.Marks.{Rises}
 
 marked_increasing : (marks : List Bool) → IsStrictlyIncreasing (marked_numbers marks)
 marked_increasing marks = IsStrictlyIncreasing-filter (is_marked marks) (range_with_len 0 (length marks)) rising

@@ -2,5 +2,4 @@ mod DroppedMembers
 mod DroppedNumbers
 pub mod GroupFaultLemmas
 mod MarkLemmas
-mod SharedSections
 mod SignatureLemmas

@@ -11,14 +11,8 @@ use Rattle.std.proofs.lemmas.List.Sorted.{IsPermutation-cons, IsPermutation-refl
 use Rattle.elf_model.specs.ArrayOrder.{by_rank, in_array_order, inserted, piece_rank, placed_in_array_order, placed_rank}
 use Rattle.elf_model.specs.Pieces.{Piece}
 use Rattle.elf_model.specs.Placement.{Placed}
-use Rattle.elf_model.proofs.Listed.{All-from_contains, Contains-cons_cases, Contains-filter, Contains-from_filter, Contains-here, Contains-nil, Contains-there}
+use Rattle.elf_model.proofs.Listed.{All-from_contains, Contains-cons_cases, Contains-filter, Contains-from_filter, Contains-here, Contains-nil, Contains-there, cons_head, cons_tail}
 use Rattle.elf_model.proofs.PairsPermuted.{AllPairs-permutation}
-
-cons_head : {X : Type 0} {x y : X} {xs ys : List X} → x ∷ xs ≡ y ∷ ys → x ≡ y
-cons_head is = cc
-
-cons_tail : {X : Type 0} {x y : X} {xs ys : List X} → x ∷ xs ≡ y ∷ ys → xs ≡ ys
-cons_tail is = cc
 
 -- what a filter does with a first element that passes, and with one that doesn't
 keeps_one : {X : Type 0} (p : X → Bool) (x : X) (xs : List X) → p x ≡ true → filter p (x ∷ xs) ≡ x ∷ filter p xs

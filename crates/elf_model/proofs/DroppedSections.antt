@@ -4,16 +4,17 @@ use Rattle.std.specs.Cmp.{nat_eq_equiv}
 use Rattle.std.specs.Prelude.{Any, Contains, nat_eq}
 use Rattle.std.specs.List.{flat_map, list_any, range_with_len}
 use Rattle.std.specs.Str.{bytes_eq}
+use Rattle.std.proofs.Math.Bool.{or-false, or_assoc}
 use Rattle.std.proofs.lemmas.Bool.{and_from, and_parts, eq-eqb, eqb-true, or_left}
 use Rattle.std.proofs.lemmas.List.Elements.{Contains-append_right}
 use Rattle.std.proofs.lemmas.List.Folds.{Any-from_list_any, list_any-append, list_any-from_Any}
-use Rattle.std.proofs.lemmas.List.FromFn.{get_or-range_with_len, length-range_with_len}
 use Rattle.std.proofs.lemmas.List.Sums.{fold-append}
 use Rattle.std.proofs.lemmas.Map.Views.{Contains-from_any, list_any-from_Contains}
 use Rattle.std.proofs.lemmas.Slice.Eq.{bytes_eq-Decides}
 use Rattle.elf_model.specs.Groups.{HasSignature, IsDropped, ascending, dropped, dropped_groups, is_comdat, is_seen, limit, seen_after, seen_with}
 use Rattle.elf_model.specs.ObjectFile.{Group}
 use Rattle.elf_model.proofs.Listed.{Contains-cons_cases, Contains-filter, Contains-flat_map, Contains-from_filter, Contains-from_flat_map, Contains-here, Contains-nil}
+use Rattle.elf_model.proofs.Numbering.{in_range}
 
 -- a number stands in a list where it stands in the ascending one
 below_limit : (ks : List ℕ) (k : ℕ) → Contains ks k → k < limit ks
@@ -23,10 +24,6 @@ below_limit (j ∷ ks) k there = by (Contains-cons_cases j ks k there) (below_li
     by : (j ≡ k) ⊎ Contains ks k → (Contains ks k → k < limit ks) → k < limit (j ∷ ks)
     by (inl same) rest = omega (arith, same)
     by (inr later) rest = let low = rest later in omega (arith, low)
-
-in_range : (n k : ℕ) → k < n → Contains (range_with_len 0 n) k
-in_range n k within =
-    (k, omega (arith, within, length-range_with_len 0 n), get_or-range_with_len 0 n k k within ∙ omega arith)
 
 pub from_ascending : (ks : List ℕ) (k : ℕ) → Contains (ascending ks) k → Contains ks k
 from_ascending ks k there =
@@ -41,14 +38,6 @@ in_ascending ks k there =
 abbrev has_signature : List ℕ → Group → Bool
 has_signature signature g = is_comdat g && bytes_eq signature g.signature
 
-or_false : (b : Bool) → (b || false) ≡ b
-or_false true = refl
-or_false false = refl
-
-or_assoc : (a b c : Bool) → ((a || b) || c) ≡ (a || (b || c))
-or_assoc true b c = refl
-or_assoc false b c = refl
-
 -- what is seen after a group
 seen_step : (seen : List (List ℕ)) (g : Group) (signature : List ℕ) → is_seen (seen_with seen g) signature ≡ (is_seen seen signature || has_signature signature g)
 seen_step seen g signature = by (is_comdat g) (is_seen seen g.signature) refl (bytes_eq signature g.signature) refl
@@ -56,18 +45,18 @@ seen_step seen g signature = by (is_comdat g) (is_seen seen g.signature) refl (b
     by :
         (c s : Bool) → is_seen seen g.signature ≡ s → (e : Bool) → bytes_eq signature g.signature ≡ e
         → is_seen (cond (c && not s) (seen ++ g.signature ∷ []) seen) signature ≡ (is_seen seen signature || (c && bytes_eq signature g.signature))
-    by false s s_is e e_is = sym (or_false (is_seen seen signature))
+    by false s s_is e e_is = sym (or-false (is_seen seen signature))
     by true false s_is e e_is =
-        list_any-append (bytes_eq signature) seen (g.signature ∷ []) ∙ ap (λ b. is_seen seen signature || b) (or_false (bytes_eq signature g.signature))
+        list_any-append (bytes_eq signature) seen (g.signature ∷ []) ∙ ap (λ b. is_seen seen signature || b) (or-false (bytes_eq signature g.signature))
     by true true s_is true e_is =
         let same = (bytes_eq-Decides signature g.signature).0 e_is in
         let found = ap (is_seen seen) same ∙ s_is in
         found ∙ sym (or_left (is_seen seen signature) (bytes_eq signature g.signature) found)
-    by true true s_is false e_is = sym (or_false (is_seen seen signature)) ∙ ap (λ b. is_seen seen signature || b) (sym e_is)
+    by true true s_is false e_is = sym (or-false (is_seen seen signature)) ∙ ap (λ b. is_seen seen signature || b) (sym e_is)
 
 seen_by_groups : (seen : List (List ℕ)) (gs : List Group) (signature : List ℕ)
     → is_seen (seen_after seen gs) signature ≡ (is_seen seen signature || list_any (has_signature signature) gs)
-seen_by_groups seen [] signature = sym (or_false (is_seen seen signature))
+seen_by_groups seen [] signature = sym (or-false (is_seen seen signature))
 seen_by_groups seen (g ∷ gs) signature =
     seen_by_groups (seen_with seen g) gs signature
     ∙ ap (λ b. b || list_any (has_signature signature) gs) (seen_step seen g signature)

@@ -14,11 +14,16 @@ pub mod Listing
 pub mod Finding
 pub mod Pairs
 pub mod Neighbours
+pub mod NoSlots
 pub mod Numbering
 pub mod Running
 pub mod SameOutput
+pub mod SameRequests
+pub mod RoundedUp
 pub mod Grouped
 pub mod DroppedSections
+pub mod Marks
+pub mod SharedSections
 pub mod Sectioned
 pub mod PieceBounds
 pub mod PieceNumbers

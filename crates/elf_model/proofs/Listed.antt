@@ -6,6 +6,13 @@ use Rattle.std.proofs.lemmas.Bool.{false≢true}
 use Rattle.std.proofs.lemmas.List.Elements.{All-contains, All-contains_itself, Contains-append_cases, Contains-append_left, Contains-append_right}
 use Rattle.std.proofs.lemmas.Option.{get_or_from_slice_get, slice_get_within}
 
+-- equal lists have equal beginnings and rests
+pub cons_head : {X : Type 0} {x y : X} {xs ys : List X} → x ∷ xs ≡ y ∷ ys → x ≡ y
+cons_head is = cc
+
+pub cons_tail : {X : Type 0} {x y : X} {xs ys : List X} → x ∷ xs ≡ y ∷ ys → xs ≡ ys
+cons_tail is = cc
+
 pub Contains-here : {X : Type 0} (xs : List X) (x : X) → Contains (x ∷ xs) x
 Contains-here xs x = (0, omega arith, refl)
 

@@ -10,7 +10,7 @@ use Rattle.elf_model.specs.OwnLayout.{code_pieces, code_start, data_pieces, data
 use Rattle.elf_model.specs.Pieces.{AreLawfulKinds, IsLawfulKind, Piece, is_executable, is_nobits, is_thread_piece, is_thread_zero, is_writable, kept_sections}
 use Rattle.elf_model.specs.Placement.{Placed, round_up}
 use Rattle.elf_model.specs.ThreadStorage.{alignment_of}
-use Rattle.elf_model.proofs.Listed.{All-from_contains, All-parts, Contains-filter, Contains-from_filter, Contains-here, Contains-map}
+use Rattle.elf_model.proofs.Listed.{All-from_contains, All-parts, Contains-filter, Contains-from_filter, Contains-here, Contains-map, cons_head, cons_tail}
 use Rattle.elf_model.proofs.OwnOrder.{code_not_thread, code_not_writable, from_data, from_initial, from_thread_rest, initial_is, laid_out_lawful, loaded_whole, plain_data, read_only_not_thread, thread_rest_is}
 use Rattle.elf_model.proofs.Places.{All-placed, InCode, InData, InReadOnly, code_aligned, data_aligned, initial_aligned, loaded_start_high, own_code_within, own_data_within, own_loaded_pieces, own_placed_pieces, own_read_only_within, own_starts, read_only_aligned, some_alignment, thread_rest_aligned, thread_start_high}
 use Rattle.elf_model.proofs.Running.{HasAlignment, StandsWithin, end_of-ge, rounded_up}
@@ -18,12 +18,6 @@ use Rattle.elf_model.proofs.ThreadPlaces.{initial_within, own_data_parts, own_in
 
 nil-cons : {X : Type 0} (ys : List X) (x : X) (xs : List X) → [] ≡ ys ++ x ∷ xs → ⊥
 nil-cons {X} ys x xs is = let n = ap (length {A = X}) is in let m = length-append ys (x ∷ xs) in omega (arith, n, m)
-
-cons_head : {X : Type 0} {x y : X} {xs ys : List X} → x ∷ xs ≡ y ∷ ys → x ≡ y
-cons_head is = cc
-
-cons_tail : {X : Type 0} {x y : X} {xs ys : List X} → x ∷ xs ≡ y ∷ ys → xs ≡ ys
-cons_tail is = cc
 
 -- rounding up gives the least multiple not below a number
 rounded_least : (a x y : ℕ) → 0 < a → y % a ≡ 0 → x ≤ y → round_up a x ≤ y

@@ -1,7 +1,9 @@
 -- What holds of each alignment that the standard allows holds of those of the pieces of objects, where common symbols
 -- are sound.
-use Rattle.std.proofs.Common.{◌≡◌, ◌⊎◌, inl, inr, ℕ, ◌<◌, ◌≤◌, List, [], ◌∷◌, arith, map, refl, subst}
+use Rattle.std.proofs.Common.{◌≡◌, ◌⊎◌, inl, inr, ℕ, ◌<◌, ◌≤◌, ◌^◌, List, [], ◌∷◌, arith, map, refl, subst}
+use Rattle.std.specs.Int.{IsPowerOfTwo}
 use Rattle.std.specs.Prelude.{All, max}
+use Rattle.std.proofs.lemmas.Nat.{pow_pos}
 use Rattle.std.proofs.lemmas.List.Elements.{All-append, All-contains, All-head, All-tail}
 use Rattle.elf_model.specs.Commons.{block_pieces, commons_named, greatest, pieces}
 use Rattle.elf_model.specs.Loading.{AreObjects, LoadedObject}
@@ -20,6 +22,20 @@ kept_alignments-each P lawful objects are =
     kept-each (λ (p : Piece). P p.align) objects (λ k o there i h here.
     let object : IsObject o.bytes = All-contains (λ (x : LoadedObject). IsObject x.bytes) objects o are (Contains-from_slice_get objects k o there) in
     lawful h.sh_addralign (All-contains (IsPlaced _) (sections o.bytes) h object.ranges (Contains-from_slice_get (sections o.bytes) i h here)).alignment)
+
+-- lawful alignments; 0 stands for 1
+abbrev pub IsLawfulAlignment : ℕ → Type 0
+IsLawfulAlignment a = IsPowerOfTwo a × (a ≤ 2 ^ 21)
+
+lawful_alignment : (a : ℕ) → IsAlignment a → IsLawfulAlignment (max 1 a)
+lawful_alignment a (inl none) = ((0, omega (arith, none)), omega (arith, none))
+lawful_alignment a (inr some) =
+    let positive : 1 ≤ a = let e = some.0.1 in let p = pow_pos some.0.0 in omega (arith, e, p) in
+    let same : a ≡ max 1 a = omega (arith, positive) in
+    subst IsLawfulAlignment same some
+
+pub kept_lawful : (objects : List LoadedObject) → AreObjects objects → All (λ p. IsLawfulAlignment p.align) (kept_sections objects)
+kept_lawful objects are = kept_alignments-each IsLawfulAlignment lawful_alignment objects are
 
 -- the greatest of alignments is one
 greatest_lawful : {X : Type 0} (f : X → ℕ) (xs : List X) → All (λ x. IsAlignment (f x)) xs → IsAlignment (greatest (map f xs))

@@ -16,6 +16,7 @@ pub mod LoadingBounds
 pub mod LoadingRules
 pub mod MapRecord
 pub mod MapText
+pub mod Marks
 pub mod Meaning
 pub mod MemoryImage
 pub mod ObjectFile

@@ -2,6 +2,7 @@
 use Rattle.std.proofs.Common.{◌≡◌, ℕ, length, Bool, true, false, not, cond, ◌&&◌, ◌||◌, List, [], ◌∷◌, ◌++◌, Option, None, Some, append-nil, append_assoc, refl, sym, ap, ◌∙◌}
 use Rattle.std.specs.Prelude.{filter}
 use Rattle.std.specs.List.{cons_option, filter_map, list_any}
+use Rattle.std.proofs.Math.Bool.{or_assoc}
 use Rattle.std.proofs.lemmas.List.Elements.{filter_agree}
 use Rattle.std.proofs.lemmas.List.Folds.{list_any-append}
 use Rattle.std.proofs.lemmas.List.{length-map}
@@ -11,7 +12,7 @@ use Rattle.elf_model.specs.Slots.{Request, asks_for_got, each_once, got_size, ha
 use Rattle.got_tls.specs.Asking.{Wants, nothing, with_relocation, with_relocations, with_request}
 use Rattle.got_tls.specs.Views.{slot_view, wants}
 use Rattle.got_tls.specs.declared.asking.Asked.{Asked}
-use Rattle.got_tls.proofs.SameRequests.{request_is, same_turned}
+use Rattle.elf_model.proofs.SameRequests.{requests_equal, same_sym}
 
 -- relocations behind relocations
 pub behind : (L : List LoadedObject) (w : Wants) (rs ss : List Relocation) → with_relocations L w (rs ++ ss) ≡ with_relocations L (with_relocations L w rs) ss
@@ -19,10 +20,6 @@ behind L w [] ss = refl
 behind L w (r ∷ rs) ss = behind L (with_relocation L w r) rs ss
 
 -- whether a GOT is asked for
-or_assoc : (a b c : Bool) → ((a || b) || c) ≡ (a || (b || c))
-or_assoc true b c = refl
-or_assoc false b c = refl
-
 got_after : (L : List LoadedObject) (w : Wants) (rs : List Relocation) → (with_relocations L w rs).got ≡ (w.got || list_any (asks_for_got L) rs)
 got_after L w [] = by w.got
   where
@@ -50,12 +47,12 @@ known_left : (qs : List Request) (r : Request) → list_any (same_request r) qs 
 known_left qs r there s = by (same_request r s) refl
   where
     by : (b : Bool) → same_request r s ≡ b → (not b && is_new qs s) ≡ is_new qs s
-    by true e = sym (ap not (ap (λ (t : Request). list_any (same_request t) qs) (sym (request_is r s e)) ∙ there))
+    by true e = sym (ap not (ap (λ (t : Request). list_any (same_request t) qs) (sym (requests_equal r s e)) ∙ there))
     by false e = refl
 
 new_left : (qs : List Request) (r s : Request) → (not (same_request r s) && is_new qs s) ≡ is_new (qs ++ r ∷ []) s
 new_left qs r s =
-    ap (λ (b : Bool). not b && is_new qs s) (same_turned r s)
+    ap (λ (b : Bool). not b && is_new qs s) (same_sym r s)
     ∙ (by (same_request s r) (list_any (same_request s) qs) ∙ ap not (sym (list_any-append (same_request s) qs (r ∷ []))))
   where
     by : (a b : Bool) → (not a && not b) ≡ not (b || (a || false))

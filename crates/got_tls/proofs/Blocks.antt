@@ -1,12 +1,9 @@
 -- The block of the thread-local pieces, as a relation, and its alignment where they are of objects.
 use Rattle.std.proofs.Common.{◌≡◌, ℕ, ◌+◌, ◌-◌, ◌<◌, ◌^◌, ◌≤◌, ◌⊎◌, inl, inr, Bool, true, false, cond, List, [], ◌∷◌, Option, Some, None, map, option_map, refl, sym, subst, arith}
 use Rattle.std.specs.Prelude.{All, Contains, IfSome, max, min}
-use Rattle.std.specs.Int.{IsPowerOfTwo}
 use Rattle.std.proofs.lemmas.Bool.{cases_lt, false≢true}
-use Rattle.std.proofs.lemmas.Nat.{pow_pos}
 use Rattle.std.proofs.lemmas.List.Elements.{All-append, All-cons, All-contains, All-head, All-nil, All-tail, All-weaker}
 use Rattle.elf_model.specs.Loading.{AreObjects, LoadedObject}
-use Rattle.elf_model.specs.ObjectFile.{IsAlignment}
 use Rattle.elf_model.specs.LinkerValues.{end_of_pieces, least_of, start_of_pieces}
 use Rattle.elf_model.specs.OwnLayout.{IsNotTooLarge, got_pieces, laid_out, own_placed, placed_end}
 use Rattle.elf_model.specs.Commons.{block_pieces, pieces}
@@ -17,7 +14,7 @@ use Rattle.elf_model.specs.declared.tls_block.TlsBlock.{TlsBlock}
 use Rattle.elf_model.proofs.Blocks.{block_pieces-each}
 use Rattle.elf_model.proofs.Listed.{All-unmap, Contains-from_filter, Contains-from_map, Contains-here, Contains-map, Contains-nil, Contains-there}
 use Rattle.elf_model.proofs.Places.{All-ordered, own_placed_pieces, some_alignment}
-use Rattle.elf_model.proofs.PieceAlignments.{kept_alignments-each}
+use Rattle.elf_model.proofs.PieceAlignments.{IsLawfulAlignment, kept_lawful}
 use Rattle.elf_model.proofs.PieceNumbers.{IsKept, got_pieces-each, laid_out_kept}
 use Rattle.elf_model.proofs.Running.{HasAlignment}
 use Rattle.got_tls.specs.ThreadStorage.{EndsLow, IsAligned, IsBlockOf, IsGreatest, IsLeast, thread_places}
@@ -167,26 +164,15 @@ block_low base objects found is fits = by found (own_block_law base objects foun
         omega (arith, low, ends)
 
 -- the alignments of thread-local pieces; no common block is one
-IsLawfulAlignment : ℕ → Type 0
-IsLawfulAlignment a = IsPowerOfTwo a × (a ≤ 2 ^ 21)
-
 HasLawfulAlignment : Piece → Type 0
 HasLawfulAlignment p = is_thread_local p.header ≡ true → IsLawfulAlignment p.align
-
-lawful : (a : ℕ) → IsAlignment a → IsLawfulAlignment (max 1 a)
-unfolding IsLawfulAlignment
-lawful a (inl none) = ((0, omega (arith, none)), omega (arith, none))
-lawful a (inr some) =
-    let positive : 1 ≤ a = let e = some.0.1 in let p = pow_pos some.0.0 in omega (arith, e, p) in
-    let same : a ≡ max 1 a = omega (arith, positive) in
-    subst IsLawfulAlignment same some
 
 pieces_lawful : (objects : List LoadedObject) → AreObjects objects → All HasLawfulAlignment (pieces objects)
 unfolding HasLawfulAlignment
 pieces_lawful objects are =
     All-append HasLawfulAlignment (kept_sections objects) (block_pieces objects)
     (All-weaker (λ (p : Piece). IsLawfulAlignment p.align) HasLawfulAlignment (λ p is t. is) (kept_sections objects)
-    (kept_alignments-each IsLawfulAlignment lawful objects are))
+    (kept_lawful objects are))
     (block_pieces-each objects HasLawfulAlignment (λ k s c t. absurd (false≢true t)))
 
 laid_out_lawful : (objects : List LoadedObject) → AreObjects objects → All HasLawfulAlignment (laid_out objects)
@@ -201,7 +187,7 @@ placed_lawful base objects are =
     (subst (All HasLawfulAlignment) (sym (own_placed_pieces base objects)) (All-ordered HasLawfulAlignment objects (laid_out_lawful objects are)))
 
 aligned_one : (base : ℕ) (objects : List LoadedObject) → AreObjects objects → (b : TlsBlock) → IsBlockOf (thread_places (own_placed base objects)) b → IsAligned b
-unfolding HasLawfulAlignment IsLawfulAlignment
+unfolding HasLawfulAlignment
 aligned_one base objects are b is =
     let image = Contains-from_map (λ (q : Placed). q.piece.align) (thread_places (own_placed base objects)) b.align is.aligned.0 in
     let there = Contains-from_filter is_thread_place (own_placed base objects) image.of image.there in

@@ -5,5 +5,4 @@ pub mod GotNames
 pub mod KindRows
 pub mod LoadedObjects
 pub mod Offsets
-pub mod SameRequests
 pub mod SlotPlaces

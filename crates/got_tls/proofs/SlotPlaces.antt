@@ -1,16 +1,17 @@
 -- Where slots stand in the GOT.
-use Rattle.std.proofs.Common.{◌≡◌, ℕ, suc, ◌+◌, ◌-◌, ◌*◌, ◌%◌, ◌^◌, nat_lt, Bool, true, false, not, cond, ◌||◌, List, [], ◌∷◌, Option, Some, None, length, option_map, refl, sym, ap, ◌∙◌, arith}
+use Rattle.std.proofs.Common.{◌≡◌, ℕ, suc, ◌+◌, ◌-◌, ◌*◌, ◌%◌, ◌^◌, nat_lt, Bool, true, false, not, cond, List, [], ◌∷◌, Option, Some, None, length, refl, sym, ap, ◌∙◌, arith}
 use Rattle.std.specs.Prelude.{find}
-use Rattle.std.specs.List.{cons_option, filter_map, list_any, position_or_len}
-use Rattle.std.specs.Option.{option_and_then, option_map_or}
+use Rattle.std.specs.List.{position_or_len}
+use Rattle.std.specs.Option.{option_map_or}
 use Rattle.std.proofs.Math.Nat.{mod-add-mod}
 use Rattle.std.proofs.lemmas.Bool.{false≢true}
 use Rattle.elf_model.specs.Loading.{LoadedObject}
 use Rattle.elf_model.specs.MapRecord.{SlotRow}
 use Rattle.elf_model.specs.OwnLayout.{got_line_of, got_piece, own_address, own_got, own_slots, slot_at, slots_from}
 use Rattle.elf_model.specs.Placement.{got_start}
-use Rattle.elf_model.specs.Relocation.{Formula, S+A, S+A-P, S+A-GOT, G+A, G+GOT+A-P, GOT+A-P, Z+A, T+A, GT+GOT+A-P, Kind, Relocation, relocation_kind, relocations}
-use Rattle.elf_model.specs.Slots.{Request, asks_for_got, each_once, has_got, is_slot_of, names_got, request_of, requested_address, same_request, slot_address, slot_kind_of, slots, speaks_of_got, target_of}
+use Rattle.elf_model.specs.Relocation.{Relocation}
+use Rattle.elf_model.specs.Slots.{Request, has_got, is_slot_of, request_of, requested_address, same_request, slot_address, slots}
+use Rattle.elf_model.proofs.NoSlots.{no_slots}
 use Rattle.got_tls.specs.Asking.{offset_of}
 
 -- 8 behind 8 for each slot before it, modulo 2 ^ 64
@@ -45,63 +46,29 @@ found_at q a (s ∷ qs) = by (same_request q s) (found_at q (a + 8) qs)
 behind : (a n : ℕ) → (a + 8 + 8 * n) - a ≡ 8 + 8 * n
 behind a n = omega arith
 
--- a formula that asks for a slot speaks of the GOT
-quiet_formula : (f : Formula) → speaks_of_got f ≡ false → slot_kind_of f ≡ None
-quiet_formula S+A quiet = refl
-quiet_formula S+A-P quiet = refl
-quiet_formula S+A-GOT quiet = refl
-quiet_formula G+A quiet = absurd (false≢true (sym quiet))
-quiet_formula G+GOT+A-P quiet = absurd (false≢true (sym quiet))
-quiet_formula GOT+A-P quiet = refl
-quiet_formula Z+A quiet = refl
-quiet_formula T+A quiet = refl
-quiet_formula GT+GOT+A-P quiet = absurd (false≢true (sym quiet))
+-- how far behind the GOT's beginning the slot of a request stands in the own layout
+module _ (L : List LoadedObject) (base : ℕ) where
+  at : ℕ
+  at = own_address base L (got_piece L)
 
-either_false : (a b : Bool) → a || b ≡ false → (a ≡ false) × (b ≡ false)
-either_false true b e = absurd (false≢true (sym e))
-either_false false b e = (refl, e)
-
--- so there are no slots without a GOT
-module _ (L : List LoadedObject) where
-  no_request : (r : Relocation) → asks_for_got L r ≡ false → request_of r ≡ None
-  no_request r quiet = ap (option_map (λ kind. record { kind = kind; target = target_of r.symbol })) (by (relocation_kind r) (either_false _ (names_got L r.symbol) quiet).0)
+  requested : (q : Request) → requested_address (own_slots base L) q - got_start (own_got base L) ≡ offset_of (slots L) q
+  unfolding first at
+  requested q = ap (λ (x : ℕ). x - got_start (own_got base L)) (found_at q (at + 8) (slots L)) ∙ by (nat_lt n (length (slots L))) refl (has_got L) refl
     where
-      by : (o : Option Kind) → option_map_or (λ k. speaks_of_got k.formula) o false ≡ false → option_and_then (λ k. slot_kind_of k.formula) o ≡ None
-      by None none = refl
-      by (Some k) none = quiet_formula k.formula none
+      n : ℕ
+      n = first q (slots L)
 
-  no_requests : (rs : List Relocation) → list_any (asks_for_got L) rs ≡ false → filter_map request_of rs ≡ []
-  no_requests [] quiet = refl
-  no_requests (r ∷ rs) quiet =
-      let both = either_false (asks_for_got L r) (list_any (asks_for_got L) rs) quiet in
-      ap (λ o. cons_option o (filter_map request_of rs)) (no_request r both.0) ∙ no_requests rs both.1
+      by :
+          (b : Bool) → nat_lt n (length (slots L)) ≡ b → (g : Bool) → has_got L ≡ g →
+          cond b (at + 8 + 8 * n) 0 - got_start (own_got base L) ≡ option_map_or (λ i. 8 + 8 * i) (cond b (Some n) None) 0
+      by true e true f =
+          ap (λ (t : Bool). (at + 8 + 8 * n) - got_start (cond t (Some (got_line_of base L)) None)) f ∙ behind at n
+      by true e false f = absurd (false≢true (sym (ap (λ (qs : List Request). nat_lt (first q qs) (length qs)) (no_slots L f)) ∙ e))
+      by false e g f = omega arith
 
-  no_slots : has_got L ≡ false → slots L ≡ []
-  no_slots quiet = ap each_once (no_requests (relocations L) quiet)
-
-  -- how far behind the GOT's beginning the slot of a request stands in the own layout
-  module _ (base : ℕ) where
-    at : ℕ
-    at = own_address base L (got_piece L)
-
-    requested : (q : Request) → requested_address (own_slots base L) q - got_start (own_got base L) ≡ offset_of (slots L) q
-    unfolding first at
-    requested q = ap (λ (x : ℕ). x - got_start (own_got base L)) (found_at q (at + 8) (slots L)) ∙ by (nat_lt n (length (slots L))) refl (has_got L) refl
-      where
-        n : ℕ
-        n = first q (slots L)
-
-        by :
-            (b : Bool) → nat_lt n (length (slots L)) ≡ b → (g : Bool) → has_got L ≡ g →
-            cond b (at + 8 + 8 * n) 0 - got_start (own_got base L) ≡ option_map_or (λ i. 8 + 8 * i) (cond b (Some n) None) 0
-        by true e true f =
-            ap (λ (t : Bool). (at + 8 + 8 * n) - got_start (cond t (Some (got_line_of base L)) None)) f ∙ behind at n
-        by true e false f = absurd (false≢true (sym (ap (λ (qs : List Request). nat_lt (first q qs) (length qs)) (no_slots f)) ∙ e))
-        by false e g f = omega arith
-
-    pub own_offset : (r : Relocation) → slot_address (own_slots base L) r - got_start (own_got base L) ≡ option_map_or (offset_of (slots L)) (request_of r) 0
-    own_offset r = by (request_of r)
-      where
-        by : (o : Option Request) → option_map_or (requested_address (own_slots base L)) o 0 - got_start (own_got base L) ≡ option_map_or (offset_of (slots L)) o 0
-        by None = omega arith
-        by (Some q) = requested q
+  pub own_offset : (r : Relocation) → slot_address (own_slots base L) r - got_start (own_got base L) ≡ option_map_or (offset_of (slots L)) (request_of r) 0
+  own_offset r = by (request_of r)
+    where
+      by : (o : Option Request) → option_map_or (requested_address (own_slots base L)) o 0 - got_start (own_got base L) ≡ option_map_or (offset_of (slots L)) o 0
+      by None = omega arith
+      by (Some q) = requested q

@@ -3,7 +3,6 @@ use Rattle.std.proofs.Common.{◌≡◌, ℕ, zero, suc, ◌+◌, ◌*◌, ◌<�
 use Rattle.std.specs.Prelude.{All, Option, Some, None, find, option_map, unwrap_or}
 use Rattle.std.specs.List.{cons_option, filter_map, list_any}
 use Rattle.std.specs.Option.{option_and_then, option_map_or}
-use Rattle.std.proofs.lemmas.Bool.{false≢true}
 use Rattle.std.proofs.lemmas.List.Elements.{All-contains, All-cons, All-head, All-nil, All-tail}
 use Rattle.elf_model.specs.Loading.{LoadedObject}
 use Rattle.elf_model.specs.MapRecord.{SlotRow}
@@ -11,49 +10,11 @@ use Rattle.elf_model.specs.MapText.{Ascends, FitsSlot, FitsTarget, SlotBefore}
 use Rattle.elf_model.specs.OwnLayout.{IsNotTooLarge, got_piece, own_address, own_placed, placed_end, slot_at, slots_from}
 use Rattle.elf_model.specs.Pieces.{AreLawfulKinds}
 use Rattle.elf_model.specs.Placement.{Placed, is_of_section}
-use Rattle.elf_model.specs.Relocation.{Formula, S+A, S+A-P, S+A-GOT, G+A, G+GOT+A-P, GOT+A-P, Z+A, T+A, GT+GOT+A-P, Kind, Relocation, relocation_kind, relocations}
 use Rattle.elf_model.specs.Slots.{Request, asks_for_got, each_once, has_got, names_got, request_of, slot_kind_of, slots, speaks_of_got, target_of}
 use Rattle.elf_model.proofs.Finding.{find-found}
+pub use Rattle.elf_model.proofs.NoSlots.{no_slots}
 use Rattle.elf_model.proofs.Places.{at_own_address, got_listed}
 use Rattle.own_link.proofs.OwnGot.{got_size_is, got_there}
-
--- Without a GOT there are no slots: a formula with a slot speaks of the GOT.
-no_slot : (f : Formula) → speaks_of_got f ≡ false → slot_kind_of f ≡ None
-no_slot S+A quiet = refl
-no_slot S+A-P quiet = refl
-no_slot S+A-GOT quiet = refl
-no_slot G+A quiet = absurd (false≢true (sym quiet))
-no_slot G+GOT+A-P quiet = absurd (false≢true (sym quiet))
-no_slot GOT+A-P quiet = refl
-no_slot Z+A quiet = refl
-no_slot T+A quiet = refl
-no_slot GT+GOT+A-P quiet = absurd (false≢true (sym quiet))
-
-first_false : (a b : Bool) → a || b ≡ false → a ≡ false
-first_false true b e = absurd (false≢true (sym e))
-first_false false b e = refl
-
-second_false : (a b : Bool) → a || b ≡ false → b ≡ false
-second_false true b e = absurd (false≢true (sym e))
-second_false false b e = e
-
-no_request : (objects : List LoadedObject) (r : Relocation) → asks_for_got objects r ≡ false → request_of r ≡ None
-no_request objects r quiet =
-    ap (option_map (λ kind. record { kind = kind; target = target_of r.symbol }))
-    (by (relocation_kind r) (first_false (option_map_or (λ k. speaks_of_got k.formula) (relocation_kind r) false) (names_got objects r.symbol) quiet))
-  where
-    by : (o : Option Kind) → option_map_or (λ k. speaks_of_got k.formula) o false ≡ false → option_and_then (λ k. slot_kind_of k.formula) o ≡ None
-    by None e = refl
-    by (Some k) e = no_slot k.formula e
-
-no_requests : (objects : List LoadedObject) (rs : List Relocation) → list_any (asks_for_got objects) rs ≡ false → filter_map request_of rs ≡ []
-no_requests objects [] quiet = refl
-no_requests objects (r ∷ rs) quiet =
-    ap (λ o. cons_option o (filter_map request_of rs)) (no_request objects r (first_false (asks_for_got objects r) (list_any (asks_for_got objects) rs) quiet))
-    ∙ no_requests objects rs (second_false (asks_for_got objects r) (list_any (asks_for_got objects) rs) quiet)
-
-pub no_slots : (objects : List LoadedObject) → has_got objects ≡ false → slots objects ≡ []
-no_slots objects none = ap each_once (no_requests objects (relocations objects) none)
 
 -- The slots stand one behind the other.
 slot_address_is :

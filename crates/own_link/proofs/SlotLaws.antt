@@ -1,48 +1,11 @@
 -- The own slots are one to one with what relocations ask for: each request has one slot, and no other has.
-use Rattle.std.proofs.Common.{◌≡◌, ℕ, ◌+◌, ◌==◌, ◌||◌, Bool, true, false, not, cond, List, [], ◌∷◌, filter, refl, sym, ◌∙◌, ap, arith}
+use Rattle.std.proofs.Common.{◌≡◌, ℕ, ◌+◌, ◌||◌, Bool, true, false, not, cond, List, [], ◌∷◌, filter, refl, sym, ◌∙◌, ap, arith}
 use Rattle.std.specs.Prelude.{count_by}
 use Rattle.std.specs.List.{list_any}
-use Rattle.std.proofs.lemmas.Bool.{and_from, and_parts, eq-eqb, eqb-true, false≢true}
-use Rattle.std.proofs.lemmas.Slice.Eq.{bytes_eq-Decides}
-use Rattle.elf_model.specs.MapRecord.{OfLocal, OfName, TargetRow}
 use Rattle.elf_model.specs.OwnLayout.{slot_at, slots_from}
-use Rattle.elf_model.specs.Slots.{Request, each_once, is_slot_of, same_kind, same_request, same_target}
-use Rattle.elf_model.specs.declared.link_map.SlotKind.{SlotKind}
-use Rattle.elf_model.specs.declared.link_map.SlotKind.TheVariants as slot
+use Rattle.elf_model.specs.Slots.{Request, each_once, is_slot_of, same_request}
 use Rattle.elf_model.proofs.RisingNames.{counted}
-
--- Requests are the same where they are equal.
-kind_is : (a b : SlotKind) → same_kind a b ≡ true → a ≡ b
-kind_is slot.Value slot.Value e = refl
-kind_is slot.Value slot.Thread e = absurd (false≢true e)
-kind_is slot.Thread slot.Value e = absurd (false≢true e)
-kind_is slot.Thread slot.Thread e = refl
-
-kind_same : (a : SlotKind) → same_kind a a ≡ true
-kind_same slot.Value = refl
-kind_same slot.Thread = refl
-
-target_is : (a b : TargetRow) → same_target a b ≡ true → a ≡ b
-target_is (OfName a) (OfName b) e = ap OfName ((bytes_eq-Decides a b).0 e)
-target_is (OfName a) (OfLocal p k) e = absurd (false≢true e)
-target_is (OfLocal o j) (OfName b) e = absurd (false≢true e)
-target_is (OfLocal o j) (OfLocal p k) e =
-    let both = and_parts (o == p) (j == k) e in
-    ap (λ n. OfLocal n j) (eqb-true o p both.0) ∙ ap (OfLocal p) (eqb-true j k both.1)
-
-target_same : (a : TargetRow) → same_target a a ≡ true
-target_same (OfName a) = (bytes_eq-Decides a a).1 refl
-target_same (OfLocal o j) = and_from (o == o) (j == j) (eq-eqb o o refl) (eq-eqb j j refl)
-
-pub request_is : (q r : Request) → same_request q r ≡ true → q ≡ r
-request_is q r e =
-    let both = and_parts (same_kind q.kind r.kind) (same_target q.target r.target) e in
-    let k = kind_is q.kind r.kind both.0 in
-    let t = target_is q.target r.target both.1 in
-    λ i. record { kind = k i; target = t i }
-
-pub request_same : (q : Request) → same_request q q ≡ true
-request_same q = and_from (same_kind q.kind q.kind) (same_target q.target q.target) (kind_same q.kind) (target_same q.target)
+use Rattle.elf_model.proofs.SameRequests.{requests_equal}
 
 -- another request isn't counted
 other_counted : (q s : Request) (qs : List Request) → same_request q s ≡ false → count_by (same_request q) (s ∷ qs) ≡ count_by (same_request q) qs
@@ -73,7 +36,7 @@ others_same q r differ (s ∷ qs) = by (same_request r s) refl (others_same q r 
         (b : Bool) → same_request r s ≡ b → count_by (same_request q) (others r qs) ≡ count_by (same_request q) qs →
         count_by (same_request q) (cond (not b) (s ∷ others r qs) (others r qs)) ≡ count_by (same_request q) (s ∷ qs)
     by true e rest =
-        let other : same_request q s ≡ false = ap (same_request q) (sym (request_is r s e)) ∙ differ in
+        let other : same_request q s ≡ false = ap (same_request q) (sym (requests_equal r s e)) ∙ differ in
         rest ∙ sym (other_counted q s qs other)
     by false e rest =
         counted (same_request q) s (others r qs)
@@ -93,7 +56,7 @@ once_each q (r ∷ rs) = by (same_request q r) refl (once_each q rs)
         count_by (same_request q) (r ∷ rest) ≡ cond (same_request q r || list_any (same_request q) rs) 1 0
     by true e before =
         let none : count_by (same_request q) rest ≡ 0 =
-        ap (λ (s : Request). count_by (same_request q) (others s (each_once rs))) (sym (request_is q r e)) ∙ none_same q (each_once rs) in
+        ap (λ (s : Request). count_by (same_request q) (others s (each_once rs))) (sym (requests_equal q r e)) ∙ none_same q (each_once rs) in
         counted (same_request q) r rest
         ∙ (ap (λ b. cond b 1 0 + count_by (same_request q) rest) e
         ∙ (ap (λ n. 1 + n) none ∙ sym (ap (λ b. cond (b || list_any (same_request q) rs) 1 0) e)))

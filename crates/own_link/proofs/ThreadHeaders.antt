@@ -1,19 +1,18 @@
 -- The thread block of the own layout: it begins where the thread-local pieces do, and its header is good.
 use Rattle.std.proofs.Common.{◌≡◌, ◌⊎◌, inl, inr, ℕ, ◌+◌, ◌-◌, ◌*◌, ◌/◌, ◌%◌, ◌^◌, ◌<◌, ◌≤◌, ◌&&◌, Bool, true, false, cond, max, List, [], ◌∷◌, ◌++◌, Option, Some, None, length, map, refl, sym, ◌∙◌, ap, subst, arith, rules, div-add-mod'}
 use Rattle.std.specs.Prelude.{All, Contains, nat_lt, option_map}
-use Rattle.std.specs.Int.{IsPowerOfTwo, is_power_of_two}
+use Rattle.std.specs.Int.{is_power_of_two}
 use Rattle.std.specs.Option.{option_map_or}
 use Rattle.std.proofs.lemmas.Bool.{and_parts, cases_lt, false≢true, not-true}
 use Rattle.std.proofs.lemmas.List.{map-append}
 use Rattle.std.proofs.lemmas.List.Elements.{All-append, All-contains, All-head, All-nil, All-cons, All-tail, All-weaker, Contains-append_cases, Contains-append_left, Contains-append_right}
 use Rattle.std.proofs.Math.Nat.{mul-le-mul_right, mul-mod_left}
-use Rattle.std.proofs.lemmas.Nat.{mul-mod_second, pow_pos}
+use Rattle.std.proofs.lemmas.Nat.{mul-mod_second}
 use Rattle.elf_model.specs.Command.{IsBase}
 use Rattle.elf_model.specs.Commons.{block_pieces, pieces}
 use Rattle.elf_model.specs.LinkerValues.{end_of_pieces, start_of_pieces}
 use Rattle.elf_model.specs.Loading.{AreObjects, LoadedObject}
 use Rattle.elf_model.specs.MemoryImage.{IsGoodThreadBlock}
-use Rattle.elf_model.specs.ObjectFile.{IsAlignment}
 use Rattle.elf_model.specs.OwnLayout.{IsNotTooLarge, data_start, end_of, got_pieces, initial_pieces, is_initial, is_thread_rest, laid_out, own_in_load_order, own_laid_out, own_loaded, own_places, own_placed, own_thread_rest, place_at, placed_end, placed_from, thread_rest_pieces, thread_rest_start, thread_start}
 use Rattle.elf_model.specs.Pieces.{AreLawfulKinds, Piece, has_bytes, is_nobits, is_thread_piece, is_thread_zero, kept_sections}
 use Rattle.elf_model.specs.Placement.{Placed, round_up}
@@ -23,7 +22,7 @@ use Rattle.elf_model.specs.declared.tls_block.TlsBlock.{TlsBlock}
 use Rattle.elf_model.proofs.Blocks.{block_pieces-each}
 use Rattle.elf_model.proofs.Listed.{All-from_contains, Contains-from_filter, Contains-from_map, Contains-here, Contains-map, Contains-nil}
 use Rattle.elf_model.proofs.OwnOrder.{from_chosen_kept, from_initial, from_thread_rest, initial_is, thread_rest_is}
-use Rattle.elf_model.proofs.PieceAlignments.{kept_alignments-each}
+use Rattle.elf_model.proofs.PieceAlignments.{IsLawfulAlignment, kept_lawful}
 use Rattle.elf_model.proofs.PieceBounds.{BeginsFrom, EndsBy, IsStart, all_end, end_by, start_is}
 use Rattle.elf_model.proofs.PieceNumbers.{got_pieces-each}
 use Rattle.elf_model.proofs.Places.{at_own_address, initial_aligned, own_all, own_listed, own_starts, some_alignment, thread_rest_aligned, thread_start_high}
@@ -33,16 +32,6 @@ use Rattle.elf_model.proofs.ThreadPlaces.{initial_loaded, initial_within, own_in
 use Rattle.own_link.proofs.ImageRead.{AreThreadHeaders, IsThreadHeader}
 
 -- Alignments.
-
-abbrev pub IsLawfulAlignment : ℕ → Type 0
-IsLawfulAlignment a = IsPowerOfTwo a × (a ≤ 2 ^ 21)
-
-lawful : (a : ℕ) → IsAlignment a → IsLawfulAlignment (max 1 a)
-lawful a (inl none) = ((0, omega (arith, none)), omega (arith, none))
-lawful a (inr some) =
-    let positive : 1 ≤ a = let e = some.0.1 in let p = pow_pos some.0.0 in omega (arith, e, p) in
-    let same : a ≡ max 1 a = omega (arith, positive) in
-    subst IsLawfulAlignment same some
 
 greatest_lawful : (t : Piece → Bool) (ps : List Piece) → All (λ p. IsLawfulAlignment p.align) ps → IsLawfulAlignment (alignment_of t ps)
 greatest_lawful t [] all = ((0, refl), omega arith)
@@ -142,11 +131,8 @@ module _ (base : ℕ) (objects : List LoadedObject) where
       ∙ greatest_front is_thread_piece (kept_sections objects) (block_pieces objects)
       (block_pieces-each objects (λ p. is_thread_piece p ≡ false) (λ k s c. refl))
 
-  kept_lawful : AreObjects objects → All (λ p. IsLawfulAlignment p.align) (kept_sections objects)
-  kept_lawful are = kept_alignments-each IsLawfulAlignment lawful objects are
-
   greatest_power : AreObjects objects → IsLawfulAlignment greatest
-  greatest_power are = greatest_lawful is_thread_piece (kept_sections objects) (kept_lawful are)
+  greatest_power are = greatest_lawful is_thread_piece (kept_sections objects) (kept_lawful objects are)
 
   thread_start_multiple : thread_start base objects % greatest ≡ 0
   thread_start_multiple = (rounded_up greatest (data_start base objects) (some_alignment is_thread_piece (kept_sections objects))).2
@@ -156,7 +142,7 @@ module _ (base : ℕ) (objects : List LoadedObject) where
       AreObjects objects → (p : Piece) → Contains (kept_sections objects) p → is_thread_piece p ≡ true → 0 < p.align →
       (place_at (thread_start base objects) p).at ≡ thread_start base objects
   stands_first are p c t some =
-      let own = All-contains (λ (q : Piece). IsLawfulAlignment q.align) (kept_sections objects) p (kept_lawful are) c in
+      let own = All-contains (λ (q : Piece). IsLawfulAlignment q.align) (kept_sections objects) p (kept_lawful objects are) c in
       let low = All-contains (λ (q : Piece). is_thread_piece q ≡ true → q.align ≤ greatest) (kept_sections objects) p (greatest_above is_thread_piece (kept_sections objects)) c t in
       round_up-multiple p.align (thread_start base objects) some
       (mod_chain (thread_start base objects) p.align greatest (lower_divides p.align greatest own.0 (greatest_power are).0 low) thread_start_multiple)

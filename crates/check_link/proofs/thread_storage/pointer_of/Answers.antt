@@ -1,4 +1,4 @@
-use Rattle.check_link.proofs.RoundedUp.{pointer_is_rounded}
+use Rattle.elf_model.proofs.RoundedUp.{pointer_is_rounded}
 use Rattle.check_link.proofs.thread_storage.pointer_of.Goals as goal
 
 pub returns : goal.returns

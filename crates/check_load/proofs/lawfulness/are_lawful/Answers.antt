@@ -1,4 +1,4 @@
-use Rattle.check_load.proofs.SharedSections.{lawful_by}
+use Rattle.check_load.proofs.LawfulGroups.{lawful_by}
 use Rattle.check_load.proofs.lawfulness.are_lawful.Goals as goal
 
 pub returns : goal.returns

@@ -4,9 +4,9 @@ use Rattle.std.specs.List.{All}
 use Rattle.std.proofs.lemmas.Bool.{false≢true}
 use Rattle.elf_model.specs.Groups.{ShareNoSection}
 use Rattle.elf_model.proofs.Rests.{Left}
-use Rattle.check_load.specs.Marks.{marked}
-use Rattle.check_load.proofs.MarkLemmas.{length-marked, written_back}
-use Rattle.check_load.proofs.SharedSections.{AreBelow, IsApartFrom, left_end, left_more, left_stop, unmarked_same}
+use Rattle.elf_model.specs.Marks.{marked}
+use Rattle.elf_model.proofs.Marks.{length-marked, written_back}
+use Rattle.elf_model.proofs.SharedSections.{AreBelow, IsApartFrom, left_end, left_more, left_stop, unmarked_same}
 use Rattle.check_load.proofs.lawfulness.share_no_section.Goals as goal
 
 pub returns-then-not-are_unmarked : goal.returns-then-not-are_unmarked

@@ -1,5 +1,5 @@
 use Rattle.std.proofs.Common.{not, cond, ap, sym, ◌∙◌}
-use Rattle.check_load.specs.Marks.{marked}
+use Rattle.elf_model.specs.Marks.{marked}
 use Rattle.check_load.proofs.SignatureLaws.{seen_unless, set_then}
 use Rattle.check_load.proofs.signatures.admit_group.Goals as goal
 

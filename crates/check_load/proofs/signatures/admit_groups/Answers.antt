@@ -1,9 +1,10 @@
 use Rattle.std.proofs.Common.{◌≡◌, Bool, false, List, rules, ap, sym, ◌∙◌, replicate}
 use Rattle.std.proofs.lemmas.List.{drop_all}
 use Rattle.elf_model.specs.ObjectFile.{Group}
-use Rattle.check_load.specs.Marks.{marked, marked_numbers}
+use Rattle.elf_model.specs.Marks.{marked, marked_numbers}
 use Rattle.check_load.specs.Signatures.{lost_members, seen_in}
-use Rattle.check_load.proofs.LostMembers.{members_below, numbers_marked}
+use Rattle.elf_model.proofs.Marks.{numbers_marked}
+use Rattle.check_load.proofs.LostMembers.{members_below}
 use Rattle.check_load.proofs.signatures.admit_groups.Goals as goal
 
 pub returns-clause-dropped : goal.returns-clause-dropped

@@ -1,5 +1,5 @@
 use Rattle.std.proofs.Common.{◌≡◌, drop}
-use Rattle.check_load.specs.Marks.{marked}
+use Rattle.elf_model.specs.Marks.{marked}
 use Rattle.check_load.specs.Signatures.{lost_members, seen_by, seen_in}
 use Rattle.check_load.proofs.signatures.admit_groups.Given as goal
 

@@ -1,5 +1,5 @@
 use Rattle.std.proofs.Common.{not, cond, ap, sym, ◌∙◌}
-use Rattle.comdat.specs.Marks.{marked}
+use Rattle.elf_model.specs.Marks.{marked}
 use Rattle.comdat.proofs.SignatureLemmas.{dropped_unless, names_inserted}
 use Rattle.comdat.proofs.dropped.admit_group.Goals as goal
 

@@ -1,9 +1,11 @@
 use Rattle.std.proofs.Common.{◌≡◌, Bool, false, List, rules, ap, subst, sym, ◌∙◌, replicate}
 use Rattle.std.proofs.lemmas.List.{drop_all}
 use Rattle.elf_model.specs.ObjectFile.{Group}
-use Rattle.comdat.specs.Marks.{Rises, marked, marked_numbers}
+use Rattle.elf_model.specs.Marks.{marked, marked_numbers}
+use Rattle.comdat.specs.Marks.{Rises}
 use Rattle.comdat.specs.Signatures.{names_of}
-use Rattle.comdat.proofs.DroppedMembers.{dropped_members, members_below, numbers_marked}
+use Rattle.elf_model.proofs.Marks.{numbers_marked}
+use Rattle.comdat.proofs.DroppedMembers.{dropped_members, members_below}
 use Rattle.comdat.proofs.DroppedNumbers.{marked_rises}
 use Rattle.comdat.proofs.dropped.admit_groups.Goals as goal
 

@@ -1,6 +1,6 @@
 use Rattle.std.proofs.Common.{◌≡◌, drop}
 use Rattle.elf_model.specs.Groups.{seen_after}
-use Rattle.comdat.specs.Marks.{marked}
+use Rattle.elf_model.specs.Marks.{marked}
 use Rattle.comdat.specs.Signatures.{Begins, names_of}
 use Rattle.comdat.proofs.DroppedMembers.{dropped_members}
 use Rattle.comdat.proofs.dropped.admit_groups.Given as goal

@@ -2,7 +2,7 @@ use Rattle.std.proofs.Common.{◌≡◌, drop, length}
 use Rattle.std.specs.Prelude.{AllPairs}
 use Rattle.elf_model.specs.Groups.{ShareNoSection}
 use Rattle.elf_model.proofs.Rests.{Left}
-use Rattle.comdat.proofs.SharedSections.{IsApartFrom}
+use Rattle.elf_model.proofs.SharedSections.{IsApartFrom}
 use Rattle.comdat.proofs.lawfulness.share_no_section.Given as goal
 
 abbrev pub invariant-loop-group : goal.invariant-loop-group

@@ -1,5 +1,5 @@
 use Rattle.std.proofs.Common.{◌≡◌, drop}
-use Rattle.comdat.specs.Marks.{marked}
+use Rattle.elf_model.specs.Marks.{marked}
 use Rattle.comdat.proofs.marks.mark.Given as goal
 
 abbrev pub invariant-loop-number : goal.invariant-loop-number

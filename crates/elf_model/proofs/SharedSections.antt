@@ -10,8 +10,8 @@ use Rattle.elf_model.specs.Groups.{ShareNoSection}
 use Rattle.elf_model.specs.ObjectFile.{Group}
 use Rattle.elf_model.proofs.Pairs.{AllPairs-head, AllPairs-nil, AllPairs-tail}
 use Rattle.elf_model.proofs.Rests.{Left, rest_at}
-use Rattle.comdat.specs.Marks.{AreUnmarked, is_marked, marked}
-use Rattle.comdat.proofs.MarkLemmas.{contained, is_marked-marked, listed}
+use Rattle.elf_model.specs.Marks.{AreUnmarked, is_marked, marked}
+use Rattle.elf_model.proofs.Marks.{contained, is_marked-marked, listed}
 
 -- members that a table of so many marks has
 abbrev pub AreBelow : ℕ → Group → Type 0

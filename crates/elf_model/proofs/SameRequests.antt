@@ -1,11 +1,12 @@
--- Requests are the same where they are equal.
-use Rattle.std.proofs.Common.{◌≡◌, ◌==◌, Bool, true, false, refl, sym, ◌∙◌, ap}
+-- Requests for slots of the GOT are the same where they are equal.
+use Rattle.std.proofs.Common.{◌≡◌, ◌==◌, true, refl, ◌∙◌, ap, subst}
 use Rattle.std.proofs.lemmas.Bool.{and_from, and_parts, eq-eqb, eqb-true, false≢true}
 use Rattle.std.proofs.lemmas.Slice.Eq.{bytes_eq-Decides}
 use Rattle.elf_model.specs.MapRecord.{OfLocal, OfName, TargetRow}
 use Rattle.elf_model.specs.Slots.{Request, same_kind, same_request, same_target}
 use Rattle.elf_model.specs.declared.link_map.SlotKind.{SlotKind}
 use Rattle.elf_model.specs.declared.link_map.SlotKind.TheVariants as slot
+use Rattle.elf_model.proofs.SameOutput.{both_ways_equal}
 
 kind_is : (a b : SlotKind) → same_kind a b ≡ true → a ≡ b
 kind_is slot.Value slot.Value e = refl
@@ -29,22 +30,19 @@ target_same : (a : TargetRow) → same_target a a ≡ true
 target_same (OfName a) = (bytes_eq-Decides a a).1 refl
 target_same (OfLocal o j) = and_from (o == o) (j == j) (eq-eqb o o refl) (eq-eqb j j refl)
 
-pub request_is : (q r : Request) → same_request q r ≡ true → q ≡ r
-request_is q r e =
+pub requests_equal : (q r : Request) → same_request q r ≡ true → q ≡ r
+requests_equal q r e =
     let both = and_parts (same_kind q.kind r.kind) (same_target q.target r.target) e in
     let k = kind_is q.kind r.kind both.0 in
     let t = target_is q.target r.target both.1 in
     λ i. record { kind = k i; target = t i }
 
-pub request_same : (q : Request) → same_request q q ≡ true
-request_same q = and_from (same_kind q.kind q.kind) (same_target q.target q.target) (kind_same q.kind) (target_same q.target)
+pub same_itself : (q : Request) → same_request q q ≡ true
+same_itself q = and_from (same_kind q.kind q.kind) (same_target q.target q.target) (kind_same q.kind) (target_same q.target)
 
 -- so they are the same either way round
-pub same_turned : (q r : Request) → same_request q r ≡ same_request r q
-same_turned q r = by (same_request q r) refl (same_request r q) refl
-  where
-    by : (a : Bool) → same_request q r ≡ a → (b : Bool) → same_request r q ≡ b → a ≡ b
-    by true e true f = refl
-    by true e false f = sym (request_same r) ∙ (sym (ap (same_request r) (request_is q r e)) ∙ f)
-    by false e true f = sym e ∙ (ap (same_request q) (request_is r q f) ∙ request_same q)
-    by false e false f = refl
+turned : (q r : Request) → same_request q r ≡ true → same_request r q ≡ true
+turned q r e = subst (λ (s : Request). same_request s q ≡ true) (requests_equal q r e) (same_itself q)
+
+pub same_sym : (q r : Request) → same_request q r ≡ same_request r q
+same_sym q r = both_ways_equal (same_request q r) (same_request r q) (turned q r) (turned r q)

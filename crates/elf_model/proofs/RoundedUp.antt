@@ -1,4 +1,4 @@
--- Where a number leads that is rounded up to a multiple, as wrapping arithmetic computes it.
+-- Numbers that are rounded up to a multiple, as wrapping arithmetic computes them.
 use Rattle.std.proofs.Common.{◌≡◌, ℕ, zero, suc, ◌+◌, ◌-◌, ◌*◌, ◌/◌, ◌%◌, ◌^◌, ◌<◌, sym, ap, ◌∙◌, arith}
 use Rattle.std.proofs.Math.Nat.{mod-add-mod, mod_self}
 use Rattle.std.proofs.lemmas.Nat.{div-add-mod', div-mul-add, mod-mul-add, mod_below}
@@ -29,6 +29,7 @@ round_up_is a s some =
     ap (round_up a) (sym whole)
     ∙ (round_up_parts a (s / a) (s % a) (mod_below s a some) ∙ ap (λ (x : ℕ). x + (a - s % a) % a) whole)
 
+-- a sum modulo 2 ^ 64, whose second number is rounded up
 pub pointer_is_rounded :
     (start size align : ℕ) → 0 < align →
     ((start + size) % 2 ^ 64 + (align - size % align) % align) % 2 ^ 64 ≡ (start + round_up align size) % 2 ^ 64
