@@ -111,7 +111,10 @@ fn assert_definitions(rt: &impl Abort, resolved: &Resolved<'_>) {
         let found = meant_numbers(resolved.used(symbol));
         assert!(rt; found == used, "of symbol {number} of object {object}");
         let chosen = meant_numbers(resolved.chosen(&resolved.definition(symbol)));
-        assert!(rt; chosen == used, "of the target of {number} of object {object}");
+        assert!(rt;
+            chosen == used,
+            "of the target of {number} of object {object}"
+        );
     }
 }
 
@@ -272,7 +275,10 @@ fn common_symbols_of_one_name_share_a_block(rt: HostRuntime) -> Result<(), Fail>
     let loaded = load_both(alloc, &a, &b)?;
     let resolved = resolve(alloc, &loaded)?;
     assert!(rt; are_blocks(&resolved, &SHARED));
-    let used = [resolved.used(symbol_ref(0, 1)), resolved.used(symbol_ref(1, 1))];
+    let used = [
+        resolved.used(symbol_ref(0, 1)),
+        resolved.used(symbol_ref(1, 1)),
+    ];
     assert!(rt; used.map(meant_numbers) == [Some((2, 0)), Some((2, 1))]);
     Ok(())
 }
@@ -287,7 +293,10 @@ fn a_common_symbol_stands_before_a_weak_definition_alone(rt: HostRuntime) -> Res
     let loaded = load_both(alloc, &a, &b)?;
     let resolved = resolve(alloc, &loaded)?;
     assert!(rt; are_blocks(&resolved, &ONE_BLOCK));
-    let used = [resolved.used(symbol_ref(0, 1)), resolved.used(symbol_ref(0, 2))];
+    let used = [
+        resolved.used(symbol_ref(0, 1)),
+        resolved.used(symbol_ref(0, 2)),
+    ];
     assert!(rt; used.map(meant_numbers) == [Some((2, 0)), Some((1, 2))]);
     Ok(())
 }

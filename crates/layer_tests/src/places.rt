@@ -170,11 +170,7 @@ fn common(st_name: u32, st_size: u64, st_value: u64) -> Symbol {
 }
 
 /// The addresses of the common blocks of `f`, `g` and `h`, and of the GOT.
-fn addresses_in(
-    alloc: Global,
-    a: &[u8],
-    b: &[u8],
-) -> Result<[Option<u64>; 4], Fail> {
+fn addresses_in(alloc: Global, a: &[u8], b: &[u8]) -> Result<[Option<u64>; 4], Fail> {
     let loaded = load_both(alloc, a, b)?;
     let resolved = resolve(alloc, &loaded)?;
     let slots = slots(alloc, &loaded, &resolved)?;
@@ -239,8 +235,7 @@ fn first_wrong(placement: &Placement<'_>) -> Option<usize>
 }
 
 /// That of the layout of objects.
-fn first_wrong_in(alloc: Global, loaded: &Loaded<'_>) -> Result<Option<usize>, Fail>
-{
+fn first_wrong_in(alloc: Global, loaded: &Loaded<'_>) -> Result<Option<usize>, Fail> {
     kinds(loaded)?;
     let resolved = resolve(alloc, loaded)?;
     let slots = slots(alloc, loaded, &resolved)?;

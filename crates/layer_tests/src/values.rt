@@ -116,8 +116,7 @@ fn judged_patches<'a>(
 }
 
 /// The bytes that are wanted of a section of the first object, laid out from 0x400000 on.
-fn applied(alloc: Global, loaded: &Loaded<'_>, number: usize) -> Result<Vec<u8>, Fail>
-{
+fn applied(alloc: Global, loaded: &Loaded<'_>, number: usize) -> Result<Vec<u8>, Fail> {
     let input = input_of(loaded, number).ok_or("no section's bytes")?;
     kinds(loaded)?;
     let resolved = resolve(alloc, loaded)?;
@@ -332,8 +331,7 @@ fn linkers_names_in_use_have_lines(rt: HostRuntime) -> Result<(), Fail> {
 }
 
 /// What the relocations of objects are refused for, or `lawful`.
-fn refusal(alloc: Global, loaded: &Loaded<'_>) -> Result<String, Fail>
-{
+fn refusal(alloc: Global, loaded: &Loaded<'_>) -> Result<String, Fail> {
     kinds(loaded)?;
     let resolved = resolve(alloc, loaded)?;
     let slots = slots(alloc, loaded, &resolved)?;

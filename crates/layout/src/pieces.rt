@@ -57,7 +57,10 @@ fn add_pieces<'a>(
 }
 
 /// The kept sections of all objects, in load order.
-pub fn pieces_of<'a>(alloc: Global, objects: &[LoadedObject<'a>]) -> Result<Vec<Piece<'a>>, AllocError>
+pub fn pieces_of<'a>(
+    alloc: Global,
+    objects: &[LoadedObject<'a>],
+) -> Result<Vec<Piece<'a>>, AllocError>
     ensures { IfOk result (λ v. piece_views v.items ≡ pieces.kept_sections (loaded_views objects.now)) }
 {
     let mut found = Vec::new(alloc);

@@ -233,7 +233,11 @@ impl<'a> Placement<'a> {
     pub fn got(&self) -> Option<u64>
         ensures { result ≡ option_map (λ g. g.address) (own_got self.now.base self.now.objects) }
     {
-        address_in(&self.tables.addresses, got_number(self.loaded.objects()) as usize, 0)
+        address_in(
+            &self.tables.addresses,
+            got_number(self.loaded.objects()) as usize,
+            0,
+        )
     }
 
     /// Whether a piece is the GOT.

@@ -174,9 +174,7 @@ fn listed_parts<'a>(
     let values = slot_values(alloc, resolved, &placement, &slots)?;
     let linkers = linker_lines(alloc, loaded, resolved)?;
     let listed = listed(alloc, resolved, &linkers)?;
-    Ok(parts_of(
-        loaded, listed, placement, slots, values, patches, entry,
-    ))
+    Ok(parts_of(loaded, listed, placement, slots, values, patches, entry))
 }
 
 /// Resolves, lays out and judges what is loaded.

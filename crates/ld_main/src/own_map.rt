@@ -18,8 +18,8 @@ ghost use Rattle.image_write.specs.Maps.{IsMapOf, LiesBelow, LiesWithin, own_row
 use crate::listing::name_of;
 use crate::slot_lines::{got_line, slot_lines};
 use elf_model::{
-    CommonLine, Definition as Told, DropLine, LinkMap, ObjectId, ObjectLine, PlaceLine, SHN_ABS, STB_WEAK,
-    SectionHeader, SectionRef, SymbolLine,
+    CommonLine, Definition as Told, DropLine, LinkMap, ObjectId, ObjectLine, PlaceLine, SHN_ABS,
+    STB_WEAK, SectionHeader, SectionRef, SymbolLine,
 };
 use elf_read::Object;
 use got_tls::Slots;

@@ -72,5 +72,8 @@ pub fn apply(patches: &Patches<'_>, section: SectionRef, bytes: &mut [u8])
     ensures { (p : Piece) → p.object ≡ section.object.0 → p.section ≡ section.section → p.bytes ≡ bytes.old → bytes.new ≡ map (wanted_byte patches.now.objects (where_in patches.now) p) (range_with_len 0 (length bytes.old)) }
 {
     let object = section.object.0 as usize;
-    write_all(row_in(&patches.rows, object, section.section as usize), bytes);
+    write_all(
+        row_in(&patches.rows, object, section.section as usize),
+        bytes,
+    );
 }

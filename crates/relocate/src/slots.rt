@@ -14,11 +14,7 @@ use resolve::Resolved;
 use std::alloc::{AllocError, Global};
 
 /// The value of a slot's target modulo 2 to the 64, 0 where that means nothing.
-fn target_value<'a>(
-    resolved: &Resolved<'a>,
-    placement: &Placement<'_>,
-    slot: Slot<'a>,
-) -> u64
+fn target_value<'a>(resolved: &Resolved<'a>, placement: &Placement<'_>, slot: Slot<'a>) -> u64
     requires { AreLawfulKinds placement.now.objects }
     ensures { result ≡ wanted.target_value resolved.now (where_in placement.now) (slot_view slot.entry).target % 2 ^ 64 }
 {

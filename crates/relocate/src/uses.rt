@@ -36,7 +36,12 @@ fn is_linkers(definition: &Option<Definition<'_>>) -> bool
 
 /// Whether symbol `j` of the object that has a number isn't LOCAL and has a name that the linker defines and no object
 /// does.
-fn is_linker_use(resolved: &Resolved<'_>, number: usize, loaded: &LoadedObject<'_>, j: usize) -> bool
+fn is_linker_use(
+    resolved: &Resolved<'_>,
+    number: usize,
+    loaded: &LoadedObject<'_>,
+    j: usize,
+) -> bool
     requires { IsObjectAt resolved.now number (loaded_view loaded.now) }
     ensures { result ≡ is_linker_use resolved.now (symbol_at number (loaded_view loaded.now) j) }
 {

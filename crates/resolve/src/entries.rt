@@ -33,7 +33,12 @@ pub fn name_of<'a>(object: &Object<'a>, j: usize) -> &'a [u8]
 }
 
 /// Symbol `j` of the object that has a number, with its entry.
-pub fn symbol_in<'a>(number: u64, loaded: &LoadedObject<'a>, j: usize, entry: &Symbol) -> SymbolOf<'a>
+pub fn symbol_in<'a>(
+    number: u64,
+    loaded: &LoadedObject<'a>,
+    j: usize,
+    entry: &Symbol,
+) -> SymbolOf<'a>
     ensures { symbol_view result ≡ symbol_of number (loaded_view loaded.now) j entry.now }
 {
     SymbolOf {

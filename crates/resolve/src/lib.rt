@@ -22,8 +22,8 @@ mod targets;
 
 pub use blocks::Block;
 pub use bounds::named_output;
-pub use entries::SymbolOf;
 pub use definition::Definition;
+pub use entries::SymbolOf;
 pub use faults::ResolveFault;
 pub use output_names::output_name;
 pub use resolved::{Resolved, resolve, resolve_over};

@@ -22,9 +22,9 @@ ghost use Rattle.symbols.specs.Rows.{no_rows};
 use crate::blocks::{Block, index_of};
 use crate::bounds::bound_of;
 use crate::defining::define;
+use crate::definition::Definition;
 use crate::entries::{SymbolOf, is_common, is_local, is_undefined, name_of, symbol_in};
 use crate::faults::ResolveFault;
-use crate::definition::Definition;
 use crate::outputs::output_names_of;
 use crate::places::{Index, write_places};
 use crate::ranks::ranks_of;
@@ -151,7 +151,12 @@ fn found<'a>(definitions: &[SymbolOf<'a>], name: &[u8]) -> Option<SymbolOf<'a>>
 }
 
 /// Symbol `j` of an object itself, where it is defined.
-fn itself<'a>(number: u64, loaded: &LoadedObject<'a>, j: usize, entry: &Symbol) -> Option<Definition<'a>>
+fn itself<'a>(
+    number: u64,
+    loaded: &LoadedObject<'a>,
+    j: usize,
+    entry: &Symbol,
+) -> Option<Definition<'a>>
     ensures { option_map meaning_view result ≡ cond (is_undefined entry.now) None (Some (meaning.Symbol (symbol_of number (loaded_view loaded.now) j entry.now))) }
 {
     if is_undefined(entry) {

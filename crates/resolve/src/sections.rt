@@ -22,7 +22,11 @@ fn sections_at<'b>(objects: &'b [LoadedObject<'_>], number: usize) -> &'b [Secti
 
 /// The section in which a symbol of the object that has a number is defined; None where it is undefined,
 /// absolute or common.
-pub fn section_of(objects: &[LoadedObject<'_>], number: usize, entry: &Symbol) -> Option<SectionHeader>
+pub fn section_of(
+    objects: &[LoadedObject<'_>],
+    number: usize,
+    entry: &Symbol,
+) -> Option<SectionHeader>
     ensures { result ≡ section_by (loaded_views objects.now) number entry.now }
 {
     if is_undefined(entry) {
