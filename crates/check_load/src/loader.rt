@@ -15,13 +15,13 @@ ghost use Rattle.check_load.specs.Taken.{has_item};
 ghost use Rattle.check_load.specs.Views.{loaded_view, loaded_views};
 
 use crate::archives::Input;
-use crate::awake::Awake;
+use crate::awake_entries::Awake;
 use crate::names::{NameState, note_object, roots, state_of};
-use crate::opening::OpenedItem;
+use crate::opened_items::OpenedItem;
 use crate::places::Places;
 use crate::signatures::{Dropped, admit};
 use crate::stops::Stop;
-use crate::taken::Taken;
+use crate::taken_members::Taken;
 use ar_index::IndexEntry;
 use byteview::View;
 use command::Plan;

@@ -21,8 +21,8 @@ ghost use Rattle.symbols.specs.Rows.{no_rows};
 
 use crate::blocks::{Block, index_of};
 use crate::bounds::bound_of;
-use crate::defining::define;
 use crate::definition::Definition;
+use crate::definition_list::define;
 use crate::entries::{SymbolOf, is_common, is_local, is_undefined, name_of, symbol_in};
 use crate::faults::ResolveFault;
 use crate::outputs::output_names_of;
