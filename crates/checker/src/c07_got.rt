@@ -2,18 +2,17 @@
 ghost use Rattle.std.specs.Prelude.{◌≡◌, ◌↔◌, All, IfOk, IfSome, IsTrue, true};
 ghost use Rattle.std.specs.List.{list_any};
 ghost use Rattle.elf_model.specs.MapRecord.{slot_row};
-ghost use Rattle.elf_model.specs.RightLink.{HoldsGot, Holds, IsGotRight, objects_of};
+ghost use Rattle.elf_model.specs.RightLink.{Holds, HoldsBefore, HoldsGot};
 ghost use Rattle.elf_model.specs.Slots.{is_slot_of, row_request};
 ghost use Rattle.check_load.specs.Views.{loaded_views};
 ghost use Rattle.checker.specs.Got.{HaveSlots, IsGot, LiesInImage};
 ghost use Rattle.check_relocs.specs.Needs.{AreNeeds};
 ghost use Rattle.check_link.specs.Slots.{is_asked, request_view};
 ghost use Rattle.elf_model.specs.declared.verdict.Clause.TheVariants as clause;
-ghost use Rattle.check_relocs.specs.Bindings.{bound_of};
-ghost use Rattle.check_link.specs.Subjects.{subject_of};
 
+use crate::bound_link::BoundLink;
 use crate::c07_got::got_bytes::holds_got;
-use check_link::{Link, Request, SlotTable, request_of_line};
+use check_link::{Request, SlotTable, request_of_line};
 use check_load::Loaded;
 use check_relocs::{Bindings, Needs, needs_of};
 use elf_model::{GotLine, SlotLine};
@@ -24,23 +23,19 @@ use std::collections::BTreeSet;
 mod got_bytes;
 
 /// Whether the seventh clause holds of a link.
-pub fn holds<'a>(
-    alloc: Global,
-    link: &Link<'_>,
-    bindings: &Bindings<'_, '_, 'a>,
-    objects: &[Loaded<'a>],
-    slots: &SlotTable<'a>,
-    memory: &Memory<'_>,
-) -> Result<bool, AllocError>
-    requires loaded { loaded_views objects.now ≡ objects_of (subject_of link.now) }
-    requires bound { bindings.now ≡ bound_of (subject_of link.now) }
-    requires slots { slots.now ≡ (subject_of link.now).map.slots }
-    requires memory { memory.now ≡ link.now.image.now }
-    requires end { Holds clause.C5 (subject_of link.now) }
-    requires lie { Holds clause.C6 (subject_of link.now) }
-    ensures { IfOk result (λ b. IsTrue b ↔ IsGotRight (subject_of link.now)) }
+pub fn holds(alloc: Global, bound: &BoundLink<'_, '_>) -> Result<bool, AllocError>
+    requires { HoldsBefore clause.C7 bound.now }
+    ensures { IfOk result (λ b. IsTrue b ↔ Holds clause.C7 bound.now) }
 {
-    let right = is_got_right(alloc, bindings, objects, slots, memory, &link.map.got)?;
+    let link = bound.link();
+    let right = is_got_right(
+        alloc,
+        bound.bindings(),
+        bound.objects(),
+        bound.slots(),
+        bound.memory(),
+        &link.map.got,
+    )?;
     Ok(right)
 }
 
