@@ -1,13 +1,11 @@
 //! A placed link with what its names mean: what the clauses from the seventh on judge.
 ghost use Rattle.std.specs.Prelude.{◌≡◌};
-ghost use Rattle.elf_model.specs.RightLink.{objects_of, placed_of, things_of};
+ghost use Rattle.elf_model.specs.RightLink.{placed_of, things_of};
 ghost use Rattle.check_link.specs.Views.{placed_views};
-ghost use Rattle.check_load.specs.Views.{loaded_views};
 ghost use Rattle.check_relocs.specs.Bindings.{bound_of};
 
 use crate::placed_link::PlacedLink;
 use check_link::{Link, Placed, SlotTable};
-use check_load::Loaded;
 use check_relocs::Bindings;
 use elf_model::Thing;
 use loader_model::Memory;
@@ -55,13 +53,6 @@ impl<'o, 'a> BoundLink<'o, 'a> {
         ensures { result.now ≡ self.entry.now }
     {
         self.placed.link()
-    }
-
-    /// The loaded objects.
-    pub fn objects(&self) -> &'o [Loaded<'a>]
-        ensures { loaded_views result.now ≡ objects_of self.entry.now }
-    {
-        self.placed.names().objects()
     }
 
     /// What the image has in memory.

@@ -13,6 +13,6 @@ pub fn rows(alloc: Global, bound: &BoundLink<'_, '_>) -> Result<Option<Vec<Vec<F
     ensures right { IfOk result (λ o. IsSome o ↔ Holds clause.C9 bound.now) }
     ensures rows { IfOk result (λ o. IfSome o (λ v. AreRows (objects_of bound.now) (where_of bound.now) v.items)) }
 {
-    let rows = fields_right(alloc, bound.bindings(), bound.objects())?;
+    let rows = fields_right(alloc, bound.bindings())?;
     Ok(rows)
 }

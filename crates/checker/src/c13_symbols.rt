@@ -11,13 +11,11 @@ ghost use Rattle.elf_model.specs.MapText.{Ascends, SymbolBefore};
 ghost use Rattle.elf_model.specs.Resolution.{AreSoundSymbols, AreUnique};
 ghost use Rattle.elf_model.specs.RightLink.{HasLine, Holds, definition_row, symbol_row_of};
 ghost use Rattle.checker.specs.Listed.{IsChosenIfStrong, chosen_among};
-ghost use Rattle.check_load.specs.Views.{loaded_views};
 ghost use Rattle.check_link.specs.Views.{held_name, meaning_view, meaning_views, symbol_view, symbol_views};
 ghost use Rattle.elf_model.specs.declared.verdict.Clause.TheVariants as clause;
 
 use crate::bound_link::BoundLink;
 use check_link::{Meaning, SymbolOf, is_definition, is_strong};
-use check_load::Loaded;
 use check_relocs::{Bindings, linker_lines};
 use elf_model::{Definition, STB_WEAK, SymbolLine};
 use std::alloc::{AllocError, Global};
@@ -27,8 +25,7 @@ pub fn holds(alloc: Global, bound: &BoundLink<'_, '_>) -> Result<bool, AllocErro
     ensures { IfOk result (λ b. IsTrue b ↔ Holds clause.C13 bound.now) }
 {
     let link = bound.link();
-    let lines = &link.map.symbols;
-    let listed = are_symbols_listed(alloc, bound.bindings(), bound.objects(), lines)?;
+    let listed = are_symbols_listed(alloc, bound.bindings(), &link.map.symbols)?;
     Ok(listed)
 }
 
@@ -206,11 +203,9 @@ fn are_lines_of(
 fn are_symbols_listed<'a>(
     alloc: Global,
     bindings: &Bindings<'_, '_, 'a>,
-    objects: &[Loaded<'a>],
     lines: &[SymbolLine],
 ) -> Result<bool, AllocError>
-    requires loaded { bindings.now.objects ≡ loaded_views objects.now }
-    requires ascend { Ascends SymbolBefore (map symbol_row lines.now) }
+    requires { Ascends SymbolBefore (map symbol_row lines.now) }
     ensures { let L = bindings.now.objects in IfOk result (λ b. IsTrue b ↔ (AreSoundSymbols L × AreUnique L × ((name : List ℕ) → HasLine (map symbol_row lines.now) L bindings.now.places name))) }
 {
     if !bindings.are_sound() {
@@ -219,7 +214,7 @@ fn are_symbols_listed<'a>(
     let Some(chosen) = chosen_symbols(alloc, bindings, bindings.symbols())? else {
         return Ok(false);
     };
-    let linkers = linker_lines(alloc, bindings, objects)?;
+    let linkers = linker_lines(alloc, bindings)?;
     let sorted = by_name(joined(bindings, &chosen, linkers)?)?;
     let listed = are_lines_of(bindings, &sorted, lines);
     Ok(listed)
