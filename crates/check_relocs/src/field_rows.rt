@@ -176,15 +176,14 @@ fn object_row<'a>(
 }
 
 /// The rows of all objects; None where relocations aren't right.
-fn all_rows<'a>(
+fn all_rows(
     alloc: Global,
-    bindings: &Bindings<'_, '_, 'a>,
-    objects: &[Loaded<'a>],
+    bindings: &Bindings<'_, '_, '_>,
 ) -> Result<Option<Vec<Vec<Field>>>, AllocError>
-    requires { bindings.now.objects ≡ loaded_views objects.now }
-    ensures right { IfOk result (λ o. IsSome o ↔ AreRight (loaded_views objects.now) bindings.now.places (relocations (loaded_views objects.now))) }
-    ensures rows { IfOk result (λ o. IfSome o (λ v. AreRows (loaded_views objects.now) bindings.now.places v.items)) }
+    ensures right { IfOk result (λ o. IsSome o ↔ AreRight bindings.now.objects bindings.now.places (relocations bindings.now.objects)) }
+    ensures rows { IfOk result (λ o. IfSome o (λ v. AreRows bindings.now.objects bindings.now.places v.items)) }
 {
+    let objects = bindings.objects();
     let mut rows = Vec::with_capacity(alloc, objects.len())?;
     for k in 0..objects.len() {
         let Some(row) = object_row(alloc, bindings, k as u64, &objects[k])? else {
@@ -197,15 +196,13 @@ fn all_rows<'a>(
 
 /// The fields of all kept relocations, a row for each object, where each relocation is lawful, its value fits
 /// and no byte lies in two fields; None where that doesn't hold.
-pub fn fields_right<'a>(
+pub fn fields_right(
     alloc: Global,
-    bindings: &Bindings<'_, '_, 'a>,
-    objects: &[Loaded<'a>],
+    bindings: &Bindings<'_, '_, '_>,
 ) -> Result<Option<Vec<Vec<Field>>>, AllocError>
-    requires { bindings.now.objects ≡ loaded_views objects.now }
-    ensures right { IfOk result (λ o. IsSome o ↔ (AreLawfulRelocations (loaded_views objects.now) × AllFit (loaded_views objects.now) bindings.now.places)) }
-    ensures rows { IfOk result (λ o. IfSome o (λ v. AreRows (loaded_views objects.now) bindings.now.places v.items)) }
+    ensures right { IfOk result (λ o. IsSome o ↔ (AreLawfulRelocations bindings.now.objects × AllFit bindings.now.objects bindings.now.places)) }
+    ensures rows { IfOk result (λ o. IfSome o (λ v. AreRows bindings.now.objects bindings.now.places v.items)) }
 {
-    let rows = all_rows(alloc, bindings, objects)?;
+    let rows = all_rows(alloc, bindings)?;
     Ok(rows)
 }

@@ -169,11 +169,10 @@ fn add_object<'a>(
 fn used_names<'a>(
     alloc: Global,
     bindings: &Bindings<'_, '_, 'a>,
-    objects: &[Loaded<'a>],
 ) -> Result<BTreeSet<&'a [u8]>, AllocError>
-    requires { bindings.now.objects ≡ loaded_views objects.now }
-    ensures { IfOk result (λ s. (n : List ℕ) → is_among s n ≡ list_any (uses_line (loaded_views objects.now) n) (relocations (loaded_views objects.now))) }
+    ensures { IfOk result (λ s. (n : List ℕ) → is_among s n ≡ list_any (uses_line bindings.now.objects n) (relocations bindings.now.objects)) }
 {
+    let objects = bindings.objects();
     let mut names = BTreeSet::new(alloc);
     for k in 0..objects.len() {
         add_object(alloc, &mut names, bindings, k as u64, &objects[k])?;
@@ -215,12 +214,10 @@ fn lines_of<'a>(
 pub fn linker_lines<'a>(
     alloc: Global,
     bindings: &Bindings<'_, '_, 'a>,
-    objects: &[Loaded<'a>],
 ) -> Result<Vec<Meaning<'a>>, AllocError>
-    requires { bindings.now.objects ≡ loaded_views objects.now }
-    ensures { IfOk result (λ v. AreLinkerLines (loaded_views objects.now) (meaning_views v.items)) }
+    ensures { IfOk result (λ v. AreLinkerLines bindings.now.objects (meaning_views v.items)) }
 {
-    let names = used_names(alloc, bindings, objects)?;
+    let names = used_names(alloc, bindings)?;
     let lines = lines_of(alloc, bindings, &names)?;
     Ok(lines)
 }

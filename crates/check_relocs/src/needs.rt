@@ -219,14 +219,10 @@ fn add_object<'a>(
 }
 
 /// What the kept relocations of all objects ask of the GOT.
-pub fn needs_of<'a>(
-    alloc: Global,
-    bindings: &Bindings<'_, '_, 'a>,
-    objects: &[Loaded<'a>],
-) -> Result<Needs<'a>, AllocError>
-    requires { bindings.now.objects ≡ loaded_views objects.now }
-    ensures { IfOk result (AreNeeds (loaded_views objects.now)) }
+pub fn needs_of<'a>(alloc: Global, bindings: &Bindings<'_, '_, 'a>) -> Result<Needs<'a>, AllocError>
+    ensures { IfOk result (AreNeeds bindings.now.objects) }
 {
+    let objects = bindings.objects();
     let mut needs = Needs {
         got: false,
         requests: BTreeSet::new(alloc),
