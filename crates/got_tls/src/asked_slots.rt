@@ -1,7 +1,7 @@
 //! What the kept relocations of loaded objects ask of the GOT, in load order.
-ghost use Rattle.std.specs.Prelude.{◌≡◌, ◌∷◌, [], IfOk, OnOk, Some, filter, map};
+ghost use Rattle.std.specs.Prelude.{◌≡◌, IfOk, OnOk, Some, filter, map};
 ghost use Rattle.std.specs.List.{slice_get};
-ghost use Rattle.elf_model.specs.ObjectFile.{relas_of, sections};
+ghost use Rattle.elf_model.specs.ObjectFile.{sections};
 ghost use Rattle.elf_model.specs.Relocation.{is_some_kind, relocation_of, relocations, relocations_from, relocations_in};
 ghost use Rattle.search.specs.Views.{loaded_view, loaded_views};
 ghost use Rattle.got_tls.specs.Asking.{TellsOfGot, nothing, with_relocation, with_relocations};
@@ -10,7 +10,6 @@ ghost use Rattle.got_tls.specs.Views.{wants};
 use crate::requests::{asks_for_got, slot_of, tells_of_got};
 use crate::slot_table::Slot;
 use elf_model::{Rela, SectionHeader};
-use elf_read::Object;
 use indexmap::IndexSet;
 use resolve::Resolved;
 use search::LoadedObject;
@@ -67,18 +66,6 @@ fn add_entries<'a>(
     Ok(())
 }
 
-/// The entries of RELA section `i`, which has the header.
-fn entries_of<'o>(object: &'o Object<'_>, i: usize, header: &SectionHeader) -> &'o [Rela]
-    requires there { slice_get (sections object.now) i ≡ Some header.now }
-    requires rela { header.now.sh_type ≡ 4 }
-    ensures { result.now ≡ relas_of object.entry.now header.now }
-{
-    match object.relas(i) {
-        Some(entries) => entries,
-        None => &[],
-    }
-}
-
 /// Takes in what the entries of RELA section `i` ask for, which has the header.
 fn add_section<'a>(
     asked: &mut Asked<'a>,
@@ -94,7 +81,7 @@ fn add_section<'a>(
     requires rela { header.now.sh_type ≡ 4 }
     ensures { OnOk result (wants asked.new ≡ with_relocations resolved.now (wants asked.old) (relocations_in number (loaded_view loaded.now) header.now)) }
 {
-    let entries = entries_of(&loaded.object, i, header);
+    let entries = loaded.entries_of(i, header);
     add_entries(
         asked,
         resolved,

@@ -10,7 +10,7 @@ use crate::faults::RelocFault;
 use crate::fields::Field;
 use crate::kinds::{Kind, is_mismatch};
 use crate::referrer::{Referrer, Relocated};
-use crate::targets::{name_of, undefined};
+use crate::targets::undefined;
 use elf_model::Rela;
 use std::alloc::Global;
 
@@ -33,7 +33,7 @@ pub fn lawful_field(
     let symbol = entry.symbol() as usize;
     let reference = referrer.reference(symbol);
     if reference.undefined {
-        return Err(undefined(alloc, name_of(&referrer.loaded.object, symbol)));
+        return Err(undefined(alloc, referrer.loaded.object.symbol_name(symbol)));
     }
     if reference.unkept && !(reference.dropped && target.frames) {
         return Err(RelocFault::RefToDropped);

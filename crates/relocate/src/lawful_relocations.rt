@@ -1,7 +1,7 @@
 //! Whether the kept relocations of all objects are lawful.
 ghost use Rattle.std.specs.Prelude.{◌≡◌, ◌++◌, All, IfErr, IfOk, OnOk, Some, filter, map};
 ghost use Rattle.std.specs.List.{slice_get};
-ghost use Rattle.elf_model.specs.ObjectFile.{relas_of, sections};
+ghost use Rattle.elf_model.specs.ObjectFile.{sections};
 ghost use Rattle.elf_model.specs.Relocation.{AreLawfulRelocations, IsLawfulRelocation, is_some_kind, relocation_of, relocations_from, relocations_in};
 ghost use Rattle.layout.specs.Mixed.{AreMixed};
 ghost use Rattle.relocate.specs.Fields.{field_of};
@@ -13,7 +13,7 @@ use crate::faults::RelocFault;
 use crate::fields::{Field, are_apart};
 use crate::lawful_fields::lawful_field;
 use crate::referrer::{Referrer, Relocated};
-use crate::targets::{entries_of, is_some_kind};
+use crate::targets::is_some_kind;
 use elf_model::{Rela, SectionHeader};
 use layout::mixed_names;
 use resolve::Resolved;
@@ -120,7 +120,7 @@ fn add_section(
     ensures lawful { OnOk result (All (IsLawfulRelocation (all_of referrer.now)) (relocations_in referrer.now.number (referring referrer.now) header.now)) }
     ensures fault { IfErr result (RelocationsFail (all_of referrer.now) (relocations_in referrer.now.number (referring referrer.now) header.now)) }
 {
-    let entries = entries_of(&referrer.loaded.object, i, header);
+    let entries = referrer.loaded.entries_of(i, header);
     let target = referrer.relocated(header.sh_info as u64);
     add_fields(alloc, referrer, target, entries, fields)
 }

@@ -15,7 +15,7 @@ ghost use Rattle.relocate.specs.References.{IsObjectAt};
 ghost use Rattle.relocate.specs.Uses.{AreLinkerUses, IsUser, is_linkers, line_views, using};
 
 use crate::referrer::refers_often;
-use crate::targets::{entries_of, is_some_kind, name_of};
+use crate::targets::is_some_kind;
 use elf_model::{Bound, ObjectId, Rela, SectionHeader, SymbolRef};
 use resolve::{Definition, Resolved};
 use search::{Loaded, LoadedObject};
@@ -117,7 +117,7 @@ fn add_use<'a>(
     if !user.is_linker_use(j) {
         return Ok(());
     }
-    add_name(names, name_of(&user.loaded.object, j))
+    add_name(names, user.loaded.object.symbol_name(j))
 }
 
 /// Adds the linker's names that entries use which relocate the section `target` of an object.
@@ -152,7 +152,7 @@ fn add_section<'a>(
     requires rela { header.now.sh_type ≡ 4 }
     ensures { OnOk result (Gains user.now.resolved.now (relocations_in user.now.number (using user.now) header.now) names.old names.new) }
 {
-    let entries = entries_of(&user.loaded.object, i, header);
+    let entries = user.loaded.entries_of(i, header);
     add_entries(names, user, header.sh_info as u64, entries)
 }
 

@@ -9,7 +9,7 @@ ghost use Rattle.relocate.specs.Values.{ArePatchRows, FittingFails, IsRowCount, 
 use crate::faults::RelocFault;
 use crate::patch::Patch;
 use crate::symbol_values::Valued;
-use crate::targets::{entries_of, is_some_kind};
+use crate::targets::is_some_kind;
 use crate::values::{address_or_none, patch};
 use elf_model::{Rela, SectionHeader};
 use search::LoadedObject;
@@ -98,7 +98,7 @@ pub fn object_patches(alloc: Global, valued: &Valued<'_, '_>) -> Result<Vec<Vec<
         if !valued.loaded.is_kept_rela(i, &header) {
             continue;
         }
-        let entries = entries_of(&valued.loaded.object, i, &header);
+        let entries = valued.loaded.entries_of(i, &header);
         let target = header.sh_info as usize;
         let row = &mut rows[target];
         add_patches(valued, target as u64, entries, row)?;

@@ -1,14 +1,15 @@
 //! What a loaded object keeps: sections with SHF_ALLOC that aren't dropped with their groups, and the relocations of
 //! these.
-ghost use Rattle.std.specs.Prelude.{◌≡◌};
+ghost use Rattle.std.specs.Prelude.{◌≡◌, Some};
+ghost use Rattle.std.specs.List.{slice_get};
 ghost use Rattle.elf_model.specs.Loading.{is_dropped};
-ghost use Rattle.elf_model.specs.ObjectFile.{section, sections};
+ghost use Rattle.elf_model.specs.ObjectFile.{relas_of, section, sections};
 ghost use Rattle.elf_model.specs.Pieces.{is_kept};
 ghost use Rattle.elf_model.specs.Relocation.{is_kept_rela};
 ghost use Rattle.search.specs.Views.{loaded_view};
 
 use crate::loaded::LoadedObject;
-use elf_model::{SHT_RELA, SectionHeader};
+use elf_model::{Rela, SHT_RELA, SectionHeader};
 
 impl<'a> LoadedObject<'a> {
     /// Whether a section is dropped with its group, by its number.
@@ -43,5 +44,17 @@ impl<'a> LoadedObject<'a> {
         header.sh_type == SHT_RELA
             && !self.is_dropped(number)
             && self.is_kept_at(header.sh_info as usize)
+    }
+
+    /// The entries of RELA section `i`, which has the header.
+    pub fn entries_of(&self, i: usize, header: &SectionHeader) -> &[Rela]
+        requires there { slice_get (sections self.now.object) i ≡ Some header.now }
+        requires rela { header.now.sh_type ≡ 4 }
+        ensures { result.now ≡ relas_of self.entry.now.object header.now }
+    {
+        match self.object.relas(i) {
+            Some(entries) => entries,
+            None => &[],
+        }
     }
 }
