@@ -8,7 +8,7 @@ ghost use Rattle.elf_model.specs.OwnLayout.{IsNotTooLarge};
 ghost use Rattle.elf_model.specs.Pieces.{AreLawfulKinds};
 ghost use Rattle.image_write.specs.Parts.{EndsLow, slot_values};
 
-use crate::fills::code_of;
+use crate::fill_bytes::code_of;
 use crate::headers::{headers_size, put_headers};
 use crate::pieces::{Contents, put_places};
 use elf_model::ProgramHeader;

@@ -2,7 +2,7 @@
 //! between them.
 #![tactic(auto)]
 
-mod fills;
+mod fill_bytes;
 mod got;
 mod headers;
 mod image_file;

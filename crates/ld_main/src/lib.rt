@@ -9,7 +9,7 @@ mod phases;
 mod program;
 mod refusals;
 mod slot_lines;
-mod spellings;
+mod spelled_lines;
 
 pub use checker::{Clause, Verdict, check};
 pub use elf_model::LinkError;

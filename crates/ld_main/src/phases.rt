@@ -20,7 +20,7 @@ ghost use Rattle.ld_main.specs.Outputs.{AreLaidOut, AreLinkable, AreReferred, Ar
 use crate::listed_definitions::listed;
 use crate::own_map::{map_of_layout, meaning_value};
 use crate::refusals::{command_error, layout_error, reloc_error, resolve_error, search_error};
-use crate::spellings::show_spellings;
+use crate::spelled_lines::show_spellings;
 use command::read_words;
 use elf_model::{InputFile, LinkError, LinkMap};
 use got_tls::{Slots, slots};

@@ -16,9 +16,9 @@ ghost use Rattle.resolve.specs.Views.{symbol_views};
 ghost use Rattle.symbols.specs.Rows.{no_rows};
 
 use crate::blocks::{Block, blocks_of};
+use crate::candidates::{first_twin, keep_meant, offer_all};
 use crate::entries::{SymbolOf, is_definition, is_dropped, symbol_in};
 use crate::faults::ResolveFault;
-use crate::offers::{first_twin, keep_meant, offer_all};
 use crate::soundness::{are_sound, are_sound_commons};
 use search::LoadedObject;
 use std::alloc::{AllocError, Global};

@@ -6,8 +6,8 @@ ghost use Rattle.search.specs.Views.{loaded_view, loaded_views};
 ghost use Rattle.resolve.specs.Meaning.{named_at, named_of};
 ghost use Rattle.resolve.specs.Places.{ArePlaces, AreRanked, IsIndex, at_place, at_some, place_at, symbol_numbered};
 
+use crate::candidates::chosen_of;
 use crate::entries::{SymbolOf, is_dropped, is_local, is_strong};
-use crate::offers::chosen_of;
 use crate::rows::{place_at, put};
 use elf_model::Symbol;
 use search::LoadedObject;
