@@ -257,6 +257,14 @@ fn one_object<'a>(alloc: Global, bytes: &'a [u8]) -> Result<Vec<LoadedObject<'a>
     Ok(objects)
 }
 
+fn two_objects<'a>(alloc: Global, a: &'a [u8], b: &'a [u8]) -> Result<Vec<LoadedObject<'a>>, Fail>
+    ensures { IfOk result (λ v. AreObjects (loaded_views v.items)) }
+{
+    let mut objects = one_object(alloc, a)?;
+    objects.push(load(alloc, b)?)?;
+    Ok(objects)
+}
+
 /// The object of a file, alone.
 pub fn load_alone<'a>(alloc: Global, bytes: &'a [u8]) -> Result<Loaded<'a>, Fail> {
     let objects = one_object(alloc, bytes)?;
@@ -265,7 +273,6 @@ pub fn load_alone<'a>(alloc: Global, bytes: &'a [u8]) -> Result<Loaded<'a>, Fail
 
 /// The objects of two files.
 pub fn load_both<'a>(alloc: Global, a: &'a [u8], b: &'a [u8]) -> Result<Loaded<'a>, Fail> {
-    let mut objects = one_object(alloc, a)?;
-    objects.push(load(alloc, b)?)?;
+    let objects = two_objects(alloc, a, b)?;
     loaded_of(alloc, objects)
 }

@@ -4,7 +4,7 @@ use Rattle.std.proofs.lemmas.List.Elements.{All-push}
 use Rattle.elf_model.specs.Loading.{AreObjects, LoadedObject}
 use Rattle.elf_model.specs.ObjectFile.{IsObject}
 use Rattle.search.specs.Views.{loaded_view}
-use Rattle.layer_tests.proofs.objects.load_both.Goals as goal
+use Rattle.layer_tests.proofs.objects.two_objects.Goals as goal
 
 -- one more object
 objects_more :
