@@ -41,6 +41,6 @@ pub use places::Places;
 pub use requests::{Request, Wanted, is_thread, request_of_line};
 pub use sizes::{is_thread_zero, load_size};
 pub use slots::SlotTable;
-pub use symbols::{are_sound, name_of, section_of};
+pub use symbols::{are_sound, section_of};
 pub use things::{Meaning, Piece, Placed, SymbolOf};
 pub use thread_storage::thread_block;

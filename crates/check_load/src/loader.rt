@@ -64,10 +64,7 @@ impl<'a> Loaded<'a> {
     fn keeps(&self, number: usize) -> bool
         ensures { result ≡ is_kept (loaded_view self.now) number (section (sections self.now.object) number) }
     {
-        match self.object.sections().get(number) {
-            Some(header) => self.is_kept(number, header),
-            None => false,
-        }
+        self.is_kept(number, &self.object.section(number))
     }
 
     /// Whether a section, which has the header, is a RELA section that isn't dropped and relocates one that is kept.
