@@ -6,7 +6,7 @@ ghost use Rattle.elf_model.specs.declared.faults.ArFault.TheVariants as fault;
 use crate::index::{IndexEntry, is_index_first, names_members, read_index};
 use crate::members::{Member, data_at, ordinary_members};
 use crate::names::have_good_names;
-use crate::stored::read_members;
+use crate::stored_members::read_members;
 use byteview::{View, equal_run};
 use elf_model::ArFault;
 use std::alloc::Global;

@@ -7,7 +7,7 @@ ghost use Rattle.ar_index.specs.Reading.{AreAscending, HasNumbers, IsIndexFault}
 
 use crate::members::{Member, data_at};
 use crate::names::{is_index, is_wide_index};
-use crate::stored::StoredMember;
+use crate::stored_members::StoredMember;
 use byteview::{View, all_byte};
 use elf_model::ArFault;
 use std::alloc::Global;

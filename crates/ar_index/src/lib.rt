@@ -7,7 +7,7 @@ mod fields;
 mod index;
 mod members;
 mod names;
-mod stored;
+mod stored_members;
 
 pub use archive::Archive;
 pub use elf_model::ArFault;

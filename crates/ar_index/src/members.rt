@@ -4,7 +4,7 @@ ghost use Rattle.elf_model.specs.ArchiveFile as archive;
 ghost use Rattle.ar_index.specs.Reading.{AreAscending};
 
 use crate::names::is_ordinary;
-use crate::stored::StoredMember;
+use crate::stored_members::StoredMember;
 use byteview::View;
 use std::alloc::{AllocError, Global};
 use std::marker::Model;

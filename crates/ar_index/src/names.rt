@@ -6,7 +6,7 @@ ghost use Rattle.elf_model.specs.ArchiveFile.{HasGoodNames, HasLongText, IsNamed
 ghost use Rattle.ar_index.specs.Reading.{IsLimit, IsLongNameField};
 
 use crate::fields::{are_spaces, number_in};
-use crate::stored::StoredMember;
+use crate::stored_members::StoredMember;
 use byteview::{View, equal_run};
 
 fn has_name(member: &StoredMember<'_>, name: &[u8]) -> bool

@@ -11,7 +11,7 @@ use Rattle.std.specs.Str.{bytes_eq}
 use Rattle.elf_model.specs.Pieces.{Piece, is_executable, is_nobits, is_thread_local, is_writable, output_name, same_bool, same_output}
 use Rattle.elf_model.proofs.SameOutput.{same_output-sym, same_output-trans}
 use Rattle.check_link.specs.OutputSections.{IsOutputSection, section_order}
-use Rattle.check_link.specs.declared.output.OutputSection.{OutputSection}
+use Rattle.check_link.specs.declared.output_sections.OutputSection.{OutputSection}
 
 -- two pieces that are each of one output section with a third
 pub same_by_third : (p q r : Piece) → same_output p r ≡ true → same_output q r ≡ true → same_output p q ≡ true

@@ -23,7 +23,7 @@ use Rattle.elf_model.specs.Placement.{Placed}
 use Rattle.check_link.specs.Outputs.{AreOne, Seen, end_in, seen_all, seen_in, seen_more, seen_view, start_in, with_piece}
 use Rattle.check_link.specs.Views.{piece_view, piece_views}
 use Rattle.check_link.specs.declared.bounds.Span.{Span}
-use Rattle.check_link.specs.declared.outputs.Output.{Output}
+use Rattle.check_link.specs.declared.output_names.Output.{Output}
 use Rattle.check_link.specs.declared.things.Piece as code
 
 -- what a table has for each output name, once a piece of one came in

@@ -6,6 +6,5 @@ pub mod Outputs
 pub mod PieceParts
 pub mod PlaceIndex
 pub mod Slots
-pub mod Subjects
 pub mod ThreadStorage
 pub mod Views

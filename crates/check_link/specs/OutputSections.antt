@@ -2,8 +2,8 @@
 use Rattle.std.specs.Prelude.{◌≡◌}
 use Rattle.elf_model.specs.Pieces.{Piece, is_executable, is_nobits, is_thread_local, is_writable, output_name}
 use Rattle.std.specs.declared.cmp.Ordering.{Ordering}
-use Rattle.check_link.specs.contracts.output.OutputSectionOrd.TheImpl as section_ord
-use Rattle.check_link.specs.declared.output.OutputSection.{OutputSection}
+use Rattle.check_link.specs.contracts.output_sections.OutputSectionOrd.TheImpl as section_ord
+use Rattle.check_link.specs.declared.output_sections.OutputSection.{OutputSection}
 
 -- what pieces of one output section have in common
 pub record IsOutputSection (p : Piece) (s : OutputSection) : Type 0 where

@@ -10,7 +10,7 @@ use Rattle.elf_model.specs.Placement.{Placed}
 use Rattle.elf_model.proofs.PieceBounds.{earlier, further}
 use Rattle.check_link.specs.Views.{piece_view}
 use Rattle.check_link.specs.declared.bounds.Span.{Span}
-use Rattle.check_link.specs.declared.outputs.Output.{Output}
+use Rattle.check_link.specs.declared.output_names.Output.{Output}
 
 -- the first piece of an output name, and whether all pieces of the name are of its output section
 abbrev pub Seen : Type 0

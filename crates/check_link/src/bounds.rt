@@ -9,7 +9,7 @@ ghost use Rattle.check_link.specs.PieceParts.{AreBounds, AreInLimit, IsGotInLimi
 ghost use Rattle.check_link.specs.Outputs.{AreSpans, HasSpanned};
 ghost use Rattle.check_link.specs.Views.{piece_view, placed_view, placed_views};
 
-use crate::output::output_name;
+use crate::output_sections::output_name;
 use crate::sizes::is_thread_zero;
 use crate::things::{Piece, Placed};
 use elf_model::GotLine;

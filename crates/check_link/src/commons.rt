@@ -9,7 +9,7 @@ ghost use Rattle.check_link.specs.Chosen.{AreChosen};
 ghost use Rattle.check_link.specs.Commons.{HasAsked, HasGained, asked_in, block_in, is_block_symbol};
 ghost use Rattle.check_link.specs.Views.{block_view, block_views, symbol_view, symbol_views};
 
-use crate::chosen::is_chosen;
+use crate::chosen_definitions::is_chosen;
 use crate::definitions::{is_common, is_common_definition, is_definition};
 use crate::things::{Block, SymbolOf};
 use check_load::Loaded;

@@ -3,7 +3,7 @@
 #![tactic(auto)]
 
 mod bounds;
-mod chosen;
+mod chosen_definitions;
 mod common_lines;
 mod commons;
 mod definitions;
@@ -11,10 +11,10 @@ mod inputs;
 mod link;
 mod linker_names;
 mod names;
-mod output;
-mod outputs;
+mod output_names;
+mod output_sections;
 mod pieces;
-mod placed;
+mod placed_pieces;
 mod places;
 mod requests;
 mod sizes;
@@ -30,10 +30,10 @@ pub use inputs::{read_map, read_plan};
 pub use link::{Link, base_of, entry_of};
 pub use linker_names::{fixed_bound, named_output, output_bound};
 pub use names::Names;
-pub use output::output_section;
-pub use outputs::Outputs;
+pub use output_names::Outputs;
+pub use output_sections::output_section;
 pub use pieces::pieces_of;
-pub use placed::{
+pub use placed_pieces::{
     first_address, got_thing, got_things_of, place_all, thing_of_placed, things_of,
     thread_ranges_of,
 };
@@ -41,6 +41,6 @@ pub use places::Places;
 pub use requests::{Request, Wanted, is_thread, request_of_line};
 pub use sizes::{is_thread_zero, load_size};
 pub use slots::SlotTable;
-pub use symbols::{are_sound, name_of, section_of};
+pub use symbols::{are_sound, section_of};
 pub use things::{Meaning, Piece, Placed, SymbolOf};
 pub use thread_storage::thread_block;

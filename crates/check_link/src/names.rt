@@ -7,7 +7,7 @@ ghost use Rattle.elf_model.specs.Resolution.{AreSoundCommons, all_symbols, chose
 ghost use Rattle.check_load.specs.Views.{loaded_views};
 ghost use Rattle.check_link.specs.Views.{block_view, block_views, meaning_view, symbol_view, symbol_views};
 
-use crate::chosen::{index_names, is_chosen};
+use crate::chosen_definitions::{index_names, is_chosen};
 use crate::commons::{are_sound_commons, blocks_of, index_blocks};
 use crate::definitions::is_common;
 use crate::symbols::symbols_of;

@@ -1,7 +1,7 @@
 //! The symbols of the loaded objects, and whether they are sound: a part of the thirteenth clause.
 ghost use Rattle.std.specs.Prelude.{◌≡◌, ◌≤◌, ◌/◌, ◌↔◌, ◌++◌, [], All, IfOk, IsTrue, OnOk, true, unwrap_or};
 ghost use Rattle.std.specs.List.{slice_get};
-ghost use Rattle.elf_model.specs.ObjectFile.{symbol_name, symbols};
+ghost use Rattle.elf_model.specs.ObjectFile.{symbols};
 ghost use Rattle.elf_model.specs.Resolution.{AreSoundSymbols, IsSoundSymbol, StandsWell, all_symbols, binding, section_of, sections_of_object, symbols_from};
 ghost use Rattle.check_load.specs.Views.{loaded_view, loaded_views};
 ghost use Rattle.check_link.specs.Views.{symbol_view, symbol_views};
@@ -9,7 +9,6 @@ ghost use Rattle.check_link.specs.Views.{symbol_view, symbol_views};
 use crate::things::SymbolOf;
 use check_load::Loaded;
 use elf_model::{SHN_UNDEF, SectionHeader, Symbol};
-use elf_read::Object;
 use std::alloc::{AllocError, Global};
 
 /// The symbols of all objects, in load order.
@@ -39,22 +38,12 @@ fn add_symbols<'a>(
         found.push(SymbolOf {
             object: number,
             number: j as u64,
-            name: name_of(&loaded.object, j),
+            name: loaded.object.symbol_name(j),
             entry: *entry,
             dropped: loaded.is_dropped(entry.st_shndx as usize),
         })?;
     }
     Ok(())
-}
-
-/// The name of symbol `j`, empty where there is no such symbol.
-pub fn name_of<'a>(object: &Object<'a>, j: usize) -> &'a [u8]
-    ensures { result.now ≡ unwrap_or (symbol_name object.now j) [] }
-{
-    match object.name(j) {
-        Some(name) => name,
-        None => &[],
-    }
 }
 
 /// The sections of the object that has a number; none where there is no such object.

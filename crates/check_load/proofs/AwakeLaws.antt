@@ -9,7 +9,7 @@ use Rattle.std.proofs.lemmas.Bool.{eq-eqb, eqb-true, false≢true, false_from_ne
 use Rattle.elf_model.proofs.LoadingBounds.{by_case}
 use Rattle.check_load.specs.Awake.{is_awake, is_place}
 use Rattle.check_load.specs.Taken.{member_key}
-use Rattle.check_load.specs.declared.awake.Awake.{Awake}
+use Rattle.check_load.specs.declared.awake_entries.Awake.{Awake}
 use Rattle.check_load.proofs.TakenLaws.{or_of, tie}
 
 -- How two places compare.

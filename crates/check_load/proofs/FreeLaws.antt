@@ -12,9 +12,9 @@ use Rattle.check_load.specs.Awake.{is_awake, is_place}
 use Rattle.check_load.specs.Loaders.{AreFreeAwake, Knows, is_free, loaded}
 use Rattle.check_load.specs.Names.{Names}
 use Rattle.check_load.specs.Places.{IsAt}
-use Rattle.check_load.specs.declared.awake.Awake.{Awake}
+use Rattle.check_load.specs.declared.awake_entries.Awake.{Awake}
 use Rattle.check_load.specs.declared.loader.Loader.{Loader}
-use Rattle.check_load.specs.declared.taken.Taken.{Taken}
+use Rattle.check_load.specs.declared.taken_members.Taken.{Taken}
 
 -- the first that passes a test
 find_first :

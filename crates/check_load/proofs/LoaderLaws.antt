@@ -30,7 +30,7 @@ use Rattle.check_load.specs.Views.{loaded_view, loaded_views}
 use Rattle.check_load.specs.declared.loader.Loaded.{Loaded}
 use Rattle.check_load.specs.declared.loader.Loader.{Loader}
 use Rattle.check_load.specs.declared.stops.Stop.{Stop}
-use Rattle.check_load.specs.declared.taken.Taken.{Taken}
+use Rattle.check_load.specs.declared.taken_members.Taken.{Taken}
 use Rattle.check_load.specs.declared.stops.Stop.TheVariants as stop
 use Rattle.check_load.proofs.SignatureLaws.{list_by, lost_is, or_last}
 

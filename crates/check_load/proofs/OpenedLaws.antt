@@ -16,7 +16,7 @@ use Rattle.check_load.specs.Opened.{file_at, first_found, item_view}
 use Rattle.check_load.specs.Stops.{IsSearchable, Refutes}
 use Rattle.check_load.specs.declared.stops.Stop.{Stop}
 use Rattle.check_load.specs.declared.stops.Stop.TheVariants as stop
-use Rattle.check_load.specs.declared.opening.OpenedItem.{OpenedItem}
+use Rattle.check_load.specs.declared.opened_items.OpenedItem.{OpenedItem}
 
 -- a path without a file
 pub none_found : (files : List File) (paths : List (List ℕ)) → None ≡ first_found files paths → IsSome (find (is_file files) paths) → ⊥

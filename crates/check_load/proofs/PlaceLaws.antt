@@ -22,7 +22,7 @@ use Rattle.elf_model.proofs.LoadingBounds.{by_case}
 use Rattle.check_load.specs.Awake.{is_awake, is_place}
 use Rattle.check_load.specs.Names.{Names, requests_name}
 use Rattle.check_load.specs.Places.{ArePlaced, AreWokenSince, IsAt, IsPlaced, IsWoken, PlaceMap, has_place, places_in}
-use Rattle.check_load.specs.declared.awake.Awake.{Awake}
+use Rattle.check_load.specs.declared.awake_entries.Awake.{Awake}
 
 abbrev found : PlaceMap → List ℕ → Option (Vec (ℕ × ℕ))
 found names n = get_by (λ k. slice_cmp nat_cmp n k.now) names

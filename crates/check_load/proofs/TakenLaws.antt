@@ -4,7 +4,7 @@ use Rattle.std.specs.BTreeSet.{Updates}
 use Rattle.std.specs.Cmp.{tied_then, unsigned_ties}
 use Rattle.std.specs.Ordering.{is_eq, nat_cmp}
 use Rattle.check_load.specs.Taken.{has_item, has_member, member_key}
-use Rattle.check_load.specs.declared.taken.Taken.{Taken}
+use Rattle.check_load.specs.declared.taken_members.Taken.{Taken}
 
 -- two keys compare equal where both numbers are
 pub tie : (a b c d : ℕ) → is_eq (member_key (a, b) (c, d)) ≡ (a == c && b == d)

@@ -2,7 +2,7 @@
 use Rattle.std.specs.Prelude.{ℕ, ◌==◌, ◌&&◌, Bool}
 use Rattle.std.specs.BTreeSet.{btree_set_len, contains}
 use Rattle.check_load.specs.Taken.{member_key}
-use Rattle.check_load.specs.declared.awake.Awake.{Awake}
+use Rattle.check_load.specs.declared.awake_entries.Awake.{Awake}
 
 -- an item's number and an entry's are these
 abbrev pub is_place : ℕ → ℕ → ℕ × ℕ → Bool

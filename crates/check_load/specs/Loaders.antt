@@ -11,9 +11,9 @@ use Rattle.check_load.specs.Places.{IsAt}
 use Rattle.check_load.specs.Signatures.{seen_in}
 use Rattle.check_load.specs.Taken.{has_item, has_member}
 use Rattle.check_load.specs.Views.{loaded_views}
-use Rattle.check_load.specs.declared.awake.Awake.{Awake}
+use Rattle.check_load.specs.declared.awake_entries.Awake.{Awake}
 use Rattle.check_load.specs.declared.loader.Loader.{Loader}
-use Rattle.check_load.specs.declared.taken.Taken.{Taken}
+use Rattle.check_load.specs.declared.taken_members.Taken.{Taken}
 
 abbrev pub loaded : Loader → List LoadedObject
 loaded l = loaded_views l.objects.items

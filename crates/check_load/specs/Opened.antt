@@ -4,7 +4,7 @@ use Rattle.std.specs.Borrow.{Bor}
 use Rattle.std.specs.List.{find}
 use Rattle.elf_model.specs.Files.{File}
 use Rattle.elf_model.specs.Opening.{Opened, file_named, is_file}
-use Rattle.check_load.specs.declared.opening.OpenedItem.{OpenedItem}
+use Rattle.check_load.specs.declared.opened_items.OpenedItem.{OpenedItem}
 
 abbrev pub found_view : Bor (List ℕ) × Bor (List ℕ) → File
 found_view f = record { name = f.0.now; bytes = f.1.now }

@@ -10,7 +10,7 @@ use Rattle.elf_model.specs.ArchiveFile.{IndexEntry}
 use Rattle.elf_model.specs.Opening.{Opened, archive_entries}
 use Rattle.check_load.specs.Awake.{is_awake, is_place}
 use Rattle.check_load.specs.Names.{Names, requests_name}
-use Rattle.check_load.specs.declared.awake.Awake.{Awake}
+use Rattle.check_load.specs.declared.awake_entries.Awake.{Awake}
 
 abbrev pub PlaceMap : Type 0
 PlaceMap = BTreeMap (Bor (List ℕ)) (Vec (ℕ × ℕ))

@@ -3,7 +3,7 @@ use Rattle.std.specs.Prelude.{ℕ, Bool}
 use Rattle.std.specs.BTreeSet.{contains}
 use Rattle.std.specs.Ordering.{nat_cmp, ordering_then}
 use Rattle.std.specs.declared.cmp.Ordering.{Ordering}
-use Rattle.check_load.specs.declared.taken.Taken.{Taken}
+use Rattle.check_load.specs.declared.taken_members.Taken.{Taken}
 
 -- how an item's number and an offset compare with others
 abbrev pub member_key : ℕ × ℕ → ℕ × ℕ → Ordering

@@ -5,7 +5,7 @@ ghost use Rattle.elf_model.specs.Opening.{archive_data, archive_entries, archive
 ghost use Rattle.check_load.specs.Opened.{item_view};
 ghost use Rattle.check_load.specs.Stops.{IsSearchable, Refutes};
 
-use crate::opening::OpenedItem;
+use crate::opened_items::OpenedItem;
 use crate::stops::Stop;
 use ar_index::{Archive, IndexEntry, Member};
 use byteview::View;

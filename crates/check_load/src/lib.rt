@@ -2,23 +2,23 @@
 #![tactic(auto)]
 
 mod archives;
-mod awake;
+mod awake_entries;
 mod files;
 mod lawfulness;
+mod load_steps;
 mod loader;
-mod loading;
 mod marks;
 mod names;
-mod opening;
+mod opened_items;
 mod places;
 #[cfg(test)]
 mod plans;
-mod runs;
+mod rounds;
 mod signatures;
 mod stops;
-mod taken;
+mod taken_members;
 mod turns;
 
+pub use load_steps::open;
 pub use loader::Loaded;
-pub use loading::open;
 pub use signatures::Dropped;

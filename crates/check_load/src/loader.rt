@@ -15,13 +15,13 @@ ghost use Rattle.check_load.specs.Taken.{has_item};
 ghost use Rattle.check_load.specs.Views.{loaded_view, loaded_views};
 
 use crate::archives::Input;
-use crate::awake::Awake;
+use crate::awake_entries::Awake;
 use crate::names::{NameState, note_object, roots, state_of};
-use crate::opening::OpenedItem;
+use crate::opened_items::OpenedItem;
 use crate::places::Places;
 use crate::signatures::{Dropped, admit};
 use crate::stops::Stop;
-use crate::taken::Taken;
+use crate::taken_members::Taken;
 use ar_index::IndexEntry;
 use byteview::View;
 use command::Plan;
@@ -64,10 +64,7 @@ impl<'a> Loaded<'a> {
     fn keeps(&self, number: usize) -> bool
         ensures { result ≡ is_kept (loaded_view self.now) number (section (sections self.now.object) number) }
     {
-        match self.object.sections().get(number) {
-            Some(header) => self.is_kept(number, header),
-            None => false,
-        }
+        self.is_kept(number, &self.object.section(number))
     }
 
     /// Whether a section, which has the header, is a RELA section that isn't dropped and relocates one that is kept.

@@ -8,7 +8,7 @@ ghost use Rattle.check_load.specs.Awake.{is_awake};
 ghost use Rattle.check_load.specs.Places.{AreWokenSince, IsWoken, none_asked};
 ghost use Rattle.check_load.specs.Names.{asked_in, defined_in, defines_name, requests_name};
 
-use crate::awake::Awake;
+use crate::awake_entries::Awake;
 use crate::places::Places;
 use crate::signatures::Dropped;
 use elf_model::{SHN_UNDEF, STB_GLOBAL, STB_WEAK, Symbol};

@@ -6,7 +6,7 @@ ghost use Rattle.check_load.specs.Awake.{is_awake};
 ghost use Rattle.check_load.specs.Places.{IsWoken, ArePlaced, IsPlaced, has_place, places_in};
 
 use crate::archives::Input;
-use crate::awake::Awake;
+use crate::awake_entries::Awake;
 use ar_index::IndexEntry;
 use std::alloc::{AllocError, Global};
 use std::collections::BTreeMap;

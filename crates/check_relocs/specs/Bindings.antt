@@ -1,5 +1,5 @@
 -- What the names and the symbols of objects mean.
-use Rattle.std.specs.Prelude.{◌≡◌, ◌↔◌, ℕ, ◌%◌, ◌^◌, ◌<◌, ◌&&◌, not, true, false, IsTrue, List, Option, IsSomeAnd, length, option_map, slice_index_or, unwrap_or}
+use Rattle.std.specs.Prelude.{◌≡◌, ◌↔◌, ℕ, ◌%◌, ◌^◌, ◌<◌, ◌&&◌, not, true, false, IsTrue, List, IsSomeAnd, length, option_map, slice_index_or, unwrap_or}
 use Rattle.std.specs.Option.{option_map_or}
 use Rattle.elf_model.specs.Loading.{LoadedObject}
 use Rattle.elf_model.specs.Pieces.{is_alloc}

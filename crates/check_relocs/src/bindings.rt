@@ -156,6 +156,13 @@ impl<'l, 'p, 'a> Bindings<'l, 'p, 'a> {
         }
     }
 
+    /// The loaded objects.
+    pub fn objects(&self) -> &[Loaded<'a>]
+        ensures { loaded_views result.now ≡ self.entry.now.objects }
+    {
+        self.names.objects()
+    }
+
     /// The symbols of the objects, in load order.
     pub fn symbols(&self) -> &[SymbolOf<'a>]
         ensures { symbol_views result.now ≡ all_symbols self.entry.now.objects }

@@ -1,7 +1,7 @@
 //! The fields of all kept relocations, object by object and in order: the ninth clause of a right link.
 ghost use Rattle.std.specs.Prelude.{◌≡◌, ◌↔◌, ◌++◌, All, IfOk, IfSome, IsSome, IsTrue, Some, filter, map};
 ghost use Rattle.std.specs.List.{slice_get};
-ghost use Rattle.elf_model.specs.ObjectFile.{relas_of, section, sections};
+ghost use Rattle.elf_model.specs.ObjectFile.{section, sections};
 ghost use Rattle.elf_model.specs.Relocation.{AreLawfulRelocations, is_some_kind, relocation_of, relocations, relocations_from, relocations_in};
 ghost use Rattle.elf_model.specs.RelocationValues.{AllFit};
 ghost use Rattle.elf_model.specs.Placement.{section_address};
@@ -24,28 +24,6 @@ pub fn is_some_kind(entry: &Rela) -> bool
     ensures { result ≡ is_some_kind entry.now }
 {
     entry.kind() != 0
-}
-
-/// The entries of RELA section `i`, which has the header.
-pub fn entries_of<'o>(object: &'o Object<'_>, i: usize, header: &SectionHeader) -> &'o [Rela]
-    requires there { slice_get (sections object.now) i ≡ Some header.now }
-    requires rela { header.now.sh_type ≡ 4 }
-    ensures { result.now ≡ relas_of object.entry.now header.now }
-{
-    match object.relas(i) {
-        Some(entries) => entries,
-        None => &[],
-    }
-}
-
-/// The size of a section in bytes, 0 where there is no such section.
-fn size_at(object: &Object<'_>, number: usize) -> u64
-    ensures { result ≡ (section (sections object.now) number).sh_size }
-{
-    match object.sections().get(number) {
-        Some(header) => header.sh_size,
-        None => 0,
-    }
 }
 
 /// Whether a section has the name `.eh_frame`.
@@ -72,7 +50,7 @@ fn relocated(
 {
     Relocated {
         section: target as u64,
-        size: size_at(object, target as usize),
+        size: object.section(target as usize).sh_size,
         address: bindings.address_of(number, target as u64),
         frames: is_frames(object, target as usize),
     }
@@ -126,7 +104,7 @@ fn add_section<'a>(
     ensures fields { IfOk result (λ b. IsTrue b → fields.new.items ≡ fields.old.items ++ map (field_of bindings.now.objects bindings.now.places) (relocations_in number (loaded_view loaded.now) header.now)) }
 {
     let to = relocated(bindings, number, &loaded.object, header.sh_info);
-    let entries = entries_of(&loaded.object, i, header);
+    let entries = loaded.object.entries(i);
     let right = add_fields(bindings, targets, number, loaded, &to, entries, fields)?;
     Ok(right)
 }
@@ -176,15 +154,14 @@ fn object_row<'a>(
 }
 
 /// The rows of all objects; None where relocations aren't right.
-fn all_rows<'a>(
+fn all_rows(
     alloc: Global,
-    bindings: &Bindings<'_, '_, 'a>,
-    objects: &[Loaded<'a>],
+    bindings: &Bindings<'_, '_, '_>,
 ) -> Result<Option<Vec<Vec<Field>>>, AllocError>
-    requires { bindings.now.objects ≡ loaded_views objects.now }
-    ensures right { IfOk result (λ o. IsSome o ↔ AreRight (loaded_views objects.now) bindings.now.places (relocations (loaded_views objects.now))) }
-    ensures rows { IfOk result (λ o. IfSome o (λ v. AreRows (loaded_views objects.now) bindings.now.places v.items)) }
+    ensures right { IfOk result (λ o. IsSome o ↔ AreRight bindings.now.objects bindings.now.places (relocations bindings.now.objects)) }
+    ensures rows { IfOk result (λ o. IfSome o (λ v. AreRows bindings.now.objects bindings.now.places v.items)) }
 {
+    let objects = bindings.objects();
     let mut rows = Vec::with_capacity(alloc, objects.len())?;
     for k in 0..objects.len() {
         let Some(row) = object_row(alloc, bindings, k as u64, &objects[k])? else {
@@ -197,15 +174,13 @@ fn all_rows<'a>(
 
 /// The fields of all kept relocations, a row for each object, where each relocation is lawful, its value fits
 /// and no byte lies in two fields; None where that doesn't hold.
-pub fn fields_right<'a>(
+pub fn fields_right(
     alloc: Global,
-    bindings: &Bindings<'_, '_, 'a>,
-    objects: &[Loaded<'a>],
+    bindings: &Bindings<'_, '_, '_>,
 ) -> Result<Option<Vec<Vec<Field>>>, AllocError>
-    requires { bindings.now.objects ≡ loaded_views objects.now }
-    ensures right { IfOk result (λ o. IsSome o ↔ (AreLawfulRelocations (loaded_views objects.now) × AllFit (loaded_views objects.now) bindings.now.places)) }
-    ensures rows { IfOk result (λ o. IfSome o (λ v. AreRows (loaded_views objects.now) bindings.now.places v.items)) }
+    ensures right { IfOk result (λ o. IsSome o ↔ (AreLawfulRelocations bindings.now.objects × AllFit bindings.now.objects bindings.now.places)) }
+    ensures rows { IfOk result (λ o. IfSome o (λ v. AreRows bindings.now.objects bindings.now.places v.items)) }
 {
-    let rows = all_rows(alloc, bindings, objects)?;
+    let rows = all_rows(alloc, bindings)?;
     Ok(rows)
 }

@@ -14,9 +14,9 @@ ghost use Rattle.check_relocs.specs.LinkerUses.{AreUses};
 ghost use Rattle.check_link.specs.Views.{meaning_views, symbol_view};
 
 use crate::bindings::Bindings;
-use crate::field_rows::{entries_of, is_some_kind};
+use crate::field_rows::is_some_kind;
 use crate::targets::symbol_at;
-use check_link::{Meaning, SymbolOf, name_of};
+use check_link::{Meaning, SymbolOf};
 use check_load::Loaded;
 use elf_model::{Rela, STB_LOCAL, SectionHeader};
 use std::alloc::{AllocError, Global};
@@ -90,7 +90,7 @@ fn add_use<'a>(
     if !is_use(bindings, uses, number, loaded, j) {
         return Ok(());
     }
-    add_name(names, name_of(&loaded.object, j))
+    add_name(names, loaded.object.symbol_name(j))
 }
 
 /// Adds the linker's names that entries use which relocate the section `to` of the object that has a number.
@@ -131,7 +131,7 @@ fn add_section<'a>(
     requires rela { header.now.sh_type ≡ 4 }
     ensures { OnOk result (Gains bindings.now.objects (relocations_in number (loaded_view loaded.now) header.now) names.old names.new) }
 {
-    let entries = entries_of(&loaded.object, i, header);
+    let entries = loaded.object.entries(i);
     add_entries(
         names,
         bindings,
@@ -169,11 +169,10 @@ fn add_object<'a>(
 fn used_names<'a>(
     alloc: Global,
     bindings: &Bindings<'_, '_, 'a>,
-    objects: &[Loaded<'a>],
 ) -> Result<BTreeSet<&'a [u8]>, AllocError>
-    requires { bindings.now.objects ≡ loaded_views objects.now }
-    ensures { IfOk result (λ s. (n : List ℕ) → is_among s n ≡ list_any (uses_line (loaded_views objects.now) n) (relocations (loaded_views objects.now))) }
+    ensures { IfOk result (λ s. (n : List ℕ) → is_among s n ≡ list_any (uses_line bindings.now.objects n) (relocations bindings.now.objects)) }
 {
+    let objects = bindings.objects();
     let mut names = BTreeSet::new(alloc);
     for k in 0..objects.len() {
         add_object(alloc, &mut names, bindings, k as u64, &objects[k])?;
@@ -215,12 +214,10 @@ fn lines_of<'a>(
 pub fn linker_lines<'a>(
     alloc: Global,
     bindings: &Bindings<'_, '_, 'a>,
-    objects: &[Loaded<'a>],
 ) -> Result<Vec<Meaning<'a>>, AllocError>
-    requires { bindings.now.objects ≡ loaded_views objects.now }
-    ensures { IfOk result (λ v. AreLinkerLines (loaded_views objects.now) (meaning_views v.items)) }
+    ensures { IfOk result (λ v. AreLinkerLines bindings.now.objects (meaning_views v.items)) }
 {
-    let names = used_names(alloc, bindings, objects)?;
+    let names = used_names(alloc, bindings)?;
     let lines = lines_of(alloc, bindings, &names)?;
     Ok(lines)
 }

@@ -14,7 +14,7 @@ ghost use Rattle.check_link.specs.Views.{symbol_view};
 
 use crate::bindings::Bindings;
 use crate::entry_requests::{request_of, speaks_of_got};
-use crate::field_rows::{entries_of, is_some_kind};
+use crate::field_rows::is_some_kind;
 use crate::kinds::kind_of;
 use crate::targets::symbol_at;
 use check_link::{Request, SymbolOf};
@@ -184,7 +184,7 @@ fn add_section<'a>(
     requires rela { header.now.sh_type ≡ 4 }
     ensures { OnOk result (HaveGained bindings.now.objects (relocations_in number (loaded_view loaded.now) header.now) needs.old needs.new) }
 {
-    let entries = entries_of(&loaded.object, i, header);
+    let entries = loaded.object.entries(i);
     add_entries(
         needs,
         bindings,
@@ -219,14 +219,10 @@ fn add_object<'a>(
 }
 
 /// What the kept relocations of all objects ask of the GOT.
-pub fn needs_of<'a>(
-    alloc: Global,
-    bindings: &Bindings<'_, '_, 'a>,
-    objects: &[Loaded<'a>],
-) -> Result<Needs<'a>, AllocError>
-    requires { bindings.now.objects ≡ loaded_views objects.now }
-    ensures { IfOk result (AreNeeds (loaded_views objects.now)) }
+pub fn needs_of<'a>(alloc: Global, bindings: &Bindings<'_, '_, 'a>) -> Result<Needs<'a>, AllocError>
+    ensures { IfOk result (AreNeeds bindings.now.objects) }
 {
+    let objects = bindings.objects();
     let mut needs = Needs {
         got: false,
         requests: BTreeSet::new(alloc),

@@ -1,26 +1,14 @@
 //! What the symbols of an object mean to its relocations, each looked up once.
-ghost use Rattle.std.specs.Prelude.{◌≡◌, IfOk, slice_index_or};
-ghost use Rattle.elf_model.specs.ObjectFile.{null_symbol, symbols};
+ghost use Rattle.std.specs.Prelude.{◌≡◌, IfOk};
 ghost use Rattle.elf_model.specs.Relocation.{symbol_at};
 ghost use Rattle.check_relocs.specs.Bindings.{AreTargets, IsTargetOf};
 ghost use Rattle.check_load.specs.Views.{loaded_view};
 ghost use Rattle.check_link.specs.Views.{symbol_view};
 
 use crate::bindings::Bindings;
-use check_link::{SymbolOf, name_of};
+use check_link::SymbolOf;
 use check_load::Loaded;
-use elf_model::Symbol;
-use elf_read::Object;
 use std::alloc::{AllocError, Global};
-
-const NULL_SYMBOL: Symbol = Symbol {
-    st_name: 0,
-    st_info: 0,
-    st_other: 0,
-    st_shndx: 0,
-    st_value: 0,
-    st_size: 0,
-};
 
 /// What a symbol means to relocations: whether it is in want of a definition, whether it is a LOCAL one of a
 /// section that isn't kept, whether it stands in a dropped section, whether its definition is a bound of sections of
@@ -41,23 +29,13 @@ pub struct Target {
 pub fn symbol_at<'a>(loaded: &Loaded<'a>, number: u64, j: usize) -> SymbolOf<'a>
     ensures { symbol_view result ≡ symbol_at number (loaded_view loaded.now) j }
 {
-    let entry = entry_of(&loaded.object, j);
+    let entry = loaded.object.symbol(j);
     SymbolOf {
         object: number,
         number: j as u64,
-        name: name_of(&loaded.object, j),
+        name: loaded.object.symbol_name(j),
         entry,
         dropped: loaded.is_dropped(entry.st_shndx as usize),
-    }
-}
-
-/// The entry of symbol `j`, that of the null symbol where there is no such symbol.
-fn entry_of(object: &Object<'_>, j: usize) -> Symbol
-    ensures { result ≡ slice_index_or (symbols object.now) j null_symbol }
-{
-    match object.symbols().get(j) {
-        Some(entry) => *entry,
-        None => NULL_SYMBOL,
     }
 }
 

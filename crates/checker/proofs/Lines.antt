@@ -7,7 +7,7 @@ use Rattle.elf_model.specs.RightLink.{facts_of_piece, facts_of_row, object_rows}
 use Rattle.elf_model.specs.declared.link_map.ObjectLine.{ObjectLine}
 use Rattle.elf_model.specs.declared.link_map.PlaceLine.{PlaceLine}
 use Rattle.elf_model.proofs.Rests.{Left}
-use Rattle.check_link.specs.Subjects.{row_of}
+use Rattle.checker.specs.ObjectLines.{row_of}
 use Rattle.check_load.specs.Views.{loaded_view, loaded_views}
 use Rattle.check_link.specs.Views.{piece_view, piece_views}
 use Rattle.check_load.specs.declared.loader.Loaded.{Loaded}

@@ -7,7 +7,7 @@ use Rattle.elf_model.specs.Placement as placement
 use Rattle.elf_model.specs.Placement.{IsNear}
 use Rattle.check_link.specs.OutputSections.{IsOutputSection, section_order}
 use Rattle.check_link.specs.Views.{placed_view, placed_views}
-use Rattle.check_link.specs.declared.output.OutputSection.{OutputSection}
+use Rattle.check_link.specs.declared.output_sections.OutputSection.{OutputSection}
 use Rattle.check_link.specs.declared.things.Placed.{Placed}
 use Rattle.checker.proofs.NextPieces.{HasLasts, IsLast, NearFrom, StandsAt, lasts_more, near_more, near_stop}
 use Rattle.elf_model.proofs.Rests.{Left}

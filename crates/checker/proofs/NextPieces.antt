@@ -6,7 +6,7 @@ use Rattle.std.specs.Ordering.{is_eq}
 use Rattle.elf_model.specs.Pieces.{Piece, same_output}
 use Rattle.elf_model.specs.Placement.{IsNear, IsNext, Placed}
 use Rattle.check_link.specs.OutputSections.{IsOutputSection, section_order}
-use Rattle.check_link.specs.declared.output.OutputSection.{OutputSection}
+use Rattle.check_link.specs.declared.output_sections.OutputSection.{OutputSection}
 use Rattle.check_link.proofs.Padded.{below_or_not}
 use Rattle.elf_model.proofs.Rests.{Left}
 use Rattle.check_link.proofs.SameOutput.{differ_by_third, same_by_third, sections_tie}

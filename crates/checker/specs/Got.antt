@@ -1,21 +1,15 @@
 -- What the seventh clause asks of a GOT and its slots, by what names mean.
-use Rattle.std.specs.Prelude.{◌≡◌, ℕ, ◌+◌, ◌<◌, ◌≤◌, ◌^◌, Any, IfSome, List, Some, is_some, length, slice_index}
+use Rattle.std.specs.Prelude.{◌≡◌, ℕ, ◌+◌, ◌<◌, ◌≤◌, ◌^◌, Any, List, Some, length, slice_index}
 use Rattle.elf_model.specs.Loading.{LoadedObject}
 use Rattle.elf_model.specs.MapRecord.{SlotRow}
 use Rattle.elf_model.specs.MemoryImage.{Encloses, loads}
-use Rattle.elf_model.specs.Placement.{Where}
-use Rattle.elf_model.specs.RightLink.{HasSlot, HoldsGot, byte_at}
-use Rattle.elf_model.specs.Slots.{Request, has_got}
+use Rattle.elf_model.specs.RightLink.{HasSlot, byte_at}
+use Rattle.elf_model.specs.Slots.{Request}
 use Rattle.elf_model.specs.declared.link_map.GotLine.{GotLine}
 
 -- there is a slot for each request of a relocation, and for no other
 abbrev pub HaveSlots : List SlotRow → List LoadedObject → Type 0
 HaveSlots rows objects = (q : Request) → HasSlot rows objects q
-
-pub record IsGot (objects : List LoadedObject) (w : Where) (image : List ℕ) : Type 0 where
-  pub present : is_some w.got ≡ has_got objects
-  pub slots : HaveSlots w.slots objects
-  pub held : IfSome w.got (HoldsGot objects w image)
 
 -- a GOT lies whole in a segment of the image, and ends at or below 2 ^ 46
 pub record LiesInImage (image : List ℕ) (got : GotLine) : Type 0 where

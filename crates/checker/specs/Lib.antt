@@ -2,7 +2,9 @@ pub mod Entering
 pub mod Filled
 pub mod Got
 pub mod Judged
+pub mod Links
 pub mod Listed
 pub mod Neighbours
+pub mod ObjectLines
 pub mod Sweeps
 pub mod ThreadBlock

@@ -2,9 +2,9 @@
 ghost use Rattle.std.specs.Prelude.{◌≡◌, ◌↔◌, IsTrue, map};
 ghost use Rattle.elf_model.specs.MapRecord.{object_row};
 ghost use Rattle.elf_model.specs.RightLink.{IsLoaded, object_rows, objects_of};
-ghost use Rattle.check_link.specs.Subjects.{row_of, subject_of};
 ghost use Rattle.check_load.specs.Plans.{CanLoad};
 ghost use Rattle.check_load.specs.Views.{loaded_view, loaded_views};
+ghost use Rattle.checker.specs.ObjectLines.{row_of};
 
 use check_link::Link;
 use check_load::Loaded;
@@ -37,9 +37,9 @@ fn are_lines_of(lines: &[ObjectLine], objects: &[Loaded<'_>]) -> bool
 
 /// Whether the map's object lines of a link are those of its objects, which were opened.
 pub fn holds(link: &Link<'_>, objects: &[Loaded<'_>]) -> bool
-    requires loaded { loaded_views objects.now ≡ objects_of (subject_of link.now) }
-    requires opened { CanLoad (subject_of link.now).files link.now.plan }
-    ensures { IsTrue result ↔ IsLoaded (subject_of link.now) }
+    requires loaded { loaded_views objects.now ≡ objects_of link.now }
+    requires opened { CanLoad link.now.files link.now.plan }
+    ensures { IsTrue result ↔ IsLoaded link.now }
 {
     are_lines_of(&link.map.objects, objects)
 }

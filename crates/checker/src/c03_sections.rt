@@ -2,15 +2,14 @@
 //! are those of the objects.
 ghost use Rattle.std.specs.Prelude.{◌≡◌, ◌↔◌, IfOk, IsTrue, map};
 ghost use Rattle.elf_model.specs.MapRecord.{place_row};
-ghost use Rattle.elf_model.specs.ObjectFile.{sections};
-ghost use Rattle.elf_model.specs.Pieces as piece_words;
-ghost use Rattle.elf_model.specs.RightLink.{AreSectionsListed, drop_rows, facts_of_piece, facts_of_row, objects_of};
-ghost use Rattle.check_link.specs.Subjects.{subject_of};
+ghost use Rattle.elf_model.specs.RightLink.{Holds, drop_rows, facts_of_piece, facts_of_row, objects_of};
+ghost use Rattle.elf_model.specs.declared.verdict.Clause.TheVariants as clause;
 ghost use Rattle.check_link.specs.Views.{piece_view, piece_views};
 
 use crate::c03_sections::drops::{are_drops, drops_of};
 use crate::c03_sections::kinds::are_lawful_kinds;
-use check_link::{CommonLines, Link, Names, Piece};
+use crate::loaded_link::LoadedLink;
+use check_link::Piece;
 use elf_model::{DropLine, PlaceLine};
 use std::alloc::{AllocError, Global};
 
@@ -43,45 +42,30 @@ fn are_lines_of(lines: &[PlaceLine], pieces: &[Piece<'_>]) -> bool
 }
 
 /// Whether the third clause holds of a link.
-pub fn holds(
-    alloc: Global,
-    link: &Link<'_>,
-    names: &Names<'_, '_>,
-    pieces: &[Piece<'_>],
-    lines: &CommonLines<'_>,
-) -> Result<bool, AllocError>
-    requires names { names.now ≡ objects_of (subject_of link.now) }
-    requires pieces { piece_views pieces.now ≡ piece_words.kept_sections (objects_of (subject_of link.now)) }
-    requires lines { lines.now ≡ (subject_of link.now).map.commons }
-    ensures { IfOk result (λ b. IsTrue b ↔ AreSectionsListed (subject_of link.now)) }
+pub fn holds(alloc: Global, loaded: &LoadedLink<'_, '_>) -> Result<bool, AllocError>
+    ensures { IfOk result (λ b. IsTrue b ↔ Holds clause.C3 loaded.now) }
 {
-    let drops = drops_of(alloc, names.objects())?;
-    let listed = are_sections_listed(link, names, pieces, &drops, lines);
+    let drops = drops_of(alloc, loaded.names().objects())?;
+    let listed = are_sections_listed(loaded, &drops);
     Ok(listed)
 }
 
 /// Whether each piece is of a lawful kind, the common symbols are sound, and the drop, place and common lines of a link's
 /// map are those of its dropped sections, its pieces and its common blocks.
-fn are_sections_listed(
-    link: &Link<'_>,
-    names: &Names<'_, '_>,
-    pieces: &[Piece<'_>],
-    drops: &[DropLine],
-    lines: &CommonLines<'_>,
-) -> bool
-    requires names { names.now ≡ objects_of (subject_of link.now) }
-    requires pieces { piece_views pieces.now ≡ piece_words.kept_sections (objects_of (subject_of link.now)) }
-    requires lines { lines.now ≡ (subject_of link.now).map.commons }
-    requires drops { drops.now ≡ drop_rows 0 (objects_of (subject_of link.now)) }
-    ensures { IsTrue result ↔ AreSectionsListed (subject_of link.now) }
+fn are_sections_listed(loaded: &LoadedLink<'_, '_>, drops: &[DropLine]) -> bool
+    requires { drops.now ≡ drop_rows 0 (objects_of loaded.now) }
+    ensures { IsTrue result ↔ Holds clause.C3 loaded.now }
 {
+    let names = loaded.names();
+    let pieces = loaded.pieces();
+    let link = loaded.link();
     if !are_lawful_kinds(pieces) {
         return false;
     }
     if !names.are_sound_commons() {
         return false;
     }
-    if !lines.are_of_blocks(names) {
+    if !loaded.lines().are_of_blocks(names) {
         return false;
     }
     if !are_drops(&link.map.drops, drops) {

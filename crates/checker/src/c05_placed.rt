@@ -1,15 +1,15 @@
 //! C5: whether all things are aligned, within the addresses and apart, and the pieces of an output section near one another.
 ghost use Rattle.std.specs.Prelude.{◌≡◌, ◌<◌, ◌^◌, ◌%◌, ◌↔◌, All, AllPairs, IfOk, IsTrue};
 ghost use Rattle.elf_model.specs.ArrayOrder.{placed_in_array_order};
-ghost use Rattle.elf_model.specs.Placement.{AreApart, IsPlaced, IsWithin, thread_ranges};
+ghost use Rattle.elf_model.specs.Placement.{AreApart, IsPlaced, IsWithin};
 ghost use Rattle.check_link.specs.Views.{placed_views};
-ghost use Rattle.elf_model.specs.RightLink.{Holds, placed_of, sections_of, things_of};
+ghost use Rattle.elf_model.specs.RightLink.{Holds};
 ghost use Rattle.elf_model.specs.declared.verdict.Clause.TheVariants as clause;
-ghost use Rattle.check_link.specs.Subjects.{subject_of};
 
 use crate::c05_placed::apart::share_no_address;
 use crate::c05_placed::array_order::are_near_in_array_order;
-use check_link::{Link, Placed, base_of};
+use crate::placed_link::PlacedLink;
+use check_link::{Placed, base_of, thread_ranges_of};
 use elf_model::Thing;
 use std::alloc::{AllocError, Global};
 
@@ -18,20 +18,19 @@ mod array_order;
 mod neighbours;
 
 /// Whether the fifth clause holds of a link.
-pub fn holds(
-    alloc: Global,
-    link: &Link<'_>,
-    things: &[Thing],
-    threads: &[Thing],
-    sections: &[Placed<'_>],
-) -> Result<bool, AllocError>
-    requires things { things.now ≡ things_of (subject_of link.now) }
-    requires threads { threads.now ≡ thread_ranges (placed_of (subject_of link.now)) }
-    requires sections { placed_views sections.now ≡ sections_of (subject_of link.now) }
-    ensures { IfOk result (λ b. IsTrue b ↔ Holds clause.C5 (subject_of link.now)) }
+pub fn holds(alloc: Global, placed: &PlacedLink<'_, '_>) -> Result<bool, AllocError>
+    ensures { IfOk result (λ b. IsTrue b ↔ Holds clause.C5 placed.now) }
 {
-    let placed = is_placed(alloc, base_of(&link.plan), things, threads, sections)?;
-    Ok(placed)
+    let link = placed.link();
+    let threads = thread_ranges_of(alloc, placed.placed())?;
+    let right = is_placed(
+        alloc,
+        base_of(&link.plan),
+        placed.things(),
+        &threads,
+        placed.sections(),
+    )?;
+    Ok(right)
 }
 
 /// Addresses end here.

@@ -1,24 +1,23 @@
 //! C6: whether each thing lies in a segment with exactly its rights.
 ghost use Rattle.std.specs.Prelude.{◌≡◌, ◌<◌, ◌↔◌, All, IsTrue};
 ghost use Rattle.elf_model.specs.MemoryImage.{Encloses, loads};
-ghost use Rattle.elf_model.specs.Placement.{HasRights, LiesInSegment, got_things};
-ghost use Rattle.elf_model.specs.RightLink.{Holds, things_of};
+ghost use Rattle.elf_model.specs.Placement.{HasRights, LiesInSegment};
+ghost use Rattle.elf_model.specs.RightLink.{Holds};
 ghost use Rattle.elf_model.specs.declared.verdict.Clause.TheVariants as clause;
-ghost use Rattle.check_link.specs.Subjects.{subject_of};
 
+use crate::placed_link::PlacedLink;
 use crate::segments::{encloses, enclosing};
-use check_link::{Link, base_of, first_address};
+use check_link::{base_of, first_address};
 use elf_model::{ProgramHeader, Thing};
 use loader_model::Memory;
 
 /// Whether the sixth clause holds of a link.
-pub fn holds(link: &Link<'_>, memory: &Memory<'_>, things: &[Thing], gots: &[Thing]) -> bool
-    requires memory { memory.now ≡ link.now.image.now }
-    requires things { things.now ≡ things_of (subject_of link.now) }
-    requires gots { gots.now ≡ got_things (subject_of link.now).map.got }
-    ensures { IsTrue result ↔ Holds clause.C6 (subject_of link.now) }
+pub fn holds(placed: &PlacedLink<'_, '_>) -> bool
+    ensures { IsTrue result ↔ Holds clause.C6 placed.now }
 {
-    has_rights(memory, base_of(&link.plan), things, gots)
+    let link = placed.link();
+    let base = base_of(&link.plan);
+    has_rights(placed.memory(), base, placed.things(), placed.gots())
 }
 
 /// Whether a nonempty thing lies whole in a segment with exactly its rights.

@@ -2,46 +2,40 @@
 ghost use Rattle.std.specs.Prelude.{◌≡◌, ◌↔◌, All, IfOk, IfSome, IsTrue, true};
 ghost use Rattle.std.specs.List.{list_any};
 ghost use Rattle.elf_model.specs.MapRecord.{slot_row};
-ghost use Rattle.elf_model.specs.RightLink.{HoldsGot, Holds, IsGotRight, objects_of};
+ghost use Rattle.elf_model.specs.RightLink.{Holds, HoldsBefore, HoldsGot, objects_of, where_of};
 ghost use Rattle.elf_model.specs.Slots.{is_slot_of, row_request};
-ghost use Rattle.check_load.specs.Views.{loaded_views};
-ghost use Rattle.checker.specs.Got.{HaveSlots, IsGot, LiesInImage};
+ghost use Rattle.checker.specs.Got.{HaveSlots, LiesInImage};
 ghost use Rattle.check_relocs.specs.Needs.{AreNeeds};
 ghost use Rattle.check_link.specs.Slots.{is_asked, request_view};
 ghost use Rattle.elf_model.specs.declared.verdict.Clause.TheVariants as clause;
-ghost use Rattle.check_relocs.specs.Bindings.{bound_of};
-ghost use Rattle.check_link.specs.Subjects.{subject_of};
 
+use crate::bound_link::BoundLink;
 use crate::c07_got::got_bytes::holds_got;
-use check_link::{Link, Request, SlotTable, request_of_line};
-use check_load::Loaded;
+use check_link::{Request, SlotTable, request_of_line};
 use check_relocs::{Bindings, Needs, needs_of};
-use elf_model::{GotLine, SlotLine};
-use loader_model::Memory;
+use elf_model::SlotLine;
 use std::alloc::{AllocError, Global};
 use std::collections::BTreeSet;
 
 mod got_bytes;
 
-/// Whether the seventh clause holds of a link.
-pub fn holds<'a>(
-    alloc: Global,
-    link: &Link<'_>,
-    bindings: &Bindings<'_, '_, 'a>,
-    objects: &[Loaded<'a>],
-    slots: &SlotTable<'a>,
-    memory: &Memory<'_>,
-) -> Result<bool, AllocError>
-    requires loaded { loaded_views objects.now ≡ objects_of (subject_of link.now) }
-    requires bound { bindings.now ≡ bound_of (subject_of link.now) }
-    requires slots { slots.now ≡ (subject_of link.now).map.slots }
-    requires memory { memory.now ≡ link.now.image.now }
-    requires end { Holds clause.C5 (subject_of link.now) }
-    requires lie { Holds clause.C6 (subject_of link.now) }
-    ensures { IfOk result (λ b. IsTrue b ↔ IsGotRight (subject_of link.now)) }
+/// Whether the seventh clause holds of a link: the GOT stands exactly where a relocation asks for one, with one slot for
+/// each request of a relocation and no other, and memory holds it.
+pub fn holds(alloc: Global, bound: &BoundLink<'_, '_>) -> Result<bool, AllocError>
+    requires { HoldsBefore clause.C7 bound.now }
+    ensures { IfOk result (λ b. IsTrue b ↔ Holds clause.C7 bound.now) }
 {
-    let right = is_got_right(alloc, bindings, objects, slots, memory, &link.map.got)?;
-    Ok(right)
+    let link = bound.link();
+    let bindings = bound.bindings();
+    let needs = needs_of(alloc, bindings)?;
+    if link.map.got.is_some() != needs.got {
+        return Ok(false);
+    }
+    if !are_slots_right(bindings, &needs, bound.slots()) {
+        return Ok(false);
+    }
+    let held = holds_if_there(alloc, bound)?;
+    Ok(held)
 }
 
 /// Whether a line's slot is one of those that are asked for.
@@ -94,48 +88,13 @@ fn are_slots_right<'a>(
 }
 
 /// Whether a GOT, if there is one, holds its slots.
-fn holds_if_there<'a>(
-    alloc: Global,
-    bindings: &Bindings<'_, '_, 'a>,
-    objects: &[Loaded<'a>],
-    slots: &SlotTable<'a>,
-    memory: &Memory<'_>,
-    got: &Option<GotLine>,
-) -> Result<bool, AllocError>
-    requires objects { bindings.now.objects ≡ loaded_views objects.now }
-    requires slots { slots.now ≡ bindings.now.places.slots }
-    requires lies { IfSome got.now (LiesInImage memory.now) }
-    ensures { IfOk result (λ b. IsTrue b ↔ IfSome got.now (HoldsGot bindings.now.objects bindings.now.places memory.now)) }
+fn holds_if_there(alloc: Global, bound: &BoundLink<'_, '_>) -> Result<bool, AllocError>
+    requires { IfSome bound.now.map.got (LiesInImage bound.now.image) }
+    ensures { IfOk result (λ b. IsTrue b ↔ IfSome bound.now.map.got (HoldsGot (objects_of bound.now) (where_of bound.now) bound.now.image)) }
 {
-    match got {
-        Some(got) => holds_got(alloc, bindings, objects, slots, memory, got),
+    let link = bound.link();
+    match &link.map.got {
+        Some(got) => holds_got(alloc, bound, got),
         None => Ok(true),
     }
-}
-
-/// Whether the GOT stands exactly where a relocation asks for one, with one slot for each request of a relocation and
-/// no other, and memory holds it.
-fn is_got_right<'a>(
-    alloc: Global,
-    bindings: &Bindings<'_, '_, 'a>,
-    objects: &[Loaded<'a>],
-    slots: &SlotTable<'a>,
-    memory: &Memory<'_>,
-    got: &Option<GotLine>,
-) -> Result<bool, AllocError>
-    requires objects { bindings.now.objects ≡ loaded_views objects.now }
-    requires slots { slots.now ≡ bindings.now.places.slots }
-    requires got { got.now ≡ bindings.now.places.got }
-    requires lies { IfSome got.now (LiesInImage memory.now) }
-    ensures { IfOk result (λ b. IsTrue b ↔ IsGot bindings.now.objects bindings.now.places memory.now) }
-{
-    let needs = needs_of(alloc, bindings, objects)?;
-    if got.is_some() != needs.got {
-        return Ok(false);
-    }
-    if !are_slots_right(bindings, &needs, slots) {
-        return Ok(false);
-    }
-    let held = holds_if_there(alloc, bindings, objects, slots, memory, got)?;
-    Ok(held)
 }

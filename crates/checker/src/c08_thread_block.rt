@@ -2,30 +2,30 @@
 ghost use Rattle.std.specs.Prelude.{◌≡◌, ◌↔◌, [], ◌∷◌, All, IsTrue};
 ghost use Rattle.elf_model.specs.MemoryImage.{loads};
 ghost use Rattle.elf_model.specs.Placement.{got_things};
-ghost use Rattle.elf_model.specs.RightLink.{HoldsInitial, IsClearOf, Holds, IsThreadBlockRight, placed_of};
+ghost use Rattle.elf_model.specs.RightLink.{Holds, HoldsBefore, HoldsInitial, IsClearOf};
 ghost use Rattle.elf_model.specs.ThreadStorage.{thread_header, thread_headers};
 ghost use Rattle.check_link.specs.PieceParts.{AreInLimit, IsGotInLimit, IsInLimit};
 ghost use Rattle.checker.specs.Sweeps.{EndFits};
 ghost use Rattle.checker.specs.ThreadBlock.{AreOthersClear, BeginsAfter, IsBlockRight, IsPlaceClear};
 ghost use Rattle.check_link.specs.Views.{placed_view, placed_views};
 ghost use Rattle.elf_model.specs.declared.verdict.Clause.TheVariants as clause;
-ghost use Rattle.check_link.specs.Subjects.{subject_of};
 
+use crate::bound_link::BoundLink;
 use crate::segments::enclosing;
 use check_link::{
-    Link, Part, Placed, base_of, end_of, got_thing, is_thread_zero, thing_of_placed, thread_block,
+    Part, Placed, base_of, end_of, got_thing, is_thread_zero, thing_of_placed, thread_block,
 };
 use elf_model::{GotLine, PF_R, PT_TLS, ProgramHeader, Thing, TlsBlock};
 use loader_model::Memory;
 
 /// Whether the eighth clause holds of a link.
-pub fn holds(link: &Link<'_>, memory: &Memory<'_>, placed: &[Placed<'_>]) -> bool
-    requires memory { memory.now ≡ link.now.image.now }
-    requires placed { placed_views placed.now ≡ placed_of (subject_of link.now) }
-    requires end { Holds clause.C5 (subject_of link.now) }
-    ensures { IsTrue result ↔ IsThreadBlockRight (subject_of link.now) }
+pub fn holds(bound: &BoundLink<'_, '_>) -> bool
+    requires { HoldsBefore clause.C8 bound.now }
+    ensures { IsTrue result ↔ Holds clause.C8 bound.now }
 {
-    is_thread_block_right(memory, base_of(&link.plan), &link.map.got, placed)
+    let link = bound.link();
+    let base = base_of(&link.plan);
+    is_thread_block_right(bound.memory(), base, &link.map.got, bound.placed())
 }
 
 /// The PT_TLS header of the block of placed pieces, in an image that begins at the base.

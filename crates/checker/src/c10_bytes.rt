@@ -5,31 +5,24 @@ ghost use Rattle.elf_model.specs.MemoryImage.{Encloses, segment_byte};
 ghost use Rattle.loader_model.specs.Table.{IsLawful};
 ghost use Rattle.check_link.specs.Views.{placed_view, placed_views};
 ghost use Rattle.check_relocs.specs.Bytes.{AreRising, EndsBefore, FitsIn, HasFieldsInside, HoldsFields, LiesWhole, WantedFrom, byte_of, covers, fields_in};
-ghost use Rattle.elf_model.specs.RightLink.{Holds, objects_of, placed_of, where_of};
+ghost use Rattle.elf_model.specs.RightLink.{Holds, HoldsBefore, objects_of, where_of};
 ghost use Rattle.elf_model.specs.declared.verdict.Clause.TheVariants as clause;
 ghost use Rattle.check_relocs.specs.Fields.{AreRows};
-ghost use Rattle.check_link.specs.Subjects.{subject_of};
 
+use crate::bound_link::BoundLink;
 use crate::segments::{enclosing, file_bytes, same_padded, sub_part};
-use check_link::{Link, Placed, load_size};
+use check_link::{Placed, load_size};
 use check_relocs::{Field, fields_in};
 use elf_model::ProgramHeader;
 use loader_model::Memory;
 
 /// Whether the tenth clause holds of a link, given the fields of its relocations by objects.
-pub fn holds(
-    link: &Link<'_>,
-    memory: &Memory<'_>,
-    placed: &[Placed<'_>],
-    rows: &[Vec<Field>],
-) -> bool
-    requires memory { memory.now ≡ link.now.image.now }
-    requires placed { placed_views placed.now ≡ placed_of (subject_of link.now) }
-    requires rows { AreRows (objects_of (subject_of link.now)) (where_of (subject_of link.now)) rows.now }
-    requires lie { Holds clause.C6 (subject_of link.now) }
-    ensures { IsTrue result ↔ Holds clause.C10 (subject_of link.now) }
+pub fn holds(bound: &BoundLink<'_, '_>, rows: &[Vec<Field>]) -> bool
+    requires before { HoldsBefore clause.C10 bound.now }
+    requires rows { AreRows (objects_of bound.now) (where_of bound.now) rows.now }
+    ensures { IsTrue result ↔ Holds clause.C10 bound.now }
 {
-    holds_pieces(memory, rows, placed)
+    holds_pieces(bound.memory(), rows, bound.placed())
 }
 
 /// Whether two runs are equal from one byte on and below another; bytes past an end count as 0.

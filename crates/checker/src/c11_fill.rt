@@ -2,19 +2,18 @@
 ghost use Rattle.std.specs.Prelude.{◌≡◌, ◌+◌, ◌<◌, ◌^◌, ◌↔◌, All, IfOk, IsTrue, length, map};
 ghost use Rattle.std.specs.List.Sorted.{IsNonDecreasingBy};
 ghost use Rattle.elf_model.specs.MemoryImage.{loads};
-ghost use Rattle.elf_model.specs.RightLink.{EndsRight, HasNothingElse, Holds, IsFilled, fill_of, things_of};
+ghost use Rattle.elf_model.specs.RightLink.{EndsRight, HasNothingElse, Holds, HoldsBefore, IsFilled, fill_of};
 ghost use Rattle.loader_model.specs.Table.{IsLawful};
 ghost use Rattle.checker.specs.Filled.{HasZeroGaps, SegmentFilled, part_of};
 ghost use Rattle.checker.specs.Sweeps.{EndFits, RegionFilled};
 ghost use Rattle.elf_model.specs.declared.verdict.Clause.TheVariants as clause;
-ghost use Rattle.check_link.specs.Subjects.{subject_of};
 
+use crate::bound_link::BoundLink;
 use crate::c11_fill::ends::{all_end_right, ends_with_a_part};
 use crate::c11_fill::region::{Region, is_filled};
 use crate::c11_fill::stretches::{lying_between, stretched};
 use crate::segments::file_part;
 use crate::sorted_things::by_address;
-use check_link::Link;
 use elf_model::{ProgramHeader, Thing};
 use loader_model::Memory;
 use std::alloc::{AllocError, Global};
@@ -24,18 +23,11 @@ mod region;
 mod stretches;
 
 /// Whether the eleventh clause holds of a link.
-pub fn holds(
-    alloc: Global,
-    link: &Link<'_>,
-    memory: &Memory<'_>,
-    things: &[Thing],
-) -> Result<bool, AllocError>
-    requires memory { memory.now ≡ link.now.image.now }
-    requires things { things.now ≡ things_of (subject_of link.now) }
-    requires end { Holds clause.C5 (subject_of link.now) }
-    ensures { IfOk result (λ b. IsTrue b ↔ Holds clause.C11 (subject_of link.now)) }
+pub fn holds(alloc: Global, bound: &BoundLink<'_, '_>) -> Result<bool, AllocError>
+    requires { HoldsBefore clause.C11 bound.now }
+    ensures { IfOk result (λ b. IsTrue b ↔ Holds clause.C11 bound.now) }
 {
-    let filled = has_nothing_else(alloc, memory, things)?;
+    let filled = has_nothing_else(alloc, bound.memory(), bound.things())?;
     Ok(filled)
 }
 

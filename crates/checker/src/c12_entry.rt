@@ -4,22 +4,20 @@ ghost use Rattle.elf_model.specs.Meaning.{meaning_value, meant, object_meaning};
 ghost use Rattle.elf_model.specs.Resolution.{IsEntry};
 ghost use Rattle.checker.specs.Entering.{Enters};
 ghost use Rattle.check_link.specs.Views.{symbol_view};
-ghost use Rattle.elf_model.specs.RightLink.{EntersRight};
+ghost use Rattle.elf_model.specs.RightLink.{Holds};
 ghost use Rattle.elf_model.specs.declared.verdict.Clause.TheVariants as clause;
-ghost use Rattle.check_relocs.specs.Bindings.{bound_of};
-ghost use Rattle.check_link.specs.Subjects.{subject_of};
 
-use check_link::{Link, SymbolOf, entry_of};
+use crate::bound_link::BoundLink;
+use check_link::{SymbolOf, entry_of};
 use check_relocs::Bindings;
-use loader_model::Memory;
 
 /// Whether the twelfth clause holds of a link.
-pub fn holds(link: &Link<'_>, bindings: &Bindings<'_, '_, '_>, memory: &Memory<'_>) -> bool
-    requires bound { bindings.now ≡ bound_of (subject_of link.now) }
-    requires memory { memory.now ≡ link.now.image.now }
-    ensures { IsTrue result ↔ EntersRight (subject_of link.now) }
+pub fn holds(bound: &BoundLink<'_, '_>) -> bool
+    ensures { IsTrue result ↔ Holds clause.C12 bound.now }
 {
-    enters_right(bindings, entry_of(&link.plan), memory.entry())
+    let link = bound.link();
+    let entry = entry_of(&link.plan);
+    enters_right(bound.bindings(), entry, bound.memory().entry())
 }
 
 /// Whether a chosen definition means something, of which `e_entry` is the value.

@@ -4,38 +4,28 @@ ghost use Rattle.std.specs.Prelude.{◌≡◌, ◌↔◌, ℕ, List, All, IfOk, 
 ghost use Rattle.std.specs.Cmp.Lexicographic.{slice_cmp};
 ghost use Rattle.std.specs.List.Sorted.{IsSortedByKey};
 ghost use Rattle.std.specs.Ordering.{nat_cmp};
-ghost use Rattle.elf_model.specs.MapRecord.{symbol_row, map_of};
+ghost use Rattle.elf_model.specs.MapRecord.{symbol_row};
 ghost use Rattle.elf_model.specs.Meaning.{Symbol, meaning_name, meanings_of, meant_list};
 ghost use Rattle.elf_model.specs.declared.link_map.Definition.TheVariants as definition;
-ghost use Rattle.elf_model.specs.MapText.{Ascends, SymbolBefore, IsMap};
+ghost use Rattle.elf_model.specs.MapText.{Ascends, SymbolBefore};
 ghost use Rattle.elf_model.specs.Resolution.{AreSoundSymbols, AreUnique};
-ghost use Rattle.elf_model.specs.RightLink.{HasLine, definition_row, symbol_row_of, AreSymbolsListed, objects_of};
+ghost use Rattle.elf_model.specs.RightLink.{HasLine, Holds, definition_row, symbol_row_of};
 ghost use Rattle.checker.specs.Listed.{IsChosenIfStrong, chosen_among};
-ghost use Rattle.check_load.specs.Views.{loaded_views};
 ghost use Rattle.check_link.specs.Views.{held_name, meaning_view, meaning_views, symbol_view, symbol_views};
 ghost use Rattle.elf_model.specs.declared.verdict.Clause.TheVariants as clause;
-ghost use Rattle.check_relocs.specs.Bindings.{bound_of};
-ghost use Rattle.check_link.specs.Subjects.{subject_of};
 
-use check_link::{Link, Meaning, SymbolOf, is_definition, is_strong};
-use check_load::Loaded;
+use crate::bound_link::BoundLink;
+use check_link::{Meaning, SymbolOf, is_definition, is_strong};
 use check_relocs::{Bindings, linker_lines};
 use elf_model::{Definition, STB_WEAK, SymbolLine};
 use std::alloc::{AllocError, Global};
 
 /// Whether the thirteenth clause holds of a link.
-pub fn holds<'a>(
-    alloc: Global,
-    link: &Link<'_>,
-    bindings: &Bindings<'_, '_, 'a>,
-    objects: &[Loaded<'a>],
-) -> Result<bool, AllocError>
-    requires loaded { loaded_views objects.now ≡ objects_of (subject_of link.now) }
-    requires map { IsMap (map_of link.now.map) }
-    requires bound { bindings.now ≡ bound_of (subject_of link.now) }
-    ensures { IfOk result (λ b. IsTrue b ↔ AreSymbolsListed (subject_of link.now)) }
+pub fn holds(alloc: Global, bound: &BoundLink<'_, '_>) -> Result<bool, AllocError>
+    ensures { IfOk result (λ b. IsTrue b ↔ Holds clause.C13 bound.now) }
 {
-    let listed = are_symbols_listed(alloc, bindings, objects, &link.map.symbols)?;
+    let link = bound.link();
+    let listed = are_symbols_listed(alloc, bound.bindings(), &link.map.symbols)?;
     Ok(listed)
 }
 
@@ -213,11 +203,9 @@ fn are_lines_of(
 fn are_symbols_listed<'a>(
     alloc: Global,
     bindings: &Bindings<'_, '_, 'a>,
-    objects: &[Loaded<'a>],
     lines: &[SymbolLine],
 ) -> Result<bool, AllocError>
-    requires loaded { bindings.now.objects ≡ loaded_views objects.now }
-    requires ascend { Ascends SymbolBefore (map symbol_row lines.now) }
+    requires { Ascends SymbolBefore (map symbol_row lines.now) }
     ensures { let L = bindings.now.objects in IfOk result (λ b. IsTrue b ↔ (AreSoundSymbols L × AreUnique L × ((name : List ℕ) → HasLine (map symbol_row lines.now) L bindings.now.places name))) }
 {
     if !bindings.are_sound() {
@@ -226,7 +214,7 @@ fn are_symbols_listed<'a>(
     let Some(chosen) = chosen_symbols(alloc, bindings, bindings.symbols())? else {
         return Ok(false);
     };
-    let linkers = linker_lines(alloc, bindings, objects)?;
+    let linkers = linker_lines(alloc, bindings)?;
     let sorted = by_name(joined(bindings, &chosen, linkers)?)?;
     let listed = are_lines_of(bindings, &sorted, lines);
     Ok(listed)

@@ -3,6 +3,7 @@
 //! resolution or relocation code with the linker.
 #![tactic(auto)]
 
+mod bound_link;
 mod c02_loaded;
 mod c03_sections;
 mod c04_image;
@@ -15,6 +16,8 @@ mod c10_bytes;
 mod c11_fill;
 mod c12_entry;
 mod c13_symbols;
+mod loaded_link;
+mod placed_link;
 mod segments;
 mod sorted_things;
 mod verdict;

@@ -1,6 +1,6 @@
 -- A plan so far and its place, as clauses see them.
 use Rattle.elf_model.specs.Command.{Plan}
-use Rattle.command.specs.declared.reading.Place.{Place}
+use Rattle.command.specs.declared.plan_reader.Place.{Place}
 use Rattle.command.specs.Steps.{State}
 
 abbrev pub state_of : Plan → Place → State

@@ -20,9 +20,9 @@
 mod items;
 mod paths;
 mod phrases;
-mod reading;
+mod plan_reader;
 
 pub use elf_model::CmdFault;
 pub use items::{Item, Plan, Source};
 pub use paths::{candidates, library_path};
-pub use reading::read_words;
+pub use plan_reader::read_words;

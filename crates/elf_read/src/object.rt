@@ -1,13 +1,13 @@
 //! A relocatable object file, read whole, and what it holds.
-ghost use Rattle.std.specs.Prelude.{◌≡◌, ◌<◌, List, ℕ, All, length, IfErr, IfOk, IfSome, OnOk, option_copied};
-ghost use Rattle.elf_model.specs.ObjectFile.{IsObject, ObjFaultStands, groups, relas, section, section_bytes, section_name, sections, symbol_name, symbols};
+ghost use Rattle.std.specs.Prelude.{◌≡◌, ◌<◌, [], List, ℕ, All, length, IfErr, IfOk, IfSome, OnOk, option_copied, slice_index_or, unwrap_or};
+ghost use Rattle.elf_model.specs.ObjectFile.{IsObject, ObjFaultStands, groups, null_symbol, relas, section, section_bytes, section_name, sections, symbol_name, symbols};
 ghost use Rattle.elf_model.specs.declared.faults.ObjFault.TheVariants as fault;
 
 use crate::groups::{Group, judge_groups};
 use crate::header::{read_header, read_sections};
 use crate::relas::{Relas, are_good_relas, read_relas};
 use crate::sections::{contents, has_no_bytes, judge_sections, section, symbol_table};
-use crate::symbols::{judge_symbols, read_symbols};
+use crate::symbols::{NULL_SYMBOL, judge_symbols, read_symbols};
 use byteview::View;
 use elf_model::{ObjFault, RELA_SIZE, Rela, SHT_RELA, SectionHeader, Symbol};
 use std::alloc::Global;
@@ -91,11 +91,25 @@ impl<'a> Object<'a> {
         self.sections.as_slice()
     }
 
+    /// The header of section `i`; that of a null section where there is no such section.
+    pub fn section(&self, i: usize) -> SectionHeader
+        ensures { result ≡ section (sections self.now) i }
+    {
+        section(&self.sections, i)
+    }
+
     /// The symbols, the null symbol too; none where the file has no symbol table.
     pub fn symbols(&self) -> &[Symbol]
         ensures { result.now ≡ symbols self.now }
     {
         self.symbols.as_slice()
+    }
+
+    /// Symbol `j`; the null symbol where there is no such symbol.
+    pub fn symbol(&self, j: usize) -> Symbol
+        ensures { result ≡ slice_index_or (symbols self.now) j null_symbol }
+    {
+        self.symbols.get(j).copied().unwrap_or(NULL_SYMBOL)
     }
 
     /// The name of section `i`; None where there is no such section.
@@ -112,6 +126,16 @@ impl<'a> Object<'a> {
     {
         let symbol = self.symbols.get(j)?;
         self.symbol_strings.text_at(symbol.st_name as usize)
+    }
+
+    /// The name of symbol `j`; empty where there is no such symbol.
+    pub fn symbol_name(&self, j: usize) -> &'a [u8]
+        ensures { result.now ≡ unwrap_or (symbol_name self.now j) [] }
+    {
+        match self.name(j) {
+            Some(name) => name,
+            None => &[],
+        }
     }
 
     /// The bytes of section `i`; None where there is no such section, and where it is one of type
@@ -138,6 +162,17 @@ impl<'a> Object<'a> {
         }
         let count = section.sh_size as usize / RELA_SIZE;
         Some(self.relas.of_section(i, count))
+    }
+
+    /// The entries of section `i`, one of type RELA; none where there is no such section, and where
+    /// it is of another type.
+    pub fn entries(&self, i: usize) -> &[Rela]
+        ensures { result.now ≡ unwrap_or (relas self.entry.now i) [] }
+    {
+        match self.relas(i) {
+            Some(entries) => entries,
+            None => &[],
+        }
     }
 
     /// The groups of sections, in the order of the sections that list them.

@@ -14,7 +14,7 @@ use elf_model::{
 use std::alloc::{AllocError, Global};
 
 /// The symbol number 0, and one that is not there.
-const NULL_SYMBOL: Symbol = Symbol {
+pub const NULL_SYMBOL: Symbol = Symbol {
     st_name: 0,
     st_info: 0,
     st_other: 0,

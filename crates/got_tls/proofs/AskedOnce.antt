@@ -11,7 +11,7 @@ use Rattle.elf_model.specs.Relocation.{Relocation, relocations}
 use Rattle.elf_model.specs.Slots.{Request, asks_for_got, each_once, got_size, has_got, request_of, same_request, size_with, slots}
 use Rattle.got_tls.specs.Asking.{Wants, nothing, with_relocation, with_relocations, with_request}
 use Rattle.got_tls.specs.Views.{slot_view, wants}
-use Rattle.got_tls.specs.declared.asking.Asked.{Asked}
+use Rattle.got_tls.specs.declared.asked_slots.Asked.{Asked}
 use Rattle.elf_model.proofs.SameRequests.{requests_equal, same_sym}
 
 -- relocations behind relocations

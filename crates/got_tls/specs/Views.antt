@@ -5,7 +5,7 @@ use Rattle.elf_model.specs.declared.link_map.SlotKind.{SlotKind}
 use Rattle.elf_model.specs.declared.link_map.SlotKind.TheVariants as kind
 use Rattle.elf_model.specs.Slots.{Request}
 use Rattle.got_tls.specs.Asking.{Wants}
-use Rattle.got_tls.specs.declared.asking.Asked.{Asked}
+use Rattle.got_tls.specs.declared.asked_slots.Asked.{Asked}
 use Rattle.got_tls.specs.declared.slot_table.Content.{Content}
 use Rattle.got_tls.specs.declared.slot_table.Content.TheVariants as content
 use Rattle.got_tls.specs.declared.slot_table.Owner.{Owner}

@@ -3,14 +3,14 @@
 //! Thread-Local Storage, variant II).
 #![tactic(auto)]
 
-mod asking;
+mod asked_slots;
 mod kinds;
 mod requests;
+mod slot_list;
 mod slot_table;
 mod thread_storage;
-mod wanted;
 
 pub use elf_model::TlsBlock;
+pub use slot_list::slots;
 pub use slot_table::{Slot, Slots};
 pub use thread_storage::{thread_pointer, tls_block, tp_offset};
-pub use wanted::slots;

@@ -1,5 +1,5 @@
 //! What one relocation asks of the GOT.
-ghost use Rattle.std.specs.Prelude.{◌≡◌, ◌==◌, [], option_map, slice_index_or, unwrap_or};
+ghost use Rattle.std.specs.Prelude.{◌≡◌, ◌==◌, option_map, slice_index_or};
 ghost use Rattle.elf_model.specs.ObjectFile.{null_symbol, symbol_name, symbols};
 ghost use Rattle.elf_model.specs.Relocation.{relocation_of, symbol_at};
 ghost use Rattle.elf_model.specs.Resolution.{binding};
@@ -19,20 +19,7 @@ use search::LoadedObject;
 fn is_local(object: &Object<'_>, j: usize) -> bool
     ensures { result ≡ (binding (slice_index_or (symbols object.now) j null_symbol) == 0) }
 {
-    match object.symbols().get(j) {
-        Some(entry) => entry.st_info / 16 == STB_LOCAL,
-        None => true,
-    }
-}
-
-/// The name of symbol `j`, empty where there is no such symbol.
-fn name_of<'a>(object: &Object<'a>, j: usize) -> &'a [u8]
-    ensures { result.now ≡ unwrap_or (symbol_name object.now j) [] }
-{
-    match object.name(j) {
-        Some(name) => name,
-        None => &[],
-    }
+    object.symbol(j).st_info / 16 == STB_LOCAL
 }
 
 /// The slot that an entry of the object that has a number asks for; None where it asks for none.
@@ -55,7 +42,7 @@ const GOT_NAME: &[u8] = b"_GLOBAL_OFFSET_TABLE_";
 fn is_got_symbol(object: &Object<'_>, j: usize) -> bool
     ensures { result ≡ is_got_symbol object.now j }
 {
-    !is_local(object, j) && name_of(object, j) == GOT_NAME
+    !is_local(object, j) && object.symbol_name(j) == GOT_NAME
 }
 
 /// Whether an object has a symbol that isn't LOCAL and has the GOT's name. Where it hasn't, no name of a symbol need be

@@ -5,7 +5,7 @@ ghost use Rattle.resolve.specs.Views.{target_view};
 ghost use Rattle.got_tls.specs.Asking.{offset_of};
 ghost use Rattle.got_tls.specs.Views.{kind_view, owner_view, slot_view, slot_views};
 
-use crate::asking::Asked;
+use crate::asked_slots::Asked;
 use elf_model::{ObjectId, SlotKind, SymbolRef, Target};
 use indexmap::IndexSet;
 use layout::GotSize;

@@ -11,7 +11,7 @@ use Rattle.elf_model.specs.Placement.{Placed, Where}
 use Rattle.elf_model.proofs.Pairs.{AllPairs-head, AllPairs-tail}
 use Rattle.elf_model.proofs.Running.{IsBehind}
 use Rattle.image_write.specs.Parts.{Rise, body_from, bytes_of, fill_byte, fill_run, is_written}
-use Rattle.image_write.specs.declared.filling.Code.{Code}
+use Rattle.image_write.specs.declared.fill_bytes.Code.{Code}
 use Rattle.image_write.proofs.Runs.{map_agree, map_between, map_shifted}
 
 -- an address that a place doesn't cover

@@ -3,7 +3,7 @@ use Rattle.std.proofs.Common.{◌≡◌, ℕ, ◌+◌, ◌<◌, ◌≤◌, true,
 use Rattle.elf_model.specs.OwnLayout.{placed_end}
 use Rattle.elf_model.specs.Placement.{Placed}
 use Rattle.layout.specs.PlaceViews.{place_view, place_views}
-use Rattle.layout.specs.declared.running.Place.{Place}
+use Rattle.layout.specs.declared.runs.Place.{Place}
 use Rattle.elf_model.proofs.Rests.{rest_at}
 use Rattle.image_write.specs.Parts.{Rise, is_written}
 use Rattle.image_write.proofs.BodyBytes.{rise_order}

@@ -17,7 +17,7 @@ use Rattle.layout.specs.Placements.{Basis}
 use Rattle.layout.specs.Threads.{header_in}
 use Rattle.own_link.proofs.ImageOwn.{header_count_is, own_thread_headers_of}
 use Rattle.image_write.specs.Parts.{Rise, as_list, body_from, code_part, count_of, headers_of}
-use Rattle.image_write.specs.declared.filling.Code.{Code}
+use Rattle.image_write.specs.declared.fill_bytes.Code.{Code}
 use Rattle.image_write.proofs.OwnBody.{file_low, own_body_is, own_rise}
 use Rattle.image_write.proofs.Runs.{map_shifted}
 

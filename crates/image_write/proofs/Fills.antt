@@ -8,7 +8,7 @@ use Rattle.elf_model.specs.Loading.{LoadedObject}
 use Rattle.elf_model.specs.OwnLayout.{code_pieces, code_start, data_pieces, data_start, is_nonempty, own_code, own_data, own_read_only, own_segments, read_only_start, segment}
 use Rattle.elf_model.specs.Placement.{Placed}
 use Rattle.image_write.specs.Parts.{code_part, fill_byte, fill_run}
-use Rattle.image_write.specs.declared.filling.Code.{Code}
+use Rattle.image_write.specs.declared.fill_bytes.Code.{Code}
 use Rattle.image_write.proofs.Runs.{map_between, map_constant}
 
 -- the fill outside of the code and inside it

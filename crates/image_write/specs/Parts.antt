@@ -15,7 +15,7 @@ use Rattle.elf_model.specs.Resolution.{sections_of_object}
 use Rattle.elf_model.specs.Slots.{Request, got_bytes, slot_value, slots}
 use Rattle.elf_model.specs.declared.records.ProgramHeader.{ProgramHeader}
 use Rattle.layout.specs.Placements.{Basis}
-use Rattle.image_write.specs.declared.filling.Code.{Code}
+use Rattle.image_write.specs.declared.fill_bytes.Code.{Code}
 use Rattle.image_write.specs.declared.pieces.Contents.{Contents}
 
 -- the file header, and the program headers of segments, of thread-local storage, where there is one, and of the stack

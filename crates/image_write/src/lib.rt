@@ -2,11 +2,11 @@
 //! between them.
 #![tactic(auto)]
 
-mod filling;
+mod fill_bytes;
 mod got;
 mod headers;
+mod image_file;
 mod linkage;
 mod pieces;
-mod writing;
 
 pub use linkage::{Linkage, Parts, image};

@@ -2,7 +2,7 @@
 ghost use Rattle.std.specs.Prelude.{◌≡◌, IfOk};
 ghost use Rattle.image_write.specs.Linkages.{AreParts, own_image};
 
-use crate::writing::file_of;
+use crate::image_file::file_of;
 use got_tls::Slots;
 use layout::Placement;
 use relocate::Patches;

@@ -6,7 +6,7 @@ ghost use Rattle.layout.specs.PlaceViews.{place_view, place_views};
 ghost use Rattle.layout.specs.Views.{piece_view};
 ghost use Rattle.image_write.specs.Parts.{AreContents, AreFilled, HasContents, IsWhole, Rise, all_body, all_bytes, bytes_of, is_written};
 
-use crate::filling::{Code, fill};
+use crate::fill_bytes::{Code, fill};
 use crate::got::put_got;
 use elf_model::{ObjectId, SectionRef};
 use layout::{Piece, Place, Placement};

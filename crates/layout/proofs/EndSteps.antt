@@ -8,7 +8,7 @@ use Rattle.elf_model.specs.Placement.{Placed}
 use Rattle.elf_model.specs.declared.records.ProgramHeader.{ProgramHeader}
 use Rattle.layout.specs.Limits.{IsShort}
 use Rattle.layout.specs.PlaceViews.{place_view, place_views}
-use Rattle.layout.specs.declared.running.Place.{Place}
+use Rattle.layout.specs.declared.runs.Place.{Place}
 use Rattle.elf_model.proofs.Rests.{rest_at}
 
 max_turn : (a b c : ℕ) → max a (max b c) ≡ max b (max a c)

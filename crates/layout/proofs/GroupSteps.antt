@@ -14,8 +14,8 @@ use Rattle.elf_model.proofs.Grouped.{leaders_other}
 use Rattle.elf_model.proofs.SameOutput.{alike, both_ways_equal, same_from_alike}
 use Rattle.layout.specs.Groups.{AreGroups, Output, group, group_views, output_of, output_view, part_test}
 use Rattle.layout.specs.Views.{piece_view, piece_views}
-use Rattle.layout.specs.declared.grouping.OutputSection.{OutputSection}
-use Rattle.layout.specs.declared.grouping.Part.{Part}
+use Rattle.layout.specs.declared.output_sections.OutputSection.{OutputSection}
+use Rattle.layout.specs.declared.output_sections.Part.{Part}
 use Rattle.layout.specs.declared.pieces.Piece.{Piece}
 use Rattle.layout.proofs.Leading.{has_leader, leaders_push, no_group, put_at, put_at_leader}
 

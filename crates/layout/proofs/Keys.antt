@@ -6,7 +6,7 @@ use Rattle.std.specs.Cmp.{booleans_Decides}
 use Rattle.std.proofs.lemmas.Bool.{and_from, and_parts}
 use Rattle.std.proofs.lemmas.Slice.Eq.{bytes_eq-Decides}
 use Rattle.layout.specs.Groups.{Output, output_view}
-use Rattle.layout.specs.declared.grouping.OutputSection.{OutputSection}
+use Rattle.layout.specs.declared.output_sections.OutputSection.{OutputSection}
 use Rattle.layout.proofs.GroupSteps.{Compares}
 
 -- the comparison that is derived

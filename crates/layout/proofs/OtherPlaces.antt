@@ -7,7 +7,7 @@ use Rattle.elf_model.specs.LinkerValues.{end_of_pieces, least_of, start_of_piece
 use Rattle.elf_model.specs.Pieces.{Piece}
 use Rattle.elf_model.specs.Placement.{Placed}
 use Rattle.layout.specs.PlaceViews.{place_view, place_views}
-use Rattle.layout.specs.declared.running.Place.{Place}
+use Rattle.layout.specs.declared.runs.Place.{Place}
 
 -- the places that are left from a number on, and pass
 abbrev pub passing : (Placed → Bool) → List Place → ℕ → List Placed

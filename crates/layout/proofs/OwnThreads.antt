@@ -21,7 +21,7 @@ use Rattle.elf_model.proofs.Places.{InCode, InData, InReadOnly, InThreadRest, at
 use Rattle.elf_model.proofs.Running.{end_of-ge}
 use Rattle.layout.specs.PlaceViews.{place_view, place_views}
 use Rattle.layout.specs.Threads.{block_of, header_in, placed_alignment}
-use Rattle.layout.specs.declared.running.Place.{Place}
+use Rattle.layout.specs.declared.runs.Place.{Place}
 use Rattle.layout.proofs.OwnBounds.{started, without_got}
 
 -- the places that memory has room for stand first

@@ -10,7 +10,7 @@ use Rattle.layout.specs.Limits.{AreInLimit, IsInLimit}
 use Rattle.layout.specs.PlaceViews.{place_view, place_views}
 use Rattle.layout.specs.Views.{piece_view, piece_views}
 use Rattle.layout.specs.declared.pieces.Piece.{Piece}
-use Rattle.layout.specs.declared.running.Place.{Place}
+use Rattle.layout.specs.declared.runs.Place.{Place}
 use Rattle.elf_model.proofs.Rests.{Left, rest_at}
 
 -- what a list of pieces is read as past its end

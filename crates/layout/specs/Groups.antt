@@ -5,9 +5,9 @@ use Rattle.elf_model.specs.OwnLayout.{is_code, is_data, is_initial, is_read_only
 use Rattle.elf_model.specs.Pieces as pieces
 use Rattle.elf_model.specs.Pieces.{is_executable, is_nobits, is_thread_local, is_writable, output_name, same_output}
 use Rattle.layout.specs.Views.{piece_views}
-use Rattle.layout.specs.declared.grouping.OutputSection.{OutputSection}
-use Rattle.layout.specs.declared.grouping.Part.{Part}
-use Rattle.layout.specs.declared.grouping.Part.TheVariants as part
+use Rattle.layout.specs.declared.output_sections.OutputSection.{OutputSection}
+use Rattle.layout.specs.declared.output_sections.Part.{Part}
+use Rattle.layout.specs.declared.output_sections.Part.TheVariants as part
 use Rattle.layout.specs.declared.pieces.Piece.{Piece}
 
 -- what the pieces of one output section have in common

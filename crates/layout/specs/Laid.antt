@@ -7,8 +7,8 @@ use Rattle.layout.specs.Limits.{AreInLimit}
 use Rattle.layout.specs.PlaceViews.{place_views}
 use Rattle.layout.specs.declared.faults.LayoutFault.{LayoutFault}
 use Rattle.layout.specs.declared.faults.LayoutFault.TheVariants as error
-use Rattle.layout.specs.declared.lay.Laid.{Laid}
-use Rattle.layout.specs.declared.lay.Layout.{Layout}
+use Rattle.layout.specs.declared.placed_pieces.Laid.{Laid}
+use Rattle.layout.specs.declared.placed_pieces.Layout.{Layout}
 
 -- where the pieces of RW that aren't thread-local begin: with RW, or behind thread-local ones with bytes
 abbrev pub plain_start : List Piece → ℕ → ℕ → ℕ

@@ -2,7 +2,7 @@
 use Rattle.std.specs.Prelude.{List, map}
 use Rattle.elf_model.specs.Placement.{Placed}
 use Rattle.layout.specs.Views.{piece_view}
-use Rattle.layout.specs.declared.running.Place.{Place}
+use Rattle.layout.specs.declared.runs.Place.{Place}
 
 abbrev pub place_view : Place → Placed
 place_view q = record { at = q.at; piece = piece_view q.piece }

@@ -5,7 +5,7 @@ ghost use Rattle.search.specs.Views.{loaded_views};
 ghost use Rattle.layout.specs.Addresses.{HasEntry, HasPlace, entry, piece_counts, shape_of};
 ghost use Rattle.layout.specs.PlaceViews.{place_view, place_views};
 
-use crate::running::Place;
+use crate::runs::Place;
 use search::LoadedObject;
 use std::alloc::{AllocError, Global};
 

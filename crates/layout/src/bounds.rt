@@ -11,7 +11,7 @@ ghost use Rattle.layout.specs.PlaceViews.{place_view, place_views};
 ghost use Rattle.layout.specs.Views.{piece_view};
 
 use crate::pieces::Piece;
-use crate::running::Place;
+use crate::runs::Place;
 use elf_model::{Bound, SectionHeader};
 use resolve::{named_output, output_name};
 use std::alloc::{AllocError, Global};

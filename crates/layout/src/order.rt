@@ -9,7 +9,7 @@ ghost use Rattle.resolve.specs.Blocks.{block_views};
 ghost use Rattle.layout.specs.Orders.{IsOrder, data_in, got_list, objects_of};
 ghost use Rattle.layout.specs.Views.{piece_views};
 
-use crate::grouping::{Part, grouped};
+use crate::output_sections::{Part, grouped};
 use crate::pieces::{Piece, add_blocks, add_got, pieces_of};
 use crate::segments::any_nonempty;
 use crate::threads::{any_thread_piece, thread_align};

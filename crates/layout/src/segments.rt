@@ -8,7 +8,7 @@ ghost use Rattle.layout.specs.PlaceViews.{place_view, place_views};
 ghost use Rattle.layout.specs.Views.{piece_view, piece_views};
 
 use crate::pieces::Piece;
-use crate::running::{PAGE, Place};
+use crate::runs::{PAGE, Place};
 use elf_model::{PT_LOAD, ProgramHeader};
 
 /// Whether a piece takes up memory.

@@ -10,7 +10,7 @@ ghost use Rattle.layout.specs.Views.{piece_view, piece_views};
 
 use crate::bounds::{Part, end_of, start_of};
 use crate::pieces::Piece;
-use crate::running::Place;
+use crate::runs::Place;
 use elf_model::{PF_R, PT_TLS, ProgramHeader, TlsBlock};
 
 /// Whether a piece is thread-local.

@@ -2,18 +2,18 @@
 //! and the whole program over both.
 #![tactic(auto)]
 
-mod linkage;
-mod linking;
-mod listing;
+mod listed_definitions;
+mod output;
 mod own_map;
+mod phases;
 mod program;
 mod refusals;
 mod slot_lines;
-mod spelling;
+mod spelled_lines;
 
 pub use checker::{Clause, Verdict, check};
 pub use elf_model::LinkError;
 pub use image_write::{Linkage, image};
-pub use linkage::{link_map, prepare, prepare_over};
-pub use linking::{Output, link};
+pub use output::{Output, link};
+pub use phases::{link_map, prepare, prepare_over};
 pub use program::run_ld;

@@ -15,7 +15,7 @@ ghost use Rattle.search.specs.Views.{loaded_view, loaded_views};
 ghost use Rattle.image_write.specs.CommonRows.{own_commons};
 ghost use Rattle.image_write.specs.Maps.{IsMapOf, LiesBelow, LiesWithin, own_row, own_table};
 
-use crate::listing::name_of;
+use crate::listed_definitions::name_of;
 use crate::slot_lines::{got_line, slot_lines};
 use elf_model::{
     CommonLine, Definition as Told, DropLine, LinkMap, ObjectId, ObjectLine, PlaceLine, SHN_ABS,

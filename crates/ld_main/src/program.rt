@@ -5,8 +5,8 @@ ghost use Rattle.elf_model.specs.Files.{files_of, words_of};
 ghost use Rattle.elf_model.specs.RightLink.{IsRightLink, Least};
 ghost use Rattle.ld_main.specs.Program.{HasRightLink, LinksRight, error_status, failure_status, outcome_status, words_status};
 
-use crate::linkage::prepare;
-use crate::linking::map_text;
+use crate::output::map_text;
+use crate::phases::prepare;
 use crate::refusals::command_error;
 use checker::check;
 use command::{Plan, candidates, read_words};

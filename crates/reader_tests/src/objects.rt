@@ -184,6 +184,16 @@ fn assert_names(rt: &impl Abort, object: &Object<'_>) {
     assert!(rt; object.name(2).is_none());
 }
 
+/// Asserts what that object answers by number, where it has such a section or symbol and where it has none.
+fn assert_by_number(rt: &impl Abort, object: &Object<'_>) {
+    assert!(rt; object.section(1) == TEXT_SECTION);
+    assert!(rt; object.section(5) == NULL_SECTION);
+    assert!(rt; object.symbol(1) == START);
+    assert!(rt; object.symbol(2) == NULL_SYMBOL);
+    assert!(rt; object.symbol_name(1) == b"_start".as_slice());
+    assert!(rt; object.symbol_name(2).is_empty());
+}
+
 /// Asserts the bytes of the sections of that object.
 fn assert_bytes(rt: &impl Abort, object: &Object<'_>) {
     assert!(rt; object.section_bytes(0).is_none());
@@ -212,6 +222,7 @@ fn an_object_is_read(rt: HostRuntime) -> Result<(), Fail> {
     assert!(rt; object.bytes() == bytes.as_slice());
     assert_tables(&rt, &object);
     assert_names(&rt, &object);
+    assert_by_number(&rt, &object);
     assert_bytes(&rt, &object);
     Ok(())
 }
@@ -273,6 +284,8 @@ fn relocations_are_read(rt: HostRuntime) -> Result<(), Fail> {
     assert_eq!(rt; CALL.kind(), 4);
     assert!(rt; object.relas(1).is_none());
     assert!(rt; object.relas(6).is_none());
+    assert!(rt; object.entries(5) == [CALL].as_slice());
+    assert!(rt; object.entries(1).is_empty());
     Ok(())
 }
 

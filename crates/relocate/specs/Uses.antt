@@ -9,7 +9,7 @@ use Rattle.elf_model.specs.declared.bound.Bound.{Bound}
 use Rattle.search.specs.Views.{loaded_view}
 use Rattle.relocate.specs.References.{IsObjectAt}
 use Rattle.relocate.specs.SymbolTables.{EachTells}
-use Rattle.relocate.specs.declared.uses.User.{User}
+use Rattle.relocate.specs.declared.linker_uses.User.{User}
 
 abbrev pub line_view : Bor (List ℕ) × Bound → Meaning
 line_view e = Linker e.0.now e.1

@@ -3,27 +3,27 @@
 //! names that they use.
 #![tactic(auto)]
 
-mod applying;
-mod collecting;
 mod faults;
 mod fields;
-mod judging;
 mod kinds;
-mod lawful;
+mod lawful_fields;
+mod lawful_relocations;
+mod linker_uses;
+mod object_patches;
 mod patch;
-mod patching;
+mod patch_rows;
+mod patch_table;
 mod referrer;
 mod slots;
 mod symbol_values;
 mod targets;
 mod thread_pointer;
-mod uses;
 mod values;
 
-pub use applying::{Patches, apply};
 pub use faults::RelocFault;
 pub use kinds::{Formula, Kind, Range, Terms, fits, value};
-pub use lawful::references;
-pub use patching::patches;
+pub use lawful_relocations::references;
+pub use linker_uses::linker_lines;
+pub use patch_rows::patches;
+pub use patch_table::{Patches, apply};
 pub use slots::slot_values;
-pub use uses::linker_lines;

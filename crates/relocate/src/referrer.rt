@@ -9,7 +9,7 @@ ghost use Rattle.relocate.specs.SymbolTables.{AreReferences, IsReference, IsRefe
 
 use crate::targets::{
     definition_of, holds_frames, is_dropped, is_local, is_mixed, is_thread_local, is_undefined,
-    size_at, stands_in_unkept, symbol_entry,
+    stands_in_unkept,
 };
 use elf_model::{RELA_SIZE, SHT_RELA};
 use resolve::Resolved;
@@ -63,7 +63,7 @@ fn reference_to<'a>(
     requires mixed { AreMixed resolved.now mixed.now }
     ensures { IsReference resolved.now (symbol_at number (loaded_view loaded.now) j) result }
 {
-    let entry = symbol_entry(&loaded.object, j);
+    let entry = loaded.object.symbol(j);
     let definition = definition_of(resolved, number, loaded, j);
     Reference {
         undefined: is_undefined(j, &entry, &definition),
@@ -153,7 +153,7 @@ impl<'r, 'm, 'a> Referrer<'r, 'm, 'a> {
     {
         Relocated {
             number,
-            size: size_at(&self.loaded.object, number as usize),
+            size: self.loaded.object.section(number as usize).sh_size,
             frames: holds_frames(&self.loaded.object, number as usize),
         }
     }

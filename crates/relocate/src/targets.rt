@@ -2,14 +2,13 @@
 ghost use Rattle.std.specs.Prelude.{◌≡◌, ◌↔◌, [], ◌==◌, List, IsSomeAnd, IsTrue, codes, false, option_map, unwrap_or};
 ghost use Rattle.std.specs.Str.{bytes_eq};
 ghost use Rattle.elf_model.specs.Meaning.{is_in_thread_storage};
-ghost use Rattle.elf_model.specs.ObjectFile.{null_section, null_symbol, relas_of, section, section_name, sections, symbol_name, symbols};
+ghost use Rattle.elf_model.specs.ObjectFile.{section, section_name, sections, symbols};
 ghost use Rattle.elf_model.specs.Pieces.{is_kept};
 ghost use Rattle.elf_model.specs.Loading as loading;
 ghost use Rattle.elf_model.specs.Loading.{is_dropped};
 ghost use Rattle.elf_model.specs.Relocation.{IsMixed, IsMixedBound, definition_of, is_some_kind, symbol_at};
 ghost use Rattle.elf_model.specs.Resolution.{binding};
-ghost use Rattle.std.specs.Prelude.{Some, slice_index_or};
-ghost use Rattle.std.specs.List.{slice_get};
+ghost use Rattle.std.specs.Prelude.{Some};
 ghost use Rattle.std.specs.Option.{option_map_or};
 ghost use Rattle.search.specs.Views.{loaded_view};
 ghost use Rattle.resolve.specs.Views.{meaning_view};
@@ -25,57 +24,6 @@ use resolve::{Definition, Resolved, named_output};
 use search::LoadedObject;
 use std::alloc::Global;
 use std::collections::BTreeSet;
-
-const NULL_SYMBOL: Symbol = Symbol {
-    st_name: 0,
-    st_info: 0,
-    st_other: 0,
-    st_shndx: 0,
-    st_value: 0,
-    st_size: 0,
-};
-
-/// The size of a section in bytes, 0 where there is no such section.
-pub fn size_at(object: &Object<'_>, number: usize) -> u64
-    ensures { result ≡ (section (sections object.now) number).sh_size }
-{
-    match object.sections().get(number) {
-        Some(header) => header.sh_size,
-        None => 0,
-    }
-}
-
-/// The entries of RELA section `i`, which has the header.
-pub fn entries_of<'o>(object: &'o Object<'_>, i: usize, header: &SectionHeader) -> &'o [Rela]
-    requires there { slice_get (sections object.now) i ≡ Some header.now }
-    requires rela { header.now.sh_type ≡ 4 }
-    ensures { result.now ≡ relas_of object.entry.now header.now }
-{
-    match object.relas(i) {
-        Some(entries) => entries,
-        None => &[],
-    }
-}
-
-/// The entry of symbol `j`, that of the null symbol where there is no such symbol.
-pub fn symbol_entry(object: &Object<'_>, j: usize) -> Symbol
-    ensures { result ≡ slice_index_or (symbols object.now) j null_symbol }
-{
-    match object.symbols().get(j) {
-        Some(entry) => *entry,
-        None => NULL_SYMBOL,
-    }
-}
-
-/// The name of symbol `j`, empty where there is no such symbol.
-pub fn name_of<'a>(object: &Object<'a>, j: usize) -> &'a [u8]
-    ensures { result.now ≡ unwrap_or (symbol_name object.now j) [] }
-{
-    match object.name(j) {
-        Some(name) => name,
-        None => &[],
-    }
-}
 
 /// The section in which a symbol is defined; None where it is undefined, absolute or common.
 fn section_of(object: &Object<'_>, entry: &Symbol) -> Option<SectionHeader>

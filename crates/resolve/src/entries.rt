@@ -1,5 +1,5 @@
 //! The symbols of loaded objects, and what their entries say.
-ghost use Rattle.std.specs.Prelude.{◌≡◌, ◌/◌, ◌==◌, ◌&&◌, ◌||◌, ℕ, [], not, option_copied, unwrap_or};
+ghost use Rattle.std.specs.Prelude.{◌≡◌, ◌/◌, ◌==◌, ◌&&◌, ◌||◌, not};
 ghost use Rattle.elf_model.specs.Loading.{is_dropped};
 ghost use Rattle.elf_model.specs.ObjectFile.{symbol_name};
 ghost use Rattle.elf_model.specs.Resolution.{binding, is_common, is_global, is_placed_symbol, is_undefined, is_weak, symbol_of};
@@ -8,7 +8,6 @@ ghost use Rattle.resolve.specs.Offered.{is_defining};
 ghost use Rattle.resolve.specs.Views.{symbol_view};
 
 use elf_model::{SHN_COMMON, SHN_UNDEF, STB_GLOBAL, STB_LOCAL, STB_WEAK, Symbol};
-use elf_read::Object;
 use search::LoadedObject;
 
 /// A symbol of a loaded object: its object's and its own number, its name, its entry, and whether it stands in a
@@ -20,16 +19,6 @@ pub struct SymbolOf<'a> {
     pub name: &'a [u8],
     pub entry: Symbol,
     pub dropped: bool,
-}
-
-/// The name of symbol `j`, empty where there is no such symbol.
-pub fn name_of<'a>(object: &Object<'a>, j: usize) -> &'a [u8]
-    ensures { result.now ≡ unwrap_or (symbol_name object.now j) [] }
-{
-    match object.name(j) {
-        Some(name) => name,
-        None => &[],
-    }
 }
 
 /// Symbol `j` of the object that has a number, with its entry.
@@ -44,7 +33,7 @@ pub fn symbol_in<'a>(
     SymbolOf {
         object: number,
         number: j as u64,
-        name: name_of(&loaded.object, j),
+        name: loaded.object.symbol_name(j),
         entry: *entry,
         dropped: is_dropped(loaded, entry),
     }

@@ -5,11 +5,11 @@
 
 mod blocks;
 mod bounds;
-mod defining;
+mod candidates;
 mod definition;
+mod definition_list;
 mod entries;
 mod faults;
-mod offering;
 mod output_names;
 mod outputs;
 mod places;

@@ -6,8 +6,8 @@ ghost use Rattle.search.specs.Views.{loaded_view, loaded_views};
 ghost use Rattle.resolve.specs.Meaning.{named_at, named_of};
 ghost use Rattle.resolve.specs.Places.{ArePlaces, AreRanked, IsIndex, at_place, at_some, place_at, symbol_numbered};
 
-use crate::entries::{SymbolOf, is_dropped, is_local, is_strong, name_of};
-use crate::offering::chosen_of;
+use crate::candidates::chosen_of;
+use crate::entries::{SymbolOf, is_dropped, is_local, is_strong};
 use crate::rows::{place_at, put};
 use elf_model::Symbol;
 use search::LoadedObject;
@@ -74,7 +74,7 @@ fn symbol_place<'a, T: NameTable<'a>>(
     if is_local(entry) {
         return index.definitions.len();
     }
-    name_place(index, places, name_of(&loaded.object, j))
+    name_place(index, places, loaded.object.symbol_name(j))
 }
 
 /// Writes the place for symbol `j` of the object that has a number. A strong definition's own stands

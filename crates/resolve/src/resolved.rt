@@ -21,9 +21,9 @@ ghost use Rattle.symbols.specs.Rows.{no_rows};
 
 use crate::blocks::{Block, index_of};
 use crate::bounds::bound_of;
-use crate::defining::define;
 use crate::definition::Definition;
-use crate::entries::{SymbolOf, is_common, is_local, is_undefined, name_of, symbol_in};
+use crate::definition_list::define;
+use crate::entries::{SymbolOf, is_common, is_local, is_undefined, symbol_in};
 use crate::faults::ResolveFault;
 use crate::outputs::output_names_of;
 use crate::places::{Index, write_places};
@@ -284,7 +284,7 @@ impl<'a> Resolved<'a> {
         if is_local(entry) {
             return itself(object as u64, loaded, number, entry);
         }
-        self.linker_meaning(name_of(&loaded.object, number))
+        self.linker_meaning(loaded.object.symbol_name(number))
     }
 
     /// What the chosen definition of a name means.

@@ -5,7 +5,7 @@ ghost use Rattle.elf_model.specs.ObjectFile.{symbols};
 ghost use Rattle.elf_model.specs.Resolution.{AreSoundCommons, AreSoundSymbols, IsSoundCommon, IsSoundSymbol, StandsWell, binding, symbol_of, symbols_from};
 ghost use Rattle.search.specs.Views.{loaded_view, loaded_views};
 
-use crate::entries::{is_common, is_dropped, name_of};
+use crate::entries::{is_common, is_dropped};
 use crate::sections::section_of;
 use elf_model::{STB_GLOBAL, STT_TLS, SectionHeader, Symbol};
 use elf_read::is_power_of_two;
@@ -39,7 +39,7 @@ fn is_sound(
 ) -> bool
     ensures { IsTrue result ↔ IsSoundSymbol (loaded_views objects.now) (symbol_of number (loaded_view loaded.now) j entry.now) }
 {
-    if is_visible(entry) && name_of(&loaded.object, j).is_empty() {
+    if is_visible(entry) && loaded.object.symbol_name(j).is_empty() {
         return false;
     }
     if is_dropped(loaded, entry) {

@@ -16,7 +16,7 @@ use Rattle.search.specs.Opened.{file_at, first_found, item_view}
 use Rattle.search.specs.Faults.{AreUnsearchable, IsUnsearchable}
 use Rattle.search.specs.declared.faults.SearchFault.{SearchFault}
 use Rattle.search.specs.declared.faults.SearchFault.TheVariants as error
-use Rattle.search.specs.declared.opening.OpenedItem.{OpenedItem}
+use Rattle.search.specs.declared.opened_items.OpenedItem.{OpenedItem}
 
 -- a path without a file
 pub none_found : (files : List File) (paths : List (List ℕ)) → None ≡ first_found files paths → IsSome (find (is_file files) paths) → ⊥

@@ -6,7 +6,7 @@ ghost use Rattle.search.specs.Opened.{item_view};
 ghost use Rattle.search.specs.Faults.{AreUnsearchable, IsUnsearchable};
 
 use crate::faults::{SearchFault, archive_fault};
-use crate::opening::OpenedItem;
+use crate::opened_items::OpenedItem;
 use ar_index::{Archive, IndexEntry, Member};
 use byteview::View;
 use std::alloc::Global;

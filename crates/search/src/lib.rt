@@ -5,17 +5,17 @@
 mod archives;
 mod faults;
 mod files;
-mod keeping;
+mod kept_sections;
+mod load_steps;
 mod loaded;
 mod loader;
-mod loading;
 mod names;
-mod opening;
-mod runs;
-mod taken;
+mod opened_items;
+mod rounds;
+mod taken_members;
 mod turns;
 mod waits;
 
 pub use faults::SearchFault;
+pub use load_steps::load;
 pub use loaded::{Loaded, LoadedObject};
-pub use loading::load;

@@ -4,15 +4,13 @@ ghost use Rattle.std.specs.List.{flat_map};
 ghost use Rattle.byteview.specs.Numbers.{le_bytes};
 ghost use Rattle.elf_model.specs.MapRecord.{OfLocal, slot_row, target_row};
 ghost use Rattle.elf_model.specs.MemoryImage.{Encloses, loads};
-ghost use Rattle.elf_model.specs.RightLink.{HoldsGot, StandFrom};
+ghost use Rattle.elf_model.specs.RightLink.{HoldsGot, StandFrom, objects_of, where_of};
 ghost use Rattle.elf_model.specs.Slots as slots;
 ghost use Rattle.elf_model.specs.Slots.{size_with, slot_bytes};
-ghost use Rattle.check_load.specs.Views.{loaded_views};
 ghost use Rattle.checker.specs.Got.{HoldsBytes, LiesInImage};
 
+use crate::bound_link::BoundLink;
 use crate::segments::{enclosing, file_bytes, same_padded};
-use check_link::SlotTable;
-use check_load::Loaded;
 use check_relocs::{Bindings, symbol_at};
 use elf_model::{GotLine, SlotKind, SlotLine, SlotTarget};
 use loader_model::Memory;
@@ -20,42 +18,30 @@ use std::alloc::{AllocError, Global};
 
 /// The value of a LOCAL symbol by its object's and its own number, modulo 2^64; 0 where there is no such object, and
 /// where the symbol isn't defined.
-fn local_value<'a>(
-    bindings: &Bindings<'_, '_, 'a>,
-    objects: &[Loaded<'a>],
-    object: u64,
-    symbol: u64,
-) -> u64
-    requires { bindings.now.objects ≡ loaded_views objects.now }
+fn local_value(bindings: &Bindings<'_, '_, '_>, object: u64, symbol: u64) -> u64
     ensures { result ≡ slots.target_value bindings.now.objects bindings.now.places (OfLocal object symbol) % 2 ^ 64 }
 {
-    match objects.get(object as usize) {
+    match bindings.objects().get(object as usize) {
         Some(loaded) => bindings.symbol_value(&symbol_at(loaded, object, symbol as usize)),
         None => 0,
     }
 }
 
 /// The value of what a slot stands for, modulo 2^64, 0 where that means nothing.
-fn target_value<'a>(
-    bindings: &Bindings<'_, '_, 'a>,
-    objects: &[Loaded<'a>],
-    target: &SlotTarget,
-) -> u64
-    requires { bindings.now.objects ≡ loaded_views objects.now }
+fn target_value(bindings: &Bindings<'_, '_, '_>, target: &SlotTarget) -> u64
     ensures { result ≡ slots.target_value bindings.now.objects bindings.now.places (target_row target.now) % 2 ^ 64 }
 {
     match target {
         SlotTarget::Name(name) => bindings.name_value(name),
-        SlotTarget::Local { object, symbol } => local_value(bindings, objects, *object, *symbol),
+        SlotTarget::Local { object, symbol } => local_value(bindings, *object, *symbol),
     }
 }
 
 /// What a line's slot holds: the value of what it stands for, or that value's offset from the thread pointer, modulo 2^64.
-fn slot_value<'a>(bindings: &Bindings<'_, '_, 'a>, objects: &[Loaded<'a>], line: &SlotLine) -> u64
-    requires { bindings.now.objects ≡ loaded_views objects.now }
+fn slot_value(bindings: &Bindings<'_, '_, '_>, line: &SlotLine) -> u64
     ensures { result ≡ slots.slot_value bindings.now.objects bindings.now.places line.now.kind (target_row line.now.target) }
 {
-    let value = target_value(bindings, objects, &line.target);
+    let value = target_value(bindings, &line.target);
     match line.kind {
         SlotKind::Value => value,
         SlotKind::Thread => value.wrapping_sub(bindings.thread_pointer()),
@@ -63,19 +49,17 @@ fn slot_value<'a>(bindings: &Bindings<'_, '_, 'a>, objects: &[Loaded<'a>], line:
 }
 
 /// The bytes of a GOT that has the lines' slots.
-fn wanted_bytes<'a>(
+fn wanted_bytes(
     alloc: Global,
-    bindings: &Bindings<'_, '_, 'a>,
-    objects: &[Loaded<'a>],
+    bindings: &Bindings<'_, '_, '_>,
     lines: &[SlotLine],
 ) -> Result<Vec<u8>, AllocError>
-    requires { bindings.now.objects ≡ loaded_views objects.now }
     ensures { IfOk result (λ v. v.items ≡ replicate 8 0 ++ flat_map (slot_bytes bindings.now.objects bindings.now.places) (map slot_row lines.now)) }
 {
     let mut bytes = Vec::new(alloc);
     bytes.extend_from_slice(&[0; 8])?;
     for line in lines {
-        let value = slot_value(bindings, objects, line);
+        let value = slot_value(bindings, line);
         bytes.extend_from_slice(&value.to_le_bytes())?;
     }
     Ok(bytes)
@@ -120,26 +104,22 @@ fn holds_bytes(memory: &Memory<'_>, at: u64, bytes: &[u8]) -> bool
 }
 
 /// Whether the slots fill a GOT behind its first word, and memory holds word and slots.
-pub fn holds_got<'a>(
+pub fn holds_got(
     alloc: Global,
-    bindings: &Bindings<'_, '_, 'a>,
-    objects: &[Loaded<'a>],
-    slots: &SlotTable<'_>,
-    memory: &Memory<'_>,
+    bound: &BoundLink<'_, '_>,
     got: &GotLine,
 ) -> Result<bool, AllocError>
-    requires objects { bindings.now.objects ≡ loaded_views objects.now }
-    requires slots { slots.now ≡ bindings.now.places.slots }
-    requires lies { LiesInImage memory.now got.now }
-    ensures { IfOk result (λ b. IsTrue b ↔ HoldsGot bindings.now.objects bindings.now.places memory.now got.now) }
+    requires { LiesInImage bound.now.image got.now }
+    ensures { IfOk result (λ b. IsTrue b ↔ HoldsGot (objects_of bound.now) (where_of bound.now) bound.now.image got.now) }
 {
-    let lines = slots.lines();
+    let memory = bound.memory();
+    let lines = bound.slots().lines();
     if !is_size_of(got.size, lines.len()) {
         return Ok(false);
     }
     if !stand_from(got.address + 8, lines) {
         return Ok(false);
     }
-    let wanted = wanted_bytes(alloc, bindings, objects, lines)?;
+    let wanted = wanted_bytes(alloc, bound.bindings(), lines)?;
     Ok(holds_bytes(memory, got.address, &wanted))
 }

@@ -6,7 +6,7 @@ use Rattle.elf_model.proofs.FlatRelocations.{left_of_objects, object_end, object
 use Rattle.elf_model.specs.Loading.{LoadedObject}
 use Rattle.elf_model.specs.Relocation.{relocations, relocations_from}
 use Rattle.check_relocs.specs.Fields.{AreRight, IsRowOf}
-use Rattle.check_load.specs.Views.{loaded_view, loaded_views}
+use Rattle.check_load.specs.Views.{loaded_view}
 use Rattle.check_load.specs.declared.loader.Loaded.{Loaded}
 use Rattle.check_relocs.specs.declared.fields.Field.{Field}
 use Rattle.check_relocs.proofs.ByIndex.{by_index_more}
@@ -24,8 +24,8 @@ object_read xs k x within is =
 
 pub returns-in_default-clause-right : goal.returns-in_default-clause-right
 returns-in_default-clause-right c =
-    let xs = c.args.objects.now in
-    let L = loaded_views xs in
+    let xs = c.objects-objects.result.now in
+    let L = c.args.bindings.now.objects in
     let ps = c.args.bindings.now.places in
     let k = c.loop-k.k in
     let x = c.index-objects-k.result in
@@ -35,13 +35,13 @@ returns-in_default-clause-right c =
       λ e. absurd (false≢true e),
       λ a. absurd
           (right_stop L ps (AreRight L ps (relocations L)) (left_of_objects loaded_view xs k) here (left_of_objects loaded_view xs (k + 1)) parts
-          (λ h. false≢true (r.1 (subst (λ (os : List LoadedObject). AreRight os ps here) (sym c.requires) h))) c.loop-k.invariant.right a),
+          (λ h. false≢true (r.1 h)) c.loop-k.invariant.right a),
     )
 
 pub returns-clause-right : goal.returns-clause-right
 returns-clause-right c =
-    let xs = c.args.objects.now in
-    let L = loaded_views xs in
+    let xs = c.objects-objects.result.now in
+    let L = c.args.bindings.now.objects in
     let ps = c.args.bindings.now.places in (
       λ e. right_end L ps (AreRight L ps (relocations L)) (left_of_objects loaded_view xs c.loop-k.k)
           (object_end loaded_view xs c.loop-k.k c.loop-k-test.false) c.loop-k.invariant.right,
@@ -50,8 +50,8 @@ returns-clause-right c =
 
 pub loop-k-preserved : goal.loop-k-preserved
 loop-k-preserved c =
-    let xs = c.args.objects.now in
-    let L = loaded_views xs in
+    let xs = c.objects-objects.result.now in
+    let L = c.args.bindings.now.objects in
     let ps = c.args.bindings.now.places in
     let k = c.loop-k.k in
     let x = c.index-objects-k.result in
@@ -65,16 +65,16 @@ loop-k-preserved c =
     let long = ap (length {A = Vec Field}) grown in
     let Has : ℕ → Vec Field → Type 0 = λ j v. (d : LoadedObject) → IsRowOf L ps j (get_or L j d) v.items in
     let object_is : (d : LoadedObject) → loaded_view x ≡ get_or L k d =
-    λ d. ap (λ (y : Loaded). loaded_view y) c.index-objects-k.is ∙ sym (get_or-map loaded_view xs k x d c.loop-k-test.true) in
+    λ d. ap (λ (y : Loaded). loaded_view y) c.index-objects-k.is
+    ∙ (sym (get_or-map loaded_view xs k x d c.loop-k-test.true) ∙ ap (λ (os : List LoadedObject). get_or os k d) c.objects-objects.ensures) in
     let of_row : Has k c.in-Some.row =
-    λ d. subst (λ (y : LoadedObject). IsRowOf L ps k y c.in-Some.row.items) (object_is d)
-    (subst (λ (os : List LoadedObject). IsRowOf os ps k (loaded_view x) c.in-Some.row.items) c.requires row) in
+    λ d. subst (λ (y : LoadedObject). IsRowOf L ps k y c.in-Some.row.items) (object_is d) row in
     record {
       count = omega (arith, long, more, count);
       rows = by_index_more Has old c.push.new.self.items c.in-Some.row grown c.loop-k.invariant.rows (subst (λ (j : ℕ). Has j c.in-Some.row) (sym count) of_row);
       right =
           right_more L ps (AreRight L ps (relocations L)) (left_of_objects loaded_view xs k) here (left_of_objects loaded_view xs (k + 1))
           (object_read xs k x c.loop-k-test.true c.index-objects-k.is)
-          (subst (λ (os : List LoadedObject). AreRight os ps here) c.requires (right.0 refl))
+          (right.0 refl)
           (objects_apart k (loaded_view x) (map loaded_view (drop (k + 1) xs))) c.loop-k.invariant.right;
     }

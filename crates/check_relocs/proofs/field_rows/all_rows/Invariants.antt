@@ -5,7 +5,7 @@ use Rattle.elf_model.specs.Loading.{LoadedObject}
 use Rattle.elf_model.specs.Relocation.{relocations}
 use Rattle.elf_model.proofs.Rests.{Left}
 use Rattle.check_relocs.specs.Fields.{AreRight, IsRowOf}
-use Rattle.check_load.specs.Views.{loaded_view, loaded_views}
+use Rattle.check_load.specs.Views.{loaded_view}
 use Rattle.check_relocs.specs.declared.fields.Field.{Field}
 use Rattle.check_relocs.proofs.field_rows.all_rows.Given as goal
 
@@ -14,8 +14,8 @@ invariant-loop-k l = record {
   count : length l.rows.items ≡ l.k;
   rows :
       (k : ℕ) (d : Vec Field) → k < length l.rows.items → (o : LoadedObject)
-      → IsRowOf (loaded_views l.objects) l.bindings.places k (get_or (loaded_views l.objects) k o) (get_or l.rows.items k d).items;
+      → IsRowOf l.bindings.objects l.bindings.places k (get_or l.bindings.objects k o) (get_or l.rows.items k d).items;
   right :
-      Left (AreRight (loaded_views l.objects) l.bindings.places (relocations (loaded_views l.objects)))
-      (AreRight (loaded_views l.objects) l.bindings.places (left_of_objects loaded_view l.objects l.k));
+      Left (AreRight l.bindings.objects l.bindings.places (relocations l.bindings.objects))
+      (AreRight l.bindings.objects l.bindings.places (left_of_objects loaded_view l.objects l.k));
 }

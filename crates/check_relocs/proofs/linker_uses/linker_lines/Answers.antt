@@ -1,12 +1,9 @@
-use Rattle.std.proofs.Common.{List, subst, sym}
+use Rattle.std.proofs.Common.{subst, sym}
 use Rattle.elf_model.specs.Listing.{AreLinkerLines}
-use Rattle.elf_model.specs.Loading.{LoadedObject}
-use Rattle.check_load.specs.Views.{loaded_views}
 use Rattle.elf_model.proofs.LinkerLines.{lines_are}
 use Rattle.check_relocs.proofs.linker_uses.linker_lines.Goals as goal
 
 pub returns : goal.returns
 returns c =
-    let L : List LoadedObject = loaded_views c.args.objects.now in
-    subst (AreLinkerLines L) (sym (rw c.requires at c.in_ok-lines.ensures.lines))
-    (lines_are L c.in_ok-names.names c.in_ok-lines.ensures.ordered c.in_ok-names.ensures)
+    let L = c.args.bindings.now.objects in
+    subst (AreLinkerLines L) (sym c.in_ok-lines.ensures.lines) (lines_are L c.in_ok-names.names c.in_ok-lines.ensures.ordered c.in_ok-names.ensures)

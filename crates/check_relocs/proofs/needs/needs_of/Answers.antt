@@ -3,31 +3,32 @@ use Rattle.elf_model.proofs.FlatRelocations.{left_of_objects, object_end, object
 use Rattle.elf_model.specs.Loading.{LoadedObject}
 use Rattle.elf_model.specs.Relocation.{Relocation, relocations, relocations_from}
 use Rattle.elf_model.specs.Slots.{Request}
-use Rattle.check_load.specs.Views.{loaded_view, loaded_views}
-use Rattle.check_relocs.specs.Needs.{HaveGained}
+use Rattle.check_load.specs.Views.{loaded_view}
 use Rattle.check_link.specs.Slots.{is_asked}
-use Rattle.check_relocs.proofs.NeedSteps.{gained_all, gaining_more, none_asked, start}
+use Rattle.check_relocs.proofs.NeedSteps.{Gaining, gained_all, gaining_more, none_asked, start}
 use Rattle.check_relocs.proofs.needs.needs_of.Goals as goal
 
 pub loop-k-init : goal.loop-k-init
 loop-k-init c =
+    let L : List LoadedObject = c.args.bindings.now.objects in
     let none : (q : Request) → is_asked c.new.result q ≡ false = λ q. search rules in
-    start (loaded_views c.args.objects.now) (relocations (loaded_views c.args.objects.now)) _ refl none
+    subst (λ (os : List LoadedObject). Gaining L (relocations os) (relocations L) false none_asked (record { got = false; requests = c.new.result })) (sym c.objects-objects.ensures)
+    (start L (relocations L) _ refl none)
 
 pub loop-k-preserved : goal.loop-k-preserved
 loop-k-preserved c =
-    let L : List LoadedObject = loaded_views c.args.objects.now in
-    let xs = c.args.objects.now in
+    let L : List LoadedObject = c.args.bindings.now.objects in
+    let xs = c.objects-objects.result.now in
     let k = c.loop-k.k in
     let here : List Relocation = relocations_from k (loaded_view c.index-objects-k.result) in
     let rest : List Relocation = left_of_objects loaded_view xs (k + 1) in
     let is : left_of_objects loaded_view xs k ≡ here ++ rest =
     object_more loaded_view xs k _ c.loop-k-test.true ∙ ap (λ l. relocations_from k (loaded_view l) ++ rest) (sym c.index-objects-k.is) in
-    let gains : HaveGained L here c.loop-k.needs c.add_object.new.needs =
-    subst (λ (os : List LoadedObject). HaveGained os here c.loop-k.needs c.add_object.new.needs) c.requires c.in_ok-add_object.ensures in
-    gaining_more L (relocations L) false none_asked c.loop-k.needs (left_of_objects loaded_view xs k) here rest c.add_object.new.needs is gains c.loop-k.invariant
+    gaining_more L (relocations L) false none_asked c.loop-k.needs (left_of_objects loaded_view xs k) here rest c.add_object.new.needs is
+    c.in_ok-add_object.ensures c.loop-k.invariant
 
 pub returns : goal.returns
 returns c =
-    gained_all (loaded_views c.args.objects.now) (left_of_objects loaded_view c.args.objects.now c.loop-k.k) c.loop-k.needs
-    (object_end loaded_view c.args.objects.now c.loop-k.k c.loop-k-test.false) c.loop-k.invariant
+    let xs = c.objects-objects.result.now in
+    gained_all c.args.bindings.now.objects (left_of_objects loaded_view xs c.loop-k.k) c.loop-k.needs
+    (object_end loaded_view xs c.loop-k.k c.loop-k-test.false) c.loop-k.invariant

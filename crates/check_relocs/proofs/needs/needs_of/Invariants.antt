@@ -1,10 +1,10 @@
 use Rattle.std.proofs.Common.{false}
 use Rattle.elf_model.proofs.FlatRelocations.{left_of_objects}
 use Rattle.elf_model.specs.Relocation.{relocations}
-use Rattle.check_load.specs.Views.{loaded_view, loaded_views}
+use Rattle.check_load.specs.Views.{loaded_view}
 use Rattle.check_relocs.proofs.NeedSteps.{Gaining, none_asked}
 use Rattle.check_relocs.proofs.needs.needs_of.Given as goal
 
 abbrev pub invariant-loop-k : goal.invariant-loop-k
 invariant-loop-k l =
-    Gaining (loaded_views l.objects) (left_of_objects loaded_view l.objects l.k) (relocations (loaded_views l.objects)) false none_asked l.needs
+    Gaining l.bindings.objects (left_of_objects loaded_view l.objects l.k) (relocations l.bindings.objects) false none_asked l.needs

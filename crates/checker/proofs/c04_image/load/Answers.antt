@@ -1,12 +1,14 @@
-use Rattle.std.proofs.Common.{◌≡◌, false, true, subst, sym}
+use Rattle.std.proofs.Common.{◌≡◌, ◌∙◌, ap, false, true, subst, sym}
 use Rattle.elf_model.specs.MemoryImage.{IsImage}
+use Rattle.elf_model.specs.RightLink.{Subject}
 use Rattle.checker.proofs.ImageFaults.{no_image}
 use Rattle.checker.proofs.c04_image.load.Goals as goal
 
 pub returns-else-is_memory-clause-image : goal.returns-else-is_memory-clause-image
-returns-else-is_memory-clause-image c = (
-  λ e. absurd (cc),
-  λ i. absurd
-      (no_image c.new.result c.in-Err.fault (λ e. let f : false ≡ true = c.if-is_memory.ensures.1 e in cc) c.in-Err.ensures.fault
-      (subst IsImage (sym c.new.ensures) i)),
-)
+returns-else-is_memory-clause-image c =
+    let image = c.new.ensures ∙ ap (λ (s : Subject). s.image) c.link.view_is in (
+      λ e. absurd (cc),
+      λ i. absurd
+          (no_image c.new.result c.in-Err.fault (λ e. let f : false ≡ true = c.if-is_memory.ensures.1 e in cc) c.in-Err.ensures.fault
+          (subst IsImage (sym image) i)),
+    )

@@ -1,7 +1,5 @@
-use Rattle.std.proofs.Common.{◌++◌, List, ap, map, refl, subst, sym, ◌∙◌}
+use Rattle.std.proofs.Common.{◌++◌, List, ap, map, refl, sym, ◌∙◌}
 use Rattle.std.proofs.lemmas.Bool.{false≢true}
-use Rattle.elf_model.specs.Listing.{AreLinkerLines}
-use Rattle.elf_model.specs.Loading.{LoadedObject}
 use Rattle.elf_model.specs.Meaning.{meanings_of}
 use Rattle.elf_model.specs.RightLink.{symbol_row_of}
 use Rattle.check_link.specs.Views.{meaning_views, symbol_views}
@@ -32,8 +30,7 @@ returns c =
     let lines =
     listed L c.args.bindings.now.places (map symbol_row c.args.lines.now) all c.in-Some.chosen.items c.in_ok-linkers.linkers.items
     c.in_ok-joined.field-0.items c.in_ok-sorted.sorted.items c.symbols.ensures found
-    (subst (λ (os : List LoadedObject). AreLinkerLines os (meaning_views c.in_ok-linkers.linkers.items)) (sym c.requires.loaded) c.in_ok-linkers.ensures) both
-    c.in_ok-sorted.ensures.same c.in_ok-sorted.ensures.rising c.requires.ascend in
+    c.in_ok-linkers.ensures both c.in_ok-sorted.ensures.same c.in_ok-sorted.ensures.rising c.requires in
     let same = ap (λ (ms : List code.Meaning). map (symbol_row_of c.args.bindings.now.places) (meaning_views ms)) c.deref-2.ensures.value in (
       λ e. (c.are_sound.ensures.0 c.if-not-are_sound.false, unique, lines.0 (c.are_lines_of-listed.ensures.0 e ∙ same)),
       λ h. c.are_lines_of-listed.ensures.1 (lines.1 h.2 ∙ sym same),

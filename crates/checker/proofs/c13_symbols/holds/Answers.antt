@@ -1,12 +1,9 @@
-use Rattle.std.proofs.Common.{◌≡◌, ap, List, ℕ, map, Bool, subst, sym}
+use Rattle.std.proofs.Common.{◌≡◌, ◌∙◌, ap, List, ℕ, map, Bool, subst}
 use Rattle.std.specs.Prelude.{◌↔◌, IsTrue}
 use Rattle.elf_model.specs.MapRecord.{SymbolRow, symbol_row}
-use Rattle.elf_model.specs.MapText.{Ascends, SymbolBefore}
 use Rattle.elf_model.specs.Resolution.{AreSoundSymbols, AreUnique}
 use Rattle.elf_model.specs.RightLink.{AreSymbolsListed, HasLine, Subject}
-use Rattle.elf_model.specs.declared.link_map.SymbolLine.{SymbolLine}
 use Rattle.check_relocs.specs.Bindings.{Bound, bound_of}
-use Rattle.check_link.specs.Subjects.{subject_of}
 use Rattle.checker.proofs.c13_symbols.holds.Goals as goal
 
 abbrev Listed : List SymbolRow → Bound → Type 0
@@ -22,11 +19,7 @@ as_clause s t rows b er eb h =
       λ l. o.1 (l.sound, l.unique, l.lines),
     )
 
-pub are_symbols_listed-requires-clause-ascend : goal.are_symbols_listed-requires-clause-ascend
-are_symbols_listed-requires-clause-ascend c =
-    subst (λ (lines : List SymbolLine). Ascends SymbolBefore (map symbol_row lines)) (sym c.deref.ensures.value) c.requires.map.ordered.symbols
-
 pub returns : goal.returns
 returns c =
-    as_clause (subject_of c.args.link.now) c.in_ok-listed.listed (map symbol_row c.deref.result.now) c.args.bindings.now
-    (ap (map symbol_row) c.deref.ensures.value) c.requires.bound c.in_ok-listed.ensures
+    let rows = ap (map symbol_row) c.deref.ensures.value ∙ ap (λ (s : Subject). s.map.symbols) (c.link.view_is ∙ c.link-link.ensures) in
+    as_clause c.args.bound.now c.in_ok-listed.listed (map symbol_row c.deref.result.now) c.bindings.result.now rows c.bindings.ensures c.in_ok-listed.ensures

@@ -1,15 +1,14 @@
-use Rattle.std.proofs.Common.{refl}
-use Rattle.elf_model.specs.declared.verdict.Clause.TheVariants.{C2, C3}
-use Rattle.check_link.specs.Subjects.{subject_of}
-use Rattle.checker.proofs.Clauses.{before_next, before_second}
+use Rattle.std.proofs.Common.{◌≡◌, false, true, subst, sym}
+use Rattle.std.specs.Prelude.{IsSome}
+use Rattle.elf_model.specs.RightLink.{Subject}
+use Rattle.check_load.specs.Plans.{CanLoad}
 use Rattle.checker.proofs.verdict.judge.Goals as goal
 
-pub no-requires-clause-before : goal.no-requires-clause-before
-no-requires-clause-before c = before_second (subject_of c.args.link.now)
-
-pub no-requires-then-not-holds-clause-before : goal.no-requires-then-not-holds-clause-before
-no-requires-then-not-holds-clause-before c = before_second (subject_of c.args.link.now)
-
-pub judge_loaded-requires-clause-before : goal.judge_loaded-requires-clause-before
-judge_loaded-requires-clause-before c =
-    before_next (subject_of c.args.link.now) C2 C3 refl (before_second (subject_of c.args.link.now)) (c.holds.ensures.0 c.if-not-holds.false)
+pub no-requires-clause-fails : goal.no-requires-clause-fails
+no-requires-clause-fails c =
+    λ loaded.
+    let can : CanLoad c.args.link.now.files c.args.link.now.plan =
+    record { files_there = loaded.files; archives = loaded.archives; indexes = loaded.indexes; objects = loaded.objects; groups = loaded.groups } in
+    let some = c.in_ok-objects.ensures.some.1 (subst (λ (s : Subject). CanLoad s.files s.plan) (sym c.link.view_is) can) in
+    let never : false ≡ true = subst IsSome c.in_default.is some in
+    cc

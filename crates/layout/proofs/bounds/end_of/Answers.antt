@@ -6,7 +6,7 @@ use Rattle.elf_model.proofs.PieceBounds.{end_more}
 use Rattle.layout.specs.Limits.{IsInLimit}
 use Rattle.layout.specs.PieceParts.{part_test}
 use Rattle.layout.specs.PlaceViews.{place_view}
-use Rattle.layout.specs.declared.running.Place.{Place}
+use Rattle.layout.specs.declared.runs.Place.{Place}
 use Rattle.layout.proofs.bounds.end_of.Goals as goal
 
 pub loop-place-init : goal.loop-place-init

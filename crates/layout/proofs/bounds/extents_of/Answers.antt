@@ -9,7 +9,7 @@ use Rattle.elf_model.proofs.PieceBounds.{either_least, either_none}
 use Rattle.layout.specs.Limits.{IsInLimit}
 use Rattle.layout.specs.PieceParts.{end_in, is_other, start_in}
 use Rattle.layout.specs.PlaceViews.{place_view, place_views}
-use Rattle.layout.specs.declared.running.Place.{Place}
+use Rattle.layout.specs.declared.runs.Place.{Place}
 use Rattle.layout.proofs.OtherPlaces.{end_more, none_more, passing, start_more}
 use Rattle.layout.proofs.bounds.extents_of.Goals as goal
 

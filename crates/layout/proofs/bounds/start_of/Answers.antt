@@ -4,7 +4,7 @@ use Rattle.elf_model.specs.LinkerValues.{start_of_pieces}
 use Rattle.elf_model.proofs.PieceBounds.{either_least, either_none, start_more}
 use Rattle.layout.specs.PieceParts.{part_test}
 use Rattle.layout.specs.PlaceViews.{place_view}
-use Rattle.layout.specs.declared.running.Place.{Place}
+use Rattle.layout.specs.declared.runs.Place.{Place}
 use Rattle.layout.proofs.bounds.start_of.Goals as goal
 
 pub loop-place-init : goal.loop-place-init

@@ -14,7 +14,7 @@ use Rattle.layout.specs.Limits.{AreInLimit}
 use Rattle.layout.specs.PieceParts.{AreBounds}
 use Rattle.layout.specs.PlaceViews.{place_views}
 use Rattle.layout.specs.Threads.{header_in, placed_alignment}
-use Rattle.layout.specs.declared.running.Place.{Place}
+use Rattle.layout.specs.declared.runs.Place.{Place}
 use Rattle.elf_model.proofs.OwnRelation.{are_own_addresses}
 use Rattle.layout.proofs.OwnAddresses.{address_either}
 use Rattle.layout.proofs.OwnThreads.{own_above, own_alignment}

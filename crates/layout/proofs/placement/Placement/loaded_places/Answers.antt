@@ -3,7 +3,7 @@ use Rattle.elf_model.specs.OwnLayout.{own_loaded, own_thread_rest}
 use Rattle.search.specs.Views.{loaded_views}
 use Rattle.layout.specs.Placements.{Basis}
 use Rattle.layout.specs.PlaceViews.{place_views}
-use Rattle.layout.specs.declared.running.Place.{Place}
+use Rattle.layout.specs.declared.runs.Place.{Place}
 use Rattle.layout.proofs.OwnThreads.{loaded_front}
 use Rattle.layout.proofs.placement.Placement.loaded_places.Goals as goal
 

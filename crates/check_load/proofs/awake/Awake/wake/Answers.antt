@@ -1,5 +1,0 @@
-use Rattle.check_load.proofs.AwakeLaws.{woken}
-use Rattle.check_load.proofs.awake.Awake.wake.Goals as goal
-
-pub returns : goal.returns
-returns c = woken c.args.self.now _ c.args.place c.in_ok-insert.ensures.updates

@@ -1,0 +1,16 @@
+use Rattle.std.proofs.Common.{subst}
+use Rattle.std.specs.Prelude.{IfErr}
+use Rattle.elf_model.specs.Loading.{Single, loaded_step}
+use Rattle.elf_model.specs.Opening.{Opened}
+use Rattle.check_load.specs.Stops.{Refutes}
+use Rattle.check_load.specs.Loaders.{AreLoadable, loaded}
+use Rattle.check_load.specs.Opened.{item_view}
+use Rattle.check_load.proofs.TurnLaws.{single_fails}
+use Rattle.check_load.proofs.load_steps.load_single.Goals as goal
+
+pub returns-clause-stop : goal.returns-clause-stop
+returns-clause-stop c =
+    let plan = c.args.loader.now.plan.now in
+    let os = loaded c.args.loader.now in
+    subst (λ (o : Opened). IfErr c.add.result (Refutes (AreLoadable (loaded_step plan (Single o) os)))) c.item-item.ensures
+    (single_fails plan c.add.result os (item_view c.item-item.result) c.if-item.false c.add.ensures.stop)

@@ -1,0 +1,31 @@
+-- What is known of a link that is judged, by the stages in which it becomes known.
+use Rattle.std.specs.Prelude.{◌≡◌, ℕ, ◌≤◌, List, length, take}
+use Rattle.elf_model.specs.Loading.{LoadedObject}
+use Rattle.elf_model.specs.MapRecord.{CommonRow, SlotRow}
+use Rattle.elf_model.specs.Pieces.{Piece, kept_sections}
+use Rattle.elf_model.specs.Placement.{got_things}
+use Rattle.elf_model.specs.RightLink.{Subject, objects_of, placed_of, sections_of, things_of}
+use Rattle.elf_model.specs.declared.thing.Thing.{Thing}
+use Rattle.check_link.specs.Views.{placed_views}
+use Rattle.check_link.specs.declared.things.Placed.{Placed}
+use Rattle.check_relocs.specs.Bindings.{Bound, bound_of}
+
+-- the objects are loaded
+pub record IsLoadedLink (s : Subject) (os : List LoadedObject) (ps : List Piece) (rows : List CommonRow) : Type 0 where
+  pub names : os ≡ objects_of s
+  pub pieces : ps ≡ kept_sections (objects_of s)
+  pub lines : rows ≡ s.map.commons
+
+-- the image is mapped, and what the map places in it is listed, the sections first
+pub record IsPlacedLink (s : Subject) (image : List ℕ) (qs : List Placed) (count : ℕ) (got ts : List Thing) : Type 0 where
+  pub memory : image ≡ s.image
+  pub placed : placed_views qs ≡ placed_of s
+  pub within : count ≤ length qs
+  pub sections : placed_views (take count qs) ≡ sections_of s
+  pub gots : got ≡ got_things s.map.got
+  pub things : ts ≡ things_of s
+
+-- names mean what they do in the link
+pub record IsBoundLink (s : Subject) (rows : List SlotRow) (b : Bound) : Type 0 where
+  pub slots : rows ≡ s.map.slots
+  pub bound : b ≡ bound_of s

@@ -1,0 +1,92 @@
+//! A placed link with what its names mean: what the clauses from the seventh on judge.
+ghost use Rattle.std.specs.Prelude.{◌≡◌};
+ghost use Rattle.elf_model.specs.RightLink.{placed_of, things_of};
+ghost use Rattle.check_link.specs.Views.{placed_views};
+ghost use Rattle.check_relocs.specs.Bindings.{bound_of};
+
+use crate::placed_link::PlacedLink;
+use check_link::{Link, Placed, SlotTable};
+use check_relocs::Bindings;
+use elf_model::Thing;
+use loader_model::Memory;
+use std::marker::Model;
+
+/// A placed link with the slots of its map and with what its names mean.
+#[derive(Drop)]
+pub struct BoundLink<'o, 'a> {
+    placed: &'o PlacedLink<'o, 'a>,
+    slots: &'o SlotTable<'a>,
+    bindings: Bindings<'o, 'o, 'a>,
+}
+
+impl<'o, 'a> Model for BoundLink<'o, 'a> {
+    ghost use Rattle.elf_model.specs.RightLink.{Subject};
+    ghost use Rattle.checker.specs.Links.{IsBoundLink};
+
+    ghost Value = { Subject };
+
+    ghost view = { λ b. b.placed.now };
+
+    ghost invariant = { λ b. IsBoundLink b.placed.now b.slots.now b.bindings };
+}
+
+impl<'o, 'a> BoundLink<'o, 'a> {
+    /// A placed link, whose map has these slots, and whose names mean this.
+    pub fn new(
+        placed: &'o PlacedLink<'o, 'a>,
+        slots: &'o SlotTable<'a>,
+        bindings: Bindings<'o, 'o, 'a>,
+    ) -> BoundLink<'o, 'a>
+        requires slots { slots.now ≡ placed.now.map.slots }
+        requires bound { bindings ≡ bound_of placed.now }
+        ensures { result ≡ placed.entry.now }
+    {
+        BoundLink {
+            placed,
+            slots,
+            bindings,
+        }
+    }
+
+    /// The link itself.
+    pub fn link(&self) -> &'a Link<'a>
+        ensures { result.now ≡ self.entry.now }
+    {
+        self.placed.link()
+    }
+
+    /// What the image has in memory.
+    pub fn memory(&self) -> &'o Memory<'a>
+        ensures { result.now ≡ self.entry.now.image }
+    {
+        self.placed.memory()
+    }
+
+    /// The sections and the common blocks at their addresses.
+    pub fn placed(&self) -> &'o [Placed<'a>]
+        ensures { placed_views result.now ≡ placed_of self.entry.now }
+    {
+        self.placed.placed()
+    }
+
+    /// All things.
+    pub fn things(&self) -> &'o [Thing]
+        ensures { result.now ≡ things_of self.entry.now }
+    {
+        self.placed.things()
+    }
+
+    /// The slots of the map.
+    pub fn slots(&self) -> &SlotTable<'a>
+        ensures { result.now ≡ self.entry.now.map.slots }
+    {
+        self.slots
+    }
+
+    /// What names mean.
+    pub fn bindings(&self) -> &Bindings<'o, 'o, 'a>
+        ensures { result.now ≡ bound_of self.entry.now }
+    {
+        &self.bindings
+    }
+}

@@ -1,7 +1,0 @@
-use Rattle.std.proofs.Common.{◌≡◌, drop}
-use Rattle.std.specs.Prelude.{max}
-use Rattle.elf_model.specs.OwnLayout.{file_end}
-use Rattle.image_write.proofs.writing.file_end.Given as goal
-
-abbrev pub invariant-loop-segment : goal.invariant-loop-segment
-invariant-loop-segment l = max l.end (file_end (drop l.segment-index l.segments)) ≡ file_end l.segments

@@ -1,0 +1,18 @@
+use Rattle.std.proofs.Common.{◌∙◌, List, ap, map, subst, sym}
+use Rattle.elf_model.specs.Listing.{AreLinkerLines}
+use Rattle.elf_model.specs.Loading.{LoadedObject}
+use Rattle.elf_model.specs.Pieces.{AreLawfulKinds}
+use Rattle.layout.specs.Placements.{Basis}
+use Rattle.got_tls.specs.Views.{Got}
+use Rattle.relocate.specs.Values.{slot_value_of, where_in}
+use Rattle.image_write.specs.Listings.{IsListing}
+use Rattle.ld_main.proofs.phases.listed_parts.Goals as goal
+
+pub slot_values-requires : goal.slot_values-requires
+slot_values-requires c =
+    subst (λ (b : Basis). AreLawfulKinds b.objects) (sym c.requires.placed) c.requires.linkable.laid_out.referred.resolved.kinds
+
+pub parts_of-requires-clause-values : goal.parts_of-requires-clause-values
+parts_of-requires-clause-values c =
+    c.in_ok-values.ensures
+    ∙ (λ i. map (slot_value_of (c.requires.same i) (where_in (c.requires.placed i))) ((c.requires.slots i).slots))

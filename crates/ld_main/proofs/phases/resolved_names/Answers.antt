@@ -1,0 +1,11 @@
+use Rattle.std.proofs.Common.{subst, sym}
+use Rattle.ld_main.specs.Outputs.{LinksRefuse}
+use Rattle.ld_main.proofs.Links.{resolving_refuses}
+use Rattle.ld_main.proofs.phases.resolved_names.Goals as goal
+
+pub returns-in-Err-resolve_over-clause-fault : goal.returns-in-Err-resolve_over-clause-fault
+returns-in-Err-resolve_over-clause-fault g c =
+    let p = c.args.loaded.now.plan in
+    let objects = c.args.loaded.now.objects in
+    subst (LinksRefuse p objects) (sym c.resolve_error.ensures)
+    (resolving_refuses p objects c.in-Err-resolve_over.fault c.in-Err-resolve_over.ensures.fault)

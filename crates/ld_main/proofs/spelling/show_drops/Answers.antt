@@ -1,7 +1,0 @@
-use Rattle.ld_main.proofs.Spellings.{all_drops_fit}
-use Rattle.ld_main.proofs.spelling.show_drops.Goals as goal
-
-pub loop-k-preserved : goal.loop-k-preserved
-loop-k-preserved c = λ rest.
-    c.loop-k.invariant
-    (all_drops_fit c.args.objects.now c.loop-k.k c.index-objects-k.result c.loop-k-test.true c.index-objects-k.is c.show_drops_in.ensures rest)

@@ -1,0 +1,272 @@
+//! From the words and the files to a link that is prepared, phase by phase, and from that to its map.
+ghost use Rattle.std.specs.Prelude.{◌≡◌, IfErr, IfOk, OnOk, map};
+ghost use Rattle.elf_model.specs.Causes.{Cause};
+ghost use Rattle.elf_model.specs.Command.{IsBase};
+ghost use Rattle.elf_model.specs.Files.{files_of, words_of};
+ghost use Rattle.elf_model.specs.ImageFile.{IsOwnMap};
+ghost use Rattle.elf_model.specs.MapRecord.{map_of};
+ghost use Rattle.elf_model.specs.OwnLayout.{own_where};
+ghost use Rattle.elf_model.specs.Slots as wanted;
+ghost use Rattle.resolve.specs.Views.{meaning_view};
+ghost use Rattle.symbols.specs.Rows.{no_rows};
+ghost use Rattle.relocate.specs.Values.{slot_value_of};
+ghost use Rattle.image_write.specs.Linkages.{AreParts};
+ghost use Rattle.image_write.specs.Listings.{IsListing};
+ghost use Rattle.image_write.specs.Maps.{own_table};
+ghost use Rattle.ld_main.specs.FinalRefusals.{DeniesLinks};
+ghost use Rattle.ld_main.specs.Linkages.{AreOwnMapsRight, HasOwnLink, IsPrepared};
+ghost use Rattle.ld_main.specs.Outputs.{AreLaidOut, AreLinkable, AreReferred, AreResolved, EntersAt, LinksRefuse};
+
+use crate::listed_definitions::listed;
+use crate::own_map::{map_of_layout, meaning_value};
+use crate::refusals::{command_error, layout_error, reloc_error, resolve_error, search_error};
+use crate::spelled_lines::show_spellings;
+use command::read_words;
+use elf_model::{InputFile, LinkError, LinkMap};
+use got_tls::{Slots, slots};
+use image_write::{Linkage, Parts};
+use layout::{GotSize, Placement, kinds, place};
+use relocate::{Patches, linker_lines, patches, references, slot_values};
+use resolve::{Definition, Resolved, resolve_over};
+use search::{Loaded, load};
+use std::alloc::{AllocError, Global};
+use std::hash::{BuildHasherDefault, FoldHasher};
+use symbols::{IndexedTable, NameTable};
+
+/// The names of what is loaded, whose kept sections are of lawful kinds, resolved.
+fn resolved_names<'a, T: NameTable<'a> + Drop>(
+    alloc: Global,
+    loaded: &Loaded<'a>,
+    table: T,
+) -> Result<Resolved<'a>, LinkError>
+    requires { T.rows table ≡ no_rows }
+    ensures exact { IfOk result (λ r. r ≡ loaded.now.objects) }
+    ensures resolved { OnOk result (AreResolved loaded.now.objects) }
+    ensures fault { IfErr result (LinksRefuse loaded.now.plan loaded.now.objects) }
+{
+    match kinds(loaded) {
+        Ok(()) => {}
+        Err(fault) => return Err(layout_error(fault)),
+    }
+    match resolve_over(alloc, loaded, table) {
+        Ok(resolved) => Ok(resolved),
+        Err(fault) => Err(resolve_error(fault)),
+    }
+}
+
+/// The definition of the entry, where all kept relocations are lawful.
+fn referred_entry<'a>(
+    alloc: Global,
+    loaded: &Loaded<'a>,
+    resolved: &Resolved<'a>,
+) -> Result<Definition<'a>, LinkError>
+    requires same { resolved.now ≡ loaded.now.objects }
+    requires resolved { AreResolved loaded.now.objects }
+    ensures entry { IfOk result (λ m. EntersAt loaded.now.plan loaded.now.objects (meaning_view m)) }
+    ensures referred { OnOk result (AreReferred loaded.now.plan loaded.now.objects) }
+    ensures fault { IfErr result (LinksRefuse loaded.now.plan loaded.now.objects) }
+{
+    match references(alloc, loaded, resolved) {
+        Ok(()) => {}
+        Err(fault) => return Err(reloc_error(fault)),
+    }
+    match resolved.entry(loaded.plan().entry.as_bytes()) {
+        Some(entry) => Ok(entry),
+        None => Err(LinkError::NoEntry),
+    }
+}
+
+/// What is loaded, whose references are lawful, laid out with its common blocks and its GOT, which has this size, from the
+/// plan's base on.
+fn laid_out<'a>(
+    alloc: Global,
+    loaded: &Loaded<'a>,
+    resolved: &Resolved<'a>,
+    got: GotSize,
+) -> Result<Placement<'a>, LinkError>
+    requires same { resolved.now ≡ loaded.now.objects }
+    requires got { got.0 ≡ wanted.got_size loaded.now.objects }
+    requires base { IsBase loaded.now.plan.base }
+    requires referred { AreReferred loaded.now.plan loaded.now.objects }
+    ensures placed { IfOk result (λ p. p ≡ record { base = loaded.now.plan.base; objects = loaded.now.objects }) }
+    ensures laid { OnOk result (AreLaidOut loaded.now.plan loaded.now.objects) }
+    ensures fault { IfErr result (LinksRefuse loaded.now.plan loaded.now.objects) }
+{
+    match place(alloc, loaded, resolved, got, loaded.plan().base) {
+        Ok(placement) => Ok(placement),
+        Err(fault) => Err(layout_error(fault)),
+    }
+}
+
+/// The patches of what is laid out.
+fn fitted<'a>(
+    alloc: Global,
+    loaded: &Loaded<'a>,
+    resolved: &Resolved<'a>,
+    placement: &Placement<'a>,
+    slots: &Slots<'a>,
+) -> Result<Patches<'a>, LinkError>
+    requires same { resolved.now ≡ loaded.now.objects }
+    requires slots { slots.now ≡ own_table loaded.now.objects }
+    requires placed { placement.now ≡ record { base = loaded.now.plan.base; objects = loaded.now.objects } }
+    requires laid { AreLaidOut loaded.now.plan loaded.now.objects }
+    ensures patches { IfOk result (λ p. p ≡ placement.now) }
+    ensures linkable { OnOk result (AreLinkable loaded.now.plan loaded.now.objects) }
+    ensures fault { IfErr result (LinksRefuse loaded.now.plan loaded.now.objects) }
+{
+    match patches(alloc, loaded, resolved, placement, slots) {
+        Ok(patches) => Ok(patches),
+        Err(fault) => Err(reloc_error(fault)),
+    }
+}
+
+/// What the layers made of what is loaded, once all of it is there.
+fn parts_of<'a>(
+    loaded: &Loaded<'a>,
+    listed: Vec<Definition<'a>>,
+    placement: Placement<'a>,
+    slots: Slots<'a>,
+    values: Vec<u64>,
+    patches: Patches<'a>,
+    entry: &Definition<'a>,
+) -> Parts<'a>
+    requires base { IsBase loaded.now.plan.base }
+    requires listed { IsListing loaded.now.objects listed.items }
+    requires placed { placement ≡ record { base = loaded.now.plan.base; objects = loaded.now.objects } }
+    requires slots { slots ≡ own_table loaded.now.objects }
+    requires values { values.items ≡ map (slot_value_of loaded.now.objects (own_where loaded.now.plan.base loaded.now.objects)) (wanted.slots loaded.now.objects) }
+    requires patches { patches ≡ placement }
+    requires linkable { AreLinkable loaded.now.plan loaded.now.objects }
+    requires entry { EntersAt loaded.now.plan loaded.now.objects (meaning_view entry.now) }
+    ensures { AreParts loaded.now result }
+{
+    let entry = meaning_value(&placement, entry);
+    show_spellings(&placement, loaded.objects(), &slots, &listed);
+    Parts {
+        listed,
+        placement,
+        slots,
+        values,
+        patches,
+        entry,
+    }
+}
+
+/// The parts of a link whose values fit, with the values of its slots and the definitions that have a line.
+fn listed_parts<'a>(
+    alloc: Global,
+    loaded: &Loaded<'a>,
+    resolved: &Resolved<'a>,
+    entry: &Definition<'a>,
+    placement: Placement<'a>,
+    slots: Slots<'a>,
+    patches: Patches<'a>,
+) -> Result<Parts<'a>, AllocError>
+    requires base { IsBase loaded.now.plan.base }
+    requires same { resolved.now ≡ loaded.now.objects }
+    requires placed { placement ≡ record { base = loaded.now.plan.base; objects = loaded.now.objects } }
+    requires slots { slots ≡ own_table loaded.now.objects }
+    requires patches { patches ≡ placement }
+    requires linkable { AreLinkable loaded.now.plan loaded.now.objects }
+    requires entry { EntersAt loaded.now.plan loaded.now.objects (meaning_view entry.now) }
+    ensures { IfOk result (AreParts loaded.now) }
+{
+    let values = slot_values(alloc, resolved, &placement, &slots)?;
+    let linkers = linker_lines(alloc, loaded, resolved)?;
+    let listed = listed(alloc, resolved, &linkers)?;
+    Ok(parts_of(loaded, listed, placement, slots, values, patches, entry))
+}
+
+/// Resolves, lays out and judges what is loaded.
+fn prepare_loaded<'a, T: NameTable<'a> + Drop>(
+    alloc: Global,
+    loaded: &Loaded<'a>,
+    table: T,
+) -> Result<Parts<'a>, LinkError>
+    requires empty { T.rows table ≡ no_rows }
+    requires base { IsBase loaded.now.plan.base }
+    ensures made { IfOk result (AreParts loaded.now) }
+    ensures linkable { OnOk result (AreLinkable loaded.now.plan loaded.now.objects) }
+    ensures fault { IfErr result (LinksRefuse loaded.now.plan loaded.now.objects) }
+{
+    let resolved = resolved_names(alloc, loaded, table)?;
+    let entry = referred_entry(alloc, loaded, &resolved)?;
+    let slots = slots(alloc, loaded, &resolved)?;
+    let placement = laid_out(alloc, loaded, &resolved, slots.got())?;
+    let patches = fitted(alloc, loaded, &resolved, &placement, &slots)?;
+    let parts = listed_parts(alloc, loaded, &resolved, &entry, placement, slots, patches)?;
+    Ok(parts)
+}
+
+/// As `prepare`, with the names of the objects kept in any table of names, which is empty at the start.
+#[tactic(auto, using(crate::proofs::FinalRefusals::finals))]
+pub fn prepare_over<'a, T: NameTable<'a> + Drop>(
+    alloc: Global,
+    files: &'a [InputFile],
+    words: &'a [String],
+    table: T,
+) -> Result<Linkage<'a>, LinkError>
+    requires empty { T.rows table ≡ no_rows }
+    ensures prepared { IfOk result (IsPrepared (files_of files.entry.now) (words_of words.entry.now)) }
+    ensures own { IfOk result (AreOwnMapsRight (files_of files.entry.now) (words_of words.entry.now)) }
+    ensures right { IfOk result (HasOwnLink (files_of files.entry.now) (words_of words.entry.now)) }
+    ensures cause { IfErr result (Cause (files_of files.entry.now) (words_of words.entry.now)) }
+    ensures no_link { IfErr result (DeniesLinks (files_of files.entry.now) (words_of words.entry.now)) }
+{
+    let plan = match read_words(alloc, words) {
+        Ok(plan) => plan,
+        Err(fault) => return Err(command_error(fault)),
+    };
+    let loaded = match load(alloc, &plan, files) {
+        Ok(loaded) => loaded,
+        Err(fault) => return Err(search_error(fault)),
+    };
+    match prepare_loaded(alloc, &loaded, table) {
+        Ok(parts) => Ok(Linkage::new(loaded, parts)),
+        Err(error) => Err(error),
+    }
+}
+
+/// Prepares the link of the files that a command's words name.
+///
+/// # Errors
+///
+/// A fault of the first phase that has one: the words (Command), the files (FileMissing), the objects
+/// (BadObject, BadArchive, NoIndex, BadGroup), kinds of sections and names (SectionKind, BadCommon, BadSymbol,
+/// Duplicate), references (RelocKind, Undefined, RefToDropped, TlsMismatch, MixedSection, FieldOutside,
+/// OverlappingFields, NoEntry), the layout (TooLarge), values (Overflow). Memory where memory is refused. Where one
+/// is answered other than Memory, TooLarge and Overflow, no image and no map at all are a right link of these files
+/// and words. The same is said of TooLarge where one section or common block alone takes up more than all addresses from the base on, and of
+/// Overflow where the value that doesn't fit is the same in every layout: `Z+A`, or `S+A` of an absolute definition, of
+/// one in a section that isn't kept, of none, or of a linker's name that stands for the base or for nothing.
+///
+/// Of what is prepared, the own map has a text, and the image and each own map that has one are a right link.
+pub fn prepare<'a>(
+    alloc: Global,
+    files: &'a [InputFile],
+    words: &'a [String],
+) -> Result<Linkage<'a>, LinkError>
+    ensures prepared { IfOk result (IsPrepared (files_of files.entry.now) (words_of words.entry.now)) }
+    ensures own { IfOk result (AreOwnMapsRight (files_of files.entry.now) (words_of words.entry.now)) }
+    ensures right { IfOk result (HasOwnLink (files_of files.entry.now) (words_of words.entry.now)) }
+    ensures cause { IfErr result (Cause (files_of files.entry.now) (words_of words.entry.now)) }
+    ensures no_link { IfErr result (DeniesLinks (files_of files.entry.now) (words_of words.entry.now)) }
+{
+    let seed: BuildHasherDefault<FoldHasher> = BuildHasherDefault::new();
+    prepare_over(alloc, files, words, IndexedTable::with_hasher(alloc, seed))
+}
+
+/// The map of a link: its objects, their dropped sections, their kept ones, the common blocks, the GOT and its slots at
+/// their addresses, and the definitions of names with their values; its lines are in order.
+pub fn link_map(alloc: Global, linkage: &Linkage<'_>) -> Result<LinkMap, AllocError>
+    ensures { IfOk result (λ m. IsOwnMap linkage.now.plan.base linkage.now.objects (map_of m)) }
+{
+    let parts = linkage.parts();
+    map_of_layout(
+        alloc,
+        &parts.placement,
+        linkage.loaded().objects(),
+        &parts.slots,
+        &parts.listed,
+    )
+}

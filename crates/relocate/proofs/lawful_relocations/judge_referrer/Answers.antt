@@ -1,0 +1,35 @@
+use Rattle.std.proofs.Common.{subst, sym, ◌∙◌}
+use Rattle.std.specs.Prelude.{All, AllPairs}
+use Rattle.std.proofs.lemmas.Bool.{false≢true}
+use Rattle.elf_model.specs.Relocation.{relocations_from}
+use Rattle.elf_model.proofs.RelocationFields.{own_object}
+use Rattle.elf_model.proofs.Pairs.{AllPairs-map, AllPairs-unmap}
+use Rattle.elf_model.proofs.OwnFields.{apart_of_ranges, ranges_of_apart}
+use Rattle.relocate.specs.SymbolTables.{all_of, referring}
+use Rattle.relocate.proofs.ObjectFields.{some_fields}
+use Rattle.relocate.specs.Fields.{AreApart, IsSome, field_of}
+use Rattle.relocate.proofs.lawful_relocations.judge_referrer.Goals as goal
+
+pub are_apart-requires : goal.are_apart-requires
+are_apart-requires c =
+    subst (All IsSome) (sym c.in_ok-fields.ensures.fields)
+    (some_fields (all_of c.args.referrer.now) (relocations_from c.args.referrer.now.number (referring c.args.referrer.now)) c.in_ok-fields.ensures.lawful)
+
+pub returns-then-not-branch-clause-fault : goal.returns-then-not-branch-clause-fault
+returns-then-not-branch-clause-fault c = λ pairs.
+    let n = c.args.referrer.now.number in
+    let o = referring c.args.referrer.now in
+    let rs = relocations_from n o in
+    let apart = AllPairs-map AreApart field_of rs (ranges_of_apart n rs (own_object n o) pairs) in
+    false≢true (sym c.if-not-branch.true ∙ c.in_ok-are_apart.ensures.1 (subst (AllPairs AreApart) (sym c.in_ok-fields.ensures.fields) apart))
+
+pub returns-clause-lawful : goal.returns-clause-lawful
+returns-clause-lawful c =
+    let rs = relocations_from c.args.referrer.now.number (referring c.args.referrer.now) in
+    record {
+      each = c.in_ok-fields.ensures.lawful;
+      apart =
+          apart_of_ranges rs
+          (AllPairs-unmap AreApart field_of rs
+          (subst (AllPairs AreApart) c.in_ok-fields.ensures.fields (c.in_ok-are_apart.ensures.0 c.if-not-branch.false)));
+    }

@@ -1,0 +1,13 @@
+use Rattle.std.proofs.Common.{◌≡◌, ◌++◌, map}
+use Rattle.elf_model.proofs.FlatRelocations.{left_of_sections}
+use Rattle.elf_model.specs.Relocation.{relocations_from}
+use Rattle.relocate.specs.SymbolTables.{all_of, referring}
+use Rattle.relocate.proofs.Judged.{Leaves}
+use Rattle.relocate.specs.Fields.{field_of}
+use Rattle.relocate.proofs.lawful_relocations.lawful_fields.Given as goal
+
+abbrev pub invariant-loop-i : goal.invariant-loop-i
+invariant-loop-i l = record {
+  fields : l.fields.items ++ map field_of (left_of_sections l.referrer.number (referring l.referrer) l.headers l.i) ≡ map field_of (relocations_from l.referrer.number (referring l.referrer));
+  leaves : Leaves (all_of l.referrer) (relocations_from l.referrer.number (referring l.referrer)) (left_of_sections l.referrer.number (referring l.referrer) l.headers l.i);
+}

@@ -1,0 +1,274 @@
+//! The linker's names that kept relocations use and no object defines: which of them have a line in the map.
+ghost use Rattle.std.specs.Prelude.{◌≡◌, ◌∷◌, ◌++◌, ◌||◌, ℕ, [], List, IfOk, OnOk, Some, filter, map, option_map, option_to_list};
+ghost use Rattle.std.specs.BTreeSet.{IsOrdered};
+ghost use Rattle.std.specs.Cmp.Lexicographic.{slice_cmp};
+ghost use Rattle.std.specs.List.{list_any, slice_get};
+ghost use Rattle.std.specs.Ordering.{nat_cmp};
+ghost use Rattle.std.specs.Str.{bytes_eq};
+ghost use Rattle.elf_model.specs.Listing.{AreLinkerLines};
+ghost use Rattle.elf_model.specs.ObjectFile.{sections};
+ghost use Rattle.elf_model.specs.Relocation.{is_some_kind, relocation_of, relocations, relocations_from, relocations_in, symbol_at};
+ghost use Rattle.elf_model.specs.UsedNames.{Gains, is_among, is_linker_use, linker_meaning, linker_meanings, uses_line};
+ghost use Rattle.search.specs.Views.{loaded_view, loaded_views};
+ghost use Rattle.resolve.specs.Views.{meaning_view};
+ghost use Rattle.relocate.specs.References.{IsObjectAt};
+ghost use Rattle.relocate.specs.Uses.{AreLinkerUses, IsUser, is_linkers, line_views, using};
+
+use crate::referrer::refers_often;
+use crate::targets::is_some_kind;
+use elf_model::{Bound, ObjectId, Rela, SectionHeader, SymbolRef};
+use resolve::{Definition, Resolved};
+use search::{Loaded, LoadedObject};
+use std::alloc::{AllocError, Global};
+use std::collections::BTreeSet;
+
+/// Whether what a symbol uses is the linker's.
+fn is_linkers(definition: &Option<Definition<'_>>) -> bool
+    ensures { result ≡ is_linkers (option_map meaning_view definition.now) }
+{
+    match definition {
+        Some(Definition::Linker(_, _)) => true,
+        Some(Definition::Symbol(_)) => false,
+        Some(Definition::Common(_)) => false,
+        None => false,
+    }
+}
+
+/// Whether symbol `j` of the object that has a number isn't LOCAL and has a name that the linker defines and no object
+/// does.
+fn is_linker_use(
+    resolved: &Resolved<'_>,
+    number: usize,
+    loaded: &LoadedObject<'_>,
+    j: usize,
+) -> bool
+    requires { IsObjectAt resolved.now number (loaded_view loaded.now) }
+    ensures { result ≡ is_linker_use resolved.now (symbol_at number (loaded_view loaded.now) j) }
+{
+    is_linkers(&resolved.used(SymbolRef {
+        object: ObjectId(number as u64),
+        symbol: j as u64,
+    }))
+}
+
+fn add_name<'a>(names: &mut BTreeSet<&'a [u8]>, name: &'a [u8]) -> Result<(), AllocError>
+    ensures { OnOk result ((n : List ℕ) → is_among names.new n ≡ (bytes_eq name.entry.now n || is_among names.old n)) }
+{
+    names.insert(name)?;
+    Ok(())
+}
+
+/// An object whose relocations use names, with its number.
+#[derive(Drop)]
+struct User<'u, 'a> {
+    resolved: &'u Resolved<'a>,
+    number: usize,
+    loaded: &'u LoadedObject<'a>,
+    /// Whether each symbol is one of a linker's name, as far as there are rows.
+    table: Vec<bool>,
+}
+
+/// A row for each symbol of an object that refers often, and none of another one.
+fn table_of(
+    alloc: Global,
+    resolved: &Resolved<'_>,
+    number: usize,
+    loaded: &LoadedObject<'_>,
+) -> Result<Vec<bool>, AllocError>
+    requires { IsObjectAt resolved.now number (loaded_view loaded.now) }
+    ensures { IfOk result (λ v. AreLinkerUses resolved.now number (loaded_view loaded.now) v.items) }
+{
+    let mut table = Vec::new(alloc);
+    if !refers_often(loaded) {
+        return Ok(table);
+    }
+    let count = loaded.object.symbols().len();
+    table.reserve(count)?;
+    for j in 0..count {
+        table.push(is_linker_use(resolved, number, loaded, j))?;
+    }
+    Ok(table)
+}
+
+impl<'u, 'a> User<'u, 'a> {
+    /// Whether symbol `j` isn't LOCAL and has a name that the linker defines and no object does.
+    fn is_linker_use(&self, j: usize) -> bool
+        requires { IsUser self.now }
+        ensures { result ≡ is_linker_use self.now.resolved.now (symbol_at self.now.number (using self.now) j) }
+    {
+        match self.table.get(j) {
+            Some(uses) => *uses,
+            None => is_linker_use(self.resolved, self.number, self.loaded, j),
+        }
+    }
+}
+
+/// Adds the name that an entry uses, where that is a linker's.
+fn add_use<'a>(
+    names: &mut BTreeSet<&'a [u8]>,
+    user: &User<'_, 'a>,
+    target: u64,
+    entry: &Rela,
+) -> Result<(), AllocError>
+    requires { IsUser user.now }
+    ensures { OnOk result (Gains user.now.resolved.now (relocation_of user.now.number (using user.now) target entry.now ∷ []) names.old names.new) }
+{
+    let j = entry.symbol() as usize;
+    if !user.is_linker_use(j) {
+        return Ok(());
+    }
+    add_name(names, user.loaded.object.symbol_name(j))
+}
+
+/// Adds the linker's names that entries use which relocate the section `target` of an object.
+fn add_entries<'a>(
+    names: &mut BTreeSet<&'a [u8]>,
+    user: &User<'_, 'a>,
+    target: u64,
+    entries: &[Rela],
+) -> Result<(), AllocError>
+    requires { IsUser user.now }
+    ensures { OnOk result (Gains user.now.resolved.now (map (relocation_of user.now.number (using user.now) target) (filter is_some_kind entries.now)) names.old names.new) }
+{
+    for i in 0..entries.len() {
+        let entry = entries[i];
+        if !is_some_kind(&entry) {
+            continue;
+        }
+        add_use(names, user, target, &entry)?;
+    }
+    Ok(())
+}
+
+/// Adds those that the entries of RELA section `i` use, which has the header.
+fn add_section<'a>(
+    names: &mut BTreeSet<&'a [u8]>,
+    user: &User<'_, 'a>,
+    i: usize,
+    header: &SectionHeader,
+) -> Result<(), AllocError>
+    requires user { IsUser user.now }
+    requires there { slice_get (sections (using user.now).bytes) i ≡ Some header.now }
+    requires rela { header.now.sh_type ≡ 4 }
+    ensures { OnOk result (Gains user.now.resolved.now (relocations_in user.now.number (using user.now) header.now) names.old names.new) }
+{
+    let entries = user.loaded.entries_of(i, header);
+    add_entries(names, user, header.sh_info as u64, entries)
+}
+
+/// Adds those that the kept relocations of an object use.
+fn add_relocations<'a>(
+    names: &mut BTreeSet<&'a [u8]>,
+    user: &User<'_, 'a>,
+) -> Result<(), AllocError>
+    requires { IsUser user.now }
+    ensures { OnOk result (Gains user.now.resolved.now (relocations_from user.now.number (using user.now)) names.old names.new) }
+{
+    let headers = user.loaded.object.sections();
+    for i in 0..headers.len() {
+        let header = headers[i];
+        if !user.loaded.is_kept_rela(i, &header) {
+            continue;
+        }
+        add_section(names, user, i, &header)?;
+    }
+    Ok(())
+}
+
+/// Adds those that the kept relocations of the object that has a number use.
+fn add_object<'a>(
+    alloc: Global,
+    names: &mut BTreeSet<&'a [u8]>,
+    resolved: &Resolved<'a>,
+    number: usize,
+    loaded: &LoadedObject<'a>,
+) -> Result<(), AllocError>
+    requires { IsObjectAt resolved.now number (loaded_view loaded.now) }
+    ensures { OnOk result (Gains resolved.now (relocations_from number (loaded_view loaded.now)) names.old names.new) }
+{
+    let table = table_of(alloc, resolved, number, loaded)?;
+    let user = User {
+        resolved,
+        number,
+        loaded,
+        table,
+    };
+    add_relocations(names, &user)
+}
+
+/// The linker's names that kept relocations use and no object defines.
+fn used_names<'a>(
+    alloc: Global,
+    objects: &[LoadedObject<'a>],
+    resolved: &Resolved<'a>,
+) -> Result<BTreeSet<&'a [u8]>, AllocError>
+    requires { resolved.now ≡ loaded_views objects.now }
+    ensures { IfOk result (λ s. (n : List ℕ) → is_among s n ≡ list_any (uses_line (loaded_views objects.now) n) (relocations (loaded_views objects.now))) }
+{
+    let mut names = BTreeSet::new(alloc);
+    for k in 0..objects.len() {
+        add_object(alloc, &mut names, resolved, k, &objects[k])?;
+    }
+    Ok(names)
+}
+
+/// Adds a name with what the linker defines it as, where it does.
+fn add_line<'a>(
+    lines: &mut Vec<(&'a [u8], Bound)>,
+    resolved: &Resolved<'_>,
+    name: &'a [u8],
+) -> Result<(), AllocError>
+    ensures { OnOk result (line_views lines.new.items ≡ line_views lines.old.items ++ option_to_list (linker_meaning resolved.now name.entry.now)) }
+{
+    if let Some(bound) = resolved.bound(name) {
+        lines.push((name, bound))?;
+    }
+    Ok(())
+}
+
+/// What the linker defines the names of a set as, where it does.
+fn lines_of<'a>(
+    alloc: Global,
+    resolved: &Resolved<'_>,
+    names: &BTreeSet<&'a [u8]>,
+) -> Result<Vec<(&'a [u8], Bound)>, AllocError>
+    ensures lines { IfOk result (λ v. line_views v.items ≡ linker_meanings resolved.now names.now.keys) }
+    ensures ordered { IfOk result (λ v. IsOrdered (λ x y. slice_cmp nat_cmp x.now y.now) names.now) }
+{
+    let mut lines = Vec::new(alloc);
+    for name in names {
+        add_line(&mut lines, resolved, name)?;
+    }
+    Ok(lines)
+}
+
+/// The lines of the linker's names that kept relocations of objects use.
+fn used_lines<'a>(
+    alloc: Global,
+    objects: &[LoadedObject<'a>],
+    resolved: &Resolved<'a>,
+) -> Result<Vec<(&'a [u8], Bound)>, AllocError>
+    requires { resolved.now ≡ loaded_views objects.now }
+    ensures { IfOk result (λ v. AreLinkerLines (loaded_views objects.now) (line_views v.items)) }
+{
+    let names = used_names(alloc, objects, resolved)?;
+    let lines = lines_of(alloc, resolved, &names)?;
+    Ok(lines)
+}
+
+/// The linker's names that have a line in the map, and what they stand for: those that kept relocations use and no
+/// object defines.
+///
+/// # Errors
+///
+/// Only where memory is refused.
+pub fn linker_lines<'a>(
+    alloc: Global,
+    loaded: &Loaded<'a>,
+    resolved: &Resolved<'a>,
+) -> Result<Vec<(&'a [u8], Bound)>, AllocError>
+    requires { resolved.now ≡ loaded.now.objects }
+    ensures { IfOk result (λ v. AreLinkerLines resolved.now (line_views v.items)) }
+{
+    used_lines(alloc, loaded.objects(), resolved)
+}

@@ -1,0 +1,99 @@
+//! The patches of all objects.
+ghost use Rattle.std.specs.Prelude.{◌≡◌, All, IfErr, IfOk, IsSome, OnOk, length};
+ghost use Rattle.elf_model.specs.OwnLayout.{OwnValuesFit};
+ghost use Rattle.elf_model.specs.Pieces.{AreLawfulKinds};
+ghost use Rattle.elf_model.specs.Relocation.{AreLawfulRelocations, relocation_kind, relocations_from};
+ghost use Rattle.elf_model.specs.RelocationValues.{Fits};
+ghost use Rattle.elf_model.specs.Slots as wanted;
+ghost use Rattle.search.specs.Views.{loaded_view, loaded_views};
+ghost use Rattle.relocate.specs.References.{IsObjectAt};
+ghost use Rattle.relocate.specs.Values.{ArePatchRows, ArePatches, FittingFails, IsRowCount, ValuesFail, pointer_in, where_in};
+
+use crate::faults::RelocFault;
+use crate::object_patches::object_patches;
+use crate::patch::Patch;
+use crate::patch_table::Patches;
+use crate::symbol_values::Valued;
+use crate::thread_pointer::pointer_of;
+use got_tls::Slots;
+use layout::Placement;
+use resolve::Resolved;
+use search::{Loaded, LoadedObject};
+use std::alloc::Global;
+
+/// The rows of patches of the object that has a number.
+fn row_of<'a>(
+    alloc: Global,
+    resolved: &Resolved<'a>,
+    placement: &Placement<'a>,
+    slots: &Slots<'a>,
+    pointer: u64,
+    number: usize,
+    loaded: &LoadedObject<'a>,
+) -> Result<Vec<Vec<Patch>>, RelocFault>
+    requires kinds { AreLawfulKinds placement.now.objects }
+    requires slots { slots.now.slots ≡ wanted.slots placement.now.objects }
+    requires pointer { pointer ≡ pointer_in (where_in placement.now) }
+    requires here { IsObjectAt resolved.now number (loaded_view loaded.now) }
+    requires known { All (λ r. IsSome (relocation_kind r)) (relocations_from number (loaded_view loaded.now)) }
+    ensures rows { IfOk result (λ v. ArePatchRows resolved.now (where_in placement.now) (relocations_from number (loaded_view loaded.now)) v.items) }
+    ensures count { IfOk result (λ v. IsRowCount (loaded_view loaded.now) (length v.items)) }
+    ensures fit { OnOk result (All (Fits resolved.now (where_in placement.now)) (relocations_from number (loaded_view loaded.now))) }
+    ensures fault { IfErr result (FittingFails resolved.now (where_in placement.now) (relocations_from number (loaded_view loaded.now))) }
+{
+    let valued = Valued::new(alloc, resolved, placement, slots, pointer, number, loaded)?;
+    object_patches(alloc, &valued)
+}
+
+/// The rows of patches of all objects.
+fn rows_of<'a>(
+    alloc: Global,
+    objects: &[LoadedObject<'a>],
+    resolved: &Resolved<'a>,
+    placement: &Placement<'a>,
+    slots: &Slots<'a>,
+) -> Result<Vec<Vec<Vec<Patch>>>, RelocFault>
+    requires resolved { resolved.now ≡ loaded_views objects.now }
+    requires placed { placement.now.objects ≡ loaded_views objects.now }
+    requires slots { slots.now.slots ≡ wanted.slots (loaded_views objects.now) }
+    requires kinds { AreLawfulKinds (loaded_views objects.now) }
+    requires lawful { AreLawfulRelocations (loaded_views objects.now) }
+    ensures rows { IfOk result (λ v. ArePatches placement.now v.items) }
+    ensures fit { OnOk result (OwnValuesFit placement.now.base placement.now.objects) }
+    ensures fault { IfErr result (ValuesFail placement.now) }
+{
+    let pointer = pointer_of(placement);
+    let mut rows = Vec::with_capacity(alloc, objects.len())?;
+    for k in 0..objects.len() {
+        let row = row_of(alloc, resolved, placement, slots, pointer, k, &objects[k])?;
+        rows.push(row)?;
+    }
+    Ok(rows)
+}
+
+/// The patches of what is loaded, whose sections' kinds and relocations are lawful, where it is laid out with its GOT,
+/// which has these slots.
+///
+/// # Errors
+///
+/// `Overflow` where the value of a relocation doesn't fit its field; `Memory`.
+pub fn patches<'a>(
+    alloc: Global,
+    loaded: &Loaded<'a>,
+    resolved: &Resolved<'a>,
+    placement: &Placement<'a>,
+    slots: &Slots<'a>,
+) -> Result<Patches<'a>, RelocFault>
+    requires resolved { resolved.now ≡ loaded.now.objects }
+    requires placed { placement.now.objects ≡ loaded.now.objects }
+    requires slots { slots.now.slots ≡ wanted.slots loaded.now.objects }
+    requires kinds { AreLawfulKinds loaded.now.objects }
+    requires lawful { AreLawfulRelocations loaded.now.objects }
+    ensures exact { IfOk result (λ p. p ≡ placement.now) }
+    ensures fit { OnOk result (OwnValuesFit placement.now.base placement.now.objects) }
+    ensures fault { IfErr result (ValuesFail placement.now) }
+{
+    let rows = rows_of(alloc, loaded.objects(), resolved, placement, slots)?;
+    let patches = Patches::new(loaded, placement, rows)?;
+    Ok(patches)
+}

@@ -1,0 +1,58 @@
+use Rattle.std.proofs.Common.{◌≡◌, ◌∙◌, ◌<◌, List, ap, sym, subst}
+use Rattle.std.specs.Prelude.{◌≢◌}
+use Rattle.std.proofs.lemmas.Result.{err_from_is_err_and}
+use Rattle.elf_model.specs.Command.{Plan}
+use Rattle.elf_model.specs.Loading.{LoadedObject, round, rounds}
+use Rattle.elf_model.specs.LoadingBounds.{left_of_all}
+use Rattle.elf_model.proofs.LoadingBounds.{Extends, extends_length}
+use Rattle.elf_model.proofs.LoadingSteps.{round_behind, rounds_from_round, rounds_last, rounds_less, rounds_more}
+use Rattle.search.specs.Faults.{FailsOn}
+use Rattle.search.specs.Loaders.{loaded}
+use Rattle.search.proofs.WaitLaws.{is_later_trans}
+use Rattle.search.proofs.TurnLaws.{fails_later, took_some}
+use Rattle.search.proofs.rounds.run_rounds.Goals as goal
+
+pub returns-in_err-run_round-clause-fault : goal.returns-in_err-run_round-clause-fault
+returns-in_err-run_round-clause-fault c =
+    let p = err_from_is_err_and c.from_residual-in_err-run_round.result c.from_residual-in_err-run_round.ensures.1 in
+    let plan = c.args.loader.now.plan.now in
+    let os = loaded c.loop-all.loader in
+    let inputs = c.args.inputs.now in
+    rw (p.1, p.2)
+    (fails_later (round plan inputs os) (rounds plan inputs (loaded c.args.loader.now)) c.in_err-run_round.field-0.0
+    (subst (Extends (round plan inputs os)) c.loop-all.invariant.rest (rounds_from_round plan inputs os))
+    (subst (λ (q : Plan). FailsOn (round q inputs os) c.in_err-run_round.field-0.0) c.loop-all.invariant.later.plan c.in_err-run_round.ensures.fault))
+
+pub returns-then-count-before-clause-loaded : goal.returns-then-count-before-clause-loaded
+returns-then-count-before-clause-loaded c =
+    let plan = c.args.loader.now.plan.now in
+    let os = loaded c.loop-all.loader in
+    let inputs = c.args.inputs.now in
+    let is : loaded c.run_round.new.loader ≡ round plan inputs os = c.in_ok-run_round.ensures.loaded ∙ ap (λ (q : Plan). round q inputs os) c.loop-all.invariant.later.plan in
+    let same = sym c.count.ensures ∙ (c.if-count-before.true ∙ c.count-before.ensures) in
+    let nothing = extends_length os (loaded c.run_round.new.loader) (subst (Extends os) (sym is) (round_behind plan inputs os)) same in
+    nothing ∙ (sym (rounds_last plan inputs os (sym is ∙ nothing)) ∙ c.loop-all.invariant.rest)
+
+pub loop-all-smaller : goal.loop-all-smaller
+loop-all-smaller c =
+    let plan = c.args.loader.now.plan.now in
+    let os = loaded c.loop-all.loader in
+    let inputs = c.args.inputs.now in
+    let is : loaded c.run_round.new.loader ≡ round plan inputs os = c.in_ok-run_round.ensures.loaded ∙ ap (λ (q : Plan). round q inputs os) c.loop-all.invariant.later.plan in
+    let some : loaded c.run_round.new.loader ≢ os =
+    took_some os (loaded c.run_round.new.loader) (λ same. c.if-count-before.false (c.count.ensures ∙ (same ∙ sym c.count-before.ensures))) in
+    subst (λ (to : List LoadedObject). left_of_all inputs to < left_of_all inputs os) (sym is) (rounds_less plan inputs os (λ same. some (is ∙ same)))
+
+pub loop-all-preserved : goal.loop-all-preserved
+loop-all-preserved c =
+    let plan = c.args.loader.now.plan.now in
+    let os = loaded c.loop-all.loader in
+    let inputs = c.args.inputs.now in
+    let is : loaded c.run_round.new.loader ≡ round plan inputs os = c.in_ok-run_round.ensures.loaded ∙ ap (λ (q : Plan). round q inputs os) c.loop-all.invariant.later.plan in
+    let some : loaded c.run_round.new.loader ≢ os =
+    took_some os (loaded c.run_round.new.loader) (λ same. c.if-count-before.false (c.count.ensures ∙ (same ∙ sym c.count-before.ensures))) in record {
+      later = is_later_trans c.args.loader.now c.loop-all.loader c.run_round.new.loader c.loop-all.invariant.later c.in_ok-run_round.ensures.later;
+      known = c.in_ok-run_round.ensures.known;
+      covers = c.in_ok-run_round.ensures.covers;
+      rest = ap (rounds plan inputs) is ∙ (rounds_more plan inputs os (λ same. some (is ∙ same)) ∙ c.loop-all.invariant.rest);
+    }

@@ -1,0 +1,149 @@
+//! The whole command: its items in order, groups of archives as one.
+ghost use Rattle.std.specs.Prelude.{◌≡◌, IfErr, IfOk, OnOk, drop, length, ◌≤◌, ◌<◌};
+ghost use Rattle.std.specs.List.{prefix_len};
+ghost use Rattle.elf_model.specs.Files.{files_of};
+ghost use Rattle.elf_model.specs.Loading.{AreObjects, HaveLawfulGroups, Single, group_of, loaded_objects, loaded_step, loaded_steps, steps};
+ghost use Rattle.elf_model.specs.LoadingRules.{FollowsRules};
+ghost use Rattle.elf_model.specs.Opening.{AreArchives, AreFilesThere, HaveIndexes, opened};
+ghost use Rattle.search.specs.Faults.{FailsOn, LoadFails};
+ghost use Rattle.search.specs.Loaders.{IsLater, Knows, loaded};
+ghost use Rattle.search.specs.Steps.{in_group};
+ghost use Rattle.search.specs.Views.{loaded_views};
+
+use crate::archives::{Input, read_inputs};
+use crate::faults::SearchFault;
+use crate::files::FileIndex;
+use crate::loaded::Loaded;
+use crate::loader::Loader;
+use crate::opened_items::open;
+use crate::rounds::run_rounds;
+use crate::turns::{turn, waits_for};
+use command::Plan;
+use elf_model::InputFile;
+use std::alloc::Global;
+
+/// The number of an archive's group; None of one that is in none, and of an object.
+fn group_of(input: &Input<'_>) -> Option<u64>
+    ensures { result ≡ group_of input.now }
+{
+    let item = input.item();
+    if item.archive { item.group } else { None }
+}
+
+/// Whether an input is an archive of a group.
+fn is_in_group(input: &Input<'_>, group: u64) -> bool
+    ensures { result ≡ in_group group input.now }
+{
+    match group_of(input) {
+        Some(other) => other == group,
+        None => false,
+    }
+}
+
+/// How many of the first inputs are archives of a group.
+fn run_length(inputs: &[Input<'_>], group: u64) -> usize
+    ensures { result ≡ prefix_len (in_group group) inputs.now }
+{
+    inputs.iter().take_while(|i| is_in_group(i, group)).count()
+}
+
+/// Loads an item that is in no group.
+fn load_single<'a>(
+    alloc: Global,
+    loader: &mut Loader<'_, 'a>,
+    input: &Input<'a>,
+) -> Result<(), SearchFault>
+    requires known { Knows loader.old }
+    ensures later { OnOk result (IsLater loader.old loader.new) }
+    ensures known { OnOk result (Knows loader.new) }
+    ensures loaded { OnOk result (loaded loader.new ≡ loaded_step loader.old.plan.now (Single input.now) (loaded loader.old)) }
+    ensures fault { IfErr result (FailsOn (loaded_step loader.old.plan.now (Single input.now) (loaded loader.old))) }
+{
+    let item = input.item();
+    if item.archive {
+        let mut waits = waits_for(alloc, loader, input)?;
+        turn(alloc, loader, input, &mut waits)?;
+        return Ok(());
+    }
+    loader.add(alloc, &item, 0, item.bytes)
+}
+
+/// Loads the first step of inputs, and answers how many these are.
+fn load_step<'a>(
+    alloc: Global,
+    loader: &mut Loader<'_, 'a>,
+    inputs: &[Input<'a>],
+) -> Result<usize, SearchFault>
+    requires known { Knows loader.old }
+    requires some { 0 < length inputs.now }
+    ensures later { OnOk result (IsLater loader.old loader.new) }
+    ensures known { OnOk result (Knows loader.new) }
+    ensures count { IfOk result (λ n. (0 < n) × (n ≤ length inputs.now)) }
+    ensures loaded { IfOk result (λ n. loaded_steps loader.old.plan.now (steps (drop n inputs.now)) (loaded loader.new) ≡ loaded_steps loader.old.plan.now (steps inputs.now) (loaded loader.old)) }
+    ensures fault { IfErr result (FailsOn (loaded_steps loader.old.plan.now (steps inputs.now) (loaded loader.old))) }
+{
+    let Some(group) = group_of(&inputs[0]) else {
+        load_single(alloc, loader, &inputs[0])?;
+        return Ok(1);
+    };
+    let count = run_length(inputs, group);
+    let (run, _rest) = inputs.split_at(count);
+    run_rounds(alloc, loader, run)?;
+    Ok(count)
+}
+
+/// Loads inputs, in order.
+fn load_inputs<'a>(
+    alloc: Global,
+    loader: &mut Loader<'_, 'a>,
+    inputs: &[Input<'a>],
+) -> Result<(), SearchFault>
+    requires known { Knows loader.old }
+    ensures known { OnOk result (Knows loader.new) }
+    ensures loaded { OnOk result (loaded loader.new ≡ loaded_steps loader.old.plan.now (steps inputs.now) (loaded loader.old)) }
+    ensures fault { IfErr result (FailsOn (loaded_steps loader.old.plan.now (steps inputs.now) (loaded loader.old))) }
+{
+    let mut at = 0;
+    while at < inputs.len() {
+        let (_done, rest) = inputs.split_at(at);
+        at += load_step(alloc, loader, rest)?;
+    }
+    Ok(())
+}
+
+/// The plan, and the objects that it loads, in load order (ld(1)).
+///
+/// An object item is loaded where it stands. An archive has one turn: the first entry of its index, in the
+/// index's order, whose name is needed and whose member isn't loaded gives its member, again and again until
+/// there is none. A name is needed where the entry, a `-u` or an undefined GLOBAL symbol of a loaded object
+/// asks for it, and no loaded object defines it. A group of archives has rounds of turns until a whole round
+/// takes nothing, and an archive under `--whole-archive` gives all its members at its first turn. A COMDAT
+/// group whose signature a loaded object has already is dropped (System V gABI 4, "Section Groups").
+///
+/// # Errors
+///
+/// FileMissing where an item has no file, before all others. BadArchive and NoIndex of an archive item, of
+/// whichever; then BadObject and Group of an object that loading comes to. Memory where memory is refused.
+pub fn load<'a>(
+    alloc: Global,
+    plan: &Plan<'a>,
+    files: &'a [InputFile],
+) -> Result<Loaded<'a>, SearchFault>
+    ensures plan { IfOk result (λ l. l.plan ≡ plan.now) }
+    ensures loaded { IfOk result (λ l. l.objects ≡ loaded_objects (files_of files.entry.now) plan.now) }
+    ensures rules { OnOk result (FollowsRules (files_of files.entry.now) plan.now) }
+    ensures files { OnOk result (AreFilesThere (files_of files.entry.now) plan.now) }
+    ensures archives { OnOk result (AreArchives (opened (files_of files.entry.now) plan.now)) }
+    ensures indexes { OnOk result (HaveIndexes (opened (files_of files.entry.now) plan.now)) }
+    ensures objects { OnOk result (AreObjects (loaded_objects (files_of files.entry.now) plan.now)) }
+    ensures groups { OnOk result (HaveLawfulGroups (loaded_objects (files_of files.entry.now) plan.now)) }
+    ensures fault { IfErr result (LoadFails (files_of files.entry.now) plan.now) }
+{
+    let index = FileIndex::new(alloc, files)?;
+    let items = open(alloc, &index, plan)?;
+    let inputs = read_inputs(alloc, &items)?;
+    let mut loader = Loader::new(alloc, plan)?;
+    load_inputs(alloc, &mut loader, &inputs)?;
+    let loaded = Loaded::new(alloc, plan, loader.into_objects())?;
+    Ok(loaded)
+}
