@@ -185,7 +185,7 @@ impl<'l, 'p, 'a> Bindings<'l, 'p, 'a> {
     }
 
     /// What a name means that an object defines.
-    fn object_meaning(&self, name: &[u8]) -> Option<Meaning<'a>>
+    pub fn object_meaning(&self, name: &[u8]) -> Option<Meaning<'a>>
         ensures { option_map meaning_view result ≡ object_meaning self.now.objects name.now }
     {
         let symbol = self.chosen(name)?;
@@ -205,6 +205,13 @@ impl<'l, 'p, 'a> Bindings<'l, 'p, 'a> {
         } else {
             None
         }
+    }
+
+    /// Where a bound is for which a name of the linker's stands.
+    pub fn bound(&self, name: &[u8], bound: Bound) -> u64
+        ensures { result ≡ bound_value self.now.places name.now bound }
+    {
+        self.places.bound(name, bound)
     }
 
     /// What the linker defines for a name.

@@ -17,7 +17,7 @@ mod values;
 pub use bindings::Bindings;
 pub use field_rows::fields_right;
 pub use fields::Field;
-pub use linker_uses::linker_lines;
+pub use linker_uses::{linker_lines, used_names};
 pub use needs::{Needs, needs_of};
 pub use section_fields::fields_in;
 pub use targets::symbol_at;

@@ -10,7 +10,7 @@ ghost use Rattle.elf_model.specs.ObjectFile.{sections};
 ghost use Rattle.elf_model.specs.Relocation.{is_some_kind, relocation_of, relocations, relocations_from, relocations_in, symbol_at};
 ghost use Rattle.elf_model.specs.UsedNames.{Gains, is_among, is_linker_use, linker_meaning, linker_meanings, uses_line};
 ghost use Rattle.check_load.specs.Views.{loaded_view, loaded_views};
-ghost use Rattle.check_relocs.specs.LinkerUses.{AreUses};
+ghost use Rattle.check_relocs.specs.LinkerUses.{AreUsed, AreUses};
 ghost use Rattle.check_link.specs.Views.{meaning_views, symbol_view};
 
 use crate::bindings::Bindings;
@@ -165,12 +165,12 @@ fn add_object<'a>(
     Ok(())
 }
 
-/// The linker's names that kept relocations use and no object defines.
-fn used_names<'a>(
+/// The linker's names that kept relocations use and no object defines, which have a line in the map.
+pub fn used_names<'a>(
     alloc: Global,
     bindings: &Bindings<'_, '_, 'a>,
 ) -> Result<BTreeSet<&'a [u8]>, AllocError>
-    ensures { IfOk result (λ s. (n : List ℕ) → is_among s n ≡ list_any (uses_line bindings.now.objects n) (relocations bindings.now.objects)) }
+    ensures { IfOk result (AreUsed bindings.now.objects) }
 {
     let objects = bindings.objects();
     let mut names = BTreeSet::new(alloc);
@@ -210,14 +210,15 @@ fn lines_of<'a>(
     Ok(lines)
 }
 
-/// What the linker's names mean that have a line in the map.
+/// What the linker's names mean that have a line in the map, given these names.
 pub fn linker_lines<'a>(
     alloc: Global,
     bindings: &Bindings<'_, '_, 'a>,
+    names: &BTreeSet<&'a [u8]>,
 ) -> Result<Vec<Meaning<'a>>, AllocError>
+    requires { AreUsed bindings.now.objects names.now }
     ensures { IfOk result (λ v. AreLinkerLines bindings.now.objects (meaning_views v.items)) }
 {
-    let names = used_names(alloc, bindings)?;
-    let lines = lines_of(alloc, bindings, &names)?;
+    let lines = lines_of(alloc, bindings, names)?;
     Ok(lines)
 }

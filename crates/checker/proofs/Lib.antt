@@ -1,5 +1,6 @@
 pub mod ArrayRanks
 pub mod Clauses
+pub mod CountedLines
 pub mod DropSteps
 pub mod Filtered
 pub mod GotSteps

@@ -29,78 +29,44 @@ use Rattle.check_link.specs.declared.things.Meaning as things
 use Rattle.check_link.specs.declared.things.Meaning.TheVariants as variant
 use Rattle.check_link.specs.declared.things.SymbolOf as code
 
--- each name has one definition, so no two neighbours have one name
-differ :
-    (objects : List LoadedObject) (sorted : List things.Meaning) → AreListed objects (meaning_views sorted) →
-    (k : ℕ) (d : things.Meaning) → k + 1 < length sorted →
-    meaning_name (meaning_view (get_or sorted k d)) ≡ meaning_name (meaning_view (get_or sorted (k + 1) d)) → ⊥
-differ objects sorted of k d within same =
-    let n = meaning_name (meaning_view (get_or sorted k d)) in
-    let len = length-map sorted meaning_view in
-    let here : meaning_name (get_or (meaning_views sorted) k (meaning_view d)) ≡ n =
-    ap meaning_name (get_or-map meaning_view sorted k d (meaning_view d) (omega (arith, within))) in
-    let next : meaning_name (get_or (meaning_views sorted) (k + 1) (meaning_view d)) ≡ n =
-    ap meaning_name (get_or-map meaning_view sorted (k + 1) d (meaning_view d) within) ∙ sym same in
-    let two =
-    neighbours_count (has_meaning n) (meaning_views sorted) k (meaning_view d) (omega (arith, within, len))
-    ((bytes_eq-Decides (meaning_name (get_or (meaning_views sorted) k (meaning_view d))) n).1 here)
-    ((bytes_eq-Decides (meaning_name (get_or (meaning_views sorted) (k + 1) (meaning_view d))) n).1 next) in
-    let u = of.once n in
-    omega (arith, two, u)
-
-held_is : (m : things.Meaning) → (held_name m).now ≡ meaning_name (meaning_view m)
-held_is (variant.Symbol s) = refl
-held_is (variant.Common b) = refl
-held_is (variant.Linker name bound) = refl
-
-by_names :
-    (sorted : List things.Meaning) → IsSortedByKey (λ m. (held_name m).now) (slice_cmp nat_cmp) sorted →
-    IsSortedByKey (λ m. meaning_name (meaning_view m)) (slice_cmp nat_cmp) sorted
-by_names sorted up =
-    let same : (λ (m : things.Meaning). (held_name m).now) ≡ (λ (m : things.Meaning). meaning_name (meaning_view m)) = λ i m. held_is m i in
-    subst (λ (key : things.Meaning → List ℕ). IsSortedByKey key (slice_cmp nat_cmp) sorted) same up
-
--- the lines are those of the definitions that have one, by name, or they aren't
+-- as many as the lines of chosen symbols and of the linker's names together, and each right
 pub listed :
-    (objects : List LoadedObject) (w : Where) (rows : List SymbolRow) (all found : List code.SymbolOf) (linkers both sorted : List things.Meaning) →
-    symbol_views all ≡ all_symbols objects →
-    symbol_views found ≡ chosen_among objects (symbol_views all) →
-    AreLinkerLines objects (meaning_views linkers) →
-    meaning_views both ≡ meaning_views linkers ++ meanings_of objects (symbol_views found) →
-    IsPermutation (meaning_views both) (meaning_views sorted) →
-    IsSortedByKey (λ m. (held_name m).now) (slice_cmp nat_cmp) sorted → Ascends SymbolBefore rows →
-    (rows ≡ map (symbol_row_of w) (meaning_views sorted)) ↔ ((name : List ℕ) → HasLine rows objects w name)
-listed objects w rows all found linkers both sorted are is lines joined same up ascend =
-    let wanted : List SymbolRow = map (symbol_row_of w) (meaning_views sorted) in
-    let parts : meaning_views both ≡ meaning_views linkers ++ meanings_of objects (chosen_symbols objects) =
-    joined ∙ ap (λ (ss : List SymbolOf). meaning_views linkers ++ meanings_of objects ss) (is ∙ ap (chosen_among objects) are) in
-    let moved : IsPermutation (meanings_of objects (chosen_symbols objects) ++ meaning_views linkers) (meaning_views sorted) =
-    IsPermutation-trans (meanings_of objects (chosen_symbols objects) ++ meaning_views linkers)
-    (meaning_views linkers ++ meanings_of objects (chosen_symbols objects)) (meaning_views sorted)
-    (IsPermutation-append_comm (meanings_of objects (chosen_symbols objects)) (meaning_views linkers))
-    (subst (λ (ms : List Meaning). IsPermutation ms (meaning_views sorted)) parts same) in
-    let of : AreListed objects (meaning_views sorted) =
-    permuted_is_of (Listing.listed objects) (meanings_of objects (chosen_symbols objects) ++ meaning_views linkers) (meaning_views sorted) moved
-    (joined_listed objects (chosen_symbols objects) (meaning_views linkers) (IsPermutation-refl (chosen_symbols objects)) lines) in (
-      λ e n. ap (λ (xs : List SymbolRow). find (has n) xs) e ∙ look_up objects w (meaning_views sorted) of n,
-      λ have.
-          let rise = rows_ascend meaning_view w sorted (by_names sorted up) (differ objects sorted of) in
-          same_from_look_ups rows wanted (rises_from_ascends rows ascend) (rises_from_ascends wanted rise)
-          (λ n. have n ∙ sym (look_up objects w (meaning_views sorted) of n)),
+    (objects : List LoadedObject) (w : Where) (rows : List SymbolRow) (linkers : List Meaning) (count : ℕ) →
+    AreLinkerLines objects linkers → Ascends SymbolBefore rows →
+    count ≡ length (meanings_of objects (chosen_symbols objects)) →
+    (All (IsLine objects w) rows × (length rows ≡ count + length linkers)) ↔ ((name : List ℕ) → HasLine rows objects w name)
+listed objects w rows linkers count lines ascend is =
+    let chosen = meanings_of objects (chosen_symbols objects) in
+    let both = joined_listed objects (chosen_symbols objects) linkers (IsPermutation-refl (chosen_symbols objects)) lines in
+    let more = length-append chosen linkers in
+    let whole = counted_lines objects w rows (chosen ++ linkers) both ascend in (
+      λ h. whole.0 (h.0, let e = h.1 in omega (arith, more, is, e)),
+      λ have. let h = whole.1 have in (h.0, let e = h.1 in omega (arith, more, is, e)),
     )
 
--- one more symbol
-pub chosen_more :
-    (objects : List LoadedObject) (s : SymbolOf) (ss : List SymbolOf) →
-    chosen_among objects (s ∷ ss) ≡ chosen_among objects (s ∷ []) ++ chosen_among objects ss
-chosen_more objects s ss = by (is_definition s) (is_chosen objects s) refl refl
+-- the line of a name that an object defines, and of one that none does
+pub means_object :
+    (objects : List LoadedObject) (n : List ℕ) (m : Meaning) → object_meaning objects n ≡ Some m → Listing.listed objects n ≡ Some m
+means_object objects n m is = by (chosen objects n) is
   where
-    by :
-        (b c : Bool) → is_definition s ≡ b → is_chosen objects s ≡ c →
-        chosen_among objects (s ∷ ss) ≡ chosen_among objects (s ∷ []) ++ chosen_among objects ss
-    by true true e f = rw (e, f) refl
-    by true false e f = rw (e, f) refl
-    by false c e f = rw e refl
+    by : (o : Option SymbolOf) → option_and_then (meant objects) o ≡ Some m →
+        cond (is_some o || is_used objects n) (option_or (option_and_then (meant objects) o) (option_map (Linker n) (bound_of objects n))) None ≡ Some m
+    by None e = absurd (none-some m e)
+    by (Some s) e = ap (λ (o : Option Meaning). option_or o (option_map (Linker n) (bound_of objects n))) e
+
+pub means_linker :
+    (objects : List LoadedObject) (n : List ℕ) → object_meaning objects n ≡ None → Listing.listed objects n ≡ linker_line objects n
+means_linker objects n is = by (chosen objects n) refl is
+  where
+    by : (o : Option SymbolOf) → chosen objects n ≡ o → option_and_then (meant objects) o ≡ None →
+        cond (is_some o || is_used objects n) (option_or (option_and_then (meant objects) o) (option_map (Linker n) (bound_of objects n))) None
+        ≡ cond (is_used objects n && not (is_some o)) (option_map (Linker n) (bound_of objects n)) None
+    by None e none = used (is_used objects n)
+      where
+        used : (b : Bool) → cond b (option_map (Linker n) (bound_of objects n)) None ≡ cond (b && true) (option_map (Linker n) (bound_of objects n)) None
+        used true = refl
+        used false = refl
+    by (Some s) e none = absurd (false≢true (sym (ap is_some none) ∙ chosen_means objects n s e))
 
 -- no name has two strong definitions where each strong one is chosen
 pub unique_told :
@@ -116,3 +82,21 @@ unique_told objects all are = (
       (subst (All (IsChosenIfStrong objects)) (sym are)
       (All-kept (λ (x : SymbolOf). is_chosen objects x ≡ true) is_strong (all_symbols objects) (all_chosen objects unique))),
 )
+
+-- one more symbol's lines
+pub more_lines :
+    (objects : List LoadedObject) (s : SymbolOf) (ss : List SymbolOf) →
+    length (meanings_of objects (chosen_among objects (s ∷ ss)))
+    ≡ length (meanings_of objects (chosen_among objects (s ∷ []))) + length (meanings_of objects (chosen_among objects ss))
+more_lines objects s ss = by (is_definition s) (is_chosen objects s) refl refl
+  where
+    by :
+        (b c : Bool) → is_definition s ≡ b → is_chosen objects s ≡ c →
+        length (meanings_of objects (chosen_among objects (s ∷ ss)))
+        ≡ length (meanings_of objects (chosen_among objects (s ∷ []))) + length (meanings_of objects (chosen_among objects ss))
+    by true true e f =
+        rw (e, f)
+        (let a = length-append (meant_list objects s) (meanings_of objects (chosen_among objects ss)) in
+        let b = length-append (meant_list objects s) [] in omega (arith, a, b))
+    by true false e f = rw (e, f) refl
+    by false c e f = rw e refl

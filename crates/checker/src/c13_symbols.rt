@@ -1,24 +1,24 @@
 //! C13: whether the symbols are sound, no name has two strong definitions, and the symbol lines are those that the names
 //! ask for.
-ghost use Rattle.std.specs.Prelude.{◌≡◌, ◌↔◌, ℕ, List, All, IfOk, IfSome, IsPermutation, IsSome, IsTrue, OnOk, [], ◌∷◌, ◌++◌, map};
-ghost use Rattle.std.specs.Cmp.Lexicographic.{slice_cmp};
-ghost use Rattle.std.specs.List.Sorted.{IsSortedByKey};
-ghost use Rattle.std.specs.Ordering.{nat_cmp};
+ghost use Rattle.std.specs.Prelude.{◌≡◌, ◌↔◌, ◌≤◌, ℕ, List, All, IfOk, IfSome, IsSome, IsTrue, [], ◌∷◌, length, map, option_map, Some};
+ghost use Rattle.elf_model.specs.Listing.{linker_line};
 ghost use Rattle.elf_model.specs.MapRecord.{symbol_row};
 ghost use Rattle.elf_model.specs.Meaning.{Symbol, meaning_name, meanings_of, meant_list};
 ghost use Rattle.elf_model.specs.declared.link_map.Definition.TheVariants as definition;
 ghost use Rattle.elf_model.specs.MapText.{Ascends, SymbolBefore};
 ghost use Rattle.elf_model.specs.Resolution.{AreSoundSymbols, AreUnique};
 ghost use Rattle.elf_model.specs.RightLink.{HasLine, Holds, definition_row, symbol_row_of};
-ghost use Rattle.checker.specs.Listed.{IsChosenIfStrong, chosen_among};
-ghost use Rattle.check_link.specs.Views.{held_name, meaning_view, meaning_views, symbol_view, symbol_views};
+ghost use Rattle.checker.specs.Listed.{IsChosenIfStrong, IsLine, chosen_among};
+ghost use Rattle.check_link.specs.Views.{meaning_view, symbol_view, symbol_views};
+ghost use Rattle.check_relocs.specs.LinkerUses.{AreUsed};
 ghost use Rattle.elf_model.specs.declared.verdict.Clause.TheVariants as clause;
 
 use crate::bound_link::BoundLink;
 use check_link::{Meaning, SymbolOf, is_definition, is_strong};
-use check_relocs::{Bindings, linker_lines};
+use check_relocs::{Bindings, linker_lines, used_names};
 use elf_model::{Definition, STB_WEAK, SymbolLine};
 use std::alloc::{AllocError, Global};
+use std::collections::BTreeSet;
 
 /// Whether the thirteenth clause holds of a link.
 pub fn holds(alloc: Global, bound: &BoundLink<'_, '_>) -> Result<bool, AllocError>
@@ -29,92 +29,56 @@ pub fn holds(alloc: Global, bound: &BoundLink<'_, '_>) -> Result<bool, AllocErro
     Ok(listed)
 }
 
-/// Adds a symbol where it is a chosen definition. False where it is a strong one that isn't chosen.
-fn add_chosen<'a>(
-    bindings: &Bindings<'_, '_, 'a>,
-    symbol: &SymbolOf<'a>,
-    chosen: &mut Vec<SymbolOf<'a>>,
-) -> Result<bool, AllocError>
-    ensures added { IfOk result (λ b. IsTrue b → symbol_views chosen.new.items ≡ symbol_views chosen.old.items ++ chosen_among bindings.now.objects (symbol_view symbol.now ∷ [])) }
-    ensures lawful { IfOk result (λ b. IsTrue b ↔ IsChosenIfStrong bindings.now.objects (symbol_view symbol.now)) }
+/// 1 where a chosen symbol means something, else 0.
+fn meaning_count(bindings: &Bindings<'_, '_, '_>, symbol: &SymbolOf<'_>) -> usize
+    ensures few { result ≤ 1 }
+    ensures count { result ≡ length (meant_list bindings.now.objects (symbol_view symbol.now)) }
 {
-    if !is_definition(symbol) {
-        return Ok(true);
+    match bindings.meant(symbol) {
+        Some(_) => 1,
+        None => 0,
     }
-    if bindings.is_chosen(symbol) {
-        chosen.push(*symbol)?;
-        return Ok(true);
-    }
-    Ok(!is_strong(symbol))
 }
 
-/// The chosen definitions among symbols, in their order; None where a strong one isn't chosen.
-fn chosen_symbols<'a>(
-    alloc: Global,
-    bindings: &Bindings<'_, '_, 'a>,
-    symbols: &[SymbolOf<'a>],
-) -> Result<Option<Vec<SymbolOf<'a>>>, AllocError>
-    ensures chosen { IfOk result (λ o. IfSome o (λ v. symbol_views v.items ≡ chosen_among bindings.now.objects (symbol_views symbols.now))) }
-    ensures unique { IfOk result (λ o. IsSome o ↔ All (λ s. IsChosenIfStrong bindings.now.objects (symbol_view s)) symbols.now) }
+/// How many lines a symbol has: one where it is a chosen definition. None where it is a strong one that isn't chosen.
+fn line_count(bindings: &Bindings<'_, '_, '_>, symbol: &SymbolOf<'_>) -> Option<usize>
+    ensures few { IfSome result (λ n. n ≤ 1) }
+    ensures count { IfSome result (λ n. n ≡ length (meanings_of bindings.now.objects (chosen_among bindings.now.objects (symbol_view symbol.now ∷ [])))) }
+    ensures lawful { IsSome result ↔ IsChosenIfStrong bindings.now.objects (symbol_view symbol.now) }
 {
-    let mut chosen = Vec::new(alloc);
-    for symbol in symbols {
-        if !add_chosen(bindings, symbol, &mut chosen)? {
-            return Ok(None);
-        }
+    if !is_definition(symbol) {
+        return Some(0);
     }
-    Ok(Some(chosen))
+    if bindings.is_chosen(symbol) {
+        return Some(meaning_count(bindings, symbol));
+    }
+    if is_strong(symbol) { None } else { Some(0) }
+}
+
+/// How many lines all symbols have together; None where a strong one isn't chosen.
+fn chosen_count(bindings: &Bindings<'_, '_, '_>, symbols: &[SymbolOf<'_>]) -> Option<usize>
+    ensures count { IfSome result (λ n. n ≡ length (meanings_of bindings.now.objects (chosen_among bindings.now.objects (symbol_views symbols.now)))) }
+    ensures unique { IsSome result ↔ All (λ s. IsChosenIfStrong bindings.now.objects (symbol_view s)) symbols.now }
+{
+    let mut count = 0;
+    for symbol in symbols {
+        let Some(more) = line_count(bindings, symbol) else {
+            return None;
+        };
+        count += more;
+    }
+    Some(count)
 }
 
 /// The name of what a name means.
 fn name_of<'a>(meaning: &Meaning<'a>) -> &'a [u8]
-    ensures value { result ≡ held_name meaning.now }
-    ensures name { result.now ≡ meaning_name (meaning_view meaning.now) }
+    ensures { result.now ≡ meaning_name (meaning_view meaning.now) }
 {
     match meaning {
         Meaning::Symbol(symbol) => symbol.name,
         Meaning::Common(block) => block.name,
         Meaning::Linker(name, _) => name,
     }
-}
-
-/// The same definitions in the order of their names.
-fn by_name<'a>(listed: Vec<Meaning<'a>>) -> Result<Vec<Meaning<'a>>, AllocError>
-    ensures same { IfOk result (λ v. IsPermutation (meaning_views listed.entry.items) (meaning_views v.items)) }
-    ensures rising { IfOk result (λ v. IsSortedByKey (λ m. (held_name m).now) (slice_cmp nat_cmp) v.items) }
-{
-    let mut sorted = listed;
-    sorted.sort_by_key(|m| name_of(m))?;
-    Ok(sorted)
-}
-
-/// Adds what a chosen symbol means.
-fn add_meant<'a>(
-    bindings: &Bindings<'_, '_, 'a>,
-    symbol: &SymbolOf<'a>,
-    all: &mut Vec<Meaning<'a>>,
-) -> Result<(), AllocError>
-    ensures { OnOk result (meaning_views all.new.items ≡ meaning_views all.old.items ++ meant_list bindings.now.objects (symbol_view symbol.now)) }
-{
-    if let Some(meaning) = bindings.meant(symbol) {
-        all.push(meaning)?;
-    }
-    Ok(())
-}
-
-/// All definitions that have a line: those of the linker's names, and what the chosen symbols mean.
-fn joined<'a>(
-    bindings: &Bindings<'_, '_, 'a>,
-    symbols: &[SymbolOf<'a>],
-    linkers: Vec<Meaning<'a>>,
-) -> Result<Vec<Meaning<'a>>, AllocError>
-    ensures { IfOk result (λ v. meaning_views v.items ≡ meaning_views linkers.entry.items ++ meanings_of bindings.now.objects (symbol_views symbols.now)) }
-{
-    let mut all = linkers;
-    for symbol in symbols {
-        add_meant(bindings, symbol, &mut all)?;
-    }
-    Ok(all)
 }
 
 /// Whether a line names a symbol as a definition of its binding.
@@ -179,30 +143,57 @@ fn is_line_of(bindings: &Bindings<'_, '_, '_>, meaning: &Meaning<'_>, line: &Sym
     bindings.is_value(meaning, line.address)
 }
 
-/// Whether the lines are those of definitions, one for one.
-fn are_lines_of(
+/// Whether a line is that of a name that no object defines, and that is one of the linker's with a line.
+fn is_linkers_line(
     bindings: &Bindings<'_, '_, '_>,
-    listed: &[Meaning<'_>],
-    lines: &[SymbolLine],
+    names: &BTreeSet<&[u8]>,
+    line: &SymbolLine,
 ) -> bool
-    ensures { IsTrue result ↔ (map symbol_row lines.now ≡ map (symbol_row_of bindings.now.places) (meaning_views listed.now)) }
+    requires { AreUsed bindings.now.objects names.now }
+    ensures { IsTrue result ↔ (option_map (symbol_row_of bindings.now.places) (linker_line bindings.now.objects line.now.name.items) ≡ Some (symbol_row line.now)) }
 {
-    if lines.len() != listed.len() {
+    if !names.contains(line.name.as_slice()) {
         return false;
     }
-    for i in 0..lines.len() {
-        if !is_line_of(bindings, &listed[i], &lines[i]) {
-            return false;
+    match bindings.bound_of(&line.name) {
+        Some(bound) => {
+            is_linkers(line.definition) && line.address == bindings.bound(&line.name, bound)
         }
+        None => false,
     }
-    true
+}
+
+/// Whether a line is that of what its name means, given the linker's names that have one.
+fn is_right_line(
+    bindings: &Bindings<'_, '_, '_>,
+    names: &BTreeSet<&[u8]>,
+    line: &SymbolLine,
+) -> bool
+    requires { AreUsed bindings.now.objects names.now }
+    ensures { IsTrue result ↔ IsLine bindings.now.objects bindings.now.places (symbol_row line.now) }
+{
+    match bindings.object_meaning(&line.name) {
+        Some(meaning) => is_line_of(bindings, &meaning, line),
+        None => is_linkers_line(bindings, names, line),
+    }
+}
+
+fn are_right_lines(
+    bindings: &Bindings<'_, '_, '_>,
+    names: &BTreeSet<&[u8]>,
+    lines: &[SymbolLine],
+) -> bool
+    requires { AreUsed bindings.now.objects names.now }
+    ensures { IsTrue result ↔ All (λ line. IsLine bindings.now.objects bindings.now.places (symbol_row line)) lines.now }
+{
+    lines.iter().all(|line| is_right_line(bindings, names, line))
 }
 
 /// Whether all symbols are sound, no name has two strong definitions, and the lines, which ascend by name,
-/// are those of the definitions that have one, each with its value.
-fn are_symbols_listed<'a>(
+/// are those of the names that have one: each is right, and there are as many.
+fn are_symbols_listed(
     alloc: Global,
-    bindings: &Bindings<'_, '_, 'a>,
+    bindings: &Bindings<'_, '_, '_>,
     lines: &[SymbolLine],
 ) -> Result<bool, AllocError>
     requires { Ascends SymbolBefore (map symbol_row lines.now) }
@@ -211,11 +202,13 @@ fn are_symbols_listed<'a>(
     if !bindings.are_sound() {
         return Ok(false);
     }
-    let Some(chosen) = chosen_symbols(alloc, bindings, bindings.symbols())? else {
+    let Some(count) = chosen_count(bindings, bindings.symbols()) else {
         return Ok(false);
     };
-    let linkers = linker_lines(alloc, bindings)?;
-    let sorted = by_name(joined(bindings, &chosen, linkers)?)?;
-    let listed = are_lines_of(bindings, &sorted, lines);
-    Ok(listed)
+    let names = used_names(alloc, bindings)?;
+    let linkers = linker_lines(alloc, bindings, &names)?;
+    if lines.len().checked_sub(linkers.len()) != Some(count) {
+        return Ok(false);
+    }
+    Ok(are_right_lines(bindings, &names, lines))
 }

@@ -6,4 +6,4 @@ use Rattle.check_relocs.proofs.linker_uses.linker_lines.Goals as goal
 pub returns : goal.returns
 returns c =
     let L = c.args.bindings.now.objects in
-    subst (AreLinkerLines L) (sym c.in_ok-lines.ensures.lines) (lines_are L c.in_ok-names.names c.in_ok-lines.ensures.ordered c.in_ok-names.ensures)
+    subst (AreLinkerLines L) (sym c.in_ok-lines.ensures.lines) (lines_are L c.args.names.now c.in_ok-lines.ensures.ordered c.requires)
