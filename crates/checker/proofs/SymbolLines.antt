@@ -1,33 +1,32 @@
--- The symbol lines of a map against the chosen definitions in the order of their names.
-use Rattle.std.proofs.Common.{◌≡◌, ℕ, ◌+◌, ◌<◌, Bool, true, false, List, [], ◌∷◌, ◌++◌, length, get_or, refl, sym, ◌∙◌, ap, subst, arith}
-use Rattle.std.specs.Prelude.{◌↔◌, All, IsPermutation, find, map}
+-- The symbol lines of a map against the chosen definitions and the linker's names that have one.
+use Rattle.std.proofs.Common.{◌≡◌, ℕ, ◌+◌, Bool, true, false, not, cond, ◌&&◌, ◌||◌, List, [], ◌∷◌, ◌++◌, length, length-append, Option, Some, None, refl, sym, ◌∙◌, ap, subst, arith}
+use Rattle.std.specs.Prelude.{◌↔◌, All, is_some, option_map}
+use Rattle.std.specs.Option.{option_and_then, option_or}
+use Rattle.std.proofs.lemmas.Bool.{false≢true}
 use Rattle.std.proofs.lemmas.List.Elements.{All-contains, All-map}
+use Rattle.std.proofs.lemmas.List.Sorted.{IsPermutation-refl}
+use Rattle.std.proofs.lemmas.Option.{none-some, same_Some}
 use Rattle.elf_model.proofs.ChosenSymbols.{All-kept, all_chosen, unique_from_chosen}
 use Rattle.elf_model.proofs.Listed.{All-from_contains, All-unmap, Contains-from_filter}
-use Rattle.checker.specs.Listed.{IsChosenIfStrong, chosen_among}
+use Rattle.elf_model.proofs.Listing.{chosen_means, joined_listed}
 use Rattle.elf_model.specs.ChosenSymbols.{chosen_symbols, is_chosen, is_definition}
-use Rattle.std.specs.Cmp.Lexicographic.{slice_cmp}
-use Rattle.std.specs.List.Sorted.{IsSortedByKey}
-use Rattle.std.specs.Ordering.{nat_cmp}
-use Rattle.std.proofs.lemmas.List.{get_or-map, length-map}
-use Rattle.std.proofs.lemmas.List.Sorted.{IsPermutation-append_comm, IsPermutation-refl, IsPermutation-trans}
-use Rattle.std.proofs.lemmas.Slice.Eq.{bytes_eq-Decides}
+use Rattle.elf_model.specs.LinkerNames.{bound_of}
+use Rattle.elf_model.specs.LinkerValues.{bound_value}
 use Rattle.elf_model.specs.Listing as Listing
-use Rattle.elf_model.specs.Listing.{AreLinkerLines, AreListed, has_meaning}
+use Rattle.elf_model.specs.Listing.{AreLinkerLines, is_used, linker_line}
 use Rattle.elf_model.specs.Loading.{LoadedObject}
 use Rattle.elf_model.specs.MapRecord.{SymbolRow}
 use Rattle.elf_model.specs.MapText.{Ascends, SymbolBefore}
-use Rattle.elf_model.specs.Meaning.{Meaning, meaning_name, meanings_of}
+use Rattle.elf_model.specs.Meaning.{Linker, Meaning, meaning_name, meanings_of, meant, meant_list, object_meaning}
 use Rattle.elf_model.specs.Placement.{Where}
-use Rattle.elf_model.specs.Resolution.{AreUnique, SymbolOf, all_symbols, is_strong, strong_definitions}
+use Rattle.elf_model.specs.Resolution.{AreUnique, SymbolOf, all_symbols, chosen, is_strong, strong_definitions}
 use Rattle.elf_model.specs.RightLink.{HasLine, symbol_row_of}
-use Rattle.elf_model.proofs.Listing.{joined_listed, permuted_is_of}
-use Rattle.elf_model.proofs.RisingNames.{has, neighbours_count, rises_from_ascends, same_from_look_ups}
-use Rattle.elf_model.proofs.SymbolRows.{look_up, rows_ascend}
-use Rattle.check_link.specs.Views.{held_name, meaning_view, meaning_views, symbol_view, symbol_views}
-use Rattle.check_link.specs.declared.things.Meaning as things
-use Rattle.check_link.specs.declared.things.Meaning.TheVariants as variant
+use Rattle.elf_model.specs.declared.bound.Bound.{Bound}
+use Rattle.elf_model.specs.declared.link_map.Definition.TheVariants as definition
+use Rattle.check_link.specs.Views.{symbol_view, symbol_views}
 use Rattle.check_link.specs.declared.things.SymbolOf as code
+use Rattle.checker.proofs.CountedLines.{counted_lines}
+use Rattle.checker.specs.Listed.{IsChosenIfStrong, IsLine, chosen_among}
 
 -- as many as the lines of chosen symbols and of the linker's names together, and each right
 pub listed :
@@ -36,10 +35,10 @@ pub listed :
     count ≡ length (meanings_of objects (chosen_symbols objects)) →
     (All (IsLine objects w) rows × (length rows ≡ count + length linkers)) ↔ ((name : List ℕ) → HasLine rows objects w name)
 listed objects w rows linkers count lines ascend is =
-    let chosen = meanings_of objects (chosen_symbols objects) in
+    let ms = meanings_of objects (chosen_symbols objects) in
     let both = joined_listed objects (chosen_symbols objects) linkers (IsPermutation-refl (chosen_symbols objects)) lines in
-    let more = length-append chosen linkers in
-    let whole = counted_lines objects w rows (chosen ++ linkers) both ascend in (
+    let more = length-append ms linkers in
+    let whole = counted_lines objects w rows (ms ++ linkers) both ascend in (
       λ h. whole.0 (h.0, let e = h.1 in omega (arith, more, is, e)),
       λ have. let h = whole.1 have in (h.0, let e = h.1 in omega (arith, more, is, e)),
     )
@@ -98,5 +97,14 @@ more_lines objects s ss = by (is_definition s) (is_chosen objects s) refl refl
         rw (e, f)
         (let a = length-append (meant_list objects s) (meanings_of objects (chosen_among objects ss)) in
         let b = length-append (meant_list objects s) [] in omega (arith, a, b))
-    by true false e f = rw (e, f) refl
-    by false c e f = rw e refl
+    by true false e f = rw (e, f) (omega arith)
+    by false c e f = rw e (omega arith)
+
+-- a row that names the linker, of one of its names
+pub linkers_row :
+    (w : Where) (n : List ℕ) (bound : Bound) (row : SymbolRow) → row.name ≡ n → row.definition ≡ definition.Linker →
+    (row.address ≡ bound_value w n bound) ↔ (Some (symbol_row_of w (Linker n bound)) ≡ Some row)
+linkers_row w n bound row named linkers = (
+  λ e i. Some (record { address = sym e i; definition = sym linkers i; name = sym named i }),
+  λ e. sym (ap (λ (r : SymbolRow). r.address) (same_Some (symbol_row_of w (Linker n bound)) row e)),
+)

@@ -1,6 +1,6 @@
 //! C13: whether the symbols are sound, no name has two strong definitions, and the symbol lines are those that the names
 //! ask for.
-ghost use Rattle.std.specs.Prelude.{◌≡◌, ◌↔◌, ◌≤◌, ℕ, List, All, IfOk, IfSome, IsSome, IsTrue, [], ◌∷◌, length, map, option_map, Some};
+ghost use Rattle.std.specs.Prelude.{◌≡◌, ◌+◌, ◌↔◌, ◌≤◌, ℕ, List, All, IfOk, IfSome, IsSome, IsTrue, [], ◌∷◌, length, map, option_map, Some};
 ghost use Rattle.elf_model.specs.Listing.{linker_line};
 ghost use Rattle.elf_model.specs.MapRecord.{symbol_row};
 ghost use Rattle.elf_model.specs.Meaning.{Symbol, meaning_name, meanings_of, meant_list};
@@ -30,7 +30,7 @@ pub fn holds(alloc: Global, bound: &BoundLink<'_, '_>) -> Result<bool, AllocErro
 }
 
 /// 1 where a chosen symbol means something, else 0.
-fn meaning_count(bindings: &Bindings<'_, '_, '_>, symbol: &SymbolOf<'_>) -> usize
+fn meaning_count<'a>(bindings: &Bindings<'_, '_, 'a>, symbol: &SymbolOf<'a>) -> usize
     ensures few { result ≤ 1 }
     ensures count { result ≡ length (meant_list bindings.now.objects (symbol_view symbol.now)) }
 {
@@ -41,7 +41,7 @@ fn meaning_count(bindings: &Bindings<'_, '_, '_>, symbol: &SymbolOf<'_>) -> usiz
 }
 
 /// How many lines a symbol has: one where it is a chosen definition. None where it is a strong one that isn't chosen.
-fn line_count(bindings: &Bindings<'_, '_, '_>, symbol: &SymbolOf<'_>) -> Option<usize>
+fn line_count<'a>(bindings: &Bindings<'_, '_, 'a>, symbol: &SymbolOf<'a>) -> Option<usize>
     ensures few { IfSome result (λ n. n ≤ 1) }
     ensures count { IfSome result (λ n. n ≡ length (meanings_of bindings.now.objects (chosen_among bindings.now.objects (symbol_view symbol.now ∷ [])))) }
     ensures lawful { IsSome result ↔ IsChosenIfStrong bindings.now.objects (symbol_view symbol.now) }
@@ -56,7 +56,7 @@ fn line_count(bindings: &Bindings<'_, '_, '_>, symbol: &SymbolOf<'_>) -> Option<
 }
 
 /// How many lines all symbols have together; None where a strong one isn't chosen.
-fn chosen_count(bindings: &Bindings<'_, '_, '_>, symbols: &[SymbolOf<'_>]) -> Option<usize>
+fn chosen_count<'a>(bindings: &Bindings<'_, '_, 'a>, symbols: &[SymbolOf<'a>]) -> Option<usize>
     ensures count { IfSome result (λ n. n ≡ length (meanings_of bindings.now.objects (chosen_among bindings.now.objects (symbol_views symbols.now)))) }
     ensures unique { IsSome result ↔ All (λ s. IsChosenIfStrong bindings.now.objects (symbol_view s)) symbols.now }
 {
@@ -186,7 +186,15 @@ fn are_right_lines(
     requires { AreUsed bindings.now.objects names.now }
     ensures { IsTrue result ↔ All (λ line. IsLine bindings.now.objects bindings.now.places (symbol_row line)) lines.now }
 {
-    lines.iter().all(|line| is_right_line(bindings, names, line))
+    lines
+        .iter()
+        .all(|line| is_right_line(bindings, names, line))
+}
+
+fn is_sum(whole: usize, a: usize, b: usize) -> bool
+    ensures { IsTrue result ↔ (whole ≡ a + b) }
+{
+    a <= whole && whole - a == b
 }
 
 /// Whether all symbols are sound, no name has two strong definitions, and the lines, which ascend by name,
@@ -207,7 +215,7 @@ fn are_symbols_listed(
     };
     let names = used_names(alloc, bindings)?;
     let linkers = linker_lines(alloc, bindings, &names)?;
-    if lines.len().checked_sub(linkers.len()) != Some(count) {
+    if !is_sum(lines.len(), count, linkers.len()) {
         return Ok(false);
     }
     Ok(are_right_lines(bindings, &names, lines))
