@@ -1,5 +1,5 @@
 //! The whole check, from the top: the clauses in their order, each judged where all before it hold.
-ghost use Rattle.std.specs.Prelude.{◌≡◌, ◌↔◌, IfOk};
+ghost use Rattle.std.specs.Prelude.{◌≡◌, ◌↔◌, IfNone, IfOk, IfSome};
 ghost use Rattle.elf_model.specs.Files.{files_of, words_of};
 ghost use Rattle.elf_model.specs.RightLink.{Holds, HoldsBefore, IsRightLink, Least};
 ghost use Rattle.elf_model.specs.declared.verdict.Clause.{Clause};
@@ -133,20 +133,41 @@ fn judge_bound(alloc: Global, bound: &BoundLink<'_, '_>) -> Result<Verdict, Allo
     judge_relocations(alloc, bound)
 }
 
+/// Judges the ninth and the tenth clause, and then gives the fields of the relocations back: a verdict where one of the
+/// two fails.
+fn judge_fields(alloc: Global, bound: &BoundLink<'_, '_>) -> Result<Option<Verdict>, AllocError>
+    requires { HoldsBefore clause.C9 bound.now }
+    ensures fails { IfOk result (λ o. IfSome o (λ v. Judges v bound.now)) }
+    ensures holds { IfOk result (λ o. IfNone o (HoldsBefore clause.C11 bound.now)) }
+{
+    let link = bound.link();
+    let Some(rows) = c09_relocations::rows(alloc, bound)? else {
+        return Ok(Some(no(Clause::C9, link)));
+    };
+    if !c10_bytes::holds(bound, &rows) {
+        return Ok(Some(no(Clause::C10, link)));
+    }
+    Ok(None)
+}
+
 /// Judges the clauses from the ninth on.
 fn judge_relocations(alloc: Global, bound: &BoundLink<'_, '_>) -> Result<Verdict, AllocError>
     requires { HoldsBefore clause.C9 bound.now }
     ensures { IfOk result (λ v. Judges v bound.now) }
 {
-    let link = bound.link();
-    let Some(rows) = c09_relocations::rows(alloc, bound)? else {
-        return Ok(no(Clause::C9, link));
-    };
-    if !c10_bytes::holds(bound, &rows) {
-        return Ok(no(Clause::C10, link));
+    match judge_fields(alloc, bound)? {
+        Some(verdict) => Ok(verdict),
+        None => judge_fill(alloc, bound),
     }
+}
+
+/// Judges the clauses from the eleventh on.
+fn judge_fill(alloc: Global, bound: &BoundLink<'_, '_>) -> Result<Verdict, AllocError>
+    requires { HoldsBefore clause.C11 bound.now }
+    ensures { IfOk result (λ v. Judges v bound.now) }
+{
     if !c11_fill::holds(alloc, bound)? {
-        return Ok(no(Clause::C11, link));
+        return Ok(no(Clause::C11, bound.link()));
     }
     judge_symbols(alloc, bound)
 }
