@@ -49,7 +49,7 @@ fn relocated(
     ensures address { result.address ≡ section_address bindings.now.places.placed number result.section }
 {
     Relocated {
-        section: target as u64,
+        section: target,
         size: object.section(target as usize).sh_size,
         address: bindings.address_of(number, target as u64),
         frames: is_frames(object, target as usize),
@@ -73,7 +73,7 @@ fn add_fields<'a>(
     ensures right { IfOk result (λ b. IsTrue b ↔ All (IsRight bindings.now.objects bindings.now.places) (map (relocation_of number (loaded_view loaded.now) to.now.section) (filter is_some_kind entries.now))) }
     ensures fields { IfOk result (λ b. IsTrue b → fields.new.items ≡ fields.old.items ++ map (field_of bindings.now.objects bindings.now.places) (map (relocation_of number (loaded_view loaded.now) to.now.section) (filter is_some_kind entries.now))) }
 {
-    fields.reserve(entries.len())?;
+    fields.reserve_exact(entries.len())?;
     for i in 0..entries.len() {
         let entry = entries[i];
         if !is_some_kind(&entry) {

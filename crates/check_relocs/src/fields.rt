@@ -8,9 +8,9 @@ use std::alloc::AllocError;
 /// width in bytes and the value that it wants.
 #[derive(Clone, Copy, Debug)]
 pub struct Field {
-    pub section: u64,
+    pub section: u32,
     pub at: u64,
-    pub width: u64,
+    pub width: u8,
     pub value: u64,
 }
 
@@ -21,7 +21,7 @@ fn is_before(f: &Field, g: &Field) -> bool
     if f.section != g.section {
         return f.section < g.section;
     }
-    f.at <= g.at && f.width <= g.at - f.at
+    f.at <= g.at && f.width as u64 <= g.at - f.at
 }
 
 /// Whether each field ends before the next one begins.

@@ -33,12 +33,12 @@ pub enum Range {
 #[derive(Clone, Copy, Debug)]
 pub struct Kind {
     pub number: u32,
-    pub width: u64,
+    pub width: u8,
     pub formula: Formula,
     pub range: Range,
 }
 
-fn made(number: u32, width: u64, formula: Formula, range: Range) -> Option<Kind>
+fn made(number: u32, width: u8, formula: Formula, range: Range) -> Option<Kind>
     requires { IsWidth width }
     ensures kind { result ≡ Some (record { number = number; width = width; formula = formula; range = range }) }
     ensures width { IfSome result (λ k. IsWidth k.width) }

@@ -25,7 +25,7 @@ use elf_model::Rela;
 /// What entries relocate: a section's number, its size in bytes, its address, and whether it is `.eh_frame`.
 #[derive(Clone, Copy, Debug)]
 pub struct Relocated {
-    pub section: u64,
+    pub section: u32,
     pub size: u64,
     pub address: u64,
     pub frames: bool,
@@ -85,7 +85,7 @@ fn field_with(
         return None;
     }
     let at = entry.r_offset;
-    if at > to.size || kind.width > to.size - at {
+    if at > to.size || kind.width as u64 > to.size - at {
         return None;
     }
     let terms = Terms {
@@ -97,7 +97,7 @@ fn field_with(
         thread_pointer: given.thread_pointer,
     };
     let value = value_of(kind.formula, entry.r_addend, terms);
-    if !fits(kind.range, kind.width, value) {
+    if !fits(kind.range, kind.width as u64, value) {
         return None;
     }
     Some(Field {

@@ -13,7 +13,7 @@ fn count_before(row: &[Field], section: u64) -> usize
     ensures before { (k : ℕ) (d : Field) → k < result → (slice_index_or row.now k d).section < section }
     ensures from { (k : ℕ) (d : Field) → result ≤ k → k < length row.now → section ≤ (slice_index_or row.now k d).section }
 {
-    row.partition_point(|f| f.section < section)
+    row.partition_point(|f| (f.section as u64) < section)
 }
 
 /// How many of the fields, which stand by section, are of sections up to one.
@@ -23,7 +23,7 @@ fn count_through(row: &[Field], section: u64) -> usize
     ensures through { (k : ℕ) (d : Field) → k < result → (slice_index_or row.now k d).section ≤ section }
     ensures behind { (k : ℕ) (d : Field) → result ≤ k → k < length row.now → section < (slice_index_or row.now k d).section }
 {
-    row.partition_point(|f| f.section <= section)
+    row.partition_point(|f| f.section as u64 <= section)
 }
 
 /// The fields of a section in a row.

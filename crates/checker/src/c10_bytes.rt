@@ -61,7 +61,7 @@ fn are_wanted(held: &[u8], bytes: &[u8], fields: &[Field], size: u64) -> bool
         if !has_value_at(held, field) {
             return false;
         }
-        from = field.at + field.width;
+        from = field.at + field.width as u64;
     }
     same_between(held, bytes, from, size)
 }
