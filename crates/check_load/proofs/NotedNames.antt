@@ -1,6 +1,6 @@
 -- Names as symbols are noted, one after the other.
 use Rattle.std.proofs.Common.{◌≡◌, cond, ℕ, suc, ◌+◌, ◌<◌, ◌≤◌, Bool, true, false, ◌&&◌, ◌||◌, List, [], length, get_or, drop, Some, None, Option, refl, sym, ◌∙◌, ap, subst, arith, drop-cons}
-use Rattle.std.specs.Prelude.{option_copied, option_map, unwrap_or}
+use Rattle.std.specs.Prelude.{unwrap_or}
 use Rattle.std.specs.Borrow.{Bor}
 use Rattle.std.specs.List.{list_any}
 use Rattle.std.specs.Str.{bytes_eq}
@@ -9,9 +9,7 @@ use Rattle.std.specs.HashMap.{HashMap, Updates}
 use Rattle.std.specs.Option.{option_map_or}
 use Rattle.std.proofs.lemmas.Map.Text.{hash_map_updates_str}
 use Rattle.std.proofs.lemmas.Slice.Eq.{bytes_eq-Decides}
-use Rattle.std.proofs.lemmas.Option.{slice_get-get_or}
 use Rattle.elf_model.specs.Loading.{has_name, is_definition, is_request}
-use Rattle.elf_model.specs.ObjectFile.{name_of_symbol, symbol_name, symbols}
 use Rattle.elf_model.specs.declared.records.Symbol.{Symbol}
 use Rattle.check_load.specs.Names.{Names, asked_from, defined_from, defines_name, requests_name, state_in, unknown}
 use Rattle.check_load.specs.declared.known_names.NameState.{NameState}
@@ -88,15 +86,6 @@ shifted false later old total is = is
 pub stepped : (now first later old new total : Bool) → now ≡ (first || later) → new ≡ (first || old) → (now || old) ≡ total → (later || new) ≡ total
 stepped now first later old new total split next is =
     rw next (shifted first later old total (sym (ap (λ (b : Bool). b || old) split) ∙ is))
-
--- the last symbol's names are all of them
-pub asked_done : (bytes dropped : List ℕ) (n : List ℕ) → asked_from bytes dropped [] n ≡ false
-unfolding asked_from
-asked_done bytes dropped n = refl
-
-pub defined_done : (bytes dropped : List ℕ) (n : List ℕ) → defined_from bytes dropped [] n ≡ false
-unfolding defined_from
-defined_done bytes dropped n = refl
 
 -- The step of the loop over symbols, which the code has as items.
 module _ (bytes dropped : List ℕ) (items ss : List Symbol) (same : items ≡ ss) (j : ℕ) (d : Symbol) (within : j < length items) where

@@ -1,5 +1,5 @@
 -- The places of names, as they are added.
-use Rattle.std.proofs.Common.{◌≡◌, ℕ, suc, ◌+◌, ◌<◌, ◌≤◌, ◌⊎◌, inl, inr, ◌==◌, Bool, true, false, cond, ◌&&◌, ◌||◌, List, [], ◌∷◌, ◌++◌, length, get_or, Option, Some, None, option_map, refl, sym, ◌∙◌, ap, subst, arith}
+use Rattle.std.proofs.Common.{◌≡◌, ℕ, suc, ◌+◌, ◌<◌, ◌≤◌, ◌⊎◌, inl, inr, ◌==◌, Bool, true, false, cond, ◌||◌, List, [], ◌∷◌, ◌++◌, length, get_or, Option, Some, None, option_map, refl, sym, ◌∙◌, ap, subst, arith}
 use Rattle.std.specs.Prelude.{All, unwrap_or}
 use Rattle.std.specs.Borrow.{Bor}
 use Rattle.std.specs.Global.{Vec}
@@ -7,7 +7,7 @@ use Rattle.std.specs.HashMap.{HashMap, Updates}
 use Rattle.std.specs.List.{list_any, slice_get}
 use Rattle.std.specs.Map.{lookup}
 use Rattle.std.specs.Str.{bytes_eq}
-use Rattle.std.proofs.lemmas.Bool.{and_from, and_parts, cases_lt, eq-eqb, false≢true, or_cases, or_left, or_right}
+use Rattle.std.proofs.lemmas.Bool.{and_from, cases_lt, eq-eqb, or_left, or_right}
 use Rattle.std.proofs.lemmas.List.{get_or_default}
 use Rattle.std.proofs.lemmas.List.Folds.{list_any-append}
 use Rattle.std.proofs.lemmas.Map.Text.{hash_map_updates_str}
@@ -20,8 +20,7 @@ use Rattle.elf_model.specs.Files.{File}
 use Rattle.elf_model.specs.Opening.{Opened, opened, opened_from, opened_item}
 use Rattle.elf_model.proofs.LoadingBounds.{by_case}
 use Rattle.check_load.specs.Awake.{is_awake, is_place}
-use Rattle.check_load.specs.Names.{Names, requests_name}
-use Rattle.check_load.specs.Places.{ArePlaced, AreWokenSince, IsAt, IsPlaced, IsWoken, PlaceMap, has_place, places_in}
+use Rattle.check_load.specs.Places.{ArePlaced, IsAt, IsPlaced, IsWoken, PlaceMap, has_place, places_in}
 use Rattle.check_load.specs.declared.awake_entries.Awake.{Awake}
 
 abbrev found : PlaceMap → List ℕ → Option (Vec (ℕ × ℕ))

@@ -14,13 +14,6 @@ use Rattle.check_load.specs.Signatures.{lost_by, lost_groups, seen_by, seen_in, 
 pub same_names : (a b : List ℕ) → bytes_eq a b ≡ bytes_eq b a
 same_names a b = nat_list_eq_equiv.symm a b
 
--- what is seen after one group
-group_passed : (seen : List ℕ → Bool) (g : Group) → is_comdat g ≡ false → (name : List ℕ) → seen name ≡ seen_then seen g name
-group_passed seen g plain name = ap (λ (b : Bool). b && bytes_eq g.signature name || seen name) (sym plain)
-
-pub not_comdat : (seen : List ℕ → Bool) (g : Group) → is_comdat g ≡ false → seen ≡ seen_then seen g
-not_comdat seen g plain = λ j n. group_passed seen g plain n j
-
 -- what is seen once a signature is among the names
 or_known : (a b : Bool) → (a ≡ true → b ≡ true) → b ≡ (a || b)
 or_known true b f = f refl

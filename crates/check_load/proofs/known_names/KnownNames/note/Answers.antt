@@ -1,4 +1,4 @@
-use Rattle.std.proofs.Common.{rules, ◌∙◌, ◌&&◌, ◌||◌, Bool, ap, sym}
+use Rattle.std.proofs.Common.{rules, ◌∙◌, ◌&&◌, ◌||◌, ap, sym}
 use Rattle.std.specs.Prelude.{unwrap_or}
 use Rattle.std.specs.Str.{bytes_eq}
 use Rattle.indexmap.specs.Entry.{map_with_value}
