@@ -2,15 +2,15 @@
 use Rattle.std.proofs.Common.{◌≡◌, ℕ, ◌<◌, ◌≤◌, ◌⊎◌, inl, inr, ◌==◌, ◌&&◌, ◌||◌, Bool, true, false, not, cond, List, [], ◌∷◌, Less, Equal, Greater, refl, sym, ◌∙◌, ap, subst, arith}
 use Rattle.std.specs.Prelude.{IfSome, IsTrue, nat_lt, ⊤}
 use Rattle.std.specs.BTreeSet.{Updates, contains}
+use Rattle.std.specs.Cmp.{tied_then, unsigned_ties}
 use Rattle.std.specs.List.{slice_get}
-use Rattle.std.specs.Ordering.{is_gt, nat_cmp, ordering_then}
+use Rattle.std.specs.Ordering.{is_eq, is_gt, nat_cmp, ordering_then}
 use Rattle.std.specs.declared.cmp.Ordering.{Ordering}
 use Rattle.std.proofs.lemmas.Bool.{eq-eqb, eqb-true, false≢true, false_from_ne_true, le-ltb, ltb-false, ltb-true}
 use Rattle.elf_model.proofs.LoadingBounds.{by_case}
-use Rattle.check_load.specs.Awake.{is_awake, is_place}
-use Rattle.check_load.specs.Taken.{member_key}
+use Rattle.check_load.specs.Awake.{is_awake, is_place, place_key}
 use Rattle.check_load.specs.declared.awake_entries.Awake.{Awake}
-use Rattle.check_load.proofs.TakenLaws.{or_of, tie}
+use Rattle.check_load.proofs.TakenLaws.{or_of}
 
 -- How two places compare.
 less : (a b : ℕ) → nat_lt a b ≡ true → nat_cmp a b ≡ Less
@@ -33,28 +33,28 @@ not_above a b low =
     by_case (nat_lt a b) (λ t. ap is_gt (less a b t)) (λ t. ap is_gt (tied a b (let f = ltb-false a b t in omega (arith, f, low))))
 
 -- a place is at or before another
-key_parts : (a b c d : ℕ) → is_gt (member_key (a, b) (c, d)) ≡ false → (a < c) ⊎ ((a ≡ c) × (b ≤ d))
+key_parts : (a b c d : ℕ) → is_gt (place_key (a, b) (c, d)) ≡ false → (a < c) ⊎ ((a ≡ c) × (b ≤ d))
 key_parts a b c d is =
     by_case (nat_lt a c) (λ t. inl (ltb-true a c t))
     (λ t. by_case (a == c)
     (λ e. let f = eqb-true a c e in inr (f, ends_below b d (sym (ap (λ (o : Ordering). is_gt (ordering_then o (nat_cmp b d))) (tied a c f)) ∙ is)))
     (λ e. absurd (false≢true (sym is ∙ ap (λ (o : Ordering). is_gt (ordering_then o (nat_cmp b d))) (more a c t e)))))
 
-from_first : (item q : ℕ) → is_gt (member_key (item, 0) (item, q)) ≡ false
+from_first : (item q : ℕ) → is_gt (place_key (item, 0) (item, q)) ≡ false
 from_first item q = ap (λ (o : Ordering). is_gt (ordering_then o (nat_cmp 0 q))) (tied item item refl) ∙ not_above 0 q (omega arith)
 
 -- The places that are awake from an item's first on, where r are these: the first is one of them and none is before it.
 abbrev IsFrom : ℕ → ℕ × ℕ → Type 0
-IsFrom item k = (is_gt (member_key (item, 0) k) ≡ false) × ⊤
+IsFrom item k = (is_gt (place_key (item, 0) k) ≡ false) × ⊤
 
 abbrev pub IsHead : Awake → ℕ → List (ℕ × ℕ) → Type 0
-IsHead a item r = IfSome (slice_get r 0) (λ k. IsFrom item k × IsTrue (contains member_key a.places k))
+IsHead a item r = IfSome (slice_get r 0) (λ k. IsFrom item k × IsTrue (contains place_key a.places k))
 
 abbrev pub IsLeast : Awake → ℕ → List (ℕ × ℕ) → Type 0
-IsLeast a item r = (k : ℕ × ℕ) → IsFrom item k → IsTrue (contains member_key a.places k) → IfSome (slice_get r 0) (λ h. is_gt (member_key h k) ≡ false)
+IsLeast a item r = (k : ℕ × ℕ) → IsFrom item k → IsTrue (contains place_key a.places k) → IfSome (slice_get r 0) (λ h. is_gt (place_key h k) ≡ false)
 
 pub none_from :
-    (a : Awake) (item : ℕ) (r : List (ℕ × ℕ)) → (r ≡ [] → (k : ℕ × ℕ) → IsFrom item k → contains member_key a.places k ≡ false) →
+    (a : Awake) (item : ℕ) (r : List (ℕ × ℕ)) → (r ≡ [] → (k : ℕ × ℕ) → IsFrom item k → contains place_key a.places k ≡ false) →
     r ≡ [] → (q : ℕ) → is_awake a item q ≡ false
 unfolding is_awake
 none_from a item r none empty q = none empty (item, q) (from_first item q, tt)
@@ -64,19 +64,19 @@ module _ (a : Awake) (item : ℕ) (r : List (ℕ × ℕ)) (head : IsHead a item 
   asleep_if q never = false_from_ne_true (is_awake a item q) never
 
   module _ (place : ℕ × ℕ) (rest : List (ℕ × ℕ)) (first : r ≡ place ∷ rest) where
-    head_in : is_gt (member_key (item, 0) place) ≡ false
+    head_in : is_gt (place_key (item, 0) place) ≡ false
     head_in = let h = rw first at head in h.0.0
 
-    pub head_there : contains member_key a.places place ≡ true
+    pub head_there : contains place_key a.places place ≡ true
     head_there = let h = rw first at head in h.1
 
-    head_least : (q : ℕ) → is_awake a item q ≡ true → is_gt (member_key place (item, q)) ≡ false
+    head_least : (q : ℕ) → is_awake a item q ≡ true → is_gt (place_key place (item, q)) ≡ false
     unfolding is_awake
     head_least q there = let h = rw first at least in h (item, q) (from_first item q, tt) there
 
     pub first_there : place.0 ≡ item → is_awake a item place.1 ≡ true
     unfolding is_awake
-    first_there same = subst (λ (k : ℕ). contains member_key a.places (k, place.1) ≡ true) same head_there
+    first_there same = subst (λ (k : ℕ). contains place_key a.places (k, place.1) ≡ true) same head_there
 
     pub first_least : place.0 ≡ item → (q : ℕ) → is_awake a item q ≡ true → place.1 ≤ q
     first_least same q there = by (key_parts place.0 place.1 item q (head_least q there))
@@ -93,11 +93,13 @@ module _ (a : Awake) (item : ℕ) (r : List (ℕ × ℕ)) (head : IsHead a item 
         by (inl low) (inl late) = omega (arith, low, late)
         by (inl low) (inr at) = other (sym at.0)
 
--- An entry more, and one less.
-same_place : (i q a b : ℕ) → is_place i q (a, b) ≡ (a == i && b == q)
-same_place i q a b = refl
+-- An entry more, and one less: two places compare equal where both numbers are.
+tie : (a b c d : ℕ) → is_eq (place_key (a, b) (c, d)) ≡ (a == c && b == d)
+tie a b c d =
+    sym (tied_then (nat_cmp a c) (nat_cmp b d))
+    ∙ sym (ap (λ (t : Bool). t && b == d) (unsigned_ties a c) ∙ ap (λ (t : Bool). is_eq (nat_cmp a c) && t) (unsigned_ties b d))
 
-pub woken : (old new : Awake) (place : ℕ × ℕ) → Updates member_key old.places new.places place true → (i q : ℕ) →
+pub woken : (old new : Awake) (place : ℕ × ℕ) → Updates place_key old.places new.places place true → (i q : ℕ) →
     is_awake new i q ≡ (is_place i q place || is_awake old i q)
 unfolding is_awake
 woken old new place updates i q =
@@ -108,7 +110,7 @@ but_of : (t old : Bool) → cond t false old ≡ (not t && old)
 but_of true old = refl
 but_of false old = refl
 
-pub lulled : (old new : Awake) (place : ℕ × ℕ) → Updates member_key old.places new.places place false → (i q : ℕ) →
+pub lulled : (old new : Awake) (place : ℕ × ℕ) → Updates place_key old.places new.places place false → (i q : ℕ) →
     is_awake new i q ≡ (not (is_place i q place) && is_awake old i q)
 unfolding is_awake
 lulled old new place updates i q =

@@ -1,4 +1,5 @@
 pub mod AwakeLaws
+pub mod FileLaws
 pub mod FreeLaws
 pub mod LoadLaws
 pub mod LoaderLaws

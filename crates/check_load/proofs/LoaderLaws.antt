@@ -1,11 +1,7 @@
 -- What a loader knows, with nothing loaded and with one object more.
 use Rattle.std.proofs.Common.{◌≡◌, ℕ, ◌==◌, Bool, true, false, ◌&&◌, ◌||◌, not, List, [], ◌∷◌, ◌++◌, refl, sym, ◌∙◌, ap, subst}
-use Rattle.std.specs.BTreeMap.{is_at}
-use Rattle.std.specs.BTreeSet.{BTreeSet}
 use Rattle.std.specs.Borrow.{Bor}
-use Rattle.std.specs.Cmp.Lexicographic.{slice_cmp}
 use Rattle.std.specs.List.{list_any}
-use Rattle.std.specs.Ordering.{nat_cmp}
 use Rattle.std.specs.Str.{bytes_eq}
 use Rattle.std.proofs.lemmas.Bool.{and_from, and_parts, eq-eqb, eqb-true, not-true, or_parts}
 use Rattle.std.proofs.lemmas.List.{map-append}
@@ -85,9 +81,9 @@ unfolding is_begun
 is_begun_more os x i = list_any-append (λ y. y.item == i) os (x ∷ [])
 
 -- A loader.
-none_seen : (set : BTreeSet (Bor (List ℕ))) → set.keys ≡ [] → (n : List ℕ) → seen_in set n ≡ false
+none_seen : (names : List (Bor (List ℕ))) → names ≡ [] → (n : List ℕ) → seen_in names n ≡ false
 unfolding seen_in
-none_seen set none n = ap (λ (ks : List (Bor (List ℕ))). list_any (is_at (λ k. slice_cmp nat_cmp n k.now)) ks) none
+none_seen names none n = ap (λ (ks : List (Bor (List ℕ))). list_any (λ k. bytes_eq n k.now) ks) none
 
 -- an entry that gives a member later gave it before where its name was asked for then
 free_before :
@@ -113,7 +109,7 @@ pub knows_none :
     ((item : ℕ) → has_item l.taken item ≡ false) → Knows os l
 unfolding is_defined is_taken is_begun
 knows_none os l woken_ none seen_ asked_ defined_ taken_ begun_ = record {
-  seen = (λ j n. none_seen l.seen seen_ n j) ∙ ap (λ (os : List LoadedObject). is_seen (seen_behind [] os)) (sym none);
+  seen = (λ j n. none_seen l.seen.keys seen_ n j) ∙ ap (λ (os : List LoadedObject). is_seen (seen_behind [] os)) (sym none);
   requested = λ n. asked_ n ∙ (sym (requested_none l.plan.now n) ∙ ap (λ (os : List LoadedObject). is_requested l.plan.now os n) (sym none));
   defined = λ n. defined_ n ∙ ap (λ (os : List LoadedObject). is_defined os n) (sym none);
   taken = λ item offset. taken_ item offset ∙ ap (λ (os : List LoadedObject). is_taken os item offset) (sym none);
@@ -125,7 +121,7 @@ knows_none os l woken_ none seen_ asked_ defined_ taken_ begun_ = record {
 pub knows_more :
     (os : List Opened) (old new : Loader) (o : Opened) (offset : ℕ) (bytes : List ℕ) → Knows os old → AreWokenSince os (requests_name old.names) new.names new.awake →
     ((i q : ℕ) → is_awake old.awake i q ≡ true → is_awake new.awake i q ≡ true) → new.plan.now ≡ old.plan.now →
-    loaded new ≡ with_object (loaded old) o offset bytes → seen_in new.seen ≡ seen_by (seen_in old.seen) (groups bytes) →
+    loaded new ≡ with_object (loaded old) o offset bytes → seen_in new.seen.keys ≡ seen_by (seen_in old.seen.keys) (groups bytes) →
     ((n : List ℕ) → requests_name new.names n ≡ (asked_in bytes (lost_sections (loaded old) bytes) n || requests_name old.names n)) →
     ((n : List ℕ) → defines_name new.names n ≡ (defined_in bytes (lost_sections (loaded old) bytes) n || defines_name old.names n)) →
     ((i k : ℕ) → has_member new.taken i k ≡ (o.number == i && offset == k || has_member old.taken i k)) →

@@ -1,16 +1,16 @@
 -- The places of names, as they are added.
-use Rattle.std.proofs.Common.{◌≡◌, ℕ, suc, ◌+◌, ◌<◌, ◌≤◌, ◌⊎◌, inl, inr, ◌==◌, Bool, true, false, cond, ◌&&◌, ◌||◌, List, [], ◌∷◌, ◌++◌, length, get_or, Option, Some, None, option_map, refl, sym, ◌∙◌, ap, subst, arith}
+use Rattle.std.proofs.Common.{◌≡◌, ℕ, suc, ◌+◌, ◌<◌, ◌≤◌, ◌⊎◌, inl, inr, ◌==◌, Bool, true, false, cond, ◌||◌, List, [], ◌∷◌, ◌++◌, length, get_or, Option, Some, None, option_map, refl, sym, ◌∙◌, ap, subst, arith}
 use Rattle.std.specs.Prelude.{All, unwrap_or}
-use Rattle.std.specs.BTreeMap.{UpdatesBy, get_by}
-use Rattle.std.specs.Cmp.Lexicographic.{slice_cmp}
+use Rattle.std.specs.Borrow.{Bor}
 use Rattle.std.specs.Global.{Vec}
+use Rattle.std.specs.HashMap.{HashMap, Updates}
 use Rattle.std.specs.List.{list_any, slice_get}
-use Rattle.std.specs.Ordering.{nat_cmp}
+use Rattle.std.specs.Map.{lookup}
 use Rattle.std.specs.Str.{bytes_eq}
-use Rattle.std.proofs.lemmas.Bool.{and_from, and_parts, cases_lt, eq-eqb, false≢true, or_cases, or_left, or_right}
+use Rattle.std.proofs.lemmas.Bool.{and_from, cases_lt, eq-eqb, or_left, or_right}
 use Rattle.std.proofs.lemmas.List.{get_or_default}
 use Rattle.std.proofs.lemmas.List.Folds.{list_any-append}
-use Rattle.std.proofs.lemmas.Map.Text.{btree_map_updates_str}
+use Rattle.std.proofs.lemmas.Map.Text.{hash_map_updates_str}
 use Rattle.std.proofs.lemmas.Option.{get_or_from_slice_get, slice_get_within}
 use Rattle.std.proofs.lemmas.Slice.Eq.{bytes_eq-Decides}
 use Rattle.elf_model.specs.ArchiveFile.{IndexEntry}
@@ -20,38 +20,33 @@ use Rattle.elf_model.specs.Files.{File}
 use Rattle.elf_model.specs.Opening.{Opened, opened, opened_from, opened_item}
 use Rattle.elf_model.proofs.LoadingBounds.{by_case}
 use Rattle.check_load.specs.Awake.{is_awake, is_place}
-use Rattle.check_load.specs.Names.{Names, requests_name}
-use Rattle.check_load.specs.Places.{ArePlaced, AreWokenSince, IsAt, IsPlaced, IsWoken, PlaceMap, has_place, places_in}
+use Rattle.check_load.specs.Places.{ArePlaced, IsAt, IsPlaced, IsWoken, PlaceMap, has_place, places_in}
 use Rattle.check_load.specs.declared.awake_entries.Awake.{Awake}
 
 abbrev found : PlaceMap → List ℕ → Option (Vec (ℕ × ℕ))
-found names n = get_by (λ k. slice_cmp nat_cmp n k.now) names
+found names n = lookup (λ k. bytes_eq n k.now) names
 
--- the places of a name are taken out
-pub taken_out :
-    (old new : PlaceMap) (name : List ℕ) → UpdatesBy (λ x y. slice_cmp nat_cmp x.now y.now) (λ k. slice_cmp nat_cmp name k.now) old new None → (n : List ℕ) →
-    places_in new n ≡ cond (bytes_eq name n) [] (places_in old n)
-taken_out old new name out n =
-    ap (λ (f : Option (Vec (ℕ × ℕ))). unwrap_or (option_map (λ v. v.items) f) []) (btree_map_updates_str name old new None out n) ∙ by (bytes_eq name n)
-  where
-    by : (b : Bool) → unwrap_or (option_map (λ v. v.items) (cond b None (found old n))) [] ≡ cond b [] (places_in old n)
-    by true = refl
-    by false = refl
+abbrev items_of : Option (Vec (ℕ × ℕ)) → List (ℕ × ℕ)
+items_of f = unwrap_or (option_map (λ v. v.items) f) []
 
--- they are put back with one more
+-- a place is added to those of a name
 pub place_added :
-    (old mid new : PlaceMap) (name : List ℕ) (list grown : Vec (ℕ × ℕ)) (place : ℕ × ℕ) → list.items ≡ places_in old name →
-    ((n : List ℕ) → places_in mid n ≡ cond (bytes_eq name n) [] (places_in old n)) → grown.items ≡ list.items ++ place ∷ [] →
-    UpdatesBy (λ x y. slice_cmp nat_cmp x.now y.now) (λ k. slice_cmp nat_cmp name k.now) mid new (Some grown) → (n : List ℕ) →
-    places_in new n ≡ cond (bytes_eq name n) (places_in old n ++ place ∷ []) (places_in old n)
-place_added old mid new name list grown place was others more back n =
-    ap (λ (f : Option (Vec (ℕ × ℕ))). unwrap_or (option_map (λ v. v.items) f) []) (btree_map_updates_str name mid new (Some grown) back n)
-    ∙ by (bytes_eq name n) refl
+    {S : Type 0} (m w : HashMap (Bor (List ℕ)) (Vec (ℕ × ℕ)) S) (name : Bor (List ℕ)) (place : ℕ × ℕ) (old new d : Vec (ℕ × ℕ)) (names : PlaceMap) →
+    Updates (λ x y. bytes_eq x.now y.now) m w name (Some new) → old ≡ unwrap_or (found m.entries name.now) d → d.items ≡ [] →
+    new.items ≡ old.items ++ place ∷ [] → names ≡ w.entries → (n : List ℕ) →
+    places_in names n ≡ cond (bytes_eq name.now n) (places_in m.entries n ++ place ∷ []) (places_in m.entries n)
+place_added m w name place old new d names updates was none is same n =
+    ap (λ (l : PlaceMap). places_in l n) same ∙ (ap items_of (hash_map_updates_str name.now m w (Some new) updates n) ∙ by (bytes_eq name.now n) refl)
   where
-    by : (b : Bool) → bytes_eq name n ≡ b →
-        unwrap_or (option_map (λ v. v.items) (cond b (Some grown) (found mid n))) [] ≡ cond b (places_in old n ++ place ∷ []) (places_in old n)
-    by true e = more ∙ ap (λ (ps : List (ℕ × ℕ)). ps ++ place ∷ []) (was ∙ ap (places_in old) ((bytes_eq-Decides name n).0 e))
-    by false e = others n ∙ ap (λ (b : Bool). cond b [] (places_in old n)) e
+    had_items : (f : Option (Vec (ℕ × ℕ))) → (unwrap_or f d).items ≡ items_of f
+    had_items None = none
+    had_items (Some v) = refl
+
+    by : (b : Bool) → bytes_eq name.now n ≡ b → items_of (cond b (Some new) (found m.entries n)) ≡ cond b (places_in m.entries n ++ place ∷ []) (places_in m.entries n)
+    by true e =
+        is ∙ ap (λ (l : List (ℕ × ℕ)). l ++ place ∷ [])
+        (ap (λ (v : Vec (ℕ × ℕ)). v.items) was ∙ (had_items (found m.entries name.now) ∙ ap (places_in m.entries) ((bytes_eq-Decides name.now n).0 e)))
+    by false e = refl
 
 -- what a name had, it has; and it has the new place
 module _ (old new : PlaceMap) (name : List ℕ) (place : ℕ × ℕ) (added : (n : List ℕ) → places_in new n ≡ cond (bytes_eq name n) (places_in old n ++ place ∷ []) (places_in old n)) where
@@ -116,22 +111,6 @@ all_woken names os name list old new placed is told o q e at entry same =
     told o.number q
     ∙ or_left (list_any (is_place o.number q) list) (is_awake old o.number q)
     (ap (list_any (is_place o.number q)) (is ∙ ap (places_in names) (sym same)) ∙ there)
-
--- a name is noted after its entries were woken, where it is asked for and wasn't
-pub since_step :
-    (os : List Opened) (before : List ℕ → Bool) (old new : Names) (a b : Awake) (name : List ℕ) (asked : Bool) → AreWokenSince os before old a →
-    ((i q : ℕ) → is_awake a i q ≡ true → is_awake b i q ≡ true) → (asked ≡ true → requests_name old name ≡ false → IsWoken os name b) →
-    ((n : List ℕ) → requests_name new n ≡ (bytes_eq name n && asked || requests_name old n)) → AreWokenSince os before new b
-since_step os before old new a b name asked since stays wakes next o q e at entry fresh now =
-    by_case (requests_name old e.name) (λ was. stays o.number q (since o q e at entry fresh was))
-    (λ was_not. by was_not (or_cases (bytes_eq name e.name && asked) (requests_name old e.name) (sym (next e.name) ∙ now)))
-  where
-    by : requests_name old e.name ≡ false → ((bytes_eq name e.name && asked) ≡ true) ⊎ (requests_name old e.name ≡ true) → is_awake b o.number q ≡ true
-    by was_not (inl here) =
-        let parts = and_parts (bytes_eq name e.name) asked here in
-        let same = (bytes_eq-Decides name e.name).0 parts.0 in
-        wakes parts.1 (ap (requests_name old) same ∙ was_not) o q e at entry (sym same)
-    by was_not (inr was) = absurd (false≢true (sym was_not ∙ was))
 
 -- opened items stand at their numbers
 at_from :

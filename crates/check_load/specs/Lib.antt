@@ -1,4 +1,5 @@
 pub mod Awake
+pub mod Files
 pub mod Loaders
 pub mod Marks
 pub mod Names

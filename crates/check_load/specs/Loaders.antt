@@ -38,7 +38,7 @@ AreFreeAwake names taken item es awake = (q : ℕ) (e : IndexEntry) → slice_ge
 -- its tables are those of the objects, which are objects with lawful groups, and what archives among the inputs may
 -- take is awake
 pub record Knows (os : List Opened) (l : Loader) : Type 0 where
-  pub seen : seen_in l.seen ≡ is_seen (seen_behind [] (loaded l))
+  pub seen : seen_in l.seen.keys ≡ is_seen (seen_behind [] (loaded l))
   pub requested : (n : List ℕ) → requests_name l.names n ≡ is_requested l.plan.now (loaded l) n
   pub defined : (n : List ℕ) → defines_name l.names n ≡ is_defined (loaded l) n
   pub taken : (item offset : ℕ) → has_member l.taken item offset ≡ is_taken (loaded l) item offset

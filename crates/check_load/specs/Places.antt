@@ -1,23 +1,23 @@
 -- The places of names in the indexes of archives, and which of them are woken.
 use Rattle.std.specs.Prelude.{◌≡◌, ℕ, Bool, true, false, List, [], All, Some, option_map, slice_get, unwrap_or}
-use Rattle.std.specs.BTreeMap.{BTreeMap, get_by}
 use Rattle.std.specs.Borrow.{Bor}
-use Rattle.std.specs.Cmp.Lexicographic.{slice_cmp}
 use Rattle.std.specs.Global.{Vec}
 use Rattle.std.specs.List.{list_any}
-use Rattle.std.specs.Ordering.{nat_cmp}
+use Rattle.std.specs.Map.{lookup}
+use Rattle.std.specs.Str.{bytes_eq}
 use Rattle.elf_model.specs.ArchiveFile.{IndexEntry}
 use Rattle.elf_model.specs.Opening.{Opened, archive_entries}
 use Rattle.check_load.specs.Awake.{is_awake, is_place}
 use Rattle.check_load.specs.Names.{Names, requests_name}
 use Rattle.check_load.specs.declared.awake_entries.Awake.{Awake}
 
+-- borrowed names with their places
 abbrev pub PlaceMap : Type 0
-PlaceMap = BTreeMap (Bor (List ℕ)) (Vec (ℕ × ℕ))
+PlaceMap = List (Bor (List ℕ) × Vec (ℕ × ℕ))
 
 -- the places of a name
 abbrev pub places_in : PlaceMap → List ℕ → List (ℕ × ℕ)
-places_in names name = unwrap_or (option_map (λ v. v.items) (get_by (λ k. slice_cmp nat_cmp name k.now) names)) []
+places_in names name = unwrap_or (option_map (λ v. v.items) (lookup (λ k. bytes_eq name k.now) names)) []
 
 -- an entry of an item is a place of a name
 abbrev pub has_place : PlaceMap → List ℕ → ℕ → ℕ → Bool

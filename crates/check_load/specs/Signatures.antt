@@ -1,16 +1,14 @@
 -- The signatures that were seen, as a test of names, and what is dropped by them.
 use Rattle.std.specs.Prelude.{ℕ, Bool, List, [], ◌∷◌, ◌++◌, ◌&&◌, ◌||◌, if◌then◌else◌}
-use Rattle.std.specs.BTreeSet.{BTreeSet}
 use Rattle.std.specs.Borrow.{Bor}
-use Rattle.std.specs.List.{flat_map}
+use Rattle.std.specs.List.{flat_map, list_any}
 use Rattle.std.specs.Str.{bytes_eq}
 use Rattle.elf_model.specs.Groups.{ascending, is_comdat}
 use Rattle.elf_model.specs.ObjectFile.{Group}
-use Rattle.elf_model.specs.UsedNames.{is_among}
 
--- whether a set has a name
-unfoldable pub seen_in : BTreeSet (Bor (List ℕ)) → List ℕ → Bool
-seen_in set name = is_among set name
+-- whether a name is among borrowed ones
+unfoldable pub seen_in : List (Bor (List ℕ)) → List ℕ → Bool
+seen_in names name = list_any (λ k. bytes_eq name k.now) names
 
 -- what is seen after a group, and after groups
 abbrev pub seen_then : (List ℕ → Bool) → Group → List ℕ → Bool

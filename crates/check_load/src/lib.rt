@@ -4,6 +4,7 @@
 mod archives;
 mod awake_entries;
 mod files;
+mod known_names;
 mod lawfulness;
 mod load_steps;
 mod loader;

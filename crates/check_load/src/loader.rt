@@ -16,7 +16,8 @@ ghost use Rattle.check_load.specs.Views.{loaded_view, loaded_views};
 
 use crate::archives::Input;
 use crate::awake_entries::Awake;
-use crate::names::{NameState, note_object, roots, state_of};
+use crate::known_names::KnownNames;
+use crate::names::{note_object, roots};
 use crate::opened_items::OpenedItem;
 use crate::places::Places;
 use crate::signatures::{Dropped, admit};
@@ -27,8 +28,8 @@ use byteview::View;
 use command::Plan;
 use elf_model::{ObjFault, SHT_RELA, SectionHeader};
 use elf_read::Object;
+use indexmap::IndexSet;
 use std::alloc::{AllocError, Global};
-use std::collections::{BTreeMap, BTreeSet};
 
 /// A loaded object.
 #[derive(Drop)]
@@ -84,8 +85,8 @@ impl<'a> Loaded<'a> {
 pub struct Loader<'p, 'a> {
     plan: &'p Plan<'a>,
     objects: Vec<Loaded<'a>>,
-    seen: BTreeSet<&'a [u8]>,
-    names: BTreeMap<&'a [u8], NameState>,
+    seen: IndexSet<&'a [u8]>,
+    names: KnownNames<'a>,
     taken: Taken,
     awake: Awake,
 }
@@ -104,15 +105,10 @@ fn read_object<'a>(alloc: Global, bytes: &'a [u8]) -> Result<Object<'a>, Stop>
 }
 
 /// Whether an entry of an item gives a member: its name is asked for and not defined, and its member isn't taken.
-fn is_free(
-    names: &BTreeMap<&[u8], NameState>,
-    taken: &Taken,
-    item: u64,
-    entry: &IndexEntry<'_>,
-) -> bool
+fn is_free(names: &KnownNames<'_>, taken: &Taken, item: u64, entry: &IndexEntry<'_>) -> bool
     ensures { result ≡ is_free names.now taken.now item entry.now }
 {
-    let state = state_of(names, entry.name());
+    let state = names.state_of(entry.name());
     if !state.requested || state.defined {
         return false;
     }
@@ -121,7 +117,7 @@ fn is_free(
 
 /// The offset of the member that entry `i` gives, where there is such an entry and it gives one.
 fn free_at(
-    names: &BTreeMap<&[u8], NameState>,
+    names: &KnownNames<'_>,
     taken: &Taken,
     item: u64,
     entries: &[IndexEntry<'_>],
@@ -142,7 +138,7 @@ fn free_at(
 /// The offset of the member that the first of an item's entries gives that gives one. Each that does is awake, and
 /// stays so; those that are awake before it go to sleep.
 fn first_free(
-    names: &BTreeMap<&[u8], NameState>,
+    names: &KnownNames<'_>,
     taken: &Taken,
     awake: &mut Awake,
     item: u64,
@@ -178,7 +174,7 @@ impl<'p, 'a> Loader<'p, 'a> {
         Ok(Loader {
             plan,
             objects: Vec::new(alloc),
-            seen: BTreeSet::new(alloc),
+            seen: IndexSet::new(alloc),
             names,
             taken: Taken::new(alloc),
             awake,

@@ -1,69 +1,21 @@
-//! The names that the command and the loaded objects ask for and define, in one ordered map.
-ghost use Rattle.std.specs.Prelude.{◌≡◌, ◌&&◌, ◌||◌, ℕ, List, ◌∷◌, IfOk, OnOk, false, true};
+//! The names that the command and the loaded objects ask for and define, as they are noted.
+ghost use Rattle.std.specs.Prelude.{◌≡◌, ◌&&◌, ◌||◌, ◌∷◌, ℕ, Bool, IfOk, List, OnOk, Some, false, slice_get, true};
 ghost use Rattle.std.specs.List.{list_any};
 ghost use Rattle.std.specs.Str.{bytes_eq};
 ghost use Rattle.command.specs.Views.{texts_of};
-ghost use Rattle.elf_model.specs.Loading.{is_definition, is_global_or_weak, is_global_symbol, is_left_undefined, is_request};
+ghost use Rattle.elf_model.specs.Loading.{has_name, is_definition, is_global_or_weak, is_global_symbol, is_left_undefined, is_request};
+ghost use Rattle.elf_model.specs.ObjectFile.{symbols};
 ghost use Rattle.check_load.specs.Awake.{is_awake};
-ghost use Rattle.check_load.specs.Places.{AreWokenSince, IsWoken, none_asked};
+ghost use Rattle.check_load.specs.Places.{AreWokenSince, none_asked};
 ghost use Rattle.check_load.specs.Names.{asked_in, defined_in, defines_name, requests_name};
 
 use crate::awake_entries::Awake;
+use crate::known_names::{KnownNames, NameState};
 use crate::places::Places;
 use crate::signatures::Dropped;
 use elf_model::{SHN_UNDEF, STB_GLOBAL, STB_WEAK, Symbol};
 use elf_read::Object;
 use std::alloc::{AllocError, Global};
-use std::collections::BTreeMap;
-
-/// What is known of a name.
-#[derive(Clone, Copy)]
-pub struct NameState {
-    /// The command or an object asks for its definition.
-    pub requested: bool,
-    /// An object defines it.
-    pub defined: bool,
-}
-
-/// What is known of a name; nothing of one that wasn't noted.
-#[tactic(auto, unfolding(crate::specs::Names::requests_name, crate::specs::Names::defines_name))]
-pub fn state_of(names: &BTreeMap<&[u8], NameState>, name: &[u8]) -> NameState
-    ensures requested { result.requested ≡ requests_name names.now name.now }
-    ensures defined { result.defined ≡ defines_name names.now name.now }
-{
-    match names.get(name) {
-        Some(state) => *state,
-        None => NameState {
-            requested: false,
-            defined: false,
-        },
-    }
-}
-
-fn either(a: bool, b: bool) -> bool
-    ensures { result ≡ (a || b) }
-{
-    a || b
-}
-
-/// Notes that a name is asked for, or defined.
-fn note<'a>(
-    names: &mut BTreeMap<&'a [u8], NameState>,
-    name: &'a [u8],
-    requested: bool,
-    defined: bool,
-) -> Result<(), AllocError>
-    ensures requested { OnOk result ((n : List ℕ) → requests_name names.new n ≡ (bytes_eq name.entry.now n && requested || requests_name names.old n)) }
-    ensures defined { OnOk result ((n : List ℕ) → defines_name names.new n ≡ (bytes_eq name.entry.now n && defined || defines_name names.old n)) }
-{
-    let old = state_of(names, name);
-    let new = NameState {
-        requested: either(requested, old.requested),
-        defined: either(defined, old.defined),
-    };
-    names.insert(name, new)?;
-    Ok(())
-}
 
 fn is_global(symbol: &Symbol) -> bool
     ensures { result ≡ is_global_symbol symbol.now }
@@ -96,39 +48,54 @@ fn is_definition(dropped: &Dropped, symbol: &Symbol) -> bool
     is_global_or_weak(symbol) && !is_left_undefined(dropped, symbol)
 }
 
-/// Notes the name of a symbol, where it asks for a definition or is one.
-fn note_symbol<'a>(
-    names: &mut BTreeMap<&'a [u8], NameState>,
-    dropped: &Dropped,
-    symbol: &Symbol,
-    name: &'a [u8],
-) -> Result<(), AllocError>
-    ensures requested { OnOk result ((n : List ℕ) → requests_name names.new n ≡ (bytes_eq name.entry.now n && is_request dropped.now symbol.now || requests_name names.old n)) }
-    ensures defined { OnOk result ((n : List ℕ) → defines_name names.new n ≡ (bytes_eq name.entry.now n && is_definition dropped.now symbol.now || defines_name names.old n)) }
-{
-    let requested = is_request(dropped, symbol);
-    let defined = is_definition(dropped, symbol);
-    if !requested && !defined {
-        return Ok(());
-    }
-    note(names, name, requested, defined)
-}
-
-/// Wakes the entries of a name that is asked for, where nothing asked for it before.
-fn wake_asked(
+/// Notes what is said of a name, and wakes its entries where that asks for it and nothing did before.
+fn note_name<'a>(
     places: &Places<'_, '_>,
     awake: &mut Awake,
-    names: &BTreeMap<&[u8], NameState>,
-    requested: bool,
-    name: &[u8],
+    names: &mut KnownNames<'a>,
+    name: &'a [u8],
+    said: NameState,
 ) -> Result<(), AllocError>
-    ensures woken { OnOk result (requested ≡ true → requests_name names.now name.now ≡ false → IsWoken places.now name.now awake.new) }
+    ensures woken { OnOk result ((before : List ℕ → Bool) → AreWokenSince places.now before names.old awake.old → AreWokenSince places.now before names.new awake.new) }
     ensures stays { OnOk result ((i q : ℕ) → is_awake awake.old i q ≡ true → is_awake awake.new i q ≡ true) }
+    ensures requested { OnOk result ((n : List ℕ) → requests_name names.new n ≡ (bytes_eq name.entry.now n && said.requested || requests_name names.old n)) }
+    ensures defined { OnOk result ((n : List ℕ) → defines_name names.new n ≡ (bytes_eq name.entry.now n && said.defined || defines_name names.old n)) }
 {
-    if !requested || state_of(names, name).requested {
+    let before = names.note(name, said)?;
+    if before || !said.requested {
         return Ok(());
     }
     places.wake(awake, name)?;
+    Ok(())
+}
+
+/// Notes the name of symbol `j` of an object, where it asks for a definition or is one.
+fn note_symbol<'a>(
+    places: &Places<'_, '_>,
+    awake: &mut Awake,
+    names: &mut KnownNames<'a>,
+    object: &Object<'a>,
+    dropped: &Dropped,
+    j: usize,
+    symbol: &Symbol,
+) -> Result<(), AllocError>
+    requires { slice_get (symbols object.now) j ≡ Some symbol.now }
+    ensures woken { OnOk result ((before : List ℕ → Bool) → AreWokenSince places.now before names.old awake.old → AreWokenSince places.now before names.new awake.new) }
+    ensures stays { OnOk result ((i q : ℕ) → is_awake awake.old i q ≡ true → is_awake awake.new i q ≡ true) }
+    ensures requested { OnOk result ((n : List ℕ) → requests_name names.new n ≡ (has_name object.now n symbol.now && is_request dropped.now symbol.now || requests_name names.old n)) }
+    ensures defined { OnOk result ((n : List ℕ) → defines_name names.new n ≡ (has_name object.now n symbol.now && is_definition dropped.now symbol.now || defines_name names.old n)) }
+{
+    let said = NameState {
+        requested: is_request(dropped, symbol),
+        defined: is_definition(dropped, symbol),
+    };
+    if !said.requested && !said.defined {
+        return Ok(());
+    }
+    let Some(name) = object.name(j) else {
+        unreachable!()
+    };
+    note_name(places, awake, names, name, said)?;
     Ok(())
 }
 
@@ -136,7 +103,7 @@ fn wake_asked(
 pub fn note_object<'a>(
     places: &Places<'_, '_>,
     awake: &mut Awake,
-    names: &mut BTreeMap<&'a [u8], NameState>,
+    names: &mut KnownNames<'a>,
     object: &Object<'a>,
     dropped: &Dropped,
 ) -> Result<(), AllocError>
@@ -146,11 +113,7 @@ pub fn note_object<'a>(
     ensures defined { OnOk result ((n : List ℕ) → defines_name names.new n ≡ (defined_in object.now dropped.now n || defines_name names.old n)) }
 {
     for (j, symbol) in object.symbols().iter().enumerate() {
-        let Some(name) = object.name(j) else {
-            unreachable!()
-        };
-        wake_asked(places, awake, names, is_request(dropped, symbol), name)?;
-        note_symbol(names, dropped, symbol, name)?;
+        note_symbol(places, awake, names, object, dropped, j, symbol)?;
     }
     Ok(())
 }
@@ -159,15 +122,18 @@ pub fn note_object<'a>(
 fn note_root<'a>(
     places: &Places<'_, '_>,
     awake: &mut Awake,
-    names: &mut BTreeMap<&'a [u8], NameState>,
+    names: &mut KnownNames<'a>,
     name: &'a [u8],
 ) -> Result<(), AllocError>
     ensures requested { OnOk result ((n : List ℕ) → requests_name names.new n ≡ (bytes_eq name.entry.now n && true || requests_name names.old n)) }
     ensures defined { OnOk result ((n : List ℕ) → defines_name names.new n ≡ (bytes_eq name.entry.now n && false || defines_name names.old n)) }
     ensures woken { OnOk result (AreWokenSince places.now none_asked names.old awake.old → AreWokenSince places.now none_asked names.new awake.new) }
 {
-    wake_asked(places, awake, names, true, name)?;
-    note(names, name, true, false)?;
+    let root = NameState {
+        requested: true,
+        defined: false,
+    };
+    note_name(places, awake, names, name, root)?;
     Ok(())
 }
 
@@ -178,12 +144,12 @@ pub fn roots<'a>(
     awake: &mut Awake,
     entry: &'a str,
     undefined: &[&'a str],
-) -> Result<BTreeMap<&'a [u8], NameState>, AllocError>
+) -> Result<KnownNames<'a>, AllocError>
     ensures woken { IfOk result (λ m. AreWokenSince places.now none_asked m awake.new) }
     ensures requested { IfOk result (λ m. (n : List ℕ) → requests_name m n ≡ list_any (λ root. bytes_eq root n) (entry.entry.now ∷ texts_of undefined.now)) }
     ensures defined { IfOk result (λ m. (n : List ℕ) → defines_name m n ≡ false) }
 {
-    let mut names = BTreeMap::new(alloc);
+    let mut names = KnownNames::new(alloc);
     note_root(places, awake, &mut names, entry.as_bytes())?;
     for name in undefined {
         note_root(places, awake, &mut names, name.as_bytes())?;

@@ -8,8 +8,8 @@ ghost use Rattle.check_load.specs.Places.{IsWoken, ArePlaced, IsPlaced, has_plac
 use crate::archives::Input;
 use crate::awake_entries::Awake;
 use ar_index::IndexEntry;
+use indexmap::IndexMap;
 use std::alloc::{AllocError, Global};
-use std::collections::BTreeMap;
 use std::marker::Model;
 
 /// The inputs of a command, and the places of the names in the indexes of the archives among them: the numbers of
@@ -17,7 +17,7 @@ use std::marker::Model;
 #[derive(Drop)]
 pub struct Places<'i, 'a> {
     inputs: &'i [Input<'a>],
-    names: BTreeMap<&'a [u8], Vec<(u64, usize)>>,
+    names: IndexMap<&'a [u8], Vec<(u64, usize)>>,
 }
 
 impl<'i, 'a> Model for Places<'i, 'a> {
@@ -29,48 +29,32 @@ impl<'i, 'a> Model for Places<'i, 'a> {
 
     ghost view = { λ p. p.inputs.now };
 
-    ghost invariant = { λ p. ArePlaced p.names p.inputs.now };
-}
-
-/// Takes the places of a name out.
-fn take_places(
-    alloc: Global,
-    names: &mut BTreeMap<&[u8], Vec<(u64, usize)>>,
-    name: &[u8],
-) -> Vec<(u64, usize)>
-    ensures places { result.items ≡ places_in names.old name.now }
-    ensures others { (n : List ℕ) → places_in names.new n ≡ cond (bytes_eq name.now n) [] (places_in names.old n) }
-{
-    match names.remove(name) {
-        Some(places) => places,
-        None => Vec::new(alloc),
-    }
+    ghost invariant = { λ p. ArePlaced p.names.entries p.inputs.now };
 }
 
 /// Adds a place of a name.
 fn add_place<'a>(
     alloc: Global,
-    names: &mut BTreeMap<&'a [u8], Vec<(u64, usize)>>,
+    names: &mut IndexMap<&'a [u8], Vec<(u64, usize)>>,
     name: &'a [u8],
     place: (u64, usize),
 ) -> Result<(), AllocError>
-    ensures { OnOk result ((n : List ℕ) → places_in names.new n ≡ cond (bytes_eq name.now n) (places_in names.old n ++ place ∷ []) (places_in names.old n)) }
+    ensures { OnOk result ((n : List ℕ) → places_in names.new.entries n ≡ cond (bytes_eq name.now n) (places_in names.old.entries n ++ place ∷ []) (places_in names.old.entries n)) }
 {
-    let mut places = take_places(alloc, names, name);
+    let places = names.entry(name)?.or_insert(Vec::new(alloc));
     places.push(place)?;
-    names.insert(name, places)?;
     Ok(())
 }
 
 /// Adds the places of the entries of an item's index.
 fn add_entries<'a>(
     alloc: Global,
-    names: &mut BTreeMap<&'a [u8], Vec<(u64, usize)>>,
+    names: &mut IndexMap<&'a [u8], Vec<(u64, usize)>>,
     item: u64,
     entries: &[IndexEntry<'a>],
 ) -> Result<(), AllocError>
-    ensures placed { OnOk result ((q : ℕ) (e : archive.IndexEntry) → slice_get entries.now q ≡ Some e → has_place names.new e.name item q ≡ true) }
-    ensures stays { OnOk result ((n : List ℕ) (i q : ℕ) → has_place names.old n i q ≡ true → has_place names.new n i q ≡ true) }
+    ensures placed { OnOk result ((q : ℕ) (e : archive.IndexEntry) → slice_get entries.now q ≡ Some e → has_place names.new.entries e.name item q ≡ true) }
+    ensures stays { OnOk result ((n : List ℕ) (i q : ℕ) → has_place names.old.entries n i q ≡ true → has_place names.new.entries n i q ≡ true) }
 {
     for (i, entry) in entries.iter().enumerate() {
         add_place(alloc, names, entry.name(), (item, i))?;
@@ -81,11 +65,11 @@ fn add_entries<'a>(
 /// Adds the places of the entries of an input, where it is an archive with an index.
 fn add_input<'a>(
     alloc: Global,
-    names: &mut BTreeMap<&'a [u8], Vec<(u64, usize)>>,
+    names: &mut IndexMap<&'a [u8], Vec<(u64, usize)>>,
     input: &Input<'a>,
 ) -> Result<(), AllocError>
-    ensures placed { OnOk result (IsPlaced names.new input.now) }
-    ensures stays { OnOk result ((n : List ℕ) (i q : ℕ) → has_place names.old n i q ≡ true → has_place names.new n i q ≡ true) }
+    ensures placed { OnOk result (IsPlaced names.new.entries input.now) }
+    ensures stays { OnOk result ((n : List ℕ) (i q : ℕ) → has_place names.old.entries n i q ≡ true → has_place names.new.entries n i q ≡ true) }
 {
     let item = input.item();
     if !item.archive {
@@ -101,10 +85,10 @@ fn add_input<'a>(
 fn names_of<'a>(
     alloc: Global,
     inputs: &[Input<'a>],
-) -> Result<BTreeMap<&'a [u8], Vec<(u64, usize)>>, AllocError>
-    ensures { IfOk result (λ m. ArePlaced m inputs.now) }
+) -> Result<IndexMap<&'a [u8], Vec<(u64, usize)>>, AllocError>
+    ensures { IfOk result (λ m. ArePlaced m.entries inputs.now) }
 {
-    let mut names = BTreeMap::new(alloc);
+    let mut names = IndexMap::new(alloc);
     for input in inputs {
         add_input(alloc, &mut names, input)?;
     }

@@ -11,8 +11,8 @@ use crate::lawfulness::{are_lawful, is_comdat};
 use crate::marks::{is_marked, mark};
 use crate::stops::Stop;
 use elf_read::{Group, Object};
+use indexmap::IndexSet;
 use std::alloc::{AllocError, Global};
-use std::collections::BTreeSet;
 use std::marker::Model;
 
 /// The sections of an object that are dropped with their groups: a mark for each section.
@@ -41,12 +41,12 @@ impl Dropped {
 
 /// Adds the signature of a group that is seen, and marks its members where it is dropped.
 fn admit_group<'a>(
-    seen: &mut BTreeSet<&'a [u8]>,
+    seen: &mut IndexSet<&'a [u8]>,
     marks: &mut [bool],
     group: &Group<'a>,
 ) -> Result<(), AllocError>
-    ensures marks { OnOk result (marks.new ≡ (if is_comdat group.now && seen_in seen.old group.now.signature then marked marks.old group.now.members else marks.old)) }
-    ensures seen { OnOk result (seen_in seen.new ≡ seen_then (seen_in seen.old) group.now) }
+    ensures marks { OnOk result (marks.new ≡ (if is_comdat group.now && seen_in seen.old.keys group.now.signature then marked marks.old group.now.members else marks.old)) }
+    ensures seen { OnOk result (seen_in seen.new.keys ≡ seen_then (seen_in seen.old.keys) group.now) }
 {
     if !is_comdat(group) {
         return Ok(());
@@ -61,13 +61,13 @@ fn admit_group<'a>(
 /// Adds the signatures of an object's groups, and tells which of its `count` sections are dropped.
 fn admit_groups<'a>(
     alloc: Global,
-    seen: &mut BTreeSet<&'a [u8]>,
+    seen: &mut IndexSet<&'a [u8]>,
     groups: &[Group<'a>],
     count: usize,
 ) -> Result<Dropped, AllocError>
     requires { All (λ g. All (λ k. k < count) g.members) groups.now }
-    ensures dropped { IfOk result (λ d. d ≡ lost_by (seen_in seen.old) groups.now) }
-    ensures seen { OnOk result (seen_in seen.new ≡ seen_by (seen_in seen.old) groups.now) }
+    ensures dropped { IfOk result (λ d. d ≡ lost_by (seen_in seen.old.keys) groups.now) }
+    ensures seen { OnOk result (seen_in seen.new.keys ≡ seen_by (seen_in seen.old.keys) groups.now) }
 {
     let mut marks = vec![in alloc; false; count]?;
     for group in groups {
@@ -80,12 +80,12 @@ fn admit_groups<'a>(
 /// sections are dropped.
 pub fn admit<'a>(
     alloc: Global,
-    seen: &mut BTreeSet<&'a [u8]>,
+    seen: &mut IndexSet<&'a [u8]>,
     object: &Object<'a>,
 ) -> Result<Dropped, Stop>
     ensures lawful { OnOk result (AreLawfulGroups (groups object.now)) }
-    ensures dropped { IfOk result (λ d. d ≡ lost_by (seen_in seen.old) (groups object.now)) }
-    ensures seen { OnOk result (seen_in seen.new ≡ seen_by (seen_in seen.old) (groups object.now)) }
+    ensures dropped { IfOk result (λ d. d ≡ lost_by (seen_in seen.old.keys) (groups object.now)) }
+    ensures seen { OnOk result (seen_in seen.new.keys ≡ seen_by (seen_in seen.old.keys) (groups object.now)) }
     ensures stop { IfErr result (Refutes (AreLawfulGroups (groups object.now))) }
 {
     let groups = object.groups();

@@ -2,14 +2,14 @@
 ghost use Rattle.std.specs.Prelude.{◌≡◌, ◌==◌, ◌&&◌, ◌||◌, ℕ, OnOk, false};
 ghost use Rattle.check_load.specs.Taken.{has_item, has_member};
 
+use indexmap::IndexSet;
 use std::alloc::{AllocError, Global};
-use std::collections::BTreeSet;
 
 /// The members that are loaded, by the numbers of their items and the offsets of their headers.
 #[derive(Drop)]
 pub struct Taken {
-    members: BTreeSet<(u64, u64)>,
-    items: BTreeSet<u64>,
+    members: IndexSet<(u64, u64)>,
+    items: IndexSet<u64>,
 }
 
 impl Taken {
@@ -20,8 +20,8 @@ impl Taken {
         ensures items { (item : ℕ) → has_item result item ≡ false }
     {
         Taken {
-            members: BTreeSet::new(alloc),
-            items: BTreeSet::new(alloc),
+            members: IndexSet::new(alloc),
+            items: IndexSet::new(alloc),
         }
     }
 

@@ -6,6 +6,6 @@ use Rattle.check_load.proofs.places.add_entries.Given as goal
 
 abbrev pub invariant-loop-i : goal.invariant-loop-i
 invariant-loop-i l = record {
-  placed : (q : ℕ) (e : IndexEntry) → q < l.i → slice_get l.entries q ≡ Some e → has_place l.names e.name l.item q ≡ true;
-  stays : (n : List ℕ) (i q : ℕ) → has_place l.fn.names n i q ≡ true → has_place l.names n i q ≡ true;
+  placed : (q : ℕ) (e : IndexEntry) → q < l.i → slice_get l.entries q ≡ Some e → has_place l.names.entries e.name l.item q ≡ true;
+  stays : (n : List ℕ) (i q : ℕ) → has_place l.fn.names.entries n i q ≡ true → has_place l.names.entries n i q ≡ true;
 }

@@ -4,7 +4,7 @@ use Rattle.check_load.proofs.places.names_of.Goals as goal
 
 pub loop-input-preserved : goal.loop-input-preserved
 loop-input-preserved c =
-    inputs_step c.loop-input.names c.add_input.new.names c.args.inputs.now c.loop-input.input-index c.input-item.result c.loop-input-test.true c.input-item.is
+    inputs_step c.loop-input.names.entries c.add_input.new.names.entries c.args.inputs.now c.loop-input.input-index c.input-item.result c.loop-input-test.true c.input-item.is
     c.in_ok-add_input.ensures.placed c.in_ok-add_input.ensures.stays c.loop-input.invariant
 
 pub returns : goal.returns

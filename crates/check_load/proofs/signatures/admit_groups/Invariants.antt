@@ -5,7 +5,7 @@ use Rattle.check_load.proofs.signatures.admit_groups.Given as goal
 
 abbrev pub invariant-loop-group : goal.invariant-loop-group
 invariant-loop-group l = record {
-  seen : seen_by (seen_in l.seen) (drop l.group-index l.groups) ≡ seen_by (seen_in l.initial.seen) l.groups;
-  marks : marked l.marks.items (lost_members (seen_in l.seen) (drop l.group-index l.groups))
-      ≡ marked l.initial.marks.items (lost_members (seen_in l.initial.seen) l.groups);
+  seen : seen_by (seen_in l.seen.keys) (drop l.group-index l.groups) ≡ seen_by (seen_in l.initial.seen.keys) l.groups;
+  marks : marked l.marks.items (lost_members (seen_in l.seen.keys) (drop l.group-index l.groups))
+      ≡ marked l.initial.marks.items (lost_members (seen_in l.initial.seen.keys) l.groups);
 }

@@ -13,12 +13,12 @@ items_of f = unwrap_or (option_map (λ v. v.items) f) []
 pub returns-in_default-clause-woken : goal.returns-in_default-clause-woken
 returns-in_default-clause-woken c =
     subst (λ (os : List Opened). IsWoken os c.args.name.now c.args.awake.now) c.self.view_is
-    (all_woken c.self.inside.names c.self.inside.inputs.now c.args.name.now [] c.args.awake.now c.args.awake.now c.self.invariant
+    (all_woken c.self.inside.names.entries c.self.inside.inputs.now c.args.name.now [] c.args.awake.now c.args.awake.now c.self.invariant
     (ap items_of (sym (ap (λ (f : Option (Bor (Vec (ℕ × ℕ)))). option_copied f) c.in_default.is) ∙ c.get.ensures.value)) (λ i q. refl))
 
 pub returns-clause-woken : goal.returns-clause-woken
 returns-clause-woken c =
     subst (λ (os : List Opened). IsWoken os c.args.name.now c.wake_all.new.self) c.self.view_is
-    (all_woken c.self.inside.names c.self.inside.inputs.now c.args.name.now c.deref.result.now c.args.awake.now c.wake_all.new.self c.self.invariant
+    (all_woken c.self.inside.names.entries c.self.inside.inputs.now c.args.name.now c.deref.result.now c.args.awake.now c.wake_all.new.self c.self.invariant
     (c.deref.ensures.value ∙ ap items_of (sym (ap (λ (f : Option (Bor (Vec (ℕ × ℕ)))). option_copied f) c.in-Some.is) ∙ c.get.ensures.value))
     c.in_ok-wake_all.ensures)
