@@ -57,6 +57,7 @@ found_at test all front (s ∷ ss) k o is at =
     by true rest = here
     by false rest = rest
 
+-- the same for a whole list
 pub first_found :
     (test : SymbolOf → Bool) (all : List SymbolOf) (o : Option ℕ) →
     option_and_then (slice_get all) (option_or (first_from test 0 all) o) ≡ option_or (find test all) (option_and_then (slice_get all) o)

@@ -1,8 +1,7 @@
 -- A claim on all symbols, as a claim on those that are left: the steps of a walk object by object.
-use Rattle.std.proofs.Common.{◌≡◌, ℕ, ◌+◌, ◌<◌, ◌≤◌, List, ◌∷◌, ◌++◌, length, get_or, drop, sym, subst}
+use Rattle.std.proofs.Common.{◌≡◌, ℕ, ◌+◌, ◌<◌, List, ◌∷◌, ◌++◌, length, get_or, drop, subst}
 use Rattle.std.specs.Prelude.{All}
-use Rattle.std.proofs.lemmas.List.{drop_all}
-use Rattle.std.proofs.lemmas.List.Elements.{All-append, All-cons, All-head, All-nil, All-tail}
+use Rattle.std.proofs.lemmas.List.Elements.{All-append, All-cons, All-head, All-tail}
 use Rattle.elf_model.proofs.Listed.{All-parts}
 use Rattle.elf_model.proofs.Rests.{Left, rest_at}
 use Rattle.elf_model.specs.Loading.{LoadedObject}
@@ -32,10 +31,6 @@ module _ (P : SymbolOf → Type 0) (Q : Type 0) where
     pub symbol_stop : (P here → ⊥) → Q → ⊥
     symbol_stop never q = never (All-head P here rest (split.0 q))
 
-  pub symbols_end : (k : ℕ) (o : LoadedObject) (es : List Symbol) (j : ℕ) → length es ≤ j → Left Q (All P (symbols_from k o j (drop j es))) → Q
-  symbols_end k o es j past left =
-      left.1 (subst (λ (xs : List Symbol). All P (symbols_from k o j xs)) (sym (drop_all j es past)) (All-nil P))
-
   -- The objects from number k on.
   module _ (objects : List Loaded) (k : ℕ) (d : Loaded) (within : k < length objects) (is : d ≡ get_or objects k d)
       (left : Left Q (All P (symbols_of k (drop k (loaded_views objects))))) where
@@ -53,7 +48,3 @@ module _ (P : SymbolOf → Type 0) (Q : Type 0) where
 
     pub object_stop : (All P of → ⊥) → Q → ⊥
     object_stop never q = never (All-parts P of others (parted.0 q)).0
-
-  pub objects_end : (objects : List Loaded) (k : ℕ) → length (loaded_views objects) ≤ k → Left Q (All P (symbols_of k (drop k (loaded_views objects)))) → Q
-  objects_end objects k past left =
-      left.1 (subst (λ (xs : List LoadedObject). All P (symbols_of k xs)) (sym (drop_all k (loaded_views objects) past)) (All-nil P))
