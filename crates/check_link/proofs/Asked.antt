@@ -10,16 +10,18 @@ use Rattle.std.specs.Str.{bytes_eq}
 use Rattle.std.proofs.lemmas.List.{append-nil, drop_all, length-map}
 use Rattle.std.proofs.lemmas.Slice.Eq.{bytes_eq-Decides}
 use Rattle.elf_model.proofs.Rests.{rest_at}
-use Rattle.elf_model.specs.ChosenSymbols.{is_chosen, is_definition, is_same_symbol}
+use Rattle.indexmap.specs.IndexMap.{IndexMap}
+use Rattle.elf_model.specs.ChosenSymbols.{definitions, is_chosen, is_definition, is_same_symbol}
 use Rattle.elf_model.specs.Commons.{Block, block_of, blocks, blocks_from, greatest, is_common_symbol}
 use Rattle.elf_model.specs.Loading.{LoadedObject}
-use Rattle.elf_model.specs.Resolution.{SymbolOf, all_symbols, has_name, is_common_definition}
+use Rattle.elf_model.specs.Resolution.{SymbolOf, has_name, is_common_definition}
 use Rattle.check_link.specs.Chosen.{AreChosen, is_found}
-use Rattle.check_link.specs.Commons.{asked_in, gives, greatest_given, is_block_symbol}
+use Rattle.check_link.specs.Commons.{HasAsked, asked_in, given_align, given_size, gives, greatest_given, is_block_symbol}
 use Rattle.check_link.specs.Views.{block_view, block_views, symbol_view, symbol_views}
 use Rattle.check_link.specs.declared.commons.Asked.{Asked}
 use Rattle.check_link.specs.declared.things.Block as things
 use Rattle.check_link.specs.declared.things.SymbolOf as code
+use Rattle.check_link.proofs.Defined.{common_defined}
 
 -- the greatest that is given, with one symbol more
 given_more :
@@ -73,12 +75,12 @@ asked_put part old new name n v x e is = ap (λ (o : Option Asked). unwrap_or (o
 -- The blocks, with one symbol more.
 module _ (objects : List LoadedObject) (p : SymbolOf → Bool) (xs : List code.SymbolOf) (i : ℕ) where
   pub blocks_step :
-      (d : code.SymbolOf) (old new : List things.Block) (whole : List Block) → i < length xs →
-      block_views new ≡ block_views old ++ blocks_from objects (length old) (filter p (symbol_view (get_or xs i d) ∷ [])) →
+      (d : code.SymbolOf) (wanted : Bool) (old new : List things.Block) (whole : List Block) → i < length xs → wanted ≡ p (symbol_view (get_or xs i d)) →
+      block_views new ≡ block_views old ++ blocks_from objects (length old) (cond wanted (symbol_view (get_or xs i d) ∷ []) []) →
       block_views old ++ blocks_from objects (length old) (filter p (symbol_views (drop i xs))) ≡ whole →
       block_views new ++ blocks_from objects (length new) (filter p (symbol_views (drop (i + 1) xs))) ≡ whole
-  blocks_step d old new whole within grown so_far =
-      by (p s) grown
+  blocks_step d wanted old new whole within is grown so_far =
+      by (p s) (grown ∙ ap (λ (b : Bool). block_views old ++ blocks_from objects (length old) (cond b (s ∷ []) [])) is)
       (sym (ap (λ (ys : List code.SymbolOf). block_views old ++ blocks_from objects (length old) (filter p (symbol_views ys))) (rest_at xs i d within)) ∙ so_far)
     where
       s : SymbolOf
@@ -115,41 +117,39 @@ module _ (objects : List LoadedObject) (p : SymbolOf → Bool) (xs : List code.S
       sym (append-nil (block_views found))
       ∙ (sym (ap (λ (ys : List code.SymbolOf). block_views found ++ blocks_from objects (length found) (filter p (symbol_views ys))) (drop_all i xs behind)) ∙ so_far)
 
--- The blocks of those that an index of the chosen symbols has are the objects' blocks.
-kept_thrice : {X : Type 0} (p q r : X → Bool) (xs : List X) → filter (λ x. p x && (q x && r x)) xs ≡ filter p (filter q (filter r xs))
-kept_thrice p q r [] = refl
-kept_thrice {X} p q r (x ∷ xs) = by (p x) (q x) (r x) refl refl (kept_thrice p q r xs)
+-- The blocks of those definitions that an index of the chosen ones has are the objects' blocks.
+kept_twice : {X : Type 0} (p q : X → Bool) (xs : List X) → filter (λ x. p x && q x) xs ≡ filter p (filter q xs)
+kept_twice p q [] = refl
+kept_twice {X} p q (x ∷ xs) = by (p x) (q x) refl (kept_twice p q xs)
   where
-    rest : List X
-    rest = filter r xs
+    both : List X
+    both = filter (λ y. p y && q y) xs
 
-    by :
-        (a b c : Bool) → p x ≡ a → q x ≡ b → filter (λ y. p y && (q y && r y)) xs ≡ filter p (filter q rest) →
-        cond (a && (b && c)) (x ∷ filter (λ y. p y && (q y && r y)) xs) (filter (λ y. p y && (q y && r y)) xs)
-        ≡ filter p (filter q (cond c (x ∷ rest) rest))
-    by true true true e f so =
-        ap (λ (ys : List X). x ∷ ys) so
-        ∙ sym (ap (λ (t : Bool). filter p (cond t (x ∷ filter q rest) (filter q rest))) f
-        ∙ ap (λ (t : Bool). cond t (x ∷ filter p (filter q rest)) (filter p (filter q rest))) e)
-    by false true true e f so =
-        so
-        ∙ sym (ap (λ (t : Bool). filter p (cond t (x ∷ filter q rest) (filter q rest))) f
-        ∙ ap (λ (t : Bool). cond t (x ∷ filter p (filter q rest)) (filter p (filter q rest))) e)
-    by a false true e f so = none a ∙ so ∙ sym (ap (λ (t : Bool). filter p (cond t (x ∷ filter q rest) (filter q rest))) f)
-      where
-        none : (t : Bool) → cond (t && false) (x ∷ filter (λ y. p y && (q y && r y)) xs) (filter (λ y. p y && (q y && r y)) xs) ≡ filter (λ y. p y && (q y && r y)) xs
-        none true = refl
-        none false = refl
-    by true true false e f so = so
-    by true false false e f so = so
-    by false b false e f so = so
+    kept : List X
+    kept = filter p (filter q xs)
+
+    by : (a b : Bool) → p x ≡ a → both ≡ kept → cond (a && b) (x ∷ both) both ≡ filter p (cond b (x ∷ filter q xs) (filter q xs))
+    by true true e rest = ap (λ (ys : List X). x ∷ ys) rest ∙ sym (ap (λ (t : Bool). cond t (x ∷ kept) kept) e)
+    by false true e rest = rest ∙ sym (ap (λ (t : Bool). cond t (x ∷ kept) kept) e)
+    by true false e rest = rest
+    by false false e rest = rest
 
 pub blocks_chosen :
-    (objects : List LoadedObject) (chosen : BTreeMap (Bor (List ℕ)) code.SymbolOf) (all : List SymbolOf) → AreChosen objects chosen →
-    all ≡ all_symbols objects → blocks_from objects 0 (filter (is_block_symbol chosen) all) ≡ blocks objects
-blocks_chosen objects chosen all are is =
-    let same : is_found chosen ≡ is_chosen objects = λ i s. ap (λ (o : Option SymbolOf). option_map_or (is_same_symbol s) o false) (are s.name) i in
-    ap (λ (ss : List SymbolOf). blocks_from objects 0 ss)
-    (kept_thrice is_common_symbol (is_found chosen) is_definition all
-    ∙ ap (λ (p : SymbolOf → Bool). filter is_common_symbol (filter p (filter is_definition all))) same
-    ∙ ap (λ (ss : List SymbolOf). filter is_common_symbol (filter (is_chosen objects) (filter is_definition ss))) is)
+    {S : Type 0} (objects : List LoadedObject) (chosen : IndexMap (Bor (List ℕ)) ℕ S) (ss : List SymbolOf) → AreChosen objects ss chosen →
+    ss ≡ definitions objects → blocks_from objects 0 (filter (is_block_symbol chosen ss) ss) ≡ blocks objects
+blocks_chosen objects chosen ss are is =
+    let same : is_found chosen ss ≡ is_chosen objects = λ i s. ap (λ (o : Option SymbolOf). option_map_or (is_same_symbol s) o false) (are s.name) i in
+    ap (λ (ts : List SymbolOf). blocks_from objects 0 ts)
+    (kept_twice is_common_symbol (is_found chosen ss) ss
+    ∙ ap (λ (p : SymbolOf → Bool). filter is_common_symbol (filter p ss)) same
+    ∙ ap (λ (ts : List SymbolOf). filter is_common_symbol (filter (is_chosen objects) ts)) is)
+
+-- what the definitions ask for, all symbols do
+pub asked_of_all :
+    (asked : BTreeMap (Bor (List ℕ)) Asked) (ss all : List SymbolOf) → ss ≡ filter is_definition all → HasAsked asked ss → HasAsked asked all
+asked_of_all asked ss all is has =
+    let same : filter is_common_definition ss ≡ filter is_common_definition all = ap (filter is_common_definition) is ∙ common_defined all in
+    record {
+      sizes = λ n. has.sizes n ∙ ap (λ (ts : List SymbolOf). greatest (map given_size (filter (has_name n) ts))) same;
+      aligns = λ n. has.aligns n ∙ ap (λ (ts : List SymbolOf). greatest (map given_align (filter (has_name n) ts))) same;
+    }

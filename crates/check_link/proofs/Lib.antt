@@ -1,13 +1,16 @@
 pub mod Alignments
 pub mod Asked
+pub mod CommonEntries
 pub mod CommonRows
-pub mod Gathered
+pub mod Defined
 pub mod Gathering
 pub mod Padded
 pub mod PieceLemmas
 pub mod PlaceKeys
 pub mod PlaceSteps
+pub mod Positions
 pub mod SameOutput
 pub mod SameRequest
 pub mod SeenOutputs
 pub mod SlotSteps
+pub mod Walked

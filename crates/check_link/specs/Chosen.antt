@@ -1,24 +1,31 @@
--- The chosen definitions of names, as an index has them.
-use Rattle.std.specs.Prelude.{◌≡◌, ℕ, Bool, false, List, Option, option_map}
+-- The chosen definitions of names, as an index has their positions in the list of the definitions.
+use Rattle.std.specs.Prelude.{◌≡◌, ℕ, ◌+◌, Bool, false, cond, List, [], ◌∷◌, Option, Some, None, slice_get}
 use Rattle.std.specs.Borrow.{Bor}
-use Rattle.std.specs.BTreeMap.{BTreeMap, get_by}
-use Rattle.std.specs.Cmp.Lexicographic.{slice_cmp}
-use Rattle.std.specs.Option.{option_map_or}
-use Rattle.std.specs.Ordering.{nat_cmp}
+use Rattle.std.specs.Option.{option_and_then, option_map_or}
+use Rattle.std.specs.Str.{bytes_eq}
+use Rattle.indexmap.specs.IndexMap.{IndexMap, get_by}
 use Rattle.elf_model.specs.ChosenSymbols.{is_same_symbol}
 use Rattle.elf_model.specs.Loading.{LoadedObject}
 use Rattle.elf_model.specs.Resolution.{SymbolOf, chosen}
-use Rattle.check_link.specs.Views.{symbol_view}
-use Rattle.check_link.specs.declared.things.SymbolOf as code
 
--- the definition that an index has for a name
-abbrev pub definition_in : BTreeMap (Bor (List ℕ)) code.SymbolOf → List ℕ → Option SymbolOf
-definition_in names name = option_map symbol_view (get_by (λ k. slice_cmp nat_cmp name k.now) names)
+-- the number of the first of symbols that passes a test, where they are numbered from k on
+abbrev pub first_from : (SymbolOf → Bool) → ℕ → List SymbolOf → Option ℕ
+first_from test k [] = None
+first_from test k (s ∷ ss) = cond (test s) (Some k) (first_from test (k + 1) ss)
 
--- a symbol is the one that an index has for its name
-abbrev pub is_found : BTreeMap (Bor (List ℕ)) code.SymbolOf → SymbolOf → Bool
-is_found names s = option_map_or (is_same_symbol s) (definition_in names s.name) false
+module _ {S : Type 0} where
+  -- the position that an index has for a name
+  abbrev pub position_in : IndexMap (Bor (List ℕ)) ℕ S → List ℕ → Option ℕ
+  position_in index name = get_by (λ k. bytes_eq name k.now) index
 
--- an index has for each name its chosen definition
-abbrev pub AreChosen : List LoadedObject → BTreeMap (Bor (List ℕ)) code.SymbolOf → Type 0
-AreChosen objects names = (name : List ℕ) → definition_in names name ≡ chosen objects name
+  -- the definition that an index has for a name
+  abbrev pub definition_in : IndexMap (Bor (List ℕ)) ℕ S → List SymbolOf → List ℕ → Option SymbolOf
+  definition_in index ss name = option_and_then (slice_get ss) (position_in index name)
+
+  -- a symbol is the one that an index has for its name
+  abbrev pub is_found : IndexMap (Bor (List ℕ)) ℕ S → List SymbolOf → SymbolOf → Bool
+  is_found index ss s = option_map_or (is_same_symbol s) (definition_in index ss s.name) false
+
+  -- an index has for each name its chosen definition
+  abbrev pub AreChosen : List LoadedObject → List SymbolOf → IndexMap (Bor (List ℕ)) ℕ S → Type 0
+  AreChosen objects ss index = (name : List ℕ) → definition_in index ss name ≡ chosen objects name

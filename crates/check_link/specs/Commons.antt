@@ -4,7 +4,7 @@ use Rattle.std.specs.Borrow.{Bor}
 use Rattle.std.specs.BTreeMap.{BTreeMap, get_by}
 use Rattle.std.specs.Cmp.Lexicographic.{slice_cmp}
 use Rattle.std.specs.Ordering.{nat_cmp}
-use Rattle.elf_model.specs.ChosenSymbols.{is_definition}
+use Rattle.indexmap.specs.IndexMap.{IndexMap}
 use Rattle.elf_model.specs.Commons.{Block, greatest, is_common_symbol}
 use Rattle.elf_model.specs.MapRecord.{CommonRow, common_row}
 use Rattle.elf_model.specs.Placement.{is_common_row_of}
@@ -14,7 +14,6 @@ use Rattle.check_link.specs.Chosen.{is_found}
 use Rattle.check_link.specs.Views.{block_view}
 use Rattle.check_link.specs.declared.commons.Asked.{Asked}
 use Rattle.check_link.specs.declared.things.Block as code
-use Rattle.check_link.specs.declared.things.SymbolOf as things
 
 -- a number of what a table has for a name, 0 without it
 abbrev pub asked_in : (Asked → ℕ) → BTreeMap (Bor (List ℕ)) Asked → List ℕ → ℕ
@@ -44,9 +43,9 @@ pub record HasAsked (asked : BTreeMap (Bor (List ℕ)) Asked) (ss : List SymbolO
   pub sizes : (name : List ℕ) → asked_in (λ a. a.size) asked name ≡ greatest_given given_size name ss
   pub aligns : (name : List ℕ) → asked_in (λ a. a.align) asked name ≡ greatest_given given_align name ss
 
--- a common definition, and the one that an index has for its name
-abbrev pub is_block_symbol : BTreeMap (Bor (List ℕ)) things.SymbolOf → SymbolOf → Bool
-is_block_symbol chosen s = is_common_symbol s && (is_found chosen s && is_definition s)
+-- a common symbol, and the one that an index has for its name
+abbrev pub is_block_symbol : {S : Type 0} → IndexMap (Bor (List ℕ)) ℕ S → List SymbolOf → SymbolOf → Bool
+is_block_symbol chosen ss s = is_common_symbol s && is_found chosen ss s
 
 -- the block that an index has for a name
 abbrev pub block_in : BTreeMap (Bor (List ℕ)) code.Block → List ℕ → Option Block

@@ -6,5 +6,6 @@ pub mod Outputs
 pub mod PieceParts
 pub mod PlaceIndex
 pub mod Slots
+pub mod Soundness
 pub mod ThreadStorage
 pub mod Views

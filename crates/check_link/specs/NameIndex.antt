@@ -1,10 +1,11 @@
--- The indexes of chosen definitions and of common blocks by their names.
+-- The definitions and the common blocks of objects, and the indexes of both by their names.
 use Rattle.std.specs.Prelude.{◌≡◌, ℕ, List}
 use Rattle.std.specs.Borrow.{Bor}
 use Rattle.std.specs.BTreeMap.{BTreeMap}
+use Rattle.indexmap.specs.IndexMap.{IndexMap}
+use Rattle.elf_model.specs.ChosenSymbols.{definitions}
 use Rattle.elf_model.specs.Commons.{block_named, blocks}
 use Rattle.elf_model.specs.Loading.{LoadedObject}
-use Rattle.elf_model.specs.Resolution.{all_symbols}
 use Rattle.check_link.specs.Chosen.{AreChosen}
 use Rattle.check_link.specs.Commons.{block_in}
 use Rattle.check_link.specs.Views.{block_views, symbol_views}
@@ -15,9 +16,9 @@ use Rattle.check_link.specs.declared.things.SymbolOf as things
 abbrev pub IsBlockIndex : List LoadedObject → BTreeMap (Bor (List ℕ)) code.Block → Type 0
 IsBlockIndex objects index = (name : List ℕ) → block_in index name ≡ block_named objects name
 
--- the symbols and the blocks of objects, and indexes of the chosen definitions and of the blocks
-pub record AreNames (objects : List LoadedObject) (symbols : List things.SymbolOf) (chosen : BTreeMap (Bor (List ℕ)) things.SymbolOf) (found : List code.Block) (index : BTreeMap (Bor (List ℕ)) code.Block) : Type 0 where
-  pub symbols_are : symbol_views symbols ≡ all_symbols objects
-  pub chosen_are : AreChosen objects chosen
+-- the definitions and the blocks of objects, and indexes of the chosen definitions and of the blocks
+pub record AreNames {S : Type 0} (objects : List LoadedObject) (defined : List things.SymbolOf) (chosen : IndexMap (Bor (List ℕ)) ℕ S) (found : List code.Block) (index : BTreeMap (Bor (List ℕ)) code.Block) : Type 0 where
+  pub definitions_are : symbol_views defined ≡ definitions objects
+  pub chosen_are : AreChosen objects (symbol_views defined) chosen
   pub blocks_are : block_views found ≡ blocks objects
   pub indexed : IsBlockIndex objects index

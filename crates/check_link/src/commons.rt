@@ -1,20 +1,24 @@
 //! Common symbols: whether they are sound, and the blocks that they ask for, name by name.
 ghost use Rattle.std.specs.Prelude.{◌≡◌, ◌∷◌, ◌++◌, ◌↔◌, ℕ, [], All, IfOk, IsTrue, List, None, OnOk, Some, cond, filter, find, length, max, option_map, unwrap_or};
 ghost use Rattle.std.specs.Option.{option_or};
+ghost use Rattle.elf_model.specs.ChosenSymbols.{is_definition};
 ghost use Rattle.elf_model.specs.Commons as commons;
 ghost use Rattle.elf_model.specs.Commons.{blocks, blocks_from, is_block_of};
-ghost use Rattle.elf_model.specs.Resolution.{IsSoundCommon, all_symbols};
+ghost use Rattle.elf_model.specs.ObjectFile.{symbols};
+ghost use Rattle.elf_model.specs.Resolution.{AreSoundCommons, all_symbols};
 ghost use Rattle.check_load.specs.Views.{loaded_views};
 ghost use Rattle.check_link.specs.Chosen.{AreChosen};
 ghost use Rattle.check_link.specs.Commons.{HasAsked, HasGained, asked_in, block_in, is_block_symbol};
+ghost use Rattle.check_link.specs.Soundness.{IsSoundEntry};
 ghost use Rattle.check_link.specs.Views.{block_view, block_views, symbol_view, symbol_views};
 
 use crate::chosen_definitions::is_chosen;
-use crate::definitions::{is_common, is_common_definition, is_definition};
+use crate::definitions::{is_common, is_common_definition};
 use crate::things::{Block, SymbolOf};
 use check_load::Loaded;
-use elf_model::{STB_GLOBAL, STT_TLS, Symbol};
+use elf_model::{SHN_COMMON, STB_GLOBAL, STT_TLS, Symbol};
 use elf_read::is_power_of_two;
+use indexmap::IndexMap;
 use std::alloc::{AllocError, Global};
 use std::collections::BTreeMap;
 
@@ -28,32 +32,44 @@ pub struct Asked {
     pub align: u64,
 }
 
-/// Whether a symbol is sound where it is a common one: GLOBAL, not of type TLS, and with an alignment that is a power
-/// of two up to 2^21.
-fn is_sound(symbol: &SymbolOf<'_>) -> bool
-    ensures { IsTrue result ↔ IsSoundCommon (symbol_view symbol.now) }
+/// Whether an entry is sound where it is that of a common symbol: GLOBAL, not of type TLS, and with an alignment that is
+/// a power of two up to 2^21.
+fn is_sound(entry: &Symbol) -> bool
+    ensures { IsTrue result ↔ IsSoundEntry entry.now }
 {
-    if !is_common(symbol) {
+    if entry.st_shndx != SHN_COMMON {
         return true;
     }
-    let entry = symbol.entry;
     if entry.st_info / 16 != STB_GLOBAL || entry.st_info % 16 == STT_TLS {
         return false;
     }
     is_power_of_two(entry.st_value) && entry.st_value <= GREATEST_ALIGN
 }
 
-fn all_sound(symbols: &[SymbolOf<'_>]) -> bool
-    ensures { IsTrue result ↔ All (λ s. IsSoundCommon (symbol_view s)) symbols.now }
+/// Whether all common ones among entries are sound.
+fn all_sound(entries: &[Symbol]) -> bool
+    ensures { IsTrue result ↔ All IsSoundEntry entries.now }
 {
-    symbols.iter().all(|s| is_sound(s))
+    entries.iter().all(|entry| is_sound(entry))
 }
 
-/// Whether all common ones among symbols are sound.
-pub fn are_sound_commons(symbols: &[SymbolOf<'_>]) -> bool
-    ensures { IsTrue result ↔ All IsSoundCommon (symbol_views symbols.now) }
+/// Whether all common symbols of an object are sound.
+fn are_sound_in(loaded: &Loaded<'_>) -> bool
+    ensures { IsTrue result ↔ All IsSoundEntry (symbols loaded.now.object) }
 {
-    all_sound(symbols)
+    all_sound(loaded.object.symbols())
+}
+
+/// Whether all common symbols of objects are sound.
+pub fn are_sound_commons(objects: &[Loaded<'_>]) -> bool
+    ensures { IsTrue result ↔ AreSoundCommons (loaded_views objects.now) }
+{
+    for loaded in objects {
+        if !are_sound_in(loaded) {
+            return false;
+        }
+    }
+    true
 }
 
 /// What a name's common symbols ask for, given what those before one asked for.
@@ -88,25 +104,29 @@ fn add_asked<'a>(
     Ok(())
 }
 
-/// What the common definitions of each name ask for.
+/// What the common ones among definitions ask for, name by name.
 fn asked_of<'a>(
     alloc: Global,
-    symbols: &[SymbolOf<'a>],
+    definitions: &[SymbolOf<'a>],
 ) -> Result<BTreeMap<&'a [u8], Asked>, AllocError>
-    ensures { IfOk result (λ m. HasAsked m (symbol_views symbols.now)) }
+    ensures { IfOk result (λ m. HasAsked m (symbol_views definitions.now)) }
 {
     let mut asked = BTreeMap::new(alloc);
-    for symbol in symbols {
+    for symbol in definitions {
         add_asked(&mut asked, symbol)?;
     }
     Ok(asked)
 }
 
-/// Whether a symbol is a common definition, and the one that an index has for its name.
-fn is_block_symbol<'a>(chosen: &BTreeMap<&'a [u8], SymbolOf<'a>>, symbol: &SymbolOf<'a>) -> bool
-    ensures { result ≡ is_block_symbol chosen.now (symbol_view symbol.now) }
+/// Whether a symbol is a common one, and the one that an index has for its name.
+fn is_block_symbol<'a>(
+    chosen: &IndexMap<&'a [u8], usize>,
+    definitions: &[SymbolOf<'a>],
+    symbol: &SymbolOf<'a>,
+) -> bool
+    ensures { result ≡ is_block_symbol chosen.now (symbol_views definitions.now) (symbol_view symbol.now) }
 {
-    is_common(symbol) && (is_chosen(chosen, symbol) && is_definition(symbol))
+    is_common(symbol) && is_chosen(chosen, definitions, symbol)
 }
 
 fn asked_for(asked: &BTreeMap<&[u8], Asked>, name: &[u8]) -> Asked
@@ -143,14 +163,14 @@ fn block_of<'a>(
 fn add_block<'a>(
     objects: &[Loaded<'a>],
     asked: &BTreeMap<&'a [u8], Asked>,
-    chosen: &BTreeMap<&'a [u8], SymbolOf<'a>>,
+    wanted: bool,
     symbol: &SymbolOf<'a>,
     blocks: &mut Vec<Block<'a>>,
 ) -> Result<(), AllocError>
     requires { HasAsked asked.now (all_symbols (loaded_views objects.now)) }
-    ensures { OnOk result (block_views blocks.new.items ≡ block_views blocks.old.items ++ blocks_from (loaded_views objects.now) (length blocks.old.items) (filter (is_block_symbol chosen.now) (symbol_view symbol.now ∷ []))) }
+    ensures { OnOk result (block_views blocks.new.items ≡ block_views blocks.old.items ++ blocks_from (loaded_views objects.now) (length blocks.old.items) (cond wanted (symbol_view symbol.now ∷ []) [])) }
 {
-    if !is_block_symbol(chosen, symbol) {
+    if !wanted {
         return Ok(());
     }
     let number = blocks.len() as u64;
@@ -158,37 +178,38 @@ fn add_block<'a>(
     Ok(())
 }
 
-/// The blocks of those symbols that are common definitions, and which an index has for their names.
+/// The blocks of those definitions that are common ones, and which an index has for their names.
 fn add_blocks<'a>(
     alloc: Global,
     objects: &[Loaded<'a>],
     asked: &BTreeMap<&'a [u8], Asked>,
-    chosen: &BTreeMap<&'a [u8], SymbolOf<'a>>,
-    symbols: &[SymbolOf<'a>],
+    chosen: &IndexMap<&'a [u8], usize>,
+    definitions: &[SymbolOf<'a>],
 ) -> Result<Vec<Block<'a>>, AllocError>
     requires { HasAsked asked.now (all_symbols (loaded_views objects.now)) }
-    ensures { IfOk result (λ v. block_views v.items ≡ blocks_from (loaded_views objects.now) 0 (filter (is_block_symbol chosen.now) (symbol_views symbols.now))) }
+    ensures { IfOk result (λ v. block_views v.items ≡ blocks_from (loaded_views objects.now) 0 (filter (is_block_symbol chosen.now (symbol_views definitions.now)) (symbol_views definitions.now))) }
 {
     let mut blocks = Vec::new(alloc);
-    for symbol in symbols {
-        add_block(objects, asked, chosen, symbol, &mut blocks)?;
+    for symbol in definitions {
+        let wanted = is_block_symbol(chosen, definitions, symbol);
+        add_block(objects, asked, wanted, symbol, &mut blocks)?;
     }
     Ok(blocks)
 }
 
-/// The common blocks of objects, given their symbols and an index of the chosen ones.
+/// The common blocks of objects, given their definitions and an index of the chosen ones.
 pub fn blocks_of<'a>(
     alloc: Global,
     objects: &[Loaded<'a>],
-    chosen: &BTreeMap<&'a [u8], SymbolOf<'a>>,
-    symbols: &[SymbolOf<'a>],
+    chosen: &IndexMap<&'a [u8], usize>,
+    definitions: &[SymbolOf<'a>],
 ) -> Result<Vec<Block<'a>>, AllocError>
-    requires symbols { symbol_views symbols.now ≡ all_symbols (loaded_views objects.now) }
-    requires chosen { AreChosen (loaded_views objects.now) chosen.now }
+    requires definitions { symbol_views definitions.now ≡ filter is_definition (all_symbols (loaded_views objects.now)) }
+    requires chosen { AreChosen (loaded_views objects.now) (symbol_views definitions.now) chosen.now }
     ensures { IfOk result (λ v. block_views v.items ≡ blocks (loaded_views objects.now)) }
 {
-    let asked = asked_of(alloc, symbols)?;
-    let blocks = add_blocks(alloc, objects, &asked, chosen, symbols)?;
+    let asked = asked_of(alloc, definitions)?;
+    let blocks = add_blocks(alloc, objects, &asked, chosen, definitions)?;
     Ok(blocks)
 }
 

@@ -1,5 +1,5 @@
-//! What the checker reads and lists of a link: the plan and the map, the pieces, the symbols and the common blocks of
-//! the loaded objects, what names mean, and where the map puts things.
+//! What the checker reads and lists of a link: the plan and the map, the pieces, the definitions and the common blocks
+//! of the loaded objects, what names mean, and where the map puts things.
 #![tactic(auto)]
 
 mod bounds;
@@ -25,7 +25,7 @@ mod thread_storage;
 
 pub use bounds::{Part, end_of};
 pub use common_lines::CommonLines;
-pub use definitions::{has_value, is_definition, is_in_thread_section, is_strong};
+pub use definitions::{has_value, is_in_thread_section, is_strong};
 pub use inputs::{read_map, read_plan};
 pub use link::{Link, base_of, entry_of};
 pub use linker_names::{fixed_bound, named_output, output_bound};

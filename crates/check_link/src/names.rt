@@ -1,29 +1,29 @@
-//! The symbols of loaded objects, their chosen definitions and their common blocks, found by their names.
-ghost use Rattle.std.specs.Prelude.{◌≡◌, ◌↔◌, IfOk, IsTrue, option_map};
-ghost use Rattle.elf_model.specs.ChosenSymbols.{is_chosen};
+//! The definitions and the common blocks of loaded objects, found by their names.
+ghost use Rattle.std.specs.Prelude.{◌≡◌, ◌↔◌, IfOk, IsTrue, filter, option_map};
+ghost use Rattle.elf_model.specs.ChosenSymbols.{is_chosen, is_definition};
 ghost use Rattle.elf_model.specs.Commons.{block_named, blocks};
 ghost use Rattle.elf_model.specs.Meaning.{meant};
 ghost use Rattle.elf_model.specs.Resolution.{AreSoundCommons, all_symbols, chosen};
 ghost use Rattle.check_load.specs.Views.{loaded_views};
 ghost use Rattle.check_link.specs.Views.{block_view, block_views, meaning_view, symbol_view, symbol_views};
 
-use crate::chosen_definitions::{index_names, is_chosen};
+use crate::chosen_definitions::{definition_of, index_names, is_chosen};
 use crate::commons::{are_sound_commons, blocks_of, index_blocks};
-use crate::definitions::is_common;
-use crate::symbols::symbols_of;
+use crate::definitions::{definitions_of, is_common};
 use crate::things::{Block, Meaning, SymbolOf};
 use check_load::Loaded;
+use indexmap::IndexMap;
 use std::alloc::{AllocError, Global};
 use std::collections::BTreeMap;
 use std::marker::Model;
 
-/// The loaded objects with their symbols and their common blocks in load order, and indexes of the chosen definitions
-/// and of the blocks.
+/// The loaded objects with their definitions and their common blocks in load order, and by their names the positions of
+/// the chosen definitions and the blocks.
 #[derive(Drop)]
 pub struct Names<'l, 'a> {
     objects: &'l [Loaded<'a>],
-    symbols: Vec<SymbolOf<'a>>,
-    definitions: BTreeMap<&'a [u8], SymbolOf<'a>>,
+    definitions: Vec<SymbolOf<'a>>,
+    chosen: IndexMap<&'a [u8], usize>,
     blocks: Vec<Block<'a>>,
     blocks_by_name: BTreeMap<&'a [u8], Block<'a>>,
 }
@@ -38,7 +38,7 @@ impl<'l, 'a> Model for Names<'l, 'a> {
 
     ghost view = { λ n. loaded_views n.objects.now };
 
-    ghost invariant = { λ n. AreNames (loaded_views n.objects.now) n.symbols.items n.definitions n.blocks.items n.blocks_by_name };
+    ghost invariant = { λ n. AreNames (loaded_views n.objects.now) n.definitions.items n.chosen n.blocks.items n.blocks_by_name };
 }
 
 impl<'l, 'a> Names<'l, 'a> {
@@ -46,14 +46,14 @@ impl<'l, 'a> Names<'l, 'a> {
     pub fn new(alloc: Global, objects: &'l [Loaded<'a>]) -> Result<Names<'l, 'a>, AllocError>
         ensures { IfOk result (λ n. n ≡ loaded_views objects.entry.now) }
     {
-        let symbols = symbols_of(alloc, objects)?;
-        let definitions = index_names(alloc, objects, &symbols)?;
-        let blocks = blocks_of(alloc, objects, &definitions, &symbols)?;
+        let definitions = definitions_of(alloc, objects)?;
+        let chosen = index_names(alloc, objects, &definitions)?;
+        let blocks = blocks_of(alloc, objects, &chosen, &definitions)?;
         let blocks_by_name = index_blocks(alloc, &blocks)?;
         Ok(Names {
             objects,
-            symbols,
             definitions,
+            chosen,
             blocks,
             blocks_by_name,
         })
@@ -66,11 +66,11 @@ impl<'l, 'a> Names<'l, 'a> {
         self.objects
     }
 
-    /// The symbols of the objects, in load order.
-    pub fn symbols(&self) -> &[SymbolOf<'a>]
-        ensures { symbol_views result.now ≡ all_symbols self.entry.now }
+    /// The definitions of the objects, strong, common and weak, in load order.
+    pub fn definitions(&self) -> &[SymbolOf<'a>]
+        ensures { symbol_views result.now ≡ filter is_definition (all_symbols self.entry.now) }
     {
-        &self.symbols
+        &self.definitions
     }
 
     /// The common blocks, in load order.
@@ -84,21 +84,21 @@ impl<'l, 'a> Names<'l, 'a> {
     pub fn are_sound_commons(&self) -> bool
         ensures { IsTrue result ↔ AreSoundCommons self.now }
     {
-        are_sound_commons(self.symbols())
+        are_sound_commons(self.objects)
     }
 
     /// The chosen definition of a name; None where it has none.
     pub fn chosen(&self, name: &[u8]) -> Option<SymbolOf<'a>>
         ensures { option_map symbol_view result ≡ chosen self.now name.now }
     {
-        self.definitions.get(name).copied()
+        definition_of(&self.chosen, &self.definitions, name)
     }
 
     /// Whether a symbol is the chosen definition of its name.
     pub fn is_chosen(&self, symbol: &SymbolOf<'a>) -> bool
         ensures { result ≡ is_chosen self.now (symbol_view symbol.now) }
     {
-        is_chosen(&self.definitions, symbol)
+        is_chosen(&self.chosen, &self.definitions, symbol)
     }
 
     /// The common block of a name; None where it has none.

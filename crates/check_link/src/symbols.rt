@@ -1,50 +1,15 @@
-//! The symbols of the loaded objects, and whether they are sound: a part of the thirteenth clause.
-ghost use Rattle.std.specs.Prelude.{◌≡◌, ◌≤◌, ◌/◌, ◌↔◌, ◌++◌, [], All, IfOk, IsTrue, OnOk, true, unwrap_or};
+//! Where the symbols of the loaded objects stand, and whether they are sound: a part of the thirteenth clause.
+ghost use Rattle.std.specs.Prelude.{◌≡◌, ◌≤◌, ◌/◌, ◌↔◌, All, IfSome, IsTrue, true};
 ghost use Rattle.std.specs.List.{slice_get};
 ghost use Rattle.elf_model.specs.ObjectFile.{symbols};
-ghost use Rattle.elf_model.specs.Resolution.{AreSoundSymbols, IsSoundSymbol, StandsWell, all_symbols, binding, section_of, sections_of_object, symbols_from};
+ghost use Rattle.elf_model.specs.Resolution.{AreSoundSymbols, IsSoundSymbol, StandsWell, binding, section_of, sections_of_object, symbol_of, symbols_from};
 ghost use Rattle.check_load.specs.Views.{loaded_view, loaded_views};
-ghost use Rattle.check_link.specs.Views.{symbol_view, symbol_views};
+ghost use Rattle.check_link.specs.Soundness.{section_in};
+ghost use Rattle.check_link.specs.Views.{symbol_view};
 
 use crate::things::SymbolOf;
 use check_load::Loaded;
 use elf_model::{SHN_UNDEF, SectionHeader, Symbol};
-use std::alloc::{AllocError, Global};
-
-/// The symbols of all objects, in load order.
-pub fn symbols_of<'a>(
-    alloc: Global,
-    objects: &[Loaded<'a>],
-) -> Result<Vec<SymbolOf<'a>>, AllocError>
-    ensures { IfOk result (λ v. symbol_views v.items ≡ all_symbols (loaded_views objects.now)) }
-{
-    let mut found = Vec::new(alloc);
-    for (k, loaded) in objects.iter().enumerate() {
-        add_symbols(&mut found, k as u64, loaded)?;
-    }
-    Ok(found)
-}
-
-/// Adds the symbols of the object that has a number.
-fn add_symbols<'a>(
-    found: &mut Vec<SymbolOf<'a>>,
-    number: u64,
-    loaded: &Loaded<'a>,
-) -> Result<(), AllocError>
-    ensures { OnOk result (symbol_views found.new.items ≡ symbol_views found.old.items ++ symbols_from number (loaded_view loaded.now) 0 (symbols loaded.now.object)) }
-{
-    let entries = loaded.object.symbols();
-    for (j, entry) in entries.iter().enumerate() {
-        found.push(SymbolOf {
-            object: number,
-            number: j as u64,
-            name: loaded.object.symbol_name(j),
-            entry: *entry,
-            dropped: loaded.is_dropped(entry.st_shndx as usize),
-        })?;
-    }
-    Ok(())
-}
 
 /// The sections of the object that has a number; none where there is no such object.
 fn sections_at<'b>(objects: &'b [Loaded<'_>], number: usize) -> &'b [SectionHeader]
@@ -56,15 +21,23 @@ fn sections_at<'b>(objects: &'b [Loaded<'_>], number: usize) -> &'b [SectionHead
     }
 }
 
+/// The section in which an entry of the object that has a number is defined; None where it is undefined, absolute or
+/// common.
+fn section_in(objects: &[Loaded<'_>], number: u64, entry: &Symbol) -> Option<SectionHeader>
+    ensures { result ≡ section_in (loaded_views objects.now) number entry.now }
+{
+    if entry.st_shndx == SHN_UNDEF {
+        return None;
+    }
+    let sections = sections_at(objects, number as usize);
+    sections.get(entry.st_shndx as usize).copied()
+}
+
 /// The section in which a symbol is defined; None where it is undefined, absolute or common.
 pub fn section_of(objects: &[Loaded<'_>], symbol: &SymbolOf<'_>) -> Option<SectionHeader>
     ensures { result ≡ section_of (loaded_views objects.now) (symbol_view symbol.now) }
 {
-    if symbol.entry.st_shndx == SHN_UNDEF {
-        return None;
-    }
-    let sections = sections_at(objects, symbol.object as usize);
-    sections.get(symbol.entry.st_shndx as usize).copied()
+    section_in(objects, symbol.object, &symbol.entry)
 }
 
 fn is_visible(entry: &Symbol) -> bool
@@ -84,33 +57,54 @@ fn stands_well(entry: &Symbol, section: &SectionHeader) -> bool
     !is_visible(entry)
 }
 
-/// Whether a symbol is sound: a GLOBAL or WEAK one has a name, and each stands well in its section where it
-/// has one that isn't dropped.
-fn is_sound(objects: &[Loaded<'_>], symbol: &SymbolOf<'_>) -> bool
-    ensures { IsTrue result ↔ IsSoundSymbol (loaded_views objects.now) (symbol_view symbol.now) }
+/// Whether an entry of the object that has a number stands well in its section where it has one.
+fn is_placed_well(objects: &[Loaded<'_>], number: u64, entry: &Symbol) -> bool
+    ensures { IsTrue result ↔ IfSome (section_in (loaded_views objects.now) number entry.now) (StandsWell entry.now) }
 {
-    if symbol.name.is_empty() && is_visible(&symbol.entry) {
-        return false;
-    }
-    if symbol.dropped {
-        return true;
-    }
-    match section_of(objects, symbol) {
-        Some(section) => stands_well(&symbol.entry, &section),
+    match section_in(objects, number, entry) {
+        Some(section) => stands_well(entry, &section),
         None => true,
     }
 }
 
-/// Whether all symbols are sound, given those of the objects.
-pub fn are_sound(objects: &[Loaded<'_>], symbols: &[SymbolOf<'_>]) -> bool
-    requires { symbol_views symbols.now ≡ all_symbols (loaded_views objects.now) }
-    ensures { IsTrue result ↔ AreSoundSymbols (loaded_views objects.now) }
+/// Whether symbol `j` of the object that has a number is sound: a GLOBAL or WEAK one has a name, and each
+/// stands well in its section where it has one that isn't dropped.
+fn is_sound(
+    objects: &[Loaded<'_>],
+    number: u64,
+    loaded: &Loaded<'_>,
+    j: usize,
+    entry: &Symbol,
+) -> bool
+    ensures { IsTrue result ↔ IsSoundSymbol (loaded_views objects.now) (symbol_of number (loaded_view loaded.now) j entry.now) }
 {
-    all_sound(objects, symbols)
+    if is_visible(entry) && loaded.object.symbol_name(j).is_empty() {
+        return false;
+    }
+    loaded.is_dropped(entry.st_shndx as usize) || is_placed_well(objects, number, entry)
 }
 
-fn all_sound(objects: &[Loaded<'_>], symbols: &[SymbolOf<'_>]) -> bool
-    ensures { IsTrue result ↔ All (λ s. IsSoundSymbol (loaded_views objects.now) (symbol_view s)) symbols.now }
+/// Whether the symbols of the object that has a number are sound.
+fn are_sound_in(objects: &[Loaded<'_>], number: u64, loaded: &Loaded<'_>) -> bool
+    ensures { IsTrue result ↔ All (IsSoundSymbol (loaded_views objects.now)) (symbols_from number (loaded_view loaded.now) 0 (symbols loaded.now.object)) }
 {
-    symbols.iter().all(|s| is_sound(objects, s))
+    let entries = loaded.object.symbols();
+    for (j, entry) in entries.iter().enumerate() {
+        if !is_sound(objects, number, loaded, j, entry) {
+            return false;
+        }
+    }
+    true
+}
+
+/// Whether all symbols of objects are sound.
+pub fn are_sound(objects: &[Loaded<'_>]) -> bool
+    ensures { IsTrue result ↔ AreSoundSymbols (loaded_views objects.now) }
+{
+    for (k, loaded) in objects.iter().enumerate() {
+        if !are_sound_in(objects, k as u64, loaded) {
+            return false;
+        }
+    }
+    true
 }

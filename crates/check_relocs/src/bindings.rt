@@ -1,7 +1,7 @@
 //! What names mean: the names of objects, the linker's own, and the addresses of the placed pieces.
-ghost use Rattle.std.specs.Prelude.{◌≡◌, ◌≢◌, ◌↔◌, ◌%◌, ◌^◌, IsSomeAnd, IsTrue, None, false, option_map, unwrap_or};
+ghost use Rattle.std.specs.Prelude.{◌≡◌, ◌≢◌, ◌↔◌, ◌%◌, ◌^◌, IsSomeAnd, IsTrue, None, false, filter, option_map, unwrap_or};
 ghost use Rattle.std.specs.Option.{option_map_or};
-ghost use Rattle.elf_model.specs.ChosenSymbols.{is_chosen};
+ghost use Rattle.elf_model.specs.ChosenSymbols.{is_chosen, is_definition};
 ghost use Rattle.elf_model.specs.LinkerNames.{bound_of, named_output};
 ghost use Rattle.elf_model.specs.LinkerValues.{bound_value};
 ghost use Rattle.elf_model.specs.Meaning as meanings;
@@ -163,11 +163,11 @@ impl<'l, 'p, 'a> Bindings<'l, 'p, 'a> {
         self.names.objects()
     }
 
-    /// The symbols of the objects, in load order.
-    pub fn symbols(&self) -> &[SymbolOf<'a>]
-        ensures { symbol_views result.now ≡ all_symbols self.entry.now.objects }
+    /// The definitions of the objects, strong, common and weak, in load order.
+    pub fn definitions(&self) -> &[SymbolOf<'a>]
+        ensures { symbol_views result.now ≡ filter is_definition (all_symbols self.entry.now.objects) }
     {
-        self.names.symbols()
+        self.names.definitions()
     }
 
     /// The chosen definition of a name; None where it has none.
@@ -313,7 +313,7 @@ impl<'l, 'p, 'a> Bindings<'l, 'p, 'a> {
     pub fn are_sound(&self) -> bool
         ensures { IsTrue result ↔ AreSoundSymbols self.now.objects }
     {
-        are_sound(self.names.objects(), self.symbols())
+        are_sound(self.names.objects())
     }
 
     /// What a symbol means to the relocations that name it.

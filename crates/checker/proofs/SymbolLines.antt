@@ -1,15 +1,15 @@
 -- The symbol lines of a map against the chosen definitions and the linker's names that have one.
 use Rattle.std.proofs.Common.{◌≡◌, ℕ, ◌+◌, Bool, true, false, not, cond, ◌&&◌, ◌||◌, List, [], ◌∷◌, ◌++◌, length, length-append, Option, Some, None, refl, sym, ◌∙◌, ap, subst, arith}
-use Rattle.std.specs.Prelude.{◌↔◌, All, is_some, option_map}
+use Rattle.std.specs.Prelude.{◌↔◌, All, filter, is_some, option_map}
 use Rattle.std.specs.Option.{option_and_then, option_or}
-use Rattle.std.proofs.lemmas.Bool.{false≢true}
+use Rattle.std.proofs.lemmas.Bool.{false≢true, or_left}
 use Rattle.std.proofs.lemmas.List.Elements.{All-contains, All-map}
 use Rattle.std.proofs.lemmas.List.Sorted.{IsPermutation-refl}
 use Rattle.std.proofs.lemmas.Option.{none-some, same_Some}
 use Rattle.elf_model.proofs.ChosenSymbols.{All-kept, all_chosen, unique_from_chosen}
-use Rattle.elf_model.proofs.Listed.{All-from_contains, All-unmap, Contains-from_filter}
+use Rattle.elf_model.proofs.Listed.{All-from_contains, All-unmap, Contains-filter, Contains-from_filter}
 use Rattle.elf_model.proofs.Listing.{chosen_means, joined_listed}
-use Rattle.elf_model.specs.ChosenSymbols.{chosen_symbols, is_chosen, is_definition}
+use Rattle.elf_model.specs.ChosenSymbols.{chosen_symbols, definitions, is_chosen, is_definition}
 use Rattle.elf_model.specs.LinkerNames.{bound_of}
 use Rattle.elf_model.specs.LinkerValues.{bound_value}
 use Rattle.elf_model.specs.Listing as Listing
@@ -26,7 +26,7 @@ use Rattle.elf_model.specs.declared.link_map.Definition.TheVariants as definitio
 use Rattle.check_link.specs.Views.{symbol_view, symbol_views}
 use Rattle.check_link.specs.declared.things.SymbolOf as code
 use Rattle.checker.proofs.CountedLines.{counted_lines}
-use Rattle.checker.specs.Listed.{IsChosenIfStrong, IsLine, chosen_among}
+use Rattle.checker.specs.Listed.{IsChosenIfStrong, IsLine}
 
 -- as many as the lines of chosen symbols and of the linker's names together, and each right
 pub listed :
@@ -69,36 +69,39 @@ means_linker objects n is = by (chosen objects n) refl is
 
 -- no name has two strong definitions where each strong one is chosen
 pub unique_told :
-    (objects : List LoadedObject) (all : List code.SymbolOf) → symbol_views all ≡ all_symbols objects →
-    All (λ s. IsChosenIfStrong objects (symbol_view s)) all ↔ AreUnique objects
-unique_told objects all are = (
+    (objects : List LoadedObject) (defined : List code.SymbolOf) → symbol_views defined ≡ definitions objects →
+    All (λ s. IsChosenIfStrong objects (symbol_view s)) defined ↔ AreUnique objects
+unique_told objects defined are = (
   λ each. unique_from_chosen objects
       (All-from_contains (λ s. is_chosen objects s ≡ true) (strong_definitions objects) (λ s c.
       let there = Contains-from_filter is_strong (all_symbols objects) s c in
-      All-contains (IsChosenIfStrong objects) (all_symbols objects) s
-      (subst (All (IsChosenIfStrong objects)) are (All-map (IsChosenIfStrong objects) symbol_view all each)) there.0 there.1)),
-  λ unique. All-unmap (IsChosenIfStrong objects) symbol_view all
+      All-contains (IsChosenIfStrong objects) (definitions objects) s
+      (subst (All (IsChosenIfStrong objects)) are (All-map (IsChosenIfStrong objects) symbol_view defined each))
+      (Contains-filter is_definition (all_symbols objects) s there.0 (or_left (is_strong s) _ there.1)) there.1)),
+  λ unique.
+      let all = All-kept (λ (x : SymbolOf). is_chosen objects x ≡ true) is_strong (all_symbols objects) (all_chosen objects unique) in
+      All-unmap (IsChosenIfStrong objects) symbol_view defined
       (subst (All (IsChosenIfStrong objects)) (sym are)
-      (All-kept (λ (x : SymbolOf). is_chosen objects x ≡ true) is_strong (all_symbols objects) (all_chosen objects unique))),
+      (All-from_contains (IsChosenIfStrong objects) (definitions objects) (λ s c.
+      All-contains (IsChosenIfStrong objects) (all_symbols objects) s all (Contains-from_filter is_definition (all_symbols objects) s c).0))),
 )
 
--- one more symbol's lines
+-- one more definition's lines
 pub more_lines :
     (objects : List LoadedObject) (s : SymbolOf) (ss : List SymbolOf) →
-    length (meanings_of objects (chosen_among objects (s ∷ ss)))
-    ≡ length (meanings_of objects (chosen_among objects (s ∷ []))) + length (meanings_of objects (chosen_among objects ss))
-more_lines objects s ss = by (is_definition s) (is_chosen objects s) refl refl
+    length (meanings_of objects (filter (is_chosen objects) (s ∷ ss)))
+    ≡ length (meanings_of objects (filter (is_chosen objects) (s ∷ []))) + length (meanings_of objects (filter (is_chosen objects) ss))
+more_lines objects s ss = by (is_chosen objects s) refl
   where
     by :
-        (b c : Bool) → is_definition s ≡ b → is_chosen objects s ≡ c →
-        length (meanings_of objects (chosen_among objects (s ∷ ss)))
-        ≡ length (meanings_of objects (chosen_among objects (s ∷ []))) + length (meanings_of objects (chosen_among objects ss))
-    by true true e f =
-        rw (e, f)
-        (let a = length-append (meant_list objects s) (meanings_of objects (chosen_among objects ss)) in
+        (b : Bool) → is_chosen objects s ≡ b →
+        length (meanings_of objects (filter (is_chosen objects) (s ∷ ss)))
+        ≡ length (meanings_of objects (filter (is_chosen objects) (s ∷ []))) + length (meanings_of objects (filter (is_chosen objects) ss))
+    by true e =
+        rw e
+        (let a = length-append (meant_list objects s) (meanings_of objects (filter (is_chosen objects) ss)) in
         let b = length-append (meant_list objects s) [] in omega (arith, a, b))
-    by true false e f = rw (e, f) (omega arith)
-    by false c e f = rw e (omega arith)
+    by false e = rw e (omega arith)
 
 -- a row that names the linker, of one of its names
 pub linkers_row :

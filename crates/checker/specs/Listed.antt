@@ -1,15 +1,12 @@
--- The chosen definitions among symbols, and the lines of what names mean.
-use Rattle.std.specs.Prelude.{◌≡◌, true, List, Some, filter, option_map}
-use Rattle.elf_model.specs.ChosenSymbols.{is_chosen, is_definition}
+-- The chosen definitions among strong ones, and the lines of what names mean.
+use Rattle.std.specs.Prelude.{◌≡◌, true, List, Some, option_map}
+use Rattle.elf_model.specs.ChosenSymbols.{is_chosen}
 use Rattle.elf_model.specs.Listing.{listed}
 use Rattle.elf_model.specs.Loading.{LoadedObject}
 use Rattle.elf_model.specs.MapRecord.{SymbolRow}
 use Rattle.elf_model.specs.Placement.{Where}
 use Rattle.elf_model.specs.Resolution.{SymbolOf, is_strong}
 use Rattle.elf_model.specs.RightLink.{symbol_row_of}
-
-abbrev pub chosen_among : List LoadedObject → List SymbolOf → List SymbolOf
-chosen_among objects ss = filter (is_chosen objects) (filter is_definition ss)
 
 -- a symbol is no strong definition, or the chosen one of its name
 abbrev pub IsChosenIfStrong : List LoadedObject → SymbolOf → Type 0

@@ -1,6 +1,7 @@
 //! C13: whether the symbols are sound, no name has two strong definitions, and the symbol lines are those that the names
 //! ask for.
-ghost use Rattle.std.specs.Prelude.{◌≡◌, ◌+◌, ◌↔◌, ◌≤◌, ℕ, List, All, IfOk, IfSome, IsSome, IsTrue, [], ◌∷◌, length, map, option_map, Some};
+ghost use Rattle.std.specs.Prelude.{◌≡◌, ◌+◌, ◌↔◌, ◌≤◌, ℕ, List, All, IfOk, IfSome, IsSome, IsTrue, [], ◌∷◌, filter, length, map, option_map, Some};
+ghost use Rattle.elf_model.specs.ChosenSymbols.{is_chosen};
 ghost use Rattle.elf_model.specs.Listing.{linker_line};
 ghost use Rattle.elf_model.specs.MapRecord.{symbol_row};
 ghost use Rattle.elf_model.specs.Meaning.{Symbol, meaning_name, meanings_of, meant_list};
@@ -8,13 +9,13 @@ ghost use Rattle.elf_model.specs.declared.link_map.Definition.TheVariants as def
 ghost use Rattle.elf_model.specs.MapText.{Ascends, SymbolBefore};
 ghost use Rattle.elf_model.specs.Resolution.{AreSoundSymbols, AreUnique};
 ghost use Rattle.elf_model.specs.RightLink.{HasLine, Holds, definition_row, symbol_row_of};
-ghost use Rattle.checker.specs.Listed.{IsChosenIfStrong, IsLine, chosen_among};
+ghost use Rattle.checker.specs.Listed.{IsChosenIfStrong, IsLine};
 ghost use Rattle.check_link.specs.Views.{meaning_view, symbol_view, symbol_views};
 ghost use Rattle.check_relocs.specs.LinkerUses.{AreUsed};
 ghost use Rattle.elf_model.specs.declared.verdict.Clause.TheVariants as clause;
 
 use crate::bound_link::BoundLink;
-use check_link::{Meaning, SymbolOf, is_definition, is_strong};
+use check_link::{Meaning, SymbolOf, is_strong};
 use check_relocs::{Bindings, linker_lines, used_names};
 use elf_model::{Definition, STB_WEAK, SymbolLine};
 use std::alloc::{AllocError, Global};
@@ -40,28 +41,25 @@ fn meaning_count<'a>(bindings: &Bindings<'_, '_, 'a>, symbol: &SymbolOf<'a>) -> 
     }
 }
 
-/// How many lines a symbol has: one where it is a chosen definition. None where it is a strong one that isn't chosen.
+/// How many lines a definition has: one where it is chosen. None where it is a strong one that isn't chosen.
 fn line_count<'a>(bindings: &Bindings<'_, '_, 'a>, symbol: &SymbolOf<'a>) -> Option<usize>
     ensures few { IfSome result (λ n. n ≤ 1) }
-    ensures count { IfSome result (λ n. n ≡ length (meanings_of bindings.now.objects (chosen_among bindings.now.objects (symbol_view symbol.now ∷ [])))) }
+    ensures count { IfSome result (λ n. n ≡ length (meanings_of bindings.now.objects (filter (is_chosen bindings.now.objects) (symbol_view symbol.now ∷ [])))) }
     ensures lawful { IsSome result ↔ IsChosenIfStrong bindings.now.objects (symbol_view symbol.now) }
 {
-    if !is_definition(symbol) {
-        return Some(0);
-    }
     if bindings.is_chosen(symbol) {
         return Some(meaning_count(bindings, symbol));
     }
     if is_strong(symbol) { None } else { Some(0) }
 }
 
-/// How many lines all symbols have together; None where a strong one isn't chosen.
-fn chosen_count<'a>(bindings: &Bindings<'_, '_, 'a>, symbols: &[SymbolOf<'a>]) -> Option<usize>
-    ensures count { IfSome result (λ n. n ≡ length (meanings_of bindings.now.objects (chosen_among bindings.now.objects (symbol_views symbols.now)))) }
-    ensures unique { IsSome result ↔ All (λ s. IsChosenIfStrong bindings.now.objects (symbol_view s)) symbols.now }
+/// How many lines all definitions have together; None where a strong one isn't chosen.
+fn chosen_count<'a>(bindings: &Bindings<'_, '_, 'a>, definitions: &[SymbolOf<'a>]) -> Option<usize>
+    ensures count { IfSome result (λ n. n ≡ length (meanings_of bindings.now.objects (filter (is_chosen bindings.now.objects) (symbol_views definitions.now)))) }
+    ensures unique { IsSome result ↔ All (λ s. IsChosenIfStrong bindings.now.objects (symbol_view s)) definitions.now }
 {
     let mut count = 0;
-    for symbol in symbols {
+    for symbol in definitions {
         let Some(more) = line_count(bindings, symbol) else {
             return None;
         };
@@ -210,7 +208,7 @@ fn are_symbols_listed(
     if !bindings.are_sound() {
         return Ok(false);
     }
-    let Some(count) = chosen_count(bindings, bindings.symbols()) else {
+    let Some(count) = chosen_count(bindings, bindings.definitions()) else {
         return Ok(false);
     };
     let names = used_names(alloc, bindings)?;

@@ -1,34 +1,50 @@
-use Rattle.std.proofs.Common.{◌≡◌, ◌∙◌, ap, refl, rules, sym, List, ℕ, Some}
-use Rattle.std.specs.Prelude.{◌&&◌, Bool, None, Option, filter, find}
-use Rattle.std.specs.Option.{option_or}
-use Rattle.elf_model.proofs.Found.{find-filter}
-use Rattle.elf_model.specs.Resolution.{SymbolOf, has_name, is_common_definition, is_strong, is_weak_definition}
-use Rattle.check_link.specs.Chosen.{definition_in}
+use Rattle.std.proofs.Common.{◌≡◌, ◌∙◌, ap, refl, rules, List, ℕ, sym, Some}
+use Rattle.std.specs.Prelude.{◌&&◌, Bool, None, Option, filter, find, slice_get}
+use Rattle.std.specs.Option.{option_and_then, option_or}
+use Rattle.elf_model.proofs.Found.{find-filter, or_none}
+use Rattle.elf_model.specs.ChosenSymbols.{is_definition}
+use Rattle.elf_model.specs.Resolution.{SymbolOf, all_symbols, has_name, is_common_definition, is_strong, is_weak_definition}
+use Rattle.check_load.specs.Views.{loaded_views}
+use Rattle.check_link.specs.Chosen.{first_from, position_in}
 use Rattle.check_link.specs.Views.{symbol_views}
+use Rattle.check_link.proofs.Defined.{common_defined, strong_defined, weak_defined}
+use Rattle.check_link.proofs.Positions.{first_found}
 use Rattle.check_link.proofs.chosen_definitions.index_names.Goals as goal
 
--- the first of some kind of a name
-abbrev first : (SymbolOf → Bool) → List ℕ → List SymbolOf → Option SymbolOf
-first kind name ss = find (λ s. kind s && has_name name s) ss
+-- the first of some kind of a name is that among all symbols
+first :
+    (kind : SymbolOf → Bool) (name : List ℕ) (ss all : List SymbolOf) → ss ≡ filter is_definition all →
+    filter kind (filter is_definition all) ≡ filter kind all → find (λ s. kind s && has_name name s) ss ≡ find (has_name name) (filter kind all)
+first kind name ss all is same = sym (find-filter kind (has_name name) ss) ∙ ap (λ (ts : List SymbolOf). find (has_name name) (filter kind ts)) is ∙ ap (find (has_name name)) same
 
-first_or : (a b c : Option SymbolOf) → option_or (option_or a b) c ≡ option_or a (option_or b c)
-first_or None b c = refl
-first_or (Some s) b c = refl
+-- the positions that three passes leave
+passes : (o a b c r s t : Option ℕ) → o ≡ None → r ≡ option_or o a → s ≡ option_or r b → t ≡ option_or s c → t ≡ option_or a (option_or b (option_or c None))
+passes o a b c r s t none first_is second_is third_is =
+    third_is
+    ∙ ap (λ (x : Option ℕ). option_or x c) (second_is ∙ ap (λ (x : Option ℕ). option_or x b) (first_is ∙ ap (λ (x : Option ℕ). option_or x a) none))
+    ∙ turned a b ∙ ap (λ (x : Option ℕ). option_or a (option_or b x)) (sym (or_none c))
+  where
+    turned : (x y : Option ℕ) → option_or (option_or x y) c ≡ option_or x (option_or y c)
+    turned None y = refl
+    turned (Some n) y = refl
 
 pub returns : goal.returns
 returns c = λ name.
-    let all = symbol_views c.args.symbols.now in
-    let none : definition_in c.new-names.result name ≡ None = search rules in
-    let strong : definition_in c.add_strong.new.names name ≡ find (has_name name) (filter is_strong all) =
-    c.in_ok-add_strong.ensures name
-    ∙ ap (λ (o : Option SymbolOf). option_or o (first is_strong name all)) none
-    ∙ sym (find-filter is_strong (has_name name) all) in
-    let weak = sym (find-filter is_weak_definition (has_name name) all) in
-    let common = sym (find-filter is_common_definition (has_name name) all) in
-    c.in_ok-add_weak.ensures name
-    ∙ ap (λ (o : Option SymbolOf). option_or o (first is_weak_definition name all)) (c.in_ok-add_common.ensures name)
-    ∙ ap (λ (o : Option SymbolOf). option_or (option_or o (first is_common_definition name all)) (first is_weak_definition name all)) strong
-    ∙ ap (λ (o : Option SymbolOf). option_or (option_or (find (has_name name) (filter is_strong all)) o) (first is_weak_definition name all)) common
-    ∙ ap (λ (o : Option SymbolOf). option_or (option_or (find (has_name name) (filter is_strong all)) (find (has_name name) (filter is_common_definition all))) o) weak
-    ∙ first_or (find (has_name name) (filter is_strong all)) (find (has_name name) (filter is_common_definition all)) (find (has_name name) (filter is_weak_definition all))
-    ∙ ap (λ (xs : List SymbolOf). option_or (find (has_name name) (filter is_strong xs)) (option_or (find (has_name name) (filter is_common_definition xs)) (find (has_name name) (filter is_weak_definition xs)))) c.requires
+    let ss = symbol_views c.args.definitions.now in
+    let all = all_symbols (loaded_views c.args.objects.now) in
+    let strong = λ (s : SymbolOf). is_strong s && has_name name s in
+    let common = λ (s : SymbolOf). is_common_definition s && has_name name s in
+    let weak = λ (s : SymbolOf). is_weak_definition s && has_name name s in
+    let look = option_and_then (slice_get ss) in
+    let none : position_in c.in_ok-index.index name ≡ None = search rules in
+    let positions = passes _ (first_from strong 0 ss) (first_from common 0 ss) (first_from weak 0 ss) _ _ _ none
+    (c.in_ok-add_strong.ensures name) (c.in_ok-add_common.ensures name) (c.in_ok-add_weak.ensures name) in
+    ap look positions
+    ∙ first_found strong ss (option_or (first_from common 0 ss) (option_or (first_from weak 0 ss) None))
+    ∙ ap (option_or (find strong ss)) (first_found common ss (option_or (first_from weak 0 ss) None))
+    ∙ ap (λ (o : Option SymbolOf). option_or (find strong ss) (option_or (find common ss) o)) (first_found weak ss None ∙ or_none (find weak ss))
+    ∙ ap (λ (o : Option SymbolOf). option_or o (option_or (find common ss) (find weak ss))) (first is_strong name ss all c.requires (strong_defined all))
+    ∙ ap (λ (o : Option SymbolOf). option_or (find (has_name name) (filter is_strong all)) (option_or o (find weak ss)))
+    (first is_common_definition name ss all c.requires (common_defined all))
+    ∙ ap (λ (o : Option SymbolOf). option_or (find (has_name name) (filter is_strong all)) (option_or (find (has_name name) (filter is_common_definition all)) o))
+    (first is_weak_definition name ss all c.requires (weak_defined all))

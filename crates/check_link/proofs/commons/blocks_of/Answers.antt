@@ -1,10 +1,15 @@
 use Rattle.std.proofs.Common.{◌∙◌}
+use Rattle.elf_model.specs.Resolution.{all_symbols}
 use Rattle.check_load.specs.Views.{loaded_views}
 use Rattle.check_link.specs.Views.{symbol_views}
-use Rattle.check_link.proofs.Asked.{blocks_chosen}
+use Rattle.check_link.proofs.Asked.{asked_of_all, blocks_chosen}
 use Rattle.check_link.proofs.commons.blocks_of.Goals as goal
+
+pub add_blocks-requires : goal.add_blocks-requires
+add_blocks-requires c =
+    asked_of_all c.in_ok-asked.asked (symbol_views c.args.definitions.now) (all_symbols (loaded_views c.args.objects.now)) c.requires.definitions c.in_ok-asked.ensures
 
 pub returns : goal.returns
 returns c =
     c.in_ok-blocks.ensures
-    ∙ blocks_chosen (loaded_views c.args.objects.now) c.args.chosen.now (symbol_views c.args.symbols.now) c.requires.chosen c.requires.symbols
+    ∙ blocks_chosen (loaded_views c.args.objects.now) c.args.chosen.now (symbol_views c.args.definitions.now) c.requires.chosen c.requires.definitions

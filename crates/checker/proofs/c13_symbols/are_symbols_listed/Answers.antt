@@ -3,12 +3,14 @@ use Rattle.std.proofs.lemmas.Bool.{false≢true}
 use Rattle.std.proofs.lemmas.List.{length-map}
 use Rattle.std.proofs.lemmas.List.Elements.{All-map}
 use Rattle.elf_model.proofs.Listed.{All-unmap}
+use Rattle.std.specs.Prelude.{filter}
+use Rattle.elf_model.specs.ChosenSymbols.{is_chosen}
 use Rattle.elf_model.specs.MapRecord.{symbol_row}
 use Rattle.elf_model.specs.Meaning.{meanings_of}
 use Rattle.elf_model.specs.Resolution.{SymbolOf}
 use Rattle.check_link.specs.Views.{meaning_view, meaning_views}
 use Rattle.checker.proofs.SymbolLines.{listed, unique_told}
-use Rattle.checker.specs.Listed.{IsLine, chosen_among}
+use Rattle.checker.specs.Listed.{IsLine}
 use Rattle.checker.proofs.c13_symbols.are_symbols_listed.Goals as goal
 
 pub returns-in_default : goal.returns-in_default
@@ -16,7 +18,7 @@ returns-in_default c =
     let L = c.args.bindings.now.objects in
     let told = rw c.in_default.is at c.chosen_count.ensures.unique in (
       λ t. absurd (false≢true t),
-      λ h. absurd (false≢true (told.1 ((unique_told L c.symbols.result.now c.symbols.ensures).1 h.1))),
+      λ h. absurd (false≢true (told.1 ((unique_told L c.definitions.result.now c.definitions.ensures).1 h.1))),
     )
 
 pub returns-then-not-is_sum : goal.returns-then-not-is_sum
@@ -24,7 +26,7 @@ returns-then-not-is_sum c =
     let L = c.args.bindings.now.objects in
     let rows = map symbol_row c.args.lines.now in
     let count = rw c.in-Some.is at c.chosen_count.ensures.count in
-    let own = count ∙ ap (λ (ss : List SymbolOf). length (meanings_of L (chosen_among L ss))) c.symbols.ensures in
+    let own = count ∙ ap (λ (ss : List SymbolOf). length (meanings_of L (filter (is_chosen L) ss))) c.definitions.ensures in
     let lines = listed L c.args.bindings.now.places rows (meaning_views c.in_ok-linkers.linkers.items) c.in-Some.count c.in_ok-linkers.ensures c.requires own in
     let a = length-map c.args.lines.now symbol_row in
     let b = length-map c.in_ok-linkers.linkers.items meaning_view in (
@@ -39,8 +41,8 @@ returns c =
     let rows = map symbol_row c.args.lines.now in
     let count = rw c.in-Some.is at c.chosen_count.ensures.count in
     let told = rw c.in-Some.is at c.chosen_count.ensures.unique in
-    let unique = (unique_told L c.symbols.result.now c.symbols.ensures).0 (told.0 refl) in
-    let own = count ∙ ap (λ (ss : List SymbolOf). length (meanings_of L (chosen_among L ss))) c.symbols.ensures in
+    let unique = (unique_told L c.definitions.result.now c.definitions.ensures).0 (told.0 refl) in
+    let own = count ∙ ap (λ (ss : List SymbolOf). length (meanings_of L (filter (is_chosen L) ss))) c.definitions.ensures in
     let lines = listed L w rows (meaning_views c.in_ok-linkers.linkers.items) c.in-Some.count c.in_ok-linkers.ensures c.requires own in
     let a = length-map c.args.lines.now symbol_row in
     let b = length-map c.in_ok-linkers.linkers.items meaning_view in

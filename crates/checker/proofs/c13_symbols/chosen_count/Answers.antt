@@ -1,8 +1,9 @@
 use Rattle.std.proofs.Common.{◌≡◌, ◌+◌, ℕ, refl, List, ap, arith, drop, get_or, length, sym, ◌∙◌}
-use Rattle.std.specs.Prelude.{All}
+use Rattle.std.specs.Prelude.{All, filter}
 use Rattle.elf_model.proofs.Rests.{all_more, rest_at}
+use Rattle.elf_model.specs.ChosenSymbols.{is_chosen}
 use Rattle.elf_model.specs.Meaning.{meanings_of}
-use Rattle.checker.specs.Listed.{IsChosenIfStrong, chosen_among}
+use Rattle.checker.specs.Listed.{IsChosenIfStrong}
 use Rattle.check_link.specs.Views.{symbol_view, symbol_views}
 use Rattle.check_link.specs.declared.things.SymbolOf as code
 use Rattle.checker.proofs.SymbolLines.{more_lines}
@@ -11,17 +12,17 @@ use Rattle.checker.proofs.c13_symbols.chosen_count.Goals as goal
 pub loop-symbol-preserved : goal.loop-symbol-preserved
 loop-symbol-preserved c =
     let L = c.args.bindings.now.objects in
-    let xs = c.args.symbols.now in
+    let xs = c.args.definitions.now in
     let i = c.loop-symbol.symbol-index in
     let here = get_or xs i _ in
     let rest = symbol_views (drop (i + 1) xs) in
     let few = rw c.in-Some.is at c.line_count.ensures.few in
     let own = rw c.in-Some.is at c.line_count.ensures.count in
     let lawful = rw c.in-Some.is at c.line_count.ensures.lawful in
-    let split : length (meanings_of L (chosen_among L (symbol_views (drop i xs)))) ≡ c.in-Some.more + length (meanings_of L (chosen_among L rest)) =
-    ap (λ (ys : List code.SymbolOf). length (meanings_of L (chosen_among L (symbol_views ys)))) (rest_at xs i _ c.loop-symbol-test.true)
+    let split : length (meanings_of L (filter (is_chosen L) (symbol_views (drop i xs)))) ≡ c.in-Some.more + length (meanings_of L (filter (is_chosen L) rest)) =
+    ap (λ (ys : List code.SymbolOf). length (meanings_of L (filter (is_chosen L) (symbol_views ys)))) (rest_at xs i _ c.loop-symbol-test.true)
     ∙ more_lines L (symbol_view here) rest
-    ∙ ap (λ (n : ℕ). n + length (meanings_of L (chosen_among L rest))) (sym own) in
+    ∙ ap (λ (n : ℕ). n + length (meanings_of L (filter (is_chosen L) rest))) (sym own) in
     let before = c.loop-symbol.invariant.few in
     let whole = c.loop-symbol.invariant.count in
     record {
