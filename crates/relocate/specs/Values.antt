@@ -15,6 +15,7 @@ use Rattle.relocate.specs.declared.faults.RelocFault.{RelocFault}
 use Rattle.relocate.specs.declared.faults.RelocFault.TheVariants as error
 use Rattle.layout.specs.Placements.{Basis}
 use Rattle.got_tls.specs.ThreadStorage.{thread_pointer}
+use Rattle.relocate.specs.Patches.{IsPatchRow}
 use Rattle.relocate.specs.declared.patch.Patch.{Patch}
 
 -- where things are by the own layout
@@ -54,9 +55,9 @@ row_at rows s = unwrap_or (option_map (λ row. row.items) (slice_get rows s)) []
 abbrev pub row_in : List (Vec (Vec Patch)) → ℕ → ℕ → List Patch
 row_in rows k s = unwrap_or (option_map (λ own. row_at own.items s) (slice_get rows k)) []
 
--- rows of patches of an object: those of each section, however many rows there are
+-- rows of patches of an object: those of each section in the order of their places, however many rows there are
 pub record ArePatchRows (objects : List LoadedObject) (w : Where) (rs : List Relocation) (rows : List (Vec Patch)) : Type 0 where
-  pub each : (s : ℕ) → row_at rows s ≡ patches_in objects w rs s
+  pub each : (s : ℕ) → IsPatchRow (patches_in objects w rs s) (row_at rows s)
 
 -- how many rows section i, which has the header, asks for: as far as the section that it relocates, where this is kept
 abbrev pub rows_for : LoadedObject → ℕ → SectionHeader → ℕ

@@ -8,6 +8,7 @@ ghost use Rattle.relocate.specs.Values.{ArePatchRows, FittingFails, IsRowCount, 
 
 use crate::faults::RelocFault;
 use crate::patch::Patch;
+use crate::row_order::order_rows;
 use crate::symbol_values::Valued;
 use crate::targets::is_some_kind;
 use crate::values::{address_or_none, patch};
@@ -81,7 +82,7 @@ fn row_count(loaded: &LoadedObject<'_>) -> usize
 }
 
 /// The patches of an object whose relocations are of known kinds, a row for each of its sections as far as the
-/// last one that is kept and relocated. Overflow where a value doesn't fit.
+/// last one that is kept and relocated, each in the order of its places. Overflow where a value doesn't fit.
 pub fn object_patches(alloc: Global, valued: &Valued<'_, '_>) -> Result<Vec<Vec<Patch>>, RelocFault>
     requires valued { IsValued valued.now }
     requires known { All (λ r. IsSome (relocation_kind r)) (relocations_from valued.now.number (valued_object valued.now)) }
@@ -103,5 +104,6 @@ pub fn object_patches(alloc: Global, valued: &Valued<'_, '_>) -> Result<Vec<Vec<
         let row = &mut rows[target];
         add_patches(valued, target as u64, entries, row)?;
     }
+    order_rows(&mut rows);
     Ok(rows)
 }

@@ -1,9 +1,9 @@
 //! Values written over fields.
-ghost use Rattle.std.specs.Prelude.{◌≡◌, All, length};
-ghost use Rattle.relocate.specs.Patches.{FitsIn, patched, put};
+ghost use Rattle.std.specs.Prelude.{◌≡◌, ◌<◌, ℕ, [], ◌∷◌, All, AllPairs, length, slice_index};
+ghost use Rattle.relocate.specs.Patches.{AreDisjoint, IsNarrow, patched_byte};
 
 /// The value that a field wants: the field's first byte, counted from its section's beginning, its width in
-/// bytes (at most 8), and the value, of which the lowest bytes are written.
+/// bytes (1 to 8), and the value, of which the lowest bytes are written.
 #[derive(Clone, Copy, Debug)]
 pub struct Patch {
     pub at: u64,
@@ -11,24 +11,33 @@ pub struct Patch {
     pub width: u8,
 }
 
-/// Writes values over the fields of a section, which lie inside its bytes.
-pub fn write_all(patches: &[Patch], bytes: &mut [u8])
-    requires { All (FitsIn (length bytes.old)) patches.now }
-    ensures { bytes.new ≡ patched bytes.old patches.now }
+/// Writes values over the bytes of their fields, which are apart, that lie in a part of a section; the part begins
+/// at byte `from` of the section.
+pub fn write_all(patches: &[Patch], from: u64, bytes: &mut [u8])
+    requires narrow { All IsNarrow patches.now }
+    requires apart { AllPairs AreDisjoint patches.now }
+    ensures { (k : ℕ) → k < length bytes.old → slice_index bytes.new k ≡ patched_byte from bytes.old patches.now k }
 {
     for patch in patches {
-        write(patch, bytes);
+        write(patch, from, bytes);
     }
 }
 
-/// Writes a value over its field, least significant byte first.
-fn write(patch: &Patch, bytes: &mut [u8])
-    requires { FitsIn (length bytes.old) patch.now }
-    ensures { bytes.new ≡ put bytes.old patch.now }
+/// Writes a value over the bytes of its field that lie in a part of a section, which begins at byte `from` of the
+/// section; least significant byte first.
+fn write(patch: &Patch, from: u64, bytes: &mut [u8])
+    requires { IsNarrow patch.now }
+    ensures { (k : ℕ) → k < length bytes.old → slice_index bytes.new k ≡ patched_byte from bytes.old (patch.now ∷ []) k }
 {
-    let spelled = patch.value.to_le_bytes();
-    let at = patch.at as usize;
     let width = patch.width as usize;
-    let (low, _high) = spelled.split_at(width);
-    bytes[at..at + width].copy_from_slice(low);
+    let at = patch.at.saturating_sub(from) as usize;
+    let earlier = from.saturating_sub(patch.at) as usize;
+    if earlier >= width || at >= bytes.len() {
+        return;
+    }
+    let count = (width - earlier).min(bytes.len() - at);
+    let spelled = patch.value.to_le_bytes();
+    let (_, rest) = spelled.split_at(earlier);
+    let (here, _) = rest.split_at(count);
+    bytes[at..at + count].copy_from_slice(here);
 }

@@ -1,13 +1,15 @@
 //! The patches of all objects by their sections, and their writing into the bytes of one.
-ghost use Rattle.std.specs.Prelude.{◌≡◌, IfOk, length, map};
+ghost use Rattle.std.specs.Prelude.{◌≡◌, ◌≢◌, ◌+◌, ◌<◌, ◌≤◌, ℕ, IfOk, IsSome, find, length, map, slice_index};
 ghost use Rattle.std.specs.List.{range_with_len, slice_get};
 ghost use Rattle.elf_model.specs.ObjectFile as object_file;
 ghost use Rattle.elf_model.specs.Pieces.{Piece};
+ghost use Rattle.elf_model.specs.Relocation.{is_in_field, relocations};
 ghost use Rattle.elf_model.specs.Resolution.{sections_of_object};
 ghost use Rattle.elf_model.specs.WantedBytes.{wanted_byte};
 ghost use Rattle.relocate.specs.Values.{ArePatches, where_in, row_in};
 
 use crate::patch::{Patch, write_all};
+use crate::row_parts::{ending_after, reaching};
 use elf_model::SectionRef;
 use layout::Placement;
 use search::Loaded;
@@ -71,9 +73,31 @@ pub fn apply(patches: &Patches<'_>, section: SectionRef, bytes: &mut [u8])
     requires { length bytes.old ≡ (object_file.section (sections_of_object (slice_get patches.now.objects section.object.0)) section.section).sh_size }
     ensures { (p : Piece) → p.object ≡ section.object.0 → p.section ≡ section.section → p.bytes ≡ bytes.old → bytes.new ≡ map (wanted_byte patches.now.objects (where_in patches.now) p) (range_with_len 0 (length bytes.old)) }
 {
+    apply_part(patches, section, 0, bytes);
+}
+
+/// Writes the values into a part of the input bytes of a section, which begins at byte `from` of the section: each byte
+/// is then the wanted one. It takes no memory, and of a section's relocations reads only those with a field in the
+/// part, but for the steps of a bisection.
+pub fn apply_part(patches: &Patches<'_>, section: SectionRef, from: u64, bytes: &mut [u8])
+    ensures { (p : Piece) → p.object ≡ section.object.0 → p.section ≡ section.section → ((k : ℕ) → k < length bytes.old → slice_index bytes.old k ≡ slice_index p.bytes (from + k)) → bytes.new ≡ map (wanted_byte patches.now.objects (where_in patches.now) p) (range_with_len from (length bytes.old)) }
+{
     let object = section.object.0 as usize;
-    write_all(
-        row_in(&patches.rows, object, section.section as usize),
-        bytes,
-    );
+    let row = row_in(&patches.rows, object, section.section as usize);
+    write_all(reaching(row, from, bytes.len()), from, bytes);
+}
+
+/// The number of the first byte of a section, from byte `from` on, that lies in the field of a relocation; u64::MAX
+/// where there is none. All bytes from `from` to before it are wanted as the input has them. It takes no memory.
+pub fn next_field(patches: &Patches<'_>, section: SectionRef, from: u64) -> u64
+    ensures from { from ≤ result }
+    ensures untouched { (p : Piece) → p.object ≡ section.object.0 → p.section ≡ section.section → (k : ℕ) → from ≤ k → k < result → wanted_byte patches.now.objects (where_in patches.now) p k ≡ slice_index p.bytes k }
+    ensures touched { result ≢ u64.MAX → IsSome (find (is_in_field section.object.0 section.section result) (relocations patches.now.objects)) }
+{
+    let object = section.object.0 as usize;
+    let row = row_in(&patches.rows, object, section.section as usize);
+    match ending_after(row, from) {
+        [] => u64::MAX,
+        [patch, ..] => patch.at.max(from),
+    }
 }
