@@ -1,4 +1,6 @@
 pub mod Runs
+pub mod StreamLaws
+pub mod StreamSteps
 mod GotBytes
 pub mod BodySteps
 pub mod BodyBytes

@@ -1,9 +1,12 @@
 //! The bytes between the pieces: `nop` in the file part of the code's segment, and 0 everywhere else.
-ghost use Rattle.std.specs.Prelude.{◌≡◌, ◌++◌, ◌≤◌, ◌^◌, All, OnOk, replicate};
+ghost use Rattle.std.specs.Prelude.{◌≡◌, ◌≤◌, All};
 ghost use Rattle.image_write.specs.Parts.{EndsLow, code_part, fill_run};
+ghost use Rattle.image_write.specs.Streams.{Puts, stream};
 
+use crate::buffer::Buffer;
+use crate::sink::{Sink, SinkFault};
+use crate::stream::put_run;
 use elf_model::{PF_R, PF_X, ProgramHeader};
-use std::alloc::AllocError;
 
 /// The byte `nop`, with which executable parts are filled.
 const NOP: u8 = 0x90;
@@ -31,25 +34,21 @@ pub fn code_of(segments: &[ProgramHeader]) -> Code
     Code { start: 0, end: 0 }
 }
 
-/// Puts a byte so many times.
-fn put_run(out: &mut Vec<u8>, count: u64, byte: u8) -> Result<(), AllocError>
-    requires { count ≤ 2 ^ 46 }
-    ensures { OnOk result (out.new.items ≡ out.old.items ++ replicate count byte) }
-{
-    let len = out.len();
-    out.resize(len + count as usize, byte)
-}
-
 /// Puts the fill of the addresses from one to before another.
-pub fn fill(out: &mut Vec<u8>, code: &Code, from: u64, to: u64) -> Result<(), AllocError>
+pub fn fill<S: Sink>(
+    sink: &mut S,
+    buffer: &mut Buffer,
+    code: &Code,
+    from: u64,
+    to: u64,
+) -> Result<(), SinkFault>
     requires order { from ≤ to }
-    requires low { to ≤ 2 ^ 46 }
-    ensures { OnOk result (out.new.items ≡ out.old.items ++ fill_run code.now from to) }
+    requires whole { S.failed sink.old ≡ 0 }
+    ensures { Puts (stream (S.told sink.old) buffer.old (S.failed sink.old)) (fill_run code.now from to) result (stream (S.told sink.new) buffer.new (S.failed sink.new)) }
 {
     let start = from.max(code.start).min(to);
     let end = start.max(code.end).min(to);
-    put_run(out, start - from, 0)?;
-    put_run(out, end - start, NOP)?;
-    put_run(out, to - end, 0)?;
-    Ok(())
+    put_run(sink, buffer, start - from, 0)?;
+    put_run(sink, buffer, end - start, NOP)?;
+    put_run(sink, buffer, to - end, 0)
 }

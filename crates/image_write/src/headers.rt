@@ -1,16 +1,19 @@
 //! The file header and the program headers of the image.
-ghost use Rattle.std.specs.Prelude.{◌≡◌, ◌+◌, ◌*◌, ◌<◌, ◌^◌, ◌++◌, OnOk, length};
+ghost use Rattle.std.specs.Prelude.{◌≡◌, ◌+◌, ◌*◌, ◌<◌, ◌^◌, length};
 ghost use Rattle.std.specs.List.{flat_map};
 ghost use Rattle.elf_model.specs.ImageFile as forms;
 ghost use Rattle.elf_model.specs.ImageFile.{own_file_header};
 ghost use Rattle.elf_model.specs.Records.{file_header_bytes, program_header_bytes};
 ghost use Rattle.image_write.specs.Parts.{as_list, count_of, headers_of};
+ghost use Rattle.image_write.specs.Streams.{Puts, stream};
 
+use crate::buffer::Buffer;
+use crate::sink::{Sink, SinkFault};
+use crate::stream::put;
 use elf_model::{
     EHDR_SIZE, ELFCLASS64, ELFDATA2LSB, EM_X86_64, ET_EXEC, EV_CURRENT, FileHeader, PF_R, PF_W,
     PHDR_SIZE, PT_GNU_STACK, ProgramHeader, SHDR_SIZE,
 };
-use std::alloc::AllocError;
 
 /// The file header of an executable with so many program headers (System V gABI 4, "ELF Header").
 fn file_header(entry: u64, count: u16) -> FileHeader
@@ -67,39 +70,59 @@ fn stack_header() -> ProgramHeader
     }
 }
 
-fn put_file_header(out: &mut Vec<u8>, header: &FileHeader) -> Result<(), AllocError>
-    ensures { OnOk result (out.new.items ≡ out.old.items ++ file_header_bytes header.now) }
+fn put_file_header<S: Sink>(
+    sink: &mut S,
+    buffer: &mut Buffer,
+    header: &FileHeader,
+) -> Result<(), SinkFault>
+    requires { S.failed sink.old ≡ 0 }
+    ensures { Puts (stream (S.told sink.old) buffer.old (S.failed sink.old)) (file_header_bytes header.now) result (stream (S.told sink.new) buffer.new (S.failed sink.new)) }
 {
     let mut bytes = [0; EHDR_SIZE];
     header.write_to(&mut bytes);
-    out.extend_from_slice(&bytes)
+    put(sink, buffer, &bytes)
 }
 
-fn put_program_header(out: &mut Vec<u8>, header: &ProgramHeader) -> Result<(), AllocError>
-    ensures { OnOk result (out.new.items ≡ out.old.items ++ program_header_bytes header.now) }
+fn put_program_header<S: Sink>(
+    sink: &mut S,
+    buffer: &mut Buffer,
+    header: &ProgramHeader,
+) -> Result<(), SinkFault>
+    requires { S.failed sink.old ≡ 0 }
+    ensures { Puts (stream (S.told sink.old) buffer.old (S.failed sink.old)) (program_header_bytes header.now) result (stream (S.told sink.new) buffer.new (S.failed sink.new)) }
 {
     let mut bytes = [0; PHDR_SIZE];
     header.write_to(&mut bytes);
-    out.extend_from_slice(&bytes)
+    put(sink, buffer, &bytes)
 }
 
-fn put_segments(out: &mut Vec<u8>, segments: &[ProgramHeader]) -> Result<(), AllocError>
-    ensures { OnOk result (out.new.items ≡ out.old.items ++ flat_map program_header_bytes segments.now) }
+fn put_segments<S: Sink>(
+    sink: &mut S,
+    buffer: &mut Buffer,
+    segments: &[ProgramHeader],
+) -> Result<(), SinkFault>
+    requires { S.failed sink.old ≡ 0 }
+    ensures { Puts (stream (S.told sink.old) buffer.old (S.failed sink.old)) (flat_map program_header_bytes segments.now) result (stream (S.told sink.new) buffer.new (S.failed sink.new)) }
 {
     for segment in segments {
-        put_program_header(out, segment)?;
+        put_program_header(sink, buffer, segment)?;
     }
     Ok(())
 }
 
 /// Puts the program header of thread-local storage, where there is one.
-fn put_thread_header(out: &mut Vec<u8>, header: Option<ProgramHeader>) -> Result<(), AllocError>
-    ensures { OnOk result (out.new.items ≡ out.old.items ++ flat_map program_header_bytes (as_list header)) }
+fn put_thread_header<S: Sink>(
+    sink: &mut S,
+    buffer: &mut Buffer,
+    header: Option<ProgramHeader>,
+) -> Result<(), SinkFault>
+    requires { S.failed sink.old ≡ 0 }
+    ensures { Puts (stream (S.told sink.old) buffer.old (S.failed sink.old)) (flat_map program_header_bytes (as_list header)) result (stream (S.told sink.new) buffer.new (S.failed sink.new)) }
 {
-    if let Some(header) = header {
-        put_program_header(out, &header)?;
+    match header {
+        Some(header) => put_program_header(sink, buffer, &header),
+        None => Ok(()),
     }
-    Ok(())
 }
 
 /// The number of program headers: those of the segments, that of thread-local storage, where there is one, and that of
@@ -114,20 +137,22 @@ fn header_count(segments: &[ProgramHeader], threads: Option<ProgramHeader>) -> u
 
 /// Puts the file header, the program headers of the segments, that of thread-local storage, where there is one, and that
 /// of the stack.
-pub fn put_headers(
-    out: &mut Vec<u8>,
+pub fn put_headers<S: Sink>(
+    sink: &mut S,
+    buffer: &mut Buffer,
     segments: &[ProgramHeader],
     threads: Option<ProgramHeader>,
     entry: u64,
-) -> Result<(), AllocError>
+) -> Result<(), SinkFault>
     requires few { length segments.now + 2 < 2 ^ 16 }
-    ensures { OnOk result (out.new.items ≡ out.old.items ++ headers_of entry segments.now (as_list threads)) }
+    requires whole { S.failed sink.old ≡ 0 }
+    ensures { Puts (stream (S.told sink.old) buffer.old (S.failed sink.old)) (headers_of entry segments.now (as_list threads)) result (stream (S.told sink.new) buffer.new (S.failed sink.new)) }
 {
-    put_file_header(out, &file_header(entry, header_count(segments, threads)))?;
-    put_segments(out, segments)?;
-    put_thread_header(out, threads)?;
-    put_program_header(out, &stack_header())?;
-    Ok(())
+    let header = file_header(entry, header_count(segments, threads));
+    put_file_header(sink, buffer, &header)?;
+    put_segments(sink, buffer, segments)?;
+    put_thread_header(sink, buffer, threads)?;
+    put_program_header(sink, buffer, &stack_header())
 }
 
 /// The size of the headers in bytes.

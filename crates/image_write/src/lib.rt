@@ -2,11 +2,18 @@
 //! between them.
 #![tactic(auto)]
 
+mod buffer;
 mod fill_bytes;
 mod got;
 mod headers;
+mod image;
 mod image_file;
 mod linkage;
+mod memory_sink;
 mod pieces;
+mod sink;
+mod stream;
 
-pub use linkage::{Linkage, Parts, image};
+pub use image::{image, write_image};
+pub use linkage::{Linkage, Parts};
+pub use sink::{Sink, SinkFault, WriteFault};

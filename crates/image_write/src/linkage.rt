@@ -1,14 +1,12 @@
 //! A link that is prepared: what is loaded, where it stands, what its relocations want, and what its names mean.
-ghost use Rattle.std.specs.Prelude.{◌≡◌, IfOk};
-ghost use Rattle.image_write.specs.Linkages.{AreParts, own_image};
+ghost use Rattle.std.specs.Prelude.{◌≡◌};
+ghost use Rattle.image_write.specs.Linkages.{AreParts};
 
-use crate::image_file::file_of;
 use got_tls::Slots;
 use layout::Placement;
 use relocate::Patches;
 use resolve::Definition;
 use search::Loaded;
-use std::alloc::{AllocError, Global};
 use std::marker::Model;
 
 /// What the layers make of what is loaded: the definitions that have a line in the map, in the order of their names, where
@@ -65,22 +63,4 @@ impl<'a> Linkage<'a> {
     {
         &self.parts
     }
-}
-
-/// The image file of a link.
-///
-/// # Errors
-///
-/// Only where memory is refused.
-pub fn image(alloc: Global, linkage: &Linkage<'_>) -> Result<Vec<u8>, AllocError>
-    ensures { IfOk result (λ v. v.items ≡ own_image linkage.now) }
-{
-    let parts = linkage.parts();
-    file_of(
-        alloc,
-        &parts.placement,
-        &parts.patches,
-        &parts.values,
-        parts.entry,
-    )
 }

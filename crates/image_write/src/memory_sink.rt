@@ -1,0 +1,52 @@
+//! A device over memory.
+ghost use Rattle.std.specs.Prelude.{◌≡◌, [], IfOk, Some};
+
+use crate::sink::{Sink, SinkFault};
+use std::alloc::{AllocError, Global};
+
+/// Bytes that were taken, as long as memory is had for them.
+#[derive(Drop)]
+pub struct MemorySink {
+    bytes: Vec<u8>,
+    failures: u64,
+}
+
+impl MemorySink {
+    /// No bytes, with room for so many.
+    pub fn new(alloc: Global, size: usize) -> Result<MemorySink, AllocError>
+        ensures empty { IfOk result (λ s. s.bytes.items ≡ []) }
+        ensures whole { IfOk result (λ s. s.failures ≡ 0) }
+    {
+        Ok(MemorySink {
+            bytes: Vec::with_capacity(alloc, size)?,
+            failures: 0,
+        })
+    }
+
+    /// The bytes that were taken.
+    pub fn into_bytes(self) -> Vec<u8>
+        ensures { result.items ≡ self.entry.bytes.items }
+    {
+        self.bytes
+    }
+}
+
+impl Sink for MemorySink {
+    ghost told = { λ s. Some s.bytes.items };
+
+    ghost failed = { λ s. s.failures };
+
+    fn put(&mut self, bytes: &[u8]) -> Result<usize, SinkFault> {
+        match self.bytes.extend_from_slice(bytes) {
+            Ok(()) => Ok(bytes.len()),
+            Err(_) => {
+                self.failures += 1;
+                Err(SinkFault)
+            }
+        }
+    }
+
+    fn failures(&self) -> u64 {
+        self.failures
+    }
+}
