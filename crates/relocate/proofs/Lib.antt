@@ -3,12 +3,15 @@ pub mod Judged
 pub mod KindRows
 pub mod ObjectFields
 pub mod ObjectRows
+pub mod Overlaid
 pub mod OwnParts
-pub mod Patched
+pub mod RisingRows
+pub mod RowLists
+pub mod Searched
 pub mod RowCounts
 pub mod Rows
-pub mod Spelled
 pub mod ThreadSums
 pub mod Wanted
+pub mod WantedParts
 pub mod LinkerMeanings
 pub mod SymbolTables

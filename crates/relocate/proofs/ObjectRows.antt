@@ -1,28 +1,27 @@
--- The rows of patches of all objects: as they are collected, and what they write.
+-- The rows of patches of all objects: as they are collected, and the fields of each.
 use Rattle.std.proofs.Common.{◌≡◌, ℕ, ◌+◌, ◌<◌, ◌≤◌, ◌⊎◌, inl, inr, Bool, true, false, List, [], ◌∷◌, ◌++◌, Option, Some, None, Err, IfErr, Result, get_or, length, map, nat_lt, option_map, refl, subst, sym, ap, ◌∙◌, arith}
-use Rattle.std.specs.Prelude.{All, IsSome, find, unwrap_or}
-use Rattle.std.specs.List.{range_with_len, slice_get}
+use Rattle.std.specs.Prelude.{All, AllPairs, IsSome, find, unwrap_or}
+use Rattle.std.specs.List.{slice_get}
 use Rattle.std.specs.Global.{Vec}
 use Rattle.std.proofs.lemmas.Bool.{ltb-false, ltb-true}
-use Rattle.std.proofs.lemmas.List.{get_or_append_left, get_or_push, length-append, nil_from_length}
-use Rattle.std.proofs.lemmas.List.Elements.{All-nil, All-weaker}
+use Rattle.std.proofs.lemmas.List.{get_or_append_left, get_or_push, length-append}
+use Rattle.std.proofs.lemmas.List.Elements.{All-weaker}
 use Rattle.std.proofs.lemmas.Option.{same_Some, slice_get_cases, slice_get_within}
 use Rattle.elf_model.specs.Loading.{LoadedObject}
-use Rattle.elf_model.specs.ObjectFile.{section}
+use Rattle.elf_model.proofs.RelocationFields.{own_object}
 use Rattle.elf_model.specs.OwnLayout.{OwnValuesFit}
-use Rattle.elf_model.specs.Pieces.{Piece}
 use Rattle.elf_model.specs.Placement.{Where}
 use Rattle.elf_model.specs.Relocation.{AreFieldsApart, AreLawfulRelocations, IsLawfulRelocation, Relocation, is_in_field, relocation_kind, relocations, relocations_from}
 use Rattle.elf_model.specs.RelocationValues.{Fits}
-use Rattle.elf_model.specs.Resolution.{sections_of_object}
-use Rattle.elf_model.specs.WantedBytes.{wanted_byte}
 use Rattle.relocate.specs.declared.faults.RelocFault.{RelocFault}
 use Rattle.relocate.specs.declared.faults.RelocFault.TheVariants as error
 use Rattle.layout.specs.Placements.{Basis}
-use Rattle.relocate.proofs.OwnParts.{IsPart, all_own, own_byte, own_part, pairs_own}
-use Rattle.relocate.proofs.Wanted.{patched_row, patches_inside}
-use Rattle.relocate.specs.Patches.{FitsIn, byte_of, patched}
-use Rattle.relocate.specs.Values.{ArePatchRows, ArePatches, FittingFails, ValuesFail, patch_of, patches_in, where_in, row_at, row_in}
+use Rattle.relocate.proofs.OwnParts.{IsPart, all_own, found_own, none_of_others, numbered, own_part, pairs_own}
+use Rattle.relocate.proofs.RisingRows.{none_rise, rises}
+use Rattle.relocate.proofs.Searched.{find-moved}
+use Rattle.relocate.proofs.Wanted.{patch_found, patches_apart, patches_narrow}
+use Rattle.relocate.specs.Patches.{AreDisjoint, IsPatchRow, IsRising, covers}
+use Rattle.relocate.specs.Values.{ArePatchRows, ArePatches, FittingFails, HasFields, ValuesFail, patch_of, patches_in, where_in, row_at, row_in}
 use Rattle.relocate.specs.declared.patch.Patch.{Patch}
 
 -- the rows of the first n objects
@@ -54,78 +53,76 @@ rows_all b objects n rows same lawful whole first =
     }
 
 -- the row of a section is that of its object's relocations
-pub record IsRowOf (b : Basis) (k s : ℕ) (row : List Patch) : Type 0 where
+record IsRowOf (b : Basis) (k s : ℕ) (row : List Patch) : Type 0 where
   pub own : LoadedObject
   pub there : slice_get b.objects k ≡ Some own
-  pub is : row ≡ patches_in b.objects (where_in b) (relocations_from k own) s
+  pub is : IsPatchRow (patches_in b.objects (where_in b) (relocations_from k own) s) row
 
--- or there is no such object, and no byte in it
-row_cases :
-    (b : Basis) (rows : List (Vec (Vec Patch))) (k s size : ℕ) → ArePatches b rows →
-    size ≡ (section (sections_of_object (slice_get b.objects k)) s).sh_size →
-    IsRowOf b k s (row_in rows k s) ⊎ ((row_in rows k s ≡ []) × (size ≡ 0))
-row_cases b rows k s size are long = by (slice_get_cases b.objects k).1 (slice_get_cases rows k).1
+-- or there is no such object
+row_cases : (b : Basis) (rows : List (Vec (Vec Patch))) (k s : ℕ) → ArePatches b rows → IsRowOf b k s (row_in rows k s) ⊎ ((row_in rows k s ≡ []) × (length b.objects ≤ k))
+row_cases b rows k s are = by (slice_get_cases b.objects k).1 (slice_get_cases rows k).1
   where
     by :
         ((o : LoadedObject) × (k < length b.objects) × (slice_get b.objects k ≡ Some o) × (get_or b.objects k o ≡ o)) ⊎ ((length b.objects ≤ k) × (slice_get b.objects k ≡ None)) →
         ((row : Vec (Vec Patch)) × (k < length rows) × (slice_get rows k ≡ Some row) × (get_or rows k row ≡ row)) ⊎ ((length rows ≤ k) × (slice_get rows k ≡ None)) →
-        IsRowOf b k s (row_in rows k s) ⊎ ((row_in rows k s ≡ []) × (size ≡ 0))
+        IsRowOf b k s (row_in rows k s) ⊎ ((row_in rows k s ≡ []) × (length b.objects ≤ k))
     by (inl o) (inl row) =
         let own = subst (λ (v : Vec (Vec Patch)). ArePatchRows b.objects (where_in b) (relocations_from k o.0) v.items) row.3 (are.each k o.0 row.0 o.2) in
+        let here : row_in rows k s ≡ row_at row.0.items s = ap (λ (v : Option (Vec (Vec Patch))). unwrap_or (option_map (λ w. row_at w.items s) v) []) row.2 in
         inl (record {
           own = o.0;
           there = o.2;
-          is = ap (λ (v : Option (Vec (Vec Patch))). unwrap_or (option_map (λ w. row_at w.items s) v) []) row.2 ∙ own.each s;
+          is = subst (IsPatchRow (patches_in b.objects (where_in b) (relocations_from k o.0) s)) (sym here) (own.each s);
         })
     by (inl o) (inr past) = let low = o.1 in let behind = past.0 in let count = are.count in absurd (omega (arith, low, behind, count))
     by (inr past) (inl row) = let low = row.1 in let behind = past.0 in let count = are.count in absurd (omega (arith, low, behind, count))
-    by (inr past) (inr none) = inr (
-      ap (λ (v : Option (Vec (Vec Patch))). unwrap_or (option_map (λ w. row_at w.items s) v) []) none.1,
-      long ∙ ap (λ (v : Option LoadedObject). (section (sections_of_object v) s).sh_size) past.1,
-    )
+    by (inr past) (inr none) = inr (ap (λ (v : Option (Vec (Vec Patch))). unwrap_or (option_map (λ w. row_at w.items s) v) []) none.1, past.0)
 
 -- the relocations of an object among all
 part_of : (b : Basis) (k : ℕ) (o : LoadedObject) → slice_get b.objects k ≡ Some o → IsPart k (relocations_from k o) (relocations b.objects)
 part_of b k o there = own_part k 0 k b.objects o (omega arith) there
 
--- the patches of a row lie inside the section
-pub row_fits :
-    (b : Basis) (rows : List (Vec (Vec Patch))) (k s : ℕ) (base : List ℕ) → ArePatches b rows →
-    length base ≡ (section (sections_of_object (slice_get b.objects k)) s).sh_size → All (FitsIn (length base)) (row_in rows k s)
-row_fits b rows k s base are long = by (row_cases b rows k s (length base) are long)
-  where
-    by : IsRowOf b k s (row_in rows k s) ⊎ ((row_in rows k s ≡ []) × (length base ≡ 0)) → All (FitsIn (length base)) (row_in rows k s)
-    by (inl r) =
-        subst (All (FitsIn (length base))) (sym r.is)
-        (patches_inside b.objects (where_in b) k r.own s (length base)
-        (all_own (IsLawfulRelocation b.objects) k (relocations_from k r.own) (relocations b.objects) (part_of b k r.own r.there) are.lawful.each)
-        (long ∙ ap (λ (v : Option LoadedObject). (section (sections_of_object v) s).sh_size) r.there))
-    by (inr none) = subst (All (FitsIn (length base))) (sym none.0) (All-nil (FitsIn (length base)))
+apart_of :
+    (b : Basis) (rows : List (Vec (Vec Patch))) (k s : ℕ) (o : LoadedObject) → ArePatches b rows → slice_get b.objects k ≡ Some o →
+    AllPairs AreDisjoint (patches_in b.objects (where_in b) (relocations_from k o) s)
+apart_of b rows k s o are there =
+    let rs = relocations_from k o in
+    patches_apart b.objects (where_in b) k s rs (own_object k o) (pairs_own AreFieldsApart k rs (relocations b.objects) (part_of b k o there) are.lawful.apart)
 
--- and written over its bytes they give the wanted ones
-pub row_wanted :
-    (b : Basis) (rows : List (Vec (Vec Patch))) (k s : ℕ) (base : List ℕ) (p : Piece) → ArePatches b rows →
-    length base ≡ (section (sections_of_object (slice_get b.objects k)) s).sh_size → p.object ≡ k → p.section ≡ s → p.bytes ≡ base →
-    patched base (row_in rows k s) ≡ map (wanted_byte b.objects (where_in b) p) (range_with_len 0 (length base))
-row_wanted b rows k s base p are long here there bytes = by (row_cases b rows k s (length base) are long)
+-- the fields of a row rise
+pub row_rises : (b : Basis) (rows : List (Vec (Vec Patch))) (k s : ℕ) → ArePatches b rows → IsRising (row_in rows k s)
+row_rises b rows k s are = by (row_cases b rows k s are)
   where
-    by :
-        IsRowOf b k s (row_in rows k s) ⊎ ((row_in rows k s ≡ []) × (length base ≡ 0)) →
-        patched base (row_in rows k s) ≡ map (wanted_byte b.objects (where_in b) p) (range_with_len 0 (length base))
+    by : IsRowOf b k s (row_in rows k s) ⊎ ((row_in rows k s ≡ []) × (length b.objects ≤ k)) → IsRising (row_in rows k s)
     by (inl r) =
         let rs = relocations_from k r.own in
-        let part = part_of b k r.own r.there in
-        let byte : ℕ → ℕ = λ j. byte_of base j (option_map (patch_of b.objects (where_in b)) (find (is_in_field k s j) rs)) in
-        let same : byte ≡ wanted_byte b.objects (where_in b) p = λ t j. own_byte b.objects (where_in b) p k s j base rs part here there bytes t in
-        ap (patched base) r.is
-        ∙ (patched_row b.objects (where_in b) k r.own s base
-        (all_own (IsLawfulRelocation b.objects) k rs (relocations b.objects) part are.lawful.each)
-        (pairs_own AreFieldsApart k rs (relocations b.objects) part are.lawful.apart)
-        (long ∙ ap (λ (v : Option LoadedObject). (section (sections_of_object v) s).sh_size) r.there)
-        ∙ ap (λ (f : ℕ → ℕ). map f (range_with_len 0 (length base))) same)
+        rises (patches_in b.objects (where_in b) rs s) (row_in rows k s) r.is
+        (patches_narrow b.objects (where_in b) s rs
+        (all_own (IsLawfulRelocation b.objects) k rs (relocations b.objects) (part_of b k r.own r.there) are.lawful.each))
+        (apart_of b rows k s r.own are r.there)
+    by (inr none) = subst IsRising (sym none.0) none_rise
+
+-- the patch that has a byte is that of the relocation that has it
+pub row_has_fields : (b : Basis) (rows : List (Vec (Vec Patch))) (k s : ℕ) → ArePatches b rows → HasFields b.objects (where_in b) k s (row_in rows k s)
+row_has_fields b rows k s are j = by (row_cases b rows k s are)
+  where
+    by :
+        IsRowOf b k s (row_in rows k s) ⊎ ((row_in rows k s ≡ []) × (length b.objects ≤ k)) →
+        find (covers j) (row_in rows k s) ≡ option_map (patch_of b.objects (where_in b)) (find (is_in_field k s j) (relocations b.objects))
+    by (inl r) =
+        let rs = relocations_from k r.own in
+        find-moved AreDisjoint (covers j) (patches_in b.objects (where_in b) rs s) (row_in rows k s) r.is.same (apart_of b rows k s r.own are r.there)
+        (λ x y apart e f. apart j e f)
+        ∙ (patch_found b.objects (where_in b) k s j rs (own_object k r.own)
+        ∙ ap (λ (o : Option Relocation). option_map (patch_of b.objects (where_in b)) o) (sym (found_own k s j rs (relocations b.objects) (part_of b k r.own r.there))))
     by (inr none) =
-        ap (patched base) none.0
-        ∙ (nil_from_length base none.1 ∙ ap (λ (n : ℕ). map (wanted_byte b.objects (where_in b) p) (range_with_len 0 n)) (sym none.1))
+        let past = none.1 in
+        ap (λ (row : List Patch). find (covers j) row) none.0
+        ∙ ap (λ (o : Option Relocation). option_map (patch_of b.objects (where_in b)) o)
+        (sym
+        (none_of_others k s j (relocations b.objects)
+        (All-weaker (λ (r : Relocation). r.object < 0 + length b.objects) (λ (r : Relocation). r.object ≡ k → ⊥) (λ r low e. omega (arith, low, past, e))
+        (relocations b.objects) (numbered 0 b.objects))))
 
 -- a row more
 pub row_more :

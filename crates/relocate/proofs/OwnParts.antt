@@ -1,6 +1,6 @@
 -- The relocations of one object among those of all: what holds of all holds of them, and a byte of the object
 -- lies in none of the others' fields.
-use Rattle.std.proofs.Common.{◌≡◌, ℕ, zero, suc, ◌+◌, ◌≤◌, List, [], ◌∷◌, ◌++◌, Option, Some, None, get_or, option_map, refl, slice_index, subst, sym, ap, ◌∙◌, arith}
+use Rattle.std.proofs.Common.{◌≡◌, ℕ, zero, suc, ◌+◌, ◌<◌, ◌≤◌, List, [], ◌∷◌, ◌++◌, Option, Some, None, get_or, length, refl, subst, sym, ap, ◌∙◌, arith}
 use Rattle.std.specs.Prelude.{All, AllPairs, find}
 use Rattle.std.specs.List.{slice_get}
 use Rattle.std.specs.Option.{option_or}
@@ -9,17 +9,12 @@ use Rattle.std.proofs.lemmas.List.Elements.{All-append, All-nil, All-weaker}
 use Rattle.std.proofs.lemmas.List.Folds.{find-append}
 use Rattle.std.proofs.lemmas.Option.{none-some, same_Some}
 use Rattle.elf_model.specs.Loading.{LoadedObject}
-use Rattle.elf_model.specs.Pieces.{Piece}
-use Rattle.elf_model.specs.Placement.{Where}
 use Rattle.elf_model.specs.Relocation.{Relocation, is_in_field, relocations, relocations_from, relocations_of}
-use Rattle.elf_model.specs.WantedBytes.{byte_or_field, wanted_byte}
 use Rattle.elf_model.proofs.Found.{or_none}
 use Rattle.elf_model.proofs.Listed.{All-parts}
 use Rattle.elf_model.proofs.Pairs.{AllPairs-parts}
 use Rattle.elf_model.proofs.RelocationFields.{in_field, later_objects, own_object}
-use Rattle.relocate.proofs.Patched.{find_none}
-use Rattle.relocate.specs.Patches.{byte_of}
-use Rattle.relocate.specs.Values.{patch_of}
+use Rattle.relocate.proofs.Searched.{find-nowhere}
 
 -- a part of the relocations, all others being of objects with other numbers than k
 pub record IsPart (k : ℕ) (own whole : List Relocation) : Type 0 where
@@ -69,10 +64,18 @@ pub pairs_own :
     (R : Relocation → Relocation → Type 0) (k : ℕ) (own whole : List Relocation) → IsPart k own whole → AllPairs R whole → AllPairs R own
 pairs_own R k own whole p pairs = (AllPairs-parts R own p.back (AllPairs-parts R p.front (own ++ p.back) (subst (AllPairs R) p.parts pairs)).1).0
 
+-- the relocations of objects have their numbers
+pub numbered : (n : ℕ) (os : List LoadedObject) → All (λ r. r.object < n + length os) (relocations_of n os)
+numbered n [] = All-nil (λ (r : Relocation). r.object < n + 0)
+numbered n (o ∷ os) =
+    All-append (λ (r : Relocation). r.object < n + length (o ∷ os)) (relocations_from n o) (relocations_of (n + 1) os)
+    (All-weaker (λ (r : Relocation). r.object ≡ n) (λ (r : Relocation). r.object < n + length (o ∷ os)) (λ r e. omega (arith, e)) (relocations_from n o) (own_object n o))
+    (All-weaker (λ (r : Relocation). r.object < n + 1 + length os) (λ (r : Relocation). r.object < n + length (o ∷ os)) (λ r e. omega (arith, e)) (relocations_of (n + 1) os) (numbered (n + 1) os))
+
 -- a byte of an object lies in no field of another one
-none_of_others : (k s j : ℕ) (rs : List Relocation) → All (λ r. r.object ≡ k → ⊥) rs → find (is_in_field k s j) rs ≡ None
+pub none_of_others : (k s j : ℕ) (rs : List Relocation) → All (λ r. r.object ≡ k → ⊥) rs → find (is_in_field k s j) rs ≡ None
 none_of_others k s j rs others =
-    find_none (is_in_field k s j) rs (λ i d low e. others i d low (in_field k s j (get_or rs i d) e).0)
+    find-nowhere (is_in_field k s j) rs (λ i d low e. others i d low (in_field k s j (get_or rs i d) e).0)
 
 pub found_own :
     (k s j : ℕ) (own whole : List Relocation) → IsPart k own whole → find (is_in_field k s j) whole ≡ find (is_in_field k s j) own
@@ -83,21 +86,3 @@ found_own k s j own whole p =
     ∙ (ap (λ (o : Option Relocation). option_or o (find test (own ++ p.back))) (none_of_others k s j p.front p.before)
     ∙ (find-append test own p.back
     ∙ (ap (option_or (find test own)) (none_of_others k s j p.back p.behind) ∙ or_none (find test own)))))
-
--- a byte of a piece with the patches of its own object's relocations over it is the wanted one
-same_byte :
-    (objects : List LoadedObject) (w : Where) (p : Piece) (base : List ℕ) (j : ℕ) (o : Option Relocation) → p.bytes ≡ base →
-    byte_of base j (option_map (patch_of objects w) o) ≡ byte_or_field objects w p j o
-same_byte objects w p base j None e = ap (λ (bs : List ℕ). slice_index bs j) (sym e)
-same_byte objects w p base j (Some r) e = refl
-
-pub own_byte :
-    (objects : List LoadedObject) (w : Where) (p : Piece) (k s j : ℕ) (base : List ℕ) (own : List Relocation) →
-    IsPart k own (relocations objects) → p.object ≡ k → p.section ≡ s → p.bytes ≡ base →
-    byte_of base j (option_map (patch_of objects w) (find (is_in_field k s j) own)) ≡ wanted_byte objects w p j
-own_byte objects w p k s j base own part a b e =
-    let rs = relocations objects in
-    same_byte objects w p base j (find (is_in_field k s j) own) e
-    ∙ ap (byte_or_field objects w p j)
-    (sym (found_own k s j own rs part)
-    ∙ (ap (λ (m : ℕ). find (is_in_field m s j) rs) (sym a) ∙ ap (λ (m : ℕ). find (is_in_field p.object m j) rs) (sym b)))

@@ -12,47 +12,10 @@ use Rattle.elf_model.specs.ObjectFile.{relas_of, sections}
 use Rattle.elf_model.specs.Placement.{Where}
 use Rattle.elf_model.specs.Relocation.{Relocation, is_kept_rela, is_some_kind, relocation_of, relocations_in}
 use Rattle.elf_model.specs.declared.records.SectionHeader.{SectionHeader}
+use Rattle.relocate.proofs.RowLists.{row_kept, row_none, row_set, row_within}
+use Rattle.relocate.specs.Patches.{IsPatchRow}
 use Rattle.relocate.specs.Values.{ArePatchRows, IsRowCount, is_in_section, patch_of, patches_in, row_at, rows_for}
 use Rattle.relocate.specs.declared.patch.Patch.{Patch}
-
--- the patches of a section that has a row, and of one that has none
-row_within : (rows : List (Vec Patch)) (s : ℕ) (d : Vec Patch) → s < length rows → row_at rows s ≡ (get_or rows s d).items
-row_within rows s d low = ap (λ (o : Option (Vec Patch)). unwrap_or (option_map (λ v. v.items) o) []) (slice_get-get_or rows s d low)
-
-row_past : (rows : List (Vec Patch)) (s : ℕ) → length rows ≤ s → row_at rows s ≡ []
-row_past rows s past = ap (λ (o : Option (Vec Patch)). unwrap_or (option_map (λ v. v.items) o) []) (slice_get_past rows s past)
-
--- of rows with no patch
-row_none : (rows : List (Vec Patch)) (s : ℕ) → All (λ row. row.items ≡ []) rows → row_at rows s ≡ []
-row_none rows s none = by (slice_get_cases rows s).1
-  where
-    by :
-        ((row : Vec Patch) × (s < length rows) × (slice_get rows s ≡ Some row) × (get_or rows s row ≡ row)) ⊎ ((length rows ≤ s) × (slice_get rows s ≡ None)) →
-        row_at rows s ≡ []
-    by (inl r) = row_within rows s r.0 r.1 ∙ none s r.0 r.1
-    by (inr past) = row_past rows s past.0
-
--- of rows of which one is new
-row_set : (rows : List (Vec Patch)) (t : ℕ) (new : Vec Patch) → t < length rows → row_at (set rows t new) t ≡ new.items
-row_set rows t new low =
-    let long = length-set rows t new in
-    row_within (set rows t new) t new (omega (arith, low, long)) ∙ ap (λ (v : Vec Patch). v.items) (get_or-set_same rows t new new low)
-
-row_kept : (rows : List (Vec Patch)) (t s : ℕ) (new : Vec Patch) → (t ≡ s → ⊥) → row_at (set rows t new) s ≡ row_at rows s
-row_kept rows t s new differ = by (slice_get_cases rows s).1
-  where
-    by :
-        ((row : Vec Patch) × (s < length rows) × (slice_get rows s ≡ Some row) × (get_or rows s row ≡ row)) ⊎ ((length rows ≤ s) × (slice_get rows s ≡ None)) →
-        row_at (set rows t new) s ≡ row_at rows s
-    by (inl r) =
-        let long = length-set rows t new in
-        let low = r.1 in
-        row_within (set rows t new) s r.0 (omega (arith, low, long))
-        ∙ (ap (λ (v : Vec Patch). v.items) (get_or-set_other rows t s new r.0 (λ e. differ (sym e))) ∙ sym (row_within rows s r.0 r.1))
-    by (inr past) =
-        let long = length-set rows t new in
-        let behind = past.0 in
-        row_past (set rows t new) s (omega (arith, behind, long)) ∙ sym (row_past rows s past.0)
 
 -- n rows, in which each section has its patches once those of the rest are added
 pub record AreRowsLeft (objects : List LoadedObject) (w : Where) (whole rest : List Relocation) (n : ℕ) (rows : List (Vec Patch)) : Type 0 where
@@ -92,14 +55,18 @@ module _ (objects : List LoadedObject) (w : Where) where
         ∙ ap (λ (rs : List Relocation). patches_in objects w rs s) same;
   }
 
-  pub rows_none :
-      (whole rest : List Relocation) (n : ℕ) (rows : List (Vec Patch)) → rest ≡ [] → AreRowsLeft objects w whole rest n rows →
-      ArePatchRows objects w whole rows
-  rows_none whole rest n rows none left = record {
-    each = λ s.
-        sym (append-nil (row_at rows s))
-        ∙ (ap (λ (rs : List Relocation). row_at rows s ++ patches_in objects w rs s) (sym none) ∙ left.each s);
+  -- each row then put in order
+  pub rows_ordered :
+      (whole rest : List Relocation) (n : ℕ) (rows ordered : List (Vec Patch)) → rest ≡ [] → AreRowsLeft objects w whole rest n rows →
+      ((s : ℕ) → IsPatchRow (row_at rows s) (row_at ordered s)) → ArePatchRows objects w whole ordered
+  rows_ordered whole rest n rows ordered none left order = record {
+    each = λ s. subst (λ (ps : List Patch). IsPatchRow ps (row_at ordered s)) (whole_row s) (order s);
   }
+    where
+      whole_row : (s : ℕ) → row_at rows s ≡ patches_in objects w whole s
+      whole_row s =
+          sym (append-nil (row_at rows s))
+          ∙ (ap (λ (rs : List Relocation). row_at rows s ++ patches_in objects w rs s) (sym none) ∙ left.each s)
 
   -- a row with the patches of some relocations of its section more
   pub rows_part :

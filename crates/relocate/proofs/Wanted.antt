@@ -1,4 +1,4 @@
--- The bytes of a section with the patches of its object's relocations over them are the wanted ones.
+-- The patches of a section of an object: the one that has a byte, that they are apart, and how wide they are.
 use Rattle.std.proofs.Common.{◌≡◌, ℕ, ◌+◌, ◌<◌, ◌≤◌, ◌&&◌, Bool, true, List, get_or, length, map, option_map, subst, sym, ap, ◌∙◌, arith}
 use Rattle.std.specs.Prelude.{All, AllPairs, filter, find}
 use Rattle.std.specs.List.{range_with_len}
@@ -15,8 +15,7 @@ use Rattle.elf_model.specs.ObjectFile.{section, sections}
 use Rattle.elf_model.specs.Placement.{Where}
 use Rattle.elf_model.specs.Relocation.{AreFieldsApart, IsLawfulRelocation, Relocation, is_in_field, relocations_from, width_of}
 use Rattle.elf_model.proofs.OwnFields.{in_range}
-use Rattle.relocate.proofs.Patched.{length-patched, patched_at}
-use Rattle.relocate.specs.Patches.{AreDisjoint, FitsIn, byte_of, covers, patched}
+use Rattle.relocate.specs.Patches.{AreDisjoint, IsNarrow, covers}
 use Rattle.relocate.specs.Values.{is_in_section, patch_of, patches_in}
 
 pub patch_found :
@@ -48,43 +47,13 @@ patches_apart objects w k s rs own apart =
         sym (in_range k s x r (All-filter (is_in_section s) (λ (t : Relocation). t.object ≡ k) rs own i d low))
         ∙ (ap (λ (b : Bool). b && covers x (patch_of objects w r)) (filter_passes (is_in_section s) rs i d low) ∙ e)
 
--- patches of lawful relocations lie inside the section
-pub patches_inside :
-    (objects : List LoadedObject) (w : Where) (n : ℕ) (o : LoadedObject) (s size : ℕ) → All (IsLawfulRelocation objects) (relocations_from n o) →
-    size ≡ (section (sections o.bytes) s).sh_size → All (FitsIn size) (patches_in objects w (relocations_from n o) s)
-patches_inside objects w n o s size lawful long =
-    All-map (FitsIn size) (patch_of objects w) (filter (is_in_section s) (relocations_from n o)) (λ i d low. fits i d low)
-  where
-    fits :
-        (i : ℕ) (d : Relocation) → i < length (filter (is_in_section s) (relocations_from n o)) →
-        FitsIn size (patch_of objects w (get_or (filter (is_in_section s) (relocations_from n o)) i d))
-    fits i d low =
-        let rs = relocations_from n o in
-        let r = get_or (filter (is_in_section s) rs) i d in
-        let l : IsLawfulRelocation objects r = All-filter (is_in_section s) (IsLawfulRelocation objects) rs lawful i d low in
-        let at = eqb-true r.section s (filter_passes (is_in_section s) rs i d low) in
-        let own : r.size ≡ (section (sections o.bytes) r.section).sh_size =
-        All-filter (is_in_section s) (λ (t : Relocation). t.size ≡ (section (sections o.bytes) t.section).sh_size) rs (own_sizes n o) i d low in
-        let same : r.size ≡ size = own ∙ (ap (λ (k : ℕ). (section (sections o.bytes) k).sh_size) at ∙ sym long) in
-        let inside = ends_inside r l.known l.inside in
-        record { inside = subst (λ (m : ℕ). r.entry.r_offset + width_of r ≤ m) same inside; narrow = (width_some r l.known).1 }
-
--- so a section's bytes with the patches over them have each field's value at it
-pub patched_row :
-    (objects : List LoadedObject) (w : Where) (n : ℕ) (o : LoadedObject) (s : ℕ) (base : List ℕ) →
-    All (IsLawfulRelocation objects) (relocations_from n o) → AllPairs AreFieldsApart (relocations_from n o) →
-    length base ≡ (section (sections o.bytes) s).sh_size →
-    patched base (patches_in objects w (relocations_from n o) s)
-    ≡ map (λ j. byte_of base j (option_map (patch_of objects w) (find (is_in_field n s j) (relocations_from n o)))) (range_with_len 0 (length base))
-patched_row objects w n o s base lawful apart long =
-    let rs = relocations_from n o in
-    let qs = patches_in objects w rs s in
-    let inside = patches_inside objects w n o s (length base) lawful long in
-    let wanted : ℕ → ℕ = λ j. byte_of base j (option_map (patch_of objects w) (find (is_in_field n s j) rs)) in
-    let len = length-patched base qs inside in
-    let other = length-map-range_with_len wanted 0 (length base) in
-    ext_get_or 0 (patched base qs) (map wanted (range_with_len 0 (length base))) (len ∙ sym other)
-    (λ i low.
-    patched_at base qs i inside (patches_apart objects w n s rs (own_object n o) apart)
-    ∙ (ap (byte_of base i) (patch_found objects w n s i rs (own_object n o))
-    ∙ sym (get_or-map-range_with_len wanted 0 (length base) i i 0 (omega (arith, low, len)) (omega arith))))
+-- patches of lawful relocations have 1 to 8 bytes
+pub patches_narrow :
+    (objects : List LoadedObject) (w : Where) (s : ℕ) (rs : List Relocation) → All (IsLawfulRelocation objects) rs →
+    All IsNarrow (patches_in objects w rs s)
+patches_narrow objects w s rs lawful =
+    All-map IsNarrow (patch_of objects w) (filter (is_in_section s) rs)
+    (λ i d low.
+    let l = All-filter (is_in_section s) (IsLawfulRelocation objects) rs lawful i d low in
+    let width = width_some (get_or (filter (is_in_section s) rs) i d) l.known in
+    record { some = width.0; narrow = width.1 })

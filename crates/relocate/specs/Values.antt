@@ -1,12 +1,12 @@
 -- The values that relocations want in a layout, as patches, and why there are none.
-use Rattle.std.specs.Prelude.{◌≡◌, ◌==◌, ◌+◌, ◌%◌, ◌^◌, ◌≤◌, ◌⊎◌, ℕ, Bool, List, [], Some, All, cond, filter, length, map, option_map, slice_index_or, unwrap_or}
+use Rattle.std.specs.Prelude.{◌≡◌, ◌==◌, ◌+◌, ◌%◌, ◌^◌, ◌≤◌, ◌⊎◌, ℕ, Bool, List, [], Some, All, cond, filter, find, length, map, option_map, slice_index_or, unwrap_or}
 use Rattle.std.specs.List.{slice_get}
 use Rattle.std.specs.Global.{Vec}
 use Rattle.elf_model.specs.Loading.{LoadedObject}
 use Rattle.elf_model.specs.OwnLayout.{OwnValuesFit, own_where}
 use Rattle.elf_model.specs.ObjectFile.{sections}
 use Rattle.elf_model.specs.Placement.{Where}
-use Rattle.elf_model.specs.Relocation.{AreLawfulRelocations, Relocation, is_kept_rela, relocations_from, width_of}
+use Rattle.elf_model.specs.Relocation.{AreLawfulRelocations, Relocation, is_in_field, is_kept_rela, relocations, relocations_from, width_of}
 use Rattle.elf_model.specs.RelocationValues.{Fits, value_of}
 use Rattle.elf_model.specs.Slots.{Request, slot_value}
 use Rattle.elf_model.specs.ThreadStorage.{block_in}
@@ -15,7 +15,7 @@ use Rattle.relocate.specs.declared.faults.RelocFault.{RelocFault}
 use Rattle.relocate.specs.declared.faults.RelocFault.TheVariants as error
 use Rattle.layout.specs.Placements.{Basis}
 use Rattle.got_tls.specs.ThreadStorage.{thread_pointer}
-use Rattle.relocate.specs.Patches.{IsPatchRow}
+use Rattle.relocate.specs.Patches.{IsPatchRow, covers}
 use Rattle.relocate.specs.declared.patch.Patch.{Patch}
 
 -- where things are by the own layout
@@ -54,6 +54,12 @@ row_at rows s = unwrap_or (option_map (λ row. row.items) (slice_get rows s)) []
 -- the patches of section s of object number k, none where there is no such object
 abbrev pub row_in : List (Vec (Vec Patch)) → ℕ → ℕ → List Patch
 row_in rows k s = unwrap_or (option_map (λ own. row_at own.items s) (slice_get rows k)) []
+
+-- the patches of a row have the fields of the relocations of section s of object number k: the one that has a byte is that of
+-- the relocation that has it
+abbrev pub HasFields : List LoadedObject → Where → ℕ → ℕ → List Patch → Type 0
+HasFields objects w k s row =
+    (j : ℕ) → find (covers j) row ≡ option_map (patch_of objects w) (find (is_in_field k s j) (relocations objects))
 
 -- rows of patches of an object: those of each section in the order of their places, however many rows there are
 pub record ArePatchRows (objects : List LoadedObject) (w : Where) (rs : List Relocation) (rows : List (Vec Patch)) : Type 0 where

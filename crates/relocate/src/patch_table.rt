@@ -6,7 +6,8 @@ ghost use Rattle.elf_model.specs.Pieces.{Piece};
 ghost use Rattle.elf_model.specs.Relocation.{is_in_field, relocations};
 ghost use Rattle.elf_model.specs.Resolution.{sections_of_object};
 ghost use Rattle.elf_model.specs.WantedBytes.{wanted_byte};
-ghost use Rattle.relocate.specs.Values.{ArePatches, where_in, row_in};
+ghost use Rattle.relocate.specs.Patches.{IsRising};
+ghost use Rattle.relocate.specs.Values.{ArePatches, HasFields, where_in, row_in};
 
 use crate::patch::{Patch, write_all};
 use crate::row_parts::{ending_after, reaching};
@@ -68,6 +69,15 @@ impl<'a> Patches<'a> {
     }
 }
 
+/// The patches of a section, in the order of their places.
+fn row_of<'p>(patches: &'p Patches<'_>, section: SectionRef) -> &'p [Patch]
+    ensures rising { IsRising result.now }
+    ensures fields { HasFields patches.entry.now.objects (where_in patches.entry.now) section.object.0 section.section result.now }
+{
+    let object = section.object.0 as usize;
+    row_in(&patches.rows, object, section.section as usize)
+}
+
 /// Writes the values into the input bytes of a section: each byte is then the wanted one. It takes no memory.
 pub fn apply(patches: &Patches<'_>, section: SectionRef, bytes: &mut [u8])
     requires { length bytes.old ≡ (object_file.section (sections_of_object (slice_get patches.now.objects section.object.0)) section.section).sh_size }
@@ -82,8 +92,7 @@ pub fn apply(patches: &Patches<'_>, section: SectionRef, bytes: &mut [u8])
 pub fn apply_part(patches: &Patches<'_>, section: SectionRef, from: u64, bytes: &mut [u8])
     ensures { (p : Piece) → p.object ≡ section.object.0 → p.section ≡ section.section → ((k : ℕ) → k < length bytes.old → slice_index bytes.old k ≡ slice_index p.bytes (from + k)) → bytes.new ≡ map (wanted_byte patches.now.objects (where_in patches.now) p) (range_with_len from (length bytes.old)) }
 {
-    let object = section.object.0 as usize;
-    let row = row_in(&patches.rows, object, section.section as usize);
+    let row = row_of(patches, section);
     write_all(reaching(row, from, bytes.len()), from, bytes);
 }
 
@@ -94,9 +103,7 @@ pub fn next_field(patches: &Patches<'_>, section: SectionRef, from: u64) -> u64
     ensures untouched { (p : Piece) → p.object ≡ section.object.0 → p.section ≡ section.section → (k : ℕ) → from ≤ k → k < result → wanted_byte patches.now.objects (where_in patches.now) p k ≡ slice_index p.bytes k }
     ensures touched { result ≢ u64.MAX → IsSome (find (is_in_field section.object.0 section.section result) (relocations patches.now.objects)) }
 {
-    let object = section.object.0 as usize;
-    let row = row_in(&patches.rows, object, section.section as usize);
-    match ending_after(row, from) {
+    match ending_after(row_of(patches, section), from) {
         [] => u64::MAX,
         [patch, ..] => patch.at.max(from),
     }

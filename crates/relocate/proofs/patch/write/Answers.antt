@@ -1,12 +1,29 @@
-use Rattle.std.proofs.Common.{List, ℕ, ap, take, ◌∙◌}
-use Rattle.byteview.proofs.NumberLaws.{low_first_is, take-le_bytes}
-use Rattle.relocate.proofs.Spelled.{written}
+use Rattle.std.proofs.Common.{List, arith, ap, length, subst, sym, take, ℕ, ◌+◌, ◌-◌, ◌≡◌, ◌∷◌, [], ◌∙◌}
+use Rattle.std.specs.Prelude.{slice_index}
+use borrow.Rule.Slice.PartMut.{put_mid}
+use Rattle.byteview.proofs.NumberLaws.{low_first_is}
+use Rattle.relocate.specs.Patches.{patched_byte}
+use Rattle.relocate.proofs.Overlaid.{written}
 use Rattle.relocate.proofs.patch.write.Goals as goal
 
 pub returns : goal.returns
-returns c =
-    written c.args.bytes.now c.copy_from_slice.new.self c.args.patch.now
-    (c.copy_from_slice.ensures.after
-    ∙ (c.split_at.ensures.front
-    ∙ (ap (λ (bs : List ℕ). take c.args.patch.now.width bs) (c.to_le_bytes-spelled.ensures ∙ low_first_is 8 c.args.patch.now.value)
-    ∙ take-le_bytes c.args.patch.now.width 8 c.args.patch.now.value c.requires.narrow)))
+returns c = λ k low.
+    let p = c.args.patch.now in
+    let from = c.args.from in
+    let bytes = c.args.bytes.now in
+    let at = c.saturating_sub-at.result in
+    let count = c.min-count.result in
+    let new = c.copy_from_slice.new.self in
+    let same : count ≡ at + count - at = omega arith in
+    subst (λ (n : ℕ). slice_index (put_mid at n bytes new) k ≡ patched_byte from bytes (p ∷ []) k) same
+    (written p from at c.saturating_sub-earlier.result count k bytes c.to_le_bytes-spelled.result new
+    (record {
+      at_is = c.saturating_sub-at.ensures;
+      earlier_is = c.saturating_sub-earlier.ensures;
+      some = c.if-earlier-width.false;
+      within = c.if-at-bytes.false;
+      count_is = c.min-count.ensures;
+    })
+    c.requires.narrow (c.to_le_bytes-spelled.ensures ∙ low_first_is 8 p.value)
+    (c.copy_from_slice.ensures.after ∙ (c.split_at-2.ensures.front ∙ ap (λ (bs : List ℕ). take count bs) c.split_at.ensures.back))
+    (ap (λ (bs : List ℕ). length bs) c.copy_from_slice.ensures.after ∙ c.split_at-2.ensures.front_len) low)
