@@ -1,4 +1,5 @@
 pub mod Runs
+pub mod SectionRuns
 pub mod StreamLaws
 pub mod StreamSteps
 mod GotBytes

@@ -25,7 +25,7 @@ impl MemorySink {
 
     /// The bytes that were taken.
     pub fn into_bytes(self) -> Vec<u8>
-        ensures { result.items ≡ self.entry.bytes.items }
+        ensures { result.items ≡ self.bytes.items }
     {
         self.bytes
     }

@@ -6,4 +6,5 @@ pub mod Links
 pub mod Listings
 pub mod Spellings
 pub mod FinalRefusals
+pub mod Gatherings
 mod SlotLines

@@ -3,3 +3,4 @@ pub mod Outputs
 pub mod FinalRefusals
 pub mod Linkages
 pub mod Refusals
+pub mod Sources

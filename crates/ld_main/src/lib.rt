@@ -2,18 +2,22 @@
 //! and the whole program over both.
 #![tactic(auto)]
 
+mod file_sink;
+mod file_source;
 mod listed_definitions;
 mod output;
 mod own_map;
 mod phases;
 mod program;
+mod real_files;
 mod refusals;
 mod slot_lines;
 mod spelled_lines;
 
 pub use checker::{Clause, Verdict, check};
 pub use elf_model::LinkError;
-pub use image_write::{Linkage, image};
+pub use file_source::{FetchFault, FileSource, GatherFault, gather};
+pub use image_write::{Linkage, Sink, SinkFault, WriteFault, image, write_image};
 pub use output::{Output, link};
 pub use phases::{link_map, prepare, prepare_over};
 pub use program::run_ld;

@@ -5,18 +5,21 @@ ghost use Rattle.elf_model.specs.Files.{files_of, words_of};
 ghost use Rattle.elf_model.specs.RightLink.{IsRightLink, Least};
 ghost use Rattle.ld_main.specs.Program.{HasRightLink, LinksRight, error_status, failure_status, outcome_status, words_status};
 
+use crate::file_sink::{FileSink, room};
+use crate::file_source::{GatherFault, gather};
 use crate::output::map_text;
 use crate::phases::prepare;
+use crate::real_files::{RealFiles, make_executable, read_whole};
 use crate::refusals::command_error;
 use checker::check;
-use command::{Plan, candidates, read_words};
+use command::read_words;
 use elf_model::{Clause, CmdFault, InputFile, LinkError, Verdict};
-use image_write::{Linkage, image};
+use image_write::{Linkage, WriteFault, write_image};
 use linkmap::escape;
 use std::alloc::{AllocError, AllocFailed, Global};
 use std::borrow::CowStr;
-use std::fs::{File, OpenFile};
-use std::io::{ErrorKind, Read, Write};
+use std::fs::File;
+use std::io::{ErrorKind, Write};
 use std::rt::Files;
 use std::{fs, io};
 
@@ -86,6 +89,17 @@ impl<'a, T: Drop> From<AllocFailed<T>> for Failure<'a> {
 
     fn from(_error: AllocFailed<T>) -> Failure<'a> {
         Failure::from(LinkError::Memory)
+    }
+}
+
+impl<'a> From<GatherFault> for Failure<'a> {
+    ghost from_gives = { λ _ failure. 3 ≤ failure_status failure };
+
+    fn from(fault: GatherFault) -> Failure<'a> {
+        match fault {
+            GatherFault::Memory => Failure::from(LinkError::Memory),
+            GatherFault::CannotRead(path) => Failure::CannotRead(CowStr::Owned(path)),
+        }
     }
 }
 
@@ -190,39 +204,6 @@ fn unread<'a>(path: CowStr<'a>, error: &io::Error) -> Failure<'a>
     }
 }
 
-/// The bytes of a file, in just the room that they take.
-fn read_whole<R: Files + AllocGlobal>(rt: &R, path: &str) -> io::Result<Vec<u8>> {
-    let mut file = File::open(rt, path)?;
-    let len = match file.metadata() {
-        Ok(metadata) => metadata.len(),
-        Err(_) => 0,
-    };
-    let Ok(mut bytes) = Vec::with_capacity(rt.alloc(), len as usize) else {
-        return Err(io::Error::from(ErrorKind::OutOfMemory));
-    };
-    file.read_to_end(&mut bytes)?;
-    bytes.shrink_to_fit();
-    Ok(bytes)
-}
-
-/// Reads the files that a plan may read, in its order; one that doesn't exist is left out.
-fn read_candidates<'a, R: Files + AllocGlobal>(
-    rt: &R,
-    plan: &Plan<'_>,
-) -> Result<Vec<InputFile>, Failure<'a>>
-    ensures { IfErr result (λ f. 3 ≤ failure_status f) }
-{
-    let mut files = Vec::new(rt.alloc());
-    for name in candidates(rt.alloc(), plan)? {
-        match read_whole(rt, name.as_str()) {
-            Ok(bytes) => files.push(InputFile { name, bytes })?,
-            Err(error) if error.kind() == ErrorKind::NotFound => {}
-            Err(error) => return Err(unread(CowStr::Owned(name), &error)),
-        }
-    }
-    Ok(files)
-}
-
 /// Reads a file that must be there.
 fn read_file<'a, R: Files + AllocGlobal>(rt: &R, path: &'a str) -> Result<Vec<u8>, Failure<'a>>
     ensures { IfErr result (λ f. 3 ≤ failure_status f) }
@@ -233,40 +214,58 @@ fn read_file<'a, R: Files + AllocGlobal>(rt: &R, path: &'a str) -> Result<Vec<u8
     }
 }
 
-fn write_file<'a, R: Files>(rt: &R, path: &'a str, bytes: &[u8]) -> Result<(), Failure<'a>>
+/// Writes the image of a link to a file, and lets those run it who may read it.
+fn write_image_file<'a, R: Files + AllocGlobal>(
+    rt: &R,
+    path: &'a str,
+    linkage: &Linkage<'_>,
+) -> Result<(), Failure<'a>>
+    ensures { IfErr result (λ f. 3 ≤ failure_status f) }
+{
+    let room = room(rt.alloc())?;
+    let Ok(file) = File::create(rt, path) else {
+        return Err(Failure::CannotWrite(path));
+    };
+    let mut sink = FileSink::new(file, room);
+    match write_image(rt.alloc(), linkage, &mut sink) {
+        Ok(()) => {}
+        Err(WriteFault::Memory) => return Err(Failure::from(LinkError::Memory)),
+        Err(WriteFault::Device) => return Err(Failure::CannotWrite(path)),
+    }
+    if sink.empty().is_err() {
+        return Err(Failure::CannotWrite(path));
+    }
+    let _ = make_executable(sink.file());
+    Ok(())
+}
+
+/// Writes the text of a link's map to a file.
+fn write_map<'a, R: Files>(rt: &R, path: &'a str, text: &[u8]) -> Result<(), Failure<'a>>
     ensures { IfErr result (λ f. failure_status f ≡ 3) }
 {
-    match fs::write(rt, path, bytes) {
+    match fs::write(rt, path, text) {
         Ok(()) => Ok(()),
         Err(_) => Err(Failure::CannotWrite(path)),
     }
 }
 
-/// Makes the image of a link and writes it.
-fn write_image<'a, R: Files + AllocGlobal>(
+/// Writes the image and then the map, whose text is made before the image is written, and only where its path is given.
+fn write_files<'a, R: Files + AllocGlobal>(
     rt: &R,
-    path: &'a str,
+    task: Task<'a>,
     linkage: &Linkage<'_>,
 ) -> Result<(), Failure<'a>>
     ensures { IfErr result (λ f. 3 ≤ failure_status f) }
 {
-    let image = image(rt.alloc(), linkage)?;
-    write_file(rt, path, &image)
-}
-
-/// Makes the text of a link's map and writes it.
-fn write_map<'a, R: Files + AllocGlobal>(
-    rt: &R,
-    path: &'a str,
-    linkage: &Linkage<'_>,
-) -> Result<(), Failure<'a>>
-    ensures { IfErr result (λ f. 3 ≤ failure_status f) }
-{
+    let Some(path) = task.map else {
+        return write_image_file(rt, task.output, linkage);
+    };
     let text = map_text(rt.alloc(), linkage)?;
-    write_file(rt, path, &text)
+    write_image_file(rt, task.output, linkage)?;
+    write_map(rt, path, &text)
 }
 
-/// Links, and writes the image and then the map, which is made only where its path is given.
+/// Links, and writes what comes of it.
 fn link_files<'a, R: Files + AllocGlobal>(
     rt: &R,
     task: Task<'a>,
@@ -280,10 +279,7 @@ fn link_files<'a, R: Files + AllocGlobal>(
         Ok(linkage) => linkage,
         Err(error) => return Err(refused(rt.alloc(), error)),
     };
-    write_image(rt, task.output, &linkage)?;
-    if let Some(path) = task.map {
-        write_map(rt, path, &linkage)?;
-    }
+    write_files(rt, task, &linkage)?;
     Ok(Outcome::Linked)
 }
 
@@ -326,7 +322,7 @@ fn check_files<'a, R: Files + AllocGlobal>(
 }
 
 /// Reads the words, and the files that they name.
-fn gather<'a, R: Files + AllocGlobal>(
+fn read_input<'a, R: Files + AllocGlobal>(
     rt: &R,
     words: &'a [String],
 ) -> Result<(Task<'a>, Vec<InputFile>), Failure<'a>>
@@ -336,7 +332,7 @@ fn gather<'a, R: Files + AllocGlobal>(
     ensures words_alone { IfErr result (λ f. failure_status f ≡ 2 → IsErr (command_of (words_of words.entry.now))) }
 {
     let plan = read_words(rt.alloc(), words)?;
-    let files = read_candidates(rt, &plan)?;
+    let files = gather(rt.alloc(), &plan, &mut RealFiles::new(rt))?;
     let task = Task {
         output: plan.output,
         map: plan.map,
@@ -350,7 +346,7 @@ fn run<'a, R: Files + AllocGlobal>(rt: &R, words: &'a [String]) -> Result<Outcom
     ensures refused_words { IsErr (command_of (words_of words.entry.now)) → IsErrAnd result (λ f. (failure_status f ≡ 2) ⊎ (failure_status f ≡ 4)) }
     ensures words_alone { IfErr result (λ f. failure_status f ≡ 2 → IsErr (command_of (words_of words.entry.now))) }
 {
-    let (task, files) = gather(rt, words)?;
+    let (task, files) = read_input(rt, words)?;
     if task.check {
         check_files(rt, task, &files, words)
     } else {
