@@ -28,6 +28,8 @@ mod program;
 #[cfg(test)]
 mod several_objects;
 #[cfg(test)]
+mod streams;
+#[cfg(test)]
 mod tables;
 #[cfg(test)]
 mod thread_local;
