@@ -1,0 +1,27 @@
+#!/usr/bin/env bash
+# Says in seconds what would fail the gate after an hour: a file that `rt fmt` would change, and a wrong body that no
+# longer fits the text. It works on a copy of the tree, committed or not, and changes nothing.
+# usage: tools/quick_check.sh; the exit status is 1 where it finds something.
+set -u
+
+cd "$(dirname "${BASH_SOURCE[0]}")/.." || exit 2
+copy="$(mktemp -d)" || exit 2
+trap 'rm -rf "$copy"' EXIT
+git ls-files -z --cached --others --exclude-standard -- crates crates.txt HANDLES |
+    xargs -0 tar --create --ignore-failed-read 2>/dev/null | tar --extract --directory "$copy"
+
+failed=0
+find "$copy/crates" -mindepth 1 -maxdepth 1 -type d -print0 |
+    xargs -0 -P 4 -I{} sh -c 'cd "{}" && rt fmt >/dev/null 2>&1 || { echo "rt fmt fails in $(basename "{}")"; exit 1; }' || failed=1
+for crate in "$copy"/crates/*/; do
+    name="$(basename "$crate")"
+    for part in src specs proofs; do
+        [ -d "$crate$part" ] || continue
+        if ! diff -rq "crates/$name/$part" "$crate$part" >"$copy/changed"; then
+            sed "s/^Files \(.*\) and .*/not laid out: \1/" "$copy/changed"
+            failed=1
+        fi
+    done
+done
+tools/try_edits.sh --only-read || failed=1
+exit "$failed"
