@@ -106,8 +106,7 @@ cat "$work/a.map"
 echo "\$ ld -o a.out -Map=a.map --check a.o"
 ld --check
 
-echo "\$ chmod +x a.out && ./a.out; echo \$?"
-chmod +x "$work/a.out"
+echo "\$ ./a.out; echo \$?"
 status=0
 "$work/a.out" || status=$?
 echo "$status"

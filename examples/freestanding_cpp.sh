@@ -49,8 +49,7 @@ grep init_array "$work/a.map" | sort -k 2
 echo "\$ ld -o a.out -Map=a.map --check $words"
 ld --check
 
-echo "\$ chmod +x a.out && ./a.out; echo \$?"
-chmod +x "$work/a.out"
+echo "\$ ./a.out; echo \$?"
 status=0
 "$work/a.out" >"$work/printed" || status=$?
 cat "$work/printed"

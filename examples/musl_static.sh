@@ -56,8 +56,7 @@ grep -e '\.t[bd]' -e ^got -e ^slot "$work/a.map"
 echo "\$ ld -o a.out -Map=a.map --check $words"
 ld --check
 
-echo "\$ chmod +x a.out && ./a.out pear 12 300 apple 67 99999999999999999999; echo \$?"
-chmod +x "$work/a.out"
+echo "\$ ./a.out pear 12 300 apple 67 99999999999999999999; echo \$?"
 status=0
 "$work/a.out" pear 12 300 apple 67 99999999999999999999 >"$work/printed" || status=$?
 cat "$work/printed"

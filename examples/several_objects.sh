@@ -59,8 +59,7 @@ grep -e ^object -e ^symbol "$work/a.map"
 echo "\$ ld -o a.out -Map=a.map --check $objects"
 ld --check
 
-echo "\$ chmod +x a.out && ./a.out; echo \$?"
-chmod +x "$work/a.out"
+echo "\$ ./a.out; echo \$?"
 status=0
 "$work/a.out" >"$work/printed" || status=$?
 cat "$work/printed"

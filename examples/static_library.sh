@@ -65,8 +65,7 @@ grep -e ^object -e ^drop -e ^common -e linker "$work/a.map"
 echo "\$ ld -o a.out -Map=a.map --check $words"
 ld --check
 
-echo "\$ chmod +x a.out && ./a.out; echo \$?"
-chmod +x "$work/a.out"
+echo "\$ ./a.out; echo \$?"
 status=0
 "$work/a.out" >"$work/printed" || status=$?
 cat "$work/printed"
