@@ -6,14 +6,14 @@ mod buffer;
 mod fill_bytes;
 mod got;
 mod headers;
-mod image;
 mod image_file;
 mod linkage;
 mod memory_sink;
 mod pieces;
 mod sink;
 mod stream;
+mod written_image;
 
-pub use image::{image, write_image};
 pub use linkage::{Linkage, Parts};
 pub use sink::{Sink, SinkFault, WriteFault};
+pub use written_image::{image, write_image};
