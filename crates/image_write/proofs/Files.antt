@@ -6,7 +6,7 @@ use Rattle.std.specs.Option.{option_map_or}
 use Rattle.elf_model.specs.Command.{IsBase}
 use Rattle.elf_model.specs.ImageFile.{header_bytes, image_file, own_byte, own_file_header, own_program_headers}
 use Rattle.elf_model.specs.Loading.{AreObjects, LoadedObject}
-use Rattle.elf_model.specs.OwnLayout.{IsNotTooLarge, file_end, header_count, own_headers_size, own_in_load_order, own_loaded, own_segments, own_where}
+use Rattle.elf_model.specs.OwnLayout.{IsNotTooLarge, file_end, own_headers_size, own_in_load_order, own_loaded, own_segments, own_where}
 use Rattle.elf_model.specs.Pieces.{AreLawfulKinds}
 use Rattle.elf_model.specs.Placement.{Placed}
 use Rattle.elf_model.specs.Records.{file_header_bytes, program_header_bytes}

@@ -10,3 +10,4 @@ pub mod Wholes
 pub mod OwnBody
 pub mod Files
 pub mod PieceSteps
+pub mod Written

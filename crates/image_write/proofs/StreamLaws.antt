@@ -1,6 +1,6 @@
 -- Bytes put into a stream one after the other.
 use Rattle.std.proofs.Common.{◌≡◌, ℕ, ◌+◌, List, [], ◌++◌, refl, sym, ◌∙◌, ap, append_assoc, subst}
-use Rattle.std.specs.Prelude.{Option, Some, None, IsErr, Result, Ok, Err}
+use Rattle.std.specs.Prelude.{Option, Some, None, IsErr, OnErr, Result, Ok, Err}
 use Rattle.std.specs.Option.{option_map}
 use Rattle.std.proofs.lemmas.List.{append-nil}
 use Rattle.image_write.specs.Streams.{Breaks, Grows, Moves, Puts, Stream, Took, stream}
@@ -117,3 +117,11 @@ puts_are s u xs ys r e p = subst (λ (bs : List ℕ). Puts s bs r u) e p
 
 pub grows_are : (s u : Stream) (xs ys : List ℕ) → xs ≡ ys → Grows s xs u → Grows s ys u
 grows_are s u xs ys e g = subst (λ (bs : List ℕ). Grows s bs u) e g
+
+-- what holds whatever the answer is
+pub whatever : {X E : Type 0} (P : Type 0) (r : Result X E) → P → OnErr r P
+whatever P (Ok x) p = tt
+whatever P (Err e) p = p
+
+pub breaks_are : (s u : Stream) (xs ys : List ℕ) → xs ≡ ys → Breaks s xs u → Breaks s ys u
+breaks_are s u xs ys e b = subst (λ (bs : List ℕ). Breaks s bs u) e b

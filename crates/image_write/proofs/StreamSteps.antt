@@ -25,6 +25,10 @@ towards_more s t u whole rest part left w is g = record {
   parts = append_assoc w.done part left ∙ (ap (λ (xs : List ℕ). w.done ++ xs) (sym is) ∙ w.parts);
 }
 
+-- what is left, said otherwise
+pub towards_is : (s t : Stream) (whole xs ys : List ℕ) → xs ≡ ys → Towards s whole xs t → Towards s whole ys t
+towards_is s t whole xs ys e w = subst (λ (rest : List ℕ). Towards s whole rest t) e w
+
 -- all that is left
 pub towards_last :
     {X E : Type 0} (s t u : Stream) (whole rest : List ℕ) (r : Result X E) → Towards s whole rest t → Puts t rest r u → Puts s whole r u

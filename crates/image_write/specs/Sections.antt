@@ -8,9 +8,9 @@ use Rattle.elf_model.specs.WantedBytes.{wanted_byte}
 use Rattle.elf_model.specs.declared.references.SectionRef.{SectionRef}
 
 -- a piece that is the section with these numbers
-pub record IsOfSection (section : SectionRef) (p : Piece) : Type 0 where
-  pub object : p.object ≡ section.object.0
-  pub section : p.section ≡ section.section
+pub record IsOfSection (ref : SectionRef) (p : Piece) : Type 0 where
+  pub object : p.object ≡ ref.object.0
+  pub section : p.section ≡ ref.section
 
 -- bytes that are those of a piece from one on
 abbrev pub ArePartOf : Piece → ℕ → List ℕ → Type 0

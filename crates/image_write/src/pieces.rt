@@ -44,7 +44,7 @@ fn section_of(piece: &Piece<'_>) -> SectionRef
 
 /// Some bytes of a section, from byte `from` on.
 fn part_of<'b>(bytes: &'b [u8], from: usize, count: usize) -> &'b [u8]
-    requires { from + count ≤ length bytes.entry.now }
+    requires { from + count ≤ length bytes.now }
     ensures part { result.now ≡ take count (drop from bytes.entry.now) }
     ensures len { length result.now ≡ count }
 {

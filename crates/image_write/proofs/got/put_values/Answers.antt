@@ -1,6 +1,6 @@
 use Rattle.std.proofs.Common.{◌∙◌}
 use Rattle.byteview.specs.Numbers.{le_bytes}
-use Rattle.image_write.proofs.StreamSteps.{parts_end, parts_left, towards_fault, towards_more, towards_nothing}
+use Rattle.image_write.proofs.StreamSteps.{parts_end, parts_left, towards_fault, towards_more}
 use Rattle.image_write.proofs.got.put_values.Goals as goal
 
 pub loop-value-preserved : goal.loop-value-preserved

@@ -1,6 +1,6 @@
 use Rattle.std.proofs.Common.{◌∙◌}
 use Rattle.elf_model.specs.Records.{program_header_bytes}
-use Rattle.image_write.proofs.StreamSteps.{parts_end, parts_left, towards_fault, towards_more, towards_nothing}
+use Rattle.image_write.proofs.StreamSteps.{parts_end, parts_left, towards_fault, towards_more}
 use Rattle.image_write.proofs.headers.put_segments.Goals as goal
 
 pub loop-segment-preserved : goal.loop-segment-preserved

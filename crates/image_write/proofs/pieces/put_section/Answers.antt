@@ -1,31 +1,58 @@
-use Rattle.std.proofs.Common.{rules, ◌≡◌, ◌++◌, ◌∙◌, List, ap, length, refl, sym, ℕ}
+use Rattle.std.proofs.Common.{◌≡◌, ◌-◌, ◌∙◌, [], ap, arith, length, sym, ℕ}
 use Rattle.std.specs.Prelude.{map}
 use Rattle.std.specs.List.{range_with_len}
-use Rattle.std.proofs.lemmas.List.FromFn.{length-map-range_with_len}
-use Rattle.elf_model.specs.ImageFile.{piece_byte}
+use Rattle.std.proofs.lemmas.List.{append-nil}
 use Rattle.elf_model.specs.OwnLayout.{own_where}
 use Rattle.elf_model.specs.WantedBytes.{wanted_byte}
 use Rattle.layout.specs.Views.{piece_view}
-use Rattle.image_write.specs.Parts.{bytes_of}
 use Rattle.image_write.proofs.GotBytes.{section_wanted}
-use Rattle.image_write.proofs.PieceSteps.{back_is, front_is, put_is}
+use Rattle.image_write.proofs.SectionRuns.{run_end, run_parts}
+use Rattle.image_write.proofs.StreamLaws.{grows_are, puts_are}
+use Rattle.image_write.proofs.StreamSteps.{towards_end, towards_fault, towards_is, towards_more, towards_nothing}
 use Rattle.image_write.proofs.pieces.put_section.Goals as goal
 
-pub returns : goal.returns
-returns c =
-    let out = c.args.out.now.items in
-    let bytes = c.args.piece.now.bytes.now in
-    let p = piece_view c.args.piece.now in
+pub loop-from-init : goal.loop-from-init
+loop-from-init g c =
     let objects = c.args.patches.now.objects in
-    let w = own_where c.args.patches.now.base objects in
-    let d : c.deref_mut.result.now ≡ out ++ bytes = c.deref_mut.ensures.value ∙ c.in_ok-extend_from_slice.ensures.items in
-    let at : c.len-at.result ≡ length out = search rules in
-    let f = front_is out bytes c.deref_mut.result.now c.split_at_mut-bytes.result.0.now c.len-at.result at d c.split_at_mut-bytes.ensures.front in
-    let b = back_is out bytes c.deref_mut.result.now c.split_at_mut-bytes.result.1.now c.len-at.result at d c.split_at_mut-bytes.ensures.back in
-    let size : length c.split_at_mut-bytes.result.1.now ≡ p.size = ap (λ (xs : List ℕ). length xs) b ∙ c.requires.whole.bytes in
-    let n : c.apply.new.bytes ≡ bytes_of objects w p =
-    c.apply.ensures p refl refl (sym b)
-    ∙ (ap (λ (k : ℕ). map (wanted_byte objects w p) (range_with_len 0 k)) size ∙ section_wanted objects w p c.requires.other) in
-    put_is out bytes c.split_at_mut-bytes.result.0.now c.apply.new.bytes (bytes_of objects w p) _ c.extend_from_slice.new.self.len f n
-    (length-map-range_with_len (piece_byte objects w p) 0 p.size ∙ sym c.requires.whole.bytes)
-    (sym c.deref_mut.ensures.len ∙ ap (λ (xs : List ℕ). length xs) d)
+    let f : ℕ → ℕ = wanted_byte objects (own_where c.args.patches.now.base objects) (piece_view c.args.piece.now) in
+    let size : length c.args.piece.now.bytes.now - 0 ≡ length c.args.piece.now.bytes.now = omega arith in
+    record {
+      towards = towards_is _ _ _ _ _ (ap (λ (n : ℕ). map f (range_with_len 0 n)) (sym size)) (towards_nothing _ _);
+      within = omega arith;
+      failed = c.requires.whole;
+    }
+
+pub loop-from-preserved : goal.loop-from-preserved
+loop-from-preserved g c =
+    let objects = c.args.patches.now.objects in
+    let f : ℕ → ℕ = wanted_byte objects (own_where c.args.patches.now.base objects) (piece_view c.args.piece.now) in
+    let further = c.in_ok-from.ensures.further in
+    record {
+      towards = towards_more _ _ _ _ _ _ _ c.loop-from.invariant.towards
+          (run_parts f c.loop-from.from c.in_ok-from.from (length c.args.piece.now.bytes.now) (omega (arith, further.0)) further.1)
+          c.in_ok-from.ensures.grows;
+      within = further.1;
+      failed = c.in_ok-from.ensures.grows.failed ∙ c.loop-from.invariant.failed;
+    }
+
+pub returns-in_err-from : goal.returns-in_err-from
+returns-in_err-from g c =
+    let objects = c.args.patches.now.objects in
+    let p = piece_view c.args.piece.now in
+    let f : ℕ → ℕ = wanted_byte objects (own_where c.args.patches.now.base objects) p in
+    puts_are _ _ _ _ _
+    (ap (λ (n : ℕ). map f (range_with_len 0 n)) c.requires.bytes ∙ section_wanted objects (own_where c.args.patches.now.base objects) p c.requires.other)
+    (towards_fault _ _ _ _ _ _ [] _ c.loop-from.invariant.towards (sym (append-nil _)) c.from_residual.ensures.0 c.in_err-from.ensures.breaks)
+
+pub returns : goal.returns
+returns g c =
+    let objects = c.args.patches.now.objects in
+    let p = piece_view c.args.piece.now in
+    let f : ℕ → ℕ = wanted_byte objects (own_where c.args.patches.now.base objects) p in
+    record {
+      grows = grows_are _ _ _ _
+          (ap (λ (n : ℕ). map f (range_with_len 0 n)) c.requires.bytes ∙ section_wanted objects (own_where c.args.patches.now.base objects) p c.requires.other)
+          (towards_end _ _ _
+          (towards_is _ _ _ _ _ (run_end f c.loop-from.from (length c.args.piece.now.bytes.now) c.loop-from-test.false) c.loop-from.invariant.towards));
+      breaks = tt;
+    }

@@ -1,5 +1,4 @@
 use Rattle.std.proofs.Common.{[]}
-use Rattle.image_write.specs.Streams.{stream}
 use Rattle.image_write.proofs.StreamLaws.{breaks_on, puts_fault, puts_straight}
 use Rattle.image_write.proofs.stream.put.Goals as goal
 

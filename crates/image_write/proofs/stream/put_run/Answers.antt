@@ -1,6 +1,5 @@
-use Rattle.std.proofs.Common.{ℕ, ◌≡◌, ◌+◌, ◌-◌, ◌≤◌, ◌++◌, ◌∙◌, ap, arith, replicate, subst, sym}
+use Rattle.std.proofs.Common.{ℕ, ◌≡◌, ◌+◌, ◌-◌, ◌≤◌, ◌++◌, ◌∙◌, ap, arith, replicate}
 use Rattle.std.proofs.lemmas.List.{replicate-append-replicate}
-use Rattle.image_write.specs.Streams.{Grows, stream}
 use Rattle.image_write.proofs.StreamLaws.{breaks_between, breaks_on, grows_are, grows_between, grows_held, puts_are, puts_fault}
 use Rattle.image_write.proofs.stream.put_run.Goals as goal
 
