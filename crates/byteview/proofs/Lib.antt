@@ -1,3 +1,4 @@
 pub mod NumberLaws
 mod Fields
 mod Texts
+pub mod Vectors

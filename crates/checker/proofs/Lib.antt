@@ -13,6 +13,7 @@ pub mod PartsOfLists
 pub mod PieceSections
 pub mod PlacedFacts
 pub mod Regions
+pub mod Runs
 pub mod SegmentsApart
 pub mod SlotCounts
 pub mod Spelled

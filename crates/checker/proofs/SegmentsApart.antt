@@ -1,19 +1,10 @@
--- Each segment of an image ends before the next begins, and what follows where none is found.
-use Rattle.std.proofs.Common.{◌≡◌, ℕ, List, get_or, refl}
-use Rattle.std.specs.Prelude.{All, AllPairs, Any, Some, None}
+-- What follows where no segment is found.
+use Rattle.std.proofs.Common.{◌≡◌, ℕ, List}
+use Rattle.std.specs.Prelude.{All, Any, Some, None}
 use Rattle.std.proofs.lemmas.List.Elements.{All-contains}
 use Rattle.std.proofs.lemmas.Option.{none-some}
-use Rattle.elf_model.specs.MemoryImage.{Encloses, IsImage, loads, program_headers}
+use Rattle.elf_model.specs.MemoryImage.{Encloses}
 use Rattle.elf_model.specs.declared.records.ProgramHeader.{ProgramHeader}
-use Rattle.loader_model.specs.Table.{EndsBefore}
-use Rattle.loader_model.proofs.Pages.{before_of_apart}
-use Rattle.loader_model.proofs.TableOrder.{ascending_loads}
-
-pub loads_apart : (image : List ℕ) → IsImage image → AllPairs EndsBefore (loads image)
-loads_apart image is i j d low within =
-    let good = is.segments.segments j d within in
-    before_of_apart (get_or (loads image) i d) (get_or (loads image) j d) good.on_a_page good.some_memory
-    (ascending_loads (program_headers image) (loads image) refl is.order i j d low within) (is.pages i j d low within)
 
 -- where no segment is found that encloses a range, none does
 pub none_found :

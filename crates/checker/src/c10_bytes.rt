@@ -1,8 +1,6 @@
 //! C10: whether memory holds the wanted bytes of each piece.
-ghost use Rattle.std.specs.Prelude.{◌≡◌, ◌+◌, ◌≤◌, ◌<◌, ◌↔◌, ℕ, All, AllPairs, IsTrue, find, length, slice_index};
+ghost use Rattle.std.specs.Prelude.{◌≡◌, ◌+◌, ◌≤◌, ◌<◌, ◌↔◌, ℕ, All, AllPairs, IsTrue, find, slice_index};
 ghost use Rattle.byteview.specs.Numbers.{le_bytes};
-ghost use Rattle.elf_model.specs.MemoryImage.{Encloses, segment_byte};
-ghost use Rattle.loader_model.specs.Table.{IsLawful};
 ghost use Rattle.check_link.specs.Views.{placed_view, placed_views};
 ghost use Rattle.check_relocs.specs.Bytes.{AreRising, EndsBefore, FitsIn, HasFieldsInside, HoldsFields, LiesWhole, WantedFrom, byte_of, covers, fields_in};
 ghost use Rattle.elf_model.specs.RightLink.{Holds, HoldsBefore, objects_of, where_of};
@@ -10,10 +8,9 @@ ghost use Rattle.elf_model.specs.declared.verdict.Clause.TheVariants as clause;
 ghost use Rattle.check_relocs.specs.Fields.{AreRows};
 
 use crate::bound_link::BoundLink;
-use crate::segments::{enclosing, file_bytes, same_padded, sub_part};
+use crate::segments::{same_padded, sub_part};
 use check_link::{Placed, load_size};
 use check_relocs::{Field, fields_in};
-use elf_model::ProgramHeader;
 use loader_model::Memory;
 
 /// Whether the tenth clause holds of a link, given the fields of its relocations by objects.
@@ -66,21 +63,12 @@ fn are_wanted(held: &[u8], bytes: &[u8], fields: &[Field], size: u64) -> bool
     same_between(held, bytes, from, size)
 }
 
-/// Whether a segment that a piece of a size lies whole in holds the piece's wanted bytes at its address.
-fn is_held_by(
-    image: &[u8],
-    segment: &ProgramHeader,
-    placed: &Placed<'_>,
-    size: u64,
-    fields: &[Field],
-) -> bool
-    requires lawful { IsLawful (length image.now) segment.now }
-    requires enclosed { Encloses segment.now placed.now.at size }
+/// Whether what memory has for a piece of a size are the piece's wanted bytes.
+fn has_wanted(held: &[u8], placed: &Placed<'_>, size: u64, fields: &[Field]) -> bool
     requires inside { All (FitsIn size) fields.now }
     requires rising { AllPairs EndsBefore fields.now }
-    ensures { IsTrue result ↔ ((k : ℕ) → k < size → segment_byte image.now segment.now (placed.now.at + k) ≡ byte_of placed.now.piece.bytes.now k (find (covers k) fields.now)) }
+    ensures { IsTrue result ↔ ((k : ℕ) → k < size → slice_index held.now k ≡ byte_of placed.now.piece.bytes.now k (find (covers k) fields.now)) }
 {
-    let held = file_bytes(image, segment, placed.at, size);
     are_wanted(held, placed.piece.bytes, fields, size)
 }
 
@@ -97,8 +85,8 @@ fn holds_piece(memory: &Memory<'_>, rows: &[Vec<Field>], placed: &Placed<'_>) ->
         return true;
     }
     let fields = fields_in(rows, piece.object, piece.section);
-    match enclosing(memory, placed.at, size) {
-        Some(segment) => is_held_by(memory.image(), &segment, placed, size, fields),
+    match memory.run(placed.at, size) {
+        Some(run) => has_wanted(run.bytes, placed, size, fields),
         None => false,
     }
 }

@@ -81,17 +81,6 @@ pub fn sub_part<'f>(part: &'f [u8], offset: usize, len: usize) -> &'f [u8]
     bytes
 }
 
-/// The bytes that the file has for an enclosed range of a segment's addresses; behind them are zeros.
-pub fn file_bytes<'f>(image: &'f [u8], segment: &ProgramHeader, at: u64, len: u64) -> &'f [u8]
-    requires lawful { IsLawful (length image.now) segment.now }
-    requires enclosed { Encloses segment.now at len }
-    ensures short { length result.now ≤ len }
-    ensures same { (k : ℕ) → k < len → segment_byte image.now segment.now (at + k) ≡ slice_index result.now k }
-{
-    let part = file_part(image, segment);
-    sub_part(part, (at - segment.p_vaddr) as usize, len as usize)
-}
-
 /// Whether two runs are equal where bytes past an end count as 0.
 pub fn same_padded(a: &[u8], b: &[u8]) -> bool
     ensures { IsTrue result ↔ ((k : ℕ) → slice_index a.now k ≡ slice_index b.now k) }

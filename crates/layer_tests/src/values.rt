@@ -16,7 +16,8 @@ use elf_model::{
 use got_tls::{Slots, slots};
 use layout::{Placement, kinds, place};
 use relocate::{
-    Kind, Patches, RelocFault, Terms, apply, fits, linker_lines, patches, references, value,
+    Kind, Patches, RelocFault, Terms, apply, apply_part, fits, linker_lines, next_field, patches,
+    references, value,
 };
 use resolve::{Resolved, resolve};
 use search::Loaded;
@@ -129,6 +130,39 @@ fn applied(alloc: Global, loaded: &Loaded<'_>, number: usize) -> Result<Vec<u8>,
         section: number as u64,
     };
     apply(&patches, section, &mut bytes);
+    Ok(bytes)
+}
+
+/// The patches of objects that are laid out from 0x400000 on.
+fn laid_out<'a>(alloc: Global, loaded: &Loaded<'a>) -> Result<Patches<'a>, Fail> {
+    kinds(loaded)?;
+    let resolved = resolve(alloc, loaded)?;
+    let slots = slots(alloc, loaded, &resolved)?;
+    let placement = place(alloc, loaded, &resolved, slots.got(), 0x400000)?;
+    let patches = judged_patches(alloc, loaded, &resolved, &placement, &slots)?;
+    Ok(patches)
+}
+
+/// Section 2 of the first object, `.rodata`.
+fn rodata() -> SectionRef {
+    SectionRef {
+        object: ObjectId(0),
+        section: 2,
+    }
+}
+
+/// The bytes that are wanted of `.rodata`, written in two parts.
+fn in_two_parts(
+    alloc: Global,
+    patches: &Patches<'_>,
+    input: &[u8],
+    middle: usize,
+) -> Result<Vec<u8>, Fail> {
+    let mut bytes = Vec::from_slice(alloc, input)?;
+    let middle = middle.min(bytes.len());
+    let (front, back) = bytes.split_at_mut(middle);
+    apply_part(patches, rodata(), 0, front);
+    apply_part(patches, rodata(), middle as u64, back);
     Ok(bytes)
 }
 
@@ -302,6 +336,27 @@ fn fields_have_their_values(rt: HostRuntime) -> Result<(), Fail> {
     assert!(rt; rodata.as_slice() == [0xe0, 0x1e, 0, 0, 5].as_slice());
     assert!(rt; text.as_slice() == [0xb8, 0x3c, 0, 0, 0, 0x31, 0xff, 0x0f, 0x05].as_slice());
     assert!(rt; data_.as_slice() == [0x21, 0x01, 0x40, 0, 0, 0, 0, 0].as_slice());
+    Ok(())
+}
+
+#[test]
+fn fields_are_written_in_parts(rt: HostRuntime) -> Result<(), Fail> {
+    let alloc = rt.alloc();
+    let file = object_of(alloc, entry(0, 2, 1, 0), entry(0, 1, 2, 1))?;
+    let loaded = load_alone(alloc, &file)?;
+    let patches = laid_out(alloc, &loaded)?;
+    let input = input_of(&loaded, 2).ok_or("no section's bytes")?;
+    // As above; the field has the first four of five bytes, so a cut is before it, in it, at its end or at the section's end.
+    for middle in 0..6 {
+        let bytes = in_two_parts(alloc, &patches, input, middle)?;
+        assert!(rt;
+            bytes.as_slice() == [0xe0, 0x1e, 0, 0, 5].as_slice(),
+            "at {middle}"
+        );
+    }
+    for (from, next) in [(0, 0), (1, 1), (3, 3), (4, u64::MAX), (5, u64::MAX)] {
+        assert_eq!(rt; next_field(&patches, rodata(), from), next, "from {from}");
+    }
     Ok(())
 }
 

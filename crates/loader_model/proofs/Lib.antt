@@ -3,3 +3,4 @@ pub mod MemoryLemmas
 pub mod Neighbours
 pub mod Pages
 pub mod TableOrder
+pub mod SegmentsApart

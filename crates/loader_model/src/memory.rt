@@ -1,9 +1,10 @@
 //! Memory as a loader makes it of an image (System V gABI 5, "Program Loading").
-ghost use Rattle.std.specs.Prelude.{◌≡◌, ◌+◌, ◌*◌, ◌<◌, ◌≤◌, IsTrue, List, ℕ, IfOk, IfErr, IfSome, IsSome, SomeIff, true, option_copied, length, option_map, find, slice_index, Contains, Any, ◌↔◌, map, filter};
+ghost use Rattle.std.specs.Prelude.{◌≡◌, ◌+◌, ◌*◌, ◌<◌, ◌≤◌, AllPairs, IsTrue, List, ℕ, IfOk, IfErr, IfSome, IsSome, SomeIff, true, option_copied, length, option_map, find, slice_index, slice_index_or, Contains, Any, ◌↔◌, map, filter};
 ghost use Rattle.std.specs.List.{range_with_len};
 ghost use Rattle.elf_model.specs.MemoryImage.{Encloses, HasImageHeader, image_ident, is_thread_block, segment_byte, IsImage, IsImageHeader, LoadFaultStands, loads, loads_in, maps, memory_of, program_header_at, program_headers, thread_blocks};
 ghost use Rattle.elf_model.specs.Records.{file_header};
-ghost use Rattle.loader_model.specs.Table.{FaultInTable, IsGoodTable, IsLawful};
+ghost use Rattle.loader_model.specs.Table.{EndsBefore, FaultInTable, IsGoodTable, IsLawful};
+ghost use Rattle.std.specs.List.Sorted.{IsNonDecreasingBy};
 ghost use Rattle.loader_model.specs.Memory.{IsRun};
 ghost use Rattle.loader_model.specs.Rights.{rights_sum};
 ghost use Rattle.elf_model.specs.declared.faults.LoadFault.TheVariants as faults;
@@ -288,17 +289,36 @@ fn rights_in(segment: &ProgramHeader, len: usize) -> Rights
     }
 }
 
-/// The first segment that encloses a range of addresses.
+/// How many of the segments, which stand by address, begin at or below an address.
+fn count_begun(segments: &[ProgramHeader], addr: u64) -> usize
+    requires { IsNonDecreasingBy (λ h. h.p_vaddr) segments.now }
+    ensures within { result ≤ length segments.now }
+    ensures begun { (k : ℕ) (d : ProgramHeader) → k < result → (slice_index_or segments.now k d).p_vaddr ≤ addr }
+    ensures not_yet { (k : ℕ) (d : ProgramHeader) → result ≤ k → k < length segments.now → addr < (slice_index_or segments.now k d).p_vaddr }
+{
+    segments.partition_point(|h| h.p_vaddr <= addr)
+}
+
+/// A segment that encloses a range of addresses. Each segment ends before the next begins.
 fn find_enclosing<'s>(
     segments: &'s [ProgramHeader],
     addr: u64,
     len: u64,
 ) -> Option<&'s ProgramHeader>
+    requires { AllPairs EndsBefore segments.now }
     ensures found { IsSome result ↔ Any (λ h. Encloses h addr len) segments.now }
     ensures encloses { IfSome result (λ h. Encloses h.now addr len) }
     ensures there { IfSome result (λ h. Contains segments.now h.now) }
 {
-    segments.iter().find(|h| is_enclosed_by(h, addr, len))
+    let begun = count_begun(segments, addr);
+    if begun == 0 {
+        return None;
+    }
+    let last = &segments[begun - 1];
+    if !is_enclosed_by(last, addr, len) {
+        return None;
+    }
+    Some(last)
 }
 
 fn is_enclosed_by(segment: &ProgramHeader, addr: u64, len: u64) -> bool

@@ -21,4 +21,5 @@ pub mod ImageOwn
 pub mod OwnGot
 mod SlotLaws
 pub mod OwnSlots
+pub mod OwnLayouts
 pub mod OwnRight

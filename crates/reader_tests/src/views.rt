@@ -1,4 +1,6 @@
 //! Views of bytes.
+ghost use Rattle.std.specs.Prelude.{◌≤◌, length};
+
 use byteview::{View, all_byte, equal_run};
 use std::test::Fail;
 
@@ -81,4 +83,52 @@ fn runs_are_compared_whole(rt: HostRuntime) {
     assert!(rt; !equal_run(&INDEX, &OFFSET));
     assert!(rt; all_byte(&[0x90; 5], 0x90));
     assert!(rt; !all_byte(&OFFSET, 0));
+}
+
+/// Whether two runs of the same length have the same bytes, byte by byte.
+fn have_same_bytes(a: &[u8], b: &[u8]) -> bool {
+    for (x, y) in a.iter().zip(b) {
+        if *x != *y {
+            return false;
+        }
+    }
+    true
+}
+
+/// Whether each byte of a run is `x`, byte by byte.
+fn is_filled(a: &[u8], x: u8) -> bool {
+    for byte in a {
+        if *byte != x {
+            return false;
+        }
+    }
+    true
+}
+
+/// Whether the first bytes of two runs are compared as byte by byte.
+fn fronts_are_compared(a: &[u8], b: &[u8], len: usize) -> bool
+    requires a { len ≤ length a.now }
+    requires b { len ≤ length b.now }
+{
+    let (a, _) = a.split_at(len);
+    let (b, _) = b.split_at(len);
+    equal_run(a, b) == have_same_bytes(a, b) && all_byte(b, 0x90) == is_filled(b, 0x90)
+}
+
+#[test]
+fn runs_of_all_lengths_are_compared(rt: HostRuntime) -> Result<(), Fail> {
+    // One byte differs, at each place, in runs of each length that end before it or after.
+    let alloc = rt.alloc();
+    let same = vec![in alloc; 0x90; 131]?;
+    for place in 0..131 {
+        let mut other = vec![in alloc; 0x90; 131]?;
+        other[place] = 0x91;
+        for len in 0..131 {
+            assert!(rt;
+                fronts_are_compared(&same, &other, len),
+                "{len} bytes, of which {place} differs"
+            );
+        }
+    }
+    Ok(())
 }

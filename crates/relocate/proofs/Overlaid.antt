@@ -1,11 +1,11 @@
 -- Values over the bytes of a part of a section: one by one, they give the byte of the field that has it.
-use Rattle.std.proofs.Common.{◌≡◌, ℕ, suc, ◌+◌, ◌-◌, ◌<◌, ◌≤◌, Bool, true, false, cond, List, [], ◌∷◌, ◌++◌, Option, None, Some, add-one, drop, drop-cons, get_or, length, min, nat_lt, refl, slice_index, sym, ap, subst, take, ◌∙◌, arith}
+use Rattle.std.proofs.Common.{◌≡◌, ℕ, ◌+◌, ◌-◌, ◌<◌, ◌≤◌, Bool, true, false, cond, List, [], ◌∷◌, Option, None, Some, add-one, drop, drop-cons, get_or, length, min, nat_lt, refl, slice_index, sym, ap, subst, take, ◌∙◌, arith}
 use Rattle.std.specs.Prelude.{AllPairs, find}
 use Rattle.std.proofs.lemmas.Bool.{false_from_ne_true, ltb-false, ltb-true}
 use Rattle.std.proofs.lemmas.Bool.Decides.{nat_tests}
 use Rattle.std.proofs.lemmas.List.{get_or-drop, get_or_default, length-drop, places}
 use borrow.Rule.Slice.PartMut.{put_mid}
-use Rattle.byteview.proofs.NumberLaws.{length-le_bytes, take-le_bytes}
+use Rattle.byteview.proofs.NumberLaws.{take-le_bytes}
 use Rattle.byteview.specs.Numbers.{le_bytes}
 use Rattle.elf_model.proofs.Finding.{find-none}
 use Rattle.relocate.specs.Patches.{AreDisjoint, byte_in, covers, patched_byte}

@@ -1,5 +1,5 @@
 -- Patches that are apart, in the order of their places, end in that order too.
-use Rattle.std.proofs.Common.{◌≡◌, ℕ, ◌+◌, ◌<◌, ◌≤◌, Bool, true, false, List, [], ◌∷◌, None, Some, cond, get_or, length, nat_lt, refl, subst, sym, arith}
+use Rattle.std.proofs.Common.{◌≡◌, ℕ, ◌<◌, ◌≤◌, Bool, true, false, List, [], ◌∷◌, None, Some, cond, get_or, length, nat_lt, refl, subst, sym, arith}
 use Rattle.std.specs.Prelude.{All, AllPairs, IsSome, find}
 use Rattle.std.specs.List.Sorted.{IsNonDecreasingBy}
 use Rattle.std.proofs.lemmas.Bool.{ltb-false, ltb-true}

@@ -1,19 +1,14 @@
 -- The patches of a section of an object: the one that has a byte, that they are apart, and how wide they are.
-use Rattle.std.proofs.Common.{◌≡◌, ℕ, ◌+◌, ◌<◌, ◌≤◌, ◌&&◌, Bool, true, List, get_or, length, map, option_map, subst, sym, ap, ◌∙◌, arith}
+use Rattle.std.proofs.Common.{◌≡◌, ℕ, ◌<◌, ◌&&◌, Bool, true, List, get_or, length, option_map, sym, ap, ◌∙◌, arith}
 use Rattle.std.specs.Prelude.{All, AllPairs, filter, find}
-use Rattle.std.specs.List.{range_with_len}
-use Rattle.std.proofs.lemmas.Bool.{eqb-true}
-use Rattle.std.proofs.lemmas.List.{ext_get_or}
 use Rattle.std.proofs.lemmas.List.Elements.{All-filter, All-map, filter_passes}
-use Rattle.std.proofs.lemmas.List.FromFn.{get_or-map-range_with_len, length-map-range_with_len}
 use Rattle.std.proofs.lemmas.List.Kept.{AllPairs-filter}
 use Rattle.elf_model.proofs.Found.{find-agree, find-filter, find-map}
 use Rattle.elf_model.proofs.Pairs.{AllPairs-map}
-use Rattle.elf_model.proofs.RelocationFields.{ends_inside, own_object, own_sizes, width_some}
+use Rattle.elf_model.proofs.RelocationFields.{width_some}
 use Rattle.elf_model.specs.Loading.{LoadedObject}
-use Rattle.elf_model.specs.ObjectFile.{section, sections}
 use Rattle.elf_model.specs.Placement.{Where}
-use Rattle.elf_model.specs.Relocation.{AreFieldsApart, IsLawfulRelocation, Relocation, is_in_field, relocations_from, width_of}
+use Rattle.elf_model.specs.Relocation.{AreFieldsApart, IsLawfulRelocation, Relocation, is_in_field}
 use Rattle.elf_model.proofs.OwnFields.{in_range}
 use Rattle.relocate.specs.Patches.{AreDisjoint, IsNarrow, covers}
 use Rattle.relocate.specs.Values.{is_in_section, patch_of, patches_in}

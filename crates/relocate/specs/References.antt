@@ -1,12 +1,10 @@
 -- What is asked of relocations, and why they are refused.
-use Rattle.std.specs.Prelude.{◌≡◌, ◌≢◌, ◌==◌, ◌&&◌, ℕ, Bool, false, true, cond, List, [], Option, None, Some, All, AllPairs, Any, IsSomeAnd, codes, slice_index_or, unwrap_or}
+use Rattle.std.specs.Prelude.{◌≡◌, ◌≢◌, ℕ, cond, List, Option, None, Some, All, AllPairs, Any}
 use Rattle.std.specs.List.{slice_get}
-use Rattle.std.specs.Str.{bytes_eq}
 use Rattle.elf_model.specs.Causes.{IsToDropped, IsToMixed, IsUndefinedName}
-use Rattle.elf_model.specs.Loading.{LoadedObject, is_dropped}
-use Rattle.elf_model.specs.ObjectFile.{null_symbol, section_name, sections, symbols}
+use Rattle.elf_model.specs.Loading.{LoadedObject}
+use Rattle.elf_model.specs.ObjectFile.{sections}
 use Rattle.elf_model.specs.Meaning.{Meaning}
-use Rattle.elf_model.specs.Pieces.{is_kept}
 use Rattle.elf_model.specs.Relocation.{AreFieldsApart, IsFieldInside, IsLawfulRelocation, IsThreadMismatch, Relocation, relocation_kind, relocations}
 use Rattle.elf_model.specs.Resolution.{binding, is_undefined}
 use Rattle.relocate.specs.declared.faults.RelocFault.{RelocFault}

@@ -10,7 +10,7 @@ ghost use Rattle.elf_model.specs.Slots.{size_with, slot_bytes};
 ghost use Rattle.checker.specs.Got.{HoldsBytes, LiesInImage};
 
 use crate::bound_link::BoundLink;
-use crate::segments::{enclosing, file_bytes, same_padded};
+use crate::segments::same_padded;
 use check_relocs::{Bindings, symbol_at};
 use elf_model::{GotLine, SlotKind, SlotLine, SlotTarget};
 use loader_model::Memory;
@@ -96,9 +96,8 @@ fn holds_bytes(memory: &Memory<'_>, at: u64, bytes: &[u8]) -> bool
     requires encloses { Any (λ h. Encloses h at (length bytes.now)) (loads memory.now) }
     ensures { IsTrue result ↔ HoldsBytes memory.now at bytes.now }
 {
-    let size = bytes.len() as u64;
-    match enclosing(memory, at, size) {
-        Some(segment) => same_padded(file_bytes(memory.image(), &segment, at, size), bytes),
+    match memory.run(at, bytes.len() as u64) {
+        Some(run) => same_padded(run.bytes, bytes),
         None => false,
     }
 }

@@ -5,7 +5,7 @@ use Rattle.elf_model.specs.MemoryImage.{Encloses}
 use Rattle.elf_model.specs.declared.records.ProgramHeader.{ProgramHeader}
 use Rattle.loader_model.specs.Table.{EndsBefore, IsLawful}
 use Rattle.checker.proofs.Parts.{lawful_loads}
-use Rattle.checker.proofs.SegmentsApart.{loads_apart}
+use Rattle.loader_model.proofs.SegmentsApart.{loads_apart}
 use Rattle.checker.proofs.segments.enclosing.Goals as goal
 
 -- where a fact of what may be found gives another

@@ -1,4 +1,4 @@
-use Rattle.std.proofs.Common.{List, arith, ap, length, subst, sym, take, ℕ, ◌+◌, ◌-◌, ◌≡◌, ◌∷◌, [], ◌∙◌}
+use Rattle.std.proofs.Common.{List, arith, ap, length, subst, take, ℕ, ◌+◌, ◌-◌, ◌≡◌, ◌∷◌, [], ◌∙◌}
 use Rattle.std.specs.Prelude.{slice_index}
 use borrow.Rule.Slice.PartMut.{put_mid}
 use Rattle.byteview.proofs.NumberLaws.{low_first_is}

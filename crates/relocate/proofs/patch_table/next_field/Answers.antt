@@ -1,4 +1,4 @@
-use Rattle.std.proofs.Common.{List, Option, ap, arith, get_or, subst, sym, ◌<◌, ◌≤◌, ◌∙◌}
+use Rattle.std.proofs.Common.{List, Option, ap, arith, get_or, subst, sym, ◌<◌, ◌∙◌}
 use Rattle.std.specs.Prelude.{IsSome, find}
 use Rattle.std.proofs.lemmas.List.{nil_from_length}
 use Rattle.relocate.proofs.RisingRows.{first_has, none_earlier}

@@ -1,4 +1,4 @@
-use Rattle.std.proofs.Common.{List, ap, get_or, ◌∙◌, arith}
+use Rattle.std.proofs.Common.{List, ap, get_or, ◌∙◌}
 use Rattle.std.specs.Prelude.{find}
 use Rattle.relocate.specs.Patches.{covers}
 use Rattle.relocate.specs.declared.patch.Patch.{Patch}
