@@ -11,6 +11,7 @@ ghost use Rattle.search.specs.Waiting.{ArePlaced, Covers, CoversBut, NextWait, p
 
 use crate::loader::Loader;
 use ar_index::IndexEntry;
+use elf_model::NameSeed;
 use indexmap::IndexMap;
 use std::alloc::{AllocError, Global};
 use std::collections::BTreeSet;
@@ -19,7 +20,7 @@ use std::collections::BTreeSet;
 #[derive(Drop)]
 pub struct Waits<'a> {
     /// The places of each name, in order.
-    places: IndexMap<&'a [u8], Vec<usize>>,
+    places: IndexMap<&'a [u8], Vec<usize>, NameSeed>,
     /// The places that may give the next member.
     waiting: BTreeSet<usize>,
     /// How many of the names that are asked for have been looked at.
@@ -29,7 +30,7 @@ pub struct Waits<'a> {
 /// Adds a place of a name.
 fn add_place<'a>(
     alloc: Global,
-    places: &mut IndexMap<&'a [u8], Vec<usize>>,
+    places: &mut IndexMap<&'a [u8], Vec<usize>, NameSeed>,
     name: &'a [u8],
     place: usize,
 ) -> Result<(), AllocError>
@@ -44,10 +45,10 @@ fn add_place<'a>(
 fn places_of<'a>(
     alloc: Global,
     entries: &[IndexEntry<'a>],
-) -> Result<IndexMap<&'a [u8], Vec<usize>>, AllocError>
+) -> Result<IndexMap<&'a [u8], Vec<usize>, NameSeed>, AllocError>
     ensures { IfOk result (ArePlaced entries.now) }
 {
-    let mut places = IndexMap::new(alloc);
+    let mut places = IndexMap::with_hasher(alloc, NameSeed::fixed());
     for (i, entry) in entries.iter().enumerate() {
         add_place(alloc, &mut places, entry.name(), i)?;
     }
@@ -75,7 +76,7 @@ fn waiting_now<'a>(
 
 /// Lets the places of a name wait.
 fn wake<'a>(
-    places: &IndexMap<&'a [u8], Vec<usize>>,
+    places: &IndexMap<&'a [u8], Vec<usize>, NameSeed>,
     waiting: &mut BTreeSet<usize>,
     name: &'a [u8],
 ) -> Result<(), AllocError>
