@@ -15,6 +15,7 @@ use elf_model::NameSeed;
 use indexmap::IndexMap;
 use std::alloc::{AllocError, Global};
 use std::collections::BTreeSet;
+use symbols::NameTable;
 
 /// The places of an index's entries, by their names in the archive's index.
 #[derive(Drop)]
@@ -56,13 +57,13 @@ fn places_of<'a>(
 }
 
 /// The places of an index that may give the next member now.
-fn waiting_now<'a>(
+fn waiting_now<'a, T: NameTable<'a>>(
     alloc: Global,
-    loader: &Loader<'_, 'a>,
+    loader: &Loader<'_, 'a, T>,
     item: u64,
     entries: &[IndexEntry<'a>],
 ) -> Result<BTreeSet<usize>, AllocError>
-    requires { Knows loader.now }
+    requires { Knows T.rows loader.now }
     ensures { IfOk result (NextWait loader.now item entries.now) }
 {
     let mut waiting = BTreeSet::new(alloc);
@@ -93,13 +94,13 @@ fn wake<'a>(
 
 /// Takes the first place off that gives a next member, and all before it, which give none; answers the
 /// member's offset. None where no place gives one.
-fn pop_next<'a>(
+fn pop_next<'a, T: NameTable<'a>>(
     waiting: &mut BTreeSet<usize>,
-    loader: &Loader<'_, 'a>,
+    loader: &Loader<'_, 'a, T>,
     item: u64,
     entries: &[IndexEntry<'a>],
 ) -> Option<u64>
-    requires known { Knows loader.now }
+    requires known { Knows T.rows loader.now }
     requires wait { NextWait loader.now item entries.now waiting.old }
     ensures exact { result ≡ option_map (λ e. e.offset) (find (is_next_of loader.now.plan.now (loaded loader.now) item) entries.now) }
     ensures rest { (q : ℕ) (e : archive.IndexEntry) → slice_get entries.now q ≡ Some e → is_next_of loader.now.plan.now (loaded loader.now) item e ≡ true → (contains nat_cmp waiting.new q ≡ true) ⊎ (result ≡ Some e.offset) }
@@ -117,13 +118,13 @@ fn pop_next<'a>(
 
 impl<'a> Waits<'a> {
     /// What may give the next member of an archive now.
-    pub fn new(
+    pub fn new<T: NameTable<'a>>(
         alloc: Global,
-        loader: &Loader<'_, 'a>,
+        loader: &Loader<'_, 'a, T>,
         item: u64,
         entries: &[IndexEntry<'a>],
     ) -> Result<Waits<'a>, AllocError>
-        requires { Knows loader.now }
+        requires { Knows T.rows loader.now }
         ensures { IfOk result (Covers loader.now item entries.now) }
     {
         Ok(Waits {
@@ -134,7 +135,7 @@ impl<'a> Waits<'a> {
     }
 
     /// Lets the places wait whose names were asked for meanwhile.
-    fn catch_up(&mut self, loader: &Loader<'_, 'a>) -> Result<(), AllocError>
+    fn catch_up<T: NameTable<'a>>(&mut self, loader: &Loader<'_, 'a, T>) -> Result<(), AllocError>
         ensures covers { OnOk result ((item : ℕ) (es : List archive.IndexEntry) → Covers loader.now item es self.old → Covers loader.now item es self.new) }
         ensures seen { OnOk result (length loader.now.names.requested ≤ self.new.seen) }
     {
@@ -150,13 +151,13 @@ impl<'a> Waits<'a> {
     }
 
     /// The offset of the member that is next; its place waits no longer.
-    pub fn next(
+    pub fn next<T: NameTable<'a>>(
         &mut self,
-        loader: &Loader<'_, 'a>,
+        loader: &Loader<'_, 'a, T>,
         item: u64,
         entries: &[IndexEntry<'a>],
     ) -> Result<Option<u64>, AllocError>
-        requires known { Knows loader.now }
+        requires known { Knows T.rows loader.now }
         requires covers { Covers loader.now item entries.now self.old }
         ensures exact { IfOk result (λ r. r ≡ option_map (λ e. e.offset) (find (is_next_of loader.now.plan.now (loaded loader.now) item) entries.now)) }
         ensures covers { IfOk result (λ r. CoversBut loader.now item entries.now self.new r) }
