@@ -22,8 +22,8 @@ pub returns-clause-defined : goal.returns-clause-defined
 returns-clause-defined g c =
     sorted_chosen (loaded_views c.args.objects.now) c.in_ok-found.found.items c.in_ok-found.ensures (g.T.NameTable.rows c.offer_all.new.table) c.keep_meant.new.definitions.items c.by_name.result.items
     (c.in_ok-offer_all.ensures
-    ∙ ap (λ (xs : List code.SymbolOf). all_offered (offers_of (symbol_views xs)) (g.T.NameTable.rows c.reserve.new.self)) c.deref.ensures.value
-    ∙ ap (all_offered (offers_of (symbol_views c.in_ok-found.found.items))) (c.reserve.ensures ∙ c.requires))
+    ∙ ap (λ (xs : List code.SymbolOf). all_offered (offers_of (symbol_views xs)) (g.T.NameTable.rows c.args.table.now)) c.deref.ensures.value
+    ∙ ap (all_offered (offers_of (symbol_views c.in_ok-found.found.items))) c.requires)
     c.keep_meant.ensures c.by_name.ensures.same c.by_name.ensures.rising
     (subst (λ (xs : List code.SymbolOf). HasNoStrongTwins (symbol_views xs)) c.deref-2.ensures.value c.in_default.ensures.none)
     (c.are_sound_commons.ensures.0 c.if-not-are_sound_commons.false) (c.are_sound.ensures.0 c.if-not-are_sound.false)
@@ -35,6 +35,6 @@ returns-clause-blocks g c =
     ∙ ap (λ (xs : List code.SymbolOf). blocks_by (g.T.NameTable.rows c.offer_all.new.table) (length c.args.objects.now) 0 (filter is_common_symbol (symbol_views xs))) c.deref-3.ensures.value
     ∙ kept_blocks L c.in_ok-found.found.items c.in_ok-found.ensures (g.T.NameTable.rows c.offer_all.new.table) c.keep_meant.new.definitions.items (length c.args.objects.now)
     (c.in_ok-offer_all.ensures
-    ∙ ap (λ (xs : List code.SymbolOf). all_offered (offers_of (symbol_views xs)) (g.T.NameTable.rows c.reserve.new.self)) c.deref.ensures.value
-    ∙ ap (all_offered (offers_of (symbol_views c.in_ok-found.found.items))) (c.reserve.ensures ∙ c.requires))
+    ∙ ap (λ (xs : List code.SymbolOf). all_offered (offers_of (symbol_views xs)) (g.T.NameTable.rows c.args.table.now)) c.deref.ensures.value
+    ∙ ap (all_offered (offers_of (symbol_views c.in_ok-found.found.items))) c.requires)
     c.keep_meant.ensures (sym (length-map c.args.objects.now loaded_view))
