@@ -1,4 +1,4 @@
-use Rattle.std.proofs.Common.{◌≤◌, ◌∙◌, ap, length, subst, sym, List}
+use Rattle.std.proofs.Common.{◌≤◌, ◌∙◌, ap, length, refl, subst, sym, List}
 use Rattle.resolve.specs.Offered.{offers_of}
 use Rattle.symbols.specs.Offers.{all_offered}
 use Rattle.std.specs.Prelude.{count_by, filter}
@@ -17,6 +17,17 @@ returns-in-Some-clause-fault g c =
     refused (loaded_views c.args.objects.now) c.in_ok-found.found.items c.in_ok-found.ensures c.in-Some.name.now c.duplicate.result
     (subst (λ (xs : List code.SymbolOf). 2 ≤ count_by (is_strong_of c.in-Some.name.now) (symbol_views xs)) c.deref-2.ensures.value c.in-Some.ensures.found)
     c.duplicate.ensures
+
+pub keep_meant-requires : goal.keep_meant-requires
+keep_meant-requires g c = λ k. (
+  (refl, tt),
+  (
+    c.in_ok-offer_all.ensures
+        ∙ ap (λ (xs : List code.SymbolOf). all_offered (offers_of (symbol_views xs)) (g.T.NameTable.rows c.args.table.now)) c.deref.ensures.value
+        ∙ ap (all_offered (offers_of (symbol_views c.in_ok-found.found.items))) c.requires,
+    subst (λ (xs : List code.SymbolOf). HasNoStrongTwins (symbol_views xs)) c.deref-2.ensures.value c.in_default.ensures.none,
+  ),
+)
 
 pub returns-clause-defined : goal.returns-clause-defined
 returns-clause-defined g c =
