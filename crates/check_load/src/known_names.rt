@@ -3,6 +3,7 @@ ghost use Rattle.std.specs.Prelude.{◌≡◌, ◌&&◌, ◌||◌, ℕ, IfOk, Li
 ghost use Rattle.std.specs.Str.{bytes_eq};
 ghost use Rattle.check_load.specs.Names.{defines_name, requests_name};
 
+use elf_model::NameSeed;
 use indexmap::IndexMap;
 use std::alloc::{AllocError, Global};
 use std::marker::Model;
@@ -37,7 +38,7 @@ fn take_in(state: &mut NameState, said: NameState) -> bool
 /// The names that were noted, with what is known of them.
 #[derive(Drop)]
 pub struct KnownNames<'a> {
-    states: IndexMap<&'a [u8], NameState>,
+    states: IndexMap<&'a [u8], NameState, NameSeed>,
 }
 
 impl<'a> Model for KnownNames<'a> {
@@ -55,7 +56,7 @@ impl<'a> KnownNames<'a> {
         ensures defined { (n : List ℕ) → defines_name result n ≡ false }
     {
         KnownNames {
-            states: IndexMap::new(alloc),
+            states: IndexMap::with_hasher(alloc, NameSeed::fixed()),
         }
     }
 

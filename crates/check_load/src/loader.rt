@@ -26,7 +26,7 @@ use crate::taken_members::Taken;
 use ar_index::IndexEntry;
 use byteview::View;
 use command::Plan;
-use elf_model::{ObjFault, SHT_RELA, SectionHeader};
+use elf_model::{NameSeed, ObjFault, SHT_RELA, SectionHeader};
 use elf_read::Object;
 use indexmap::IndexSet;
 use std::alloc::{AllocError, Global};
@@ -85,7 +85,7 @@ impl<'a> Loaded<'a> {
 pub struct Loader<'p, 'a> {
     plan: &'p Plan<'a>,
     objects: Vec<Loaded<'a>>,
-    seen: IndexSet<&'a [u8]>,
+    seen: IndexSet<&'a [u8], NameSeed>,
     names: KnownNames<'a>,
     taken: Taken,
     awake: Awake,
@@ -174,7 +174,7 @@ impl<'p, 'a> Loader<'p, 'a> {
         Ok(Loader {
             plan,
             objects: Vec::new(alloc),
-            seen: IndexSet::new(alloc),
+            seen: IndexSet::with_hasher(alloc, NameSeed::fixed()),
             names,
             taken: Taken::new(alloc),
             awake,

@@ -8,6 +8,7 @@ ghost use Rattle.check_load.specs.Places.{IsWoken, ArePlaced, IsPlaced, has_plac
 use crate::archives::Input;
 use crate::awake_entries::Awake;
 use ar_index::IndexEntry;
+use elf_model::NameSeed;
 use indexmap::IndexMap;
 use std::alloc::{AllocError, Global};
 use std::marker::Model;
@@ -17,7 +18,7 @@ use std::marker::Model;
 #[derive(Drop)]
 pub struct Places<'i, 'a> {
     inputs: &'i [Input<'a>],
-    names: IndexMap<&'a [u8], Vec<(u64, usize)>>,
+    names: IndexMap<&'a [u8], Vec<(u64, usize)>, NameSeed>,
 }
 
 impl<'i, 'a> Model for Places<'i, 'a> {
@@ -35,7 +36,7 @@ impl<'i, 'a> Model for Places<'i, 'a> {
 /// Adds a place of a name.
 fn add_place<'a>(
     alloc: Global,
-    names: &mut IndexMap<&'a [u8], Vec<(u64, usize)>>,
+    names: &mut IndexMap<&'a [u8], Vec<(u64, usize)>, NameSeed>,
     name: &'a [u8],
     place: (u64, usize),
 ) -> Result<(), AllocError>
@@ -49,7 +50,7 @@ fn add_place<'a>(
 /// Adds the places of the entries of an item's index.
 fn add_entries<'a>(
     alloc: Global,
-    names: &mut IndexMap<&'a [u8], Vec<(u64, usize)>>,
+    names: &mut IndexMap<&'a [u8], Vec<(u64, usize)>, NameSeed>,
     item: u64,
     entries: &[IndexEntry<'a>],
 ) -> Result<(), AllocError>
@@ -65,7 +66,7 @@ fn add_entries<'a>(
 /// Adds the places of the entries of an input, where it is an archive with an index.
 fn add_input<'a>(
     alloc: Global,
-    names: &mut IndexMap<&'a [u8], Vec<(u64, usize)>>,
+    names: &mut IndexMap<&'a [u8], Vec<(u64, usize)>, NameSeed>,
     input: &Input<'a>,
 ) -> Result<(), AllocError>
     ensures placed { OnOk result (IsPlaced names.new.entries input.now) }
@@ -85,10 +86,10 @@ fn add_input<'a>(
 fn names_of<'a>(
     alloc: Global,
     inputs: &[Input<'a>],
-) -> Result<IndexMap<&'a [u8], Vec<(u64, usize)>>, AllocError>
+) -> Result<IndexMap<&'a [u8], Vec<(u64, usize)>, NameSeed>, AllocError>
     ensures { IfOk result (λ m. ArePlaced m.entries inputs.now) }
 {
-    let mut names = IndexMap::new(alloc);
+    let mut names = IndexMap::with_hasher(alloc, NameSeed::fixed());
     for input in inputs {
         add_input(alloc, &mut names, input)?;
     }

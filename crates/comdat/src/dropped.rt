@@ -7,6 +7,7 @@ ghost use Rattle.comdat.specs.Signatures.{Begins, names_of};
 
 use crate::lawfulness::is_comdat;
 use crate::marks::{mark, marked_numbers};
+use elf_model::NameSeed;
 use elf_read::Group;
 use indexmap::IndexSet;
 use std::alloc::{AllocError, Global};
@@ -50,7 +51,7 @@ impl Dropped {
 /// Signatures that were seen stay where they are, also where memory is refused.
 pub fn admit_groups<'a>(
     alloc: Global,
-    signatures: &mut IndexSet<&'a [u8]>,
+    signatures: &mut IndexSet<&'a [u8], NameSeed>,
     groups: &[Group<'a>],
     count: usize,
 ) -> Result<Dropped, AllocError>
@@ -70,7 +71,7 @@ pub fn admit_groups<'a>(
 
 /// Admits one group, and marks its members where it is dropped.
 fn admit_group<'a>(
-    signatures: &mut IndexSet<&'a [u8]>,
+    signatures: &mut IndexSet<&'a [u8], NameSeed>,
     marks: &mut [bool],
     group: &Group<'a>,
 ) -> Result<(), AllocError>

@@ -6,7 +6,7 @@ ghost use Rattle.elf_model.specs.declared.faults.GroupFault.TheVariants as fault
 
 use crate::dropped::{Dropped, admit_groups};
 use crate::lawfulness::judge;
-use elf_model::GroupFault;
+use elf_model::{GroupFault, NameSeed};
 use elf_read::Object;
 use indexmap::IndexSet;
 use std::alloc::Global;
@@ -17,7 +17,7 @@ use std::marker::Model;
 #[derive(Drop)]
 pub struct Groups<'a> {
     alloc: Global,
-    signatures: IndexSet<&'a [u8]>,
+    signatures: IndexSet<&'a [u8], NameSeed>,
 }
 
 impl<'a> Model for Groups<'a> {
@@ -36,7 +36,7 @@ impl<'a> Groups<'a> {
     {
         Groups {
             alloc,
-            signatures: IndexSet::new(alloc),
+            signatures: IndexSet::with_hasher(alloc, NameSeed::fixed()),
         }
     }
 

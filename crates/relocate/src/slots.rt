@@ -18,7 +18,7 @@ fn target_value<'a>(resolved: &Resolved<'a>, placement: &Placement<'_>, slot: Sl
     requires { AreLawfulKinds placement.now.objects }
     ensures { result ≡ wanted.target_value resolved.now (where_in placement.now) (slot_view slot.entry).target % 2 ^ 64 }
 {
-    value_or_none(placement, &resolved.chosen(&slot.target()))
+    value_or_none(placement, &resolved.target_meaning(&slot.target()))
 }
 
 /// What a slot holds: the value of its target, or that one's offset from the thread pointer, modulo 2 to the 64.

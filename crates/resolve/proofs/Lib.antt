@@ -11,5 +11,6 @@ pub mod RankedPlaces
 pub mod Rests
 pub mod Searched
 pub mod SoundWalk
+mod StrongOnes
 pub mod Walks
 pub mod WrittenPlaces

@@ -89,15 +89,16 @@ found_itself {X} p (x ∷ xs) (suc i) d few within passes =
         let here = ap {B = ℕ} (λ b. cond b 1 0) e in
         ap (λ b. cond b (Some x) (find p xs)) e ∙ rest (omega (arith, n, here, few)) (omega (arith, within)) passes
 
--- where the name of each symbol is that of one strong one at most, each name is
-pub once_from_each : (ss : List SymbolOf) → All (λ s. count_by (is_strong_of s.name) ss ≤ 1) ss → HasNoStrongTwins ss
+-- where the name of each strong symbol is that of no other strong one, each name is
+pub once_from_each : (ss : List SymbolOf) → All (λ s. is_strong s ≡ true → count_by (is_strong_of s.name) ss ≤ 1) ss → HasNoStrongTwins ss
 once_from_each ss each n = by (none_or_found (is_strong_of n) ss)
   where
     by : (count_by (is_strong_of n) ss ≡ 0) ⊎ ((s : SymbolOf) × (find (is_strong_of n) ss ≡ Some s) × (is_strong_of n s ≡ true)) → count_by (is_strong_of n) ss ≤ 1
     by (inl none) = omega (arith, none)
     by (inr found) =
-        subst (λ (m : List ℕ). count_by (is_strong_of m) ss ≤ 1) ((bytes_eq-Decides found.0.name n).0 (and_parts (is_strong found.0) (has_name n found.0) found.2).1)
-        (All-found (λ (s : SymbolOf). count_by (is_strong_of s.name) ss ≤ 1) (is_strong_of n) ss found.0 each found.1)
+        let both = and_parts (is_strong found.0) (has_name n found.0) found.2 in
+        subst (λ (m : List ℕ). count_by (is_strong_of m) ss ≤ 1) ((bytes_eq-Decides found.0.name n).0 both.1)
+        (All-found (λ (s : SymbolOf). is_strong s ≡ true → count_by (is_strong_of s.name) ss ≤ 1) (is_strong_of n) ss found.0 each found.1 both.0)
 
 module _ (xs : List code.SymbolOf) (once : HasEachNameOnce xs) where
   -- the names of two places differ
@@ -118,19 +119,18 @@ module _ (xs : List code.SymbolOf) (once : HasEachNameOnce xs) where
   pub no_twins : HasNoTwins xs
   no_twins k d within same = apart k (k + 1) d (omega arith) within same
 
--- what is told of the name of a place, whatever stands past the end
+-- what is told of the name of a place where a strong one stands, whatever stands past the end
+abbrev pub IsOnceAt : List code.SymbolOf → code.SymbolOf → Type 0
+IsOnceAt xs x = is_strong (symbol_view x) ≡ true → count_by (is_strong_of x.name.now) (symbol_views xs) ≤ 1
+
 pub told_once :
-    (xs : List code.SymbolOf) (i : ℕ) (e : code.SymbolOf) → i < length xs →
-    count_by (is_strong_of (get_or xs i e).name.now) (symbol_views xs) ≤ 1 → (d : code.SymbolOf) →
-    count_by (is_strong_of (get_or xs i d).name.now) (symbol_views xs) ≤ 1
-told_once xs i e within few d =
-    subst (λ (x : code.SymbolOf). count_by (is_strong_of x.name.now) (symbol_views xs) ≤ 1) (get_or_default xs i e d within) few
+    (xs : List code.SymbolOf) (i : ℕ) (e : code.SymbolOf) → i < length xs → IsOnceAt xs (get_or xs i e) → (d : code.SymbolOf) → IsOnceAt xs (get_or xs i d)
+told_once xs i e within few d = subst (IsOnceAt xs) (get_or_default xs i e d within) few
 
 -- told of each place
 pub all_once :
-    (xs : List code.SymbolOf) (i : ℕ) → length xs ≤ i →
-    ((k : ℕ) → k < i → (d : code.SymbolOf) → count_by (is_strong_of (get_or xs k d).name.now) (symbol_views xs) ≤ 1) →
+    (xs : List code.SymbolOf) (i : ℕ) → length xs ≤ i → ((k : ℕ) → k < i → (d : code.SymbolOf) → IsOnceAt xs (get_or xs k d)) →
     HasNoStrongTwins (symbol_views xs)
 all_once xs i past told =
     once_from_each (symbol_views xs)
-    (All-map (λ (s : SymbolOf). count_by (is_strong_of s.name) (symbol_views xs) ≤ 1) symbol_view xs (λ k d within. told k (omega (arith, within, past)) d))
+    (All-map (λ (s : SymbolOf). is_strong s ≡ true → count_by (is_strong_of s.name) (symbol_views xs) ≤ 1) symbol_view xs (λ k d within. told k (omega (arith, within, past)) d))

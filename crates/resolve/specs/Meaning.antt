@@ -4,8 +4,8 @@ use Rattle.std.specs.List.{slice_get}
 use Rattle.std.specs.Option.{option_and_then, option_map_or}
 use Rattle.elf_model.specs.Loading.{LoadedObject}
 use Rattle.elf_model.specs.LinkerNames.{bound_of}
-use Rattle.elf_model.specs.MapRecord.{OfLocal, TargetRow}
-use Rattle.elf_model.specs.Meaning.{Linker, Meaning, Symbol}
+use Rattle.elf_model.specs.MapRecord.{OfLocal, OfName, TargetRow}
+use Rattle.elf_model.specs.Meaning.{Linker, Meaning, Symbol, meaning}
 use Rattle.elf_model.specs.Relocation.{definition_of, is_local, symbol_at}
 use Rattle.elf_model.specs.Resolution.{SymbolOf, chosen, is_undefined}
 use Rattle.elf_model.specs.Slots.{target_of}
@@ -38,3 +38,15 @@ unchosen_at objects = at_symbol (unchosen_of objects) objects
 abbrev pub target_at : List LoadedObject → ℕ → ℕ → TargetRow
 target_at objects object number =
     option_map_or (λ o. target_of (symbol_at object o number)) (slice_get objects object) (OfLocal object number)
+
+-- a symbol itself where it is defined
+abbrev pub itself_of : SymbolOf → Option Meaning
+itself_of s = cond (is_undefined s.entry) None (Some (Symbol s))
+
+abbrev pub itself_at : List LoadedObject → ℕ → ℕ → Option Meaning
+itself_at objects = at_symbol itself_of objects
+
+-- the chosen definition of a target: what its name means, or the symbol itself
+abbrev pub chosen_definition : List LoadedObject → TargetRow → Option Meaning
+chosen_definition objects (OfName name) = meaning objects name
+chosen_definition objects (OfLocal object number) = itself_at objects object number

@@ -1,7 +1,7 @@
 //! Definitions offered to a table of names, and what its rows then say of a name.
 ghost use Rattle.std.specs.Prelude.{◌≡◌, ◌≤◌, IfNone, IfSome, OnOk, count_by, filter, unwrap_or};
 ghost use Rattle.resolve.specs.Defined.{HasNoStrongTwins, is_strong_of};
-ghost use Rattle.resolve.specs.Offered.{candidate_of, chosen_in, is_meant, kind_of, offers_of, rows_of};
+ghost use Rattle.resolve.specs.Offered.{candidate_of, chosen_in, is_meant, is_strong_or_meant, is_twin_in, kind_of, offers_of, rows_of};
 ghost use Rattle.resolve.specs.Views.{symbol_view, symbol_views};
 ghost use Rattle.symbols.specs.Offers.{all_offered};
 ghost use Rattle.symbols.specs.Rows.{no_row};
@@ -61,6 +61,13 @@ fn is_twice<'a, T: NameTable<'a>>(table: &T, name: &'a [u8]) -> bool
     }
 }
 
+/// Whether a definition is strong, and its name that of two strong ones.
+fn is_twin<'a, T: NameTable<'a>>(table: &T, symbol: &SymbolOf<'a>) -> bool
+    ensures { result ≡ is_twin_in (T.rows table.now) (symbol_view symbol.now) }
+{
+    is_strong(&symbol.entry, symbol.dropped) && is_twice(table, symbol.name)
+}
+
 /// The numbers of the definition that a name means: the first strong one's, else the first common one's, else the
 /// first weak one's; None where the name has none.
 pub fn chosen_of<'a, T: NameTable<'a>>(table: &T, name: &'a [u8]) -> Option<SymbolRef>
@@ -82,26 +89,29 @@ fn is_meant<'a, T: NameTable<'a>>(table: &T, symbol: &SymbolOf<'a>) -> bool
     }
 }
 
-/// Keeps of definitions those that their names mean.
+/// Keeps of definitions those that their names mean. No name has two strong ones, so that each strong one is kept without a
+/// look-up.
 pub fn keep_meant<'a, T: NameTable<'a>>(table: &T, definitions: &mut Vec<SymbolOf<'a>>)
+    requires offered { T.rows table.now ≡ rows_of (symbol_views definitions.old.items) }
+    requires once { HasNoStrongTwins (symbol_views definitions.old.items) }
     ensures { symbol_views definitions.new.items ≡ filter (is_meant (T.rows table.now)) (symbol_views definitions.old.items) }
 {
     definitions.retain(
         |symbol|
-            ensures value { result ≡ is_meant (T.rows table.entry.now) (symbol_view symbol.now) }
+            ensures value { result ≡ is_strong_or_meant (T.rows table.entry.now) (symbol_view symbol.now) }
             ensures same { table.exit ≡ table.entry }
-        { is_meant(table, symbol) },
+        { is_strong(&symbol.entry, symbol.dropped) || is_meant(table, symbol) },
     );
 }
 
-/// The first name among the definitions of a table that two strong ones have.
+/// The first name among the definitions of a table that two strong ones have. Only the names of strong ones are looked up.
 pub fn first_twin<'a, T: NameTable<'a>>(table: &T, definitions: &[SymbolOf<'a>]) -> Option<&'a [u8]>
     requires { T.rows table.now ≡ rows_of (symbol_views definitions.now) }
     ensures found { IfSome result (λ name. 2 ≤ count_by (is_strong_of name.now) (symbol_views definitions.now)) }
     ensures none { IfNone result (HasNoStrongTwins (symbol_views definitions.now)) }
 {
     for symbol in definitions {
-        if is_twice(table, symbol.name) {
+        if is_twin(table, symbol) {
             return Some(symbol.name);
         }
     }

@@ -117,7 +117,6 @@ pub fn define<'a, T: NameTable<'a>>(
         return Err(ResolveFault::BadSymbol);
     }
     let mut found = definitions(alloc, objects)?;
-    table.reserve(found.len())?;
     offer_all(table, &found)?;
     if let Some(name) = first_twin(table, &found) {
         return Err(duplicate(alloc, name));

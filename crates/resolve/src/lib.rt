@@ -26,5 +26,5 @@ pub use definition::Definition;
 pub use entries::SymbolOf;
 pub use faults::ResolveFault;
 pub use output_names::output_name;
-pub use resolved::{Resolved, resolve, resolve_over};
+pub use resolved::{Resolved, resolve, resolve_in};
 pub use targets::target_of;

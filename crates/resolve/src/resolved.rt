@@ -14,7 +14,7 @@ ghost use Rattle.elf_model.specs.Slots.{target_meaning};
 ghost use Rattle.search.specs.Views.{loaded_view};
 ghost use Rattle.resolve.specs.Blocks.{block_in, block_view, block_views};
 ghost use Rattle.resolve.specs.Defined.{AreDefinitions, HasEachNameOnce};
-ghost use Rattle.resolve.specs.Meaning.{definition_at, named_at, target_at, unchosen_at};
+ghost use Rattle.resolve.specs.Meaning.{chosen_definition, definition_at, itself_at, named_at, target_at, unchosen_at};
 ghost use Rattle.resolve.specs.Refusals.{ResolvingFails};
 ghost use Rattle.resolve.specs.Views.{meaning_view, symbol_view, symbol_views, target_view};
 ghost use Rattle.symbols.specs.Rows.{no_rows};
@@ -31,11 +31,10 @@ use crate::ranks::ranks_of;
 use crate::rows::place_at;
 use crate::sections::is_in_thread_section;
 use crate::targets::target_of;
-use elf_model::{Bound, Symbol, SymbolRef, Target};
+use elf_model::{Bound, NameSeed, Symbol, SymbolRef, Target};
 use search::{Loaded, LoadedObject};
 use std::alloc::{AllocError, Global};
 use std::collections::{BTreeMap, BTreeSet};
-use std::hash::{BuildHasherDefault, FoldHasher};
 use std::marker::Model;
 use std::rc::Rc;
 use symbols::{IndexedTable, NameTable};
@@ -79,12 +78,12 @@ fn shared<'a>(
 }
 
 /// Resolves the names of what is loaded by any table of names: offers it each definition once, in
-/// load order, and looks each symbol's name up once, but for LOCAL ones. The table is empty at the start.
+/// load order, and looks each symbol's name up once, but for LOCAL ones. The table is empty at the start, and is used up.
 ///
 /// # Errors
 ///
 /// As `resolve`.
-pub fn resolve_over<'a, T: NameTable<'a> + Drop>(
+pub fn resolve_in<'a, T: NameTable<'a> + Drop>(
     alloc: Global,
     loaded: &Loaded<'a>,
     table: T,
@@ -116,7 +115,7 @@ pub fn resolve_over<'a, T: NameTable<'a> + Drop>(
     })
 }
 
-/// Resolves the names of what is loaded.
+/// Resolves the names of what is loaded, as `resolve_in` with a table that finds names by hash.
 ///
 /// # Errors
 ///
@@ -127,8 +126,8 @@ pub fn resolve<'a>(alloc: Global, loaded: &Loaded<'a>) -> Result<Resolved<'a>, R
     ensures resolved { OnOk result (AreSoundCommons loaded.now.objects × AreSoundSymbols loaded.now.objects × AreUnique loaded.now.objects) }
     ensures fault { IfErr result (ResolvingFails loaded.now.objects) }
 {
-    let seed: BuildHasherDefault<FoldHasher> = BuildHasherDefault::new();
-    resolve_over(alloc, loaded, IndexedTable::with_hasher(alloc, seed))
+    let table = IndexedTable::with_hasher(alloc, NameSeed::fixed());
+    resolve_in(alloc, loaded, table)
 }
 
 /// The definition at a place; None past the end.
@@ -305,9 +304,30 @@ impl<'a> Resolved<'a> {
         }
     }
 
+    /// A symbol itself; None where it is undefined (as number 0 is), or where there is no such symbol.
+    fn own(&self, symbol: SymbolRef) -> Option<Definition<'a>>
+        ensures { option_map meaning_view result ≡ itself_at self.now symbol.object.0 symbol.symbol }
+    {
+        let number = symbol.symbol as usize;
+        let loaded = self.loaded.objects().get(symbol.object.0 as usize)?;
+        let entry = loaded.object.symbols().get(number)?;
+        itself(symbol.object.0, loaded, number, entry)
+    }
+
     /// The chosen definition of a target: of a name what its strong, common or weak definition is, or else the linker's; of
-    /// a LOCAL symbol that itself. None where that is undefined (as number 0 is), or where there is no such object.
+    /// a LOCAL symbol that itself, whatever it is; None where that is undefined (as number 0 is), or where there is no such
+    /// symbol.
     pub fn chosen(&self, target: &Target<'a>) -> Option<Definition<'a>>
+        ensures { option_map meaning_view result ≡ chosen_definition self.now (target_view target.now) }
+    {
+        match target {
+            Target::Name(name) => self.named_meaning(name),
+            Target::Local(symbol) => self.own(*symbol),
+        }
+    }
+
+    /// What a slot's target means: of a name as `chosen`; of a symbol what a reference to it uses.
+    pub fn target_meaning(&self, target: &Target<'a>) -> Option<Definition<'a>>
         ensures { option_map meaning_view result ≡ target_meaning self.now (target_view target.now) }
     {
         match target {

@@ -1,6 +1,7 @@
 pub mod FaultLaws
 pub mod LoadLaws
 pub mod LoaderLaws
+mod LostSections
 pub mod NameSets
 pub mod NotedNames
 pub mod OpenedLaws

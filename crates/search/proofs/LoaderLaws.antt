@@ -16,13 +16,14 @@ use Rattle.elf_model.specs.Opening.{Opened}
 use Rattle.elf_model.proofs.LoadingBounds.{by_case}
 use Rattle.elf_model.proofs.SameOutput.{both_ways_equal}
 use Rattle.search.specs.Loaders.{Knows, asked_from, asked_in, defined_from, defined_in, loaded}
-use Rattle.search.specs.Names.{is_among, with_name}
+use Rattle.search.specs.Names.{has_row, is_among, with_name}
 use Rattle.search.specs.Taken.{TakenMembers, has_item, has_member, with_member_taken}
 use Rattle.search.specs.Views.{loaded_view, loaded_views}
 use Rattle.search.specs.declared.loaded.LoadedObject as code
 use Rattle.search.proofs.NameSets.{among_with}
 use Rattle.search.proofs.NotedNames.{stepped}
 use Rattle.search.specs.declared.loader.Loader.{Loader}
+use Rattle.symbols.specs.Rows.{Rows, no_rows}
 
 -- The signatures that are seen.
 pub seen_more : (seen : List (List ℕ)) (os : List LoadedObject) (x : LoadedObject) → seen_behind seen (os ++ x ∷ []) ≡ seen_after (seen_behind seen os) (groups x.bytes)
@@ -113,14 +114,14 @@ is_begun_more os x i = list_any-append (λ y. y.item == i) os (x ∷ [])
 
 -- A loader.
 pub knows_none :
-    (l : Loader) → loaded l ≡ [] → l.groups ≡ [] →
+    {T : Type 0} (rows : T → Rows) (l : Loader T) → loaded l ≡ [] → l.groups ≡ [] →
     ((n : List ℕ) → is_among l.names.requested n ≡ list_any (λ root. bytes_eq root n) (l.plan.now.entry ∷ l.plan.now.undefined)) →
-    l.names.defined ≡ [] → l.taken ≡ record { members = []; items = [] } → Knows l
+    rows l.names.defined ≡ no_rows → l.taken ≡ record { members = []; items = [] } → Knows rows l
 unfolding is_defined is_taken is_begun
-knows_none l none groups_ asked_ defined_ taken_ = record {
+knows_none rows l none groups_ asked_ defined_ taken_ = record {
   seen = groups_ ∙ ap (seen_behind []) (sym none);
   requested = λ n. asked_ n ∙ (sym (requested_none l.plan.now n) ∙ ap (λ (os : List LoadedObject). is_requested l.plan.now os n) (sym none));
-  defined = λ n. ap (λ (ns : List (List ℕ)). is_among ns n) defined_ ∙ ap (λ (os : List LoadedObject). is_defined os n) (sym none);
+  defined = λ n. ap (λ (r : Rows). has_row r n) defined_ ∙ ap (λ (os : List LoadedObject). is_defined os n) (sym none);
   taken = λ item offset. ap (λ (t : TakenMembers). has_member t item offset) taken_ ∙ ap (λ (os : List LoadedObject). is_taken os item offset) (sym none);
   begun = λ item. ap (λ (t : TakenMembers). has_item t item) taken_ ∙ ap (λ (os : List LoadedObject). is_begun os item) (sym none);
   objects = subst (All (λ o. IsObject o.bytes)) (sym none) (All-nil (λ o. IsObject o.bytes));
@@ -128,12 +129,12 @@ knows_none l none groups_ asked_ defined_ taken_ = record {
 }
 
 pub knows_more :
-    (old new : Loader) (o : Opened) (offset : ℕ) (bytes : List ℕ) → Knows old → new.plan.now ≡ old.plan.now →
+    {T : Type 0} (rows : T → Rows) (old new : Loader T) (o : Opened) (offset : ℕ) (bytes : List ℕ) → Knows rows old → new.plan.now ≡ old.plan.now →
     loaded new ≡ with_object (loaded old) o offset bytes → new.groups ≡ seen_after old.groups (groups bytes) →
     ((n : List ℕ) → is_among new.names.requested n ≡ (asked_in bytes (lost_sections (loaded old) bytes) n || is_among old.names.requested n)) →
-    ((n : List ℕ) → is_among new.names.defined n ≡ (defined_in bytes (lost_sections (loaded old) bytes) n || is_among old.names.defined n)) →
-    new.taken ≡ with_member_taken old.taken o.number offset → IsObject bytes → AreLawfulGroups (groups bytes) → Knows new
-knows_more old new o offset bytes k plan_ is groups_ asked_ defined_ taken_ object lawful_ = record {
+    ((n : List ℕ) → has_row (rows new.names.defined) n ≡ (defined_in bytes (lost_sections (loaded old) bytes) n || has_row (rows old.names.defined) n)) →
+    new.taken ≡ with_member_taken old.taken o.number offset → IsObject bytes → AreLawfulGroups (groups bytes) → Knows rows new
+knows_more rows old new o offset bytes k plan_ is groups_ asked_ defined_ taken_ object lawful_ = record {
   seen =
       groups_ ∙ (ap (λ (s : List (List ℕ)). seen_after s (groups bytes)) k.seen
       ∙ (sym (seen_more [] (loaded old) x) ∙ ap (seen_behind []) (sym is)));

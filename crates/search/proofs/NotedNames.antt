@@ -1,6 +1,6 @@
 -- Names as symbols are noted, one after the other.
-use Rattle.std.proofs.Common.{◌≡◌, ℕ, suc, ◌+◌, ◌<◌, ◌≤◌, Bool, true, false, not, ◌&&◌, ◌||◌, List, [], length, get_or, drop, Some, Option, refl, sym, ◌∙◌, ap, subst, arith, drop-cons}
-use Rattle.std.specs.Prelude.{option_copied, option_map}
+use Rattle.std.proofs.Common.{◌≡◌, ℕ, suc, ◌+◌, ◌<◌, ◌≤◌, Bool, true, false, cond, not, ◌&&◌, ◌||◌, List, [], length, get_or, drop, Some, Option, refl, sym, ◌∙◌, ap, subst, arith, drop-cons}
+use Rattle.std.specs.Prelude.{is_some, option_copied, option_map}
 use Rattle.std.specs.Borrow.{Bor}
 use Rattle.std.specs.List.{list_any}
 use Rattle.std.specs.Str.{bytes_eq}
@@ -11,8 +11,10 @@ use Rattle.elf_model.specs.Loading.{has_name, is_definition, is_global_or_weak, 
 use Rattle.elf_model.specs.ObjectFile.{name_of_symbol, symbol_name, symbols}
 use Rattle.elf_model.specs.declared.records.Symbol.{Symbol}
 use Rattle.search.specs.Loaders.{asked_from, defined_from}
-use Rattle.search.specs.Names.{is_among, with_name}
+use Rattle.search.specs.Names.{has_row, is_among, with_name}
 use Rattle.search.proofs.NameSets.{among_with}
+use Rattle.symbols.specs.Rows.{Rows, offered, taken}
+use Rattle.symbols.specs.declared.candidate.Candidate.{Candidate}
 
 -- after a name that passes a test, and beside one that doesn't
 pub noted : (names : List (List ℕ)) (name : List ℕ) (new : List (List ℕ)) (t : Bool) → new ≡ with_name names name → t ≡ true → (n : List ℕ) →
@@ -24,6 +26,16 @@ noted names name new t is passes n =
     one : (a b : Bool) → b ≡ true → a ≡ (a && b)
     one true b e = sym e
     one false b e = refl
+
+-- a name that is offered has a row then, and every other as before
+pub offered_row : (rows new : Rows) (name : List ℕ) (c : Candidate) (t : Bool) → new ≡ offered name c rows → t ≡ true → (n : List ℕ) →
+    has_row new n ≡ (bytes_eq name n && t || has_row rows n)
+offered_row rows new name c t is passes n =
+    ap (λ (r : Rows). has_row r n) is ∙ rowed (bytes_eq name n) t passes
+  where
+    rowed : (a b : Bool) → b ≡ true → is_some (cond a (Some (taken c (rows name))) (rows n)) ≡ (a && b || has_row rows n)
+    rowed true b e = sym (ap (λ (x : Bool). x || has_row rows n) e)
+    rowed false b e = refl
 
 pub not_noted : (a : Bool) (t old : Bool) → t ≡ false → old ≡ (a && t || old)
 not_noted true t old e = rw e refl

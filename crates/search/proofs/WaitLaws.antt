@@ -30,6 +30,7 @@ use Rattle.search.specs.Names.{Begins, is_among}
 use Rattle.search.specs.Waiting.{ArePlaced, Covers, CoversBut, CoversFor, NextWait, places_in}
 use Rattle.search.specs.declared.loader.Loader.{Loader}
 use Rattle.search.specs.declared.waits.Waits.{Waits}
+use Rattle.symbols.specs.Rows.{Rows}
 
 -- Numbers in a set.
 at_same : (k : ℕ) → is_eq (nat_cmp k k) ≡ true
@@ -124,7 +125,7 @@ find_none test (x ∷ xs) none =
 
 -- A look at one more name that was asked for.
 pub covers_step :
-    (l : Loader) (item : ℕ) (es : List IndexEntry) (w new : Waits) (name : List ℕ) → Covers l item es w → slice_get l.names.requested w.seen ≡ Some name →
+    {T : Type 0} (l : Loader T) (item : ℕ) (es : List IndexEntry) (w new : Waits) (name : List ℕ) → Covers l item es w → slice_get l.names.requested w.seen ≡ Some name →
     new.places ≡ w.places → new.seen ≡ w.seen + 1 →
     ((q : ℕ) → contains nat_cmp new.waiting q ≡ (list_any (λ p. q == p) (places_in w.places name) || contains nat_cmp w.waiting q)) →
     Covers l item es new
@@ -162,7 +163,7 @@ covers_step l item es w new name c at places_ seen_ waiting_ = record {
         named (inr later_) = or_right (contains nat_cmp new.waiting q) _ (rest e later_)
 
 -- where all names that are asked for were looked at, all that may be next waits
-pub caught_up : (l : Loader) (item : ℕ) (es : List IndexEntry) (w : Waits) → Covers l item es w → length l.names.requested ≤ w.seen → NextWait l item es w.waiting
+pub caught_up : {T : Type 0} (l : Loader T) (item : ℕ) (es : List IndexEntry) (w : Waits) → Covers l item es w → length l.names.requested ≤ w.seen → NextWait l item es w.waiting
 caught_up l item es w c all q e here next_ =
     by (or_cases (contains nat_cmp w.waiting q) (is_among (drop w.seen l.names.requested) e.name) (c.covers q e here next_))
   where
@@ -237,7 +238,7 @@ next_is plan os item x name offset called at =
     ∙ ap (λ (k : ℕ). needed plan os name && not (is_taken os item k)) (sym at)
 
 -- what waits after a look, but for the entries of the member that it gave
-pub covers_but : (l : Loader) (item : ℕ) (es : List IndexEntry) (w : Waits) (waiting : BTreeSet ℕ) (but : Option ℕ) → Covers l item es w →
+pub covers_but : {T : Type 0} (l : Loader T) (item : ℕ) (es : List IndexEntry) (w : Waits) (waiting : BTreeSet ℕ) (but : Option ℕ) → Covers l item es w →
     ((q : ℕ) (e : IndexEntry) → slice_get es q ≡ Some e → is_next_of l.plan.now (loaded l) item e ≡ true → (contains nat_cmp waiting q ≡ true) ⊎ (but ≡ Some e.offset)) →
     CoversBut l item es (record { places = w.places; waiting = waiting; seen = w.seen }) but
 covers_but l item es w waiting but c rest = record {
@@ -251,10 +252,10 @@ covers_but l item es w waiting but c rest = record {
     by e (inr t) = inr t
 
 -- What is loaded later.
-pub is_later_refl : (l : Loader) → IsLater l l
+pub is_later_refl : {T : Type 0} (l : Loader T) → IsLater l l
 is_later_refl l = record { plan = refl; objects = extends_refl (loaded l); requested = begins_refl l.names.requested }
 
-pub is_later_trans : (a b c : Loader) → IsLater a b → IsLater b c → IsLater a c
+pub is_later_trans : {T : Type 0} (a b c : Loader T) → IsLater a b → IsLater b c → IsLater a c
 is_later_trans a b c x y = record {
   plan = y.plan ∙ x.plan;
   objects = extends_trans (loaded a) (loaded b) (loaded c) x.objects y.objects;
@@ -270,7 +271,7 @@ drop_grows : (a : List (List ℕ)) (b : List (List ℕ)) (n : ℕ) → (x : Begi
 drop_grows a b n x within = ap (drop n) x.1 ∙ drop-append-le n a x.0 within
 
 -- what waits, waits later too, but where its member was taken meanwhile
-pub covers_on : (now later : Loader) (item : ℕ) (es : List IndexEntry) (w : Waits) → Knows now → Knows later → IsLater now later → ArePlaced es w.places →
+pub covers_on : {T : Type 0} {rows : T → Rows} (now later : Loader T) (item : ℕ) (es : List IndexEntry) (w : Waits) → Knows rows now → Knows rows later → IsLater now later → ArePlaced es w.places →
     w.seen ≤ length now.names.requested →
     ((q : ℕ) (e : IndexEntry) → slice_get es q ≡ Some e → is_next_of now.plan.now (loaded now) item e ≡ true →
     ((contains nat_cmp w.waiting q || is_among (drop w.seen now.names.requested) e.name) ≡ true) ⊎ (is_taken (loaded later) item e.offset ≡ true)) →
@@ -348,12 +349,12 @@ covers_on now later item es w a b on placed_ seen_ old = record {
             split (inl x) = absurd (false≢true (sym unasked ∙ x))
             split (inr x) = x
 
-pub covers_later : (now later : Loader) (item : ℕ) (es : List IndexEntry) (w : Waits) → Knows now → Knows later → IsLater now later → Covers now item es w →
+pub covers_later : {T : Type 0} {rows : T → Rows} (now later : Loader T) (item : ℕ) (es : List IndexEntry) (w : Waits) → Knows rows now → Knows rows later → IsLater now later → Covers now item es w →
     Covers later item es w
 covers_later now later item es w a b on c = covers_on now later item es w a b on c.placed c.seen (λ q e at t. inl (c.covers q e at t))
 
 -- the same after the member that a look gave is taken
-pub covers_taken : (now later : Loader) (item : ℕ) (es : List IndexEntry) (w : Waits) (offset : ℕ) → Knows now → Knows later → IsLater now later →
+pub covers_taken : {T : Type 0} {rows : T → Rows} (now later : Loader T) (item : ℕ) (es : List IndexEntry) (w : Waits) (offset : ℕ) → Knows rows now → Knows rows later → IsLater now later →
     CoversBut now item es w (Some offset) → is_taken (loaded later) item offset ≡ true → Covers later item es w
 covers_taken now later item es w offset a b on c taken_ = covers_on now later item es w a b on c.placed c.seen (λ q e at t. by e (c.covers q e at t))
   where
@@ -361,7 +362,7 @@ covers_taken now later item es w offset a b on c taken_ = covers_on now later it
     by e (inl p) = inl p
     by e (inr s) = inr (subst (λ (k : ℕ). is_taken (loaded later) item k ≡ true) (same_Some offset e.offset s) taken_)
 
-pub covers_for_later : (now later : Loader) (o : Opened) (w : Option Waits) → Knows now → Knows later → IsLater now later → CoversFor now o w → CoversFor later o w
+pub covers_for_later : {T : Type 0} {rows : T → Rows} (now later : Loader T) (o : Opened) (w : Option Waits) → Knows rows now → Knows rows later → IsLater now later → CoversFor now o w → CoversFor later o w
 covers_for_later now later o None a b on c = c
 covers_for_later now later o (Some w) a b on c = (c.0, covers_later now later o.number (archive_entries o.bytes) w a b on c.1)
 

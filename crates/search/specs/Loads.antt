@@ -1,9 +1,19 @@
--- What is loaded, as one value.
-use Rattle.std.specs.Prelude.{List}
+-- What is loaded, as one value, and which sections of it are dropped.
+use Rattle.std.specs.Prelude.{◌≡◌, ◌∷◌, ◌++◌, List}
+use Rattle.std.specs.List.{flat_map}
 use Rattle.elf_model.specs.Command.{Plan}
+use Rattle.elf_model.specs.Groups.{AreDropped}
 use Rattle.elf_model.specs.Loading.{LoadedObject}
+use Rattle.elf_model.specs.ObjectFile.{groups}
 
 -- the plan of a command, and the objects that it loads, in load order
 pub record LoadedPlan : Type 0 where
   pub plan : Plan
   pub objects : List LoadedObject
+
+-- of each object, the sections are dropped that are members of a COMDAT group whose signature a COMDAT group has that
+-- stands earlier in load order, and no others
+abbrev pub AreDroppedInOrder : List LoadedObject → Type 0
+AreDroppedInOrder objects =
+    (before : List LoadedObject) (o : LoadedObject) (after : List LoadedObject) → objects ≡ before ++ o ∷ after →
+    AreDropped (flat_map (λ x. groups x.bytes) before) (groups o.bytes) o.dropped

@@ -24,28 +24,28 @@ abbrev pub ArePlaced : {S : Type 0} → List IndexEntry → HashMap (Bor (List �
 ArePlaced es m = (q : ℕ) (e : IndexEntry) → slice_get es q ≡ Some e → list_any (λ p. q == p) (places_in m e.name) ≡ true
 
 -- each entry that gives a next member waits
-abbrev pub NextWait : Loader → ℕ → List IndexEntry → BTreeSet ℕ → Type 0
+abbrev pub NextWait : {T : Type 0} → Loader T → ℕ → List IndexEntry → BTreeSet ℕ → Type 0
 NextWait l item es waiting = (q : ℕ) (e : IndexEntry) → slice_get es q ≡ Some e → is_next_of l.plan.now (loaded l) item e ≡ true → contains nat_cmp waiting q ≡ true
 
 -- each entry that gives a next member waits, or its name is asked for and not looked at yet
-pub record Covers (l : Loader) (item : ℕ) (es : List IndexEntry) (w : Waits) : Type 0 where
+pub record Covers {T : Type 0} (l : Loader T) (item : ℕ) (es : List IndexEntry) (w : Waits) : Type 0 where
   pub placed : ArePlaced es w.places
   pub seen : w.seen ≤ length l.names.requested
   pub covers : (q : ℕ) (e : IndexEntry) → slice_get es q ≡ Some e → is_next_of l.plan.now (loaded l) item e ≡ true →
       (contains nat_cmp w.waiting q || is_among (drop w.seen l.names.requested) e.name) ≡ true
 
 -- the same, but for the entries of one member
-pub record CoversBut (l : Loader) (item : ℕ) (es : List IndexEntry) (w : Waits) (but : Option ℕ) : Type 0 where
+pub record CoversBut {T : Type 0} (l : Loader T) (item : ℕ) (es : List IndexEntry) (w : Waits) (but : Option ℕ) : Type 0 where
   pub placed : ArePlaced es w.places
   pub seen : w.seen ≤ length l.names.requested
   pub covers : (q : ℕ) (e : IndexEntry) → slice_get es q ≡ Some e → is_next_of l.plan.now (loaded l) item e ≡ true →
       ((contains nat_cmp w.waiting q || is_among (drop w.seen l.names.requested) e.name) ≡ true) ⊎ (but ≡ Some e.offset)
 
 -- the same of an archive that is searched; another one is whole, or has nothing to search
-abbrev pub CoversFor : Loader → Opened → Option Waits → Type 0
+abbrev pub CoversFor : {T : Type 0} → Loader T → Opened → Option Waits → Type 0
 CoversFor l o None = (o.whole ≡ true) ⊎ (archive_entries o.bytes ≡ [])
 CoversFor l o (Some w) = (o.whole ≡ false) × Covers l o.number (archive_entries o.bytes) w
 
 -- the same of archives side by side
-abbrev pub AllCover : Loader → List Opened → List (Option Waits) → Type 0
+abbrev pub AllCover : {T : Type 0} → Loader T → List Opened → List (Option Waits) → Type 0
 AllCover l os ws = AllZip (CoversFor l) os ws

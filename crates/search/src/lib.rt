@@ -17,5 +17,5 @@ mod turns;
 mod waits;
 
 pub use faults::SearchFault;
-pub use load_steps::load;
+pub use load_steps::{load, load_in};
 pub use loaded::{Loaded, LoadedObject};

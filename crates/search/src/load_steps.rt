@@ -7,8 +7,10 @@ ghost use Rattle.elf_model.specs.LoadingRules.{FollowsRules};
 ghost use Rattle.elf_model.specs.Opening.{AreArchives, AreFilesThere, HaveIndexes, opened};
 ghost use Rattle.search.specs.Faults.{FailsOn, LoadFails};
 ghost use Rattle.search.specs.Loaders.{IsLater, Knows, loaded};
+ghost use Rattle.search.specs.Loads.{AreDroppedInOrder};
 ghost use Rattle.search.specs.Steps.{in_group};
 ghost use Rattle.search.specs.Views.{loaded_views};
+ghost use Rattle.symbols.specs.Rows.{no_rows};
 
 use crate::archives::{Input, read_inputs};
 use crate::faults::SearchFault;
@@ -19,8 +21,9 @@ use crate::opened_items::open;
 use crate::rounds::run_rounds;
 use crate::turns::{turn, waits_for};
 use command::Plan;
-use elf_model::InputFile;
+use elf_model::{InputFile, NameSeed};
 use std::alloc::Global;
+use symbols::{IndexedTable, NameTable};
 
 /// The number of an archive's group; None of one that is in none, and of an object.
 fn group_of(input: &Input<'_>) -> Option<u64>
@@ -48,14 +51,14 @@ fn run_length(inputs: &[Input<'_>], group: u64) -> usize
 }
 
 /// Loads an item that is in no group.
-fn load_single<'a>(
+fn load_single<'a, T: NameTable<'a>>(
     alloc: Global,
-    loader: &mut Loader<'_, 'a>,
+    loader: &mut Loader<'_, 'a, T>,
     input: &Input<'a>,
 ) -> Result<(), SearchFault>
-    requires known { Knows loader.old }
+    requires known { Knows T.rows loader.old }
     ensures later { OnOk result (IsLater loader.old loader.new) }
-    ensures known { OnOk result (Knows loader.new) }
+    ensures known { OnOk result (Knows T.rows loader.new) }
     ensures loaded { OnOk result (loaded loader.new ≡ loaded_step loader.old.plan.now (Single input.now) (loaded loader.old)) }
     ensures fault { IfErr result (FailsOn (loaded_step loader.old.plan.now (Single input.now) (loaded loader.old))) }
 {
@@ -69,15 +72,15 @@ fn load_single<'a>(
 }
 
 /// Loads the first step of inputs, and answers how many these are.
-fn load_step<'a>(
+fn load_step<'a, T: NameTable<'a>>(
     alloc: Global,
-    loader: &mut Loader<'_, 'a>,
+    loader: &mut Loader<'_, 'a, T>,
     inputs: &[Input<'a>],
 ) -> Result<usize, SearchFault>
-    requires known { Knows loader.old }
+    requires known { Knows T.rows loader.old }
     requires some { 0 < length inputs.now }
     ensures later { OnOk result (IsLater loader.old loader.new) }
-    ensures known { OnOk result (Knows loader.new) }
+    ensures known { OnOk result (Knows T.rows loader.new) }
     ensures count { IfOk result (λ n. (0 < n) × (n ≤ length inputs.now)) }
     ensures loaded { IfOk result (λ n. loaded_steps loader.old.plan.now (steps (drop n inputs.now)) (loaded loader.new) ≡ loaded_steps loader.old.plan.now (steps inputs.now) (loaded loader.old)) }
     ensures fault { IfErr result (FailsOn (loaded_steps loader.old.plan.now (steps inputs.now) (loaded loader.old))) }
@@ -93,13 +96,13 @@ fn load_step<'a>(
 }
 
 /// Loads inputs, in order.
-fn load_inputs<'a>(
+fn load_inputs<'a, T: NameTable<'a>>(
     alloc: Global,
-    loader: &mut Loader<'_, 'a>,
+    loader: &mut Loader<'_, 'a, T>,
     inputs: &[Input<'a>],
 ) -> Result<(), SearchFault>
-    requires known { Knows loader.old }
-    ensures known { OnOk result (Knows loader.new) }
+    requires known { Knows T.rows loader.old }
+    ensures known { OnOk result (Knows T.rows loader.new) }
     ensures loaded { OnOk result (loaded loader.new ≡ loaded_steps loader.old.plan.now (steps inputs.now) (loaded loader.old)) }
     ensures fault { IfErr result (FailsOn (loaded_steps loader.old.plan.now (steps inputs.now) (loaded loader.old))) }
 {
@@ -120,6 +123,43 @@ fn load_inputs<'a>(
 /// takes nothing, and an archive under `--whole-archive` gives all its members at its first turn. A COMDAT
 /// group whose signature a loaded object has already is dropped (System V gABI 4, "Section Groups").
 ///
+/// The names that objects define are kept in a table, which is empty at the start and is used up.
+///
+/// # Errors
+///
+/// FileMissing where an item has no file, before all others. BadArchive and NoIndex of an archive item, of
+/// whichever; then BadObject and Group of an object that loading comes to. Memory where memory is refused.
+pub fn load_in<'a, T: NameTable<'a> + Drop>(
+    alloc: Global,
+    plan: &Plan<'a>,
+    files: &'a [InputFile],
+    table: T,
+) -> Result<Loaded<'a>, SearchFault>
+    requires { T.rows table ≡ no_rows }
+    ensures plan { IfOk result (λ l. l.plan ≡ plan.now) }
+    ensures loaded { IfOk result (λ l. l.objects ≡ loaded_objects (files_of files.entry.now) plan.now) }
+    ensures rules { OnOk result (FollowsRules (files_of files.entry.now) plan.now) }
+    ensures files { OnOk result (AreFilesThere (files_of files.entry.now) plan.now) }
+    ensures archives { OnOk result (AreArchives (opened (files_of files.entry.now) plan.now)) }
+    ensures indexes { OnOk result (HaveIndexes (opened (files_of files.entry.now) plan.now)) }
+    ensures objects { OnOk result (AreObjects (loaded_objects (files_of files.entry.now) plan.now)) }
+    ensures groups { OnOk result (HaveLawfulGroups (loaded_objects (files_of files.entry.now) plan.now)) }
+    ensures dropped { OnOk result (AreDroppedInOrder (loaded_objects (files_of files.entry.now) plan.now)) }
+    ensures fault { IfErr result (LoadFails (files_of files.entry.now) plan.now) }
+{
+    let index = FileIndex::new(alloc, files)?;
+    let items = open(alloc, &index, plan)?;
+    let inputs = read_inputs(alloc, &items)?;
+    let mut loader = Loader::new(alloc, plan, table)?;
+    load_inputs(alloc, &mut loader, &inputs)?;
+    let loaded = Loaded::new(alloc, plan, loader.into_objects())?;
+    Ok(loaded)
+}
+
+/// The plan, and the objects that it loads, in load order (ld(1)).
+///
+/// As `load_in`, with a table that finds names by hash.
+///
 /// # Errors
 ///
 /// FileMissing where an item has no file, before all others. BadArchive and NoIndex of an archive item, of
@@ -137,13 +177,9 @@ pub fn load<'a>(
     ensures indexes { OnOk result (HaveIndexes (opened (files_of files.entry.now) plan.now)) }
     ensures objects { OnOk result (AreObjects (loaded_objects (files_of files.entry.now) plan.now)) }
     ensures groups { OnOk result (HaveLawfulGroups (loaded_objects (files_of files.entry.now) plan.now)) }
+    ensures dropped { OnOk result (AreDroppedInOrder (loaded_objects (files_of files.entry.now) plan.now)) }
     ensures fault { IfErr result (LoadFails (files_of files.entry.now) plan.now) }
 {
-    let index = FileIndex::new(alloc, files)?;
-    let items = open(alloc, &index, plan)?;
-    let inputs = read_inputs(alloc, &items)?;
-    let mut loader = Loader::new(alloc, plan)?;
-    load_inputs(alloc, &mut loader, &inputs)?;
-    let loaded = Loaded::new(alloc, plan, loader.into_objects())?;
-    Ok(loaded)
+    let table = IndexedTable::with_hasher(alloc, NameSeed::fixed());
+    load_in(alloc, plan, files, table)
 }

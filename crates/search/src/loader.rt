@@ -8,9 +8,10 @@ ghost use Rattle.elf_model.specs.Loading.{is_begun, is_definition, is_global_or_
 ghost use Rattle.elf_model.specs.ObjectFile.{IsObject, groups};
 ghost use Rattle.search.specs.Faults.{FailsAt};
 ghost use Rattle.search.specs.Loaders.{Knows, asked_in, defined_in, loaded};
-ghost use Rattle.search.specs.Names.{Begins, is_among};
+ghost use Rattle.search.specs.Names.{Begins, has_row, is_among};
 ghost use Rattle.search.specs.Opened.{item_view};
 ghost use Rattle.search.specs.Views.{loaded_views};
+ghost use Rattle.symbols.specs.Rows.{no_rows};
 
 use crate::faults::{SearchFault, group_fault, object_fault};
 use crate::loaded::LoadedObject;
@@ -20,24 +21,25 @@ use crate::taken_members::Taken;
 use byteview::View;
 use comdat::{Dropped, Groups};
 use command::Plan;
-use elf_model::{SHN_UNDEF, STB_GLOBAL, STB_WEAK, Symbol};
+use elf_model::{ObjectId, SHN_UNDEF, STB_GLOBAL, STB_WEAK, Symbol, SymbolRef};
 use elf_read::Object;
 use std::alloc::{AllocError, Global};
+use symbols::{Candidate, CandidateKind, NameTable};
 
-/// The names that the command and the loaded objects ask for, and those that the objects define.
+/// The names that the command and the loaded objects ask for, and a table with a row for each that the objects define.
 #[derive(Drop)]
-pub struct Names<'a> {
+pub struct Names<'a, T> {
     requested: NameSet<'a>,
-    defined: NameSet<'a>,
+    defined: T,
 }
 
 /// The loaded objects of a plan so far.
 #[derive(Drop)]
-pub struct Loader<'p, 'a> {
+pub struct Loader<'p, 'a, T> {
     plan: &'p Plan<'a>,
     objects: Vec<LoadedObject<'a>>,
     groups: Groups<'a>,
-    names: Names<'a>,
+    names: Names<'a, T>,
     taken: Taken,
 }
 
@@ -60,20 +62,32 @@ fn is_left_undefined(dropped: &Dropped, symbol: &Symbol) -> bool
     symbol.st_shndx == SHN_UNDEF || dropped.has(usize::from(symbol.st_shndx))
 }
 
+/// A symbol as a candidate for its name. Loading asks only whether a name has a row, so each definition is offered
+/// alike.
+fn candidate_of(symbol: SymbolRef) -> Candidate {
+    Candidate {
+        symbol,
+        kind: CandidateKind::Weak,
+        size: 0,
+        align: 0,
+    }
+}
+
 /// Notes the name of a symbol that isn't LOCAL, where it asks for a definition or is one.
-fn note_name<'a>(
-    names: &mut Names<'a>,
+fn note_name<'a, T: NameTable<'a>>(
+    names: &mut Names<'a, T>,
     dropped: &Dropped,
+    number: SymbolRef,
     symbol: &Symbol,
     name: &'a [u8],
 ) -> Result<(), AllocError>
     requires shared { is_global_or_weak symbol.now ≡ true }
     ensures requested { OnOk result ((n : List ℕ) → is_among names.new.requested n ≡ (bytes_eq name.now n && is_request dropped.now symbol.now || is_among names.old.requested n)) }
-    ensures defined { OnOk result ((n : List ℕ) → is_among names.new.defined n ≡ (bytes_eq name.now n && is_definition dropped.now symbol.now || is_among names.old.defined n)) }
+    ensures defined { OnOk result ((n : List ℕ) → has_row (T.rows names.new.defined) n ≡ (bytes_eq name.now n && is_definition dropped.now symbol.now || has_row (T.rows names.old.defined) n)) }
     ensures grows { OnOk result (Begins names.old.requested names.new.requested) }
 {
     if !is_left_undefined(dropped, symbol) {
-        names.defined.add(name)?;
+        names.defined.offer(name, candidate_of(number))?;
         return Ok(());
     }
     if is_global(symbol) {
@@ -82,14 +96,15 @@ fn note_name<'a>(
     Ok(())
 }
 
-/// Notes the names of an object's symbols.
-fn note_names<'a>(
-    names: &mut Names<'a>,
+/// Notes the names of the symbols of an object, which has a number.
+fn note_names<'a, T: NameTable<'a>>(
+    names: &mut Names<'a, T>,
+    number: u64,
     object: &Object<'a>,
     dropped: &Dropped,
 ) -> Result<(), AllocError>
     ensures requested { OnOk result ((n : List ℕ) → is_among names.new.requested n ≡ (asked_in object.now dropped.now n || is_among names.old.requested n)) }
-    ensures defined { OnOk result ((n : List ℕ) → is_among names.new.defined n ≡ (defined_in object.now dropped.now n || is_among names.old.defined n)) }
+    ensures defined { OnOk result ((n : List ℕ) → has_row (T.rows names.new.defined) n ≡ (defined_in object.now dropped.now n || has_row (T.rows names.old.defined) n)) }
     ensures grows { OnOk result (Begins names.old.requested names.new.requested) }
 {
     for (j, symbol) in object.symbols().iter().enumerate() {
@@ -99,7 +114,11 @@ fn note_names<'a>(
         let Some(name) = object.name(j) else {
             unreachable!()
         };
-        note_name(names, dropped, symbol, name)?;
+        let number = SymbolRef {
+            object: ObjectId(number),
+            symbol: j as u64,
+        };
+        note_name(names, dropped, number, symbol, name)?;
     }
     Ok(())
 }
@@ -132,12 +151,13 @@ fn roots<'a>(
     Ok(names)
 }
 
-impl<'p, 'a> Loader<'p, 'a> {
-    /// Nothing of a plan is loaded.
-    pub fn new(alloc: Global, plan: &'p Plan<'a>) -> Result<Loader<'p, 'a>, AllocError>
+impl<'p, 'a, T: NameTable<'a> + Drop> Loader<'p, 'a, T> {
+    /// Nothing of a plan is loaded, and a table is empty.
+    pub fn new(alloc: Global, plan: &'p Plan<'a>, table: T) -> Result<Loader<'p, 'a, T>, AllocError>
+        requires { T.rows table ≡ no_rows }
         ensures plan { IfOk result (λ l. l.plan.now ≡ plan.entry.now) }
         ensures loaded { IfOk result (λ l. loaded l ≡ []) }
-        ensures known { IfOk result Knows }
+        ensures known { IfOk result (Knows T.rows) }
     {
         let requested = roots(alloc, plan.entry, &plan.undefined)?;
         Ok(Loader {
@@ -146,12 +166,21 @@ impl<'p, 'a> Loader<'p, 'a> {
             groups: Groups::new(alloc),
             names: Names {
                 requested,
-                defined: NameSet::new(alloc),
+                defined: table,
             },
             taken: Taken::new(alloc),
         })
     }
 
+    /// The objects that are loaded, in load order.
+    pub fn into_objects(self) -> Vec<LoadedObject<'a>>
+        ensures { loaded_views result.items ≡ loaded self.entry }
+    {
+        self.objects
+    }
+}
+
+impl<'p, 'a, T: NameTable<'a>> Loader<'p, 'a, T> {
     /// Loads an object of an item, from the offset of its member's header.
     pub fn add(
         &mut self,
@@ -160,10 +189,10 @@ impl<'p, 'a> Loader<'p, 'a> {
         offset: u64,
         bytes: &'a [u8],
     ) -> Result<(), SearchFault>
-        requires { Knows self.old }
+        requires { Knows T.rows self.old }
         ensures plan { OnOk result (self.new.plan.now ≡ self.old.plan.now) }
         ensures loaded { OnOk result (loaded self.new ≡ with_object (loaded self.old) (item_view item.now) offset bytes.now) }
-        ensures known { OnOk result (Knows self.new) }
+        ensures known { OnOk result (Knows T.rows self.new) }
         ensures grows { OnOk result (Begins self.old.names.requested self.new.names.requested) }
         ensures fault { IfErr result (FailsAt bytes.now) }
     {
@@ -172,7 +201,8 @@ impl<'p, 'a> Loader<'p, 'a> {
             Ok(dropped) => dropped,
             Err(fault) => return Err(group_fault(fault)),
         };
-        note_names(&mut self.names, &object, &dropped)?;
+        let number = self.objects.len() as u64;
+        note_names(&mut self.names, number, &object, &dropped)?;
         self.taken.add(item.number, offset)?;
         self.objects.push(LoadedObject {
             object,
@@ -186,10 +216,10 @@ impl<'p, 'a> Loader<'p, 'a> {
 
     /// Whether a member of an item is next where its name is that of an entry of the index.
     pub fn is_next(&self, item: u64, name: &'a [u8], offset: u64) -> bool
-        requires { Knows self.now }
+        requires { Knows T.rows self.now }
         ensures { result ≡ (needed self.now.plan.now (loaded self.now) name.now && not (is_taken (loaded self.now) item offset)) }
     {
-        if !self.names.requested.has(name) || self.names.defined.has(name) {
+        if !self.names.requested.has(name) || self.names.defined.get(name).is_some() {
             return false;
         }
         !self.taken.has_member(item, offset)
@@ -197,7 +227,7 @@ impl<'p, 'a> Loader<'p, 'a> {
 
     /// Whether an object of an item is loaded.
     pub fn has_begun(&self, item: u64) -> bool
-        requires { Knows self.now }
+        requires { Knows T.rows self.now }
         ensures { result ≡ is_begun (loaded self.now) item }
     {
         self.taken.has_item(item)
@@ -222,12 +252,5 @@ impl<'p, 'a> Loader<'p, 'a> {
         ensures { result ≡ length (loaded self.now) }
     {
         self.objects.len()
-    }
-
-    /// The objects that are loaded, in load order.
-    pub fn into_objects(self) -> Vec<LoadedObject<'a>>
-        ensures { loaded_views result.items ≡ loaded self.entry }
-    {
-        self.objects
     }
 }

@@ -2,6 +2,7 @@
 ghost use Rattle.std.specs.Prelude.{◌≡◌, [], OnOk, length, option_copied, slice_get};
 ghost use Rattle.search.specs.Names.{is_among, with_name};
 
+use elf_model::NameSeed;
 use indexmap::IndexSet;
 use std::alloc::{AllocError, Global};
 use std::marker::Model;
@@ -9,7 +10,7 @@ use std::marker::Model;
 /// Names, each once, in the order in which they were first added.
 #[derive(Drop)]
 pub struct NameSet<'a> {
-    names: IndexSet<&'a [u8]>,
+    names: IndexSet<&'a [u8], NameSeed>,
 }
 
 impl<'a> Model for NameSet<'a> {
@@ -26,7 +27,7 @@ impl<'a> NameSet<'a> {
         ensures { result ≡ [] }
     {
         NameSet {
-            names: IndexSet::new(alloc),
+            names: IndexSet::with_hasher(alloc, NameSeed::fixed()),
         }
     }
 

@@ -11,14 +11,15 @@ use crate::loader::Loader;
 use crate::turns::{turn, waits_for};
 use crate::waits::Waits;
 use std::alloc::{AllocError, Global};
+use symbols::NameTable;
 
 /// What may give the next member of each archive.
-fn all_waits<'a>(
+fn all_waits<'a, T: NameTable<'a>>(
     alloc: Global,
-    loader: &Loader<'_, 'a>,
+    loader: &Loader<'_, 'a, T>,
     inputs: &[Input<'a>],
 ) -> Result<Vec<Option<Waits<'a>>>, AllocError>
-    requires known { Knows loader.now }
+    requires known { Knows T.rows loader.now }
     requires archives { All (λ i. i.archive ≡ true) inputs.now }
     ensures { IfOk result (λ v. AllCover loader.now inputs.now v.items) }
 {
@@ -30,17 +31,17 @@ fn all_waits<'a>(
 }
 
 /// A turn of each archive, in order.
-fn run_round<'a>(
+fn run_round<'a, T: NameTable<'a>>(
     alloc: Global,
-    loader: &mut Loader<'_, 'a>,
+    loader: &mut Loader<'_, 'a, T>,
     inputs: &[Input<'a>],
     waits: &mut [Option<Waits<'a>>],
 ) -> Result<(), SearchFault>
-    requires known { Knows loader.old }
+    requires known { Knows T.rows loader.old }
     requires archives { All (λ i. i.archive ≡ true) inputs.now }
     requires covers { AllCover loader.old inputs.now waits.old }
     ensures later { OnOk result (IsLater loader.old loader.new) }
-    ensures known { OnOk result (Knows loader.new) }
+    ensures known { OnOk result (Knows T.rows loader.new) }
     ensures covers { OnOk result (AllCover loader.new inputs.now waits.new) }
     ensures loaded { OnOk result (loaded loader.new ≡ round loader.old.plan.now inputs.now (loaded loader.old)) }
     ensures fault { IfErr result (FailsOn (round loader.old.plan.now inputs.now (loaded loader.old))) }
@@ -52,15 +53,15 @@ fn run_round<'a>(
 }
 
 /// Rounds of a group of archives, until a whole round takes nothing.
-pub fn run_rounds<'a>(
+pub fn run_rounds<'a, T: NameTable<'a>>(
     alloc: Global,
-    loader: &mut Loader<'_, 'a>,
+    loader: &mut Loader<'_, 'a, T>,
     inputs: &[Input<'a>],
 ) -> Result<(), SearchFault>
-    requires known { Knows loader.old }
+    requires known { Knows T.rows loader.old }
     requires archives { All (λ i. i.archive ≡ true) inputs.now }
     ensures later { OnOk result (IsLater loader.old loader.new) }
-    ensures known { OnOk result (Knows loader.new) }
+    ensures known { OnOk result (Knows T.rows loader.new) }
     ensures loaded { OnOk result (loaded loader.new ≡ rounds loader.old.plan.now inputs.now (loaded loader.old)) }
     ensures fault { IfErr result (FailsOn (rounds loader.old.plan.now inputs.now (loaded loader.old))) }
 {

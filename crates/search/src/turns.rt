@@ -11,14 +11,15 @@ use crate::faults::SearchFault;
 use crate::loader::Loader;
 use crate::waits::Waits;
 use std::alloc::{AllocError, Global};
+use symbols::NameTable;
 
 /// What may give the next member of an archive; None where it is whole, or has no index.
-pub fn waits_for<'a>(
+pub fn waits_for<'a, T: NameTable<'a>>(
     alloc: Global,
-    loader: &Loader<'_, 'a>,
+    loader: &Loader<'_, 'a, T>,
     input: &Input<'a>,
 ) -> Result<Option<Waits<'a>>, AllocError>
-    requires known { Knows loader.now }
+    requires known { Knows T.rows loader.now }
     requires archive { input.now.archive ≡ true }
     ensures { IfOk result (CoversFor loader.now input.now) }
 {
@@ -33,18 +34,18 @@ pub fn waits_for<'a>(
 }
 
 /// Takes members of an archive, until none is next.
-fn take_members<'a>(
+fn take_members<'a, T: NameTable<'a>>(
     alloc: Global,
-    loader: &mut Loader<'_, 'a>,
+    loader: &mut Loader<'_, 'a, T>,
     input: &Input<'a>,
     waits: &mut Waits<'a>,
 ) -> Result<(), SearchFault>
-    requires known { Knows loader.old }
+    requires known { Knows T.rows loader.old }
     requires archive { input.now.archive ≡ true }
     requires searched { input.now.whole ≡ false }
     requires covers { Covers loader.old input.now.number (archive_entries input.now.bytes) waits.old }
     ensures later { OnOk result (IsLater loader.old loader.new) }
-    ensures known { OnOk result (Knows loader.new) }
+    ensures known { OnOk result (Knows T.rows loader.new) }
     ensures covers { OnOk result (Covers loader.new input.now.number (archive_entries input.now.bytes) waits.new) }
     ensures loaded { OnOk result (loaded loader.new ≡ turn loader.old.plan.now input.now (loaded loader.old)) }
     ensures fault { IfErr result (FailsOn (turn loader.old.plan.now input.now (loaded loader.old))) }
@@ -60,15 +61,15 @@ fn take_members<'a>(
 }
 
 /// Loads all members of an archive, in the file's order.
-fn take_all<'a>(
+fn take_all<'a, T: NameTable<'a>>(
     alloc: Global,
-    loader: &mut Loader<'_, 'a>,
+    loader: &mut Loader<'_, 'a, T>,
     input: &Input<'a>,
 ) -> Result<(), SearchFault>
-    requires known { Knows loader.old }
+    requires known { Knows T.rows loader.old }
     requires archive { input.now.archive ≡ true }
     ensures later { OnOk result (IsLater loader.old loader.new) }
-    ensures known { OnOk result (Knows loader.new) }
+    ensures known { OnOk result (Knows T.rows loader.new) }
     ensures loaded { OnOk result (loaded loader.new ≡ with_members (loaded loader.old) input.now (archive_members input.now.bytes)) }
     ensures fault { IfErr result (FailsOn (with_members (loaded loader.old) input.now (archive_members input.now.bytes))) }
 {
@@ -80,16 +81,16 @@ fn take_all<'a>(
 }
 
 /// A turn of a whole archive, or of one that has nothing to search.
-fn take_whole<'a>(
+fn take_whole<'a, T: NameTable<'a>>(
     alloc: Global,
-    loader: &mut Loader<'_, 'a>,
+    loader: &mut Loader<'_, 'a, T>,
     input: &Input<'a>,
 ) -> Result<(), SearchFault>
-    requires known { Knows loader.old }
+    requires known { Knows T.rows loader.old }
     requires archive { input.now.archive ≡ true }
     requires whole { (input.now.whole ≡ true) ⊎ (archive_entries input.now.bytes ≡ []) }
     ensures later { OnOk result (IsLater loader.old loader.new) }
-    ensures known { OnOk result (Knows loader.new) }
+    ensures known { OnOk result (Knows T.rows loader.new) }
     ensures loaded { OnOk result (loaded loader.new ≡ turn loader.old.plan.now input.now (loaded loader.old)) }
     ensures fault { IfErr result (FailsOn (turn loader.old.plan.now input.now (loaded loader.old))) }
 {
@@ -101,17 +102,17 @@ fn take_whole<'a>(
 }
 
 /// A turn of an archive, of which is known what may give its next member.
-pub fn turn<'a>(
+pub fn turn<'a, T: NameTable<'a>>(
     alloc: Global,
-    loader: &mut Loader<'_, 'a>,
+    loader: &mut Loader<'_, 'a, T>,
     input: &Input<'a>,
     waits: &mut Option<Waits<'a>>,
 ) -> Result<(), SearchFault>
-    requires known { Knows loader.old }
+    requires known { Knows T.rows loader.old }
     requires archive { input.now.archive ≡ true }
     requires covers { CoversFor loader.old input.now waits.old }
     ensures later { OnOk result (IsLater loader.old loader.new) }
-    ensures known { OnOk result (Knows loader.new) }
+    ensures known { OnOk result (Knows T.rows loader.new) }
     ensures covers { OnOk result (CoversFor loader.new input.now waits.new) }
     ensures loaded { OnOk result (loaded loader.new ≡ turn loader.old.plan.now input.now (loaded loader.old)) }
     ensures fault { IfErr result (FailsOn (turn loader.old.plan.now input.now (loaded loader.old))) }

@@ -11,15 +11,17 @@ ghost use Rattle.search.specs.Waiting.{ArePlaced, Covers, CoversBut, NextWait, p
 
 use crate::loader::Loader;
 use ar_index::IndexEntry;
+use elf_model::NameSeed;
 use indexmap::IndexMap;
 use std::alloc::{AllocError, Global};
 use std::collections::BTreeSet;
+use symbols::NameTable;
 
 /// The places of an index's entries, by their names in the archive's index.
 #[derive(Drop)]
 pub struct Waits<'a> {
     /// The places of each name, in order.
-    places: IndexMap<&'a [u8], Vec<usize>>,
+    places: IndexMap<&'a [u8], Vec<usize>, NameSeed>,
     /// The places that may give the next member.
     waiting: BTreeSet<usize>,
     /// How many of the names that are asked for have been looked at.
@@ -29,7 +31,7 @@ pub struct Waits<'a> {
 /// Adds a place of a name.
 fn add_place<'a>(
     alloc: Global,
-    places: &mut IndexMap<&'a [u8], Vec<usize>>,
+    places: &mut IndexMap<&'a [u8], Vec<usize>, NameSeed>,
     name: &'a [u8],
     place: usize,
 ) -> Result<(), AllocError>
@@ -44,10 +46,10 @@ fn add_place<'a>(
 fn places_of<'a>(
     alloc: Global,
     entries: &[IndexEntry<'a>],
-) -> Result<IndexMap<&'a [u8], Vec<usize>>, AllocError>
+) -> Result<IndexMap<&'a [u8], Vec<usize>, NameSeed>, AllocError>
     ensures { IfOk result (ArePlaced entries.now) }
 {
-    let mut places = IndexMap::new(alloc);
+    let mut places = IndexMap::with_hasher(alloc, NameSeed::fixed());
     for (i, entry) in entries.iter().enumerate() {
         add_place(alloc, &mut places, entry.name(), i)?;
     }
@@ -55,13 +57,13 @@ fn places_of<'a>(
 }
 
 /// The places of an index that may give the next member now.
-fn waiting_now<'a>(
+fn waiting_now<'a, T: NameTable<'a>>(
     alloc: Global,
-    loader: &Loader<'_, 'a>,
+    loader: &Loader<'_, 'a, T>,
     item: u64,
     entries: &[IndexEntry<'a>],
 ) -> Result<BTreeSet<usize>, AllocError>
-    requires { Knows loader.now }
+    requires { Knows T.rows loader.now }
     ensures { IfOk result (NextWait loader.now item entries.now) }
 {
     let mut waiting = BTreeSet::new(alloc);
@@ -75,7 +77,7 @@ fn waiting_now<'a>(
 
 /// Lets the places of a name wait.
 fn wake<'a>(
-    places: &IndexMap<&'a [u8], Vec<usize>>,
+    places: &IndexMap<&'a [u8], Vec<usize>, NameSeed>,
     waiting: &mut BTreeSet<usize>,
     name: &'a [u8],
 ) -> Result<(), AllocError>
@@ -92,13 +94,13 @@ fn wake<'a>(
 
 /// Takes the first place off that gives a next member, and all before it, which give none; answers the
 /// member's offset. None where no place gives one.
-fn pop_next<'a>(
+fn pop_next<'a, T: NameTable<'a>>(
     waiting: &mut BTreeSet<usize>,
-    loader: &Loader<'_, 'a>,
+    loader: &Loader<'_, 'a, T>,
     item: u64,
     entries: &[IndexEntry<'a>],
 ) -> Option<u64>
-    requires known { Knows loader.now }
+    requires known { Knows T.rows loader.now }
     requires wait { NextWait loader.now item entries.now waiting.old }
     ensures exact { result ≡ option_map (λ e. e.offset) (find (is_next_of loader.now.plan.now (loaded loader.now) item) entries.now) }
     ensures rest { (q : ℕ) (e : archive.IndexEntry) → slice_get entries.now q ≡ Some e → is_next_of loader.now.plan.now (loaded loader.now) item e ≡ true → (contains nat_cmp waiting.new q ≡ true) ⊎ (result ≡ Some e.offset) }
@@ -116,13 +118,13 @@ fn pop_next<'a>(
 
 impl<'a> Waits<'a> {
     /// What may give the next member of an archive now.
-    pub fn new(
+    pub fn new<T: NameTable<'a>>(
         alloc: Global,
-        loader: &Loader<'_, 'a>,
+        loader: &Loader<'_, 'a, T>,
         item: u64,
         entries: &[IndexEntry<'a>],
     ) -> Result<Waits<'a>, AllocError>
-        requires { Knows loader.now }
+        requires { Knows T.rows loader.now }
         ensures { IfOk result (Covers loader.now item entries.now) }
     {
         Ok(Waits {
@@ -133,7 +135,7 @@ impl<'a> Waits<'a> {
     }
 
     /// Lets the places wait whose names were asked for meanwhile.
-    fn catch_up(&mut self, loader: &Loader<'_, 'a>) -> Result<(), AllocError>
+    fn catch_up<T: NameTable<'a>>(&mut self, loader: &Loader<'_, 'a, T>) -> Result<(), AllocError>
         ensures covers { OnOk result ((item : ℕ) (es : List archive.IndexEntry) → Covers loader.now item es self.old → Covers loader.now item es self.new) }
         ensures seen { OnOk result (length loader.now.names.requested ≤ self.new.seen) }
     {
@@ -149,13 +151,13 @@ impl<'a> Waits<'a> {
     }
 
     /// The offset of the member that is next; its place waits no longer.
-    pub fn next(
+    pub fn next<T: NameTable<'a>>(
         &mut self,
-        loader: &Loader<'_, 'a>,
+        loader: &Loader<'_, 'a, T>,
         item: u64,
         entries: &[IndexEntry<'a>],
     ) -> Result<Option<u64>, AllocError>
-        requires known { Knows loader.now }
+        requires known { Knows T.rows loader.now }
         requires covers { Covers loader.now item entries.now self.old }
         ensures exact { IfOk result (λ r. r ≡ option_map (λ e. e.offset) (find (is_next_of loader.now.plan.now (loaded loader.now) item) entries.now)) }
         ensures covers { IfOk result (λ r. CoversBut loader.now item entries.now self.new r) }

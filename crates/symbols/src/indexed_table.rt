@@ -44,10 +44,6 @@ impl<'a, S: BuildHasher> NameTable<'a> for IndexedTable<'a, S> {
         self.rows.get(name).copied()
     }
 
-    fn reserve(&mut self, additional: usize) -> Result<(), AllocError> {
-        self.rows.reserve_exact(additional)
-    }
-
     fn offer(&mut self, name: &'a [u8], candidate: Candidate) -> Result<(), AllocError> {
         let row = self.rows.entry(name)?.or_insert(NO_ROW);
         take_in(row, candidate);

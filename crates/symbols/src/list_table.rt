@@ -52,10 +52,6 @@ impl<'a> NameTable<'a> for ListTable<'a> {
         Some(self.rows[place].1)
     }
 
-    fn reserve(&mut self, additional: usize) -> Result<(), AllocError> {
-        self.rows.reserve_exact(additional)
-    }
-
     fn offer(&mut self, name: &'a [u8], candidate: Candidate) -> Result<(), AllocError> {
         if let Some(place) = place_of(&self.rows, name) {
             take_in(&mut self.rows[place].1, candidate);

@@ -16,14 +16,6 @@ pub trait NameTable<'a> {
     fn get(&self, name: &'a [u8]) -> Option<Row>
         ensures { result ≡ rows self.now name.now };
 
-    /// Makes room for so many more names, and changes no row.
-    ///
-    /// # Errors
-    ///
-    /// Where memory is refused.
-    fn reserve(&mut self, additional: usize) -> Result<(), AllocError>
-        ensures { rows self.new ≡ rows self.old };
-
     /// Offers a candidate for a name, whose row takes it in.
     ///
     /// # Errors

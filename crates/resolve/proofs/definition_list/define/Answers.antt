@@ -1,4 +1,4 @@
-use Rattle.std.proofs.Common.{◌≤◌, ◌∙◌, ap, length, subst, sym, List}
+use Rattle.std.proofs.Common.{◌≤◌, ◌∙◌, ap, length, refl, subst, sym, List}
 use Rattle.resolve.specs.Offered.{offers_of}
 use Rattle.symbols.specs.Offers.{all_offered}
 use Rattle.std.specs.Prelude.{count_by, filter}
@@ -18,12 +18,23 @@ returns-in-Some-clause-fault g c =
     (subst (λ (xs : List code.SymbolOf). 2 ≤ count_by (is_strong_of c.in-Some.name.now) (symbol_views xs)) c.deref-2.ensures.value c.in-Some.ensures.found)
     c.duplicate.ensures
 
+pub keep_meant-requires : goal.keep_meant-requires
+keep_meant-requires g c = λ k. (
+  (refl, tt),
+  (
+    c.in_ok-offer_all.ensures
+        ∙ ap (λ (xs : List code.SymbolOf). all_offered (offers_of (symbol_views xs)) (g.T.NameTable.rows c.args.table.now)) c.deref.ensures.value
+        ∙ ap (all_offered (offers_of (symbol_views c.in_ok-found.found.items))) c.requires,
+    subst (λ (xs : List code.SymbolOf). HasNoStrongTwins (symbol_views xs)) c.deref-2.ensures.value c.in_default.ensures.none,
+  ),
+)
+
 pub returns-clause-defined : goal.returns-clause-defined
 returns-clause-defined g c =
     sorted_chosen (loaded_views c.args.objects.now) c.in_ok-found.found.items c.in_ok-found.ensures (g.T.NameTable.rows c.offer_all.new.table) c.keep_meant.new.definitions.items c.by_name.result.items
     (c.in_ok-offer_all.ensures
-    ∙ ap (λ (xs : List code.SymbolOf). all_offered (offers_of (symbol_views xs)) (g.T.NameTable.rows c.reserve.new.self)) c.deref.ensures.value
-    ∙ ap (all_offered (offers_of (symbol_views c.in_ok-found.found.items))) (c.reserve.ensures ∙ c.requires))
+    ∙ ap (λ (xs : List code.SymbolOf). all_offered (offers_of (symbol_views xs)) (g.T.NameTable.rows c.args.table.now)) c.deref.ensures.value
+    ∙ ap (all_offered (offers_of (symbol_views c.in_ok-found.found.items))) c.requires)
     c.keep_meant.ensures c.by_name.ensures.same c.by_name.ensures.rising
     (subst (λ (xs : List code.SymbolOf). HasNoStrongTwins (symbol_views xs)) c.deref-2.ensures.value c.in_default.ensures.none)
     (c.are_sound_commons.ensures.0 c.if-not-are_sound_commons.false) (c.are_sound.ensures.0 c.if-not-are_sound.false)
@@ -35,6 +46,6 @@ returns-clause-blocks g c =
     ∙ ap (λ (xs : List code.SymbolOf). blocks_by (g.T.NameTable.rows c.offer_all.new.table) (length c.args.objects.now) 0 (filter is_common_symbol (symbol_views xs))) c.deref-3.ensures.value
     ∙ kept_blocks L c.in_ok-found.found.items c.in_ok-found.ensures (g.T.NameTable.rows c.offer_all.new.table) c.keep_meant.new.definitions.items (length c.args.objects.now)
     (c.in_ok-offer_all.ensures
-    ∙ ap (λ (xs : List code.SymbolOf). all_offered (offers_of (symbol_views xs)) (g.T.NameTable.rows c.reserve.new.self)) c.deref.ensures.value
-    ∙ ap (all_offered (offers_of (symbol_views c.in_ok-found.found.items))) (c.reserve.ensures ∙ c.requires))
+    ∙ ap (λ (xs : List code.SymbolOf). all_offered (offers_of (symbol_views xs)) (g.T.NameTable.rows c.args.table.now)) c.deref.ensures.value
+    ∙ ap (all_offered (offers_of (symbol_views c.in_ok-found.found.items))) c.requires)
     c.keep_meant.ensures (sym (length-map c.args.objects.now loaded_view))

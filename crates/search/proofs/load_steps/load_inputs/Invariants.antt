@@ -4,9 +4,9 @@ use Rattle.search.specs.Loaders.{IsLater, Knows, loaded}
 use Rattle.search.proofs.load_steps.load_inputs.Given as goal
 
 abbrev pub invariant-loop-at : goal.invariant-loop-at
-invariant-loop-at l = record {
+invariant-loop-at g l = record {
   later : IsLater l.fn.loader l.loader;
-  known : Knows l.loader;
+  known : Knows g.T.NameTable.rows l.loader;
   within : l.at ≤ length l.inputs;
   rest :
       loaded_steps l.fn.loader.plan.now (steps (drop l.at l.inputs)) (loaded l.loader)
@@ -14,4 +14,4 @@ invariant-loop-at l = record {
 }
 
 abbrev pub decreases-loop-at : goal.decreases-loop-at
-decreases-loop-at l = length l.inputs - l.at
+decreases-loop-at g l = length l.inputs - l.at

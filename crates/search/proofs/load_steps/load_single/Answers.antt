@@ -9,7 +9,7 @@ use Rattle.search.proofs.TurnLaws.{single_fails}
 use Rattle.search.proofs.load_steps.load_single.Goals as goal
 
 pub returns-clause-fault : goal.returns-clause-fault
-returns-clause-fault c =
+returns-clause-fault g c =
     let plan = c.args.loader.now.plan.now in
     let os = loaded c.args.loader.now in
     subst (λ (o : Opened). IfErr c.add.result (FailsOn (loaded_step plan (Single o) os))) c.item-item.ensures

@@ -1,4 +1,4 @@
-use Rattle.std.proofs.Common.{◌≡◌, ◌∙◌, ◌≤◌, List, ℕ, ap, drop, length, subst, sym, take}
+use Rattle.std.proofs.Common.{◌≡◌, ◌∙◌, ◌≤◌, List, ℕ, ap, drop, length, refl, subst, sym, take}
 use Rattle.std.specs.Prelude.{All, true}
 use Rattle.std.proofs.lemmas.Result.{err_from_is_err_and}
 use Rattle.elf_model.specs.Loading.{Single, group_of, loaded_step, loaded_steps, rounds, steps}
@@ -9,7 +9,7 @@ use Rattle.search.proofs.TurnLaws.{fails_later}
 use Rattle.search.proofs.load_steps.load_step.Goals as goal
 
 pub returns-in_err-load_single-clause-fault : goal.returns-in_err-load_single-clause-fault
-returns-in_err-load_single-clause-fault c =
+returns-in_err-load_single-clause-fault g c =
     let p = err_from_is_err_and c.from_residual.result c.from_residual.ensures.1 in
     let plan = c.args.loader.now.plan.now in
     let os = loaded c.args.loader.now in
@@ -22,15 +22,20 @@ returns-in_err-load_single-clause-fault c =
     (single_later plan os xs x c.requires.some c.index-inputs-0-in_default.is alone) c.in_err-load_single.ensures.fault)
 
 pub split_at-requires : goal.split_at-requires
-split_at-requires c = subst (λ (n : ℕ). n ≤ length c.args.inputs.now) (sym c.run_length-count.ensures) (run_within c.in-Some.group c.args.inputs.now)
+split_at-requires g c = subst (λ (n : ℕ). n ≤ length c.args.inputs.now) (sym c.run_length-count.ensures) (run_within c.in-Some.group c.args.inputs.now)
 
-pub run_rounds-requires-clause-archives : goal.run_rounds-requires-clause-archives
-run_rounds-requires-clause-archives c =
+pub run_rounds-requires : goal.run_rounds-requires
+run_rounds-requires g c = λ k. (
+  (refl, tt),
+  (
+    c.requires.known,
     subst (All (λ (o : Opened). o.archive ≡ true))
-    (sym (c.split_at.ensures.front ∙ ap (λ (n : ℕ). take n c.args.inputs.now) c.run_length-count.ensures)) (run_archives c.in-Some.group c.args.inputs.now)
+        (sym (c.split_at.ensures.front ∙ ap (λ (n : ℕ). take n c.args.inputs.now) c.run_length-count.ensures)) (run_archives c.in-Some.group c.args.inputs.now),
+  ),
+)
 
 pub returns-in_err-run_rounds-clause-fault : goal.returns-in_err-run_rounds-clause-fault
-returns-in_err-run_rounds-clause-fault c =
+returns-in_err-run_rounds-clause-fault g c =
     let p = err_from_is_err_and c.from_residual-in_err-run_rounds.result c.from_residual-in_err-run_rounds.ensures.1 in
     let plan = c.args.loader.now.plan.now in
     let os = loaded c.args.loader.now in
@@ -41,7 +46,7 @@ returns-in_err-run_rounds-clause-fault c =
     (c.split_at.ensures.front ∙ ap (λ (n : ℕ). take n c.args.inputs.now) c.run_length-count.ensures)) c.in_err-run_rounds.ensures.fault)
 
 pub returns-clause-loaded : goal.returns-clause-loaded
-returns-clause-loaded c =
+returns-clause-loaded g c =
     let plan = c.args.loader.now.plan.now in
     let os = loaded c.args.loader.now in
     let xs = c.args.inputs.now in

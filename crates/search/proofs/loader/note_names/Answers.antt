@@ -8,7 +8,7 @@ use Rattle.search.proofs.NotedNames.{asked_all, asked_past, asked_step, defined_
 use Rattle.search.proofs.loader.note_names.Goals as goal
 
 pub loop-j-preserved-then-not-is_global_or_weak : goal.loop-j-preserved-then-not-is_global_or_weak
-loop-j-preserved-then-not-is_global_or_weak c =
+loop-j-preserved-then-not-is_global_or_weak g c =
     let items = c.symbols-symbol-items.result.now in
     let ss = symbols c.args.object.now in
     let local = sym c.is_global_or_weak.ensures ∙ c.if-not-is_global_or_weak.true in record {
@@ -18,13 +18,13 @@ loop-j-preserved-then-not-is_global_or_weak c =
     }
 
 pub unreachable-requires : goal.unreachable-requires
-unreachable-requires c =
+unreachable-requires g c =
     none-some _
     (sym (ap (λ (o : Option (Bor (List ℕ))). option_copied o) c.in_default.is)
     ∙ named_there c.args.object.now c.args.dropped.now c.symbols-symbol-items.result.now (symbols c.args.object.now) c.symbols-symbol-items.ensures c.loop-j.j null_symbol c.loop-j-test.true c.name.result refl c.name.ensures)
 
 pub loop-j-preserved : goal.loop-j-preserved
-loop-j-preserved c =
+loop-j-preserved g c =
     let items = c.symbols-symbol-items.result.now in
     let ss = symbols c.args.object.now in
     let called =
@@ -37,9 +37,9 @@ loop-j-preserved c =
     }
 
 pub returns-clause-requested : goal.returns-clause-requested
-returns-clause-requested c = λ n.
+returns-clause-requested g c = λ n.
     asked_all c.args.object.now c.args.dropped.now c.symbols-symbol-items.result.now (symbols c.args.object.now) c.loop-j.j n _ _ c.symbols-symbol-items.ensures c.loop-j-test.false (c.loop-j.invariant.requested n)
 
 pub returns-clause-defined : goal.returns-clause-defined
-returns-clause-defined c = λ n.
+returns-clause-defined g c = λ n.
     defined_all c.args.object.now c.args.dropped.now c.symbols-symbol-items.result.now (symbols c.args.object.now) c.loop-j.j n _ _ c.symbols-symbol-items.ensures c.loop-j-test.false (c.loop-j.invariant.defined n)

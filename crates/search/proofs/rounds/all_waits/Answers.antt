@@ -8,7 +8,7 @@ use Rattle.search.proofs.WaitLaws.{zip_push}
 use Rattle.search.proofs.rounds.all_waits.Goals as goal
 
 pub loop-input-preserved : goal.loop-input-preserved
-loop-input-preserved c =
+loop-input-preserved g c =
     let l = c.args.loader.now in
     let xs = c.args.inputs.now in
     let i = c.loop-input.input-index in

@@ -3,4 +3,4 @@ use Rattle.search.specs.Waiting.{AllCover}
 use Rattle.search.proofs.rounds.all_waits.Given as goal
 
 abbrev pub invariant-loop-input : goal.invariant-loop-input
-invariant-loop-input l = AllCover l.loader (take l.input-index l.inputs) l.waits.items
+invariant-loop-input g l = AllCover l.loader (take l.input-index l.inputs) l.waits.items

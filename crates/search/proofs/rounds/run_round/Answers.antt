@@ -1,4 +1,4 @@
-use Rattle.std.proofs.Common.{◌∙◌, ap, arith, get_or, subst, sym}
+use Rattle.std.proofs.Common.{◌∙◌, ap, arith, get_or, refl, subst, sym}
 use Rattle.std.proofs.lemmas.Result.{err_from_is_err_and}
 use Rattle.elf_model.specs.Command.{Plan}
 use Rattle.elf_model.specs.Loading.{round, turn}
@@ -11,7 +11,7 @@ use Rattle.search.proofs.WaitLaws.{covers_for_later, is_later_trans, zip_at, zip
 use Rattle.search.proofs.rounds.run_round.Goals as goal
 
 pub returns-in_err-turn-clause-fault : goal.returns-in_err-turn-clause-fault
-returns-in_err-turn-clause-fault c =
+returns-in_err-turn-clause-fault g c =
     let p = err_from_is_err_and c.from_residual.result c.from_residual.ensures.1 in
     let plan = c.args.loader.now.plan.now in
     let os = loaded c.loop-i.loader in
@@ -23,7 +23,7 @@ returns-in_err-turn-clause-fault c =
     (subst (λ (q : Plan). FailsOn (turn q o os) c.in_err-turn.field-0.0) c.loop-i.invariant.later.plan c.in_err-turn.ensures.fault))
 
 pub loop-i-preserved : goal.loop-i-preserved
-loop-i-preserved c =
+loop-i-preserved g c =
     let plan = c.args.loader.now.plan.now in
     let xs = c.args.inputs.now in
     let i = c.loop-i.i in
@@ -41,12 +41,20 @@ loop-i-preserved c =
     }
 
 pub bounds-waits-i : goal.bounds-waits-i
-bounds-waits-i c =
+bounds-waits-i g c =
     let n = zip_length (CoversFor c.loop-i.loader) c.args.inputs.now c.loop-i.waits c.loop-i.invariant.covers in
     let m = c.loop-i-test.true in
     omega (arith, n, m)
 
-pub turn-requires-clause-covers : goal.turn-requires-clause-covers
-turn-requires-clause-covers c =
-    subst (λ (o : Opened). CoversFor c.loop-i.loader o (get_or c.loop-i.waits c.loop-i.i c.index-waits-i.result)) (sym c.index-inputs-i.is)
-    (zip_at (CoversFor c.loop-i.loader) c.args.inputs.now c.loop-i.waits c.loop-i.i c.index-inputs-i.result c.index-waits-i.result c.loop-i.invariant.covers c.loop-i-test.true)
+pub turn-requires : goal.turn-requires
+turn-requires g c = λ k. (
+  (refl, tt),
+  (
+    c.loop-i.invariant.known,
+    (
+      ap (λ (o : Opened). o.archive) c.index-inputs-i.is ∙ c.requires.archives c.loop-i.i c.index-inputs-i.result c.loop-i-test.true,
+      subst (λ (o : Opened). CoversFor c.loop-i.loader o (get_or c.loop-i.waits c.loop-i.i c.index-waits-i.result)) (sym c.index-inputs-i.is)
+          (zip_at (CoversFor c.loop-i.loader) c.args.inputs.now c.loop-i.waits c.loop-i.i c.index-inputs-i.result c.index-waits-i.result c.loop-i.invariant.covers c.loop-i-test.true),
+    ),
+  ),
+)

@@ -13,7 +13,7 @@ use Rattle.search.proofs.TurnLaws.{fails_later, took_some}
 use Rattle.search.proofs.rounds.run_rounds.Goals as goal
 
 pub returns-in_err-run_round-clause-fault : goal.returns-in_err-run_round-clause-fault
-returns-in_err-run_round-clause-fault c =
+returns-in_err-run_round-clause-fault g c =
     let p = err_from_is_err_and c.from_residual-in_err-run_round.result c.from_residual-in_err-run_round.ensures.1 in
     let plan = c.args.loader.now.plan.now in
     let os = loaded c.loop-all.loader in
@@ -24,7 +24,7 @@ returns-in_err-run_round-clause-fault c =
     (subst (λ (q : Plan). FailsOn (round q inputs os) c.in_err-run_round.field-0.0) c.loop-all.invariant.later.plan c.in_err-run_round.ensures.fault))
 
 pub returns-then-count-before-clause-loaded : goal.returns-then-count-before-clause-loaded
-returns-then-count-before-clause-loaded c =
+returns-then-count-before-clause-loaded g c =
     let plan = c.args.loader.now.plan.now in
     let os = loaded c.loop-all.loader in
     let inputs = c.args.inputs.now in
@@ -34,7 +34,7 @@ returns-then-count-before-clause-loaded c =
     nothing ∙ (sym (rounds_last plan inputs os (sym is ∙ nothing)) ∙ c.loop-all.invariant.rest)
 
 pub loop-all-smaller : goal.loop-all-smaller
-loop-all-smaller c =
+loop-all-smaller g c =
     let plan = c.args.loader.now.plan.now in
     let os = loaded c.loop-all.loader in
     let inputs = c.args.inputs.now in
@@ -44,7 +44,7 @@ loop-all-smaller c =
     subst (λ (to : List LoadedObject). left_of_all inputs to < left_of_all inputs os) (sym is) (rounds_less plan inputs os (λ same. some (is ∙ same)))
 
 pub loop-all-preserved : goal.loop-all-preserved
-loop-all-preserved c =
+loop-all-preserved g c =
     let plan = c.args.loader.now.plan.now in
     let os = loaded c.loop-all.loader in
     let inputs = c.args.inputs.now in

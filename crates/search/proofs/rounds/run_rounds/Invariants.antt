@@ -6,12 +6,12 @@ use Rattle.search.specs.Waiting.{AllCover}
 use Rattle.search.proofs.rounds.run_rounds.Given as goal
 
 abbrev pub invariant-loop-all : goal.invariant-loop-all
-invariant-loop-all l = record {
+invariant-loop-all g l = record {
   later : IsLater l.fn.loader l.loader;
-  known : Knows l.loader;
+  known : Knows g.T.NameTable.rows l.loader;
   covers : AllCover l.loader l.inputs l.waits;
   rest : rounds l.fn.loader.plan.now l.inputs (loaded l.loader) ≡ rounds l.fn.loader.plan.now l.inputs (loaded l.fn.loader);
 }
 
 abbrev pub decreases-loop-all : goal.decreases-loop-all
-decreases-loop-all l = left_of_all l.inputs (loaded l.loader)
+decreases-loop-all g l = left_of_all l.inputs (loaded l.loader)

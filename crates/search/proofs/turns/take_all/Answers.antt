@@ -9,7 +9,7 @@ use Rattle.search.proofs.TurnLaws.{fails_next, members_later}
 use Rattle.search.proofs.turns.take_all.Goals as goal
 
 pub returns-in_err-add-clause-fault : goal.returns-in_err-add-clause-fault
-returns-in_err-add-clause-fault c =
+returns-in_err-add-clause-fault g c =
     let p = err_from_is_err_and c.from_residual.result c.from_residual.ensures.1 in
     let os = loaded c.loop-member.loader in
     let o = c.args.input.now in

@@ -17,7 +17,7 @@ use Rattle.search.proofs.WaitLaws.{covers_taken, is_later_trans}
 use Rattle.search.proofs.turns.take_members.Goals as goal
 
 pub loop-offset-smaller : goal.loop-offset-smaller
-loop-offset-smaller c =
+loop-offset-smaller g c =
     let os = loaded c.loop-offset.loader in
     let o = c.args.input.now in
     let plan = c.loop-offset.loader.plan.now in
@@ -30,7 +30,7 @@ loop-offset-smaller c =
     (sym (c.in_ok-add.ensures.loaded ∙ f.2)) (untaken_falls plan os o f.0 f.1)
 
 pub loop-offset-preserved : goal.loop-offset-preserved
-loop-offset-preserved c =
+loop-offset-preserved g c =
     let os = loaded c.loop-offset.loader in
     let o = c.args.input.now in
     let first = c.args.loader.now.plan.now in
@@ -59,7 +59,7 @@ loop-offset-preserved c =
     }
 
 pub returns-in_err-add-clause-fault : goal.returns-in_err-add-clause-fault
-returns-in_err-add-clause-fault c =
+returns-in_err-add-clause-fault g c =
     let p = err_from_is_err_and c.from_residual-in_err-add.result c.from_residual-in_err-add.ensures.1 in
     let os = loaded c.loop-offset.loader in
     let o = c.args.input.now in
@@ -79,7 +79,7 @@ returns-in_err-add-clause-fault c =
     c.in_err-add.ensures.fault)
 
 pub returns-clause-loaded : goal.returns-clause-loaded
-returns-clause-loaded c =
+returns-clause-loaded g c =
     let os = loaded c.loop-offset.loader in
     let o = c.args.input.now in
     let first = c.args.loader.now.plan.now in

@@ -7,12 +7,12 @@ use Rattle.search.specs.Waiting.{Covers}
 use Rattle.search.proofs.turns.take_members.Given as goal
 
 abbrev pub invariant-loop-offset : goal.invariant-loop-offset
-invariant-loop-offset l = record {
+invariant-loop-offset g l = record {
   later : IsLater l.fn.loader l.loader;
-  known : Knows l.loader;
+  known : Knows g.T.NameTable.rows l.loader;
   covers : Covers l.loader l.input.number (archive_entries l.input.bytes) l.waits;
   rest : turn l.fn.loader.plan.now l.input (loaded l.loader) ≡ turn l.fn.loader.plan.now l.input (loaded l.fn.loader);
 }
 
 abbrev pub decreases-loop-offset : goal.decreases-loop-offset
-decreases-loop-offset l = untaken (loaded l.loader) l.input.number (archive_entries l.input.bytes)
+decreases-loop-offset g l = untaken (loaded l.loader) l.input.number (archive_entries l.input.bytes)

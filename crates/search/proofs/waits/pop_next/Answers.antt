@@ -10,7 +10,7 @@ use Rattle.search.proofs.WaitLaws.{find_none, next_is, not_empty, pop_dead, pop_
 use Rattle.search.proofs.waits.pop_next.Goals as goal
 
 pub returns-then-is_next-clause-exact : goal.returns-then-is_next-clause-exact
-returns-then-is_next-clause-exact c =
+returns-then-is_next-clause-exact g c =
     let es = c.args.entries.now in
     let x = c.in-Some-get.entry.now in
     let look = c.in-Some-get.ensures.lookup in
@@ -23,7 +23,7 @@ returns-then-is_next-clause-exact c =
     c.in-Some.ensures.least c.in-Some.ensures.updates passes))
 
 pub returns-then-is_next-clause-rest : goal.returns-then-is_next-clause-rest
-returns-then-is_next-clause-rest c = λ q e here t.
+returns-then-is_next-clause-rest g c = λ q e here t.
     let es = c.args.entries.now in
     let x = c.in-Some-get.entry.now in
     let look = c.in-Some-get.ensures.lookup in
@@ -35,7 +35,7 @@ returns-then-is_next-clause-rest c = λ q e here t.
     ]
 
 pub loop-place-preserved : goal.loop-place-preserved
-loop-place-preserved c =
+loop-place-preserved g c =
     let es = c.args.entries.now in
     let x = c.in-Some-get.entry.now in
     let look = c.in-Some-get.ensures.lookup in
@@ -45,7 +45,7 @@ loop-place-preserved c =
     c.in-Some.ensures.least c.in-Some.ensures.updates fails
 
 pub returns-clause-exact : goal.returns-clause-exact
-returns-clause-exact c =
+returns-clause-exact g c =
     sym
     (ap (λ (f : Option IndexEntry). option_map (λ e. e.offset) f)
     (find_none (is_next_of c.args.loader.now.plan.now (loaded c.args.loader.now) c.args.item) c.args.entries.now

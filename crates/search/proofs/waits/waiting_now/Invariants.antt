@@ -7,6 +7,6 @@ use Rattle.search.specs.Loaders.{is_next_of, loaded}
 use Rattle.search.proofs.waits.waiting_now.Given as goal
 
 abbrev pub invariant-loop-i : goal.invariant-loop-i
-invariant-loop-i l =
+invariant-loop-i g l =
     (q : ℕ) (e : IndexEntry) → q < l.i → slice_get l.entries q ≡ Some e → is_next_of l.loader.plan.now (loaded l.loader) l.item e ≡ true
     → contains nat_cmp l.waiting q ≡ true

@@ -1,7 +1,7 @@
 use Rattle.std.proofs.Common.{List, subst}
 use Rattle.elf_model.specs.Loading.{LoadedObject}
 use Rattle.elf_model.specs.Resolution.{AreSoundCommons, AreSoundSymbols, AreUnique}
-use Rattle.resolve.proofs.resolved.resolve_over.Goals as goal
+use Rattle.resolve.proofs.resolved.resolve_in.Goals as goal
 
 pub returns-clause-resolved : goal.returns-clause-resolved
 returns-clause-resolved g c =

@@ -8,10 +8,11 @@ use Rattle.search.specs.Loaders.{loaded}
 use Rattle.search.specs.Opened.{item_view}
 use Rattle.search.specs.declared.opened_items.OpenedItem.{OpenedItem}
 use Rattle.search.proofs.LoadLaws.{objects_fail, unsearchable_fails, whole}
-use Rattle.search.proofs.load_steps.load.Goals as goal
+use Rattle.search.proofs.LostSections.{dropped_in_order}
+use Rattle.search.proofs.load_steps.load_in.Goals as goal
 
 pub returns-in_err-inputs-clause-fault : goal.returns-in_err-inputs-clause-fault
-returns-in_err-inputs-clause-fault c =
+returns-in_err-inputs-clause-fault g c =
     let p = err_from_is_err_and c.from_residual-in_err-inputs.result c.from_residual-in_err-inputs.ensures.1 in
     let files = files_of c.args.files.now in
     let plan = c.args.plan.now in
@@ -21,7 +22,7 @@ returns-in_err-inputs-clause-fault c =
     (subst (λ (fs : List File). AreFilesThere fs plan) c.in_ok-index.ensures c.in_ok-items.ensures.files) c.in_err-inputs.ensures.fault)
 
 pub returns-in_err-load_inputs-clause-fault : goal.returns-in_err-load_inputs-clause-fault
-returns-in_err-load_inputs-clause-fault c =
+returns-in_err-load_inputs-clause-fault g c =
     let p = err_from_is_err_and c.from_residual-in_err-load_inputs.result c.from_residual-in_err-load_inputs.ensures.1 in
     let files = files_of c.args.files.now in
     let plan = c.args.plan.now in
@@ -38,7 +39,7 @@ returns-in_err-load_inputs-clause-fault c =
     }) c.in_err-load_inputs.ensures.fault)
 
 pub returns-clause-loaded : goal.returns-clause-loaded
-returns-clause-loaded c =
+returns-clause-loaded g c =
     let files = files_of c.args.files.now in
     let plan = c.args.plan.now in
     let items : map item_view c.deref.result.now ≡ opened files plan =
@@ -50,10 +51,13 @@ returns-clause-loaded c =
     ∙ whole files plan c.in_ok-loader.loader.plan.now c.deref-2.result.now (loaded c.in_ok-loader.loader) c.in_ok-loader.ensures.plan inputs c.in_ok-loader.ensures.loaded))
 
 pub returns-clause-rules : goal.returns-clause-rules
-returns-clause-rules c = follows_rules (files_of c.args.files.now) c.args.plan.now
+returns-clause-rules g c = follows_rules (files_of c.args.files.now) c.args.plan.now
 
 pub returns-clause-objects : goal.returns-clause-objects
-returns-clause-objects c = subst AreObjects (sym (c.in_ok-loaded.ensures.objects ∙ c.into_objects.ensures) ∙ returns-clause-loaded c) c.in_ok-load_inputs.ensures.known.objects
+returns-clause-objects g c = subst AreObjects (sym (c.in_ok-loaded.ensures.objects ∙ c.into_objects.ensures) ∙ returns-clause-loaded g c) c.in_ok-load_inputs.ensures.known.objects
 
 pub returns-clause-groups : goal.returns-clause-groups
-returns-clause-groups c = subst HaveLawfulGroups (sym (c.in_ok-loaded.ensures.objects ∙ c.into_objects.ensures) ∙ returns-clause-loaded c) c.in_ok-load_inputs.ensures.known.lawful
+returns-clause-groups g c = subst HaveLawfulGroups (sym (c.in_ok-loaded.ensures.objects ∙ c.into_objects.ensures) ∙ returns-clause-loaded g c) c.in_ok-load_inputs.ensures.known.lawful
+
+pub returns-clause-dropped : goal.returns-clause-dropped
+returns-clause-dropped g c = dropped_in_order (files_of c.args.files.now) c.args.plan.now
