@@ -1,18 +1,10 @@
 -- One more piece in the index of addresses by sections.
 use Rattle.std.proofs.Common.{◌≡◌, ℕ, ◌==◌, ◌&&◌, Bool, true, false, cond, Option, Some, None, refl, sym, ◌∙◌, ap, subst}
 use Rattle.std.specs.Prelude.{is_some}
-use Rattle.std.specs.BTreeMap.{BTreeMap, Updates}
-use Rattle.std.specs.Cmp.{tied_then, unsigned_ties}
+use Rattle.std.specs.HashMap.{Updates}
 use Rattle.std.specs.Option.{option_or}
-use Rattle.std.specs.Ordering.{is_eq, nat_cmp}
 use Rattle.std.proofs.lemmas.Bool.{eqb-true}
-use Rattle.check_link.specs.PlaceIndex.{address_in, section_key}
-
--- two keys compare equal where both numbers are
-pub tie : (a b c d : ℕ) → is_eq (section_key (a, b) (c, d)) ≡ (a == c && b == d)
-tie a b c d =
-    sym (tied_then (nat_cmp a c) (nat_cmp b d))
-    ∙ sym (ap (λ (t : Bool). t && b == d) (unsigned_ties a c) ∙ ap (λ (t : Bool). is_eq (nat_cmp a c) && t) (unsigned_ties b d))
+use Rattle.check_link.specs.PlaceIndex.{Addresses, address_in, is_same}
 
 -- the test of a section tells that both numbers are its
 both_equal : (a b c d : ℕ) → (a == c && b == d) ≡ true → (a ≡ c) × (b ≡ d)
@@ -28,14 +20,14 @@ put_first old new true at e absent = e ∙ ap (λ (o : Option ℕ). option_or o 
 put_first None new false at e absent = e
 put_first (Some x) new false at e absent = e
 
-module _ (old : BTreeMap (ℕ × ℕ) ℕ) (o s at : ℕ) where
+module _ (old : Addresses) (o s at : ℕ) where
   -- the section of a piece is no key yet
   pub place_added :
-      (new : BTreeMap (ℕ × ℕ) ℕ) → Updates section_key old new (o, s) (Some at) → address_in old o s ≡ None → (object section : ℕ) →
+      (new : Addresses) → Updates is_same old new (o, s) (Some at) → address_in old o s ≡ None → (object section : ℕ) →
       address_in new object section ≡ option_or (address_in old object section) (cond (o == object && s == section) (Some at) None)
   place_added new updates none object section =
       put_first (address_in old object section) (address_in new object section) (o == object && s == section) at
-      (updates.0 (object, section) ∙ ap (λ (t : Bool). cond t (Some at) (address_in old object section)) (tie o s object section))
+      (updates.0 (object, section))
       (λ e.
       let same = both_equal o s object section e in
       subst (λ (i : ℕ). address_in old object i ≡ None) same.1 (subst (λ (i : ℕ). address_in old i s ≡ None) same.0 none))

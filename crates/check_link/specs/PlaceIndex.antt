@@ -1,9 +1,10 @@
 -- Addresses of pieces by their sections, and the bounds of their parts and output names.
-use Rattle.std.specs.Prelude.{◌≡◌, ℕ, List, Option, find, option_map}
+use Rattle.std.specs.Prelude.{◌≡◌, ◌==◌, ◌&&◌, ℕ, Bool, List, Option, find, option_map}
 use Rattle.std.specs.Borrow.{Bor}
-use Rattle.std.specs.BTreeMap.{BTreeMap, get}
-use Rattle.std.specs.Ordering.{nat_cmp, ordering_then}
-use Rattle.std.specs.declared.cmp.Ordering.{Ordering}
+use Rattle.std.specs.BTreeMap.{BTreeMap}
+use Rattle.std.specs.HashMap.{HashMap, get}
+use Rattle.std.specs.declared.hash.BuildHasherDefault.{BuildHasherDefault}
+use Rattle.std.specs.declared.hash.FoldHasher.{FoldHasher}
 use Rattle.elf_model.specs.Placement.{Placed, is_of_section}
 use Rattle.elf_model.specs.declared.link_map.GotLine.{GotLine}
 use Rattle.check_link.specs.Outputs.{AreSpans}
@@ -12,19 +13,23 @@ use Rattle.check_link.specs.ThreadStorage.{thread_pointer}
 use Rattle.check_link.specs.declared.bounds.Bounds.{Bounds}
 use Rattle.check_link.specs.declared.bounds.Span.{Span}
 
--- how an object's and a section's number compare with others
-abbrev pub section_key : ℕ × ℕ → ℕ × ℕ → Ordering
-section_key a b = ordering_then (nat_cmp a.0 b.0) (nat_cmp a.1 b.1)
+-- whether an object's and a section's number are those of others
+abbrev pub is_same : ℕ × ℕ → ℕ × ℕ → Bool
+is_same a b = a.0 == b.0 && a.1 == b.1
+
+-- a table that finds sections by hash
+abbrev pub Addresses : Type 0
+Addresses = HashMap (ℕ × ℕ) ℕ (BuildHasherDefault FoldHasher)
 
 -- the address that an index has for a section
-abbrev pub address_in : BTreeMap (ℕ × ℕ) ℕ → ℕ → ℕ → Option ℕ
-address_in index object section = get section_key index (object, section)
+abbrev pub address_in : Addresses → ℕ → ℕ → Option ℕ
+address_in index object section = get is_same index (object, section)
 
 -- an index has for each section the address of the first piece that is of it
-abbrev pub IsPlaceIndex : List Placed → BTreeMap (ℕ × ℕ) ℕ → Type 0
+abbrev pub IsPlaceIndex : List Placed → Addresses → Type 0
 IsPlaceIndex ps index = (object section : ℕ) → address_in index object section ≡ option_map (λ q. q.at) (find (is_of_section object section) ps)
 
-pub record ArePlaces (ps : List Placed) (got : Option GotLine) (index : BTreeMap (ℕ × ℕ) ℕ) (bounds : Bounds) (spans : BTreeMap (Bor (List ℕ)) Span) (pointer : ℕ) : Type 0 where
+pub record ArePlaces (ps : List Placed) (got : Option GotLine) (index : Addresses) (bounds : Bounds) (spans : BTreeMap (Bor (List ℕ)) Span) (pointer : ℕ) : Type 0 where
   pub addresses : IsPlaceIndex ps index
   pub bounds_are : AreBounds ps got bounds
   pub spans_are : AreSpans ps spans

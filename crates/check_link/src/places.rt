@@ -19,7 +19,7 @@ use crate::things::Placed;
 use crate::thread_storage::thread_pointer;
 use elf_model::{Bound, GotLine};
 use std::alloc::{AllocError, Global};
-use std::collections::BTreeMap;
+use std::collections::{BTreeMap, HashMap};
 use std::marker::Model;
 
 /// The base, pieces at addresses and the GOT with its slots, with an index of the addresses by object and section, the
@@ -30,7 +30,7 @@ pub struct Places<'p, 'a> {
     placed: &'p [Placed<'a>],
     got: Option<GotLine>,
     slots: &'p SlotTable<'a>,
-    addresses: BTreeMap<(u64, u64), u64>,
+    addresses: HashMap<(u64, u64), u64>,
     bounds: Bounds,
     spans: BTreeMap<&'a [u8], Span>,
     thread_pointer: u64,
@@ -145,7 +145,7 @@ impl<'p, 'a> Places<'p, 'a> {
 
 /// Puts a placed piece into the index, unless one of its section is there.
 fn add_place(
-    addresses: &mut BTreeMap<(u64, u64), u64>,
+    addresses: &mut HashMap<(u64, u64), u64>,
     placed: &Placed<'_>,
 ) -> Result<(), AllocError>
     ensures { OnOk result ((object section : ℕ) → address_in addresses.new object section ≡ option_or (address_in addresses.old object section) (cond (is_of_section object section (placed_view placed.now)) (Some placed.now.at) None)) }
@@ -161,10 +161,10 @@ fn add_place(
 fn index_places(
     alloc: Global,
     placed: &[Placed<'_>],
-) -> Result<BTreeMap<(u64, u64), u64>, AllocError>
+) -> Result<HashMap<(u64, u64), u64>, AllocError>
     ensures { IfOk result (IsPlaceIndex (placed_views placed.now)) }
 {
-    let mut addresses = BTreeMap::new(alloc);
+    let mut addresses = HashMap::new(alloc);
     for q in placed {
         add_place(&mut addresses, q)?;
     }

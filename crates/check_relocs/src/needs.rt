@@ -21,13 +21,13 @@ use check_link::{Request, SymbolOf};
 use check_load::Loaded;
 use elf_model::{Rela, STB_LOCAL, SectionHeader};
 use std::alloc::{AllocError, Global};
-use std::collections::BTreeSet;
+use std::collections::HashSet;
 
 /// Whether relocations ask for a GOT, and their requests for slots, each once.
 #[derive(Drop)]
 pub struct Needs<'a> {
     pub got: bool,
-    pub requests: BTreeSet<Request<'a>>,
+    pub requests: HashSet<Request<'a>>,
 }
 
 /// Whether a symbol isn't LOCAL and has the name of the GOT, which no object defines.
@@ -105,7 +105,7 @@ fn asks_for_got<'a>(
 }
 
 fn add_request<'a>(
-    requests: &mut BTreeSet<Request<'a>>,
+    requests: &mut HashSet<Request<'a>>,
     request: Request<'a>,
 ) -> Result<(), AllocError>
     ensures { OnOk result ((q : slots.Request) → is_asked requests.new q ≡ (is_asked requests.old q || same_request q (request_view request.entry))) }
@@ -116,7 +116,7 @@ fn add_request<'a>(
 
 /// Adds a request, if there is one.
 fn add_if_asked<'a>(
-    requests: &mut BTreeSet<Request<'a>>,
+    requests: &mut HashSet<Request<'a>>,
     request: Option<Request<'a>>,
 ) -> Result<(), AllocError>
     ensures { OnOk result ((q : slots.Request) → is_asked requests.new q ≡ (is_asked requests.old q || option_map_or (same_request q) (option_map request_view request.entry) false)) }
@@ -225,7 +225,7 @@ pub fn needs_of<'a>(alloc: Global, bindings: &Bindings<'_, '_, 'a>) -> Result<Ne
     let objects = bindings.objects();
     let mut needs = Needs {
         got: false,
-        requests: BTreeSet::new(alloc),
+        requests: HashSet::new(alloc),
     };
     for k in 0..objects.len() {
         add_object(alloc, &mut needs, bindings, k as u64, &objects[k])?;
