@@ -101,7 +101,7 @@ const CALL: Rela = Rela {
 };
 
 /// An object whose one symbol besides the null one is the function `_start`, in its `.text`.
-fn start_object(alloc: Global) -> Result<Vec<u8>, AllocError> {
+pub fn start_object(alloc: Global) -> Result<Vec<u8>, AllocError> {
     object_of(alloc, &HEADER, &TEXT_SECTION)
 }
 

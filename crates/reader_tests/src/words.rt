@@ -5,7 +5,7 @@ use std::process::Abort;
 use std::test::Fail;
 
 /// The words of a line, cut at spaces.
-fn words(alloc: Global, line: &str) -> Result<Vec<String>, AllocError> {
+pub fn words(alloc: Global, line: &str) -> Result<Vec<String>, AllocError> {
     let mut list = Vec::new(alloc);
     for word in line.split_whitespace() {
         list.push(String::from_str(alloc, word)?)?;
