@@ -2,18 +2,13 @@
 use crate::objects::{NamedSymbol, Relocation, object, relocatable};
 use crate::one_object::{function, text_section};
 use crate::several_objects::{
-    R_64, R_PC32, bss, has_bytes, in_text, link_one, link_two, linked_one, section, undefined,
+    R_64, R_PC32, bss, has_bytes, in_text, link_one, link_two, linked_one, naming, section,
+    undefined,
 };
 use elf_model::{LinkError, SHF_WRITE};
 use ld_main::Output;
 use std::alloc::Global;
 use std::test::Fail;
-
-/// An object that names something undefined, and has relocations of its text.
-pub fn naming(alloc: Global, name: &str, relocations: &[Relocation]) -> Result<Vec<u8>, Fail> {
-    let symbols = [function("_start"), undefined(name)];
-    relocatable(alloc, &[text_section()], &symbols, relocations)
-}
 
 #[test]
 fn an_object_may_define_a_linkers_name(rt: HostRuntime) -> Result<(), Fail> {

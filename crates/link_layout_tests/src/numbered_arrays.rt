@@ -1,8 +1,9 @@
 //! Arrays of functions with numbers in their sections' names, which come first, by the number.
-use crate::clauses::verdict_of;
 use crate::objects::{Relocation, Section, object, relocatable};
 use crate::one_object::{function, text_section};
-use crate::several_objects::{R_64, add_file, has_bytes, link_one, linked, section, undefined};
+use crate::several_objects::{
+    R_64, add_file, has_bytes, link_one, linked, section, undefined, verdict_of,
+};
 use elf_model::{InputFile, SHF_WRITE};
 use ld_main::{Clause, Output, Verdict};
 use std::alloc::Global;

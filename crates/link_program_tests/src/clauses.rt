@@ -1,9 +1,9 @@
 //! The least clause that fails, of links that are wrong in one place.
 use crate::objects::{NamedSymbol, relocatable};
-use crate::one_object::{function, one_file, text_section, words_of};
-use crate::several_objects::{in_text, link_one};
+use crate::one_object::{function, text_section};
+use crate::several_objects::{in_text, link_one, verdict_by, verdict_of};
 use crate::vectors::{IMAGE_HEADERS, MAP, OBJECT, TEXT, TEXT_OFFSET, image};
-use ld_main::{Clause, Verdict, check};
+use ld_main::{Clause, Verdict};
 use std::alloc::Global;
 use std::test::Fail;
 
@@ -99,24 +99,6 @@ static ROWS: [(Clause, Change); 21] = [
         Change::Map(b"ldmap 1\nobject 0 0 0 a.o\nplace 0000000000401000 9 0 1 .text\nend\n"),
     ),
 ];
-
-/// What the check says of a line of words, where `a.o` is the one file.
-fn verdict_by(
-    alloc: Global,
-    line: &str,
-    object: &[u8],
-    image: &[u8],
-    map: &[u8],
-) -> Result<Verdict, Fail> {
-    let files = one_file(alloc, "a.o", object)?;
-    let words = words_of(alloc, line)?;
-    Ok(check(alloc, &files, &words, image, map)?)
-}
-
-/// What the check of `a.o` says.
-pub fn verdict_of(alloc: Global, object: &[u8], image: &[u8], map: &[u8]) -> Result<Verdict, Fail> {
-    verdict_by(alloc, "a.o", object, image, map)
-}
 
 /// What the check of the link of `a.o` says once it is changed.
 fn changed(alloc: Global, change: &Change) -> Result<Verdict, Fail> {

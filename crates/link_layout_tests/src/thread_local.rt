@@ -1,10 +1,10 @@
 //! Links with thread-local storage: PT_TLS, offsets from the thread pointer, slots that hold them, and zeros that take up
 //! no memory.
-use crate::clauses::verdict_of;
 use crate::objects::{NamedSymbol, Relocation, Section, object, relocatable};
 use crate::one_object::{function, text_section};
 use crate::several_objects::{
-    Part, R_PC32, bss, has_bytes, has_parts, in_text, link_one, linked_one, section, section_symbol,
+    Part, R_PC32, bss, has_bytes, has_parts, in_text, link_one, linked_one, section,
+    section_symbol, verdict_of,
 };
 use elf_model::{LinkError, SHF_ALLOC, SHF_EXECINSTR, SHF_TLS, SHF_WRITE};
 use ld_main::{Clause, Output, Verdict};

@@ -1,11 +1,9 @@
 //! Links with a global offset table: its slots, the kinds of relocations that speak of it, and its name.
-use crate::clauses::verdict_of;
-use crate::linker_names::naming;
 use crate::objects::{NamedSymbol, Relocation, object, relocatable};
 use crate::one_object::{function, text_section};
 use crate::several_objects::{
     Part, R_64, R_PC32, add_file, has_bytes, has_parts, in_text, link_one, link_two, linked,
-    section, undefined,
+    naming, section, undefined, verdict_of,
 };
 use elf_model::{InputFile, SHF_EXECINSTR, SHF_WRITE};
 use ld_main::{Clause, Output, Verdict};
