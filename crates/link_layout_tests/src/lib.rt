@@ -11,6 +11,3 @@ mod numbered_arrays;
 mod output_names;
 #[cfg(test)]
 mod thread_local;
-
-#[cfg(test)]
-use link_samples::{objects, one_object, several_objects, vectors};

@@ -1,98 +1,77 @@
 //! Links of objects with COMDAT groups (System V gABI 4, "Section Groups"): what is dropped, and what may refer to it.
-use crate::objects::{NamedSymbol, Relocation, Section, relocatable};
-use crate::one_object::{function, text_section};
-use crate::several_objects::{
-    R_PC32, R_PLT32, has_bytes, link_two, linked_one, section, section_symbol, undefined,
-};
-use elf_model::{LinkError, SHF_EXECINSTR, SHT_GROUP};
-use ld_main::Output;
-use std::alloc::Global;
+use elf_model::SHT_GROUP;
+use link_samples::links::{File, Row, Wanted, first_wrong};
+use link_samples::objects::{NamedSymbol, Relocation, Section};
+use link_samples::parts::{ADDRESS, F, NO_F, R_PC32, R_PLT32, RODATA, SECTION_2, START, TEXT};
 use std::test::Fail;
 
-/// The words of a COMDAT group whose one member has the number 2, and of one whose member has the number 3.
-static MEMBER_2: [u8; 8] = [1, 0, 0, 0, 2, 0, 0, 0];
+/// A COMDAT group whose signature is symbol 2, and whose one member has the number 2; and one whose member is number 3.
+const GROUP: Section<'static> = Section {
+    name: ".group",
+    sh_type: SHT_GROUP,
+    sh_flags: 0,
+    sh_addralign: 4,
+    bytes: &[1, 0, 0, 0, 2, 0, 0, 0],
+    memory: 0,
+    signature: 2,
+};
 
-static MEMBER_3: [u8; 8] = [1, 0, 0, 0, 3, 0, 0, 0];
+const GROUP_OF_3: Section<'static> = Section {
+    bytes: &[1, 0, 0, 0, 3, 0, 0, 0],
+    ..GROUP
+};
 
-/// A call, and a return.
-static CALL: [u8; 6] = [0xe8, 0, 0, 0, 0, 0xc3];
+/// A return in a section of its own, and a call.
+const TEXT_F: Section<'static> = Section {
+    name: ".text.f",
+    bytes: &[0xc3],
+    ..TEXT
+};
 
-/// A group: the number of its signature's symbol, and its words.
-fn group(signature: u32, bytes: &[u8]) -> Section<'_> {
-    Section {
-        name: ".group",
-        sh_type: SHT_GROUP,
-        sh_flags: 0,
-        sh_addralign: 4,
-        bytes,
-        memory: 0,
-        signature,
-    }
-}
-
-/// A return in a section of its own.
-fn text_f() -> Section<'static> {
-    section(".text.f", SHF_EXECINSTR, 1, &[0xc3])
-}
-
-/// A global symbol at the beginning of a section.
-fn global<'a>(name: &'a str, st_shndx: u16) -> NamedSymbol<'a> {
-    NamedSymbol {
-        st_shndx,
-        ..function(name)
-    }
-}
+const CALLER: Section<'static> = Section {
+    bytes: &[0xe8, 0, 0, 0, 0, 0xc3],
+    ..TEXT
+};
 
 /// `_start` in its text, and `f` in a group.
-fn first(alloc: Global) -> Result<Vec<u8>, Fail> {
-    relocatable(
-        alloc,
-        &[text_section(), group(2, &MEMBER_3), text_f()],
-        &[function("_start"), global("f", 3)],
-        &[],
-    )
-}
+const FIRST: File = File::Object(
+    "a.o",
+    &[TEXT, GROUP_OF_3, TEXT_F],
+    &[START, NamedSymbol { st_shndx: 3, ..F }],
+    &[],
+);
 
-/// A relocation of a section.
-fn relocation(section: u32, offset: u64, kind: u32, symbol: u32, addend: i64) -> Relocation {
-    Relocation {
-        section,
-        offset,
-        kind,
-        symbol,
-        addend,
-    }
-}
+/// The symbols of an object that has that group again: 1 is the section of its member, 2 is `f` in it, and 3 is `h`,
+/// defined in section 3, in the member, or not at all.
+const F_IN_2: NamedSymbol<'static> = NamedSymbol { st_shndx: 2, ..F };
 
-/// The group again, and behind it another section with a relocation. Its symbols are 1, the section of the group's
-/// member, 2, `f` in it, and 3, `h`, defined in a section or not at all.
-fn second(
-    alloc: Global,
-    words: &[u8],
-    third: Section<'_>,
-    h: u16,
-    relocation: Relocation,
-) -> Result<Vec<u8>, Fail> {
-    relocatable(
-        alloc,
-        &[group(2, words), text_f(), third],
-        &[section_symbol(2), global("f", 2), global("h", h)],
-        &[relocation],
-    )
-}
+const H: NamedSymbol<'static> = NamedSymbol {
+    name: "h",
+    st_shndx: 3,
+    ..F
+};
 
-/// The link of both.
-fn link_both(alloc: Global, second: &[u8]) -> Result<Result<Output, LinkError>, Fail> {
-    let first = first(alloc)?;
-    link_two(alloc, &first, second)
-}
+const H_IN_2: NamedSymbol<'static> = NamedSymbol { st_shndx: 2, ..H };
 
-/// A section that calls.
-fn caller() -> Section<'static> {
-    section(".text", SHF_EXECINSTR, 1, &CALL)
-}
+const NO_H: NamedSymbol<'static> = NamedSymbol { name: "h", ..NO_F };
 
-static DROP_MAP: &[u8] = b"ldmap 1\n\
+/// A call of `f`.
+const CALL: Relocation = Relocation {
+    section: 3,
+    offset: 1,
+    kind: R_PLT32,
+    symbol: 2,
+    addend: -4,
+};
+
+/// A relocation of a kind that isn't known.
+const UNKNOWN: Relocation = Relocation {
+    offset: 0,
+    kind: 5,
+    ..CALL
+};
+
+const DROP_MAP: &[u8] = b"ldmap 1\n\
     object 0 0 0 a.o\n\
     object 1 1 0 b.o\n\
     drop 1 2\n\
@@ -104,137 +83,258 @@ static DROP_MAP: &[u8] = b"ldmap 1\n\
     symbol 000000000040100a strong 1 3 h\n\
     end\n";
 
-#[test]
-fn a_group_of_a_signature_seen_before_is_dropped(rt: HostRuntime) -> Result<(), Fail> {
-    let call = relocation(3, 1, R_PLT32, 2, -4);
-    let second = second(rt.alloc(), &MEMBER_2, caller(), 3, call)?;
-    let output = link_both(rt.alloc(), &second)??;
-    assert!(rt; output.map.as_slice() == DROP_MAP);
-    assert!(rt; has_bytes(&output, 0x100a, &[0xe8, 0xfa, 0xff, 0xff, 0xff, 0xc3]));
-    Ok(())
-}
+static LINKS: [Row; 2] = [
+    // A group of a signature seen before is dropped.
+    (
+        &[
+            FIRST,
+            File::Object(
+                "b.o",
+                &[GROUP, TEXT_F, CALLER],
+                &[SECTION_2, F_IN_2, H],
+                &[CALL],
+            ),
+        ],
+        "a.o b.o",
+        Wanted::Linked(
+            0,
+            &[(0x100a, &[0xe8, 0xfa, 0xff, 0xff, 0xff, 0xc3])],
+            DROP_MAP,
+        ),
+    ),
+    // Frames may refer to what is dropped.
+    (
+        &[
+            FIRST,
+            File::Object(
+                "b.o",
+                &[
+                    GROUP,
+                    TEXT_F,
+                    Section {
+                        name: ".eh_frame",
+                        sh_addralign: 1,
+                        bytes: &[0; 4],
+                        ..RODATA
+                    },
+                ],
+                &[SECTION_2, F_IN_2, NO_H],
+                &[Relocation {
+                    section: 3,
+                    kind: R_PC32,
+                    symbol: 1,
+                    ..ADDRESS
+                }],
+            ),
+        ],
+        "a.o b.o",
+        Wanted::Linked(0, &[(0xe8, &[0x18, 0xff, 0xbf, 0xff])], b""),
+    ),
+];
 
-#[test]
-fn frames_may_refer_to_what_is_dropped(rt: HostRuntime) -> Result<(), Fail> {
-    let frame = section(".eh_frame", 0, 1, &[0; 4]);
-    let second = second(
-        rt.alloc(),
-        &MEMBER_2,
-        frame,
-        0,
-        relocation(3, 0, R_PC32, 1, 0),
-    )?;
-    let output = link_both(rt.alloc(), &second)??;
-    assert!(rt; has_bytes(&output, 0xe8, &[0x18, 0xff, 0xbf, 0xff]));
-    Ok(())
-}
-
-/// What is told of a link: that there is one, or the refusal.
-fn told(alloc: Global, answer: &Result<Output, LinkError>) -> Result<String, Fail> {
-    let mut text = String::new(alloc);
-    match answer {
-        Ok(_) => text.push_str("linked")?,
-        Err(error) => text.push_str(&format!(in alloc; "{error}")?)?,
-    }
-    Ok(text)
-}
-
-/// A group's words, the relocated section, an offset in it, a kind, a symbol, where `h` is, and what is told.
-type Row = (&'static [u8], u32, u64, u32, u32, u16, &'static str);
-
-static ROWS: [Row; 8] = [
+static JUDGED: [Row; 8] = [
     // The section of a dropped member, and a name that only it defines.
     (
-        &[1, 0, 0, 0, 2, 0, 0, 0],
-        3,
-        1,
-        R_PLT32,
-        1,
-        3,
-        "RefToDropped (11)",
+        &[
+            FIRST,
+            File::Object(
+                "b.o",
+                &[GROUP, TEXT_F, CALLER],
+                &[SECTION_2, F_IN_2, H],
+                &[Relocation { symbol: 1, ..CALL }],
+            ),
+        ],
+        "a.o b.o",
+        Wanted::Refused("RefToDropped (11)"),
     ),
     (
-        &[1, 0, 0, 0, 2, 0, 0, 0],
-        3,
-        1,
-        R_PLT32,
-        3,
-        2,
-        "Undefined (10)",
+        &[
+            FIRST,
+            File::Object(
+                "b.o",
+                &[GROUP, TEXT_F, CALLER],
+                &[SECTION_2, F_IN_2, H_IN_2],
+                &[Relocation { symbol: 3, ..CALL }],
+            ),
+        ],
+        "a.o b.o",
+        Wanted::Refused("Undefined (10): h"),
     ),
-    // Relocations that go with the member, of a kind that isn't known, and of no member.
-    (&[1, 0, 0, 0, 2, 0, 0, 0], 2, 0, 5, 2, 3, "linked"),
-    (&[1, 0, 0, 0, 2, 0, 0, 0], 3, 0, 5, 2, 3, "RelocKind (12)"),
-    // The RELA section, number 6, is the member.
-    (&[1, 0, 0, 0, 6, 0, 0, 0], 3, 0, 5, 2, 3, "Duplicate (9)"),
+    // Relocations of a kind that isn't known: of the member, with which they go, and of no member.
     (
-        &[1, 0, 0, 0, 2, 0, 0, 0, 6, 0, 0, 0],
-        3,
-        0,
-        5,
-        2,
-        3,
-        "linked",
+        &[
+            FIRST,
+            File::Object(
+                "b.o",
+                &[GROUP, TEXT_F, CALLER],
+                &[SECTION_2, F_IN_2, H],
+                &[Relocation {
+                    section: 2,
+                    ..UNKNOWN
+                }],
+            ),
+        ],
+        "a.o b.o",
+        Wanted::Linked(0, &[], b""),
+    ),
+    (
+        &[
+            FIRST,
+            File::Object(
+                "b.o",
+                &[GROUP, TEXT_F, CALLER],
+                &[SECTION_2, F_IN_2, H],
+                &[UNKNOWN],
+            ),
+        ],
+        "a.o b.o",
+        Wanted::Refused("RelocKind (12)"),
+    ),
+    // The RELA section, number 6, is the member, or one of two.
+    (
+        &[
+            FIRST,
+            File::Object(
+                "b.o",
+                &[
+                    Section {
+                        bytes: &[1, 0, 0, 0, 6, 0, 0, 0],
+                        ..GROUP
+                    },
+                    TEXT_F,
+                    CALLER,
+                ],
+                &[SECTION_2, F_IN_2, H],
+                &[UNKNOWN],
+            ),
+        ],
+        "a.o b.o",
+        Wanted::Refused("Duplicate (9): f"),
+    ),
+    (
+        &[
+            FIRST,
+            File::Object(
+                "b.o",
+                &[
+                    Section {
+                        bytes: &[1, 0, 0, 0, 2, 0, 0, 0, 6, 0, 0, 0],
+                        ..GROUP
+                    },
+                    TEXT_F,
+                    CALLER,
+                ],
+                &[SECTION_2, F_IN_2, H],
+                &[UNKNOWN],
+            ),
+        ],
+        "a.o b.o",
+        Wanted::Linked(0, &[], b""),
     ),
     // A group that isn't COMDAT drops nothing; other flags are refused.
     (
-        &[0, 0, 0, 0, 2, 0, 0, 0],
-        3,
-        1,
-        R_PLT32,
-        2,
-        3,
-        "Duplicate (9)",
+        &[
+            FIRST,
+            File::Object(
+                "b.o",
+                &[
+                    Section {
+                        bytes: &[0, 0, 0, 0, 2, 0, 0, 0],
+                        ..GROUP
+                    },
+                    TEXT_F,
+                    CALLER,
+                ],
+                &[SECTION_2, F_IN_2, H],
+                &[CALL],
+            ),
+        ],
+        "a.o b.o",
+        Wanted::Refused("Duplicate (9): f"),
     ),
     (
-        &[2, 0, 0, 0, 2, 0, 0, 0],
-        3,
-        1,
-        R_PLT32,
-        2,
-        3,
-        "BadGroup (8): BadFlags (3)",
+        &[
+            FIRST,
+            File::Object(
+                "b.o",
+                &[
+                    Section {
+                        bytes: &[2, 0, 0, 0, 2, 0, 0, 0],
+                        ..GROUP
+                    },
+                    TEXT_F,
+                    CALLER,
+                ],
+                &[SECTION_2, F_IN_2, H],
+                &[CALL],
+            ),
+        ],
+        "a.o b.o",
+        Wanted::Refused("BadGroup (8): BadFlags (3)"),
+    ),
+];
+
+/// The symbols of an object of groups and of a text, section 3: 1 is that of the section, which has no name.
+const SECTION_3: NamedSymbol<'static> = NamedSymbol {
+    st_shndx: 3,
+    ..SECTION_2
+};
+
+const START_IN_3: NamedSymbol<'static> = NamedSymbol {
+    st_shndx: 3,
+    ..START
+};
+
+/// Signatures have names, and sections are of one group.
+static SIGNATURES: [Row; 2] = [
+    (
+        &[File::Object(
+            "a.o",
+            &[
+                Section {
+                    signature: 1,
+                    ..GROUP_OF_3
+                },
+                Section {
+                    bytes: &[1, 0, 0, 0],
+                    ..GROUP
+                },
+                TEXT,
+            ],
+            &[SECTION_3, START_IN_3, NO_F],
+            &[],
+        )],
+        "a.o",
+        Wanted::Refused("BadGroup (8): NamelessSignature (2)"),
+    ),
+    (
+        &[File::Object(
+            "a.o",
+            &[
+                GROUP_OF_3,
+                Section {
+                    signature: 3,
+                    ..GROUP_OF_3
+                },
+                TEXT,
+            ],
+            &[SECTION_3, START_IN_3, NO_F],
+            &[],
+        )],
+        "a.o",
+        Wanted::Refused("BadGroup (8): TwoGroups (4)"),
     ),
 ];
 
 #[test]
+fn groups_are_linked_once(rt: HostRuntime) -> Result<(), Fail> {
+    assert_eq!(rt; first_wrong(rt.alloc(), &LINKS)?, None);
+    assert_eq!(rt; first_wrong(rt.alloc(), &SIGNATURES)?, None);
+    Ok(())
+}
+
+#[test]
 fn references_to_dropped_sections_are_judged(rt: HostRuntime) -> Result<(), Fail> {
-    for (number, (words, section, offset, kind, symbol, h, wanted)) in ROWS.iter().enumerate() {
-        let entry = relocation(*section, *offset, *kind, *symbol, -4);
-        let second = second(rt.alloc(), words, caller(), *h, entry)?;
-        let answer = link_both(rt.alloc(), &second)?;
-        assert_eq!(rt;
-            told(rt.alloc(), &answer)?.as_str(),
-            *wanted,
-            "row {number}"
-        );
-    }
-    Ok(())
-}
-
-/// What is told of an object of groups and of a text, whose symbols are 1, that of section 3, which has no name, and 2
-/// and 3, which have one.
-fn judged(alloc: Global, first: Section<'_>, second: Section<'_>) -> Result<String, Fail> {
-    let object = relocatable(
-        alloc,
-        &[first, second, text_section()],
-        &[section_symbol(3), global("_start", 3), undefined("f")],
-        &[],
-    )?;
-    let answer = linked_one(alloc, &object, "a.o")?;
-    told(alloc, &answer)
-}
-
-#[test]
-fn signatures_have_names(rt: HostRuntime) -> Result<(), Fail> {
-    let told = judged(rt.alloc(), group(1, &MEMBER_3), group(2, &[1, 0, 0, 0]))?;
-    assert_eq!(rt; told.as_str(), "BadGroup (8): NamelessSignature (2)");
-    Ok(())
-}
-
-#[test]
-fn sections_are_of_one_group(rt: HostRuntime) -> Result<(), Fail> {
-    let told = judged(rt.alloc(), group(2, &MEMBER_3), group(3, &MEMBER_3))?;
-    assert_eq!(rt; told.as_str(), "BadGroup (8): TwoGroups (4)");
+    assert_eq!(rt; first_wrong(rt.alloc(), &JUDGED)?, None);
     Ok(())
 }

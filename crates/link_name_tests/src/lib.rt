@@ -11,6 +11,3 @@ mod groups;
 mod linker_names;
 #[cfg(test)]
 mod weak_names;
-
-#[cfg(test)]
-use link_samples::{objects, one_object, several_objects, vectors};

@@ -1,126 +1,186 @@
 //! The least clause that fails, of links that are wrong in one place.
-use crate::objects::{NamedSymbol, relocatable};
-use crate::one_object::{function, text_section};
-use crate::several_objects::{in_text, link_one, verdict_by, verdict_of};
-use crate::vectors::{IMAGE_HEADERS, MAP, OBJECT, TEXT, TEXT_OFFSET, image};
-use ld_main::{Clause, Verdict};
+use crate::one_object::{one_file, words_of};
+use crate::vectors::{IMAGE_HEADERS, MAP, OBJECT, TEXT, TEXT_OFFSET};
+use ld_main::{Clause, Verdict, check};
+use link_samples::links::{Change, File, Judged, first_misjudged};
+use link_samples::objects::{NamedSymbol, Relocation};
+use link_samples::parts::{ADDRESS, NO_F, START, TEXT as TEXT_SECTION};
 use std::alloc::Global;
 use std::test::Fail;
 
-/// What is changed: the words, a byte of the object, or of the image, at an offset, or the map.
-enum Change {
-    Words(&'static str),
-    Object(usize, u8),
-    Image(usize, u8),
-    Map(&'static [u8]),
-}
+/// The object of `vectors`, of its parts.
+const PLAIN: File = File::Object("a.o", &[TEXT_SECTION], &[START], &[]);
 
-static ROWS: [(Clause, Change); 21] = [
-    (Clause::C1, Change::Words("a.o -o")),
-    (Clause::C1, Change::Map(b"ldmap 2\nend\n")),
-    // No such file.
-    (Clause::C2, Change::Words("a.o b.o")),
-    // e_machine; the path of the object.
-    (Clause::C2, Change::Object(18, 3)),
+static ROWS: [Judged; 23] = [
+    (&[PLAIN], "a.o", Change::Nothing, Verdict::Yes),
     (
-        Clause::C2,
+        &[PLAIN],
+        "a.o",
+        Change::Words("a.o -o"),
+        Verdict::No(Clause::C1),
+    ),
+    (
+        &[PLAIN],
+        "a.o",
+        Change::Map(b"ldmap 2\nend\n"),
+        Verdict::No(Clause::C1),
+    ),
+    // No such file.
+    (
+        &[PLAIN],
+        "a.o",
+        Change::Words("a.o b.o"),
+        Verdict::No(Clause::C2),
+    ),
+    // e_machine; the path of the object.
+    (
+        &[PLAIN],
+        "a.o",
+        Change::Input(18, 3),
+        Verdict::No(Clause::C2),
+    ),
+    (
+        &[PLAIN],
+        "a.o",
         Change::Map(
             b"ldmap 1\nobject 0 0 0 b.o\nplace 0000000000401000 9 0 1 .text\nsymbol 0000000000401000 strong 0 1 _start\nend\n",
         ),
+        Verdict::No(Clause::C2),
     ),
     // WRITE beside EXECINSTR; the name of the section; its size; a dropped section; a common block.
-    (Clause::C3, Change::Object(248, 7)),
     (
-        Clause::C3,
+        &[PLAIN],
+        "a.o",
+        Change::Input(248, 7),
+        Verdict::No(Clause::C3),
+    ),
+    (
+        &[PLAIN],
+        "a.o",
         Change::Map(
             b"ldmap 1\nobject 0 0 0 a.o\nplace 0000000000401000 9 0 1 .texu\nsymbol 0000000000401000 strong 0 1 _start\nend\n",
         ),
+        Verdict::No(Clause::C3),
     ),
     (
-        Clause::C3,
+        &[PLAIN],
+        "a.o",
         Change::Map(
             b"ldmap 1\nobject 0 0 0 a.o\nplace 0000000000401000 8 0 1 .text\nsymbol 0000000000401000 strong 0 1 _start\nend\n",
         ),
+        Verdict::No(Clause::C3),
     ),
     (
-        Clause::C3,
+        &[PLAIN],
+        "a.o",
         Change::Map(
             b"ldmap 1\nobject 0 0 0 a.o\ndrop 0 2\nplace 0000000000401000 9 0 1 .text\nsymbol 0000000000401000 strong 0 1 _start\nend\n",
         ),
+        Verdict::No(Clause::C3),
     ),
     (
-        Clause::C3,
+        &[PLAIN],
+        "a.o",
         Change::Map(
             b"ldmap 1\nobject 0 0 0 a.o\nplace 0000000000401000 9 0 1 .text\ncommon 0000000000402000 8 8 c\nsymbol 0000000000401000 strong 0 1 _start\nend\n",
         ),
+        Verdict::No(Clause::C3),
     ),
     // EI_DATA; p_align of the first segment.
-    (Clause::C4, Change::Image(5, 2)),
-    (Clause::C4, Change::Image(113, 0x20)),
+    (
+        &[PLAIN],
+        "a.o",
+        Change::Image(5, 2),
+        Verdict::No(Clause::C4),
+    ),
+    (
+        &[PLAIN],
+        "a.o",
+        Change::Image(113, 0x20),
+        Verdict::No(Clause::C4),
+    ),
     // Below the base; a byte past the segment's end.
     (
-        Clause::C5,
+        &[PLAIN],
+        "a.o",
         Change::Map(
             b"ldmap 1\nobject 0 0 0 a.o\nplace 0000000000000000 9 0 1 .text\nsymbol 0000000000401000 strong 0 1 _start\nend\n",
         ),
+        Verdict::No(Clause::C5),
     ),
     (
-        Clause::C6,
+        &[PLAIN],
+        "a.o",
         Change::Map(
             b"ldmap 1\nobject 0 0 0 a.o\nplace 0000000000401001 9 0 1 .text\nsymbol 0000000000401000 strong 0 1 _start\nend\n",
         ),
+        Verdict::No(Clause::C6),
     ),
     // A slot without a GOT.
     (
-        Clause::C7,
+        &[PLAIN],
+        "a.o",
         Change::Map(
             b"ldmap 1\nobject 0 0 0 a.o\nplace 0000000000401000 9 0 1 .text\nslot 0000000000401000 value name f\nsymbol 0000000000401000 strong 0 1 _start\nend\n",
         ),
+        Verdict::No(Clause::C7),
     ),
     // The text; a byte of no segment; e_entry.
-    (Clause::C10, Change::Image(0x1000, 0)),
-    (Clause::C11, Change::Image(0x200, 1)),
-    (Clause::C12, Change::Image(24, 1)),
+    (
+        &[PLAIN],
+        "a.o",
+        Change::Image(0x1000, 0),
+        Verdict::No(Clause::C10),
+    ),
+    (
+        &[PLAIN],
+        "a.o",
+        Change::Image(0x200, 1),
+        Verdict::No(Clause::C11),
+    ),
+    (
+        &[PLAIN],
+        "a.o",
+        Change::Image(24, 1),
+        Verdict::No(Clause::C12),
+    ),
     // The binding, the value, and no line.
     (
-        Clause::C13,
+        &[PLAIN],
+        "a.o",
         Change::Map(
             b"ldmap 1\nobject 0 0 0 a.o\nplace 0000000000401000 9 0 1 .text\nsymbol 0000000000401000 weak 0 1 _start\nend\n",
         ),
+        Verdict::No(Clause::C13),
     ),
     (
-        Clause::C13,
+        &[PLAIN],
+        "a.o",
         Change::Map(
             b"ldmap 1\nobject 0 0 0 a.o\nplace 0000000000401000 9 0 1 .text\nsymbol 0000000000401001 strong 0 1 _start\nend\n",
         ),
+        Verdict::No(Clause::C13),
     ),
     (
-        Clause::C13,
+        &[PLAIN],
+        "a.o",
         Change::Map(b"ldmap 1\nobject 0 0 0 a.o\nplace 0000000000401000 9 0 1 .text\nend\n"),
+        Verdict::No(Clause::C13),
+    ),
+    // The last line but one.
+    (
+        &[PLAIN],
+        "a.o",
+        Change::Map(
+            b"ldmap 1\nobject 0 0 0 a.o\nplace 0000000000401000 9 0 1 .text\nsymbol 0000000000401000 strong 0 1 _start\n",
+        ),
+        Verdict::No(Clause::C1),
     ),
 ];
 
-/// What the check of the link of `a.o` says once it is changed.
-fn changed(alloc: Global, change: &Change) -> Result<Verdict, Fail> {
-    let mut object = Vec::from_slice(alloc, &OBJECT)?;
-    let mut image = image(alloc)?;
-    let mut map = MAP;
-    let mut line = "a.o";
-    match change {
-        Change::Words(words) => line = words,
-        Change::Object(at, byte) => *object.get_mut(*at).ok_or("the object")? = *byte,
-        Change::Image(at, byte) => *image.get_mut(*at).ok_or("the image")? = *byte,
-        Change::Map(text) => map = text,
-    }
-    verdict_by(alloc, line, &object, &image, map)
-}
-
 #[test]
 fn the_least_clause_that_fails_is_told(rt: HostRuntime) -> Result<(), Fail> {
-    for (number, (clause, change)) in ROWS.iter().enumerate() {
-        let verdict = changed(rt.alloc(), change)?;
-        assert!(rt; verdict == Verdict::No(*clause), "row {number}");
-    }
+    assert_eq!(rt; first_misjudged(rt.alloc(), &ROWS)?, None);
     Ok(())
 }
 
@@ -143,46 +203,84 @@ fn image_with_thread_block(alloc: Global) -> Result<Vec<u8>, Fail> {
 #[test]
 fn a_thread_block_without_thread_storage_is_wrong(rt: HostRuntime) -> Result<(), Fail> {
     let image = image_with_thread_block(rt.alloc())?;
-    let verdict = verdict_of(rt.alloc(), &OBJECT, &image, MAP)?;
+    let files = one_file(rt.alloc(), "a.o", &OBJECT)?;
+    let words = words_of(rt.alloc(), "a.o")?;
+    let verdict = check(rt.alloc(), &files, &words, &image, MAP)?;
     assert_eq!(rt; verdict, Verdict::No(Clause::C8));
     Ok(())
 }
 
-/// An object with a relocation of a kind at an offset of its text, against `f`, absolute or without a definition.
-fn relocated(alloc: Global, kind: u32, offset: u64, st_shndx: u16) -> Result<Vec<u8>, Fail> {
-    let named = NamedSymbol {
-        name: "f",
-        st_info: 0x10,
-        st_shndx,
-        st_value: 0x1_0000_0000,
-        st_size: 0,
-    };
-    relocatable(
-        alloc,
-        &[text_section()],
-        &[function("_start"), named],
-        &[in_text(offset, kind, 2, 0)],
-    )
-}
+/// `f` as an absolute symbol, and without a definition.
+const ABSOLUTE: NamedSymbol<'static> = NamedSymbol {
+    st_shndx: 0xfff1,
+    st_value: 0x1_0000_0000,
+    ..NO_F
+};
 
-/// A kind, an offset and the section of `f`: no such kind, no definition, a field past the end, a value that doesn't
-/// fit.
-static RELOCATIONS: [(u32, u64, u16); 4] = [
-    (5, 0, 0xfff1),
-    (1, 0, 0),
-    (2, 6, 0xfff1),
-    (10, 0, 0xfff1),
+const NOWHERE: NamedSymbol<'static> = NamedSymbol {
+    st_shndx: 0,
+    ..ABSOLUTE
+};
+
+/// A relocation of no field, whose object links.
+const NONE: Relocation = Relocation { kind: 0, ..ADDRESS };
+
+const NO_FIELD: File = File::Object("a.o", &[TEXT_SECTION], &[START, ABSOLUTE], &[NONE]);
+
+static RELOCATIONS: [Judged; 4] = [
+    // COPY; ADDRESS without a definition; PC32 with a field past the end; 32 with a value that doesn't fit.
+    (
+        &[NO_FIELD],
+        "a.o",
+        Change::Files(&[File::Object(
+            "a.o",
+            &[TEXT_SECTION],
+            &[START, ABSOLUTE],
+            &[Relocation { kind: 5, ..NONE }],
+        )]),
+        Verdict::No(Clause::C9),
+    ),
+    (
+        &[File::Object("a.o", &[TEXT_SECTION], &[START, NOWHERE], &[NONE])],
+        "a.o",
+        Change::Files(&[File::Object("a.o", &[TEXT_SECTION], &[START, NOWHERE], &[ADDRESS])]),
+        Verdict::No(Clause::C9),
+    ),
+    (
+        &[File::Object(
+            "a.o",
+            &[TEXT_SECTION],
+            &[START, ABSOLUTE],
+            &[Relocation { offset: 6, ..NONE }],
+        )],
+        "a.o",
+        Change::Files(&[File::Object(
+            "a.o",
+            &[TEXT_SECTION],
+            &[START, ABSOLUTE],
+            &[Relocation {
+                offset: 6,
+                kind: 2,
+                ..NONE
+            }],
+        )]),
+        Verdict::No(Clause::C9),
+    ),
+    (
+        &[NO_FIELD],
+        "a.o",
+        Change::Files(&[File::Object(
+            "a.o",
+            &[TEXT_SECTION],
+            &[START, ABSOLUTE],
+            &[Relocation { kind: 10, ..NONE }],
+        )]),
+        Verdict::No(Clause::C9),
+    ),
 ];
 
 #[test]
 fn wrong_relocations_fail_the_ninth_clause(rt: HostRuntime) -> Result<(), Fail> {
-    let alloc = rt.alloc();
-    for (kind, offset, st_shndx) in RELOCATIONS {
-        let right = relocated(alloc, 0, offset, st_shndx)?;
-        let right = link_one(alloc, &right)??;
-        let wrong = relocated(alloc, kind, offset, st_shndx)?;
-        let verdict = verdict_of(alloc, &wrong, &right.image, &right.map)?;
-        assert!(rt; verdict == Verdict::No(Clause::C9), "kind {kind}");
-    }
+    assert_eq!(rt; first_misjudged(rt.alloc(), &RELOCATIONS)?, None);
     Ok(())
 }

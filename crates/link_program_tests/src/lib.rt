@@ -4,13 +4,11 @@
 #[cfg(test)]
 mod clauses;
 #[cfg(test)]
-mod one_link;
+mod plain_links;
 #[cfg(test)]
 mod program;
-#[cfg(test)]
-mod several_links;
 #[cfg(test)]
 mod tables;
 
 #[cfg(test)]
-use link_samples::{objects, one_object, several_objects, vectors};
+use link_samples::{objects, one_object, vectors};

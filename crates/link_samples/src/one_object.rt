@@ -1,32 +1,18 @@
 //! An object of one text, the list of its file, and the words of a command.
 use crate::objects::{NamedSymbol, Section};
-use crate::vectors::TEXT;
-use elf_model::{InputFile, SHF_ALLOC, SHF_EXECINSTR, SHT_PROGBITS};
+use crate::parts::{START, TEXT};
+use elf_model::InputFile;
 use std::alloc::Global;
 use std::test::Fail;
 
 /// A `.text` of the nine bytes, with section number 1.
 pub fn text_section() -> Section<'static> {
-    Section {
-        name: ".text",
-        sh_type: SHT_PROGBITS,
-        sh_flags: SHF_ALLOC | SHF_EXECINSTR,
-        sh_addralign: 1,
-        bytes: &TEXT,
-        memory: 0,
-        signature: 0,
-    }
+    TEXT
 }
 
 /// A global function at the beginning of section 1.
 pub fn function<'a>(name: &'a str) -> NamedSymbol<'a> {
-    NamedSymbol {
-        name,
-        st_info: 0x12,
-        st_shndx: 1,
-        st_value: 0,
-        st_size: 9,
-    }
+    NamedSymbol { name, ..START }
 }
 
 /// The words of a command line.
