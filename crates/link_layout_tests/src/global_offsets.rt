@@ -2,7 +2,7 @@
 use ld_main::{Clause, Verdict};
 use link_samples::links::{Change, File, Judged, Row, Wanted, first_misjudged, first_wrong};
 use link_samples::objects::{NamedSymbol, Relocation, Section};
-use link_samples::parts::{ADDRESS, DATA, NO_F, R_PC32, RODATA, START, TEXT};
+use link_samples::parts::{DATA, NO_F, R_64, R_PC32, RODATA, START, TEXT};
 use std::test::Fail;
 
 const R_REX_GOTPCRELX: u32 = 42;
@@ -29,14 +29,9 @@ const LOCAL_V: NamedSymbol<'static> = NamedSymbol { st_info: 1, ..V };
 const NO_V: NamedSymbol<'static> = NamedSymbol { name: "v", ..NO_F };
 
 /// The load is of symbol 2, or of symbol 1.
-const LOAD: Relocation = Relocation {
-    offset: 3,
-    kind: R_REX_GOTPCRELX,
-    addend: -4,
-    ..ADDRESS
-};
+const LOAD: Relocation = Relocation(1, 3, R_REX_GOTPCRELX, 2, -4);
 
-const LOAD_1: Relocation = Relocation { symbol: 1, ..LOAD };
+const LOAD_1: Relocation = Relocation(1, 3, R_REX_GOTPCRELX, 1, -4);
 
 /// An object with a global `v`, which its text loads; and one that loads the `v` of another.
 const LOADING: File = File::Object("a.o", &[LOADER, DATA], &[START, V], &[LOAD]);
@@ -65,35 +60,11 @@ const NAMING: File = File::Object(
     }],
     &[NO_V, TABLE],
     &[
-        Relocation {
-            kind: 3,
-            symbol: 1,
-            ..ADDRESS
-        },
-        Relocation {
-            offset: 4,
-            kind: 26,
-            ..ADDRESS
-        },
-        Relocation {
-            offset: 8,
-            kind: 25,
-            symbol: 1,
-            ..ADDRESS
-        },
-        Relocation {
-            offset: 16,
-            kind: 33,
-            symbol: 1,
-            addend: 1,
-            ..ADDRESS
-        },
-        Relocation {
-            offset: 24,
-            kind: 27,
-            symbol: 1,
-            ..ADDRESS
-        },
+        Relocation(1, 0, 3, 1, 0),
+        Relocation(1, 4, 26, 2, 0),
+        Relocation(1, 8, 25, 1, 0),
+        Relocation(1, 16, 33, 1, 1),
+        Relocation(1, 24, 27, 1, 0),
     ],
 );
 
@@ -228,10 +199,7 @@ const TABLE: NamedSymbol<'static> = NamedSymbol {
     ..NO_F
 };
 
-const DISTANCE: Relocation = Relocation {
-    kind: R_PC32,
-    ..ADDRESS
-};
+const DISTANCE: Relocation = Relocation(1, 0, R_PC32, 2, 0);
 
 const NAMER: File = File::Object("a.o", &[TEXT], &[START, TABLE], &[DISTANCE]);
 
@@ -249,13 +217,7 @@ const NO_GOT_MAP: &[u8] = b"ldmap 1\n\
     symbol 0000000000401000 strong 0 1 _start\n\
     end\n";
 
-/// The address of symbol 1 in read-only data.
-const POINTER: Relocation = Relocation {
-    symbol: 1,
-    ..ADDRESS
-};
-
-static NAMES: [Row; 7] = [
+static NAMES: [Row; 4] = [
     // Its name makes a table, not without a relocation; it may be an object's.
     (
         &[NAMER],
@@ -293,64 +255,48 @@ static NAMES: [Row; 7] = [
             LOADING,
             File::Object(
                 "b.o",
-                &[RODATA],
-                &[NamedSymbol {
-                    name: "_edata",
-                    ..NO_F
+                &[Section {
+                    bytes: &[0; 32],
+                    ..RODATA
                 }],
-                &[POINTER],
+                &[
+                    NamedSymbol {
+                        name: "_edata",
+                        ..NO_F
+                    },
+                    NamedSymbol {
+                        name: "edata",
+                        ..NO_F
+                    },
+                    NamedSymbol {
+                        name: "_end",
+                        ..NO_F
+                    },
+                    NamedSymbol {
+                        name: "end",
+                        ..NO_F
+                    },
+                ],
+                &[
+                    Relocation(1, 0, R_64, 1, 0),
+                    Relocation(1, 8, R_64, 2, 0),
+                    Relocation(1, 16, R_64, 3, 0),
+                    Relocation(1, 24, R_64, 4, 0),
+                ],
             ),
         ],
         "a.o b.o",
-        Wanted::Linked(0, &[(0x120, &[0x18, 0x20, 0x40, 0])], b""),
-    ),
-    (
-        &[
-            LOADING,
-            File::Object(
-                "b.o",
-                &[RODATA],
-                &[NamedSymbol {
-                    name: "edata",
-                    ..NO_F
-                }],
-                &[POINTER],
-            ),
-        ],
-        "a.o b.o",
-        Wanted::Linked(0, &[(0x120, &[0x18, 0x20, 0x40, 0])], b""),
-    ),
-    (
-        &[
-            LOADING,
-            File::Object(
-                "b.o",
-                &[RODATA],
-                &[NamedSymbol {
-                    name: "_end",
-                    ..NO_F
-                }],
-                &[POINTER],
-            ),
-        ],
-        "a.o b.o",
-        Wanted::Linked(0, &[(0x120, &[0x18, 0x20, 0x40, 0])], b""),
-    ),
-    (
-        &[
-            LOADING,
-            File::Object(
-                "b.o",
-                &[RODATA],
-                &[NamedSymbol {
-                    name: "end",
-                    ..NO_F
-                }],
-                &[POINTER],
-            ),
-        ],
-        "a.o b.o",
-        Wanted::Linked(0, &[(0x120, &[0x18, 0x20, 0x40, 0])], b""),
+        Wanted::Linked(
+            0,
+            &[(
+                0x120,
+                &[
+                    0x18, 0x20, 0x40, 0, 0, 0, 0, 0, 0x18, 0x20, 0x40, 0, 0, 0, 0, 0, 0x18, 0x20,
+                    0x40, 0, 0, 0, 0, 0, 0x18, 0x20, 0x40, 0, 0, 0, 0, 0,
+                ],
+            )],
+            b"",
+        ),
     ),
 ];
 
@@ -363,28 +309,20 @@ fn its_name_makes_a_table(rt: HostRuntime) -> Result<(), Fail> {
 /// The lines of the table and its slot, in whose place others stand.
 const LINES: &str = "got 0000000000402008 16\nslot 0000000000402010 value name v\n";
 
-static WRONG_LINES: [Judged; 13] = [
+static WRONG_LINES: [Judged; 12] = [
     (
-        &[LOADING],
-        "a.o",
         Change::Text(LINES, "slot 0000000000402010 value name v\n"),
         Verdict::No(Clause::C7),
     ),
     (
-        &[LOADING],
-        "a.o",
         Change::Text(LINES, "got 0000000000402008 16\n"),
         Verdict::No(Clause::C7),
     ),
     (
-        &[LOADING],
-        "a.o",
         Change::Text(LINES, "got 0000000000402008 8\n"),
         Verdict::No(Clause::C7),
     ),
     (
-        &[LOADING],
-        "a.o",
         Change::Text(
             LINES,
             "got 0000000000402008 8\nslot 0000000000402010 value name v\n",
@@ -392,8 +330,6 @@ static WRONG_LINES: [Judged; 13] = [
         Verdict::No(Clause::C7),
     ),
     (
-        &[LOADING],
-        "a.o",
         Change::Text(
             LINES,
             "got 0000000000402008 16\nslot 0000000000402008 value name v\n",
@@ -401,8 +337,6 @@ static WRONG_LINES: [Judged; 13] = [
         Verdict::No(Clause::C7),
     ),
     (
-        &[LOADING],
-        "a.o",
         Change::Text(
             LINES,
             "got 0000000000402008 16\nslot 0000000000402010 thread name v\n",
@@ -410,8 +344,6 @@ static WRONG_LINES: [Judged; 13] = [
         Verdict::No(Clause::C7),
     ),
     (
-        &[LOADING],
-        "a.o",
         Change::Text(
             LINES,
             "got 0000000000402008 16\nslot 0000000000402010 value name w\n",
@@ -419,8 +351,6 @@ static WRONG_LINES: [Judged; 13] = [
         Verdict::No(Clause::C7),
     ),
     (
-        &[LOADING],
-        "a.o",
         Change::Text(
             LINES,
             "got 0000000000402008 16\nslot 0000000000402010 value local 0 2\n",
@@ -428,8 +358,6 @@ static WRONG_LINES: [Judged; 13] = [
         Verdict::No(Clause::C7),
     ),
     (
-        &[LOADING],
-        "a.o",
         Change::Text(
             LINES,
             "got 0000000000402008 16\nslot 0000000000402010 value local 9 9\n",
@@ -437,8 +365,6 @@ static WRONG_LINES: [Judged; 13] = [
         Verdict::No(Clause::C7),
     ),
     (
-        &[LOADING],
-        "a.o",
         Change::Text(
             LINES,
             "got 0000000000402008 16\nslot 0000000000402008 value name v\nslot 0000000000402010 value name v\n",
@@ -447,8 +373,6 @@ static WRONG_LINES: [Judged; 13] = [
     ),
     // Not a multiple of 8; past the end of the segment.
     (
-        &[LOADING],
-        "a.o",
         Change::Text(
             LINES,
             "got 000000000040200c 8\nslot 0000000000402014 value name v\n",
@@ -456,63 +380,41 @@ static WRONG_LINES: [Judged; 13] = [
         Verdict::No(Clause::C5),
     ),
     (
-        &[LOADING],
-        "a.o",
         Change::Text(
             LINES,
             "got 0000000000402008 24\nslot 0000000000402010 value name v\n",
         ),
         Verdict::No(Clause::C6),
     ),
-    // A table that nothing asks for, of no bytes.
-    (
-        &[File::Object("a.o", &[TEXT, DATA], &[START], &[])],
-        "a.o",
-        Change::Map(
-            b"ldmap 1\nobject 0 0 0 a.o\nplace 0000000000401000 9 0 1 .text\nplace 0000000000402000 8 0 2 .data\ngot 0000000000402008 0\nsymbol 0000000000401000 strong 0 1 _start\nend\n",
-        ),
-        Verdict::No(Clause::C7),
-    ),
 ];
 
 /// The right map, with the image as it is and with a byte of the table changed.
 static WRONG_BYTES: [Judged; 6] = [
-    (&[LOADING], "a.o", Change::Map(SLOT_MAP), Verdict::Yes),
-    (
-        &[LOADING],
-        "a.o",
-        Change::Image(0x2008, 0x55),
-        Verdict::No(Clause::C7),
-    ),
-    (
-        &[LOADING],
-        "a.o",
-        Change::Image(0x200f, 0x55),
-        Verdict::No(Clause::C7),
-    ),
-    (
-        &[LOADING],
-        "a.o",
-        Change::Image(0x2010, 0x55),
-        Verdict::No(Clause::C7),
-    ),
-    (
-        &[LOADING],
-        "a.o",
-        Change::Image(0x2012, 0x55),
-        Verdict::No(Clause::C7),
-    ),
-    (
-        &[LOADING],
-        "a.o",
-        Change::Image(0x2017, 0x55),
-        Verdict::No(Clause::C7),
-    ),
+    (Change::Map(SLOT_MAP), Verdict::Yes),
+    (Change::Image(0x2008, 0x55), Verdict::No(Clause::C7)),
+    (Change::Image(0x200f, 0x55), Verdict::No(Clause::C7)),
+    (Change::Image(0x2010, 0x55), Verdict::No(Clause::C7)),
+    (Change::Image(0x2012, 0x55), Verdict::No(Clause::C7)),
+    (Change::Image(0x2017, 0x55), Verdict::No(Clause::C7)),
 ];
+
+const PLAIN: &[File] = &[File::Object("a.o", &[TEXT, DATA], &[START], &[])];
+
+/// A table of no bytes that nothing asks for.
+static NO_TABLE: [Judged; 1] = [(
+    Change::Map(
+        b"ldmap 1\nobject 0 0 0 a.o\nplace 0000000000401000 9 0 1 .text\nplace 0000000000402000 8 0 2 .data\ngot 0000000000402008 0\nsymbol 0000000000401000 strong 0 1 _start\nend\n",
+    ),
+    Verdict::No(Clause::C7),
+)];
 
 #[test]
 fn wrong_tables_fail_the_seventh_clause(rt: HostRuntime) -> Result<(), Fail> {
-    assert_eq!(rt; first_misjudged(rt.alloc(), &WRONG_LINES)?, None);
-    assert_eq!(rt; first_misjudged(rt.alloc(), &WRONG_BYTES)?, None);
+    let found = [
+        first_misjudged(rt.alloc(), &[LOADING], "a.o", &WRONG_LINES)?,
+        first_misjudged(rt.alloc(), &[LOADING], "a.o", &WRONG_BYTES)?,
+        first_misjudged(rt.alloc(), PLAIN, "a.o", &NO_TABLE)?,
+    ];
+    assert_eq!(rt; found, [None, None, None]);
     Ok(())
 }

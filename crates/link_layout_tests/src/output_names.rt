@@ -6,7 +6,7 @@ use link_samples::links::{
     has_bytes, linked,
 };
 use link_samples::objects::{NamedSymbol, Relocation, Section, object, relocatable};
-use link_samples::parts::{ADDRESS, DATA, NO_F, START, TEXT};
+use link_samples::parts::{DATA, NO_F, R_64, START, TEXT};
 use std::alloc::Global;
 use std::test::Fail;
 
@@ -212,10 +212,7 @@ fn files_of(
         name: second,
         ..DATA
     };
-    let address = Relocation {
-        symbol: 1,
-        ..ADDRESS
-    };
+    let address = Relocation(1, 0, R_64, 1, 0);
     files.push(InputFile {
         name: String::from_str(alloc, "b.o")?,
         bytes: relocatable(alloc, &[second], &[symbol], &[address])?,
@@ -296,15 +293,7 @@ const STOP: NamedSymbol<'static> = NamedSymbol {
 };
 
 /// That one as the address of symbol 1, the bound.
-const STOPPED: File = File::Object(
-    "b.o",
-    &[FOO_8],
-    &[STOP],
-    &[Relocation {
-        symbol: 1,
-        ..ADDRESS
-    }],
-);
+const STOPPED: File = File::Object("b.o", &[FOO_8], &[STOP], &[Relocation(1, 0, R_64, 1, 0)]);
 
 const STOP_MAP: &[u8] = b"ldmap 1\n\
     object 0 0 0 a.o\n\
@@ -350,32 +339,21 @@ const MIXED: &[Section<'static>] = &[TEXT, ZEROS_FOO, FOO_8];
 /// A bound of several output sections fails the ninth clause: the link of an object without its relocation, judged where
 /// the object has it.
 static JUDGED: [Judged; 1] = [(
-    &[File::Object(
-        "a.o",
-        MIXED,
-        &[START, STOP],
-        &[Relocation {
-            section: 3,
-            kind: 0,
-            ..ADDRESS
-        }],
-    )],
-    "a.o",
     Change::Files(&[File::Object(
         "a.o",
         MIXED,
         &[START, STOP],
-        &[Relocation {
-            section: 3,
-            ..ADDRESS
-        }],
+        &[Relocation(3, 0, R_64, 2, 0)],
     )]),
     Verdict::No(Clause::C9),
 )];
 
+const RIGHT: &[File] = &[File::Object("a.o", MIXED, &[START, STOP], &[Relocation(3, 0, 0, 2, 0)])];
+
 #[test]
 fn bounds_have_lines_and_one_output_section(rt: HostRuntime) -> Result<(), Fail> {
-    assert_eq!(rt; first_wrong(rt.alloc(), &LINKS)?, None);
-    assert_eq!(rt; first_misjudged(rt.alloc(), &JUDGED)?, None);
+    let linked = first_wrong(rt.alloc(), &LINKS)?;
+    let judged = first_misjudged(rt.alloc(), RIGHT, "a.o", &JUDGED)?;
+    assert_eq!(rt; [linked, judged], [None, None]);
     Ok(())
 }

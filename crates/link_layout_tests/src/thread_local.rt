@@ -1,13 +1,14 @@
 //! Links with thread-local storage: PT_TLS, offsets from the thread pointer, slots that hold them, and zeros that take up
 //! no memory.
-use elf_model::{SHF_ALLOC, SHF_TLS, SHF_WRITE};
-use ld_main::{Clause, Verdict, check};
+use elf_model::{LinkError, SHF_ALLOC, SHF_TLS, SHF_WRITE};
+use ld_main::{Clause, Output, Verdict, check};
 use link_samples::links::{
-    Change, File, Judged, Row, Wanted, files_of, first_misjudged, first_wrong, linked,
+    Change, File, Judged, Row, Wanted, files_of, first_misjudged, first_wrong, is_as_wanted,
+    linked, linked_bytes,
 };
-use link_samples::objects::{NamedSymbol, Relocation, Section};
+use link_samples::objects::{NamedSymbol, Relocation, Section, relocatable};
 use link_samples::one_object::words_of;
-use link_samples::parts::{ADDRESS, BSS, DATA, R_PC32, SECTION_2, START, TEXT};
+use link_samples::parts::{BSS, DATA, R_PC32, SECTION_2, START, TEXT};
 use std::alloc::Global;
 use std::test::Fail;
 
@@ -72,16 +73,8 @@ const OFFSETTING: File = File::Object(
     &[NOPS, THREAD_DATA, THREAD_ZEROS],
     &[START, D, T],
     &[
-        Relocation {
-            kind: R_TPOFF32,
-            ..ADDRESS
-        },
-        Relocation {
-            offset: 4,
-            kind: R_TPOFF32,
-            symbol: 3,
-            ..ADDRESS
-        },
+        Relocation(1, 0, R_TPOFF32, 2, 0),
+        Relocation(1, 4, R_TPOFF32, 3, 0),
     ],
 );
 
@@ -89,13 +82,7 @@ const LOADING: File = File::Object(
     "a.o",
     &[LOADER, THREAD_DATA, THREAD_ZEROS],
     &[START, D, T],
-    &[Relocation {
-        offset: 3,
-        kind: R_GOTTPOFF,
-        symbol: 3,
-        addend: -4,
-        ..ADDRESS
-    }],
+    &[Relocation(1, 3, R_GOTTPOFF, 3, -4)],
 );
 
 /// PT_TLS: 4 bytes of the file and 12 of memory at 0x402000, aligned 8.
@@ -153,7 +140,9 @@ const ZEROS_AND_DATA_MAP: &[u8] = b"ldmap 1\n\
     symbol 0000000000401000 strong 0 1 _start\n\
     end\n";
 
-static LINKS: [Row; 5] = [
+static LINKS: [Row; 6] = [
+    // The entry is not thread-local.
+    (&[OFFSETTING], "a.o -e t", Wanted::Refused("NoEntry (18)")),
     // Offsets are from the thread pointer, of four bytes and of eight.
     (
         &[OFFSETTING],
@@ -174,13 +163,7 @@ static LINKS: [Row; 5] = [
             "a.o",
             &[NOPS, THREAD_DATA, THREAD_ZEROS],
             &[START, D, T],
-            &[Relocation {
-                offset: 2,
-                kind: R_TPOFF64,
-                symbol: 3,
-                addend: 5,
-                ..ADDRESS
-            }],
+            &[Relocation(1, 2, R_TPOFF64, 3, 5)],
         )],
         "a.o",
         Wanted::Linked(
@@ -240,143 +223,63 @@ fn thread_storage_is_linked(rt: HostRuntime) -> Result<(), Fail> {
     Ok(())
 }
 
-/// A text, data, zeros of threads, and symbols: 1 is the data's section, and `t` is 3.
-const MIXED: &[Section<'static>] = &[TEXT, DATA, THREAD_ZEROS];
+/// What comes of a text with a relocation, data, whose section is symbol 1, and `t`, symbol 3.
+fn link_mixed(alloc: Global, kind: u32, symbol: u32) -> Result<Result<Output, LinkError>, Fail> {
+    let bytes = relocatable(
+        alloc,
+        &[TEXT, DATA, THREAD_ZEROS],
+        &[SECTION_2, START, T],
+        &[Relocation(1, 0, kind, symbol, 0)],
+    )?;
+    linked_bytes(alloc, bytes)
+}
 
-const MIXED_NAMES: &[NamedSymbol<'static>] = &[SECTION_2, START, T];
+const MISMATCH: Wanted = Wanted::Refused("TlsMismatch (16)");
 
-/// Kinds and storage match; SIZE32 may be of anything. The entry is not thread-local.
-static MATCHES: [Row; 7] = [
-    (
-        &[File::Object(
-            "a.o",
-            MIXED,
-            MIXED_NAMES,
-            &[Relocation {
-                kind: R_PC32,
-                symbol: 3,
-                ..ADDRESS
-            }],
-        )],
-        "a.o",
-        Wanted::Refused("TlsMismatch (16)"),
-    ),
-    (
-        &[File::Object(
-            "a.o",
-            MIXED,
-            MIXED_NAMES,
-            &[Relocation {
-                kind: R_TPOFF32,
-                symbol: 1,
-                ..ADDRESS
-            }],
-        )],
-        "a.o",
-        Wanted::Refused("TlsMismatch (16)"),
-    ),
-    (
-        &[File::Object(
-            "a.o",
-            MIXED,
-            MIXED_NAMES,
-            &[Relocation {
-                kind: R_GOTTPOFF,
-                symbol: 1,
-                ..ADDRESS
-            }],
-        )],
-        "a.o",
-        Wanted::Refused("TlsMismatch (16)"),
-    ),
-    (
-        &[File::Object(
-            "a.o",
-            MIXED,
-            MIXED_NAMES,
-            &[Relocation {
-                kind: R_TPOFF32,
-                symbol: 3,
-                ..ADDRESS
-            }],
-        )],
-        "a.o",
-        Wanted::Linked(0, &[], b""),
-    ),
-    (
-        &[File::Object(
-            "a.o",
-            MIXED,
-            MIXED_NAMES,
-            &[Relocation {
-                kind: R_GOTTPOFF,
-                symbol: 3,
-                ..ADDRESS
-            }],
-        )],
-        "a.o",
-        Wanted::Linked(0, &[], b""),
-    ),
-    (
-        &[File::Object(
-            "a.o",
-            MIXED,
-            MIXED_NAMES,
-            &[Relocation {
-                kind: 32,
-                symbol: 3,
-                ..ADDRESS
-            }],
-        )],
-        "a.o",
-        Wanted::Linked(0, &[], b""),
-    ),
-    (&[OFFSETTING], "a.o -e t", Wanted::Refused("NoEntry (18)")),
+const LINKED: Wanted = Wanted::Linked(0, &[], b"");
+
+/// A kind, a symbol, and what comes of the link; SIZE32 may be of anything.
+static MATCHES: [(u32, u32, Wanted); 6] = [
+    (R_PC32, 3, MISMATCH),
+    (R_TPOFF32, 1, MISMATCH),
+    (R_GOTTPOFF, 1, MISMATCH),
+    (R_TPOFF32, 3, LINKED),
+    (R_GOTTPOFF, 3, LINKED),
+    (32, 3, LINKED),
 ];
 
 #[test]
 fn kinds_and_storage_match(rt: HostRuntime) -> Result<(), Fail> {
-    assert_eq!(rt; first_wrong(rt.alloc(), &MATCHES)?, None);
+    for (kind, symbol, wanted) in &MATCHES {
+        let answer = link_mixed(rt.alloc(), *kind, *symbol)?;
+        let right = is_as_wanted(rt.alloc(), &answer, wanted)?;
+        assert!(rt; right, "{kind} to {symbol}");
+    }
     Ok(())
 }
 
-static JUDGED: [Judged; 6] = [
-    // An image that gives the zeros of threads memory of their own has a segment that ends with nothing.
+/// An image that gives the zeros of threads memory of their own has a segment that ends with nothing.
+static WRONG_MEMORY: [Judged; 1] = [(
+    Change::Image(DATA_MEMORY_SIZE, 12),
+    Verdict::No(Clause::C11),
+)];
+
+/// A slot with another offset; PT_TLS with p_filesz of 3 and of 5, p_memsz of 16, p_align of 16.
+static WRONG_BYTES: [Judged; 5] = [
+    (Change::Image(0x2010, 8), Verdict::No(Clause::C7)),
     (
-        &[OFFSETTING],
-        "a.o",
-        Change::Image(DATA_MEMORY_SIZE, 12),
-        Verdict::No(Clause::C11),
-    ),
-    // A slot with another offset.
-    (
-        &[LOADING],
-        "a.o",
-        Change::Image(0x2010, 8),
-        Verdict::No(Clause::C7),
-    ),
-    // PT_TLS with p_filesz of 3 and of 5, p_memsz of 16, p_align of 16.
-    (
-        &[LOADING],
-        "a.o",
         Change::Image(THREAD_HEADER_AT + 32, 3),
         Verdict::No(Clause::C8),
     ),
     (
-        &[LOADING],
-        "a.o",
         Change::Image(THREAD_HEADER_AT + 32, 5),
         Verdict::No(Clause::C8),
     ),
     (
-        &[LOADING],
-        "a.o",
         Change::Image(THREAD_HEADER_AT + 40, 16),
         Verdict::No(Clause::C8),
     ),
     (
-        &[LOADING],
-        "a.o",
         Change::Image(THREAD_HEADER_AT + 48, 16),
         Verdict::No(Clause::C8),
     ),
@@ -384,7 +287,9 @@ static JUDGED: [Judged; 6] = [
 
 #[test]
 fn wrong_thread_storage_is_found(rt: HostRuntime) -> Result<(), Fail> {
-    assert_eq!(rt; first_misjudged(rt.alloc(), &JUDGED)?, None);
+    let memory = first_misjudged(rt.alloc(), &[OFFSETTING], "a.o", &WRONG_MEMORY)?;
+    let bytes = first_misjudged(rt.alloc(), &[LOADING], "a.o", &WRONG_BYTES)?;
+    assert_eq!(rt; [memory, bytes], [None, None]);
     Ok(())
 }
 
@@ -399,8 +304,6 @@ static FAR_SLOT_MAP: &[u8] = b"ldmap 1\n\
     symbol 0000000000402000 strong 0 2 d\n\
     symbol 0000000000402008 strong 0 3 t\n\
     end\n";
-
-static LOADING_FILES: [File; 1] = [LOADING];
 
 /// The image with the table behind the addresses of the zeros.
 fn far_image(alloc: Global, near: &[u8]) -> Result<Vec<u8>, Fail> {
@@ -419,7 +322,7 @@ fn far_image(alloc: Global, near: &[u8]) -> Result<Vec<u8>, Fail> {
 
 /// The length of that image, and the verdict on it.
 fn far_verdict(alloc: Global) -> Result<(usize, Verdict), Fail> {
-    let files = files_of(alloc, &LOADING_FILES)?;
+    let files = files_of(alloc, &[LOADING])?;
     let words = words_of(alloc, "a.o")?;
     let near = linked(alloc, &files, "a.o")??;
     let image = far_image(alloc, &near.image)?;

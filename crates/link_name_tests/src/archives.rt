@@ -1,7 +1,7 @@
 //! Links with archives (ar(5)): which members are loaded, in which order, what is refused, and what the map says.
 use link_samples::links::{File, Member, Row, Wanted, files_of, first_wrong, linked, text_of};
 use link_samples::objects::{NamedSymbol, Relocation};
-use link_samples::parts::{ADDRESS, F, NO_F, START, TEXT, WEAK_NO_F};
+use link_samples::parts::{F, NO_F, R_64, START, TEXT, WEAK_NO_F};
 use link_samples::vectors::MAP;
 use std::alloc::Global;
 use std::test::Fail;
@@ -15,10 +15,7 @@ const NO_G: NamedSymbol<'static> = NamedSymbol { name: "g", ..NO_F };
 const NO_H: NamedSymbol<'static> = NamedSymbol { name: "h", ..NO_F };
 
 /// The address of symbol 2 and 5 more.
-const WANTS: Relocation = Relocation {
-    addend: 5,
-    ..ADDRESS
-};
+const WANTS: Relocation = Relocation(1, 0, R_64, 2, 5);
 
 /// Members that define a name in their text, or that also have the address of another one there.
 const DEFINES_F: Member = Member {

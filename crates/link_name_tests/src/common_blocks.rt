@@ -6,7 +6,7 @@ use link_samples::links::{
     Change, File, Judged, Row, Wanted, first_misjudged, first_wrong, is_as_wanted, linked_bytes,
 };
 use link_samples::objects::{NamedSymbol, Relocation, Section, object};
-use link_samples::parts::{ADDRESS, BSS, DATA, F, NO_F, START, TEXT};
+use link_samples::parts::{BSS, DATA, F, NO_F, R_64, START, TEXT};
 use std::alloc::Global;
 use std::test::Fail;
 
@@ -191,30 +191,10 @@ const NAMES: &[NamedSymbol<'static>] = &[
 ];
 
 const FIELDS: &[Relocation] = &[
-    Relocation {
-        section: 2,
-        symbol: 3,
-        ..ADDRESS
-    },
-    Relocation {
-        section: 2,
-        offset: 8,
-        symbol: 4,
-        ..ADDRESS
-    },
-    Relocation {
-        section: 2,
-        offset: 16,
-        addend: 1,
-        ..ADDRESS
-    },
-    Relocation {
-        section: 2,
-        offset: 24,
-        kind: R_SIZE64,
-        addend: 2,
-        ..ADDRESS
-    },
+    Relocation(2, 0, R_64, 3, 0),
+    Relocation(2, 8, R_64, 4, 0),
+    Relocation(2, 16, R_64, 2, 1),
+    Relocation(2, 24, R_SIZE64, 2, 2),
 ];
 
 const SMALL_BSS: Section<'static> = Section {
@@ -312,53 +292,28 @@ fn blocks_are_linked(rt: HostRuntime) -> Result<(), Fail> {
 /// The map of that link changed, and the least clause that then fails.
 static WRONG_MAPS: [Judged; 8] = [
     // The size, the alignment, the name, no line.
+    (Change::Text("8 8 c\n", "7 8 c\n"), Verdict::No(Clause::C3)),
+    (Change::Text("8 8 c\n", "8 4 c\n"), Verdict::No(Clause::C3)),
+    (Change::Text("8 8 c\n", "8 8 d\n"), Verdict::No(Clause::C3)),
     (
-        TWO,
-        "a.o b.o c.o",
-        Change::Text("8 8 c\n", "7 8 c\n"),
-        Verdict::No(Clause::C3),
-    ),
-    (
-        TWO,
-        "a.o b.o c.o",
-        Change::Text("8 8 c\n", "8 4 c\n"),
-        Verdict::No(Clause::C3),
-    ),
-    (
-        TWO,
-        "a.o b.o c.o",
-        Change::Text("8 8 c\n", "8 8 d\n"),
-        Verdict::No(Clause::C3),
-    ),
-    (
-        TWO,
-        "a.o b.o c.o",
         Change::Text("common 0000000000402000 8 8 c\n", ""),
         Verdict::No(Clause::C3),
     ),
     // An address that isn't aligned, and one outside the segment.
     (
-        TWO,
-        "a.o b.o c.o",
         Change::Text("common 0000000000402000", "common 0000000000402004"),
         Verdict::No(Clause::C5),
     ),
     (
-        TWO,
-        "a.o b.o c.o",
         Change::Text("common 0000000000402000", "common 0000000000403000"),
         Verdict::No(Clause::C6),
     ),
     // A linker's name, and no line.
     (
-        TWO,
-        "a.o b.o c.o",
         Change::Text("common c\n", "linker c\n"),
         Verdict::No(Clause::C13),
     ),
     (
-        TWO,
-        "a.o b.o c.o",
         Change::Text("symbol 0000000000402000 common c\n", ""),
         Verdict::No(Clause::C13),
     ),
@@ -366,7 +321,10 @@ static WRONG_MAPS: [Judged; 8] = [
 
 #[test]
 fn wrong_lines_of_blocks_are_found(rt: HostRuntime) -> Result<(), Fail> {
-    assert_eq!(rt; first_misjudged(rt.alloc(), &WRONG_MAPS)?, None);
+    assert_eq!(rt;
+        first_misjudged(rt.alloc(), TWO, "a.o b.o c.o", &WRONG_MAPS)?,
+        None
+    );
     Ok(())
 }
 

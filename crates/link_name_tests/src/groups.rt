@@ -2,7 +2,7 @@
 use elf_model::SHT_GROUP;
 use link_samples::links::{File, Row, Wanted, first_wrong};
 use link_samples::objects::{NamedSymbol, Relocation, Section};
-use link_samples::parts::{ADDRESS, F, NO_F, R_PC32, R_PLT32, RODATA, SECTION_2, START, TEXT};
+use link_samples::parts::{F, NO_F, R_PC32, R_PLT32, RODATA, SECTION_2, START, TEXT};
 use std::test::Fail;
 
 /// A COMDAT group whose signature is symbol 2, and whose one member has the number 2; and one whose member is number 3.
@@ -56,20 +56,10 @@ const H_IN_2: NamedSymbol<'static> = NamedSymbol { st_shndx: 2, ..H };
 const NO_H: NamedSymbol<'static> = NamedSymbol { name: "h", ..NO_F };
 
 /// A call of `f`.
-const CALL: Relocation = Relocation {
-    section: 3,
-    offset: 1,
-    kind: R_PLT32,
-    symbol: 2,
-    addend: -4,
-};
+const CALL: Relocation = Relocation(3, 1, R_PLT32, 2, -4);
 
 /// A relocation of a kind that isn't known.
-const UNKNOWN: Relocation = Relocation {
-    offset: 0,
-    kind: 5,
-    ..CALL
-};
+const UNKNOWN: Relocation = Relocation(3, 0, 5, 2, -4);
 
 const DROP_MAP: &[u8] = b"ldmap 1\n\
     object 0 0 0 a.o\n\
@@ -119,12 +109,7 @@ static LINKS: [Row; 2] = [
                     },
                 ],
                 &[SECTION_2, F_IN_2, NO_H],
-                &[Relocation {
-                    section: 3,
-                    kind: R_PC32,
-                    symbol: 1,
-                    ..ADDRESS
-                }],
+                &[Relocation(3, 0, R_PC32, 1, 0)],
             ),
         ],
         "a.o b.o",
@@ -141,7 +126,7 @@ static JUDGED: [Row; 8] = [
                 "b.o",
                 &[GROUP, TEXT_F, CALLER],
                 &[SECTION_2, F_IN_2, H],
-                &[Relocation { symbol: 1, ..CALL }],
+                &[Relocation(3, 1, R_PLT32, 1, -4)],
             ),
         ],
         "a.o b.o",
@@ -154,7 +139,7 @@ static JUDGED: [Row; 8] = [
                 "b.o",
                 &[GROUP, TEXT_F, CALLER],
                 &[SECTION_2, F_IN_2, H_IN_2],
-                &[Relocation { symbol: 3, ..CALL }],
+                &[Relocation(3, 1, R_PLT32, 3, -4)],
             ),
         ],
         "a.o b.o",
@@ -168,10 +153,7 @@ static JUDGED: [Row; 8] = [
                 "b.o",
                 &[GROUP, TEXT_F, CALLER],
                 &[SECTION_2, F_IN_2, H],
-                &[Relocation {
-                    section: 2,
-                    ..UNKNOWN
-                }],
+                &[Relocation(2, 0, 5, 2, -4)],
             ),
         ],
         "a.o b.o",

@@ -3,7 +3,7 @@ use elf_model::LinkError;
 use ld_main::Output;
 use link_samples::links::{File, Row, Wanted, first_wrong, is_as_wanted, linked_bytes};
 use link_samples::objects::{NamedSymbol, Relocation, Section, relocatable};
-use link_samples::parts::{ADDRESS, BSS, DATA, NO_F, R_PC32, START, TEXT};
+use link_samples::parts::{BSS, DATA, NO_F, R_64, R_PC32, START, TEXT};
 use std::alloc::Global;
 use std::test::Fail;
 
@@ -17,10 +17,7 @@ const USER: File = File::Object(
     "a.o",
     &[TEXT],
     &[START, END],
-    &[Relocation {
-        kind: R_PC32,
-        ..ADDRESS
-    }],
+    &[Relocation(1, 0, R_PC32, 2, 0)],
 );
 
 /// The addresses of four names, one after the other, in data of 36 bytes; text, and a `.bss` of 16 bytes.
@@ -55,28 +52,10 @@ const FOUR: File = File::Object(
         END,
     ],
     &[
-        Relocation {
-            section: 2,
-            ..ADDRESS
-        },
-        Relocation {
-            section: 2,
-            offset: 8,
-            symbol: 3,
-            ..ADDRESS
-        },
-        Relocation {
-            section: 2,
-            offset: 16,
-            symbol: 4,
-            ..ADDRESS
-        },
-        Relocation {
-            section: 2,
-            offset: 24,
-            symbol: 5,
-            ..ADDRESS
-        },
+        Relocation(2, 0, R_64, 2, 0),
+        Relocation(2, 8, R_64, 3, 0),
+        Relocation(2, 16, R_64, 4, 0),
+        Relocation(2, 24, R_64, 5, 0),
     ],
 );
 
@@ -132,10 +111,7 @@ fn names_stand_for_the_ends_of_parts(rt: HostRuntime) -> Result<(), Fail> {
 /// The link of a text and of data of 8 bytes, which is the address of a name.
 fn link_name(alloc: Global, name: &str) -> Result<Result<Output, LinkError>, Fail> {
     let symbols = [START, NamedSymbol { name, ..NO_F }];
-    let address = Relocation {
-        section: 2,
-        ..ADDRESS
-    };
+    let address = Relocation(2, 0, R_64, 2, 0);
     let bytes = relocatable(alloc, &[TEXT, DATA], &symbols, &[address])?;
     linked_bytes(alloc, bytes)
 }

@@ -3,7 +3,7 @@ use elf_model::LinkError;
 use ld_main::Output;
 use link_samples::links::{File, Row, Wanted, first_wrong, is_as_wanted, linked_bytes};
 use link_samples::objects::{NamedSymbol, Relocation, relocatable};
-use link_samples::parts::{ADDRESS, F, NO_F, R_PC32, START, TEXT, WEAK_NO_F};
+use link_samples::parts::{F, NO_F, R_64, R_PC32, START, TEXT, WEAK_NO_F};
 use std::alloc::Global;
 use std::test::Fail;
 
@@ -15,7 +15,7 @@ fn link_kind(alloc: Global, kind: u32, st_value: u64) -> Result<Result<Output, L
         st_size: 8,
         ..NO_F
     };
-    let relocation = Relocation { kind, ..ADDRESS };
+    let relocation = Relocation(1, 0, kind, 2, 0);
     let bytes = relocatable(alloc, &[TEXT], &[START, absolute], &[relocation])?;
     linked_bytes(alloc, bytes)
 }
@@ -89,12 +89,7 @@ const DISTANT: File = File::Object(
     "a.o",
     &[TEXT],
     &[START, WEAK_NO_F],
-    &[Relocation {
-        offset: 1,
-        kind: R_PC32,
-        addend: -4,
-        ..ADDRESS
-    }],
+    &[Relocation(1, 1, R_PC32, 2, -4)],
 );
 
 /// A text, a weak `f` at its beginning, and a relocation of no field.
@@ -108,7 +103,7 @@ const WEAKLY: File = File::Object(
     "a.o",
     &[TEXT],
     &[START, WEAK_F],
-    &[Relocation { kind: 0, ..ADDRESS }],
+    &[Relocation(1, 0, 0, 2, 0)],
 );
 
 const STRONG_MAP: &[u8] = b"ldmap 1\n\
@@ -136,11 +131,7 @@ static LINKS: [Row; 5] = [
             "a.o",
             &[TEXT],
             &[START, WEAK_NO_F],
-            &[Relocation {
-                offset: 1,
-                addend: 5,
-                ..ADDRESS
-            }],
+            &[Relocation(1, 1, R_64, 2, 5)],
         )],
         "a.o",
         Wanted::Linked(0, &[(0x1001, &[5, 0, 0, 0, 0, 0, 0, 0])], b""),

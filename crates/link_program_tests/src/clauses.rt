@@ -4,113 +4,64 @@ use crate::vectors::{IMAGE_HEADERS, MAP, OBJECT, TEXT, TEXT_OFFSET};
 use ld_main::{Clause, Verdict, check};
 use link_samples::links::{Change, File, Judged, first_misjudged};
 use link_samples::objects::{NamedSymbol, Relocation};
-use link_samples::parts::{ADDRESS, NO_F, START, TEXT as TEXT_SECTION};
+use link_samples::parts::{NO_F, R_64, R_PC32, START, TEXT as TEXT_SECTION};
 use std::alloc::Global;
 use std::test::Fail;
 
 /// The object of `vectors`, of its parts.
-const PLAIN: File = File::Object("a.o", &[TEXT_SECTION], &[START], &[]);
+const PLAIN: &[File] = &[File::Object("a.o", &[TEXT_SECTION], &[START], &[])];
 
 static ROWS: [Judged; 23] = [
-    (&[PLAIN], "a.o", Change::Nothing, Verdict::Yes),
-    (
-        &[PLAIN],
-        "a.o",
-        Change::Words("a.o -o"),
-        Verdict::No(Clause::C1),
-    ),
-    (
-        &[PLAIN],
-        "a.o",
-        Change::Map(b"ldmap 2\nend\n"),
-        Verdict::No(Clause::C1),
-    ),
+    (Change::Nothing, Verdict::Yes),
+    (Change::Words("a.o -o"), Verdict::No(Clause::C1)),
+    (Change::Map(b"ldmap 2\nend\n"), Verdict::No(Clause::C1)),
     // No such file.
-    (
-        &[PLAIN],
-        "a.o",
-        Change::Words("a.o b.o"),
-        Verdict::No(Clause::C2),
-    ),
+    (Change::Words("a.o b.o"), Verdict::No(Clause::C2)),
     // e_machine; the path of the object.
+    (Change::Input(18, 3), Verdict::No(Clause::C2)),
     (
-        &[PLAIN],
-        "a.o",
-        Change::Input(18, 3),
-        Verdict::No(Clause::C2),
-    ),
-    (
-        &[PLAIN],
-        "a.o",
         Change::Map(
             b"ldmap 1\nobject 0 0 0 b.o\nplace 0000000000401000 9 0 1 .text\nsymbol 0000000000401000 strong 0 1 _start\nend\n",
         ),
         Verdict::No(Clause::C2),
     ),
     // WRITE beside EXECINSTR; the name of the section; its size; a dropped section; a common block.
+    (Change::Input(248, 7), Verdict::No(Clause::C3)),
     (
-        &[PLAIN],
-        "a.o",
-        Change::Input(248, 7),
-        Verdict::No(Clause::C3),
-    ),
-    (
-        &[PLAIN],
-        "a.o",
         Change::Map(
             b"ldmap 1\nobject 0 0 0 a.o\nplace 0000000000401000 9 0 1 .texu\nsymbol 0000000000401000 strong 0 1 _start\nend\n",
         ),
         Verdict::No(Clause::C3),
     ),
     (
-        &[PLAIN],
-        "a.o",
         Change::Map(
             b"ldmap 1\nobject 0 0 0 a.o\nplace 0000000000401000 8 0 1 .text\nsymbol 0000000000401000 strong 0 1 _start\nend\n",
         ),
         Verdict::No(Clause::C3),
     ),
     (
-        &[PLAIN],
-        "a.o",
         Change::Map(
             b"ldmap 1\nobject 0 0 0 a.o\ndrop 0 2\nplace 0000000000401000 9 0 1 .text\nsymbol 0000000000401000 strong 0 1 _start\nend\n",
         ),
         Verdict::No(Clause::C3),
     ),
     (
-        &[PLAIN],
-        "a.o",
         Change::Map(
             b"ldmap 1\nobject 0 0 0 a.o\nplace 0000000000401000 9 0 1 .text\ncommon 0000000000402000 8 8 c\nsymbol 0000000000401000 strong 0 1 _start\nend\n",
         ),
         Verdict::No(Clause::C3),
     ),
     // EI_DATA; p_align of the first segment.
-    (
-        &[PLAIN],
-        "a.o",
-        Change::Image(5, 2),
-        Verdict::No(Clause::C4),
-    ),
-    (
-        &[PLAIN],
-        "a.o",
-        Change::Image(113, 0x20),
-        Verdict::No(Clause::C4),
-    ),
+    (Change::Image(5, 2), Verdict::No(Clause::C4)),
+    (Change::Image(113, 0x20), Verdict::No(Clause::C4)),
     // Below the base; a byte past the segment's end.
     (
-        &[PLAIN],
-        "a.o",
         Change::Map(
             b"ldmap 1\nobject 0 0 0 a.o\nplace 0000000000000000 9 0 1 .text\nsymbol 0000000000401000 strong 0 1 _start\nend\n",
         ),
         Verdict::No(Clause::C5),
     ),
     (
-        &[PLAIN],
-        "a.o",
         Change::Map(
             b"ldmap 1\nobject 0 0 0 a.o\nplace 0000000000401001 9 0 1 .text\nsymbol 0000000000401000 strong 0 1 _start\nend\n",
         ),
@@ -118,59 +69,34 @@ static ROWS: [Judged; 23] = [
     ),
     // A slot without a GOT.
     (
-        &[PLAIN],
-        "a.o",
         Change::Map(
             b"ldmap 1\nobject 0 0 0 a.o\nplace 0000000000401000 9 0 1 .text\nslot 0000000000401000 value name f\nsymbol 0000000000401000 strong 0 1 _start\nend\n",
         ),
         Verdict::No(Clause::C7),
     ),
     // The text; a byte of no segment; e_entry.
-    (
-        &[PLAIN],
-        "a.o",
-        Change::Image(0x1000, 0),
-        Verdict::No(Clause::C10),
-    ),
-    (
-        &[PLAIN],
-        "a.o",
-        Change::Image(0x200, 1),
-        Verdict::No(Clause::C11),
-    ),
-    (
-        &[PLAIN],
-        "a.o",
-        Change::Image(24, 1),
-        Verdict::No(Clause::C12),
-    ),
+    (Change::Image(0x1000, 0), Verdict::No(Clause::C10)),
+    (Change::Image(0x200, 1), Verdict::No(Clause::C11)),
+    (Change::Image(24, 1), Verdict::No(Clause::C12)),
     // The binding, the value, and no line.
     (
-        &[PLAIN],
-        "a.o",
         Change::Map(
             b"ldmap 1\nobject 0 0 0 a.o\nplace 0000000000401000 9 0 1 .text\nsymbol 0000000000401000 weak 0 1 _start\nend\n",
         ),
         Verdict::No(Clause::C13),
     ),
     (
-        &[PLAIN],
-        "a.o",
         Change::Map(
             b"ldmap 1\nobject 0 0 0 a.o\nplace 0000000000401000 9 0 1 .text\nsymbol 0000000000401001 strong 0 1 _start\nend\n",
         ),
         Verdict::No(Clause::C13),
     ),
     (
-        &[PLAIN],
-        "a.o",
         Change::Map(b"ldmap 1\nobject 0 0 0 a.o\nplace 0000000000401000 9 0 1 .text\nend\n"),
         Verdict::No(Clause::C13),
     ),
     // The last line but one.
     (
-        &[PLAIN],
-        "a.o",
         Change::Map(
             b"ldmap 1\nobject 0 0 0 a.o\nplace 0000000000401000 9 0 1 .text\nsymbol 0000000000401000 strong 0 1 _start\n",
         ),
@@ -180,7 +106,7 @@ static ROWS: [Judged; 23] = [
 
 #[test]
 fn the_least_clause_that_fails_is_told(rt: HostRuntime) -> Result<(), Fail> {
-    assert_eq!(rt; first_misjudged(rt.alloc(), &ROWS)?, None);
+    assert_eq!(rt; first_misjudged(rt.alloc(), PLAIN, "a.o", &ROWS)?, None);
     Ok(())
 }
 
@@ -222,65 +148,77 @@ const NOWHERE: NamedSymbol<'static> = NamedSymbol {
     ..ABSOLUTE
 };
 
-/// A relocation of no field, whose object links.
-const NONE: Relocation = Relocation { kind: 0, ..ADDRESS };
+/// Objects with a relocation of no field, which link.
+const NO_FIELD: &[File] = &[File::Object(
+    "a.o",
+    &[TEXT_SECTION],
+    &[START, ABSOLUTE],
+    &[Relocation(1, 0, 0, 2, 0)],
+)];
 
-const NO_FIELD: File = File::Object("a.o", &[TEXT_SECTION], &[START, ABSOLUTE], &[NONE]);
+const NO_FIELD_AT_6: &[File] = &[File::Object(
+    "a.o",
+    &[TEXT_SECTION],
+    &[START, ABSOLUTE],
+    &[Relocation(1, 6, 0, 2, 0)],
+)];
 
-static RELOCATIONS: [Judged; 4] = [
-    // COPY; ADDRESS without a definition; PC32 with a field past the end; 32 with a value that doesn't fit.
+const NO_FIELD_UNDEFINED: &[File] = &[File::Object(
+    "a.o",
+    &[TEXT_SECTION],
+    &[START, NOWHERE],
+    &[Relocation(1, 0, 0, 2, 0)],
+)];
+
+/// COPY, and 32, of which the value doesn't fit; PC32 with a field past the end; 64 without a definition.
+static WRONG_KINDS: [Judged; 2] = [
     (
-        &[NO_FIELD],
-        "a.o",
         Change::Files(&[File::Object(
             "a.o",
             &[TEXT_SECTION],
             &[START, ABSOLUTE],
-            &[Relocation { kind: 5, ..NONE }],
+            &[Relocation(1, 0, 5, 2, 0)],
         )]),
         Verdict::No(Clause::C9),
     ),
     (
-        &[File::Object("a.o", &[TEXT_SECTION], &[START, NOWHERE], &[NONE])],
-        "a.o",
-        Change::Files(&[File::Object("a.o", &[TEXT_SECTION], &[START, NOWHERE], &[ADDRESS])]),
-        Verdict::No(Clause::C9),
-    ),
-    (
-        &[File::Object(
-            "a.o",
-            &[TEXT_SECTION],
-            &[START, ABSOLUTE],
-            &[Relocation { offset: 6, ..NONE }],
-        )],
-        "a.o",
         Change::Files(&[File::Object(
             "a.o",
             &[TEXT_SECTION],
             &[START, ABSOLUTE],
-            &[Relocation {
-                offset: 6,
-                kind: 2,
-                ..NONE
-            }],
-        )]),
-        Verdict::No(Clause::C9),
-    ),
-    (
-        &[NO_FIELD],
-        "a.o",
-        Change::Files(&[File::Object(
-            "a.o",
-            &[TEXT_SECTION],
-            &[START, ABSOLUTE],
-            &[Relocation { kind: 10, ..NONE }],
+            &[Relocation(1, 0, 10, 2, 0)],
         )]),
         Verdict::No(Clause::C9),
     ),
 ];
 
+static OUTSIDE: [Judged; 1] = [(
+    Change::Files(&[File::Object(
+        "a.o",
+        &[TEXT_SECTION],
+        &[START, ABSOLUTE],
+        &[Relocation(1, 6, R_PC32, 2, 0)],
+    )]),
+    Verdict::No(Clause::C9),
+)];
+
+static UNDEFINED: [Judged; 1] = [(
+    Change::Files(&[File::Object(
+        "a.o",
+        &[TEXT_SECTION],
+        &[START, NOWHERE],
+        &[Relocation(1, 0, R_64, 2, 0)],
+    )]),
+    Verdict::No(Clause::C9),
+)];
+
 #[test]
 fn wrong_relocations_fail_the_ninth_clause(rt: HostRuntime) -> Result<(), Fail> {
-    assert_eq!(rt; first_misjudged(rt.alloc(), &RELOCATIONS)?, None);
+    let found = [
+        first_misjudged(rt.alloc(), NO_FIELD, "a.o", &WRONG_KINDS)?,
+        first_misjudged(rt.alloc(), NO_FIELD_AT_6, "a.o", &OUTSIDE)?,
+        first_misjudged(rt.alloc(), NO_FIELD_UNDEFINED, "a.o", &UNDEFINED)?,
+    ];
+    assert_eq!(rt; found, [None, None, None]);
     Ok(())
 }

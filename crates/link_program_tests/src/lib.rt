@@ -1,8 +1,13 @@
-//! Tests of whole links: the program, links of one object and of several, and the clause that a wrong link fails.
+//! Tests of whole links: links of one object and of two, the bytes between pieces, the order of arrays, the clause that a
+//! wrong link fails, and the program.
 #![tactic(auto)]
 
 #[cfg(test)]
 mod clauses;
+#[cfg(test)]
+mod fills;
+#[cfg(test)]
+mod numbered_arrays;
 #[cfg(test)]
 mod plain_links;
 #[cfg(test)]

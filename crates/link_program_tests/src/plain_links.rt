@@ -3,7 +3,7 @@ use elf_model::{SHF_ALLOC, SHF_EXECINSTR, SHF_WRITE};
 use link_samples::links::{File, Row, Wanted, first_wrong};
 use link_samples::objects::{NamedSymbol, Relocation, Section, object};
 use link_samples::parts::{
-    ADDRESS, BSS, DATA, F, NO_F, R_64, R_PC32, R_PLT32, RODATA, SECTION_2, START, TEXT,
+    BSS, DATA, F, NO_F, R_64, R_PC32, R_PLT32, RODATA, SECTION_2, START, TEXT,
 };
 use link_samples::vectors::{MAP, OBJECT};
 use std::test::Fail;
@@ -36,12 +36,7 @@ const CALLER: File = File::Object(
         ..TEXT
     }],
     &[START, NO_F],
-    &[Relocation {
-        offset: 1,
-        kind: R_PLT32,
-        addend: -4,
-        ..ADDRESS
-    }],
+    &[Relocation(1, 1, R_PLT32, 2, -4)],
 );
 
 const CALLEE: File = File::Object(
@@ -97,19 +92,7 @@ const RELOCATED: File = File::Object(
         SECTION_2,
         START,
     ],
-    &[
-        Relocation {
-            section: 2,
-            kind: R_PC32,
-            symbol: 1,
-            ..ADDRESS
-        },
-        Relocation {
-            section: 3,
-            addend: 1,
-            ..ADDRESS
-        },
-    ],
+    &[Relocation(2, 0, R_PC32, 1, 0), Relocation(3, 0, R_64, 2, 1)],
 );
 
 /// Data that is the last address and two bytes more.
@@ -131,11 +114,7 @@ const WRAPPING: File = File::Object(
             ..NO_F
         },
     ],
-    &[Relocation {
-        section: 2,
-        addend: 2,
-        ..ADDRESS
-    }],
+    &[Relocation(2, 0, R_64, 2, 2)],
 );
 
 const CALL_MAP: &[u8] = b"ldmap 1\n\
@@ -214,10 +193,7 @@ fn objects_are_linked(rt: HostRuntime) -> Result<(), Fail> {
 }
 
 /// The distance of `f` in the text, and `f` in another object.
-const DISTANCE: Relocation = Relocation {
-    kind: R_PC32,
-    ..ADDRESS
-};
+const DISTANCE: Relocation = Relocation(1, 0, R_PC32, 2, 0);
 
 const USER: File = File::Object("a.o", &[TEXT], &[START, NO_F], &[DISTANCE]);
 
@@ -247,10 +223,7 @@ static REFUSALS: [Row; 13] = [
                 "a.o",
                 &[TEXT],
                 &[START, NO_F],
-                &[Relocation {
-                    offset: 6,
-                    ..DISTANCE
-                }],
+                &[Relocation(1, 6, R_PC32, 2, 0)],
             ),
             F_FILE,
         ],
@@ -263,13 +236,7 @@ static REFUSALS: [Row; 13] = [
                 "a.o",
                 &[TEXT],
                 &[START, NO_F],
-                &[
-                    DISTANCE,
-                    Relocation {
-                        offset: 2,
-                        ..DISTANCE
-                    },
-                ],
+                &[DISTANCE, Relocation(1, 2, R_PC32, 2, 0)],
             ),
             F_FILE,
         ],
@@ -282,14 +249,7 @@ static REFUSALS: [Row; 13] = [
                 "a.o",
                 &[TEXT],
                 &[START, NO_F],
-                &[
-                    DISTANCE,
-                    Relocation {
-                        offset: 2,
-                        kind: 0,
-                        ..DISTANCE
-                    },
-                ],
+                &[DISTANCE, Relocation(1, 2, 0, 2, 0)],
             ),
             F_FILE,
         ],
@@ -299,12 +259,7 @@ static REFUSALS: [Row; 13] = [
     // COPY and TLSGD.
     (
         &[
-            File::Object(
-                "a.o",
-                &[TEXT],
-                &[START, NO_F],
-                &[Relocation { kind: 5, ..ADDRESS }],
-            ),
+            File::Object("a.o", &[TEXT], &[START, NO_F], &[Relocation(1, 0, 5, 2, 0)]),
             F_FILE,
         ],
         "a.o b.o",
@@ -316,10 +271,7 @@ static REFUSALS: [Row; 13] = [
                 "a.o",
                 &[TEXT],
                 &[START, NO_F],
-                &[Relocation {
-                    kind: 19,
-                    ..ADDRESS
-                }],
+                &[Relocation(1, 0, 19, 2, 0)],
             ),
             F_FILE,
         ],

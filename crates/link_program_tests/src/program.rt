@@ -3,7 +3,7 @@ use crate::objects::{NamedSymbol, Relocation, object, relocatable};
 use crate::one_object::{function, words_of};
 use crate::vectors::{MAP, OBJECT, image};
 use ld_main::run_ld;
-use link_samples::parts::{ADDRESS, NO_F, R_PC32, START, TEXT};
+use link_samples::parts::{NO_F, R_PC32, START, TEXT};
 use std::io::{self, Write};
 use std::path::PathBuf;
 use std::process::Abort;
@@ -83,10 +83,7 @@ fn write_twice(rt: &HostRuntime, path: &str, name: &str) -> Result<(), Fail> {
 
 /// Writes `caller.o`, an object that uses `f` and doesn't define it.
 fn write_caller(rt: &HostRuntime) -> Result<(), Fail> {
-    let distance = Relocation {
-        kind: R_PC32,
-        ..ADDRESS
-    };
+    let distance = Relocation(1, 0, R_PC32, 2, 0);
     let bytes = relocatable(rt.alloc(), &[TEXT], &[START, NO_F], &[distance])?;
     fs::write(rt, "caller.o", &bytes)?;
     Ok(())

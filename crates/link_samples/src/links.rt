@@ -54,8 +54,8 @@ pub enum Change {
     Text(&'static str, &'static str),
 }
 
-/// Files, the words of a line by which they link, a change of that link, and the verdict on it.
-pub type Judged = (&'static [File], &'static str, Change, Verdict);
+/// A change of a link, and the verdict on what it makes.
+pub type Judged = (Change, Verdict);
 
 /// The bytes of a file, and its path.
 fn file_of(alloc: Global, file: &File) -> Result<InputFile, Fail> {
@@ -196,9 +196,8 @@ fn apply(
     Ok(())
 }
 
-/// What the check says of a row's link once it is changed.
-fn verdict_of(alloc: Global, row: &Judged) -> Result<Verdict, Fail> {
-    let (files, line, change, _) = row;
+/// What the check says of the link of files by a line once it is changed.
+fn verdict_of(alloc: Global, files: &[File], line: &str, change: &Change) -> Result<Verdict, Fail> {
     let mut files = files_of(alloc, files)?;
     let mut output = linked(alloc, &files, line)??;
     apply(alloc, &mut files, &mut output, change)?;
@@ -211,10 +210,15 @@ fn verdict_of(alloc: Global, row: &Judged) -> Result<Verdict, Fail> {
     Ok(check(alloc, &files, &words, &output.image, &output.map)?)
 }
 
-/// The number of the first row on whose link the verdict is another than wanted.
-pub fn first_misjudged(alloc: Global, rows: &[Judged]) -> Result<Option<usize>, Fail> {
-    for (number, row) in rows.iter().enumerate() {
-        if verdict_of(alloc, row)? != row.3 {
+/// The number of the first change of the link of files by a line on which the verdict is another than wanted.
+pub fn first_misjudged(
+    alloc: Global,
+    files: &[File],
+    line: &str,
+    rows: &[Judged],
+) -> Result<Option<usize>, Fail> {
+    for (number, (change, wanted)) in rows.iter().enumerate() {
+        if verdict_of(alloc, files, line, change)? != *wanted {
             return Ok(Some(number));
         }
     }

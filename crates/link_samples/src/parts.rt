@@ -1,5 +1,5 @@
 //! Sections, symbols and relocations that many objects here have, to be varied.
-use crate::objects::{NamedSymbol, Relocation, Section};
+use crate::objects::{NamedSymbol, Section};
 use elf_model::{SHF_ALLOC, SHF_EXECINSTR, SHF_WRITE, SHT_NOBITS, SHT_PROGBITS};
 
 pub const R_64: u32 = 1;
@@ -75,13 +75,4 @@ pub const SECTION_2: NamedSymbol<'static> = NamedSymbol {
     st_info: 3,
     st_shndx: 2,
     ..NO_F
-};
-
-/// The address of symbol 2 at the beginning of section 1.
-pub const ADDRESS: Relocation = Relocation {
-    section: 1,
-    offset: 0,
-    kind: R_64,
-    symbol: 2,
-    addend: 0,
 };

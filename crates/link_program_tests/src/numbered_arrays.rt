@@ -2,7 +2,7 @@
 use ld_main::{Clause, Verdict};
 use link_samples::links::{Change, File, Judged, Row, Wanted, first_misjudged, first_wrong};
 use link_samples::objects::{NamedSymbol, Relocation, Section};
-use link_samples::parts::{ADDRESS, DATA, NO_F, START, TEXT};
+use link_samples::parts::{DATA, NO_F, R_64, START, TEXT};
 use std::test::Fail;
 
 /// Arrays of one function, each of other bytes.
@@ -44,16 +44,7 @@ const BOUNDS: File = File::Object(
             ..NO_F
         },
     ],
-    &[
-        Relocation {
-            symbol: 1,
-            ..ADDRESS
-        },
-        Relocation {
-            offset: 8,
-            ..ADDRESS
-        },
-    ],
+    &[Relocation(1, 0, R_64, 1, 0), Relocation(1, 8, R_64, 2, 0)],
 );
 
 /// Where the arrays begin and end: 0x402000 and 0x402020.
@@ -256,17 +247,15 @@ const LOAD_ORDER_MAP: &[u8] = b"ldmap 1\n\
 
 static IN_ONE: [Row; 1] = [(THREE, "a.o", Wanted::Linked(0, &[], ORDER_MAP))];
 
-static IN_LOAD_ORDER: [Judged; 1] = [(
-    THREE,
-    "a.o",
-    Change::Map(LOAD_ORDER_MAP),
-    Verdict::No(Clause::C5),
-)];
+static IN_LOAD_ORDER: [Judged; 1] = [(Change::Map(LOAD_ORDER_MAP), Verdict::No(Clause::C5))];
 
 #[test]
 fn numbers_come_first(rt: HostRuntime) -> Result<(), Fail> {
-    assert_eq!(rt; first_wrong(rt.alloc(), &ORDERS)?, None);
-    assert_eq!(rt; first_wrong(rt.alloc(), &IN_ONE)?, None);
-    assert_eq!(rt; first_misjudged(rt.alloc(), &IN_LOAD_ORDER)?, None);
+    let found = [
+        first_wrong(rt.alloc(), &ORDERS)?,
+        first_wrong(rt.alloc(), &IN_ONE)?,
+        first_misjudged(rt.alloc(), THREE, "a.o", &IN_LOAD_ORDER)?,
+    ];
+    assert_eq!(rt; found, [None, None, None]);
     Ok(())
 }
