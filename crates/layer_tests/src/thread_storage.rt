@@ -113,25 +113,32 @@ fn relocations_ask_for_slots(rt: HostRuntime) -> Result<(), Fail> {
     Ok(())
 }
 
-#[test]
-fn no_thread_storage_has_no_block(rt: HostRuntime) -> Result<(), Fail> {
-    let alloc = rt.alloc();
-    let file = object_of(alloc, &[TEXT, DATA, BSS])?;
-    assert!(rt; block_of(alloc, &file, 0x402000)?.is_none());
-    Ok(())
+/// The block of an object of these sections, and the offset of an address.
+fn block_in(
+    alloc: Global,
+    sections: &[SectionHeader],
+    address: u64,
+) -> Result<Option<(u64, u64, u64, u64)>, Fail> {
+    let file = object_of(alloc, sections)?;
+    block_of(alloc, &file, address)
 }
 
 #[test]
 fn thread_storage_is_a_block(rt: HostRuntime) -> Result<(), Fail> {
     let alloc = rt.alloc();
+    let none = block_in(alloc, &[TEXT, DATA, BSS], 0x402000)?;
     // .tdata at 0x402000, .tbss and .bss at 0x402008
-    let file = object_of(alloc, &[TEXT, thread_data(4), thread_zeros(8), BSS])?;
-    let block = block_of(alloc, &file, 0x402008)?;
-    assert!(rt; block == Some((0x402000, 0x10, 8, 0xffff_ffff_ffff_fff8)));
+    let sections = [TEXT, thread_data(4), thread_zeros(8), BSS];
+    let first = block_in(alloc, &sections, 0x402008)?;
     // .tdata at 0x402000, .tbss at 0x402004; the thread pointer is 0x402010
-    let file = object_of(alloc, &[TEXT, thread_data(16), thread_zeros(4)])?;
-    let block = block_of(alloc, &file, 0x402004)?;
-    assert!(rt; block == Some((0x402000, 0xc, 16, 0xffff_ffff_ffff_fff4)));
+    let sections = [TEXT, thread_data(16), thread_zeros(4)];
+    let second = block_in(alloc, &sections, 0x402004)?;
+    let wanted = [
+        None,
+        Some((0x402000, 0x10, 8, 0xffff_ffff_ffff_fff8)),
+        Some((0x402000, 0xc, 16, 0xffff_ffff_ffff_fff4)),
+    ];
+    assert!(rt; [none, first, second] == wanted);
     Ok(())
 }
 
