@@ -189,19 +189,11 @@ fn map_of(alloc: Global, number: u64) -> Result<LinkMap, AllocError> {
 }
 
 #[test]
-fn prints_its_lines(rt: HostRuntime) -> Result<(), Fail> {
-    let map = map_of(rt.alloc(), 0)?;
-    assert!(rt; ordered(&map));
-    let printed = print(rt.alloc(), &map)?;
-    assert!(rt; printed.as_slice() == ONE_OBJECT);
-    Ok(())
-}
-
-#[test]
 fn keys_ascend(rt: HostRuntime) -> Result<(), Fail> {
     let alloc = rt.alloc();
     assert!(rt; !ordered(&map_of(alloc, 1)?));
     let mut map = map_of(alloc, 0)?;
+    assert!(rt; ordered(&map) && print(alloc, &map)?.as_slice() == ONE_OBJECT);
     for (object, section) in [(0, 9), (0, 10), (1, 2)] {
         map.drops.push(DropLine { object, section })?;
         assert!(rt; ordered(&map));

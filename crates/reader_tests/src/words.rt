@@ -1,5 +1,5 @@
 //! Words of a command, and the files that its plan may read.
-use command::{Item, Plan, Source, candidates, read_words};
+use command::{Item, Source, candidates, read_words};
 use std::alloc::{AllocError, Global};
 use std::test::Fail;
 
@@ -26,30 +26,18 @@ fn put_item(text: &mut String, alloc: Global, item: &Item<'_>) -> Result<(), Fai
     Ok(())
 }
 
-/// The settings of a plan.
-fn put_settings(text: &mut String, alloc: Global, plan: &Plan<'_>) -> Result<(), Fail> {
-    let (entry, output, base, map, check) = (
-        plan.entry,
-        plan.output,
-        plan.base,
-        plan.map.unwrap_or("no map"),
-        plan.check,
-    );
-    text.push_str(&format!(in alloc; "{entry} {output} {base} {map} {check};")?)?;
-    for name in &plan.undefined {
-        text.push_str(name)?;
-        text.push(';')?;
-    }
-    Ok(())
-}
-
 /// The settings and the items of the plan of a line, or its fault.
 fn told(alloc: Global, line: &str) -> Result<String, Fail> {
     let words = words(alloc, line)?;
     let mut text = String::new(alloc);
     match read_words(alloc, &words) {
         Ok(plan) => {
-            put_settings(&mut text, alloc, &plan)?;
+            let map = plan.map.unwrap_or("no map");
+            let (entry, output, base, check) = (plan.entry, plan.output, plan.base, plan.check);
+            text.push_str(&format!(in alloc; "{entry} {output} {base} {map} {check};")?)?;
+            for name in &plan.undefined {
+                text.push_str(&format!(in alloc; "{name};")?)?;
+            }
             for item in &plan.items {
                 put_item(&mut text, alloc, item)?;
             }
