@@ -36,15 +36,18 @@ fn put_members(alloc: Global, members: &[Member], offsets: &mut Vec<u32>) -> Res
     Ok(bytes)
 }
 
-/// The data of an index (System V gABI's archive symbol table) that lists names with their NULs and the numbers of
+/// The data of an index (ar(5)) that lists names with their NULs and the numbers of
 /// their members, which begin at offsets behind the index.
 fn index_data(alloc: Global, entries: &[(&[u8], usize)], offsets: &[u32]) -> Result<Vec<u8>, Fail> {
     let mut names: Vec<u8> = Vec::new(alloc);
     for (name, _) in entries {
         names.extend_from_slice(name)?;
     }
-    let size = 4 * entries.len().saturating_add(1) + names.len();
-    let front = u32::try_from(size.next_multiple_of(2))?.saturating_add(68);
+    let size = u32::try_from(entries.len())?
+        .saturating_mul(4)
+        .saturating_add(u32::try_from(names.len())?)
+        .saturating_add(4);
+    let front = size.saturating_add(size % 2).saturating_add(68);
     let mut data = Vec::from_slice(alloc, &u32::try_from(entries.len())?.to_be_bytes())?;
     for (_, member) in entries {
         let offset = offsets.get(*member).ok_or("a member")?;
