@@ -12,8 +12,6 @@ mod marks;
 mod names;
 mod opened_items;
 mod places;
-#[cfg(test)]
-mod plans;
 mod rounds;
 mod signatures;
 mod stops;

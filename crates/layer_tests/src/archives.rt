@@ -1,5 +1,5 @@
 //! Loading of archives: which members are taken, and in which order.
-use crate::loading::{load_words, words};
+use crate::loading::{load_words, put_file, words};
 use crate::objects::{F_NAME, G_NAME, H_NAME, START_NAME, SYMBOLS, TEXT, object_with};
 use elf_model::{InputFile, STB_GLOBAL, STB_WEAK, Symbol};
 use std::alloc::{AllocError, Global};
@@ -85,121 +85,86 @@ fn index_of(alloc: Global, offsets: &[u32], names: &[u8]) -> Result<Vec<u8>, All
     Ok(data)
 }
 
+/// The two symbols of a member's object.
+type Member = (Symbol, Symbol);
+
+/// A file: an object with two symbols; an archive with the offsets and the names of its index, which it lacks where there
+/// are none, and with members; or any bytes.
+enum File {
+    Object(Symbol, Symbol),
+    Archive(&'static [u32], &'static [u8], &'static [Member]),
+    Bytes(&'static [u8]),
+}
+
 /// An archive of members, with an index where there are names.
 fn archive(
     alloc: Global,
     offsets: &[u32],
     names: &[u8],
-    members: &[Vec<u8>],
+    members: &[Member],
 ) -> Result<Vec<u8>, AllocError> {
     let mut bytes = Vec::from_slice(alloc, b"!<arch>\n")?;
     if !names.is_empty() {
         let index = index_of(alloc, offsets, names)?;
         put_member(&mut bytes, b"/               ", &index)?;
     }
-    for member in members {
-        put_member(&mut bytes, b"m.o/            ", member)?;
+    for (first, second) in members {
+        let object = object(alloc, *first, *second)?;
+        put_member(&mut bytes, b"m.o/            ", &object)?;
     }
     Ok(bytes)
 }
 
-fn put_file(
-    files: &mut Vec<InputFile>,
-    alloc: Global,
-    name: &str,
-    bytes: Vec<u8>,
-) -> Result<(), AllocError> {
-    files.push(InputFile {
-        name: String::from_str(alloc, name)?,
-        bytes,
-    })?;
-    Ok(())
-}
-
-fn one(alloc: Global, member: Vec<u8>) -> Result<Vec<Vec<u8>>, AllocError> {
-    let mut members = Vec::new(alloc);
-    members.push(member)?;
-    Ok(members)
-}
-
-fn two(alloc: Global, first: Vec<u8>, second: Vec<u8>) -> Result<Vec<Vec<u8>>, AllocError> {
-    let mut members = one(alloc, first)?;
-    members.push(second)?;
-    Ok(members)
-}
-
-/// Objects: `a.o` wants `f`, `b.o` wants `f` and `g`, `w.o` wants `f` weakly.
-fn put_objects(files: &mut Vec<InputFile>, alloc: Global) -> Result<(), AllocError> {
-    put_file(files, alloc, "a.o", object(alloc, START, WANTS_F)?)?;
-    put_file(files, alloc, "b.o", object(alloc, WANTS_F, WANTS_G)?)?;
-    put_file(files, alloc, "w.o", object(alloc, START, MAY_WANT_F)?)
-}
-
-/// The path of an archive of one member, this one's symbols, its offset and the names in the index; no names: none.
-type Single = (&'static str, Symbol, Symbol, u32, &'static [u8]);
-
-/// `libx.a` and three in directories have `f`, `libq.a` has `g`, which wants `h`, `libs.a` has the entry, and
-/// `libn.a` has no index.
-static SINGLE_ARCHIVES: [Single; 7] = [
-    ("libx.a", F, START, 78, b"f\0"),
-    ("d1/liby.a", F, START, 78, b"f\0"),
-    ("d2/liby.a", F, START, 78, b"f\0"),
-    ("d2/libz.a", F, START, 78, b"f\0"),
-    ("libq.a", G, WANTS_H, 78, b"g\0"),
-    ("libs.a", START, F, 84, b"_start\0"),
-    ("libn.a", START, F, 0, b""),
+/// `a.o` wants `f`, `b.o` wants `f` and `g`, `w.o` wants `f` weakly. `libx.a` and three in directories have `f`, `libq.a`
+/// has `g`, which wants `h`, `libs.a` has the entry, `libn.a` has no index, and the member of `libt.a` is no object.
+/// `libp.a` has `f`, which wants `g`, and `h`; the index of `libr.a` has `g` before `f`, and its members stand the other
+/// way round.
+static FILES: [(&str, File); 15] = [
+    ("a.o", File::Object(START, WANTS_F)),
+    ("b.o", File::Object(WANTS_F, WANTS_G)),
+    ("w.o", File::Object(START, MAY_WANT_F)),
+    ("libx.a", File::Archive(&[78], b"f\0", &[(F, START)])),
+    ("d1/liby.a", File::Archive(&[78], b"f\0", &[(F, START)])),
+    ("d2/liby.a", File::Archive(&[78], b"f\0", &[(F, START)])),
+    ("d2/libz.a", File::Archive(&[78], b"f\0", &[(F, START)])),
+    ("libq.a", File::Archive(&[78], b"g\0", &[(G, WANTS_H)])),
+    ("libs.a", File::Archive(&[84], b"_start\0", &[(START, F)])),
+    ("libn.a", File::Archive(&[], b"", &[(START, F)])),
+    (
+        "libt.a",
+        File::Bytes(
+            b"!<arch>\n/               0           0     0     644     10        `\n\0\0\0\x01\0\0\0\x4ef\0m.o/            0           0     0     644     63        `\n\0\0\0\0\0\0\0\0\0\0\0\0\0\0\0\0\0\0\0\0\0\0\0\0\0\0\0\0\0\0\0\0\0\0\0\0\0\0\0\0\0\0\0\0\0\0\0\0\0\0\0\0\0\0\0\0\0\0\0\0\0\0\0\n",
+        ),
+    ),
+    (
+        "libp.a",
+        File::Archive(&[84, 664], b"f\0h\0", &[(F, WANTS_G), (H, START)]),
+    ),
+    (
+        "libr.a",
+        File::Archive(&[664, 84], b"g\0f\0", &[(F, WANTS_H), (G, WANTS_H)]),
+    ),
+    ("e.a", File::Bytes(b"!<arch>\n")),
+    ("t.a", File::Bytes(b"!<arch>")),
 ];
 
-fn single_archive(alloc: Global, row: &Single) -> Result<Vec<u8>, AllocError> {
-    let members = one(alloc, object(alloc, row.1, row.2)?)?;
-    archive(alloc, &[row.3], row.4, &members)
-}
-
-/// Archives of one member: those, and `libt.a`, whose member is no object.
-fn put_single_archives(files: &mut Vec<InputFile>, alloc: Global) -> Result<(), AllocError> {
-    for row in &SINGLE_ARCHIVES {
-        put_file(files, alloc, row.0, single_archive(alloc, row)?)?;
+/// All files.
+fn files(alloc: Global) -> Result<Vec<InputFile>, AllocError> {
+    let mut files = Vec::new(alloc);
+    for (path, file) in &FILES {
+        let bytes = match file {
+            File::Object(first, second) => object(alloc, *first, *second)?,
+            File::Archive(offsets, names, members) => archive(alloc, offsets, names, members)?,
+            File::Bytes(bytes) => Vec::from_slice(alloc, bytes)?,
+        };
+        put_file(&mut files, alloc, path, bytes)?;
     }
-    let short = one(alloc, Vec::from_slice(alloc, &[0; 63])?)?;
-    put_file(
-        files,
-        alloc,
-        "libt.a",
-        archive(alloc, &[78], b"f\0", &short)?,
-    )
-}
-
-/// Archives of two members: `libp.a` has `f`, which wants `g`, and `h`; the index of `libr.a` has `g` before `f`,
-/// and its members stand the other way round.
-fn put_double_archives(files: &mut Vec<InputFile>, alloc: Global) -> Result<(), AllocError> {
-    let members = two(alloc, object(alloc, F, WANTS_G)?, object(alloc, H, START)?)?;
-    put_file(
-        files,
-        alloc,
-        "libp.a",
-        archive(alloc, &[84, 664], b"f\0h\0", &members)?,
-    )?;
-    let members = two(
-        alloc,
-        object(alloc, F, WANTS_H)?,
-        object(alloc, G, WANTS_H)?,
-    )?;
-    put_file(
-        files,
-        alloc,
-        "libr.a",
-        archive(alloc, &[664, 84], b"g\0f\0", &members)?,
-    )?;
-    put_file(files, alloc, "e.a", Vec::from_slice(alloc, b"!<arch>\n")?)?;
-    put_file(files, alloc, "t.a", Vec::from_slice(alloc, b"!<arch>")?)
+    Ok(files)
 }
 
 /// What the words of a line load: of each object its item, the offset of its member and its path; or the fault.
 fn loads(alloc: Global, line: &str) -> Result<String, Fail> {
-    let mut files = Vec::new(alloc);
-    put_objects(&mut files, alloc)?;
-    put_single_archives(&mut files, alloc)?;
-    put_double_archives(&mut files, alloc)?;
+    let files = files(alloc)?;
     let words = words(alloc, line)?;
     let mut text = String::new(alloc);
     match load_words(alloc, &words, &files)? {

@@ -6,65 +6,80 @@ use resolve::ResolveFault;
 use search::SearchFault;
 use std::alloc::{AllocError, AllocFailed, Global};
 use std::fmt::Display;
-use std::process::Abort;
 use std::test::Fail;
 
-fn prints<F: Display + Drop>(
-    rt: &impl Abort,
-    alloc: Global,
-    fault: F,
-    text: &str,
-) -> Result<(), Fail> {
-    assert_eq!(rt; format!(in alloc; "{fault}")?.as_str(), text);
+/// The texts of faults, one after the other.
+fn texts<F: Display>(alloc: Global, faults: &[F]) -> Result<String, Fail> {
+    let mut text = String::new(alloc);
+    for fault in faults {
+        text.push_str(&format!(in alloc; "{fault};")?)?;
+    }
+    Ok(text)
+}
+
+static LOADING: [SearchFault; 6] = [
+    SearchFault::Memory,
+    SearchFault::FileMissing,
+    SearchFault::BadObject(ObjFault::Truncated),
+    SearchFault::BadArchive(ArFault::NotArchive),
+    SearchFault::NoIndex,
+    SearchFault::Group(GroupFault::BadFlags),
+];
+
+static LAYOUTS: [LayoutFault; 3] = [
+    LayoutFault::Memory,
+    LayoutFault::SectionKind,
+    LayoutFault::TooLarge,
+];
+
+/// The texts of the faults of names.
+fn texts_of_names(alloc: Global) -> Result<String, Fail> {
+    let name = Vec::from_slice(alloc, b"f")?;
+    let faults = [
+        ResolveFault::Memory,
+        ResolveFault::Duplicate(name),
+        ResolveFault::BadCommon,
+        ResolveFault::BadSymbol,
+    ];
+    texts(alloc, &faults)
+}
+
+/// The texts of the refusals of relocations.
+fn texts_of_relocations(alloc: Global) -> Result<String, Fail> {
+    let name = Vec::from_slice(alloc, b"f")?;
+    let faults = [
+        RelocFault::Memory,
+        RelocFault::Undefined(name),
+        RelocFault::RefToDropped,
+        RelocFault::RelocKind,
+        RelocFault::FieldOutside,
+        RelocFault::OverlappingFields,
+        RelocFault::Overflow,
+        RelocFault::TlsMismatch,
+        RelocFault::MixedSection,
+    ];
+    texts(alloc, &faults)
+}
+
+#[test]
+fn faults_print_their_number(rt: HostRuntime) -> Result<(), Fail> {
+    assert_eq!(rt;
+        texts(rt.alloc(), &LOADING)?.as_str(),
+        "Memory (1);FileMissing (2);BadObject (3): Truncated (2);BadArchive (4): NotArchive (2);NoIndex (5);Group (6): BadFlags (3);"
+    );
+    assert_eq!(rt;
+        texts_of_names(rt.alloc())?.as_str(),
+        "Memory (1);Duplicate (2);BadCommon (3);BadSymbol (4);"
+    );
+    assert_eq!(rt;
+        texts(rt.alloc(), &LAYOUTS)?.as_str(),
+        "Memory (1);SectionKind (2);TooLarge (3);"
+    );
+    assert_eq!(rt;
+        texts_of_relocations(rt.alloc())?.as_str(),
+        "Memory (1);Undefined (2);RefToDropped (3);RelocKind (4);FieldOutside (5);OverlappingFields (6);Overflow (7);TlsMismatch (8);MixedSection (9);"
+    );
     Ok(())
-}
-
-#[test]
-fn faults_of_loading_print_their_number(rt: HostRuntime) -> Result<(), Fail> {
-    let alloc = rt.alloc();
-    let bad = SearchFault::BadObject(ObjFault::Truncated);
-    prints(&rt, alloc, SearchFault::Memory, "Memory (1)")?;
-    prints(&rt, alloc, SearchFault::FileMissing, "FileMissing (2)")?;
-    prints(&rt, alloc, bad, "BadObject (3): Truncated (2)")?;
-    let archive = SearchFault::BadArchive(ArFault::NotArchive);
-    prints(&rt, alloc, archive, "BadArchive (4): NotArchive (2)")?;
-    prints(&rt, alloc, SearchFault::NoIndex, "NoIndex (5)")?;
-    let group = SearchFault::Group(GroupFault::BadFlags);
-    prints(&rt, alloc, group, "Group (6): BadFlags (3)")
-}
-
-#[test]
-fn faults_of_names_print_their_number(rt: HostRuntime) -> Result<(), Fail> {
-    let alloc = rt.alloc();
-    let name = Vec::from_slice(alloc, b"f")?;
-    prints(&rt, alloc, ResolveFault::Memory, "Memory (1)")?;
-    prints(&rt, alloc, ResolveFault::Duplicate(name), "Duplicate (2)")?;
-    prints(&rt, alloc, ResolveFault::BadCommon, "BadCommon (3)")?;
-    prints(&rt, alloc, ResolveFault::BadSymbol, "BadSymbol (4)")
-}
-
-#[test]
-fn faults_of_layouts_print_their_number(rt: HostRuntime) -> Result<(), Fail> {
-    let alloc = rt.alloc();
-    prints(&rt, alloc, LayoutFault::Memory, "Memory (1)")?;
-    prints(&rt, alloc, LayoutFault::SectionKind, "SectionKind (2)")?;
-    prints(&rt, alloc, LayoutFault::TooLarge, "TooLarge (3)")
-}
-
-#[test]
-fn refusals_of_relocations_print_their_number(rt: HostRuntime) -> Result<(), Fail> {
-    let alloc = rt.alloc();
-    let name = Vec::from_slice(alloc, b"f")?;
-    prints(&rt, alloc, RelocFault::Memory, "Memory (1)")?;
-    prints(&rt, alloc, RelocFault::Undefined(name), "Undefined (2)")?;
-    prints(&rt, alloc, RelocFault::RefToDropped, "RefToDropped (3)")?;
-    prints(&rt, alloc, RelocFault::RelocKind, "RelocKind (4)")?;
-    prints(&rt, alloc, RelocFault::FieldOutside, "FieldOutside (5)")?;
-    let overlap = RelocFault::OverlappingFields;
-    prints(&rt, alloc, overlap, "OverlappingFields (6)")?;
-    prints(&rt, alloc, RelocFault::Overflow, "Overflow (7)")?;
-    prints(&rt, alloc, RelocFault::TlsMismatch, "TlsMismatch (8)")?;
-    prints(&rt, alloc, RelocFault::MixedSection, "MixedSection (9)")
 }
 
 /// What `push` answers where memory is refused.
@@ -74,11 +89,14 @@ fn no_room() -> AllocFailed<u8> {
 
 #[test]
 fn refused_memory_is_the_fault_memory(rt: HostRuntime) {
-    assert!(rt; matches!(SearchFault::from(AllocError), SearchFault::Memory));
-    assert!(rt; matches!(SearchFault::from(no_room()), SearchFault::Memory));
-    assert!(rt; matches!(&ResolveFault::from(AllocError), ResolveFault::Memory));
-    assert!(rt; matches!(LayoutFault::from(AllocError), LayoutFault::Memory));
-    assert!(rt; matches!(LayoutFault::from(no_room()), LayoutFault::Memory));
-    assert!(rt; matches!(&RelocFault::from(AllocError), RelocFault::Memory));
-    assert!(rt; matches!(&RelocFault::from(no_room()), RelocFault::Memory));
+    let found = [
+        matches!(SearchFault::from(AllocError), SearchFault::Memory),
+        matches!(SearchFault::from(no_room()), SearchFault::Memory),
+        matches!(&ResolveFault::from(AllocError), ResolveFault::Memory),
+        matches!(LayoutFault::from(AllocError), LayoutFault::Memory),
+        matches!(LayoutFault::from(no_room()), LayoutFault::Memory),
+        matches!(&RelocFault::from(AllocError), RelocFault::Memory),
+        matches!(&RelocFault::from(no_room()), RelocFault::Memory),
+    ];
+    assert_eq!(rt; found, [true; 7]);
 }

@@ -1,8 +1,8 @@
 //! Loading of objects.
 use crate::objects::{DATA, TEXT, object_of};
 use command::read_words;
-use elf_model::{CmdFault, InputFile, ObjFault};
-use search::{Loaded, LoadedObject, SearchFault, load};
+use elf_model::{CmdFault, InputFile};
+use search::{Loaded, SearchFault, load};
 use std::alloc::{AllocError, Global};
 use std::test::Fail;
 
@@ -15,18 +15,18 @@ pub fn words(alloc: Global, line: &str) -> Result<Vec<String>, AllocError> {
     Ok(list)
 }
 
-/// The files `a.o` and `b.o`.
-fn files(alloc: Global, a: Vec<u8>, b: Vec<u8>) -> Result<Vec<InputFile>, AllocError> {
-    let mut list = Vec::new(alloc);
-    list.push(InputFile {
-        name: String::from_str(alloc, "a.o")?,
-        bytes: a,
+/// Puts a file at the end of a list.
+pub fn put_file(
+    files: &mut Vec<InputFile>,
+    alloc: Global,
+    name: &str,
+    bytes: Vec<u8>,
+) -> Result<(), AllocError> {
+    files.push(InputFile {
+        name: String::from_str(alloc, name)?,
+        bytes,
     })?;
-    list.push(InputFile {
-        name: String::from_str(alloc, "b.o")?,
-        bytes: b,
-    })?;
-    Ok(list)
+    Ok(())
 }
 
 /// What comes of the loading of the objects that words name.
@@ -40,54 +40,48 @@ pub fn load_words<'a>(
     Ok(loaded)
 }
 
-/// Whether an object is of an item, of a path, and has a number of sections.
-fn is_loaded(loaded: &LoadedObject<'_>, item: u64, path: &str, sections: usize) -> bool {
-    loaded.item == item && loaded.path == path && loaded.object.sections().len() == sections
+/// The files `a.o` and `b.o`, with one and with two sections besides those of each object, and `s.o`, which is the
+/// beginning of an object.
+fn files(alloc: Global) -> Result<Vec<InputFile>, AllocError> {
+    let mut files = Vec::new(alloc);
+    put_file(&mut files, alloc, "a.o", object_of(alloc, &[TEXT])?)?;
+    put_file(&mut files, alloc, "b.o", object_of(alloc, &[DATA, TEXT])?)?;
+    put_file(&mut files, alloc, "s.o", Vec::from_slice(alloc, &[0; 63])?)?;
+    Ok(files)
 }
 
-/// The paths and the numbers of sections of objects that are loaded, as items in order.
-static LOADED: [(&str, usize); 3] = [("b.o", 4), ("a.o", 3), ("b.o", 4)];
-
-fn are_loaded(objects: &[LoadedObject<'_>]) -> bool {
-    objects.len() == LOADED.len()
-        && objects.iter().zip(&LOADED).enumerate().all(|(i, (loaded, row))| is_loaded(
-            loaded, i as u64, row.0, row.1,
-        ))
+/// The item, the path and the number of sections of each object that a line loads, and the number of items; or the
+/// fault.
+fn told(alloc: Global, line: &str) -> Result<String, Fail> {
+    let files = files(alloc)?;
+    let words = words(alloc, line)?;
+    let mut text = String::new(alloc);
+    match load_words(alloc, &words, &files)? {
+        Ok(loaded) => {
+            for o in loaded.objects() {
+                let sections = o.object.sections().len();
+                text.push_str(&format!(in alloc; "{} {} {sections};", o.item, o.path)?)?;
+            }
+            let count = loaded.plan().items.len();
+            text.push_str(&format!(in alloc; "{count}")?)?;
+        }
+        Err(fault) => text.push_str(&format!(in alloc; "{fault}")?)?,
+    }
+    Ok(text)
 }
 
-/// Files with one and with two sections besides those of each object.
-fn two_files(alloc: Global) -> Result<Vec<InputFile>, AllocError> {
-    let a = object_of(alloc, &[TEXT])?;
-    let b = object_of(alloc, &[DATA, TEXT])?;
-    files(alloc, a, b)
-}
+/// Lines, and what they load. Objects stand in command order; missing files come before bad objects.
+static LINES: [(&str, &str); 4] = [
+    ("b.o a.o b.o", "0 b.o 4;1 a.o 3;2 b.o 4;3"),
+    ("a.o", "0 a.o 3;1"),
+    ("a.o s.o", "BadObject (3): Truncated (2)"),
+    ("s.o c.o", "FileMissing (2)"),
+];
 
 #[test]
 fn objects_stand_in_command_order(rt: HostRuntime) -> Result<(), Fail> {
-    let files = two_files(rt.alloc())?;
-    let words = words(rt.alloc(), "b.o a.o b.o")?;
-    let loaded = load_words(rt.alloc(), &words, &files)??;
-    assert!(rt; are_loaded(loaded.objects()) && loaded.plan().items.len() == LOADED.len());
-    Ok(())
-}
-
-/// What the loading of a line's items fails with; `b.o` is the beginning of an object.
-fn refusal(alloc: Global, line: &str) -> Result<Option<SearchFault>, Fail> {
-    let a = object_of(alloc, &[TEXT])?;
-    let b = Vec::from_slice(alloc, &[0; 63])?;
-    let files = files(alloc, a, b)?;
-    let words = words(alloc, line)?;
-    let loaded = load_words(alloc, &words, &files)?;
-    Ok(loaded.err())
-}
-
-#[test]
-fn missing_files_come_before_bad_objects(rt: HostRuntime) -> Result<(), Fail> {
-    let alloc = rt.alloc();
-    assert!(rt; refusal(alloc, "a.o")?.is_none());
-    let bad = refusal(alloc, "a.o b.o")?;
-    assert!(rt; matches!(&bad, Some(SearchFault::BadObject(ObjFault::Truncated))));
-    let missing = refusal(alloc, "b.o c.o")?;
-    assert!(rt; matches!(&missing, Some(SearchFault::FileMissing)));
+    for (line, wanted) in &LINES {
+        assert_eq!(rt; told(rt.alloc(), line)?.as_str(), *wanted, "{line}");
+    }
     Ok(())
 }

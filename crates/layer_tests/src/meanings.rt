@@ -74,58 +74,41 @@ fn target_name<'a>(resolved: &Resolved<'a>, symbol: SymbolRef) -> Option<&'a [u8
     }
 }
 
+/// The number of an object and of a symbol, the name that a reference to it is to, and what it means: of names; a LOCAL
+/// symbol itself; symbol number 0, no such symbol, no such object.
+type TargetRow = (u64, u64, Option<&'static [u8]>, Option<(u64, u64)>);
+
+static TARGETS: [TargetRow; 6] = [
+    (0, 1, Some(b"g"), Some((0, 1))),
+    (0, 2, Some(b"f"), Some((1, 2))),
+    (1, 1, None, Some((1, 1))),
+    (1, 0, None, None),
+    (1, 9, None, None),
+    (2, 1, None, None),
+];
+
+/// Whether a reference to a symbol is to what a row says, and means that.
+fn is_target(resolved: &Resolved<'_>, row: &TargetRow) -> bool {
+    let (object, number, name, meaning) = *row;
+    let symbol = symbol_ref(object, number);
+    let target = resolved.definition(symbol);
+    target_name(resolved, symbol) == name
+        && meant_numbers(resolved.used(symbol)) == meaning
+        && meant_numbers(resolved.chosen(&target)) == meaning
+}
+
 #[test]
-fn targets_are_names_and_local_symbols(rt: HostRuntime) -> Result<(), Fail> {
+fn references_mean_strong_definitions(rt: HostRuntime) -> Result<(), Fail> {
     let alloc = rt.alloc();
     let a = object_of(alloc, &[global(G_NAME, 2), global(F_NAME, 0)])?;
     let b = object_of(alloc, &[local(2), global(F_NAME, 2)])?;
     let loaded = load_both(alloc, &a, &b)?;
     let resolved = resolve(alloc, &loaded)?;
-    for (object, number, name) in [
-        (0, 1, Some(b"g".as_slice())),
-        (0, 2, Some(b"f".as_slice())),
-        // A LOCAL symbol, symbol number 0, no such symbol, no such object.
-        (1, 1, None),
-        (1, 0, None),
-        (1, 9, None),
-        (2, 1, None),
-    ] {
-        let found = target_name(&resolved, symbol_ref(object, number));
-        assert!(rt; found == name, "of symbol {number} of object {object}");
-    }
-    Ok(())
-}
-
-fn assert_definitions(rt: &impl Abort, resolved: &Resolved<'_>) {
-    assert_names(rt, resolved.definitions());
-    assert!(rt; numbers(resolved.symbol(b"f")) == Some((1, 2)));
-    assert!(rt; resolved.symbol(b"h").is_none());
-    // A name of another object, a LOCAL symbol itself, symbol number 0, no object.
-    for (object, number, used) in [
-        (0, 2, Some((1, 2))),
-        (1, 1, Some((1, 1))),
-        (1, 0, None),
-        (2, 1, None),
-    ] {
-        let symbol = symbol_ref(object, number);
-        let found = meant_numbers(resolved.used(symbol));
-        assert!(rt; found == used, "of symbol {number} of object {object}");
-        let chosen = meant_numbers(resolved.chosen(&resolved.definition(symbol)));
-        assert!(rt;
-            chosen == used,
-            "of the target of {number} of object {object}"
-        );
-    }
-}
-
-#[test]
-fn names_mean_strong_definitions(rt: HostRuntime) -> Result<(), Fail> {
-    let alloc = rt.alloc();
-    let a = object_of(alloc, &[global(G_NAME, 2), global(F_NAME, 0)])?;
-    let b = object_of(alloc, &[local(2), global(F_NAME, 2)])?;
-    let loaded = load_both(alloc, &a, &b)?;
-    let resolved = resolve(alloc, &loaded)?;
-    assert_definitions(&rt, &resolved);
+    let f = numbers(resolved.symbol(b"f"));
+    assert!(rt; f == Some((1, 2)) && resolved.symbol(b"h").is_none());
+    let first_other = TARGETS.iter().position(|row| !is_target(&resolved, row));
+    assert_eq!(rt; first_other, None);
+    assert_names(&rt, resolved.definitions());
     assert_names(&rt, &resolved.into_definitions());
     Ok(())
 }
@@ -145,11 +128,14 @@ fn names_mean_weak_definitions_where_none_is_strong(rt: HostRuntime) -> Result<(
     let b = object_of(alloc, &[weak(G_NAME, 2), global(F_NAME, 2)])?;
     let loaded = load_both(alloc, &a, &b)?;
     let resolved = resolve(alloc, &loaded)?;
-    assert!(rt; numbers(resolved.symbol(b"g")) == Some((0, 1)));
-    assert!(rt; numbers(resolved.symbol(b"f")) == Some((1, 2)));
-    assert!(rt; meant_numbers(resolved.used(symbol_ref(1, 1))) == Some((0, 1)));
-    assert!(rt; meant_numbers(resolved.used(symbol_ref(0, 2))) == Some((1, 2)));
-    assert_eq!(rt; resolved.definitions().len(), 2);
+    let found = [
+        numbers(resolved.symbol(b"g")),
+        numbers(resolved.symbol(b"f")),
+        meant_numbers(resolved.used(symbol_ref(1, 1))),
+        meant_numbers(resolved.used(symbol_ref(0, 2))),
+    ];
+    let wanted = [Some((0, 1)), Some((1, 2)), Some((0, 1)), Some((1, 2))];
+    assert!(rt; found == wanted && resolved.definitions().len() == 2);
     Ok(())
 }
 
@@ -174,17 +160,12 @@ fn the_entry_stands_outside_thread_storage(rt: HostRuntime) -> Result<(), Fail> 
     Ok(())
 }
 
-/// What the names of two objects are refused for.
-fn refusal(alloc: Global, a: &[Symbol; 2], b: &[Symbol; 2]) -> Result<Option<ResolveFault>, Fail> {
+/// What the names of two objects are refused for, with the name that has two definitions, or `sound`.
+fn told(alloc: Global, a: &[Symbol; 2], b: &[Symbol; 2]) -> Result<String, Fail> {
     let a = object_of(alloc, a)?;
     let b = object_of(alloc, b)?;
     let loaded = load_both(alloc, &a, &b)?;
-    Ok(resolve(alloc, &loaded).err())
-}
-
-/// What they are refused for, with the name that has two definitions, or `sound`.
-fn told(alloc: Global, a: &[Symbol; 2], b: &[Symbol; 2]) -> Result<String, Fail> {
-    let text = match refusal(alloc, a, b)? {
+    let text = match resolve(alloc, &loaded).err() {
         Some(ResolveFault::Duplicate(name)) => format!(in alloc; "Duplicate {name:?}")?,
         Some(fault) => format!(in alloc; "{fault}")?,
         None => format!(in alloc; "sound")?,
@@ -250,54 +231,59 @@ fn common(st_name: u32, st_size: u64, st_value: u64) -> Symbol {
 /// A block's numbers, name, size and alignment.
 type BlockRow = (u64, u64, &'static [u8], u64, u64);
 
-fn is_block(block: &Block<'_>, row: &BlockRow) -> bool {
-    let (object, number, name, size, align) = *row;
-    (block.object, block.number, block.size, block.align) == (object, number, size, align)
-        && block.name == name
-}
-
 fn are_blocks(resolved: &Resolved<'_>, rows: &[BlockRow]) -> bool {
+    let row_of = |b: &Block<'_>| (b.object, b.number, b.size, b.align);
     let blocks = resolved.blocks();
     blocks.len() == rows.len()
-        && blocks
-            .iter()
-            .zip(rows)
-            .all(|(block, row)| is_block(block, row))
+        && blocks.iter().zip(rows).all(|(block, row)| {
+            let (object, number, name, size, align) = *row;
+            row_of(block) == (object, number, size, align) && block.name == name
+        })
+}
+
+/// Whether the names of two objects have these blocks, and what two symbols of these objects mean.
+fn share(
+    alloc: Global,
+    objects: [[Symbol; 2]; 2],
+    blocks: &[BlockRow],
+    used: [SymbolRef; 2],
+) -> Result<(bool, [Option<(u64, u64)>; 2]), Fail> {
+    let a = object_of(alloc, &objects[0])?;
+    let b = object_of(alloc, &objects[1])?;
+    let loaded = load_both(alloc, &a, &b)?;
+    let resolved = resolve(alloc, &loaded)?;
+    let used = used.map(|symbol| meant_numbers(resolved.used(symbol)));
+    Ok((are_blocks(&resolved, blocks), used))
 }
 
 static SHARED: [BlockRow; 2] = [(2, 0, b"g", 4, 16), (2, 1, b"f", 8, 4)];
 
-#[test]
-fn common_symbols_of_one_name_share_a_block(rt: HostRuntime) -> Result<(), Fail> {
-    let alloc = rt.alloc();
-    let a = object_of(alloc, &[common(G_NAME, 4, 16), common(F_NAME, 2, 1)])?;
-    let b = object_of(alloc, &[common(F_NAME, 8, 4), common(G_NAME, 3, 2)])?;
-    let loaded = load_both(alloc, &a, &b)?;
-    let resolved = resolve(alloc, &loaded)?;
-    assert!(rt; are_blocks(&resolved, &SHARED));
-    let used = [
-        resolved.used(symbol_ref(0, 1)),
-        resolved.used(symbol_ref(1, 1)),
-    ];
-    assert!(rt; used.map(meant_numbers) == [Some((2, 0)), Some((2, 1))]);
-    Ok(())
-}
-
 static ONE_BLOCK: [BlockRow; 1] = [(2, 0, b"f", 8, 4)];
 
 #[test]
-fn a_common_symbol_stands_before_a_weak_definition_alone(rt: HostRuntime) -> Result<(), Fail> {
-    let alloc = rt.alloc();
-    let a = object_of(alloc, &[weak(F_NAME, 2), common(G_NAME, 4, 16)])?;
-    let b = object_of(alloc, &[common(F_NAME, 8, 4), global(G_NAME, 2)])?;
-    let loaded = load_both(alloc, &a, &b)?;
-    let resolved = resolve(alloc, &loaded)?;
-    assert!(rt; are_blocks(&resolved, &ONE_BLOCK));
-    let used = [
-        resolved.used(symbol_ref(0, 1)),
-        resolved.used(symbol_ref(0, 2)),
-    ];
-    assert!(rt; used.map(meant_numbers) == [Some((2, 0)), Some((1, 2))]);
+fn common_symbols_share_blocks(rt: HostRuntime) -> Result<(), Fail> {
+    // Those of one name share a block.
+    let found = share(
+        rt.alloc(),
+        [
+            [common(G_NAME, 4, 16), common(F_NAME, 2, 1)],
+            [common(F_NAME, 8, 4), common(G_NAME, 3, 2)],
+        ],
+        &SHARED,
+        [symbol_ref(0, 1), symbol_ref(1, 1)],
+    )?;
+    assert!(rt; found == (true, [Some((2, 0)), Some((2, 1))]));
+    // They stand before a weak definition alone.
+    let found = share(
+        rt.alloc(),
+        [
+            [weak(F_NAME, 2), common(G_NAME, 4, 16)],
+            [common(F_NAME, 8, 4), global(G_NAME, 2)],
+        ],
+        &ONE_BLOCK,
+        [symbol_ref(0, 1), symbol_ref(0, 2)],
+    )?;
+    assert!(rt; found == (true, [Some((2, 0)), Some((1, 2))]));
     Ok(())
 }
 
@@ -311,36 +297,32 @@ const COMMON_F: Symbol = Symbol {
     st_size: 8,
 };
 
-/// Bindings and types, and alignments of common symbols, and whether these are sound.
-static COMMONS: [(u8, u64, bool); 9] = [
-    (0x10, 1, true),
-    (0x11, 0x20_0000, true),
-    (0x15, 8, true),
+/// Bindings and types, and alignments of common symbols, and what becomes of them.
+static COMMONS: [(u8, u64, &str); 9] = [
+    (0x10, 1, "sound"),
+    (0x11, 0x20_0000, "sound"),
+    (0x15, 8, "sound"),
     // LOCAL, WEAK, and of type TLS.
-    (0x01, 8, false),
-    (0x21, 8, false),
-    (0x16, 8, false),
+    (0x01, 8, "BadCommon (3)"),
+    (0x21, 8, "BadCommon (3)"),
+    (0x16, 8, "BadCommon (3)"),
     // No powers of two, and one too great.
-    (0x11, 0, false),
-    (0x11, 24, false),
-    (0x11, 0x40_0000, false),
+    (0x11, 0, "BadCommon (3)"),
+    (0x11, 24, "BadCommon (3)"),
+    (0x11, 0x40_0000, "BadCommon (3)"),
 ];
 
 #[test]
 fn unsound_common_symbols_are_refused(rt: HostRuntime) -> Result<(), Fail> {
     let start = [local(2), global(START_NAME, 2)];
-    for (st_info, st_value, sound) in COMMONS {
+    for (st_info, st_value, text) in COMMONS {
         let symbol = Symbol {
             st_info,
             st_value,
             ..COMMON_F
         };
-        let refused = refusal(rt.alloc(), &[symbol, global(G_NAME, 2)], &start)?;
-        let bad = matches!(&refused, Some(ResolveFault::BadCommon));
-        assert!(rt;
-            bad != sound && refused.is_none() == sound,
-            "{st_info} aligned {st_value}"
-        );
+        let found = told(rt.alloc(), &[symbol, global(G_NAME, 2)], &start)?;
+        assert_eq!(rt; found.as_str(), text, "{st_info} aligned {st_value}");
     }
     Ok(())
 }

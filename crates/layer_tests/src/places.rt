@@ -16,14 +16,15 @@ use search::Loaded;
 use std::alloc::{AllocError, Global};
 use std::test::Fail;
 
-/// What a layout says: its base, the object, the section and the address of each place, the segments, and how many
-/// places have the address that is told for their numbers.
+/// What a layout says: its base, the object, the section and the address of each place, the segments, how many places
+/// have the address that is told for their numbers, and the addresses of the blocks of `f`, `g` and `h` and of the GOT.
 #[derive(Drop)]
 struct Summary {
     base: u64,
     places: Vec<(u64, u64, u64)>,
     segments: Vec<ProgramHeader>,
     told: usize,
+    named: [Option<u64>; 4],
 }
 
 /// Whether a layout tells the address of a place by its numbers.
@@ -50,6 +51,12 @@ fn summary_of(alloc: Global, placement: &Placement<'_>) -> Result<Summary, Alloc
         places,
         segments: Vec::from_slice(alloc, placement.segments())?,
         told,
+        named: [
+            placement.common(b"f"),
+            placement.common(b"g"),
+            placement.common(b"h"),
+            placement.got(),
+        ],
     })
 }
 
@@ -101,118 +108,127 @@ fn segment(p_flags: u32, p_offset: u64, p_filesz: u64, p_memsz: u64) -> ProgramH
     }
 }
 
-#[test]
-fn one_object_has_three_segments(rt: HostRuntime) -> Result<(), Fail> {
-    let alloc = rt.alloc();
-    let a = object_of(alloc, &[RODATA, TEXT, DATA, BSS])?;
-    let b = object_of(alloc, &[])?;
-    let summary = lay_out(alloc, &a, &b)?;
-    assert_eq!(rt; summary.base, 0x400000);
-    let places = [
-        (0, 2, 0x400120),
-        (0, 3, 0x401000),
-        (0, 4, 0x402000),
-        (0, 5, 0x402008),
-    ];
-    assert!(rt; summary.places.as_slice() == places.as_slice());
-    assert_eq!(rt; summary.told, 4);
-    let segments = [
-        segment(4, 0, 0x125, 0x125),
-        segment(5, 0x1000, 9, 9),
-        segment(6, 0x2000, 8, 0x10),
-    ];
-    assert!(rt; summary.segments.as_slice() == segments.as_slice());
-    Ok(())
+/// The sections of two objects and the symbols of the first, the places, the segments by their rights, offsets and sizes,
+/// and the addresses of the blocks of `f`, `g` and `h` and of the GOT.
+type LayoutRow = (
+    &'static [SectionHeader],
+    &'static [Symbol],
+    &'static [SectionHeader],
+    &'static [(u64, u64, u64)],
+    &'static [(u32, u64, u64, u64)],
+    [Option<u64>; 4],
+);
+
+/// Common symbols.
+const COMMON_G: Symbol = Symbol {
+    st_name: G_NAME,
+    st_info: 0x11,
+    st_other: 0,
+    st_shndx: SHN_COMMON,
+    st_value: 4,
+    st_size: 4,
+};
+
+const COMMON_F: Symbol = Symbol {
+    st_name: F_NAME,
+    st_value: 16,
+    st_size: 16,
+    ..COMMON_G
+};
+
+/// Sections of other names, and a text of another alignment.
+const NOTES: SectionHeader = SectionHeader {
+    sh_name: NOTES_NAME,
+    ..RODATA
+};
+
+const RODATA_B: SectionHeader = SectionHeader {
+    sh_name: RODATA_B_NAME,
+    ..RODATA
+};
+
+const TEXT_16: SectionHeader = SectionHeader {
+    sh_addralign: 16,
+    ..TEXT
+};
+
+static LAYOUTS: [LayoutRow; 3] = [
+    // One object with three segments.
+    (
+        &[RODATA, TEXT, DATA, BSS],
+        &[],
+        &[],
+        &[
+            (0, 2, 0x400120),
+            (0, 3, 0x401000),
+            (0, 4, 0x402000),
+            (0, 5, 0x402008),
+        ],
+        &[
+            (4, 0, 0x125, 0x125),
+            (5, 0x1000, 9, 9),
+            (6, 0x2000, 8, 0x10),
+        ],
+        [None; 4],
+    ),
+    // Two objects that share output sections.
+    (
+        &[NOTES, TEXT, RODATA],
+        &[],
+        &[RODATA_B, TEXT_16],
+        &[
+            (0, 2, 0x4000e8),
+            (0, 4, 0x4000f0),
+            (1, 2, 0x4000f8),
+            (0, 3, 0x401000),
+            (1, 3, 0x401010),
+        ],
+        &[(4, 0, 0xfd, 0xfd), (5, 0x1000, 0x19, 0x19)],
+        [None; 4],
+    ),
+    // Blocks after all sections, numbered as those of an object of number 2: `.data` at 0x401000, `.bss` at 0x401008, `g`
+    // behind it, `f` at the next multiple of 16; no GOT.
+    (
+        &[DATA, SYMBOLS],
+        &[COMMON_G, COMMON_F],
+        &[BSS],
+        &[
+            (0, 2, 0x401000),
+            (1, 2, 0x401008),
+            (2, 0, 0x401010),
+            (2, 1, 0x401020),
+        ],
+        &[(4, 0, 0xe8, 0xe8), (6, 0x1000, 8, 0x30)],
+        [Some(0x401020), Some(0x401010), None, None],
+    ),
+];
+
+/// Whether a layout is that of a row.
+fn is_as_wanted(found: &Summary, row: &LayoutRow) -> bool {
+    let (_, _, _, places, segments, named) = *row;
+    found.base == 0x400000
+        && found.places.as_slice() == places
+        && found.told == places.len()
+        && found.named == named
+        && found.segments.len() == segments.len()
+        && found.segments.iter().zip(segments).all(|(found, (flags, offset, filesz, memsz))| {
+            *found == segment(*flags, *offset, *filesz, *memsz)
+        })
+}
+
+/// The layout of a row's objects.
+fn layout_of(alloc: Global, row: &LayoutRow) -> Result<Summary, Fail> {
+    let a = object_with(alloc, row.0, row.1, &[])?;
+    let b = object_of(alloc, row.2)?;
+    lay_out(alloc, &a, &b)
 }
 
 #[test]
-fn two_objects_share_output_sections(rt: HostRuntime) -> Result<(), Fail> {
-    let alloc = rt.alloc();
-    let notes = SectionHeader {
-        sh_name: NOTES_NAME,
-        ..RODATA
-    };
-    let rodata_b = SectionHeader {
-        sh_name: RODATA_B_NAME,
-        ..RODATA
-    };
-    let text_b = SectionHeader {
-        sh_addralign: 16,
-        ..TEXT
-    };
-    let a = object_of(alloc, &[notes, TEXT, RODATA])?;
-    let b = object_of(alloc, &[rodata_b, text_b])?;
-    let summary = lay_out(alloc, &a, &b)?;
-    let places = [
-        (0, 2, 0x4000e8),
-        (0, 4, 0x4000f0),
-        (1, 2, 0x4000f8),
-        (0, 3, 0x401000),
-        (1, 3, 0x401010),
-    ];
-    assert!(rt; summary.places.as_slice() == places.as_slice());
-    assert_eq!(rt; summary.told, 5);
-    let segments = [segment(4, 0, 0xfd, 0xfd), segment(5, 0x1000, 0x19, 0x19)];
-    assert!(rt; summary.segments.as_slice() == segments.as_slice());
-    Ok(())
-}
-
-/// A GLOBAL common symbol.
-fn common(st_name: u32, st_size: u64, st_value: u64) -> Symbol {
-    Symbol {
-        st_name,
-        st_info: 0x11,
-        st_other: 0,
-        st_shndx: SHN_COMMON,
-        st_value,
-        st_size,
+fn pieces_have_their_places(rt: HostRuntime) -> Result<(), Fail> {
+    for (number, row) in LAYOUTS.iter().enumerate() {
+        let found = layout_of(rt.alloc(), row)?;
+        assert!(rt; is_as_wanted(&found, row), "row {number}");
     }
-}
-
-/// The addresses of the common blocks of `f`, `g` and `h`, and of the GOT.
-fn addresses_in(alloc: Global, a: &[u8], b: &[u8]) -> Result<[Option<u64>; 4], Fail> {
-    let loaded = load_both(alloc, a, b)?;
-    let resolved = resolve(alloc, &loaded)?;
-    let slots = slots(alloc, &loaded, &resolved)?;
-    let placement = place(alloc, &loaded, &resolved, slots.got(), 0x400000)?;
-    Ok([
-        placement.common(b"f"),
-        placement.common(b"g"),
-        placement.common(b"h"),
-        placement.got(),
-    ])
-}
-
-#[test]
-fn blocks_have_addresses_by_their_names(rt: HostRuntime) -> Result<(), Fail> {
-    let alloc = rt.alloc();
-    let commons = [common(G_NAME, 4, 4), common(F_NAME, 16, 16)];
-    let a = object_with(alloc, &[DATA, SYMBOLS], &commons, &[])?;
-    let b = object_of(alloc, &[BSS])?;
-    // `.data` at 0x401000, `.bss` at 0x401008, `g` behind it, `f` at the next multiple of 16; no GOT.
-    let wanted = [Some(0x401020), Some(0x401010), None, None];
-    assert!(rt; addresses_in(alloc, &a, &b)? == wanted);
-    Ok(())
-}
-
-#[test]
-fn blocks_stand_after_all_sections(rt: HostRuntime) -> Result<(), Fail> {
-    let alloc = rt.alloc();
-    let commons = [common(G_NAME, 4, 4), common(F_NAME, 16, 16)];
-    let a = object_with(alloc, &[DATA, SYMBOLS], &commons, &[])?;
-    let b = object_of(alloc, &[BSS])?;
-    let summary = lay_out(alloc, &a, &b)?;
-    // Blocks are numbered as sections of an object of number 2.
-    let places = [
-        (0, 2, 0x401000),
-        (1, 2, 0x401008),
-        (2, 0, 0x401010),
-        (2, 1, 0x401020),
-    ];
-    assert!(rt; summary.places.as_slice() == places.as_slice());
-    assert_eq!(rt; summary.told, 4);
-    let segments = [segment(4, 0, 0xe8, 0xe8), segment(6, 0x1000, 8, 0x30)];
-    assert!(rt; summary.segments.as_slice() == segments.as_slice());
     Ok(())
 }
 
@@ -272,6 +288,13 @@ static SIZES: [(u64, bool); 3] = [
     (u64::MAX, true),
 ];
 
+/// A byte at the next multiple of 0x200000.
+const FAR: SectionHeader = SectionHeader {
+    sh_size: 1,
+    sh_addralign: 0x20_0000,
+    ..RODATA
+};
+
 #[test]
 fn a_layout_is_too_large_past_the_limit(rt: HostRuntime) -> Result<(), Fail> {
     for (sh_size, large) in SIZES {
@@ -282,26 +305,11 @@ fn a_layout_is_too_large_past_the_limit(rt: HostRuntime) -> Result<(), Fail> {
             "of {sh_size} bytes"
         );
     }
-    Ok(())
-}
-
-/// A byte at the next multiple of 0x200000.
-const FAR: SectionHeader = SectionHeader {
-    sh_size: 1,
-    sh_addralign: 0x20_0000,
-    ..RODATA
-};
-
-#[test]
-fn a_layout_of_a_large_file_is_too_large(rt: HostRuntime) -> Result<(), Fail> {
     // They stand at 0x600000 and on, so the file ends with byte 0x200000 * count.
     for (count, large) in [(2047, false), (2048, true)] {
         let sections = vec![in rt.alloc(); FAR; count]?;
-        assert_eq!(rt;
-            is_too_large(rt.alloc(), &sections)?,
-            large,
-            "of {count} sections"
-        );
+        let found = is_too_large(rt.alloc(), &sections)?;
+        assert_eq!(rt; found, large, "of {count} sections");
     }
     Ok(())
 }

@@ -20,14 +20,15 @@ fn got_of(alloc: Global, loaded: &Loaded<'_>) -> Result<(u64, usize), Fail> {
     Ok((found.got().0, found.slots().len()))
 }
 
-/// The start, the size and the alignment of the block of a file's object, laid out from 0x400000 on, and the
-/// offset of an address.
+/// The start, the size and the alignment of the block of an object of these sections, laid out from 0x400000 on, and
+/// the offset of an address.
 fn block_of(
     alloc: Global,
-    file: &[u8],
+    sections: &[SectionHeader],
     address: u64,
 ) -> Result<Option<(u64, u64, u64, u64)>, Fail> {
-    let loaded = load_alone(alloc, file)?;
+    let file = object_of(alloc, sections)?;
+    let loaded = load_alone(alloc, &file)?;
     let resolved = resolve(alloc, &loaded)?;
     let slots = slots(alloc, &loaded, &resolved)?;
     let placement = place(alloc, &loaded, &resolved, slots.got(), 0x400000)?;
@@ -114,24 +115,21 @@ fn relocations_ask_for_slots(rt: HostRuntime) -> Result<(), Fail> {
 }
 
 #[test]
-fn no_thread_storage_has_no_block(rt: HostRuntime) -> Result<(), Fail> {
-    let alloc = rt.alloc();
-    let file = object_of(alloc, &[TEXT, DATA, BSS])?;
-    assert!(rt; block_of(alloc, &file, 0x402000)?.is_none());
-    Ok(())
-}
-
-#[test]
 fn thread_storage_is_a_block(rt: HostRuntime) -> Result<(), Fail> {
     let alloc = rt.alloc();
+    let none = block_of(alloc, &[TEXT, DATA, BSS], 0x402000)?;
     // .tdata at 0x402000, .tbss and .bss at 0x402008
-    let file = object_of(alloc, &[TEXT, thread_data(4), thread_zeros(8), BSS])?;
-    let block = block_of(alloc, &file, 0x402008)?;
-    assert!(rt; block == Some((0x402000, 0x10, 8, 0xffff_ffff_ffff_fff8)));
+    let sections = [TEXT, thread_data(4), thread_zeros(8), BSS];
+    let first = block_of(alloc, &sections, 0x402008)?;
     // .tdata at 0x402000, .tbss at 0x402004; the thread pointer is 0x402010
-    let file = object_of(alloc, &[TEXT, thread_data(16), thread_zeros(4)])?;
-    let block = block_of(alloc, &file, 0x402004)?;
-    assert!(rt; block == Some((0x402000, 0xc, 16, 0xffff_ffff_ffff_fff4)));
+    let sections = [TEXT, thread_data(16), thread_zeros(4)];
+    let second = block_of(alloc, &sections, 0x402004)?;
+    let wanted = [
+        None,
+        Some((0x402000, 0x10, 8, 0xffff_ffff_ffff_fff8)),
+        Some((0x402000, 0xc, 16, 0xffff_ffff_ffff_fff4)),
+    ];
+    assert!(rt; [none, first, second] == wanted);
     Ok(())
 }
 

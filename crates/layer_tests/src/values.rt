@@ -79,11 +79,6 @@ fn object_over(
     object_with(alloc, &sections, &symbols, &[rodata, second])
 }
 
-/// Such an object, of which symbol 1 is `.data`.
-fn object_of(alloc: Global, rodata: Rela, data_: Rela) -> Result<Vec<u8>, AllocError> {
-    object_over(alloc, section_symbol(4), rodata, 4, data_)
-}
-
 /// The input bytes of a section of the first object.
 fn input_of<'a>(loaded: &Loaded<'a>, number: usize) -> Option<&'a [u8]>
     ensures { IfSome result (λ bytes. length bytes.now ≡ (object_file.section (sections_of_object (slice_get loaded.now.objects 0)) number).sh_size) }
@@ -185,110 +180,157 @@ fn judged(number: u32, terms: Terms) -> Option<(u64, bool)> {
     Some((value, fits(kind, value)))
 }
 
-/// Terms of which no letter stands for anything.
-const NO_TERMS: Terms = Terms {
-    symbol: 0,
-    addend: 0,
-    place: 0,
-    slot: 0,
-    got: 0,
-    size: 0,
-    thread: 0,
-};
+/// A type, the terms S, P, G, GOT, Z and the offset from the thread pointer, the addend, the value, and whether it fits.
+type ValueRow = (u32, [u64; 6], i64, u64, bool);
+
+static VALUES: [ValueRow; 27] = [
+    // The value is S + 0. Type 10 wants an unsigned number of 32 bits, 11 a signed one of 32, 12 either of 16 and 14
+    // either of 8.
+    (
+        10,
+        [0xffff_ffff, 0x401001, 0, 0, 0, 0],
+        0,
+        0xffff_ffff,
+        true,
+    ),
+    (
+        10,
+        [0x8000_0000, 0x401001, 0, 0, 0, 0],
+        0,
+        0x8000_0000,
+        true,
+    ),
+    (
+        10,
+        [0x1_0000_0000, 0x401001, 0, 0, 0, 0],
+        0,
+        0x1_0000_0000,
+        false,
+    ),
+    (
+        11,
+        [0xffff_ffff_ffff_ffff, 0x401001, 0, 0, 0, 0],
+        0,
+        0xffff_ffff_ffff_ffff,
+        true,
+    ),
+    (
+        11,
+        [0x8000_0000, 0x401001, 0, 0, 0, 0],
+        0,
+        0x8000_0000,
+        false,
+    ),
+    (12, [0xffff, 0x401001, 0, 0, 0, 0], 0, 0xffff, true),
+    (
+        12,
+        [0xffff_ffff_ffff_8000, 0x401001, 0, 0, 0, 0],
+        0,
+        0xffff_ffff_ffff_8000,
+        true,
+    ),
+    (12, [0x1_0000, 0x401001, 0, 0, 0, 0], 0, 0x1_0000, false),
+    (
+        14,
+        [0xffff_ffff_ffff_ff80, 0x401001, 0, 0, 0, 0],
+        0,
+        0xffff_ffff_ffff_ff80,
+        true,
+    ),
+    (
+        14,
+        [0xffff_ffff_ffff_ff7f, 0x401001, 0, 0, 0, 0],
+        0,
+        0xffff_ffff_ffff_ff7f,
+        false,
+    ),
+    // Types 2 and 4 are S + A - P, 1 is S + A and 33 is Z + A, modulo 2 to the 64; 2 and 4 want a signed number of 32
+    // bits.
+    (4, [0x401010, 0x401001, 0, 0, 8, 0], -4, 0xb, true),
+    (2, [0x402000, 0x400120, 0, 0, 8, 0], 0, 0x1ee0, true),
+    (
+        2,
+        [0, 0x401001, 0, 0, 8, 0],
+        -4,
+        0xffff_ffff_ffbf_effb,
+        true,
+    ),
+    (
+        2,
+        [0, 0x1_0000_1001, 0, 0, 8, 0],
+        -4,
+        0xffff_fffe_ffff_effb,
+        false,
+    ),
+    (1, [0xffff_ffff_ffff_ffff, 0x402000, 0, 0, 8, 0], 2, 1, true),
+    (33, [0x402000, 0x400130, 0, 0, 8, 0], 1, 9, true),
+    // Types 9 and 42 are G + GOT + A - P, as 22 is for the slot of a thread offset; 3 and 27 are G + A, 26 is GOT + A - P
+    // and 25 is S + A - GOT.
+    (9, [0x402000, 0x401003, 8, 0x402008, 0, 0], -4, 0x1009, true),
+    (
+        42,
+        [0x402000, 0x401003, 8, 0x402008, 0, 0],
+        -4,
+        0x1009,
+        true,
+    ),
+    (
+        22,
+        [0x402000, 0x401003, 8, 0x402010, 0, 0],
+        -4,
+        0x1011,
+        true,
+    ),
+    (3, [0x402000, 0x400120, 8, 0x402008, 0, 0], 0, 8, true),
+    (27, [0x402000, 0x400138, 8, 0x402008, 0, 0], 0, 8, true),
+    (26, [0x402000, 0x400124, 8, 0x402008, 0, 0], 0, 0x1ee4, true),
+    (
+        25,
+        [0x402000, 0x400128, 8, 0x402008, 0, 0],
+        0,
+        0xffff_ffff_ffff_fff8,
+        true,
+    ),
+    // Types 18 and 23 are the offset from the thread pointer plus A; 23 wants a signed number of 32 bits.
+    (
+        23,
+        [0, 0, 0, 0, 0, 0xffff_ffff_ffff_fff0],
+        0,
+        0xffff_ffff_ffff_fff0,
+        true,
+    ),
+    (
+        23,
+        [0, 0, 0, 0, 0, 0xffff_ffff_ffff_fff8],
+        0,
+        0xffff_ffff_ffff_fff8,
+        true,
+    ),
+    (
+        23,
+        [0, 0, 0, 0, 0, 0xffff_ffff_8000_0000],
+        -1,
+        0xffff_ffff_7fff_ffff,
+        false,
+    ),
+    (18, [0, 0, 0, 0, 0, 0xffff_ffff_ffff_fff8], 12, 4, true),
+];
 
 #[test]
-fn values_of_a_symbol_fit_by_their_kind(rt: HostRuntime) -> Result<(), Fail> {
-    // The value is S + 0. Type 10 wants an unsigned number of 32 bits, 11 a signed one of 32, 12 either of
-    // 16 and 14 either of 8.
-    for (number, symbol, fit) in [
-        (10, 0xffff_ffff, true),
-        (10, 0x8000_0000, true),
-        (10, 0x1_0000_0000, false),
-        (11, 0xffff_ffff_ffff_ffff, true),
-        (11, 0x8000_0000, false),
-        (12, 0xffff, true),
-        (12, 0xffff_ffff_ffff_8000, true),
-        (12, 0x1_0000, false),
-        (14, 0xffff_ffff_ffff_ff80, true),
-        (14, 0xffff_ffff_ffff_ff7f, false),
-    ] {
+fn values_are_made_of_their_terms(rt: HostRuntime) {
+    for (number, [symbol, place, slot, got, size, thread], addend, value, fit) in VALUES {
         let terms = Terms {
             symbol,
-            place: 0x401001,
-            ..NO_TERMS
-        };
-        assert!(rt;
-            judged(number, terms) == Some((symbol, fit)),
-            "at type {number}"
-        );
-    }
-    Ok(())
-}
-
-#[test]
-fn values_are_made_of_their_terms(rt: HostRuntime) -> Result<(), Fail> {
-    let of = |symbol: u64, addend: i64, place: u64| Terms {
-        symbol,
-        addend,
-        place,
-        size: 8,
-        ..NO_TERMS
-    };
-    // Types 2 and 4 are S + A - P, 1 is S + A and 33 is Z + A, modulo 2 to the 64; 2 and 4 want a signed number
-    // of 32 bits.
-    assert!(rt; judged(4, of(0x401010, -4, 0x401001)) == Some((0xb, true)));
-    assert!(rt; judged(2, of(0x402000, 0, 0x400120)) == Some((0x1ee0, true)));
-    assert!(rt; judged(2, of(0, -4, 0x401001)) == Some((0xffff_ffff_ffbf_effb, true)));
-    assert!(rt; judged(2, of(0, -4, 0x1_0000_1001)) == Some((0xffff_fffe_ffff_effb, false)));
-    assert!(rt; judged(1, of(0xffff_ffff_ffff_ffff, 2, 0x402000)) == Some((1, true)));
-    assert!(rt; judged(33, of(0x402000, 1, 0x400130)) == Some((9, true)));
-    Ok(())
-}
-
-#[test]
-fn values_of_the_got_are_made_of_their_terms(rt: HostRuntime) -> Result<(), Fail> {
-    let at = |got: u64, addend: i64, place: u64| Terms {
-        symbol: 0x402000,
-        addend,
-        place,
-        slot: 8,
-        got,
-        ..NO_TERMS
-    };
-    // Types 9 and 42 are G + GOT + A - P, as 22 is for the slot of a thread offset; 3 and 27 are G + A, 26 is
-    // GOT + A - P and 25 is S + A - GOT.
-    assert!(rt; judged(9, at(0x402008, -4, 0x401003)) == Some((0x1009, true)));
-    assert!(rt; judged(42, at(0x402008, -4, 0x401003)) == Some((0x1009, true)));
-    assert!(rt; judged(22, at(0x402010, -4, 0x401003)) == Some((0x1011, true)));
-    assert!(rt; judged(3, at(0x402008, 0, 0x400120)) == Some((8, true)));
-    assert!(rt; judged(27, at(0x402008, 0, 0x400138)) == Some((8, true)));
-    assert!(rt; judged(26, at(0x402008, 0, 0x400124)) == Some((0x1ee4, true)));
-    assert!(rt; judged(25, at(0x402008, 0, 0x400128)) == Some((0xffff_ffff_ffff_fff8, true)));
-    Ok(())
-}
-
-#[test]
-fn values_of_thread_storage_are_offsets(rt: HostRuntime) -> Result<(), Fail> {
-    // Types 18 and 23 are the offset from the thread pointer plus A; 23 wants a signed number of 32 bits.
-    for (number, thread, addend, wanted) in [
-        (23, 0xffff_ffff_ffff_fff0, 0, (0xffff_ffff_ffff_fff0, true)),
-        (23, 0xffff_ffff_ffff_fff8, 0, (0xffff_ffff_ffff_fff8, true)),
-        (
-            23,
-            0xffff_ffff_8000_0000,
-            -1,
-            (0xffff_ffff_7fff_ffff, false),
-        ),
-        (18, 0xffff_ffff_ffff_fff8, 12, (4, true)),
-    ] {
-        let terms = Terms {
             addend,
+            place,
+            slot,
+            got,
+            size,
             thread,
-            ..NO_TERMS
         };
-        assert!(rt; judged(number, terms) == Some(wanted), "at type {number}");
+        let found = judged(number, terms);
+        assert!(rt; found == Some((value, fit)), "type {number} of {value}");
     }
-    Ok(())
 }
 
 /// Whether a type has a kind of its own number, whose field has a width.
@@ -313,36 +355,75 @@ fn fields_have_their_types_width(rt: HostRuntime) {
             assert!(rt; is_of_width(*number, width), "at type {number}");
         }
     }
-}
-
-#[test]
-fn types_without_a_kind(rt: HostRuntime) -> Result<(), Fail> {
-    // NONE, COPY and the first type behind the table.
+    // NONE, COPY and the first type behind the table have none.
     for number in [0, 5, 43] {
         assert!(rt; Kind::of(number).is_none(), "at type {number}");
     }
-    Ok(())
 }
+
+/// S + A - P of symbol 1 in four bytes, and S + A of `.rodata`, symbol 2, in eight; that of symbol 1 in four, and one more
+/// in eight.
+const DISTANCE: Rela = Rela {
+    r_offset: 0,
+    r_info: 0x1_0000_0002,
+    r_addend: 0,
+};
+
+const ADDRESS: Rela = Rela {
+    r_offset: 0,
+    r_info: 0x2_0000_0001,
+    r_addend: 1,
+};
+
+const SHORT: Rela = Rela {
+    r_info: 0x1_0000_000a,
+    ..DISTANCE
+};
+
+const LONG: Rela = Rela {
+    r_info: 0x1_0000_0001,
+    ..ADDRESS
+};
+
+/// Symbol 1 of an object, entries for `.rodata` and for `.data`, a section and the bytes that are wanted of it. Three
+/// segments: `.rodata` stands behind headers of 64 + 4 * 56 = 0x120 bytes, `.text` of 9 bytes at 0x401000 and `.data` at
+/// 0x402000.
+static FIELDS: [(Symbol, Rela, Rela, usize, &[u8]); 5] = [
+    // 0x402000 - 0x400120 and 0x400120 + 1.
+    (DATA_SYMBOL, DISTANCE, ADDRESS, 2, &[0xe0, 0x1e, 0, 0, 5]),
+    (
+        DATA_SYMBOL,
+        DISTANCE,
+        ADDRESS,
+        3,
+        &[0xb8, 0x3c, 0, 0, 0, 0x31, 0xff, 0x0f, 0x05],
+    ),
+    (
+        DATA_SYMBOL,
+        DISTANCE,
+        ADDRESS,
+        4,
+        &[0x21, 0x01, 0x40, 0, 0, 0, 0, 0],
+    ),
+    // The end of the text.
+    (TEXT_END, SHORT, LONG, 2, &[0x09, 0x10, 0x40, 0, 5]),
+    (TEXT_END, SHORT, LONG, 4, &[0x0a, 0x10, 0x40, 0, 0, 0, 0, 0]),
+];
 
 #[test]
 fn fields_have_their_values(rt: HostRuntime) -> Result<(), Fail> {
-    let alloc = rt.alloc();
-    let file = object_of(alloc, entry(0, 2, 1, 0), entry(0, 1, 2, 1))?;
-    let rodata = wanted(alloc, &file, 2)?;
-    let text = wanted(alloc, &file, 3)?;
-    let data_ = wanted(alloc, &file, 4)?;
-    // Three segments: `.rodata` stands behind headers of 64 + 4 * 56 = 0x120 bytes, `.text` at 0x401000 and
-    // `.data` at 0x402000. So `.rodata` gets 0x402000 - 0x400120 and `.data` 0x400120 + 1.
-    assert!(rt; rodata.as_slice() == [0xe0, 0x1e, 0, 0, 5].as_slice());
-    assert!(rt; text.as_slice() == [0xb8, 0x3c, 0, 0, 0, 0x31, 0xff, 0x0f, 0x05].as_slice());
-    assert!(rt; data_.as_slice() == [0x21, 0x01, 0x40, 0, 0, 0, 0, 0].as_slice());
+    for (first, rodata, other, number, bytes) in &FIELDS {
+        let file = object_over(rt.alloc(), *first, *rodata, 4, *other)?;
+        let found = wanted(rt.alloc(), &file, *number)?;
+        assert!(rt; found.as_slice() == *bytes, "section {number}");
+    }
     Ok(())
 }
 
 #[test]
 fn fields_are_written_in_parts(rt: HostRuntime) -> Result<(), Fail> {
     let alloc = rt.alloc();
-    let file = object_of(alloc, entry(0, 2, 1, 0), entry(0, 1, 2, 1))?;
+    let file = object_over(alloc, DATA_SYMBOL, DISTANCE, 4, ADDRESS)?;
     let loaded = load_alone(alloc, &file)?;
     let patches = laid_out(alloc, &loaded)?;
     let input = input_of(&loaded, 2).ok_or("no section's bytes")?;
@@ -361,27 +442,16 @@ fn fields_are_written_in_parts(rt: HostRuntime) -> Result<(), Fail> {
 }
 
 #[test]
-fn linkers_names_have_values(rt: HostRuntime) -> Result<(), Fail> {
-    let alloc = rt.alloc();
-    let file = object_over(alloc, TEXT_END, entry(0, 10, 1, 0), 4, entry(0, 1, 1, 1))?;
-    let rodata = wanted(alloc, &file, 2)?;
-    let data_ = wanted(alloc, &file, 4)?;
-    // `.text` has 9 bytes at 0x401000.
-    assert!(rt; rodata.as_slice() == [0x09, 0x10, 0x40, 0, 5].as_slice());
-    assert!(rt; data_.as_slice() == [0x0a, 0x10, 0x40, 0, 0, 0, 0, 0].as_slice());
-    Ok(())
-}
-
-#[test]
 fn linkers_names_in_use_have_lines(rt: HostRuntime) -> Result<(), Fail> {
     let alloc = rt.alloc();
-    let file = object_over(alloc, TEXT_END, entry(0, 10, 1, 0), 4, entry(0, 1, 1, 1))?;
+    let file = object_over(alloc, TEXT_END, SHORT, 4, LONG)?;
     let loaded = load_alone(alloc, &file)?;
     let resolved = resolve(alloc, &loaded)?;
     let lines = linker_lines(alloc, &loaded, &resolved)?;
-    assert_eq!(rt; lines.len(), 1);
-    let (name, bound) = lines[0];
-    assert!(rt; name == b"_etext".as_slice() && matches!(bound, Bound::CodeEnd));
+    let [(name, bound)] = lines.as_slice() else {
+        return Err("one line".into());
+    };
+    assert!(rt; *name == b"_etext".as_slice() && matches!(bound, Bound::CodeEnd));
     Ok(())
 }
 
@@ -419,19 +489,6 @@ const SYMBOLS_SYMBOL: Symbol = Symbol {
 const UNDEFINED_F: Symbol = Symbol {
     st_name: F_NAME,
     ..TEXT_END
-};
-
-/// S + A - P of symbol 1 in four bytes, and S + A of `.rodata` in eight.
-const DISTANCE: Rela = Rela {
-    r_offset: 0,
-    r_info: 0x1_0000_0002,
-    r_addend: 0,
-};
-
-const ADDRESS: Rela = Rela {
-    r_offset: 0,
-    r_info: 0x2_0000_0001,
-    r_addend: 1,
 };
 
 /// Symbol 1 of an object, an entry for `.rodata`, the section of another entry and this entry, and what they are

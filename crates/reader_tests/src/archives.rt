@@ -1,7 +1,6 @@
 //! Archives as they are read. Offsets, sizes and index data were counted by hand from ar(5).
 use ar_index::{Archive, IndexEntry, Member};
 use byteview::View;
-use elf_model::ArFault;
 use std::alloc::{AllocError, Global};
 use std::test::Fail;
 
@@ -172,101 +171,108 @@ fn told(alloc: Global, bytes: &[u8]) -> Result<Vec<u8>, AllocError> {
     Ok(told)
 }
 
-/// Whether the archive of some members is told so.
-fn is_told(alloc: Global, parts: &[Part], text: &str) -> Result<bool, AllocError> {
-    let bytes = archive_of(alloc, parts)?;
-    let told = told(alloc, &bytes)?;
-    Ok(told.as_slice().trim_ascii_end() == text.as_bytes())
-}
-
-#[test]
-fn archives_are_read(rt: HostRuntime) -> Result<(), Fail> {
-    for (parts, text) in &ARCHIVES {
-        assert!(rt; is_told(rt.alloc(), parts, text)?);
+/// The number of the first row whose archive is told otherwise.
+fn first_other(
+    alloc: Global,
+    rows: &[(&'static [Part], &'static str)],
+) -> Result<Option<usize>, AllocError> {
+    for (number, (parts, text)) in rows.iter().enumerate() {
+        let bytes = archive_of(alloc, parts)?;
+        let told = told(alloc, &bytes)?;
+        if told.as_slice().trim_ascii_end() != text.as_bytes() {
+            return Ok(Some(number));
+        }
     }
-    Ok(())
+    Ok(None)
 }
 
-/// Faults, with members that have them behind the magic.
-static FAULTS: [(&str, &[&[Part]]); 4] = [
+/// Members that are faulty behind the magic, and the fault.
+static FAULTS: [(&[Part], &str); 38] = [
+    // A member's bytes, and the byte behind an odd number of them, run past the end.
+    (&[("a.o/", "9999999999", b"ab")], "Truncated (3);"),
+    (&[("a.o/", "3", b"ab")], "Truncated (3);"),
+    (&[("a.o/", "1", b"a")], "Truncated (3);"),
+    (&[("/", "10", b"\0\0\0\x01\0\0\0\x4e")], "Truncated (3);"),
+    // No header fits.
+    (&[("a.o/", "0", b"\n")], "Truncated (3);"),
+    // No size, one behind a space, one with more behind it; another byte than a line feed.
+    (&[("a.o/", "", b"")], "BadHeader (4);"),
+    (&[("a.o/", " 0", b"")], "BadHeader (4);"),
+    (&[("a.o/", "0x", b"")], "BadHeader (4);"),
+    (&[("a.o/", "0 0", b"")], "BadHeader (4);"),
+    (&[("a.o/", "-1", b"")], "BadHeader (4);"),
+    (&[("a.o/", "1", b"a\0")], "BadHeader (4);"),
+    // An index behind a member, behind long names, behind another one of either kind.
+    (&[EMPTY, NO_ENTRY], "BadIndex (5);"),
+    (&[("//", "0", b""), NO_ENTRY], "BadIndex (5);"),
+    (&[NO_ENTRY, NO_ENTRY], "BadIndex (5);"),
+    (&[NO_ENTRY, NO_WIDE_ENTRY], "BadIndex (5);"),
+    (&[NO_WIDE_ENTRY, NO_ENTRY], "BadIndex (5);"),
+    // No count; more entries than numbers, by far; more than texts; other bytes than zeros behind them.
+    (&[("/", "0", b"")], "BadIndex (5);"),
+    (&[("/", "3", b"\0\0\0\n")], "BadIndex (5);"),
+    (&[("/SYM64/", "4", b"\0\0\0\0")], "BadIndex (5);"),
     (
-        "Truncated (3);",
-        &[
-            // A member's bytes, and the byte behind an odd number of them, run past the end.
-            &[("a.o/", "9999999999", b"ab")],
-            &[("a.o/", "3", b"ab")],
-            &[("a.o/", "1", b"a")],
-            &[("/", "10", b"\0\0\0\x01\0\0\0\x4e")],
-            // No header fits.
-            &[("a.o/", "0", b"\n")],
-        ],
-    ),
-    (
-        "BadHeader (4);",
-        &[
-            // No size, one behind a space, one with more behind it; another byte than a line feed.
-            &[("a.o/", "", b"")],
-            &[("a.o/", " 0", b"")],
-            &[("a.o/", "0x", b"")],
-            &[("a.o/", "0 0", b"")],
-            &[("a.o/", "-1", b"")],
-            &[("a.o/", "1", b"a\0")],
-        ],
-    ),
-    (
+        &[("/", "10", b"\xff\xff\xff\xff\0\0\0\x4ef\0"), AB],
         "BadIndex (5);",
-        &[
-            // An index behind a member, behind long names, behind another one of either kind.
-            &[EMPTY, NO_ENTRY],
-            &[("//", "0", b""), NO_ENTRY],
-            &[NO_ENTRY, NO_ENTRY],
-            &[NO_ENTRY, NO_WIDE_ENTRY],
-            &[NO_WIDE_ENTRY, NO_ENTRY],
-            // No count; more entries than numbers, by far; more than texts; other bytes than zeros behind them.
-            &[("/", "0", b"")],
-            &[("/", "3", b"\0\0\0\n")],
-            &[("/SYM64/", "4", b"\0\0\0\0")],
-            &[("/", "10", b"\xff\xff\xff\xff\0\0\0\x4ef\0"), AB],
-            &[
-                ("/SYM64/", "18", b"\x20\0\0\0\0\0\0\0\0\0\0\0\0\0\0\x56f\0"),
-                AB,
-            ],
-            &[("/", "10", b"\0\0\0\x01\0\0\0\x4efg"), AB],
-            &[("/", "14", b"\0\0\0\x02\0\0\0\x52\0\0\0\x52f\0"), AB],
-            &[("/", "12", b"\0\0\0\x01\0\0\0\x50f\0\0x"), AB],
-            // An entry of the index itself, of the member's data, of the long names, of the end, of nothing.
-            &[("/", "10", b"\0\0\0\x01\0\0\0\x08f\0"), AB],
-            &[("/", "10", b"\0\0\0\x01\0\0\0\x8af\0"), AB],
-            &[("/", "10", b"\0\0\0\x01\0\0\0\x4ef\0"), ("//", "2", b"ab")],
-            &[("/", "10", b"\0\0\0\x01\0\0\0\x8cf\0"), AB],
-            &[("/", "10", b"\0\0\0\x01\0\0\0\0f\0"), AB],
-        ],
     ),
     (
-        "BadName (6);",
         &[
-            // No slash, only a slash too many, more behind it, no name.
-            &[("a.o", "0", b"")],
-            &[("a.o//", "0", b"")],
-            &[("a.o/ b", "0", b"")],
-            &[("", "0", b"")],
-            // A long name past the long names, without an end, without them, before them; long names a second time.
-            &[("//", "4", b"ab/\n"), ("/99", "0", b"")],
-            &[("//", "4", b"a/b\n"), ("/0", "0", b"")],
-            &[("/0", "0", b"")],
-            &[("/0", "0", b""), ("//", "4", b"ab/\n")],
-            &[("//", "0", b""), ("//", "0", b"")],
+            ("/SYM64/", "18", b"\x20\0\0\0\0\0\0\0\0\0\0\0\0\0\0\x56f\0"),
+            AB,
         ],
+        "BadIndex (5);",
     ),
+    (
+        &[("/", "10", b"\0\0\0\x01\0\0\0\x4efg"), AB],
+        "BadIndex (5);",
+    ),
+    (
+        &[("/", "14", b"\0\0\0\x02\0\0\0\x52\0\0\0\x52f\0"), AB],
+        "BadIndex (5);",
+    ),
+    (
+        &[("/", "12", b"\0\0\0\x01\0\0\0\x50f\0\0x"), AB],
+        "BadIndex (5);",
+    ),
+    // An entry of the index itself, of the member's data, of the long names, of the end, of nothing.
+    (
+        &[("/", "10", b"\0\0\0\x01\0\0\0\x08f\0"), AB],
+        "BadIndex (5);",
+    ),
+    (
+        &[("/", "10", b"\0\0\0\x01\0\0\0\x8af\0"), AB],
+        "BadIndex (5);",
+    ),
+    (
+        &[("/", "10", b"\0\0\0\x01\0\0\0\x4ef\0"), ("//", "2", b"ab")],
+        "BadIndex (5);",
+    ),
+    (
+        &[("/", "10", b"\0\0\0\x01\0\0\0\x8cf\0"), AB],
+        "BadIndex (5);",
+    ),
+    (
+        &[("/", "10", b"\0\0\0\x01\0\0\0\0f\0"), AB],
+        "BadIndex (5);",
+    ),
+    // No slash, only a slash too many, more behind it, no name.
+    (&[("a.o", "0", b"")], "BadName (6);"),
+    (&[("a.o//", "0", b"")], "BadName (6);"),
+    (&[("a.o/ b", "0", b"")], "BadName (6);"),
+    (&[("", "0", b"")], "BadName (6);"),
+    // A long name past the long names, without an end, without them, before them; long names a second time.
+    (&[("//", "4", b"ab/\n"), ("/99", "0", b"")], "BadName (6);"),
+    (&[("//", "4", b"a/b\n"), ("/0", "0", b"")], "BadName (6);"),
+    (&[("/0", "0", b"")], "BadName (6);"),
+    (&[("/0", "0", b""), ("//", "4", b"ab/\n")], "BadName (6);"),
+    (&[("//", "0", b""), ("//", "0", b"")], "BadName (6);"),
 ];
 
 #[test]
-fn faulty_archives_are_refused(rt: HostRuntime) -> Result<(), Fail> {
-    for (text, archives) in &FAULTS {
-        for parts in *archives {
-            assert!(rt; is_told(rt.alloc(), parts, text)?);
-        }
-    }
+fn archives_are_read(rt: HostRuntime) -> Result<(), Fail> {
+    assert_eq!(rt; first_other(rt.alloc(), &ARCHIVES)?, None);
+    assert_eq!(rt; first_other(rt.alloc(), &FAULTS)?, None);
     Ok(())
 }
 
@@ -336,21 +342,5 @@ fn members_are_found_by_offset(rt: HostRuntime) -> Result<(), Fail> {
         assert_eq!(rt; found, data);
     }
     assert_eq!(rt; archive.bytes(), bytes.as_slice());
-    Ok(())
-}
-
-#[test]
-fn faults_of_archives_print_their_number(rt: HostRuntime) -> Result<(), Fail> {
-    for (fault, text) in [
-        (ArFault::Memory, "Memory (1)"),
-        (ArFault::NotArchive, "NotArchive (2)"),
-        (ArFault::Truncated, "Truncated (3)"),
-        (ArFault::BadHeader, "BadHeader (4)"),
-        (ArFault::BadIndex, "BadIndex (5)"),
-        (ArFault::BadName, "BadName (6)"),
-        (ArFault::TooMany, "TooMany (7)"),
-    ] {
-        assert_eq!(rt; format!(in rt.alloc(); "{fault}")?.as_str(), text);
-    }
     Ok(())
 }

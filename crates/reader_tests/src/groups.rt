@@ -147,6 +147,12 @@ fn object_of(
     Ok(bytes)
 }
 
+/// What becomes of such an object.
+fn outcome_of(alloc: Global, symbols: &SectionHeader, listing: &Listing) -> Result<String, Fail> {
+    let bytes = object_of(alloc, symbols, listing)?;
+    outcome(alloc, &bytes)
+}
+
 /// Section 5, the first two words, and what becomes of the object.
 static GROUP_SECTIONS: [(SectionHeader, [u32; 2], &str); 17] = [
     (GROUP_F, [1, 1], "read"),
@@ -240,9 +246,11 @@ fn good_group_sections_are_read(rt: HostRuntime) -> Result<(), Fail> {
             second: NULL_SECTION,
             words: [words[0], words[1], 0, 0, 0, 0],
         };
-        let bytes = object_of(rt.alloc(), &SYMBOLS, &listing)?;
-        assert_eq!(rt; outcome(rt.alloc(), &bytes)?.as_str(), *text);
+        let told = outcome_of(rt.alloc(), &SYMBOLS, &listing)?;
+        assert_eq!(rt; told.as_str(), *text, "{words:?}");
     }
+    let told = outcome_of(rt.alloc(), &TEXT, &PLAIN_GROUPS)?;
+    assert_eq!(rt; told.as_str(), "BadGroup (11)", "without a symbol table");
     Ok(())
 }
 
@@ -252,13 +260,6 @@ static PLAIN_GROUPS: Listing = Listing {
     second: LATER_G,
     words: [0, 1, 0, 0, 2, 2],
 };
-
-#[test]
-fn a_group_without_a_symbol_table_is_refused(rt: HostRuntime) -> Result<(), Fail> {
-    let bytes = object_of(rt.alloc(), &TEXT, &PLAIN_GROUPS)?;
-    assert_eq!(rt; outcome(rt.alloc(), &bytes)?.as_str(), "BadGroup (11)");
-    Ok(())
-}
 
 /// The groups of an object, each with its section, its flags, the bytes of its signature and its members.
 fn groups_of(alloc: Global, bytes: &[u8]) -> Result<String, Fail> {

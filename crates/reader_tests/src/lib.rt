@@ -1,5 +1,5 @@
 //! Tests of the crates that read and describe: bytes, records, objects, archives, words, maps, memory, tables of
-//! names, groups of sections.
+//! names, groups of sections, what a plan loads.
 #![tactic(auto)]
 
 #[cfg(test)]
@@ -12,6 +12,8 @@ mod memories;
 mod names;
 #[cfg(test)]
 mod objects;
+#[cfg(test)]
+mod plans;
 #[cfg(test)]
 mod records;
 #[cfg(test)]

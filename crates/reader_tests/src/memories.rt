@@ -5,7 +5,6 @@ use elf_model::{
 };
 use loader_model::{Memory, Rights};
 use std::alloc::{AllocError, Global};
-use std::process::Abort;
 use std::test::Fail;
 
 const HEADER: FileHeader = FileHeader {
@@ -94,81 +93,86 @@ fn one_segment(alloc: Global) -> Result<Vec<u8>, AllocError> {
     an_image(alloc, &HEADER, &[SEGMENT, STACK])
 }
 
-/// `loaded`, or the fault of an image.
-fn outcome_of(alloc: Global, image: &[u8]) -> Result<String, Fail> {
-    let text = match Memory::load(alloc, View::new(image)) {
+/// `loaded`, or the fault of the beginning of an image of these headers.
+fn outcome(
+    alloc: Global,
+    header: &FileHeader,
+    segments: &[ProgramHeader],
+    len: usize,
+) -> Result<String, Fail> {
+    let image = an_image(alloc, header, segments)?;
+    let text = match Memory::load(alloc, View::new(View::new(&image).part(0, len))) {
         Ok(_) => format!(in alloc; "loaded")?,
         Err(fault) => format!(in alloc; "{fault}")?,
     };
     Ok(text)
 }
 
-/// `loaded`, or the fault of an image of these headers.
-fn outcome(alloc: Global, header: &FileHeader, segments: &[ProgramHeader]) -> Result<String, Fail> {
-    let image = an_image(alloc, header, segments)?;
-    outcome_of(alloc, &image)
-}
-
 #[test]
 fn a_segment_is_bytes_and_then_zeros(rt: HostRuntime) -> Result<(), Fail> {
     let image = one_segment(rt.alloc())?;
     let memory = Memory::load(rt.alloc(), View::new(&image))?;
-    let bytes = [
+    let found = (
         memory.byte(0x40_0001),
         memory.byte(0x40_00b0),
         memory.byte(0x40_00c8),
-    ];
-    assert_eq!(rt; bytes, [Some(b'E'), Some(0), None]);
-    assert_eq!(rt; memory.rights(0x40_0000), Some(Rights::Read));
-    assert_eq!(rt; memory.entry(), 0x40_0000);
+        memory.rights(0x40_0000),
+        memory.entry(),
+    );
+    assert!(rt; found == (Some(b'E'), Some(0), None, Some(Rights::Read), 0x40_0000));
     Ok(())
+}
+
+/// Whether a memory tells the headers of its image, with these segments and blocks.
+fn tells(
+    memory: &Memory<'_>,
+    image: &[u8],
+    segments: &[ProgramHeader],
+    blocks: &[ProgramHeader],
+) -> bool {
+    memory.image() == image && memory.segments() == segments && memory.thread_blocks() == blocks
 }
 
 #[test]
 fn headers_are_the_files(rt: HostRuntime) -> Result<(), Fail> {
     let image = one_segment(rt.alloc())?;
     let memory = Memory::load(rt.alloc(), View::new(&image))?;
-    assert!(rt; memory.image() == image.as_slice());
-    assert!(rt; memory.header() == HEADER);
-    assert!(rt; memory.segments() == [SEGMENT].as_slice());
-    assert_eq!(rt; memory.thread_blocks().len(), 0);
+    let told = tells(&memory, &image, &[SEGMENT], &[]);
+    assert!(rt; told && memory.header() == HEADER);
     Ok(())
-}
-
-/// An image whose segment has a thread-local block.
-fn with_thread_block(alloc: Global) -> Result<Vec<u8>, AllocError> {
-    let whole = ProgramHeader {
-        p_memsz: 232,
-        ..LONG
-    };
-    an_image(alloc, &THREE, &[whole, BLOCK, STACK])
 }
 
 #[test]
 fn a_thread_block_is_told(rt: HostRuntime) -> Result<(), Fail> {
-    let image = with_thread_block(rt.alloc())?;
+    let whole = ProgramHeader {
+        p_memsz: 232,
+        ..LONG
+    };
+    let image = an_image(rt.alloc(), &THREE, &[whole, BLOCK, STACK])?;
     let memory = Memory::load(rt.alloc(), View::new(&image))?;
-    assert!(rt; memory.thread_blocks() == [BLOCK].as_slice());
+    assert!(rt; tells(&memory, &image, &[whole], &[BLOCK]));
     Ok(())
 }
 
-/// Asserts what runs a memory of `SEGMENT` has: of its bytes, of bytes and zeros, and none past either end.
-fn assert_runs(rt: &impl Abort, memory: &Memory<'_>) -> Result<(), Fail> {
-    let magic = memory.run(0x40_0000, 4).ok_or("mapped")?;
-    assert!(rt; magic.bytes == b"\x7fELF".as_slice());
-    let last = memory.run(0x40_00ac, 28).ok_or("mapped")?;
-    assert_eq!(rt; last.bytes.len(), 4);
-    assert_eq!(rt; [magic.zeros, last.zeros], [0, 24]);
-    assert!(rt; memory.run(0x40_00ac, 29).is_none());
-    assert!(rt; memory.run(0x3f_ffff, 2).is_none());
-    Ok(())
+/// The first bytes and the number of zeros of a run; None where there is none.
+fn run_of(memory: &Memory<'_>, address: u64, len: u64) -> Option<(usize, Option<u8>, u64)> {
+    let run = memory.run(address, len)?;
+    Some((run.bytes.len(), run.bytes.first().copied(), run.zeros))
 }
 
+/// Runs of bytes, of bytes and zeros, and past either end.
 #[test]
 fn runs_lie_in_one_segment(rt: HostRuntime) -> Result<(), Fail> {
     let image = one_segment(rt.alloc())?;
     let memory = Memory::load(rt.alloc(), View::new(&image))?;
-    assert_runs(&rt, &memory)?;
+    let magic = memory.run(0x40_0000, 4).ok_or("mapped")?;
+    let is_magic = magic.bytes == b"\x7fELF".as_slice() && magic.zeros == 0;
+    let others = [
+        run_of(&memory, 0x40_00ac, 28),
+        run_of(&memory, 0x40_00ac, 29),
+        run_of(&memory, 0x3f_ffff, 2),
+    ];
+    assert!(rt; is_magic && others == [Some((4, Some(0), 24)), None, None]);
     Ok(())
 }
 
@@ -195,35 +199,23 @@ const LONG: ProgramHeader = ProgramHeader {
     ..SEGMENT
 };
 
-/// Headers of images, and the fault that each has.
-static FAULTS: [(FileHeader, &[ProgramHeader], &str); 4] = [
-    (OBJECT, &[SEGMENT, STACK], "BadHeader (2)"),
-    (HEADER, &[ANY_RIGHT, STACK], "BadSegment (3)"),
-    (HEADER, &[STACK, SEGMENT], "Order (4)"),
-    (THREE, &[LONG, NEXT, STACK], "SharedPage (5)"),
+/// Headers of images, how many bytes of these are there, and what comes of them. The file header has 64 bytes, and two
+/// program headers end at 176.
+static FAULTS: [(FileHeader, &[ProgramHeader], usize, &str); 7] = [
+    (OBJECT, &[SEGMENT, STACK], 176, "BadHeader (2)"),
+    (HEADER, &[ANY_RIGHT, STACK], 176, "BadSegment (3)"),
+    (HEADER, &[STACK, SEGMENT], 176, "Order (4)"),
+    (THREE, &[LONG, NEXT, STACK], 232, "SharedPage (5)"),
+    (HEADER, &[SEGMENT, STACK], 63, "BadHeader (2)"),
+    (HEADER, &[SEGMENT, STACK], 175, "BadHeader (2)"),
+    (HEADER, &[SEGMENT, STACK], 176, "loaded"),
 ];
 
 #[test]
 fn faults_are_told(rt: HostRuntime) -> Result<(), Fail> {
-    for (header, segments, text) in &FAULTS {
-        assert_eq!(rt; outcome(rt.alloc(), header, segments)?.as_str(), *text);
-    }
-    Ok(())
-}
-
-#[test]
-fn a_beginning_is_no_image(rt: HostRuntime) -> Result<(), Fail> {
-    let image = one_segment(rt.alloc())?;
-    // The file header has 64 bytes, and both program headers end at 176.
-    for (len, text) in [
-        (63, "BadHeader (2)"),
-        (175, "BadHeader (2)"),
-        (176, "loaded"),
-    ] {
-        assert_eq!(rt;
-            outcome_of(rt.alloc(), View::new(&image).part(0, len))?.as_str(),
-            text
-        );
+    for (header, segments, len, text) in &FAULTS {
+        let found = outcome(rt.alloc(), header, segments, *len)?;
+        assert_eq!(rt; found.as_str(), *text, "{len} bytes");
     }
     Ok(())
 }

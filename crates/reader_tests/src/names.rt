@@ -193,11 +193,7 @@ fn indexed<'a>(alloc: Global) -> IndexedTable<'a, BuildHasherDefault<FoldHasher>
 #[test]
 fn the_list_is_a_table(rt: HostRuntime) -> Result<(), Fail> {
     mixes_kinds(&rt, &mut ListTable::new(rt.alloc()))?;
-    takes_a_list(&rt, &mut ListTable::new(rt.alloc()), b"f")
-}
-
-#[test]
-fn the_list_has_each_names_row(rt: HostRuntime) -> Result<(), Fail> {
+    takes_a_list(&rt, &mut ListTable::new(rt.alloc()), b"f")?;
     grows_commons(&rt, &mut ListTable::new(rt.alloc()))?;
     keeps_prefixes_apart(&rt, &mut ListTable::new(rt.alloc()), NAMES)
 }
@@ -205,11 +201,7 @@ fn the_list_has_each_names_row(rt: HostRuntime) -> Result<(), Fail> {
 #[test]
 fn the_index_is_a_table(rt: HostRuntime) -> Result<(), Fail> {
     mixes_kinds(&rt, &mut indexed(rt.alloc()))?;
-    takes_a_list(&rt, &mut indexed(rt.alloc()), b"f")
-}
-
-#[test]
-fn the_index_has_each_names_row(rt: HostRuntime) -> Result<(), Fail> {
+    takes_a_list(&rt, &mut indexed(rt.alloc()), b"f")?;
     grows_commons(&rt, &mut indexed(rt.alloc()))?;
     keeps_prefixes_apart(&rt, &mut indexed(rt.alloc()), NAMES)
 }

@@ -6,7 +6,6 @@ use elf_model::{
 };
 use elf_read::Object;
 use std::alloc::{AllocError, Global};
-use std::process::Abort;
 use std::test::Fail;
 
 pub const NULL_SECTION: SectionHeader = SectionHeader {
@@ -101,7 +100,7 @@ const CALL: Rela = Rela {
 };
 
 /// An object whose one symbol besides the null one is the function `_start`, in its `.text`.
-fn start_object(alloc: Global) -> Result<Vec<u8>, AllocError> {
+pub fn start_object(alloc: Global) -> Result<Vec<u8>, AllocError> {
     object_of(alloc, &HEADER, &TEXT_SECTION)
 }
 
@@ -133,6 +132,7 @@ fn object_of(
 /// The object of `_start` with one section more, and a relocation entry behind the table.
 fn relocated_object(
     alloc: Global,
+    text: &SectionHeader,
     relocations: &SectionHeader,
     entry: &Rela,
 ) -> Result<Vec<u8>, AllocError> {
@@ -140,7 +140,7 @@ fn relocated_object(
         e_shnum: 6,
         ..HEADER
     };
-    let mut bytes = object_of(alloc, &header, &TEXT_SECTION)?;
+    let mut bytes = object_of(alloc, &header, text)?;
     put_section(&mut bytes, relocations)?;
     let mut record = [0; 24];
     entry.write_to(&mut record);
@@ -174,35 +174,28 @@ pub fn outcome(alloc: Global, bytes: &[u8]) -> Result<String, Fail> {
     Ok(text)
 }
 
-/// Asserts the names of the sections and of the symbol of the object of `_start`.
-fn assert_names(rt: &impl Abort, object: &Object<'_>) {
-    assert!(rt; object.section_name(0) == Some(b"".as_slice()));
-    assert!(rt; object.section_name(1) == Some(b".text".as_slice()));
-    assert!(rt; object.section_name(4) == Some(b".shstrtab".as_slice()));
-    assert!(rt; object.section_name(5).is_none());
-    assert!(rt; object.name(1) == Some(b"_start".as_slice()));
-    assert!(rt; object.name(2).is_none());
+/// Whether the sections and the symbol of the object of `_start` have their names.
+fn has_names(object: &Object<'_>) -> bool {
+    object.section_name(0) == Some(b"".as_slice())
+        && object.section_name(1) == Some(b".text".as_slice())
+        && object.section_name(4) == Some(b".shstrtab".as_slice())
+        && object.section_name(5).is_none()
+        && object.name(1) == Some(b"_start".as_slice())
+        && object.name(2).is_none()
 }
 
-/// Asserts what that object answers by number, where it has such a section or symbol and where it has none.
-fn assert_by_number(rt: &impl Abort, object: &Object<'_>) {
-    assert!(rt; object.section(1) == TEXT_SECTION);
-    assert!(rt; object.section(5) == NULL_SECTION);
-    assert!(rt; object.symbol(1) == START);
-    assert!(rt; object.symbol(2) == NULL_SYMBOL);
-    assert!(rt; object.symbol_name(1) == b"_start".as_slice());
-    assert!(rt; object.symbol_name(2).is_empty());
+/// Whether that object answers by number, where it has such a section or symbol and where it has none.
+fn answers_by_number(object: &Object<'_>) -> bool {
+    object.section(1) == TEXT_SECTION
+        && object.section(5) == NULL_SECTION
+        && object.symbol(1) == START
+        && object.symbol(2) == NULL_SYMBOL
+        && object.symbol_name(1) == b"_start".as_slice()
+        && object.symbol_name(2).is_empty()
 }
 
-/// Asserts the bytes of the sections of that object.
-fn assert_bytes(rt: &impl Abort, object: &Object<'_>) {
-    assert!(rt; object.section_bytes(0).is_none());
-    assert!(rt; object.section_bytes(1) == Some(TEXT.as_slice()));
-    assert!(rt; object.section_bytes(5).is_none());
-}
-
-/// Asserts the tables of that object.
-fn assert_tables(rt: &impl Abort, object: &Object<'_>) {
+/// Whether that object has its tables, and its sections their bytes.
+fn has_tables(object: &Object<'_>) -> bool {
     let sections = [
         NULL_SECTION,
         TEXT_SECTION,
@@ -210,82 +203,84 @@ fn assert_tables(rt: &impl Abort, object: &Object<'_>) {
         strings(15, 128, 8),
         strings(23, 136, 33),
     ];
-    assert!(rt; object.sections() == sections.as_slice());
-    assert!(rt; object.symbols() == [NULL_SYMBOL, START].as_slice());
+    object.sections() == sections.as_slice()
+        && object.symbols() == [NULL_SYMBOL, START].as_slice()
+        && object.section_bytes(0).is_none()
+        && object.section_bytes(1) == Some(TEXT.as_slice())
+        && object.section_bytes(5).is_none()
 }
 
 #[test]
 fn an_object_is_read(rt: HostRuntime) -> Result<(), Fail> {
     let bytes = start_object(rt.alloc())?;
     let object = Object::read(rt.alloc(), View::new(&bytes))?;
-    assert_eq!(rt; bytes.len(), 496);
-    assert!(rt; object.bytes() == bytes.as_slice());
-    assert_tables(&rt, &object);
-    assert_names(&rt, &object);
-    assert_by_number(&rt, &object);
-    assert_bytes(&rt, &object);
+    let found = [
+        bytes.len() == 496 && object.bytes() == bytes.as_slice(),
+        has_tables(&object),
+        has_names(&object),
+        answers_by_number(&object),
+    ];
+    assert_eq!(rt; found, [true; 4]);
     Ok(())
 }
 
-/// Beginnings of the object of `_start`, by their length, and what becomes of them.
-static BEGINNINGS: [(usize, &str); 4] = [
-    (63, "Truncated (2)"),
-    (64, "BadSectionTable (6)"),
-    (495, "BadSectionTable (6)"),
-    (496, "read"),
-];
-
-#[test]
-fn a_beginning_is_no_object(rt: HostRuntime) -> Result<(), Fail> {
-    let bytes = start_object(rt.alloc())?;
-    let file = View::new(&bytes);
-    for (len, text) in BEGINNINGS {
-        assert_eq!(rt; outcome(rt.alloc(), file.part(0, len))?.as_str(), text);
-    }
-    Ok(())
-}
-
-/// Bytes of the object of `_start`, each by its offset with another value, and what becomes of the object.
-static FAULTS: [(usize, u8, &str); 13] = [
+/// Bytes of the object of `_start`, each by its offset with another value, how many of its bytes are there, and what
+/// becomes of it.
+static FAULTS: [(usize, u8, usize, &str); 17] = [
     // EI_CLASS, e_type, e_machine, e_shoff, e_shnum, and e_shstrndx, which names `.text`.
-    (4, 1, "NotElf64 (3)"),
-    (16, 2, "NotRelocatable (4)"),
-    (18, 3, "WrongMachine (5)"),
-    (47, 0xff, "BadSectionTable (6)"),
-    (60, 6, "BadSectionTable (6)"),
-    (62, 1, "BadSectionTable (6)"),
+    (4, 1, 496, "NotElf64 (3)"),
+    (16, 2, 496, "NotRelocatable (4)"),
+    (18, 3, 496, "WrongMachine (5)"),
+    (47, 0xff, 496, "BadSectionTable (6)"),
+    (60, 6, 496, "BadSectionTable (6)"),
+    (62, 1, 496, "BadSectionTable (6)"),
     // The type of section 0; the offset, the name and the type of `.text`, which becomes a second symbol table.
-    (180, 1, "BadSectionTable (6)"),
-    (271, 0xff, "BadSectionRange (7)"),
-    (243, 0xff, "BadString (8)"),
-    (244, 2, "BadSymbolTable (9)"),
+    (180, 1, 496, "BadSectionTable (6)"),
+    (271, 0xff, 496, "BadSectionRange (7)"),
+    (243, 0xff, 496, "BadString (8)"),
+    (244, 2, 496, "BadSymbolTable (9)"),
     // The name, the binding and the section of `_start`.
-    (104, 8, "BadString (8)"),
-    (108, 0x32, "BadSymbolTable (9)"),
-    (110, 5, "BadSymbolTable (9)"),
+    (104, 8, 496, "BadString (8)"),
+    (108, 0x32, 496, "BadSymbolTable (9)"),
+    (110, 5, 496, "BadSymbolTable (9)"),
+    // Its beginnings.
+    (0, 0x7f, 63, "Truncated (2)"),
+    (0, 0x7f, 64, "BadSectionTable (6)"),
+    (0, 0x7f, 495, "BadSectionTable (6)"),
+    (0, 0x7f, 496, "read"),
 ];
+
+/// What becomes of the object of `_start` with another byte, of which so many bytes are there.
+fn changed(alloc: Global, at: usize, byte: u8, len: usize) -> Result<String, Fail> {
+    let mut bytes = start_object(alloc)?;
+    *bytes.get_mut(at).ok_or("the object")? = byte;
+    outcome(alloc, View::new(&bytes).part(0, len))
+}
 
 #[test]
 fn faulty_objects_are_refused(rt: HostRuntime) -> Result<(), Fail> {
-    for (at, byte, text) in FAULTS {
-        let mut bytes = start_object(rt.alloc())?;
-        *bytes.get_mut(at).ok_or("the object")? = byte;
-        assert_eq!(rt; outcome(rt.alloc(), &bytes)?.as_str(), text);
+    for (at, byte, len, text) in FAULTS {
+        let found = changed(rt.alloc(), at, byte, len)?;
+        assert_eq!(rt; found.as_str(), text, "{byte} at {at} of {len}");
     }
     Ok(())
+}
+
+/// Whether an object whose relocations are section 5 tells one entry, by a section that relocates and by others.
+fn tells_entry(object: &Object<'_>) -> bool {
+    object.relas(5) == Some([CALL].as_slice())
+        && object.relas(1).is_none()
+        && object.relas(6).is_none()
+        && object.entries(5) == [CALL].as_slice()
+        && object.entries(1).is_empty()
 }
 
 #[test]
 fn relocations_are_read(rt: HostRuntime) -> Result<(), Fail> {
-    let bytes = relocated_object(rt.alloc(), &RELOCATIONS, &CALL)?;
+    let bytes = relocated_object(rt.alloc(), &TEXT_SECTION, &RELOCATIONS, &CALL)?;
     let object = Object::read(rt.alloc(), View::new(&bytes))?;
-    assert!(rt; object.relas(5) == Some([CALL].as_slice()));
-    assert_eq!(rt; CALL.symbol(), 1);
-    assert_eq!(rt; CALL.kind(), 4);
-    assert!(rt; object.relas(1).is_none());
-    assert!(rt; object.relas(6).is_none());
-    assert!(rt; object.entries(5) == [CALL].as_slice());
-    assert!(rt; object.entries(1).is_empty());
+    let told = tells_entry(&object);
+    assert!(rt; told && CALL.symbol() == 1 && CALL.kind() == 4);
     Ok(())
 }
 
@@ -295,17 +290,24 @@ fn no_relocation_is_lawful(rt: HostRuntime) -> Result<(), Fail> {
         sh_size: 0,
         ..RELOCATIONS
     };
-    let bytes = relocated_object(rt.alloc(), &relocations, &CALL)?;
+    let bytes = relocated_object(rt.alloc(), &TEXT_SECTION, &relocations, &CALL)?;
     let object = Object::read(rt.alloc(), View::new(&bytes))?;
     assert!(rt; object.relas(5) == Some([].as_slice()));
     Ok(())
 }
 
-/// RELA sections and entries, with what becomes of their object.
-static RELOCATED: [(SectionHeader, Rela, &str); 7] = [
-    (RELOCATIONS, CALL, "read"),
+/// `.text` without bytes in the file.
+const NO_BYTES: SectionHeader = SectionHeader {
+    sh_type: SHT_NOBITS,
+    ..TEXT_SECTION
+};
+
+/// `.text`, RELA sections and entries, with what becomes of their object.
+static RELOCATED: [(SectionHeader, SectionHeader, Rela, &str); 8] = [
+    (TEXT_SECTION, RELOCATIONS, CALL, "read"),
     // A relocation of no symbol.
     (
+        TEXT_SECTION,
         RELOCATIONS,
         Rela {
             r_info: 0x2_0000_0004,
@@ -315,6 +317,7 @@ static RELOCATED: [(SectionHeader, Rela, &str); 7] = [
     ),
     // Entries without addends, half an entry, a link to strings.
     (
+        TEXT_SECTION,
         SectionHeader {
             sh_type: SHT_REL,
             ..RELOCATIONS
@@ -323,6 +326,7 @@ static RELOCATED: [(SectionHeader, Rela, &str); 7] = [
         "BadRela (10)",
     ),
     (
+        TEXT_SECTION,
         SectionHeader {
             sh_size: 12,
             ..RELOCATIONS
@@ -331,6 +335,7 @@ static RELOCATED: [(SectionHeader, Rela, &str); 7] = [
         "BadRela (10)",
     ),
     (
+        TEXT_SECTION,
         SectionHeader {
             sh_link: 3,
             ..RELOCATIONS
@@ -338,8 +343,9 @@ static RELOCATED: [(SectionHeader, Rela, &str); 7] = [
         CALL,
         "BadRela (10)",
     ),
-    // Relocations of strings, and of a section past the table.
+    // Relocations of strings, of a section past the table, and of no bytes.
     (
+        TEXT_SECTION,
         SectionHeader {
             sh_info: 3,
             ..RELOCATIONS
@@ -348,6 +354,7 @@ static RELOCATED: [(SectionHeader, Rela, &str); 7] = [
         "BadRela (10)",
     ),
     (
+        TEXT_SECTION,
         SectionHeader {
             sh_info: 6,
             ..RELOCATIONS
@@ -355,30 +362,24 @@ static RELOCATED: [(SectionHeader, Rela, &str); 7] = [
         CALL,
         "BadRela (10)",
     ),
+    (
+        NO_BYTES,
+        RELOCATIONS,
+        Rela {
+            r_offset: 0,
+            r_info: 0,
+            r_addend: 0,
+        },
+        "BadRela (10)",
+    ),
 ];
 
 #[test]
 fn bad_relocation_sections_are_refused(rt: HostRuntime) -> Result<(), Fail> {
-    for (section, entry, text) in &RELOCATED {
-        let bytes = relocated_object(rt.alloc(), section, entry)?;
-        assert_eq!(rt; outcome(rt.alloc(), &bytes)?.as_str(), *text);
+    for (number, (text, section, entry, wanted)) in RELOCATED.iter().enumerate() {
+        let bytes = relocated_object(rt.alloc(), text, section, entry)?;
+        let found = outcome(rt.alloc(), &bytes)?;
+        assert_eq!(rt; found.as_str(), *wanted, "row {number}");
     }
-    Ok(())
-}
-
-#[test]
-fn relocations_of_no_bytes_are_refused(rt: HostRuntime) -> Result<(), Fail> {
-    let header = FileHeader {
-        e_shnum: 6,
-        ..HEADER
-    };
-    let text = SectionHeader {
-        sh_type: SHT_NOBITS,
-        ..TEXT_SECTION
-    };
-    let mut bytes = object_of(rt.alloc(), &header, &text)?;
-    put_section(&mut bytes, &RELOCATIONS)?;
-    bytes.extend_from_slice(&[0; 24])?;
-    assert_eq!(rt; outcome(rt.alloc(), &bytes)?.as_str(), "BadRela (10)");
     Ok(())
 }

@@ -1,10 +1,11 @@
 //! Records of ELF files, the texts of faults, and what becomes of refused memory.
 use byteview::View;
 use elf_model::{
-    CmdFault, FileHeader, GroupFault, LinkError, LoadFault, MapFault, ObjFault, PF_R, PT_LOAD,
-    ProgramHeader, Rela, STB_GLOBAL, STT_FUNC, SectionHeader, Symbol,
+    ArFault, CmdFault, FileHeader, GroupFault, LinkError, LoadFault, MapFault, ObjFault, PF_R,
+    PT_LOAD, ProgramHeader, Rela, STB_GLOBAL, STT_FUNC, SectionHeader, Symbol,
 };
 use std::alloc::{AllocError, AllocFailed, Global};
+use std::fmt::Display;
 use std::process::Abort;
 use std::test::Fail;
 
@@ -99,37 +100,53 @@ fn section_of(sh_type: u32, sh_flags: u64) -> SectionHeader {
     }
 }
 
-// SHF_WRITE is 1, SHF_ALLOC 2, SHF_EXECINSTR 4 and SHF_TLS 0x400; 0xbf8 has all other flags up to 0x800.
-// SHT_NULL is 0, SHT_PROGBITS 1, SHT_NOBITS 8 and SHT_REL 9.
+/// What a section header tells of its flags and its type: writable, in memory, executable, thread-local, without bytes.
+fn told(sh_type: u32, sh_flags: u64) -> [bool; 5] {
+    let header = section_of(sh_type, sh_flags);
+    [
+        header.is_writable(),
+        header.is_alloc(),
+        header.is_executable(),
+        header.is_thread_local(),
+        header.is_nobits(),
+    ]
+}
+
+/// Types and flags: SHF_WRITE is 1, SHF_ALLOC 2, SHF_EXECINSTR 4 and SHF_TLS 0x400; 0xbf8 has all other flags up to 0x800.
+/// SHT_NULL is 0, SHT_PROGBITS 1, SHT_NOBITS 8 and SHT_REL 9.
+static TOLD: [(u32, u64, [bool; 5]); 11] = [
+    (1, 0, [false, false, false, false, false]),
+    (1, 1, [true, false, false, false, false]),
+    (1, 2, [false, true, false, false, false]),
+    (1, 4, [false, false, true, false, false]),
+    (1, 0x400, [false, false, false, true, false]),
+    (1, 0x407, [true, true, true, true, false]),
+    (1, 0xbf8, [false, false, false, false, false]),
+    (0, 2, [false, true, false, false, false]),
+    (1, 2, [false, true, false, false, false]),
+    (8, 2, [false, true, false, false, true]),
+    (9, 2, [false, true, false, false, false]),
+];
+
 #[test]
 fn a_section_header_tells_its_flags_and_nobits(rt: HostRuntime) {
-    for (flags, writable, alloc, executable, thread_local) in [
-        (0, false, false, false, false),
-        (1, true, false, false, false),
-        (2, false, true, false, false),
-        (4, false, false, true, false),
-        (0x400, false, false, false, true),
-        (0x407, true, true, true, true),
-        (0xbf8, false, false, false, false),
-    ] {
-        let header = section_of(1, flags);
-        assert_eq!(rt; header.is_writable(), writable);
-        assert_eq!(rt; header.is_alloc(), alloc);
-        assert_eq!(rt; header.is_executable(), executable);
-        assert_eq!(rt; header.is_thread_local(), thread_local);
-    }
-    for (kind, nobits) in [(0, false), (1, false), (8, true), (9, false)] {
-        assert_eq!(rt; section_of(kind, 2).is_nobits(), nobits);
+    for (sh_type, sh_flags, wanted) in TOLD {
+        assert_eq!(rt; told(sh_type, sh_flags), wanted, "{sh_type} {sh_flags}");
     }
 }
 
 #[test]
 fn a_symbol_is_read_and_written(rt: HostRuntime) -> Result<(), Fail> {
     let start = Symbol::read(View::new(&START)).ok_or("24 bytes")?;
-    assert_eq!(rt; start.st_info >> 4, STB_GLOBAL);
-    assert_eq!(rt; start.st_info & 15, STT_FUNC);
-    assert_eq!(rt; start.st_shndx, 1);
-    assert_eq!(rt; start.st_size, 9);
+    let wanted = Symbol {
+        st_name: 1,
+        st_info: STB_GLOBAL << 4 | STT_FUNC,
+        st_other: 0,
+        st_shndx: 1,
+        st_value: 0,
+        st_size: 9,
+    };
+    assert_eq!(rt; start, wanted);
     let mut out = [0; 24];
     start.write_to(&mut out);
     assert_eq!(rt; out, START);
@@ -140,11 +157,17 @@ fn a_symbol_is_read_and_written(rt: HostRuntime) -> Result<(), Fail> {
 #[test]
 fn a_program_header_is_read_and_written(rt: HostRuntime) -> Result<(), Fail> {
     let headers = ProgramHeader::read(View::new(&HEADERS)).ok_or("56 bytes")?;
-    assert_eq!(rt; headers.p_type, PT_LOAD);
-    assert_eq!(rt; headers.p_flags, PF_R);
-    assert_eq!(rt; headers.p_vaddr, 0x40_0000);
-    assert_eq!(rt; headers.p_memsz, 0xe8);
-    assert_eq!(rt; headers.p_align, 0x1000);
+    let wanted = ProgramHeader {
+        p_type: PT_LOAD,
+        p_flags: PF_R,
+        p_offset: 0,
+        p_vaddr: 0x40_0000,
+        p_paddr: 0x40_0000,
+        p_filesz: 0xe8,
+        p_memsz: 0xe8,
+        p_align: 0x1000,
+    };
+    assert_eq!(rt; headers, wanted);
     let mut out = [0; 56];
     headers.write_to(&mut out);
     assert_eq!(rt; out, HEADERS);
@@ -168,71 +191,93 @@ fn an_addend_has_a_sign(rt: HostRuntime) -> Result<(), Fail> {
     Ok(())
 }
 
-#[test]
-fn faults_of_words_print_their_number(rt: HostRuntime) -> Result<(), Fail> {
-    for (fault, text) in [
-        (CmdFault::Memory, "Memory (1)"),
-        (CmdFault::UnknownOption, "UnknownOption (2)"),
-        (CmdFault::MissingValue, "MissingValue (3)"),
-        (CmdFault::BadNumber, "BadNumber (4)"),
-        (CmdFault::GroupNesting, "GroupNesting (5)"),
-        (CmdFault::NoInput, "NoInput (6)"),
-        (CmdFault::NotArchiveInGroup, "NotArchiveInGroup (7)"),
-    ] {
-        assert_eq!(rt; format!(in rt.alloc(); "{fault}")?.as_str(), text);
+/// The texts of faults, one after the other.
+fn texts<F: Display>(alloc: Global, faults: &[F]) -> Result<String, Fail> {
+    let mut text = String::new(alloc);
+    for fault in faults {
+        text.push_str(&format!(in alloc; "{fault};")?)?;
     }
-    Ok(())
+    Ok(text)
 }
 
-#[test]
-fn faults_of_objects_print_their_number(rt: HostRuntime) -> Result<(), Fail> {
-    for (fault, text) in [
-        (ObjFault::Memory, "Memory (1)"),
-        (ObjFault::Truncated, "Truncated (2)"),
-        (ObjFault::NotElf64, "NotElf64 (3)"),
-        (ObjFault::NotRelocatable, "NotRelocatable (4)"),
-        (ObjFault::WrongMachine, "WrongMachine (5)"),
-        (ObjFault::BadSectionTable, "BadSectionTable (6)"),
-        (ObjFault::BadSectionRange, "BadSectionRange (7)"),
-        (ObjFault::BadString, "BadString (8)"),
-        (ObjFault::BadSymbolTable, "BadSymbolTable (9)"),
-        (ObjFault::BadRela, "BadRela (10)"),
-        (ObjFault::BadGroup, "BadGroup (11)"),
-        (ObjFault::TooMany, "TooMany (12)"),
-    ] {
-        assert_eq!(rt; format!(in rt.alloc(); "{fault}")?.as_str(), text);
-    }
-    Ok(())
-}
+static WORDS: [CmdFault; 7] = [
+    CmdFault::Memory,
+    CmdFault::UnknownOption,
+    CmdFault::MissingValue,
+    CmdFault::BadNumber,
+    CmdFault::GroupNesting,
+    CmdFault::NoInput,
+    CmdFault::NotArchiveInGroup,
+];
+
+static OBJECTS: [ObjFault; 12] = [
+    ObjFault::Memory,
+    ObjFault::Truncated,
+    ObjFault::NotElf64,
+    ObjFault::NotRelocatable,
+    ObjFault::WrongMachine,
+    ObjFault::BadSectionTable,
+    ObjFault::BadSectionRange,
+    ObjFault::BadString,
+    ObjFault::BadSymbolTable,
+    ObjFault::BadRela,
+    ObjFault::BadGroup,
+    ObjFault::TooMany,
+];
+
+static ARCHIVES: [ArFault; 7] = [
+    ArFault::Memory,
+    ArFault::NotArchive,
+    ArFault::Truncated,
+    ArFault::BadHeader,
+    ArFault::BadIndex,
+    ArFault::BadName,
+    ArFault::TooMany,
+];
+
+static GROUPS: [GroupFault; 4] = [
+    GroupFault::Memory,
+    GroupFault::NamelessSignature,
+    GroupFault::BadFlags,
+    GroupFault::TwoGroups,
+];
+
+static IMAGES: [LoadFault; 5] = [
+    LoadFault::Memory,
+    LoadFault::BadHeader,
+    LoadFault::BadSegment,
+    LoadFault::Order,
+    LoadFault::SharedPage,
+];
+
+static MAPS: [MapFault; 2] = [MapFault::Memory, MapFault::Line(4)];
 
 #[test]
-fn faults_of_groups_print_their_number(rt: HostRuntime) -> Result<(), Fail> {
-    for (fault, text) in [
-        (GroupFault::Memory, "Memory (1)"),
-        (GroupFault::NamelessSignature, "NamelessSignature (2)"),
-        (GroupFault::BadFlags, "BadFlags (3)"),
-        (GroupFault::TwoGroups, "TwoGroups (4)"),
-    ] {
-        assert_eq!(rt; format!(in rt.alloc(); "{fault}")?.as_str(), text);
-    }
-    Ok(())
-}
-
-#[test]
-fn faults_of_images_and_maps_print_their_number(rt: HostRuntime) -> Result<(), Fail> {
-    for (fault, text) in [
-        (LoadFault::Memory, "Memory (1)"),
-        (LoadFault::BadHeader, "BadHeader (2)"),
-        (LoadFault::BadSegment, "BadSegment (3)"),
-        (LoadFault::Order, "Order (4)"),
-        (LoadFault::SharedPage, "SharedPage (5)"),
-    ] {
-        assert_eq!(rt; format!(in rt.alloc(); "{fault}")?.as_str(), text);
-    }
-    let memory = format!(in rt.alloc(); "{}", MapFault::Memory)?;
-    assert_eq!(rt; memory.as_str(), "Memory (1)");
-    let line = format!(in rt.alloc(); "{}", MapFault::Line(4))?;
-    assert_eq!(rt; line.as_str(), "Line 4 (2)");
+fn faults_print_their_number(rt: HostRuntime) -> Result<(), Fail> {
+    assert_eq!(rt;
+        texts(rt.alloc(), &WORDS)?.as_str(),
+        "Memory (1);UnknownOption (2);MissingValue (3);BadNumber (4);GroupNesting (5);NoInput (6);NotArchiveInGroup (7);"
+    );
+    assert_eq!(rt;
+        texts(rt.alloc(), &OBJECTS)?.as_str(),
+        "Memory (1);Truncated (2);NotElf64 (3);NotRelocatable (4);WrongMachine (5);BadSectionTable (6);BadSectionRange (7);BadString (8);BadSymbolTable (9);BadRela (10);BadGroup (11);TooMany (12);"
+    );
+    assert_eq!(rt;
+        texts(rt.alloc(), &ARCHIVES)?.as_str(),
+        "Memory (1);NotArchive (2);Truncated (3);BadHeader (4);BadIndex (5);BadName (6);TooMany (7);"
+    );
+    assert_eq!(rt;
+        texts(rt.alloc(), &GROUPS)?.as_str(),
+        "Memory (1);NamelessSignature (2);BadFlags (3);TwoGroups (4);"
+    );
+    assert_eq!(rt;
+        texts(rt.alloc(), &IMAGES)?.as_str(),
+        "Memory (1);BadHeader (2);BadSegment (3);Order (4);SharedPage (5);"
+    );
+    assert_eq!(rt;
+        texts(rt.alloc(), &MAPS)?.as_str(),
+        "Memory (1);Line 4 (2);"
+    );
     Ok(())
 }
 
@@ -244,17 +289,21 @@ fn prints(rt: &impl Abort, alloc: Global, error: LinkError, text: &str) -> Resul
 #[test]
 fn refusals_print_their_number(rt: HostRuntime) -> Result<(), Fail> {
     let alloc = rt.alloc();
-    let words = LinkError::Command(CmdFault::NoInput);
-    prints(&rt, alloc, words, "Command (2): NoInput (6)")?;
-    let object = LinkError::BadObject(ObjFault::Truncated);
-    prints(&rt, alloc, object, "BadObject (4): Truncated (2)")?;
     let name = Vec::from_slice(alloc, b"f")?;
     prints(&rt, alloc, LinkError::Duplicate(name), "Duplicate (9)")?;
     let name = Vec::from_slice(alloc, b"f")?;
     prints(&rt, alloc, LinkError::Undefined(name), "Undefined (10)")?;
     for (error, text) in [
         (LinkError::Memory, "Memory (1)"),
+        (
+            LinkError::Command(CmdFault::NoInput),
+            "Command (2): NoInput (6)",
+        ),
         (LinkError::FileMissing, "FileMissing (3)"),
+        (
+            LinkError::BadObject(ObjFault::Truncated),
+            "BadObject (4): Truncated (2)",
+        ),
         (LinkError::SectionKind, "SectionKind (7)"),
         (LinkError::RefToDropped, "RefToDropped (11)"),
         (LinkError::RelocKind, "RelocKind (12)"),
@@ -280,13 +329,16 @@ fn no_room() -> AllocFailed<u8> {
 
 #[test]
 fn refused_memory_is_a_fault(rt: HostRuntime) {
-    assert!(rt; matches!(CmdFault::from(AllocError), CmdFault::Memory));
-    assert!(rt; matches!(CmdFault::from(no_room()), CmdFault::Memory));
-    assert!(rt; matches!(ObjFault::from(AllocError), ObjFault::Memory));
-    assert!(rt; matches!(GroupFault::from(AllocError), GroupFault::Memory));
-    assert!(rt; matches!(GroupFault::from(no_room()), GroupFault::Memory));
-    assert!(rt; matches!(LoadFault::from(AllocError), LoadFault::Memory));
-    assert!(rt; matches!(MapFault::from(AllocError), MapFault::Memory));
-    assert!(rt; matches!(&LinkError::from(AllocError), LinkError::Memory));
-    assert!(rt; matches!(&LinkError::from(no_room()), LinkError::Memory));
+    let found = [
+        matches!(CmdFault::from(AllocError), CmdFault::Memory),
+        matches!(CmdFault::from(no_room()), CmdFault::Memory),
+        matches!(ObjFault::from(AllocError), ObjFault::Memory),
+        matches!(GroupFault::from(AllocError), GroupFault::Memory),
+        matches!(GroupFault::from(no_room()), GroupFault::Memory),
+        matches!(LoadFault::from(AllocError), LoadFault::Memory),
+        matches!(MapFault::from(AllocError), MapFault::Memory),
+        matches!(&LinkError::from(AllocError), LinkError::Memory),
+        matches!(&LinkError::from(no_room()), LinkError::Memory),
+    ];
+    assert_eq!(rt; found, [true; 9]);
 }

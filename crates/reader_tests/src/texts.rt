@@ -115,44 +115,39 @@ fn wrong_lines_are_found(rt: HostRuntime) -> Result<(), Fail> {
     Ok(())
 }
 
-/// Texts, and the line of each at which it is no beginning of a map.
-static WRONG_TEXTS: [(&[u8], u64); 5] = [
-    (SAME_PLACE_TWICE, 4),
-    (ZERO_IN_FRONT, 3),
-    (b"", 1),
-    (b"ldmap 1\n", 2),
-    (b"ldmap 1\nend\n\n", 3),
+/// Texts, how many of their bytes are there, and the line at which these are no beginning of a map: of the last two, the
+/// one lacks its last newline, the other its last line.
+static WRONG_TEXTS: [(&[u8], usize, u64); 7] = [
+    (SAME_PLACE_TWICE, usize::MAX, 4),
+    (ZERO_IN_FRONT, usize::MAX, 3),
+    (b"", 0, 1),
+    (b"ldmap 1\n", usize::MAX, 2),
+    (b"ldmap 1\nend\n\n", usize::MAX, 3),
+    (ONE_OBJECT, 105, 5),
+    (ONE_OBJECT, 102, 5),
 ];
 
 #[test]
 fn finds_the_first_wrong_line(rt: HostRuntime) {
-    for (text, line) in WRONG_TEXTS {
-        let len = text.len();
-        assert_eq!(rt; wrong_line(rt.alloc(), text), line, "of {len} bytes");
+    for (text, len, line) in WRONG_TEXTS {
+        let found = wrong_line(rt.alloc(), View::new(text).part(0, len));
+        assert_eq!(rt; found, line, "{len} of it");
     }
 }
 
-#[test]
-fn beginnings_are_wrong_at_their_last_line(rt: HostRuntime) {
-    // Without the last newline, and without the last line.
-    let beginning = View::new(ONE_OBJECT);
-    for len in [105, 102] {
-        assert_eq!(rt;
-            wrong_line(rt.alloc(), beginning.part(0, len)),
-            5,
-            "of {len} bytes"
-        );
-    }
-}
+/// Names, and how a map spells them.
+static SPELLINGS: [(&[u8], &[u8]); 3] = [
+    (b"a b\\", b"a\\x20b\\x5c"),
+    (b".text", b".text"),
+    (b"\n\x7f\xc3!~", b"\\x0a\\x7f\\xc3!~"),
+];
 
 #[test]
 fn escapes_names(rt: HostRuntime) -> Result<(), Fail> {
-    let spelling = escape(rt.alloc(), b"a b\\")?;
-    assert!(rt; spelling.as_slice() == b"a\\x20b\\x5c".as_slice());
-    let plain = escape(rt.alloc(), b".text")?;
-    assert!(rt; plain.as_slice() == b".text".as_slice());
-    let bytes = escape(rt.alloc(), b"\n\x7f\xc3!~")?;
-    assert!(rt; bytes.as_slice() == b"\\x0a\\x7f\\xc3!~".as_slice());
+    for (name, spelling) in &SPELLINGS {
+        let found = escape(rt.alloc(), name)?;
+        assert!(rt; found.as_slice() == *spelling, "{name:?}");
+    }
     Ok(())
 }
 
@@ -194,19 +189,11 @@ fn map_of(alloc: Global, number: u64) -> Result<LinkMap, AllocError> {
 }
 
 #[test]
-fn prints_its_lines(rt: HostRuntime) -> Result<(), Fail> {
-    let map = map_of(rt.alloc(), 0)?;
-    assert!(rt; ordered(&map));
-    let printed = print(rt.alloc(), &map)?;
-    assert!(rt; printed.as_slice() == ONE_OBJECT);
-    Ok(())
-}
-
-#[test]
 fn keys_ascend(rt: HostRuntime) -> Result<(), Fail> {
     let alloc = rt.alloc();
     assert!(rt; !ordered(&map_of(alloc, 1)?));
     let mut map = map_of(alloc, 0)?;
+    assert!(rt; ordered(&map) && print(alloc, &map)?.as_slice() == ONE_OBJECT);
     for (object, section) in [(0, 9), (0, 10), (1, 2)] {
         map.drops.push(DropLine { object, section })?;
         assert!(rt; ordered(&map));

@@ -10,20 +10,14 @@ static INDEX: [u8; 10] = [0, 0, 0, 1, 0, 0, 0, 0x4e, b'f', 0];
 static OFFSET: [u8; 8] = [0xb0, 0, 0, 0, 0, 0, 0, 0];
 
 #[test]
-fn numbers_begin_with_their_high_byte(rt: HostRuntime) {
+fn numbers_are_read_by_their_bytes(rt: HostRuntime) {
     let index = View::new(&INDEX);
-    let numbers = [index.u32be(0), index.u32be(4), index.u32be(7)];
-    assert_eq!(rt; numbers, [Some(1), Some(78), None]);
+    let high_first = [index.u32be(0), index.u32be(4), index.u32be(7)];
+    assert_eq!(rt; high_first, [Some(1), Some(78), None]);
     assert_eq!(rt; index.u64be(0), Some(0x1_0000_004e));
-}
-
-#[test]
-fn numbers_begin_with_their_low_byte(rt: HostRuntime) {
     let offset = View::new(&OFFSET);
-    assert_eq!(rt;
-        [offset.u16le(0), offset.u16le(usize::MAX)],
-        [Some(176), None]
-    );
+    let two = [offset.u16le(0), offset.u16le(usize::MAX)];
+    assert_eq!(rt; two, [Some(176), None]);
     assert_eq!(rt; offset.u32le(0), Some(176));
     assert_eq!(rt; [offset.u64le(0), offset.u64le(1)], [Some(176), None]);
     assert_eq!(rt; View::new(&[0xff; 8]).i64le(0), Some(-1));
@@ -32,10 +26,13 @@ fn numbers_begin_with_their_low_byte(rt: HostRuntime) {
 #[test]
 fn numbers_inside_are_read(rt: HostRuntime) -> Result<(), Fail> {
     let index = View::new(&INDEX).sub(2, 8).ok_or("inside")?;
-    assert_eq!(rt; index.u8_inside(5), 0x4e);
-    assert_eq!(rt; index.u16_inside(5), 0x664e);
-    assert_eq!(rt; index.u32_inside(2), 0x4e00_0000);
-    assert_eq!(rt; index.u64_inside(0), 0x0066_4e00_0000_0100);
+    let found = (
+        index.u8_inside(5),
+        index.u16_inside(5),
+        index.u32_inside(2),
+        index.u64_inside(0),
+    );
+    assert!(rt; found == (0x4e, 0x664e, 0x4e00_0000, 0x0066_4e00_0000_0100));
     Ok(())
 }
 
@@ -57,32 +54,22 @@ fn parts_end_inside(rt: HostRuntime) {
 }
 
 #[test]
-fn parts_have_their_bytes(rt: HostRuntime) -> Result<(), Fail> {
+fn parts_and_texts_have_their_bytes(rt: HostRuntime) -> Result<(), Fail> {
     let name = View::new(&INDEX).sub(8, 2).ok_or("inside")?;
-    assert_eq!(rt; name.len(), 2);
-    assert!(rt; !name.is_empty());
-    assert_eq!(rt; name.u8_inside(0), b'f');
-    assert!(rt; name.bytes() == b"f\0".as_slice());
-    assert!(rt; View::new(&[]).is_empty());
+    assert!(rt; name.bytes() == b"f\0".as_slice() && name.u8_inside(0) == b'f');
+    assert!(rt; name.len() == 2 && !name.is_empty() && View::new(&[]).is_empty());
+    let index = View::new(&INDEX);
+    assert!(rt; index.text_at(8) == Some(b"f".as_slice()));
+    assert!(rt; index.text_at(9) == Some(b"".as_slice()) && index.text_at(10).is_none());
+    assert_eq!(rt; [index.text_limit(), View::new(b"f").text_limit()], [10, 0]);
     Ok(())
 }
 
 #[test]
-fn texts_end_before_their_nul(rt: HostRuntime) {
-    let index = View::new(&INDEX);
-    assert!(rt; index.text_at(8) == Some(b"f".as_slice()));
-    assert!(rt; index.text_at(9) == Some(b"".as_slice()));
-    assert!(rt; index.text_at(10).is_none());
-    assert_eq!(rt; index.text_limit(), 10);
-    assert_eq!(rt; View::new(b"f").text_limit(), 0);
-}
-
-#[test]
 fn runs_are_compared_whole(rt: HostRuntime) {
-    assert!(rt; equal_run(&INDEX, &INDEX));
-    assert!(rt; !equal_run(&INDEX, &OFFSET));
-    assert!(rt; all_byte(&[0x90; 5], 0x90));
-    assert!(rt; !all_byte(&OFFSET, 0));
+    let equal = [equal_run(&INDEX, &INDEX), equal_run(&INDEX, &OFFSET)];
+    let all = [all_byte(&[0x90; 5], 0x90), all_byte(&OFFSET, 0)];
+    assert_eq!(rt; [equal, all], [[true, false], [true, false]]);
 }
 
 /// Whether two runs of the same length have the same bytes, byte by byte.

@@ -19,15 +19,9 @@ pub struct Section<'a> {
     pub signature: u32,
 }
 
-/// A relocation of a section, by the section's and the symbol's number.
+/// A relocation: the number of the section, the offset in it, the kind, the number of the symbol and the addend.
 #[derive(Clone, Copy)]
-pub struct Relocation {
-    pub section: u32,
-    pub offset: u64,
-    pub kind: u32,
-    pub symbol: u32,
-    pub addend: i64,
-}
+pub struct Relocation(pub u32, pub u64, pub u32, pub u32, pub i64);
 
 /// A symbol; the first one of an object has the number 1. Local symbols stand before the others.
 #[derive(Clone, Copy)]
@@ -126,7 +120,7 @@ impl Draft {
     ) -> Result<(), Fail> {
         let mut entries = Vec::new(*self.bytes.allocator());
         for relocation in relocations {
-            if relocation.section == section {
+            if relocation.0 == section {
                 entries.extend_from_slice(&entry_bytes(relocation))?;
             }
         }
@@ -177,10 +171,11 @@ impl Draft {
 
 /// The bytes of a relocation's entry.
 fn entry_bytes(relocation: &Relocation) -> [u8; 24] {
+    let Relocation(_, r_offset, kind, symbol, r_addend) = *relocation;
     let entry = Rela {
-        r_offset: relocation.offset,
-        r_info: u64::from(relocation.symbol) << 32 | u64::from(relocation.kind),
-        r_addend: relocation.addend,
+        r_offset,
+        r_info: u64::from(symbol) << 32 | u64::from(kind),
+        r_addend,
     };
     let mut bytes = [0; 24];
     entry.write_to(&mut bytes);

@@ -64,7 +64,7 @@ pub static TEXT: [u8; 9] = [0xb8, 0x3c, 0x00, 0x00, 0x00, 0x31, 0xff, 0x0f, 0x05
 pub const TEXT_OFFSET: usize = 0x1000;
 
 /// The map.
-pub static MAP: &[u8] = b"ldmap 1\n\
+pub const MAP: &[u8] = b"ldmap 1\n\
     object 0 0 0 a.o\n\
     place 0000000000401000 9 0 1 .text\n\
     symbol 0000000000401000 strong 0 1 _start\n\

@@ -2,16 +2,15 @@
 ghost use Rattle.std.specs.Prelude.{◌≡◌, None, Some, cond};
 ghost use Rattle.std.specs.Str.{bytes_eq};
 
-use crate::objects::{Relocation, relocatable};
-use crate::one_object::{function, one_file, text_section, words_of};
-use crate::several_objects::{R_64, section, section_symbol};
+use crate::objects::{Relocation, Section, relocatable};
+use crate::one_object::{one_file, words_of};
 use crate::vectors::{OBJECT, image};
 use command::read_words;
-use elf_model::SHF_WRITE;
 use ld_main::{
     FetchFault, FileSource, GatherFault, Linkage, Sink, SinkFault, WriteFault, gather, prepare,
     write_image,
 };
+use link_samples::parts::{DATA, R_64, SECTION_2, START, TEXT};
 use std::alloc::Global;
 use std::process::Abort;
 use std::test::Fail;
@@ -103,8 +102,10 @@ static ZEROS: [u8; 8192] = [0; 8192];
 
 /// An object with the text, and 8192 bytes of data whose bytes 4092 to 4099 are to hold the address of the first.
 fn across(alloc: Global) -> Result<Vec<u8>, Fail> {
-    let sections = [text_section(), section(".data", SHF_WRITE, 8, &ZEROS)];
-    let symbols = [section_symbol(2), function("_start")];
+    let data_ = Section {
+        bytes: &ZEROS,
+        ..DATA
+    };
     let relocations = [Relocation {
         section: 2,
         offset: 4092,
@@ -112,7 +113,7 @@ fn across(alloc: Global) -> Result<Vec<u8>, Fail> {
         symbol: 1,
         addend: 0,
     }];
-    relocatable(alloc, &sections, &symbols, &relocations)
+    relocatable(alloc, &[TEXT, data_], &[SECTION_2, START], &relocations)
 }
 
 #[test]

@@ -1,9 +1,12 @@
 //! Links that use names of the linker's for where the sections of an output name begin and end.
-use crate::objects::{NamedSymbol, Relocation, Section, object, relocatable};
-use crate::one_object::{function, one_file, text_section, words_of};
-use crate::several_objects::{R_64, add_file, has_bytes, link_one, linked, section, undefined};
 use elf_model::{InputFile, LinkError, SHF_ALLOC, SHF_WRITE, SHT_NOBITS, SHT_PROGBITS};
-use ld_main::{Clause, Output, Verdict, check};
+use ld_main::{Clause, Output, Verdict};
+use link_samples::links::{
+    Change, File, Judged, Row as LinkRow, Wanted as LinkWanted, first_misjudged, first_wrong,
+    has_bytes, linked,
+};
+use link_samples::objects::{NamedSymbol, Relocation, Section, object, relocatable};
+use link_samples::parts::{DATA, NO_F, R_64, START, TEXT};
 use std::alloc::Global;
 use std::test::Fail;
 
@@ -193,15 +196,6 @@ fn first_section(first: First) -> Section<'static> {
     }
 }
 
-/// The address of symbol 1 at the beginning of section 1.
-const ADDRESS: Relocation = Relocation {
-    section: 1,
-    offset: 0,
-    kind: R_64,
-    symbol: 1,
-    addend: 0,
-};
-
 /// The files `a.o`, a text and the first section, and `b.o`, the second one, which is the address of a symbol.
 fn files_of(
     alloc: Global,
@@ -210,12 +204,19 @@ fn files_of(
     symbol: NamedSymbol<'_>,
 ) -> Result<Vec<InputFile>, Fail> {
     let mut files = Vec::new(alloc);
-    let a = [text_section(), first_section(first)];
-    let a = object(alloc, &a, &[function("_start")])?;
-    let b = [section(second, SHF_WRITE, 8, &[0; 8])];
-    let b = relocatable(alloc, &b, &[symbol], &[ADDRESS])?;
-    add_file(&mut files, "a.o", &a)?;
-    add_file(&mut files, "b.o", &b)?;
+    files.push(InputFile {
+        name: String::from_str(alloc, "a.o")?,
+        bytes: object(alloc, &[TEXT, first_section(first)], &[START])?,
+    })?;
+    let second = Section {
+        name: second,
+        ..DATA
+    };
+    let address = Relocation(1, 0, R_64, 1, 0);
+    files.push(InputFile {
+        name: String::from_str(alloc, "b.o")?,
+        bytes: relocatable(alloc, &[second], &[symbol], &[address])?,
+    })?;
     Ok(files)
 }
 
@@ -231,7 +232,9 @@ fn offset_of(first: First) -> usize {
 fn is_as_wanted(row: &Row, answer: &Result<Output, LinkError>) -> bool {
     let (first, _, _, name, wanted) = row;
     match (wanted, answer) {
-        (Wanted::Address(bytes), Ok(output)) => has_bytes(output, offset_of(*first), bytes),
+        (Wanted::Address(bytes), Ok(output)) => {
+            has_bytes(&output.image, offset_of(*first), bytes)
+        }
         (Wanted::Mixed, Err(LinkError::MixedSection)) => true,
         (Wanted::Undefined, Err(LinkError::Undefined(of))) => of.as_slice() == name.as_bytes(),
         _ => false,
@@ -242,8 +245,9 @@ fn is_as_wanted(row: &Row, answer: &Result<Output, LinkError>) -> bool {
 fn answer_of(alloc: Global, row: &Row) -> Result<Result<Output, LinkError>, Fail> {
     let (first, second, st_info, name, _) = *row;
     let symbol = NamedSymbol {
+        name,
         st_info,
-        ..undefined(name)
+        ..NO_F
     };
     let files = files_of(alloc, first, second, symbol)?;
     linked(alloc, &files, "a.o b.o")
@@ -258,7 +262,40 @@ fn names_stand_for_the_ends_of_output_sections(rt: HostRuntime) -> Result<(), Fa
     Ok(())
 }
 
-static STOP_MAP: &[u8] = b"ldmap 1\n\
+/// `foo` of 4 bytes: writable, constant, and without bytes in the file; and the writable one of 8 bytes.
+const FOO: Section<'static> = Section {
+    name: "foo",
+    sh_addralign: 1,
+    bytes: &[0; 4],
+    ..DATA
+};
+
+const CONSTANT_FOO: Section<'static> = Section {
+    sh_flags: SHF_ALLOC,
+    ..FOO
+};
+
+const ZEROS_FOO: Section<'static> = Section {
+    sh_type: SHT_NOBITS,
+    bytes: &[],
+    memory: 4,
+    ..FOO
+};
+
+const FOO_8: Section<'static> = Section {
+    name: "foo",
+    ..DATA
+};
+
+const STOP: NamedSymbol<'static> = NamedSymbol {
+    name: "__stop_foo",
+    ..NO_F
+};
+
+/// That one as the address of symbol 1, the bound.
+const STOPPED: File = File::Object("b.o", &[FOO_8], &[STOP], &[Relocation(1, 0, R_64, 1, 0)]);
+
+const STOP_MAP: &[u8] = b"ldmap 1\n\
     object 0 0 0 a.o\n\
     object 1 1 0 b.o\n\
     place 0000000000401000 9 0 1 .text\n\
@@ -268,65 +305,55 @@ static STOP_MAP: &[u8] = b"ldmap 1\n\
     symbol 0000000000401000 strong 0 1 _start\n\
     end\n";
 
-#[test]
-fn a_bound_has_a_line(rt: HostRuntime) -> Result<(), Fail> {
-    let files = files_of(rt.alloc(), WRITABLE, "foo", undefined("__stop_foo"))?;
-    let output = linked(rt.alloc(), &files, "a.o b.o")??;
-    assert!(rt; output.map.as_slice() == STOP_MAP);
-    Ok(())
-}
+static LINKS: [LinkRow; 2] = [
+    // A bound has a line.
+    (
+        &[File::Object("a.o", &[TEXT, FOO], &[START], &[]), STOPPED],
+        "a.o b.o",
+        LinkWanted::Linked(0, &[], STOP_MAP),
+    ),
+    // An object may define a bound of several output sections.
+    (
+        &[
+            File::Object("a.o", &[TEXT, CONSTANT_FOO], &[START], &[]),
+            STOPPED,
+            File::Object(
+                "c.o",
+                &[],
+                &[NamedSymbol {
+                    st_shndx: 0xfff1,
+                    st_value: 0x1234,
+                    ..STOP
+                }],
+                &[],
+            ),
+        ],
+        "a.o b.o c.o",
+        LinkWanted::Linked(0, &[(0x2000, &[0x34, 0x12, 0, 0])], b""),
+    ),
+];
+
+/// A text, `foo` without bytes in the file, and one with 8 bytes.
+const MIXED: &[Section<'static>] = &[TEXT, ZEROS_FOO, FOO_8];
+
+/// A bound of several output sections fails the ninth clause: the link of an object without its relocation, judged where
+/// the object has it.
+static JUDGED: [Judged; 1] = [(
+    Change::Files(&[File::Object(
+        "a.o",
+        MIXED,
+        &[START, STOP],
+        &[Relocation(3, 0, R_64, 2, 0)],
+    )]),
+    Verdict::No(Clause::C9),
+)];
+
+const RIGHT: &[File] = &[File::Object("a.o", MIXED, &[START, STOP], &[Relocation(3, 0, 0, 2, 0)])];
 
 #[test]
-fn an_object_may_define_a_bound_of_several_output_sections(rt: HostRuntime) -> Result<(), Fail> {
-    let symbol = undefined("__stop_foo");
-    let mut files = files_of(rt.alloc(), CONSTANT, "foo", symbol)?;
-    let absolute = NamedSymbol {
-        st_shndx: 0xfff1,
-        st_value: 0x1234,
-        ..symbol
-    };
-    let c = object(rt.alloc(), &[], &[absolute])?;
-    add_file(&mut files, "c.o", &c)?;
-    let output = linked(rt.alloc(), &files, "a.o b.o c.o")??;
-    assert!(rt; has_bytes(&output, 0x2000, &[0x34, 0x12, 0, 0]));
-    Ok(())
-}
-
-/// An object of a text, of `foo` without bytes in the file, and of one with 8 bytes, whose relocation of a kind names
-/// `__stop_foo`.
-fn mixed(alloc: Global, kind: u32) -> Result<Vec<u8>, Fail> {
-    let sections = [
-        text_section(),
-        first_section(ZEROS),
-        section("foo", SHF_WRITE, 8, &[0; 8]),
-    ];
-    let relocation = Relocation {
-        section: 3,
-        kind,
-        symbol: 2,
-        ..ADDRESS
-    };
-    relocatable(
-        alloc,
-        &sections,
-        &[function("_start"), undefined("__stop_foo")],
-        &[relocation],
-    )
-}
-
-/// What the check says of the link without that relocation where the object has it.
-fn verdict_of_mixed(alloc: Global) -> Result<Verdict, Fail> {
-    let right = mixed(alloc, 0)?;
-    let right = link_one(alloc, &right)??;
-    let wrong = mixed(alloc, R_64)?;
-    let files = one_file(alloc, "a.o", &wrong)?;
-    let words = words_of(alloc, "a.o")?;
-    Ok(check(alloc, &files, &words, &right.image, &right.map)?)
-}
-
-#[test]
-fn a_bound_of_several_output_sections_fails_the_ninth_clause(rt: HostRuntime) -> Result<(), Fail> {
-    let verdict = verdict_of_mixed(rt.alloc())?;
-    assert_eq!(rt; verdict, Verdict::No(Clause::C9));
+fn bounds_have_lines_and_one_output_section(rt: HostRuntime) -> Result<(), Fail> {
+    let linked = first_wrong(rt.alloc(), &LINKS)?;
+    let judged = first_misjudged(rt.alloc(), RIGHT, "a.o", &JUDGED)?;
+    assert_eq!(rt; [linked, judged], [None, None]);
     Ok(())
 }

@@ -1,9 +1,9 @@
 //! Runs of the whole program, over files in a folder of each test's own.
-use crate::objects::{NamedSymbol, object};
-use crate::one_object::{function, text_section, words_of};
-use crate::several_objects::{R_PC32, in_text, text_with};
+use crate::objects::{NamedSymbol, Relocation, object, relocatable};
+use crate::one_object::{function, words_of};
 use crate::vectors::{MAP, OBJECT, image};
 use ld_main::run_ld;
+use link_samples::parts::{NO_F, R_PC32, START, TEXT};
 use std::io::{self, Write};
 use std::path::PathBuf;
 use std::process::Abort;
@@ -54,20 +54,6 @@ fn assert_image<R: Files + AllocGlobal + Abort>(rt: &R, path: &str) -> Result<()
 }
 
 #[test]
-fn refuses_words(rt: HostRuntime) -> Result<(), Fail> {
-    let rows = [
-        ("", "ld: Command (2): NoInput (6)\n"),
-        ("a.o -o", "ld: Command (2): MissingValue (3)\n"),
-        ("a.o --check", "ld: Command (2): MissingValue (3)\n"),
-        ("a.o -oout", "ld: Command (2): UnknownOption (2)\n"),
-    ];
-    for (line, complaint) in rows {
-        assert_run(&rt, line, 2, "", complaint)?;
-    }
-    Ok(())
-}
-
-#[test]
 fn links_and_checks(rt: HostRuntime) -> Result<(), Fail> {
     let folder = enter_folder(&rt, "links")?;
     assert_run(&rt, "a.o", 0, "", "")?;
@@ -84,26 +70,27 @@ fn links_and_checks(rt: HostRuntime) -> Result<(), Fail> {
 
 /// Writes an object with a text and symbols.
 fn write_object(rt: &HostRuntime, path: &str, symbols: &[NamedSymbol<'_>]) -> Result<(), Fail> {
-    let bytes = object(rt.alloc(), &[text_section()], symbols)?;
+    let bytes = object(rt.alloc(), &[TEXT], symbols)?;
     fs::write(rt, path, &bytes)?;
     Ok(())
 }
 
 /// Writes an object that defines `_start`, and a name twice.
 fn write_twice(rt: &HostRuntime, path: &str, name: &str) -> Result<(), Fail> {
-    let symbols = [function("_start"), function(name), function(name)];
+    let symbols = [START, function(name), function(name)];
     write_object(rt, path, &symbols)
 }
 
 /// Writes `caller.o`, an object that uses `f` and doesn't define it.
 fn write_caller(rt: &HostRuntime) -> Result<(), Fail> {
-    let bytes = text_with(rt.alloc(), &[in_text(0, R_PC32, 2, 0)])?;
+    let distance = Relocation(1, 0, R_PC32, 2, 0);
+    let bytes = relocatable(rt.alloc(), &[TEXT], &[START, NO_F], &[distance])?;
     fs::write(rt, "caller.o", &bytes)?;
     Ok(())
 }
 
 #[test]
-fn refuses_links(rt: HostRuntime) -> Result<(), Fail> {
+fn refuses_words_and_links(rt: HostRuntime) -> Result<(), Fail> {
     let folder = enter_folder(&rt, "refuses")?;
     fs::write(&rt, "cut.o", &OBJECT[..63])?;
     write_object(&rt, "nameless.o", &[function("")])?;
@@ -111,6 +98,15 @@ fn refuses_links(rt: HostRuntime) -> Result<(), Fail> {
     write_twice(&rt, "spaced.o", "f g")?;
     write_caller(&rt)?;
     fs::write(&rt, "thin.a", "!<thin>\n".as_bytes())?;
+    let words = [
+        ("", "ld: Command (2): NoInput (6)\n"),
+        ("a.o -o", "ld: Command (2): MissingValue (3)\n"),
+        ("a.o --check", "ld: Command (2): MissingValue (3)\n"),
+        ("a.o -oout", "ld: Command (2): UnknownOption (2)\n"),
+    ];
+    for (line, complaint) in words {
+        assert_run(&rt, line, 2, "", complaint)?;
+    }
     let rows = [
         ("cut.o", "ld: BadObject (4): Truncated (2)\n"),
         ("nameless.o", "ld: BadSymbol (21)\n"),

@@ -1,0 +1,224 @@
+//! The least clause that fails, of links that are wrong in one place.
+use crate::one_object::{one_file, words_of};
+use crate::vectors::{IMAGE_HEADERS, MAP, OBJECT, TEXT, TEXT_OFFSET};
+use ld_main::{Clause, Verdict, check};
+use link_samples::links::{Change, File, Judged, first_misjudged};
+use link_samples::objects::{NamedSymbol, Relocation};
+use link_samples::parts::{NO_F, R_64, R_PC32, START, TEXT as TEXT_SECTION};
+use std::alloc::Global;
+use std::test::Fail;
+
+/// The object of `vectors`, of its parts.
+const PLAIN: &[File] = &[File::Object("a.o", &[TEXT_SECTION], &[START], &[])];
+
+static ROWS: [Judged; 23] = [
+    (Change::Nothing, Verdict::Yes),
+    (Change::Words("a.o -o"), Verdict::No(Clause::C1)),
+    (Change::Map(b"ldmap 2\nend\n"), Verdict::No(Clause::C1)),
+    // No such file.
+    (Change::Words("a.o b.o"), Verdict::No(Clause::C2)),
+    // e_machine; the path of the object.
+    (Change::Input(18, 3), Verdict::No(Clause::C2)),
+    (
+        Change::Map(
+            b"ldmap 1\nobject 0 0 0 b.o\nplace 0000000000401000 9 0 1 .text\nsymbol 0000000000401000 strong 0 1 _start\nend\n",
+        ),
+        Verdict::No(Clause::C2),
+    ),
+    // WRITE beside EXECINSTR; the name of the section; its size; a dropped section; a common block.
+    (Change::Input(248, 7), Verdict::No(Clause::C3)),
+    (
+        Change::Map(
+            b"ldmap 1\nobject 0 0 0 a.o\nplace 0000000000401000 9 0 1 .texu\nsymbol 0000000000401000 strong 0 1 _start\nend\n",
+        ),
+        Verdict::No(Clause::C3),
+    ),
+    (
+        Change::Map(
+            b"ldmap 1\nobject 0 0 0 a.o\nplace 0000000000401000 8 0 1 .text\nsymbol 0000000000401000 strong 0 1 _start\nend\n",
+        ),
+        Verdict::No(Clause::C3),
+    ),
+    (
+        Change::Map(
+            b"ldmap 1\nobject 0 0 0 a.o\ndrop 0 2\nplace 0000000000401000 9 0 1 .text\nsymbol 0000000000401000 strong 0 1 _start\nend\n",
+        ),
+        Verdict::No(Clause::C3),
+    ),
+    (
+        Change::Map(
+            b"ldmap 1\nobject 0 0 0 a.o\nplace 0000000000401000 9 0 1 .text\ncommon 0000000000402000 8 8 c\nsymbol 0000000000401000 strong 0 1 _start\nend\n",
+        ),
+        Verdict::No(Clause::C3),
+    ),
+    // EI_DATA; p_align of the first segment.
+    (Change::Image(5, 2), Verdict::No(Clause::C4)),
+    (Change::Image(113, 0x20), Verdict::No(Clause::C4)),
+    // Below the base; a byte past the segment's end.
+    (
+        Change::Map(
+            b"ldmap 1\nobject 0 0 0 a.o\nplace 0000000000000000 9 0 1 .text\nsymbol 0000000000401000 strong 0 1 _start\nend\n",
+        ),
+        Verdict::No(Clause::C5),
+    ),
+    (
+        Change::Map(
+            b"ldmap 1\nobject 0 0 0 a.o\nplace 0000000000401001 9 0 1 .text\nsymbol 0000000000401000 strong 0 1 _start\nend\n",
+        ),
+        Verdict::No(Clause::C6),
+    ),
+    // A slot without a GOT.
+    (
+        Change::Map(
+            b"ldmap 1\nobject 0 0 0 a.o\nplace 0000000000401000 9 0 1 .text\nslot 0000000000401000 value name f\nsymbol 0000000000401000 strong 0 1 _start\nend\n",
+        ),
+        Verdict::No(Clause::C7),
+    ),
+    // The text; a byte of no segment; e_entry.
+    (Change::Image(0x1000, 0), Verdict::No(Clause::C10)),
+    (Change::Image(0x200, 1), Verdict::No(Clause::C11)),
+    (Change::Image(24, 1), Verdict::No(Clause::C12)),
+    // The binding, the value, and no line.
+    (
+        Change::Map(
+            b"ldmap 1\nobject 0 0 0 a.o\nplace 0000000000401000 9 0 1 .text\nsymbol 0000000000401000 weak 0 1 _start\nend\n",
+        ),
+        Verdict::No(Clause::C13),
+    ),
+    (
+        Change::Map(
+            b"ldmap 1\nobject 0 0 0 a.o\nplace 0000000000401000 9 0 1 .text\nsymbol 0000000000401001 strong 0 1 _start\nend\n",
+        ),
+        Verdict::No(Clause::C13),
+    ),
+    (
+        Change::Map(b"ldmap 1\nobject 0 0 0 a.o\nplace 0000000000401000 9 0 1 .text\nend\n"),
+        Verdict::No(Clause::C13),
+    ),
+    // The last line but one.
+    (
+        Change::Map(
+            b"ldmap 1\nobject 0 0 0 a.o\nplace 0000000000401000 9 0 1 .text\nsymbol 0000000000401000 strong 0 1 _start\n",
+        ),
+        Verdict::No(Clause::C1),
+    ),
+];
+
+#[test]
+fn the_least_clause_that_fails_is_told(rt: HostRuntime) -> Result<(), Fail> {
+    assert_eq!(rt; first_misjudged(rt.alloc(), PLAIN, "a.o", &ROWS)?, None);
+    Ok(())
+}
+
+/// The image with a PT_TLS of nothing before its last program header, and R longer by that header.
+fn image_with_thread_block(alloc: Global) -> Result<Vec<u8>, Fail> {
+    let mut bytes = Vec::from_slice(alloc, &IMAGE_HEADERS[..176])?;
+    bytes[56] = 4;
+    bytes[96..98].copy_from_slice(&[0x20, 1]);
+    bytes[104..106].copy_from_slice(&[0x20, 1]);
+    bytes.extend_from_slice(&[7, 0, 0, 0, 4, 0, 0, 0, 0, 0x10, 0, 0, 0, 0, 0, 0])?;
+    bytes.extend_from_slice(&[0, 0x10, 0x40, 0, 0, 0, 0, 0, 0, 0x10, 0x40, 0, 0, 0, 0, 0])?;
+    bytes.extend_from_slice(&[0; 16])?;
+    bytes.extend_from_slice(&[1, 0, 0, 0, 0, 0, 0, 0])?;
+    bytes.extend_from_slice(&IMAGE_HEADERS[176..])?;
+    bytes.resize(TEXT_OFFSET, 0)?;
+    bytes.extend_from_slice(&TEXT)?;
+    Ok(bytes)
+}
+
+#[test]
+fn a_thread_block_without_thread_storage_is_wrong(rt: HostRuntime) -> Result<(), Fail> {
+    let image = image_with_thread_block(rt.alloc())?;
+    let files = one_file(rt.alloc(), "a.o", &OBJECT)?;
+    let words = words_of(rt.alloc(), "a.o")?;
+    let verdict = check(rt.alloc(), &files, &words, &image, MAP)?;
+    assert_eq!(rt; verdict, Verdict::No(Clause::C8));
+    Ok(())
+}
+
+/// `f` as an absolute symbol, and without a definition.
+const ABSOLUTE: NamedSymbol<'static> = NamedSymbol {
+    st_shndx: 0xfff1,
+    st_value: 0x1_0000_0000,
+    ..NO_F
+};
+
+const NOWHERE: NamedSymbol<'static> = NamedSymbol {
+    st_shndx: 0,
+    ..ABSOLUTE
+};
+
+/// Objects with a relocation of no field, which link.
+const NO_FIELD: &[File] = &[File::Object(
+    "a.o",
+    &[TEXT_SECTION],
+    &[START, ABSOLUTE],
+    &[Relocation(1, 0, 0, 2, 0)],
+)];
+
+const NO_FIELD_AT_6: &[File] = &[File::Object(
+    "a.o",
+    &[TEXT_SECTION],
+    &[START, ABSOLUTE],
+    &[Relocation(1, 6, 0, 2, 0)],
+)];
+
+const NO_FIELD_UNDEFINED: &[File] = &[File::Object(
+    "a.o",
+    &[TEXT_SECTION],
+    &[START, NOWHERE],
+    &[Relocation(1, 0, 0, 2, 0)],
+)];
+
+/// COPY, and 32, of which the value doesn't fit; PC32 with a field past the end; 64 without a definition.
+static WRONG_KINDS: [Judged; 2] = [
+    (
+        Change::Files(&[File::Object(
+            "a.o",
+            &[TEXT_SECTION],
+            &[START, ABSOLUTE],
+            &[Relocation(1, 0, 5, 2, 0)],
+        )]),
+        Verdict::No(Clause::C9),
+    ),
+    (
+        Change::Files(&[File::Object(
+            "a.o",
+            &[TEXT_SECTION],
+            &[START, ABSOLUTE],
+            &[Relocation(1, 0, 10, 2, 0)],
+        )]),
+        Verdict::No(Clause::C9),
+    ),
+];
+
+static OUTSIDE: [Judged; 1] = [(
+    Change::Files(&[File::Object(
+        "a.o",
+        &[TEXT_SECTION],
+        &[START, ABSOLUTE],
+        &[Relocation(1, 6, R_PC32, 2, 0)],
+    )]),
+    Verdict::No(Clause::C9),
+)];
+
+static UNDEFINED: [Judged; 1] = [(
+    Change::Files(&[File::Object(
+        "a.o",
+        &[TEXT_SECTION],
+        &[START, NOWHERE],
+        &[Relocation(1, 0, R_64, 2, 0)],
+    )]),
+    Verdict::No(Clause::C9),
+)];
+
+#[test]
+fn wrong_relocations_fail_the_ninth_clause(rt: HostRuntime) -> Result<(), Fail> {
+    let found = [
+        first_misjudged(rt.alloc(), NO_FIELD, "a.o", &WRONG_KINDS)?,
+        first_misjudged(rt.alloc(), NO_FIELD_AT_6, "a.o", &OUTSIDE)?,
+        first_misjudged(rt.alloc(), NO_FIELD_UNDEFINED, "a.o", &UNDEFINED)?,
+    ];
+    assert_eq!(rt; found, [None, None, None]);
+    Ok(())
+}
