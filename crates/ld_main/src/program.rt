@@ -1,27 +1,32 @@
 //! The program: reads the files that the words name, links or checks them, writes or prints the answer.
 ghost use Rattle.std.specs.Prelude.{◌≡◌, ◌≢◌, ◌⊎◌, ◌↔◌, ◌≤◌, true, None, IfErr, IfOk, IsErr, IsErrAnd, IsOk, OnOk};
+ghost use Rattle.elf_model.specs.Causes.{Cause};
 ghost use Rattle.elf_model.specs.Command.{command_of};
 ghost use Rattle.elf_model.specs.Files.{files_of, words_of};
 ghost use Rattle.elf_model.specs.RightLink.{IsRightLink, Least};
+ghost use Rattle.ld_main.specs.Linkages.{HasOwnLink};
 ghost use Rattle.ld_main.specs.Program.{HasRightLink, LinksRight, error_status, failure_status, outcome_status, words_status};
 
 use crate::file_sink::{FileSink, room};
 use crate::file_source::{GatherFault, gather};
 use crate::output::map_text;
-use crate::phases::prepare;
+use crate::phases::prepare_in;
 use crate::real_files::{RealFiles, make_executable, read_whole};
 use crate::refusals::command_error;
 use checker::check;
 use command::read_words;
-use elf_model::{Clause, CmdFault, InputFile, LinkError, Verdict};
+use elf_model::{Clause, CmdFault, InputFile, LinkError, NameSeed, Verdict};
 use image_write::{Linkage, WriteFault, write_image};
 use linkmap::escape;
 use std::alloc::{AllocError, AllocFailed, Global};
 use std::borrow::CowStr;
 use std::fs::File;
+use std::hash::RandomState;
 use std::io::{ErrorKind, Write};
+use std::random::RandomSource;
 use std::rt::Files;
 use std::{fs, io};
+use symbols::IndexedTable;
 
 /// What a run comes to.
 #[derive(Clone, Copy, Debug)]
@@ -265,8 +270,31 @@ fn write_files<'a, R: Files + AllocGlobal>(
     write_map(rt, path, &text)
 }
 
+/// A seed for tables of names that no input can know; the fixed one where the system gives no random bytes.
+fn seed<R: RandomSource>(rt: &R) -> NameSeed {
+    match RandomState::new(rt) {
+        Ok(state) => NameSeed::drawn(&state),
+        Err(_) => NameSeed::fixed(),
+    }
+}
+
+/// Prepares the link of files, with its names in tables of a seed.
+fn prepared<'a>(
+    alloc: Global,
+    seed: NameSeed,
+    files: &'a [InputFile],
+    words: &'a [String],
+) -> Result<Linkage<'a>, LinkError>
+    ensures right { IfOk result (HasOwnLink (files_of files.entry.now) (words_of words.entry.now)) }
+    ensures cause { IfErr result (Cause (files_of files.entry.now) (words_of words.entry.now)) }
+{
+    let loading = IndexedTable::with_hasher(alloc, seed);
+    let resolution = IndexedTable::with_hasher(alloc, seed);
+    prepare_in(alloc, files, words, loading, resolution)
+}
+
 /// Links, and writes what comes of it.
-fn link_files<'a, R: Files + AllocGlobal>(
+fn link_files<'a, R: Files + AllocGlobal + RandomSource>(
     rt: &R,
     task: Task<'a>,
     files: &[InputFile],
@@ -275,7 +303,7 @@ fn link_files<'a, R: Files + AllocGlobal>(
     ensures right { IfOk result (λ o. outcome_status o ≡ 0 → LinksRight (files_of files.now) (words_of words.now)) }
     ensures words_alone { IfErr result (λ f. failure_status f ≡ 2 → IsErr (command_of (words_of words.now))) }
 {
-    let linkage = match prepare(rt.alloc(), files, words) {
+    let linkage = match prepared(rt.alloc(), seed(rt), files, words) {
         Ok(linkage) => linkage,
         Err(error) => return Err(refused(rt.alloc(), error)),
     };
@@ -341,7 +369,7 @@ fn read_input<'a, R: Files + AllocGlobal>(
     Ok((task, files))
 }
 
-fn run<'a, R: Files + AllocGlobal>(rt: &R, words: &'a [String]) -> Result<Outcome, Failure<'a>>
+fn run<'a, R: Files + AllocGlobal + RandomSource>(rt: &R, words: &'a [String]) -> Result<Outcome, Failure<'a>>
     ensures right { IfOk result (λ o. outcome_status o ≡ 0 → HasRightLink (words_of words.entry.now)) }
     ensures refused_words { IsErr (command_of (words_of words.entry.now)) → IsErrAnd result (λ f. (failure_status f ≡ 2) ⊎ (failure_status f ≡ 4)) }
     ensures words_alone { IfErr result (λ f. failure_status f ≡ 2 → IsErr (command_of (words_of words.entry.now))) }
@@ -368,7 +396,7 @@ fn run<'a, R: Files + AllocGlobal>(rt: &R, words: &'a [String]) -> Result<Outcom
 /// Where nothing is written or checked, `err` has one line: `ld: ` and the error's name and number, as
 /// `ld: NoEntry (18)`; behind that `: ` and the name and number of the fault of the words or of an object,
 /// or a symbol's name, spelled as in a map; or `ld: cannot read PATH` or `ld: cannot write PATH`.
-pub fn run_ld<R: Files + AllocGlobal, O: Write, E: Write>(
+pub fn run_ld<R: Files + AllocGlobal + RandomSource, O: Write, E: Write>(
     rt: &R,
     words: &[String],
     out: &mut O,

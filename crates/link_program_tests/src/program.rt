@@ -4,9 +4,12 @@ use crate::one_object::{function, words_of};
 use crate::vectors::{MAP, OBJECT, image};
 use ld_main::run_ld;
 use link_samples::parts::{NO_F, R_PC32, START, TEXT};
+use std::fs::Permissions;
 use std::io::{self, Write};
+use std::os::unix::fs::PermissionsExt;
 use std::path::PathBuf;
 use std::process::Abort;
+use std::random::RandomSource;
 use std::rt::Files;
 use std::test::Fail;
 use std::{env, fs, process};
@@ -30,7 +33,7 @@ fn leave_folder(rt: &HostRuntime, folder: &PathBuf) -> Result<(), Fail> {
 }
 
 /// Asserts the exit status of a command line, and what it prints on each stream.
-fn assert_run<R: Files + AllocGlobal + Abort>(
+fn assert_run<R: Files + AllocGlobal + RandomSource + Abort>(
     rt: &R,
     line: &str,
     status: u8,
@@ -136,6 +139,8 @@ fn tells_faults_of_files(rt: HostRuntime) -> Result<(), Fail> {
         ("a.o --check -Map=start.map", "ld: cannot read a.out\n"),
         ("a.o -o d.o", "ld: cannot write d.o\n"),
         ("a.o -Map=no/start.map", "ld: cannot write no/start.map\n"),
+        ("a.o -o /dev/full", "ld: cannot write /dev/full\n"),
+        ("a.o -o /dev/full -Map=full.map", "ld: cannot write /dev/full\n"),
         (
             "a.o --check -Map=no/start.map",
             "ld: cannot read no/start.map\n",
@@ -145,6 +150,22 @@ fn tells_faults_of_files(rt: HostRuntime) -> Result<(), Fail> {
         assert_run(&rt, line, 3, "", complaint)?;
     }
     assert_image(&rt, "a.out")?;
+    // The map is written after the whole image.
+    assert!(rt; !fs::exists(&rt, "full.map")?);
+    leave_folder(&rt, &folder)
+}
+
+#[test]
+fn images_may_be_run_by_those_who_may_read_them(rt: HostRuntime) -> Result<(), Fail> {
+    let folder = enter_folder(&rt, "mode")?;
+    let rows = [(0o644, 0o755), (0o600, 0o700), (0o640, 0o750)];
+    for (before, after) in rows {
+        fs::write(&rt, "a.out", b"")?;
+        fs::set_permissions(&rt, "a.out", Permissions::from_mode(before))?;
+        assert_run(&rt, "a.o", 0, "", "")?;
+        let mode = fs::metadata(&rt, "a.out")?.permissions().mode() & 0o777;
+        assert_eq!(rt; mode, after, "{before:o}");
+    }
     leave_folder(&rt, &folder)
 }
 
@@ -163,7 +184,7 @@ impl Write for Closed {
 }
 
 /// The exit status of a command line whose streams take nothing.
-fn silent_status<R: Files + AllocGlobal>(rt: &R, line: &str) -> Result<u8, Fail> {
+fn silent_status<R: Files + AllocGlobal + RandomSource>(rt: &R, line: &str) -> Result<u8, Fail> {
     let words = words_of(rt.alloc(), line)?;
     Ok(run_ld(rt, &words, &mut Closed, &mut Closed))
 }
