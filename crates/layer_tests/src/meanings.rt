@@ -97,6 +97,26 @@ fn is_target(resolved: &Resolved<'_>, row: &TargetRow) -> bool {
         && meant_numbers(resolved.chosen(&target)) == meaning
 }
 
+/// Asserts what hand-made targets of symbols mean: each its own symbol, where that is there and defined.
+fn assert_own(rt: &impl Abort, resolved: &Resolved<'_>) {
+    // A GLOBAL symbol, an undefined one, a LOCAL one, symbol number 0, no such symbol, no such object.
+    for (object, number, own) in [
+        (0, 1, Some((0, 1))),
+        (0, 2, None),
+        (1, 1, Some((1, 1))),
+        (1, 0, None),
+        (1, 9, None),
+        (2, 1, None),
+    ] {
+        let target = Target::Local(symbol_ref(object, number));
+        let chosen = meant_numbers(resolved.chosen(&target));
+        assert!(rt;
+            chosen == own,
+            "of symbol {number} of object {object} as a target"
+        );
+    }
+}
+
 #[test]
 fn references_mean_strong_definitions(rt: HostRuntime) -> Result<(), Fail> {
     let alloc = rt.alloc();
@@ -104,11 +124,16 @@ fn references_mean_strong_definitions(rt: HostRuntime) -> Result<(), Fail> {
     let b = object_of(alloc, &[local(2), global(F_NAME, 2)])?;
     let loaded = load_both(alloc, &a, &b)?;
     let resolved = resolve(alloc, &loaded)?;
+<<<<<<< ours
     let f = numbers(resolved.symbol(b"f"));
     assert!(rt; f == Some((1, 2)) && resolved.symbol(b"h").is_none());
     let first_other = TARGETS.iter().position(|row| !is_target(&resolved, row));
     assert_eq!(rt; first_other, None);
     assert_names(&rt, resolved.definitions());
+=======
+    assert_definitions(&rt, &resolved);
+    assert_own(&rt, &resolved);
+>>>>>>> theirs
     assert_names(&rt, &resolved.into_definitions());
     Ok(())
 }

@@ -19,5 +19,5 @@ pub use elf_model::LinkError;
 pub use file_source::{FetchFault, FileSource, GatherFault, gather};
 pub use image_write::{Linkage, Sink, SinkFault, WriteFault, image, write_image};
 pub use output::{Output, link};
-pub use phases::{link_map, prepare, prepare_over};
+pub use phases::{link_map, prepare, prepare_in};
 pub use program::run_ld;
