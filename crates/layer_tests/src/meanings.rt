@@ -3,7 +3,7 @@ use crate::objects::{DATA, F_NAME, G_NAME, START_NAME, SYMBOLS, TEXT, load_both,
 use elf_model::{
     ObjectId, SHF_ALLOC, SHF_TLS, SHF_WRITE, SHN_COMMON, SectionHeader, Symbol, SymbolRef, Target,
 };
-use resolve::{Block, Definition, ResolveFault, Resolved, SymbolOf, resolve, resolve_over};
+use resolve::{Block, Definition, ResolveFault, Resolved, SymbolOf, resolve, resolve_in};
 use std::alloc::{AllocError, Global};
 use std::process::Abort;
 use std::test::Fail;
@@ -124,17 +124,12 @@ fn references_mean_strong_definitions(rt: HostRuntime) -> Result<(), Fail> {
     let b = object_of(alloc, &[local(2), global(F_NAME, 2)])?;
     let loaded = load_both(alloc, &a, &b)?;
     let resolved = resolve(alloc, &loaded)?;
-<<<<<<< ours
     let f = numbers(resolved.symbol(b"f"));
     assert!(rt; f == Some((1, 2)) && resolved.symbol(b"h").is_none());
     let first_other = TARGETS.iter().position(|row| !is_target(&resolved, row));
     assert_eq!(rt; first_other, None);
-    assert_names(&rt, resolved.definitions());
-=======
-    assert_definitions(&rt, &resolved);
     assert_own(&rt, &resolved);
->>>>>>> theirs
-    assert_names(&rt, &resolved.into_definitions());
+    assert_names(&rt, resolved.definitions());
     Ok(())
 }
 
@@ -180,7 +175,7 @@ fn the_entry_stands_outside_thread_storage(rt: HostRuntime) -> Result<(), Fail> 
     let a = object_of(alloc, &[global(START_NAME, 2), global(F_NAME, 0)])?;
     let b = object_of(alloc, &[global(F_NAME, 3), global(G_NAME, 0)])?;
     let loaded = load_both(alloc, &a, &b)?;
-    let resolved = resolve_over(alloc, &loaded, ListTable::new(alloc))?;
+    let resolved = resolve_in(alloc, &loaded, ListTable::new(alloc))?;
     assert_entry(&rt, &resolved);
     Ok(())
 }
