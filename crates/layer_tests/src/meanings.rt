@@ -3,7 +3,7 @@ use crate::objects::{DATA, F_NAME, G_NAME, START_NAME, SYMBOLS, TEXT, load_both,
 use elf_model::{
     ObjectId, SHF_ALLOC, SHF_TLS, SHF_WRITE, SHN_COMMON, SectionHeader, Symbol, SymbolRef, Target,
 };
-use resolve::{Block, Definition, ResolveFault, Resolved, SymbolOf, resolve, resolve_over};
+use resolve::{Block, Definition, ResolveFault, Resolved, SymbolOf, resolve, resolve_in};
 use std::alloc::{AllocError, Global};
 use std::process::Abort;
 use std::test::Fail;
@@ -118,6 +118,26 @@ fn assert_definitions(rt: &impl Abort, resolved: &Resolved<'_>) {
     }
 }
 
+/// Asserts what hand-made targets of symbols mean: each its own symbol, where that is there and defined.
+fn assert_own(rt: &impl Abort, resolved: &Resolved<'_>) {
+    // A GLOBAL symbol, an undefined one, a LOCAL one, symbol number 0, no such symbol, no such object.
+    for (object, number, own) in [
+        (0, 1, Some((0, 1))),
+        (0, 2, None),
+        (1, 1, Some((1, 1))),
+        (1, 0, None),
+        (1, 9, None),
+        (2, 1, None),
+    ] {
+        let target = Target::Local(symbol_ref(object, number));
+        let chosen = meant_numbers(resolved.chosen(&target));
+        assert!(rt;
+            chosen == own,
+            "of symbol {number} of object {object} as a target"
+        );
+    }
+}
+
 #[test]
 fn names_mean_strong_definitions(rt: HostRuntime) -> Result<(), Fail> {
     let alloc = rt.alloc();
@@ -126,6 +146,7 @@ fn names_mean_strong_definitions(rt: HostRuntime) -> Result<(), Fail> {
     let loaded = load_both(alloc, &a, &b)?;
     let resolved = resolve(alloc, &loaded)?;
     assert_definitions(&rt, &resolved);
+    assert_own(&rt, &resolved);
     assert_names(&rt, &resolved.into_definitions());
     Ok(())
 }
@@ -169,7 +190,7 @@ fn the_entry_stands_outside_thread_storage(rt: HostRuntime) -> Result<(), Fail> 
     let a = object_of(alloc, &[global(START_NAME, 2), global(F_NAME, 0)])?;
     let b = object_of(alloc, &[global(F_NAME, 3), global(G_NAME, 0)])?;
     let loaded = load_both(alloc, &a, &b)?;
-    let resolved = resolve_over(alloc, &loaded, ListTable::new(alloc))?;
+    let resolved = resolve_in(alloc, &loaded, ListTable::new(alloc))?;
     assert_entry(&rt, &resolved);
     Ok(())
 }
