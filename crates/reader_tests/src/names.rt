@@ -2,8 +2,9 @@
 ghost use Rattle.std.specs.Prelude.{◌≡◌, OnOk, map};
 ghost use Rattle.symbols.specs.Offers.{all_offered};
 
+use elf_model::NameSeed;
 use std::alloc::{AllocError, Global};
-use std::hash::{BuildHasherDefault, FoldHasher, RandomState};
+use std::hash::{BuildHasher, RandomState};
 use std::process::Abort;
 use std::test::Fail;
 use symbols::{
@@ -119,10 +120,8 @@ fn takes_a_list<'a, T: NameTable<'a>>(
         (name, candidate(CandidateKind::Strong, 1)),
         (name, candidate(CandidateKind::Strong, 2)),
     ];
-    table.reserve(1000)?;
     assert_eq!(rt; table.get(name), None);
     offer_all(table, &offers)?;
-    table.reserve(1000)?;
     let row = Row {
         strong: Some(symbol(1, 1)),
         twice: true,
@@ -186,8 +185,8 @@ fn keeps_prefixes_apart<'a, T: NameTable<'a>>(
     Ok(())
 }
 
-fn indexed<'a>(alloc: Global) -> IndexedTable<'a, BuildHasherDefault<FoldHasher>> {
-    IndexedTable::with_hasher(alloc, BuildHasherDefault::new())
+fn indexed<'a>(alloc: Global) -> IndexedTable<'a, NameSeed> {
+    IndexedTable::with_hasher(alloc, NameSeed::fixed())
 }
 
 #[test]
@@ -208,7 +207,28 @@ fn the_index_is_a_table(rt: HostRuntime) -> Result<(), Fail> {
 
 #[test]
 fn any_hasher_serves(rt: HostRuntime) -> Result<(), Fail> {
-    let mut table = IndexedTable::with_hasher(rt.alloc(), RandomState::new(&rt)?);
+    let random = RandomState::new(&rt)?;
+    let mut table = IndexedTable::with_hasher(rt.alloc(), random);
     mixes_kinds(&rt, &mut table)?;
-    grows_commons(&rt, &mut table)
+    grows_commons(&rt, &mut table)?;
+    let mut drawn = IndexedTable::with_hasher(rt.alloc(), NameSeed::drawn(&random));
+    mixes_kinds(&rt, &mut drawn)?;
+    keeps_prefixes_apart(&rt, &mut drawn, NAMES)
+}
+
+/// The hashes of names by two seeds, as a program in another language computes them.
+static HASHES: [(u64, &[u8], u64); 6] = [
+    (0, b"", 0x8fe3_2a4a_9c89_4fe6),
+    (0, b"main", 0x5725_aa1f_4204_9783),
+    (0, b"_ZN4llvm5Value", 0x6892_bbfc_597e_6a9b),
+    (7, b"", 0x98cb_462e_c3f7_734e),
+    (7, b"main", 0x20b4_a46a_f2c5_71c4),
+    (7, b"_ZN4llvm5Value", 0x47d8_3890_08f0_27c4),
+];
+
+#[test]
+fn names_are_hashed_by_their_seed(rt: HostRuntime) {
+    for (seed, name, hash) in &HASHES {
+        assert_eq!(rt; NameSeed::new(*seed).hash_one(*name), *hash);
+    }
 }
