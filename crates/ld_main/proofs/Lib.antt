@@ -7,3 +7,4 @@ pub mod Listings
 pub mod Spellings
 pub mod FinalRefusals
 mod SlotLines
+pub mod OwnUnfit
