@@ -8,3 +8,4 @@ pub mod Spellings
 pub mod FinalRefusals
 pub mod Gatherings
 mod SlotLines
+pub mod OwnUnfit
