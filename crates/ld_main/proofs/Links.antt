@@ -8,9 +8,12 @@ use Rattle.elf_model.specs.ImageFile.{IsOwnMap, image_file, own_entry}
 use Rattle.elf_model.specs.Loading.{AreObjects, HaveLawfulGroups, LoadedObject, loaded_objects}
 use Rattle.elf_model.specs.MapText as map_text
 use Rattle.elf_model.specs.Opening.{AreArchives, AreFilesThere, HaveIndexes, opened}
+use Rattle.elf_model.specs.OwnAddresses.{AreOwnAddresses}
+use Rattle.elf_model.specs.Pieces.{AreLawfulKinds}
 use Rattle.elf_model.specs.RightLink.{IsRightLink}
 use Rattle.elf_model.specs.declared.faults.LinkError.{LinkError}
 use Rattle.elf_model.specs.declared.faults.LinkError.TheVariants as error
+use Rattle.elf_model.proofs.OwnRelation.{are_own_addresses}
 use Rattle.own_link.proofs.OwnRight.{own_is_right}
 use Rattle.relocate.specs.Values.{ValuesFail}
 use Rattle.relocate.specs.declared.faults.RelocFault.{RelocFault}
@@ -95,6 +98,10 @@ own_maps_right files words l i m own is_map =
     subst (λ (os : List LoadedObject). IsRightLink files words (image_file l.plan.base os (own_entry l.plan.base os l.plan.entry)) (map_text.text m))
     (sym i.objects)
     (own_is_right files words l.plan m i.linkable i.base small (subst (λ (os : List LoadedObject). IsOwnMap l.plan.base os m) i.objects own) is_map)
+
+-- its addresses are the linker's own
+pub own_addresses : (files : List File) (words : List (List ℕ)) (l : LoadedPlan) → IsPrepared files words l → AreOwnAddresses l.plan.base l.objects
+own_addresses files words l i = are_own_addresses l.plan.base l.objects (subst AreLawfulKinds (sym i.objects) i.linkable.before.before.before.kinds)
 
 pub right :
     (files : List File) (words : List (List ℕ)) (l : LoadedPlan) → IsPrepared files words l → (image text : List ℕ) →

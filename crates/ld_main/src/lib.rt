@@ -15,5 +15,5 @@ pub use checker::{Clause, Verdict, check};
 pub use elf_model::LinkError;
 pub use image_write::{Linkage, image};
 pub use output::{Output, link};
-pub use phases::{link_map, prepare, prepare_over};
+pub use phases::{link_map, prepare, prepare_in};
 pub use program::run_ld;

@@ -5,6 +5,7 @@ ghost use Rattle.elf_model.specs.Command.{IsBase};
 ghost use Rattle.elf_model.specs.Files.{files_of, words_of};
 ghost use Rattle.elf_model.specs.ImageFile.{IsOwnMap};
 ghost use Rattle.elf_model.specs.MapRecord.{map_of};
+ghost use Rattle.elf_model.specs.OwnAddresses.{AreOwnAddresses};
 ghost use Rattle.elf_model.specs.OwnLayout.{own_where};
 ghost use Rattle.elf_model.specs.Slots as wanted;
 ghost use Rattle.resolve.specs.Views.{meaning_view};
@@ -22,15 +23,14 @@ use crate::own_map::{map_of_layout, meaning_value};
 use crate::refusals::{command_error, layout_error, reloc_error, resolve_error, search_error};
 use crate::spelled_lines::show_spellings;
 use command::read_words;
-use elf_model::{InputFile, LinkError, LinkMap};
+use elf_model::{InputFile, LinkError, LinkMap, NameSeed};
 use got_tls::{Slots, slots};
 use image_write::{Linkage, Parts};
 use layout::{GotSize, Placement, kinds, place};
 use relocate::{Patches, linker_lines, patches, references, slot_values};
-use resolve::{Definition, Resolved, resolve_over};
-use search::{Loaded, load};
+use resolve::{Definition, Resolved, resolve_in};
+use search::{Loaded, load_in};
 use std::alloc::{AllocError, Global};
-use std::hash::{BuildHasherDefault, FoldHasher};
 use symbols::{IndexedTable, NameTable};
 
 /// The names of what is loaded, whose kept sections are of lawful kinds, resolved.
@@ -48,7 +48,7 @@ fn resolved_names<'a, T: NameTable<'a> + Drop>(
         Ok(()) => {}
         Err(fault) => return Err(layout_error(fault)),
     }
-    match resolve_over(alloc, loaded, table) {
+    match resolve_in(alloc, loaded, table) {
         Ok(resolved) => Ok(resolved),
         Err(fault) => Err(resolve_error(fault)),
     }
@@ -198,18 +198,22 @@ fn prepare_loaded<'a, T: NameTable<'a> + Drop>(
     Ok(parts)
 }
 
-/// As `prepare`, with the names of the objects kept in any table of names, which is empty at the start.
+/// As `prepare`, with two tables of names: one for loading, and one for resolving names. Both are empty at the start, and are
+/// used up.
 #[tactic(auto, using(crate::proofs::FinalRefusals::finals))]
-pub fn prepare_over<'a, T: NameTable<'a> + Drop>(
+pub fn prepare_in<'a, T: NameTable<'a> + Drop>(
     alloc: Global,
     files: &'a [InputFile],
     words: &'a [String],
-    table: T,
+    loading: T,
+    resolution: T,
 ) -> Result<Linkage<'a>, LinkError>
-    requires empty { T.rows table ≡ no_rows }
+    requires loading { T.rows loading ≡ no_rows }
+    requires resolution { T.rows resolution ≡ no_rows }
     ensures prepared { IfOk result (IsPrepared (files_of files.entry.now) (words_of words.entry.now)) }
     ensures own { IfOk result (AreOwnMapsRight (files_of files.entry.now) (words_of words.entry.now)) }
     ensures right { IfOk result (HasOwnLink (files_of files.entry.now) (words_of words.entry.now)) }
+    ensures addresses { IfOk result (λ l. AreOwnAddresses l.plan.base l.objects) }
     ensures cause { IfErr result (Cause (files_of files.entry.now) (words_of words.entry.now)) }
     ensures no_link { IfErr result (DeniesLinks (files_of files.entry.now) (words_of words.entry.now)) }
 {
@@ -217,11 +221,11 @@ pub fn prepare_over<'a, T: NameTable<'a> + Drop>(
         Ok(plan) => plan,
         Err(fault) => return Err(command_error(fault)),
     };
-    let loaded = match load(alloc, &plan, files) {
+    let loaded = match load_in(alloc, &plan, files, loading) {
         Ok(loaded) => loaded,
         Err(fault) => return Err(search_error(fault)),
     };
-    match prepare_loaded(alloc, &loaded, table) {
+    match prepare_loaded(alloc, &loaded, resolution) {
         Ok(parts) => Ok(Linkage::new(loaded, parts)),
         Err(error) => Err(error),
     }
@@ -240,7 +244,8 @@ pub fn prepare_over<'a, T: NameTable<'a> + Drop>(
 /// Overflow where the value that doesn't fit is the same in every layout: `Z+A`, or `S+A` of an absolute definition, of
 /// one in a section that isn't kept, of none, or of a linker's name that stands for the base or for nothing.
 ///
-/// Of what is prepared, the own map has a text, and the image and each own map that has one are a right link.
+/// Of what is prepared, the own map has a text, and the image and each own map that has one are a right link. Each piece
+/// stands at the least multiple of its alignment that the headers, its segment and the pieces before it leave.
 pub fn prepare<'a>(
     alloc: Global,
     files: &'a [InputFile],
@@ -249,11 +254,13 @@ pub fn prepare<'a>(
     ensures prepared { IfOk result (IsPrepared (files_of files.entry.now) (words_of words.entry.now)) }
     ensures own { IfOk result (AreOwnMapsRight (files_of files.entry.now) (words_of words.entry.now)) }
     ensures right { IfOk result (HasOwnLink (files_of files.entry.now) (words_of words.entry.now)) }
+    ensures addresses { IfOk result (λ l. AreOwnAddresses l.plan.base l.objects) }
     ensures cause { IfErr result (Cause (files_of files.entry.now) (words_of words.entry.now)) }
     ensures no_link { IfErr result (DeniesLinks (files_of files.entry.now) (words_of words.entry.now)) }
 {
-    let seed: BuildHasherDefault<FoldHasher> = BuildHasherDefault::new();
-    prepare_over(alloc, files, words, IndexedTable::with_hasher(alloc, seed))
+    let loading = IndexedTable::with_hasher(alloc, NameSeed::fixed());
+    let resolution = IndexedTable::with_hasher(alloc, NameSeed::fixed());
+    prepare_in(alloc, files, words, loading, resolution)
 }
 
 /// The map of a link: its objects, their dropped sections, their kept ones, the common blocks, the GOT and its slots at

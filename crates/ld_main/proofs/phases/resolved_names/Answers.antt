@@ -3,9 +3,9 @@ use Rattle.ld_main.specs.Outputs.{LinksRefuse}
 use Rattle.ld_main.proofs.Links.{resolving_refuses}
 use Rattle.ld_main.proofs.phases.resolved_names.Goals as goal
 
-pub returns-in-Err-resolve_over-clause-fault : goal.returns-in-Err-resolve_over-clause-fault
-returns-in-Err-resolve_over-clause-fault g c =
+pub returns-in-Err-resolve_in-clause-fault : goal.returns-in-Err-resolve_in-clause-fault
+returns-in-Err-resolve_in-clause-fault g c =
     let p = c.args.loaded.now.plan in
     let objects = c.args.loaded.now.objects in
     subst (LinksRefuse p objects) (sym c.resolve_error.ensures)
-    (resolving_refuses p objects c.in-Err-resolve_over.fault c.in-Err-resolve_over.ensures.fault)
+    (resolving_refuses p objects c.in-Err-resolve_in.fault c.in-Err-resolve_in.ensures.fault)
