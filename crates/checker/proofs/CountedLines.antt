@@ -9,11 +9,11 @@ use Rattle.std.proofs.lemmas.Bool.{false≢true}
 use Rattle.std.proofs.lemmas.List.{length-map}
 use Rattle.std.proofs.lemmas.List.Elements.{All-contains}
 use Rattle.std.proofs.lemmas.Map.Made.{length-le_from_is_member}
-use Rattle.std.proofs.lemmas.Option.{none-some, same_Some}
+use Rattle.std.proofs.lemmas.Option.{none-some}
 use Rattle.std.proofs.lemmas.Slice.Eq.{bytes_eq-Decides}
 use Rattle.elf_model.proofs.Finding.{find-found}
 use Rattle.elf_model.proofs.RisingNames.{all_found, counted, has, rises_from_ascends, rises_unique}
-use Rattle.elf_model.specs.Listing.{AreListed, has_meaning, listed}
+use Rattle.elf_model.specs.Listing.{AreListed, listed}
 use Rattle.elf_model.specs.Loading.{LoadedObject}
 use Rattle.elf_model.specs.MapRecord.{SymbolRow}
 use Rattle.elf_model.specs.MapText.{Ascends, SymbolBefore}

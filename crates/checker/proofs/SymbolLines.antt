@@ -17,7 +17,7 @@ use Rattle.elf_model.specs.Listing.{AreLinkerLines, is_used, linker_line}
 use Rattle.elf_model.specs.Loading.{LoadedObject}
 use Rattle.elf_model.specs.MapRecord.{SymbolRow}
 use Rattle.elf_model.specs.MapText.{Ascends, SymbolBefore}
-use Rattle.elf_model.specs.Meaning.{Linker, Meaning, meaning_name, meanings_of, meant, meant_list, object_meaning}
+use Rattle.elf_model.specs.Meaning.{Linker, Meaning, meanings_of, meant, meant_list, object_meaning}
 use Rattle.elf_model.specs.Placement.{Where}
 use Rattle.elf_model.specs.Resolution.{AreUnique, SymbolOf, all_symbols, chosen, is_strong, strong_definitions}
 use Rattle.elf_model.specs.RightLink.{HasLine, symbol_row_of}

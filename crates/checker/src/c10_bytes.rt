@@ -86,7 +86,7 @@ fn holds_piece(memory: &Memory<'_>, rows: &[Vec<Field>], placed: &Placed<'_>) ->
     }
     let fields = fields_in(rows, piece.object, piece.section);
     match memory.run(placed.at, size) {
-        Some(run) => has_wanted(run.bytes, placed, size, fields),
+        Some(held) => has_wanted(held.bytes, placed, size, fields),
         None => false,
     }
 }

@@ -5,7 +5,7 @@ use Rattle.std.proofs.lemmas.Bool.{cases_lt, false≢true}
 use Rattle.std.proofs.lemmas.List.Elements.{All-append, All-cons, All-contains, All-head, All-nil, All-tail, All-weaker}
 use Rattle.elf_model.specs.Loading.{AreObjects, LoadedObject}
 use Rattle.elf_model.specs.LinkerValues.{end_of_pieces, least_of, start_of_pieces}
-use Rattle.elf_model.specs.OwnLayout.{IsNotTooLarge, got_pieces, laid_out, own_placed, placed_end}
+use Rattle.elf_model.specs.OwnLayout.{got_pieces, laid_out, own_placed, placed_end}
 use Rattle.elf_model.specs.Commons.{block_pieces, pieces}
 use Rattle.elf_model.specs.Pieces.{Piece, is_thread_local, is_thread_piece, kept_sections}
 use Rattle.elf_model.specs.Placement.{Placed, is_thread_place}
@@ -17,6 +17,7 @@ use Rattle.elf_model.proofs.Places.{All-ordered, own_placed_pieces, some_alignme
 use Rattle.elf_model.proofs.PieceAlignments.{IsLawfulAlignment, kept_lawful}
 use Rattle.elf_model.proofs.PieceNumbers.{IsKept, got_pieces-each, laid_out_kept}
 use Rattle.elf_model.proofs.Running.{HasAlignment}
+use Rattle.layout.specs.Placements.{IsLaidOut}
 use Rattle.got_tls.specs.ThreadStorage.{EndsLow, IsAligned, IsBlockOf, IsGreatest, IsLeast, thread_places}
 
 -- the least address of the thread-local ones is one of theirs, and none is below it
@@ -148,8 +149,8 @@ block_some qs found is = subst (λ (o : Option TlsBlock). IfSome o (λ b. 0 < b.
 
 pub block_low :
     (base : ℕ) (objects : List LoadedObject) (found : Option TlsBlock) → found ≡ thread_block (own_placed base objects) →
-    IsNotTooLarge base objects → IfSome found EndsLow
-block_low base objects found is fits = by found (own_block_law base objects found is)
+    IsLaidOut base objects → IfSome found EndsLow
+block_low base objects found is laid = by found (own_block_law base objects found is)
   where
     qs : List Placed
     qs = own_placed base objects
@@ -159,7 +160,7 @@ block_low base objects found is fits = by found (own_block_law base objects foun
     by (Some b) law =
         let last = Contains-from_map placed_end (thread_places qs) (b.start + b.size) law.ends.0 in
         let there = Contains-from_filter is_thread_place qs last.of last.there in
-        let low = All-contains (λ (q : Placed). placed_end q ≤ 2 ^ 46) qs last.of fits.ends there.0 in
+        let low = All-contains (λ (q : Placed). placed_end q ≤ 2 ^ 46) qs last.of laid.fits.ends there.0 in
         let ends = last.is in
         omega (arith, low, ends)
 
@@ -197,9 +198,9 @@ aligned_one base objects are b is =
 
 pub block_aligned :
     (base : ℕ) (objects : List LoadedObject) (found : Option TlsBlock) → found ≡ thread_block (own_placed base objects) →
-    AreObjects objects → IfSome found IsAligned
-block_aligned base objects found is are = by found (own_block_law base objects found is)
+    IsLaidOut base objects → IfSome found IsAligned
+block_aligned base objects found is laid = by found (own_block_law base objects found is)
   where
     by : (o : Option TlsBlock) → IfSome o (IsBlockOf (thread_places (own_placed base objects))) → IfSome o IsAligned
     by None law = tt
-    by (Some b) law = aligned_one base objects are b law
+    by (Some b) law = aligned_one base objects laid.objects_are b law

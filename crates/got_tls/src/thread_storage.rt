@@ -1,7 +1,6 @@
 //! The block of thread-local storage, the thread pointer, and offsets from it.
 ghost use Rattle.std.specs.Prelude.{◌≡◌, ◌%◌, ◌<◌, ◌^◌, IfSome};
-ghost use Rattle.elf_model.specs.Loading.{AreObjects};
-ghost use Rattle.elf_model.specs.OwnLayout.{IsNotTooLarge, own_in_load_order, own_placed};
+ghost use Rattle.elf_model.specs.OwnLayout.{own_in_load_order, own_placed};
 ghost use Rattle.elf_model.specs.Pieces.{AreLawfulKinds};
 ghost use Rattle.elf_model.specs.Relocation.{modulo_64};
 ghost use Rattle.elf_model.specs.ThreadStorage.{thread_block, thread_offset};
@@ -18,8 +17,8 @@ pub fn tls_block(placement: &Placement<'_>) -> Option<TlsBlock>
     ensures listed { AreLawfulKinds placement.now.objects → result ≡ thread_block (own_in_load_order placement.now.base placement.now.objects) }
     ensures law { IfSome result (IsBlockOf (thread_places (own_placed placement.now.base placement.now.objects))) }
     ensures some { IfSome result (λ b. 0 < b.align) }
-    ensures low { IsNotTooLarge placement.now.base placement.now.objects → IfSome result EndsLow }
-    ensures aligned { AreObjects placement.now.objects → IfSome result IsAligned }
+    ensures low { IfSome result EndsLow }
+    ensures aligned { IfSome result IsAligned }
 {
     placement.thread_block()
 }

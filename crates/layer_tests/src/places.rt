@@ -33,7 +33,7 @@ fn tells(placement: &Placement<'_>, place: &Place<'_>) -> bool {
         object: ObjectId(place.piece.object),
         section: place.piece.section,
     };
-    placement.address(section) == Some(place.at)
+    placement.numbered_address(section) == Some(place.at)
 }
 
 fn summary_of(alloc: Global, placement: &Placement<'_>) -> Result<Summary, AllocError> {

@@ -5,17 +5,18 @@ use Rattle.std.proofs.lemmas.Bool.{and_parts, eq-eqb, eqb-true, false≢true}
 use Rattle.std.proofs.lemmas.List.Elements.{All-head, All-tail, All-weaker}
 use Rattle.std.proofs.lemmas.Option.{none-some}
 use Rattle.elf_model.specs.Loading.{LoadedObject}
-use Rattle.elf_model.specs.OwnLayout.{got_line_of, got_number, got_piece, got_pieces, laid_out, own_address, own_got, own_in_load_order, own_laid_out, own_placed}
+use Rattle.elf_model.specs.OwnLayout.{got_line_of, got_number, got_piece, got_pieces, laid_out, own_address, own_got, own_in_load_order, own_laid_out, own_placed, own_places}
 use Rattle.elf_model.specs.Slots.{has_got}
 use Rattle.elf_model.specs.declared.link_map.GotLine.{GotLine}
-use Rattle.elf_model.specs.Commons.{pieces}
-use Rattle.elf_model.specs.Pieces.{Piece}
+use Rattle.elf_model.specs.Commons.{block_pieces, pieces}
+use Rattle.elf_model.specs.Pieces.{Piece, kept_sections}
 use Rattle.elf_model.specs.Placement.{Placed, is_of_section}
+use Rattle.elf_model.proofs.Blocks.{block_pieces-object}
 use Rattle.elf_model.proofs.Finding.{find-found, find-none}
 use Rattle.elf_model.proofs.Found.{find-map}
 use Rattle.elf_model.proofs.Listed.{All-from_contains, Contains-cons_cases, Contains-from_map, Contains-map, Contains-nil}
 use Rattle.elf_model.proofs.OwnOrder.{from_own_order, own_order, to_own_order}
-use Rattle.elf_model.proofs.PieceNumbers.{got_pieces-each, pieces_low}
+use Rattle.elf_model.proofs.PieceNumbers.{got_pieces-each, kept_below, pieces_low}
 use Rattle.elf_model.proofs.Places.{at_own_address, own_placed_pieces}
 
 -- where nothing is found, nothing passes
@@ -134,6 +135,31 @@ module _ (base : ℕ) (objects : List LoadedObject) (o s : ℕ) where
       sym
       (ap at_of
       (in_load_order ∙ ap (option_map (at_own_address base objects)) (find-none (of_section o s) (pieces objects) (none_behind high))))
+
+  -- a section of an object is found without the blocks, and none behind the last object
+  kept_places :
+      find (is_of_section o s) (own_places base objects (kept_sections objects))
+      ≡ option_map (at_own_address base objects) (find (of_section o s) (kept_sections objects))
+  kept_places = find-map (is_of_section o s) (at_own_address base objects) (kept_sections objects)
+
+  pub kept_address :
+      o < length objects →
+      at_of (find (is_of_section o s) (own_in_load_order base objects))
+      ≡ at_of (find (is_of_section o s) (own_places base objects (kept_sections objects)))
+  kept_address low =
+      let none =
+      All-weaker (λ p. p.object ≡ length objects) (λ p. of_section o s p ≡ false) (λ p e. of_other p o s (λ f. omega (arith, e, f, low)))
+      (block_pieces objects) (block_pieces-object objects) in
+      ap at_of
+      (in_load_order
+      ∙ (ap (option_map (at_own_address base objects)) (found_in_front (of_section o s) (kept_sections objects) (block_pieces objects) none) ∙ sym kept_places))
+
+  pub no_section : length objects ≤ o → None ≡ at_of (find (is_of_section o s) (own_places base objects (kept_sections objects)))
+  no_section high =
+      let none =
+      All-weaker (λ p. p.object < length objects) (λ p. of_section o s p ≡ false) (λ p low. of_other p o s (λ e. omega (arith, e, low, high)))
+      (kept_sections objects) (kept_below objects) in
+      sym (ap at_of (kept_places ∙ ap (option_map (at_own_address base objects)) (find-none (of_section o s) (kept_sections objects) none)))
 
 -- the GOT is found by its number
 pub got_address :

@@ -1,8 +1,8 @@
 -- What a placement is of, and what it keeps.
 use Rattle.std.specs.Prelude.{◌≡◌, ℕ, List, Option, find, length, option_map}
 use Rattle.std.specs.Global.{Vec}
-use Rattle.elf_model.specs.Loading.{LoadedObject}
-use Rattle.elf_model.specs.OwnLayout.{got_number, own_laid_out, own_loaded, own_placed, own_segments}
+use Rattle.elf_model.specs.Loading.{AreObjects, LoadedObject}
+use Rattle.elf_model.specs.OwnLayout.{IsNotTooLarge, got_number, own_laid_out, own_loaded, own_placed, own_segments}
 use Rattle.elf_model.specs.Placement.{Placed, is_of_section}
 use Rattle.elf_model.specs.declared.records.ProgramHeader.{ProgramHeader}
 use Rattle.layout.specs.Addresses.{entry}
@@ -23,3 +23,8 @@ pub record IsPlacement (base : ℕ) (objects : List LoadedObject) (places : List
   pub header_is : header ≡ header_in base (own_placed base objects)
   pub addresses_are : (o s : ℕ) → entry addresses o s ≡ option_map (λ q. q.at) (find (is_of_section o s) (own_laid_out base objects))
   pub bounds_are : AreBounds (got_number objects) (own_placed base objects) bounds
+
+-- what is laid out are objects that readers accept, and their layout isn't too large
+pub record IsLaidOut (base : ℕ) (objects : List LoadedObject) : Type 0 where
+  pub objects_are : AreObjects objects
+  pub fits : IsNotTooLarge base objects

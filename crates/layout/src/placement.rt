@@ -8,8 +8,8 @@ ghost use Rattle.elf_model.specs.ImageFile.{is_got_piece};
 ghost use Rattle.elf_model.specs.LinkerValues.{bound_value};
 ghost use Rattle.elf_model.specs.Loading.{AreObjects};
 ghost use Rattle.elf_model.specs.OwnAddresses.{AreOwnAddresses};
-ghost use Rattle.elf_model.specs.OwnLayout.{IsNotTooLarge, own_got, own_in_load_order, own_loaded, own_placed, own_segments, own_where};
-ghost use Rattle.elf_model.specs.Pieces.{AreLawfulKinds};
+ghost use Rattle.elf_model.specs.OwnLayout.{IsNotTooLarge, own_got, own_in_load_order, own_loaded, own_placed, own_places, own_segments, own_where};
+ghost use Rattle.elf_model.specs.Pieces.{AreLawfulKinds, kept_sections};
 ghost use Rattle.elf_model.specs.Placement.{is_of_section};
 ghost use Rattle.elf_model.specs.Resolution.{AreSoundCommons};
 ghost use Rattle.elf_model.specs.Slots as slots;
@@ -18,6 +18,7 @@ ghost use Rattle.search.specs.Views.{loaded_views};
 ghost use Rattle.resolve.specs.Blocks.{block_in, block_view, block_views};
 ghost use Rattle.layout.specs.Laid.{LayoutFails};
 ghost use Rattle.layout.specs.PlaceViews.{place_views};
+ghost use Rattle.layout.specs.Placements.{IsLaidOut};
 ghost use Rattle.layout.specs.Tables.{AreTables};
 ghost use Rattle.layout.specs.Threads.{header_in};
 ghost use Rattle.layout.specs.Views.{piece_view};
@@ -63,14 +64,14 @@ pub struct Placement<'a> {
 }
 
 impl<'a> Model for Placement<'a> {
-    ghost use Rattle.layout.specs.Placements.{Basis};
+    ghost use Rattle.layout.specs.Placements.{Basis, IsLaidOut};
     ghost use Rattle.layout.specs.Tables.{AreTables, IsNamed};
 
     ghost Value = { Basis };
 
     ghost view = { λ p. record { base = p.base; objects = p.loaded.objects } };
 
-    ghost invariant = { λ p. AreTables p.base p.loaded.objects p.tables × IsNamed p.loaded.objects p.named_blocks.value };
+    ghost invariant = { λ p. AreTables p.base p.loaded.objects p.tables × IsNamed p.loaded.objects p.named_blocks.value × IsLaidOut p.base p.loaded.objects };
 }
 
 /// The tables of the own layout of objects, whose common blocks these are, with a GOT of this size in bytes.
@@ -186,17 +187,29 @@ impl<'a> Placement<'a> {
         self.tables.thread_header
     }
 
-    /// The block of thread-local storage; None without thread-local pieces.
+    /// The block of thread-local storage; None without thread-local pieces. What is laid out are objects that readers accept,
+    /// and their layout isn't too large, which bounds the block.
     pub fn thread_block(&self) -> Option<TlsBlock>
+        ensures laid_out { IsLaidOut self.now.base self.now.objects }
         ensures placed { result ≡ thread_block (own_placed self.now.base self.now.objects) }
         ensures listed { AreLawfulKinds self.now.objects → result ≡ thread_block (own_in_load_order self.now.base self.now.objects) }
     {
         self.tables.thread_header.map(|h| block_of(&h))
     }
 
+    /// The address of a section of a loaded object; None where it isn't kept, and where there is no such section.
+    pub fn address(&self, section: SectionRef) -> Option<u64>
+        ensures { result ≡ option_map (λ q. q.at) (find (is_of_section section.object.0 section.section) (own_places self.now.base self.now.objects (kept_sections self.now.objects))) }
+    {
+        if section.object.0 as usize >= self.loaded.objects().len() {
+            return None;
+        }
+        self.numbered_address(section)
+    }
+
     /// The address of a section of an object, or of a common block, which is numbered like a section of one object more
     /// than are loaded; None where it isn't kept.
-    pub fn address(&self, section: SectionRef) -> Option<u64>
+    pub fn numbered_address(&self, section: SectionRef) -> Option<u64>
         ensures { result ≡ option_map (λ q. q.at) (find (is_of_section section.object.0 section.section) (own_in_load_order self.now.base self.now.objects)) }
     {
         let object = section.object.0 as usize;
@@ -211,7 +224,7 @@ impl<'a> Placement<'a> {
         ensures { result ≡ option_and_then (λ b. option_map (λ q. q.at) (find (is_of_section b.object b.number) (own_in_load_order self.now.base self.now.objects))) (commons.block_named self.now.objects name.now) }
     {
         let block = self.named_block(name)?;
-        self.address(block.section())
+        self.numbered_address(block.section())
     }
 
     /// The common block of a name; None where it has none.

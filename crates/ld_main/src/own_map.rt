@@ -39,7 +39,7 @@ pub fn value(placement: &Placement<'_>, symbol: &SymbolOf<'_>) -> u64
     if entry.st_shndx == SHN_ABS {
         return entry.st_value;
     }
-    match placement.address(SectionRef {
+    match placement.numbered_address(SectionRef {
         object: ObjectId(symbol.object),
         section: entry.st_shndx as u64,
     }) {
@@ -52,7 +52,7 @@ pub fn value(placement: &Placement<'_>, symbol: &SymbolOf<'_>) -> u64
 pub fn block_address(placement: &Placement<'_>, block: &Block<'_>) -> u64
     ensures { result ≡ section_address (own_in_load_order placement.now.base placement.now.objects) block.now.object block.now.number }
 {
-    match placement.address(block.section()) {
+    match placement.numbered_address(block.section()) {
         Some(at) => at,
         None => 0,
     }

@@ -37,7 +37,7 @@ fn section_ref(object: u64, section: u64) -> SectionRef
 pub fn address_or_none(placement: &Placement<'_>, number: usize, target: usize) -> u64
     ensures { result ≡ section_address (where_in placement.now).placed number target }
 {
-    match placement.address(section_ref(number as u64, target as u64)) {
+    match placement.numbered_address(section_ref(number as u64, target as u64)) {
         Some(at) => at,
         None => 0,
     }
@@ -52,7 +52,7 @@ fn symbol_value(placement: &Placement<'_>, symbol: &SymbolOf<'_>) -> u64
     if entry.st_shndx == SHN_ABS {
         return entry.st_value;
     }
-    match placement.address(section_ref(symbol.object, entry.st_shndx as u64)) {
+    match placement.numbered_address(section_ref(symbol.object, entry.st_shndx as u64)) {
         Some(at) => at.wrapping_add(entry.st_value),
         None => 0,
     }

@@ -97,7 +97,7 @@ fn holds_bytes(memory: &Memory<'_>, at: u64, bytes: &[u8]) -> bool
     ensures { IsTrue result ↔ HoldsBytes memory.now at bytes.now }
 {
     match memory.run(at, bytes.len() as u64) {
-        Some(run) => same_padded(run.bytes, bytes),
+        Some(held) => same_padded(held.bytes, bytes),
         None => false,
     }
 }

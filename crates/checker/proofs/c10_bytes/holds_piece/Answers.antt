@@ -12,7 +12,7 @@ pub returns-in-Some : goal.returns-in-Some
 returns-in-Some c =
     let q = placed_view c.args.placed.now in
     let size = c.load_size-size.result in
-    let run = c.in-Some.run in
+    let run = c.in-Some.held in
     let fs = fields_in c.args.rows.now q.piece.object q.piece.section in
     let wanted : List Field → ℕ → ℕ = λ gs k. byte_of q.piece.bytes k (find (covers k) gs) in
     let both =

@@ -8,7 +8,7 @@ use Rattle.checker.proofs.c07_got.got_bytes.holds_bytes.Goals as goal
 pub returns-in-Some : goal.returns-in-Some
 returns-in-Some c =
     let bytes = c.args.bytes.now in
-    let run = c.in-Some.run in
+    let run = c.in-Some.held in
     let whole = c.in-Some.ensures.run.whole in
     held_by_run c.args.memory.now c.args.at (length bytes) run.bytes.now run.zeros (slice_index bytes) c.same_padded.result c.in-Some.ensures.run
     (held_alike run.bytes.now bytes (slice_index run.bytes.now) c.same_padded.result (omega (arith, whole)) (λ k below. refl) c.same_padded.ensures)
