@@ -16,4 +16,4 @@ mod program;
 mod tables;
 
 #[cfg(test)]
-use link_samples::{objects, one_object, vectors};
+use link_samples::{objects, one_object, several_objects, vectors};
