@@ -18,4 +18,4 @@ mod streams;
 mod tables;
 
 #[cfg(test)]
-use link_samples::{objects, one_object, vectors};
+use link_samples::{objects, one_object, several_objects, vectors};

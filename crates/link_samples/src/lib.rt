@@ -7,4 +7,5 @@ pub mod links;
 pub mod objects;
 pub mod one_object;
 pub mod parts;
+pub mod several_objects;
 pub mod vectors;
