@@ -369,7 +369,10 @@ fn read_input<'a, R: Files + AllocGlobal>(
     Ok((task, files))
 }
 
-fn run<'a, R: Files + AllocGlobal + RandomSource>(rt: &R, words: &'a [String]) -> Result<Outcome, Failure<'a>>
+fn run<'a, R: Files + AllocGlobal + RandomSource>(
+    rt: &R,
+    words: &'a [String],
+) -> Result<Outcome, Failure<'a>>
     ensures right { IfOk result (λ o. outcome_status o ≡ 0 → HasRightLink (words_of words.entry.now)) }
     ensures refused_words { IsErr (command_of (words_of words.entry.now)) → IsErrAnd result (λ f. (failure_status f ≡ 2) ⊎ (failure_status f ≡ 4)) }
     ensures words_alone { IfErr result (λ f. failure_status f ≡ 2 → IsErr (command_of (words_of words.entry.now))) }

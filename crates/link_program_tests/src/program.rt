@@ -140,7 +140,10 @@ fn tells_faults_of_files(rt: HostRuntime) -> Result<(), Fail> {
         ("a.o -o d.o", "ld: cannot write d.o\n"),
         ("a.o -Map=no/start.map", "ld: cannot write no/start.map\n"),
         ("a.o -o /dev/full", "ld: cannot write /dev/full\n"),
-        ("a.o -o /dev/full -Map=full.map", "ld: cannot write /dev/full\n"),
+        (
+            "a.o -o /dev/full -Map=full.map",
+            "ld: cannot write /dev/full\n",
+        ),
         (
             "a.o --check -Map=no/start.map",
             "ld: cannot read no/start.map\n",
