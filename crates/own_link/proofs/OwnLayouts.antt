@@ -3,7 +3,6 @@ use Rattle.std.proofs.Common.{◌≡◌, ℕ, Bool, true, false, cond, List, [],
 use Rattle.std.specs.Prelude.{is_some}
 use Rattle.elf_model.specs.Commons.{pieces}
 use Rattle.elf_model.specs.Loading.{LoadedObject}
-
 use Rattle.elf_model.specs.OwnLayout.{got_line_of, own_got, own_in_load_order, own_places}
 use Rattle.elf_model.specs.Pieces.{Piece}
 use Rattle.elf_model.specs.Slots.{has_got}
