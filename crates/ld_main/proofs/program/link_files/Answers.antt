@@ -13,11 +13,6 @@ unwritten {X} Q r f is high =
     subst (λ (s : Result X Failure). IfErr s (λ e. failure_status e ≡ 2 → Q)) (sym is.1)
     (subst (λ (e : Failure). failure_status e ≡ 2 → Q) (sym is.2) (λ two. absurd (omega (arith, two, high))))
 
-pub returns-in_err-write_image-clause-words_alone : goal.returns-in_err-write_image-clause-words_alone
-returns-in_err-write_image-clause-words_alone g c =
-    unwritten _ c.from_residual.result c.in_err-write_image.field-0.0 (err_from_is_err_and c.from_residual.result c.from_residual.ensures.1) c.in_err-write_image.ensures
-
-pub returns-in_err-write_map-clause-words_alone : goal.returns-in_err-write_map-clause-words_alone
-returns-in_err-write_map-clause-words_alone g c =
-    unwritten _ c.from_residual-in_err-write_map.result c.in_err-write_map.field-0.0
-    (err_from_is_err_and c.from_residual-in_err-write_map.result c.from_residual-in_err-write_map.ensures.1) c.in_err-write_map.ensures
+pub returns-in_err-write_files-clause-words_alone : goal.returns-in_err-write_files-clause-words_alone
+returns-in_err-write_files-clause-words_alone g c =
+    unwritten _ c.from_residual.result c.in_err-write_files.field-0.0 (err_from_is_err_and c.from_residual.result c.from_residual.ensures.1) c.in_err-write_files.ensures
