@@ -117,26 +117,6 @@ fn assert_own(rt: &impl Abort, resolved: &Resolved<'_>) {
     }
 }
 
-/// Asserts what hand-made targets of symbols mean: each its own symbol, where that is there and defined.
-fn assert_own(rt: &impl Abort, resolved: &Resolved<'_>) {
-    // A GLOBAL symbol, an undefined one, a LOCAL one, symbol number 0, no such symbol, no such object.
-    for (object, number, own) in [
-        (0, 1, Some((0, 1))),
-        (0, 2, None),
-        (1, 1, Some((1, 1))),
-        (1, 0, None),
-        (1, 9, None),
-        (2, 1, None),
-    ] {
-        let target = Target::Local(symbol_ref(object, number));
-        let chosen = meant_numbers(resolved.chosen(&target));
-        assert!(rt;
-            chosen == own,
-            "of symbol {number} of object {object} as a target"
-        );
-    }
-}
-
 #[test]
 fn references_mean_strong_definitions(rt: HostRuntime) -> Result<(), Fail> {
     let alloc = rt.alloc();
