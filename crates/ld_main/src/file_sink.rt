@@ -37,9 +37,10 @@ impl<F: Write + Drop> FileSink<F> {
         }
     }
 
-    /// Writes bytes to the file.
+    /// Writes bytes to the file, for which nothing is gathered.
     fn write(&mut self, bytes: &[u8]) -> Result<(), SinkFault>
-        requires { self.old.failures ≡ 0 }
+        requires whole { self.old.failures ≡ 0 }
+        requires order { vec_len self.old.held ≡ 0 }
         ensures kept { OnOk result (self.new.failures ≡ 0) }
         ensures failure { OnErr result (self.new.failures ≡ 1) }
     {
@@ -75,6 +76,7 @@ impl<F: Write + Drop> FileSink<F> {
     fn make_room(&mut self, count: usize) -> Result<(), SinkFault>
         requires { self.old.failures ≡ 0 }
         ensures room { OnOk result (count < 65536 → vec_len self.new.held + count ≤ 65536) }
+        ensures order { OnOk result (65536 ≤ count → vec_len self.new.held ≡ 0) }
         ensures kept { OnOk result (self.new.failures ≡ 0) }
         ensures failure { OnErr result (self.new.failures ≡ 1) }
     {

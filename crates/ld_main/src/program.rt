@@ -394,7 +394,7 @@ fn run<'a, R: Files + AllocGlobal + RandomSource>(
 ///   `out`. Without it, the link is refused.
 /// - 2: the words are no command.
 /// - 3: a file is missing, or can't be read or written; what is written may then be a part.
-/// - 4: memory can't be had.
+/// - 4: memory can't be had; the image's file may then be empty.
 ///
 /// Where nothing is written or checked, `err` has one line: `ld: ` and the error's name and number, as
 /// `ld: NoEntry (18)`; behind that `: ` and the name and number of the fault of the words or of an object,
