@@ -106,13 +106,7 @@ fn across(alloc: Global) -> Result<Vec<u8>, Fail> {
         bytes: &ZEROS,
         ..DATA
     };
-    let relocations = [Relocation {
-        section: 2,
-        offset: 4092,
-        kind: R_64,
-        symbol: 1,
-        addend: 0,
-    }];
+    let relocations = [Relocation(2, 4092, R_64, 1, 0)];
     relocatable(alloc, &[TEXT, data_], &[SECTION_2, START], &relocations)
 }
 
