@@ -83,7 +83,7 @@ fn breaks_at(alloc: Global, linkage: &Linkage<'_>, whole: &[u8], call: usize) ->
     let front = whole.get(..call);
     matches!(result, Err(WriteFault::Device))
         && front == Some(sink.taken.as_slice())
-        && (sink.calls, sink.failures) == (call as u64 + 1, 1)
+        && (sink.calls, sink.failures) == ((call as u64).saturating_add(1), 1)
 }
 
 #[test]
@@ -115,8 +115,10 @@ fn a_field_may_lie_across_the_end_of_the_buffer(rt: HostRuntime) -> Result<(), F
     let files = one_file(rt.alloc(), "a.o", &across(rt.alloc())?)?;
     let words = words_of(rt.alloc(), "a.o")?;
     let linkage = prepare(rt.alloc(), &files, &words)?;
-    let mut wanted = Vec::from_slice(rt.alloc(), &ZEROS)?;
-    wanted[4092..4100].copy_from_slice(&[0, 0x20, 0x40, 0, 0, 0, 0, 0]);
+    let mut wanted = Vec::new(rt.alloc());
+    wanted.resize(4092, 0)?;
+    wanted.extend_from_slice(&[0, 0x20, 0x40, 0, 0, 0, 0, 0])?;
+    wanted.resize(8192, 0)?;
     let (result, sink) = written(rt.alloc(), &linkage, u64::MAX);
     result?;
     assert!(rt; sink.taken.get(0x2000..) == Some(wanted.as_slice()));
