@@ -18,14 +18,16 @@ The inputs, each of them also doubled:
 
 They lie inside the profile (docs/PROFILE.md), and are made by `as` or by elf.py beside this file. The linkers: the proved program
 crates/ld/out/ld, and of ld.bfd, ld.gold, ld.lld and mold those that are on PATH, with one thread and one process
-each, and without a symbol table in what they write (-s), as ours writes none. The first image of each is run, and
-must end with status 0; that of ours is checked too, which must be `yes`. The check is measured like a link.
+each. Each links twice a round: with a symbol table in the image, and with -s, without one. A row is compared with
+that of ours of the same kind. The others' tables say more than ours: LOCAL and thread-local symbols stand in them,
+and headers of all sections beside them. The first image of each is run, and must end with status 0; those of ours
+are checked too, which must be `yes`. The checks are measured like links.
 
 Time is the wall's, memory the greatest resident set, as GNU time tells it (time -f %M), which must be on PATH.
 Each number is the median of all runs, which go round the linkers in turn. "By bytes" is that memory by the bytes
 of the inputs and of the image; ours should stay at or below 3. Compare ratios of one run of this script, never
 numbers of two machines. Doubled inputs show the growth: time and memory by those of the single
-input, at most 2.3 for ours and its check.
+input, at most 2.3 for ours and its checks.
 
 The exit status is 1 where a link, a run or a check fails or ours grows above the limit, 2 without the proved
 program or GNU time.
@@ -49,11 +51,13 @@ ROOT = Path(__file__).resolve().parent.parent
 PROVED = ROOT / "crates" / "ld" / "out" / "ld"
 GROWTH_LIMIT = 2.3
 PEERS = {
-    "ld.bfd": ["ld.bfd", "-static", "-s"],
-    "ld.gold": ["ld.gold", "-static", "-s"],
-    "ld.lld": ["ld.lld", "-static", "-s", "--threads=1"],
-    "mold": ["mold", "-static", "-s", "--no-threads", "--no-fork"],
+    "ld.bfd": ["ld.bfd", "-static"],
+    "ld.gold": ["ld.gold", "-static"],
+    "ld.lld": ["ld.lld", "-static", "--threads=1"],
+    "mold": ["mold", "-static", "--no-threads", "--no-fork"],
 }
+# The words of a link with a symbol table in its image, and of one without.
+KINDS = ([], ["-s"])
 
 STACK = '.section .note.GNU-stack, "", @progbits\n'
 
@@ -343,55 +347,69 @@ def run_image(image):
         raise Failed(f"{image.name}: the image ends with status {status}")
 
 
+def row(name, kind):
+    """The name of a row: of a linker, or of the check, with the words of a kind."""
+    return " ".join([name] + kind)
+
+
+def is_check(name):
+    return name.startswith("--check")
+
+
 def commands(folder, inputs, ours, peers):
-    """The words of each linker, and of the check, by their names. Before the check there is a link with a map,
-    which is not measured."""
+    """The words of each linker and of the check, in both kinds, and the image that each writes or reads, by their
+    rows. Before a check there is a link with a map, which is not measured."""
     names = [str(word) for word in inputs]
     table = {}
-    if ours:
-        checked = [str(PROVED), "-o", str(folder / "checked"), f"-Map={folder / 'map'}"]
-        measured(checked + names)
-        run_image(folder / "checked")
-        table["ours"] = ([str(PROVED), "-o", str(folder / "ours")] + names, "")
-        table["--check"] = (checked + ["--check"] + names, "yes\n")
-    for peer in peers:
-        table[peer] = (PEERS[peer] + ["-o", str(folder / peer)] + names, "")
+    for number, kind in enumerate(KINDS):
+        if ours:
+            image = folder / f"checked{number}"
+            checked = [str(PROVED), "-o", str(image), f"-Map={folder / f'map{number}'}"] + kind
+            measured(checked + names)
+            run_image(image)
+            written = folder / f"ours{number}"
+            table[row("ours", kind)] = ([str(PROVED), "-o", str(written)] + kind + names, "", written)
+            table[row("--check", kind)] = (checked + ["--check"] + names, "yes\n", image)
+        for peer in peers:
+            written = folder / f"{peer}{number}"
+            table[row(peer, kind)] = (PEERS[peer] + ["-o", str(written)] + kind + names, "", written)
     return table
 
 
 def medians(folder, words, ours, peers, runs):
-    """The medians of seconds and KiB, and the bytes of inputs and image, by linker. The first round is not counted,
-    and its images are run."""
+    """The medians of seconds and KiB, and the bytes of inputs and image, by row. The first round is not counted, and
+    its images are run."""
     table = commands(folder, words, ours, peers)
     inputs = sum(word.stat().st_size for word in words if isinstance(word, Path))
-    images = {name: folder / ("checked" if name == "--check" else name) for name in table}
     results = {name: [] for name in table}
     for round_number in range(runs + 1):
-        for name, (words, expect) in table.items():
-            (folder / name).unlink(missing_ok=True)
+        for name, (words, expect, image) in table.items():
+            if not is_check(name):
+                image.unlink(missing_ok=True)
             result = measured(words, expect)
             if round_number > 0:
                 results[name].append(result)
-            elif name != "--check":
-                run_image(folder / name)
+            elif not is_check(name):
+                run_image(image)
     return {
         name: (
             statistics.median(seconds for seconds, _ in rows),
             statistics.median(kib for _, kib in rows),
-            inputs + images[name].stat().st_size,
+            inputs + table[name][2].stat().st_size,
         )
         for name, rows in results.items()
     }
 
 
 def print_table(title, table):
-    """Prints seconds, MiB and memory by bytes of each linker, and the first two as ratios to those of ours."""
+    """Prints seconds, MiB and memory by bytes of each row, and the first two as ratios to those of ours of its kind."""
     print(f"\n{title}")
-    print(f"  {'linker':<10}{'seconds':>10}{'MiB':>10}{'by bytes':>10}{'ours by it':>14}{'memory':>10}")
+    print(f"  {'linker':<12}{'seconds':>10}{'MiB':>10}{'by bytes':>10}{'ours by it':>14}{'memory':>10}")
     for name, (seconds, kib, held) in table.items():
-        line = f"  {name:<10}{seconds:>10.3f}{kib / 1024:>10.1f}{1024 * kib / held:>10.2f}"
-        if "ours" in table:
-            line += f"{table['ours'][0] / seconds:>14.2f}{table['ours'][1] / kib:>10.2f}"
+        line = f"  {name:<12}{seconds:>10.3f}{kib / 1024:>10.1f}{1024 * kib / held:>10.2f}"
+        ours = table.get(row("ours", name.split()[1:]))
+        if ours:
+            line += f"{ours[0] / seconds:>14.2f}{ours[1] / kib:>10.2f}"
         print(line)
 
 
@@ -401,9 +419,9 @@ def print_growth(single, double):
     within = True
     for name, (seconds, kib, _) in double.items():
         growth = (seconds / single[name][0], kib / single[name][1])
-        above = name in ("ours", "--check") and max(growth) > GROWTH_LIMIT
+        above = (is_check(name) or name.startswith("ours")) and max(growth) > GROWTH_LIMIT
         within = within and not above
-        print(f"  {name:<10}{growth[0]:>10.2f}{growth[1]:>10.2f}{'  above ' + str(GROWTH_LIMIT) if above else ''}")
+        print(f"  {name:<12}{growth[0]:>10.2f}{growth[1]:>10.2f}{'  above ' + str(GROWTH_LIMIT) if above else ''}")
     return within
 
 

@@ -3,10 +3,10 @@ use Rattle.std.proofs.Common.{◌≡◌, ℕ, zero, suc, ◌+◌, ◌<◌, ◌�
 use Rattle.std.proofs.lemmas.Bool.Decides.{eqb_tells}
 use Rattle.elf_model.specs.RightLink.{Holds, HoldsBefore, Subject, clause_number}
 use Rattle.elf_model.specs.declared.verdict.Clause.{Clause}
-use Rattle.elf_model.specs.declared.verdict.Clause.TheVariants.{C1, C2, C3, C4, C5, C6, C7, C8, C9, C10, C11, C12, C13}
+use Rattle.elf_model.specs.declared.verdict.Clause.TheVariants.{C1, C2, C3, C4, C5, C6, C7, C8, C9, C10, C11, C12, C13, C14}
 
 abbrev clauses : List Clause
-clauses = C1 ∷ C2 ∷ C3 ∷ C4 ∷ C5 ∷ C6 ∷ C7 ∷ C8 ∷ C9 ∷ C10 ∷ C11 ∷ C12 ∷ C13 ∷ []
+clauses = C1 ∷ C2 ∷ C3 ∷ C4 ∷ C5 ∷ C6 ∷ C7 ∷ C8 ∷ C9 ∷ C10 ∷ C11 ∷ C12 ∷ C13 ∷ C14 ∷ []
 
 -- the clause that has a number
 abbrev clause_at : ℕ → Clause
@@ -26,8 +26,9 @@ at_number C10 = refl
 at_number C11 = refl
 at_number C12 = refl
 at_number C13 = refl
+at_number C14 = refl
 
-within : (c : Clause) → clause_number c ≤ 13
+within : (c : Clause) → clause_number c ≤ 14
 within C1 = omega arith
 within C2 = omega arith
 within C3 = omega arith
@@ -41,6 +42,7 @@ within C10 = omega arith
 within C11 = omega arith
 within C12 = omega arith
 within C13 = omega arith
+within C14 = omega arith
 
 pub same_clause : (c d : Clause) → clause_number c ≡ clause_number d → c ≡ d
 same_clause c d e = sym (at_number c) ∙ (ap clause_at e ∙ at_number d)
@@ -69,9 +71,9 @@ module _ (s : Subject) where
       by (inl same) = subst (λ (x : Clause). Holds x s) (sym (same_clause e c same)) here
       by (inr other) = before e (omega (arith, low, next, other))
 
-  pub all_hold : HoldsBefore C13 s → Holds C13 s → (c : Clause) → Holds c s
-  all_hold before last c = by (same_or_not (clause_number c) 13)
+  pub all_hold : HoldsBefore C14 s → Holds C14 s → (c : Clause) → Holds c s
+  all_hold before last c = by (same_or_not (clause_number c) 14)
     where
-      by : (clause_number c ≡ 13) ⊎ (clause_number c ≡ 13 → ⊥) → Holds c s
-      by (inl same) = subst (λ (x : Clause). Holds x s) (sym (same_clause c C13 same)) last
+      by : (clause_number c ≡ 14) ⊎ (clause_number c ≡ 14 → ⊥) → Holds c s
+      by (inl same) = subst (λ (x : Clause). Holds x s) (sym (same_clause c C14 same)) last
       by (inr other) = before c (let most = within c in omega (arith, other, most))

@@ -9,6 +9,7 @@ pub mod Lines
 pub mod NearSteps
 pub mod NextPieces
 pub mod Parts
+pub mod PartsEnd
 pub mod PartsOfLists
 pub mod PieceSections
 pub mod PlacedFacts
@@ -21,6 +22,11 @@ pub mod Stretching
 pub mod Sweep
 pub mod Sweeping
 pub mod SymbolLines
+pub mod TableClause
+pub mod TableEntries
+pub mod TableLines
+pub mod TableParts
+pub mod TableSteps
 pub mod ThingsOfSegment
 pub mod ThreadBlocks
 pub mod Verdicts

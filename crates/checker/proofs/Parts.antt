@@ -5,7 +5,7 @@ use Rattle.std.specs.List.Sorted.{IsNonDecreasingBy}
 use Rattle.std.proofs.lemmas.List.{get_or-map, length-map}
 use Rattle.std.proofs.lemmas.List.Elements.{All-contains, All-contains_itself, All-map, All-weaker}
 use Rattle.std.proofs.lemmas.Option.{none-some, same_Some}
-use Rattle.elf_model.specs.MemoryImage.{Cell, IsGoodLoad, IsImage, cell_of, first_address, loads, maps, program_headers}
+use Rattle.elf_model.specs.MemoryImage.{Cell, IsGoodLoad, IsImage, cell_of, file_end, first_address, loads, maps, program_headers}
 use Rattle.elf_model.specs.Placement.{Covers}
 use Rattle.elf_model.specs.RightLink.{IsFilled, fill_of}
 use Rattle.elf_model.specs.declared.records.ProgramHeader.{ProgramHeader}
@@ -62,7 +62,7 @@ parts_rise image is i j d order within =
 -- the file's gaps, as a region
 pub gaps_iff :
     (image : List ℕ) (b : Bool) →
-    (IsTrue b → RegionFilled image 0 (length image) 0 (map part_of (loads image))) × (RegionFilled image 0 (length image) 0 (map part_of (loads image)) → IsTrue b) →
+    (IsTrue b → RegionFilled image 0 (file_end (loads image)) 0 (map part_of (loads image))) × (RegionFilled image 0 (file_end (loads image)) 0 (map part_of (loads image)) → IsTrue b) →
     (IsTrue b → HasZeroGaps image) × (HasZeroGaps image → IsTrue b)
 gaps_iff image b region = (
   λ e. record {

@@ -1,11 +1,12 @@
 -- What is asked of a segment and of things, asked of those alone that lie in it.
 use Rattle.std.proofs.Common.{◌≡◌, ℕ, ◌+◌, ◌<◌, ◌≤◌, true, List, get_or, sym, subst, arith}
-use Rattle.std.specs.Prelude.{All, Any, Contains, IsPermutation}
+use Rattle.std.specs.Prelude.{All, Any, Contains, IsPermutation, Option}
 use Rattle.std.proofs.lemmas.List.Elements.{All-contains, All-weaker, Contains-get_or}
 use Rattle.std.proofs.lemmas.List.Sorted.{All-permutation, Contains-permutation, IsPermutation-sym}
 use Rattle.elf_model.specs.MemoryImage.{loads}
 use Rattle.elf_model.specs.Placement.{Covers}
 use Rattle.elf_model.specs.RightLink.{EndsRight, HasNothingElse, IsOfSegment}
+use Rattle.elf_model.specs.declared.link_map.SymtabLine.{SymtabLine}
 use Rattle.elf_model.specs.declared.records.ProgramHeader.{ProgramHeader}
 use Rattle.elf_model.specs.declared.thing.Thing.{Thing}
 use Rattle.checker.specs.Sweeps.{FilledFrom, RegionFilled}
@@ -67,8 +68,10 @@ filled_of_part bytes from top fill ts us there all = (
 )
 
 -- an image has nothing else than things in any order
-pub nothing_else_moved : (image : List ℕ) (ts us : List Thing) → IsPermutation ts us → HasNothingElse image ts → HasNothingElse image us
-nothing_else_moved image ts us moved nothing =
+pub nothing_else_moved :
+    (image : List ℕ) (symtab : Option SymtabLine) (ts us : List Thing) → IsPermutation ts us →
+    HasNothingElse image symtab ts → HasNothingElse image symtab us
+nothing_else_moved image symtab ts us moved nothing =
     let back = IsPermutation-sym ts us moved in
     record {
       fill = λ a c m out. nothing.fill a c m (All-permutation (λ (t : Thing). Covers t a → ⊥) us ts back out);

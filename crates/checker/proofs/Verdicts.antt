@@ -7,7 +7,7 @@ use Rattle.elf_model.specs.MapRecord.{MapRecord}
 use Rattle.elf_model.specs.MapText.{IsMap, text}
 use Rattle.elf_model.specs.RightLink.{FailsAt, IsRead, IsRightLink, IsUnread, Least, Subject, clause_number}
 use Rattle.elf_model.specs.declared.verdict.Clause.{Clause}
-use Rattle.elf_model.specs.declared.verdict.Clause.TheVariants.{C1, C2, C3, C4, C5, C6, C7, C8, C9, C10, C11, C12, C13}
+use Rattle.elf_model.specs.declared.verdict.Clause.TheVariants.{C1, C2, C3, C4, C5, C6, C7, C8, C9, C10, C11, C12, C13, C14}
 use Rattle.elf_model.specs.declared.verdict.Verdict.{Verdict}
 use Rattle.elf_model.specs.declared.verdict.Verdict.TheVariants.{No, Yes}
 use Rattle.checker.specs.Judged.{Judges}
@@ -79,6 +79,7 @@ module _
     verdict_no v j C11 = least v C11 j
     verdict_no v j C12 = least v C12 j
     verdict_no v j C13 = least v C13 j
+    verdict_no v j C14 = least v C14 j
 
 -- where there is no plan or no map
 module _ (files : List File) (words : List (List ℕ)) (image bytes : List ℕ) (unread : IsUnread words bytes) where
@@ -108,3 +109,4 @@ module _ (files : List File) (words : List (List ℕ)) (image bytes : List ℕ) 
   unread_no C11 = fails_never C11 (λ e. let f : C1 ≡ C11 = e in cc)
   unread_no C12 = fails_never C12 (λ e. let f : C1 ≡ C12 = e in cc)
   unread_no C13 = fails_never C13 (λ e. let f : C1 ≡ C13 = e in cc)
+  unread_no C14 = fails_never C14 (λ e. let f : C1 ≡ C14 = e in cc)

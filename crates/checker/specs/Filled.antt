@@ -1,6 +1,6 @@
 -- Words on segments and on file parts for this crate's own functions.
-use Rattle.std.specs.Prelude.{◌≡◌, ℕ, ◌+◌, ◌<◌, ◌≤◌, true, List, All, length, slice_index}
-use Rattle.elf_model.specs.MemoryImage.{loads, segment_byte}
+use Rattle.std.specs.Prelude.{◌≡◌, ℕ, ◌+◌, ◌<◌, ◌≤◌, true, List, All, slice_index}
+use Rattle.elf_model.specs.MemoryImage.{file_end, loads, segment_byte}
 use Rattle.elf_model.specs.Placement.{Covers}
 use Rattle.elf_model.specs.RightLink.{IsInFilePart, fill_of}
 use Rattle.elf_model.specs.declared.records.ProgramHeader.{ProgramHeader}
@@ -16,6 +16,6 @@ pub record SegmentFilled (image : List ℕ) (ts : List Thing) (h : ProgramHeader
 abbrev pub part_of : ProgramHeader → Thing
 part_of h = record { at = h.p_offset; size = h.p_filesz; align = 1; rights = 4; in_file = true }
 
--- the file's bytes in no file part are 0
+-- the file's bytes in no file part are 0, up to the end of the last one
 pub record HasZeroGaps (image : List ℕ) : Type 0 where
-  pub gaps : (i : ℕ) → i < length image → All (λ h. ¬ IsInFilePart h i) (loads image) → slice_index image i ≡ 0
+  pub gaps : (i : ℕ) → i < file_end (loads image) → All (λ h. ¬ IsInFilePart h i) (loads image) → slice_index image i ≡ 0

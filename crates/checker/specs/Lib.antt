@@ -7,4 +7,5 @@ pub mod Listed
 pub mod Neighbours
 pub mod ObjectLines
 pub mod Sweeps
+pub mod Tabled
 pub mod ThreadBlock

@@ -1,7 +1,7 @@
 //! C11: whether the image has nothing but the things and their fill, in memory and in the file.
 ghost use Rattle.std.specs.Prelude.{◌≡◌, ◌+◌, ◌<◌, ◌^◌, ◌↔◌, All, IfOk, IsTrue, length, map};
 ghost use Rattle.std.specs.List.Sorted.{IsNonDecreasingBy};
-ghost use Rattle.elf_model.specs.MemoryImage.{loads};
+ghost use Rattle.elf_model.specs.MemoryImage.{file_end, loads};
 ghost use Rattle.elf_model.specs.RightLink.{EndsRight, HasNothingElse, Holds, HoldsBefore, IsFilled, fill_of};
 ghost use Rattle.loader_model.specs.Table.{IsLawful};
 ghost use Rattle.checker.specs.Filled.{HasZeroGaps, SegmentFilled, part_of};
@@ -9,12 +9,12 @@ ghost use Rattle.checker.specs.Sweeps.{EndFits, RegionFilled};
 ghost use Rattle.elf_model.specs.declared.verdict.Clause.TheVariants as clause;
 
 use crate::bound_link::BoundLink;
-use crate::c11_fill::ends::{all_end_right, ends_with_a_part};
+use crate::c11_fill::ends::{all_end_right, ends_as_told};
 use crate::c11_fill::region::{Region, is_filled};
 use crate::c11_fill::stretches::{lying_between, stretched};
-use crate::segments::file_part;
+use crate::segments::{file_end, file_part};
 use crate::sorted_things::by_address;
-use elf_model::{ProgramHeader, Thing};
+use elf_model::{ProgramHeader, SymtabLine, Thing};
 use loader_model::Memory;
 use std::alloc::{AllocError, Global};
 
@@ -27,7 +27,8 @@ pub fn holds(alloc: Global, bound: &BoundLink<'_, '_>) -> Result<bool, AllocErro
     requires { HoldsBefore clause.C11 bound.now }
     ensures { IfOk result (λ b. IsTrue b ↔ Holds clause.C11 bound.now) }
 {
-    let filled = has_nothing_else(alloc, bound.memory(), bound.things())?;
+    let symtab = bound.link().map.symtab;
+    let filled = has_nothing_else(alloc, bound.memory(), symtab, bound.things())?;
     Ok(filled)
 }
 
@@ -101,28 +102,29 @@ fn parts_of(alloc: Global, segments: &[ProgramHeader]) -> Result<Vec<Thing>, All
     Ok(parts)
 }
 
-/// Whether the file's bytes outside of all stretches are 0.
-fn are_gaps_zero(image: &[u8], parts: &[Thing]) -> bool
+/// Whether the file's bytes below an end and outside of all stretches are 0.
+fn are_gaps_zero(image: &[u8], end: u64, parts: &[Thing]) -> bool
     requires fits { All EndFits parts.now }
     requires rising { IsNonDecreasingBy (λ t. t.at) parts.now }
-    ensures { IsTrue result ↔ RegionFilled image.now 0 (length image.now) 0 parts.now }
+    ensures { IsTrue result ↔ RegionFilled image.now 0 end 0 parts.now }
 {
     let region = Region {
         bytes: image,
         start: 0,
-        top: image.len() as u64,
+        top: end,
         fill: 0,
     };
     is_filled(&region, parts)
 }
 
-/// Whether the file's bytes in no file part are 0.
-fn are_file_gaps_zero(alloc: Global, memory: &Memory<'_>) -> Result<bool, AllocError>
+/// Whether the file's bytes in no file part are 0, up to the end of the last one.
+fn are_file_gaps_zero(alloc: Global, memory: &Memory<'_>, end: u64) -> Result<bool, AllocError>
+    requires { end ≡ file_end (loads memory.now) }
     ensures { IfOk result (λ b. IsTrue b ↔ HasZeroGaps memory.now) }
 {
     let image = memory.image();
     let parts = parts_of(alloc, memory.segments())?;
-    let zero = are_gaps_zero(image, &parts);
+    let zero = are_gaps_zero(image, end, &parts);
     Ok(zero)
 }
 
@@ -155,19 +157,21 @@ fn do_segments_end_right(memory: &Memory<'_>, sorted: &[Thing]) -> bool
 fn sorted_have_nothing_else(
     alloc: Global,
     memory: &Memory<'_>,
+    symtab: Option<SymtabLine>,
     sorted: &[Thing],
 ) -> Result<bool, AllocError>
     requires fits { All EndFits sorted.now }
     requires rising { IsNonDecreasingBy (λ t. t.at) sorted.now }
-    ensures { IfOk result (λ b. IsTrue b ↔ HasNothingElse memory.now sorted.now) }
+    ensures { IfOk result (λ b. IsTrue b ↔ HasNothingElse memory.now symtab sorted.now) }
 {
     if !do_segments_end_right(memory, sorted) {
         return Ok(false);
     }
-    if !ends_with_a_part(memory.segments(), memory.image().len() as u64) {
+    let end = file_end(memory);
+    if !ends_as_told(symtab, memory.image().len() as u64, end) {
         return Ok(false);
     }
-    let zero = are_file_gaps_zero(alloc, memory)?;
+    let zero = are_file_gaps_zero(alloc, memory, end)?;
     if !zero {
         return Ok(false);
     }
@@ -175,17 +179,18 @@ fn sorted_have_nothing_else(
     Ok(filled)
 }
 
-/// Whether each byte of memory and of the file outside of all things is what it must be, and segments and
-/// the file end as the things in them do.
+/// Whether each byte of memory and of the file's parts outside of all things is what it must be, segments end as
+/// the things in them do, and the file as the map's line of a symbol table tells.
 fn has_nothing_else(
     alloc: Global,
     memory: &Memory<'_>,
+    symtab: Option<SymtabLine>,
     things: &[Thing],
 ) -> Result<bool, AllocError>
     requires { All EndFits things.now }
-    ensures { IfOk result (λ b. IsTrue b ↔ HasNothingElse memory.now things.now) }
+    ensures { IfOk result (λ b. IsTrue b ↔ HasNothingElse memory.now symtab things.now) }
 {
     let sorted = by_address(alloc, things)?;
-    let nothing = sorted_have_nothing_else(alloc, memory, &sorted)?;
+    let nothing = sorted_have_nothing_else(alloc, memory, symtab, &sorted)?;
     Ok(nothing)
 }

@@ -16,6 +16,7 @@ mod c10_bytes;
 mod c11_fill;
 mod c12_entry;
 mod c13_symbols;
+mod c14_tables;
 mod loaded_link;
 mod placed_link;
 mod segments;

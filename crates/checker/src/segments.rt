@@ -1,6 +1,6 @@
 //! The segment in which a range of addresses lies, and what the file has for it.
-ghost use Rattle.std.specs.Prelude.{◌≡◌, ◌+◌, ◌≤◌, ◌<◌, ◌↔◌, ℕ, All, AllPairs, IsTrue, length, slice_index, Contains, IfSome, Some, slice_index_or};
-ghost use Rattle.elf_model.specs.MemoryImage.{Encloses, segment_byte, loads};
+ghost use Rattle.std.specs.Prelude.{◌≡◌, ◌+◌, ◌≤◌, ◌<◌, ◌↔◌, ◌^◌, ℕ, All, AllPairs, IsTrue, length, slice_index, Contains, IfSome, Some, slice_index_or};
+ghost use Rattle.elf_model.specs.MemoryImage.{Encloses, file_end, segment_byte, loads};
 ghost use Rattle.loader_model.specs.Table.{IsLawful, EndsBefore};
 ghost use Rattle.std.specs.List.Sorted.{IsNonDecreasingBy};
 
@@ -69,6 +69,30 @@ pub fn file_part<'f>(image: &'f [u8], segment: &ProgramHeader) -> &'f [u8]
     let (_before, rest) = image.split_at(segment.p_offset as usize);
     let (part, _after) = rest.split_at(segment.p_filesz as usize);
     part
+}
+
+/// Where the last file part of segments ends, in bytes of the file.
+fn end_of_parts(segments: &[ProgramHeader]) -> u64
+    requires { All (λ h. h.p_offset + h.p_filesz < 2 ^ 64) segments.now }
+    ensures { result ≡ file_end segments.now }
+{
+    let mut end = 0;
+    for segment in segments {
+        if segment.p_filesz > 0 {
+            end = end.max(segment.p_offset + segment.p_filesz);
+        }
+    }
+    end
+}
+
+/// Where the last file part of an image ends, in bytes of the file.
+pub fn file_end(memory: &Memory<'_>) -> u64
+    ensures end { result ≡ file_end (loads memory.now) }
+    ensures inside { result ≤ length memory.now }
+    ensures low { result ≤ 2 ^ 46 }
+{
+    let _image = memory.image();
+    end_of_parts(memory.segments())
 }
 
 /// The bytes from `offset` on, `len` at most.

@@ -11,7 +11,7 @@ use crate::loaded_link::LoadedLink;
 use crate::placed_link::PlacedLink;
 use crate::{
     c02_loaded, c03_sections, c04_image, c05_placed, c06_rights, c07_got, c08_thread_block,
-    c09_relocations, c10_bytes, c11_fill, c12_entry, c13_symbols,
+    c09_relocations, c10_bytes, c11_fill, c12_entry, c13_symbols, c14_tables,
 };
 use check_link::{Link, Outputs, Places, SlotTable, base_of, read_map, read_plan};
 use check_load::open;
@@ -172,7 +172,7 @@ fn judge_fill(alloc: Global, bound: &BoundLink<'_, '_>) -> Result<Verdict, Alloc
     judge_symbols(alloc, bound)
 }
 
-/// Judges the twelfth and the thirteenth clause.
+/// Judges the clauses from the twelfth on.
 fn judge_symbols(alloc: Global, bound: &BoundLink<'_, '_>) -> Result<Verdict, AllocError>
     requires { HoldsBefore clause.C12 bound.now }
     ensures { IfOk result (λ v. Judges v bound.now) }
@@ -184,5 +184,16 @@ fn judge_symbols(alloc: Global, bound: &BoundLink<'_, '_>) -> Result<Verdict, Al
     if !c13_symbols::holds(alloc, bound)? {
         return Ok(no(Clause::C13, link));
     }
-    Ok(Verdict::Yes)
+    Ok(judge_tables(bound))
+}
+
+/// Judges the fourteenth clause.
+fn judge_tables(bound: &BoundLink<'_, '_>) -> Verdict
+    requires { HoldsBefore clause.C14 bound.now }
+    ensures { Judges result bound.now }
+{
+    if !c14_tables::holds(bound) {
+        return no(Clause::C14, bound.link());
+    }
+    Verdict::Yes
 }

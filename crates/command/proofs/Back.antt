@@ -3,7 +3,7 @@ use Rattle.std.proofs.Common.{◌≡◌, ◌≢◌, ◌⊎◌, inl, inr, ℕ, Bo
 use Rattle.std.specs.Option.{option_map_or}
 use Rattle.std.proofs.lemmas.Bool.Decides.{nat_tests, Decides-eqb}
 use Rattle.elf_model.specs.declared.faults.CmdFault.TheVariants.{GroupNesting, NoInput, MissingValue, NotArchiveInGroup, BadNumber}
-use Rattle.elf_model.specs.Command.{Path, Library, Plan, Phrase, Output, Entry, Undefined, Directory, Input, MapFile, Base, GroupStart, GroupEnd, WholeStart, WholeEnd, Check, NoEffect, Setting, OutputFile, EntrySymbol, UndefinedSymbol, SearchDirectory, LibraryName, Machine, MapPath, TextSegment, and_then, is_empty, setting_of, base_of, meaning, given, of_word, split, is_open, is_archive, placed, read_behind, plan_of_phrases, whole_line, command_of, IsTwoWords, IsOneWord, IsSpelled, IsPhrases, MayFollow, AllFollow, IsCommand}
+use Rattle.elf_model.specs.Command.{Path, Library, Plan, Phrase, Output, Entry, Undefined, Directory, Input, MapFile, Base, GroupStart, GroupEnd, WholeStart, WholeEnd, Check, Strip, NoEffect, Setting, OutputFile, EntrySymbol, UndefinedSymbol, SearchDirectory, LibraryName, Machine, MapPath, TextSegment, and_then, is_empty, setting_of, base_of, meaning, given, of_word, split, is_open, is_archive, placed, read_behind, plan_of_phrases, whole_line, command_of, IsTwoWords, IsOneWord, IsSpelled, IsPhrases, MayFollow, AllFollow, IsCommand}
 use Rattle.command.specs.Steps.{with_next, phrase_at}
 use Rattle.command.proofs.Splitting.{read_on, split_is}
 
@@ -95,6 +95,7 @@ spelled_may GroupEnd fw rest h = either_may _ (one_may (codes "--end-group") fw 
 spelled_may WholeStart fw rest h = one_may (codes "--whole-archive") fw rest WholeStart refl refl h
 spelled_may WholeEnd fw rest h = one_may (codes "--no-whole-archive") fw rest WholeEnd refl refl h
 spelled_may Check fw rest h = one_may (codes "--check") fw rest Check refl refl h
+spelled_may Strip fw rest h = one_may (codes "-s") fw rest Strip refl refl h
 spelled_may NoEffect fw rest h =
     either_may _ (one_may (codes "-static") fw rest NoEffect refl refl)
     (either_may _ (one_may (codes "-nostdlib") fw rest NoEffect refl refl)

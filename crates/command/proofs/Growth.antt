@@ -6,7 +6,7 @@ use Rattle.std.proofs.lemmas.List.Elements.{filter_map-append, filter-append}
 use Rattle.std.proofs.lemmas.Grind.{common_steps}
 use Rattle.elf_model.specs.declared.faults.CmdFault.{CmdFault}
 use Rattle.elf_model.specs.declared.faults.CmdFault.TheVariants.{MissingValue, GroupNesting, NoInput, NotArchiveInGroup}
-use Rattle.elf_model.specs.Command.{Item, Phrase, Input, GroupStart, GroupEnd, and_then, last_said, is_open, open_group, groups_begun, item_behind, items_behind, plan_of_phrases, placed, whole_line, is_archive, source_in, directory_in, undefined_in, entry_in, base_in, output_in, map_in, is_check, whole_in, group_in, is_group_start}
+use Rattle.elf_model.specs.Command.{Item, Phrase, Input, GroupStart, GroupEnd, and_then, last_said, is_open, open_group, groups_begun, item_behind, items_behind, plan_of_phrases, placed, whole_line, is_archive, source_in, directory_in, undefined_in, entry_in, base_in, output_in, map_in, is_check, is_strip, whole_in, group_in, is_group_start}
 use Rattle.command.specs.Steps.{State, more, item_in, group_after, taken, accept, finish}
 
 -- the state behind some phrases
@@ -35,9 +35,9 @@ cons_more xs (Some x) = refl
 all_more : {X : Type 0} (says : Phrase → Option X) (ps : List Phrase) (p : Phrase) → filter_map says (ps ++ p ∷ []) ≡ more (says p) (filter_map says ps)
 all_more says ps p = filter_map-append says ps (p ∷ []) ∙ cons_more (filter_map says ps) (says p)
 
-check_more : (ps : List Phrase) (p : Phrase) → list_any is_check (ps ++ p ∷ []) ≡ (list_any is_check ps || is_check p)
-check_more [] p = grind arith
-check_more (q ∷ ps) p = let e = check_more ps p in grind arith
+any_more : (says : Phrase → Bool) (ps : List Phrase) (p : Phrase) → list_any says (ps ++ p ∷ []) ≡ (list_any says ps || says p)
+any_more says [] p = grind arith
+any_more says (q ∷ ps) p = let e = any_more says ps p in grind arith
 
 single : {X : Type 0} (m : Option X) → option_to_list m ++ [] ≡ more m []
 single None = refl
@@ -80,21 +80,21 @@ group_more ps p =
     ∙ group_by p (is_open ps) (groups_begun ps)
 
 -- a state by its parts
-made : List Item → List (List ℕ) → List (List ℕ) → List ℕ → ℕ → List ℕ → Option (List ℕ) → Bool → Bool → Option ℕ → ℕ → State
-made items directories undefined entry base output map check whole group groups = record {
-  plan = record { items = items; directories = directories; undefined = undefined; entry = entry; base = base; output = output; map = map; check = check };
+made : List Item → List (List ℕ) → List (List ℕ) → List ℕ → ℕ → List ℕ → Option (List ℕ) → Bool → Bool → Bool → Option ℕ → ℕ → State
+made items directories undefined entry base output map check strip whole group groups = record {
+  plan = record { items = items; directories = directories; undefined = undefined; entry = entry; base = base; output = output; map = map; check = check; strip = strip };
   whole = whole;
   group = group;
   groups = groups;
 }
 
-same_made : (i j : List Item) (d e u v : List (List ℕ)) (n o : List ℕ) (a b : ℕ) (x y : List ℕ) (l m : Option (List ℕ)) (c k w z : Bool) (g h : Option ℕ) (s t : ℕ) → i ≡ j → d ≡ e → u ≡ v → n ≡ o → a ≡ b → x ≡ y → l ≡ m → c ≡ k → w ≡ z → g ≡ h → s ≡ t → made i d u n a x l c w g s ≡ made j e v o b y m k z h t
-same_made i j d e u v n o a b x y l m c k w z g h s t p1 p2 p3 p4 p5 p6 p7 p8 p9 p10 p11 = cc
+same_made : (i j : List Item) (d e u v : List (List ℕ)) (n o : List ℕ) (a b : ℕ) (x y : List ℕ) (l m : Option (List ℕ)) (c k q r w z : Bool) (g h : Option ℕ) (s t : ℕ) → i ≡ j → d ≡ e → u ≡ v → n ≡ o → a ≡ b → x ≡ y → l ≡ m → c ≡ k → q ≡ r → w ≡ z → g ≡ h → s ≡ t → made i d u n a x l c q w g s ≡ made j e v o b y m k r z h t
+same_made i j d e u v n o a b x y l m c k q r w z g h s t p1 p2 p3 p4 p5 p6 p7 p8 p9 p10 p11 p12 = cc
 
 -- the state behind one more phrase
 pub state_more : (ps : List Phrase) (p : Phrase) → state_from (ps ++ p ∷ []) ≡ taken (state_from ps) p
 unfolding made
-state_more ps p = same_made _ _ _ _ _ _ _ _ _ _ _ _ _ _ _ _ _ _ _ _ _ _
+state_more ps p = same_made _ _ _ _ _ _ _ _ _ _ _ _ _ _ _ _ _ _ _ _ _ _ _ _
     (items_more [] ps p)
     (all_more directory_in ps p)
     (all_more undefined_in ps p)
@@ -102,7 +102,8 @@ state_more ps p = same_made _ _ _ _ _ _ _ _ _ _ _ _ _ _ _ _ _ _ _ _ _ _
     (said_more base_in 0x400000 ps p)
     (said_more output_in (codes "a.out") ps p)
     (last_more map_in ps p)
-    (check_more ps p)
+    (any_more is_check ps p)
+    (any_more is_strip ps p)
     (said_more whole_in false ps p)
     (group_more ps p)
     (groups_more ps p)

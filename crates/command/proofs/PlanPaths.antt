@@ -13,9 +13,9 @@ over_items : (ds : List (List ℕ)) (items : List Item) → flat_map (λ (i : co
 over_items ds [] = refl
 over_items ds (i ∷ is) = ap (λ ps. paths_of ds (source_of i.source) ++ ps) (over_items ds is)
 
-pub candidates_is : (plan : command.Plan) (items : List Item) (directories undefined : List (Bor (List ℕ))) (entry : Bor (List ℕ)) (base : ℕ) (output : Bor (List ℕ)) (path : Option (Bor (List ℕ))) (check : Bool) → plan_of items directories undefined entry base output path check ≡ plan → with_all [] (flat_map (λ (i : Item). paths_of (texts_of directories) (source_of i.source)) items) ≡ candidates_of plan
+pub candidates_is : (plan : command.Plan) (items : List Item) (directories undefined : List (Bor (List ℕ))) (entry : Bor (List ℕ)) (base : ℕ) (output : Bor (List ℕ)) (path : Option (Bor (List ℕ))) (check strip : Bool) → plan_of items directories undefined entry base output path check strip ≡ plan → with_all [] (flat_map (λ (i : Item). paths_of (texts_of directories) (source_of i.source)) items) ≡ candidates_of plan
 unfolding candidates_of
-candidates_is plan items directories undefined entry base output path check e =
+candidates_is plan items directories undefined entry base output path check strip e =
     distinct_is (flat_map (λ (i : Item). paths_of (texts_of directories) (source_of i.source)) items)
     ∙ ap command.distinct (sym (over_items (texts_of directories) items))
     ∙ ap candidates_of e

@@ -29,4 +29,5 @@ said_of phrase.GroupEnd = command.GroupEnd
 said_of phrase.WholeStart = command.WholeStart
 said_of phrase.WholeEnd = command.WholeEnd
 said_of phrase.Check = command.Check
+said_of phrase.Strip = command.Strip
 said_of phrase.NoEffect = command.NoEffect

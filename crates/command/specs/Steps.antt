@@ -1,7 +1,7 @@
 -- The first phrase of some words, as the code takes it off.
 use Rattle.std.specs.Prelude.{◌≡◌, ◌≢◌, ℕ, ◌+◌, Bool, not, ◌&&◌, ◌||◌, ◌==◌, if◌then◌else◌, List, [], ◌∷◌, ◌++◌, length, Option, Some, None, is_some, Result, Ok, Err}
 use Rattle.std.specs.Option.{option_map, option_map_or, option_or, unwrap_or}
-use Rattle.elf_model.specs.Command.{Source, Item, Plan, Phrase, Input, GroupStart, GroupEnd, Setting, and_then, given, of_word, setting_of, is_archive, source_in, directory_in, undefined_in, entry_in, base_in, output_in, map_in, is_check, whole_in, is_group_start}
+use Rattle.elf_model.specs.Command.{Source, Item, Plan, Phrase, Input, GroupStart, GroupEnd, Setting, and_then, given, of_word, setting_of, is_archive, source_in, directory_in, undefined_in, entry_in, base_in, output_in, map_in, is_check, is_strip, whole_in, is_group_start}
 use Rattle.elf_model.specs.declared.faults.CmdFault.{CmdFault}
 use Rattle.elf_model.specs.declared.faults.CmdFault.TheVariants.{Memory, MissingValue, GroupNesting, NoInput, NotArchiveInGroup}
 
@@ -46,6 +46,7 @@ taken s p = record {
     output = unwrap_or (output_in p) s.plan.output;
     map = option_or (map_in p) s.plan.map;
     check = s.plan.check || is_check p;
+    strip = s.plan.strip || is_strip p;
   };
   whole = unwrap_or (whole_in p) s.whole;
   group = group_after s p;

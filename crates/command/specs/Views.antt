@@ -18,8 +18,8 @@ abbrev pub texts_of : List (Bor (List ℕ)) → List (List ℕ)
 texts_of ts = map (λ t. t.now) ts
 
 -- the plan that the parts of a Plan make
-abbrev pub plan_of : List Item → List (Bor (List ℕ)) → List (Bor (List ℕ)) → Bor (List ℕ) → ℕ → Bor (List ℕ) → Option (Bor (List ℕ)) → Bool → command.Plan
-plan_of items directories undefined entry base output map_path check = record {
+abbrev pub plan_of : List Item → List (Bor (List ℕ)) → List (Bor (List ℕ)) → Bor (List ℕ) → ℕ → Bor (List ℕ) → Option (Bor (List ℕ)) → Bool → Bool → command.Plan
+plan_of items directories undefined entry base output map_path check strip = record {
   items = map item_of items;
   directories = texts_of directories;
   undefined = texts_of undefined;
@@ -28,4 +28,5 @@ plan_of items directories undefined entry base output map_path check = record {
   output = output.now;
   map = option_copied map_path;
   check = check;
+  strip = strip;
 }

@@ -40,6 +40,8 @@ pub struct Plan<'a> {
     pub map: Option<&'a str>,
     /// Check an image in place of linking one.
     pub check: bool,
+    /// `-s`: the image has no symbol table.
+    pub strip: bool,
 }
 
 impl<'a> Model for Plan<'a> {
@@ -48,5 +50,5 @@ impl<'a> Model for Plan<'a> {
 
     ghost Value = { command.Plan };
 
-    ghost view = { λ p. plan_of p.items.items p.directories.items p.undefined.items p.entry p.base p.output p.map p.check };
+    ghost view = { λ p. plan_of p.items.items p.directories.items p.undefined.items p.entry p.base p.output p.map p.check p.strip };
 }

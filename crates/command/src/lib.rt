@@ -11,6 +11,7 @@
 //! - `--start-group` or `-(`, `--end-group` or `-)`: a group of archives
 //! - `--whole-archive`, `--no-whole-archive`: for the archives that follow
 //! - `--check`: check an image in place of linking one; asks for `-Map=`
+//! - `-s`: an image without a symbol table
 //! - `-static`, `-nostdlib`, `-m elf_x86_64`: no effect
 //! - any other nonempty word that doesn't begin with `-`: a file, an archive if it ends in `.a`
 //!

@@ -39,6 +39,7 @@ pub enum Phrase<'a> {
     WholeStart,
     WholeEnd,
     Check,
+    Strip,
     NoEffect,
 }
 
@@ -91,6 +92,7 @@ fn switch_of<'a>(word: &str) -> Option<Phrase<'a>>
         "--whole-archive" => Some(Phrase::WholeStart),
         "--no-whole-archive" => Some(Phrase::WholeEnd),
         "--check" => Some(Phrase::Check),
+        "-s" => Some(Phrase::Strip),
         "-static" | "-nostdlib" => Some(Phrase::NoEffect),
         _ => None,
     }

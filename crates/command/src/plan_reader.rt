@@ -88,6 +88,7 @@ fn accept<'a>(plan: &mut Plan<'a>, place: &mut Place, phrase: Phrase<'a>) -> Res
         Phrase::WholeStart => place.whole = true,
         Phrase::WholeEnd => place.whole = false,
         Phrase::Check => plan.check = true,
+        Phrase::Strip => plan.strip = true,
         Phrase::NoEffect => {}
     }
     Ok(())
@@ -106,6 +107,7 @@ fn default_plan<'a>(alloc: Global) -> Plan<'a>
         output: "a.out",
         map: None,
         check: false,
+        strip: false,
     }
 }
 

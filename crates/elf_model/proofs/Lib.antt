@@ -51,3 +51,4 @@ pub mod RangeOrder
 pub mod OwnRelation
 pub mod PowersOfTwo
 pub mod ThreadPlaces
+pub mod TableLaws

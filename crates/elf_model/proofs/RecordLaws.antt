@@ -114,6 +114,14 @@ file_header-again h rest fits = rw (header_parts h, append_assoc) (header_from_p
 pub file_header_written : (h : FileHeader) (out : List ℕ) → out ≡ file_header_bytes h → FitsFileHeader h → file_header out ≡ h
 file_header_written h out e fits = ap file_header (e ∙ sym (append-nil (file_header_bytes h))) ∙ file_header-again h [] fits
 
+pub length-section_header_bytes : (h : SectionHeader) → length (section_header_bytes h) ≡ 64
+unfolding section_header_bytes le_bytes
+length-section_header_bytes h = refl
+
+pub length-symbol_bytes : (s : Symbol) → length (symbol_bytes s) ≡ 24
+unfolding symbol_bytes le_bytes
+length-symbol_bytes s = refl
+
 pub length-program_header_bytes : (h : ProgramHeader) → length (program_header_bytes h) ≡ 56
 unfolding program_header_bytes le_bytes
 length-program_header_bytes h = refl

@@ -7,6 +7,7 @@ use Rattle.elf_model.specs.ArchiveFile.{ArFaultStands, IsArchive}
 use Rattle.elf_model.specs.Command.{Plan, command_of}
 use Rattle.elf_model.specs.Files.{File}
 use Rattle.elf_model.specs.Groups.{GroupFaultStands}
+use Rattle.elf_model.specs.ImageFile.{IsTableSmall}
 use Rattle.elf_model.specs.Loading.{LoadedObject, loaded_objects, AreObjects, HaveLawfulGroups}
 use Rattle.elf_model.specs.ObjectFile.{IsObject, ObjFaultStands, groups}
 use Rattle.elf_model.specs.Opening.{AreArchives, AreFilesThere, HaveIndexes, Opened, lacks_index, opened}
@@ -50,9 +51,15 @@ pub record IsReferred (files : List File) (words : List (List ℕ)) (p : Plan) :
   pub relocations : AreLawfulRelocations (loaded_objects files p)
   pub entry : IsEntry (loaded_objects files p) p.entry
 
+-- TooLarge does not stand: the layout ends within the addresses, and the image, with its symbol table where there is to
+-- be one, has fewer than 2^32 bytes
+pub record HasRoom (p : Plan) (objects : List LoadedObject) : Type 0 where
+  pub layout : IsNotTooLarge p.base objects
+  pub table : p.strip ≡ false → IsTableSmall p.base objects
+
 pub record IsLaidOut (files : List File) (words : List (List ℕ)) (p : Plan) : Type 0 where
   pub before : IsReferred files words p
-  pub not_too_large : IsNotTooLarge p.base (loaded_objects files p)
+  pub room : HasRoom p (loaded_objects files p)
 
 -- no cause of a refusal stands
 pub record IsLinkable (files : List File) (words : List (List ℕ)) (p : Plan) : Type 0 where
@@ -130,5 +137,5 @@ Cause files words error.OverlappingFields =
 Cause files words error.TlsMismatch = AnyRelocation files words IsThreadMismatch
 Cause files words error.MixedSection = AnyRelocation files words IsToMixed
 Cause files words error.NoEntry = (p : Plan) × IsResolved files words p × (¬ IsEntry (loaded_objects files p) p.entry)
-Cause files words error.TooLarge = (p : Plan) × IsReferred files words p × (¬ IsNotTooLarge p.base (loaded_objects files p))
+Cause files words error.TooLarge = (p : Plan) × IsReferred files words p × (¬ HasRoom p (loaded_objects files p))
 Cause files words error.Overflow = (p : Plan) × IsLaidOut files words p × (¬ OwnValuesFit p.base (loaded_objects files p))

@@ -24,7 +24,8 @@ pub record Item : Type 0 where
   pub group : Option ℕ
 
 -- what a command asks for: its items and the directories of -L in command order, the names of -u, the entry's name, the
--- address at which the image begins, the path of the image, the path of the map if there is one, and whether to check
+-- address at which the image begins, the path of the image, the path of the map if there is one, whether to check, and
+-- whether the image is to have no symbol table
 pub record Plan : Type 0 where
   pub items : List Item
   pub directories : List (List ℕ)
@@ -34,6 +35,7 @@ pub record Plan : Type 0 where
   pub output : List ℕ
   pub map : Option (List ℕ)
   pub check : Bool
+  pub strip : Bool
 
 -- what a phrase of one or two words says
 pub data Phrase : Type 0 where
@@ -49,6 +51,7 @@ pub data Phrase : Type 0 where
   WholeStart : Phrase
   WholeEnd : Phrase
   Check : Phrase
+  Strip : Phrase
   NoEffect : Phrase
 
 -- an option that takes a value
@@ -101,7 +104,8 @@ switch_of w =
     (if bytes_eq w (codes "--whole-archive") then Some WholeStart else
     (if bytes_eq w (codes "--no-whole-archive") then Some WholeEnd else
     (if bytes_eq w (codes "--check") then Some Check else
-    (if bytes_eq w (codes "-static") || bytes_eq w (codes "-nostdlib") then Some NoEffect else None)))))
+    (if bytes_eq w (codes "-s") then Some Strip else
+    (if bytes_eq w (codes "-static") || bytes_eq w (codes "-nostdlib") then Some NoEffect else None))))))
 
 -- 1 to 16 hexadecimal digits of either case
 abbrev pub is_hexadecimal : List ℕ → Bool
@@ -227,6 +231,11 @@ abbrev pub is_check : Phrase → Bool
 is_check Check = true
 is_check _ = false
 
+-- the image is to have no symbol table
+abbrev pub is_strip : Phrase → Bool
+is_strip Strip = true
+is_strip _ = false
+
 -- the last of what phrases say of a part of a plan, or what holds where none says anything
 abbrev pub last_said : {X : Type 0} → (Phrase → Option X) → X → List Phrase → X
 last_said says otherwise ps = unwrap_or (last_or None (filter_map says ps)) otherwise
@@ -268,6 +277,7 @@ plan_of_phrases ps = record {
   output = last_said output_in (codes "a.out") ps;
   map = last_or None (filter_map map_in ps);
   check = list_any is_check ps;
+  strip = list_any is_strip ps;
 }
 
 -- the faults that a phrase may have behind others: a group in a group, an end without a start, an object in a group
@@ -321,6 +331,7 @@ IsSpelled ws GroupEnd = (ws ≡ codes "--end-group" ∷ []) ⊎ (ws ≡ codes "-
 IsSpelled ws WholeStart = ws ≡ codes "--whole-archive" ∷ []
 IsSpelled ws WholeEnd = ws ≡ codes "--no-whole-archive" ∷ []
 IsSpelled ws Check = ws ≡ codes "--check" ∷ []
+IsSpelled ws Strip = ws ≡ codes "-s" ∷ []
 IsSpelled ws NoEffect = (ws ≡ codes "-static" ∷ []) ⊎ ((ws ≡ codes "-nostdlib" ∷ []) ⊎ (ws ≡ codes "-m" ∷ codes "elf_x86_64" ∷ []))
 
 -- the words are the phrases, one behind the other

@@ -31,6 +31,7 @@ pub mod RelocationValues
 pub mod Resolution
 pub mod RightLink
 pub mod Slots
+pub mod SymbolTable
 pub mod ThreadStorage
 pub mod UsedNames
 pub mod WantedBytes

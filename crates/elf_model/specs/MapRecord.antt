@@ -11,6 +11,7 @@ use Rattle.elf_model.specs.declared.link_map.SlotKind.{SlotKind}
 use Rattle.elf_model.specs.declared.link_map.SlotLine.{SlotLine}
 use Rattle.elf_model.specs.declared.link_map.SlotTarget.{SlotTarget}
 use Rattle.elf_model.specs.declared.link_map.SymbolLine.{SymbolLine}
+use Rattle.elf_model.specs.declared.link_map.SymtabLine.{SymtabLine}
 use Rattle.elf_model.specs.declared.link_map.SlotTarget.TheVariants as target
 
 pub record ObjectRow : Type 0 where
@@ -47,6 +48,7 @@ pub record SymbolRow : Type 0 where
   pub name : List ℕ
 
 pub record MapRecord : Type 0 where
+  pub version : ℕ
   pub objects : List ObjectRow
   pub drops : List DropLine
   pub places : List PlaceRow
@@ -54,6 +56,7 @@ pub record MapRecord : Type 0 where
   pub got : Option GotLine
   pub slots : List SlotRow
   pub symbols : List SymbolRow
+  pub symtab : Option SymtabLine
 
 abbrev pub object_row : ObjectLine → ObjectRow
 object_row l = record { object = l.object; item = l.item; offset = l.offset; path = l.path.items }
@@ -77,6 +80,7 @@ symbol_row l = record { address = l.address; definition = l.definition; name = l
 -- a link map as clauses see it
 abbrev pub map_of : LinkMap → MapRecord
 map_of m = record {
+  version = m.version;
   objects = map object_row m.objects.items;
   drops = m.drops.items;
   places = map place_row m.places.items;
@@ -84,4 +88,5 @@ map_of m = record {
   got = m.got;
   slots = map slot_row m.slots.items;
   symbols = map symbol_row m.symbols.items;
+  symtab = m.symtab;
 }

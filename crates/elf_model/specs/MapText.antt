@@ -1,6 +1,6 @@
--- The text of a link map, version 1 (docs/MAP.md): how each line is spelled, which lines make a map, and
+-- The text of a link map, version 1 or 2 (docs/MAP.md): how each line is spelled, which lines make a map, and
 -- at which line a text first fails to be the beginning of one. The rules are this profile's.
-use Rattle.std.specs.Prelude.{◌≡◌, ℕ, ◌+◌, ◌-◌, ◌/◌, ◌%◌, ◌^◌, ◌<◌, ◌≤◌, Bool, not, ◌&&◌, ◌==◌, nat_lt, nat_le, if◌then◌else◌, ◌⊎◌, List, [], ◌∷◌, ◌++◌, map, length, take, slice_index_or, option_to_list, codes, decimal, All}
+use Rattle.std.specs.Prelude.{◌≡◌, ℕ, ◌+◌, ◌-◌, ◌/◌, ◌%◌, ◌^◌, ◌<◌, ◌≤◌, Bool, not, ◌&&◌, ◌==◌, nat_lt, nat_le, if◌then◌else◌, ◌⊎◌, List, [], ◌∷◌, ◌++◌, None, map, length, take, slice_index_or, option_to_list, codes, decimal, All}
 use Rattle.std.specs.List.{flat_map}
 use Rattle.std.specs.Ordering.{nat_cmp}
 use Rattle.std.specs.Cmp.Lexicographic.{slice_cmp}
@@ -11,6 +11,7 @@ use Rattle.elf_model.specs.declared.link_map.DropLine.{DropLine}
 use Rattle.elf_model.specs.declared.link_map.GotLine.{GotLine}
 use Rattle.elf_model.specs.declared.link_map.SlotKind.{SlotKind}
 use Rattle.elf_model.specs.declared.link_map.SlotKind.TheVariants as kind
+use Rattle.elf_model.specs.declared.link_map.SymtabLine.{SymtabLine}
 use Rattle.elf_model.specs.declared.faults.MapFault.{MapFault}
 use Rattle.elf_model.specs.declared.faults.MapFault.TheVariants as fault
 use Rattle.elf_model.specs.MapRecord.{MapRecord, ObjectRow, PlaceRow, CommonRow, SlotRow, SymbolRow, TargetRow, OfName, OfLocal}
@@ -58,6 +59,10 @@ last_number n = decimal n ++ codes "\n"
 unfoldable pub name : List ℕ → List ℕ
 name bytes = escaped bytes ++ codes "\n"
 
+-- `ldmap N`
+unfoldable pub version_text : ℕ → List ℕ
+version_text n = codes "ldmap " ++ last_number n
+
 -- `object K ITEM OFFSET NAME`
 unfoldable pub object_text : ObjectRow → List ℕ
 object_text o = codes "object " ++ (number o.object ++ (number o.item ++ (number o.offset ++ name o.path)))
@@ -100,9 +105,13 @@ definition_text definition.Linker = codes "linker "
 unfoldable pub symbol_text : SymbolRow → List ℕ
 symbol_text s = codes "symbol " ++ (address s.address ++ (definition_text s.definition ++ name s.name))
 
+-- `symtab OFFSET COUNT`
+unfoldable pub symtab_text : SymtabLine → List ℕ
+symtab_text t = codes "symtab " ++ (number t.offset ++ last_number t.count)
+
 -- a line of a map, and its text
 pub data Line : Type 0 where
-  Version : Line
+  Version : ℕ → Line
   Object : ObjectRow → Line
   Drop : DropLine → Line
   Place : PlaceRow → Line
@@ -110,10 +119,11 @@ pub data Line : Type 0 where
   Got : GotLine → Line
   Slot : SlotRow → Line
   Symbol : SymbolRow → Line
+  Symtab : SymtabLine → Line
   End : Line
 
 abbrev pub line_text : Line → List ℕ
-line_text Version = codes "ldmap 1\n"
+line_text (Version n) = version_text n
 line_text (Object o) = object_text o
 line_text (Drop d) = drop_text d
 line_text (Place p) = place_text p
@@ -121,15 +131,16 @@ line_text (Common c) = common_text c
 line_text (Got g) = got_text g
 line_text (Slot s) = slot_text s
 line_text (Symbol s) = symbol_text s
+line_text (Symtab t) = symtab_text t
 line_text End = codes "end\n"
 
 -- the lines of a map between the first and the last, in their order
 unfoldable pub body : MapRecord → List Line
-body m = map Object m.objects ++ (map Drop m.drops ++ (map Place m.places ++ (map Common m.commons ++ (map Got (option_to_list m.got) ++ (map Slot m.slots ++ map Symbol m.symbols)))))
+body m = map Object m.objects ++ (map Drop m.drops ++ (map Place m.places ++ (map Common m.commons ++ (map Got (option_to_list m.got) ++ (map Slot m.slots ++ (map Symbol m.symbols ++ map Symtab (option_to_list m.symtab)))))))
 
 -- all lines of a map, and its text
 abbrev pub lines : MapRecord → List Line
-lines m = Version ∷ (body m ++ End ∷ [])
+lines m = Version m.version ∷ (body m ++ End ∷ [])
 
 abbrev pub text : MapRecord → List ℕ
 text m = flat_map line_text (lines m)
@@ -161,8 +172,13 @@ Ascends {X} Before xs = (k : ℕ) (d : X) → k + 1 < length xs → Before (slic
 abbrev pub AreNumbered : List ObjectRow → Type 0
 AreNumbered objects = (k : ℕ) (d : ObjectRow) → k < length objects → (slice_index_or objects k d).object ≡ k
 
--- the keys of a map are as its text needs them
+-- version 1 has no line of a symbol table, version 2 may have one, and there is no other version
+abbrev pub IsVersioned : MapRecord → Type 0
+IsVersioned m = ((m.version ≡ 1) × (m.symtab ≡ None)) ⊎ (m.version ≡ 2)
+
+-- the version and the keys of a map are as its text needs them
 pub record IsOrdered (m : MapRecord) : Type 0 where
+  pub version : IsVersioned m
   pub objects : AreNumbered m.objects
   pub drops : Ascends DropBefore m.drops
   pub places : Ascends PlaceBefore m.places
@@ -221,6 +237,10 @@ pub record FitsSymbol (s : SymbolRow) : Type 0 where
   pub definition : FitsDefinition s.definition
   pub name : AreBytes s.name
 
+pub record FitsSymtab (t : SymtabLine) : Type 0 where
+  pub offset : t.offset < 2 ^ 64
+  pub count : t.count < 2 ^ 64
+
 -- each line of a map fits so
 pub record Fits (m : MapRecord) : Type 0 where
   pub objects : All FitsObject m.objects
@@ -230,6 +250,7 @@ pub record Fits (m : MapRecord) : Type 0 where
   pub got : All FitsGot (option_to_list m.got)
   pub slots : All FitsSlot m.slots
   pub symbols : All FitsSymbol m.symbols
+  pub symtab : All FitsSymtab (option_to_list m.symtab)
 
 -- the records that have a text
 pub record IsMap (m : MapRecord) : Type 0 where

@@ -1,6 +1,6 @@
 -- What a loader maps: the program headers of an image, and memory as the PT_LOAD segments make it
 -- (System V gABI 5, "Program Header" and "Program Loading"; which images are accepted is the profile's).
-use Rattle.std.specs.Prelude.{◌≡◌, ℕ, Bool, ◌+◌, ◌-◌, ◌*◌, ◌%◌, ◌^◌, ◌<◌, ◌≤◌, ◌==◌, ◌&&◌, true, nat_le, nat_lt, cond, List, [], ◌∷◌, Option, length, map, filter, replicate, All, AllPairs, option_map, slice_index, find, take, drop}
+use Rattle.std.specs.Prelude.{◌≡◌, ◌⊎◌, ℕ, Bool, ◌+◌, ◌-◌, ◌*◌, ◌%◌, ◌^◌, ◌<◌, ◌≤◌, ◌==◌, ◌&&◌, true, max, nat_le, nat_lt, cond, List, [], ◌∷◌, Option, length, map, filter, replicate, All, AllPairs, option_map, slice_index, find, take, drop}
 use Rattle.std.specs.List.{prefix_len, range_with_len}
 use Rattle.std.specs.Int.{is_power_of_two}
 use Rattle.byteview.specs.Numbers.{part}
@@ -37,6 +37,11 @@ loads image = loads_in (program_headers image)
 abbrev pub thread_blocks : List ℕ → List ProgramHeader
 thread_blocks image = filter is_thread_block (program_headers image)
 
+-- where the last file part ends, in bytes of the file
+abbrev pub file_end : List ProgramHeader → ℕ
+file_end [] = 0
+file_end (h ∷ hs) = cond (nat_lt 0 h.p_filesz) (max (h.p_offset + h.p_filesz) (file_end hs)) (file_end hs)
+
 -- Memory.
 
 -- the addresses of a segment
@@ -69,7 +74,19 @@ Encloses h at size = (h.p_vaddr ≤ at) × (at + size ≤ h.p_vaddr + h.p_memsz)
 abbrev pub image_ident : List ℕ
 image_ident = 0x7f ∷ 0x45 ∷ 0x4c ∷ 0x46 ∷ 2 ∷ 1 ∷ 1 ∷ replicate 9 0
 
--- ET_EXEC for x86-64, program headers behind the file header, no section headers
+-- no section headers; or the four of a symbol table (SymbolTable.antt), which stand at a multiple of 8 inside the file
+pub record HasNoSections (h : FileHeader) : Type 0 where
+  pub offset : h.e_shoff ≡ 0
+  pub count : h.e_shnum ≡ 0
+  pub names : h.e_shstrndx ≡ 0
+
+pub record HasSections (len : ℕ) (h : FileHeader) : Type 0 where
+  pub offset : h.e_shoff % 8 ≡ 0
+  pub inside : h.e_shoff + 4 * 64 ≤ len
+  pub count : h.e_shnum ≡ 4
+  pub names : h.e_shstrndx ≡ 3
+
+-- ET_EXEC for x86-64, program headers behind the file header
 pub record IsImageHeader (len : ℕ) (h : FileHeader) : Type 0 where
   pub ident : h.e_ident ≡ image_ident
   pub type_ : h.e_type ≡ 2
@@ -80,9 +97,7 @@ pub record IsImageHeader (len : ℕ) (h : FileHeader) : Type 0 where
   pub header_size : h.e_ehsize ≡ 64
   pub program_header_size : h.e_phentsize ≡ 56
   pub section_header_size : h.e_shentsize ≡ 64
-  pub no_sections : h.e_shoff ≡ 0
-  pub no_section_count : h.e_shnum ≡ 0
-  pub no_section_names : h.e_shstrndx ≡ 0
+  pub sections : HasNoSections h ⊎ HasSections len h
   pub inside : 64 + 56 * h.e_phnum ≤ len
 
 pub record HasImageHeader (image : List ℕ) : Type 0 where

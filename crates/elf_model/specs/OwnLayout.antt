@@ -5,6 +5,7 @@ use Rattle.std.specs.Prelude.{ℕ, ◌+◌, ◌-◌, ◌*◌, ◌/◌, ◌^◌, 
 use Rattle.std.specs.List.{flat_map, list_any}
 use Rattle.elf_model.specs.ArrayOrder.{in_array_order}
 use Rattle.elf_model.specs.Loading.{LoadedObject}
+use Rattle.elf_model.specs.MemoryImage.{file_end}
 use Rattle.elf_model.specs.MapRecord.{SlotRow}
 use Rattle.elf_model.specs.Commons.{block_pieces, pieces}
 use Rattle.elf_model.specs.Pieces.{Piece, kept_sections, is_writable, is_executable, is_thread_piece, has_bytes, same_output}
@@ -261,12 +262,7 @@ own_segments base objects =
     ∷ (segment_if (code_pieces objects) (segment base 5 (code_start base objects) (code_start base objects) (own_code base objects))
     ++ segment_if (data_pieces objects) (segment base 6 (data_start base objects) (data_start base objects) (own_data base objects)))
 
--- the file ends with the last file part
-abbrev pub file_end : List ProgramHeader → ℕ
-file_end [] = 0
-file_end (h ∷ hs) = cond (nat_lt 0 h.p_filesz) (max (h.p_offset + h.p_filesz) (file_end hs)) (file_end hs)
-
--- TooLarge does not stand: all ends are at or below 2 ^ 46, and the file has fewer than 2 ^ 32 bytes
+-- TooLarge does not stand: all ends are at or below 2 ^ 46, and the file parts end below 2 ^ 32 bytes
 pub record IsNotTooLarge (base : ℕ) (objects : List LoadedObject) : Type 0 where
   pub headers : base + own_headers_size objects ≤ 2 ^ 46
   pub ends : All (λ q. placed_end q ≤ 2 ^ 46) (own_placed base objects)

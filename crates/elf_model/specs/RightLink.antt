@@ -1,7 +1,7 @@
--- What a right link is: thirteen clauses on the files, the words, the image and the map (System V gABI 4 and
+-- What a right link is: fourteen clauses on the files, the words, the image and the map (System V gABI 4 and
 -- 5; ELF Handling For Thread-Local Storage; what fills gaps is the profile's). None of them says how a linker
 -- lays anything out.
-use Rattle.std.specs.Prelude.{◌≡◌, ℕ, ◌+◌, ◌<◌, ◌≤◌, ◌==◌, true, not, cond, List, [], ◌∷◌, Option, Some, Ok, All, Any, filter, find, length, map, option_map, slice_index, count_by, is_some, IfSome, IsSomeAnd, Bool, ◌&&◌, ◌++◌}
+use Rattle.std.specs.Prelude.{◌≡◌, ℕ, ◌+◌, ◌^◌, ◌<◌, ◌≤◌, ◌==◌, true, not, cond, List, [], ◌∷◌, Option, None, Some, Ok, All, Any, drop, filter, find, length, map, option_map, slice_index, count_by, is_some, IfSome, IsSomeAnd, Bool, ◌&&◌, ◌++◌}
 use Rattle.std.specs.List.{list_any}
 use Rattle.std.specs.Str.{bytes_eq}
 use Rattle.elf_model.specs.Command.{Plan, command_of}
@@ -13,7 +13,7 @@ use Rattle.elf_model.specs.Commons.{Block, block_named, blocks}
 use Rattle.elf_model.specs.MapRecord.{CommonRow, MapRecord, ObjectRow, PlaceRow, SlotRow, SymbolRow}
 use Rattle.elf_model.specs.MapText.{text, IsMap}
 use Rattle.elf_model.specs.Meaning.{Meaning, Symbol, meaning_name, meaning_value, object_meaning}
-use Rattle.elf_model.specs.MemoryImage.{IsImage, Cell, memory_of, loads, thread_blocks, Encloses}
+use Rattle.elf_model.specs.MemoryImage.{HasNoSections, IsImage, Cell, file_end, memory_of, loads, thread_blocks, Encloses}
 use Rattle.elf_model.specs.Opening.{AreArchives, AreFilesThere, HaveIndexes, opened}
 use Rattle.elf_model.specs.ObjectFile.{sections}
 use Rattle.elf_model.specs.LinkerValues.{end_of_pieces}
@@ -24,17 +24,19 @@ use Rattle.elf_model.specs.Relocation.{AreLawfulRelocations}
 use Rattle.elf_model.specs.RelocationValues.{AllFit}
 use Rattle.elf_model.specs.Resolution.{is_weak, AreSoundCommons, AreUnique, AreSoundSymbols, IsEntry}
 use Rattle.elf_model.specs.Slots.{Request, got_bytes, has_got, is_slot_of, requests, same_request, size_with}
+use Rattle.elf_model.specs.SymbolTable.{entry_count, headers_at, name_section, symtab_at, tabled, tables}
 use Rattle.elf_model.specs.ThreadStorage.{is_thread_data, thread_headers}
 use Rattle.elf_model.specs.WantedBytes.{wanted_byte}
 use Rattle.elf_model.specs.declared.link_map.Definition.{Definition}
 use Rattle.elf_model.specs.declared.link_map.DropLine.{DropLine}
 use Rattle.elf_model.specs.declared.link_map.GotLine.{GotLine}
+use Rattle.elf_model.specs.declared.link_map.SymtabLine.{SymtabLine}
 use Rattle.elf_model.specs.declared.link_map.Definition.TheVariants.{Common, Linker, Strong, Weak}
 use Rattle.elf_model.specs.declared.records.ProgramHeader.{ProgramHeader}
 use Rattle.elf_model.specs.declared.records.SectionHeader.{SectionHeader}
 use Rattle.elf_model.specs.declared.thing.Thing.{Thing}
 use Rattle.elf_model.specs.declared.verdict.Clause.{Clause}
-use Rattle.elf_model.specs.declared.verdict.Clause.TheVariants.{C1, C2, C3, C4, C5, C6, C7, C8, C9, C10, C11, C12, C13}
+use Rattle.elf_model.specs.declared.verdict.Clause.TheVariants.{C1, C2, C3, C4, C5, C6, C7, C8, C9, C10, C11, C12, C13, C14}
 
 -- what the clauses speak of, once the words are a plan and the text is a map
 pub record Subject : Type 0 where
@@ -213,11 +215,12 @@ pub record EndsRight (ts : List Thing) (h : ProgramHeader) : Type 0 where
 abbrev pub IsInFilePart : ProgramHeader → ℕ → Type 0
 IsInFilePart h i = (h.p_offset ≤ i) × (i < h.p_offset + h.p_filesz)
 
-pub record HasNothingElse (image : List ℕ) (ts : List Thing) : Type 0 where
+-- a map without a line of a symbol table tells that the file ends with the last file part
+pub record HasNothingElse (image : List ℕ) (symtab : Option SymtabLine) (ts : List Thing) : Type 0 where
   pub fill : IsFilled image ts
   pub segments : All (EndsRight ts) (loads image)
-  pub gaps : (i : ℕ) → i < length image → All (λ h. ¬ IsInFilePart h i) (loads image) → slice_index image i ≡ 0
-  pub end : Any (λ h. (0 < h.p_filesz) × (h.p_offset + h.p_filesz ≡ length image)) (loads image)
+  pub gaps : (i : ℕ) → i < file_end (loads image) → All (λ h. ¬ IsInFilePart h i) (loads image) → slice_index image i ≡ 0
+  pub end : symtab ≡ None → length image ≡ file_end (loads image)
 
 -- C12. The entry is lawful, and e_entry is its value.
 abbrev pub EntersRight : Subject → Type 0
@@ -244,6 +247,26 @@ pub record AreSymbolsListed (s : Subject) : Type 0 where
   pub unique : AreUnique (objects_of s)
   pub lines : (name : List ℕ) → HasLine s.map.symbols (objects_of s) (where_of s) name
 
+-- C14. In version 2 a map has the line of a symbol table exactly where -s doesn't stand among the words. Where the line stands, it
+-- says where the table is, and the file header and the bytes behind the last file part are those of the table and its
+-- sections; without it the image has no sections.
+abbrev pub tabled_of : Subject → List Meaning
+tabled_of s = tabled (objects_of s) s.map.symbols
+
+pub record HoldsTables (s : Subject) (line : SymtabLine) : Type 0 where
+  pub offset : line.offset ≡ symtab_at (file_end (loads s.image))
+  pub count : line.count ≡ entry_count (tabled_of s)
+  pub names_fit : length (name_section (tabled_of s)) < 2 ^ 32
+  pub bytes : drop (file_end (loads s.image)) s.image ≡ tables (where_of s) (file_end (loads s.image)) (tabled_of s)
+  pub headers_offset : (file_header s.image).e_shoff ≡ headers_at (file_end (loads s.image)) (tabled_of s)
+  pub headers_count : (file_header s.image).e_shnum ≡ 4
+  pub names_section : (file_header s.image).e_shstrndx ≡ 3
+
+pub record AreTablesRight (s : Subject) : Type 0 where
+  pub asked : s.map.version ≡ 2 → is_some s.map.symtab ≡ not s.plan.strip
+  pub held : IfSome s.map.symtab (HoldsTables s)
+  pub none : s.map.symtab ≡ None → HasNoSections (file_header s.image)
+
 -- The clauses by number. The first is what makes a subject of words and text, so it holds of each.
 abbrev pub Holds : Clause → Subject → Type 0
 Holds C1 s = Unit {0}
@@ -256,9 +279,10 @@ Holds C7 s = IsGotRight s
 Holds C8 s = IsThreadBlockRight s
 Holds C9 s = AreRelocationsRight s
 Holds C10 s = All (HoldsPiece (objects_of s) (where_of s) s.image) (placed_of s)
-Holds C11 s = HasNothingElse s.image (things_of s)
+Holds C11 s = HasNothingElse s.image s.map.symtab (things_of s)
 Holds C12 s = EntersRight s
 Holds C13 s = AreSymbolsListed s
+Holds C14 s = AreTablesRight s
 
 -- the place of a clause in their order
 abbrev pub clause_number : Clause → ℕ
@@ -275,6 +299,7 @@ clause_number C10 = 10
 clause_number C11 = 11
 clause_number C12 = 12
 clause_number C13 = 13
+clause_number C14 = 14
 
 -- all clauses with a smaller number hold
 abbrev pub HoldsBefore : Clause → Subject → Type 0

@@ -31,7 +31,7 @@ pub use faults::{ArFault, CmdFault, GroupFault, LinkError, LoadFault, MapFault, 
 pub use input_file::InputFile;
 pub use link_map::{
     CommonLine, Definition, DropLine, GotLine, LinkMap, ObjectLine, PlaceLine, SlotKind, SlotLine,
-    SlotTarget, SymbolLine,
+    SlotTarget, SymbolLine, SymtabLine,
 };
 pub use name_hash::{NameHasher, NameSeed};
 pub use records::{FileHeader, ProgramHeader, Rela, SectionHeader, Symbol};

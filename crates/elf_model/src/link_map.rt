@@ -84,10 +84,19 @@ pub struct SymbolLine {
     pub name: Vec<u8>,
 }
 
-/// A link map: what was loaded, dropped and placed, and what each name means. Its lines are in the
-/// order of the fields (docs/MAP.md).
+/// The image's symbol table: its offset in the file in bytes, and the number of its entries.
+#[derive(Clone, Copy, Debug)]
+pub struct SymtabLine {
+    pub offset: u64,
+    pub count: u64,
+}
+
+/// A link map of version 1 or 2: what was loaded, dropped and placed, what each name means, and, in
+/// version 2, where the image's symbol table stands. Its lines are in the order of the fields
+/// (docs/MAP.md).
 #[derive(Debug, Drop)]
 pub struct LinkMap {
+    pub version: u64,
     pub objects: Vec<ObjectLine>,
     pub drops: Vec<DropLine>,
     pub places: Vec<PlaceLine>,
@@ -95,4 +104,5 @@ pub struct LinkMap {
     pub got: Option<GotLine>,
     pub slots: Vec<SlotLine>,
     pub symbols: Vec<SymbolLine>,
+    pub symtab: Option<SymtabLine>,
 }

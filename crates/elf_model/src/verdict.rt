@@ -16,6 +16,7 @@ pub enum Clause {
     C11,
     C12,
     C13,
+    C14,
 }
 
 /// What a check answers: a right link, or the least clause that fails.

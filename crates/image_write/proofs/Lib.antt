@@ -11,3 +11,5 @@ pub mod OwnBody
 pub mod Files
 pub mod PieceSteps
 pub mod Written
+pub mod TableParts
+pub mod Tabled

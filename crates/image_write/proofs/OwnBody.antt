@@ -8,7 +8,8 @@ use Rattle.std.proofs.lemmas.List.Folds.{list_any_none}
 use Rattle.elf_model.specs.Command.{IsBase}
 use Rattle.elf_model.specs.ImageFile.{covers_address, fill_at, is_code_part, own_byte, piece_byte}
 use Rattle.elf_model.specs.Loading.{AreObjects, LoadedObject}
-use Rattle.elf_model.specs.OwnLayout.{IsNotTooLarge, file_end, is_nonempty, own_headers_size, own_loaded, own_segments, own_thread_rest, own_where, placed_end, placed_has_bytes}
+use Rattle.elf_model.specs.MemoryImage.{file_end}
+use Rattle.elf_model.specs.OwnLayout.{IsNotTooLarge, is_nonempty, own_headers_size, own_loaded, own_segments, own_thread_rest, own_where, placed_end, placed_has_bytes}
 use Rattle.elf_model.specs.Pieces.{AreLawfulKinds}
 use Rattle.elf_model.specs.Placement.{Placed}
 use Rattle.elf_model.specs.declared.records.ProgramHeader.{ProgramHeader}

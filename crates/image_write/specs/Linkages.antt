@@ -1,17 +1,19 @@
 -- What a linkage is of, and what it keeps.
-use Rattle.std.specs.Prelude.{◌≡◌, ℕ, ◌^◌, ◌<◌, List, map}
-use Rattle.elf_model.specs.Command.{IsBase}
-use Rattle.elf_model.specs.ImageFile.{image_file, own_entry}
-use Rattle.elf_model.specs.Loading.{AreObjects}
+use Rattle.std.specs.Prelude.{◌≡◌, ℕ, ◌^◌, ◌<◌, List, All, map}
+use Rattle.elf_model.specs.Command.{IsBase, Plan}
+use Rattle.elf_model.specs.ImageFile.{image_file, own_end, own_entry, own_tables}
+use Rattle.elf_model.specs.Loading.{AreObjects, LoadedObject}
 use Rattle.elf_model.specs.MapText.{Fits}
-use Rattle.elf_model.specs.OwnLayout.{IsNotTooLarge, own_where}
+use Rattle.elf_model.specs.Meaning.{Meaning}
+use Rattle.elf_model.specs.OwnLayout.{IsNotTooLarge, own_in_load_order, own_where}
 use Rattle.elf_model.specs.Pieces.{AreLawfulKinds}
 use Rattle.elf_model.specs.Slots.{slots}
 use Rattle.relocate.specs.Values.{slot_value_of}
-use Rattle.resolve.specs.Views.{meaning_views}
+use Rattle.resolve.specs.Views.{meaning_view, meaning_views}
 use Rattle.search.specs.Loads.{LoadedPlan}
 use Rattle.image_write.specs.Listings.{IsListing}
-use Rattle.image_write.specs.Maps.{own_record, own_table}
+use Rattle.image_write.specs.Maps.{LiesWithin, own_record, own_table}
+use Rattle.image_write.specs.Tables.{HasTable, table_of}
 use Rattle.image_write.specs.declared.linkage.Parts.{Parts}
 
 -- what the layers make of a plan and its objects, and that their map can be spelled
@@ -27,8 +29,28 @@ pub record AreParts (l : LoadedPlan) (x : Parts) : Type 0 where
   pub patches : x.patches ≡ record { base = l.plan.base; objects = l.objects }
   pub entry : own_entry l.plan.base l.objects l.plan.entry ≡ x.entry
   pub entry_fits : x.entry < 2 ^ 64
-  pub spelled : Fits (own_record (record { base = l.plan.base; objects = l.objects }) (meaning_views x.listed.items))
+  pub tabled : HasTable l.objects (own_end l.plan.base l.objects) (meaning_views x.listed.items) l.plan.strip x.table
+  pub within : All (λ m. LiesWithin (own_in_load_order l.plan.base l.objects) (meaning_view m)) x.listed.items
+  pub spelled : Fits (own_record (record { base = l.plan.base; objects = l.objects }) l.plan.strip (meaning_views x.listed.items))
+
+-- a link as clauses see it: the plan of a command, the objects that it loads, in load order, and the definitions that have a
+-- line in the map, in the order of their names
+pub record Linked : Type 0 where
+  pub plan : Plan
+  pub objects : List LoadedObject
+  pub listed : List Meaning
+
+abbrev pub loaded_of : Linked → LoadedPlan
+loaded_of l = record { plan = l.plan; objects = l.objects }
+
+abbrev pub linked_of : LoadedPlan → Parts → Linked
+linked_of l x = record { plan = l.plan; objects = l.objects; listed = meaning_views x.listed.items }
 
 -- the image file of a link's own layout
-abbrev pub own_image : LoadedPlan → List ℕ
-own_image l = image_file l.plan.base l.objects (own_entry l.plan.base l.objects l.plan.entry)
+abbrev pub own_image : Linked → List ℕ
+own_image l =
+    image_file l.plan.base l.objects (own_entry l.plan.base l.objects l.plan.entry) (table_of l.plan.strip l.objects l.listed)
+
+-- what stands in it behind the last file part
+abbrev pub tables_in : Linked → List ℕ
+tables_in l = own_tables l.plan.base l.objects (table_of l.plan.strip l.objects l.listed)

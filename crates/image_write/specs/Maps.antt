@@ -1,6 +1,6 @@
 -- The map of objects where they are laid out.
-use Rattle.std.specs.Prelude.{◌≡◌, ◌+◌, ◌≤◌, ◌^◌, List, IfSome, find, map, option_map}
-use Rattle.elf_model.specs.ImageFile.{place_row_of}
+use Rattle.std.specs.Prelude.{◌≡◌, ◌+◌, ◌≤◌, ◌^◌, Bool, cond, List, IfSome, Option, None, Some, filter, find, map, option_map}
+use Rattle.elf_model.specs.ImageFile.{place_row_of, symtab_line_of}
 use Rattle.elf_model.specs.Loading.{LoadedObject}
 use Rattle.elf_model.specs.MapRecord.{MapRecord, PlaceRow}
 use Rattle.elf_model.specs.Meaning.{Common, Linker, Meaning, Symbol}
@@ -10,6 +10,8 @@ use Rattle.elf_model.specs.Placement.{Placed, is_of_section}
 use Rattle.elf_model.specs.Resolution.{SymbolOf}
 use Rattle.elf_model.specs.RightLink.{drop_rows, object_rows, symbol_row_of}
 use Rattle.elf_model.specs.Slots.{got_size, slots}
+use Rattle.elf_model.specs.SymbolTable.{has_entry}
+use Rattle.elf_model.specs.declared.link_map.SymtabLine.{SymtabLine}
 use Rattle.got_tls.specs.Views.{Got}
 use Rattle.layout.specs.Placements.{Basis}
 use Rattle.image_write.specs.CommonRows.{own_commons}
@@ -32,9 +34,14 @@ own_row b p = place_row_of (record { at = own_address b.base b.objects p; piece 
 abbrev pub own_table : List LoadedObject → Got
 own_table objects = record { got = got_size objects; slots = slots objects }
 
+-- the line of the symbol table of what is listed, where there is to be one
+abbrev pub own_symtab : Basis → Bool → List Meaning → Option SymtabLine
+own_symtab b strip listed = option_map (symtab_line_of b.base b.objects) (cond strip None (Some (filter (has_entry b.objects) listed)))
+
 -- a map of the objects, their dropped sections, their kept ones, their common blocks, the GOT and its slots at their own
--- addresses, and definitions with their values
-pub record IsMapOf (b : Basis) (listed : List Meaning) (m : MapRecord) : Type 0 where
+-- addresses, definitions with their values, and the symbol table
+pub record IsMapOf (b : Basis) (strip : Bool) (listed : List Meaning) (m : MapRecord) : Type 0 where
+  pub version : m.version ≡ 2
   pub objects_are : m.objects ≡ object_rows 0 b.objects
   pub drops : m.drops ≡ drop_rows 0 b.objects
   pub places : m.places ≡ map (own_row b) (kept_sections b.objects)
@@ -42,10 +49,12 @@ pub record IsMapOf (b : Basis) (listed : List Meaning) (m : MapRecord) : Type 0 
   pub got : m.got ≡ own_got b.base b.objects
   pub slots : m.slots ≡ own_slots b.base b.objects
   pub symbols_are : m.symbols ≡ map (symbol_row_of (own_where b.base b.objects)) listed
+  pub symtab : m.symtab ≡ own_symtab b strip listed
 
 -- that map's lines
-abbrev pub own_record : Basis → List Meaning → MapRecord
-own_record b listed = record {
+abbrev pub own_record : Basis → Bool → List Meaning → MapRecord
+own_record b strip listed = record {
+  version = 2;
   objects = object_rows 0 b.objects;
   drops = drop_rows 0 b.objects;
   places = map (own_row b) (kept_sections b.objects);
@@ -53,4 +62,5 @@ own_record b listed = record {
   got = own_got b.base b.objects;
   slots = own_slots b.base b.objects;
   symbols = map (symbol_row_of (own_where b.base b.objects)) listed;
+  symtab = own_symtab b strip listed;
 }

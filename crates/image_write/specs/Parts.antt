@@ -4,10 +4,10 @@ use Rattle.std.specs.Prelude.{◌≡◌, ◌==◌, ℕ, ◌+◌, ◌-◌, ◌≤
 use Rattle.std.specs.List.{flat_map, range_with_len, slice_get}
 use Rattle.std.specs.Option.{option_map_or}
 use Rattle.byteview.specs.Numbers.{le_bytes}
-use Rattle.elf_model.specs.ImageFile.{is_got_piece, own_file_header, piece_byte, stack_header}
+use Rattle.elf_model.specs.ImageFile.{HeaderFields, header_bytes, is_got_piece, own_byte, own_end, own_file_header, piece_byte, stack_header}
 use Rattle.elf_model.specs.Loading.{LoadedObject}
 use Rattle.elf_model.specs.ObjectFile.{section}
-use Rattle.elf_model.specs.OwnLayout.{is_nonempty, own_where, placed_end, placed_has_bytes}
+use Rattle.elf_model.specs.OwnLayout.{is_nonempty, own_headers_size, own_where, placed_end, placed_has_bytes}
 use Rattle.elf_model.specs.Pieces.{Piece}
 use Rattle.elf_model.specs.Placement.{Placed, Where}
 use Rattle.elf_model.specs.Records.{file_header_bytes, program_header_bytes}
@@ -25,9 +25,9 @@ as_list header = option_map_or (λ h. h ∷ []) header []
 abbrev pub count_of : List ProgramHeader → List ProgramHeader → ℕ
 count_of hs ts = length hs + (length ts + 1)
 
-abbrev pub headers_of : ℕ → List ProgramHeader → List ProgramHeader → List ℕ
-headers_of entry hs ts =
-    file_header_bytes (own_file_header entry (count_of hs ts)) ++ flat_map program_header_bytes (hs ++ (ts ++ stack_header ∷ []))
+abbrev pub headers_of : HeaderFields → List ProgramHeader → List ProgramHeader → List ℕ
+headers_of fields hs ts =
+    file_header_bytes (own_file_header fields (count_of hs ts)) ++ flat_map program_header_bytes (hs ++ (ts ++ stack_header ∷ []))
 
 -- a segment's file part ends low enough to be counted
 pub record EndsLow (h : ProgramHeader) : Type 0 where
@@ -109,3 +109,10 @@ HasContents c p = IsFull (basis_of c).objects (own_where (basis_of c).base (basi
 
 abbrev pub AreFilled : Contents → List Placed → Type 0
 AreFilled c qs = AreFull (basis_of c).objects (own_where (basis_of c).base (basis_of c).objects) qs
+
+-- the image file up to the end of its last file part, with fields of the file header
+abbrev pub file_parts : ℕ → List LoadedObject → HeaderFields → List ℕ
+file_parts base objects fields =
+    header_bytes base objects fields
+    ++ map (λ i. own_byte base objects (base + i))
+    (range_with_len (own_headers_size objects) (own_end base objects - own_headers_size objects))

@@ -1,24 +1,32 @@
 //! The file header and the program headers of the image.
-ghost use Rattle.std.specs.Prelude.{◌≡◌, ◌+◌, ◌*◌, ◌<◌, ◌^◌, length};
+ghost use Rattle.std.specs.Prelude.{◌≡◌, ◌+◌, ◌*◌, ◌<◌, ◌^◌, IfSome, length};
 ghost use Rattle.std.specs.List.{flat_map};
 ghost use Rattle.elf_model.specs.ImageFile as forms;
 ghost use Rattle.elf_model.specs.ImageFile.{own_file_header};
 ghost use Rattle.elf_model.specs.Records.{file_header_bytes, program_header_bytes};
 ghost use Rattle.image_write.specs.Parts.{as_list, count_of, headers_of};
 ghost use Rattle.image_write.specs.Streams.{Puts, stream};
+ghost use Rattle.image_write.specs.Tables.{IsInRange, fields_of};
 
 use crate::buffer::Buffer;
 use crate::sink::{Sink, SinkFault};
 use crate::stream::put;
+use crate::symbol_table::SymbolTable;
 use elf_model::{
     EHDR_SIZE, ELFCLASS64, ELFDATA2LSB, EM_X86_64, ET_EXEC, EV_CURRENT, FileHeader, PF_R, PF_W,
     PHDR_SIZE, PT_GNU_STACK, ProgramHeader, SHDR_SIZE,
 };
 
-/// The file header of an executable with so many program headers (System V gABI 4, "ELF Header").
-fn file_header(entry: u64, count: u16) -> FileHeader
-    ensures { result ≡ own_file_header entry count }
+/// The file header of an executable with so many program headers, and with section headers where it has a symbol table
+/// (System V gABI 4, "ELF Header").
+fn file_header(entry: u64, table: Option<SymbolTable>, count: u16) -> FileHeader
+    requires { IfSome table IsInRange }
+    ensures { result ≡ own_file_header (fields_of entry table) count }
 {
+    let (offset, sections, names) = match table {
+        Some(table) => (table.headers(), 4, 3),
+        None => (0, 0, 0),
+    };
     FileHeader {
         e_ident: [
             0x7f,
@@ -43,14 +51,14 @@ fn file_header(entry: u64, count: u16) -> FileHeader
         e_version: EV_CURRENT as u32,
         e_entry: entry,
         e_phoff: EHDR_SIZE as u64,
-        e_shoff: 0,
+        e_shoff: offset,
         e_flags: 0,
         e_ehsize: EHDR_SIZE as u16,
         e_phentsize: PHDR_SIZE as u16,
         e_phnum: count,
         e_shentsize: SHDR_SIZE as u16,
-        e_shnum: 0,
-        e_shstrndx: 0,
+        e_shnum: sections,
+        e_shstrndx: names,
     }
 }
 
@@ -143,12 +151,14 @@ pub fn put_headers<S: Sink>(
     segments: &[ProgramHeader],
     threads: Option<ProgramHeader>,
     entry: u64,
+    table: Option<SymbolTable>,
 ) -> Result<(), SinkFault>
     requires few { length segments.now + 2 < 2 ^ 16 }
+    requires table { IfSome table IsInRange }
     requires whole { S.failed sink.old ≡ 0 }
-    ensures { Puts (stream (S.told sink.old) buffer.old (S.failed sink.old)) (headers_of entry segments.now (as_list threads)) result (stream (S.told sink.new) buffer.new (S.failed sink.new)) }
+    ensures { Puts (stream (S.told sink.old) buffer.old (S.failed sink.old)) (headers_of (fields_of entry table) segments.now (as_list threads)) result (stream (S.told sink.new) buffer.new (S.failed sink.new)) }
 {
-    let header = file_header(entry, header_count(segments, threads));
+    let header = file_header(entry, table, header_count(segments, threads));
     put_file_header(sink, buffer, &header)?;
     put_segments(sink, buffer, segments)?;
     put_thread_header(sink, buffer, threads)?;

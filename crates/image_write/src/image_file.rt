@@ -1,26 +1,26 @@
 //! The image file of a layout.
-ghost use Rattle.std.specs.Prelude.{◌≡◌, [], All, OnOk};
+ghost use Rattle.std.specs.Prelude.{◌≡◌, All, IfSome};
 ghost use Rattle.elf_model.specs.Command.{IsBase};
-ghost use Rattle.elf_model.specs.ImageFile.{image_file};
 ghost use Rattle.elf_model.specs.Loading.{AreObjects};
-ghost use Rattle.elf_model.specs.OwnLayout as own;
+ghost use Rattle.elf_model.specs.MemoryImage as memory;
 ghost use Rattle.elf_model.specs.OwnLayout.{IsNotTooLarge};
 ghost use Rattle.elf_model.specs.Pieces.{AreLawfulKinds};
-ghost use Rattle.image_write.specs.Parts.{AreContents, EndsLow, basis_of};
+ghost use Rattle.image_write.specs.Parts.{AreContents, EndsLow, basis_of, file_parts};
 ghost use Rattle.image_write.specs.Streams.{Puts, stream};
+ghost use Rattle.image_write.specs.Tables.{IsInRange, fields_of};
 
 use crate::buffer::Buffer;
 use crate::fill_bytes::code_of;
 use crate::headers::{headers_size, put_headers};
 use crate::pieces::{Contents, put_places};
 use crate::sink::{Sink, SinkFault};
-use crate::stream::flush;
+use crate::symbol_table::SymbolTable;
 use elf_model::ProgramHeader;
 
 /// Where the last file part of segments ends, in bytes of the file.
 pub fn file_end(segments: &[ProgramHeader]) -> u64
     requires { All EndsLow segments.now }
-    ensures { result ≡ own.file_end segments.now }
+    ensures { result ≡ memory.file_end segments.now }
 {
     let mut end = 0;
     for segment in segments {
@@ -31,23 +31,24 @@ pub fn file_end(segments: &[ProgramHeader]) -> u64
     end
 }
 
-/// Writes the image file that is entered at an address: the headers, the pieces for which memory has a place at their
-/// offsets with their relocated bytes, the GOT with the values of its slots, and fill between them. Nothing is left in
-/// the buffer.
+/// Writes the image file that is entered at an address up to the end of its last file part: the headers, the pieces for
+/// which memory has a place at their offsets with their relocated bytes, the GOT with the values of its slots, and fill
+/// between them.
 pub fn write_file<S: Sink>(
     sink: &mut S,
     buffer: &mut Buffer,
     contents: &Contents<'_, '_>,
     entry: u64,
+    table: Option<SymbolTable>,
 ) -> Result<(), SinkFault>
     requires base { IsBase (basis_of contents.now).base }
     requires objects { AreObjects (basis_of contents.now).objects }
     requires kinds { AreLawfulKinds (basis_of contents.now).objects }
     requires fits { IsNotTooLarge (basis_of contents.now).base (basis_of contents.now).objects }
     requires contents { AreContents contents.now }
+    requires table { IfSome table IsInRange }
     requires whole { S.failed sink.old ≡ 0 }
-    ensures puts { Puts (stream (S.told sink.old) buffer.old (S.failed sink.old)) (image_file (basis_of contents.now).base (basis_of contents.now).objects entry) result (stream (S.told sink.new) buffer.new (S.failed sink.new)) }
-    ensures empty { OnOk result (buffer.new ≡ []) }
+    ensures { Puts (stream (S.told sink.old) buffer.old (S.failed sink.old)) (file_parts (basis_of contents.now).base (basis_of contents.now).objects (fields_of entry table)) result (stream (S.told sink.new) buffer.new (S.failed sink.new)) }
 {
     let placement = contents.placement;
     let base = placement.base();
@@ -55,7 +56,7 @@ pub fn write_file<S: Sink>(
     let threads = placement.thread_header();
     let to = base + file_end(segments);
     let from = base + headers_size(segments, threads);
-    put_headers(sink, buffer, segments, threads, entry)?;
+    put_headers(sink, buffer, segments, threads, entry, table)?;
     let code = code_of(segments);
     put_places(
         sink,
@@ -65,6 +66,5 @@ pub fn write_file<S: Sink>(
         placement.loaded_places(),
         from,
         to,
-    )?;
-    flush(sink, buffer)
+    )
 }

@@ -3,6 +3,7 @@
 #![tactic(auto)]
 
 mod buffer;
+mod entries;
 mod fill_bytes;
 mod got;
 mod headers;
@@ -12,8 +13,14 @@ mod memory_sink;
 mod pieces;
 mod sink;
 mod stream;
+mod symbol_table;
+mod tables;
+mod values;
 mod written_image;
 
+pub use image_file::file_end;
 pub use linkage::{Linkage, Parts};
 pub use sink::{Sink, SinkFault, WriteFault};
+pub use symbol_table::SymbolTable;
+pub use values::{block_address, definition_value, symbol_value};
 pub use written_image::{image, write_image};

@@ -1,7 +1,9 @@
 //! A link that is prepared: what is loaded, where it stands, what its relocations want, and what its names mean.
 ghost use Rattle.std.specs.Prelude.{◌≡◌};
-ghost use Rattle.image_write.specs.Linkages.{AreParts};
+ghost use Rattle.image_write.specs.Linkages.{AreParts, linked_of, loaded_of};
+ghost use Rattle.resolve.specs.Views.{meaning_views};
 
+use crate::symbol_table::SymbolTable;
 use got_tls::Slots;
 use layout::Placement;
 use relocate::Patches;
@@ -10,8 +12,8 @@ use search::Loaded;
 use std::marker::Model;
 
 /// What the layers make of what is loaded: the definitions that have a line in the map, in the order of their names, where
-/// the pieces stand, the slots of the GOT and what they hold, what the relocations want, and the address at which the image
-/// is entered.
+/// the pieces stand, the slots of the GOT and what they hold, what the relocations want, the address at which the image
+/// is entered, and its symbol table, where it is to have one.
 #[derive(Drop)]
 pub struct Parts<'a> {
     pub listed: Vec<Definition<'a>>,
@@ -20,6 +22,7 @@ pub struct Parts<'a> {
     pub values: Vec<u64>,
     pub patches: Patches<'a>,
     pub entry: u64,
+    pub table: Option<SymbolTable>,
 }
 
 /// A link without a fault: the plan of a command with its loaded objects, and all that their image and their map are made
@@ -31,12 +34,11 @@ pub struct Linkage<'a> {
 }
 
 impl<'a> Model for Linkage<'a> {
-    ghost use Rattle.search.specs.Loads.{LoadedPlan};
-    ghost use Rattle.image_write.specs.Linkages.{AreParts};
+    ghost use Rattle.image_write.specs.Linkages.{AreParts, Linked, linked_of};
 
-    ghost Value = { LoadedPlan };
+    ghost Value = { Linked };
 
-    ghost view = { λ l. l.loaded };
+    ghost view = { λ l. linked_of l.loaded l.parts };
 
     ghost invariant = { λ l. AreParts l.loaded l.parts };
 }
@@ -45,21 +47,22 @@ impl<'a> Linkage<'a> {
     /// The link of what is loaded, of the parts that the layers made of it.
     pub fn new(loaded: Loaded<'a>, parts: Parts<'a>) -> Linkage<'a>
         requires { AreParts loaded parts }
-        ensures { result ≡ loaded.entry }
+        ensures { result ≡ linked_of loaded.entry parts.entry }
     {
         Linkage { loaded, parts }
     }
 
     /// What is loaded.
     pub fn loaded(&self) -> &Loaded<'a>
-        ensures { result.now ≡ self.now }
+        ensures { result.now ≡ loaded_of self.now }
     {
         &self.loaded
     }
 
     /// What the layers made of it.
     pub fn parts(&self) -> &Parts<'a>
-        ensures { AreParts self.now result.now }
+        ensures parts { AreParts (loaded_of self.now) result.now }
+        ensures listed { meaning_views result.now.listed.items ≡ self.now.listed }
     {
         &self.parts
     }

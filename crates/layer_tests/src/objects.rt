@@ -244,6 +244,7 @@ fn loaded_of<'a>(alloc: Global, objects: Vec<LoadedObject<'a>>) -> Result<Loaded
         output: "a.out",
         map: None,
         check: false,
+        strip: false,
     };
     Ok(Loaded::new(alloc, &plan, objects)?)
 }

@@ -1,6 +1,7 @@
 //! The segments that hold the pieces at their places.
 ghost use Rattle.std.specs.Prelude.{◌≡◌, ◌+◌, ◌-◌, ◌<◌, ◌≤◌, ◌^◌, ◌∷◌, [], ◌↔◌, All, IsTrue};
 ghost use Rattle.std.specs.List.{list_any};
+ghost use Rattle.elf_model.specs.MemoryImage as memory;
 ghost use Rattle.elf_model.specs.OwnLayout as own;
 ghost use Rattle.elf_model.specs.OwnLayout.{any_placed, greatest_end, is_nonempty, placed_has_bytes};
 ghost use Rattle.layout.specs.Limits.{AreInLimit, IsInLimit, IsShort};
@@ -134,7 +135,7 @@ fn are_all_short(segments: &[ProgramHeader]) -> bool
 
 /// Whether a file with these segments is none that is too large.
 pub fn are_short(segments: &[ProgramHeader]) -> bool
-    ensures { IsTrue result ↔ (own.file_end segments.now < 2 ^ 32) }
+    ensures { IsTrue result ↔ (memory.file_end segments.now < 2 ^ 32) }
 {
     are_all_short(segments)
 }

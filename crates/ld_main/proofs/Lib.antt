@@ -2,6 +2,7 @@ pub mod DropLines
 pub mod Values
 pub mod OwnCommons
 pub mod OwnMaps
+pub mod Tabled
 pub mod Links
 pub mod Listings
 pub mod Spellings

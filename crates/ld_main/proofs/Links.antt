@@ -4,8 +4,9 @@ use Rattle.std.specs.Prelude.{IfOk, Ok, Err, Result}
 use Rattle.elf_model.specs.Causes.{Cause, HasArchives, HasObjects, IsLaidOut, IsLinkable, IsReferred, IsResolved, Reaches}
 use Rattle.elf_model.specs.Command.{Plan, command_of}
 use Rattle.elf_model.specs.Files.{File}
-use Rattle.elf_model.specs.ImageFile.{IsOwnMap, image_file, own_entry}
+use Rattle.elf_model.specs.ImageFile.{IsOwnMap, image_file, own_entry, own_tabled}
 use Rattle.elf_model.specs.Loading.{AreObjects, HaveLawfulGroups, LoadedObject, loaded_objects}
+use Rattle.elf_model.specs.MapRecord.{MapRecord}
 use Rattle.elf_model.specs.MapText as map_text
 use Rattle.elf_model.specs.Opening.{AreArchives, AreFilesThere, HaveIndexes, opened}
 use Rattle.elf_model.specs.OwnAddresses.{AreOwnAddresses}
@@ -26,14 +27,13 @@ use Rattle.resolve.specs.declared.faults.ResolveFault.{ResolveFault}
 use Rattle.resolve.specs.declared.faults.ResolveFault.TheVariants as resolve
 use Rattle.layout.specs.Placements.{Basis}
 use Rattle.resolve.specs.Views.{meaning_views}
-use Rattle.image_write.specs.Linkages.{AreParts, own_image}
+use Rattle.image_write.specs.Linkages.{AreParts, Linked, linked_of, own_image}
 use Rattle.image_write.specs.declared.linkage.Parts.{Parts}
-use Rattle.search.specs.Loads.{LoadedPlan}
 use Rattle.ld_main.specs.Linkages.{AreOwnMapsRight, HasOwnLink, IsOwnText, IsPrepared}
 use Rattle.image_write.specs.Maps.{IsMapOf, own_record}
 use Rattle.ld_main.specs.Outputs.{AreLaidOut, AreLinkable, AreReferred, AreResolved, IsOwnLink, LinksRefuse}
 use Rattle.ld_main.specs.Refusals.{of_reloc, of_resolve, of_search}
-use Rattle.ld_main.proofs.OwnMaps.{ordered, own_map}
+use Rattle.ld_main.proofs.OwnMaps.{ordered, own_map, own_table_is, symbols_rise}
 
 pub ok_more : {X Y : Type 0} (P Q : X → Type 0) (r : Result X Y) → IfOk r P → ((x : X) → P x → Q x) → IfOk r Q
 ok_more P Q (Ok x) is more = more x is
@@ -75,36 +75,52 @@ values_refuse p objects l reloc.Memory f = tt
 values_refuse p objects l reloc.Overflow f = (l, f)
 values_refuse p objects l _ f = absurd f
 
+-- the own image has the symbol table of an own map's lines
+image_by_lines :
+    (files : List File) (words : List (List ℕ)) (l : Linked) → IsPrepared files words l →
+    (m : MapRecord) → IsOwnMap l.plan.base l.objects l.plan.strip m →
+    image_file l.plan.base l.objects (own_entry l.plan.base l.objects l.plan.entry) (own_tabled l.plan.strip l.objects m.symbols) ≡ own_image l
+image_by_lines files words l i m own =
+    ap (image_file l.plan.base l.objects (own_entry l.plan.base l.objects l.plan.entry))
+    (own_table_is l.plan.base l.objects l.plan.strip l.listed i.listed i.rising m own)
+
 -- the bytes of a prepared link: its own image, and the text of its own map
 pub own :
-    (files : List File) (words : List (List ℕ)) (l : LoadedPlan) → IsPrepared files words l → (image text : List ℕ) →
+    (files : List File) (words : List (List ℕ)) (l : Linked) → IsPrepared files words l → (image text : List ℕ) →
     image ≡ own_image l → IsOwnText l text → IsOwnLink files words image text
 own files words l i image text image_is t = record {
   plan = l.plan;
   linkable = i.linkable;
   bytes = record {
     record_of = t.record_of;
-    own_map = subst (λ (os : List LoadedObject). IsOwnMap l.plan.base os t.record_of) i.objects t.own_map;
+    own_map = subst (λ (os : List LoadedObject). IsOwnMap l.plan.base os l.plan.strip t.record_of) i.objects t.own_map;
     is_map = t.is_map;
     spelled = t.spelled;
-    image_is = image_is ∙ ap (λ (os : List LoadedObject). image_file l.plan.base os (own_entry l.plan.base os l.plan.entry)) i.objects;
+    image_is =
+        image_is
+        ∙ (sym (image_by_lines files words l i t.record_of t.own_map)
+        ∙ ap (λ (os : List LoadedObject).
+        image_file l.plan.base os (own_entry l.plan.base os l.plan.entry) (own_tabled l.plan.strip os t.record_of.symbols)) i.objects);
   };
 }
 
 -- with its own image, each own map is a right link
-pub own_maps_right : (files : List File) (words : List (List ℕ)) (l : LoadedPlan) → IsPrepared files words l → AreOwnMapsRight files words l
+pub own_maps_right : (files : List File) (words : List (List ℕ)) (l : Linked) → IsPrepared files words l → AreOwnMapsRight files words l
 own_maps_right files words l i m own is_map =
     let small = subst (λ (os : List LoadedObject). own_entry l.plan.base os l.plan.entry < 2 ^ 64) i.objects i.entry_fits in
-    subst (λ (os : List LoadedObject). IsRightLink files words (image_file l.plan.base os (own_entry l.plan.base os l.plan.entry)) (map_text.text m))
-    (sym i.objects)
-    (own_is_right files words l.plan m i.linkable i.base small (subst (λ (os : List LoadedObject). IsOwnMap l.plan.base os m) i.objects own) is_map)
+    subst (λ (image : List ℕ). IsRightLink files words image (map_text.text m)) (image_by_lines files words l i m own)
+    (subst (λ (os : List LoadedObject).
+    IsRightLink files words
+    (image_file l.plan.base os (own_entry l.plan.base os l.plan.entry) (own_tabled l.plan.strip os m.symbols))
+    (map_text.text m)) (sym i.objects)
+    (own_is_right files words l.plan m i.linkable i.base small (subst (λ (os : List LoadedObject). IsOwnMap l.plan.base os l.plan.strip m) i.objects own) is_map))
 
 -- its addresses are the linker's own
-pub own_addresses : (files : List File) (words : List (List ℕ)) (l : LoadedPlan) → IsPrepared files words l → AreOwnAddresses l.plan.base l.objects
+pub own_addresses : (files : List File) (words : List (List ℕ)) (l : Linked) → IsPrepared files words l → AreOwnAddresses l.plan.base l.objects
 own_addresses files words l i = are_own_addresses l.plan.base l.objects (subst AreLawfulKinds (sym i.objects) i.linkable.before.before.before.kinds)
 
 pub right :
-    (files : List File) (words : List (List ℕ)) (l : LoadedPlan) → IsPrepared files words l → (image text : List ℕ) →
+    (files : List File) (words : List (List ℕ)) (l : Linked) → IsPrepared files words l → (image text : List ℕ) →
     image ≡ own_image l → IsOwnText l text → IsRightLink files words image text
 right files words l i image text image_is t =
     subst (λ (j : List ℕ). IsRightLink files words j text) (sym image_is)
@@ -126,39 +142,41 @@ module _ (files : List File) (words : List (List ℕ)) (p : Plan) (objects : Lis
   referred r = record { before = resolved r.resolved; relocations = r.relocations; entry = r.entry }
 
   laid_out : AreLaidOut p (loaded_objects files p) → IsLaidOut files words p
-  laid_out l = record { before = referred l.referred; not_too_large = l.not_too_large }
+  laid_out l = record { before = referred l.referred; room = l.room }
 
   linkable : AreLinkable p (loaded_objects files p) → IsLinkable files words p
   linkable l = record { before = laid_out l.laid_out; fits = l.fits }
 
-  pub prepared : (x : Parts) → AreLinkable p objects → AreParts (record { plan = p; objects = objects }) x → IsPrepared files words (record { plan = p; objects = objects })
+  pub prepared : (x : Parts) → AreLinkable p objects → AreParts (record { plan = p; objects = objects }) x → IsPrepared files words (linked_of (record { plan = p; objects = objects }) x)
   prepared x links made = record {
     objects = are;
     linkable = linkable (subst (AreLinkable p) are links);
     base = made.base;
+    listed = made.listed.listed;
+    rising = symbols_rise (record { base = p.base; objects = objects }) x.listed.items made.listed;
     entry_fits = subst (λ (e : ℕ). e < 2 ^ 64) (sym made.entry) made.entry_fits;
   }
 
   -- the own image and the own map, which can be spelled
   pub right_link : (x : Parts) → AreLinkable p objects → AreParts (record { plan = p; objects = objects }) x →
-      HasOwnLink files words (record { plan = p; objects = objects })
+      HasOwnLink files words (linked_of (record { plan = p; objects = objects }) x)
   right_link x links made =
       let b : Basis = record { base = p.base; objects = objects } in
-      let m = own_record b (meaning_views x.listed.items) in
-      let is : IsMapOf b (meaning_views x.listed.items) m =
-      record { objects_are = refl; drops = refl; places = refl; commons = refl; got = refl; slots = refl; symbols_are = refl } in
-      let text_is : IsOwnText (record { plan = p; objects = objects }) (map_text.text m) =
+      let m = own_record b p.strip (meaning_views x.listed.items) in
+      let is : IsMapOf b p.strip (meaning_views x.listed.items) m =
+      record { version = refl; objects_are = refl; drops = refl; places = refl; commons = refl; got = refl; slots = refl; symbols_are = refl; symtab = refl } in
+      let text_is : IsOwnText (linked_of (record { plan = p; objects = objects }) x) (map_text.text m) =
       record {
         record_of = m;
-        own_map = own_map b x.listed.items m is made.listed;
-        is_map = record { fits = made.spelled; ordered = ordered b x.listed.items m is made.listed };
+        own_map = own_map b p.strip x.listed.items m is made.listed;
+        is_map = record { fits = made.spelled; ordered = ordered b p.strip x.listed.items m is made.listed };
         spelled = refl;
       } in
       let r = prepared x links made in
       record {
         text = map_text.text m;
         own_text = text_is;
-        right = right files words (record { plan = p; objects = objects }) r _ _ refl text_is;
+        right = right files words (linked_of (record { plan = p; objects = objects }) x) r _ _ refl text_is;
       }
 
   pub cause : (e : LinkError) → LinksRefuse p objects e → Cause files words e

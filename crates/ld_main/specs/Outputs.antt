@@ -1,15 +1,15 @@
 -- What the linker makes of the loaded objects, and why it refuses them.
 use Rattle.std.specs.Prelude.{◌≡◌, ℕ, List, AllPairs, Any, None, Some}
-use Rattle.elf_model.specs.Causes.{IsLinkable, IsToDropped, IsToMixed, IsUndefinedName}
+use Rattle.elf_model.specs.Causes.{HasRoom, IsLinkable, IsToDropped, IsToMixed, IsUndefinedName}
 use Rattle.elf_model.specs.Command.{Plan}
 use Rattle.elf_model.specs.Files.{File}
-use Rattle.elf_model.specs.ImageFile.{IsOwnMap, image_file, own_entry}
+use Rattle.elf_model.specs.ImageFile.{IsOwnMap, image_file, own_entry, own_tabled}
 use Rattle.elf_model.specs.Loading.{LoadedObject, loaded_objects}
 use Rattle.elf_model.specs.MapRecord.{MapRecord}
 use Rattle.elf_model.specs.MapText.{IsMap}
 use Rattle.elf_model.specs.MapText as map_text
 use Rattle.elf_model.specs.Meaning.{Meaning, object_meaning}
-use Rattle.elf_model.specs.OwnLayout.{IsNotTooLarge, OwnValuesFit}
+use Rattle.elf_model.specs.OwnLayout.{OwnValuesFit}
 use Rattle.elf_model.specs.Pieces.{AreLawfulKinds}
 use Rattle.elf_model.specs.Relocation.{AreFieldsApart, AreLawfulRelocations, IsFieldInside, IsThreadMismatch, Relocation, relocation_kind, relocations}
 use Rattle.elf_model.specs.Resolution.{AreSoundCommons, AreSoundSymbols, AreUnique, IsDuplicate, IsEntry}
@@ -19,10 +19,10 @@ use Rattle.elf_model.specs.declared.faults.LinkError.TheVariants as error
 -- the image and the map of the own layout
 pub record IsOwnBytes (p : Plan) (objects : List LoadedObject) (image map : List ℕ) : Type 0 where
   pub record_of : MapRecord
-  pub own_map : IsOwnMap p.base objects record_of
+  pub own_map : IsOwnMap p.base objects p.strip record_of
   pub is_map : IsMap record_of
   pub spelled : map ≡ map_text.text record_of
-  pub image_is : image ≡ image_file p.base objects (own_entry p.base objects p.entry)
+  pub image_is : image ≡ image_file p.base objects (own_entry p.base objects p.entry) (own_tabled p.strip objects record_of.symbols)
 
 -- what stands of objects of the profile before each phase: kinds and names, references, layout, values
 pub record AreResolved (objects : List LoadedObject) : Type 0 where
@@ -38,7 +38,7 @@ pub record AreReferred (p : Plan) (objects : List LoadedObject) : Type 0 where
 
 pub record AreLaidOut (p : Plan) (objects : List LoadedObject) : Type 0 where
   pub referred : AreReferred p objects
-  pub not_too_large : IsNotTooLarge p.base objects
+  pub room : HasRoom p objects
 
 pub record AreLinkable (p : Plan) (objects : List LoadedObject) : Type 0 where
   pub laid_out : AreLaidOut p objects
@@ -63,7 +63,7 @@ LinksRefuse p objects error.OverlappingFields = AreResolved objects × (¬ AllPa
 LinksRefuse p objects error.TlsMismatch = RefersBadly objects (IsThreadMismatch objects)
 LinksRefuse p objects error.MixedSection = RefersBadly objects (IsToMixed objects)
 LinksRefuse p objects error.NoEntry = AreResolved objects × (¬ IsEntry objects p.entry)
-LinksRefuse p objects error.TooLarge = AreReferred p objects × (¬ IsNotTooLarge p.base objects)
+LinksRefuse p objects error.TooLarge = AreReferred p objects × (¬ HasRoom p objects)
 LinksRefuse p objects error.Overflow = AreLaidOut p objects × (¬ OwnValuesFit p.base objects)
 LinksRefuse p objects _ = ⊥
 

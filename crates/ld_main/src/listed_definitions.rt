@@ -14,17 +14,6 @@ use elf_model::Bound;
 use resolve::{Definition, Resolved, SymbolOf};
 use std::alloc::{AllocError, Global};
 
-/// The name of what a name means.
-pub fn name_of<'a>(meaning: &Definition<'a>) -> &'a [u8]
-    ensures { result ≡ held_name meaning.now }
-{
-    match meaning {
-        Definition::Symbol(symbol) => symbol.name,
-        Definition::Common(block) => block.name,
-        Definition::Linker(name, _) => name,
-    }
-}
-
 /// Adds what symbols mean: a common one, its name's block; another one, itself.
 fn add_symbols<'a>(
     listed: &mut Vec<Definition<'a>>,
@@ -59,7 +48,7 @@ fn by_name<'a>(listed: Vec<Definition<'a>>) -> Result<Vec<Definition<'a>>, Alloc
     ensures rising { IfOk result (λ v. IsSortedByKey (λ m. (held_name m).now) (slice_cmp nat_cmp) v.items) }
 {
     let mut sorted = listed;
-    sorted.sort_by_key(|m| name_of(m))?;
+    sorted.sort_by_key(|m| m.name())?;
     Ok(sorted)
 }
 

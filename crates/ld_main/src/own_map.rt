@@ -1,76 +1,36 @@
 //! The link map of objects where they are laid out: the objects, their dropped sections, their kept ones, their common
 //! blocks, the GOT and its slots, the definitions with their values.
-ghost use Rattle.std.specs.Prelude.{◌≡◌, ◌++◌, ◌<◌, ◌^◌, All, IfOk, OnOk, find, map, option_map, unwrap_or};
-ghost use Rattle.elf_model.specs.ImageFile.{common_row_of};
+ghost use Rattle.std.specs.Prelude.{◌≡◌, ◌++◌, All, IfOk, IfSome, OnOk, find, map, option_map, unwrap_or};
+ghost use Rattle.elf_model.specs.ImageFile.{common_row_of, own_end};
 ghost use Rattle.elf_model.specs.MapRecord.{common_row, map_of, object_row, place_row, symbol_row};
 ghost use Rattle.elf_model.specs.ObjectFile.{sections};
-ghost use Rattle.elf_model.specs.Meaning.{Symbol, meaning_value};
+ghost use Rattle.elf_model.specs.Meaning.{Symbol};
 ghost use Rattle.elf_model.specs.OwnLayout.{IsNotTooLarge, own_in_load_order, own_placed, own_where};
 ghost use Rattle.elf_model.specs.Pieces.{AreLawfulKinds, kept_sections, piece_of, pieces_from};
-ghost use Rattle.elf_model.specs.Placement.{is_of_section, section_address, symbol_value};
+ghost use Rattle.elf_model.specs.Placement.{is_of_section};
 ghost use Rattle.elf_model.specs.RightLink.{definition_row, drop_rows, drops_from, is_dropped_line, object_rows, symbol_row_of};
 ghost use Rattle.resolve.specs.Blocks.{block_view};
 ghost use Rattle.resolve.specs.Views.{meaning_view, meaning_views, symbol_view};
 ghost use Rattle.search.specs.Views.{loaded_view, loaded_views};
 ghost use Rattle.image_write.specs.CommonRows.{own_commons};
-ghost use Rattle.image_write.specs.Maps.{IsMapOf, LiesBelow, LiesWithin, own_row, own_table};
+ghost use Rattle.image_write.specs.Maps.{IsMapOf, LiesWithin, own_row, own_table};
+ghost use Rattle.image_write.specs.Tables.{HasTable, IsInRange, line_of};
 
-use crate::listed_definitions::name_of;
 use crate::slot_lines::{got_line, slot_lines};
 use elf_model::{
-    CommonLine, Definition as Told, DropLine, LinkMap, ObjectId, ObjectLine, PlaceLine, SHN_ABS,
-    STB_WEAK, SectionHeader, SectionRef, SymbolLine,
+    CommonLine, Definition as Told, DropLine, LinkMap, ObjectId, ObjectLine, PlaceLine, STB_WEAK,
+    SectionHeader, SectionRef, SymbolLine, SymtabLine,
 };
 use elf_read::Object;
 use got_tls::Slots;
+use image_write::{SymbolTable, definition_value};
 use layout::Placement;
 use resolve::{Block, Definition, SymbolOf};
-use search::LoadedObject;
+use search::{Loaded, LoadedObject};
 use std::alloc::{AllocError, Global};
 
-/// The value of a definition: an absolute one's `st_value`, else the address of its section plus `st_value`,
-/// 0 in a section that isn't kept.
-pub fn value(placement: &Placement<'_>, symbol: &SymbolOf<'_>) -> u64
-    requires { LiesBelow (own_in_load_order placement.now.base placement.now.objects) (symbol_view symbol.now) }
-    ensures value { result ≡ symbol_value (own_in_load_order placement.now.base placement.now.objects) (symbol_view symbol.now) }
-    ensures fits { result < 2 ^ 64 }
-{
-    let entry = symbol.entry;
-    if entry.st_shndx == SHN_ABS {
-        return entry.st_value;
-    }
-    match placement.numbered_address(SectionRef {
-        object: ObjectId(symbol.object),
-        section: entry.st_shndx as u64,
-    }) {
-        Some(at) => at + entry.st_value,
-        None => 0,
-    }
-}
-
-/// The address of a common block.
-pub fn block_address(placement: &Placement<'_>, block: &Block<'_>) -> u64
-    ensures { result ≡ section_address (own_in_load_order placement.now.base placement.now.objects) block.now.object block.now.number }
-{
-    match placement.numbered_address(block.section()) {
-        Some(at) => at,
-        None => 0,
-    }
-}
-
-/// The value of what a name means.
-pub fn meaning_value(placement: &Placement<'_>, meaning: &Definition<'_>) -> u64
-    requires kinds { AreLawfulKinds placement.now.objects }
-    requires within { LiesWithin (own_in_load_order placement.now.base placement.now.objects) (meaning_view meaning.now) }
-    ensures value { result ≡ meaning_value (own_where placement.now.base placement.now.objects) (meaning_view meaning.now) }
-    ensures fits { result < 2 ^ 64 }
-{
-    match meaning {
-        Definition::Symbol(symbol) => value(placement, symbol),
-        Definition::Common(block) => block_address(placement, block),
-        Definition::Linker(name, bound) => placement.bound(name, *bound),
-    }
-}
+/// The version of the maps that the linker writes.
+const MAP_VERSION: u64 = 2;
 
 /// A symbol as a map names it: strong, or weak.
 fn definition_of(symbol: &SymbolOf<'_>) -> Told
@@ -111,9 +71,9 @@ fn symbol_line(
     ensures { IfOk result (λ l. symbol_row l ≡ symbol_row_of (own_where placement.now.base placement.now.objects) (meaning_view meaning.now)) }
 {
     Ok(SymbolLine {
-        address: meaning_value(placement, meaning),
+        address: definition_value(placement, meaning),
         definition: row_definition(meaning),
-        name: Vec::from_slice(alloc, name_of(meaning))?,
+        name: Vec::from_slice(alloc, meaning.name())?,
     })
 }
 
@@ -288,22 +248,38 @@ fn common_lines(
     Ok(lines)
 }
 
+/// The line of a symbol table, where there is one.
+pub fn symtab_line(table: Option<SymbolTable>) -> Option<SymtabLine>
+    requires { IfSome table IsInRange }
+    ensures { result ≡ option_map line_of table }
+{
+    let table = table?;
+    Some(SymtabLine {
+        offset: table.symbols(),
+        count: table.count,
+    })
+}
+
 /// The map of objects that are laid out with their GOT and the definitions that have a line, in the order of their names.
 pub fn map_of_layout(
     alloc: Global,
     placement: &Placement<'_>,
-    objects: &[LoadedObject<'_>],
+    loaded: &Loaded<'_>,
     slots: &Slots<'_>,
     listed: &[Definition<'_>],
+    table: Option<SymbolTable>,
 ) -> Result<LinkMap, AllocError>
-    requires same { placement.now.objects ≡ loaded_views objects.now }
+    requires same { placement.now ≡ record { base = loaded.now.plan.base; objects = loaded.now.objects } }
     requires slots { slots.now ≡ own_table placement.now.objects }
     requires kinds { AreLawfulKinds placement.now.objects }
     requires fits { IsNotTooLarge placement.now.base placement.now.objects }
     requires inside { All (λ m. LiesWithin (own_in_load_order placement.now.base placement.now.objects) (meaning_view m)) listed.now }
-    ensures { IfOk result (λ m. IsMapOf placement.now (meaning_views listed.now) (map_of m)) }
+    requires table { HasTable loaded.now.objects (own_end loaded.now.plan.base loaded.now.objects) (meaning_views listed.now) loaded.now.plan.strip table }
+    ensures { IfOk result (λ m. IsMapOf placement.now loaded.now.plan.strip (meaning_views listed.now) (map_of m)) }
 {
+    let objects = loaded.objects();
     Ok(LinkMap {
+        version: MAP_VERSION,
         objects: object_lines(alloc, objects)?,
         drops: drop_lines(alloc, objects)?,
         places: place_lines(alloc, placement, objects)?,
@@ -311,5 +287,6 @@ pub fn map_of_layout(
         got: got_line(placement, slots),
         slots: slot_lines(alloc, placement, slots)?,
         symbols: symbol_lines(alloc, placement, listed)?,
+        symtab: symtab_line(table),
     })
 }

@@ -3,29 +3,30 @@ ghost use Rattle.std.specs.Prelude.{◌≡◌, IfErr, IfOk, OnOk, map};
 ghost use Rattle.elf_model.specs.Causes.{Cause};
 ghost use Rattle.elf_model.specs.Command.{IsBase};
 ghost use Rattle.elf_model.specs.Files.{files_of, words_of};
-ghost use Rattle.elf_model.specs.ImageFile.{IsOwnMap};
+ghost use Rattle.elf_model.specs.ImageFile.{IsOwnMap, own_end};
 ghost use Rattle.elf_model.specs.MapRecord.{map_of};
 ghost use Rattle.elf_model.specs.OwnAddresses.{AreOwnAddresses};
-ghost use Rattle.elf_model.specs.OwnLayout.{own_where};
+ghost use Rattle.elf_model.specs.OwnLayout.{IsNotTooLarge, own_where};
 ghost use Rattle.elf_model.specs.Slots as wanted;
-ghost use Rattle.resolve.specs.Views.{meaning_view};
+ghost use Rattle.resolve.specs.Views.{meaning_view, meaning_views};
 ghost use Rattle.symbols.specs.Rows.{no_rows};
 ghost use Rattle.relocate.specs.Values.{slot_value_of};
 ghost use Rattle.image_write.specs.Linkages.{AreParts};
 ghost use Rattle.image_write.specs.Listings.{IsListing};
 ghost use Rattle.image_write.specs.Maps.{own_table};
+ghost use Rattle.image_write.specs.Tables.{HasTable};
 ghost use Rattle.ld_main.specs.FinalRefusals.{DeniesLinks};
 ghost use Rattle.ld_main.specs.Linkages.{AreOwnMapsRight, HasOwnLink, IsPrepared};
 ghost use Rattle.ld_main.specs.Outputs.{AreLaidOut, AreLinkable, AreReferred, AreResolved, EntersAt, LinksRefuse};
 
 use crate::listed_definitions::listed;
-use crate::own_map::{map_of_layout, meaning_value};
+use crate::own_map::map_of_layout;
 use crate::refusals::{command_error, layout_error, reloc_error, resolve_error, search_error};
 use crate::spelled_lines::show_spellings;
 use command::read_words;
 use elf_model::{InputFile, LinkError, LinkMap, NameSeed};
 use got_tls::{Slots, slots};
-use image_write::{Linkage, Parts};
+use image_write::{Linkage, Parts, SymbolTable, definition_value, file_end};
 use layout::{GotSize, Placement, kinds, place};
 use relocate::{Patches, linker_lines, patches, references, slot_values};
 use resolve::{Definition, Resolved, resolve_in};
@@ -89,13 +90,63 @@ fn laid_out<'a>(
     requires base { IsBase loaded.now.plan.base }
     requires referred { AreReferred loaded.now.plan loaded.now.objects }
     ensures placed { IfOk result (λ p. p ≡ record { base = loaded.now.plan.base; objects = loaded.now.objects }) }
-    ensures laid { OnOk result (AreLaidOut loaded.now.plan loaded.now.objects) }
+    ensures fits { OnOk result (IsNotTooLarge loaded.now.plan.base loaded.now.objects) }
     ensures fault { IfErr result (LinksRefuse loaded.now.plan loaded.now.objects) }
 {
     match place(alloc, loaded, resolved, got, loaded.plan().base) {
         Ok(placement) => Ok(placement),
         Err(fault) => Err(layout_error(fault)),
     }
+}
+
+/// The symbol table of the definitions that have a line, where the words ask for one and the file has room for it.
+fn tabled<'a>(
+    loaded: &Loaded<'a>,
+    placement: &Placement<'a>,
+    listed: &[Definition<'a>],
+) -> Result<Option<SymbolTable>, LinkError>
+    requires placed { placement.now ≡ record { base = loaded.now.plan.base; objects = loaded.now.objects } }
+    requires listed { IsListing loaded.now.objects listed.now }
+    requires referred { AreReferred loaded.now.plan loaded.now.objects }
+    requires base { IsBase loaded.now.plan.base }
+    requires fits { IsNotTooLarge loaded.now.plan.base loaded.now.objects }
+    ensures table { IfOk result (HasTable loaded.now.objects (own_end loaded.now.plan.base loaded.now.objects) (meaning_views listed.now) loaded.now.plan.strip) }
+    ensures laid { OnOk result (AreLaidOut loaded.now.plan loaded.now.objects) }
+    ensures fault { IfErr result (LinksRefuse loaded.now.plan loaded.now.objects) }
+{
+    if loaded.plan().strip {
+        return Ok(None);
+    }
+    let objects = loaded.objects();
+    let end = file_end(placement.segments());
+    match SymbolTable::of(objects, listed, end) {
+        Some(table) => Ok(Some(table)),
+        None => Err(LinkError::TooLarge),
+    }
+}
+
+/// The definitions that have a line in the map, in the order of their names, and their symbol table, where the words ask for
+/// one.
+fn listed_names<'a>(
+    alloc: Global,
+    loaded: &Loaded<'a>,
+    resolved: &Resolved<'a>,
+    placement: &Placement<'a>,
+) -> Result<(Vec<Definition<'a>>, Option<SymbolTable>), LinkError>
+    requires same { resolved.now ≡ loaded.now.objects }
+    requires placed { placement.now ≡ record { base = loaded.now.plan.base; objects = loaded.now.objects } }
+    requires referred { AreReferred loaded.now.plan loaded.now.objects }
+    requires base { IsBase loaded.now.plan.base }
+    requires fits { IsNotTooLarge loaded.now.plan.base loaded.now.objects }
+    ensures listed { IfOk result (λ r. IsListing loaded.now.objects r.0.items) }
+    ensures table { IfOk result (λ r. HasTable loaded.now.objects (own_end loaded.now.plan.base loaded.now.objects) (meaning_views r.0.items) loaded.now.plan.strip r.1) }
+    ensures laid { OnOk result (AreLaidOut loaded.now.plan loaded.now.objects) }
+    ensures fault { IfErr result (LinksRefuse loaded.now.plan loaded.now.objects) }
+{
+    let linkers = linker_lines(alloc, loaded, resolved)?;
+    let listed = listed(alloc, resolved, &linkers)?;
+    let table = tabled(loaded, placement, &listed)?;
+    Ok((listed, table))
 }
 
 /// The patches of what is laid out.
@@ -129,6 +180,7 @@ fn parts_of<'a>(
     values: Vec<u64>,
     patches: Patches<'a>,
     entry: &Definition<'a>,
+    table: Option<SymbolTable>,
 ) -> Parts<'a>
     requires base { IsBase loaded.now.plan.base }
     requires listed { IsListing loaded.now.objects listed.items }
@@ -138,10 +190,11 @@ fn parts_of<'a>(
     requires patches { patches ≡ placement }
     requires linkable { AreLinkable loaded.now.plan loaded.now.objects }
     requires entry { EntersAt loaded.now.plan loaded.now.objects (meaning_view entry.now) }
+    requires table { HasTable loaded.now.objects (own_end loaded.now.plan.base loaded.now.objects) (meaning_views listed.items) loaded.now.plan.strip table }
     ensures { AreParts loaded.now result }
 {
-    let entry = meaning_value(&placement, entry);
-    show_spellings(&placement, loaded.objects(), &slots, &listed);
+    let entry = definition_value(&placement, entry);
+    show_spellings(&placement, loaded, &slots, &listed, table);
     Parts {
         listed,
         placement,
@@ -149,11 +202,12 @@ fn parts_of<'a>(
         values,
         patches,
         entry,
+        table,
     }
 }
 
-/// The parts of a link whose values fit, with the values of its slots and the definitions that have a line.
-fn listed_parts<'a>(
+/// The parts of a link whose values fit, with the values of its slots.
+fn whole_parts<'a>(
     alloc: Global,
     loaded: &Loaded<'a>,
     resolved: &Resolved<'a>,
@@ -161,6 +215,8 @@ fn listed_parts<'a>(
     placement: Placement<'a>,
     slots: Slots<'a>,
     patches: Patches<'a>,
+    listed: Vec<Definition<'a>>,
+    table: Option<SymbolTable>,
 ) -> Result<Parts<'a>, AllocError>
     requires base { IsBase loaded.now.plan.base }
     requires same { resolved.now ≡ loaded.now.objects }
@@ -169,12 +225,14 @@ fn listed_parts<'a>(
     requires patches { patches ≡ placement }
     requires linkable { AreLinkable loaded.now.plan loaded.now.objects }
     requires entry { EntersAt loaded.now.plan loaded.now.objects (meaning_view entry.now) }
+    requires listed { IsListing loaded.now.objects listed.items }
+    requires table { HasTable loaded.now.objects (own_end loaded.now.plan.base loaded.now.objects) (meaning_views listed.items) loaded.now.plan.strip table }
     ensures { IfOk result (AreParts loaded.now) }
 {
     let values = slot_values(alloc, resolved, &placement, &slots)?;
-    let linkers = linker_lines(alloc, loaded, resolved)?;
-    let listed = listed(alloc, resolved, &linkers)?;
-    Ok(parts_of(loaded, listed, placement, slots, values, patches, entry))
+    Ok(parts_of(
+        loaded, listed, placement, slots, values, patches, entry, table,
+    ))
 }
 
 /// Resolves, lays out and judges what is loaded.
@@ -193,8 +251,11 @@ fn prepare_loaded<'a, T: NameTable<'a> + Drop>(
     let entry = referred_entry(alloc, loaded, &resolved)?;
     let slots = slots(alloc, loaded, &resolved)?;
     let placement = laid_out(alloc, loaded, &resolved, slots.got())?;
+    let (listed, table) = listed_names(alloc, loaded, &resolved, &placement)?;
     let patches = fitted(alloc, loaded, &resolved, &placement, &slots)?;
-    let parts = listed_parts(alloc, loaded, &resolved, &entry, placement, slots, patches)?;
+    let parts = whole_parts(
+        alloc, loaded, &resolved, &entry, placement, slots, patches, listed, table,
+    )?;
     Ok(parts)
 }
 
@@ -264,16 +325,17 @@ pub fn prepare<'a>(
 }
 
 /// The map of a link: its objects, their dropped sections, their kept ones, the common blocks, the GOT and its slots at
-/// their addresses, and the definitions of names with their values; its lines are in order.
+/// their addresses, the definitions of names with their values, and the symbol table; its lines are in order.
 pub fn link_map(alloc: Global, linkage: &Linkage<'_>) -> Result<LinkMap, AllocError>
-    ensures { IfOk result (λ m. IsOwnMap linkage.now.plan.base linkage.now.objects (map_of m)) }
+    ensures { IfOk result (λ m. IsOwnMap linkage.now.plan.base linkage.now.objects linkage.now.plan.strip (map_of m)) }
 {
     let parts = linkage.parts();
     map_of_layout(
         alloc,
         &parts.placement,
-        linkage.loaded().objects(),
+        linkage.loaded(),
         &parts.slots,
         &parts.listed,
+        parts.table,
     )
 }

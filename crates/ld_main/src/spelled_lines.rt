@@ -1,8 +1,9 @@
 //! The own map can always be spelled: its numbers are below 2 ^ 64, and its names are bytes, by the types of what
 //! its lines are made from. Nothing here does anything when the program runs.
-ghost use Rattle.std.specs.Prelude.{◌≡◌, ◌<◌, ◌^◌, All, map, option_to_list};
-ghost use Rattle.elf_model.specs.ImageFile.{common_row_of};
-ghost use Rattle.elf_model.specs.MapText.{AreBytes, Fits, FitsCommon, FitsDrop, FitsGot, FitsObject, FitsPlace, FitsSlot, FitsSymbol, FitsTarget};
+ghost use Rattle.std.specs.Prelude.{◌≡◌, ◌<◌, ◌^◌, All, IfSome, map, option_map, option_to_list};
+ghost use Rattle.elf_model.specs.ImageFile.{common_row_of, own_end};
+ghost use Rattle.elf_model.specs.Loading.{AreObjects};
+ghost use Rattle.elf_model.specs.MapText.{AreBytes, Fits, FitsCommon, FitsDrop, FitsGot, FitsObject, FitsPlace, FitsSlot, FitsSymbol, FitsSymtab, FitsTarget};
 ghost use Rattle.elf_model.specs.Meaning.{Common, Linker, Symbol};
 ghost use Rattle.elf_model.specs.ObjectFile.{sections};
 ghost use Rattle.elf_model.specs.OwnLayout.{IsNotTooLarge, own_got, own_in_load_order, own_slots, own_where};
@@ -14,15 +15,17 @@ ghost use Rattle.resolve.specs.Views.{meaning_view, meaning_views, symbol_view};
 ghost use Rattle.search.specs.Views.{loaded_view, loaded_views};
 ghost use Rattle.image_write.specs.CommonRows.{common_rows_of, own_commons};
 ghost use Rattle.image_write.specs.Maps.{LiesBelow, LiesWithin, own_record, own_row, own_table};
+ghost use Rattle.image_write.specs.Tables.{HasTable, IsInRange, line_of};
 
-use crate::own_map::{address_of, block_address, value};
+use crate::own_map::{address_of, symtab_line};
 use crate::slot_lines::got_line;
 use elf_model::{Bound, SectionHeader, Target};
 use elf_read::Object;
 use got_tls::{Slot, Slots};
+use image_write::{SymbolTable, block_address, symbol_value};
 use layout::Placement;
 use resolve::{Block, Definition, SymbolOf};
-use search::LoadedObject;
+use search::{Loaded, LoadedObject};
 
 fn show_number(n: u64)
     ensures { n < 2 ^ 64 }
@@ -141,7 +144,7 @@ fn show_symbol(placement: &Placement<'_>, symbol: &SymbolOf<'_>)
     requires { LiesBelow (own_in_load_order placement.now.base placement.now.objects) (symbol_view symbol.now) }
     ensures { FitsSymbol (symbol_row_of (own_where placement.now.base placement.now.objects) (Symbol (symbol_view symbol.now))) }
 {
-    let _ = value(placement, symbol);
+    let _ = symbol_value(placement, symbol);
     show_number(symbol.object);
     show_number(symbol.number);
     show_bytes(symbol.name);
@@ -198,6 +201,17 @@ fn show_got(placement: &Placement<'_>, slots: &Slots<'_>)
     }
 }
 
+/// The line of the symbol table.
+fn show_symtab(table: Option<SymbolTable>)
+    requires { IfSome table IsInRange }
+    ensures { All FitsSymtab (option_to_list (option_map line_of table)) }
+{
+    if let Some(line) = symtab_line(table) {
+        show_number(line.offset);
+        show_number(line.count);
+    }
+}
+
 /// The target of a slot.
 fn show_target(slot: Slot<'_>)
     ensures { FitsTarget (slot_view slot.entry).target }
@@ -229,20 +243,24 @@ fn show_slots(placement: &Placement<'_>, slots: &Slots<'_>)
     show_targets(slots.slots());
 }
 
-/// The lines of the map of objects where they are laid out.
+/// The lines of the map of objects, which are objects, where they are laid out.
 pub fn show_spellings(
     placement: &Placement<'_>,
-    objects: &[LoadedObject<'_>],
+    loaded: &Loaded<'_>,
     slots: &Slots<'_>,
     listed: &[Definition<'_>],
+    table: Option<SymbolTable>,
 )
-    requires same { placement.now.objects ≡ loaded_views objects.now }
+    requires same { placement.now ≡ record { base = loaded.now.plan.base; objects = loaded.now.objects } }
     requires slots { slots.now ≡ own_table placement.now.objects }
     requires kinds { AreLawfulKinds placement.now.objects }
     requires fits { IsNotTooLarge placement.now.base placement.now.objects }
     requires inside { All (λ m. LiesWithin (own_in_load_order placement.now.base placement.now.objects) (meaning_view m)) listed.now }
-    ensures { Fits (own_record placement.now (meaning_views listed.now)) }
+    requires table { HasTable loaded.now.objects (own_end loaded.now.plan.base loaded.now.objects) (meaning_views listed.now) loaded.now.plan.strip table }
+    ensures objects { AreObjects loaded.now.objects }
+    ensures spelled { Fits (own_record placement.now loaded.now.plan.strip (meaning_views listed.now)) }
 {
+    let objects = loaded.objects();
     show_objects(objects);
     show_drops(objects);
     show_places(placement, objects);
@@ -250,4 +268,5 @@ pub fn show_spellings(
     show_got(placement, slots);
     show_slots(placement, slots);
     show_symbols(placement, listed);
+    show_symtab(table);
 }

@@ -38,7 +38,7 @@ const LOADING: File = File::Object("a.o", &[LOADER, DATA], &[START, V], &[LOAD])
 
 const LOADING_TOO: File = File::Object("b.o", &[LOADER], &[NO_V], &[LOAD_1]);
 
-const SLOT_MAP: &[u8] = b"ldmap 1\n\
+const SLOT_MAP: &[u8] = b"ldmap 2\n\
     object 0 0 0 a.o\n\
     place 0000000000401000 16 0 1 .text\n\
     place 0000000000402000 8 0 2 .data\n\
@@ -73,7 +73,7 @@ const NAMING_FIELDS: [u8; 32] = [
     0, 0, 8, 0, 0, 0, 0, 0, 0, 0,
 ];
 
-const LOCAL_MAP: &[u8] = b"ldmap 1\n\
+const LOCAL_MAP: &[u8] = b"ldmap 2\n\
     object 0 0 0 a.o\n\
     object 1 1 0 b.o\n\
     place 0000000000401000 16 0 1 .text\n\
@@ -203,7 +203,7 @@ const DISTANCE: Relocation = Relocation(1, 0, R_PC32, 2, 0);
 
 const NAMER: File = File::Object("a.o", &[TEXT], &[START, TABLE], &[DISTANCE]);
 
-const NAME_MAP: &[u8] = b"ldmap 1\n\
+const NAME_MAP: &[u8] = b"ldmap 2\n\
     object 0 0 0 a.o\n\
     place 0000000000401000 9 0 1 .text\n\
     got 0000000000402000 8\n\
@@ -211,7 +211,7 @@ const NAME_MAP: &[u8] = b"ldmap 1\n\
     symbol 0000000000401000 strong 0 1 _start\n\
     end\n";
 
-const NO_GOT_MAP: &[u8] = b"ldmap 1\n\
+const NO_GOT_MAP: &[u8] = b"ldmap 2\n\
     object 0 0 0 a.o\n\
     place 0000000000401000 9 0 1 .text\n\
     symbol 0000000000401000 strong 0 1 _start\n\
@@ -403,7 +403,7 @@ const PLAIN: &[File] = &[File::Object("a.o", &[TEXT, DATA], &[START], &[])];
 /// A table of no bytes that nothing asks for.
 static NO_TABLE: [Judged; 1] = [(
     Change::Map(
-        b"ldmap 1\nobject 0 0 0 a.o\nplace 0000000000401000 9 0 1 .text\nplace 0000000000402000 8 0 2 .data\ngot 0000000000402008 0\nsymbol 0000000000401000 strong 0 1 _start\nend\n",
+        b"ldmap 2\nobject 0 0 0 a.o\nplace 0000000000401000 9 0 1 .text\nplace 0000000000402000 8 0 2 .data\ngot 0000000000402008 0\nsymbol 0000000000401000 strong 0 1 _start\nend\n",
     ),
     Verdict::No(Clause::C7),
 )];

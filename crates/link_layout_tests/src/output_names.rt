@@ -295,7 +295,7 @@ const STOP: NamedSymbol<'static> = NamedSymbol {
 /// That one as the address of symbol 1, the bound.
 const STOPPED: File = File::Object("b.o", &[FOO_8], &[STOP], &[Relocation(1, 0, R_64, 1, 0)]);
 
-const STOP_MAP: &[u8] = b"ldmap 1\n\
+const STOP_MAP: &[u8] = b"ldmap 2\n\
     object 0 0 0 a.o\n\
     object 1 1 0 b.o\n\
     place 0000000000401000 9 0 1 .text\n\

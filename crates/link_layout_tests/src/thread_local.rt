@@ -98,7 +98,7 @@ const DATA_MEMORY_SIZE: usize = 0xd8;
 
 const THREAD_HEADER_AT: usize = 0xe8;
 
-const OFFSET_MAP: &[u8] = b"ldmap 1\n\
+const OFFSET_MAP: &[u8] = b"ldmap 2\n\
     object 0 0 0 a.o\n\
     place 0000000000401000 12 0 1 .text\n\
     place 0000000000402000 4 0 2 .tdata\n\
@@ -108,7 +108,7 @@ const OFFSET_MAP: &[u8] = b"ldmap 1\n\
     symbol 0000000000402008 strong 0 3 t\n\
     end\n";
 
-const SLOT_MAP: &[u8] = b"ldmap 1\n\
+const SLOT_MAP: &[u8] = b"ldmap 2\n\
     object 0 0 0 a.o\n\
     place 0000000000401000 16 0 1 .text\n\
     place 0000000000402000 4 0 2 .tdata\n\
@@ -125,14 +125,14 @@ const GOT_BYTES: [u8; 16] = [
     0, 0, 0, 0, 0, 0, 0, 0, 0xf8, 0xff, 0xff, 0xff, 0xff, 0xff, 0xff, 0xff,
 ];
 
-const ZEROS_MAP: &[u8] = b"ldmap 1\n\
+const ZEROS_MAP: &[u8] = b"ldmap 2\n\
     object 0 0 0 a.o\n\
     place 0000000000401000 9 0 1 .text\n\
     place 0000000000402000 8 0 2 .tbss\n\
     symbol 0000000000401000 strong 0 1 _start\n\
     end\n";
 
-const ZEROS_AND_DATA_MAP: &[u8] = b"ldmap 1\n\
+const ZEROS_AND_DATA_MAP: &[u8] = b"ldmap 2\n\
     object 0 0 0 a.o\n\
     place 0000000000401000 9 0 1 .text\n\
     place 0000000000402000 8 0 2 .tbss\n\
@@ -293,7 +293,7 @@ fn wrong_thread_storage_is_found(rt: HostRuntime) -> Result<(), Fail> {
     Ok(())
 }
 
-static FAR_SLOT_MAP: &[u8] = b"ldmap 1\n\
+static FAR_SLOT_MAP: &[u8] = b"ldmap 2\n\
     object 0 0 0 a.o\n\
     place 0000000000401000 16 0 1 .text\n\
     place 0000000000402000 4 0 2 .tdata\n\
@@ -323,7 +323,7 @@ fn far_image(alloc: Global, near: &[u8]) -> Result<Vec<u8>, Fail> {
 /// The length of that image, and the verdict on it.
 fn far_verdict(alloc: Global) -> Result<(usize, Verdict), Fail> {
     let files = files_of(alloc, &[LOADING])?;
-    let words = words_of(alloc, "a.o")?;
+    let words = words_of(alloc, "-s a.o")?;
     let near = linked(alloc, &files, "a.o")??;
     let image = far_image(alloc, &near.image)?;
     let verdict = check(alloc, &files, &words, &image, FAR_SLOT_MAP)?;

@@ -151,7 +151,7 @@ fn members_are_linked_for_needed_names(rt: HostRuntime) -> Result<(), Fail> {
 }
 
 /// The map of `a.o` and the member of `libx.a`, whose header stands behind the index of 10 bytes.
-const MEMBER_MAP: &[u8] = b"ldmap 1\n\
+const MEMBER_MAP: &[u8] = b"ldmap 2\n\
     object 0 0 0 a.o\n\
     object 1 1 78 libx.a\n\
     place 0000000000401000 9 0 1 .text\n\

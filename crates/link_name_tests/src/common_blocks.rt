@@ -160,7 +160,7 @@ const BLOCK_SEGMENT: [u8; 56] = [
     0, 0, 0, 0, 0, 0, 0, 0, 0, 0, 0, 0, 0, 8, 0, 0, 0, 0, 0, 0, 0, 0, 0x10, 0, 0, 0, 0, 0, 0,
 ];
 
-const BLOCK_MAP: &[u8] = b"ldmap 1\n\
+const BLOCK_MAP: &[u8] = b"ldmap 2\n\
     object 0 0 0 a.o\n\
     object 1 1 0 b.o\n\
     object 2 2 0 c.o\n\

@@ -61,7 +61,7 @@ const CALL: Relocation = Relocation(3, 1, R_PLT32, 2, -4);
 /// A relocation of a kind that isn't known.
 const UNKNOWN: Relocation = Relocation(3, 0, 5, 2, -4);
 
-const DROP_MAP: &[u8] = b"ldmap 1\n\
+const DROP_MAP: &[u8] = b"ldmap 2\n\
     object 0 0 0 a.o\n\
     object 1 1 0 b.o\n\
     drop 1 2\n\

@@ -59,7 +59,7 @@ const FOUR: File = File::Object(
     ],
 );
 
-const FOUR_MAP: &[u8] = b"ldmap 1\n\
+const FOUR_MAP: &[u8] = b"ldmap 2\n\
     object 0 0 0 a.o\n\
     place 0000000000401000 9 0 1 .text\n\
     place 0000000000402000 36 0 2 .data\n\

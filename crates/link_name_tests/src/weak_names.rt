@@ -106,7 +106,7 @@ const WEAKLY: File = File::Object(
     &[Relocation(1, 0, 0, 2, 0)],
 );
 
-const STRONG_MAP: &[u8] = b"ldmap 1\n\
+const STRONG_MAP: &[u8] = b"ldmap 2\n\
     object 0 0 0 a.o\n\
     object 1 1 0 b.o\n\
     place 0000000000401000 9 0 1 .text\n\
@@ -115,7 +115,7 @@ const STRONG_MAP: &[u8] = b"ldmap 1\n\
     symbol 0000000000401009 strong 1 1 f\n\
     end\n";
 
-const WEAK_MAP: &[u8] = b"ldmap 1\n\
+const WEAK_MAP: &[u8] = b"ldmap 2\n\
     object 0 0 0 a.o\n\
     object 1 1 0 b.o\n\
     place 0000000000401000 9 0 1 .text\n\

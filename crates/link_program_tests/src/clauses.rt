@@ -14,14 +14,14 @@ const PLAIN: &[File] = &[File::Object("a.o", &[TEXT_SECTION], &[START], &[])];
 static ROWS: [Judged; 23] = [
     (Change::Nothing, Verdict::Yes),
     (Change::Words("a.o -o"), Verdict::No(Clause::C1)),
-    (Change::Map(b"ldmap 2\nend\n"), Verdict::No(Clause::C1)),
+    (Change::Map(b"ldmap 3\nend\n"), Verdict::No(Clause::C1)),
     // No such file.
     (Change::Words("a.o b.o"), Verdict::No(Clause::C2)),
     // e_machine; the path of the object.
     (Change::Input(18, 3), Verdict::No(Clause::C2)),
     (
         Change::Map(
-            b"ldmap 1\nobject 0 0 0 b.o\nplace 0000000000401000 9 0 1 .text\nsymbol 0000000000401000 strong 0 1 _start\nend\n",
+            b"ldmap 2\nobject 0 0 0 b.o\nplace 0000000000401000 9 0 1 .text\nsymbol 0000000000401000 strong 0 1 _start\nend\n",
         ),
         Verdict::No(Clause::C2),
     ),
@@ -29,25 +29,25 @@ static ROWS: [Judged; 23] = [
     (Change::Input(248, 7), Verdict::No(Clause::C3)),
     (
         Change::Map(
-            b"ldmap 1\nobject 0 0 0 a.o\nplace 0000000000401000 9 0 1 .texu\nsymbol 0000000000401000 strong 0 1 _start\nend\n",
+            b"ldmap 2\nobject 0 0 0 a.o\nplace 0000000000401000 9 0 1 .texu\nsymbol 0000000000401000 strong 0 1 _start\nend\n",
         ),
         Verdict::No(Clause::C3),
     ),
     (
         Change::Map(
-            b"ldmap 1\nobject 0 0 0 a.o\nplace 0000000000401000 8 0 1 .text\nsymbol 0000000000401000 strong 0 1 _start\nend\n",
+            b"ldmap 2\nobject 0 0 0 a.o\nplace 0000000000401000 8 0 1 .text\nsymbol 0000000000401000 strong 0 1 _start\nend\n",
         ),
         Verdict::No(Clause::C3),
     ),
     (
         Change::Map(
-            b"ldmap 1\nobject 0 0 0 a.o\ndrop 0 2\nplace 0000000000401000 9 0 1 .text\nsymbol 0000000000401000 strong 0 1 _start\nend\n",
+            b"ldmap 2\nobject 0 0 0 a.o\ndrop 0 2\nplace 0000000000401000 9 0 1 .text\nsymbol 0000000000401000 strong 0 1 _start\nend\n",
         ),
         Verdict::No(Clause::C3),
     ),
     (
         Change::Map(
-            b"ldmap 1\nobject 0 0 0 a.o\nplace 0000000000401000 9 0 1 .text\ncommon 0000000000402000 8 8 c\nsymbol 0000000000401000 strong 0 1 _start\nend\n",
+            b"ldmap 2\nobject 0 0 0 a.o\nplace 0000000000401000 9 0 1 .text\ncommon 0000000000402000 8 8 c\nsymbol 0000000000401000 strong 0 1 _start\nend\n",
         ),
         Verdict::No(Clause::C3),
     ),
@@ -57,20 +57,20 @@ static ROWS: [Judged; 23] = [
     // Below the base; a byte past the segment's end.
     (
         Change::Map(
-            b"ldmap 1\nobject 0 0 0 a.o\nplace 0000000000000000 9 0 1 .text\nsymbol 0000000000401000 strong 0 1 _start\nend\n",
+            b"ldmap 2\nobject 0 0 0 a.o\nplace 0000000000000000 9 0 1 .text\nsymbol 0000000000401000 strong 0 1 _start\nend\n",
         ),
         Verdict::No(Clause::C5),
     ),
     (
         Change::Map(
-            b"ldmap 1\nobject 0 0 0 a.o\nplace 0000000000401001 9 0 1 .text\nsymbol 0000000000401000 strong 0 1 _start\nend\n",
+            b"ldmap 2\nobject 0 0 0 a.o\nplace 0000000000401001 9 0 1 .text\nsymbol 0000000000401000 strong 0 1 _start\nend\n",
         ),
         Verdict::No(Clause::C6),
     ),
     // A slot without a GOT.
     (
         Change::Map(
-            b"ldmap 1\nobject 0 0 0 a.o\nplace 0000000000401000 9 0 1 .text\nslot 0000000000401000 value name f\nsymbol 0000000000401000 strong 0 1 _start\nend\n",
+            b"ldmap 2\nobject 0 0 0 a.o\nplace 0000000000401000 9 0 1 .text\nslot 0000000000401000 value name f\nsymbol 0000000000401000 strong 0 1 _start\nend\n",
         ),
         Verdict::No(Clause::C7),
     ),
@@ -81,24 +81,24 @@ static ROWS: [Judged; 23] = [
     // The binding, the value, and no line.
     (
         Change::Map(
-            b"ldmap 1\nobject 0 0 0 a.o\nplace 0000000000401000 9 0 1 .text\nsymbol 0000000000401000 weak 0 1 _start\nend\n",
+            b"ldmap 2\nobject 0 0 0 a.o\nplace 0000000000401000 9 0 1 .text\nsymbol 0000000000401000 weak 0 1 _start\nend\n",
         ),
         Verdict::No(Clause::C13),
     ),
     (
         Change::Map(
-            b"ldmap 1\nobject 0 0 0 a.o\nplace 0000000000401000 9 0 1 .text\nsymbol 0000000000401001 strong 0 1 _start\nend\n",
+            b"ldmap 2\nobject 0 0 0 a.o\nplace 0000000000401000 9 0 1 .text\nsymbol 0000000000401001 strong 0 1 _start\nend\n",
         ),
         Verdict::No(Clause::C13),
     ),
     (
-        Change::Map(b"ldmap 1\nobject 0 0 0 a.o\nplace 0000000000401000 9 0 1 .text\nend\n"),
+        Change::Map(b"ldmap 2\nobject 0 0 0 a.o\nplace 0000000000401000 9 0 1 .text\nend\n"),
         Verdict::No(Clause::C13),
     ),
     // The last line but one.
     (
         Change::Map(
-            b"ldmap 1\nobject 0 0 0 a.o\nplace 0000000000401000 9 0 1 .text\nsymbol 0000000000401000 strong 0 1 _start\n",
+            b"ldmap 2\nobject 0 0 0 a.o\nplace 0000000000401000 9 0 1 .text\nsymbol 0000000000401000 strong 0 1 _start\n",
         ),
         Verdict::No(Clause::C1),
     ),

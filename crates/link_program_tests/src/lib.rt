@@ -1,5 +1,5 @@
-//! Tests of whole links: links of one object and of two, the bytes between pieces, the order of arrays, the clause that a
-//! wrong link fails, and the program.
+//! Tests of whole links: links of one object and of two, the bytes between pieces, the order of arrays, symbol tables, the
+//! clause that a wrong link fails, and the program.
 #![tactic(auto)]
 
 #[cfg(test)]
@@ -14,6 +14,8 @@ mod plain_links;
 mod program;
 #[cfg(test)]
 mod streams;
+#[cfg(test)]
+mod symbol_tables;
 #[cfg(test)]
 mod tables;
 

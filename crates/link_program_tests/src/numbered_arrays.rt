@@ -227,7 +227,7 @@ const THREE: &[File] = &[File::Object(
     &[],
 )];
 
-const ORDER_MAP: &[u8] = b"ldmap 1\n\
+const ORDER_MAP: &[u8] = b"ldmap 2\n\
     object 0 0 0 a.o\n\
     place 0000000000401000 9 0 1 .text\n\
     place 0000000000402010 8 0 2 .fini_array\n\
@@ -236,7 +236,7 @@ const ORDER_MAP: &[u8] = b"ldmap 1\n\
     symbol 0000000000401000 strong 0 1 _start\n\
     end\n";
 
-const LOAD_ORDER_MAP: &[u8] = b"ldmap 1\n\
+const LOAD_ORDER_MAP: &[u8] = b"ldmap 2\n\
     object 0 0 0 a.o\n\
     place 0000000000401000 9 0 1 .text\n\
     place 0000000000402000 8 0 2 .fini_array\n\

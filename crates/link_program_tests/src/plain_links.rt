@@ -117,7 +117,7 @@ const WRAPPING: File = File::Object(
     &[Relocation(2, 0, R_64, 2, 2)],
 );
 
-const CALL_MAP: &[u8] = b"ldmap 1\n\
+const CALL_MAP: &[u8] = b"ldmap 2\n\
     object 0 0 0 a.o\n\
     object 1 1 0 b.o\n\
     place 0000000000401000 14 0 1 .text\n\
@@ -126,7 +126,7 @@ const CALL_MAP: &[u8] = b"ldmap 1\n\
     symbol 0000000000401010 strong 1 1 f\n\
     end\n";
 
-const EMPTY_MAP: &[u8] = b"ldmap 1\n\
+const EMPTY_MAP: &[u8] = b"ldmap 2\n\
     object 0 0 0 a.o\n\
     place 0000000000401000 9 0 1 .text\n\
     place 0000000000402000 0 0 2 .data\n\
@@ -134,7 +134,7 @@ const EMPTY_MAP: &[u8] = b"ldmap 1\n\
     symbol 0000000000401000 strong 0 1 _start\n\
     end\n";
 
-const DATA_MAP: &[u8] = b"ldmap 1\n\
+const DATA_MAP: &[u8] = b"ldmap 2\n\
     object 0 0 0 a.o\n\
     place 0000000000401000 9 0 1 .text\n\
     place 0000000000400120 5 0 2 .rodata\n\

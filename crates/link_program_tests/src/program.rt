@@ -59,15 +59,33 @@ fn assert_image<R: Files + AllocGlobal + Abort>(rt: &R, path: &str) -> Result<()
 #[test]
 fn links_and_checks(rt: HostRuntime) -> Result<(), Fail> {
     let folder = enter_folder(&rt, "links")?;
-    assert_run(&rt, "a.o", 0, "", "")?;
+    assert_run(&rt, "-s a.o", 0, "", "")?;
     assert_image(&rt, "a.out")?;
-    assert_run(&rt, "a.o -o start -Map=start.map", 0, "", "")?;
+    assert_run(&rt, "-s a.o -o start -Map=start.map", 0, "", "")?;
     assert_image(&rt, "start")?;
     assert!(rt; fs::read(&rt, "start.map")?.as_slice() == MAP);
-    assert_run(&rt, "a.o -o start -Map=start.map --check", 0, "yes\n", "")?;
-    assert_run(&rt, "b.o -o start -Map=start.map --check", 1, "no C2\n", "")?;
+    assert_run(
+        &rt,
+        "-s a.o -o start -Map=start.map --check",
+        0,
+        "yes\n",
+        "",
+    )?;
+    assert_run(
+        &rt,
+        "-s b.o -o start -Map=start.map --check",
+        1,
+        "no C2\n",
+        "",
+    )?;
     fs::write(&rt, "start.map", MAP.strip_suffix(b"end\n").ok_or("a map")?)?;
-    assert_run(&rt, "a.o -o start -Map=start.map --check", 1, "no C1\n", "")?;
+    assert_run(
+        &rt,
+        "-s a.o -o start -Map=start.map --check",
+        1,
+        "no C1\n",
+        "",
+    )?;
     leave_folder(&rt, &folder)
 }
 
@@ -138,7 +156,10 @@ fn tells_faults_of_files(rt: HostRuntime) -> Result<(), Fail> {
         ("b.o d.o", "ld: cannot read d.o\n"),
         ("a.o --check -Map=start.map", "ld: cannot read a.out\n"),
         ("a.o -o d.o", "ld: cannot write d.o\n"),
-        ("a.o -Map=no/start.map", "ld: cannot write no/start.map\n"),
+        (
+            "-s a.o -Map=no/start.map",
+            "ld: cannot write no/start.map\n",
+        ),
         ("a.o -o /dev/full", "ld: cannot write /dev/full\n"),
         (
             "a.o -o /dev/full -Map=full.map",

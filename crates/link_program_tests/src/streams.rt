@@ -68,7 +68,7 @@ fn written(alloc: Global, linkage: &Linkage<'_>, limit: u64) -> (Result<(), Writ
 #[test]
 fn an_image_is_written_byte_by_byte(rt: HostRuntime) -> Result<(), Fail> {
     let files = one_file(rt.alloc(), "a.o", &OBJECT)?;
-    let words = words_of(rt.alloc(), "a.o")?;
+    let words = words_of(rt.alloc(), "-s a.o")?;
     let linkage = prepare(rt.alloc(), &files, &words)?;
     let (result, sink) = written(rt.alloc(), &linkage, u64::MAX);
     result?;
@@ -89,7 +89,7 @@ fn breaks_at(alloc: Global, linkage: &Linkage<'_>, whole: &[u8], call: usize) ->
 #[test]
 fn a_device_that_fails_has_a_beginning_of_the_image(rt: HostRuntime) -> Result<(), Fail> {
     let files = one_file(rt.alloc(), "a.o", &OBJECT)?;
-    let words = words_of(rt.alloc(), "a.o")?;
+    let words = words_of(rt.alloc(), "-s a.o")?;
     let linkage = prepare(rt.alloc(), &files, &words)?;
     let whole = image(rt.alloc())?;
     for call in 0..whole.len() {
@@ -113,7 +113,7 @@ fn across(alloc: Global) -> Result<Vec<u8>, Fail> {
 #[test]
 fn a_field_may_lie_across_the_end_of_the_buffer(rt: HostRuntime) -> Result<(), Fail> {
     let files = one_file(rt.alloc(), "a.o", &across(rt.alloc())?)?;
-    let words = words_of(rt.alloc(), "a.o")?;
+    let words = words_of(rt.alloc(), "-s a.o")?;
     let linkage = prepare(rt.alloc(), &files, &words)?;
     let mut wanted = Vec::new(rt.alloc());
     wanted.resize(4092, 0)?;

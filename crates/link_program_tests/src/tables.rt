@@ -95,7 +95,7 @@ fn by_list(
 fn a_prepared_link_has_an_image_and_a_map(rt: HostRuntime) -> Result<(), Fail> {
     let alloc = rt.alloc();
     let files = one_file(alloc, "a.o", &OBJECT)?;
-    let words = words_of(alloc, "a.o")?;
+    let words = words_of(alloc, "-s a.o")?;
     let linkage = prepare(alloc, &files, &words)?;
     let (bytes, map) = bytes_of(alloc, &linkage)?;
     assert!(rt; bytes == image(alloc)?);
@@ -126,6 +126,6 @@ fn many_names_link_alike_in_both_tables(rt: HostRuntime) -> Result<(), Fail> {
     let text = names_text(rt.alloc())?;
     let mut files = one_file(rt.alloc(), "a.o", &many_names(rt.alloc(), &text)?)?;
     add_file(&mut files, "b.o", &many_references(rt.alloc(), &text)?)?;
-    let words = words_of(rt.alloc(), "a.o b.o")?;
+    let words = words_of(rt.alloc(), "-s a.o b.o")?;
     assert_alike(&rt, rt.alloc(), &files, &words)
 }

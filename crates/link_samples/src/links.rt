@@ -81,21 +81,36 @@ pub fn files_of(alloc: Global, files: &[File]) -> Result<Vec<InputFile>, Fail> {
     Ok(list)
 }
 
-/// A link, which the checker finds right where there is one.
-pub fn linked(
+/// The words of a line behind `-s`: the rows' images have no symbol table.
+fn stripped(alloc: Global, line: &str) -> Result<Vec<String>, Fail> {
+    let line = format!(in alloc; "-s {line}")?;
+    words_of(alloc, &line)
+}
+
+/// The link that words ask for, which the checker finds right where there is one.
+pub fn linked_by(
     alloc: Global,
     files: &[InputFile],
-    line: &str,
+    words: &[String],
 ) -> Result<Result<Output, LinkError>, Fail> {
-    let words = words_of(alloc, line)?;
-    let answer = link(alloc, files, &words);
+    let answer = link(alloc, files, words);
     if let Ok(output) = &answer {
-        let verdict = check(alloc, files, &words, &output.image, &output.map)?;
+        let verdict = check(alloc, files, words, &output.image, &output.map)?;
         if verdict != Verdict::Yes {
             return Err("a wrong link".into());
         }
     }
     Ok(answer)
+}
+
+/// The link of a line without a symbol table.
+pub fn linked(
+    alloc: Global,
+    files: &[InputFile],
+    line: &str,
+) -> Result<Result<Output, LinkError>, Fail> {
+    let words = stripped(alloc, line)?;
+    linked_by(alloc, files, &words)
 }
 
 /// The link of one file `a.o` of these bytes.
@@ -206,7 +221,7 @@ fn verdict_of(alloc: Global, files: &[File], line: &str, change: &Change) -> Res
     } else {
         line
     };
-    let words = words_of(alloc, line)?;
+    let words = stripped(alloc, line)?;
     Ok(check(alloc, &files, &words, &output.image, &output.map)?)
 }
 

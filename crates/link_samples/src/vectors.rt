@@ -63,14 +63,21 @@ pub static TEXT: [u8; 9] = [0xb8, 0x3c, 0x00, 0x00, 0x00, 0x31, 0xff, 0x0f, 0x05
 /// Where the text begins in the image.
 pub const TEXT_OFFSET: usize = 0x1000;
 
-/// The map.
-pub const MAP: &[u8] = b"ldmap 1\n\
+/// The map of version 1.
+pub const OLD_MAP: &[u8] = b"ldmap 1\n\
     object 0 0 0 a.o\n\
     place 0000000000401000 9 0 1 .text\n\
     symbol 0000000000401000 strong 0 1 _start\n\
     end\n";
 
-/// The image.
+/// The map of the image without a symbol table.
+pub const MAP: &[u8] = b"ldmap 2\n\
+    object 0 0 0 a.o\n\
+    place 0000000000401000 9 0 1 .text\n\
+    symbol 0000000000401000 strong 0 1 _start\n\
+    end\n";
+
+/// The image without a symbol table.
 pub fn image(alloc: Global) -> Result<Vec<u8>, Fail> {
     let mut bytes = Vec::from_slice(alloc, &IMAGE_HEADERS)?;
     bytes.resize(TEXT_OFFSET, 0)?;

@@ -1,14 +1,16 @@
 -- Lines: the readers of fields and of whole lines take just what the lines spell.
-use Rattle.std.proofs.Common.{◌≡◌, ℕ, ◌^◌, ◌<◌, List, ◌++◌, refl, codes}
+use Rattle.std.proofs.Common.{◌≡◌, ℕ, ◌^◌, ◌<◌, ◌⊎◌, inl, inr, List, ◌++◌, refl, ap, codes, arith}
+use Rattle.std.proofs.lemmas.Fmt.{decimal_digit}
 use Rattle.elf_model.specs.declared.link_map.Definition.{Definition}
 use Rattle.elf_model.specs.declared.link_map.Definition.TheVariants as definition
 use Rattle.elf_model.specs.declared.link_map.DropLine.{DropLine}
 use Rattle.elf_model.specs.declared.link_map.GotLine.{GotLine}
 use Rattle.elf_model.specs.declared.link_map.SlotKind.{SlotKind}
 use Rattle.elf_model.specs.declared.link_map.SlotKind.TheVariants as kind
+use Rattle.elf_model.specs.declared.link_map.SymtabLine.{SymtabLine}
 use Rattle.elf_model.specs.MapRecord.{ObjectRow, PlaceRow, CommonRow, SlotRow, SymbolRow, TargetRow, OfName, OfLocal}
-use Rattle.elf_model.specs.MapText.{address, number, last_number, name, kind_text, target_text, definition_text, object_text, drop_text, place_text, common_text, got_text, slot_text, symbol_text, Line, Version, Object, Drop, Place, Common, Got, Slot, Symbol, End, line_text, FitsObject, FitsDrop, FitsPlace, FitsCommon, FitsGot, FitsTarget, FitsSlot, FitsDefinition, FitsSymbol}
-use Rattle.linkmap.specs.Reading.{tag, both, object_at, drop_at, place_at, common_at, got_at, kind_at, target_at, slot_at, definition_at, symbol_at, number_at, last_number_at, line_at}
+use Rattle.elf_model.specs.MapText.{address, number, last_number, name, kind_text, target_text, definition_text, object_text, drop_text, place_text, common_text, got_text, slot_text, symbol_text, symtab_text, version_text, Line, Version, Object, Drop, Place, Common, Got, Slot, Symbol, Symtab, End, line_text, FitsObject, FitsDrop, FitsPlace, FitsCommon, FitsGot, FitsTarget, FitsSlot, FitsDefinition, FitsSymbol, FitsSymtab}
+use Rattle.linkmap.specs.Reading.{tag, both, object_at, drop_at, place_at, common_at, got_at, kind_at, target_at, slot_at, definition_at, symbol_at, symtab_at, version_at, number_at, last_number_at, line_at}
 use Rattle.linkmap.proofs.HexLaws.{address-IsParser}
 use Rattle.linkmap.proofs.NameLaws.{name-IsParser}
 use Rattle.linkmap.proofs.NumberLaws.{number-IsParser, last_number-IsParser}
@@ -120,9 +122,43 @@ symbol-IsParser = seen-IsParser _ (λ (s : SymbolRow). (s.address, (s.definition
     (λ x f. record { address = f.0; definition = f.1.0; name = f.1.1 })
     (λ s f. (f.address, (f.definition, f.name)))
 
+symtab-IsParser : IsParser (λ t. number t.offset ++ last_number t.count) FitsSymtab symtab_at
+unfolding symtab_at
+symtab-IsParser = seen-IsParser _ (λ (t : SymtabLine). (t.offset, t.count)) _ _ FitsSymtab _ (pair_of number-IsParser last_number-IsParser)
+    (λ x. refl) (λ t. refl)
+    (λ x f. record { offset = f.0; count = f.1 })
+    (λ t f. (f.offset, f.count))
+
+-- the first line
+abbrev pub IsVersion : ℕ → Type 0
+IsVersion n = (n ≡ 1) ⊎ (n ≡ 2)
+
+version_one : version_text 1 ≡ codes "ldmap 1\n"
+unfolding version_text last_number
+version_one = ap (λ w. codes "ldmap " ++ (w ++ codes "\n")) (decimal_digit 1 (omega arith))
+
+version_two : version_text 2 ≡ codes "ldmap 2\n"
+unfolding version_text last_number
+version_two = ap (λ w. codes "ldmap " ++ (w ++ codes "\n")) (decimal_digit 2 (omega arith))
+
+version_again : (n : ℕ) (rest : List ℕ) → IsVersion n → Took (version_at (version_text n ++ rest)) n rest
+unfolding version_at tag
+version_again n rest (inl e) = rw (e, version_one) refl
+version_again n rest (inr e) = rw (e, version_two) refl
+
+pub version-IsParser : IsParser version_text IsVersion version_at
+unfolding version_at
+version-IsParser = record {
+  takes = λ bytes n rest h.
+      arm_word version_text IsVersion bytes n rest (codes "ldmap 1\n") 1 version_one (inl refl) _
+      (arm_word version_text IsVersion bytes n rest (codes "ldmap 2\n") 2 version_two (inr refl) _
+      (arm_none version_text IsVersion bytes n rest)) h;
+  again = version_again;
+}
+
 -- the lines behind the first
 abbrev pub FitsLine : Line → Type 0
-FitsLine Version = ⊥
+FitsLine (Version n) = ⊥
 FitsLine (Object o) = FitsObject o
 FitsLine (Drop d) = FitsDrop d
 FitsLine (Place p) = FitsPlace p
@@ -130,10 +166,11 @@ FitsLine (Common c) = FitsCommon c
 FitsLine (Got g) = FitsGot g
 FitsLine (Slot s) = FitsSlot s
 FitsLine (Symbol s) = FitsSymbol s
+FitsLine (Symtab t) = FitsSymtab t
 FitsLine End = Unit {0}
 
 line_takes : (bytes : List ℕ) (l : Line) (rest : List ℕ) → Took (line_at bytes) l rest → (bytes ≡ line_text l ++ rest) × FitsLine l
-unfolding line_at object_text drop_text place_text common_text got_text slot_text symbol_text
+unfolding line_at object_text drop_text place_text common_text got_text slot_text symbol_text symtab_text
 line_takes bytes l rest h =
     arm line_text FitsLine bytes l rest (codes "object ") Object object-IsParser (λ x. refl) (λ x f. f) _
     (arm line_text FitsLine bytes l rest (codes "drop ") Drop drop-IsParser (λ x. refl) (λ x f. f) _
@@ -142,12 +179,13 @@ line_takes bytes l rest h =
     (arm line_text FitsLine bytes l rest (codes "got ") Got got-IsParser (λ x. refl) (λ x f. f) _
     (arm line_text FitsLine bytes l rest (codes "slot ") Slot slot-IsParser (λ x. refl) (λ x f. f) _
     (arm line_text FitsLine bytes l rest (codes "symbol ") Symbol symbol-IsParser (λ x. refl) (λ x f. f) _
+    (arm line_text FitsLine bytes l rest (codes "symtab ") Symtab symtab-IsParser (λ x. refl) (λ x f. f) _
     (arm_word line_text FitsLine bytes l rest (codes "end\n") End refl tt _
-    (arm_none line_text FitsLine bytes l rest)))))))) h
+    (arm_none line_text FitsLine bytes l rest))))))))) h
 
 line_again : (l : Line) (rest : List ℕ) → FitsLine l → Took (line_at (line_text l ++ rest)) l rest
-unfolding line_at tag object_text drop_text place_text common_text got_text slot_text symbol_text
-line_again Version rest f = absurd f
+unfolding line_at tag object_text drop_text place_text common_text got_text slot_text symbol_text symtab_text
+line_again (Version n) rest f = absurd f
 line_again (Object o) rest f = rw (object-IsParser.again o rest f) refl
 line_again (Drop d) rest f = rw (drop-IsParser.again d rest f) refl
 line_again (Place p) rest f = rw (place-IsParser.again p rest f) refl
@@ -155,6 +193,7 @@ line_again (Common c) rest f = rw (common-IsParser.again c rest f) refl
 line_again (Got g) rest f = rw (got-IsParser.again g rest f) refl
 line_again (Slot s) rest f = rw (slot-IsParser.again s rest f) refl
 line_again (Symbol s) rest f = rw (symbol-IsParser.again s rest f) refl
+line_again (Symtab t) rest f = rw (symtab-IsParser.again t rest f) refl
 line_again End rest f = refl
 
 pub line-IsParser : IsParser line_text FitsLine line_at

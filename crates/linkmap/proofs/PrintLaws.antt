@@ -7,14 +7,21 @@ use Rattle.std.proofs.lemmas.List.Elements.{All-more, All-map}
 use Rattle.std.proofs.lemmas.List.Concat.{flat_map-append}
 use Rattle.elf_model.specs.declared.link_map.LinkMap.{LinkMap}
 use Rattle.elf_model.specs.MapRecord.{map_of, object_row, place_row, common_row, slot_row, symbol_row}
-use Rattle.elf_model.specs.MapText.{Line, line_text, object_text, drop_text, place_text, common_text, got_text, slot_text, symbol_text, body, text}
+use Rattle.elf_model.specs.MapText.{Line, line_text, version_text, object_text, drop_text, place_text, common_text, got_text, slot_text, symbol_text, symtab_text, body, text}
 
 flat_map-map : {X Y : Type 0} (f : Y → List ℕ) (v : X → Y) (xs : List X) → flat_map f (map v xs) ≡ flat_map (λ x. f (v x)) xs
 flat_map-map f v [] = refl
 flat_map-map f v (x ∷ xs) = ap (λ w. f (v x) ++ w) (flat_map-map f v xs)
 
 abbrev pub printed : LinkMap → List ℕ
-printed m = codes "ldmap 1\n" ++ (flat_map (λ o. object_text (object_row o)) m.objects.items ++ (flat_map drop_text m.drops.items ++ (flat_map (λ p. place_text (place_row p)) m.places.items ++ (flat_map (λ c. common_text (common_row c)) m.commons.items ++ (flat_map got_text (option_to_list m.got) ++ (flat_map (λ s. slot_text (slot_row s)) m.slots.items ++ (flat_map (λ s. symbol_text (symbol_row s)) m.symbols.items ++ codes "end\n")))))))
+printed m = version_text m.version ++ (flat_map (λ o. object_text (object_row o)) m.objects.items ++ (flat_map drop_text m.drops.items ++ (flat_map (λ p. place_text (place_row p)) m.places.items ++ (flat_map (λ c. common_text (common_row c)) m.commons.items ++ (flat_map got_text (option_to_list m.got) ++ (flat_map (λ s. slot_text (slot_row s)) m.slots.items ++ (flat_map (λ s. symbol_text (symbol_row s)) m.symbols.items ++ (flat_map symtab_text (option_to_list m.symtab) ++ codes "end\n"))))))))
+
+-- a text that lines were put behind, and what comes behind them
+pub ahead : {X : Type 0} (f : X → List ℕ) (ys xs : List X) (old new rest : List ℕ) → ys ≡ xs → new ≡ old ++ flat_map f ys → new ++ rest ≡ old ++ (flat_map f xs ++ rest)
+ahead f ys xs old new rest e h = ap (λ w. w ++ rest) (h ∙ ap (λ w. old ++ flat_map f w) e) ∙ append_assoc old (flat_map f xs) rest
+
+pub first : (old new line rest : List ℕ) → old ≡ [] → new ≡ old ++ line → new ++ rest ≡ line ++ rest
+first old new line rest e h = ap (λ w. w ++ rest) (h ∙ ap (λ w. w ++ line) e)
 
 -- a list of lines in front
 part : {X : Type 0} (kind : X → Line) (xs : List X) (ls : List Line) → flat_map line_text (map kind xs ++ ls) ≡ flat_map (λ x. line_text (kind x)) xs ++ flat_map line_text ls
@@ -25,7 +32,7 @@ seen_part kind view xs ls = part kind (map view xs) ls ∙ ap (λ w. w ++ flat_m
 
 pub text_is : (m : LinkMap) → text (map_of m) ≡ printed m
 unfolding body
-text_is m = ap (λ w. codes "ldmap 1\n" ++ w) (simp (append_assoc, seen_part, part))
+text_is m = ap (λ w. version_text m.version ++ w) (simp (append_assoc, seen_part, part))
 
 -- what holds of the elements passed, and of one more
 pub all_more : {X : Type 0} (P : X → Type 0) (xs : List X) (i : ℕ) (x : X) → i < length xs → x ≡ get_or xs i x → All P (take i xs) → P x → All P (take (i + 1) xs)

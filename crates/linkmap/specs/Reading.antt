@@ -10,8 +10,9 @@ use Rattle.elf_model.specs.declared.link_map.DropLine.{DropLine}
 use Rattle.elf_model.specs.declared.link_map.GotLine.{GotLine}
 use Rattle.elf_model.specs.declared.link_map.SlotKind.{SlotKind}
 use Rattle.elf_model.specs.declared.link_map.SlotKind.TheVariants as kind
+use Rattle.elf_model.specs.declared.link_map.SymtabLine.{SymtabLine}
 use Rattle.elf_model.specs.MapRecord.{ObjectRow, PlaceRow, CommonRow, SlotRow, SymbolRow, TargetRow, OfName, OfLocal}
-use Rattle.elf_model.specs.MapText.{is_plain, Line, Object, Drop, Place, Common, Got, Slot, Symbol, End}
+use Rattle.elf_model.specs.MapText.{is_plain, Line, Object, Drop, Place, Common, Got, Slot, Symbol, Symtab, End}
 use Rattle.linkmap.specs.declared.digits.LineFault.{LineFault}
 use Rattle.linkmap.specs.declared.digits.LineFault.TheVariants as line_fault
 
@@ -137,9 +138,16 @@ definition_at bytes = fork (tag (codes "strong ") bytes) (seen (λ x. definition
 unfoldable pub symbol_at : Reads SymbolRow
 symbol_at = seen (λ x. record { address = x.0; definition = x.1.0; name = x.1.1 }) (both address_at (both definition_at name_at))
 
+unfoldable pub symtab_at : Reads SymtabLine
+symtab_at = seen (λ x. record { offset = x.0; count = x.1 }) (both number_at last_number_at)
+
+-- the first line, by its version
+unfoldable pub version_at : Reads ℕ
+version_at bytes = fork (tag (codes "ldmap 1\n") bytes) (λ rest. Some (1, rest)) (fork (tag (codes "ldmap 2\n") bytes) (λ rest. Some (2, rest)) None)
+
 -- a line behind the first: by its first word, or the last line
 unfoldable pub line_at : Reads Line
-line_at bytes = fork (tag (codes "object ") bytes) (seen Object object_at) (fork (tag (codes "drop ") bytes) (seen Drop drop_at) (fork (tag (codes "place ") bytes) (seen Place place_at) (fork (tag (codes "common ") bytes) (seen Common common_at) (fork (tag (codes "got ") bytes) (seen Got got_at) (fork (tag (codes "slot ") bytes) (seen Slot slot_at) (fork (tag (codes "symbol ") bytes) (seen Symbol symbol_at) (fork (tag (codes "end\n") bytes) (λ rest. Some (End, rest)) None)))))))
+line_at bytes = fork (tag (codes "object ") bytes) (seen Object object_at) (fork (tag (codes "drop ") bytes) (seen Drop drop_at) (fork (tag (codes "place ") bytes) (seen Place place_at) (fork (tag (codes "common ") bytes) (seen Common common_at) (fork (tag (codes "got ") bytes) (seen Got got_at) (fork (tag (codes "slot ") bytes) (seen Slot slot_at) (fork (tag (codes "symbol ") bytes) (seen Symbol symbol_at) (fork (tag (codes "symtab ") bytes) (seen Symtab symtab_at) (fork (tag (codes "end\n") bytes) (λ rest. Some (End, rest)) None))))))))
 
 -- what a reader that takes memory answers, seen by `view`
 abbrev pub Fails : {Y : Type 0} → LineFault → Option Y → Type 0

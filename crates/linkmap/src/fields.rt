@@ -1,4 +1,4 @@
-//! The lines of a map behind the first, each read by its first word.
+//! The lines of a map: the first, which tells the version, and the others, each read by its first word.
 ghost use Rattle.std.specs.Prelude.{◌≡◌, option_map};
 ghost use Rattle.elf_model.specs.MapRecord.{object_row, place_row, common_row, slot_row, target_row, symbol_row};
 ghost use Rattle.linkmap.specs.Reading as reading;
@@ -8,7 +8,7 @@ use crate::digits::{LineFault, read_address, read_last_number, read_number, stri
 use crate::names::read_name;
 use elf_model::{
     CommonLine, Definition, DropLine, GotLine, ObjectLine, PlaceLine, SlotKind, SlotLine,
-    SlotTarget, SymbolLine,
+    SlotTarget, SymbolLine, SymtabLine,
 };
 use std::alloc::Global;
 
@@ -22,6 +22,7 @@ pub enum MapLine {
     Got(GotLine),
     Slot(SlotLine),
     Symbol(SymbolLine),
+    Symtab(SymtabLine),
     End,
 }
 
@@ -182,6 +183,27 @@ fn read_symbol(alloc: Global, bytes: &[u8]) -> Result<(SymbolLine, &[u8]), LineF
     ))
 }
 
+#[tactic(auto, unfolding(crate::specs::Reading::symtab_at))]
+fn read_symtab(bytes: &[u8]) -> Option<(SymtabLine, &[u8])>
+    ensures { option_map (λ x. (x.0, x.1.now)) result ≡ reading.symtab_at bytes.now }
+{
+    let (offset, bytes) = read_number(bytes)?;
+    let (count, bytes) = read_last_number(bytes)?;
+    Some((SymtabLine { offset, count }, bytes))
+}
+
+/// The version that the first line tells, and the bytes behind that line.
+#[tactic(auto, unfolding(crate::specs::Reading::version_at))]
+pub fn read_version(bytes: &[u8]) -> Option<(u64, &[u8])>
+    ensures { option_map (λ x. (x.0, x.1.now)) result ≡ reading.version_at bytes.now }
+{
+    if let Some(rest) = strip(bytes, b"ldmap 1\n") {
+        return Some((1, rest));
+    }
+    let rest = strip(bytes, b"ldmap 2\n")?;
+    Some((2, rest))
+}
+
 /// The line that the bytes begin with, and the bytes behind it.
 #[tactic(auto, unfolding(crate::specs::Reading::line_at))]
 pub fn read_line(alloc: Global, bytes: &[u8]) -> Result<(MapLine, &[u8]), LineFault>
@@ -214,6 +236,10 @@ pub fn read_line(alloc: Global, bytes: &[u8]) -> Result<(MapLine, &[u8]), LineFa
     if let Some(rest) = strip(bytes, b"symbol ") {
         let (line, rest) = read_symbol(alloc, rest)?;
         return Ok((MapLine::Symbol(line), rest));
+    }
+    if let Some(rest) = strip(bytes, b"symtab ") {
+        let (line, rest) = read_symtab(rest).ok_or(LineFault::Bad)?;
+        return Ok((MapLine::Symtab(line), rest));
     }
     let rest = strip(bytes, b"end\n").ok_or(LineFault::Bad)?;
     Ok((MapLine::End, rest))

@@ -1,7 +1,7 @@
 //! The order of a map's lines.
 ghost use Rattle.std.specs.Prelude.{◌≡◌, ℕ, ◌<◌, ◌↔◌, IsTrue, length, slice_index_or};
 ghost use Rattle.elf_model.specs.MapRecord.{map_of, object_row, place_row, common_row, slot_row, symbol_row};
-ghost use Rattle.elf_model.specs.MapText.{NameBefore, DropBefore, PlaceBefore, CommonBefore, SlotBefore, SymbolBefore, Ascends, IsOrdered};
+ghost use Rattle.elf_model.specs.MapText.{NameBefore, DropBefore, PlaceBefore, CommonBefore, SlotBefore, SymbolBefore, Ascends, IsVersioned, IsOrdered};
 ghost use Rattle.elf_model.specs.declared.link_map.ObjectLine.{ObjectLine};
 ghost use Rattle.linkmap.specs.Order.{IsAboveLast};
 
@@ -137,11 +137,26 @@ fn symbols_ascend(symbols: &[SymbolLine]) -> bool
     symbols.windows(2).all(|w| symbol_before(&w[0], &w[1]))
 }
 
-/// Whether a map's keys are as its text needs them: objects numbered 0, 1, 2, .., the other lines ascending
-/// strictly by object and section, by address or by name.
+/// Whether there is such a version, and the line of a symbol table is in version 2 only.
+fn is_versioned(map: &LinkMap) -> bool
+    ensures { IsTrue result ↔ IsVersioned (map_of map.now) }
+{
+    match map.version {
+        1 => map.symtab.is_none(),
+        2 => true,
+        _ => false,
+    }
+}
+
+/// Whether a map's version and keys are as its text needs them: version 1 without the line of a symbol
+/// table, or version 2; objects numbered 0, 1, 2, .., the other lines ascending strictly by object and
+/// section, by address or by name.
 pub fn ordered(map: &LinkMap) -> bool
     ensures { IsTrue result ↔ IsOrdered (map_of map.now) }
 {
+    if !is_versioned(map) {
+        return false;
+    }
     if !are_numbered(&map.objects) {
         return false;
     }

@@ -1,5 +1,5 @@
-//! The text of a link map, version 1 (docs/MAP.md): `print` spells a map, and `read` accepts exactly what
-//! `print` spells.
+//! The text of a link map, version 1 or 2 (docs/MAP.md): `print` spells a map, and `read` accepts exactly
+//! what `print` spells.
 #![tactic(auto)]
 
 mod digits;

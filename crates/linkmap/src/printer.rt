@@ -8,9 +8,18 @@ use crate::digits::{put_address, put_last_number, put_number};
 use crate::names::put_name;
 use elf_model::{
     CommonLine, Definition, DropLine, GotLine, LinkMap, ObjectLine, PlaceLine, SlotKind, SlotLine,
-    SlotTarget, SymbolLine,
+    SlotTarget, SymbolLine, SymtabLine,
 };
 use std::alloc::{AllocError, Global};
+
+#[tactic(auto, unfolding(elf_model::specs::MapText::version_text))]
+fn put_version(out: &mut Vec<u8>, version: u64) -> Result<(), AllocError>
+    ensures { OnOk result (out.new.items ≡ out.old.items ++ map_text.version_text version) }
+{
+    out.extend_from_slice(b"ldmap ")?;
+    put_last_number(out, version)?;
+    Ok(())
+}
 
 #[tactic(auto, unfolding(elf_model::specs::MapText::object_text))]
 fn put_object(out: &mut Vec<u8>, o: &ObjectLine) -> Result<(), AllocError>
@@ -155,6 +164,17 @@ fn put_symbol(out: &mut Vec<u8>, s: &SymbolLine) -> Result<(), AllocError>
     Ok(())
 }
 
+#[tactic(auto, unfolding(elf_model::specs::MapText::symtab_text))]
+fn put_symtab(out: &mut Vec<u8>, t: SymtabLine) -> Result<(), AllocError>
+    ensures text { OnOk result (out.new.items ≡ out.old.items ++ map_text.symtab_text t) }
+    ensures fits { OnOk result (map_text.FitsSymtab t) }
+{
+    out.extend_from_slice(b"symtab ")?;
+    put_number(out, t.offset)?;
+    put_last_number(out, t.count)?;
+    Ok(())
+}
+
 fn put_objects(out: &mut Vec<u8>, objects: &[ObjectLine]) -> Result<(), AllocError>
     ensures text { OnOk result (out.new.items
         ≡ out.old.items ++ flat_map (λ o. map_text.object_text (object_row o)) objects.now) }
@@ -231,7 +251,18 @@ fn put_symbols(out: &mut Vec<u8>, symbols: &[SymbolLine]) -> Result<(), AllocErr
     Ok(())
 }
 
-/// The text of a map whose keys are in order.
+fn put_symtabs(out: &mut Vec<u8>, symtab: Option<SymtabLine>) -> Result<(), AllocError>
+    ensures text { OnOk result (out.new.items
+        ≡ out.old.items ++ flat_map map_text.symtab_text (option_to_list symtab)) }
+    ensures fits { OnOk result (All map_text.FitsSymtab (option_to_list symtab)) }
+{
+    if let Some(t) = symtab {
+        put_symtab(out, t)?;
+    }
+    Ok(())
+}
+
+/// The text of a map whose version and keys are in order.
 pub fn print(alloc: Global, map: &LinkMap) -> Result<Vec<u8>, AllocError>
     requires { map_text.IsOrdered (map_of map.now) }
     ensures text { IfOk result (λ printed. printed.items ≡ map_text.text (map_of map.now)) }
@@ -239,7 +270,8 @@ pub fn print(alloc: Global, map: &LinkMap) -> Result<Vec<u8>, AllocError>
     // So what is printed is read as the same map.
     ensures is_map { OnOk result (map_text.IsMap (map_of map.now)) }
 {
-    let mut out = Vec::from_slice(alloc, b"ldmap 1\n")?;
+    let mut out = Vec::new(alloc);
+    put_version(&mut out, map.version)?;
     put_objects(&mut out, &map.objects)?;
     put_drops(&mut out, &map.drops)?;
     put_places(&mut out, &map.places)?;
@@ -247,6 +279,7 @@ pub fn print(alloc: Global, map: &LinkMap) -> Result<Vec<u8>, AllocError>
     put_gots(&mut out, &map.got)?;
     put_slots(&mut out, &map.slots)?;
     put_symbols(&mut out, &map.symbols)?;
+    put_symtabs(&mut out, map.symtab)?;
     out.extend_from_slice(b"end\n")?;
     Ok(out)
 }

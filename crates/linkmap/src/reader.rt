@@ -2,21 +2,22 @@
 ghost use Rattle.std.specs.Prelude.{◌≡◌, ◌↔◌, IsTrue, IfOk, IfErr, OnOk, MatchResult};
 ghost use Rattle.elf_model.specs.MapRecord.{MapRecord, map_of};
 ghost use Rattle.elf_model.specs.MapText.{End, IsMap, MapFails, text};
-ghost use Rattle.linkmap.specs.Order.{row, EndsBeforeDrops, EndsBeforePlaces, EndsBeforeCommons, EndsBeforeGot, EndsBeforeSlots, MayStand, add, empty_map};
+ghost use Rattle.linkmap.specs.Order.{row, EndsBeforeDrops, EndsBeforePlaces, EndsBeforeCommons, EndsBeforeGot, EndsBeforeSlots, EndsBeforeSymbols, MayStand, add, empty_map};
 ghost use Rattle.elf_model.specs.declared.faults.MapFault.TheVariants as map_fault;
 
-use crate::digits::{LineFault, strip};
-use crate::fields::{MapLine, read_line};
+use crate::digits::LineFault;
+use crate::fields::{MapLine, read_line, read_version};
 use crate::keys::{
     may_follow_commons, may_follow_drops, may_follow_places, may_follow_slots, may_follow_symbols,
 };
 use elf_model::{LinkMap, MapFault};
 use std::alloc::{AllocError, Global};
 
-fn empty(alloc: Global) -> LinkMap
-    ensures { map_of result ≡ empty_map }
+fn empty(alloc: Global, version: u64) -> LinkMap
+    ensures { map_of result ≡ empty_map version }
 {
     LinkMap {
+        version,
         objects: Vec::new(alloc),
         drops: Vec::new(alloc),
         places: Vec::new(alloc),
@@ -24,13 +25,20 @@ fn empty(alloc: Global) -> LinkMap
         got: None,
         slots: Vec::new(alloc),
         symbols: Vec::new(alloc),
+        symtab: None,
     }
+}
+
+fn ends_before_symbols(map: &LinkMap) -> bool
+    ensures { IsTrue result ↔ EndsBeforeSymbols (map_of map.now) }
+{
+    map.symbols.is_empty() && map.symtab.is_none()
 }
 
 fn ends_before_slots(map: &LinkMap) -> bool
     ensures { IsTrue result ↔ EndsBeforeSlots (map_of map.now) }
 {
-    map.slots.is_empty() && map.symbols.is_empty()
+    map.slots.is_empty() && ends_before_symbols(map)
 }
 
 fn ends_before_got(map: &LinkMap) -> bool
@@ -67,8 +75,9 @@ fn may_stand(map: &LinkMap, line: &MapLine) -> bool
         MapLine::Place(p) => ends_before_commons(map) && may_follow_places(&map.places, p),
         MapLine::Common(c) => ends_before_got(map) && may_follow_commons(&map.commons, c),
         MapLine::Got(_) => ends_before_got(map),
-        MapLine::Slot(s) => map.symbols.is_empty() && may_follow_slots(&map.slots, s),
-        MapLine::Symbol(s) => may_follow_symbols(&map.symbols, s),
+        MapLine::Slot(s) => ends_before_symbols(map) && may_follow_slots(&map.slots, s),
+        MapLine::Symbol(s) => map.symtab.is_none() && may_follow_symbols(&map.symbols, s),
+        MapLine::Symtab(_) => map.symtab.is_none() && map.version == 2,
         MapLine::End => false,
     }
 }
@@ -84,6 +93,7 @@ fn add_line(map: &mut LinkMap, line: MapLine) -> Result<(), AllocError>
         MapLine::Got(g) => map.got = Some(g),
         MapLine::Slot(s) => map.slots.push(s)?,
         MapLine::Symbol(s) => map.symbols.push(s)?,
+        MapLine::Symtab(t) => map.symtab = Some(t),
         MapLine::End => {}
     }
     Ok(())
@@ -105,10 +115,10 @@ pub fn read(alloc: Global, bytes: &[u8]) -> Result<LinkMap, MapFault>
     ensures only { (m : MapRecord) → IsMap m → bytes.now ≡ text m
         → MatchResult result (λ map. map_of map ≡ m) (λ fault. fault ≡ map_fault.Memory) }
 {
-    let mut map = empty(alloc);
-    let Some(mut rest) = strip(bytes, b"ldmap 1\n") else {
+    let Some((version, mut rest)) = read_version(bytes) else {
         return Err(MapFault::Line(1));
     };
+    let mut map = empty(alloc, version);
     let mut number = 2;
     'lines: loop {
         let (line, after) = match read_line(alloc, rest) {

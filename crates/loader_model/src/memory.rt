@@ -1,7 +1,7 @@
 //! Memory as a loader makes it of an image (System V gABI 5, "Program Loading").
 ghost use Rattle.std.specs.Prelude.{◌≡◌, ◌+◌, ◌*◌, ◌<◌, ◌≤◌, AllPairs, IsTrue, List, ℕ, IfOk, IfErr, IfSome, IsSome, SomeIff, true, option_copied, length, option_map, find, slice_index, slice_index_or, Contains, Any, ◌↔◌, map, filter};
 ghost use Rattle.std.specs.List.{range_with_len};
-ghost use Rattle.elf_model.specs.MemoryImage.{Encloses, HasImageHeader, image_ident, is_thread_block, segment_byte, IsImage, IsImageHeader, LoadFaultStands, loads, loads_in, maps, memory_of, program_header_at, program_headers, thread_blocks};
+ghost use Rattle.elf_model.specs.MemoryImage.{Encloses, HasImageHeader, HasNoSections, HasSections, image_ident, is_thread_block, segment_byte, IsImage, IsImageHeader, LoadFaultStands, loads, loads_in, maps, memory_of, program_header_at, program_headers, thread_blocks};
 ghost use Rattle.elf_model.specs.Records.{file_header};
 ghost use Rattle.loader_model.specs.Table.{EndsBefore, FaultInTable, IsGoodTable, IsLawful};
 ghost use Rattle.std.specs.List.Sorted.{IsNonDecreasingBy};
@@ -153,10 +153,32 @@ fn is_image_header(header: &FileHeader, len: usize) -> bool
     if h.e_version != 1 || h.e_phoff != 64 || h.e_flags != 0 || h.e_ehsize != 64 {
         return false;
     }
-    if h.e_phentsize != 56 || h.e_shentsize != 64 || h.e_shoff != 0 {
+    if h.e_phentsize != 56 || h.e_shentsize != 64 {
         return false;
     }
-    h.e_shnum == 0 && h.e_shstrndx == 0 && 64 + 56 * h.e_phnum as usize <= len
+    if !has_no_sections(h) && !has_sections(h, len) {
+        return false;
+    }
+    64 + 56 * h.e_phnum as usize <= len
+}
+
+/// Whether the header tells of no section headers.
+fn has_no_sections(header: &FileHeader) -> bool
+    ensures { IsTrue result ↔ HasNoSections header.now }
+{
+    header.e_shoff == 0 && header.e_shnum == 0 && header.e_shstrndx == 0
+}
+
+/// Whether the header tells of the four section headers of a symbol table, at a multiple of 8 inside a file
+/// of `len` bytes.
+fn has_sections(header: &FileHeader, len: usize) -> bool
+    ensures { IsTrue result ↔ HasSections len header.now }
+{
+    let len = len as u64;
+    if header.e_shnum != 4 || header.e_shstrndx != 3 || header.e_shoff % 8 != 0 {
+        return false;
+    }
+    header.e_shoff <= len && len - header.e_shoff >= 4 * 64
 }
 
 fn read_header(file: &[u8]) -> Option<FileHeader>

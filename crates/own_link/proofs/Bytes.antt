@@ -5,9 +5,9 @@ use Rattle.std.proofs.lemmas.Bool.{and_from, and_parts, eqb-true, eqb-false, fal
 use Rattle.std.proofs.lemmas.List.Elements.{All-contains}
 use Rattle.std.proofs.lemmas.List.Folds.{list_any-from_Any, list_any_none}
 use Rattle.std.proofs.lemmas.Option.{none-some, same_Some}
-use Rattle.elf_model.specs.ImageFile.{covers_address, fill_at, is_code_part}
-use Rattle.elf_model.specs.MemoryImage.{Cell, cell_of, maps, memory_of, segment_byte}
-use Rattle.elf_model.specs.OwnLayout.{file_end, placed_end}
+use Rattle.elf_model.specs.ImageFile.{HeaderFields, covers_address, fill_at, is_code_part}
+use Rattle.elf_model.specs.MemoryImage.{Cell, cell_of, file_end, maps, memory_of, segment_byte}
+use Rattle.elf_model.specs.OwnLayout.{placed_end}
 use Rattle.elf_model.specs.Placement.{Placed}
 use Rattle.elf_model.specs.RightLink.{fill_of}
 use Rattle.elf_model.specs.declared.records.ProgramHeader.{ProgramHeader}
@@ -148,13 +148,13 @@ module _ (base size : ℕ) (hs : List ProgramHeader) (own : AreOwnSegments base 
           rw l refl
 
   -- what is read of the file
-  module _ (image : List ℕ) (entry count : ℕ) (byte : ℕ → ℕ) (file : IsOwnFile image entry count base size hs byte) where
+  module _ (image : List ℕ) (fields : HeaderFields) (count : ℕ) (byte : ℕ → ℕ) (file : IsOwnFile image fields count base size hs byte) where
     -- memory has the cell of the segment that maps an address
     pub memory_at : (a : ℕ) (h : ProgramHeader) → Contains hs h → maps h a ≡ true → memory_of image a ≡ Some (cell_of image a h)
     memory_at a h there e =
         let found = find_only (λ (g : ProgramHeader). maps g a) hs h there e (λ g c f. one_segment a g h c there f e) in
         ap (λ (gs : List ProgramHeader). option_map (cell_of image a) (find (λ g. maps g a) gs))
-        (loads_are base size hs own image entry count byte file)
+        (loads_are base size hs own image fields count byte file)
         ∙ ap (option_map (cell_of image a)) found
 
     -- a cell of memory is that of a segment that maps the address
@@ -164,7 +164,7 @@ module _ (base size : ℕ) (hs : List ProgramHeader) (own : AreOwnSegments base 
     cell_cases P a c m each =
         by (find (λ (g : ProgramHeader). maps g a) hs) refl
         (sym (ap (λ (gs : List ProgramHeader). option_map (cell_of image a) (find (λ g. maps g a) gs))
-        (loads_are base size hs own image entry count byte file)) ∙ m)
+        (loads_are base size hs own image fields count byte file)) ∙ m)
       where
         by : (o : Option ProgramHeader) → find (λ (g : ProgramHeader). maps g a) hs ≡ o → option_map (cell_of image a) o ≡ Some c → P c
         by None e n = absurd (none-some c n)

@@ -2,6 +2,7 @@
 use Rattle.std.proofs.Common.{◌≡◌, ℕ, ◌+◌, ◌<◌, ◌≤◌, ◌⊎◌, inl, inr, true, false, List, sym, ◌∙◌, ap, arith}
 use Rattle.std.specs.Prelude.{Contains, Some, option_map}
 use Rattle.std.proofs.lemmas.Bool.{cases_Bool, cases_lt}
+use Rattle.elf_model.specs.ImageFile.{HeaderFields}
 use Rattle.elf_model.specs.MemoryImage.{Cell, segment_byte}
 use Rattle.elf_model.specs.OwnLayout.{placed_has_bytes}
 use Rattle.elf_model.specs.Placement.{Placed}
@@ -13,7 +14,7 @@ use Rattle.own_link.proofs.SegmentHeaders.{AreOwnSegments, own_segments_good}
 use Rattle.own_link.proofs.SegmentPieces.{ArePlacedIn, IsInPart, segment_of_piece}
 use Rattle.own_link.proofs.Segments.{AreGoodParts, Part, part_header, segments_of}
 
-module _ (base size : ℕ) (parts : List Part) (good : AreGoodParts base size parts) (placed order : List Placed) (stand : ArePlacedIn parts placed order) (want : Placed → ℕ → ℕ) (zero_filled : (q : Placed) (k : ℕ) → Contains placed q → placed_has_bytes q ≡ false → want q k ≡ 0) (image : List ℕ) (entry count : ℕ) (file : IsOwnFile image entry count base size (segments_of base parts) (byte_here want (segments_of base parts) placed)) where
+module _ (base size : ℕ) (parts : List Part) (good : AreGoodParts base size parts) (placed order : List Placed) (stand : ArePlacedIn parts placed order) (want : Placed → ℕ → ℕ) (zero_filled : (q : Placed) (k : ℕ) → Contains placed q → placed_has_bytes q ≡ false → want q k ≡ 0) (image : List ℕ) (fields : HeaderFields) (count : ℕ) (file : IsOwnFile image fields count base size (segments_of base parts) (byte_here want (segments_of base parts) placed)) where
   own : AreOwnSegments base size (segments_of base parts)
   own = own_segments_good base size parts good
 
@@ -32,12 +33,12 @@ module _ (base size : ℕ) (parts : List Part) (good : AreGoodParts base size pa
       by (inl inside) b =
           let l = i.low in
           let s = i.behind in
-          file_byte base size (segments_of base parts) own image entry count (byte_here want (segments_of base parts) placed) file
+          file_byte base size (segments_of base parts) own image fields count (byte_here want (segments_of base parts) placed) file
           (q.at + k) (part_header base i.part) i.segment (omega (arith, l)) inside (omega (arith, s))
           ∙ piece_byte want (segments_of base parts) placed stand.apart q k there within
       by (inr beyond) (inl b) = absurd (let f = i.file b in omega (arith, f, beyond, within))
       by (inr beyond) (inr z) =
-          zero_byte base size (segments_of base parts) own image entry count (byte_here want (segments_of base parts) placed) file
+          zero_byte base size (segments_of base parts) own image fields count (byte_here want (segments_of base parts) placed) file
           (q.at + k) (part_header base i.part) beyond
           ∙ sym (zero_filled q k there z)
 
@@ -49,6 +50,6 @@ module _ (base size : ℕ) (parts : List Part) (good : AreGoodParts base size pa
       let h = i.high in
       let m = maps-true (part_header base i.part) (q.at + k) (omega (arith, l)) (omega (arith, h, within)) in
       ap (option_map (λ (c : Cell). c.byte))
-      (memory_at base size (segments_of base parts) own image entry count (byte_here want (segments_of base parts) placed) file
+      (memory_at base size (segments_of base parts) own image fields count (byte_here want (segments_of base parts) placed) file
       (q.at + k) (part_header base i.part) i.segment m)
       ∙ ap Some (held_byte q k there within i)

@@ -1,7 +1,7 @@
 -- The image file of the own layout, for every list of objects: it reads back as its headers, is an image that a
 -- loader maps, has the thread block, holds each piece, and has nothing else.
-use Rattle.std.proofs.Common.{◌≡◌, ℕ, ◌+◌, ◌^◌, ◌<◌, Bool, true, false, ◌||◌, cond, List, [], ◌∷◌, ◌++◌, length, map, refl, sym, ◌∙◌, ap, subst, arith}
-use Rattle.std.specs.Prelude.{All, Contains, Option, None, Some, is_some, option_map, slice_index}
+use Rattle.std.proofs.Common.{◌≡◌, inl, inr, ℕ, ◌+◌, ◌^◌, ◌<◌, Bool, true, false, ◌||◌, cond, List, [], ◌∷◌, ◌++◌, length, map, refl, sym, ◌∙◌, ap, subst, arith}
+use Rattle.std.specs.Prelude.{All, Contains, IfSome, Option, None, Some, drop, is_some, option_map, slice_index}
 use Rattle.std.specs.List.{list_any}
 use Rattle.std.specs.Option.{option_map_or}
 use Rattle.std.proofs.lemmas.List.{append-nil}
@@ -9,22 +9,25 @@ use Rattle.std.proofs.lemmas.List.Folds.{list_any_none}
 use Rattle.std.proofs.lemmas.List.Elements.{Contains-append_left}
 use Rattle.elf_model.specs.Command.{IsBase}
 use Rattle.elf_model.specs.Commons.{block_pieces, pieces}
-use Rattle.elf_model.specs.ImageFile.{image_file, piece_byte}
+use Rattle.elf_model.specs.ImageFile.{HeaderFields, image_file, own_end, own_fields, own_file_header, own_tables, piece_byte}
 use Rattle.elf_model.specs.Loading.{AreObjects, LoadedObject}
 use Rattle.elf_model.specs.MemoryImage.{IsImage, loads, thread_blocks}
 use Rattle.elf_model.specs.LinkerValues.{least_of, start_of_pieces}
 use Rattle.elf_model.specs.OwnLayout.{IsNotTooLarge, code_pieces, code_start, count_if, data_pieces, data_start, got_piece, has_thread_pieces, header_count, is_nonempty, own_address, own_code, own_data, own_headers_size, own_in_load_order, own_where, own_loaded, own_read_only, own_segments, own_thread_rest, placed_has_bytes, read_only_start, segment}
 use Rattle.elf_model.specs.Pieces.{AreLawfulKinds, Piece, is_thread_piece, kept_sections}
+use Rattle.elf_model.specs.Meaning.{Meaning}
 use Rattle.elf_model.specs.Placement.{Placed, headers_thing}
 use Rattle.elf_model.specs.Records.{file_header}
 use Rattle.elf_model.specs.RightLink.{HasNothingElse, HoldsPiece, byte_at}
 use Rattle.elf_model.specs.Slots.{got_bytes, got_size, has_got}
+use Rattle.elf_model.specs.SymbolTable.{tables_end}
 use Rattle.elf_model.specs.ThreadStorage.{block_from, thread_header, thread_headers}
+use Rattle.elf_model.specs.declared.link_map.SymtabLine.{SymtabLine}
 use Rattle.elf_model.specs.declared.records.ProgramHeader.{ProgramHeader}
 use Rattle.own_link.proofs.Bytes.{byte_here}
 use Rattle.own_link.proofs.Held.{own_holds}
-use Rattle.own_link.proofs.ImageRead.{IsOwnFile, made_image, made_is_own}
-use Rattle.own_link.proofs.ImageRight.{loads_are, own_entry_is, own_headers_thing, own_is_image, own_thread_blocks}
+use Rattle.own_link.proofs.ImageRead.{IsOwnFile, SuitsFile, made_image, made_is_own}
+use Rattle.own_link.proofs.ImageRight.{loads_are, own_headers_thing, own_is_image, own_thread_blocks}
 use Rattle.elf_model.proofs.Listed.{All-from_contains, Contains-from_map}
 use Rattle.own_link.proofs.Nothing.{own_has_nothing_else}
 use Rattle.own_link.proofs.ApartThings.{load_size-less}
@@ -32,6 +35,7 @@ use Rattle.own_link.proofs.LoadedThings.{all_has_nothing_else, got_loaded, loade
 use Rattle.own_link.proofs.OwnThings.{own_headers_at, own_things_of}
 use Rattle.own_link.proofs.ThreadHeaders.{own_thread_headers, placed_pieces_are}
 use Rattle.elf_model.proofs.Blocks.{block_pieces-each}
+use Rattle.elf_model.proofs.TableLaws.{headers_at-multiple, length-tables}
 use Rattle.elf_model.proofs.Places.{AreOwnPlaced, at_own_address, own_listed}
 use Rattle.own_link.proofs.SegmentHeaders.{AreOwnSegments, own_segments_good}
 use Rattle.own_link.proofs.SegmentPieces.{ArePlacedIn}
@@ -111,23 +115,51 @@ few_headers objects =
     few_by (list_any is_nonempty (code_pieces objects)) (list_any is_nonempty (data_pieces objects)) (has_thread_pieces objects)
 
 -- what is known of the own image
-pub record IsOwnImage (base : ℕ) (objects : List LoadedObject) (entry : ℕ) (image : List ℕ) : Type 0 where
+pub record IsOwnImage (base : ℕ) (objects : List LoadedObject) (entry : ℕ) (table : Option (List Meaning)) (image : List ℕ) : Type 0 where
   pub loads_are : loads image ≡ own_segments base objects
   pub accepted : IsImage image
   pub thread_blocks_are : thread_blocks image ≡ own_thread_headers_of base objects
-  pub entry_is : (file_header image).e_entry ≡ entry
+  pub header_is : file_header image ≡ own_file_header (own_fields base objects entry table) (header_count objects)
   pub headers_are : headers_thing image ≡ own_headers_at base objects
   pub pieces_held : All (HoldsPiece objects (own_where base objects) image) (own_in_load_order base objects)
   pub got_held :
       has_got objects ≡ true → (k : ℕ) → k < got_size objects →
       byte_at image (own_address base objects (got_piece objects) + k) ≡ Some (slice_index (got_bytes objects (own_where base objects)) k)
-  pub nothing_else : HasNothingElse image (own_things_of base objects)
+  pub nothing_else :
+      (symtab : Option SymtabLine) → (symtab ≡ None → own_tables base objects table ≡ []) →
+      HasNothingElse image symtab (own_things_of base objects)
+  pub tables_are : drop (own_end base objects) image ≡ own_tables base objects table
 
--- the own image where any bytes are wanted of the pieces
-abbrev pub wanted_image : (Placed → ℕ → ℕ) → ℕ → List LoadedObject → ℕ → List ℕ
-wanted_image want base objects entry =
-    made_image entry (header_count objects) base (own_headers_size objects) (own_segments base objects)
-    (own_thread_headers_of base objects) (byte_here want (own_segments base objects) (own_loaded base objects))
+-- the fields of a header fit the file, where the table has room
+abbrev pub IsRoomFor : ℕ → List LoadedObject → Option (List Meaning) → Type 0
+IsRoomFor base objects table = IfSome table (λ ms. tables_end (own_end base objects) ms < 2 ^ 32)
+
+pub own_suits :
+    (base : ℕ) (objects : List LoadedObject) (entry : ℕ) (table : Option (List Meaning)) → entry < 2 ^ 64 → IsRoomFor base objects table →
+    SuitsFile (own_fields base objects entry table) (own_end base objects + length (own_tables base objects table))
+own_suits base objects entry None small room = record {
+  entry = small;
+  offset = omega arith;
+  count = omega arith;
+  names = omega arith;
+  sections = inl (record { offset = refl; count = refl; names = refl });
+}
+own_suits base objects entry (Some ms) small room =
+    let long = length-tables (own_where base objects) (own_end base objects) ms in
+    record {
+      entry = small;
+      offset = omega (arith, room);
+      count = omega arith;
+      names = omega arith;
+      sections =
+          inr (record { offset = headers_at-multiple (own_end base objects) ms; inside = omega (arith, long); count = refl; names = refl });
+    }
+
+-- the own image where any bytes are wanted of the pieces, and any stand behind the last file part
+abbrev pub wanted_image : (Placed → ℕ → ℕ) → ℕ → List LoadedObject → HeaderFields → List ℕ → List ℕ
+wanted_image want base objects fields tail =
+    made_image fields (header_count objects) base (own_headers_size objects) (own_segments base objects)
+    (own_thread_headers_of base objects) (byte_here want (own_segments base objects) (own_loaded base objects)) tail
 
 module _ (base : ℕ) (objects : List LoadedObject) (kinds : AreLawfulKinds objects) (based : IsBase base) (fits : IsNotTooLarge base objects) (stand : AreOwnPlaced base objects) (are_objects : AreObjects objects) where
   good : AreGoodParts base (own_headers_size objects) (own_parts base objects)
@@ -146,75 +178,88 @@ module _ (base : ℕ) (objects : List LoadedObject) (kinds : AreLawfulKinds obje
     all = λ q c. c;
   }
 
-  module _ (want : Placed → ℕ → ℕ) (zero_filled : (q : Placed) (k : ℕ) → Contains (own_loaded base objects) q → placed_has_bytes q ≡ false → want q k ≡ 0) (entry : ℕ) (small : entry < 2 ^ 64) where
+  module _ (want : Placed → ℕ → ℕ) (zero_filled : (q : Placed) (k : ℕ) → Contains (own_loaded base objects) q → placed_has_bytes q ≡ false → want q k ≡ 0) (fields : HeaderFields) (tail : List ℕ) (suits : SuitsFile fields (own_end base objects + length tail)) where
     wanted_made :
         (file :
-        IsOwnFile (wanted_image want base objects entry) entry (header_count objects) base (own_headers_size objects) (own_segments base objects)
+        IsOwnFile (wanted_image want base objects fields tail) fields (header_count objects) base (own_headers_size objects) (own_segments base objects)
         (byte_here want (own_segments base objects) (own_loaded base objects)))
         × (file.threads ≡ own_thread_headers_of base objects)
+        × (file.tail ≡ tail)
     wanted_made =
-        made_is_own entry (header_count objects) base (own_headers_size objects) (own_segments base objects) (own_thread_headers_of base objects)
-        (byte_here want (own_segments base objects) (own_loaded base objects)) good_segments (own_thread_headers base objects kinds are_objects fits)
-        (header_count_is base objects) refl small (few_headers objects)
+        made_is_own fields (header_count objects) base (own_headers_size objects) (own_segments base objects) (own_thread_headers_of base objects)
+        (byte_here want (own_segments base objects) (own_loaded base objects)) tail good_segments
+        (own_thread_headers base objects kinds are_objects fits) (header_count_is base objects) refl suits (few_headers objects)
 
     pub wanted_file :
-        IsOwnFile (wanted_image want base objects entry) entry (header_count objects) base (own_headers_size objects) (own_segments base objects)
+        IsOwnFile (wanted_image want base objects fields tail) fields (header_count objects) base (own_headers_size objects) (own_segments base objects)
         (byte_here want (own_segments base objects) (own_loaded base objects))
     wanted_file = wanted_made.0
 
     -- the same, of the headers of the parts
-    file :
-        IsOwnFile (wanted_image want base objects entry) entry (header_count objects) base (own_headers_size objects)
+    of_parts :
+        (file :
+        IsOwnFile (wanted_image want base objects fields tail) fields (header_count objects) base (own_headers_size objects)
         (segments_of base (own_parts base objects))
-        (byte_here want (segments_of base (own_parts base objects)) (own_loaded base objects))
-    file =
+        (byte_here want (segments_of base (own_parts base objects)) (own_loaded base objects)))
+        × (file.tail ≡ tail)
+    of_parts =
         subst (λ (hs : List ProgramHeader).
-        IsOwnFile (wanted_image want base objects entry) entry (header_count objects) base (own_headers_size objects) hs
-        (byte_here want hs (own_loaded base objects))) (own_segments_are base objects) wanted_file
+        (file :
+        IsOwnFile (wanted_image want base objects fields tail) fields (header_count objects) base (own_headers_size objects) hs
+        (byte_here want hs (own_loaded base objects)))
+        × (file.tail ≡ tail)) (own_segments_are base objects) (wanted_made.0, wanted_made.2)
 
-    pub wanted_loads : loads (wanted_image want base objects entry) ≡ own_segments base objects
+    pub wanted_loads : loads (wanted_image want base objects fields tail) ≡ own_segments base objects
     wanted_loads =
-        loads_are base (own_headers_size objects) (own_segments base objects) good_segments (wanted_image want base objects entry) entry
+        loads_are base (own_headers_size objects) (own_segments base objects) good_segments (wanted_image want base objects fields tail) fields
         (header_count objects) (byte_here want (own_segments base objects) (own_loaded base objects)) wanted_file
 
-    pub wanted_is_image : IsImage (wanted_image want base objects entry)
+    pub wanted_is_image : IsImage (wanted_image want base objects fields tail)
     wanted_is_image =
-        own_is_image base (own_headers_size objects) (own_segments base objects) good_segments (wanted_image want base objects entry) entry
+        own_is_image base (own_headers_size objects) (own_segments base objects) good_segments (wanted_image want base objects fields tail) fields
         (header_count objects) (byte_here want (own_segments base objects) (own_loaded base objects)) wanted_file
 
-    pub wanted_thread_blocks : thread_blocks (wanted_image want base objects entry) ≡ own_thread_headers_of base objects
+    pub wanted_thread_blocks : thread_blocks (wanted_image want base objects fields tail) ≡ own_thread_headers_of base objects
     wanted_thread_blocks =
-        own_thread_blocks base (own_headers_size objects) (own_segments base objects) good_segments (wanted_image want base objects entry) entry
+        own_thread_blocks base (own_headers_size objects) (own_segments base objects) good_segments (wanted_image want base objects fields tail) fields
         (header_count objects) (byte_here want (own_segments base objects) (own_loaded base objects)) wanted_made.0
         ∙ wanted_made.1
 
-    pub wanted_entry : (file_header (wanted_image want base objects entry)).e_entry ≡ entry
-    wanted_entry =
-        own_entry_is base (own_headers_size objects) (own_segments base objects) good_segments (wanted_image want base objects entry) entry
-        (header_count objects) (byte_here want (own_segments base objects) (own_loaded base objects)) wanted_file
+    pub wanted_header : file_header (wanted_image want base objects fields tail) ≡ own_file_header fields (header_count objects)
+    wanted_header = wanted_file.header
 
-    pub wanted_headers_thing : headers_thing (wanted_image want base objects entry) ≡ own_headers_at base objects
+    pub wanted_tail : drop (own_end base objects) (wanted_image want base objects fields tail) ≡ tail
+    wanted_tail = wanted_made.0.rest ∙ wanted_made.2
+
+    pub wanted_headers_thing : headers_thing (wanted_image want base objects fields tail) ≡ own_headers_at base objects
     wanted_headers_thing =
-        own_headers_thing base (own_headers_size objects) (own_segments base objects) good_segments (wanted_image want base objects entry) entry
+        own_headers_thing base (own_headers_size objects) (own_segments base objects) good_segments (wanted_image want base objects fields tail) fields
         (header_count objects) (byte_here want (own_segments base objects) (own_loaded base objects)) wanted_file
 
     pub wanted_holds :
         (q : Placed) → Contains (own_loaded base objects) q → (k : ℕ) → k < q.piece.size →
-        byte_at (wanted_image want base objects entry) (q.at + k) ≡ Some (want q k)
+        byte_at (wanted_image want base objects fields tail) (q.at + k) ≡ Some (want q k)
     wanted_holds =
         own_holds base (own_headers_size objects) (own_parts base objects) good (own_loaded base objects) (own_loaded base objects)
-        placed_in_parts want zero_filled (wanted_image want base objects entry) entry (header_count objects) file
+        placed_in_parts want zero_filled (wanted_image want base objects fields tail) fields (header_count objects) of_parts.0
 
     pub wanted_has_nothing_else :
-        HasNothingElse (wanted_image want base objects entry) (own_things_of base objects)
-    wanted_has_nothing_else =
-        all_has_nothing_else base objects kinds (wanted_image want base objects entry)
+        (symtab : Option SymtabLine) → (symtab ≡ None → tail ≡ []) →
+        HasNothingElse (wanted_image want base objects fields tail) symtab (own_things_of base objects)
+    wanted_has_nothing_else symtab bare =
+        all_has_nothing_else base objects kinds (wanted_image want base objects fields tail) symtab
         (own_has_nothing_else base (own_headers_size objects) (own_parts base objects) good (own_loaded base objects)
-        (own_loaded base objects) placed_in_parts (omega arith) want zero_filled (wanted_image want base objects entry) entry
-        (header_count objects) file)
+        (own_loaded base objects) placed_in_parts (omega arith) want zero_filled (wanted_image want base objects fields tail) fields
+        (header_count objects) of_parts.0 symtab (λ none. of_parts.1 ∙ bare none))
 
   -- the image file wants the bytes of the input and of the fields
-  module _ (entry : ℕ) (small : entry < 2 ^ 64) where
+  module _ (entry : ℕ) (table : Option (List Meaning)) (suits : SuitsFile (own_fields base objects entry table) (own_end base objects + length (own_tables base objects table))) where
+    abbrev fields : HeaderFields
+    fields = own_fields base objects entry table
+
+    abbrev tail : List ℕ
+    tail = own_tables base objects table
+
     abbrev wants : Placed → ℕ → ℕ
     wants q k = piece_byte objects (own_where base objects) q.piece k
 
@@ -223,33 +268,34 @@ module _ (base : ℕ) (objects : List LoadedObject) (kinds : AreLawfulKinds obje
         own_wants_zero objects are_objects base stand (own_where base objects) q k
         (Contains-append_left (own_loaded base objects) (own_thread_rest base objects) q c)
 
-    pieces_held : All (HoldsPiece objects (own_where base objects) (image_file base objects entry)) (own_in_load_order base objects)
+    pieces_held : All (HoldsPiece objects (own_where base objects) (image_file base objects entry table)) (own_in_load_order base objects)
     pieces_held =
-        All-from_contains (HoldsPiece objects (own_where base objects) (image_file base objects entry)) (own_in_load_order base objects)
+        All-from_contains (HoldsPiece objects (own_where base objects) (image_file base objects entry table)) (own_in_load_order base objects)
         (λ q c. record {
           bytes = λ k within.
               let i = Contains-from_map (at_own_address base objects) (pieces objects) q c in
-              wanted_holds wants wants_zero entry small q
+              wanted_holds wants wants_zero fields tail suits q
               (loaded_by_size base objects kinds q (own_listed base objects kinds q c) (omega (arith, within))) k (let less = load_size-less q.piece in omega (arith, within, less))
               ∙ ap Some (piece_wants objects are_objects (own_where base objects) q.piece k (subst (λ (r : Placed). Contains (pieces objects) r.piece) i.is i.there));
         })
 
     got_held :
         has_got objects ≡ true → (k : ℕ) → k < got_size objects →
-        byte_at (image_file base objects entry) (own_address base objects (got_piece objects) + k) ≡ Some (slice_index (got_bytes objects (own_where base objects)) k)
+        byte_at (image_file base objects entry table) (own_address base objects (got_piece objects) + k) ≡ Some (slice_index (got_bytes objects (own_where base objects)) k)
     got_held there k within =
-        wanted_holds wants wants_zero entry small (at_own_address base objects (got_piece objects))
+        wanted_holds wants wants_zero fields tail suits (at_own_address base objects (got_piece objects))
         (got_loaded base objects kinds there) k within
         ∙ ap Some (got_wants objects are_objects (own_where base objects) k)
 
-    pub image_is_own : IsOwnImage base objects entry (image_file base objects entry)
+    pub image_is_own : IsOwnImage base objects entry table (image_file base objects entry table)
     image_is_own = record {
-      loads_are = wanted_loads wants wants_zero entry small;
-      accepted = wanted_is_image wants wants_zero entry small;
-      thread_blocks_are = wanted_thread_blocks wants wants_zero entry small;
-      entry_is = wanted_entry wants wants_zero entry small;
-      headers_are = wanted_headers_thing wants wants_zero entry small;
+      loads_are = wanted_loads wants wants_zero fields tail suits;
+      accepted = wanted_is_image wants wants_zero fields tail suits;
+      thread_blocks_are = wanted_thread_blocks wants wants_zero fields tail suits;
+      header_is = wanted_header wants wants_zero fields tail suits;
+      headers_are = wanted_headers_thing wants wants_zero fields tail suits;
       pieces_held = pieces_held;
       got_held = got_held;
-      nothing_else = wanted_has_nothing_else wants wants_zero entry small;
+      nothing_else = wanted_has_nothing_else wants wants_zero fields tail suits;
+      tables_are = wanted_tail wants wants_zero fields tail suits;
     }

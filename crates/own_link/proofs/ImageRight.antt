@@ -1,21 +1,20 @@
 -- The own image file is an image that a loader maps: its headers, their order and its segments are right.
-use Rattle.std.proofs.Common.{◌≡◌, ℕ, ◌+◌, ◌-◌, ◌*◌, ◌<◌, ◌≤◌, true, false, List, [], ◌∷◌, ◌++◌, length, get_or, refl, sym, ◌∙◌, ap, subst, arith, take, drop}
+use Rattle.std.proofs.Common.{◌≡◌, ◌⊎◌, inl, inr, ℕ, ◌+◌, ◌-◌, ◌*◌, ◌<◌, ◌≤◌, true, false, List, [], ◌∷◌, ◌++◌, length, get_or, refl, sym, ◌∙◌, ap, subst, arith, take, drop}
 use Rattle.std.specs.Prelude.{All, AllPairs, filter}
 use Rattle.std.specs.List.{prefix_len}
 use Rattle.std.proofs.lemmas.Bool.{eq-eqb, ne_eqb}
 use Rattle.std.proofs.lemmas.List.{append-nil, drop_at, get_or-append_right, get_or_append_left, length-append, take_at}
 use Rattle.std.proofs.lemmas.List.Elements.{All-append, All-cons, All-get_or, All-head, All-nil, All-weaker, filter-append}
 use Rattle.std.proofs.lemmas.List.Sums.{prefix_len_is}
-use Rattle.elf_model.specs.ImageFile.{own_file_header, stack_header}
-use Rattle.elf_model.specs.MemoryImage.{AreGoodSegments, HoldsHeaders, IsGoodLoad, IsGoodStack, IsGoodThreadBlock, IsImage, IsImageHeader, IsInOrder, IsTail, ShareNoPage, first_address, headers_size, is_load, is_thread_block, loads, loads_in, thread_blocks}
-use Rattle.elf_model.specs.OwnLayout.{file_end}
+use Rattle.elf_model.specs.ImageFile.{HeaderFields, own_file_header, stack_header}
+use Rattle.elf_model.specs.MemoryImage.{AreGoodSegments, HasNoSections, HasSections, HoldsHeaders, IsGoodLoad, IsGoodStack, IsGoodThreadBlock, IsImage, IsImageHeader, IsInOrder, IsTail, ShareNoPage, file_end, first_address, headers_size, is_load, is_thread_block, loads, loads_in, thread_blocks}
 use Rattle.elf_model.specs.Placement.{headers_thing}
 use Rattle.elf_model.specs.Records.{file_header}
 use Rattle.elf_model.specs.declared.records.FileHeader.{FileHeader}
 use Rattle.elf_model.specs.declared.records.ProgramHeader.{ProgramHeader}
 use Rattle.own_link.proofs.Ends.{FileEndsBelow, file_end-holds}
 use Rattle.elf_model.proofs.Finding.{filter-all, filter-none}
-use Rattle.own_link.proofs.ImageRead.{AreThreadHeaders, IsOwnFile, IsThreadHeader, table_of}
+use Rattle.own_link.proofs.ImageRead.{AreThreadHeaders, IsOwnFile, IsThreadHeader, SuitsFile, table_of}
 use Rattle.own_link.proofs.SegmentHeaders.{AreOwnSegments, IsGoodSegment}
 
 -- which headers are PT_LOAD, and which PT_TLS
@@ -52,8 +51,8 @@ module _ (base size : ℕ) (hs : List ProgramHeader) (own : AreOwnSegments base 
     inside = below;
   }
 
-  loads_good : All (IsGoodLoad base (file_end hs)) hs
-  loads_good k d within = good_load (file_end hs) (get_or hs k d) (own.each k d within) (file_end-holds hs (file_end hs) (omega arith) k d within)
+  loads_good : (n : ℕ) → file_end hs ≤ n → All (IsGoodLoad base n) hs
+  loads_good n long k d within = good_load n (get_or hs k d) (own.each k d within) (file_end-holds hs n long k d within)
 
   good_stack : IsGoodStack stack_header
   good_stack = record {
@@ -146,18 +145,18 @@ module _ (base size : ℕ) (hs : List ProgramHeader) (own : AreOwnSegments base 
             let s = (own.each i d (omega (arith, low, high))).some in
             omega (arith, r, s)
 
-    segments_good : size ≡ 64 + 56 * (length hs + (length ts + 1)) → AreGoodSegments (file_end hs) (table_of hs ts)
-    segments_good sized =
+    segments_good : (n : ℕ) → file_end hs ≤ n → size ≡ 64 + 56 * (length hs + (length ts + 1)) → AreGoodSegments n (table_of hs ts)
+    segments_good n long sized =
         let l = loads_in_table in
         let first : first_address (loads_in (table_of hs ts)) ≡ base = ap first_address l ∙ first_is in
         let longer : length (table_of hs ts) ≡ length hs + (length ts + 1) =
         length-append hs (ts ++ stack_header ∷ []) ∙ ap (λ (k : ℕ). length hs + k) (length-append ts (stack_header ∷ [])) in
-        let n : 64 + 56 * length (table_of hs ts) ≡ size = omega (arith, sized, longer) in
+        let whole : 64 + 56 * length (table_of hs ts) ≡ size = omega (arith, sized, longer) in
         record {
           segments =
-              subst (λ (f : ℕ). All (IsGoodLoad f (file_end hs)) (loads_in (table_of hs ts))) (sym first)
-              (subst (All (IsGoodLoad base (file_end hs))) (sym l) loads_good);
-          headers = subst (HoldsHeaders (64 + 56 * length (table_of hs ts))) (sym l) (subst (λ (m : ℕ). HoldsHeaders m hs) (sym n) holds_headers);
+              subst (λ (f : ℕ). All (IsGoodLoad f n) (loads_in (table_of hs ts))) (sym first)
+              (subst (All (IsGoodLoad base n)) (sym l) (loads_good n long));
+          headers = subst (HoldsHeaders (64 + 56 * length (table_of hs ts))) (sym l) (subst (λ (m : ℕ). HoldsHeaders m hs) (sym whole) holds_headers);
           thread_blocks =
               subst (λ (f : ℕ). All (λ (h : ProgramHeader). h.p_type ≡ 7 → IsGoodThreadBlock f h) (table_of hs ts)) (sym first)
               (in_table (λ (h : ProgramHeader). h.p_type ≡ 7 → IsGoodThreadBlock base h)
@@ -173,8 +172,14 @@ module _ (base size : ℕ) (hs : List ProgramHeader) (own : AreOwnSegments base 
       let p = (own.each j d high).page in
       omega (arith, a, b, r, p)
 
-  image_header : (entry count n : ℕ) → 64 + 56 * count ≤ n → IsImageHeader n (own_file_header entry count)
-  image_header entry count n inside = record {
+  sections_by :
+      (fields : HeaderFields) (count n : ℕ) → HasNoSections (own_file_header fields 0) ⊎ HasSections n (own_file_header fields 0) →
+      HasNoSections (own_file_header fields count) ⊎ HasSections n (own_file_header fields count)
+  sections_by fields count n (inl none) = inl (record { offset = none.offset; count = none.count; names = none.names })
+  sections_by fields count n (inr some) = inr (record { offset = some.offset; inside = some.inside; count = some.count; names = some.names })
+
+  image_header : (fields : HeaderFields) (count n : ℕ) → SuitsFile fields n → 64 + 56 * count ≤ n → IsImageHeader n (own_file_header fields count)
+  image_header fields count n suits inside = record {
     ident = refl;
     type_ = refl;
     machine = refl;
@@ -184,22 +189,17 @@ module _ (base size : ℕ) (hs : List ProgramHeader) (own : AreOwnSegments base 
     header_size = refl;
     program_header_size = refl;
     section_header_size = refl;
-    no_sections = refl;
-    no_section_count = refl;
-    no_section_names = refl;
+    sections = sections_by fields count n suits.sections;
     inside = inside;
   }
 
   -- what is read of the file
-  module _ (image : List ℕ) (entry count : ℕ) (byte : ℕ → ℕ) (file : IsOwnFile image entry count base size hs byte) where
+  module _ (image : List ℕ) (fields : HeaderFields) (count : ℕ) (byte : ℕ → ℕ) (file : IsOwnFile image fields count base size hs byte) where
     pub loads_are : loads image ≡ hs
     loads_are = ap loads_in file.table ∙ loads_in_table file.threads file.threads_are
 
     pub own_thread_blocks : thread_blocks image ≡ file.threads
     own_thread_blocks = ap (filter is_thread_block) file.table ∙ blocks_in_table file.threads file.threads_are
-
-    pub own_entry_is : (file_header image).e_entry ≡ entry
-    own_entry_is = ap (λ (h : FileHeader). h.e_entry) file.header
 
     pub own_headers_thing : headers_thing image ≡ record { at = base; size = size; align = 1; rights = 4; in_file = true }
     own_headers_thing =
@@ -216,11 +216,11 @@ module _ (base size : ℕ) (hs : List ProgramHeader) (own : AreOwnSegments base 
         record {
           header = record {
             long = omega (arith, l, s, g);
-            header = subst (IsImageHeader (length image)) (sym file.header) (image_header entry count (length image) (omega (arith, l, s, g)));
+            header = subst (IsImageHeader (length image)) (sym file.header) (image_header fields count (length image) file.suits (omega (arith, l, s, g)));
           };
           order = subst IsInOrder (sym file.table) (table_in_order file.threads file.threads_are);
           segments =
               subst (AreGoodSegments (length image)) (sym file.table)
-              (subst (λ (n : ℕ). AreGoodSegments n (table_of hs file.threads)) (sym l) (segments_good file.threads file.threads_are (omega (arith, s, c))));
+              (segments_good file.threads file.threads_are (length image) (omega (arith, l)) (omega (arith, s, c)));
           pages = subst (AllPairs ShareNoPage) (sym loads_are) no_page_shared;
         }

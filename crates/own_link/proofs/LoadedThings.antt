@@ -1,7 +1,7 @@
 -- The pieces that memory has a place for, among all things of the own layout: the others take up nothing, so what is asked
 -- of nonempty things, and of what things cover, is asked of these.
 use Rattle.std.proofs.Common.{◌≡◌, ◌⊎◌, inl, inr, ℕ, ◌+◌, ◌<◌, ◌≤◌, Bool, true, false, cond, List, ◌∷◌, ◌++◌, map, refl, sym, ◌∙◌, ap, subst, arith}
-use Rattle.std.specs.Prelude.{All, Any, Contains}
+use Rattle.std.specs.Prelude.{All, Any, Contains, Option}
 use Rattle.std.proofs.lemmas.Bool.{false≢true}
 use Rattle.std.proofs.lemmas.List.Elements.{All-contains, All-cons, All-head, All-tail, Contains-append_cases, Contains-append_left}
 use Rattle.elf_model.specs.Loading.{LoadedObject}
@@ -11,6 +11,7 @@ use Rattle.elf_model.specs.Pieces.{AreLawfulKinds, Piece, is_thread_zero, load_s
 use Rattle.elf_model.specs.Placement.{Covers, Placed, range_of, thing_of}
 use Rattle.elf_model.specs.RightLink.{EndsRight, HasNothingElse, IsOfSegment}
 use Rattle.elf_model.specs.Slots.{has_got}
+use Rattle.elf_model.specs.declared.link_map.SymtabLine.{SymtabLine}
 use Rattle.elf_model.specs.declared.records.ProgramHeader.{ProgramHeader}
 use Rattle.elf_model.specs.declared.thing.Thing.{Thing}
 use Rattle.elf_model.proofs.Finding.{Any-from_contains}
@@ -38,8 +39,8 @@ module _ (ts us : List Thing) (of : AreThingsOf ts us) where
     file_ends = λ some. any_of (λ t. IsOfSegment h t × (t.in_file ≡ true) × (t.at + t.size ≡ h.p_vaddr + h.p_filesz)) (e.file_ends some);
   }
 
-  nothing_else_of : (image : List ℕ) → HasNothingElse image us → HasNothingElse image ts
-  nothing_else_of image n = record {
+  nothing_else_of : (image : List ℕ) (symtab : Option SymtabLine) → HasNothingElse image symtab us → HasNothingElse image symtab ts
+  nothing_else_of image symtab n = record {
     fill = λ a c m out.
         n.fill a c m (All-from_contains (λ u. Covers u a → ⊥) us (λ u there. All-contains (λ t. Covers t a → ⊥) ts u out (of.all u there)));
     segments =
@@ -117,8 +118,9 @@ module _ (base : ℕ) (objects : List LoadedObject) (kinds : AreLawfulKinds obje
           Contains-there (own_headers_at base objects) (map thing_of (own_stood base objects)) u
           (subst (Contains (map thing_of (own_stood base objects))) same (Contains-map thing_of (own_stood base objects) i.of stood))
 
-  pub all_has_nothing_else : (image : List ℕ) → HasNothingElse image loaded_things → HasNothingElse image (own_things_of base objects)
-  all_has_nothing_else image n = nothing_else_of (own_things_of base objects) loaded_things are_things_of image n
+  pub all_has_nothing_else :
+      (image : List ℕ) (symtab : Option SymtabLine) → HasNothingElse image symtab loaded_things → HasNothingElse image symtab (own_things_of base objects)
+  all_has_nothing_else image symtab n = nothing_else_of (own_things_of base objects) loaded_things are_things_of image symtab n
 
   pub nonempty_of_all :
       (P : Thing → Type 0) → (0 < (own_headers_at base objects).size → P (own_headers_at base objects)) →

@@ -1,19 +1,19 @@
 -- The own image has nothing but its things: fill between them in memory, 0 between file parts, and each
 -- segment and the file end with the last of their things.
-use Rattle.std.proofs.Common.{◌≡◌, ℕ, ◌+◌, ◌-◌, ◌<◌, ◌≤◌, ◌⊎◌, inl, inr, Bool, true, false, List, length, refl, sym, ◌∙◌, subst, arith}
-use Rattle.std.specs.Prelude.{All, Any, Contains, map, ◌==◌}
+use Rattle.std.proofs.Common.{◌≡◌, ℕ, ◌+◌, ◌-◌, ◌<◌, ◌≤◌, ◌⊎◌, inl, inr, Bool, true, false, List, [], length, refl, sym, ◌∙◌, ap, subst, arith}
+use Rattle.std.specs.Prelude.{All, Contains, Option, None, map, ◌==◌}
 use Rattle.std.proofs.lemmas.Bool.{cases_Bool, cases_lt, eqb-true, false_from_ne_true}
 use Rattle.std.proofs.lemmas.List.Elements.{All-contains, All-head, All-tail}
-use Rattle.elf_model.specs.ImageFile.{covers_address}
-use Rattle.elf_model.specs.MemoryImage.{Cell, loads, maps, segment_byte}
-use Rattle.elf_model.specs.OwnLayout.{file_end, placed_end, placed_has_bytes}
+use Rattle.elf_model.specs.ImageFile.{HeaderFields, covers_address}
+use Rattle.elf_model.specs.MemoryImage.{Cell, file_end, loads, maps, segment_byte}
+use Rattle.elf_model.specs.OwnLayout.{placed_end, placed_has_bytes}
 use Rattle.elf_model.specs.Placement.{Covers, Placed, range_of}
 use Rattle.elf_model.specs.RightLink.{EndsRight, HasNothingElse, IsFilled, IsInFilePart, fill_of}
+use Rattle.elf_model.specs.declared.link_map.SymtabLine.{SymtabLine}
 use Rattle.elf_model.specs.declared.records.ProgramHeader.{ProgramHeader}
 use Rattle.elf_model.specs.declared.thing.Thing.{Thing}
 use Rattle.elf_model.proofs.Addresses.{mapped}
 use Rattle.own_link.proofs.Bytes.{bare_byte, byte_cases, byte_here, cell_cases, covered, file_byte, fill_in_segment, no_fill, zero_byte}
-use Rattle.own_link.proofs.Ends.{EndsFile, file_end-reached}
 use Rattle.own_link.proofs.ImageRead.{IsOwnFile, first_good, first_there}
 use Rattle.own_link.proofs.ImageRight.{loads_are}
 use Rattle.elf_model.proofs.Listed.{All-from_contains, Contains-map}
@@ -24,7 +24,7 @@ use Rattle.own_link.proofs.Segments.{AreGoodParts, Part, part_header, segments_o
 use Rattle.own_link.proofs.SegmentEnds.{all_end_right}
 
 -- what is read of the file
-module _ (base size : ℕ) (parts : List Part) (good : AreGoodParts base size parts) (placed order : List Placed) (stand : ArePlacedIn parts placed order) (some_headers : 0 < size) (want : Placed → ℕ → ℕ) (zero_filled : (q : Placed) (k : ℕ) → Contains placed q → placed_has_bytes q ≡ false → want q k ≡ 0) (image : List ℕ) (entry count : ℕ) (file : IsOwnFile image entry count base size (segments_of base parts) (byte_here want (segments_of base parts) placed)) where
+module _ (base size : ℕ) (parts : List Part) (good : AreGoodParts base size parts) (placed order : List Placed) (stand : ArePlacedIn parts placed order) (some_headers : 0 < size) (want : Placed → ℕ → ℕ) (zero_filled : (q : Placed) (k : ℕ) → Contains placed q → placed_has_bytes q ≡ false → want q k ≡ 0) (image : List ℕ) (fields : HeaderFields) (count : ℕ) (file : IsOwnFile image fields count base size (segments_of base parts) (byte_here want (segments_of base parts) placed)) where
   own : AreOwnSegments base size (segments_of base parts)
   own = own_segments_good base size parts good
 
@@ -63,18 +63,18 @@ module _ (base size : ℕ) (parts : List Part) (good : AreGoodParts base size pa
           let o = good_h.offset in
           let low : base ≤ a = omega (arith, bounds, o) in
           let behind = outside_headers a low (All-head (λ (t : Thing). Covers t a → ⊥) (headers_of base size) (map range_of order) out) in
-          file_byte base size (segments_of base parts) own image entry count (byte_here want (segments_of base parts) placed) file
+          file_byte base size (segments_of base parts) own image fields count (byte_here want (segments_of base parts) placed) file
           a h there bounds.0 inside behind
           ∙ (bare_byte want (segments_of base parts) placed a
           (outside_pieces a (All-tail (λ (t : Thing). Covers t a → ⊥) (headers_of base size) (map range_of order) out))
           ∙ fill_in_segment base size (segments_of base parts) own a h there bounds.0 inside)
       by (inr behind) =
-          zero_byte base size (segments_of base parts) own image entry count (byte_here want (segments_of base parts) placed) file a h behind
+          zero_byte base size (segments_of base parts) own image fields count (byte_here want (segments_of base parts) placed) file a h behind
           ∙ no_code (h.p_flags == 5) refl behind
 
   pub own_is_filled : IsFilled image (things_in base size order)
   own_is_filled a c m out =
-      cell_cases base size (segments_of base parts) own image entry count (byte_here want (segments_of base parts) placed) file
+      cell_cases base size (segments_of base parts) own image fields count (byte_here want (segments_of base parts) placed) file
       (λ (x : Cell). x.byte ≡ fill_of x.rights) a c m (λ h there e. filled_segment a h there e out)
 
   -- bytes in no file part are 0
@@ -122,28 +122,21 @@ module _ (base size : ℕ) (parts : List Part) (good : AreGoodParts base size pa
               absurd (All-contains (λ (x : ProgramHeader). IsInFilePart x i → ⊥) (segments_of base parts) (part_header base s.part) out s.segment
               (omega (arith, o, l, low), omega (arith, o, e, high)))
 
-  -- the file ends with a file part
-  file_ends : Any (λ h. (0 < h.p_filesz) × (h.p_offset + h.p_filesz ≡ file_end (segments_of base parts))) (segments_of base parts)
-  file_ends = by (file_end-reached (segments_of base parts))
-    where
-      by :
-          ((file_end (segments_of base parts) ≡ 0) ⊎ Any (EndsFile (file_end (segments_of base parts))) (segments_of base parts)) →
-          Any (EndsFile (file_end (segments_of base parts))) (segments_of base parts)
-      by (inl none) = absurd (let l = file.long in omega (arith, none, l, some_headers))
-      by (inr found) = found
-
-  pub own_has_nothing_else : HasNothingElse image (things_in base size order)
-  own_has_nothing_else =
+  -- whatever the map says of a table, where there is one only if it says so
+  pub own_has_nothing_else :
+      (symtab : Option SymtabLine) → (symtab ≡ None → file.tail ≡ []) → HasNothingElse image symtab (things_in base size order)
+  own_has_nothing_else symtab bare =
       let ls : loads image ≡ segments_of base parts =
-      loads_are base size (segments_of base parts) own image entry count (byte_here want (segments_of base parts) placed) file in
+      loads_are base size (segments_of base parts) own image fields count (byte_here want (segments_of base parts) placed) file in
+      let ends : file_end (loads image) ≡ file_end (segments_of base parts) = ap file_end ls in
       record {
         fill = own_is_filled;
         segments = subst (All (EndsRight (things_in base size order))) (sym ls) (all_end_right base size parts good placed order stand some_headers);
         gaps = λ i within out.
             let o = subst (All (λ (h : ProgramHeader). IsInFilePart h i → ⊥)) ls out in
+            file.bytes i (behind_headers i o) (omega (arith, ends, within)) ∙ gap_byte i o;
+        end = λ none.
             let l = file.len in
-            file.bytes i (behind_headers i o) (omega (arith, l, within)) ∙ gap_byte i o;
-        end =
-            subst (Any (λ (h : ProgramHeader). (0 < h.p_filesz) × (h.p_offset + h.p_filesz ≡ length image))) (sym ls)
-            (subst (λ (n : ℕ). Any (EndsFile n) (segments_of base parts)) (sym file.len) file_ends);
+            let t : length file.tail ≡ 0 = ap length (bare none) in
+            omega (arith, l, t, ends);
       }

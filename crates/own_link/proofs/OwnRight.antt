@@ -1,6 +1,6 @@
 -- The own link of linkable inputs is right: all clauses of a right link hold of it.
-use Rattle.std.proofs.Common.{◌≡◌, ℕ, ◌+◌, ◌<◌, ◌^◌, Bool, false, true, cond, List, [], ◌∷◌, ◌++◌, refl, sym, ◌∙◌, ap, subst}
-use Rattle.std.specs.Prelude.{All, Option, Some, None, IfSome, IsSomeAnd, count_by, find, is_some, map, option_map, unwrap_or}
+use Rattle.std.proofs.Common.{◌≡◌, ℕ, ◌+◌, ◌<◌, ◌^◌, Bool, false, true, not, cond, List, [], ◌∷◌, ◌++◌, length, refl, sym, ◌∙◌, ap, subst, arith}
+use Rattle.std.specs.Prelude.{All, Option, Some, None, IfSome, IsSomeAnd, count_by, drop, find, is_some, map, option_map, unwrap_or}
 use Rattle.std.specs.Option.{option_and_then}
 use Rattle.std.proofs.lemmas.Bool.{false≢true}
 use Rattle.std.proofs.lemmas.List.{map-append}
@@ -10,33 +10,37 @@ use Rattle.elf_model.specs.Causes.{HasObjects, IsLinkable, IsReferred, IsResolve
 use Rattle.elf_model.specs.Command.{IsBase, Plan}
 use Rattle.elf_model.specs.Files.{File}
 use Rattle.elf_model.specs.Commons.{Block, block_named, block_piece, block_pieces, blocks}
-use Rattle.elf_model.specs.ImageFile.{IsOwnMap, common_row_of, image_file, own_entry, place_row_of}
+use Rattle.elf_model.specs.ImageFile.{IsOwnMap, common_row_of, fields_with, fields_without, image_file, own_end, own_entry, own_fields, own_file_header, own_tabled, own_tables, place_row_of, symtab_line_of}
 use Rattle.elf_model.specs.Loading.{LoadedObject, loaded_objects}
 use Rattle.elf_model.specs.MapRecord.{CommonRow, MapRecord, PlaceRow}
 use Rattle.elf_model.specs.MapText.{IsMap, text}
 use Rattle.elf_model.specs.Meaning.{Meaning, meaning_value, meant, object_meaning}
-use Rattle.elf_model.specs.MemoryImage.{loads}
-use Rattle.elf_model.specs.OwnLayout.{got_line_of, got_piece, own_address, own_in_load_order, own_places, own_segments, own_where}
+use Rattle.elf_model.specs.MemoryImage.{HasNoSections, file_end, loads}
+use Rattle.elf_model.specs.OwnLayout.{got_line_of, got_piece, header_count, own_address, own_in_load_order, own_places, own_segments, own_where}
 use Rattle.elf_model.specs.Pieces.{Piece, kept_sections}
 use Rattle.elf_model.specs.Placement.{HasRights, IsPlaced, Placed, Where, got_things, common_address, headers_thing, is_common_row_of, placed_block, placed_blocks, placed_by, thing_of, thread_ranges, things}
 use Rattle.elf_model.specs.Records.{file_header}
 use Rattle.elf_model.specs.RelocationValues.{AllFit}
 use Rattle.elf_model.specs.Resolution.{SymbolOf, chosen, is_in_thread_section}
-use Rattle.elf_model.specs.RightLink.{AreRelocationsRight, AreSectionsListed, AreSymbolsListed, EntersRight, HasLine, HasNothingElse, HasSlot, Holds, HoldsGot, HoldsPiece, IsThreadBlockRight, IsGotRight, IsLoaded, IsRightLink, Subject, facts_of_block, facts_of_common, facts_of_piece, facts_of_row, placed_of, sections_of, where_of, things_of}
+use Rattle.elf_model.specs.RightLink.{AreRelocationsRight, AreSectionsListed, AreSymbolsListed, AreTablesRight, EntersRight, HasLine, HasNothingElse, HasSlot, Holds, HoldsGot, HoldsPiece, HoldsTables, IsThreadBlockRight, IsGotRight, IsLoaded, IsRightLink, Subject, facts_of_block, facts_of_common, facts_of_piece, facts_of_row, placed_of, sections_of, where_of, things_of}
+use Rattle.elf_model.specs.SymbolTable.{headers_at, name_section, shstrtab_end, symtab_at, tabled, tables}
 use Rattle.elf_model.specs.Slots.{Request, has_got, is_slot_of, requests, size_with, slots}
 use Rattle.elf_model.specs.declared.link_map.GotLine.{GotLine}
+use Rattle.elf_model.specs.declared.link_map.SymtabLine.{SymtabLine}
+use Rattle.elf_model.specs.declared.records.FileHeader.{FileHeader}
 use Rattle.elf_model.specs.declared.records.ProgramHeader.{ProgramHeader}
 use Rattle.elf_model.specs.declared.thing.Thing.{Thing}
 use Rattle.elf_model.specs.declared.verdict.Clause.{Clause}
-use Rattle.elf_model.specs.declared.verdict.Clause.TheVariants.{C1, C2, C3, C4, C5, C6, C7, C8, C9, C10, C11, C12, C13}
+use Rattle.elf_model.specs.declared.verdict.Clause.TheVariants.{C1, C2, C3, C4, C5, C6, C7, C8, C9, C10, C11, C12, C13, C14}
 use Rattle.own_link.proofs.ApartThings.{own_is_apart}
-use Rattle.own_link.proofs.ImageOwn.{IsOwnImage, image_is_own}
+use Rattle.own_link.proofs.ImageOwn.{IsOwnImage, IsRoomFor, image_is_own, own_suits}
 use Rattle.own_link.proofs.OwnThings.{own_stood, own_things_are, own_things_of}
 use Rattle.own_link.proofs.OwnGot.{got_size_is, slots_count, slots_stand}
 use Rattle.own_link.proofs.SlotLaws.{once_each, slots_count_by}
 use Rattle.elf_model.proofs.BlockNames.{blocks_named}
 use Rattle.elf_model.proofs.Listing.{chosen_means}
 use Rattle.elf_model.proofs.Places.{are_own_placed}
+use Rattle.elf_model.proofs.Running.{rounded_up}
 use Rattle.own_link.proofs.Rights.{own_has_rights}
 use Rattle.own_link.proofs.ThreadBlock.{own_thread_block}
 
@@ -72,12 +76,15 @@ facts_of_lines :
 facts_of_lines base objects None = refl
 facts_of_lines base objects (Some b) = refl
 
-module _ (files : List File) (words : List (List ℕ)) (p : Plan) (m : MapRecord) (link : IsLinkable files words p) (based : IsBase p.base) (small : own_entry p.base (loaded_objects files p) p.entry < 2 ^ 64) (own_map : IsOwnMap p.base (loaded_objects files p) m) (is_map : IsMap m) where
+module _ (files : List File) (words : List (List ℕ)) (p : Plan) (m : MapRecord) (link : IsLinkable files words p) (based : IsBase p.base) (small : own_entry p.base (loaded_objects files p) p.entry < 2 ^ 64) (own_map : IsOwnMap p.base (loaded_objects files p) p.strip m) (is_map : IsMap m) where
   abbrev objects : List LoadedObject
   objects = loaded_objects files p
 
+  abbrev table : Option (List Meaning)
+  table = own_tabled p.strip objects m.symbols
+
   abbrev image : List ℕ
-  image = image_file p.base objects (own_entry p.base objects p.entry)
+  image = image_file p.base objects (own_entry p.base objects p.entry) table
 
   abbrev placed : List Placed
   placed = own_in_load_order p.base objects
@@ -94,10 +101,18 @@ module _ (files : List File) (words : List (List ℕ)) (p : Plan) (m : MapRecord
   loading : HasObjects files words p
   loading = resolved.before
 
-  own_image : IsOwnImage p.base objects (own_entry p.base objects p.entry) image
+  room : IsRoomFor p.base objects table
+  room = by p.strip refl
+    where
+      by : (b : Bool) → p.strip ≡ b → IsRoomFor p.base objects (own_tabled b objects m.symbols)
+      by true stripped = tt
+      by false kept = link.before.room.table kept m (subst (λ (b : Bool). IsOwnMap p.base objects b m) kept own_map)
+
+  own_image : IsOwnImage p.base objects (own_entry p.base objects p.entry) table image
   own_image =
-      image_is_own p.base objects resolved.kinds based link.before.not_too_large (are_own_placed p.base objects resolved.kinds)
-      loading.objects (own_entry p.base objects p.entry) small
+      image_is_own p.base objects resolved.kinds based link.before.room.layout (are_own_placed p.base objects resolved.kinds)
+      loading.objects (own_entry p.base objects p.entry) table
+      (own_suits p.base objects (own_entry p.base objects p.entry) table small room)
 
   -- the pieces stand where the map says, and so do all things
   abbrev own_stand : Piece → Placed
@@ -165,7 +180,7 @@ module _ (files : List File) (words : List (List ℕ)) (p : Plan) (m : MapRecord
       subst (λ (ts : List Thing). IsPlaced p.base ts (thread_ranges (placed_of subject)) (placed_in_array_order (sections_of subject))) (sym things_are)
       (subst (λ (qs : List Placed). IsPlaced p.base (own_things_of p.base objects) (thread_ranges qs) (placed_in_array_order (sections_of subject))) (sym placed_is)
       (subst (λ (qs : List Placed). IsPlaced p.base (own_things_of p.base objects) (thread_ranges placed) (placed_in_array_order qs)) (sym sections_are)
-      (own_is_apart p.base objects resolved.kinds link.before.not_too_large)))
+      (own_is_apart p.base objects resolved.kinds link.before.room.layout)))
 
   rights_right : HasRights p.base (loads image) (things_of subject) (got_things m.got)
   rights_right =
@@ -209,7 +224,7 @@ module _ (files : List File) (words : List (List ℕ)) (p : Plan) (m : MapRecord
   -- the thread block stands where the thread-local pieces do
   thread_block_right : IsThreadBlockRight subject
   thread_block_right =
-      own_thread_block p.base objects resolved.kinds loading.objects link.before.not_too_large subject placed_is own_image.loads_are
+      own_thread_block p.base objects resolved.kinds loading.objects link.before.room.layout subject placed_is own_image.loads_are
       own_image.thread_blocks_are refl own_map.got
 
   relocations_right : AreRelocationsRight subject
@@ -224,19 +239,33 @@ module _ (files : List File) (words : List (List ℕ)) (p : Plan) (m : MapRecord
       subst (λ (w : Where). All (HoldsPiece objects w image) w.placed) (sym where_is)
       own_image.pieces_held
 
-  nothing_else : HasNothingElse image (things_of subject)
+  no_tables : m.symtab ≡ None → own_tables p.base objects table ≡ []
+  no_tables none = by table (sym own_map.symtab ∙ none)
+    where
+      by : (t : Option (List Meaning)) → option_map (symtab_line_of p.base objects) t ≡ None → own_tables p.base objects t ≡ []
+      by None e = refl
+      by (Some ms) e = absurd (let clash : Some (symtab_line_of p.base objects ms) ≡ None = e in cc)
+
+  nothing_else : HasNothingElse image m.symtab (things_of subject)
   nothing_else =
-      subst (HasNothingElse image) (sym things_are)
-      own_image.nothing_else
+      subst (HasNothingElse image m.symtab) (sym things_are)
+      (own_image.nothing_else m.symtab no_tables)
 
   -- those that speak of symbols
+  entry_is : (file_header image).e_entry ≡ own_entry p.base objects p.entry
+  entry_is = ap (λ (h : FileHeader). h.e_entry) own_image.header_is ∙ by table
+    where
+      by : (t : Option (List Meaning)) → (own_fields p.base objects (own_entry p.base objects p.entry) t).e_entry ≡ own_entry p.base objects p.entry
+      by None = refl
+      by (Some ms) = refl
+
   enters : EntersRight subject
   enters =
       let value : own_entry p.base objects p.entry ≡ unwrap_or (option_map (meaning_value (where_of subject)) (object_meaning objects p.entry)) 0 =
       ap (λ (w : Where). unwrap_or (option_map (meaning_value w) (object_meaning objects p.entry)) 0) (sym where_is) in (
         referred.entry,
         entered objects p.entry (chosen objects p.entry) (meaning_value (where_of subject)) ((file_header image).e_entry)
-            (λ d. is_in_thread_section objects d ≡ false) refl (own_image.entry_is ∙ value) referred.entry,
+            (λ d. is_in_thread_section objects d ≡ false) refl (entry_is ∙ value) referred.entry,
       )
 
   symbols_listed : AreSymbolsListed subject
@@ -245,6 +274,56 @@ module _ (files : List File) (words : List (List ℕ)) (p : Plan) (m : MapRecord
     unique = resolved.unique;
     lines = subst (λ (w : Where). (name : List ℕ) → HasLine m.symbols objects w name) (sym where_is) own_map.symbols;
   }
+
+  -- the symbol table stands where the words ask for one
+  ends_are : file_end (loads image) ≡ own_end p.base objects
+  ends_are = ap file_end own_image.loads_are
+
+  -- the names stand in front of the end of the tables
+  names_fit : p.strip ≡ false → length (name_section (tabled objects m.symbols)) < 2 ^ 32
+  names_fit kept =
+      let ms : List Meaning = tabled objects m.symbols in
+      let small = link.before.room.table kept m (subst (λ (b : Bool). IsOwnMap p.base objects b m) kept own_map) in
+      let up = (rounded_up 8 (shstrtab_end (own_end p.base objects) ms) (omega arith)).0 in
+      omega (arith, small, up)
+
+  tables_by : (b : Bool) → p.strip ≡ b → AreTablesRight subject
+  tables_by true stripped =
+      let bare : table ≡ None = ap (λ (b : Bool). own_tabled b objects m.symbols) stripped in
+      let no_line : m.symtab ≡ None = own_map.symtab ∙ ap (option_map (symtab_line_of p.base objects)) bare in
+      let header : file_header image ≡ own_file_header (fields_without (own_entry p.base objects p.entry)) (header_count objects) =
+      own_image.header_is
+      ∙ ap (λ (t : Option (List Meaning)). own_file_header (own_fields p.base objects (own_entry p.base objects p.entry) t) (header_count objects)) bare in
+      record {
+        asked = λ v. ap is_some no_line ∙ sym (ap not stripped);
+        held = subst (λ (o : Option SymtabLine). IfSome o (HoldsTables subject)) (sym no_line) tt;
+        none = λ n. subst HasNoSections (sym header) (record { offset = refl; count = refl; names = refl });
+      }
+  tables_by false kept =
+      let ms : List Meaning = tabled objects m.symbols in
+      let there : table ≡ Some ms = ap (λ (b : Bool). own_tabled b objects m.symbols) kept in
+      let line : m.symtab ≡ Some (symtab_line_of p.base objects ms) = own_map.symtab ∙ ap (option_map (symtab_line_of p.base objects)) there in
+      let header : file_header image ≡ own_file_header (fields_with (own_entry p.base objects p.entry) (headers_at (own_end p.base objects) ms)) (header_count objects) =
+      own_image.header_is
+      ∙ ap (λ (t : Option (List Meaning)). own_file_header (own_fields p.base objects (own_entry p.base objects p.entry) t) (header_count objects)) there in
+      record {
+        asked = λ v. ap is_some line ∙ sym (ap not kept);
+        held =
+            subst (λ (o : Option SymtabLine). IfSome o (HoldsTables subject)) (sym line) (record {
+              offset = ap symtab_at (sym ends_are);
+              count = refl;
+              names_fit = names_fit kept;
+              bytes =
+                  ap (λ (n : ℕ). drop n image) ends_are
+                  ∙ (own_image.tables_are
+                  ∙ (ap (own_tables p.base objects) there
+                  ∙ (λ i. tables (sym where_is i) (sym ends_are i) ms)));
+              headers_offset = ap (λ (h : FileHeader). h.e_shoff) header ∙ ap (λ (n : ℕ). headers_at n ms) (sym ends_are);
+              headers_count = ap (λ (h : FileHeader). h.e_shnum) header;
+              names_section = ap (λ (h : FileHeader). h.e_shstrndx) header;
+            });
+        none = λ n. absurd (let clash : Some (symtab_line_of p.base objects ms) ≡ None = sym line ∙ n in cc);
+      }
 
   right : (c : Clause) → Holds c subject
   right C1 = tt
@@ -260,8 +339,12 @@ module _ (files : List File) (words : List (List ℕ)) (p : Plan) (m : MapRecord
   right C11 = nothing_else
   right C12 = enters
   right C13 = symbols_listed
+  right C14 = tables_by p.strip refl
 
-  pub own_is_right : IsRightLink files words (image_file p.base (loaded_objects files p) (own_entry p.base (loaded_objects files p) p.entry)) (text m)
+  pub own_is_right :
+      IsRightLink files words
+      (image_file p.base (loaded_objects files p) (own_entry p.base (loaded_objects files p) p.entry) (own_tabled p.strip (loaded_objects files p) m.symbols))
+      (text m)
   own_is_right = record {
     plan = p;
     map = m;

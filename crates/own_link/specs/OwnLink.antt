@@ -3,7 +3,7 @@ use Rattle.std.specs.Prelude.{ℕ, ◌^◌, ◌<◌, List}
 use Rattle.elf_model.specs.Causes.{IsLinkable}
 use Rattle.elf_model.specs.Command.{IsBase, Plan}
 use Rattle.elf_model.specs.Files.{File}
-use Rattle.elf_model.specs.ImageFile.{image_file, own_entry, IsOwnMap}
+use Rattle.elf_model.specs.ImageFile.{image_file, own_entry, own_tabled, IsOwnMap}
 use Rattle.elf_model.specs.Loading.{loaded_objects}
 use Rattle.elf_model.specs.MapRecord.{MapRecord}
 use Rattle.elf_model.specs.MapText.{IsMap, text}
@@ -11,13 +11,16 @@ use Rattle.elf_model.specs.RightLink.{IsRightLink}
 
 -- where no cause of a refusal stands, the image file of the own layout and the text of its map are a right
 -- link of these files and words. Beside that it asks for what every plan that is read has, a base address;
--- that the entry's value is an address of 64 bits; and that the own map is one that has a text.
+-- that the entry's value is an address of 64 bits; and that the own map is one that has a text. The image's symbol table,
+-- where the words ask for one, is that of the map's lines.
 abbrev pub OwnLinkIsRight : Type 0
 OwnLinkIsRight =
     (files : List File) (words : List (List ℕ)) (p : Plan) (m : MapRecord)
     → IsLinkable files words p
     → IsBase p.base
     → own_entry p.base (loaded_objects files p) p.entry < 2 ^ 64
-    → IsOwnMap p.base (loaded_objects files p) m
+    → IsOwnMap p.base (loaded_objects files p) p.strip m
     → IsMap m
-    → IsRightLink files words (image_file p.base (loaded_objects files p) (own_entry p.base (loaded_objects files p) p.entry)) (text m)
+    → IsRightLink files words
+    (image_file p.base (loaded_objects files p) (own_entry p.base (loaded_objects files p) p.entry) (own_tabled p.strip (loaded_objects files p) m.symbols))
+    (text m)

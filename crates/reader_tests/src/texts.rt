@@ -1,6 +1,6 @@
 //! Texts of link maps.
 use byteview::View;
-use elf_model::{Definition, DropLine, GotLine, ObjectLine, PlaceLine, SymbolLine};
+use elf_model::{Definition, DropLine, GotLine, ObjectLine, PlaceLine, SymbolLine, SymtabLine};
 use linkmap::{LinkMap, MapFault, escape, ordered, print, read};
 use std::alloc::{AllocError, Global};
 use std::process::Abort;
@@ -12,7 +12,23 @@ const ONE_OBJECT: &[u8] = b"ldmap 1\n\
     symbol 0000000000401000 strong 0 1 _start\n\
     end\n";
 
-/// One line of each kind, every form of a slot and of a symbol, escapes and an empty name.
+/// The same map in version 2, of an image with a symbol table.
+const WITH_TABLE: &[u8] = b"ldmap 2\n\
+    object 0 0 0 a.o\n\
+    place 0000000000401000 9 0 1 .text\n\
+    symbol 0000000000401000 strong 0 1 _start\n\
+    symtab 4112 2\n\
+    end\n";
+
+/// Version 1 has no line of a symbol table.
+const TABLE_IN_VERSION_1: &[u8] = b"ldmap 1\n\
+    object 0 0 0 a.o\n\
+    place 0000000000401000 9 0 1 .text\n\
+    symbol 0000000000401000 strong 0 1 _start\n\
+    symtab 4112 2\n\
+    end\n";
+
+/// One line of each kind of version 1, every form of a slot and of a symbol, escapes and an empty name.
 const EACH_KIND: &[u8] = b"ldmap 1\n\
     object 0 0 0 a.o\n\
     object 1 2 78 lib\\x20dir/b.a\n\
@@ -64,6 +80,9 @@ fn reads_what_it_prints(rt: HostRuntime) -> Result<(), Fail> {
     assert_eq!(rt; ONE_OBJECT.len(), 106);
     reads_back(&rt, rt.alloc(), ONE_OBJECT)?;
     reads_back(&rt, rt.alloc(), EACH_KIND)?;
+    assert_eq!(rt; WITH_TABLE.len(), 120);
+    reads_back(&rt, rt.alloc(), WITH_TABLE)?;
+    reads_back(&rt, rt.alloc(), b"ldmap 2\nend\n")?;
     Ok(())
 }
 
@@ -117,12 +136,28 @@ fn wrong_lines_are_found(rt: HostRuntime) -> Result<(), Fail> {
 
 /// Texts, how many of their bytes are there, and the line at which these are no beginning of a map: of the last two, the
 /// one lacks its last newline, the other its last line.
-static WRONG_TEXTS: [(&[u8], usize, u64); 7] = [
+static WRONG_TEXTS: [(&[u8], usize, u64); 15] = [
     (SAME_PLACE_TWICE, usize::MAX, 4),
     (ZERO_IN_FRONT, usize::MAX, 3),
     (b"", 0, 1),
     (b"ldmap 1\n", usize::MAX, 2),
     (b"ldmap 1\nend\n\n", usize::MAX, 3),
+    (b"ldmap 3\nend\n", usize::MAX, 1),
+    (b"ldmap 02\nend\n", usize::MAX, 1),
+    (TABLE_IN_VERSION_1, usize::MAX, 5),
+    (b"ldmap 2\nsymtab x 2\nend\n", usize::MAX, 2),
+    (b"ldmap 2\nsymtab 4112 x\nend\n", usize::MAX, 2),
+    (
+        b"ldmap 2\nsymtab 4112 2\nsymtab 4112 2\nend\n",
+        usize::MAX,
+        3,
+    ),
+    (
+        b"ldmap 2\nsymtab 4112 2\nsymbol 0000000000401000 linker _end\nend\n",
+        usize::MAX,
+        3,
+    ),
+    (WITH_TABLE, 116, 6),
     (ONE_OBJECT, 105, 5),
     (ONE_OBJECT, 102, 5),
 ];
@@ -178,6 +213,7 @@ fn map_of(alloc: Global, number: u64) -> Result<LinkMap, AllocError> {
         name: Vec::from_slice(alloc, b"_start")?,
     })?;
     Ok(LinkMap {
+        version: 1,
         objects,
         drops: Vec::new(alloc),
         places,
@@ -185,6 +221,7 @@ fn map_of(alloc: Global, number: u64) -> Result<LinkMap, AllocError> {
         got: None,
         slots: Vec::new(alloc),
         symbols,
+        symtab: None,
     })
 }
 
@@ -203,6 +240,37 @@ fn keys_ascend(rt: HostRuntime) -> Result<(), Fail> {
         section: 2,
     })?;
     assert!(rt; !ordered(&map));
+    Ok(())
+}
+
+#[test]
+fn versions_are_two(rt: HostRuntime) -> Result<(), Fail> {
+    let alloc = rt.alloc();
+    let mut map = map_of(alloc, 0)?;
+    map.symtab = Some(SymtabLine {
+        offset: 4112,
+        count: 2,
+    });
+    for version in [0, 1, 3] {
+        map.version = version;
+        assert!(rt; !ordered(&map), "{version}");
+    }
+    map.version = 2;
+    assert!(rt; ordered(&map) && print(alloc, &map)?.as_slice() == WITH_TABLE);
+    Ok(())
+}
+
+/// The version of a text's map, and the offset and the count of its symbol table, if there is one.
+fn table_of(alloc: Global, text: &[u8]) -> Result<(u64, Option<(u64, u64)>), Fail> {
+    let map = read(alloc, text)?;
+    Ok((map.version, map.symtab.map(|t| (t.offset, t.count))))
+}
+
+#[test]
+fn reads_the_table(rt: HostRuntime) -> Result<(), Fail> {
+    assert_eq!(rt; table_of(rt.alloc(), ONE_OBJECT)?, (1, None));
+    assert_eq!(rt; table_of(rt.alloc(), WITH_TABLE)?, (2, Some((4112, 2))));
+    assert_eq!(rt; table_of(rt.alloc(), b"ldmap 2\nend\n")?, (2, None));
     Ok(())
 }
 

@@ -35,6 +35,9 @@ fn told(alloc: Global, line: &str) -> Result<String, Fail> {
             let map = plan.map.unwrap_or("no map");
             let (entry, output, base, check) = (plan.entry, plan.output, plan.base, plan.check);
             text.push_str(&format!(in alloc; "{entry} {output} {base} {map} {check};")?)?;
+            if plan.strip {
+                text.push_str("stripped;")?;
+            }
             for name in &plan.undefined {
                 text.push_str(&format!(in alloc; "{name};")?)?;
             }
@@ -48,7 +51,7 @@ fn told(alloc: Global, line: &str) -> Result<String, Fail> {
 }
 
 /// Lines, and what is told of their plans.
-static LINES: [(&str, &str); 15] = [
+static LINES: [(&str, &str); 19] = [
     ("", "NoInput (6)"),
     ("a.o -o", "MissingValue (3)"),
     ("-( a.o -)", "NotArchiveInGroup (7)"),
@@ -60,6 +63,7 @@ static LINES: [(&str, &str); 15] = [
     ("-m elf_i386 a.o", "UnknownOption (2)"),
     ("a.o --check", "MissingValue (3)"),
     ("a.o -z now", "UnknownOption (2)"),
+    ("a.o -s0", "UnknownOption (2)"),
     // Defaults; words that say what is so anyway; a check.
     (
         "a.o",
@@ -72,6 +76,19 @@ static LINES: [(&str, &str); 15] = [
     (
         "a.o --check -Map=m",
         "_start a.out 4194304 m true;a.o false false None;",
+    ),
+    // No symbol table, said once or more; a value spelled so.
+    (
+        "a.o -s",
+        "_start a.out 4194304 no map false;stripped;a.o false false None;",
+    ),
+    (
+        "-s -u f a.o -s",
+        "_start a.out 4194304 no map false;stripped;f;a.o false false None;",
+    ),
+    (
+        "-o -s a.o",
+        "_start -s 4194304 no map false;a.o false false None;",
     ),
     // Each setting, some twice; an object, a library in a group and an archive in another, all of them whole.
     (

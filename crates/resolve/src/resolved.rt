@@ -340,11 +340,7 @@ impl<'a> Resolved<'a> {
     pub fn is_in_thread_storage(&self, meaning: &Definition<'a>) -> bool
         ensures { result ≡ is_in_thread_storage self.now (meaning_view meaning.now) }
     {
-        match meaning {
-            Definition::Symbol(symbol) => is_in_thread_section(self.loaded.objects(), symbol),
-            Definition::Common(_) => false,
-            Definition::Linker(_, _) => false,
-        }
+        meaning.is_in_thread_storage(self.loaded.objects())
     }
 
     /// Whether what a reference to a symbol uses stands in a section with SHF_TLS; one that has no definition doesn't.

@@ -80,6 +80,7 @@ fn plan_again<'a>(alloc: Global, plan: &Plan<'a>) -> Result<Plan<'a>, AllocError
         output: plan.output,
         map: plan.map,
         check: plan.check,
+        strip: plan.strip,
     })
 }
 

@@ -1,10 +1,10 @@
 //! Where segments and the image end.
-ghost use Rattle.std.specs.Prelude.{◌≡◌, ◌+◌, ◌≤◌, ◌<◌, ◌^◌, ◌↔◌, true, All, Any, IsTrue};
+ghost use Rattle.std.specs.Prelude.{◌≡◌, ◌+◌, ◌≤◌, ◌<◌, ◌^◌, ◌↔◌, true, All, Any, IsTrue, None};
 ghost use Rattle.std.specs.List.Sorted.{IsNonDecreasingBy};
 ghost use Rattle.elf_model.specs.RightLink.{EndsRight, IsOfSegment};
 
 use crate::c11_fill::stretches::begun_between;
-use elf_model::{ProgramHeader, Thing};
+use elf_model::{ProgramHeader, SymtabLine, Thing};
 
 fn is_of_segment(segment: &ProgramHeader, thing: &Thing) -> bool
     ensures { IsTrue result ↔ IsOfSegment segment.now thing.now }
@@ -82,18 +82,10 @@ pub fn all_end_right(sorted: &[Thing], segments: &[ProgramHeader]) -> bool
     true
 }
 
-fn ends_at(segment: &ProgramHeader, len: u64) -> bool
-    ensures { IsTrue result ↔ ((0 < segment.now.p_filesz) × (segment.now.p_offset + segment.now.p_filesz ≡ len)) }
+/// Whether a file of `len` bytes ends with its last file part, which a map without the line of a symbol table
+/// tells.
+pub fn ends_as_told(symtab: Option<SymtabLine>, len: u64, end: u64) -> bool
+    ensures { IsTrue result ↔ (symtab ≡ None → len ≡ end) }
 {
-    if segment.p_filesz == 0 || segment.p_offset > len {
-        return false;
-    }
-    segment.p_filesz == len - segment.p_offset
-}
-
-/// Whether a file of `len` bytes ends with the file part of a segment.
-pub fn ends_with_a_part(segments: &[ProgramHeader], len: u64) -> bool
-    ensures { IsTrue result ↔ Any (λ h. (0 < h.p_filesz) × (h.p_offset + h.p_filesz ≡ len)) segments.now }
-{
-    segments.iter().any(|h| ends_at(h, len))
+    symtab.is_some() || len == end
 }

@@ -1,4 +1,4 @@
-use Rattle.std.proofs.Common.{ℕ, List, ◌∙◌, ap, length, subst, sym}
+use Rattle.std.proofs.Common.{ℕ, List, ◌∙◌, ap, subst, sym}
 use Rattle.std.specs.Prelude.{All, IsTrue, map}
 use Rattle.std.specs.List.Sorted.{IsNonDecreasingBy}
 use Rattle.elf_model.specs.MemoryImage.{loads}
@@ -23,6 +23,7 @@ pub returns : goal.returns
 returns c =
     let e = c.deref.ensures.value ∙ (c.in_ok-parts.ensures ∙ ap (map part_of) c.segments.ensures) in
     gaps_iff c.args.memory.now c.are_gaps_zero-zero.result
-    (subst (λ (image : List ℕ). Left (IsTrue c.are_gaps_zero-zero.result) (RegionFilled image 0 (length image) 0 (map part_of (loads c.args.memory.now)))) c.image-image.ensures.bytes
-    (subst (λ (parts : List Thing). Left (IsTrue c.are_gaps_zero-zero.result) (RegionFilled c.image-image.result.now 0 (length c.image-image.result.now) 0 parts)) e
-    c.are_gaps_zero-zero.ensures))
+    (subst (λ (end : ℕ). Left (IsTrue c.are_gaps_zero-zero.result) (RegionFilled c.args.memory.now 0 end 0 (map part_of (loads c.args.memory.now)))) c.requires
+    (subst (λ (image : List ℕ). Left (IsTrue c.are_gaps_zero-zero.result) (RegionFilled image 0 c.args.end 0 (map part_of (loads c.args.memory.now)))) c.image-image.ensures.bytes
+    (subst (λ (parts : List Thing). Left (IsTrue c.are_gaps_zero-zero.result) (RegionFilled c.image-image.result.now 0 c.args.end 0 parts)) e
+    c.are_gaps_zero-zero.ensures)))

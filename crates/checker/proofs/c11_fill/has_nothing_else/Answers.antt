@@ -14,9 +14,9 @@ pub returns : goal.returns
 returns c =
     let image = c.args.memory.now in
     let sorted = c.in_ok-sorted.sorted.items in (
-      λ e. nothing_else_moved image sorted c.args.things.now (IsPermutation-sym _ _ c.in_ok-sorted.ensures.same)
-          (subst (HasNothingElse image) c.deref.ensures.value (c.in_ok-nothing.ensures.0 e)),
+      λ e. nothing_else_moved image c.args.symtab sorted c.args.things.now (IsPermutation-sym _ _ c.in_ok-sorted.ensures.same)
+          (subst (HasNothingElse image c.args.symtab) c.deref.ensures.value (c.in_ok-nothing.ensures.0 e)),
       λ h. c.in_ok-nothing.ensures.1
-          (subst (HasNothingElse image) (sym c.deref.ensures.value)
-          (nothing_else_moved image c.args.things.now sorted c.in_ok-sorted.ensures.same h)),
+          (subst (HasNothingElse image c.args.symtab) (sym c.deref.ensures.value)
+          (nothing_else_moved image c.args.symtab c.args.things.now sorted c.in_ok-sorted.ensures.same h)),
     )

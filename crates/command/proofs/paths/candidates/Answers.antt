@@ -19,4 +19,4 @@ returns-clause-paths c =
     ∙ ap (λ s. paths s c.deref.result.now c.deref-2.result.now) c.new-found.ensures
     ∙ ap (λ ds. paths [] ds c.deref-2.result.now) c.deref.ensures.value
     ∙ ap (λ is. paths [] p.directories.items is) c.deref-2.ensures.value
-    ∙ candidates_is c.args.plan.now p.items.items p.directories.items p.undefined.items p.entry p.base p.output p.map p.check c.plan.view_is
+    ∙ candidates_is c.args.plan.now p.items.items p.directories.items p.undefined.items p.entry p.base p.output p.map p.check p.strip c.plan.view_is

@@ -1,10 +1,10 @@
 use Rattle.std.proofs.Common.{◌≡◌, ◌+◌, ◌*◌, ◌++◌, List, ℕ, [], arith, refl, subst, sym}
 use Rattle.std.specs.Prelude.{All}
-use Rattle.std.proofs.lemmas.List.{append-nil}
 use Rattle.elf_model.specs.Command.{IsBase}
-use Rattle.elf_model.specs.ImageFile.{image_file}
+use Rattle.elf_model.specs.ImageFile.{HeaderFields}
+use Rattle.elf_model.specs.MemoryImage.{file_end}
 use Rattle.elf_model.specs.Loading.{AreObjects}
-use Rattle.elf_model.specs.OwnLayout.{IsNotTooLarge, file_end, own_loaded, own_segments, own_where}
+use Rattle.elf_model.specs.OwnLayout.{IsNotTooLarge, own_loaded, own_segments, own_where}
 use Rattle.elf_model.specs.Pieces.{AreLawfulKinds}
 use Rattle.elf_model.specs.Placement.{Placed}
 use Rattle.elf_model.specs.declared.records.ProgramHeader.{ProgramHeader}
@@ -12,7 +12,8 @@ use Rattle.own_link.proofs.ImageOwn.{own_thread_headers_of}
 use Rattle.elf_model.proofs.Places.{are_own_placed}
 use Rattle.layout.specs.PlaceViews.{place_views}
 use Rattle.layout.specs.Placements.{Basis}
-use Rattle.image_write.specs.Parts.{AreFull, EndsLow, as_list, body_from, code_part, count_of, headers_of}
+use Rattle.image_write.specs.Parts.{AreFull, EndsLow, as_list, body_from, code_part, count_of, file_parts, headers_of}
+use Rattle.image_write.specs.Tables.{fields_of}
 use Rattle.image_write.specs.declared.fill_bytes.Code.{Code}
 use Rattle.image_write.proofs.Files.{end_low, file_is, rise_is, threads_is}
 use Rattle.image_write.proofs.OwnBody.{ends_low}
@@ -21,14 +22,14 @@ use Rattle.image_write.proofs.Wholes.{own_full}
 use Rattle.image_write.proofs.image_file.write_file.Goals as goal
 
 -- the image file as its headers and what follows them
-file_parts :
+parts_are :
     (r : Basis) → IsBase r.base → AreObjects r.objects → AreLawfulKinds r.objects → IsNotTooLarge r.base r.objects →
-    (hs ts : List ProgramHeader) (qs : List Placed) (code : Code) (entry from to : ℕ) →
+    (hs ts : List ProgramHeader) (qs : List Placed) (code : Code) (fields : HeaderFields) (from to : ℕ) →
     hs ≡ own_segments r.base r.objects → ts ≡ own_thread_headers_of r.base r.objects → qs ≡ own_loaded r.base r.objects → code ≡ code_part hs →
     from ≡ r.base + (64 + 56 * count_of hs ts) → to ≡ r.base + file_end hs →
-    image_file r.base r.objects entry ≡ headers_of entry hs ts ++ body_from r.objects (own_where r.base r.objects) code to from qs
-file_parts r based good kinds fits hs ts qs code entry from to is_hs is_ts is_qs is_code is_from is_to =
-    sym (file_is r based good kinds fits hs ts qs code entry from to [] (headers_of entry hs ts) _ is_hs is_ts is_qs is_code is_from is_to refl refl refl)
+    file_parts r.base r.objects fields ≡ headers_of fields hs ts ++ body_from r.objects (own_where r.base r.objects) code to from qs
+parts_are r based good kinds fits hs ts qs code fields from to is_hs is_ts is_qs is_code is_from is_to =
+    sym (file_is r based good kinds fits hs ts qs code fields from to [] (headers_of fields hs ts) _ is_hs is_ts is_qs is_code is_from is_to refl refl refl)
 
 pub file_end-requires : goal.file_end-requires
 file_end-requires g c =
@@ -65,50 +66,32 @@ put_places-requires-clause-full g c =
     subst (λ (qs : List Placed). AreFull basis.objects (own_where basis.base basis.objects) qs) (sym c.loaded_places.ensures)
     (own_full basis.base basis.objects c.requires.objects c.requires.kinds (are_own_placed basis.base basis.objects c.requires.kinds))
 
-pub returns-in_err-put_headers-clause-puts : goal.returns-in_err-put_headers-clause-puts
-returns-in_err-put_headers-clause-puts g c =
+pub returns-in_err-put_headers : goal.returns-in_err-put_headers
+returns-in_err-put_headers g c =
     let basis = c.args.contents.now.placement.now in
     let t = threads_is basis c.thread_header-threads.result c.thread_header-threads.ensures in
     let b = c.base-base.ensures in
     let h = c.headers_size.ensures in
     let e = c.file_end.ensures in
     towards_fault _ _ _ _ _ _ _ _ (towards_nothing _ _)
-    (file_parts basis c.requires.base c.requires.objects c.requires.kinds c.requires.fits
+    (parts_are basis c.requires.base c.requires.objects c.requires.kinds c.requires.fits
     c.segments-segments.result.now (as_list c.thread_header-threads.result) (own_loaded basis.base basis.objects) (code_part c.segments-segments.result.now)
-    c.args.entry (c.base-base.result + c.headers_size.result) (c.base-base.result + c.file_end.result)
+    (fields_of c.args.entry c.args.table) (c.base-base.result + c.headers_size.result) (c.base-base.result + c.file_end.result)
     c.segments-segments.ensures t refl refl (omega (arith, b, h)) (omega (arith, b, e)))
     c.from_residual.ensures.0 c.in_err-put_headers.ensures.breaks
 
-pub returns-in_err-put_places-clause-puts : goal.returns-in_err-put_places-clause-puts
-returns-in_err-put_places-clause-puts g c =
-    let basis = c.args.contents.now.placement.now in
-    let t = threads_is basis c.thread_header-threads.result c.thread_header-threads.ensures in
-    let b = c.base-base.ensures in
-    let h = c.headers_size.ensures in
-    let e = c.file_end.ensures in
-    towards_fault _ _ _ _ _ _ [] _
-    (towards_more _ _ _ _ _ _ _ (towards_nothing _ _)
-    (file_parts basis c.requires.base c.requires.objects c.requires.kinds c.requires.fits
-    c.segments-segments.result.now (as_list c.thread_header-threads.result) (place_views c.loaded_places.result.now) c.code_of-code.result
-    c.args.entry (c.base-base.result + c.headers_size.result) (c.base-base.result + c.file_end.result)
-    c.segments-segments.ensures t c.loaded_places.ensures c.code_of-code.ensures (omega (arith, b, h)) (omega (arith, b, e)))
-    c.in_ok-put_headers.ensures.grows)
-    (sym (append-nil _)) c.from_residual-in_err-put_places.ensures.0 c.in_err-put_places.ensures.breaks
-
-pub returns-clause-puts : goal.returns-clause-puts
-returns-clause-puts g c =
+pub returns : goal.returns
+returns g c =
     let basis = c.args.contents.now.placement.now in
     let t = threads_is basis c.thread_header-threads.result c.thread_header-threads.ensures in
     let b = c.base-base.ensures in
     let h = c.headers_size.ensures in
     let e = c.file_end.ensures in
     towards_last _ _ _ _ _ _
-    (towards_more _ _ _ _ _ _ []
     (towards_more _ _ _ _ _ _ _ (towards_nothing _ _)
-    (file_parts basis c.requires.base c.requires.objects c.requires.kinds c.requires.fits
+    (parts_are basis c.requires.base c.requires.objects c.requires.kinds c.requires.fits
     c.segments-segments.result.now (as_list c.thread_header-threads.result) (place_views c.loaded_places.result.now) c.code_of-code.result
-    c.args.entry (c.base-base.result + c.headers_size.result) (c.base-base.result + c.file_end.result)
+    (fields_of c.args.entry c.args.table) (c.base-base.result + c.headers_size.result) (c.base-base.result + c.file_end.result)
     c.segments-segments.ensures t c.loaded_places.ensures c.code_of-code.ensures (omega (arith, b, h)) (omega (arith, b, e)))
     c.in_ok-put_headers.ensures.grows)
-    (sym (append-nil _)) c.in_ok-put_places.ensures.grows)
-    c.flush.ensures.puts
+    c.put_places.ensures

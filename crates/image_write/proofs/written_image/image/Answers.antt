@@ -8,6 +8,6 @@ use Rattle.image_write.proofs.written_image.image.Goals as goal
 pub file_end-size-requires : goal.file_end-size-requires
 file_end-size-requires c =
     let l = c.args.linkage.now in
-    let made = c.parts.ensures in
+    let made = c.parts-parts.ensures.parts in
     subst (All EndsLow) (sym (c.segments.ensures ∙ (λ i. own_segments (made.placed i).base (made.placed i).objects)))
     (ends_low l.plan.base l.objects made.base made.objects made.kinds made.not_too_large)

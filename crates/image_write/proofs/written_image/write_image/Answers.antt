@@ -1,23 +1,32 @@
-use Rattle.std.proofs.Common.{◌≡◌, ◌∙◌, map, sym}
+use Rattle.std.proofs.Common.{◌≡◌, ◌∙◌, ◌++◌, List, map, subst, sym}
 use Rattle.std.proofs.lemmas.Result.{err_from_is_err_and}
-use Rattle.elf_model.specs.ImageFile.{image_file}
+use Rattle.elf_model.specs.ImageFile.{own_end, own_entry}
+use Rattle.elf_model.specs.Meaning.{Meaning}
 use Rattle.elf_model.specs.OwnLayout.{own_where}
 use Rattle.elf_model.specs.Slots.{slots}
 use Rattle.relocate.specs.Values.{slot_value_of}
-use Rattle.search.specs.Loads.{LoadedPlan}
-use Rattle.image_write.specs.Linkages.{AreParts, own_image}
+use Rattle.resolve.specs.Views.{meaning_views}
+use Rattle.image_write.specs.Linkages.{AreParts, Linked, loaded_of, own_image, tables_in}
+use Rattle.image_write.specs.Parts.{file_parts}
+use Rattle.image_write.specs.Tables.{HasTable, fields_of}
 use Rattle.image_write.specs.declared.linkage.Parts.{Parts}
-use Rattle.image_write.proofs.StreamLaws.{breaks_are, grows_are}
+use Rattle.image_write.proofs.StreamLaws.{breaks_are, breaks_between, breaks_on, breaks_then, grows_are, grows_between, grows_then}
+use Rattle.image_write.proofs.Tabled.{range_of, whole_image}
 use Rattle.image_write.proofs.Written.{device_fault, took_all, took_part}
 use Rattle.image_write.proofs.written_image.write_image.Goals as goal
 
--- the image of the parts is that of the linkage
-image_is : (l : LoadedPlan) (x : Parts) → AreParts l x → image_file x.placement.base x.placement.objects x.entry ≡ own_image l
-image_is l x made = λ i. image_file (made.placed i).base (made.placed i).objects ((sym made.entry) i)
+-- the image is what the parts of the file and the tables are
+image_is :
+    (l : Linked) (x : Parts) → AreParts (loaded_of l) x → meaning_views x.listed.items ≡ l.listed →
+    file_parts x.placement.base x.placement.objects (fields_of x.entry x.table) ++ tables_in l ≡ own_image l
+image_is l x made listed =
+    (λ i. file_parts (made.placed i).base (made.placed i).objects (fields_of (sym made.entry i) x.table) ++ tables_in l)
+    ∙ whole_image l.plan.base l.objects l.listed (own_entry l.plan.base l.objects l.plan.entry) l.plan.strip x.table
+    (subst (λ (ms : List Meaning). HasTable l.objects (own_end l.plan.base l.objects) ms l.plan.strip x.table) listed made.tabled)
 
 pub write_file-requires-clause-contents : goal.write_file-requires-clause-contents
 write_file-requires-clause-contents g c =
-    let made = c.parts-parts.ensures in
+    let made = c.parts-parts.ensures.parts in
     let placed = sym made.placed in
     record {
       patches = made.patches ∙ placed;
@@ -25,14 +34,41 @@ write_file-requires-clause-contents g c =
           ∙ (made.values ∙ (λ i. map (slot_value_of (placed i).objects (own_where (placed i).base (placed i).objects)) (slots (placed i).objects)));
     }
 
+pub write_file-requires-clause-table : goal.write_file-requires-clause-table
+write_file-requires-clause-table g c =
+    let l = c.args.linkage.now in
+    let x = c.parts-parts.result.now in
+    range_of l.objects (own_end l.plan.base l.objects) (meaning_views x.listed.items) l.plan.strip x.table c.parts-parts.ensures.parts.tabled
+
 pub returns-in_err-write_file-clause-fault : goal.returns-in_err-write_file-clause-fault
 returns-in_err-write_file-clause-fault g c =
-    let b = breaks_are _ _ _ _ (image_is c.args.linkage.now c.parts-parts.result.now c.parts-parts.ensures) c.in_err-write_file.ensures.puts.breaks in
+    let e = c.parts-parts.ensures in
+    let b = breaks_are _ _ _ _ (image_is c.args.linkage.now c.parts-parts.result.now e.parts e.listed) (breaks_on _ _ _ (tables_in c.args.linkage.now) c.in_err-write_file.ensures.breaks) in
     device_fault _ _ _ _ _ c.from_residual-in_err-write_file.result
     (err_from_is_err_and c.from_residual-in_err-write_file.result c.from_residual-in_err-write_file.ensures.1)
     (took_part _ _ _ c.in_ok-buffer.ensures b) b.failed
 
+pub returns-in_err-write_tables-clause-fault : goal.returns-in_err-write_tables-clause-fault
+returns-in_err-write_tables-clause-fault g c =
+    let e = c.parts-parts.ensures in
+    let b = breaks_are _ _ _ _ (image_is c.args.linkage.now c.parts-parts.result.now e.parts e.listed)
+    (breaks_then _ _ _ _ _ c.in_ok-write_file.ensures.grows c.in_err-write_tables.ensures.breaks) in
+    device_fault _ _ _ _ _ c.from_residual-in_err-write_tables.result
+    (err_from_is_err_and c.from_residual-in_err-write_tables.result c.from_residual-in_err-write_tables.ensures.1)
+    (took_part _ _ _ c.in_ok-buffer.ensures b) b.failed
+
+pub returns-in_err-flush-clause-fault : goal.returns-in_err-flush-clause-fault
+returns-in_err-flush-clause-fault g c =
+    let e = c.parts-parts.ensures in
+    let b = breaks_are _ _ _ _ (image_is c.args.linkage.now c.parts-parts.result.now e.parts e.listed)
+    (breaks_between _ _ _ _ (grows_then _ _ _ _ _ c.in_ok-write_file.ensures.grows c.in_ok-write_tables.ensures.grows) c.in_err-flush.ensures.puts.breaks) in
+    device_fault _ _ _ _ _ c.from_residual-in_err-flush.result
+    (err_from_is_err_and c.from_residual-in_err-flush.result c.from_residual-in_err-flush.ensures.1)
+    (took_part _ _ _ c.in_ok-buffer.ensures b) b.failed
+
 pub returns-clause-written : goal.returns-clause-written
 returns-clause-written g c =
-    took_all _ _ _ c.in_ok-buffer.ensures c.in_ok-write_file.ensures.empty
-    (grows_are _ _ _ _ (image_is c.args.linkage.now c.parts-parts.result.now c.parts-parts.ensures) c.in_ok-write_file.ensures.puts.grows)
+    let e = c.parts-parts.ensures in
+    took_all _ _ _ c.in_ok-buffer.ensures c.in_ok-flush.ensures.empty
+    (grows_are _ _ _ _ (image_is c.args.linkage.now c.parts-parts.result.now e.parts e.listed)
+    (grows_between _ _ _ _ (grows_then _ _ _ _ _ c.in_ok-write_file.ensures.grows c.in_ok-write_tables.ensures.grows) c.in_ok-flush.ensures.puts.grows))

@@ -13,12 +13,12 @@ use Rattle.image_write.specs.Maps.{LiesWithin, own_record, own_table}
 use Rattle.ld_main.proofs.Values.{entry_lies, meanings_lie}
 use Rattle.ld_main.proofs.phases.parts_of.Goals as goal
 
-pub meaning_value-entry-requires-clause-within : goal.meaning_value-entry-requires-clause-within
-meaning_value-entry-requires-clause-within c =
+pub definition_value-entry-requires-clause-within : goal.definition_value-entry-requires-clause-within
+definition_value-entry-requires-clause-within c =
     let laid = c.requires.linkable.laid_out in
     let placed = c.requires.placed in
     subst (λ (b : Basis). LiesWithin (own_in_load_order b.base b.objects) (meaning_view c.args.entry.now)) (sym placed)
-    (entry_lies c.args.loaded.now.plan.base c.args.loaded.now.objects laid.referred.resolved.kinds laid.not_too_large laid.referred.resolved.sound
+    (entry_lies c.args.loaded.now.plan.base c.args.loaded.now.objects laid.referred.resolved.kinds laid.room.layout laid.referred.resolved.sound
     c.args.loaded.now.plan.entry (meaning_view c.args.entry.now) c.requires.entry)
 
 pub show_spellings-requires-clause-inside : goal.show_spellings-requires-clause-inside
@@ -30,11 +30,11 @@ show_spellings-requires-clause-inside c =
     (subst (λ (ds : List code.Definition). All (λ (m : code.Definition). LiesWithin (own_in_load_order c.args.loaded.now.plan.base c.args.loaded.now.objects) (meaning_view m)) ds)
     (sym c.deref.ensures.value)
     (All-unmap (LiesWithin (own_in_load_order c.args.loaded.now.plan.base c.args.loaded.now.objects)) meaning_view c.args.listed.items
-    (meanings_lie c.args.loaded.now.plan.base c.args.loaded.now.objects laid.referred.resolved.kinds laid.not_too_large d.sound
+    (meanings_lie c.args.loaded.now.plan.base c.args.loaded.now.objects laid.referred.resolved.kinds laid.room.layout d.sound
     (meaning_views c.args.listed.items) d.listed)))
 
-pub meaning_value-entry-requires-clause-kinds : goal.meaning_value-entry-requires-clause-kinds
-meaning_value-entry-requires-clause-kinds c =
+pub definition_value-entry-requires-clause-kinds : goal.definition_value-entry-requires-clause-kinds
+definition_value-entry-requires-clause-kinds c =
     let placed = c.requires.placed in
     subst (λ (b : Basis). AreLawfulKinds b.objects) (sym placed) c.requires.linkable.laid_out.referred.resolved.kinds
 
@@ -51,7 +51,7 @@ show_spellings-requires-clause-slots c =
 pub show_spellings-requires-clause-fits : goal.show_spellings-requires-clause-fits
 show_spellings-requires-clause-fits c =
     let placed = c.requires.placed in
-    subst (λ (b : Basis). IsNotTooLarge b.base b.objects) (sym placed) c.requires.linkable.laid_out.not_too_large
+    subst (λ (b : Basis). IsNotTooLarge b.base b.objects) (sym placed) c.requires.linkable.laid_out.room.layout
 
 pub returns : goal.returns
 returns c =
@@ -63,9 +63,9 @@ returns c =
     ap (λ (o : Option Meaning). unwrap_or (option_map (meaning_value (own_where p.base objects)) o) 0) c.requires.entry in
     record {
       base = c.requires.base;
-      objects = c.objects.ensures.objects;
+      objects = c.show_spellings.ensures.objects;
       kinds = c.requires.linkable.laid_out.referred.resolved.kinds;
-      not_too_large = c.requires.linkable.laid_out.not_too_large;
+      not_too_large = c.requires.linkable.laid_out.room.layout;
       listed = c.requires.listed;
       placed = c.requires.placed;
       table = c.requires.slots;
@@ -73,10 +73,15 @@ returns c =
       patches = c.requires.patches ∙ c.requires.placed;
       entry =
           entered
-          ∙ (ap (λ (b : Basis). meaning_value (own_where b.base b.objects) m) (sym placed) ∙ sym c.meaning_value-entry.ensures.value);
-      entry_fits = c.meaning_value-entry.ensures.fits;
+          ∙ (ap (λ (b : Basis). meaning_value (own_where b.base b.objects) m) (sym placed) ∙ sym c.definition_value-entry.ensures.value);
+      entry_fits = c.definition_value-entry.ensures.fits;
+      tabled = c.requires.table;
+      within =
+          All-unmap (LiesWithin (own_in_load_order p.base objects)) meaning_view c.args.listed.items
+          (meanings_lie p.base objects c.requires.linkable.laid_out.referred.resolved.kinds c.requires.linkable.laid_out.room.layout
+          c.requires.listed.sound (meaning_views c.args.listed.items) c.requires.listed.listed);
       spelled =
-          subst (λ (b : Basis). Fits (own_record b (meaning_views c.args.listed.items))) placed
-          (subst (λ (ms : List code.Definition). Fits (own_record c.args.placement (meaning_views ms))) c.deref.ensures.value
-          c.show_spellings.ensures);
+          subst (λ (b : Basis). Fits (own_record b p.strip (meaning_views c.args.listed.items))) placed
+          (subst (λ (ms : List code.Definition). Fits (own_record c.args.placement p.strip (meaning_views ms))) c.deref.ensures.value
+          c.show_spellings.ensures.spelled);
     }

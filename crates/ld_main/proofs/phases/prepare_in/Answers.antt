@@ -1,9 +1,9 @@
-use Rattle.std.proofs.Common.{◌∙◌, List, ap, subst, sym}
+use Rattle.std.proofs.Common.{◌∙◌, ap, subst, sym}
 use Rattle.elf_model.specs.Causes.{Cause}
 use Rattle.elf_model.specs.Command.{Plan}
 use Rattle.elf_model.specs.Files.{files_of, words_of}
 use Rattle.ld_main.specs.Linkages.{HasOwnLink, IsPrepared}
-use Rattle.image_write.specs.Linkages.{AreParts}
+use Rattle.image_write.specs.Linkages.{AreParts, linked_of}
 use Rattle.ld_main.specs.Outputs.{AreLinkable, LinksRefuse}
 use Rattle.ld_main.proofs.FinalRefusals.{denies_links}
 use Rattle.ld_main.proofs.Links.{cause, loading_fails, own_addresses, own_maps_right, prepared, right_link}
@@ -27,7 +27,7 @@ returns-in-Ok-prepare_loaded-clause-prepared g c =
     let x = c.in-Ok-prepare_loaded.parts in
     let is = c.in-Ok-load_in.ensures.plan in
     subst (IsPrepared (files_of c.args.files.now) (words_of c.args.words.now))
-    (ap (λ (q : Plan). record { plan = q; objects = l.objects }) (sym is) ∙ sym c.new.ensures)
+    (ap (λ (q : Plan). linked_of (record { plan = q; objects = l.objects }) x) (sym is) ∙ sym c.new.ensures)
     (prepared (files_of c.args.files.now) (words_of c.args.words.now) p l.objects c.in-Ok-load_in.ensures.loaded c.in-Ok.ensures.plan
     c.in-Ok-load_in.ensures.files c.in-Ok-load_in.ensures.archives c.in-Ok-load_in.ensures.indexes c.in-Ok-load_in.ensures.objects c.in-Ok-load_in.ensures.groups x
     (subst (λ (q : Plan). AreLinkable q l.objects) is c.in-Ok-prepare_loaded.ensures.linkable)
@@ -44,7 +44,7 @@ returns-in-Ok-prepare_loaded-clause-right g c =
     let x = c.in-Ok-prepare_loaded.parts in
     let is = c.in-Ok-load_in.ensures.plan in
     subst (HasOwnLink (files_of c.args.files.now) (words_of c.args.words.now))
-    (ap (λ (q : Plan). record { plan = q; objects = l.objects }) (sym is) ∙ sym c.new.ensures)
+    (ap (λ (q : Plan). linked_of (record { plan = q; objects = l.objects }) x) (sym is) ∙ sym c.new.ensures)
     (right_link (files_of c.args.files.now) (words_of c.args.words.now) p l.objects c.in-Ok-load_in.ensures.loaded c.in-Ok.ensures.plan
     c.in-Ok-load_in.ensures.files c.in-Ok-load_in.ensures.archives c.in-Ok-load_in.ensures.indexes c.in-Ok-load_in.ensures.objects c.in-Ok-load_in.ensures.groups x
     (subst (λ (q : Plan). AreLinkable q l.objects) is c.in-Ok-prepare_loaded.ensures.linkable)

@@ -1,4 +1,4 @@
-use Rattle.std.proofs.Common.{◌≡◌, ◌∙◌, ◌+◌, ◌<◌, ◌^◌, List, ap, arith, subst}
+use Rattle.std.proofs.Common.{◌∙◌, ◌+◌, ap, arith, subst}
 use Rattle.std.specs.Prelude.{All}
 use Rattle.elf_model.specs.MapText.{FitsTarget}
 use Rattle.elf_model.specs.OwnLayout.{got_piece, own_address}

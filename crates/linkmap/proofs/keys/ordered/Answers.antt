@@ -32,6 +32,7 @@ returns c =
     let slots = told_seen SlotBefore slot_row c.slots_ascend.result _ c.args.map.now.slots.items c.deref-5.ensures.value c.slots_ascend.ensures in
     let symbols = told_seen SymbolBefore symbol_row c.symbols_ascend.result _ c.args.map.now.symbols.items c.deref-6.ensures.value c.symbols_ascend.ensures in (
       λ t. record {
+        version = c.is_versioned.ensures.0 c.if-not-is_versioned.false;
         objects = objects.0 c.if-not-are_numbered.false;
         drops = drops.0 c.if-not-drops_ascend.false;
         places = places.0 c.if-not-places_ascend.false;

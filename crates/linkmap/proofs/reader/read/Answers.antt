@@ -57,8 +57,8 @@ pub lines-init : goal.lines-init
 lines-init c =
     let first = sym c.in-Some.ensures in
     record {
-      reading = subst (λ (m : MapRecord). Reading m c.args.bytes.now c.in-Some.rest.now 2) (sym c.empty-map.ensures) (start c.args.bytes.now c.in-Some.rest.now first);
-      within = first_shorter c.args.bytes.now c.in-Some.rest.now first;
+      reading = subst (λ (m : MapRecord). Reading m c.args.bytes.now c.in-Some.rest.now 2) (sym c.empty-map.ensures) (start c.in-Some.version c.args.bytes.now c.in-Some.rest.now first);
+      within = first_shorter c.in-Some.version c.args.bytes.now c.in-Some.rest.now first;
     }
 
 pub lines-smaller : goal.lines-smaller

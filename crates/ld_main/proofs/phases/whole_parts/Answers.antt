@@ -1,12 +1,8 @@
-use Rattle.std.proofs.Common.{◌∙◌, List, ap, map, subst, sym}
-use Rattle.elf_model.specs.Listing.{AreLinkerLines}
-use Rattle.elf_model.specs.Loading.{LoadedObject}
+use Rattle.std.proofs.Common.{◌∙◌, map, subst, sym}
 use Rattle.elf_model.specs.Pieces.{AreLawfulKinds}
 use Rattle.layout.specs.Placements.{Basis}
-use Rattle.got_tls.specs.Views.{Got}
 use Rattle.relocate.specs.Values.{slot_value_of, where_in}
-use Rattle.image_write.specs.Listings.{IsListing}
-use Rattle.ld_main.proofs.phases.listed_parts.Goals as goal
+use Rattle.ld_main.proofs.phases.whole_parts.Goals as goal
 
 pub slot_values-requires : goal.slot_values-requires
 slot_values-requires c =
