@@ -2,6 +2,7 @@
 //! and the whole program over both.
 #![tactic(auto)]
 
+mod command_line;
 mod file_sink;
 mod file_source;
 mod listed_definitions;
@@ -15,6 +16,7 @@ mod slot_lines;
 mod spelled_lines;
 
 pub use checker::{Clause, Verdict, check};
+pub use command_line::run_args;
 pub use elf_model::LinkError;
 pub use file_source::{FetchFault, FileSource, GatherFault, gather};
 pub use image_write::{Linkage, Sink, SinkFault, WriteFault, image, write_image};

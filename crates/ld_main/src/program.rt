@@ -214,7 +214,8 @@ fn read_file<'a, R: Files + AllocGlobal>(rt: &R, path: &'a str) -> Result<Vec<u8
     ensures { IfErr result (λ f. 3 ≤ failure_status f) }
 {
     match read_whole(rt, path) {
-        Ok(bytes) => Ok(bytes),
+        Ok(Some(bytes)) => Ok(bytes),
+        Ok(None) => Err(Failure::CannotRead(CowStr::Borrowed(path))),
         Err(error) => Err(unread(CowStr::Borrowed(path), &error)),
     }
 }

@@ -9,19 +9,25 @@ use std::io::{ErrorKind, Read, Write};
 use std::os::unix::fs::PermissionsExt;
 use std::rt::Files;
 
-/// The bytes of a file, in just the room that they take.
-pub fn read_whole<R: Files + AllocGlobal>(rt: &R, path: &str) -> io::Result<Vec<u8>> {
-    let mut file = File::open(rt, path)?;
+/// The bytes of an open file. Room for its length and one byte more is reserved first, so that the read that meets the
+/// end finds room too; a file that has grown meanwhile, or has no length, as a pipe has none, is read on.
+fn contents<R: Files + AllocGlobal>(rt: &R, file: &mut R::File) -> io::Result<Vec<u8>> {
     let len = match file.metadata() {
         Ok(metadata) => metadata.len(),
         Err(_) => 0,
     };
-    let Ok(mut bytes) = Vec::with_capacity(rt.alloc(), len as usize) else {
-        return Err(io::Error::from(ErrorKind::OutOfMemory));
-    };
+    let mut bytes = Vec::with_capacity(rt.alloc(), (len as usize).saturating_add(1))?;
     file.read_to_end(&mut bytes)?;
-    bytes.shrink_to_fit();
     Ok(bytes)
+}
+
+/// The bytes of the file at a path; None where there is no such file.
+pub fn read_whole<R: Files + AllocGlobal>(rt: &R, path: &str) -> io::Result<Option<Vec<u8>>> {
+    match File::open(rt, path) {
+        Ok(mut file) => Ok(Some(contents(rt, &mut file)?)),
+        Err(error) if error.kind() == ErrorKind::NotFound => Ok(None),
+        Err(error) => Err(error),
+    }
 }
 
 /// The files of the system as a source of input. It doesn't tell them.
@@ -47,9 +53,8 @@ impl<'r, R: Files + AllocGlobal> FileSource for RealFiles<'r, R> {
 
     fn fetch(&mut self, path: &str) -> Result<Option<Vec<u8>>, FetchFault> {
         match read_whole(self.rt, path) {
-            Ok(bytes) => Ok(Some(bytes)),
+            Ok(found) => Ok(found),
             Err(error) => match error.kind() {
-                ErrorKind::NotFound => Ok(None),
                 ErrorKind::OutOfMemory => Err(FetchFault::Memory),
                 _ => {
                     self.failures += 1;
