@@ -211,11 +211,23 @@ fn apply(
     Ok(())
 }
 
+/// The link of files by words, changed in one place, but for its words: the files and what comes of them.
+pub fn changed(
+    alloc: Global,
+    files: &[File],
+    words: &[String],
+    change: &Change,
+) -> Result<(Vec<InputFile>, Output), Fail> {
+    let mut files = files_of(alloc, files)?;
+    let mut output = linked_by(alloc, &files, words)??;
+    apply(alloc, &mut files, &mut output, change)?;
+    Ok((files, output))
+}
+
 /// What the check says of the link of files by a line once it is changed.
 fn verdict_of(alloc: Global, files: &[File], line: &str, change: &Change) -> Result<Verdict, Fail> {
-    let mut files = files_of(alloc, files)?;
-    let mut output = linked(alloc, &files, line)??;
-    apply(alloc, &mut files, &mut output, change)?;
+    let words = stripped(alloc, line)?;
+    let (files, output) = changed(alloc, files, &words, change)?;
     let line = if let Change::Words(other) = change {
         other
     } else {

@@ -1,0 +1,13 @@
+//! Tests of the program on a system in memory: what it reads and writes, and in which order, what it prints, its status.
+#![tactic(auto)]
+
+#[cfg(test)]
+mod files;
+#[cfg(test)]
+mod machine;
+#[cfg(test)]
+mod runs;
+#[cfg(test)]
+mod verdicts;
+#[cfg(test)]
+mod words;
