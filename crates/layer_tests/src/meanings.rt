@@ -22,7 +22,7 @@ pub fn global(st_name: u32, st_shndx: u16) -> Symbol {
 }
 
 /// A LOCAL symbol of a section.
-fn local(st_shndx: u16) -> Symbol {
+pub fn local(st_shndx: u16) -> Symbol {
     Symbol {
         st_info: 3,
         ..global(0, st_shndx)

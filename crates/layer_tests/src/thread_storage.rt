@@ -1,7 +1,7 @@
 //! The size of the GOT, the block of thread-local storage, and offsets from the thread pointer.
 ghost use Rattle.std.specs.Prelude.{◌<◌};
 
-use crate::meanings::global;
+use crate::meanings::{global, local};
 use crate::objects::{
     BSS, DATA, ENTRY, F_NAME, G_NAME, SYMBOLS, TEXT, load_alone, object_of, object_with,
 };
@@ -10,7 +10,7 @@ use got_tls::{TlsBlock, slots, tls_block, tp_offset};
 use layout::place;
 use resolve::resolve;
 use search::Loaded;
-use std::alloc::Global;
+use std::alloc::{AllocError, Global};
 use std::test::Fail;
 
 /// The GOT's size and the number of its slots.
@@ -111,6 +111,39 @@ fn relocations_ask_for_slots(rt: HostRuntime) -> Result<(), Fail> {
             "{first} and {second}"
         );
     }
+    Ok(())
+}
+
+/// More slots than a number of 16 bits counts.
+const MANY: u32 = 70_000;
+
+/// An object of so many LOCAL symbols, with an R_X86_64_GOTPCREL to each at the beginning of its text.
+fn many_slots(alloc: Global) -> Result<Vec<u8>, AllocError> {
+    let mut symbols = Vec::new(alloc);
+    symbols.resize(MANY as usize, local(2))?;
+    let mut relas = Vec::new(alloc);
+    for symbol in 1..=MANY {
+        relas.push(entry(0, u64::from(symbol) << 32 | 9))?;
+    }
+    let table = SectionHeader {
+        sh_size: 24 * (u64::from(MANY) + 1),
+        ..SYMBOLS
+    };
+    let entries = SectionHeader {
+        sh_offset: table.sh_offset + table.sh_size,
+        sh_size: 24 * u64::from(MANY),
+        sh_link: 3,
+        sh_info: 2,
+        ..ENTRY
+    };
+    object_with(alloc, &[TEXT, table, entries], &symbols, &relas)
+}
+
+#[test]
+fn slots_may_be_many(rt: HostRuntime) -> Result<(), Fail> {
+    let file = many_slots(rt.alloc())?;
+    let loaded = load_alone(rt.alloc(), &file)?;
+    assert!(rt; got_of(rt.alloc(), &loaded)? == (560_008, 70_000));
     Ok(())
 }
 

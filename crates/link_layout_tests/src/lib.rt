@@ -4,6 +4,8 @@
 #[cfg(test)]
 mod global_offsets;
 #[cfg(test)]
+mod many_slots;
+#[cfg(test)]
 mod output_names;
 #[cfg(test)]
 mod thread_local;

@@ -11,9 +11,11 @@ use std::test::Fail;
 /// The object of `vectors`, of its parts.
 const PLAIN: &[File] = &[File::Object("a.o", &[TEXT_SECTION], &[START], &[])];
 
-static ROWS: [Judged; 23] = [
+static ROWS: [Judged; 24] = [
     (Change::Nothing, Verdict::Yes),
+    // A word without its path, and no input.
     (Change::Words("a.o -o"), Verdict::No(Clause::C1)),
+    (Change::Words(""), Verdict::No(Clause::C1)),
     (Change::Map(b"ldmap 3\nend\n"), Verdict::No(Clause::C1)),
     // No such file.
     (Change::Words("a.o b.o"), Verdict::No(Clause::C2)),

@@ -8,22 +8,42 @@ use std::alloc::{AllocError, Global};
 use std::test::Fail;
 
 /// What stands before the object in an archive whose index says that the member at 84 defines `_start`.
-static FRONT: &[u8] =
+const FRONT: &[u8] =
     b"!<arch>\n/                                               15        `\n\0\0\0\x01\0\0\0T_start\0\na.o/                                            496       `\n";
 
-/// The files `a.o`, an object that defines `_start`, and `lib.a`, which holds it.
+/// The same without an index, and with the first seven bytes alone.
+const BARE_FRONT: &[u8] = b"!<arch>\na.o/                                            496       `\n";
+
+const SEVEN_BYTES: &[u8] = b"!<arch>";
+
+/// Files: the path, what stands before the object, and how many bytes of it there are. The last three are no archive,
+/// one whose member is cut, and no object.
+static FILES: [(&str, &[u8], usize); 6] = [
+    ("a.o", b"", 496),
+    ("lib.a", FRONT, 496),
+    ("bare.a", BARE_FRONT, 496),
+    ("short.a", SEVEN_BYTES, 0),
+    ("cut.a", FRONT, 100),
+    ("cut.o", b"", 63),
+];
+
+/// Those files, and the archive with zeros in the place of the object.
 fn files(alloc: Global) -> Result<Vec<InputFile>, AllocError> {
     let object = start_object(alloc)?;
-    let mut archive = Vec::from_slice(alloc, FRONT)?;
-    archive.extend_from_slice(&object)?;
     let mut list = Vec::new(alloc);
+    for (path, front, len) in &FILES {
+        let mut bytes = Vec::from_slice(alloc, front)?;
+        bytes.extend_from_slice(object.get(..*len).unwrap_or(&[]))?;
+        list.push(InputFile {
+            name: String::from_str(alloc, path)?,
+            bytes,
+        })?;
+    }
+    let mut bytes = Vec::from_slice(alloc, FRONT)?;
+    bytes.resize(FRONT.len().saturating_add(496), 0)?;
     list.push(InputFile {
-        name: String::from_str(alloc, "a.o")?,
-        bytes: object,
-    })?;
-    list.push(InputFile {
-        name: String::from_str(alloc, "lib.a")?,
-        bytes: archive,
+        name: String::from_str(alloc, "zeros.a")?,
+        bytes,
     })?;
     Ok(list)
 }
@@ -55,7 +75,7 @@ fn told(alloc: Global, line: &str) -> Result<String, Fail> {
 }
 
 /// Lines, and what each loads.
-static LINES: [(&str, &str); 8] = [
+static LINES: [(&str, &str); 17] = [
     ("a.o", "0 0;"),
     ("lib.a", "0 84;"),
     ("a.o lib.a", "0 0;"),
@@ -64,6 +84,16 @@ static LINES: [(&str, &str); 8] = [
     ("a.o --whole-archive lib.a", "0 0;1 84;"),
     ("--start-group lib.a lib.a --end-group", "0 84;"),
     ("a.o c.o", "refused"),
+    // Faults of archives and objects, an index that a search lacks, a member that isn't needed, and one that is.
+    ("a.o short.a", "refused"),
+    ("a.o cut.a", "refused"),
+    ("cut.o", "refused"),
+    ("a.o bare.a", "refused"),
+    ("--whole-archive bare.a", "0 8;"),
+    ("--start-group bare.a --end-group", "refused"),
+    ("-e main zeros.a", ""),
+    ("zeros.a", "refused"),
+    ("a.o --whole-archive zeros.a", "refused"),
 ];
 
 #[test]

@@ -307,3 +307,25 @@ fn reads_fields(rt: HostRuntime) -> Result<(), Fail> {
     assert_eq!(rt; counts, [2, 1, 2, 4]);
     Ok(())
 }
+
+/// More lines than a number of 16 bits counts.
+const MANY: u64 = 70_000;
+
+/// The text of a map of so many dropped sections.
+fn many_lines(alloc: Global) -> Result<String, Fail> {
+    let mut text = String::from_str(alloc, "ldmap 1\n")?;
+    for section in 0..MANY {
+        text.push_str(&format!(in alloc; "drop 0 {section}\n")?)?;
+    }
+    text.push_str("end\n")?;
+    Ok(text)
+}
+
+#[test]
+fn many_lines_are_read_and_printed(rt: HostRuntime) -> Result<(), Fail> {
+    let text = many_lines(rt.alloc())?;
+    let map = read(rt.alloc(), text.as_bytes())?;
+    assert!(rt; map.drops.len() as u64 == MANY);
+    assert!(rt; print(rt.alloc(), &map)?.as_slice() == text.as_bytes());
+    Ok(())
+}
