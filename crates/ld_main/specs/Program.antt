@@ -1,5 +1,6 @@
 -- The exit statuses of the program, and what they say.
-use Rattle.std.specs.Prelude.{ℕ, List}
+use Rattle.std.specs.Prelude.{◌≡◌, ℕ, List, Bool, true, false, Ok}
+use Rattle.elf_model.specs.Command.{Plan, command_of}
 use Rattle.elf_model.specs.Files.{File}
 use Rattle.elf_model.specs.RightLink.{IsRightLink}
 use Rattle.elf_model.specs.declared.faults.CmdFault.{CmdFault}
@@ -39,3 +40,12 @@ failure_status _ = 3
 abbrev pub outcome_status : Outcome → ℕ
 outcome_status (outcome.Wrong c) = 1
 outcome_status _ = 0
+
+-- an outcome is one of a check
+abbrev pub is_checked : Outcome → Bool
+is_checked outcome.Linked = false
+is_checked _ = true
+
+-- a command that the words are asks for a check, or for none
+abbrev pub Asks : Bool → List (List ℕ) → Type 0
+Asks check words = (plan : Plan) → command_of words ≡ Ok plan → plan.check ≡ check

@@ -1,11 +1,12 @@
 //! The program: reads the files that the words name, links or checks them, writes or prints the answer.
-ghost use Rattle.std.specs.Prelude.{◌≡◌, ◌≢◌, ◌⊎◌, ◌↔◌, ◌≤◌, true, None, IfErr, IfOk, IsErr, IsErrAnd, IsOk, OnOk};
+ghost use Rattle.std.specs.Prelude.{◌≡◌, ◌≢◌, ◌⊎◌, ◌↔◌, ◌≤◌, true, false, None, Ok, IfErr, IfOk, IsErr, IsErrAnd, IsOk, OnOk};
 ghost use Rattle.elf_model.specs.Causes.{Cause};
+ghost use Rattle.elf_model.specs.Command as command;
 ghost use Rattle.elf_model.specs.Command.{command_of};
 ghost use Rattle.elf_model.specs.Files.{files_of, words_of};
 ghost use Rattle.elf_model.specs.RightLink.{IsRightLink, Least};
 ghost use Rattle.ld_main.specs.Linkages.{HasOwnLink};
-ghost use Rattle.ld_main.specs.Program.{HasRightLink, LinksRight, error_status, failure_status, outcome_status, words_status};
+ghost use Rattle.ld_main.specs.Program.{Asks, HasRightLink, LinksRight, error_status, failure_status, is_checked, outcome_status, words_status};
 
 use crate::file_sink::{FileSink, room};
 use crate::file_source::{GatherFault, gather};
@@ -121,7 +122,9 @@ impl Outcome {
     }
 
     /// Prints the verdict of a check; a link prints nothing.
-    fn print<W: Write>(self, out: &mut W) -> io::Result<()> {
+    fn print<W: Write>(self, out: &mut W) -> io::Result<()>
+        ensures quiet { is_checked self ≡ false → out.new ≡ out.old }
+    {
         match self {
             Outcome::Linked => Ok(()),
             Outcome::Right => writeln!(out, "yes"),
@@ -303,6 +306,7 @@ fn link_files<'a, R: Files + AllocGlobal + RandomSource>(
 ) -> Result<Outcome, Failure<'a>>
     ensures right { IfOk result (λ o. outcome_status o ≡ 0 → LinksRight (files_of files.now) (words_of words.now)) }
     ensures words_alone { IfErr result (λ f. failure_status f ≡ 2 → IsErr (command_of (words_of words.now))) }
+    ensures linked { IfOk result (λ o. is_checked o ≡ false) }
 {
     let linkage = match prepared(rt.alloc(), seed(rt), files, words) {
         Ok(linkage) => linkage,
@@ -322,7 +326,7 @@ fn judged(
 ) -> Result<Outcome, AllocError>
     ensures right { IfOk result (λ o. (o ≡ Outcome.Right) ↔ IsRightLink (files_of files.now) (words_of words.now) image.now map.now) }
     ensures wrong { IfOk result (λ o. (c : Clause) → ((o ≡ Outcome.Wrong c) ↔ Least c (files_of files.now) (words_of words.now) image.now map.now)) }
-    ensures checked { IfOk result (λ o. o ≢ Outcome.Linked) }
+    ensures checked { IfOk result (λ o. is_checked o ≡ true) }
 {
     match check(alloc, files, words, image, map)? {
         Verdict::Yes => Ok(Outcome::Right),
@@ -339,6 +343,7 @@ fn check_files<'a, R: Files + AllocGlobal>(
 ) -> Result<Outcome, Failure<'a>>
     requires mapped { task.map ≢ None }
     ensures right { IfOk result (λ o. outcome_status o ≡ 0 → LinksRight (files_of files.now) (words_of words.now)) }
+    ensures checked { IfOk result (λ o. is_checked o ≡ true) }
     ensures fault { IfErr result (λ f. 3 ≤ failure_status f) }
 {
     let Some(map_path) = task.map else {
@@ -357,6 +362,8 @@ fn read_input<'a, R: Files + AllocGlobal>(
 ) -> Result<(Task<'a>, Vec<InputFile>), Failure<'a>>
     ensures mapped { IfOk result (λ g. g.0.check ≡ true → g.0.map ≢ None) }
     ensures command { OnOk result (IsOk (command_of (words_of words.entry.now))) }
+    ensures mode { IfOk result (λ g. Asks g.0.check (words_of words.entry.now)) }
+    ensures fault { IfErr result (λ f. 2 ≤ failure_status f) }
     ensures refused_words { IsErr (command_of (words_of words.entry.now)) → IsErrAnd result (λ f. (failure_status f ≡ 2) ⊎ (failure_status f ≡ 4)) }
     ensures words_alone { IfErr result (λ f. failure_status f ≡ 2 → IsErr (command_of (words_of words.entry.now))) }
 {
@@ -377,6 +384,8 @@ fn run<'a, R: Files + AllocGlobal + RandomSource>(
     ensures right { IfOk result (λ o. outcome_status o ≡ 0 → HasRightLink (words_of words.entry.now)) }
     ensures refused_words { IsErr (command_of (words_of words.entry.now)) → IsErrAnd result (λ f. (failure_status f ≡ 2) ⊎ (failure_status f ≡ 4)) }
     ensures words_alone { IfErr result (λ f. failure_status f ≡ 2 → IsErr (command_of (words_of words.entry.now))) }
+    ensures mode { IfOk result (λ o. Asks (is_checked o) (words_of words.entry.now)) }
+    ensures fault { (p : command.Plan) → command_of (words_of words.entry.now) ≡ Ok p → p.check ≡ true → IfErr result (λ f. 2 ≤ failure_status f) }
 {
     let (task, files) = read_input(rt, words)?;
     if task.check {
@@ -412,6 +421,8 @@ pub fn run_ld<R: Files + AllocGlobal + RandomSource, O: Write, E: Write>(
     ensures words_alone { result ≡ 2 → IsErr (command_of (words_of words.now)) }
     ensures out_quiet { 2 ≤ result → out.new ≡ out.old }
     ensures err_quiet { result ≡ 0 → err.new ≡ err.old }
+    ensures link_prints_nothing { (p : command.Plan) → command_of (words_of words.now) ≡ Ok p → p.check ≡ false → out.new ≡ out.old }
+    ensures check_prints_no_fault { (p : command.Plan) → command_of (words_of words.now) ≡ Ok p → p.check ≡ true → result ≤ 1 → err.new ≡ err.old }
 {
     match run(rt, words) {
         Ok(outcome) => {
