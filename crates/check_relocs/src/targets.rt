@@ -63,7 +63,7 @@ fn unnamed_at<'a>(loaded: &Loaded<'a>, number: u64, j: usize) -> SymbolOf<'a>
 }
 
 /// What symbol `j` of the object that has a number means. Of a LOCAL one the name isn't read.
-fn target_of_symbol<'a>(
+pub fn target_of_symbol<'a>(
     bindings: &Bindings<'_, '_, 'a>,
     number: u64,
     loaded: &Loaded<'a>,
