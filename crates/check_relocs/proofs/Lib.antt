@@ -10,4 +10,5 @@ pub mod RightParts
 pub mod RowFacts
 pub mod RowLookup
 pub mod SectionParts
+pub mod Unnamed
 pub mod WantedFields

@@ -332,13 +332,6 @@ impl<'l, 'p, 'a> Bindings<'l, 'p, 'a> {
         }
     }
 
-    /// The value of what an entry uses that names a symbol, modulo 2^64, 0 where that is nothing.
-    pub fn symbol_value(&self, symbol: &SymbolOf<'a>) -> u64
-        ensures { result ≡ unwrap_or (option_map (meaning_value self.now.places) (definition_of self.now.objects (symbol_view symbol.now))) 0 % 2 ^ 64 }
-    {
-        value_or_none(self.places, &self.definition(symbol))
-    }
-
     /// The value of what a name of the linker's stands for, 0 where the linker defines nothing for it.
     fn bound_value(&self, name: &[u8]) -> u64
         ensures { result ≡ unwrap_or (option_map (bound_value self.now.places name.now) (bound_of self.now.objects name.now)) 0 }

@@ -3,18 +3,17 @@ ghost use Rattle.std.specs.Prelude.{◌≡◌, ℕ, option_map};
 ghost use Rattle.std.specs.Option.{option_and_then};
 ghost use Rattle.elf_model.specs.ObjectFile.{rela_type};
 ghost use Rattle.elf_model.specs.Relocation as relocation;
-ghost use Rattle.elf_model.specs.Relocation.{relocation_of};
+ghost use Rattle.elf_model.specs.Relocation.{relocation_of, symbol_at};
 ghost use Rattle.elf_model.specs.Slots as slots;
 ghost use Rattle.check_load.specs.Views.{loaded_view};
 ghost use Rattle.check_relocs.specs.Kinds.{formula_view};
 ghost use Rattle.check_link.specs.Slots.{request_view, target_view};
-ghost use Rattle.check_link.specs.Views.{symbol_view};
 
 use crate::kinds::{Formula, kind_of};
-use crate::targets::symbol_at;
-use check_link::{Request, SymbolOf, Wanted, is_thread};
+use crate::targets::is_local_at;
+use check_link::{Request, Wanted, is_thread};
 use check_load::Loaded;
-use elf_model::{Rela, STB_LOCAL, SlotKind};
+use elf_model::{Rela, SlotKind};
 
 /// The slot for which a formula asks: one for a value where it has G, one for a thread offset where it has GT.
 fn slot_kind_of(formula: Formula) -> Option<SlotKind>
@@ -46,14 +45,15 @@ pub fn speaks_of_got(formula: Formula) -> bool
     }
 }
 
-/// The target of an entry that names a symbol: its name, or the symbol itself where it is LOCAL.
-fn target_of<'a>(symbol: &SymbolOf<'a>) -> Wanted<'a>
-    ensures { target_view result ≡ slots.target_of (symbol_view symbol.now) }
+/// The target of an entry that names symbol `j` of the object that has a number: its name, or the symbol itself where it
+/// is LOCAL.
+fn target_at<'a>(loaded: &Loaded<'a>, number: u64, j: usize) -> Wanted<'a>
+    ensures { target_view result ≡ slots.target_of (symbol_at number (loaded_view loaded.now) j) }
 {
-    if symbol.entry.st_info / 16 == STB_LOCAL {
-        return Wanted::Local(symbol.object, symbol.number);
+    if is_local_at(loaded, j) {
+        return Wanted::Local(number, j as u64);
     }
-    Wanted::Name(symbol.name)
+    Wanted::Name(loaded.object.symbol_name(j))
 }
 
 /// The slot for which an entry asks by its kind; None where it asks for none.
@@ -69,9 +69,8 @@ pub fn request_of<'a>(loaded: &Loaded<'a>, number: u64, entry: &Rela) -> Option<
     ensures { (section : ℕ) → option_map request_view result ≡ slots.request_of (relocation_of number (loaded_view loaded.now) section entry.now) }
 {
     let kind = kind_asked(entry)?;
-    let symbol = symbol_at(loaded, number, entry.symbol() as usize);
     Some(Request {
         thread: is_thread(kind),
-        target: target_of(&symbol),
+        target: target_at(loaded, number, entry.symbol() as usize),
     })
 }

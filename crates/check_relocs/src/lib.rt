@@ -20,4 +20,4 @@ pub use fields::Field;
 pub use linker_uses::{linker_lines, used_names};
 pub use needs::{Needs, needs_of};
 pub use section_fields::fields_in;
-pub use targets::symbol_at;
+pub use targets::target_of_symbol;

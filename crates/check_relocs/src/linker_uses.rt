@@ -15,7 +15,7 @@ ghost use Rattle.check_link.specs.Views.{meaning_views, symbol_view};
 
 use crate::bindings::Bindings;
 use crate::field_rows::is_some_kind;
-use crate::targets::symbol_at;
+use crate::targets::{is_local_at, symbol_at};
 use check_link::{Meaning, SymbolOf};
 use check_load::Loaded;
 use elf_model::{Rela, STB_LOCAL, SectionHeader};
@@ -32,6 +32,21 @@ fn is_linker_use(bindings: &Bindings<'_, '_, '_>, symbol: &SymbolOf<'_>) -> bool
     bindings.bound_of(symbol.name).is_some() && bindings.chosen(symbol.name).is_none()
 }
 
+/// Whether symbol `j` of the object that has a number is such a one.
+fn is_use_of<'a>(
+    bindings: &Bindings<'_, '_, 'a>,
+    number: u64,
+    loaded: &Loaded<'a>,
+    j: usize,
+) -> bool
+    ensures { result ≡ is_linker_use bindings.now.objects (symbol_at number (loaded_view loaded.now) j) }
+{
+    if is_local_at(loaded, j) {
+        return false;
+    }
+    is_linker_use(bindings, &symbol_at(loaded, number, j))
+}
+
 /// Of each symbol of the object that has a number, whether it is such a one.
 fn linker_symbols<'a>(
     alloc: Global,
@@ -44,7 +59,7 @@ fn linker_symbols<'a>(
     let count = loaded.object.symbols().len();
     let mut found = Vec::with_capacity(alloc, count)?;
     for j in 0..count {
-        found.push(is_linker_use(bindings, &symbol_at(loaded, number, j)))?;
+        found.push(is_use_of(bindings, number, loaded, j))?;
     }
     Ok(found)
 }
@@ -62,7 +77,7 @@ fn is_use<'a>(
 {
     match uses.get(j) {
         Some(is_use) => *is_use,
-        None => is_linker_use(bindings, &symbol_at(loaded, number, j)),
+        None => is_use_of(bindings, number, loaded, j),
     }
 }
 

@@ -16,7 +16,7 @@ use crate::bindings::Bindings;
 use crate::entry_requests::{request_of, speaks_of_got};
 use crate::field_rows::is_some_kind;
 use crate::kinds::kind_of;
-use crate::targets::symbol_at;
+use crate::targets::{is_local_at, symbol_at};
 use check_link::{Request, SymbolOf};
 use check_load::Loaded;
 use elf_model::{Rela, STB_LOCAL, SectionHeader};
@@ -43,6 +43,21 @@ fn names_got(bindings: &Bindings<'_, '_, '_>, symbol: &SymbolOf<'_>) -> bool
     bindings.chosen(symbol.name).is_none()
 }
 
+/// Whether symbol `j` of the object that has a number is such a one.
+fn names_got_of<'a>(
+    bindings: &Bindings<'_, '_, 'a>,
+    number: u64,
+    loaded: &Loaded<'a>,
+    j: usize,
+) -> bool
+    ensures { result ≡ names_got bindings.now.objects (symbol_at number (loaded_view loaded.now) j) }
+{
+    if is_local_at(loaded, j) {
+        return false;
+    }
+    names_got(bindings, &symbol_at(loaded, number, j))
+}
+
 /// Of each symbol of the object that has a number, whether it is such a one.
 fn got_names<'a>(
     alloc: Global,
@@ -55,7 +70,7 @@ fn got_names<'a>(
     let count = loaded.object.symbols().len();
     let mut found = Vec::with_capacity(alloc, count)?;
     for j in 0..count {
-        found.push(names_got(bindings, &symbol_at(loaded, number, j)))?;
+        found.push(names_got_of(bindings, number, loaded, j))?;
     }
     Ok(found)
 }
@@ -73,7 +88,7 @@ fn names_got_at<'a>(
 {
     match named.get(j) {
         Some(named) => *named,
-        None => names_got(bindings, &symbol_at(loaded, number, j)),
+        None => names_got_of(bindings, number, loaded, j),
     }
 }
 

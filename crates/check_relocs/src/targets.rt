@@ -1,6 +1,6 @@
 //! What the symbols of an object mean to its relocations, each looked up once.
-ghost use Rattle.std.specs.Prelude.{◌≡◌, IfOk};
-ghost use Rattle.elf_model.specs.Relocation.{symbol_at};
+ghost use Rattle.std.specs.Prelude.{◌≡◌, ℕ, [], IfOk};
+ghost use Rattle.elf_model.specs.Relocation.{is_local, symbol_at};
 ghost use Rattle.check_relocs.specs.Bindings.{AreTargets, IsTargetOf};
 ghost use Rattle.check_load.specs.Views.{loaded_view};
 ghost use Rattle.check_link.specs.Views.{symbol_view};
@@ -8,6 +8,7 @@ ghost use Rattle.check_link.specs.Views.{symbol_view};
 use crate::bindings::Bindings;
 use check_link::SymbolOf;
 use check_load::Loaded;
+use elf_model::STB_LOCAL;
 use std::alloc::{AllocError, Global};
 
 /// What a symbol means to relocations: whether it is in want of a definition, whether it is a LOCAL one of a
@@ -39,6 +40,43 @@ pub fn symbol_at<'a>(loaded: &Loaded<'a>, number: u64, j: usize) -> SymbolOf<'a>
     }
 }
 
+/// Whether symbol `j` of an object is LOCAL. Its name means nothing to relocations, and isn't read: names that share
+/// bytes can be longer by far than the file that holds them.
+pub fn is_local_at(loaded: &Loaded<'_>, j: usize) -> bool
+    ensures { (number : ℕ) → result ≡ is_local (symbol_at number (loaded_view loaded.now) j) }
+{
+    loaded.object.symbol(j).st_info / 16 == STB_LOCAL
+}
+
+/// Symbol `j` of the object that has a number, without its name.
+fn unnamed_at<'a>(loaded: &Loaded<'a>, number: u64, j: usize) -> SymbolOf<'a>
+    ensures { symbol_view result ≡ record (symbol_at number (loaded_view loaded.now) j) { name = [] } }
+{
+    let entry = loaded.object.symbol(j);
+    SymbolOf {
+        object: number,
+        number: j as u64,
+        name: &[],
+        entry,
+        dropped: loaded.is_dropped(entry.st_shndx as usize),
+    }
+}
+
+/// What symbol `j` of the object that has a number means. Of a LOCAL one the name isn't read.
+pub fn target_of_symbol<'a>(
+    bindings: &Bindings<'_, '_, 'a>,
+    number: u64,
+    loaded: &Loaded<'a>,
+    j: usize,
+) -> Target
+    ensures { IsTargetOf bindings.now (symbol_at number (loaded_view loaded.now) j) result }
+{
+    if is_local_at(loaded, j) {
+        return bindings.target(&unnamed_at(loaded, number, j));
+    }
+    bindings.target(&symbol_at(loaded, number, j))
+}
+
 /// What the symbols of the object that has a number mean, in their order.
 pub fn targets_of<'a>(
     alloc: Global,
@@ -51,7 +89,7 @@ pub fn targets_of<'a>(
     let count = loaded.object.symbols().len();
     let mut found = Vec::with_capacity(alloc, count)?;
     for j in 0..count {
-        found.push(bindings.target(&symbol_at(loaded, number, j)))?;
+        found.push(target_of_symbol(bindings, number, loaded, j))?;
     }
     Ok(found)
 }
@@ -69,6 +107,6 @@ pub fn target_at<'a>(
 {
     match targets.get(j) {
         Some(target) => *target,
-        None => bindings.target(&symbol_at(loaded, number, j)),
+        None => target_of_symbol(bindings, number, loaded, j),
     }
 }

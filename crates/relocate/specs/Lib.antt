@@ -1,3 +1,4 @@
+pub mod LocalUses
 pub mod Fields
 pub mod Kinds
 pub mod Patches

@@ -15,7 +15,7 @@ ghost use Rattle.relocate.specs.References.{IsObjectAt};
 ghost use Rattle.relocate.specs.Uses.{AreLinkerUses, IsUser, is_linkers, line_views, using};
 
 use crate::referrer::refers_often;
-use crate::targets::is_some_kind;
+use crate::targets::{is_local, is_some_kind};
 use elf_model::{Bound, ObjectId, Rela, SectionHeader, SymbolRef};
 use resolve::{Definition, Resolved};
 use search::{Loaded, LoadedObject};
@@ -45,6 +45,9 @@ fn is_linker_use(
     requires { IsObjectAt resolved.now number (loaded_view loaded.now) }
     ensures { result ≡ is_linker_use resolved.now (symbol_at number (loaded_view loaded.now) j) }
 {
+    if is_local(&loaded.object.symbol(j)) {
+        return false;
+    }
     is_linkers(&resolved.used(SymbolRef {
         object: ObjectId(number as u64),
         symbol: j as u64,

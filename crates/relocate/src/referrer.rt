@@ -1,18 +1,20 @@
 //! An object that refers: what a reference to each of its symbols is, found once a symbol, and read by each relocation
 //! that names it.
-ghost use Rattle.std.specs.Prelude.{◌≡◌, IfOk};
+ghost use Rattle.std.specs.Prelude.{◌≡◌, IfOk, option_map};
 ghost use Rattle.elf_model.specs.Relocation.{symbol_at};
 ghost use Rattle.search.specs.Views.{loaded_view};
 ghost use Rattle.layout.specs.Mixed.{AreMixed};
+ghost use Rattle.resolve.specs.Views.{meaning_view};
+ghost use Rattle.relocate.specs.LocalUses.{IsReferenceBy};
 ghost use Rattle.relocate.specs.References.{IsObjectAt};
 ghost use Rattle.relocate.specs.SymbolTables.{AreReferences, IsReference, IsReferrer, IsRelocated, all_of, referring};
 
 use crate::targets::{
-    definition_of, holds_frames, is_dropped, is_local, is_mixed, is_thread_local, is_undefined,
-    stands_in_unkept,
+    holds_frames, is_dropped, is_local, is_mixed, is_thread_local, is_undefined, stands_in_unkept,
+    use_of,
 };
 use elf_model::{RELA_SIZE, SHT_RELA};
-use resolve::Resolved;
+use resolve::{Definition, Resolved};
 use search::LoadedObject;
 use std::alloc::{AllocError, Global};
 use std::collections::BTreeSet;
@@ -51,6 +53,29 @@ pub struct Relocated {
     pub frames: bool,
 }
 
+/// What a reference to symbol `j` of the object that has a number is, where it uses a definition, or none.
+fn reference_by<'a>(
+    resolved: &Resolved<'a>,
+    mixed: &BTreeSet<&[u8]>,
+    _number: usize,
+    loaded: &LoadedObject<'a>,
+    j: usize,
+    definition: &Option<Definition<'a>>,
+) -> Reference
+    requires here { IsObjectAt resolved.now _number (loaded_view loaded.now) }
+    requires mixed { AreMixed resolved.now mixed.now }
+    ensures { IsReferenceBy resolved.now (symbol_at _number (loaded_view loaded.now) j) (option_map meaning_view definition.now) result }
+{
+    let entry = loaded.object.symbol(j);
+    Reference {
+        undefined: is_undefined(j, &entry, definition),
+        unkept: is_local(&entry) && stands_in_unkept(loaded, &entry),
+        dropped: is_dropped(loaded, &entry),
+        thread_local: is_thread_local(resolved, definition),
+        mixed: is_mixed(mixed, definition),
+    }
+}
+
 /// What a reference to symbol `j` of the object that has a number is.
 fn reference_to<'a>(
     resolved: &Resolved<'a>,
@@ -63,15 +88,8 @@ fn reference_to<'a>(
     requires mixed { AreMixed resolved.now mixed.now }
     ensures { IsReference resolved.now (symbol_at number (loaded_view loaded.now) j) result }
 {
-    let entry = loaded.object.symbol(j);
-    let definition = definition_of(resolved, number, loaded, j);
-    Reference {
-        undefined: is_undefined(j, &entry, &definition),
-        unkept: is_local(&entry) && stands_in_unkept(loaded, &entry),
-        dropped: is_dropped(loaded, &entry),
-        thread_local: is_thread_local(resolved, &definition),
-        mixed: is_mixed(mixed, &definition),
-    }
+    let definition = use_of(resolved, number, loaded, j);
+    reference_by(resolved, mixed, number, loaded, j, &definition)
 }
 
 /// Whether an object has more relocations than symbols, so that a row for each symbol saves work.

@@ -10,7 +10,7 @@ ghost use Rattle.relocate.specs.SymbolTables.{AreValues, IsValueOf, IsValued, al
 ghost use Rattle.relocate.specs.Values.{pointer_in, where_in};
 
 use crate::referrer::refers_often;
-use crate::targets::definition_of;
+use crate::targets::use_of;
 use crate::values::{got_or_none, size_or_none, value_or_none};
 use got_tls::Slots;
 use layout::Placement;
@@ -53,7 +53,7 @@ fn value_of_symbol<'a>(
     requires kinds { AreLawfulKinds placement.now.objects }
     ensures { IsValueOf resolved.now (where_in placement.now) (symbol_at number (loaded_view loaded.now) j) result }
 {
-    let definition = definition_of(resolved, number, loaded, j);
+    let definition = use_of(resolved, number, loaded, j);
     SymbolValue {
         value: value_or_none(placement, &definition),
         size: size_or_none(&definition),

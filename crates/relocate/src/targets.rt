@@ -13,14 +13,16 @@ ghost use Rattle.std.specs.Option.{option_map_or};
 ghost use Rattle.search.specs.Views.{loaded_view};
 ghost use Rattle.resolve.specs.Views.{meaning_view};
 ghost use Rattle.layout.specs.Mixed.{AreMixed};
+ghost use Rattle.relocate.specs.LocalUses.{AreAlike, local_use, unnamed};
 ghost use Rattle.relocate.specs.References.{IsNamedUndefined, IsObjectAt, LacksDefinition, section_in};
+ghost use Rattle.resolve.specs.Views.{symbol_view};
 
 use crate::faults::RelocFault;
 use elf_model::{
     Bound, ObjectId, Rela, SHN_UNDEF, STB_LOCAL, STB_WEAK, SectionHeader, Symbol, SymbolRef,
 };
 use elf_read::Object;
-use resolve::{Definition, Resolved, named_output};
+use resolve::{Definition, Resolved, SymbolOf, named_output};
 use search::LoadedObject;
 use std::alloc::Global;
 use std::collections::BTreeSet;
@@ -86,8 +88,50 @@ pub fn holds_frames(object: &Object<'_>, number: usize) -> bool
     section_name_at(object, number) == FRAME_SECTION
 }
 
+/// Symbol `j` of the object that has a number, without its name.
+fn unnamed_at<'a>(number: usize, loaded: &LoadedObject<'_>, j: usize) -> SymbolOf<'a>
+    ensures { symbol_view result ≡ unnamed (symbol_at number (loaded_view loaded.now) j) }
+{
+    let entry = loaded.object.symbol(j);
+    SymbolOf {
+        object: number as u64,
+        number: j as u64,
+        name: &[],
+        entry,
+        dropped: is_dropped(loaded, &entry),
+    }
+}
+
+/// What a reference to symbol `j`, which is LOCAL, of the object that has a number uses, without its name.
+fn local_use<'a>(number: usize, loaded: &LoadedObject<'_>, j: usize) -> Option<Definition<'a>>
+    ensures { option_map meaning_view result ≡ local_use (symbol_at number (loaded_view loaded.now) j) }
+{
+    let symbol = unnamed_at(number, loaded, j);
+    if symbol.entry.st_shndx == SHN_UNDEF {
+        return None;
+    }
+    Some(Definition::Symbol(symbol))
+}
+
+/// What a reference to symbol `j` of the object that has a number uses, a LOCAL symbol without its name. That means
+/// nothing to relocations, and isn't read: names that share bytes can be longer by far than the file that holds them.
+pub fn use_of<'a>(
+    resolved: &Resolved<'a>,
+    number: usize,
+    loaded: &LoadedObject<'a>,
+    j: usize,
+) -> Option<Definition<'a>>
+    requires { IsObjectAt resolved.now number (loaded_view loaded.now) }
+    ensures { AreAlike resolved.now (option_map meaning_view result) (definition_of resolved.now (symbol_at number (loaded_view loaded.now) j)) }
+{
+    if is_local(&loaded.object.symbol(j)) {
+        return local_use(number, loaded, j);
+    }
+    definition_of(resolved, number, loaded, j)
+}
+
 /// What a reference to symbol `j` of the object that has a number uses.
-pub fn definition_of<'a>(
+fn definition_of<'a>(
     resolved: &Resolved<'a>,
     number: usize,
     _loaded: &LoadedObject<'_>,

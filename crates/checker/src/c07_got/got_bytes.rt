@@ -11,7 +11,7 @@ ghost use Rattle.checker.specs.Got.{HoldsBytes, LiesInImage};
 
 use crate::bound_link::BoundLink;
 use crate::segments::same_padded;
-use check_relocs::{Bindings, symbol_at};
+use check_relocs::{Bindings, target_of_symbol};
 use elf_model::{GotLine, SlotKind, SlotLine, SlotTarget};
 use loader_model::Memory;
 use std::alloc::{AllocError, Global};
@@ -22,7 +22,7 @@ fn local_value(bindings: &Bindings<'_, '_, '_>, object: u64, symbol: u64) -> u64
     ensures { result ≡ slots.target_value bindings.now.objects bindings.now.places (OfLocal object symbol) % 2 ^ 64 }
 {
     match bindings.objects().get(object as usize) {
-        Some(loaded) => bindings.symbol_value(&symbol_at(loaded, object, symbol as usize)),
+        Some(loaded) => target_of_symbol(bindings, object, loaded, symbol as usize).value,
         None => 0,
     }
 }

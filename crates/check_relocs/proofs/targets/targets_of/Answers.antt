@@ -1,6 +1,5 @@
 use Rattle.std.proofs.Common.{◌∷◌, [], ℕ, ap, length, length-append, subst, sym, arith}
 use Rattle.elf_model.specs.Relocation.{symbol_at}
-use Rattle.elf_model.specs.Resolution.{SymbolOf}
 use Rattle.check_load.specs.Views.{loaded_view}
 use Rattle.check_relocs.specs.Bindings.{IsTargetOf}
 use Rattle.check_relocs.specs.declared.targets.Target.{Target}
@@ -13,9 +12,9 @@ loop-j-preserved c =
     let n = c.args.number in
     let o = loaded_view c.args.loaded.now in
     let old = c.loop-j.found.items in
-    let t = c.target.result in
+    let t = c.target_of_symbol.result in
     let means : ℕ → Target → Type 0 = λ j x. IsTargetOf b (symbol_at n o j) x in
-    let here = subst (λ (s : SymbolOf). IsTargetOf b s t) c.symbol_at.ensures c.target.ensures in
+    let here = c.target_of_symbol.ensures in
     let count = c.loop-j.invariant.count in
     let grown = c.in_ok-push.ensures.items in
     let more = length-append old (t ∷ []) in

@@ -1,0 +1,381 @@
+#!/usr/bin/env python3
+"""Measures the proved linker and its check on inputs that nobody writes but to hurt, each of them also doubled.
+
+    python3 bench/hostile.py [--program PROGRAM] [--runs N] [--scale F] [INPUT..]
+
+    weak          one object with a million weak symbols of one name
+    sections      65,000 sections of code in an object; doubled: two objects
+    entries       an archive with one member and an index of a million entries, half of them of a name that is needed
+    signatures    100,000 COMDAT groups of one signature, in objects of 20,000
+    locals        a million LOCAL symbols whose names are ends of one text of 100 MB
+    overlaps      a million GLOBAL symbols, ten in each text of 90 bytes: their names are ends of it
+    directories   100,000 directories (-L), all but one of them not there, and one -l
+    libraries     one directory and as many -l of one name
+    map-objects   a map of a million lines `object`, for an image of one object
+    map-slots     the same with lines `slot`
+    map-symbols   the same with lines `symbol`
+    segments      an image with 65,533 PT_LOADs, each of one page with a section of zeros; single: half of them
+
+Three more grow faster than their bytes, by what docs/BENCHMARKS.md says. They run only where they are named, are
+small, and have no limit:
+
+    local-uses    20,000 LOCAL symbols whose names are ends of one text of 2 MB, each of which a relocation uses
+    weak-ends     5,000 weak symbols without a definition whose names are ends of one text of 500 kB
+    products      400 directories, none of them there, and as many -l of names that only a last one has
+
+All but the last four of the list are linked with a map, and the link is checked. Those are only checked: their images
+and maps are made here. Times are the wall's and memory the greatest resident set, medians of the runs, in seconds and MiB; `by bytes`
+is memory by the bytes of all files that are read or written, and of the words. The last two columns are the doubled
+input's time and memory by those of the single one: linear is 2.
+
+The exit status is 1 where an answer is another one or time or memory grow more than 2.3 times, 2 without the proved
+program or GNU time.
+"""
+
+import argparse
+import os
+import resource
+import shutil
+import statistics
+import struct
+import subprocess
+import sys
+import tempfile
+import time
+from pathlib import Path
+
+import elf
+
+ROOT = Path(__file__).resolve().parent.parent
+PROVED = ROOT / "crates" / "ld" / "out" / "ld"
+GROWTH_LIMIT = 2.3
+CODE = elf.ALLOC | elf.EXEC
+DATA = elf.ALLOC | elf.WRITE
+
+# exit(0) by a system call
+EXIT = bytes.fromhex("b83c00000031ff0f05")
+
+
+class Failed(Exception):
+    """Another answer than the wanted one."""
+
+
+class Step:
+    """A run of the program: its name, its words, what it must print, with which status, and the files it reads or writes."""
+
+    def __init__(self, name, words, files, expect="", status=0):
+        self.name = name
+        self.words = [str(word) for word in words]
+        self.files = files
+        self.expect = expect
+        self.status = status
+
+
+def start(folder, undefined=()):
+    """The object of `_start`, which may name others that it lacks."""
+    made = elf.Object()
+    made.symbol("_start", made.section(".text", elf.PROGBITS, CODE, EXIT), size=9)
+    for name in undefined:
+        made.symbol(name, 0)
+    path = folder / "start.o"
+    path.write_bytes(made.bytes())
+    return path
+
+
+def link_and_check(folder, words):
+    """A link with a map, and its check."""
+    image, text = folder / "image", folder / "map"
+    files = [word for word in words if isinstance(word, Path)] + [image, text]
+    line = ["-o", image, f"-Map={text}"] + words
+    return [Step("link", line, files), Step("check", line + ["--check"], files, "yes\n")]
+
+
+class Names(elf.Object):
+    """An object whose symbols go by places in a string table that is given; each a place, section, binding, value."""
+
+    def with_places(self, table, symbols):
+        """The object file with these symbols, which are the section behind all others."""
+        number = len(self.sections) + 1
+        entries = bytearray(24)
+        entries += b"".join(struct.pack("<IBBHQQ", at, info, 0, section, value, 0) for at, info, section, value in symbols)
+        rows = self.sections + [
+            (".symtab", elf.SYMTAB, 0, bytes(entries), 8, 1, None),
+            (".strtab", elf.STRTAB, 0, table, 1, 0, None),
+        ]
+        names = elf.Strings()
+        places = [names.add(row[0]) for row in rows] + [names.add(".shstrtab")]
+        rows.append((".shstrtab", elf.STRTAB, 0, bytes(names.data), 1, 0, None))
+        return elf.file_of(rows, places, number)
+
+
+def weak_symbols(folder, count):
+    made = Names()
+    section = made.section(".text", elf.PROGBITS, CODE, b"\xc3")
+    path = folder / "weak.o"
+    path.write_bytes(made.with_places(b"\0name\0", [(1, elf.WEAK << 4, section, 0)] * count))
+    return link_and_check(folder, [start(folder), path])
+
+
+def many_sections(folder, count):
+    words = [start(folder)]
+    for first in range(0, count, 65_000):
+        made = elf.Object()
+        for k in range(first, min(first + 65_000, count)):
+            made.section(f".text.{k}", elf.PROGBITS, CODE, b"\xc3", 4)
+        words.append(folder / f"sections{first}.o")
+        words[-1].write_bytes(made.bytes())
+    return link_and_check(folder, words)
+
+
+def index_entries(folder, count):
+    """The name `needed` is asked for, and the member doesn't define it; so each of its entries stays asked for."""
+    made = elf.Object()
+    made.symbol("defined", made.section(".text", elf.PROGBITS, CODE, b"\xc3"))
+    names = [f"name{k}" for k in range(count // 2)] + ["needed"] * (count - count // 2)
+    path = folder / "libentries.a"
+    path.write_bytes(elf.archive([(names, made.bytes())]))
+    return link_and_check(folder, [start(folder), "-u", "needed", path])
+
+
+def one_signature(folder, count):
+    words = [start(folder)]
+    for first in range(0, count, 20_000):
+        made = elf.Object()
+        for _ in range(min(20_000, count - first)):
+            number = len(made.sections) + 1
+            made.section(".group", elf.GROUP, 0, struct.pack("<II", 1, number + 1), 4, 1)
+            made.section(".text.f", elf.PROGBITS, CODE | elf.IN_GROUP, b"\xc3")
+        made.symbol("signature", 2, elf.WEAK)
+        words.append(folder / f"groups{first}.o")
+        words[-1].write_bytes(made.bytes())
+    return link_and_check(folder, words)
+
+
+def ends_of_one_text(count):
+    """A string table of one text without a NUL inside, and places in it, 100 bytes apart."""
+    return b"\0" + b"x" * (100 * count) + b"\0", [1 + 100 * k for k in range(count)]
+
+
+def local_names(folder, count):
+    made = Names()
+    section = made.section(".text", elf.PROGBITS, CODE, b"\xc3")
+    table, places = ends_of_one_text(count)
+    path = folder / "locals.o"
+    path.write_bytes(made.with_places(table, [(at, 0, section, 0) for at in places]))
+    return link_and_check(folder, [start(folder), path])
+
+
+def local_uses(folder, count):
+    made = Names()
+    data = made.section(".data", elf.PROGBITS, DATA, bytes(8 * count), 8)
+    made.relocations(data, [(8 * k, elf.ABS64, 1 + k, 0) for k in range(count)])
+    table, places = ends_of_one_text(count)
+    path = folder / "uses.o"
+    path.write_bytes(made.with_places(table, [(at, 0, data, 0) for at in places]))
+    return link_and_check(folder, [start(folder), path])
+
+
+def weak_ends(folder, count):
+    made = Names()
+    made.section(".text", elf.PROGBITS, CODE, b"\xc3")
+    table, places = ends_of_one_text(count)
+    path = folder / "ends.o"
+    path.write_bytes(made.with_places(table, [(at, elf.WEAK << 4, 0, 0) for at in places]))
+    return link_and_check(folder, [start(folder), path])
+
+
+def overlapping_names(folder, count):
+    made = Names()
+    section = made.section(".text", elf.PROGBITS, CODE, b"\xc3")
+    table, symbols = bytearray(b"\0"), []
+    for k in range(count // 10):
+        symbols += [(len(table) + 8 * end, elf.GLOBAL << 4, section, 0) for end in range(10)]
+        table += b"x" * 78 + f"_{k:010}\0".encode()
+    path = folder / "overlaps.o"
+    path.write_bytes(made.with_places(bytes(table), symbols))
+    return link_and_check(folder, [start(folder), path])
+
+
+def empty_archive(folder):
+    path = folder / "libe.a"
+    path.write_bytes(b"!<arch>\n")
+    return path
+
+
+def many_directories(folder, count):
+    empty_archive(folder)
+    words = [start(folder)] + [f"-L{k:x}" for k in range(count - 1)] + [f"-L{folder}", "-le"]
+    return link_and_check(folder, words)
+
+
+def many_libraries(folder, count):
+    empty_archive(folder)
+    return link_and_check(folder, [start(folder), f"-L{folder}"] + ["-le"] * count)
+
+
+def products(folder, count):
+    for k in range(count):
+        (folder / f"libe{k:x}.a").write_bytes(b"!<arch>\n")
+    words = [start(folder)] + [f"-L{k:x}" for k in range(count - 1)] + [f"-L{folder}"]
+    return link_and_check(folder, words + [f"-le{k:x}" for k in range(count)])
+
+
+def image_of(headers, size):
+    """The beginning of an image with these program headers, entered at 0x401000."""
+    header = b"\x7fELF\x02\x01\x01" + bytes(9)
+    header += struct.pack("<HHIQQQIHHHHHH", 2, 62, 1, 0x401000, 64, 0, 0, 64, 56, len(headers), 64, 0, 0)
+    made = header + b"".join(headers)
+    return made + bytes(size - len(made))
+
+
+def load_header(rights, at, in_file, in_memory):
+    return struct.pack("<IIQQQQQQ", 1, rights, at - 0x400000, at, at, in_file, in_memory, 4096)
+
+
+STACK = struct.pack("<II", 0x6474E551, 6) + bytes(48)
+PLACE = "place 0000000000401000 9 0 1 .text\n"
+SYMBOL = "symbol 0000000000401000 strong 0 1 _start\n"
+
+
+def check_of_map(folder, count, before, line, behind, clause):
+    """A check of the image of one object with a map that has a million further lines."""
+    image, text = folder / "image", folder / "map"
+    headers = [load_header(4, 0x400000, 232, 232), load_header(5, 0x401000, 9, 9), STACK]
+    image.write_bytes(image_of(headers, 0x1000) + EXIT)
+    lines = "".join(line(k) for k in range(count))
+    path = start(folder)
+    text.write_text(f"ldmap 2\nobject 0 0 0 {path}\n{before}{lines}{behind}end\n")
+    words = ["-s", "-o", image, f"-Map={text}", "--check", path]
+    return [Step("check", words, [path, image, text], f"no C{clause}\n", 1)]
+
+
+def map_of_objects(folder, count):
+    return check_of_map(folder, count, "", lambda k: f"object {k + 1} 0 0 a.o\n", PLACE + SYMBOL, 2)
+
+
+def map_of_slots(folder, count):
+    return check_of_map(folder, count, PLACE, lambda k: f"slot {0x403000 + 8 * k:016x} value name n\n", SYMBOL, 7)
+
+
+def map_of_symbols(folder, count):
+    return check_of_map(folder, count, PLACE, lambda k: f"symbol {0x401000:016x} strong 0 1 Z{k:08}\n", SYMBOL, 13)
+
+
+def many_segments(folder, count):
+    """An object of sections of zeros that stand a page apart, each in a PT_LOAD of its own, of which a file has no byte."""
+    made = elf.Object()
+    made.symbol("_start", made.section(".text", elf.PROGBITS, CODE, EXIT))
+    for _ in range(count):
+        made.section(".bss", elf.NOBITS, DATA, b"", 4096, size=1)
+    path, image, text = folder / "zeros.o", folder / "image", folder / "map"
+    path.write_bytes(made.bytes())
+    size = 64 + 56 * (count + 3)
+    code = 0x400000 + (size + 4095) // 4096 * 4096
+    zeros = [code + 4096 * (k + 1) for k in range(count)]
+    headers = [load_header(4, 0x400000, size, size), load_header(5, code, 9, 9)]
+    headers += [load_header(6, at, 0, 1) for at in zeros] + [STACK]
+    begin = image_of(headers, code - 0x400000)
+    image.write_bytes(begin[:24] + struct.pack("<Q", code) + begin[32:] + EXIT)
+    places = "".join(f"place {at:016x} 1 0 {k + 2} .bss\n" for k, at in enumerate(zeros))
+    text.write_text(
+        f"ldmap 2\nobject 0 0 0 {path}\nplace {code:016x} 9 0 1 .text\n{places}symbol {code:016x} strong 0 1 _start\nend\n"
+    )
+    words = ["-s", "-o", image, f"-Map={text}", "--check", path]
+    return [Step("check", words, [path, image, text], "yes\n")]
+
+
+INPUTS = {
+    "weak": (weak_symbols, 1_000_000),
+    "sections": (many_sections, 65_000),
+    "entries": (index_entries, 1_000_000),
+    "signatures": (one_signature, 100_000),
+    "locals": (local_names, 1_000_000),
+    "overlaps": (overlapping_names, 1_000_000),
+    "directories": (many_directories, 100_000),
+    "libraries": (many_libraries, 100_000),
+    "map-objects": (map_of_objects, 1_000_000),
+    "map-slots": (map_of_slots, 1_000_000),
+    "map-symbols": (map_of_symbols, 1_000_000),
+    "segments": (many_segments, 32_600),
+}
+
+NOT_LINEAR = {
+    "local-uses": (local_uses, 20_000),
+    "weak-ends": (weak_ends, 5_000),
+    "products": (products, 400),
+}
+
+
+def measured(program, step):
+    """Runs a step: seconds and KiB. GNU time stands between, since a child of this process would count this one's memory."""
+    with tempfile.NamedTemporaryFile("r") as usage:
+        words = [shutil.which("time"), "-q", "-f", "%M", "-o", usage.name, str(program)] + step.words
+        begin = time.perf_counter()
+        run = subprocess.run(words, stdout=subprocess.PIPE, stderr=subprocess.STDOUT, text=True, check=False)
+        seconds = time.perf_counter() - begin
+        kib = usage.read().split()[-1]
+    if run.returncode != step.status or run.stdout != step.expect:
+        raise Failed(f"{step.name}: status {run.returncode}: {run.stdout[:500].strip()}")
+    return seconds, int(kib)
+
+
+def medians(program, steps, runs):
+    """The medians of seconds and KiB of each step, and its bytes, by its name."""
+    results = {}
+    for step in steps:
+        rows = [measured(program, step) for _ in range(runs)]
+        size = sum(file.stat().st_size for file in step.files) + sum(len(word) + 1 for word in step.words)
+        results[step.name] = (statistics.median(row[0] for row in rows), statistics.median(row[1] for row in rows), size)
+    return results
+
+
+def print_rows(name, count, results, single):
+    """Prints a line for each step, with its growth where there is a single input. Whether all stay within the limit."""
+    within = True
+    for step, (seconds, kib, size) in results.items():
+        line = f"{name:<13}{count:>11,}  {step:<7}{size / 1e6:>9.1f}{seconds:>9.2f}{kib / 1024:>9.1f}{1024 * kib / size:>9.2f}"
+        if single:
+            ratios = [seconds / single[step][0], kib / single[step][1]]
+            line += "".join(f"{ratio:>8.2f}" for ratio in ratios)
+            within = within and all(ratio <= GROWTH_LIMIT for ratio in ratios)
+        print(line, flush=True)
+    return within
+
+
+def measure(program, name, scale, runs):
+    """Measures an input and its double. Whether both stay within the limit."""
+    make, count = (INPUTS | NOT_LINEAR)[name]
+    single, within = None, True
+    for number in (int(count * scale), 2 * int(count * scale)):
+        with tempfile.TemporaryDirectory(prefix="hurt-") as place:
+            results = medians(program, make(Path(place), number), runs)
+        within = print_rows(name, number, results, single) and within or name in NOT_LINEAR
+        single = results
+    return within
+
+
+def main():
+    parser = argparse.ArgumentParser(description="Measures the proved linker on inputs that hurt.")
+    parser.add_argument("--program", type=Path, default=PROVED)
+    parser.add_argument("--runs", type=int, default=3)
+    parser.add_argument("--scale", type=float, default=1.0)
+    parser.add_argument("inputs", nargs="*", choices=[[], *INPUTS, *NOT_LINEAR])
+    asked = parser.parse_args()
+    if not shutil.which("time") or not os.access(asked.program, os.X_OK):
+        print(f"needs GNU time, and {asked.program}: cd crates/ld && rt run", file=sys.stderr)
+        return 2
+    # Room for the words: a fourth of the stack's limit.
+    resource.setrlimit(resource.RLIMIT_STACK, (64 << 20, resource.getrlimit(resource.RLIMIT_STACK)[1]))
+    print(f"{'input':<13}{'count':>11}  {'step':<7}{'MB':>9}{'seconds':>9}{'MiB':>9}{'by bytes':>9}{'time':>8}{'memory':>8}")
+    within = True
+    for name in asked.inputs or INPUTS:
+        try:
+            within = measure(asked.program.resolve(), name, asked.scale, asked.runs) and within
+        except Failed as failure:
+            print(f"{name}: {failure}", flush=True)
+            within = False
+    return 0 if within else 1
+
+
+if __name__ == "__main__":
+    sys.exit(main())

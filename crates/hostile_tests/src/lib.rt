@@ -1,0 +1,14 @@
+//! Tests of hostile input: files, images and maps that are cut off, or that are changed in one place, and numbers at
+//! which a sum or a product would wrap.
+#![tactic(auto)]
+
+#[cfg(test)]
+mod images;
+#[cfg(test)]
+mod inputs;
+#[cfg(test)]
+mod maps;
+#[cfg(test)]
+mod numbers;
+#[cfg(test)]
+mod samples;
