@@ -70,10 +70,25 @@ gives '[--whole-archive][x.a][--no-whole-archive][y.a]' --push-state --whole-arc
 gives '[a.o]' -plugin p -plugin-opt=q --build-id --hash-style=gnu --as-needed --eh-frame-hdr -z now -zrelro --gc-sections a.o
 gives '[a.o]' -O1 --sort-section name --fatal-warnings --warn-common -x -rpath /d --no-relax a.o
 gives '[a.o]' -dynamic-linker /lib/l.so a.o -static
+printf '!<arch>\n' >none.a
+gives '[a.o][y.a]' a.o none.a y.a
 case $("$driver" core.rlib) in
 "[/"*"/core.rlib.a]") compare yes yes ;;
 *) compare '[../core.rlib.a]' "$("$driver" core.rlib)" ;;
 esac
+
+if command -v ar >/dev/null; then
+    mkdir thin
+    printf 'one' >'thin/a 1'
+    printf 'two' >thin/b
+    ar rcT thin.a 'thin/a 1' thin/b
+    cat >"$work/members" <<'END'
+#!/bin/sh
+ar p "$1"
+END
+    chmod +x "$work/members"
+    compare onetwo "$(LD_PROGRAM="$work/members" "$driver" thin.a)"
+fi
 
 refuses '-shared: no shared object is made here' -shared a.o
 refuses '-pie: the image stands at fixed addresses; give the compiler -static -no-pie' a.o -pie
