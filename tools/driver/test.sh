@@ -90,6 +90,27 @@ END
     compare onetwo "$(LD_PROGRAM="$work/members" "$driver" thin.a)"
 fi
 
+# A linker whose check says what the file `says` has, and whose image is the file `image`.
+cat >checking <<'END'
+#!/bin/sh
+for word do :; done
+if [ "$word" = --check ]; then
+    cat says
+    grep -q yes says
+else
+    echo image >image
+fi
+END
+chmod +x checking
+echo yes >says
+compare 'image' "$(LD_CHECK=1 LD_PROGRAM=./checking "$driver" -o image a.o 2>&1 && cat image)"
+echo 'no C10' >says
+compare 'ld: the check of image says: no C10, 1, gone' "$(
+    status=0
+    told=$(LD_CHECK=1 LD_PROGRAM=./checking "$driver" -o image a.o 2>&1) || status=$?
+    echo "$told, $status, $([ -e image ] || echo gone)"
+)"
+
 refuses '-shared: no shared object is made here' -shared a.o
 refuses '-pie: the image stands at fixed addresses; give the compiler -static -no-pie' a.o -pie
 refuses '-dynamic-linker /lib/l.so: only static images are made; give the compiler -static -no-pie' -dynamic-linker /lib/l.so a.o
