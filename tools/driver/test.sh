@@ -46,6 +46,7 @@ refuses() {
 mkdir "d ir" lib
 printf '\177ELF' >"d ir/q'r.o"
 printf '!<arch>\nmember' >"d ir/x y.a"
+cp "d ir/x y.a" "d ir/libx y.a"
 cp "d ir/x y.a" core.rlib
 printf '!<arch>\n' >empty.o
 printf '%s' '-o "a b" '"'c d.o'"' e\ f.o "g'"'"'h.o" @inner' >words
@@ -110,6 +111,11 @@ compare 'ld: the check of image says: no C10, 1, gone' "$(
     told=$(LD_CHECK=1 LD_PROGRAM=./checking "$driver" -o image a.o 2>&1) || status=$?
     echo "$told, $status, $([ -e image ] || echo gone)"
 )"
+
+printf '#!/bin/sh\nexit 3\n' >absent
+chmod +x absent
+compare 'ld: -lz: no directory of -L has libz.a
+ld: b.o: there is no such file' "$(LD_PROGRAM=./absent "$driver" -o c.o says '-lx y' -lz b.o -Llib "-Ld ir" 2>&1)"
 
 refuses '-shared: no shared object is made here' -shared a.o
 refuses '-pie: the image stands at fixed addresses; give the compiler -static -no-pie' a.o -pie

@@ -176,7 +176,10 @@ def bare(link: Skeleton, image: elf.Image) -> bytes:
 
 def judge(image_path: str, peer_path: str, words: List[str], folder: Path) -> int:
     link = skeleton(words)
-    image = elf.Image(Path(image_path).read_bytes())
+    data = Path(image_path).read_bytes()
+    if not data.startswith(b"\x7fELF\x02\x01"):
+        sys.exit(f"judge.py: {image_path} is no ELF-64 image")
+    image = elf.Image(data)
     put_places(link, peers.read(Path(peer_path).read_text(errors="surrogateescape")))
     places = by_numbers(link)
     put_commons(link, image)
@@ -203,4 +206,9 @@ def main() -> int:
 
 
 if __name__ == "__main__":
-    sys.exit(main())
+    try:
+        sys.exit(main())
+    except OSError as error:
+        sys.exit(f"judge.py: {error}")
+    except (struct.error, IndexError, ValueError) as error:
+        sys.exit(f"judge.py: the image or the map can't be read: {error}")

@@ -15,6 +15,7 @@ others, where they aren't ld.lld and ld.bfd.
 
 import os
 import re
+import shutil
 import struct
 import subprocess
 import sys
@@ -76,6 +77,8 @@ def link_by(peer: str, words: List[str]) -> int:
     image, shown = value_of(words, "-o", "a.out"), value_of(words, "-Map=", "")
     if not shown:
         sys.exit("link.py: -Map= is missing")
+    if not shutil.which(PEERS[peer][0]):
+        sys.exit(f"link.py: {PEERS[peer][0]} is not on PATH")
     link = skeleton(words)
     with tempfile.TemporaryDirectory() as name:
         script, objects = Path(name) / "script", Path(name) / "objects"

@@ -34,7 +34,7 @@ class Skeleton(NamedTuple):
 def run(words: List[str]) -> "subprocess.CompletedProcess[str]":
     """Runs `ld`."""
     if not os.access(PROGRAM, os.X_OK):
-        sys.exit(f"No proved linker stands at {PROGRAM}. To get it: cd crates/ld && rt run")
+        sys.exit(f"There is no linker at {PROGRAM}. To get the proved one: cd crates/ld && rt run")
     return subprocess.run([PROGRAM] + words, stdout=subprocess.PIPE, text=True, check=False)
 
 
