@@ -11,6 +11,7 @@ if [ -x "$kept/ld" ] && [ "$(cat "$kept/sum")" = "$sum" ]; then
     exit 0
 fi
 
+echo "It is compiled now, which takes a minute or two, and kept for the other examples."
 work=$(mktemp -d)
 trap 'rm -rf "$work"' EXIT
 trap 'exit 1' HUP INT TERM
@@ -29,7 +30,7 @@ run=$!
 copy=$!
 wait "$run" || true
 kill "$copy" 2>/dev/null || true
-wait "$copy" || true
+wait "$copy" 2>/dev/null || true
 if ! [ -x "$work/ld" ] || ! "$work/ld" --check x.o 2>&1 | grep -q 'MissingValue (3)'; then
     cat "$work/said" >&2
     echo "The unproved program could not be kept." >&2
