@@ -17,6 +17,7 @@ number() {
     width=$1
     value=$2
     while [ "$width" -gt 0 ]; do
+        # shellcheck disable=SC2059
         printf "\\$(printf '%03o' "$((value % 256))")"
         value=$((value / 256))
         width=$((width - 1))

@@ -6,6 +6,9 @@
 #
 # The linker is the proved program crates/ld/out/ld, where it stands. Else it is the unproved one, which `rt try`
 # compiles and unproved_linker.sh keeps.
+
+# Lists of words are parted at spaces.
+# shellcheck disable=SC2086
 set -eu
 
 root=$(cd "$(dirname "$0")/.." && pwd)

@@ -1,5 +1,6 @@
 # Says which linker the examples run, and sets `linker` to its path; sourced by them, which set `root`.
 # shellcheck shell=sh
+# shellcheck disable=SC2154
 linker=$root/crates/ld/out/ld
 if [ -x "$linker" ]; then
     echo "The linker is the proved program crates/ld/out/ld."
