@@ -2,13 +2,12 @@
 # A first link: makes the object file a.o, links it, prints the link map, checks the image and the map, and
 # runs the image. All files stand in a temporary directory, which goes away at the end.
 #
-# The linker is the proved program crates/ld/out/ld, where it stands. Else it is run by `rt try`, which
-# compiles it and proves nothing. `rt ci` at the top of the repository proves everything and leaves the proved
+# The linker is the proved program crates/ld/out/ld, where it stands. Else it is the unproved one, which `rt try`
+# compiles and unproved_linker.sh keeps. `rt ci` at the top of the repository proves everything and leaves the proved
 # program; `cd crates/ld && rt run` proves and builds just what the program stands on.
 set -eu
 
 root=$(cd "$(dirname "$0")/.." && pwd)
-proved=$root/crates/ld/out/ld
 work=$(mktemp -d)
 trap 'rm -rf "$work"' EXIT
 trap 'exit 1' HUP INT TERM
@@ -18,6 +17,7 @@ number() {
     width=$1
     value=$2
     while [ "$width" -gt 0 ]; do
+        # shellcheck disable=SC2059
         printf "\\$(printf '%03o' "$((value % 256))")"
         value=$((value / 256))
         width=$((width - 1))
@@ -83,14 +83,9 @@ object() {
     section 23 3 0 136 33 0 0 1 0
 }
 
-# Runs the linker with the words -o a.out -Map=a.map a.o, and before the last with those of the call. `rt try`
-# runs it in a folder of its own with a copy of a.o, so there the other two have their whole paths.
+# Runs the linker with the words -o a.out -Map=a.map a.o, and before the last with those of the call.
 ld() {
-    if [ -x "$proved" ]; then
-        (cd "$work" && "$proved" -o a.out -Map=a.map "$@" a.o)
-    else
-        (cd "$root/crates/ld" && rt try --data "a.o=$work/a.o" -- -o "$work/a.out" "-Map=$work/a.map" "$@" a.o)
-    fi
+    (cd "$work" && "$linker" -o a.out -Map=a.map "$@" a.o)
 }
 
 . "$root/examples/which_linker.sh"

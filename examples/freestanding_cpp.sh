@@ -4,13 +4,15 @@
 # the map, runs the image, and compares what it prints with what is expected and with what GNU ld's image prints. It
 # needs g++, as and GNU ld for x86-64. All files stand in a temporary directory, which goes away at the end.
 #
-# The linker is the proved program crates/ld/out/ld, where it stands. Else it is run by `rt try`, which compiles it and
-# proves nothing.
+# The linker is the proved program crates/ld/out/ld, where it stands. Else it is the unproved one, which `rt try`
+# compiles and unproved_linker.sh keeps.
+
+# Lists of words are parted at spaces.
+# shellcheck disable=SC2086
 set -eu
 
 root=$(cd "$(dirname "$0")/.." && pwd)
 sources=$root/examples/freestanding_cpp
-proved=$root/crates/ld/out/ld
 work=$(mktemp -d)
 trap 'rm -rf "$work"' EXIT
 trap 'exit 1' HUP INT TERM
@@ -22,15 +24,7 @@ flags="-c -O1 -ffreestanding -fno-pie -fno-stack-protector -fno-exceptions -fno-
 
 # Runs the linker with the words -o a.out -Map=a.map and those of the line, and before these with those of the call.
 ld() {
-    if [ -x "$proved" ]; then
-        (cd "$work" && "$proved" -o a.out -Map=a.map "$@" $words)
-    else
-        copies=
-        for file in $words; do
-            copies="$copies --data $file=$work/$file"
-        done
-        (cd "$root/crates/ld" && rt try $copies -- -o "$work/a.out" "-Map=$work/a.map" "$@" $words)
-    fi
+    (cd "$work" && "$linker" -o a.out -Map=a.map "$@" $words)
 }
 
 . "$root/examples/which_linker.sh"

@@ -5,14 +5,16 @@
 # status with what is expected. It needs gcc, g++, as and ar for x86-64. All files stand in a temporary directory,
 # which goes away at the end.
 #
-# The linker is the proved program crates/ld/out/ld, where it stands. Else it is run by `rt try`, which
-# compiles it and proves nothing. `rt ci` at the top of the repository proves everything and leaves the proved
+# The linker is the proved program crates/ld/out/ld, where it stands. Else it is the unproved one, which `rt try`
+# compiles and unproved_linker.sh keeps. `rt ci` at the top of the repository proves everything and leaves the proved
 # program; `cd crates/ld && rt run` proves and builds just what the program stands on.
+
+# Lists of words are parted at spaces.
+# shellcheck disable=SC2086
 set -eu
 
 root=$(cd "$(dirname "$0")/.." && pwd)
 sources=$root/examples/static_library
-proved=$root/crates/ld/out/ld
 work=$(mktemp -d)
 trap 'rm -rf "$work"' EXIT
 trap 'exit 1' HUP INT TERM
@@ -36,17 +38,8 @@ compile_cpp() {
 }
 
 # Runs the linker with the words -o a.out -Map=a.map and those of the line, and before these with those of the call.
-# `rt try` runs it in a folder of its own with copies of the files, so there the other two have their whole paths.
 ld() {
-    if [ -x "$proved" ]; then
-        (cd "$work" && "$proved" -o a.out -Map=a.map "$@" $words)
-    else
-        copies=
-        for file in start.o run.o libshapes.a libtext.a; do
-            copies="$copies --data $file=$work/$file"
-        done
-        (cd "$root/crates/ld" && rt try $copies -- -o "$work/a.out" "-Map=$work/a.map" "$@" $words)
-    fi
+    (cd "$work" && "$linker" -o a.out -Map=a.map "$@" $words)
 }
 
 . "$root/examples/which_linker.sh"

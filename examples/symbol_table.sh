@@ -8,13 +8,15 @@
 # where another tool is missing it says so and goes on. All files stand in a temporary directory, which goes away at
 # the end.
 #
-# The linker is the proved program crates/ld/out/ld, where it stands. Else it is run by `rt try`, which compiles it and
-# proves nothing.
+# The linker is the proved program crates/ld/out/ld, where it stands. Else it is the unproved one, which `rt try`
+# compiles and unproved_linker.sh keeps.
+
+# Lists of words are parted at spaces.
+# shellcheck disable=SC2086
 set -eu
 
 root=$(cd "$(dirname "$0")/.." && pwd)
 source=$root/examples/symbol_table/names.c
-proved=$root/crates/ld/out/ld
 work=$(mktemp -d)
 trap 'rm -rf "$work"' EXIT
 trap 'exit 1' HUP INT TERM
@@ -39,15 +41,7 @@ words="crt1.o crti.o names.o libc.a crtn.o"
 
 # Runs the linker with the words -o a.out -Map=a.map and those of the line, and before these with those of the call.
 ld() {
-    if [ -x "$proved" ]; then
-        (cd "$work" && "$proved" -o a.out -Map=a.map "$@" $words)
-    else
-        copies=
-        for file in $words; do
-            copies="$copies --data $file=$work/$file"
-        done
-        (cd "$root/crates/ld" && rt try $copies -- -o "$work/a.out" "-Map=$work/a.map" "$@" $words)
-    fi
+    (cd "$work" && "$linker" -o a.out -Map=a.map "$@" $words)
 }
 
 # fails TEXT: says what is not as expected, and ends.

@@ -1,0 +1,74 @@
+"""What `ld` itself makes of the words: which objects are loaded, and its map. The judge puts another linker's addresses
+into this map."""
+
+import os
+import subprocess
+import sys
+import tempfile
+from pathlib import Path
+from typing import List, NamedTuple, Tuple
+
+import elf
+import linkmap
+
+ROOT = Path(__file__).resolve().parent.parent.parent
+PROGRAM = os.environ.get("LD_PROGRAM", str(ROOT / "crates" / "ld" / "out" / "ld"))
+
+
+class Skeleton(NamedTuple):
+    """The map, and of each object of it its contents and its label: PATH, or PATH(MEMBER) as other linkers' maps have it."""
+
+    map: linkmap.LinkMap
+    objects: List[elf.Object]
+    labels: List[str]
+
+    def section(self, place: linkmap.Place) -> elf.Section:
+        """The section header of a piece."""
+        return self.objects[place.owner].sections[place.section]
+
+    def named(self, place: linkmap.Place) -> str:
+        """A piece by its object's label and its name."""
+        return f"{self.labels[place.owner]}:({self.section(place).name})"
+
+
+def run(words: List[str]) -> "subprocess.CompletedProcess[str]":
+    """Runs `ld`."""
+    if not os.access(PROGRAM, os.X_OK):
+        sys.exit(f"There is no linker at {PROGRAM}. To get the proved one: cd crates/ld && rt run")
+    return subprocess.run([PROGRAM] + words, stdout=subprocess.PIPE, text=True, check=False)
+
+
+def opened(loaded: linkmap.Loaded) -> Tuple[str, elf.Object]:
+    """Label and contents of an object of a map."""
+    data = Path(loaded.path).read_bytes()
+    if not data.startswith(b"!<arch>\n"):
+        return loaded.path, elf.Object(data)
+    name, inner = elf.member(data, loaded.offset)
+    return f"{loaded.path}({name})", elf.Object(inner)
+
+
+def skeleton(words: List[str]) -> Skeleton:
+    """Links the words by `ld`, without a symbol table, and opens what was loaded. Ends where the words are refused."""
+    with tempfile.TemporaryDirectory() as folder:
+        text = Path(folder) / "map"
+        made = run(words + ["-s", "-o", f"{folder}/image", f"-Map={text}"])
+        if made.returncode != 0:
+            sys.exit(made.returncode)
+        found = linkmap.read(text.read_text())
+    both = [opened(loaded) for loaded in found.objects]
+    return Skeleton(found, [it for _, it in both], [label for label, _ in both])
+
+
+def value_of(words: List[str], short: str, default: str) -> str:
+    """The value of -e or -Ttext-segment= among words; the last one counts."""
+    found = default
+    for word, after in zip(words, words[1:] + [""]):
+        if word == short:
+            found = after
+        elif short.endswith("=") and word.startswith(short):
+            found = word[len(short) :]
+    return found
+
+
+def base_of(words: List[str]) -> int:
+    return int(value_of(words, "-Ttext-segment=", "0x400000"), 16)
