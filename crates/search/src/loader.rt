@@ -207,10 +207,8 @@ impl<'p, 'a, T: NameTable<'a>> Loader<'p, 'a, T> {
         ensures grows { OnOk result (Begins self.old.names.requested self.new.names.requested) }
         ensures fault { IfErr result (FailsAt bytes.now) }
     {
-        self.reached = Some(Reached {
-            path: item.path,
-            offset,
-        });
+        let path = item.path;
+        self.reached = Some(Reached { path, offset });
         let object = read_object(alloc, bytes)?;
         let dropped = match self.groups.admit(&object) {
             Ok(dropped) => dropped,
