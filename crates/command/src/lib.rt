@@ -26,4 +26,4 @@ mod plan_reader;
 pub use elf_model::CmdFault;
 pub use items::{Item, Plan, Source};
 pub use paths::{candidates, library_path};
-pub use plan_reader::read_words;
+pub use plan_reader::{read_words, refused_word};

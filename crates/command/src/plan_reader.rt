@@ -127,8 +127,12 @@ fn finish(plan: Plan<'_>, place: Place) -> Result<Plan<'_>, CmdFault>
     Ok(plan)
 }
 
-/// Takes in the phrases of a command's words, from left to right.
-fn read_phrases<'a>(alloc: Global, words: &'a [String]) -> Result<(Plan<'a>, Place), CmdFault>
+/// Takes in the phrases of a command's words, from left to right; `at` is the number of the word that it has come to.
+fn read_phrases<'a>(
+    alloc: Global,
+    words: &'a [String],
+    at: &mut usize,
+) -> Result<(Plan<'a>, Place), CmdFault>
     ensures plan { IfOk result (λ r. command_of (words_of words.entry.now) ≡ finish (state_of r.0 r.1)) }
     ensures fault { IfErr result (IsRefusal (words_of words.entry.now)) }
 {
@@ -140,6 +144,7 @@ fn read_phrases<'a>(alloc: Global, words: &'a [String]) -> Result<(Plan<'a>, Pla
     };
     let mut rest = words;
     'phrases: while let Some((word, behind)) = rest.split_first() {
+        *at = words.len().saturating_sub(rest.len());
         let (phrase, after) = phrase_at(word.as_str(), behind)?;
         accept(&mut plan, &mut place, phrase)?;
         rest = after;
@@ -160,6 +165,16 @@ pub fn read_words<'a>(alloc: Global, words: &'a [String]) -> Result<Plan<'a>, Cm
     ensures base { IfOk result (λ p. IsBase p.base) }
     ensures named { IfOk result IsNamed }
 {
-    let (plan, place) = read_phrases(alloc, words)?;
+    let mut at = 0;
+    let (plan, place) = read_phrases(alloc, words, &mut at)?;
     finish(plan, place)
+}
+
+/// The number of the word, from 0, at which a command's words are refused; None where all of them together are, or none is.
+pub fn refused_word(alloc: Global, words: &[String]) -> Option<usize> {
+    let mut at = 0;
+    match read_phrases(alloc, words, &mut at) {
+        Ok(_) => None,
+        Err(_) => Some(at),
+    }
 }

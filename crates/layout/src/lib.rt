@@ -24,4 +24,4 @@ pub use mixed_outputs::mixed_names;
 pub use pieces::Piece;
 pub use placement::{Placement, place};
 pub use runs::Place;
-pub use section_kinds::kinds;
+pub use section_kinds::{is_lawful_if_kept, kinds};

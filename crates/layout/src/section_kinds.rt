@@ -43,7 +43,7 @@ fn is_lawful_kind(header: &SectionHeader) -> bool
 }
 
 /// Whether section `i` of an object, which has the header, is lawful where it is kept.
-fn is_lawful_if_kept(loaded: &LoadedObject<'_>, i: usize, header: &SectionHeader) -> bool
+pub fn is_lawful_if_kept(loaded: &LoadedObject<'_>, i: usize, header: &SectionHeader) -> bool
     ensures { IsTrue result ↔ IsLawfulIfKept (loaded_view loaded.now) i header.now }
 {
     !loaded.is_kept(i, header) || is_lawful_kind(header)

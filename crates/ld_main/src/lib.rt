@@ -23,3 +23,4 @@ pub use image_write::{Linkage, Sink, SinkFault, WriteFault, image, write_image};
 pub use output::{Output, link};
 pub use phases::{link_map, prepare, prepare_in};
 pub use program::run_ld;
+pub use real_files::RealFiles;

@@ -1,14 +1,16 @@
 -- What is asked of relocations, and why they are refused.
-use Rattle.std.specs.Prelude.{◌≡◌, ◌≢◌, ℕ, cond, List, Option, None, Some, All, AllPairs, Any}
+use Rattle.std.specs.Prelude.{◌≡◌, ◌≢◌, ℕ, cond, List, Option, None, Some, IsSome, All, AllPairs, Any}
 use Rattle.std.specs.List.{slice_get}
 use Rattle.elf_model.specs.Causes.{IsToDropped, IsToMixed, IsUndefinedName}
 use Rattle.elf_model.specs.Loading.{LoadedObject}
 use Rattle.elf_model.specs.ObjectFile.{sections}
 use Rattle.elf_model.specs.Meaning.{Meaning}
-use Rattle.elf_model.specs.Relocation.{AreFieldsApart, IsFieldInside, IsLawfulRelocation, IsThreadMismatch, Relocation, relocation_kind, relocations}
+use Rattle.elf_model.specs.Relocation.{AreFieldsApart, IsFieldInside, IsLawfulRelocation, IsThreadMismatch, IsUndefined, Relocation, relocation_kind, relocations}
 use Rattle.elf_model.specs.Resolution.{binding, is_undefined}
 use Rattle.relocate.specs.declared.faults.RelocFault.{RelocFault}
 use Rattle.relocate.specs.declared.faults.RelocFault.TheVariants as error
+use Rattle.relocate.specs.declared.faults.RelocationFault.{RelocationFault}
+use Rattle.relocate.specs.declared.faults.RelocationFault.TheVariants as wrong
 use Rattle.elf_model.specs.declared.constants.TheConstants.{STB_WEAK}
 use Rattle.elf_model.specs.declared.records.SectionHeader.{SectionHeader}
 use Rattle.elf_model.specs.declared.records.Symbol.{Symbol}
@@ -35,6 +37,15 @@ abbrev pub IsNamedUndefined : List ℕ → RelocFault → Type 0
 IsNamedUndefined name error.Memory = Unit {0}
 IsNamedUndefined name (error.Undefined n) = n.items ≡ name
 IsNamedUndefined name _ = ⊥
+
+-- what is wrong with one relocation
+abbrev pub IsUnlawful : List LoadedObject → Relocation → RelocationFault → Type 0
+IsUnlawful objects r wrong.Undefined = IsSome (relocation_kind r) × IsUndefined objects r.symbol
+IsUnlawful objects r wrong.RefToDropped = IsToDropped objects r
+IsUnlawful objects r wrong.RelocKind = relocation_kind r ≡ None
+IsUnlawful objects r wrong.FieldOutside = ¬ IsFieldInside r
+IsUnlawful objects r wrong.TlsMismatch = IsThreadMismatch objects r
+IsUnlawful objects r wrong.MixedSection = IsToMixed objects r
 
 -- why one relocation isn't lawful
 abbrev pub RelocationFails : List LoadedObject → Relocation → RelocFault → Type 0

@@ -28,6 +28,23 @@ pub enum RelocFault {
     MixedSection,
 }
 
+/// What is wrong with one relocation.
+#[derive(Clone, Copy, Debug, PartialEq, Eq)]
+pub enum RelocationFault {
+    /// Its symbol has no definition, and needs one.
+    Undefined,
+    /// It names a LOCAL symbol of a section that isn't kept.
+    RefToDropped,
+    /// Its type is no kind.
+    RelocKind,
+    /// Its field isn't inside its section.
+    FieldOutside,
+    /// Its kind isn't for what its symbol is, of thread-local storage or not.
+    TlsMismatch,
+    /// It uses a bound of an output name of several output sections.
+    MixedSection,
+}
+
 impl From<AllocError> for RelocFault {
     ghost from_gives = { λ _ fault. fault ≡ reloc_fault.Memory };
 

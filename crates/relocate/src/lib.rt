@@ -22,10 +22,16 @@ mod targets;
 mod thread_pointer;
 mod values;
 
-pub use faults::RelocFault;
+pub use faults::{RelocFault, RelocationFault};
 pub use kinds::{Formula, Kind, Range, Terms, fits, value};
+pub use lawful_fields::lawful_kind;
 pub use lawful_relocations::references;
 pub use linker_uses::linker_lines;
 pub use patch_rows::patches;
 pub use patch_table::{Patches, apply, apply_part, next_field};
+pub use referrer::{Referrer, Relocated};
 pub use slots::slot_values;
+pub use symbol_values::Valued;
+pub use targets::is_some_kind;
+pub use thread_pointer::pointer_of;
+pub use values::{address_or_none, patch as wanted_patch, wanted_value};

@@ -5,6 +5,7 @@ ghost use Rattle.elf_model.specs.Meaning.{meaning_size, meaning_value};
 ghost use Rattle.elf_model.specs.Pieces.{AreLawfulKinds};
 ghost use Rattle.elf_model.specs.Placement.{got_start, section_address, symbol_value};
 ghost use Rattle.elf_model.specs.Relocation.{relocation_kind, relocation_of};
+ghost use Rattle.elf_model.specs.RelocationValues as values;
 ghost use Rattle.elf_model.specs.RelocationValues.{Fits, terms_of};
 ghost use Rattle.elf_model.specs.Slots as wanted;
 ghost use Rattle.resolve.specs.Views.{meaning_view, symbol_view};
@@ -150,6 +151,16 @@ fn terms(valued: &Valued<'_, '_>, target: u64, at: u64, kind: Kind, entry: &Rela
     }
 }
 
+/// The value that an entry of a kind wants, which relocates the section `target`; `at` is that section's address.
+pub fn wanted_value(valued: &Valued<'_, '_>, target: u64, at: u64, kind: Kind, entry: &Rela) -> u64
+    requires valued { IsValued valued.now }
+    requires at { at ≡ section_address (where_of valued.now).placed valued.now.number target }
+    requires kind { relocation_kind (relocation_of valued.now.number (valued_object valued.now) target entry.now) ≡ Some (kind_view kind) }
+    ensures { result ≡ values.value_of (all_valued valued.now) (where_of valued.now) (relocation_of valued.now.number (valued_object valued.now) target entry.now) }
+{
+    value(kind, terms(valued, target, at, kind, entry))
+}
+
 /// The patch that an entry of a known kind wants; None where its value doesn't fit its field.
 pub fn patch(valued: &Valued<'_, '_>, target: u64, at: u64, entry: &Rela) -> Option<Patch>
     requires valued { IsValued valued.now }
@@ -160,8 +171,7 @@ pub fn patch(valued: &Valued<'_, '_>, target: u64, at: u64, entry: &Rela) -> Opt
     let Some(kind) = Kind::of(entry.kind()) else {
         unreachable!()
     };
-    let terms = terms(valued, target, at, kind, entry);
-    let value = value(kind, terms);
+    let value = wanted_value(valued, target, at, kind, entry);
     if !fits(kind, value) {
         return None;
     }

@@ -30,7 +30,7 @@ fn stands_well(entry: &Symbol, section: &SectionHeader) -> bool
 
 /// Whether symbol `j` of the object that has a number is sound, by its entry: a GLOBAL or WEAK one has a
 /// name, and each stands well in its section where it has one that isn't dropped.
-fn is_sound(
+pub fn is_sound(
     objects: &[LoadedObject<'_>],
     number: u64,
     loaded: &LoadedObject<'_>,
@@ -87,7 +87,7 @@ fn is_block_alignment(align: u64) -> bool
 
 /// Whether a symbol is sound as a common one, by its entry: where it is common, it is GLOBAL, not of type TLS, and its
 /// st_value is a power of two up to 2 ^ 21.
-fn is_sound_common(number: u64, loaded: &LoadedObject<'_>, j: usize, entry: &Symbol) -> bool
+pub fn is_sound_common(number: u64, loaded: &LoadedObject<'_>, j: usize, entry: &Symbol) -> bool
     ensures { IsTrue result ↔ IsSoundCommon (symbol_of number (loaded_view loaded.now) j entry.now) }
 {
     let _numbers = (number, j);

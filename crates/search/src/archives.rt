@@ -113,7 +113,7 @@ fn read_archive<'a>(alloc: Global, item: &OpenedItem<'a>) -> Result<Archive<'a>,
 }
 
 /// Reads what an item holds where it is an archive.
-fn read_input<'a>(alloc: Global, item: &OpenedItem<'a>) -> Result<Input<'a>, SearchFault>
+pub fn read_input<'a>(alloc: Global, item: &OpenedItem<'a>) -> Result<Input<'a>, SearchFault>
     ensures exact { IfOk result (λ i. i ≡ item_view item.now) }
     ensures archive { OnOk result (item.now.archive ≡ true → IsArchive item.now.bytes.now) }
     ensures index { OnOk result (item.now.archive ≡ true → lacks_index (item_view item.now) ≡ false) }

@@ -16,6 +16,10 @@ mod taken_members;
 mod turns;
 mod waits;
 
+pub use archives::read_input;
 pub use faults::SearchFault;
-pub use load_steps::{load, load_in};
+pub use files::FileIndex;
+pub use load_steps::{load, load_in, refused_object};
 pub use loaded::{Loaded, LoadedObject};
+pub use loader::Reached;
+pub use opened_items::{OpenedItem, find_source};

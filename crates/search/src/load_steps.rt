@@ -16,13 +16,13 @@ use crate::archives::{Input, read_inputs};
 use crate::faults::SearchFault;
 use crate::files::FileIndex;
 use crate::loaded::Loaded;
-use crate::loader::Loader;
+use crate::loader::{Loader, Reached};
 use crate::opened_items::open;
 use crate::rounds::run_rounds;
 use crate::turns::{turn, waits_for};
 use command::Plan;
 use elf_model::{InputFile, NameSeed};
-use std::alloc::Global;
+use std::alloc::{AllocError, Global};
 use symbols::{IndexedTable, NameTable};
 
 /// The number of an archive's group; None of one that is in none, and of an object.
@@ -154,6 +154,33 @@ pub fn load_in<'a, T: NameTable<'a> + Drop>(
     load_inputs(alloc, &mut loader, &inputs)?;
     let loaded = Loaded::new(alloc, plan, loader.into_objects())?;
     Ok(loaded)
+}
+
+/// The object at which loading stops, the first that is refused; None where the items are refused for another reason, or all are
+/// loaded.
+///
+/// # Errors
+///
+/// Only where memory is refused.
+pub fn refused_object<'a>(
+    alloc: Global,
+    plan: &Plan<'a>,
+    files: &'a [InputFile],
+) -> Result<Option<Reached<'a>>, AllocError> {
+    let index = FileIndex::new(alloc, files)?;
+    let Ok(items) = open(alloc, &index, plan) else {
+        return Ok(None);
+    };
+    let Ok(inputs) = read_inputs(alloc, &items) else {
+        return Ok(None);
+    };
+    let table = IndexedTable::with_hasher(alloc, NameSeed::fixed());
+    let mut loader = Loader::new(alloc, plan, table)?;
+    match load_inputs(alloc, &mut loader, &inputs) {
+        Ok(()) => Ok(None),
+        Err(SearchFault::Memory) => Err(AllocError),
+        Err(_) => Ok(loader.reached()),
+    }
 }
 
 /// The plan, and the objects that it loads, in load order (ld(1)).

@@ -33,10 +33,20 @@ pub struct Names<'a, T> {
     defined: T,
 }
 
+/// An object that loading has come to, by the path of its file and the offset of its member's header in the archive; 0 for an
+/// object item.
+#[derive(Clone, Copy, Debug)]
+pub struct Reached<'a> {
+    pub path: &'a str,
+    pub offset: u64,
+}
+
 /// The loaded objects of a plan so far.
 #[derive(Drop)]
 pub struct Loader<'p, 'a, T> {
     plan: &'p Plan<'a>,
+    /// The object that loading has come to last.
+    reached: Option<Reached<'a>>,
     objects: Vec<LoadedObject<'a>>,
     groups: Groups<'a>,
     names: Names<'a, T>,
@@ -162,6 +172,7 @@ impl<'p, 'a, T: NameTable<'a> + Drop> Loader<'p, 'a, T> {
         let requested = roots(alloc, plan.entry, &plan.undefined)?;
         Ok(Loader {
             plan,
+            reached: None,
             objects: Vec::new(alloc),
             groups: Groups::new(alloc),
             names: Names {
@@ -196,6 +207,8 @@ impl<'p, 'a, T: NameTable<'a>> Loader<'p, 'a, T> {
         ensures grows { OnOk result (Begins self.old.names.requested self.new.names.requested) }
         ensures fault { IfErr result (FailsAt bytes.now) }
     {
+        let path = item.path;
+        self.reached = Some(Reached { path, offset });
         let object = read_object(alloc, bytes)?;
         let dropped = match self.groups.admit(&object) {
             Ok(dropped) => dropped,
@@ -245,6 +258,11 @@ impl<'p, 'a, T: NameTable<'a>> Loader<'p, 'a, T> {
         ensures { option_copied result ≡ slice_get self.now.names.requested i }
     {
         self.names.requested.get(i)
+    }
+
+    /// The object that loading has come to last.
+    pub fn reached(&self) -> Option<Reached<'a>> {
+        self.reached
     }
 
     /// How many objects are loaded.

@@ -44,7 +44,7 @@ fn find_library<'a>(
 }
 
 /// The path and the bytes of the file of an item.
-fn find_source<'a>(
+pub fn find_source<'a>(
     alloc: Global,
     files: &FileIndex<'a>,
     directories: &[&str],

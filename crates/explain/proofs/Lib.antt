@@ -1,0 +1,3 @@
+pub mod Overlapping
+pub mod Told
+pub mod UnfitValues

@@ -1,0 +1,20 @@
+//! Why a link is refused: the places of its inputs at which something is wrong, each with what is wrong there.
+#![tactic(auto)]
+
+mod files;
+mod found;
+mod link;
+mod member_names;
+mod objects;
+mod overlaps;
+mod place;
+mod relocations;
+mod text;
+mod unfit;
+mod unlawful;
+mod unsound;
+
+pub use found::Found;
+pub use link::explain;
+pub use place::{ObjectPlace, Place, RelocationPlace, SectionPlace, SymbolFault, SymbolPlace};
+pub use text::{Inputs, write_place};

@@ -1,0 +1,223 @@
+//! Why a link is refused, phase by phase.
+ghost use Rattle.std.specs.Prelude.{◌≡◌, [], All, IfOk, List, OnOk};
+ghost use Rattle.elf_model.specs.Command.{IsBase, IsRefusal};
+ghost use Rattle.elf_model.specs.Files.{File, files_of, words_of};
+ghost use Rattle.elf_model.specs.Pieces.{AreLawfulKinds};
+ghost use Rattle.explain.specs.Places.{AreSo, AreSoOf, Holds};
+
+use crate::files::{add_archives, add_missing, add_object};
+use crate::found::Found;
+use crate::overlaps::add_overlaps;
+use crate::place::Place;
+use crate::relocations::add_relocations;
+use crate::unfit::add_values;
+use crate::unlawful::{add_largest, add_sections};
+use crate::unsound::{add_commons, add_definitions, add_symbols};
+use command::{Plan, read_words, refused_word};
+use elf_model::{CmdFault, InputFile};
+use got_tls::slots;
+use layout::{LayoutFault, kinds, place};
+use relocate::{RelocFault, references};
+use resolve::{ResolveFault, Resolved, resolve};
+use search::{FileIndex, Loaded, SearchFault, load, refused_object};
+use std::alloc::{AllocError, Global};
+
+/// Adds why the words are refused.
+fn add_word(
+    alloc: Global,
+    found: &mut Found<'_>,
+    words: &[String],
+    fault: CmdFault,
+) -> Result<(), AllocError>
+    requires none { found.old.places.items ≡ [] }
+    requires fault { IsRefusal (words_of words.now) fault }
+    ensures { (files : List File) → OnOk result (All (Holds files (words_of words.now)) found.new.places.items) }
+{
+    let number = match refused_word(alloc, words) {
+        Some(number) => Some(number as u64),
+        None => None,
+    };
+    found.add(Place::Word(number, fault))
+}
+
+/// Adds why a plan isn't loaded.
+fn add_unloaded<'a>(
+    alloc: Global,
+    found: &mut Found<'a>,
+    files: &'a [InputFile],
+    plan: &Plan<'a>,
+    fault: SearchFault,
+) -> Result<(), AllocError>
+    requires { AreSoOf (files_of files.now) plan.now found.old.places.items }
+    ensures { OnOk result (AreSoOf (files_of files.now) plan.now found.new.places.items) }
+{
+    let index = FileIndex::new(alloc, files)?;
+    match fault {
+        SearchFault::Memory => Err(AllocError),
+        SearchFault::FileMissing => add_missing(alloc, found, &index, plan),
+        SearchFault::BadArchive(_) | SearchFault::NoIndex => {
+            add_archives(alloc, found, &index, plan)
+        }
+        SearchFault::BadObject(_) | SearchFault::Group(_) => {
+            match refused_object(alloc, plan, files)? {
+                Some(reached) => add_object(alloc, found, &index, plan, reached),
+                None => Ok(()),
+            }
+        }
+    }
+}
+
+/// Adds why names mean nothing.
+fn add_unresolved<'a>(
+    found: &mut Found<'a>,
+    loaded: &Loaded<'a>,
+    fault: &ResolveFault,
+) -> Result<(), AllocError>
+    requires { AreSo loaded.now found.old.places.items }
+    ensures { OnOk result (AreSo loaded.now found.new.places.items) }
+{
+    match fault {
+        ResolveFault::Memory => Err(AllocError),
+        ResolveFault::BadCommon => add_commons(found, loaded),
+        ResolveFault::BadSymbol => add_symbols(found, loaded),
+        ResolveFault::Duplicate(name) => add_definitions(found, loaded, name),
+    }
+}
+
+/// Adds why references are refused.
+fn add_unreferred<'a>(
+    alloc: Global,
+    found: &mut Found<'a>,
+    loaded: &Loaded<'a>,
+    resolved: &Resolved<'a>,
+    fault: &RelocFault,
+) -> Result<(), AllocError>
+    requires resolved { resolved.now ≡ loaded.now.objects }
+    requires before { AreSo loaded.now found.old.places.items }
+    ensures { OnOk result (AreSo loaded.now found.new.places.items) }
+{
+    match fault {
+        RelocFault::Memory => Err(AllocError),
+        RelocFault::OverlappingFields => add_overlaps(alloc, found, loaded),
+        _ => add_relocations(alloc, found, loaded, resolved),
+    }
+}
+
+/// Adds why what is loaded, whose references are lawful, isn't laid out, or the values that then don't fit.
+fn add_unfit<'a>(
+    alloc: Global,
+    found: &mut Found<'a>,
+    loaded: &Loaded<'a>,
+    resolved: &Resolved<'a>,
+) -> Result<(), AllocError>
+    requires resolved { resolved.now ≡ loaded.now.objects }
+    requires base { IsBase loaded.now.plan.base }
+    requires kinds { AreLawfulKinds loaded.now.objects }
+    requires before { AreSo loaded.now found.old.places.items }
+    ensures { OnOk result (AreSo loaded.now found.new.places.items) }
+{
+    let slots = slots(alloc, loaded, resolved)?;
+    match place(alloc, loaded, resolved, slots.got(), loaded.plan().base) {
+        Ok(placement) => add_values(alloc, found, loaded, resolved, &placement, &slots),
+        Err(LayoutFault::Memory) => Err(AllocError),
+        Err(_) => add_largest(found, loaded),
+    }
+}
+
+/// Adds why what is loaded, whose names are resolved, isn't linked.
+fn add_unlinked<'a>(
+    alloc: Global,
+    found: &mut Found<'a>,
+    loaded: &Loaded<'a>,
+    resolved: &Resolved<'a>,
+) -> Result<(), AllocError>
+    requires resolved { resolved.now ≡ loaded.now.objects }
+    requires base { IsBase loaded.now.plan.base }
+    requires kinds { AreLawfulKinds loaded.now.objects }
+    requires before { AreSo loaded.now found.old.places.items }
+    ensures { OnOk result (AreSo loaded.now found.new.places.items) }
+{
+    if let Err(fault) = references(alloc, loaded, resolved) {
+        return add_unreferred(alloc, found, loaded, resolved, &fault);
+    }
+    let entry = loaded.plan().entry;
+    if resolved.entry(entry.as_bytes()).is_none() {
+        return found.add(Place::Entry(entry));
+    }
+    add_unfit(alloc, found, loaded, resolved)
+}
+
+/// Adds why what is loaded isn't linked.
+fn add_loaded<'a>(
+    alloc: Global,
+    found: &mut Found<'a>,
+    loaded: &Loaded<'a>,
+) -> Result<(), AllocError>
+    requires base { IsBase loaded.now.plan.base }
+    requires before { AreSo loaded.now found.old.places.items }
+    ensures { OnOk result (AreSo loaded.now found.new.places.items) }
+{
+    match kinds(loaded) {
+        Ok(()) => {}
+        Err(_) => return add_sections(found, loaded),
+    }
+    match resolve(alloc, loaded) {
+        Ok(resolved) => add_unlinked(alloc, found, loaded, &resolved),
+        Err(fault) => add_unresolved(found, loaded, &fault),
+    }
+}
+
+/// Adds why a plan isn't linked from files.
+#[tactic(auto, using(crate::proofs::Told::so_of))]
+fn add_plan<'a>(
+    alloc: Global,
+    found: &mut Found<'a>,
+    files: &'a [InputFile],
+    plan: &Plan<'a>,
+) -> Result<(), AllocError>
+    requires base { IsBase plan.now.base }
+    requires none { found.old.places.items ≡ [] }
+    ensures { OnOk result (AreSoOf (files_of files.now) plan.now found.new.places.items) }
+{
+    match load(alloc, plan, files) {
+        Ok(loaded) => add_loaded(alloc, found, &loaded),
+        Err(fault) => add_unloaded(alloc, found, files, plan, fault),
+    }
+}
+
+/// Adds why the link of files that words name is refused.
+#[tactic(auto, using(crate::proofs::Told::holds_of))]
+fn add_reasons<'a>(
+    alloc: Global,
+    found: &mut Found<'a>,
+    files: &'a [InputFile],
+    words: &'a [String],
+) -> Result<(), AllocError>
+    requires { found.old.places.items ≡ [] }
+    ensures { OnOk result (All (Holds (files_of files.now) (words_of words.now)) found.new.places.items) }
+{
+    match read_words(alloc, words) {
+        Ok(plan) => add_plan(alloc, found, files, &plan),
+        Err(CmdFault::Memory) => Err(AllocError),
+        Err(fault) => add_word(alloc, found, words, fault),
+    }
+}
+
+/// Why the link of files that words name is refused: the first places at which something is wrong, at most so many, and how
+/// many more there are. None where it isn't refused, or only for want of room for its symbol table.
+///
+/// # Errors
+///
+/// Only where memory is refused.
+pub fn explain<'a>(
+    alloc: Global,
+    files: &'a [InputFile],
+    words: &'a [String],
+    most: usize,
+) -> Result<Found<'a>, AllocError>
+    ensures { IfOk result (λ f. All (Holds (files_of files.entry.now) (words_of words.entry.now)) f.places.items) }
+{
+    let mut found = Found::new(alloc, most);
+    add_reasons(alloc, &mut found, files, words)?;
+    Ok(found)
+}

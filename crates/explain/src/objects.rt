@@ -1,0 +1,157 @@
+//! The places of objects, sections, symbols and relocations, as their objects tell them.
+ghost use Rattle.std.specs.Prelude.{◌≡◌, [], IfSome, Some, true, unwrap_or};
+ghost use Rattle.std.specs.List.{slice_get};
+ghost use Rattle.elf_model.specs.ObjectFile.{relas_of, section_name, sections, symbol_name, symbols};
+ghost use Rattle.elf_model.specs.Relocation.{is_kept_rela, is_some_kind, relocation_of};
+ghost use Rattle.search.specs.Views.{loaded_view};
+ghost use Rattle.explain.specs.Places.{IsFileOf, IsRelocationAt, IsTold};
+
+use crate::place::{ObjectPlace, RelocationPlace, SectionPlace, SymbolPlace};
+use elf_model::{Rela, SectionHeader, Symbol};
+use elf_read::Object;
+use search::{Loaded, LoadedObject};
+
+/// Where a loaded object is.
+fn file_of<'a>(loaded: &LoadedObject<'a>) -> ObjectPlace<'a>
+    ensures { IsFileOf (loaded_view loaded.now) result }
+{
+    ObjectPlace {
+        path: loaded.path,
+        offset: loaded.offset,
+    }
+}
+
+/// The name of section `i`; empty where it has none.
+fn section_name<'a>(object: &Object<'a>, i: usize) -> &'a [u8]
+    ensures { result.now ≡ unwrap_or (section_name object.now i) [] }
+{
+    match object.section_name(i) {
+        Some(name) => name,
+        None => &[],
+    }
+}
+
+/// The place of section `i`, which has the header, of the object that has a number.
+pub fn section_place<'a>(
+    number: usize,
+    loaded: &LoadedObject<'a>,
+    i: usize,
+    header: &SectionHeader,
+) -> SectionPlace<'a>
+    ensures file { IsFileOf (loaded_view loaded.now) result.file }
+    ensures object { result.object ≡ number }
+    ensures section { result.section ≡ i }
+    ensures header { result.header ≡ header.now }
+    ensures name { result.name.now ≡ unwrap_or (section_name (loaded_view loaded.now).bytes i) [] }
+{
+    SectionPlace {
+        file: file_of(loaded),
+        object: number as u64,
+        section: i as u64,
+        header: *header,
+        name: section_name(&loaded.object, i),
+    }
+}
+
+/// The place of symbol `j`, which has the entry, of the object that has a number.
+pub fn symbol_place<'a>(
+    number: usize,
+    loaded: &LoadedObject<'a>,
+    j: usize,
+    entry: &Symbol,
+) -> SymbolPlace<'a>
+    ensures file { IsFileOf (loaded_view loaded.now) result.file }
+    ensures object { result.object ≡ number }
+    ensures symbol { result.symbol ≡ j }
+    ensures entry { result.entry ≡ entry.now }
+    ensures name { result.name.now ≡ unwrap_or (symbol_name (loaded_view loaded.now).bytes j) [] }
+{
+    SymbolPlace {
+        file: file_of(loaded),
+        object: number as u64,
+        symbol: j as u64,
+        entry: *entry,
+        name: loaded.object.symbol_name(j),
+    }
+}
+
+/// The place of entry `e` of RELA section `i`, which has the header, of the object that has a number.
+pub fn relocation_place<'a>(
+    number: usize,
+    loaded: &LoadedObject<'a>,
+    i: usize,
+    header: &SectionHeader,
+    e: usize,
+    entry: &Rela,
+) -> RelocationPlace<'a>
+    ensures file { IsFileOf (loaded_view loaded.now) result.file }
+    ensures object { result.object ≡ number }
+    ensures table { result.table ≡ i }
+    ensures number { result.number ≡ e }
+    ensures entry { result.entry ≡ entry.now }
+    ensures told { IsTold result (relocation_of number (loaded_view loaded.now) header.now.sh_info entry.now) }
+{
+    let section = header.sh_info as usize;
+    RelocationPlace {
+        file: file_of(loaded),
+        object: number as u64,
+        table: i as u64,
+        number: e as u64,
+        entry: *entry,
+        section: section as u64,
+        section_name: section_name(&loaded.object, section),
+        symbol_name: loaded.object.symbol_name(entry.symbol() as usize),
+    }
+}
+
+/// The loaded object that has a number.
+pub fn object_at<'l, 'a>(loaded: &'l Loaded<'a>, k: usize) -> Option<&'l LoadedObject<'a>>
+    ensures { IfSome result (λ one. slice_get loaded.now.objects k ≡ Some (loaded_view one.now)) }
+{
+    loaded.objects().get(k)
+}
+
+/// The header of section `i` of an object.
+pub fn header_at(one: &LoadedObject<'_>, i: usize) -> Option<SectionHeader>
+    ensures { IfSome result (λ h. slice_get (sections (loaded_view one.now).bytes) i ≡ Some h) }
+{
+    one.object.sections().get(i).copied()
+}
+
+/// The entry of symbol `j` of an object.
+pub fn symbol_at(one: &LoadedObject<'_>, j: usize) -> Option<Symbol>
+    ensures { IfSome result (λ s. slice_get (symbols (loaded_view one.now).bytes) j ≡ Some s) }
+{
+    one.object.symbols().get(j).copied()
+}
+
+/// Entry `e` of RELA section `i`, which has the header, of an object.
+pub fn entry_at(one: &LoadedObject<'_>, i: usize, header: &SectionHeader, e: usize) -> Option<Rela>
+    requires there { slice_get (sections (loaded_view one.now).bytes) i ≡ Some header.now }
+    requires rela { header.now.sh_type ≡ 4 }
+    ensures { IfSome result (λ x. slice_get (relas_of (loaded_view one.now).bytes header.now) e ≡ Some x) }
+{
+    one.entries_of(i, header).get(e).copied()
+}
+
+/// The place of an entry of a RELA section, which has the header, of a loaded object, which has a number: that of a kept
+/// relocation.
+pub fn kept_place<'a>(
+    loaded: &Loaded<'a>,
+    number: usize,
+    one: &LoadedObject<'a>,
+    i: usize,
+    header: &SectionHeader,
+    e: usize,
+    entry: &Rela,
+) -> RelocationPlace<'a>
+    requires object { slice_get loaded.now.objects number ≡ Some (loaded_view one.now) }
+    requires table { slice_get (sections (loaded_view one.now).bytes) i ≡ Some header.now }
+    requires kept { is_kept_rela (loaded_view one.now) i header.now ≡ true }
+    requires entry { slice_get (relas_of (loaded_view one.now).bytes header.now) e ≡ Some entry.now }
+    requires some_kind { is_some_kind entry.now ≡ true }
+    ensures { IsRelocationAt loaded.now.objects result (relocation_of number (loaded_view one.now) header.now.sh_info entry.now) }
+{
+    let _loaded = loaded;
+    relocation_place(number, one, i, header, e, entry)
+}

@@ -1,0 +1,233 @@
+//! How a place reads: a line that names the object, what is wrong in it, and why.
+
+use crate::member_names::member_name;
+use crate::place::{ObjectPlace, Place, RelocationPlace, SectionPlace, SymbolFault, SymbolPlace};
+use command::Source;
+use elf_model::{CmdFault, InputFile};
+use relocate::RelocationFault;
+use std::io;
+use std::io::Write;
+
+/// Writes a name as a map spells it: bytes from 0x21 to 0x7e but `\` as they are, every other one as `\x` and two
+/// hexadecimal digits.
+fn write_name<W: Write>(out: &mut W, name: &[u8]) -> io::Result<()> {
+    for byte in name {
+        if (0x21..=0x7e).contains(byte) && *byte != b'\\' {
+            out.write_all(&[*byte])?;
+        } else {
+            write!(out, "\\x{byte:02x}")?;
+        }
+    }
+    Ok(())
+}
+
+/// The inputs that places are of.
+#[derive(Clone, Copy)]
+pub struct Inputs<'i> {
+    pub files: &'i [InputFile],
+    pub words: &'i [String],
+}
+
+impl<'i> Inputs<'i> {
+    /// The bytes of the first file of a path.
+    fn file(&self, path: &str) -> Option<&'i [u8]> {
+        let file = self.files.iter().find(|f| f.name.as_str() == path)?;
+        Some(file.bytes.as_slice())
+    }
+}
+
+/// Writes the name of an archive's member, and the offset of its header.
+fn write_member<W: Write>(
+    out: &mut W,
+    inputs: Inputs<'_>,
+    place: &ObjectPlace<'_>,
+) -> io::Result<()> {
+    out.write_all(b"(")?;
+    if let Some(file) = inputs.file(place.path) {
+        write_name(out, member_name(file, place.offset).unwrap_or(&[]))?;
+        out.write_all(b" ")?;
+    }
+    write!(out, "at {:#x})", place.offset)
+}
+
+/// Writes the path of an object's file, and the member that it is.
+fn write_file<W: Write>(
+    out: &mut W,
+    inputs: Inputs<'_>,
+    place: &ObjectPlace<'_>,
+) -> io::Result<()> {
+    write!(out, "{}", place.path)?;
+    if place.offset != 0 {
+        write_member(out, inputs, place)?;
+    }
+    out.write_all(b": ")
+}
+
+/// Writes the object of a section, its number and its name.
+fn write_section_name<W: Write>(
+    out: &mut W,
+    inputs: Inputs<'_>,
+    place: &SectionPlace<'_>,
+) -> io::Result<()> {
+    write_file(out, inputs, &place.file)?;
+    write!(out, "section {} ", place.section)?;
+    write_name(out, place.name)
+}
+
+fn write_large<W: Write>(
+    out: &mut W,
+    inputs: Inputs<'_>,
+    place: &SectionPlace<'_>,
+) -> io::Result<()> {
+    write_section_name(out, inputs, place)?;
+    write!(out, ": {:#x} bytes", place.header.sh_size)
+}
+
+fn write_section<W: Write>(
+    out: &mut W,
+    inputs: Inputs<'_>,
+    place: &SectionPlace<'_>,
+) -> io::Result<()> {
+    write_section_name(out, inputs, place)?;
+    let (kind, flags) = (place.header.sh_type, place.header.sh_flags);
+    write!(out, ": type {kind:#x} and flags {flags:#x} are not linked")
+}
+
+fn symbol_text(fault: SymbolFault) -> &'static str {
+    match fault {
+        SymbolFault::BadCommon =>
+            "a common symbol must be GLOBAL, not of type TLS, and aligned to a power of two up to 2^21",
+        SymbolFault::BadSymbol =>
+            "a symbol that isn't LOCAL needs a name and a section that is loaded, and any symbol lies within its section",
+        SymbolFault::Duplicate => "defined here",
+    }
+}
+
+fn write_symbol<W: Write>(
+    out: &mut W,
+    inputs: Inputs<'_>,
+    place: &SymbolPlace<'_>,
+    fault: SymbolFault,
+) -> io::Result<()> {
+    write_file(out, inputs, &place.file)?;
+    write!(out, "symbol {} ", place.symbol)?;
+    write_name(out, place.name)?;
+    write!(out, ": {}", symbol_text(fault))
+}
+
+/// Writes where a relocation is: its section and offset there, its entry, its type and its symbol.
+fn write_relocation<W: Write>(
+    out: &mut W,
+    inputs: Inputs<'_>,
+    place: &RelocationPlace<'_>,
+) -> io::Result<()> {
+    write_file(out, inputs, &place.file)?;
+    write_name(out, place.section_name)?;
+    write!(out, "+{:#x}: ", place.entry.r_offset)?;
+    let (number, table) = (place.number, place.table);
+    let (kind, symbol) = (place.entry.kind(), place.entry.symbol());
+    write!(
+        out,
+        "relocation {number} of section {table}, of type {kind}, to symbol {symbol} "
+    )?;
+    write_name(out, place.symbol_name)
+}
+
+fn relocation_text(fault: RelocationFault) -> &'static str {
+    match fault {
+        RelocationFault::Undefined => "not defined",
+        RelocationFault::RefToDropped => "LOCAL in a section that is not loaded",
+        RelocationFault::RelocKind => "not a type of relocation that is linked",
+        RelocationFault::FieldOutside => "the field is not inside its section",
+        RelocationFault::TlsMismatch => "thread-local, or not, against the relocation's type",
+        RelocationFault::MixedSection => "a bound of an output name of several output sections",
+    }
+}
+
+/// Writes the word at which a command is refused, and what it says.
+fn write_word<W: Write>(
+    out: &mut W,
+    words: &[String],
+    number: Option<u64>,
+    fault: CmdFault,
+) -> io::Result<()> {
+    let Some(number) = number else {
+        return write!(out, "the words together: {fault}");
+    };
+    match words.get(number as usize) {
+        Some(word) => write!(out, "word {number} {word}: {fault}"),
+        None => write!(out, "word {number}: {fault}"),
+    }
+}
+
+fn write_missing<W: Write>(out: &mut W, number: u64, source: Source<'_>) -> io::Result<()> {
+    match source {
+        Source::Path(path) => write!(out, "{path}: item {number}: there is no such file"),
+        Source::Library(name) => write!(
+            out,
+            "-l{name}: item {number}: no directory of -L has lib{name}.a"
+        ),
+    }
+}
+
+/// Writes a place of the files.
+fn write_input<W: Write>(out: &mut W, inputs: Inputs<'_>, place: &Place<'_>) -> io::Result<()> {
+    match place {
+        Place::Missing(number, source) => write_missing(out, *number, *source),
+        Place::Archive(path, fault) => write!(out, "{path}: {fault}"),
+        Place::NoIndex(path) => write!(out, "{path}: the archive has no index: ranlib makes one"),
+        Place::Object(file, fault) => {
+            write_file(out, inputs, file)?;
+            write!(out, "{fault}")
+        }
+        Place::Groups(file, fault) => {
+            write_file(out, inputs, file)?;
+            write!(out, "{fault}")
+        }
+        _ => Ok(()),
+    }
+}
+
+fn write_relocations<W: Write>(
+    out: &mut W,
+    inputs: Inputs<'_>,
+    place: &Place<'_>,
+) -> io::Result<()> {
+    match place {
+        Place::Relocation(place, fault) => {
+            write_relocation(out, inputs, place)?;
+            write!(out, ": {}", relocation_text(*fault))
+        }
+        Place::Overlap(first, second) => {
+            write_relocation(out, inputs, first)?;
+            write!(out, ": its field shares a byte with that of ")?;
+            write_relocation(out, inputs, second)
+        }
+        Place::Value(place, value, address) => {
+            write_relocation(out, inputs, place)?;
+            write!(
+                out,
+                ": the value {value:#x} does not fit the field at {address:#x}"
+            )
+        }
+        _ => Ok(()),
+    }
+}
+
+/// Writes a place of inputs, without the end of the line.
+pub fn write_place<W: Write>(out: &mut W, inputs: Inputs<'_>, place: &Place<'_>) -> io::Result<()> {
+    match place {
+        Place::Word(number, fault) => write_word(out, inputs.words, *number, *fault),
+        Place::Section(place) => write_section(out, inputs, place),
+        Place::Large(place) => write_large(out, inputs, place),
+        Place::Symbol(place, fault) => write_symbol(out, inputs, place, *fault),
+        Place::Entry(name) => write!(
+            out,
+            "the entry {name} has no definition outside thread-local storage"
+        ),
+        Place::Relocation(_, _) | Place::Overlap(_, _) | Place::Value(_, _, _) => {
+            write_relocations(out, inputs, place)
+        }
+        _ => write_input(out, inputs, place),
+    }
+}
