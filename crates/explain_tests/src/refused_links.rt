@@ -1,10 +1,10 @@
 //! Why links are refused: the lines of each error, the places in the order in which they are met.
-use elf_model::{SHF_ALLOC, SHF_EXECINSTR, SHF_TLS, SHF_WRITE};
+use elf_model::{SHF_ALLOC, SHF_EXECINSTR, SHF_TLS, SHF_WRITE, SHT_GROUP};
 use explain::{Inputs, explain, write_place};
 use link_samples::links::{File, Member, files_of};
 use link_samples::objects::{NamedSymbol, Relocation, Section};
 use link_samples::one_object::words_of;
-use link_samples::parts::{BSS, DATA, F, NO_F, R_PC32, R_PLT32, START, TEXT};
+use link_samples::parts::{BSS, DATA, F, NO_F, R_64, R_PC32, R_PLT32, START, TEXT};
 use std::alloc::Global;
 use std::process::Abort;
 use std::test::Fail;
@@ -100,7 +100,29 @@ const BROKEN: File = File::Bytes(
       \x7fELF",
 );
 
-const FILES: [Row; 6] = [
+/// A group whose flags are none of COMDAT's.
+const BAD_GROUP: Section<'static> = Section {
+    name: ".group",
+    sh_type: SHT_GROUP,
+    sh_flags: 0,
+    sh_addralign: 4,
+    bytes: &[2, 0, 0, 0, 2, 0, 0, 0],
+    memory: 0,
+    signature: 1,
+};
+
+const START_IN_2: NamedSymbol<'static> = NamedSymbol {
+    st_shndx: 2,
+    ..START
+};
+
+const FILES: [Row; 7] = [
+    (
+        &[File::Object("a.o", &[BAD_GROUP, TEXT], &[START_IN_2], &[])],
+        "a.o",
+        9,
+        "a.o: BadFlags (3)\n",
+    ),
     (
         &[PLAIN],
         "a.o b.o -lc",
@@ -198,11 +220,6 @@ fn sections_and_symbols_are_named(rt: HostRuntime) -> Result<(), Fail> {
     assert_rows(&rt, &NAMES)
 }
 
-/// An object whose text has these relocations, to `_start` and to an undefined `f`.
-const fn caller(relocations: &'static [Relocation]) -> File {
-    File::Object("a.o", &[TEXT], &[START, NO_F], relocations)
-}
-
 /// A LOCAL symbol of section 2, and a section that takes up no memory.
 const LOCAL: NamedSymbol<'static> = NamedSymbol {
     name: "l",
@@ -223,12 +240,42 @@ const THREAD: Section<'static> = Section {
     ..DATA
 };
 
-const RELOCATIONS: [Row; 8] = [
+/// Two sections of one name that are of several output sections, and the linker's name for where they end.
+const FOO: Section<'static> = Section {
+    name: "foo",
+    ..DATA
+};
+
+const ZEROS_FOO: Section<'static> = Section { name: "foo", ..BSS };
+
+const STOP_FOO: NamedSymbol<'static> = NamedSymbol {
+    name: "__stop_foo",
+    ..NO_F
+};
+
+const RELOCATIONS: [Row; 9] = [
     (
-        &[caller(&[
-            Relocation(1, 0, R_PLT32, 2, -4),
-            Relocation(1, 5, R_PC32, 2, 0),
-        ])],
+        &[File::Object(
+            "a.o",
+            &[TEXT, ZEROS_FOO, FOO],
+            &[START, STOP_FOO],
+            &[Relocation(3, 0, R_64, 2, 0)],
+        )],
+        "a.o",
+        9,
+        "a.o: foo+0x0: relocation 0 of section 6, of type 1, to symbol 2 __stop_foo: a bound of an output name of several \
+         output sections\n",
+    ),
+    (
+        &[File::Object(
+            "a.o",
+            &[TEXT],
+            &[START, NO_F],
+            &[
+                Relocation(1, 0, R_PLT32, 2, -4),
+                Relocation(1, 5, R_PC32, 2, 0),
+            ],
+        )],
         "a.o",
         9,
         "a.o: .text+0x0: relocation 0 of section 4, of type 4, to symbol 2 f: not defined\n\
@@ -246,13 +293,18 @@ const RELOCATIONS: [Row; 8] = [
         "a.o: .text+0x0: relocation 0 of section 5, of type 2, to symbol 1 l: LOCAL in a section that is not loaded\n",
     ),
     (
-        &[caller(&[Relocation(1, 0, 5, 1, 0)])],
+        &[File::Object("a.o", &[TEXT], &[START, NO_F], &[Relocation(1, 0, 5, 1, 0)])],
         "a.o",
         9,
         "a.o: .text+0x0: relocation 0 of section 4, of type 5, to symbol 1 _start: not a type of relocation that is linked\n",
     ),
     (
-        &[caller(&[Relocation(1, 6, R_PC32, 1, 0)])],
+        &[File::Object(
+            "a.o",
+            &[TEXT],
+            &[START, NO_F],
+            &[Relocation(1, 6, R_PC32, 1, 0)],
+        )],
         "a.o",
         9,
         "a.o: .text+0x6: relocation 0 of section 4, of type 2, to symbol 1 _start: the field is not inside its section\n",
@@ -270,17 +322,27 @@ const RELOCATIONS: [Row; 8] = [
          type\n",
     ),
     (
-        &[caller(&[
-            Relocation(1, 4, R_PC32, 1, 0),
-            Relocation(1, 1, R_PC32, 1, 0),
-        ])],
+        &[File::Object(
+            "a.o",
+            &[TEXT],
+            &[START, NO_F],
+            &[
+                Relocation(1, 4, R_PC32, 1, 0),
+                Relocation(1, 1, R_PC32, 1, 0),
+            ],
+        )],
         "a.o",
         9,
         "a.o: .text+0x1: relocation 1 of section 4, of type 2, to symbol 1 _start: its field shares a byte with that of a.o: \
          .text+0x4: relocation 0 of section 4, of type 2, to symbol 1 _start\n",
     ),
     (
-        &[caller(&[Relocation(1, 1, 14, 1, 0)])],
+        &[File::Object(
+            "a.o",
+            &[TEXT],
+            &[START, NO_F],
+            &[Relocation(1, 1, 14, 1, 0)],
+        )],
         "a.o",
         9,
         "a.o: .text+0x1: relocation 0 of section 4, of type 14, to symbol 1 _start: the value 0x401000 does not fit the field \
