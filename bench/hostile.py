@@ -7,7 +7,7 @@
     sections      65,000 sections of code in an object; doubled: two objects
     entries       an archive with one member and an index of a million entries, half of them of a name that is needed
     signatures    100,000 COMDAT groups of one signature, in objects of 20,000
-    locals        a million LOCAL symbols whose names are ends of one text of 100 MB
+    locals        a million LOCAL symbols whose names are ends of one text of 100 MB, and a relocation to each
     overlaps      a million GLOBAL symbols, ten in each text of 90 bytes: their names are ends of it
     directories   100,000 directories (-L), all but one of them not there, and one -l
     libraries     one directory and as many -l of one name
@@ -16,17 +16,19 @@
     map-symbols   the same with lines `symbol`
     segments      an image with 65,533 PT_LOADs, each of one page with a section of zeros; single: half of them
 
-Three more grow faster than their bytes, by what docs/BENCHMARKS.md says. They run only where they are named, are
-small, and have no limit:
+Four more grow faster than their bytes, for reasons that docs/BENCHMARKS.md gives. They run only where they are named,
+are small, and have no limit:
 
-    local-uses    20,000 LOCAL symbols whose names are ends of one text of 2 MB, each of which a relocation uses
+    local-slots   20,000 LOCAL symbols whose names are ends of one text of 2 MB, each with a slot of the GOT
     weak-ends     5,000 weak symbols without a definition whose names are ends of one text of 500 kB
+    group-names   a group of 500 archives, of which the first one's member asks for 20,000 names that none defines
     products      400 directories, none of them there, and as many -l of names that only a last one has
 
 All but the last four of the list are linked with a map, and the link is checked. Those are only checked: their images
-and maps are made here. Times are the wall's and memory the greatest resident set, medians of the runs, in seconds and MiB; `by bytes`
-is memory by the bytes of all files that are read or written, and of the words. The last two columns are the doubled
-input's time and memory by those of the single one: linear is 2.
+and maps are made here. Time is that of the processor, in the program and in the system for it, memory the greatest
+resident set, medians of the runs, in seconds and MiB; `by bytes` is memory by the bytes of all files that are read or
+written, and of the words. The last two columns are the doubled input's time and memory by those of the single one:
+linear is 2.
 
 The exit status is 1 where an answer is another one or time or memory grow more than 2.3 times, 2 without the proved
 program or GNU time.
@@ -41,7 +43,6 @@ import struct
 import subprocess
 import sys
 import tempfile
-import time
 from pathlib import Path
 
 import elf
@@ -158,20 +159,21 @@ def ends_of_one_text(count):
 
 def local_names(folder, count):
     made = Names()
-    section = made.section(".text", elf.PROGBITS, CODE, b"\xc3")
-    table, places = ends_of_one_text(count)
-    path = folder / "locals.o"
-    path.write_bytes(made.with_places(table, [(at, 0, section, 0) for at in places]))
-    return link_and_check(folder, [start(folder), path])
-
-
-def local_uses(folder, count):
-    made = Names()
     data = made.section(".data", elf.PROGBITS, DATA, bytes(8 * count), 8)
     made.relocations(data, [(8 * k, elf.ABS64, 1 + k, 0) for k in range(count)])
     table, places = ends_of_one_text(count)
-    path = folder / "uses.o"
+    path = folder / "locals.o"
     path.write_bytes(made.with_places(table, [(at, 0, data, 0) for at in places]))
+    return link_and_check(folder, [start(folder), path])
+
+
+def local_slots(folder, count):
+    made = Names()
+    code = made.section(".text", elf.PROGBITS, CODE, bytes(4 * count))
+    made.relocations(code, [(4 * k, elf.GOTPCREL, 1 + k, 0) for k in range(count)])
+    table, places = ends_of_one_text(count)
+    path = folder / "slots.o"
+    path.write_bytes(made.with_places(table, [(at, 0, code, 0) for at in places]))
     return link_and_check(folder, [start(folder), path])
 
 
@@ -211,6 +213,23 @@ def many_directories(folder, count):
 def many_libraries(folder, count):
     empty_archive(folder)
     return link_and_check(folder, [start(folder), f"-L{folder}"] + ["-le"] * count)
+
+
+def group_names(folder, count):
+    """Each archive but the first has a member of a name that nothing asks for."""
+    asking = elf.Object()
+    asking.symbol("first", asking.section(".text", elf.PROGBITS, CODE, b"\xc3"))
+    for k in range(40 * count):
+        asking.symbol(f"wanted{k}", 0)
+    parts = [(["first"], asking.bytes())]
+    for k in range(1, count):
+        made = elf.Object()
+        made.symbol(f"other{k}", made.section(".text", elf.PROGBITS, CODE, b"\xc3"))
+        parts.append(([f"other{k}"], made.bytes()))
+    words = [folder / f"lib{k}.a" for k in range(count)]
+    for path, part in zip(words, parts):
+        path.write_bytes(elf.archive([part]))
+    return link_and_check(folder, [start(folder, ["first"]), "-("] + words + ["-)"])
 
 
 def products(folder, count):
@@ -300,8 +319,9 @@ INPUTS = {
 }
 
 NOT_LINEAR = {
-    "local-uses": (local_uses, 20_000),
+    "local-slots": (local_slots, 20_000),
     "weak-ends": (weak_ends, 5_000),
+    "group-names": (group_names, 500),
     "products": (products, 400),
 }
 
@@ -309,14 +329,12 @@ NOT_LINEAR = {
 def measured(program, step):
     """Runs a step: seconds and KiB. GNU time stands between, since a child of this process would count this one's memory."""
     with tempfile.NamedTemporaryFile("r") as usage:
-        words = [shutil.which("time"), "-q", "-f", "%M", "-o", usage.name, str(program)] + step.words
-        begin = time.perf_counter()
+        words = [shutil.which("time"), "-q", "-f", "%U %S %M", "-o", usage.name, str(program)] + step.words
         run = subprocess.run(words, stdout=subprocess.PIPE, stderr=subprocess.STDOUT, text=True, check=False)
-        seconds = time.perf_counter() - begin
-        kib = usage.read().split()[-1]
+        user, system, kib = usage.read().split()
     if run.returncode != step.status or run.stdout != step.expect:
         raise Failed(f"{step.name}: status {run.returncode}: {run.stdout[:500].strip()}")
-    return seconds, int(kib)
+    return float(user) + float(system), int(kib)
 
 
 def medians(program, steps, runs):
