@@ -18,7 +18,7 @@ work=$(mktemp -d)
 trap 'rm -rf "$work"' EXIT
 trap 'exit 1' HUP INT TERM
 cd "$work"
-gcc -O1 -shared -fPIC -o refuse.so "$root/tools/refuse_growths.c"
+gcc -O1 -shared -fPIC -o refuse.so "$root/tools/refuse_growth.c"
 
 # Slots and thread storage, a common block, a group that two objects have, arrays, members of an archive that call one
 # another, and a name that none defines.
@@ -73,7 +73,7 @@ memory=$'|ld: Memory (1)\n|4'
 run() {
     local number=$1 status=0
     shift
-    REFUSE=$number LD_PRELOAD=$work/refuse.so "$linker" "$@" < <(cat start.o) >out 2>err 3>mark || status=$?
+    REFUSE_GROWTH=$number LD_PRELOAD=$work/refuse.so "$linker" "$@" < <(cat start.o) >out 2>err 3>mark || status=$?
     answer=$(cat out && printf '|' && cat err && printf '|%s' "$status")
 }
 
