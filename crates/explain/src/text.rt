@@ -3,7 +3,7 @@
 use crate::member_names::member_name;
 use crate::place::{ObjectPlace, Place, RelocationPlace, SectionPlace, SymbolFault, SymbolPlace};
 use command::Source;
-use elf_model::{CmdFault, InputFile};
+use elf_model::{CmdFault, InputFile, ObjFault};
 use relocate::RelocationFault;
 use std::io;
 use std::io::Write;
@@ -170,6 +170,26 @@ fn write_missing<W: Write>(out: &mut W, number: u64, source: Source<'_>) -> io::
     }
 }
 
+/// What a fault of an object says in short; docs/PROFILE.md says it whole.
+fn object_text(fault: ObjFault) -> &'static str {
+    match fault {
+        ObjFault::Memory => "out of memory",
+        ObjFault::Truncated => "shorter than the header of an ELF file",
+        ObjFault::NotElf64 => "no ELF file of 64 bits",
+        ObjFault::NotRelocatable => "no relocatable object",
+        ObjFault::WrongMachine => "not for x86-64",
+        ObjFault::BadSectionTable => "its section header table is unlawful",
+        ObjFault::BadSectionRange => "a section is outside the file, or of an unlawful alignment",
+        ObjFault::BadString => "a name has no text in its string table",
+        ObjFault::BadSymbolTable => {
+            "its symbol table is unlawful, or a symbol's binding, type or section is not linked, as of an indirect function"
+        }
+        ObjFault::BadRela => "a section of relocations is unlawful",
+        ObjFault::BadGroup => "a group of sections is unlawful",
+        ObjFault::TooMany => "4 GiB or more",
+    }
+}
+
 /// Writes a place of the files.
 fn write_input<W: Write>(out: &mut W, inputs: Inputs<'_>, place: &Place<'_>) -> io::Result<()> {
     match place {
@@ -178,7 +198,7 @@ fn write_input<W: Write>(out: &mut W, inputs: Inputs<'_>, place: &Place<'_>) -> 
         Place::NoIndex(path) => write!(out, "{path}: the archive has no index: ranlib makes one"),
         Place::Object(file, fault) => {
             write_file(out, inputs, file)?;
-            write!(out, "{fault}")
+            write!(out, "{fault}: {}", object_text(*fault))
         }
         Place::Groups(file, fault) => {
             write_file(out, inputs, file)?;

@@ -137,12 +137,17 @@ const FILES: [Row; 7] = [
         9,
         "n.a: the archive has no index: ranlib makes one\n",
     ),
-    (&[PLAIN, CUT], "a.o cut.o", 9, "cut.o: Truncated (2)\n"),
+    (
+        &[PLAIN, CUT],
+        "a.o cut.o",
+        9,
+        "cut.o: Truncated (2): shorter than the header of an ELF file\n",
+    ),
     (
         &[PLAIN, BROKEN],
         "a.o -u f b.a",
         9,
-        "b.a(long_named.o at 0x4e): Truncated (2)\n",
+        "b.a(long_named.o at 0x4e): Truncated (2): shorter than the header of an ELF file\n",
     ),
     (&[PLAIN, BROKEN], "a.o b.a", 9, ""),
 ];
