@@ -30,8 +30,8 @@ resident set, medians of the runs, in seconds and MiB; `by bytes` is memory by t
 written, and of the words. The last two columns are the doubled input's time and memory by those of the single one:
 linear is 2.
 
-The exit status is 1 where an answer is another one or time or memory grow more than 2.3 times, 2 without the proved
-program or GNU time.
+The exit status is 1 where an answer is another one, or memory grows more than 2.3 times, or time does where the double
+takes half a second or more; 2 without the proved program or GNU time.
 """
 
 import argparse
@@ -50,6 +50,8 @@ import elf
 ROOT = Path(__file__).resolve().parent.parent
 PROVED = ROOT / "crates" / "ld" / "out" / "ld"
 GROWTH_LIMIT = 2.3
+# Shorter times swing by more than the limit allows.
+LEAST_SECONDS = 0.5
 CODE = elf.ALLOC | elf.EXEC
 DATA = elf.ALLOC | elf.WRITE
 
@@ -353,9 +355,9 @@ def print_rows(name, count, results, single):
     for step, (seconds, kib, size) in results.items():
         line = f"{name:<13}{count:>11,}  {step:<7}{size / 1e6:>9.1f}{seconds:>9.2f}{kib / 1024:>9.1f}{1024 * kib / size:>9.2f}"
         if single:
-            ratios = [seconds / single[step][0], kib / single[step][1]]
-            line += "".join(f"{ratio:>8.2f}" for ratio in ratios)
-            within = within and all(ratio <= GROWTH_LIMIT for ratio in ratios)
+            time, memory = seconds / max(single[step][0], 0.01), kib / single[step][1]
+            line += f"{time:>8.2f}{memory:>8.2f}"
+            within = within and memory <= GROWTH_LIMIT and (time <= GROWTH_LIMIT or seconds < LEAST_SECONDS)
         print(line, flush=True)
     return within
 

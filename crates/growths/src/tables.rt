@@ -4,7 +4,6 @@ use byteview::View;
 use comdat::{Dropped, Groups};
 use elf_model::{GroupFault, InputFile, NameSeed, ObjFault};
 use elf_read::Object;
-use std::alloc::Global;
 use symbols::{Candidate, CandidateKind, IndexedTable, ListTable, NameTable, ObjectId, SymbolRef};
 
 /// Names of one byte each.
@@ -28,48 +27,57 @@ fn candidate(number: usize) -> Candidate {
     }
 }
 
-/// Whether two tables have the same row of each name.
-fn have_same_rows<T: NameTable<'static>, S: NameTable<'static>>(table: &T, twin: &S) -> bool {
-    NAMES
-        .chunks(1)
-        .all(|name| table.get(name) == twin.get(name))
-}
-
-/// Offers a candidate to a table, and again where memory is refused, before which the table must be as its twin.
-fn offer<T: NameTable<'static>, S: NameTable<'static>>(
-    run: &Run<'_>,
-    call: &str,
-    table: &mut T,
+/// Whether two tables have the same row of each name of one byte.
+fn have_same_rows<'a, T: NameTable<'a>, S: NameTable<'a>>(
+    names: &'a [u8],
+    table: &T,
     twin: &S,
-    number: usize,
-    name: &'static [u8],
-) {
-    if table.offer(name, candidate(number)).is_ok() {
-        return;
-    }
-    run.tell_refused(call);
-    let same = have_same_rows(table, twin);
-    if !same || table.offer(name, candidate(number)).is_err() {
-        let _ = println!(run.rt; "{call}: {name:?} is lost");
-    }
-}
-
-/// Offers all names to both tables, to the first one before the second; and once more.
-fn offer_all<T: NameTable<'static>, S: NameTable<'static>>(
-    run: &Run<'_>,
-    calls: (&str, &str),
-    table: &mut T,
-    twin: &mut S,
-) {
-    for (number, name) in NAMES.chunks(1).chain(NAMES.chunks(1)).enumerate() {
-        offer(run, calls.0, table, twin, number, name);
-        if twin.offer(name, candidate(number)).is_err() {
-            run.tell_refused(calls.1);
-            let _ = twin.offer(name, candidate(number));
+) -> bool {
+    for name in names.chunks(1) {
+        if table.get(name) != twin.get(name) {
+            return false;
         }
     }
-    let same = have_same_rows(table, twin);
-    let _ = println!(run.rt; "{}: same rows: {same}", calls.0);
+    true
+}
+
+/// Offers a candidate to a table, and again where memory is refused. Whether the table was then as its twin, and took
+/// it.
+fn offer<'a, T: NameTable<'a>, S: NameTable<'a>>(
+    run: &Run<'_>,
+    call: &str,
+    names: &'a [u8],
+    table: &mut T,
+    twin: &S,
+    offered: (&'a [u8], Candidate),
+) -> bool {
+    if table.offer(offered.0, offered.1).is_ok() {
+        return true;
+    }
+    run.tell_refused(call);
+    have_same_rows(names, table, twin) && table.offer(offered.0, offered.1).is_ok()
+}
+
+/// Offers names of one byte to both tables, to the first one before the second. Whether both took all, and have the same
+/// rows.
+fn offer_all<'a, T: NameTable<'a>, S: NameTable<'a>>(
+    run: &Run<'_>,
+    call: &str,
+    names: &'a [u8],
+    table: &mut T,
+    twin: &mut S,
+) -> bool {
+    for (number, name) in names.chunks(1).enumerate() {
+        let candidate = candidate(number);
+        if !offer(run, call, names, table, twin, (name, candidate)) {
+            return false;
+        }
+        if twin.offer(name, candidate).is_err() {
+            run.tell_refused("its twin");
+            let _ = twin.offer(name, candidate);
+        }
+    }
+    have_same_rows(names, table, twin)
 }
 
 /// The sections that an object loses to groups that were admitted before.
@@ -95,23 +103,27 @@ fn admit_all(run: &Run<'_>, files: &[InputFile]) {
     }
 }
 
+/// Offers names to a table by hash before its twin, a list; and all of them once more.
+fn run_index(run: &Run<'_>) {
+    let mut list = ListTable::new(run.alloc());
+    let mut index = IndexedTable::with_hasher(run.alloc(), NameSeed::fixed());
+    let same = offer_all(run, "offer of the index", NAMES, &mut index, &mut list)
+        && offer_all(run, "offer of the index", NAMES, &mut index, &mut list);
+    let _ = println!(run.rt; "offer of the index: same rows: {same}");
+}
+
+/// The same with the list before the table by hash.
+fn run_list(run: &Run<'_>) {
+    let mut list = ListTable::new(run.alloc());
+    let mut index = IndexedTable::with_hasher(run.alloc(), NameSeed::fixed());
+    let same = offer_all(run, "offer of the list", NAMES, &mut list, &mut index)
+        && offer_all(run, "offer of the list", NAMES, &mut list, &mut index);
+    let _ = println!(run.rt; "offer of the list: same rows: {same}");
+}
+
 /// Fills tables of names, and the set of the groups that files have.
 pub fn run_tables(run: &Run<'_>, files: &[InputFile]) {
-    let mut list = ListTable::new(run.alloc());
-    let mut index = IndexedTable::with_hasher(run.alloc(), NameSeed::fixed());
-    offer_all(
-        run,
-        ("offer of the index", "its twin"),
-        &mut index,
-        &mut list,
-    );
-    let mut list = ListTable::new(run.alloc());
-    let mut index = IndexedTable::with_hasher(run.alloc(), NameSeed::fixed());
-    offer_all(
-        run,
-        ("offer of the list", "its twin"),
-        &mut list,
-        &mut index,
-    );
+    run_index(run);
+    run_list(run);
     admit_all(run, files);
 }
