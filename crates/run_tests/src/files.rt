@@ -12,32 +12,32 @@ use std::test::Fail;
 static ARCHIVE: &[u8] = b"!<arch>\n";
 
 /// The object, but for its place and how it answers.
-fn object(path: &'static str) -> StoredFile<'static> {
+fn object<'a>(path: &'a str) -> StoredFile<'a> {
     StoredFile::sound(path, &OBJECT)
 }
 
-fn locked(path: &'static str, why: ErrorKind) -> StoredFile<'static> {
+fn locked<'a>(path: &'a str, why: ErrorKind) -> StoredFile<'a> {
     StoredFile {
         locked: Some(why),
         ..object(path)
     }
 }
 
-fn torn(path: &'static str, place: usize, why: ErrorKind) -> StoredFile<'static> {
+fn torn<'a>(path: &'a str, place: usize, why: ErrorKind) -> StoredFile<'a> {
     StoredFile {
         torn: Some((place, why)),
         ..object(path)
     }
 }
 
-fn told(path: &'static str, told: u64) -> StoredFile<'static> {
+fn told<'a>(path: &'a str, told: u64) -> StoredFile<'a> {
     StoredFile {
         told,
         ..object(path)
     }
 }
 
-fn slow<'a>(path: &'static str, bytes: &'a [u8], step: usize) -> StoredFile<'a> {
+fn slow<'a>(path: &'a str, bytes: &'a [u8], step: usize) -> StoredFile<'a> {
     StoredFile {
         step,
         ..StoredFile::sound(path, bytes)
