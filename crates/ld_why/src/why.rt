@@ -3,7 +3,7 @@
 use byteview::View;
 use command::{Plan, read_words};
 use elf_model::{CmdFault, InputFile, LinkError, MapFault};
-use explain::{Found, explain, write_place};
+use explain::{Found, Inputs, explain, write_place};
 use ld_main::{GatherFault, RealFiles, Verdict, check, gather, prepare};
 use linkmap::escape;
 use loader_model::Memory;
@@ -26,10 +26,10 @@ fn write_refusal<W: Write>(alloc: Global, out: &mut W, error: &LinkError) -> io:
     out.write_all(b"\n")
 }
 
-/// Writes places of the inputs, a line each, and how many more there are.
-fn write_places<W: Write>(out: &mut W, words: &[String], found: &Found<'_>) -> io::Result<()> {
+/// Writes the places that were found, a line each, and how many more there are.
+fn write_places<W: Write>(out: &mut W, inputs: Inputs<'_>, found: &Found<'_>) -> io::Result<()> {
     for place in found.places() {
-        write_place(out, words, place)?;
+        write_place(out, inputs, place)?;
         out.write_all(b"\n")?;
     }
     if found.more() > 0 {
@@ -46,7 +46,7 @@ fn write_reasons<W: Write>(
     words: &[String],
 ) -> io::Result<()> {
     let found = explain(alloc, files, words, MOST)?;
-    write_places(out, words, &found)
+    write_places(out, Inputs { files, words }, &found)
 }
 
 /// Refuses words that are no command.
