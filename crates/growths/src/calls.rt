@@ -9,7 +9,7 @@ use elf_model::InputFile;
 use elf_read::Object;
 use image_write::{Linkage, WriteFault, image, write_image};
 use ld_main::{check, link, link_map, prepare};
-use linkmap::{escape, print, read};
+use linkmap::{LinkMap, escape, ordered, print, read};
 use loader_model::Memory;
 use resolve::resolve;
 use search::{Loaded, load};
@@ -141,22 +141,27 @@ fn write(run: &Run<'_>, row: &Row, linkage: &Linkage<'_>) {
     }
 }
 
-fn print_map(run: &Run<'_>, row: &Row, linkage: &Linkage<'_>) {
-    let Some(map) = answered!(run, "link_map", link_map(run.alloc(), linkage)) else {
+/// Prints a map, whose lines must be in order, and tells whether its text is the wanted one.
+fn print_text(run: &Run<'_>, call: &str, map: &LinkMap, wanted: &[u8]) {
+    if !ordered(map) {
+        let _ = println!(run.rt; "{call}: lines out of order");
         return;
-    };
-    if let Some(text) = answered!(run, "print", print(run.alloc(), &map)) {
-        run.tell_bytes("print", &text, &row.map);
+    }
+    if let Some(text) = answered!(run, "print", print(run.alloc(), map)) {
+        run.tell_bytes(call, &text, wanted);
+    }
+}
+
+fn print_map(run: &Run<'_>, row: &Row, linkage: &Linkage<'_>) {
+    if let Some(map) = answered!(run, "link_map", link_map(run.alloc(), linkage)) {
+        print_text(run, "print", &map, &row.map);
     }
 }
 
 /// Reads the wanted map, and prints what was read.
 fn read_map(run: &Run<'_>, row: &Row) {
-    let Some(map) = answered!(run, "linkmap::read", read(run.alloc(), &row.map)) else {
-        return;
-    };
-    if let Some(text) = answered!(run, "print", print(run.alloc(), &map)) {
-        run.tell_bytes("linkmap::read", &text, &row.map);
+    if let Some(map) = answered!(run, "linkmap::read", read(run.alloc(), &row.map)) {
+        print_text(run, "linkmap::read", &map, &row.map);
     }
 }
 

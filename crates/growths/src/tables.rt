@@ -2,7 +2,7 @@
 use crate::refusals::{Run, answered};
 use byteview::View;
 use comdat::{Dropped, Groups};
-use elf_model::{GroupFault, InputFile, NameSeed, ObjFault};
+use elf_model::{InputFile, NameSeed};
 use elf_read::Object;
 use symbols::{Candidate, CandidateKind, IndexedTable, ListTable, NameTable, ObjectId, SymbolRef};
 
