@@ -5,7 +5,7 @@
 #
 # The linker is the program LD, else the proved crates/ld/out/ld; it must be linked dynamically with glibc, as the kit
 # links it. Inputs are made with as and ar, the library that refuses with gcc.
-# usage: [LD=PATH] tools/refuse_growths.sh; the exit status is 1 where an answer is wrong.
+# usage: [LD=PATH] tools/growths_of_ld.sh; the exit status is 1 where an answer is wrong.
 set -euo pipefail
 
 root=$(cd "$(dirname "${BASH_SOURCE[0]}")/.." && pwd)
