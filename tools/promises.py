@@ -273,7 +273,7 @@ def rows_of(call, crate):
     if len(call.clauses) == 1 and call.clauses[0].kind == "ensures":
         only = call.clauses[0]
         return [f"{first}| {cell_of(only)} | {call.doc}: {said_of(call, only, crate)} |"]
-    rows = [f"{first}| {'' if call.clauses else 'none'} | {call.doc} |"]
+    rows = [f"{first}| {'' if call.clauses else 'none '}| {call.doc} |"]
     for clause in call.clauses:
         rows.append(f"| | {cell_of(clause)} | {said_of(call, clause, crate)} |")
     return rows
