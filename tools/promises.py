@@ -197,28 +197,31 @@ def crate_of(name):
     modules = {it: module_of(it) for it in paths}
     lib = read(f"{folder}/lib.rt")
     crate = Crate(name, list(modules[f"{folder}/lib.rt"].functions.values()), {}, {}, [], {})
-    exports = re.findall(r"^pub use (\w+)::(\{[^}]*\}|[\w ]+);", lib, re.M)
+    exports = re.findall(r"^pub use ([\w:]+)::(\{[^{}]*\}|[\w ]+);", lib, re.M)
     if len(exports) != len(re.findall(r"^pub use ", lib, re.M)):
         raise ValueError(f"{folder}/lib.rt exports in a form that isn't known here")
     for origin, names in exports:
         words = [it.strip() for it in names.strip("{}").split(",") if it.strip()]
-        if f"{folder}/{origin}.rt" not in modules:
+        path = f"{folder}/{origin.replace('::', '/')}"
+        if f"{path}.rt" not in modules:
             crate.handed_on.setdefault(origin, []).extend(words)
             continue
         for word in words:
-            add_export(crate, modules, modules[f"{folder}/{origin}.rt"], *(word.split(" as ") * 2)[:2])
+            add_export(crate, modules, path, *(word.split(" as ") * 2)[:2])
     crate.imports = {path: it.imports for path, it in modules.items()}
     return crate
 
 
-def add_export(crate, modules, module, name, shown):
-    """Adds what a crate exports under a name: a function, or the methods of a type or of a trait."""
-    if name in module.functions:
-        one = module.functions[name]
-        crate.calls.append(Call(shown, one.path, one.doc, one.clauses))
+def add_export(crate, modules, origin, name, shown):
+    """Adds what a crate exports of a module or of one inside it: a function, or the methods of a type or of a trait."""
+    inside = [it for path, it in modules.items() if path == f"{origin}.rt" or path.startswith(f"{origin}/")]
+    functions = [it.functions[name] for it in inside if name in it.functions]
+    if functions:
+        crate.calls.append(Call(shown, functions[0].path, functions[0].doc, functions[0].clauses))
     elif name[0].islower():
-        raise ValueError(f"{module.path} has no public function {name}")
-    crate.calls += module.traits.get(name, [])
+        raise ValueError(f"{origin}.rt has no public function {name}")
+    for module in inside:
+        crate.calls += module.traits.get(name, [])
     for other in modules.values():
         crate.calls += other.methods.get(name, [])
         if name in other.views:
