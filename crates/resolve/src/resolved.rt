@@ -1,5 +1,5 @@
 //! What names and symbols mean among the loaded objects.
-ghost use Rattle.std.specs.Prelude.{◌≡◌, ℕ, List, IfErr, IfNone, IfOk, IfSome, OnOk, OnSome, None, Some, cond, false, find};
+ghost use Rattle.std.specs.Prelude.{◌≡◌, ℕ, List, IfErr, IfNone, IfOk, IfSome, OnOk, OnSome, None, Some, cond, false, find, is_some};
 ghost use Rattle.std.specs.Cmp.Lexicographic.{slice_cmp};
 ghost use Rattle.std.specs.List.{slice_get};
 ghost use Rattle.std.specs.List.Sorted.{IsSortedByKey};
@@ -257,6 +257,21 @@ impl<'a> Resolved<'a> {
     {
         let place = place_at(&self.places, object, number)?;
         definition_at(&self.definitions, place)
+    }
+
+    /// Whether an object defines the name of a symbol that isn't LOCAL. Reads no name.
+    pub fn is_chosen(&self, symbol: SymbolRef) -> bool
+        ensures { result ≡ is_some (named_at self.now symbol.object.0 symbol.symbol) }
+    {
+        let place = place_at(
+            &self.places,
+            symbol.object.0 as usize,
+            symbol.symbol as usize,
+        );
+        match place {
+            Some(place) => self.definitions.get(place).is_some(),
+            None => false,
+        }
     }
 
     /// What the linker itself defines a name as, whether or not an object does.
