@@ -7,7 +7,7 @@ ghost use Rattle.comdat.specs.Signatures.{Begins, names_of};
 
 use crate::lawfulness::is_comdat;
 use crate::marks::{is_marked, mark, marked_numbers};
-use elf_model::NameSeed;
+use elf_model::{Name, NameSeed};
 use elf_read::Group;
 use indexmap::IndexSet;
 use std::alloc::{AllocError, Global};
@@ -53,7 +53,7 @@ impl Dropped {
 /// Signatures that were seen stay where they are, also where memory is refused.
 pub fn admit_groups<'a>(
     alloc: Global,
-    signatures: &mut IndexSet<&'a [u8], NameSeed>,
+    signatures: &mut IndexSet<Name<'a>, NameSeed>,
     groups: &[Group<'a>],
     count: usize,
 ) -> Result<Dropped, AllocError>
@@ -72,7 +72,7 @@ pub fn admit_groups<'a>(
 
 /// Admits one group, and marks its members where it is dropped.
 fn admit_group<'a>(
-    signatures: &mut IndexSet<&'a [u8], NameSeed>,
+    signatures: &mut IndexSet<Name<'a>, NameSeed>,
     marks: &mut [bool],
     group: &Group<'a>,
 ) -> Result<(), AllocError>
@@ -83,7 +83,7 @@ fn admit_group<'a>(
     if !is_comdat(group) {
         return Ok(());
     }
-    if signatures.insert(group.signature())? {
+    if signatures.insert(Name(group.signature()))? {
         return Ok(());
     }
     mark(marks, group.members());
