@@ -10,6 +10,7 @@ use Rattle.elf_model.specs.MapRecord.{CommonRow, common_row}
 use Rattle.elf_model.specs.Placement.{is_common_row_of}
 use Rattle.elf_model.specs.Resolution.{SymbolOf, has_name, is_common_definition}
 use Rattle.elf_model.specs.declared.link_map.CommonLine.{CommonLine}
+use Rattle.elf_model.specs.declared.name.Name.{Name}
 use Rattle.check_link.specs.Chosen.{is_found}
 use Rattle.check_link.specs.Views.{block_view}
 use Rattle.check_link.specs.declared.commons.Asked.{Asked}
