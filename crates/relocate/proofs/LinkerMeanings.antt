@@ -1,13 +1,12 @@
 -- A reference means the linker's own name where it isn't LOCAL, the linker defines its name and no object does.
-use Rattle.std.proofs.Common.{◌≡◌, ◌∙◌, ◌+◌, ◌<◌, ◌≤◌, ◌⊎◌, inl, inr, ℕ, Bool, true, false, not, cond, ◌&&◌, ◌||◌, List, Option, None, Some, ap, arith, get_or, length, option_map, refl, subst, sym}
+use Rattle.std.proofs.Common.{◌≡◌, ◌∙◌, ℕ, Bool, true, false, not, cond, ◌&&◌, ◌||◌, List, Option, None, Some, ap, get_or, option_map, refl, sym}
 use Rattle.std.specs.BTreeSet.{BTreeSet}
 use Rattle.std.specs.Borrow.{Bor}
 use Rattle.std.specs.List.{All}
 use Rattle.std.specs.Prelude.{filter, is_some}
 use Rattle.std.specs.Str.{bytes_eq}
 use Rattle.std.proofs.Math.Bool.{or-false}
-use Rattle.std.proofs.lemmas.Bool.{cases_lt, false≢true}
-use Rattle.std.proofs.lemmas.List.{get_or_past}
+use Rattle.std.proofs.lemmas.Bool.{false≢true}
 use Rattle.std.proofs.lemmas.List.Elements.{All-map}
 use Rattle.std.proofs.lemmas.List.Folds.{list_any_none}
 use Rattle.std.specs.Option.{option_and_then, option_or}
@@ -15,12 +14,11 @@ use Rattle.elf_model.specs.Commons.{Block, block_named, is_common_symbol}
 use Rattle.elf_model.specs.LinkerNames.{bound_of}
 use Rattle.elf_model.specs.Loading.{LoadedObject}
 use Rattle.elf_model.specs.Meaning.{Common, Linker, Meaning, Symbol, meant}
-use Rattle.elf_model.specs.ObjectFile.{null_symbol, rela_symbol, relas_of, sections, symbols}
+use Rattle.elf_model.specs.ObjectFile.{rela_symbol, relas_of, sections}
 use Rattle.elf_model.specs.Relocation.{Relocation, definition_of, is_local, is_some_kind, relocation_of, relocations_from, symbol_at}
-use Rattle.elf_model.specs.Resolution.{SymbolOf, chosen, is_undefined, symbol_of}
+use Rattle.elf_model.specs.Resolution.{SymbolOf, chosen, is_undefined}
 use Rattle.elf_model.specs.UsedNames.{Gains, is_among, is_linker_use, uses_line}
 use Rattle.elf_model.specs.declared.bound.Bound.{Bound}
-use Rattle.elf_model.specs.declared.records.Symbol.{Symbol as Entry}
 use Rattle.elf_model.proofs.Listing.{chosen_means}
 use Rattle.elf_model.proofs.RelocationFields.{own_behind}
 use Rattle.resolve.specs.Meaning.{definition_at}
@@ -60,29 +58,6 @@ linker_use_at objects number o j there =
     ∙ linkers_is objects (symbol_at number o j)
 
 module _ (objects : List LoadedObject) (number : ℕ) (o : LoadedObject) where
-  -- none of the symbols below a number
-  abbrev pub NoneBelow : ℕ → Type 0
-  NoneBelow n = (i : ℕ) → i < n → is_linker_use objects (symbol_at number o i) ≡ false
-
-  pub none_more : (j : ℕ) → NoneBelow j → is_linker_use objects (symbol_at number o j) ≡ false → NoneBelow (j + 1)
-  none_more j before here i low = by (cases_lt i j)
-    where
-      by : (i < j) ⊎ (j ≤ i) → is_linker_use objects (symbol_at number o i) ≡ false
-      by (inl l) = before i l
-      by (inr g) =
-          let e : j ≡ i = omega (arith, low, g) in
-          subst (λ (k : ℕ). is_linker_use objects (symbol_at number o k) ≡ false) e here
-
-  -- a symbol that there isn't is a LOCAL one
-  pub none_at_all : (n : ℕ) → length (symbols o.bytes) ≤ n → NoneBelow n → HasNoLinkerUse objects number o
-  none_at_all n whole before j = by (cases_lt j n)
-    where
-      by : (j < n) ⊎ (n ≤ j) → is_linker_use objects (symbol_at number o j) ≡ false
-      by (inl l) = before j l
-      by (inr g) =
-          ap (λ (s : Entry). is_linker_use objects (symbol_of number o j s))
-          (get_or_past (symbols o.bytes) j null_symbol (omega (arith, whole, g)))
-
   -- its relocations add no name
   pub no_gain : HasNoLinkerUse objects number o → (names : BTreeSet (Bor (List ℕ))) → Gains objects (relocations_from number o) names names
   no_gain none names name =
