@@ -15,3 +15,4 @@ pub mod SoundWalk
 mod StrongOnes
 pub mod Walks
 pub mod WrittenPlaces
+pub mod ThreadFlags
