@@ -2,6 +2,7 @@
 use Rattle.std.proofs.Common.{◌≡◌, ℕ, ◌+◌, ◌<◌, ◌≤◌, ◌&&◌, Bool, true, false, cond, max, List, [], ◌∷◌, ◌++◌, append_assoc, Option, Some, drop, get_or, length, length-append, map, refl, sym, ap, ◌∙◌, arith}
 use Rattle.std.specs.Prelude.{filter, option_map, unwrap_or}
 use Rattle.std.specs.Borrow.{Bor}
+use Rattle.elf_model.specs.declared.name.Name.{Name}
 use Rattle.std.specs.BTreeMap.{BTreeMap, get_by}
 use Rattle.std.specs.Cmp.Lexicographic.{slice_cmp}
 use Rattle.std.specs.Option.{option_map_or}
@@ -135,7 +136,7 @@ kept_twice {X} p q (x ∷ xs) = by (p x) (q x) refl (kept_twice p q xs)
     by false false e rest = rest
 
 pub blocks_chosen :
-    {S : Type 0} (objects : List LoadedObject) (chosen : IndexMap (Bor (List ℕ)) ℕ S) (ss : List SymbolOf) → AreChosen objects ss chosen →
+    {S : Type 0} (objects : List LoadedObject) (chosen : IndexMap Name ℕ S) (ss : List SymbolOf) → AreChosen objects ss chosen →
     ss ≡ definitions objects → blocks_from objects 0 (filter (is_block_symbol chosen ss) ss) ≡ blocks objects
 blocks_chosen objects chosen ss are is =
     let same : is_found chosen ss ≡ is_chosen objects = λ i s. ap (λ (o : Option SymbolOf). option_map_or (is_same_symbol s) o false) (are s.name) i in

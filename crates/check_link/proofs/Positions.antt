@@ -1,35 +1,35 @@
 -- The positions of the chosen definitions in the list of all.
 use Rattle.std.proofs.Common.{◌≡◌, ℕ, ◌+◌, Bool, true, false, cond, List, [], ◌∷◌, ◌++◌, append_assoc, length, length-append, Option, Some, None, refl, sym, ap, ◌∙◌, arith}
 use Rattle.std.specs.Prelude.{find, slice_get, unwrap_or}
-use Rattle.std.specs.Borrow.{Bor}
 use Rattle.std.specs.HashMap.{HashMap, Updates}
 use Rattle.std.specs.Map.{lookup}
 use Rattle.std.specs.Option.{option_and_then, option_or}
 use Rattle.std.specs.Str.{bytes_eq}
-use Rattle.std.proofs.lemmas.Map.Text.{hash_map_updates_str}
 use Rattle.std.proofs.lemmas.Slice.Eq.{bytes_eq-Decides}
 use Rattle.elf_model.proofs.Found.{or_none}
+use Rattle.elf_model.proofs.NamedEntries.{entries_updated}
 use Rattle.elf_model.specs.Resolution.{SymbolOf}
+use Rattle.elf_model.specs.declared.name.Name.{Name}
 use Rattle.check_link.specs.Chosen.{first_from, position_in}
 
 -- what an index has for each name, once a position came in for one that it might have
 pub position_added :
-    {S : Type 0} (m : HashMap (Bor (List ℕ)) ℕ S) (written : ℕ → HashMap (Bor (List ℕ)) ℕ S) (name : Bor (List ℕ)) (position there : ℕ) (to : List (Bor (List ℕ) × ℕ)) →
-    ((v : ℕ) → Updates (λ x y. bytes_eq x.now y.now) m (written v) name (Some v)) →
-    there ≡ unwrap_or (position_in m name.now) position → to ≡ (written there).entries →
-    (n : List ℕ) → lookup (λ k. bytes_eq n k.now) to ≡ option_or (position_in m n) (cond (bytes_eq name.now n) (Some position) None)
+    {S : Type 0} (m : HashMap Name ℕ S) (written : ℕ → HashMap Name ℕ S) (name : Name) (position there : ℕ) (to : List (Name × ℕ)) →
+    ((v : ℕ) → Updates (λ x y. bytes_eq x.0.now y.0.now) m (written v) name (Some v)) →
+    there ≡ unwrap_or (position_in m name.0.now) position → to ≡ (written there).entries →
+    (n : List ℕ) → lookup (λ k. bytes_eq n k.0.now) to ≡ option_or (position_in m n) (cond (bytes_eq name.0.now n) (Some position) None)
 position_added m written name position there to updates is same n =
-    ap (λ es. lookup (λ k. bytes_eq n k.now) es) same
-    ∙ hash_map_updates_str name.now m (written there) (Some there) (updates there) n
-    ∙ by (bytes_eq name.now n) refl
+    ap (λ es. lookup (λ k. bytes_eq n k.0.now) es) same
+    ∙ entries_updated m (written there) name (Some there) (updates there) n
+    ∙ by (bytes_eq name.0.now n) refl
   where
     kept : (o : Option ℕ) → Some (unwrap_or o position) ≡ option_or o (Some position)
     kept None = refl
     kept (Some p) = refl
 
-    by : (b : Bool) → bytes_eq name.now n ≡ b → cond b (Some there) (position_in m n) ≡ option_or (position_in m n) (cond b (Some position) None)
+    by : (b : Bool) → bytes_eq name.0.now n ≡ b → cond b (Some there) (position_in m n) ≡ option_or (position_in m n) (cond b (Some position) None)
     by true e =
-        ap (λ (p : ℕ). Some p) (is ∙ ap (λ (bs : List ℕ). unwrap_or (position_in m bs) position) ((bytes_eq-Decides name.now n).0 e)) ∙ kept (position_in m n)
+        ap (λ (p : ℕ). Some p) (is ∙ ap (λ (bs : List ℕ). unwrap_or (position_in m bs) position) ((bytes_eq-Decides name.0.now n).0 e)) ∙ kept (position_in m n)
     by false e = sym (or_none (position_in m n))
 
 -- what stands behind the front of a list

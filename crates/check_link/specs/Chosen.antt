@@ -1,6 +1,6 @@
 -- The chosen definitions of names, as an index has their positions in the list of the definitions.
 use Rattle.std.specs.Prelude.{◌≡◌, ℕ, ◌+◌, Bool, false, cond, List, [], ◌∷◌, Option, Some, None, slice_get}
-use Rattle.std.specs.Borrow.{Bor}
+use Rattle.elf_model.specs.declared.name.Name.{Name}
 use Rattle.std.specs.Option.{option_and_then, option_map_or}
 use Rattle.std.specs.Str.{bytes_eq}
 use Rattle.indexmap.specs.IndexMap.{IndexMap, get_by}
@@ -15,17 +15,17 @@ first_from test k (s ∷ ss) = cond (test s) (Some k) (first_from test (k + 1) s
 
 module _ {S : Type 0} where
   -- the position that an index has for a name
-  abbrev pub position_in : IndexMap (Bor (List ℕ)) ℕ S → List ℕ → Option ℕ
-  position_in index name = get_by (λ k. bytes_eq name k.now) index
+  abbrev pub position_in : IndexMap Name ℕ S → List ℕ → Option ℕ
+  position_in index name = get_by (λ k. bytes_eq name k.0.now) index
 
   -- the definition that an index has for a name
-  abbrev pub definition_in : IndexMap (Bor (List ℕ)) ℕ S → List SymbolOf → List ℕ → Option SymbolOf
+  abbrev pub definition_in : IndexMap Name ℕ S → List SymbolOf → List ℕ → Option SymbolOf
   definition_in index ss name = option_and_then (slice_get ss) (position_in index name)
 
   -- a symbol is the one that an index has for its name
-  abbrev pub is_found : IndexMap (Bor (List ℕ)) ℕ S → List SymbolOf → SymbolOf → Bool
+  abbrev pub is_found : IndexMap Name ℕ S → List SymbolOf → SymbolOf → Bool
   is_found index ss s = option_map_or (is_same_symbol s) (definition_in index ss s.name) false
 
   -- an index has for each name its chosen definition
-  abbrev pub AreChosen : List LoadedObject → List SymbolOf → IndexMap (Bor (List ℕ)) ℕ S → Type 0
+  abbrev pub AreChosen : List LoadedObject → List SymbolOf → IndexMap Name ℕ S → Type 0
   AreChosen objects ss index = (name : List ℕ) → definition_in index ss name ≡ chosen objects name

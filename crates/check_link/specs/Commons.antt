@@ -10,6 +10,7 @@ use Rattle.elf_model.specs.MapRecord.{CommonRow, common_row}
 use Rattle.elf_model.specs.Placement.{is_common_row_of}
 use Rattle.elf_model.specs.Resolution.{SymbolOf, has_name, is_common_definition}
 use Rattle.elf_model.specs.declared.link_map.CommonLine.{CommonLine}
+use Rattle.elf_model.specs.declared.name.Name.{Name}
 use Rattle.check_link.specs.Chosen.{is_found}
 use Rattle.check_link.specs.Views.{block_view}
 use Rattle.check_link.specs.declared.commons.Asked.{Asked}
@@ -44,7 +45,7 @@ pub record HasAsked (asked : BTreeMap (Bor (List ℕ)) Asked) (ss : List SymbolO
   pub aligns : (name : List ℕ) → asked_in (λ a. a.align) asked name ≡ greatest_given given_align name ss
 
 -- a common symbol, and the one that an index has for its name
-abbrev pub is_block_symbol : {S : Type 0} → IndexMap (Bor (List ℕ)) ℕ S → List SymbolOf → SymbolOf → Bool
+abbrev pub is_block_symbol : {S : Type 0} → IndexMap Name ℕ S → List SymbolOf → SymbolOf → Bool
 is_block_symbol chosen ss s = is_common_symbol s && is_found chosen ss s
 
 -- the block that an index has for a name

@@ -12,25 +12,25 @@ ghost use Rattle.check_link.specs.Views.{symbol_view, symbol_views};
 use crate::definitions::{is_common_definition, is_strong, is_weak_definition};
 use crate::things::SymbolOf;
 use check_load::Loaded;
-use elf_model::NameSeed;
+use elf_model::{Name, NameSeed};
 use indexmap::IndexMap;
 use std::alloc::{AllocError, Global};
 
 /// Puts a position into the index, unless one of the name is there.
 fn add_position<'a>(
-    index: &mut IndexMap<&'a [u8], usize, NameSeed>,
+    index: &mut IndexMap<Name<'a>, usize, NameSeed>,
     name: &'a [u8],
     position: usize,
 ) -> Result<(), AllocError>
     ensures { OnOk result ((n : List ℕ) → position_in index.new n ≡ option_or (position_in index.old n) (cond (bytes_eq name.now n) (Some position) None)) }
 {
-    let _position = index.entry(name)?.or_insert(position);
+    let _position = index.entry(Name(name))?.or_insert(position);
     Ok(())
 }
 
 /// Puts a definition's position into the index where it is `wanted`, unless one of its name is there.
 fn add_wanted<'a>(
-    index: &mut IndexMap<&'a [u8], usize, NameSeed>,
+    index: &mut IndexMap<Name<'a>, usize, NameSeed>,
     wanted: bool,
     symbol: &SymbolOf<'a>,
     position: usize,
@@ -45,7 +45,7 @@ fn add_wanted<'a>(
 
 /// Adds the first strong one among definitions of each name that the index hasn't got.
 fn add_strong<'a>(
-    index: &mut IndexMap<&'a [u8], usize, NameSeed>,
+    index: &mut IndexMap<Name<'a>, usize, NameSeed>,
     definitions: &[SymbolOf<'a>],
 ) -> Result<(), AllocError>
     ensures { OnOk result ((name : List ℕ) → position_in index.new name ≡ option_or (position_in index.old name) (first_from (λ s. is_strong s && has_name name s) 0 (symbol_views definitions.now))) }
@@ -58,7 +58,7 @@ fn add_strong<'a>(
 
 /// Adds the first common one among definitions of each name that the index hasn't got.
 fn add_common<'a>(
-    index: &mut IndexMap<&'a [u8], usize, NameSeed>,
+    index: &mut IndexMap<Name<'a>, usize, NameSeed>,
     definitions: &[SymbolOf<'a>],
 ) -> Result<(), AllocError>
     ensures { OnOk result ((name : List ℕ) → position_in index.new name ≡ option_or (position_in index.old name) (first_from (λ s. is_common_definition s && has_name name s) 0 (symbol_views definitions.now))) }
@@ -71,7 +71,7 @@ fn add_common<'a>(
 
 /// Adds the first weak one among definitions of each name that the index hasn't got.
 fn add_weak<'a>(
-    index: &mut IndexMap<&'a [u8], usize, NameSeed>,
+    index: &mut IndexMap<Name<'a>, usize, NameSeed>,
     definitions: &[SymbolOf<'a>],
 ) -> Result<(), AllocError>
     ensures { OnOk result ((name : List ℕ) → position_in index.new name ≡ option_or (position_in index.old name) (first_from (λ s. is_weak_definition s && has_name name s) 0 (symbol_views definitions.now))) }
@@ -87,7 +87,7 @@ pub fn index_names<'a>(
     alloc: Global,
     objects: &[Loaded<'a>],
     definitions: &[SymbolOf<'a>],
-) -> Result<IndexMap<&'a [u8], usize, NameSeed>, AllocError>
+) -> Result<IndexMap<Name<'a>, usize, NameSeed>, AllocError>
     requires { symbol_views definitions.now ≡ filter is_definition (all_symbols (loaded_views objects.now)) }
     ensures { IfOk result (AreChosen (loaded_views objects.now) (symbol_views definitions.now)) }
 {
@@ -104,19 +104,19 @@ pub fn index_names<'a>(
 
 /// The definition that an index has for a name; None where it has none.
 pub fn definition_of<'a>(
-    index: &IndexMap<&'a [u8], usize, NameSeed>,
+    index: &IndexMap<Name<'a>, usize, NameSeed>,
     definitions: &[SymbolOf<'a>],
     name: &[u8],
 ) -> Option<SymbolOf<'a>>
     ensures { option_map symbol_view result ≡ definition_in index.now (symbol_views definitions.now) name.now }
 {
-    let position = index.get(name).copied()?;
+    let position = index.get(&Name(name)).copied()?;
     definitions.get(position).copied()
 }
 
 /// Whether a symbol is the one that an index has for its name.
 pub fn is_chosen<'a>(
-    index: &IndexMap<&'a [u8], usize, NameSeed>,
+    index: &IndexMap<Name<'a>, usize, NameSeed>,
     definitions: &[SymbolOf<'a>],
     symbol: &SymbolOf<'a>,
 ) -> bool

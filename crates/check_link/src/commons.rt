@@ -16,7 +16,7 @@ use crate::chosen_definitions::is_chosen;
 use crate::definitions::{is_common, is_common_definition};
 use crate::things::{Block, SymbolOf};
 use check_load::Loaded;
-use elf_model::{NameSeed, SHN_COMMON, STB_GLOBAL, STT_TLS, Symbol};
+use elf_model::{Name, NameSeed, SHN_COMMON, STB_GLOBAL, STT_TLS, Symbol};
 use elf_read::is_power_of_two;
 use indexmap::IndexMap;
 use std::alloc::{AllocError, Global};
@@ -120,7 +120,7 @@ fn asked_of<'a>(
 
 /// Whether a symbol is a common one, and the one that an index has for its name.
 fn is_block_symbol<'a>(
-    chosen: &IndexMap<&'a [u8], usize, NameSeed>,
+    chosen: &IndexMap<Name<'a>, usize, NameSeed>,
     definitions: &[SymbolOf<'a>],
     symbol: &SymbolOf<'a>,
 ) -> bool
@@ -183,7 +183,7 @@ fn add_blocks<'a>(
     alloc: Global,
     objects: &[Loaded<'a>],
     asked: &BTreeMap<&'a [u8], Asked>,
-    chosen: &IndexMap<&'a [u8], usize, NameSeed>,
+    chosen: &IndexMap<Name<'a>, usize, NameSeed>,
     definitions: &[SymbolOf<'a>],
 ) -> Result<Vec<Block<'a>>, AllocError>
     requires { HasAsked asked.now (all_symbols (loaded_views objects.now)) }
@@ -201,7 +201,7 @@ fn add_blocks<'a>(
 pub fn blocks_of<'a>(
     alloc: Global,
     objects: &[Loaded<'a>],
-    chosen: &IndexMap<&'a [u8], usize, NameSeed>,
+    chosen: &IndexMap<Name<'a>, usize, NameSeed>,
     definitions: &[SymbolOf<'a>],
 ) -> Result<Vec<Block<'a>>, AllocError>
     requires definitions { symbol_views definitions.now ≡ filter is_definition (all_symbols (loaded_views objects.now)) }

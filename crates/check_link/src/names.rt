@@ -12,7 +12,7 @@ use crate::commons::{are_sound_commons, blocks_of, index_blocks};
 use crate::definitions::{definitions_of, is_common};
 use crate::things::{Block, Meaning, SymbolOf};
 use check_load::Loaded;
-use elf_model::NameSeed;
+use elf_model::{Name, NameSeed};
 use indexmap::IndexMap;
 use std::alloc::{AllocError, Global};
 use std::collections::BTreeMap;
@@ -24,7 +24,7 @@ use std::marker::Model;
 pub struct Names<'l, 'a> {
     objects: &'l [Loaded<'a>],
     definitions: Vec<SymbolOf<'a>>,
-    chosen: IndexMap<&'a [u8], usize, NameSeed>,
+    chosen: IndexMap<Name<'a>, usize, NameSeed>,
     blocks: Vec<Block<'a>>,
     blocks_by_name: BTreeMap<&'a [u8], Block<'a>>,
 }

@@ -78,7 +78,7 @@ fn is_sound(
 ) -> bool
     ensures { IsTrue result ↔ IsSoundSymbol (loaded_views objects.now) (symbol_of number (loaded_view loaded.now) j entry.now) }
 {
-    if is_visible(entry) && loaded.object.symbol_name(j).is_empty() {
+    if is_visible(entry) && !loaded.object.is_named(j) {
         return false;
     }
     loaded.is_dropped(entry.st_shndx as usize) || is_placed_well(objects, number, entry)

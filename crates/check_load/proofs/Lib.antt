@@ -5,7 +5,6 @@ pub mod LoadLaws
 pub mod LoaderLaws
 pub mod LawfulGroups
 pub mod LostMembers
-pub mod MarkLemmas
 pub mod NotedNames
 pub mod PlaceLaws
 pub mod OpenedLaws

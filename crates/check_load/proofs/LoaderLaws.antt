@@ -1,6 +1,6 @@
 -- What a loader knows, with nothing loaded and with one object more.
 use Rattle.std.proofs.Common.{◌≡◌, ℕ, ◌==◌, Bool, true, false, ◌&&◌, ◌||◌, not, List, [], ◌∷◌, ◌++◌, refl, sym, ◌∙◌, ap, subst}
-use Rattle.std.specs.Borrow.{Bor}
+use Rattle.elf_model.specs.declared.name.Name.{Name}
 use Rattle.std.specs.List.{list_any}
 use Rattle.std.specs.Str.{bytes_eq}
 use Rattle.std.proofs.lemmas.Bool.{and_from, and_parts, eq-eqb, eqb-true, not-true, or_parts}
@@ -81,9 +81,9 @@ unfolding is_begun
 is_begun_more os x i = list_any-append (λ y. y.item == i) os (x ∷ [])
 
 -- A loader.
-none_seen : (names : List (Bor (List ℕ))) → names ≡ [] → (n : List ℕ) → seen_in names n ≡ false
+none_seen : (names : List Name) → names ≡ [] → (n : List ℕ) → seen_in names n ≡ false
 unfolding seen_in
-none_seen names none n = ap (λ (ks : List (Bor (List ℕ))). list_any (λ k. bytes_eq n k.now) ks) none
+none_seen names none n = ap (λ (ks : List Name). list_any (λ k. bytes_eq n k.0.now) ks) none
 
 -- an entry that gives a member later gave it before where its name was asked for then
 free_before :

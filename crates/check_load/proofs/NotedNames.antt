@@ -1,16 +1,16 @@
 -- Names as symbols are noted, one after the other.
 use Rattle.std.proofs.Common.{◌≡◌, cond, ℕ, suc, ◌+◌, ◌<◌, ◌≤◌, Bool, true, false, ◌&&◌, ◌||◌, List, [], length, get_or, drop, Some, None, Option, refl, sym, ◌∙◌, ap, subst, arith, drop-cons}
 use Rattle.std.specs.Prelude.{unwrap_or}
-use Rattle.std.specs.Borrow.{Bor}
 use Rattle.std.specs.List.{list_any}
 use Rattle.std.specs.Str.{bytes_eq}
 use Rattle.std.proofs.Math.ListN.{drop_of_length-le}
 use Rattle.std.specs.HashMap.{HashMap, Updates}
 use Rattle.std.specs.Option.{option_map_or}
-use Rattle.std.proofs.lemmas.Map.Text.{hash_map_updates_str}
 use Rattle.std.proofs.lemmas.Slice.Eq.{bytes_eq-Decides}
 use Rattle.elf_model.specs.Loading.{has_name, is_definition, is_request}
+use Rattle.elf_model.specs.declared.name.Name.{Name}
 use Rattle.elf_model.specs.declared.records.Symbol.{Symbol}
+use Rattle.elf_model.proofs.NamedEntries.{entries_updated}
 use Rattle.check_load.specs.Names.{Names, asked_from, defined_from, defines_name, requests_name, state_in, unknown}
 use Rattle.check_load.specs.declared.known_names.NameState.{NameState}
 
@@ -23,30 +23,30 @@ module _ (field : NameState → Bool) where
   read_or (Some v) d none = refl
   read_or None d none = none
 
-  noted : {S : Type 0} (m w : HashMap (Bor (List ℕ)) NameState S) (name : Bor (List ℕ)) (old new d : NameState) (t : Bool) (es : Names) →
-      Updates (λ x y. bytes_eq x.now y.now) m w name (Some new) → old ≡ unwrap_or (state_in m.entries name.now) d → field d ≡ false →
-      field new ≡ (t || field old) → es ≡ w.entries → (n : List ℕ) → has es n ≡ (bytes_eq name.now n && t || has m.entries n)
+  noted : {S : Type 0} (m w : HashMap Name NameState S) (name : Name) (old new d : NameState) (t : Bool) (es : Names) →
+      Updates (λ x y. bytes_eq x.0.now y.0.now) m w name (Some new) → old ≡ unwrap_or (state_in m.entries name.0.now) d → field d ≡ false →
+      field new ≡ (t || field old) → es ≡ w.entries → (n : List ℕ) → has es n ≡ (bytes_eq name.0.now n && t || has m.entries n)
   noted m w name old new d t es updates was none is same n =
       ap (λ (l : Names). has l n) same
-      ∙ (ap (λ (o : Option NameState). option_map_or field o false) (hash_map_updates_str name.now m w (Some new) updates n) ∙ by (bytes_eq name.now n) refl)
+      ∙ (ap (λ (o : Option NameState). option_map_or field o false) (entries_updated m w name (Some new) updates n) ∙ by (bytes_eq name.0.now n) refl)
     where
-      by : (b : Bool) → bytes_eq name.now n ≡ b → option_map_or field (cond b (Some new) (state_in m.entries n)) false ≡ (b && t || has m.entries n)
+      by : (b : Bool) → bytes_eq name.0.now n ≡ b → option_map_or field (cond b (Some new) (state_in m.entries n)) false ≡ (b && t || has m.entries n)
       by true e =
           is ∙ ap (λ (b : Bool). t || b)
-          (ap field was ∙ (read_or (state_in m.entries name.now) d none ∙ ap (has m.entries) ((bytes_eq-Decides name.now n).0 e)))
+          (ap field was ∙ (read_or (state_in m.entries name.0.now) d none ∙ ap (has m.entries) ((bytes_eq-Decides name.0.now n).0 e)))
       by false e = refl
 
-module _ {S : Type 0} (m w : HashMap (Bor (List ℕ)) NameState S) (name : Bor (List ℕ)) (old new said : NameState) (es : Names)
-    (updates : Updates (λ x y. bytes_eq x.now y.now) m w name (Some new)) (was : old ≡ unwrap_or (state_in m.entries name.now) unknown) (same : es ≡ w.entries) where
-  pub requested_noted : new.requested ≡ (said.requested || old.requested) → (n : List ℕ) → requests_name es n ≡ (bytes_eq name.now n && said.requested || requests_name m.entries n)
+module _ {S : Type 0} (m w : HashMap Name NameState S) (name : Name) (old new said : NameState) (es : Names)
+    (updates : Updates (λ x y. bytes_eq x.0.now y.0.now) m w name (Some new)) (was : old ≡ unwrap_or (state_in m.entries name.0.now) unknown) (same : es ≡ w.entries) where
+  pub requested_noted : new.requested ≡ (said.requested || old.requested) → (n : List ℕ) → requests_name es n ≡ (bytes_eq name.0.now n && said.requested || requests_name m.entries n)
   unfolding requests_name
   requested_noted is n = noted (λ s. s.requested) m w name old new unknown said.requested es updates was refl is same n
 
-  pub defined_noted : new.defined ≡ (said.defined || old.defined) → (n : List ℕ) → defines_name es n ≡ (bytes_eq name.now n && said.defined || defines_name m.entries n)
+  pub defined_noted : new.defined ≡ (said.defined || old.defined) → (n : List ℕ) → defines_name es n ≡ (bytes_eq name.0.now n && said.defined || defines_name m.entries n)
   unfolding defines_name
   defined_noted is n = noted (λ s. s.defined) m w name old new unknown said.defined es updates was refl is same n
 
-pub requested_before : {S : Type 0} (m : HashMap (Bor (List ℕ)) NameState S) (name : List ℕ) (old : NameState) → old ≡ unwrap_or (state_in m.entries name) unknown →
+pub requested_before : {S : Type 0} (m : HashMap Name NameState S) (name : List ℕ) (old : NameState) → old ≡ unwrap_or (state_in m.entries name) unknown →
     requests_name m.entries name ≡ old.requested
 unfolding requests_name
 requested_before m name old was = sym (ap (λ (s : NameState). s.requested) was ∙ read_or (λ s. s.requested) (state_in m.entries name) unknown refl)

@@ -1,6 +1,5 @@
 -- What is known of names, and what the symbols of an object ask for and define.
 use Rattle.std.specs.Prelude.{ℕ, Bool, false, List, Option, ◌&&◌}
-use Rattle.std.specs.Borrow.{Bor}
 use Rattle.std.specs.List.{list_any}
 use Rattle.std.specs.Map.{lookup}
 use Rattle.std.specs.Option.{option_map_or}
@@ -8,11 +7,12 @@ use Rattle.std.specs.Str.{bytes_eq}
 use Rattle.elf_model.specs.Loading.{has_name, is_definition, is_request}
 use Rattle.elf_model.specs.ObjectFile.{symbols}
 use Rattle.elf_model.specs.declared.records.Symbol.{Symbol}
+use Rattle.elf_model.specs.declared.name.Name.{Name}
 use Rattle.check_load.specs.declared.known_names.NameState.{NameState}
 
--- borrowed names with what is known of them
+-- names with what is known of them
 abbrev pub Names : Type 0
-Names = List (Bor (List ℕ) × NameState)
+Names = List (Name × NameState)
 
 -- what is known of a name that was never noted
 abbrev pub unknown : NameState
@@ -20,7 +20,7 @@ unknown = record { requested = false; defined = false }
 
 -- what is known of a name
 abbrev pub state_in : Names → List ℕ → Option NameState
-state_in names name = lookup (λ k. bytes_eq name k.now) names
+state_in names name = lookup (λ k. bytes_eq name k.0.now) names
 
 -- a name is asked for; it is defined
 unfoldable pub requests_name : Names → List ℕ → Bool

@@ -3,7 +3,7 @@ ghost use Rattle.std.specs.Prelude.{◌≡◌, ◌&&◌, ◌||◌, ℕ, IfOk, Li
 ghost use Rattle.std.specs.Str.{bytes_eq};
 ghost use Rattle.check_load.specs.Names.{defines_name, requests_name};
 
-use elf_model::NameSeed;
+use elf_model::{Name, NameSeed};
 use indexmap::IndexMap;
 use std::alloc::{AllocError, Global};
 use std::marker::Model;
@@ -38,7 +38,7 @@ fn take_in(state: &mut NameState, said: NameState) -> bool
 /// The names that were noted, with what is known of them.
 #[derive(Drop)]
 pub struct KnownNames<'a> {
-    states: IndexMap<&'a [u8], NameState, NameSeed>,
+    states: IndexMap<Name<'a>, NameState, NameSeed>,
 }
 
 impl<'a> Model for KnownNames<'a> {
@@ -66,7 +66,7 @@ impl<'a> KnownNames<'a> {
         ensures requested { result.requested ≡ requests_name self.now name.now }
         ensures defined { result.defined ≡ defines_name self.now name.now }
     {
-        match self.states.get(name) {
+        match self.states.get(&Name(name)) {
             Some(state) => *state,
             None => UNKNOWN,
         }
@@ -78,7 +78,7 @@ impl<'a> KnownNames<'a> {
         ensures requested { OnOk result ((n : List ℕ) → requests_name self.new n ≡ (bytes_eq name.entry.now n && said.requested || requests_name self.old n)) }
         ensures defined { OnOk result ((n : List ℕ) → defines_name self.new n ≡ (bytes_eq name.entry.now n && said.defined || defines_name self.old n)) }
     {
-        let state = self.states.entry(name)?.or_insert(UNKNOWN);
+        let state = self.states.entry(Name(name))?.or_insert(UNKNOWN);
         Ok(take_in(state, said))
     }
 }

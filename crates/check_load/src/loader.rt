@@ -26,7 +26,7 @@ use crate::taken_members::Taken;
 use ar_index::IndexEntry;
 use byteview::View;
 use command::Plan;
-use elf_model::{NameSeed, ObjFault, SHT_RELA, SectionHeader};
+use elf_model::{Name, NameSeed, ObjFault, SHT_RELA, SectionHeader};
 use elf_read::Object;
 use indexmap::IndexSet;
 use std::alloc::{AllocError, Global};
@@ -85,7 +85,7 @@ impl<'a> Loaded<'a> {
 pub struct Loader<'p, 'a> {
     plan: &'p Plan<'a>,
     objects: Vec<Loaded<'a>>,
-    seen: IndexSet<&'a [u8], NameSeed>,
+    seen: IndexSet<Name<'a>, NameSeed>,
     names: KnownNames<'a>,
     taken: Taken,
     awake: Awake,

@@ -10,7 +10,7 @@ ghost use Rattle.check_load.specs.Stops.{Refutes};
 use crate::lawfulness::{are_lawful, is_comdat};
 use crate::marks::{is_marked, mark};
 use crate::stops::Stop;
-use elf_model::NameSeed;
+use elf_model::{Name, NameSeed};
 use elf_read::{Group, Object};
 use indexmap::IndexSet;
 use std::alloc::{AllocError, Global};
@@ -42,7 +42,7 @@ impl Dropped {
 
 /// Adds the signature of a group that is seen, and marks its members where it is dropped.
 fn admit_group<'a>(
-    seen: &mut IndexSet<&'a [u8], NameSeed>,
+    seen: &mut IndexSet<Name<'a>, NameSeed>,
     marks: &mut [bool],
     group: &Group<'a>,
 ) -> Result<(), AllocError>
@@ -52,7 +52,7 @@ fn admit_group<'a>(
     if !is_comdat(group) {
         return Ok(());
     }
-    if seen.insert(group.signature())? {
+    if seen.insert(Name(group.signature()))? {
         return Ok(());
     }
     mark(marks, group.members());
@@ -62,7 +62,7 @@ fn admit_group<'a>(
 /// Adds the signatures of an object's groups, and tells which of its `count` sections are dropped.
 fn admit_groups<'a>(
     alloc: Global,
-    seen: &mut IndexSet<&'a [u8], NameSeed>,
+    seen: &mut IndexSet<Name<'a>, NameSeed>,
     groups: &[Group<'a>],
     count: usize,
 ) -> Result<Dropped, AllocError>
@@ -81,7 +81,7 @@ fn admit_groups<'a>(
 /// sections are dropped.
 pub fn admit<'a>(
     alloc: Global,
-    seen: &mut IndexSet<&'a [u8], NameSeed>,
+    seen: &mut IndexSet<Name<'a>, NameSeed>,
     object: &Object<'a>,
 ) -> Result<Dropped, Stop>
     ensures lawful { OnOk result (AreLawfulGroups (groups object.now)) }

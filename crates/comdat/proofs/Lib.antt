@@ -1,5 +1,4 @@
 mod DroppedMembers
-mod DroppedNumbers
 pub mod GroupFaultLemmas
 mod MarkLemmas
 mod SignatureLemmas

@@ -1,12 +1,8 @@
 -- Marks at numbers, as the definitions have them, and what groups mark.
-use Rattle.std.specs.Prelude.{ℕ, ◌<◌, ◌&&◌, Bool, List, length, slice_index, if◌then◌else◌}
+use Rattle.std.specs.Prelude.{◌&&◌, Bool, List, ℕ, if◌then◌else◌}
 use Rattle.elf_model.specs.Groups.{is_comdat, is_seen}
 use Rattle.elf_model.specs.ObjectFile.{Group}
 pub use Rattle.elf_model.specs.Marks.{AreUnmarked, is_marked, marked, marked_numbers}
-
--- numbers ascend, each once
-abbrev pub Rises : List ℕ → Type 0
-Rises ks = (i j : ℕ) → i < j → j < length ks → slice_index ks i < slice_index ks j
 
 -- the marks after a group: those of its members are set where it is dropped
 abbrev pub marks_after : List (List ℕ) → List Bool → Group → List Bool

@@ -6,17 +6,18 @@ ghost use Rattle.comdat.specs.Marks.{marks_after};
 ghost use Rattle.comdat.specs.Signatures.{Begins, names_of};
 
 use crate::lawfulness::is_comdat;
-use crate::marks::{mark, marked_numbers};
-use elf_model::NameSeed;
+use crate::marks::{is_marked, mark, marked_numbers};
+use elf_model::{Name, NameSeed};
 use elf_read::Group;
 use indexmap::IndexSet;
 use std::alloc::{AllocError, Global};
 use std::marker::Model;
 
-/// The sections of an object that are dropped with their groups.
+/// The sections of an object that are dropped with their groups: their numbers, and a mark for each section.
 #[derive(Drop)]
 pub struct Dropped {
     sections: Vec<usize>,
+    marks: Vec<bool>,
 }
 
 impl Model for Dropped {
@@ -24,11 +25,12 @@ impl Model for Dropped {
 
     ghost Value = { List ℕ };
 
-    ghost use Rattle.comdat.specs.Marks.{Rises};
+    ghost use Rattle.std.specs.Prelude.{◌≡◌};
+    ghost use Rattle.comdat.specs.Marks.{marked_numbers};
 
     ghost view = { λ d. d.sections.items };
 
-    ghost invariant = { λ d. Rises d.sections.items };
+    ghost invariant = { λ d. d.sections.items ≡ marked_numbers d.marks.items };
 }
 
 impl Dropped {
@@ -39,11 +41,11 @@ impl Dropped {
         self.sections.as_slice()
     }
 
-    /// Whether a section is dropped.
+    /// Whether a section is dropped. Takes the same time for each.
     pub fn has(&self, section: usize) -> bool
         ensures { result ≡ list_any (λ k. k == section) self.now }
     {
-        self.sections.binary_search(&section).is_ok()
+        is_marked(&self.marks, section)
     }
 }
 
@@ -51,7 +53,7 @@ impl Dropped {
 /// Signatures that were seen stay where they are, also where memory is refused.
 pub fn admit_groups<'a>(
     alloc: Global,
-    signatures: &mut IndexSet<&'a [u8], NameSeed>,
+    signatures: &mut IndexSet<Name<'a>, NameSeed>,
     groups: &[Group<'a>],
     count: usize,
 ) -> Result<Dropped, AllocError>
@@ -64,14 +66,13 @@ pub fn admit_groups<'a>(
     for group in groups {
         admit_group(signatures, &mut marks, group)?;
     }
-    Ok(Dropped {
-        sections: marked_numbers(alloc, &marks)?,
-    })
+    let sections = marked_numbers(alloc, &marks)?;
+    Ok(Dropped { sections, marks })
 }
 
 /// Admits one group, and marks its members where it is dropped.
 fn admit_group<'a>(
-    signatures: &mut IndexSet<&'a [u8], NameSeed>,
+    signatures: &mut IndexSet<Name<'a>, NameSeed>,
     marks: &mut [bool],
     group: &Group<'a>,
 ) -> Result<(), AllocError>
@@ -82,7 +83,7 @@ fn admit_group<'a>(
     if !is_comdat(group) {
         return Ok(());
     }
-    if signatures.insert(group.signature())? {
+    if signatures.insert(Name(group.signature()))? {
         return Ok(());
     }
     mark(marks, group.members());

@@ -6,7 +6,7 @@ ghost use Rattle.elf_model.specs.declared.faults.GroupFault.TheVariants as fault
 
 use crate::dropped::{Dropped, admit_groups};
 use crate::lawfulness::judge;
-use elf_model::{GroupFault, NameSeed};
+use elf_model::{GroupFault, Name, NameSeed};
 use elf_read::Object;
 use indexmap::IndexSet;
 use std::alloc::Global;
@@ -17,7 +17,7 @@ use std::marker::Model;
 #[derive(Drop)]
 pub struct Groups<'a> {
     alloc: Global,
-    signatures: IndexSet<&'a [u8], NameSeed>,
+    signatures: IndexSet<Name<'a>, NameSeed>,
 }
 
 impl<'a> Model for Groups<'a> {

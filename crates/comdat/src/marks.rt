@@ -5,10 +5,10 @@ ghost use Rattle.comdat.specs.Marks.{AreUnmarked, is_marked, marked, marked_numb
 use std::alloc::{AllocError, Global};
 
 /// Whether a number is marked; one past the table isn't.
-fn is_marked(marks: &[bool], number: u32) -> bool
+pub fn is_marked(marks: &[bool], number: usize) -> bool
     ensures { result ≡ is_marked marks.now number }
 {
-    match marks.get(number as usize) {
+    match marks.get(number) {
         Some(mark) => *mark,
         None => false,
     }
@@ -18,7 +18,9 @@ fn is_marked(marks: &[bool], number: u32) -> bool
 pub fn are_unmarked(marks: &[bool], numbers: &[u32]) -> bool
     ensures { IsTrue result ↔ AreUnmarked marks.now numbers.now }
 {
-    numbers.iter().all(|number| !is_marked(marks, *number))
+    numbers
+        .iter()
+        .all(|number| !is_marked(marks, *number as usize))
 }
 
 /// Marks a number, where the table has it.

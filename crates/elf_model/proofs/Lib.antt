@@ -23,6 +23,8 @@ pub mod RoundedUp
 pub mod Grouped
 pub mod DroppedSections
 pub mod Marks
+pub mod MarkedNumbers
+pub mod NamedEntries
 pub mod SharedSections
 pub mod Sectioned
 pub mod PieceBounds

@@ -41,7 +41,7 @@ other_object r t differ object s k e f = differ ((in_field object s k r e).0 ∙
 
 -- what holds of the relocations of each RELA section holds of those of an object
 module _ (P : Relocation → Type 0) (n : ℕ) (o : LoadedObject) (each : (h : SectionHeader) → All P (relocations_in n o h)) where
-  own_behind : (i : ℕ) (hs : List SectionHeader) → All P (relocations_behind n o i hs)
+  pub own_behind : (i : ℕ) (hs : List SectionHeader) → All P (relocations_behind n o i hs)
   own_behind i [] = All-nil P
   own_behind i (h ∷ hs) =
       All-append P (cond (is_kept_rela o i h) (relocations_in n o h) []) (relocations_behind n o (i + 1) hs) (by (is_kept_rela o i h)) (own_behind (i + 1) hs)

@@ -9,6 +9,7 @@ mod fields;
 mod flags;
 mod input_file;
 mod link_map;
+mod name;
 mod name_hash;
 mod records;
 mod references;
@@ -33,6 +34,7 @@ pub use link_map::{
     CommonLine, Definition, DropLine, GotLine, LinkMap, ObjectLine, PlaceLine, SlotKind, SlotLine,
     SlotTarget, SymbolLine, SymtabLine,
 };
+pub use name::Name;
 pub use name_hash::{NameHasher, NameSeed};
 pub use records::{FileHeader, ProgramHeader, Rela, SectionHeader, Symbol};
 pub use references::{ObjectId, SectionRef, SymbolRef, Target};

@@ -1,6 +1,7 @@
 pub mod Entries
 mod SectionLemmas
 pub mod Faults
+pub mod FirstBytes
 mod Whole
 mod RelaLists
 mod RelaRuns

@@ -1,5 +1,5 @@
 -- What an object keeps of its file.
-use Rattle.std.specs.Prelude.{ℕ, ◌≡◌, ◌==◌, ◌/◌, List, [], length, map, option_map, take, unwrap_or, if◌then◌else◌}
+use Rattle.std.specs.Prelude.{ℕ, ◌≡◌, ◌==◌, ◌/◌, Bool, false, not, List, [], ◌∷◌, length, map, option_map, take, unwrap_or, if◌then◌else◌}
 use Rattle.std.specs.List.{flat_map, range_with_len, slice_get}
 use Rattle.byteview.specs.Numbers.{text}
 use Rattle.elf_model.specs.ObjectFile.{Group, IsObject, groups, relas_of, section_strings, sections, symbol_strings, symbols}
@@ -31,6 +31,11 @@ pub record AreKept (bytes : List ℕ) (ss : List SectionHeader) (kept_entries : 
 -- the names of symbols by their numbers, out of a string table; the empty name where there is no such symbol
 abbrev pub names_of : List ℕ → List Symbol → ℕ → List ℕ
 names_of strings symbols j = unwrap_or (option_map (λ s. text strings s.st_name) (slice_get symbols j)) []
+
+-- a text has begun in bytes: the first of them isn't the NUL that ends one
+abbrev pub is_begun : List ℕ → Bool
+is_begun [] = false
+is_begun (b ∷ bytes) = not (b == 0)
 
 -- the bytes are an object, and what was kept beside them is what they hold
 pub record IsRead (bytes kept_section_strings kept_symbol_strings : List ℕ) (kept_sections : List SectionHeader) (kept_symbols : List Symbol) (kept_relas : List Rela) (kept_starts : List ℕ) (kept_groups : List Group) : Type 0 where

@@ -1,7 +1,8 @@
 //! A relocatable object file, read whole, and what it holds.
-ghost use Rattle.std.specs.Prelude.{◌≡◌, ◌<◌, [], List, ℕ, All, length, IfErr, IfOk, IfSome, OnOk, option_copied, slice_index_or, unwrap_or};
+ghost use Rattle.std.specs.Prelude.{◌≡◌, ◌↔◌, ◌<◌, [], List, ℕ, All, length, IfErr, IfOk, IfSome, IsTrue, OnOk, option_copied, slice_index_or, unwrap_or};
 ghost use Rattle.elf_model.specs.ObjectFile.{IsObject, ObjFaultStands, groups, null_symbol, relas, section, section_bytes, section_name, sections, symbol_name, symbols};
 ghost use Rattle.elf_model.specs.declared.faults.ObjFault.TheVariants as fault;
+ghost use Rattle.elf_read.specs.Reading.{is_begun};
 
 use crate::groups::{Group, judge_groups};
 use crate::header::{read_header, read_sections};
@@ -36,6 +37,16 @@ impl<'a> Model for Object<'a> {
     ghost view = { λ o. o.file };
 
     ghost invariant = { λ o. IsRead o.file o.section_strings o.symbol_strings o.sections.items o.symbols.items o.relas.entries.items o.relas.starts.items o.groups.items };
+}
+
+/// Whether a text has begun in bytes: the first of them isn't the NUL that ends one.
+fn is_begun(bytes: &[u8]) -> bool
+    ensures { result ≡ is_begun bytes.now }
+{
+    match bytes.first() {
+        Some(byte) => *byte != 0,
+        None => false,
+    }
 }
 
 impl<'a> Object<'a> {
@@ -135,6 +146,16 @@ impl<'a> Object<'a> {
         match self.name(j) {
             Some(name) => name,
             None => &[],
+        }
+    }
+
+    /// Whether symbol `j` is there, and has a name that isn't empty. Reads one byte of the name.
+    pub fn is_named(&self, j: usize) -> bool
+        ensures { IsTrue result ↔ (0 < length (unwrap_or (symbol_name self.now j) [])) }
+    {
+        match self.symbols.get(j) {
+            Some(symbol) => is_begun(self.symbol_strings.part(symbol.st_name as usize, 1)),
+            None => false,
         }
     }
 

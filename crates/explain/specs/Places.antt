@@ -12,8 +12,10 @@ use Rattle.elf_model.specs.Opening.{HasFile, archive_data, file_named, is_uninde
 use Rattle.elf_model.specs.Pieces.{is_kept}
 use Rattle.elf_model.specs.Placement.{section_address}
 use Rattle.elf_model.specs.RelocationValues.{Fits, value_of}
-use Rattle.elf_model.specs.Resolution.{IsEntry, IsSoundCommon, IsSoundSymbol, SymbolOf, is_strong, symbol_of}
+use Rattle.elf_model.specs.Resolution.{IsDuplicate, IsEntry, IsSoundCommon, IsSoundSymbol, SymbolOf, is_strong, symbol_of}
 use Rattle.elf_model.specs.declared.records.SectionHeader.{SectionHeader}
+use Rattle.command.specs.Views.{source_of}
+use Rattle.command.specs.declared.items.Source.{Source}
 use Rattle.search.specs.Loads.{LoadedPlan}
 use Rattle.layout.specs.Kinds.{IsLawfulIfKept}
 use Rattle.layout.specs.Placements.{Basis}
@@ -61,11 +63,11 @@ pub record IsSymbolAt (objects : List LoadedObject) (p : SymbolPlace) (o : Loade
   pub symbol : slice_get (symbols o.bytes) p.symbol ≡ Some p.entry
   pub name : p.name.now ≡ unwrap_or (symbol_name o.bytes p.symbol) []
 
--- what is wrong with a symbol; of a strong definition only with those of its name together
+-- what is wrong with a symbol; a strong definition is, where its name has two
 abbrev pub IsSymbolWrong : List LoadedObject → SymbolOf → SymbolFault → Type 0
 IsSymbolWrong objects s symbol_fault.BadCommon = ¬ IsSoundCommon s
 IsSymbolWrong objects s symbol_fault.BadSymbol = ¬ IsSoundSymbol objects s
-IsSymbolWrong objects s symbol_fault.Duplicate = is_strong s ≡ true
+IsSymbolWrong objects s symbol_fault.Duplicate = (is_strong s ≡ true) × IsDuplicate objects s.name
 
 pub record IsWrongSymbol (objects : List LoadedObject) (p : SymbolPlace) (fault : SymbolFault) : Type 0 where
   pub o : LoadedObject
@@ -154,15 +156,16 @@ pub record IsFileThere (files : List File) (path : List ℕ) (Stands : List ℕ 
   pub there : file_named files path ≡ Some file
   pub stands : Stands file
 
--- an item of a plan has no file
-pub record IsMissing (files : List File) (plan : Plan) (i : ℕ) : Type 0 where
+-- an item of a plan, which names a source, has no file
+pub record IsMissing (files : List File) (plan : Plan) (i : ℕ) (source : Source) : Type 0 where
   pub item : Item
   pub there : slice_get plan.items i ≡ Some item
+  pub source_is : source_of source ≡ item.source
   pub missing : ¬ HasFile files plan.directories item
 
 -- what a place says of the files of a plan, and of the objects that it loads from them
 abbrev pub HoldsOf : List File → Plan → Place → Type 0
-HoldsOf files plan (place.Missing i source) = IsMissing files plan i
+HoldsOf files plan (place.Missing i source) = IsMissing files plan i source
 HoldsOf files plan (place.Archive path fault) = IsFileThere files path.now (λ bytes. ArFaultStands bytes fault)
 HoldsOf files plan (place.NoIndex path) = IsFileThere files path.now (λ bytes. is_unindexed bytes ≡ true)
 HoldsOf files plan (place.Object p fault) = IsObjectOf files p (λ bytes. ObjFaultStands bytes fault)

@@ -3,6 +3,7 @@ ghost use Rattle.std.specs.Prelude.{◌≡◌, [], All, IfOk, List, OnOk};
 ghost use Rattle.elf_model.specs.Command.{IsBase, IsRefusal};
 ghost use Rattle.elf_model.specs.Files.{File, files_of, words_of};
 ghost use Rattle.elf_model.specs.Pieces.{AreLawfulKinds};
+ghost use Rattle.resolve.specs.Refusals.{ResolvingFails};
 ghost use Rattle.explain.specs.Places.{AreSo, AreSoOf, Holds};
 
 use crate::files::{add_archives, add_missing, add_object};
@@ -73,7 +74,8 @@ fn add_unresolved<'a>(
     loaded: &Loaded<'a>,
     fault: &ResolveFault,
 ) -> Result<(), AllocError>
-    requires { AreSo loaded.now found.old.places.items }
+    requires fault { ResolvingFails loaded.now.objects fault.now }
+    requires before { AreSo loaded.now found.old.places.items }
     ensures { OnOk result (AreSo loaded.now found.new.places.items) }
 {
     match fault {

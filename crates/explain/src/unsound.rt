@@ -1,5 +1,6 @@
 //! Symbols that aren't sound, and strong definitions of a name that has two.
 ghost use Rattle.std.specs.Prelude.{IfSome, OnOk};
+ghost use Rattle.elf_model.specs.Resolution.{IsDuplicate};
 ghost use Rattle.explain.specs.Places.{AreSo, HoldsIn};
 
 use crate::found::Found;
@@ -35,8 +36,9 @@ fn unsound_symbol<'a>(loaded: &Loaded<'a>, k: usize, j: usize) -> Option<Place<'
     Some(Place::Symbol(place, SymbolFault::BadSymbol))
 }
 
-/// Symbol `j` of the object that has a number, where it is a strong definition of a name.
+/// Symbol `j` of the object that has a number, where it is a strong definition of a name that has two.
 fn strong_definition<'a>(loaded: &Loaded<'a>, k: usize, j: usize, name: &[u8]) -> Option<Place<'a>>
+    requires { IsDuplicate loaded.now.objects name.now }
     ensures { IfSome result (HoldsIn loaded.now) }
 {
     let one = object_at(loaded, k)?;
@@ -108,14 +110,15 @@ pub fn add_symbols<'a>(found: &mut Found<'a>, loaded: &Loaded<'a>) -> Result<(),
     Ok(())
 }
 
-/// Adds the strong definitions of a name of the object that has a number.
+/// Adds the strong definitions of a name that has two, of the object that has a number.
 fn add_definitions_of<'a>(
     found: &mut Found<'a>,
     loaded: &Loaded<'a>,
     k: usize,
     name: &[u8],
 ) -> Result<(), AllocError>
-    requires { AreSo loaded.now found.old.places.items }
+    requires twice { IsDuplicate loaded.now.objects name.now }
+    requires before { AreSo loaded.now found.old.places.items }
     ensures { OnOk result (AreSo loaded.now found.new.places.items) }
 {
     for j in 0..symbol_count(loaded, k) {
@@ -124,13 +127,14 @@ fn add_definitions_of<'a>(
     Ok(())
 }
 
-/// Adds the strong definitions of a name among what is loaded.
+/// Adds the strong definitions of a name that has two, among what is loaded.
 pub fn add_definitions<'a>(
     found: &mut Found<'a>,
     loaded: &Loaded<'a>,
     name: &[u8],
 ) -> Result<(), AllocError>
-    requires { AreSo loaded.now found.old.places.items }
+    requires twice { IsDuplicate loaded.now.objects name.now }
+    requires before { AreSo loaded.now found.old.places.items }
     ensures { OnOk result (AreSo loaded.now found.new.places.items) }
 {
     for k in 0..loaded.objects().len() {

@@ -1,7 +1,7 @@
 pub mod AskedOnce
 pub mod Blocks
 pub mod Keys
-pub mod GotNames
+pub mod NoSymbols
 pub mod KindRows
 pub mod LoadedObjects
 pub mod Offsets

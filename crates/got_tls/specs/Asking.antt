@@ -1,14 +1,9 @@
 -- What relocations ask of the GOT, one relocation after the other, and where slots stand in it.
-use Rattle.std.specs.Prelude.{◌≡◌, ℕ, ◌+◌, ◌*◌, ◌==◌, ◌&&◌, ◌||◌, Bool, false, not, List, [], ◌∷◌, Option, Some, None, position, slice_index_or, unwrap_or}
+use Rattle.std.specs.Prelude.{◌≡◌, ℕ, ◌+◌, ◌*◌, ◌||◌, Bool, false, List, [], ◌∷◌, Option, Some, None, position}
 use Rattle.std.specs.Option.{option_map_or}
-use Rattle.std.specs.Str.{bytes_eq}
-use Rattle.elf_model.specs.LinkerNames.{got_name}
 use Rattle.elf_model.specs.Loading.{LoadedObject}
-use Rattle.elf_model.specs.ObjectFile.{null_symbol, symbol_name, symbols}
-use Rattle.elf_model.specs.Relocation.{Relocation, relocation_of}
-use Rattle.elf_model.specs.Resolution.{binding}
-use Rattle.elf_model.specs.Slots.{Request, asks_for_got, request_of, same_request}
-use Rattle.elf_model.specs.declared.constants.TheConstants.{STB_LOCAL}
+use Rattle.elf_model.specs.Relocation.{Relocation, relocation_of, symbol_at}
+use Rattle.elf_model.specs.Slots.{Request, asks_for_got, names_got, request_of, same_request}
 use Rattle.elf_model.specs.declared.records.Rela.{Rela}
 use Rattle.indexmap.specs.IndexSet.{insert_key}
 
@@ -33,13 +28,9 @@ with_request qs (Some q) = insert_key same_request qs q
 abbrev pub with_relocation : List LoadedObject → Wants → Relocation → Wants
 with_relocation objects w r = record { got = w.got || asks_for_got objects r; slots = with_request w.slots (request_of r) }
 
--- symbol j of an object isn't LOCAL and has the GOT's name; and a flag that, unless it is set, no symbol is such a one
-abbrev pub is_got_symbol : List ℕ → ℕ → Bool
-is_got_symbol bytes j =
-    not (binding (slice_index_or (symbols bytes) j null_symbol) == STB_LOCAL) && bytes_eq (unwrap_or (symbol_name bytes j) []) got_name
-
-abbrev pub TellsOfGot : List ℕ → Bool → Type 0
-TellsOfGot bytes named = named ≡ false → (j : ℕ) → is_got_symbol bytes j ≡ false
+-- a flag that, unless it is set, no symbol of an object names the GOT
+abbrev pub TellsOfGot : List LoadedObject → ℕ → LoadedObject → Bool → Type 0
+TellsOfGot objects n o named = named ≡ false → (j : ℕ) → names_got objects (symbol_at n o j) ≡ false
 
 -- what relocations leave, one after the other
 abbrev pub with_relocations : List LoadedObject → Wants → List Relocation → Wants

@@ -1,3 +1,4 @@
+pub mod Askers
 pub mod Asking
 pub mod Kinds
 pub mod ThreadStorage

@@ -4,10 +4,11 @@ ghost use Rattle.std.specs.List.{slice_get};
 ghost use Rattle.elf_model.specs.ObjectFile.{sections};
 ghost use Rattle.elf_model.specs.Relocation.{is_some_kind, relocation_of, relocations, relocations_from, relocations_in};
 ghost use Rattle.search.specs.Views.{loaded_view, loaded_views};
-ghost use Rattle.got_tls.specs.Asking.{TellsOfGot, nothing, with_relocation, with_relocations};
+ghost use Rattle.got_tls.specs.Askers.{IsAsker, all_asked, asking};
+ghost use Rattle.got_tls.specs.Asking.{nothing, with_relocation, with_relocations};
 ghost use Rattle.got_tls.specs.Views.{wants};
 
-use crate::requests::{asks_for_got, slot_of, tells_of_got};
+use crate::requests::{Asker, slot_of};
 use crate::slot_table::Slot;
 use elf_model::{Rela, SectionHeader};
 use indexmap::IndexSet;
@@ -22,46 +23,39 @@ pub struct Asked<'a> {
     pub slots: IndexSet<Slot<'a>>,
 }
 
-/// Takes in what an entry of the object that has a number asks for, which relocates the section `target`; `named` tells
-/// whether the object names the GOT at all.
+/// Takes in what an entry asks for, which relocates the section `target`.
 fn add_entry<'a>(
     asked: &mut Asked<'a>,
-    resolved: &Resolved<'a>,
-    number: usize,
-    loaded: &LoadedObject<'a>,
-    named: bool,
+    asker: &Asker<'_, 'a>,
     target: u64,
     entry: &Rela,
 ) -> Result<(), AllocError>
-    requires { TellsOfGot loaded.now.object named }
-    ensures { OnOk result (wants asked.new ≡ with_relocation resolved.now (wants asked.old) (relocation_of number (loaded_view loaded.now) target entry.now)) }
+    requires { IsAsker asker.now }
+    ensures { OnOk result (wants asked.new ≡ with_relocation (all_asked asker.now) (wants asked.old) (relocation_of asker.now.number (asking asker.now) target entry.now)) }
 {
-    asked.got = asked.got || asks_for_got(resolved, number, loaded, named, target, entry);
-    if let Some(slot) = slot_of(number, loaded, entry) {
+    asked.got = asked.got || asker.asks_for_got(target, entry);
+    if let Some(slot) = slot_of(asker.number, asker.loaded, entry) {
         asked.slots.insert(slot)?;
     }
     Ok(())
 }
 
-/// Takes in what entries ask for which relocate the section `target` of the object that has a number.
+/// Takes in what entries ask for which relocate the section `target`.
 fn add_entries<'a>(
     asked: &mut Asked<'a>,
-    resolved: &Resolved<'a>,
-    number: usize,
-    loaded: &LoadedObject<'a>,
-    named: bool,
+    asker: &Asker<'_, 'a>,
     target: u64,
     entries: &[Rela],
 ) -> Result<(), AllocError>
-    requires { TellsOfGot loaded.now.object named }
-    ensures { OnOk result (wants asked.new ≡ with_relocations resolved.now (wants asked.old) (map (relocation_of number (loaded_view loaded.now) target) (filter is_some_kind entries.now))) }
+    requires { IsAsker asker.now }
+    ensures { OnOk result (wants asked.new ≡ with_relocations (all_asked asker.now) (wants asked.old) (map (relocation_of asker.now.number (asking asker.now) target) (filter is_some_kind entries.now))) }
 {
     for i in 0..entries.len() {
         let entry = entries[i];
         if entry.kind() == 0 {
             continue;
         }
-        add_entry(asked, resolved, number, loaded, named, target, &entry)?;
+        add_entry(asked, asker, target, &entry)?;
     }
     Ok(())
 }
@@ -69,28 +63,33 @@ fn add_entries<'a>(
 /// Takes in what the entries of RELA section `i` ask for, which has the header.
 fn add_section<'a>(
     asked: &mut Asked<'a>,
-    resolved: &Resolved<'a>,
-    number: usize,
-    loaded: &LoadedObject<'a>,
-    named: bool,
+    asker: &Asker<'_, 'a>,
     i: usize,
     header: &SectionHeader,
 ) -> Result<(), AllocError>
-    requires named { TellsOfGot loaded.now.object named }
-    requires there { slice_get (sections loaded.now.object) i ≡ Some header.now }
+    requires asker { IsAsker asker.now }
+    requires there { slice_get (sections (asking asker.now).bytes) i ≡ Some header.now }
     requires rela { header.now.sh_type ≡ 4 }
-    ensures { OnOk result (wants asked.new ≡ with_relocations resolved.now (wants asked.old) (relocations_in number (loaded_view loaded.now) header.now)) }
+    ensures { OnOk result (wants asked.new ≡ with_relocations (all_asked asker.now) (wants asked.old) (relocations_in asker.now.number (asking asker.now) header.now)) }
 {
-    let entries = loaded.entries_of(i, header);
-    add_entries(
-        asked,
-        resolved,
-        number,
-        loaded,
-        named,
-        header.sh_info as u64,
-        entries,
-    )
+    let entries = asker.loaded.entries_of(i, header);
+    add_entries(asked, asker, header.sh_info as u64, entries)
+}
+
+/// Takes in what the kept relocations of an object ask for.
+fn add_relocations<'a>(asked: &mut Asked<'a>, asker: &Asker<'_, 'a>) -> Result<(), AllocError>
+    requires { IsAsker asker.now }
+    ensures { OnOk result (wants asked.new ≡ with_relocations (all_asked asker.now) (wants asked.old) (relocations_from asker.now.number (asking asker.now))) }
+{
+    let headers = asker.loaded.object.sections();
+    for i in 0..headers.len() {
+        let header = headers[i];
+        if !asker.loaded.is_kept_rela(i, &header) {
+            continue;
+        }
+        add_section(asked, asker, i, &header)?;
+    }
+    Ok(())
 }
 
 /// Takes in what the kept relocations of the object that has a number ask for.
@@ -100,18 +99,11 @@ fn add_object<'a>(
     number: usize,
     loaded: &LoadedObject<'a>,
 ) -> Result<(), AllocError>
+    requires { slice_get resolved.now number ≡ Some (loaded_view loaded.now) }
     ensures { OnOk result (wants asked.new ≡ with_relocations resolved.now (wants asked.old) (relocations_from number (loaded_view loaded.now))) }
 {
-    let named = tells_of_got(&loaded.object);
-    let headers = loaded.object.sections();
-    for i in 0..headers.len() {
-        let header = headers[i];
-        if !loaded.is_kept_rela(i, &header) {
-            continue;
-        }
-        add_section(asked, resolved, number, loaded, named, i, &header)?;
-    }
-    Ok(())
+    let asker = Asker::new(resolved, number, loaded);
+    add_relocations(asked, &asker)
 }
 
 /// What the kept relocations of objects ask for.

@@ -1,11 +1,13 @@
 //! What one relocation asks of the GOT.
-ghost use Rattle.std.specs.Prelude.{◌≡◌, ◌==◌, option_map, slice_index_or};
-ghost use Rattle.elf_model.specs.ObjectFile.{null_symbol, symbol_name, symbols};
+ghost use Rattle.std.specs.Prelude.{◌≡◌, ◌==◌, Some, option_map, slice_index_or};
+ghost use Rattle.std.specs.List.{slice_get};
+ghost use Rattle.elf_model.specs.ObjectFile.{null_symbol, symbols};
 ghost use Rattle.elf_model.specs.Relocation.{relocation_of, symbol_at};
 ghost use Rattle.elf_model.specs.Resolution.{binding};
 ghost use Rattle.elf_model.specs.Slots as wanted;
 ghost use Rattle.search.specs.Views.{loaded_view};
-ghost use Rattle.got_tls.specs.Asking.{TellsOfGot, is_got_symbol, request_at};
+ghost use Rattle.got_tls.specs.Asking.{TellsOfGot, request_at};
+ghost use Rattle.got_tls.specs.Askers.{IsAsker, all_asked, asking};
 ghost use Rattle.got_tls.specs.Views.{slot_view};
 
 use crate::kinds::{ask_of, asks_of_got, slot_asked};
@@ -35,63 +37,88 @@ pub fn slot_of<'a>(number: usize, loaded: &LoadedObject<'a>, entry: &Rela) -> Op
     Some(Slot::new(kind, &target))
 }
 
+/// An object whose relocations ask, with its number, and whether one of its symbols names the GOT at all.
+#[derive(Clone, Copy)]
+pub struct Asker<'k, 'a> {
+    pub resolved: &'k Resolved<'a>,
+    pub number: usize,
+    pub loaded: &'k LoadedObject<'a>,
+    pub named: bool,
+}
+
 /// The name of the GOT.
 const GOT_NAME: &[u8] = b"_GLOBAL_OFFSET_TABLE_";
 
-/// Whether symbol `j` isn't LOCAL and has the GOT's name.
-fn is_got_symbol(object: &Object<'_>, j: usize) -> bool
-    ensures { result ≡ is_got_symbol object.now j }
+/// Whether symbol `j` of the object that has a number isn't LOCAL and has the GOT's name, and no object defines that. Reads
+/// no name that an object defines.
+fn names_got(resolved: &Resolved<'_>, number: usize, loaded: &LoadedObject<'_>, j: usize) -> bool
+    requires { slice_get resolved.now number ≡ Some (loaded_view loaded.now) }
+    ensures { result ≡ wanted.names_got resolved.now (symbol_at number (loaded_view loaded.now) j) }
 {
-    !is_local(object, j) && object.symbol_name(j) == GOT_NAME
+    if is_local(&loaded.object, j) {
+        return false;
+    }
+    let symbol = SymbolRef {
+        object: ObjectId(number as u64),
+        symbol: j as u64,
+    };
+    if resolved.is_chosen(symbol) {
+        return false;
+    }
+    loaded.object.symbol_name(j) == GOT_NAME
 }
 
-/// Whether an object has a symbol that isn't LOCAL and has the GOT's name. Where it hasn't, no name of a symbol need be
-/// read for each of its relocations.
-pub fn tells_of_got(object: &Object<'_>) -> bool
-    ensures { TellsOfGot object.now result }
+/// Whether a symbol of the object that has a number names the GOT so. Where none does, none need be looked at for each
+/// relocation.
+fn tells_of_got(resolved: &Resolved<'_>, number: usize, loaded: &LoadedObject<'_>) -> bool
+    requires { slice_get resolved.now number ≡ Some (loaded_view loaded.now) }
+    ensures { TellsOfGot resolved.now number (loaded_view loaded.now) result }
 {
-    for j in 0..object.symbols().len() {
-        if is_got_symbol(object, j) {
+    for j in 0..loaded.object.symbols().len() {
+        if names_got(resolved, number, loaded, j) {
             return true;
         }
     }
     false
 }
 
-/// Whether symbol `j` isn't LOCAL and has the GOT's name, and no object defines that; `named` tells whether the object has
-/// such a symbol at all.
-fn names_got(
-    resolved: &Resolved<'_>,
-    number: usize,
-    loaded: &LoadedObject<'_>,
-    named: bool,
-    j: usize,
-) -> bool
-    requires { TellsOfGot loaded.now.object named }
-    ensures { result ≡ wanted.names_got resolved.now (symbol_at number (loaded_view loaded.now) j) }
-{
-    if !named {
-        return false;
+impl<'k, 'a> Asker<'k, 'a> {
+    /// The object that has a number.
+    pub fn new(
+        resolved: &'k Resolved<'a>,
+        number: usize,
+        loaded: &'k LoadedObject<'a>,
+    ) -> Asker<'k, 'a>
+        requires { slice_get resolved.now number ≡ Some (loaded_view loaded.now) }
+        ensures asker { IsAsker result }
+        ensures all { all_asked result ≡ resolved.entry.now }
+        ensures number { result.number ≡ number }
+        ensures own { asking result ≡ loaded_view loaded.entry.now }
+    {
+        Asker {
+            resolved,
+            number,
+            loaded,
+            named: tells_of_got(resolved, number, loaded),
+        }
     }
-    if !is_got_symbol(&loaded.object, j) {
-        return false;
-    }
-    resolved.symbol(GOT_NAME).is_none()
-}
 
-/// Whether an entry of the object that has a number, which relocates the section `target`, asks for a GOT; `named` tells
-/// whether the object names the GOT at all.
-pub fn asks_for_got(
-    resolved: &Resolved<'_>,
-    number: usize,
-    loaded: &LoadedObject<'_>,
-    named: bool,
-    target: u64,
-    entry: &Rela,
-) -> bool
-    requires { TellsOfGot loaded.now.object named }
-    ensures { result ≡ wanted.asks_for_got resolved.now (relocation_of number (loaded_view loaded.now) target entry.now) }
-{
-    asks_of_got(ask_of(entry.kind()))
-        || names_got(resolved, number, loaded, named, entry.symbol() as usize)
+    /// Whether symbol `j` names the GOT.
+    fn names_got(&self, j: usize) -> bool
+        requires { IsAsker self.now }
+        ensures { result ≡ wanted.names_got (all_asked self.now) (symbol_at self.now.number (asking self.now) j) }
+    {
+        if !self.named {
+            return false;
+        }
+        names_got(self.resolved, self.number, self.loaded, j)
+    }
+
+    /// Whether an entry, which relocates the section `target`, asks for a GOT.
+    pub fn asks_for_got(&self, target: u64, entry: &Rela) -> bool
+        requires { IsAsker self.now }
+        ensures { result ≡ wanted.asks_for_got (all_asked self.now) (relocation_of self.now.number (asking self.now) target entry.now) }
+    {
+        asks_of_got(ask_of(entry.kind())) || self.names_got(entry.symbol() as usize)
+    }
 }

@@ -1,3 +1,4 @@
+pub mod ChosenReferences
 pub mod Fitted
 pub mod Judged
 pub mod KindRows

@@ -8,7 +8,6 @@ use Rattle.elf_model.specs.UsedNames.{is_linker_use}
 use Rattle.elf_model.specs.declared.bound.Bound.{Bound}
 use Rattle.search.specs.Views.{loaded_view}
 use Rattle.relocate.specs.References.{IsObjectAt}
-use Rattle.relocate.specs.SymbolTables.{EachTells}
 use Rattle.relocate.specs.declared.linker_uses.User.{User}
 
 abbrev pub line_view : Bor (List ℕ) × Bound → Meaning
@@ -24,13 +23,13 @@ is_linkers (Some (Symbol s)) = false
 is_linkers (Some (Common b)) = false
 is_linkers (Some (Linker name bound)) = true
 
--- rows that tell which symbols of an object are of linker's names, and an object whose relocations use names
-abbrev pub AreLinkerUses : List LoadedObject → ℕ → LoadedObject → List Bool → Type 0
-AreLinkerUses objects n o = EachTells (λ j uses. uses ≡ is_linker_use objects (symbol_at n o j))
+-- no symbol of an object is of a linker's name that no object defines
+abbrev pub HasNoLinkerUse : List LoadedObject → ℕ → LoadedObject → Type 0
+HasNoLinkerUse objects n o = (j : ℕ) → is_linker_use objects (symbol_at n o j) ≡ false
 
+-- an object whose relocations use names
 abbrev pub using : User → LoadedObject
 using u = loaded_view u.loaded.now
 
 pub record IsUser (u : User) : Type 0 where
   pub here : IsObjectAt u.resolved.now u.number (using u)
-  pub table : AreLinkerUses u.resolved.now u.number (using u) u.table.items

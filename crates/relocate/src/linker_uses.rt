@@ -1,5 +1,5 @@
 //! The linker's names that kept relocations use and no object defines: which of them have a line in the map.
-ghost use Rattle.std.specs.Prelude.{◌≡◌, ◌∷◌, ◌++◌, ◌||◌, ℕ, [], List, IfOk, OnOk, Some, filter, map, option_map, option_to_list};
+ghost use Rattle.std.specs.Prelude.{◌≡◌, ◌∷◌, ◌++◌, ◌||◌, ℕ, [], List, IfOk, OnOk, Some, false, filter, map, option_map, option_to_list};
 ghost use Rattle.std.specs.BTreeSet.{IsOrdered};
 ghost use Rattle.std.specs.Cmp.Lexicographic.{slice_cmp};
 ghost use Rattle.std.specs.List.{list_any, slice_get};
@@ -12,9 +12,8 @@ ghost use Rattle.elf_model.specs.UsedNames.{Gains, is_among, is_linker_use, link
 ghost use Rattle.search.specs.Views.{loaded_view, loaded_views};
 ghost use Rattle.resolve.specs.Views.{meaning_view};
 ghost use Rattle.relocate.specs.References.{IsObjectAt};
-ghost use Rattle.relocate.specs.Uses.{AreLinkerUses, IsUser, is_linkers, line_views, using};
+ghost use Rattle.relocate.specs.Uses.{HasNoLinkerUse, IsUser, is_linkers, line_views, using};
 
-use crate::referrer::refers_often;
 use crate::targets::{is_local, is_some_kind};
 use elf_model::{Bound, ObjectId, Rela, SectionHeader, SymbolRef};
 use resolve::{Definition, Resolved};
@@ -48,10 +47,27 @@ fn is_linker_use(
     if is_local(&loaded.object.symbol(j)) {
         return false;
     }
-    is_linkers(&resolved.used(SymbolRef {
+    let symbol = SymbolRef {
         object: ObjectId(number as u64),
         symbol: j as u64,
-    }))
+    };
+    if resolved.is_chosen(symbol) {
+        return false;
+    }
+    is_linkers(&resolved.used(symbol))
+}
+
+/// Whether a symbol of the object that has a number is such a one. Where none is, no relocation of the object need be read.
+fn has_linker_use(resolved: &Resolved<'_>, number: usize, loaded: &LoadedObject<'_>) -> bool
+    requires { IsObjectAt resolved.now number (loaded_view loaded.now) }
+    ensures { result ≡ false → HasNoLinkerUse resolved.now number (loaded_view loaded.now) }
+{
+    for j in 0..loaded.object.symbols().len() {
+        if is_linker_use(resolved, number, loaded, j) {
+            return true;
+        }
+    }
+    false
 }
 
 fn add_name<'a>(names: &mut BTreeSet<&'a [u8]>, name: &'a [u8]) -> Result<(), AllocError>
@@ -62,48 +78,11 @@ fn add_name<'a>(names: &mut BTreeSet<&'a [u8]>, name: &'a [u8]) -> Result<(), Al
 }
 
 /// An object whose relocations use names, with its number.
-#[derive(Drop)]
+#[derive(Clone, Copy)]
 struct User<'u, 'a> {
     resolved: &'u Resolved<'a>,
     number: usize,
     loaded: &'u LoadedObject<'a>,
-    /// Whether each symbol is one of a linker's name, as far as there are rows.
-    table: Vec<bool>,
-}
-
-/// A row for each symbol of an object that refers often, and none of another one.
-fn table_of(
-    alloc: Global,
-    resolved: &Resolved<'_>,
-    number: usize,
-    loaded: &LoadedObject<'_>,
-) -> Result<Vec<bool>, AllocError>
-    requires { IsObjectAt resolved.now number (loaded_view loaded.now) }
-    ensures { IfOk result (λ v. AreLinkerUses resolved.now number (loaded_view loaded.now) v.items) }
-{
-    let mut table = Vec::new(alloc);
-    if !refers_often(loaded) {
-        return Ok(table);
-    }
-    let count = loaded.object.symbols().len();
-    table.reserve(count)?;
-    for j in 0..count {
-        table.push(is_linker_use(resolved, number, loaded, j))?;
-    }
-    Ok(table)
-}
-
-impl<'u, 'a> User<'u, 'a> {
-    /// Whether symbol `j` isn't LOCAL and has a name that the linker defines and no object does.
-    fn is_linker_use(&self, j: usize) -> bool
-        requires { IsUser self.now }
-        ensures { result ≡ is_linker_use self.now.resolved.now (symbol_at self.now.number (using self.now) j) }
-    {
-        match self.table.get(j) {
-            Some(uses) => *uses,
-            None => is_linker_use(self.resolved, self.number, self.loaded, j),
-        }
-    }
 }
 
 /// Adds the name that an entry uses, where that is a linker's.
@@ -117,7 +96,7 @@ fn add_use<'a>(
     ensures { OnOk result (Gains user.now.resolved.now (relocation_of user.now.number (using user.now) target entry.now ∷ []) names.old names.new) }
 {
     let j = entry.symbol() as usize;
-    if !user.is_linker_use(j) {
+    if !is_linker_use(user.resolved, user.number, user.loaded, j) {
         return Ok(());
     }
     add_name(names, user.loaded.object.symbol_name(j))
@@ -180,7 +159,6 @@ fn add_relocations<'a>(
 
 /// Adds those that the kept relocations of the object that has a number use.
 fn add_object<'a>(
-    alloc: Global,
     names: &mut BTreeSet<&'a [u8]>,
     resolved: &Resolved<'a>,
     number: usize,
@@ -189,12 +167,13 @@ fn add_object<'a>(
     requires { IsObjectAt resolved.now number (loaded_view loaded.now) }
     ensures { OnOk result (Gains resolved.now (relocations_from number (loaded_view loaded.now)) names.old names.new) }
 {
-    let table = table_of(alloc, resolved, number, loaded)?;
+    if !has_linker_use(resolved, number, loaded) {
+        return Ok(());
+    }
     let user = User {
         resolved,
         number,
         loaded,
-        table,
     };
     add_relocations(names, &user)
 }
@@ -210,7 +189,7 @@ fn used_names<'a>(
 {
     let mut names = BTreeSet::new(alloc);
     for k in 0..objects.len() {
-        add_object(alloc, &mut names, resolved, k, &objects[k])?;
+        add_object(&mut names, resolved, k, &objects[k])?;
     }
     Ok(names)
 }

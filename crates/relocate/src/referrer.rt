@@ -1,9 +1,11 @@
 //! An object that refers: what a reference to each of its symbols is, found once a symbol, and read by each relocation
 //! that names it.
-ghost use Rattle.std.specs.Prelude.{◌≡◌, IfOk, option_map};
+ghost use Rattle.std.specs.Prelude.{◌≡◌, IfOk, Some, option_map};
 ghost use Rattle.elf_model.specs.Relocation.{symbol_at};
 ghost use Rattle.search.specs.Views.{loaded_view};
 ghost use Rattle.layout.specs.Mixed.{AreMixed};
+ghost use Rattle.resolve.specs.Meaning.{named_at};
+ghost use Rattle.resolve.specs.Threads.{is_thread_chosen};
 ghost use Rattle.resolve.specs.Views.{meaning_view};
 ghost use Rattle.relocate.specs.LocalUses.{IsReferenceBy};
 ghost use Rattle.relocate.specs.References.{IsObjectAt};
@@ -13,7 +15,7 @@ use crate::targets::{
     holds_frames, is_dropped, is_local, is_mixed, is_thread_local, is_undefined, stands_in_unkept,
     use_of,
 };
-use elf_model::{RELA_SIZE, SHT_RELA};
+use elf_model::{ObjectId, RELA_SIZE, SHT_RELA, SymbolRef};
 use resolve::{Definition, Resolved};
 use search::LoadedObject;
 use std::alloc::{AllocError, Global};
@@ -76,6 +78,29 @@ fn reference_by<'a>(
     }
 }
 
+/// What a reference to symbol `j` of the object that has a number is, whose name an object defines, in a section with SHF_TLS
+/// or not.
+fn reference_chosen(
+    resolved: &Resolved<'_>,
+    _number: usize,
+    loaded: &LoadedObject<'_>,
+    j: usize,
+    thread_local: bool,
+) -> Reference
+    requires here { IsObjectAt resolved.now _number (loaded_view loaded.now) }
+    requires chosen { option_map (is_thread_chosen resolved.now) (named_at resolved.now _number j) ≡ Some thread_local }
+    ensures { IsReference resolved.now (symbol_at _number (loaded_view loaded.now) j) result }
+{
+    let _resolved = resolved;
+    Reference {
+        undefined: false,
+        unkept: false,
+        dropped: is_dropped(loaded, &loaded.object.symbol(j)),
+        thread_local,
+        mixed: false,
+    }
+}
+
 /// What a reference to symbol `j` of the object that has a number is.
 fn reference_to<'a>(
     resolved: &Resolved<'a>,
@@ -88,6 +113,13 @@ fn reference_to<'a>(
     requires mixed { AreMixed resolved.now mixed.now }
     ensures { IsReference resolved.now (symbol_at number (loaded_view loaded.now) j) result }
 {
+    let symbol = SymbolRef {
+        object: ObjectId(number as u64),
+        symbol: j as u64,
+    };
+    if let Some(thread_local) = resolved.chosen_thread(symbol) {
+        return reference_chosen(resolved, number, loaded, j, thread_local);
+    }
     let definition = use_of(resolved, number, loaded, j);
     reference_by(resolved, mixed, number, loaded, j, &definition)
 }

@@ -1,6 +1,7 @@
 pub mod Cells
 pub mod Definitions
 pub mod Gathered
+mod GatheringNames
 pub mod Located
 pub mod NamedOnce
 pub mod Offers
@@ -14,3 +15,4 @@ pub mod SoundWalk
 mod StrongOnes
 pub mod Walks
 pub mod WrittenPlaces
+pub mod ThreadFlags

@@ -7,4 +7,5 @@ pub mod Places
 pub mod Refusals
 pub mod Sound
 pub mod Tables
+pub mod Threads
 pub mod Views

@@ -19,6 +19,7 @@ mod rows;
 mod sections;
 mod soundness;
 mod targets;
+mod threads;
 
 pub use blocks::Block;
 pub use bounds::named_output;

@@ -1,5 +1,5 @@
 //! What names and symbols mean among the loaded objects.
-ghost use Rattle.std.specs.Prelude.{◌≡◌, ℕ, List, IfErr, IfNone, IfOk, IfSome, OnOk, OnSome, None, Some, cond, false, find};
+ghost use Rattle.std.specs.Prelude.{◌≡◌, ℕ, List, IfErr, IfNone, IfOk, IfSome, OnOk, OnSome, None, Some, cond, false, find, is_some};
 ghost use Rattle.std.specs.Cmp.Lexicographic.{slice_cmp};
 ghost use Rattle.std.specs.List.{slice_get};
 ghost use Rattle.std.specs.List.Sorted.{IsSortedByKey};
@@ -16,6 +16,7 @@ ghost use Rattle.resolve.specs.Blocks.{block_in, block_view, block_views};
 ghost use Rattle.resolve.specs.Defined.{AreDefinitions, HasEachNameOnce};
 ghost use Rattle.resolve.specs.Meaning.{chosen_definition, definition_at, itself_at, named_at, target_at, unchosen_at};
 ghost use Rattle.resolve.specs.Refusals.{ResolvingFails};
+ghost use Rattle.resolve.specs.Threads.{is_thread_chosen};
 ghost use Rattle.resolve.specs.Views.{meaning_view, symbol_view, symbol_views, target_view};
 ghost use Rattle.symbols.specs.Rows.{no_rows};
 
@@ -31,6 +32,7 @@ use crate::ranks::ranks_of;
 use crate::rows::place_at;
 use crate::sections::is_in_thread_section;
 use crate::targets::target_of;
+use crate::threads::threads_of;
 use elf_model::{Bound, NameSeed, Symbol, SymbolRef, Target};
 use search::{Loaded, LoadedObject};
 use std::alloc::{AllocError, Global};
@@ -45,6 +47,7 @@ use symbols::{IndexedTable, NameTable};
 pub struct Resolved<'a> {
     loaded: Loaded<'a>,
     definitions: Vec<SymbolOf<'a>>,
+    threads: Vec<bool>,
     places: Vec<Vec<usize>>,
     blocks: Vec<Block<'a>>,
     named_blocks: Rc<BTreeMap<&'a [u8], Block<'a>>>,
@@ -61,7 +64,7 @@ impl<'a> Model for Resolved<'a> {
 
     ghost view = { λ r. r.loaded.objects };
 
-    ghost invariant = { λ r. AreTables r.loaded.objects r.definitions.items r.places.items r.blocks.items r.named_blocks.value r.outputs };
+    ghost invariant = { λ r. AreTables r.loaded.objects r.definitions.items r.threads.items r.places.items r.blocks.items r.named_blocks.value r.outputs };
 }
 
 /// An index of common blocks that several values hold.
@@ -103,11 +106,13 @@ pub fn resolve_in<'a, T: NameTable<'a> + Drop>(
         table: &offered,
     };
     write_places(&index, &mut places);
+    let threads = threads_of(alloc, objects, &defined.symbols)?;
     let named_blocks = index_of(alloc, &defined.blocks)?;
     let outputs = output_names_of(alloc, objects)?;
     Ok(Resolved {
         loaded: loaded.clone()?,
         definitions: defined.symbols,
+        threads,
         places,
         blocks: defined.blocks,
         named_blocks: shared(alloc, named_blocks)?,
@@ -257,6 +262,35 @@ impl<'a> Resolved<'a> {
     {
         let place = place_at(&self.places, object, number)?;
         definition_at(&self.definitions, place)
+    }
+
+    /// Whether an object defines the name of a symbol that isn't LOCAL. Reads no name.
+    pub fn is_chosen(&self, symbol: SymbolRef) -> bool
+        ensures { result ≡ is_some (named_at self.now symbol.object.0 symbol.symbol) }
+    {
+        let place = place_at(
+            &self.places,
+            symbol.object.0 as usize,
+            symbol.symbol as usize,
+        );
+        match place {
+            Some(place) => self.definitions.get(place).is_some(),
+            None => false,
+        }
+    }
+
+    /// Whether what an object defines the name of a symbol as, which isn't LOCAL, stands in a section with SHF_TLS; None
+    /// where no object defines the name. Reads no name and no section.
+    #[tactic(auto, using(crate::proofs::ThreadFlags::flag_at))]
+    pub fn chosen_thread(&self, symbol: SymbolRef) -> Option<bool>
+        ensures { result ≡ option_map (is_thread_chosen self.now) (named_at self.now symbol.object.0 symbol.symbol) }
+    {
+        let place = place_at(
+            &self.places,
+            symbol.object.0 as usize,
+            symbol.symbol as usize,
+        )?;
+        self.threads.get(place).copied()
     }
 
     /// What the linker itself defines a name as, whether or not an object does.

@@ -1,29 +1,29 @@
 -- Sets of names.
 use Rattle.std.proofs.Common.{◌≡◌, ℕ, Bool, true, false, cond, ◌||◌, List, [], ◌∷◌, ◌++◌, map, refl, sym, ◌∙◌, ap, subst, append_assoc}
-use Rattle.std.specs.Borrow.{Bor}
 use Rattle.std.specs.List.{list_any}
 use Rattle.std.specs.Str.{bytes_eq}
 use Rattle.std.proofs.lemmas.Bool.{or_left}
 use Rattle.std.proofs.lemmas.List.{append-nil, map-append}
 use Rattle.std.proofs.lemmas.List.Folds.{list_any-append}
 use Rattle.std.proofs.lemmas.Slice.Eq.{bytes_eq-Decides}
+use Rattle.elf_model.specs.declared.name.Name.{Name}
 use Rattle.elf_model.proofs.LoadingBounds.{by_case}
 use Rattle.elf_model.proofs.SameOutput.{both_ways_equal}
 use Rattle.search.specs.Names.{Begins, is_among, with_name}
 
-pub among_map : (keys : List (Bor (List ℕ))) (n : List ℕ) → list_any (λ k. bytes_eq n k.now) keys ≡ is_among (map (λ k. k.now) keys) n
+pub among_map : (keys : List Name) (n : List ℕ) → list_any (λ k. bytes_eq n k.0.now) keys ≡ is_among (map (λ k. k.0.now) keys) n
 among_map [] n = refl
-among_map (k ∷ ks) n = ap (λ (b : Bool). bytes_eq n k.now || b) (among_map ks n)
+among_map (k ∷ ks) n = ap (λ (b : Bool). bytes_eq n k.0.now || b) (among_map ks n)
 
 -- the names after an insertion
-pub inserted : (keys : List (Bor (List ℕ))) (name : Bor (List ℕ)) →
-    map (λ k. k.now) (cond (list_any (λ k. bytes_eq name.now k.now) keys) keys (keys ++ name ∷ [])) ≡ with_name (map (λ k. k.now) keys) name.now
+pub inserted : (keys : List Name) (name : Name) →
+    map (λ k. k.0.now) (cond (list_any (λ k. bytes_eq name.0.now k.0.now) keys) keys (keys ++ name ∷ [])) ≡ with_name (map (λ k. k.0.now) keys) name.0.now
 inserted keys name =
-    elim (list_any (λ k. bytes_eq name.now k.now) keys) as (λ b. map (λ k. k.now) (cond b keys (keys ++ name ∷ [])) ≡ cond b (map (λ k. k.now) keys) (map (λ k. k.now) keys ++ name.now ∷ [])) [
+    elim (list_any (λ k. bytes_eq name.0.now k.0.now) keys) as (λ b. map (λ k. k.0.now) (cond b keys (keys ++ name ∷ [])) ≡ cond b (map (λ k. k.0.now) keys) (map (λ k. k.0.now) keys ++ name.0.now ∷ [])) [
       | true ↦ refl
-      | false ↦ map-append (λ k. k.now) keys (name ∷ [])
+      | false ↦ map-append (λ k. k.0.now) keys (name ∷ [])
     ]
-    ∙ ap (λ (b : Bool). cond b (map (λ k. k.now) keys) (map (λ k. k.now) keys ++ name.now ∷ [])) (among_map keys name.now)
+    ∙ ap (λ (b : Bool). cond b (map (λ k. k.0.now) keys) (map (λ k. k.0.now) keys ++ name.0.now ∷ [])) (among_map keys name.0.now)
 
 same_both : (a b : List ℕ) → bytes_eq a b ≡ bytes_eq b a
 same_both a b = both_ways_equal (bytes_eq a b) (bytes_eq b a) (turn a b) (turn b a)

@@ -2,7 +2,7 @@
 ghost use Rattle.std.specs.Prelude.{◌≡◌, [], OnOk, length, option_copied, slice_get};
 ghost use Rattle.search.specs.Names.{is_among, with_name};
 
-use elf_model::NameSeed;
+use elf_model::{Name, NameSeed};
 use indexmap::IndexSet;
 use std::alloc::{AllocError, Global};
 use std::marker::Model;
@@ -10,7 +10,7 @@ use std::marker::Model;
 /// Names, each once, in the order in which they were first added.
 #[derive(Drop)]
 pub struct NameSet<'a> {
-    names: IndexSet<&'a [u8], NameSeed>,
+    names: IndexSet<Name<'a>, NameSeed>,
 }
 
 impl<'a> Model for NameSet<'a> {
@@ -18,7 +18,7 @@ impl<'a> Model for NameSet<'a> {
 
     ghost Value = { List (List ℕ) };
 
-    ghost view = { λ s. map (λ n. n.now) s.names.keys };
+    ghost view = { λ s. map (λ n. n.0.now) s.names.keys };
 }
 
 impl<'a> NameSet<'a> {
@@ -35,7 +35,7 @@ impl<'a> NameSet<'a> {
     pub fn add(&mut self, name: &'a [u8]) -> Result<(), AllocError>
         ensures { OnOk result (self.new ≡ with_name self.old name.now) }
     {
-        self.names.insert(name)?;
+        self.names.insert(Name(name))?;
         Ok(())
     }
 
@@ -50,13 +50,16 @@ impl<'a> NameSet<'a> {
     pub fn get(&self, i: usize) -> Option<&'a [u8]>
         ensures { option_copied result ≡ slice_get self.now i }
     {
-        self.names.get_index(i).copied()
+        match self.names.get_index(i) {
+            Some(name) => Some(name.0),
+            None => None,
+        }
     }
 
     /// Whether the name was added.
     pub fn has(&self, name: &'a [u8]) -> bool
         ensures { result ≡ is_among self.now name.now }
     {
-        self.names.contains(name)
+        self.names.contains(&Name(name))
     }
 }

@@ -7,11 +7,11 @@ use Rattle.std.proofs.lemmas.List.{append-nil, set_split, take-append-drop, take
 use Rattle.std.proofs.lemmas.List.Sums.{prefix_len_stops}
 use Rattle.std.proofs.lemmas.Option.{cond_some}
 use Rattle.std.proofs.lemmas.Slice.Eq.{bytes_eq-Decides}
-use Rattle.std.specs.Borrow.{Bor}
 use Rattle.std.specs.Cmp.Lexicographic.{nat_list_eq_equiv}
 use Rattle.std.specs.List.{position_or_len}
 use Rattle.std.specs.Prelude.{nat_lt}
 use Rattle.std.specs.Str.{bytes_eq}
+use Rattle.elf_model.specs.declared.name.Name.{Name}
 use Rattle.symbols.specs.Lists.{HasNamesOnce, NamedRow, place_in, row_in}
 use Rattle.symbols.specs.Rows.{Rows, no_row, offered, taken, taken_in}
 use Rattle.symbols.specs.declared.candidate.Candidate.{Candidate}
@@ -47,16 +47,16 @@ passed_by false false x row u v e h = e
 
 -- an entry whose name doesn't stand before it gives the row of this name, and of no other
 row_at :
-    (front back : List NamedRow) (name : List ℕ) (k : Bor (List ℕ)) (row : Row) (other : List ℕ) →
-    name ≡ k.now → row_in front name ≡ None →
+    (front back : List NamedRow) (name : List ℕ) (k : Name) (row : Row) (other : List ℕ) →
+    name ≡ k.0.now → row_in front name ≡ None →
     row_in (front ++ (k, row) ∷ back) other ≡ cond (bytes_eq name other) (Some row) (row_in (front ++ back) other)
 row_at [] back name k row other e none =
-    ap (λ b. cond b (Some row) (row_in back other)) (names_swapped other k.now ∙ ap (λ n. bytes_eq n other) (sym e))
+    ap (λ b. cond b (Some row) (row_in back other)) (names_swapped other k.0.now ∙ ap (λ n. bytes_eq n other) (sym e))
 row_at (f ∷ fs) back name k row other e none =
-    let h = none_first (bytes_eq name f.0.now) f.1 (row_in fs name) none in
-    passed_by (bytes_eq other f.0.now) (bytes_eq name other) f.1 row (row_in (fs ++ (k, row) ∷ back) other) (row_in (fs ++ back) other)
+    let h = none_first (bytes_eq name f.0.0.now) f.1 (row_in fs name) none in
+    passed_by (bytes_eq other f.0.0.now) (bytes_eq name other) f.1 row (row_in (fs ++ (k, row) ∷ back) other) (row_in (fs ++ back) other)
     (row_at fs back name k row other e h.1)
-    (λ t. sym (ap (λ n. bytes_eq n f.0.now) (same_name name other t)) ∙ h.0)
+    (λ t. sym (ap (λ n. bytes_eq n f.0.0.now) (same_name name other t)) ∙ h.0)
 
 -- a list's entry in its place
 split_at : (rows : List NamedRow) (i : ℕ) (e : NamedRow) → i < length rows → e ≡ get_or rows i e → rows ≡ take i rows ++ e ∷ drop (suc i) rows
@@ -68,18 +68,18 @@ split_at rows i e within is =
 pub record IsPlace (rows : List NamedRow) (name : List ℕ) (i : ℕ) : Type 0 where
   pub within : i < length rows
   pub before : row_in (take i rows) name ≡ None
-  pub there : (d : NamedRow) → name ≡ (get_or rows i d).0.now
+  pub there : (d : NamedRow) → name ≡ (get_or rows i d).0.0.now
 
 -- the first place of a name, the list's length where it hasn't got it
 abbrev first_place : List NamedRow → List ℕ → ℕ
-first_place rows name = position_or_len (λ e. bytes_eq name e.0.now) rows
+first_place rows name = position_or_len (λ e. bytes_eq name e.0.0.now) rows
 
 -- the name doesn't stand before its first place
 none_before : (rows : List NamedRow) (name : List ℕ) → row_in (take (first_place rows name) rows) name ≡ None
 none_before [] name = refl
-none_before (e ∷ es) name = by (bytes_eq name e.0.now) refl (none_before es name)
+none_before (e ∷ es) name = by (bytes_eq name e.0.0.now) refl (none_before es name)
   where
-    by : (b : Bool) → bytes_eq name e.0.now ≡ b → row_in (take (first_place es name) es) name ≡ None → row_in (take (cond (not b) (1 + first_place es name) 0) (e ∷ es)) name ≡ None
+    by : (b : Bool) → bytes_eq name e.0.0.now ≡ b → row_in (take (first_place es name) es) name ≡ None → row_in (take (cond (not b) (1 + first_place es name) 0) (e ∷ es)) name ≡ None
     by true is rest = refl
     by false is rest =
         let more : 1 + first_place es name ≡ suc (first_place es name) = omega arith in
@@ -94,8 +94,8 @@ place_is rows name i is =
       within = below;
       before = none_before rows name;
       there = λ d.
-          let stops = prefix_len_stops (λ e. not (bytes_eq name e.0.now)) rows d below in
-          same_name name (get_or rows p d).0.now (not-false (bytes_eq name (get_or rows p d).0.now) stops);
+          let stops = prefix_len_stops (λ e. not (bytes_eq name e.0.0.now)) rows d below in
+          same_name name (get_or rows p d).0.0.now (not-false (bytes_eq name (get_or rows p d).0.0.now) stops);
     })
 
 none_past : (b : Bool) (i : ℕ) → cond b (Some i) None ≡ None → b ≡ false
@@ -117,7 +117,7 @@ row_found rows name i e is there =
     let front = take i rows in
     let back = drop (suc i) rows in
     ap (λ es. row_in es name) (split_at rows i e at.within there)
-    ∙ row_at front back name e.0 e.1 name (at.there e ∙ ap (λ (x : NamedRow). x.0.now) (sym there)) at.before
+    ∙ row_at front back name e.0 e.1 name (at.there e ∙ ap (λ (x : NamedRow). x.0.0.now) (sym there)) at.before
     ∙ ap (λ b. cond b (Some e.1) (row_in (front ++ back) name)) (name_itself name)
 
 -- one row written over another
@@ -134,7 +134,7 @@ set_offered rows name c i e row is there taken_is =
     let at = place_is rows name i is in
     let front = take i rows in
     let back = drop (suc i) rows in
-    let same : name ≡ e.0.now = at.there e ∙ ap (λ (x : NamedRow). x.0.now) (sym there) in
+    let same : name ≡ e.0.0.now = at.there e ∙ ap (λ (x : NamedRow). x.0.0.now) (sym there) in
     let row_is : row ≡ taken c (row_in rows name) = taken_is ∙ ap (λ r. taken c r) (sym (row_found rows name i e is there)) in
     same_rows (λ n.
     let b = bytes_eq name n in
@@ -147,40 +147,40 @@ set_offered rows name c i e row is there taken_is =
 
 -- a name put at the end with its candidate
 pub push_offered :
-    (rows : List NamedRow) (k : Bor (List ℕ)) (c : Candidate) (row : Row) →
-    place_in rows k.now ≡ None → row ≡ taken_in c no_row →
-    row_in (rows ++ (k, row) ∷ []) ≡ offered k.now c (row_in rows)
+    (rows : List NamedRow) (k : Name) (c : Candidate) (row : Row) →
+    place_in rows k.0.now ≡ None → row ≡ taken_in c no_row →
+    row_in (rows ++ (k, row) ∷ []) ≡ offered k.0.now c (row_in rows)
 push_offered rows k c row is taken_is =
-    let none = place_none rows k.now is in
-    let row_is : row ≡ taken c (row_in rows k.now) = taken_is ∙ ap (λ r. taken c r) (sym none) in
+    let none = place_none rows k.0.now is in
+    let row_is : row ≡ taken c (row_in rows k.0.now) = taken_is ∙ ap (λ r. taken c r) (sym none) in
     same_rows (λ n.
-    row_at rows [] k.now k row n refl none
-    ∙ ap (λ es. cond (bytes_eq k.now n) (Some row) (row_in es n)) (append-nil rows)
-    ∙ ap (λ r. cond (bytes_eq k.now n) (Some r) (row_in rows n)) row_is)
+    row_at rows [] k.0.now k row n refl none
+    ∙ ap (λ es. cond (bytes_eq k.0.now n) (Some row) (row_in es n)) (append-nil rows)
+    ∙ ap (λ r. cond (bytes_eq k.0.now n) (Some r) (row_in rows n)) row_is)
 
 -- a changed row leaves the names
 other_none : (rows : List NamedRow) (i : ℕ) (e : NamedRow) (row : Row) (name : List ℕ) → e ≡ get_or rows i e → row_in rows name ≡ None → row_in (set rows i (e.0, row)) name ≡ None
 other_none [] i e row name is none = none
 other_none (x ∷ xs) zero e row name is none =
-    let h = none_first (bytes_eq name x.0.now) x.1 (row_in xs name) none in
-    let same : bytes_eq name e.0.now ≡ false = ap (λ (y : NamedRow). bytes_eq name y.0.now) is ∙ h.0 in
+    let h = none_first (bytes_eq name x.0.0.now) x.1 (row_in xs name) none in
+    let same : bytes_eq name e.0.0.now ≡ false = ap (λ (y : NamedRow). bytes_eq name y.0.0.now) is ∙ h.0 in
     ap (λ b. cond b (Some row) (row_in xs name)) same ∙ h.1
 other_none (x ∷ xs) (suc i) e row name is none =
-    let h = none_first (bytes_eq name x.0.now) x.1 (row_in xs name) none in
+    let h = none_first (bytes_eq name x.0.0.now) x.1 (row_in xs name) none in
     ap (λ b. cond b (Some x.1) (row_in (set xs i (e.0, row)) name)) h.0 ∙ other_none xs i e row name is h.1
 
 pub set_once : (rows : List NamedRow) (i : ℕ) (e : NamedRow) (row : Row) → e ≡ get_or rows i e → HasNamesOnce rows → HasNamesOnce (set rows i (e.0, row))
 set_once [] i e row is once = once
-set_once (x ∷ xs) zero e row is once = (ap (λ (y : NamedRow). row_in xs y.0.now) is ∙ once.0, once.1)
-set_once (x ∷ xs) (suc i) e row is once = (other_none xs i e row x.0.now is once.0, set_once xs i e row is once.1)
+set_once (x ∷ xs) zero e row is once = (ap (λ (y : NamedRow). row_in xs y.0.0.now) is ∙ once.0, once.1)
+set_once (x ∷ xs) (suc i) e row is once = (other_none xs i e row x.0.0.now is once.0, set_once xs i e row is once.1)
 
 -- a new name at the end stands once
-pub push_once : (rows : List NamedRow) (k : Bor (List ℕ)) (row : Row) → row_in rows k.now ≡ None → HasNamesOnce rows → HasNamesOnce (rows ++ (k, row) ∷ [])
+pub push_once : (rows : List NamedRow) (k : Name) (row : Row) → row_in rows k.0.now ≡ None → HasNamesOnce rows → HasNamesOnce (rows ++ (k, row) ∷ [])
 push_once [] k row none once = (refl, tt)
 push_once (x ∷ xs) k row none once =
-    let h = none_first (bytes_eq k.now x.0.now) x.1 (row_in xs k.now) none in
-    let behind : row_in (xs ++ (k, row) ∷ []) x.0.now ≡ None =
-    row_at xs [] k.now k row x.0.now refl h.1
-    ∙ ap (λ b. cond b (Some row) (row_in (xs ++ []) x.0.now)) h.0
-    ∙ ap (λ es. row_in es x.0.now) (append-nil xs) ∙ once.0 in
+    let h = none_first (bytes_eq k.0.now x.0.0.now) x.1 (row_in xs k.0.now) none in
+    let behind : row_in (xs ++ (k, row) ∷ []) x.0.0.now ≡ None =
+    row_at xs [] k.0.now k row x.0.0.now refl h.1
+    ∙ ap (λ b. cond b (Some row) (row_in (xs ++ []) x.0.0.now)) h.0
+    ∙ ap (λ es. row_in es x.0.0.now) (append-nil xs) ∙ once.0 in
     (behind, push_once xs k row h.1 once.1)

@@ -6,15 +6,16 @@ ghost use Rattle.symbols.specs.Lists.{row_in};
 use crate::candidate::Candidate;
 use crate::name_table::NameTable;
 use crate::row::{NO_ROW, Row, take_in};
+use elf_model::Name;
 use indexmap::IndexMap;
 use std::alloc::{AllocError, Global};
 use std::hash::BuildHasher;
 use std::marker::Model;
 
-/// A table of names that finds them by hash, keyed by the borrowed names themselves.
+/// A table of names that finds them by hash, keyed by the names themselves, which it borrows.
 #[derive(Drop)]
 pub struct IndexedTable<'a, S: BuildHasher> {
-    rows: IndexMap<&'a [u8], Row, S>,
+    rows: IndexMap<Name<'a>, Row, S>,
 }
 
 impl<'a, S: BuildHasher> Model for IndexedTable<'a, S> {
@@ -41,11 +42,11 @@ impl<'a, S: BuildHasher> NameTable<'a> for IndexedTable<'a, S> {
     ghost rows = { row_in };
 
     fn get(&self, name: &'a [u8]) -> Option<Row> {
-        self.rows.get(name).copied()
+        self.rows.get(&Name(name)).copied()
     }
 
     fn offer(&mut self, name: &'a [u8], candidate: Candidate) -> Result<(), AllocError> {
-        let row = self.rows.entry(name)?.or_insert(NO_ROW);
+        let row = self.rows.entry(Name(name))?.or_insert(NO_ROW);
         take_in(row, candidate);
         Ok(())
     }

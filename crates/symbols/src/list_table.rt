@@ -6,13 +6,14 @@ ghost use Rattle.symbols.specs.Lists.{place_in, row_in};
 use crate::candidate::Candidate;
 use crate::name_table::NameTable;
 use crate::row::{NO_ROW, Row, take_in};
+use elf_model::Name;
 use std::alloc::{AllocError, Global};
 use std::marker::Model;
 
 /// A table of names that searches a list from its front: the plain program of the definition.
 #[derive(Drop)]
 pub struct ListTable<'a> {
-    rows: Vec<(&'a [u8], Row)>,
+    rows: Vec<(Name<'a>, Row)>,
 }
 
 impl<'a> Model for ListTable<'a> {
@@ -27,10 +28,10 @@ impl<'a> Model for ListTable<'a> {
 }
 
 /// The place of a name in a list; None where the list hasn't got it.
-fn place_of(rows: &[(&[u8], Row)], name: &[u8]) -> Option<usize>
+fn place_of(rows: &[(Name<'_>, Row)], name: &[u8]) -> Option<usize>
     ensures { result ≡ place_in rows.now name.now }
 {
-    rows.iter().position(|entry| name == entry.0)
+    rows.iter().position(|entry| name == entry.0.0)
 }
 
 impl<'a> ListTable<'a> {
@@ -59,7 +60,7 @@ impl<'a> NameTable<'a> for ListTable<'a> {
         }
         let mut row = NO_ROW;
         take_in(&mut row, candidate);
-        self.rows.push((name, row))?;
+        self.rows.push((Name(name), row))?;
         Ok(())
     }
 }

@@ -7,22 +7,22 @@ pub returns-then-branch-clause-marks : goal.returns-then-branch-clause-marks
 returns-then-branch-clause-marks c =
     let g = c.args.group.now in
     let kept =
-    seen_unless c.args.seen.now.keys c.signature.result g c.in_ok-insert.field-0 (sym c.is_comdat.ensures ∙ c.if-not-is_comdat.false) c.signature.ensures c.in_ok-insert.ensures.added
+    seen_unless c.args.seen.now.keys (record { 0 = c.signature.result }) g c.in_ok-insert.field-0 (sym c.is_comdat.ensures ∙ c.if-not-is_comdat.false) c.signature.ensures c.in_ok-insert.ensures.added
     ∙ ap not c.if-branch.true in
     ap (λ b. cond b (marked c.args.marks.now g.members) c.args.marks.now) (sym kept)
 
 pub returns-then-branch-clause-seen : goal.returns-then-branch-clause-seen
 returns-then-branch-clause-seen c =
-    set_then c.args.seen.now.keys c.insert.new.self.keys c.signature.result c.args.group.now (sym c.is_comdat.ensures ∙ c.if-not-is_comdat.false) c.signature.ensures c.in_ok-insert.ensures.keys
+    set_then c.args.seen.now.keys c.insert.new.self.keys (record { 0 = c.signature.result }) c.args.group.now (sym c.is_comdat.ensures ∙ c.if-not-is_comdat.false) c.signature.ensures c.in_ok-insert.ensures.keys
 
 pub returns-clause-marks : goal.returns-clause-marks
 returns-clause-marks c =
     let g = c.args.group.now in
     let lost =
-    seen_unless c.args.seen.now.keys c.signature.result g c.in_ok-insert.field-0 (sym c.is_comdat.ensures ∙ c.if-not-is_comdat.false) c.signature.ensures c.in_ok-insert.ensures.added
+    seen_unless c.args.seen.now.keys (record { 0 = c.signature.result }) g c.in_ok-insert.field-0 (sym c.is_comdat.ensures ∙ c.if-not-is_comdat.false) c.signature.ensures c.in_ok-insert.ensures.added
     ∙ ap not c.if-branch.false in
     c.mark.ensures ∙ ap (marked c.args.marks.now) c.members.ensures ∙ ap (λ b. cond b (marked c.args.marks.now g.members) c.args.marks.now) (sym lost)
 
 pub returns-clause-seen : goal.returns-clause-seen
 returns-clause-seen c =
-    set_then c.args.seen.now.keys c.insert.new.self.keys c.signature.result c.args.group.now (sym c.is_comdat.ensures ∙ c.if-not-is_comdat.false) c.signature.ensures c.in_ok-insert.ensures.keys
+    set_then c.args.seen.now.keys c.insert.new.self.keys (record { 0 = c.signature.result }) c.args.group.now (sym c.is_comdat.ensures ∙ c.if-not-is_comdat.false) c.signature.ensures c.in_ok-insert.ensures.keys

@@ -2,11 +2,9 @@ use Rattle.std.proofs.Common.{◌≡◌, Bool, false, List, rules, ap, subst, sy
 use Rattle.std.proofs.lemmas.List.{drop_all}
 use Rattle.elf_model.specs.ObjectFile.{Group}
 use Rattle.elf_model.specs.Marks.{marked, marked_numbers}
-use Rattle.comdat.specs.Marks.{Rises}
 use Rattle.comdat.specs.Signatures.{names_of}
 use Rattle.elf_model.proofs.Marks.{numbers_marked}
 use Rattle.comdat.proofs.DroppedMembers.{dropped_members, members_below}
-use Rattle.comdat.proofs.DroppedNumbers.{marked_rises}
 use Rattle.comdat.proofs.dropped.admit_groups.Goals as goal
 
 pub returns-clause-dropped : goal.returns-clause-dropped
@@ -19,8 +17,8 @@ returns-clause-dropped c =
     ap (λ (rest : List Group). marked c.loop-group.marks.items (dropped_members (names_of c.loop-group.signatures.keys) rest)) (sym none)
     ∙ c.loop-group.invariant.marks ∙ ap (λ (m : List Bool). marked m members) (c.in_ok-marks.ensures.items_if_clones_equal (λ y k. search rules))
     in
-    c.in_ok-marked_numbers.ensures ∙ ap marked_numbers (c.deref.ensures.value ∙ marks_are)
+    c.in_ok-sections.ensures ∙ ap marked_numbers (c.deref.ensures.value ∙ marks_are)
     ∙ numbers_marked c.args.count members (members_below c.args.count seen gs c.requires)
 
 pub invariant_of-result : goal.invariant_of-result
-invariant_of-result c = subst Rises (sym c.in_ok-marked_numbers.ensures) (marked_rises c.deref.result.now)
+invariant_of-result c = c.in_ok-sections.ensures ∙ ap marked_numbers c.deref.ensures.value

@@ -1,6 +1,7 @@
-use Rattle.std.proofs.Common.{◌≡◌, ℕ, ◌<◌, false}
-use Rattle.got_tls.specs.Asking.{is_got_symbol}
+use Rattle.elf_model.specs.Slots.{names_got}
+use Rattle.search.specs.Views.{loaded_view}
+use Rattle.got_tls.proofs.NoSymbols.{NoneBelow}
 use Rattle.got_tls.proofs.requests.tells_of_got.Given as goal
 
 abbrev pub invariant-loop-j : goal.invariant-loop-j
-invariant-loop-j l = (i : ℕ) → i < l.j → is_got_symbol l.object i ≡ false
+invariant-loop-j l = NoneBelow (names_got l.resolved) l.number (loaded_view l.loaded) l.j

@@ -17,7 +17,7 @@ pub returns-clause-requested : goal.returns-clause-requested
 returns-clause-requested c = λ n.
     let was = c.or_insert-state.ensures.value ∙ ap (λ s. unwrap_or s unknown) c.in_ok-self-inside.ensures.value in
     let new = c.take_in.new.state in
-    requested_noted c.self.inside.states (map_with_value c.in_ok-self-inside.field-0 new) c.args.name _ new c.args.said _
+    requested_noted c.self.inside.states (map_with_value c.in_ok-self-inside.field-0 new) (record { 0 = c.args.name }) _ new c.args.said _
     (c.in_ok-self-inside.ensures.update.0 new) was (search rules) c.take_in.ensures.requested n
     ∙ ap (λ (names : Names). bytes_eq c.args.name.now n && c.args.said.requested || requests_name names n) c.self.view_is
 
@@ -25,6 +25,6 @@ pub returns-clause-defined : goal.returns-clause-defined
 returns-clause-defined c = λ n.
     let was = c.or_insert-state.ensures.value ∙ ap (λ s. unwrap_or s unknown) c.in_ok-self-inside.ensures.value in
     let new = c.take_in.new.state in
-    defined_noted c.self.inside.states (map_with_value c.in_ok-self-inside.field-0 new) c.args.name _ new c.args.said _
+    defined_noted c.self.inside.states (map_with_value c.in_ok-self-inside.field-0 new) (record { 0 = c.args.name }) _ new c.args.said _
     (c.in_ok-self-inside.ensures.update.0 new) was (search rules) c.take_in.ensures.defined n
     ∙ ap (λ (names : Names). bytes_eq c.args.name.now n && c.args.said.defined || defines_name names n) c.self.view_is

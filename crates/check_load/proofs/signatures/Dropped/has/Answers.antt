@@ -1,7 +1,7 @@
 use Rattle.std.proofs.Common.{◌∙◌, ◌==◌, Bool, List, ℕ, ap}
 use Rattle.std.specs.List.{list_any}
 use Rattle.elf_model.specs.Marks.{is_marked}
-use Rattle.check_load.proofs.MarkLemmas.{among_marked}
+use Rattle.elf_model.proofs.MarkedNumbers.{among_marked}
 use Rattle.check_load.proofs.signatures.Dropped.has.Goals as goal
 
 pub returns : goal.returns

@@ -9,6 +9,6 @@ use Rattle.symbols.proofs.indexed_table.IndexedTableNameTable.offer.Goals as goa
 pub returns-clause-taken : goal.returns-clause-taken
 returns-clause-taken g c =
     let had = c.or_insert-row.ensures.value ∙ ap (λ r. unwrap_or r no_row) c.in_ok-self-inside.ensures.value in
-    written_offered c.self.inside.rows (map_with_value c.in_ok-self-inside.field-0) c.args.name c.args.candidate _ _ _
+    written_offered c.self.inside.rows (map_with_value c.in_ok-self-inside.field-0) (record { 0 = c.args.name }) c.args.candidate _ _ _
     c.in_ok-self-inside.ensures.update.0 had c.take_in.ensures (search rules)
     ∙ ap (λ (es : List NamedRow). offered c.args.name.now c.args.candidate (row_in es)) c.self.view_is

@@ -23,7 +23,7 @@ invariant_of-self-2 c =
     let name = c.args.name.now in
     let place = sym (c.in_default.ensures ∙ ap (λ es. place_in es name) c.deref.ensures.value) in
     subst HasNamesOnce (sym c.in_ok-push.ensures.items)
-    (push_once rows c.args.name c.take_in-2.new.row (place_none rows name place) c.self.invariant)
+    (push_once rows (record { 0 = c.args.name }) c.take_in-2.new.row (place_none rows name place) c.self.invariant)
 
 pub returns-clause-taken : goal.returns-clause-taken
 returns-clause-taken c =
@@ -31,5 +31,5 @@ returns-clause-taken c =
     let name = c.args.name.now in
     let place = sym (c.in_default.ensures ∙ ap (λ es. place_in es name) c.deref.ensures.value) in
     ap row_in c.in_ok-push.ensures.items
-    ∙ push_offered rows c.args.name c.args.candidate c.take_in-2.new.row place c.take_in-2.ensures
+    ∙ push_offered rows (record { 0 = c.args.name }) c.args.candidate c.take_in-2.new.row place c.take_in-2.ensures
     ∙ ap (λ (es : List NamedRow). offered name c.args.candidate (row_in es)) c.self.view_is
