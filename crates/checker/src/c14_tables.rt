@@ -18,10 +18,10 @@ use crate::segments::file_end;
 use check_relocs::Bindings;
 use elf_model::{FileHeader, SymbolLine, SymtabLine};
 
-mod entries;
-mod lines;
-mod places;
-mod strip;
+pub mod entries;
+pub mod lines;
+pub mod places;
+pub mod strip;
 
 /// Whether the fourteenth clause holds of a link.
 pub fn holds(bound: &BoundLink<'_, '_>) -> bool

@@ -1,0 +1,2 @@
+pub mod PlacementPlaces
+pub mod Places

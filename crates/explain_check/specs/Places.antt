@@ -1,0 +1,27 @@
+-- What a place of a failed check says of a link: the fact at this place that makes the clause false.
+use Rattle.std.specs.Prelude.{ℕ, List, All}
+use Rattle.elf_model.specs.Command.{Plan}
+use Rattle.elf_model.specs.Files.{File}
+use Rattle.elf_model.specs.MapRecord.{MapRecord}
+use Rattle.elf_model.specs.RightLink.{IsRead, Subject}
+use Rattle.explain_check.specs.PlacementPlaces.{AreFar, IsOutside, IsShared, IsUnaligned, IsUnheld, IsWrongFirst}
+use Rattle.explain_check.specs.declared.place.CheckPlace.{CheckPlace}
+use Rattle.explain_check.specs.declared.place.CheckPlace.TheVariants as place
+
+abbrev pub FailsIn : Subject → CheckPlace → Type 0
+FailsIn s (place.Unaligned p) = IsUnaligned s p
+FailsIn s (place.Outside p base) = IsOutside s p base
+FailsIn s (place.Shared p q) = IsShared s p q
+FailsIn s (place.Far n) = AreFar s n
+FailsIn s (place.Unheld p segment) = IsUnheld s p segment
+FailsIn s (place.First address base) = IsWrongFirst s address base
+
+abbrev pub AreFailures : Subject → List CheckPlace → Type 0
+AreFailures s places = All (FailsIn s) places
+
+-- the words are a plan and the text is a map, and in their link a clause fails at the place
+pub record FailsAt (files : List File) (words : List (List ℕ)) (image bytes : List ℕ) (p : CheckPlace) : Type 0 where
+  pub plan : Plan
+  pub map : MapRecord
+  pub read : IsRead words bytes (record { plan = plan; files = files; image = image; map = map })
+  pub fails : FailsIn (record { plan = plan; files = files; image = image; map = map }) p
