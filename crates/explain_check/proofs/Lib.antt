@@ -1,1 +1,4 @@
+pub mod FarSections
+pub mod ObjectLines
 pub mod Reading
+pub mod TableBuilding
