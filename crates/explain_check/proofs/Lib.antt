@@ -1,3 +1,4 @@
+pub mod Denials
 pub mod FarSections
 pub mod ObjectLines
 pub mod Reading

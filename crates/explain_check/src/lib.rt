@@ -2,6 +2,7 @@
 //! there and what should be. The clauses are judged by the checker; this crate only looks for places where one says no.
 #![tactic(auto)]
 
+mod clause;
 mod common_lines;
 mod entry;
 mod far_sections;
@@ -22,6 +23,7 @@ mod table_text;
 mod tables;
 mod text;
 
+pub use clause::clause_of;
 pub use found::Found;
 pub use place::{
     CheckPlace, CommonLinePlace, DropLinePlace, EntryPlace, MeaningPlace, Neighbours, ObjectAt,
