@@ -93,7 +93,7 @@ impl<'m> CommonLines<'m> {
     }
 
     /// The first line of a name.
-    fn line(&self, name: &[u8]) -> Option<&'m CommonLine>
+    pub fn line(&self, name: &[u8]) -> Option<&'m CommonLine>
         ensures { option_map line_view result ≡ find (is_common_row_of name.now) self.now }
     {
         self.by_name.get(name).copied()
@@ -110,7 +110,7 @@ impl<'m> CommonLines<'m> {
     }
 
     /// Whether the line of a name is that of its block, or there is none of both.
-    fn has_line(&self, names: &Names<'_, '_>, name: &[u8]) -> bool
+    pub fn has_line(&self, names: &Names<'_, '_>, name: &[u8]) -> bool
         ensures { IsTrue result ↔ HasCommonLine self.now names.now name.now }
     {
         agree(self.line(name), names.block(name))

@@ -34,13 +34,13 @@ pub use output_names::Outputs;
 pub use output_sections::output_section;
 pub use pieces::pieces_of;
 pub use placed_pieces::{
-    first_address, got_thing, got_things_of, place_all, thing_of_placed, things_of,
-    thread_ranges_of,
+    first_address, got_thing, got_things_of, place_all, range_of_placed, thing_of_placed,
+    things_of, thread_ranges_of,
 };
 pub use places::Places;
 pub use requests::{Request, Wanted, is_thread, request_of_line};
 pub use sizes::{is_thread_zero, load_size};
 pub use slots::SlotTable;
 pub use symbols::{are_sound, section_of};
-pub use things::{Meaning, Piece, Placed, SymbolOf};
+pub use things::{Block, Meaning, Piece, Placed, SymbolOf};
 pub use thread_storage::thread_block;

@@ -108,7 +108,7 @@ fn section_rights(header: &SectionHeader) -> u64
 }
 
 /// The addresses of a piece, those of a thread-local one without bytes too, which takes up none of them.
-fn range_of_placed(placed: &Placed<'_>) -> Thing
+pub fn range_of_placed(placed: &Placed<'_>) -> Thing
     ensures { result ≡ range_of (placed_view placed.now) }
 {
     let header = &placed.piece.header;

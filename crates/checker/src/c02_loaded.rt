@@ -11,7 +11,7 @@ use check_load::Loaded;
 use elf_model::ObjectLine;
 
 /// Whether an object line says of object `number` what was loaded.
-fn is_line_of(line: &ObjectLine, number: u64, object: &Loaded<'_>) -> bool
+pub fn is_line_of(line: &ObjectLine, number: u64, object: &Loaded<'_>) -> bool
     ensures { IsTrue result ↔ (object_row line.now ≡ row_of number (loaded_view object.now)) }
 {
     if line.object != number || line.item != object.item {

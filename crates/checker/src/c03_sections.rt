@@ -13,11 +13,11 @@ use check_link::Piece;
 use elf_model::{DropLine, PlaceLine};
 use std::alloc::{AllocError, Global};
 
-mod drops;
+pub mod drops;
 mod kinds;
 
 /// Whether a place line says of a piece what it is.
-fn is_line_of(line: &PlaceLine, piece: &Piece<'_>) -> bool
+pub fn is_line_of(line: &PlaceLine, piece: &Piece<'_>) -> bool
     ensures { IsTrue result ↔ (facts_of_row (place_row line.now) ≡ facts_of_piece (piece_view piece.now)) }
 {
     if line.object != piece.object || line.section != piece.section {

@@ -14,8 +14,8 @@ use elf_model::Thing;
 use std::alloc::{AllocError, Global};
 
 mod apart;
-mod array_order;
-mod neighbours;
+pub mod array_order;
+pub mod neighbours;
 
 /// Whether the fifth clause holds of a link.
 pub fn holds(alloc: Global, placed: &PlacedLink<'_, '_>) -> Result<bool, AllocError>
@@ -36,7 +36,8 @@ pub fn holds(alloc: Global, placed: &PlacedLink<'_, '_>) -> Result<bool, AllocEr
 /// Addresses end here.
 const ADDRESS_END: u64 = 1 << 46;
 
-fn is_within(base: u64, thing: &Thing) -> bool
+/// Whether a thing lies from the base on and below 2^46.
+pub fn is_within(base: u64, thing: &Thing) -> bool
     ensures { IsTrue result ↔ IsWithin base thing.now }
 {
     base <= thing.at && thing.at <= ADDRESS_END && thing.size <= ADDRESS_END - thing.at
@@ -48,7 +49,8 @@ fn are_within(base: u64, things: &[Thing]) -> bool
     things.iter().all(|t| is_within(base, t))
 }
 
-fn is_aligned(thing: &Thing) -> bool
+/// Whether a thing's address is a multiple of its alignment.
+pub fn is_aligned(thing: &Thing) -> bool
     ensures { IsTrue result ↔ (thing.now.at % thing.now.align ≡ 0) }
 {
     if thing.align == 0 {

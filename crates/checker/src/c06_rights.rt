@@ -21,7 +21,7 @@ pub fn holds(placed: &PlacedLink<'_, '_>) -> bool
 }
 
 /// Whether a nonempty thing lies whole in a segment with exactly its rights.
-fn lies_if_nonempty(memory: &Memory<'_>, thing: &Thing) -> bool
+pub fn lies_if_nonempty(memory: &Memory<'_>, thing: &Thing) -> bool
     ensures { IsTrue result ↔ (0 < thing.now.size → LiesInSegment (loads memory.now) thing.now) }
 {
     if thing.size == 0 {
@@ -53,7 +53,7 @@ fn lies_in(segment: &ProgramHeader, thing: &Thing) -> bool
     segment.p_flags as u64 == thing.rights
 }
 
-fn lies_in_segment(segments: &[ProgramHeader], thing: &Thing) -> bool
+pub fn lies_in_segment(segments: &[ProgramHeader], thing: &Thing) -> bool
     ensures { IsTrue result ↔ LiesInSegment segments.now thing.now }
 {
     segments.iter().any(|h| lies_in(h, thing))

@@ -162,7 +162,7 @@ fn is_linkers_line(
 }
 
 /// Whether a line is that of what its name means, given the linker's names that have one.
-fn is_right_line(
+pub fn is_right_line(
     bindings: &Bindings<'_, '_, '_>,
     names: &BTreeSet<&[u8]>,
     line: &SymbolLine,

@@ -18,10 +18,10 @@ use crate::segments::file_end;
 use check_relocs::Bindings;
 use elf_model::{FileHeader, SymbolLine, SymtabLine};
 
-mod entries;
-mod lines;
-mod places;
-mod strip;
+pub mod entries;
+pub mod lines;
+pub mod places;
+pub mod strip;
 
 /// Whether the fourteenth clause holds of a link.
 pub fn holds(bound: &BoundLink<'_, '_>) -> bool
@@ -46,7 +46,7 @@ fn is_told_as_asked(version: u64, symtab: Option<SymtabLine>, strip: bool) -> bo
 }
 
 /// Whether a file header tells of no sections.
-fn has_no_sections(header: &FileHeader) -> bool
+pub fn has_no_sections(header: &FileHeader) -> bool
     ensures { IsTrue result ↔ HasNoSections header.now }
 {
     header.e_shoff == 0 && header.e_shnum == 0 && header.e_shstrndx == 0

@@ -4,24 +4,27 @@
 #![tactic(auto)]
 
 mod bound_link;
-mod c02_loaded;
-mod c03_sections;
-mod c04_image;
-mod c05_placed;
-mod c06_rights;
-mod c07_got;
-mod c08_thread_block;
-mod c09_relocations;
-mod c10_bytes;
-mod c11_fill;
-mod c12_entry;
-mod c13_symbols;
-mod c14_tables;
+pub mod c02_loaded;
+pub mod c03_sections;
+pub mod c04_image;
+pub mod c05_placed;
+pub mod c06_rights;
+pub mod c07_got;
+pub mod c08_thread_block;
+pub mod c09_relocations;
+pub mod c10_bytes;
+pub mod c11_fill;
+pub mod c12_entry;
+pub mod c13_symbols;
+pub mod c14_tables;
 mod loaded_link;
 mod placed_link;
-mod segments;
+pub mod segments;
 mod sorted_things;
 mod verdict;
 
+pub use bound_link::BoundLink;
 pub use elf_model::{Clause, Verdict};
+pub use loaded_link::LoadedLink;
+pub use placed_link::PlacedLink;
 pub use verdict::check;

@@ -4,7 +4,6 @@
 mod files;
 mod found;
 mod link;
-mod member_names;
 mod objects;
 mod overlaps;
 mod place;

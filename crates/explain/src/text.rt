@@ -1,25 +1,12 @@
 //! How a place reads: a line that names the object, what is wrong in it, and why.
 
-use crate::member_names::member_name;
 use crate::place::{ObjectPlace, Place, RelocationPlace, SectionPlace, SymbolFault, SymbolPlace};
 use command::Source;
 use elf_model::{CmdFault, InputFile, ObjFault};
+use input_names::{write_name, write_object};
 use relocate::RelocationFault;
 use std::io;
 use std::io::Write;
-
-/// Writes a name as a map spells it: bytes from 0x21 to 0x7e but `\` as they are, every other one as `\x` and two
-/// hexadecimal digits.
-fn write_name<W: Write>(out: &mut W, name: &[u8]) -> io::Result<()> {
-    for byte in name {
-        if (0x21..=0x7e).contains(byte) && *byte != b'\\' {
-            out.write_all(&[*byte])?;
-        } else {
-            write!(out, "\\x{byte:02x}")?;
-        }
-    }
-    Ok(())
-}
 
 /// The inputs that places are of.
 #[derive(Clone, Copy)]
@@ -28,38 +15,13 @@ pub struct Inputs<'i> {
     pub words: &'i [String],
 }
 
-impl<'i> Inputs<'i> {
-    /// The bytes of the first file of a path.
-    fn file(&self, path: &str) -> Option<&'i [u8]> {
-        let file = self.files.iter().find(|f| f.name.as_str() == path)?;
-        Some(file.bytes.as_slice())
-    }
-}
-
-/// Writes the name of an archive's member, and the offset of its header.
-fn write_member<W: Write>(
-    out: &mut W,
-    inputs: Inputs<'_>,
-    place: &ObjectPlace<'_>,
-) -> io::Result<()> {
-    out.write_all(b"(")?;
-    if let Some(file) = inputs.file(place.path) {
-        write_name(out, member_name(file, place.offset).unwrap_or(&[]))?;
-        out.write_all(b" ")?;
-    }
-    write!(out, "at {:#x})", place.offset)
-}
-
 /// Writes the path of an object's file, and the member that it is.
 fn write_file<W: Write>(
     out: &mut W,
     inputs: Inputs<'_>,
     place: &ObjectPlace<'_>,
 ) -> io::Result<()> {
-    write!(out, "{}", place.path)?;
-    if place.offset != 0 {
-        write_member(out, inputs, place)?;
-    }
+    write_object(out, inputs.files, place.path, place.offset)?;
     out.write_all(b": ")
 }
 

@@ -1,5 +1,7 @@
-//! Tests of explanations: what they say of each refusal of a link.
+//! Tests of explanations: what they say of each refusal of a link, and where they say that a check fails.
 #![tactic(auto)]
 
+#[cfg(test)]
+mod check_places;
 #[cfg(test)]
 mod refused_links;

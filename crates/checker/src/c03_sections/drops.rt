@@ -57,7 +57,8 @@ pub fn drops_of(alloc: Global, objects: &[Loaded<'_>]) -> Result<Vec<DropLine>, 
     Ok(found)
 }
 
-fn is_drop(line: &DropLine, drop: &DropLine) -> bool
+/// Whether two lines are the same.
+pub fn is_drop(line: &DropLine, drop: &DropLine) -> bool
     ensures { IsTrue result ↔ (line.now ≡ drop.now) }
 {
     line.object == drop.object && line.section == drop.section

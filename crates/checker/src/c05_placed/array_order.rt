@@ -88,7 +88,10 @@ fn are_unnumbered(placed: &[Placed<'_>]) -> bool
 }
 
 /// The pieces in the order of their ranks, those of one rank as they stood.
-fn in_array_order<'a>(alloc: Global, placed: &[Placed<'a>]) -> Result<Vec<Placed<'a>>, AllocError>
+pub fn in_array_order<'a>(
+    alloc: Global,
+    placed: &[Placed<'a>],
+) -> Result<Vec<Placed<'a>>, AllocError>
     ensures { IfOk result (λ v. placed_views v.items ≡ order.placed_in_array_order (placed_views placed.now)) }
 {
     let mut ordered = Vec::from_slice(alloc, placed)?;

@@ -9,7 +9,7 @@ use std::alloc::{AllocError, Global};
 use std::collections::BTreeMap;
 
 /// Whether a piece stands behind another with a gap that is smaller than its own alignment.
-fn is_near(before: &Placed<'_>, next: &Placed<'_>) -> bool
+pub fn is_near(before: &Placed<'_>, next: &Placed<'_>) -> bool
     ensures { IsTrue result ↔ IsNear (placed_view before.now) (placed_view next.now) }
 {
     if next.at < before.at {

@@ -1,0 +1,5 @@
+pub mod Denials
+pub mod FarSections
+pub mod ObjectLines
+pub mod Reading
+pub mod TableBuilding

@@ -1,0 +1,10 @@
+use Rattle.check_link.specs.Views.{placed_views}
+use Rattle.checker.proofs.NextPieces.{HasLasts}
+use Rattle.explain_check.specs.Places.{AreFailures}
+use Rattle.explain_check.proofs.far_sections.add_far_ones.Given as goal
+
+abbrev pub invariant-loop-j : goal.invariant-loop-j
+invariant-loop-j l = record {
+  lasts : HasLasts (placed_views l.sections) l.j l.lasts;
+  fails : AreFailures l.placed l.found.places.items;
+}
