@@ -1,2 +1,10 @@
+pub mod BytePlaces
+pub mod FillPlaces
+pub mod GotPlaces
+pub mod MemoryPlaces
+pub mod Parts
 pub mod PlacementPlaces
 pub mod Places
+pub mod RelocationPlaces
+pub mod ThreadPlaces
+pub mod WrongEntries

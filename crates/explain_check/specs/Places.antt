@@ -4,6 +4,7 @@ use Rattle.elf_model.specs.Command.{Plan}
 use Rattle.elf_model.specs.Files.{File}
 use Rattle.elf_model.specs.MapRecord.{MapRecord}
 use Rattle.elf_model.specs.RightLink.{IsRead, Subject}
+use Rattle.explain_check.specs.MemoryPlaces.{IsWrongMemory}
 use Rattle.explain_check.specs.PlacementPlaces.{AreFar, IsOutside, IsShared, IsUnaligned, IsUnheld, IsWrongFirst}
 use Rattle.explain_check.specs.declared.place.CheckPlace.{CheckPlace}
 use Rattle.explain_check.specs.declared.place.CheckPlace.TheVariants as place
@@ -15,6 +16,7 @@ FailsIn s (place.Shared p q) = IsShared s p q
 FailsIn s (place.Far n) = AreFar s n
 FailsIn s (place.Unheld p segment) = IsUnheld s p segment
 FailsIn s (place.First address base) = IsWrongFirst s address base
+FailsIn s (place.Memory p) = IsWrongMemory s p
 
 abbrev pub AreFailures : Subject → List CheckPlace → Type 0
 AreFailures s places = All (FailsIn s) places

@@ -4,6 +4,8 @@
 
 mod far_sections;
 mod found;
+mod memory;
+mod memory_place;
 mod named_parts;
 mod place;
 mod placement;
@@ -12,6 +14,9 @@ mod rights;
 mod text;
 
 pub use found::Found;
+pub use memory_place::{
+    BytePlace, FillPlace, GotBytePlace, MemoryPlace, RelocationFault, RelocationPlace, SegmentPlace,
+};
 pub use place::{CheckPlace, Neighbours, Part, PartName};
 pub use replay::{explain_check, read_link};
 pub use text::write_check_place;

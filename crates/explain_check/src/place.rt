@@ -1,5 +1,6 @@
 //! The places at which a clause fails.
 
+use crate::memory_place::MemoryPlace;
 use check_link::Placed;
 use elf_model::{ProgramHeader, Thing};
 
@@ -50,4 +51,6 @@ pub enum CheckPlace<'a> {
     Unheld(Part<'a>, Option<ProgramHeader>),
     /// C6: the address of the first segment, which isn't the base, the second number.
     First(u64, u64),
+    /// C7 to C11: a place of the image's memory, or of what relocations want there.
+    Memory(MemoryPlace<'a>),
 }

@@ -1,5 +1,6 @@
 //! How a place of a failed check reads: a line that says what is there, and what should be.
 
+use crate::memory::text::write_memory_place;
 use crate::place::{CheckPlace, Neighbours, Part, PartName};
 use check_link::{Link, Piece, Placed};
 use elf_model::ProgramHeader;
@@ -134,5 +135,6 @@ pub fn write_check_place<W: Write>(
             out,
             "the first segment begins at {address:#x}, and not at the base {base:#x}"
         ),
+        CheckPlace::Memory(place) => write_memory_place(out, link, place),
     }
 }
