@@ -1,1 +1,6 @@
+pub mod FillCells
+pub mod Numbered
 pub mod Reading
+pub mod WrongBytes
+pub mod WrongRelocations
+pub mod WrongSlots

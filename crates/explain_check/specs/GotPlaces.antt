@@ -1,5 +1,5 @@
 -- What a place of the global offset table says of a link.
-use Rattle.std.specs.Prelude.{◌≡◌, ℕ, ◌+◌, ◌*◌, ◌<◌, Bool, not, false, Some, is_some, length, slice_index}
+use Rattle.std.specs.Prelude.{◌≡◌, ℕ, ◌+◌, ◌*◌, ◌<◌, Bool, not, true, false, Some, is_some, length, slice_index}
 use Rattle.std.specs.List.{list_any, slice_get}
 use Rattle.elf_model.specs.MapRecord.{SlotRow}
 use Rattle.elf_model.specs.Relocation.{Relocation}
@@ -43,6 +43,7 @@ pub record IsUnserved (s : Subject) (p : RelocationPlace) (q : code.Request) : T
   pub at : IsRelocationAt (objects_of s) p r
   pub asks : request_of r ≡ Some (request_view q)
   pub none : list_any (is_slot_of (request_view q)) s.map.slots ≡ false
+  pub asked : list_any (same_request (request_view q)) (requests (objects_of s)) ≡ true
   pub wrong : ¬ HasSlot s.map.slots (objects_of s) (request_view q)
 
 -- the GOT is of another size than its slots ask for

@@ -195,7 +195,7 @@ fn add_failures<'a>(
     found: &mut Found<'a>,
     link: &'a Link<'a>,
 ) -> Result<(), AllocError>
-    requires { AreFailures link.entry.now found.old.places.items }
+    requires { AreFailures link.now found.old.places.items }
     ensures { OnOk result (AreFailures link.entry.now found.new.places.items) }
 {
     let Some(objects) = open(alloc, &link.plan, link.files)? else {

@@ -87,7 +87,7 @@ fn write_far<W: Write>(out: &mut W, link: &Link<'_>, far: &Neighbours<'_>) -> io
 }
 
 /// The rights that a sum of flags gives, as readelf shows them.
-fn rights_text(rights: u64) -> &'static str {
+pub fn rights_text(rights: u64) -> &'static str {
     match rights {
         4 => "R",
         5 => "R E",

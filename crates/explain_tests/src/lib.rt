@@ -2,4 +2,6 @@
 #![tactic(auto)]
 
 #[cfg(test)]
+mod memory_places;
+#[cfg(test)]
 mod refused_links;

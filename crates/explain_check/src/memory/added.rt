@@ -14,7 +14,7 @@ pub fn add_memory<'a>(
     bound: &BoundLink<'_, 'a>,
     place: Option<MemoryPlace<'a>>,
 ) -> Result<(), AllocError>
-    requires place { IfSome place.entry (λ p. FailsIn bound.now (CheckPlace.Memory p)) }
+    requires place { IfSome place (λ p. FailsIn bound.now (CheckPlace.Memory p)) }
     requires before { AreFailures bound.now found.old.places.items }
     ensures { OnOk result (AreFailures bound.now found.new.places.items) }
 {

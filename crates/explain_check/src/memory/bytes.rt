@@ -1,5 +1,5 @@
 //! C10: the first wrong byte of each piece.
-ghost use Rattle.std.specs.Prelude.{◌≡◌, ◌↔◌, ◌≤◌, ◌+◌, ◌<◌, ◌&&◌, ◌==◌, IfSome, IsTrue, OnOk, Some, find, nat_le, nat_lt, option_map, slice_index, true, unwrap_or};
+ghost use Rattle.std.specs.Prelude.{◌≡◌, ◌↔◌, ◌≤◌, ◌-◌, ◌<◌, IfSome, IsTrue, OnOk, Some, find, option_copied, slice_index};
 ghost use Rattle.std.specs.List.{slice_get};
 ghost use Rattle.byteview.specs.Numbers.{le_bytes};
 ghost use Rattle.elf_model.specs.ObjectFile.{rela_type};

@@ -1,6 +1,7 @@
 //! C11: bytes of memory outside of all things that aren't fill, the first of each gap.
-ghost use Rattle.std.specs.Prelude.{◌≡◌, ◌↔◌, All, IfOk, IfSome, IsTrue, OnOk, option_map};
+ghost use Rattle.std.specs.Prelude.{◌≡◌, ◌↔◌, All, IfSome, IsTrue, OnOk, Some};
 ghost use Rattle.std.specs.List.Sorted.{IsNonDecreasingBy};
+ghost use Rattle.elf_model.specs.MemoryImage.{memory_of};
 ghost use Rattle.elf_model.specs.Placement.{Covers};
 ghost use Rattle.elf_model.specs.RightLink.{fill_of};
 ghost use Rattle.loader_model.specs.Rights as loader;

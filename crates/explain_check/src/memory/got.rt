@@ -190,7 +190,7 @@ pub fn add_c7<'a>(
     let needs = needs_of(alloc, bound.bindings())?;
     add_memory(found, bound, wrong_presence(bound, &needs))?;
     add_lines(alloc, found, bound, &needs)?;
-    add_unserved(alloc, found, bound)?;
+    add_unserved(alloc, found, bound, &needs)?;
     match got_of(bound) {
         Some(got) => add_got(alloc, found, bound, got),
         None => Ok(()),

@@ -106,10 +106,10 @@ fn wrong_entry<'a>(
     let to = relocated(bindings, number, &one.object, header.sh_info);
     let symbol = entry.symbol() as usize;
     let target = target_at(bindings, referrer.targets, number, one, symbol);
+    let given = link_terms(bindings, number, one, &entry);
     if let Some(fault) = fault_with(&kind, &target, &to, &entry) {
         return Some(MemoryPlace::Relocation(place, fault));
     }
-    let given = link_terms(bindings, number, one, &entry);
     let value = value_with(&kind, &target, &to, &given, &entry);
     if fits(kind.range, kind.width as u64, value) {
         return None;

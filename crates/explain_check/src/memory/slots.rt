@@ -122,6 +122,7 @@ pub fn add_lines<'a>(
 /// The slot for which entry `e` of RELA section `i` asks, which has the header, where there is none.
 fn unserved_entry<'a>(
     bound: &BoundLink<'_, 'a>,
+    needs: &Needs<'a>,
     number: usize,
     one: &Loaded<'a>,
     i: usize,
@@ -132,6 +133,7 @@ fn unserved_entry<'a>(
     requires there { slice_get (sections (loaded_view one.now).bytes) i ≡ Some header.now }
     requires kept { is_kept_rela (loaded_view one.now) i header.now ≡ true }
     requires rela { header.now.sh_type ≡ 4 }
+    requires needs { AreNeeds (objects_of bound.now) needs.now }
     ensures { IfSome result (λ x. IsUnserved bound.now x.0 x.1) }
 {
     let entry = entry_at(one, i, header, e)?;
@@ -139,7 +141,7 @@ fn unserved_entry<'a>(
         return None;
     }
     let request = request_of(one, number as u64, &entry)?;
-    if bound.slots().has(&request) {
+    if bound.slots().has(&request) || !is_asked(needs, &request) {
         return None;
     }
     let objects = bound.bindings().objects();
@@ -151,6 +153,7 @@ fn unserved_entry<'a>(
 fn add_entry<'a>(
     found: &mut Found<'a>,
     bound: &BoundLink<'_, 'a>,
+    needs: &Needs<'a>,
     told: &mut HashSet<Request<'a>>,
     number: usize,
     one: &Loaded<'a>,
@@ -158,6 +161,7 @@ fn add_entry<'a>(
     header: &SectionHeader,
     e: usize,
 ) -> Result<(), AllocError>
+    requires needs { AreNeeds (objects_of bound.now) needs.now }
     requires object { slice_get (objects_of bound.now) number ≡ Some (loaded_view one.now) }
     requires there { slice_get (sections (loaded_view one.now).bytes) i ≡ Some header.now }
     requires kept { is_kept_rela (loaded_view one.now) i header.now ≡ true }
@@ -165,7 +169,7 @@ fn add_entry<'a>(
     requires before { AreFailures bound.now found.old.places.items }
     ensures { OnOk result (AreFailures bound.now found.new.places.items) }
 {
-    let Some((place, request)) = unserved_entry(bound, number, one, i, header, e) else {
+    let Some((place, request)) = unserved_entry(bound, needs, number, one, i, header, e) else {
         return Ok(());
     };
     if !told.insert(request)? {
@@ -178,11 +182,13 @@ fn add_entry<'a>(
 fn add_section<'a>(
     found: &mut Found<'a>,
     bound: &BoundLink<'_, 'a>,
+    needs: &Needs<'a>,
     told: &mut HashSet<Request<'a>>,
     number: usize,
     one: &Loaded<'a>,
     i: usize,
 ) -> Result<(), AllocError>
+    requires needs { AreNeeds (objects_of bound.now) needs.now }
     requires object { slice_get (objects_of bound.now) number ≡ Some (loaded_view one.now) }
     requires before { AreFailures bound.now found.old.places.items }
     ensures { OnOk result (AreFailures bound.now found.new.places.items) }
@@ -194,7 +200,7 @@ fn add_section<'a>(
         return Ok(());
     }
     for e in 0..entries_of(one, i, &header).len() {
-        add_entry(found, bound, told, number, one, i, &header, e)?;
+        add_entry(found, bound, needs, told, number, one, i, &header, e)?;
     }
     Ok(())
 }
@@ -203,10 +209,12 @@ fn add_section<'a>(
 fn add_object<'a>(
     found: &mut Found<'a>,
     bound: &BoundLink<'_, 'a>,
+    needs: &Needs<'a>,
     told: &mut HashSet<Request<'a>>,
     number: usize,
 ) -> Result<(), AllocError>
-    requires { AreFailures bound.now found.old.places.items }
+    requires needs { AreNeeds (objects_of bound.now) needs.now }
+    requires before { AreFailures bound.now found.old.places.items }
     ensures { OnOk result (AreFailures bound.now found.new.places.items) }
 {
     let bindings = bound.bindings();
@@ -214,7 +222,7 @@ fn add_object<'a>(
         return Ok(());
     };
     for i in 0..one.object.sections().len() {
-        add_section(found, bound, told, number, one, i)?;
+        add_section(found, bound, needs, told, number, one, i)?;
     }
     Ok(())
 }
@@ -224,13 +232,15 @@ pub fn add_unserved<'a>(
     alloc: Global,
     found: &mut Found<'a>,
     bound: &BoundLink<'_, 'a>,
+    needs: &Needs<'a>,
 ) -> Result<(), AllocError>
-    requires { AreFailures bound.now found.old.places.items }
+    requires needs { AreNeeds (objects_of bound.now) needs.now }
+    requires before { AreFailures bound.now found.old.places.items }
     ensures { OnOk result (AreFailures bound.now found.new.places.items) }
 {
     let mut told = HashSet::new(alloc);
     for number in 0..bound.bindings().objects().len() {
-        add_object(found, bound, &mut told, number)?;
+        add_object(found, bound, needs, &mut told, number)?;
     }
     Ok(())
 }

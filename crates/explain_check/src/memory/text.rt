@@ -4,7 +4,7 @@
 use crate::memory_place::{
     BytePlace, FillPlace, GotBytePlace, MemoryPlace, RelocationFault, RelocationPlace, SegmentPlace,
 };
-use crate::text::{write_object_of, write_piece};
+use crate::text::{rights_text, write_object_of, write_piece};
 use check_link::Link;
 use elf_model::{GotLine, ProgramHeader};
 use input_names::write_name;
@@ -99,11 +99,11 @@ fn write_piece_byte<W: Write>(
 }
 
 fn write_fill<W: Write>(out: &mut W, place: &FillPlace) -> io::Result<()> {
-    let (address, rights) = (place.address, place.rights);
+    let (address, rights) = (place.address, rights_text(place.rights));
     let (byte, wanted) = (place.byte, place.wanted);
     write!(
         out,
-        "{address:#x}: {byte:#04x} stands between sections, in memory of rights {rights}, and should be {wanted:#04x}"
+        "{address:#x}: {byte:#04x} is in no section, and should be {wanted:#04x} in a segment with {rights}"
     )
 }
 
@@ -254,11 +254,11 @@ fn write_rest<W: Write>(out: &mut W, place: &MemoryPlace<'_>) -> io::Result<()> 
         }
         MemoryPlace::Gap(offset, byte) => write!(
             out,
-            "offset {offset:#x} of the image: {byte:#04x} stands in no segment, and should be 0x00"
+            "offset {offset:#x} of the image: {byte:#04x} is in no segment, and should be 0x00"
         ),
         MemoryPlace::Length(len, end) => write!(
             out,
-            "the image has {len:#x} bytes, and its last segment ends at {end:#x}"
+            "the image has {len:#x} bytes, and its last file part ends at {end:#x}"
         ),
         _ => Ok(()),
     }
