@@ -298,6 +298,13 @@ impl<'l, 'p, 'a> Bindings<'l, 'p, 'a> {
         has_value(self.places, symbol, value)
     }
 
+    /// The value of what a name means, modulo 2^64.
+    pub fn value_of(&self, meaning: &Meaning<'_>) -> u64
+        ensures { result ≡ meaning_value self.now.places (meaning_view meaning.now) % 2 ^ 64 }
+    {
+        meaning_value(self.places, meaning)
+    }
+
     /// Whether the value of what a name means is a number.
     pub fn is_value(&self, meaning: &Meaning<'_>, value: u64) -> bool
         ensures { IsTrue result ↔ (value ≡ meaning_value self.now.places (meaning_view meaning.now)) }

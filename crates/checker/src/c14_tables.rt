@@ -46,7 +46,7 @@ fn is_told_as_asked(version: u64, symtab: Option<SymtabLine>, strip: bool) -> bo
 }
 
 /// Whether a file header tells of no sections.
-fn has_no_sections(header: &FileHeader) -> bool
+pub fn has_no_sections(header: &FileHeader) -> bool
     ensures { IsTrue result ↔ HasNoSections header.now }
 {
     header.e_shoff == 0 && header.e_shnum == 0 && header.e_shstrndx == 0

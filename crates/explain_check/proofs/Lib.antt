@@ -1,6 +1,9 @@
-pub mod FillCells
-pub mod Numbered
+pub mod FarSections
+pub mod KeptPlaces
+pub mod ObjectLines
 pub mod Reading
+pub mod SegmentEnds
+pub mod TableBuilding
 pub mod WrongBytes
 pub mod WrongRelocations
 pub mod WrongSlots

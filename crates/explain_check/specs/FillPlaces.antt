@@ -1,5 +1,5 @@
 -- What a place outside of all things, and one of where segments and the file end, says of a link.
-use Rattle.std.specs.Prelude.{◌≡◌, ℕ, ◌+◌, ◌<◌, ◌≤◌, ◌⊎◌, true, List, None, Some, All, Any, length, slice_index}
+use Rattle.std.specs.Prelude.{◌≡◌, ℕ, ◌+◌, ◌<◌, ◌≤◌, ◌≢◌, true, List, None, Some, All, Any, length, slice_index}
 use Rattle.std.specs.List.{slice_get}
 use Rattle.elf_model.specs.MemoryImage.{file_end, loads, memory_of}
 use Rattle.elf_model.specs.Placement.{Covers}
@@ -37,7 +37,7 @@ IsInFileOf h t = IsOfSegment h t × (t.in_file ≡ true)
 
 pub record IsWrongFileEnd (s : Subject) (p : SegmentPlace) (end : ℕ) : Type 0 where
   pub there : slice_get (loads s.image) p.number ≡ Some p.header
-  pub last : (end ≡ p.header.p_vaddr) ⊎ Any (λ t. IsInFileOf p.header t × (t.at + t.size ≡ end)) (things_of s)
+  pub last : end ≢ p.header.p_vaddr → Any (λ t. IsInFileOf p.header t × (t.at + t.size ≡ end)) (things_of s)
   pub none_later : All (λ t. IsInFileOf p.header t → t.at + t.size ≤ end) (things_of s)
   pub differs : ¬ (p.header.p_vaddr + p.header.p_filesz ≡ end)
   pub wrong : ¬ EndsRight (things_of s) p.header

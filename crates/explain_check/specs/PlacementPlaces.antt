@@ -1,5 +1,5 @@
 -- What places of the fifth and the sixth clause say of a link.
-use Rattle.std.specs.Prelude.{◌≡◌, ◌≢◌, ◌+◌, ◌-◌, ◌≤◌, ◌%◌, ℕ, Bool, true, false, List, Option, Some, Contains, IfSome, IsSome, filter, length}
+use Rattle.std.specs.Prelude.{◌≡◌, ◌≢◌, ◌+◌, ◌-◌, ◌<◌, ◌≤◌, ◌%◌, ◌⊎◌, ℕ, Bool, true, false, List, Option, Some, Contains, IfSome, IsSome, filter, length}
 use Rattle.std.specs.List.{slice_get}
 use Rattle.elf_model.specs.ArrayOrder.{placed_in_array_order}
 use Rattle.elf_model.specs.MemoryImage.{Encloses, first_address, loads}
@@ -38,8 +38,13 @@ pub record IsPart (s : Subject) (p : Part) : Type 0 where
   pub there : slice_get (list_of s p.name) p.number ≡ Some p.thing
   pub named : IsNamed s p.number p.name
 
+-- it is one of the things, and not of the thread-local sections
+abbrev pub IsThing : Part → Type 0
+IsThing p = is_thread_name p.name ≡ false
+
 pub record IsUnaligned (s : Subject) (p : Part) : Type 0 where
   pub part : IsPart s p
+  pub thing : IsThing p
   pub wrong : ¬ (p.thing.at % p.thing.align ≡ 0)
 
 pub record IsOutside (s : Subject) (p : Part) (base : ℕ) : Type 0 where
@@ -65,9 +70,12 @@ pub record AreFar (s : Subject) (n : Neighbours) : Type 0 where
   pub next : (d : Placed) → IsNext (ordered_sections s) n.first_number n.second_number d
   pub wrong : ¬ IsNear (placed_view n.first) (placed_view n.second)
 
--- no segment with exactly its rights holds the part whole; the segment that does hold it, if one does
+-- no segment with exactly its rights holds a thing whole, which isn't empty or is the GOT; the segment that does hold it,
+-- if one does
 pub record IsUnheld (s : Subject) (p : Part) (segment : Option ProgramHeader) : Type 0 where
   pub part : IsPart s p
+  pub thing : IsThing p
+  pub must_lie : (0 < p.thing.size) ⊎ (p.name ≡ part_name.Got)
   pub held : IfSome segment (λ h. Contains (loads s.image) h × Encloses h p.thing.at p.thing.size)
   pub wrong : ¬ LiesInSegment (loads s.image) p.thing
 

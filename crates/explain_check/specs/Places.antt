@@ -5,11 +5,18 @@ use Rattle.elf_model.specs.Files.{File}
 use Rattle.elf_model.specs.MapRecord.{MapRecord}
 use Rattle.elf_model.specs.RightLink.{IsRead, Subject}
 use Rattle.explain_check.specs.MemoryPlaces.{IsWrongMemory}
+use Rattle.explain_check.specs.LinePlaces.{IsWrongCommon, IsWrongDrop, IsWrongObject, IsWrongPlace}
 use Rattle.explain_check.specs.PlacementPlaces.{AreFar, IsOutside, IsShared, IsUnaligned, IsUnheld, IsWrongFirst}
+use Rattle.explain_check.specs.SymbolPlaces.{IsWrongEntry, IsWrongLine, LacksLine}
+use Rattle.explain_check.specs.TablePlaces.{FailsInTable}
 use Rattle.explain_check.specs.declared.place.CheckPlace.{CheckPlace}
 use Rattle.explain_check.specs.declared.place.CheckPlace.TheVariants as place
 
 abbrev pub FailsIn : Subject → CheckPlace → Type 0
+FailsIn s (place.ObjectLine p) = IsWrongObject s p
+FailsIn s (place.DropLine p) = IsWrongDrop s p
+FailsIn s (place.PlaceLine p) = IsWrongPlace s p
+FailsIn s (place.CommonLine p) = IsWrongCommon s p
 FailsIn s (place.Unaligned p) = IsUnaligned s p
 FailsIn s (place.Outside p base) = IsOutside s p base
 FailsIn s (place.Shared p q) = IsShared s p q
@@ -17,6 +24,10 @@ FailsIn s (place.Far n) = AreFar s n
 FailsIn s (place.Unheld p segment) = IsUnheld s p segment
 FailsIn s (place.First address base) = IsWrongFirst s address base
 FailsIn s (place.Memory p) = IsWrongMemory s p
+FailsIn s (place.Entry p) = IsWrongEntry s p
+FailsIn s (place.SymbolLine p) = IsWrongLine s p
+FailsIn s (place.NoSymbolLine name p) = LacksLine s name.now p
+FailsIn s (place.Table p) = FailsInTable s p
 
 abbrev pub AreFailures : Subject → List CheckPlace → Type 0
 AreFailures s places = All (FailsIn s) places

@@ -1,5 +1,5 @@
 //! C5: sections that aren't close after the one before them in their output section.
-ghost use Rattle.std.specs.Prelude.{◌≡◌, IfOk, IfSome, OnOk, Some};
+ghost use Rattle.std.specs.Prelude.{◌≡◌, IfSome, OnOk, option_map};
 ghost use Rattle.std.specs.List.{slice_get};
 ghost use Rattle.elf_model.specs.Placement as placement;
 ghost use Rattle.elf_model.specs.Placement.{IsNext};
@@ -16,6 +16,19 @@ use checker::c05_placed::neighbours::is_near;
 use std::alloc::{AllocError, Global};
 use std::collections::BTreeMap;
 
+/// The section that has a number in the order of the output sections.
+fn section_at<'a>(
+    placed: &PlacedLink<'_, 'a>,
+    sections: &[Placed<'a>],
+    i: usize,
+) -> Option<Placed<'a>>
+    requires { placed_views sections.now ≡ ordered_sections placed.now }
+    ensures { slice_get (ordered_sections placed.now) i ≡ option_map placed_view result }
+{
+    let _placed = placed;
+    sections.get(i).copied()
+}
+
 /// Two neighbours, by their numbers, that aren't close together.
 fn far<'a>(
     placed: &PlacedLink<'_, 'a>,
@@ -24,12 +37,11 @@ fn far<'a>(
     j: usize,
 ) -> Option<CheckPlace<'a>>
     requires sections { placed_views sections.now ≡ ordered_sections placed.now }
-    requires next { (d : placement.Placed) → IsNext (placed_views sections.now) i j d }
+    requires next { (d : placement.Placed) → IsNext (ordered_sections placed.now) i j d }
     ensures { IfSome result (FailsIn placed.now) }
 {
-    let _placed = placed;
-    let first = sections.get(i).copied()?;
-    let second = sections.get(j).copied()?;
+    let first = section_at(placed, sections, i)?;
+    let second = section_at(placed, sections, j)?;
     if is_near(&first, &second) {
         return None;
     }
@@ -49,7 +61,7 @@ fn far_after<'a>(
     j: usize,
 ) -> Option<CheckPlace<'a>>
     requires sections { placed_views sections.now ≡ ordered_sections placed.now }
-    requires next { IfSome last (λ i. (d : placement.Placed) → IsNext (placed_views sections.now) i j d) }
+    requires next { IfSome last (λ i. (d : placement.Placed) → IsNext (ordered_sections placed.now) i j d) }
     ensures { IfSome result (FailsIn placed.now) }
 {
     match last {

@@ -2,21 +2,36 @@
 //! there and what should be. The clauses are judged by the checker; this crate only looks for places where one says no.
 #![tactic(auto)]
 
+mod common_lines;
+mod entry;
 mod far_sections;
 mod found;
+mod line_index;
+mod lists;
+mod map_text;
 mod memory;
 mod memory_place;
 mod named_parts;
+mod object_lines;
 mod place;
 mod placement;
 mod replay;
 mod rights;
+mod section_lines;
+mod symbol_lines;
+mod table_bytes;
+mod table_text;
+mod tables;
 mod text;
 
 pub use found::Found;
 pub use memory_place::{
     BytePlace, FillPlace, GotBytePlace, MemoryPlace, RelocationFault, RelocationPlace, SegmentPlace,
 };
-pub use place::{CheckPlace, Neighbours, Part, PartName};
+pub use place::{
+    CheckPlace, CommonLinePlace, DropLinePlace, EntryPlace, MeaningPlace, Neighbours, ObjectAt,
+    ObjectLinePlace, Part, PartName, PlaceLinePlace, SymbolLinePlace, TableByte, TableEntry,
+    TablePlace,
+};
 pub use replay::{explain_check, read_link};
 pub use text::write_check_place;

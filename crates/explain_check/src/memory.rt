@@ -10,5 +10,6 @@ mod relocation_places;
 pub mod relocations;
 mod segments;
 mod slots;
+mod sums;
 pub mod text;
 pub mod thread_block;

@@ -1,10 +1,10 @@
 //! The things of a link with what they are: the headers, the GOT and the pieces; and its thread-local sections.
-ghost use Rattle.std.specs.Prelude.{◌≡◌, All, IfOk, IfSome, OnOk, Some, filter};
+ghost use Rattle.std.specs.Prelude.{◌≡◌, All, IfOk, IfSome, false, filter, option_map};
 ghost use Rattle.std.specs.List.{slice_get};
 ghost use Rattle.elf_model.specs.Placement.{is_thread_place};
 ghost use Rattle.elf_model.specs.RightLink.{placed_of, things_of};
 ghost use Rattle.check_link.specs.Views.{placed_view, placed_views};
-ghost use Rattle.explain_check.specs.PlacementPlaces.{IsNamed, IsPart, list_of};
+ghost use Rattle.explain_check.specs.PlacementPlaces.{IsNamed, IsPart, IsThing, is_thread_name, list_of};
 
 use crate::place::{Part, PartName};
 use check_link::{Placed, range_of_placed};
@@ -13,7 +13,7 @@ use std::alloc::{AllocError, Global};
 
 /// The piece that has a number among all that are placed.
 fn piece_at<'a>(placed: &PlacedLink<'_, 'a>, k: usize) -> Option<Placed<'a>>
-    ensures { IfSome result (λ q. slice_get (placed_of placed.now) k ≡ Some (placed_view q)) }
+    ensures { slice_get (placed_of placed.now) k ≡ option_map placed_view result }
 {
     placed.placed().get(k).copied()
 }
@@ -21,7 +21,8 @@ fn piece_at<'a>(placed: &PlacedLink<'_, 'a>, k: usize) -> Option<Placed<'a>>
 /// What the thing is that has a number.
 fn name_at<'a>(placed: &PlacedLink<'_, 'a>, k: usize) -> Option<PartName<'a>>
     ensures named { IfSome result (λ n. IsNamed placed.now k n) }
-    ensures thing { IfSome result (λ n. list_of placed.now n ≡ things_of placed.now) }
+    ensures list { IfSome result (λ n. list_of placed.now n ≡ things_of placed.now) }
+    ensures thing { IfSome result (λ n. is_thread_name n ≡ false) }
 {
     if k == 0 {
         return Some(PartName::Headers);
@@ -36,7 +37,8 @@ fn name_at<'a>(placed: &PlacedLink<'_, 'a>, k: usize) -> Option<PartName<'a>>
 
 /// The thing that has a number.
 pub fn part_at<'a>(placed: &PlacedLink<'_, 'a>, k: usize) -> Option<Part<'a>>
-    ensures { IfSome result (λ p. IsPart placed.now p) }
+    ensures part { IfSome result (IsPart placed.now) }
+    ensures thing { IfSome result IsThing }
 {
     let thing = placed.things().get(k).copied()?;
     let name = name_at(placed, k)?;
@@ -47,30 +49,16 @@ pub fn part_at<'a>(placed: &PlacedLink<'_, 'a>, k: usize) -> Option<Part<'a>>
     })
 }
 
-/// Adds a part, where there is one.
-fn add_some<'a>(
-    placed: &PlacedLink<'_, 'a>,
-    parts: &mut Vec<Part<'a>>,
-    part: Option<Part<'a>>,
-) -> Result<(), AllocError>
-    requires before { All (IsPart placed.now) parts.old.items }
-    requires part { IfSome part (IsPart placed.now) }
-    ensures { OnOk result (All (IsPart placed.now) parts.new.items) }
-{
-    let _placed = placed;
-    if let Some(part) = part {
-        parts.push(part)?;
-    }
-    Ok(())
-}
-
 /// The things of a link, with what they are.
 pub fn parts_of<'a>(alloc: Global, placed: &PlacedLink<'_, 'a>) -> Result<Vec<Part<'a>>, AllocError>
-    ensures { IfOk result (λ v. All (IsPart placed.now) v.items) }
+    ensures parts { IfOk result (λ v. All (IsPart placed.now) v.items) }
+    ensures things { IfOk result (λ v. All IsThing v.items) }
 {
     let mut parts = Vec::new(alloc);
     for k in 0..placed.things().len() {
-        add_some(placed, &mut parts, part_at(placed, k))?;
+        if let Some(part) = part_at(placed, k) {
+            parts.push(part)?;
+        }
     }
     Ok(parts)
 }
@@ -91,7 +79,7 @@ fn threads_of<'a>(alloc: Global, placed: &[Placed<'a>]) -> Result<Vec<Placed<'a>
 /// The thread-local section that has a number among these.
 fn thread_at<'a>(placed: &PlacedLink<'_, 'a>, threads: &[Placed<'a>], k: usize) -> Option<Part<'a>>
     requires { placed_views threads.now ≡ filter is_thread_place (placed_of placed.now) }
-    ensures { IfSome result (λ p. IsPart placed.now p) }
+    ensures { IfSome result (IsPart placed.now) }
 {
     let _placed = placed;
     let thread = threads.get(k).copied()?;
@@ -112,7 +100,9 @@ pub fn thread_parts_of<'a>(
     let threads = threads_of(alloc, placed.placed())?;
     let mut parts = Vec::new(alloc);
     for k in 0..threads.len() {
-        add_some(placed, &mut parts, thread_at(placed, &threads, k))?;
+        if let Some(part) = thread_at(placed, &threads, k) {
+            parts.push(part)?;
+        }
     }
     Ok(parts)
 }

@@ -1,8 +1,10 @@
 //! The places at which a clause fails.
 
 use crate::memory_place::MemoryPlace;
-use check_link::Placed;
-use elf_model::{ProgramHeader, Thing};
+use check_link::{Block, Meaning, Piece, Placed};
+use elf_model::{
+    CommonLine, DropLine, ObjectLine, PlaceLine, ProgramHeader, SymbolLine, SymtabLine, Thing,
+};
 
 /// What takes up addresses.
 #[derive(Clone, Copy, Debug)]
@@ -36,9 +38,117 @@ pub struct Neighbours<'a> {
     pub second: Placed<'a>,
 }
 
+/// What a name means that has a line in the map, and its value modulo 2^64.
+#[derive(Clone, Copy, Debug)]
+pub struct MeaningPlace<'a> {
+    pub meaning: Meaning<'a>,
+    pub value: u64,
+}
+
+/// A symbol line of the map, its number among these from 0, and what its name means; None where the name has no line.
+#[derive(Clone, Copy, Debug)]
+pub struct SymbolLinePlace<'a> {
+    pub number: u64,
+    pub line: &'a SymbolLine,
+    pub wanted: Option<MeaningPlace<'a>>,
+}
+
+/// An object that is loaded: the number of its item, the offset of its member's header and the path of its file.
+#[derive(Clone, Copy, Debug)]
+pub struct ObjectAt<'a> {
+    pub item: u64,
+    pub offset: u64,
+    pub path: &'a str,
+}
+
+/// The object line of a number from 0, if there is one, and the object that is loaded as this number, if one is.
+#[derive(Clone, Copy, Debug)]
+pub struct ObjectLinePlace<'a> {
+    pub number: u64,
+    pub line: Option<&'a ObjectLine>,
+    pub wanted: Option<ObjectAt<'a>>,
+}
+
+/// The drop line of a number from 0, if there is one, and the one that should be there, if one should.
+#[derive(Clone, Copy, Debug)]
+pub struct DropLinePlace {
+    pub number: u64,
+    pub line: Option<DropLine>,
+    pub wanted: Option<DropLine>,
+}
+
+/// The place line of a number from 0, if there is one, and the kept section of this number, if there is one.
+#[derive(Clone, Copy, Debug)]
+pub struct PlaceLinePlace<'a> {
+    pub number: u64,
+    pub line: Option<&'a PlaceLine>,
+    pub wanted: Option<Piece<'a>>,
+}
+
+/// A name with its common line and its common block, as far as there are such.
+#[derive(Clone, Copy, Debug)]
+pub struct CommonLinePlace<'a> {
+    pub name: &'a [u8],
+    pub line: Option<&'a CommonLine>,
+    pub block: Option<Block<'a>>,
+}
+
+/// The entry's name, what the file header has as its address, and what the name means, where it has a lawful definition.
+#[derive(Clone, Copy, Debug)]
+pub struct EntryPlace<'a> {
+    pub name: &'a [u8],
+    pub e_entry: u64,
+    pub wanted: Option<MeaningPlace<'a>>,
+}
+
+/// An entry of the symbol table, by its number, and the name of its definition.
+#[derive(Clone, Copy, Debug)]
+pub struct TableEntry<'a> {
+    pub number: u64,
+    pub name: &'a [u8],
+}
+
+/// A byte after the last file part, which ends at an offset of the file: its number from there on, what is there, what should
+/// be, as far as there is such, and the entry of the symbol table that it is in.
+#[derive(Clone, Copy, Debug)]
+pub struct TableByte<'a> {
+    pub parts_end: u64,
+    pub number: u64,
+    pub there: Option<u8>,
+    pub wanted: Option<u8>,
+    pub entry: Option<TableEntry<'a>>,
+}
+
+/// What is wrong with an image's symbol table.
+#[derive(Clone, Copy, Debug)]
+pub enum TablePlace<'a> {
+    /// The map's line of the table, or that there is none, where it must be otherwise.
+    Told(Option<SymtabLine>),
+    /// `e_shoff`, `e_shnum` and `e_shstrndx`, where the map tells of no table.
+    Sections(u64, u16, u16),
+    /// The offset that the map tells of, and that of the table.
+    Offset(u64, u64),
+    /// The number of entries that the map tells of, and the number that there should be.
+    Count(u64, u64),
+    /// `e_shnum` and `e_shstrndx`, which should be 4 and 3.
+    Numbers(u16, u16),
+    /// `e_shoff`, and where the headers of the sections should be.
+    Headers(u64, u64),
+    /// The first byte after the last file part that is another one than it should be.
+    Byte(TableByte<'a>),
+}
+
 /// Where a clause fails, and what is wrong there.
 #[derive(Clone, Copy, Debug)]
 pub enum CheckPlace<'a> {
+    /// C2: an object line that is another one than that of the object that is loaded.
+    ObjectLine(ObjectLinePlace<'a>),
+    /// C3: a drop line that is another one than it should be.
+    DropLine(DropLinePlace),
+    /// C3: a place line that is another one than that of the kept section, but for its address.
+    PlaceLine(PlaceLinePlace<'a>),
+    /// C3: a common line that is another one than that of the name's block, but for its address.
+    CommonLine(CommonLinePlace<'a>),
     /// C5: a thing whose address is no multiple of its alignment.
     Unaligned(Part<'a>),
     /// C5: a thing that doesn't lie from the base, which is the number, on and below 2^46.
@@ -53,4 +163,12 @@ pub enum CheckPlace<'a> {
     First(u64, u64),
     /// C7 to C11: a place of the image's memory, or of what relocations want there.
     Memory(MemoryPlace<'a>),
+    /// C12: the entry has no lawful definition, or `e_entry` is another than its value.
+    Entry(EntryPlace<'a>),
+    /// C13: a symbol line that is another one than its name asks for.
+    SymbolLine(SymbolLinePlace<'a>),
+    /// C13: a name without its symbol line.
+    NoSymbolLine(&'a [u8], MeaningPlace<'a>),
+    /// C14: the symbol table, or what the map or the file header tells of it, is another one than it should be.
+    Table(TablePlace<'a>),
 }

@@ -3,7 +3,7 @@
 ghost use Rattle.std.specs.Prelude.{◌≡◌, ◌<◌, ◌⊎◌, All, IfOk, IfSome, IsPermutation, IsTrue, OnOk, length};
 ghost use Rattle.elf_model.specs.Placement.{AreApart};
 ghost use Rattle.explain_check.specs.Places.{AreFailures, FailsIn};
-ghost use Rattle.explain_check.specs.PlacementPlaces.{IsPart, is_thread_name};
+ghost use Rattle.explain_check.specs.PlacementPlaces.{IsPart, IsThing, is_thread_name};
 
 use crate::far_sections::add_far;
 use crate::found::Found;
@@ -17,7 +17,8 @@ use std::alloc::{AllocError, Global};
 
 /// A part that isn't aligned.
 fn unaligned<'a>(placed: &PlacedLink<'_, 'a>, part: &Part<'a>) -> Option<CheckPlace<'a>>
-    requires { IsPart placed.now part.now }
+    requires part { IsPart placed.now part.now }
+    requires thing { IsThing part.now }
     ensures { IfSome result (FailsIn placed.now) }
 {
     let _placed = placed;
@@ -34,6 +35,7 @@ fn add_unaligned<'a>(
     parts: &[Part<'a>],
 ) -> Result<(), AllocError>
     requires parts { All (IsPart placed.now) parts.now }
+    requires things { All IsThing parts.now }
     requires before { AreFailures placed.now found.old.places.items }
     ensures { OnOk result (AreFailures placed.now found.new.places.items) }
 {

@@ -5,14 +5,19 @@ ghost use Rattle.elf_model.specs.RightLink.{HoldsBefore, IsRead};
 ghost use Rattle.elf_model.specs.declared.verdict.Clause.TheVariants as clause;
 ghost use Rattle.explain_check.specs.Places.{AreFailures, FailsAt};
 
+use crate::common_lines::add_c3;
+use crate::entry::add_c12;
 use crate::found::Found;
 use crate::memory::bytes::add_c10;
 use crate::memory::file::add_c11;
 use crate::memory::got::add_c7;
 use crate::memory::relocations::add_c9;
 use crate::memory::thread_block::add_c8;
+use crate::object_lines::add_object_lines;
 use crate::placement::add_c5;
 use crate::rights::add_c6;
+use crate::symbol_lines::add_c13;
+use crate::tables::add_c14;
 use check_link::{Link, Outputs, Places, SlotTable, base_of, read_map, read_plan};
 use check_load::open;
 use check_relocs::Bindings;
@@ -157,14 +162,15 @@ fn add_symbols<'a>(
     requires before { AreFailures bound.now found.old.places.items }
     ensures { OnOk result (AreFailures bound.now found.new.places.items) }
 {
-    let _found = found;
     if !c12_entry::holds(bound) {
-        return Ok(());
+        return add_c12(found, bound);
     }
     if !c13_symbols::holds(alloc, bound)? {
-        return Ok(());
+        return add_c13(alloc, found, bound);
     }
-    let _right = c14_tables::holds(bound);
+    if !c14_tables::holds(bound) {
+        return add_c14(alloc, found, bound);
+    }
     Ok(())
 }
 
@@ -180,7 +186,7 @@ fn add_loaded<'a>(
 {
     let link = loaded.link();
     if !c03_sections::holds(alloc, loaded)? {
-        return Ok(());
+        return add_c3(alloc, found, loaded);
     }
     let Some(memory) = c04_image::load(alloc, link)? else {
         return Ok(());
@@ -202,7 +208,7 @@ fn add_failures<'a>(
         return Ok(());
     };
     if !c02_loaded::holds(link, &objects) {
-        return Ok(());
+        return add_object_lines(found, link, &objects);
     }
     let loaded = LoadedLink::new(alloc, link, &objects)?;
     add_loaded(alloc, found, &loaded)

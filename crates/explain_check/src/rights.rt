@@ -1,9 +1,10 @@
 //! C6: things that no segment with their rights holds whole, and a first segment that doesn't begin at the base.
-ghost use Rattle.std.specs.Prelude.{All, Contains, IfSome, IsTrue, OnOk};
+ghost use Rattle.std.specs.Prelude.{◌≡◌, ◌<◌, ◌⊎◌, All, Contains, IfSome, IsTrue, OnOk};
 ghost use Rattle.elf_model.specs.MemoryImage.{Encloses, loads};
 ghost use Rattle.elf_model.specs.Placement.{LiesInSegment};
 ghost use Rattle.explain_check.specs.Places.{AreFailures, FailsIn};
-ghost use Rattle.explain_check.specs.PlacementPlaces.{IsPart};
+ghost use Rattle.explain_check.specs.PlacementPlaces.{IsPart, IsThing};
+ghost use Rattle.explain_check.specs.declared.place.PartName.TheVariants as part_name;
 
 use crate::found::Found;
 use crate::named_parts::parts_of;
@@ -16,16 +17,24 @@ use elf_model::{ProgramHeader, Thing};
 use loader_model::Memory;
 use std::alloc::{AllocError, Global};
 
-/// Whether a part lies in a segment with exactly its rights; of an empty one only the GOT must.
-fn is_held(memory: &Memory<'_>, part: &Part<'_>) -> bool
-    ensures { LiesInSegment (loads memory.now) part.now.thing → IsTrue result }
+/// Whether a part must lie in a segment: it isn't empty, or is the GOT.
+fn must_lie(part: &Part<'_>) -> bool
+    ensures { IsTrue result → (0 < part.now.thing.size) ⊎ (part.now.name ≡ part_name.Got) }
 {
     match part.name {
-        PartName::Got => lies_in_segment(memory.segments(), &part.thing),
-        PartName::Headers | PartName::Piece(_) | PartName::Thread(_) => {
-            lies_if_nonempty(memory, &part.thing)
-        }
+        PartName::Got => true,
+        PartName::Headers | PartName::Piece(_) | PartName::Thread(_) => part.thing.size > 0,
     }
+}
+
+/// Whether a thing lies whole in a segment with exactly its rights.
+fn lies(memory: &Memory<'_>, thing: &Thing) -> bool
+    ensures { LiesInSegment (loads memory.now) thing.now → IsTrue result }
+{
+    if thing.size == 0 {
+        return lies_in_segment(memory.segments(), thing);
+    }
+    lies_if_nonempty(memory, thing)
 }
 
 /// The segment that a thing lies whole in; None of an empty one.
@@ -40,11 +49,15 @@ fn segment_of(memory: &Memory<'_>, thing: &Thing) -> Option<ProgramHeader>
 
 /// A part that doesn't lie in a segment with its rights.
 fn unheld<'a>(placed: &PlacedLink<'_, 'a>, part: &Part<'a>) -> Option<CheckPlace<'a>>
-    requires { IsPart placed.now part.now }
+    requires part { IsPart placed.now part.now }
+    requires thing { IsThing part.now }
     ensures { IfSome result (FailsIn placed.now) }
 {
+    if !must_lie(part) {
+        return None;
+    }
     let memory = placed.memory();
-    if is_held(memory, part) {
+    if lies(memory, &part.thing) {
         return None;
     }
     Some(CheckPlace::Unheld(*part, segment_of(memory, &part.thing)))
@@ -57,6 +70,7 @@ fn add_unheld<'a>(
     parts: &[Part<'a>],
 ) -> Result<(), AllocError>
     requires parts { All (IsPart placed.now) parts.now }
+    requires things { All IsThing parts.now }
     requires before { AreFailures placed.now found.old.places.items }
     ensures { OnOk result (AreFailures placed.now found.new.places.items) }
 {

@@ -1,7 +1,12 @@
 //! How a place of a failed check reads: a line that says what is there, and what should be.
 
+use crate::map_text::{
+    write_common_line, write_drop_line, write_missing_line, write_object_line, write_place_line,
+    write_symbol_line,
+};
 use crate::memory::text::write_memory_place;
-use crate::place::{CheckPlace, Neighbours, Part, PartName};
+use crate::place::{CheckPlace, EntryPlace, Neighbours, Part, PartName};
+use crate::table_text::write_table;
 use check_link::{Link, Piece, Placed};
 use elf_model::ProgramHeader;
 use input_names::{write_name, write_object};
@@ -113,8 +118,21 @@ fn write_unheld<W: Write>(
     }
 }
 
-/// Writes a place of a failed check, without the end of the line.
-pub fn write_check_place<W: Write>(
+fn write_entry<W: Write>(out: &mut W, place: &EntryPlace<'_>) -> io::Result<()> {
+    out.write_all(b"the entry ")?;
+    write_name(out, place.name)?;
+    match &place.wanted {
+        Some(wanted) => write!(
+            out,
+            " is at {:#x}, and e_entry is {:#x}",
+            wanted.value, place.e_entry
+        ),
+        None => out.write_all(b" has no definition outside thread-local storage"),
+    }
+}
+
+/// Writes a place of the fifth or the sixth clause.
+fn write_placement<W: Write>(
     out: &mut W,
     link: &Link<'_>,
     place: &CheckPlace<'_>,
@@ -135,6 +153,26 @@ pub fn write_check_place<W: Write>(
             out,
             "the first segment begins at {address:#x}, and not at the base {base:#x}"
         ),
+        _ => Ok(()),
+    }
+}
+
+/// Writes a place of a failed check, without the end of the line.
+pub fn write_check_place<W: Write>(
+    out: &mut W,
+    link: &Link<'_>,
+    place: &CheckPlace<'_>,
+) -> io::Result<()> {
+    match place {
+        CheckPlace::ObjectLine(place) => write_object_line(out, link, place),
+        CheckPlace::DropLine(place) => write_drop_line(out, link, place),
+        CheckPlace::PlaceLine(place) => write_place_line(out, link, place),
+        CheckPlace::CommonLine(place) => write_common_line(out, place),
+        CheckPlace::Entry(place) => write_entry(out, place),
+        CheckPlace::SymbolLine(place) => write_symbol_line(out, link, place),
+        CheckPlace::NoSymbolLine(name, wanted) => write_missing_line(out, name, wanted),
         CheckPlace::Memory(place) => write_memory_place(out, link, place),
+        CheckPlace::Table(place) => write_table(out, place),
+        _ => write_placement(out, link, place),
     }
 }

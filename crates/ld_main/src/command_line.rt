@@ -8,7 +8,7 @@ use std::rt::{Env, Files};
 use std::{env, io};
 
 /// The words behind the program's name, in just the room that they take.
-fn words<R: Env + AllocGlobal>(rt: &R) -> io::Result<Vec<String>> {
+pub fn words<R: Env + AllocGlobal>(rt: &R) -> io::Result<Vec<String>> {
     let mut words = Vec::new(rt.alloc());
     for word in env::args(rt)?.skip(1) {
         words.push(String::from_str(rt.alloc(), &word)?)?;
@@ -17,7 +17,7 @@ fn words<R: Env + AllocGlobal>(rt: &R) -> io::Result<Vec<String>> {
 }
 
 /// The line and the exit status where the words can't be had.
-fn no_words(error: &io::Error) -> (&'static str, u8)
+pub fn no_words(error: &io::Error) -> (&'static str, u8)
     ensures { (2 ≤ result.1) × (result.1 ≤ 4) }
 {
     match error.kind() {

@@ -16,11 +16,11 @@ mod slot_lines;
 mod spelled_lines;
 
 pub use checker::{Clause, Verdict, check};
-pub use command_line::run_args;
+pub use command_line::{no_words, run_args, words};
 pub use elf_model::LinkError;
 pub use file_source::{FetchFault, FileSource, GatherFault, gather};
 pub use image_write::{Linkage, Sink, SinkFault, WriteFault, image, write_image};
 pub use output::{Output, link};
 pub use phases::{link_map, prepare, prepare_in};
-pub use program::run_ld;
+pub use program::{Failure, read_file, refused, run_ld};
 pub use real_files::RealFiles;

@@ -51,7 +51,7 @@ struct Task<'a> {
 
 /// Why a run ends with a line on standard error.
 #[derive(Debug, Drop)]
-enum Failure<'a> {
+pub enum Failure<'a> {
     /// The words or the link are refused; a symbol that the refusal names, as a map spells it.
     Refused {
         error: LinkError,
@@ -135,7 +135,7 @@ impl Outcome {
 
 impl Failure<'_> {
     /// 1 for a refused link, 2 for refused words, 3 for a fault of a file, 4 for want of memory.
-    fn status(&self) -> u8
+    pub fn status(&self) -> u8
         ensures { result ≡ failure_status self.now }
     {
         match self {
@@ -145,7 +145,7 @@ impl Failure<'_> {
     }
 
     /// Prints the failure's line, and takes no memory.
-    fn print<W: Write>(&self, err: &mut W) -> io::Result<()> {
+    pub fn print<W: Write>(&self, err: &mut W) -> io::Result<()> {
         match self {
             Failure::Refused { error, symbol } => print_refusal(err, error, symbol.as_deref()),
             Failure::CannotRead(path) => writeln!(err, "ld: cannot read {path}"),
@@ -187,7 +187,7 @@ fn symbol_of(error: &LinkError) -> Option<&[u8]> {
 }
 
 /// A refusal together with the spelling of the symbol that it names.
-fn refused<'a>(alloc: Global, error: LinkError) -> Failure<'a>
+pub fn refused<'a>(alloc: Global, error: LinkError) -> Failure<'a>
     ensures { (failure_status result ≡ error_status error) ⊎ (failure_status result ≡ 4) }
 {
     let Some(name) = symbol_of(&error) else {
@@ -213,7 +213,7 @@ fn unread<'a>(path: CowStr<'a>, error: &io::Error) -> Failure<'a>
 }
 
 /// Reads a file that must be there.
-fn read_file<'a, R: Files + AllocGlobal>(rt: &R, path: &'a str) -> Result<Vec<u8>, Failure<'a>>
+pub fn read_file<'a, R: Files + AllocGlobal>(rt: &R, path: &'a str) -> Result<Vec<u8>, Failure<'a>>
     ensures { IfErr result (λ f. 3 ≤ failure_status f) }
 {
     match read_whole(rt, path) {

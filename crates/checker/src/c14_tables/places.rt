@@ -101,7 +101,7 @@ fn strings_header(sh_name: u32, sh_offset: u64, sh_size: u64) -> SectionHeader
 }
 
 /// The headers of the sections; their names begin at 1, 9 and 17 of `.shstrtab`.
-fn headers_of(places: &Places) -> [SectionHeader; 4]
+pub fn headers_of(places: &Places) -> [SectionHeader; 4]
     ensures { result ≡ headers_of places.now }
 {
     [

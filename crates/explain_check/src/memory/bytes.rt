@@ -1,18 +1,17 @@
 //! C10: the first wrong byte of each piece.
-ghost use Rattle.std.specs.Prelude.{◌≡◌, ◌↔◌, ◌≤◌, ◌-◌, ◌<◌, IfSome, IsTrue, OnOk, Some, find, option_copied, slice_index};
+ghost use Rattle.std.specs.Prelude.{◌≡◌, ◌↔◌, ◌≤◌, ◌-◌, ◌<◌, IfSome, IsTrue, OnOk, Some, find, option_copied, option_map, slice_index};
 ghost use Rattle.std.specs.List.{slice_get};
 ghost use Rattle.byteview.specs.Numbers.{le_bytes};
-ghost use Rattle.elf_model.specs.ObjectFile.{rela_type};
-ghost use Rattle.elf_model.specs.Relocation as relocation;
 ghost use Rattle.elf_model.specs.RightLink.{objects_of, placed_of, where_of};
 ghost use Rattle.check_link.specs.Views.{placed_view};
 ghost use Rattle.check_relocs.specs.Bytes as bytes;
 ghost use Rattle.check_relocs.specs.Fields.{AreRows};
-ghost use Rattle.explain_check.specs.BytePlaces.{IsWrongByte};
 ghost use Rattle.explain_check.specs.Places.{AreFailures, FailsIn};
 
 use crate::found::Found;
+use crate::memory::added::add_memory;
 use crate::memory::fields::field_place;
+use crate::memory::sums::sum;
 use crate::memory_place::{BytePlace, MemoryPlace};
 use crate::place::CheckPlace;
 use check_link::{Placed, load_size};
@@ -136,7 +135,7 @@ fn first_wrong(memory: &Memory<'_>, placed: &Placed<'_>, fields: &[Field]) -> Op
 
 /// The piece that has a number, the sections first.
 pub fn piece_at<'a>(bound: &BoundLink<'_, 'a>, number: usize) -> Option<Placed<'a>>
-    ensures { IfSome result (λ q. slice_get (placed_of bound.now) number ≡ Some (placed_view q)) }
+    ensures { slice_get (placed_of bound.now) number ≡ option_map placed_view result }
 {
     bound.placed().get(number).copied()
 }
@@ -148,16 +147,16 @@ fn wrong_byte<'a>(
     number: usize,
     placed: &Placed<'a>,
     k: u64,
-) -> Option<BytePlace<'a>>
+) -> Option<MemoryPlace<'a>>
     requires rows { AreRows (objects_of bound.now) (where_of bound.now) rows.now }
     requires piece { slice_get (placed_of bound.now) number ≡ Some (placed_view placed.now) }
-    ensures { IfSome result (IsWrongByte bound.now) }
+    ensures { IfSome result (λ p. FailsIn bound.now (CheckPlace.Memory p)) }
 {
     let piece = &placed.piece;
     if k >= load_size(piece) {
         return None;
     }
-    let address = placed.at.checked_add(k)?;
+    let address = sum(placed.at, k)?;
     let there = bound.memory().byte(address);
     let fields = fields_in(rows, piece.object, piece.section);
     let wanted = wanted_with(piece.bytes, fields, k)?;
@@ -165,14 +164,14 @@ fn wrong_byte<'a>(
         return None;
     }
     let relocation = field_place(bound, piece.object, piece.section, k);
-    Some(BytePlace {
+    Some(MemoryPlace::Byte(BytePlace {
         number: number as u64,
         piece: *placed,
         offset: k,
         there,
         wanted,
         relocation,
-    })
+    }))
 }
 
 /// Adds the first wrong byte of the piece that has a number.
@@ -197,10 +196,7 @@ fn add_piece<'a>(
         found.count();
         return Ok(());
     }
-    match wrong_byte(bound, rows, number, &placed, k) {
-        Some(place) => found.add(CheckPlace::Memory(MemoryPlace::Byte(place))),
-        None => Ok(()),
-    }
+    add_memory(found, bound, wrong_byte(bound, rows, number, &placed, k))
 }
 
 /// Adds the first wrong byte of each piece: where the tenth clause fails, given the fields of the link's relocations by

@@ -1,5 +1,5 @@
 //! C11: bytes of the file outside of its parts that aren't 0, and a file that goes on behind them.
-ghost use Rattle.std.specs.Prelude.{◌≡◌, ◌↔◌, All, IfOk, IfSome, IsTrue, OnOk};
+ghost use Rattle.std.specs.Prelude.{◌≡◌, ◌↔◌, All, IfSome, IsTrue, None, OnOk};
 ghost use Rattle.elf_model.specs.RightLink.{IsInFilePart};
 ghost use Rattle.explain_check.specs.Places.{AreFailures, FailsIn};
 
@@ -11,7 +11,7 @@ use crate::memory_place::MemoryPlace;
 use crate::place::CheckPlace;
 use checker::segments::file_end;
 use checker::{BoundLink, by_address};
-use elf_model::ProgramHeader;
+use elf_model::{ProgramHeader, SymtabLine};
 use std::alloc::{AllocError, Global};
 
 /// Whether an offset lies in a segment's file part.
@@ -91,11 +91,9 @@ fn add_gaps<'a>(found: &mut Found<'a>, bound: &BoundLink<'_, 'a>) -> Result<(), 
 
 /// A file that doesn't end with its last part, where the map has no line of a symbol table.
 fn wrong_length<'a>(bound: &BoundLink<'_, 'a>) -> Option<MemoryPlace<'a>>
+    requires { bound.now.map.symtab ≡ None }
     ensures { IfSome result (λ p. FailsIn bound.now (CheckPlace.Memory p)) }
 {
-    if bound.link().map.symtab.is_some() {
-        return None;
-    }
     let memory = bound.memory();
     let len = memory.image().len() as u64;
     let end = file_end(memory);
@@ -103,6 +101,23 @@ fn wrong_length<'a>(bound: &BoundLink<'_, 'a>) -> Option<MemoryPlace<'a>>
         return None;
     }
     Some(MemoryPlace::Length(len, end))
+}
+
+/// The line of a symbol table of the map.
+fn symtab_of(bound: &BoundLink<'_, '_>) -> Option<SymtabLine>
+    ensures { result ≡ bound.now.map.symtab }
+{
+    bound.link().map.symtab
+}
+
+/// A file that doesn't end as the map tells.
+fn untold_length<'a>(bound: &BoundLink<'_, 'a>) -> Option<MemoryPlace<'a>>
+    ensures { IfSome result (λ p. FailsIn bound.now (CheckPlace.Memory p)) }
+{
+    match symtab_of(bound) {
+        Some(_) => None,
+        None => wrong_length(bound),
+    }
 }
 
 /// Adds where the eleventh clause fails: PT_LOADs that don't end as their things do, a file that doesn't end with its last
@@ -117,7 +132,7 @@ pub fn add_c11<'a>(
 {
     let sorted = by_address(alloc, bound.things())?;
     add_ends(found, bound, &sorted)?;
-    add_memory(found, bound, wrong_length(bound))?;
+    add_memory(found, bound, untold_length(bound))?;
     add_gaps(found, bound)?;
     add_fill(found, bound, &sorted)
 }

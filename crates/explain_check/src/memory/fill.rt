@@ -5,10 +5,10 @@ ghost use Rattle.elf_model.specs.MemoryImage.{memory_of};
 ghost use Rattle.elf_model.specs.Placement.{Covers};
 ghost use Rattle.elf_model.specs.RightLink.{fill_of};
 ghost use Rattle.loader_model.specs.Rights as loader;
-ghost use Rattle.explain_check.specs.FillPlaces.{IsWrongFill};
 ghost use Rattle.explain_check.specs.Places.{AreFailures, FailsIn};
 
 use crate::found::Found;
+use crate::memory::added::add_memory;
 use crate::memory_place::{FillPlace, MemoryPlace};
 use crate::place::CheckPlace;
 use checker::BoundLink;
@@ -59,23 +59,23 @@ fn cell_at(memory: &Memory<'_>, address: u64) -> Option<(u8, u64)>
 }
 
 /// An address that is mapped and lies in no thing, where its byte isn't fill.
-fn wrong_fill(bound: &BoundLink<'_, '_>, address: u64) -> Option<FillPlace>
-    ensures { IfSome result (IsWrongFill bound.now) }
+fn wrong_fill<'a>(bound: &BoundLink<'_, 'a>, address: u64) -> Option<MemoryPlace<'a>>
+    ensures { IfSome result (λ p. FailsIn bound.now (CheckPlace.Memory p)) }
 {
-    let (byte, rights) = cell_at(bound.memory(), address)?;
-    let wanted = fill_of(rights);
-    if byte == wanted {
+    let cell = cell_at(bound.memory(), address)?;
+    let wanted = fill_of(cell.1);
+    if cell.0 == wanted {
         return None;
     }
     if !is_outside(bound.things(), address) {
         return None;
     }
-    Some(FillPlace {
+    Some(MemoryPlace::Fill(FillPlace {
         address,
-        byte,
-        rights,
+        byte: cell.0,
+        rights: cell.1,
         wanted,
-    })
+    }))
 }
 
 /// The first address from one on and below another, all of one segment, whose byte isn't fill.
@@ -107,10 +107,7 @@ fn add_gap<'a>(
         found.count();
         return Ok(());
     }
-    match wrong_fill(bound, address) {
-        Some(place) => found.add(CheckPlace::Memory(MemoryPlace::Fill(place))),
-        None => Ok(()),
-    }
+    add_memory(found, bound, wrong_fill(bound, address))
 }
 
 /// Adds what isn't fill between the things, which stand by address, of a segment.

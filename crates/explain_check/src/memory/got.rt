@@ -12,7 +12,7 @@ ghost use Rattle.explain_check.specs.Places.{AreFailures, FailsIn};
 use crate::found::Found;
 use crate::memory::added::add_memory;
 use crate::memory::bytes::{byte_of, is_byte};
-use crate::memory::slots::{add_lines, add_unserved};
+use crate::memory::slots::{add_lines, add_unserved, line_at};
 use crate::memory_place::{GotBytePlace, MemoryPlace};
 use crate::place::CheckPlace;
 use check_relocs::{Needs, needs_of};
@@ -53,6 +53,14 @@ fn wrong_size<'a>(bound: &BoundLink<'_, 'a>, got: GotLine) -> Option<MemoryPlace
     Some(MemoryPlace::GotSize(got, wanted))
 }
 
+/// Where the slot of the line that has a number must stand in a GOT.
+fn place_of_slot(got: GotLine, number: usize) -> Option<u64>
+    ensures { IfSome result (λ a. a ≡ got.address + 8 + 8 * number) }
+{
+    let behind = (number as u64).checked_mul(8)?.checked_add(8)?;
+    got.address.checked_add(behind)
+}
+
 /// The slot line that has a number, where its slot isn't behind those of the lines before.
 fn wrong_address<'a>(
     bound: &BoundLink<'_, 'a>,
@@ -62,9 +70,8 @@ fn wrong_address<'a>(
     requires { bound.now.map.got ≡ Some got }
     ensures { IfSome result (λ p. FailsIn bound.now (CheckPlace.Memory p)) }
 {
-    let line = bound.slots().lines().get(number)?;
-    let behind = (number as u64).checked_mul(8)?.checked_add(8)?;
-    let wanted = got.address.checked_add(behind)?;
+    let line = line_at(bound, number)?;
+    let wanted = place_of_slot(got, number)?;
     if line.address == wanted {
         return None;
     }

@@ -1,14 +1,15 @@
 //! C11: PT_LOADs that don't end as the things in them do.
-ghost use Rattle.std.specs.Prelude.{◌≡◌, ◌↔◌, ◌+◌, ◌≤◌, ◌⊎◌, All, Any, IfSome, IsTrue, OnOk, Some, true};
+ghost use Rattle.std.specs.Prelude.{◌≡◌, ◌≢◌, ◌↔◌, ◌+◌, ◌≤◌, All, Any, IfSome, IsTrue, OnOk, Some, true};
 ghost use Rattle.std.specs.List.{slice_get};
 ghost use Rattle.std.specs.List.Sorted.{IsNonDecreasingBy};
 ghost use Rattle.elf_model.specs.MemoryImage.{loads};
 ghost use Rattle.elf_model.specs.RightLink.{EndsRight, IsOfSegment, things_of};
-ghost use Rattle.explain_check.specs.FillPlaces.{IsEmptySegment, IsInFileOf, IsWrongFileEnd, IsWrongMemoryEnd};
+ghost use Rattle.explain_check.specs.FillPlaces.{IsInFileOf};
 ghost use Rattle.explain_check.specs.Places.{AreFailures, FailsIn};
 
 use crate::found::Found;
 use crate::memory::added::add_memory;
+use crate::memory::sums::sum;
 use crate::memory_place::{MemoryPlace, SegmentPlace};
 use crate::place::CheckPlace;
 use checker::BoundLink;
@@ -88,6 +89,13 @@ fn has_last_in_file(things: &[Thing], segment: &ProgramHeader, end: u64) -> bool
     things.iter().any(|t| is_last_in_file(segment, t, end))
 }
 
+/// Whether a thing of a segment that has bytes in the file ends at an address, or the segment begins there.
+fn is_end_in_file(things: &[Thing], segment: &ProgramHeader, end: u64) -> bool
+    ensures { IsTrue result ↔ (end ≢ segment.now.p_vaddr → Any (λ t. IsInFileOf segment.now t × (t.at + t.size ≡ end)) things.now) }
+{
+    end == segment.p_vaddr || has_last_in_file(things, segment, end)
+}
+
 fn has_none_later_in_file(things: &[Thing], segment: &ProgramHeader, end: u64) -> bool
     ensures { IsTrue result ↔ All (λ t. IsInFileOf segment.now t → t.at + t.size ≤ end) things.now }
 {
@@ -140,10 +148,14 @@ fn wrong_memory_end<'a>(bound: &BoundLink<'_, 'a>, place: SegmentPlace) -> Optio
         return Some(MemoryPlace::EmptySegment(place));
     }
     let end = last_end(things, &segment)?;
-    if segment.p_vaddr.checked_add(segment.p_memsz)? == end {
+    let memory_end = sum(segment.p_vaddr, segment.p_memsz)?;
+    if memory_end == end {
         return None;
     }
-    if !has_last(things, &segment, end) || !has_none_later(things, &segment, end) {
+    if !has_last(things, &segment, end) {
+        return None;
+    }
+    if !has_none_later(things, &segment, end) {
         return None;
     }
     Some(MemoryPlace::MemoryEnd(place, end))
@@ -158,10 +170,11 @@ fn wrong_file_end<'a>(bound: &BoundLink<'_, 'a>, place: SegmentPlace) -> Option<
     let things = bound.things();
     let segment = place.header;
     let end = file_end_of(things, &segment);
-    if segment.p_vaddr.checked_add(segment.p_filesz)? == end {
+    let file_end = sum(segment.p_vaddr, segment.p_filesz)?;
+    if file_end == end {
         return None;
     }
-    if end != segment.p_vaddr && !has_last_in_file(things, &segment, end) {
+    if !is_end_in_file(things, &segment, end) {
         return None;
     }
     if !has_none_later_in_file(things, &segment, end) {

@@ -26,7 +26,7 @@ use std::alloc::{AllocError, Global};
 use std::collections::{HashMap, HashSet};
 
 /// The slot line that has a number.
-fn line_at<'m>(bound: &BoundLink<'_, 'm>, number: usize) -> Option<&'m SlotLine>
+pub fn line_at<'m>(bound: &BoundLink<'_, 'm>, number: usize) -> Option<&'m SlotLine>
     ensures { IfSome result (λ line. slice_get bound.now.map.slots number ≡ Some (slot_row line.now)) }
 {
     bound.slots().lines().get(number)
@@ -56,6 +56,13 @@ fn unasked_line<'a>(
     Some(MemoryPlace::UnaskedSlot(number as u64, request))
 }
 
+/// Whether two requests are the same.
+fn are_same(a: &Request<'_>, b: &Request<'_>) -> bool
+    ensures { result ≡ asked.is_same a.now b.now }
+{
+    a == b
+}
+
 /// The line that has a number, where the one that has an earlier number is for the same.
 fn repeated_line<'a>(
     bound: &BoundLink<'_, 'a>,
@@ -67,8 +74,11 @@ fn repeated_line<'a>(
     if first >= number {
         return None;
     }
-    let request = request_of_line(line_at(bound, first)?);
-    if request != request_of_line(line_at(bound, number)?) {
+    let line = line_at(bound, first)?;
+    let again = line_at(bound, number)?;
+    let request = request_of_line(line);
+    let other = request_of_line(again);
+    if !are_same(&request, &other) {
         return None;
     }
     Some(MemoryPlace::RepeatedSlot(first as u64, number as u64, request))
@@ -141,7 +151,10 @@ fn unserved_entry<'a>(
         return None;
     }
     let request = request_of(one, number as u64, &entry)?;
-    if bound.slots().has(&request) || !is_asked(needs, &request) {
+    if bound.slots().has(&request) {
+        return None;
+    }
+    if !is_asked(needs, &request) {
         return None;
     }
     let objects = bound.bindings().objects();

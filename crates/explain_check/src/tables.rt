@@ -1,0 +1,244 @@
+//! C14: where the map's line of a symbol table, the file header and the bytes after the last file part are others than they
+//! should be.
+ghost use Rattle.std.specs.Prelude.{◌≡◌, ◌↔◌, ◌≤◌, ◌^◌, [], IfSome, IsSome, IsTrue, None, OnOk, Some, map};
+ghost use Rattle.std.specs.List.{slice_get};
+ghost use Rattle.elf_model.specs.Meaning.{meaning_name};
+ghost use Rattle.elf_model.specs.RightLink.{HoldsBefore, tabled_of, where_of};
+ghost use Rattle.elf_model.specs.SymbolTable.{entry_count, headers_at, symtab_at};
+ghost use Rattle.elf_model.specs.declared.verdict.Clause.TheVariants as clause;
+ghost use Rattle.check_link.specs.Views.{held};
+ghost use Rattle.explain_check.specs.Places.{AreFailures, FailsIn};
+ghost use Rattle.explain_check.specs.TablePlaces.{AreBuilt, IsEntryOf, parts_end, tail_of, wanted_tail};
+
+use crate::found::Found;
+use crate::place::{CheckPlace, TableByte, TableEntry, TablePlace};
+use crate::table_bytes::{TableBytes, table_of, tail_bytes};
+use checker::BoundLink;
+use checker::c14_tables::has_no_sections;
+use checker::c14_tables::places::{eight_up, places_of};
+use checker::segments::file_end;
+use elf_model::{SYM_SIZE, SymtabLine};
+use std::alloc::{AllocError, Global};
+
+/// The line of a table, or that there is none, where it must be otherwise.
+fn wrongly_told<'a>(bound: &BoundLink<'_, 'a>) -> Option<CheckPlace<'a>>
+    ensures { IfSome result (FailsIn bound.now) }
+{
+    let link = bound.link();
+    let symtab = link.map.symtab;
+    if link.map.version != 2 || symtab.is_some() != link.plan.strip {
+        return None;
+    }
+    Some(CheckPlace::Table(TablePlace::Told(symtab)))
+}
+
+/// What the file header tells of sections, where no table is told of.
+fn untold_sections<'a>(bound: &BoundLink<'_, 'a>) -> Option<CheckPlace<'a>>
+    requires { bound.now.map.symtab ≡ None }
+    ensures { IfSome result (FailsIn bound.now) }
+{
+    let header = bound.memory().header();
+    if has_no_sections(&header) {
+        return None;
+    }
+    Some(CheckPlace::Table(TablePlace::Sections(header.e_shoff, header.e_shnum, header.e_shstrndx)))
+}
+
+/// The numbers of the file header that tell of the sections of a table, where they are others.
+fn wrong_numbers<'a>(bound: &BoundLink<'_, 'a>) -> Option<CheckPlace<'a>>
+    requires { IsSome bound.now.map.symtab }
+    ensures { IfSome result (FailsIn bound.now) }
+{
+    let header = bound.memory().header();
+    if header.e_shnum == 4 && header.e_shstrndx == 3 {
+        return None;
+    }
+    Some(CheckPlace::Table(TablePlace::Numbers(header.e_shnum, header.e_shstrndx)))
+}
+
+/// The offset that the line tells of, where the table has to be elsewhere.
+fn wrong_offset<'a>(
+    bound: &BoundLink<'_, 'a>,
+    line: SymtabLine,
+    wanted: u64,
+) -> Option<CheckPlace<'a>>
+    requires line { bound.now.map.symtab ≡ Some line }
+    requires wanted { wanted ≡ symtab_at (parts_end bound.now) }
+    ensures { IfSome result (FailsIn bound.now) }
+{
+    let _bound = bound;
+    if line.offset == wanted {
+        return None;
+    }
+    Some(CheckPlace::Table(TablePlace::Offset(line.offset, wanted)))
+}
+
+/// The number of entries that the line tells of, where there should be another.
+fn wrong_count<'a>(
+    bound: &BoundLink<'_, 'a>,
+    line: SymtabLine,
+    wanted: u64,
+) -> Option<CheckPlace<'a>>
+    requires line { bound.now.map.symtab ≡ Some line }
+    requires wanted { wanted ≡ entry_count (tabled_of bound.now) }
+    ensures { IfSome result (FailsIn bound.now) }
+{
+    let _bound = bound;
+    if line.count == wanted {
+        return None;
+    }
+    Some(CheckPlace::Table(TablePlace::Count(line.count, wanted)))
+}
+
+/// Where the file header says that the headers of sections are, where they should be elsewhere.
+fn wrong_headers<'a>(bound: &BoundLink<'_, 'a>, wanted: u64) -> Option<CheckPlace<'a>>
+    requires told { IsSome bound.now.map.symtab }
+    requires wanted { wanted ≡ headers_at (parts_end bound.now) (tabled_of bound.now) }
+    ensures { IfSome result (FailsIn bound.now) }
+{
+    let header = bound.memory().header();
+    if header.e_shoff == wanted {
+        return None;
+    }
+    Some(CheckPlace::Table(TablePlace::Headers(header.e_shoff, wanted)))
+}
+
+/// Whether two bytes, as far as there are such, are the same.
+fn are_same(a: Option<u8>, b: Option<u8>) -> bool
+    ensures { IsTrue result ↔ (a ≡ b) }
+{
+    match (a, b) {
+        (Some(x), Some(y)) => x == y,
+        (None, None) => true,
+        (Some(_), None) | (None, Some(_)) => false,
+    }
+}
+
+fn byte_at(bytes: &[u8], i: usize) -> Option<u8>
+    ensures { slice_get bytes.now i ≡ result }
+{
+    bytes.get(i).copied()
+}
+
+/// The first place at which two runs differ.
+fn first_difference(a: &[u8], b: &[u8]) -> Option<usize> {
+    (0..a.len().max(b.len())).find(|i| !are_same(byte_at(a, *i), byte_at(b, *i)))
+}
+
+/// The entry that a byte after the last file part is in, with its name; the table begins after a number of zeros.
+fn entry_at<'a>(padding: usize, names: &[&'a [u8]], i: usize) -> Option<TableEntry<'a>>
+    ensures { IfSome result (IsEntryOf padding (map held names.now) i) }
+{
+    if i < padding {
+        return None;
+    }
+    let number = (i - padding) / SYM_SIZE;
+    if number == 0 {
+        return None;
+    }
+    let name = names.get(number - 1).copied()?;
+    Some(TableEntry {
+        number: number as u64,
+        name,
+    })
+}
+
+/// The first byte after the last file part that is another one than it should be.
+fn wrong_byte<'a>(
+    bound: &BoundLink<'_, 'a>,
+    end: u64,
+    bytes: &[u8],
+    wanted: &[u8],
+    names: &[&'a [u8]],
+) -> Option<CheckPlace<'a>>
+    requires told { IsSome bound.now.map.symtab }
+    requires end { end ≡ parts_end bound.now }
+    requires bytes { bytes.now ≡ tail_of bound.now }
+    requires wanted { wanted.now ≡ wanted_tail bound.now }
+    requires names { map held names.now ≡ map meaning_name (tabled_of bound.now) }
+    requires low { end ≤ 2 ^ 46 }
+    ensures { IfSome result (FailsIn bound.now) }
+{
+    let _bound = bound;
+    let i = first_difference(bytes, wanted)?;
+    let there = byte_at(bytes, i);
+    let wanted = byte_at(wanted, i);
+    if are_same(there, wanted) {
+        return None;
+    }
+    let padding = (eight_up(end) - end) as usize;
+    Some(CheckPlace::Table(TablePlace::Byte(TableByte {
+        parts_end: end,
+        number: i as u64,
+        there,
+        wanted,
+        entry: entry_at(padding, names, i),
+    })))
+}
+
+/// Adds the count, the place of the headers and the first byte that are others than a table asks for.
+fn add_contents<'a>(
+    alloc: Global,
+    found: &mut Found<'a>,
+    bound: &BoundLink<'_, 'a>,
+    line: SymtabLine,
+    end: u64,
+    table: &TableBytes<'a>,
+) -> Result<(), AllocError>
+    requires line { bound.now.map.symtab ≡ Some line }
+    requires end { end ≡ parts_end bound.now }
+    requires low { end ≤ 2 ^ 46 }
+    requires built { AreBuilt (where_of bound.now) table.now [] (tabled_of bound.now) }
+    requires before { AreFailures bound.now found.old.places.items }
+    ensures { OnOk result (AreFailures bound.now found.new.places.items) }
+{
+    if table.strings.len() > u32::MAX as usize {
+        return Ok(());
+    }
+    let count = (table.symbols.len() / SYM_SIZE) as u64;
+    let places = places_of(end, count, table.strings.len() as u32);
+    found.add_some(wrong_count(bound, line, count))?;
+    found.add_some(wrong_headers(bound, places.headers))?;
+    let wanted = tail_bytes(alloc, end, table, &places)?;
+    let (_parts, bytes) = bound.memory().image().split_at(end as usize);
+    found.add_some(wrong_byte(bound, end, bytes, &wanted, &table.names))
+}
+
+/// Adds where the table that a line tells of is another one than it should be.
+fn add_table<'a>(
+    alloc: Global,
+    found: &mut Found<'a>,
+    bound: &BoundLink<'_, 'a>,
+    line: SymtabLine,
+) -> Result<(), AllocError>
+    requires clauses { HoldsBefore clause.C14 bound.now }
+    requires line { bound.now.map.symtab ≡ Some line }
+    requires before { AreFailures bound.now found.old.places.items }
+    ensures { OnOk result (AreFailures bound.now found.new.places.items) }
+{
+    let end = file_end(bound.memory());
+    found.add_some(wrong_numbers(bound))?;
+    found.add_some(wrong_offset(bound, line, eight_up(end)))?;
+    let link = bound.link();
+    match table_of(alloc, bound.bindings(), &link.map.symbols)? {
+        Some(table) => add_contents(alloc, found, bound, line, end, &table),
+        None => Ok(()),
+    }
+}
+
+/// Adds where the fourteenth clause fails.
+pub fn add_c14<'a>(
+    alloc: Global,
+    found: &mut Found<'a>,
+    bound: &BoundLink<'_, 'a>,
+) -> Result<(), AllocError>
+    requires clauses { HoldsBefore clause.C14 bound.now }
+    requires before { AreFailures bound.now found.old.places.items }
+    ensures { OnOk result (AreFailures bound.now found.new.places.items) }
+{
+    found.add_some(wrongly_told(bound))?;
+    match bound.link().map.symtab {
+        Some(line) => add_table(alloc, found, bound, line),
+        None => found.add_some(untold_sections(bound)),
+    }
+}
