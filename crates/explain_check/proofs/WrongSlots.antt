@@ -2,7 +2,9 @@
 use Rattle.std.proofs.Common.{◌≡◌, ℕ, zero, suc, ◌+◌, ◌<◌, ◌≤◌, Bool, true, false, cond, List, [], ◌∷◌, Some, refl, sym, ◌∙◌, ap, subst, arith}
 use Rattle.std.specs.List.{list_any, slice_get}
 use Rattle.std.proofs.lemmas.Bool.{false≢true}
+use Rattle.std.proofs.lemmas.List.Folds.{list_any-from_Any}
 use Rattle.std.proofs.lemmas.Option.{none-some, same_Some}
+use Rattle.elf_model.proofs.Listed.{Contains-from_slice_get}
 use Rattle.elf_model.proofs.SameRequests.{same_itself}
 use Rattle.elf_model.specs.Loading.{LoadedObject}
 use Rattle.elf_model.specs.MapRecord.{SlotRow}
@@ -22,14 +24,9 @@ is_of q row e = subst (λ (r : Request). same_request q r ≡ true) (sym e) (sam
 
 -- it is among those that have a slot of the request
 any_there : (q : Request) (rows : List SlotRow) (k : ℕ) (row : SlotRow) → slice_get rows k ≡ Some row → is_slot_of q row ≡ true → list_any (is_slot_of q) rows ≡ true
-any_there q [] k row there is = absurd (none-some row there)
-any_there q (first ∷ rows) zero row there is =
-    ap (λ (b : Bool). cond b true (list_any (is_slot_of q) rows)) (ap (is_slot_of q) (same_Some first row there) ∙ is)
-any_there q (first ∷ rows) (suc k) row there is = by (is_slot_of q first) (any_there q rows k row there is)
-  where
-    by : (b : Bool) → list_any (is_slot_of q) rows ≡ true → cond b true (list_any (is_slot_of q) rows) ≡ true
-    by true e = refl
-    by false e = e
+any_there q rows k row there is =
+    let c = Contains-from_slice_get rows k row there in
+    list_any-from_Any (is_slot_of q) rows (c.0, row, c.1, c.2, is)
 
 more : (b : Bool) (n m : ℕ) → m ≤ n → m ≤ cond b (1 + n) n
 more true n m h = omega (arith, h)
