@@ -1,14 +1,17 @@
 -- The contents of a symbol table as the definitions of lines are added, one after the other.
-use Rattle.std.proofs.Common.{◌≡◌, ◌∙◌, ℕ, ◌+◌, List, [], ◌∷◌, ◌++◌, length, map, ap, refl, subst, sym, append_assoc, arith}
+use Rattle.std.proofs.Common.{◌≡◌, ◌∙◌, ℕ, ◌+◌, ◌-◌, ◌*◌, List, [], ◌∷◌, ◌++◌, length, map, replicate, ap, refl, subst, sym, append_assoc, arith}
 use Rattle.std.specs.List.{flat_map}
 use Rattle.std.proofs.lemmas.List.{append-nil, length-append}
 use Rattle.elf_model.specs.Meaning.{Meaning, meaning_name}
 use Rattle.elf_model.specs.Placement.{Where}
 use Rattle.elf_model.specs.Records.{symbol_bytes}
-use Rattle.elf_model.specs.SymbolTable.{ended, entries_from, entry_of, name_section, symbol_section}
+use Rattle.elf_model.specs.SymbolTable.{ended, entries_from, entry_count, entry_of, name_section, symbol_section, tables}
 use Rattle.elf_model.specs.declared.records.Symbol as entry
 use Rattle.check_link.specs.Views.{held}
-use Rattle.checker.specs.Tabled.{ended_names}
+use Rattle.checker.specs.Tabled.{AreAt, end_bytes, ended_names}
+use Rattle.checker.specs.declared.c14_tables.places.Places.{Places}
+use Rattle.checker.proofs.TableClause.{end_is}
+use Rattle.elf_model.proofs.TableLaws.{length-symbol_section}
 use Rattle.explain_check.specs.TablePlaces.{AreBuilt, HasAdded}
 use Rattle.explain_check.specs.declared.table_bytes.TableBytes.{TableBytes}
 
@@ -102,3 +105,22 @@ added_none w old ds none =
       strings = sym (append-nil old.strings.items);
       names = sym (append-nil (map held old.names.items));
     })
+
+-- once nothing is left to be added
+module _ (w : Where) (t : TableBytes) (all : List Meaning) (built : AreBuilt w t [] all) where
+  pub symbols_built : t.symbols.items ≡ symbol_section w all
+  symbols_built = sym (append-nil t.symbols.items) ∙ built.symbols
+
+  pub strings_built : t.strings.items ≡ name_section all
+  strings_built = sym (append-nil t.strings.items) ∙ built.strings
+
+  pub names_built : map held t.names.items ≡ map meaning_name all
+  names_built = sym (append-nil (map held t.names.items)) ∙ built.names
+
+  pub symbols_length : length t.symbols.items ≡ 24 * entry_count all
+  symbols_length = ap length symbols_built ∙ length-symbol_section w all
+
+  pub tail_built :
+      (e : ℕ) (p : Places) → AreAt e all p →
+      replicate (p.symtab - e) 0 ++ (t.symbols.items ++ (t.strings.items ++ end_bytes p)) ≡ tables w e all
+  tail_built e p at = λ i. replicate (at.symtab i - e) 0 ++ (symbols_built i ++ (strings_built i ++ end_is e all p at i))

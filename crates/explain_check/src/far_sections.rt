@@ -8,6 +8,7 @@ ghost use Rattle.explain_check.specs.Places.{AreFailures, FailsIn};
 ghost use Rattle.explain_check.specs.PlacementPlaces.{ordered_sections};
 
 use crate::found::Found;
+use crate::named_parts::at_number;
 use crate::place::{CheckPlace, Neighbours};
 use check_link::{Placed, output_section};
 use checker::PlacedLink;
@@ -26,7 +27,7 @@ fn section_at<'a>(
     ensures { slice_get (ordered_sections placed.now) i ≡ option_map placed_view result }
 {
     let _placed = placed;
-    sections.get(i).copied()
+    at_number(sections, i)
 }
 
 /// Two neighbours, by their numbers, that aren't close together.

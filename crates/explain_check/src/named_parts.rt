@@ -1,5 +1,5 @@
 //! The things of a link with what they are: the headers, the GOT and the pieces; and its thread-local sections.
-ghost use Rattle.std.specs.Prelude.{◌≡◌, All, IfOk, IfSome, false, filter, option_map};
+ghost use Rattle.std.specs.Prelude.{◌≡◌, All, IfOk, IfSome, Some, false, filter, option_map};
 ghost use Rattle.std.specs.List.{slice_get};
 ghost use Rattle.elf_model.specs.Placement.{is_thread_place};
 ghost use Rattle.elf_model.specs.RightLink.{placed_of, things_of};
@@ -11,11 +11,18 @@ use check_link::{Placed, range_of_placed};
 use checker::PlacedLink;
 use std::alloc::{AllocError, Global};
 
+/// The piece that has a number among pieces.
+pub fn at_number<'a>(pieces: &[Placed<'a>], k: usize) -> Option<Placed<'a>>
+    ensures { slice_get (placed_views pieces.now) k ≡ option_map placed_view result }
+{
+    pieces.get(k).copied()
+}
+
 /// The piece that has a number among all that are placed.
 fn piece_at<'a>(placed: &PlacedLink<'_, 'a>, k: usize) -> Option<Placed<'a>>
     ensures { slice_get (placed_of placed.now) k ≡ option_map placed_view result }
 {
-    placed.placed().get(k).copied()
+    at_number(placed.placed(), k)
 }
 
 /// What the thing is that has a number.
@@ -56,9 +63,10 @@ pub fn parts_of<'a>(alloc: Global, placed: &PlacedLink<'_, 'a>) -> Result<Vec<Pa
 {
     let mut parts = Vec::new(alloc);
     for k in 0..placed.things().len() {
-        if let Some(part) = part_at(placed, k) {
-            parts.push(part)?;
-        }
+        let Some(part) = part_at(placed, k) else {
+            continue;
+        };
+        parts.push(part)?;
     }
     Ok(parts)
 }
@@ -76,18 +84,26 @@ fn threads_of<'a>(alloc: Global, placed: &[Placed<'a>]) -> Result<Vec<Placed<'a>
     Ok(threads)
 }
 
+/// A thread-local section, which has a number among these, as a part.
+fn thread_part<'a>(placed: &PlacedLink<'_, 'a>, k: usize, thread: &Placed<'a>) -> Part<'a>
+    requires { slice_get (filter is_thread_place (placed_of placed.now)) k ≡ Some (placed_view thread.now) }
+    ensures { IsPart placed.now result }
+{
+    let _placed = placed;
+    Part {
+        number: k as u64,
+        thing: range_of_placed(thread),
+        name: PartName::Thread(*thread),
+    }
+}
+
 /// The thread-local section that has a number among these.
 fn thread_at<'a>(placed: &PlacedLink<'_, 'a>, threads: &[Placed<'a>], k: usize) -> Option<Part<'a>>
     requires { placed_views threads.now ≡ filter is_thread_place (placed_of placed.now) }
     ensures { IfSome result (IsPart placed.now) }
 {
-    let _placed = placed;
-    let thread = threads.get(k).copied()?;
-    Some(Part {
-        number: k as u64,
-        thing: range_of_placed(&thread),
-        name: PartName::Thread(thread),
-    })
+    let thread = at_number(threads, k)?;
+    Some(thread_part(placed, k, &thread))
 }
 
 /// The thread-local sections of a link as parts.
@@ -100,9 +116,10 @@ pub fn thread_parts_of<'a>(
     let threads = threads_of(alloc, placed.placed())?;
     let mut parts = Vec::new(alloc);
     for k in 0..threads.len() {
-        if let Some(part) = thread_at(placed, &threads, k) {
-            parts.push(part)?;
-        }
+        let Some(part) = thread_at(placed, &threads, k) else {
+            continue;
+        };
+        parts.push(part)?;
     }
     Ok(parts)
 }

@@ -1,12 +1,15 @@
 //! C14: where the map's line of a symbol table, the file header and the bytes after the last file part are others than they
 //! should be.
-ghost use Rattle.std.specs.Prelude.{◌≡◌, ◌↔◌, ◌≤◌, ◌^◌, [], IfSome, IsSome, IsTrue, None, OnOk, Some, map};
+ghost use Rattle.std.specs.Prelude.{◌≡◌, ◌↔◌, ◌≤◌, ◌^◌, [], IfOk, IfSome, IsSome, IsTrue, List, None, OnOk, Some, length, map};
 ghost use Rattle.std.specs.List.{slice_get};
-ghost use Rattle.elf_model.specs.Meaning.{meaning_name};
+ghost use Rattle.elf_model.specs.Meaning.{Meaning, meaning_name};
+ghost use Rattle.elf_model.specs.Placement.{Where, round_up};
 ghost use Rattle.elf_model.specs.RightLink.{HoldsBefore, tabled_of, where_of};
-ghost use Rattle.elf_model.specs.SymbolTable.{entry_count, headers_at, symtab_at};
+ghost use Rattle.elf_model.specs.SymbolTable as symbol_table;
+ghost use Rattle.elf_model.specs.SymbolTable.{headers_at, symtab_at};
 ghost use Rattle.elf_model.specs.declared.verdict.Clause.TheVariants as clause;
 ghost use Rattle.check_link.specs.Views.{held};
+ghost use Rattle.checker.specs.Tabled.{AreAt};
 ghost use Rattle.explain_check.specs.Places.{AreFailures, FailsIn};
 ghost use Rattle.explain_check.specs.TablePlaces.{AreBuilt, IsEntryOf, parts_end, tail_of, wanted_tail};
 
@@ -15,7 +18,7 @@ use crate::place::{CheckPlace, TableByte, TableEntry, TablePlace};
 use crate::table_bytes::{TableBytes, table_of, tail_bytes};
 use checker::BoundLink;
 use checker::c14_tables::has_no_sections;
-use checker::c14_tables::places::{eight_up, places_of};
+use checker::c14_tables::places::{Places, eight_up, places_of};
 use checker::segments::file_end;
 use elf_model::{SYM_SIZE, SymtabLine};
 use std::alloc::{AllocError, Global};
@@ -80,7 +83,7 @@ fn wrong_count<'a>(
     wanted: u64,
 ) -> Option<CheckPlace<'a>>
     requires line { bound.now.map.symtab ≡ Some line }
-    requires wanted { wanted ≡ entry_count (tabled_of bound.now) }
+    requires wanted { wanted ≡ symbol_table.entry_count (tabled_of bound.now) }
     ensures { IfSome result (FailsIn bound.now) }
 {
     let _bound = bound;
@@ -176,6 +179,83 @@ fn wrong_byte<'a>(
     })))
 }
 
+/// How many entries a table has.
+fn entry_count(table: &TableBytes<'_>) -> u64
+    ensures { (w : Where) (ms : List Meaning) → AreBuilt w table.now [] ms → result ≡ symbol_table.entry_count ms }
+{
+    (table.symbols.len() / SYM_SIZE) as u64
+}
+
+/// Where the parts of a table are in a file whose last file part ends at `end`; None where the names take 2^32 bytes and more, or
+/// there are 2^58 entries and more.
+fn places_for(bound: &BoundLink<'_, '_>, end: u64, table: &TableBytes<'_>) -> Option<Places>
+    requires low { end ≤ 2 ^ 46 }
+    requires built { AreBuilt (where_of bound.now) table.now [] (tabled_of bound.now) }
+    ensures places { IfSome result (AreAt end (tabled_of bound.now)) }
+    ensures padded { IfSome result (λ p. p.headers ≡ round_up 8 p.shstrtab_end) }
+{
+    let _bound = bound;
+    let count = entry_count(table);
+    if table.strings.len() > u32::MAX as usize || count >= 1 << 58 {
+        return None;
+    }
+    let size = table.strings.len() as u32;
+    Some(places_of(end, count, size))
+}
+
+/// The bytes that should follow the last file part, which ends at `end`.
+fn wanted_bytes(
+    alloc: Global,
+    bound: &BoundLink<'_, '_>,
+    end: u64,
+    table: &TableBytes<'_>,
+    places: &Places,
+) -> Result<Vec<u8>, AllocError>
+    requires end { end ≡ parts_end bound.now }
+    requires built { AreBuilt (where_of bound.now) table.now [] (tabled_of bound.now) }
+    requires places { AreAt end (tabled_of bound.now) places.now }
+    requires padded { places.now.headers ≡ round_up 8 places.now.shstrtab_end }
+    ensures { IfOk result (λ v. v.items ≡ wanted_tail bound.now) }
+{
+    let _bound = bound;
+    let wanted = tail_bytes(alloc, end, table, places)?;
+    Ok(wanted)
+}
+
+/// The bytes of an image after its last file part, which ends at `end`.
+fn tail_of<'o, 'a>(bound: &BoundLink<'o, 'a>, end: u64) -> &'o [u8]
+    requires end { end ≡ parts_end bound.now }
+    requires inside { end ≤ length bound.now.image }
+    ensures { result.now ≡ tail_of bound.entry.now }
+{
+    let (_parts, bytes) = bound.memory().image().split_at(end as usize);
+    bytes
+}
+
+/// Adds the first byte after the last file part that is another one than it should be.
+fn add_byte<'a>(
+    alloc: Global,
+    found: &mut Found<'a>,
+    bound: &BoundLink<'_, 'a>,
+    end: u64,
+    table: &TableBytes<'a>,
+    places: &Places,
+) -> Result<(), AllocError>
+    requires told { IsSome bound.now.map.symtab }
+    requires end { end ≡ parts_end bound.now }
+    requires low { end ≤ 2 ^ 46 }
+    requires inside { end ≤ length bound.now.image }
+    requires built { AreBuilt (where_of bound.now) table.now [] (tabled_of bound.now) }
+    requires places { AreAt end (tabled_of bound.now) places.now }
+    requires padded { places.now.headers ≡ round_up 8 places.now.shstrtab_end }
+    requires before { AreFailures bound.now found.old.places.items }
+    ensures { OnOk result (AreFailures bound.now found.new.places.items) }
+{
+    let wanted = wanted_bytes(alloc, bound, end, table, places)?;
+    let bytes = tail_of(bound, end);
+    found.add_some(wrong_byte(bound, end, bytes, &wanted, &table.names))
+}
+
 /// Adds the count, the place of the headers and the first byte that are others than a table asks for.
 fn add_contents<'a>(
     alloc: Global,
@@ -188,20 +268,30 @@ fn add_contents<'a>(
     requires line { bound.now.map.symtab ≡ Some line }
     requires end { end ≡ parts_end bound.now }
     requires low { end ≤ 2 ^ 46 }
+    requires inside { end ≤ length bound.now.image }
     requires built { AreBuilt (where_of bound.now) table.now [] (tabled_of bound.now) }
     requires before { AreFailures bound.now found.old.places.items }
     ensures { OnOk result (AreFailures bound.now found.new.places.items) }
 {
-    if table.strings.len() > u32::MAX as usize {
+    let Some(places) = places_for(bound, end, table) else {
         return Ok(());
-    }
-    let count = (table.symbols.len() / SYM_SIZE) as u64;
-    let places = places_of(end, count, table.strings.len() as u32);
-    found.add_some(wrong_count(bound, line, count))?;
+    };
+    found.add_some(wrong_count(bound, line, entry_count(table)))?;
     found.add_some(wrong_headers(bound, places.headers))?;
-    let wanted = tail_bytes(alloc, end, table, &places)?;
-    let (_parts, bytes) = bound.memory().image().split_at(end as usize);
-    found.add_some(wrong_byte(bound, end, bytes, &wanted, &table.names))
+    add_byte(alloc, found, bound, end, table, &places)
+}
+
+/// The table of the definitions of the map's symbol lines.
+fn wanted_table<'a>(
+    alloc: Global,
+    bound: &BoundLink<'_, 'a>,
+) -> Result<Option<TableBytes<'a>>, AllocError>
+    requires { HoldsBefore clause.C14 bound.now }
+    ensures { IfOk result (λ o. IfSome o (λ t. AreBuilt (where_of bound.now) t [] (tabled_of bound.now))) }
+{
+    let link = bound.link();
+    let table = table_of(alloc, bound.bindings(), &link.map.symbols)?;
+    Ok(table)
 }
 
 /// Adds where the table that a line tells of is another one than it should be.
@@ -219,10 +309,25 @@ fn add_table<'a>(
     let end = file_end(bound.memory());
     found.add_some(wrong_numbers(bound))?;
     found.add_some(wrong_offset(bound, line, eight_up(end)))?;
-    let link = bound.link();
-    match table_of(alloc, bound.bindings(), &link.map.symbols)? {
+    match wanted_table(alloc, bound)? {
         Some(table) => add_contents(alloc, found, bound, line, end, &table),
         None => Ok(()),
+    }
+}
+
+/// Adds where what is told of a table, if it is told, is otherwise.
+fn add_told<'a>(
+    alloc: Global,
+    found: &mut Found<'a>,
+    bound: &BoundLink<'_, 'a>,
+) -> Result<(), AllocError>
+    requires clauses { HoldsBefore clause.C14 bound.now }
+    requires before { AreFailures bound.now found.old.places.items }
+    ensures { OnOk result (AreFailures bound.now found.new.places.items) }
+{
+    match bound.link().map.symtab {
+        Some(line) => add_table(alloc, found, bound, line),
+        None => found.add_some(untold_sections(bound)),
     }
 }
 
@@ -237,8 +342,5 @@ pub fn add_c14<'a>(
     ensures { OnOk result (AreFailures bound.now found.new.places.items) }
 {
     found.add_some(wrongly_told(bound))?;
-    match bound.link().map.symtab {
-        Some(line) => add_table(alloc, found, bound, line),
-        None => found.add_some(untold_sections(bound)),
-    }
+    add_told(alloc, found, bound)
 }

@@ -8,6 +8,11 @@ use Rattle.explain_check.proofs.TableBuilding.{built_more}
 use Rattle.explain_check.specs.TablePlaces.{AreBuilt}
 use Rattle.explain_check.proofs.table_bytes.table_of.Goals as goal
 
+pub loop-line-init : goal.loop-line-init
+loop-line-init c =
+    let b = c.args.bindings.now in
+    c.in_ok-table.ensures b.places (line_tabled b.objects c.args.lines.now)
+
 pub loop-line-preserved : goal.loop-line-preserved
 loop-line-preserved c =
     let b = c.args.bindings.now in
