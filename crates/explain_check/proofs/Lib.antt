@@ -1,5 +1,7 @@
+pub mod Denials
 pub mod FarSections
 pub mod KeptPlaces
+pub mod MemoryDenials
 pub mod ObjectLines
 pub mod Reading
 pub mod SegmentEnds

@@ -4,8 +4,10 @@ use Rattle.elf_model.specs.Command.{Plan}
 use Rattle.elf_model.specs.Files.{File}
 use Rattle.elf_model.specs.MapRecord.{MapRecord}
 use Rattle.elf_model.specs.RightLink.{IsRead, Subject}
-use Rattle.explain_check.specs.MemoryPlaces.{IsWrongMemory}
+use Rattle.elf_model.specs.declared.verdict.Clause.{Clause}
+use Rattle.elf_model.specs.declared.verdict.Clause.TheVariants.{C2, C3, C5, C6, C12, C13, C14}
 use Rattle.explain_check.specs.LinePlaces.{IsWrongCommon, IsWrongDrop, IsWrongObject, IsWrongPlace}
+use Rattle.explain_check.specs.MemoryPlaces.{IsWrongMemory, memory_clause}
 use Rattle.explain_check.specs.PlacementPlaces.{AreFar, IsOutside, IsShared, IsUnaligned, IsUnheld, IsWrongFirst}
 use Rattle.explain_check.specs.SymbolPlaces.{IsWrongEntry, IsWrongLine, LacksLine}
 use Rattle.explain_check.specs.TablePlaces.{FailsInTable}
@@ -28,6 +30,24 @@ FailsIn s (place.Entry p) = IsWrongEntry s p
 FailsIn s (place.SymbolLine p) = IsWrongLine s p
 FailsIn s (place.NoSymbolLine name p) = LacksLine s name.now p
 FailsIn s (place.Table p) = FailsInTable s p
+
+-- the clause that fails at a place
+abbrev pub clause_of : CheckPlace → Clause
+clause_of (place.ObjectLine p) = C2
+clause_of (place.DropLine p) = C3
+clause_of (place.PlaceLine p) = C3
+clause_of (place.CommonLine p) = C3
+clause_of (place.Unaligned p) = C5
+clause_of (place.Outside p base) = C5
+clause_of (place.Shared p q) = C5
+clause_of (place.Far n) = C5
+clause_of (place.Unheld p segment) = C6
+clause_of (place.First address base) = C6
+clause_of (place.Memory p) = memory_clause p
+clause_of (place.Entry p) = C12
+clause_of (place.SymbolLine p) = C13
+clause_of (place.NoSymbolLine name p) = C13
+clause_of (place.Table p) = C14
 
 abbrev pub AreFailures : Subject → List CheckPlace → Type 0
 AreFailures s places = All (FailsIn s) places

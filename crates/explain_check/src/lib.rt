@@ -2,6 +2,7 @@
 //! there and what should be. The clauses are judged by the checker; this crate only looks for places where one says no.
 #![tactic(auto)]
 
+mod clause;
 mod common_lines;
 mod entry;
 mod far_sections;
@@ -24,6 +25,7 @@ mod table_text;
 mod tables;
 mod text;
 
+pub use clause::clause_of;
 pub use found::Found;
 pub use memory_place::{
     BytePlace, FillPlace, GotBytePlace, MemoryPlace, RelocationFault, RelocationPlace, SegmentPlace,

@@ -1,0 +1,216 @@
+-- What a place says denies its clause.
+use Rattle.std.proofs.Common.{◌≡◌, ◌∙◌, ℕ, ◌%◌, ◌<◌, ◌≤◌, ◌⊎◌, inl, inr, ⊎_elim, Bool, true, false, List, [], ◌∷◌, ◌++◌, Option, None, Some, length, get_or, map, option_map, refl, sym, subst, ap, arith}
+use Rattle.std.specs.Prelude.{All, AllPairs, IfSome, IsSome, find, is_some}
+use Rattle.std.specs.List.{slice_get}
+use Rattle.std.proofs.lemmas.Bool.{false≢true}
+use Rattle.std.proofs.lemmas.Option.{get_or_from_slice_get, none-some, same_Some, slice_get-map, slice_get_within}
+use Rattle.elf_model.specs.MapText.{IsMap}
+use Rattle.elf_model.specs.MemoryImage.{loads}
+use Rattle.elf_model.specs.Pieces.{kept_sections}
+use Rattle.elf_model.specs.Placement.{AreApart, HasRights, IsNear, IsPlaced, IsWithin, LiesInSegment, Placed, got_things, headers_thing, thing_of, thread_ranges}
+use Rattle.elf_model.specs.RightLink.{AreSectionsListed, AreSymbolsListed, AreTablesRight, Holds, HoldsTables, IsLoaded, Subject, facts_of_piece, facts_of_row, objects_of, placed_of, symbol_row_of, things_of, where_of}
+use Rattle.elf_model.specs.Listing.{listed}
+use Rattle.elf_model.specs.MapRecord.{SymbolRow, symbol_row}
+use Rattle.elf_model.specs.declared.link_map.GotLine.{GotLine}
+use Rattle.elf_model.specs.declared.link_map.SymtabLine.{SymtabLine}
+use Rattle.elf_model.specs.declared.records.ProgramHeader.{ProgramHeader}
+use Rattle.elf_model.specs.declared.thing.Thing.{Thing}
+use Rattle.check_link.specs.Views.{meaning_view, placed_view}
+use Rattle.check_link.proofs.Padded.{below_or_not}
+use Rattle.checker.specs.Listed.{IsLine}
+use Rattle.checker.proofs.TableEntries.{each_line}
+use Rattle.explain_check.proofs.MemoryDenials.{denied}
+use Rattle.explain_check.specs.LinePlaces.{IsWrongCommon, IsWrongDrop, IsWrongObject, IsWrongPlace}
+use Rattle.explain_check.specs.PlacementPlaces.{AreFar, IsOutside, IsPart, IsShared, IsUnaligned, IsUnheld, IsNamed, IsWrongFirst, is_thread_name, list_of, ordered_sections}
+use Rattle.explain_check.specs.SymbolPlaces.{IsWrongLine, LacksLine, is_symbol_row_of, wanted_row}
+use Rattle.explain_check.specs.TablePlaces.{FailsInTable}
+use Rattle.explain_check.specs.Places.{FailsIn, clause_of}
+use Rattle.explain_check.specs.declared.place.CheckPlace.{CheckPlace}
+use Rattle.explain_check.specs.declared.place.CheckPlace.TheVariants as place
+use Rattle.explain_check.specs.declared.place.CommonLinePlace.{CommonLinePlace}
+use Rattle.explain_check.specs.declared.place.DropLinePlace.{DropLinePlace}
+use Rattle.explain_check.specs.declared.place.MeaningPlace.{MeaningPlace}
+use Rattle.explain_check.specs.declared.place.Neighbours.{Neighbours}
+use Rattle.explain_check.specs.declared.place.ObjectLinePlace.{ObjectLinePlace}
+use Rattle.explain_check.specs.declared.place.Part.{Part}
+use Rattle.explain_check.specs.declared.place.PartName.{PartName}
+use Rattle.explain_check.specs.declared.place.PartName.TheVariants as part_name
+use Rattle.explain_check.specs.declared.place.PlaceLinePlace.{PlaceLinePlace}
+use Rattle.explain_check.specs.declared.place.SymbolLinePlace.{SymbolLinePlace}
+use Rattle.explain_check.specs.declared.place.TablePlace.{TablePlace}
+use Rattle.explain_check.specs.declared.place.TablePlace.TheVariants as table
+
+-- what holds of all of a list holds of the one that has a number
+at_number : {X : Type 0} (P : X → Type 0) (xs : List X) (k : ℕ) (x : X) → All P xs → slice_get xs k ≡ Some x → P x
+at_number P xs k x all there = subst P (get_or_from_slice_get xs k x x there) (all k x (slice_get_within xs k x there))
+
+pairs_at :
+    {X : Type 0} (R : X → X → Type 0) (xs : List X) (i j : ℕ) (x y : X) → AllPairs R xs → i < j → slice_get xs i ≡ Some x → slice_get xs j ≡ Some y → R x y
+pairs_at R xs i j x y all low a b =
+    subst (R x) (get_or_from_slice_get xs j y x b)
+    (subst (λ z. R z (get_or xs j x)) (get_or_from_slice_get xs i x x a) (all i j x low (slice_get_within xs j y b)))
+
+module _ (s : Subject) where
+  -- C2, C3
+  pub object_denied : (p : ObjectLinePlace) → IsWrongObject s p → IsLoaded s → ⊥
+  object_denied p h right = h.wrong (ap (λ rows. slice_get rows p.number) right.rows)
+
+  pub drop_denied : (p : DropLinePlace) → IsWrongDrop s p → AreSectionsListed s → ⊥
+  drop_denied p h right = h.wrong (sym h.line ∙ (ap (λ rows. slice_get rows p.number) right.drops ∙ h.wanted))
+
+  pub place_denied : (p : PlaceLinePlace) → IsWrongPlace s p → AreSectionsListed s → ⊥
+  place_denied p h right =
+      h.wrong
+      (sym (slice_get-map facts_of_row s.map.places p.number)
+      ∙ (ap (λ facts. slice_get facts p.number) right.places ∙ slice_get-map facts_of_piece (kept_sections (objects_of s)) p.number))
+
+  pub common_denied : (p : CommonLinePlace) → IsWrongCommon s p → AreSectionsListed s → ⊥
+  common_denied p h right = h.wrong (right.commons p.name.now)
+
+  of_things : (n : PartName) → is_thread_name n ≡ false → list_of s n ≡ things_of s
+  of_things part_name.Headers e = refl
+  of_things part_name.Got e = refl
+  of_things (part_name.Piece q) e = refl
+  of_things (part_name.Thread q) e = absurd (false≢true (sym e))
+
+  of_threads : (n : PartName) → is_thread_name n ≡ true → list_of s n ≡ thread_ranges (placed_of s)
+  of_threads part_name.Headers e = absurd (false≢true e)
+  of_threads part_name.Got e = absurd (false≢true e)
+  of_threads (part_name.Piece q) e = absurd (false≢true e)
+  of_threads (part_name.Thread q) e = refl
+
+  thing_at : (p : Part) → IsPart s p → is_thread_name p.name ≡ false → slice_get (things_of s) p.number ≡ Some p.thing
+  thing_at p part thing = ap (λ ts. slice_get ts p.number) (sym (of_things p.name thing)) ∙ part.there
+
+  thread_at : (p : Part) → IsPart s p → is_thread_name p.name ≡ true → slice_get (thread_ranges (placed_of s)) p.number ≡ Some p.thing
+  thread_at p part thread = ap (λ ts. slice_get ts p.number) (sym (of_threads p.name thread)) ∙ part.there
+
+  -- C5
+  abbrev Placing : Type 0
+  Placing = IsPlaced s.plan.base (things_of s) (thread_ranges (placed_of s)) (ordered_sections s)
+
+  pub unaligned_denied : (p : Part) → IsUnaligned s p → Placing → ⊥
+  unaligned_denied p h right =
+      h.wrong (at_number (λ (t : Thing). t.at % t.align ≡ 0) (things_of s) p.number p.thing right.aligned (thing_at p h.part h.thing))
+
+  pub outside_denied : (p : Part) (base : ℕ) → IsOutside s p base → Placing → ⊥
+  outside_denied p base h right = h.wrong (by (is_thread_name p.name) refl)
+    where
+      by : (b : Bool) → is_thread_name p.name ≡ b → IsWithin s.plan.base p.thing
+      by false e = at_number (IsWithin s.plan.base) (things_of s) p.number p.thing right.within (thing_at p h.part e)
+      by true e = at_number (IsWithin s.plan.base) (thread_ranges (placed_of s)) p.number p.thing right.threads_within (thread_at p h.part e)
+
+  apart_at :
+      (ts : List Thing) (i j : ℕ) (t u : Thing) → AllPairs AreApart ts → (i ≡ j → ⊥) → slice_get ts i ≡ Some t → slice_get ts j ≡ Some u → AreApart t u
+  apart_at ts i j t u all two a b = by (below_or_not i j)
+    where
+      by : (i < j) ⊎ (j ≤ i) → AreApart t u
+      by (inl low) = pairs_at AreApart ts i j t u all low a b
+      by (inr high) = λ x p q. pairs_at AreApart ts j i u t all (omega (arith, high, two)) b a x q p
+
+  pub shared_denied : (p q : Part) → IsShared s p q → Placing → ⊥
+  shared_denied p q h right = h.wrong (by (is_thread_name p.name) refl)
+    where
+      by : (b : Bool) → is_thread_name p.name ≡ b → AreApart p.thing q.thing
+      by false e =
+          apart_at (things_of s) p.number q.number p.thing q.thing right.apart h.two (thing_at p h.first e) (thing_at q h.second (sym h.same_list ∙ e))
+      by true e =
+          apart_at (thread_ranges (placed_of s)) p.number q.number p.thing q.thing right.threads_apart h.two (thread_at p h.first e)
+          (thread_at q h.second (sym h.same_list ∙ e))
+
+  pub far_denied : (n : Neighbours) → AreFar s n → Placing → ⊥
+  far_denied n h right =
+      let d = placed_view n.first in
+      h.wrong
+      (subst (IsNear (placed_view n.first)) (get_or_from_slice_get (ordered_sections s) n.second_number (placed_view n.second) d h.second)
+      (subst (λ (q : Placed). IsNear q (get_or (ordered_sections s) n.second_number d))
+      (get_or_from_slice_get (ordered_sections s) n.first_number (placed_view n.first) d h.first)
+      (right.near n.first_number n.second_number d (h.next d))))
+
+  -- C6
+  abbrev Righted : Type 0
+  Righted = HasRights s.plan.base (loads s.image) (things_of s) (got_things s.map.got)
+
+  got_at :
+      (got : Option GotLine) (rest : List Thing) (h t : Thing) (n : ℕ) (P : Thing → Type 0) → n ≡ 1 → IsSome got →
+      slice_get (h ∷ (got_things got ++ rest)) n ≡ Some t → All P (got_things got) → P t
+  got_at None rest h t n P one some there all = absurd (false≢true some)
+  got_at (Some g) rest h t n P one some there all =
+      let first : got_things (Some g) ≡ got_things (Some g) = refl in
+      let x : Thing = record { at = g.address; size = g.size; align = 8; rights = 6; in_file = true } in
+      let is : Some x ≡ Some t = ap (λ (k : ℕ). slice_get (h ∷ (got_things (Some g) ++ rest)) k) (sym one) ∙ there in
+      subst P (same_Some x t is) (at_number P (got_things (Some g)) 0 x all refl)
+
+  pub unheld_denied : (p : Part) (segment : Option ProgramHeader) → IsUnheld s p segment → Righted → ⊥
+  unheld_denied p segment h right = ⊎_elim nonempty got h.must_lie
+    where
+      nonempty : 0 < p.thing.size → ⊥
+      nonempty some =
+          h.wrong
+          (at_number (λ (t : Thing). 0 < t.size → LiesInSegment (loads s.image) t) (things_of s) p.number p.thing right.nonempty
+          (thing_at p h.part h.thing) some)
+
+      got : p.name ≡ part_name.Got → ⊥
+      got e =
+          let named = subst (IsNamed s p.number) e h.part.named in
+          h.wrong
+          (got_at s.map.got (map thing_of (placed_of s)) (headers_thing s.image) p.thing p.number (LiesInSegment (loads s.image)) named.0 named.1
+          (thing_at p h.part h.thing) right.got)
+
+  pub first_denied : (address base : ℕ) → IsWrongFirst s address base → Righted → ⊥
+  first_denied address base h right = h.wrong (h.is_address ∙ (right.first ∙ sym h.is_base))
+
+  -- C13
+  pub line_denied : (p : SymbolLinePlace) → IsMap s.map → IsWrongLine s p → AreSymbolsListed s → ⊥
+  line_denied p is_map h right =
+      h.wrong
+      (at_number (IsLine (objects_of s) (where_of s)) s.map.symbols p.number (symbol_row p.line.now)
+      (each_line (objects_of s) (where_of s) s.map.symbols is_map.ordered.symbols right.lines) h.line)
+
+  pub missing_denied : (name : List ℕ) (p : MeaningPlace) → LacksLine s name p → AreSymbolsListed s → ⊥
+  missing_denied name p h right =
+      none-some (symbol_row_of (where_of s) (meaning_view p.meaning))
+      (sym h.none ∙ (right.lines name ∙ ap (option_map (symbol_row_of (where_of s))) h.meant.meaning))
+
+  -- C14
+  held_at : {A B : Type 0} (o : Option SymtabLine) (v : SymtabLine → A) (x : A) → option_map v o ≡ Some x → IfSome o (HoldsTables s) →
+      ((l : SymtabLine) → HoldsTables s l → v l ≡ x → B) → B
+  held_at None v x e h f = absurd (none-some x e)
+  held_at (Some l) v x e h f = f l h (same_Some (v l) x e)
+
+  some_held : {B : Type 0} (o : Option SymtabLine) → IsSome o → IfSome o (HoldsTables s) → ((l : SymtabLine) → HoldsTables s l → B) → B
+  some_held None some h f = absurd (false≢true some)
+  some_held (Some l) some h f = f l h
+
+  pub table_denied : (p : TablePlace) → FailsInTable s p → AreTablesRight s → ⊥
+  table_denied (table.Told line) h right = h.wrong (ap is_some h.is_line ∙ right.asked h.version)
+  table_denied (table.Sections offset count names) h right = h.wrong (right.none h.untold)
+  table_denied (table.Offset told wanted) h right =
+      held_at s.map.symtab (λ l. l.offset) told h.is_told right.held (λ l t e. h.wrong (sym e ∙ (t.offset ∙ sym h.is_wanted)))
+  table_denied (table.Count told wanted) h right =
+      held_at s.map.symtab (λ l. l.count) told h.is_told right.held (λ l t e. h.wrong (sym e ∙ (t.count ∙ sym h.is_wanted)))
+  table_denied (table.Numbers count names) h right =
+      some_held s.map.symtab h.told right.held (λ l t. h.wrong (h.is_count ∙ t.headers_count, h.is_names ∙ t.names_section))
+  table_denied (table.Headers offset wanted) h right =
+      some_held s.map.symtab h.told right.held (λ l t. h.wrong (h.is_offset ∙ (t.headers_offset ∙ sym h.is_wanted)))
+  table_denied (table.Byte b) h right =
+      some_held s.map.symtab h.told right.held
+      (λ l t. h.wrong (sym h.is_there ∙ (ap (λ (xs : List ℕ). slice_get xs b.number) t.bytes ∙ h.is_wanted)))
+
+-- each place denies its clause
+pub denies : (s : Subject) (p : CheckPlace) → IsMap s.map → FailsIn s p → Holds (clause_of p) s → ⊥
+denies s (place.ObjectLine p) is_map h right = object_denied s p h right
+denies s (place.DropLine p) is_map h right = drop_denied s p h right
+denies s (place.PlaceLine p) is_map h right = place_denied s p h right
+denies s (place.CommonLine p) is_map h right = common_denied s p h right
+denies s (place.Unaligned p) is_map h right = unaligned_denied s p h right
+denies s (place.Outside p base) is_map h right = outside_denied s p base h right
+denies s (place.Shared p q) is_map h right = shared_denied s p q h right
+denies s (place.Far n) is_map h right = far_denied s n h right
+denies s (place.Unheld p segment) is_map h right = unheld_denied s p segment h right
+denies s (place.First address base) is_map h right = first_denied s address base h right
+denies s (place.Memory p) is_map h right = denied s p h right
+denies s (place.Entry p) is_map h right = h.wrong right
+denies s (place.SymbolLine p) is_map h right = line_denied s p is_map h right
+denies s (place.NoSymbolLine name p) is_map h right = missing_denied s name.now p h right
+denies s (place.Table p) is_map h right = table_denied s p h right
