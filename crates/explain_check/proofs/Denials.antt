@@ -19,8 +19,7 @@ use Rattle.check_link.specs.Views.{meaning_view, placed_view}
 use Rattle.check_link.proofs.Padded.{below_or_not}
 use Rattle.checker.specs.Listed.{IsLine}
 use Rattle.checker.proofs.TableEntries.{each_line}
-use Rattle.explain_check.proofs.AtNumbers.{at_number, pairs_at}
-use Rattle.explain_check.proofs.MemoryDenials.{memory_denied}
+use Rattle.explain_check.proofs.MemoryDenials.{denied}
 use Rattle.explain_check.specs.LinePlaces.{IsWrongCommon, IsWrongDrop, IsWrongObject, IsWrongPlace}
 use Rattle.explain_check.specs.PlacementPlaces.{AreFar, IsOutside, IsPart, IsShared, IsUnaligned, IsUnheld, IsNamed, IsWrongFirst, is_thread_name, list_of, ordered_sections}
 use Rattle.explain_check.specs.SymbolPlaces.{IsWrongLine, LacksLine, is_symbol_row_of, wanted_row}
@@ -40,6 +39,16 @@ use Rattle.explain_check.specs.declared.place.PlaceLinePlace.{PlaceLinePlace}
 use Rattle.explain_check.specs.declared.place.SymbolLinePlace.{SymbolLinePlace}
 use Rattle.explain_check.specs.declared.place.TablePlace.{TablePlace}
 use Rattle.explain_check.specs.declared.place.TablePlace.TheVariants as table
+
+-- what holds of all of a list holds of the one that has a number
+at_number : {X : Type 0} (P : X → Type 0) (xs : List X) (k : ℕ) (x : X) → All P xs → slice_get xs k ≡ Some x → P x
+at_number P xs k x all there = subst P (get_or_from_slice_get xs k x x there) (all k x (slice_get_within xs k x there))
+
+pairs_at :
+    {X : Type 0} (R : X → X → Type 0) (xs : List X) (i j : ℕ) (x y : X) → AllPairs R xs → i < j → slice_get xs i ≡ Some x → slice_get xs j ≡ Some y → R x y
+pairs_at R xs i j x y all low a b =
+    subst (R x) (get_or_from_slice_get xs j y x b)
+    (subst (λ z. R z (get_or xs j x)) (get_or_from_slice_get xs i x x a) (all i j x low (slice_get_within xs j y b)))
 
 module _ (s : Subject) where
   -- C2, C3
@@ -200,7 +209,7 @@ denies s (place.Shared p q) is_map h right = shared_denied s p q h right
 denies s (place.Far n) is_map h right = far_denied s n h right
 denies s (place.Unheld p segment) is_map h right = unheld_denied s p segment h right
 denies s (place.First address base) is_map h right = first_denied s address base h right
-denies s (place.Memory p) is_map h right = memory_denied s p h right
+denies s (place.Memory p) is_map h right = denied s p h right
 denies s (place.Entry p) is_map h right = h.wrong right
 denies s (place.SymbolLine p) is_map h right = line_denied s p is_map h right
 denies s (place.NoSymbolLine name p) is_map h right = missing_denied s name.now p h right

@@ -1,4 +1,3 @@
-pub mod AtNumbers
 pub mod Denials
 pub mod FarSections
 pub mod KeptPlaces

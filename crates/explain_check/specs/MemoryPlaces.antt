@@ -34,7 +34,7 @@ IsWrongMemory s (place.FileEnd p end) = IsWrongFileEnd s p end
 IsWrongMemory s (place.Gap i byte) = IsWrongGap s.image i byte
 IsWrongMemory s (place.Length len end) = IsWrongLength s len end
 
--- the clause that fails at a place
+-- the clause that fails at a place of memory
 abbrev pub memory_clause : MemoryPlace → Clause
 memory_clause (place.Got there) = C7
 memory_clause (place.UnaskedSlot k q) = C7

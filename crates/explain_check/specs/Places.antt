@@ -6,8 +6,8 @@ use Rattle.elf_model.specs.MapRecord.{MapRecord}
 use Rattle.elf_model.specs.RightLink.{IsRead, Subject}
 use Rattle.elf_model.specs.declared.verdict.Clause.{Clause}
 use Rattle.elf_model.specs.declared.verdict.Clause.TheVariants.{C2, C3, C5, C6, C12, C13, C14}
-use Rattle.explain_check.specs.MemoryPlaces.{IsWrongMemory, memory_clause}
 use Rattle.explain_check.specs.LinePlaces.{IsWrongCommon, IsWrongDrop, IsWrongObject, IsWrongPlace}
+use Rattle.explain_check.specs.MemoryPlaces.{IsWrongMemory, memory_clause}
 use Rattle.explain_check.specs.PlacementPlaces.{AreFar, IsOutside, IsShared, IsUnaligned, IsUnheld, IsWrongFirst}
 use Rattle.explain_check.specs.SymbolPlaces.{IsWrongEntry, IsWrongLine, LacksLine}
 use Rattle.explain_check.specs.TablePlaces.{FailsInTable}

@@ -2,6 +2,7 @@
 
 mod added;
 pub mod bytes;
+pub mod clause;
 mod fields;
 pub mod file;
 mod fill;
