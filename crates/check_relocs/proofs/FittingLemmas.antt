@@ -128,7 +128,7 @@ module _ (b : Bound) (n : ℕ) (o : LoadedObject) (to : Relocated) (g : LinkTerm
       ap (λ (y : Terms). modulo_64 (whole_value k.formula y)) terms_are
       ∙ reduced k.formula x (pointer_of (block_in b.places)) t.value ((to.address + e.r_offset) % 2 ^ 64) g.thread_pointer refl means.value place_is pointer
 
-  value_is : value_with (kind_of (rela_type e)) t to g e ≡ value_of b.objects b.places r
+  pub value_is : value_with (kind_of (rela_type e)) t to g e ≡ value_of b.objects b.places r
   value_is = value_by (kind_of (rela_type e))
 
   made : ℕ → Field

@@ -37,7 +37,7 @@ fn is_frames(object: &Object<'_>, number: usize) -> bool
 }
 
 /// What the entries relocate whose section names the section `target` of the object that has a number.
-fn relocated(
+pub fn relocated(
     bindings: &Bindings<'_, '_, '_>,
     number: u64,
     object: &Object<'_>,

@@ -41,7 +41,7 @@ pub struct LinkTerms {
 }
 
 /// Whether a formula doesn't suit a symbol that stands in thread-local storage, or one that doesn't.
-fn is_mismatch(formula: Formula, thread_local: bool) -> bool
+pub fn is_mismatch(formula: Formula, thread_local: bool) -> bool
     ensures { IsTrue result ↔ IsMismatch (formula_view formula) thread_local }
 {
     match formula {
@@ -58,7 +58,7 @@ fn is_mismatch(formula: Formula, thread_local: bool) -> bool
 
 /// Whether entries refer to what isn't kept: they name a LOCAL symbol of a section that isn't, and aren't those of
 /// `.eh_frame`, which may name one of a dropped section.
-fn refers_to_dropped(target: &Target, to: &Relocated) -> bool
+pub fn refers_to_dropped(target: &Target, to: &Relocated) -> bool
     ensures { result ≡ refers_to_dropped target.now to.now }
 {
     if to.frames && target.dropped {
@@ -135,7 +135,7 @@ fn slot_address<'a>(
 }
 
 /// What the GOT and the block of thread-local storage give the value of an entry.
-fn link_terms<'a>(
+pub fn link_terms<'a>(
     bindings: &Bindings<'_, '_, 'a>,
     number: u64,
     loaded: &Loaded<'a>,

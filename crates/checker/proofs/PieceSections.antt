@@ -118,6 +118,15 @@ module _ (s : Subject) (rows : List (Vec Field)) (are : AreRows (objects_of s) (
       ∙ (sym (ap (byte_or_field (objects_of s) (where_of s) p k) (no_relocation (objects_of s) p.section k))
       ∙ sym (ap (λ (n : ℕ). byte_or_field (objects_of s) (where_of s) p k (find (is_in_field n p.section k) (relocations (objects_of s)))) block.object)))
 
+  -- so is it for the placed piece that has a number
+  pub wanted_at :
+      (i : ℕ) (q : placement.Placed) → slice_get (placed_of s) i ≡ Some q → (k : ℕ) →
+      byte_of q.piece.bytes k (find (covers k) (fields_in rows q.piece.object q.piece.section)) ≡ wanted_byte (objects_of s) (where_of s) q.piece k
+  wanted_at i q there k =
+      wanted_is q.piece k
+      (subst (λ (x : placement.Placed). IsThere (objects_of s) x.piece) (get_or_from_slice_get (placed_of s) i q q there)
+      (placed_there s i q (within (placed_of s) i q there)))
+
   inside_of : (p : pieces.Piece) → IsThere (objects_of s) p → All (FitsIn p.size) (fields_in rows p.object p.section)
   inside_of p (inl of) = fields_inside (objects_of s) (where_of s) rows are p.object p.section p.size of.there of.size
   inside_of p (inr block) =

@@ -21,11 +21,11 @@ use Rattle.elf_model.proofs.SameRequests.{requests_equal, same_itself, same_sym}
 use Rattle.check_link.proofs.SameRequest.{tied, view_of_key}
 
 -- how many slots a request has
-count : Request → List SlotRow → ℕ
+unfoldable pub count : Request → List SlotRow → ℕ
 count q [] = 0
 count q (row ∷ rows) = cond (is_slot_of q row) (1 + count q rows) (count q rows)
 
-count_is : (q : Request) (rows : List SlotRow) → count q rows ≡ count_by (is_slot_of q) rows
+pub count_is : (q : Request) (rows : List SlotRow) → count q rows ≡ count_by (is_slot_of q) rows
 unfolding count
 count_is q rows = is_count_by (count q) (is_slot_of q) refl (λ row rest. refl) rows
 
@@ -41,7 +41,7 @@ not_of true e = absurd (false≢true (sym e))
 not_of false e = refl
 
 -- a slot is there where one is counted
-any_counted : (q : Request) (rows : List SlotRow) → any_slot q rows ≡ true → 1 ≤ count q rows
+pub any_counted : (q : Request) (rows : List SlotRow) → any_slot q rows ≡ true → 1 ≤ count q rows
 unfolding count
 any_counted q [] e = absurd (false≢true e)
 any_counted q (row ∷ rows) e = by (is_slot_of q row) e (any_counted q rows)
@@ -50,7 +50,7 @@ any_counted q (row ∷ rows) e = by (is_slot_of q row) e (any_counted q rows)
     by true f rest = omega arith
     by false f rest = rest f
 
-none_counted : (q : Request) (rows : List SlotRow) → any_slot q rows ≡ false → count q rows ≡ 0
+pub none_counted : (q : Request) (rows : List SlotRow) → any_slot q rows ≡ false → count q rows ≡ 0
 unfolding count
 none_counted q [] e = refl
 none_counted q (row ∷ rows) e = by (is_slot_of q row) e (none_counted q rows)

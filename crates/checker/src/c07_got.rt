@@ -19,6 +19,8 @@ use std::collections::HashSet;
 
 mod got_bytes;
 
+pub use got_bytes::wanted_bytes;
+
 /// Whether the seventh clause holds of a link: the GOT stands exactly where a relocation asks for one, with one slot for
 /// each request of a relocation and no other, and memory holds it.
 pub fn holds(alloc: Global, bound: &BoundLink<'_, '_>) -> Result<bool, AllocError>

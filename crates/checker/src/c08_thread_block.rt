@@ -29,7 +29,7 @@ pub fn holds(bound: &BoundLink<'_, '_>) -> bool
 }
 
 /// The PT_TLS header of the block of placed pieces, in an image that begins at the base.
-fn header_of(base: u64, placed: &[Placed<'_>], block: &TlsBlock) -> ProgramHeader
+pub fn header_of(base: u64, placed: &[Placed<'_>], block: &TlsBlock) -> ProgramHeader
     requires { AreInLimit (placed_views placed.now) }
     ensures { result ≡ thread_header base (placed_views placed.now) block.now }
 {
@@ -63,7 +63,7 @@ fn are_only(headers: &[ProgramHeader], wanted: &ProgramHeader) -> bool
 }
 
 /// Whether PT_TLS headers are those that the placed pieces ask for: one where there are thread-local ones, else none.
-fn are_headers_right(headers: &[ProgramHeader], base: u64, placed: &[Placed<'_>]) -> bool
+pub fn are_headers_right(headers: &[ProgramHeader], base: u64, placed: &[Placed<'_>]) -> bool
     requires { AreInLimit (placed_views placed.now) }
     ensures { IsTrue result ↔ (headers.now ≡ thread_headers base (placed_views placed.now)) }
 {
@@ -88,7 +88,7 @@ fn begin_after(end: u64, placed: &[Placed<'_>]) -> bool
 }
 
 /// Whether a thing has no address from `start` on and below `end`.
-fn is_clear_of(start: u64, end: u64, thing: &Thing) -> bool
+pub fn is_clear_of(start: u64, end: u64, thing: &Thing) -> bool
     requires { EndFits thing.now }
     ensures { IsTrue result ↔ IsClearOf start end thing.now }
 {
@@ -163,7 +163,7 @@ fn are_clear_to(
 }
 
 /// Whether one PT_LOAD holds all initial bytes of a block, if there are any.
-fn holds_initial(memory: &Memory<'_>, header: &ProgramHeader) -> bool
+pub fn holds_initial(memory: &Memory<'_>, header: &ProgramHeader) -> bool
     ensures { IsTrue result ↔ HoldsInitial (loads memory.now) header.now }
 {
     if header.p_filesz == 0 {

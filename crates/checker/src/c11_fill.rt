@@ -22,6 +22,9 @@ mod ends;
 mod region;
 mod stretches;
 
+pub use ends::{ends_right, is_of_segment};
+pub use stretches::begun_between;
+
 /// Whether the eleventh clause holds of a link.
 pub fn holds(alloc: Global, bound: &BoundLink<'_, '_>) -> Result<bool, AllocError>
     requires { HoldsBefore clause.C11 bound.now }

@@ -27,4 +27,5 @@ pub use bound_link::BoundLink;
 pub use elf_model::{Clause, Verdict};
 pub use loaded_link::LoadedLink;
 pub use placed_link::PlacedLink;
+pub use sorted_things::by_address;
 pub use verdict::check;

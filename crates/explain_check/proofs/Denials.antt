@@ -19,6 +19,7 @@ use Rattle.check_link.specs.Views.{meaning_view, placed_view}
 use Rattle.check_link.proofs.Padded.{below_or_not}
 use Rattle.checker.specs.Listed.{IsLine}
 use Rattle.checker.proofs.TableEntries.{each_line}
+use Rattle.explain_check.proofs.MemoryDenials.{denied}
 use Rattle.explain_check.specs.LinePlaces.{IsWrongCommon, IsWrongDrop, IsWrongObject, IsWrongPlace}
 use Rattle.explain_check.specs.PlacementPlaces.{AreFar, IsOutside, IsPart, IsShared, IsUnaligned, IsUnheld, IsNamed, IsWrongFirst, is_thread_name, list_of, ordered_sections}
 use Rattle.explain_check.specs.SymbolPlaces.{IsWrongLine, LacksLine, is_symbol_row_of, wanted_row}
@@ -208,6 +209,7 @@ denies s (place.Shared p q) is_map h right = shared_denied s p q h right
 denies s (place.Far n) is_map h right = far_denied s n h right
 denies s (place.Unheld p segment) is_map h right = unheld_denied s p segment h right
 denies s (place.First address base) is_map h right = first_denied s address base h right
+denies s (place.Memory p) is_map h right = denied s p h right
 denies s (place.Entry p) is_map h right = h.wrong right
 denies s (place.SymbolLine p) is_map h right = line_denied s p is_map h right
 denies s (place.NoSymbolLine name p) is_map h right = missing_denied s name.now p h right

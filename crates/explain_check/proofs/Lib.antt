@@ -1,5 +1,11 @@
 pub mod Denials
 pub mod FarSections
+pub mod KeptPlaces
+pub mod MemoryDenials
 pub mod ObjectLines
 pub mod Reading
+pub mod SegmentEnds
 pub mod TableBuilding
+pub mod WrongBytes
+pub mod WrongRelocations
+pub mod WrongSlots

@@ -1,5 +1,13 @@
+pub mod BytePlaces
+pub mod FillPlaces
+pub mod GotPlaces
 pub mod LinePlaces
+pub mod MemoryPlaces
+pub mod Parts
 pub mod PlacementPlaces
 pub mod Places
+pub mod RelocationPlaces
 pub mod SymbolPlaces
 pub mod TablePlaces
+pub mod ThreadPlaces
+pub mod WrongEntries

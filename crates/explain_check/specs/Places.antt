@@ -7,6 +7,7 @@ use Rattle.elf_model.specs.RightLink.{IsRead, Subject}
 use Rattle.elf_model.specs.declared.verdict.Clause.{Clause}
 use Rattle.elf_model.specs.declared.verdict.Clause.TheVariants.{C2, C3, C5, C6, C12, C13, C14}
 use Rattle.explain_check.specs.LinePlaces.{IsWrongCommon, IsWrongDrop, IsWrongObject, IsWrongPlace}
+use Rattle.explain_check.specs.MemoryPlaces.{IsWrongMemory, memory_clause}
 use Rattle.explain_check.specs.PlacementPlaces.{AreFar, IsOutside, IsShared, IsUnaligned, IsUnheld, IsWrongFirst}
 use Rattle.explain_check.specs.SymbolPlaces.{IsWrongEntry, IsWrongLine, LacksLine}
 use Rattle.explain_check.specs.TablePlaces.{FailsInTable}
@@ -24,6 +25,7 @@ FailsIn s (place.Shared p q) = IsShared s p q
 FailsIn s (place.Far n) = AreFar s n
 FailsIn s (place.Unheld p segment) = IsUnheld s p segment
 FailsIn s (place.First address base) = IsWrongFirst s address base
+FailsIn s (place.Memory p) = IsWrongMemory s p
 FailsIn s (place.Entry p) = IsWrongEntry s p
 FailsIn s (place.SymbolLine p) = IsWrongLine s p
 FailsIn s (place.NoSymbolLine name p) = LacksLine s name.now p
@@ -41,6 +43,7 @@ clause_of (place.Shared p q) = C5
 clause_of (place.Far n) = C5
 clause_of (place.Unheld p segment) = C6
 clause_of (place.First address base) = C6
+clause_of (place.Memory p) = memory_clause p
 clause_of (place.Entry p) = C12
 clause_of (place.SymbolLine p) = C13
 clause_of (place.NoSymbolLine name p) = C13

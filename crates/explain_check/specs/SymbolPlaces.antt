@@ -60,7 +60,9 @@ IsSymbolIndex rows index = (name : List ℕ) → symbol_in index name ≡ find (
 abbrev pub IsEntryMeaning : List LoadedObject → Where → List ℕ → Option MeaningPlace → Type 0
 IsEntryMeaning objects w name None = ¬ (IsEntry objects name × IsSome (object_meaning objects name))
 IsEntryMeaning objects w name (Some p) =
-    (object_meaning objects name ≡ Some (meaning_view p.meaning)) × (p.value ≡ meaning_value w (meaning_view p.meaning) % 2 ^ 64)
+    IsEntry objects name
+    × (object_meaning objects name ≡ Some (meaning_view p.meaning))
+    × (p.value ≡ meaning_value w (meaning_view p.meaning) % 2 ^ 64)
 
 pub record IsWrongEntry (s : Subject) (p : EntryPlace) : Type 0 where
   pub name : p.name.now ≡ s.plan.entry

@@ -4,6 +4,7 @@ ghost use Rattle.elf_model.specs.MapText.{IsMap};
 ghost use Rattle.elf_model.specs.RightLink.{Holds, Subject};
 ghost use Rattle.explain_check.specs.Places.{FailsIn, clause_of};
 
+use crate::memory::clause::memory_clause;
 use crate::place::CheckPlace;
 use elf_model::Clause;
 
@@ -21,6 +22,7 @@ fn kind_of(place: &CheckPlace<'_>) -> Clause
         | CheckPlace::Shared(_, _)
         | CheckPlace::Far(_) => Clause::C5,
         CheckPlace::Unheld(_, _) | CheckPlace::First(_, _) => Clause::C6,
+        CheckPlace::Memory(place) => memory_clause(place),
         CheckPlace::Entry(_) => Clause::C12,
         CheckPlace::SymbolLine(_) | CheckPlace::NoSymbolLine(_, _) => Clause::C13,
         CheckPlace::Table(_) => Clause::C14,

@@ -48,6 +48,18 @@ impl<'a> Found<'a> {
         }
     }
 
+    /// Whether as many places are kept as may be.
+    pub fn is_full(&self) -> bool {
+        self.places.len() >= self.most
+    }
+
+    /// Counts a place that isn't kept.
+    pub fn count(&mut self)
+        ensures { self.new.places ≡ self.old.places }
+    {
+        self.more = self.more.saturating_add(1);
+    }
+
     /// The places that are kept, in the order in which they were found.
     pub fn places(&self) -> &[CheckPlace<'a>]
         ensures { result.now ≡ self.now.places.items }

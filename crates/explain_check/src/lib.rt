@@ -10,6 +10,8 @@ mod found;
 mod line_index;
 mod lists;
 mod map_text;
+mod memory;
+mod memory_place;
 mod named_parts;
 mod object_lines;
 mod place;
@@ -25,6 +27,9 @@ mod text;
 
 pub use clause::clause_of;
 pub use found::Found;
+pub use memory_place::{
+    BytePlace, FillPlace, GotBytePlace, MemoryPlace, RelocationFault, RelocationPlace, SegmentPlace,
+};
 pub use place::{
     CheckPlace, CommonLinePlace, DropLinePlace, EntryPlace, MeaningPlace, Neighbours, ObjectAt,
     ObjectLinePlace, Part, PartName, PlaceLinePlace, SymbolLinePlace, TableByte, TableEntry,

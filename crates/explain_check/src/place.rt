@@ -1,5 +1,6 @@
 //! The places at which a clause fails.
 
+use crate::memory_place::MemoryPlace;
 use check_link::{Block, Meaning, Piece, Placed};
 use elf_model::{
     CommonLine, DropLine, ObjectLine, PlaceLine, ProgramHeader, SymbolLine, SymtabLine, Thing,
@@ -160,6 +161,8 @@ pub enum CheckPlace<'a> {
     Unheld(Part<'a>, Option<ProgramHeader>),
     /// C6: the address of the first segment, which isn't the base, the second number.
     First(u64, u64),
+    /// C7 to C11: a place of the image's memory, or of what relocations want there.
+    Memory(MemoryPlace<'a>),
     /// C12: the entry has no lawful definition, or `e_entry` is another than its value.
     Entry(EntryPlace<'a>),
     /// C13: a symbol line that is another one than its name asks for.

@@ -8,6 +8,11 @@ ghost use Rattle.explain_check.specs.Places.{AreFailures, FailsAt};
 use crate::common_lines::add_c3;
 use crate::entry::add_c12;
 use crate::found::Found;
+use crate::memory::bytes::add_c10;
+use crate::memory::file::add_c11;
+use crate::memory::got::add_c7;
+use crate::memory::relocations::add_c9;
+use crate::memory::thread_block::add_c8;
 use crate::object_lines::add_object_lines;
 use crate::placement::add_c5;
 use crate::rights::add_c6;
@@ -104,10 +109,10 @@ fn add_bound<'a>(
     ensures { OnOk result (AreFailures bound.now found.new.places.items) }
 {
     if !c07_got::holds(alloc, bound)? {
-        return Ok(());
+        return add_c7(alloc, found, bound);
     }
     if !c08_thread_block::holds(bound) {
-        return Ok(());
+        return add_c8(found, bound);
     }
     add_relocated(alloc, found, bound)
 }
@@ -123,10 +128,10 @@ fn add_relocated<'a>(
     ensures { OnOk result (AreFailures bound.now found.new.places.items) }
 {
     let Some(rows) = c09_relocations::rows(alloc, bound)? else {
-        return Ok(());
+        return add_c9(alloc, found, bound);
     };
     if !c10_bytes::holds(bound, &rows) {
-        return Ok(());
+        return add_c10(found, bound, &rows);
     }
     add_filled(alloc, found, bound)
 }
@@ -142,7 +147,7 @@ fn add_filled<'a>(
     ensures { OnOk result (AreFailures bound.now found.new.places.items) }
 {
     if !c11_fill::holds(alloc, bound)? {
-        return Ok(());
+        return add_c11(alloc, found, bound);
     }
     add_symbols(alloc, found, bound)
 }

@@ -4,6 +4,7 @@ use crate::map_text::{
     write_common_line, write_drop_line, write_missing_line, write_object_line, write_place_line,
     write_symbol_line,
 };
+use crate::memory::text::write_memory_place;
 use crate::place::{CheckPlace, EntryPlace, Neighbours, Part, PartName};
 use crate::table_text::write_table;
 use check_link::{Link, Piece, Placed};
@@ -91,7 +92,7 @@ fn write_far<W: Write>(out: &mut W, link: &Link<'_>, far: &Neighbours<'_>) -> io
 }
 
 /// The rights that a sum of flags gives, as readelf shows them.
-fn rights_text(rights: u64) -> &'static str {
+pub fn rights_text(rights: u64) -> &'static str {
     match rights {
         4 => "R",
         5 => "R E",
@@ -170,6 +171,7 @@ pub fn write_check_place<W: Write>(
         CheckPlace::Entry(place) => write_entry(out, place),
         CheckPlace::SymbolLine(place) => write_symbol_line(out, link, place),
         CheckPlace::NoSymbolLine(name, wanted) => write_missing_line(out, name, wanted),
+        CheckPlace::Memory(place) => write_memory_place(out, link, place),
         CheckPlace::Table(place) => write_table(out, place),
         _ => write_placement(out, link, place),
     }

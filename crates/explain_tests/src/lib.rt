@@ -4,4 +4,6 @@
 #[cfg(test)]
 mod check_places;
 #[cfg(test)]
+mod memory_places;
+#[cfg(test)]
 mod refused_links;

@@ -49,7 +49,7 @@ fn slot_value(bindings: &Bindings<'_, '_, '_>, line: &SlotLine) -> u64
 }
 
 /// The bytes of a GOT that has the lines' slots.
-fn wanted_bytes(
+pub fn wanted_bytes(
     alloc: Global,
     bindings: &Bindings<'_, '_, '_>,
     lines: &[SlotLine],

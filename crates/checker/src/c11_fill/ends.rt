@@ -6,7 +6,8 @@ ghost use Rattle.elf_model.specs.RightLink.{EndsRight, IsOfSegment};
 use crate::c11_fill::stretches::begun_between;
 use elf_model::{ProgramHeader, SymtabLine, Thing};
 
-fn is_of_segment(segment: &ProgramHeader, thing: &Thing) -> bool
+/// Whether a thing is a nonempty one of a segment.
+pub fn is_of_segment(segment: &ProgramHeader, thing: &Thing) -> bool
     ensures { IsTrue result ↔ IsOfSegment segment.now thing.now }
 {
     if thing.size == 0 || thing.at < segment.p_vaddr || thing.size > segment.p_memsz {
@@ -46,7 +47,7 @@ fn ends_file(segment: &ProgramHeader, thing: &Thing) -> bool
 }
 
 /// Whether a segment ends as the things in it do.
-fn ends_right(things: &[Thing], segment: &ProgramHeader) -> bool
+pub fn ends_right(things: &[Thing], segment: &ProgramHeader) -> bool
     ensures { IsTrue result ↔ EndsRight things.now segment.now }
 {
     if !things.iter().any(|t| ends_memory(segment, t)) {

@@ -1,0 +1,28 @@
+-- What a place of a piece's byte says of a link.
+use Rattle.std.specs.Prelude.{◌≡◌, ℕ, ◌+◌, ◌<◌, true, List, Some, IfSome}
+use Rattle.std.specs.List.{slice_get}
+use Rattle.elf_model.specs.Loading.{LoadedObject}
+use Rattle.elf_model.specs.Pieces.{load_size}
+use Rattle.elf_model.specs.Relocation.{Relocation, is_in_field}
+use Rattle.elf_model.specs.RightLink.{Subject, byte_at, objects_of, placed_of, where_of}
+use Rattle.elf_model.specs.WantedBytes.{wanted_byte}
+use Rattle.check_link.specs.Views.{placed_view}
+use Rattle.explain_check.specs.RelocationPlaces.{IsRelocationAt}
+use Rattle.explain_check.specs.declared.memory_place.BytePlace.{BytePlace}
+use Rattle.explain_check.specs.declared.memory_place.RelocationPlace.{RelocationPlace}
+
+-- C10. Memory doesn't have the wanted byte at a place of a piece, which lies in a relocation's field if one is told.
+pub record IsFieldOver (objects : List LoadedObject) (object section k : ℕ) (p : RelocationPlace) : Type 0 where
+  pub r : Relocation
+  pub at : IsRelocationAt objects p r
+  pub over : is_in_field object section k r ≡ true
+
+pub record IsWrongByte (s : Subject) (p : BytePlace) : Type 0 where
+  pub piece : slice_get (placed_of s) p.number ≡ Some (placed_view p.piece)
+  pub below : p.offset < load_size (placed_view p.piece).piece
+  pub there : p.there ≡ byte_at s.image (p.piece.at + p.offset)
+  pub wanted : p.wanted ≡ wanted_byte (objects_of s) (where_of s) (placed_view p.piece).piece p.offset
+  pub wrong :
+      ¬ (byte_at s.image (p.piece.at + p.offset)
+      ≡ Some (wanted_byte (objects_of s) (where_of s) (placed_view p.piece).piece p.offset))
+  pub field : IfSome p.relocation (IsFieldOver (objects_of s) p.piece.piece.object p.piece.piece.section p.offset)

@@ -1,0 +1,16 @@
+//! Where an image's memory, or what relocations want of it, is wrong, clause by clause.
+
+mod added;
+pub mod bytes;
+pub mod clause;
+mod fields;
+pub mod file;
+mod fill;
+pub mod got;
+mod relocation_places;
+pub mod relocations;
+mod segments;
+mod slots;
+mod sums;
+pub mod text;
+pub mod thread_block;

@@ -1,0 +1,148 @@
+//! C11: bytes of memory outside of all things that aren't fill, the first of each gap.
+ghost use Rattle.std.specs.Prelude.{◌≡◌, ◌↔◌, All, IfSome, IsTrue, OnOk, Some};
+ghost use Rattle.std.specs.List.Sorted.{IsNonDecreasingBy};
+ghost use Rattle.elf_model.specs.MemoryImage.{memory_of};
+ghost use Rattle.elf_model.specs.Placement.{Covers};
+ghost use Rattle.elf_model.specs.RightLink.{fill_of};
+ghost use Rattle.loader_model.specs.Rights as loader;
+ghost use Rattle.explain_check.specs.Places.{AreFailures, FailsIn};
+
+use crate::found::Found;
+use crate::memory::added::add_memory;
+use crate::memory_place::{FillPlace, MemoryPlace};
+use crate::place::CheckPlace;
+use checker::BoundLink;
+use checker::c11_fill::begun_between;
+use elf_model::{ProgramHeader, Thing};
+use loader_model::{Memory, Rights};
+use std::alloc::AllocError;
+
+/// Whether an address lies in a thing.
+fn covers(thing: &Thing, address: u64) -> bool
+    ensures { IsTrue result ↔ Covers thing.now address }
+{
+    thing.at <= address && address - thing.at < thing.size
+}
+
+/// Whether an address lies in no thing.
+fn is_outside(things: &[Thing], address: u64) -> bool
+    ensures { IsTrue result ↔ All (λ t. ¬ Covers t address) things.now }
+{
+    things.iter().all(|t| !covers(t, address))
+}
+
+/// Rights as the sum of X 1, W 2 and R 4.
+fn rights_sum(rights: Rights) -> u64
+    ensures { result ≡ loader.rights_sum rights }
+{
+    match rights {
+        Rights::Read => 4,
+        Rights::ReadExecute => 5,
+        Rights::ReadWrite => 6,
+    }
+}
+
+/// The byte that fills memory of these rights.
+fn fill_of(rights: u64) -> u8
+    ensures { result ≡ fill_of rights }
+{
+    if rights == 5 { 0x90 } else { 0 }
+}
+
+/// What memory has at an address: a byte and its rights.
+fn cell_at(memory: &Memory<'_>, address: u64) -> Option<(u8, u64)>
+    ensures { IfSome result (λ c. memory_of memory.now address ≡ Some (record { byte = c.0; rights = c.1 })) }
+{
+    let byte = memory.byte(address)?;
+    let rights = memory.rights(address)?;
+    Some((byte, rights_sum(rights)))
+}
+
+/// An address that is mapped and lies in no thing, where its byte isn't fill.
+fn wrong_fill<'a>(bound: &BoundLink<'_, 'a>, address: u64) -> Option<MemoryPlace<'a>>
+    ensures { IfSome result (λ p. FailsIn bound.now (CheckPlace.Memory p)) }
+{
+    let cell = cell_at(bound.memory(), address)?;
+    let wanted = fill_of(cell.1);
+    if cell.0 == wanted {
+        return None;
+    }
+    if !is_outside(bound.things(), address) {
+        return None;
+    }
+    Some(MemoryPlace::Fill(FillPlace {
+        address,
+        byte: cell.0,
+        rights: cell.1,
+        wanted,
+    }))
+}
+
+/// The first address from one on and below another, all of one segment, whose byte isn't fill.
+fn first_unfilled(memory: &Memory<'_>, from: u64, to: u64, fill: u8) -> Option<u64> {
+    let run = memory.run(from, to.checked_sub(from)?)?;
+    match run.bytes.iter().position(|b| *b != fill) {
+        Some(k) => Some(from.saturating_add(k as u64)),
+        None if run.zeros > 0 && fill != 0 => Some(from.saturating_add(run.bytes.len() as u64)),
+        None => None,
+    }
+}
+
+/// Adds the first byte that isn't fill, from one address on and below another, between the things of a segment.
+fn add_gap<'a>(
+    found: &mut Found<'a>,
+    bound: &BoundLink<'_, 'a>,
+    segment: &ProgramHeader,
+    from: u64,
+    to: u64,
+) -> Result<(), AllocError>
+    requires { AreFailures bound.now found.old.places.items }
+    ensures { OnOk result (AreFailures bound.now found.new.places.items) }
+{
+    let fill = fill_of(segment.p_flags as u64);
+    let Some(address) = first_unfilled(bound.memory(), from, to, fill) else {
+        return Ok(());
+    };
+    if found.is_full() {
+        found.count();
+        return Ok(());
+    }
+    add_memory(found, bound, wrong_fill(bound, address))
+}
+
+/// Adds what isn't fill between the things, which stand by address, of a segment.
+fn add_gaps<'a>(
+    found: &mut Found<'a>,
+    bound: &BoundLink<'_, 'a>,
+    sorted: &[Thing],
+    segment: &ProgramHeader,
+) -> Result<(), AllocError>
+    requires rising { IsNonDecreasingBy (λ t. t.at) sorted.now }
+    requires before { AreFailures bound.now found.old.places.items }
+    ensures { OnOk result (AreFailures bound.now found.new.places.items) }
+{
+    let top = segment.p_vaddr.saturating_add(segment.p_memsz);
+    let mut from = segment.p_vaddr;
+    for thing in begun_between(sorted, segment.p_vaddr, top) {
+        add_gap(found, bound, segment, from, thing.at)?;
+        from = from.max(thing.at.saturating_add(thing.size));
+    }
+    add_gap(found, bound, segment, from, top)
+}
+
+/// Adds the bytes of memory outside of all things that aren't fill, the first of each gap between the things, which stand by
+/// address.
+pub fn add_fill<'a>(
+    found: &mut Found<'a>,
+    bound: &BoundLink<'_, 'a>,
+    sorted: &[Thing],
+) -> Result<(), AllocError>
+    requires rising { IsNonDecreasingBy (λ t. t.at) sorted.now }
+    requires before { AreFailures bound.now found.old.places.items }
+    ensures { OnOk result (AreFailures bound.now found.new.places.items) }
+{
+    for segment in bound.memory().segments() {
+        add_gaps(found, bound, sorted, segment)?;
+    }
+    Ok(())
+}

@@ -1,0 +1,199 @@
+//! C9: kept relocations that aren't lawful, and those whose values don't fit their fields.
+ghost use Rattle.std.specs.Prelude.{◌≡◌, ◌↔◌, ◌+◌, ◌≤◌, IfSome, IsTrue, OnOk, Some, true};
+ghost use Rattle.std.specs.List.{slice_get};
+ghost use Rattle.elf_model.specs.ObjectFile.{sections};
+ghost use Rattle.elf_model.specs.Relocation.{is_kept_rela};
+ghost use Rattle.elf_model.specs.RightLink.{objects_of, where_of};
+ghost use Rattle.check_load.specs.Views.{loaded_view};
+ghost use Rattle.check_relocs.specs.Bindings.{bound_of};
+ghost use Rattle.check_relocs.specs.Kinds.{kind_view};
+ghost use Rattle.check_relocs.specs.LawfulFields as fields;
+ghost use Rattle.explain_check.specs.Places.{AreFailures, FailsIn};
+ghost use Rattle.explain_check.specs.WrongEntries.{IsReferrer, IsWrongWith};
+
+use crate::found::Found;
+use crate::memory::added::add_memory;
+use crate::memory::relocation_places::{entries_of, entry_at, header_at, kept_place, object_at};
+use crate::memory_place::{MemoryPlace, RelocationFault};
+use crate::place::CheckPlace;
+use check_load::Loaded;
+use check_relocs::{
+    Kind, LinkTerms, Relocated, Target, Terms, fits, is_mismatch, is_some_kind, kind_of,
+    link_terms, refers_to_dropped, relocated, target_at, targets_of, value_of,
+};
+use checker::BoundLink;
+use elf_model::{Rela, SectionHeader};
+use std::alloc::{AllocError, Global};
+
+/// An object whose relocations are looked at: its number, and what its symbols mean to them.
+#[derive(Clone, Copy)]
+pub struct Referrer<'r, 'a> {
+    pub number: usize,
+    pub one: &'r Loaded<'a>,
+    pub targets: &'r [Target],
+}
+
+/// Whether a field of a width at an offset is inside so many bytes.
+fn is_inside(offset: u64, width: u8, size: u64) -> bool
+    ensures { IsTrue result ↔ (offset + width ≤ size) }
+{
+    offset <= size && width as u64 <= size - offset
+}
+
+/// What is wrong with an entry of a kind, but for its value.
+fn fault_with(kind: &Kind, target: &Target, to: &Relocated, entry: &Rela) -> Option<RelocationFault>
+    ensures { IfSome result (IsWrongWith (Some (kind_view kind.now)) target.now to.now entry.now) }
+{
+    if target.undefined {
+        return Some(RelocationFault::Undefined);
+    }
+    if refers_to_dropped(target, to) {
+        return Some(RelocationFault::RefToDropped);
+    }
+    if is_mismatch(kind.formula, target.thread_local) {
+        return Some(RelocationFault::TlsMismatch);
+    }
+    if target.mixed {
+        return Some(RelocationFault::MixedSection);
+    }
+    if !is_inside(entry.r_offset, kind.width, to.size) {
+        return Some(RelocationFault::FieldOutside);
+    }
+    None
+}
+
+/// The value of an entry of a kind, modulo 2^64.
+fn value_with(kind: &Kind, target: &Target, to: &Relocated, given: &LinkTerms, entry: &Rela) -> u64
+    ensures { result ≡ fields.value_with (Some (kind_view kind.now)) target.now to.now given.now entry.now }
+{
+    let terms = Terms {
+        symbol: target.value,
+        place: to.address.wrapping_add(entry.r_offset),
+        slot: given.slot,
+        got: given.got,
+        size: target.size,
+        thread_pointer: given.thread_pointer,
+    };
+    value_of(kind.formula, entry.r_addend, terms)
+}
+
+/// What is wrong with entry `e` of RELA section `i`, which has the header, of an object of the link.
+fn wrong_entry<'a>(
+    bound: &BoundLink<'_, 'a>,
+    referrer: &Referrer<'_, 'a>,
+    i: usize,
+    header: &SectionHeader,
+    e: usize,
+) -> Option<MemoryPlace<'a>>
+    requires referrer { IsReferrer (bound_of bound.now) referrer.now }
+    requires there { slice_get (sections (loaded_view referrer.now.one.now).bytes) i ≡ Some header.now }
+    requires kept { is_kept_rela (loaded_view referrer.now.one.now) i header.now ≡ true }
+    requires rela { header.now.sh_type ≡ 4 }
+    ensures { IfSome result (λ p. FailsIn bound.now (CheckPlace.Memory p)) }
+{
+    let bindings = bound.bindings();
+    let one = referrer.one;
+    let number = referrer.number as u64;
+    let entry = entry_at(one, i, header, e)?;
+    if !is_some_kind(&entry) {
+        return None;
+    }
+    let objects = bindings.objects();
+    let place = kept_place(objects, referrer.number, one, i, header, e, &entry);
+    let Some(kind) = kind_of(entry.kind()) else {
+        return Some(MemoryPlace::Relocation(place, RelocationFault::RelocKind));
+    };
+    let to = relocated(bindings, number, &one.object, header.sh_info);
+    let symbol = entry.symbol() as usize;
+    let target = target_at(bindings, referrer.targets, number, one, symbol);
+    let given = link_terms(bindings, number, one, &entry);
+    if let Some(fault) = fault_with(&kind, &target, &to, &entry) {
+        return Some(MemoryPlace::Relocation(place, fault));
+    }
+    let value = value_with(&kind, &target, &to, &given, &entry);
+    if fits(kind.range, kind.width as u64, value) {
+        return None;
+    }
+    let address = to.address.wrapping_add(entry.r_offset);
+    Some(MemoryPlace::Value(place, value, address))
+}
+
+/// Adds what is wrong with the entries of section `i` of an object of the link, where that holds kept relocations.
+fn add_entries<'a>(
+    found: &mut Found<'a>,
+    bound: &BoundLink<'_, 'a>,
+    referrer: &Referrer<'_, 'a>,
+    i: usize,
+) -> Result<(), AllocError>
+    requires referrer { IsReferrer (bound_of bound.now) referrer.now }
+    requires before { AreFailures bound.now found.old.places.items }
+    ensures { OnOk result (AreFailures bound.now found.new.places.items) }
+{
+    let Some(header) = header_at(referrer.one, i) else {
+        return Ok(());
+    };
+    if !referrer.one.is_kept_rela(i, &header) {
+        return Ok(());
+    }
+    let count = entries_of(referrer.one, i, &header).len();
+    for e in 0..count {
+        let wrong = wrong_entry(bound, referrer, i, &header, e);
+        add_memory(found, bound, wrong)?;
+    }
+    Ok(())
+}
+
+/// Adds what is wrong with the relocations of an object of the link.
+fn add_object<'a>(
+    found: &mut Found<'a>,
+    bound: &BoundLink<'_, 'a>,
+    referrer: &Referrer<'_, 'a>,
+) -> Result<(), AllocError>
+    requires referrer { IsReferrer (bound_of bound.now) referrer.now }
+    requires before { AreFailures bound.now found.old.places.items }
+    ensures { OnOk result (AreFailures bound.now found.new.places.items) }
+{
+    for i in 0..referrer.one.object.sections().len() {
+        add_entries(found, bound, referrer, i)?;
+    }
+    Ok(())
+}
+
+/// Adds what is wrong with the relocations of the object that has a number.
+fn add_numbered<'a>(
+    alloc: Global,
+    found: &mut Found<'a>,
+    bound: &BoundLink<'_, 'a>,
+    number: usize,
+) -> Result<(), AllocError>
+    requires before { AreFailures bound.now found.old.places.items }
+    ensures { OnOk result (AreFailures bound.now found.new.places.items) }
+{
+    let bindings = bound.bindings();
+    let Some(one) = object_at(bindings.objects(), number) else {
+        return Ok(());
+    };
+    let targets = targets_of(alloc, bindings, number as u64, one)?;
+    let referrer = Referrer {
+        number,
+        one,
+        targets: &targets,
+    };
+    add_object(found, bound, &referrer)
+}
+
+/// Adds the kept relocations of a link that aren't lawful or whose values don't fit: where its ninth clause fails, but for
+/// fields that share a byte.
+pub fn add_c9<'a>(
+    alloc: Global,
+    found: &mut Found<'a>,
+    bound: &BoundLink<'_, 'a>,
+) -> Result<(), AllocError>
+    requires { AreFailures bound.now found.old.places.items }
+    ensures { OnOk result (AreFailures bound.now found.new.places.items) }
+{
+    for k in 0..bound.bindings().objects().len() {
+        add_numbered(alloc, found, bound, k)?;
+    }
+    Ok(())
+}

@@ -1,0 +1,175 @@
+//! C8: the block of thread-local storage that isn't as the placed pieces ask for it.
+ghost use Rattle.std.specs.Prelude.{◌≡◌, ◌↔◌, IfSome, IsTrue, OnOk, Some};
+ghost use Rattle.std.specs.List.{slice_get};
+ghost use Rattle.elf_model.specs.MemoryImage.{thread_blocks};
+ghost use Rattle.elf_model.specs.RightLink.{HoldsBefore, placed_of, thread_data_end};
+ghost use Rattle.elf_model.specs.ThreadStorage.{thread_headers};
+ghost use Rattle.elf_model.specs.declared.verdict.Clause.TheVariants as clause;
+ghost use Rattle.check_link.specs.PieceParts.{AreInLimit, IsGotInLimit};
+ghost use Rattle.check_link.specs.Views.{placed_view, placed_views};
+ghost use Rattle.explain_check.specs.Places.{AreFailures, FailsIn};
+
+use crate::found::Found;
+use crate::memory::added::add_memory;
+use crate::memory::bytes::piece_at;
+use crate::memory_place::MemoryPlace;
+use crate::place::CheckPlace;
+use check_link::{
+    Part, Placed, base_of, end_of, got_thing, is_thread_zero, thing_of_placed, thread_block,
+};
+use checker::BoundLink;
+use checker::c08_thread_block::{are_headers_right, header_of, holds_initial, is_clear_of};
+use elf_model::{GotLine, ProgramHeader};
+use std::alloc::AllocError;
+
+/// The PT_TLS header that placed pieces ask for, in an image that begins at the base; None without thread-local ones.
+fn wanted_header(base: u64, placed: &[Placed<'_>]) -> Option<ProgramHeader>
+    requires { AreInLimit (placed_views placed.now) }
+    ensures { result ≡ slice_get (thread_headers base (placed_views placed.now)) 0 }
+{
+    match thread_block(placed) {
+        Some(block) => Some(header_of(base, placed, &block)),
+        None => None,
+    }
+}
+
+/// The PT_TLS header that is there and the wanted one, where they differ.
+fn wrong_header<'a>(bound: &BoundLink<'_, 'a>) -> Option<MemoryPlace<'a>>
+    requires { AreInLimit (placed_of bound.now) }
+    ensures { IfSome result (λ p. FailsIn bound.now (CheckPlace.Memory p)) }
+{
+    let headers = bound.memory().thread_blocks();
+    let base = base_of(&bound.link().plan);
+    if are_headers_right(headers, base, bound.placed()) {
+        return None;
+    }
+    let wanted = wanted_header(base, bound.placed());
+    Some(MemoryPlace::ThreadHeader(headers.get(0).copied(), wanted))
+}
+
+/// The piece that has a number, where it is thread-local, has no bytes, and begins before those with bytes end.
+fn early_zeros<'a>(bound: &BoundLink<'_, 'a>, number: usize, end: u64) -> Option<MemoryPlace<'a>>
+    requires { end ≡ thread_data_end bound.now }
+    ensures { IfSome result (λ p. FailsIn bound.now (CheckPlace.Memory p)) }
+{
+    let placed = piece_at(bound, number)?;
+    if !is_thread_zero(&placed.piece) {
+        return None;
+    }
+    if placed.at >= end {
+        return None;
+    }
+    Some(MemoryPlace::ThreadZeros(number as u64, placed, end))
+}
+
+/// Adds the thread-local pieces without bytes that begin before those with bytes end.
+fn add_early_zeros<'a>(
+    found: &mut Found<'a>,
+    bound: &BoundLink<'_, 'a>,
+    end: u64,
+) -> Result<(), AllocError>
+    requires end { end ≡ thread_data_end bound.now }
+    requires before { AreFailures bound.now found.old.places.items }
+    ensures { OnOk result (AreFailures bound.now found.new.places.items) }
+{
+    for number in 0..bound.placed().len() {
+        add_memory(found, bound, early_zeros(bound, number, end))?;
+    }
+    Ok(())
+}
+
+/// The GOT, where it has an address from the beginning of the block on and below an end.
+fn inner_got<'a>(
+    bound: &BoundLink<'_, 'a>,
+    header: &ProgramHeader,
+    end: u64,
+) -> Option<MemoryPlace<'a>>
+    requires got { IsGotInLimit bound.now.map.got }
+    requires header { slice_get (thread_blocks bound.now.image) 0 ≡ Some header.now }
+    requires end { end ≡ thread_data_end bound.now }
+    ensures { IfSome result (λ p. FailsIn bound.now (CheckPlace.Memory p)) }
+{
+    let got = bound.link().map.got?;
+    if is_clear_of(header.p_vaddr, end, &got_thing(got)) {
+        return None;
+    }
+    Some(MemoryPlace::GotInThreadBlock(got, header.p_vaddr, end))
+}
+
+/// The piece that has a number, where it isn't thread-local and has an address from the beginning of the block on and below
+/// an end.
+fn inner_piece<'a>(
+    bound: &BoundLink<'_, 'a>,
+    header: &ProgramHeader,
+    number: usize,
+    end: u64,
+) -> Option<MemoryPlace<'a>>
+    requires pieces { AreInLimit (placed_of bound.now) }
+    requires header { slice_get (thread_blocks bound.now.image) 0 ≡ Some header.now }
+    requires end { end ≡ thread_data_end bound.now }
+    ensures { IfSome result (λ p. FailsIn bound.now (CheckPlace.Memory p)) }
+{
+    let placed = piece_at(bound, number)?;
+    if placed.piece.header.is_thread_local() {
+        return None;
+    }
+    if is_clear_of(header.p_vaddr, end, &thing_of_placed(&placed)) {
+        return None;
+    }
+    Some(MemoryPlace::PieceInThreadBlock(number as u64, placed, header.p_vaddr, end))
+}
+
+/// Adds what else stands among the initial bytes of a block, which end at an address.
+fn add_inner<'a>(
+    found: &mut Found<'a>,
+    bound: &BoundLink<'_, 'a>,
+    header: &ProgramHeader,
+    end: u64,
+) -> Result<(), AllocError>
+    requires got { IsGotInLimit bound.now.map.got }
+    requires pieces { AreInLimit (placed_of bound.now) }
+    requires header { slice_get (thread_blocks bound.now.image) 0 ≡ Some header.now }
+    requires end { end ≡ thread_data_end bound.now }
+    requires before { AreFailures bound.now found.old.places.items }
+    ensures { OnOk result (AreFailures bound.now found.new.places.items) }
+{
+    add_memory(found, bound, inner_got(bound, header, end))?;
+    for number in 0..bound.placed().len() {
+        add_memory(found, bound, inner_piece(bound, header, number, end))?;
+    }
+    Ok(())
+}
+
+/// A block whose initial bytes no PT_LOAD holds.
+fn unheld<'a>(bound: &BoundLink<'_, 'a>, header: &ProgramHeader) -> Option<MemoryPlace<'a>>
+    requires { slice_get (thread_blocks bound.now.image) 0 ≡ Some header.now }
+    ensures { IfSome result (λ p. FailsIn bound.now (CheckPlace.Memory p)) }
+{
+    if holds_initial(bound.memory(), header) {
+        return None;
+    }
+    Some(MemoryPlace::ThreadBytes(*header))
+}
+
+/// The PT_TLS header of the image.
+fn header_there(bound: &BoundLink<'_, '_>) -> Option<ProgramHeader>
+    ensures { IfSome result (λ h. slice_get (thread_blocks bound.now.image) 0 ≡ Some h) }
+{
+    bound.memory().thread_blocks().get(0).copied()
+}
+
+/// Adds where the eighth clause fails.
+pub fn add_c8<'a>(found: &mut Found<'a>, bound: &BoundLink<'_, 'a>) -> Result<(), AllocError>
+    requires clauses { HoldsBefore clause.C8 bound.now }
+    requires before { AreFailures bound.now found.old.places.items }
+    ensures { OnOk result (AreFailures bound.now found.new.places.items) }
+{
+    let end = end_of(Part::ThreadData, bound.placed());
+    add_memory(found, bound, wrong_header(bound))?;
+    add_early_zeros(found, bound, end)?;
+    let Some(header) = header_there(bound) else {
+        return Ok(());
+    };
+    add_inner(found, bound, &header, end)?;
+    add_memory(found, bound, unheld(bound, &header))
+}
