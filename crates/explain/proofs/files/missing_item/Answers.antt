@@ -1,5 +1,5 @@
 use Rattle.std.proofs.lemmas.Bool.Decides.{nat_tests}
-use Rattle.std.proofs.Common.{arith, length, ◌<◌, ◌≡◌, ◌∙◌, List, ℕ, Some, Option, ap, map, option_map, subst, sym}
+use Rattle.std.proofs.Common.{arith, length, ◌<◌, ◌≡◌, ◌∙◌, List, ℕ, Some, Option, ap, map, option_map, refl, subst, sym}
 use Rattle.std.specs.Borrow.{Bor}
 use Rattle.std.specs.List.{slice_get}
 use Rattle.std.proofs.lemmas.Option.{slice_get-get_or, slice_get-map}
@@ -25,6 +25,7 @@ returns-in-None c =
           ∙ ap (option_map item_of)
           (slice_get-get_or c.deref.result.now c.args.i c.in-Some.item.now inside
           ∙ ap (λ (x : code.Item). Some x) (sym c.in-Some.ensures.lookup.1));
+      source_is = refl;
       missing =
           subst (λ (ds : List (List ℕ)). ¬ HasFile c.args.files.now ds (item_of c.in-Some.item.now)) directories
           (none_found c.args.files.now _
