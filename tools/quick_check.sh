@@ -1,6 +1,6 @@
 #!/usr/bin/env bash
 # Says in seconds what would fail the gate after an hour: a file that `rt fmt` would change, and a wrong body that no
-# longer fits the text; and where docs/PROMISES.md isn't what the contracts say. It works on a copy of the tree, committed
+# longer fits the text; and where docs/PROMISES.md isn't what the contracts say, or docs/PROOFS.md what the lemmas do. It works on a copy of the tree, committed
 # or not, and changes nothing.
 # usage: tools/quick_check.sh; the exit status is 1 where it finds something.
 set -u
@@ -26,4 +26,5 @@ for crate in "$copy"/crates/*/; do
 done
 tools/try_edits.sh --only-read || failed=1
 tools/promises.py --check || failed=1
+tools/lemmas.py --check || failed=1
 exit "$failed"
