@@ -1,7 +1,7 @@
 #!/usr/bin/env bash
 # Says in seconds what would fail the gate after an hour: a file that `rt fmt` would change, and a wrong body that no
-# longer fits the text; and where docs/PROMISES.md isn't what the contracts say, or docs/PROOFS.md what the lemmas do. It works on a copy of the tree, committed
-# or not, and changes nothing.
+# longer fits the text; and where docs/PROMISES.md isn't what the contracts say, or docs/PROOFS.md what the heads of
+# the lemmas do. It works on a copy of the tree, committed or not, and changes nothing.
 # usage: tools/quick_check.sh; the exit status is 1 where it finds something.
 set -u
 

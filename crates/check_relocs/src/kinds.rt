@@ -1,6 +1,6 @@
 //! The kinds of relocations: the width, the formula and the range of each (AMD64 psABI 4.4, "Relocation
 //! Types"; the ranges of all kinds but 32 and 32S are the profile's).
-ghost use Rattle.std.specs.Prelude.{◌≡◌, IfSome, Some, option_map};
+ghost use Rattle.std.specs.Prelude.{◌≡◌, ◌==◌, IfSome, find, option_copied, option_map};
 ghost use Rattle.elf_model.specs.Relocation as relocation;
 ghost use Rattle.check_relocs.specs.Kinds.{kind_view};
 ghost use Rattle.check_relocs.specs.Widths.{IsWidth};
@@ -38,17 +38,41 @@ pub struct Kind {
     pub range: Range,
 }
 
-fn made(number: u32, width: u8, formula: Formula, range: Range) -> Option<Kind>
-    requires { IsWidth width }
-    ensures kind { result ≡ Some (record { number = number; width = width; formula = formula; range = range }) }
-    ensures width { IfSome result (λ k. IsWidth k.width) }
+type Row = (u32, u8, Formula, Range);
+
+/// The number, the width, the formula and the range of each kind.
+static KINDS: [Row; 24] = [
+    (1, 8, Formula::Symbol, Range::Always),
+    (2, 4, Formula::SymbolFromPlace, Range::Signed),
+    (3, 4, Formula::Slot, Range::Signed),
+    (4, 4, Formula::SymbolFromPlace, Range::Signed),
+    (9, 4, Formula::SlotFromPlace, Range::Signed),
+    (10, 4, Formula::Symbol, Range::Unsigned),
+    (11, 4, Formula::Symbol, Range::Signed),
+    (12, 2, Formula::Symbol, Range::Either),
+    (13, 2, Formula::SymbolFromPlace, Range::Signed),
+    (14, 1, Formula::Symbol, Range::Either),
+    (15, 1, Formula::SymbolFromPlace, Range::Signed),
+    (18, 8, Formula::ThreadOffset, Range::Always),
+    (22, 4, Formula::ThreadSlotFromPlace, Range::Signed),
+    (23, 4, Formula::ThreadOffset, Range::Signed),
+    (24, 8, Formula::SymbolFromPlace, Range::Always),
+    (25, 8, Formula::SymbolFromGot, Range::Always),
+    (26, 4, Formula::GotFromPlace, Range::Signed),
+    (27, 8, Formula::Slot, Range::Always),
+    (28, 8, Formula::SlotFromPlace, Range::Always),
+    (29, 8, Formula::GotFromPlace, Range::Always),
+    (32, 4, Formula::Size, Range::Unsigned),
+    (33, 8, Formula::Size, Range::Always),
+    (41, 4, Formula::SlotFromPlace, Range::Signed),
+    (42, 4, Formula::SlotFromPlace, Range::Signed),
+];
+
+/// The first row of a number.
+fn row_of<'b>(rows: &'b [Row], number: u32) -> Option<&'b Row>
+    ensures { option_copied result ≡ find (λ row. row.0 == number) rows.entry.now }
 {
-    Some(Kind {
-        number,
-        width,
-        formula,
-        range,
-    })
+    rows.iter().find(|row| row.0 == number)
 }
 
 /// The kind of a type, None where there is none.
@@ -56,31 +80,11 @@ pub fn kind_of(number: u32) -> Option<Kind>
     ensures kind { option_map kind_view result ≡ relocation.kind_of number }
     ensures width { IfSome result (λ k. IsWidth k.width) }
 {
-    match number {
-        1 => made(1, 8, Formula::Symbol, Range::Always),
-        2 => made(2, 4, Formula::SymbolFromPlace, Range::Signed),
-        3 => made(3, 4, Formula::Slot, Range::Signed),
-        4 => made(4, 4, Formula::SymbolFromPlace, Range::Signed),
-        9 => made(9, 4, Formula::SlotFromPlace, Range::Signed),
-        10 => made(10, 4, Formula::Symbol, Range::Unsigned),
-        11 => made(11, 4, Formula::Symbol, Range::Signed),
-        12 => made(12, 2, Formula::Symbol, Range::Either),
-        13 => made(13, 2, Formula::SymbolFromPlace, Range::Signed),
-        14 => made(14, 1, Formula::Symbol, Range::Either),
-        15 => made(15, 1, Formula::SymbolFromPlace, Range::Signed),
-        18 => made(18, 8, Formula::ThreadOffset, Range::Always),
-        22 => made(22, 4, Formula::ThreadSlotFromPlace, Range::Signed),
-        23 => made(23, 4, Formula::ThreadOffset, Range::Signed),
-        24 => made(24, 8, Formula::SymbolFromPlace, Range::Always),
-        25 => made(25, 8, Formula::SymbolFromGot, Range::Always),
-        26 => made(26, 4, Formula::GotFromPlace, Range::Signed),
-        27 => made(27, 8, Formula::Slot, Range::Always),
-        28 => made(28, 8, Formula::SlotFromPlace, Range::Always),
-        29 => made(29, 8, Formula::GotFromPlace, Range::Always),
-        32 => made(32, 4, Formula::Size, Range::Unsigned),
-        33 => made(33, 8, Formula::Size, Range::Always),
-        41 => made(41, 4, Formula::SlotFromPlace, Range::Signed),
-        42 => made(42, 4, Formula::SlotFromPlace, Range::Signed),
-        _ => None,
-    }
+    let row = row_of(&KINDS, number)?;
+    Some(Kind {
+        number: row.0,
+        width: row.1,
+        formula: row.2,
+        range: row.3,
+    })
 }

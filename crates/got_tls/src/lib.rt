@@ -11,6 +11,7 @@ mod slot_table;
 mod thread_storage;
 
 pub use elf_model::TlsBlock;
+pub use kinds::{Formula, Kind, Range, slot_kind};
 pub use slot_list::slots;
 pub use slot_table::{Slot, Slots};
 pub use thread_storage::{thread_pointer, tls_block, tp_offset};

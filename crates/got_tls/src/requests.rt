@@ -10,7 +10,7 @@ ghost use Rattle.got_tls.specs.Asking.{TellsOfGot, request_at};
 ghost use Rattle.got_tls.specs.Askers.{IsAsker, all_asked, asking};
 ghost use Rattle.got_tls.specs.Views.{slot_view};
 
-use crate::kinds::{ask_of, asks_of_got, slot_asked};
+use crate::kinds::{asked_slot, asks_of_got};
 use crate::slot_table::Slot;
 use elf_model::{ObjectId, Rela, STB_LOCAL, SymbolRef};
 use elf_read::Object;
@@ -28,7 +28,7 @@ fn is_local(object: &Object<'_>, j: usize) -> bool
 pub fn slot_of<'a>(number: usize, loaded: &LoadedObject<'a>, entry: &Rela) -> Option<Slot<'a>>
     ensures { option_map slot_view result ≡ request_at number (loaded_view loaded.now) entry.now }
 {
-    let kind = slot_asked(ask_of(entry.kind()))?;
+    let kind = asked_slot(entry.kind())?;
     let symbol = SymbolRef {
         object: ObjectId(number as u64),
         symbol: entry.symbol() as u64,
@@ -119,6 +119,6 @@ impl<'k, 'a> Asker<'k, 'a> {
         requires { IsAsker self.now }
         ensures { result ≡ wanted.asks_for_got (all_asked self.now) (relocation_of self.now.number (asking self.now) target entry.now) }
     {
-        asks_of_got(ask_of(entry.kind())) || self.names_got(entry.symbol() as usize)
+        asks_of_got(entry.kind()) || self.names_got(entry.symbol() as usize)
     }
 }

@@ -1,7 +1,6 @@
 pub mod ChosenReferences
 pub mod Fitted
 pub mod Judged
-pub mod KindRows
 pub mod ObjectFields
 pub mod ObjectRows
 pub mod Overlaid

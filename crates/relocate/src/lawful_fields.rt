@@ -5,16 +5,17 @@ ghost use Rattle.elf_model.specs.Loading as loading;
 ghost use Rattle.elf_model.specs.Relocation as relocation;
 ghost use Rattle.elf_model.specs.Relocation.{IsLawfulRelocation, relocation_kind, relocation_of};
 ghost use Rattle.relocate.specs.Fields.{field_of};
-ghost use Rattle.relocate.specs.Kinds.{kind_view};
+ghost use Rattle.got_tls.specs.Kinds.{kind_view};
 ghost use Rattle.relocate.specs.References.{IsUnlawful, RelocationFails};
 ghost use Rattle.relocate.specs.SymbolTables.{IsReferrer, IsRelocated, all_of, referring};
 
 use crate::faults::{RelocFault, RelocationFault};
 use crate::fields::Field;
-use crate::kinds::{Kind, is_mismatch};
+use crate::kinds::is_mismatch;
 use crate::referrer::{Referrer, Relocated};
 use crate::targets::undefined;
 use elf_model::Rela;
+use got_tls::Kind;
 use std::alloc::Global;
 
 /// The kind of a lawful entry that relocates a section of an object; else what is wrong with it.

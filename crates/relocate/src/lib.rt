@@ -23,7 +23,8 @@ mod thread_pointer;
 mod values;
 
 pub use faults::{RelocFault, RelocationFault};
-pub use kinds::{Formula, Kind, Range, Terms, fits, value};
+pub use got_tls::{Formula, Kind, Range};
+pub use kinds::{Terms, fits, value};
 pub use lawful_fields::lawful_kind;
 pub use lawful_relocations::references;
 pub use linker_uses::linker_lines;

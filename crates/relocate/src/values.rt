@@ -10,16 +10,17 @@ ghost use Rattle.elf_model.specs.RelocationValues.{Fits, terms_of};
 ghost use Rattle.elf_model.specs.Slots as wanted;
 ghost use Rattle.resolve.specs.Views.{meaning_view, symbol_view};
 ghost use Rattle.got_tls.specs.Asking.{offset_of};
-ghost use Rattle.relocate.specs.Kinds.{Reduces, kind_view};
+ghost use Rattle.got_tls.specs.Kinds.{kind_view};
+ghost use Rattle.relocate.specs.Kinds.{Reduces};
 ghost use Rattle.relocate.specs.SymbolTables.{IsValued, all_valued, valued_object, where_of};
 ghost use Rattle.relocate.specs.Values.{patch_of, where_in};
 
-use crate::kinds::{Kind, Terms, fits, slot_kind, value};
+use crate::kinds::{Terms, fits, value};
 use crate::patch::Patch;
 use crate::symbol_values::Valued;
 use crate::thread_pointer::offset_from;
 use elf_model::{ObjectId, Rela, SHN_ABS, SectionRef, SymbolRef};
-use got_tls::Slot;
+use got_tls::{Kind, Slot, slot_kind};
 use layout::Placement;
 use resolve::{Definition, SymbolOf, target_of};
 

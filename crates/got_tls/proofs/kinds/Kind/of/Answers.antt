@@ -1,8 +1,8 @@
 use Rattle.std.proofs.Common.{ap, sym, ◌∙◌}
 use Rattle.std.specs.Prelude.{option_map}
-use Rattle.relocate.specs.Kinds.{kind_view}
-use Rattle.relocate.proofs.KindRows.{row_found, row_view}
-use Rattle.relocate.proofs.kinds.Kind.of.Goals as goal
+use Rattle.got_tls.specs.Kinds.{kind_view}
+use Rattle.got_tls.proofs.KindRows.{row_found, row_view}
+use Rattle.got_tls.proofs.kinds.Kind.of.Goals as goal
 
 pub returns-in_err-row : goal.returns-in_err-row
 returns-in_err-row c =
