@@ -1,7 +1,6 @@
 -- Places that wait in order, and the places of names.
 use Rattle.std.proofs.Common.{◌≡◌, ℕ, ◌+◌, ◌<◌, ◌≤◌, ◌⊎◌, inl, inr, ◌==◌, ◌&&◌, ◌||◌, Bool, true, false, not, cond, List, [], ◌∷◌, ◌++◌, length, get_or, Option, Some, None, Less, Equal, Greater, refl, sym, ◌∙◌, ap, subst, arith}
 use Rattle.std.specs.Prelude.{IfSome, IsTrue, nat_lt, option_map, unwrap_or, ⊤}
-use Rattle.std.specs.Borrow.{Bor}
 use Rattle.std.specs.BTreeSet.{Updates, contains}
 use Rattle.std.specs.Cmp.{tied_then, unsigned_ties}
 use Rattle.std.specs.Global.{Vec}
@@ -14,10 +13,11 @@ use Rattle.std.specs.Str.{bytes_eq}
 use Rattle.std.specs.declared.cmp.Ordering.{Ordering}
 use Rattle.std.proofs.lemmas.Bool.{and_from, cases_lt, eq-eqb, eqb-true, false≢true, false_from_ne_true, le-ltb, ltb-false, ltb-true, or_left, or_right}
 use Rattle.std.proofs.lemmas.List.Folds.{list_any-append}
-use Rattle.std.proofs.lemmas.Map.Text.{hash_map_updates_str}
 use Rattle.std.proofs.lemmas.Option.{get_or_from_slice_get, slice_get_within}
 use Rattle.std.proofs.lemmas.Slice.Eq.{bytes_eq-Decides}
+use Rattle.elf_model.specs.declared.name.Name.{Name}
 use Rattle.elf_model.proofs.LoadingBounds.{by_case}
+use Rattle.elf_model.proofs.NamedEntries.{entries_updated}
 use Rattle.search.specs.Places.{PlaceMap, has_place, is_place, is_waiting, place_order, places_in}
 use Rattle.search.specs.declared.waiting_places.WaitingPlaces.{WaitingPlaces}
 
@@ -137,28 +137,28 @@ still_waiting old new place rest k q other there =
 
 -- A place is added to those of a name.
 pub place_added :
-    {S : Type 0} (m : HashMap (Bor (List ℕ)) (Vec (ℕ × ℕ)) S) (written : Vec (ℕ × ℕ) → HashMap (Bor (List ℕ)) (Vec (ℕ × ℕ)) S) (name : Bor (List ℕ)) (place : ℕ × ℕ)
-    (old new d : Vec (ℕ × ℕ)) (to : PlaceMap) → ((v : Vec (ℕ × ℕ)) → bag.Updates (λ x y. bytes_eq x.now y.now) m (written v) name (Some v)) →
-    old ≡ unwrap_or (lookup (λ k. bytes_eq name.now k.now) m.entries) d → d.items ≡ [] → new.items ≡ old.items ++ place ∷ [] → to ≡ (written new).entries → (n : List ℕ) →
-    places_in to n ≡ cond (bytes_eq name.now n) (places_in m.entries n ++ place ∷ []) (places_in m.entries n)
+    {S : Type 0} (m : HashMap Name (Vec (ℕ × ℕ)) S) (written : Vec (ℕ × ℕ) → HashMap Name (Vec (ℕ × ℕ)) S) (name : Name) (place : ℕ × ℕ)
+    (old new d : Vec (ℕ × ℕ)) (to : PlaceMap) → ((v : Vec (ℕ × ℕ)) → bag.Updates (λ x y. bytes_eq x.0.now y.0.now) m (written v) name (Some v)) →
+    old ≡ unwrap_or (lookup (λ k. bytes_eq name.0.now k.0.now) m.entries) d → d.items ≡ [] → new.items ≡ old.items ++ place ∷ [] → to ≡ (written new).entries → (n : List ℕ) →
+    places_in to n ≡ cond (bytes_eq name.0.now n) (places_in m.entries n ++ place ∷ []) (places_in m.entries n)
 place_added m written name place old new d to updates was none is same n =
     ap (λ (l : PlaceMap). places_in l n) same
-    ∙ (ap items_in (hash_map_updates_str name.now m (written new) (Some new) (updates new) n) ∙ by (bytes_eq name.now n) refl)
+    ∙ (ap items_in (entries_updated m (written new) name (Some new) (updates new) n) ∙ by (bytes_eq name.0.now n) refl)
   where
     items_in : Option (Vec (ℕ × ℕ)) → List (ℕ × ℕ)
     items_in o = unwrap_or (option_map (λ v. v.items) o) []
 
     found : List ℕ → Option (Vec (ℕ × ℕ))
-    found k = lookup (λ j. bytes_eq k j.now) m.entries
+    found k = lookup (λ j. bytes_eq k j.0.now) m.entries
 
     had : (o : Option (Vec (ℕ × ℕ))) → (unwrap_or o d).items ≡ items_in o
     had None = none
     had (Some v) = refl
 
-    by : (b : Bool) → bytes_eq name.now n ≡ b → items_in (cond b (Some new) (found n)) ≡ cond b (places_in m.entries n ++ place ∷ []) (places_in m.entries n)
+    by : (b : Bool) → bytes_eq name.0.now n ≡ b → items_in (cond b (Some new) (found n)) ≡ cond b (places_in m.entries n ++ place ∷ []) (places_in m.entries n)
     by true e =
         is ∙ ap (λ (l : List (ℕ × ℕ)). l ++ place ∷ [])
-        (ap (λ (v : Vec (ℕ × ℕ)). v.items) was ∙ (had (found name.now) ∙ ap (places_in m.entries) ((bytes_eq-Decides name.now n).0 e)))
+        (ap (λ (v : Vec (ℕ × ℕ)). v.items) was ∙ (had (found name.0.now) ∙ ap (places_in m.entries) ((bytes_eq-Decides name.0.now n).0 e)))
     by false e = refl
 
 module _ (old new : PlaceMap) (name : List ℕ) (k q : ℕ) (next : (n : List ℕ) → places_in new n ≡ cond (bytes_eq name n) (places_in old n ++ (k, q) ∷ []) (places_in old n)) where

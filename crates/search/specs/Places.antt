@@ -1,6 +1,5 @@
 -- Places in the indexes of the archives of a group: which of them wait, and which are those of a name.
 use Rattle.std.specs.Prelude.{◌≡◌, ℕ, ◌==◌, ◌&&◌, Bool, true, false, List, [], Some, option_map, slice_get, unwrap_or}
-use Rattle.std.specs.Borrow.{Bor}
 use Rattle.std.specs.BTreeSet.{btree_set_len, contains}
 use Rattle.std.specs.Global.{Vec}
 use Rattle.std.specs.List.{list_any}
@@ -10,6 +9,7 @@ use Rattle.std.specs.Str.{bytes_eq}
 use Rattle.std.specs.declared.cmp.Ordering.{Ordering}
 use Rattle.elf_model.specs.ArchiveFile.{IndexEntry}
 use Rattle.elf_model.specs.Opening.{Opened, archive_entries}
+use Rattle.elf_model.specs.declared.name.Name.{Name}
 use Rattle.search.specs.declared.waiting_places.WaitingPlaces.{WaitingPlaces}
 
 -- a place is entry number q of the index of archive number k
@@ -28,10 +28,10 @@ waiting_count w = btree_set_len w.places
 
 -- names with their places
 abbrev pub PlaceMap : Type 0
-PlaceMap = List (Bor (List ℕ) × Vec (ℕ × ℕ))
+PlaceMap = List (Name × Vec (ℕ × ℕ))
 
 abbrev pub places_in : PlaceMap → List ℕ → List (ℕ × ℕ)
-places_in names name = unwrap_or (option_map (λ v. v.items) (lookup (λ n. bytes_eq name n.now) names)) []
+places_in names name = unwrap_or (option_map (λ v. v.items) (lookup (λ n. bytes_eq name n.0.now) names)) []
 
 -- one of a name's places is entry number q of archive number k
 abbrev pub has_place : PlaceMap → List ℕ → ℕ → ℕ → Bool

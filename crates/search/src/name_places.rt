@@ -8,20 +8,20 @@ ghost use Rattle.search.specs.Places.{ArePlaced, IsPlaced, has_place, is_place, 
 use crate::archives::Input;
 use crate::waiting_places::WaitingPlaces;
 use ar_index::IndexEntry;
-use elf_model::NameSeed;
+use elf_model::{Name, NameSeed};
 use indexmap::IndexMap;
 use std::alloc::{AllocError, Global};
 
 /// Adds a place of a name.
 fn add_place<'a>(
     alloc: Global,
-    names: &mut IndexMap<&'a [u8], Vec<(usize, usize)>, NameSeed>,
+    names: &mut IndexMap<Name<'a>, Vec<(usize, usize)>, NameSeed>,
     name: &'a [u8],
     place: (usize, usize),
 ) -> Result<(), AllocError>
     ensures { OnOk result ((n : List ℕ) → places_in names.new.entries n ≡ cond (bytes_eq name.now n) (places_in names.old.entries n ++ place ∷ []) (places_in names.old.entries n)) }
 {
-    let places = names.entry(name)?.or_insert(Vec::new(alloc));
+    let places = names.entry(Name(name))?.or_insert(Vec::new(alloc));
     places.push(place)?;
     Ok(())
 }
@@ -29,7 +29,7 @@ fn add_place<'a>(
 /// Adds the places of the entries of an archive's index.
 fn add_entries<'a>(
     alloc: Global,
-    names: &mut IndexMap<&'a [u8], Vec<(usize, usize)>, NameSeed>,
+    names: &mut IndexMap<Name<'a>, Vec<(usize, usize)>, NameSeed>,
     archive: usize,
     entries: &[IndexEntry<'a>],
 ) -> Result<(), AllocError>
@@ -45,7 +45,7 @@ fn add_entries<'a>(
 /// Adds the places of the entries of an archive, where it is searched.
 fn add_archive<'a>(
     alloc: Global,
-    names: &mut IndexMap<&'a [u8], Vec<(usize, usize)>, NameSeed>,
+    names: &mut IndexMap<Name<'a>, Vec<(usize, usize)>, NameSeed>,
     archive: usize,
     input: &Input<'a>,
 ) -> Result<(), AllocError>
@@ -66,7 +66,7 @@ fn add_archive<'a>(
 pub fn places_of<'a>(
     alloc: Global,
     inputs: &[Input<'a>],
-) -> Result<IndexMap<&'a [u8], Vec<(usize, usize)>, NameSeed>, AllocError>
+) -> Result<IndexMap<Name<'a>, Vec<(usize, usize)>, NameSeed>, AllocError>
     requires { All (λ i. i.archive ≡ true) inputs.now }
     ensures { IfOk result (λ m. ArePlaced m.entries inputs.now) }
 {
@@ -79,13 +79,13 @@ pub fn places_of<'a>(
 
 /// Lets the places of a name wait.
 pub fn wake<'a>(
-    names: &IndexMap<&'a [u8], Vec<(usize, usize)>, NameSeed>,
+    names: &IndexMap<Name<'a>, Vec<(usize, usize)>, NameSeed>,
     waiting: &mut WaitingPlaces,
     name: &'a [u8],
 ) -> Result<(), AllocError>
     ensures { OnOk result ((k q : ℕ) → is_waiting waiting.new k q ≡ (list_any (is_place k q) (places_in names.now.entries name.now) || is_waiting waiting.old k q)) }
 {
-    let Some(places) = names.get(name) else {
+    let Some(places) = names.get(&Name(name)) else {
         return Ok(());
     };
     waiting.add_all(places)

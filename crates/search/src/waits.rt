@@ -14,7 +14,7 @@ use crate::loader::Loader;
 use crate::name_places::{places_of, wake};
 use crate::waiting_places::WaitingPlaces;
 use ar_index::IndexEntry;
-use elf_model::NameSeed;
+use elf_model::{Name, NameSeed};
 use indexmap::IndexMap;
 use std::alloc::{AllocError, Global};
 use symbols::NameTable;
@@ -23,7 +23,7 @@ use symbols::NameTable;
 #[derive(Drop)]
 pub struct Waits<'a> {
     /// The places of each name in the indexes of the archives that are searched.
-    places: IndexMap<&'a [u8], Vec<(usize, usize)>, NameSeed>,
+    places: IndexMap<Name<'a>, Vec<(usize, usize)>, NameSeed>,
     /// The places that may give a member; of a whole archive its place 0, for all its members.
     waiting: WaitingPlaces,
     /// How many of the names that are asked for have been looked at.
