@@ -5,6 +5,7 @@ mod LostSections
 pub mod NameSets
 pub mod NotedNames
 pub mod OpenedLaws
+pub mod PlaceLaws
 pub mod StepLaws
 pub mod TurnLaws
 pub mod WaitLaws

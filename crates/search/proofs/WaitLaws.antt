@@ -1,115 +1,33 @@
--- Which places wait.
-use Rattle.std.proofs.Common.{◌≡◌, ℕ, zero, suc, ◌+◌, ◌<◌, ◌≤◌, ◌==◌, ◌⊎◌, inl, inr, Bool, true, false, not, cond, ◌&&◌, ◌||◌, List, [], ◌∷◌, ◌++◌, length, get_or, set, drop, drop-cons, Option, Some, None, refl, sym, ◌∙◌, ap, subst, arith, Less, Equal, Greater}
-use Rattle.std.specs.Prelude.{option_map, unwrap_or}
-use Rattle.std.specs.Borrow.{Bor}
-use Rattle.std.specs.BTreeSet.{BTreeSet, Updates, IsLowerBound, contains}
-use Rattle.std.specs.Global.{Vec}
-use Rattle.std.specs.HashMap.{HashMap}
-use Rattle.std.specs.HashMap as bag
-use Rattle.std.specs.List.{AllZip, find, list_any, slice_get}
-use Rattle.std.specs.Map.{lookup}
-use Rattle.std.specs.Ordering.{is_eq, is_gt, nat_cmp}
-use Rattle.std.specs.Prelude.{nat_lt}
-use Rattle.std.specs.BTreeSet.{btree_set_len}
+-- What waits, and what gives no member.
+use Rattle.std.proofs.Common.{◌≡◌, ℕ, zero, suc, ◌+◌, ◌<◌, ◌≤◌, ◌==◌, ◌⊎◌, inl, inr, Bool, true, false, not, cond, ◌&&◌, ◌||◌, List, [], ◌∷◌, ◌++◌, length, drop, drop-cons, Option, Some, None, refl, sym, ◌∙◌, ap, subst, arith}
+use Rattle.std.specs.Prelude.{IsSomeAnd, option_map}
+use Rattle.std.specs.List.{find, list_any, slice_get}
 use Rattle.std.specs.Str.{bytes_eq}
-use Rattle.std.proofs.lemmas.Bool.{and_from, and_parts, cases_lt, not-true, not_from_false, eq-eqb, eqb-false, eqb-true, false≢true, false_from_ne_true, le-ltb, ltb-true, or_cases, or_left, or_right}
+use Rattle.std.proofs.lemmas.Bool.{and_from, and_parts, cond-true, cond-false, not-true, not_from_false, eqb-false, eqb-true, false≢true, false_from_ne_true, or_cases, or_left, or_right}
 use Rattle.std.proofs.lemmas.List.Folds.{list_any-append}
-use Rattle.std.proofs.lemmas.Map.Text.{hash_map_updates_str}
 use Rattle.std.proofs.Math.ListN.{drop_of_length-le}
 use Rattle.std.proofs.lemmas.List.{drop-append-le, length-append}
 use Rattle.std.proofs.lemmas.Option.{get_or_from_slice_get, none-some, same_Some, slice_get_within}
 use Rattle.std.proofs.lemmas.Slice.Eq.{bytes_eq-Decides}
 use Rattle.elf_model.specs.ArchiveFile.{IndexEntry}
 use Rattle.elf_model.specs.Command.{Plan}
-use Rattle.elf_model.specs.Loading.{LoadedObject, defines, is_defined, is_requested, is_taken, needed}
-use Rattle.elf_model.specs.Opening.{Opened, archive_entries}
-use Rattle.elf_model.proofs.LoadingBounds.{Extends, by_case, extends_refl, extends_trans, taken_stays}
+use Rattle.elf_model.specs.Loading.{LoadedObject, defines, is_begun, is_defined, is_requested, is_taken, needed, turn, turn_of_whole, with_members}
+use Rattle.elf_model.specs.Opening.{Opened, archive_entries, archive_members}
+use Rattle.elf_model.proofs.LoadingBounds.{Extends, begun_stays, by_case, extends_refl, extends_trans, taken_stays}
+use Rattle.elf_model.proofs.LoadingSteps.{turn_none, turn_whole}
 use Rattle.search.proofs.NameSets.{among_grows, begins_refl, begins_trans}
+use Rattle.search.proofs.PlaceLaws.{still_waiting}
 use Rattle.search.specs.Loaders.{IsLater, Knows, is_next_of, loaded}
 use Rattle.search.specs.Names.{Begins, is_among}
-use Rattle.search.specs.Waiting.{ArePlaced, Covers, CoversBut, CoversFor, NextWait, places_in}
+use Rattle.search.specs.Places.{ArePlaced, has_place, is_place, is_waiting, places_in}
+use Rattle.search.specs.Waiting.{AllAwait, AreIdle, Awaits, Covers, IsSpent, NextWait}
 use Rattle.search.specs.declared.loader.Loader.{Loader}
+use Rattle.search.specs.declared.waiting_places.WaitingPlaces.{WaitingPlaces}
 use Rattle.search.specs.declared.waits.Waits.{Waits}
 use Rattle.symbols.specs.Rows.{Rows}
 
--- Numbers in a set.
-at_same : (k : ℕ) → is_eq (nat_cmp k k) ≡ true
-at_same k =
-    ap (λ (b : Bool). is_eq (cond b Less (cond (k == k) Equal Greater))) (le-ltb k k (omega arith)) ∙ ap (λ (b : Bool). is_eq (cond b Equal Greater)) (eq-eqb k k refl)
-
-below : (k q : ℕ) → is_gt (nat_cmp k q) ≡ false → k ≤ q
-below k q is = by_case (nat_lt k q) (λ t. let f = ltb-true k q t in omega (arith, f)) (λ t. by_case (k == q) (λ e. let f = eqb-true k q e in omega (arith, f)) (λ e. absurd (false≢true (sym is ∙ greater t e))))
-  where
-    greater : nat_lt k q ≡ false → (k == q) ≡ false → is_gt (nat_cmp k q) ≡ true
-    greater t e = ap (λ (b : Bool). is_gt (cond b Less (cond (k == q) Equal Greater))) t ∙ ap (λ (b : Bool). is_gt (cond b Equal Greater)) e
-
-other : (k q : ℕ) → (k ≡ q → ⊥) → is_eq (nat_cmp k q) ≡ false
-other k q differ =
-    by_case (nat_lt k q) (λ t. ap (λ (b : Bool). is_eq (cond b Less (cond (k == q) Equal Greater))) t)
-    (λ t. ap (λ (b : Bool). is_eq (cond b Less (cond (k == q) Equal Greater))) t
-    ∙ ap (λ (b : Bool). is_eq (cond b Equal Greater)) (false_from_ne_true (k == q) (λ e. differ (eqb-true k q e))))
-
-pub put_in : (old new : BTreeSet ℕ) (k : ℕ) → Updates nat_cmp old new k true → contains nat_cmp new k ≡ true
-put_in old new k u = u.0 k ∙ ap (λ (b : Bool). cond b true (contains nat_cmp old k)) (at_same k)
-
-pub stays_in : (old new : BTreeSet ℕ) (k q : ℕ) → Updates nat_cmp old new k true → contains nat_cmp old q ≡ true → contains nat_cmp new q ≡ true
-stays_in old new k q u there =
-    by_case (is_eq (nat_cmp k q)) (λ t. u.0 q ∙ ap (λ (b : Bool). cond b true (contains nat_cmp old q)) t)
-    (λ t. u.0 q ∙ (ap (λ (b : Bool). cond b true (contains nat_cmp old q)) t ∙ there))
-
-pub stays_out : (old new : BTreeSet ℕ) (k q : ℕ) → Updates nat_cmp old new k false → contains nat_cmp old q ≡ true → (k ≡ q → ⊥) → contains nat_cmp new q ≡ true
-stays_out old new k q u there differ = u.0 q ∙ (ap (λ (b : Bool). cond b false (contains nat_cmp old q)) (other k q differ) ∙ there)
-
-pub least : (old : BTreeSet ℕ) (k q : ℕ) → IsLowerBound nat_cmp old k → contains nat_cmp old q ≡ true → k ≤ q
-least old k q bound there = below k q (bound q there)
-
--- a set after an insertion, as an alternative
-pub put_or : (old new : BTreeSet ℕ) (k q : ℕ) → Updates nat_cmp old new k true → contains nat_cmp new q ≡ ((q == k) || contains nat_cmp old q)
-put_or old new k q u = by_case (q == k) same differs
-  where
-    same : (q == k) ≡ true → contains nat_cmp new q ≡ ((q == k) || contains nat_cmp old q)
-    same e =
-        subst (λ (j : ℕ). contains nat_cmp new j ≡ true) (sym (eqb-true q k e)) (put_in old new k u)
-        ∙ sym (ap (λ (b : Bool). b || contains nat_cmp old q) e)
-
-    differs : (q == k) ≡ false → contains nat_cmp new q ≡ ((q == k) || contains nat_cmp old q)
-    differs e =
-        u.0 q ∙ (ap (λ (b : Bool). cond b true (contains nat_cmp old q)) (other k q (λ is. eqb-false q k e (sym is)))
-        ∙ sym (ap (λ (b : Bool). b || contains nat_cmp old q) e))
-
--- a set that has a number isn't empty
-pub not_empty : (s : BTreeSet ℕ) (q : ℕ) → contains nat_cmp s q ≡ true → 0 < btree_set_len s
-not_empty s q there = by s.keys there
-  where
-    by : (ks : List ℕ) → contains nat_cmp (record { keys = ks }) q ≡ true → 0 < length ks
-    by [] t = absurd (false≢true t)
-    by (k ∷ ks) t = omega arith
-
--- The places of names.
-pub placed_step : (es : List IndexEntry) (i : ℕ) (x : IndexEntry) (name : List ℕ) (old new : List ℕ → List ℕ) → x ≡ get_or es i x → name ≡ x.name →
-    ((n : List ℕ) → new n ≡ cond (bytes_eq name n) (old n ++ i ∷ []) (old n)) →
-    ((q : ℕ) (e : IndexEntry) → q < i → slice_get es q ≡ Some e → list_any (λ p. q == p) (old e.name) ≡ true) → (q : ℕ) (e : IndexEntry) → q < i + 1 →
-    slice_get es q ≡ Some e → list_any (λ p. q == p) (new e.name) ≡ true
-placed_step es i x name old new is called next before q e within at = by (cases_lt q i)
-  where
-    added : bytes_eq name e.name ≡ true → new e.name ≡ old e.name ++ i ∷ []
-    added t = next e.name ∙ ap (λ (b : Bool). cond b (old e.name ++ i ∷ []) (old e.name)) t
-
-    by : (q < i) ⊎ (i ≤ q) → list_any (λ p. q == p) (new e.name) ≡ true
-    by (inl low) =
-        by_case (bytes_eq name e.name)
-        (λ t. ap (list_any (λ p. q == p)) (added t) ∙ (list_any-append (λ p. q == p) (old e.name) (i ∷ []) ∙ or_left _ _ (before q e low at)))
-        (λ t. ap (list_any (λ p. q == p)) (next e.name ∙ ap (λ (b : Bool). cond b (old e.name ++ i ∷ []) (old e.name)) t) ∙ before q e low at)
-    by (inr high) =
-        let same : q ≡ i = omega (arith, within, high) in
-        let here : slice_get es i ≡ Some e = subst (λ (k : ℕ). slice_get es k ≡ Some e) same at in
-        let entry : x ≡ e = is ∙ get_or_from_slice_get es i e x here in
-        let t = (bytes_eq-Decides name e.name).1 (called ∙ ap (λ (y : IndexEntry). y.name) entry) in
-        ap (list_any (λ p. q == p)) (added t)
-        ∙ (list_any-append (λ p. q == p) (old e.name) (i ∷ []) ∙ or_right _ _ (or_left (q == i) false (eq-eqb q i same)))
-
 -- The first entry that passes a test.
-pub find_first : (test : IndexEntry → Bool) (es : List IndexEntry) (p : ℕ) (e : IndexEntry) → slice_get es p ≡ Some e → test e ≡ true →
+find_first : (test : IndexEntry → Bool) (es : List IndexEntry) (p : ℕ) (e : IndexEntry) → slice_get es p ≡ Some e → test e ≡ true →
     ((k : ℕ) (x : IndexEntry) → k < p → slice_get es k ≡ Some x → test x ≡ true → ⊥) → find test es ≡ Some e
 find_first test [] p e at passes none = absurd (none-some e at)
 find_first test (x ∷ xs) zero e at passes none = ap (λ (b : Bool). cond b (Some x) (find test xs)) (ap test (same_Some x e at) ∙ passes) ∙ at
@@ -118,117 +36,10 @@ find_first test (x ∷ xs) (suc p) e at passes none =
     ap (λ (b : Bool). cond b (Some x) (find test xs)) fails
     ∙ find_first test xs p e at passes (λ k y less here t. none (suc k) y (omega (arith, less)) here t)
 
-pub find_none : (test : IndexEntry → Bool) (es : List IndexEntry) → ((k : ℕ) (x : IndexEntry) → slice_get es k ≡ Some x → test x ≡ true → ⊥) → find test es ≡ None
+find_none : (test : IndexEntry → Bool) (es : List IndexEntry) → ((k : ℕ) (x : IndexEntry) → slice_get es k ≡ Some x → test x ≡ true → ⊥) → find test es ≡ None
 find_none test [] none = refl
 find_none test (x ∷ xs) none =
     ap (λ (b : Bool). cond b (Some x) (find test xs)) (false_from_ne_true (test x) (λ t. none 0 x refl t)) ∙ find_none test xs (λ k y here t. none (suc k) y here t)
-
--- A look at one more name that was asked for.
-pub covers_step :
-    {T : Type 0} (l : Loader T) (item : ℕ) (es : List IndexEntry) (w new : Waits) (name : List ℕ) → Covers l item es w → slice_get l.names.requested w.seen ≡ Some name →
-    new.places ≡ w.places → new.seen ≡ w.seen + 1 →
-    ((q : ℕ) → contains nat_cmp new.waiting q ≡ (list_any (λ p. q == p) (places_in w.places name) || contains nat_cmp w.waiting q)) →
-    Covers l item es new
-covers_step l item es w new name c at places_ seen_ waiting_ = record {
-  placed = subst (ArePlaced es) (sym places_) c.placed;
-  seen = let n = slice_get_within l.names.requested w.seen name at in omega (arith, n, seen_);
-  covers = λ q e here next_. by q e here (or_cases (contains nat_cmp w.waiting q) (is_among (drop w.seen l.names.requested) e.name) (c.covers q e here next_));
-}
-  where
-    later : List (List ℕ)
-    later = drop (w.seen + 1) l.names.requested
-
-    split : drop w.seen l.names.requested ≡ name ∷ drop (w.seen + 1) l.names.requested
-    split =
-        let e : w.seen + 1 ≡ suc w.seen = omega arith in
-        rw e
-        (drop-cons l.names.requested w.seen name (slice_get_within l.names.requested w.seen name at)
-        ∙ ap (λ (n : List ℕ). n ∷ drop (suc w.seen) l.names.requested) (get_or_from_slice_get l.names.requested w.seen name name at))
-
-    rest : (e : IndexEntry) → is_among (drop (w.seen + 1) l.names.requested) e.name ≡ true → is_among (drop new.seen l.names.requested) e.name ≡ true
-    rest e t = subst (λ (k : ℕ). is_among (drop k l.names.requested) e.name ≡ true) (sym seen_) t
-
-    by : (q : ℕ) (e : IndexEntry) → slice_get es q ≡ Some e → (contains nat_cmp w.waiting q ≡ true) ⊎ (is_among (drop w.seen l.names.requested) e.name ≡ true) →
-        (contains nat_cmp new.waiting q || is_among (drop new.seen l.names.requested) e.name) ≡ true
-    by q e here (inl waits_) = or_left _ _ (waiting_ q ∙ or_right (list_any (λ p. q == p) (places_in w.places name)) (contains nat_cmp w.waiting q) waits_)
-    by q e here (inr asked_) =
-        named (or_cases (bytes_eq e.name name) (is_among (drop (w.seen + 1) l.names.requested) e.name) (sym (ap (λ (ns : List (List ℕ)). is_among ns e.name) split) ∙ asked_))
-      where
-        named : (bytes_eq e.name name ≡ true) ⊎ (is_among (drop (w.seen + 1) l.names.requested) e.name ≡ true) →
-            (contains nat_cmp new.waiting q || is_among (drop new.seen l.names.requested) e.name) ≡ true
-        named (inl same) =
-            or_left _ _
-            (waiting_ q ∙ or_left (list_any (λ p. q == p) (places_in w.places name)) (contains nat_cmp w.waiting q)
-            (subst (λ (n : List ℕ). list_any (λ p. q == p) (places_in w.places n) ≡ true) ((bytes_eq-Decides e.name name).0 same) (c.placed q e here)))
-        named (inr later_) = or_right (contains nat_cmp new.waiting q) _ (rest e later_)
-
--- where all names that are asked for were looked at, all that may be next waits
-pub caught_up : {T : Type 0} (l : Loader T) (item : ℕ) (es : List IndexEntry) (w : Waits) → Covers l item es w → length l.names.requested ≤ w.seen → NextWait l item es w.waiting
-caught_up l item es w c all q e here next_ =
-    by (or_cases (contains nat_cmp w.waiting q) (is_among (drop w.seen l.names.requested) e.name) (c.covers q e here next_))
-  where
-    by : (contains nat_cmp w.waiting q ≡ true) ⊎ (is_among (drop w.seen l.names.requested) e.name ≡ true) → contains nat_cmp w.waiting q ≡ true
-    by (inl t) = t
-    by (inr t) = absurd (false≢true (sym (ap (λ (ns : List (List ℕ)). is_among ns e.name) (drop_of_length-le l.names.requested all)) ∙ t))
-
--- A place that is added to a name's.
-pub place_added :
-    {S : Type 0} (m : HashMap (Bor (List ℕ)) (Vec ℕ) S) (written : Vec ℕ → HashMap (Bor (List ℕ)) (Vec ℕ) S) (name : Bor (List ℕ)) (place : ℕ) (old new d : Vec ℕ)
-    (to : List (Bor (List ℕ) × Vec ℕ)) → ((v : Vec ℕ) → bag.Updates (λ x y. bytes_eq x.now y.now) m (written v) name (Some v)) →
-    old ≡ unwrap_or (lookup (λ k. bytes_eq name.now k.now) m.entries) d → d.items ≡ [] → new.items ≡ old.items ++ place ∷ [] → to ≡ (written new).entries → (n : List ℕ) →
-    unwrap_or (option_map (λ v. v.items) (lookup (λ k. bytes_eq n k.now) to)) [] ≡ cond (bytes_eq name.now n) (places_in m n ++ place ∷ []) (places_in m n)
-place_added m written name place old new d to updates was none is same n = by_case (bytes_eq name.now n) this that
-  where
-    items_in : Option (Vec ℕ) → List ℕ
-    items_in o = unwrap_or (option_map (λ v. v.items) o) []
-
-    looked : items_in (lookup (λ k. bytes_eq n k.now) to) ≡ items_in (cond (bytes_eq name.now n) (Some new) (lookup (λ k. bytes_eq n k.now) m.entries))
-    looked =
-        ap (λ es. items_in (lookup (λ k. bytes_eq n k.now) es)) same
-        ∙ ap items_in (hash_map_updates_str name.now m (written new) (Some new) (updates new) n)
-
-    had : (found : Option (Vec ℕ)) → (unwrap_or found d).items ≡ items_in found
-    had None = none
-    had (Some v) = refl
-
-    this : bytes_eq name.now n ≡ true → items_in (lookup (λ k. bytes_eq n k.now) to) ≡ cond (bytes_eq name.now n) (places_in m n ++ place ∷ []) (places_in m n)
-    this t =
-        looked
-        ∙ (ap (λ (b : Bool). items_in (cond b (Some new) (lookup (λ k. bytes_eq n k.now) m.entries))) t
-        ∙ (is
-        ∙ (ap (λ (l : List ℕ). l ++ place ∷ []) (ap (λ (v : Vec ℕ). v.items) was ∙ had (lookup (λ k. bytes_eq name.now k.now) m.entries))
-        ∙ (ap (λ (k : List ℕ). places_in m k ++ place ∷ []) ((bytes_eq-Decides name.now n).0 t)
-        ∙ sym (ap (λ (b : Bool). cond b (places_in m n ++ place ∷ []) (places_in m n)) t)))))
-
-    that : bytes_eq name.now n ≡ false → items_in (lookup (λ k. bytes_eq n k.now) to) ≡ cond (bytes_eq name.now n) (places_in m n ++ place ∷ []) (places_in m n)
-    that t =
-        looked
-        ∙ (ap (λ (b : Bool). items_in (cond b (Some new) (lookup (λ k. bytes_eq n k.now) m.entries))) t
-        ∙ sym (ap (λ (b : Bool). cond b (places_in m n ++ place ∷ []) (places_in m n)) t))
-
--- The least place is taken off.
-module _ (test : IndexEntry → Bool) (es : List IndexEntry) (old new : BTreeSet ℕ) (place : ℕ) (x : IndexEntry) (at : slice_get es place ≡ Some x) (waits_ : (q : ℕ) (e : IndexEntry) → slice_get es q ≡ Some e → test e ≡ true → contains nat_cmp old q ≡ true) (bound : IsLowerBound nat_cmp old place) (taken_ : Updates nat_cmp old new place false) where
-  pub pop_found : test x ≡ true → find test es ≡ Some x
-  pop_found passes = find_first test es place x at passes none
-    where
-      none : (k : ℕ) (y : IndexEntry) → k < place → slice_get es k ≡ Some y → test y ≡ true → ⊥
-      none k y less here t = let f = least old place k bound (waits_ k y here t) in omega (arith, f, less)
-
-  pub pop_rest : (q : ℕ) (e : IndexEntry) → slice_get es q ≡ Some e → test e ≡ true → (contains nat_cmp new q ≡ true) ⊎ (x ≡ e)
-  pop_rest q e here t = by_case (place == q) same differs
-    where
-      same : (place == q) ≡ true → (contains nat_cmp new q ≡ true) ⊎ (x ≡ e)
-      same s = inr (same_Some x e (sym at ∙ (ap (slice_get es) (eqb-true place q s) ∙ here)))
-
-      differs : (place == q) ≡ false → (contains nat_cmp new q ≡ true) ⊎ (x ≡ e)
-      differs s = inl (stays_out old new place q taken_ (waits_ q e here t) (eqb-false place q s))
-
-  pub pop_dead : test x ≡ false → (q : ℕ) (e : IndexEntry) → slice_get es q ≡ Some e → test e ≡ true → contains nat_cmp new q ≡ true
-  pop_dead fails q e here t = by (pop_rest q e here t)
-    where
-      by : (contains nat_cmp new q ≡ true) ⊎ (x ≡ e) → contains nat_cmp new q ≡ true
-      by (inl c) = c
-      by (inr s) = absurd (false≢true (sym (ap test (sym s) ∙ fails) ∙ t))
 
 -- an entry's test by its name and its offset
 pub next_is : (plan : Plan) (os : List LoadedObject) (item : ℕ) (x : IndexEntry) (name : List ℕ) (offset : ℕ) → name ≡ x.name → offset ≡ x.offset →
@@ -237,19 +48,112 @@ next_is plan os item x name offset called at =
     ap (λ (n : List ℕ). needed plan os n && not (is_taken os item x.offset)) (sym called)
     ∙ ap (λ (k : ℕ). needed plan os name && not (is_taken os item k)) (sym at)
 
--- what waits after a look, but for the entries of the member that it gave
-pub covers_but : {T : Type 0} (l : Loader T) (item : ℕ) (es : List IndexEntry) (w : Waits) (waiting : BTreeSet ℕ) (but : Option ℕ) → Covers l item es w →
-    ((q : ℕ) (e : IndexEntry) → slice_get es q ≡ Some e → is_next_of l.plan.now (loaded l) item e ≡ true → (contains nat_cmp waiting q ≡ true) ⊎ (but ≡ Some e.offset)) →
-    CoversBut l item es (record { places = w.places; waiting = waiting; seen = w.seen }) but
-covers_but l item es w waiting but c rest = record {
-  placed = c.placed;
-  seen = c.seen;
-  covers = λ q e here t. by e (rest q e here t);
+-- What waits still waits where places are added.
+pub awaits_on :
+    {T : Type 0} (l : Loader T) (names : List (List ℕ)) (k : ℕ) (o : Opened) (old new : WaitingPlaces) → ((j q : ℕ) → is_waiting old j q ≡ true → is_waiting new j q ≡ true) →
+    Awaits l names k o old → Awaits l names k o new
+awaits_on l names k o old new on a = record {
+  searched = λ s q e at t. by q (is_among names e.name ≡ true) (a.searched s q e at t);
+  taken_whole = λ s. by 0 (IsSpent (loaded l) o) (a.taken_whole s);
 }
   where
-    by : {P : Bool} (e : IndexEntry) → (P ≡ true) ⊎ (but ≡ Some e.offset) → ((P || is_among (drop w.seen l.names.requested) e.name) ≡ true) ⊎ (but ≡ Some e.offset)
-    by e (inl t) = inl (or_left _ _ t)
-    by e (inr t) = inr t
+    by : (q : ℕ) (Q : Type 0) → (is_waiting old k q ≡ true) ⊎ Q → (is_waiting new k q ≡ true) ⊎ Q
+    by q Q (inl there) = inl (on k q there)
+    by q Q (inr other) = inr other
+
+-- A look at one more name that was asked for.
+pub covers_step :
+    {T : Type 0} (l : Loader T) (os : List Opened) (w new : Waits) (name : List ℕ) → Covers l os w → slice_get l.names.requested w.seen ≡ Some name →
+    new.places ≡ w.places → new.seen ≡ w.seen + 1 →
+    ((k q : ℕ) → is_waiting new.waiting k q ≡ (list_any (is_place k q) (places_in w.places.entries name) || is_waiting w.waiting k q)) → Covers l os new
+covers_step l os w new name c at places_ seen_ told = record {
+  placed = λ k o there s q e here. ap (λ m. has_place m.entries e.name k q) places_ ∙ c.placed k o there s q e here;
+  seen_names = let n = slice_get_within l.names.requested w.seen name at in omega (arith, n, seen_);
+  awaited = λ k o there. record {
+    searched = λ s q e here t. by k q e (c.placed k o there s q e here) ((c.awaited k o there).searched s q e here t);
+    taken_whole = λ s. stays k 0 (IsSpent (loaded l) o) ((c.awaited k o there).taken_whole s);
+  };
+}
+  where
+    split : drop w.seen l.names.requested ≡ name ∷ drop (w.seen + 1) l.names.requested
+    split =
+        let e : w.seen + 1 ≡ suc w.seen = omega arith in
+        rw e
+        (drop-cons l.names.requested w.seen name (slice_get_within l.names.requested w.seen name at)
+        ∙ ap (λ (n : List ℕ). n ∷ drop (suc w.seen) l.names.requested) (get_or_from_slice_get l.names.requested w.seen name name at))
+
+    stays : (k q : ℕ) (Q : Type 0) → (is_waiting w.waiting k q ≡ true) ⊎ Q → (is_waiting new.waiting k q ≡ true) ⊎ Q
+    stays k q Q (inl there) = inl (told k q ∙ or_right (has_place w.places.entries name k q) (is_waiting w.waiting k q) there)
+    stays k q Q (inr other) = inr other
+
+    asked : (k q : ℕ) (e : IndexEntry) → has_place w.places.entries e.name k q ≡ true →
+        (bytes_eq e.name name ≡ true) ⊎ (is_among (drop (w.seen + 1) l.names.requested) e.name ≡ true) →
+        (is_waiting new.waiting k q ≡ true) ⊎ (is_among (drop new.seen l.names.requested) e.name ≡ true)
+    asked k q e place (inl same) =
+        inl
+        (told k q ∙ or_left (has_place w.places.entries name k q) (is_waiting w.waiting k q)
+        (subst (λ (n : List ℕ). has_place w.places.entries n k q ≡ true) ((bytes_eq-Decides e.name name).0 same) place))
+    asked k q e place (inr later) = inr (subst (λ (n : ℕ). is_among (drop n l.names.requested) e.name ≡ true) (sym seen_) later)
+
+    by : (k q : ℕ) (e : IndexEntry) → has_place w.places.entries e.name k q ≡ true →
+        (is_waiting w.waiting k q ≡ true) ⊎ (is_among (drop w.seen l.names.requested) e.name ≡ true) →
+        (is_waiting new.waiting k q ≡ true) ⊎ (is_among (drop new.seen l.names.requested) e.name ≡ true)
+    by k q e place (inl there) = inl (told k q ∙ or_right (has_place w.places.entries name k q) (is_waiting w.waiting k q) there)
+    by k q e place (inr later) =
+        asked k q e place
+        (or_cases (bytes_eq e.name name) (is_among (drop (w.seen + 1) l.names.requested) e.name)
+        (sym (ap (λ (ns : List (List ℕ)). is_among ns e.name) split) ∙ later))
+
+-- where all names that are asked for were looked at, all that may be given waits; and the other way round
+pub covers_now : {T : Type 0} (l : Loader T) (os : List Opened) (w : Waits) → ArePlaced w.places.entries os → AllAwait l [] os w.waiting → w.seen ≡ length l.names.requested →
+    Covers l os w
+covers_now l os w placed_ all seen_ = record {
+  placed = placed_;
+  seen_names = omega (arith, seen_);
+  awaited = subst (λ (ns : List (List ℕ)). AllAwait l ns os w.waiting) (sym (drop_of_length-le l.names.requested (omega (arith, seen_)))) all;
+}
+
+pub caught_up : {T : Type 0} (l : Loader T) (os : List Opened) (w : Waits) → Covers l os w → length l.names.requested ≤ w.seen → AllAwait l [] os w.waiting
+caught_up l os w c all k o at =
+    subst (λ (ns : List (List ℕ)). Awaits l ns k o w.waiting) (drop_of_length-le l.names.requested all) (c.awaited k o at)
+
+pub next_waits : {T : Type 0} (l : Loader T) (k : ℕ) (o : Opened) (w : WaitingPlaces) → Awaits l [] k o w → o.whole ≡ false →
+    NextWait l o.number (archive_entries o.bytes) k w
+next_waits l k o w a searched q e at t = by (a.searched searched q e at t)
+  where
+    by : (is_waiting w k q ≡ true) ⊎ (is_among [] e.name ≡ true) → is_waiting w k q ≡ true
+    by (inl there) = there
+    by (inr none) = absurd (false≢true none)
+
+-- The first place of an archive that waits.
+module _ (test : IndexEntry → Bool) (es : List IndexEntry) (k : ℕ) (w : WaitingPlaces) (wait : (q : ℕ) (e : IndexEntry) → slice_get es q ≡ Some e → test e ≡ true → is_waiting w k q ≡ true) where
+  pub first_gives : (i offset : ℕ) → ((q : ℕ) → is_waiting w k q ≡ true → i ≤ q) → IsSomeAnd (slice_get es i) (λ e. (test e ≡ true) × (offset ≡ e.offset)) →
+      Some offset ≡ option_map (λ e. e.offset) (find test es)
+  first_gives i offset least some = by (slice_get es i) refl some
+    where
+      by : (f : Option IndexEntry) → slice_get es i ≡ f → IsSomeAnd f (λ e. (test e ≡ true) × (offset ≡ e.offset)) → Some offset ≡ option_map (λ e. e.offset) (find test es)
+      by None at found = absurd found
+      by (Some e) at found =
+          ap Some found.1
+          ∙ sym (ap (λ (f : Option IndexEntry). option_map (λ x. x.offset) f)
+          (find_first test es i e at found.0 (λ q x low here t. let n = least q (wait q x here t) in omega (arith, low, n))))
+
+  pub none_gives : ((q : ℕ) → is_waiting w k q ≡ false) → find test es ≡ None
+  none_gives none = find_none test es (λ q x here t. false≢true (sym (none q) ∙ wait q x here t))
+
+  -- a place that gives none waits no longer
+  pub others_wait :
+      (new : WaitingPlaces) (i : ℕ) → ((j q : ℕ) → is_waiting new j q ≡ (not (is_place j q (k, i)) && is_waiting w j q)) →
+      ((e : IndexEntry) → slice_get es i ≡ Some e → test e ≡ false) → (q : ℕ) (e : IndexEntry) → slice_get es q ≡ Some e → test e ≡ true → is_waiting new k q ≡ true
+  others_wait new i rest dead q e here t =
+      still_waiting w new (k, i) rest k q
+      (λ place.
+      let same = eqb-true i q (and_parts (k == k) (i == q) place).1 in
+      false≢true (sym (dead e (ap (slice_get es) same ∙ here)) ∙ t)) (wait q e here t)
+
+pub archives_wait : (old new : WaitingPlaces) (k i : ℕ) → ((j q : ℕ) → is_waiting new j q ≡ (not (is_place j q (k, i)) && is_waiting old j q)) →
+    (j q : ℕ) → (j ≡ k → ⊥) → is_waiting old j q ≡ true → is_waiting new j q ≡ true
+archives_wait old new k i rest j q other there = still_waiting old new (k, i) rest j q (λ place. other (sym (eqb-true k j (and_parts (k == j) (i == q) place).0))) there
 
 -- What is loaded later.
 pub is_later_refl : {T : Type 0} (l : Loader T) → IsLater l l
@@ -270,49 +174,80 @@ defined_stays from to n e there =
 drop_grows : (a : List (List ℕ)) (b : List (List ℕ)) (n : ℕ) → (x : Begins a b) → n ≤ length a → drop n b ≡ drop n a ++ x.0
 drop_grows a b n x within = ap (drop n) x.1 ∙ drop-append-le n a x.0 within
 
--- what waits, waits later too, but where its member was taken meanwhile
-pub covers_on : {T : Type 0} {rows : T → Rows} (now later : Loader T) (item : ℕ) (es : List IndexEntry) (w : Waits) → Knows rows now → Knows rows later → IsLater now later → ArePlaced es w.places →
-    w.seen ≤ length now.names.requested →
-    ((q : ℕ) (e : IndexEntry) → slice_get es q ≡ Some e → is_next_of now.plan.now (loaded now) item e ≡ true →
-    ((contains nat_cmp w.waiting q || is_among (drop w.seen now.names.requested) e.name) ≡ true) ⊎ (is_taken (loaded later) item e.offset ≡ true)) →
-    Covers later item es w
-covers_on now later item es w a b on placed_ seen_ old = record {
-  placed = placed_;
-  seen = let n = length-append now.names.requested on.requested.0 in let m : length later.names.requested ≡ length (now.names.requested ++ on.requested.0) = ap length on.requested.1 in omega (arith, seen_, n, m);
-  covers = λ q e at t. by_case (is_next_of now.plan.now (loaded now) item e) (λ s. before q e t (old q e at s)) (λ s. fresh q e t s);
+-- what is covered where only the places of one archive change, which is covered still
+module _ {T : Type 0} (l : Loader T) (os : List Opened) (w new : Waits) (c : Covers l os w) (k : ℕ) (o : Opened) (at : slice_get os k ≡ Some o) (places_ : new.places ≡ w.places) (seen_ : new.seen ≡ w.seen) (others : (j q : ℕ) → (j ≡ k → ⊥) → is_waiting w.waiting j q ≡ true → is_waiting new.waiting j q ≡ true) where
+  pub covers_but : Awaits l (drop w.seen l.names.requested) k o new.waiting → Covers l os new
+  covers_but own = record {
+    placed = λ j p there s q e here. ap (λ m. has_place m.entries e.name j q) places_ ∙ c.placed j p there s q e here;
+    seen_names = let n = c.seen_names in omega (arith, n, seen_);
+    awaited = λ j p there.
+        subst (λ (n : ℕ). Awaits l (drop n l.names.requested) j p new.waiting) (sym seen_)
+        (by_case (j == k) (λ t. same j p there (eqb-true j k t)) (λ t. apart j p there (eqb-false j k t)));
+  }
+    where
+      same : (j : ℕ) (p : Opened) → slice_get os j ≡ Some p → j ≡ k → Awaits l (drop w.seen l.names.requested) j p new.waiting
+      same j p there e =
+          let is : o ≡ p = same_Some o p (sym at ∙ (ap (slice_get os) (sym e) ∙ there)) in
+          subst (λ (n : ℕ). Awaits l (drop w.seen l.names.requested) n p new.waiting) (sym e)
+          (subst (λ (x : Opened). Awaits l (drop w.seen l.names.requested) k x new.waiting) is own)
+
+      waiting_on : (j q : ℕ) (Q : Type 0) → (j ≡ k → ⊥) → (is_waiting w.waiting j q ≡ true) ⊎ Q → (is_waiting new.waiting j q ≡ true) ⊎ Q
+      waiting_on j q Q differs (inl there) = inl (others j q differs there)
+      waiting_on j q Q differs (inr other) = inr other
+
+      apart : (j : ℕ) (p : Opened) → slice_get os j ≡ Some p → (j ≡ k → ⊥) → Awaits l (drop w.seen l.names.requested) j p new.waiting
+      apart j p there differs = record {
+        searched = λ s q e here t. waiting_on j q (is_among (drop w.seen l.names.requested) e.name ≡ true) differs ((c.awaited j p there).searched s q e here t);
+        taken_whole = λ s. waiting_on j 0 (IsSpent (loaded l) p) differs ((c.awaited j p there).taken_whole s);
+      }
+
+  -- after a look at a searched one, and after the turn of a whole one
+  pub covers_looked : o.whole ≡ false → NextWait l o.number (archive_entries o.bytes) k new.waiting → Covers l os new
+  covers_looked searched_ wait =
+      covers_but (record { searched = λ s q e here t. inl (wait q e here t); taken_whole = λ s. absurd (false≢true (sym searched_ ∙ s)) })
+
+  pub covers_spent : o.whole ≡ true → IsSpent (loaded l) o → Covers l os new
+  covers_spent whole_ spent = covers_but (record { searched = λ s. absurd (false≢true (sym s ∙ whole_)); taken_whole = λ s. inr spent })
+
+-- what is covered is so later
+pub covers_later : {T : Type 0} {rows : T → Rows} (now later : Loader T) (os : List Opened) (w : Waits) → Knows rows now → Knows rows later → IsLater now later → Covers now os w →
+    Covers later os w
+covers_later now later os w a b on c = record {
+  placed = c.placed;
+  seen_names = let n = length-append now.names.requested on.requested.0 in let m : length later.names.requested ≡ length (now.names.requested ++ on.requested.0) = ap length on.requested.1 in let s = c.seen_names in omega (arith, s, n, m);
+  awaited = λ k o at. record {
+    searched = λ s q e here t. by_case (is_next_of now.plan.now (loaded now) o.number e) (λ n. before k q e ((c.awaited k o at).searched s q e here n)) (λ n. inr (fresh o.number e t n));
+    taken_whole = λ s. spent k o ((c.awaited k o at).taken_whole s);
+  };
 }
   where
     grown : drop w.seen later.names.requested ≡ drop w.seen now.names.requested ++ on.requested.0
-    grown = drop_grows now.names.requested later.names.requested w.seen on.requested seen_
+    grown = drop_grows now.names.requested later.names.requested w.seen on.requested c.seen_names
 
-    free : (e : IndexEntry) → is_next_of later.plan.now (loaded later) item e ≡ true → is_taken (loaded later) item e.offset ≡ false
-    free e t = not-true (is_taken (loaded later) item e.offset) ((and_parts (needed later.plan.now (loaded later) e.name) (not (is_taken (loaded later) item e.offset)) t).1)
+    before : (k q : ℕ) (e : IndexEntry) → (is_waiting w.waiting k q ≡ true) ⊎ (is_among (drop w.seen now.names.requested) e.name ≡ true) →
+        (is_waiting w.waiting k q ≡ true) ⊎ (is_among (drop w.seen later.names.requested) e.name ≡ true)
+    before k q e (inl there) = inl there
+    before k q e (inr asked_) = inr (among_grows (drop w.seen now.names.requested) (drop w.seen later.names.requested) e.name (on.requested.0, grown) asked_)
 
-    before : (q : ℕ) (e : IndexEntry) → is_next_of later.plan.now (loaded later) item e ≡ true →
-        ((contains nat_cmp w.waiting q || is_among (drop w.seen now.names.requested) e.name) ≡ true) ⊎ (is_taken (loaded later) item e.offset ≡ true) →
-        (contains nat_cmp w.waiting q || is_among (drop w.seen later.names.requested) e.name) ≡ true
-    before q e t (inr taken_) = absurd (false≢true (sym (free e t) ∙ taken_))
-    before q e t (inl waits_) = by (or_cases (contains nat_cmp w.waiting q) (is_among (drop w.seen now.names.requested) e.name) waits_)
-      where
-        by : (contains nat_cmp w.waiting q ≡ true) ⊎ (is_among (drop w.seen now.names.requested) e.name ≡ true) →
-            (contains nat_cmp w.waiting q || is_among (drop w.seen later.names.requested) e.name) ≡ true
-        by (inl here) = or_left _ _ here
-        by (inr asked_) =
-            or_right (contains nat_cmp w.waiting q) _
-            (among_grows (drop w.seen now.names.requested) (drop w.seen later.names.requested) e.name (on.requested.0, grown) asked_)
+    spent : (k : ℕ) (o : Opened) → (is_waiting w.waiting k 0 ≡ true) ⊎ IsSpent (loaded now) o → (is_waiting w.waiting k 0 ≡ true) ⊎ IsSpent (loaded later) o
+    spent k o (inl there) = inl there
+    spent k o (inr (inl begun)) = inr (inl (begun_stays (loaded now) (loaded later) o.number on.objects begun))
+    spent k o (inr (inr none)) = inr (inr none)
 
-    fresh : (q : ℕ) (e : IndexEntry) → is_next_of later.plan.now (loaded later) item e ≡ true → is_next_of now.plan.now (loaded now) item e ≡ false →
-        (contains nat_cmp w.waiting q || is_among (drop w.seen later.names.requested) e.name) ≡ true
-    fresh q e t s =
-        or_right (contains nat_cmp w.waiting q) _
-        (ap (λ (l : List (List ℕ)). is_among l e.name) grown
+    free : (item : ℕ) (e : IndexEntry) → is_next_of later.plan.now (loaded later) item e ≡ true → is_taken (loaded later) item e.offset ≡ false
+    free item e t = not-true (is_taken (loaded later) item e.offset) ((and_parts (needed later.plan.now (loaded later) e.name) (not (is_taken (loaded later) item e.offset)) t).1)
+
+    fresh : (item : ℕ) (e : IndexEntry) → is_next_of later.plan.now (loaded later) item e ≡ true → is_next_of now.plan.now (loaded now) item e ≡ false →
+        is_among (drop w.seen later.names.requested) e.name ≡ true
+    fresh item e t s =
+        ap (λ (l : List (List ℕ)). is_among l e.name) grown
         ∙ (list_any-append (bytes_eq e.name) (drop w.seen now.names.requested) on.requested.0
-        ∙ or_right (is_among (drop w.seen now.names.requested) e.name) (is_among on.requested.0 e.name) behind))
+        ∙ or_right (is_among (drop w.seen now.names.requested) e.name) (is_among on.requested.0 e.name) behind)
       where
         free_before : is_taken (loaded now) item e.offset ≡ false
         free_before =
             false_from_ne_true (is_taken (loaded now) item e.offset)
-            (λ taken_. false≢true (sym (free e t) ∙ taken_stays (loaded now) (loaded later) item e.offset on.objects taken_))
+            (λ taken_. false≢true (sym (free item e t) ∙ taken_stays (loaded now) (loaded later) item e.offset on.objects taken_))
 
         needed_later : needed later.plan.now (loaded later) e.name ≡ true
         needed_later = (and_parts (needed later.plan.now (loaded later) e.name) (not (is_taken (loaded later) item e.offset)) t).0
@@ -349,53 +284,28 @@ covers_on now later item es w a b on placed_ seen_ old = record {
             split (inl x) = absurd (false≢true (sym unasked ∙ x))
             split (inr x) = x
 
-pub covers_later : {T : Type 0} {rows : T → Rows} (now later : Loader T) (item : ℕ) (es : List IndexEntry) (w : Waits) → Knows rows now → Knows rows later → IsLater now later → Covers now item es w →
-    Covers later item es w
-covers_later now later item es w a b on c = covers_on now later item es w a b on c.placed c.seen (λ q e at t. inl (c.covers q e at t))
+-- What takes nothing.
+spent_stays : (o : Opened) (os : List LoadedObject) → IsSpent os o → turn_of_whole o os ≡ os
+spent_stays o os (inl begun) = cond-true (is_begun os o.number) os (with_members os o (archive_members o.bytes)) begun
+spent_stays o os (inr none) =
+    by_case (is_begun os o.number) (λ t. cond-true (is_begun os o.number) os (with_members os o (archive_members o.bytes)) t)
+    (λ t. cond-false (is_begun os o.number) os (with_members os o (archive_members o.bytes)) t ∙ ap (with_members os o) none)
 
--- the same after the member that a look gave is taken
-pub covers_taken : {T : Type 0} {rows : T → Rows} (now later : Loader T) (item : ℕ) (es : List IndexEntry) (w : Waits) (offset : ℕ) → Knows rows now → Knows rows later → IsLater now later →
-    CoversBut now item es w (Some offset) → is_taken (loaded later) item offset ≡ true → Covers later item es w
-covers_taken now later item es w offset a b on c taken_ = covers_on now later item es w a b on c.placed c.seen (λ q e at t. by e (c.covers q e at t))
+turn_idle : {T : Type 0} (l : Loader T) (k : ℕ) (o : Opened) (w : WaitingPlaces) → Awaits l [] k o w → ((q : ℕ) → is_waiting w k q ≡ false) → turn l.plan.now o (loaded l) ≡ loaded l
+turn_idle l k o w a none = by_case o.whole whole searched
   where
-    by : {P : Type 0} (e : IndexEntry) → P ⊎ (◌≡◌ {A = Option ℕ} (Some offset) (Some e.offset)) → P ⊎ (is_taken (loaded later) item e.offset ≡ true)
-    by e (inl p) = inl p
-    by e (inr s) = inr (subst (λ (k : ℕ). is_taken (loaded later) item k ≡ true) (same_Some offset e.offset s) taken_)
+    spent : (is_waiting w k 0 ≡ true) ⊎ IsSpent (loaded l) o → turn_of_whole o (loaded l) ≡ loaded l
+    spent (inl there) = absurd (false≢true (sym (none 0) ∙ there))
+    spent (inr is) = spent_stays o (loaded l) is
 
-pub covers_for_later : {T : Type 0} {rows : T → Rows} (now later : Loader T) (o : Opened) (w : Option Waits) → Knows rows now → Knows rows later → IsLater now later → CoversFor now o w → CoversFor later o w
-covers_for_later now later o None a b on c = c
-covers_for_later now later o (Some w) a b on c = (c.0, covers_later now later o.number (archive_entries o.bytes) w a b on c.1)
+    whole : o.whole ≡ true → turn l.plan.now o (loaded l) ≡ loaded l
+    whole is = turn_whole l.plan.now o (loaded l) is ∙ spent (a.taken_whole is)
 
--- Lists side by side.
-pub zip_push : {X Y : Type 0} (R : X → Y → Type 0) (xs : List X) (ys : List Y) (x : X) (y : Y) → AllZip R xs ys → R x y → AllZip R (xs ++ x ∷ []) (ys ++ y ∷ [])
-zip_push R [] [] x y z r = (r, tt)
-zip_push R [] (b ∷ ys) x y z r = absurd z
-zip_push R (a ∷ xs) [] x y z r = absurd z
-zip_push R (a ∷ xs) (b ∷ ys) x y z r = (z.0, zip_push R xs ys x y z.1 r)
+    searched : o.whole ≡ false → turn l.plan.now o (loaded l) ≡ loaded l
+    searched is =
+        turn_none l.plan.now o (loaded l) is
+        (none_gives (is_next_of l.plan.now (loaded l) o.number) (archive_entries o.bytes) k w (next_waits l k o w a is) none)
 
-pub zip_length : {X Y : Type 0} (R : X → Y → Type 0) (xs : List X) (ys : List Y) → AllZip R xs ys → length ys ≡ length xs
-zip_length R [] [] z = refl
-zip_length R [] (b ∷ ys) z = absurd z
-zip_length R (a ∷ xs) [] z = absurd z
-zip_length R (a ∷ xs) (b ∷ ys) z = let n = zip_length R xs ys z.1 in omega (arith, n)
-
-pub zip_at : {X Y : Type 0} (R : X → Y → Type 0) (xs : List X) (ys : List Y) (i : ℕ) (d : X) (e : Y) → AllZip R xs ys → i < length xs → R (get_or xs i d) (get_or ys i e)
-zip_at R [] [] i d e z within = absurd (omega (arith, within))
-zip_at R [] (b ∷ ys) i d e z within = absurd z
-zip_at R (a ∷ xs) [] i d e z within = absurd z
-zip_at R (a ∷ xs) (b ∷ ys) zero d e z within = z.0
-zip_at R (a ∷ xs) (b ∷ ys) (suc i) d e z within = zip_at R xs ys i d e z.1 (omega (arith, within))
-
-zip_weaker : {X Y : Type 0} (R S : X → Y → Type 0) (xs : List X) (ys : List Y) → ((x : X) (y : Y) → R x y → S x y) → AllZip R xs ys → AllZip S xs ys
-zip_weaker R S [] [] weaker z = tt
-zip_weaker R S [] (b ∷ ys) weaker z = absurd z
-zip_weaker R S (a ∷ xs) [] weaker z = absurd z
-zip_weaker R S (a ∷ xs) (b ∷ ys) weaker z = (weaker a b z.0, zip_weaker R S xs ys weaker z.1)
-
-pub zip_set : {X Y : Type 0} (R S : X → Y → Type 0) (xs : List X) (ys : List Y) (i : ℕ) (d : X) (w : Y) → ((x : X) (y : Y) → R x y → S x y) → AllZip R xs ys →
-    i < length xs → S (get_or xs i d) w → AllZip S xs (set ys i w)
-zip_set R S [] [] i d w weaker z within new = absurd (omega (arith, within))
-zip_set R S [] (b ∷ ys) i d w weaker z within new = absurd z
-zip_set R S (a ∷ xs) [] i d w weaker z within new = absurd z
-zip_set R S (a ∷ xs) (b ∷ ys) zero d w weaker z within new = (new, zip_weaker R S xs ys weaker z.1)
-zip_set R S (a ∷ xs) (b ∷ ys) (suc i) d w weaker z within new = (weaker a b z.0, zip_set R S xs ys i d w weaker z.1 (omega (arith, within)) new)
+pub idle : {T : Type 0} (l : Loader T) (os : List Opened) (w : WaitingPlaces) (from to : ℕ) → AllAwait l [] os w →
+    ((k q : ℕ) → from ≤ k → k < to → is_waiting w k q ≡ false) → AreIdle l os from to
+idle l os w from to all none k o low high at = turn_idle l k o w (all k o at) (λ q. none k q low high)

@@ -3,6 +3,7 @@ pub mod Loaders
 pub mod Loads
 pub mod Names
 pub mod Opened
+pub mod Places
 pub mod Steps
 pub mod Taken
 pub mod Views

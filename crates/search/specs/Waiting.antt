@@ -1,51 +1,41 @@
--- Which entries of an archive's index may give the next member, as a loader keeps them.
-use Rattle.std.specs.Prelude.{◌≡◌, ◌⊎◌, ℕ, ◌≤◌, ◌==◌, ◌||◌, true, false, List, [], Option, Some, None, drop, length, option_map, slice_get, unwrap_or}
-use Rattle.std.specs.Borrow.{Bor}
-use Rattle.std.specs.BTreeSet.{BTreeSet, contains}
-use Rattle.std.specs.Global.{Vec}
-use Rattle.std.specs.HashMap.{HashMap}
-use Rattle.std.specs.List.{AllZip, list_any}
-use Rattle.std.specs.Map.{lookup}
-use Rattle.std.specs.Ordering.{nat_cmp}
-use Rattle.std.specs.Str.{bytes_eq}
+-- Which places in the indexes of a group's archives may give a member, as a loader keeps them.
+use Rattle.std.specs.Prelude.{◌≡◌, ◌⊎◌, ℕ, ◌≤◌, ◌<◌, true, false, List, [], Some, drop, length, slice_get}
 use Rattle.elf_model.specs.ArchiveFile.{IndexEntry}
-use Rattle.elf_model.specs.Opening.{Opened, archive_entries}
+use Rattle.elf_model.specs.Loading.{LoadedObject, is_begun, turn}
+use Rattle.elf_model.specs.Opening.{Opened, archive_entries, archive_members}
 use Rattle.search.specs.Loaders.{is_next_of, loaded}
 use Rattle.search.specs.Names.{is_among}
+use Rattle.search.specs.Places.{ArePlaced, is_waiting}
 use Rattle.search.specs.declared.loader.Loader.{Loader}
+use Rattle.search.specs.declared.waiting_places.WaitingPlaces.{WaitingPlaces}
 use Rattle.search.specs.declared.waits.Waits.{Waits}
 
--- the places of a name
-abbrev pub places_in : {S : Type 0} → HashMap (Bor (List ℕ)) (Vec ℕ) S → List ℕ → List ℕ
-places_in m n = unwrap_or (option_map (λ v. v.items) (lookup (λ k. bytes_eq n k.now) m.entries)) []
+-- a whole archive gives no more: it is loaded, or has no members
+abbrev pub IsSpent : List LoadedObject → Opened → Type 0
+IsSpent objects o = (is_begun objects o.number ≡ true) ⊎ (archive_members o.bytes ≡ [])
 
--- each entry's place is among those of its name
-abbrev pub ArePlaced : {S : Type 0} → List IndexEntry → HashMap (Bor (List ℕ)) (Vec ℕ) S → Type 0
-ArePlaced es m = (q : ℕ) (e : IndexEntry) → slice_get es q ≡ Some e → list_any (λ p. q == p) (places_in m e.name) ≡ true
+-- each entry of archive number k that gives a next member waits
+abbrev pub NextWait : {T : Type 0} → Loader T → ℕ → List IndexEntry → ℕ → WaitingPlaces → Type 0
+NextWait l item es k w =
+    (q : ℕ) (e : IndexEntry) → slice_get es q ≡ Some e → is_next_of l.plan.now (loaded l) item e ≡ true → is_waiting w k q ≡ true
 
--- each entry that gives a next member waits
-abbrev pub NextWait : {T : Type 0} → Loader T → ℕ → List IndexEntry → BTreeSet ℕ → Type 0
-NextWait l item es waiting = (q : ℕ) (e : IndexEntry) → slice_get es q ≡ Some e → is_next_of l.plan.now (loaded l) item e ≡ true → contains nat_cmp waiting q ≡ true
+-- what archive number k may give waits: the entries of a searched one, but for those of names that are still to be
+-- looked at, and place 0 of a whole one
+pub record Awaits {T : Type 0} (l : Loader T) (names : List (List ℕ)) (k : ℕ) (o : Opened) (w : WaitingPlaces) : Type 0 where
+  pub searched : o.whole ≡ false → (q : ℕ) (e : IndexEntry) → slice_get (archive_entries o.bytes) q ≡ Some e →
+      is_next_of l.plan.now (loaded l) o.number e ≡ true → (is_waiting w k q ≡ true) ⊎ (is_among names e.name ≡ true)
+  pub taken_whole : o.whole ≡ true → (is_waiting w k 0 ≡ true) ⊎ IsSpent (loaded l) o
 
--- each entry that gives a next member waits, or its name is asked for and not looked at yet
-pub record Covers {T : Type 0} (l : Loader T) (item : ℕ) (es : List IndexEntry) (w : Waits) : Type 0 where
-  pub placed : ArePlaced es w.places
-  pub seen : w.seen ≤ length l.names.requested
-  pub covers : (q : ℕ) (e : IndexEntry) → slice_get es q ≡ Some e → is_next_of l.plan.now (loaded l) item e ≡ true →
-      (contains nat_cmp w.waiting q || is_among (drop w.seen l.names.requested) e.name) ≡ true
+-- so it is of each archive of a group
+abbrev pub AllAwait : {T : Type 0} → Loader T → List (List ℕ) → List Opened → WaitingPlaces → Type 0
+AllAwait l names os w = (k : ℕ) (o : Opened) → slice_get os k ≡ Some o → Awaits l names k o w
 
--- the same, but for the entries of one member
-pub record CoversBut {T : Type 0} (l : Loader T) (item : ℕ) (es : List IndexEntry) (w : Waits) (but : Option ℕ) : Type 0 where
-  pub placed : ArePlaced es w.places
-  pub seen : w.seen ≤ length l.names.requested
-  pub covers : (q : ℕ) (e : IndexEntry) → slice_get es q ≡ Some e → is_next_of l.plan.now (loaded l) item e ≡ true →
-      ((contains nat_cmp w.waiting q || is_among (drop w.seen l.names.requested) e.name) ≡ true) ⊎ (but ≡ Some e.offset)
+-- the names that are asked for, but for the first ones, are still to be looked at
+pub record Covers {T : Type 0} (l : Loader T) (os : List Opened) (w : Waits) : Type 0 where
+  pub placed : ArePlaced w.places.entries os
+  pub seen_names : w.seen ≤ length l.names.requested
+  pub awaited : AllAwait l (drop w.seen l.names.requested) os w.waiting
 
--- the same of an archive that is searched; another one is whole, or has nothing to search
-abbrev pub CoversFor : {T : Type 0} → Loader T → Opened → Option Waits → Type 0
-CoversFor l o None = (o.whole ≡ true) ⊎ (archive_entries o.bytes ≡ [])
-CoversFor l o (Some w) = (o.whole ≡ false) × Covers l o.number (archive_entries o.bytes) w
-
--- the same of archives side by side
-abbrev pub AllCover : {T : Type 0} → Loader T → List Opened → List (Option Waits) → Type 0
-AllCover l os ws = AllZip (CoversFor l) os ws
+-- the archives of a group from one on, up to another, would take nothing
+abbrev pub AreIdle : {T : Type 0} → Loader T → List Opened → ℕ → ℕ → Type 0
+AreIdle l os from to = (k : ℕ) (o : Opened) → from ≤ k → k < to → slice_get os k ≡ Some o → turn l.plan.now o (loaded l) ≡ loaded l

@@ -9,11 +9,13 @@ mod kept_sections;
 mod load_steps;
 mod loaded;
 mod loader;
+mod name_places;
 mod names;
 mod opened_items;
 mod rounds;
 mod taken_members;
 mod turns;
+mod waiting_places;
 mod waits;
 
 pub use archives::read_input;

@@ -18,11 +18,12 @@ use crate::files::FileIndex;
 use crate::loaded::Loaded;
 use crate::loader::{Loader, Reached};
 use crate::opened_items::open;
-use crate::rounds::run_rounds;
-use crate::turns::{turn, waits_for};
+use crate::rounds::{run_round, run_rounds};
+use crate::waits::Waits;
 use command::Plan;
 use elf_model::{InputFile, NameSeed};
 use std::alloc::{AllocError, Global};
+use std::slice;
 use symbols::{IndexedTable, NameTable};
 
 /// The number of an archive's group; None of one that is in none, and of an object.
@@ -63,12 +64,12 @@ fn load_single<'a, T: NameTable<'a>>(
     ensures fault { IfErr result (FailsOn (loaded_step loader.old.plan.now (Single input.now) (loaded loader.old))) }
 {
     let item = input.item();
-    if item.archive {
-        let mut waits = waits_for(alloc, loader, input)?;
-        turn(alloc, loader, input, &mut waits)?;
-        return Ok(());
+    if !item.archive {
+        return loader.add(alloc, &item, 0, item.bytes);
     }
-    loader.add(alloc, &item, 0, item.bytes)
+    let alone = slice::from_ref(input);
+    let mut waits = Waits::new(alloc, loader, alone)?;
+    run_round(alloc, loader, &mut waits, alone)
 }
 
 /// Loads the first step of inputs, and answers how many these are.

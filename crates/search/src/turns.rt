@@ -1,60 +1,40 @@
 //! A turn of an archive.
-ghost use Rattle.std.specs.Prelude.{◌≡◌, ◌⊎◌, true, false, [], IfErr, IfOk, OnOk};
-ghost use Rattle.elf_model.specs.Loading.{turn, with_members};
-ghost use Rattle.elf_model.specs.Opening.{archive_entries, archive_members};
+ghost use Rattle.std.specs.Prelude.{◌≡◌, true, false, IfErr, OnOk, Some, slice_get};
+ghost use Rattle.elf_model.specs.Loading.{turn, turn_of_whole, with_members};
+ghost use Rattle.elf_model.specs.Opening.{archive_members};
 ghost use Rattle.search.specs.Faults.{FailsOn};
 ghost use Rattle.search.specs.Loaders.{IsLater, Knows, loaded};
-ghost use Rattle.search.specs.Waiting.{Covers, CoversFor};
+ghost use Rattle.search.specs.Waiting.{Covers, IsSpent};
 
 use crate::archives::Input;
 use crate::faults::SearchFault;
 use crate::loader::Loader;
 use crate::waits::Waits;
-use std::alloc::{AllocError, Global};
+use std::alloc::Global;
 use symbols::NameTable;
 
-/// What may give the next member of an archive; None where it is whole, or has no index.
-pub fn waits_for<'a, T: NameTable<'a>>(
-    alloc: Global,
-    loader: &Loader<'_, 'a, T>,
-    input: &Input<'a>,
-) -> Result<Option<Waits<'a>>, AllocError>
-    requires known { Knows T.rows loader.now }
-    requires archive { input.now.archive ≡ true }
-    ensures { IfOk result (CoversFor loader.now input.now) }
-{
-    let item = input.item();
-    if item.whole {
-        return Ok(None);
-    }
-    let Some(entries) = input.entries() else {
-        return Ok(None);
-    };
-    Ok(Some(Waits::new(alloc, loader, item.number, entries)?))
-}
-
-/// Takes members of an archive, until none is next.
+/// Takes members of an archive that is searched, and has a number in the group, until none is next.
 fn take_members<'a, T: NameTable<'a>>(
     alloc: Global,
     loader: &mut Loader<'_, 'a, T>,
-    input: &Input<'a>,
     waits: &mut Waits<'a>,
+    inputs: &[Input<'a>],
+    archive: usize,
+    input: &Input<'a>,
 ) -> Result<(), SearchFault>
     requires known { Knows T.rows loader.old }
     requires archive { input.now.archive ≡ true }
     requires searched { input.now.whole ≡ false }
-    requires covers { Covers loader.old input.now.number (archive_entries input.now.bytes) waits.old }
+    requires at { slice_get inputs.now archive ≡ Some input.now }
+    requires covers { Covers loader.old inputs.now waits.old }
     ensures later { OnOk result (IsLater loader.old loader.new) }
     ensures known { OnOk result (Knows T.rows loader.new) }
-    ensures covers { OnOk result (Covers loader.new input.now.number (archive_entries input.now.bytes) waits.new) }
+    ensures covers { OnOk result (Covers loader.new inputs.now waits.new) }
     ensures loaded { OnOk result (loaded loader.new ≡ turn loader.old.plan.now input.now (loaded loader.old)) }
     ensures fault { IfErr result (FailsOn (turn loader.old.plan.now input.now (loaded loader.old))) }
 {
-    let Some(entries) = input.entries() else {
-        return Ok(());
-    };
     let item = input.item();
-    while let Some(offset) = waits.next(loader, item.number, entries)? {
+    while let Some(offset) = waits.next(loader, inputs, archive, input)? {
         loader.add(alloc, &item, offset, input.data_at(offset))?;
     }
     Ok(())
@@ -80,7 +60,7 @@ fn take_all<'a, T: NameTable<'a>>(
     Ok(())
 }
 
-/// A turn of a whole archive, or of one that has nothing to search.
+/// A turn of a whole archive.
 fn take_whole<'a, T: NameTable<'a>>(
     alloc: Global,
     loader: &mut Loader<'_, 'a, T>,
@@ -88,37 +68,41 @@ fn take_whole<'a, T: NameTable<'a>>(
 ) -> Result<(), SearchFault>
     requires known { Knows T.rows loader.old }
     requires archive { input.now.archive ≡ true }
-    requires whole { (input.now.whole ≡ true) ⊎ (archive_entries input.now.bytes ≡ []) }
     ensures later { OnOk result (IsLater loader.old loader.new) }
     ensures known { OnOk result (Knows T.rows loader.new) }
-    ensures loaded { OnOk result (loaded loader.new ≡ turn loader.old.plan.now input.now (loaded loader.old)) }
-    ensures fault { IfErr result (FailsOn (turn loader.old.plan.now input.now (loaded loader.old))) }
+    ensures spent { OnOk result (IsSpent (loaded loader.new) input.now) }
+    ensures loaded { OnOk result (loaded loader.new ≡ turn_of_whole input.now (loaded loader.old)) }
+    ensures fault { IfErr result (FailsOn (turn_of_whole input.now (loaded loader.old))) }
 {
-    let item = input.item();
-    if !item.whole || loader.has_begun(item.number) {
+    if loader.has_begun(input.item().number) {
         return Ok(());
     }
     take_all(alloc, loader, input)
 }
 
-/// A turn of an archive, of which is known what may give its next member.
+/// A turn of an archive, which has a number in the group.
 pub fn turn<'a, T: NameTable<'a>>(
     alloc: Global,
     loader: &mut Loader<'_, 'a, T>,
+    waits: &mut Waits<'a>,
+    inputs: &[Input<'a>],
+    archive: usize,
     input: &Input<'a>,
-    waits: &mut Option<Waits<'a>>,
 ) -> Result<(), SearchFault>
     requires known { Knows T.rows loader.old }
     requires archive { input.now.archive ≡ true }
-    requires covers { CoversFor loader.old input.now waits.old }
+    requires at { slice_get inputs.now archive ≡ Some input.now }
+    requires covers { Covers loader.old inputs.now waits.old }
     ensures later { OnOk result (IsLater loader.old loader.new) }
     ensures known { OnOk result (Knows T.rows loader.new) }
-    ensures covers { OnOk result (CoversFor loader.new input.now waits.new) }
+    ensures covers { OnOk result (Covers loader.new inputs.now waits.new) }
     ensures loaded { OnOk result (loaded loader.new ≡ turn loader.old.plan.now input.now (loaded loader.old)) }
     ensures fault { IfErr result (FailsOn (turn loader.old.plan.now input.now (loaded loader.old))) }
 {
-    match waits {
-        Some(waits) => take_members(alloc, loader, input, waits),
-        None => take_whole(alloc, loader, input),
+    if !input.item().whole {
+        return take_members(alloc, loader, waits, inputs, archive, input);
     }
+    take_whole(alloc, loader, input)?;
+    waits.settle(archive);
+    Ok(())
 }

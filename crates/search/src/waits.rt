@@ -1,142 +1,159 @@
-//! Which entries of an archive's index may give the next member, so that a turn looks at no others: a place
-//! waits from when its name is asked for until it is found to be the next one, or to be none.
-ghost use Rattle.std.specs.Prelude.{◌≡◌, ◌≤◌, ◌⊎◌, ◌||◌, ◌++◌, ◌∷◌, ◌==◌, [], ℕ, List, Some, None, true, cond, IfOk, OnOk, length, option_map, slice_get};
-ghost use Rattle.std.specs.BTreeSet.{contains};
-ghost use Rattle.std.specs.List.{find, list_any};
-ghost use Rattle.std.specs.Ordering.{nat_cmp};
-ghost use Rattle.std.specs.Str.{bytes_eq};
-ghost use Rattle.elf_model.specs.ArchiveFile as archive;
+//! Which entries of the indexes of a group's archives may give a member, so that a round looks at no others: an
+//! entry waits from when its name is asked for until it is found to give none. An archive by itself is a group of one.
+ghost use Rattle.std.specs.Prelude.{◌≡◌, ◌≤◌, ◌<◌, ◌&&◌, [], ℕ, List, Some, All, true, false, not, IfNone, IfOk, IfSome, IsSomeAnd, OnOk, length, option_map, slice_get, unwrap_or};
+ghost use Rattle.std.specs.List.{find};
+ghost use Rattle.elf_model.specs.ArchiveFile as archive_file;
+ghost use Rattle.elf_model.specs.Loading.{next};
+ghost use Rattle.elf_model.specs.Opening.{Opened};
 ghost use Rattle.search.specs.Loaders.{Knows, is_next_of, loaded};
-ghost use Rattle.search.specs.Waiting.{ArePlaced, Covers, CoversBut, NextWait, places_in};
+ghost use Rattle.search.specs.Places.{is_place, is_waiting};
+ghost use Rattle.search.specs.Waiting.{AllAwait, AreIdle, Awaits, Covers, NextWait};
 
+use crate::archives::Input;
 use crate::loader::Loader;
+use crate::name_places::{places_of, wake};
+use crate::waiting_places::WaitingPlaces;
 use ar_index::IndexEntry;
-use elf_model::NameSeed;
+use elf_model::{Name, NameSeed};
 use indexmap::IndexMap;
 use std::alloc::{AllocError, Global};
-use std::collections::BTreeSet;
 use symbols::NameTable;
 
-/// The places of an index's entries, by their names in the archive's index.
+/// What may give the next members of the archives of a group.
 #[derive(Drop)]
 pub struct Waits<'a> {
-    /// The places of each name, in order.
-    places: IndexMap<&'a [u8], Vec<usize>, NameSeed>,
-    /// The places that may give the next member.
-    waiting: BTreeSet<usize>,
+    /// The places of each name in the indexes of the archives that are searched.
+    places: IndexMap<Name<'a>, Vec<(usize, usize)>, NameSeed>,
+    /// The places that may give a member; of a whole archive its place 0, for all its members.
+    waiting: WaitingPlaces,
     /// How many of the names that are asked for have been looked at.
     seen: usize,
 }
 
-/// Adds a place of a name.
-fn add_place<'a>(
-    alloc: Global,
-    places: &mut IndexMap<&'a [u8], Vec<usize>, NameSeed>,
-    name: &'a [u8],
-    place: usize,
+/// Lets the entries of an archive wait that give a next member.
+fn add_next<'a, T: NameTable<'a>>(
+    waiting: &mut WaitingPlaces,
+    loader: &Loader<'_, 'a, T>,
+    archive: usize,
+    item: u64,
+    entries: &[IndexEntry<'a>],
 ) -> Result<(), AllocError>
-    ensures { OnOk result ((n : List ℕ) → places_in places.new n ≡ cond (bytes_eq name.now n) (places_in places.old n ++ place ∷ []) (places_in places.old n)) }
+    requires { Knows T.rows loader.now }
+    ensures wait { OnOk result (NextWait loader.now item entries.now archive waiting.new) }
+    ensures stays { OnOk result ((k q : ℕ) → is_waiting waiting.old k q ≡ true → is_waiting waiting.new k q ≡ true) }
 {
-    let list = places.entry(name)?.or_insert(Vec::new(alloc));
-    list.push(place)?;
+    for (i, entry) in entries.iter().enumerate() {
+        if loader.is_next(item, entry.name(), entry.offset()) {
+            waiting.add((archive, i))?;
+        }
+    }
     Ok(())
 }
 
-/// The places of the names of an index.
-fn places_of<'a>(
-    alloc: Global,
-    entries: &[IndexEntry<'a>],
-) -> Result<IndexMap<&'a [u8], Vec<usize>, NameSeed>, AllocError>
-    ensures { IfOk result (ArePlaced entries.now) }
+/// Lets wait what an archive may give.
+fn add_waiting<'a, T: NameTable<'a>>(
+    waiting: &mut WaitingPlaces,
+    loader: &Loader<'_, 'a, T>,
+    archive: usize,
+    input: &Input<'a>,
+) -> Result<(), AllocError>
+    requires known { Knows T.rows loader.now }
+    requires archive { input.now.archive ≡ true }
+    ensures awaited { OnOk result (Awaits loader.now [] archive input.now waiting.new) }
+    ensures stays { OnOk result ((k q : ℕ) → is_waiting waiting.old k q ≡ true → is_waiting waiting.new k q ≡ true) }
 {
-    let mut places = IndexMap::with_hasher(alloc, NameSeed::fixed());
-    for (i, entry) in entries.iter().enumerate() {
-        add_place(alloc, &mut places, entry.name(), i)?;
+    let item = input.item();
+    if item.whole {
+        return waiting.add((archive, 0));
     }
-    Ok(places)
+    let Some(entries) = input.entries() else {
+        return Ok(());
+    };
+    add_next(waiting, loader, archive, item.number, entries)
 }
 
-/// The places of an index that may give the next member now.
+/// What the archives of a group may give now.
 fn waiting_now<'a, T: NameTable<'a>>(
     alloc: Global,
     loader: &Loader<'_, 'a, T>,
-    item: u64,
-    entries: &[IndexEntry<'a>],
-) -> Result<BTreeSet<usize>, AllocError>
-    requires { Knows T.rows loader.now }
-    ensures { IfOk result (NextWait loader.now item entries.now) }
+    inputs: &[Input<'a>],
+) -> Result<WaitingPlaces, AllocError>
+    requires known { Knows T.rows loader.now }
+    requires archives { All (λ i. i.archive ≡ true) inputs.now }
+    ensures { IfOk result (AllAwait loader.now [] inputs.now) }
 {
-    let mut waiting = BTreeSet::new(alloc);
-    for (i, entry) in entries.iter().enumerate() {
-        if loader.is_next(item, entry.name(), entry.offset()) {
-            waiting.insert(i)?;
-        }
+    let mut waiting = WaitingPlaces::new(alloc);
+    for (i, input) in inputs.iter().enumerate() {
+        add_waiting(&mut waiting, loader, i, input)?;
     }
     Ok(waiting)
 }
 
-/// Lets the places of a name wait.
-fn wake<'a>(
-    places: &IndexMap<&'a [u8], Vec<usize>, NameSeed>,
-    waiting: &mut BTreeSet<usize>,
-    name: &'a [u8],
-) -> Result<(), AllocError>
-    ensures { OnOk result ((q : ℕ) → contains nat_cmp waiting.new q ≡ (list_any (λ p. q == p) (places_in places.now name.now) || contains nat_cmp waiting.old q)) }
+/// The offset of the member of an archive's entry that is next; None where it is not, or where there is no such entry.
+fn next_at<'a, T: NameTable<'a>>(
+    loader: &Loader<'_, 'a, T>,
+    item: u64,
+    entries: &[IndexEntry<'a>],
+    i: usize,
+) -> Option<u64>
+    requires { Knows T.rows loader.now }
+    ensures found { IfSome result (λ k. IsSomeAnd (slice_get entries.now i) (λ e. (is_next_of loader.now.plan.now (loaded loader.now) item e ≡ true) × (k ≡ e.offset))) }
+    ensures none { IfNone result ((e : archive_file.IndexEntry) → slice_get entries.now i ≡ Some e → is_next_of loader.now.plan.now (loaded loader.now) item e ≡ false) }
 {
-    let Some(list) = places.get(name) else {
-        return Ok(());
+    let Some(entry) = entries.get(i) else {
+        return None;
     };
-    for place in list {
-        waiting.insert(*place)?;
+    if !loader.is_next(item, entry.name(), entry.offset()) {
+        return None;
     }
-    Ok(())
+    Some(entry.offset())
 }
 
-/// Takes the first place off that gives a next member, and all before it, which give none; answers the
-/// member's offset. None where no place gives one.
-fn pop_next<'a, T: NameTable<'a>>(
-    waiting: &mut BTreeSet<usize>,
+/// The offset of the member that the first of an archive's entries gives that gives a next one. The places before it
+/// wait no longer.
+fn first_next<'a, T: NameTable<'a>>(
+    waiting: &mut WaitingPlaces,
     loader: &Loader<'_, 'a, T>,
+    archive: usize,
     item: u64,
     entries: &[IndexEntry<'a>],
 ) -> Option<u64>
     requires known { Knows T.rows loader.now }
-    requires wait { NextWait loader.now item entries.now waiting.old }
+    requires wait { NextWait loader.now item entries.now archive waiting.old }
     ensures exact { result ≡ option_map (λ e. e.offset) (find (is_next_of loader.now.plan.now (loaded loader.now) item) entries.now) }
-    ensures rest { (q : ℕ) (e : archive.IndexEntry) → slice_get entries.now q ≡ Some e → is_next_of loader.now.plan.now (loaded loader.now) item e ≡ true → (contains nat_cmp waiting.new q ≡ true) ⊎ (result ≡ Some e.offset) }
+    ensures wait { NextWait loader.now item entries.now archive waiting.new }
+    ensures others { (k q : ℕ) → (k ≡ archive → ⊥) → is_waiting waiting.old k q ≡ true → is_waiting waiting.new k q ≡ true }
 {
-    while let Some(place) = waiting.pop_first() {
-        let Some(entry) = entries.get(place) else {
-            continue;
-        };
-        if loader.is_next(item, entry.name(), entry.offset()) {
-            return Some(entry.offset());
+    while let Some(i) = waiting.first_entry(archive) {
+        if let Some(offset) = next_at(loader, item, entries, i) {
+            return Some(offset);
         }
+        waiting.remove((archive, i));
     }
     None
 }
 
 impl<'a> Waits<'a> {
-    /// What may give the next member of an archive now.
+    /// What may give the next members of archives now.
     pub fn new<T: NameTable<'a>>(
         alloc: Global,
         loader: &Loader<'_, 'a, T>,
-        item: u64,
-        entries: &[IndexEntry<'a>],
+        inputs: &[Input<'a>],
     ) -> Result<Waits<'a>, AllocError>
-        requires { Knows T.rows loader.now }
-        ensures { IfOk result (Covers loader.now item entries.now) }
+        requires known { Knows T.rows loader.now }
+        requires archives { All (λ i. i.archive ≡ true) inputs.now }
+        ensures { IfOk result (Covers loader.now inputs.now) }
     {
         Ok(Waits {
-            places: places_of(alloc, entries)?,
-            waiting: waiting_now(alloc, loader, item, entries)?,
+            places: places_of(alloc, inputs)?,
+            waiting: waiting_now(alloc, loader, inputs)?,
             seen: loader.request_count(),
         })
     }
 
     /// Lets the places wait whose names were asked for meanwhile.
     fn catch_up<T: NameTable<'a>>(&mut self, loader: &Loader<'_, 'a, T>) -> Result<(), AllocError>
-        ensures covers { OnOk result ((item : ℕ) (es : List archive.IndexEntry) → Covers loader.now item es self.old → Covers loader.now item es self.new) }
+        ensures covers { OnOk result ((os : List Opened) → Covers loader.now os self.old → Covers loader.now os self.new) }
         ensures seen { OnOk result (length loader.now.names.requested ≤ self.new.seen) }
     {
         let count = loader.request_count();
@@ -150,19 +167,59 @@ impl<'a> Waits<'a> {
         Ok(())
     }
 
-    /// The offset of the member that is next; its place waits no longer.
+    /// The offset of the member of an archive that is searched, and has a number in the group, that is next.
     pub fn next<T: NameTable<'a>>(
         &mut self,
         loader: &Loader<'_, 'a, T>,
-        item: u64,
-        entries: &[IndexEntry<'a>],
+        inputs: &[Input<'a>],
+        archive: usize,
+        input: &Input<'a>,
     ) -> Result<Option<u64>, AllocError>
         requires known { Knows T.rows loader.now }
-        requires covers { Covers loader.now item entries.now self.old }
-        ensures exact { IfOk result (λ r. r ≡ option_map (λ e. e.offset) (find (is_next_of loader.now.plan.now (loaded loader.now) item) entries.now)) }
-        ensures covers { IfOk result (λ r. CoversBut loader.now item entries.now self.new r) }
+        requires archive { input.now.archive ≡ true }
+        requires searched { input.now.whole ≡ false }
+        requires at { slice_get inputs.now archive ≡ Some input.now }
+        requires covers { Covers loader.now inputs.now self.old }
+        ensures exact { IfOk result (λ r. r ≡ option_map (λ e. e.offset) (next loader.now.plan.now (loaded loader.now) input.now)) }
+        ensures covers { OnOk result (Covers loader.now inputs.now self.new) }
     {
         self.catch_up(loader)?;
-        Ok(pop_next(&mut self.waiting, loader, item, entries))
+        let Some(entries) = input.entries() else {
+            return Ok(None);
+        };
+        let item = input.item().number;
+        Ok(first_next(&mut self.waiting, loader, archive, item, entries))
+    }
+
+    /// The number of the first archive, of those with at least this number, that may take something; the turns of
+    /// those before it take nothing.
+    pub fn next_archive<T: NameTable<'a>>(
+        &mut self,
+        loader: &Loader<'_, 'a, T>,
+        inputs: &[Input<'a>],
+        from: usize,
+    ) -> Result<Option<usize>, AllocError>
+        requires { Covers loader.now inputs.now self.old }
+        ensures within { IfOk result (λ r. IfSome r (λ k. (from ≤ k) × (k < length inputs.now))) }
+        ensures idle { IfOk result (λ r. AreIdle loader.now inputs.now from (unwrap_or r (length inputs.now))) }
+        ensures covers { OnOk result (Covers loader.now inputs.now self.new) }
+    {
+        self.catch_up(loader)?;
+        let Some(archive) = self.waiting.first_archive(from) else {
+            return Ok(None);
+        };
+        if archive >= inputs.len() {
+            return Ok(None);
+        }
+        Ok(Some(archive))
+    }
+
+    /// Lets a whole archive wait no longer.
+    pub fn settle(&mut self, archive: usize)
+        ensures places { self.new.places ≡ self.old.places }
+        ensures seen { self.new.seen ≡ self.old.seen }
+        ensures waiting { (k q : ℕ) → is_waiting self.new.waiting k q ≡ (not (is_place k q (archive, 0)) && is_waiting self.old.waiting k q) }
+    {
+        self.waiting.remove((archive, 0));
     }
 }

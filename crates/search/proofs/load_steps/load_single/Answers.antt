@@ -8,9 +8,9 @@ use Rattle.search.specs.Opened.{item_view}
 use Rattle.search.proofs.TurnLaws.{single_fails}
 use Rattle.search.proofs.load_steps.load_single.Goals as goal
 
-pub returns-clause-fault : goal.returns-clause-fault
-returns-clause-fault g c =
+pub returns-then-not-item-clause-fault : goal.returns-then-not-item-clause-fault
+returns-then-not-item-clause-fault g c =
     let plan = c.args.loader.now.plan.now in
     let os = loaded c.args.loader.now in
     subst (λ (o : Opened). IfErr c.add.result (FailsOn (loaded_step plan (Single o) os))) c.item-item.ensures
-    (single_fails plan c.add.result os (item_view c.item-item.result) c.requires.known.objects c.requires.known.lawful c.if-item.false c.add.ensures.fault)
+    (single_fails plan c.add.result os (item_view c.item-item.result) c.requires.known.objects c.requires.known.lawful c.if-not-item.true c.add.ensures.fault)

@@ -16,43 +16,47 @@ pub returns-in_err-run_round-clause-fault : goal.returns-in_err-run_round-clause
 returns-in_err-run_round-clause-fault g c =
     let p = err_from_is_err_and c.from_residual-in_err-run_round.result c.from_residual-in_err-run_round.ensures.1 in
     let plan = c.args.loader.now.plan.now in
-    let os = loaded c.loop-all.loader in
+    let os = loaded c.loop-waits.loader in
     let inputs = c.args.inputs.now in
     rw (p.1, p.2)
     (fails_later (round plan inputs os) (rounds plan inputs (loaded c.args.loader.now)) c.in_err-run_round.field-0.0
-    (subst (Extends (round plan inputs os)) c.loop-all.invariant.rest (rounds_from_round plan inputs os))
-    (subst (λ (q : Plan). FailsOn (round q inputs os) c.in_err-run_round.field-0.0) c.loop-all.invariant.later.plan c.in_err-run_round.ensures.fault))
+    (subst (Extends (round plan inputs os)) c.loop-waits.invariant.rest (rounds_from_round plan inputs os))
+    (subst (λ (q : Plan). FailsOn (round q inputs os) c.in_err-run_round.field-0.0) c.loop-waits.invariant.later.plan c.in_err-run_round.ensures.fault))
 
 pub returns-then-count-before-clause-loaded : goal.returns-then-count-before-clause-loaded
 returns-then-count-before-clause-loaded g c =
     let plan = c.args.loader.now.plan.now in
-    let os = loaded c.loop-all.loader in
+    let os = loaded c.loop-waits.loader in
     let inputs = c.args.inputs.now in
-    let is : loaded c.run_round.new.loader ≡ round plan inputs os = c.in_ok-run_round.ensures.loaded ∙ ap (λ (q : Plan). round q inputs os) c.loop-all.invariant.later.plan in
+    let is : loaded c.run_round.new.loader ≡ round plan inputs os = c.in_ok-run_round.ensures.loaded ∙ ap (λ (q : Plan). round q inputs os) c.loop-waits.invariant.later.plan in
     let same = sym c.count.ensures ∙ (c.if-count-before.true ∙ c.count-before.ensures) in
     let nothing = extends_length os (loaded c.run_round.new.loader) (subst (Extends os) (sym is) (round_behind plan inputs os)) same in
-    nothing ∙ (sym (rounds_last plan inputs os (sym is ∙ nothing)) ∙ c.loop-all.invariant.rest)
+    nothing ∙ (sym (rounds_last plan inputs os (sym is ∙ nothing)) ∙ c.loop-waits.invariant.rest)
 
-pub loop-all-smaller : goal.loop-all-smaller
-loop-all-smaller g c =
+pub loop-waits-smaller : goal.loop-waits-smaller
+loop-waits-smaller g c =
     let plan = c.args.loader.now.plan.now in
-    let os = loaded c.loop-all.loader in
+    let os = loaded c.loop-waits.loader in
     let inputs = c.args.inputs.now in
-    let is : loaded c.run_round.new.loader ≡ round plan inputs os = c.in_ok-run_round.ensures.loaded ∙ ap (λ (q : Plan). round q inputs os) c.loop-all.invariant.later.plan in
+    let is : loaded c.run_round.new.loader ≡ round plan inputs os = c.in_ok-run_round.ensures.loaded ∙ ap (λ (q : Plan). round q inputs os) c.loop-waits.invariant.later.plan in
     let some : loaded c.run_round.new.loader ≢ os =
     took_some os (loaded c.run_round.new.loader) (λ same. c.if-count-before.false (c.count.ensures ∙ (same ∙ sym c.count-before.ensures))) in
     subst (λ (to : List LoadedObject). left_of_all inputs to < left_of_all inputs os) (sym is) (rounds_less plan inputs os (λ same. some (is ∙ same)))
 
-pub loop-all-preserved : goal.loop-all-preserved
-loop-all-preserved g c =
+pub loop-waits-preserved : goal.loop-waits-preserved
+loop-waits-preserved g c =
     let plan = c.args.loader.now.plan.now in
-    let os = loaded c.loop-all.loader in
+    let os = loaded c.loop-waits.loader in
     let inputs = c.args.inputs.now in
-    let is : loaded c.run_round.new.loader ≡ round plan inputs os = c.in_ok-run_round.ensures.loaded ∙ ap (λ (q : Plan). round q inputs os) c.loop-all.invariant.later.plan in
+    let is : loaded c.run_round.new.loader ≡ round plan inputs os = c.in_ok-run_round.ensures.loaded ∙ ap (λ (q : Plan). round q inputs os) c.loop-waits.invariant.later.plan in
     let some : loaded c.run_round.new.loader ≢ os =
     took_some os (loaded c.run_round.new.loader) (λ same. c.if-count-before.false (c.count.ensures ∙ (same ∙ sym c.count-before.ensures))) in record {
-      later = is_later_trans c.args.loader.now c.loop-all.loader c.run_round.new.loader c.loop-all.invariant.later c.in_ok-run_round.ensures.later;
+      later = is_later_trans c.args.loader.now c.loop-waits.loader c.run_round.new.loader c.loop-waits.invariant.later c.in_ok-run_round.ensures.later;
       known = c.in_ok-run_round.ensures.known;
       covers = c.in_ok-run_round.ensures.covers;
-      rest = ap (rounds plan inputs) is ∙ (rounds_more plan inputs os (λ same. some (is ∙ same)) ∙ c.loop-all.invariant.rest);
+      rest = ap (rounds plan inputs) is ∙ (rounds_more plan inputs os (λ same. some (is ∙ same)) ∙ c.loop-waits.invariant.rest);
     }
+
+pub returns-then-count-before-clause-later : goal.returns-then-count-before-clause-later
+returns-then-count-before-clause-later g c =
+    is_later_trans c.args.loader.now c.loop-waits.loader c.run_round.new.loader c.loop-waits.invariant.later c.in_ok-run_round.ensures.later

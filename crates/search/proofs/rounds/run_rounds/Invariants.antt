@@ -2,16 +2,16 @@ use Rattle.std.proofs.Common.{◌≡◌}
 use Rattle.elf_model.specs.Loading.{rounds}
 use Rattle.elf_model.specs.LoadingBounds.{left_of_all}
 use Rattle.search.specs.Loaders.{IsLater, Knows, loaded}
-use Rattle.search.specs.Waiting.{AllCover}
+use Rattle.search.specs.Waiting.{Covers}
 use Rattle.search.proofs.rounds.run_rounds.Given as goal
 
-abbrev pub invariant-loop-all : goal.invariant-loop-all
-invariant-loop-all g l = record {
+abbrev pub invariant-loop-waits : goal.invariant-loop-waits
+invariant-loop-waits g l = record {
   later : IsLater l.fn.loader l.loader;
   known : Knows g.T.NameTable.rows l.loader;
-  covers : AllCover l.loader l.inputs l.waits;
+  covers : Covers l.loader l.inputs l.waits;
   rest : rounds l.fn.loader.plan.now l.inputs (loaded l.loader) ≡ rounds l.fn.loader.plan.now l.inputs (loaded l.fn.loader);
 }
 
-abbrev pub decreases-loop-all : goal.decreases-loop-all
-decreases-loop-all g l = left_of_all l.inputs (loaded l.loader)
+abbrev pub decreases-loop-waits : goal.decreases-loop-waits
+decreases-loop-waits g l = left_of_all l.inputs (loaded l.loader)

@@ -1,19 +1,15 @@
-use Rattle.std.proofs.Common.{◌≡◌, ◌∙◌, ◌<◌, ◌∷◌, List, [], ℕ, Option, Some, true, sym, ap, subst}
-use Rattle.std.specs.List.{find}
-use Rattle.std.specs.Prelude.{option_map}
+use Rattle.std.proofs.Common.{◌∙◌, ◌<◌, ◌∷◌, List, [], ap, subst, sym}
 use Rattle.std.proofs.lemmas.Result.{err_from_is_err_and}
-use Rattle.elf_model.specs.ArchiveFile.{IndexEntry}
 use Rattle.elf_model.specs.Command.{Plan}
-use Rattle.elf_model.specs.Loading.{LoadedObject, is_taken, next, object_behind, turn}
+use Rattle.elf_model.specs.Loading.{LoadedObject, next, object_behind, turn}
 use Rattle.elf_model.specs.LoadingBounds.{untaken}
-use Rattle.elf_model.specs.Opening.{Opened, archive_entries}
-use Rattle.elf_model.proofs.LoadingBounds.{taken_now, untaken_falls}
+use Rattle.elf_model.specs.Opening.{archive_entries}
+use Rattle.elf_model.proofs.LoadingBounds.{untaken_falls}
 use Rattle.elf_model.proofs.LoadingSteps.{turn_none}
-use Rattle.search.specs.Loaders.{IsLater, is_next_of, loaded}
+use Rattle.search.specs.Loaders.{IsLater, loaded}
 use Rattle.search.specs.Opened.{item_view}
-use Rattle.search.specs.Waiting.{CoversBut}
 use Rattle.search.proofs.TurnLaws.{fails_next, found_next, none_next, turn_extends_later, turn_later}
-use Rattle.search.proofs.WaitLaws.{covers_taken, is_later_trans}
+use Rattle.search.proofs.WaitLaws.{covers_later, is_later_trans}
 use Rattle.search.proofs.turns.take_members.Goals as goal
 
 pub loop-offset-smaller : goal.loop-offset-smaller
@@ -21,11 +17,7 @@ loop-offset-smaller g c =
     let os = loaded c.loop-offset.loader in
     let o = c.args.input.now in
     let plan = c.loop-offset.loader.plan.now in
-    let told =
-    c.in_ok-offset.ensures.exact
-    ∙ (ap (λ (es : List IndexEntry). option_map (λ e. e.offset) (find (is_next_of plan os c.item-item.result.number) es)) c.in-Some.ensures
-    ∙ ap (λ (k : ℕ). option_map (λ e. e.offset) (find (is_next_of plan os k) (archive_entries o.bytes))) (ap (λ (x : Opened). x.number) c.item-item.ensures)) in
-    let f = found_next plan os o (item_view c.item-item.result) c.in-Some-2.offset c.data_at.result.now c.in_ok-offset.field-0 told c.in-Some-2.is c.item-item.ensures c.data_at.ensures in
+    let f = found_next plan os o (item_view c.item-item.result) c.in-Some.offset c.data_at.result.now c.in_ok-offset.field-0 c.in_ok-offset.ensures.exact c.in-Some.is c.item-item.ensures c.data_at.ensures in
     subst (λ (to : List LoadedObject). untaken to o.number (archive_entries o.bytes) < untaken os o.number (archive_entries o.bytes))
     (sym (c.in_ok-add.ensures.loaded ∙ f.2)) (untaken_falls plan os o f.0 f.1)
 
@@ -34,27 +26,16 @@ loop-offset-preserved g c =
     let os = loaded c.loop-offset.loader in
     let o = c.args.input.now in
     let first = c.args.loader.now.plan.now in
-    let plan = c.loop-offset.loader.plan.now in
     let item = item_view c.item-item.result in
-    let offset = c.in-Some-2.offset in
-    let number = ap (λ (x : Opened). x.number) c.item-item.ensures in
-    let told =
-    c.in_ok-offset.ensures.exact
-    ∙ (ap (λ (es : List IndexEntry). option_map (λ e. e.offset) (find (is_next_of plan os c.item-item.result.number) es)) c.in-Some.ensures
-    ∙ ap (λ (k : ℕ). option_map (λ e. e.offset) (find (is_next_of plan os k) (archive_entries o.bytes))) number) in
-    let f = found_next plan os o item offset c.data_at.result.now c.in_ok-offset.field-0 told c.in-Some-2.is c.item-item.ensures c.data_at.ensures in
+    let offset = c.in-Some.offset in
+    let f = found_next c.loop-offset.loader.plan.now os o item offset c.data_at.result.now c.in_ok-offset.field-0 c.in_ok-offset.ensures.exact c.in-Some.is c.item-item.ensures c.data_at.ensures in
     let some = ap (λ (p : Plan). next p os o) (sym c.loop-offset.invariant.later.plan) ∙ f.1 in
-    let on : IsLater c.loop-offset.loader c.add.new.self = record { plan = c.in_ok-add.ensures.plan; objects = (object_behind os item offset c.data_at.result.now ∷ [], c.in_ok-add.ensures.loaded); requested = c.in_ok-add.ensures.grows } in
-    let but =
-    subst (λ (k : ℕ). CoversBut c.loop-offset.loader k (archive_entries o.bytes) c.next.new.self (Some offset)) number
-    (subst (λ (es : List IndexEntry). CoversBut c.loop-offset.loader c.item-item.result.number es c.next.new.self (Some offset)) c.in-Some.ensures
-    (subst (λ (r : Option ℕ). CoversBut c.loop-offset.loader c.item-item.result.number c.in-Some.entries.now c.next.new.self r) c.in-Some-2.is c.in_ok-offset.ensures.covers)) in
-    let taken =
-    subst (λ (k : ℕ). is_taken (loaded c.add.new.self) k offset ≡ true) number
-    (subst (λ (l : List LoadedObject). is_taken l item.number offset ≡ true) (sym c.in_ok-add.ensures.loaded) (taken_now os item offset c.data_at.result.now)) in record {
+    let on : IsLater c.loop-offset.loader c.add.new.self = record { plan = c.in_ok-add.ensures.plan; objects = (object_behind os item offset c.data_at.result.now ∷ [], c.in_ok-add.ensures.loaded); requested = c.in_ok-add.ensures.grows } in record {
       later = is_later_trans c.args.loader.now c.loop-offset.loader c.add.new.self c.loop-offset.invariant.later on;
       known = c.in_ok-add.ensures.known;
-      covers = covers_taken c.loop-offset.loader c.add.new.self o.number (archive_entries o.bytes) c.next.new.self offset c.loop-offset.invariant.known c.in_ok-add.ensures.known on but taken;
+      covers =
+          covers_later c.loop-offset.loader c.add.new.self c.args.inputs.now c.next.new.self c.loop-offset.invariant.known c.in_ok-add.ensures.known on
+          c.in_ok-offset.ensures.covers;
       rest = turn_later first os o f.0 (loaded c.add.new.self) (turn first o (loaded c.args.loader.now)) c.requires.searched some (c.in_ok-add.ensures.loaded ∙ f.2) c.loop-offset.invariant.rest;
     }
 
@@ -65,15 +46,11 @@ returns-in_err-add-clause-fault g c =
     let o = c.args.input.now in
     let item = item_view c.item-item.result in
     let first = c.args.loader.now.plan.now in
-    let plan = c.loop-offset.loader.plan.now in
-    let told =
-    c.in_ok-offset.ensures.exact
-    ∙ (ap (λ (es : List IndexEntry). option_map (λ e. e.offset) (find (is_next_of plan os c.item-item.result.number) es)) c.in-Some.ensures
-    ∙ ap (λ (k : ℕ). option_map (λ e. e.offset) (find (is_next_of plan os k) (archive_entries o.bytes))) (ap (λ (x : Opened). x.number) c.item-item.ensures)) in
-    let f = found_next plan os o item c.in-Some-2.offset c.data_at.result.now c.in_ok-offset.field-0 told c.in-Some-2.is c.item-item.ensures c.data_at.ensures in
+    let offset = c.in-Some.offset in
+    let f = found_next c.loop-offset.loader.plan.now os o item offset c.data_at.result.now c.in_ok-offset.field-0 c.in_ok-offset.ensures.exact c.in-Some.is c.item-item.ensures c.data_at.ensures in
     let some = ap (λ (q : Plan). next q os o) (sym c.loop-offset.invariant.later.plan) ∙ f.1 in
     rw (p.1, p.2)
-    (fails_next os item c.in-Some-2.offset c.data_at.result.now (turn first o (loaded c.args.loader.now)) c.in_err-add.field-0.0
+    (fails_next os item offset c.data_at.result.now (turn first o (loaded c.args.loader.now)) c.in_err-add.field-0.0
     c.loop-offset.invariant.known.objects c.loop-offset.invariant.known.lawful
     (turn_extends_later first os o f.0 _ (turn first o (loaded c.args.loader.now)) c.requires.searched some f.2 c.loop-offset.invariant.rest)
     c.in_err-add.ensures.fault)
@@ -83,10 +60,5 @@ returns-clause-loaded g c =
     let os = loaded c.loop-offset.loader in
     let o = c.args.input.now in
     let first = c.args.loader.now.plan.now in
-    let plan = c.loop-offset.loader.plan.now in
-    let told =
-    c.in_ok-offset.ensures.exact
-    ∙ (ap (λ (es : List IndexEntry). option_map (λ e. e.offset) (find (is_next_of plan os c.item-item.result.number) es)) c.in-Some.ensures
-    ∙ ap (λ (k : ℕ). option_map (λ e. e.offset) (find (is_next_of plan os k) (archive_entries o.bytes))) (ap (λ (x : Opened). x.number) c.item-item.ensures)) in
-    let none = ap (λ (p : Plan). next p os o) (sym c.loop-offset.invariant.later.plan) ∙ none_next plan os o c.in_ok-offset.field-0 told c.in_default-2.is in
+    let none = ap (λ (p : Plan). next p os o) (sym c.loop-offset.invariant.later.plan) ∙ none_next c.loop-offset.loader.plan.now os o c.in_ok-offset.field-0 c.in_ok-offset.ensures.exact c.in_default.is in
     sym (turn_none first o os c.requires.searched none) ∙ c.loop-offset.invariant.rest

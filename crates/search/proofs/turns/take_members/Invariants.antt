@@ -10,7 +10,7 @@ abbrev pub invariant-loop-offset : goal.invariant-loop-offset
 invariant-loop-offset g l = record {
   later : IsLater l.fn.loader l.loader;
   known : Knows g.T.NameTable.rows l.loader;
-  covers : Covers l.loader l.input.number (archive_entries l.input.bytes) l.waits;
+  covers : Covers l.loader l.inputs l.waits;
   rest : turn l.fn.loader.plan.now l.input (loaded l.loader) ≡ turn l.fn.loader.plan.now l.input (loaded l.fn.loader);
 }
 
