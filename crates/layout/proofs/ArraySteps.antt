@@ -1,6 +1,7 @@
 -- Numbers of sections by their digits, and the pieces of an output section by their ranks.
 use Rattle.std.proofs.Common.{◌≡◌, ℕ, ◌+◌, ◌*◌, ◌-◌, ◌<◌, ◌≤◌, ◌&&◌, ◌||◌, Bool, true, false, cond, List, [], ◌∷◌, length, drop, take, get_or, refl, sym, ap, ◌∙◌, arith}
 use Rattle.std.specs.Prelude.{All}
+use Rattle.std.specs.Borrow.{Bor}
 use Rattle.std.specs.Char.{is_ascii_digit}
 use Rattle.std.specs.List.{list_all, list_any}
 use Rattle.std.specs.List.Sorted.{IsNonDecreasingBy, IsStableByKey}
@@ -15,7 +16,7 @@ use Rattle.elf_model.specs.Pieces.{Piece}
 use Rattle.elf_model.proofs.ArrayOrder.{by_stable_sort, map_by_rank, one_rank}
 use Rattle.elf_model.proofs.DecimalDigits.{digit_step, own}
 use Rattle.layout.specs.Arrays.{has_number}
-use Rattle.layout.specs.Views.{piece_view, piece_views}
+use Rattle.layout.specs.Views.{borrowed_view, borrowed_views}
 use Rattle.layout.specs.declared.pieces.Piece as code
 
 digits_all : (ds : List ℕ) → list_all is_ascii_digit ds ≡ all_ascii_digits ds
@@ -56,10 +57,10 @@ pub as_they_are : (ps : List Piece) → list_any has_number ps ≡ false → ps 
 as_they_are ps none = sym (one_rank piece_rank 100000 ps (unnumbered ps none))
 
 -- what a stable sort by the ranks of names gives
-abbrev pub name_rank : code.Piece → ℕ
-name_rank p = array_rank p.name.now
+abbrev pub name_rank : Bor code.Piece → ℕ
+name_rank p = array_rank p.now.name.now
 
 pub sorted_is :
-    (xs ys : List code.Piece) → IsNonDecreasingBy name_rank ys → IsStableByKey name_rank nat_cmp xs ys → piece_views ys ≡ in_array_order (piece_views xs)
+    (xs ys : List (Bor code.Piece)) → IsNonDecreasingBy name_rank ys → IsStableByKey name_rank nat_cmp xs ys → borrowed_views ys ≡ in_array_order (borrowed_views xs)
 sorted_is xs ys up stable =
-    ap piece_views (by_stable_sort name_rank xs ys up stable) ∙ map_by_rank piece_rank piece_view xs
+    ap borrowed_views (by_stable_sort name_rank xs ys up stable) ∙ map_by_rank piece_rank borrowed_view xs

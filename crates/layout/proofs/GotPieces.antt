@@ -5,7 +5,7 @@ use Rattle.std.proofs.lemmas.Bool.{lt-ltb}
 use Rattle.elf_model.specs.Loading.{LoadedObject}
 use Rattle.elf_model.specs.OwnLayout.{got_number, got_piece, got_pieces}
 use Rattle.elf_model.specs.Slots.{got_size, has_got, size_with, slots}
-use Rattle.layout.specs.Orders.{got_list}
+use Rattle.layout.specs.PieceLists.{got_as, if_sized}
 
 -- there is a GOT where it has a size
 sized : (objects : List LoadedObject) → nat_lt 0 (got_size objects) ≡ has_got objects
@@ -15,6 +15,6 @@ sized objects = by (has_got objects) (length (slots objects))
     by true n = lt-ltb 0 (size_with n) (omega arith)
     by false n = refl
 
-pub got_listed : (objects : List LoadedObject) (size : ℕ) → size ≡ got_size objects → got_list (got_number objects) size ≡ got_pieces objects
+pub got_listed : (objects : List LoadedObject) (size : ℕ) → size ≡ got_size objects → if_sized (got_as (got_number objects) size) ≡ got_pieces objects
 got_listed objects size is =
-    ap (got_list (got_number objects)) is ∙ ap (λ b. cond b (got_piece objects ∷ []) []) (sized objects)
+    ap (λ (n : ℕ). if_sized (got_as (got_number objects) n)) is ∙ ap (λ b. cond b (got_piece objects ∷ []) []) (sized objects)

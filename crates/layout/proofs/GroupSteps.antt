@@ -1,21 +1,18 @@
 -- Gathering pieces by output section, one more piece at a time.
-use Rattle.std.proofs.Common.{◌≡◌, ℕ, zero, suc, ◌+◌, ◌<◌, ◌≤◌, Bool, true, false, cond, ◌||◌, List, [], ◌∷◌, ◌++◌, get_or, set, take, length, refl, sym, ◌∙◌, ap, arith}
-use Rattle.std.specs.Prelude.{Some, filter, map}
+use Rattle.std.proofs.Common.{◌≡◌, ℕ, zero, suc, ◌+◌, ◌<◌, ◌≤◌, Bool, true, false, cond, ◌||◌, List, [], ◌∷◌, ◌++◌, get_or, set, take, length, refl, sym, ◌∙◌, ap, subst, arith}
+use Rattle.std.specs.Prelude.{Some, map}
+use Rattle.std.specs.Borrow.{Bor}
 use Rattle.std.specs.Global.{Vec}
-use Rattle.std.specs.List.{flat_map, list_any, slice_get}
-use Rattle.std.proofs.lemmas.List.{append-nil, get_or-map, length-map, map-append, take_all}
-use Rattle.std.proofs.lemmas.List.Elements.{filter_more}
-use Rattle.std.proofs.lemmas.List.Folds.{flat_map-map}
-use Rattle.elf_model.specs.ArrayOrder.{in_array_order}
-use Rattle.elf_model.specs.OwnLayout.{grouped, leaders}
+use Rattle.std.specs.List.{list_any, slice_get}
+use Rattle.std.proofs.lemmas.List.{append-nil, get_or-map, length-map, map-append, take_all, take_more}
+use Rattle.elf_model.specs.OwnLayout.{leaders}
 use Rattle.elf_model.specs.Pieces as pieces
 use Rattle.elf_model.specs.Pieces.{same_output}
 use Rattle.elf_model.proofs.Grouped.{leaders_other}
 use Rattle.elf_model.proofs.SameOutput.{alike, both_ways_equal, same_from_alike}
-use Rattle.layout.specs.Groups.{AreGroups, Output, group, group_views, output_of, output_view, part_test}
-use Rattle.layout.specs.Views.{piece_view, piece_views}
+use Rattle.layout.specs.Groups.{AreGathered, AreGroups, Output, group, group_views, output_of, output_view}
+use Rattle.layout.specs.Views.{borrowed_view, borrowed_views, piece_view, piece_views}
 use Rattle.layout.specs.declared.output_sections.OutputSection.{OutputSection}
-use Rattle.layout.specs.declared.output_sections.Part.{Part}
 use Rattle.layout.specs.declared.pieces.Piece.{Piece}
 use Rattle.layout.proofs.Leading.{has_leader, leaders_push, no_group, put_at, put_at_leader}
 
@@ -99,38 +96,41 @@ keys_step there keys new v done q is of_q grown same =
         ∙ (ap (λ (os : List Output). os ++ output_view v ∷ []) same
         ∙ (ap (λ (o : Output). map output_of (leaders done) ++ o ∷ []) of_q ∙ sym (map-append output_of (leaders done) (q ∷ [])))))
 
+-- a piece of an output section that is there leads none
+pub leaders_same : (done : List pieces.Piece) (q : pieces.Piece) → true ≡ has_leader done q → leaders (done ++ q ∷ []) ≡ leaders done
+leaders_same done q is = leaders_push done q ∙ ap (λ (b : Bool). leaders done ++ cond b [] (q ∷ [])) (sym is) ∙ append-nil (leaders done)
+
+pub leaders_new : (done : List pieces.Piece) (q : pieces.Piece) → false ≡ has_leader done q → leaders (done ++ q ∷ []) ≡ leaders done ++ q ∷ []
+leaders_new done q is = leaders_push done q ∙ ap (λ (b : Bool). leaders done ++ cond b [] (q ∷ [])) (sym is)
+
+-- the groups before a piece is put into one: where its output section is new, with an empty one behind them
 pub groups_kept :
-    (groups new : List (Vec Piece)) (done : List pieces.Piece) (q : pieces.Piece) → true ≡ has_leader done q → new ≡ groups →
-    group_views groups ≡ map (group done) (leaders done) → group_views new ≡ map (group done) (leaders (done ++ q ∷ []))
-groups_kept groups new done q is grown same =
-    ap group_views grown
-    ∙ (same
-    ∙ ap (map (group done))
-    (sym (append-nil (leaders done)) ∙ (ap (λ (b : Bool). leaders done ++ cond b [] (q ∷ [])) is ∙ sym (leaders_push done q))))
+    (groups new : List (Vec (Bor Piece))) (done : List pieces.Piece) (q : pieces.Piece) → true ≡ has_leader done q → new ≡ groups →
+    AreGathered groups done → group_views new ≡ map (group done) (leaders (done ++ q ∷ []))
+groups_kept groups new done q is grown same = ap group_views grown ∙ same ∙ ap (map (group done)) (sym (leaders_same done q is))
 
 pub groups_grown :
-    (groups new : List (Vec Piece)) (empty : Vec Piece) (done : List pieces.Piece) (q : pieces.Piece) →
+    (groups new : List (Vec (Bor Piece))) (empty : Vec (Bor Piece)) (done : List pieces.Piece) (q : pieces.Piece) →
     false ≡ has_leader done q → empty.items ≡ [] → new ≡ groups ++ empty ∷ [] →
-    group_views groups ≡ map (group done) (leaders done) → group_views new ≡ map (group done) (leaders (done ++ q ∷ []))
+    AreGathered groups done → group_views new ≡ map (group done) (leaders (done ++ q ∷ []))
 groups_grown groups new empty done q is none grown same =
-    let lead : leaders (done ++ q ∷ []) ≡ leaders done ++ q ∷ [] =
-    leaders_push done q ∙ ap (λ (b : Bool). leaders done ++ cond b [] (q ∷ [])) (sym is) in
     ap group_views grown
-    ∙ (map-append (λ (g : Vec Piece). piece_views g.items) groups (empty ∷ [])
-    ∙ (ap (λ (gs : List (List pieces.Piece)). gs ++ piece_views empty.items ∷ []) same
-    ∙ (ap (λ (ps : List Piece). map (group done) (leaders done) ++ piece_views ps ∷ []) none
-    ∙ (ap (λ (ps : List pieces.Piece). map (group done) (leaders done) ++ ps ∷ []) (sym (no_group done q (sym is)))
-    ∙ (sym (map-append (group done) (leaders done) (q ∷ [])) ∙ ap (map (group done)) (sym lead))))))
+    ∙ map-append (λ (g : Vec (Bor Piece)). borrowed_views g.items) groups (empty ∷ [])
+    ∙ ap (λ (gs : List (List pieces.Piece)). gs ++ borrowed_views empty.items ∷ []) same
+    ∙ ap (λ (ps : List (Bor Piece)). map (group done) (leaders done) ++ borrowed_views ps ∷ []) none
+    ∙ ap (λ (ps : List pieces.Piece). map (group done) (leaders done) ++ ps ∷ []) (sym (no_group done q (sym is)))
+    ∙ sym (map-append (group done) (leaders done) (q ∷ []))
+    ∙ ap (map (group done)) (sym (leaders_new done q is))
 
 -- one more piece in a group
 pub group_written :
-    (groups : List (Vec Piece)) (i : ℕ) (d g : Vec Piece) (p : Piece) → g.items ≡ (get_or groups i d).items ++ p ∷ [] →
-    group_views (set groups i g) ≡ put_at (group_views groups) i (piece_view p)
+    (groups : List (Vec (Bor Piece))) (i : ℕ) (d g : Vec (Bor Piece)) (p : Bor Piece) → g.items ≡ (get_or groups i d).items ++ p ∷ [] →
+    group_views (set groups i g) ≡ put_at (group_views groups) i (borrowed_view p)
 group_written [] i d g p grown = refl
 group_written (h ∷ groups) zero d g p grown =
-    ap (λ (ps : List pieces.Piece). ps ∷ group_views groups) (ap piece_views grown ∙ map-append piece_view h.items (p ∷ []))
+    ap (λ (ps : List pieces.Piece). ps ∷ group_views groups) (ap borrowed_views grown ∙ map-append borrowed_view h.items (p ∷ []))
 group_written (h ∷ groups) (suc i) d g p grown =
-    ap (λ (gs : List (List pieces.Piece)). piece_views h.items ∷ gs) (group_written groups i d g p grown)
+    ap (λ (gs : List (List pieces.Piece)). borrowed_views h.items ∷ gs) (group_written groups i d g p grown)
 
 -- the groups with the piece in that of its leader
 pub groups_put :
@@ -144,50 +144,20 @@ groups_put eq decides keys groups v k done q i of_q there e same groups_are =
     ap (λ (gs : List (List pieces.Piece)). put_at gs i q) groups_are
     ∙ put_at_leader done (leaders (done ++ q ∷ [])) i l.0 q l.1 s (leaders_other (done ++ q ∷ []))
 
--- all groups one behind the other, each in its order
-pub joined_groups :
-    (groups : List (Vec Piece)) (done ls : List pieces.Piece) → group_views groups ≡ map (group done) ls →
-    flat_map in_array_order (group_views groups) ≡ flat_map (λ l. in_array_order (group done l)) ls
-joined_groups groups done ls same = ap (flat_map in_array_order) same ∙ flat_map-map in_array_order (group done) ls
-
--- one more piece of a part, and one that isn't of it
-pub kept_same :
-    (part : Part) (ps : List Piece) (i : ℕ) (d : Piece) → i < length ps → part_test part (piece_view (get_or ps i d)) ≡ false →
-    filter (part_test part) (take i (piece_views ps)) ≡ filter (part_test part) (take (i + 1) (piece_views ps))
-kept_same part ps i d within e =
+-- one more piece is seen, and all are
+pub seen_more :
+    (keys : List OutputSection) (groups : List (Vec (Bor Piece))) (ps : List Piece) (i : ℕ) (d : Piece) → i < length ps →
+    AreGroups keys groups (take i (piece_views ps) ++ piece_view (get_or ps i d) ∷ []) → AreGroups keys groups (take (i + 1) (piece_views ps))
+seen_more keys groups ps i d within are =
     let n = length-map ps piece_view in
     let at : get_or (piece_views ps) i (piece_view d) ≡ piece_view (get_or ps i d) = get_or-map piece_view ps i d (piece_view d) within in
-    sym (filter_more (part_test part) (piece_views ps) i (piece_view d) (omega (arith, n, within))
-    ∙ (ap (λ (x : pieces.Piece). filter (part_test part) (take i (piece_views ps)) ++ cond (part_test part x) (x ∷ []) []) at
-    ∙ (ap (λ (b : Bool). filter (part_test part) (take i (piece_views ps)) ++ cond b (piece_view (get_or ps i d) ∷ []) []) e
-    ∙ append-nil (filter (part_test part) (take i (piece_views ps))))))
+    let more : take (i + 1) (piece_views ps) ≡ take i (piece_views ps) ++ piece_view (get_or ps i d) ∷ [] =
+    take_more (piece_views ps) i (piece_view d) (omega (arith, n, within))
+    ∙ ap (λ (x : pieces.Piece). take i (piece_views ps) ++ x ∷ []) at in
+    subst (AreGroups keys groups) (sym more) are
 
-pub kept_more :
-    (part : Part) (ps : List Piece) (i : ℕ) (d : Piece) → i < length ps → part_test part (piece_view (get_or ps i d)) ≡ true →
-    filter (part_test part) (take i (piece_views ps)) ++ piece_view (get_or ps i d) ∷ [] ≡ filter (part_test part) (take (i + 1) (piece_views ps))
-kept_more part ps i d within e =
+pub seen_all :
+    (groups : List (Vec (Bor Piece))) (ps : List Piece) (i : ℕ) → length ps ≤ i → AreGathered groups (take i (piece_views ps)) → AreGathered groups (piece_views ps)
+seen_all groups ps i behind are =
     let n = length-map ps piece_view in
-    let at : get_or (piece_views ps) i (piece_view d) ≡ piece_view (get_or ps i d) = get_or-map piece_view ps i d (piece_view d) within in
-    sym (filter_more (part_test part) (piece_views ps) i (piece_view d) (omega (arith, n, within))
-    ∙ (ap (λ (x : pieces.Piece). filter (part_test part) (take i (piece_views ps)) ++ cond (part_test part x) (x ∷ []) []) at
-    ∙ ap (λ (b : Bool). filter (part_test part) (take i (piece_views ps)) ++ cond b (piece_view (get_or ps i d) ∷ []) []) e))
-
--- when all pieces were seen, the groups one behind the other are the grouped pieces
-pub grouped_all :
-    (part : Part) (ps : List Piece) (i : ℕ) (keys : List OutputSection) (groups seen : List (Vec Piece)) (items : List Piece) →
-    length ps ≤ i → AreGroups keys groups (filter (part_test part) (take i (piece_views ps))) → seen ≡ groups →
-    piece_views items ≡ flat_map in_array_order (group_views seen) → piece_views items ≡ grouped (filter (part_test part) (piece_views ps))
-grouped_all part ps i keys groups seen items behind are same all =
-    let n = length-map ps piece_view in
-    let whole : take i (piece_views ps) ≡ piece_views ps = take_all i (piece_views ps) (omega (arith, n, behind)) in
-    all
-    ∙ (ap (λ (gs : List (Vec Piece)). flat_map in_array_order (group_views gs)) same
-    ∙ (joined_groups groups (filter (part_test part) (take i (piece_views ps))) (leaders (filter (part_test part) (take i (piece_views ps)))) are.groups_are
-    ∙ ap (λ (qs : List pieces.Piece). grouped (filter (part_test part) qs)) whole))
-
--- the pieces of an output section behind others, as they are and sorted
-pub group_behind :
-    (out new group added : List Piece) → new ≡ out ++ added → piece_views added ≡ in_array_order (piece_views group) →
-    piece_views new ≡ piece_views out ++ in_array_order (piece_views group)
-group_behind out new more added is order =
-    ap piece_views is ∙ (map-append piece_view out added ∙ ap (λ (ps : List pieces.Piece). piece_views out ++ ps) order)
+    subst (AreGathered groups) (take_all i (piece_views ps) (omega (arith, n, behind))) are

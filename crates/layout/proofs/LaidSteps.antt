@@ -1,5 +1,6 @@
 -- The runs of a layout are those of the own one.
 use Rattle.std.proofs.Common.{◌≡◌, ℕ, ◌≤◌, ◌^◌, List, [], ◌∷◌, ◌++◌, drop, length, refl, sym, ◌∙◌, ap, subst, arith}
+use Rattle.std.specs.Borrow.{Bor}
 use Rattle.std.proofs.lemmas.List.{append_assoc, drop-map, length-append, length-map}
 use Rattle.std.proofs.lemmas.List.Elements.{All-append, All-cons, All-head, All-nil, All-tail}
 use Rattle.elf_model.specs.Loading.{LoadedObject}
@@ -12,7 +13,7 @@ use Rattle.layout.specs.Laid.{plain_start}
 use Rattle.layout.specs.Limits.{AreInLimit, IsInLimit, RunFails}
 use Rattle.layout.specs.Orders.{plain_pieces}
 use Rattle.layout.specs.PlaceViews.{place_view, place_views}
-use Rattle.layout.specs.Views.{piece_views}
+use Rattle.layout.specs.Views.{borrowed_views}
 use Rattle.layout.specs.declared.faults.LayoutFault.{LayoutFault}
 use Rattle.layout.specs.declared.faults.LayoutFault.TheVariants as error
 use Rattle.layout.specs.declared.pieces.Piece as code
@@ -95,18 +96,18 @@ pub record ArePlacedRuns (base : ℕ) (objects : List LoadedObject) (ts te from 
   pub plain_are : plain ≡ plain_pieces objects
 
 pub placed_runs :
-    (base : ℕ) (objects : List LoadedObject) (start align ts te from : ℕ) (is1 is2 ds : List code.Piece) (initial plain : List code.Piece) →
+    (base : ℕ) (objects : List LoadedObject) (start align ts te from : ℕ) (is1 is2 ds initial plain : List (Bor code.Piece)) →
     start ≡ data_start base objects → align ≡ alignment_of is_thread_piece (kept_sections objects) → ts ≡ round_up align start →
-    is1 ≡ initial → is2 ≡ initial → ds ≡ plain → piece_views initial ≡ initial_pieces objects → piece_views plain ≡ plain_pieces objects →
-    te ≡ end_of ts (piece_views is1) → from ≡ plain_start (piece_views is2) start te → ArePlacedRuns base objects ts te from (piece_views is1) (piece_views ds)
+    is1 ≡ initial → is2 ≡ initial → ds ≡ plain → borrowed_views initial ≡ initial_pieces objects → borrowed_views plain ≡ plain_pieces objects →
+    te ≡ end_of ts (borrowed_views is1) → from ≡ plain_start (borrowed_views is2) start te → ArePlacedRuns base objects ts te from (borrowed_views is1) (borrowed_views ds)
 placed_runs base objects start align ts te from is1 is2 ds initial plain begins aligned rounded e1 e2 e3 initial_are plain_are ends places = record {
   start = rounded ∙ (ap (λ (a : ℕ). round_up a start) aligned ∙ ap (round_up (alignment_of is_thread_piece (kept_sections objects))) begins);
-  initial_are = ap piece_views e1 ∙ initial_are;
+  initial_are = ap borrowed_views e1 ∙ initial_are;
   end = ends;
   begin =
       places
-      ∙ (ap (λ (ps : List code.Piece). plain_start (piece_views ps) start te) (e2 ∙ sym e1) ∙ ap (λ (x : ℕ). plain_start (piece_views is1) x te) begins);
-  plain_are = ap piece_views e3 ∙ plain_are;
+      ∙ (ap (λ (ps : List (Bor code.Piece)). plain_start (borrowed_views ps) start te) (e2 ∙ sym e1) ∙ ap (λ (x : ℕ). plain_start (borrowed_views is1) x te) begins);
+  plain_are = ap borrowed_views e3 ∙ plain_are;
 }
 
 pub plain_low : (ps : List Piece) (x y : ℕ) → x ≤ 2 ^ 47 → y ≤ 2 ^ 47 → plain_start ps x y ≤ 2 ^ 47

@@ -10,10 +10,13 @@ pub mod Keys
 pub mod LaidSteps
 pub mod Leading
 mod MixedOutputs
+pub mod MixedSteps
+pub mod OrderSteps
 pub mod OtherPlaces
 pub mod OwnAddresses
 pub mod OwnBounds
 pub mod OwnThreads
 pub mod PieceEntries
+pub mod PartSteps
 pub mod RunSteps
 pub mod ThreadSteps

@@ -1,5 +1,6 @@
 -- Pieces placed one behind the other, one more piece at a time.
 use Rattle.std.proofs.Common.{◌≡◌, ℕ, ◌+◌, ◌<◌, List, [], ◌∷◌, ◌++◌, get_or, drop, length, sym, ◌∙◌, ap, subst}
+use Rattle.std.specs.Borrow.{Bor}
 use Rattle.std.proofs.lemmas.List.{append_assoc, map-append}
 use Rattle.std.proofs.lemmas.List.Elements.{All-cons, All-head, All-tail}
 use Rattle.elf_model.specs.ObjectFile.{null_section}
@@ -8,7 +9,7 @@ use Rattle.elf_model.specs.Pieces as pieces
 use Rattle.elf_model.specs.Placement.{Placed}
 use Rattle.layout.specs.Limits.{AreInLimit, IsInLimit}
 use Rattle.layout.specs.PlaceViews.{place_view, place_views}
-use Rattle.layout.specs.Views.{piece_view, piece_views}
+use Rattle.layout.specs.Views.{borrowed_view, borrowed_views, piece_view}
 use Rattle.layout.specs.declared.pieces.Piece.{Piece}
 use Rattle.layout.specs.declared.runs.Place.{Place}
 use Rattle.elf_model.proofs.Rests.{Left, rest_at}
@@ -23,11 +24,14 @@ no_piece = record {
   bytes = record { ref_ptr = (0, 0); now = [] };
 }
 
+abbrev pub no_borrowed : Bor Piece
+no_borrowed = record { ref_ptr = (0, 0); now = no_piece }
+
 abbrev pub no_place : Place
 no_place = record { at = 0; piece = no_piece }
 
-pub first_left : (ps : List Piece) (i : ℕ) (d : Piece) → i < length ps → piece_views (drop i ps) ≡ piece_view (get_or ps i d) ∷ piece_views (drop (i + 1) ps)
-first_left ps i d within = ap piece_views (rest_at ps i d within)
+pub first_left : (ps : List (Bor Piece)) (i : ℕ) (d : Bor Piece) → i < length ps → borrowed_views (drop i ps) ≡ borrowed_view (get_or ps i d) ∷ borrowed_views (drop (i + 1) ps)
+first_left ps i d within = ap borrowed_views (rest_at ps i d within)
 
 -- the address behind a piece that was placed
 pub behind : (x at : ℕ) (p : pieces.Piece) → at ≡ (place_at x p).at → at + p.size ≡ placed_end (place_at x p)

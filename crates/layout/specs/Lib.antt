@@ -6,6 +6,7 @@ pub mod Laid
 pub mod Limits
 pub mod Mixed
 pub mod Orders
+pub mod PieceLists
 pub mod PieceParts
 pub mod PlaceViews
 pub mod Placements

@@ -1,5 +1,6 @@
 -- Pieces and places as the definitions see them.
 use Rattle.std.specs.Prelude.{List, map, max}
+use Rattle.std.specs.Borrow.{Bor}
 use Rattle.elf_model.specs.Pieces as pieces
 use Rattle.layout.specs.declared.pieces.Piece.{Piece}
 
@@ -16,3 +17,10 @@ piece_view p = record {
 
 abbrev pub piece_views : List Piece → List pieces.Piece
 piece_views ps = map piece_view ps
+
+-- pieces that are borrowed
+abbrev pub borrowed_view : Bor Piece → pieces.Piece
+borrowed_view p = piece_view p.now
+
+abbrev pub borrowed_views : List (Bor Piece) → List pieces.Piece
+borrowed_views ps = map borrowed_view ps

@@ -5,7 +5,7 @@ ghost use Rattle.std.specs.List.{list_all, list_any};
 ghost use Rattle.std.specs.Str.Parse.{digits_value};
 ghost use Rattle.elf_model.specs.ArrayOrder as order;
 ghost use Rattle.layout.specs.Arrays.{has_number};
-ghost use Rattle.layout.specs.Views.{piece_view, piece_views};
+ghost use Rattle.layout.specs.Views.{borrowed_views, piece_view};
 
 use crate::pieces::Piece;
 use std::alloc::{AllocError, Global};
@@ -88,8 +88,8 @@ fn has_number(piece: &Piece<'_>) -> bool
 }
 
 /// Whether a numbered section is among pieces.
-pub fn any_numbered(pieces: &[Piece<'_>]) -> bool
-    ensures { result ≡ list_any has_number (piece_views pieces.now) }
+pub fn any_numbered(pieces: &[&Piece<'_>]) -> bool
+    ensures { result ≡ list_any has_number (borrowed_views pieces.now) }
 {
     for piece in pieces {
         if has_number(piece) {
@@ -100,8 +100,11 @@ pub fn any_numbered(pieces: &[Piece<'_>]) -> bool
 }
 
 /// The pieces of an output section by their ranks; those of one rank keep their order.
-pub fn sorted_by_rank<'a>(alloc: Global, pieces: &[Piece<'a>]) -> Result<Vec<Piece<'a>>, AllocError>
-    ensures { IfOk result (λ v. piece_views v.items ≡ order.in_array_order (piece_views pieces.now)) }
+pub fn sorted_by_rank<'p, 'a>(
+    alloc: Global,
+    pieces: &[&'p Piece<'a>],
+) -> Result<Vec<&'p Piece<'a>>, AllocError>
+    ensures { IfOk result (λ v. borrowed_views v.items ≡ order.in_array_order (borrowed_views pieces.now)) }
 {
     let mut sorted = Vec::from_slice(alloc, pieces)?;
     sorted.sort_by_key(|p| array_rank(p.name))?;

@@ -1,15 +1,14 @@
-//! The output names whose kept sections are of several output sections.
-ghost use Rattle.std.specs.Prelude.{◌≡◌, ◌||◌, ℕ, List, IfOk, None, OnOk, Option, Some, cond, find, option_map};
-ghost use Rattle.std.specs.List.{list_any};
-ghost use Rattle.std.specs.Option.{option_or};
+//! The output names whose kept sections are of several output sections. Sections are looked at one by one, in load order.
+ghost use Rattle.std.specs.Prelude.{◌≡◌, ◌++◌, ◌∷◌, [], List, IfOk, OnOk, option_map};
+ghost use Rattle.elf_model.specs.ObjectFile.{sections};
 ghost use Rattle.elf_model.specs.Pieces as pieces;
-ghost use Rattle.elf_model.specs.Pieces.{is_of_output, same_output};
-ghost use Rattle.elf_model.specs.UsedNames.{is_among};
-ghost use Rattle.search.specs.Views.{loaded_views};
-ghost use Rattle.layout.specs.Mixed.{AreMixed, differs, first_in, is_odd};
-ghost use Rattle.layout.specs.Views.{piece_view, piece_views};
+ghost use Rattle.elf_model.specs.Pieces.{same_output};
+ghost use Rattle.search.specs.Views.{loaded_view, loaded_views};
+ghost use Rattle.layout.specs.Mixed.{AreMixed, IsFound, first_in, kept_one};
+ghost use Rattle.layout.specs.Views.{piece_view};
 
-use crate::pieces::{Piece, pieces_of};
+use crate::pieces::{Piece, piece_of};
+use elf_model::SectionHeader;
 use resolve::output_name;
 use search::LoadedObject;
 use std::alloc::{AllocError, Global};
@@ -35,34 +34,6 @@ fn is_same_output(one: &Piece<'_>, other: &Piece<'_>) -> bool
     one.header.is_nobits() == other.header.is_nobits()
 }
 
-/// Puts a section at its output name, unless one is there.
-fn add_first<'a>(
-    firsts: &mut BTreeMap<&'a [u8], Piece<'a>>,
-    piece: &Piece<'a>,
-) -> Result<(), AllocError>
-    ensures { OnOk result ((n : List ℕ) → first_in firsts.new n ≡ option_or (first_in firsts.old n) (cond {A = Option pieces.Piece} (is_of_output n (piece_view piece.now)) (Some (piece_view piece.now)) None)) }
-{
-    let name = output_name(piece.name);
-    if !firsts.contains_key(name) {
-        firsts.insert(name, *piece)?;
-    }
-    Ok(())
-}
-
-/// The first section of each output name.
-fn firsts_of<'a>(
-    alloc: Global,
-    pieces: &[Piece<'a>],
-) -> Result<BTreeMap<&'a [u8], Piece<'a>>, AllocError>
-    ensures { IfOk result (λ m. (n : List ℕ) → first_in m n ≡ find (is_of_output n) (piece_views pieces.now)) }
-{
-    let mut firsts = BTreeMap::new(alloc);
-    for piece in pieces {
-        add_first(&mut firsts, piece)?;
-    }
-    Ok(firsts)
-}
-
 /// The first section of an output name.
 fn first_of<'a>(firsts: &BTreeMap<&[u8], Piece<'a>>, name: &[u8]) -> Option<Piece<'a>>
     ensures { option_map piece_view result ≡ first_in firsts.now name.now }
@@ -70,44 +41,60 @@ fn first_of<'a>(firsts: &BTreeMap<&[u8], Piece<'a>>, name: &[u8]) -> Option<Piec
     firsts.get(name).copied()
 }
 
-/// Whether a section is of another output section than the first one of its output name.
-fn differs(first: Option<Piece<'_>>, piece: &Piece<'_>) -> bool
-    ensures { result ≡ differs (option_map piece_view first.entry) (piece_view piece.now) }
-{
-    match first {
-        Some(other) => !is_same_output(&other, piece),
-        None => false,
-    }
-}
-
-/// Adds the output name of a section that is of another output section than the first one of that name.
-fn add_odd<'a>(
+/// Takes a kept section in: it is the first one of its output name, or its name is an odd one where it is of another output
+/// section than the first one.
+fn add_piece<'a>(
+    firsts: &mut BTreeMap<&'a [u8], Piece<'a>>,
     names: &mut BTreeSet<&'a [u8]>,
-    firsts: &BTreeMap<&'a [u8], Piece<'a>>,
     piece: &Piece<'a>,
 ) -> Result<(), AllocError>
-    ensures { OnOk result ((n : List ℕ) → is_among names.new n ≡ (is_odd (first_in firsts.now) n (piece_view piece.now) || is_among names.old n)) }
+    ensures { OnOk result ((done : List pieces.Piece) → IsFound firsts.old names.old done → IsFound firsts.new names.new (done ++ piece_view piece.now ∷ [])) }
 {
     let name = output_name(piece.name);
-    if differs(first_of(firsts, name), piece) {
-        names.insert(name)?;
+    let Some(first) = first_of(firsts, name) else {
+        firsts.insert(name, *piece)?;
+        return Ok(());
+    };
+    if is_same_output(&first, piece) {
+        return Ok(());
     }
+    names.insert(name)?;
     Ok(())
 }
 
-/// The output names of sections that are of another output section than the first one of their name.
-fn odd_names<'a>(
-    alloc: Global,
-    firsts: &BTreeMap<&'a [u8], Piece<'a>>,
-    pieces: &[Piece<'a>],
-) -> Result<BTreeSet<&'a [u8]>, AllocError>
-    ensures { IfOk result (λ names. (n : List ℕ) → is_among names n ≡ list_any (is_odd (first_in firsts.now) n) (piece_views pieces.now)) }
+/// Takes section `i` of an object in, where it is kept.
+fn add_section<'a>(
+    firsts: &mut BTreeMap<&'a [u8], Piece<'a>>,
+    names: &mut BTreeSet<&'a [u8]>,
+    number: u64,
+    loaded: &LoadedObject<'a>,
+    i: usize,
+    header: &SectionHeader,
+) -> Result<(), AllocError>
+    ensures { OnOk result ((done : List pieces.Piece) → IsFound firsts.old names.old done → IsFound firsts.new names.new (done ++ kept_one number (loaded_view loaded.now) i header.now)) }
 {
-    let mut names = BTreeSet::new(alloc);
-    for piece in pieces {
-        add_odd(&mut names, firsts, piece)?;
+    if !loaded.is_kept(i, header) {
+        return Ok(());
     }
-    Ok(names)
+    let piece = piece_of(number, &loaded.object, i, *header);
+    add_piece(firsts, names, &piece)?;
+    Ok(())
+}
+
+/// Takes the kept sections of an object in.
+fn add_object<'a>(
+    firsts: &mut BTreeMap<&'a [u8], Piece<'a>>,
+    names: &mut BTreeSet<&'a [u8]>,
+    number: u64,
+    loaded: &LoadedObject<'a>,
+) -> Result<(), AllocError>
+    ensures { OnOk result ((done : List pieces.Piece) → IsFound firsts.old names.old done → IsFound firsts.new names.new (done ++ pieces.pieces_from number (loaded_view loaded.now) 0 (sections loaded.now.object))) }
+{
+    let headers = loaded.object.sections();
+    for (i, header) in headers.iter().enumerate() {
+        add_section(firsts, names, number, loaded, i, header)?;
+    }
+    Ok(())
 }
 
 /// The output names whose kept sections are of several output sections.
@@ -121,8 +108,10 @@ pub fn mixed_names<'a>(
 ) -> Result<BTreeSet<&'a [u8]>, AllocError>
     ensures { IfOk result (AreMixed (loaded_views objects.now)) }
 {
-    let pieces = pieces_of(alloc, objects)?;
-    let firsts = firsts_of(alloc, &pieces)?;
-    let names = odd_names(alloc, &firsts, &pieces)?;
+    let mut firsts = BTreeMap::new(alloc);
+    let mut names = BTreeSet::new(alloc);
+    for (k, loaded) in objects.iter().enumerate() {
+        add_object(&mut firsts, &mut names, k as u64, loaded)?;
+    }
     Ok(names)
 }

@@ -1,90 +1,94 @@
 //! The pieces of loaded objects in the order in which they stand.
-ghost use Rattle.std.specs.Prelude.{◌≡◌, ◌≤◌, All, IfOk};
+ghost use Rattle.std.specs.Prelude.{◌≡◌, ◌≤◌, ◌++◌, IfOk, OnOk};
 ghost use Rattle.std.specs.List.{list_any};
-ghost use Rattle.elf_model.specs.Commons as commons;
 ghost use Rattle.elf_model.specs.OwnLayout as own;
-ghost use Rattle.elf_model.specs.Slots as slots;
 ghost use Rattle.search.specs.Views.{loaded_views};
-ghost use Rattle.resolve.specs.Blocks.{block_views};
-ghost use Rattle.layout.specs.Orders.{IsOrder, data_in, got_list, objects_of};
-ghost use Rattle.layout.specs.Views.{piece_views};
+ghost use Rattle.layout.specs.Orders.{IsOrder, data_in, objects_of};
+ghost use Rattle.layout.specs.PieceLists.{ArePieces, if_sized};
+ghost use Rattle.layout.specs.Views.{borrowed_views, piece_view, piece_views};
 
-use crate::output_sections::{Part, grouped};
-use crate::pieces::{Piece, add_blocks, add_got, pieces_of};
+use crate::output_sections::{Part, add_part, groups_of, part_of};
+use crate::pieces::{Piece, Pieces};
 use crate::segments::any_nonempty;
 use crate::threads::{any_thread_piece, thread_align};
-use resolve::Block;
 use search::LoadedObject;
 use std::alloc::{AllocError, Global};
 
 /// The pieces of objects in own order: those that may only be read, code, and what may be written: thread-local ones with
 /// bytes, data, of which those with bytes come first, then the GOT, then those without bytes, and behind them the common
 /// blocks, and thread-local ones without bytes. How many they are, the greatest alignment of the thread-local ones, and
-/// whether there are any.
+/// whether there are any. The pieces themselves are borrowed.
 #[derive(Drop)]
 pub struct Order<'b, 'a> {
     pub objects: &'b [LoadedObject<'a>],
     pub count: usize,
-    pub read_only: Vec<Piece<'a>>,
-    pub code: Vec<Piece<'a>>,
-    pub initial: Vec<Piece<'a>>,
-    pub data: Vec<Piece<'a>>,
-    pub thread_rest: Vec<Piece<'a>>,
+    pub read_only: Vec<&'b Piece<'a>>,
+    pub code: Vec<&'b Piece<'a>>,
+    pub initial: Vec<&'b Piece<'a>>,
+    pub data: Vec<&'b Piece<'a>>,
+    pub thread_rest: Vec<&'b Piece<'a>>,
     pub thread_align: u64,
     pub has_threads: bool,
 }
 
-/// The pieces that may be written and aren't thread-local: those with bytes, then the GOT with its number and its size,
-/// then those without, then the common blocks.
-fn data_of<'a>(
-    alloc: Global,
-    pieces: &[Piece<'a>],
-    got: u64,
-    got_size: u64,
-    blocks: &[Block<'a>],
-) -> Result<Vec<Piece<'a>>, AllocError>
-    requires { All (λ b. 1 ≤ b.align) blocks.now }
-    ensures { IfOk result (λ v. piece_views v.items ≡ data_in (piece_views pieces.now) (got_list got got_size) (block_views blocks.now)) }
+/// Puts a piece behind others where it has a size.
+fn add_sized<'p, 'a>(out: &mut Vec<&'p Piece<'a>>, piece: &'p Piece<'a>) -> Result<(), AllocError>
+    ensures { OnOk result (borrowed_views out.new.items ≡ borrowed_views out.old.items ++ if_sized (piece_view piece.entry.now)) }
 {
-    let mut data = grouped(alloc, pieces, Part::Data)?;
-    add_got(&mut data, got, got_size)?;
-    let zeros = grouped(alloc, pieces, Part::Zero)?;
-    data.extend_from_slice(zeros.as_slice())?;
-    add_blocks(&mut data, blocks)?;
+    if piece.header.sh_size > 0 {
+        out.push(piece)?;
+    }
+    Ok(())
+}
+
+/// Puts pieces behind others.
+fn add_all<'p, 'a>(out: &mut Vec<&'p Piece<'a>>, pieces: &'p [Piece<'a>]) -> Result<(), AllocError>
+    ensures { OnOk result (borrowed_views out.new.items ≡ borrowed_views out.old.items ++ piece_views pieces.entry.now) }
+{
+    for piece in pieces {
+        out.push(piece)?;
+    }
+    Ok(())
+}
+
+/// The pieces that may be written and aren't thread-local: those with bytes, then the GOT, then those without bytes, then
+/// the common blocks.
+fn data_of<'b, 'a>(
+    alloc: Global,
+    groups: &[Vec<&'b Piece<'a>>],
+    pieces: &'b Pieces<'a>,
+) -> Result<Vec<&'b Piece<'a>>, AllocError>
+    ensures { IfOk result (λ v. borrowed_views v.items ≡ data_in groups.now pieces.entry.now) }
+{
+    let mut data = part_of(alloc, groups, Part::Data)?;
+    add_sized(&mut data, &pieces.got)?;
+    add_part(alloc, &mut data, groups, Part::Zero)?;
+    add_all(&mut data, &pieces.blocks)?;
     Ok(data)
 }
 
-/// The number of the GOT among objects: it is numbered like the one section of an object behind the loaded ones and the
-/// one that the common blocks make.
-pub fn got_number(objects: &[LoadedObject<'_>]) -> u64
-    ensures { result ≡ own.got_number (loaded_views objects.now) }
-{
-    objects.len() as u64 + 1
-}
-
-/// The pieces of objects, whose common blocks these are, in own order, with the GOT of this size in bytes.
+/// All pieces of objects in own order.
 pub fn order_of<'b, 'a>(
     alloc: Global,
     objects: &'b [LoadedObject<'a>],
-    blocks: &[Block<'a>],
-    got_size: u64,
+    pieces: &'b Pieces<'a>,
 ) -> Result<Order<'b, 'a>, AllocError>
-    requires listed { block_views blocks.now ≡ commons.blocks (loaded_views objects.now) }
-    requires got { got_size ≡ slots.got_size (loaded_views objects.now) }
+    requires { ArePieces (loaded_views objects.now) pieces.now }
     ensures objects { IfOk result (λ o. objects_of o ≡ loaded_views objects.entry.now) }
     ensures order { IfOk result (λ o. IsOrder o) }
 {
-    let pieces = pieces_of(alloc, objects)?;
+    let groups = groups_of(alloc, &pieces.kept)?;
+    let count = pieces.kept.len().saturating_add(pieces.blocks.len());
     Ok(Order {
         objects,
-        count: pieces.len().saturating_add(blocks.len()).saturating_add(1),
-        read_only: grouped(alloc, &pieces, Part::ReadOnly)?,
-        code: grouped(alloc, &pieces, Part::Code)?,
-        initial: grouped(alloc, &pieces, Part::Initial)?,
-        data: data_of(alloc, &pieces, got_number(objects), got_size, blocks)?,
-        thread_rest: grouped(alloc, &pieces, Part::ThreadRest)?,
-        thread_align: thread_align(&pieces),
-        has_threads: any_thread_piece(&pieces),
+        count: count.saturating_add(1),
+        read_only: part_of(alloc, &groups, Part::ReadOnly)?,
+        code: part_of(alloc, &groups, Part::Code)?,
+        initial: part_of(alloc, &groups, Part::Initial)?,
+        data: data_of(alloc, &groups, pieces)?,
+        thread_rest: part_of(alloc, &groups, Part::ThreadRest)?,
+        thread_align: thread_align(&pieces.kept),
+        has_threads: any_thread_piece(&pieces.kept),
     })
 }
 

@@ -1,12 +1,9 @@
 //! Pieces by output section: output sections by first appearance, the pieces of each in load order, but for arrays of
-//! functions, where numbered ones stand first.
-ghost use Rattle.std.specs.Prelude.{◌≡◌, ◌++◌, ◌∷◌, [], IfOk, OnOk, List, filter, length};
-ghost use Rattle.elf_model.specs.ArrayOrder.{in_array_order};
-ghost use Rattle.elf_model.specs.OwnLayout as own;
+//! functions, where numbered ones stand first. Pieces stay where they are, and groups and parts borrow them.
+ghost use Rattle.std.specs.Prelude.{◌≡◌, ◌++◌, ◌∷◌, [], IfOk, OnOk, List, length};
 ghost use Rattle.elf_model.specs.Pieces as pieces;
-ghost use Rattle.std.specs.List.{flat_map};
-ghost use Rattle.layout.specs.Groups.{AreGroups, group_views, output_of, output_view, part_test};
-ghost use Rattle.layout.specs.Views.{piece_view, piece_views};
+ghost use Rattle.layout.specs.Groups.{AreGathered, AreGroups, group_part, output_of, output_view, part_test, parts};
+ghost use Rattle.layout.specs.Views.{borrowed_views, piece_view, piece_views};
 
 use crate::array_order::{any_numbered, sorted_by_rank};
 use crate::pieces::Piece;
@@ -67,18 +64,18 @@ fn is_of_part(part: Part, piece: &Piece<'_>) -> bool
     }
 }
 
-/// Puts a piece behind those of its output section, which is the last one where it is new.
-fn add_piece<'a>(
+/// Puts a piece into the group of its output section, which is the last one where it is new.
+fn add_piece<'p, 'a>(
     alloc: Global,
     outputs: &mut IndexSet<OutputSection<'a>>,
-    groups: &mut Vec<Vec<Piece<'a>>>,
-    piece: Piece<'a>,
+    groups: &mut Vec<Vec<&'p Piece<'a>>>,
+    piece: &'p Piece<'a>,
 ) -> Result<(), AllocError>
     requires { length outputs.old.keys ≡ length groups.old.items }
     ensures same { OnOk result (length outputs.new.keys ≡ length groups.new.items) }
-    ensures added { OnOk result ((done : List pieces.Piece) → AreGroups outputs.old.keys groups.old.items done → AreGroups outputs.new.keys groups.new.items (done ++ piece_view piece.entry ∷ [])) }
+    ensures added { OnOk result ((done : List pieces.Piece) → AreGroups outputs.old.keys groups.old.items done → AreGroups outputs.new.keys groups.new.items (done ++ piece_view piece.entry.now ∷ [])) }
 {
-    let (number, is_new) = outputs.insert_full(output_section_of(&piece))?;
+    let (number, is_new) = outputs.insert_full(output_section_of(piece))?;
     if is_new {
         groups.push(Vec::new(alloc))?;
     }
@@ -86,14 +83,36 @@ fn add_piece<'a>(
     Ok(())
 }
 
-/// Puts the pieces of an output section behind others, in their order.
-fn add_group<'a>(
+/// Pieces by output section, in one pass: the output sections by first appearance.
+pub fn groups_of<'p, 'a>(
     alloc: Global,
-    out: &mut Vec<Piece<'a>>,
-    group: &[Piece<'a>],
-) -> Result<(), AllocError>
-    ensures { OnOk result (piece_views out.new.items ≡ piece_views out.old.items ++ in_array_order (piece_views group.now)) }
+    pieces: &'p [Piece<'a>],
+) -> Result<Vec<Vec<&'p Piece<'a>>>, AllocError>
+    ensures { IfOk result (λ v. AreGathered v.items (piece_views pieces.entry.now)) }
 {
+    let mut outputs = IndexSet::new(alloc);
+    let mut groups = Vec::new(alloc);
+    for piece in pieces {
+        add_piece(alloc, &mut outputs, &mut groups, piece)?;
+    }
+    Ok(groups)
+}
+
+/// Puts the pieces of a group behind others, in their order, where it belongs to a part, as its first one does.
+fn add_group<'p, 'a>(
+    alloc: Global,
+    out: &mut Vec<&'p Piece<'a>>,
+    group: &[&'p Piece<'a>],
+    part: Part,
+) -> Result<(), AllocError>
+    ensures { OnOk result (borrowed_views out.new.items ≡ borrowed_views out.old.items ++ group_part part (borrowed_views group.now)) }
+{
+    let Some(first) = group.first() else {
+        return Ok(());
+    };
+    if !is_of_part(part, first) {
+        return Ok(());
+    }
     if !any_numbered(group) {
         out.extend_from_slice(group)?;
         return Ok(());
@@ -103,38 +122,30 @@ fn add_group<'a>(
     Ok(())
 }
 
-/// The pieces of output sections one behind the other, those of each in their order.
-fn joined<'a>(
+/// Puts the pieces of a part behind others, output section by output section, those of each in their order.
+pub fn add_part<'p, 'a>(
     alloc: Global,
-    groups: &[Vec<Piece<'a>>],
-    count: usize,
-) -> Result<Vec<Piece<'a>>, AllocError>
-    ensures { IfOk result (λ v. piece_views v.items ≡ flat_map in_array_order (group_views groups.now)) }
+    out: &mut Vec<&'p Piece<'a>>,
+    groups: &[Vec<&'p Piece<'a>>],
+    part: Part,
+) -> Result<(), AllocError>
+    ensures { OnOk result (borrowed_views out.new.items ≡ borrowed_views out.old.items ++ parts part groups.now) }
 {
-    let mut all = Vec::with_capacity(alloc, count)?;
     for group in groups {
-        add_group(alloc, &mut all, group.as_slice())?;
+        add_group(alloc, out, group.as_slice(), part)?;
     }
-    Ok(all)
+    Ok(())
 }
 
-/// The pieces of a part, grouped by output section, those of each in their order.
-pub fn grouped<'a>(
+/// The pieces of a part, output section by output section, those of each in their order.
+pub fn part_of<'p, 'a>(
     alloc: Global,
-    pieces: &[Piece<'a>],
+    groups: &[Vec<&'p Piece<'a>>],
     part: Part,
-) -> Result<Vec<Piece<'a>>, AllocError>
-    ensures { IfOk result (λ v. piece_views v.items ≡ own.grouped (filter (part_test part) (piece_views pieces.now))) }
+) -> Result<Vec<&'p Piece<'a>>, AllocError>
+    ensures { IfOk result (λ v. borrowed_views v.items ≡ parts part groups.now) }
 {
-    let mut outputs = IndexSet::new(alloc);
-    let mut groups = Vec::new(alloc);
-    let mut count = 0;
-    for piece in pieces {
-        if !is_of_part(part, piece) {
-            continue;
-        }
-        add_piece(alloc, &mut outputs, &mut groups, *piece)?;
-        count += 1;
-    }
-    joined(alloc, &groups, count)
+    let mut pieces = Vec::new(alloc);
+    add_part(alloc, &mut pieces, groups, part)?;
+    Ok(pieces)
 }

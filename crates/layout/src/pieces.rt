@@ -1,11 +1,14 @@
 //! The kept sections of loaded objects, the common blocks and the GOT as pieces.
 ghost use Rattle.std.specs.Prelude.{◌≡◌, ◌≤◌, ◌++◌, ℕ, All, IfOk, OnOk, map, max};
+ghost use Rattle.elf_model.specs.Commons as commons;
 ghost use Rattle.elf_model.specs.Commons.{block_piece};
 ghost use Rattle.elf_model.specs.ObjectFile.{sections};
+ghost use Rattle.elf_model.specs.OwnLayout as own;
 ghost use Rattle.elf_model.specs.Pieces as pieces;
+ghost use Rattle.elf_model.specs.Slots as slots;
 ghost use Rattle.search.specs.Views.{loaded_view, loaded_views};
 ghost use Rattle.resolve.specs.Blocks.{block_view, block_views};
-ghost use Rattle.layout.specs.Orders.{got_as, got_list};
+ghost use Rattle.layout.specs.PieceLists.{ArePieces, got_as};
 ghost use Rattle.layout.specs.Views.{piece_view, piece_views};
 
 use elf_model::{SHF_ALLOC, SHF_WRITE, SHT_NOBITS, SHT_PROGBITS, SectionHeader};
@@ -26,8 +29,17 @@ pub struct Piece<'a> {
     pub bytes: &'a [u8],
 }
 
+/// All pieces of objects: the kept sections in load order, the GOT, which is one where it has a size, and the common
+/// blocks.
+#[derive(Drop)]
+pub struct Pieces<'a> {
+    pub kept: Vec<Piece<'a>>,
+    pub got: Piece<'a>,
+    pub blocks: Vec<Piece<'a>>,
+}
+
 /// Section `i` of object `number` as a piece.
-fn piece_of<'a>(number: u64, object: &Object<'a>, i: usize, header: SectionHeader) -> Piece<'a>
+pub fn piece_of<'a>(number: u64, object: &Object<'a>, i: usize, header: SectionHeader) -> Piece<'a>
     ensures { piece_view result ≡ pieces.piece_of number object.now i header }
 {
     Piece {
@@ -56,14 +68,20 @@ fn add_pieces<'a>(
     Ok(())
 }
 
+/// How many sections objects have, kept and others.
+fn section_count(objects: &[LoadedObject<'_>]) -> usize {
+    let mut count: usize = 0;
+    for loaded in objects {
+        count = count.saturating_add(loaded.object.sections().len());
+    }
+    count
+}
+
 /// The kept sections of all objects, in load order.
-pub fn pieces_of<'a>(
-    alloc: Global,
-    objects: &[LoadedObject<'a>],
-) -> Result<Vec<Piece<'a>>, AllocError>
+fn kept_of<'a>(alloc: Global, objects: &[LoadedObject<'a>]) -> Result<Vec<Piece<'a>>, AllocError>
     ensures { IfOk result (λ v. piece_views v.items ≡ pieces.kept_sections (loaded_views objects.now)) }
 {
-    let mut found = Vec::new(alloc);
+    let mut found = Vec::with_capacity(alloc, section_count(objects))?;
     for (k, loaded) in objects.iter().enumerate() {
         add_pieces(&mut found, k as u64, loaded)?;
     }
@@ -95,15 +113,16 @@ fn block_piece<'a>(block: &Block<'a>) -> Piece<'a>
     }
 }
 
-/// Puts common blocks behind the pieces.
-pub fn add_blocks<'a>(out: &mut Vec<Piece<'a>>, blocks: &[Block<'a>]) -> Result<(), AllocError>
+/// Common blocks as pieces.
+fn blocks_of<'a>(alloc: Global, blocks: &[Block<'a>]) -> Result<Vec<Piece<'a>>, AllocError>
     requires { All (λ b. 1 ≤ b.align) blocks.now }
-    ensures { OnOk result (piece_views out.new.items ≡ piece_views out.old.items ++ map block_piece (block_views blocks.now)) }
+    ensures { IfOk result (λ v. piece_views v.items ≡ map block_piece (block_views blocks.now)) }
 {
+    let mut pieces = Vec::with_capacity(alloc, blocks.len())?;
     for block in blocks {
-        out.push(block_piece(block))?;
+        pieces.push(block_piece(block))?;
     }
-    Ok(())
+    Ok(pieces)
 }
 
 /// The GOT as a piece, with its number and its size in bytes.
@@ -130,12 +149,28 @@ fn got_piece<'a>(number: u64, size: u64) -> Piece<'a>
     }
 }
 
-/// Puts the GOT behind the pieces, where it has a size.
-pub fn add_got(out: &mut Vec<Piece<'_>>, number: u64, size: u64) -> Result<(), AllocError>
-    ensures { OnOk result (piece_views out.new.items ≡ piece_views out.old.items ++ got_list number size) }
+/// The number of the GOT among objects: it is numbered like the one section of an object behind the loaded ones and the
+/// one that the common blocks make.
+pub fn got_number(objects: &[LoadedObject<'_>]) -> u64
+    ensures { result ≡ own.got_number (loaded_views objects.now) }
 {
-    if size > 0 {
-        out.push(got_piece(number, size))?;
-    }
-    Ok(())
+    objects.len() as u64 + 1
+}
+
+/// All pieces of objects, whose common blocks these are, with a GOT of this size in bytes.
+pub fn all_pieces<'a>(
+    alloc: Global,
+    objects: &[LoadedObject<'a>],
+    blocks: &[Block<'a>],
+    got_size: u64,
+) -> Result<Pieces<'a>, AllocError>
+    requires listed { block_views blocks.now ≡ commons.blocks (loaded_views objects.now) }
+    requires got { got_size ≡ slots.got_size (loaded_views objects.now) }
+    ensures { IfOk result (ArePieces (loaded_views objects.now)) }
+{
+    Ok(Pieces {
+        kept: kept_of(alloc, objects)?,
+        got: got_piece(got_number(objects), got_size),
+        blocks: blocks_of(alloc, blocks)?,
+    })
 }

@@ -9,7 +9,7 @@ ghost use Rattle.layout.specs.Laid.{IsLaid, IsLayout, LayoutFails, plain_start};
 ghost use Rattle.layout.specs.Limits.{AreAligned, AreInLimit, RunFails};
 ghost use Rattle.layout.specs.Orders.{IsOrder, objects_of};
 ghost use Rattle.layout.specs.PlaceViews.{place_views};
-ghost use Rattle.layout.specs.Views.{piece_views};
+ghost use Rattle.layout.specs.Views.{borrowed_views};
 
 use crate::faults::LayoutFault;
 use crate::order::{Order, any_writable, headers_size};
@@ -56,7 +56,7 @@ pub struct Layout<'a> {
 /// Places the pieces of a segment behind the places that are there.
 fn lay_segment<'a>(
     out: &mut Vec<Place<'a>>,
-    pieces: &[Piece<'a>],
+    pieces: &[&Piece<'a>],
     base: u64,
     rights: u32,
     start: u64,
@@ -65,14 +65,14 @@ fn lay_segment<'a>(
     requires start { base ≤ start }
     requires from { start ≤ from }
     requires low { from ≤ 2 ^ 46 }
-    requires aligned { AreAligned (piece_views pieces.now) }
-    ensures placed { OnOk result (place_views out.new.items ≡ place_views out.old.items ++ placed_from from (piece_views pieces.now)) }
-    ensures end { IfOk result (λ r. r.end ≡ own.end_of from (piece_views pieces.now)) }
+    requires aligned { AreAligned (borrowed_views pieces.now) }
+    ensures placed { OnOk result (place_views out.new.items ≡ place_views out.old.items ++ placed_from from (borrowed_views pieces.now)) }
+    ensures end { IfOk result (λ r. r.end ≡ own.end_of from (borrowed_views pieces.now)) }
     ensures above { IfOk result (λ r. from ≤ r.end) }
     ensures low { IfOk result (λ r. r.end ≤ 2 ^ 46) }
-    ensures segment { IfOk result (λ r. r.segment ≡ own.segment base rights start from (placed_from from (piece_views pieces.now))) }
-    ensures limit { OnOk result (AreInLimit (placed_from from (piece_views pieces.now))) }
-    ensures fault { IfErr result (RunFails (placed_from from (piece_views pieces.now))) }
+    ensures segment { IfOk result (λ r. r.segment ≡ own.segment base rights start from (placed_from from (borrowed_views pieces.now))) }
+    ensures limit { OnOk result (AreInLimit (placed_from from (borrowed_views pieces.now))) }
+    ensures fault { IfErr result (RunFails (placed_from from (borrowed_views pieces.now))) }
 {
     let before = out.len();
     let end = place_run(out, pieces, from)?;
@@ -84,8 +84,8 @@ fn lay_segment<'a>(
 }
 
 /// Where the pieces that aren't thread-local begin: where their segment does, or behind thread-local ones with bytes.
-fn plain_start(initial: &[Piece<'_>], start: u64, thread_end: u64) -> u64
-    ensures { result ≡ plain_start (piece_views initial.now) start thread_end }
+fn plain_start(initial: &[&Piece<'_>], start: u64, thread_end: u64) -> u64
+    ensures { result ≡ plain_start (borrowed_views initial.now) start thread_end }
 {
     if initial.is_empty() {
         return start;

@@ -27,8 +27,8 @@ use crate::addresses::{address_in, address_table};
 use crate::bounds::{Bounds, bound_in, bounds_of};
 use crate::faults::LayoutFault;
 use crate::got_size::GotSize;
-use crate::order::{got_number, order_of};
-use crate::pieces::Piece;
+use crate::order::order_of;
+use crate::pieces::{Piece, all_pieces, got_number};
 use crate::placed_pieces::lay_out;
 use crate::runs::Place;
 use crate::threads::{block_of, thread_header};
@@ -92,7 +92,8 @@ fn tables_of<'a>(
     ensures fits { OnOk result (IsNotTooLarge base (loaded_views objects.now)) }
     ensures fault { IfErr result (LayoutFails base (loaded_views objects.now)) }
 {
-    let order = order_of(alloc, objects, blocks, got_size)?;
+    let pieces = all_pieces(alloc, objects, blocks, got_size)?;
+    let order = order_of(alloc, objects, &pieces)?;
     let layout = lay_out(alloc, &order, base)?;
     let addresses = address_table(alloc, objects, blocks.len(), &layout.places)?;
     let bounds = bounds_of(alloc, got_number(objects), &layout.places)?;

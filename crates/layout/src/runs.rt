@@ -4,7 +4,7 @@ ghost use Rattle.elf_model.specs.OwnLayout as own;
 ghost use Rattle.elf_model.specs.OwnLayout.{place_at, placed_end, placed_from};
 ghost use Rattle.elf_model.specs.Placement.{round_up};
 ghost use Rattle.layout.specs.Limits.{AreInLimit, HasSmallAlignment, IsInLimit, RunFails};
-ghost use Rattle.layout.specs.Views.{piece_view, piece_views};
+ghost use Rattle.layout.specs.Views.{borrowed_views, piece_view};
 ghost use Rattle.layout.specs.PlaceViews.{place_view, place_views};
 
 use crate::faults::LayoutFault;
@@ -62,24 +62,24 @@ fn address_of(address: u64, piece: &Piece<'_>) -> Option<u64>
 /// address behind the last one.
 pub fn place_run<'a>(
     out: &mut Vec<Place<'a>>,
-    pieces: &[Piece<'a>],
+    pieces: &[&Piece<'a>],
     from: u64,
 ) -> Result<u64, LayoutFault>
     requires low { from ≤ 2 ^ 47 }
-    requires aligned { All HasSmallAlignment (piece_views pieces.now) }
-    ensures placed { OnOk result (place_views out.new.items ≡ place_views out.old.items ++ placed_from from (piece_views pieces.now)) }
-    ensures end { IfOk result (λ end. end ≡ own.end_of from (piece_views pieces.now)) }
+    requires aligned { All HasSmallAlignment (borrowed_views pieces.now) }
+    ensures placed { OnOk result (place_views out.new.items ≡ place_views out.old.items ++ placed_from from (borrowed_views pieces.now)) }
+    ensures end { IfOk result (λ end. end ≡ own.end_of from (borrowed_views pieces.now)) }
     ensures above { IfOk result (λ end. from ≤ end) }
     ensures low { IfOk result (λ end. end ≤ max from (2 ^ 46)) }
-    ensures limit { OnOk result (AreInLimit (placed_from from (piece_views pieces.now))) }
-    ensures fault { IfErr result (RunFails (placed_from from (piece_views pieces.now))) }
+    ensures limit { OnOk result (AreInLimit (placed_from from (borrowed_views pieces.now))) }
+    ensures fault { IfErr result (RunFails (placed_from from (borrowed_views pieces.now))) }
 {
     let mut next = from;
     for piece in pieces {
         let Some(at) = address_of(next, piece) else {
             return Err(LayoutFault::TooLarge);
         };
-        out.push(Place { at, piece: *piece })?;
+        out.push(Place { at, piece: **piece })?;
         next = at + piece.header.sh_size;
     }
     Ok(next)

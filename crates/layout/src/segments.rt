@@ -6,7 +6,7 @@ ghost use Rattle.elf_model.specs.OwnLayout as own;
 ghost use Rattle.elf_model.specs.OwnLayout.{any_placed, greatest_end, is_nonempty, placed_has_bytes};
 ghost use Rattle.layout.specs.Limits.{AreInLimit, IsInLimit, IsShort};
 ghost use Rattle.layout.specs.PlaceViews.{place_view, place_views};
-ghost use Rattle.layout.specs.Views.{piece_view, piece_views};
+ghost use Rattle.layout.specs.Views.{borrowed_views, piece_view};
 
 use crate::pieces::Piece;
 use crate::runs::{PAGE, Place};
@@ -20,8 +20,8 @@ fn is_some(piece: &Piece<'_>) -> bool
 }
 
 /// Whether there is a piece that takes up memory.
-pub fn any_nonempty(pieces: &[Piece<'_>]) -> bool
-    ensures { result ≡ list_any is_nonempty (piece_views pieces.now) }
+pub fn any_nonempty(pieces: &[&Piece<'_>]) -> bool
+    ensures { result ≡ list_any is_nonempty (borrowed_views pieces.now) }
 {
     for piece in pieces {
         if is_some(piece) {

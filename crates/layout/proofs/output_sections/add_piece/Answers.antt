@@ -1,4 +1,5 @@
 use Rattle.std.proofs.Common.{◌≡◌, ◌∙◌, Bool, true, false, not, [], ◌∷◌, ◌++◌, refl, ap, map, sym}
+use Rattle.std.specs.Borrow.{Bor}
 use Rattle.std.specs.Global.{Vec}
 use Rattle.std.specs.List.{list_any}
 use Rattle.std.proofs.lemmas.Bool.{not-true}
@@ -19,7 +20,7 @@ not_not false e = sym e
 
 pub returns-clause-added : goal.returns-clause-added
 returns-clause-added c = λ done h.
-    let q : pieces.Piece = piece_view c.args.piece in
+    let q : pieces.Piece = piece_view c.args.piece.now in
     let v = c.output_section_of.result in
     let keys = c.args.outputs.now.keys in
     let there : Bool = list_any (key_eq v) keys in
@@ -42,7 +43,7 @@ returns-clause-added c = λ done h.
       keys_are = keys_are;
       groups_are =
           group_written c.if-is_new.groups.items c.in_ok-number.number c.index_mut.result.now c.push-2.new.self c.args.piece
-          (c.in_ok-push-2.ensures.items ∙ ap (λ (g : Vec Piece). g.items ++ c.args.piece ∷ []) c.index_mut.ensures.value)
+          (c.in_ok-push-2.ensures.items ∙ ap (λ (g : Vec (Bor Piece)). g.items ++ c.args.piece ∷ []) c.index_mut.ensures.value)
           ∙ groups_put key_eq key_eq-compares c.insert_full.new.self.keys (group_views c.if-is_new.groups.items) v s.0 done q c.in_ok-number.number
           c.output_section_of.ensures s.1 s.2 keys_are groups_are;
     }

@@ -5,55 +5,55 @@ use Rattle.elf_model.specs.Placement.{Placed}
 use Rattle.layout.specs.Limits.{AreAligned}
 use Rattle.layout.specs.Orders.{objects_of}
 use Rattle.layout.specs.PlaceViews.{place_views}
-use Rattle.layout.specs.Views.{piece_views}
+use Rattle.layout.specs.Views.{borrowed_views}
 use Rattle.layout.proofs.Alignments.{code_aligned, read_only_aligned, thread_rest_aligned}
 use Rattle.layout.proofs.LaidSteps.{all_in_limit, code_fails, code_from, count_is, data_fails, data_from, first_fails, loaded_runs, rest_fails, run_is, segment_is}
 use Rattle.layout.proofs.placed_pieces.lay_pieces.Goals as goal
 
 pub lay_segment-requires-clause-aligned : goal.lay_segment-requires-clause-aligned
 lay_segment-requires-clause-aligned c =
-    let r : piece_views c.deref.result.now ≡ read_only_pieces (objects_of c.args.order.now) = ap piece_views c.deref.ensures.value ∙ c.requires.order.read_only in
+    let r : borrowed_views c.deref.result.now ≡ read_only_pieces (objects_of c.args.order.now) = ap borrowed_views c.deref.ensures.value ∙ c.requires.order.read_only in
     subst AreAligned (sym r) (read_only_aligned (objects_of c.args.order.now) c.requires.objects c.requires.commons)
 
 pub lay_segment-requires-2-clause-aligned : goal.lay_segment-requires-2-clause-aligned
 lay_segment-requires-2-clause-aligned c =
-    let r : piece_views c.deref-2.result.now ≡ code_pieces (objects_of c.args.order.now) = ap piece_views c.deref-2.ensures.value ∙ c.requires.order.code in
+    let r : borrowed_views c.deref-2.result.now ≡ code_pieces (objects_of c.args.order.now) = ap borrowed_views c.deref-2.ensures.value ∙ c.requires.order.code in
     subst AreAligned (sym r) (code_aligned (objects_of c.args.order.now) c.requires.objects c.requires.commons)
 
 pub returns-in_err-read_only-clause-fault : goal.returns-in_err-read_only-clause-fault
 returns-in_err-read_only-clause-fault c =
     let os = objects_of c.args.order.now in
-    let r : piece_views c.deref.result.now ≡ read_only_pieces os = ap piece_views c.deref.ensures.value ∙ c.requires.order.read_only in
-    let run = run_is c.args.headers_end (read_only_start c.args.base os) (piece_views c.deref.result.now) (read_only_pieces os) c.requires.start r in
+    let r : borrowed_views c.deref.result.now ≡ read_only_pieces os = ap borrowed_views c.deref.ensures.value ∙ c.requires.order.read_only in
+    let run = run_is c.args.headers_end (read_only_start c.args.base os) (borrowed_views c.deref.result.now) (read_only_pieces os) c.requires.start r in
     let p = err_from_is_err_and c.from_residual-in_err-read_only.result c.from_residual-in_err-read_only.ensures.1 in
     rw (p.1, p.2) (first_fails c.args.base os _ c.in_err-read_only.field-0.0 run c.in_err-read_only.ensures.fault)
 
 pub returns-in_err-code-clause-fault : goal.returns-in_err-code-clause-fault
 returns-in_err-code-clause-fault c =
     let os = objects_of c.args.order.now in
-    let r : piece_views c.deref.result.now ≡ read_only_pieces os = ap piece_views c.deref.ensures.value ∙ c.requires.order.read_only in
-    let t : piece_views c.deref-2.result.now ≡ code_pieces os = ap piece_views c.deref-2.ensures.value ∙ c.requires.order.code in
-    let cs = code_from c.args.base os c.args.headers_end c.in_ok-read_only.read_only.end c.page_up-code_start.result (piece_views c.deref.result.now)
+    let r : borrowed_views c.deref.result.now ≡ read_only_pieces os = ap borrowed_views c.deref.ensures.value ∙ c.requires.order.read_only in
+    let t : borrowed_views c.deref-2.result.now ≡ code_pieces os = ap borrowed_views c.deref-2.ensures.value ∙ c.requires.order.code in
+    let cs = code_from c.args.base os c.args.headers_end c.in_ok-read_only.read_only.end c.page_up-code_start.result (borrowed_views c.deref.result.now)
     c.requires.start r c.in_ok-read_only.ensures.end c.page_up-code_start.ensures.page in
-    let run = run_is c.page_up-code_start.result (code_start c.args.base os) (piece_views c.deref-2.result.now) (code_pieces os) cs t in
+    let run = run_is c.page_up-code_start.result (code_start c.args.base os) (borrowed_views c.deref-2.result.now) (code_pieces os) cs t in
     let p = err_from_is_err_and c.from_residual-in_err-code.result c.from_residual-in_err-code.ensures.1 in
     rw (p.1, p.2) (code_fails c.args.base os _ c.in_err-code.field-0.0 run c.in_err-code.ensures.fault)
 
 pub lay_writable-requires-clause-start : goal.lay_writable-requires-clause-start
 lay_writable-requires-clause-start c =
     let os = objects_of c.args.order.now in
-    let r : piece_views c.deref.result.now ≡ read_only_pieces os = ap piece_views c.deref.ensures.value ∙ c.requires.order.read_only in
-    let t : piece_views c.deref-2.result.now ≡ code_pieces os = ap piece_views c.deref-2.ensures.value ∙ c.requires.order.code in
+    let r : borrowed_views c.deref.result.now ≡ read_only_pieces os = ap borrowed_views c.deref.ensures.value ∙ c.requires.order.read_only in
+    let t : borrowed_views c.deref-2.result.now ≡ code_pieces os = ap borrowed_views c.deref-2.ensures.value ∙ c.requires.order.code in
     let cs : c.page_up-code_start.result ≡ code_start c.args.base os =
-    code_from c.args.base os c.args.headers_end c.in_ok-read_only.read_only.end c.page_up-code_start.result (piece_views c.deref.result.now)
+    code_from c.args.base os c.args.headers_end c.in_ok-read_only.read_only.end c.page_up-code_start.result (borrowed_views c.deref.result.now)
     c.requires.start r c.in_ok-read_only.ensures.end c.page_up-code_start.ensures.page in
-    data_from c.args.base os c.page_up-code_start.result c.in_ok-code.code.end c.page_up-data_start.result (piece_views c.deref-2.result.now)
+    data_from c.args.base os c.page_up-code_start.result c.in_ok-code.code.end c.page_up-data_start.result (borrowed_views c.deref-2.result.now)
     cs t c.in_ok-code.ensures.end c.page_up-data_start.ensures.page
 
 pub place_run-requires-clause-aligned : goal.place_run-requires-clause-aligned
 place_run-requires-clause-aligned c =
     let os = objects_of c.args.order.now in
-    let u : piece_views c.deref-3.result.now ≡ thread_rest_pieces os = ap piece_views c.deref-3.ensures.value ∙ c.requires.order.thread_rest in
+    let u : borrowed_views c.deref-3.result.now ≡ thread_rest_pieces os = ap borrowed_views c.deref-3.ensures.value ∙ c.requires.order.thread_rest in
     subst AreAligned (sym u) (thread_rest_aligned os c.requires.objects c.requires.commons)
 
 pub returns-in_err-writable-clause-fault : goal.returns-in_err-writable-clause-fault
@@ -64,8 +64,8 @@ returns-in_err-writable-clause-fault c =
 pub returns-in_err-place_run-clause-fault : goal.returns-in_err-place_run-clause-fault
 returns-in_err-place_run-clause-fault c =
     let os = objects_of c.args.order.now in
-    let u : piece_views c.deref-3.result.now ≡ thread_rest_pieces os = ap piece_views c.deref-3.ensures.value ∙ c.requires.order.thread_rest in
-    let run = run_is c.in_ok-writable.writable.thread_end (thread_rest_start c.args.base os) (piece_views c.deref-3.result.now) (thread_rest_pieces os) c.in_ok-writable.ensures.end u in
+    let u : borrowed_views c.deref-3.result.now ≡ thread_rest_pieces os = ap borrowed_views c.deref-3.ensures.value ∙ c.requires.order.thread_rest in
+    let run = run_is c.in_ok-writable.writable.thread_end (thread_rest_start c.args.base os) (borrowed_views c.deref-3.result.now) (thread_rest_pieces os) c.in_ok-writable.ensures.end u in
     let p = err_from_is_err_and c.from_residual-in_err-place_run.result c.from_residual-in_err-place_run.ensures.1 in
     rw (p.1, p.2) (rest_fails c.args.base os _ c.in_err-place_run.field-0.0 run c.in_err-place_run.ensures.fault)
 
@@ -73,20 +73,20 @@ pub returns-clause-laid : goal.returns-clause-laid
 returns-clause-laid c =
     let base = c.args.base in
     let os = objects_of c.args.order.now in
-    let r : piece_views c.deref.result.now ≡ read_only_pieces os = ap piece_views c.deref.ensures.value ∙ c.requires.order.read_only in
-    let t : piece_views c.deref-2.result.now ≡ code_pieces os = ap piece_views c.deref-2.ensures.value ∙ c.requires.order.code in
+    let r : borrowed_views c.deref.result.now ≡ read_only_pieces os = ap borrowed_views c.deref.ensures.value ∙ c.requires.order.read_only in
+    let t : borrowed_views c.deref-2.result.now ≡ code_pieces os = ap borrowed_views c.deref-2.ensures.value ∙ c.requires.order.code in
     let cs : c.page_up-code_start.result ≡ code_start c.args.base os =
-    code_from c.args.base os c.args.headers_end c.in_ok-read_only.read_only.end c.page_up-code_start.result (piece_views c.deref.result.now)
+    code_from c.args.base os c.args.headers_end c.in_ok-read_only.read_only.end c.page_up-code_start.result (borrowed_views c.deref.result.now)
     c.requires.start r c.in_ok-read_only.ensures.end c.page_up-code_start.ensures.page in
-    let ds : c.page_up-data_start.result ≡ data_start base os = data_from base os c.page_up-code_start.result c.in_ok-code.code.end c.page_up-data_start.result (piece_views c.deref-2.result.now)
+    let ds : c.page_up-data_start.result ≡ data_start base os = data_from base os c.page_up-code_start.result c.in_ok-code.code.end c.page_up-data_start.result (borrowed_views c.deref-2.result.now)
     cs t c.in_ok-code.ensures.end c.page_up-data_start.ensures.page in
-    let u : piece_views c.deref-3.result.now ≡ thread_rest_pieces os = ap piece_views c.deref-3.ensures.value ∙ c.requires.order.thread_rest in
-    let run1 : placed_from c.args.headers_end (piece_views c.deref.result.now) ≡ own_read_only base os =
-    run_is c.args.headers_end (read_only_start base os) (piece_views c.deref.result.now) (read_only_pieces os) c.requires.start r in
-    let run2 : placed_from c.page_up-code_start.result (piece_views c.deref-2.result.now) ≡ own_code base os =
-    run_is c.page_up-code_start.result (code_start base os) (piece_views c.deref-2.result.now) (code_pieces os) cs t in
-    let run4 : placed_from c.in_ok-writable.writable.thread_end (piece_views c.deref-3.result.now) ≡ own_thread_rest base os =
-    run_is c.in_ok-writable.writable.thread_end (thread_rest_start base os) (piece_views c.deref-3.result.now) (thread_rest_pieces os) c.in_ok-writable.ensures.end u in
+    let u : borrowed_views c.deref-3.result.now ≡ thread_rest_pieces os = ap borrowed_views c.deref-3.ensures.value ∙ c.requires.order.thread_rest in
+    let run1 : placed_from c.args.headers_end (borrowed_views c.deref.result.now) ≡ own_read_only base os =
+    run_is c.args.headers_end (read_only_start base os) (borrowed_views c.deref.result.now) (read_only_pieces os) c.requires.start r in
+    let run2 : placed_from c.page_up-code_start.result (borrowed_views c.deref-2.result.now) ≡ own_code base os =
+    run_is c.page_up-code_start.result (code_start base os) (borrowed_views c.deref-2.result.now) (code_pieces os) cs t in
+    let run4 : placed_from c.in_ok-writable.writable.thread_end (borrowed_views c.deref-3.result.now) ≡ own_thread_rest base os =
+    run_is c.in_ok-writable.writable.thread_end (thread_rest_start base os) (borrowed_views c.deref-3.result.now) (thread_rest_pieces os) c.in_ok-writable.ensures.end u in
     let p0 : List Placed = place_views c.in_ok-places.places.items in
     let p1 : List Placed = place_views c.lay_segment.new.out.items in
     let p2 : List Placed = place_views c.lay_segment-2.new.out.items in

@@ -5,7 +5,7 @@ use Rattle.elf_model.specs.Placement.{round_up}
 use Rattle.layout.specs.Limits.{AreAligned, AreInLimit}
 use Rattle.layout.specs.Orders.{objects_of, plain_pieces}
 use Rattle.layout.specs.PlaceViews.{place_views}
-use Rattle.layout.specs.Views.{piece_views}
+use Rattle.layout.specs.Views.{borrowed_views}
 use Rattle.layout.specs.declared.runs.Place.{Place}
 use Rattle.layout.proofs.Alignments.{initial_aligned, plain_aligned, thread_alignment}
 use Rattle.layout.proofs.LaidSteps.{data_limit, data_placed, initial_fails, no_fewer, placed_runs, plain_fails, plain_low, run_behind}
@@ -33,19 +33,19 @@ place_run-requires-clause-low c =
 pub place_run-requires-clause-aligned : goal.place_run-requires-clause-aligned
 place_run-requires-clause-aligned c =
     let os = objects_of c.args.order.now in
-    let i : piece_views c.deref.result.now ≡ initial_pieces os = ap piece_views c.deref.ensures.value ∙ c.requires.order.initial in
+    let i : borrowed_views c.deref.result.now ≡ initial_pieces os = ap borrowed_views c.deref.ensures.value ∙ c.requires.order.initial in
     subst AreAligned (sym i) (initial_aligned os c.requires.objects c.requires.commons)
 
 pub returns-in_err-thread_end-clause-fault : goal.returns-in_err-thread_end-clause-fault
 returns-in_err-thread_end-clause-fault c =
     let os = objects_of c.args.order.now in
-    let i : piece_views c.deref.result.now ≡ initial_pieces os = ap piece_views c.deref.ensures.value ∙ c.requires.order.initial in
+    let i : borrowed_views c.deref.result.now ≡ initial_pieces os = ap borrowed_views c.deref.ensures.value ∙ c.requires.order.initial in
     let ts : c.round_up-thread_start.result ≡ thread_start c.args.base os =
     c.round_up-thread_start.ensures.multiple
     ∙ (ap (λ (a : ℕ). round_up a c.args.start) c.requires.order.thread_align ∙ ap (round_up _) c.requires.start) in
     let p = err_from_is_err_and c.from_residual.result c.from_residual.ensures.1 in
     rw (p.1, p.2)
-    (initial_fails c.args.base os c.round_up-thread_start.result (piece_views c.deref.result.now) c.in_err-thread_end.field-0.0 ts i c.in_err-thread_end.ensures.fault)
+    (initial_fails c.args.base os c.round_up-thread_start.result (borrowed_views c.deref.result.now) c.in_err-thread_end.field-0.0 ts i c.in_err-thread_end.ensures.fault)
 
 pub place_run-requires-2-clause-low : goal.place_run-requires-2-clause-low
 place_run-requires-2-clause-low c =
@@ -55,12 +55,12 @@ place_run-requires-2-clause-low c =
     let below = c.round_up-thread_start.ensures.below in
     let end = c.in_ok-thread_end.ensures.low in
     subst (λ (n : ℕ). n ≤ 2 ^ 47) (sym c.plain_start-from.ensures)
-    (plain_low (piece_views c.deref-2.result.now) c.args.start c.in_ok-thread_end.thread_end (omega (arith, low)) (omega (arith, small, is, low, below, end)))
+    (plain_low (borrowed_views c.deref-2.result.now) c.args.start c.in_ok-thread_end.thread_end (omega (arith, low)) (omega (arith, small, is, low, below, end)))
 
 pub place_run-requires-2-clause-aligned : goal.place_run-requires-2-clause-aligned
 place_run-requires-2-clause-aligned c =
     let os = objects_of c.args.order.now in
-    let d : piece_views c.deref-3.result.now ≡ plain_pieces os = ap piece_views c.deref-3.ensures.value ∙ c.requires.order.data_ in
+    let d : borrowed_views c.deref-3.result.now ≡ plain_pieces os = ap borrowed_views c.deref-3.ensures.value ∙ c.requires.order.data_ in
     subst AreAligned (sym d) (plain_aligned os c.requires.objects c.requires.commons)
 
 pub returns-in_err-place_run-clause-fault : goal.returns-in_err-place_run-clause-fault

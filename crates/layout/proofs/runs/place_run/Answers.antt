@@ -1,24 +1,24 @@
 use Rattle.std.proofs.Common.{◌+◌, ◌≤◌, ◌^◌, ℕ, get_or, arith, refl, subst, sym}
 use Rattle.elf_model.proofs.Listed.{All-unmap}
 use Rattle.layout.specs.Limits.{HasSmallAlignment}
-use Rattle.layout.specs.Views.{piece_view}
+use Rattle.layout.specs.Views.{borrowed_view, piece_view}
 use Rattle.layout.specs.declared.pieces.Piece.{Piece}
-use Rattle.layout.proofs.RunSteps.{behind, end_more, first_left, limit_more, limit_stop, no_piece, placed_more}
+use Rattle.layout.proofs.RunSteps.{behind, end_more, first_left, limit_more, limit_stop, no_borrowed, placed_more}
 use Rattle.layout.proofs.runs.place_run.Goals as goal
 
 pub address_of-requires-clause-aligned : goal.address_of-requires-clause-aligned
-address_of-requires-clause-aligned c = All-unmap HasSmallAlignment piece_view c.args.pieces.now c.requires.aligned c.loop-piece.piece-index _ c.loop-piece-test.true
+address_of-requires-clause-aligned c = All-unmap HasSmallAlignment borrowed_view c.args.pieces.now c.requires.aligned c.loop-piece.piece-index _ c.loop-piece-test.true
 
 pub returns-in_default-clause-fault : goal.returns-in_default-clause-fault
 returns-in_default-clause-fault c =
-    let p : Piece = get_or c.args.pieces.now c.loop-piece.piece-index no_piece in
-    limit_stop _ c.loop-piece.next p _ _ (first_left c.args.pieces.now c.loop-piece.piece-index no_piece c.loop-piece-test.true)
+    let p : Piece = (get_or c.args.pieces.now c.loop-piece.piece-index no_borrowed).now in
+    limit_stop _ c.loop-piece.next p _ _ (first_left c.args.pieces.now c.loop-piece.piece-index no_borrowed c.loop-piece-test.true)
     c.in_default.ensures.place c.loop-piece.invariant.limit
 
 pub loop-piece-preserved : goal.loop-piece-preserved
 loop-piece-preserved c =
-    let p : Piece = get_or c.args.pieces.now c.loop-piece.piece-index no_piece in
-    let first = first_left c.args.pieces.now c.loop-piece.piece-index no_piece c.loop-piece-test.true in
+    let p : Piece = (get_or c.args.pieces.now c.loop-piece.piece-index no_borrowed).now in
+    let first = first_left c.args.pieces.now c.loop-piece.piece-index no_borrowed c.loop-piece-test.true in
     record {
       above = let a = c.loop-piece.invariant.above in let b = c.in-Some.ensures.above in omega (arith, a, b);
       low =

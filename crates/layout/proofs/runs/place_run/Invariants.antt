@@ -2,7 +2,7 @@ use Rattle.std.proofs.Common.{◌≡◌, ◌≤◌, ◌^◌, ◌++◌, drop, max
 use Rattle.elf_model.specs.OwnLayout.{end_of, placed_from}
 use Rattle.layout.specs.Limits.{AreInLimit}
 use Rattle.layout.specs.PlaceViews.{place_views}
-use Rattle.layout.specs.Views.{piece_views}
+use Rattle.layout.specs.Views.{borrowed_views}
 use Rattle.elf_model.proofs.Rests.{Left}
 use Rattle.layout.proofs.runs.place_run.Given as goal
 
@@ -11,8 +11,8 @@ invariant-loop-piece l = record {
   above : l.fn.from ≤ l.next;
   low : l.next ≤ max l.fn.from (2 ^ 46);
   done :
-      place_views l.out.items ++ placed_from l.next (piece_views (drop l.piece-index l.pieces))
-      ≡ place_views l.initial.out.items ++ placed_from l.fn.from (piece_views l.pieces);
-  end : end_of l.next (piece_views (drop l.piece-index l.pieces)) ≡ end_of l.fn.from (piece_views l.pieces);
-  limit : Left (AreInLimit (placed_from l.fn.from (piece_views l.pieces))) (AreInLimit (placed_from l.next (piece_views (drop l.piece-index l.pieces))));
+      place_views l.out.items ++ placed_from l.next (borrowed_views (drop l.piece-index l.pieces))
+      ≡ place_views l.initial.out.items ++ placed_from l.fn.from (borrowed_views l.pieces);
+  end : end_of l.next (borrowed_views (drop l.piece-index l.pieces)) ≡ end_of l.fn.from (borrowed_views l.pieces);
+  limit : Left (AreInLimit (placed_from l.fn.from (borrowed_views l.pieces))) (AreInLimit (placed_from l.next (borrowed_views (drop l.piece-index l.pieces))));
 }

@@ -1,8 +1,8 @@
 use Rattle.std.proofs.Common.{◌≡◌, drop}
 use Rattle.std.specs.List.{list_any}
 use Rattle.elf_model.specs.OwnLayout.{is_nonempty}
-use Rattle.layout.specs.Views.{piece_views}
+use Rattle.layout.specs.Views.{borrowed_views}
 use Rattle.layout.proofs.segments.any_nonempty.Given as goal
 
 abbrev pub invariant-loop-piece : goal.invariant-loop-piece
-invariant-loop-piece l = list_any is_nonempty (piece_views (drop l.piece-index l.pieces)) ≡ list_any is_nonempty (piece_views l.pieces)
+invariant-loop-piece l = list_any is_nonempty (borrowed_views (drop l.piece-index l.pieces)) ≡ list_any is_nonempty (borrowed_views l.pieces)

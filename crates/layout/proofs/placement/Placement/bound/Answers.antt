@@ -3,7 +3,6 @@ use Rattle.std.specs.Prelude.{unwrap_or}
 use Rattle.elf_model.specs.LinkerValues.{bound_value}
 use Rattle.elf_model.specs.OwnLayout.{own_got, own_where}
 use Rattle.elf_model.specs.Pieces.{AreLawfulKinds}
-use Rattle.search.specs.Views.{loaded_views}
 use Rattle.layout.specs.Placements.{Basis}
 use Rattle.layout.proofs.OwnBounds.{own_bound}
 use Rattle.layout.proofs.placement.Placement.bound.Goals as goal

@@ -3,7 +3,6 @@ use Rattle.std.specs.Prelude.{Option, find}
 use Rattle.std.specs.Global.{Vec}
 use Rattle.elf_model.specs.OwnLayout.{own_placed}
 use Rattle.elf_model.specs.Placement.{is_of_section}
-use Rattle.search.specs.Views.{loaded_views}
 use Rattle.layout.specs.Addresses.{entry}
 use Rattle.layout.specs.Placements.{Basis}
 use Rattle.layout.proofs.OwnAddresses.{address_either}

@@ -2,7 +2,6 @@ use Rattle.std.proofs.Common.{rules, ◌≡◌, ◌∙◌, ap, option_map, subst
 use Rattle.elf_model.specs.OwnLayout.{own_in_load_order, own_placed}
 use Rattle.elf_model.specs.Pieces.{AreLawfulKinds}
 use Rattle.elf_model.specs.ThreadStorage.{thread_block}
-use Rattle.search.specs.Views.{loaded_views}
 use Rattle.layout.specs.Placements.{Basis}
 use Rattle.layout.specs.Threads.{block_of}
 use Rattle.layout.proofs.OwnThreads.{told_block, threads_same}

@@ -1,7 +1,6 @@
 use Rattle.std.proofs.Common.{◌∙◌, ap, subst, sym}
 use Rattle.elf_model.specs.OwnLayout.{own_in_load_order}
 use Rattle.elf_model.specs.Pieces.{AreLawfulKinds}
-use Rattle.search.specs.Views.{loaded_views}
 use Rattle.layout.specs.Placements.{Basis}
 use Rattle.layout.specs.Threads.{header_in}
 use Rattle.layout.proofs.OwnThreads.{headers_same}
