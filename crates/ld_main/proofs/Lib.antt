@@ -5,6 +5,7 @@ pub mod OwnMaps
 pub mod Tabled
 pub mod Links
 pub mod Listings
+pub mod PlaceLines
 pub mod Spellings
 pub mod FinalRefusals
 pub mod Gatherings

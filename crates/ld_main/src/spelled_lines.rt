@@ -1,14 +1,13 @@
 //! The own map can always be spelled: its numbers are below 2 ^ 64, and its names are bytes, by the types of what
 //! its lines are made from. Nothing here does anything when the program runs.
-ghost use Rattle.std.specs.Prelude.{◌≡◌, ◌<◌, ◌^◌, All, IfSome, map, option_map, option_to_list};
+ghost use Rattle.std.specs.Prelude.{◌≡◌, ◌<◌, ◌^◌, All, IfSome, length, map, option_map, option_to_list};
 ghost use Rattle.elf_model.specs.ImageFile.{common_row_of, own_end};
 ghost use Rattle.elf_model.specs.Loading.{AreObjects};
 ghost use Rattle.elf_model.specs.MapText.{AreBytes, Fits, FitsCommon, FitsDrop, FitsGot, FitsObject, FitsPlace, FitsSlot, FitsSymbol, FitsSymtab, FitsTarget};
 ghost use Rattle.elf_model.specs.Meaning.{Common, Linker, Symbol};
-ghost use Rattle.elf_model.specs.ObjectFile.{sections};
 ghost use Rattle.elf_model.specs.OwnLayout.{IsNotTooLarge, own_got, own_in_load_order, own_slots, own_where};
-ghost use Rattle.elf_model.specs.Pieces.{AreLawfulKinds, kept_sections, piece_of, pieces_from};
-ghost use Rattle.elf_model.specs.RightLink.{drop_rows, drops_from, object_rows, symbol_row_of};
+ghost use Rattle.elf_model.specs.Pieces.{AreLawfulKinds, kept_sections};
+ghost use Rattle.elf_model.specs.RightLink.{drop_rows, object_rows, symbol_row_of};
 ghost use Rattle.got_tls.specs.Views.{slot_view, slot_views};
 ghost use Rattle.resolve.specs.Blocks.{block_view};
 ghost use Rattle.resolve.specs.Views.{meaning_view, meaning_views, symbol_view};
@@ -19,8 +18,7 @@ ghost use Rattle.image_write.specs.Tables.{HasTable, IsInRange, line_of};
 
 use crate::own_map::{address_of, symtab_line};
 use crate::slot_lines::got_line;
-use elf_model::{Bound, SectionHeader, Target};
-use elf_read::Object;
+use elf_model::{Bound, Target};
 use got_tls::{Slot, Slots};
 use image_write::{SymbolTable, block_address, symbol_value};
 use layout::Placement;
@@ -53,63 +51,47 @@ fn show_objects(objects: &[LoadedObject<'_>])
     }
 }
 
-/// The drop line of section `i` of the object that has a number.
-fn show_drop(number: u64, i: usize)
-    ensures { FitsDrop (record { object = number; section = i }) }
+/// How many objects there are.
+fn show_count(objects: &[LoadedObject<'_>])
+    ensures { length (loaded_views objects.now) < 2 ^ 64 }
 {
-    show_number(number);
-    show_number(i as u64);
+    let _count = objects.len();
 }
 
-fn show_drops_in(number: u64, loaded: &LoadedObject<'_>)
-    ensures { All FitsDrop (drops_from number (loaded_view loaded.now) 0 (sections loaded.now.object)) }
+/// The bytes of an object are bytes.
+fn show_content(loaded: &LoadedObject<'_>)
+    ensures { AreBytes (loaded_view loaded.now).bytes }
 {
-    let headers = loaded.object.sections();
-    for (i, _) in headers.iter().enumerate() {
-        show_drop(number, i);
+    show_bytes(loaded.object.bytes());
+}
+
+/// Those of all objects are.
+fn show_contents(objects: &[LoadedObject<'_>])
+    ensures { All (λ o. AreBytes o.bytes) (loaded_views objects.now) }
+{
+    for (k, loaded) in objects.iter().enumerate() {
+        let _number = k;
+        show_content(loaded);
     }
 }
 
+/// The drop lines, of which objects have few enough.
 fn show_drops(objects: &[LoadedObject<'_>])
+    requires { AreObjects (loaded_views objects.now) }
     ensures { All FitsDrop (drop_rows 0 (loaded_views objects.now)) }
 {
-    for (k, loaded) in objects.iter().enumerate() {
-        show_drops_in(k as u64, loaded);
-    }
+    show_count(objects);
 }
 
-/// The line of section `i` of the object that has a number.
-fn show_place(
-    placement: &Placement<'_>,
-    number: u64,
-    object: &Object<'_>,
-    i: usize,
-    header: &SectionHeader,
-)
-    ensures { FitsPlace (own_row placement.now (piece_of number object.now i header.now)) }
-{
-    show_number(address_of(placement, number, i));
-    show_number(header.sh_size);
-    show_number(number);
-    show_number(i as u64);
-    show_bytes(object.section_name(i).unwrap_or(&[]));
-}
-
-fn show_places_in(placement: &Placement<'_>, number: u64, loaded: &LoadedObject<'_>)
-    ensures { All FitsPlace (map (own_row placement.now) (pieces_from number (loaded_view loaded.now) 0 (sections loaded.now.object))) }
-{
-    let headers = loaded.object.sections();
-    for (i, header) in headers.iter().enumerate() {
-        show_place(placement, number, &loaded.object, i, header);
-    }
-}
-
+/// The lines of the kept sections, whose numbers and names are read from the objects' bytes, and whose addresses are low.
 fn show_places(placement: &Placement<'_>, objects: &[LoadedObject<'_>])
+    requires same { placement.now.objects ≡ loaded_views objects.now }
+    requires objects { AreObjects (loaded_views objects.now) }
+    requires fits { IsNotTooLarge placement.now.base placement.now.objects }
     ensures { All FitsPlace (map (own_row placement.now) (kept_sections (loaded_views objects.now))) }
 {
-    for (k, loaded) in objects.iter().enumerate() {
-        show_places_in(placement, k as u64, loaded);
-    }
+    show_count(objects);
+    show_contents(objects);
 }
 
 /// The line of a common block.

@@ -1,7 +1,7 @@
-use Rattle.ld_main.proofs.Spellings.{all_drops_fit}
+use Rattle.std.proofs.Common.{arith}
+use Rattle.search.specs.Views.{loaded_views}
+use Rattle.ld_main.proofs.PlaceLines.{drop_rows-fit}
 use Rattle.ld_main.proofs.spelled_lines.show_drops.Goals as goal
 
-pub loop-k-preserved : goal.loop-k-preserved
-loop-k-preserved c = λ rest.
-    c.loop-k.invariant
-    (all_drops_fit c.args.objects.now c.loop-k.k c.index-objects-k.result c.loop-k-test.true c.index-objects-k.is c.show_drops_in.ensures rest)
+pub returns : goal.returns
+returns c = drop_rows-fit (loaded_views c.args.objects.now) 0 (omega (arith, c.show_count.ensures)) c.requires

@@ -1,8 +1,17 @@
-use Rattle.ld_main.proofs.Spellings.{all_places_fit}
+use Rattle.std.proofs.Common.{List, length, map, ◌<◌, ◌^◌, subst, sym}
+use Rattle.std.specs.Prelude.{All}
+use Rattle.elf_model.specs.Loading.{AreObjects, LoadedObject}
+use Rattle.elf_model.specs.MapText.{AreBytes, FitsPlace}
+use Rattle.elf_model.specs.Pieces.{kept_sections}
+use Rattle.image_write.specs.Maps.{own_row}
+use Rattle.ld_main.proofs.PlaceLines.{all_places_fit}
 use Rattle.ld_main.proofs.spelled_lines.show_places.Goals as goal
 
-pub loop-k-preserved : goal.loop-k-preserved
-loop-k-preserved c = λ rest.
-    c.loop-k.invariant
-    (all_places_fit c.args.placement.now c.args.objects.now c.loop-k.k c.index-objects-k.result c.loop-k-test.true c.index-objects-k.is
-    c.show_places_in.ensures rest)
+pub returns : goal.returns
+returns c =
+    let b = c.args.placement.now in
+    let back = sym c.requires.same in
+    subst (λ (os : List LoadedObject). All FitsPlace (map (own_row b) (kept_sections os))) c.requires.same
+    (all_places_fit b.base b.objects c.requires.fits (subst AreObjects back c.requires.objects)
+    (subst (All (λ (o : LoadedObject). AreBytes o.bytes)) back c.show_contents.ensures)
+    (subst (λ (os : List LoadedObject). length os < 2 ^ 64) back c.show_count.ensures))
