@@ -72,7 +72,8 @@ pub fn are_good_group_sections(sections: &[SectionHeader]) -> bool
         || is_group_section(sections, section))
 }
 
-fn is_group_section(sections: &[SectionHeader], group: &SectionHeader) -> bool
+/// Whether the header of a GROUP section is a good one.
+pub fn is_group_section(sections: &[SectionHeader], group: &SectionHeader) -> bool
     requires one { count_by (λ s. s.sh_type == 2) sections.now ≤ 1 }
     ensures { IsTrue result ↔ IsGroupSection sections.now group.now }
 {
@@ -135,7 +136,8 @@ fn are_members(sections: &[SectionHeader], members: &[u32]) -> bool
         .all(|member| may_be_member(sections, *member as usize))
 }
 
-fn may_be_member(sections: &[SectionHeader], number: usize) -> bool
+/// Whether a section of that number may be a member of a group.
+pub fn may_be_member(sections: &[SectionHeader], number: usize) -> bool
     ensures { IsTrue result ↔ MayBeMember sections.now number }
 {
     if number == 0 || number >= sections.len() {
@@ -219,7 +221,7 @@ fn read_group<'a>(
 
 /// The numbers behind the first word of a GROUP section, which lies inside the file.
 #[tactic(auto, using(crate::proofs::Entries::entries_more))]
-fn read_members(
+pub fn read_members(
     alloc: Global,
     file: &View<'_>,
     section: &SectionHeader,

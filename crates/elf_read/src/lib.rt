@@ -10,6 +10,12 @@ mod sections;
 mod symbols;
 
 pub use elf_model::ObjFault;
-pub use groups::Group;
+pub use groups::{Group, is_group_section, may_be_member, read_members};
+pub use header::{read_header, read_sections};
 pub use object::Object;
-pub use sections::is_power_of_two;
+pub use relas::{append_entries, is_rela_section};
+pub use sections::{
+    contents, has_good_symbol_table, is_placed, is_power_of_two, is_symbol_table, lies_inside,
+    section, symbol_table,
+};
+pub use symbols::{NULL_SYMBOL, is_good_symbol, read_symbols};

@@ -33,7 +33,8 @@ pub fn are_good_rela_sections(sections: &[SectionHeader]) -> bool
     sections.iter().all(|section| section.sh_type != SHT_RELA || is_rela_section(sections, section))
 }
 
-fn is_rela_section(sections: &[SectionHeader], relas: &SectionHeader) -> bool
+/// Whether the header of a RELA section is a good one.
+pub fn is_rela_section(sections: &[SectionHeader], relas: &SectionHeader) -> bool
     requires one { count_by (λ s. s.sh_type == 2) sections.now ≤ 1 }
     ensures { IsTrue result ↔ IsRelaSection sections.now relas.now }
 {
@@ -117,7 +118,7 @@ fn append_section(
 }
 
 /// Appends the entries of a RELA section, which lies inside the file.
-fn append_entries(
+pub fn append_entries(
     file: &View<'_>,
     section: &SectionHeader,
     entries: &mut Vec<Rela>,

@@ -131,7 +131,8 @@ fn is_string_table(sections: &[SectionHeader], number: usize) -> bool
     section(sections, number).sh_type == SHT_STRTAB
 }
 
-fn is_placed(section: &SectionHeader, len: usize) -> bool
+/// Whether a section lies inside a file of a length, and its alignment is one of the profile's.
+pub fn is_placed(section: &SectionHeader, len: usize) -> bool
     ensures { IsTrue result ↔ IsPlaced len section.now }
 {
     let is_inside = section.sh_type == SHT_NULL
@@ -140,7 +141,8 @@ fn is_placed(section: &SectionHeader, len: usize) -> bool
     is_inside && is_alignment(section.sh_addralign)
 }
 
-fn lies_inside(section: &SectionHeader, len: usize) -> bool
+/// Whether the bytes that a section names lie inside a file of a length.
+pub fn lies_inside(section: &SectionHeader, len: usize) -> bool
     ensures { IsTrue result ↔ LiesInside len section.now }
 {
     section.sh_offset as usize <= len
@@ -160,7 +162,8 @@ pub fn is_power_of_two(number: u64) -> bool
     number.is_power_of_two()
 }
 
-fn has_good_symbol_table(sections: &[SectionHeader]) -> bool
+/// Whether the sections have at most one symbol table, a good one, and no extended section numbers.
+pub fn has_good_symbol_table(sections: &[SectionHeader]) -> bool
     ensures { IsTrue result ↔ HasGoodSymbolTable sections.now }
 {
     let count = sections
@@ -180,7 +183,8 @@ fn has_good_symbol_table(sections: &[SectionHeader]) -> bool
         || is_symbol_table(sections, section))
 }
 
-fn is_symbol_table(sections: &[SectionHeader], section: &SectionHeader) -> bool
+/// Whether the header of a symbol table is a good one.
+pub fn is_symbol_table(sections: &[SectionHeader], section: &SectionHeader) -> bool
     ensures { IsTrue result ↔ IsSymbolTable sections.now section.now }
 {
     if section.sh_entsize as usize != SYM_SIZE || section.sh_size == 0 {

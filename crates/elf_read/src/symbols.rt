@@ -103,7 +103,8 @@ fn are_symbols_named(strings: &View<'_>, symbols: &[Symbol]) -> bool
         .all(|symbol| (symbol.st_name as usize) < limit)
 }
 
-fn is_good_symbol(symbol: &Symbol, count: u16) -> bool
+/// Whether binding, type and section of a symbol are those of a file with `count` sections.
+pub fn is_good_symbol(symbol: &Symbol, count: u16) -> bool
     ensures { IsTrue result ↔ IsGoodSymbol count symbol.now }
 {
     if symbol.st_info / 16 > STB_WEAK || symbol.st_info % 16 > STT_TLS {

@@ -5,10 +5,10 @@ use Rattle.elf_model.specs.Command.{Plan, command_of}
 use Rattle.elf_model.specs.Files.{File}
 use Rattle.elf_model.specs.Groups.{GroupFaultStands}
 use Rattle.elf_model.specs.Loading.{loaded_objects}
-use Rattle.elf_model.specs.ObjectFile.{ObjFaultStands, groups}
+use Rattle.elf_model.specs.ObjectFile.{groups}
 use Rattle.elf_model.specs.Opening.{file_named}
 use Rattle.search.specs.Loads.{LoadedPlan}
-use Rattle.explain.specs.Places.{AreSo, AreSoOf, Holds, HoldsIn, HoldsOf, HoldsOfBytes, IsObjectOf, data_of}
+use Rattle.explain.specs.Places.{AreSo, AreSoOf, HasFault, Holds, HoldsIn, HoldsOf, HoldsOfBytes, IsObjectOf, data_of}
 use Rattle.explain.specs.declared.place.ObjectPlace.{ObjectPlace}
 use Rattle.explain.specs.declared.place.Place.{Place}
 use Rattle.explain.specs.declared.place.Place.TheVariants as place
@@ -24,8 +24,8 @@ object_of Stands files p q file bytes there same is stands =
 pub object_law :
     (files : List File) (plan : Plan) (p : ObjectPlace) (file bytes : List ℕ) (x : Place) → file_named files p.path.now ≡ Some file →
     bytes ≡ data_of file p.offset → HoldsOfBytes p bytes x → HoldsOf files plan x
-object_law files plan p file bytes (place.Object q fault) there same h =
-    object_of (λ b. ObjFaultStands b fault) files p q file bytes there same h.0 h.1
+object_law files plan p file bytes (place.Object q fault part) there same h =
+    object_of (HasFault fault part) files p q file bytes there same h.0 h.1
 object_law files plan p file bytes (place.Groups q fault) there same h =
     object_of (λ b. GroupFaultStands (groups b) fault) files p q file bytes there same h.0 h.1
 object_law files plan p file bytes (place.Word number fault) there same h = absurd h
@@ -42,7 +42,7 @@ object_law files plan p file bytes (place.Entry name) there same h = absurd h
 
 -- what holds of the objects that a plan loads
 of_loaded : (files : List File) (plan : Plan) (x : Place) → HoldsIn (record { plan = plan; objects = loaded_objects files plan }) x → HoldsOf files plan x
-of_loaded files plan (place.Object q fault) h = absurd h
+of_loaded files plan (place.Object q fault part) h = absurd h
 of_loaded files plan (place.Groups q fault) h = absurd h
 of_loaded files plan (place.Word number fault) h = absurd h
 of_loaded files plan (place.Missing i source) h = absurd h
@@ -65,7 +65,7 @@ so_of files plan l xs is loads so =
 -- what holds of the files of the plan of words
 of_plan : (files : List File) (words : List (List ℕ)) (plan : Plan) (x : Place) → command_of words ≡ Ok plan → HoldsOf files plan x → Holds files words x
 of_plan files words plan (place.Word number fault) is h = absurd h
-of_plan files words plan (place.Object q fault) is h = (plan, is, h)
+of_plan files words plan (place.Object q fault part) is h = (plan, is, h)
 of_plan files words plan (place.Groups q fault) is h = (plan, is, h)
 of_plan files words plan (place.Missing i source) is h = (plan, is, h)
 of_plan files words plan (place.Archive path fault) is h = (plan, is, h)

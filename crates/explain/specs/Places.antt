@@ -1,5 +1,5 @@
 -- What a place of an explanation says of the loaded objects.
-use Rattle.std.specs.Prelude.{◌≡◌, ◌≤◌, ◌+◌, ◌%◌, ◌^◌, ℕ, true, ◌==◌, cond, List, [], Some, Ok, All, unwrap_or}
+use Rattle.std.specs.Prelude.{◌≡◌, ◌≤◌, ◌+◌, ◌%◌, ◌^◌, ℕ, true, ◌==◌, cond, List, [], Option, Some, Ok, All, IfSome, unwrap_or}
 use Rattle.std.specs.List.{slice_get}
 use Rattle.elf_model.specs.ArchiveFile.{ArFaultStands}
 use Rattle.elf_model.specs.Command.{IsRefusal, Item, Plan, command_of}
@@ -13,7 +13,10 @@ use Rattle.elf_model.specs.Pieces.{is_kept}
 use Rattle.elf_model.specs.Placement.{section_address}
 use Rattle.elf_model.specs.RelocationValues.{Fits, value_of}
 use Rattle.elf_model.specs.Resolution.{IsDuplicate, IsEntry, IsSoundCommon, IsSoundSymbol, SymbolOf, is_strong, symbol_of}
+use Rattle.elf_model.specs.declared.faults.ObjFault.{ObjFault}
 use Rattle.elf_model.specs.declared.records.SectionHeader.{SectionHeader}
+use Rattle.bad_parts.specs.BadParts.{IsBadOf}
+use Rattle.bad_parts.specs.declared.part.BadPart.{BadPart}
 use Rattle.command.specs.Views.{source_of}
 use Rattle.command.specs.declared.items.Source.{Source}
 use Rattle.search.specs.Loads.{LoadedPlan}
@@ -138,9 +141,13 @@ HoldsIn l _ = ⊥
 abbrev pub data_of : List ℕ → ℕ → List ℕ
 data_of file offset = cond (offset == 0) file (archive_data file offset)
 
+-- bytes have a fault, and the part of them, where there is one, is bad and of this fault
+abbrev pub HasFault : ObjFault → Option BadPart → List ℕ → Type 0
+HasFault fault part bytes = ObjFaultStands bytes fault × IfSome part (IsBadOf bytes fault)
+
 -- what a place says of an object by its bytes
 abbrev pub HoldsOfBytes : ObjectPlace → List ℕ → Place → Type 0
-HoldsOfBytes p bytes (place.Object q fault) = (q ≡ p) × ObjFaultStands bytes fault
+HoldsOfBytes p bytes (place.Object q fault part) = (q ≡ p) × HasFault fault part bytes
 HoldsOfBytes p bytes (place.Groups q fault) = (q ≡ p) × GroupFaultStands (groups bytes) fault
 HoldsOfBytes p bytes _ = ⊥
 
@@ -168,7 +175,7 @@ abbrev pub HoldsOf : List File → Plan → Place → Type 0
 HoldsOf files plan (place.Missing i source) = IsMissing files plan i source
 HoldsOf files plan (place.Archive path fault) = IsFileThere files path.now (λ bytes. ArFaultStands bytes fault)
 HoldsOf files plan (place.NoIndex path) = IsFileThere files path.now (λ bytes. is_unindexed bytes ≡ true)
-HoldsOf files plan (place.Object p fault) = IsObjectOf files p (λ bytes. ObjFaultStands bytes fault)
+HoldsOf files plan (place.Object p fault part) = IsObjectOf files p (HasFault fault part)
 HoldsOf files plan (place.Groups p fault) = IsObjectOf files p (λ bytes. GroupFaultStands (groups bytes) fault)
 HoldsOf files plan p = HoldsIn (record { plan = plan; objects = loaded_objects files plan }) p
 

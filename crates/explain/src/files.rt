@@ -9,6 +9,7 @@ ghost use Rattle.explain.specs.Places.{AreSoOf, HoldsOf, HoldsOfBytes, data_of};
 use crate::found::Found;
 use crate::place::{ObjectPlace, Place};
 use ar_index::Archive;
+use bad_parts::bad_part;
 use byteview::View;
 use comdat::Groups;
 use command::Plan;
@@ -177,7 +178,10 @@ fn bytes_place<'a>(
     match read_object(alloc, bytes) {
         Ok(object) => groups_place(alloc, place, &object),
         Err(ObjFault::Memory) => Err(AllocError),
-        Err(fault) => Ok(Some(Place::Object(place, fault))),
+        Err(fault) => {
+            let part = bad_part(alloc, bytes, fault)?;
+            Ok(Some(Place::Object(place, fault, part)))
+        }
     }
 }
 

@@ -1,5 +1,6 @@
 //! The places that an explanation names.
 
+use bad_parts::BadPart;
 use command::Source;
 use elf_model::{ArFault, CmdFault, GroupFault, ObjFault, Rela, SectionHeader, Symbol};
 use relocate::RelocationFault;
@@ -76,8 +77,8 @@ pub enum Place<'a> {
     Archive(&'a str, ArFault),
     /// The path of an archive that has no index of its members' names.
     NoIndex(&'a str),
-    /// An object file that is none of the profile's.
-    Object(ObjectPlace<'a>, ObjFault),
+    /// An object file that is none of the profile's, and the first part of it that has the fault, where one is found.
+    Object(ObjectPlace<'a>, ObjFault, Option<BadPart<'a>>),
     /// An object whose groups of sections are refused.
     Groups(ObjectPlace<'a>, GroupFault),
     /// A kept section whose type or flags are none of the profile's.

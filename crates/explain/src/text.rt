@@ -1,6 +1,7 @@
 //! How a place reads: a line that names the object, what is wrong in it, and why.
 
 use crate::place::{ObjectPlace, Place, RelocationPlace, SectionPlace, SymbolFault, SymbolPlace};
+use bad_parts::{BadPart, write_bad_part};
 use command::Source;
 use elf_model::{CmdFault, InputFile, ObjFault};
 use input_names::{write_name, write_object};
@@ -152,15 +153,28 @@ fn object_text(fault: ObjFault) -> &'static str {
     }
 }
 
+/// Writes the fault of an object, and the part of it that has the fault, where one is told.
+fn write_bad_object<W: Write>(
+    out: &mut W,
+    fault: ObjFault,
+    part: &Option<BadPart<'_>>,
+) -> io::Result<()> {
+    write!(out, "{fault}: ")?;
+    match part {
+        Some(part) => write_bad_part(out, part),
+        None => out.write_all(object_text(fault).as_bytes()),
+    }
+}
+
 /// Writes a place of the files.
 fn write_input<W: Write>(out: &mut W, inputs: Inputs<'_>, place: &Place<'_>) -> io::Result<()> {
     match place {
         Place::Missing(number, source) => write_missing(out, *number, *source),
         Place::Archive(path, fault) => write!(out, "{path}: {fault}"),
         Place::NoIndex(path) => write!(out, "{path}: the archive has no index: ranlib makes one"),
-        Place::Object(file, fault) => {
+        Place::Object(file, fault, part) => {
             write_file(out, inputs, file)?;
-            write!(out, "{fault}: {}", object_text(*fault))
+            write_bad_object(out, *fault, part)
         }
         Place::Groups(file, fault) => {
             write_file(out, inputs, file)?;

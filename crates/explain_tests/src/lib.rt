@@ -2,4 +2,8 @@
 #![tactic(auto)]
 
 #[cfg(test)]
+mod bad_objects;
+#[cfg(test)]
+mod lines;
+#[cfg(test)]
 mod refused_links;

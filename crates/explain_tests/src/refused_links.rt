@@ -1,43 +1,20 @@
 //! Why links are refused: the lines of each error, the places in the order in which they are met.
+use crate::lines::lines_of;
 use elf_model::{SHF_ALLOC, SHF_EXECINSTR, SHF_TLS, SHF_WRITE, SHT_GROUP};
-use explain::{Inputs, explain, write_place};
 use link_samples::links::{File, Member, files_of};
 use link_samples::objects::{NamedSymbol, Relocation, Section};
-use link_samples::one_object::words_of;
 use link_samples::parts::{BSS, DATA, F, NO_F, R_64, R_PC32, R_PLT32, START, TEXT};
-use std::alloc::Global;
 use std::process::Abort;
 use std::test::Fail;
 
 /// Files, the words of a line, how many places are told, and the text of these.
 type Row = (&'static [File], &'static str, usize, &'static str);
 
-/// The lines of an explanation, and how many more there are where there are more.
-fn text_of(alloc: Global, files: &[File], line: &str, most: usize) -> Result<String, Fail> {
-    let files = files_of(alloc, files)?;
-    let words = words_of(alloc, line)?;
-    let found = explain(alloc, &files, &words, most)?;
-    let inputs = Inputs {
-        files: &files,
-        words: &words,
-    };
-    let mut text = Vec::new(alloc);
-    for place in found.places() {
-        write_place(&mut text, inputs, place)?;
-        text.push(b'\n')?;
-    }
-    let mut text = String::from_utf8(text)?;
-    if found.more() > 0 {
-        let more = format!(in alloc; "and {} more\n", found.more())?;
-        text.push_str(&more)?;
-    }
-    Ok(text)
-}
-
 /// Asserts that the links of rows are explained as they say.
 fn assert_rows<R: AllocGlobal + Abort>(rt: &R, rows: &[Row]) -> Result<(), Fail> {
     for (files, line, most, wanted) in rows {
-        let text = text_of(rt.alloc(), files, line, *most)?;
+        let files = files_of(rt.alloc(), files)?;
+        let text = lines_of(rt.alloc(), &files, line, *most)?;
         assert_eq!(rt; text.as_str(), *wanted, "{line}");
     }
     Ok(())

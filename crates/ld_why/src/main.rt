@@ -1,24 +1,21 @@
-//! The program `ld-why`: says why `ld` refuses a link, place by place.
+//! The program `ld-why`: says why `ld` refuses a link, or says no to one, place by place.
 #![tactic(auto)]
 
 mod why;
 
+use ld_main::{no_words, words};
+use std::io::Write;
 use std::process::ExitCode;
-use std::{env, io};
-
-/// The words behind the program's name.
-fn words(rt: &HostRuntime) -> io::Result<Vec<String>> {
-    let mut words = Vec::new(rt.alloc());
-    for word in env::args(rt)?.skip(1) {
-        words.push(word)?;
-    }
-    Ok(words)
-}
 
 fn main(rt: HostRuntime) -> ExitCode {
+    let mut out = rt.stdout();
     let status = match words(&rt) {
-        Ok(words) => why::run(&rt, &words, &mut rt.stdout()),
-        Err(_) => 4,
+        Ok(words) => why::run(&rt, &words, &mut out),
+        Err(error) => {
+            let (line, status) = no_words(&error);
+            let _ = writeln!(out, "{line}");
+            status
+        }
     };
     ExitCode::from(status)
 }

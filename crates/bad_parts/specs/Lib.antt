@@ -1,0 +1,2 @@
+pub mod BadParts
+pub mod Tables

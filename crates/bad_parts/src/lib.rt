@@ -1,0 +1,16 @@
+//! Which part of a file makes it no object of the profile: the first section, symbol, relocation entry or member of a group
+//! that has the fault which the reader answers. The reader's own tests judge each part.
+#![tactic(auto)]
+
+mod groups;
+mod part;
+mod parts;
+mod relas;
+mod sections;
+mod symbols;
+mod tables;
+mod text;
+
+pub use part::{BadPart, EntryPart, MemberPart, SectionPart, SymbolPart};
+pub use parts::bad_part;
+pub use text::write_bad_part;
