@@ -34,6 +34,14 @@ LAYERS = {
         "Relocations and slots": "FlatRelocations KindWidths NoSlots OwnFields RelocationFields SameRequests Sectioned"
         " WrappedValues",
     },
+    "layout": {
+        "Pieces and their output sections": "Alignments ArraySteps GotPieces GroupSteps Keys Leading OrderSteps PartSteps"
+        " PieceEntries",
+        "Addresses and segments": "EndSteps Entries LaidSteps OwnAddresses RunSteps",
+        "Bounds": "ExtentSteps OtherPlaces OwnBounds",
+        "Thread-local storage": "OwnThreads ThreadSteps",
+        "Kinds and mixed output sections": "KindLemmas MixedOutputs MixedSteps",
+    },
     "checker": {
         "Lists and numbers": "ArrayRanks Filtered Lines PartsOfLists Spelled",
         "Sections and where they are": "DropSteps NearSteps NextPieces PieceSections PlacedFacts",

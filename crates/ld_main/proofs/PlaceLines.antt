@@ -96,6 +96,7 @@ all_places_fit base objects fits are bytes few =
     at : (P : LoadedObject → Type 0) (k : ℕ) (o : LoadedObject) → slice_get objects k ≡ Some o → All P objects → P o
     at P k o there all =
         subst P (get_or_from_slice_get objects k o o there) (All-get_or P objects k o (slice_get_within objects k o there) all)
+
     each :
         (k : ℕ) (o : LoadedObject) → slice_get objects k ≡ Some o → (i : ℕ) (h : SectionHeader) → slice_get (sections o.bytes) i ≡ Some h →
         FitsPlace (place_row_of (record { at = own_address base objects (piece_of k o.bytes i h); piece = piece_of k o.bytes i h }))
@@ -120,6 +121,7 @@ drops_from-fit k o (h ∷ hs) i low few = by (is_dropped_line o i h) (drops_from
   where
     line : DropLine
     line = record { object = k; section = i }
+
     by : (b : Bool) → All FitsDrop (drops_from k o (i + 1) hs) → All FitsDrop (cond b (line ∷ drops_from k o (i + 1) hs) (drops_from k o (i + 1) hs))
     by true rest = All-cons FitsDrop line (drops_from k o (i + 1) hs) (record { object = low; section = omega (arith, few) }) rest
     by false rest = rest
