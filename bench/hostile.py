@@ -15,16 +15,16 @@
     map-slots     the same with lines `slot`
     map-symbols   the same with lines `symbol`
     segments      an image with 65,533 PT_LOADs, each of one page with a section of zeros; single: half of them
+    group-names   a group of 2,000 archives, of which the first one's member asks for 80,000 names that none defines
 
-Four more grow faster than their bytes, for reasons that docs/BENCHMARKS.md gives. They run only where they are named,
+Three more grow faster than their bytes, for reasons that docs/BENCHMARKS.md gives. They run only where they are named,
 are small, and have no limit:
 
     local-slots   20,000 LOCAL symbols whose names are ends of one text of 2 MB, each with a slot of the GOT
     weak-ends     5,000 weak symbols without a definition whose names are ends of one text of 500 kB
-    group-names   a group of 500 archives, of which the first one's member asks for 20,000 names that none defines
     products      400 directories, none of them there, and as many -l of names that only a last one has
 
-All but the last four of the list are linked with a map, and the link is checked. Those are only checked: their images
+All but the maps and `segments` are linked with a map, and the link is checked. Those are only checked: their images
 and maps are made here. Time is that of the processor, in the program and in the system for it, memory the greatest
 resident set, medians of the runs, in seconds and MiB; `by bytes` is memory by the bytes of all files that are read or
 written, and of the words. The last two columns are the doubled input's time and memory by those of the single one:
@@ -318,12 +318,12 @@ INPUTS = {
     "map-slots": (map_of_slots, 1_000_000),
     "map-symbols": (map_of_symbols, 1_000_000),
     "segments": (many_segments, 32_600),
+    "group-names": (group_names, 2_000),
 }
 
 NOT_LINEAR = {
     "local-slots": (local_slots, 20_000),
     "weak-ends": (weak_ends, 5_000),
-    "group-names": (group_names, 500),
     "products": (products, 400),
 }
 

@@ -249,13 +249,26 @@ def fitting(bodies):
     return fit
 
 
-def enter_copy(room):
-    """Copies the tree, committed or not, and goes there."""
+def with_below(names, uses):
+    """The crates of these names and all below them."""
+    found = []
+    for name in names:
+        found += [it for it in [*with_below(uses.get(name, []), uses), name] if it in uses and it not in found]
+    return found
+
+
+def enter_copy(room, crates):
+    """Copies the tree, committed or not, with what checks of these crates kept, and goes there."""
     listed = subprocess.run(["git", "ls-files", "-z", "--cached", "--others", "--exclude-standard"],
                             stdout=subprocess.PIPE, text=True, check=True)
     for path in filter(os.path.isfile, listed.stdout.split("\0")):
         os.makedirs(os.path.dirname(f"{room}/{path}"), exist_ok=True)
         shutil.copy2(path, f"{room}/{path}")
+    uses = {line.split(":")[0].split()[0]: line.split(":")[1].split()
+            for line in read("crates.txt").splitlines() if ":" in line and not line.startswith("#")}
+    for crate in with_below(crates, uses):
+        if os.path.isdir(f"crates/{crate}/out"):
+            shutil.copytree(f"crates/{crate}/out", f"{room}/crates/{crate}/out", symlinks=True)
     os.chdir(room)
 
 
@@ -284,7 +297,7 @@ def main():
         print(f"{count - missed} wrong bodies fit the text, {missed} don't")
         return 1 if missed else 0
     with tempfile.TemporaryDirectory(prefix="edits-") as room:
-        enter_copy(room)
+        enter_copy(room, [crate for crate, its in fit.items() if its])
         for crate, its in fit.items():
             missed += len(bodies[crate]) - len(its) + len(try_crate(crate, its, given) if its else [])
     print(f"{count - missed} wrong bodies refused, {missed} not")
