@@ -70,7 +70,9 @@ def members(libraries, folder):
 
 def names(archive, *words):
     """The names that nm prints for an archive."""
-    printed = subprocess.run(["nm", *words, str(archive)], stdout=subprocess.PIPE, text=True, check=True).stdout
+    printed = subprocess.run(
+        ["nm", *words, str(archive)], stdout=subprocess.PIPE, stderr=subprocess.DEVNULL, text=True, check=True
+    ).stdout
     return {line.split()[-1] for line in printed.splitlines() if len(line.split()) > 1}
 
 
