@@ -9,30 +9,15 @@ use std::io::{ErrorKind, Read, Write};
 use std::os::unix::fs::PermissionsExt;
 use std::rt::Files;
 
-/// How many bytes are read at once: few enough to stay near the processor until they are put where they belong.
-const BLOCK: usize = 1 << 17;
-
-/// The bytes of an open file. Room for its length and one byte more is reserved first; a file that has grown meanwhile, or has
-/// no length, as a pipe has none, is read on. They come block by block: `read_to_end` writes zeros over all of the room first.
+/// The bytes of an open file. Room for its length and one byte more is reserved first, so that the read that meets the
+/// end finds room too; a file that has grown meanwhile, or has no length, as a pipe has none, is read on.
 fn contents<R: Files + AllocGlobal>(rt: &R, file: &mut R::File) -> io::Result<Vec<u8>> {
     let len = match file.metadata() {
         Ok(metadata) => metadata.len(),
         Err(_) => 0,
     };
-    let room = (len as usize).saturating_add(1);
-    let mut bytes = Vec::with_capacity(rt.alloc(), room)?;
-    let mut block = vec![in rt.alloc(); 0; room.min(BLOCK)]?;
-    for _ in 0..u64::MAX {
-        let count = match file.read(&mut block) {
-            Ok(count) => count,
-            Err(error) if error.kind() == ErrorKind::Interrupted => continue,
-            Err(error) => return Err(error),
-        };
-        if count == 0 {
-            break;
-        }
-        bytes.extend_from_slice(&block[..count])?;
-    }
+    let mut bytes = Vec::with_capacity(rt.alloc(), (len as usize).saturating_add(1))?;
+    file.read_to_end(&mut bytes)?;
     Ok(bytes)
 }
 
