@@ -87,7 +87,7 @@ class Builder:
 
 
 def main():
-    parser = argparse.ArgumentParser(description=__doc__.split("\n")[0])
+    parser = argparse.ArgumentParser(description=__doc__, formatter_class=argparse.RawDescriptionHelpFormatter)
     parser.add_argument("--jobs", type=int, default=len(os.sched_getaffinity(0)), help="processors to use")
     parser.add_argument("crates", nargs="*")
     given = parser.parse_args()

@@ -1,7 +1,8 @@
 #!/usr/bin/env bash
 # Says in seconds what would fail the gate after an hour: a file that `rt fmt` would change, and a wrong body that no
-# longer fits the text; and where docs/PROMISES.md isn't what the contracts say, or docs/PROOFS.md what the heads of
-# the lemmas do. It works on a copy of the tree, committed or not, and changes nothing.
+# longer fits the text; and where docs/CALLS.md isn't what the contracts say, or docs/PROOFS.md what the heads of the
+# lemmas do, where docs/PROMISES.md or README.md names a call or a clause that isn't there, or, where mandoc is there, it
+# complains of a man page. It works on a copy of the tree, committed or not, and changes nothing.
 # usage: tools/quick_check.sh; the exit status is 1 where it finds something.
 set -u
 
@@ -9,7 +10,7 @@ cd "$(dirname "${BASH_SOURCE[0]}")/.." || exit 2
 copy="$(mktemp -d)" || exit 2
 trap 'rm -rf "$copy"' EXIT
 git ls-files -z --cached --others --exclude-standard -- crates crates.txt HANDLES |
-    xargs -0 tar --create --ignore-failed-read 2>/dev/null | tar --extract --directory "$copy"
+    tar --create --null --files-from=- --ignore-failed-read 2>/dev/null | tar --extract --directory "$copy"
 
 failed=0
 find "$copy/crates" -mindepth 1 -maxdepth 1 -type d -print0 |
@@ -24,7 +25,10 @@ for crate in "$copy"/crates/*/; do
         fi
     done
 done
-tools/try_edits.sh --only-read || failed=1
+tools/try_edits.py --only-read || failed=1
 tools/promises.py --check || failed=1
 tools/lemmas.py --check || failed=1
+if command -v mandoc >/dev/null; then
+    (cd docs/man && mandoc -Tlint ./*.[0-9]) || failed=1
+fi
 exit "$failed"

@@ -1,11 +1,11 @@
 #!/usr/bin/env python3
 """Tries the wrong bodies of crates, each of which the contracts must refuse.
 
-    tools/try_edits.sh [--gate | --further] [--alone] [--only-read] [--jobs N] [CRATE..]
+    tools/try_edits.py [--gate | --further] [--alone] [--only-read] [--jobs N] [CRATE..]
 
-A wrong body is a file crates/CRATE/must-fail/NAME.edit, which the gate tries, or NAME.md, which it doesn't. Both have
-lines 'file: PATH', 'old: TEXT' and 'new: TEXT'; each old text is in its file exactly once. Without names of crates
-all are tried, and it takes an hour.
+A wrong body is a file crates/CRATE/must-fail/NAME.edit, which the gate tries, or crates/CRATE/mutants/NAME.mutant,
+which it doesn't. Both have lines 'file: PATH', 'old: TEXT' and 'new: TEXT'; each old text is in its file exactly once.
+Without names of crates all are tried, and it takes an hour.
 
 A check says for each function by itself whether it is proved. So wrong bodies that turn different functions are tried
 by one check, all at once: one of them is refused if a function that it turns has a goal of its own that stays open.
@@ -13,7 +13,8 @@ What is not refused so is tried alone by `rt must-fail`, or all with --alone. Fi
 All this is done on a copy of the tree, whose checks begin with what `rt check` kept of the same crates.
 
 --gate and --further take those of the one or of the other kind. --only-read tries none, and says in a second which no
-longer fit the text. The exit status is 1 where a wrong body is not refused or does not fit.
+longer fit the text. The exit status is 1 where a wrong body is not refused or does not fit, or a file of these folders
+is neither kind.
 """
 
 import argparse
@@ -26,6 +27,8 @@ import tempfile
 from dataclasses import dataclass
 
 FUNCTION = re.compile(r"^( *)(?:pub(?:\([^)]*\))? )?(?:const )?(?:unsafe )?fn (\w+)", re.M)
+# The folder of each kind of wrong body in a crate, by what its files end in.
+FOLDERS = {".edit": "must-fail", ".mutant": "mutants"}
 OTHER_ITEM = re.compile(r"^(?:pub(?:\([^)]*\))? )?(?:const|static|struct|enum|impl|trait|type|mod|use)\b", re.M)
 IMPL = re.compile(r"^impl\b(?:<.*?>)?\s+(?:(\w+)(?:<([^{]*)>)? for )?(?:&(?:mut )?)?(\w+)", re.M)
 # What a check says of a function whose own goal stays open, and of a proof file that cites what is no longer there.
@@ -79,11 +82,20 @@ def parsed(crate, path):
     return WrongBody(crate, path, pairs)
 
 
+def files_of(crate, kind):
+    """The files of a crate's folder of this kind of wrong bodies."""
+    folder = f"crates/{crate}/{FOLDERS[kind]}"
+    return [f"{folder}/{it}" for it in sorted(os.listdir(folder))] if os.path.isdir(folder) else []
+
+
 def bodies_of(crate, kinds):
     """The wrong bodies of a crate whose files have one of these endings."""
-    folder = f"crates/{crate}/must-fail"
-    names = sorted(os.listdir(folder)) if os.path.isdir(folder) else []
-    return [parsed(crate, f"{folder}/{it}") for it in names if os.path.splitext(it)[1] in kinds]
+    return [parsed(crate, path) for kind in kinds for path in files_of(crate, kind) if path.endswith(kind)]
+
+
+def misplaced(crate):
+    """The files of the folders of a crate's wrong bodies that are none, or are of the other kind."""
+    return [path for kind in FOLDERS for path in files_of(crate, kind) if not path.endswith(kind)]
 
 
 def applied(body, texts):
@@ -205,7 +217,7 @@ def try_together(crate, one, jobs):
 def try_alone(crate, bodies):
     """Tries bodies one by one: what `rt must-fail` says of each, by its name."""
     folder = f"crates/{crate}/must-fail"
-    shutil.rmtree(folder)
+    shutil.rmtree(folder, ignore_errors=True)
     os.mkdir(folder)
     for body in bodies:
         lines = "".join(f"file: {file}\nold: {old}\nnew: {new}\n" for file, old, new in body.pairs)
@@ -284,14 +296,18 @@ def words():
 def main():
     given = words()
     os.chdir(f"{os.path.dirname(os.path.abspath(__file__))}/..")
-    kinds = {".edit"} if given.gate else {".md"} if given.further else {".edit", ".md"}
+    kinds = [".edit"] if given.gate else [".mutant"] if given.further else list(FOLDERS)
     crates = re.findall(r"^(\w+)\b[^:\n]*:", read("crates.txt"), re.M)
     unknown = sorted(set(given.crates) - set(crates))
     if unknown:
         sys.exit(f"crates.txt has no crate {unknown[0]}")
     bodies = {it: bodies_of(it, kinds) for it in crates if not given.crates or it in given.crates}
-    count, missed = sum(map(len, bodies.values())), 0
+    count = sum(map(len, bodies.values()))
     fit = {crate: fitting(its) for crate, its in bodies.items()}
+    strange = [path for crate in bodies for path in misplaced(crate)]
+    for path in strange:
+        print(f"{path} is no wrong body that anything tries: it is to be must-fail/NAME.edit or mutants/NAME.mutant")
+    count, missed = count + len(strange), len(strange)
     if given.only_read:
         missed = count - sum(map(len, fit.values()))
         print(f"{count - missed} wrong bodies fit the text, {missed} don't")
