@@ -1,18 +1,15 @@
 -- Lists by rising ranks, the elements of one rank as they stood: they are told by their ranks and by the elements of each
 -- rank, so a stable sort gives them; and filters, maps and lists of one rank go along.
-use Rattle.std.proofs.Common.{◌≡◌, ℕ, suc, ◌+◌, ◌<◌, ◌≤◌, ◌==◌, Bool, true, false, not, ◌&&◌, cond, ◌⊎◌, inl, inr, List, [], ◌∷◌, get_or, length, map, refl, sym, ◌∙◌, ap, subst, arith, nat_le}
-use Rattle.std.specs.Prelude.{All, AllPairs, Contains, IsPermutation, filter}
+use Rattle.std.proofs.Common.{◌≡◌, ℕ, suc, ◌<◌, ◌≤◌, ◌==◌, Bool, true, false, cond, ◌⊎◌, inl, inr, List, [], ◌∷◌, map, refl, sym, ◌∙◌, ap, subst, arith, nat_le}
+use Rattle.std.specs.Prelude.{All, Contains, IsPermutation, filter}
 use Rattle.std.specs.List.Sorted.{IsNonDecreasingBy, IsStableByKey, ties}
 use Rattle.std.specs.Ordering.{is_lt, nat_cmp}
-use Rattle.std.proofs.lemmas.Bool.{eq-eqb, eqb-true, eqb-false, false≢true, leb-true, leb-false, le-leb, not-true}
+use Rattle.std.proofs.lemmas.Bool.{eq-eqb, eqb-true, eqb-false, leb-true, leb-false}
 use Rattle.std.proofs.lemmas.Bool.Decides.{nat_tests}
 use Rattle.std.proofs.lemmas.List.Elements.{All-cons, All-contains, All-head, All-nil, All-tail, All-weaker, filter_agree}
 use Rattle.std.proofs.lemmas.List.Sorted.{IsPermutation-cons, IsPermutation-refl, IsPermutation-swap, IsPermutation-trans}
-use Rattle.elf_model.specs.ArrayOrder.{by_rank, in_array_order, inserted, piece_rank, placed_in_array_order, placed_rank}
-use Rattle.elf_model.specs.Pieces.{Piece}
-use Rattle.elf_model.specs.Placement.{Placed}
-use Rattle.elf_model.proofs.Listed.{All-from_contains, Contains-cons_cases, Contains-filter, Contains-from_filter, Contains-here, Contains-nil, Contains-there, cons_head, cons_tail}
-use Rattle.elf_model.proofs.PairsPermuted.{AllPairs-permutation}
+use Rattle.elf_model.specs.ArrayOrder.{by_rank, inserted}
+use Rattle.elf_model.proofs.Listed.{All-from_contains, Contains-cons_cases, Contains-filter, Contains-from_filter, Contains-here, Contains-nil, cons_head, cons_tail}
 
 -- what a filter does with a first element that passes, and with one that doesn't
 keeps_one : {X : Type 0} (p : X → Bool) (x : X) (xs : List X) → p x ≡ true → filter p (x ∷ xs) ≡ x ∷ filter p xs

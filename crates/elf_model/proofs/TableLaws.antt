@@ -1,7 +1,7 @@
 -- The tables behind the last file part: how long they are, and whose entries they have.
-use Rattle.std.proofs.Common.{◌≡◌, ℕ, ◌+◌, ◌-◌, ◌*◌, ◌≤◌, ◌<◌, ◌%◌, List, [], ◌∷◌, ◌++◌, length, get_or, map, refl, sym, ◌∙◌, ap, arith, replicate, true}
-use Rattle.std.specs.Prelude.{All, Option, None, Some, count_by, filter, find}
-use Rattle.std.specs.List.{filter_map, flat_map}
+use Rattle.std.proofs.Common.{◌≡◌, ℕ, ◌+◌, ◌-◌, ◌*◌, ◌%◌, List, [], ◌∷◌, ◌++◌, length, get_or, map, refl, sym, ◌∙◌, ap, arith, replicate}
+use Rattle.std.specs.Prelude.{All, Some, filter}
+use Rattle.std.specs.List.{flat_map}
 use Rattle.std.proofs.lemmas.List.{length-append, length-replicate}
 use Rattle.std.proofs.lemmas.List.Elements.{All-head, All-tail}
 use Rattle.std.proofs.lemmas.Slice.Eq.{bytes_eq-Decides}
@@ -11,7 +11,8 @@ use Rattle.elf_model.specs.Meaning.{Meaning, meaning_name}
 use Rattle.elf_model.specs.Placement.{Where}
 use Rattle.elf_model.specs.Records.{section_header_bytes, symbol_bytes}
 use Rattle.elf_model.specs.RightLink.{symbol_row_of}
-use Rattle.elf_model.specs.SymbolTable.{entries_from, entry_count, entry_of, has_entry, headers_at, line_meanings, name_section, null_entry, section_names, shstrtab_end, symbol_section, symtab_at, tabled, table_headers, tables, tables_end}
+use Rattle.elf_model.specs.ObjectFile.{null_symbol}
+use Rattle.elf_model.specs.SymbolTable.{entries_from, entry_count, has_entry, headers_at, line_meanings, name_section, section_names, shstrtab_end, symbol_section, symtab_at, tabled, table_headers, tables, tables_end}
 use Rattle.elf_model.specs.declared.records.SectionHeader.{SectionHeader}
 use Rattle.elf_model.specs.declared.records.Symbol.{Symbol}
 use Rattle.elf_model.proofs.RecordLaws.{length-section_header_bytes, length-symbol_bytes}
@@ -35,7 +36,7 @@ length-entries w at (m ∷ ms) = let n = length-entries w (at + (length (meaning
 
 pub length-symbol_section : (w : Where) (ms : List Meaning) → length (symbol_section w ms) ≡ 24 * entry_count ms
 length-symbol_section w ms =
-    length-symbols (null_entry ∷ entries_from w 1 ms)
+    length-symbols (null_symbol ∷ entries_from w 1 ms)
     ∙ (let n = length-entries w 1 ms in omega (arith, n))
 
 -- behind the last file part follow as many bytes as lead to the end of the tables

@@ -1,18 +1,18 @@
 -- Where the thread-local pieces of the own layout stand: those with bytes in a run from their beginning on, those without
 -- in the run behind it.
-use Rattle.std.proofs.Common.{◌≡◌, ℕ, ◌+◌, ◌<◌, ◌≤◌, ◌⊎◌, inl, inr, Bool, true, false, List, [], ◌∷◌, ◌++◌, refl, sym, ◌∙◌, ap, subst, arith}
-use Rattle.std.specs.Prelude.{All, AllPairs, Contains, map}
+use Rattle.std.proofs.Common.{◌≡◌, ℕ, ◌⊎◌, inl, inr, true, List, [], ◌∷◌, ◌++◌, refl, sym, ◌∙◌, ap, subst, arith}
+use Rattle.std.specs.Prelude.{All, AllPairs, Contains}
 use Rattle.std.proofs.lemmas.Bool.{false≢true}
 use Rattle.std.proofs.lemmas.List.Elements.{All-contains, Contains-append_cases, Contains-append_left, Contains-append_right}
 use Rattle.elf_model.specs.Loading.{LoadedObject}
-use Rattle.elf_model.specs.OwnLayout.{code_pieces, data_pieces, end_of, first_start, initial_pieces, loaded_start, own_code, own_data, own_loaded, own_placed, own_read_only, own_thread_rest, placed_end, placed_from, read_only_pieces, read_only_start, code_start, thread_rest_pieces, thread_rest_start, thread_start}
+use Rattle.elf_model.specs.OwnLayout.{code_pieces, end_of, first_start, initial_pieces, loaded_start, own_code, own_data, own_loaded, own_placed, own_read_only, own_thread_rest, placed_from, read_only_pieces, read_only_start, code_start, thread_rest_pieces, thread_rest_start, thread_start}
 use Rattle.elf_model.specs.Pieces.{AreLawfulKinds, Piece, is_thread_piece}
 use Rattle.elf_model.specs.Placement.{Placed}
 use Rattle.elf_model.proofs.Listed.{All-from_contains, Contains-map}
 use Rattle.elf_model.proofs.OwnOrder.{code_not_thread, plain_data, plain_not_thread, read_only_not_thread}
 use Rattle.elf_model.proofs.Pairs.{AllPairs-append}
 use Rattle.elf_model.proofs.Places.{initial_aligned, thread_rest_aligned}
-use Rattle.elf_model.proofs.Running.{HasAlignment, IsBehind, StandsWithin, placed_append, placed_ascending, placed_pieces, placed_within}
+use Rattle.elf_model.proofs.Running.{IsBehind, StandsWithin, placed_append, placed_ascending, placed_pieces, placed_within}
 
 -- the piece of a place of a run is one of the run
 pub run_piece : (x : ℕ) (ps : List Piece) (q : Placed) → Contains (placed_from x ps) q → Contains ps q.piece

@@ -19,6 +19,7 @@ pub mod MapText
 pub mod Marks
 pub mod Meaning
 pub mod MemoryImage
+pub mod NameHash
 pub mod ObjectFile
 pub mod Opening
 pub mod OwnAddresses

@@ -1,7 +1,7 @@
 -- Where the linker itself lays out (profile): segments R (neither writable nor executable), RX and RW, in
 -- this order, R from the base on with the headers in front, RX and RW from page boundaries on. Thread-local pieces
 -- without bytes have addresses behind those with bytes, and nothing makes room for them.
-use Rattle.std.specs.Prelude.{ℕ, ◌+◌, ◌-◌, ◌*◌, ◌/◌, ◌^◌, ◌<◌, ◌≤◌, ◌&&◌, Bool, true, not, cond, List, [], ◌∷◌, ◌++◌, Option, None, Some, All, filter, find, length, map, max, nat_lt, option_map, unwrap_or}
+use Rattle.std.specs.Prelude.{ℕ, ◌+◌, ◌-◌, ◌*◌, ◌^◌, ◌<◌, ◌≤◌, ◌&&◌, Bool, true, not, cond, List, [], ◌∷◌, ◌++◌, Option, None, Some, All, filter, find, length, map, max, nat_lt, option_map, unwrap_or}
 use Rattle.std.specs.List.{flat_map, list_any}
 use Rattle.elf_model.specs.ArrayOrder.{in_array_order}
 use Rattle.elf_model.specs.Loading.{LoadedObject}

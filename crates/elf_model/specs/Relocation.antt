@@ -13,7 +13,7 @@ use Rattle.elf_model.specs.Meaning.{Common, Linker, Meaning, Symbol, is_in_threa
 use Rattle.elf_model.specs.Resolution.{SymbolOf, binding, is_undefined, section_of, symbol_of}
 use Rattle.elf_model.specs.declared.bound.Bound.{Bound}
 use Rattle.elf_model.specs.declared.bound.Bound.TheVariants.{OutputEnd, OutputStart}
-use Rattle.elf_model.specs.declared.constants.TheConstants.{SHT_RELA, STB_LOCAL, STB_WEAK}
+use Rattle.elf_model.specs.declared.constants.TheConstants.{R_X86_64_NONE, R_X86_64_64, R_X86_64_PC32, R_X86_64_GOT32, R_X86_64_PLT32, R_X86_64_GOTPCREL, R_X86_64_32, R_X86_64_32S, R_X86_64_16, R_X86_64_PC16, R_X86_64_8, R_X86_64_PC8, R_X86_64_TPOFF64, R_X86_64_GOTTPOFF, R_X86_64_TPOFF32, R_X86_64_PC64, R_X86_64_GOTOFF64, R_X86_64_GOTPC32, R_X86_64_GOT64, R_X86_64_GOTPCREL64, R_X86_64_GOTPC64, R_X86_64_SIZE32, R_X86_64_SIZE64, R_X86_64_GOTPCRELX, R_X86_64_REX_GOTPCRELX, SHT_RELA, STB_LOCAL, STB_WEAK}
 use Rattle.elf_model.specs.declared.records.Rela.{Rela}
 use Rattle.elf_model.specs.declared.records.SectionHeader.{SectionHeader}
 
@@ -52,33 +52,33 @@ kind number width formula range = record { number = number; width = width; formu
 
 abbrev pub kinds : List Kind
 kinds =
-    kind 1 8 S+A Always
-    ∷ kind 2 4 S+A-P Signed
-    ∷ kind 3 4 G+A Signed
-    ∷ kind 4 4 S+A-P Signed
-    ∷ kind 9 4 G+GOT+A-P Signed
-    ∷ kind 10 4 S+A Unsigned
-    ∷ kind 11 4 S+A Signed
-    ∷ kind 12 2 S+A Either
-    ∷ kind 13 2 S+A-P Signed
-    ∷ kind 14 1 S+A Either
-    ∷ kind 15 1 S+A-P Signed
-    ∷ kind 18 8 T+A Always
-    ∷ kind 22 4 GT+GOT+A-P Signed
-    ∷ kind 23 4 T+A Signed
-    ∷ kind 24 8 S+A-P Always
-    ∷ kind 25 8 S+A-GOT Always
-    ∷ kind 26 4 GOT+A-P Signed
-    ∷ kind 27 8 G+A Always
-    ∷ kind 28 8 G+GOT+A-P Always
-    ∷ kind 29 8 GOT+A-P Always
-    ∷ kind 32 4 Z+A Unsigned
-    ∷ kind 33 8 Z+A Always
-    ∷ kind 41 4 G+GOT+A-P Signed
-    ∷ kind 42 4 G+GOT+A-P Signed
+    kind R_X86_64_64 8 S+A Always
+    ∷ kind R_X86_64_PC32 4 S+A-P Signed
+    ∷ kind R_X86_64_GOT32 4 G+A Signed
+    ∷ kind R_X86_64_PLT32 4 S+A-P Signed
+    ∷ kind R_X86_64_GOTPCREL 4 G+GOT+A-P Signed
+    ∷ kind R_X86_64_32 4 S+A Unsigned
+    ∷ kind R_X86_64_32S 4 S+A Signed
+    ∷ kind R_X86_64_16 2 S+A Either
+    ∷ kind R_X86_64_PC16 2 S+A-P Signed
+    ∷ kind R_X86_64_8 1 S+A Either
+    ∷ kind R_X86_64_PC8 1 S+A-P Signed
+    ∷ kind R_X86_64_TPOFF64 8 T+A Always
+    ∷ kind R_X86_64_GOTTPOFF 4 GT+GOT+A-P Signed
+    ∷ kind R_X86_64_TPOFF32 4 T+A Signed
+    ∷ kind R_X86_64_PC64 8 S+A-P Always
+    ∷ kind R_X86_64_GOTOFF64 8 S+A-GOT Always
+    ∷ kind R_X86_64_GOTPC32 4 GOT+A-P Signed
+    ∷ kind R_X86_64_GOT64 8 G+A Always
+    ∷ kind R_X86_64_GOTPCREL64 8 G+GOT+A-P Always
+    ∷ kind R_X86_64_GOTPC64 8 GOT+A-P Always
+    ∷ kind R_X86_64_SIZE32 4 Z+A Unsigned
+    ∷ kind R_X86_64_SIZE64 8 Z+A Always
+    ∷ kind R_X86_64_GOTPCRELX 4 G+GOT+A-P Signed
+    ∷ kind R_X86_64_REX_GOTPCRELX 4 G+GOT+A-P Signed
     ∷ []
 
--- the kind of a type, None where the table has none; type 0, NONE, relocates nothing
+-- the kind of a type, None where the table has none; R_X86_64_NONE relocates nothing
 unfoldable pub kind_of : ℕ → Option Kind
 kind_of number = find (λ k. k.number == number) kinds
 
@@ -110,7 +110,7 @@ relocation_of object o k r = record {
 
 -- the entries of a RELA section of which the type isn't NONE
 abbrev pub is_some_kind : Rela → Bool
-is_some_kind r = not (rela_type r == 0)
+is_some_kind r = not (rela_type r == R_X86_64_NONE)
 
 abbrev pub relocations_in : ℕ → LoadedObject → SectionHeader → List Relocation
 relocations_in object o h = map (relocation_of object o h.sh_info) (filter is_some_kind (relas_of o.bytes h))

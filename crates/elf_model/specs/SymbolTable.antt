@@ -7,6 +7,7 @@ use Rattle.elf_model.specs.Listing.{listed}
 use Rattle.elf_model.specs.Loading.{LoadedObject}
 use Rattle.elf_model.specs.MapRecord.{SymbolRow}
 use Rattle.elf_model.specs.Meaning.{Common, Linker, Meaning, Symbol, is_in_thread_storage, meaning_name, meaning_size, meaning_value}
+use Rattle.elf_model.specs.ObjectFile.{null_section, null_symbol}
 use Rattle.elf_model.specs.Placement.{Where, round_up}
 use Rattle.elf_model.specs.Records.{section_header_bytes, symbol_bytes}
 use Rattle.elf_model.specs.Resolution.{is_weak, symbol_type}
@@ -47,9 +48,6 @@ entry_of w name_at m = record {
   st_size = meaning_size m;
 }
 
-abbrev pub null_entry : entry.Symbol
-null_entry = record { st_name = 0; st_info = 0; st_other = 0; st_shndx = 0; st_value = 0; st_size = 0 }
-
 -- the entries of definitions whose names stand in .strtab one behind the other, from an offset on
 abbrev pub entries_from : Where → ℕ → List Meaning → List entry.Symbol
 entries_from w at [] = []
@@ -57,7 +55,7 @@ entries_from w at (m ∷ ms) = entry_of w at m ∷ entries_from w (at + (length 
 
 -- The contents of the sections: .symtab begins with an entry of zeros, a string table with a NUL; each name ends with one.
 abbrev pub symbol_section : Where → List Meaning → List ℕ
-symbol_section w ms = flat_map symbol_bytes (null_entry ∷ entries_from w 1 ms)
+symbol_section w ms = flat_map symbol_bytes (null_symbol ∷ entries_from w 1 ms)
 
 abbrev pub ended : List ℕ → List ℕ
 ended name = name ++ 0 ∷ []
@@ -91,22 +89,8 @@ headers_at e ms = round_up 8 (shstrtab_end e ms)
 abbrev pub tables_end : ℕ → List Meaning → ℕ
 tables_end e ms = headers_at e ms + 4 * 64
 
--- The headers: that of number 0, that of the symbols, whose names are in section 2 and none of which is LOCAL but
+-- The headers: that of number 0, which stands for none, that of the symbols, whose names are in section 2 and none of which is LOCAL but
 -- the first, and those of the two string tables. The names of the sections begin at 1, 9 and 17 of .shstrtab.
-abbrev pub null_header : SectionHeader
-null_header = record {
-  sh_name = 0;
-  sh_type = 0;
-  sh_flags = 0;
-  sh_addr = 0;
-  sh_offset = 0;
-  sh_size = 0;
-  sh_link = 0;
-  sh_info = 0;
-  sh_addralign = 0;
-  sh_entsize = 0;
-}
-
 abbrev pub symtab_header : ℕ → List Meaning → SectionHeader
 symtab_header e ms = record {
   sh_name = 1;
@@ -137,7 +121,7 @@ strings_header name_at offset size = record {
 
 abbrev pub table_headers : ℕ → List Meaning → List SectionHeader
 table_headers e ms =
-    null_header
+    null_section
     ∷ (symtab_header e ms
     ∷ (strings_header 9 (strtab_at e ms) (length (name_section ms))
     ∷ (strings_header 17 (shstrtab_at e ms) (length section_names) ∷ [])))

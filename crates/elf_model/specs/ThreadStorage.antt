@@ -1,6 +1,6 @@
 -- The block of thread-local storage, its program header, and offsets from the thread pointer (System V gABI 5, "Program
 -- Header", PT_TLS; ELF Handling For Thread-Local Storage, variant II: the block lies below the thread pointer).
-use Rattle.std.specs.Prelude.{ℕ, ℤ, pos, ◌-ℤ◌, ◌+◌, ◌-◌, ◌*◌, ◌/◌, ◌&&◌, Bool, cond, List, [], ◌∷◌, Option, map, max, nat_lt, option_map, unwrap_or}
+use Rattle.std.specs.Prelude.{ℕ, ℤ, pos, ◌-ℤ◌, ◌+◌, ◌-◌, ◌&&◌, Bool, cond, List, [], ◌∷◌, Option, map, max, nat_lt, option_map, unwrap_or}
 use Rattle.std.specs.Option.{option_map_or}
 use Rattle.elf_model.specs.LinkerValues.{end_of_pieces, start_of_pieces}
 use Rattle.elf_model.specs.Pieces.{Piece, has_bytes, is_thread_piece}

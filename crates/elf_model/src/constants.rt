@@ -131,3 +131,54 @@ pub const PF_X: u32 = 1;
 pub const PF_W: u32 = 2;
 
 pub const PF_R: u32 = 4;
+
+/// Types of relocations (AMD64 psABI 4.4, "Relocation Types").
+pub const R_X86_64_NONE: u32 = 0;
+
+pub const R_X86_64_64: u32 = 1;
+
+pub const R_X86_64_PC32: u32 = 2;
+
+pub const R_X86_64_GOT32: u32 = 3;
+
+pub const R_X86_64_PLT32: u32 = 4;
+
+pub const R_X86_64_GOTPCREL: u32 = 9;
+
+pub const R_X86_64_32: u32 = 10;
+
+pub const R_X86_64_32S: u32 = 11;
+
+pub const R_X86_64_16: u32 = 12;
+
+pub const R_X86_64_PC16: u32 = 13;
+
+pub const R_X86_64_8: u32 = 14;
+
+pub const R_X86_64_PC8: u32 = 15;
+
+pub const R_X86_64_TPOFF64: u32 = 18;
+
+pub const R_X86_64_GOTTPOFF: u32 = 22;
+
+pub const R_X86_64_TPOFF32: u32 = 23;
+
+pub const R_X86_64_PC64: u32 = 24;
+
+pub const R_X86_64_GOTOFF64: u32 = 25;
+
+pub const R_X86_64_GOTPC32: u32 = 26;
+
+pub const R_X86_64_GOT64: u32 = 27;
+
+pub const R_X86_64_GOTPCREL64: u32 = 28;
+
+pub const R_X86_64_GOTPC64: u32 = 29;
+
+pub const R_X86_64_SIZE32: u32 = 32;
+
+pub const R_X86_64_SIZE64: u32 = 33;
+
+pub const R_X86_64_GOTPCRELX: u32 = 41;
+
+pub const R_X86_64_REX_GOTPCRELX: u32 = 42;

@@ -2,10 +2,24 @@
 ghost use Rattle.std.specs.Prelude.{◌≡◌};
 ghost use Rattle.elf_model.specs.Pieces as pieces;
 
-use crate::constants::{SHF_ALLOC, SHF_EXECINSTR, SHF_TLS, SHF_WRITE, SHT_NOBITS};
+use crate::constants::{SHF_ALLOC, SHF_EXECINSTR, SHF_TLS, SHF_WRITE, SHT_NOBITS, SHT_NULL};
 use crate::records::SectionHeader;
 
 impl SectionHeader {
+    /// The header of section number 0, which stands for none (System V gABI 4, "Sections").
+    pub const NULL: SectionHeader = SectionHeader {
+        sh_name: 0,
+        sh_type: SHT_NULL,
+        sh_flags: 0,
+        sh_addr: 0,
+        sh_offset: 0,
+        sh_size: 0,
+        sh_link: 0,
+        sh_info: 0,
+        sh_addralign: 0,
+        sh_entsize: 0,
+    };
+
     /// Whether the section takes up memory, so is kept: SHF_ALLOC (System V gABI 4, "Sections", "Section
     /// Attribute Flags").
     pub fn is_alloc(&self) -> bool

@@ -1,61 +1,65 @@
-//! How tables of names hash. The standard library feeds a hasher the bytes of a slice one by one, so a hasher that
-//! mixes at each call waits for one multiplication after the other, byte by byte.
-ghost use Rattle.std.specs.Prelude.{◌≡◌, ◌*◌, ◌%◌, ◌^◌, bit_xor};
+//! How tables of names hash: a name at a time, sixteen bytes a step, where each factor of a product depends on the seed.
+ghost use Rattle.std.specs.Prelude.{◌≡◌, drop};
+ghost use Rattle.elf_model.specs.NameHash as hashing;
 
+use byteview::View;
 use std::hash::{BuildHasher, FoldHasher, Hasher};
 
-/// A hasher of names. The bytes of a name go into two words in turn, each by one multiplication, so that two of these
-/// run side by side; what is longer than a byte, such as the name's length, and at the end the two words are mixed
-/// whole.
+/// A hasher of names. Two words of eight bytes go in at a time, each into a factor of a product of 128 bits, of which the
+/// halves are joined. Both factors depend on the seed, so that no name makes one of them 0 for whoever doesn't know it.
 #[derive(Clone, Copy)]
 pub struct NameHasher {
-    mixed: FoldHasher,
-    multiplier: u64,
-    /// The word that the next byte goes into.
-    next: u64,
-    /// The word that the last byte went into.
-    last: u64,
+    state: u64,
+    secret: u64,
 }
 
-impl NameHasher {
-    fn take_byte(&mut self, byte: u8)
-        ensures { self.new ≡ record self.old { next = self.old.last; last = (bit_xor self.old.next byte * self.old.multiplier) % 2 ^ 64 } }
-    {
-        let word = (self.next ^ u64::from(byte)).wrapping_mul(self.multiplier);
-        self.next = self.last;
-        self.last = word;
+/// The two halves of a product, joined.
+fn mixed(a: u64, b: u64) -> u64
+    ensures { result ≡ hashing.mixed a b }
+{
+    let product = a as u128 * b as u128;
+    (product & 0xffff_ffff_ffff_ffff) as u64 ^ (product >> 64) as u64
+}
+
+/// The bytes from an offset on as a number, least significant byte first.
+fn tail_word(bytes: &[u8], from: usize) -> u64
+    ensures { result ≡ hashing.tail_word (drop from bytes.now) }
+{
+    let mut word: u64 = 0;
+    let mut at = bytes.len();
+    while at > from {
+        at -= 1;
+        word = word.wrapping_mul(256).wrapping_add(u64::from(bytes[at]));
     }
+    word
+}
+
+/// The eight bytes at an offset as a number, least significant byte first; fewer where the bytes end before.
+fn word(bytes: &[u8], at: usize) -> u64
+    ensures { result ≡ hashing.word bytes.now at }
+{
+    if bytes.len() >= 8 && at <= bytes.len() - 8 {
+        return View::new(bytes).u64_inside(at);
+    }
+    tail_word(bytes, at)
 }
 
 impl Hasher for NameHasher {
-    ghost use Rattle.std.specs.Prelude.{◌==◌, cond, length, slice_index};
-    ghost use Rattle.std.specs.Hash.{le_bytes};
-    ghost use Rattle.std.specs.Hash.FoldHasher as folding;
+    ghost write = { hashing.write };
 
-    ghost write = { λ s bytes.
-        cond (length bytes == 1)
-        (record s { next = s.last; last = (bit_xor s.next (slice_index bytes 0) * s.multiplier) % 2 ^ 64 })
-        (record s { mixed = folding.write s.mixed bytes }) };
-
-    ghost finish = { λ s. folding.finish (folding.write (folding.write s.mixed (le_bytes 8 s.next)) (le_bytes 8 s.last)) };
+    ghost finish = { λ s. s.state };
 
     fn finish(&self) -> u64 {
-        let mut mixed = self.mixed;
-        mixed.write_u64(self.next);
-        mixed.write_u64(self.last);
-        mixed.finish()
+        self.state
     }
 
     fn write(&mut self, bytes: &[u8]) {
-        if bytes.len() == 1 {
-            self.take_byte(bytes[0]);
-            return;
+        let mut state = self.state.wrapping_add(bytes.len() as u64);
+        for n in 0..bytes.len() / 16 + 1 {
+            let (first, second) = (word(bytes, 16 * n), word(bytes, 16 * n + 8));
+            state = mixed(state ^ first, self.secret ^ second);
         }
-        self.mixed.write(bytes);
-    }
-
-    fn write_u8(&mut self, byte: u8) {
-        self.take_byte(byte);
+        self.state = state;
     }
 }
 
@@ -63,19 +67,20 @@ impl Hasher for NameHasher {
 /// is known.
 #[derive(Clone, Copy)]
 pub struct NameSeed {
-    mixed: FoldHasher,
-    /// Odd, so that no byte that was taken in is lost.
-    multiplier: u64,
+    state: u64,
+    secret: u64,
 }
 
 impl NameSeed {
     /// The seed of a number.
     pub fn new(seed: u64) -> NameSeed {
-        let mut mixed = FoldHasher::default();
-        mixed.write_u64(seed);
+        let mut hasher = FoldHasher::default();
+        hasher.write_u64(seed);
+        let state = hasher.finish();
+        hasher.write_u64(seed);
         NameSeed {
-            mixed,
-            multiplier: mixed.finish() | 1,
+            state,
+            secret: hasher.finish(),
         }
     }
 
@@ -86,21 +91,22 @@ impl NameSeed {
 
     /// The seed that another maker of hashers gives, as `RandomState`, which no input can know.
     pub fn drawn<S: BuildHasher>(source: &S) -> NameSeed {
-        NameSeed::new(source.hash_one(0u64))
+        NameSeed {
+            state: source.hash_one(0u64),
+            secret: source.hash_one(1u64),
+        }
     }
 }
 
 impl BuildHasher for NameSeed {
     type Hasher = NameHasher;
 
-    ghost build_hasher = { λ s. record { mixed = s.mixed; multiplier = s.multiplier; next = 0; last = 0 } };
+    ghost build_hasher = { λ s. record { state = s.state; secret = s.secret } };
 
     fn build_hasher(&self) -> NameHasher {
         NameHasher {
-            mixed: self.mixed,
-            multiplier: self.multiplier,
-            next: 0,
-            last: 0,
+            state: self.state,
+            secret: self.secret,
         }
     }
 }
