@@ -1,16 +1,17 @@
 -- Faults of a file from faults of what was read of it.
 use Rattle.std.proofs.Common.{◌≡◌, inl, inr, ℕ, ◌/◌, ◌∙◌, sym, List, [], length, Result, Ok, Err, refl, ap, subst, arith}
 use Rattle.std.specs.Prelude.{IfErr}
-use Rattle.std.specs.List.{All, Any}
+use Rattle.std.specs.List.{Any}
 use Rattle.std.proofs.lemmas.List.Elements.{All-nil}
 use Rattle.byteview.specs.Numbers.{HasText}
-use Rattle.elf_model.specs.ObjectFile.{AreGoodRelas, AreGoodSymbols, AreSectionsNamed, AreSymbolsNamed, HasEntries, HasGoodSymbolTable, HasTable, IsGoodSymbol, IsObject, IsPlaced, IsStringTable, ObjFaultStands, StandsIn, contents, entries, null_section, relas_of, section, sections, sections_of, symbol_table, symbols, symbols_of}
+use Rattle.elf_model.specs.ObjectFile.{AreGoodRelas, AreGoodSymbols, AreSectionsNamed, AreSymbolsNamed, HasEntries, IsGoodSymbol, IsObject, ObjFaultStands, StandsIn, contents, entries, null_section, relas_of, section, sections, sections_of, symbol_table, symbols, symbols_of}
 use Rattle.elf_model.specs.Records.{file_header, symbol}
 use Rattle.elf_model.specs.declared.faults.ObjFault.{ObjFault}
 use Rattle.elf_model.specs.declared.faults.ObjFault.TheVariants as fault
 use Rattle.elf_model.specs.declared.records.FileHeader.{FileHeader}
 use Rattle.elf_model.specs.declared.records.SectionHeader.{SectionHeader}
 use Rattle.elf_model.specs.declared.records.Symbol.{Symbol}
+use Rattle.elf_read.specs.Reading.{HasGoodSections}
 use Rattle.elf_read.proofs.SectionLemmas.{reads_symbols, strings_inside}
 
 -- without a symbol table there are no symbols, and none of them is bad
@@ -20,38 +21,31 @@ no_symbols bytes ss none = ap (λ (t : SectionHeader). entries symbol 24 bytes t
 none_good : (n : ℕ) → AreGoodSymbols n []
 none_good n = record { null = refl; each = All-nil (IsGoodSymbol n) }
 
--- what stands where sections were judged
-pub record Judged (bytes : List ℕ) (h : FileHeader) (ss : List SectionHeader) : Type 0 where
-  pub table : HasTable (length bytes) h
-  pub strings : IsStringTable ss h.e_shstrndx
-  pub ranges : All (IsPlaced (length bytes)) ss
-  pub symbol_table : HasGoodSymbolTable ss
-
-pub bad_symbols : (bytes : List ℕ) (h : FileHeader) (ss : List SectionHeader) (symbols : List Symbol) → Judged bytes h ss → symbols ≡ symbols_of bytes ss
+pub bad_symbols : (bytes : List ℕ) (h : FileHeader) (ss : List SectionHeader) (symbols : List Symbol) → HasGoodSections bytes h ss → symbols ≡ symbols_of bytes ss
     → ¬ AreGoodSymbols h.e_shnum symbols → StandsIn bytes h ss symbols fault.BadSymbolTable
 bad_symbols bytes h ss symbols judged are bad =
-    elim (reads_symbols (length bytes) h ss judged.table judged.ranges judged.symbol_table) [
+    elim (reads_symbols (length bytes) h ss judged.table.table judged.ranges judged.symbol_table) [
       | inl reads ↦ inr (reads.symbols, bad)
       | inr none ↦ absurd (bad (subst (AreGoodSymbols h.e_shnum) (sym (are ∙ no_symbols bytes ss none)) (none_good h.e_shnum)))
     ]
 
-pub unnamed_sections : (bytes : List ℕ) (h : FileHeader) (ss : List SectionHeader) (symbols : List Symbol) → Judged bytes h ss
+pub unnamed_sections : (bytes : List ℕ) (h : FileHeader) (ss : List SectionHeader) (symbols : List Symbol) → HasGoodSections bytes h ss
     → ¬ AreSectionsNamed (contents bytes (section ss h.e_shstrndx)) ss → StandsIn bytes h ss symbols fault.BadString
 unnamed_sections bytes h ss symbols judged bad =
     inl (
       record {
-        table = judged.table;
-        strings = judged.strings;
-        inside = strings_inside (length bytes) ss h.e_shstrndx judged.ranges judged.strings;
+        table = judged.table.table;
+        strings = judged.table.strings;
+        inside = strings_inside (length bytes) ss h.e_shstrndx judged.ranges judged.table.strings;
       },
       bad,
     )
 
-pub unnamed_symbols : (bytes : List ℕ) (h : FileHeader) (ss : List SectionHeader) (symbols : List Symbol) → Judged bytes h ss → symbols ≡ symbols_of bytes ss
+pub unnamed_symbols : (bytes : List ℕ) (h : FileHeader) (ss : List SectionHeader) (symbols : List Symbol) → HasGoodSections bytes h ss → symbols ≡ symbols_of bytes ss
     → ¬ AreSymbolsNamed (contents bytes (section ss (symbol_table ss).sh_link)) symbols → StandsIn bytes h ss symbols fault.BadString
 unnamed_symbols bytes h ss symbols judged are bad =
     let strings = contents bytes (section ss (symbol_table ss).sh_link) in
-    elim (reads_symbols (length bytes) h ss judged.table judged.ranges judged.symbol_table) [
+    elim (reads_symbols (length bytes) h ss judged.table.table judged.ranges judged.symbol_table) [
       | inl reads ↦ inr (reads, bad)
       | inr none ↦ absurd (bad (subst (AreSymbolsNamed strings) (sym (are ∙ no_symbols bytes ss none)) (All-nil (λ s. HasText strings s.st_name))))
     ]

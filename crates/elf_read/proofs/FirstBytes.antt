@@ -1,5 +1,5 @@
 -- A text isn't empty where its first byte isn't the NUL that ends it.
-use Rattle.std.proofs.Common.{◌≡◌, ◌+◌, ◌<◌, ◌==◌, ℕ, suc, Bool, true, false, cond, not, List, [], ◌∷◌, arith, drop, length, refl, sym, ◌∙◌, ap, subst, take}
+use Rattle.std.proofs.Common.{◌≡◌, ◌+◌, ◌<◌, ℕ, suc, Bool, true, false, cond, not, List, [], ◌∷◌, arith, drop, length, refl, sym, ◌∙◌, ap, take}
 use Rattle.std.specs.Prelude.{◌↔◌, IsTrue, None, Option, Some, option_map, unwrap_or}
 use Rattle.std.specs.List.{position_or_len, slice_get}
 use Rattle.std.proofs.lemmas.Bool.{false≢true}

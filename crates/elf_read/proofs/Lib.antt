@@ -3,8 +3,10 @@ mod SectionLemmas
 pub mod Faults
 pub mod FirstBytes
 mod Whole
-mod RelaLists
+mod Runs
 mod RelaRuns
+pub mod RunSteps
+mod KeptRelas
 mod RelaFaults
 mod GroupLists
 mod GroupFaults

@@ -1,27 +1,17 @@
 -- Entries that name symbols which are not there, as a fault of the file.
-use Rattle.std.proofs.Common.{◌≡◌, ◌⊎◌, inl, inr, ℕ, zero, suc, ◌<◌, ◌==◌, Bool, true, false, cond, List, [], ◌∷◌, Some, length, refl, ap, sym, subst, ◌∙◌, arith, drop, take}
+use Rattle.std.proofs.Common.{◌≡◌, ◌⊎◌, inl, inr, ℕ, zero, suc, ◌<◌, ◌==◌, Bool, true, false, cond, List, [], ◌∷◌, Some, length, refl, ap, sym, subst, ◌∙◌, arith}
 use Rattle.std.specs.Prelude.{unwrap_or}
-use Rattle.std.specs.List.{All, Any, find}
+use Rattle.std.specs.List.{Any, find}
 use Rattle.std.proofs.lemmas.Bool.{cases_lt, eq-eqb, eqb-true, false≢true}
-use Rattle.std.proofs.lemmas.List.Elements.{All-append, All-cons, All-drop, All-from_get_or, All-head, All-nil, All-tail, All-take}
-use Rattle.elf_model.specs.ObjectFile.{AreGoodRelaSections, AreGoodRelas, HasEntries, HasGoodSymbolTable, HasSymbols, HasTable, IsPlaced, IsRelaSection, LinksToSymbols, StandsIn, null_section, rela_symbol, relas_of, section, symbol_table}
+use Rattle.std.proofs.lemmas.List.Elements.{All-cons, All-head, All-nil, All-tail}
+use Rattle.elf_model.specs.ObjectFile.{AreGoodRelas, HasEntries, HasGoodSymbolTable, HasSymbols, IsPlaced, IsRelaSection, LinksToSymbols, StandsIn, null_section, rela_symbol, relas_of, section, symbol_table}
 use Rattle.elf_model.specs.declared.faults.ObjFault.TheVariants as fault
 use Rattle.elf_model.specs.declared.records.FileHeader.{FileHeader}
 use Rattle.elf_model.specs.declared.records.Rela.{Rela}
 use Rattle.elf_model.specs.declared.records.SectionHeader.{SectionHeader}
 use Rattle.elf_model.specs.declared.records.Symbol.{Symbol}
-use Rattle.elf_read.specs.Reading.{all_relas, relas_or_none}
-use Rattle.elf_read.proofs.RelaLists.{holds, own_run}
+use Rattle.elf_read.specs.Reading.{HasGoodSections, HaveGoodEntries}
 use Rattle.elf_read.proofs.SectionLemmas.{placed_inside, reads_symbols}
-
--- good entries of all sections are good in each RELA section
-pub good_parts : (n : ℕ) (bytes : List ℕ) (ss : List SectionHeader) → AreGoodRelas n (all_relas bytes ss)
-    → All (λ s. s.sh_type ≡ 4 → AreGoodRelas n (relas_of bytes s)) ss
-good_parts n bytes ss good = All-from_get_or (λ s. s.sh_type ≡ 4 → AreGoodRelas n (relas_of bytes s)) ss null_section (λ i within rela.
-    let start = length (all_relas bytes (take i ss)) in
-    let own = relas_or_none bytes (section ss i) in
-    let run = All-take (λ r. rela_symbol r < n) (length own) (drop start (all_relas bytes ss)) (All-drop (λ r. rela_symbol r < n) start (all_relas bytes ss) good) in
-    subst (AreGoodRelas n) (own_run (relas_or_none bytes) ss i null_section within ∙ holds bytes (section ss i) rela) run)
 
 -- entries are good or not
 are_good_or_not : (n : ℕ) (rs : List Rela) → AreGoodRelas n rs ⊎ (¬ AreGoodRelas n rs)
@@ -38,26 +28,28 @@ are_good_or_not n (r ∷ rs) = elim (cases_lt (rela_symbol r) n) [
 abbrev IsBad : ℕ → List ℕ → SectionHeader → Type 0
 IsBad n bytes s = (s.sh_type ≡ 4) × (¬ AreGoodRelas n (relas_of bytes s))
 
--- a section whose entries are not all good is a RELA section
-bad_section : (n : ℕ) (bytes : List ℕ) (s : SectionHeader) → ¬ AreGoodRelas n (relas_or_none bytes s) → IsBad n bytes s
-bad_section n bytes s bad = by (s.sh_type == 4) refl
+-- the entries of a section are good, where it is a RELA section, or not
+abbrev IsGood : ℕ → List ℕ → SectionHeader → Type 0
+IsGood n bytes s = s.sh_type ≡ 4 → AreGoodRelas n (relas_of bytes s)
+
+good_or_bad : (n : ℕ) (bytes : List ℕ) (s : SectionHeader) → IsGood n bytes s ⊎ IsBad n bytes s
+good_or_bad n bytes s = by (s.sh_type == 4) refl
   where
-    by : (b : Bool) → (s.sh_type == 4) ≡ b → IsBad n bytes s
-    by true is =
-        let rela = eqb-true s.sh_type 4 is in
-        (rela, subst (λ (rs : List Rela). ¬ AreGoodRelas n rs) (holds bytes s rela) bad)
-    by false is =
-        let none : relas_or_none bytes s ≡ [] = ap (λ b. cond b (relas_of bytes s) []) is in
-        absurd (bad (subst (AreGoodRelas n) (sym none) (All-nil (λ r. rela_symbol r < n))))
+    by : (b : Bool) → (s.sh_type == 4) ≡ b → IsGood n bytes s ⊎ IsBad n bytes s
+    by true is = elim (are_good_or_not n (relas_of bytes s)) [
+      | inl good ↦ inl (λ rela. good)
+      | inr bad ↦ inr (eqb-true s.sh_type 4 is, bad)
+    ]
+    by false is = inl (λ rela. absurd (false≢true (sym is ∙ eq-eqb s.sh_type 4 rela)))
 
 -- where not all entries of all sections are good, some section has a bad one
-bad_part : (n : ℕ) (bytes : List ℕ) (ss : List SectionHeader) → ¬ AreGoodRelas n (all_relas bytes ss) → Any (IsBad n bytes) ss
-bad_part n bytes [] bad = absurd (bad (All-nil (λ r. rela_symbol r < n)))
-bad_part n bytes (s ∷ ss) bad = elim (are_good_or_not n (relas_or_none bytes s)) [
+bad_part : (n : ℕ) (bytes : List ℕ) (ss : List SectionHeader) → ¬ HaveGoodEntries n bytes ss → Any (IsBad n bytes) ss
+bad_part n bytes [] bad = absurd (bad (All-nil (IsGood n bytes)))
+bad_part n bytes (s ∷ ss) bad = elim (good_or_bad n bytes s) [
   | inl good ↦
-      let later = bad_part n bytes ss (λ rest. bad (All-append (λ r. rela_symbol r < n) (relas_or_none bytes s) (all_relas bytes ss) good rest)) in
+      let later = bad_part n bytes ss (λ rest. bad (All-cons (IsGood n bytes) s ss good rest)) in
       (suc later.0, later.1, omega (arith, later.2), later.3, later.4)
-  | inr here ↦ (0, s, omega arith, refl, bad_section n bytes s here)
+  | inr here ↦ (0, s, omega arith, refl, here)
 ]
 
 -- where some section is a symbol table, one is found
@@ -77,13 +69,6 @@ table_kind (s ∷ ss) k is = by (s.sh_type == 2) refl k is (table_kind ss)
     by false e zero is rest = absurd (false≢true (sym e ∙ eq-eqb s.sh_type 2 is))
     by false e (suc j) is rest = ap (λ (t : SectionHeader). t.sh_type) (first false e) ∙ rest j is
 
--- what stands where RELA sections were judged
-pub record RelasJudged (bytes : List ℕ) (h : FileHeader) (ss : List SectionHeader) : Type 0 where
-  pub table : HasTable (length bytes) h
-  pub ranges : All (IsPlaced (length bytes)) ss
-  pub symbol_table : HasGoodSymbolTable ss
-  pub relas : AreGoodRelaSections ss
-
 -- where there is no symbol table, nothing links to it
 pub no_links : (ss : List SectionHeader) (s : SectionHeader) → HasGoodSymbolTable ss → symbol_table ss ≡ null_section → LinksToSymbols ss s → ⊥
 no_links ss s good none links = elim links [
@@ -95,17 +80,17 @@ no_links ss s good none links = elim links [
 ]
 
 -- where there is a good RELA section, symbols can be read
-linked : (bytes : List ℕ) (h : FileHeader) (ss : List SectionHeader) (s : SectionHeader) → RelasJudged bytes h ss → LinksToSymbols ss s → HasSymbols (length bytes) h ss
-linked bytes h ss s judged links = elim (reads_symbols (length bytes) h ss judged.table judged.ranges judged.symbol_table) [
+linked : (bytes : List ℕ) (h : FileHeader) (ss : List SectionHeader) (s : SectionHeader) → HasGoodSections bytes h ss → LinksToSymbols ss s → HasSymbols (length bytes) h ss
+linked bytes h ss s judged links = elim (reads_symbols (length bytes) h ss judged.table.table judged.ranges judged.symbol_table) [
   | inl reads ↦ reads.symbols
   | inr none ↦ absurd (no_links ss s judged.symbol_table none links)
 ]
 
 -- a bad entry among all is a fault of the file
-pub bad_relas : (bytes : List ℕ) (h : FileHeader) (ss : List SectionHeader) (symbols : List Symbol) (kept : List Rela) → RelasJudged bytes h ss
-    → kept ≡ all_relas bytes ss → ¬ AreGoodRelas (length symbols) kept → StandsIn bytes h ss symbols fault.BadRela
-bad_relas bytes h ss symbols kept judged kept_are bad =
-    let found = bad_part (length symbols) bytes ss (λ good. bad (subst (AreGoodRelas (length symbols)) (sym kept_are) good)) in
+pub bad_relas : (bytes : List ℕ) (h : FileHeader) (ss : List SectionHeader) (symbols : List Symbol) → HasGoodSections bytes h ss
+    → ¬ HaveGoodEntries (length symbols) bytes ss → StandsIn bytes h ss symbols fault.BadRela
+bad_relas bytes h ss symbols judged bad =
+    let found = bad_part (length symbols) bytes ss bad in
     let k = found.0 in
     let s = found.1 in
     let within = found.2 in

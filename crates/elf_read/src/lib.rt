@@ -5,6 +5,7 @@
 mod groups;
 mod header;
 mod object;
+mod object_file;
 mod relas;
 mod sections;
 mod symbols;
@@ -13,7 +14,8 @@ pub use elf_model::ObjFault;
 pub use groups::{Group, is_group_section, may_be_member, read_members};
 pub use header::{read_header, read_sections};
 pub use object::Object;
-pub use relas::{append_entries, is_rela_section};
+pub use object_file::ObjectFile;
+pub use relas::{RelaRun, is_rela_section};
 pub use sections::{
     contents, has_good_symbol_table, is_placed, is_power_of_two, is_symbol_table, lies_inside,
     section, symbol_table,

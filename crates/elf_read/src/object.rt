@@ -1,30 +1,22 @@
-//! A relocatable object file, read whole, and what it holds.
-ghost use Rattle.std.specs.Prelude.{◌≡◌, ◌↔◌, ◌<◌, [], List, ℕ, All, length, IfErr, IfOk, IfSome, IsTrue, OnOk, option_copied, slice_index_or, unwrap_or};
-ghost use Rattle.elf_model.specs.ObjectFile.{IsObject, ObjFaultStands, groups, null_symbol, relas, section, section_bytes, section_name, sections, symbol_name, symbols};
+//! An object file and tables of its own of what it holds.
+ghost use Rattle.std.specs.Prelude.{◌≡◌, IfErr, IfOk, IfSome, OnOk, All, ◌<◌, length, option_copied, option_map};
+ghost use Rattle.elf_model.specs.ObjectFile.{IsObject, ObjFaultStands, groups, relas, section, section_bytes, section_name, sections, symbol_name, symbols};
 ghost use Rattle.elf_model.specs.declared.faults.ObjFault.TheVariants as fault;
-ghost use Rattle.elf_read.specs.Reading.{is_begun};
+ghost use Rattle.elf_read.specs.Reading.{AreKept};
 
-use crate::groups::{Group, judge_groups};
-use crate::header::{read_header, read_sections};
-use crate::relas::{Relas, are_good_relas, read_relas};
-use crate::sections::{contents, has_no_bytes, judge_sections, section, symbol_table};
-use crate::symbols::{NULL_SYMBOL, judge_symbols, read_symbols};
+use crate::groups::Group;
+use crate::object_file::ObjectFile;
 use byteview::View;
-use elf_model::{ObjFault, RELA_SIZE, Rela, SHT_RELA, SectionHeader, Symbol};
-use std::alloc::Global;
+use elf_model::{ObjFault, Rela, SectionHeader, Symbol};
+use std::alloc::{AllocError, Global};
 use std::marker::Model;
 
-/// A relocatable object file of the profile, read from its bytes, which it borrows. Sections and
-/// symbols go by their numbers in the section header table and in the symbol table.
+/// A relocatable object file of the profile and tables of its sections, symbols and relocation
+/// entries. Whoever reads each of them once has enough of an `ObjectFile`, which copies nothing.
 #[derive(Drop)]
 pub struct Object<'a> {
-    file: View<'a>,
-    section_strings: View<'a>,
-    symbol_strings: View<'a>,
-    sections: Vec<SectionHeader>,
-    symbols: Vec<Symbol>,
-    relas: Relas,
-    groups: Vec<Group<'a>>,
+    file: ObjectFile<'a>,
+    relas: Vec<Option<Vec<Rela>>>,
 }
 
 impl<'a> Model for Object<'a> {
@@ -32,21 +24,37 @@ impl<'a> Model for Object<'a> {
 
     ghost Value = { List ℕ };
 
-    ghost use Rattle.elf_read.specs.Reading.{IsRead};
+    ghost use Rattle.elf_read.specs.Reading.{AreKept};
 
     ghost view = { λ o. o.file };
 
-    ghost invariant = { λ o. IsRead o.file o.section_strings o.symbol_strings o.sections.items o.symbols.items o.relas.entries.items o.relas.starts.items o.groups.items };
+    ghost invariant = { λ o. AreKept o.file o.relas.items };
 }
 
-/// Whether a text has begun in bytes: the first of them isn't the NUL that ends one.
-fn is_begun(bytes: &[u8]) -> bool
-    ensures { result ≡ is_begun bytes.now }
+/// The entries of section `i`; None where there is no such section, and where it is no RELA section.
+fn entries_of(
+    alloc: Global,
+    file: &ObjectFile<'_>,
+    i: usize,
+) -> Result<Option<Vec<Rela>>, AllocError>
+    ensures { IfOk result (λ o. option_map (λ v. v.items) o ≡ relas file.now i) }
 {
-    match bytes.first() {
-        Some(byte) => *byte != 0,
-        None => false,
+    match file.relas(i) {
+        Some(entries) => Ok(Some(entries.to_vec(alloc)?)),
+        None => Ok(None),
     }
+}
+
+/// Of each section its entries, where it is a RELA section.
+fn read_relas(alloc: Global, file: &ObjectFile<'_>) -> Result<Vec<Option<Vec<Rela>>>, AllocError>
+    ensures { IfOk result (λ v. AreKept file.now v.items) }
+{
+    let count = file.sections().len();
+    let mut relas = Vec::with_capacity(alloc, count)?;
+    for i in 0..count {
+        relas.push(entries_of(alloc, file, i)?)?;
+    }
+    Ok(relas)
 }
 
 impl<'a> Object<'a> {
@@ -62,101 +70,44 @@ impl<'a> Object<'a> {
         ensures fault { IfErr result (ObjFaultStands view.entry) }
         ensures only { IsObject view.entry → IfErr result (λ f. f ≡ fault.Memory) }
     {
-        let header = read_header(&view)?;
-        let sections = read_sections(alloc, &view, &header)?;
-        judge_sections(&view, &header, &sections)?;
-        let table = symbol_table(&sections);
-        let symbols = read_symbols(alloc, &view, &table)?;
-        judge_symbols(&view, &header, &sections, &symbols)?;
-        let relas = read_relas(alloc, &view, &sections)?;
-        if !are_good_relas(&relas.entries, symbols.len()) {
-            return Err(ObjFault::BadRela);
-        }
-        let section_names = section(&sections, header.e_shstrndx as usize);
-        let symbol_names = section(&sections, table.sh_link as usize);
-        let symbol_strings = contents(&view, &symbol_names);
-        let groups = judge_groups(alloc, &view, &sections, &symbols, &symbol_strings)?;
-        Ok(Object {
-            section_strings: contents(&view, &section_names),
-            symbol_strings,
-            file: view,
-            sections,
-            symbols,
-            relas,
-            groups,
-        })
+        let file = ObjectFile::read(alloc, view)?;
+        let relas = read_relas(alloc, &file)?;
+        Ok(Object { file, relas })
     }
 
-    /// All bytes of the file, which are an object's.
-    pub fn bytes(&self) -> &'a [u8]
-        ensures exact { result.now ≡ self.now }
-        ensures object { IsObject self.now }
+    /// The object without tables.
+    pub fn file(&self) -> &ObjectFile<'a>
+        ensures { result.now ≡ self.now }
     {
-        self.file.bytes()
+        &self.file
     }
 
     /// The section header table, its null section too.
     pub fn sections(&self) -> &[SectionHeader]
         ensures { result.now ≡ sections self.now }
     {
-        self.sections.as_slice()
-    }
-
-    /// The header of section `i`; that of a null section where there is no such section.
-    pub fn section(&self, i: usize) -> SectionHeader
-        ensures { result ≡ section (sections self.now) i }
-    {
-        section(&self.sections, i)
+        self.file.sections()
     }
 
     /// The symbols, the null symbol too; none where the file has no symbol table.
     pub fn symbols(&self) -> &[Symbol]
         ensures { result.now ≡ symbols self.now }
     {
-        self.symbols.as_slice()
-    }
-
-    /// Symbol `j`; the null symbol where there is no such symbol.
-    pub fn symbol(&self, j: usize) -> Symbol
-        ensures { result ≡ slice_index_or (symbols self.now) j null_symbol }
-    {
-        self.symbols.get(j).copied().unwrap_or(NULL_SYMBOL)
+        self.file.symbols()
     }
 
     /// The name of section `i`; None where there is no such section.
     pub fn section_name(&self, i: usize) -> Option<&'a [u8]>
         ensures { option_copied result ≡ section_name self.now i }
     {
-        let section = self.sections.get(i)?;
-        self.section_strings.text_at(section.sh_name as usize)
+        self.file.section_name(i)
     }
 
     /// The name of symbol `j`; None where there is no such symbol.
     pub fn name(&self, j: usize) -> Option<&'a [u8]>
         ensures { option_copied result ≡ symbol_name self.now j }
     {
-        let symbol = self.symbols.get(j)?;
-        self.symbol_strings.text_at(symbol.st_name as usize)
-    }
-
-    /// The name of symbol `j`; empty where there is no such symbol.
-    pub fn symbol_name(&self, j: usize) -> &'a [u8]
-        ensures { result.now ≡ unwrap_or (symbol_name self.now j) [] }
-    {
-        match self.name(j) {
-            Some(name) => name,
-            None => &[],
-        }
-    }
-
-    /// Whether symbol `j` is there, and has a name that isn't empty. Reads one byte of the name.
-    pub fn is_named(&self, j: usize) -> bool
-        ensures { IsTrue result ↔ (0 < length (unwrap_or (symbol_name self.now j) [])) }
-    {
-        match self.symbols.get(j) {
-            Some(symbol) => is_begun(self.symbol_strings.part(symbol.st_name as usize, 1)),
-            None => false,
-        }
+        self.file.name(j)
     }
 
     /// The bytes of section `i`; None where there is no such section, and where it is one of type
@@ -165,11 +116,7 @@ impl<'a> Object<'a> {
         ensures exact { option_copied result ≡ section_bytes self.now i }
         ensures size { IfSome result (λ bytes. length bytes.now ≡ (section (sections self.now) i).sh_size) }
     {
-        let section = self.sections.get(i)?;
-        if has_no_bytes(section) {
-            return None;
-        }
-        Some(contents(&self.file, section).bytes())
+        self.file.section_bytes(i)
     }
 
     /// The entries of section `i`, one of type RELA; None where there is no such section, and where
@@ -177,22 +124,9 @@ impl<'a> Object<'a> {
     pub fn relas(&self, i: usize) -> Option<&[Rela]>
         ensures { option_copied result ≡ relas self.now i }
     {
-        let section = self.sections.get(i)?;
-        if section.sh_type != SHT_RELA {
-            return None;
-        }
-        let count = section.sh_size as usize / RELA_SIZE;
-        Some(self.relas.of_section(i, count))
-    }
-
-    /// The entries of section `i`, one of type RELA; none where there is no such section, and where
-    /// it is of another type.
-    pub fn entries(&self, i: usize) -> &[Rela]
-        ensures { result.now ≡ unwrap_or (relas self.entry.now i) [] }
-    {
-        match self.relas(i) {
-            Some(entries) => entries,
-            None => &[],
+        match self.relas.get(i)? {
+            Some(entries) => Some(entries.as_slice()),
+            None => None,
         }
     }
 
@@ -201,6 +135,6 @@ impl<'a> Object<'a> {
         ensures exact { result.now ≡ groups self.now }
         ensures members { All (λ g. All (λ k. k < length (sections self.now)) g.members) result.now }
     {
-        self.groups.as_slice()
+        self.file.groups()
     }
 }

@@ -1,10 +1,11 @@
 //! Relocation entries with addends (System V gABI 4, "Relocation"): the sections that hold them, and
-//! the entries of all of them.
-ghost use Rattle.std.specs.Prelude.{◌≡◌, ◌↔◌, ◌+◌, ◌/◌, ◌<◌, ◌≤◌, ◌^◌, ◌==◌, ◌++◌, All, IfOk, IsTrue, OnOk, count_by, drop, length, slice_index_or, take};
+//! their entries, which stay where they are in the file.
+ghost use Rattle.std.specs.Prelude.{◌≡◌, ◌↔◌, ◌/◌, ◌+◌, ◌*◌, ◌<◌, ◌≤◌, ◌==◌, ◌^◌, [], IfOk, IsTrue, count_by, length, slice_index_or};
 ghost use Rattle.byteview.specs.Numbers.{IsInside, part};
-ghost use Rattle.elf_model.specs.ObjectFile.{AreGoodRelaSections, AreGoodRelas, IsPlaced, IsRelaSection, LiesInside, MayBeRelocated, entries, relas_of};
+ghost use Rattle.elf_model.specs.ObjectFile.{AreGoodRelaSections, AreGoodRelas, IsPlaced, IsRelaSection, LiesInside, MayBeRelocated, relas_of};
 ghost use Rattle.elf_model.specs.Records.{rela};
-ghost use Rattle.elf_read.specs.Reading.{AreKept, all_relas, rela_count, relas_or_none};
+ghost use Rattle.std.specs.List.{All, slice_get};
+ghost use Rattle.elf_read.specs.Reading.{HaveGoodEntries, null_rela};
 
 use crate::sections::{links_to_symbols, section};
 use byteview::View;
@@ -13,13 +14,111 @@ use elf_model::{
     SectionHeader,
 };
 use std::alloc::{AllocError, Global};
+use std::marker::Model;
 
-/// The entries of all RELA sections, section after section, and for each section of the file how
-/// many of them stand before its own.
+/// The entries of a RELA section, where they are in the file.
 #[derive(Drop)]
-pub struct Relas {
-    pub entries: Vec<Rela>,
-    pub starts: Vec<usize>,
+pub struct RelaRun<'a> {
+    file: &'a [u8],
+    start: usize,
+    count: usize,
+}
+
+impl<'a> Model for RelaRun<'a> {
+    ghost use Rattle.std.specs.Prelude.{◌+◌, ◌*◌, ◌≤◌, List, length};
+    ghost use Rattle.elf_model.specs.ObjectFile.{entries};
+    ghost use Rattle.elf_model.specs.Records.{rela};
+    ghost use Rattle.elf_model.specs.declared.records.Rela.{Rela as Entry};
+
+    ghost Value = { List Entry };
+
+    ghost view = { λ r. entries rela 24 r.file.now r.start r.count };
+
+    ghost invariant = { λ r. r.start + 24 * r.count ≤ length r.file.now };
+}
+
+impl<'a> RelaRun<'a> {
+    /// The entries of no section.
+    pub fn none() -> RelaRun<'a>
+        ensures { result ≡ [] }
+    {
+        RelaRun {
+            file: &[],
+            start: 0,
+            count: 0,
+        }
+    }
+
+    /// The entries of a RELA section, which lies inside the file.
+    pub fn of_section(file: &View<'a>, section: &SectionHeader) -> RelaRun<'a>
+        requires { LiesInside (length file.now) section.now }
+        ensures { result ≡ relas_of file.now section.now }
+    {
+        RelaRun {
+            file: file.bytes(),
+            start: section.sh_offset as usize,
+            count: section.sh_size as usize / RELA_SIZE,
+        }
+    }
+
+    /// How many entries there are.
+    pub fn len(&self) -> usize
+        ensures { result ≡ length self.now }
+    {
+        self.count
+    }
+
+    /// The entry of a number, from 0.
+    pub fn at(&self, i: usize) -> Rela
+        requires { i < length self.now }
+        ensures { result ≡ slice_index_or self.now i null_rela }
+    {
+        rela_at(self.file, self.start + RELA_SIZE * i)
+    }
+
+    /// The entry of a number, from 0; None past the end.
+    pub fn get(&self, i: usize) -> Option<Rela>
+        ensures { result ≡ slice_get self.now i }
+    {
+        if i >= self.len() {
+            return None;
+        }
+        Some(self.at(i))
+    }
+
+    /// The entries as a table of their own.
+    pub fn to_vec(&self, alloc: Global) -> Result<Vec<Rela>, AllocError>
+        ensures { IfOk result (λ v. v.items ≡ self.now) }
+    {
+        let mut entries = Vec::with_capacity(alloc, self.len())?;
+        for i in 0..self.len() {
+            entries.push(self.at(i))?;
+        }
+        Ok(entries)
+    }
+
+    /// Whether each entry names one of `count` symbols.
+    fn is_good(&self, count: usize) -> bool
+        ensures { IsTrue result ↔ AreGoodRelas count self.now }
+    {
+        for i in 0..self.len() {
+            if self.at(i).symbol() as usize >= count {
+                return false;
+            }
+        }
+        true
+    }
+}
+
+/// The relocation entry at an offset, which lies inside the file.
+fn rela_at(file: &[u8], at: usize) -> Rela
+    requires { IsInside file.now at 24 }
+    ensures { result ≡ rela (part file.now at 24) }
+{
+    let Some(entry) = Rela::read(View::new(View::new(file).part(at, RELA_SIZE))) else {
+        unreachable!()
+    };
+    entry
 }
 
 /// Whether no section holds relocations without addends, and the headers of RELA sections are good.
@@ -57,112 +156,24 @@ fn may_be_relocated(sections: &[SectionHeader], number: usize) -> bool
     kind != SHT_NOBITS && kind != SHT_GROUP
 }
 
-/// The entries of all RELA sections, which lie inside the file.
-pub fn read_relas(
-    alloc: Global,
-    file: &View<'_>,
-    sections: &[SectionHeader],
-) -> Result<Relas, AllocError>
-    requires small { length file.now < 2 ^ 32 }
-    requires few { length sections.now < 2 ^ 16 }
-    requires ranges { All (IsPlaced (length file.now)) sections.now }
-    ensures { IfOk result (λ relas. AreKept file.now sections.now relas.entries.items relas.starts.items) }
+/// Whether the entries of a section that lies inside the file name one of `count` symbols each, where
+/// it is a RELA section.
+fn has_good_entries(file: &View<'_>, section: &SectionHeader, count: usize) -> bool
+    requires { IsPlaced (length file.now) section.now }
+    ensures { IsTrue result ↔ (section.now.sh_type ≡ 4 → AreGoodRelas count (relas_of file.now section.now)) }
 {
-    let mut entries = Vec::with_capacity(alloc, total_count(file, sections))?;
-    let mut starts = Vec::with_capacity(alloc, sections.len())?;
+    section.sh_type != SHT_RELA || RelaRun::of_section(file, section).is_good(count)
+}
+
+/// Whether each entry of all RELA sections names one of `count` symbols.
+pub fn have_good_entries(file: &View<'_>, sections: &[SectionHeader], count: usize) -> bool
+    requires { All (IsPlaced (length file.now)) sections.now }
+    ensures { IsTrue result ↔ HaveGoodEntries count file.now sections.now }
+{
     for section in sections {
-        starts.push(entries.len())?;
-        append_section(file, section, &mut entries)?;
+        if !has_good_entries(file, section, count) {
+            return false;
+        }
     }
-    Ok(Relas { entries, starts })
-}
-
-/// How many entries all sections hold.
-fn total_count(file: &View<'_>, sections: &[SectionHeader]) -> usize
-    requires small { length file.now < 2 ^ 32 }
-    requires few { length sections.now < 2 ^ 16 }
-    requires ranges { All (IsPlaced (length file.now)) sections.now }
-    ensures { result ≡ length (all_relas file.now sections.now) }
-{
-    let mut total = 0;
-    for section in sections {
-        total += rela_count(section);
-    }
-    total
-}
-
-/// How many entries a section holds.
-fn rela_count(section: &SectionHeader) -> usize
-    ensures { result ≡ rela_count section.now }
-{
-    if section.sh_type != SHT_RELA {
-        return 0;
-    }
-    section.sh_size as usize / RELA_SIZE
-}
-
-/// Appends the entries of a section, which lies inside the file where it is one of type RELA.
-fn append_section(
-    file: &View<'_>,
-    section: &SectionHeader,
-    entries: &mut Vec<Rela>,
-) -> Result<(), AllocError>
-    requires small { length file.now < 2 ^ 32 }
-    requires placed { IsPlaced (length file.now) section.now }
-    ensures { OnOk result (entries.new.items ≡ entries.old.items ++ relas_or_none file.now section.now) }
-{
-    if section.sh_type != SHT_RELA {
-        return Ok(());
-    }
-    append_entries(file, section, entries)
-}
-
-/// Appends the entries of a RELA section, which lies inside the file.
-pub fn append_entries(
-    file: &View<'_>,
-    section: &SectionHeader,
-    entries: &mut Vec<Rela>,
-) -> Result<(), AllocError>
-    requires small { length file.now < 2 ^ 32 }
-    requires inside { LiesInside (length file.now) section.now }
-    ensures { OnOk result (entries.new.items ≡ entries.old.items ++ relas_of file.now section.now) }
-{
-    for i in 0..section.sh_size as usize / RELA_SIZE {
-        let entry = rela_at(file, section.sh_offset as usize + RELA_SIZE * i);
-        entries.push(entry)?;
-    }
-    Ok(())
-}
-
-/// The relocation entry at an offset, which lies inside the file.
-fn rela_at(file: &View<'_>, at: usize) -> Rela
-    requires { IsInside file.now at 24 }
-    ensures { result ≡ rela (part file.now at 24) }
-{
-    let Some(entry) = Rela::read(View::new(file.part(at, RELA_SIZE))) else {
-        unreachable!()
-    };
-    entry
-}
-
-/// Whether each entry names one of `count` symbols.
-pub fn are_good_relas(entries: &[Rela], count: usize) -> bool
-    ensures { IsTrue result ↔ AreGoodRelas count entries.now }
-{
-    entries
-        .iter()
-        .all(|entry| (entry.symbol() as usize) < count)
-}
-
-impl Relas {
-    /// The `count` entries from those of section `i` on.
-    pub fn of_section(&self, i: usize, count: usize) -> &[Rela]
-        requires there { i < length self.now.starts.items }
-        requires inside { slice_index_or self.now.starts.items i 0 + count ≤ length self.now.entries.items }
-        ensures { result.now ≡ take count (drop (slice_index_or self.now.starts.items i 0) self.now.entries.items) }
-    {
-        let (_before, rest) = self.entries.split_at(self.starts[i]);
-        let (own, _after) = rest.split_at(count);
-        own
-    }
+    true
 }

@@ -108,6 +108,27 @@ pub fn contents<'a>(file: &View<'a>, section: &SectionHeader) -> View<'a>
     View::new(file.part(section.sh_offset as usize, section.sh_size as usize))
 }
 
+/// The string table that holds the names of sections.
+pub fn section_strings<'a>(
+    file: &View<'a>,
+    header: &FileHeader,
+    sections: &[SectionHeader],
+) -> View<'a>
+    ensures { result ≡ contents file.now (section sections.now header.now.e_shstrndx) }
+{
+    contents(file, &section(sections, header.e_shstrndx as usize))
+}
+
+/// The string table that holds the names of symbols.
+pub fn symbol_strings<'a>(file: &View<'a>, sections: &[SectionHeader]) -> View<'a>
+    ensures { result ≡ contents file.now (section sections.now (symbol_table sections.now).sh_link) }
+{
+    contents(
+        file,
+        &section(sections, symbol_table(sections).sh_link as usize),
+    )
+}
+
 /// Whether a section has no bytes in the file.
 pub fn has_no_bytes(section: &SectionHeader) -> bool
     ensures { result ≡ has_no_bytes section.now }

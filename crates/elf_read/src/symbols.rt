@@ -1,11 +1,11 @@
 //! Whether the symbol table of an object is a good one (System V gABI 4, "Symbol Table").
 ghost use Rattle.std.specs.Prelude.{◌≡◌, ◌↔◌, ◌/◌, ◌<◌, ◌^◌, length, IfErr, IfOk, OnOk, IsTrue};
 ghost use Rattle.byteview.specs.Numbers.{IsInside, part};
-ghost use Rattle.std.specs.List.{All};
-ghost use Rattle.elf_model.specs.ObjectFile.{AreGoodSymbols, AreSectionsNamed, AreSymbolsNamed, HasGoodSymbolTable, HasTable, IsGoodSymbol, IsPlaced, IsStringTable, LiesInside, StandsIn, contents, entries, section, symbol_table, symbols_of};
+ghost use Rattle.elf_model.specs.ObjectFile.{AreGoodSymbols, AreSectionsNamed, AreSymbolsNamed, IsGoodSymbol, LiesInside, StandsIn, contents, entries, section, symbol_table, symbols_of};
 ghost use Rattle.elf_model.specs.Records.{symbol};
+ghost use Rattle.elf_read.specs.Reading.{HasGoodSections};
 
-use crate::sections::{are_sections_named, contents, section, symbol_table};
+use crate::sections::{are_sections_named, section_strings, symbol_strings};
 use byteview::View;
 use elf_model::{
     FileHeader, ObjFault, SHN_ABS, SHN_COMMON, SHN_UNDEF, STB_WEAK, STT_TLS, SYM_SIZE,
@@ -61,10 +61,7 @@ pub fn judge_symbols(
     sections: &[SectionHeader],
     symbols: &[Symbol],
 ) -> Result<(), ObjFault>
-    requires table { HasTable (length file.now) header.now }
-    requires strings { IsStringTable sections.now header.now.e_shstrndx }
-    requires ranges { All (IsPlaced (length file.now)) sections.now }
-    requires symbol_table { HasGoodSymbolTable sections.now }
+    requires sections { HasGoodSections file.now header.now sections.now }
     requires symbols_are { symbols.now ≡ symbols_of file.now sections.now }
     ensures symbols { OnOk result (AreGoodSymbols header.now.e_shnum symbols.now) }
     ensures section_names { OnOk result (AreSectionsNamed (contents file.now (section sections.now header.now.e_shstrndx)) sections.now) }
@@ -74,12 +71,10 @@ pub fn judge_symbols(
     if !are_good_symbols(symbols, header.e_shnum) {
         return Err(ObjFault::BadSymbolTable);
     }
-    let section_names = section(sections, header.e_shstrndx as usize);
-    if !are_sections_named(&contents(file, &section_names), sections) {
+    if !are_sections_named(&section_strings(file, header, sections), sections) {
         return Err(ObjFault::BadString);
     }
-    let symbol_names = section(sections, symbol_table(sections).sh_link as usize);
-    if !are_symbols_named(&contents(file, &symbol_names), symbols) {
+    if !are_symbols_named(&symbol_strings(file, sections), symbols) {
         return Err(ObjFault::BadString);
     }
     Ok(())

@@ -1,36 +1,19 @@
-use Rattle.std.proofs.Common.{ℕ, List, ap, sym, subst, ◌∙◌}
+use Rattle.std.proofs.Common.{ℕ, List, sym, subst}
 use Rattle.std.proofs.lemmas.Bool.{false≢true}
-use Rattle.elf_model.specs.ObjectFile.{AreSectionsNamed, AreSymbolsNamed, contents, section}
-use Rattle.elf_model.specs.declared.records.SectionHeader.{SectionHeader}
+use Rattle.elf_model.specs.ObjectFile.{AreSectionsNamed, AreSymbolsNamed}
 use Rattle.elf_read.proofs.Faults.{bad_symbols, unnamed_sections, unnamed_symbols}
 use Rattle.elf_read.proofs.symbols.judge_symbols.Goals as goal
 
 pub returns-then-not-are_good_symbols-clause-fault : goal.returns-then-not-are_good_symbols-clause-fault
 returns-then-not-are_good_symbols-clause-fault c =
-    bad_symbols c.args.file.now c.args.header.now c.args.sections.now c.args.symbols.now record {
-      table = c.requires.table;
-      strings = c.requires.strings;
-      ranges = c.requires.ranges;
-      symbol_table = c.requires.symbol_table;
-    } c.requires.symbols_are (λ good. false≢true (c.if-not-are_good_symbols.ensures.1 good))
+    bad_symbols c.args.file.now c.args.header.now c.args.sections.now c.args.symbols.now c.requires.sections c.requires.symbols_are (λ good. false≢true (c.if-not-are_good_symbols.ensures.1 good))
 
 pub returns-then-not-are_sections_named-clause-fault : goal.returns-then-not-are_sections_named-clause-fault
 returns-then-not-are_sections_named-clause-fault c =
-    let strings = c.contents.ensures ∙ ap (contents c.args.file.now) c.section-section_names.ensures in
-    unnamed_sections c.args.file.now c.args.header.now c.args.sections.now c.args.symbols.now record {
-      table = c.requires.table;
-      strings = c.requires.strings;
-      ranges = c.requires.ranges;
-      symbol_table = c.requires.symbol_table;
-    } (λ named. false≢true (c.if-not-are_sections_named.ensures.1 (subst (λ (xs : List ℕ). AreSectionsNamed xs c.args.sections.now) (sym strings) named)))
+    let strings = c.section_strings.ensures in
+    unnamed_sections c.args.file.now c.args.header.now c.args.sections.now c.args.symbols.now c.requires.sections (λ named. false≢true (c.if-not-are_sections_named.ensures.1 (subst (λ (xs : List ℕ). AreSectionsNamed xs c.args.sections.now) (sym strings) named)))
 
 pub returns-then-not-are_symbols_named-clause-fault : goal.returns-then-not-are_symbols_named-clause-fault
 returns-then-not-are_symbols_named-clause-fault c =
-    let names = c.section-symbol_names.ensures ∙ ap (λ (t : SectionHeader). section c.args.sections.now t.sh_link) c.symbol_table.ensures in
-    let strings = c.contents-2.ensures ∙ ap (contents c.args.file.now) names in
-    unnamed_symbols c.args.file.now c.args.header.now c.args.sections.now c.args.symbols.now record {
-      table = c.requires.table;
-      strings = c.requires.strings;
-      ranges = c.requires.ranges;
-      symbol_table = c.requires.symbol_table;
-    } c.requires.symbols_are (λ named. false≢true (c.if-not-are_symbols_named.ensures.1 (subst (λ (xs : List ℕ). AreSymbolsNamed xs c.args.symbols.now) (sym strings) named)))
+    let strings = c.symbol_strings.ensures in
+    unnamed_symbols c.args.file.now c.args.header.now c.args.sections.now c.args.symbols.now c.requires.sections c.requires.symbols_are (λ named. false≢true (c.if-not-are_symbols_named.ensures.1 (subst (λ (xs : List ℕ). AreSymbolsNamed xs c.args.symbols.now) (sym strings) named)))

@@ -1,5 +1,5 @@
 use Rattle.std.proofs.Common.{rules, ◌≡◌, ◌∙◌, ◌<◌, Bool, List, ℕ, ap, arith, length, subst, sym}
-use Rattle.std.specs.Prelude.{◌↔◌, [], IsTrue, None, Some}
+use Rattle.std.specs.Prelude.{◌↔◌, IsTrue, None, Some}
 use Rattle.std.specs.List.{slice_get}
 use Rattle.std.proofs.lemmas.Bool.{false≢true}
 use Rattle.std.proofs.lemmas.Option.{slice_get-get_or, slice_get_past}
@@ -7,7 +7,7 @@ use Rattle.byteview.specs.Numbers.{text}
 use Rattle.elf_model.specs.declared.records.Symbol.{Symbol}
 use Rattle.elf_read.specs.Reading.{is_begun}
 use Rattle.elf_read.proofs.FirstBytes.{has_text, name_is, no_name}
-use Rattle.elf_read.proofs.object.Object.is_named.Goals as goal
+use Rattle.elf_read.proofs.object_file.ObjectFile.is_named.Goals as goal
 
 pub returns-in-Some : goal.returns-in-Some
 returns-in-Some c =

@@ -1,7 +1,7 @@
 use Rattle.std.proofs.Common.{ap, sym, subst, ◌∙◌}
 use Rattle.elf_model.specs.ObjectFile.{IsObject, groups}
 use Rattle.elf_read.proofs.GroupLists.{NamesSections, members_there}
-use Rattle.elf_read.proofs.object.Object.groups.Goals as goal
+use Rattle.elf_read.proofs.object_file.ObjectFile.groups.Goals as goal
 
 pub returns-clause-members : goal.returns-clause-members
 returns-clause-members c =
