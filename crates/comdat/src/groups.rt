@@ -7,7 +7,7 @@ ghost use Rattle.elf_model.specs.declared.faults.GroupFault.TheVariants as fault
 use crate::dropped::{Dropped, admit_groups};
 use crate::lawfulness::judge;
 use elf_model::{GroupFault, Name, NameSeed};
-use elf_read::Object;
+use elf_read::ObjectFile;
 use indexmap::IndexSet;
 use std::alloc::Global;
 use std::marker::Model;
@@ -48,7 +48,7 @@ impl<'a> Groups<'a> {
     ///
     /// `GroupFault` says what stands against the object's groups; `Memory` alone may be answered of
     /// lawful ones. No group of the object is admitted then.
-    pub fn admit(&mut self, object: &Object<'a>) -> Result<Dropped, GroupFault>
+    pub fn admit(&mut self, object: &ObjectFile<'a>) -> Result<Dropped, GroupFault>
         ensures lawful { OnOk result (AreLawfulGroups (groups object.now)) }
         ensures dropped { IfOk result (λ d. d ≡ dropped self.old (groups object.now)) }
         // The same as a relation over all groups that were admitted, in load order.

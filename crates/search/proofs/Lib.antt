@@ -4,6 +4,8 @@ pub mod LoaderLaws
 mod LostSections
 pub mod NameSets
 pub mod NotedNames
+pub mod NumberedSymbols
+pub mod Numbering
 pub mod OpenedLaws
 pub mod PlaceLaws
 pub mod StepLaws

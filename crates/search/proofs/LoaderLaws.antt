@@ -16,14 +16,14 @@ use Rattle.elf_model.specs.Opening.{Opened}
 use Rattle.elf_model.proofs.LoadingBounds.{by_case}
 use Rattle.elf_model.proofs.SameOutput.{both_ways_equal}
 use Rattle.search.specs.Loaders.{Knows, asked_from, asked_in, defined_from, defined_in, loaded}
-use Rattle.search.specs.Names.{has_row, is_among, with_name}
+use Rattle.search.specs.Mentions.{AreNoted, has_definition}
+use Rattle.search.specs.Names.{Begins, is_among, with_name}
+use Rattle.search.specs.Numbers.{AreNumbered, IsNumbered}
 use Rattle.search.specs.Taken.{TakenMembers, has_item, has_member, with_member_taken}
 use Rattle.search.specs.Views.{loaded_view, loaded_views}
 use Rattle.search.specs.declared.loaded.LoadedObject as code
-use Rattle.search.proofs.NameSets.{among_with}
 use Rattle.search.proofs.NotedNames.{stepped}
 use Rattle.search.specs.declared.loader.Loader.{Loader}
-use Rattle.symbols.specs.Rows.{Rows, no_rows}
 
 -- The signatures that are seen.
 pub seen_more : (seen : List (List ℕ)) (os : List LoadedObject) (x : LoadedObject) → seen_behind seen (os ++ x ∷ []) ≡ seen_after (seen_behind seen os) (groups x.bytes)
@@ -114,14 +114,16 @@ is_begun_more os x i = list_any-append (λ y. y.item == i) os (x ∷ [])
 
 -- A loader.
 pub knows_none :
-    {T : Type 0} (rows : T → Rows) (l : Loader T) → loaded l ≡ [] → l.groups ≡ [] →
+    {N : Type 0} (names : N → List (List ℕ)) (l : Loader N) → loaded l ≡ [] → l.groups ≡ [] →
     ((n : List ℕ) → is_among l.names.requested n ≡ list_any (λ root. bytes_eq root n) (l.plan.now.entry ∷ l.plan.now.undefined)) →
-    rows l.names.defined ≡ no_rows → l.taken ≡ record { members = []; items = [] } → Knows rows l
+    AreNoted names l.names → ((n : List ℕ) → has_definition names l.names n ≡ false) → l.objects.items ≡ [] → l.taken ≡ record { members = []; items = [] } → Knows names l
 unfolding is_defined is_taken is_begun
-knows_none rows l none groups_ asked_ defined_ taken_ = record {
+knows_none names l none groups_ asked_ noted_ defined_ empty taken_ = record {
   seen = groups_ ∙ ap (seen_behind []) (sym none);
   requested = λ n. asked_ n ∙ (sym (requested_none l.plan.now n) ∙ ap (λ (os : List LoadedObject). is_requested l.plan.now os n) (sym none));
-  defined = λ n. ap (λ (r : Rows). has_row r n) defined_ ∙ ap (λ (os : List LoadedObject). is_defined os n) (sym none);
+  noted = noted_;
+  defined = λ n. defined_ n ∙ ap (λ (os : List LoadedObject). is_defined os n) (sym none);
+  numbered = subst (λ (ls : List code.LoadedObject). AreNumbered (names l.names.numbers) ls) (sym empty) (All-nil (IsNumbered (names l.names.numbers)));
   taken = λ item offset. ap (λ (t : TakenMembers). has_member t item offset) taken_ ∙ ap (λ (os : List LoadedObject). is_taken os item offset) (sym none);
   begun = λ item. ap (λ (t : TakenMembers). has_item t item) taken_ ∙ ap (λ (os : List LoadedObject). is_begun os item) (sym none);
   objects = subst (All (λ o. IsObject o.bytes)) (sym none) (All-nil (λ o. IsObject o.bytes));
@@ -129,12 +131,14 @@ knows_none rows l none groups_ asked_ defined_ taken_ = record {
 }
 
 pub knows_more :
-    {T : Type 0} (rows : T → Rows) (old new : Loader T) (o : Opened) (offset : ℕ) (bytes : List ℕ) → Knows rows old → new.plan.now ≡ old.plan.now →
+    {N : Type 0} (names : N → List (List ℕ)) (old new : Loader N) (o : Opened) (offset : ℕ) (bytes : List ℕ) → Knows names old → new.plan.now ≡ old.plan.now →
     loaded new ≡ with_object (loaded old) o offset bytes → new.groups ≡ seen_after old.groups (groups bytes) →
     ((n : List ℕ) → is_among new.names.requested n ≡ (asked_in bytes (lost_sections (loaded old) bytes) n || is_among old.names.requested n)) →
-    ((n : List ℕ) → has_row (rows new.names.defined) n ≡ (defined_in bytes (lost_sections (loaded old) bytes) n || has_row (rows old.names.defined) n)) →
-    new.taken ≡ with_member_taken old.taken o.number offset → IsObject bytes → AreLawfulGroups (groups bytes) → Knows rows new
-knows_more rows old new o offset bytes k plan_ is groups_ asked_ defined_ taken_ object lawful_ = record {
+    AreNoted names new.names →
+    ((n : List ℕ) → has_definition names new.names n ≡ (defined_in bytes (lost_sections (loaded old) bytes) n || has_definition names old.names n)) →
+    AreNumbered (names new.names.numbers) new.objects.items →
+    new.taken ≡ with_member_taken old.taken o.number offset → IsObject bytes → AreLawfulGroups (groups bytes) → Knows names new
+knows_more names old new o offset bytes k plan_ is groups_ asked_ noted_ defined_ numbered_ taken_ object lawful_ = record {
   seen =
       groups_ ∙ (ap (λ (s : List (List ℕ)). seen_after s (groups bytes)) k.seen
       ∙ (sym (seen_more [] (loaded old) x) ∙ ap (seen_behind []) (sym is)));
@@ -142,6 +146,8 @@ knows_more rows old new o offset bytes k plan_ is groups_ asked_ defined_ taken_
       asked_ n ∙ (ap (λ (b : Bool). asked_in bytes x.dropped n || b) (k.requested n)
       ∙ (sym (requested_more old.plan.now (loaded old) x n)
       ∙ (ap (λ (os : List LoadedObject). is_requested old.plan.now os n) (sym is) ∙ ap (λ (p : Plan). is_requested p (loaded new) n) (sym plan_))));
+  noted = noted_;
+  numbered = numbered_;
   defined = λ n.
       defined_ n ∙ (ap (λ (b : Bool). defined_in bytes x.dropped n || b) (k.defined n)
       ∙ (sym (defined_one_more (loaded old) x n) ∙ ap (λ (os : List LoadedObject). is_defined os n) (sym is)));
@@ -166,12 +172,12 @@ knows_more rows old new o offset bytes k plan_ is groups_ asked_ defined_ taken_
 
 -- the names that a command asks for, one after the other
 pub roots_step : (us : List (Bor (List ℕ))) (j : ℕ) (d : Bor (List ℕ)) (n : List ℕ) (old new : List (List ℕ)) (total : Bool) → j < length us →
-    new ≡ with_name old (get_or us j d).now →
+    ((m : List ℕ) → is_among new m ≡ (bytes_eq (get_or us j d).now m || is_among old m)) →
     (list_any (λ root. bytes_eq root n) (map (λ t. t.now) (drop j us)) || is_among old n) ≡ total →
     (list_any (λ root. bytes_eq root n) (map (λ t. t.now) (drop (j + 1) us)) || is_among new n) ≡ total
 roots_step us j d n old new total within next is =
     stepped (list_any test (map (λ t. t.now) (drop j us))) (bytes_eq (get_or us j d).now n) (list_any test (map (λ t. t.now) (drop (j + 1) us)))
-    (is_among old n) (is_among new n) total split (ap (λ (ns : List (List ℕ)). is_among ns n) next ∙ among_with old (get_or us j d).now n) is
+    (is_among old n) (is_among new n) total split (next n) is
   where
     test : List ℕ → Bool
     test root = bytes_eq root n

@@ -37,9 +37,15 @@ or_swap true false = refl
 or_swap false true = refl
 or_swap false false = refl
 
-or_known : (a b : Bool) → (a ≡ true → b ≡ true) → b ≡ (a || b)
+pub or_known : (a b : Bool) → (a ≡ true → b ≡ true) → b ≡ (a || b)
 or_known true b f = f refl
 or_known false b f = refl
+
+-- a name behind names
+pub among_pushed : (names : List (List ℕ)) (name n : List ℕ) → is_among (names ++ name ∷ []) n ≡ (bytes_eq name n || is_among names n)
+among_pushed names name n =
+    list_any-append (bytes_eq n) names (name ∷ [])
+    ∙ (or_swap (is_among names n) (bytes_eq n name) ∙ ap (λ (b : Bool). b || is_among names n) (same_both n name))
 
 -- a name is among the names after one more exactly where it is the new one, or was there
 pub among_with : (names : List (List ℕ)) (name n : List ℕ) → is_among (with_name names name) n ≡ (bytes_eq name n || is_among names n)
@@ -52,9 +58,13 @@ among_with names name n = by_case (is_among names name) there new
 
     new : is_among names name ≡ false → is_among (with_name names name) n ≡ (bytes_eq name n || is_among names n)
     new known =
-        ap (λ (b : Bool). is_among (cond b names (names ++ name ∷ [])) n) known
-        ∙ (list_any-append (bytes_eq n) names (name ∷ [])
-        ∙ (or_swap (is_among names n) (bytes_eq n name) ∙ ap (λ (b : Bool). b || is_among names n) (same_both n name)))
+        ap (λ (b : Bool). is_among (cond b names (names ++ name ∷ [])) n) known ∙ among_pushed names name n
+
+-- a name that comes is among the names then
+pub among_new : (names new : List (List ℕ)) (name : List ℕ) → new ≡ with_name names name → is_among new name ≡ true
+among_new names new name is =
+    ap (λ (l : List (List ℕ)). is_among l name) is
+    ∙ (among_with names name name ∙ ap (λ (b : Bool). b || is_among names name) ((bytes_eq-Decides name name).1 refl))
 
 -- Names that grow.
 pub begins_refl : (names : List (List ℕ)) → Begins names names

@@ -1,7 +1,6 @@
 -- Names as symbols are noted, one after the other.
 use Rattle.std.proofs.Common.{◌≡◌, ℕ, suc, ◌+◌, ◌<◌, ◌≤◌, Bool, true, false, cond, not, ◌&&◌, ◌||◌, List, [], length, get_or, drop, Some, Option, refl, sym, ◌∙◌, ap, subst, arith, drop-cons}
-use Rattle.std.specs.Prelude.{is_some, option_copied, option_map}
-use Rattle.std.specs.Borrow.{Bor}
+use Rattle.std.specs.Prelude.{option_map, unwrap_or}
 use Rattle.std.specs.List.{list_any}
 use Rattle.std.specs.Str.{bytes_eq}
 use Rattle.std.proofs.Math.ListN.{drop_of_length-le}
@@ -11,31 +10,6 @@ use Rattle.elf_model.specs.Loading.{has_name, is_definition, is_global_or_weak, 
 use Rattle.elf_model.specs.ObjectFile.{name_of_symbol, symbol_name, symbols}
 use Rattle.elf_model.specs.declared.records.Symbol.{Symbol}
 use Rattle.search.specs.Loaders.{asked_from, defined_from}
-use Rattle.search.specs.Names.{has_row, is_among, with_name}
-use Rattle.search.proofs.NameSets.{among_with}
-use Rattle.symbols.specs.Rows.{Rows, offered, taken}
-use Rattle.symbols.specs.declared.candidate.Candidate.{Candidate}
-
--- after a name that passes a test, and beside one that doesn't
-pub noted : (names : List (List ℕ)) (name : List ℕ) (new : List (List ℕ)) (t : Bool) → new ≡ with_name names name → t ≡ true → (n : List ℕ) →
-    is_among new n ≡ (bytes_eq name n && t || is_among names n)
-noted names name new t is passes n =
-    ap (λ (ns : List (List ℕ)). is_among ns n) is
-    ∙ (among_with names name n ∙ ap (λ (b : Bool). b || is_among names n) (one (bytes_eq name n) t passes))
-  where
-    one : (a b : Bool) → b ≡ true → a ≡ (a && b)
-    one true b e = sym e
-    one false b e = refl
-
--- a name that is offered has a row then, and every other as before
-pub offered_row : (rows new : Rows) (name : List ℕ) (c : Candidate) (t : Bool) → new ≡ offered name c rows → t ≡ true → (n : List ℕ) →
-    has_row new n ≡ (bytes_eq name n && t || has_row rows n)
-offered_row rows new name c t is passes n =
-    ap (λ (r : Rows). has_row r n) is ∙ rowed (bytes_eq name n) t passes
-  where
-    rowed : (a b : Bool) → b ≡ true → is_some (cond a (Some (taken c (rows name))) (rows n)) ≡ (a && b || has_row rows n)
-    rowed true b e = sym (ap (λ (x : Bool). x || has_row rows n) e)
-    rowed false b e = refl
 
 pub not_noted : (a : Bool) (t old : Bool) → t ≡ false → old ≡ (a && t || old)
 not_noted true t old e = rw e refl
@@ -78,11 +52,6 @@ stepped now first later old new total split next is =
 pub passed : (now a t later old total : Bool) → now ≡ (a && t || later) → t ≡ false → (now || old) ≡ total → (later || old) ≡ total
 passed now a t later old total split fails is = stepped now (a && t) later old old total split (not_noted a t old fails) is
 
--- a symbol that is there has a name
-pub there_named : (bytes : List ℕ) (j : ℕ) (d : Symbol) (name : Option (Bor (List ℕ))) → j < length (symbols bytes) → option_copied name ≡ symbol_name bytes j →
-    option_copied name ≡ Some (name_of_symbol bytes (get_or (symbols bytes) j d))
-there_named bytes j d name within is = is ∙ ap (option_map (name_of_symbol bytes)) (slice_get-get_or (symbols bytes) j d within)
-
 -- the last symbol's names are all of them
 pub asked_done : (bytes dropped : List ℕ) (n : List ℕ) → asked_from bytes dropped [] n ≡ false
 unfolding asked_from
@@ -97,10 +66,11 @@ module _ (bytes dropped : List ℕ) (items ss : List Symbol) (same : items ≡ s
   inside : j < length ss
   inside = subst (λ (l : List Symbol). j < length l) same within
 
-  pub named_there : (name : Option (Bor (List ℕ))) → ss ≡ symbols bytes → option_copied name ≡ symbol_name bytes j → option_copied name ≡ Some (name_of_symbol bytes (get_or items j d))
-  named_there name all is =
-      there_named bytes j d name (subst (λ (l : List Symbol). j < length l) all inside) is
-      ∙ ap (λ (l : List Symbol). Some (name_of_symbol bytes (get_or l j d))) (sym (same ∙ all))
+  pub called_there : (name : List ℕ) → ss ≡ symbols bytes → name ≡ unwrap_or (symbol_name bytes j) [] → name ≡ name_of_symbol bytes (get_or items j d)
+  called_there name all is =
+      is
+      ∙ (ap (λ (o : Option Symbol). unwrap_or (option_map (name_of_symbol bytes) o) []) (slice_get-get_or (symbols bytes) j d (subst (λ (l : List Symbol). j < length l) all inside))
+      ∙ ap (λ (l : List Symbol). name_of_symbol bytes (get_or l j d)) (sym (same ∙ all)))
 
   pub asked_step : (name n : List ℕ) (old new total : Bool) → name ≡ name_of_symbol bytes (get_or items j d) →
       new ≡ (bytes_eq name n && is_request dropped (get_or items j d) || old) → (asked_from bytes dropped (drop j ss) n || old) ≡ total →

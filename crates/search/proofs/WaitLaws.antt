@@ -24,7 +24,6 @@ use Rattle.search.specs.Waiting.{AllAwait, AreIdle, Awaits, Covers, IsSpent, Nex
 use Rattle.search.specs.declared.loader.Loader.{Loader}
 use Rattle.search.specs.declared.waiting_places.WaitingPlaces.{WaitingPlaces}
 use Rattle.search.specs.declared.waits.Waits.{Waits}
-use Rattle.symbols.specs.Rows.{Rows}
 
 -- The first entry that passes a test.
 find_first : (test : IndexEntry → Bool) (es : List IndexEntry) (p : ℕ) (e : IndexEntry) → slice_get es p ≡ Some e → test e ≡ true →
@@ -210,7 +209,7 @@ module _ {T : Type 0} (l : Loader T) (os : List Opened) (w new : Waits) (c : Cov
   covers_spent whole_ spent = covers_but (record { searched = λ s. absurd (false≢true (sym s ∙ whole_)); taken_whole = λ s. inr spent })
 
 -- what is covered is so later
-pub covers_later : {T : Type 0} {rows : T → Rows} (now later : Loader T) (os : List Opened) (w : Waits) → Knows rows now → Knows rows later → IsLater now later → Covers now os w →
+pub covers_later : {T : Type 0} {names : T → List (List ℕ)} (now later : Loader T) (os : List Opened) (w : Waits) → Knows names now → Knows names later → IsLater now later → Covers now os w →
     Covers later os w
 covers_later now later os w a b on c = record {
   placed = c.placed;

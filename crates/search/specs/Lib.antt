@@ -1,7 +1,9 @@
 pub mod Faults
 pub mod Loaders
 pub mod Loads
+pub mod Mentions
 pub mod Names
+pub mod Numbers
 pub mod Opened
 pub mod Places
 pub mod Steps

@@ -6,11 +6,12 @@ use Rattle.elf_model.specs.Command.{Plan}
 use Rattle.elf_model.specs.Loading.{AreObjects, HaveLawfulGroups, LoadedObject, has_name, is_begun, is_defined, is_definition, is_request, is_requested, is_taken, needed, seen_behind}
 use Rattle.elf_model.specs.ObjectFile.{symbols}
 use Rattle.elf_model.specs.declared.records.Symbol.{Symbol}
-use Rattle.search.specs.Names.{Begins, has_row, is_among}
+use Rattle.search.specs.Mentions.{AreNoted, has_definition}
+use Rattle.search.specs.Names.{Begins, is_among}
+use Rattle.search.specs.Numbers.{AreNumbered}
 use Rattle.search.specs.Taken.{has_item, has_member}
 use Rattle.search.specs.Views.{loaded_views}
 use Rattle.search.specs.declared.loader.Loader.{Loader}
-use Rattle.symbols.specs.Rows.{Rows}
 
 -- of these symbols of an object's bytes, one asks for a name, or defines it, where these sections are dropped
 unfoldable pub asked_from : List ℕ → List ℕ → List Symbol → List ℕ → Bool
@@ -25,14 +26,16 @@ asked_in bytes dropped name = asked_from bytes dropped (symbols bytes) name
 abbrev pub defined_in : List ℕ → List ℕ → List ℕ → Bool
 defined_in bytes dropped name = defined_from bytes dropped (symbols bytes) name
 
-abbrev pub loaded : {T : Type 0} → Loader T → List LoadedObject
+abbrev pub loaded : {N : Type 0} → Loader N → List LoadedObject
 loaded l = loaded_views l.objects.items
 
--- its tables are those of the objects, which are objects with lawful groups; the rows of its table of names are given
-pub record Knows {T : Type 0} (rows : T → Rows) (l : Loader T) : Type 0 where
+-- its tables are those of the objects, which are objects with lawful groups; the names that have numbers are given
+pub record Knows {N : Type 0} (names : N → List (List ℕ)) (l : Loader N) : Type 0 where
   pub seen : l.groups ≡ seen_behind [] (loaded l)
   pub requested : (n : List ℕ) → is_among l.names.requested n ≡ is_requested l.plan.now (loaded l) n
-  pub defined : (n : List ℕ) → has_row (rows l.names.defined) n ≡ is_defined (loaded l) n
+  pub noted : AreNoted names l.names
+  pub defined : (n : List ℕ) → has_definition names l.names n ≡ is_defined (loaded l) n
+  pub numbered : AreNumbered (names l.names.numbers) l.objects.items
   pub taken : (item offset : ℕ) → has_member l.taken item offset ≡ is_taken (loaded l) item offset
   pub begun : (item : ℕ) → has_item l.taken item ≡ is_begun (loaded l) item
   pub objects : AreObjects (loaded l)
@@ -43,7 +46,7 @@ abbrev pub is_next_of : Plan → List LoadedObject → ℕ → IndexEntry → Bo
 is_next_of plan objects item e = needed plan objects e.name && not (is_taken objects item e.offset)
 
 -- what is loaded and asked for later stands behind what is loaded and asked for now
-pub record IsLater {T : Type 0} (now later : Loader T) : Type 0 where
+pub record IsLater {N : Type 0} (now later : Loader N) : Type 0 where
   pub plan : later.plan.now ≡ now.plan.now
   pub objects : (more : List LoadedObject) × (loaded later ≡ loaded now ++ more)
   pub requested : Begins now.names.requested later.names.requested

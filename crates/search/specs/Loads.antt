@@ -1,15 +1,17 @@
 -- What is loaded, as one value, and which sections of it are dropped.
-use Rattle.std.specs.Prelude.{◌≡◌, ◌∷◌, ◌++◌, List}
+use Rattle.std.specs.Prelude.{◌≡◌, ℕ, ◌∷◌, ◌++◌, List}
 use Rattle.std.specs.List.{flat_map}
 use Rattle.elf_model.specs.Command.{Plan}
 use Rattle.elf_model.specs.Groups.{AreDropped}
 use Rattle.elf_model.specs.Loading.{LoadedObject}
 use Rattle.elf_model.specs.ObjectFile.{groups}
 
--- the plan of a command, and the objects that it loads, in load order
+-- the plan of a command, the objects that it loads, in load order, and the names that have numbers: those of the symbols
+-- that are not LOCAL among them
 pub record LoadedPlan : Type 0 where
   pub plan : Plan
   pub objects : List LoadedObject
+  pub names : List (List ℕ)
 
 -- of each object, the sections are dropped that are members of a COMDAT group whose signature a COMDAT group has that
 -- stands earlier in load order, and no others

@@ -1,8 +1,7 @@
--- Sets of names: lists without repeats, and the names that have a row in a table.
-use Rattle.std.specs.Prelude.{◌≡◌, ℕ, Bool, cond, is_some, List, [], ◌∷◌, ◌++◌}
-use Rattle.std.specs.List.{list_any}
+-- Names that have numbers: lists without repeats.
+use Rattle.std.specs.Prelude.{◌≡◌, ℕ, Bool, cond, List, [], ◌∷◌, ◌++◌}
+use Rattle.std.specs.List.{list_any, position_or_len}
 use Rattle.std.specs.Str.{bytes_eq}
-use Rattle.symbols.specs.Rows.{Rows}
 
 -- a name is among names
 abbrev pub is_among : List (List ℕ) → List ℕ → Bool
@@ -16,6 +15,6 @@ Begins names more = (rest : List (List ℕ)) × (more ≡ names ++ rest)
 abbrev pub with_name : List (List ℕ) → List ℕ → List (List ℕ)
 with_name names name = cond (is_among names name) names (names ++ name ∷ [])
 
--- a name has a row
-abbrev pub has_row : Rows → List ℕ → Bool
-has_row rows name = is_some (rows name)
+-- the number of a name: where it is among the names; their count where it isn't
+abbrev pub number_of : List (List ℕ) → List ℕ → ℕ
+number_of names name = position_or_len (bytes_eq name) names

@@ -9,7 +9,8 @@ ghost use Rattle.elf_model.specs.Relocation.{is_kept_rela};
 ghost use Rattle.search.specs.Views.{loaded_view};
 
 use crate::loaded::LoadedObject;
-use elf_model::{Rela, SHT_RELA, SectionHeader};
+use elf_model::{SHT_RELA, SectionHeader};
+use elf_read::RelaRun;
 
 impl<'a> LoadedObject<'a> {
     /// Whether a section is dropped with its group, by its number.
@@ -47,14 +48,14 @@ impl<'a> LoadedObject<'a> {
     }
 
     /// The entries of RELA section `i`, which has the header.
-    pub fn entries_of(&self, i: usize, header: &SectionHeader) -> &[Rela]
+    pub fn entries_of(&self, i: usize, header: &SectionHeader) -> RelaRun<'a>
         requires there { slice_get (sections self.now.object) i ≡ Some header.now }
         requires rela { header.now.sh_type ≡ 4 }
-        ensures { result.now ≡ relas_of self.entry.now.object header.now }
+        ensures { result ≡ relas_of self.now.object header.now }
     {
         match self.object.relas(i) {
             Some(entries) => entries,
-            None => &[],
+            None => RelaRun::none(),
         }
     }
 }

@@ -17,6 +17,7 @@ use crate::faults::SearchFault;
 use crate::files::FileIndex;
 use crate::loaded::Loaded;
 use crate::loader::{Loader, Reached};
+use crate::names::{NameNumbers, NameSet};
 use crate::opened_items::open;
 use crate::rounds::{run_round, run_rounds};
 use crate::waits::Waits;
@@ -24,7 +25,7 @@ use command::Plan;
 use elf_model::{InputFile, NameSeed};
 use std::alloc::{AllocError, Global};
 use std::slice;
-use symbols::{IndexedTable, NameTable};
+use symbols::NameTable;
 
 /// The number of an archive's group; None of one that is in none, and of an object.
 fn group_of(input: &Input<'_>) -> Option<u64>
@@ -52,14 +53,14 @@ fn run_length(inputs: &[Input<'_>], group: u64) -> usize
 }
 
 /// Loads an item that is in no group.
-fn load_single<'a, T: NameTable<'a>>(
+fn load_single<'a, N: NameNumbers<'a>>(
     alloc: Global,
-    loader: &mut Loader<'_, 'a, T>,
+    loader: &mut Loader<'_, 'a, N>,
     input: &Input<'a>,
 ) -> Result<(), SearchFault>
-    requires known { Knows T.rows loader.old }
+    requires known { Knows N.names loader.old }
     ensures later { OnOk result (IsLater loader.old loader.new) }
-    ensures known { OnOk result (Knows T.rows loader.new) }
+    ensures known { OnOk result (Knows N.names loader.new) }
     ensures loaded { OnOk result (loaded loader.new ≡ loaded_step loader.old.plan.now (Single input.now) (loaded loader.old)) }
     ensures fault { IfErr result (FailsOn (loaded_step loader.old.plan.now (Single input.now) (loaded loader.old))) }
 {
@@ -73,15 +74,15 @@ fn load_single<'a, T: NameTable<'a>>(
 }
 
 /// Loads the first step of inputs, and answers how many these are.
-fn load_step<'a, T: NameTable<'a>>(
+fn load_step<'a, N: NameNumbers<'a>>(
     alloc: Global,
-    loader: &mut Loader<'_, 'a, T>,
+    loader: &mut Loader<'_, 'a, N>,
     inputs: &[Input<'a>],
 ) -> Result<usize, SearchFault>
-    requires known { Knows T.rows loader.old }
+    requires known { Knows N.names loader.old }
     requires some { 0 < length inputs.now }
     ensures later { OnOk result (IsLater loader.old loader.new) }
-    ensures known { OnOk result (Knows T.rows loader.new) }
+    ensures known { OnOk result (Knows N.names loader.new) }
     ensures count { IfOk result (λ n. (0 < n) × (n ≤ length inputs.now)) }
     ensures loaded { IfOk result (λ n. loaded_steps loader.old.plan.now (steps (drop n inputs.now)) (loaded loader.new) ≡ loaded_steps loader.old.plan.now (steps inputs.now) (loaded loader.old)) }
     ensures fault { IfErr result (FailsOn (loaded_steps loader.old.plan.now (steps inputs.now) (loaded loader.old))) }
@@ -97,13 +98,13 @@ fn load_step<'a, T: NameTable<'a>>(
 }
 
 /// Loads inputs, in order.
-fn load_inputs<'a, T: NameTable<'a>>(
+fn load_inputs<'a, N: NameNumbers<'a>>(
     alloc: Global,
-    loader: &mut Loader<'_, 'a, T>,
+    loader: &mut Loader<'_, 'a, N>,
     inputs: &[Input<'a>],
 ) -> Result<(), SearchFault>
-    requires known { Knows T.rows loader.old }
-    ensures known { OnOk result (Knows T.rows loader.new) }
+    requires known { Knows N.names loader.old }
+    ensures known { OnOk result (Knows N.names loader.new) }
     ensures loaded { OnOk result (loaded loader.new ≡ loaded_steps loader.old.plan.now (steps inputs.now) (loaded loader.old)) }
     ensures fault { IfErr result (FailsOn (loaded_steps loader.old.plan.now (steps inputs.now) (loaded loader.old))) }
 {
@@ -124,19 +125,18 @@ fn load_inputs<'a, T: NameTable<'a>>(
 /// takes nothing, and an archive under `--whole-archive` gives all its members at its first turn. A COMDAT
 /// group whose signature a loaded object has already is dropped (System V gABI 4, "Section Groups").
 ///
-/// The names that objects define are kept in a table, which is empty at the start and is used up.
+/// Names are found by hash, from a seed: who picks the names can make them collide only where the seed is known.
 ///
 /// # Errors
 ///
 /// FileMissing where an item has no file, before all others. BadArchive and NoIndex of an archive item, of
 /// whichever; then BadObject and Group of an object that loading comes to. Memory where memory is refused.
-pub fn load_in<'a, T: NameTable<'a> + Drop>(
+pub fn load_seeded<'a>(
     alloc: Global,
     plan: &Plan<'a>,
     files: &'a [InputFile],
-    table: T,
+    seed: NameSeed,
 ) -> Result<Loaded<'a>, SearchFault>
-    requires { T.rows table ≡ no_rows }
     ensures plan { IfOk result (λ l. l.plan ≡ plan.now) }
     ensures loaded { IfOk result (λ l. l.objects ≡ loaded_objects (files_of files.entry.now) plan.now) }
     ensures rules { OnOk result (FollowsRules (files_of files.entry.now) plan.now) }
@@ -151,9 +151,10 @@ pub fn load_in<'a, T: NameTable<'a> + Drop>(
     let index = FileIndex::new(alloc, files)?;
     let items = open(alloc, &index, plan)?;
     let inputs = read_inputs(alloc, &items)?;
-    let mut loader = Loader::new(alloc, plan, table)?;
+    let mut loader = Loader::new(alloc, plan, NameSet::new(alloc, seed))?;
     load_inputs(alloc, &mut loader, &inputs)?;
-    let loaded = Loaded::new(alloc, plan, loader.into_objects())?;
+    let (objects, names) = loader.into_parts();
+    let loaded = Loaded::new(alloc, plan, objects, names)?;
     Ok(loaded)
 }
 
@@ -168,25 +169,61 @@ pub fn refused_object<'a>(
     plan: &Plan<'a>,
     files: &'a [InputFile],
 ) -> Result<Option<Reached<'a>>, AllocError> {
+    match last_reached(alloc, plan, files) {
+        Ok(reached) => Ok(reached),
+        Err(SearchFault::Memory) => Err(AllocError),
+        Err(_) => Ok(None),
+    }
+}
+
+/// The object at which loading stops; None where all are loaded, and the fault of the items where one can't be opened or read.
+fn last_reached<'a>(
+    alloc: Global,
+    plan: &Plan<'a>,
+    files: &'a [InputFile],
+) -> Result<Option<Reached<'a>>, SearchFault> {
     let index = FileIndex::new(alloc, files)?;
-    let Ok(items) = open(alloc, &index, plan) else {
-        return Ok(None);
-    };
-    let Ok(inputs) = read_inputs(alloc, &items) else {
-        return Ok(None);
-    };
-    let table = IndexedTable::with_hasher(alloc, NameSeed::fixed());
-    let mut loader = Loader::new(alloc, plan, table)?;
+    let items = open(alloc, &index, plan)?;
+    let inputs = read_inputs(alloc, &items)?;
+    let mut loader = Loader::new(alloc, plan, NameSet::new(alloc, NameSeed::fixed()))?;
     match load_inputs(alloc, &mut loader, &inputs) {
         Ok(()) => Ok(None),
-        Err(SearchFault::Memory) => Err(AllocError),
+        Err(SearchFault::Memory) => Err(SearchFault::Memory),
         Err(_) => Ok(loader.reached()),
     }
 }
 
 /// The plan, and the objects that it loads, in load order (ld(1)).
 ///
-/// As `load_in`, with a table that finds names by hash.
+/// As `load_seeded`, with a seed that is always the same. Numbers of names leave the table nothing to do; it is used up.
+///
+/// # Errors
+///
+/// As `load_seeded`.
+pub fn load_in<'a, T: NameTable<'a> + Drop>(
+    alloc: Global,
+    plan: &Plan<'a>,
+    files: &'a [InputFile],
+    _table: T,
+) -> Result<Loaded<'a>, SearchFault>
+    requires { T.rows _table ≡ no_rows }
+    ensures plan { IfOk result (λ l. l.plan ≡ plan.now) }
+    ensures loaded { IfOk result (λ l. l.objects ≡ loaded_objects (files_of files.entry.now) plan.now) }
+    ensures rules { OnOk result (FollowsRules (files_of files.entry.now) plan.now) }
+    ensures files { OnOk result (AreFilesThere (files_of files.entry.now) plan.now) }
+    ensures archives { OnOk result (AreArchives (opened (files_of files.entry.now) plan.now)) }
+    ensures indexes { OnOk result (HaveIndexes (opened (files_of files.entry.now) plan.now)) }
+    ensures objects { OnOk result (AreObjects (loaded_objects (files_of files.entry.now) plan.now)) }
+    ensures groups { OnOk result (HaveLawfulGroups (loaded_objects (files_of files.entry.now) plan.now)) }
+    ensures dropped { OnOk result (AreDroppedInOrder (loaded_objects (files_of files.entry.now) plan.now)) }
+    ensures fault { IfErr result (LoadFails (files_of files.entry.now) plan.now) }
+{
+    load_seeded(alloc, plan, files, NameSeed::fixed())
+}
+
+/// The plan, and the objects that it loads, in load order (ld(1)).
+///
+/// As `load_seeded`, with a seed that is always the same.
 ///
 /// # Errors
 ///
@@ -208,6 +245,5 @@ pub fn load<'a>(
     ensures dropped { OnOk result (AreDroppedInOrder (loaded_objects (files_of files.entry.now) plan.now)) }
     ensures fault { IfErr result (LoadFails (files_of files.entry.now) plan.now) }
 {
-    let table = IndexedTable::with_hasher(alloc, NameSeed::fixed());
-    load_in(alloc, plan, files, table)
+    load_seeded(alloc, plan, files, NameSeed::fixed())
 }

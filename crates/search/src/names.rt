@@ -1,13 +1,34 @@
-//! A set of names, found by hash.
-ghost use Rattle.std.specs.Prelude.{◌≡◌, [], OnOk, length, option_copied, slice_get};
-ghost use Rattle.search.specs.Names.{is_among, with_name};
+//! Numbers of names: each name that came has one, from 0 on, in the order in which they came.
+ghost use Rattle.std.specs.Prelude.{◌≡◌, ℕ, List, [], IfOk, OnOk, length, option_copied, slice_get, slice_index_or, ◌++◌, ◌∷◌};
+ghost use Rattle.std.specs.List.{position};
+ghost use Rattle.std.specs.Str.{bytes_eq};
+ghost use Rattle.search.specs.Names.{number_of, with_name};
 
 use elf_model::{Name, NameSeed};
 use indexmap::IndexSet;
 use std::alloc::{AllocError, Global};
 use std::marker::Model;
 
-/// Names, each once, in the order in which they were first added.
+/// What gives names numbers. The names are borrowed.
+pub trait NameNumbers<'a> {
+    // The names that have numbers, in the order of these.
+    ghost names: { Self → List (List ℕ) };
+
+    /// The number of a name; None where it has none. Takes no memory.
+    fn number(&self, name: &'a [u8]) -> Option<usize>
+        ensures { result ≡ position (bytes_eq name.now) (names self.now) };
+
+    /// Gives a name a number, unless it has one, and answers it.
+    ///
+    /// # Errors
+    ///
+    /// Where memory is refused.
+    fn add(&mut self, name: &'a [u8]) -> Result<usize, AllocError>
+        ensures added { OnOk result (names self.new ≡ with_name (names self.old) name.now) }
+        ensures number { IfOk result (λ i. i ≡ number_of (names self.old) name.now) };
+}
+
+/// Numbers of names that are found by hash.
 #[derive(Drop)]
 pub struct NameSet<'a> {
     names: IndexSet<Name<'a>, NameSeed>,
@@ -22,20 +43,82 @@ impl<'a> Model for NameSet<'a> {
 }
 
 impl<'a> NameSet<'a> {
-    /// No names. Takes no memory.
-    pub fn new(alloc: Global) -> NameSet<'a>
+    /// No names, which are to be hashed from a seed. Takes no memory.
+    pub fn new(alloc: Global, seed: NameSeed) -> NameSet<'a>
         ensures { result ≡ [] }
     {
         NameSet {
-            names: IndexSet::with_hasher(alloc, NameSeed::fixed()),
+            names: IndexSet::with_hasher(alloc, seed),
         }
     }
 
-    /// Adds a name, unless it is there.
-    pub fn add(&mut self, name: &'a [u8]) -> Result<(), AllocError>
-        ensures { OnOk result (self.new ≡ with_name self.old name.now) }
+    /// How many names have numbers.
+    pub fn len(&self) -> usize
+        ensures { result ≡ length self.now }
     {
-        self.names.insert(Name(name))?;
+        self.names.len()
+    }
+
+    /// The name that has a number; the empty one where none has it.
+    pub fn get(&self, number: usize) -> &'a [u8]
+        ensures { result.now ≡ slice_index_or self.now number [] }
+    {
+        match self.names.get_index(number) {
+            Some(name) => name.0,
+            None => &[],
+        }
+    }
+
+    /// The number of a name; None where it has none. Takes no memory.
+    pub fn find(&self, name: &[u8]) -> Option<usize>
+        ensures { result ≡ position (bytes_eq name.now) self.now }
+    {
+        self.names.get_index_of(&Name(name))
+    }
+}
+
+impl<'a> NameNumbers<'a> for NameSet<'a> {
+    ghost names = { λ s. s };
+
+    fn number(&self, name: &'a [u8]) -> Option<usize> {
+        self.find(name)
+    }
+
+    fn add(&mut self, name: &'a [u8]) -> Result<usize, AllocError> {
+        let (number, _is_new) = self.names.insert_full(Name(name))?;
+        Ok(number)
+    }
+}
+
+/// Names in the order in which they came.
+#[derive(Drop)]
+pub struct NameList<'a> {
+    names: Vec<&'a [u8]>,
+}
+
+impl<'a> Model for NameList<'a> {
+    ghost use Rattle.std.specs.Prelude.{List, ℕ, map};
+
+    ghost Value = { List (List ℕ) };
+
+    ghost view = { λ s. map (λ n. n.now) s.names.items };
+}
+
+impl<'a> NameList<'a> {
+    /// No names. Takes no memory.
+    pub fn new(alloc: Global) -> NameList<'a>
+        ensures { result ≡ [] }
+    {
+        NameList {
+            names: Vec::new(alloc),
+        }
+    }
+
+    /// Adds a name.
+    pub fn push(&mut self, name: &'a [u8]) -> Result<(), AllocError>
+        ensures { OnOk result (self.new ≡ self.old ++ name.now ∷ []) }
+    {
+        self.names.push(name)?;
         Ok(())
     }
 
@@ -50,16 +133,6 @@ impl<'a> NameSet<'a> {
     pub fn get(&self, i: usize) -> Option<&'a [u8]>
         ensures { option_copied result ≡ slice_get self.now i }
     {
-        match self.names.get_index(i) {
-            Some(name) => Some(name.0),
-            None => None,
-        }
-    }
-
-    /// Whether the name was added.
-    pub fn has(&self, name: &'a [u8]) -> bool
-        ensures { result ≡ is_among self.now name.now }
-    {
-        self.names.contains(&Name(name))
+        self.names.get(i).copied()
     }
 }

@@ -8,23 +8,23 @@ ghost use Rattle.search.specs.Waiting.{Covers};
 use crate::archives::Input;
 use crate::faults::SearchFault;
 use crate::loader::Loader;
+use crate::names::NameNumbers;
 use crate::turns::turn;
 use crate::waits::Waits;
 use std::alloc::Global;
-use symbols::NameTable;
 
 /// A round: a turn of each archive, in order, but for those whose turns take nothing.
-pub fn run_round<'a, T: NameTable<'a>>(
+pub fn run_round<'a, N: NameNumbers<'a>>(
     alloc: Global,
-    loader: &mut Loader<'_, 'a, T>,
+    loader: &mut Loader<'_, 'a, N>,
     waits: &mut Waits<'a>,
     inputs: &[Input<'a>],
 ) -> Result<(), SearchFault>
-    requires known { Knows T.rows loader.old }
+    requires known { Knows N.names loader.old }
     requires archives { All (λ i. i.archive ≡ true) inputs.now }
     requires covers { Covers loader.old inputs.now waits.old }
     ensures later { OnOk result (IsLater loader.old loader.new) }
-    ensures known { OnOk result (Knows T.rows loader.new) }
+    ensures known { OnOk result (Knows N.names loader.new) }
     ensures covers { OnOk result (Covers loader.new inputs.now waits.new) }
     ensures loaded { OnOk result (loaded loader.new ≡ round loader.old.plan.now inputs.now (loaded loader.old)) }
     ensures fault { IfErr result (FailsOn (round loader.old.plan.now inputs.now (loaded loader.old))) }
@@ -38,15 +38,15 @@ pub fn run_round<'a, T: NameTable<'a>>(
 }
 
 /// Rounds of a group of archives, until a whole round takes nothing.
-pub fn run_rounds<'a, T: NameTable<'a>>(
+pub fn run_rounds<'a, N: NameNumbers<'a>>(
     alloc: Global,
-    loader: &mut Loader<'_, 'a, T>,
+    loader: &mut Loader<'_, 'a, N>,
     inputs: &[Input<'a>],
 ) -> Result<(), SearchFault>
-    requires known { Knows T.rows loader.old }
+    requires known { Knows N.names loader.old }
     requires archives { All (λ i. i.archive ≡ true) inputs.now }
     ensures later { OnOk result (IsLater loader.old loader.new) }
-    ensures known { OnOk result (Knows T.rows loader.new) }
+    ensures known { OnOk result (Knows N.names loader.new) }
     ensures loaded { OnOk result (loaded loader.new ≡ rounds loader.old.plan.now inputs.now (loaded loader.old)) }
     ensures fault { IfErr result (FailsOn (rounds loader.old.plan.now inputs.now (loaded loader.old))) }
 {

@@ -9,26 +9,26 @@ ghost use Rattle.search.specs.Waiting.{Covers, IsSpent};
 use crate::archives::Input;
 use crate::faults::SearchFault;
 use crate::loader::Loader;
+use crate::names::NameNumbers;
 use crate::waits::Waits;
 use std::alloc::Global;
-use symbols::NameTable;
 
 /// Takes members of an archive that is searched, and has a number in the group, until none is next.
-fn take_members<'a, T: NameTable<'a>>(
+fn take_members<'a, N: NameNumbers<'a>>(
     alloc: Global,
-    loader: &mut Loader<'_, 'a, T>,
+    loader: &mut Loader<'_, 'a, N>,
     waits: &mut Waits<'a>,
     inputs: &[Input<'a>],
     archive: usize,
     input: &Input<'a>,
 ) -> Result<(), SearchFault>
-    requires known { Knows T.rows loader.old }
+    requires known { Knows N.names loader.old }
     requires archive { input.now.archive ≡ true }
     requires searched { input.now.whole ≡ false }
     requires at { slice_get inputs.now archive ≡ Some input.now }
     requires covers { Covers loader.old inputs.now waits.old }
     ensures later { OnOk result (IsLater loader.old loader.new) }
-    ensures known { OnOk result (Knows T.rows loader.new) }
+    ensures known { OnOk result (Knows N.names loader.new) }
     ensures covers { OnOk result (Covers loader.new inputs.now waits.new) }
     ensures loaded { OnOk result (loaded loader.new ≡ turn loader.old.plan.now input.now (loaded loader.old)) }
     ensures fault { IfErr result (FailsOn (turn loader.old.plan.now input.now (loaded loader.old))) }
@@ -41,15 +41,15 @@ fn take_members<'a, T: NameTable<'a>>(
 }
 
 /// Loads all members of an archive, in the file's order.
-fn take_all<'a, T: NameTable<'a>>(
+fn take_all<'a, N: NameNumbers<'a>>(
     alloc: Global,
-    loader: &mut Loader<'_, 'a, T>,
+    loader: &mut Loader<'_, 'a, N>,
     input: &Input<'a>,
 ) -> Result<(), SearchFault>
-    requires known { Knows T.rows loader.old }
+    requires known { Knows N.names loader.old }
     requires archive { input.now.archive ≡ true }
     ensures later { OnOk result (IsLater loader.old loader.new) }
-    ensures known { OnOk result (Knows T.rows loader.new) }
+    ensures known { OnOk result (Knows N.names loader.new) }
     ensures loaded { OnOk result (loaded loader.new ≡ with_members (loaded loader.old) input.now (archive_members input.now.bytes)) }
     ensures fault { IfErr result (FailsOn (with_members (loaded loader.old) input.now (archive_members input.now.bytes))) }
 {
@@ -61,15 +61,15 @@ fn take_all<'a, T: NameTable<'a>>(
 }
 
 /// A turn of a whole archive.
-fn take_whole<'a, T: NameTable<'a>>(
+fn take_whole<'a, N: NameNumbers<'a>>(
     alloc: Global,
-    loader: &mut Loader<'_, 'a, T>,
+    loader: &mut Loader<'_, 'a, N>,
     input: &Input<'a>,
 ) -> Result<(), SearchFault>
-    requires known { Knows T.rows loader.old }
+    requires known { Knows N.names loader.old }
     requires archive { input.now.archive ≡ true }
     ensures later { OnOk result (IsLater loader.old loader.new) }
-    ensures known { OnOk result (Knows T.rows loader.new) }
+    ensures known { OnOk result (Knows N.names loader.new) }
     ensures spent { OnOk result (IsSpent (loaded loader.new) input.now) }
     ensures loaded { OnOk result (loaded loader.new ≡ turn_of_whole input.now (loaded loader.old)) }
     ensures fault { IfErr result (FailsOn (turn_of_whole input.now (loaded loader.old))) }
@@ -81,20 +81,20 @@ fn take_whole<'a, T: NameTable<'a>>(
 }
 
 /// A turn of an archive, which has a number in the group.
-pub fn turn<'a, T: NameTable<'a>>(
+pub fn turn<'a, N: NameNumbers<'a>>(
     alloc: Global,
-    loader: &mut Loader<'_, 'a, T>,
+    loader: &mut Loader<'_, 'a, N>,
     waits: &mut Waits<'a>,
     inputs: &[Input<'a>],
     archive: usize,
     input: &Input<'a>,
 ) -> Result<(), SearchFault>
-    requires known { Knows T.rows loader.old }
+    requires known { Knows N.names loader.old }
     requires archive { input.now.archive ≡ true }
     requires at { slice_get inputs.now archive ≡ Some input.now }
     requires covers { Covers loader.old inputs.now waits.old }
     ensures later { OnOk result (IsLater loader.old loader.new) }
-    ensures known { OnOk result (Knows T.rows loader.new) }
+    ensures known { OnOk result (Knows N.names loader.new) }
     ensures covers { OnOk result (Covers loader.new inputs.now waits.new) }
     ensures loaded { OnOk result (loaded loader.new ≡ turn loader.old.plan.now input.now (loaded loader.old)) }
     ensures fault { IfErr result (FailsOn (turn loader.old.plan.now input.now (loaded loader.old))) }

@@ -12,12 +12,12 @@ ghost use Rattle.search.specs.Waiting.{AllAwait, AreIdle, Awaits, Covers, NextWa
 use crate::archives::Input;
 use crate::loader::Loader;
 use crate::name_places::{places_of, wake};
+use crate::names::NameNumbers;
 use crate::waiting_places::WaitingPlaces;
 use ar_index::IndexEntry;
 use elf_model::{Name, NameSeed};
 use indexmap::IndexMap;
 use std::alloc::{AllocError, Global};
-use symbols::NameTable;
 
 /// What may give the next members of the archives of a group.
 #[derive(Drop)]
@@ -31,14 +31,14 @@ pub struct Waits<'a> {
 }
 
 /// Lets the entries of an archive wait that give a next member.
-fn add_next<'a, T: NameTable<'a>>(
+fn add_next<'a, N: NameNumbers<'a>>(
     waiting: &mut WaitingPlaces,
-    loader: &Loader<'_, 'a, T>,
+    loader: &Loader<'_, 'a, N>,
     archive: usize,
     item: u64,
     entries: &[IndexEntry<'a>],
 ) -> Result<(), AllocError>
-    requires { Knows T.rows loader.now }
+    requires { Knows N.names loader.now }
     ensures wait { OnOk result (NextWait loader.now item entries.now archive waiting.new) }
     ensures stays { OnOk result ((k q : ℕ) → is_waiting waiting.old k q ≡ true → is_waiting waiting.new k q ≡ true) }
 {
@@ -51,13 +51,13 @@ fn add_next<'a, T: NameTable<'a>>(
 }
 
 /// Lets wait what an archive may give.
-fn add_waiting<'a, T: NameTable<'a>>(
+fn add_waiting<'a, N: NameNumbers<'a>>(
     waiting: &mut WaitingPlaces,
-    loader: &Loader<'_, 'a, T>,
+    loader: &Loader<'_, 'a, N>,
     archive: usize,
     input: &Input<'a>,
 ) -> Result<(), AllocError>
-    requires known { Knows T.rows loader.now }
+    requires known { Knows N.names loader.now }
     requires archive { input.now.archive ≡ true }
     ensures awaited { OnOk result (Awaits loader.now [] archive input.now waiting.new) }
     ensures stays { OnOk result ((k q : ℕ) → is_waiting waiting.old k q ≡ true → is_waiting waiting.new k q ≡ true) }
@@ -73,12 +73,12 @@ fn add_waiting<'a, T: NameTable<'a>>(
 }
 
 /// What the archives of a group may give now.
-fn waiting_now<'a, T: NameTable<'a>>(
+fn waiting_now<'a, N: NameNumbers<'a>>(
     alloc: Global,
-    loader: &Loader<'_, 'a, T>,
+    loader: &Loader<'_, 'a, N>,
     inputs: &[Input<'a>],
 ) -> Result<WaitingPlaces, AllocError>
-    requires known { Knows T.rows loader.now }
+    requires known { Knows N.names loader.now }
     requires archives { All (λ i. i.archive ≡ true) inputs.now }
     ensures { IfOk result (AllAwait loader.now [] inputs.now) }
 {
@@ -90,13 +90,13 @@ fn waiting_now<'a, T: NameTable<'a>>(
 }
 
 /// The offset of the member of an archive's entry that is next; None where it is not, or where there is no such entry.
-fn next_at<'a, T: NameTable<'a>>(
-    loader: &Loader<'_, 'a, T>,
+fn next_at<'a, N: NameNumbers<'a>>(
+    loader: &Loader<'_, 'a, N>,
     item: u64,
     entries: &[IndexEntry<'a>],
     i: usize,
 ) -> Option<u64>
-    requires { Knows T.rows loader.now }
+    requires { Knows N.names loader.now }
     ensures found { IfSome result (λ k. IsSomeAnd (slice_get entries.now i) (λ e. (is_next_of loader.now.plan.now (loaded loader.now) item e ≡ true) × (k ≡ e.offset))) }
     ensures none { IfNone result ((e : archive_file.IndexEntry) → slice_get entries.now i ≡ Some e → is_next_of loader.now.plan.now (loaded loader.now) item e ≡ false) }
 {
@@ -111,14 +111,14 @@ fn next_at<'a, T: NameTable<'a>>(
 
 /// The offset of the member that the first of an archive's entries gives that gives a next one. The places before it
 /// wait no longer.
-fn first_next<'a, T: NameTable<'a>>(
+fn first_next<'a, N: NameNumbers<'a>>(
     waiting: &mut WaitingPlaces,
-    loader: &Loader<'_, 'a, T>,
+    loader: &Loader<'_, 'a, N>,
     archive: usize,
     item: u64,
     entries: &[IndexEntry<'a>],
 ) -> Option<u64>
-    requires known { Knows T.rows loader.now }
+    requires known { Knows N.names loader.now }
     requires wait { NextWait loader.now item entries.now archive waiting.old }
     ensures exact { result ≡ option_map (λ e. e.offset) (find (is_next_of loader.now.plan.now (loaded loader.now) item) entries.now) }
     ensures wait { NextWait loader.now item entries.now archive waiting.new }
@@ -135,12 +135,12 @@ fn first_next<'a, T: NameTable<'a>>(
 
 impl<'a> Waits<'a> {
     /// What may give the next members of archives now.
-    pub fn new<T: NameTable<'a>>(
+    pub fn new<N: NameNumbers<'a>>(
         alloc: Global,
-        loader: &Loader<'_, 'a, T>,
+        loader: &Loader<'_, 'a, N>,
         inputs: &[Input<'a>],
     ) -> Result<Waits<'a>, AllocError>
-        requires known { Knows T.rows loader.now }
+        requires known { Knows N.names loader.now }
         requires archives { All (λ i. i.archive ≡ true) inputs.now }
         ensures { IfOk result (Covers loader.now inputs.now) }
     {
@@ -152,7 +152,7 @@ impl<'a> Waits<'a> {
     }
 
     /// Lets the places wait whose names were asked for meanwhile.
-    fn catch_up<T: NameTable<'a>>(&mut self, loader: &Loader<'_, 'a, T>) -> Result<(), AllocError>
+    fn catch_up<N: NameNumbers<'a>>(&mut self, loader: &Loader<'_, 'a, N>) -> Result<(), AllocError>
         ensures covers { OnOk result ((os : List Opened) → Covers loader.now os self.old → Covers loader.now os self.new) }
         ensures seen { OnOk result (length loader.now.names.requested ≤ self.new.seen) }
     {
@@ -168,14 +168,14 @@ impl<'a> Waits<'a> {
     }
 
     /// The offset of the member of an archive that is searched, and has a number in the group, that is next.
-    pub fn next<T: NameTable<'a>>(
+    pub fn next<N: NameNumbers<'a>>(
         &mut self,
-        loader: &Loader<'_, 'a, T>,
+        loader: &Loader<'_, 'a, N>,
         inputs: &[Input<'a>],
         archive: usize,
         input: &Input<'a>,
     ) -> Result<Option<u64>, AllocError>
-        requires known { Knows T.rows loader.now }
+        requires known { Knows N.names loader.now }
         requires archive { input.now.archive ≡ true }
         requires searched { input.now.whole ≡ false }
         requires at { slice_get inputs.now archive ≡ Some input.now }
@@ -193,9 +193,9 @@ impl<'a> Waits<'a> {
 
     /// The number of the first archive, of those with at least this number, that may take something; the turns of
     /// those before it take nothing.
-    pub fn next_archive<T: NameTable<'a>>(
+    pub fn next_archive<N: NameNumbers<'a>>(
         &mut self,
-        loader: &Loader<'_, 'a, T>,
+        loader: &Loader<'_, 'a, N>,
         inputs: &[Input<'a>],
         from: usize,
     ) -> Result<Option<usize>, AllocError>

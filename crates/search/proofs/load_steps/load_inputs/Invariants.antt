@@ -6,7 +6,7 @@ use Rattle.search.proofs.load_steps.load_inputs.Given as goal
 abbrev pub invariant-loop-at : goal.invariant-loop-at
 invariant-loop-at g l = record {
   later : IsLater l.fn.loader l.loader;
-  known : Knows g.T.NameTable.rows l.loader;
+  known : Knows g.N.NameNumbers.names l.loader;
   within : l.at ≤ length l.inputs;
   rest :
       loaded_steps l.fn.loader.plan.now (steps (drop l.at l.inputs)) (loaded l.loader)

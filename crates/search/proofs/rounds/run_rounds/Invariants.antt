@@ -8,7 +8,7 @@ use Rattle.search.proofs.rounds.run_rounds.Given as goal
 abbrev pub invariant-loop-waits : goal.invariant-loop-waits
 invariant-loop-waits g l = record {
   later : IsLater l.fn.loader l.loader;
-  known : Knows g.T.NameTable.rows l.loader;
+  known : Knows g.N.NameNumbers.names l.loader;
   covers : Covers l.loader l.inputs l.waits;
   rest : rounds l.fn.loader.plan.now l.inputs (loaded l.loader) ≡ rounds l.fn.loader.plan.now l.inputs (loaded l.fn.loader);
 }

@@ -9,7 +9,7 @@ use Rattle.search.proofs.turns.take_members.Given as goal
 abbrev pub invariant-loop-offset : goal.invariant-loop-offset
 invariant-loop-offset g l = record {
   later : IsLater l.fn.loader l.loader;
-  known : Knows g.T.NameTable.rows l.loader;
+  known : Knows g.N.NameNumbers.names l.loader;
   covers : Covers l.loader l.inputs l.waits;
   rest : turn l.fn.loader.plan.now l.input (loaded l.loader) ≡ turn l.fn.loader.plan.now l.input (loaded l.fn.loader);
 }

@@ -9,10 +9,10 @@ use Rattle.search.specs.Opened.{item_view}
 use Rattle.search.specs.declared.opened_items.OpenedItem.{OpenedItem}
 use Rattle.search.proofs.LoadLaws.{objects_fail, unsearchable_fails, whole}
 use Rattle.search.proofs.LostSections.{dropped_in_order}
-use Rattle.search.proofs.load_steps.load_in.Goals as goal
+use Rattle.search.proofs.load_steps.load_seeded.Goals as goal
 
 pub returns-in_err-inputs-clause-fault : goal.returns-in_err-inputs-clause-fault
-returns-in_err-inputs-clause-fault g c =
+returns-in_err-inputs-clause-fault c =
     let p = err_from_is_err_and c.from_residual-in_err-inputs.result c.from_residual-in_err-inputs.ensures.1 in
     let files = files_of c.args.files.now in
     let plan = c.args.plan.now in
@@ -22,7 +22,7 @@ returns-in_err-inputs-clause-fault g c =
     (subst (λ (fs : List File). AreFilesThere fs plan) c.in_ok-index.ensures c.in_ok-items.ensures.files) c.in_err-inputs.ensures.fault)
 
 pub returns-in_err-load_inputs-clause-fault : goal.returns-in_err-load_inputs-clause-fault
-returns-in_err-load_inputs-clause-fault g c =
+returns-in_err-load_inputs-clause-fault c =
     let p = err_from_is_err_and c.from_residual-in_err-load_inputs.result c.from_residual-in_err-load_inputs.ensures.1 in
     let files = files_of c.args.files.now in
     let plan = c.args.plan.now in
@@ -39,25 +39,25 @@ returns-in_err-load_inputs-clause-fault g c =
     }) c.in_err-load_inputs.ensures.fault)
 
 pub returns-clause-loaded : goal.returns-clause-loaded
-returns-clause-loaded g c =
+returns-clause-loaded c =
     let files = files_of c.args.files.now in
     let plan = c.args.plan.now in
     let items : map item_view c.deref.result.now ≡ opened files plan =
     ap (λ (l : List OpenedItem). map item_view l) c.deref.ensures.value ∙ (c.in_ok-items.ensures.opened ∙ ap (λ (fs : List File). opened fs plan) c.in_ok-index.ensures) in
     let inputs : c.deref-2.result.now ≡ opened files plan = c.deref-2.ensures.value ∙ (c.in_ok-inputs.ensures.exact ∙ items) in
     c.in_ok-loaded.ensures.objects
-    ∙ (c.into_objects.ensures
+    ∙ (c.into_parts-objects.ensures.loaded
     ∙ (c.in_ok-load_inputs.ensures.loaded
     ∙ whole files plan c.in_ok-loader.loader.plan.now c.deref-2.result.now (loaded c.in_ok-loader.loader) c.in_ok-loader.ensures.plan inputs c.in_ok-loader.ensures.loaded))
 
 pub returns-clause-rules : goal.returns-clause-rules
-returns-clause-rules g c = follows_rules (files_of c.args.files.now) c.args.plan.now
+returns-clause-rules c = follows_rules (files_of c.args.files.now) c.args.plan.now
 
 pub returns-clause-objects : goal.returns-clause-objects
-returns-clause-objects g c = subst AreObjects (sym (c.in_ok-loaded.ensures.objects ∙ c.into_objects.ensures) ∙ returns-clause-loaded g c) c.in_ok-load_inputs.ensures.known.objects
+returns-clause-objects c = subst AreObjects (sym (c.in_ok-loaded.ensures.objects ∙ c.into_parts-objects.ensures.loaded) ∙ returns-clause-loaded c) c.in_ok-load_inputs.ensures.known.objects
 
 pub returns-clause-groups : goal.returns-clause-groups
-returns-clause-groups g c = subst HaveLawfulGroups (sym (c.in_ok-loaded.ensures.objects ∙ c.into_objects.ensures) ∙ returns-clause-loaded g c) c.in_ok-load_inputs.ensures.known.lawful
+returns-clause-groups c = subst HaveLawfulGroups (sym (c.in_ok-loaded.ensures.objects ∙ c.into_parts-objects.ensures.loaded) ∙ returns-clause-loaded c) c.in_ok-load_inputs.ensures.known.lawful
 
 pub returns-clause-dropped : goal.returns-clause-dropped
-returns-clause-dropped g c = dropped_in_order (files_of c.args.files.now) c.args.plan.now
+returns-clause-dropped c = dropped_in_order (files_of c.args.files.now) c.args.plan.now
