@@ -1,39 +1,27 @@
--- The chosen definitions of the objects, sorted by name, and why they are refused.
+-- The chosen definitions of the objects, and why they are refused.
 use Rattle.std.proofs.Common.{◌≡◌, ℕ, ◌+◌, ◌≤◌, List, [], ◌∷◌, length, refl, sym, ◌∙◌, ap, subst, arith}
-use Rattle.std.specs.Prelude.{IsPermutation, count_by, filter}
-use Rattle.std.specs.Cmp.Lexicographic.{slice_cmp}
-use Rattle.std.specs.List.Sorted.{IsSortedByKey}
-use Rattle.std.specs.Ordering.{nat_cmp}
-use Rattle.std.proofs.lemmas.List.Sorted.{IsPermutation-map}
-use Rattle.elf_model.proofs.RisingNames.{count_permuted}
+use Rattle.std.specs.Prelude.{count_by, filter}
 use Rattle.elf_model.specs.Loading.{LoadedObject}
 use Rattle.elf_model.proofs.ChosenSymbols.{chosen_once}
 use Rattle.elf_model.specs.ChosenSymbols.{chosen_symbols, definitions, is_chosen}
 use Rattle.elf_model.specs.Commons.{Block, block_of, block_symbols, blocks, blocks_from, is_common_symbol}
-use Rattle.elf_model.specs.Resolution.{AreSoundCommons, AreSoundSymbols, IsDuplicate, SymbolOf, has_name}
+use Rattle.elf_model.specs.Resolution.{AreSoundCommons, AreSoundSymbols, IsDuplicate, SymbolOf, has_name, is_common_definition}
 use Rattle.resolve.specs.Blocks.{blocks_by}
 use Rattle.resolve.specs.Defined.{AreDefinitions, HasEachNameOnce, HasNoStrongTwins, is_strong_of}
 use Rattle.resolve.specs.Offered.{is_meant, rows_of}
 use Rattle.resolve.specs.Refusals.{ResolvingFails, IsDuplicateOf}
-use Rattle.resolve.specs.Views.{symbol_view, symbol_views}
+use Rattle.resolve.specs.Views.{symbol_views}
 use Rattle.resolve.specs.declared.entries.SymbolOf as code
 use Rattle.resolve.specs.declared.faults.ResolveFault.{ResolveFault}
 use Rattle.resolve.specs.declared.faults.ResolveFault.TheVariants as error
-use Rattle.resolve.proofs.NamedOnce.{no_twins}
-use Rattle.resolve.proofs.Offers.{filter-agree, meant_chosen, row_extent, strong_counted}
+use Rattle.resolve.proofs.Offers.{commons_extent, filter-agree, meant_chosen, row_extent, strong_counted}
 use Rattle.symbols.specs.Rows.{Rows}
 
--- each name of a permutation is that of one too
-once_moved : (xs ys : List code.SymbolOf) → IsPermutation xs ys → HasEachNameOnce xs → HasEachNameOnce ys
-once_moved xs ys moved once n =
-    let e = count_permuted (has_name n) (symbol_views xs) (symbol_views ys) (IsPermutation-map symbol_view xs ys moved) in
-    let u = once n in omega (arith, e, u)
-
--- the blocks of symbols by the rows of all definitions
-blocks_by-blocks : (L : List LoadedObject) (k : ℕ) (ss : List SymbolOf) → blocks_by (rows_of (definitions L)) (length L) k ss ≡ blocks_from L k ss
+-- the blocks of symbols by the rows of the common definitions
+blocks_by-blocks : (L : List LoadedObject) (k : ℕ) (ss : List SymbolOf) → blocks_by (rows_of (filter is_common_definition (definitions L))) (length L) k ss ≡ blocks_from L k ss
 blocks_by-blocks L k [] = refl
 blocks_by-blocks L k (s ∷ ss) =
-    ap (λ (e : ℕ × ℕ). made e.0 e.1 ∷ blocks_by (rows_of (definitions L)) (length L) (k + 1) ss) (row_extent L s.name)
+    ap (λ (e : ℕ × ℕ). made e.0 e.1 ∷ blocks_by (rows_of (filter is_common_definition (definitions L))) (length L) (k + 1) ss) (commons_extent (definitions L) s.name ∙ row_extent L s.name)
     ∙ ap (λ (bs : List Block). block_of L k s ∷ bs) (blocks_by-blocks L (k + 1) ss)
   where
     made : ℕ → ℕ → Block
@@ -62,29 +50,23 @@ module _ (L : List LoadedObject) (all : List code.SymbolOf) (is : symbol_views a
 
   -- their blocks, by the rows
   pub kept_blocks :
-      (rows : Rows) (kept : List code.SymbolOf) (object : ℕ) → rows ≡ rows_of (symbol_views all) →
-      symbol_views kept ≡ filter (is_meant rows) (symbol_views all) → object ≡ length L →
+      (rows : Rows) (kept : List code.SymbolOf) (object : ℕ) → rows ≡ rows_of (filter is_common_definition (symbol_views all)) →
+      symbol_views kept ≡ filter (is_meant (rows_of (symbol_views all))) (symbol_views all) → object ≡ length L →
       blocks_by rows object 0 (filter is_common_symbol (symbol_views kept)) ≡ blocks L
   kept_blocks rows kept object offered keeps past =
-      ap (λ (ss : List SymbolOf). blocks_by rows object 0 (filter is_common_symbol ss)) (kept_chosen rows kept offered keeps)
-      ∙ ap (λ (r : Rows). blocks_by r object 0 (block_symbols L)) (offered ∙ ap rows_of is)
-      ∙ ap (λ (k : ℕ). blocks_by (rows_of (definitions L)) k 0 (block_symbols L)) past
+      ap (λ (ss : List SymbolOf). blocks_by rows object 0 (filter is_common_symbol ss)) (kept_chosen (rows_of (symbol_views all)) kept refl keeps)
+      ∙ ap (λ (r : Rows). blocks_by r object 0 (block_symbols L)) (offered ∙ ap (λ (ss : List SymbolOf). rows_of (filter is_common_definition ss)) is)
+      ∙ ap (λ (k : ℕ). blocks_by (rows_of (filter is_common_definition (definitions L))) k 0 (block_symbols L)) past
       ∙ blocks_by-blocks L 0 (block_symbols L)
 
-  -- and sorted
-  pub sorted_chosen :
-      (rows : Rows) (kept sorted : List code.SymbolOf) → rows ≡ rows_of (symbol_views all) →
+  -- they are the chosen ones
+  pub are_chosen :
+      (rows : Rows) (kept : List code.SymbolOf) → rows ≡ rows_of (symbol_views all) →
       symbol_views kept ≡ filter (is_meant rows) (symbol_views all) →
-      IsPermutation kept sorted → IsSortedByKey (λ s. s.name.now) (slice_cmp nat_cmp) sorted →
-      HasNoStrongTwins (symbol_views all) → AreSoundCommons L → AreSoundSymbols L → AreDefinitions L sorted
-  sorted_chosen rows kept sorted offered keeps moved up once commons sound =
-      let chosen_kept = kept_chosen rows kept offered keeps in
-      let kept_once : HasEachNameOnce kept =
-      λ n. subst (λ (ss : List SymbolOf). count_by (has_name n) ss ≤ 1) (sym chosen_kept) (chosen_once L n) in
+      HasNoStrongTwins (symbol_views all) → AreSoundCommons L → AreSoundSymbols L → AreDefinitions L kept
+  are_chosen rows kept offered keeps once commons sound =
       record {
-        same = subst (λ (ss : List SymbolOf). IsPermutation ss (symbol_views sorted)) chosen_kept (IsPermutation-map symbol_view kept sorted moved);
-        rising = up;
-        no_twins = no_twins sorted (once_moved kept sorted moved kept_once);
+        same = kept_chosen rows kept offered keeps;
         commons = commons;
         sound = sound;
         unique = λ n.
@@ -96,5 +78,4 @@ module _ (L : List LoadedObject) (all : List code.SymbolOf) (is : symbol_views a
 -- each name of the definitions is that of one
 pub named_once : (L : List LoadedObject) (strong : List code.SymbolOf) → AreDefinitions L strong → HasEachNameOnce strong
 named_once L strong d n =
-    let e = count_permuted (has_name n) (chosen_symbols L) (symbol_views strong) d.same in
-    let u = chosen_once L n in omega (arith, e, u)
+    subst (λ (ss : List SymbolOf). count_by (has_name n) ss ≤ 1) (sym d.same) (chosen_once L n)

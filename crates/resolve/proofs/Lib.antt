@@ -1,18 +1,18 @@
-pub mod Cells
 pub mod Definitions
 pub mod Gathered
 mod GatheringNames
 pub mod Located
+pub mod NamedNumbers
 pub mod NamedOnce
 pub mod Offers
 mod OutputWalks
+pub mod OwnerLaws
+pub mod PlacesByNumber
 mod ArrayNames
 mod BlockNames
-pub mod RankedPlaces
 pub mod Rests
 pub mod Searched
 pub mod SoundWalk
 mod StrongOnes
 pub mod Walks
-pub mod WrittenPlaces
 pub mod ThreadFlags

@@ -1,5 +1,5 @@
 -- Names of which each is that of one definition at most.
-use Rattle.std.proofs.Common.{◌≡◌, ℕ, zero, suc, ◌+◌, ◌<◌, ◌≤◌, ◌⊎◌, inl, inr, Bool, true, false, cond, List, [], ◌∷◌, length, get_or, refl, ◌∙◌, ap, subst, arith}
+use Rattle.std.proofs.Common.{◌≡◌, ℕ, zero, suc, ◌<◌, ◌≤◌, ◌⊎◌, inl, inr, Bool, true, false, cond, List, [], ◌∷◌, length, get_or, refl, ◌∙◌, ap, subst, arith}
 use Rattle.std.specs.Prelude.{All, count_by, find, None, Some}
 use Rattle.std.proofs.lemmas.Bool.{and_parts}
 use Rattle.std.proofs.lemmas.List.{get_or-map, get_or_default, length-map}
@@ -7,7 +7,7 @@ use Rattle.std.proofs.lemmas.List.Elements.{All-map}
 use Rattle.std.proofs.lemmas.Slice.Eq.{bytes_eq-Decides}
 use Rattle.elf_model.proofs.RisingNames.{counted}
 use Rattle.elf_model.specs.Resolution.{SymbolOf, has_name, is_strong}
-use Rattle.resolve.specs.Defined.{HasEachNameOnce, HasNoStrongTwins, HasNoTwins, is_strong_of}
+use Rattle.resolve.specs.Defined.{HasEachNameOnce, HasNoStrongTwins, is_strong_of}
 use Rattle.resolve.specs.Views.{symbol_view, symbol_views}
 use Rattle.resolve.specs.declared.entries.SymbolOf as code
 use Rattle.resolve.proofs.Located.{All-found}
@@ -114,10 +114,6 @@ module _ (xs : List code.SymbolOf) (once : HasEachNameOnce xs) where
       let two = two_counted (has_name n) (symbol_views xs) i j (symbol_view d) low (omega (arith, high, l)) first second in
       let few = once n in
       omega (arith, two, few)
-
-  -- those of neighbours too
-  pub no_twins : HasNoTwins xs
-  no_twins k d within same = apart k (k + 1) d (omega arith) within same
 
 -- what is told of the name of a place where a strong one stands, whatever stands past the end
 abbrev pub IsOnceAt : List code.SymbolOf → code.SymbolOf → Type 0

@@ -216,6 +216,27 @@ module _ (ss : List SymbolOf) (n : List ℕ) where
       ∙ ap (λ (cs : List Candidate). greatest (map (λ c. c.align) (filter is_common cs))) (candidates_named n ss)
       ∙ ap greatest (numbers_named is_common asks kind_common n (λ c. c.align) (λ s. s.entry.st_value) (λ s. refl) ss)
 
+-- the common ones of definitions tell the extent of a block
+pub commons_extent : (ss : List SymbolOf) (n : List ℕ) → ◌≡◌ {A = ℕ × ℕ} (extent_in (rows_of (filter is_common_definition ss)) n) (extent_in (rows_of ss) n)
+commons_extent ss n =
+    pair
+    (row_size (filter is_common_definition ss) n ∙ (ap (λ (xs : List SymbolOf). greatest (map (λ s. s.entry.st_size) xs)) same ∙ sym (row_size ss n)))
+    (ap (λ (m : ℕ). max 1 m)
+    (row_align (filter is_common_definition ss) n ∙ (ap (λ (xs : List SymbolOf). greatest (map (λ s. s.entry.st_value) xs)) same ∙ sym (row_align ss n))))
+  where
+    pair : {a b c d : ℕ} → a ≡ c → b ≡ d → ◌≡◌ {A = ℕ × ℕ} (a, b) (c, d)
+    pair e f = cc
+
+    kept : (a b c : Bool) → (b && ((not a && b) && c)) ≡ ((not a && b) && c)
+    kept a true c = refl
+    kept true false c = refl
+    kept false false c = refl
+
+    same : filter (λ s. asks s && has_name n s) (filter is_common_definition ss) ≡ filter (λ s. asks s && has_name n s) ss
+    same =
+        filter-filter is_common_definition (λ s. asks s && has_name n s) ss
+        ∙ filter-agree (λ s. is_common_definition s && (asks s && has_name n s)) (λ s. asks s && has_name n s) ss (λ s. kept (resolution.is_strong s) (is_common_definition s) (has_name n s))
+
 -- a symbol is of one kind
 not_strong_weak : (s : SymbolOf) → resolution.is_strong s ≡ true → is_weak_definition s ≡ true → ⊥
 not_strong_weak s strong weak = grind (arith, nat_tests)

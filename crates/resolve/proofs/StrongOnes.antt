@@ -6,10 +6,14 @@ use Rattle.std.proofs.lemmas.Bool.{and_from, and_parts, eq-eqb, false≢true}
 use Rattle.elf_model.specs.ObjectFile.{null_symbol}
 use Rattle.elf_model.specs.Resolution.{SymbolOf, has_name, is_strong}
 use Rattle.elf_model.specs.declared.references.SymbolRef.{SymbolRef}
+use Rattle.search.specs.Loads.{LoadedPlan}
 use Rattle.resolve.specs.Defined.{HasNoStrongTwins, is_strong_of}
-use Rattle.resolve.specs.Offered.{chosen_in, is_meant, is_referred, is_strong_or_meant, is_twin_in, ref_of, rows_of}
+use Rattle.resolve.specs.Offered.{chosen_in, is_meant, is_referred, is_twin_in, ref_of, rows_of}
+use Rattle.resolve.specs.Owned.{AreOwnersOf, is_owner, is_strong_or_owner, owner_in}
 use Rattle.resolve.specs.declared.entries.SymbolOf as code
+use Rattle.resolve.specs.declared.owners.Owner.{Owner}
 use Rattle.resolve.proofs.NamedOnce.{found_itself, itself}
+use Rattle.resolve.proofs.OwnerLaws.{owner_meant}
 use Rattle.resolve.proofs.Offers.{row, row_strong, twin_found, twin_missed}
 use Rattle.symbols.specs.Rows.{Rows, no_row}
 
@@ -31,8 +35,13 @@ module _ (ss : List SymbolOf) (rows : Rows) (offered : rows ≡ rows_of ss) (onc
       ap (λ (o : Option SymbolRef). option_map_or (is_referred s) o false) chosen
       ∙ and_from (s.object == s.object) (s.number == s.number) (eq-eqb s.object s.object refl) (eq-eqb s.number s.number refl)
 
-  pub kept_meant : filter (is_strong_or_meant rows) ss ≡ filter (is_meant rows) ss
-  kept_meant = filter_alike (is_strong_or_meant rows) (is_meant rows) ss (λ k d within. by (is_strong (get_or ss k d)) (is_meant rows (get_or ss k d)) (strong_meant k d within))
+  pub kept_meant : (l : LoadedPlan) (owners : List Owner) → AreOwnersOf l ss owners → filter (is_strong_or_owner l owners) ss ≡ filter (is_meant rows) ss
+  kept_meant l owners owned =
+      filter_alike (is_strong_or_owner l owners) (is_meant rows) ss (λ k d within.
+      let s = get_or ss k d in
+      let same : is_owner l owners (get_or ss k d) ≡ is_meant rows (get_or ss k d) =
+      owner_meant l owners rows s (owned.each k d within ∙ ap (λ (r : Rows). owner_in r (get_or ss k d).name) (sym offered)) in
+      ap (λ (b : Bool). is_strong (get_or ss k d) || b) same ∙ by (is_strong (get_or ss k d)) (is_meant rows (get_or ss k d)) (strong_meant k d within))
     where
       by : (b c : Bool) → (b ≡ true → c ≡ true) → (b || c) ≡ c
       by true c meant = sym (meant refl)

@@ -1,10 +1,8 @@
 -- The flags of the chosen definitions, one for each.
-use Rattle.std.proofs.Common.{◌≡◌, ◌∙◌, ℕ, ◌+◌, Bool, List, [], ◌∷◌, ◌++◌, Option, None, Some, ap, map, option_map, refl, sym}
+use Rattle.std.proofs.Common.{◌≡◌, ◌∙◌, ℕ, Bool, List, Option, None, Some, ap, option_map, refl}
 use Rattle.std.specs.Prelude.{slice_get}
-use Rattle.std.specs.Option.{option_and_then}
 use Rattle.std.proofs.lemmas.Option.{slice_get-map}
 use Rattle.elf_model.specs.Loading.{LoadedObject}
-use Rattle.elf_model.specs.Resolution.{SymbolOf}
 use Rattle.resolve.specs.declared.entries.SymbolOf as code
 use Rattle.resolve.specs.Places.{at_some}
 use Rattle.resolve.specs.Threads.{AreThreads, is_thread_chosen}

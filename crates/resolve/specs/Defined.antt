@@ -1,18 +1,10 @@
 -- What the linker's own definitions of names are.
-use Rattle.std.specs.Prelude.{◌≡◌, ℕ, ◌+◌, ◌<◌, ◌≤◌, ◌&&◌, Bool, List, slice_index_or, length, IsPermutation, count_by}
-use Rattle.std.specs.Cmp.Lexicographic.{slice_cmp}
-use Rattle.std.specs.List.Sorted.{IsSortedByKey}
-use Rattle.std.specs.Ordering.{nat_cmp}
+use Rattle.std.specs.Prelude.{◌≡◌, ℕ, ◌≤◌, ◌&&◌, Bool, List, count_by}
 use Rattle.elf_model.specs.Loading.{LoadedObject}
 use Rattle.elf_model.specs.ChosenSymbols.{chosen_symbols}
 use Rattle.elf_model.specs.Resolution.{AreSoundCommons, AreSoundSymbols, AreUnique, SymbolOf, has_name, is_strong}
 use Rattle.resolve.specs.declared.entries.SymbolOf as code
 use Rattle.resolve.specs.Views.{symbol_views}
-
--- no two neighbours have one name
-abbrev pub HasNoTwins : List code.SymbolOf → Type 0
-HasNoTwins xs =
-    (k : ℕ) (d : code.SymbolOf) → k + 1 < length xs → (slice_index_or xs k d).name.now ≡ (slice_index_or xs (k + 1) d).name.now → ⊥
 
 -- no name is that of two
 abbrev pub HasEachNameOnce : List code.SymbolOf → Type 0
@@ -26,11 +18,9 @@ is_strong_of name s = is_strong s && has_name name s
 abbrev pub HasNoStrongTwins : List SymbolOf → Type 0
 HasNoStrongTwins ss = (name : List ℕ) → count_by (is_strong_of name) ss ≤ 1
 
--- the chosen definitions in the order of their names
+-- the chosen definitions, in load order
 pub record AreDefinitions (objects : List LoadedObject) (chosen : List code.SymbolOf) : Type 0 where
-  pub same : IsPermutation (chosen_symbols objects) (symbol_views chosen)
-  pub rising : IsSortedByKey (λ s. s.name.now) (slice_cmp nat_cmp) chosen
-  pub no_twins : HasNoTwins chosen
+  pub same : symbol_views chosen ≡ chosen_symbols objects
   pub commons : AreSoundCommons objects
   pub sound : AreSoundSymbols objects
   pub unique : AreUnique objects

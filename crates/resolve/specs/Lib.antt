@@ -3,6 +3,7 @@ pub mod Defined
 pub mod Meaning
 pub mod Offered
 pub mod Outputs
+pub mod Owned
 pub mod Places
 pub mod Refusals
 pub mod Sound

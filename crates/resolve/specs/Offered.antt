@@ -51,10 +51,6 @@ is_referred s r = s.object == r.object.0 && s.number == r.symbol
 abbrev pub is_meant : Rows → SymbolOf → Bool
 is_meant rows s = option_map_or (is_referred s) (chosen_in rows s.name) false
 
--- a symbol is strong, or the one that its name means
-abbrev pub is_strong_or_meant : Rows → SymbolOf → Bool
-is_strong_or_meant rows s = is_strong s || is_meant rows s
-
 -- a symbol is strong, and its name that of two strong ones
 abbrev pub is_twin_in : Rows → SymbolOf → Bool
 is_twin_in rows s = is_strong s && (unwrap_or (rows s.name) no_row).twice

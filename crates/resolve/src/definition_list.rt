@@ -1,8 +1,5 @@
-//! The definitions of names: sound, in the order of their names, each name with one.
-ghost use Rattle.std.specs.Prelude.{◌≡◌, ◌++◌, IfErr, IfOk, IsPermutation, OnOk, filter};
-ghost use Rattle.std.specs.Cmp.Lexicographic.{slice_cmp};
-ghost use Rattle.std.specs.List.Sorted.{IsSortedByKey};
-ghost use Rattle.std.specs.Ordering.{nat_cmp};
+//! The definitions of names: sound, in load order, each name with one.
+ghost use Rattle.std.specs.Prelude.{◌≡◌, ◌++◌, IfErr, IfOk, OnOk, filter};
 ghost use Rattle.elf_model.specs.ObjectFile.{symbols};
 ghost use Rattle.elf_model.specs.ChosenSymbols.{definitions, is_definition};
 ghost use Rattle.elf_model.specs.Commons.{blocks};
@@ -10,17 +7,17 @@ ghost use Rattle.elf_model.specs.Resolution.{symbols_from};
 ghost use Rattle.search.specs.Views.{loaded_view, loaded_views};
 ghost use Rattle.resolve.specs.Blocks.{block_views};
 ghost use Rattle.resolve.specs.Defined.{AreDefinitions};
-ghost use Rattle.resolve.specs.Offered.{rows_of};
 ghost use Rattle.resolve.specs.Refusals.{IsDuplicateOf, ResolvingFails};
 ghost use Rattle.resolve.specs.Views.{symbol_views};
 ghost use Rattle.symbols.specs.Rows.{no_rows};
 
 use crate::blocks::{Block, blocks_of};
-use crate::candidates::{first_twin, keep_meant, offer_all};
+use crate::candidates::{first_twin, keep_meant, offer_commons};
 use crate::entries::{SymbolOf, is_definition, is_dropped, symbol_in};
 use crate::faults::ResolveFault;
+use crate::owners::owners_of;
 use crate::soundness::{are_sound, are_sound_commons};
-use search::LoadedObject;
+use search::{Loaded, LoadedObject};
 use std::alloc::{AllocError, Global};
 use symbols::NameTable;
 
@@ -69,16 +66,6 @@ pub fn definitions<'a>(
     Ok(found)
 }
 
-/// The same definitions in the order of their names.
-fn by_name<'a>(found: Vec<SymbolOf<'a>>) -> Vec<SymbolOf<'a>>
-    ensures same { IsPermutation found.entry.items result.items }
-    ensures rising { IsSortedByKey (λ s. s.name.now) (slice_cmp nat_cmp) result.items }
-{
-    let mut sorted = found;
-    sorted.sort_unstable_by_key(|s| s.name);
-    sorted
-}
-
 /// The refusal for a name with two strong definitions.
 fn duplicate(alloc: Global, name: &[u8]) -> ResolveFault
     ensures { IsDuplicateOf name.now result }
@@ -89,27 +76,27 @@ fn duplicate(alloc: Global, name: &[u8]) -> ResolveFault
     }
 }
 
-/// The chosen definitions of the objects, in the order of their names, and the common blocks.
+/// The chosen definitions of the objects, and the common blocks.
 #[derive(Drop)]
 pub struct Defined<'a> {
     pub symbols: Vec<SymbolOf<'a>>,
     pub blocks: Vec<Block<'a>>,
 }
 
-/// The chosen definitions of the objects and their common blocks, after all definitions were offered to a table that
-/// was empty: BadCommon and BadSymbol where a symbol isn't sound, Duplicate where a name has two strong definitions,
-/// Memory where memory is refused.
+/// The chosen definitions of the objects and their common blocks. The common ones are offered to a table that was empty, which
+/// finds the size and the alignment of each block. BadCommon and BadSymbol where a symbol isn't sound, Duplicate where a name
+/// has two strong definitions, Memory where memory is refused.
 pub fn define<'a, T: NameTable<'a>>(
     alloc: Global,
-    objects: &[LoadedObject<'a>],
+    loaded: &Loaded<'a>,
     table: &mut T,
 ) -> Result<Defined<'a>, ResolveFault>
     requires { T.rows table.old ≡ no_rows }
-    ensures defined { IfOk result (λ d. AreDefinitions (loaded_views objects.now) d.symbols.items) }
-    ensures blocks { IfOk result (λ d. block_views d.blocks.items ≡ blocks (loaded_views objects.now)) }
-    ensures offered { OnOk result (T.rows table.new ≡ rows_of (definitions (loaded_views objects.now))) }
-    ensures fault { IfErr result (ResolvingFails (loaded_views objects.now)) }
+    ensures defined { IfOk result (λ d. AreDefinitions loaded.now.objects d.symbols.items) }
+    ensures blocks { IfOk result (λ d. block_views d.blocks.items ≡ blocks loaded.now.objects) }
+    ensures fault { IfErr result (ResolvingFails loaded.now.objects) }
 {
+    let objects = loaded.objects();
     if !are_sound_commons(objects) {
         return Err(ResolveFault::BadCommon);
     }
@@ -117,14 +104,15 @@ pub fn define<'a, T: NameTable<'a>>(
         return Err(ResolveFault::BadSymbol);
     }
     let mut found = definitions(alloc, objects)?;
-    offer_all(table, &found)?;
-    if let Some(name) = first_twin(table, &found) {
+    let owners = owners_of(alloc, loaded, &found)?;
+    if let Some(name) = first_twin(loaded, &owners, &found) {
         return Err(duplicate(alloc, name));
     }
-    keep_meant(table, &mut found);
+    offer_commons(table, &found)?;
+    keep_meant(loaded, &owners, &mut found);
     let blocks = blocks_of(alloc, table, objects.len() as u64, &found)?;
     Ok(Defined {
-        symbols: by_name(found),
+        symbols: found,
         blocks,
     })
 }

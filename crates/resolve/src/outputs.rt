@@ -10,7 +10,7 @@ ghost use Rattle.resolve.specs.Outputs.{AreOutputs, is_output_of};
 
 use crate::output_names::output_name;
 use elf_model::SectionHeader;
-use elf_read::Object;
+use elf_read::ObjectFile;
 use search::LoadedObject;
 use std::alloc::{AllocError, Global};
 use std::collections::BTreeSet;
@@ -31,7 +31,7 @@ pub fn add_name<'a>(names: &mut BTreeSet<&'a [u8]>, name: &'a [u8]) -> Result<()
 }
 
 /// The output name of section `i`, that of the empty name where it has none.
-fn output_name_at<'a>(object: &Object<'a>, i: usize) -> &'a [u8]
+fn output_name_at<'a>(object: &ObjectFile<'a>, i: usize) -> &'a [u8]
     ensures { result.now ≡ output_name (unwrap_or (section_name object.now i) []) }
 {
     output_name(object.section_name(i).unwrap_or(&[]))

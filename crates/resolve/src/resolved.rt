@@ -1,23 +1,20 @@
 //! What names and symbols mean among the loaded objects.
-ghost use Rattle.std.specs.Prelude.{◌≡◌, ℕ, List, IfErr, IfNone, IfOk, IfSome, OnOk, OnSome, None, Some, cond, false, find, is_some};
-ghost use Rattle.std.specs.Cmp.Lexicographic.{slice_cmp};
+ghost use Rattle.std.specs.Prelude.{◌≡◌, ℕ, List, IfErr, IfNone, IfOk, IfSome, OnOk, OnSome, None, Some, cond, false, is_some};
 ghost use Rattle.std.specs.List.{slice_get};
-ghost use Rattle.std.specs.List.Sorted.{IsSortedByKey};
 ghost use Rattle.std.specs.Option.{option_and_then, option_map, option_map_or};
-ghost use Rattle.std.specs.Ordering.{nat_cmp};
 ghost use Rattle.elf_model.specs.Commons.{block_named, blocks};
 ghost use Rattle.elf_model.specs.LinkerNames.{bound_of};
 ghost use Rattle.elf_model.specs.Meaning as meaning;
 ghost use Rattle.elf_model.specs.Meaning.{is_in_thread_storage, object_meaning};
-ghost use Rattle.elf_model.specs.Resolution.{AreSoundCommons, AreSoundSymbols, AreUnique, IsEntry, chosen, has_name, is_undefined, symbol_of};
+ghost use Rattle.elf_model.specs.Resolution.{AreSoundCommons, AreSoundSymbols, AreUnique, IsEntry, chosen, is_undefined, symbol_of};
 ghost use Rattle.elf_model.specs.Slots.{target_meaning};
 ghost use Rattle.search.specs.Views.{loaded_view};
 ghost use Rattle.resolve.specs.Blocks.{block_in, block_view, block_views};
-ghost use Rattle.resolve.specs.Defined.{AreDefinitions, HasEachNameOnce};
+ghost use Rattle.resolve.specs.Defined.{AreDefinitions};
 ghost use Rattle.resolve.specs.Meaning.{chosen_definition, definition_at, itself_at, named_at, target_at, unchosen_at};
 ghost use Rattle.resolve.specs.Refusals.{ResolvingFails};
 ghost use Rattle.resolve.specs.Threads.{is_thread_chosen};
-ghost use Rattle.resolve.specs.Views.{meaning_view, symbol_view, symbol_views, target_view};
+ghost use Rattle.resolve.specs.Views.{meaning_view, symbol_view, target_view};
 ghost use Rattle.symbols.specs.Rows.{no_rows};
 
 use crate::blocks::{Block, index_of};
@@ -27,9 +24,7 @@ use crate::definition_list::define;
 use crate::entries::{SymbolOf, is_common, is_local, is_undefined, symbol_in};
 use crate::faults::ResolveFault;
 use crate::outputs::output_names_of;
-use crate::places::{Index, write_places};
-use crate::ranks::ranks_of;
-use crate::rows::place_at;
+use crate::places::{place_at, place_named, places_of};
 use crate::sections::is_in_thread_section;
 use crate::targets::target_of;
 use crate::threads::threads_of;
@@ -48,7 +43,7 @@ pub struct Resolved<'a> {
     loaded: Loaded<'a>,
     definitions: Vec<SymbolOf<'a>>,
     threads: Vec<bool>,
-    places: Vec<Vec<usize>>,
+    places: Vec<usize>,
     blocks: Vec<Block<'a>>,
     named_blocks: Rc<BTreeMap<&'a [u8], Block<'a>>>,
     outputs: BTreeSet<&'a [u8]>,
@@ -64,7 +59,7 @@ impl<'a> Model for Resolved<'a> {
 
     ghost view = { λ r. r.loaded.objects };
 
-    ghost invariant = { λ r. AreTables r.loaded.objects r.definitions.items r.threads.items r.places.items r.blocks.items r.named_blocks.value r.outputs };
+    ghost invariant = { λ r. AreTables r.loaded r.definitions.items r.threads.items r.places.items r.blocks.items r.named_blocks.value r.outputs };
 }
 
 /// An index of common blocks that several values hold.
@@ -80,8 +75,8 @@ fn shared<'a>(
     }
 }
 
-/// Resolves the names of what is loaded by any table of names: offers it each definition once, in
-/// load order, and looks each symbol's name up once, but for LOCAL ones. The table is empty at the start, and is used up.
+/// Resolves the names of what is loaded, by their numbers. A table of names, which is empty at the start, finds the common
+/// symbols of each block, and is used up.
 ///
 /// # Errors
 ///
@@ -98,14 +93,8 @@ pub fn resolve_in<'a, T: NameTable<'a> + Drop>(
 {
     let objects = loaded.objects();
     let mut offered = table;
-    let defined = define(alloc, objects, &mut offered)?;
-    let mut places = ranks_of(alloc, objects, &defined.symbols)?;
-    let index = Index {
-        objects,
-        definitions: &defined.symbols,
-        table: &offered,
-    };
-    write_places(&index, &mut places);
+    let defined = define(alloc, loaded, &mut offered)?;
+    let places = places_of(alloc, loaded, &defined.symbols)?;
     let threads = threads_of(alloc, objects, &defined.symbols)?;
     let named_blocks = index_of(alloc, &defined.blocks)?;
     let outputs = output_names_of(alloc, objects)?;
@@ -142,18 +131,6 @@ fn definition_at<'a>(definitions: &[SymbolOf<'a>], place: usize) -> Option<Symbo
     definitions.get(place).copied()
 }
 
-/// The definition that has a name, among those in the order of their names; None where none has.
-fn found<'a>(definitions: &[SymbolOf<'a>], name: &[u8]) -> Option<SymbolOf<'a>>
-    requires rising { IsSortedByKey (λ s. s.name.now) (slice_cmp nat_cmp) definitions.now }
-    requires once { HasEachNameOnce definitions.now }
-    ensures { option_map symbol_view result ≡ find (has_name name.now) (symbol_views definitions.now) }
-{
-    match definitions.binary_search_by(|s| s.name.cmp(name)) {
-        Ok(place) => definition_at(definitions, place),
-        Err(_) => None,
-    }
-}
-
 /// Symbol `j` of an object itself, where it is defined.
 fn itself<'a>(
     number: u64,
@@ -170,25 +147,19 @@ fn itself<'a>(
 }
 
 impl<'a> Resolved<'a> {
-    /// The chosen definitions, in the order of their names.
+    /// The chosen definitions, in load order.
     pub fn definitions(&self) -> &[SymbolOf<'a>]
         ensures { AreDefinitions self.now result.now }
     {
         self.definitions.as_slice()
     }
 
-    /// The chosen definitions, in the order of their names, without the rest.
-    pub fn into_definitions(self) -> Vec<SymbolOf<'a>>
-        ensures { AreDefinitions self.entry result.items }
-    {
-        self.definitions
-    }
-
     /// The symbol that defines a name; None where no object does.
     pub fn symbol(&self, name: &[u8]) -> Option<SymbolOf<'a>>
         ensures { option_map symbol_view result ≡ chosen self.now name.now }
     {
-        found(&self.definitions, name)
+        let place = place_named(&self.loaded, &self.places, name)?;
+        definition_at(&self.definitions, place)
     }
 
     /// The common blocks, in load order.
@@ -242,25 +213,25 @@ impl<'a> Resolved<'a> {
     {
         let object = symbol.object.0 as usize;
         let number = symbol.symbol as usize;
-        match self.chosen_meaning(object, number) {
+        match self.chosen_meaning(symbol) {
             Some(meaning) => Some(meaning),
             None => self.unchosen(object, number),
         }
     }
 
     /// What the chosen definition of a symbol's name means, for one that isn't LOCAL.
-    fn chosen_meaning(&self, object: usize, number: usize) -> Option<Definition<'a>>
-        ensures { option_map meaning_view result ≡ option_and_then (meaning.meant self.now) (named_at self.now object number) }
+    fn chosen_meaning(&self, symbol: SymbolRef) -> Option<Definition<'a>>
+        ensures { option_map meaning_view result ≡ option_and_then (meaning.meant self.now) (named_at self.now symbol.object.0 symbol.symbol) }
     {
-        let symbol = self.named(object, number)?;
-        self.meant(&symbol)
+        let chosen = self.named(symbol)?;
+        self.meant(&chosen)
     }
 
     /// The chosen definition of a symbol's name, for one that isn't LOCAL.
-    fn named(&self, object: usize, number: usize) -> Option<SymbolOf<'a>>
-        ensures { option_map symbol_view result ≡ named_at self.now object number }
+    fn named(&self, symbol: SymbolRef) -> Option<SymbolOf<'a>>
+        ensures { option_map symbol_view result ≡ named_at self.now symbol.object.0 symbol.symbol }
     {
-        let place = place_at(&self.places, object, number)?;
+        let place = place_at(&self.loaded, &self.places, symbol)?;
         definition_at(&self.definitions, place)
     }
 
@@ -268,12 +239,7 @@ impl<'a> Resolved<'a> {
     pub fn is_chosen(&self, symbol: SymbolRef) -> bool
         ensures { result ≡ is_some (named_at self.now symbol.object.0 symbol.symbol) }
     {
-        let place = place_at(
-            &self.places,
-            symbol.object.0 as usize,
-            symbol.symbol as usize,
-        );
-        match place {
+        match place_at(&self.loaded, &self.places, symbol) {
             Some(place) => self.definitions.get(place).is_some(),
             None => false,
         }
@@ -285,11 +251,7 @@ impl<'a> Resolved<'a> {
     pub fn chosen_thread(&self, symbol: SymbolRef) -> Option<bool>
         ensures { result ≡ option_map (is_thread_chosen self.now) (named_at self.now symbol.object.0 symbol.symbol) }
     {
-        let place = place_at(
-            &self.places,
-            symbol.object.0 as usize,
-            symbol.symbol as usize,
-        )?;
+        let place = place_at(&self.loaded, &self.places, symbol)?;
         self.threads.get(place).copied()
     }
 

@@ -1,0 +1,66 @@
+-- The numbers of the names of definitions.
+use Rattle.std.proofs.Common.{◌≡◌, ℕ, ◌<◌, Bool, true, cond, List, [], length, get_or, sym, ◌∙◌, ap, subst, arith}
+use Rattle.std.specs.Prelude.{All, None, Option, Some, option_map, slice_get, unwrap_or}
+use Rattle.std.specs.Option.{option_and_then}
+use Rattle.std.proofs.lemmas.Bool.Decides.{nat_tests}
+use Rattle.std.proofs.lemmas.List.Elements.{All-filter, filter_passes}
+use Rattle.elf_model.proofs.Listed.{All-unmap}
+use Rattle.elf_model.specs.ChosenSymbols.{definitions, is_chosen, is_definition}
+use Rattle.elf_model.specs.Loading.{LoadedObject, is_global_or_weak}
+use Rattle.elf_model.specs.ObjectFile.{name_of_symbol, symbols}
+use Rattle.elf_model.specs.Resolution.{SymbolOf, all_symbols}
+use Rattle.elf_model.specs.declared.records.Symbol.{Symbol}
+use Rattle.search.specs.Loads.{LoadedPlan}
+use Rattle.search.specs.Names.{is_among, number_of}
+use Rattle.search.specs.Numbers.{AreNamed, name_number}
+use Rattle.resolve.specs.Defined.{AreDefinitions}
+use Rattle.resolve.specs.Views.{symbol_view, symbol_views}
+use Rattle.resolve.specs.declared.entries.SymbolOf as code
+use Rattle.resolve.proofs.Located.{IsAt, found_at, located}
+
+-- a definition isn't LOCAL
+shared_definition : (s : SymbolOf) → is_definition s ≡ true → is_global_or_weak s.entry ≡ true
+shared_definition s is = grind (arith, nat_tests)
+
+-- a symbol whose name has the number that is told of it
+pub record IsNumbered (l : LoadedPlan) (s : SymbolOf) : Type 0 where
+  pub number : name_number l s.object s.number ≡ Some (number_of l.names s.name)
+  pub among : AreNamed l → is_among l.names s.name ≡ true
+
+module _ (l : LoadedPlan) where
+  abbrev told : LoadedObject → ℕ → Option ℕ
+  told o j = option_and_then (λ x. cond (is_global_or_weak x) (Some (number_of l.names (name_of_symbol o.bytes x))) None) (slice_get (symbols o.bytes) j)
+
+  numbered : (s : SymbolOf) → IsAt l.objects s → is_definition s ≡ true → IsNumbered l s
+  numbered s at is =
+      let f = found_at l.objects s.object s.number s at.is in
+      let entry : s.entry ≡ f.1 = ap (λ (t : SymbolOf). t.entry) (sym f.4) in
+      let shared : is_global_or_weak f.1 ≡ true = ap is_global_or_weak (sym entry) ∙ shared_definition s is in
+      let called : name_of_symbol f.0.bytes f.1 ≡ s.name =
+      sym (ap (λ (o : Option Symbol). unwrap_or (option_map (name_of_symbol f.0.bytes) o) []) f.3) ∙ ap (λ (t : SymbolOf). t.name) f.4 in
+      record {
+        number =
+            ap (option_and_then (λ (o : LoadedObject). told o s.number)) f.2
+            ∙ (ap (option_and_then (λ (x : Symbol). cond {A = Option ℕ} (is_global_or_weak x) (Some (number_of l.names (name_of_symbol f.0.bytes x))) None)) f.3
+            ∙ (ap (λ (b : Bool). cond {A = Option ℕ} b (Some (number_of l.names (name_of_symbol f.0.bytes f.1))) None) shared
+            ∙ ap (λ (n : List ℕ). Some (number_of l.names n)) called));
+        among = λ named. sym (ap (is_among l.names) called) ∙ named s.object s.number f.0 f.1 f.2 f.3 shared;
+      }
+
+  all_numbered : All (IsNumbered l) (definitions l.objects)
+  all_numbered m e within =
+      numbered (get_or (definitions l.objects) m e)
+      (All-filter is_definition (IsAt l.objects) (all_symbols l.objects) (located l.objects) m e within)
+      (filter_passes is_definition (all_symbols l.objects) m e within)
+
+  -- of each definition of a list of all, and of one of the chosen ones
+  pub defined_numbers : (ss : List SymbolOf) → ss ≡ definitions l.objects → All (IsNumbered l) ss
+  defined_numbers ss is = subst (All (IsNumbered l)) (sym is) all_numbered
+
+  pub defined_number : (xs : List code.SymbolOf) → symbol_views xs ≡ definitions l.objects → (k : ℕ) (d : code.SymbolOf) → k < length xs → IsNumbered l (symbol_view (get_or xs k d))
+  defined_number xs is = All-unmap (IsNumbered l) symbol_view xs (defined_numbers (symbol_views xs) is)
+
+  pub chosen_number : (xs : List code.SymbolOf) → AreDefinitions l.objects xs → (k : ℕ) (d : code.SymbolOf) → k < length xs → IsNumbered l (symbol_view (get_or xs k d))
+  chosen_number xs d =
+      All-unmap (IsNumbered l) symbol_view xs
+      (subst (All (IsNumbered l)) (sym d.same) (All-filter (is_chosen l.objects) (IsNumbered l) (definitions l.objects) all_numbered))

@@ -1,0 +1,5 @@
+use Rattle.resolve.proofs.PlacesByNumber.{AreFirstPlaces}
+use Rattle.resolve.proofs.places.places_of.Given as goal
+
+abbrev pub invariant-loop-index : goal.invariant-loop-index
+invariant-loop-index l = AreFirstPlaces l.loaded.names l.definitions l.index l.places.items
