@@ -11,6 +11,7 @@ ghost use Rattle.got_tls.specs.Views.{wants};
 use crate::requests::{Asker, slot_of};
 use crate::slot_table::Slot;
 use elf_model::{Rela, SectionHeader};
+use elf_read::RelaRun;
 use indexmap::IndexSet;
 use resolve::Resolved;
 use search::LoadedObject;
@@ -45,13 +46,13 @@ fn add_entries<'a>(
     asked: &mut Asked<'a>,
     asker: &Asker<'_, 'a>,
     target: u64,
-    entries: &[Rela],
+    entries: &RelaRun<'_>,
 ) -> Result<(), AllocError>
     requires { IsAsker asker.now }
     ensures { OnOk result (wants asked.new ≡ with_relocations (all_asked asker.now) (wants asked.old) (map (relocation_of asker.now.number (asking asker.now) target) (filter is_some_kind entries.now))) }
 {
     for i in 0..entries.len() {
-        let entry = entries[i];
+        let entry = entries.at(i);
         if entry.kind() == 0 {
             continue;
         }
@@ -73,7 +74,7 @@ fn add_section<'a>(
     ensures { OnOk result (wants asked.new ≡ with_relocations (all_asked asker.now) (wants asked.old) (relocations_in asker.now.number (asking asker.now) header.now)) }
 {
     let entries = asker.loaded.entries_of(i, header);
-    add_entries(asked, asker, header.sh_info as u64, entries)
+    add_entries(asked, asker, header.sh_info as u64, &entries)
 }
 
 /// Takes in what the kept relocations of an object ask for.

@@ -1,12 +1,19 @@
 //! The kinds of relocations: the width of their fields, how their values are made, which values fit, and what they ask of
 //! the GOT (AMD64 psABI 4.4, "Relocation Types"; the ranges of all kinds but 32 and 32S are the profile's).
-ghost use Rattle.std.specs.Prelude.{◌≡◌, ◌==◌, false, find, option_copied, option_map};
+ghost use Rattle.std.specs.Prelude.{◌≡◌, false, option_map};
+ghost use Rattle.std.specs.List.{slice_get};
 ghost use Rattle.std.specs.Option.{option_and_then, option_map_or};
 ghost use Rattle.elf_model.specs.Relocation as relocation;
 ghost use Rattle.elf_model.specs.Slots as wanted;
 ghost use Rattle.got_tls.specs.Kinds.{formula_view, kind_view};
 
-use elf_model::SlotKind;
+use elf_model::{
+    R_X86_64_8, R_X86_64_16, R_X86_64_32, R_X86_64_32S, R_X86_64_64, R_X86_64_GOT32,
+    R_X86_64_GOT64, R_X86_64_GOTOFF64, R_X86_64_GOTPC32, R_X86_64_GOTPC64, R_X86_64_GOTPCREL,
+    R_X86_64_GOTPCREL64, R_X86_64_GOTPCRELX, R_X86_64_GOTTPOFF, R_X86_64_PC8, R_X86_64_PC16,
+    R_X86_64_PC32, R_X86_64_PC64, R_X86_64_PLT32, R_X86_64_REX_GOTPCRELX, R_X86_64_SIZE32,
+    R_X86_64_SIZE64, R_X86_64_TPOFF32, R_X86_64_TPOFF64, SlotKind,
+};
 
 /// What a value is made of: S the symbol's value, A the addend, P the field's address, G the slot's offset
 /// in the GOT, GOT its address, Z the symbol's size, T the offset of S from the thread pointer.
@@ -67,41 +74,79 @@ impl Kind {
     }
 }
 
+/// The number, width, formula and range of a kind.
 type Row = (u32, u8, Formula, Range);
 
-/// The number, width, formula and range of each kind.
-static KINDS: [Row; 24] = [
-    (1, 8, Formula::Symbol, Range::Always),
-    (2, 4, Formula::SymbolFromPlace, Range::Signed),
-    (3, 4, Formula::Slot, Range::Signed),
-    (4, 4, Formula::SymbolFromPlace, Range::Signed),
-    (9, 4, Formula::SlotFromPlace, Range::Signed),
-    (10, 4, Formula::Symbol, Range::Unsigned),
-    (11, 4, Formula::Symbol, Range::Signed),
-    (12, 2, Formula::Symbol, Range::Either),
-    (13, 2, Formula::SymbolFromPlace, Range::Signed),
-    (14, 1, Formula::Symbol, Range::Either),
-    (15, 1, Formula::SymbolFromPlace, Range::Signed),
-    (18, 8, Formula::ThreadOffset, Range::Always),
-    (22, 4, Formula::ThreadSlotFromPlace, Range::Signed),
-    (23, 4, Formula::ThreadOffset, Range::Signed),
-    (24, 8, Formula::SymbolFromPlace, Range::Always),
-    (25, 8, Formula::SymbolFromGot, Range::Always),
-    (26, 4, Formula::GotFromPlace, Range::Signed),
-    (27, 8, Formula::Slot, Range::Always),
-    (28, 8, Formula::SlotFromPlace, Range::Always),
-    (29, 8, Formula::GotFromPlace, Range::Always),
-    (32, 4, Formula::Size, Range::Unsigned),
-    (33, 8, Formula::Size, Range::Always),
-    (41, 4, Formula::SlotFromPlace, Range::Signed),
-    (42, 4, Formula::SlotFromPlace, Range::Signed),
+/// The kinds, each at the place of its number.
+static KINDS: [Option<Row>; 43] = [
+    None,
+    Some((R_X86_64_64, 8, Formula::Symbol, Range::Always)),
+    Some((R_X86_64_PC32, 4, Formula::SymbolFromPlace, Range::Signed)),
+    Some((R_X86_64_GOT32, 4, Formula::Slot, Range::Signed)),
+    Some((R_X86_64_PLT32, 4, Formula::SymbolFromPlace, Range::Signed)),
+    None,
+    None,
+    None,
+    None,
+    Some((R_X86_64_GOTPCREL, 4, Formula::SlotFromPlace, Range::Signed)),
+    Some((R_X86_64_32, 4, Formula::Symbol, Range::Unsigned)),
+    Some((R_X86_64_32S, 4, Formula::Symbol, Range::Signed)),
+    Some((R_X86_64_16, 2, Formula::Symbol, Range::Either)),
+    Some((R_X86_64_PC16, 2, Formula::SymbolFromPlace, Range::Signed)),
+    Some((R_X86_64_8, 1, Formula::Symbol, Range::Either)),
+    Some((R_X86_64_PC8, 1, Formula::SymbolFromPlace, Range::Signed)),
+    None,
+    None,
+    Some((R_X86_64_TPOFF64, 8, Formula::ThreadOffset, Range::Always)),
+    None,
+    None,
+    None,
+    Some((
+        R_X86_64_GOTTPOFF,
+        4,
+        Formula::ThreadSlotFromPlace,
+        Range::Signed,
+    )),
+    Some((R_X86_64_TPOFF32, 4, Formula::ThreadOffset, Range::Signed)),
+    Some((R_X86_64_PC64, 8, Formula::SymbolFromPlace, Range::Always)),
+    Some((R_X86_64_GOTOFF64, 8, Formula::SymbolFromGot, Range::Always)),
+    Some((R_X86_64_GOTPC32, 4, Formula::GotFromPlace, Range::Signed)),
+    Some((R_X86_64_GOT64, 8, Formula::Slot, Range::Always)),
+    Some((
+        R_X86_64_GOTPCREL64,
+        8,
+        Formula::SlotFromPlace,
+        Range::Always,
+    )),
+    Some((R_X86_64_GOTPC64, 8, Formula::GotFromPlace, Range::Always)),
+    None,
+    None,
+    Some((R_X86_64_SIZE32, 4, Formula::Size, Range::Unsigned)),
+    Some((R_X86_64_SIZE64, 8, Formula::Size, Range::Always)),
+    None,
+    None,
+    None,
+    None,
+    None,
+    None,
+    None,
+    Some((R_X86_64_GOTPCRELX, 4, Formula::SlotFromPlace, Range::Signed)),
+    Some((
+        R_X86_64_REX_GOTPCRELX,
+        4,
+        Formula::SlotFromPlace,
+        Range::Signed,
+    )),
 ];
 
-/// The first row of a number.
-fn row_of<'b>(rows: &'b [Row], number: u32) -> Option<&'b Row>
-    ensures { option_copied result ≡ find (λ row. row.0 == number) rows.entry.now }
+/// The row of a number.
+fn row_of(rows: &[Option<Row>], number: u32) -> Option<Row>
+    ensures { result ≡ option_and_then (λ row. row) (slice_get rows.now number) }
 {
-    rows.iter().find(|row| row.0 == number)
+    match rows.get(number as usize) {
+        Some(row) => *row,
+        None => None,
+    }
 }
 
 /// What kind of slot of the GOT a formula asks for: one for a value where it has G, and None where it hasn't.

@@ -13,12 +13,12 @@ ghost use Rattle.got_tls.specs.Views.{slot_view};
 use crate::kinds::{asked_slot, asks_of_got};
 use crate::slot_table::Slot;
 use elf_model::{ObjectId, Rela, STB_LOCAL, SymbolRef};
-use elf_read::Object;
+use elf_read::ObjectFile;
 use resolve::{Resolved, target_of};
 use search::LoadedObject;
 
 /// Whether symbol `j` is LOCAL, as one that there isn't is taken to be.
-fn is_local(object: &Object<'_>, j: usize) -> bool
+fn is_local(object: &ObjectFile<'_>, j: usize) -> bool
     ensures { result ≡ (binding (slice_index_or (symbols object.now) j null_symbol) == 0) }
 {
     object.symbol(j).st_info / 16 == STB_LOCAL

@@ -12,7 +12,7 @@ ghost use Rattle.layout.specs.PieceLists.{ArePieces, got_as};
 ghost use Rattle.layout.specs.Views.{piece_view, piece_views};
 
 use elf_model::{SHF_ALLOC, SHF_WRITE, SHT_NOBITS, SHT_PROGBITS, SectionHeader};
-use elf_read::Object;
+use elf_read::ObjectFile;
 use resolve::Block;
 use search::LoadedObject;
 use std::alloc::{AllocError, Global};
@@ -39,7 +39,12 @@ pub struct Pieces<'a> {
 }
 
 /// Section `i` of object `number` as a piece.
-pub fn piece_of<'a>(number: u64, object: &Object<'a>, i: usize, header: SectionHeader) -> Piece<'a>
+pub fn piece_of<'a>(
+    number: u64,
+    object: &ObjectFile<'a>,
+    i: usize,
+    header: SectionHeader,
+) -> Piece<'a>
     ensures { piece_view result ≡ pieces.piece_of number object.now i header }
 {
     Piece {

@@ -1,6 +1,6 @@
 -- What a reference to a symbol is whose name an object defines.
-use Rattle.std.proofs.Common.{◌≡◌, ◌≢◌, ◌∙◌, ◌&&◌, ℕ, Bool, true, false, not, cond, List, Option, None, Some, ap, option_map, refl, subst, sym}
-use Rattle.std.specs.Prelude.{IsSomeAnd, IsTrue, is_some}
+use Rattle.std.proofs.Common.{◌≡◌, ◌∙◌, ℕ, Bool, true, false, cond, List, Option, None, Some, ap, option_map, refl, subst, sym}
+use Rattle.std.specs.Prelude.{IsSomeAnd, is_some}
 use Rattle.std.specs.Option.{option_and_then, option_map_or, option_or}
 use Rattle.std.proofs.lemmas.Bool.{false≢true}
 use Rattle.std.proofs.lemmas.Option.{none-some, same_Some}
@@ -10,7 +10,6 @@ use Rattle.elf_model.specs.Loading.{LoadedObject}
 use Rattle.elf_model.specs.Meaning.{Common, Linker, Meaning, Symbol, is_in_thread_storage, meant}
 use Rattle.elf_model.specs.Relocation.{IsMixed, definition_of, is_local, symbol_at}
 use Rattle.elf_model.specs.Resolution.{SymbolOf, chosen, is_undefined}
-use Rattle.elf_model.specs.declared.bound.Bound.{Bound}
 use Rattle.elf_model.proofs.Listing.{chosen_means}
 use Rattle.resolve.specs.Meaning.{named_at, named_of}
 use Rattle.resolve.specs.Threads.{is_thread_chosen}

@@ -51,6 +51,14 @@ fitting_fails objects w whole rest here more error.Overflow parts l f = λ all.
     let k = subst (LeavesToFit objects w whole) parts l in f (All-parts (Fits objects w) here more (k.back all)).0
 fitting_fails objects w whole rest here more _ parts l f = absurd f
 
+-- of relocations that fit where others do
+pub fitting_moved :
+    (objects : List LoadedObject) (w : Where) (rs whole : List Relocation) (e : RelocFault) →
+    (All (Fits objects w) whole → All (Fits objects w) rs) → FittingFails objects w rs e → FittingFails objects w whole e
+fitting_moved objects w rs whole error.Memory fit f = tt
+fitting_moved objects w rs whole error.Overflow fit f = λ all. f (fit all)
+fitting_moved objects w rs whole _ fit f = absurd f
+
 -- one that doesn't fit
 pub one_fails : (objects : List LoadedObject) (w : Where) (r : Relocation) → (Fits objects w r → ⊥) → FittingFails objects w (r ∷ []) error.Overflow
 one_fails objects w r never = λ all. never (All-head (Fits objects w) r [] all)

@@ -1,15 +1,15 @@
 pub mod ChosenReferences
 pub mod Fitted
 pub mod Judged
+pub mod KeptRelas
 pub mod ObjectFields
 pub mod ObjectRows
 pub mod Overlaid
 pub mod OwnParts
 pub mod RisingRows
-pub mod RowLists
 pub mod Searched
-pub mod RowCounts
 pub mod Rows
+pub mod RowSteps
 pub mod ThreadSums
 pub mod Wanted
 pub mod WantedParts

@@ -2,7 +2,6 @@
 use Rattle.std.proofs.Common.{◌≡◌, ℕ, ◌+◌, ◌<◌, ◌≤◌, ◌⊎◌, inl, inr, Bool, true, false, List, [], ◌∷◌, ◌++◌, Option, Some, None, Err, IfErr, Result, get_or, length, nat_lt, option_map, refl, subst, sym, ap, ◌∙◌, arith}
 use Rattle.std.specs.Prelude.{All, AllPairs, IsSome, find, unwrap_or}
 use Rattle.std.specs.List.{slice_get}
-use Rattle.std.specs.Global.{Vec}
 use Rattle.std.proofs.lemmas.Bool.{ltb-false, ltb-true}
 use Rattle.std.proofs.lemmas.List.{get_or_append_left, get_or_push, length-append}
 use Rattle.std.proofs.lemmas.List.Elements.{All-weaker}
@@ -22,23 +21,24 @@ use Rattle.relocate.proofs.Searched.{find-moved}
 use Rattle.relocate.proofs.Wanted.{patch_found, patches_apart, patches_narrow}
 use Rattle.relocate.specs.Patches.{AreDisjoint, IsPatchRow, IsRising, covers}
 use Rattle.relocate.specs.Values.{ArePatchRows, ArePatches, FittingFails, HasFields, ValuesFail, patch_of, patches_in, where_in, row_at, row_in}
+use Rattle.relocate.specs.declared.object_rows.ObjectPatches.{ObjectPatches}
 use Rattle.relocate.specs.declared.patch.Patch.{Patch}
 
 -- the rows of the first n objects
-pub record AreFirstRows (objects : List LoadedObject) (w : Where) (n : ℕ) (rows : List (Vec (Vec Patch))) : Type 0 where
+pub record AreFirstRows (objects : List LoadedObject) (w : Where) (n : ℕ) (rows : List ObjectPatches) : Type 0 where
   pub count : length rows ≡ n
   pub each :
-      (k : ℕ) (o : LoadedObject) (d : Vec (Vec Patch)) → k < n → slice_get objects k ≡ Some o →
-      ArePatchRows objects w (relocations_from k o) (get_or rows k d).items
+      (k : ℕ) (o : LoadedObject) (d : ObjectPatches) → k < n → slice_get objects k ≡ Some o →
+      ArePatchRows objects w (relocations_from k o) (get_or rows k d)
 
-pub no_rows : (objects : List LoadedObject) (w : Where) (rows : List (Vec (Vec Patch))) → rows ≡ [] → AreFirstRows objects w 0 rows
+pub no_rows : (objects : List LoadedObject) (w : Where) (rows : List ObjectPatches) → rows ≡ [] → AreFirstRows objects w 0 rows
 no_rows objects w rows none = record {
-  count = ap (λ (v : List (Vec (Vec Patch))). length v) none;
+  count = ap (λ (v : List ObjectPatches). length v) none;
   each = λ k o d low there. absurd (omega (arith, low));
 }
 
 pub rows_all :
-    (b : Basis) (objects : List LoadedObject) (n : ℕ) (rows : List (Vec (Vec Patch))) → b.objects ≡ objects → AreLawfulRelocations objects →
+    (b : Basis) (objects : List LoadedObject) (n : ℕ) (rows : List ObjectPatches) → b.objects ≡ objects → AreLawfulRelocations objects →
     n ≡ length objects → AreFirstRows objects (where_in b) n rows → ArePatches b rows
 rows_all b objects n rows same lawful whole first =
     let long = ap (λ (os : List LoadedObject). length os) same in
@@ -48,7 +48,7 @@ rows_all b objects n rows same lawful whole first =
       each = λ k o d there.
           let here = subst (λ (os : List LoadedObject). slice_get os k ≡ Some o) same there in
           let low = slice_get_within objects k o here in
-          subst (λ (os : List LoadedObject). ArePatchRows os (where_in b) (relocations_from k o) (get_or rows k d).items)
+          subst (λ (os : List LoadedObject). ArePatchRows os (where_in b) (relocations_from k o) (get_or rows k d))
           (sym same) (first.each k o d (omega (arith, low, whole)) here);
     }
 
@@ -59,16 +59,16 @@ record IsRowOf (b : Basis) (k s : ℕ) (row : List Patch) : Type 0 where
   pub is : IsPatchRow (patches_in b.objects (where_in b) (relocations_from k own) s) row
 
 -- or there is no such object
-row_cases : (b : Basis) (rows : List (Vec (Vec Patch))) (k s : ℕ) → ArePatches b rows → IsRowOf b k s (row_in rows k s) ⊎ ((row_in rows k s ≡ []) × (length b.objects ≤ k))
+row_cases : (b : Basis) (rows : List ObjectPatches) (k s : ℕ) → ArePatches b rows → IsRowOf b k s (row_in rows k s) ⊎ ((row_in rows k s ≡ []) × (length b.objects ≤ k))
 row_cases b rows k s are = by (slice_get_cases b.objects k).1 (slice_get_cases rows k).1
   where
     by :
         ((o : LoadedObject) × (k < length b.objects) × (slice_get b.objects k ≡ Some o) × (get_or b.objects k o ≡ o)) ⊎ ((length b.objects ≤ k) × (slice_get b.objects k ≡ None)) →
-        ((row : Vec (Vec Patch)) × (k < length rows) × (slice_get rows k ≡ Some row) × (get_or rows k row ≡ row)) ⊎ ((length rows ≤ k) × (slice_get rows k ≡ None)) →
+        ((row : ObjectPatches) × (k < length rows) × (slice_get rows k ≡ Some row) × (get_or rows k row ≡ row)) ⊎ ((length rows ≤ k) × (slice_get rows k ≡ None)) →
         IsRowOf b k s (row_in rows k s) ⊎ ((row_in rows k s ≡ []) × (length b.objects ≤ k))
     by (inl o) (inl row) =
-        let own = subst (λ (v : Vec (Vec Patch)). ArePatchRows b.objects (where_in b) (relocations_from k o.0) v.items) row.3 (are.each k o.0 row.0 o.2) in
-        let here : row_in rows k s ≡ row_at row.0.items s = ap (λ (v : Option (Vec (Vec Patch))). unwrap_or (option_map (λ w. row_at w.items s) v) []) row.2 in
+        let own = subst (λ (v : ObjectPatches). ArePatchRows b.objects (where_in b) (relocations_from k o.0) v) row.3 (are.each k o.0 row.0 o.2) in
+        let here : row_in rows k s ≡ row_at row.0 s = ap (λ (v : Option (ObjectPatches)). unwrap_or (option_map (λ w. row_at w s) v) []) row.2 in
         inl (record {
           own = o.0;
           there = o.2;
@@ -76,21 +76,21 @@ row_cases b rows k s are = by (slice_get_cases b.objects k).1 (slice_get_cases r
         })
     by (inl o) (inr past) = let low = o.1 in let behind = past.0 in let count = are.count in absurd (omega (arith, low, behind, count))
     by (inr past) (inl row) = let low = row.1 in let behind = past.0 in let count = are.count in absurd (omega (arith, low, behind, count))
-    by (inr past) (inr none) = inr (ap (λ (v : Option (Vec (Vec Patch))). unwrap_or (option_map (λ w. row_at w.items s) v) []) none.1, past.0)
+    by (inr past) (inr none) = inr (ap (λ (v : Option (ObjectPatches)). unwrap_or (option_map (λ w. row_at w s) v) []) none.1, past.0)
 
 -- the relocations of an object among all
 part_of : (b : Basis) (k : ℕ) (o : LoadedObject) → slice_get b.objects k ≡ Some o → IsPart k (relocations_from k o) (relocations b.objects)
 part_of b k o there = own_part k 0 k b.objects o (omega arith) there
 
 apart_of :
-    (b : Basis) (rows : List (Vec (Vec Patch))) (k s : ℕ) (o : LoadedObject) → ArePatches b rows → slice_get b.objects k ≡ Some o →
+    (b : Basis) (rows : List ObjectPatches) (k s : ℕ) (o : LoadedObject) → ArePatches b rows → slice_get b.objects k ≡ Some o →
     AllPairs AreDisjoint (patches_in b.objects (where_in b) (relocations_from k o) s)
 apart_of b rows k s o are there =
     let rs = relocations_from k o in
     patches_apart b.objects (where_in b) k s rs (own_object k o) (pairs_own AreFieldsApart k rs (relocations b.objects) (part_of b k o there) are.lawful.apart)
 
 -- the fields of a row rise
-pub row_rises : (b : Basis) (rows : List (Vec (Vec Patch))) (k s : ℕ) → ArePatches b rows → IsRising (row_in rows k s)
+pub row_rises : (b : Basis) (rows : List ObjectPatches) (k s : ℕ) → ArePatches b rows → IsRising (row_in rows k s)
 row_rises b rows k s are = by (row_cases b rows k s are)
   where
     by : IsRowOf b k s (row_in rows k s) ⊎ ((row_in rows k s ≡ []) × (length b.objects ≤ k)) → IsRising (row_in rows k s)
@@ -103,7 +103,7 @@ row_rises b rows k s are = by (row_cases b rows k s are)
     by (inr none) = subst IsRising (sym none.0) none_rise
 
 -- the patch that has a byte is that of the relocation that has it
-pub row_has_fields : (b : Basis) (rows : List (Vec (Vec Patch))) (k s : ℕ) → ArePatches b rows → HasFields b.objects (where_in b) k s (row_in rows k s)
+pub row_has_fields : (b : Basis) (rows : List ObjectPatches) (k s : ℕ) → ArePatches b rows → HasFields b.objects (where_in b) k s (row_in rows k s)
 row_has_fields b rows k s are j = by (row_cases b rows k s are)
   where
     by :
@@ -126,32 +126,32 @@ row_has_fields b rows k s are j = by (row_cases b rows k s are)
 
 -- a row more
 pub row_more :
-    (objects : List LoadedObject) (w : Where) (n : ℕ) (o : LoadedObject) (rows new : List (Vec (Vec Patch))) (row : Vec (Vec Patch)) →
+    (objects : List LoadedObject) (w : Where) (n : ℕ) (o : LoadedObject) (rows new : List ObjectPatches) (row : ObjectPatches) →
     new ≡ rows ++ row ∷ [] → slice_get objects n ≡ Some o →
-    ArePatchRows objects w (relocations_from n o) row.items → AreFirstRows objects w n rows →
+    ArePatchRows objects w (relocations_from n o) row → AreFirstRows objects w n rows →
     AreFirstRows objects w (n + 1) new
 row_more objects w n o rows new row pushed there here first = record {
-  count = ap (λ (v : List (Vec (Vec Patch))). length v) pushed ∙ (length-append rows (row ∷ []) ∙ ap (λ (k : ℕ). k + 1) first.count);
+  count = ap (λ (v : List ObjectPatches). length v) pushed ∙ (length-append rows (row ∷ []) ∙ ap (λ (k : ℕ). k + 1) first.count);
   each = λ k p d low at. by k p d low at (nat_lt k n) refl;
 }
   where
     by :
-        (k : ℕ) (p : LoadedObject) (d : Vec (Vec Patch)) → k < n + 1 → slice_get objects k ≡ Some p → (t : Bool) → nat_lt k n ≡ t →
-        ArePatchRows objects w (relocations_from k p) (get_or new k d).items
+        (k : ℕ) (p : LoadedObject) (d : ObjectPatches) → k < n + 1 → slice_get objects k ≡ Some p → (t : Bool) → nat_lt k n ≡ t →
+        ArePatchRows objects w (relocations_from k p) (get_or new k d)
     by k p d low at true e =
         let before = ltb-true k n e in
         let count = first.count in
-        subst (λ (v : Vec (Vec Patch)). ArePatchRows objects w (relocations_from k p) v.items)
-        (sym (ap (λ (v : List (Vec (Vec Patch))). get_or v k d) pushed ∙ get_or_append_left rows (row ∷ []) d k (omega (arith, before, count))))
+        subst (λ (v : ObjectPatches). ArePatchRows objects w (relocations_from k p) v)
+        (sym (ap (λ (v : List ObjectPatches). get_or v k d) pushed ∙ get_or_append_left rows (row ∷ []) d k (omega (arith, before, count))))
         (first.each k p d before at)
     by k p d low at false e =
         let behind = ltb-false k n e in
         let last : n ≡ k = omega (arith, low, behind) in
         let same = same_Some o p (sym there ∙ (ap (slice_get objects) last ∙ at)) in
-        subst (λ (v : Vec (Vec Patch)). ArePatchRows objects w (relocations_from k p) v.items)
-        (sym (ap (λ (v : List (Vec (Vec Patch))). get_or v k d) pushed ∙ get_or_push rows row d k (first.count ∙ last)))
-        (subst (λ (q : LoadedObject). ArePatchRows objects w (relocations_from k q) row.items) same
-        (subst (λ (m : ℕ). ArePatchRows objects w (relocations_from m o) row.items) last here))
+        subst (λ (v : ObjectPatches). ArePatchRows objects w (relocations_from k p) v)
+        (sym (ap (λ (v : List ObjectPatches). get_or v k d) pushed ∙ get_or_push rows row d k (first.count ∙ last)))
+        (subst (λ (q : LoadedObject). ArePatchRows objects w (relocations_from k q) row) same
+        (subst (λ (m : ℕ). ArePatchRows objects w (relocations_from m o) row) last here))
 
 -- relocations of known kinds
 pub all_known : (objects : List LoadedObject) → AreLawfulRelocations objects → All (λ r. IsSome (relocation_kind r)) (relocations objects)

@@ -1,6 +1,8 @@
 pub mod LocalUses
 pub mod Fields
+pub mod KeptRelas
 pub mod Kinds
+pub mod ObjectRows
 pub mod Patches
 pub mod References
 pub mod Values

@@ -1,22 +1,21 @@
 -- The values that relocations want in a layout, as patches, and why there are none.
-use Rattle.std.specs.Prelude.{◌≡◌, ◌==◌, ◌+◌, ◌%◌, ◌^◌, ◌≤◌, ◌⊎◌, ℕ, Bool, List, [], Some, All, cond, filter, find, length, map, option_map, slice_index_or, unwrap_or}
+use Rattle.std.specs.Prelude.{◌≡◌, ◌==◌, ◌+◌, ◌%◌, ◌^◌, ℕ, Bool, List, [], Some, All, filter, find, length, map, option_map, slice_index, slice_index_or, slice_range, unwrap_or}
 use Rattle.std.specs.List.{slice_get}
-use Rattle.std.specs.Global.{Vec}
 use Rattle.elf_model.specs.Loading.{LoadedObject}
 use Rattle.elf_model.specs.OwnLayout.{OwnValuesFit, own_where}
-use Rattle.elf_model.specs.ObjectFile.{sections}
 use Rattle.elf_model.specs.Placement.{Where}
-use Rattle.elf_model.specs.Relocation.{AreLawfulRelocations, Relocation, is_in_field, is_kept_rela, relocations, relocations_from, width_of}
+use Rattle.elf_model.specs.Relocation.{AreLawfulRelocations, Relocation, is_in_field, relocations, relocations_from, width_of}
 use Rattle.elf_model.specs.RelocationValues.{Fits, value_of}
 use Rattle.elf_model.specs.Slots.{Request, slot_value}
 use Rattle.elf_model.specs.ThreadStorage.{block_in}
-use Rattle.elf_model.specs.declared.records.SectionHeader.{SectionHeader}
 use Rattle.relocate.specs.declared.faults.RelocFault.{RelocFault}
 use Rattle.relocate.specs.declared.faults.RelocFault.TheVariants as error
 use Rattle.layout.specs.Placements.{Basis}
 use Rattle.got_tls.specs.ThreadStorage.{thread_pointer}
 use Rattle.relocate.specs.Patches.{IsPatchRow, covers}
+use Rattle.relocate.specs.declared.object_rows.ObjectPatches.{ObjectPatches}
 use Rattle.relocate.specs.declared.patch.Patch.{Patch}
+use Rattle.relocate.specs.declared.values.Fitting.{Fitting}
 
 -- where things are by the own layout
 abbrev pub where_in : Basis → Where
@@ -30,7 +29,11 @@ pointer_in w = thread_pointer (block_in w) % 2 ^ 64
 abbrev pub slot_value_of : List LoadedObject → Where → Request → ℕ
 slot_value_of objects w q = slot_value objects w q.kind q.target
 
--- the value that a relocation wants, over its field
+-- the value that a relocation wants, and the width of its field
+abbrev pub fitting_of : List LoadedObject → Where → Relocation → Fitting
+fitting_of objects w r = record { value = value_of objects w r; width = width_of r }
+
+-- that value over its field
 abbrev pub patch_of : List LoadedObject → Where → Relocation → Patch
 patch_of objects w r = record { at = r.entry.r_offset; value = value_of objects w r; width = width_of r }
 
@@ -47,13 +50,13 @@ is_in_section s r = r.section == s
 abbrev pub patches_in : List LoadedObject → Where → List Relocation → ℕ → List Patch
 patches_in objects w rs s = map (patch_of objects w) (filter (is_in_section s) rs)
 
--- the patches of section s in its object's rows, none behind the last row
-abbrev pub row_at : List (Vec Patch) → ℕ → List Patch
-row_at rows s = unwrap_or (option_map (λ row. row.items) (slice_get rows s)) []
+-- the patches of section s of an object, none where it has no end
+abbrev pub row_at : ObjectPatches → ℕ → List Patch
+row_at own s = slice_range own.patches.items (slice_index own.begins.items s) (slice_index own.begins.items (s + 1))
 
 -- the patches of section s of object number k, none where there is no such object
-abbrev pub row_in : List (Vec (Vec Patch)) → ℕ → ℕ → List Patch
-row_in rows k s = unwrap_or (option_map (λ own. row_at own.items s) (slice_get rows k)) []
+abbrev pub row_in : List ObjectPatches → ℕ → ℕ → List Patch
+row_in rows k s = unwrap_or (option_map (λ own. row_at own s) (slice_get rows k)) []
 
 -- the patches of a row have the fields of the relocations of section s of object number k: the one that has a byte is that of
 -- the relocation that has it
@@ -61,26 +64,17 @@ abbrev pub HasFields : List LoadedObject → Where → ℕ → ℕ → List Patc
 HasFields objects w k s row =
     (j : ℕ) → find (covers j) row ≡ option_map (patch_of objects w) (find (is_in_field k s j) (relocations objects))
 
--- rows of patches of an object: those of each section in the order of their places, however many rows there are
-pub record ArePatchRows (objects : List LoadedObject) (w : Where) (rs : List Relocation) (rows : List (Vec Patch)) : Type 0 where
-  pub each : (s : ℕ) → IsPatchRow (patches_in objects w rs s) (row_at rows s)
-
--- how many rows section i, which has the header, asks for: as far as the section that it relocates, where this is kept
-abbrev pub rows_for : LoadedObject → ℕ → SectionHeader → ℕ
-rows_for o i h = cond (is_kept_rela o i h) (h.sh_info + 1) 0
-
--- n is the most rows that one of an object's sections asks for
-pub record IsRowCount (o : LoadedObject) (n : ℕ) : Type 0 where
-  pub enough : (i : ℕ) (h : SectionHeader) → slice_get (sections o.bytes) i ≡ Some h → rows_for o i h ≤ n
-  pub needed : (n ≡ 0) ⊎ ((i : ℕ) × (h : SectionHeader) × (slice_get (sections o.bytes) i ≡ Some h) × (rows_for o i h ≡ n))
+-- the patches of an object: those of each section in the order of their places
+pub record ArePatchRows (objects : List LoadedObject) (w : Where) (rs : List Relocation) (own : ObjectPatches) : Type 0 where
+  pub each : (s : ℕ) → IsPatchRow (patches_in objects w rs s) (row_at own s)
 
 -- the patches of all objects, whose relocations are lawful, laid out from a base on
-pub record ArePatches (b : Basis) (rows : List (Vec (Vec Patch))) : Type 0 where
+pub record ArePatches (b : Basis) (rows : List ObjectPatches) : Type 0 where
   pub lawful : AreLawfulRelocations b.objects
   pub count : length rows ≡ length b.objects
   pub each :
-      (k : ℕ) (o : LoadedObject) (d : Vec (Vec Patch)) → slice_get b.objects k ≡ Some o
-      → ArePatchRows b.objects (where_in b) (relocations_from k o) (slice_index_or rows k d).items
+      (k : ℕ) (o : LoadedObject) (d : ObjectPatches) → slice_get b.objects k ≡ Some o
+      → ArePatchRows b.objects (where_in b) (relocations_from k o) (slice_index_or rows k d)
 
 -- why objects have no patches
 abbrev pub ValuesFail : Basis → RelocFault → Type 0

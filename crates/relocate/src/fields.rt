@@ -1,5 +1,5 @@
 //! The fields of an object's relocations, and whether no byte lies in two of them.
-ghost use Rattle.std.specs.Prelude.{◌↔◌, All, AllPairs, IfOk, IsPermutation, IsTrue};
+ghost use Rattle.std.specs.Prelude.{◌↔◌, All, AllPairs, IfOk, IsPermutation, IsTrue, OnOk};
 ghost use Rattle.relocate.specs.Fields.{AreApart, IsBefore, IsOrdered, IsSome, Rise};
 
 use std::alloc::AllocError;
@@ -14,24 +14,24 @@ pub struct Field {
 
 /// Whether no byte lies in two of an object's fields, none of which is empty. Fields mostly stand in
 /// order already; only where they don't are they sorted, for which memory may be refused.
-pub fn are_apart(fields: Vec<Field>) -> Result<bool, AllocError>
-    requires { All IsSome fields.items }
-    ensures { IfOk result (λ b. IsTrue b ↔ AllPairs AreApart fields.items) }
+pub fn are_apart(fields: &mut Vec<Field>) -> Result<bool, AllocError>
+    requires { All IsSome fields.old.items }
+    ensures { IfOk result (λ b. IsTrue b ↔ AllPairs AreApart fields.old.items) }
 {
-    if rise(&fields) {
+    if rise(fields) {
         return Ok(true);
     }
-    let fields = in_order(fields)?;
-    Ok(rise(&fields))
+    put_in_order(fields)?;
+    Ok(rise(fields))
 }
 
-/// The fields in the order of their sections and of their beginnings.
-fn in_order(mut fields: Vec<Field>) -> Result<Vec<Field>, AllocError>
-    ensures same { IfOk result (λ v. IsPermutation fields.items v.items) }
-    ensures ordered { IfOk result (λ v. IsOrdered v.items) }
+/// Puts fields in the order of their sections and of their beginnings.
+fn put_in_order(fields: &mut Vec<Field>) -> Result<(), AllocError>
+    ensures same { OnOk result (IsPermutation fields.old.items fields.new.items) }
+    ensures ordered { OnOk result (IsOrdered fields.new.items) }
 {
     fields.sort_by_key(|f| (f.section, f.start))?;
-    Ok(fields)
+    Ok(())
 }
 
 /// Whether each field ends before the next one begins.

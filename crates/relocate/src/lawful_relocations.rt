@@ -1,5 +1,5 @@
 //! Whether the kept relocations of all objects are lawful.
-ghost use Rattle.std.specs.Prelude.{◌≡◌, ◌++◌, All, IfErr, IfOk, OnOk, Some, filter, map};
+ghost use Rattle.std.specs.Prelude.{◌≡◌, ◌++◌, All, IfErr, OnOk, Some, filter, map};
 ghost use Rattle.std.specs.List.{slice_get};
 ghost use Rattle.elf_model.specs.ObjectFile.{sections};
 ghost use Rattle.elf_model.specs.Relocation.{AreLawfulRelocations, IsLawfulRelocation, is_some_kind, relocation_of, relocations_from, relocations_in};
@@ -14,7 +14,8 @@ use crate::fields::{Field, are_apart};
 use crate::lawful_fields::lawful_field;
 use crate::referrer::{Referrer, Relocated};
 use crate::targets::is_some_kind;
-use elf_model::{Rela, SectionHeader};
+use elf_model::SectionHeader;
+use elf_read::RelaRun;
 use layout::mixed_names;
 use resolve::Resolved;
 use search::{Loaded, LoadedObject};
@@ -50,19 +51,22 @@ fn judge_objects<'a>(
     ensures fault { IfErr result (ReferencesFail (loaded_views objects.now)) }
 {
     let mixed = mixed_names(alloc, objects)?;
+    let mut fields = Vec::new(alloc);
     for k in 0..objects.len() {
-        judge_object(alloc, resolved, &mixed, k, &objects[k])?;
+        judge_object(alloc, resolved, &mixed, k, &objects[k], &mut fields)?;
     }
     Ok(())
 }
 
-/// Judges the relocations of the object that has a number. A field of it meets none of another object's.
+/// Judges the relocations of the object that has a number. A field of it meets none of another object's. The room of `fields`
+/// is used for its fields.
 fn judge_object<'a>(
     alloc: Global,
     resolved: &Resolved<'a>,
     mixed: &BTreeSet<&[u8]>,
     number: usize,
     loaded: &LoadedObject<'a>,
+    fields: &mut Vec<Field>,
 ) -> Result<(), RelocFault>
     requires here { IsObjectAt resolved.now number (loaded_view loaded.now) }
     requires mixed { AreMixed resolved.now mixed.now }
@@ -70,39 +74,47 @@ fn judge_object<'a>(
     ensures fault { IfErr result (RelocationsFail resolved.now (relocations_from number (loaded_view loaded.now))) }
 {
     let referrer = Referrer::new(alloc, resolved, mixed, number, loaded)?;
-    judge_referrer(alloc, &referrer)
+    judge_referrer(alloc, &referrer, fields)
 }
 
 /// Judges the relocations of an object.
-fn judge_referrer(alloc: Global, referrer: &Referrer<'_, '_, '_>) -> Result<(), RelocFault>
+fn judge_referrer(
+    alloc: Global,
+    referrer: &Referrer<'_, '_, '_>,
+    fields: &mut Vec<Field>,
+) -> Result<(), RelocFault>
     requires { IsReferrer referrer.now }
     ensures lawful { OnOk result (AreLawful (all_of referrer.now) (relocations_from referrer.now.number (referring referrer.now))) }
     ensures fault { IfErr result (RelocationsFail (all_of referrer.now) (relocations_from referrer.now.number (referring referrer.now))) }
 {
-    let fields = lawful_fields(alloc, referrer)?;
+    list_fields(alloc, referrer, fields)?;
     if !are_apart(fields)? {
         return Err(RelocFault::OverlappingFields);
     }
     Ok(())
 }
 
-/// The fields of an object's relocations, each of which is lawful.
-fn lawful_fields(alloc: Global, referrer: &Referrer<'_, '_, '_>) -> Result<Vec<Field>, RelocFault>
+/// Lists the fields of an object's relocations, each of which is lawful, in place of others.
+fn list_fields(
+    alloc: Global,
+    referrer: &Referrer<'_, '_, '_>,
+    fields: &mut Vec<Field>,
+) -> Result<(), RelocFault>
     requires { IsReferrer referrer.now }
-    ensures fields { IfOk result (λ v. v.items ≡ map field_of (relocations_from referrer.now.number (referring referrer.now))) }
+    ensures fields { OnOk result (fields.new.items ≡ map field_of (relocations_from referrer.now.number (referring referrer.now))) }
     ensures lawful { OnOk result (All (IsLawfulRelocation (all_of referrer.now)) (relocations_from referrer.now.number (referring referrer.now))) }
     ensures fault { IfErr result (RelocationsFail (all_of referrer.now) (relocations_from referrer.now.number (referring referrer.now))) }
 {
-    let mut fields = Vec::new(alloc);
+    fields.clear();
     let headers = referrer.loaded.object.sections();
     for i in 0..headers.len() {
         let header = headers[i];
         if !referrer.loaded.is_kept_rela(i, &header) {
             continue;
         }
-        add_section(alloc, referrer, i, &header, &mut fields)?;
+        add_section(alloc, referrer, i, &header, fields)?;
     }
-    Ok(fields)
+    Ok(())
 }
 
 /// Adds the fields of RELA section `i`, which has the header.
@@ -122,7 +134,7 @@ fn add_section(
 {
     let entries = referrer.loaded.entries_of(i, header);
     let target = referrer.relocated(header.sh_info as u64);
-    add_fields(alloc, referrer, target, entries, fields)
+    add_fields(alloc, referrer, target, &entries, fields)
 }
 
 /// Adds the fields of entries that relocate a section.
@@ -130,7 +142,7 @@ fn add_fields(
     alloc: Global,
     referrer: &Referrer<'_, '_, '_>,
     target: Relocated,
-    entries: &[Rela],
+    entries: &RelaRun<'_>,
     fields: &mut Vec<Field>,
 ) -> Result<(), RelocFault>
     requires known { IsReferrer referrer.now }
@@ -141,7 +153,7 @@ fn add_fields(
 {
     fields.reserve(entries.len())?;
     for i in 0..entries.len() {
-        let entry = entries[i];
+        let entry = entries.at(i);
         if !is_some_kind(&entry) {
             continue;
         }

@@ -5,11 +5,13 @@
 
 mod faults;
 mod fields;
+mod kept_relas;
 mod kinds;
 mod lawful_fields;
 mod lawful_relocations;
 mod linker_uses;
 mod object_patches;
+mod object_rows;
 mod patch;
 mod patch_rows;
 mod patch_table;
@@ -35,4 +37,4 @@ pub use slots::slot_values;
 pub use symbol_values::Valued;
 pub use targets::is_some_kind;
 pub use thread_pointer::pointer_of;
-pub use values::{address_or_none, patch as wanted_patch, wanted_value};
+pub use values::{address_or_none, fitting_value, wanted_value};

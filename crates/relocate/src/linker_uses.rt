@@ -16,6 +16,7 @@ ghost use Rattle.relocate.specs.Uses.{HasNoLinkerUse, IsUser, is_linkers, line_v
 
 use crate::targets::{is_local, is_some_kind};
 use elf_model::{Bound, ObjectId, Rela, SectionHeader, SymbolRef};
+use elf_read::RelaRun;
 use resolve::{Definition, Resolved};
 use search::{Loaded, LoadedObject};
 use std::alloc::{AllocError, Global};
@@ -107,13 +108,13 @@ fn add_entries<'a>(
     names: &mut BTreeSet<&'a [u8]>,
     user: &User<'_, 'a>,
     target: u64,
-    entries: &[Rela],
+    entries: &RelaRun<'_>,
 ) -> Result<(), AllocError>
     requires { IsUser user.now }
     ensures { OnOk result (Gains user.now.resolved.now (map (relocation_of user.now.number (using user.now) target) (filter is_some_kind entries.now)) names.old names.new) }
 {
     for i in 0..entries.len() {
-        let entry = entries[i];
+        let entry = entries.at(i);
         if !is_some_kind(&entry) {
             continue;
         }
@@ -135,7 +136,7 @@ fn add_section<'a>(
     ensures { OnOk result (Gains user.now.resolved.now (relocations_in user.now.number (using user.now) header.now) names.old names.new) }
 {
     let entries = user.loaded.entries_of(i, header);
-    add_entries(names, user, header.sh_info as u64, entries)
+    add_entries(names, user, header.sh_info as u64, &entries)
 }
 
 /// Adds those that the kept relocations of an object use.

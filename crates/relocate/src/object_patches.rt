@@ -1,27 +1,43 @@
 //! The patches of an object, by the sections that they are for.
-ghost use Rattle.std.specs.Prelude.{◌≡◌, ◌++◌, [], All, IfErr, IfOk, IsSome, OnOk, filter, length, map};
-ghost use Rattle.elf_model.specs.Relocation.{is_some_kind, relocation_kind, relocation_of, relocations_from};
+ghost use Rattle.std.specs.Prelude.{◌≡◌, ◌≤◌, ◌+◌, ◌++◌, [], All, IfErr, IfOk, IsSome, List, OnOk, filter, length, map};
+ghost use Rattle.std.specs.List.Sorted.{IsNonDecreasingBy};
+ghost use Rattle.elf_model.specs.Relocation.{Relocation, is_some_kind, relocation_kind, relocation_of, relocations_from};
 ghost use Rattle.elf_model.specs.RelocationValues.{Fits};
-ghost use Rattle.search.specs.Views.{loaded_view};
+ghost use Rattle.relocate.specs.KeptRelas.{IsKeptRela, relocations_by, relocations_of_relas, target_of};
+ghost use Rattle.relocate.specs.ObjectRows.{HasRows};
 ghost use Rattle.relocate.specs.SymbolTables.{IsValued, all_valued, valued_object, where_of};
-ghost use Rattle.relocate.specs.Values.{ArePatchRows, FittingFails, IsRowCount, patch_of, rows_for};
+ghost use Rattle.relocate.specs.Values.{ArePatchRows, FittingFails, patch_of};
 
 use crate::faults::RelocFault;
+use crate::kept_relas::{KeptRela, kept_relas, row_end};
+use crate::object_rows::ObjectPatches;
 use crate::patch::Patch;
-use crate::row_order::order_rows;
+use crate::row_order::order_from;
 use crate::symbol_values::Valued;
 use crate::targets::is_some_kind;
-use crate::values::{address_or_none, patch};
-use elf_model::{Rela, SectionHeader};
+use crate::values::{address_or_none, fitting_value};
+use elf_model::{RELA_SIZE, Rela};
+use elf_read::RelaRun;
 use search::LoadedObject;
 use std::alloc::{AllocError, Global};
+
+/// The first byte of an entry's field, in the section that it relocates. That section lies in the image's file, which has
+/// fewer than 2 ^ 32 bytes; as where memory is refused, if it doesn't.
+fn first_byte(entry: &Rela) -> Result<u32, AllocError>
+    ensures { IfOk result (λ n. n ≡ entry.now.r_offset) }
+{
+    match u32::try_from(entry.r_offset) {
+        Ok(at) => Ok(at),
+        Err(_) => Err(AllocError),
+    }
+}
 
 /// Adds the patches of entries of known kinds that relocate the section `target` of an object. Overflow where a value
 /// doesn't fit.
 fn add_patches(
     valued: &Valued<'_, '_>,
     target: u64,
-    entries: &[Rela],
+    entries: &RelaRun<'_>,
     row: &mut Vec<Patch>,
 ) -> Result<(), RelocFault>
     requires valued { IsValued valued.now }
@@ -31,79 +47,135 @@ fn add_patches(
     ensures fault { IfErr result (FittingFails (all_valued valued.now) (where_of valued.now) (map (relocation_of valued.now.number (valued_object valued.now) target) (filter is_some_kind entries.now))) }
 {
     let at = address_or_none(valued.placement, valued.number, target as usize);
-    row.reserve(entries.len())?;
     for i in 0..entries.len() {
-        let entry = entries[i];
+        let entry = entries.at(i);
         if !is_some_kind(&entry) {
             continue;
         }
-        let Some(patch) = patch(valued, target, at, &entry) else {
+        let Some(fitting) = fitting_value(valued, target, at, &entry) else {
             return Err(RelocFault::Overflow);
         };
-        row.push(patch)?;
+        let place = first_byte(&entry)?;
+        row.push(Patch {
+            value: fitting.value,
+            at: place,
+            width: fitting.width,
+        })?;
     }
     Ok(())
 }
 
-/// So many rows with no patch.
-fn empty_rows(alloc: Global, count: usize) -> Result<Vec<Vec<Patch>>, AllocError>
-    ensures count { IfOk result (λ v. length v.items ≡ count) }
-    ensures each { IfOk result (λ v. All (λ row. row.items ≡ []) v.items) }
+/// Adds the patches of a kept RELA section of an object.
+fn add_section(
+    valued: &Valued<'_, '_>,
+    rela: KeptRela,
+    patches: &mut Vec<Patch>,
+) -> Result<(), RelocFault>
+    requires valued { IsValued valued.now }
+    requires kept { IsKeptRela (valued_object valued.now) rela }
+    requires known { All (λ r. IsSome (relocation_kind r)) (relocations_by valued.now.number (valued_object valued.now) rela) }
+    ensures patches { OnOk result (patches.new.items ≡ patches.old.items ++ map (patch_of (all_valued valued.now) (where_of valued.now)) (relocations_by valued.now.number (valued_object valued.now) rela)) }
+    ensures fit { OnOk result (All (Fits (all_valued valued.now) (where_of valued.now)) (relocations_by valued.now.number (valued_object valued.now) rela)) }
+    ensures fault { IfErr result (FittingFails (all_valued valued.now) (where_of valued.now) (relocations_by valued.now.number (valued_object valued.now) rela)) }
 {
-    let mut rows = Vec::with_capacity(alloc, count)?;
-    'fill: while rows.len() < count {
-        rows.push(Vec::new(alloc))?;
-    }
-    Ok(rows)
+    let header = valued.loaded.object.section(rela.number);
+    let entries = valued.loaded.entries_of(rela.number, &header);
+    add_patches(valued, header.sh_info as u64, &entries, patches)
 }
 
-/// How many rows section `i`, which has the header, asks for: as far as the section that it relocates, where this is
-/// kept, else none.
-fn rows_for(loaded: &LoadedObject<'_>, i: usize, header: &SectionHeader) -> usize
-    ensures { result ≡ rows_for (loaded_view loaded.now) i header.now }
+/// Adds the patches of kept RELA sections, which relocate one section.
+fn add_sections(
+    valued: &Valued<'_, '_>,
+    relas: &[KeptRela],
+    patches: &mut Vec<Patch>,
+) -> Result<(), RelocFault>
+    requires valued { IsValued valued.now }
+    requires kept { All (IsKeptRela (valued_object valued.now)) relas.now }
+    requires known { All (λ r. IsSome (relocation_kind r)) (relocations_of_relas valued.now.number (valued_object valued.now) relas.now) }
+    ensures patches { OnOk result (patches.new.items ≡ patches.old.items ++ map (patch_of (all_valued valued.now) (where_of valued.now)) (relocations_of_relas valued.now.number (valued_object valued.now) relas.now)) }
+    ensures fit { OnOk result (All (Fits (all_valued valued.now) (where_of valued.now)) (relocations_of_relas valued.now.number (valued_object valued.now) relas.now)) }
+    ensures fault { IfErr result (FittingFails (all_valued valued.now) (where_of valued.now) (relocations_of_relas valued.now.number (valued_object valued.now) relas.now)) }
 {
-    if loaded.is_kept_rela(i, header) {
-        header.sh_info as usize + 1
-    } else {
-        0
+    for rela in relas {
+        add_section(valued, *rela, patches)?;
     }
+    Ok(())
 }
 
-/// How many rows an object's patches take: as far as its last section that is kept and relocated.
-fn row_count(loaded: &LoadedObject<'_>) -> usize
-    ensures { IsRowCount (loaded_view loaded.now) result }
+/// Adds the row of the section `target`, which these RELA sections relocate; there are rows of sections before it only.
+fn add_row(
+    valued: &Valued<'_, '_>,
+    target: u32,
+    relas: &[KeptRela],
+    rows: &mut ObjectPatches,
+) -> Result<(), RelocFault>
+    requires valued { IsValued valued.now }
+    requires kept { All (IsKeptRela (valued_object valued.now)) relas.now }
+    requires target { All (λ k. k.target ≡ target) relas.now }
+    requires later { length rows.old.begins.items ≤ target + 1 }
+    requires known { All (λ r. IsSome (relocation_kind r)) (relocations_of_relas valued.now.number (valued_object valued.now) relas.now) }
+    ensures rows { OnOk result ((done : List Relocation) → HasRows (all_valued valued.now) (where_of valued.now) done rows.old → HasRows (all_valued valued.now) (where_of valued.now) (done ++ relocations_of_relas valued.now.number (valued_object valued.now) relas.now) rows.new) }
+    ensures begins { OnOk result (length rows.new.begins.items ≡ target + 2) }
+    ensures fit { OnOk result (All (Fits (all_valued valued.now) (where_of valued.now)) (relocations_of_relas valued.now.number (valued_object valued.now) relas.now)) }
+    ensures fault { IfErr result (FittingFails (all_valued valued.now) (where_of valued.now) (relocations_of_relas valued.now.number (valued_object valued.now) relas.now)) }
 {
-    let mut count = 0;
-    let headers = loaded.object.sections();
-    for i in 0..headers.len() {
-        count = rows_for(loaded, i, &headers[i]).max(count);
-    }
-    count
+    let begin = rows.patches.len();
+    rows.begins.resize(target as usize + 1, begin)?;
+    add_sections(valued, relas, &mut rows.patches)?;
+    order_from(&mut rows.patches, begin);
+    rows.begins.push(rows.patches.len())?;
+    Ok(())
 }
 
-/// The patches of an object whose relocations are of known kinds, a row for each of its sections as far as the
-/// last one that is kept and relocated, each in the order of its places. Overflow where a value doesn't fit.
-pub fn object_patches(alloc: Global, valued: &Valued<'_, '_>) -> Result<Vec<Vec<Patch>>, RelocFault>
+/// Adds the rows of kept RELA sections, which are in the order of the sections that they relocate, where there are none yet.
+fn add_rows(
+    valued: &Valued<'_, '_>,
+    relas: &[KeptRela],
+    rows: &mut ObjectPatches,
+) -> Result<(), RelocFault>
+    requires valued { IsValued valued.now }
+    requires kept { All (IsKeptRela (valued_object valued.now)) relas.now }
+    requires rises { IsNonDecreasingBy target_of relas.now }
+    requires known { All (λ r. IsSome (relocation_kind r)) (relocations_of_relas valued.now.number (valued_object valued.now) relas.now) }
+    requires none { rows.old.patches.items ≡ [] }
+    requires nowhere { rows.old.begins.items ≡ [] }
+    ensures rows { OnOk result (HasRows (all_valued valued.now) (where_of valued.now) (relocations_of_relas valued.now.number (valued_object valued.now) relas.now) rows.new) }
+    ensures fit { OnOk result (All (Fits (all_valued valued.now) (where_of valued.now)) (relocations_of_relas valued.now.number (valued_object valued.now) relas.now)) }
+    ensures fault { IfErr result (FittingFails (all_valued valued.now) (where_of valued.now) (relocations_of_relas valued.now.number (valued_object valued.now) relas.now)) }
+{
+    let mut from = 0;
+    'rows: while from < relas.len() {
+        let end = row_end(relas, from);
+        add_row(valued, relas[from].target, &relas[from..end], rows)?;
+        from = end;
+    }
+    Ok(())
+}
+
+/// How many entries an object's kept RELA sections have; the greatest number where they are more.
+fn entry_count(loaded: &LoadedObject<'_>, relas: &[KeptRela]) -> usize {
+    let mut count: u64 = 0;
+    for rela in relas {
+        let size = loaded.object.section(rela.number).sh_size;
+        count = count.saturating_add(size / RELA_SIZE as u64);
+    }
+    count as usize
+}
+
+/// The patches of an object whose relocations are of known kinds, those of each section in the order of their places. Overflow
+/// where a value doesn't fit.
+pub fn object_patches(alloc: Global, valued: &Valued<'_, '_>) -> Result<ObjectPatches, RelocFault>
     requires valued { IsValued valued.now }
     requires known { All (λ r. IsSome (relocation_kind r)) (relocations_from valued.now.number (valued_object valued.now)) }
-    ensures rows { IfOk result (λ v. ArePatchRows (all_valued valued.now) (where_of valued.now) (relocations_from valued.now.number (valued_object valued.now)) v.items) }
-    ensures count { IfOk result (λ v. IsRowCount (valued_object valued.now) (length v.items)) }
+    ensures rows { IfOk result (ArePatchRows (all_valued valued.now) (where_of valued.now) (relocations_from valued.now.number (valued_object valued.now))) }
     ensures fit { OnOk result (All (Fits (all_valued valued.now) (where_of valued.now)) (relocations_from valued.now.number (valued_object valued.now))) }
     ensures fault { IfErr result (FittingFails (all_valued valued.now) (where_of valued.now) (relocations_from valued.now.number (valued_object valued.now))) }
 {
-    let count = row_count(valued.loaded);
-    let mut rows = empty_rows(alloc, count)?;
-    let headers = valued.loaded.object.sections();
-    for i in 0..headers.len() {
-        let header = headers[i];
-        if !valued.loaded.is_kept_rela(i, &header) {
-            continue;
-        }
-        let entries = valued.loaded.entries_of(i, &header);
-        let target = header.sh_info as usize;
-        let row = &mut rows[target];
-        add_patches(valued, target as u64, entries, row)?;
-    }
-    order_rows(&mut rows);
+    let relas = kept_relas(alloc, valued.loaded)?;
+    let mut rows = ObjectPatches {
+        patches: Vec::with_capacity(alloc, entry_count(valued.loaded, &relas))?,
+        begins: Vec::new(alloc),
+    };
+    add_rows(valued, &relas, &mut rows)?;
     Ok(rows)
 }

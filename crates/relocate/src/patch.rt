@@ -2,12 +2,13 @@
 ghost use Rattle.std.specs.Prelude.{◌≡◌, ◌<◌, ℕ, [], ◌∷◌, All, AllPairs, length, slice_index};
 ghost use Rattle.relocate.specs.Patches.{AreDisjoint, IsNarrow, patched_byte};
 
-/// The value that a field wants: the field's first byte, counted from its section's beginning, its width in
-/// bytes (1 to 8), and the value, of which the lowest bytes are written.
+/// The value that a field wants, of which the lowest bytes are written: the field's first byte, counted from its section's
+/// beginning, and its width in bytes (1 to 8). 32 bits do for the first byte: what is relocated is in the image's file, which
+/// has fewer than 2 ^ 32 bytes.
 #[derive(Clone, Copy, Debug)]
 pub struct Patch {
-    pub at: u64,
     pub value: u64,
+    pub at: u32,
     pub width: u8,
 }
 
@@ -30,8 +31,9 @@ fn write(patch: &Patch, from: u64, bytes: &mut [u8])
     ensures { (k : ℕ) → k < length bytes.old → slice_index bytes.new k ≡ patched_byte from bytes.old (patch.now ∷ []) k }
 {
     let width = patch.width as usize;
-    let at = patch.at.saturating_sub(from) as usize;
-    let earlier = from.saturating_sub(patch.at) as usize;
+    let begin = patch.at as u64;
+    let at = begin.saturating_sub(from) as usize;
+    let earlier = from.saturating_sub(begin) as usize;
     if earlier >= width || at >= bytes.len() {
         return;
     }

@@ -1,5 +1,5 @@
 //! The patches of all objects.
-ghost use Rattle.std.specs.Prelude.{◌≡◌, All, IfErr, IfOk, IsSome, OnOk, length};
+ghost use Rattle.std.specs.Prelude.{◌≡◌, All, IfErr, IfOk, IsSome, OnOk};
 ghost use Rattle.elf_model.specs.OwnLayout.{OwnValuesFit};
 ghost use Rattle.elf_model.specs.Pieces.{AreLawfulKinds};
 ghost use Rattle.elf_model.specs.Relocation.{AreLawfulRelocations, relocation_kind, relocations_from};
@@ -7,11 +7,11 @@ ghost use Rattle.elf_model.specs.RelocationValues.{Fits};
 ghost use Rattle.elf_model.specs.Slots as wanted;
 ghost use Rattle.search.specs.Views.{loaded_view, loaded_views};
 ghost use Rattle.relocate.specs.References.{IsObjectAt};
-ghost use Rattle.relocate.specs.Values.{ArePatchRows, ArePatches, FittingFails, IsRowCount, ValuesFail, pointer_in, where_in};
+ghost use Rattle.relocate.specs.Values.{ArePatchRows, ArePatches, FittingFails, ValuesFail, pointer_in, where_in};
 
 use crate::faults::RelocFault;
 use crate::object_patches::object_patches;
-use crate::patch::Patch;
+use crate::object_rows::ObjectPatches;
 use crate::patch_table::Patches;
 use crate::symbol_values::Valued;
 use crate::thread_pointer::pointer_of;
@@ -30,14 +30,13 @@ fn row_of<'a>(
     pointer: u64,
     number: usize,
     loaded: &LoadedObject<'a>,
-) -> Result<Vec<Vec<Patch>>, RelocFault>
+) -> Result<ObjectPatches, RelocFault>
     requires kinds { AreLawfulKinds placement.now.objects }
     requires slots { slots.now.slots ≡ wanted.slots placement.now.objects }
     requires pointer { pointer ≡ pointer_in (where_in placement.now) }
     requires here { IsObjectAt resolved.now number (loaded_view loaded.now) }
     requires known { All (λ r. IsSome (relocation_kind r)) (relocations_from number (loaded_view loaded.now)) }
-    ensures rows { IfOk result (λ v. ArePatchRows resolved.now (where_in placement.now) (relocations_from number (loaded_view loaded.now)) v.items) }
-    ensures count { IfOk result (λ v. IsRowCount (loaded_view loaded.now) (length v.items)) }
+    ensures rows { IfOk result (ArePatchRows resolved.now (where_in placement.now) (relocations_from number (loaded_view loaded.now))) }
     ensures fit { OnOk result (All (Fits resolved.now (where_in placement.now)) (relocations_from number (loaded_view loaded.now))) }
     ensures fault { IfErr result (FittingFails resolved.now (where_in placement.now) (relocations_from number (loaded_view loaded.now))) }
 {
@@ -52,7 +51,7 @@ fn rows_of<'a>(
     resolved: &Resolved<'a>,
     placement: &Placement<'a>,
     slots: &Slots<'a>,
-) -> Result<Vec<Vec<Vec<Patch>>>, RelocFault>
+) -> Result<Vec<ObjectPatches>, RelocFault>
     requires resolved { resolved.now ≡ loaded_views objects.now }
     requires placed { placement.now.objects ≡ loaded_views objects.now }
     requires slots { slots.now.slots ≡ wanted.slots (loaded_views objects.now) }

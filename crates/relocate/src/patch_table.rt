@@ -9,6 +9,7 @@ ghost use Rattle.elf_model.specs.WantedBytes.{wanted_byte};
 ghost use Rattle.relocate.specs.Patches.{IsRising};
 ghost use Rattle.relocate.specs.Values.{ArePatches, HasFields, where_in, row_in};
 
+use crate::object_rows::ObjectPatches;
 use crate::patch::{Patch, write_all};
 use crate::row_parts::{ending_after, reaching};
 use elf_model::SectionRef;
@@ -17,13 +18,13 @@ use search::Loaded;
 use std::alloc::AllocError;
 use std::marker::Model;
 
-/// The values that the kept relocations of what is loaded want where it is laid out, over their fields: a row for each
-/// section of each object.
+/// The values that the kept relocations of what is loaded want where it is laid out, over their fields, by
+/// their objects.
 #[derive(Drop)]
 pub struct Patches<'a> {
     base: u64,
     loaded: Loaded<'a>,
-    rows: Vec<Vec<Vec<Patch>>>,
+    rows: Vec<ObjectPatches>,
 }
 
 impl<'a> Model for Patches<'a> {
@@ -38,14 +39,11 @@ impl<'a> Model for Patches<'a> {
 }
 
 /// The patches of a section of an object, by their numbers; none where there is no such section.
-fn row_in<'r>(rows: &'r [Vec<Vec<Patch>>], object: usize, section: usize) -> &'r [Patch]
+fn row_in(rows: &[ObjectPatches], object: usize, section: usize) -> &[Patch]
     ensures { result.now ≡ row_in rows.entry.now object section }
 {
-    let Some(row) = rows.get(object) else {
-        return &[];
-    };
-    match row.get(section) {
-        Some(patches) => patches.as_slice(),
+    match rows.get(object) {
+        Some(own) => own.row(section),
         None => &[],
     }
 }
@@ -55,7 +53,7 @@ impl<'a> Patches<'a> {
     pub(crate) fn new(
         loaded: &Loaded<'a>,
         placement: &Placement<'a>,
-        rows: Vec<Vec<Vec<Patch>>>,
+        rows: Vec<ObjectPatches>,
     ) -> Result<Patches<'a>, AllocError>
         requires placed { placement.now.objects ≡ loaded.now.objects }
         requires rows { ArePatches placement.now rows.items }
@@ -105,6 +103,6 @@ pub fn next_field(patches: &Patches<'_>, section: SectionRef, from: u64) -> u64
 {
     match ending_after(row_of(patches, section), from) {
         [] => u64::MAX,
-        [patch, ..] => patch.at.max(from),
+        [patch, ..] => (patch.at as u64).max(from),
     }
 }

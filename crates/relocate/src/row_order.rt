@@ -1,8 +1,7 @@
 //! Rows of patches in the order of their places. Relocations mostly stand in that order already.
-ghost use Rattle.std.specs.Prelude.{◌≡◌, ◌↔◌, ◌≤◌, ℕ, IsTrue, length};
-ghost use Rattle.std.specs.List.Sorted.{IsNonDecreasingBy};
-ghost use Rattle.relocate.specs.Patches.{IsOrdered, IsPatchRow, begin_of};
-ghost use Rattle.relocate.specs.Values.{row_at};
+ghost use Rattle.std.specs.Prelude.{◌↔◌, ◌≤◌, IsTrue, length};
+ghost use Rattle.relocate.specs.ObjectRows.{HasOrderedRow};
+ghost use Rattle.relocate.specs.Patches.{IsOrdered, IsPatchRow};
 
 use crate::patch::Patch;
 
@@ -13,21 +12,21 @@ fn ascends(row: &[Patch]) -> bool
     row.windows(2).all(|w| w[0].at <= w[1].at)
 }
 
-/// Puts a row in the order of its places; it is sorted only where it isn't in order. It takes no memory.
-fn order_row(row: &mut Vec<Patch>)
-    ensures { IsPatchRow row.old.items row.new.items }
+/// Puts the patches of a list from a number on in the order of their places; they are sorted only where they aren't in order.
+/// It takes no memory.
+pub fn order_from(patches: &mut [Patch], begin: usize)
+    requires { begin ≤ length patches.old }
+    ensures { HasOrderedRow begin patches.old patches.new }
+{
+    let (_, row) = patches.split_at_mut(begin);
+    order_row(row);
+}
+
+/// Puts a row in the order of its places.
+fn order_row(row: &mut [Patch])
+    ensures { IsPatchRow row.old row.new }
 {
     if !ascends(row) {
         row.sort_unstable_by_key(|patch| patch.at);
-    }
-}
-
-/// Puts each row in the order of its places.
-pub fn order_rows(rows: &mut Vec<Vec<Patch>>)
-    ensures count { length rows.new.items ≡ length rows.old.items }
-    ensures each { (s : ℕ) → IsPatchRow (row_at rows.old.items s) (row_at rows.new.items s) }
-{
-    for s in 0..rows.len() {
-        order_row(&mut rows[s]);
     }
 }

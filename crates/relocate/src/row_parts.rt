@@ -9,14 +9,15 @@ use crate::patch::Patch;
 fn ends_by(patch: &Patch, byte: u64) -> bool
     ensures { result ≡ nat_le (end_of patch.now) byte }
 {
-    patch.at <= byte && patch.width as u64 <= byte - patch.at
+    patch.at as u64 + patch.width as u64 <= byte
 }
 
 /// Whether a field begins before the end of a part of its section, which begins at byte `from` and has so many bytes.
 fn begins_in(patch: &Patch, from: u64, count: usize) -> bool
     ensures { result ≡ nat_lt (begin_of patch.now) (from + count) }
 {
-    patch.at < from || patch.at - from < count as u64
+    let at = patch.at as u64;
+    at < from || at - from < count as u64
 }
 
 /// How many fields end at a byte or before.

@@ -21,14 +21,14 @@ use crate::faults::RelocFault;
 use elf_model::{
     Bound, ObjectId, Rela, SHN_UNDEF, STB_LOCAL, STB_WEAK, SectionHeader, Symbol, SymbolRef,
 };
-use elf_read::Object;
+use elf_read::ObjectFile;
 use resolve::{Definition, Resolved, SymbolOf, named_output};
 use search::LoadedObject;
 use std::alloc::Global;
 use std::collections::BTreeSet;
 
 /// The section in which a symbol is defined; None where it is undefined, absolute or common.
-fn section_of(object: &Object<'_>, entry: &Symbol) -> Option<SectionHeader>
+fn section_of(object: &ObjectFile<'_>, entry: &Symbol) -> Option<SectionHeader>
     ensures { result ≡ section_in object.now entry.now }
 {
     if entry.st_shndx == SHN_UNDEF {
@@ -69,7 +69,7 @@ pub fn is_dropped(loaded: &LoadedObject<'_>, entry: &Symbol) -> bool
 }
 
 /// The name of a section, empty where there is no such section.
-fn section_name_at<'a>(object: &Object<'a>, number: usize) -> &'a [u8]
+fn section_name_at<'a>(object: &ObjectFile<'a>, number: usize) -> &'a [u8]
     ensures { result.now ≡ unwrap_or (section_name object.now number) [] }
 {
     match object.section_name(number) {
@@ -82,7 +82,7 @@ fn section_name_at<'a>(object: &Object<'a>, number: usize) -> &'a [u8]
 const FRAME_SECTION: &[u8] = b".eh_frame";
 
 /// Whether a section holds frames: those of dropped code are left in it, and may refer to what is dropped.
-pub fn holds_frames(object: &Object<'_>, number: usize) -> bool
+pub fn holds_frames(object: &ObjectFile<'_>, number: usize) -> bool
     ensures { result ≡ bytes_eq (unwrap_or (section_name object.now number) []) (codes ".eh_frame") }
 {
     section_name_at(object, number) == FRAME_SECTION

@@ -13,10 +13,9 @@ ghost use Rattle.got_tls.specs.Asking.{offset_of};
 ghost use Rattle.got_tls.specs.Kinds.{kind_view};
 ghost use Rattle.relocate.specs.Kinds.{Reduces};
 ghost use Rattle.relocate.specs.SymbolTables.{IsValued, all_valued, valued_object, where_of};
-ghost use Rattle.relocate.specs.Values.{patch_of, where_in};
+ghost use Rattle.relocate.specs.Values.{fitting_of, where_in};
 
 use crate::kinds::{Terms, fits, value};
-use crate::patch::Patch;
 use crate::symbol_values::Valued;
 use crate::thread_pointer::offset_from;
 use elf_model::{ObjectId, Rela, SHN_ABS, SectionRef, SymbolRef};
@@ -162,12 +161,19 @@ pub fn wanted_value(valued: &Valued<'_, '_>, target: u64, at: u64, kind: Kind, e
     value(kind, terms(valued, target, at, kind, entry))
 }
 
-/// The patch that an entry of a known kind wants; None where its value doesn't fit its field.
-pub fn patch(valued: &Valued<'_, '_>, target: u64, at: u64, entry: &Rela) -> Option<Patch>
+/// A value that fits its field, and the field's width in bytes.
+#[derive(Clone, Copy, Debug)]
+pub struct Fitting {
+    pub value: u64,
+    pub width: u8,
+}
+
+/// The value that an entry of a known kind wants, and how wide its field is; None where the value doesn't fit it.
+pub fn fitting_value(valued: &Valued<'_, '_>, target: u64, at: u64, entry: &Rela) -> Option<Fitting>
     requires valued { IsValued valued.now }
     requires at { at ≡ section_address (where_of valued.now).placed valued.now.number target }
     requires known { IsSome (relocation_kind (relocation_of valued.now.number (valued_object valued.now) target entry.now)) }
-    ensures { SomeIff result (Fits (all_valued valued.now) (where_of valued.now) (relocation_of valued.now.number (valued_object valued.now) target entry.now)) (patch_of (all_valued valued.now) (where_of valued.now) (relocation_of valued.now.number (valued_object valued.now) target entry.now)) }
+    ensures { SomeIff result (Fits (all_valued valued.now) (where_of valued.now) (relocation_of valued.now.number (valued_object valued.now) target entry.now)) (fitting_of (all_valued valued.now) (where_of valued.now) (relocation_of valued.now.number (valued_object valued.now) target entry.now)) }
 {
     let Some(kind) = Kind::of(entry.kind()) else {
         unreachable!()
@@ -176,8 +182,7 @@ pub fn patch(valued: &Valued<'_, '_>, target: u64, at: u64, entry: &Rela) -> Opt
     if !fits(kind, value) {
         return None;
     }
-    Some(Patch {
-        at: entry.r_offset,
+    Some(Fitting {
         value,
         width: kind.width,
     })

@@ -1,4 +1,4 @@
-use Rattle.std.proofs.Common.{◌≡◌, ◌∙◌, ℕ, [], ap, sym, unwrap_or}
+use Rattle.std.proofs.Common.{◌∙◌, ℕ, [], ap, sym, unwrap_or}
 use Rattle.elf_model.specs.ObjectFile.{symbol_name}
 use Rattle.elf_model.specs.Relocation.{relocation_of}
 use Rattle.relocate.specs.SymbolTables.{all_of, referring}

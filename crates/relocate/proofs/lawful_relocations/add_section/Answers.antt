@@ -10,7 +10,7 @@ returns-clause-lawful c =
     let n = c.args.referrer.now.number in
     let o = referring c.args.referrer.now in
     let h = c.args.header.now in
-    let es = c.entries_of-entries.result.now in
+    let es = c.entries_of-entries.result in
     let same : map (relocation_of n o c.relocated-target.result.number) (filter is_some_kind es) ≡ relocations_in n o h =
     ap (λ (k : ℕ). map (relocation_of n o k) (filter is_some_kind es)) c.relocated-target.ensures.number
     ∙ ap (λ (xs : List Rela). map (relocation_of n o h.sh_info) (filter is_some_kind xs)) c.entries_of-entries.ensures in

@@ -12,8 +12,8 @@ use Rattle.relocate.proofs.lawful_relocations.judge_referrer.Goals as goal
 
 pub are_apart-requires : goal.are_apart-requires
 are_apart-requires c =
-    subst (All IsSome) (sym c.in_ok-fields.ensures.fields)
-    (some_fields (all_of c.args.referrer.now) (relocations_from c.args.referrer.now.number (referring c.args.referrer.now)) c.in_ok-fields.ensures.lawful)
+    subst (All IsSome) (sym c.in_ok-list_fields.ensures.fields)
+    (some_fields (all_of c.args.referrer.now) (relocations_from c.args.referrer.now.number (referring c.args.referrer.now)) c.in_ok-list_fields.ensures.lawful)
 
 pub returns-then-not-branch-clause-fault : goal.returns-then-not-branch-clause-fault
 returns-then-not-branch-clause-fault c = λ pairs.
@@ -21,15 +21,15 @@ returns-then-not-branch-clause-fault c = λ pairs.
     let o = referring c.args.referrer.now in
     let rs = relocations_from n o in
     let apart = AllPairs-map AreApart field_of rs (ranges_of_apart n rs (own_object n o) pairs) in
-    false≢true (sym c.if-not-branch.true ∙ c.in_ok-are_apart.ensures.1 (subst (AllPairs AreApart) (sym c.in_ok-fields.ensures.fields) apart))
+    false≢true (sym c.if-not-branch.true ∙ c.in_ok-are_apart.ensures.1 (subst (AllPairs AreApart) (sym c.in_ok-list_fields.ensures.fields) apart))
 
 pub returns-clause-lawful : goal.returns-clause-lawful
 returns-clause-lawful c =
     let rs = relocations_from c.args.referrer.now.number (referring c.args.referrer.now) in
     record {
-      each = c.in_ok-fields.ensures.lawful;
+      each = c.in_ok-list_fields.ensures.lawful;
       apart =
           apart_of_ranges rs
           (AllPairs-unmap AreApart field_of rs
-          (subst (AllPairs AreApart) c.in_ok-fields.ensures.fields (c.in_ok-are_apart.ensures.0 c.if-not-branch.false)));
+          (subst (AllPairs AreApart) c.in_ok-list_fields.ensures.fields (c.in_ok-are_apart.ensures.0 c.if-not-branch.false)));
     }

@@ -65,7 +65,7 @@ loop-k-preserved c =
       rows =
           row_more L w k o c.loop-k.rows.items c.push.new.self.items c.in_ok-row.row c.in_ok-push.ensures.items
           (next_there xs k d c.loop-k-test.true c.index-objects-k.is)
-          (subst (λ (os : List LoadedObject). ArePatchRows os w here c.in_ok-row.row.items) c.requires.resolved c.in_ok-row.ensures.rows)
+          (subst (λ (os : List LoadedObject). ArePatchRows os w here c.in_ok-row.row) c.requires.resolved c.in_ok-row.ensures.rows)
           c.loop-k.invariant.rows;
       leaves =
           fit_part L w (relocations L) (left_of_objects loaded_view xs k) here (left_of_objects loaded_view xs (k + 1))

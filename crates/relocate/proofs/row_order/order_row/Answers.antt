@@ -1,6 +1,6 @@
-use Rattle.std.proofs.Common.{rules, subst}
+use Rattle.std.proofs.Common.{rules}
 use Rattle.std.proofs.lemmas.List.Sorted.{IsNonDecreasingBy-from_all_adjacent, IsNonDecreasingBy-from_sort_by_key, IsPermutation-refl}
-use Rattle.relocate.specs.Patches.{IsOrdered, begin_of}
+use Rattle.relocate.specs.Patches.{begin_of}
 use Rattle.relocate.proofs.row_order.order_row.Goals as goal
 
 pub returns-then-not-ascends : goal.returns-then-not-ascends
@@ -11,6 +11,6 @@ returns-then-not-ascends c = record {
 
 pub returns-else-not-ascends : goal.returns-else-not-ascends
 returns-else-not-ascends c = record {
-  same = IsPermutation-refl c.args.row.now.items;
-  ordered = IsNonDecreasingBy-from_all_adjacent begin_of c.args.row.now.items (subst IsOrdered c.deref.ensures.value (c.ascends.ensures.0 c.if-not-ascends.false));
+  same = IsPermutation-refl c.args.row.now;
+  ordered = IsNonDecreasingBy-from_all_adjacent begin_of c.args.row.now (c.ascends.ensures.0 c.if-not-ascends.false);
 }

@@ -2,7 +2,7 @@ use Rattle.std.proofs.Common.{rules}
 use Rattle.std.proofs.lemmas.List.Sorted.{answers_always}
 use Rattle.elf_model.proofs.RangeOrder.{sorted_ordered}
 use Rattle.relocate.specs.declared.fields.Field.{Field}
-use Rattle.relocate.proofs.fields.in_order.Goals as goal
+use Rattle.relocate.proofs.fields.put_in_order.Goals as goal
 
 pub returns-clause-ordered : goal.returns-clause-ordered
 returns-clause-ordered c =

@@ -11,7 +11,7 @@ use Rattle.relocate.proofs.Judged.{exit_fails, leaves_all, leaves_fail, leaves_p
 use Rattle.elf_model.proofs.Mapped.{append_mapped}
 use Rattle.relocate.specs.Fields.{field_of}
 use Rattle.relocate.specs.declared.fields.Field.{Field}
-use Rattle.relocate.proofs.lawful_relocations.lawful_fields.Goals as goal
+use Rattle.relocate.proofs.lawful_relocations.list_fields.Goals as goal
 
 pub loop-i-init : goal.loop-i-init
 loop-i-init c =
@@ -22,7 +22,7 @@ loop-i-init c =
     ap (λ (ss : List SectionHeader). relocations_behind n o 0 ss) c.sections-headers.ensures in
     record {
       fields =
-          ap (λ (xs : List Field). xs ++ map field_of (left_of_sections n o hs 0)) c.new-fields.ensures.items ∙ ap (map field_of) same;
+          ap (λ (xs : List Field). xs ++ map field_of (left_of_sections n o hs 0)) c.clear.ensures.items ∙ ap (map field_of) same;
       leaves = leaves_all (all_of c.args.referrer.now) (relocations_from n o) (left_of_sections n o hs 0) same;
     }
 

@@ -4,7 +4,7 @@ use Rattle.elf_model.specs.Relocation.{relocations_from}
 use Rattle.relocate.specs.SymbolTables.{all_of, referring}
 use Rattle.relocate.proofs.Judged.{Leaves}
 use Rattle.relocate.specs.Fields.{field_of}
-use Rattle.relocate.proofs.lawful_relocations.lawful_fields.Given as goal
+use Rattle.relocate.proofs.lawful_relocations.list_fields.Given as goal
 
 abbrev pub invariant-loop-i : goal.invariant-loop-i
 invariant-loop-i l = record {

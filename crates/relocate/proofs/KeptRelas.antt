@@ -1,0 +1,230 @@
+-- The kept RELA sections of an object: one after the other, and by the sections that they relocate. Their relocations are
+-- those of the object, in another order.
+use Rattle.std.proofs.Common.{◌≡◌, ℕ, suc, ◌+◌, ◌<◌, ◌≤◌, ◌==◌, Bool, true, false, cond, List, [], ◌∷◌, ◌++◌, drop, get_or, length, map, refl, subst, sym, take, ap, ◌∙◌, arith}
+use Rattle.std.specs.Prelude.{All, Contains, filter, slice_range}
+use Rattle.std.specs.List.Sorted.{IsNonDecreasingBy}
+use Rattle.std.proofs.lemmas.List.{drop_all, length-take-le, map-append, take-append-drop, take-append-le}
+use Rattle.std.proofs.lemmas.Bool.{eqb-false, eqb-true}
+use Rattle.std.proofs.lemmas.Grind.{flat_map-append}
+use Rattle.std.proofs.lemmas.List.Elements.{All-contains, All-cons, All-head, All-nil, All-tail}
+use Rattle.std.proofs.lemmas.List.Folds.{drop_split}
+use Rattle.std.proofs.lemmas.Option.{slice_get-get_or}
+use Rattle.std.proofs.lemmas.Slice.{between_is}
+use Rattle.elf_model.specs.ArrayOrder.{by_rank}
+use Rattle.elf_model.specs.Loading.{LoadedObject}
+use Rattle.elf_model.specs.ObjectFile.{null_section, section, sections}
+use Rattle.elf_model.specs.Placement.{Where}
+use Rattle.elf_model.specs.Relocation.{Relocation, is_kept_rela, relocations_behind, relocations_from, relocations_in}
+use Rattle.elf_model.specs.declared.records.SectionHeader.{SectionHeader}
+use Rattle.elf_model.proofs.ArrayOrder.{Contains-by_rank, Contains-from_by_rank, IsRising, by_rank_is, by_rank_kept}
+use Rattle.elf_model.proofs.Listed.{All-from_contains, Contains-flat_map, Contains-from_flat_map}
+use Rattle.elf_model.proofs.Rests.{rest_at}
+use Rattle.relocate.proofs.Rows.{own_section, patches_append, patches_elsewhere, patches_here}
+use Rattle.relocate.specs.KeptRelas.{IsKeptRela, kept_relas, kept_relas_behind, relocations_by, relocations_of_relas, target_of}
+use Rattle.relocate.specs.Values.{patch_of, patches_in}
+use Rattle.relocate.specs.declared.kept_relas.KeptRela.{KeptRela}
+use Rattle.relocate.specs.declared.patch.Patch.{Patch}
+
+-- those of the sections that are left
+abbrev pub left_of_relas : LoadedObject → List SectionHeader → ℕ → List KeptRela
+left_of_relas o hs i = kept_relas_behind o i (drop i hs)
+
+pub rela_step :
+    (o : LoadedObject) (hs : List SectionHeader) (i : ℕ) (d : SectionHeader) (b : Bool) → i < length hs → is_kept_rela o i (get_or hs i d) ≡ b →
+    left_of_relas o hs i ≡ cond b (record { target = (get_or hs i d).sh_info; number = i } ∷ []) [] ++ left_of_relas o hs (i + 1)
+rela_step o hs i d b within e =
+    ap (λ (ys : List SectionHeader). kept_relas_behind o i ys) (rest_at hs i d within)
+    ∙ ap (λ (t : Bool). cond {A = List KeptRela} t (record { target = (get_or hs i d).sh_info; number = i } ∷ []) [] ++ left_of_relas o hs (i + 1)) e
+
+pub rela_end : (o : LoadedObject) (hs : List SectionHeader) (i : ℕ) → length hs ≤ i → left_of_relas o hs i ≡ []
+rela_end o hs i behind = ap (λ (ys : List SectionHeader). kept_relas_behind o i ys) (drop_all i hs behind)
+
+-- sections from number i on of all
+abbrev Reads : List SectionHeader → ℕ → List SectionHeader → Type 0
+Reads all i hs = (k j : ℕ) → j ≡ i + k → k < length hs → (j < length all) × (get_or all j null_section ≡ get_or hs k null_section)
+
+later : (all : List SectionHeader) (i : ℕ) (h : SectionHeader) (hs : List SectionHeader) → Reads all i (h ∷ hs) → Reads all (i + 1) hs
+later all i h hs reads k j at low = reads (suc k) j (omega (arith, at)) (omega (arith, low))
+
+module _ (n : ℕ) (o : LoadedObject) where
+  all_here : List SectionHeader
+  all_here = sections o.bytes
+
+  pub listed_is :
+      (hs : List SectionHeader) (i : ℕ) → Reads (sections o.bytes) i hs →
+      relocations_behind n o i hs ≡ relocations_of_relas n o (kept_relas_behind o i hs)
+  listed_is [] i reads = refl
+  listed_is (h ∷ hs) i reads = by (is_kept_rela o i h) (listed_is hs (i + 1) (later (sections o.bytes) i h hs reads))
+    where
+      here : section (sections o.bytes) i ≡ h
+      here = (reads 0 i (omega arith) (omega arith)).1
+
+      by :
+          (b : Bool) → relocations_behind n o (i + 1) hs ≡ relocations_of_relas n o (kept_relas_behind o (i + 1) hs) →
+          cond b (relocations_in n o h) [] ++ relocations_behind n o (i + 1) hs
+          ≡ relocations_of_relas n o (cond b (record { target = h.sh_info; number = i } ∷ []) [] ++ kept_relas_behind o (i + 1) hs)
+      by true rest =
+          ap (λ (rs : List Relocation). relocations_in n o h ++ rs) rest
+          ∙ ap (λ (g : SectionHeader). relocations_in n o g ++ relocations_of_relas n o (kept_relas_behind o (i + 1) hs)) (sym here)
+      by false rest = rest
+
+  whole_reads : Reads (sections o.bytes) 0 (sections o.bytes)
+  whole_reads k j at low = let same : k ≡ j = omega (arith, at) in (omega (arith, same, low), ap (λ (m : ℕ). get_or (sections o.bytes) m null_section) (sym same))
+
+  pub relocations_listed : relocations_from n o ≡ relocations_of_relas n o (kept_relas o)
+  relocations_listed = listed_is (sections o.bytes) 0 whole_reads
+
+  -- each of them is kept
+  all_kept : (hs : List SectionHeader) (i : ℕ) → Reads (sections o.bytes) i hs → All (IsKeptRela o) (kept_relas_behind o i hs)
+  all_kept [] i reads = All-nil (IsKeptRela o)
+  all_kept (h ∷ hs) i reads = by (is_kept_rela o i h) refl (all_kept hs (i + 1) (later (sections o.bytes) i h hs reads))
+    where
+      first : (i < length (sections o.bytes)) × (section (sections o.bytes) i ≡ h)
+      first = reads 0 i (omega arith) (omega arith)
+
+      by :
+          (b : Bool) → is_kept_rela o i h ≡ b → All (IsKeptRela o) (kept_relas_behind o (i + 1) hs) →
+          All (IsKeptRela o) (cond b (record { target = h.sh_info; number = i } ∷ []) [] ++ kept_relas_behind o (i + 1) hs)
+      by true e rest =
+          All-cons (IsKeptRela o) (record { target = h.sh_info; number = i }) (kept_relas_behind o (i + 1) hs)
+          (record {
+            there = slice_get-get_or (sections o.bytes) i null_section first.0;
+            kept = ap (is_kept_rela o i) first.1 ∙ e;
+            target_is = ap (λ (g : SectionHeader). g.sh_info) (sym first.1);
+          }) rest
+      by false e rest = rest
+
+  pub relas_kept : All (IsKeptRela o) (kept_relas o)
+  relas_kept = all_kept (sections o.bytes) 0 whole_reads
+
+-- By their targets.
+
+module _ (n : ℕ) (o : LoadedObject) (relas : List KeptRela) (order : relas ≡ by_rank target_of (kept_relas o)) where
+  pub ordered_kept : All (IsKeptRela o) relas
+  ordered_kept =
+      subst (All (IsKeptRela o)) (sym order)
+      (All-from_contains (IsKeptRela o) (by_rank target_of (kept_relas o))
+      (λ k there. All-contains (IsKeptRela o) (kept_relas o) k (relas_kept n o) (Contains-from_by_rank target_of (kept_relas o) k there)))
+
+  there_from : (r : Relocation) → Contains (relocations_of_relas n o relas) r → Contains (relocations_from n o) r
+  there_from r there =
+      let p = Contains-from_flat_map (relocations_by n o) relas r there in
+      subst (λ (rs : List Relocation). Contains rs r) (sym (relocations_listed n o))
+      (Contains-flat_map (relocations_by n o) (kept_relas o) p.of r
+      (Contains-from_by_rank target_of (kept_relas o) p.of (subst (λ (ks : List KeptRela). Contains ks p.of) order p.there)) p.within)
+
+  there_back : (r : Relocation) → Contains (relocations_from n o) r → Contains (relocations_of_relas n o relas) r
+  there_back r there =
+      let p = Contains-from_flat_map (relocations_by n o) (kept_relas o) r (subst (λ (rs : List Relocation). Contains rs r) (relocations_listed n o) there) in
+      Contains-flat_map (relocations_by n o) relas p.of r
+      (subst (λ (ks : List KeptRela). Contains ks p.of) (sym order) (Contains-by_rank target_of (kept_relas o) p.of p.there)) p.within
+
+  -- what holds of all relocations of the object holds of them in this order
+  pub all_ordered : (P : Relocation → Type 0) → All P (relocations_from n o) → All P (relocations_of_relas n o relas)
+  all_ordered P all =
+      All-from_contains P (relocations_of_relas n o relas) (λ r there. All-contains P (relocations_from n o) r all (there_from r there))
+
+  pub all_from_ordered : (P : Relocation → Type 0) → All P (relocations_of_relas n o relas) → All P (relocations_from n o)
+  all_from_ordered P all =
+      All-from_contains P (relocations_from n o) (λ r there. All-contains P (relocations_of_relas n o relas) r all (there_back r there))
+
+-- a list that ascends is in this order
+rises : (ks : List KeptRela) → IsNonDecreasingBy target_of ks → IsRising target_of ks
+rises [] up = tt
+rises (k ∷ ks) up = (
+  (λ j d within. up 0 (suc j) d (omega arith) (omega (arith, within))),
+  rises ks (λ i j d order within. up (suc i) (suc j) d (omega (arith, order)) (omega (arith, within))),
+)
+
+pub ascending_is : (ks : List KeptRela) → IsNonDecreasingBy target_of ks → ks ≡ by_rank target_of ks
+ascending_is ks up = by_rank_is target_of ks ks (rises ks up) (λ z. refl)
+
+-- the relocations of those that are left, and of the first ones
+pub relas_more :
+    (n : ℕ) (o : LoadedObject) (ks : List KeptRela) (i : ℕ) (d : KeptRela) → i < length ks →
+    relocations_of_relas n o (drop i ks) ≡ relocations_by n o (get_or ks i d) ++ relocations_of_relas n o (drop (i + 1) ks)
+relas_more n o ks i d within = ap (relocations_of_relas n o) (rest_at ks i d within)
+
+pub relas_end : (n : ℕ) (o : LoadedObject) (ks : List KeptRela) (i : ℕ) → length ks ≤ i → relocations_of_relas n o (drop i ks) ≡ []
+relas_end n o ks i behind = ap (relocations_of_relas n o) (drop_all i ks behind)
+
+-- and of a row of them
+pub row_left :
+    (n : ℕ) (o : LoadedObject) (ks : List KeptRela) (from end : ℕ) → from ≤ end →
+    relocations_of_relas n o (drop from ks) ≡ relocations_of_relas n o (slice_range ks from end) ++ relocations_of_relas n o (drop end ks)
+row_left n o ks from end low =
+    ap (relocations_of_relas n o) (drop_split ks from end low) ∙ flat_map-append (relocations_by n o) (slice_range ks from end) (drop end ks)
+
+pub row_done :
+    (n : ℕ) (o : LoadedObject) (ks : List KeptRela) (from end : ℕ) → from ≤ end → end ≤ length ks →
+    relocations_of_relas n o (take from ks) ++ relocations_of_relas n o (slice_range ks from end) ≡ relocations_of_relas n o (take end ks)
+row_done n o ks from end low within =
+    sym (flat_map-append (relocations_by n o) (take from ks) (slice_range ks from end)) ∙ ap (relocations_of_relas n o) (sym parts)
+  where
+    long : length (take end ks) ≡ end
+    long = length-take-le end ks within
+
+    front : take from (take end ks) ≡ take from ks
+    front = sym (take-append-le from (take end ks) (drop end ks) (omega (arith, long, low))) ∙ ap (take from) (take-append-drop end ks)
+
+    parts : take end ks ≡ take from ks ++ slice_range ks from end
+    parts =
+        sym (take-append-drop from (take end ks))
+        ∙ (ap (λ (xs : List KeptRela). xs ++ drop from (take end ks)) front
+        ∙ ap (λ (xs : List KeptRela). take from ks ++ xs) (sym (between_is ks from end)))
+
+-- the relocations of RELA sections of one section are of that section
+pub row_section :
+    (n : ℕ) (o : LoadedObject) (t : ℕ) (ks : List KeptRela) → All (IsKeptRela o) ks → All (λ k. k.target ≡ t) ks →
+    All (λ r. r.section ≡ t) (relocations_of_relas n o ks)
+row_section n o t ks kept targets =
+    All-from_contains (λ r. r.section ≡ t) (relocations_of_relas n o ks)
+    (λ r there.
+    let p = Contains-from_flat_map (relocations_by n o) ks r there in
+    All-contains (λ (x : Relocation). x.section ≡ (section (sections o.bytes) p.of.number).sh_info) (relocations_by n o p.of) r
+    (own_section n o (section (sections o.bytes) p.of.number)) p.within
+    ∙ (sym (All-contains (IsKeptRela o) ks p.of kept p.there).target_is ∙ All-contains (λ (k : KeptRela). k.target ≡ t) ks p.of targets p.there))
+
+-- the patches of a section are those of the RELA sections that relocate it, in either order
+module _ (objects : List LoadedObject) (w : Where) (n : ℕ) (o : LoadedObject) (s : ℕ) where
+  pub by_row :
+      (ks : List KeptRela) → All (IsKeptRela o) ks →
+      patches_in objects w (relocations_of_relas n o ks) s ≡ map (patch_of objects w) (relocations_of_relas n o (filter (λ k. s == k.target) ks))
+  by_row [] kept = refl
+  by_row (k ∷ ks) kept = by (s == k.target) refl (by_row ks (All-tail (IsKeptRela o) k ks kept))
+    where
+      own : All (λ r. r.section ≡ k.target) (relocations_by n o k)
+      own =
+          subst (λ (t : ℕ). All (λ (r : Relocation). r.section ≡ t) (relocations_by n o k)) (sym (All-head (IsKeptRela o) k ks kept).target_is)
+          (own_section n o (section (sections o.bytes) k.number))
+
+      parts : patches_in objects w (relocations_of_relas n o (k ∷ ks)) s ≡ patches_in objects w (relocations_by n o k) s ++ patches_in objects w (relocations_of_relas n o ks) s
+      parts = patches_append objects w (relocations_by n o k) (relocations_of_relas n o ks) s
+
+      by :
+          (b : Bool) → (s == k.target) ≡ b →
+          patches_in objects w (relocations_of_relas n o ks) s ≡ map (patch_of objects w) (relocations_of_relas n o (filter (λ j. s == j.target) ks)) →
+          patches_in objects w (relocations_of_relas n o (k ∷ ks)) s
+          ≡ map (patch_of objects w) (relocations_of_relas n o (cond (s == k.target) (k ∷ filter (λ j. s == j.target) ks) (filter (λ j. s == j.target) ks)))
+      by true e rest =
+          parts
+          ∙ (ap (λ (ps : List Patch). ps ++ patches_in objects w (relocations_of_relas n o ks) s)
+          (patches_here objects w s (relocations_by n o k) (subst (λ (t : ℕ). All (λ (r : Relocation). r.section ≡ t) (relocations_by n o k)) (sym (eqb-true s k.target e)) own))
+          ∙ (ap (λ (ps : List Patch). map (patch_of objects w) (relocations_by n o k) ++ ps) rest
+          ∙ (sym (map-append (patch_of objects w) (relocations_by n o k) (relocations_of_relas n o (filter (λ j. s == j.target) ks)))
+          ∙ ap (λ (t : Bool). map (patch_of objects w) (relocations_of_relas n o (cond t (k ∷ filter (λ j. s == j.target) ks) (filter (λ j. s == j.target) ks)))) (sym e))))
+      by false e rest =
+          parts
+          ∙ (ap (λ (ps : List Patch). ps ++ patches_in objects w (relocations_of_relas n o ks) s)
+          (patches_elsewhere objects w k.target s (relocations_by n o k) own (λ f. eqb-false s k.target e (sym f)))
+          ∙ (rest
+          ∙ ap (λ (t : Bool). map (patch_of objects w) (relocations_of_relas n o (cond t (k ∷ filter (λ j. s == j.target) ks) (filter (λ j. s == j.target) ks)))) (sym e)))
+
+  pub patches_ordered :
+      (relas : List KeptRela) → relas ≡ by_rank target_of (kept_relas o) →
+      patches_in objects w (relocations_of_relas n o relas) s ≡ patches_in objects w (relocations_from n o) s
+  patches_ordered relas order =
+      by_row relas (ordered_kept n o relas order)
+      ∙ (ap (λ (ks : List KeptRela). map (patch_of objects w) (relocations_of_relas n o ks))
+      (ap (filter (λ k. s == k.target)) order ∙ by_rank_kept target_of (record { target = s; number = 0 }) (kept_relas o))
+      ∙ (sym (by_row (kept_relas o) (relas_kept n o)) ∙ ap (λ (rs : List Relocation). patches_in objects w rs s) (sym (relocations_listed n o))))
