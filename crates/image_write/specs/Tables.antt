@@ -6,7 +6,8 @@ use Rattle.elf_model.specs.Loading.{LoadedObject}
 use Rattle.elf_model.specs.Meaning.{Meaning, meaning_name}
 use Rattle.elf_model.specs.Placement.{Placed, Where, round_up}
 use Rattle.elf_model.specs.Records.{symbol_bytes}
-use Rattle.elf_model.specs.SymbolTable.{ended, entries_from, entry_count, has_entry, name_section, null_header, section_names, strings_header, tables_end}
+use Rattle.elf_model.specs.ObjectFile.{null_section}
+use Rattle.elf_model.specs.SymbolTable.{ended, entries_from, entry_count, has_entry, name_section, section_names, strings_header, tables_end}
 use Rattle.elf_model.specs.OwnLayout.{own_in_load_order, own_where}
 use Rattle.elf_model.specs.Pieces.{AreLawfulKinds}
 use Rattle.elf_model.specs.declared.constants.TheConstants.{SHT_SYMTAB}
@@ -91,7 +92,7 @@ symbols_header_of t = record {
 
 abbrev pub table_headers_of : SymbolTable → List SectionHeader
 table_headers_of t =
-    null_header
+    null_section
     ∷ (symbols_header_of t
     ∷ (strings_header 9 (names_place t) t.names ∷ (strings_header 17 (section_names_place t) (length section_names) ∷ [])))
 

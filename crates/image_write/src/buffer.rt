@@ -9,10 +9,10 @@ use relocate::{Patches, apply_part};
 use std::alloc::{AllocError, Global};
 use std::marker::Model;
 
-/// How many bytes a buffer has room for.
-pub const BUFFER_SIZE: usize = 4096;
+/// How many bytes a buffer has room for. Smaller writes to a file cost more a byte.
+pub const BUFFER_SIZE: usize = 65536;
 
-/// Up to 4096 bytes, in room that is made with it.
+/// Up to BUFFER_SIZE bytes, in room that is made with it.
 #[derive(Drop)]
 pub struct Buffer {
     bytes: Vec<u8>,
@@ -20,12 +20,13 @@ pub struct Buffer {
 
 impl Model for Buffer {
     ghost use Rattle.std.specs.Prelude.{List, ℕ, ◌≤◌, vec_capacity, vec_len};
+    ghost use Rattle.image_write.specs.declared.buffer.TheConstants.{BUFFER_SIZE};
 
     ghost Value = { List ℕ };
 
     ghost view = { λ b. b.bytes.items };
 
-    ghost invariant = { λ b. (4096 ≤ vec_capacity b.bytes) × (vec_len b.bytes ≤ 4096) };
+    ghost invariant = { λ b. (BUFFER_SIZE ≤ vec_capacity b.bytes) × (vec_len b.bytes ≤ BUFFER_SIZE) };
 }
 
 impl Buffer {
@@ -40,7 +41,7 @@ impl Buffer {
 
     /// How many bytes more it has room for.
     pub fn room(&self) -> usize
-        ensures { result + length self.now ≡ 4096 }
+        ensures { result + length self.now ≡ BUFFER_SIZE }
     {
         BUFFER_SIZE - self.bytes.len()
     }
@@ -68,7 +69,7 @@ impl Buffer {
 
     /// Adds bytes, for which there is room.
     pub fn add(&mut self, bytes: &[u8])
-        requires { length self.old + length bytes.now ≤ 4096 }
+        requires { length self.old + length bytes.now ≤ BUFFER_SIZE }
         ensures { self.new ≡ self.old ++ bytes.now }
     {
         let Ok(()) = self.bytes.extend_from_slice(bytes) else {
@@ -85,7 +86,7 @@ impl Buffer {
         from: u64,
         bytes: &[u8],
     )
-        requires { length self.old + length bytes.now ≤ 4096 }
+        requires { length self.old + length bytes.now ≤ BUFFER_SIZE }
         ensures { (p : Piece) → IsOfSection section p → ArePartOf p from bytes.now → self.new ≡ self.old ++ wanted_run patches.now.objects (own_where patches.now.base patches.now.objects) p from (length bytes.now) }
     {
         let at = self.bytes.len();
@@ -98,7 +99,7 @@ impl Buffer {
 
     /// Adds a byte so many times, for which there is room.
     pub fn add_run(&mut self, count: usize, byte: u8)
-        requires { length self.old + count ≤ 4096 }
+        requires { length self.old + count ≤ BUFFER_SIZE }
         ensures { self.new ≡ self.old ++ replicate count byte }
     {
         let len = self.bytes.len();

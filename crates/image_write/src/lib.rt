@@ -9,6 +9,7 @@ mod got;
 mod headers;
 mod image_file;
 mod linkage;
+mod listed;
 mod memory_sink;
 mod pieces;
 mod sink;
@@ -20,6 +21,7 @@ mod written_image;
 
 pub use image_file::file_end;
 pub use linkage::{Linkage, Parts};
+pub use listed::Listed;
 pub use sink::{Sink, SinkFault, WriteFault};
 pub use symbol_table::SymbolTable;
 pub use values::{block_address, definition_value, symbol_value};

@@ -1,28 +1,27 @@
 //! A link that is prepared: what is loaded, where it stands, what its relocations want, and what its names mean.
 ghost use Rattle.std.specs.Prelude.{◌≡◌};
 ghost use Rattle.image_write.specs.Linkages.{AreParts, linked_of, loaded_of};
+ghost use Rattle.image_write.specs.Listings.{in_order};
 ghost use Rattle.resolve.specs.Views.{meaning_views};
 
-use crate::symbol_table::SymbolTable;
+use crate::listed::Listed;
 use got_tls::Slots;
 use layout::Placement;
 use relocate::Patches;
-use resolve::Definition;
 use search::Loaded;
 use std::marker::Model;
 
-/// What the layers make of what is loaded: the definitions that have a line in the map, in the order of their names, where
-/// the pieces stand, the slots of the GOT and what they hold, what the relocations want, the address at which the image
-/// is entered, and its symbol table, where it is to have one.
+/// What the layers make of what is loaded: the definitions that have a line in the map, with the symbol table of the image,
+/// where it is to have one; where the pieces stand; the slots of the GOT and what they hold; what the relocations want; and
+/// the address at which the image is entered.
 #[derive(Drop)]
 pub struct Parts<'a> {
-    pub listed: Vec<Definition<'a>>,
+    pub listed: Listed<'a>,
     pub placement: Placement<'a>,
     pub slots: Slots<'a>,
     pub values: Vec<u64>,
     pub patches: Patches<'a>,
     pub entry: u64,
-    pub table: Option<SymbolTable>,
 }
 
 /// A link without a fault: the plan of a command with its loaded objects, and all that their image and their map are made
@@ -62,7 +61,7 @@ impl<'a> Linkage<'a> {
     /// What the layers made of it.
     pub fn parts(&self) -> &Parts<'a>
         ensures parts { AreParts (loaded_of self.now) result.now }
-        ensures listed { meaning_views result.now.listed.items ≡ self.now.listed }
+        ensures listed { meaning_views (in_order result.now.listed) ≡ self.now.listed }
     {
         &self.parts
     }

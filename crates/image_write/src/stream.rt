@@ -52,7 +52,7 @@ pub fn put<S: Sink>(sink: &mut S, buffer: &mut Buffer, bytes: &[u8]) -> Result<(
 pub fn make_room<S: Sink>(sink: &mut S, buffer: &mut Buffer) -> Result<(), SinkFault>
     requires { S.failed sink.old ≡ 0 }
     ensures puts { Puts (stream (S.told sink.old) buffer.old (S.failed sink.old)) [] result (stream (S.told sink.new) buffer.new (S.failed sink.new)) }
-    ensures room { OnOk result (length buffer.new < 4096) }
+    ensures room { OnOk result (length buffer.new < BUFFER_SIZE) }
 {
     if buffer.room() > 0 {
         return Ok(());

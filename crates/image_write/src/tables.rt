@@ -36,20 +36,6 @@ fn put_symbol<S: Sink>(sink: &mut S, buffer: &mut Buffer, symbol: &Symbol) -> Re
     put(sink, buffer, &bytes)
 }
 
-/// The entry of number 0.
-fn null_symbol() -> Symbol
-    ensures { result ≡ table.null_entry }
-{
-    Symbol {
-        st_name: 0,
-        st_info: 0,
-        st_other: 0,
-        st_shndx: 0,
-        st_value: 0,
-        st_size: 0,
-    }
-}
-
 /// Puts the entry of a definition whose name stands at an offset of `.strtab`, where it has one, and answers where the next
 /// name stands.
 fn put_entry<S: Sink>(
@@ -124,24 +110,6 @@ fn put_names<S: Sink>(
     Ok(())
 }
 
-/// The section header of number 0.
-fn null_header() -> SectionHeader
-    ensures { result ≡ table.null_header }
-{
-    SectionHeader {
-        sh_name: 0,
-        sh_type: SHT_NULL,
-        sh_flags: 0,
-        sh_addr: 0,
-        sh_offset: 0,
-        sh_size: 0,
-        sh_link: 0,
-        sh_info: 0,
-        sh_addralign: 0,
-        sh_entsize: 0,
-    }
-}
-
 /// The header of `.symtab`: its names stand in section 2, and only the entry of number 0 is LOCAL.
 fn symbols_header(symbols: &SymbolTable) -> SectionHeader
     requires { IsInRange symbols.now }
@@ -213,7 +181,7 @@ fn section_headers(symbols: &SymbolTable) -> [SectionHeader; 4]
     ensures { result ≡ table_headers_of symbols.now }
 {
     [
-        null_header(),
+        SectionHeader::NULL,
         symbols_header(symbols),
         strings_header(9, symbols.strings(), symbols.names),
         strings_header(17, symbols.section_names(), SECTION_NAMES.len() as u64),
@@ -231,7 +199,7 @@ fn put_symbols<S: Sink>(
     requires whole { S.failed sink.old ≡ 0 }
     ensures { Puts (stream (S.told sink.old) buffer.old (S.failed sink.old)) (table.symbol_section (where_of names.now) (entered_of names.now) ++ table.name_section (entered_of names.now)) result (stream (S.told sink.new) buffer.new (S.failed sink.new)) }
 {
-    put_symbol(sink, buffer, &null_symbol())?;
+    put_symbol(sink, buffer, &Symbol::NULL)?;
     put_entries(sink, buffer, names)?;
     put(sink, buffer, b"\0")?;
     put_names(sink, buffer, names)

@@ -26,15 +26,15 @@ fn write_tables<S: Sink>(
     let names = Names {
         objects: linkage.loaded().objects(),
         placement: &parts.placement,
-        listed: &parts.listed,
+        listed: parts.listed.in_order(),
     };
-    match parts.table {
+    match parts.listed.table() {
         Some(table) => put_tables(sink, buffer, &names, &table),
         None => Ok(()),
     }
 }
 
-/// Writes the image file of a link to a device, through one buffer of 4096 bytes, which is made before the device is
+/// Writes the image file of a link to a device, through one buffer of 64 KiB, which is made before the device is
 /// given anything; runs of at least so many bytes that no relocation touches are given straight from the input.
 ///
 /// # Errors
@@ -58,7 +58,13 @@ pub fn write_image<S: Sink>(
         patches: &parts.patches,
         slots: &parts.values,
     };
-    write_file(sink, &mut buffer, &contents, parts.entry, parts.table)?;
+    write_file(
+        sink,
+        &mut buffer,
+        &contents,
+        parts.entry,
+        parts.listed.table(),
+    )?;
     write_tables(sink, &mut buffer, linkage)?;
     flush(sink, &mut buffer)?;
     Ok(())
@@ -73,7 +79,7 @@ pub fn image(alloc: Global, linkage: &Linkage<'_>) -> Result<Vec<u8>, AllocError
     ensures { IfOk result (λ v. v.items ≡ own_image linkage.now) }
 {
     let parts = linkage.parts();
-    let size = match parts.table {
+    let size = match parts.listed.table() {
         Some(table) => table.end(),
         None => file_end(parts.placement.segments()),
     };

@@ -1,5 +1,5 @@
 //! A map's text.
-ghost use Rattle.std.specs.Prelude.{◌≡◌, ◌++◌, IfOk, OnOk, All, option_to_list};
+ghost use Rattle.std.specs.Prelude.{◌≡◌, ◌<◌, ◌^◌, ◌++◌, IfOk, OnOk, All, option_to_list};
 ghost use Rattle.std.specs.List.{flat_map};
 ghost use Rattle.elf_model.specs.MapRecord.{map_of, object_row, place_row, common_row, slot_row, target_row, symbol_row};
 ghost use Rattle.elf_model.specs.MapText as map_text;
@@ -124,31 +124,26 @@ fn put_slot(out: &mut Vec<u8>, s: &SlotLine) -> Result<(), AllocError>
     Ok(())
 }
 
+/// Puts a word, and an object with the number of a symbol of it.
+fn put_chosen(out: &mut Vec<u8>, word: &[u8], object: u64, symbol: u64) -> Result<(), AllocError>
+    ensures text { OnOk result (out.new.items ≡ out.old.items ++ (word.now ++ (map_text.number object ++ map_text.number symbol))) }
+    ensures fits { OnOk result ((object < 2 ^ 64) × (symbol < 2 ^ 64)) }
+{
+    out.extend_from_slice(word)?;
+    put_number(out, object)?;
+    put_number(out, symbol)?;
+    Ok(())
+}
+
 fn put_definition(out: &mut Vec<u8>, definition: Definition) -> Result<(), AllocError>
     ensures text { OnOk result (out.new.items ≡ out.old.items ++ map_text.definition_text definition) }
     ensures fits { OnOk result (map_text.FitsDefinition definition) }
 {
     match definition {
-        Definition::Strong { object, symbol } => {
-            out.extend_from_slice(b"strong ")?;
-            put_number(out, object)?;
-            put_number(out, symbol)?;
-            Ok(())
-        }
-        Definition::Weak { object, symbol } => {
-            out.extend_from_slice(b"weak ")?;
-            put_number(out, object)?;
-            put_number(out, symbol)?;
-            Ok(())
-        }
-        Definition::Common => {
-            out.extend_from_slice(b"common ")?;
-            Ok(())
-        }
-        Definition::Linker => {
-            out.extend_from_slice(b"linker ")?;
-            Ok(())
-        }
+        Definition::Strong { object, symbol } => put_chosen(out, b"strong ", object, symbol),
+        Definition::Weak { object, symbol } => put_chosen(out, b"weak ", object, symbol),
+        Definition::Common => out.extend_from_slice(b"common "),
+        Definition::Linker => out.extend_from_slice(b"linker "),
     }
 }
 

@@ -1,7 +1,7 @@
 use Rattle.std.proofs.Common.{◌≡◌, ◌∙◌, ◌∷◌, [], ◌++◌, List, ℕ, ap, append_assoc, refl, sym}
 use Rattle.elf_model.specs.Loading.{LoadedObject}
 use Rattle.elf_model.specs.Records.{symbol_bytes}
-use Rattle.elf_model.specs.SymbolTable.{null_entry}
+use Rattle.elf_model.specs.ObjectFile.{null_symbol}
 use Rattle.elf_model.specs.declared.records.Symbol.{Symbol}
 use Rattle.image_write.specs.Tables.{entry_bytes, listed_of, name_bytes, objects_of, where_of}
 use Rattle.image_write.proofs.StreamLaws.{puts_are}
@@ -10,15 +10,15 @@ use Rattle.image_write.proofs.tables.put_symbols.Goals as goal
 
 -- the two sections, part by part
 parts_are :
-    (z : Symbol) (es ns : List ℕ) → z ≡ null_entry → (symbol_bytes null_entry ++ es) ++ (0 ∷ ns) ≡ symbol_bytes z ++ (es ++ ((0 ∷ []) ++ ns))
+    (z : Symbol) (es ns : List ℕ) → z ≡ null_symbol → (symbol_bytes null_symbol ++ es) ++ (0 ∷ ns) ≡ symbol_bytes z ++ (es ++ ((0 ∷ []) ++ ns))
 parts_are z es ns is =
-    append_assoc (symbol_bytes null_entry) es (0 ∷ ns) ∙ ap (λ (s : Symbol). symbol_bytes s ++ (es ++ (0 ∷ ns))) (sym is)
+    append_assoc (symbol_bytes null_symbol) es (0 ∷ ns) ∙ ap (λ (s : Symbol). symbol_bytes s ++ (es ++ (0 ∷ ns))) (sym is)
 
 pub returns-in_err-put_symbol : goal.returns-in_err-put_symbol
 returns-in_err-put_symbol g c =
     let n = c.args.names.now in
     towards_fault _ _ _ _ _ _ _ _ (towards_nothing _ _)
-    (parts_are c.null_symbol.result (entry_bytes (where_of n) (objects_of n) 1 (listed_of n)) (name_bytes (objects_of n) (listed_of n)) c.null_symbol.ensures)
+    (parts_are null_symbol (entry_bytes (where_of n) (objects_of n) 1 (listed_of n)) (name_bytes (objects_of n) (listed_of n)) refl)
     c.from_residual.ensures.0 c.in_err-put_symbol.ensures.breaks
 
 pub returns-in_err-put_entries : goal.returns-in_err-put_entries
@@ -26,7 +26,7 @@ returns-in_err-put_entries g c =
     let n = c.args.names.now in
     towards_fault _ _ _ _ _ _ _ _
     (towards_more _ _ _ _ _ _ _ (towards_nothing _ _)
-    (parts_are c.null_symbol.result (entry_bytes (where_of n) (objects_of n) 1 (listed_of n)) (name_bytes (objects_of n) (listed_of n)) c.null_symbol.ensures)
+    (parts_are null_symbol (entry_bytes (where_of n) (objects_of n) 1 (listed_of n)) (name_bytes (objects_of n) (listed_of n)) refl)
     c.in_ok-put_symbol.ensures.grows)
     refl c.from_residual-in_err-put_entries.ensures.0 c.in_err-put_entries.ensures.breaks
 
@@ -36,7 +36,7 @@ returns-in_err-put g c =
     towards_fault _ _ _ _ _ _ _ _
     (towards_more _ _ _ _ _ _ _
     (towards_more _ _ _ _ _ _ _ (towards_nothing _ _)
-    (parts_are c.null_symbol.result (entry_bytes (where_of n) (objects_of n) 1 (listed_of n)) (name_bytes (objects_of n) (listed_of n)) c.null_symbol.ensures)
+    (parts_are null_symbol (entry_bytes (where_of n) (objects_of n) 1 (listed_of n)) (name_bytes (objects_of n) (listed_of n)) refl)
     c.in_ok-put_symbol.ensures.grows)
     refl c.in_ok-put_entries.ensures.grows)
     refl c.from_residual-in_err-put.ensures.0 c.in_err-put.ensures.breaks
@@ -48,7 +48,7 @@ returns g c =
     (towards_more _ _ _ _ _ _ _
     (towards_more _ _ _ _ _ _ _
     (towards_more _ _ _ _ _ _ _ (towards_nothing _ _)
-    (parts_are c.null_symbol.result (entry_bytes (where_of n) (objects_of n) 1 (listed_of n)) (name_bytes (objects_of n) (listed_of n)) c.null_symbol.ensures)
+    (parts_are null_symbol (entry_bytes (where_of n) (objects_of n) 1 (listed_of n)) (name_bytes (objects_of n) (listed_of n)) refl)
     c.in_ok-put_symbol.ensures.grows)
     refl c.in_ok-put_entries.ensures.grows)
     refl c.in_ok-put.ensures.grows)
