@@ -5,6 +5,8 @@ ghost use Rattle.elf_model.specs.Commons.{block_named, blocks};
 ghost use Rattle.elf_model.specs.Meaning.{meant};
 ghost use Rattle.elf_model.specs.Resolution.{AreSoundCommons, all_symbols, chosen};
 ghost use Rattle.check_load.specs.Views.{loaded_views};
+ghost use Rattle.check_link.specs.Chosen.{AreChosen};
+ghost use Rattle.check_link.specs.NameIndex.{IsBlockIndex};
 ghost use Rattle.check_link.specs.Views.{block_view, block_views, meaning_view, symbol_view, symbol_views};
 
 use crate::chosen_definitions::{definition_of, index_names, is_chosen};
@@ -42,6 +44,23 @@ impl<'l, 'a> Model for Names<'l, 'a> {
     ghost invariant = { λ n. AreNames (loaded_views n.objects.now) n.definitions.items n.chosen n.blocks.items n.blocks_by_name };
 }
 
+/// The common blocks, in load order and by their names.
+fn found_blocks<'a>(
+    alloc: Global,
+    objects: &[Loaded<'a>],
+    chosen: &IndexMap<Name<'a>, usize, NameSeed>,
+    definitions: &[SymbolOf<'a>],
+) -> Result<(Vec<Block<'a>>, BTreeMap<&'a [u8], Block<'a>>), AllocError>
+    requires definitions { symbol_views definitions.now ≡ filter is_definition (all_symbols (loaded_views objects.now)) }
+    requires chosen { AreChosen (loaded_views objects.now) (symbol_views definitions.now) chosen.now }
+    ensures blocks { IfOk result (λ r. block_views r.0.items ≡ blocks (loaded_views objects.now)) }
+    ensures index { IfOk result (λ r. IsBlockIndex (loaded_views objects.now) r.1) }
+{
+    let blocks = blocks_of(alloc, objects, chosen, definitions)?;
+    let by_name = index_blocks(alloc, &blocks)?;
+    Ok((blocks, by_name))
+}
+
 impl<'l, 'a> Names<'l, 'a> {
     /// The names of loaded objects.
     pub fn new(alloc: Global, objects: &'l [Loaded<'a>]) -> Result<Names<'l, 'a>, AllocError>
@@ -49,8 +68,7 @@ impl<'l, 'a> Names<'l, 'a> {
     {
         let definitions = definitions_of(alloc, objects)?;
         let chosen = index_names(alloc, objects, &definitions)?;
-        let blocks = blocks_of(alloc, objects, &chosen, &definitions)?;
-        let blocks_by_name = index_blocks(alloc, &blocks)?;
+        let (blocks, blocks_by_name) = found_blocks(alloc, objects, &chosen, &definitions)?;
         Ok(Names {
             objects,
             definitions,

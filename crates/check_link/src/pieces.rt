@@ -8,11 +8,11 @@ ghost use Rattle.check_link.specs.Views.{piece_view, piece_views};
 use crate::things::Piece;
 use check_load::Loaded;
 use elf_model::SectionHeader;
-use elf_read::Object;
+use elf_read::ObjectFile;
 use std::alloc::{AllocError, Global};
 
 /// Section `i` of object `number` as a piece.
-fn piece_of<'a>(number: u64, object: &Object<'a>, i: usize, header: SectionHeader) -> Piece<'a>
+fn piece_of<'a>(number: u64, object: &ObjectFile<'a>, i: usize, header: SectionHeader) -> Piece<'a>
     ensures { piece_view result ≡ piece_words.piece_of number object.now i header }
 {
     Piece {

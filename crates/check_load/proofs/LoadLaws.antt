@@ -11,13 +11,14 @@ use Rattle.check_load.specs.Stops.{IsSearchable, Refutes}
 use Rattle.check_load.specs.declared.stops.Stop.{Stop}
 use Rattle.check_load.specs.declared.stops.Stop.TheVariants as stop
 
+-- a loader of the plan with nothing loaded goes through steps as from nothing
+pub begun : (plan p : Plan) (xs : List Opened) (os : List LoadedObject) → p ≡ plan → os ≡ [] → loaded_steps p (steps xs) os ≡ loaded_steps plan (steps xs) []
+begun plan p xs os same none = ap (λ (q : Plan). loaded_steps q (steps xs) os) same ∙ ap (loaded_steps plan (steps xs)) none
+
 -- the steps of all items lead to the loaded objects
-pub whole : (files : List File) (plan p : Plan) (xs : List Opened) (os : List LoadedObject) → p ≡ plan → xs ≡ opened files plan → os ≡ [] →
-    loaded_steps p (steps xs) os ≡ loaded_objects files plan
+pub whole : (files : List File) (plan : Plan) (xs : List Opened) → xs ≡ opened files plan → loaded_steps plan (steps xs) [] ≡ loaded_objects files plan
 unfolding loaded_objects
-whole files plan p xs os same all none =
-    ap (λ (q : Plan). loaded_steps q (steps xs) os) same
-    ∙ (ap (λ (l : List Opened). loaded_steps plan (steps l) os) all ∙ ap (loaded_steps plan (steps (opened files plan))) none)
+whole files plan xs all = ap (λ (l : List Opened). loaded_steps plan (steps l) []) all
 
 -- what stops a step stops all
 pub files_stop : (files : List File) (plan : Plan) (e : Stop) → Refutes (AreFilesThere files plan) e → Refutes (CanLoad files plan) e

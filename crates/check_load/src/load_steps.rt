@@ -1,5 +1,5 @@
 //! The whole command: its items in order, groups of archives as one.
-ghost use Rattle.std.specs.Prelude.{◌≡◌, ◌↔◌, All, IfErr, IfOk, IfSome, IsSome, OnOk, drop, length, ◌≤◌, ◌<◌};
+ghost use Rattle.std.specs.Prelude.{◌≡◌, ◌↔◌, [], All, IfErr, IfOk, IfSome, IsSome, OnOk, drop, length, ◌≤◌, ◌<◌};
 ghost use Rattle.std.specs.List.{prefix_len};
 ghost use Rattle.elf_model.specs.Files.{files_of};
 ghost use Rattle.elf_model.specs.Loading.{Single, group_of, loaded_objects, loaded_step, loaded_steps, steps};
@@ -115,6 +115,23 @@ fn load_inputs<'a>(
     Ok(())
 }
 
+/// Loads inputs from nothing.
+fn load_all<'a>(
+    alloc: Global,
+    plan: &Plan<'a>,
+    inputs: &[Input<'a>],
+) -> Result<Vec<Loaded<'a>>, Stop>
+    requires { All (IsAt inputs.now) inputs.now }
+    ensures loaded { IfOk result (λ v. loaded_views v.items ≡ loaded_steps plan.now (steps inputs.now) []) }
+    ensures good { OnOk result (AreLoadable (loaded_steps plan.now (steps inputs.now) [])) }
+    ensures stop { IfErr result (Refutes (AreLoadable (loaded_steps plan.now (steps inputs.now) []))) }
+{
+    let places = Places::new(alloc, inputs)?;
+    let mut loader = Loader::new(alloc, &places, plan)?;
+    load_inputs(alloc, &places, &mut loader, inputs)?;
+    Ok(loader.take_objects(alloc))
+}
+
 /// Loads a plan.
 fn load<'a>(alloc: Global, plan: &Plan<'a>, files: &'a [InputFile]) -> Result<Vec<Loaded<'a>>, Stop>
     ensures loaded { IfOk result (λ v. loaded_views v.items ≡ loaded_objects (files_of files.entry.now) plan.now) }
@@ -124,10 +141,7 @@ fn load<'a>(alloc: Global, plan: &Plan<'a>, files: &'a [InputFile]) -> Result<Ve
     let index = FileIndex::new(alloc, files)?;
     let items = open_plan(alloc, &index, plan)?;
     let inputs = read_inputs(alloc, &items)?;
-    let places = Places::new(alloc, &inputs)?;
-    let mut loader = Loader::new(alloc, &places, plan)?;
-    load_inputs(alloc, &places, &mut loader, &inputs)?;
-    Ok(loader.into_objects())
+    load_all(alloc, plan, &inputs)
 }
 
 /// The loaded objects of a plan, in load order (ld(1)); None where it can't be loaded: an item has no

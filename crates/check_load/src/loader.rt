@@ -27,15 +27,16 @@ use ar_index::IndexEntry;
 use byteview::View;
 use command::Plan;
 use elf_model::{Name, NameSeed, ObjFault, SHT_RELA, SectionHeader};
-use elf_read::Object;
+use elf_read::ObjectFile;
 use indexmap::IndexSet;
 use std::alloc::{AllocError, Global};
+use std::mem;
 
 /// A loaded object.
 #[derive(Drop)]
 pub struct Loaded<'a> {
     /// What its bytes hold.
-    pub object: Object<'a>,
+    pub object: ObjectFile<'a>,
     /// The number of its item in the command.
     pub item: u64,
     /// The offset of its member's header in the archive; 0 for an object item.
@@ -92,12 +93,12 @@ pub struct Loader<'p, 'a> {
 }
 
 /// Reads an object.
-fn read_object<'a>(alloc: Global, bytes: &'a [u8]) -> Result<Object<'a>, Stop>
+fn read_object<'a>(alloc: Global, bytes: &'a [u8]) -> Result<ObjectFile<'a>, Stop>
     ensures exact { IfOk result (λ o. o ≡ bytes.entry.now) }
     ensures object { OnOk result (IsObject bytes.entry.now) }
     ensures stop { IfErr result (Refutes (IsObject bytes.entry.now)) }
 {
-    match Object::read(alloc, View::new(bytes)) {
+    match ObjectFile::read(alloc, View::new(bytes)) {
         Ok(object) => Ok(object),
         Err(ObjFault::Memory) => Err(Stop::Memory),
         Err(_) => Err(Stop::Unlawful),
@@ -243,10 +244,10 @@ impl<'p, 'a> Loader<'p, 'a> {
         self.objects.len()
     }
 
-    /// The objects that are loaded, in load order.
-    pub fn into_objects(self) -> Vec<Loaded<'a>>
-        ensures { loaded_views result.items ≡ loaded self.entry }
+    /// The objects that are loaded, in load order, of which it keeps none.
+    pub fn take_objects(&mut self, alloc: Global) -> Vec<Loaded<'a>>
+        ensures { loaded_views result.items ≡ loaded self.old }
     {
-        self.objects
+        mem::replace(&mut self.objects, Vec::new(alloc))
     }
 }

@@ -14,7 +14,7 @@ use crate::known_names::{KnownNames, NameState};
 use crate::places::Places;
 use crate::signatures::Dropped;
 use elf_model::{SHN_UNDEF, STB_GLOBAL, STB_WEAK, Symbol};
-use elf_read::Object;
+use elf_read::ObjectFile;
 use std::alloc::{AllocError, Global};
 
 fn is_global(symbol: &Symbol) -> bool
@@ -74,7 +74,7 @@ fn note_symbol<'a>(
     places: &Places<'_, '_>,
     awake: &mut Awake,
     names: &mut KnownNames<'a>,
-    object: &Object<'a>,
+    object: &ObjectFile<'a>,
     dropped: &Dropped,
     j: usize,
     symbol: &Symbol,
@@ -104,7 +104,7 @@ pub fn note_object<'a>(
     places: &Places<'_, '_>,
     awake: &mut Awake,
     names: &mut KnownNames<'a>,
-    object: &Object<'a>,
+    object: &ObjectFile<'a>,
     dropped: &Dropped,
 ) -> Result<(), AllocError>
     ensures woken { OnOk result (AreWokenSince places.now (requests_name names.old) names.new awake.new) }

@@ -4,14 +4,14 @@ ghost use Rattle.std.specs.List.{list_any};
 ghost use Rattle.elf_model.specs.Groups.{AreLawfulGroups, is_comdat};
 ghost use Rattle.elf_model.specs.ObjectFile.{groups};
 ghost use Rattle.check_load.specs.Marks.{marked};
-ghost use Rattle.check_load.specs.Signatures.{lost_by, seen_by, seen_in, seen_then};
+ghost use Rattle.check_load.specs.Signatures.{lost_by, lost_members, seen_by, seen_in, seen_then};
 ghost use Rattle.check_load.specs.Stops.{Refutes};
 
 use crate::lawfulness::{are_lawful, is_comdat};
 use crate::marks::{is_marked, mark};
 use crate::stops::Stop;
 use elf_model::{Name, NameSeed};
-use elf_read::{Group, Object};
+use elf_read::{Group, ObjectFile};
 use indexmap::IndexSet;
 use std::alloc::{AllocError, Global};
 use std::marker::Model;
@@ -59,6 +59,21 @@ fn admit_group<'a>(
     Ok(())
 }
 
+/// Adds the signatures of groups, and marks the members of those that are dropped.
+fn mark_lost<'a>(
+    seen: &mut IndexSet<Name<'a>, NameSeed>,
+    marks: &mut Vec<bool>,
+    groups: &[Group<'a>],
+) -> Result<(), AllocError>
+    ensures marks { OnOk result (marks.new.items ≡ marked marks.old.items (lost_members (seen_in seen.old.keys) groups.now)) }
+    ensures seen { OnOk result (seen_in seen.new.keys ≡ seen_by (seen_in seen.old.keys) groups.now) }
+{
+    for group in groups {
+        admit_group(seen, marks, group)?;
+    }
+    Ok(())
+}
+
 /// Adds the signatures of an object's groups, and tells which of its `count` sections are dropped.
 fn admit_groups<'a>(
     alloc: Global,
@@ -71,9 +86,7 @@ fn admit_groups<'a>(
     ensures seen { OnOk result (seen_in seen.new.keys ≡ seen_by (seen_in seen.old.keys) groups.now) }
 {
     let mut marks = vec![in alloc; false; count]?;
-    for group in groups {
-        admit_group(seen, &mut marks, group)?;
-    }
+    mark_lost(seen, &mut marks, groups)?;
     Ok(Dropped { marks })
 }
 
@@ -82,7 +95,7 @@ fn admit_groups<'a>(
 pub fn admit<'a>(
     alloc: Global,
     seen: &mut IndexSet<Name<'a>, NameSeed>,
-    object: &Object<'a>,
+    object: &ObjectFile<'a>,
 ) -> Result<Dropped, Stop>
     ensures lawful { OnOk result (AreLawfulGroups (groups object.now)) }
     ensures dropped { IfOk result (λ d. d ≡ lost_by (seen_in seen.old.keys) (groups object.now)) }

@@ -16,7 +16,7 @@ use crate::lawful_fields::{Relocated, right_field};
 use crate::targets::{Target, targets_of};
 use check_load::Loaded;
 use elf_model::{Rela, SectionHeader};
-use elf_read::Object;
+use elf_read::{ObjectFile, RelaRun};
 use std::alloc::{AllocError, Global};
 
 /// Whether an entry relocates at all: its type isn't NONE.
@@ -27,7 +27,7 @@ pub fn is_some_kind(entry: &Rela) -> bool
 }
 
 /// Whether a section has the name `.eh_frame`.
-fn is_frames(object: &Object<'_>, number: usize) -> bool
+fn is_frames(object: &ObjectFile<'_>, number: usize) -> bool
     ensures { result ≡ is_frames object.now number }
 {
     match object.section_name(number) {
@@ -40,7 +40,7 @@ fn is_frames(object: &Object<'_>, number: usize) -> bool
 pub fn relocated(
     bindings: &Bindings<'_, '_, '_>,
     number: u64,
-    object: &Object<'_>,
+    object: &ObjectFile<'_>,
     target: u32,
 ) -> Relocated
     ensures section { result.section ≡ target }
@@ -63,7 +63,7 @@ fn add_fields<'a>(
     number: u64,
     loaded: &Loaded<'a>,
     to: &Relocated,
-    entries: &[Rela],
+    entries: &RelaRun<'_>,
     fields: &mut Vec<Field>,
 ) -> Result<bool, AllocError>
     requires targets { AreTargets bindings.now number (loaded_view loaded.now) targets.now }
@@ -75,7 +75,7 @@ fn add_fields<'a>(
 {
     fields.reserve_exact(entries.len())?;
     for i in 0..entries.len() {
-        let entry = entries[i];
+        let entry = entries.at(i);
         if !is_some_kind(&entry) {
             continue;
         }
@@ -105,7 +105,7 @@ fn add_section<'a>(
 {
     let to = relocated(bindings, number, &loaded.object, header.sh_info);
     let entries = loaded.object.entries(i);
-    let right = add_fields(bindings, targets, number, loaded, &to, entries, fields)?;
+    let right = add_fields(bindings, targets, number, loaded, &to, &entries, fields)?;
     Ok(right)
 }
 

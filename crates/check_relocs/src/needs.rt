@@ -20,6 +20,7 @@ use crate::targets::{is_local_at, symbol_at};
 use check_link::{Request, SymbolOf};
 use check_load::Loaded;
 use elf_model::{Rela, STB_LOCAL, SectionHeader};
+use elf_read::RelaRun;
 use std::alloc::{AllocError, Global};
 use std::collections::HashSet;
 
@@ -169,13 +170,13 @@ fn add_entries<'a>(
     number: u64,
     loaded: &Loaded<'a>,
     to: u64,
-    entries: &[Rela],
+    entries: &RelaRun<'_>,
 ) -> Result<(), AllocError>
     requires { AreGotNames bindings.now.objects number (loaded_view loaded.now) named.now }
     ensures { OnOk result (HaveGained bindings.now.objects (map (relocation_of number (loaded_view loaded.now) to) (filter is_some_kind entries.now)) needs.old needs.new) }
 {
     for i in 0..entries.len() {
-        let entry = entries[i];
+        let entry = entries.at(i);
         if !is_some_kind(&entry) {
             continue;
         }
@@ -207,7 +208,7 @@ fn add_section<'a>(
         number,
         loaded,
         header.sh_info as u64,
-        entries,
+        &entries,
     )
 }
 

@@ -8,7 +8,8 @@ use Rattle.elf_model.proofs.TableLaws.{length-symbol_section}
 use Rattle.elf_model.specs.Meaning.{Meaning}
 use Rattle.elf_model.specs.Placement.{Where}
 use Rattle.elf_model.specs.Records.{symbol_bytes}
-use Rattle.elf_model.specs.SymbolTable.{entries_from, entry_count, name_section, null_entry, symbol_section}
+use Rattle.elf_model.specs.ObjectFile.{null_symbol}
+use Rattle.elf_model.specs.SymbolTable.{entries_from, entry_count, name_section, symbol_section}
 use Rattle.checker.specs.Tabled.{AreLeft, AreTables, Strips, ended_names}
 
 -- no more entries than there is room for
@@ -28,7 +29,7 @@ module _
     long a = let n = length-symbol_section w ms in let c = a.count_is in omega (arith, n, c)
 
     pub entries_there :
-        AreTables w ms 0 bytes count others → entries ≡ symbol_bytes null_entry ++ flat_map symbol_bytes (entries_from w 1 ms)
+        AreTables w ms 0 bytes count others → entries ≡ symbol_bytes null_symbol ++ flat_map symbol_bytes (entries_from w 1 ms)
     entries_there a =
         front ∙ (ap (take (24 * count)) a.bytes_are ∙ take_at (symbol_section w ms) (name_section ms ++ others) (24 * count) (long a))
 
@@ -36,13 +37,13 @@ module _
     names_there a =
         back ∙ (ap (drop (24 * count)) a.bytes_are ∙ drop_at (symbol_section w ms) (name_section ms ++ others) (24 * count) (long a))
 
-    pub no_entries : Strips (symbol_bytes null_entry) entries None → AreTables w ms 0 bytes count others → ⊥
+    pub no_entries : Strips (symbol_bytes null_symbol) entries None → AreTables w ms 0 bytes count others → ⊥
     no_entries h a = (h (flat_map symbol_bytes (entries_from w 1 ms))).0 (entries_there a)
 
     pub no_names : Strips (0 ∷ []) names None → AreTables w ms 0 bytes count others → ⊥
     no_names h a = (h (ended_names ms ++ others)).0 (names_there a)
 
-    module _ (es ns : Bor (List ℕ)) (he : Strips (symbol_bytes null_entry) entries (Some es)) (hn : Strips (0 ∷ []) names (Some ns)) where
+    module _ (es ns : Bor (List ℕ)) (he : Strips (symbol_bytes null_symbol) entries (Some es)) (hn : Strips (0 ∷ []) names (Some ns)) where
       pub left_of : AreTables w ms 0 bytes count others → AreLeft w es.now ns.now 1 ms others
       left_of a = record {
         entries_are = (he (flat_map symbol_bytes (entries_from w 1 ms))).0 (entries_there a);

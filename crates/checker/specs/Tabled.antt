@@ -7,7 +7,8 @@ use Rattle.elf_model.specs.MapRecord.{SymbolRow}
 use Rattle.elf_model.specs.Meaning.{Meaning, meaning_name, meaning_size}
 use Rattle.elf_model.specs.Placement.{Where}
 use Rattle.elf_model.specs.Records.{section_header_bytes, symbol_bytes}
-use Rattle.elf_model.specs.SymbolTable.{ended, entries_from, entry_binding, entry_count, entry_of, entry_type, has_entry, headers_at, name_section, null_header, section_names, shstrtab_at, shstrtab_end, strings_header, strtab_at, symbol_section, symtab_at, tabled}
+use Rattle.elf_model.specs.ObjectFile.{null_section}
+use Rattle.elf_model.specs.SymbolTable.{ended, entries_from, entry_binding, entry_count, entry_of, entry_type, has_entry, headers_at, name_section, section_names, shstrtab_at, shstrtab_end, strings_header, strtab_at, symbol_section, symtab_at, tabled}
 use Rattle.elf_model.specs.declared.constants.TheConstants.{SHN_ABS, SHT_SYMTAB}
 use Rattle.elf_model.specs.declared.records.SectionHeader.{SectionHeader}
 use Rattle.elf_model.specs.declared.records.Symbol as entry
@@ -83,7 +84,7 @@ symtab_header_of p = record {
 
 abbrev pub headers_of : Places → List SectionHeader
 headers_of p =
-    null_header
+    null_section
     ∷ (symtab_header_of p
     ∷ (strings_header 9 p.strtab p.strtab_size ∷ (strings_header 17 p.shstrtab (length section_names) ∷ [])))
 

@@ -6,24 +6,10 @@ ghost use Rattle.elf_model.specs.SymbolTable.{entry_count, name_section, strings
 ghost use Rattle.checker.specs.Tabled.{AreAt, Strips, end_bytes, headers_of, symtab_header_of};
 
 use crate::c14_tables::strip::{strip, strip_headers, strip_zeros};
-use elf_model::{SHT_NULL, SHT_STRTAB, SHT_SYMTAB, SYM_SIZE, SectionHeader};
+use elf_model::{SHT_STRTAB, SHT_SYMTAB, SYM_SIZE, SectionHeader};
 
 /// The names of the sections, each with its NUL.
 const SECTION_NAMES: &[u8; 27] = b"\0.symtab\0.strtab\0.shstrtab\0";
-
-/// The header of number 0.
-const NULL_HEADER: SectionHeader = SectionHeader {
-    sh_name: 0,
-    sh_type: SHT_NULL,
-    sh_flags: 0,
-    sh_addr: 0,
-    sh_offset: 0,
-    sh_size: 0,
-    sh_link: 0,
-    sh_info: 0,
-    sh_addralign: 0,
-    sh_entsize: 0,
-};
 
 /// Where the parts of a symbol table are in the file, and the sizes of the first two, in bytes.
 #[derive(Clone, Copy)]
@@ -82,7 +68,7 @@ fn symtab_header(places: &Places) -> SectionHeader
         sh_info: 1,
         sh_addralign: 8,
         sh_entsize: SYM_SIZE as u64,
-        ..NULL_HEADER
+        ..SectionHeader::NULL
     }
 }
 
@@ -96,7 +82,7 @@ fn strings_header(sh_name: u32, sh_offset: u64, sh_size: u64) -> SectionHeader
         sh_offset,
         sh_size,
         sh_addralign: 1,
-        ..NULL_HEADER
+        ..SectionHeader::NULL
     }
 }
 
@@ -105,7 +91,7 @@ pub fn headers_of(places: &Places) -> [SectionHeader; 4]
     ensures { result ≡ headers_of places.now }
 {
     [
-        NULL_HEADER,
+        SectionHeader::NULL,
         symtab_header(places),
         strings_header(9, places.strtab, places.strtab_size),
         strings_header(17, places.shstrtab, SECTION_NAMES.len() as u64),

@@ -1,10 +1,12 @@
-use Rattle.std.proofs.Common.{◌≡◌, ◌∙◌, List, ap, map, subst, sym}
-use Rattle.std.proofs.lemmas.Result.{err_from_is_err_and}
+use Rattle.std.proofs.Common.{◌≡◌, ◌∙◌, List, [], ap, map, subst, sym}
+use Rattle.std.proofs.lemmas.Result.{IfErr-weaker, err_from_is_err_and, on_ok_weaker}
 use Rattle.elf_model.specs.Files.{File, files_of}
-use Rattle.elf_model.specs.Loading.{loaded_steps, steps}
+use Rattle.elf_model.specs.Loading.{LoadedObject, loaded_steps, steps}
 use Rattle.elf_model.specs.Opening.{AreFilesThere, Opened, opened}
-use Rattle.std.specs.Prelude.{All}
-use Rattle.check_load.specs.Loaders.{loaded}
+use Rattle.std.specs.Prelude.{All, IfOk}
+use Rattle.check_load.specs.Loaders.{AreLoadable}
+use Rattle.check_load.specs.Plans.{CanLoad}
+use Rattle.check_load.specs.Views.{loaded_views}
 use Rattle.check_load.specs.Places.{IsAt}
 use Rattle.check_load.proofs.PlaceLaws.{all_at}
 use Rattle.check_load.specs.Opened.{item_view}
@@ -31,18 +33,14 @@ returns-in_err-inputs-clause-stop c =
     (ap (λ (l : List OpenedItem). map item_view l) c.deref.ensures.value ∙ (c.in_ok-items.ensures.opened ∙ ap (λ (fs : List File). opened fs plan) c.in_ok-index.ensures))
     c.in_err-inputs.ensures.stop)
 
-pub returns-in_err-load_inputs-clause-stop : goal.returns-in_err-load_inputs-clause-stop
-returns-in_err-load_inputs-clause-stop c =
-    let p = err_from_is_err_and c.from_residual-in_err-load_inputs.result c.from_residual-in_err-load_inputs.ensures.1 in
+pub load_all-requires : goal.load_all-requires
+load_all-requires c =
     let files = files_of c.args.files.now in
     let plan = c.args.plan.now in
     let items : map item_view c.deref.result.now ≡ opened files plan =
     ap (λ (l : List OpenedItem). map item_view l) c.deref.ensures.value ∙ (c.in_ok-items.ensures.opened ∙ ap (λ (fs : List File). opened fs plan) c.in_ok-index.ensures) in
-    let inputs : c.deref-3.result.now ≡ opened files plan = c.deref-3.ensures.value ∙ (c.in_ok-inputs.ensures.exact ∙ items) in
-    rw (p.1, p.2)
-    (objects_stop files plan (loaded_steps c.in_ok-loader.loader.plan.now (steps c.deref-3.result.now) (loaded c.in_ok-loader.loader)) c.in_err-load_inputs.field-0.0
-    (whole files plan c.in_ok-loader.loader.plan.now c.deref-3.result.now (loaded c.in_ok-loader.loader) c.in_ok-loader.ensures.plan inputs c.in_ok-loader.ensures.loaded)
-    c.in_err-load_inputs.ensures.stop)
+    let inputs : c.deref-2.result.now ≡ opened files plan = c.deref-2.ensures.value ∙ (c.in_ok-inputs.ensures.exact ∙ items) in
+    subst (λ (xs : List Opened). All (IsAt xs) xs) (sym inputs) (all_at files plan)
 
 pub returns-clause-loaded : goal.returns-clause-loaded
 returns-clause-loaded c =
@@ -50,10 +48,8 @@ returns-clause-loaded c =
     let plan = c.args.plan.now in
     let items : map item_view c.deref.result.now ≡ opened files plan =
     ap (λ (l : List OpenedItem). map item_view l) c.deref.ensures.value ∙ (c.in_ok-items.ensures.opened ∙ ap (λ (fs : List File). opened fs plan) c.in_ok-index.ensures) in
-    let inputs : c.deref-3.result.now ≡ opened files plan = c.deref-3.ensures.value ∙ (c.in_ok-inputs.ensures.exact ∙ items) in
-    c.into_objects.ensures
-    ∙ (c.in_ok-load_inputs.ensures.loaded
-    ∙ whole files plan c.in_ok-loader.loader.plan.now c.deref-3.result.now (loaded c.in_ok-loader.loader) c.in_ok-loader.ensures.plan inputs c.in_ok-loader.ensures.loaded)
+    let inputs : c.deref-2.result.now ≡ opened files plan = c.deref-2.ensures.value ∙ (c.in_ok-inputs.ensures.exact ∙ items) in
+    subst (λ (os : List LoadedObject). IfOk c.load_all.result (λ v. loaded_views v.items ≡ os)) (whole files plan c.deref-2.result.now inputs) c.load_all.ensures.loaded
 
 pub returns-clause-good : goal.returns-clause-good
 returns-clause-good c =
@@ -61,15 +57,20 @@ returns-clause-good c =
     let plan = c.args.plan.now in
     let items : map item_view c.deref.result.now ≡ opened files plan =
     ap (λ (l : List OpenedItem). map item_view l) c.deref.ensures.value ∙ (c.in_ok-items.ensures.opened ∙ ap (λ (fs : List File). opened fs plan) c.in_ok-index.ensures) in
-    all_good files plan (map item_view c.deref.result.now) _ (subst (λ (fs : List File). AreFilesThere fs plan) c.in_ok-index.ensures c.in_ok-items.ensures.files)
-    items c.in_ok-inputs.ensures.good (sym c.into_objects.ensures ∙ returns-clause-loaded c) c.in_ok-load_inputs.ensures.known.loadable
+    let inputs : c.deref-2.result.now ≡ opened files plan = c.deref-2.ensures.value ∙ (c.in_ok-inputs.ensures.exact ∙ items) in
+    on_ok_weaker c.load_all.result
+    (all_good files plan (map item_view c.deref.result.now) (loaded_steps plan (steps c.deref-2.result.now) [])
+    (subst (λ (fs : List File). AreFilesThere fs plan) c.in_ok-index.ensures c.in_ok-items.ensures.files)
+    items c.in_ok-inputs.ensures.good (whole files plan c.deref-2.result.now inputs))
+    c.load_all.ensures.good
 
-pub load_inputs-requires-clause-at : goal.load_inputs-requires-clause-at
-load_inputs-requires-clause-at c =
+pub returns-clause-stop : goal.returns-clause-stop
+returns-clause-stop c =
     let files = files_of c.args.files.now in
     let plan = c.args.plan.now in
     let items : map item_view c.deref.result.now ≡ opened files plan =
     ap (λ (l : List OpenedItem). map item_view l) c.deref.ensures.value ∙ (c.in_ok-items.ensures.opened ∙ ap (λ (fs : List File). opened fs plan) c.in_ok-index.ensures) in
-    let inputs : c.deref-3.result.now ≡ opened files plan = c.deref-3.ensures.value ∙ (c.in_ok-inputs.ensures.exact ∙ items) in
-    let all : c.in_ok-places.places ≡ opened files plan = c.in_ok-places.ensures ∙ (c.deref-2.ensures.value ∙ (c.in_ok-inputs.ensures.exact ∙ items)) in
-    subst (λ (os : List Opened). All (IsAt os) c.deref-3.result.now) (sym all) (subst (All (IsAt (opened files plan))) (sym inputs) (all_at files plan))
+    let inputs : c.deref-2.result.now ≡ opened files plan = c.deref-2.ensures.value ∙ (c.in_ok-inputs.ensures.exact ∙ items) in
+    let os = loaded_steps plan (steps c.deref-2.result.now) [] in
+    IfErr-weaker c.load_all.result (Refutes (AreLoadable os)) (Refutes (CanLoad files plan))
+    (λ e. objects_stop files plan os e (whole files plan c.deref-2.result.now inputs)) c.load_all.ensures.stop

@@ -11,9 +11,9 @@ pub returns-clause-right : goal.returns-clause-right
 returns-clause-right c =
     let P = IsRight c.args.bindings.now.objects c.args.bindings.now.places in
     let b = c.in_ok-right.right in
-    let entries : c.entries-entries.result.now ≡ relas_of c.args.loaded.now.object c.args.header.now = search rules in
+    let entries : c.entries-entries.result ≡ relas_of c.args.loaded.now.object c.args.header.now = search rules in
     let at =
-    subst (λ (k : ℕ). IsTrue b ↔ All P (map (relocation_of c.args.number (loaded_view c.args.loaded.now) k) (filter is_some_kind c.entries-entries.result.now)))
+    subst (λ (k : ℕ). IsTrue b ↔ All P (map (relocation_of c.args.number (loaded_view c.args.loaded.now) k) (filter is_some_kind c.entries-entries.result)))
     c.relocated-to.ensures.section c.in_ok-right.ensures.right in
     subst (λ (es : List Rela). IsTrue b ↔ All P (map (relocation_of c.args.number (loaded_view c.args.loaded.now) c.args.header.now.sh_info) (filter is_some_kind es)))
     entries at

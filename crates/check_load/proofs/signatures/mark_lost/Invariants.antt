@@ -1,7 +1,7 @@
 use Rattle.std.proofs.Common.{◌≡◌, drop}
 use Rattle.elf_model.specs.Marks.{marked}
 use Rattle.check_load.specs.Signatures.{lost_members, seen_by, seen_in}
-use Rattle.check_load.proofs.signatures.admit_groups.Given as goal
+use Rattle.check_load.proofs.signatures.mark_lost.Given as goal
 
 abbrev pub invariant-loop-group : goal.invariant-loop-group
 invariant-loop-group l = record {
