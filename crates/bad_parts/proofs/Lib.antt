@@ -1,2 +1,2 @@
 mod Counted
-pub mod NoBadParts
+pub mod Standing

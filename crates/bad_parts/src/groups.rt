@@ -1,8 +1,8 @@
 //! Groups of sections that are unlawful, by their headers, their signatures or their members.
 ghost use Rattle.std.specs.Prelude.{◌≡◌, IfOk, IfSome, length};
-ghost use Rattle.elf_model.specs.ObjectFile.{group_members, symbols};
+ghost use Rattle.elf_model.specs.ObjectFile.{HasMembers, group_members, symbols};
 ghost use Rattle.elf_model.specs.declared.faults.ObjFault.TheVariants as fault;
-ghost use Rattle.bad_parts.specs.BadParts.{IsBadOf, IsOfType};
+ghost use Rattle.bad_parts.specs.BadParts.{HasSymbols, IsBadOf, IsOfType};
 
 use crate::part::{BadPart, MemberPart, SectionPart};
 use crate::tables::Tables;
@@ -52,7 +52,8 @@ fn bad_header<'a>(tables: &Tables<'a>) -> Option<BadPart<'a>>
 
 /// The section that has a number, where it lists a group whose signature is none of `count` symbols.
 fn unsigned<'a>(tables: &Tables<'a>, number: usize, count: usize) -> Option<BadPart<'a>>
-    requires { count ≡ length (symbols tables.now) }
+    requires readable { HasSymbols tables.now }
+    requires count { count ≡ length (symbols tables.now) }
     ensures { IfSome result (IsBadOf tables.now fault.BadGroup) }
 {
     let group = group_section(tables, number)?;
@@ -77,15 +78,18 @@ fn bad_signature<'a>(alloc: Global, tables: &Tables<'a>) -> Result<Option<BadPar
     Ok(None)
 }
 
-/// The numbers of the sections that a group lists; None where its section isn't inside the file, or has no flags.
+/// The numbers of the sections that a group lists; None where they can't be read.
 fn members_of(
     alloc: Global,
     tables: &Tables<'_>,
     group: &SectionPart<'_>,
 ) -> Result<Option<Vec<u32>>, AllocError>
-    ensures { IfOk result (λ o. IfSome o (λ v. v.items ≡ group_members tables.now group.now.header)) }
+    requires { IsOfType tables.now 17 group.now }
+    ensures readable { IfOk result (λ o. IfSome o (λ _. HasMembers (length tables.now) group.now.header)) }
+    ensures exact { IfOk result (λ o. IfSome o (λ v. v.items ≡ group_members tables.now group.now.header)) }
 {
-    if !lies_inside(&group.header, tables.file().len()) || group.header.sh_size < 4 {
+    let size = group.header.sh_size as usize;
+    if size == 0 || size % WORD_SIZE != 0 || !lies_inside(&group.header, tables.file().len()) {
         return Ok(None);
     }
     Ok(Some(read_members(alloc, tables.file(), &group.header)?))
@@ -99,6 +103,7 @@ fn unlawful_member<'a>(
     number: usize,
 ) -> Option<BadPart<'a>>
     requires group { IsOfType tables.now 17 group.now }
+    requires readable { HasMembers (length tables.now) group.now.header }
     requires members { members.now ≡ group_members tables.now group.now.header }
     ensures { IfSome result (IsBadOf tables.now fault.BadGroup) }
 {

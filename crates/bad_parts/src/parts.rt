@@ -1,6 +1,6 @@
 //! The first part of a file that has a fault.
-ghost use Rattle.std.specs.Prelude.{◌≡◌, IfOk, IfSome, None};
-ghost use Rattle.elf_model.specs.ObjectFile.{IsObject};
+ghost use Rattle.std.specs.Prelude.{IfOk, IfSome};
+ghost use Rattle.elf_model.specs.ObjectFile.{ObjFaultStands};
 ghost use Rattle.elf_model.specs.declared.faults.ObjFault.TheVariants as fault;
 ghost use Rattle.bad_parts.specs.BadParts.{IsBadOf};
 
@@ -46,7 +46,7 @@ fn part_of_fault<'a>(
 }
 
 /// The first part of a file that has a fault with which the file is refused as an object. None where the fault is one of the
-/// file as a whole, or no part is found; an object has none.
+/// file as a whole, where it doesn't stand, or where no part is found.
 ///
 /// # Errors
 ///
@@ -57,7 +57,7 @@ pub fn bad_part<'a>(
     fault: ObjFault,
 ) -> Result<Option<BadPart<'a>>, AllocError>
     ensures bad { IfOk result (λ o. IfSome o (IsBadOf bytes.entry.now fault)) }
-    ensures none { IsObject bytes.entry.now → IfOk result (λ o. o ≡ None) }
+    ensures stands { IfOk result (λ o. IfSome o (λ _. ObjFaultStands bytes.entry.now fault)) }
 {
     part_of_fault(alloc, bytes, fault)
 }

@@ -1,13 +1,13 @@
 //! Sections of relocations that are unlawful, and entries that name no symbol.
 ghost use Rattle.std.specs.Prelude.{◌≡◌, IfOk, IfSome, length};
-ghost use Rattle.elf_model.specs.ObjectFile.{relas_of, symbols};
+ghost use Rattle.elf_model.specs.ObjectFile.{HasEntries, relas_of, symbols};
 ghost use Rattle.elf_model.specs.declared.faults.ObjFault.TheVariants as fault;
-ghost use Rattle.bad_parts.specs.BadParts.{IsBadOf, IsOfType};
+ghost use Rattle.bad_parts.specs.BadParts.{HasSymbols, IsBadOf, IsOfType};
 
 use crate::part::{BadPart, EntryPart, SectionPart};
 use crate::tables::Tables;
-use elf_model::{RELA_SIZE, Rela, SHT_REL, SHT_RELA};
-use elf_read::{append_entries, has_good_symbol_table, is_rela_section, lies_inside};
+use elf_model::{RELA_SIZE, SHT_REL, SHT_RELA};
+use elf_read::{RelaRun, has_good_symbol_table, is_rela_section, lies_inside};
 use std::alloc::{AllocError, Global};
 
 /// The section that has a number, where it is of relocations, and its own header is unlawful.
@@ -50,37 +50,36 @@ fn rela_section<'a>(tables: &Tables<'a>, number: usize) -> Option<SectionPart<'a
     Some(part)
 }
 
-/// The entries of a RELA section; None where it isn't inside the file.
-fn entries_of(
-    alloc: Global,
-    tables: &Tables<'_>,
-    table: &SectionPart<'_>,
-) -> Result<Option<Vec<Rela>>, AllocError>
-    ensures { IfOk result (λ o. IfSome o (λ v. v.items ≡ relas_of tables.now table.now.header)) }
+/// The entries of a RELA section; None where they can't be read.
+fn entries_of<'a>(tables: &Tables<'a>, table: &SectionPart<'_>) -> Option<RelaRun<'a>>
+    requires { IsOfType tables.now 4 table.now }
+    ensures readable { IfSome result (λ _. HasEntries (length tables.now) table.now.header) }
+    ensures exact { IfSome result (λ run. run ≡ relas_of tables.now table.now.header) }
 {
-    if !lies_inside(&table.header, tables.file().len()) {
-        return Ok(None);
+    let size = table.header.sh_size as usize;
+    if size % RELA_SIZE != 0 || !lies_inside(&table.header, tables.file().len()) {
+        return None;
     }
-    let mut entries = Vec::new(alloc);
-    append_entries(tables.file(), &table.header, &mut entries)?;
-    Ok(Some(entries))
+    Some(RelaRun::of_section(tables.file(), &table.header))
 }
 
 /// The entry of a number, from 0, of a RELA section, where it names none of `count` symbols.
 fn unlawful_entry<'a>(
     tables: &Tables<'a>,
     table: &SectionPart<'a>,
-    entries: &[Rela],
+    entries: &RelaRun<'_>,
     number: usize,
     count: usize,
 ) -> Option<BadPart<'a>>
+    requires symbols { HasSymbols tables.now }
     requires table { IsOfType tables.now 4 table.now }
+    requires readable { HasEntries (length tables.now) table.now.header }
     requires entries { entries.now ≡ relas_of tables.now table.now.header }
     requires count { count ≡ length (symbols tables.now) }
     ensures { IfSome result (IsBadOf tables.now fault.BadRela) }
 {
     let _tables = tables;
-    let entry = *entries.get(number)?;
+    let entry = entries.get(number)?;
     if (entry.symbol() as usize) < count {
         return None;
     }
@@ -94,27 +93,19 @@ fn unlawful_entry<'a>(
 }
 
 /// The first entry that names none of `count` symbols, of the section that has a number.
-fn bad_entry_of<'a>(
-    alloc: Global,
-    tables: &Tables<'a>,
-    number: usize,
-    count: usize,
-) -> Result<Option<BadPart<'a>>, AllocError>
-    requires { count ≡ length (symbols tables.now) }
-    ensures { IfOk result (λ o. IfSome o (IsBadOf tables.now fault.BadRela)) }
+fn bad_entry_of<'a>(tables: &Tables<'a>, number: usize, count: usize) -> Option<BadPart<'a>>
+    requires readable { HasSymbols tables.now }
+    requires count { count ≡ length (symbols tables.now) }
+    ensures { IfSome result (IsBadOf tables.now fault.BadRela) }
 {
-    let Some(table) = rela_section(tables, number) else {
-        return Ok(None);
-    };
-    let Some(entries) = entries_of(alloc, tables, &table)? else {
-        return Ok(None);
-    };
+    let table = rela_section(tables, number)?;
+    let entries = entries_of(tables, &table)?;
     for e in 0..entries.len() {
         if let Some(part) = unlawful_entry(tables, &table, &entries, e, count) {
-            return Ok(Some(part));
+            return Some(part);
         }
     }
-    Ok(None)
+    None
 }
 
 /// The first entry that names a symbol which isn't there.
@@ -125,7 +116,7 @@ fn bad_entry<'a>(alloc: Global, tables: &Tables<'a>) -> Result<Option<BadPart<'a
         return Ok(None);
     };
     for number in 0..tables.sections().len() {
-        if let Some(part) = bad_entry_of(alloc, tables, number, symbols.len())? {
+        if let Some(part) = bad_entry_of(tables, number, symbols.len()) {
             return Ok(Some(part));
         }
     }

@@ -1,7 +1,7 @@
 //! Sections that are not inside the file, or whose names can't be read.
 ghost use Rattle.std.specs.Prelude.{IfSome};
 ghost use Rattle.elf_model.specs.declared.faults.ObjFault.TheVariants as fault;
-ghost use Rattle.bad_parts.specs.BadParts.{IsBadOf};
+ghost use Rattle.bad_parts.specs.BadParts.{HasSectionStrings, IsBadOf};
 
 use crate::part::BadPart;
 use crate::tables::Tables;
@@ -32,6 +32,7 @@ pub fn bad_range<'a>(tables: &Tables<'a>) -> Option<BadPart<'a>>
 
 /// The section that has a number, where its name can't be read.
 fn unnamed<'a>(tables: &Tables<'a>, number: usize) -> Option<BadPart<'a>>
+    requires { HasSectionStrings tables.now }
     ensures { IfSome result (IsBadOf tables.now fault.BadString) }
 {
     let part = tables.section(number)?;
@@ -45,6 +46,9 @@ fn unnamed<'a>(tables: &Tables<'a>, number: usize) -> Option<BadPart<'a>>
 pub fn bad_section_name<'a>(tables: &Tables<'a>) -> Option<BadPart<'a>>
     ensures { IfSome result (IsBadOf tables.now fault.BadString) }
 {
+    if !tables.has_section_strings() {
+        return None;
+    }
     for number in 0..tables.sections().len() {
         if let Some(part) = unnamed(tables, number) {
             return Some(part);

@@ -2,7 +2,7 @@
 ghost use Rattle.std.specs.Prelude.{◌≡◌, IfOk, IfSome};
 ghost use Rattle.elf_model.specs.ObjectFile as object;
 ghost use Rattle.elf_model.specs.declared.faults.ObjFault.TheVariants as fault;
-ghost use Rattle.bad_parts.specs.BadParts.{IsBadOf};
+ghost use Rattle.bad_parts.specs.BadParts.{HasSymbolStrings, HasSymbols, IsBadOf};
 
 use crate::part::BadPart;
 use crate::tables::Tables;
@@ -12,7 +12,8 @@ use std::alloc::{AllocError, Global};
 
 /// The symbol that has a number, where its name can't be read.
 fn unnamed<'a>(tables: &Tables<'a>, symbols: &[Symbol], number: usize) -> Option<BadPart<'a>>
-    requires { symbols.now ≡ object.symbols tables.now }
+    requires readable { HasSymbolStrings tables.now }
+    requires exact { symbols.now ≡ object.symbols tables.now }
     ensures { IfSome result (IsBadOf tables.now fault.BadString) }
 {
     let part = tables.symbol(symbols, number)?;
@@ -29,6 +30,9 @@ pub fn bad_symbol_name<'a>(
 ) -> Result<Option<BadPart<'a>>, AllocError>
     ensures { IfOk result (λ o. IfSome o (IsBadOf tables.now fault.BadString)) }
 {
+    if !tables.has_symbol_strings() {
+        return Ok(None);
+    }
     let Some(symbols) = tables.symbols(alloc)? else {
         return Ok(None);
     };
@@ -108,7 +112,8 @@ fn unlawful_symbol<'a>(
     symbols: &[Symbol],
     number: usize,
 ) -> Option<BadPart<'a>>
-    requires { symbols.now ≡ object.symbols tables.now }
+    requires readable { HasSymbols tables.now }
+    requires exact { symbols.now ≡ object.symbols tables.now }
     ensures { IfSome result (IsBadOf tables.now fault.BadSymbolTable) }
 {
     let part = tables.symbol(symbols, number)?;

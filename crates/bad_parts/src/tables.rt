@@ -1,14 +1,14 @@
 //! The header and the section header table of a file that may be no object, and what its parts are.
-ghost use Rattle.std.specs.Prelude.{◌≡◌, ◌<◌, ◌^◌, IfOk, IfSome, Some, length};
+ghost use Rattle.std.specs.Prelude.{◌≡◌, ◌==◌, ◌<◌, ◌^◌, IfOk, IfSome, IsTrue, Some, count_by, length};
 ghost use Rattle.std.specs.List.{slice_get};
 ghost use Rattle.elf_model.specs.ObjectFile as object;
-ghost use Rattle.elf_model.specs.ObjectFile.{section_strings, sections, symbol_strings};
+ghost use Rattle.elf_model.specs.ObjectFile.{HasTable, LiesInside, section, section_strings, sections, symbol_strings, symbol_table};
 ghost use Rattle.elf_model.specs.Records.{file_header};
-ghost use Rattle.bad_parts.specs.BadParts.{IsSectionPart, IsSymbolPart};
+ghost use Rattle.bad_parts.specs.BadParts.{HasSectionStrings, HasSymbolStrings, HasSymbols, IsSectionPart, IsSymbolPart};
 
 use crate::part::{SectionPart, SymbolPart};
 use byteview::View;
-use elf_model::{FileHeader, SHDR_SIZE, SYM_SIZE, SectionHeader, Symbol};
+use elf_model::{FileHeader, SHDR_SIZE, SHT_STRTAB, SHT_SYMTAB, SYM_SIZE, SectionHeader, Symbol};
 use elf_read::{
     contents, lies_inside, read_header, read_sections, read_symbols, section, symbol_table,
 };
@@ -68,7 +68,8 @@ impl<'a> Tables<'a> {
 
     /// The file header.
     pub fn header(&self) -> &FileHeader
-        ensures { result.now ≡ file_header self.now }
+        ensures exact { result.now ≡ file_header self.now }
+        ensures table { HasTable (length self.now) (file_header self.now) }
     {
         &self.header
     }
@@ -118,20 +119,68 @@ impl<'a> Tables<'a> {
         })
     }
 
-    /// The symbols; None where their table isn't inside the file.
-    pub fn symbols(&self, alloc: Global) -> Result<Option<Vec<Symbol>>, AllocError>
-        ensures { IfOk result (λ o. IfSome o (λ v. v.items ≡ object.symbols self.now)) }
+    /// Whether a section is a string table inside the file.
+    fn has_strings(&self, number: usize) -> bool
+        ensures strings { IsTrue result → (section (sections self.now) number).sh_type ≡ 3 }
+        ensures inside { IsTrue result → LiesInside (length self.now) (section (sections self.now) number) }
     {
-        let table = symbol_table(&self.sections);
-        if !lies_inside(&table, self.file.len()) {
+        let strings = section(self.sections(), number);
+        strings.sh_type == SHT_STRTAB && lies_inside(&strings, self.file().len())
+    }
+
+    /// Whether the names of sections can be read.
+    pub fn has_section_strings(&self) -> bool
+        ensures { IsTrue result → HasSectionStrings self.now }
+    {
+        self.has_strings(self.header().e_shstrndx as usize)
+    }
+
+    /// Whether the file has one symbol table, and no more.
+    fn has_one_table(&self) -> bool
+        ensures { IsTrue result → count_by (λ s. s.sh_type == 2) (sections self.now) ≡ 1 }
+    {
+        let tables = self
+            .sections()
+            .iter()
+            .filter(|section| section.sh_type == SHT_SYMTAB);
+        tables.count() == 1
+    }
+
+    /// Whether symbols can be read.
+    fn has_symbols(&self) -> bool
+        ensures { IsTrue result → HasSymbols self.now }
+    {
+        let _header = self.header();
+        let table = symbol_table(self.sections());
+        if !self.has_one_table() || table.sh_entsize as usize != SYM_SIZE || table.sh_size == 0 {
+            return false;
+        }
+        table.sh_size as usize % SYM_SIZE == 0 && lies_inside(&table, self.file().len())
+    }
+
+    /// Whether the names of symbols can be read.
+    pub fn has_symbol_strings(&self) -> bool
+        ensures { IsTrue result → HasSymbolStrings self.now }
+    {
+        self.has_symbols() && self.has_strings(symbol_table(self.sections()).sh_link as usize)
+    }
+
+    /// The symbols; None where they can't be read.
+    pub fn symbols(&self, alloc: Global) -> Result<Option<Vec<Symbol>>, AllocError>
+        ensures readable { IfOk result (λ o. IfSome o (λ _. HasSymbols self.now)) }
+        ensures exact { IfOk result (λ o. IfSome o (λ v. v.items ≡ object.symbols self.now)) }
+    {
+        if !self.has_symbols() {
             return Ok(None);
         }
+        let table = symbol_table(&self.sections);
         Ok(Some(read_symbols(alloc, &self.file, &table)?))
     }
 
     /// The symbol that has a number, among all symbols.
     pub fn symbol(&self, symbols: &[Symbol], number: usize) -> Option<SymbolPart<'a>>
-        requires { symbols.now ≡ object.symbols self.now }
+        requires readable { HasSymbols self.now }
+        requires exact { symbols.now ≡ object.symbols self.now }
         ensures { IfSome result (IsSymbolPart self.now) }
     {
         let entry = symbol_at(symbols, number)?;

@@ -16,6 +16,7 @@ offset_is objects p r at = ap (λ (x : Relocation). x.entry.r_offset) at.relocat
 
 pub overlap_law : (objects : List LoadedObject) (f g : Field) → IsField objects f → IsField objects g → BeginsIn f g → IsOverlap objects f.place g.place
 overlap_law objects f g a b begins = record {
+  two = begins.two;
   r = a.r;
   t = b.r;
   first = a.at;

@@ -1,88 +1,105 @@
 -- What places say, from the objects to the files and the words.
 use Rattle.std.proofs.Common.{◌≡◌, ℕ, List, Ok, Option, None, Some, IfSome, All, subst, sym}
+use Rattle.std.specs.List.{slice_get}
 use Rattle.std.proofs.lemmas.List.Elements.{All-weaker}
 use Rattle.elf_model.specs.Command.{Plan, command_of}
 use Rattle.elf_model.specs.Files.{File}
-use Rattle.elf_model.specs.Groups.{GroupFaultStands}
 use Rattle.elf_model.specs.Loading.{loaded_objects}
-use Rattle.elf_model.specs.ObjectFile.{groups}
-use Rattle.elf_model.specs.Opening.{file_named}
+use Rattle.elf_model.specs.Opening as opened_items
+use Rattle.elf_model.specs.Opening.{Opened}
 use Rattle.search.specs.Loads.{LoadedPlan}
-use Rattle.explain.specs.Places.{AreSo, AreSoOf, HasFault, Holds, HoldsIn, HoldsOf, HoldsOfBytes, IsObjectOf, data_of}
+use Rattle.search.specs.Opened.{item_view}
+use Rattle.search.specs.declared.opened_items.OpenedItem.{OpenedItem}
+use Rattle.explain.specs.Opened.{IsOpened, IsPlaceOf}
+use Rattle.explain.specs.Places.{AreSo, AreSoOf, HasBadGroups, HasDataThat, HasFault, HoldsIn, HoldsOf, HoldsOfBytes, IsDataOf, IsItemAt, IsObjectOf, Says}
 use Rattle.explain.specs.declared.place.ObjectPlace.{ObjectPlace}
 use Rattle.explain.specs.declared.place.Place.{Place}
 use Rattle.explain.specs.declared.place.Place.TheVariants as place
 
--- an object of a file that is there
+-- what stands of an opened item is said of a place of it
+pub item_at :
+    (files : List File) (plan : Plan) (item : OpenedItem) (offset : ℕ) (p : ObjectPlace) (Stands : Opened → Type 0) → IsOpened files plan item →
+    IsPlaceOf item offset p → Stands (item_view item) → IsItemAt files plan p Stands
+item_at files plan item offset p Stands opened at stands = record {
+  item = item_view item;
+  there = subst (λ (n : ℕ). slice_get (opened_items.opened files plan) n ≡ Some (item_view item)) (sym at.item_is) opened;
+  path = at.path;
+  stands = stands;
+}
+
 object_of :
-    (Stands : List ℕ → Type 0) (files : List File) (p q : ObjectPlace) (file bytes : List ℕ) → file_named files p.path.now ≡ Some file →
-    bytes ≡ data_of file p.offset → q ≡ p → Stands bytes → IsObjectOf files q Stands
-object_of Stands files p q file bytes there same is stands =
-    subst (λ (x : ObjectPlace). IsObjectOf files x Stands) (sym is)
-    (record { file = file; there = there; stands = subst Stands same stands })
+    (files : List File) (plan : Plan) (item : OpenedItem) (offset : ℕ) (p q : ObjectPlace) (bytes : List ℕ) (Stands : List ℕ → Type 0) →
+    IsOpened files plan item → IsPlaceOf item offset p → IsDataOf (item_view item) offset bytes → q ≡ p → Stands bytes → IsObjectOf files plan q Stands
+object_of files plan item offset p q bytes Stands opened at held is stands =
+    subst (λ (x : ObjectPlace). IsObjectOf files plan x Stands) (sym is)
+    (item_at files plan item offset p (HasDataThat p.offset Stands) opened at
+    (record { bytes = bytes; data_is = subst (λ (n : ℕ). IsDataOf (item_view item) n bytes) (sym at.offset_is) held; stands = stands }))
 
 pub object_law :
-    (files : List File) (plan : Plan) (p : ObjectPlace) (file bytes : List ℕ) (x : Place) → file_named files p.path.now ≡ Some file →
-    bytes ≡ data_of file p.offset → HoldsOfBytes p bytes x → HoldsOf files plan x
-object_law files plan p file bytes (place.Object q fault part) there same h =
-    object_of (HasFault fault part) files p q file bytes there same h.0 h.1
-object_law files plan p file bytes (place.Groups q fault) there same h =
-    object_of (λ b. GroupFaultStands (groups b) fault) files p q file bytes there same h.0 h.1
-object_law files plan p file bytes (place.Word number fault) there same h = absurd h
-object_law files plan p file bytes (place.Missing i source) there same h = absurd h
-object_law files plan p file bytes (place.Archive path fault) there same h = absurd h
-object_law files plan p file bytes (place.NoIndex path) there same h = absurd h
-object_law files plan p file bytes (place.Section q) there same h = absurd h
-object_law files plan p file bytes (place.Large q) there same h = absurd h
-object_law files plan p file bytes (place.Symbol q fault) there same h = absurd h
-object_law files plan p file bytes (place.Relocation q fault) there same h = absurd h
-object_law files plan p file bytes (place.Overlap q r) there same h = absurd h
-object_law files plan p file bytes (place.Value q value address) there same h = absurd h
-object_law files plan p file bytes (place.Entry name) there same h = absurd h
+    (files : List File) (plan : Plan) (item : OpenedItem) (offset : ℕ) (p : ObjectPlace) (bytes : List ℕ) (x : Place) → IsOpened files plan item →
+    IsPlaceOf item offset p → IsDataOf (item_view item) offset bytes → HoldsOfBytes p bytes x → HoldsOf files plan x
+object_law files plan item offset p bytes (place.Object q f part) opened at held h =
+    object_of files plan item offset p q bytes (HasFault f part) opened at held h.0 h.1
+object_law files plan item offset p bytes (place.Groups q f) opened at held h =
+    object_of files plan item offset p q bytes (HasBadGroups f) opened at held h.0 h.1
+object_law files plan item offset p bytes (place.Word number f) opened at held h = absurd h
+object_law files plan item offset p bytes (place.Missing i source) opened at held h = absurd h
+object_law files plan item offset p bytes (place.Archive q f) opened at held h = absurd h
+object_law files plan item offset p bytes (place.NoIndex q) opened at held h = absurd h
+object_law files plan item offset p bytes (place.Section q) opened at held h = absurd h
+object_law files plan item offset p bytes (place.Large q) opened at held h = absurd h
+object_law files plan item offset p bytes (place.Symbol q f) opened at held h = absurd h
+object_law files plan item offset p bytes (place.Relocation q f) opened at held h = absurd h
+object_law files plan item offset p bytes (place.Overlap q r) opened at held h = absurd h
+object_law files plan item offset p bytes (place.Value q value address) opened at held h = absurd h
+object_law files plan item offset p bytes (place.Entry name) opened at held h = absurd h
+object_law files plan item offset p bytes (place.Refused e) opened at held h = absurd h
+
+pub object_some :
+    (files : List File) (plan : Plan) (item : OpenedItem) (offset : ℕ) (p : ObjectPlace) (bytes : List ℕ) (o : Option Place) → IsOpened files plan item →
+    IsPlaceOf item offset p → IsDataOf (item_view item) offset bytes → IfSome o (HoldsOfBytes p bytes) → IfSome o (HoldsOf files plan)
+object_some files plan item offset p bytes None opened at held h = h
+object_some files plan item offset p bytes (Some x) opened at held h = object_law files plan item offset p bytes x opened at held h
 
 -- what holds of the objects that a plan loads
-of_loaded : (files : List File) (plan : Plan) (x : Place) → HoldsIn (record { plan = plan; objects = loaded_objects files plan }) x → HoldsOf files plan x
-of_loaded files plan (place.Object q fault part) h = absurd h
-of_loaded files plan (place.Groups q fault) h = absurd h
-of_loaded files plan (place.Word number fault) h = absurd h
-of_loaded files plan (place.Missing i source) h = absurd h
-of_loaded files plan (place.Archive path fault) h = absurd h
-of_loaded files plan (place.NoIndex path) h = absurd h
-of_loaded files plan (place.Section q) h = h
-of_loaded files plan (place.Large q) h = h
-of_loaded files plan (place.Symbol q fault) h = h
-of_loaded files plan (place.Relocation q fault) h = h
-of_loaded files plan (place.Overlap q r) h = h
-of_loaded files plan (place.Value q value address) h = h
-of_loaded files plan (place.Entry name) h = h
+of_loaded : (files : List File) (plan : Plan) (ns : List (List ℕ)) (x : Place) → HoldsIn (record { plan = plan; objects = loaded_objects files plan; names = ns }) x → HoldsOf files plan x
+of_loaded files plan ns (place.Object q f part) h = absurd h
+of_loaded files plan ns (place.Groups q f) h = absurd h
+of_loaded files plan ns (place.Word number f) h = absurd h
+of_loaded files plan ns (place.Missing i source) h = absurd h
+of_loaded files plan ns (place.Archive q f) h = absurd h
+of_loaded files plan ns (place.NoIndex q) h = absurd h
+of_loaded files plan ns (place.Refused e) h = absurd h
+of_loaded files plan ns (place.Section q) h = h
+of_loaded files plan ns (place.Large q) h = h
+of_loaded files plan ns (place.Symbol q f) h = h
+of_loaded files plan ns (place.Relocation q f) h = h
+of_loaded files plan ns (place.Overlap q r) h = h
+of_loaded files plan ns (place.Value q value address) h = h
+of_loaded files plan ns (place.Entry name) h = h
 
 pub so_of : (files : List File) (plan : Plan) (l : LoadedPlan) (xs : List Place) → l.plan ≡ plan → l.objects ≡ loaded_objects files plan → AreSo l xs → AreSoOf files plan xs
 so_of files plan l xs is loads so =
-    All-weaker (HoldsIn (record { plan = plan; objects = loaded_objects files plan })) (HoldsOf files plan) (λ x h. of_loaded files plan x h) xs
-    (subst (λ os. AreSo (record { plan = plan; objects = os }) xs) loads
-    (subst (λ (p : Plan). AreSo (record { plan = p; objects = l.objects }) xs) is so))
+    All-weaker (HoldsIn (record { plan = plan; objects = loaded_objects files plan; names = l.names })) (HoldsOf files plan) (λ x h. of_loaded files plan l.names x h) xs
+    (subst (λ os. AreSo (record { plan = plan; objects = os; names = l.names }) xs) loads
+    (subst (λ (p : Plan). AreSo (record { plan = p; objects = l.objects; names = l.names }) xs) is so))
 
 -- what holds of the files of the plan of words
-of_plan : (files : List File) (words : List (List ℕ)) (plan : Plan) (x : Place) → command_of words ≡ Ok plan → HoldsOf files plan x → Holds files words x
-of_plan files words plan (place.Word number fault) is h = absurd h
-of_plan files words plan (place.Object q fault part) is h = (plan, is, h)
-of_plan files words plan (place.Groups q fault) is h = (plan, is, h)
+of_plan : (files : List File) (words : List (List ℕ)) (plan : Plan) (x : Place) → command_of words ≡ Ok plan → HoldsOf files plan x → Says files words x
+of_plan files words plan (place.Word number f) is h = absurd h
+of_plan files words plan (place.Refused e) is h = absurd h
+of_plan files words plan (place.Object q f part) is h = (plan, is, h)
+of_plan files words plan (place.Groups q f) is h = (plan, is, h)
 of_plan files words plan (place.Missing i source) is h = (plan, is, h)
-of_plan files words plan (place.Archive path fault) is h = (plan, is, h)
-of_plan files words plan (place.NoIndex path) is h = (plan, is, h)
+of_plan files words plan (place.Archive q f) is h = (plan, is, h)
+of_plan files words plan (place.NoIndex q) is h = (plan, is, h)
 of_plan files words plan (place.Section q) is h = (plan, is, h)
 of_plan files words plan (place.Large q) is h = (plan, is, h)
-of_plan files words plan (place.Symbol q fault) is h = (plan, is, h)
-of_plan files words plan (place.Relocation q fault) is h = (plan, is, h)
+of_plan files words plan (place.Symbol q f) is h = (plan, is, h)
+of_plan files words plan (place.Relocation q f) is h = (plan, is, h)
 of_plan files words plan (place.Overlap q r) is h = (plan, is, h)
 of_plan files words plan (place.Value q value address) is h = (plan, is, h)
 of_plan files words plan (place.Entry name) is h = (plan, is, h)
 
-pub holds_of : (files : List File) (words : List (List ℕ)) (plan : Plan) (xs : List Place) → command_of words ≡ Ok plan → AreSoOf files plan xs → All (Holds files words) xs
-holds_of files words plan xs is so = All-weaker (HoldsOf files plan) (Holds files words) (λ x h. of_plan files words plan x is h) xs so
-
-pub object_some :
-    (files : List File) (plan : Plan) (p : ObjectPlace) (file bytes : List ℕ) (o : Option Place) → file_named files p.path.now ≡ Some file →
-    bytes ≡ data_of file p.offset → IfSome o (HoldsOfBytes p bytes) → IfSome o (HoldsOf files plan)
-object_some files plan p file bytes None there same h = h
-object_some files plan p file bytes (Some x) there same h = object_law files plan p file bytes x there same h
+pub says_of : (files : List File) (words : List (List ℕ)) (plan : Plan) (xs : List Place) → command_of words ≡ Ok plan → AreSoOf files plan xs → All (Says files words) xs
+says_of files words plan xs is so = All-weaker (HoldsOf files plan) (Says files words) (λ x h. of_plan files words plan x is h) xs so

@@ -1,2 +1,4 @@
+pub mod Opened
 pub mod Overlaps
+pub mod Phases
 pub mod Places

@@ -1,19 +1,27 @@
--- What a place of an explanation says of the loaded objects.
-use Rattle.std.specs.Prelude.{◌≡◌, ◌≤◌, ◌+◌, ◌%◌, ◌^◌, ℕ, true, ◌==◌, cond, List, [], Option, Some, Ok, All, IfSome, unwrap_or}
+-- What a place of an explanation says, and the cause that it carries.
+use Rattle.std.specs.Prelude.{◌≡◌, ◌≢◌, ◌⊎◌, ◌<◌, ◌+◌, ◌%◌, ◌^◌, ℕ, true, false, List, [], Option, Some, Ok, Err, All, IfSome, length, unwrap_or}
 use Rattle.std.specs.List.{slice_get}
-use Rattle.elf_model.specs.ArchiveFile.{ArFaultStands}
-use Rattle.elf_model.specs.Command.{IsRefusal, Item, Plan, command_of}
+use Rattle.elf_model.specs.ArchiveFile.{member_at}
+use Rattle.elf_model.specs.Causes.{AnyRelocation, Cause, HasObjects, IsBadArchive, IsUndefinedName, IsWithoutIndex}
+use Rattle.elf_model.specs.Command.{Item, Plan, command_of}
 use Rattle.elf_model.specs.Files.{File}
 use Rattle.elf_model.specs.Groups.{GroupFaultStands}
 use Rattle.elf_model.specs.Loading.{LoadedObject, loaded_objects}
-use Rattle.elf_model.specs.ObjectFile.{ObjFaultStands, groups, relas_of, section_name, sections, symbol_name, symbols}
+use Rattle.elf_model.specs.ObjectFile.{IsObject, ObjFaultStands, groups, relas_of, section_name, sections, symbol_name, symbols}
 use Rattle.elf_model.specs.Relocation.{AreFieldsApart, Relocation, is_kept_rela, is_some_kind, relocation_of}
-use Rattle.elf_model.specs.Opening.{HasFile, archive_data, file_named, is_unindexed}
+use Rattle.elf_model.specs.Opening.{HasFile, Opened, opened}
 use Rattle.elf_model.specs.Pieces.{is_kept}
 use Rattle.elf_model.specs.Placement.{section_address}
 use Rattle.elf_model.specs.RelocationValues.{Fits, value_of}
 use Rattle.elf_model.specs.Resolution.{IsDuplicate, IsEntry, IsSoundCommon, IsSoundSymbol, SymbolOf, is_strong, symbol_of}
+use Rattle.elf_model.specs.declared.faults.ArFault.TheVariants as archive_fault
+use Rattle.elf_model.specs.declared.faults.CmdFault.{CmdFault}
+use Rattle.elf_model.specs.declared.faults.GroupFault.{GroupFault}
+use Rattle.elf_model.specs.declared.faults.GroupFault.TheVariants as group_fault
+use Rattle.elf_model.specs.declared.faults.LinkError.{LinkError}
+use Rattle.elf_model.specs.declared.faults.LinkError.TheVariants as error
 use Rattle.elf_model.specs.declared.faults.ObjFault.{ObjFault}
+use Rattle.elf_model.specs.declared.faults.ObjFault.TheVariants as object_fault
 use Rattle.elf_model.specs.declared.records.SectionHeader.{SectionHeader}
 use Rattle.bad_parts.specs.BadParts.{IsBadOf}
 use Rattle.bad_parts.specs.declared.part.BadPart.{BadPart}
@@ -24,7 +32,11 @@ use Rattle.layout.specs.Kinds.{IsLawfulIfKept}
 use Rattle.layout.specs.Placements.{Basis}
 use Rattle.relocate.specs.References.{IsUnlawful}
 use Rattle.relocate.specs.declared.faults.RelocationFault.{RelocationFault}
+use Rattle.relocate.specs.declared.faults.RelocationFault.TheVariants as wrong
 use Rattle.relocate.specs.Values.{where_in}
+use Rattle.explain.specs.Phases.{error_phase, place_phase}
+use Rattle.explain.specs.declared.phase.Phase.{Phase}
+use Rattle.explain.specs.declared.phase.Phase.TheVariants as phase
 use Rattle.explain.specs.declared.place.ObjectPlace.{ObjectPlace}
 use Rattle.explain.specs.declared.place.Place.{Place}
 use Rattle.explain.specs.declared.place.Place.TheVariants as place
@@ -34,8 +46,9 @@ use Rattle.explain.specs.declared.place.SymbolFault.{SymbolFault}
 use Rattle.explain.specs.declared.place.SymbolFault.TheVariants as symbol_fault
 use Rattle.explain.specs.declared.place.SymbolPlace.{SymbolPlace}
 
--- the file of an object, and its member in there
+-- the item of an object, its file, and its member in there
 pub record IsFileOf (o : LoadedObject) (p : ObjectPlace) : Type 0 where
+  pub item : p.item ≡ o.item
   pub path : p.path.now ≡ o.path
   pub offset : p.offset ≡ o.offset
 
@@ -52,12 +65,12 @@ pub record IsUnlawfulSection (objects : List LoadedObject) (p : SectionPlace) : 
   pub at : IsSectionAt objects p o
   pub wrong : ¬ IsLawfulIfKept o p.section p.header
 
--- it is kept, and of 2 ^ 31 bytes and more
-pub record IsLargeSection (objects : List LoadedObject) (p : SectionPlace) : Type 0 where
+-- it is kept, and takes up more than all addresses from the plan's base on
+pub record IsLargeSection (base : ℕ) (objects : List LoadedObject) (p : SectionPlace) : Type 0 where
   pub o : LoadedObject
   pub at : IsSectionAt objects p o
   pub kept : is_kept o p.section p.header ≡ true
-  pub large : 2 ^ 31 ≤ p.header.sh_size
+  pub large : 2 ^ 46 < base + p.header.sh_size
 
 -- a place is that of a symbol
 pub record IsSymbolAt (objects : List LoadedObject) (p : SymbolPlace) (o : LoadedObject) : Type 0 where
@@ -115,8 +128,13 @@ pub record IsUnfit (b : Basis) (p : RelocationPlace) (value : ℕ) (address : �
   pub is_address : address ≡ (section_address (where_in b).placed r.object r.section + r.entry.r_offset) % 2 ^ 64
   pub wrong : ¬ Fits b.objects (where_in b) r
 
--- two places are those of kept relocations whose fields share a byte
+-- two places are those of entries of one object that aren't the same
+abbrev pub AreTwo : RelocationPlace → RelocationPlace → Type 0
+AreTwo p q = ¬ ((p.table ≡ q.table) × (p.number ≡ q.number))
+
+-- two places are those of two kept relocations whose fields share a byte
 pub record IsOverlap (objects : List LoadedObject) (p q : RelocationPlace) : Type 0 where
+  pub two : AreTwo p q
   pub r : Relocation
   pub t : Relocation
   pub first : IsRelocationAt objects p r
@@ -129,7 +147,7 @@ basis_of l = record { base = l.plan.base; objects = l.objects }
 
 abbrev pub HoldsIn : LoadedPlan → Place → Type 0
 HoldsIn l (place.Section p) = IsUnlawfulSection l.objects p
-HoldsIn l (place.Large p) = IsLargeSection l.objects p
+HoldsIn l (place.Large p) = IsLargeSection l.plan.base l.objects p
 HoldsIn l (place.Symbol p fault) = IsWrongSymbol l.objects p fault
 HoldsIn l (place.Relocation p fault) = IsWrongRelocation l.objects p fault
 HoldsIn l (place.Overlap p q) = IsOverlap l.objects p q
@@ -137,31 +155,41 @@ HoldsIn l (place.Value p value address) = IsUnfit (basis_of l) p value address
 HoldsIn l (place.Entry name) = (name.now ≡ l.plan.entry) × (¬ IsEntry l.objects l.plan.entry)
 HoldsIn l _ = ⊥
 
--- the bytes of an object of a file: the data of the member whose header is at an offset, or the whole file at 0
-abbrev pub data_of : List ℕ → ℕ → List ℕ
-data_of file offset = cond (offset == 0) file (archive_data file offset)
-
 -- bytes have a fault, and the part of them, where there is one, is bad and of this fault
 abbrev pub HasFault : ObjFault → Option BadPart → List ℕ → Type 0
-HasFault fault part bytes = ObjFaultStands bytes fault × IfSome part (IsBadOf bytes fault)
+HasFault f part bytes = (f ≢ object_fault.Memory) × ObjFaultStands bytes f × IfSome part (IsBadOf bytes f)
+
+-- bytes are an object whose groups have a fault
+abbrev pub HasBadGroups : GroupFault → List ℕ → Type 0
+HasBadGroups f bytes = (f ≢ group_fault.Memory) × IsObject bytes × GroupFaultStands (groups bytes) f
 
 -- what a place says of an object by its bytes
 abbrev pub HoldsOfBytes : ObjectPlace → List ℕ → Place → Type 0
-HoldsOfBytes p bytes (place.Object q fault part) = (q ≡ p) × HasFault fault part bytes
-HoldsOfBytes p bytes (place.Groups q fault) = (q ≡ p) × GroupFaultStands (groups bytes) fault
+HoldsOfBytes p bytes (place.Object q f part) = (q ≡ p) × HasFault f part bytes
+HoldsOfBytes p bytes (place.Groups q f) = (q ≡ p) × HasBadGroups f bytes
 HoldsOfBytes p bytes _ = ⊥
 
--- an object of a file that is there has bytes of which something stands
-pub record IsObjectOf (files : List File) (p : ObjectPlace) (Stands : List ℕ → Type 0) : Type 0 where
-  pub file : List ℕ
-  pub there : file_named files p.path.now ≡ Some file
-  pub stands : Stands (data_of file p.offset)
+-- a place is that of an item of a plan, which is opened, and something stands of it
+pub record IsItemAt (files : List File) (plan : Plan) (p : ObjectPlace) (Stands : Opened → Type 0) : Type 0 where
+  pub item : Opened
+  pub there : slice_get (opened files plan) p.item ≡ Some item
+  pub path : p.path.now ≡ item.path
+  pub stands : Stands item
 
--- a file that is there has bytes of which something stands
-pub record IsFileThere (files : List File) (path : List ℕ) (Stands : List ℕ → Type 0) : Type 0 where
-  pub file : List ℕ
-  pub there : file_named files path ≡ Some file
-  pub stands : Stands file
+-- the bytes of an object of an opened item: its file where it is an object, and the data of a member that is there where it
+-- is an archive
+abbrev pub IsDataOf : Opened → ℕ → List ℕ → Type 0
+IsDataOf o offset bytes =
+    ((o.archive ≡ false) × (offset ≡ 0) × (bytes ≡ o.bytes)) ⊎ ((o.archive ≡ true) × (member_at o.bytes offset ≡ Some bytes))
+
+-- an opened item has an object at an offset of whose bytes something stands
+pub record HasDataThat (offset : ℕ) (Stands : List ℕ → Type 0) (o : Opened) : Type 0 where
+  pub bytes : List ℕ
+  pub data_is : IsDataOf o offset bytes
+  pub stands : Stands bytes
+
+abbrev pub IsObjectOf : List File → Plan → ObjectPlace → (List ℕ → Type 0) → Type 0
+IsObjectOf files plan p Stands = IsItemAt files plan p (HasDataThat p.offset Stands)
 
 -- an item of a plan, which names a source, has no file
 pub record IsMissing (files : List File) (plan : Plan) (i : ℕ) (source : Source) : Type 0 where
@@ -173,16 +201,67 @@ pub record IsMissing (files : List File) (plan : Plan) (i : ℕ) (source : Sourc
 -- what a place says of the files of a plan, and of the objects that it loads from them
 abbrev pub HoldsOf : List File → Plan → Place → Type 0
 HoldsOf files plan (place.Missing i source) = IsMissing files plan i source
-HoldsOf files plan (place.Archive path fault) = IsFileThere files path.now (λ bytes. ArFaultStands bytes fault)
-HoldsOf files plan (place.NoIndex path) = IsFileThere files path.now (λ bytes. is_unindexed bytes ≡ true)
-HoldsOf files plan (place.Object p fault part) = IsObjectOf files p (HasFault fault part)
-HoldsOf files plan (place.Groups p fault) = IsObjectOf files p (λ bytes. GroupFaultStands (groups bytes) fault)
-HoldsOf files plan p = HoldsIn (record { plan = plan; objects = loaded_objects files plan }) p
+HoldsOf files plan (place.Archive p f) = IsItemAt files plan p (λ o. (f ≢ archive_fault.Memory) × IsBadArchive f o)
+HoldsOf files plan (place.NoIndex p) = IsItemAt files plan p IsWithoutIndex
+HoldsOf files plan (place.Object p f part) = IsObjectOf files plan p (HasFault f part)
+HoldsOf files plan (place.Groups p f) = IsObjectOf files plan p (HasBadGroups f)
+HoldsOf files plan p = HoldsIn (record { plan = plan; objects = loaded_objects files plan; names = [] }) p
 
--- what a place says of the words of a command, and of its files
-abbrev pub Holds : List File → List (List ℕ) → Place → Type 0
-Holds files words (place.Word number fault) = IsRefusal words fault
-Holds files words p = (plan : Plan) × (command_of words ≡ Ok plan) × HoldsOf files plan p
+-- the words are refused; the word that is told, where one is, is one of them
+pub record IsWordAt (words : List (List ℕ)) (number : Option ℕ) (f : CmdFault) : Type 0 where
+  pub there : IfSome number (λ n. n < length words)
+  pub refused : command_of words ≡ Err f
+
+-- what a place says of the words of a command, and of its files; of an error that is told as a whole its cause says all
+abbrev pub Says : List File → List (List ℕ) → Place → Type 0
+Says files words (place.Word number f) = IsWordAt words number f
+Says files words (place.Refused e) = e.now ≢ error.Memory
+Says files words p = (plan : Plan) × (command_of words ≡ Ok plan) × HoldsOf files plan p
+
+-- an object that loading comes to is none, or has unlawful groups
+abbrev pub IsNoneLoaded : List File → List (List ℕ) → Type 0
+IsNoneLoaded files words = (e : LinkError) × (error_phase e ≡ phase.Objects) × Cause files words e
+
+-- the cause of the error that a place is of, where a name is that of the place
+abbrev pub SymbolCause : List File → List (List ℕ) → List ℕ → SymbolFault → Type 0
+SymbolCause files words name symbol_fault.BadCommon = Cause files words error.BadCommon
+SymbolCause files words name symbol_fault.BadSymbol = Cause files words error.BadSymbol
+SymbolCause files words name symbol_fault.Duplicate =
+    (p : Plan) × HasObjects files words p × IsDuplicate (loaded_objects files p) name
+
+abbrev pub RelocationCause : List File → List (List ℕ) → List ℕ → RelocationFault → Type 0
+RelocationCause files words name wrong.Undefined = AnyRelocation files words (IsUndefinedName name)
+RelocationCause files words name wrong.RefToDropped = Cause files words error.RefToDropped
+RelocationCause files words name wrong.RelocKind = Cause files words error.RelocKind
+RelocationCause files words name wrong.FieldOutside = Cause files words error.FieldOutside
+RelocationCause files words name wrong.TlsMismatch = Cause files words error.TlsMismatch
+RelocationCause files words name wrong.MixedSection = Cause files words error.MixedSection
+
+abbrev pub CauseOf : List File → List (List ℕ) → Place → Type 0
+CauseOf files words (place.Word number f) = Cause files words (error.Command f)
+CauseOf files words (place.Missing i source) = Cause files words error.FileMissing
+CauseOf files words (place.Archive p f) = Cause files words (error.BadArchive f)
+CauseOf files words (place.NoIndex p) = Cause files words error.NoIndex
+CauseOf files words (place.Object p f part) = IsNoneLoaded files words
+CauseOf files words (place.Groups p f) = IsNoneLoaded files words
+CauseOf files words (place.Section p) = Cause files words error.SectionKind
+CauseOf files words (place.Large p) = Cause files words error.TooLarge
+CauseOf files words (place.Symbol p f) = SymbolCause files words p.name.now f
+CauseOf files words (place.Relocation p f) = RelocationCause files words p.symbol_name.now f
+CauseOf files words (place.Overlap p q) = Cause files words error.OverlappingFields
+CauseOf files words (place.Value p value address) = Cause files words error.Overflow
+CauseOf files words (place.Entry name) = Cause files words error.NoEntry
+CauseOf files words (place.Refused e) = Cause files words e.now
+
+-- what a place says is so, and the error that it is of has its cause
+pub record Holds (files : List File) (words : List (List ℕ)) (p : Place) : Type 0 where
+  pub says : Says files words p
+  pub cause : CauseOf files words p
+
+-- what a place says is so, and it is of a phase
+pub record IsOfPhase (files : List File) (words : List (List ℕ)) (ph : Phase) (p : Place) : Type 0 where
+  pub says : Says files words p
+  pub phase_is : place_phase p ≡ ph
 
 -- the places of a list are so
 abbrev pub AreSo : LoadedPlan → List Place → Type 0

@@ -3,9 +3,12 @@
 
 mod files;
 mod found;
+mod lines;
 mod link;
 mod objects;
 mod overlaps;
+mod passed_archives;
+mod phase;
 mod place;
 mod relocations;
 mod text;
@@ -14,6 +17,7 @@ mod unlawful;
 mod unsound;
 
 pub use found::Found;
+pub use lines::write_places;
 pub use link::explain;
 pub use place::{ObjectPlace, Place, RelocationPlace, SectionPlace, SymbolFault, SymbolPlace};
-pub use text::{Inputs, write_place};
+pub use text::Inputs;

@@ -1,27 +1,42 @@
 //! Why a link is refused, phase by phase.
-ghost use Rattle.std.specs.Prelude.{◌≡◌, [], All, IfOk, List, OnOk};
-ghost use Rattle.elf_model.specs.Command.{IsBase, IsRefusal};
+ghost use Rattle.std.specs.Prelude.{◌≡◌, ◌↔◌, ◌<◌, ◌≤◌, [], All, Err, IfOk, IfSome, IsTrue, List, OnOk, length};
+ghost use Rattle.elf_model.specs.Causes.{Cause};
+ghost use Rattle.elf_model.specs.Command.{IsBase, command_of};
+ghost use Rattle.elf_model.specs.declared.faults.LinkError.TheVariants as link_error;
 ghost use Rattle.elf_model.specs.Files.{File, files_of, words_of};
 ghost use Rattle.elf_model.specs.Pieces.{AreLawfulKinds};
 ghost use Rattle.resolve.specs.Refusals.{ResolvingFails};
-ghost use Rattle.explain.specs.Places.{AreSo, AreSoOf, Holds};
+ghost use Rattle.explain.specs.Places.{AreSo, AreSoOf, Holds, Says};
 
 use crate::files::{add_archives, add_missing, add_object};
 use crate::found::Found;
 use crate::overlaps::add_overlaps;
+use crate::phase::phase_of;
 use crate::place::Place;
 use crate::relocations::add_relocations;
 use crate::unfit::add_values;
 use crate::unlawful::{add_largest, add_sections};
 use crate::unsound::{add_commons, add_definitions, add_symbols};
 use command::{Plan, read_words, refused_word};
-use elf_model::{CmdFault, InputFile};
+use elf_model::{CmdFault, InputFile, LinkError};
 use got_tls::slots;
 use layout::{LayoutFault, kinds, place};
 use relocate::{RelocFault, references};
 use resolve::{ResolveFault, Resolved, resolve};
 use search::{FileIndex, Loaded, SearchFault, load, refused_object};
 use std::alloc::{AllocError, Global};
+
+/// The number of the word at which words are refused.
+fn word_at(alloc: Global, words: &[String]) -> Option<u64>
+    ensures { IfSome result (λ n. n < length (words_of words.now)) }
+{
+    let number = refused_word(alloc, words)?;
+    if number < words.len() {
+        Some(number as u64)
+    } else {
+        None
+    }
+}
 
 /// Adds why the words are refused.
 fn add_word(
@@ -31,14 +46,10 @@ fn add_word(
     fault: CmdFault,
 ) -> Result<(), AllocError>
     requires none { found.old.places.items ≡ [] }
-    requires fault { IsRefusal (words_of words.now) fault }
-    ensures { (files : List File) → OnOk result (All (Holds files (words_of words.now)) found.new.places.items) }
+    requires fault { command_of (words_of words.now) ≡ Err fault }
+    ensures { (files : List File) → OnOk result (All (Says files (words_of words.now)) found.new.places.items) }
 {
-    let number = match refused_word(alloc, words) {
-        Some(number) => Some(number as u64),
-        None => None,
-    };
-    found.add(Place::Word(number, fault))
+    found.add(Place::Word(word_at(alloc, words), fault))
 }
 
 /// Adds why a plan isn't loaded.
@@ -187,8 +198,18 @@ fn add_plan<'a>(
     }
 }
 
+/// Whether an error is want of memory.
+fn is_memory(error: &LinkError) -> bool
+    ensures { IsTrue result ↔ (error.now ≡ link_error.Memory) }
+{
+    match error {
+        LinkError::Memory => true,
+        _ => false,
+    }
+}
+
 /// Adds why the link of files that words name is refused.
-#[tactic(auto, using(crate::proofs::Told::holds_of))]
+#[tactic(auto, using(crate::proofs::Told::says_of))]
 fn add_reasons<'a>(
     alloc: Global,
     found: &mut Found<'a>,
@@ -196,7 +217,7 @@ fn add_reasons<'a>(
     words: &'a [String],
 ) -> Result<(), AllocError>
     requires { found.old.places.items ≡ [] }
-    ensures { OnOk result (All (Holds (files_of files.now) (words_of words.now)) found.new.places.items) }
+    ensures { OnOk result (All (Says (files_of files.now) (words_of words.now)) found.new.places.items) }
 {
     match read_words(alloc, words) {
         Ok(plan) => add_plan(alloc, found, files, &plan),
@@ -205,21 +226,30 @@ fn add_reasons<'a>(
     }
 }
 
-/// Why the link of files that words name is refused: the first places at which something is wrong, at most so many, and how
-/// many more there are. None where it isn't refused, or only for want of room for its symbol table.
+/// Why the link of files that words name is refused with an error: the first places at which something is wrong, at most so
+/// many, and how many more there are. They are of the phase of the error, each with the error's cause or that of an error of the
+/// same phase; where none is found, the error as a whole.
 ///
 /// # Errors
 ///
-/// Only where memory is refused.
+/// Only where memory is refused, now or as the error says.
 pub fn explain<'a>(
     alloc: Global,
     files: &'a [InputFile],
     words: &'a [String],
+    error: &'a LinkError,
     most: usize,
 ) -> Result<Found<'a>, AllocError>
-    ensures { IfOk result (λ f. All (Holds (files_of files.entry.now) (words_of words.entry.now)) f.places.items) }
+    requires { Cause (files_of files.now) (words_of words.now) error.now }
+    ensures holds { IfOk result (λ f. All (Holds (files_of files.entry.now) (words_of words.entry.now)) f.places.items) }
+    ensures few { IfOk result (λ f. length f.places.items ≤ most) }
+    ensures some { IfOk result (λ f. 0 < most → 0 < length f.places.items) }
 {
+    if is_memory(error) {
+        return Err(AllocError);
+    }
     let mut found = Found::new(alloc, most);
     add_reasons(alloc, &mut found, files, words)?;
-    Ok(found)
+    let told = found.of_phase(alloc, phase_of(error), most)?;
+    told.or_error(error)
 }

@@ -8,7 +8,7 @@ ghost use Rattle.explain.specs.Places.{IsFileOf, IsRelocationAt, IsTold};
 
 use crate::place::{ObjectPlace, RelocationPlace, SectionPlace, SymbolPlace};
 use elf_model::{Rela, SectionHeader, Symbol};
-use elf_read::Object;
+use elf_read::ObjectFile;
 use search::{Loaded, LoadedObject};
 
 /// Where a loaded object is.
@@ -16,13 +16,14 @@ fn file_of<'a>(loaded: &LoadedObject<'a>) -> ObjectPlace<'a>
     ensures { IsFileOf (loaded_view loaded.now) result }
 {
     ObjectPlace {
+        item: loaded.item,
         path: loaded.path,
         offset: loaded.offset,
     }
 }
 
 /// The name of section `i`; empty where it has none.
-fn section_name<'a>(object: &Object<'a>, i: usize) -> &'a [u8]
+fn section_name<'a>(object: &ObjectFile<'a>, i: usize) -> &'a [u8]
     ensures { result.now ≡ unwrap_or (section_name object.now i) [] }
 {
     match object.section_name(i) {
@@ -131,7 +132,7 @@ pub fn entry_at(one: &LoadedObject<'_>, i: usize, header: &SectionHeader, e: usi
     requires rela { header.now.sh_type ≡ 4 }
     ensures { IfSome result (λ x. slice_get (relas_of (loaded_view one.now).bytes header.now) e ≡ Some x) }
 {
-    one.entries_of(i, header).get(e).copied()
+    one.entries_of(i, header).get(e)
 }
 
 /// The place of an entry of a RELA section, which has the header, of a loaded object, which has a number: that of a kept

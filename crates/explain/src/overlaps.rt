@@ -1,7 +1,7 @@
 //! Relocations of an object whose fields share a byte: neighbours in the order of their fields.
 ghost use Rattle.std.specs.Prelude.{All, IfOk, IfSome, IsPermutation, IsTrue, OnOk};
 ghost use Rattle.explain.specs.Overlaps.{BeginsIn, IsField};
-ghost use Rattle.explain.specs.Places.{AreSo, HoldsIn};
+ghost use Rattle.explain.specs.Places.{AreSo, AreTwo, HoldsIn};
 
 use crate::found::Found;
 use crate::objects::{entry_at, header_at, object_at, relocation_place};
@@ -17,11 +17,21 @@ pub struct Field<'a> {
     width: u64,
 }
 
+/// Whether two places of one object are those of two entries.
+fn are_two(first: &RelocationPlace<'_>, second: &RelocationPlace<'_>) -> bool
+    ensures { IsTrue result → AreTwo first.now second.now }
+{
+    first.table != second.table || first.number != second.number
+}
+
 /// Whether a field begins inside another one of the same section.
 fn begins_in(first: &Field<'_>, second: &Field<'_>) -> bool
     ensures { IsTrue result → BeginsIn first.now second.now }
 {
     if first.place.object != second.place.object || first.place.section != second.place.section {
+        return false;
+    }
+    if !are_two(&first.place, &second.place) {
         return false;
     }
     let from = first.place.entry.r_offset;

@@ -2,12 +2,14 @@
 
 use bad_parts::BadPart;
 use command::Source;
-use elf_model::{ArFault, CmdFault, GroupFault, ObjFault, Rela, SectionHeader, Symbol};
+use elf_model::{ArFault, CmdFault, GroupFault, LinkError, ObjFault, Rela, SectionHeader, Symbol};
 use relocate::RelocationFault;
 
-/// Where an object is: its file, and its member in there.
+/// Where an object is: its item, the item's file, and its member in there.
 #[derive(Clone, Copy, Debug)]
 pub struct ObjectPlace<'a> {
+    /// The number of its item in the command, from 0.
+    pub item: u64,
     /// The path of its file.
     pub path: &'a str,
     /// The offset of its member's header in the archive; 0 for an object item.
@@ -73,17 +75,17 @@ pub enum Place<'a> {
     Word(Option<u64>, CmdFault),
     /// An item of the command, by its number from 0, of which there is no file.
     Missing(u64, Source<'a>),
-    /// The path of a file that is read as an archive, and is none.
-    Archive(&'a str, ArFault),
-    /// The path of an archive that has no index of its members' names.
-    NoIndex(&'a str),
+    /// An item that is read as an archive, and is none.
+    Archive(ObjectPlace<'a>, ArFault),
+    /// An archive that has no index of its members' names, and is searched by it.
+    NoIndex(ObjectPlace<'a>),
     /// An object file that is none of the profile's, and the first part of it that has the fault, where one is found.
     Object(ObjectPlace<'a>, ObjFault, Option<BadPart<'a>>),
     /// An object whose groups of sections are refused.
     Groups(ObjectPlace<'a>, GroupFault),
     /// A kept section whose type or flags are none of the profile's.
     Section(SectionPlace<'a>),
-    /// A kept section of 2^31 bytes and more, where the image has no room for all.
+    /// A kept section that takes up more than all addresses from the base on.
     Large(SectionPlace<'a>),
     Symbol(SymbolPlace<'a>, SymbolFault),
     Relocation(RelocationPlace<'a>, RelocationFault),
@@ -93,4 +95,6 @@ pub enum Place<'a> {
     Value(RelocationPlace<'a>, u64, u64),
     /// The entry's name, which has no definition, or one in thread-local storage.
     Entry(&'a str),
+    /// The inputs as a whole have an error, and no single place of it is told.
+    Refused(&'a LinkError),
 }

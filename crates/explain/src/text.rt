@@ -3,9 +3,9 @@
 use crate::place::{ObjectPlace, Place, RelocationPlace, SectionPlace, SymbolFault, SymbolPlace};
 use bad_parts::{BadPart, write_bad_part};
 use command::Source;
-use elf_model::{CmdFault, InputFile, ObjFault};
-use input_names::{write_name, write_object};
-use relocate::RelocationFault;
+use elf_model::{ArFault, CmdFault, InputFile, LinkError, ObjFault};
+use input_names::{file_kind, object_bytes, write_name, write_object, write_relocation_type};
+use relocate::{Kind, Range, RelocationFault};
 use std::io;
 use std::io::Write;
 
@@ -16,13 +16,32 @@ pub struct Inputs<'i> {
     pub words: &'i [String],
 }
 
-/// Writes the path of an object's file, and the member that it is.
+/// Whether a word names a file: its path, or `-lNAME` for a path that ends in `libNAME.a`.
+fn names_file(word: &str, path: &str) -> bool {
+    let Some(name) = word.strip_prefix("-l") else {
+        return word == path;
+    };
+    let Some(rest) = path.strip_suffix(".a") else {
+        return false;
+    };
+    match rest.strip_suffix(name) {
+        Some(front) => front.ends_with("/lib"),
+        None => false,
+    }
+}
+
+/// Writes the path of an object's file, and the member that it is; and the number of its item, where more than one word names
+/// the file.
 fn write_file<W: Write>(
     out: &mut W,
     inputs: Inputs<'_>,
     place: &ObjectPlace<'_>,
 ) -> io::Result<()> {
     write_object(out, inputs.files, place.path, place.offset)?;
+    let words = inputs.words.iter();
+    if words.filter(|w| names_file(w.as_str(), place.path)).count() > 1 {
+        write!(out, " (item {})", place.item)?;
+    }
     out.write_all(b": ")
 }
 
@@ -43,7 +62,11 @@ fn write_large<W: Write>(
     place: &SectionPlace<'_>,
 ) -> io::Result<()> {
     write_section_name(out, inputs, place)?;
-    write!(out, ": {:#x} bytes", place.header.sh_size)
+    write!(
+        out,
+        ": {:#x} bytes, more than the addresses from the base on up to 2^46",
+        place.header.sh_size
+    )
 }
 
 fn write_section<W: Write>(
@@ -88,11 +111,9 @@ fn write_relocation<W: Write>(
     write_name(out, place.section_name)?;
     write!(out, "+{:#x}: ", place.entry.r_offset)?;
     let (number, table) = (place.number, place.table);
-    let (kind, symbol) = (place.entry.kind(), place.entry.symbol());
-    write!(
-        out,
-        "relocation {number} of section {table}, of type {kind}, to symbol {symbol} "
-    )?;
+    write!(out, "relocation {number} of section {table}, ")?;
+    write_relocation_type(out, place.entry.kind())?;
+    write!(out, ", to symbol {} ", place.entry.symbol())?;
     write_name(out, place.symbol_name)
 }
 
@@ -107,6 +128,34 @@ fn relocation_text(fault: RelocationFault) -> &'static str {
     }
 }
 
+/// Writes what avoids relocations of thread-local storage in other objects, which a static link needs not.
+fn write_hint<W: Write>(out: &mut W, kind: u32, fault: RelocationFault) -> io::Result<()> {
+    match (fault, kind) {
+        (RelocationFault::RelocKind, 16 | 17 | 19..=21 | 34..=36) => {
+            out.write_all(b": -ftls-model=local-exec or -fno-pic avoids it")
+        }
+        _ => Ok(()),
+    }
+}
+
+/// Writes which values fit the field of a type of relocations.
+fn write_range<W: Write>(out: &mut W, number: u32) -> io::Result<()> {
+    let Some(kind) = Kind::of(number) else {
+        return Ok(());
+    };
+    let (low, half, whole): (u64, u64, u64) = match kind.width {
+        1 => (0x80, 0x7f, 0xff),
+        2 => (0x8000, 0x7fff, 0xffff),
+        _ => (0x8000_0000, 0x7fff_ffff, 0xffff_ffff),
+    };
+    match kind.range {
+        Range::Always => Ok(()),
+        Range::Signed => write!(out, ", which takes -{low:#x} to {half:#x}"),
+        Range::Unsigned => write!(out, ", which takes 0 to {whole:#x}"),
+        Range::Either => write!(out, ", which takes -{low:#x} to {whole:#x}"),
+    }
+}
+
 /// Writes the word at which a command is refused, and what it says.
 fn write_word<W: Write>(
     out: &mut W,
@@ -118,18 +167,28 @@ fn write_word<W: Write>(
         return write!(out, "the words together: {fault}");
     };
     match words.get(number as usize) {
-        Some(word) => write!(out, "word {number} {word}: {fault}"),
+        Some(word) => {
+            write!(out, "word {number} ")?;
+            write_name(out, word.as_bytes())?;
+            write!(out, ": {fault}")
+        }
         None => write!(out, "word {number}: {fault}"),
     }
 }
 
 fn write_missing<W: Write>(out: &mut W, number: u64, source: Source<'_>) -> io::Result<()> {
     match source {
-        Source::Path(path) => write!(out, "{path}: item {number}: there is no such file"),
-        Source::Library(name) => write!(
-            out,
-            "-l{name}: item {number}: no directory of -L has lib{name}.a"
-        ),
+        Source::Path(path) => {
+            write_name(out, path.as_bytes())?;
+            write!(out, ": item {number}: there is no such file")
+        }
+        Source::Library(name) => {
+            out.write_all(b"-l")?;
+            write_name(out, name.as_bytes())?;
+            write!(out, ": item {number}: no directory of -L has lib")?;
+            write_name(out, name.as_bytes())?;
+            out.write_all(b".a")
+        }
     }
 }
 
@@ -153,29 +212,55 @@ fn object_text(fault: ObjFault) -> &'static str {
     }
 }
 
-/// Writes the fault of an object, and the part of it that has the fault, where one is told.
+/// Writes what a file is that is no object or no archive, where its first bytes tell.
+fn write_kind<W: Write>(
+    out: &mut W,
+    inputs: Inputs<'_>,
+    place: &ObjectPlace<'_>,
+) -> io::Result<()> {
+    let Some(bytes) = object_bytes(inputs.files, place.path, place.offset) else {
+        return Ok(());
+    };
+    match file_kind(bytes) {
+        Some(kind) => write!(out, ": {kind}"),
+        None => Ok(()),
+    }
+}
+
+/// Writes the fault of an object, and the part of it that has the fault, where one is told; else what the file is.
 fn write_bad_object<W: Write>(
     out: &mut W,
+    inputs: Inputs<'_>,
+    place: &ObjectPlace<'_>,
     fault: ObjFault,
     part: &Option<BadPart<'_>>,
 ) -> io::Result<()> {
+    write_file(out, inputs, place)?;
     write!(out, "{fault}: ")?;
-    match part {
-        Some(part) => write_bad_part(out, part),
-        None => out.write_all(object_text(fault).as_bytes()),
+    if let Some(part) = part {
+        return write_bad_part(out, part);
     }
+    out.write_all(object_text(fault).as_bytes())?;
+    write_kind(out, inputs, place)
 }
 
 /// Writes a place of the files.
 fn write_input<W: Write>(out: &mut W, inputs: Inputs<'_>, place: &Place<'_>) -> io::Result<()> {
     match place {
         Place::Missing(number, source) => write_missing(out, *number, *source),
-        Place::Archive(path, fault) => write!(out, "{path}: {fault}"),
-        Place::NoIndex(path) => write!(out, "{path}: the archive has no index: ranlib makes one"),
-        Place::Object(file, fault, part) => {
+        Place::Archive(file, fault) => {
             write_file(out, inputs, file)?;
-            write_bad_object(out, *fault, part)
+            write!(out, "{fault}")?;
+            match fault {
+                ArFault::NotArchive => write_kind(out, inputs, file),
+                _ => Ok(()),
+            }
         }
+        Place::NoIndex(file) => {
+            write_file(out, inputs, file)?;
+            out.write_all(b"the archive has no index: ranlib makes one")
+        }
+        Place::Object(file, fault, part) => { write_bad_object(out, inputs, file, *fault, part) }
         Place::Groups(file, fault) => {
             write_file(out, inputs, file)?;
             write!(out, "{fault}")
@@ -192,7 +277,8 @@ fn write_relocations<W: Write>(
     match place {
         Place::Relocation(place, fault) => {
             write_relocation(out, inputs, place)?;
-            write!(out, ": {}", relocation_text(*fault))
+            write!(out, ": {}", relocation_text(*fault))?;
+            write_hint(out, place.entry.kind(), *fault)
         }
         Place::Overlap(first, second) => {
             write_relocation(out, inputs, first)?;
@@ -204,9 +290,26 @@ fn write_relocations<W: Write>(
             write!(
                 out,
                 ": the value {value:#x} does not fit the field at {address:#x}"
-            )
+            )?;
+            write_range(out, place.entry.kind())
         }
         _ => Ok(()),
+    }
+}
+
+fn write_entry<W: Write>(out: &mut W, name: &str) -> io::Result<()> {
+    out.write_all(b"the entry ")?;
+    write_name(out, name.as_bytes())?;
+    out.write_all(b" has no definition outside thread-local storage")
+}
+
+/// Writes an error of which no single place is told.
+fn write_refused<W: Write>(out: &mut W, error: &LinkError) -> io::Result<()> {
+    match error {
+        LinkError::TooLarge => out.write_all(
+            b"all together: the addresses end above 2^46, or the image has 2^32 bytes or more",
+        ),
+        _ => write!(out, "all together: {error}"),
     }
 }
 
@@ -216,11 +319,9 @@ pub fn write_place<W: Write>(out: &mut W, inputs: Inputs<'_>, place: &Place<'_>)
         Place::Word(number, fault) => write_word(out, inputs.words, *number, *fault),
         Place::Section(place) => write_section(out, inputs, place),
         Place::Large(place) => write_large(out, inputs, place),
+        Place::Refused(error) => write_refused(out, error),
         Place::Symbol(place, fault) => write_symbol(out, inputs, place, *fault),
-        Place::Entry(name) => write!(
-            out,
-            "the entry {name} has no definition outside thread-local storage"
-        ),
+        Place::Entry(name) => write_entry(out, name),
         Place::Relocation(_, _) | Place::Overlap(_, _) | Place::Value(_, _, _) => {
             write_relocations(out, inputs, place)
         }

@@ -16,7 +16,7 @@ use elf_model::SectionHeader;
 use got_tls::Slots;
 use layout::Placement;
 use relocate::{
-    Kind, Valued, address_or_none, is_some_kind, pointer_of, wanted_patch, wanted_value,
+    Kind, Valued, address_or_none, fitting_value, is_some_kind, pointer_of, wanted_value,
 };
 use resolve::Resolved;
 use search::Loaded;
@@ -45,7 +45,7 @@ fn unfit_entry<'a>(
     let kind = Kind::of(entry.kind())?;
     let target = header.sh_info as u64;
     let at = address_or_none(valued.placement, valued.number, target as usize);
-    let None = wanted_patch(valued, target, at, &entry) else {
+    let None = fitting_value(valued, target, at, &entry) else {
         return None;
     };
     let value = wanted_value(valued, target, at, kind, &entry);

@@ -1,5 +1,6 @@
 //! Kept sections of kinds that are none of the profile's, and those that leave no room.
 ghost use Rattle.std.specs.Prelude.{IfSome, OnOk};
+ghost use Rattle.elf_model.specs.Command.{IsBase};
 ghost use Rattle.explain.specs.Places.{AreSo, HoldsIn};
 
 use crate::found::Found;
@@ -9,8 +10,8 @@ use layout::is_lawful_if_kept;
 use search::Loaded;
 use std::alloc::AllocError;
 
-/// A section of so many bytes is named where the image has no room.
-const LARGE: u64 = 1 << 31;
+/// All addresses of an image are below this one.
+const TOP: u64 = 1 << 46;
 
 /// Section `i` of the object that has a number, where it is kept and of another kind than the profile's.
 fn unlawful_section<'a>(loaded: &Loaded<'a>, k: usize, i: usize) -> Option<Place<'a>>
@@ -24,13 +25,14 @@ fn unlawful_section<'a>(loaded: &Loaded<'a>, k: usize, i: usize) -> Option<Place
     Some(Place::Section(section_place(k, one, i, &header)))
 }
 
-/// Section `i` of the object that has a number, where it is kept and large.
+/// Section `i` of the object that has a number, where it is kept and takes up more than all addresses from the base on.
 fn large_section<'a>(loaded: &Loaded<'a>, k: usize, i: usize) -> Option<Place<'a>>
+    requires { IsBase loaded.now.plan.base }
     ensures { IfSome result (HoldsIn loaded.now) }
 {
     let one = object_at(loaded, k)?;
     let header = header_at(one, i)?;
-    if header.sh_size < LARGE || !one.is_kept(i, &header) {
+    if header.sh_size <= TOP - loaded.plan().base || !one.is_kept(i, &header) {
         return None;
     }
     Some(Place::Large(section_place(k, one, i, &header)))
@@ -68,7 +70,8 @@ pub fn add_sections<'a>(found: &mut Found<'a>, loaded: &Loaded<'a>) -> Result<()
 
 /// Adds the large sections of the object that has a number.
 fn add_large<'a>(found: &mut Found<'a>, loaded: &Loaded<'a>, k: usize) -> Result<(), AllocError>
-    requires { AreSo loaded.now found.old.places.items }
+    requires base { IsBase loaded.now.plan.base }
+    requires before { AreSo loaded.now found.old.places.items }
     ensures { OnOk result (AreSo loaded.now found.new.places.items) }
 {
     for i in 0..section_count(loaded, k) {
@@ -77,9 +80,10 @@ fn add_large<'a>(found: &mut Found<'a>, loaded: &Loaded<'a>, k: usize) -> Result
     Ok(())
 }
 
-/// Adds the kept sections of what is loaded that leave no room for the rest: those of 2^31 bytes and more.
+/// Adds the kept sections of what is loaded that take up more than all addresses from the base on.
 pub fn add_largest<'a>(found: &mut Found<'a>, loaded: &Loaded<'a>) -> Result<(), AllocError>
-    requires { AreSo loaded.now found.old.places.items }
+    requires base { IsBase loaded.now.plan.base }
+    requires before { AreSo loaded.now found.old.places.items }
     ensures { OnOk result (AreSo loaded.now found.new.places.items) }
 {
     for k in 0..loaded.objects().len() {

@@ -1,6 +1,7 @@
 //! Objects that are refused: the lines that tell the section, the symbol, the entry or the member at fault.
 use crate::lines::lines_of;
-use elf_model::{InputFile, SHT_GROUP, SHT_REL, SHT_SYMTAB, SHT_SYMTAB_SHNDX};
+use bad_parts::bad_part;
+use elf_model::{InputFile, ObjFault, SHT_GROUP, SHT_REL, SHT_SYMTAB, SHT_SYMTAB_SHNDX};
 use link_samples::objects::{NamedSymbol, Relocation, Section, relocatable};
 use link_samples::one_object::one_file;
 use link_samples::parts::{DATA, F, R_PC32, START, TEXT};
@@ -16,13 +17,22 @@ type Row = (
     &'static str,
 );
 
+/// Bytes of the plain object that are changed, and a fault of which no part is told, since what has it can't be read.
+type Unread = (&'static [(usize, u8)], ObjFault);
+
+/// Changes bytes of an object.
+fn change(bytes: &mut Vec<u8>, changes: &[(usize, u8)]) -> Result<(), Fail> {
+    for (at, byte) in changes.iter() {
+        *bytes.get_mut(*at).ok_or("the object")? = *byte;
+    }
+    Ok(())
+}
+
 /// The file of a row's object.
 fn file_of(alloc: Global, row: &Row) -> Result<Vec<InputFile>, Fail> {
     let (sections, symbols, relocations, changes, _) = row;
     let mut bytes = relocatable(alloc, sections, symbols, relocations)?;
-    for (at, byte) in changes.iter() {
-        *bytes.get_mut(*at).ok_or("the object")? = *byte;
-    }
+    change(&mut bytes, changes)?;
     one_file(alloc, "a.o", &bytes)
 }
 
@@ -218,6 +228,25 @@ fn bad_parts_are_named(rt: HostRuntime) -> Result<(), Fail> {
             let lines = lines_of(rt.alloc(), &files, "a.o", 9)?;
             assert_eq!(rt; lines.strip_prefix("a.o: "), Some(row.4), "row {number}");
         }
+    }
+    Ok(())
+}
+
+/// A name that isn't there, beside a symbol table whose entries are said to have 25 bytes, and beside the table that should hold
+/// the name, of sections and of symbols, which is no string table.
+static UNREAD: [Unread; 3] = [
+    (&[(0x168, 25), (0x68, 0xff)], ObjFault::BadString),
+    (&[(0x1b4, 1), (0xf0, 0xff)], ObjFault::BadString),
+    (&[(0x174, 1), (0x68, 0xff)], ObjFault::BadString),
+];
+
+#[test]
+fn what_cannot_be_read_is_not_judged(rt: HostRuntime) -> Result<(), Fail> {
+    for (number, (changes, fault)) in UNREAD.iter().enumerate() {
+        let mut bytes = relocatable(rt.alloc(), &[TEXT], &[START], &[])?;
+        change(&mut bytes, changes)?;
+        let part = bad_part(rt.alloc(), &bytes, *fault)?;
+        assert_eq!(rt; part.is_some(), false, "row {number}");
     }
     Ok(())
 }

@@ -3,6 +3,7 @@ use crate::lines::lines_of;
 use elf_model::{SHF_ALLOC, SHF_EXECINSTR, SHF_TLS, SHF_WRITE, SHT_GROUP};
 use link_samples::links::{File, Member, files_of};
 use link_samples::objects::{NamedSymbol, Relocation, Section};
+use link_samples::one_object::one_file;
 use link_samples::parts::{BSS, DATA, F, NO_F, R_64, R_PC32, R_PLT32, START, TEXT};
 use std::process::Abort;
 use std::test::Fail;
@@ -22,7 +23,7 @@ fn assert_rows<R: AllocGlobal + Abort>(rt: &R, rows: &[Row]) -> Result<(), Fail>
 
 const PLAIN: File = File::Object("a.o", &[TEXT], &[START], &[]);
 
-const WORDS: [Row; 6] = [
+const WORDS: [Row; 7] = [
     (&[], "", 9, "the words together: NoInput (6)\n"),
     (&[PLAIN], "a.o", 9, ""),
     (
@@ -30,6 +31,12 @@ const WORDS: [Row; 6] = [
         "a.o -oout",
         9,
         "word 1 -oout: UnknownOption (2)\n",
+    ),
+    (
+        &[PLAIN],
+        "a.o -\u{1b}[2J",
+        9,
+        "word 1 -\\x1b[2J: UnknownOption (2)\n",
     ),
     (&[PLAIN], "a.o -o", 9, "word 1 -o: MissingValue (3)\n"),
     (
@@ -77,6 +84,30 @@ const BROKEN: File = File::Bytes(
       \x7fELF",
 );
 
+/// The same with a space in its member's name; then with a name of two slashes, which stands behind three members.
+const SPACED: File = File::Bytes(
+    "s.a",
+    b"!<arch>\n\
+      /               0           0     0     644     10        `\n\
+      \0\0\0\x01\0\0\0\x4ef\0\
+      my file.o/      0           0     0     644     4         `\n\
+      \x7fELF",
+);
+
+const NESTED: File = File::Bytes(
+    "d.a",
+    b"!<arch>\n\
+      /               0           0     0     644     10        `\n\
+      \0\0\0\x01\0\0\x01\x4cf\0\
+      1.o/            0           0     0     644     0         `\n\
+      2.o/            0           0     0     644     0         `\n\
+      3.o/            0           0     0     644     0         `\n\
+      //              0           0     0     644     14        `\n\
+      sub/dir/x.o/\n\n\
+      /0              0           0     0     644     4         `\n\
+      \x7fELF",
+);
+
 /// A group whose flags are none of COMDAT's.
 const BAD_GROUP: Section<'static> = Section {
     name: ".group",
@@ -93,7 +124,7 @@ const START_IN_2: NamedSymbol<'static> = NamedSymbol {
     ..START
 };
 
-const FILES: [Row; 7] = [
+const FILES: [Row; 11] = [
     (
         &[File::Object("a.o", &[BAD_GROUP, TEXT], &[START_IN_2], &[])],
         "a.o",
@@ -107,7 +138,12 @@ const FILES: [Row; 7] = [
         "b.o: item 1: there is no such file\n\
          -lc: item 2: no directory of -L has libc.a\n",
     ),
-    (&[PLAIN, THIN], "a.o thin.a", 9, "thin.a: NotArchive (2)\n"),
+    (
+        &[PLAIN, THIN],
+        "a.o thin.a",
+        9,
+        "thin.a: NotArchive (2): a thin archive, which has no members of its own: ar makes one that has without T\n",
+    ),
     (
         &[PLAIN, UNINDEXED, EMPTY_ARCHIVE],
         "a.o e.a n.a",
@@ -127,7 +163,66 @@ const FILES: [Row; 7] = [
         "b.a(long_named.o at 0x4e): Truncated (2): shorter than the header of an ELF file\n",
     ),
     (&[PLAIN, BROKEN], "a.o b.a", 9, ""),
+    (
+        &[PLAIN, SPACED],
+        "a.o -u f s.a",
+        9,
+        "s.a(my\\x20file.o at 0x4e): Truncated (2): shorter than the header of an ELF file\n",
+    ),
+    (
+        &[PLAIN, NESTED],
+        "a.o -u f d.a",
+        9,
+        "d.a(sub/dir/x.o at 0x14c): Truncated (2): shorter than the header of an ELF file\n",
+    ),
+    (
+        &[PLAIN, UNINDEXED],
+        "a.o --whole-archive n.a --no-whole-archive n.a",
+        9,
+        "n.a (item 2): the archive has no index: ranlib makes one\n",
+    ),
+    (
+        &[PLAIN],
+        "a.o -Ttext-segment=0x3ffffffff000",
+        9,
+        "all together: the addresses end above 2^46, or the image has 2^32 bytes or more\n",
+    ),
 ];
+
+const TRUNCATED: &str = "Truncated (2): shorter than the header of an ELF file: ";
+
+/// First bytes of files that are no objects, and what they are.
+const KINDS: [(&[u8], &str); 7] = [
+    (b"", "an empty file"),
+    (b"GROUP ( libm-2.so )\n", "a text, perhaps a linker script"),
+    (
+        b"BC\xc0\xde\x35\x14",
+        "an LLVM bitcode file, which -flto makes in place of an object",
+    ),
+    (b"\xcf\xfa\xed\xfe\x07", "a Mach-O file"),
+    (b"\x7fELF\x01\x01\x01\0", "an ELF file of 32 bits"),
+    (
+        b"\x7fELF\x02\x01\x01\0\0\0\0\0\0\0\0\0\x03\0\x3e\0",
+        "a shared object, or a position-independent executable",
+    ),
+    (
+        b"\x7fELF\x02\x01\x01\0\0\0\0\0\0\0\0\0\x01\0\xb7\0",
+        "for AArch64",
+    ),
+];
+
+#[test]
+fn what_files_are_is_told(rt: HostRuntime) -> Result<(), Fail> {
+    for (bytes, kind) in KINDS.iter() {
+        let files = one_file(rt.alloc(), "x.o", bytes)?;
+        let text = lines_of(rt.alloc(), &files, "x.o", 9)?;
+        let told = text
+            .strip_prefix("x.o: ")
+            .and_then(|t| t.strip_prefix(TRUNCATED));
+        assert_eq!(rt; told.map(str::trim_end), Some(*kind));
+    }
+    Ok(())
+}
 
 #[test]
 fn files_are_named(rt: HostRuntime) -> Result<(), Fail> {
@@ -186,14 +281,14 @@ const NAMES: [Row; 5] = [
         "a.o b.o b.o",
         2,
         "a.o: symbol 2 f: defined here\n\
-         b.o: symbol 1 f: defined here\n\
-         and 1 more\n",
+         b.o (item 1): symbol 1 f: defined here\n\
+         and 1 more places\n",
     ),
     (
         &[File::Object("a.o", &[TEXT, HUGE], &[START], &[])],
         "a.o",
         9,
-        "a.o: section 2 .bss: 0xffffffffffffffff bytes\n",
+        "a.o: section 2 .bss: 0xffffffffffffffff bytes, more than the addresses from the base on up to 2^46\n",
     ),
 ];
 
@@ -235,7 +330,25 @@ const STOP_FOO: NamedSymbol<'static> = NamedSymbol {
     ..NO_F
 };
 
-const RELOCATIONS: [Row; 9] = [
+const LONG_TEXT: Section<'static> = Section {
+    bytes: &[0x90; 24],
+    ..TEXT
+};
+
+const NO_G: NamedSymbol<'static> = NamedSymbol { name: "g", ..NO_F };
+
+/// An archive that defines `f`, searched before something asks for it.
+const EARLY: File = File::Archive(
+    "e.a",
+    &[(b"f\0", 0)],
+    &[Member {
+        sections: &[TEXT],
+        symbols: &[F],
+        relocations: &[],
+    }],
+);
+
+const RELOCATIONS: [Row; 12] = [
     (
         &[File::Object(
             "a.o",
@@ -245,7 +358,7 @@ const RELOCATIONS: [Row; 9] = [
         )],
         "a.o",
         9,
-        "a.o: foo+0x0: relocation 0 of section 6, of type 1, to symbol 2 __stop_foo: a bound of an output name of several \
+        "a.o: foo+0x0: relocation 0 of section 6, R_X86_64_64, to symbol 2 __stop_foo: a bound of an output name of several \
          output sections\n",
     ),
     (
@@ -260,8 +373,44 @@ const RELOCATIONS: [Row; 9] = [
         )],
         "a.o",
         9,
-        "a.o: .text+0x0: relocation 0 of section 4, of type 4, to symbol 2 f: not defined\n\
-         a.o: .text+0x5: relocation 1 of section 4, of type 2, to symbol 2 f: not defined\n",
+        "a.o: .text+0x0: relocation 0 of section 4, R_X86_64_PLT32, to symbol 2 f: not defined\n\
+         a.o: .text+0x5: relocation 1 of section 4, R_X86_64_PC32, to symbol 2 f: not defined\n",
+    ),
+    (
+        &[File::Object(
+            "a.o",
+            &[LONG_TEXT],
+            &[START, NO_F, NO_G],
+            &[
+                Relocation(1, 0, R_PC32, 2, 0),
+                Relocation(1, 4, R_PC32, 2, 0),
+                Relocation(1, 8, R_PC32, 2, 0),
+                Relocation(1, 12, R_PC32, 2, 0),
+                Relocation(1, 16, R_PC32, 2, 0),
+                Relocation(1, 20, R_PC32, 3, 0),
+            ],
+        )],
+        "a.o",
+        9,
+        "a.o: .text+0x0: relocation 0 of section 4, R_X86_64_PC32, to symbol 2 f: not defined\n\
+         a.o: .text+0x4: relocation 1 of section 4, R_X86_64_PC32, to symbol 2 f: not defined\n\
+         a.o: .text+0x8: relocation 2 of section 4, R_X86_64_PC32, to symbol 2 f: not defined; and 2 more references to it\n\
+         a.o: .text+0x14: relocation 5 of section 4, R_X86_64_PC32, to symbol 3 g: not defined\n",
+    ),
+    (
+        &[
+            File::Object(
+                "a.o",
+                &[TEXT],
+                &[START, NO_F],
+                &[Relocation(1, 0, R_PC32, 2, 0)],
+            ),
+            EARLY,
+        ],
+        "e.a a.o",
+        9,
+        "a.o: .text+0x0: relocation 0 of section 4, R_X86_64_PC32, to symbol 2 f: not defined; e.a (item 0) defines f, but was \
+         searched before it was needed: name it later, or in a group\n",
     ),
     (
         &[File::Object(
@@ -272,13 +421,13 @@ const RELOCATIONS: [Row; 9] = [
         )],
         "a.o",
         9,
-        "a.o: .text+0x0: relocation 0 of section 5, of type 2, to symbol 1 l: LOCAL in a section that is not loaded\n",
+        "a.o: .text+0x0: relocation 0 of section 5, R_X86_64_PC32, to symbol 1 l: LOCAL in a section that is not loaded\n",
     ),
     (
         &[File::Object("a.o", &[TEXT], &[START, NO_F], &[Relocation(1, 0, 5, 1, 0)])],
         "a.o",
         9,
-        "a.o: .text+0x0: relocation 0 of section 4, of type 5, to symbol 1 _start: not a type of relocation that is linked\n",
+        "a.o: .text+0x0: relocation 0 of section 4, R_X86_64_COPY, to symbol 1 _start: not a type of relocation that is linked\n",
     ),
     (
         &[File::Object(
@@ -289,7 +438,7 @@ const RELOCATIONS: [Row; 9] = [
         )],
         "a.o",
         9,
-        "a.o: .text+0x6: relocation 0 of section 4, of type 2, to symbol 1 _start: the field is not inside its section\n",
+        "a.o: .text+0x6: relocation 0 of section 4, R_X86_64_PC32, to symbol 1 _start: the field is not inside its section\n",
     ),
     (
         &[File::Object(
@@ -300,7 +449,7 @@ const RELOCATIONS: [Row; 9] = [
         )],
         "a.o",
         9,
-        "a.o: .text+0x0: relocation 0 of section 5, of type 2, to symbol 1 l: thread-local, or not, against the relocation's \
+        "a.o: .text+0x0: relocation 0 of section 5, R_X86_64_PC32, to symbol 1 l: thread-local, or not, against the relocation's \
          type\n",
     ),
     (
@@ -315,8 +464,8 @@ const RELOCATIONS: [Row; 9] = [
         )],
         "a.o",
         9,
-        "a.o: .text+0x1: relocation 1 of section 4, of type 2, to symbol 1 _start: its field shares a byte with that of a.o: \
-         .text+0x4: relocation 0 of section 4, of type 2, to symbol 1 _start\n",
+        "a.o: .text+0x1: relocation 1 of section 4, R_X86_64_PC32, to symbol 1 _start: its field shares a byte with that of a.o: \
+         .text+0x4: relocation 0 of section 4, R_X86_64_PC32, to symbol 1 _start\n",
     ),
     (
         &[File::Object(
@@ -327,8 +476,15 @@ const RELOCATIONS: [Row; 9] = [
         )],
         "a.o",
         9,
-        "a.o: .text+0x1: relocation 0 of section 4, of type 14, to symbol 1 _start: the value 0x401000 does not fit the field \
-         at 0x401001\n",
+        "a.o: .text+0x1: relocation 0 of section 4, R_X86_64_8, to symbol 1 _start: the value 0x401000 does not fit the field \
+         at 0x401001, which takes -0x80 to 0xff\n",
+    ),
+    (
+        &[File::Object("a.o", &[TEXT], &[START], &[Relocation(1, 0, 19, 1, 0)])],
+        "a.o",
+        9,
+        "a.o: .text+0x0: relocation 0 of section 4, R_X86_64_TLSGD, to symbol 1 _start: not a type of relocation that is \
+         linked: -ftls-model=local-exec or -fno-pic avoids it\n",
     ),
     (
         &[PLAIN],

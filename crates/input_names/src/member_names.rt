@@ -1,5 +1,12 @@
 //! The names of an archive's members, as their headers spell them, for reading only (ar(5)).
 
+/// What is before the first member, and what a member's header takes up; where in that the size is.
+const MAGIC_SIZE: usize = 8;
+
+const HEADER_SIZE: usize = 60;
+
+const SIZE_AT: usize = 48;
+
 /// The bytes of a file from one place to before another; None where it hasn't got them.
 fn part(file: &[u8], from: usize, len: usize) -> Option<&[u8]> {
     let to = from.checked_add(len)?;
@@ -28,26 +35,52 @@ fn before(bytes: &[u8], end: u8) -> &[u8] {
     }
 }
 
-/// The data of the member `//`, which holds long names; it stands behind an index or first.
+/// A name without the slash that ends it, where one does, and without what comes behind the slash.
+fn without_slash(name: &[u8]) -> Option<&[u8]> {
+    let place = name.iter().rposition(|b| *b == b'/')?;
+    Some(name.split_at(place).0)
+}
+
+/// A name without the spaces behind it.
+fn trimmed(name: &[u8]) -> &[u8] {
+    match name.iter().rposition(|b| *b != b' ') {
+        Some(place) => name.split_at(place).0,
+        None => &[],
+    }
+}
+
+/// Where the header of the next member is, behind that at a place.
+fn next_header(file: &[u8], at: usize) -> Option<usize> {
+    let size = number(part(file, at.checked_add(SIZE_AT)?, 10)?);
+    at.checked_add(HEADER_SIZE)?
+        .checked_add(size)?
+        .checked_add(size % 2)
+}
+
+/// The data of the member whose header is at a place.
+pub fn member_data(file: &[u8], at: usize) -> Option<&[u8]> {
+    let size = number(part(file, at.checked_add(SIZE_AT)?, 10)?);
+    part(file, at.checked_add(HEADER_SIZE)?, size)
+}
+
+/// The data of the member `//`, which holds long names.
 fn long_names(file: &[u8]) -> Option<&[u8]> {
-    let mut at: usize = 8;
-    for _ in 0..3 {
-        let name = part(file, at, 16)?;
-        let size = number(part(file, at.checked_add(48)?, 10)?);
-        let data = at.checked_add(60)?;
-        if name.starts_with(b"// ") {
-            return part(file, data, size);
+    let mut at = MAGIC_SIZE;
+    for _ in 0..file.len() {
+        if part(file, at, 16)?.starts_with(b"// ") {
+            return member_data(file, at);
         }
-        at = data.checked_add(size)?.checked_add(size % 2)?;
+        at = next_header(file, at)?;
     }
     None
 }
 
-/// A long name, by its place among them.
+/// A long name, by its place among them: the text up to the slash before a line feed.
 fn long_name(file: &[u8], place: usize) -> Option<&[u8]> {
     let names = long_names(file)?;
     let (_, rest) = names.split_at_checked(place)?;
-    Some(before(before(rest, b'\n'), b'/'))
+    let line = before(rest, b'\n');
+    Some(without_slash(line).unwrap_or(line))
 }
 
 /// The name of the member of an archive whose header is at an offset, as it is spelled there.
@@ -57,5 +90,5 @@ pub fn member_name(file: &[u8], offset: u64) -> Option<&[u8]> {
     if *first == b'/' {
         return long_name(file, number(rest));
     }
-    Some(before(before(name, b'/'), b' '))
+    Some(without_slash(name).unwrap_or(trimmed(name)))
 }

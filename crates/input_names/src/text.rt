@@ -1,6 +1,6 @@
 //! Names as they are printed, and objects by the path of their file and the name of their member.
 
-use crate::member_names::member_name;
+use crate::member_names::{member_data, member_name};
 use elf_model::InputFile;
 use std::io;
 use std::io::Write;
@@ -22,6 +22,15 @@ pub fn write_name<W: Write>(out: &mut W, name: &[u8]) -> io::Result<()> {
 fn file_named<'f>(files: &'f [InputFile], path: &str) -> Option<&'f [u8]> {
     let file = files.iter().find(|f| f.name.as_str() == path)?;
     Some(file.bytes.as_slice())
+}
+
+/// The bytes of an object by the path of its file and the offset of its member's header; 0 for a file that is an object.
+pub fn object_bytes<'f>(files: &'f [InputFile], path: &str, offset: u64) -> Option<&'f [u8]> {
+    let file = file_named(files, path)?;
+    if offset == 0 {
+        return Some(file);
+    }
+    member_data(file, offset as usize)
 }
 
 /// Writes the name of an archive's member, and the offset of its header.
@@ -47,7 +56,7 @@ pub fn write_object<W: Write>(
     path: &str,
     offset: u64,
 ) -> io::Result<()> {
-    write!(out, "{path}")?;
+    write_name(out, path.as_bytes())?;
     if offset != 0 {
         write_member(out, files, path, offset)?;
     }

@@ -1,20 +1,29 @@
 //! What `ld-why` prints: the line of `ld`, and below it the places at which something is wrong.
 
+ghost use Rattle.elf_model.specs.Causes.{Cause};
+ghost use Rattle.elf_model.specs.Files.{files_of, words_of};
+
 use byteview::View;
 use check_link::Link;
 use command::{Plan, read_words};
-use elf_model::{CmdFault, InputFile, MapFault};
-use explain::{Inputs, explain, write_place};
+use elf_model::{CmdFault, InputFile, LinkError, LoadFault, MapFault};
+use explain::{Inputs, explain, write_places};
 use explain_check::{explain_check, read_link, write_check_place};
+use input_names::write_name;
 use ld_main::{Failure, RealFiles, Verdict, check, gather, prepare, read_file, refused};
 use loader_model::Memory;
-use std::alloc::Global;
+use std::alloc::{AllocError, Global};
 use std::io;
 use std::io::{ErrorKind, Write};
 use std::rt::Files;
 
-/// How many places are printed.
+/// How many places are printed, and how many are looked for where some are printed as one.
 const MOST: usize = 20;
+
+const PLACES: usize = 4096;
+
+/// The status where memory can't be had.
+const NO_MEMORY: u8 = 4;
 
 /// Writes how many places there are beside those that are printed.
 fn write_more<W: Write>(out: &mut W, more: u64) -> io::Result<()> {
@@ -24,46 +33,21 @@ fn write_more<W: Write>(out: &mut W, more: u64) -> io::Result<()> {
     Ok(())
 }
 
-/// Explains why the link of files that words name is refused: the places that were found, a line each, and how many more
-/// there are.
-fn write_reasons<W: Write>(
+/// The lines that explain why the link of files that words name is refused with an error: the places that were found, a line
+/// each, and how many more there are.
+fn reasons(
     alloc: Global,
-    out: &mut W,
     files: &[InputFile],
     words: &[String],
-) -> io::Result<()> {
-    let found = explain(alloc, files, words, MOST)?;
+    error: &LinkError,
+) -> io::Result<Vec<u8>>
+    requires { Cause (files_of files.now) (words_of words.now) error.now }
+{
+    let found = explain(alloc, files, words, error, PLACES)?;
     let inputs = Inputs { files, words };
-    for place in found.places() {
-        write_place(out, inputs, place)?;
-        out.write_all(b"\n")?;
-    }
-    write_more(out, found.more())
-}
-
-/// Writes the places at which the check of a link fails, a line each, and how many more there are.
-fn write_failures<W: Write>(alloc: Global, out: &mut W, link: &Link<'_>) -> io::Result<()> {
-    let found = explain_check(alloc, link, MOST)?;
-    for place in found.places() {
-        write_check_place(out, link, place)?;
-        out.write_all(b"\n")?;
-    }
-    write_more(out, found.more())
-}
-
-/// Explains where the check of an image and a map fails.
-fn write_check<W: Write>(
-    alloc: Global,
-    out: &mut W,
-    files: &[InputFile],
-    words: &[String],
-    image: &[u8],
-    map: &[u8],
-) -> io::Result<()> {
-    match read_link(alloc, files, words, image, map)? {
-        Some(link) => write_failures(alloc, out, &link),
-        None => Ok(()),
-    }
+    let mut text = Vec::new(alloc);
+    write_places(alloc, &mut text, inputs, &found, MOST as u64)?;
+    Ok(text)
 }
 
 /// Prints the line of a failure, and answers its status.
@@ -72,15 +56,21 @@ fn fail<W: Write>(out: &mut W, failure: &Failure<'_>) -> io::Result<u8> {
     Ok(failure.status())
 }
 
-/// Refuses words that are no command.
-fn refuse_words<W: Write>(
+/// Prints the line of a refusal, and below it why; of want of memory the line alone.
+fn refuse<W: Write>(
     alloc: Global,
     out: &mut W,
+    files: &[InputFile],
     words: &[String],
-    fault: CmdFault,
-) -> io::Result<u8> {
-    let status = fail(out, &Failure::from(fault))?;
-    write_reasons(alloc, out, &[], words)?;
+    error: LinkError,
+) -> io::Result<u8>
+    requires { Cause (files_of files.now) (words_of words.now) error }
+{
+    let text = reasons(alloc, files, words, &error)?;
+    let status = fail(out, &refused(alloc, error))?;
+    if status != NO_MEMORY {
+        out.write_all(&text)?;
+    }
     Ok(status)
 }
 
@@ -91,30 +81,75 @@ fn link<W: Write>(
     files: &[InputFile],
     words: &[String],
 ) -> io::Result<u8> {
-    let Err(error) = prepare(alloc, files, words) else {
-        return Ok(0);
-    };
-    let status = fail(out, &refused(alloc, error))?;
-    write_reasons(alloc, out, files, words)?;
-    Ok(status)
+    match prepare(alloc, files, words) {
+        Ok(_) => Ok(0),
+        Err(error) => refuse(alloc, out, files, words, error),
+    }
 }
 
-/// Explains why a text is no map, or an image none that a loader maps.
+/// Writes the places at which the check of a link fails, a line each, and how many more there are; answers whether there are
+/// some.
+fn write_failures<W: Write>(alloc: Global, out: &mut W, link: &Link<'_>) -> io::Result<bool> {
+    let found = explain_check(alloc, link, MOST)?;
+    for place in found.places() {
+        write_check_place(out, link, place)?;
+        out.write_all(b"\n")?;
+    }
+    write_more(out, found.more())?;
+    Ok(!found.places().is_empty())
+}
+
+/// Explains why a text is no map, or an image none that a loader maps; answers whether one of them is so.
 fn write_format<W: Write>(
     alloc: Global,
     out: &mut W,
     plan: &Plan<'_>,
     image: &[u8],
     map: &[u8],
-) -> io::Result<()> {
-    let path = plan.map.unwrap_or("");
-    if let Err(MapFault::Line(line)) = linkmap::read(alloc, map) {
-        return writeln!(out, "{path}: line {line} is none of a map");
+) -> io::Result<bool> {
+    match linkmap::read(alloc, map) {
+        Ok(_) => {}
+        Err(MapFault::Memory) => return Err(io::Error::from(AllocError)),
+        Err(MapFault::Line(line)) => {
+            write_name(out, plan.map.unwrap_or("").as_bytes())?;
+            writeln!(out, ": line {line} is none of a map")?;
+            return Ok(true);
+        }
     }
-    if let Err(fault) = Memory::load(alloc, View::new(image)) {
-        return writeln!(out, "{}: {fault}", plan.output);
+    match Memory::load(alloc, View::new(image)) {
+        Ok(_) => Ok(false),
+        Err(LoadFault::Memory) => Err(io::Error::from(AllocError)),
+        Err(fault) => {
+            write_name(out, plan.output.as_bytes())?;
+            writeln!(out, ": {fault}")?;
+            Ok(true)
+        }
     }
-    Ok(())
+}
+
+/// The lines that explain where the check of an image and a map fails; where nothing of it is told, those why the link is
+/// refused.
+fn failures(
+    alloc: Global,
+    plan: &Plan<'_>,
+    files: &[InputFile],
+    words: &[String],
+    image: &[u8],
+    map: &[u8],
+) -> io::Result<Vec<u8>> {
+    let mut text = Vec::new(alloc);
+    if write_format(alloc, &mut text, plan, image, map)? {
+        return Ok(text);
+    }
+    if let Some(link) = read_link(alloc, files, words, image, map)? {
+        if write_failures(alloc, &mut text, &link)? {
+            return Ok(text);
+        }
+    }
+    match prepare(alloc, files, words) {
+        Ok(_) => Ok(text),
+        Err(error) => reasons(alloc, files, words, &error),
+    }
 }
 
 /// Checks an image and a map, and explains why they are no right link.
@@ -133,10 +168,9 @@ fn judge<W: Write>(
             Ok(0)
         }
         Verdict::No(clause) => {
+            let text = failures(alloc, plan, files, words, image, map)?;
             writeln!(out, "no C{}", clause as u8)?;
-            write_format(alloc, out, plan, image, map)?;
-            write_check(alloc, out, files, words, image, map)?;
-            write_reasons(alloc, out, files, words)?;
+            out.write_all(&text)?;
             Ok(1)
         }
     }
@@ -168,7 +202,7 @@ fn run_plan<R: Files + AllocGlobal, W: Write>(
     plan: &Plan<'_>,
     words: &[String],
 ) -> io::Result<u8> {
-    let files = match gather(rt.alloc(), plan, &mut RealFiles::new(rt)) {
+    let files = match gather(rt.alloc(), plan, &mut RealFiles::new(rt, &[])) {
         Ok(files) => files,
         Err(fault) => return fail(out, &Failure::from(fault)),
     };
@@ -186,7 +220,7 @@ fn answer<R: Files + AllocGlobal, W: Write>(
     match read_words(rt.alloc(), words) {
         Ok(plan) => run_plan(rt, out, &plan, words),
         Err(CmdFault::Memory) => fail(out, &Failure::from(CmdFault::Memory)),
-        Err(fault) => refuse_words(rt.alloc(), out, words, fault),
+        Err(fault) => refuse(rt.alloc(), out, &[], words, LinkError::Command(fault)),
     }
 }
 
@@ -198,7 +232,7 @@ pub fn run<R: Files + AllocGlobal, W: Write>(rt: &R, words: &[String], out: &mut
         Err(error) => match error.kind() {
             ErrorKind::OutOfMemory => {
                 let _ = writeln!(out, "ld: Memory (1)");
-                4
+                NO_MEMORY
             }
             _ => 3,
         },

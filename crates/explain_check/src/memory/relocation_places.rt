@@ -9,10 +9,10 @@ ghost use Rattle.explain_check.specs.RelocationPlaces.{IsRelocationAt, IsTold};
 use crate::memory_place::RelocationPlace;
 use check_load::Loaded;
 use elf_model::{Rela, SectionHeader};
-use elf_read::Object;
+use elf_read::{ObjectFile, RelaRun};
 
 /// The name of section `i`; empty where it has none.
-fn section_name<'a>(object: &Object<'a>, i: usize) -> &'a [u8]
+fn section_name<'a>(object: &ObjectFile<'a>, i: usize) -> &'a [u8]
     ensures { result.now ≡ unwrap_or (section_name object.now i) [] }
 {
     match object.section_name(i) {
@@ -63,14 +63,14 @@ pub fn header_at(one: &Loaded<'_>, i: usize) -> Option<SectionHeader>
 }
 
 /// The entries of RELA section `i`, which has the header, of an object.
-pub fn entries_of<'l>(one: &'l Loaded<'_>, i: usize, header: &SectionHeader) -> &'l [Rela]
+pub fn entries_of<'a>(one: &Loaded<'a>, i: usize, header: &SectionHeader) -> RelaRun<'a>
     requires there { slice_get (sections (loaded_view one.now).bytes) i ≡ Some header.now }
     requires rela { header.now.sh_type ≡ 4 }
-    ensures { result.now ≡ relas_of (loaded_view one.entry.now).bytes header.now }
+    ensures { result ≡ relas_of (loaded_view one.now).bytes header.now }
 {
     match one.object.relas(i) {
         Some(entries) => entries,
-        None => &[],
+        None => RelaRun::none(),
     }
 }
 
@@ -80,7 +80,7 @@ pub fn entry_at(one: &Loaded<'_>, i: usize, header: &SectionHeader, e: usize) ->
     requires rela { header.now.sh_type ≡ 4 }
     ensures { IfSome result (λ x. slice_get (relas_of (loaded_view one.now).bytes header.now) e ≡ Some x) }
 {
-    entries_of(one, i, header).get(e).copied()
+    entries_of(one, i, header).get(e)
 }
 
 /// The place of an entry of a RELA section, which has the header, of the loaded object that has a number: that of a kept

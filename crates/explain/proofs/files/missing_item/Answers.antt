@@ -1,5 +1,5 @@
 use Rattle.std.proofs.lemmas.Bool.Decides.{nat_tests}
-use Rattle.std.proofs.Common.{arith, length, ◌<◌, ◌≡◌, ◌∙◌, List, ℕ, Some, Option, ap, map, option_map, refl, subst, sym}
+use Rattle.std.proofs.Common.{arith, length, ◌<◌, ◌∙◌, List, ℕ, Some, Option, ap, map, option_map, refl, subst, sym}
 use Rattle.std.specs.Borrow.{Bor}
 use Rattle.std.specs.List.{slice_get}
 use Rattle.std.proofs.lemmas.Option.{slice_get-get_or, slice_get-map}

@@ -1,7 +1,7 @@
 use Rattle.std.proofs.Common.{List, subst, sym, All}
 use Rattle.std.proofs.lemmas.List.Elements.{All-nil}
 use Rattle.elf_model.specs.Files.{words_of}
-use Rattle.explain.specs.Places.{Holds}
+use Rattle.explain.specs.Places.{Says}
 use Rattle.explain.specs.declared.place.Place.{Place}
 use Rattle.explain.proofs.link.add_word.Goals as goal
 
@@ -10,4 +10,5 @@ returns c =
     let words = words_of c.args.words.now in
     λ files.
     c.add.ensures.words files words
-    (subst (λ (xs : List Place). All (Holds files words) xs) (sym c.requires.none) (All-nil (Holds files words))) c.requires.fault
+    (subst (λ (xs : List Place). All (Says files words) xs) (sym c.requires.none) (All-nil (Says files words)))
+    (record { there = c.word_at.ensures; refused = c.requires.fault })

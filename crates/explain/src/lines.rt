@@ -1,0 +1,132 @@
+//! The lines of an explanation: a line a place, and of an undefined name no more than three references.
+
+use crate::found::Found;
+use crate::passed_archives::passed_archive;
+use crate::place::Place;
+use crate::text::{Inputs, write_place};
+use input_names::write_name;
+use relocate::RelocationFault;
+use std::alloc::{AllocError, Global};
+use std::collections::BTreeMap;
+use std::io;
+use std::io::Write;
+
+/// How many references to an undefined name are told.
+const REFERENCES: u64 = 3;
+
+/// Names with a count each.
+type Counts<'a> = BTreeMap<&'a [u8], u64>;
+
+/// The undefined name that a place asks for.
+fn undefined_name<'a>(place: &Place<'a>) -> Option<&'a [u8]> {
+    match place {
+        Place::Relocation(place, RelocationFault::Undefined) => Some(place.symbol_name),
+        _ => None,
+    }
+}
+
+/// Counts a name once more, and answers how often that is.
+fn count<'a>(counts: &mut Counts<'a>, name: &'a [u8]) -> Result<u64, AllocError> {
+    let number = counts.get(name).copied().unwrap_or(0).saturating_add(1);
+    counts.insert(name, number)?;
+    Ok(number)
+}
+
+/// How many references each undefined name has among places.
+fn references<'a>(alloc: Global, places: &[Place<'a>]) -> Result<Counts<'a>, AllocError> {
+    let mut counts = BTreeMap::new(alloc);
+    for place in places {
+        if let Some(name) = undefined_name(place) {
+            let _ = count(&mut counts, name)?;
+        }
+    }
+    Ok(counts)
+}
+
+/// Writes which archive has an undefined name.
+fn write_passed<W: Write>(
+    alloc: Global,
+    out: &mut W,
+    inputs: Inputs<'_>,
+    name: &[u8],
+) -> io::Result<()> {
+    let Some((item, path)) = passed_archive(alloc, inputs.files, inputs.words, name)? else {
+        return Ok(());
+    };
+    out.write_all(b"; ")?;
+    write_name(out, path.as_bytes())?;
+    write!(out, " (item {item}) defines ")?;
+    write_name(out, name)?;
+    out.write_all(b", but was searched before it was needed: name it later, or in a group")
+}
+
+/// Writes a reference to an undefined name, the first, second or third; behind the first which archive has the name, behind the
+/// third how many more there are.
+fn write_reference<W: Write>(
+    alloc: Global,
+    out: &mut W,
+    inputs: Inputs<'_>,
+    name: &[u8],
+    number: u64,
+    all: u64,
+) -> io::Result<()> {
+    if number == 1 {
+        write_passed(alloc, out, inputs, name)?;
+    }
+    let rest = all.saturating_sub(REFERENCES);
+    if number == REFERENCES && rest > 0 {
+        write!(out, "; and {rest} more references to it")?;
+    }
+    Ok(())
+}
+
+/// Writes a place with the end of its line, unless it is one of too many references to a name; answers whether it did.
+fn write_line<'a, W: Write>(
+    alloc: Global,
+    out: &mut W,
+    inputs: Inputs<'_>,
+    all: &Counts<'a>,
+    told: &mut Counts<'a>,
+    place: &Place<'a>,
+) -> io::Result<bool> {
+    let Some(name) = undefined_name(place) else {
+        write_place(out, inputs, place)?;
+        out.write_all(b"\n")?;
+        return Ok(true);
+    };
+    let number = count(told, name)?;
+    if number > REFERENCES {
+        return Ok(false);
+    }
+    write_place(out, inputs, place)?;
+    let all = all.get(name).copied().unwrap_or(0);
+    write_reference(alloc, out, inputs, name, number, all)?;
+    out.write_all(b"\n")?;
+    Ok(true)
+}
+
+/// Writes the places that were found, at most so many lines, and how many more places there are. Of references to one undefined
+/// name three are told, with the number of the others.
+pub fn write_places<W: Write>(
+    alloc: Global,
+    out: &mut W,
+    inputs: Inputs<'_>,
+    found: &Found<'_>,
+    most: u64,
+) -> io::Result<()> {
+    let all = references(alloc, found.places())?;
+    let mut told = BTreeMap::new(alloc);
+    let mut lines: u64 = 0;
+    let mut more = found.more();
+    for place in found.places() {
+        if lines >= most {
+            more = more.saturating_add(1);
+        } else if write_line(alloc, out, inputs, &all, &mut told, place)? {
+            lines = lines.saturating_add(1);
+        }
+    }
+    if more > 0 {
+        writeln!(out, "and {more} more places")?;
+    }
+    Ok(())
+}
