@@ -11,3 +11,6 @@ pub mod FinalRefusals
 pub mod Gatherings
 mod SlotLines
 pub mod OwnUnfit
+mod SortedOnce
+mod SpelledMaps
+mod SymbolLines

@@ -1,10 +1,10 @@
 -- From what linking the loaded objects makes to a right link, and from its refusals to causes.
-use Rattle.std.proofs.Common.{◌≡◌, ℕ, ◌<◌, ◌^◌, inr, List, refl, sym, ◌∙◌, ap, subst}
-use Rattle.std.specs.Prelude.{IfOk, Ok, Err, Result}
+use Rattle.std.proofs.Common.{◌≡◌, ℕ, ◌<◌, ◌^◌, inr, Bool, true, false, List, [], refl, sym, ◌∙◌, ap, subst}
+use Rattle.std.specs.Prelude.{IfOk, None, Ok, Err, Result}
 use Rattle.elf_model.specs.Causes.{Cause, HasArchives, HasObjects, IsLaidOut, IsLinkable, IsReferred, IsResolved, Reaches}
 use Rattle.elf_model.specs.Command.{Plan, command_of}
 use Rattle.elf_model.specs.Files.{File}
-use Rattle.elf_model.specs.ImageFile.{IsOwnMap, image_file, own_entry, own_tabled}
+use Rattle.elf_model.specs.ImageFile.{IsOwnMap, image_file, own_end, own_entry, own_tabled}
 use Rattle.elf_model.specs.Loading.{AreObjects, HaveLawfulGroups, LoadedObject, loaded_objects}
 use Rattle.elf_model.specs.MapRecord.{MapRecord}
 use Rattle.elf_model.specs.MapText as map_text
@@ -28,6 +28,10 @@ use Rattle.resolve.specs.declared.faults.ResolveFault.TheVariants as resolve
 use Rattle.layout.specs.Placements.{Basis}
 use Rattle.resolve.specs.Views.{meaning_views}
 use Rattle.image_write.specs.Linkages.{AreParts, Linked, linked_of, own_image}
+use Rattle.image_write.specs.Listings.{AreKept, IsListing, in_order, table_in}
+use Rattle.image_write.specs.Tables.{HasTable, table_of}
+use Rattle.image_write.specs.declared.listed.Listed.{Listed}
+use Rattle.image_write.specs.declared.listed.Listed.TheVariants as kept
 use Rattle.image_write.specs.declared.linkage.Parts.{Parts}
 use Rattle.ld_main.specs.Linkages.{AreOwnMapsRight, HasOwnLink, IsOwnText, IsPrepared}
 use Rattle.image_write.specs.Maps.{IsMapOf, own_record}
@@ -81,8 +85,17 @@ image_by_lines :
     (m : MapRecord) → IsOwnMap l.plan.base l.objects l.plan.strip m →
     image_file l.plan.base l.objects (own_entry l.plan.base l.objects l.plan.entry) (own_tabled l.plan.strip l.objects m.symbols) ≡ own_image l
 image_by_lines files words l i m own =
-    ap (image_file l.plan.base l.objects (own_entry l.plan.base l.objects l.plan.entry))
-    (own_table_is l.plan.base l.objects l.plan.strip l.listed i.listed i.rising m own)
+    ap (image_file l.plan.base l.objects (own_entry l.plan.base l.objects l.plan.entry)) (by l.plan.strip refl own)
+  where
+    by :
+        (strip : Bool) → l.plan.strip ≡ strip → IsOwnMap l.plan.base l.objects strip m →
+        own_tabled l.plan.strip l.objects m.symbols ≡ table_of l.plan.strip l.objects l.listed
+    by true stripped own_ =
+        ap (λ (b : Bool). own_tabled b l.objects m.symbols) stripped ∙ sym (ap (λ (b : Bool). table_of b l.objects l.listed) stripped)
+    by false tabled own_ =
+        ap (λ (b : Bool). own_tabled b l.objects m.symbols) tabled
+        ∙ (own_table_is l.plan.base l.objects false l.listed (i.listed tabled) (i.rising tabled) m own_
+        ∙ sym (ap (λ (b : Bool). table_of b l.objects l.listed) tabled))
 
 -- the bytes of a prepared link: its own image, and the text of its own map
 pub own :
@@ -147,36 +160,45 @@ module _ (files : List File) (words : List (List ℕ)) (p : Plan) (objects : Lis
   linkable : AreLinkable p (loaded_objects files p) → IsLinkable files words p
   linkable l = record { before = laid_out l.laid_out; fits = l.fits }
 
-  pub prepared : (x : Parts) → AreLinkable p objects → AreParts (record { plan = p; objects = objects }) x → IsPrepared files words (linked_of (record { plan = p; objects = objects }) x)
-  prepared x links made = record {
+  -- where there is a table, what is kept is the list
+  listing_of :
+      (x : Listed) → p.strip ≡ false → AreKept objects x →
+      HasTable objects (own_end p.base objects) (meaning_views (in_order x)) p.strip (table_in x) → IsListing objects (in_order x)
+  listing_of (kept.InOrder ms t) tabled are_ has = are_
+  listing_of (kept.Unlisted r lines) tabled are_ has =
+      absurd (subst (λ (b : Bool). HasTable objects (own_end p.base objects) [] b None) tabled has)
+
+  pub prepared : (ns : List (List ℕ)) (x : Parts) → AreLinkable p objects → AreParts (record { plan = p; objects = objects; names = ns }) x → IsPrepared files words (linked_of (record { plan = p; objects = objects; names = ns }) x)
+  prepared ns x links made = record {
     objects = are;
     linkable = linkable (subst (AreLinkable p) are links);
     base = made.base;
-    listed = made.listed.listed;
-    rising = symbols_rise (record { base = p.base; objects = objects }) x.listed.items made.listed;
+    listed = λ tabled. (listing_of x.listed tabled made.listed made.tabled).listed;
+    rising = λ tabled. symbols_rise (record { base = p.base; objects = objects }) (in_order x.listed) (listing_of x.listed tabled made.listed made.tabled);
     entry_fits = subst (λ (e : ℕ). e < 2 ^ 64) (sym made.entry) made.entry_fits;
   }
 
   -- the own image and the own map, which can be spelled
-  pub right_link : (x : Parts) → AreLinkable p objects → AreParts (record { plan = p; objects = objects }) x →
-      HasOwnLink files words (linked_of (record { plan = p; objects = objects }) x)
-  right_link x links made =
+  pub right_link : (ns : List (List ℕ)) (x : Parts) → AreLinkable p objects → AreParts (record { plan = p; objects = objects; names = ns }) x →
+      HasOwnLink files words (linked_of (record { plan = p; objects = objects; names = ns }) x)
+  right_link ns x links made =
       let b : Basis = record { base = p.base; objects = objects } in
-      let m = own_record b p.strip (meaning_views x.listed.items) in
-      let is : IsMapOf b p.strip (meaning_views x.listed.items) m =
+      let s = made.spelled in
+      let m = own_record b p.strip s.lines in
+      let is : IsMapOf b p.strip s.lines m =
       record { version = refl; objects_are = refl; drops = refl; places = refl; commons = refl; got = refl; slots = refl; symbols_are = refl; symtab = refl } in
-      let text_is : IsOwnText (linked_of (record { plan = p; objects = objects }) x) (map_text.text m) =
+      let text_is : IsOwnText (linked_of (record { plan = p; objects = objects; names = ns }) x) (map_text.text m) =
       record {
         record_of = m;
-        own_map = own_map b p.strip x.listed.items m is made.listed;
-        is_map = record { fits = made.spelled; ordered = ordered b p.strip x.listed.items m is made.listed };
+        own_map = own_map b p.strip s.lines m is s.listed s.rising;
+        is_map = record { fits = s.fits; ordered = ordered b p.strip s.lines m is s.listed s.rising };
         spelled = refl;
       } in
-      let r = prepared x links made in
+      let r = prepared ns x links made in
       record {
         text = map_text.text m;
         own_text = text_is;
-        right = right files words (linked_of (record { plan = p; objects = objects }) x) r _ _ refl text_is;
+        right = right files words (linked_of (record { plan = p; objects = objects; names = ns }) x) r _ _ refl text_is;
       }
 
   pub cause : (e : LinkError) → LinksRefuse p objects e → Cause files words e

@@ -5,7 +5,9 @@ use Rattle.std.specs.Cmp.Lexicographic.{slice_cmp}
 use Rattle.std.specs.List.Sorted.{IsSortedByKey}
 use Rattle.std.specs.Ordering.{nat_cmp}
 use Rattle.std.proofs.lemmas.List.{get_or-map, length-map}
+use Rattle.std.proofs.lemmas.List.Sorted.{IsPermutation-refl}
 use Rattle.std.proofs.lemmas.Slice.Eq.{bytes_eq-Decides}
+use Rattle.elf_model.specs.ChosenSymbols.{chosen_symbols}
 use Rattle.elf_model.specs.Listing.{AreLinkerLines, AreListed, has_meaning, listed}
 use Rattle.elf_model.specs.Loading.{LoadedObject}
 use Rattle.elf_model.specs.Meaning.{Meaning, meaning_name, meanings_of}
@@ -46,7 +48,10 @@ module _ (objects : List LoadedObject) (sorted : List code.Definition) (are : Ar
       let u = are.once n in
       omega (arith, two, u)
 
--- what the chosen symbols mean, in some order, and the linker's lines, joined and sorted
+in_load_order : (objects : List LoadedObject) (found : List symbols.SymbolOf) → AreDefinitions objects found → IsPermutation (chosen_symbols objects) (symbol_views found)
+in_load_order objects found d = subst (IsPermutation (chosen_symbols objects)) (sym d.same) (IsPermutation-refl (chosen_symbols objects))
+
+-- what the chosen symbols mean, and the linker's lines, joined and sorted
 pub is_listing :
     (objects : List LoadedObject) (found : List symbols.SymbolOf) (lines : List Meaning) (joined sorted : List code.Definition) →
     AreDefinitions objects found → AreLinkerLines objects lines →
@@ -57,5 +62,5 @@ is_listing objects found lines joined sorted definitions of is same up =
     let all : List Meaning = meanings_of objects (symbol_views found) ++ lines in
     let are : AreListed objects (meaning_views sorted) =
     permuted_is_of (listed objects) all (meaning_views sorted) (subst (λ (ms : List Meaning). IsPermutation ms (meaning_views sorted)) is same)
-    (joined_listed objects (symbol_views found) lines definitions.same of) in
+    (joined_listed objects (symbol_views found) lines (in_load_order objects found definitions) of) in
     record { listed = are; rising = by_names sorted up; no_twins = no_twins objects sorted are; sound = definitions.sound }

@@ -58,7 +58,7 @@ pub symbols_rise :
     Ascends SymbolBefore (map (symbol_row_of (own_where b.base b.objects)) (meaning_views listed))
 symbols_rise b listed d = rows_ascend meaning_view (own_where b.base b.objects) listed d.rising d.no_twins
 
-module _ (b : Basis) (strip : Bool) (listed : List code.Definition) (m : MapRecord) (is : IsMapOf b strip (meaning_views listed) m) (d : IsListing b.objects listed) where
+module _ (b : Basis) (strip : Bool) (ms : List Meaning) (m : MapRecord) (is : IsMapOf b strip ms m) (are : AreListed b.objects ms) (up : Ascends SymbolBefore (map (symbol_row_of (own_where b.base b.objects)) ms)) where
   pub ordered : IsOrdered m
   ordered = record {
     version = inr is.version;
@@ -67,18 +67,18 @@ module _ (b : Basis) (strip : Bool) (listed : List code.Definition) (m : MapReco
     places = subst (Ascends PlaceBefore) (sym is.places) (rows_ascend_in b);
     commons =
         subst (Ascends CommonBefore) (sym is.commons)
-        (own_commons_ascend b.base b.objects (own_where b.base b.objects) (meaning_views listed) (symbols_rise b listed d));
+        (own_commons_ascend b.base b.objects (own_where b.base b.objects) ms up);
     slots =
         subst (Ascends SlotBefore) (sym is.slots)
         (slots_ascend (own_address b.base b.objects (got_piece b.objects) + 8) (slots b.objects));
-    symbols = subst (Ascends SymbolBefore) (sym is.symbols_are) (symbols_rise b listed d);
+    symbols = subst (Ascends SymbolBefore) (sym is.symbols_are) up;
   }
 
   -- the table of the map's lines is that of what is listed
-  table_again : own_tabled strip b.objects m.symbols ≡ table_of strip b.objects (meaning_views listed)
+  table_again : own_tabled strip b.objects m.symbols ≡ table_of strip b.objects ms
   table_again =
       ap (λ (rows : List SymbolRow). own_tabled strip b.objects rows) is.symbols_are
-      ∙ ap (λ (ms : List Meaning). cond strip None (Some ms)) (tabled_again b.objects (own_where b.base b.objects) (meaning_views listed) d.listed)
+      ∙ ap (λ (xs : List Meaning). cond strip None (Some xs)) (tabled_again b.objects (own_where b.base b.objects) ms are)
 
   pub own_map : IsOwnMap b.base b.objects strip m
   own_map = record {
@@ -88,12 +88,12 @@ module _ (b : Basis) (strip : Bool) (listed : List code.Definition) (m : MapReco
     places = is.places ∙ rows_placed b (kept_sections b.objects);
     commons =
         subst (λ (rows : List CommonRow). (name : List ℕ) → HasOwnCommonLine rows b.base b.objects name) (sym is.commons)
-        (own_commons_found b.base b.objects (meaning_views listed) d.listed);
+        (own_commons_found b.base b.objects ms are);
     got = is.got;
     slots = is.slots;
     symbols =
         subst (λ (rows : List SymbolRow). (name : List ℕ) → HasLine rows b.objects (own_where b.base b.objects) name) (sym is.symbols_are)
-        (look_up b.objects (own_where b.base b.objects) (meaning_views listed) d.listed);
+        (look_up b.objects (own_where b.base b.objects) ms are);
     symtab = is.symtab ∙ sym (ap (option_map (symtab_line_of b.base b.objects)) table_again);
     ordered = ordered;
   }

@@ -26,11 +26,11 @@ use Rattle.elf_model.proofs.Listed.{All-from_contains}
 use Rattle.elf_model.proofs.Sectioned.{kept-each}
 
 -- a part of bytes is bytes
-part-bytes : (bytes : List ℕ) (at n : ℕ) → AreBytes bytes → AreBytes (part bytes at n)
+pub part-bytes : (bytes : List ℕ) (at n : ℕ) → AreBytes bytes → AreBytes (part bytes at n)
 part-bytes bytes at n are = All-take (λ b. b < 256) n (drop at bytes) (All-drop (λ b. b < 256) at bytes are)
 
 -- and so is a text among them
-text-bytes : (bytes : List ℕ) (at : ℕ) → AreBytes bytes → AreBytes (text bytes at)
+pub text-bytes : (bytes : List ℕ) (at : ℕ) → AreBytes bytes → AreBytes (text bytes at)
 text-bytes bytes at are =
     All-take (λ b. b < 256) (position_or_len is_nul (drop at bytes)) (drop at bytes) (All-drop (λ b. b < 256) at bytes are)
 
@@ -40,7 +40,7 @@ at_index (b ∷ bytes) are zero = All-head (λ b. b < 256) b bytes are
 at_index (b ∷ bytes) are (suc k) = at_index bytes (All-tail (λ b. b < 256) b bytes are) k
 
 -- a number of eight bytes is below 2 ^ 64
-number-below : (bytes : List ℕ) (at : ℕ) → AreBytes bytes → le_at 8 bytes at < 2 ^ 64
+pub number-below : (bytes : List ℕ) (at : ℕ) → AreBytes bytes → le_at 8 bytes at < 2 ^ 64
 number-below bytes at are =
     let small = le-below (part bytes at 8) (at_index (part bytes at 8) (part-bytes bytes at 8 are)) in
     let cut = length-take 8 (drop at bytes) in
@@ -49,7 +49,7 @@ number-below bytes at are =
     omega (arith, small, most)
 
 -- so the size of each section of a file is
-sizes-below : (bytes : List ℕ) → AreBytes bytes → All (λ h. h.sh_size < 2 ^ 64) (sections bytes)
+pub sizes-below : (bytes : List ℕ) → AreBytes bytes → All (λ h. h.sh_size < 2 ^ 64) (sections bytes)
 sizes-below bytes are =
     let from = (file_header bytes).e_shoff in
     All-map (λ (h : SectionHeader). h.sh_size < 2 ^ 64) (λ i. section_header (part bytes (from + 64 * i) 64)) (range_with_len 0 (file_header bytes).e_shnum)
@@ -75,7 +75,7 @@ few-sections bytes object =
     omega (arith, few, same)
 
 -- the own address of a piece is low
-at_or : (o : Option Placed) → ((q : Placed) → o ≡ Some q → placed_end q ≤ 2 ^ 46) → unwrap_or (option_map (λ q. q.at) o) 0 < 2 ^ 64
+pub at_or : (o : Option Placed) → ((q : Placed) → o ≡ Some q → placed_end q ≤ 2 ^ 46) → unwrap_or (option_map (λ q. q.at) o) 0 < 2 ^ 64
 at_or None each = omega arith
 at_or (Some q) each = let end = each q refl in omega (arith, end)
 

@@ -182,7 +182,7 @@ module _ (base : ℕ) (objects : List LoadedObject) (kinds : AreLawfulKinds obje
       by (Some q) e = below s q loaded (defined s defines) (present s defines) (visible s defines) sound e
 
   module _ (sound : AreSoundSymbols objects) where
-    all_lie : All (LiesBelow (own_in_load_order base objects)) (chosen_symbols objects)
+    pub all_lie : All (LiesBelow (own_in_load_order base objects)) (chosen_symbols objects)
     all_lie =
         All-from_contains (LiesBelow (own_in_load_order base objects)) (chosen_symbols objects) (λ s c.
         let defines = Contains-from_filter is_definition (all_symbols objects) s (Contains-from_filter (is_chosen objects) (definitions objects) s c).0 in

@@ -1,26 +1,36 @@
 -- What a prepared link is of, and what it keeps.
-use Rattle.std.specs.Prelude.{◌≡◌, ℕ, ◌^◌, ◌<◌, List, map}
+use Rattle.std.specs.Prelude.{◌≡◌, ℕ, ◌^◌, ◌<◌, Bool, false, true, List, Option, None, Some, map}
+use Rattle.std.specs.Borrow.{Bor}
+use Rattle.std.specs.Global.{Vec}
 use Rattle.elf_model.specs.Causes.{IsLinkable}
 use Rattle.elf_model.specs.Command.{IsBase}
 use Rattle.elf_model.specs.Files.{File}
 use Rattle.elf_model.specs.ImageFile.{IsOwnMap, own_entry}
 use Rattle.elf_model.specs.Listing.{AreListed}
-use Rattle.elf_model.specs.Loading.{loaded_objects}
+use Rattle.elf_model.specs.Loading.{LoadedObject, loaded_objects}
 use Rattle.elf_model.specs.MapRecord.{MapRecord}
 use Rattle.elf_model.specs.MapText.{Ascends, IsMap, SymbolBefore}
 use Rattle.elf_model.specs.MapText as map_text
 use Rattle.elf_model.specs.OwnLayout.{own_where}
 use Rattle.elf_model.specs.RightLink.{IsRightLink, symbol_row_of}
+use Rattle.elf_model.specs.declared.bound.Bound.{Bound}
 use Rattle.image_write.specs.Linkages.{Linked, own_image}
+use Rattle.image_write.specs.Listings.{IsListing}
+use Rattle.image_write.specs.Tables.{IsTableOf}
+use Rattle.image_write.specs.declared.listed.Listed.{Listed}
+use Rattle.image_write.specs.declared.listed.Listed.TheVariants as kept
+use Rattle.image_write.specs.declared.symbol_table.SymbolTable.{SymbolTable}
+use Rattle.resolve.specs.Views.{meaning_views}
+use Rattle.resolve.specs.declared.definition.Definition as code
 
--- a link of files by words, none of whose phases has a fault; its list has what names mean that have a line in the map, once
--- each, in the order of the names
+-- a link of files by words, none of whose phases has a fault; where the image has a symbol table, its list has what names mean
+-- that have a line in the map, once each, in the order of the names
 pub record IsPrepared (files : List File) (words : List (List ℕ)) (l : Linked) : Type 0 where
   pub objects : l.objects ≡ loaded_objects files l.plan
   pub linkable : IsLinkable files words l.plan
   pub base : IsBase l.plan.base
-  pub listed : AreListed l.objects l.listed
-  pub rising : Ascends SymbolBefore (map (symbol_row_of (own_where l.plan.base l.objects)) l.listed)
+  pub listed : l.plan.strip ≡ false → AreListed l.objects l.listed
+  pub rising : l.plan.strip ≡ false → Ascends SymbolBefore (map (symbol_row_of (own_where l.plan.base l.objects)) l.listed)
   pub entry_fits : own_entry l.plan.base l.objects l.plan.entry < 2 ^ 64
 
 -- with that image, each own map that has a text is a right link of files by words
@@ -40,3 +50,15 @@ pub record HasOwnLink (files : List File) (words : List (List ℕ)) (l : Linked)
   pub text : List ℕ
   pub own_text : IsOwnText l text
   pub right : IsRightLink files words (own_image l) text
+
+-- the definitions that have a line, listed with their symbol table, unless the words ask for none
+abbrev pub HasTabled : List LoadedObject → ℕ → Bool → Option (Vec code.Definition × SymbolTable) → Type 0
+HasTabled objects e true None = Unit {0}
+HasTabled objects e true (Some r) = ⊥
+HasTabled objects e false None = ⊥
+HasTabled objects e false (Some r) = IsListing objects r.0.items × IsTableOf objects e (meaning_views r.0.items) r.1
+
+-- what is kept of the definitions that have a line
+abbrev pub kept_of : List LoadedObject → Vec (Bor (List ℕ) × Bound) → Option (Vec code.Definition × SymbolTable) → Listed
+kept_of objects lines None = kept.Unlisted objects lines
+kept_of objects lines (Some r) = kept.InOrder r.0 r.1

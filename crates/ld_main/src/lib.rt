@@ -3,9 +3,11 @@
 #![tactic(auto)]
 
 mod command_line;
+mod file_id;
 mod file_sink;
 mod file_source;
 mod listed_definitions;
+mod new_file;
 mod output;
 mod own_map;
 mod phases;
@@ -13,7 +15,9 @@ mod program;
 mod real_files;
 mod refusals;
 mod slot_lines;
+mod sparse;
 mod spelled_lines;
+mod zero_pages;
 
 pub use checker::{Clause, Verdict, check};
 pub use command_line::{no_words, run_args, words};
@@ -21,6 +25,6 @@ pub use elf_model::LinkError;
 pub use file_source::{FetchFault, FileSource, GatherFault, gather};
 pub use image_write::{Linkage, Sink, SinkFault, WriteFault, image, write_image};
 pub use output::{Output, link};
-pub use phases::{link_map, prepare, prepare_in};
+pub use phases::{link_map, prepare, prepare_in, prepare_seeded};
 pub use program::{Failure, read_file, refused, run_ld};
 pub use real_files::RealFiles;

@@ -43,13 +43,13 @@ fn add_linkers<'a>(
 }
 
 /// The same definitions in the order of their names.
-fn by_name<'a>(listed: Vec<Definition<'a>>) -> Result<Vec<Definition<'a>>, AllocError>
-    ensures same { IfOk result (λ v. IsPermutation (meaning_views listed.entry.items) (meaning_views v.items)) }
-    ensures rising { IfOk result (λ v. IsSortedByKey (λ m. (held_name m).now) (slice_cmp nat_cmp) v.items) }
+fn by_name<'a>(listed: Vec<Definition<'a>>) -> Vec<Definition<'a>>
+    ensures same { IsPermutation (meaning_views listed.entry.items) (meaning_views result.items) }
+    ensures rising { IsSortedByKey (λ m. (held_name m).now) (slice_cmp nat_cmp) result.items }
 {
     let mut sorted = listed;
-    sorted.sort_by_key(|m| m.name())?;
-    Ok(sorted)
+    sorted.sort_unstable_by_key(|m| m.name());
+    sorted
 }
 
 /// The definitions of resolved objects that have a line, in the order of their names, given the lines of the linker's
@@ -66,6 +66,5 @@ pub fn listed<'a>(
     let mut listed = Vec::with_capacity(alloc, symbols.len())?;
     add_symbols(&mut listed, resolved, symbols)?;
     add_linkers(&mut listed, linkers)?;
-    let sorted = by_name(listed)?;
-    Ok(sorted)
+    Ok(by_name(listed))
 }

@@ -21,7 +21,7 @@ use elf_model::{
     CommonLine, Definition as Told, DropLine, LinkMap, ObjectId, ObjectLine, PlaceLine, STB_WEAK,
     SectionHeader, SectionRef, SymbolLine, SymtabLine,
 };
-use elf_read::Object;
+use elf_read::ObjectFile;
 use got_tls::Slots;
 use image_write::{SymbolTable, definition_value};
 use layout::Placement;
@@ -166,7 +166,7 @@ fn place_line(
     alloc: Global,
     placement: &Placement<'_>,
     number: u64,
-    object: &Object<'_>,
+    object: &ObjectFile<'_>,
     i: usize,
     header: &SectionHeader,
 ) -> Result<PlaceLine, AllocError>

@@ -4,19 +4,21 @@ ghost use Rattle.elf_model.specs.Causes.{Cause};
 ghost use Rattle.elf_model.specs.Command.{IsBase};
 ghost use Rattle.elf_model.specs.Files.{files_of, words_of};
 ghost use Rattle.elf_model.specs.ImageFile.{IsOwnMap, own_end};
+ghost use Rattle.elf_model.specs.Listing.{AreLinkerLines};
 ghost use Rattle.elf_model.specs.MapRecord.{map_of};
 ghost use Rattle.elf_model.specs.OwnAddresses.{AreOwnAddresses};
 ghost use Rattle.elf_model.specs.OwnLayout.{IsNotTooLarge, own_where};
 ghost use Rattle.elf_model.specs.Slots as wanted;
 ghost use Rattle.resolve.specs.Views.{meaning_view, meaning_views};
 ghost use Rattle.symbols.specs.Rows.{no_rows};
+ghost use Rattle.relocate.specs.Uses.{line_views};
 ghost use Rattle.relocate.specs.Values.{slot_value_of};
 ghost use Rattle.image_write.specs.Linkages.{AreParts};
 ghost use Rattle.image_write.specs.Listings.{IsListing};
 ghost use Rattle.image_write.specs.Maps.{own_table};
 ghost use Rattle.image_write.specs.Tables.{HasTable};
 ghost use Rattle.ld_main.specs.FinalRefusals.{DeniesLinks};
-ghost use Rattle.ld_main.specs.Linkages.{AreOwnMapsRight, HasOwnLink, IsPrepared};
+ghost use Rattle.ld_main.specs.Linkages.{AreOwnMapsRight, HasOwnLink, HasTabled, IsPrepared, kept_of};
 ghost use Rattle.ld_main.specs.Outputs.{AreLaidOut, AreLinkable, AreReferred, AreResolved, EntersAt, LinksRefuse};
 
 use crate::listed_definitions::listed;
@@ -24,13 +26,13 @@ use crate::own_map::map_of_layout;
 use crate::refusals::{command_error, layout_error, reloc_error, resolve_error, search_error};
 use crate::spelled_lines::show_spellings;
 use command::read_words;
-use elf_model::{InputFile, LinkError, LinkMap, NameSeed};
+use elf_model::{Bound, InputFile, LinkError, LinkMap, NameSeed};
 use got_tls::{Slots, slots};
-use image_write::{Linkage, Parts, SymbolTable, definition_value, file_end};
+use image_write::{Linkage, Listed, Parts, SymbolTable, definition_value, file_end};
 use layout::{GotSize, Placement, kinds, place};
 use relocate::{Patches, linker_lines, patches, references, slot_values};
 use resolve::{Definition, Resolved, resolve_in};
-use search::{Loaded, load_in};
+use search::{Loaded, load_seeded};
 use std::alloc::{AllocError, Global};
 use symbols::{IndexedTable, NameTable};
 
@@ -99,54 +101,64 @@ fn laid_out<'a>(
     }
 }
 
-/// The symbol table of the definitions that have a line, where the words ask for one and the file has room for it.
-fn tabled<'a>(
+/// The linker's own names that have a line, and what they stand for.
+fn linkers_of<'a>(
+    alloc: Global,
     loaded: &Loaded<'a>,
+    resolved: &Resolved<'a>,
+) -> Result<Vec<(&'a [u8], Bound)>, LinkError>
+    requires { resolved.now ≡ loaded.now.objects }
+    ensures lines { IfOk result (λ v. AreLinkerLines loaded.now.objects (line_views v.items)) }
+    ensures fault { IfErr result (LinksRefuse loaded.now.plan loaded.now.objects) }
+{
+    let lines = linker_lines(alloc, loaded, resolved)?;
+    Ok(lines)
+}
+
+/// The definitions that have a line, in the order of their names, and their symbol table, where the words ask for one and the
+/// file has room for it.
+fn tabled<'a>(
+    alloc: Global,
+    loaded: &Loaded<'a>,
+    resolved: &Resolved<'a>,
     placement: &Placement<'a>,
-    listed: &[Definition<'a>],
-) -> Result<Option<SymbolTable>, LinkError>
+    linkers: &[(&'a [u8], Bound)],
+) -> Result<Option<(Vec<Definition<'a>>, SymbolTable)>, LinkError>
+    requires same { resolved.now ≡ loaded.now.objects }
     requires placed { placement.now ≡ record { base = loaded.now.plan.base; objects = loaded.now.objects } }
-    requires listed { IsListing loaded.now.objects listed.now }
+    requires linkers { AreLinkerLines loaded.now.objects (line_views linkers.now) }
     requires referred { AreReferred loaded.now.plan loaded.now.objects }
     requires base { IsBase loaded.now.plan.base }
     requires fits { IsNotTooLarge loaded.now.plan.base loaded.now.objects }
-    ensures table { IfOk result (HasTable loaded.now.objects (own_end loaded.now.plan.base loaded.now.objects) (meaning_views listed.now) loaded.now.plan.strip) }
+    ensures table { IfOk result (HasTabled loaded.now.objects (own_end loaded.now.plan.base loaded.now.objects) loaded.now.plan.strip) }
     ensures laid { OnOk result (AreLaidOut loaded.now.plan loaded.now.objects) }
     ensures fault { IfErr result (LinksRefuse loaded.now.plan loaded.now.objects) }
 {
     if loaded.plan().strip {
         return Ok(None);
     }
+    let listed = listed(alloc, resolved, linkers)?;
     let objects = loaded.objects();
     let end = file_end(placement.segments());
-    match SymbolTable::of(objects, listed, end) {
-        Some(table) => Ok(Some(table)),
+    match SymbolTable::of(objects, &listed, end) {
+        Some(table) => Ok(Some((listed, table))),
         None => Err(LinkError::TooLarge),
     }
 }
 
-/// The definitions that have a line in the map, in the order of their names, and their symbol table, where the words ask for
-/// one.
-fn listed_names<'a>(
-    alloc: Global,
-    loaded: &Loaded<'a>,
-    resolved: &Resolved<'a>,
-    placement: &Placement<'a>,
-) -> Result<(Vec<Definition<'a>>, Option<SymbolTable>), LinkError>
-    requires same { resolved.now ≡ loaded.now.objects }
-    requires placed { placement.now ≡ record { base = loaded.now.plan.base; objects = loaded.now.objects } }
-    requires referred { AreReferred loaded.now.plan loaded.now.objects }
-    requires base { IsBase loaded.now.plan.base }
-    requires fits { IsNotTooLarge loaded.now.plan.base loaded.now.objects }
-    ensures listed { IfOk result (λ r. IsListing loaded.now.objects r.0.items) }
-    ensures table { IfOk result (λ r. HasTable loaded.now.objects (own_end loaded.now.plan.base loaded.now.objects) (meaning_views r.0.items) loaded.now.plan.strip r.1) }
-    ensures laid { OnOk result (AreLaidOut loaded.now.plan loaded.now.objects) }
-    ensures fault { IfErr result (LinksRefuse loaded.now.plan loaded.now.objects) }
+/// What is kept of the definitions that have a line: their list with its symbol table, where there is one; else what they are
+/// listed of.
+fn kept<'a>(
+    resolved: Resolved<'a>,
+    linkers: Vec<(&'a [u8], Bound)>,
+    tabled: Option<(Vec<Definition<'a>>, SymbolTable)>,
+) -> Listed<'a>
+    ensures { result ≡ kept_of resolved.entry linkers.entry tabled.entry }
 {
-    let linkers = linker_lines(alloc, loaded, resolved)?;
-    let listed = listed(alloc, resolved, &linkers)?;
-    let table = tabled(loaded, placement, &listed)?;
-    Ok((listed, table))
+    match tabled {
+        Some((listed, table)) => Listed::InOrder(listed, table),
+        None => Listed::Unlisted(resolved, linkers),
+    }
 }
 
 /// The patches of what is laid out.
@@ -174,35 +186,36 @@ fn fitted<'a>(
 /// What the layers made of what is loaded, once all of it is there.
 fn parts_of<'a>(
     loaded: &Loaded<'a>,
-    listed: Vec<Definition<'a>>,
+    resolved: Resolved<'a>,
+    linkers: Vec<(&'a [u8], Bound)>,
+    tabled: Option<(Vec<Definition<'a>>, SymbolTable)>,
     placement: Placement<'a>,
     slots: Slots<'a>,
     values: Vec<u64>,
     patches: Patches<'a>,
     entry: &Definition<'a>,
-    table: Option<SymbolTable>,
 ) -> Parts<'a>
     requires base { IsBase loaded.now.plan.base }
-    requires listed { IsListing loaded.now.objects listed.items }
+    requires same { resolved ≡ loaded.now.objects }
+    requires linkers { AreLinkerLines loaded.now.objects (line_views linkers.items) }
+    requires tabled { HasTabled loaded.now.objects (own_end loaded.now.plan.base loaded.now.objects) loaded.now.plan.strip tabled }
     requires placed { placement ≡ record { base = loaded.now.plan.base; objects = loaded.now.objects } }
     requires slots { slots ≡ own_table loaded.now.objects }
     requires values { values.items ≡ map (slot_value_of loaded.now.objects (own_where loaded.now.plan.base loaded.now.objects)) (wanted.slots loaded.now.objects) }
     requires patches { patches ≡ placement }
     requires linkable { AreLinkable loaded.now.plan loaded.now.objects }
     requires entry { EntersAt loaded.now.plan loaded.now.objects (meaning_view entry.now) }
-    requires table { HasTable loaded.now.objects (own_end loaded.now.plan.base loaded.now.objects) (meaning_views listed.items) loaded.now.plan.strip table }
     ensures { AreParts loaded.now result }
 {
     let entry = definition_value(&placement, entry);
-    show_spellings(&placement, loaded, &slots, &listed, table);
+    show_spellings(&placement, loaded, &slots, &resolved, &linkers);
     Parts {
-        listed,
+        listed: kept(resolved, linkers, tabled),
         placement,
         slots,
         values,
         patches,
         entry,
-        table,
     }
 }
 
@@ -210,28 +223,28 @@ fn parts_of<'a>(
 fn whole_parts<'a>(
     alloc: Global,
     loaded: &Loaded<'a>,
-    resolved: &Resolved<'a>,
+    resolved: Resolved<'a>,
+    linkers: Vec<(&'a [u8], Bound)>,
+    tabled: Option<(Vec<Definition<'a>>, SymbolTable)>,
     entry: &Definition<'a>,
     placement: Placement<'a>,
     slots: Slots<'a>,
     patches: Patches<'a>,
-    listed: Vec<Definition<'a>>,
-    table: Option<SymbolTable>,
 ) -> Result<Parts<'a>, AllocError>
     requires base { IsBase loaded.now.plan.base }
-    requires same { resolved.now ≡ loaded.now.objects }
+    requires same { resolved ≡ loaded.now.objects }
+    requires linkers { AreLinkerLines loaded.now.objects (line_views linkers.items) }
+    requires tabled { HasTabled loaded.now.objects (own_end loaded.now.plan.base loaded.now.objects) loaded.now.plan.strip tabled }
     requires placed { placement ≡ record { base = loaded.now.plan.base; objects = loaded.now.objects } }
     requires slots { slots ≡ own_table loaded.now.objects }
     requires patches { patches ≡ placement }
     requires linkable { AreLinkable loaded.now.plan loaded.now.objects }
     requires entry { EntersAt loaded.now.plan loaded.now.objects (meaning_view entry.now) }
-    requires listed { IsListing loaded.now.objects listed.items }
-    requires table { HasTable loaded.now.objects (own_end loaded.now.plan.base loaded.now.objects) (meaning_views listed.items) loaded.now.plan.strip table }
     ensures { IfOk result (AreParts loaded.now) }
 {
-    let values = slot_values(alloc, resolved, &placement, &slots)?;
+    let values = slot_values(alloc, &resolved, &placement, &slots)?;
     Ok(parts_of(
-        loaded, listed, placement, slots, values, patches, entry, table,
+        loaded, resolved, linkers, tabled, placement, slots, values, patches, entry,
     ))
 }
 
@@ -251,26 +264,25 @@ fn prepare_loaded<'a, T: NameTable<'a> + Drop>(
     let entry = referred_entry(alloc, loaded, &resolved)?;
     let slots = slots(alloc, loaded, &resolved)?;
     let placement = laid_out(alloc, loaded, &resolved, slots.got())?;
-    let (listed, table) = listed_names(alloc, loaded, &resolved, &placement)?;
+    let linkers = linkers_of(alloc, loaded, &resolved)?;
+    let tabled = tabled(alloc, loaded, &resolved, &placement, &linkers)?;
     let patches = fitted(alloc, loaded, &resolved, &placement, &slots)?;
     let parts = whole_parts(
-        alloc, loaded, &resolved, &entry, placement, slots, patches, listed, table,
+        alloc, loaded, resolved, linkers, tabled, &entry, placement, slots, patches,
     )?;
     Ok(parts)
 }
 
-/// As `prepare`, with two tables of names: one for loading, and one for resolving names. Both are empty at the start, and are
-/// used up.
+/// As `prepare_seeded`, with a table of names for resolution.
 #[tactic(auto, using(crate::proofs::FinalRefusals::finals))]
-pub fn prepare_in<'a, T: NameTable<'a> + Drop>(
+fn prepare_by<'a, T: NameTable<'a> + Drop>(
     alloc: Global,
     files: &'a [InputFile],
     words: &'a [String],
-    loading: T,
+    seed: NameSeed,
     resolution: T,
 ) -> Result<Linkage<'a>, LinkError>
-    requires loading { T.rows loading ≡ no_rows }
-    requires resolution { T.rows resolution ≡ no_rows }
+    requires { T.rows resolution ≡ no_rows }
     ensures prepared { IfOk result (IsPrepared (files_of files.entry.now) (words_of words.entry.now)) }
     ensures own { IfOk result (AreOwnMapsRight (files_of files.entry.now) (words_of words.entry.now)) }
     ensures right { IfOk result (HasOwnLink (files_of files.entry.now) (words_of words.entry.now)) }
@@ -282,7 +294,7 @@ pub fn prepare_in<'a, T: NameTable<'a> + Drop>(
         Ok(plan) => plan,
         Err(fault) => return Err(command_error(fault)),
     };
-    let loaded = match load_in(alloc, &plan, files, loading) {
+    let loaded = match load_seeded(alloc, &plan, files, seed) {
         Ok(loaded) => loaded,
         Err(fault) => return Err(search_error(fault)),
     };
@@ -290,6 +302,46 @@ pub fn prepare_in<'a, T: NameTable<'a> + Drop>(
         Ok(parts) => Ok(Linkage::new(loaded, parts)),
         Err(error) => Err(error),
     }
+}
+
+/// As `prepare`, with two tables of names: one for loading, to which the numbers of names leave nothing to do, and one for
+/// resolving names, which finds the common symbols of each block. Both are empty at the start, and are used up.
+pub fn prepare_in<'a, T: NameTable<'a> + Drop>(
+    alloc: Global,
+    files: &'a [InputFile],
+    words: &'a [String],
+    _loading: T,
+    resolution: T,
+) -> Result<Linkage<'a>, LinkError>
+    requires loading { T.rows _loading ≡ no_rows }
+    requires resolution { T.rows resolution ≡ no_rows }
+    ensures prepared { IfOk result (IsPrepared (files_of files.entry.now) (words_of words.entry.now)) }
+    ensures own { IfOk result (AreOwnMapsRight (files_of files.entry.now) (words_of words.entry.now)) }
+    ensures right { IfOk result (HasOwnLink (files_of files.entry.now) (words_of words.entry.now)) }
+    ensures addresses { IfOk result (λ l. AreOwnAddresses l.plan.base l.objects) }
+    ensures cause { IfErr result (Cause (files_of files.entry.now) (words_of words.entry.now)) }
+    ensures no_link { IfErr result (DeniesLinks (files_of files.entry.now) (words_of words.entry.now)) }
+{
+    prepare_by(alloc, files, words, NameSeed::fixed(), resolution)
+}
+
+/// As `prepare`, where names are found by hash from a seed: who picks the names can make them collide only where the seed is
+/// known.
+pub fn prepare_seeded<'a>(
+    alloc: Global,
+    files: &'a [InputFile],
+    words: &'a [String],
+    seed: NameSeed,
+) -> Result<Linkage<'a>, LinkError>
+    ensures prepared { IfOk result (IsPrepared (files_of files.entry.now) (words_of words.entry.now)) }
+    ensures own { IfOk result (AreOwnMapsRight (files_of files.entry.now) (words_of words.entry.now)) }
+    ensures right { IfOk result (HasOwnLink (files_of files.entry.now) (words_of words.entry.now)) }
+    ensures addresses { IfOk result (λ l. AreOwnAddresses l.plan.base l.objects) }
+    ensures cause { IfErr result (Cause (files_of files.entry.now) (words_of words.entry.now)) }
+    ensures no_link { IfErr result (DeniesLinks (files_of files.entry.now) (words_of words.entry.now)) }
+{
+    let resolution = IndexedTable::with_hasher(alloc, seed);
+    prepare_by(alloc, files, words, seed, resolution)
 }
 
 /// Prepares the link of the files that a command's words name.
@@ -319,14 +371,18 @@ pub fn prepare<'a>(
     ensures cause { IfErr result (Cause (files_of files.entry.now) (words_of words.entry.now)) }
     ensures no_link { IfErr result (DeniesLinks (files_of files.entry.now) (words_of words.entry.now)) }
 {
-    let loading = IndexedTable::with_hasher(alloc, NameSeed::fixed());
-    let resolution = IndexedTable::with_hasher(alloc, NameSeed::fixed());
-    prepare_in(alloc, files, words, loading, resolution)
+    prepare_seeded(alloc, files, words, NameSeed::fixed())
 }
 
-/// The map of a link: its objects, their dropped sections, their kept ones, the common blocks, the GOT and its slots at
-/// their addresses, the definitions of names with their values, and the symbol table; its lines are in order.
-pub fn link_map(alloc: Global, linkage: &Linkage<'_>) -> Result<LinkMap, AllocError>
+/// The map of a link, of the definitions that have a line, in the order of their names, with their symbol table.
+fn map_of_list(
+    alloc: Global,
+    linkage: &Linkage<'_>,
+    listed: &[Definition<'_>],
+    table: Option<SymbolTable>,
+) -> Result<LinkMap, AllocError>
+    requires listed { IsListing linkage.now.objects listed.now }
+    requires table { HasTable linkage.now.objects (own_end linkage.now.plan.base linkage.now.objects) (meaning_views listed.now) linkage.now.plan.strip table }
     ensures { IfOk result (λ m. IsOwnMap linkage.now.plan.base linkage.now.objects linkage.now.plan.strip (map_of m)) }
 {
     let parts = linkage.parts();
@@ -335,7 +391,22 @@ pub fn link_map(alloc: Global, linkage: &Linkage<'_>) -> Result<LinkMap, AllocEr
         &parts.placement,
         linkage.loaded(),
         &parts.slots,
-        &parts.listed,
-        parts.table,
+        listed,
+        table,
     )
+}
+
+/// The map of a link: its objects, their dropped sections, their kept ones, the common blocks, the GOT and its slots at
+/// their addresses, the definitions of names with their values, and the symbol table; its lines are in order.
+pub fn link_map(alloc: Global, linkage: &Linkage<'_>) -> Result<LinkMap, AllocError>
+    ensures { IfOk result (λ m. IsOwnMap linkage.now.plan.base linkage.now.objects linkage.now.plan.strip (map_of m)) }
+{
+    let parts = linkage.parts();
+    match &parts.listed {
+        Listed::InOrder(listed, table) => map_of_list(alloc, linkage, listed, Some(*table)),
+        Listed::Unlisted(resolved, linkers) => {
+            let listed = listed(alloc, resolved, linkers)?;
+            map_of_list(alloc, linkage, &listed, None)
+        }
+    }
 }

@@ -5,29 +5,29 @@ ghost use Rattle.elf_model.specs.Command as command;
 ghost use Rattle.elf_model.specs.Command.{command_of};
 ghost use Rattle.elf_model.specs.Files.{files_of, words_of};
 ghost use Rattle.elf_model.specs.RightLink.{IsRightLink, Least};
-ghost use Rattle.ld_main.specs.Linkages.{HasOwnLink};
+ghost use Rattle.ld_main.specs.Linkages.{HasOwnLink, IsOwnText};
+ghost use Rattle.ld_main.specs.NewFiles.{IsOfLink, IsSomeLink};
 ghost use Rattle.ld_main.specs.Program.{Asks, HasRightLink, LinksRight, error_status, failure_status, is_checked, outcome_status, words_status};
 
-use crate::file_sink::{FileSink, room};
+use crate::file_id::OutputPath;
 use crate::file_source::{GatherFault, gather};
+use crate::new_file::{Content, NewFile};
 use crate::output::map_text;
-use crate::phases::prepare_in;
-use crate::real_files::{RealFiles, make_executable, read_whole};
+use crate::phases::prepare_seeded;
+use crate::real_files::{RealFiles, read_whole};
 use crate::refusals::command_error;
 use checker::check;
-use command::read_words;
+use command::{Plan, read_words};
 use elf_model::{Clause, CmdFault, InputFile, LinkError, NameSeed, Verdict};
-use image_write::{Linkage, WriteFault, write_image};
+use image_write::{Linkage, WriteFault};
 use linkmap::escape;
 use std::alloc::{AllocError, AllocFailed, Global};
 use std::borrow::CowStr;
-use std::fs::File;
 use std::hash::RandomState;
+use std::io;
 use std::io::{ErrorKind, Write};
 use std::random::RandomSource;
 use std::rt::Files;
-use std::{fs, io};
-use symbols::IndexedTable;
 
 /// What a run comes to.
 #[derive(Clone, Copy, Debug)]
@@ -59,7 +59,7 @@ pub enum Failure<'a> {
     },
     /// The path of a file that there may be, and that was not read.
     CannotRead(CowStr<'a>),
-    /// The path of a file that was not written, or only in part.
+    /// The path of a file that was not written, or of a device that was written only in part.
     CannotWrite(&'a str),
 }
 
@@ -223,58 +223,86 @@ pub fn read_file<'a, R: Files + AllocGlobal>(rt: &R, path: &'a str) -> Result<Ve
     }
 }
 
-/// Writes the image of a link to a file, and lets those run it who may read it.
-fn write_image_file<'a, R: Files + AllocGlobal>(
+/// The failure to write a file.
+fn unwritten<'a>(path: &'a str, fault: WriteFault) -> Failure<'a>
+    ensures { 3 ≤ failure_status result }
+{
+    match fault {
+        WriteFault::Memory => Failure::from(LinkError::Memory),
+        WriteFault::Device => Failure::CannotWrite(path),
+    }
+}
+
+/// Writes the image, or the map; where it is a new file it doesn't have its name yet.
+fn write_output<'a, R: Files + AllocGlobal + RandomSource>(
     rt: &R,
     path: &'a str,
-    linkage: &Linkage<'_>,
-) -> Result<(), Failure<'a>>
+    content: Content<'_, '_>,
+) -> Result<NewFile<'a>, Failure<'a>>
+    requires { IsOfLink content }
     ensures { IfErr result (λ f. 3 ≤ failure_status f) }
 {
-    let room = room(rt.alloc())?;
-    let Ok(file) = File::create(rt, path) else {
-        return Err(Failure::CannotWrite(path));
-    };
-    let mut sink = FileSink::new(file, room);
-    match write_image(rt.alloc(), linkage, &mut sink) {
-        Ok(()) => {}
-        Err(WriteFault::Memory) => return Err(Failure::from(LinkError::Memory)),
-        Err(WriteFault::Device) => return Err(Failure::CannotWrite(path)),
+    match NewFile::write(rt, path, content) {
+        Ok(file) => Ok(file),
+        Err(fault) => Err(unwritten(path, fault)),
     }
-    if sink.empty().is_err() {
-        return Err(Failure::CannotWrite(path));
-    }
-    let _ = make_executable(sink.file());
-    Ok(())
 }
 
-/// Writes the text of a link's map to a file.
-fn write_map<'a, R: Files>(rt: &R, path: &'a str, text: &[u8]) -> Result<(), Failure<'a>>
-    ensures { IfErr result (λ f. failure_status f ≡ 3) }
+/// Gives what was written its name.
+fn finish<'a, R: Files>(rt: &R, path: &'a str, file: NewFile<'a>) -> Result<(), Failure<'a>>
+    ensures { IfErr result (λ f. 3 ≤ failure_status f) }
 {
-    match fs::write(rt, path, text) {
+    match file.finish(rt) {
         Ok(()) => Ok(()),
-        Err(_) => Err(Failure::CannotWrite(path)),
+        Err(fault) => Err(unwritten(path, fault)),
     }
 }
 
-/// Writes the image and then the map, whose text is made before the image is written, and only where its path is given.
-fn write_files<'a, R: Files + AllocGlobal>(
+/// Writes the image and the map before either has its name; where the map can't be written, the image is removed.
+fn write_both<'a, R: Files + AllocGlobal + RandomSource>(
+    rt: &R,
+    task: Task<'a>,
+    map: &'a str,
+    linkage: &Linkage<'_>,
+    text: &[u8],
+) -> Result<(), Failure<'a>>
+    requires link { IsSomeLink linkage.now }
+    requires text { IsOwnText linkage.now text.now }
+    ensures { IfErr result (λ f. 3 ≤ failure_status f) }
+{
+    let image_file = write_output(rt, task.output, Content::Image(linkage))?;
+    let map_file = match write_output(rt, map, Content::Map(text)) {
+        Ok(file) => file,
+        Err(failure) => {
+            image_file.discard(rt);
+            return Err(failure);
+        }
+    };
+    if let Err(failure) = finish(rt, task.output, image_file) {
+        map_file.discard(rt);
+        return Err(failure);
+    }
+    finish(rt, map, map_file)
+}
+
+/// Writes the image, and the map, whose text is made before, where its path is given.
+fn write_files<'a, R: Files + AllocGlobal + RandomSource>(
     rt: &R,
     task: Task<'a>,
     linkage: &Linkage<'_>,
 ) -> Result<(), Failure<'a>>
+    requires { IsSomeLink linkage.now }
     ensures { IfErr result (λ f. 3 ≤ failure_status f) }
 {
-    let Some(path) = task.map else {
-        return write_image_file(rt, task.output, linkage);
+    let Some(map) = task.map else {
+        let file = write_output(rt, task.output, Content::Image(linkage))?;
+        return finish(rt, task.output, file);
     };
     let text = map_text(rt.alloc(), linkage)?;
-    write_image_file(rt, task.output, linkage)?;
-    write_map(rt, path, &text)
+    write_both(rt, task, map, linkage, &text)
 }
 
-/// A seed for tables of names that no input can know; the fixed one where the system gives no random bytes.
+/// A seed for the hashes of names that no input can know; the fixed one where the system gives no random bytes.
 fn seed<R: RandomSource>(rt: &R) -> NameSeed {
     match RandomState::new(rt) {
         Ok(state) => NameSeed::drawn(&state),
@@ -282,7 +310,7 @@ fn seed<R: RandomSource>(rt: &R) -> NameSeed {
     }
 }
 
-/// Prepares the link of files, with its names in tables of a seed.
+/// Prepares the link of files, with its names hashed from a seed.
 fn prepared<'a>(
     alloc: Global,
     seed: NameSeed,
@@ -292,9 +320,7 @@ fn prepared<'a>(
     ensures right { IfOk result (HasOwnLink (files_of files.entry.now) (words_of words.entry.now)) }
     ensures cause { IfErr result (Cause (files_of files.entry.now) (words_of words.entry.now)) }
 {
-    let loading = IndexedTable::with_hasher(alloc, seed);
-    let resolution = IndexedTable::with_hasher(alloc, seed);
-    prepare_in(alloc, files, words, loading, resolution)
+    prepare_seeded(alloc, files, words, seed)
 }
 
 /// Links, and writes what comes of it.
@@ -355,6 +381,52 @@ fn check_files<'a, R: Files + AllocGlobal>(
     Ok(outcome)
 }
 
+/// Files that were read; refused where one of them is at a path that will be written.
+fn apart<'a>(
+    overwritten: Option<&'a str>,
+    files: Vec<InputFile>,
+) -> Result<Vec<InputFile>, Failure<'a>>
+    ensures apart { OnOk result (overwritten.entry ≡ None) }
+    ensures files { IfOk result (λ v. v ≡ files) }
+    ensures fault { IfErr result (λ f. failure_status f ≡ 3) }
+{
+    match overwritten {
+        Some(path) => Err(Failure::CannotWrite(path)),
+        None => Ok(files),
+    }
+}
+
+/// Reads the files that a plan names, none of which may be one that will be written.
+fn read_apart<'a, R: Files + AllocGlobal>(
+    rt: &R,
+    plan: &Plan<'a>,
+    outputs: &[OutputPath<'a>],
+) -> Result<Vec<InputFile>, Failure<'a>>
+    ensures { IfErr result (λ f. 3 ≤ failure_status f) }
+{
+    let mut source = RealFiles::new(rt, outputs);
+    let files = gather(rt.alloc(), plan, &mut source)?;
+    apart(source.overwritten(), files)
+}
+
+/// Reads the files that a plan names. Where they are linked, the files of the image and of the map are none of them.
+fn read_files<'a, R: Files + AllocGlobal>(
+    rt: &R,
+    plan: &Plan<'a>,
+) -> Result<Vec<InputFile>, Failure<'a>>
+    ensures { IfErr result (λ f. 3 ≤ failure_status f) }
+{
+    if plan.check {
+        return read_apart(rt, plan, &[]);
+    }
+    let image = OutputPath::new(rt, plan.output);
+    let map = match plan.map {
+        Some(path) => OutputPath::new(rt, path),
+        None => image,
+    };
+    read_apart(rt, plan, &[image, map])
+}
+
 /// Reads the words, and the files that they name.
 fn read_input<'a, R: Files + AllocGlobal>(
     rt: &R,
@@ -368,7 +440,7 @@ fn read_input<'a, R: Files + AllocGlobal>(
     ensures words_alone { IfErr result (λ f. failure_status f ≡ 2 → IsErr (command_of (words_of words.entry.now))) }
 {
     let plan = read_words(rt.alloc(), words)?;
-    let files = gather(rt.alloc(), &plan, &mut RealFiles::new(rt))?;
+    let files = read_files(rt, &plan)?;
     let task = Task {
         output: plan.output,
         map: plan.map,
@@ -398,13 +470,17 @@ fn run<'a, R: Files + AllocGlobal + RandomSource>(
 /// Runs `ld` with `words`, the words behind the program's name, and answers its exit status. A fault of
 /// `out` or `err` changes no status.
 ///
-/// - 0: the image is written to the path of `-o`, and the map to that of `-Map=` if there is one; nothing
+/// - 0: the image is the file at the path of `-o`, and the map at that of `-Map=` if there is one; nothing
 ///   is printed. Or, with `--check`, these two are a right link: `yes` on `out`.
 /// - 1: with `--check`, they are no right link: `no` and the least clause that fails, as `no C11`, on
 ///   `out`. Without it, the link is refused.
 /// - 2: the words are no command.
-/// - 3: a file is missing, or can't be read or written; what is written may then be a part.
-/// - 4: memory can't be had; the image's file may then be empty.
+/// - 3: a file is missing, can't be read or written, or is both an input and an output.
+/// - 4: memory can't be had.
+///
+/// An image or a map that is a regular file is written under another name first, and gets its own when both
+/// are whole. So after each of these but 0 the paths have what they had; only where the map can't get its
+/// name, the image has got its own. A device may have taken a part.
 ///
 /// Where nothing is written or checked, `err` has one line: `ld: ` and the error's name and number, as
 /// `ld: NoEntry (18)`; behind that `: ` and the name and number of the fault of the words or of an object,

@@ -1,28 +1,29 @@
 //! The own map can always be spelled: its numbers are below 2 ^ 64, and its names are bytes, by the types of what
 //! its lines are made from. Nothing here does anything when the program runs.
-ghost use Rattle.std.specs.Prelude.{◌≡◌, ◌<◌, ◌^◌, All, IfSome, length, map, option_map, option_to_list};
-ghost use Rattle.elf_model.specs.ImageFile.{common_row_of, own_end};
+ghost use Rattle.std.specs.Prelude.{◌≡◌, ◌<◌, ◌^◌, All, length, map, option_to_list};
+ghost use Rattle.elf_model.specs.Causes.{HasRoom};
+ghost use Rattle.elf_model.specs.Listing.{AreLinkerLines};
 ghost use Rattle.elf_model.specs.Loading.{AreObjects};
-ghost use Rattle.elf_model.specs.MapText.{AreBytes, Fits, FitsCommon, FitsDrop, FitsGot, FitsObject, FitsPlace, FitsSlot, FitsSymbol, FitsSymtab, FitsTarget};
-ghost use Rattle.elf_model.specs.Meaning.{Common, Linker, Symbol};
-ghost use Rattle.elf_model.specs.OwnLayout.{IsNotTooLarge, own_got, own_in_load_order, own_slots, own_where};
+ghost use Rattle.elf_model.specs.MapText.{AreBytes, FitsDrop, FitsGot, FitsObject, FitsPlace, FitsSlot, FitsTarget};
+ghost use Rattle.elf_model.specs.Meaning.{Common, Linker};
+ghost use Rattle.elf_model.specs.OwnLayout.{IsNotTooLarge, own_got, own_slots};
 ghost use Rattle.elf_model.specs.Pieces.{AreLawfulKinds, kept_sections};
-ghost use Rattle.elf_model.specs.RightLink.{drop_rows, object_rows, symbol_row_of};
+ghost use Rattle.elf_model.specs.RightLink.{drop_rows, object_rows};
 ghost use Rattle.got_tls.specs.Views.{slot_view, slot_views};
-ghost use Rattle.resolve.specs.Blocks.{block_view};
-ghost use Rattle.resolve.specs.Views.{meaning_view, meaning_views, symbol_view};
+ghost use Rattle.relocate.specs.Uses.{line_views};
+ghost use Rattle.resolve.specs.Blocks.{block_view, block_views};
 ghost use Rattle.search.specs.Views.{loaded_view, loaded_views};
-ghost use Rattle.image_write.specs.CommonRows.{common_rows_of, own_commons};
-ghost use Rattle.image_write.specs.Maps.{LiesBelow, LiesWithin, own_record, own_row, own_table};
-ghost use Rattle.image_write.specs.Tables.{HasTable, IsInRange, line_of};
+ghost use Rattle.image_write.specs.Linkages.{HasSpelledMap};
+ghost use Rattle.image_write.specs.Maps.{own_row, own_table};
+ghost use Rattle.ld_main.specs.Spelled.{FitsLines};
 
-use crate::own_map::{address_of, symtab_line};
+use crate::own_map::address_of;
 use crate::slot_lines::got_line;
 use elf_model::{Bound, Target};
 use got_tls::{Slot, Slots};
-use image_write::{SymbolTable, block_address, symbol_value};
+use image_write::block_address;
 use layout::Placement;
-use resolve::{Block, Definition, SymbolOf};
+use resolve::{Block, Resolved};
 use search::{Loaded, LoadedObject};
 
 fn show_number(n: u64)
@@ -94,81 +95,40 @@ fn show_places(placement: &Placement<'_>, objects: &[LoadedObject<'_>])
     show_contents(objects);
 }
 
-/// The line of a common block.
-fn show_common_line(placement: &Placement<'_>, block: &Block<'_>)
-    ensures { FitsCommon (common_row_of placement.now.base placement.now.objects (block_view block.now)) }
+/// The lines of a common block, its own and that of its symbol.
+fn show_block(placement: &Placement<'_>, block: &Block<'_>)
+    ensures { FitsLines placement.now (Common (block_view block.now)) }
 {
     show_number(address_of(placement, block.object, block.number as usize));
+    show_number(block_address(placement, block));
     show_number(block.size);
     show_number(block.align);
     show_bytes(block.name);
 }
 
-/// The line of a definition's block, where it is one.
-fn show_common(placement: &Placement<'_>, meaning: &Definition<'_>)
-    ensures { All FitsCommon (common_rows_of placement.now.base placement.now.objects (meaning_view meaning.now)) }
+fn show_blocks(placement: &Placement<'_>, blocks: &[Block<'_>])
+    ensures { All (λ b. FitsLines placement.now (Common b)) (block_views blocks.now) }
 {
-    if let Definition::Common(block) = meaning {
-        show_common_line(placement, block);
+    for block in blocks {
+        show_block(placement, block);
     }
-}
-
-fn show_commons(placement: &Placement<'_>, listed: &[Definition<'_>])
-    ensures { All FitsCommon (own_commons placement.now.base placement.now.objects (meaning_views listed.now)) }
-{
-    for meaning in listed {
-        show_common(placement, meaning);
-    }
-}
-
-/// The line of a symbol.
-fn show_symbol(placement: &Placement<'_>, symbol: &SymbolOf<'_>)
-    requires { LiesBelow (own_in_load_order placement.now.base placement.now.objects) (symbol_view symbol.now) }
-    ensures { FitsSymbol (symbol_row_of (own_where placement.now.base placement.now.objects) (Symbol (symbol_view symbol.now))) }
-{
-    let _ = symbol_value(placement, symbol);
-    show_number(symbol.object);
-    show_number(symbol.number);
-    show_bytes(symbol.name);
-}
-
-/// The line of the symbol of a common block.
-fn show_block(placement: &Placement<'_>, block: &Block<'_>)
-    ensures { FitsSymbol (symbol_row_of (own_where placement.now.base placement.now.objects) (Common (block_view block.now))) }
-{
-    show_number(block_address(placement, block));
-    show_bytes(block.name);
 }
 
 /// The line of a name of the linker's.
 fn show_linker(placement: &Placement<'_>, name: &[u8], bound: Bound)
     requires { AreLawfulKinds placement.now.objects }
-    ensures { FitsSymbol (symbol_row_of (own_where placement.now.base placement.now.objects) (Linker name.now bound)) }
+    ensures { FitsLines placement.now (Linker name.now bound) }
 {
     show_number(placement.bound(name, bound));
     show_bytes(name);
 }
 
-/// The line of a definition.
-fn show_meaning(placement: &Placement<'_>, meaning: &Definition<'_>)
-    requires kinds { AreLawfulKinds placement.now.objects }
-    requires within { LiesWithin (own_in_load_order placement.now.base placement.now.objects) (meaning_view meaning.now) }
-    ensures { FitsSymbol (symbol_row_of (own_where placement.now.base placement.now.objects) (meaning_view meaning.now)) }
+fn show_linkers(placement: &Placement<'_>, linkers: &[(&[u8], Bound)])
+    requires { AreLawfulKinds placement.now.objects }
+    ensures { All (FitsLines placement.now) (line_views linkers.now) }
 {
-    match meaning {
-        Definition::Symbol(symbol) => show_symbol(placement, symbol),
-        Definition::Common(block) => show_block(placement, block),
-        Definition::Linker(name, bound) => show_linker(placement, name, *bound),
-    }
-}
-
-fn show_symbols(placement: &Placement<'_>, listed: &[Definition<'_>])
-    requires kinds { AreLawfulKinds placement.now.objects }
-    requires within { All (λ m. LiesWithin (own_in_load_order placement.now.base placement.now.objects) (meaning_view m)) listed.now }
-    ensures { All FitsSymbol (map (symbol_row_of (own_where placement.now.base placement.now.objects)) (meaning_views listed.now)) }
-{
-    for meaning in listed {
-        show_meaning(placement, meaning);
+    for line in linkers {
+        show_linker(placement, line.0, line.1);
     }
 }
 
@@ -180,17 +140,6 @@ fn show_got(placement: &Placement<'_>, slots: &Slots<'_>)
     if let Some(line) = got_line(placement, slots) {
         show_number(line.address);
         show_number(line.size);
-    }
-}
-
-/// The line of the symbol table.
-fn show_symtab(table: Option<SymbolTable>)
-    requires { IfSome table IsInRange }
-    ensures { All FitsSymtab (option_to_list (option_map line_of table)) }
-{
-    if let Some(line) = symtab_line(table) {
-        show_number(line.offset);
-        show_number(line.count);
     }
 }
 
@@ -225,30 +174,33 @@ fn show_slots(placement: &Placement<'_>, slots: &Slots<'_>)
     show_targets(slots.slots());
 }
 
-/// The lines of the map of objects, which are objects, where they are laid out.
+/// The own map of resolved objects has a text: they are objects, whose own map is of the definitions that have a line, in
+/// order.
 pub fn show_spellings(
     placement: &Placement<'_>,
     loaded: &Loaded<'_>,
     slots: &Slots<'_>,
-    listed: &[Definition<'_>],
-    table: Option<SymbolTable>,
+    resolved: &Resolved<'_>,
+    linkers: &[(&[u8], Bound)],
 )
     requires same { placement.now ≡ record { base = loaded.now.plan.base; objects = loaded.now.objects } }
     requires slots { slots.now ≡ own_table placement.now.objects }
     requires kinds { AreLawfulKinds placement.now.objects }
-    requires fits { IsNotTooLarge placement.now.base placement.now.objects }
-    requires inside { All (λ m. LiesWithin (own_in_load_order placement.now.base placement.now.objects) (meaning_view m)) listed.now }
-    requires table { HasTable loaded.now.objects (own_end loaded.now.plan.base loaded.now.objects) (meaning_views listed.now) loaded.now.plan.strip table }
+    requires room { HasRoom loaded.now.plan loaded.now.objects }
+    requires resolved { resolved.now ≡ loaded.now.objects }
+    requires linkers { AreLinkerLines loaded.now.objects (line_views linkers.now) }
     ensures objects { AreObjects loaded.now.objects }
-    ensures spelled { Fits (own_record placement.now loaded.now.plan.strip (meaning_views listed.now)) }
+    ensures spelled { HasSpelledMap loaded.now.plan loaded.now.objects }
 {
     let objects = loaded.objects();
+    let _definitions = resolved.definitions();
+    show_count(objects);
+    show_contents(objects);
     show_objects(objects);
     show_drops(objects);
     show_places(placement, objects);
-    show_commons(placement, listed);
+    show_blocks(placement, resolved.blocks());
+    show_linkers(placement, linkers);
     show_got(placement, slots);
     show_slots(placement, slots);
-    show_symbols(placement, listed);
-    show_symtab(table);
 }

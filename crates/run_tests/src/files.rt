@@ -1,6 +1,6 @@
-//! The files that a run opens, in order, and what comes of files that answer in another way than a disk mostly does.
+//! The files that a run opens, in order, and what comes of input that answers in another way than a disk mostly does.
 use crate::machine::StoredFile;
-use crate::runs::{Outcome, run_line};
+use crate::runs::{Outcome, run_line, spelled};
 use link_samples::objects::{Relocation, relocatable};
 use link_samples::parts::{NO_F, R_PC32, START, TEXT};
 use link_samples::vectors::{MAP, OBJECT, image};
@@ -78,68 +78,68 @@ fn outcome(alloc: Global, line: &str) -> Result<Outcome, Fail> {
     run_line(alloc, &stored, line)
 }
 
-/// Lines, and all that comes of a run but the bytes of files.
-static ROWS: [(&str, &str); 34] = [
+/// Lines, and all that comes of a run but the bytes of files. The name of a new file begins with `NEW`.
+static ROWS: [(&str, &str); 30] = [
     // A link writes the image and then the map, and nothing else.
     (
         "-s a.o",
-        "read a.o\nwrite a.out\nmode 100755\nout: \nerr: \nstatus 0",
+        "stat a.out\nread a.o\nstat a.out\nnew NEW0\nmode 100755\nrename NEW0 to a.out\nout: \nerr: \nstatus 0",
     ),
     (
         "-s a.o -Map=start.map -o start",
-        "read a.o\nwrite start\nmode 100755\nwrite start.map\nout: \nerr: \nstatus 0",
+        "stat start\nstat start.map\nread a.o\nstat start\nnew NEW0\nmode 100755\nstat start.map\nnew NEW0\nnew NEW1\nrename NEW0 to start\nrename NEW1 to start.map\nout: \nerr: \nstatus 0",
     ),
     // Each candidate is read once, in order, wherever it stands in the line; one that isn't there is left out.
     (
         "-s a.o -Lnone -lx -L libs libs/libx.a",
-        "read a.o\nread none/libx.a\nread libs/libx.a\nwrite a.out\nmode 100755\nout: \nerr: \nstatus 0",
+        "stat a.out\nread a.o\nread none/libx.a\nread libs/libx.a\nstat a.out\nnew NEW0\nmode 100755\nrename NEW0 to a.out\nout: \nerr: \nstatus 0",
     ),
     (
         "a.o a.o",
-        "read a.o\nout: \nerr: ld: Duplicate (9): _start\n\nstatus 1",
+        "stat a.out\nread a.o\nout: \nerr: ld: Duplicate (9): _start\n\nstatus 1",
     ),
     (
         "gone.o a.o",
-        "read gone.o\nread a.o\nout: \nerr: ld: FileMissing (3)\n\nstatus 3",
+        "stat a.out\nread gone.o\nread a.o\nout: \nerr: ld: FileMissing (3)\n\nstatus 3",
     ),
     // A file that may not be read doesn't count as missing, and none is read after it.
     (
         "-s a.o -Llocked -lx -Llibs",
-        "read a.o\nread locked/libx.a\nout: \nerr: ld: cannot read locked/libx.a\n\nstatus 3",
+        "stat a.out\nread a.o\nread locked/libx.a\nout: \nerr: ld: cannot read locked/libx.a\n\nstatus 3",
     ),
     (
         "gone.o locked.o a.o",
-        "read gone.o\nread locked.o\nout: \nerr: ld: cannot read locked.o\n\nstatus 3",
+        "stat a.out\nread gone.o\nread locked.o\nout: \nerr: ld: cannot read locked.o\n\nstatus 3",
     ),
     (
         "folder.o",
-        "read folder.o\nout: \nerr: ld: cannot read folder.o\n\nstatus 3",
+        "stat a.out\nread folder.o\nout: \nerr: ld: cannot read folder.o\n\nstatus 3",
     ),
     (
         "torn.o",
-        "read torn.o\nout: \nerr: ld: cannot read torn.o\n\nstatus 3",
+        "stat a.out\nread torn.o\nout: \nerr: ld: cannot read torn.o\n\nstatus 3",
     ),
     (
         "lost.o",
-        "read lost.o\nout: \nerr: ld: cannot read lost.o\n\nstatus 3",
+        "stat a.out\nread lost.o\nout: \nerr: ld: cannot read lost.o\n\nstatus 3",
     ),
     // Nor does an empty one.
     (
         "empty.o",
-        "read empty.o\nout: \nerr: ld: BadObject (4): Truncated (2)\n\nstatus 1",
+        "stat a.out\nread empty.o\nout: \nerr: ld: BadObject (4): Truncated (2)\n\nstatus 1",
     ),
     // Want of memory is told as such.
     (
         "gone.o poor.o",
-        "read gone.o\nread poor.o\nout: \nerr: ld: Memory (1)\n\nstatus 4",
+        "stat a.out\nread gone.o\nread poor.o\nout: \nerr: ld: Memory (1)\n\nstatus 4",
     ),
     (
         "drained.o",
-        "read drained.o\nout: \nerr: ld: Memory (1)\n\nstatus 4",
+        "stat a.out\nread drained.o\nout: \nerr: ld: Memory (1)\n\nstatus 4",
     ),
     (
         "huge.o",
-        "read huge.o\nout: \nerr: ld: Memory (1)\n\nstatus 4",
+        "stat a.out\nread huge.o\nout: \nerr: ld: Memory (1)\n\nstatus 4",
     ),
     // Refused words open nothing, a refused link writes nothing.
     (
@@ -152,28 +152,11 @@ static ROWS: [(&str, &str); 34] = [
     ),
     (
         "a.o -e x -Map=start.map",
-        "read a.o\nout: \nerr: ld: NoEntry (18)\n\nstatus 1",
+        "stat a.out\nstat start.map\nread a.o\nout: \nerr: ld: NoEntry (18)\n\nstatus 1",
     ),
     (
         "caller.o",
-        "read caller.o\nout: \nerr: ld: Undefined (10): f\n\nstatus 1",
-    ),
-    // A file that can't be made or written to the end is told, and none is written after it.
-    (
-        "-s a.o -o locked.o -Map=start.map",
-        "read a.o\nwrite locked.o\nout: \nerr: ld: cannot write locked.o\n\nstatus 3",
-    ),
-    (
-        "-s a.o -o torn.o -Map=start.map",
-        "read a.o\nwrite torn.o\nout: \nerr: ld: cannot write torn.o\n\nstatus 3",
-    ),
-    (
-        "-s a.o -Map=locked.o",
-        "read a.o\nwrite a.out\nmode 100755\nwrite locked.o\nout: \nerr: ld: cannot write locked.o\n\nstatus 3",
-    ),
-    (
-        "-s a.o -Map=torn.o",
-        "read a.o\nwrite a.out\nmode 100755\nwrite torn.o\nout: \nerr: ld: cannot write torn.o\n\nstatus 3",
+        "stat a.out\nread caller.o\nout: \nerr: ld: Undefined (10): f\n\nstatus 1",
     ),
     // A check reads the image and then the map, and writes nothing.
     (
@@ -230,7 +213,7 @@ static ROWS: [(&str, &str); 34] = [
 fn files_are_opened_in_order_and_faults_are_told(rt: HostRuntime) -> Result<(), Fail> {
     for (line, wanted) in &ROWS {
         let told = outcome(rt.alloc(), line)?.told;
-        assert_eq!(rt; told.as_str(), *wanted);
+        assert_eq!(rt; told, spelled(rt.alloc(), wanted)?);
     }
     Ok(())
 }

@@ -1,6 +1,6 @@
-//! A system in memory that the program runs on: files by their paths, the words of the command line, and a journal of
-//! what is opened and written, in order.
-ghost use Rattle.std.specs.Prelude.{IsErr};
+//! A system in memory that the program runs on: files by their paths, the words of the command
+//! line, and a journal of what is asked for, opened, made, named and removed, in order.
+ghost use Rattle.std.specs.Prelude.{◌≤◌, IfOk, IsErr, length};
 
 use elf_model::InputFile;
 use std::alloc::{Allocator, Global};
@@ -13,14 +13,30 @@ use std::os::unix::fs::PermissionsExt;
 use std::random::RandomSource;
 use std::rt::{Env, Files};
 
+/// What is at a path.
+#[derive(Clone, Copy)]
+pub enum Kind {
+    /// A regular file.
+    Regular,
+    /// A folder.
+    Folder,
+    /// A device, which is no regular file and takes what is written.
+    Device,
+    /// A link to an open file that is regular, as the system has in `/dev`.
+    Link,
+    /// A link to a file that isn't open any more.
+    Dangling,
+}
+
 /// A file that is there before a run, and how it answers.
 #[derive(Clone, Copy)]
 pub struct StoredFile<'a> {
     pub path: &'a str,
     pub bytes: &'a [u8],
+    pub kind: Kind,
     /// The length that its metadata tell.
     pub told: u64,
-    /// How many bytes a read gives at most, one at least.
+    /// How many bytes a read gives at most, and a write takes, one at least.
     pub step: usize,
     /// Why it can be neither opened nor made.
     pub locked: Option<ErrorKind>,
@@ -34,6 +50,7 @@ impl<'a> StoredFile<'a> {
         StoredFile {
             path,
             bytes,
+            kind: Kind::Regular,
             told: bytes.len() as u64,
             step: usize::MAX,
             locked: None,
@@ -60,29 +77,72 @@ impl<'a> StoredFile<'a> {
     }
 }
 
+/// How files answer that a run makes where there were none.
+#[derive(Clone, Copy)]
+pub struct NewFiles {
+    /// How many bytes a write takes at most, one at least.
+    pub step: usize,
+    /// The place from which on they can't be written, and why.
+    pub torn: Option<(usize, ErrorKind)>,
+    /// Why none is made.
+    pub locked: Option<ErrorKind>,
+    /// Why none is passed over in.
+    pub rigid: Option<ErrorKind>,
+    /// Why the length of none is set.
+    pub fixed: Option<ErrorKind>,
+    /// The number in the name of one that gets no other name, and why.
+    pub bound: Option<(usize, ErrorKind)>,
+}
+
+/// Files with nothing wrong.
+pub const SOUND: NewFiles = NewFiles {
+    step: usize::MAX,
+    torn: None,
+    locked: None,
+    rigid: None,
+    fixed: None,
+    bound: None,
+};
+
+/// Fails where there is a reason.
+fn unless(why: Option<ErrorKind>) -> io::Result<()> {
+    match why {
+        Some(why) => Err(io::Error::from(why)),
+        None => Ok(()),
+    }
+}
+
 /// The files of a system.
 #[derive(Drop)]
 pub struct Disk<'a> {
     alloc: Global,
     stored: &'a [StoredFile<'a>],
+    new_files: NewFiles,
     made: RefCell<Vec<InputFile>>,
+    passed: RefCell<u64>,
     journal: RefCell<String>,
 }
 
 impl<'a> Disk<'a> {
     /// A disk with files, and nothing made yet.
-    pub fn new(alloc: Global, stored: &'a [StoredFile<'a>]) -> Disk<'a> {
+    pub fn new(alloc: Global, stored: &'a [StoredFile<'a>], new_files: NewFiles) -> Disk<'a> {
         Disk {
             alloc,
             stored,
+            new_files,
             made: RefCell::new(Vec::new(alloc)),
+            passed: RefCell::new(0),
             journal: RefCell::new(String::new(alloc)),
         }
     }
 
-    /// The files that were made, and the journal.
-    pub fn into_parts(self) -> (Vec<InputFile>, String) {
-        (self.made.into_inner(), self.journal.into_inner())
+    /// The files that were made, how many bytes were passed over in them, and the journal.
+    pub fn into_parts(self) -> (Vec<InputFile>, u64, String) {
+        (
+            self.made.into_inner(),
+            self.passed.into_inner(),
+            self.journal.into_inner(),
+        )
     }
 
     /// Adds a line to the journal.
@@ -116,10 +176,34 @@ impl<'a> Disk<'a> {
         found.ok_or(io::Error::from(ErrorKind::NotFound))
     }
 
-    /// Makes a file, and answers its number.
+    /// Opens what is at a path to write it, or makes it, and answers its number.
     fn make(&self, path: &str) -> io::Result<usize> {
         self.note("write", path)?;
-        self.find(path)?;
+        match self.find(path)?.map(|file| file.kind) {
+            Some(Kind::Folder) => Err(io::Error::from(ErrorKind::IsADirectory)),
+            Some(Kind::Dangling) => Err(io::Error::from(ErrorKind::NotFound)),
+            _ => self.add(path),
+        }
+    }
+
+    /// Makes a file where there is none, and answers its number.
+    fn make_new(&self, path: &str) -> io::Result<usize> {
+        self.note("new", path)?;
+        if self.find(path)?.is_some() || self.is_made(path)? {
+            return Err(io::Error::from(ErrorKind::AlreadyExists));
+        }
+        unless(self.new_files.locked)?;
+        self.add(path)
+    }
+
+    /// Whether a file was made at a path.
+    fn is_made(&self, path: &str) -> io::Result<bool> {
+        let made = self.made.try_borrow()?;
+        Ok(made.iter().any(|file| file.name.as_str() == path))
+    }
+
+    /// Adds an empty file to those that were made.
+    fn add(&self, path: &str) -> io::Result<usize> {
         let mut made = self.made.try_borrow_mut()?;
         let number = made.len();
         made.push(InputFile {
@@ -129,24 +213,105 @@ impl<'a> Disk<'a> {
         Ok(number)
     }
 
-    /// Puts bytes at the end of a file that was made.
-    fn extend(&self, number: usize, bytes: &[u8]) -> io::Result<()> {
+    /// How many bytes a write takes of some that come at a place of a file.
+    fn room(&self, path: &str, place: usize, count: usize) -> io::Result<usize> {
+        let (step, torn) = match self.find(path)? {
+            Some(file) => (file.step, file.torn),
+            None => (self.new_files.step, self.new_files.torn),
+        };
+        let count = count.min(step);
+        match torn {
+            Some((torn, why)) if place.saturating_add(count) >= torn => Err(io::Error::from(why)),
+            _ => Ok(count),
+        }
+    }
+
+    /// Puts the first of some bytes into a file that was made, from a place on, behind zeros where
+    /// it hasn't got there, and answers how many.
+    fn put(&self, number: usize, place: usize, bytes: &[u8]) -> io::Result<usize>
+        ensures { IfOk result (λ n. n ≤ length bytes.now) }
+    {
         let mut made = self.made.try_borrow_mut()?;
         let Some(file) = made.get_mut(number) else {
             return Err(io::Error::from(ErrorKind::NotFound));
         };
-        if let Some(stored) = self.find(&file.name)? {
-            stored.whole_until(file.bytes.len().saturating_add(bytes.len()))?;
+        let room = self.room(&file.name, place, bytes.len())?;
+        let count = room.min(bytes.len());
+        file.bytes.resize(place, 0)?;
+        let (part, _) = bytes.split_at(count);
+        file.bytes.extend_from_slice(part)?;
+        Ok(count)
+    }
+
+    /// Counts bytes that are passed over.
+    fn pass(&self, count: u64) -> io::Result<()> {
+        unless(self.new_files.rigid)?;
+        let mut passed = self.passed.try_borrow_mut()?;
+        *passed = passed.saturating_add(count);
+        Ok(())
+    }
+
+    /// Makes a file that was made as long as is told.
+    fn set_length(&self, number: usize, size: u64) -> io::Result<()> {
+        let line = format!(in self.alloc; "{size}")?;
+        self.note("length", &line)?;
+        unless(self.new_files.fixed)?;
+        let mut made = self.made.try_borrow_mut()?;
+        match made.get_mut(number) {
+            Some(file) => Ok(file.bytes.resize(size as usize, 0)?),
+            None => Err(io::Error::from(ErrorKind::NotFound)),
         }
-        Ok(file.bytes.extend_from_slice(bytes)?)
+    }
+
+    /// Takes a file that was made away.
+    fn take(&self, path: &str) -> io::Result<InputFile> {
+        let mut made = self.made.try_borrow_mut()?;
+        match made.iter().position(|file| file.name.as_str() == path) {
+            Some(number) => Ok(made.remove(number)),
+            None => Err(io::Error::from(ErrorKind::NotFound)),
+        }
+    }
+
+    /// Gives a file that was made another path, in place of what was made there.
+    fn name(&self, from: &str, to: &str) -> io::Result<()> {
+        let line = format!(in self.alloc; "{from} to {to}")?;
+        self.note("rename", &line)?;
+        if let Some((number, why)) = self.new_files.bound {
+            let name = format!(in self.alloc; ".ld-{number}")?;
+            if name.as_str() == from {
+                return Err(io::Error::from(why));
+            }
+        }
+        let file = self.take(from)?;
+        let _ = self.take(to);
+        let mut made = self.made.try_borrow_mut()?;
+        Ok(made.push(InputFile {
+            name: String::from_str(self.alloc, to)?,
+            bytes: file.bytes,
+        })?)
+    }
+
+    /// What there is at a path, where a link leads to its file.
+    fn look(&self, path: &str) -> io::Result<Metadata> {
+        self.note("stat", path)?;
+        let Some(file) = self.stored.iter().find(|file| file.path == path) else {
+            return Err(io::Error::from(ErrorKind::NotFound));
+        };
+        match file.kind {
+            Kind::Regular | Kind::Link => Ok(Metadata::of_file(file.told)),
+            Kind::Folder => Ok(Metadata::of_dir()),
+            // No metadata of a device can be made; these are of no regular file either.
+            Kind::Device => Ok(Metadata::of_symlink(0)),
+            Kind::Dangling => Err(io::Error::from(ErrorKind::NotFound)),
+        }
     }
 }
 
-/// An open file: one that is read, and the place where it is, or one that was made, by its number.
+/// An open file: one that is read, or one that was made, by its number, and the place where it is.
 #[derive(Clone, Copy)]
 enum Handle<'a> {
     Read(&'a StoredFile<'a>, usize),
-    Made(usize),
+    Made(usize, usize),
 }
 
 /// An open file of a disk.
@@ -173,9 +338,10 @@ impl Write for OpenedFile<'_> {
     fn write(&mut self, buf: &[u8]) -> io::Result<usize> {
         match self.handle {
             Handle::Read(file, _) => self.disk.refuse("write", file.path),
-            Handle::Made(number) => {
-                self.disk.extend(number, buf)?;
-                Ok(buf.len())
+            Handle::Made(number, place) => {
+                let count = self.disk.put(number, place, buf)?;
+                self.handle = Handle::Made(number, place.saturating_add(count));
+                Ok(count)
             }
         }
     }
@@ -186,8 +352,20 @@ impl Write for OpenedFile<'_> {
 }
 
 impl Seek for OpenedFile<'_> {
-    fn seek(&mut self, _to: SeekFrom) -> io::Result<u64> {
-        self.disk.refuse("seek", "")
+    fn seek(&mut self, to: SeekFrom) -> io::Result<u64> {
+        let Handle::Made(number, place) = self.handle else {
+            return self.disk.refuse("seek", "");
+        };
+        let SeekFrom::Current(count) = to else {
+            return self.disk.refuse("seek", "");
+        };
+        let Ok(count) = u64::try_from(count) else {
+            return self.disk.refuse("seek", "");
+        };
+        self.disk.pass(count)?;
+        let place = place.saturating_add(count as usize);
+        self.handle = Handle::Made(number, place);
+        Ok(place as u64)
     }
 }
 
@@ -195,12 +373,15 @@ impl OpenFile for OpenedFile<'_> {
     fn metadata(&self) -> io::Result<Metadata> {
         match self.handle {
             Handle::Read(file, _) => Ok(Metadata::of_file(file.told)),
-            Handle::Made(_) => Ok(Metadata::of_file(0)),
+            Handle::Made(_, _) => Ok(Metadata::of_file(0)),
         }
     }
 
-    fn set_len(&self, _size: u64) -> io::Result<()> {
-        self.disk.refuse("set the length", "")
+    fn set_len(&self, size: u64) -> io::Result<()> {
+        match self.handle {
+            Handle::Read(file, _) => self.disk.refuse("length", file.path),
+            Handle::Made(number, _) => self.disk.set_length(number, size),
+        }
     }
 
     fn sync_all(&self) -> io::Result<()> {
@@ -217,8 +398,8 @@ impl OpenFile for OpenedFile<'_> {
     }
 }
 
-/// The system that a run has: a disk, and the words of the command line, the program's name among them. It has no
-/// random bytes.
+/// The system that a run has: a disk, and the words of the command line, the program's name among
+/// them. It has no random bytes.
 #[derive(Clone, Copy)]
 pub struct Machine<'a> {
     pub disk: &'a Disk<'a>,
@@ -263,8 +444,10 @@ impl<'a> Files for Machine<'a> {
 
     fn open_file(&self, how: &OpenOptions, path: &str) -> io::Result<OpenedFile<'a>> {
         how.check()?;
-        let handle = if how.asks_write() {
-            Handle::Made(self.disk.make(path)?)
+        let handle = if how.asks_create_new() {
+            Handle::Made(self.disk.make_new(path)?, 0)
+        } else if how.asks_write() {
+            Handle::Made(self.disk.make(path)?, 0)
         } else {
             Handle::Read(self.disk.open(path)?, 0)
         };
@@ -279,23 +462,31 @@ impl<'a> Files for Machine<'a> {
     }
 
     fn metadata(&self, path: &str) -> io::Result<Metadata> {
-        self.disk.refuse("ask for", path)
+        self.disk.look(path)
     }
 
     fn symlink_metadata(&self, path: &str) -> io::Result<Metadata> {
-        self.disk.refuse("ask for", path)
+        self.disk.note("link", path)?;
+        let found = self.disk.stored.iter().find(|file| file.path == path);
+        match found.map(|file| file.kind) {
+            Some(Kind::Link | Kind::Dangling) => Ok(Metadata::of_symlink(0)),
+            Some(_) => Ok(Metadata::of_file(0)),
+            None => Err(io::Error::from(ErrorKind::NotFound)),
+        }
     }
 
     fn copy(&self, _from: &str, to: &str) -> io::Result<u64> {
         self.disk.refuse("copy to", to)
     }
 
-    fn rename(&self, from: &str, _to: &str) -> io::Result<()> {
-        self.disk.refuse("rename", from)
+    fn rename(&self, from: &str, to: &str) -> io::Result<()> {
+        self.disk.name(from, to)
     }
 
     fn remove_file(&self, path: &str) -> io::Result<()> {
-        self.disk.refuse("remove", path)
+        self.disk.note("remove", path)?;
+        self.disk.take(path)?;
+        Ok(())
     }
 
     fn create_dir(&self, path: &str) -> io::Result<()> {

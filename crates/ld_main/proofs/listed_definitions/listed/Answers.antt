@@ -13,5 +13,5 @@ returns c =
     let none = ap (λ (ms : List code.Definition). meaning_views ms ++ symbols) c.in_ok-listed.ensures.items in
     let joined =
     c.in_ok-add_linkers.ensures ∙ ap (λ (ms : List Meaning). ms ++ line_views c.args.linkers.now) (c.in_ok-add_symbols.ensures ∙ none) in
-    is_listing c.args.resolved.now found (line_views c.args.linkers.now) c.add_linkers.new.listed.items c.in_ok-sorted.sorted.items
-    c.definitions-symbols.ensures c.requires joined c.in_ok-sorted.ensures.same c.in_ok-sorted.ensures.rising
+    is_listing c.args.resolved.now found (line_views c.args.linkers.now) c.add_linkers.new.listed.items c.by_name.result.items
+    c.definitions-symbols.ensures c.requires joined c.by_name.ensures.same c.by_name.ensures.rising

@@ -1,0 +1,12 @@
+use Rattle.std.proofs.Common.{drop}
+use Rattle.std.specs.Prelude.{All}
+use Rattle.elf_model.specs.Commons.{Block}
+use Rattle.elf_model.specs.Meaning.{Common}
+use Rattle.resolve.specs.Blocks.{block_views}
+use Rattle.ld_main.specs.Spelled.{FitsLines}
+use Rattle.ld_main.proofs.spelled_lines.show_blocks.Given as goal
+
+abbrev pub invariant-loop-block : goal.invariant-loop-block
+invariant-loop-block l =
+    All (λ (b : Block). FitsLines l.placement (Common b)) (block_views (drop l.block-index l.blocks))
+    → All (λ (b : Block). FitsLines l.placement (Common b)) (block_views l.blocks)

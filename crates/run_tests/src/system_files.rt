@@ -1,0 +1,160 @@
+//! The program on the files of the system: which are replaced, which are written as they are, and
+//! which are refused.
+use ld_main::run_ld;
+use link_samples::objects::{Section, relocatable};
+use link_samples::one_object::words_of;
+use link_samples::parts::{DATA, START, TEXT};
+use link_samples::vectors::{OBJECT, image};
+use std::fs;
+use std::fs::Permissions;
+use std::os::unix::fs::{FileTypeExt, MetadataExt, PermissionsExt, symlink};
+use std::random::RandomSource;
+use std::rt::Files;
+use std::test::Fail;
+
+/// The status of a run with the words of a line, and what is on standard error.
+fn run<R: Files + AllocGlobal + RandomSource>(rt: &R, line: &str) -> Result<(u8, String), Fail> {
+    let words = words_of(rt.alloc(), line)?;
+    let mut out = Vec::new(rt.alloc());
+    let mut err = Vec::new(rt.alloc());
+    let status = run_ld(rt, &words, &mut out, &mut err);
+    Ok((status, String::from_utf8(err)?))
+}
+
+/// Makes a folder with an object.
+fn prepare<R: Files + AllocGlobal>(rt: &R, folder: &str, object: &[u8]) -> Result<(), Fail> {
+    let _ = fs::remove_dir_all(rt, folder);
+    fs::create_dir(rt, folder)?;
+    let path = format!(in rt.alloc(); "{folder}/a.o")?;
+    fs::write(rt, &path, object)?;
+    Ok(())
+}
+
+/// Whether a file holds so many bytes, and these.
+fn holds<R: Files + AllocGlobal>(rt: &R, path: &str, bytes: &[u8]) -> Result<bool, Fail> {
+    Ok(fs::read(rt, path)?.as_slice() == bytes)
+}
+
+/// Lines by which an input would be written: by its own name, by another spelling of its path, by a
+/// second link, by a symbolic link; as the image and as the map.
+static INPUTS: [(&str, &str); 6] = [
+    ("in_files/a.o -o in_files/a.o", "in_files/a.o"),
+    ("in_files/a.o -o ./in_files/a.o", "./in_files/a.o"),
+    ("in_files/a.o -o in_files/second.o", "in_files/second.o"),
+    ("in_files/second.o -o in_files/a.o", "in_files/a.o"),
+    ("in_files/a.o -o in_files/symbolic.o", "in_files/symbolic.o"),
+    (
+        "in_files/a.o -o in_files/start -Map=in_files/second.o",
+        "in_files/second.o",
+    ),
+];
+
+#[test]
+fn an_input_is_no_output(rt: HostRuntime) -> Result<(), Fail> {
+    prepare(&rt, "in_files", &OBJECT)?;
+    fs::hard_link(&rt, "in_files/a.o", "in_files/second.o")?;
+    symlink(&rt, "a.o", "in_files/symbolic.o")?;
+    for (line, path) in &INPUTS {
+        let (status, err) = run(&rt, line)?;
+        assert_eq!(rt; status, 3, "{line}");
+        assert_eq!(rt; err, format!(in rt.alloc(); "ld: cannot write {path}\n")?);
+    }
+    assert!(rt; holds(&rt, "in_files/a.o", &OBJECT)?);
+    assert!(rt; !fs::exists(&rt, "in_files/start")?);
+    fs::remove_dir_all(&rt, "in_files")?;
+    Ok(())
+}
+
+#[test]
+fn an_old_output_is_replaced(rt: HostRuntime) -> Result<(), Fail> {
+    prepare(&rt, "out_files", &OBJECT)?;
+    let image = image(rt.alloc())?;
+    fs::write(&rt, "out_files/start", b"old".as_slice())?;
+    fs::set_permissions(&rt, "out_files/start", Permissions::from_mode(0o444))?;
+    fs::hard_link(&rt, "out_files/start", "out_files/kept")?;
+    symlink(&rt, "kept", "out_files/link")?;
+    symlink(&rt, "gone", "out_files/nowhere")?;
+    for path in &["start", "link", "nowhere"] {
+        let line = format!(in rt.alloc();
+            "-s out_files/a.o -o out_files/{path} -Map=out_files/{path}.map"
+        )?;
+        let (status, err) = run(&rt, &line)?;
+        assert_eq!(rt; status, 0, "{err}");
+        let path = format!(in rt.alloc(); "out_files/{path}")?;
+        assert!(rt; holds(&rt, &path, &image)?, "{path}");
+        assert!(rt; fs::symlink_metadata(&rt, &path)?.is_file(), "{path}");
+        let mode = fs::metadata(&rt, &path)?.mode();
+        let map = format!(in rt.alloc(); "{path}.map")?;
+        let plain = fs::metadata(&rt, &map)?.mode();
+        assert_eq!(rt; mode, plain | (plain & 0o444) >> 2, "{path}");
+    }
+    assert!(rt; holds(&rt, "out_files/kept", b"old")?);
+    assert!(rt; !fs::exists(&rt, "out_files/gone")?);
+    let mut count = 0u32;
+    for _entry in fs::read_dir(&rt, "out_files")? {
+        count = count.saturating_add(1);
+    }
+    assert_eq!(rt; count, 8);
+    fs::remove_dir_all(&rt, "out_files")?;
+    Ok(())
+}
+
+/// Lines whose output is a device, a folder or nowhere; what becomes of them.
+static DEVICES: [(&str, u8, &str); 6] = [
+    ("-s dev_files/a.o -o /dev/null", 0, ""),
+    ("-s dev_files/a.o -o dev_files/start -Map=/dev/null", 0, ""),
+    (
+        "-s dev_files/a.o -o /dev/full",
+        3,
+        "ld: cannot write /dev/full\n",
+    ),
+    (
+        "-s dev_files/a.o -o dev_files/start -Map=/dev/full",
+        3,
+        "ld: cannot write /dev/full\n",
+    ),
+    (
+        "-s dev_files/a.o -o dev_files",
+        3,
+        "ld: cannot write dev_files\n",
+    ),
+    (
+        "-s dev_files/a.o -o dev_files/start -Map=dev_files/no/m.map",
+        3,
+        "ld: cannot write dev_files/no/m.map\n",
+    ),
+];
+
+#[test]
+fn a_device_stays_one(rt: HostRuntime) -> Result<(), Fail> {
+    prepare(&rt, "dev_files", &OBJECT)?;
+    let before = fs::metadata(&rt, "/dev/null")?;
+    for (line, wanted, told) in &DEVICES {
+        let (status, err) = run(&rt, line)?;
+        assert_eq!(rt; status, *wanted, "{line}");
+        assert_eq!(rt; err.as_str(), *told);
+    }
+    let after = fs::metadata(&rt, "/dev/null")?;
+    assert!(rt; after.file_type().is_char_device());
+    assert_eq!(rt; after.mode(), before.mode());
+    fs::remove_dir_all(&rt, "dev_files")?;
+    Ok(())
+}
+
+#[test]
+fn pages_of_zeros_take_no_room(rt: HostRuntime) -> Result<(), Fail> {
+    let data = Section {
+        sh_addralign: 1 << 21,
+        bytes: &[1; 8],
+        ..DATA
+    };
+    let far = relocatable(rt.alloc(), &[TEXT, data], &[START], &[])?;
+    prepare(&rt, "far_files", &far)?;
+    let (status, _) = run(&rt, "-s far_files/a.o -o far_files/start")?;
+    assert_eq!(rt; status, 0);
+    let metadata = fs::metadata(&rt, "far_files/start")?;
+    assert_eq!(rt; metadata.len(), 0x20_0008);
+    assert!(rt; metadata.blocks() < 256);
+    fs::remove_dir_all(&rt, "far_files")?;
+    Ok(())
+}
