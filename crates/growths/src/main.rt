@@ -1,5 +1,5 @@
 //! Runs each public call of a link, one after the other, and prints what it answers. Where a call answers Memory, it says
-//! so, and calls again: the answer must then be the one that would have come. `tools/growths_of_calls.sh` refuses one growth
+//! so, and calls again: the answer must then be the one that would have come. `tools/growths_of_calls.py` refuses one growth
 //! after the other, and compares what is printed.
 //!
 //! usage: growths IMAGE MAP WORDS; the words are those of a link, each of whose files stands among them by its name. The

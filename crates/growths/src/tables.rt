@@ -3,7 +3,7 @@ use crate::refusals::{Run, answered};
 use byteview::View;
 use comdat::{Dropped, Groups};
 use elf_model::{InputFile, NameSeed};
-use elf_read::Object;
+use elf_read::ObjectFile;
 use symbols::{Candidate, CandidateKind, IndexedTable, ListTable, NameTable, ObjectId, SymbolRef};
 
 /// Names of one byte each.
@@ -84,8 +84,8 @@ fn offer_all<'a, T: NameTable<'a>, S: NameTable<'a>>(
 fn admitted<'a>(run: &Run<'_>, groups: &mut Groups<'a>, file: &'a InputFile) -> Option<Dropped> {
     let object = answered!(
         run,
-        "Object::read",
-        Object::read(run.alloc(), View::new(&file.bytes))
+        "ObjectFile::read",
+        ObjectFile::read(run.alloc(), View::new(&file.bytes))
     )?;
     answered!(run, "admit", groups.admit(&object))
 }

@@ -1,5 +1,7 @@
 //! What names and symbols mean.
-use crate::objects::{DATA, F_NAME, G_NAME, START_NAME, SYMBOLS, TEXT, load_both, object_with};
+use crate::objects::{
+    DATA, F_NAME, G_NAME, START_NAME, SYMBOLS, TEXT, load_files, object_with, two_files,
+};
 use elf_model::{
     ObjectId, SHF_ALLOC, SHF_TLS, SHF_WRITE, SHN_COMMON, SectionHeader, Symbol, SymbolRef, Target,
 };
@@ -60,10 +62,11 @@ fn meant_numbers(meaning: Option<Definition<'_>>) -> Option<(u64, u64)> {
     }
 }
 
+/// Asserts that the chosen definitions are `g` of the first object and `f` of the second.
 fn assert_names(rt: &impl Abort, definitions: &[SymbolOf<'_>]) {
     assert_eq!(rt; definitions.len(), 2);
-    assert!(rt; definitions[0].name == b"f".as_slice());
-    assert!(rt; definitions[1].name == b"g".as_slice());
+    assert!(rt; definitions[0].name == b"g".as_slice());
+    assert!(rt; definitions[1].name == b"f".as_slice());
 }
 
 /// The name that a reference to a symbol is to; None where it is to the symbol itself.
@@ -122,7 +125,8 @@ fn references_mean_strong_definitions(rt: HostRuntime) -> Result<(), Fail> {
     let alloc = rt.alloc();
     let a = object_of(alloc, &[global(G_NAME, 2), global(F_NAME, 0)])?;
     let b = object_of(alloc, &[local(2), global(F_NAME, 2)])?;
-    let loaded = load_both(alloc, &a, &b)?;
+    let files = two_files(alloc, &a, &b)?;
+    let loaded = load_files(alloc, &files)?;
     let resolved = resolve(alloc, &loaded)?;
     let f = numbers(resolved.symbol(b"f"));
     assert!(rt; f == Some((1, 2)) && resolved.symbol(b"h").is_none());
@@ -146,7 +150,8 @@ fn names_mean_weak_definitions_where_none_is_strong(rt: HostRuntime) -> Result<(
     let alloc = rt.alloc();
     let a = object_of(alloc, &[weak(G_NAME, 2), weak(F_NAME, 2)])?;
     let b = object_of(alloc, &[weak(G_NAME, 2), global(F_NAME, 2)])?;
-    let loaded = load_both(alloc, &a, &b)?;
+    let files = two_files(alloc, &a, &b)?;
+    let loaded = load_files(alloc, &files)?;
     let resolved = resolve(alloc, &loaded)?;
     let found = [
         numbers(resolved.symbol(b"g")),
@@ -174,7 +179,8 @@ fn the_entry_stands_outside_thread_storage(rt: HostRuntime) -> Result<(), Fail> 
     let alloc = rt.alloc();
     let a = object_of(alloc, &[global(START_NAME, 2), global(F_NAME, 0)])?;
     let b = object_of(alloc, &[global(F_NAME, 3), global(G_NAME, 0)])?;
-    let loaded = load_both(alloc, &a, &b)?;
+    let files = two_files(alloc, &a, &b)?;
+    let loaded = load_files(alloc, &files)?;
     let resolved = resolve_in(alloc, &loaded, ListTable::new(alloc))?;
     assert_entry(&rt, &resolved);
     Ok(())
@@ -184,7 +190,8 @@ fn the_entry_stands_outside_thread_storage(rt: HostRuntime) -> Result<(), Fail> 
 fn told(alloc: Global, a: &[Symbol; 2], b: &[Symbol; 2]) -> Result<String, Fail> {
     let a = object_of(alloc, a)?;
     let b = object_of(alloc, b)?;
-    let loaded = load_both(alloc, &a, &b)?;
+    let files = two_files(alloc, &a, &b)?;
+    let loaded = load_files(alloc, &files)?;
     let text = match resolve(alloc, &loaded).err() {
         Some(ResolveFault::Duplicate(name)) => format!(in alloc; "Duplicate {name:?}")?,
         Some(fault) => format!(in alloc; "{fault}")?,
@@ -270,7 +277,8 @@ fn share(
 ) -> Result<(bool, [Option<(u64, u64)>; 2]), Fail> {
     let a = object_of(alloc, &objects[0])?;
     let b = object_of(alloc, &objects[1])?;
-    let loaded = load_both(alloc, &a, &b)?;
+    let files = two_files(alloc, &a, &b)?;
+    let loaded = load_files(alloc, &files)?;
     let resolved = resolve(alloc, &loaded)?;
     let used = used.map(|symbol| meant_numbers(resolved.used(symbol)));
     Ok((are_blocks(&resolved, blocks), used))

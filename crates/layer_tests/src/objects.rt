@@ -1,18 +1,10 @@
 //! Makes objects of sections, symbols and relocations, and loads them.
-ghost use Rattle.std.specs.Prelude.{IfOk};
-ghost use Rattle.elf_model.specs.Loading.{AreObjects};
-ghost use Rattle.elf_model.specs.ObjectFile.{IsObject};
-ghost use Rattle.search.specs.Views.{loaded_views};
-
-use byteview::View;
-use comdat::Groups;
-use command::Plan;
+use command::{Item, Plan, Source};
 use elf_model::{
-    EM_X86_64, ET_REL, FileHeader, Rela, SHF_ALLOC, SHF_EXECINSTR, SHF_WRITE, SHT_NOBITS, SHT_NULL,
-    SHT_PROGBITS, SHT_RELA, SHT_STRTAB, SHT_SYMTAB, SectionHeader, Symbol,
+    EM_X86_64, ET_REL, FileHeader, InputFile, Rela, SHF_ALLOC, SHF_EXECINSTR, SHF_WRITE,
+    SHT_NOBITS, SHT_NULL, SHT_PROGBITS, SHT_RELA, SHT_STRTAB, SHT_SYMTAB, SectionHeader, Symbol,
 };
-use elf_read::Object;
-use search::{Loaded, LoadedObject};
+use search::{Loaded, load};
 use std::alloc::{AllocError, Global};
 use std::test::Fail;
 
@@ -217,26 +209,47 @@ pub fn object_of(alloc: Global, sections: &[SectionHeader]) -> Result<Vec<u8>, A
     object_with(alloc, sections, &[], &[])
 }
 
-fn load<'a>(alloc: Global, bytes: &'a [u8]) -> Result<LoadedObject<'a>, Fail>
-    ensures { IfOk result (λ l. IsObject l.object) }
-{
-    let object = Object::read(alloc, View::new(bytes))?;
-    let dropped = Groups::new(alloc).admit(&object)?;
-    Ok(LoadedObject {
-        object,
-        item: 0,
-        offset: 0,
-        path: "a.o",
-        dropped,
-    })
+/// A file of a name with these bytes.
+fn put_file(
+    alloc: Global,
+    files: &mut Vec<InputFile>,
+    name: &str,
+    bytes: &[u8],
+) -> Result<(), AllocError> {
+    files.push(InputFile {
+        name: String::from_str(alloc, name)?,
+        bytes: Vec::from_slice(alloc, bytes)?,
+    })?;
+    Ok(())
 }
 
-/// Objects as a plan without items would load them.
-fn loaded_of<'a>(alloc: Global, objects: Vec<LoadedObject<'a>>) -> Result<Loaded<'a>, Fail>
-    requires { AreObjects (loaded_views objects.items) }
-{
+/// The file `a.o`.
+pub fn one_file(alloc: Global, bytes: &[u8]) -> Result<Vec<InputFile>, AllocError> {
+    let mut files = Vec::new(alloc);
+    put_file(alloc, &mut files, "a.o", bytes)?;
+    Ok(files)
+}
+
+/// The files `a.o` and `b.o`.
+pub fn two_files(alloc: Global, a: &[u8], b: &[u8]) -> Result<Vec<InputFile>, AllocError> {
+    let mut files = one_file(alloc, a)?;
+    put_file(alloc, &mut files, "b.o", b)?;
+    Ok(files)
+}
+
+/// The objects of files, as a plan of these items loads them.
+pub fn load_files<'a>(alloc: Global, files: &'a [InputFile]) -> Result<Loaded<'a>, Fail> {
+    let mut items = Vec::new(alloc);
+    for file in files {
+        items.push(Item {
+            source: Source::Path(&file.name),
+            archive: false,
+            whole: false,
+            group: None,
+        })?;
+    }
     let plan = Plan {
-        items: Vec::new(alloc),
+        items,
         directories: Vec::new(alloc),
         undefined: Vec::new(alloc),
         entry: "_start",
@@ -246,34 +259,5 @@ fn loaded_of<'a>(alloc: Global, objects: Vec<LoadedObject<'a>>) -> Result<Loaded
         check: false,
         strip: false,
     };
-    Ok(Loaded::new(alloc, &plan, objects)?)
-}
-
-fn one_object<'a>(alloc: Global, bytes: &'a [u8]) -> Result<Vec<LoadedObject<'a>>, Fail>
-    ensures { IfOk result (λ v. AreObjects (loaded_views v.items)) }
-{
-    let object = load(alloc, bytes)?;
-    let mut objects = Vec::new(alloc);
-    objects.push(object)?;
-    Ok(objects)
-}
-
-fn two_objects<'a>(alloc: Global, a: &'a [u8], b: &'a [u8]) -> Result<Vec<LoadedObject<'a>>, Fail>
-    ensures { IfOk result (λ v. AreObjects (loaded_views v.items)) }
-{
-    let mut objects = one_object(alloc, a)?;
-    objects.push(load(alloc, b)?)?;
-    Ok(objects)
-}
-
-/// The object of a file, alone.
-pub fn load_alone<'a>(alloc: Global, bytes: &'a [u8]) -> Result<Loaded<'a>, Fail> {
-    let objects = one_object(alloc, bytes)?;
-    loaded_of(alloc, objects)
-}
-
-/// The objects of two files.
-pub fn load_both<'a>(alloc: Global, a: &'a [u8], b: &'a [u8]) -> Result<Loaded<'a>, Fail> {
-    let objects = two_objects(alloc, a, b)?;
-    loaded_of(alloc, objects)
+    Ok(load(alloc, &plan, files)?)
 }

@@ -2,8 +2,8 @@
 ghost use Rattle.elf_model.specs.Pieces.{AreLawfulKinds};
 
 use crate::objects::{
-    A_NAME, BSS, DATA, F_NAME, G_NAME, NOTES_NAME, RODATA, RODATA_B_NAME, SYMBOLS, TEXT, load_both,
-    object_of, object_with,
+    A_NAME, BSS, DATA, F_NAME, G_NAME, NOTES_NAME, RODATA, RODATA_B_NAME, SYMBOLS, TEXT,
+    load_files, object_of, object_with, two_files,
 };
 use elf_model::{
     Bound, ObjectId, PT_LOAD, ProgramHeader, SHF_ALLOC, SHF_EXECINSTR, SHF_LINK_ORDER, SHF_TLS,
@@ -62,7 +62,8 @@ fn summary_of(alloc: Global, placement: &Placement<'_>) -> Result<Summary, Alloc
 
 /// The layout of the objects of two files from 0x400000 on.
 fn lay_out(alloc: Global, a: &[u8], b: &[u8]) -> Result<Summary, Fail> {
-    let loaded = load_both(alloc, a, b)?;
+    let files = two_files(alloc, a, b)?;
+    let loaded = load_files(alloc, &files)?;
     let resolved = resolve(alloc, &loaded)?;
     let slots = slots(alloc, &loaded, &resolved)?;
     let placement = place(alloc, &loaded, &resolved, slots.got(), 0x400000)?;
@@ -73,7 +74,8 @@ fn lay_out(alloc: Global, a: &[u8], b: &[u8]) -> Result<Summary, Fail> {
 fn refusal(alloc: Global, section: SectionHeader) -> Result<Option<LayoutFault>, Fail> {
     let text = object_of(alloc, &[TEXT])?;
     let other = object_of(alloc, &[section])?;
-    let loaded = load_both(alloc, &text, &other)?;
+    let files = two_files(alloc, &text, &other)?;
+    let loaded = load_files(alloc, &files)?;
     Ok(kinds(&loaded).err())
 }
 
@@ -86,7 +88,8 @@ fn with_flags(sh_flags: u64, header: SectionHeader) -> SectionHeader {
 fn is_too_large(alloc: Global, sections: &[SectionHeader]) -> Result<bool, Fail> {
     let none = object_of(alloc, &[])?;
     let other = object_of(alloc, sections)?;
-    let loaded = load_both(alloc, &none, &other)?;
+    let files = two_files(alloc, &none, &other)?;
+    let loaded = load_files(alloc, &files)?;
     let resolved = resolve(alloc, &loaded)?;
     let slots = slots(alloc, &loaded, &resolved)?;
     let placement = place(alloc, &loaded, &resolved, slots.got(), 0x400000);
@@ -261,7 +264,8 @@ fn first_wrong_in(alloc: Global, loaded: &Loaded<'_>) -> Result<Option<usize>, F
 
 /// That of the layout of the objects of two files.
 fn first_wrong_of(alloc: Global, a: &[u8], b: &[u8]) -> Result<Option<usize>, Fail> {
-    let loaded = load_both(alloc, a, b)?;
+    let files = two_files(alloc, a, b)?;
+    let loaded = load_files(alloc, &files)?;
     first_wrong_in(alloc, &loaded)
 }
 

@@ -3,7 +3,7 @@ ghost use Rattle.std.specs.Prelude.{◌<◌};
 
 use crate::meanings::{global, local};
 use crate::objects::{
-    BSS, DATA, ENTRY, F_NAME, G_NAME, SYMBOLS, TEXT, load_alone, object_of, object_with,
+    BSS, DATA, ENTRY, F_NAME, G_NAME, SYMBOLS, TEXT, load_files, object_of, object_with, one_file,
 };
 use elf_model::{Rela, SHF_ALLOC, SHF_TLS, SHF_WRITE, SectionHeader};
 use got_tls::{TlsBlock, slots, tls_block, tp_offset};
@@ -28,7 +28,8 @@ fn block_of(
     address: u64,
 ) -> Result<Option<(u64, u64, u64, u64)>, Fail> {
     let file = object_of(alloc, sections)?;
-    let loaded = load_alone(alloc, &file)?;
+    let files = one_file(alloc, &file)?;
+    let loaded = load_files(alloc, &files)?;
     let resolved = resolve(alloc, &loaded)?;
     let slots = slots(alloc, &loaded, &resolved)?;
     let placement = place(alloc, &loaded, &resolved, slots.got(), 0x400000)?;
@@ -105,7 +106,8 @@ fn relocations_ask_for_slots(rt: HostRuntime) -> Result<(), Fail> {
         let relas = [entry(0, first), entry(4, second)];
         let symbols = [global(F_NAME, 2), global(G_NAME, 2)];
         let file = object_with(alloc, &[TEXT, SYMBOLS, entries], &symbols, &relas)?;
-        let loaded = load_alone(alloc, &file)?;
+        let files = one_file(alloc, &file)?;
+        let loaded = load_files(alloc, &files)?;
         assert!(rt;
             got_of(alloc, &loaded)? == (size, count),
             "{first} and {second}"
@@ -142,7 +144,8 @@ fn many_slots(alloc: Global) -> Result<Vec<u8>, AllocError> {
 #[test]
 fn slots_may_be_many(rt: HostRuntime) -> Result<(), Fail> {
     let file = many_slots(rt.alloc())?;
-    let loaded = load_alone(rt.alloc(), &file)?;
+    let files = one_file(rt.alloc(), &file)?;
+    let loaded = load_files(rt.alloc(), &files)?;
     assert!(rt; got_of(rt.alloc(), &loaded)? == (560_008, 70_000));
     Ok(())
 }

@@ -8,7 +8,7 @@ ghost use Rattle.elf_model.specs.Slots as wanted;
 
 use crate::objects::{
     A_NAME, BSS, DATA, ENTRY, ETEXT_NAME, F_NAME, NULL_SYMBOL, RODATA, STOP_NAME, SYMBOLS, TEXT,
-    load_alone, object_with,
+    load_files, object_with, one_file,
 };
 use elf_model::{
     Bound, ObjectId, Rela, SHF_ALLOC, SHF_WRITE, STT_SECTION, SectionHeader, SectionRef, Symbol,
@@ -89,7 +89,8 @@ fn input_of<'a>(loaded: &Loaded<'a>, number: usize) -> Option<&'a [u8]>
 
 /// The bytes that are wanted of a section of a file's object, laid out from 0x400000 on.
 fn wanted(alloc: Global, file: &[u8], number: usize) -> Result<Vec<u8>, Fail> {
-    let loaded = load_alone(alloc, file)?;
+    let files = one_file(alloc, file)?;
+    let loaded = load_files(alloc, &files)?;
     applied(alloc, &loaded, number)
 }
 
@@ -424,7 +425,8 @@ fn fields_have_their_values(rt: HostRuntime) -> Result<(), Fail> {
 fn fields_are_written_in_parts(rt: HostRuntime) -> Result<(), Fail> {
     let alloc = rt.alloc();
     let file = object_over(alloc, DATA_SYMBOL, DISTANCE, 4, ADDRESS)?;
-    let loaded = load_alone(alloc, &file)?;
+    let files = one_file(alloc, &file)?;
+    let loaded = load_files(alloc, &files)?;
     let patches = laid_out(alloc, &loaded)?;
     let input = input_of(&loaded, 2).ok_or("no section's bytes")?;
     // As above; the field has the first four of five bytes, so a cut is before it, in it, at its end or at the section's end.
@@ -445,7 +447,8 @@ fn fields_are_written_in_parts(rt: HostRuntime) -> Result<(), Fail> {
 fn linkers_names_in_use_have_lines(rt: HostRuntime) -> Result<(), Fail> {
     let alloc = rt.alloc();
     let file = object_over(alloc, TEXT_END, SHORT, 4, LONG)?;
-    let loaded = load_alone(alloc, &file)?;
+    let files = one_file(alloc, &file)?;
+    let loaded = load_files(alloc, &files)?;
     let resolved = resolve(alloc, &loaded)?;
     let lines = linker_lines(alloc, &loaded, &resolved)?;
     let [(name, bound)] = lines.as_slice() else {
@@ -470,7 +473,8 @@ fn refusal(alloc: Global, loaded: &Loaded<'_>) -> Result<String, Fail> {
 
 /// That of a file's object.
 fn refusal_of(alloc: Global, file: &[u8]) -> Result<String, Fail> {
-    let loaded = load_alone(alloc, file)?;
+    let files = one_file(alloc, file)?;
+    let loaded = load_files(alloc, &files)?;
     refusal(alloc, &loaded)
 }
 

@@ -166,15 +166,15 @@ fn tells_faults_of_files(rt: HostRuntime) -> Result<(), Fail> {
             "ld: cannot write /dev/full\n",
         ),
         (
-            "a.o --check -Map=no/start.map",
+            "a.o --check -Map=no/start.map -o a.o",
             "ld: cannot read no/start.map\n",
         ),
     ];
     for (line, complaint) in rows {
         assert_run(&rt, line, 3, "", complaint)?;
     }
-    assert_image(&rt, "a.out")?;
-    // The map is written after the whole image.
+    // Where one of the two can't be written, the other isn't there either.
+    assert!(rt; !fs::exists(&rt, "a.out")?);
     assert!(rt; !fs::exists(&rt, "full.map")?);
     leave_folder(&rt, &folder)
 }
@@ -182,10 +182,14 @@ fn tells_faults_of_files(rt: HostRuntime) -> Result<(), Fail> {
 #[test]
 fn images_may_be_run_by_those_who_may_read_them(rt: HostRuntime) -> Result<(), Fail> {
     let folder = enter_folder(&rt, "mode")?;
-    let rows = [(0o644, 0o755), (0o600, 0o700), (0o640, 0o750)];
-    for (before, after) in rows {
-        fs::write(&rt, "a.out", b"")?;
-        fs::set_permissions(&rt, "a.out", Permissions::from_mode(before))?;
+    // `a.o` has the mode that the umask leaves of a file.
+    let plain = fs::metadata(&rt, "a.o")?.permissions().mode() & 0o777;
+    let after = plain | (plain & 0o444) >> 2;
+    let rows = [0o644, 0o600, 0o444, 0o000];
+    for before in rows {
+        fs::write(&rt, "old", b"")?;
+        fs::set_permissions(&rt, "old", Permissions::from_mode(before))?;
+        fs::rename(&rt, "old", "a.out")?;
         assert_run(&rt, "a.o", 0, "", "")?;
         let mode = fs::metadata(&rt, "a.out")?.permissions().mode() & 0o777;
         assert_eq!(rt; mode, after, "{before:o}");

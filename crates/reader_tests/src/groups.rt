@@ -6,7 +6,7 @@ use elf_model::{
     EM_X86_64, ET_REL, FileHeader, SHT_GROUP, SHT_PROGBITS, SHT_STRTAB, SHT_SYMTAB, SectionHeader,
     Symbol,
 };
-use elf_read::Object;
+use elf_read::ObjectFile;
 use std::alloc::{AllocError, Global};
 use std::test::Fail;
 
@@ -263,7 +263,7 @@ static PLAIN_GROUPS: Listing = Listing {
 
 /// The groups of an object, each with its section, its flags, the bytes of its signature and its members.
 fn groups_of(alloc: Global, bytes: &[u8]) -> Result<String, Fail> {
-    let object = Object::read(alloc, View::new(bytes))?;
+    let object = ObjectFile::read(alloc, View::new(bytes))?;
     let mut text = String::new(alloc);
     for group in object.groups() {
         let signature = group.signature();
@@ -406,7 +406,7 @@ static ADMISSIONS: [(Listing, Listing, &str); 12] = [
 ];
 
 fn admitted<'a>(alloc: Global, groups: &mut Groups<'a>, bytes: &'a [u8]) -> Result<String, Fail> {
-    let object = Object::read(alloc, View::new(bytes))?;
+    let object = ObjectFile::read(alloc, View::new(bytes))?;
     let text = match groups.admit(&object) {
         Ok(dropped) => format!(in alloc; "{:?}", dropped.sections())?,
         Err(fault) => format!(in alloc; "{fault}")?,

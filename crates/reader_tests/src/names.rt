@@ -2,7 +2,7 @@
 ghost use Rattle.std.specs.Prelude.{◌≡◌, OnOk, map};
 ghost use Rattle.symbols.specs.Offers.{all_offered};
 
-use elf_model::NameSeed;
+use elf_model::{Name, NameSeed};
 use std::alloc::{AllocError, Global};
 use std::hash::{BuildHasher, RandomState};
 use std::process::Abort;
@@ -189,20 +189,24 @@ fn indexed<'a>(alloc: Global) -> IndexedTable<'a, NameSeed> {
     IndexedTable::with_hasher(alloc, NameSeed::fixed())
 }
 
+/// All of it, in four tables without names.
+fn are_tables<'a, T: NameTable<'a>>(rt: &impl Abort, tables: &mut [T; 4]) -> Result<(), Fail> {
+    mixes_kinds(rt, &mut tables[0])?;
+    takes_a_list(rt, &mut tables[1], b"f")?;
+    grows_commons(rt, &mut tables[2])?;
+    keeps_prefixes_apart(rt, &mut tables[3], NAMES)
+}
+
 #[test]
 fn the_list_is_a_table(rt: HostRuntime) -> Result<(), Fail> {
-    mixes_kinds(&rt, &mut ListTable::new(rt.alloc()))?;
-    takes_a_list(&rt, &mut ListTable::new(rt.alloc()), b"f")?;
-    grows_commons(&rt, &mut ListTable::new(rt.alloc()))?;
-    keeps_prefixes_apart(&rt, &mut ListTable::new(rt.alloc()), NAMES)
+    let list = || ListTable::new(rt.alloc());
+    are_tables(&rt, &mut [list(), list(), list(), list()])
 }
 
 #[test]
 fn the_index_is_a_table(rt: HostRuntime) -> Result<(), Fail> {
-    mixes_kinds(&rt, &mut indexed(rt.alloc()))?;
-    takes_a_list(&rt, &mut indexed(rt.alloc()), b"f")?;
-    grows_commons(&rt, &mut indexed(rt.alloc()))?;
-    keeps_prefixes_apart(&rt, &mut indexed(rt.alloc()), NAMES)
+    let index = || indexed(rt.alloc());
+    are_tables(&rt, &mut [index(), index(), index(), index()])
 }
 
 #[test]
@@ -217,18 +221,28 @@ fn any_hasher_serves(rt: HostRuntime) -> Result<(), Fail> {
 }
 
 /// The hashes of names by two seeds, as a program in another language computes them.
-static HASHES: [(u64, &[u8], u64); 6] = [
-    (0, b"", 0x8fe3_2a4a_9c89_4fe6),
-    (0, b"main", 0x5725_aa1f_4204_9783),
-    (0, b"_ZN4llvm5Value", 0x6892_bbfc_597e_6a9b),
-    (7, b"", 0x98cb_462e_c3f7_734e),
-    (7, b"main", 0x20b4_a46a_f2c5_71c4),
-    (7, b"_ZN4llvm5Value", 0x47d8_3890_08f0_27c4),
+static HASHES: [(u64, &[u8], u64); 8] = [
+    (0, b"", 0x38ca_033c_09a6_1cae),
+    (0, b"main", 0xb20f_e665_b012_b8c0),
+    (0, b"_ZN4llvm5Value", 0x7d1a_a1e1_07e1_ef1a),
+    (
+        0,
+        b"_ZN4llvm5Value11setNameImplERKNS_5TwineE",
+        0x920a_8c67_6eb0_75e4,
+    ),
+    (7, b"", 0xa73f_3304_d56f_1851),
+    (7, b"main", 0xe500_4926_e55c_eb5e),
+    (7, b"_ZN4llvm5Value", 0xad87_7c3c_cc50_7b11),
+    (
+        7,
+        b"_ZN4llvm5Value11setNameImplERKNS_5TwineE",
+        0x0e3e_67e4_3795_68a4,
+    ),
 ];
 
 #[test]
 fn names_are_hashed_by_their_seed(rt: HostRuntime) {
     for (seed, name, hash) in &HASHES {
-        assert_eq!(rt; NameSeed::new(*seed).hash_one(*name), *hash);
+        assert_eq!(rt; NameSeed::new(*seed).hash_one(Name(name)), *hash);
     }
 }

@@ -4,7 +4,7 @@ use elf_model::{
     EM_X86_64, ET_REL, FileHeader, Rela, SHF_ALLOC, SHF_EXECINSTR, SHT_NOBITS, SHT_NULL,
     SHT_PROGBITS, SHT_REL, SHT_RELA, SHT_STRTAB, SHT_SYMTAB, SectionHeader, Symbol,
 };
-use elf_read::Object;
+use elf_read::{Object, ObjectFile};
 use std::alloc::{AllocError, Global};
 use std::test::Fail;
 
@@ -185,7 +185,7 @@ fn has_names(object: &Object<'_>) -> bool {
 }
 
 /// Whether that object answers by number, where it has such a section or symbol and where it has none.
-fn answers_by_number(object: &Object<'_>) -> bool {
+fn answers_by_number(object: &ObjectFile<'_>) -> bool {
     object.section(1) == TEXT_SECTION
         && object.section(5) == NULL_SECTION
         && object.symbol(1) == START
@@ -215,10 +215,10 @@ fn an_object_is_read(rt: HostRuntime) -> Result<(), Fail> {
     let bytes = start_object(rt.alloc())?;
     let object = Object::read(rt.alloc(), View::new(&bytes))?;
     let found = [
-        bytes.len() == 496 && object.bytes() == bytes.as_slice(),
+        bytes.len() == 496 && object.file().bytes() == bytes.as_slice(),
         has_tables(&object),
         has_names(&object),
-        answers_by_number(&object),
+        answers_by_number(object.file()),
     ];
     assert_eq!(rt; found, [true; 4]);
     Ok(())
@@ -271,15 +271,21 @@ fn tells_entry(object: &Object<'_>) -> bool {
     object.relas(5) == Some([CALL].as_slice())
         && object.relas(1).is_none()
         && object.relas(6).is_none()
-        && object.entries(5) == [CALL].as_slice()
-        && object.entries(1).is_empty()
+}
+
+/// Whether that object tells them where they are in the file.
+fn lends_entry(object: &ObjectFile<'_>) -> bool {
+    object.entries(5).len() == 1
+        && object.entries(5).get(0) == Some(CALL)
+        && object.entries(5).get(1).is_none()
+        && object.entries(1).len() == 0
 }
 
 #[test]
 fn relocations_are_read(rt: HostRuntime) -> Result<(), Fail> {
     let bytes = relocated_object(rt.alloc(), &TEXT_SECTION, &RELOCATIONS, &CALL)?;
     let object = Object::read(rt.alloc(), View::new(&bytes))?;
-    let told = tells_entry(&object);
+    let told = tells_entry(&object) && lends_entry(object.file());
     assert!(rt; told && CALL.symbol() == 1 && CALL.kind() == 4);
     Ok(())
 }

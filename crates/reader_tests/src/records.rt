@@ -252,33 +252,46 @@ static IMAGES: [LoadFault; 5] = [
 
 static MAPS: [MapFault; 2] = [MapFault::Memory, MapFault::Line(4)];
 
+/// What faults print, one after the other, is a text.
+fn print<F: Display>(rt: &impl Abort, alloc: Global, faults: &[F], text: &str) -> Result<(), Fail> {
+    assert_eq!(rt; texts(alloc, faults)?.as_str(), text);
+    Ok(())
+}
+
 #[test]
 fn faults_print_their_number(rt: HostRuntime) -> Result<(), Fail> {
-    assert_eq!(rt;
-        texts(rt.alloc(), &WORDS)?.as_str(),
-        "Memory (1);UnknownOption (2);MissingValue (3);BadNumber (4);GroupNesting (5);NoInput (6);NotArchiveInGroup (7);"
-    );
-    assert_eq!(rt;
-        texts(rt.alloc(), &OBJECTS)?.as_str(),
-        "Memory (1);Truncated (2);NotElf64 (3);NotRelocatable (4);WrongMachine (5);BadSectionTable (6);BadSectionRange (7);BadString (8);BadSymbolTable (9);BadRela (10);BadGroup (11);TooMany (12);"
-    );
-    assert_eq!(rt;
-        texts(rt.alloc(), &ARCHIVES)?.as_str(),
-        "Memory (1);NotArchive (2);Truncated (3);BadHeader (4);BadIndex (5);BadName (6);TooMany (7);"
-    );
-    assert_eq!(rt;
-        texts(rt.alloc(), &GROUPS)?.as_str(),
-        "Memory (1);NamelessSignature (2);BadFlags (3);TwoGroups (4);"
-    );
-    assert_eq!(rt;
-        texts(rt.alloc(), &IMAGES)?.as_str(),
-        "Memory (1);BadHeader (2);BadSegment (3);Order (4);SharedPage (5);"
-    );
-    assert_eq!(rt;
-        texts(rt.alloc(), &MAPS)?.as_str(),
-        "Memory (1);Line 4 (2);"
-    );
-    Ok(())
+    let alloc = rt.alloc();
+    print(
+        &rt,
+        alloc,
+        &WORDS,
+        "Memory (1);UnknownOption (2);MissingValue (3);BadNumber (4);GroupNesting (5);NoInput (6);NotArchiveInGroup (7);",
+    )?;
+    print(
+        &rt,
+        alloc,
+        &OBJECTS,
+        "Memory (1);Truncated (2);NotElf64 (3);NotRelocatable (4);WrongMachine (5);BadSectionTable (6);BadSectionRange (7);BadString (8);BadSymbolTable (9);BadRela (10);BadGroup (11);TooMany (12);",
+    )?;
+    print(
+        &rt,
+        alloc,
+        &ARCHIVES,
+        "Memory (1);NotArchive (2);Truncated (3);BadHeader (4);BadIndex (5);BadName (6);TooMany (7);",
+    )?;
+    print(
+        &rt,
+        alloc,
+        &GROUPS,
+        "Memory (1);NamelessSignature (2);BadFlags (3);TwoGroups (4);",
+    )?;
+    print(
+        &rt,
+        alloc,
+        &IMAGES,
+        "Memory (1);BadHeader (2);BadSegment (3);Order (4);SharedPage (5);",
+    )?;
+    print(&rt, alloc, &MAPS, "Memory (1);Line 4 (2);")
 }
 
 fn prints(rt: &impl Abort, alloc: Global, error: LinkError, text: &str) -> Result<(), Fail> {
@@ -287,39 +300,48 @@ fn prints(rt: &impl Abort, alloc: Global, error: LinkError, text: &str) -> Resul
 }
 
 #[test]
-fn refusals_print_their_number(rt: HostRuntime) -> Result<(), Fail> {
+fn refusals_of_names_print_their_number(rt: HostRuntime) -> Result<(), Fail> {
     let alloc = rt.alloc();
     let name = Vec::from_slice(alloc, b"f")?;
     prints(&rt, alloc, LinkError::Duplicate(name), "Duplicate (9)")?;
     let name = Vec::from_slice(alloc, b"f")?;
-    prints(&rt, alloc, LinkError::Undefined(name), "Undefined (10)")?;
-    for (error, text) in [
-        (LinkError::Memory, "Memory (1)"),
-        (
-            LinkError::Command(CmdFault::NoInput),
-            "Command (2): NoInput (6)",
-        ),
-        (LinkError::FileMissing, "FileMissing (3)"),
-        (
-            LinkError::BadObject(ObjFault::Truncated),
-            "BadObject (4): Truncated (2)",
-        ),
-        (LinkError::SectionKind, "SectionKind (7)"),
-        (LinkError::RefToDropped, "RefToDropped (11)"),
-        (LinkError::RelocKind, "RelocKind (12)"),
-        (LinkError::FieldOutside, "FieldOutside (13)"),
-        (LinkError::OverlappingFields, "OverlappingFields (14)"),
-        (LinkError::Overflow, "Overflow (15)"),
-        (LinkError::TlsMismatch, "TlsMismatch (16)"),
-        (LinkError::BadCommon, "BadCommon (17)"),
-        (LinkError::NoEntry, "NoEntry (18)"),
-        (LinkError::MixedSection, "MixedSection (19)"),
-        (LinkError::TooLarge, "TooLarge (20)"),
-        (LinkError::BadSymbol, "BadSymbol (21)"),
-    ] {
-        prints(&rt, alloc, error, text)?;
-    }
-    Ok(())
+    prints(&rt, alloc, LinkError::Undefined(name), "Undefined (10)")
+}
+
+#[test]
+fn refusals_print_their_number(rt: HostRuntime) -> Result<(), Fail> {
+    let alloc = rt.alloc();
+    prints(&rt, alloc, LinkError::Memory, "Memory (1)")?;
+    prints(
+        &rt,
+        alloc,
+        LinkError::Command(CmdFault::NoInput),
+        "Command (2): NoInput (6)",
+    )?;
+    prints(&rt, alloc, LinkError::FileMissing, "FileMissing (3)")?;
+    prints(
+        &rt,
+        alloc,
+        LinkError::BadObject(ObjFault::Truncated),
+        "BadObject (4): Truncated (2)",
+    )?;
+    prints(&rt, alloc, LinkError::SectionKind, "SectionKind (7)")?;
+    prints(&rt, alloc, LinkError::RefToDropped, "RefToDropped (11)")?;
+    prints(&rt, alloc, LinkError::RelocKind, "RelocKind (12)")?;
+    prints(&rt, alloc, LinkError::FieldOutside, "FieldOutside (13)")?;
+    prints(
+        &rt,
+        alloc,
+        LinkError::OverlappingFields,
+        "OverlappingFields (14)",
+    )?;
+    prints(&rt, alloc, LinkError::Overflow, "Overflow (15)")?;
+    prints(&rt, alloc, LinkError::TlsMismatch, "TlsMismatch (16)")?;
+    prints(&rt, alloc, LinkError::BadCommon, "BadCommon (17)")?;
+    prints(&rt, alloc, LinkError::NoEntry, "NoEntry (18)")?;
+    prints(&rt, alloc, LinkError::MixedSection, "MixedSection (19)")?;
+    prints(&rt, alloc, LinkError::TooLarge, "TooLarge (20)")?;
+    prints(&rt, alloc, LinkError::BadSymbol, "BadSymbol (21)")
 }
 
 /// What `push` answers where memory is refused.

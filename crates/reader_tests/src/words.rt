@@ -1,5 +1,5 @@
 //! Words of a command, and the files that its plan may read.
-use command::{Item, Source, candidates, read_words};
+use command::{Item, Plan, Source, candidates, read_words};
 use std::alloc::{AllocError, Global};
 use std::test::Fail;
 
@@ -26,27 +26,42 @@ fn put_item(text: &mut String, alloc: Global, item: &Item<'_>) -> Result<(), Fai
     Ok(())
 }
 
+/// Puts the settings of a plan.
+fn put_settings(text: &mut String, alloc: Global, plan: &Plan<'_>) -> Result<(), Fail> {
+    let map = plan.map.unwrap_or("no map");
+    let (entry, output, base, check) = (plan.entry, plan.output, plan.base, plan.check);
+    text.push_str(&format!(in alloc; "{entry} {output} {base} {map} {check};")?)?;
+    if plan.strip {
+        text.push_str("stripped;")?;
+    }
+    Ok(())
+}
+
+/// Puts the settings and the items of a plan.
+fn put_plan(text: &mut String, alloc: Global, plan: &Plan<'_>) -> Result<(), Fail> {
+    put_settings(text, alloc, plan)?;
+    for name in &plan.undefined {
+        text.push_str(name)?;
+        text.push(';')?;
+    }
+    for item in &plan.items {
+        put_item(text, alloc, item)?;
+    }
+    Ok(())
+}
+
+/// Puts the settings and the items of the plan of some words, or its fault.
+fn put_read(text: &mut String, alloc: Global, words: &[String]) -> Result<(), Fail> {
+    match read_words(alloc, words) {
+        Ok(plan) => put_plan(text, alloc, &plan),
+        Err(fault) => Ok(text.push_str(&format!(in alloc; "{fault}")?)?),
+    }
+}
+
 /// The settings and the items of the plan of a line, or its fault.
 fn told(alloc: Global, line: &str) -> Result<String, Fail> {
-    let words = words(alloc, line)?;
     let mut text = String::new(alloc);
-    match read_words(alloc, &words) {
-        Ok(plan) => {
-            let map = plan.map.unwrap_or("no map");
-            let (entry, output, base, check) = (plan.entry, plan.output, plan.base, plan.check);
-            text.push_str(&format!(in alloc; "{entry} {output} {base} {map} {check};")?)?;
-            if plan.strip {
-                text.push_str("stripped;")?;
-            }
-            for name in &plan.undefined {
-                text.push_str(&format!(in alloc; "{name};")?)?;
-            }
-            for item in &plan.items {
-                put_item(&mut text, alloc, item)?;
-            }
-        }
-        Err(fault) => text.push_str(&format!(in alloc; "{fault}")?)?,
-    }
+    put_read(&mut text, alloc, &words(alloc, line)?)?;
     Ok(text)
 }
 
