@@ -27,6 +27,9 @@ REASONS = {
 WIDTHS = {1: 8, 2: 4, 3: 4, 4: 4, 9: 4, 10: 4, 11: 4, 12: 2, 13: 2, 14: 1, 15: 1, 18: 8, 22: 4, 23: 4, 24: 8, 25: 8, 26: 4}
 WIDTHS.update({27: 8, 28: 8, 29: 8, 32: 4, 33: 8, 41: 4, 42: 4})
 
+# Those whose value is counted from the field.
+RELATIVE = (2, 4, 13, 15, 24)
+
 
 def note(line: str) -> None:
     print(f"judge: {line}", file=sys.stderr)
@@ -60,6 +63,24 @@ def first_difference(link: Skeleton, image: elf.Image) -> None:
             note(f"the first such byte is at {place.address + at:#x}, {at:#x} into {link.named(place)}")
             return
     note("all such bytes are in fields of relocations")
+    first_dropped(link, image)
+
+
+def first_dropped(link: Skeleton, image: elf.Image) -> None:
+    """Tells the first field, of the frame of a dropped function, that hasn't the address 0 for it."""
+    drops = {tuple(map(int, line.split(" ")[1:])) for line in link.map.drops}
+    places = {(place.owner, place.section): place for place in link.map.places}
+    for owner, it in enumerate(link.objects):
+        for entry in it.relocations():
+            place, symbol = places.get((owner, entry.section)), it.symbols[entry.symbol]
+            if not place or symbol.binding != elf.LOCAL or (owner, symbol.section) not in drops:
+                continue
+            address, width = place.address + entry.offset, WIDTHS.get(entry.kind, 0)
+            wanted = (entry.addend - (address if entry.kind in RELATIVE else 0)) % 2 ** (8 * width)
+            if int.from_bytes(image.memory(address, width), "little") != wanted:
+                note(f"the field at {address:#x}, {entry.offset:#x} into {link.named(place)}, is of a dropped function: by the")
+                note(f"profile it has {wanted:#x}, A - P. -fno-asynchronous-unwind-tables, with -fno-exceptions in C++, leaves such frames out")
+                return
 
 
 def covered(link: Skeleton, image: elf.Image) -> List[Tuple[int, int]]:

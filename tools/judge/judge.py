@@ -1,7 +1,7 @@
 #!/usr/bin/env python3
 """Has `ld --check` judge an image that lld or GNU ld made.
 
-    python3 tools/judge/judge.py IMAGE PEERMAP WORDS
+    tools/judge/judge.py IMAGE PEERMAP WORDS
 
 IMAGE and PEERMAP are that linker's image, with its symbols, and its map; WORDS are those of our `ld` for the same link. The
 map for the check is our own for these words, with the addresses that PEERMAP tells and the slots that the image tells. The
@@ -188,8 +188,12 @@ def judge(image_path: str, peer_path: str, words: List[str], folder: Path) -> in
     (folder / "image").write_bytes(bare(link, image))
     (folder / "map").write_text(linkmap.write(link.map), errors="surrogateescape")
     said = run(words + ["-s", "-o", f"{folder}/image", f"-Map={folder}/map", "--check"])
-    print(said.stdout, end="")
-    explain(said.stdout.strip().partition(" ")[2], link, image)
+    clause = said.stdout.strip().partition(" ")[2]
+    if clause == "C1":
+        note(f"{image_path} wasn't linked by the script that link.py makes for these words: its sections don't make a map")
+    else:
+        print(said.stdout, end="")
+        explain(clause, link, image)
     return said.returncode
 
 
@@ -210,5 +214,7 @@ if __name__ == "__main__":
         sys.exit(main())
     except OSError as error:
         sys.exit(f"judge.py: {error}")
-    except (struct.error, IndexError, ValueError) as error:
+    except (struct.error, IndexError, ValueError, OverflowError) as error:
         sys.exit(f"judge.py: the image or the map can't be read: {error}")
+    except MemoryError:
+        sys.exit("judge.py: there is no memory for a section of this size")

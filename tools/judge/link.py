@@ -1,8 +1,8 @@
 #!/usr/bin/env python3
 """Links by lld or GNU ld so that `ld --check` may say yes; tools/judge/judge.py then asks it.
 
-    python3 tools/judge/link.py lld|bfd -o IMAGE -Map=PEERMAP WORDS
-    python3 tools/judge/link.py --script lld|bfd WORDS
+    tools/judge/link.py lld|bfd -o IMAGE -Map=PEERMAP WORDS
+    tools/judge/link.py --script lld|bfd WORDS
 
 The words are those of our `ld`, which says what objects they load, and in which order. The other linker gets just these, by
 a script (script.py beside this file), and with flags by which it leaves their bytes alone. There are none for all that it
@@ -28,7 +28,8 @@ from script import Script, undefined_weak
 from skeleton import Skeleton, skeleton, value_of
 
 PEERS = {
-    "lld": [os.environ.get("LD_LLD", "ld.lld"), "-static", "-O0", "--no-relax", "-z", "norelro", "-z", "noseparate-code"],
+    "lld": [os.environ.get("LD_LLD", "ld.lld"), "-static", "-O0", "--no-relax", "-z", "norelro", "-z", "noseparate-code"]
+    + ["--no-dependent-libraries"],
     "bfd": [os.environ.get("LD_BFD", "ld.bfd"), "-static", "--traditional-format", "--no-relax", "-z", "norelro"]
     + ["-z", "noexecstack", "--no-ld-generated-unwind-info", "-z", "max-page-size=4096", "-z", "common-page-size=4096"],
 }
@@ -39,7 +40,7 @@ EDITED = {
 }
 
 
-def plain(it: elf.Object, edited: Dict[str, str]) -> bytes:
+def plain(it: elf.ObjectFile, edited: Dict[str, str]) -> bytes:
     """An object that a linker doesn't edit: no section has the flags MERGE and STRINGS, and some have other names."""
     data = bytearray(it.data)
     start, size, _, names = struct.unpack_from("<Q", data, 40) + struct.unpack_from("<HHH", data, 58)
@@ -111,4 +112,7 @@ def main() -> int:
 
 
 if __name__ == "__main__":
-    sys.exit(main())
+    try:
+        sys.exit(main())
+    except OSError as error:
+        sys.exit(f"link.py: {error}")

@@ -6,8 +6,8 @@ from typing import Deque, Dict, Optional, Tuple
 
 Spots = Dict[Tuple[str, str], Deque[Tuple[int, int]]]
 
-# VMA, LMA, size, alignment; an input section is eight columns in, a symbol sixteen.
-LLD_LINE = re.compile(r" *([0-9a-f]+) +[0-9a-f]+ +([0-9a-f]+) +\d+ {9}(\S.*):\((.*)\)$")
+# VMA, LMA, size, alignment; an input section is eight columns in, a symbol sixteen. Behind them is FILE:(SECTION).
+LLD_LINE = re.compile(r" *([0-9a-f]+) +[0-9a-f]+ +([0-9a-f]+) +\d+ {9}(?=\S)")
 BFD_NAME = re.compile(r" ([^\s*(]\S*)$")
 BFD_LINE = re.compile(r" ([^\s*(]\S*)?\s+0x([0-9a-f]+)\s+0x([0-9a-f]+) (\S.*)$")
 
@@ -16,8 +16,9 @@ def of_lld(lines: "list[str]") -> Spots:
     found: Spots = {}
     for line in lines:
         part = LLD_LINE.match(line)
-        if part:
-            found.setdefault((part[3], part[4]), deque()).append((int(part[1], 16), int(part[2], 16)))
+        if part and line.endswith(")"):
+            label, _, name = line[part.end() : -1].rpartition(":(")
+            found.setdefault((label, name), deque()).append((int(part[1], 16), int(part[2], 16)))
     return found
 
 

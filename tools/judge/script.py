@@ -2,6 +2,7 @@
 of code, a word of zeros before the global offset table, and the linker's own names that are used."""
 
 import re
+import sys
 from typing import Dict, List, NamedTuple, Tuple
 
 import elf
@@ -57,7 +58,13 @@ def groups_of(link: Skeleton) -> Dict[Group, List[Place]]:
 
 
 def quoted(name: str) -> str:
-    return name if re.fullmatch(r"[\w.$/:+-]+", name) else f'"{name}"'
+    """A name of a section, a file or a symbol, as linker scripts spell it. A quote can't be spelled there, and what comes after
+    one, or after the end of a line, would be read as the script's own."""
+    if re.fullmatch(r"[\w.$/:+-]+", name, re.ASCII):
+        return name
+    if '"' in name or any(c < " " or c == "\x7f" for c in name):
+        sys.exit(f"link.py: no linker script can name {ascii(name)}")
+    return f'"{name}"'
 
 
 def pattern(file: str, names: List[str]) -> str:

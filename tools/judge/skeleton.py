@@ -12,14 +12,17 @@ import elf
 import linkmap
 
 ROOT = Path(__file__).resolve().parent.parent.parent
-PROGRAM = os.environ.get("LD_PROGRAM", str(ROOT / "crates" / "ld" / "out" / "ld"))
+# Where tools/install.sh has put this script, the program is beside libexec.
+INSTALLED = (Path(__file__).resolve().parent.parent / "commit").is_file()
+PROVED = ROOT.parent / "bin" / "cakthuy-ld" if INSTALLED else ROOT / "crates" / "ld" / "out" / "ld"
+PROGRAM = os.environ.get("LD_PROGRAM", str(PROVED))
 
 
 class Skeleton(NamedTuple):
     """The map, and of each object of it its contents and its label: PATH, or PATH(MEMBER) as other linkers' maps have it."""
 
     map: linkmap.LinkMap
-    objects: List[elf.Object]
+    objects: List[elf.ObjectFile]
     labels: List[str]
 
     def section(self, place: linkmap.Place) -> elf.Section:
@@ -34,17 +37,17 @@ class Skeleton(NamedTuple):
 def run(words: List[str]) -> "subprocess.CompletedProcess[str]":
     """Runs `ld`."""
     if not os.access(PROGRAM, os.X_OK):
-        sys.exit(f"There is no linker at {PROGRAM}. To get the proved one: cd crates/ld && rt run")
+        sys.exit(f"There is no linker at {PROGRAM}. To get the proved one in the tree: cd crates/ld && rt run")
     return subprocess.run([PROGRAM] + words, stdout=subprocess.PIPE, text=True, check=False)
 
 
-def opened(loaded: linkmap.Loaded) -> Tuple[str, elf.Object]:
+def opened(loaded: linkmap.Loaded) -> Tuple[str, elf.ObjectFile]:
     """Label and contents of an object of a map."""
     data = Path(loaded.path).read_bytes()
     if not data.startswith(b"!<arch>\n"):
-        return loaded.path, elf.Object(data)
+        return loaded.path, elf.ObjectFile(data)
     name, inner = elf.member(data, loaded.offset)
-    return f"{loaded.path}({name})", elf.Object(inner)
+    return f"{loaded.path}({name})", elf.ObjectFile(inner)
 
 
 def skeleton(words: List[str]) -> Skeleton:

@@ -1,0 +1,91 @@
+#!/usr/bin/env python3
+"""Tests that the scripts of this folder take no name of an input for words of their own, and no time or traceback for an image
+or a map that is made to hurt. No linker is needed.
+
+    tools/judge/test.py
+"""
+
+import os
+import struct
+import subprocess
+import sys
+import tempfile
+import time
+import unittest
+from pathlib import Path
+
+sys.dont_write_bytecode = True
+HERE = Path(__file__).resolve().parent
+sys.path.insert(0, str(HERE))
+
+import peers  # noqa: E402
+import script  # noqa: E402
+
+# Stands for `ld`: its map has no line but the first and the last.
+LINKER = """#!/bin/sh
+for word do
+    case $word in
+    -Map=*) printf 'ldmap 2\\nend\\n' >"${word#-Map=}" ;;
+    esac
+done
+"""
+
+
+class Names(unittest.TestCase):
+    def test_plain_names_stand_as_they_are(self):
+        self.assertEqual(script.quoted(".text.f"), ".text.f")
+        self.assertEqual(script.quoted("dir/a+b.o"), "dir/a+b.o")
+
+    def test_others_are_quoted(self):
+        self.assertEqual(script.quoted("a b.o"), '"a b.o"')
+        self.assertEqual(script.quoted("*"), '"*"')
+
+    def test_what_ends_a_quoted_name_is_refused(self):
+        for name in ('x" INCLUDE "/etc/passwd', ".data\n}\nINCLUDE /etc/passwd", "a\x00b", "a\x7f"):
+            with self.assertRaises(SystemExit):
+                script.quoted(name)
+
+
+class Maps(unittest.TestCase):
+    HEAD = "          401000           401000        9     1         "
+
+    def test_a_line_of_lld_has_a_file_and_a_section(self):
+        found = peers.of_lld([self.HEAD + "a(b):(c).o:(.text)", self.HEAD + "a.o:(.text", self.HEAD[:-8] + ".text"])
+        self.assertEqual({key: list(spots) for key, spots in found.items()}, {("a(b):(c).o", ".text"): [(0x401000, 9)]})
+
+    def test_long_lines_take_no_time(self):
+        begin = time.process_time()
+        peers.of_lld([self.HEAD + "a:(" * 100_000, self.HEAD + ":(" * 100_000 + ")", " " * 300_000])
+        peers.of_bfd(["Linker script and memory map", " " * 300_000, " a" * 100_000, " " + "a" * 300_000])
+        self.assertLess(time.process_time() - begin, 2)
+
+
+class Images(unittest.TestCase):
+    def told(self, image):
+        """What judge.py says of an image, and its status."""
+        with tempfile.TemporaryDirectory() as folder:
+            linker, made, shown = (Path(folder) / name for name in ("ld", "image", "map"))
+            linker.write_text(LINKER)
+            linker.chmod(0o755)
+            made.write_bytes(image)
+            shown.write_text("")
+            ran = subprocess.run([sys.executable, HERE / "judge.py", made, shown, "a.o"], stdout=subprocess.PIPE,
+                                 stderr=subprocess.STDOUT, text=True, check=False, env={**os.environ, "LD_PROGRAM": str(linker)})
+            return ran.stdout, ran.returncode
+
+    def test_headers_far_outside_are_a_line(self):
+        for at in (2**63, 2**62, 100):
+            header = bytearray(b"\x7fELF\x02\x01\x01" + bytes(57))
+            struct.pack_into("<Q", header, 32, at)
+            struct.pack_into("<HH", header, 54, 56, 1)
+            said, status = self.told(bytes(header))
+            self.assertTrue(said.startswith("judge.py: the image or the map can't be read:"), said)
+            self.assertEqual((said.count("\n"), status), (1, 1))
+
+    def test_what_is_no_image_is_a_line(self):
+        said, status = self.told(b"\x7fELF")
+        self.assertEqual((said.count("\n"), status), (1, 1))
+
+
+if __name__ == "__main__":
+    unittest.main()
