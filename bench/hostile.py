@@ -45,9 +45,11 @@ import sys
 import tempfile
 from pathlib import Path
 
-import elf
-
 ROOT = Path(__file__).resolve().parent.parent
+sys.path.insert(0, str(ROOT / "tools" / "judge"))
+
+import elf  # noqa: E402
+
 PROVED = ROOT / "crates" / "ld" / "out" / "ld"
 GROWTH_LIMIT = 2.3
 # Shorter times swing by more than the limit allows.

@@ -16,7 +16,7 @@ The inputs, each of them also doubled:
     threads      one object with 100,000 relocations of types TPOFF32 and GOTTPOFF, to 10,000 thread-local sections
     arrays       5,000 arrays of a function, each with a number, in 500 objects
 
-They lie inside the profile (docs/PROFILE.md), and are made by `as` or by elf.py beside this file. The linkers: the proved program
+They lie inside the profile (docs/PROFILE.md), and are made by `as` or by tools/judge/elf.py. The linkers: the proved program
 crates/ld/out/ld, and of ld.bfd, ld.gold, ld.lld and mold those that are on PATH, with one thread and one process
 each. Each links twice a round: with a symbol table in the image, and with -s, without one. A row is compared with
 that of ours of the same kind. The others' tables say more than ours: LOCAL and thread-local symbols stand in them,
@@ -45,9 +45,11 @@ import tempfile
 import time
 from pathlib import Path
 
-import elf
-
 ROOT = Path(__file__).resolve().parent.parent
+sys.path.insert(0, str(ROOT / "tools" / "judge"))
+
+import elf  # noqa: E402
+
 PROVED = ROOT / "crates" / "ld" / "out" / "ld"
 GROWTH_LIMIT = 2.3
 PEERS = {
