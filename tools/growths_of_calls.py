@@ -2,8 +2,8 @@
 """Refuses each growth of memory in turn in each public call, on links whose images and maps stand here byte for byte, and
 on two that are refused.
 
-    tools/growths_of_calls.sh [PROGRAM]
-    tools/growths_of_calls.sh --write
+    tools/growths_of_calls.py [PROGRAM]
+    tools/growths_of_calls.py --write
 
 PROGRAM is the proved crates/growths/out/growths where none is given; it makes the calls, prints what they answer, and
 makes a call again that answers Memory. For N = 1, 2, .. the Nth growth is refused, until a run needs fewer. In each run
@@ -24,7 +24,7 @@ from collections import Counter
 from pathlib import Path
 
 ROOT = Path(__file__).resolve().parent.parent
-sys.path.insert(0, str(ROOT / "bench"))
+sys.path.insert(0, str(ROOT / "tools" / "judge"))
 
 import elf  # noqa: E402
 

@@ -1,17 +1,16 @@
 #!/usr/bin/env python3
-"""Writes the tables of calls and clauses in docs/PROMISES.md from the contracts.
+"""Writes the tables of calls and clauses, docs/CALLS.md, from the contracts.
 
     tools/promises.py            writes them
     tools/promises.py --check    writes nothing; where the page is stale it prints a diff, and the exit status is 1
 
-The tables are between the two marker lines of the page: one for each crate of the product, and one of the words that
-clauses use. A crate's table has each call that its lib.rt exports: functions, the methods of exported types and of
+The page has a table for each crate of the product, and one of the words that clauses use. A crate's table has each call that its lib.rt exports: functions, the methods of exported types and of
 exported traits. It has a row for each clause of a call. What a row says is taken from the source: the first sentence of
 the call's comment, and the clause, or the definitions in it where it is longer than LONGEST.
 
-The rest of the page is written by hand. Its rows have the form `| promise | call | clause |`, below a line with the
-names of crates in bold. Where such a row, or one of README's table of promises, names a call or a clause that isn't
-there, it is told, and the exit status is 1.
+docs/PROMISES.md is written by hand. Its rows have the form `| promise | call | clause |`, below a line with the names of
+crates in bold. Where such a row, or one of README's table of promises, names a call or a clause that isn't there, it is
+told, and the exit status is 1.
 """
 
 import argparse
@@ -21,9 +20,14 @@ import re
 import sys
 from dataclasses import dataclass, field
 
-BEGIN = "<!-- from here on written by tools/promises.py -->"
-END = "<!-- up to here written by tools/promises.py -->"
-PAGE = "docs/PROMISES.md"
+HEAD = """# All calls
+
+Written by `tools/promises.py` from the contracts: each public call of each crate, with its clauses. A row without a clause \
+begins a call; 'its clause' is one without a name. Of a clause with more than {longest} characters only the definitions are \
+named that it speaks of. What the calls promise, in plain words, is in [PROMISES.md](PROMISES.md).
+"""
+PAGE = "docs/CALLS.md"
+PROMISES = "docs/PROMISES.md"
 README = "README.md"
 DEFINITIONS = "docs/DEFINITIONS.md"
 LONGEST = 110
@@ -284,7 +288,7 @@ def rows_of(call, crate):
 
 def table_of(crate, sections, traits):
     """The table of a crate, with what stands above it."""
-    lines = [f"### Calls of {crate.name}", ""]
+    lines = [f"## Calls of {crate.name}", ""]
     said = [f"{code(it)} is seen as {code(view)}" for it, view in sorted(crate.views.items())]
     said += [f"{code(of)} is a {code(trait)}" for trait, of in sorted(crate.impls) if trait in traits]
     for origin, names in sorted(crate.handed_on.items()):
@@ -312,15 +316,15 @@ def sections_of(page):
 
 
 def generated(all_crates, definitions):
-    """The part of the page between the marker lines."""
+    """The page."""
     sections = sections_of(definitions)
     traits = {it.name.partition("::")[0] for crate in all_crates for it in crate.calls if it.of_trait}
-    lines = [BEGIN, ""]
+    lines = [HEAD.format(longest=LONGEST)]
     for crate in all_crates:
         if crate.calls:
             lines += table_of(crate, sections, traits)
     lines += table_of_words(all_crates, sections)
-    return "\n".join(lines + [END])
+    return "\n".join(lines)
 
 
 def names_in(cell):
@@ -344,8 +348,8 @@ def unknown_names(page, all_crates):
             continue
         named = names_in(cells[1])
         clauses = {clause.name for it in calls if any(is_call(name, [it]) for name in named) for clause in it.clauses}
-        missed += [f"{PAGE}:{number}: there is no call {it}" for it in named if not is_call(it, calls)]
-        missed += [f"{PAGE}:{number}: these calls have no clause {it}" for it in names_in(cells[2])
+        missed += [f"{PROMISES}:{number}: there is no call {it}" for it in named if not is_call(it, calls)]
+        missed += [f"{PROMISES}:{number}: these calls have no clause {it}" for it in names_in(cells[2])
                    if it not in clauses and not is_call(it, everything)]
     return missed
 
@@ -383,7 +387,7 @@ def table_of_words(all_crates, sections):
     found = {(word, path) for crate in all_crates for call in crate.calls for clause in call.clauses
              for word, path in words_of(call, clause, crate.imports).items()
              if spec_path(path) not in sections}
-    lines = ["### Words of clauses", "", "Those whose file has no section in [DEFINITIONS.md](DEFINITIONS.md). Words "
+    lines = ["## Words of clauses", "", "Those whose file has no section in [DEFINITIONS.md](DEFINITIONS.md). Words "
              "that end in `_view` or `_views` are left out: they give a value of the code, or a list of them, as one of "
              "the definitions.", "", "| word | its file | what it says |", "|---|---|---|"]
     for word, path in sorted(found, key=lambda it: (spec_path(it[1]), it[0])):
@@ -400,12 +404,11 @@ def main():
     parser.add_argument("--check", action="store_true")
     given = parser.parse_args()
     os.chdir(f"{os.path.dirname(os.path.abspath(__file__))}/..")
-    page = read(PAGE)
     all_crates = [crate_of(it) for it in crates()]
-    by_hand, _, rest = page.partition(BEGIN)
-    made = by_hand + generated(all_crates, read(DEFINITIONS)) + rest.partition(END)[2]
-    told = unknown_names(by_hand, all_crates) + unknown_in_readme(read(README), all_crates)
+    made = generated(all_crates, read(DEFINITIONS))
+    told = unknown_names(read(PROMISES), all_crates) + unknown_in_readme(read(README), all_crates)
     if given.check:
+        page = read(PAGE) if os.path.exists(PAGE) else ""
         told += difflib.unified_diff(page.split("\n"), made.split("\n"), PAGE, "as the contracts are", lineterm="", n=1)
     else:
         with open(PAGE, "w", encoding="utf-8") as file:
