@@ -37,14 +37,14 @@ words="crt1.o crti.o main.o libc.a crtn.o"
 
 echo "\$ tools/judge/link.py lld -o a.out -Map=peer.map $words"
 # shellcheck disable=SC2086
-python3 "$judge/link.py" lld -o a.out -Map=peer.map $words
+"$judge/link.py" lld -o a.out -Map=peer.map $words
 
 echo "\$ ./a.out pear 12 300 | tail -n 1"
 ./a.out pear 12 300 | tail -n 1
 
 echo "\$ tools/judge/judge.py a.out peer.map $words"
 # shellcheck disable=SC2086
-python3 "$judge/judge.py" a.out peer.map $words
+"$judge/judge.py" a.out peer.map $words
 
 # The file has code from the address of .text on, at that address less 0x400000.
 code=$(awk '$5 == ".text" { print $1; exit }' peer.map)
@@ -53,6 +53,6 @@ echo "The fifth byte of .text is another one now."
 echo "\$ tools/judge/judge.py a.out peer.map $words; echo \$?"
 status=0
 # shellcheck disable=SC2086
-python3 "$judge/judge.py" a.out peer.map $words 2>&1 || status=$?
+"$judge/judge.py" a.out peer.map $words 2>&1 || status=$?
 echo "$status"
 [ "$status" -eq 1 ]
