@@ -37,7 +37,8 @@ fn digits_value(digits: &[u8]) -> u64
 /// The number in a field of one or more decimal digits and spaces behind them; None in another one.
 pub fn number_in(field: &[u8]) -> Option<u64>
     requires { length field.now ≤ 16 }
-    ensures exact { SomeIff result (IsTrue (archive.is_number field.now)) (archive.number field.now) }
+    ensures exact { SomeIff result (IsTrue (archive.is_number field.now))
+        (archive.number field.now) }
     ensures small { IfSome result (λ n. n < 10 ^ 16) }
 {
     let (digits, rest) = field.split_at(digit_count(field));

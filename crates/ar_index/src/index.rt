@@ -69,7 +69,8 @@ fn entry_count(index: &View<'_>, width: usize) -> Option<usize>
 
 /// The text at the beginning of strings, and what follows the NUL that ends it.
 fn first_text(strings: &[u8]) -> Option<(&[u8], &[u8])>
-    ensures { SomeIff {T = List ℕ × List ℕ} (option_map (λ t. (t.0.now, t.1.now)) result) (HasText strings.now 0) (text strings.now 0, after_text strings.now) }
+    ensures { SomeIff {T = List ℕ × List ℕ} (option_map (λ t. (t.0.now, t.1.now)) result)
+        (HasText strings.now 0) (text strings.now 0, after_text strings.now) }
 {
     let name = View::new(strings).text_at(0)?;
     let (_name_and_nul, rest) = strings.split_at(name.len() + 1);
@@ -88,7 +89,8 @@ fn read_entries<'a>(
     requires numbers { width + width * count ≤ length index.now }
     ensures entries { IfOk result (λ v. v.items ≡ archive.index_entries width index.now) }
     ensures texts { IfOk result (λ _. AreTexts count (archive.index_strings width index.now)) }
-    ensures fault { IfErr result (IsIndexFault (AreTexts count (archive.index_strings width index.now))) }
+    ensures fault { IfErr result (IsIndexFault
+        (AreTexts count (archive.index_strings width index.now))) }
 {
     let mut entries = Vec::with_capacity(alloc, count)?;
     let (_numbers, strings) = index.bytes().split_at(width + width * count);
@@ -111,9 +113,11 @@ fn read_entries<'a>(
 
 /// The entries of a member that is an index.
 fn read_data<'a>(alloc: Global, member: &StoredMember<'a>) -> Result<Vec<IndexEntry<'a>>, ArFault>
-    ensures entries { IfOk result (λ v. v.items ≡ archive.index_entries (archive.width_of member.now) member.now.bytes) }
+    ensures entries { IfOk result (λ v. v.items
+        ≡ archive.index_entries (archive.width_of member.now) member.now.bytes) }
     ensures form { IfOk result (λ _. IsIndexData (archive.width_of member.now) member.now.bytes) }
-    ensures fault { IfErr result (IsIndexFault (IsIndexData (archive.width_of member.now) member.now.bytes)) }
+    ensures fault { IfErr result (IsIndexFault
+        (IsIndexData (archive.width_of member.now) member.now.bytes)) }
 {
     let width = if is_wide_index(member) { 8 } else { 4 };
     let index = View::new(member.bytes());
@@ -164,7 +168,8 @@ fn are_of_members(members: &[Member<'_>], entries: &[IndexEntry<'_>]) -> bool
 /// Whether every entry of the index, where there is one, names one of the members, which stand by offset.
 pub fn names_members(index: &Option<Vec<IndexEntry<'_>>>, members: &[Member<'_>]) -> bool
     requires { AreAscending members.now }
-    ensures { IsTrue result ↔ All (λ e. IsSome (archive.data_of members.now e.offset)) (unwrap_or (option_map (λ v. v.items) index.now) []) }
+    ensures { IsTrue result ↔ All (λ e. IsSome (archive.data_of members.now e.offset))
+        (unwrap_or (option_map (λ v. v.items) index.now) []) }
 {
     match index {
         Some(entries) => are_of_members(members, entries),

@@ -63,8 +63,10 @@ pub fn ordinary_members<'a>(
 fn begun_before(members: &[Member<'_>], offset: u64) -> usize
     requires { AreAscending members.now }
     ensures within { result ≤ length members.now }
-    ensures before { (k : ℕ) (d : archive.Member) → k < result → (slice_index_or members.now k d).offset < offset }
-    ensures from { (k : ℕ) (d : archive.Member) → result ≤ k → k < length members.now → offset ≤ (slice_index_or members.now k d).offset }
+    ensures before { (k : ℕ) (d : archive.Member) →
+        k < result → (slice_index_or members.now k d).offset < offset }
+    ensures from { (k : ℕ) (d : archive.Member) →
+        result ≤ k → k < length members.now → offset ≤ (slice_index_or members.now k d).offset }
 {
     members.partition_point(|m| m.offset() < offset)
 }

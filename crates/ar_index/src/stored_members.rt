@@ -102,7 +102,8 @@ fn read_member<'a>(file: &View<'a>, at: usize) -> Result<StoredMember<'a>, ArFau
     ensures readable { IfOk result (λ _. is_readable file.now at ≡ true) }
     ensures whole { IfOk result (λ _. IsWhole file.now at) }
     ensures good { IfOk result (λ _. IsGoodHeader file.now at) }
-    ensures next { IfOk result (λ m. at + 60 + length m.bytes + length m.bytes % 2 ≡ next_header file.now at) }
+    ensures next { IfOk result (λ m. at + 60 + length m.bytes + length m.bytes % 2
+        ≡ next_header file.now at) }
     ensures inside { IfOk result (λ _. next_header file.now at ≤ length file.now) }
     ensures fault { IfErr result (IsFaultAt file.now at) }
 {
@@ -127,7 +128,8 @@ pub fn read_members<'a>(alloc: Global, file: &View<'a>) -> Result<Vec<StoredMemb
     ensures members { IfOk result (λ v. v.items ≡ stored_members file.now) }
     ensures whole { IfOk result (λ _. All (IsWhole file.now) (header_offsets file.now)) }
     ensures headers { IfOk result (λ _. All (IsGoodHeader file.now) (header_offsets file.now)) }
-    ensures readable { IfOk result (λ _. All (λ at. is_readable file.now at ≡ true) (header_offsets file.now)) }
+    ensures readable { IfOk result (λ _.
+        All (λ at. is_readable file.now at ≡ true) (header_offsets file.now)) }
     ensures fault { IfErr result (ArFaultStands file.now) }
 {
     let mut members = Vec::new(alloc);

@@ -85,8 +85,10 @@ fn members_of(
     group: &SectionPart<'_>,
 ) -> Result<Option<Vec<u32>>, AllocError>
     requires { IsOfType tables.now 17 group.now }
-    ensures readable { IfOk result (λ o. IfSome o (λ _. HasMembers (length tables.now) group.now.header)) }
-    ensures exact { IfOk result (λ o. IfSome o (λ v. v.items ≡ group_members tables.now group.now.header)) }
+    ensures readable { IfOk result (λ o.
+        IfSome o (λ _. HasMembers (length tables.now) group.now.header)) }
+    ensures exact { IfOk result (λ o.
+        IfSome o (λ v. v.items ≡ group_members tables.now group.now.header)) }
 {
     let size = group.header.sh_size as usize;
     if size == 0 || size % WORD_SIZE != 0 || !lies_inside(&group.header, tables.file().len()) {

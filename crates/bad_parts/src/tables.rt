@@ -122,7 +122,8 @@ impl<'a> Tables<'a> {
     /// Whether a section is a string table inside the file.
     fn has_strings(&self, number: usize) -> bool
         ensures strings { IsTrue result → (section (sections self.now) number).sh_type ≡ 3 }
-        ensures inside { IsTrue result → LiesInside (length self.now) (section (sections self.now) number) }
+        ensures inside { IsTrue result → LiesInside (length self.now)
+            (section (sections self.now) number) }
     {
         let strings = section(self.sections(), number);
         strings.sh_type == SHT_STRTAB && lies_inside(&strings, self.file().len())

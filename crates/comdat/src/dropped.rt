@@ -59,7 +59,8 @@ pub fn admit_groups<'a>(
 ) -> Result<Dropped, AllocError>
     requires { All (λ g. All (λ k. k < count) g.members) groups.now }
     ensures dropped { IfOk result (λ d. d ≡ dropped (names_of signatures.old.keys) groups.now) }
-    ensures seen { OnOk result (names_of signatures.new.keys ≡ seen_after (names_of signatures.old.keys) groups.now) }
+    ensures seen { OnOk result (names_of signatures.new.keys
+        ≡ seen_after (names_of signatures.old.keys) groups.now) }
     ensures begins { Begins signatures.old.keys signatures.new.keys }
 {
     let mut marks = vec![in alloc; false; count]?;
@@ -76,8 +77,10 @@ fn admit_group<'a>(
     marks: &mut [bool],
     group: &Group<'a>,
 ) -> Result<(), AllocError>
-    ensures marks { OnOk result (marks.new ≡ marks_after (names_of signatures.old.keys) marks.old group.now) }
-    ensures seen { OnOk result (names_of signatures.new.keys ≡ seen_with (names_of signatures.old.keys) group.now) }
+    ensures marks { OnOk result (marks.new
+        ≡ marks_after (names_of signatures.old.keys) marks.old group.now) }
+    ensures seen { OnOk result (names_of signatures.new.keys
+        ≡ seen_with (names_of signatures.old.keys) group.now) }
     ensures begins { Begins signatures.old.keys signatures.new.keys }
 {
     if !is_comdat(group) {

@@ -52,7 +52,8 @@ impl<'a> Groups<'a> {
         ensures lawful { OnOk result (AreLawfulGroups (groups object.now)) }
         ensures dropped { IfOk result (λ d. d ≡ dropped self.old (groups object.now)) }
         // The same as a relation over all groups that were admitted, in load order.
-        ensures load_order { IfOk result (λ d. (earlier : List Group) → self.old ≡ seen_after [] earlier → AreDropped earlier (groups object.now) d) }
+        ensures load_order { IfOk result (λ d. (earlier : List Group) →
+            self.old ≡ seen_after [] earlier → AreDropped earlier (groups object.now) d) }
         ensures admitted { OnOk result (self.new ≡ seen_after self.old (groups object.now)) }
         ensures fault { IfErr result (GroupFaultStands (groups object.now)) }
         ensures unchanged { OnErr result (self.new ≡ self.old) }

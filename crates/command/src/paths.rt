@@ -57,7 +57,8 @@ impl Found {
 /// # Errors
 /// Where the path can't grow.
 pub fn library_path(alloc: Global, directory: &str, name: &str) -> Result<String, AllocError>
-    ensures { IfOk result (λ s. string_bytes s ≡ directory.now ++ (codes "/lib" ++ (name.now ++ codes ".a"))) }
+    ensures { IfOk result (λ s. string_bytes s
+        ≡ directory.now ++ (codes "/lib" ++ (name.now ++ codes ".a"))) }
 {
     format!(in alloc; "{directory}/lib{name}.a")
 }
@@ -69,7 +70,8 @@ fn add_library(
     directories: &[&str],
     name: &str,
 ) -> Result<(), AllocError>
-    ensures { OnOk result (found.new ≡ with_all found.old (library_paths (texts_of directories.now) name.now)) }
+    ensures { OnOk result (found.new
+        ≡ with_all found.old (library_paths (texts_of directories.now) name.now)) }
 {
     for directory in directories {
         found.add(library_path(alloc, directory, name)?)?;
@@ -84,7 +86,8 @@ fn add_source(
     directories: &[&str],
     source: Source<'_>,
 ) -> Result<(), AllocError>
-    ensures { OnOk result (found.new ≡ with_all found.old (paths_of (texts_of directories.now) (source_of source.entry))) }
+    ensures { OnOk result (found.new
+        ≡ with_all found.old (paths_of (texts_of directories.now) (source_of source.entry))) }
 {
     match source {
         Source::Path(path) => found.add(String::from_str(alloc, path)?)?,
@@ -100,7 +103,9 @@ fn add_items(
     directories: &[&str],
     items: &[Item<'_>],
 ) -> Result<(), AllocError>
-    ensures { OnOk result (found.new ≡ with_all found.old (flat_map (λ i. paths_of (texts_of directories.now) (source_of i.source)) items.now)) }
+    ensures { OnOk result (found.new
+        ≡ with_all found.old
+        (flat_map (λ i. paths_of (texts_of directories.now) (source_of i.source)) items.now)) }
 {
     for item in items {
         add_source(alloc, found, directories, item.source)?;

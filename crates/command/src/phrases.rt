@@ -138,7 +138,8 @@ fn base_of(value: &str) -> Option<u64>
 
 /// What an option with a nonempty value says.
 fn meaning<'a>(setting: Setting, value: &'a str) -> Result<Phrase<'a>, CmdFault>
-    ensures { MatchResult result (λ p. meaning (option_of setting) value.entry.now ≡ Ok (said_of p)) (λ f. meaning (option_of setting) value.entry.now ≡ Err f) }
+    ensures { MatchResult result (λ p. meaning (option_of setting) value.entry.now ≡ Ok (said_of p))
+        (λ f. meaning (option_of setting) value.entry.now ≡ Err f) }
 {
     match setting {
         Setting::OutputFile => Ok(Phrase::Output(value)),
@@ -155,7 +156,8 @@ fn meaning<'a>(setting: Setting, value: &'a str) -> Result<Phrase<'a>, CmdFault>
 
 /// What an option says with its value, which must not be empty.
 fn given<'a>(setting: Setting, value: &'a str) -> Result<Phrase<'a>, CmdFault>
-    ensures { MatchResult result (λ p. given (option_of setting) value.entry.now ≡ Ok (said_of p)) (λ f. given (option_of setting) value.entry.now ≡ Err f) }
+    ensures { MatchResult result (λ p. given (option_of setting) value.entry.now ≡ Ok (said_of p))
+        (λ f. given (option_of setting) value.entry.now ≡ Err f) }
 {
     if value.is_empty() {
         return Err(CmdFault::MissingValue);
@@ -165,7 +167,8 @@ fn given<'a>(setting: Setting, value: &'a str) -> Result<Phrase<'a>, CmdFault>
 
 /// What a word that is a phrase says.
 fn of_word<'a>(word: &'a str) -> Result<Phrase<'a>, CmdFault>
-    ensures { MatchResult result (λ p. of_word word.entry.now ≡ Ok (said_of p)) (λ f. of_word word.entry.now ≡ Err f) }
+    ensures { MatchResult result (λ p. of_word word.entry.now ≡ Ok (said_of p))
+        (λ f. of_word word.entry.now ≡ Err f) }
 {
     if let Some(phrase) = switch_of(word) {
         return Ok(phrase);
@@ -185,7 +188,10 @@ pub fn phrase_at<'a>(
     rest: &'a [String],
 ) -> Result<(Phrase<'a>, &'a [String]), CmdFault>
     ensures shorter { IfOk result (λ p. length p.1.now ≤ length rest.entry.now) }
-    ensures phrase { MatchResult result (λ p. phrase_at word.entry.now (words_of rest.entry.now) ≡ Ok (said_of p.0, words_of p.1.now)) (λ f. phrase_at word.entry.now (words_of rest.entry.now) ≡ Err f) }
+    ensures phrase { MatchResult result
+        (λ p. phrase_at word.entry.now (words_of rest.entry.now)
+        ≡ Ok (said_of p.0, words_of p.1.now))
+        (λ f. phrase_at word.entry.now (words_of rest.entry.now) ≡ Err f) }
 {
     let Some(setting) = setting_of(word) else {
         return Ok((of_word(word)?, rest));

@@ -45,7 +45,9 @@ fn is_archive(source: Source<'_>) -> bool
 
 /// The item that names a source where it stands; in a group it must be an archive.
 fn item_at<'a>(place: Place, source: Source<'a>) -> Result<Item<'a>, CmdFault>
-    ensures { MatchResult result (λ i. item_at place.whole place.group (source_of source.entry) ≡ Ok (item_of i)) (λ f. item_at place.whole place.group (source_of source.entry) ≡ Err f) }
+    ensures { MatchResult result
+        (λ i. item_at place.whole place.group (source_of source.entry) ≡ Ok (item_of i))
+        (λ f. item_at place.whole place.group (source_of source.entry) ≡ Err f) }
 {
     let archive = is_archive(source);
     if place.group.is_some() && !archive {
@@ -61,7 +63,10 @@ fn item_at<'a>(place: Place, source: Source<'a>) -> Result<Item<'a>, CmdFault>
 
 fn accept<'a>(plan: &mut Plan<'a>, place: &mut Place, phrase: Phrase<'a>) -> Result<(), CmdFault>
     requires { place.old.groups + 1 < 2 ^ 64 }
-    ensures taken { MatchResult result (λ _. accept (state_of plan.old place.old) (said_of phrase.entry) ≡ Ok (state_of plan.new place.new)) (λ f. Fails f (accept (state_of plan.old place.old) (said_of phrase.entry))) }
+    ensures taken { MatchResult result
+        (λ _. accept (state_of plan.old place.old) (said_of phrase.entry)
+        ≡ Ok (state_of plan.new place.new))
+        (λ f. Fails f (accept (state_of plan.old place.old) (said_of phrase.entry))) }
     ensures groups { place.new.groups ≤ place.old.groups + 1 }
 {
     match phrase {
@@ -133,7 +138,8 @@ fn read_phrases<'a>(
     words: &'a [String],
     at: &mut usize,
 ) -> Result<(Plan<'a>, Place), CmdFault>
-    ensures plan { IfOk result (λ r. command_of (words_of words.entry.now) ≡ finish (state_of r.0 r.1)) }
+    ensures plan { IfOk result (λ r. command_of (words_of words.entry.now)
+        ≡ finish (state_of r.0 r.1)) }
     ensures fault { IfErr result (IsRefusal (words_of words.entry.now)) }
 {
     let mut plan = default_plan(alloc);
@@ -161,7 +167,9 @@ pub fn read_words<'a>(alloc: Global, words: &'a [String]) -> Result<Plan<'a>, Cm
     ensures plan { IfOk result (λ p. command_of (words_of words.entry.now) ≡ Ok p) }
     ensures fault { IfErr result (IsRefusal (words_of words.entry.now)) }
     ensures phrases { IfOk result (HasPlan (words_of words.entry.now)) }
-    ensures only { (p : command.Plan) → HasPlan (words_of words.entry.now) p → MatchResult result (λ q. q ≡ p) (λ f. f ≡ CmdFault.Memory) }
+    ensures only { (p : command.Plan) →
+        HasPlan (words_of words.entry.now) p
+        → MatchResult result (λ q. q ≡ p) (λ f. f ≡ CmdFault.Memory) }
     ensures base { IfOk result (λ p. IsBase p.base) }
     ensures named { IfOk result IsNamed }
 {

@@ -96,10 +96,14 @@ pub fn judge_groups<'a>(
     requires symbol_table { HasGoodSymbolTable sections.now }
     requires tables { AreGoodGroupSections sections.now }
     requires named { AreSymbolsNamed symbol_strings.now symbols.now }
-    ensures exact { IfOk result (λ v. v.items ≡ groups_of file.now sections.now (names_of symbol_strings.now symbols.now)) }
+    ensures exact { IfOk result (λ v. v.items
+        ≡ groups_of file.now sections.now (names_of symbol_strings.now symbols.now)) }
     ensures signatures { OnOk result (HaveSignatures (length symbols.now) sections.now) }
-    ensures members { OnOk result (All (λ s. s.sh_type ≡ 17 → AreMembers sections.now (group_members file.now s)) sections.now) }
-    ensures fault { IfErr result (λ f. (h : FileHeader) → HasTable (length file.now) h → StandsIn file.now h sections.now symbols.now f) }
+    ensures members { OnOk result (All
+        (λ s. s.sh_type ≡ 17
+        → AreMembers sections.now (group_members file.now s)) sections.now) }
+    ensures fault { IfErr result (λ f. (h : FileHeader) →
+        HasTable (length file.now) h → StandsIn file.now h sections.now symbols.now f) }
 {
     if !have_signatures(sections, symbols.len()) {
         return Err(ObjFault::BadGroup);
@@ -159,7 +163,8 @@ fn read_groups<'a>(
     requires ranges { All (IsPlaced (length file.now)) sections.now }
     requires tables { AreGoodGroupSections sections.now }
     requires named { AreSymbolsNamed symbol_strings.now symbols.now }
-    ensures { IfOk result (λ v. v.items ≡ groups_of file.now sections.now (names_of symbol_strings.now symbols.now)) }
+    ensures { IfOk result (λ v. v.items
+        ≡ groups_of file.now sections.now (names_of symbol_strings.now symbols.now)) }
 {
     let mut groups = Vec::with_capacity(alloc, group_count(sections))?;
     for (i, section) in sections.iter().enumerate() {

@@ -114,7 +114,8 @@ impl<'a> Object<'a> {
     /// NULL or NOBITS.
     pub fn section_bytes(&self, i: usize) -> Option<&'a [u8]>
         ensures exact { option_copied result ≡ section_bytes self.now i }
-        ensures size { IfSome result (λ bytes. length bytes.now ≡ (section (sections self.now) i).sh_size) }
+        ensures size { IfSome result (λ bytes. length bytes.now
+            ≡ (section (sections self.now) i).sh_size) }
     {
         self.file.section_bytes(i)
     }
@@ -133,7 +134,8 @@ impl<'a> Object<'a> {
     /// The groups of sections, in the order of the sections that list them.
     pub fn groups(&self) -> &[Group<'a>]
         ensures exact { result.now ≡ groups self.now }
-        ensures members { All (λ g. All (λ k. k < length (sections self.now)) g.members) result.now }
+        ensures members { All (λ g. All (λ k.
+            k < length (sections self.now)) g.members) result.now }
     {
         self.file.groups()
     }

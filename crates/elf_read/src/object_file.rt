@@ -230,7 +230,8 @@ impl<'a> ObjectFile<'a> {
     /// NULL or NOBITS.
     pub fn section_bytes(&self, i: usize) -> Option<&'a [u8]>
         ensures exact { option_copied result ≡ section_bytes self.now i }
-        ensures size { IfSome result (λ bytes. length bytes.now ≡ (section (sections self.now) i).sh_size) }
+        ensures size { IfSome result (λ bytes. length bytes.now
+            ≡ (section (sections self.now) i).sh_size) }
     {
         let section = self.sections.get(i)?;
         if has_no_bytes(section) {
@@ -265,7 +266,8 @@ impl<'a> ObjectFile<'a> {
     /// The groups of sections, in the order of the sections that list them.
     pub fn groups(&self) -> &[Group<'a>]
         ensures exact { result.now ≡ groups self.now }
-        ensures members { All (λ g. All (λ k. k < length (sections self.now)) g.members) result.now }
+        ensures members { All (λ g. All (λ k.
+            k < length (sections self.now)) g.members) result.now }
     {
         self.groups.as_slice()
     }

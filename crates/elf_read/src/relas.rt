@@ -160,7 +160,8 @@ fn may_be_relocated(sections: &[SectionHeader], number: usize) -> bool
 /// it is a RELA section.
 fn has_good_entries(file: &View<'_>, section: &SectionHeader, count: usize) -> bool
     requires { IsPlaced (length file.now) section.now }
-    ensures { IsTrue result ↔ (section.now.sh_type ≡ 4 → AreGoodRelas count (relas_of file.now section.now)) }
+    ensures { IsTrue result ↔ (section.now.sh_type ≡ 4
+        → AreGoodRelas count (relas_of file.now section.now)) }
 {
     section.sh_type != SHT_RELA || RelaRun::of_section(file, section).is_good(count)
 }

@@ -45,7 +45,8 @@ pub fn judge_sections(
     ensures symbols { OnOk result (HasGoodSymbolTable sections.now) }
     ensures relas { OnOk result (AreGoodRelaSections sections.now) }
     ensures groups { OnOk result (AreGoodGroupSections sections.now) }
-    ensures fault { IfErr result (λ f. (symbols : List Symbol) → StandsIn file.now header.now sections.now symbols f) }
+    ensures fault { IfErr result (λ f. (symbols : List Symbol) →
+        StandsIn file.now header.now sections.now symbols f) }
 {
     if section(sections, 0).sh_type != SHT_NULL {
         return Err(ObjFault::BadSectionTable);
@@ -121,7 +122,8 @@ pub fn section_strings<'a>(
 
 /// The string table that holds the names of symbols.
 pub fn symbol_strings<'a>(file: &View<'a>, sections: &[SectionHeader]) -> View<'a>
-    ensures { result ≡ contents file.now (section sections.now (symbol_table sections.now).sh_link) }
+    ensures { result ≡ contents file.now
+        (section sections.now (symbol_table sections.now).sh_link) }
 {
     contents(
         file,

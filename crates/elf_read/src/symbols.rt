@@ -32,7 +32,8 @@ pub fn read_symbols(
 ) -> Result<Vec<Symbol>, AllocError>
     requires small { length file.now < 2 ^ 32 }
     requires inside { LiesInside (length file.now) table.now }
-    ensures { IfOk result (λ v. v.items ≡ entries symbol 24 file.now table.now.sh_offset (table.now.sh_size / 24)) }
+    ensures { IfOk result (λ v. v.items
+        ≡ entries symbol 24 file.now table.now.sh_offset (table.now.sh_size / 24)) }
 {
     let count = table.sh_size as usize / SYM_SIZE;
     let mut symbols = Vec::with_capacity(alloc, count)?;
@@ -64,8 +65,11 @@ pub fn judge_symbols(
     requires sections { HasGoodSections file.now header.now sections.now }
     requires symbols_are { symbols.now ≡ symbols_of file.now sections.now }
     ensures symbols { OnOk result (AreGoodSymbols header.now.e_shnum symbols.now) }
-    ensures section_names { OnOk result (AreSectionsNamed (contents file.now (section sections.now header.now.e_shstrndx)) sections.now) }
-    ensures symbol_names { OnOk result (AreSymbolsNamed (contents file.now (section sections.now (symbol_table sections.now).sh_link)) symbols.now) }
+    ensures section_names { OnOk result (AreSectionsNamed
+        (contents file.now (section sections.now header.now.e_shstrndx)) sections.now) }
+    ensures symbol_names { OnOk result (AreSymbolsNamed
+        (contents file.now
+        (section sections.now (symbol_table sections.now).sh_link)) symbols.now) }
     ensures fault { IfErr result (StandsIn file.now header.now sections.now symbols.now) }
 {
     if !are_good_symbols(symbols, header.e_shnum) {

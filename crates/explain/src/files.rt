@@ -96,7 +96,8 @@ fn unsearchable_place<'a>(
     fault: SearchFault,
 ) -> Result<Option<Place<'a>>, AllocError>
     requires { IsUnsearchable fault (item_view item.now) }
-    ensures { (files : List File) (plan : command.Plan) → IsOpened files plan item.now → IfOk result (λ o. IfSome o (HoldsOf files plan)) }
+    ensures { (files : List File) (plan : command.Plan) →
+        IsOpened files plan item.now → IfOk result (λ o. IfSome o (HoldsOf files plan)) }
 {
     let place = place_of(item, 0);
     match fault {
@@ -108,7 +109,8 @@ fn unsearchable_place<'a>(
 
 /// What is wrong with an opened item, where it is read as an archive.
 fn archive_place<'a>(alloc: Global, item: &OpenedItem<'a>) -> Result<Option<Place<'a>>, AllocError>
-    ensures { (files : List File) (plan : command.Plan) → IsOpened files plan item.now → IfOk result (λ o. IfSome o (HoldsOf files plan)) }
+    ensures { (files : List File) (plan : command.Plan) →
+        IsOpened files plan item.now → IfOk result (λ o. IfSome o (HoldsOf files plan)) }
 {
     match read_input(alloc, item) {
         Ok(_) => Ok(None),
@@ -154,7 +156,8 @@ fn data_of<'a>(
     item: &OpenedItem<'a>,
     offset: u64,
 ) -> Result<Option<&'a [u8]>, AllocError>
-    ensures { IfOk result (λ o. IfSome o (λ bytes. IsDataOf (item_view item.now) offset bytes.now)) }
+    ensures { IfOk result (λ o.
+        IfSome o (λ bytes. IsDataOf (item_view item.now) offset bytes.now)) }
 {
     if !item.archive {
         return Ok(if offset == 0 { Some(item.bytes) } else { None });
@@ -218,7 +221,8 @@ fn object_place<'a>(
     item: &OpenedItem<'a>,
     offset: u64,
 ) -> Result<Option<Place<'a>>, AllocError>
-    ensures { (files : List File) (plan : command.Plan) → IsOpened files plan item.now → IfOk result (λ o. IfSome o (HoldsOf files plan)) }
+    ensures { (files : List File) (plan : command.Plan) →
+        IsOpened files plan item.now → IfOk result (λ o. IfSome o (HoldsOf files plan)) }
 {
     match data_of(alloc, item, offset)? {
         Some(bytes) => bytes_place(alloc, place_of(item, offset), bytes),

@@ -35,13 +35,25 @@ impl<'a> Found<'a> {
 
     /// Takes in a place: keeps it, or counts it where as many are kept as may be.
     pub fn add(&mut self, place: Place<'a>) -> Result<(), AllocError>
-        ensures loaded { (l : LoadedPlan) → AreSo l self.old.places.items → HoldsIn l place.entry → OnOk result (AreSo l self.new.places.items) }
-        ensures files { (files : List File) (plan : command.Plan) → AreSoOf files plan self.old.places.items → HoldsOf files plan place.entry → OnOk result (AreSoOf files plan self.new.places.items) }
-        ensures words { (files : List File) (words : List (List ℕ)) → All (Says files words) self.old.places.items → Says files words place.entry → OnOk result (All (Says files words) self.new.places.items) }
-        ensures phase { (files : List File) (words : List (List ℕ)) (phase : Phase) → All (IsOfPhase files words phase) self.old.places.items → IsOfPhase files words phase place.entry → OnOk result (All (IsOfPhase files words phase) self.new.places.items) }
-        ensures holds { (files : List File) (words : List (List ℕ)) → All (Holds files words) self.old.places.items → Holds files words place.entry → OnOk result (All (Holds files words) self.new.places.items) }
+        ensures loaded { (l : LoadedPlan) →
+            AreSo l self.old.places.items → HoldsIn l place.entry
+            → OnOk result (AreSo l self.new.places.items) }
+        ensures files { (files : List File) (plan : command.Plan) →
+            AreSoOf files plan self.old.places.items → HoldsOf files plan place.entry
+            → OnOk result (AreSoOf files plan self.new.places.items) }
+        ensures words { (files : List File) (words : List (List ℕ)) →
+            All (Says files words) self.old.places.items → Says files words place.entry
+            → OnOk result (All (Says files words) self.new.places.items) }
+        ensures phase { (files : List File) (words : List (List ℕ)) (phase : Phase) →
+            All (IsOfPhase files words phase) self.old.places.items
+            → IsOfPhase files words phase place.entry
+            → OnOk result (All (IsOfPhase files words phase) self.new.places.items) }
+        ensures holds { (files : List File) (words : List (List ℕ)) →
+            All (Holds files words) self.old.places.items → Holds files words place.entry
+            → OnOk result (All (Holds files words) self.new.places.items) }
         ensures most { self.new.most ≡ self.old.most }
-        ensures few { length self.old.places.items ≤ self.old.most → length self.new.places.items ≤ self.old.most }
+        ensures few { length self.old.places.items ≤ self.old.most
+            → length self.new.places.items ≤ self.old.most }
         ensures some { OnOk result (0 < self.old.most → 0 < length self.new.places.items) }
     {
         if self.places.len() >= self.most {
@@ -54,8 +66,12 @@ impl<'a> Found<'a> {
 
     /// Takes in a place, where there is one.
     pub fn add_some(&mut self, place: Option<Place<'a>>) -> Result<(), AllocError>
-        ensures loaded { (l : LoadedPlan) → AreSo l self.old.places.items → IfSome place.entry (HoldsIn l) → OnOk result (AreSo l self.new.places.items) }
-        ensures files { (files : List File) (plan : command.Plan) → AreSoOf files plan self.old.places.items → IfSome place.entry (HoldsOf files plan) → OnOk result (AreSoOf files plan self.new.places.items) }
+        ensures loaded { (l : LoadedPlan) →
+            AreSo l self.old.places.items → IfSome place.entry (HoldsIn l) →
+            OnOk result (AreSo l self.new.places.items) }
+        ensures files { (files : List File) (plan : command.Plan) →
+            AreSoOf files plan self.old.places.items → IfSome place.entry (HoldsOf files plan) →
+            OnOk result (AreSoOf files plan self.new.places.items) }
     {
         match place {
             Some(place) => self.add(place),
@@ -66,7 +82,9 @@ impl<'a> Found<'a> {
     /// Takes in a place, where it is of a phase.
     fn add_of(&mut self, place: Place<'a>, phase: Phase) -> Result<(), AllocError>
         requires { length self.old.places.items ≤ self.old.most }
-        ensures phase { (files : List File) (words : List (List ℕ)) → All (IsOfPhase files words phase) self.old.places.items → Says files words place.entry → OnOk result (All (IsOfPhase files words phase) self.new.places.items) }
+        ensures phase { (files : List File) (words : List (List ℕ)) →
+            All (IsOfPhase files words phase) self.old.places.items → Says files words place.entry
+            → OnOk result (All (IsOfPhase files words phase) self.new.places.items) }
         ensures most { OnOk result (self.new.most ≡ self.old.most) }
         ensures few { OnOk result (length self.new.places.items ≤ self.new.most) }
     {
@@ -78,7 +96,9 @@ impl<'a> Found<'a> {
 
     /// The places that are of a phase, at most so many.
     pub fn of_phase(self, alloc: Global, phase: Phase, most: usize) -> Result<Found<'a>, AllocError>
-        ensures phase { (files : List File) (words : List (List ℕ)) → All (Says files words) self.entry.places.items → IfOk result (λ f. All (IsOfPhase files words phase) f.places.items) }
+        ensures phase { (files : List File) (words : List (List ℕ)) →
+            All (Says files words) self.entry.places.items
+            → IfOk result (λ f. All (IsOfPhase files words phase) f.places.items) }
         ensures most { IfOk result (λ f. f.most ≡ most) }
         ensures few { IfOk result (λ f. length f.places.items ≤ most) }
     {
@@ -94,7 +114,10 @@ impl<'a> Found<'a> {
     /// Takes in an error as a whole, where no place of it was found.
     pub fn or_error(self, error: &'a LinkError) -> Result<Found<'a>, AllocError>
         requires { length self.places.items ≤ self.most }
-        ensures holds { (files : List File) (words : List (List ℕ)) → All (Holds files words) self.entry.places.items → error.entry.now ≢ link_error.Memory → Cause files words error.entry.now → IfOk result (λ f. All (Holds files words) f.places.items) }
+        ensures holds { (files : List File) (words : List (List ℕ)) →
+            All (Holds files words) self.entry.places.items → error.entry.now ≢ link_error.Memory
+            → Cause files words error.entry.now
+            → IfOk result (λ f. All (Holds files words) f.places.items) }
         ensures few { IfOk result (λ f. length f.places.items ≤ self.entry.most) }
         ensures some { IfOk result (λ f. 0 < self.entry.most → 0 < length f.places.items) }
     {

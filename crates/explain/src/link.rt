@@ -47,7 +47,8 @@ fn add_word(
 ) -> Result<(), AllocError>
     requires none { found.old.places.items ≡ [] }
     requires fault { command_of (words_of words.now) ≡ Err fault }
-    ensures { (files : List File) → OnOk result (All (Says files (words_of words.now)) found.new.places.items) }
+    ensures { (files : List File) →
+        OnOk result (All (Says files (words_of words.now)) found.new.places.items) }
 {
     found.add(Place::Word(word_at(alloc, words), fault))
 }
@@ -217,7 +218,8 @@ fn add_reasons<'a>(
     words: &'a [String],
 ) -> Result<(), AllocError>
     requires { found.old.places.items ≡ [] }
-    ensures { OnOk result (All (Says (files_of files.now) (words_of words.now)) found.new.places.items) }
+    ensures { OnOk result (All
+        (Says (files_of files.now) (words_of words.now)) found.new.places.items) }
 {
     match read_words(alloc, words) {
         Ok(plan) => add_plan(alloc, found, files, &plan),
@@ -241,7 +243,8 @@ pub fn explain<'a>(
     most: usize,
 ) -> Result<Found<'a>, AllocError>
     requires { Cause (files_of files.now) (words_of words.now) error.now }
-    ensures holds { IfOk result (λ f. All (Holds (files_of files.entry.now) (words_of words.entry.now)) f.places.items) }
+    ensures holds { IfOk result (λ f.
+        All (Holds (files_of files.entry.now) (words_of words.entry.now)) f.places.items) }
     ensures few { IfOk result (λ f. length f.places.items ≤ most) }
     ensures some { IfOk result (λ f. 0 < most → 0 < length f.places.items) }
 {

@@ -90,7 +90,8 @@ pub fn relocation_place<'a>(
     ensures table { result.table ≡ i }
     ensures number { result.number ≡ e }
     ensures entry { result.entry ≡ entry.now }
-    ensures told { IsTold result (relocation_of number (loaded_view loaded.now) header.now.sh_info entry.now) }
+    ensures told { IsTold result (relocation_of number
+        (loaded_view loaded.now) header.now.sh_info entry.now) }
 {
     let section = header.sh_info as usize;
     RelocationPlace {
@@ -130,7 +131,8 @@ pub fn symbol_at(one: &LoadedObject<'_>, j: usize) -> Option<Symbol>
 pub fn entry_at(one: &LoadedObject<'_>, i: usize, header: &SectionHeader, e: usize) -> Option<Rela>
     requires there { slice_get (sections (loaded_view one.now).bytes) i ≡ Some header.now }
     requires rela { header.now.sh_type ≡ 4 }
-    ensures { IfSome result (λ x. slice_get (relas_of (loaded_view one.now).bytes header.now) e ≡ Some x) }
+    ensures { IfSome result (λ x. slice_get (relas_of (loaded_view one.now).bytes header.now) e
+        ≡ Some x) }
 {
     one.entries_of(i, header).get(e)
 }
@@ -149,9 +151,11 @@ pub fn kept_place<'a>(
     requires object { slice_get loaded.now.objects number ≡ Some (loaded_view one.now) }
     requires table { slice_get (sections (loaded_view one.now).bytes) i ≡ Some header.now }
     requires kept { is_kept_rela (loaded_view one.now) i header.now ≡ true }
-    requires entry { slice_get (relas_of (loaded_view one.now).bytes header.now) e ≡ Some entry.now }
+    requires entry { slice_get (relas_of (loaded_view one.now).bytes header.now) e
+        ≡ Some entry.now }
     requires some_kind { is_some_kind entry.now ≡ true }
-    ensures { IsRelocationAt loaded.now.objects result (relocation_of number (loaded_view one.now) header.now.sh_info entry.now) }
+    ensures { IsRelocationAt loaded.now.objects result
+        (relocation_of number (loaded_view one.now) header.now.sh_info entry.now) }
 {
     let _loaded = loaded;
     relocation_place(number, one, i, header, e, entry)

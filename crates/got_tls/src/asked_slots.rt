@@ -32,7 +32,9 @@ fn add_entry<'a>(
     entry: &Rela,
 ) -> Result<(), AllocError>
     requires { IsAsker asker.now }
-    ensures { OnOk result (wants asked.new ≡ with_relocation (all_asked asker.now) (wants asked.old) (relocation_of asker.now.number (asking asker.now) target entry.now)) }
+    ensures { OnOk result (wants asked.new
+        ≡ with_relocation (all_asked asker.now) (wants asked.old)
+        (relocation_of asker.now.number (asking asker.now) target entry.now)) }
 {
     asked.got = asked.got || asker.asks_for_got(target, entry);
     if let Some(slot) = slot_of(asker.number, asker.loaded, entry) {
@@ -49,7 +51,10 @@ fn add_entries<'a>(
     entries: &RelaRun<'_>,
 ) -> Result<(), AllocError>
     requires { IsAsker asker.now }
-    ensures { OnOk result (wants asked.new ≡ with_relocations (all_asked asker.now) (wants asked.old) (map (relocation_of asker.now.number (asking asker.now) target) (filter is_some_kind entries.now))) }
+    ensures { OnOk result (wants asked.new
+        ≡ with_relocations (all_asked asker.now) (wants asked.old)
+        (map (relocation_of asker.now.number (asking asker.now) target)
+        (filter is_some_kind entries.now))) }
 {
     for i in 0..entries.len() {
         let entry = entries.at(i);
@@ -71,7 +76,9 @@ fn add_section<'a>(
     requires asker { IsAsker asker.now }
     requires there { slice_get (sections (asking asker.now).bytes) i ≡ Some header.now }
     requires rela { header.now.sh_type ≡ 4 }
-    ensures { OnOk result (wants asked.new ≡ with_relocations (all_asked asker.now) (wants asked.old) (relocations_in asker.now.number (asking asker.now) header.now)) }
+    ensures { OnOk result (wants asked.new
+        ≡ with_relocations (all_asked asker.now) (wants asked.old)
+        (relocations_in asker.now.number (asking asker.now) header.now)) }
 {
     let entries = asker.loaded.entries_of(i, header);
     add_entries(asked, asker, header.sh_info as u64, &entries)
@@ -80,7 +87,9 @@ fn add_section<'a>(
 /// Takes in what the kept relocations of an object ask for.
 fn add_relocations<'a>(asked: &mut Asked<'a>, asker: &Asker<'_, 'a>) -> Result<(), AllocError>
     requires { IsAsker asker.now }
-    ensures { OnOk result (wants asked.new ≡ with_relocations (all_asked asker.now) (wants asked.old) (relocations_from asker.now.number (asking asker.now))) }
+    ensures { OnOk result (wants asked.new
+        ≡ with_relocations (all_asked asker.now) (wants asked.old)
+        (relocations_from asker.now.number (asking asker.now))) }
 {
     let headers = asker.loaded.object.sections();
     for i in 0..headers.len() {
@@ -101,7 +110,9 @@ fn add_object<'a>(
     loaded: &LoadedObject<'a>,
 ) -> Result<(), AllocError>
     requires { slice_get resolved.now number ≡ Some (loaded_view loaded.now) }
-    ensures { OnOk result (wants asked.new ≡ with_relocations resolved.now (wants asked.old) (relocations_from number (loaded_view loaded.now))) }
+    ensures { OnOk result (wants asked.new
+        ≡ with_relocations resolved.now (wants asked.old)
+        (relocations_from number (loaded_view loaded.now))) }
 {
     let asker = Asker::new(resolved, number, loaded);
     add_relocations(asked, &asker)
@@ -114,7 +125,9 @@ pub fn asked_by<'a>(
     resolved: &Resolved<'a>,
 ) -> Result<Asked<'a>, AllocError>
     requires { resolved.now ≡ loaded_views objects.now }
-    ensures { IfOk result (λ a. wants a ≡ with_relocations (loaded_views objects.now) nothing (relocations (loaded_views objects.now))) }
+    ensures { IfOk result (λ a. wants a
+        ≡ with_relocations (loaded_views objects.now) nothing
+        (relocations (loaded_views objects.now))) }
 {
     let mut asked = Asked {
         got: false,

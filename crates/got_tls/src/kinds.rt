@@ -173,7 +173,8 @@ fn speaks_of_got(formula: Formula) -> bool
 
 /// The slot that a type asks for; None where it asks for none, or isn't a type of relocations.
 pub fn asked_slot(number: u32) -> Option<SlotKind>
-    ensures { result ≡ option_and_then (λ k. wanted.slot_kind_of k.formula) (relocation.kind_of number) }
+    ensures { result ≡ option_and_then (λ k. wanted.slot_kind_of k.formula)
+        (relocation.kind_of number) }
 {
     match Kind::of(number) {
         Some(kind) => slot_kind(kind.formula),
@@ -183,7 +184,8 @@ pub fn asked_slot(number: u32) -> Option<SlotKind>
 
 /// Whether a type asks for a GOT.
 pub fn asks_of_got(number: u32) -> bool
-    ensures { result ≡ option_map_or (λ k. wanted.speaks_of_got k.formula) (relocation.kind_of number) false }
+    ensures { result ≡ option_map_or (λ k. wanted.speaks_of_got k.formula)
+        (relocation.kind_of number) false }
 {
     match Kind::of(number) {
         Some(kind) => speaks_of_got(kind.formula),

@@ -106,7 +106,8 @@ impl<'k, 'a> Asker<'k, 'a> {
     /// Whether symbol `j` names the GOT.
     fn names_got(&self, j: usize) -> bool
         requires { IsAsker self.now }
-        ensures { result ≡ wanted.names_got (all_asked self.now) (symbol_at self.now.number (asking self.now) j) }
+        ensures { result ≡ wanted.names_got (all_asked self.now)
+            (symbol_at self.now.number (asking self.now) j) }
     {
         if !self.named {
             return false;
@@ -117,7 +118,8 @@ impl<'k, 'a> Asker<'k, 'a> {
     /// Whether an entry, which relocates the section `target`, asks for a GOT.
     pub fn asks_for_got(&self, target: u64, entry: &Rela) -> bool
         requires { IsAsker self.now }
-        ensures { result ≡ wanted.asks_for_got (all_asked self.now) (relocation_of self.now.number (asking self.now) target entry.now) }
+        ensures { result ≡ wanted.asks_for_got (all_asked self.now)
+            (relocation_of self.now.number (asking self.now) target entry.now) }
     {
         asks_of_got(entry.kind()) || self.names_got(entry.symbol() as usize)
     }

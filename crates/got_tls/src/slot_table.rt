@@ -123,7 +123,8 @@ impl<'a> Slots<'a> {
     /// Where the GOT's size isn't a number of 64 bits, for which there is no memory either.
     pub(crate) fn new(asked: Asked<'a>) -> Result<Slots<'a>, AllocError>
         ensures slots { IfOk result (λ s. s.slots ≡ slot_views asked.entry.slots.keys) }
-        ensures got { IfOk result (λ s. s.got ≡ cond asked.entry.got (wanted.size_with (length asked.entry.slots.keys)) 0) }
+        ensures got { IfOk result (λ s. s.got
+            ≡ cond asked.entry.got (wanted.size_with (length asked.entry.slots.keys)) 0) }
     {
         let got = if asked.got {
             size_with(asked.slots.len())?

@@ -14,8 +14,10 @@ use layout::Placement;
 #[tactic(auto, using(crate::proofs::Blocks::own_block_law, crate::proofs::Blocks::block_some, crate::proofs::Blocks::block_low, crate::proofs::Blocks::block_aligned))]
 pub fn tls_block(placement: &Placement<'_>) -> Option<TlsBlock>
     ensures block { result ≡ thread_block (own_placed placement.now.base placement.now.objects) }
-    ensures listed { AreLawfulKinds placement.now.objects → result ≡ thread_block (own_in_load_order placement.now.base placement.now.objects) }
-    ensures law { IfSome result (IsBlockOf (thread_places (own_placed placement.now.base placement.now.objects))) }
+    ensures listed { AreLawfulKinds placement.now.objects
+        → result ≡ thread_block (own_in_load_order placement.now.base placement.now.objects) }
+    ensures law { IfSome result (IsBlockOf
+        (thread_places (own_placed placement.now.base placement.now.objects))) }
     ensures some { IfSome result (λ b. 0 < b.align) }
     ensures low { IfSome result EndsLow }
     ensures aligned { IfSome result IsAligned }

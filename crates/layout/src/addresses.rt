@@ -11,8 +11,11 @@ use std::alloc::{AllocError, Global};
 
 /// Puts a row of no addresses behind the rows.
 fn add_row(alloc: Global, table: &mut Vec<Vec<Option<u64>>>, count: usize) -> Result<(), AllocError>
-    ensures shape { OnOk result (shape_of table.new.items ≡ shape_of table.old.items ++ count ∷ []) }
-    ensures empty { OnOk result (((object section : ℕ) → entry table.old.items object section ≡ None) → (object section : ℕ) → entry table.new.items object section ≡ None) }
+    ensures shape { OnOk result (shape_of table.new.items
+        ≡ shape_of table.old.items ++ count ∷ []) }
+    ensures empty { OnOk result (((object section : ℕ) →
+        entry table.old.items object section ≡ None) → (object section : ℕ) →
+        entry table.new.items object section ≡ None) }
 {
     let row: Vec<Option<u64>> = Vec::from_elem(alloc, None, count)?;
     table.push(row)?;
@@ -25,7 +28,8 @@ fn empty_table(
     objects: &[LoadedObject<'_>],
     blocks: usize,
 ) -> Result<Vec<Vec<Option<u64>>>, AllocError>
-    ensures shape { IfOk result (λ t. shape_of t.items ≡ piece_counts (loaded_views objects.now) blocks) }
+    ensures shape { IfOk result (λ t. shape_of t.items
+        ≡ piece_counts (loaded_views objects.now) blocks) }
     ensures empty { IfOk result (λ t. (object section : ℕ) → entry t.items object section ≡ None) }
 {
     let mut table = Vec::with_capacity(alloc, objects.len())?;
@@ -42,7 +46,10 @@ fn empty_table(
 fn put_address(table: &mut Vec<Vec<Option<u64>>>, place: &Place<'_>)
     requires { HasEntry (shape_of table.old.items) place.now.piece.object place.now.piece.section }
     ensures shape { shape_of table.new.items ≡ shape_of table.old.items }
-    ensures put { (object section : ℕ) → entry table.new.items object section ≡ cond {A = Option ℕ} (is_of_section object section (place_view place.now)) (Some place.now.at) (entry table.old.items object section) }
+    ensures put { (object section : ℕ) →
+        entry table.new.items object section
+        ≡ cond {A = Option ℕ} (is_of_section object section (place_view place.now))
+        (Some place.now.at) (entry table.old.items object section) }
 {
     let row = &mut table[place.piece.object as usize];
     row[place.piece.section as usize] = Some(place.at);
@@ -56,8 +63,11 @@ pub fn address_table(
     blocks: usize,
     places: &[Place<'_>],
 ) -> Result<Vec<Vec<Option<u64>>>, AllocError>
-    requires { All (HasPlace (piece_counts (loaded_views objects.now) blocks)) (place_views places.now) }
-    ensures { IfOk result (λ t. (object section : ℕ) → entry t.items object section ≡ option_map (λ q. q.at) (find (is_of_section object section) (place_views places.now))) }
+    requires { All (HasPlace (piece_counts (loaded_views objects.now) blocks))
+        (place_views places.now) }
+    ensures { IfOk result (λ t. (object section : ℕ) →
+        entry t.items object section
+        ≡ option_map (λ q. q.at) (find (is_of_section object section) (place_views places.now))) }
 {
     let mut table = empty_table(alloc, objects, blocks)?;
     let mut left = places.len();

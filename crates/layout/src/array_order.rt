@@ -104,7 +104,8 @@ pub fn sorted_by_rank<'p, 'a>(
     alloc: Global,
     pieces: &[&'p Piece<'a>],
 ) -> Result<Vec<&'p Piece<'a>>, AllocError>
-    ensures { IfOk result (λ v. borrowed_views v.items ≡ order.in_array_order (borrowed_views pieces.now)) }
+    ensures { IfOk result (λ v. borrowed_views v.items
+        ≡ order.in_array_order (borrowed_views pieces.now)) }
 {
     let mut sorted = Vec::from_slice(alloc, pieces)?;
     sorted.sort_by_key(|p| array_rank(p.name))?;

@@ -119,7 +119,8 @@ pub fn start_of(part: Part, places: &[Place<'_>]) -> Option<u64>
 fn grown(extent: Option<Extent>, place: &Place<'_>) -> Extent
     requires { IsInLimit (place_view place.now) }
     ensures start { result.start ≡ least_of place.now.at (option_map (λ e. e.start) extent) }
-    ensures end { result.end ≡ max (option_map_or (λ e. e.end) extent 0) (place.now.at + place.now.piece.header.sh_size) }
+    ensures end { result.end ≡ max (option_map_or (λ e. e.end) extent 0)
+        (place.now.at + place.now.piece.header.sh_size) }
 {
     let end = place.at + place.piece.header.sh_size;
     match extent {
@@ -147,8 +148,12 @@ fn add_place<'a>(
     place: &Place<'a>,
 ) -> Result<(), AllocError>
     requires { IsInLimit (place_view place.now) }
-    ensures start { OnOk result ((name : List ℕ) → start_in extents.new name ≡ earlier (is_of_output name) (start_in extents.old name) (place_view place.now)) }
-    ensures end { OnOk result ((name : List ℕ) → end_in extents.new name ≡ further (is_of_output name) (end_in extents.old name) (place_view place.now)) }
+    ensures start { OnOk result ((name : List ℕ) →
+        start_in extents.new name
+        ≡ earlier (is_of_output name) (start_in extents.old name) (place_view place.now)) }
+    ensures end { OnOk result ((name : List ℕ) →
+        end_in extents.new name
+        ≡ further (is_of_output name) (end_in extents.old name) (place_view place.now)) }
 {
     let name = output_name(place.piece.name);
     let extent = grown(extent_of(extents, name), place);

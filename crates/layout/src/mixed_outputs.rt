@@ -48,7 +48,9 @@ fn add_piece<'a>(
     names: &mut BTreeSet<&'a [u8]>,
     piece: &Piece<'a>,
 ) -> Result<(), AllocError>
-    ensures { OnOk result ((done : List pieces.Piece) → IsFound firsts.old names.old done → IsFound firsts.new names.new (done ++ piece_view piece.now ∷ [])) }
+    ensures { OnOk result ((done : List pieces.Piece) →
+        IsFound firsts.old names.old done
+        → IsFound firsts.new names.new (done ++ piece_view piece.now ∷ [])) }
 {
     let name = output_name(piece.name);
     let Some(first) = first_of(firsts, name) else {
@@ -71,7 +73,10 @@ fn add_section<'a>(
     i: usize,
     header: &SectionHeader,
 ) -> Result<(), AllocError>
-    ensures { OnOk result ((done : List pieces.Piece) → IsFound firsts.old names.old done → IsFound firsts.new names.new (done ++ kept_one number (loaded_view loaded.now) i header.now)) }
+    ensures { OnOk result ((done : List pieces.Piece) →
+        IsFound firsts.old names.old done
+        → IsFound firsts.new names.new
+        (done ++ kept_one number (loaded_view loaded.now) i header.now)) }
 {
     if !loaded.is_kept(i, header) {
         return Ok(());
@@ -88,7 +93,11 @@ fn add_object<'a>(
     number: u64,
     loaded: &LoadedObject<'a>,
 ) -> Result<(), AllocError>
-    ensures { OnOk result ((done : List pieces.Piece) → IsFound firsts.old names.old done → IsFound firsts.new names.new (done ++ pieces.pieces_from number (loaded_view loaded.now) 0 (sections loaded.now.object))) }
+    ensures { OnOk result ((done : List pieces.Piece) →
+        IsFound firsts.old names.old done
+        → IsFound firsts.new names.new
+        (done ++ pieces.pieces_from number (loaded_view loaded.now) 0
+        (sections loaded.now.object))) }
 {
     let headers = loaded.object.sections();
     for (i, header) in headers.iter().enumerate() {

@@ -33,7 +33,8 @@ pub struct Order<'b, 'a> {
 
 /// Puts a piece behind others where it has a size.
 fn add_sized<'p, 'a>(out: &mut Vec<&'p Piece<'a>>, piece: &'p Piece<'a>) -> Result<(), AllocError>
-    ensures { OnOk result (borrowed_views out.new.items ≡ borrowed_views out.old.items ++ if_sized (piece_view piece.entry.now)) }
+    ensures { OnOk result (borrowed_views out.new.items
+        ≡ borrowed_views out.old.items ++ if_sized (piece_view piece.entry.now)) }
 {
     if piece.header.sh_size > 0 {
         out.push(piece)?;
@@ -43,7 +44,8 @@ fn add_sized<'p, 'a>(out: &mut Vec<&'p Piece<'a>>, piece: &'p Piece<'a>) -> Resu
 
 /// Puts pieces behind others.
 fn add_all<'p, 'a>(out: &mut Vec<&'p Piece<'a>>, pieces: &'p [Piece<'a>]) -> Result<(), AllocError>
-    ensures { OnOk result (borrowed_views out.new.items ≡ borrowed_views out.old.items ++ piece_views pieces.entry.now) }
+    ensures { OnOk result (borrowed_views out.new.items
+        ≡ borrowed_views out.old.items ++ piece_views pieces.entry.now) }
 {
     for piece in pieces {
         out.push(piece)?;

@@ -73,7 +73,9 @@ fn add_piece<'p, 'a>(
 ) -> Result<(), AllocError>
     requires { length outputs.old.keys ≡ length groups.old.items }
     ensures same { OnOk result (length outputs.new.keys ≡ length groups.new.items) }
-    ensures added { OnOk result ((done : List pieces.Piece) → AreGroups outputs.old.keys groups.old.items done → AreGroups outputs.new.keys groups.new.items (done ++ piece_view piece.entry.now ∷ [])) }
+    ensures added { OnOk result ((done : List pieces.Piece) →
+        AreGroups outputs.old.keys groups.old.items done
+        → AreGroups outputs.new.keys groups.new.items (done ++ piece_view piece.entry.now ∷ [])) }
 {
     let (number, is_new) = outputs.insert_full(output_section_of(piece))?;
     if is_new {
@@ -105,7 +107,8 @@ fn add_group<'p, 'a>(
     group: &[&'p Piece<'a>],
     part: Part,
 ) -> Result<(), AllocError>
-    ensures { OnOk result (borrowed_views out.new.items ≡ borrowed_views out.old.items ++ group_part part (borrowed_views group.now)) }
+    ensures { OnOk result (borrowed_views out.new.items
+        ≡ borrowed_views out.old.items ++ group_part part (borrowed_views group.now)) }
 {
     let Some(first) = group.first() else {
         return Ok(());
@@ -129,7 +132,8 @@ pub fn add_part<'p, 'a>(
     groups: &[Vec<&'p Piece<'a>>],
     part: Part,
 ) -> Result<(), AllocError>
-    ensures { OnOk result (borrowed_views out.new.items ≡ borrowed_views out.old.items ++ parts part groups.now) }
+    ensures { OnOk result (borrowed_views out.new.items
+        ≡ borrowed_views out.old.items ++ parts part groups.now) }
 {
     for group in groups {
         add_group(alloc, out, group.as_slice(), part)?;

@@ -62,7 +62,9 @@ fn add_pieces<'a>(
     number: u64,
     loaded: &LoadedObject<'a>,
 ) -> Result<(), AllocError>
-    ensures { OnOk result (piece_views out.new.items ≡ piece_views out.old.items ++ pieces.pieces_from number (loaded_view loaded.now) 0 (sections loaded.now.object)) }
+    ensures { OnOk result (piece_views out.new.items
+        ≡ piece_views out.old.items
+        ++ pieces.pieces_from number (loaded_view loaded.now) 0 (sections loaded.now.object)) }
 {
     let headers = loaded.object.sections();
     for (i, header) in headers.iter().enumerate() {
@@ -84,7 +86,8 @@ fn section_count(objects: &[LoadedObject<'_>]) -> usize {
 
 /// The kept sections of all objects, in load order.
 fn kept_of<'a>(alloc: Global, objects: &[LoadedObject<'a>]) -> Result<Vec<Piece<'a>>, AllocError>
-    ensures { IfOk result (λ v. piece_views v.items ≡ pieces.kept_sections (loaded_views objects.now)) }
+    ensures { IfOk result (λ v. piece_views v.items
+        ≡ pieces.kept_sections (loaded_views objects.now)) }
 {
     let mut found = Vec::with_capacity(alloc, section_count(objects))?;
     for (k, loaded) in objects.iter().enumerate() {

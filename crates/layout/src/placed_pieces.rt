@@ -66,11 +66,13 @@ fn lay_segment<'a>(
     requires from { start ≤ from }
     requires low { from ≤ 2 ^ 46 }
     requires aligned { AreAligned (borrowed_views pieces.now) }
-    ensures placed { OnOk result (place_views out.new.items ≡ place_views out.old.items ++ placed_from from (borrowed_views pieces.now)) }
+    ensures placed { OnOk result (place_views out.new.items
+        ≡ place_views out.old.items ++ placed_from from (borrowed_views pieces.now)) }
     ensures end { IfOk result (λ r. r.end ≡ own.end_of from (borrowed_views pieces.now)) }
     ensures above { IfOk result (λ r. from ≤ r.end) }
     ensures low { IfOk result (λ r. r.end ≤ 2 ^ 46) }
-    ensures segment { IfOk result (λ r. r.segment ≡ own.segment base rights start from (placed_from from (borrowed_views pieces.now))) }
+    ensures segment { IfOk result (λ r. r.segment
+        ≡ own.segment base rights start from (placed_from from (borrowed_views pieces.now))) }
     ensures limit { OnOk result (AreInLimit (placed_from from (borrowed_views pieces.now))) }
     ensures fault { IfErr result (RunFails (placed_from from (borrowed_views pieces.now))) }
 {
@@ -107,10 +109,13 @@ fn lay_writable<'a>(
     requires start { start ≡ own.data_start base (objects_of order.now) }
     requires above { base ≤ start }
     requires low { start ≤ 2 ^ 46 }
-    ensures placed { OnOk result (place_views out.new.items ≡ place_views out.old.items ++ own.own_data base (objects_of order.now)) }
-    ensures end { IfOk result (λ w. w.thread_end ≡ own.thread_rest_start base (objects_of order.now)) }
+    ensures placed { OnOk result (place_views out.new.items
+        ≡ place_views out.old.items ++ own.own_data base (objects_of order.now)) }
+    ensures end { IfOk result (λ w. w.thread_end
+        ≡ own.thread_rest_start base (objects_of order.now)) }
     ensures low { IfOk result (λ w. w.thread_end ≤ 2 ^ 47) }
-    ensures segment { IfOk result (λ w. w.segment ≡ own.segment base 6 start start (own.own_data base (objects_of order.now))) }
+    ensures segment { IfOk result (λ w. w.segment
+        ≡ own.segment base 6 start start (own.own_data base (objects_of order.now))) }
     ensures limit { OnOk result (AreInLimit (own.own_data base (objects_of order.now))) }
     ensures fault { IfErr result (RunFails (own.own_data base (objects_of order.now))) }
 {
@@ -173,7 +178,10 @@ fn segments_of(
     laid: &Laid<'_>,
 ) -> Result<Vec<ProgramHeader>, AllocError>
     requires order { IsOrder order.now }
-    ensures { IfOk result (λ v. v.items ≡ laid.now.read_only ∷ (own.segment_if (own.code_pieces (objects_of order.now)) laid.now.code ++ own.segment_if (own.data_pieces (objects_of order.now)) laid.now.writable)) }
+    ensures { IfOk result (λ v. v.items
+        ≡ laid.now.read_only
+        ∷ (own.segment_if (own.code_pieces (objects_of order.now)) laid.now.code
+        ++ own.segment_if (own.data_pieces (objects_of order.now)) laid.now.writable)) }
 {
     let mut segments = Vec::with_capacity(alloc, 3)?;
     segments.push(laid.read_only)?;

@@ -88,7 +88,8 @@ fn tables_of<'a>(
     requires listed { block_views blocks.now ≡ commons.blocks (loaded_views objects.now) }
     requires got { got_size ≡ slots.got_size (loaded_views objects.now) }
     ensures tables { IfOk result (AreTables base (loaded_views objects.now)) }
-    ensures addresses { OnOk result (AreLawfulKinds (loaded_views objects.now) → AreOwnAddresses base (loaded_views objects.now)) }
+    ensures addresses { OnOk result (AreLawfulKinds (loaded_views objects.now) →
+        AreOwnAddresses base (loaded_views objects.now)) }
     ensures fits { OnOk result (IsNotTooLarge base (loaded_views objects.now)) }
     ensures fault { IfErr result (LayoutFails base (loaded_views objects.now)) }
 {
@@ -129,7 +130,8 @@ pub fn place<'a>(
     requires resolved { resolved.now ≡ loaded.now.objects }
     requires got { got.0 ≡ slots.got_size loaded.now.objects }
     ensures exact { IfOk result (λ p. p ≡ record { base = base; objects = loaded.now.objects }) }
-    ensures addresses { OnOk result (AreLawfulKinds loaded.now.objects → AreOwnAddresses base loaded.now.objects) }
+    ensures addresses { OnOk result (AreLawfulKinds loaded.now.objects
+        → AreOwnAddresses base loaded.now.objects) }
     ensures fits { OnOk result (IsNotTooLarge base loaded.now.objects) }
     ensures fault { IfErr result (LayoutFails base loaded.now.objects) }
 {
@@ -183,7 +185,8 @@ impl<'a> Placement<'a> {
     /// The PT_TLS header, where the kinds of all sections are lawful; None without thread-local pieces.
     pub fn thread_header(&self) -> Option<ProgramHeader>
         requires { AreLawfulKinds self.now.objects }
-        ensures { result ≡ header_in self.now.base (own_in_load_order self.now.base self.now.objects) }
+        ensures { result ≡ header_in self.now.base
+            (own_in_load_order self.now.base self.now.objects) }
     {
         self.tables.thread_header
     }
@@ -193,14 +196,17 @@ impl<'a> Placement<'a> {
     pub fn thread_block(&self) -> Option<TlsBlock>
         ensures laid_out { IsLaidOut self.now.base self.now.objects }
         ensures placed { result ≡ thread_block (own_placed self.now.base self.now.objects) }
-        ensures listed { AreLawfulKinds self.now.objects → result ≡ thread_block (own_in_load_order self.now.base self.now.objects) }
+        ensures listed { AreLawfulKinds self.now.objects
+            → result ≡ thread_block (own_in_load_order self.now.base self.now.objects) }
     {
         self.tables.thread_header.map(|h| block_of(&h))
     }
 
     /// The address of a section of a loaded object; None where it isn't kept, and where there is no such section.
     pub fn address(&self, section: SectionRef) -> Option<u64>
-        ensures { result ≡ option_map (λ q. q.at) (find (is_of_section section.object.0 section.section) (own_places self.now.base self.now.objects (kept_sections self.now.objects))) }
+        ensures { result ≡ option_map (λ q. q.at)
+            (find (is_of_section section.object.0 section.section)
+            (own_places self.now.base self.now.objects (kept_sections self.now.objects))) }
     {
         if section.object.0 as usize >= self.loaded.objects().len() {
             return None;
@@ -211,7 +217,9 @@ impl<'a> Placement<'a> {
     /// The address of a section of an object, or of a common block, which is numbered like a section of one object more
     /// than are loaded; None where it isn't kept.
     pub fn numbered_address(&self, section: SectionRef) -> Option<u64>
-        ensures { result ≡ option_map (λ q. q.at) (find (is_of_section section.object.0 section.section) (own_in_load_order self.now.base self.now.objects)) }
+        ensures { result ≡ option_map (λ q. q.at)
+            (find (is_of_section section.object.0 section.section)
+            (own_in_load_order self.now.base self.now.objects)) }
     {
         let object = section.object.0 as usize;
         if object > self.loaded.objects().len() {
@@ -222,7 +230,11 @@ impl<'a> Placement<'a> {
 
     /// The address of the common block of a name; None where the name has none.
     pub fn common(&self, name: &[u8]) -> Option<u64>
-        ensures { result ≡ option_and_then (λ b. option_map (λ q. q.at) (find (is_of_section b.object b.number) (own_in_load_order self.now.base self.now.objects))) (commons.block_named self.now.objects name.now) }
+        ensures { result ≡ option_and_then
+            (λ b. option_map (λ q. q.at)
+            (find (is_of_section b.object b.number)
+            (own_in_load_order self.now.base self.now.objects)))
+            (commons.block_named self.now.objects name.now) }
     {
         let block = self.named_block(name)?;
         self.numbered_address(block.section())
@@ -237,7 +249,9 @@ impl<'a> Placement<'a> {
 
     /// The address of a section or a common block, and also that of the GOT by its numbers as a piece.
     pub fn piece_address(&self, section: SectionRef) -> Option<u64>
-        ensures { result ≡ option_map (λ q. q.at) (find (is_of_section section.object.0 section.section) (own_placed self.now.base self.now.objects)) }
+        ensures { result ≡ option_map (λ q. q.at)
+            (find (is_of_section section.object.0 section.section)
+            (own_placed self.now.base self.now.objects)) }
     {
         let table = &*self.tables.addresses;
         address_in(table, section.object.0 as usize, section.section as usize)

@@ -48,7 +48,8 @@ pub fn page_up(address: u64) -> u64
 fn address_of(address: u64, piece: &Piece<'_>) -> Option<u64>
     requires low { address ≤ 2 ^ 47 }
     requires aligned { HasSmallAlignment (piece_view piece.now) }
-    ensures place { SomeIff result (IsInLimit (place_at address (piece_view piece.now))) (place_at address (piece_view piece.now)).at }
+    ensures place { SomeIff result (IsInLimit (place_at address (piece_view piece.now)))
+        (place_at address (piece_view piece.now)).at }
     ensures above { IfSome result (λ at. address ≤ at) }
 {
     let at = round_up(piece.header.sh_addralign.max(1), address);
@@ -67,7 +68,8 @@ pub fn place_run<'a>(
 ) -> Result<u64, LayoutFault>
     requires low { from ≤ 2 ^ 47 }
     requires aligned { All HasSmallAlignment (borrowed_views pieces.now) }
-    ensures placed { OnOk result (place_views out.new.items ≡ place_views out.old.items ++ placed_from from (borrowed_views pieces.now)) }
+    ensures placed { OnOk result (place_views out.new.items
+        ≡ place_views out.old.items ++ placed_from from (borrowed_views pieces.now)) }
     ensures end { IfOk result (λ end. end ≡ own.end_of from (borrowed_views pieces.now)) }
     ensures above { IfOk result (λ end. from ≤ end) }
     ensures low { IfOk result (λ end. end ≤ max from (2 ^ 46)) }

@@ -112,7 +112,8 @@ impl<'a> Memory<'a> {
 
     /// The rights of an address; None where no segment maps it.
     pub fn rights(&self, addr: u64) -> Option<Rights>
-        ensures { option_map rights_sum result ≡ option_map (λ c. c.rights) (memory_of self.now addr) }
+        ensures { option_map rights_sum result
+            ≡ option_map (λ c. c.rights) (memory_of self.now addr) }
     {
         let segment = find_segment(&self.segments, addr)?;
         Some(rights_in(segment, self.file.len()))
@@ -205,7 +206,8 @@ fn header_of(file: &[u8]) -> Result<FileHeader, LoadFault>
 /// The program header table behind a file header that the file has room for.
 fn table_of(alloc: Global, file: &[u8], count: u16) -> Result<Vec<ProgramHeader>, AllocError>
     requires { 64 + 56 * count ≤ length file.now }
-    ensures { IfOk result (λ v. v.items ≡ map (program_header_at file.now) (range_with_len 0 count)) }
+    ensures { IfOk result (λ v. v.items
+        ≡ map (program_header_at file.now) (range_with_len 0 count)) }
 {
     let count = count as usize;
     let mut headers = Vec::with_capacity(alloc, count)?;
@@ -315,8 +317,10 @@ fn rights_in(segment: &ProgramHeader, len: usize) -> Rights
 fn count_begun(segments: &[ProgramHeader], addr: u64) -> usize
     requires { IsNonDecreasingBy (λ h. h.p_vaddr) segments.now }
     ensures within { result ≤ length segments.now }
-    ensures begun { (k : ℕ) (d : ProgramHeader) → k < result → (slice_index_or segments.now k d).p_vaddr ≤ addr }
-    ensures not_yet { (k : ℕ) (d : ProgramHeader) → result ≤ k → k < length segments.now → addr < (slice_index_or segments.now k d).p_vaddr }
+    ensures begun { (k : ℕ) (d : ProgramHeader) →
+        k < result → (slice_index_or segments.now k d).p_vaddr ≤ addr }
+    ensures not_yet { (k : ℕ) (d : ProgramHeader) →
+        result ≤ k → k < length segments.now → addr < (slice_index_or segments.now k d).p_vaddr }
 {
     segments.partition_point(|h| h.p_vaddr <= addr)
 }
@@ -357,7 +361,8 @@ fn run_in<'f>(file: &'f [u8], segment: &ProgramHeader, addr: u64, len: u64) -> R
     requires lawful { IsLawful (length file.now) segment.now }
     requires enclosed { Encloses segment.now addr len }
     ensures whole { length result.bytes.now + result.zeros ≡ len }
-    ensures same { (k : ℕ) → k < len → segment_byte file.now segment.now (addr + k) ≡ slice_index result.bytes.now k }
+    ensures same { (k : ℕ) → k < len
+        → segment_byte file.now segment.now (addr + k) ≡ slice_index result.bytes.now k }
 {
     let offset = addr - segment.p_vaddr;
     if offset >= segment.p_filesz {

@@ -82,7 +82,9 @@ fn leading_loads(headers: &[ProgramHeader]) -> usize
 }
 
 fn is_ascending(segments: &[ProgramHeader]) -> bool
-    ensures { IsTrue result ↔ ((k : ℕ) (d : ProgramHeader) → k + 1 < length segments.now → IsBelow (slice_index_or segments.now k d) (slice_index_or segments.now (k + 1) d)) }
+    ensures { IsTrue result ↔ ((k : ℕ) (d : ProgramHeader) →
+        k + 1 < length segments.now
+        → IsBelow (slice_index_or segments.now k d) (slice_index_or segments.now (k + 1) d)) }
 {
     segments
         .windows(2)
@@ -161,7 +163,9 @@ fn ends_before(first: &ProgramHeader, second: &ProgramHeader) -> bool
 }
 
 fn end_before_the_next(segments: &[ProgramHeader]) -> bool
-    ensures { IsTrue result ↔ ((k : ℕ) (d : ProgramHeader) → k + 1 < length segments.now → EndsBefore (slice_index_or segments.now k d) (slice_index_or segments.now (k + 1) d)) }
+    ensures { IsTrue result ↔ ((k : ℕ) (d : ProgramHeader) →
+        k + 1 < length segments.now
+        → EndsBefore (slice_index_or segments.now k d) (slice_index_or segments.now (k + 1) d)) }
 {
     segments
         .windows(2)

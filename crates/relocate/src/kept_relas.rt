@@ -44,7 +44,8 @@ fn ascend(relas: &[KeptRela]) -> bool
 /// The kept RELA sections of an object in the order of the sections that they relocate, those of one section by their own
 /// numbers.
 pub fn kept_relas(alloc: Global, loaded: &LoadedObject<'_>) -> Result<Vec<KeptRela>, AllocError>
-    ensures order { IfOk result (λ v. v.items ≡ by_rank target_of (kept_relas (loaded_view loaded.now))) }
+    ensures order { IfOk result (λ v. v.items
+        ≡ by_rank target_of (kept_relas (loaded_view loaded.now))) }
     ensures rises { IfOk result (λ v. IsNonDecreasingBy target_of v.items) }
 {
     let mut relas = listed(alloc, loaded)?;
@@ -60,8 +61,13 @@ pub fn row_end(relas: &[KeptRela], from: usize) -> usize
     requires { from < length relas.now }
     ensures within { result ≤ length relas.now }
     ensures some { from < result }
-    ensures same { (k : ℕ) (d : KeptRela) → from ≤ k → k < result → target_of (slice_index_or relas.now k d) ≡ target_of (slice_index_or relas.now from d) }
-    ensures other { (d : KeptRela) → result < length relas.now → target_of (slice_index_or relas.now result d) ≢ target_of (slice_index_or relas.now from d) }
+    ensures same { (k : ℕ) (d : KeptRela) →
+        from ≤ k → k < result
+        → target_of (slice_index_or relas.now k d) ≡ target_of (slice_index_or relas.now from d) }
+    ensures other { (d : KeptRela) →
+        result < length relas.now
+        → target_of (slice_index_or relas.now result d)
+        ≢ target_of (slice_index_or relas.now from d) }
 {
     let target = relas[from].target;
     let mut end = from + 1;

@@ -29,7 +29,9 @@ pub struct Terms {
 
 /// The value of a relocation of a kind, modulo 2 to the 64, from what whole terms leave modulo 2 to the 64.
 pub fn value(kind: Kind, terms: Terms) -> u64
-    ensures { (x : relocation.Terms) → Reduces terms x → result ≡ relocation.modulo_64 (relocation.whole_value (formula_view kind.formula) x) }
+    ensures { (x : relocation.Terms) →
+        Reduces terms x
+        → result ≡ relocation.modulo_64 (relocation.whole_value (formula_view kind.formula) x) }
 {
     match kind.formula {
         Formula::Symbol => sum(terms.symbol, terms.addend),
@@ -46,7 +48,8 @@ pub fn value(kind: Kind, terms: Terms) -> u64
 
 /// G + GOT + A - P
 fn slot_difference(terms: Terms) -> u64
-    ensures { (x : relocation.Terms) → Reduces terms x → result ≡ relocation.modulo_64 ((pos (x.g + x.got) +ℤ x.a) -ℤ pos x.p) }
+    ensures { (x : relocation.Terms) →
+        Reduces terms x → result ≡ relocation.modulo_64 ((pos (x.g + x.got) +ℤ x.a) -ℤ pos x.p) }
 {
     difference(
         terms.slot.wrapping_add(terms.got),
@@ -56,7 +59,8 @@ fn slot_difference(terms: Terms) -> u64
 }
 
 fn thread_sum(offset: u64, addend: i64) -> u64
-    ensures { (t : ℤ) → offset ≡ relocation.modulo_64 t → result ≡ relocation.modulo_64 (t +ℤ addend) }
+    ensures { (t : ℤ) → offset ≡ relocation.modulo_64 t
+        → result ≡ relocation.modulo_64 (t +ℤ addend) }
 {
     sum(offset, addend)
 }
@@ -68,7 +72,8 @@ fn sum(n: u64, addend: i64) -> u64
 }
 
 fn difference(n: u64, addend: i64, place: u64) -> u64
-    ensures { (m p : ℕ) → n ≡ m % 2 ^ 64 → place ≡ p % 2 ^ 64 → result ≡ relocation.modulo_64 ((pos m +ℤ addend) -ℤ pos p) }
+    ensures { (m p : ℕ) → n ≡ m % 2 ^ 64 → place ≡ p % 2 ^ 64
+        → result ≡ relocation.modulo_64 ((pos m +ℤ addend) -ℤ pos p) }
 {
     n.wrapping_add(addend.cast_unsigned()).wrapping_sub(place)
 }

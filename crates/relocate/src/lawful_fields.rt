@@ -26,9 +26,14 @@ pub fn lawful_kind(
 ) -> Result<Kind, RelocationFault>
     requires known { IsReferrer referrer.now }
     requires target { IsRelocated (referring referrer.now) target }
-    ensures kind { IfOk result (λ k. relocation_kind (relocation_of referrer.now.number (referring referrer.now) target.number entry.now) ≡ Some (kind_view k)) }
-    ensures lawful { OnOk result (IsLawfulRelocation (all_of referrer.now) (relocation_of referrer.now.number (referring referrer.now) target.number entry.now)) }
-    ensures fault { IfErr result (IsUnlawful (all_of referrer.now) (relocation_of referrer.now.number (referring referrer.now) target.number entry.now)) }
+    ensures kind { IfOk result (λ k.
+        relocation_kind
+        (relocation_of referrer.now.number (referring referrer.now) target.number entry.now)
+        ≡ Some (kind_view k)) }
+    ensures lawful { OnOk result (IsLawfulRelocation (all_of referrer.now)
+        (relocation_of referrer.now.number (referring referrer.now) target.number entry.now)) }
+    ensures fault { IfErr result (IsUnlawful (all_of referrer.now)
+        (relocation_of referrer.now.number (referring referrer.now) target.number entry.now)) }
 {
     let Some(kind) = Kind::of(entry.kind()) else {
         return Err(RelocationFault::RelocKind);
@@ -55,7 +60,8 @@ pub fn lawful_kind(
 
 /// What is wrong with a relocation, as a refusal, which owns the name of its symbol where that is undefined.
 fn refusal(alloc: Global, fault: RelocationFault, name: &[u8]) -> RelocFault
-    ensures { (objects : List loading.LoadedObject) (r : relocation.Relocation) → IsUnlawful objects r fault → r.symbol.name ≡ name.now → RelocationFails objects r result }
+    ensures { (objects : List loading.LoadedObject) (r : relocation.Relocation) →
+        IsUnlawful objects r fault → r.symbol.name ≡ name.now → RelocationFails objects r result }
 {
     match fault {
         RelocationFault::Undefined => undefined(alloc, name),
@@ -76,9 +82,13 @@ pub fn lawful_field(
 ) -> Result<Field, RelocFault>
     requires known { IsReferrer referrer.now }
     requires target { IsRelocated (referring referrer.now) target }
-    ensures field { IfOk result (λ f. f ≡ field_of (relocation_of referrer.now.number (referring referrer.now) target.number entry.now)) }
-    ensures lawful { OnOk result (IsLawfulRelocation (all_of referrer.now) (relocation_of referrer.now.number (referring referrer.now) target.number entry.now)) }
-    ensures fault { IfErr result (RelocationFails (all_of referrer.now) (relocation_of referrer.now.number (referring referrer.now) target.number entry.now)) }
+    ensures field { IfOk result (λ f. f
+        ≡ field_of (relocation_of referrer.now.number
+        (referring referrer.now) target.number entry.now)) }
+    ensures lawful { OnOk result (IsLawfulRelocation (all_of referrer.now)
+        (relocation_of referrer.now.number (referring referrer.now) target.number entry.now)) }
+    ensures fault { IfErr result (RelocationFails (all_of referrer.now)
+        (relocation_of referrer.now.number (referring referrer.now) target.number entry.now)) }
 {
     match lawful_kind(referrer, target, entry) {
         Ok(kind) => Ok(Field {

@@ -70,8 +70,10 @@ fn judge_object<'a>(
 ) -> Result<(), RelocFault>
     requires here { IsObjectAt resolved.now number (loaded_view loaded.now) }
     requires mixed { AreMixed resolved.now mixed.now }
-    ensures lawful { OnOk result (AreLawful resolved.now (relocations_from number (loaded_view loaded.now))) }
-    ensures fault { IfErr result (RelocationsFail resolved.now (relocations_from number (loaded_view loaded.now))) }
+    ensures lawful { OnOk result (AreLawful resolved.now
+        (relocations_from number (loaded_view loaded.now))) }
+    ensures fault { IfErr result (RelocationsFail resolved.now
+        (relocations_from number (loaded_view loaded.now))) }
 {
     let referrer = Referrer::new(alloc, resolved, mixed, number, loaded)?;
     judge_referrer(alloc, &referrer, fields)
@@ -84,8 +86,10 @@ fn judge_referrer(
     fields: &mut Vec<Field>,
 ) -> Result<(), RelocFault>
     requires { IsReferrer referrer.now }
-    ensures lawful { OnOk result (AreLawful (all_of referrer.now) (relocations_from referrer.now.number (referring referrer.now))) }
-    ensures fault { IfErr result (RelocationsFail (all_of referrer.now) (relocations_from referrer.now.number (referring referrer.now))) }
+    ensures lawful { OnOk result (AreLawful (all_of referrer.now)
+        (relocations_from referrer.now.number (referring referrer.now))) }
+    ensures fault { IfErr result (RelocationsFail (all_of referrer.now)
+        (relocations_from referrer.now.number (referring referrer.now))) }
 {
     list_fields(alloc, referrer, fields)?;
     if !are_apart(fields)? {
@@ -101,9 +105,12 @@ fn list_fields(
     fields: &mut Vec<Field>,
 ) -> Result<(), RelocFault>
     requires { IsReferrer referrer.now }
-    ensures fields { OnOk result (fields.new.items ≡ map field_of (relocations_from referrer.now.number (referring referrer.now))) }
-    ensures lawful { OnOk result (All (IsLawfulRelocation (all_of referrer.now)) (relocations_from referrer.now.number (referring referrer.now))) }
-    ensures fault { IfErr result (RelocationsFail (all_of referrer.now) (relocations_from referrer.now.number (referring referrer.now))) }
+    ensures fields { OnOk result (fields.new.items
+        ≡ map field_of (relocations_from referrer.now.number (referring referrer.now))) }
+    ensures lawful { OnOk result (All (IsLawfulRelocation (all_of referrer.now))
+        (relocations_from referrer.now.number (referring referrer.now))) }
+    ensures fault { IfErr result (RelocationsFail (all_of referrer.now)
+        (relocations_from referrer.now.number (referring referrer.now))) }
 {
     fields.clear();
     let headers = referrer.loaded.object.sections();
@@ -128,9 +135,13 @@ fn add_section(
     requires known { IsReferrer referrer.now }
     requires there { slice_get (sections (referring referrer.now).bytes) i ≡ Some header.now }
     requires rela { header.now.sh_type ≡ 4 }
-    ensures fields { OnOk result (fields.new.items ≡ fields.old.items ++ map field_of (relocations_in referrer.now.number (referring referrer.now) header.now)) }
-    ensures lawful { OnOk result (All (IsLawfulRelocation (all_of referrer.now)) (relocations_in referrer.now.number (referring referrer.now) header.now)) }
-    ensures fault { IfErr result (RelocationsFail (all_of referrer.now) (relocations_in referrer.now.number (referring referrer.now) header.now)) }
+    ensures fields { OnOk result (fields.new.items
+        ≡ fields.old.items
+        ++ map field_of (relocations_in referrer.now.number (referring referrer.now) header.now)) }
+    ensures lawful { OnOk result (All (IsLawfulRelocation (all_of referrer.now))
+        (relocations_in referrer.now.number (referring referrer.now) header.now)) }
+    ensures fault { IfErr result (RelocationsFail (all_of referrer.now)
+        (relocations_in referrer.now.number (referring referrer.now) header.now)) }
 {
     let entries = referrer.loaded.entries_of(i, header);
     let target = referrer.relocated(header.sh_info as u64);
@@ -147,9 +158,17 @@ fn add_fields(
 ) -> Result<(), RelocFault>
     requires known { IsReferrer referrer.now }
     requires target { IsRelocated (referring referrer.now) target }
-    ensures fields { OnOk result (fields.new.items ≡ fields.old.items ++ map field_of (map (relocation_of referrer.now.number (referring referrer.now) target.number) (filter is_some_kind entries.now))) }
-    ensures lawful { OnOk result (All (IsLawfulRelocation (all_of referrer.now)) (map (relocation_of referrer.now.number (referring referrer.now) target.number) (filter is_some_kind entries.now))) }
-    ensures fault { IfErr result (RelocationsFail (all_of referrer.now) (map (relocation_of referrer.now.number (referring referrer.now) target.number) (filter is_some_kind entries.now))) }
+    ensures fields { OnOk result (fields.new.items
+        ≡ fields.old.items
+        ++ map field_of
+        (map (relocation_of referrer.now.number (referring referrer.now) target.number)
+        (filter is_some_kind entries.now))) }
+    ensures lawful { OnOk result (All (IsLawfulRelocation (all_of referrer.now))
+        (map (relocation_of referrer.now.number (referring referrer.now) target.number)
+        (filter is_some_kind entries.now))) }
+    ensures fault { IfErr result (RelocationsFail (all_of referrer.now)
+        (map (relocation_of referrer.now.number (referring referrer.now) target.number)
+        (filter is_some_kind entries.now))) }
 {
     fields.reserve(entries.len())?;
     for i in 0..entries.len() {

@@ -72,7 +72,8 @@ fn has_linker_use(resolved: &Resolved<'_>, number: usize, loaded: &LoadedObject<
 }
 
 fn add_name<'a>(names: &mut BTreeSet<&'a [u8]>, name: &'a [u8]) -> Result<(), AllocError>
-    ensures { OnOk result ((n : List ℕ) → is_among names.new n ≡ (bytes_eq name.entry.now n || is_among names.old n)) }
+    ensures { OnOk result ((n : List ℕ) →
+        is_among names.new n ≡ (bytes_eq name.entry.now n || is_among names.old n)) }
 {
     names.insert(name)?;
     Ok(())
@@ -94,7 +95,9 @@ fn add_use<'a>(
     entry: &Rela,
 ) -> Result<(), AllocError>
     requires { IsUser user.now }
-    ensures { OnOk result (Gains user.now.resolved.now (relocation_of user.now.number (using user.now) target entry.now ∷ []) names.old names.new) }
+    ensures { OnOk result (Gains user.now.resolved.now
+        (relocation_of user.now.number (using user.now) target entry.now
+        ∷ []) names.old names.new) }
 {
     let j = entry.symbol() as usize;
     if !is_linker_use(user.resolved, user.number, user.loaded, j) {
@@ -111,7 +114,9 @@ fn add_entries<'a>(
     entries: &RelaRun<'_>,
 ) -> Result<(), AllocError>
     requires { IsUser user.now }
-    ensures { OnOk result (Gains user.now.resolved.now (map (relocation_of user.now.number (using user.now) target) (filter is_some_kind entries.now)) names.old names.new) }
+    ensures { OnOk result (Gains user.now.resolved.now
+        (map (relocation_of user.now.number (using user.now) target)
+        (filter is_some_kind entries.now)) names.old names.new) }
 {
     for i in 0..entries.len() {
         let entry = entries.at(i);
@@ -133,7 +138,8 @@ fn add_section<'a>(
     requires user { IsUser user.now }
     requires there { slice_get (sections (using user.now).bytes) i ≡ Some header.now }
     requires rela { header.now.sh_type ≡ 4 }
-    ensures { OnOk result (Gains user.now.resolved.now (relocations_in user.now.number (using user.now) header.now) names.old names.new) }
+    ensures { OnOk result (Gains user.now.resolved.now
+        (relocations_in user.now.number (using user.now) header.now) names.old names.new) }
 {
     let entries = user.loaded.entries_of(i, header);
     add_entries(names, user, header.sh_info as u64, &entries)
@@ -145,7 +151,8 @@ fn add_relocations<'a>(
     user: &User<'_, 'a>,
 ) -> Result<(), AllocError>
     requires { IsUser user.now }
-    ensures { OnOk result (Gains user.now.resolved.now (relocations_from user.now.number (using user.now)) names.old names.new) }
+    ensures { OnOk result (Gains user.now.resolved.now
+        (relocations_from user.now.number (using user.now)) names.old names.new) }
 {
     let headers = user.loaded.object.sections();
     for i in 0..headers.len() {
@@ -166,7 +173,8 @@ fn add_object<'a>(
     loaded: &LoadedObject<'a>,
 ) -> Result<(), AllocError>
     requires { IsObjectAt resolved.now number (loaded_view loaded.now) }
-    ensures { OnOk result (Gains resolved.now (relocations_from number (loaded_view loaded.now)) names.old names.new) }
+    ensures { OnOk result (Gains resolved.now
+        (relocations_from number (loaded_view loaded.now)) names.old names.new) }
 {
     if !has_linker_use(resolved, number, loaded) {
         return Ok(());
@@ -186,7 +194,9 @@ fn used_names<'a>(
     resolved: &Resolved<'a>,
 ) -> Result<BTreeSet<&'a [u8]>, AllocError>
     requires { resolved.now ≡ loaded_views objects.now }
-    ensures { IfOk result (λ s. (n : List ℕ) → is_among s n ≡ list_any (uses_line (loaded_views objects.now) n) (relocations (loaded_views objects.now))) }
+    ensures { IfOk result (λ s. (n : List ℕ) →
+        is_among s n ≡ list_any (uses_line (loaded_views objects.now) n)
+        (relocations (loaded_views objects.now))) }
 {
     let mut names = BTreeSet::new(alloc);
     for k in 0..objects.len() {
@@ -201,7 +211,9 @@ fn add_line<'a>(
     resolved: &Resolved<'_>,
     name: &'a [u8],
 ) -> Result<(), AllocError>
-    ensures { OnOk result (line_views lines.new.items ≡ line_views lines.old.items ++ option_to_list (linker_meaning resolved.now name.entry.now)) }
+    ensures { OnOk result (line_views lines.new.items
+        ≡ line_views lines.old.items
+        ++ option_to_list (linker_meaning resolved.now name.entry.now)) }
 {
     if let Some(bound) = resolved.bound(name) {
         lines.push((name, bound))?;
@@ -215,8 +227,10 @@ fn lines_of<'a>(
     resolved: &Resolved<'_>,
     names: &BTreeSet<&'a [u8]>,
 ) -> Result<Vec<(&'a [u8], Bound)>, AllocError>
-    ensures lines { IfOk result (λ v. line_views v.items ≡ linker_meanings resolved.now names.now.keys) }
-    ensures ordered { IfOk result (λ v. IsOrdered (λ x y. slice_cmp nat_cmp x.now y.now) names.now) }
+    ensures lines { IfOk result (λ v. line_views v.items
+        ≡ linker_meanings resolved.now names.now.keys) }
+    ensures ordered { IfOk result (λ v.
+        IsOrdered (λ x y. slice_cmp nat_cmp x.now y.now) names.now) }
 {
     let mut lines = Vec::new(alloc);
     for name in names {

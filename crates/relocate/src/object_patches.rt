@@ -41,10 +41,20 @@ fn add_patches(
     row: &mut Vec<Patch>,
 ) -> Result<(), RelocFault>
     requires valued { IsValued valued.now }
-    requires known { All (λ r. IsSome (relocation_kind r)) (map (relocation_of valued.now.number (valued_object valued.now) target) (filter is_some_kind entries.now)) }
-    ensures patches { OnOk result (row.new.items ≡ row.old.items ++ map (patch_of (all_valued valued.now) (where_of valued.now)) (map (relocation_of valued.now.number (valued_object valued.now) target) (filter is_some_kind entries.now))) }
-    ensures fit { OnOk result (All (Fits (all_valued valued.now) (where_of valued.now)) (map (relocation_of valued.now.number (valued_object valued.now) target) (filter is_some_kind entries.now))) }
-    ensures fault { IfErr result (FittingFails (all_valued valued.now) (where_of valued.now) (map (relocation_of valued.now.number (valued_object valued.now) target) (filter is_some_kind entries.now))) }
+    requires known { All (λ r. IsSome (relocation_kind r))
+        (map (relocation_of valued.now.number (valued_object valued.now) target)
+        (filter is_some_kind entries.now)) }
+    ensures patches { OnOk result (row.new.items
+        ≡ row.old.items
+        ++ map (patch_of (all_valued valued.now) (where_of valued.now))
+        (map (relocation_of valued.now.number (valued_object valued.now) target)
+        (filter is_some_kind entries.now))) }
+    ensures fit { OnOk result (All (Fits (all_valued valued.now) (where_of valued.now))
+        (map (relocation_of valued.now.number (valued_object valued.now) target)
+        (filter is_some_kind entries.now))) }
+    ensures fault { IfErr result (FittingFails (all_valued valued.now) (where_of valued.now)
+        (map (relocation_of valued.now.number (valued_object valued.now) target)
+        (filter is_some_kind entries.now))) }
 {
     let at = address_or_none(valued.placement, valued.number, target as usize);
     for i in 0..entries.len() {
@@ -73,10 +83,16 @@ fn add_section(
 ) -> Result<(), RelocFault>
     requires valued { IsValued valued.now }
     requires kept { IsKeptRela (valued_object valued.now) rela }
-    requires known { All (λ r. IsSome (relocation_kind r)) (relocations_by valued.now.number (valued_object valued.now) rela) }
-    ensures patches { OnOk result (patches.new.items ≡ patches.old.items ++ map (patch_of (all_valued valued.now) (where_of valued.now)) (relocations_by valued.now.number (valued_object valued.now) rela)) }
-    ensures fit { OnOk result (All (Fits (all_valued valued.now) (where_of valued.now)) (relocations_by valued.now.number (valued_object valued.now) rela)) }
-    ensures fault { IfErr result (FittingFails (all_valued valued.now) (where_of valued.now) (relocations_by valued.now.number (valued_object valued.now) rela)) }
+    requires known { All (λ r. IsSome (relocation_kind r))
+        (relocations_by valued.now.number (valued_object valued.now) rela) }
+    ensures patches { OnOk result (patches.new.items
+        ≡ patches.old.items
+        ++ map (patch_of (all_valued valued.now) (where_of valued.now))
+        (relocations_by valued.now.number (valued_object valued.now) rela)) }
+    ensures fit { OnOk result (All (Fits (all_valued valued.now) (where_of valued.now))
+        (relocations_by valued.now.number (valued_object valued.now) rela)) }
+    ensures fault { IfErr result (FittingFails (all_valued valued.now) (where_of valued.now)
+        (relocations_by valued.now.number (valued_object valued.now) rela)) }
 {
     let header = valued.loaded.object.section(rela.number);
     let entries = valued.loaded.entries_of(rela.number, &header);
@@ -91,10 +107,16 @@ fn add_sections(
 ) -> Result<(), RelocFault>
     requires valued { IsValued valued.now }
     requires kept { All (IsKeptRela (valued_object valued.now)) relas.now }
-    requires known { All (λ r. IsSome (relocation_kind r)) (relocations_of_relas valued.now.number (valued_object valued.now) relas.now) }
-    ensures patches { OnOk result (patches.new.items ≡ patches.old.items ++ map (patch_of (all_valued valued.now) (where_of valued.now)) (relocations_of_relas valued.now.number (valued_object valued.now) relas.now)) }
-    ensures fit { OnOk result (All (Fits (all_valued valued.now) (where_of valued.now)) (relocations_of_relas valued.now.number (valued_object valued.now) relas.now)) }
-    ensures fault { IfErr result (FittingFails (all_valued valued.now) (where_of valued.now) (relocations_of_relas valued.now.number (valued_object valued.now) relas.now)) }
+    requires known { All (λ r. IsSome (relocation_kind r))
+        (relocations_of_relas valued.now.number (valued_object valued.now) relas.now) }
+    ensures patches { OnOk result (patches.new.items
+        ≡ patches.old.items
+        ++ map (patch_of (all_valued valued.now) (where_of valued.now))
+        (relocations_of_relas valued.now.number (valued_object valued.now) relas.now)) }
+    ensures fit { OnOk result (All (Fits (all_valued valued.now) (where_of valued.now))
+        (relocations_of_relas valued.now.number (valued_object valued.now) relas.now)) }
+    ensures fault { IfErr result (FittingFails (all_valued valued.now) (where_of valued.now)
+        (relocations_of_relas valued.now.number (valued_object valued.now) relas.now)) }
 {
     for rela in relas {
         add_section(valued, *rela, patches)?;
@@ -113,11 +135,18 @@ fn add_row(
     requires kept { All (IsKeptRela (valued_object valued.now)) relas.now }
     requires target { All (λ k. k.target ≡ target) relas.now }
     requires later { length rows.old.begins.items ≤ target + 1 }
-    requires known { All (λ r. IsSome (relocation_kind r)) (relocations_of_relas valued.now.number (valued_object valued.now) relas.now) }
-    ensures rows { OnOk result ((done : List Relocation) → HasRows (all_valued valued.now) (where_of valued.now) done rows.old → HasRows (all_valued valued.now) (where_of valued.now) (done ++ relocations_of_relas valued.now.number (valued_object valued.now) relas.now) rows.new) }
+    requires known { All (λ r. IsSome (relocation_kind r))
+        (relocations_of_relas valued.now.number (valued_object valued.now) relas.now) }
+    ensures rows { OnOk result ((done : List Relocation) →
+        HasRows (all_valued valued.now) (where_of valued.now) done rows.old
+        → HasRows (all_valued valued.now) (where_of valued.now)
+        (done ++ relocations_of_relas valued.now.number
+        (valued_object valued.now) relas.now) rows.new) }
     ensures begins { OnOk result (length rows.new.begins.items ≡ target + 2) }
-    ensures fit { OnOk result (All (Fits (all_valued valued.now) (where_of valued.now)) (relocations_of_relas valued.now.number (valued_object valued.now) relas.now)) }
-    ensures fault { IfErr result (FittingFails (all_valued valued.now) (where_of valued.now) (relocations_of_relas valued.now.number (valued_object valued.now) relas.now)) }
+    ensures fit { OnOk result (All (Fits (all_valued valued.now) (where_of valued.now))
+        (relocations_of_relas valued.now.number (valued_object valued.now) relas.now)) }
+    ensures fault { IfErr result (FittingFails (all_valued valued.now) (where_of valued.now)
+        (relocations_of_relas valued.now.number (valued_object valued.now) relas.now)) }
 {
     let begin = rows.patches.len();
     rows.begins.resize(target as usize + 1, begin)?;
@@ -136,12 +165,17 @@ fn add_rows(
     requires valued { IsValued valued.now }
     requires kept { All (IsKeptRela (valued_object valued.now)) relas.now }
     requires rises { IsNonDecreasingBy target_of relas.now }
-    requires known { All (λ r. IsSome (relocation_kind r)) (relocations_of_relas valued.now.number (valued_object valued.now) relas.now) }
+    requires known { All (λ r. IsSome (relocation_kind r))
+        (relocations_of_relas valued.now.number (valued_object valued.now) relas.now) }
     requires none { rows.old.patches.items ≡ [] }
     requires nowhere { rows.old.begins.items ≡ [] }
-    ensures rows { OnOk result (HasRows (all_valued valued.now) (where_of valued.now) (relocations_of_relas valued.now.number (valued_object valued.now) relas.now) rows.new) }
-    ensures fit { OnOk result (All (Fits (all_valued valued.now) (where_of valued.now)) (relocations_of_relas valued.now.number (valued_object valued.now) relas.now)) }
-    ensures fault { IfErr result (FittingFails (all_valued valued.now) (where_of valued.now) (relocations_of_relas valued.now.number (valued_object valued.now) relas.now)) }
+    ensures rows { OnOk result (HasRows (all_valued valued.now) (where_of valued.now)
+        (relocations_of_relas valued.now.number
+        (valued_object valued.now) relas.now) rows.new) }
+    ensures fit { OnOk result (All (Fits (all_valued valued.now) (where_of valued.now))
+        (relocations_of_relas valued.now.number (valued_object valued.now) relas.now)) }
+    ensures fault { IfErr result (FittingFails (all_valued valued.now) (where_of valued.now)
+        (relocations_of_relas valued.now.number (valued_object valued.now) relas.now)) }
 {
     let mut from = 0;
     'rows: while from < relas.len() {
@@ -166,10 +200,14 @@ fn entry_count(loaded: &LoadedObject<'_>, relas: &[KeptRela]) -> usize {
 /// where a value doesn't fit.
 pub fn object_patches(alloc: Global, valued: &Valued<'_, '_>) -> Result<ObjectPatches, RelocFault>
     requires valued { IsValued valued.now }
-    requires known { All (λ r. IsSome (relocation_kind r)) (relocations_from valued.now.number (valued_object valued.now)) }
-    ensures rows { IfOk result (ArePatchRows (all_valued valued.now) (where_of valued.now) (relocations_from valued.now.number (valued_object valued.now))) }
-    ensures fit { OnOk result (All (Fits (all_valued valued.now) (where_of valued.now)) (relocations_from valued.now.number (valued_object valued.now))) }
-    ensures fault { IfErr result (FittingFails (all_valued valued.now) (where_of valued.now) (relocations_from valued.now.number (valued_object valued.now))) }
+    requires known { All (λ r. IsSome (relocation_kind r))
+        (relocations_from valued.now.number (valued_object valued.now)) }
+    ensures rows { IfOk result (ArePatchRows (all_valued valued.now) (where_of valued.now)
+        (relocations_from valued.now.number (valued_object valued.now))) }
+    ensures fit { OnOk result (All (Fits (all_valued valued.now) (where_of valued.now))
+        (relocations_from valued.now.number (valued_object valued.now))) }
+    ensures fault { IfErr result (FittingFails (all_valued valued.now) (where_of valued.now)
+        (relocations_from valued.now.number (valued_object valued.now))) }
 {
     let relas = kept_relas(alloc, valued.loaded)?;
     let mut rows = ObjectPatches {

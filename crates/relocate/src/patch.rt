@@ -17,7 +17,8 @@ pub struct Patch {
 pub fn write_all(patches: &[Patch], from: u64, bytes: &mut [u8])
     requires narrow { All IsNarrow patches.now }
     requires apart { AllPairs AreDisjoint patches.now }
-    ensures { (k : ℕ) → k < length bytes.old → slice_index bytes.new k ≡ patched_byte from bytes.old patches.now k }
+    ensures { (k : ℕ) → k < length bytes.old
+        → slice_index bytes.new k ≡ patched_byte from bytes.old patches.now k }
 {
     for patch in patches {
         write(patch, from, bytes);
@@ -28,7 +29,8 @@ pub fn write_all(patches: &[Patch], from: u64, bytes: &mut [u8])
 /// section; least significant byte first.
 fn write(patch: &Patch, from: u64, bytes: &mut [u8])
     requires { IsNarrow patch.now }
-    ensures { (k : ℕ) → k < length bytes.old → slice_index bytes.new k ≡ patched_byte from bytes.old (patch.now ∷ []) k }
+    ensures { (k : ℕ) → k < length bytes.old
+        → slice_index bytes.new k ≡ patched_byte from bytes.old (patch.now ∷ []) k }
 {
     let width = patch.width as usize;
     let begin = patch.at as u64;

@@ -35,10 +35,14 @@ fn row_of<'a>(
     requires slots { slots.now.slots ≡ wanted.slots placement.now.objects }
     requires pointer { pointer ≡ pointer_in (where_in placement.now) }
     requires here { IsObjectAt resolved.now number (loaded_view loaded.now) }
-    requires known { All (λ r. IsSome (relocation_kind r)) (relocations_from number (loaded_view loaded.now)) }
-    ensures rows { IfOk result (ArePatchRows resolved.now (where_in placement.now) (relocations_from number (loaded_view loaded.now))) }
-    ensures fit { OnOk result (All (Fits resolved.now (where_in placement.now)) (relocations_from number (loaded_view loaded.now))) }
-    ensures fault { IfErr result (FittingFails resolved.now (where_in placement.now) (relocations_from number (loaded_view loaded.now))) }
+    requires known { All (λ r. IsSome (relocation_kind r))
+        (relocations_from number (loaded_view loaded.now)) }
+    ensures rows { IfOk result (ArePatchRows resolved.now (where_in placement.now)
+        (relocations_from number (loaded_view loaded.now))) }
+    ensures fit { OnOk result (All (Fits resolved.now (where_in placement.now))
+        (relocations_from number (loaded_view loaded.now))) }
+    ensures fault { IfErr result (FittingFails resolved.now (where_in placement.now)
+        (relocations_from number (loaded_view loaded.now))) }
 {
     let valued = Valued::new(alloc, resolved, placement, slots, pointer, number, loaded)?;
     object_patches(alloc, &valued)

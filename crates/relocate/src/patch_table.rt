@@ -70,7 +70,8 @@ impl<'a> Patches<'a> {
 /// The patches of a section, in the order of their places.
 fn row_of<'p>(patches: &'p Patches<'_>, section: SectionRef) -> &'p [Patch]
     ensures rising { IsRising result.now }
-    ensures fields { HasFields patches.entry.now.objects (where_in patches.entry.now) section.object.0 section.section result.now }
+    ensures fields { HasFields patches.entry.now.objects
+        (where_in patches.entry.now) section.object.0 section.section result.now }
 {
     let object = section.object.0 as usize;
     row_in(&patches.rows, object, section.section as usize)
@@ -78,8 +79,14 @@ fn row_of<'p>(patches: &'p Patches<'_>, section: SectionRef) -> &'p [Patch]
 
 /// Writes the values into the input bytes of a section: each byte is then the wanted one. It takes no memory.
 pub fn apply(patches: &Patches<'_>, section: SectionRef, bytes: &mut [u8])
-    requires { length bytes.old ≡ (object_file.section (sections_of_object (slice_get patches.now.objects section.object.0)) section.section).sh_size }
-    ensures { (p : Piece) → p.object ≡ section.object.0 → p.section ≡ section.section → p.bytes ≡ bytes.old → bytes.new ≡ map (wanted_byte patches.now.objects (where_in patches.now) p) (range_with_len 0 (length bytes.old)) }
+    requires { length bytes.old
+        ≡ (object_file.section
+        (sections_of_object
+        (slice_get patches.now.objects section.object.0)) section.section).sh_size }
+    ensures { (p : Piece) → p.object ≡ section.object.0 → p.section ≡ section.section
+        → p.bytes ≡ bytes.old
+        → bytes.new ≡ map (wanted_byte patches.now.objects (where_in patches.now) p)
+        (range_with_len 0 (length bytes.old)) }
 {
     apply_part(patches, section, 0, bytes);
 }
@@ -88,7 +95,11 @@ pub fn apply(patches: &Patches<'_>, section: SectionRef, bytes: &mut [u8])
 /// is then the wanted one. It takes no memory, and of a section's relocations reads only those with a field in the
 /// part, but for the steps of a bisection.
 pub fn apply_part(patches: &Patches<'_>, section: SectionRef, from: u64, bytes: &mut [u8])
-    ensures { (p : Piece) → p.object ≡ section.object.0 → p.section ≡ section.section → ((k : ℕ) → k < length bytes.old → slice_index bytes.old k ≡ slice_index p.bytes (from + k)) → bytes.new ≡ map (wanted_byte patches.now.objects (where_in patches.now) p) (range_with_len from (length bytes.old)) }
+    ensures { (p : Piece) → p.object ≡ section.object.0 → p.section ≡ section.section
+        → ((k : ℕ) → k < length bytes.old
+        → slice_index bytes.old k ≡ slice_index p.bytes (from + k)) →
+        bytes.new ≡ map (wanted_byte patches.now.objects (where_in patches.now) p)
+        (range_with_len from (length bytes.old)) }
 {
     let row = row_of(patches, section);
     write_all(reaching(row, from, bytes.len()), from, bytes);
@@ -98,8 +109,12 @@ pub fn apply_part(patches: &Patches<'_>, section: SectionRef, from: u64, bytes: 
 /// where there is none. All bytes from `from` to before it are wanted as the input has them. It takes no memory.
 pub fn next_field(patches: &Patches<'_>, section: SectionRef, from: u64) -> u64
     ensures from { from ≤ result }
-    ensures untouched { (p : Piece) → p.object ≡ section.object.0 → p.section ≡ section.section → (k : ℕ) → from ≤ k → k < result → wanted_byte patches.now.objects (where_in patches.now) p k ≡ slice_index p.bytes k }
-    ensures touched { result ≢ u64.MAX → IsSome (find (is_in_field section.object.0 section.section result) (relocations patches.now.objects)) }
+    ensures untouched { (p : Piece) → p.object ≡ section.object.0 → p.section ≡ section.section
+        → (k : ℕ) → from ≤ k → k < result
+        → wanted_byte patches.now.objects (where_in patches.now) p k ≡ slice_index p.bytes k }
+    ensures touched { result ≢ u64.MAX
+        → IsSome (find (is_in_field section.object.0 section.section result)
+        (relocations patches.now.objects)) }
 {
     match ending_after(row_of(patches, section), from) {
         [] => u64::MAX,

@@ -66,7 +66,8 @@ fn reference_by<'a>(
 ) -> Reference
     requires here { IsObjectAt resolved.now _number (loaded_view loaded.now) }
     requires mixed { AreMixed resolved.now mixed.now }
-    ensures { IsReferenceBy resolved.now (symbol_at _number (loaded_view loaded.now) j) (option_map meaning_view definition.now) result }
+    ensures { IsReferenceBy resolved.now (symbol_at _number (loaded_view loaded.now) j)
+        (option_map meaning_view definition.now) result }
 {
     let entry = loaded.object.symbol(j);
     Reference {
@@ -88,7 +89,8 @@ fn reference_chosen(
     thread_local: bool,
 ) -> Reference
     requires here { IsObjectAt resolved.now _number (loaded_view loaded.now) }
-    requires chosen { option_map (is_thread_chosen resolved.now) (named_at resolved.now _number j) ≡ Some thread_local }
+    requires chosen { option_map (is_thread_chosen resolved.now) (named_at resolved.now _number j)
+        ≡ Some thread_local }
     ensures { IsReference resolved.now (symbol_at _number (loaded_view loaded.now) j) result }
 {
     let _resolved = resolved;
@@ -145,7 +147,8 @@ fn table_of<'a>(
 ) -> Result<Vec<Reference>, AllocError>
     requires here { IsObjectAt resolved.now number (loaded_view loaded.now) }
     requires mixed { AreMixed resolved.now mixed.now }
-    ensures { IfOk result (λ v. AreReferences resolved.now number (loaded_view loaded.now) v.items) }
+    ensures { IfOk result (λ v.
+        AreReferences resolved.now number (loaded_view loaded.now) v.items) }
 {
     let mut table = Vec::new(alloc);
     if !refers_often(loaded) {
@@ -188,7 +191,8 @@ impl<'r, 'm, 'a> Referrer<'r, 'm, 'a> {
     /// What a reference to symbol `j` is.
     pub fn reference(&self, j: usize) -> Reference
         requires { IsReferrer self.now }
-        ensures { IsReference (all_of self.now) (symbol_at self.now.number (referring self.now) j) result }
+        ensures { IsReference (all_of self.now)
+            (symbol_at self.now.number (referring self.now) j) result }
     {
         match self.table.get(j) {
             Some(reference) => *reference,

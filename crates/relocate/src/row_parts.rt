@@ -25,7 +25,8 @@ fn count_ended(row: &[Patch], byte: u64) -> usize
     requires { IsNonDecreasingBy end_of row.now }
     ensures within { result ≤ length row.now }
     ensures ended { (k : ℕ) (d : Patch) → k < result → end_of (slice_index_or row.now k d) ≤ byte }
-    ensures not_yet { (k : ℕ) (d : Patch) → result ≤ k → k < length row.now → byte < end_of (slice_index_or row.now k d) }
+    ensures not_yet { (k : ℕ) (d : Patch) →
+        result ≤ k → k < length row.now → byte < end_of (slice_index_or row.now k d) }
 {
     row.partition_point(|patch| ends_by(patch, byte))
 }
@@ -34,8 +35,10 @@ fn count_ended(row: &[Patch], byte: u64) -> usize
 fn count_begun(row: &[Patch], from: u64, count: usize) -> usize
     requires { IsNonDecreasingBy begin_of row.now }
     ensures within { result ≤ length row.now }
-    ensures begun { (k : ℕ) (d : Patch) → k < result → begin_of (slice_index_or row.now k d) < from + count }
-    ensures not_yet { (k : ℕ) (d : Patch) → result ≤ k → k < length row.now → from + count ≤ begin_of (slice_index_or row.now k d) }
+    ensures begun { (k : ℕ) (d : Patch) →
+        k < result → begin_of (slice_index_or row.now k d) < from + count }
+    ensures not_yet { (k : ℕ) (d : Patch) →
+        result ≤ k → k < length row.now → from + count ≤ begin_of (slice_index_or row.now k d) }
 {
     row.partition_point(|patch| begins_in(patch, from, count))
 }
@@ -44,8 +47,10 @@ fn count_begun(row: &[Patch], from: u64, count: usize) -> usize
 pub fn ending_after(row: &[Patch], byte: u64) -> &[Patch]
     requires { IsRising row.now }
     ensures rising { IsRising result.now }
-    ensures after { (k : ℕ) (d : Patch) → k < length result.now → byte < end_of (slice_index_or result.now k d) }
-    ensures found { (k : ℕ) → byte ≤ k → find (covers k) result.now ≡ find (covers k) row.entry.now }
+    ensures after { (k : ℕ) (d : Patch) →
+        k < length result.now → byte < end_of (slice_index_or result.now k d) }
+    ensures found { (k : ℕ) → byte ≤ k
+        → find (covers k) result.now ≡ find (covers k) row.entry.now }
 {
     let (_ended, rest) = row.split_at(count_ended(row, byte));
     rest
@@ -56,7 +61,8 @@ pub fn ending_after(row: &[Patch], byte: u64) -> &[Patch]
 pub fn reaching(row: &[Patch], from: u64, count: usize) -> &[Patch]
     requires { IsRising row.now }
     ensures rising { IsRising result.now }
-    ensures found { (k : ℕ) → k < count → find (covers (from + k)) result.now ≡ find (covers (from + k)) row.entry.now }
+    ensures found { (k : ℕ) → k < count
+        → find (covers (from + k)) result.now ≡ find (covers (from + k)) row.entry.now }
 {
     let (begun, _later) = row.split_at(count_begun(row, from, count));
     ending_after(begun, from)

@@ -16,7 +16,8 @@ use std::alloc::{AllocError, Global};
 /// The value of a slot's target modulo 2 to the 64, 0 where that means nothing.
 fn target_value<'a>(resolved: &Resolved<'a>, placement: &Placement<'_>, slot: Slot<'a>) -> u64
     requires { AreLawfulKinds placement.now.objects }
-    ensures { result ≡ wanted.target_value resolved.now (where_in placement.now) (slot_view slot.entry).target % 2 ^ 64 }
+    ensures { result ≡ wanted.target_value resolved.now (where_in placement.now)
+        (slot_view slot.entry).target % 2 ^ 64 }
 {
     value_or_none(placement, &resolved.target_meaning(&slot.target()))
 }
@@ -51,7 +52,8 @@ pub fn slot_values<'a>(
     slots: &Slots<'a>,
 ) -> Result<Vec<u64>, AllocError>
     requires { AreLawfulKinds placement.now.objects }
-    ensures { IfOk result (λ v. v.items ≡ map (slot_value_of resolved.now (where_in placement.now)) slots.now.slots) }
+    ensures { IfOk result (λ v. v.items
+        ≡ map (slot_value_of resolved.now (where_in placement.now)) slots.now.slots) }
 {
     let pointer = pointer_of(placement);
     let listed = slots.slots();

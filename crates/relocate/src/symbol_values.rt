@@ -51,7 +51,8 @@ fn value_of_symbol<'a>(
 ) -> SymbolValue
     requires here { IsObjectAt resolved.now number (loaded_view loaded.now) }
     requires kinds { AreLawfulKinds placement.now.objects }
-    ensures { IsValueOf resolved.now (where_in placement.now) (symbol_at number (loaded_view loaded.now) j) result }
+    ensures { IsValueOf resolved.now (where_in placement.now)
+        (symbol_at number (loaded_view loaded.now) j) result }
 {
     let definition = use_of(resolved, number, loaded, j);
     SymbolValue {
@@ -70,7 +71,8 @@ fn table_of<'a>(
 ) -> Result<Vec<SymbolValue>, AllocError>
     requires here { IsObjectAt resolved.now number (loaded_view loaded.now) }
     requires kinds { AreLawfulKinds placement.now.objects }
-    ensures { IfOk result (λ v. AreValues resolved.now (where_in placement.now) number (loaded_view loaded.now) v.items) }
+    ensures { IfOk result (λ v.
+        AreValues resolved.now (where_in placement.now) number (loaded_view loaded.now) v.items) }
 {
     let mut table = Vec::new(alloc);
     if !refers_often(loaded) {
@@ -121,7 +123,8 @@ impl<'v, 'a> Valued<'v, 'a> {
     /// What symbol `j` is worth.
     pub fn symbol_value(&self, j: usize) -> SymbolValue
         requires { IsValued self.now }
-        ensures { IsValueOf (all_valued self.now) (where_of self.now) (symbol_at self.now.number (valued_object self.now) j) result }
+        ensures { IsValueOf (all_valued self.now) (where_of self.now)
+            (symbol_at self.now.number (valued_object self.now) j) result }
     {
         match self.table.get(j) {
             Some(value) => *value,

@@ -53,7 +53,8 @@ fn is_weak(entry: &Symbol) -> bool
 
 /// Whether a symbol of an object stands in a section that isn't kept.
 pub fn stands_in_unkept(loaded: &LoadedObject<'_>, entry: &Symbol) -> bool
-    ensures { IsTrue result ↔ IsSomeAnd (section_in loaded.now.object entry.now) (λ h. is_kept (loaded_view loaded.now) entry.now.st_shndx h ≡ false) }
+    ensures { IsTrue result ↔ IsSomeAnd (section_in loaded.now.object entry.now)
+        (λ h. is_kept (loaded_view loaded.now) entry.now.st_shndx h ≡ false) }
 {
     match section_of(&loaded.object, entry) {
         Some(header) => !loaded.is_kept(entry.st_shndx as usize, &header),
@@ -83,7 +84,8 @@ const FRAME_SECTION: &[u8] = b".eh_frame";
 
 /// Whether a section holds frames: those of dropped code are left in it, and may refer to what is dropped.
 pub fn holds_frames(object: &ObjectFile<'_>, number: usize) -> bool
-    ensures { result ≡ bytes_eq (unwrap_or (section_name object.now number) []) (codes ".eh_frame") }
+    ensures { result ≡ bytes_eq (unwrap_or (section_name object.now number) [])
+        (codes ".eh_frame") }
 {
     section_name_at(object, number) == FRAME_SECTION
 }
@@ -104,7 +106,8 @@ fn unnamed_at<'a>(number: usize, loaded: &LoadedObject<'_>, j: usize) -> SymbolO
 
 /// What a reference to symbol `j`, which is LOCAL, of the object that has a number uses, without its name.
 fn local_use<'a>(number: usize, loaded: &LoadedObject<'_>, j: usize) -> Option<Definition<'a>>
-    ensures { option_map meaning_view result ≡ local_use (symbol_at number (loaded_view loaded.now) j) }
+    ensures { option_map meaning_view result
+        ≡ local_use (symbol_at number (loaded_view loaded.now) j) }
 {
     let symbol = unnamed_at(number, loaded, j);
     if symbol.entry.st_shndx == SHN_UNDEF {
@@ -122,7 +125,8 @@ pub fn use_of<'a>(
     j: usize,
 ) -> Option<Definition<'a>>
     requires { IsObjectAt resolved.now number (loaded_view loaded.now) }
-    ensures { AreAlike resolved.now (option_map meaning_view result) (definition_of resolved.now (symbol_at number (loaded_view loaded.now) j)) }
+    ensures { AreAlike resolved.now (option_map meaning_view result)
+        (definition_of resolved.now (symbol_at number (loaded_view loaded.now) j)) }
 {
     if is_local(&loaded.object.symbol(j)) {
         return local_use(number, loaded, j);
@@ -138,7 +142,8 @@ fn definition_of<'a>(
     j: usize,
 ) -> Option<Definition<'a>>
     requires { IsObjectAt resolved.now number (loaded_view _loaded.now) }
-    ensures { option_map meaning_view result ≡ definition_of resolved.now (symbol_at number (loaded_view _loaded.now) j) }
+    ensures { option_map meaning_view result
+        ≡ definition_of resolved.now (symbol_at number (loaded_view _loaded.now) j) }
 {
     resolved.used(SymbolRef {
         object: ObjectId(number as u64),
@@ -159,7 +164,8 @@ pub fn is_undefined(j: usize, entry: &Symbol, definition: &Option<Definition<'_>
 
 /// Whether what a reference uses stands in a section with SHF_TLS.
 pub fn is_thread_local<'a>(resolved: &Resolved<'a>, definition: &Option<Definition<'a>>) -> bool
-    ensures { result ≡ option_map_or (is_in_thread_storage resolved.now) (option_map meaning_view definition.now) false }
+    ensures { result ≡ option_map_or (is_in_thread_storage resolved.now)
+        (option_map meaning_view definition.now) false }
 {
     match definition {
         Some(meaning) => resolved.is_in_thread_storage(meaning),
@@ -169,7 +175,8 @@ pub fn is_thread_local<'a>(resolved: &Resolved<'a>, definition: &Option<Definiti
 
 /// Whether one of the linker's names, which stands for a bound, speaks of an output name of several output sections.
 fn is_mixed_bound(mixed: &BTreeSet<&[u8]>, name: &[u8], bound: Bound) -> bool
-    ensures { (objects : List loading.LoadedObject) → AreMixed objects mixed.now → IsTrue result ↔ IsMixedBound objects name.now bound }
+    ensures { (objects : List loading.LoadedObject) →
+        AreMixed objects mixed.now → IsTrue result ↔ IsMixedBound objects name.now bound }
 {
     match bound {
         Bound::OutputStart => mixed.contains(named_output(name)),
@@ -180,7 +187,9 @@ fn is_mixed_bound(mixed: &BTreeSet<&[u8]>, name: &[u8], bound: Bound) -> bool
 
 /// Whether what a reference uses is such a name of the linker's.
 pub fn is_mixed(mixed: &BTreeSet<&[u8]>, definition: &Option<Definition<'_>>) -> bool
-    ensures { (objects : List loading.LoadedObject) → AreMixed objects mixed.now → IsTrue result ↔ IsSomeAnd (option_map meaning_view definition.now) (IsMixed objects) }
+    ensures { (objects : List loading.LoadedObject) →
+        AreMixed objects mixed.now
+        → IsTrue result ↔ IsSomeAnd (option_map meaning_view definition.now) (IsMixed objects) }
 {
     match definition {
         Some(Definition::Linker(name, bound)) => is_mixed_bound(mixed, name, *bound),

@@ -47,7 +47,8 @@ pub fn address_or_none(placement: &Placement<'_>, number: usize, target: usize) 
 /// The value of a symbol that is defined, modulo 2 to the 64: an absolute one's own, else the address of its
 /// section plus its own, 0 where the section isn't kept.
 fn symbol_value(placement: &Placement<'_>, symbol: &SymbolOf<'_>) -> u64
-    ensures { result ≡ symbol_value (where_in placement.now).placed (symbol_view symbol.now) % 2 ^ 64 }
+    ensures { result ≡ symbol_value (where_in placement.now).placed
+        (symbol_view symbol.now) % 2 ^ 64 }
 {
     let entry = symbol.entry;
     if entry.st_shndx == SHN_ABS {
@@ -75,7 +76,9 @@ fn value_of(placement: &Placement<'_>, meaning: &Definition<'_>) -> u64
 
 pub fn value_or_none(placement: &Placement<'_>, definition: &Option<Definition<'_>>) -> u64
     requires { AreLawfulKinds placement.now.objects }
-    ensures { result ≡ unwrap_or (option_map (meaning_value (where_in placement.now)) (option_map meaning_view definition.now)) 0 % 2 ^ 64 }
+    ensures { result ≡ unwrap_or
+        (option_map (meaning_value (where_in placement.now))
+        (option_map meaning_view definition.now)) 0 % 2 ^ 64 }
 {
     match definition {
         Some(meaning) => value_of(placement, meaning),
@@ -95,7 +98,8 @@ fn size_of(meaning: &Definition<'_>) -> u64
 }
 
 pub fn size_or_none(definition: &Option<Definition<'_>>) -> u64
-    ensures { result ≡ unwrap_or (option_map meaning_size (option_map meaning_view definition.now)) 0 % 2 ^ 64 }
+    ensures { result ≡ unwrap_or
+        (option_map meaning_size (option_map meaning_view definition.now)) 0 % 2 ^ 64 }
 {
     match definition {
         Some(meaning) => size_of(meaning),
@@ -116,8 +120,13 @@ pub fn got_or_none(placement: &Placement<'_>) -> u64
 /// How far behind the GOT's beginning the slot stands that an entry of a kind asks for, modulo 2 to the 64; 0 where it
 /// asks for none.
 fn slot_offset(valued: &Valued<'_, '_>, target: u64, kind: Kind, entry: &Rela) -> u64
-    requires { relocation_kind (relocation_of valued.now.number (valued_object valued.now) target entry.now) ≡ Some (kind_view kind) }
-    ensures { result ≡ option_map_or (offset_of valued.now.slots.now.slots) (wanted.request_of (relocation_of valued.now.number (valued_object valued.now) target entry.now)) 0 % 2 ^ 64 }
+    requires { relocation_kind
+        (relocation_of valued.now.number (valued_object valued.now) target entry.now)
+        ≡ Some (kind_view kind) }
+    ensures { result ≡ option_map_or (offset_of valued.now.slots.now.slots)
+        (wanted.request_of
+        (relocation_of valued.now.number
+        (valued_object valued.now) target entry.now)) 0 % 2 ^ 64 }
 {
     match slot_kind(kind.formula) {
         Some(kind) => {
@@ -136,8 +145,12 @@ fn slot_offset(valued: &Valued<'_, '_>, target: u64, kind: Kind, entry: &Rela) -
 fn terms(valued: &Valued<'_, '_>, target: u64, at: u64, kind: Kind, entry: &Rela) -> Terms
     requires known { IsValued valued.now }
     requires at { at ≡ section_address (where_of valued.now).placed valued.now.number target }
-    requires kind { relocation_kind (relocation_of valued.now.number (valued_object valued.now) target entry.now) ≡ Some (kind_view kind) }
-    ensures { Reduces result (terms_of (all_valued valued.now) (where_of valued.now) (relocation_of valued.now.number (valued_object valued.now) target entry.now)) }
+    requires kind { relocation_kind
+        (relocation_of valued.now.number (valued_object valued.now) target entry.now)
+        ≡ Some (kind_view kind) }
+    ensures { Reduces result
+        (terms_of (all_valued valued.now) (where_of valued.now)
+        (relocation_of valued.now.number (valued_object valued.now) target entry.now)) }
 {
     let symbol = valued.symbol_value(entry.symbol() as usize);
     Terms {
@@ -155,8 +168,11 @@ fn terms(valued: &Valued<'_, '_>, target: u64, at: u64, kind: Kind, entry: &Rela
 pub fn wanted_value(valued: &Valued<'_, '_>, target: u64, at: u64, kind: Kind, entry: &Rela) -> u64
     requires valued { IsValued valued.now }
     requires at { at ≡ section_address (where_of valued.now).placed valued.now.number target }
-    requires kind { relocation_kind (relocation_of valued.now.number (valued_object valued.now) target entry.now) ≡ Some (kind_view kind) }
-    ensures { result ≡ values.value_of (all_valued valued.now) (where_of valued.now) (relocation_of valued.now.number (valued_object valued.now) target entry.now) }
+    requires kind { relocation_kind
+        (relocation_of valued.now.number (valued_object valued.now) target entry.now)
+        ≡ Some (kind_view kind) }
+    ensures { result ≡ values.value_of (all_valued valued.now) (where_of valued.now)
+        (relocation_of valued.now.number (valued_object valued.now) target entry.now) }
 {
     value(kind, terms(valued, target, at, kind, entry))
 }
@@ -172,8 +188,13 @@ pub struct Fitting {
 pub fn fitting_value(valued: &Valued<'_, '_>, target: u64, at: u64, entry: &Rela) -> Option<Fitting>
     requires valued { IsValued valued.now }
     requires at { at ≡ section_address (where_of valued.now).placed valued.now.number target }
-    requires known { IsSome (relocation_kind (relocation_of valued.now.number (valued_object valued.now) target entry.now)) }
-    ensures { SomeIff result (Fits (all_valued valued.now) (where_of valued.now) (relocation_of valued.now.number (valued_object valued.now) target entry.now)) (fitting_of (all_valued valued.now) (where_of valued.now) (relocation_of valued.now.number (valued_object valued.now) target entry.now)) }
+    requires known { IsSome (relocation_kind
+        (relocation_of valued.now.number (valued_object valued.now) target entry.now)) }
+    ensures { SomeIff result
+        (Fits (all_valued valued.now) (where_of valued.now)
+        (relocation_of valued.now.number (valued_object valued.now) target entry.now))
+        (fitting_of (all_valued valued.now) (where_of valued.now)
+        (relocation_of valued.now.number (valued_object valued.now) target entry.now)) }
 {
     let Some(kind) = Kind::of(entry.kind()) else {
         unreachable!()

@@ -54,7 +54,8 @@ fn block_of<'a, T: NameTable<'a>>(
     number: u64,
     symbol: &SymbolOf<'a>,
 ) -> Block<'a>
-    ensures { block_view result ≡ block_by (T.rows table.now) object number (symbol_view symbol.now) }
+    ensures { block_view result
+        ≡ block_by (T.rows table.now) object number (symbol_view symbol.now) }
 {
     let (size, align) = extent_of(table, symbol.name);
     Block {
@@ -73,7 +74,9 @@ pub fn blocks_of<'a, T: NameTable<'a>>(
     object: u64,
     chosen: &[SymbolOf<'a>],
 ) -> Result<Vec<Block<'a>>, AllocError>
-    ensures { IfOk result (λ v. block_views v.items ≡ blocks_by (T.rows table.now) object 0 (filter is_common_symbol (symbol_views chosen.now))) }
+    ensures { IfOk result (λ v. block_views v.items
+        ≡ blocks_by (T.rows table.now) object 0
+        (filter is_common_symbol (symbol_views chosen.now))) }
 {
     let mut blocks = Vec::new(alloc);
     for symbol in chosen {
@@ -89,7 +92,11 @@ fn add_block<'a>(
     index: &mut BTreeMap<&'a [u8], Block<'a>>,
     block: &Block<'a>,
 ) -> Result<(), AllocError>
-    ensures { OnOk result ((n : List ℕ) → block_in index.new n ≡ option_or (block_in index.old n) (cond {A = Option BlockOf} (bytes_eq block.now.name.now n) (Some (block_view block.now)) None)) }
+    ensures { OnOk result ((n : List ℕ) →
+        block_in index.new n
+        ≡ option_or (block_in index.old n)
+        (cond {A = Option BlockOf} (bytes_eq block.now.name.now n)
+        (Some (block_view block.now)) None)) }
 {
     if !index.contains_key(block.name) {
         index.insert(block.name, *block)?;
@@ -102,7 +109,8 @@ pub fn index_of<'a>(
     alloc: Global,
     blocks: &[Block<'a>],
 ) -> Result<BTreeMap<&'a [u8], Block<'a>>, AllocError>
-    ensures { IfOk result (λ index. (n : List ℕ) → block_in index n ≡ first_block (block_views blocks.now) n) }
+    ensures { IfOk result (λ index. (n : List ℕ) →
+        block_in index n ≡ first_block (block_views blocks.now) n) }
 {
     let mut index = BTreeMap::new(alloc);
     for block in blocks {

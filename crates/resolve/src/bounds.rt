@@ -18,7 +18,8 @@ fn is(text: &[u8], name: &[u8]) -> bool
 
 /// What the name of a boundary of the image stands for.
 fn boundary(name: &[u8]) -> Option<Bound>
-    ensures { result ≡ option_map (λ b. b.bound) (find (λ b. bytes_eq b.name name.now) bound_names) }
+    ensures { result ≡ option_map (λ b. b.bound)
+        (find (λ b. bytes_eq b.name name.now) bound_names) }
 {
     if is(b"__executable_start", name) || is(b"__ehdr_start", name) {
         return Some(Bound::ImageStart);

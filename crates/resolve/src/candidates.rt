@@ -46,7 +46,9 @@ pub fn offer_commons<'a, T: NameTable<'a>>(
     table: &mut T,
     definitions: &[SymbolOf<'a>],
 ) -> Result<(), AllocError>
-    ensures { OnOk result (T.rows table.new ≡ all_offered (offers_of (filter is_common_definition (symbol_views definitions.now))) (T.rows table.old)) }
+    ensures { OnOk result (T.rows table.new
+        ≡ all_offered (offers_of (filter is_common_definition (symbol_views definitions.now)))
+        (T.rows table.old)) }
 {
     for symbol in definitions {
         if is_common_definition(&symbol.entry, symbol.dropped) {
@@ -78,11 +80,14 @@ fn is_meant(loaded: &Loaded<'_>, owners: &[Owner], symbol: &SymbolOf<'_>) -> boo
 pub fn keep_meant<'a>(loaded: &Loaded<'a>, owners: &[Owner], definitions: &mut Vec<SymbolOf<'a>>)
     requires owned { AreOwnersOf loaded.now (symbol_views definitions.old.items) owners.now }
     requires once { HasNoStrongTwins (symbol_views definitions.old.items) }
-    ensures { symbol_views definitions.new.items ≡ filter (is_meant (rows_of (symbol_views definitions.old.items))) (symbol_views definitions.old.items) }
+    ensures { symbol_views definitions.new.items
+        ≡ filter (is_meant (rows_of (symbol_views definitions.old.items)))
+        (symbol_views definitions.old.items) }
 {
     definitions.retain(
         |symbol|
-            ensures value { result ≡ is_strong_or_owner loaded.entry.now owners.entry.now (symbol_view symbol.now) }
+            ensures value { result ≡ is_strong_or_owner loaded.entry.now owners.entry.now
+                (symbol_view symbol.now) }
             ensures loaded { loaded.exit ≡ loaded.entry }
             ensures owners { owners.exit ≡ owners.entry }
         { is_strong(&symbol.entry, symbol.dropped) || is_meant(loaded, owners, symbol) },
@@ -96,7 +101,8 @@ pub fn first_twin<'a>(
     definitions: &[SymbolOf<'a>],
 ) -> Option<&'a [u8]>
     requires { AreOwnersOf loaded.now (symbol_views definitions.now) owners.now }
-    ensures found { IfSome result (λ name. 2 ≤ count_by (is_strong_of name.now) (symbol_views definitions.now)) }
+    ensures found { IfSome result (λ name.
+        2 ≤ count_by (is_strong_of name.now) (symbol_views definitions.now)) }
     ensures none { IfNone result (HasNoStrongTwins (symbol_views definitions.now)) }
 {
     for symbol in definitions {

@@ -27,7 +27,10 @@ fn add_definitions<'a>(
     number: u64,
     loaded: &LoadedObject<'a>,
 ) -> Result<(), AllocError>
-    ensures { OnOk result (symbol_views found.new.items ≡ symbol_views found.old.items ++ filter is_definition (symbols_from number (loaded_view loaded.now) 0 (symbols loaded.now.object))) }
+    ensures { OnOk result (symbol_views found.new.items
+        ≡ symbol_views found.old.items
+        ++ filter is_definition
+        (symbols_from number (loaded_view loaded.now) 0 (symbols loaded.now.object))) }
 {
     let entries = loaded.object.symbols();
     for (j, entry) in entries.iter().enumerate() {

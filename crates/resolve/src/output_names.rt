@@ -19,7 +19,8 @@ fn second(name: &[u8]) -> u8
 fn is_either(name: &[u8], gathering: &[u8], with_dot: &[u8]) -> bool
     requires dotted { slice_index with_dot.now 1 ≡ slice_index gathering.now 1 }
     requires long { 2 ≤ length with_dot.now }
-    ensures { result ≡ (bytes_eq name.now gathering.now || starts_with nat_eq name.now with_dot.now) }
+    ensures { result ≡ (bytes_eq name.now gathering.now
+        || starts_with nat_eq name.now with_dot.now) }
 {
     if second(name) != second(gathering) {
         return false;

@@ -24,7 +24,8 @@ pub fn is_among(name: &[u8], names: &BTreeSet<&[u8]>) -> bool
 
 /// Adds a name to a set.
 pub fn add_name<'a>(names: &mut BTreeSet<&'a [u8]>, name: &'a [u8]) -> Result<(), AllocError>
-    ensures { OnOk result ((n : List ℕ) → is_among names.new n ≡ (bytes_eq name.entry.now n || is_among names.old n)) }
+    ensures { OnOk result ((n : List ℕ) →
+        is_among names.new n ≡ (bytes_eq name.entry.now n || is_among names.old n)) }
 {
     names.insert(name)?;
     Ok(())
@@ -44,7 +45,9 @@ fn add_section<'a>(
     i: usize,
     header: &SectionHeader,
 ) -> Result<(), AllocError>
-    ensures { OnOk result ((n : List ℕ) → is_among names.new n ≡ (is_output_of (loaded_view loaded.now) i header.now n || is_among names.old n)) }
+    ensures { OnOk result ((n : List ℕ) →
+        is_among names.new n
+        ≡ (is_output_of (loaded_view loaded.now) i header.now n || is_among names.old n)) }
 {
     if !loaded.is_kept(i, header) {
         return Ok(());
@@ -58,7 +61,11 @@ fn add_object<'a>(
     number: usize,
     loaded: &LoadedObject<'a>,
 ) -> Result<(), AllocError>
-    ensures { OnOk result ((n : List ℕ) → is_among names.new n ≡ (is_among names.old n || list_any (is_of_output n) (pieces_from number (loaded_view loaded.now) 0 (sections loaded.now.object)))) }
+    ensures { OnOk result ((n : List ℕ) →
+        is_among names.new n
+        ≡ (is_among names.old n
+        || list_any (is_of_output n)
+        (pieces_from number (loaded_view loaded.now) 0 (sections loaded.now.object)))) }
 {
     let _number = number;
     let headers = loaded.object.sections();

@@ -102,7 +102,9 @@ fn owner_numbered(owners: &[Owner], number: usize) -> Owner
 /// Takes a candidate in for the name that has a number.
 fn take_in(owners: &mut Vec<Owner>, number: usize, candidate: Candidate)
     requires { number < length owners.old.items }
-    ensures { owners.new.items ≡ set owners.old.items number (owner_after (slice_index_or owners.old.items number variant.Nobody) candidate) }
+    ensures { owners.new.items
+        ≡ set owners.old.items number
+        (owner_after (slice_index_or owners.old.items number variant.Nobody) candidate) }
 {
     let owner = owner_numbered(owners, number);
     owners[number] = owner.after(candidate);

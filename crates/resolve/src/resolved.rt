@@ -88,7 +88,8 @@ pub fn resolve_in<'a, T: NameTable<'a> + Drop>(
 ) -> Result<Resolved<'a>, ResolveFault>
     requires { T.rows table ≡ no_rows }
     ensures exact { IfOk result (λ r. r ≡ loaded.now.objects) }
-    ensures resolved { OnOk result (AreSoundCommons loaded.now.objects × AreSoundSymbols loaded.now.objects × AreUnique loaded.now.objects) }
+    ensures resolved { OnOk result (AreSoundCommons loaded.now.objects
+        × AreSoundSymbols loaded.now.objects × AreUnique loaded.now.objects) }
     ensures fault { IfErr result (ResolvingFails loaded.now.objects) }
 {
     let objects = loaded.objects();
@@ -117,7 +118,8 @@ pub fn resolve_in<'a, T: NameTable<'a> + Drop>(
 /// strong definitions, Memory.
 pub fn resolve<'a>(alloc: Global, loaded: &Loaded<'a>) -> Result<Resolved<'a>, ResolveFault>
     ensures exact { IfOk result (λ r. r ≡ loaded.now.objects) }
-    ensures resolved { OnOk result (AreSoundCommons loaded.now.objects × AreSoundSymbols loaded.now.objects × AreUnique loaded.now.objects) }
+    ensures resolved { OnOk result (AreSoundCommons loaded.now.objects
+        × AreSoundSymbols loaded.now.objects × AreUnique loaded.now.objects) }
     ensures fault { IfErr result (ResolvingFails loaded.now.objects) }
 {
     let table = IndexedTable::with_hasher(alloc, NameSeed::fixed());
@@ -138,7 +140,9 @@ fn itself<'a>(
     j: usize,
     entry: &Symbol,
 ) -> Option<Definition<'a>>
-    ensures { option_map meaning_view result ≡ cond (is_undefined entry.now) None (Some (meaning.Symbol (symbol_of number (loaded_view loaded.now) j entry.now))) }
+    ensures { option_map meaning_view result
+        ≡ cond (is_undefined entry.now) None
+        (Some (meaning.Symbol (symbol_of number (loaded_view loaded.now) j entry.now))) }
 {
     if is_undefined(entry) {
         return None;
@@ -209,7 +213,8 @@ impl<'a> Resolved<'a> {
     /// The definition that a reference to a symbol uses: as `chosen` of its target, found by the symbol's number, without a
     /// look-up of its name.
     pub fn used(&self, symbol: SymbolRef) -> Option<Definition<'a>>
-        ensures { option_map meaning_view result ≡ definition_at self.now symbol.object.0 symbol.symbol }
+        ensures { option_map meaning_view result
+            ≡ definition_at self.now symbol.object.0 symbol.symbol }
     {
         let object = symbol.object.0 as usize;
         let number = symbol.symbol as usize;
@@ -221,7 +226,9 @@ impl<'a> Resolved<'a> {
 
     /// What the chosen definition of a symbol's name means, for one that isn't LOCAL.
     fn chosen_meaning(&self, symbol: SymbolRef) -> Option<Definition<'a>>
-        ensures { option_map meaning_view result ≡ option_and_then (meaning.meant self.now) (named_at self.now symbol.object.0 symbol.symbol) }
+        ensures { option_map meaning_view result
+            ≡ option_and_then (meaning.meant self.now)
+            (named_at self.now symbol.object.0 symbol.symbol) }
     {
         let chosen = self.named(symbol)?;
         self.meant(&chosen)
@@ -249,7 +256,8 @@ impl<'a> Resolved<'a> {
     /// where no object defines the name. Reads no name and no section.
     #[tactic(auto, using(crate::proofs::ThreadFlags::flag_at))]
     pub fn chosen_thread(&self, symbol: SymbolRef) -> Option<bool>
-        ensures { result ≡ option_map (is_thread_chosen self.now) (named_at self.now symbol.object.0 symbol.symbol) }
+        ensures { result ≡ option_map (is_thread_chosen self.now)
+            (named_at self.now symbol.object.0 symbol.symbol) }
     {
         let place = place_at(&self.loaded, &self.places, symbol)?;
         self.threads.get(place).copied()
@@ -264,7 +272,8 @@ impl<'a> Resolved<'a> {
 
     /// What the linker defines for a name.
     fn linker_meaning(&self, name: &'a [u8]) -> Option<Definition<'a>>
-        ensures { option_map meaning_view result ≡ option_map (meaning.Linker name.now) (bound_of self.now name.now) }
+        ensures { option_map meaning_view result
+            ≡ option_map (meaning.Linker name.now) (bound_of self.now name.now) }
     {
         let bound = self.bound(name)?;
         Some(Definition::Linker(name, bound))
@@ -302,7 +311,8 @@ impl<'a> Resolved<'a> {
 
     /// A symbol itself; None where it is undefined (as number 0 is), or where there is no such symbol.
     fn own(&self, symbol: SymbolRef) -> Option<Definition<'a>>
-        ensures { option_map meaning_view result ≡ itself_at self.now symbol.object.0 symbol.symbol }
+        ensures { option_map meaning_view result
+            ≡ itself_at self.now symbol.object.0 symbol.symbol }
     {
         let number = symbol.symbol as usize;
         let loaded = self.loaded.objects().get(symbol.object.0 as usize)?;
@@ -314,7 +324,8 @@ impl<'a> Resolved<'a> {
     /// a LOCAL symbol that itself, whatever it is; None where that is undefined (as number 0 is), or where there is no such
     /// symbol.
     pub fn chosen(&self, target: &Target<'a>) -> Option<Definition<'a>>
-        ensures { option_map meaning_view result ≡ chosen_definition self.now (target_view target.now) }
+        ensures { option_map meaning_view result
+            ≡ chosen_definition self.now (target_view target.now) }
     {
         match target {
             Target::Name(name) => self.named_meaning(name),
@@ -324,7 +335,8 @@ impl<'a> Resolved<'a> {
 
     /// What a slot's target means: of a name as `chosen`; of a symbol what a reference to it uses.
     pub fn target_meaning(&self, target: &Target<'a>) -> Option<Definition<'a>>
-        ensures { option_map meaning_view result ≡ target_meaning self.now (target_view target.now) }
+        ensures { option_map meaning_view result
+            ≡ target_meaning self.now (target_view target.now) }
     {
         match target {
             Target::Name(name) => self.named_meaning(name),
@@ -341,7 +353,8 @@ impl<'a> Resolved<'a> {
 
     /// Whether what a reference to a symbol uses stands in a section with SHF_TLS; one that has no definition doesn't.
     pub fn is_thread_local(&self, symbol: SymbolRef) -> bool
-        ensures { result ≡ option_map_or (is_in_thread_storage self.now) (definition_at self.now symbol.object.0 symbol.symbol) false }
+        ensures { result ≡ option_map_or (is_in_thread_storage self.now)
+            (definition_at self.now symbol.object.0 symbol.symbol) false }
     {
         match self.used(symbol) {
             Some(meaning) => self.is_in_thread_storage(&meaning),
@@ -351,7 +364,8 @@ impl<'a> Resolved<'a> {
 
     /// What the entry's name means by its chosen definition, which stands in no section with SHF_TLS.
     pub fn entry(&self, name: &[u8]) -> Option<Definition<'a>>
-        ensures meaning { IfSome result (λ m. object_meaning self.now name.now ≡ Some (meaning_view m)) }
+        ensures meaning { IfSome result (λ m. object_meaning self.now name.now
+            ≡ Some (meaning_view m)) }
         ensures entry { OnSome result (IsEntry self.now name.now) }
         ensures none { IfNone result (¬ IsEntry self.now name.now) }
     {

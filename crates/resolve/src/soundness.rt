@@ -37,7 +37,8 @@ pub fn is_sound(
     j: usize,
     entry: &Symbol,
 ) -> bool
-    ensures { IsTrue result ↔ IsSoundSymbol (loaded_views objects.now) (symbol_of number (loaded_view loaded.now) j entry.now) }
+    ensures { IsTrue result ↔ IsSoundSymbol (loaded_views objects.now)
+        (symbol_of number (loaded_view loaded.now) j entry.now) }
 {
     if is_visible(entry) && !loaded.object.is_named(j) {
         return false;
@@ -53,7 +54,8 @@ pub fn is_sound(
 
 /// Whether the symbols of the object that has a number are sound among the objects.
 fn has_sound_symbols(objects: &[LoadedObject<'_>], number: u64, loaded: &LoadedObject<'_>) -> bool
-    ensures { IsTrue result ↔ All (IsSoundSymbol (loaded_views objects.now)) (symbols_from number (loaded_view loaded.now) 0 (symbols loaded.now.object)) }
+    ensures { IsTrue result ↔ All (IsSoundSymbol (loaded_views objects.now))
+        (symbols_from number (loaded_view loaded.now) 0 (symbols loaded.now.object)) }
 {
     let entries = loaded.object.symbols();
     for (j, entry) in entries.iter().enumerate() {
@@ -88,7 +90,8 @@ fn is_block_alignment(align: u64) -> bool
 /// Whether a symbol is sound as a common one, by its entry: where it is common, it is GLOBAL, not of type TLS, and its
 /// st_value is a power of two up to 2 ^ 21.
 pub fn is_sound_common(number: u64, loaded: &LoadedObject<'_>, j: usize, entry: &Symbol) -> bool
-    ensures { IsTrue result ↔ IsSoundCommon (symbol_of number (loaded_view loaded.now) j entry.now) }
+    ensures { IsTrue result ↔ IsSoundCommon
+        (symbol_of number (loaded_view loaded.now) j entry.now) }
 {
     let _numbers = (number, j);
     if !is_common(entry) {
@@ -102,7 +105,8 @@ pub fn is_sound_common(number: u64, loaded: &LoadedObject<'_>, j: usize, entry: 
 
 /// Whether the common symbols of the object that has a number are sound.
 fn has_sound_commons(number: u64, loaded: &LoadedObject<'_>) -> bool
-    ensures { IsTrue result ↔ All IsSoundCommon (symbols_from number (loaded_view loaded.now) 0 (symbols loaded.now.object)) }
+    ensures { IsTrue result ↔ All IsSoundCommon
+        (symbols_from number (loaded_view loaded.now) 0 (symbols loaded.now.object)) }
 {
     let entries = loaded.object.symbols();
     for (j, entry) in entries.iter().enumerate() {

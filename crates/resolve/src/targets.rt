@@ -12,7 +12,8 @@ use search::LoadedObject;
 /// The target of a reference to a symbol, whose object is loaded: the symbol itself where that is LOCAL, or where there is
 /// no such symbol; else its name.
 pub fn target_of<'a>(symbol: SymbolRef, loaded: &LoadedObject<'a>) -> Target<'a>
-    ensures { target_view result ≡ wanted.target_of (symbol_at symbol.object.0 (loaded_view loaded.now) symbol.symbol) }
+    ensures { target_view result
+        ≡ wanted.target_of (symbol_at symbol.object.0 (loaded_view loaded.now) symbol.symbol) }
 {
     let j = symbol.symbol as usize;
     if is_local(&loaded.object.symbol(j)) {

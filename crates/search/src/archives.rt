@@ -116,7 +116,8 @@ fn read_archive<'a>(alloc: Global, item: &OpenedItem<'a>) -> Result<Archive<'a>,
 pub fn read_input<'a>(alloc: Global, item: &OpenedItem<'a>) -> Result<Input<'a>, SearchFault>
     ensures exact { IfOk result (λ i. i ≡ item_view item.now) }
     ensures archive { OnOk result (item.now.archive ≡ true → IsArchive item.now.bytes.now) }
-    ensures index { OnOk result (item.now.archive ≡ true → lacks_index (item_view item.now) ≡ false) }
+    ensures index { OnOk result (item.now.archive ≡ true
+        → lacks_index (item_view item.now) ≡ false) }
     ensures fault { IfErr result (λ e. IsUnsearchable e (item_view item.now)) }
 {
     if !item.archive {

@@ -29,7 +29,8 @@ impl<'a> LoadedObject<'a> {
 
     /// Whether a section with this number is there and kept.
     fn is_kept_at(&self, number: usize) -> bool
-        ensures { result ≡ is_kept (loaded_view self.now) number (section (sections self.now.object) number) }
+        ensures { result ≡ is_kept (loaded_view self.now) number
+            (section (sections self.now.object) number) }
     {
         match self.object.sections().get(number) {
             Some(header) => self.is_kept(number, header),

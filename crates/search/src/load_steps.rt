@@ -61,8 +61,10 @@ fn load_single<'a, N: NameNumbers<'a>>(
     requires known { Knows N.names loader.old }
     ensures later { OnOk result (IsLater loader.old loader.new) }
     ensures known { OnOk result (Knows N.names loader.new) }
-    ensures loaded { OnOk result (loaded loader.new ≡ loaded_step loader.old.plan.now (Single input.now) (loaded loader.old)) }
-    ensures fault { IfErr result (FailsOn (loaded_step loader.old.plan.now (Single input.now) (loaded loader.old))) }
+    ensures loaded { OnOk result (loaded loader.new
+        ≡ loaded_step loader.old.plan.now (Single input.now) (loaded loader.old)) }
+    ensures fault { IfErr result (FailsOn
+        (loaded_step loader.old.plan.now (Single input.now) (loaded loader.old))) }
 {
     let item = input.item();
     if !item.archive {
@@ -84,8 +86,11 @@ fn load_step<'a, N: NameNumbers<'a>>(
     ensures later { OnOk result (IsLater loader.old loader.new) }
     ensures known { OnOk result (Knows N.names loader.new) }
     ensures count { IfOk result (λ n. (0 < n) × (n ≤ length inputs.now)) }
-    ensures loaded { IfOk result (λ n. loaded_steps loader.old.plan.now (steps (drop n inputs.now)) (loaded loader.new) ≡ loaded_steps loader.old.plan.now (steps inputs.now) (loaded loader.old)) }
-    ensures fault { IfErr result (FailsOn (loaded_steps loader.old.plan.now (steps inputs.now) (loaded loader.old))) }
+    ensures loaded { IfOk result (λ n.
+        loaded_steps loader.old.plan.now (steps (drop n inputs.now)) (loaded loader.new)
+        ≡ loaded_steps loader.old.plan.now (steps inputs.now) (loaded loader.old)) }
+    ensures fault { IfErr result (FailsOn
+        (loaded_steps loader.old.plan.now (steps inputs.now) (loaded loader.old))) }
 {
     let Some(group) = group_of(&inputs[0]) else {
         load_single(alloc, loader, &inputs[0])?;
@@ -105,8 +110,10 @@ fn load_inputs<'a, N: NameNumbers<'a>>(
 ) -> Result<(), SearchFault>
     requires known { Knows N.names loader.old }
     ensures known { OnOk result (Knows N.names loader.new) }
-    ensures loaded { OnOk result (loaded loader.new ≡ loaded_steps loader.old.plan.now (steps inputs.now) (loaded loader.old)) }
-    ensures fault { IfErr result (FailsOn (loaded_steps loader.old.plan.now (steps inputs.now) (loaded loader.old))) }
+    ensures loaded { OnOk result (loaded loader.new
+        ≡ loaded_steps loader.old.plan.now (steps inputs.now) (loaded loader.old)) }
+    ensures fault { IfErr result (FailsOn
+        (loaded_steps loader.old.plan.now (steps inputs.now) (loaded loader.old))) }
 {
     let mut at = 0;
     while at < inputs.len() {
@@ -138,14 +145,18 @@ pub fn load_seeded<'a>(
     seed: NameSeed,
 ) -> Result<Loaded<'a>, SearchFault>
     ensures plan { IfOk result (λ l. l.plan ≡ plan.now) }
-    ensures loaded { IfOk result (λ l. l.objects ≡ loaded_objects (files_of files.entry.now) plan.now) }
+    ensures loaded { IfOk result (λ l. l.objects
+        ≡ loaded_objects (files_of files.entry.now) plan.now) }
     ensures rules { OnOk result (FollowsRules (files_of files.entry.now) plan.now) }
     ensures files { OnOk result (AreFilesThere (files_of files.entry.now) plan.now) }
     ensures archives { OnOk result (AreArchives (opened (files_of files.entry.now) plan.now)) }
     ensures indexes { OnOk result (HaveIndexes (opened (files_of files.entry.now) plan.now)) }
-    ensures objects { OnOk result (AreObjects (loaded_objects (files_of files.entry.now) plan.now)) }
-    ensures groups { OnOk result (HaveLawfulGroups (loaded_objects (files_of files.entry.now) plan.now)) }
-    ensures dropped { OnOk result (AreDroppedInOrder (loaded_objects (files_of files.entry.now) plan.now)) }
+    ensures objects { OnOk result (AreObjects
+        (loaded_objects (files_of files.entry.now) plan.now)) }
+    ensures groups { OnOk result (HaveLawfulGroups
+        (loaded_objects (files_of files.entry.now) plan.now)) }
+    ensures dropped { OnOk result (AreDroppedInOrder
+        (loaded_objects (files_of files.entry.now) plan.now)) }
     ensures fault { IfErr result (LoadFails (files_of files.entry.now) plan.now) }
 {
     let index = FileIndex::new(alloc, files)?;
@@ -208,14 +219,18 @@ pub fn load_in<'a, T: NameTable<'a> + Drop>(
 ) -> Result<Loaded<'a>, SearchFault>
     requires { T.rows _table ≡ no_rows }
     ensures plan { IfOk result (λ l. l.plan ≡ plan.now) }
-    ensures loaded { IfOk result (λ l. l.objects ≡ loaded_objects (files_of files.entry.now) plan.now) }
+    ensures loaded { IfOk result (λ l. l.objects
+        ≡ loaded_objects (files_of files.entry.now) plan.now) }
     ensures rules { OnOk result (FollowsRules (files_of files.entry.now) plan.now) }
     ensures files { OnOk result (AreFilesThere (files_of files.entry.now) plan.now) }
     ensures archives { OnOk result (AreArchives (opened (files_of files.entry.now) plan.now)) }
     ensures indexes { OnOk result (HaveIndexes (opened (files_of files.entry.now) plan.now)) }
-    ensures objects { OnOk result (AreObjects (loaded_objects (files_of files.entry.now) plan.now)) }
-    ensures groups { OnOk result (HaveLawfulGroups (loaded_objects (files_of files.entry.now) plan.now)) }
-    ensures dropped { OnOk result (AreDroppedInOrder (loaded_objects (files_of files.entry.now) plan.now)) }
+    ensures objects { OnOk result (AreObjects
+        (loaded_objects (files_of files.entry.now) plan.now)) }
+    ensures groups { OnOk result (HaveLawfulGroups
+        (loaded_objects (files_of files.entry.now) plan.now)) }
+    ensures dropped { OnOk result (AreDroppedInOrder
+        (loaded_objects (files_of files.entry.now) plan.now)) }
     ensures fault { IfErr result (LoadFails (files_of files.entry.now) plan.now) }
 {
     load_seeded(alloc, plan, files, NameSeed::fixed())
@@ -235,14 +250,18 @@ pub fn load<'a>(
     files: &'a [InputFile],
 ) -> Result<Loaded<'a>, SearchFault>
     ensures plan { IfOk result (λ l. l.plan ≡ plan.now) }
-    ensures loaded { IfOk result (λ l. l.objects ≡ loaded_objects (files_of files.entry.now) plan.now) }
+    ensures loaded { IfOk result (λ l. l.objects
+        ≡ loaded_objects (files_of files.entry.now) plan.now) }
     ensures rules { OnOk result (FollowsRules (files_of files.entry.now) plan.now) }
     ensures files { OnOk result (AreFilesThere (files_of files.entry.now) plan.now) }
     ensures archives { OnOk result (AreArchives (opened (files_of files.entry.now) plan.now)) }
     ensures indexes { OnOk result (HaveIndexes (opened (files_of files.entry.now) plan.now)) }
-    ensures objects { OnOk result (AreObjects (loaded_objects (files_of files.entry.now) plan.now)) }
-    ensures groups { OnOk result (HaveLawfulGroups (loaded_objects (files_of files.entry.now) plan.now)) }
-    ensures dropped { OnOk result (AreDroppedInOrder (loaded_objects (files_of files.entry.now) plan.now)) }
+    ensures objects { OnOk result (AreObjects
+        (loaded_objects (files_of files.entry.now) plan.now)) }
+    ensures groups { OnOk result (HaveLawfulGroups
+        (loaded_objects (files_of files.entry.now) plan.now)) }
+    ensures dropped { OnOk result (AreDroppedInOrder
+        (loaded_objects (files_of files.entry.now) plan.now)) }
     ensures fault { IfErr result (LoadFails (files_of files.entry.now) plan.now) }
 {
     load_seeded(alloc, plan, files, NameSeed::fixed())

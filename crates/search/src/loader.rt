@@ -86,11 +86,13 @@ impl<'a, N: NameNumbers<'a>> Names<'a, N> {
     fn number(&mut self, name: &'a [u8]) -> Result<usize, AllocError>
         requires { AreNoted N.names self.old }
         ensures noted { OnOk result (AreNoted N.names self.new) }
-        ensures added { OnOk result (N.names self.new.numbers ≡ with_name (N.names self.old.numbers) name.now) }
+        ensures added { OnOk result (N.names self.new.numbers
+            ≡ with_name (N.names self.old.numbers) name.now) }
         ensures number { IfOk result (λ i. i ≡ number_of (N.names self.new.numbers) name.now) }
         ensures there { OnOk result (is_among (N.names self.new.numbers) name.now ≡ true) }
         ensures requested { OnOk result (self.new.requested ≡ self.old.requested) }
-        ensures defined { OnOk result ((n : List ℕ) → has_definition N.names self.new n ≡ has_definition N.names self.old n) }
+        ensures defined { OnOk result ((n : List ℕ) →
+            has_definition N.names self.new n ≡ has_definition N.names self.old n) }
     {
         let number = self.numbers.add(name)?;
         if number == self.mentions.len() {
@@ -106,9 +108,12 @@ impl<'a, N: NameNumbers<'a>> Names<'a, N> {
         requires number { number ≡ number_of (N.names self.old.numbers) name.now }
         ensures noted { OnOk result (AreNoted N.names self.new) }
         ensures numbers { OnOk result (self.new.numbers ≡ self.old.numbers) }
-        ensures requested { OnOk result ((n : List ℕ) → is_among self.new.requested n ≡ (bytes_eq name.now n || is_among self.old.requested n)) }
+        ensures requested { OnOk result ((n : List ℕ) →
+            is_among self.new.requested n
+            ≡ (bytes_eq name.now n || is_among self.old.requested n)) }
         ensures grows { OnOk result (Begins self.old.requested self.new.requested) }
-        ensures defined { OnOk result ((n : List ℕ) → has_definition N.names self.new n ≡ has_definition N.names self.old n) }
+        ensures defined { OnOk result ((n : List ℕ) →
+            has_definition N.names self.new n ≡ has_definition N.names self.old n) }
     {
         if self.mentions[number].requested {
             return Ok(());
@@ -126,7 +131,9 @@ impl<'a, N: NameNumbers<'a>> Names<'a, N> {
         ensures noted { AreNoted N.names self.new }
         ensures numbers { self.new.numbers ≡ self.old.numbers }
         ensures requested { self.new.requested ≡ self.old.requested }
-        ensures defined { (n : List ℕ) → has_definition N.names self.new n ≡ (bytes_eq name.now n || has_definition N.names self.old n) }
+        ensures defined { (n : List ℕ) →
+            has_definition N.names self.new n
+            ≡ (bytes_eq name.now n || has_definition N.names self.old n) }
     {
         self.mentions[number].defined = true;
     }
@@ -135,8 +142,11 @@ impl<'a, N: NameNumbers<'a>> Names<'a, N> {
     fn add_root(&mut self, name: &'a [u8]) -> Result<(), AllocError>
         requires { AreNoted N.names self.old }
         ensures noted { OnOk result (AreNoted N.names self.new) }
-        ensures requested { OnOk result ((n : List ℕ) → is_among self.new.requested n ≡ (bytes_eq name.now n || is_among self.old.requested n)) }
-        ensures defined { OnOk result ((n : List ℕ) → has_definition N.names self.new n ≡ has_definition N.names self.old n) }
+        ensures requested { OnOk result ((n : List ℕ) →
+            is_among self.new.requested n
+            ≡ (bytes_eq name.now n || is_among self.old.requested n)) }
+        ensures defined { OnOk result ((n : List ℕ) →
+            has_definition N.names self.new n ≡ has_definition N.names self.old n) }
     {
         let number = self.number(name)?;
         self.request(name, number)
@@ -147,8 +157,11 @@ impl<'a, N: NameNumbers<'a>> Names<'a, N> {
         requires noted { AreNoted N.names self.old }
         requires none { self.old.requested ≡ [] }
         ensures noted { OnOk result (AreNoted N.names self.new) }
-        ensures requested { OnOk result ((n : List ℕ) → is_among self.new.requested n ≡ list_any (λ root. bytes_eq root n) (entry.now ∷ texts_of undefined.now)) }
-        ensures defined { OnOk result ((n : List ℕ) → has_definition N.names self.new n ≡ has_definition N.names self.old n) }
+        ensures requested { OnOk result ((n : List ℕ) →
+            is_among self.new.requested n
+            ≡ list_any (λ root. bytes_eq root n) (entry.now ∷ texts_of undefined.now)) }
+        ensures defined { OnOk result ((n : List ℕ) →
+            has_definition N.names self.new n ≡ has_definition N.names self.old n) }
     {
         self.add_root(entry.as_bytes())?;
         for root in undefined {
@@ -160,7 +173,8 @@ impl<'a, N: NameNumbers<'a>> Names<'a, N> {
     /// Whether a name is asked for and not defined.
     fn is_missing(&self, name: &'a [u8]) -> bool
         requires { AreNoted N.names self.now }
-        ensures { result ≡ (is_among self.now.requested name.now && not (has_definition N.names self.now name.now)) }
+        ensures { result ≡ (is_among self.now.requested name.now
+            && not (has_definition N.names self.now name.now)) }
     {
         match self.numbers.number(name) {
             Some(number) => self.mentions[number].requested && !self.mentions[number].defined,
@@ -178,10 +192,17 @@ impl<'a, N: NameNumbers<'a>> Names<'a, N> {
         requires noted { AreNoted N.names self.old }
         requires shared { is_global_or_weak symbol.now ≡ true }
         ensures noted { OnOk result (AreNoted N.names self.new) }
-        ensures requested { OnOk result ((n : List ℕ) → is_among self.new.requested n ≡ (bytes_eq name.now n && is_request dropped.now symbol.now || is_among self.old.requested n)) }
-        ensures defined { OnOk result ((n : List ℕ) → has_definition N.names self.new n ≡ (bytes_eq name.now n && is_definition dropped.now symbol.now || has_definition N.names self.old n)) }
+        ensures requested { OnOk result ((n : List ℕ) →
+            is_among self.new.requested n
+            ≡ (bytes_eq name.now n && is_request dropped.now symbol.now
+            || is_among self.old.requested n)) }
+        ensures defined { OnOk result ((n : List ℕ) →
+            has_definition N.names self.new n
+            ≡ (bytes_eq name.now n && is_definition dropped.now symbol.now
+            || has_definition N.names self.old n)) }
         ensures grows { OnOk result (Begins self.old.requested self.new.requested) }
-        ensures added { OnOk result (N.names self.new.numbers ≡ with_name (N.names self.old.numbers) name.now) }
+        ensures added { OnOk result (N.names self.new.numbers
+            ≡ with_name (N.names self.old.numbers) name.now) }
         ensures number { IfOk result (λ i. i ≡ number_of (N.names self.new.numbers) name.now) }
         ensures there { OnOk result (is_among (N.names self.new.numbers) name.now ≡ true) }
     {
@@ -205,11 +226,17 @@ impl<'a, N: NameNumbers<'a>> Names<'a, N> {
     ) -> Result<Vec<usize>, AllocError>
         requires { AreNoted N.names self.old }
         ensures noted { OnOk result (AreNoted N.names self.new) }
-        ensures requested { OnOk result ((n : List ℕ) → is_among self.new.requested n ≡ (asked_in object.now dropped.now n || is_among self.old.requested n)) }
-        ensures defined { OnOk result ((n : List ℕ) → has_definition N.names self.new n ≡ (defined_in object.now dropped.now n || has_definition N.names self.old n)) }
+        ensures requested { OnOk result ((n : List ℕ) →
+            is_among self.new.requested n
+            ≡ (asked_in object.now dropped.now n || is_among self.old.requested n)) }
+        ensures defined { OnOk result ((n : List ℕ) →
+            has_definition N.names self.new n
+            ≡ (defined_in object.now dropped.now n || has_definition N.names self.old n)) }
         ensures grows { OnOk result (Begins self.old.requested self.new.requested) }
         ensures added { OnOk result (Begins (N.names self.old.numbers) (N.names self.new.numbers)) }
-        ensures numbers { IfOk result (λ v. AreFirstNumbers (length (symbols object.now)) (N.names self.new.numbers) object.now v.items) }
+        ensures numbers { IfOk result (λ v.
+            AreFirstNumbers (length (symbols object.now))
+            (N.names self.new.numbers) object.now v.items) }
     {
         let symbols = object.symbols();
         let mut numbers = Vec::with_capacity(alloc, symbols.len())?;
@@ -288,7 +315,8 @@ impl<'p, 'a, N: NameNumbers<'a>> Loader<'p, 'a, N> {
     ) -> Result<(), SearchFault>
         requires { Knows N.names self.old }
         ensures plan { OnOk result (self.new.plan.now ≡ self.old.plan.now) }
-        ensures loaded { OnOk result (loaded self.new ≡ with_object (loaded self.old) (item_view item.now) offset bytes.now) }
+        ensures loaded { OnOk result (loaded self.new
+            ≡ with_object (loaded self.old) (item_view item.now) offset bytes.now) }
         ensures known { OnOk result (Knows N.names self.new) }
         ensures grows { OnOk result (Begins self.old.names.requested self.new.names.requested) }
         ensures fault { IfErr result (FailsAt bytes.now) }
@@ -316,7 +344,8 @@ impl<'p, 'a, N: NameNumbers<'a>> Loader<'p, 'a, N> {
     /// Whether a member of an item is next where its name is that of an entry of the index.
     pub fn is_next(&self, item: u64, name: &'a [u8], offset: u64) -> bool
         requires { Knows N.names self.now }
-        ensures { result ≡ (needed self.now.plan.now (loaded self.now) name.now && not (is_taken (loaded self.now) item offset)) }
+        ensures { result ≡ (needed self.now.plan.now (loaded self.now) name.now
+            && not (is_taken (loaded self.now) item offset)) }
     {
         self.names.is_missing(name) && !self.taken.has_member(item, offset)
     }

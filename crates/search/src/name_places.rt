@@ -19,7 +19,10 @@ fn add_place<'a>(
     name: &'a [u8],
     place: (usize, usize),
 ) -> Result<(), AllocError>
-    ensures { OnOk result ((n : List ℕ) → places_in names.new.entries n ≡ cond (bytes_eq name.now n) (places_in names.old.entries n ++ place ∷ []) (places_in names.old.entries n)) }
+    ensures { OnOk result ((n : List ℕ) →
+        places_in names.new.entries n
+        ≡ cond (bytes_eq name.now n) (places_in names.old.entries n ++ place ∷ [])
+        (places_in names.old.entries n)) }
 {
     let places = names.entry(Name(name))?.or_insert(Vec::new(alloc));
     places.push(place)?;
@@ -33,8 +36,10 @@ fn add_entries<'a>(
     archive: usize,
     entries: &[IndexEntry<'a>],
 ) -> Result<(), AllocError>
-    ensures placed { OnOk result ((q : ℕ) (e : archive_file.IndexEntry) → slice_get entries.now q ≡ Some e → has_place names.new.entries e.name archive q ≡ true) }
-    ensures stays { OnOk result ((n : List ℕ) (k q : ℕ) → has_place names.old.entries n k q ≡ true → has_place names.new.entries n k q ≡ true) }
+    ensures placed { OnOk result ((q : ℕ) (e : archive_file.IndexEntry) →
+        slice_get entries.now q ≡ Some e → has_place names.new.entries e.name archive q ≡ true) }
+    ensures stays { OnOk result ((n : List ℕ) (k q : ℕ) →
+        has_place names.old.entries n k q ≡ true → has_place names.new.entries n k q ≡ true) }
 {
     for (i, entry) in entries.iter().enumerate() {
         add_place(alloc, names, entry.name(), (archive, i))?;
@@ -51,7 +56,8 @@ fn add_archive<'a>(
 ) -> Result<(), AllocError>
     requires { input.now.archive ≡ true }
     ensures placed { OnOk result (IsPlaced names.new.entries archive input.now) }
-    ensures stays { OnOk result ((n : List ℕ) (k q : ℕ) → has_place names.old.entries n k q ≡ true → has_place names.new.entries n k q ≡ true) }
+    ensures stays { OnOk result ((n : List ℕ) (k q : ℕ) →
+        has_place names.old.entries n k q ≡ true → has_place names.new.entries n k q ≡ true) }
 {
     if input.item().whole {
         return Ok(());
@@ -83,7 +89,10 @@ pub fn wake<'a>(
     waiting: &mut WaitingPlaces,
     name: &'a [u8],
 ) -> Result<(), AllocError>
-    ensures { OnOk result ((k q : ℕ) → is_waiting waiting.new k q ≡ (list_any (is_place k q) (places_in names.now.entries name.now) || is_waiting waiting.old k q)) }
+    ensures { OnOk result ((k q : ℕ) →
+        is_waiting waiting.new k q
+        ≡ (list_any (is_place k q) (places_in names.now.entries name.now)
+        || is_waiting waiting.old k q)) }
 {
     let Some(places) = names.get(&Name(name)) else {
         return Ok(());

@@ -26,8 +26,10 @@ pub fn run_round<'a, N: NameNumbers<'a>>(
     ensures later { OnOk result (IsLater loader.old loader.new) }
     ensures known { OnOk result (Knows N.names loader.new) }
     ensures covers { OnOk result (Covers loader.new inputs.now waits.new) }
-    ensures loaded { OnOk result (loaded loader.new ≡ round loader.old.plan.now inputs.now (loaded loader.old)) }
-    ensures fault { IfErr result (FailsOn (round loader.old.plan.now inputs.now (loaded loader.old))) }
+    ensures loaded { OnOk result (loaded loader.new
+        ≡ round loader.old.plan.now inputs.now (loaded loader.old)) }
+    ensures fault { IfErr result (FailsOn
+        (round loader.old.plan.now inputs.now (loaded loader.old))) }
 {
     let mut from = 0;
     while let Some(i) = waits.next_archive(loader, inputs, from)? {
@@ -47,8 +49,10 @@ pub fn run_rounds<'a, N: NameNumbers<'a>>(
     requires archives { All (λ i. i.archive ≡ true) inputs.now }
     ensures later { OnOk result (IsLater loader.old loader.new) }
     ensures known { OnOk result (Knows N.names loader.new) }
-    ensures loaded { OnOk result (loaded loader.new ≡ rounds loader.old.plan.now inputs.now (loaded loader.old)) }
-    ensures fault { IfErr result (FailsOn (rounds loader.old.plan.now inputs.now (loaded loader.old))) }
+    ensures loaded { OnOk result (loaded loader.new
+        ≡ rounds loader.old.plan.now inputs.now (loaded loader.old)) }
+    ensures fault { IfErr result (FailsOn
+        (rounds loader.old.plan.now inputs.now (loaded loader.old))) }
 {
     let mut waits = Waits::new(alloc, loader, inputs)?;
     loop {

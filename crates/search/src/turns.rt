@@ -30,8 +30,10 @@ fn take_members<'a, N: NameNumbers<'a>>(
     ensures later { OnOk result (IsLater loader.old loader.new) }
     ensures known { OnOk result (Knows N.names loader.new) }
     ensures covers { OnOk result (Covers loader.new inputs.now waits.new) }
-    ensures loaded { OnOk result (loaded loader.new ≡ turn loader.old.plan.now input.now (loaded loader.old)) }
-    ensures fault { IfErr result (FailsOn (turn loader.old.plan.now input.now (loaded loader.old))) }
+    ensures loaded { OnOk result (loaded loader.new
+        ≡ turn loader.old.plan.now input.now (loaded loader.old)) }
+    ensures fault { IfErr result (FailsOn
+        (turn loader.old.plan.now input.now (loaded loader.old))) }
 {
     let item = input.item();
     while let Some(offset) = waits.next(loader, inputs, archive, input)? {
@@ -50,8 +52,10 @@ fn take_all<'a, N: NameNumbers<'a>>(
     requires archive { input.now.archive ≡ true }
     ensures later { OnOk result (IsLater loader.old loader.new) }
     ensures known { OnOk result (Knows N.names loader.new) }
-    ensures loaded { OnOk result (loaded loader.new ≡ with_members (loaded loader.old) input.now (archive_members input.now.bytes)) }
-    ensures fault { IfErr result (FailsOn (with_members (loaded loader.old) input.now (archive_members input.now.bytes))) }
+    ensures loaded { OnOk result (loaded loader.new
+        ≡ with_members (loaded loader.old) input.now (archive_members input.now.bytes)) }
+    ensures fault { IfErr result (FailsOn
+        (with_members (loaded loader.old) input.now (archive_members input.now.bytes))) }
 {
     let item = input.item();
     for member in input.members() {
@@ -96,8 +100,10 @@ pub fn turn<'a, N: NameNumbers<'a>>(
     ensures later { OnOk result (IsLater loader.old loader.new) }
     ensures known { OnOk result (Knows N.names loader.new) }
     ensures covers { OnOk result (Covers loader.new inputs.now waits.new) }
-    ensures loaded { OnOk result (loaded loader.new ≡ turn loader.old.plan.now input.now (loaded loader.old)) }
-    ensures fault { IfErr result (FailsOn (turn loader.old.plan.now input.now (loaded loader.old))) }
+    ensures loaded { OnOk result (loaded loader.new
+        ≡ turn loader.old.plan.now input.now (loaded loader.old)) }
+    ensures fault { IfErr result (FailsOn
+        (turn loader.old.plan.now input.now (loaded loader.old))) }
 {
     if !input.item().whole {
         return take_members(alloc, loader, waits, inputs, archive, input);

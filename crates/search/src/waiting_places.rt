@@ -25,7 +25,8 @@ impl WaitingPlaces {
 
     /// Lets a place wait.
     pub fn add(&mut self, place: (usize, usize)) -> Result<(), AllocError>
-        ensures { OnOk result ((k q : ℕ) → is_waiting self.new k q ≡ (is_place k q place || is_waiting self.old k q)) }
+        ensures { OnOk result ((k q : ℕ) →
+            is_waiting self.new k q ≡ (is_place k q place || is_waiting self.old k q)) }
     {
         self.places.insert(place)?;
         Ok(())
@@ -33,7 +34,9 @@ impl WaitingPlaces {
 
     /// Lets places wait.
     pub fn add_all(&mut self, places: &[(usize, usize)]) -> Result<(), AllocError>
-        ensures { OnOk result ((k q : ℕ) → is_waiting self.new k q ≡ (list_any (is_place k q) places.now || is_waiting self.old k q)) }
+        ensures { OnOk result ((k q : ℕ) →
+            is_waiting self.new k q
+            ≡ (list_any (is_place k q) places.now || is_waiting self.old k q)) }
     {
         for place in places {
             self.add(*place)?;
@@ -43,8 +46,10 @@ impl WaitingPlaces {
 
     /// Lets a place wait no longer.
     pub fn remove(&mut self, place: (usize, usize))
-        ensures rest { (k q : ℕ) → is_waiting self.new k q ≡ (not (is_place k q place) && is_waiting self.old k q) }
-        ensures fewer { is_waiting self.old place.0 place.1 ≡ true → waiting_count self.new < waiting_count self.old }
+        ensures rest { (k q : ℕ) → is_waiting self.new k q
+            ≡ (not (is_place k q place) && is_waiting self.old k q) }
+        ensures fewer { is_waiting self.old place.0 place.1 ≡ true
+            → waiting_count self.new < waiting_count self.old }
     {
         self.places.remove(&place);
     }
@@ -52,7 +57,8 @@ impl WaitingPlaces {
     /// The first archive, of those with at least this number, that has a place that waits.
     pub fn first_archive(&self, from: usize) -> Option<usize>
         ensures behind { IfSome result (λ k. from ≤ k) }
-        ensures least { IfSome result (λ k. (j q : ℕ) → from ≤ j → j < k → is_waiting self.now j q ≡ false) }
+        ensures least { IfSome result (λ k. (j q : ℕ) →
+            from ≤ j → j < k → is_waiting self.now j q ≡ false) }
         ensures none { IfNone result ((j q : ℕ) → from ≤ j → is_waiting self.now j q ≡ false) }
     {
         let place = self.places.range((from, 0)..).next()?;
@@ -62,7 +68,8 @@ impl WaitingPlaces {
     /// The first entry of an archive whose place waits.
     pub fn first_entry(&self, archive: usize) -> Option<usize>
         ensures there { IfSome result (λ q. is_waiting self.now archive q ≡ true) }
-        ensures least { IfSome result (λ q. (r : ℕ) → is_waiting self.now archive r ≡ true → q ≤ r) }
+        ensures least { IfSome result (λ q. (r : ℕ) →
+            is_waiting self.now archive r ≡ true → q ≤ r) }
         ensures none { IfNone result ((r : ℕ) → is_waiting self.now archive r ≡ false) }
     {
         let place = self.places.range((archive, 0)..).next()?;

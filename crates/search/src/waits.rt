@@ -40,7 +40,8 @@ fn add_next<'a, N: NameNumbers<'a>>(
 ) -> Result<(), AllocError>
     requires { Knows N.names loader.now }
     ensures wait { OnOk result (NextWait loader.now item entries.now archive waiting.new) }
-    ensures stays { OnOk result ((k q : ℕ) → is_waiting waiting.old k q ≡ true → is_waiting waiting.new k q ≡ true) }
+    ensures stays { OnOk result ((k q : ℕ) →
+        is_waiting waiting.old k q ≡ true → is_waiting waiting.new k q ≡ true) }
 {
     for (i, entry) in entries.iter().enumerate() {
         if loader.is_next(item, entry.name(), entry.offset()) {
@@ -60,7 +61,8 @@ fn add_waiting<'a, N: NameNumbers<'a>>(
     requires known { Knows N.names loader.now }
     requires archive { input.now.archive ≡ true }
     ensures awaited { OnOk result (Awaits loader.now [] archive input.now waiting.new) }
-    ensures stays { OnOk result ((k q : ℕ) → is_waiting waiting.old k q ≡ true → is_waiting waiting.new k q ≡ true) }
+    ensures stays { OnOk result ((k q : ℕ) →
+        is_waiting waiting.old k q ≡ true → is_waiting waiting.new k q ≡ true) }
 {
     let item = input.item();
     if item.whole {
@@ -97,8 +99,13 @@ fn next_at<'a, N: NameNumbers<'a>>(
     i: usize,
 ) -> Option<u64>
     requires { Knows N.names loader.now }
-    ensures found { IfSome result (λ k. IsSomeAnd (slice_get entries.now i) (λ e. (is_next_of loader.now.plan.now (loaded loader.now) item e ≡ true) × (k ≡ e.offset))) }
-    ensures none { IfNone result ((e : archive_file.IndexEntry) → slice_get entries.now i ≡ Some e → is_next_of loader.now.plan.now (loaded loader.now) item e ≡ false) }
+    ensures found { IfSome result (λ k.
+        IsSomeAnd (slice_get entries.now i)
+        (λ e. (is_next_of loader.now.plan.now (loaded loader.now) item e ≡ true)
+        × (k ≡ e.offset))) }
+    ensures none { IfNone result ((e : archive_file.IndexEntry) →
+        slice_get entries.now i ≡ Some e
+        → is_next_of loader.now.plan.now (loaded loader.now) item e ≡ false) }
 {
     let Some(entry) = entries.get(i) else {
         return None;
@@ -120,9 +127,11 @@ fn first_next<'a, N: NameNumbers<'a>>(
 ) -> Option<u64>
     requires known { Knows N.names loader.now }
     requires wait { NextWait loader.now item entries.now archive waiting.old }
-    ensures exact { result ≡ option_map (λ e. e.offset) (find (is_next_of loader.now.plan.now (loaded loader.now) item) entries.now) }
+    ensures exact { result ≡ option_map (λ e. e.offset)
+        (find (is_next_of loader.now.plan.now (loaded loader.now) item) entries.now) }
     ensures wait { NextWait loader.now item entries.now archive waiting.new }
-    ensures others { (k q : ℕ) → (k ≡ archive → ⊥) → is_waiting waiting.old k q ≡ true → is_waiting waiting.new k q ≡ true }
+    ensures others { (k q : ℕ) → (k ≡ archive → ⊥) →
+        is_waiting waiting.old k q ≡ true → is_waiting waiting.new k q ≡ true }
 {
     while let Some(i) = waiting.first_entry(archive) {
         if let Some(offset) = next_at(loader, item, entries, i) {
@@ -153,7 +162,8 @@ impl<'a> Waits<'a> {
 
     /// Lets the places wait whose names were asked for meanwhile.
     fn catch_up<N: NameNumbers<'a>>(&mut self, loader: &Loader<'_, 'a, N>) -> Result<(), AllocError>
-        ensures covers { OnOk result ((os : List Opened) → Covers loader.now os self.old → Covers loader.now os self.new) }
+        ensures covers { OnOk result ((os : List Opened) →
+            Covers loader.now os self.old → Covers loader.now os self.new) }
         ensures seen { OnOk result (length loader.now.names.requested ≤ self.new.seen) }
     {
         let count = loader.request_count();
@@ -180,7 +190,8 @@ impl<'a> Waits<'a> {
         requires searched { input.now.whole ≡ false }
         requires at { slice_get inputs.now archive ≡ Some input.now }
         requires covers { Covers loader.now inputs.now self.old }
-        ensures exact { IfOk result (λ r. r ≡ option_map (λ e. e.offset) (next loader.now.plan.now (loaded loader.now) input.now)) }
+        ensures exact { IfOk result (λ r. r
+            ≡ option_map (λ e. e.offset) (next loader.now.plan.now (loaded loader.now) input.now)) }
         ensures covers { OnOk result (Covers loader.now inputs.now self.new) }
     {
         self.catch_up(loader)?;
@@ -201,7 +212,8 @@ impl<'a> Waits<'a> {
     ) -> Result<Option<usize>, AllocError>
         requires { Covers loader.now inputs.now self.old }
         ensures within { IfOk result (λ r. IfSome r (λ k. (from ≤ k) × (k < length inputs.now))) }
-        ensures idle { IfOk result (λ r. AreIdle loader.now inputs.now from (unwrap_or r (length inputs.now))) }
+        ensures idle { IfOk result (λ r.
+            AreIdle loader.now inputs.now from (unwrap_or r (length inputs.now))) }
         ensures covers { OnOk result (Covers loader.now inputs.now self.new) }
     {
         self.catch_up(loader)?;
@@ -218,7 +230,8 @@ impl<'a> Waits<'a> {
     pub fn settle(&mut self, archive: usize)
         ensures places { self.new.places ≡ self.old.places }
         ensures seen { self.new.seen ≡ self.old.seen }
-        ensures waiting { (k q : ℕ) → is_waiting self.new.waiting k q ≡ (not (is_place k q (archive, 0)) && is_waiting self.old.waiting k q) }
+        ensures waiting { (k q : ℕ) → is_waiting self.new.waiting k q
+            ≡ (not (is_place k q (archive, 0)) && is_waiting self.old.waiting k q) }
     {
         self.waiting.remove((archive, 0));
     }
