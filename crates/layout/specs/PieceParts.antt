@@ -15,20 +15,20 @@ use Rattle.elf_model.specs.declared.records.SectionHeader.{SectionHeader}
 use Rattle.elf_model.specs.declared.bound.Bound.TheVariants.{CodeEnd, DataEnd, GotStart, ImageEnd, ImageStart, OutputEnd, OutputStart, ZeroStart}
 use Rattle.layout.specs.declared.bounds.Bounds.{Bounds}
 use Rattle.layout.specs.declared.bounds.Extent.{Extent}
-use Rattle.layout.specs.declared.bounds.Part.{Part}
-use Rattle.layout.specs.declared.bounds.Part.TheVariants as part
+use Rattle.layout.specs.declared.bounds.Bounded.{Bounded}
+use Rattle.layout.specs.declared.bounds.Bounded.TheVariants as bounded
 
 -- a section is thread-local, and has some bytes in the file
 abbrev pub is_nonempty_thread_data : SectionHeader → Bool
 is_nonempty_thread_data h = (is_thread_local h && not (is_nobits h)) && nat_lt 0 h.sh_size
 
-abbrev pub part_test : Part → Piece → Bool
-part_test part.Loaded = is_loaded_piece
-part_test part.Code = is_code_piece
-part_test part.FileData = is_file_data
-part_test part.Zeros = is_zero_data
-part_test part.Threads = is_thread_piece
-part_test part.ThreadData = is_some_thread_data
+abbrev pub part_test : Bounded → Piece → Bool
+part_test bounded.Loaded = is_loaded_piece
+part_test bounded.Code = is_code_piece
+part_test bounded.FileData = is_file_data
+part_test bounded.Zeros = is_zero_data
+part_test bounded.Threads = is_thread_piece
+part_test bounded.ThreadData = is_some_thread_data
 
 -- where the pieces of an output name begin and end by a table
 abbrev pub extent_in : BTreeMap (Bor (List ℕ)) Extent → List ℕ → Option Extent

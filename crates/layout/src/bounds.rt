@@ -20,7 +20,7 @@ use std::collections::BTreeMap;
 /// The pieces that a bound is of: all but thread-local ones without bytes, those of code, those of data in the file, those
 /// without bytes in it that aren't thread-local, thread-local ones, and the nonempty ones of these with bytes.
 #[derive(Clone, Copy, Debug)]
-pub enum Part {
+pub enum Bounded {
     Loaded,
     Code,
     FileData,
@@ -54,22 +54,22 @@ fn is_thread_data(header: &SectionHeader) -> bool
     header.is_thread_local() && !header.is_nobits() && header.sh_size > 0
 }
 
-fn is_of(part: Part, piece: &Piece<'_>) -> bool
+fn is_of(part: Bounded, piece: &Piece<'_>) -> bool
     ensures { result ≡ part_test part (piece_view piece.now) }
 {
     let header = &piece.header;
     match part {
-        Part::Loaded => !(header.is_thread_local() && header.is_nobits()),
-        Part::Code => header.is_executable(),
-        Part::FileData => header.is_writable() && !header.is_nobits(),
-        Part::Zeros => header.is_nobits() && !header.is_thread_local(),
-        Part::Threads => header.is_thread_local(),
-        Part::ThreadData => is_thread_data(header),
+        Bounded::Loaded => !(header.is_thread_local() && header.is_nobits()),
+        Bounded::Code => header.is_executable(),
+        Bounded::FileData => header.is_writable() && !header.is_nobits(),
+        Bounded::Zeros => header.is_nobits() && !header.is_thread_local(),
+        Bounded::Threads => header.is_thread_local(),
+        Bounded::ThreadData => is_thread_data(header),
     }
 }
 
 /// The end of a piece of the part, where it is above another end.
-fn further(part: Part, end: u64, place: &Place<'_>) -> u64
+fn further(part: Bounded, end: u64, place: &Place<'_>) -> u64
     requires { IsInLimit (place_view place.now) }
     ensures { result ≡ further (part_test part) end (place_view place.now) }
 {
@@ -80,7 +80,7 @@ fn further(part: Part, end: u64, place: &Place<'_>) -> u64
 }
 
 /// The greatest end of the pieces of a part; 0 without any.
-pub fn end_of(part: Part, places: &[Place<'_>]) -> u64
+pub fn end_of(part: Bounded, places: &[Place<'_>]) -> u64
     requires { AreInLimit (place_views places.now) }
     ensures { result ≡ end_of_pieces (part_test part) (place_views places.now) }
 {
@@ -92,7 +92,7 @@ pub fn end_of(part: Part, places: &[Place<'_>]) -> u64
 }
 
 /// The address of a piece of the part, where it is below another one.
-fn earlier(part: Part, start: Option<u64>, place: &Place<'_>) -> Option<u64>
+fn earlier(part: Bounded, start: Option<u64>, place: &Place<'_>) -> Option<u64>
     ensures { result ≡ earlier (part_test part) start (place_view place.now) }
 {
     if !is_of(part, &place.piece) {
@@ -105,7 +105,7 @@ fn earlier(part: Part, start: Option<u64>, place: &Place<'_>) -> Option<u64>
 }
 
 /// The least address of the pieces of a part; None without any.
-pub fn start_of(part: Part, places: &[Place<'_>]) -> Option<u64>
+pub fn start_of(part: Bounded, places: &[Place<'_>]) -> Option<u64>
     ensures { result ≡ start_of_pieces (part_test part) (place_views places.now) }
 {
     let mut start = None;
@@ -197,10 +197,10 @@ pub fn bounds_of<'a>(
     ensures { IfOk result (AreBounds got (place_views places.now)) }
 {
     Ok(Bounds {
-        code_end: end_of(Part::Code, places),
-        data_end: end_of(Part::FileData, places),
-        zero_start: start_of(Part::Zeros, places).unwrap_or(0),
-        image_end: end_of(Part::Loaded, places),
+        code_end: end_of(Bounded::Code, places),
+        data_end: end_of(Bounded::FileData, places),
+        zero_start: start_of(Bounded::Zeros, places).unwrap_or(0),
+        image_end: end_of(Bounded::Loaded, places),
         outputs: extents_of(alloc, got, places)?,
     })
 }

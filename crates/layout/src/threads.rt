@@ -8,7 +8,7 @@ ghost use Rattle.layout.specs.PlaceViews.{place_views};
 ghost use Rattle.layout.specs.Threads.{block_of, header_in, placed_alignment, wider};
 ghost use Rattle.layout.specs.Views.{piece_view, piece_views};
 
-use crate::bounds::{Part, end_of, start_of};
+use crate::bounds::{Bounded, end_of, start_of};
 use crate::pieces::Piece;
 use crate::runs::Place;
 use elf_model::{PF_R, PT_TLS, ProgramHeader, TlsBlock};
@@ -64,9 +64,9 @@ pub fn thread_header(base: u64, align: u64, places: &[Place<'_>]) -> Option<Prog
     requires align { align ≡ placed_alignment (place_views places.now) }
     ensures { result ≡ header_in base (place_views places.now) }
 {
-    let start = start_of(Part::Threads, places)?;
-    let end = end_of(Part::Threads, places);
-    let initial_end = end_of(Part::ThreadData, places);
+    let start = start_of(Bounded::Threads, places)?;
+    let end = end_of(Bounded::Threads, places);
+    let initial_end = end_of(Bounded::ThreadData, places);
     Some(ProgramHeader {
         p_type: PT_TLS,
         p_flags: PF_R,
