@@ -7,7 +7,7 @@ ghost use Rattle.bad_parts.specs.BadParts.{HasSymbolStrings, HasSymbols, IsBadOf
 use crate::part::BadPart;
 use crate::tables::Tables;
 use elf_model::{SHT_SYMTAB, SHT_SYMTAB_SHNDX, Symbol};
-use elf_read::{NULL_SYMBOL, is_good_symbol, is_symbol_table};
+use elf_read::{is_good_symbol, is_symbol_table};
 use std::alloc::{AllocError, Global};
 
 /// The symbol that has a number, where its name can't be read.
@@ -117,7 +117,7 @@ fn unlawful_symbol<'a>(
     ensures { IfSome result (IsBadOf tables.now fault.BadSymbolTable) }
 {
     let part = tables.symbol(symbols, number)?;
-    if part.number == 0 && part.entry != NULL_SYMBOL {
+    if part.number == 0 && part.entry != Symbol::NULL {
         return Some(BadPart::NullSymbol(part));
     }
     if is_good_symbol(&part.entry, tables.header().e_shnum) {

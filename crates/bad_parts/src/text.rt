@@ -58,7 +58,7 @@ fn write_table<W: Write>(out: &mut W, header: &SectionHeader, what: &str) -> io:
 
 /// Writes binding, type and section of a symbol that is unlawful by them.
 fn write_kind<W: Write>(out: &mut W, entry: &Symbol) -> io::Result<()> {
-    let (binding, kind) = (entry.st_info / 16, entry.st_info % 16);
+    let (binding, kind) = (entry.binding(), entry.symbol_type());
     write!(out, "binding {binding}")?;
     if binding == UNIQUE {
         out.write_all(b" (a unique symbol)")?;

@@ -20,4 +20,4 @@ pub use sections::{
     contents, has_good_symbol_table, is_placed, is_power_of_two, is_symbol_table, lies_inside,
     section, symbol_table,
 };
-pub use symbols::{NULL_SYMBOL, is_good_symbol, read_symbols};
+pub use symbols::{is_good_symbol, read_symbols};

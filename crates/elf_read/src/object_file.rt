@@ -10,7 +10,7 @@ use crate::relas::{RelaRun, have_good_entries};
 use crate::sections::{
     contents, has_no_bytes, judge_sections, section, section_strings, symbol_strings, symbol_table,
 };
-use crate::symbols::{NULL_SYMBOL, judge_symbols, read_symbols};
+use crate::symbols::{judge_symbols, read_symbols};
 use byteview::View;
 use elf_model::{FileHeader, ObjFault, SHT_RELA, SectionHeader, Symbol};
 use std::alloc::Global;
@@ -187,7 +187,7 @@ impl<'a> ObjectFile<'a> {
     pub fn symbol(&self, j: usize) -> Symbol
         ensures { result ≡ slice_index_or (symbols self.now) j null_symbol }
     {
-        self.symbols.get(j).copied().unwrap_or(NULL_SYMBOL)
+        self.symbols.get(j).copied().unwrap_or(Symbol::NULL)
     }
 
     /// The name of section `i`; None where there is no such section.

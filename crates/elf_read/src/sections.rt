@@ -17,20 +17,6 @@ use elf_model::{
 /// The greatest alignment of this profile.
 const ALIGN_LIMIT: u64 = 1 << 21;
 
-/// A section that is not there.
-pub const NULL_SECTION: SectionHeader = SectionHeader {
-    sh_name: 0,
-    sh_type: SHT_NULL,
-    sh_flags: 0,
-    sh_addr: 0,
-    sh_offset: 0,
-    sh_size: 0,
-    sh_link: 0,
-    sh_info: 0,
-    sh_addralign: 0,
-    sh_entsize: 0,
-};
-
 /// Judges all that section headers tell, but for names.
 pub fn judge_sections(
     file: &View<'_>,
@@ -74,7 +60,7 @@ pub fn judge_sections(
 pub fn section(sections: &[SectionHeader], number: usize) -> SectionHeader
     ensures { result ≡ section sections.now number }
 {
-    sections.get(number).copied().unwrap_or(NULL_SECTION)
+    sections.get(number).copied().unwrap_or(SectionHeader::NULL)
 }
 
 /// The symbol table; a null section where there is none.
@@ -83,7 +69,7 @@ pub fn symbol_table(sections: &[SectionHeader]) -> SectionHeader
 {
     first_symbol_table(sections)
         .copied()
-        .unwrap_or(NULL_SECTION)
+        .unwrap_or(SectionHeader::NULL)
 }
 
 fn first_symbol_table(sections: &[SectionHeader]) -> Option<&SectionHeader>

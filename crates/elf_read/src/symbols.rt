@@ -8,20 +8,9 @@ ghost use Rattle.elf_read.specs.Reading.{HasGoodSections};
 use crate::sections::{are_sections_named, section_strings, symbol_strings};
 use byteview::View;
 use elf_model::{
-    FileHeader, ObjFault, SHN_ABS, SHN_COMMON, SHN_UNDEF, STB_WEAK, STT_TLS, SYM_SIZE,
-    SectionHeader, Symbol,
+    FileHeader, ObjFault, SHN_ABS, SHN_COMMON, STB_WEAK, STT_TLS, SYM_SIZE, SectionHeader, Symbol,
 };
 use std::alloc::{AllocError, Global};
-
-/// The symbol number 0, and one that is not there.
-pub const NULL_SYMBOL: Symbol = Symbol {
-    st_name: 0,
-    st_info: 0,
-    st_other: 0,
-    st_shndx: SHN_UNDEF,
-    st_value: 0,
-    st_size: 0,
-};
 
 /// The symbols of a table that lies inside the file.
 #[tactic(auto, using(crate::proofs::Entries::entries_more))]
@@ -88,8 +77,8 @@ pub fn judge_symbols(
 fn are_good_symbols(symbols: &[Symbol], count: u16) -> bool
     ensures { IsTrue result ↔ AreGoodSymbols count symbols.now }
 {
-    let first = symbols.first().copied().unwrap_or(NULL_SYMBOL);
-    first == NULL_SYMBOL && symbols.iter().all(|symbol| is_good_symbol(symbol, count))
+    let first = symbols.first().copied().unwrap_or(Symbol::NULL);
+    first == Symbol::NULL && symbols.iter().all(|symbol| is_good_symbol(symbol, count))
 }
 
 /// Whether each symbol's name is a text of the string table.
@@ -106,7 +95,7 @@ fn are_symbols_named(strings: &View<'_>, symbols: &[Symbol]) -> bool
 pub fn is_good_symbol(symbol: &Symbol, count: u16) -> bool
     ensures { IsTrue result ↔ IsGoodSymbol count symbol.now }
 {
-    if symbol.st_info / 16 > STB_WEAK || symbol.st_info % 16 > STT_TLS {
+    if symbol.binding() > STB_WEAK || symbol.symbol_type() > STT_TLS {
         return false;
     }
     symbol.st_shndx < count || symbol.st_shndx == SHN_ABS || symbol.st_shndx == SHN_COMMON

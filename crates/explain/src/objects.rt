@@ -32,7 +32,7 @@ fn section_name<'a>(object: &ObjectFile<'a>, i: usize) -> &'a [u8]
     }
 }
 
-/// The place of section `i`, which has the header, of the object that has a number.
+/// The place of section `i`, which has the header, of object `number`.
 pub fn section_place<'a>(
     number: usize,
     loaded: &LoadedObject<'a>,
@@ -54,7 +54,7 @@ pub fn section_place<'a>(
     }
 }
 
-/// The place of symbol `j`, which has the entry, of the object that has a number.
+/// The place of symbol `j`, which has the entry, of object `number`.
 pub fn symbol_place<'a>(
     number: usize,
     loaded: &LoadedObject<'a>,
@@ -76,7 +76,7 @@ pub fn symbol_place<'a>(
     }
 }
 
-/// The place of entry `e` of RELA section `i`, which has the header, of the object that has a number.
+/// The place of entry `e` of RELA section `i`, which has the header, of object `number`.
 pub fn relocation_place<'a>(
     number: usize,
     loaded: &LoadedObject<'a>,

@@ -39,7 +39,7 @@ fn begins_in(first: &Field<'_>, second: &Field<'_>) -> bool
     second.width > 0 && from <= to && to - from < first.width
 }
 
-/// The field of entry `e` of section `i` of the object that has a number, where that is a kept relocation.
+/// The field of entry `e` of section `i` of object `number`, where that is a kept relocation.
 fn field_at<'a>(loaded: &Loaded<'a>, number: usize, i: usize, e: usize) -> Option<Field<'a>>
     ensures { IfSome result (IsField loaded.now.objects) }
 {
@@ -59,7 +59,7 @@ fn field_at<'a>(loaded: &Loaded<'a>, number: usize, i: usize, e: usize) -> Optio
     })
 }
 
-/// How many entries section `i` has of the object that has a number.
+/// How many entries section `i` has of object `number`.
 fn entry_count(loaded: &Loaded<'_>, number: usize, i: usize) -> usize {
     match loaded.objects().get(number) {
         Some(one) => one.object.entries(i).len(),
@@ -84,7 +84,7 @@ fn add_some<'a>(
     Ok(())
 }
 
-/// Adds the fields of the kept relocations in section `i` of the object that has a number.
+/// Adds the fields of the kept relocations in section `i` of object `number`.
 fn add_fields<'a>(
     fields: &mut Vec<Field<'a>>,
     loaded: &Loaded<'a>,
@@ -100,7 +100,7 @@ fn add_fields<'a>(
     Ok(())
 }
 
-/// The fields of the kept relocations of the object that has a number.
+/// The fields of the kept relocations of object `number`.
 fn fields_of<'a>(
     alloc: Global,
     loaded: &Loaded<'a>,

@@ -88,7 +88,7 @@ fn add_object<'a>(
     Ok(())
 }
 
-/// Adds the kept relocations of the object that has a number that aren't lawful.
+/// Adds the kept relocations of object `number` that aren't lawful.
 fn add_numbered<'a>(
     alloc: Global,
     found: &mut Found<'a>,

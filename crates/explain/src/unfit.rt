@@ -98,7 +98,7 @@ fn add_object<'a>(
     Ok(())
 }
 
-/// Adds the kept relocations of the object that has a number whose values don't fit.
+/// Adds the kept relocations of object `number` whose values don't fit.
 fn add_numbered<'a>(
     alloc: Global,
     found: &mut Found<'a>,

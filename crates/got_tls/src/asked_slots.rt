@@ -102,7 +102,7 @@ fn add_relocations<'a>(asked: &mut Asked<'a>, asker: &Asker<'_, 'a>) -> Result<(
     Ok(())
 }
 
-/// Takes in what the kept relocations of the object that has a number ask for.
+/// Takes in what the kept relocations of object `number` ask for.
 fn add_object<'a>(
     asked: &mut Asked<'a>,
     resolved: &Resolved<'a>,

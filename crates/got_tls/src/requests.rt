@@ -1,9 +1,7 @@
 //! What one relocation asks of the GOT.
-ghost use Rattle.std.specs.Prelude.{◌≡◌, ◌==◌, Some, option_map, slice_index_or};
+ghost use Rattle.std.specs.Prelude.{◌≡◌, Some, option_map};
 ghost use Rattle.std.specs.List.{slice_get};
-ghost use Rattle.elf_model.specs.ObjectFile.{null_symbol, symbols};
 ghost use Rattle.elf_model.specs.Relocation.{relocation_of, symbol_at};
-ghost use Rattle.elf_model.specs.Resolution.{binding};
 ghost use Rattle.elf_model.specs.Slots as wanted;
 ghost use Rattle.search.specs.Views.{loaded_view};
 ghost use Rattle.got_tls.specs.Asking.{TellsOfGot, request_at};
@@ -12,19 +10,11 @@ ghost use Rattle.got_tls.specs.Views.{slot_view};
 
 use crate::kinds::{asked_slot, asks_of_got};
 use crate::slot_table::Slot;
-use elf_model::{ObjectId, Rela, STB_LOCAL, SymbolRef};
-use elf_read::ObjectFile;
+use elf_model::{ObjectId, Rela, SymbolRef};
 use resolve::{Resolved, target_of};
 use search::LoadedObject;
 
-/// Whether symbol `j` is LOCAL, as one that there isn't is taken to be.
-fn is_local(object: &ObjectFile<'_>, j: usize) -> bool
-    ensures { result ≡ (binding (slice_index_or (symbols object.now) j null_symbol) == 0) }
-{
-    object.symbol(j).st_info / 16 == STB_LOCAL
-}
-
-/// The slot that an entry of the object that has a number asks for; None where it asks for none.
+/// The slot that an entry of object `number` asks for; None where it asks for none.
 pub fn slot_of<'a>(number: usize, loaded: &LoadedObject<'a>, entry: &Rela) -> Option<Slot<'a>>
     ensures { option_map slot_view result ≡ request_at number (loaded_view loaded.now) entry.now }
 {
@@ -49,13 +39,13 @@ pub struct Asker<'k, 'a> {
 /// The name of the GOT.
 const GOT_NAME: &[u8] = b"_GLOBAL_OFFSET_TABLE_";
 
-/// Whether symbol `j` of the object that has a number isn't LOCAL and has the GOT's name, and no object defines that. Reads
+/// Whether symbol `j` of object `number` isn't LOCAL and has the GOT's name, and no object defines that. Reads
 /// no name that an object defines.
 fn names_got(resolved: &Resolved<'_>, number: usize, loaded: &LoadedObject<'_>, j: usize) -> bool
     requires { slice_get resolved.now number ≡ Some (loaded_view loaded.now) }
     ensures { result ≡ wanted.names_got resolved.now (symbol_at number (loaded_view loaded.now) j) }
 {
-    if is_local(&loaded.object, j) {
+    if loaded.object.symbol(j).is_local() {
         return false;
     }
     let symbol = SymbolRef {
@@ -68,7 +58,7 @@ fn names_got(resolved: &Resolved<'_>, number: usize, loaded: &LoadedObject<'_>, 
     loaded.object.symbol_name(j) == GOT_NAME
 }
 
-/// Whether a symbol of the object that has a number names the GOT so. Where none does, none need be looked at for each
+/// Whether a symbol of object `number` names the GOT so. Where none does, none need be looked at for each
 /// relocation.
 fn tells_of_got(resolved: &Resolved<'_>, number: usize, loaded: &LoadedObject<'_>) -> bool
     requires { slice_get resolved.now number ≡ Some (loaded_view loaded.now) }
@@ -83,7 +73,7 @@ fn tells_of_got(resolved: &Resolved<'_>, number: usize, loaded: &LoadedObject<'_
 }
 
 impl<'k, 'a> Asker<'k, 'a> {
-    /// The object that has a number.
+    /// Object `number`.
     pub fn new(
         resolved: &'k Resolved<'a>,
         number: usize,

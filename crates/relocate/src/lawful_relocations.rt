@@ -58,7 +58,7 @@ fn judge_objects<'a>(
     Ok(())
 }
 
-/// Judges the relocations of the object that has a number. A field of it meets none of another object's. The room of `fields`
+/// Judges the relocations of object `number`. A field of it meets none of another object's. The room of `fields`
 /// is used for its fields.
 fn judge_object<'a>(
     alloc: Global,

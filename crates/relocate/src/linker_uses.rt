@@ -14,7 +14,7 @@ ghost use Rattle.resolve.specs.Views.{meaning_view};
 ghost use Rattle.relocate.specs.References.{IsObjectAt};
 ghost use Rattle.relocate.specs.Uses.{HasNoLinkerUse, IsUser, is_linkers, line_views, using};
 
-use crate::targets::{is_local, is_some_kind};
+use crate::targets::is_some_kind;
 use elf_model::{Bound, ObjectId, Rela, SectionHeader, SymbolRef};
 use elf_read::RelaRun;
 use resolve::{Definition, Resolved};
@@ -34,7 +34,7 @@ fn is_linkers(definition: &Option<Definition<'_>>) -> bool
     }
 }
 
-/// Whether symbol `j` of the object that has a number isn't LOCAL and has a name that the linker defines and no object
+/// Whether symbol `j` of object `number` isn't LOCAL and has a name that the linker defines and no object
 /// does.
 fn is_linker_use(
     resolved: &Resolved<'_>,
@@ -45,7 +45,7 @@ fn is_linker_use(
     requires { IsObjectAt resolved.now number (loaded_view loaded.now) }
     ensures { result ≡ is_linker_use resolved.now (symbol_at number (loaded_view loaded.now) j) }
 {
-    if is_local(&loaded.object.symbol(j)) {
+    if loaded.object.symbol(j).is_local() {
         return false;
     }
     let symbol = SymbolRef {
@@ -58,7 +58,7 @@ fn is_linker_use(
     is_linkers(&resolved.used(symbol))
 }
 
-/// Whether a symbol of the object that has a number is such a one. Where none is, no relocation of the object need be read.
+/// Whether a symbol of object `number` is such a one. Where none is, no relocation of the object need be read.
 fn has_linker_use(resolved: &Resolved<'_>, number: usize, loaded: &LoadedObject<'_>) -> bool
     requires { IsObjectAt resolved.now number (loaded_view loaded.now) }
     ensures { result ≡ false → HasNoLinkerUse resolved.now number (loaded_view loaded.now) }
@@ -165,7 +165,7 @@ fn add_relocations<'a>(
     Ok(())
 }
 
-/// Adds those that the kept relocations of the object that has a number use.
+/// Adds those that the kept relocations of object `number` use.
 fn add_object<'a>(
     names: &mut BTreeSet<&'a [u8]>,
     resolved: &Resolved<'a>,

@@ -21,7 +21,7 @@ use resolve::Resolved;
 use search::{Loaded, LoadedObject};
 use std::alloc::Global;
 
-/// The rows of patches of the object that has a number.
+/// The rows of patches of object `number`.
 fn row_of<'a>(
     alloc: Global,
     resolved: &Resolved<'a>,

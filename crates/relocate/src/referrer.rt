@@ -12,8 +12,7 @@ ghost use Rattle.relocate.specs.References.{IsObjectAt};
 ghost use Rattle.relocate.specs.SymbolTables.{AreReferences, IsReference, IsReferrer, IsRelocated, all_of, referring};
 
 use crate::targets::{
-    holds_frames, is_dropped, is_local, is_mixed, is_thread_local, is_undefined, stands_in_unkept,
-    use_of,
+    holds_frames, is_dropped, is_mixed, is_thread_local, is_undefined, stands_in_unkept, use_of,
 };
 use elf_model::{ObjectId, RELA_SIZE, SHT_RELA, SymbolRef};
 use resolve::{Definition, Resolved};
@@ -72,7 +71,7 @@ fn reference_by<'a>(
     let entry = loaded.object.symbol(j);
     Reference {
         undefined: is_undefined(j, &entry, definition),
-        unkept: is_local(&entry) && stands_in_unkept(loaded, &entry),
+        unkept: entry.is_local() && stands_in_unkept(loaded, &entry),
         dropped: is_dropped(loaded, &entry),
         thread_local: is_thread_local(resolved, definition),
         mixed: is_mixed(mixed, definition),
@@ -103,7 +102,7 @@ fn reference_chosen(
     }
 }
 
-/// What a reference to symbol `j` of the object that has a number is.
+/// What a reference to symbol `j` of object `number` is.
 fn reference_to<'a>(
     resolved: &Resolved<'a>,
     mixed: &BTreeSet<&[u8]>,
@@ -163,7 +162,7 @@ fn table_of<'a>(
 }
 
 impl<'r, 'm, 'a> Referrer<'r, 'm, 'a> {
-    /// The object that has a number.
+    /// Object `number`.
     pub fn new(
         alloc: Global,
         resolved: &'r Resolved<'a>,

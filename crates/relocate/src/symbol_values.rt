@@ -41,7 +41,7 @@ pub struct Valued<'v, 'a> {
     pub table: Vec<SymbolValue>,
 }
 
-/// What symbol `j` of the object that has a number is worth.
+/// What symbol `j` of object `number` is worth.
 fn value_of_symbol<'a>(
     resolved: &Resolved<'a>,
     placement: &Placement<'a>,
@@ -87,7 +87,7 @@ fn table_of<'a>(
 }
 
 impl<'v, 'a> Valued<'v, 'a> {
-    /// The object that has a number, where the GOT has these slots and the thread pointer is known.
+    /// Object `number`, where the GOT has these slots and the thread pointer is known.
     pub fn new(
         alloc: Global,
         resolved: &'v Resolved<'a>,

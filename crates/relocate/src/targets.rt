@@ -7,7 +7,6 @@ ghost use Rattle.elf_model.specs.Pieces.{is_kept};
 ghost use Rattle.elf_model.specs.Loading as loading;
 ghost use Rattle.elf_model.specs.Loading.{is_dropped};
 ghost use Rattle.elf_model.specs.Relocation.{IsMixed, IsMixedBound, definition_of, is_some_kind, symbol_at};
-ghost use Rattle.elf_model.specs.Resolution.{binding};
 ghost use Rattle.std.specs.Prelude.{Some};
 ghost use Rattle.std.specs.Option.{option_map_or};
 ghost use Rattle.search.specs.Views.{loaded_view};
@@ -18,9 +17,7 @@ ghost use Rattle.relocate.specs.References.{IsNamedUndefined, IsObjectAt, LacksD
 ghost use Rattle.resolve.specs.Views.{symbol_view};
 
 use crate::faults::RelocFault;
-use elf_model::{
-    Bound, ObjectId, Rela, SHN_UNDEF, STB_LOCAL, STB_WEAK, SectionHeader, Symbol, SymbolRef,
-};
+use elf_model::{Bound, ObjectId, Rela, SectionHeader, Symbol, SymbolRef};
 use elf_read::ObjectFile;
 use resolve::{Definition, Resolved, SymbolOf, named_output};
 use search::LoadedObject;
@@ -31,24 +28,10 @@ use std::collections::BTreeSet;
 fn section_of(object: &ObjectFile<'_>, entry: &Symbol) -> Option<SectionHeader>
     ensures { result ≡ section_in object.now entry.now }
 {
-    if entry.st_shndx == SHN_UNDEF {
+    if entry.is_undefined() {
         return None;
     }
     object.sections().get(entry.st_shndx as usize).copied()
-}
-
-/// Whether a symbol is LOCAL.
-pub fn is_local(entry: &Symbol) -> bool
-    ensures { result ≡ (binding entry.now == 0) }
-{
-    entry.st_info / 16 == STB_LOCAL
-}
-
-/// Whether a symbol is WEAK.
-fn is_weak(entry: &Symbol) -> bool
-    ensures { result ≡ (binding entry.now == 2) }
-{
-    entry.st_info / 16 == STB_WEAK
 }
 
 /// Whether a symbol of an object stands in a section that isn't kept.
@@ -90,7 +73,7 @@ pub fn holds_frames(object: &ObjectFile<'_>, number: usize) -> bool
     section_name_at(object, number) == FRAME_SECTION
 }
 
-/// Symbol `j` of the object that has a number, without its name.
+/// Symbol `j` of object `number`, without its name.
 fn unnamed_at<'a>(number: usize, loaded: &LoadedObject<'_>, j: usize) -> SymbolOf<'a>
     ensures { symbol_view result ≡ unnamed (symbol_at number (loaded_view loaded.now) j) }
 {
@@ -104,19 +87,19 @@ fn unnamed_at<'a>(number: usize, loaded: &LoadedObject<'_>, j: usize) -> SymbolO
     }
 }
 
-/// What a reference to symbol `j`, which is LOCAL, of the object that has a number uses, without its name.
+/// What a reference to symbol `j`, which is LOCAL, of object `number` uses, without its name.
 fn local_use<'a>(number: usize, loaded: &LoadedObject<'_>, j: usize) -> Option<Definition<'a>>
     ensures { option_map meaning_view result
         ≡ local_use (symbol_at number (loaded_view loaded.now) j) }
 {
     let symbol = unnamed_at(number, loaded, j);
-    if symbol.entry.st_shndx == SHN_UNDEF {
+    if symbol.entry.is_undefined() {
         return None;
     }
     Some(Definition::Symbol(symbol))
 }
 
-/// What a reference to symbol `j` of the object that has a number uses, a LOCAL symbol without its name. That means
+/// What a reference to symbol `j` of object `number` uses, a LOCAL symbol without its name. That means
 /// nothing to relocations, and isn't read: names that share bytes can be longer by far than the file that holds them.
 pub fn use_of<'a>(
     resolved: &Resolved<'a>,
@@ -128,13 +111,13 @@ pub fn use_of<'a>(
     ensures { AreAlike resolved.now (option_map meaning_view result)
         (definition_of resolved.now (symbol_at number (loaded_view loaded.now) j)) }
 {
-    if is_local(&loaded.object.symbol(j)) {
+    if loaded.object.symbol(j).is_local() {
         return local_use(number, loaded, j);
     }
     definition_of(resolved, number, loaded, j)
 }
 
-/// What a reference to symbol `j` of the object that has a number uses.
+/// What a reference to symbol `j` of object `number` uses.
 fn definition_of<'a>(
     resolved: &Resolved<'a>,
     number: usize,
@@ -156,7 +139,7 @@ fn definition_of<'a>(
 pub fn is_undefined(j: usize, entry: &Symbol, definition: &Option<Definition<'_>>) -> bool
     ensures { IsTrue result ↔ LacksDefinition j entry.now (option_map meaning_view definition.now) }
 {
-    if j == 0 || is_weak(entry) {
+    if j == 0 || entry.is_weak() {
         return false;
     }
     definition.is_none()

@@ -7,7 +7,7 @@ ghost use Rattle.elf_model.specs.Commons.{Block as BlockOf, is_common_symbol};
 ghost use Rattle.resolve.specs.Blocks.{block_by, block_in, block_view, block_views, blocks_by, extent_in, first_block};
 ghost use Rattle.resolve.specs.Views.{symbol_view, symbol_views};
 
-use crate::entries::{SymbolOf, is_common};
+use crate::entries::SymbolOf;
 use elf_model::{ObjectId, SectionRef};
 use std::alloc::{AllocError, Global};
 use std::collections::BTreeMap;
@@ -80,7 +80,7 @@ pub fn blocks_of<'a, T: NameTable<'a>>(
 {
     let mut blocks = Vec::new(alloc);
     for symbol in chosen {
-        if is_common(&symbol.entry) {
+        if symbol.entry.is_common() {
             blocks.push(block_of(table, object, blocks.len() as u64, symbol))?;
         }
     }

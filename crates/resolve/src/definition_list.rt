@@ -21,7 +21,7 @@ use search::{Loaded, LoadedObject};
 use std::alloc::{AllocError, Global};
 use symbols::NameTable;
 
-/// Adds the definitions of the object that has a number.
+/// Adds the definitions of object `number`.
 fn add_definitions<'a>(
     found: &mut Vec<SymbolOf<'a>>,
     number: u64,

@@ -2,12 +2,12 @@
 ghost use Rattle.std.specs.Prelude.{◌≡◌, ◌/◌, ◌==◌, ◌&&◌, ◌||◌, not};
 ghost use Rattle.elf_model.specs.Loading.{is_dropped};
 ghost use Rattle.elf_model.specs.ObjectFile.{symbol_name};
-ghost use Rattle.elf_model.specs.Resolution.{binding, is_common, is_global, is_placed_symbol, is_undefined, is_weak, symbol_of};
+ghost use Rattle.elf_model.specs.Resolution.{is_common, is_global, is_placed_symbol, is_weak, symbol_of};
 ghost use Rattle.search.specs.Views.{loaded_view};
 ghost use Rattle.resolve.specs.Offered.{is_defining};
 ghost use Rattle.resolve.specs.Views.{symbol_view};
 
-use elf_model::{SHN_COMMON, SHN_UNDEF, STB_GLOBAL, STB_LOCAL, STB_WEAK, Symbol};
+use elf_model::Symbol;
 use search::LoadedObject;
 
 /// A symbol of a loaded object: its object's and its own number, its name, its entry, and whether it stands in a
@@ -21,7 +21,7 @@ pub struct SymbolOf<'a> {
     pub dropped: bool,
 }
 
-/// Symbol `j` of the object that has a number, with its entry.
+/// Symbol `j` of object `number`, with its entry.
 pub fn symbol_in<'a>(
     number: u64,
     loaded: &LoadedObject<'a>,
@@ -46,53 +46,32 @@ pub fn is_dropped(loaded: &LoadedObject<'_>, entry: &Symbol) -> bool
     loaded.is_dropped(entry.st_shndx as usize)
 }
 
-/// Whether a symbol is LOCAL.
-pub fn is_local(entry: &Symbol) -> bool
-    ensures { result ≡ (binding entry.now == 0) }
-{
-    entry.st_info / 16 == STB_LOCAL
-}
-
-/// Whether a symbol is undefined.
-pub fn is_undefined(entry: &Symbol) -> bool
-    ensures { result ≡ is_undefined entry.now }
-{
-    entry.st_shndx == SHN_UNDEF
-}
-
 /// Whether a symbol stands in a section or is absolute.
 fn is_placed(entry: &Symbol) -> bool
     ensures { result ≡ is_placed_symbol entry.now }
 {
-    entry.st_shndx != SHN_UNDEF && entry.st_shndx != SHN_COMMON
-}
-
-/// Whether a symbol is common: it asks for a block (System V gABI 4, "Symbol Table", SHN_COMMON).
-pub fn is_common(entry: &Symbol) -> bool
-    ensures { result ≡ is_common entry.now }
-{
-    entry.st_shndx == SHN_COMMON
+    !entry.is_undefined() && !entry.is_common()
 }
 
 /// Whether a symbol is a strong definition: GLOBAL, in a section that isn't dropped or absolute.
 pub fn is_strong(entry: &Symbol, dropped: bool) -> bool
     ensures { result ≡ (is_global entry.now && (is_placed_symbol entry.now && not dropped)) }
 {
-    entry.st_info / 16 == STB_GLOBAL && is_placed(entry) && !dropped
+    entry.is_global() && is_placed(entry) && !dropped
 }
 
 /// Whether a symbol is a weak definition: WEAK, in a section that isn't dropped or absolute.
 fn is_weak_definition(entry: &Symbol, dropped: bool) -> bool
     ensures { result ≡ (is_weak entry.now && (is_placed_symbol entry.now && not dropped)) }
 {
-    entry.st_info / 16 == STB_WEAK && is_placed(entry) && !dropped
+    entry.is_weak() && is_placed(entry) && !dropped
 }
 
 /// Whether a symbol is a definition that asks for a common block: GLOBAL and common.
 pub fn is_common_definition(entry: &Symbol, dropped: bool) -> bool
     ensures { result ≡ (is_global entry.now && (is_common entry.now && not dropped)) }
 {
-    entry.st_info / 16 == STB_GLOBAL && is_common(entry) && !dropped
+    entry.is_global() && entry.is_common() && !dropped
 }
 
 /// Whether a symbol is a definition: strong, common or weak.

@@ -55,7 +55,7 @@ fn add_section<'a>(
     add_name(names, output_name_at(&loaded.object, i))
 }
 
-/// Adds the output names of the kept sections of the object that has a number.
+/// Adds the output names of the kept sections of object `number`.
 fn add_object<'a>(
     names: &mut BTreeSet<&'a [u8]>,
     number: usize,

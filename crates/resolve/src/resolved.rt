@@ -21,7 +21,7 @@ use crate::blocks::{Block, index_of};
 use crate::bounds::bound_of;
 use crate::definition::Definition;
 use crate::definition_list::define;
-use crate::entries::{SymbolOf, is_common, is_local, is_undefined, symbol_in};
+use crate::entries::{SymbolOf, symbol_in};
 use crate::faults::ResolveFault;
 use crate::outputs::output_names_of;
 use crate::places::{place_at, place_named, places_of};
@@ -144,7 +144,7 @@ fn itself<'a>(
         ≡ cond (is_undefined entry.now) None
         (Some (meaning.Symbol (symbol_of number (loaded_view loaded.now) j entry.now))) }
 {
-    if is_undefined(entry) {
+    if entry.is_undefined() {
         return None;
     }
     Some(Definition::Symbol(symbol_in(number, loaded, j, entry)))
@@ -192,7 +192,7 @@ impl<'a> Resolved<'a> {
     pub fn meant(&self, symbol: &SymbolOf<'a>) -> Option<Definition<'a>>
         ensures { option_map meaning_view result ≡ meaning.meant self.now (symbol_view symbol.now) }
     {
-        if !is_common(&symbol.entry) {
+        if !symbol.entry.is_common() {
             return Some(Definition::Symbol(*symbol));
         }
         let block = self.block(symbol.name)?;
@@ -285,7 +285,7 @@ impl<'a> Resolved<'a> {
     {
         let loaded = self.loaded.objects().get(object)?;
         let entry = loaded.object.symbols().get(number)?;
-        if is_local(entry) {
+        if entry.is_local() {
             return itself(object as u64, loaded, number, entry);
         }
         self.linker_meaning(loaded.object.symbol_name(number))

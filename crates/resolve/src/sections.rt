@@ -6,11 +6,11 @@ ghost use Rattle.search.specs.Views.{loaded_views};
 ghost use Rattle.resolve.specs.Sound.{section_by};
 ghost use Rattle.resolve.specs.Views.{symbol_view};
 
-use crate::entries::{SymbolOf, is_undefined};
+use crate::entries::SymbolOf;
 use elf_model::{SectionHeader, Symbol};
 use search::LoadedObject;
 
-/// The sections of the object that has a number; none where there is no such object.
+/// The sections of object `number`; none where there is no such object.
 fn sections_at<'b>(objects: &'b [LoadedObject<'_>], number: usize) -> &'b [SectionHeader]
     ensures { result.now ≡ sections_of_object (slice_get (loaded_views objects.entry.now) number) }
 {
@@ -20,7 +20,7 @@ fn sections_at<'b>(objects: &'b [LoadedObject<'_>], number: usize) -> &'b [Secti
     }
 }
 
-/// The section in which a symbol of the object that has a number is defined; None where it is undefined,
+/// The section in which a symbol of object `number` is defined; None where it is undefined,
 /// absolute or common.
 pub fn section_of(
     objects: &[LoadedObject<'_>],
@@ -29,7 +29,7 @@ pub fn section_of(
 ) -> Option<SectionHeader>
     ensures { result ≡ section_by (loaded_views objects.now) number entry.now }
 {
-    if is_undefined(entry) {
+    if entry.is_undefined() {
         return None;
     }
     let sections = sections_at(objects, number);

@@ -5,7 +5,7 @@ ghost use Rattle.elf_model.specs.ObjectFile.{symbols};
 ghost use Rattle.elf_model.specs.Resolution.{AreSoundCommons, AreSoundSymbols, IsSoundCommon, IsSoundSymbol, StandsWell, binding, symbol_of, symbols_from};
 ghost use Rattle.search.specs.Views.{loaded_view, loaded_views};
 
-use crate::entries::{is_common, is_dropped};
+use crate::entries::is_dropped;
 use crate::sections::section_of;
 use elf_model::{STB_GLOBAL, STT_TLS, SectionHeader, Symbol};
 use elf_read::is_power_of_two;
@@ -14,7 +14,7 @@ use search::LoadedObject;
 fn is_visible(entry: &Symbol) -> bool
     ensures { IsTrue result ↔ (1 ≤ binding entry.now) }
 {
-    entry.st_info / 16 >= 1
+    entry.binding() >= STB_GLOBAL
 }
 
 /// Whether a symbol may stand in its section: a GLOBAL or WEAK one only in a kept one, and one of any
@@ -28,7 +28,7 @@ fn stands_well(entry: &Symbol, section: &SectionHeader) -> bool
     !is_visible(entry)
 }
 
-/// Whether symbol `j` of the object that has a number is sound, by its entry: a GLOBAL or WEAK one has a
+/// Whether symbol `j` of object `number` is sound, by its entry: a GLOBAL or WEAK one has a
 /// name, and each stands well in its section where it has one that isn't dropped.
 pub fn is_sound(
     objects: &[LoadedObject<'_>],
@@ -52,7 +52,7 @@ pub fn is_sound(
     }
 }
 
-/// Whether the symbols of the object that has a number are sound among the objects.
+/// Whether the symbols of object `number` are sound among the objects.
 fn has_sound_symbols(objects: &[LoadedObject<'_>], number: u64, loaded: &LoadedObject<'_>) -> bool
     ensures { IsTrue result ↔ All (IsSoundSymbol (loaded_views objects.now))
         (symbols_from number (loaded_view loaded.now) 0 (symbols loaded.now.object)) }
@@ -94,16 +94,16 @@ pub fn is_sound_common(number: u64, loaded: &LoadedObject<'_>, j: usize, entry: 
         (symbol_of number (loaded_view loaded.now) j entry.now) }
 {
     let _numbers = (number, j);
-    if !is_common(entry) {
+    if !entry.is_common() {
         return true;
     }
-    if entry.st_info / 16 != STB_GLOBAL || entry.st_info % 16 == STT_TLS {
+    if !entry.is_global() || entry.symbol_type() == STT_TLS {
         return false;
     }
     is_block_alignment(entry.st_value)
 }
 
-/// Whether the common symbols of the object that has a number are sound.
+/// Whether the common symbols of object `number` are sound.
 fn has_sound_commons(number: u64, loaded: &LoadedObject<'_>) -> bool
     ensures { IsTrue result ↔ All IsSoundCommon
         (symbols_from number (loaded_view loaded.now) 0 (symbols loaded.now.object)) }

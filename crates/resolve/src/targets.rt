@@ -5,7 +5,6 @@ ghost use Rattle.elf_model.specs.Slots as wanted;
 ghost use Rattle.search.specs.Views.{loaded_view};
 ghost use Rattle.resolve.specs.Views.{target_view};
 
-use crate::entries::is_local;
 use elf_model::{SymbolRef, Target};
 use search::LoadedObject;
 
@@ -16,7 +15,7 @@ pub fn target_of<'a>(symbol: SymbolRef, loaded: &LoadedObject<'a>) -> Target<'a>
         ≡ wanted.target_of (symbol_at symbol.object.0 (loaded_view loaded.now) symbol.symbol) }
 {
     let j = symbol.symbol as usize;
-    if is_local(&loaded.object.symbol(j)) {
+    if loaded.object.symbol(j).is_local() {
         return Target::Local(symbol);
     }
     Target::Name(loaded.object.symbol_name(j))

@@ -4,7 +4,7 @@ ghost use Rattle.search.specs.Views.{loaded_views};
 ghost use Rattle.resolve.specs.Threads.{AreThreads, is_thread_chosen};
 ghost use Rattle.resolve.specs.Views.{symbol_view};
 
-use crate::entries::{SymbolOf, is_common};
+use crate::entries::SymbolOf;
 use crate::sections::is_in_thread_section;
 use search::LoadedObject;
 use std::alloc::{AllocError, Global};
@@ -13,7 +13,7 @@ use std::alloc::{AllocError, Global};
 fn is_thread_chosen(objects: &[LoadedObject<'_>], symbol: &SymbolOf<'_>) -> bool
     ensures { result ≡ is_thread_chosen (loaded_views objects.now) (symbol_view symbol.now) }
 {
-    if is_common(&symbol.entry) {
+    if symbol.entry.is_common() {
         return false;
     }
     is_in_thread_section(objects, symbol)
