@@ -5,6 +5,7 @@ use Rattle.elf_model.specs.OwnLayout.{IsNotTooLarge, code_start, data_start, own
 use Rattle.elf_model.specs.Pieces.{Piece}
 use Rattle.layout.specs.Limits.{AreInLimit}
 use Rattle.layout.specs.PlaceViews.{place_views}
+use Rattle.layout.specs.Threads.{header_in}
 use Rattle.layout.specs.declared.faults.LayoutFault.{LayoutFault}
 use Rattle.layout.specs.declared.faults.LayoutFault.TheVariants as error
 use Rattle.layout.specs.declared.placed_pieces.Laid.{Laid}
@@ -27,6 +28,7 @@ pub record IsLayout (base : ℕ) (objects : List LoadedObject) (l : Layout) : Ty
   pub places : place_views l.places.items ≡ own_placed base objects
   pub loaded : l.loaded ≡ length (own_loaded base objects)
   pub segments : l.segments.items ≡ own_segments base objects
+  pub thread_header : l.thread_header ≡ header_in base (own_placed base objects)
 
 -- why there is no layout
 abbrev pub LayoutFails : ℕ → List LoadedObject → LayoutFault → Type 0

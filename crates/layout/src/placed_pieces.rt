@@ -16,6 +16,7 @@ use crate::order::{Order, any_writable, headers_size};
 use crate::pieces::Piece;
 use crate::runs::{ADDRESS_LIMIT, Place, page_up, place_run, round_up};
 use crate::segments::{any_nonempty, are_short, segment_of};
+use crate::threads::thread_header;
 use elf_model::{PF_R, PF_W, PF_X, ProgramHeader};
 use std::alloc::{AllocError, Global};
 
@@ -44,13 +45,14 @@ pub struct Laid<'a> {
     pub writable: ProgramHeader,
 }
 
-/// The pieces at their addresses, how many of them memory has a place for, which stand first, and the segments that are
-/// needed.
+/// The pieces at their addresses, how many of them memory has a place for, which stand first, the segments that are
+/// needed, and the program header of thread-local storage.
 #[derive(Drop)]
 pub struct Layout<'a> {
     pub places: Vec<Place<'a>>,
     pub loaded: usize,
     pub segments: Vec<ProgramHeader>,
+    pub thread_header: Option<ProgramHeader>,
 }
 
 /// Places the pieces of a segment behind the places that are there.
@@ -218,6 +220,7 @@ pub fn lay_out<'a>(
         return Err(LayoutFault::TooLarge);
     }
     Ok(Layout {
+        thread_header: thread_header(base, order.thread_align, &laid.places),
         places: laid.places,
         loaded: laid.loaded,
         segments,

@@ -16,7 +16,7 @@ ghost use Rattle.elf_model.specs.Slots as slots;
 ghost use Rattle.elf_model.specs.ThreadStorage.{thread_block};
 ghost use Rattle.search.specs.Views.{loaded_views};
 ghost use Rattle.resolve.specs.Blocks.{block_in, block_view, block_views};
-ghost use Rattle.layout.specs.Laid.{LayoutFails};
+ghost use Rattle.layout.specs.Laid.{IsLayout, LayoutFails};
 ghost use Rattle.layout.specs.PlaceViews.{place_views};
 ghost use Rattle.layout.specs.Placements.{IsLaidOut};
 ghost use Rattle.layout.specs.Tables.{AreTables};
@@ -29,9 +29,9 @@ use crate::faults::LayoutFault;
 use crate::got_size::GotSize;
 use crate::order::order_of;
 use crate::pieces::{Piece, all_pieces, got_number};
-use crate::placed_pieces::lay_out;
+use crate::placed_pieces::{Layout, lay_out};
 use crate::runs::Place;
-use crate::threads::{block_of, thread_header};
+use crate::threads::block_of;
 use elf_model::{Bound, ProgramHeader, SectionRef, TlsBlock};
 use resolve::{Block, Resolved};
 use search::{Loaded, LoadedObject};
@@ -74,6 +74,28 @@ impl<'a> Model for Placement<'a> {
     ghost invariant = { λ p. AreTables p.base p.loaded.objects p.tables × IsNamed p.loaded.objects p.named_blocks.value × IsLaidOut p.base p.loaded.objects };
 }
 
+/// The own layout of objects, whose common blocks these are, with a GOT of this size in bytes.
+fn layout_of<'a>(
+    alloc: Global,
+    objects: &[LoadedObject<'a>],
+    blocks: &[Block<'a>],
+    got_size: u64,
+    base: u64,
+) -> Result<Layout<'a>, LayoutFault>
+    requires base { IsBase base }
+    requires objects { AreObjects (loaded_views objects.now) }
+    requires commons { AreSoundCommons (loaded_views objects.now) }
+    requires listed { block_views blocks.now ≡ commons.blocks (loaded_views objects.now) }
+    requires got { got_size ≡ slots.got_size (loaded_views objects.now) }
+    ensures layout { IfOk result (λ l. IsLayout base (loaded_views objects.now) l) }
+    ensures fits { OnOk result (IsNotTooLarge base (loaded_views objects.now)) }
+    ensures fault { IfErr result (LayoutFails base (loaded_views objects.now)) }
+{
+    let pieces = all_pieces(alloc, objects, blocks, got_size)?;
+    let order = order_of(alloc, objects, &pieces)?;
+    lay_out(alloc, &order, base)
+}
+
 /// The tables of the own layout of objects, whose common blocks these are, with a GOT of this size in bytes.
 fn tables_of<'a>(
     alloc: Global,
@@ -93,17 +115,14 @@ fn tables_of<'a>(
     ensures fits { OnOk result (IsNotTooLarge base (loaded_views objects.now)) }
     ensures fault { IfErr result (LayoutFails base (loaded_views objects.now)) }
 {
-    let pieces = all_pieces(alloc, objects, blocks, got_size)?;
-    let order = order_of(alloc, objects, &pieces)?;
-    let layout = lay_out(alloc, &order, base)?;
+    let layout = layout_of(alloc, objects, blocks, got_size, base)?;
     let addresses = address_table(alloc, objects, blocks.len(), &layout.places)?;
     let bounds = bounds_of(alloc, got_number(objects), &layout.places)?;
-    let thread_header = thread_header(base, order.thread_align, &layout.places);
     Ok(Tables {
         places: layout.places,
         loaded: layout.loaded,
         segments: layout.segments,
-        thread_header,
+        thread_header: layout.thread_header,
         addresses,
         bounds,
     })

@@ -1,23 +1,17 @@
-use Rattle.std.proofs.Common.{ℕ, ◌≡◌, ◌≤◌, ◌∙◌, List, ap, length, subst, sym}
+use Rattle.std.proofs.Common.{ℕ, ◌≡◌, ◌∙◌, List, ap, length, subst, sym}
 use Rattle.std.proofs.lemmas.List.{length-map}
 use Rattle.elf_model.specs.Commons.{Block}
 use Rattle.resolve.specs.Blocks.{block_view}
 use Rattle.std.specs.Prelude.{All, find, option_map}
-use Rattle.elf_model.specs.Loading.{LoadedObject}
-use Rattle.elf_model.specs.OwnLayout.{own_loaded, own_placed, own_segments}
-use Rattle.elf_model.specs.Pieces.{is_thread_piece, kept_sections}
+use Rattle.elf_model.specs.OwnLayout.{own_placed}
 use Rattle.elf_model.specs.Placement.{Placed, is_of_section}
-use Rattle.elf_model.specs.ThreadStorage.{alignment_of}
 use Rattle.search.specs.Views.{loaded_views}
 use Rattle.layout.specs.Addresses.{HasPlace, piece_counts}
 use Rattle.layout.specs.Limits.{AreInLimit}
 use Rattle.layout.specs.PieceParts.{AreBounds}
 use Rattle.layout.specs.PlaceViews.{place_views}
-use Rattle.layout.specs.Threads.{header_in, placed_alignment}
-use Rattle.layout.specs.declared.runs.Place.{Place}
 use Rattle.elf_model.proofs.OwnRelation.{are_own_addresses}
 use Rattle.layout.proofs.OwnAddresses.{address_either}
-use Rattle.layout.proofs.OwnThreads.{own_above, own_alignment}
 use Rattle.layout.proofs.PieceEntries.{places_there}
 use Rattle.layout.proofs.placement.tables_of.Goals as goal
 
@@ -25,8 +19,7 @@ pub address_table-requires : goal.address_table-requires
 address_table-requires c =
     let os = loaded_views c.args.objects.now in
     let places : place_views c.deref.result.now ≡ own_placed c.args.base os =
-    ap place_views c.deref.ensures.value
-    ∙ (c.in_ok-layout.ensures.layout.places ∙ ap (λ (objects : List LoadedObject). own_placed c.args.base objects) c.in_ok-order.ensures.objects) in
+    ap place_views c.deref.ensures.value ∙ c.in_ok-layout.ensures.layout.places in
     subst (All (HasPlace (piece_counts os (length c.args.blocks.now)))) (sym places)
     (places_there os (length c.args.blocks.now) c.args.base (sym (length-map c.args.blocks.now block_view) ∙ ap (λ (bs : List Block). length bs) c.requires.listed))
 
@@ -34,42 +27,19 @@ pub bounds_of-requires : goal.bounds_of-requires
 bounds_of-requires c =
     let os = loaded_views c.args.objects.now in
     let places : place_views c.deref-2.result.now ≡ own_placed c.args.base os =
-    ap place_views c.deref-2.ensures.value
-    ∙ (c.in_ok-layout.ensures.layout.places ∙ ap (λ (objects : List LoadedObject). own_placed c.args.base objects) c.in_ok-order.ensures.objects) in
-    subst AreInLimit (sym places) (subst (λ (objects : List LoadedObject). AreInLimit (own_placed c.args.base objects)) c.in_ok-order.ensures.objects c.in_ok-layout.ensures.fits.ends)
-
-pub thread_header-thread_header-requires-clause-above : goal.thread_header-thread_header-requires-clause-above
-thread_header-thread_header-requires-clause-above c =
-    let os = loaded_views c.args.objects.now in
-    let places : place_views c.deref-3.result.now ≡ own_placed c.args.base os =
-    ap place_views c.deref-3.ensures.value
-    ∙ (c.in_ok-layout.ensures.layout.places ∙ ap (λ (objects : List LoadedObject). own_placed c.args.base objects) c.in_ok-order.ensures.objects) in
-    subst (All (λ (q : Placed). c.args.base ≤ q.at)) (sym places) (own_above c.args.base os)
-
-pub thread_header-thread_header-requires-clause-align : goal.thread_header-thread_header-requires-clause-align
-thread_header-thread_header-requires-clause-align c =
-    let os = loaded_views c.args.objects.now in
-    let places : place_views c.deref-3.result.now ≡ own_placed c.args.base os =
-    ap place_views c.deref-3.ensures.value
-    ∙ (c.in_ok-layout.ensures.layout.places ∙ ap (λ (objects : List LoadedObject). own_placed c.args.base objects) c.in_ok-order.ensures.objects) in
-    c.in_ok-order.ensures.order.thread_align
-    ∙ (ap (λ (objects : List LoadedObject). alignment_of is_thread_piece (kept_sections objects)) c.in_ok-order.ensures.objects
-    ∙ (sym (own_alignment c.args.base os) ∙ ap placed_alignment (sym places)))
+    ap place_views c.deref-2.ensures.value ∙ c.in_ok-layout.ensures.layout.places in
+    subst AreInLimit (sym places) c.in_ok-layout.ensures.fits.ends
 
 pub returns-clause-tables : goal.returns-clause-tables
 returns-clause-tables c =
     let os = loaded_views c.args.objects.now in
-    let placed : place_views c.in_ok-layout.layout.places.items ≡ own_placed c.args.base os =
-    c.in_ok-layout.ensures.layout.places ∙ ap (λ (objects : List LoadedObject). own_placed c.args.base objects) c.in_ok-order.ensures.objects in
+    let placed : place_views c.in_ok-layout.layout.places.items ≡ own_placed c.args.base os = c.in_ok-layout.ensures.layout.places in
     let seen : place_views c.deref.result.now ≡ own_placed c.args.base os = ap place_views c.deref.ensures.value ∙ placed in
     record {
       places_are = placed;
-      loaded_are =
-          c.in_ok-layout.ensures.layout.loaded
-          ∙ ap (λ (objects : List LoadedObject). length (own_loaded c.args.base objects)) c.in_ok-order.ensures.objects;
-      header_is = c.thread_header-thread_header.ensures ∙ ap (λ (ps : List Place). header_in c.args.base (place_views ps)) c.deref-3.ensures.value ∙ ap (header_in c.args.base) placed;
-      segments_are =
-          c.in_ok-layout.ensures.layout.segments ∙ ap (λ (objects : List LoadedObject). own_segments c.args.base objects) c.in_ok-order.ensures.objects;
+      loaded_are = c.in_ok-layout.ensures.layout.loaded;
+      header_is = c.in_ok-layout.ensures.layout.thread_header;
+      segments_are = c.in_ok-layout.ensures.layout.segments;
       addresses_are =
           λ o s. c.in_ok-addresses.ensures o s
           ∙ (ap (λ (qs : List Placed). option_map (λ q. q.at) (find (is_of_section o s) qs)) seen ∙ address_either c.args.base os o s);
