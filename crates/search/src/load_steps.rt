@@ -5,7 +5,7 @@ ghost use Rattle.elf_model.specs.Files.{files_of};
 ghost use Rattle.elf_model.specs.Loading.{AreObjects, HaveLawfulGroups, Single, group_of, loaded_objects, loaded_step, loaded_steps, steps};
 ghost use Rattle.elf_model.specs.LoadingRules.{FollowsRules};
 ghost use Rattle.elf_model.specs.Opening.{AreArchives, AreFilesThere, HaveIndexes, opened};
-ghost use Rattle.search.specs.Faults.{FailsOn, LoadFails};
+ghost use Rattle.search.specs.Faults.{FailsOn, IsSearchable, LoadFails};
 ghost use Rattle.search.specs.Loaders.{IsLater, Knows, loaded};
 ghost use Rattle.search.specs.Loads.{AreDroppedInOrder};
 ghost use Rattle.search.specs.Steps.{in_group};
@@ -123,6 +123,22 @@ fn load_inputs<'a, N: NameNumbers<'a>>(
     Ok(())
 }
 
+/// What the items of a plan hold, in order.
+fn inputs_of<'a>(
+    alloc: Global,
+    plan: &Plan<'a>,
+    files: &'a [InputFile],
+) -> Result<Vec<Input<'a>>, SearchFault>
+    ensures exact { IfOk result (λ v. v.items ≡ opened (files_of files.entry.now) plan.now) }
+    ensures searchable { OnOk result (IsSearchable (files_of files.entry.now) plan.now) }
+    ensures fault { IfErr result (LoadFails (files_of files.entry.now) plan.now) }
+{
+    let index = FileIndex::new(alloc, files)?;
+    let items = open(alloc, &index, plan)?;
+    let inputs = read_inputs(alloc, &items)?;
+    Ok(inputs)
+}
+
 /// The plan, and the objects that it loads, in load order (ld(1)).
 ///
 /// An object item is loaded where it stands. An archive has one turn: the first entry of its index, in the
@@ -159,9 +175,7 @@ pub fn load_seeded<'a>(
         (loaded_objects (files_of files.entry.now) plan.now)) }
     ensures fault { IfErr result (LoadFails (files_of files.entry.now) plan.now) }
 {
-    let index = FileIndex::new(alloc, files)?;
-    let items = open(alloc, &index, plan)?;
-    let inputs = read_inputs(alloc, &items)?;
+    let inputs = inputs_of(alloc, plan, files)?;
     let mut loader = Loader::new(alloc, plan, NameSet::new(alloc, seed))?;
     load_inputs(alloc, &mut loader, &inputs)?;
     let (objects, names) = loader.into_parts();
@@ -193,9 +207,7 @@ fn last_reached<'a>(
     plan: &Plan<'a>,
     files: &'a [InputFile],
 ) -> Result<Option<Reached<'a>>, SearchFault> {
-    let index = FileIndex::new(alloc, files)?;
-    let items = open(alloc, &index, plan)?;
-    let inputs = read_inputs(alloc, &items)?;
+    let inputs = inputs_of(alloc, plan, files)?;
     let mut loader = Loader::new(alloc, plan, NameSet::new(alloc, NameSeed::fixed()))?;
     match load_inputs(alloc, &mut loader, &inputs) {
         Ok(()) => Ok(None),

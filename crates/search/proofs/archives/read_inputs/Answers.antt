@@ -1,5 +1,5 @@
 use Rattle.std.proofs.Common.{◌≡◌, subst, sym}
-use Rattle.std.specs.Prelude.{true, false}
+use Rattle.std.specs.Prelude.{List, true, false}
 use Rattle.std.proofs.lemmas.Result.{err_from_is_err_and}
 use Rattle.std.proofs.lemmas.List.Elements.{All-push}
 use Rattle.elf_model.specs.ArchiveFile.{IsArchive}
@@ -20,11 +20,11 @@ loop-item-preserved c =
           inputs_step c.args.items.now c.loop-item.item-index _ old c.push.new.self.items x c.loop-item-test.true c.in_ok-push.ensures.items c.in_ok-read_input.ensures.exact
           c.loop-item.invariant.exact;
       archives =
-          subst AreArchives (sym c.in_ok-push.ensures.items)
+          subst AreArchives (sym {A = List Opened} c.in_ok-push.ensures.items)
           (All-push (λ (o : Opened). o.archive ≡ true → IsArchive o.bytes) old x c.loop-item.invariant.archives
-          (subst (λ (o : Opened). o.archive ≡ true → IsArchive o.bytes) (sym c.in_ok-read_input.ensures.exact) c.in_ok-read_input.ensures.archive));
+          (subst (λ (o : Opened). o.archive ≡ true → IsArchive o.bytes) (sym {A = Opened} c.in_ok-read_input.ensures.exact) c.in_ok-read_input.ensures.archive));
       indexes =
-          subst HaveIndexes (sym c.in_ok-push.ensures.items)
+          subst HaveIndexes (sym {A = List Opened} c.in_ok-push.ensures.items)
           (All-push (λ (o : Opened). o.archive ≡ true → lacks_index o ≡ false) old x c.loop-item.invariant.indexes
-          (subst (λ (o : Opened). o.archive ≡ true → lacks_index o ≡ false) (sym c.in_ok-read_input.ensures.exact) c.in_ok-read_input.ensures.index));
+          (subst (λ (o : Opened). o.archive ≡ true → lacks_index o ≡ false) (sym {A = Opened} c.in_ok-read_input.ensures.exact) c.in_ok-read_input.ensures.index));
     }

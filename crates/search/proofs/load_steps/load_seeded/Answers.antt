@@ -1,54 +1,34 @@
-use Rattle.std.proofs.Common.{◌≡◌, ◌∙◌, List, ap, map, subst, sym}
+use Rattle.std.proofs.Common.{◌≡◌, ◌∙◌, subst, sym}
 use Rattle.std.proofs.lemmas.Result.{err_from_is_err_and}
-use Rattle.elf_model.specs.Files.{File, files_of}
+use Rattle.elf_model.specs.Files.{files_of}
 use Rattle.elf_model.specs.Loading.{AreObjects, HaveLawfulGroups, loaded_steps, steps}
-use Rattle.elf_model.specs.Opening.{AreArchives, AreFilesThere, HaveIndexes, opened}
+use Rattle.elf_model.specs.Opening.{opened}
 use Rattle.elf_model.proofs.LoadingLaws.{follows_rules}
 use Rattle.search.specs.Loaders.{loaded}
-use Rattle.search.specs.Opened.{item_view}
-use Rattle.search.specs.declared.opened_items.OpenedItem.{OpenedItem}
-use Rattle.search.proofs.LoadLaws.{objects_fail, unsearchable_fails, whole}
+use Rattle.search.proofs.LoadLaws.{objects_fail, whole}
 use Rattle.search.proofs.LostSections.{dropped_in_order}
 use Rattle.search.proofs.load_steps.load_seeded.Goals as goal
-
-pub returns-in_err-inputs-clause-fault : goal.returns-in_err-inputs-clause-fault
-returns-in_err-inputs-clause-fault c =
-    let p = err_from_is_err_and c.from_residual-in_err-inputs.result c.from_residual-in_err-inputs.ensures.1 in
-    let files = files_of c.args.files.now in
-    let plan = c.args.plan.now in
-    rw (p.1, p.2)
-    (unsearchable_fails files plan (map item_view c.deref.result.now) c.in_err-inputs.field-0.0
-    (ap (λ (l : List OpenedItem). map item_view l) c.deref.ensures.value ∙ (c.in_ok-items.ensures.opened ∙ ap (λ (fs : List File). opened fs plan) c.in_ok-index.ensures))
-    (subst (λ (fs : List File). AreFilesThere fs plan) c.in_ok-index.ensures c.in_ok-items.ensures.files) c.in_err-inputs.ensures.fault)
 
 pub returns-in_err-load_inputs-clause-fault : goal.returns-in_err-load_inputs-clause-fault
 returns-in_err-load_inputs-clause-fault c =
     let p = err_from_is_err_and c.from_residual-in_err-load_inputs.result c.from_residual-in_err-load_inputs.ensures.1 in
     let files = files_of c.args.files.now in
     let plan = c.args.plan.now in
-    let items : map item_view c.deref.result.now ≡ opened files plan =
-    ap (λ (l : List OpenedItem). map item_view l) c.deref.ensures.value ∙ (c.in_ok-items.ensures.opened ∙ ap (λ (fs : List File). opened fs plan) c.in_ok-index.ensures) in
-    let inputs : c.deref-2.result.now ≡ opened files plan = c.deref-2.ensures.value ∙ (c.in_ok-inputs.ensures.exact ∙ items) in
+    let inputs : c.deref.result.now ≡ opened files plan = c.deref.ensures.value ∙ c.in_ok-inputs.ensures.exact in
     rw (p.1, p.2)
-    (objects_fail files plan (loaded_steps c.in_ok-loader.loader.plan.now (steps c.deref-2.result.now) (loaded c.in_ok-loader.loader)) c.in_err-load_inputs.field-0.0
-    (whole files plan c.in_ok-loader.loader.plan.now c.deref-2.result.now (loaded c.in_ok-loader.loader) c.in_ok-loader.ensures.plan inputs c.in_ok-loader.ensures.loaded)
-    (record {
-      files_are = subst (λ (fs : List File). AreFilesThere fs plan) c.in_ok-index.ensures c.in_ok-items.ensures.files;
-      archives = subst AreArchives items c.in_ok-inputs.ensures.archives;
-      indexes = subst HaveIndexes items c.in_ok-inputs.ensures.indexes;
-    }) c.in_err-load_inputs.ensures.fault)
+    (objects_fail files plan (loaded_steps c.in_ok-loader.loader.plan.now (steps c.deref.result.now) (loaded c.in_ok-loader.loader)) c.in_err-load_inputs.field-0.0
+    (whole files plan c.in_ok-loader.loader.plan.now c.deref.result.now (loaded c.in_ok-loader.loader) c.in_ok-loader.ensures.plan inputs c.in_ok-loader.ensures.loaded)
+    c.in_ok-inputs.ensures.searchable c.in_err-load_inputs.ensures.fault)
 
 pub returns-clause-loaded : goal.returns-clause-loaded
 returns-clause-loaded c =
     let files = files_of c.args.files.now in
     let plan = c.args.plan.now in
-    let items : map item_view c.deref.result.now ≡ opened files plan =
-    ap (λ (l : List OpenedItem). map item_view l) c.deref.ensures.value ∙ (c.in_ok-items.ensures.opened ∙ ap (λ (fs : List File). opened fs plan) c.in_ok-index.ensures) in
-    let inputs : c.deref-2.result.now ≡ opened files plan = c.deref-2.ensures.value ∙ (c.in_ok-inputs.ensures.exact ∙ items) in
+    let inputs : c.deref.result.now ≡ opened files plan = c.deref.ensures.value ∙ c.in_ok-inputs.ensures.exact in
     c.in_ok-loaded.ensures.objects
     ∙ (c.into_parts-objects.ensures.loaded
     ∙ (c.in_ok-load_inputs.ensures.loaded
-    ∙ whole files plan c.in_ok-loader.loader.plan.now c.deref-2.result.now (loaded c.in_ok-loader.loader) c.in_ok-loader.ensures.plan inputs c.in_ok-loader.ensures.loaded))
+    ∙ whole files plan c.in_ok-loader.loader.plan.now c.deref.result.now (loaded c.in_ok-loader.loader) c.in_ok-loader.ensures.plan inputs c.in_ok-loader.ensures.loaded))
 
 pub returns-clause-rules : goal.returns-clause-rules
 returns-clause-rules c = follows_rules (files_of c.args.files.now) c.args.plan.now
