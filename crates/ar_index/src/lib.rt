@@ -1,5 +1,7 @@
 //! Reads archives of object files (ar(5)): accepts exactly those of the profile, and says of the others
 //! why they are none.
+//!
+//! Begin with `Archive::read`.
 #![tactic(auto)]
 
 mod archive;

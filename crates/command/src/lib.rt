@@ -16,6 +16,8 @@
 //! - any other nonempty word that doesn't begin with `-`: a file, an archive if it ends in `.a`
 //!
 //! Of a repeated `-o`, `-e`, `-Map=` or `-Ttext-segment=` the last one counts.
+//!
+//! Begin with `read_words`.
 #![tactic(auto)]
 
 mod items;

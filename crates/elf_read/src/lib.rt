@@ -1,5 +1,7 @@
 //! Reads relocatable object files (System V gABI 4): accepts exactly those of the profile, and says
 //! of the others why they are none.
+//!
+//! Begin with `ObjectFile::read`.
 #![tactic(auto)]
 
 mod groups;

@@ -1,6 +1,8 @@
 //! The GOT and thread-local storage: which slots the relocations of loaded objects ask for, the block of
 //! the pieces with SHF_TLS, and offsets from the thread pointer (AMD64 psABI 4.4; ELF Handling For
 //! Thread-Local Storage, variant II).
+//!
+//! Begin with `slots`.
 #![tactic(auto)]
 
 mod asked_slots;

@@ -1,5 +1,7 @@
 //! Where the linker itself lays out: which kept sections are lawful, in which order they stand, at which
 //! addresses, and in which segments.
+//!
+//! Begin with `place`.
 #![tactic(auto)]
 
 mod addresses;

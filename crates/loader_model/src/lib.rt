@@ -1,5 +1,7 @@
 //! What a loader maps of an ELF-64 executable: memory as the PT_LOAD segments make it, byte by byte and
 //! in runs (System V gABI 5).
+//!
+//! Begin with `Memory::load`.
 #![tactic(auto)]
 
 mod memory;

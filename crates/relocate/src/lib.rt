@@ -1,6 +1,8 @@
 //! Relocations (AMD64 psABI 4.4): whether the kept ones of the loaded objects are lawful, the values
 //! that they want at the linker's own places, the writing of these into the bytes of a section, and the linker's own
 //! names that they use.
+//!
+//! Begin with `references`, then `patches`.
 #![tactic(auto)]
 
 mod faults;

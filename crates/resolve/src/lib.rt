@@ -1,6 +1,8 @@
 //! Which definition a name means: whether the symbols of the loaded objects are sound, the chosen
-//! definitions in the order of their names, the common blocks, and for each symbol the definition that a reference
+//! definitions in load order, the common blocks, and for each symbol the definition that a reference
 //! to it uses (System V gABI 4, "Symbol Table"; what is refused is the profile's); and the names of output sections.
+//!
+//! Begin with `resolve_in`.
 #![tactic(auto)]
 
 mod blocks;

@@ -1,5 +1,7 @@
 //! Which objects a command loads (ld(1)): finds the files of its items, reads its objects and archives, and
 //! takes members of archives for the names that are needed, in load order.
+//!
+//! Begin with `load_seeded`.
 #![tactic(auto)]
 
 mod archives;

@@ -1,6 +1,8 @@
 //! Tables of names: for each name that objects define, which symbols define it first, strong, weak or
 //! common, and how large its common block is (System V gABI 4, "Symbol Table"). A table is a finite map
 //! from names to rows, kept as a list or by hash.
+//!
+//! Begin with the trait `NameTable`.
 #![tactic(auto)]
 
 mod candidate;
