@@ -61,11 +61,11 @@ fn write_kind<W: Write>(out: &mut W, entry: &Symbol) -> io::Result<()> {
     let (binding, kind) = (entry.binding(), entry.symbol_type());
     write!(out, "binding {binding}")?;
     if binding == UNIQUE {
-        out.write_all(b" (a unique symbol)")?;
+        out.write_all(b" (a unique symbol: -fno-gnu-unique of g++ makes none)")?;
     }
     write!(out, ", type {kind}")?;
     if kind == INDIRECT {
-        out.write_all(b" (an indirect function)")?;
+        out.write_all(b" (an indirect function, as glibc has: musl has none)")?;
     }
     write!(out, ", section {:#x}: not linked", entry.st_shndx)
 }

@@ -1,4 +1,6 @@
 //! Why a link is refused: the places of its inputs at which something is wrong, each with what is wrong there.
+//!
+//! Begin with `explain`.
 #![tactic(auto)]
 
 mod files;
@@ -11,6 +13,7 @@ mod passed_archives;
 mod phase;
 mod place;
 mod relocations;
+mod surroundings;
 mod text;
 mod unfit;
 mod unlawful;

@@ -4,6 +4,9 @@ use crate::found::Found;
 use crate::passed_archives::passed_archive;
 use crate::place::Place;
 use crate::text::{Inputs, write_place};
+use byteview::View;
+use elf_model::InputFile;
+use elf_read::ObjectFile;
 use input_names::write_name;
 use relocate::RelocationFault;
 use std::alloc::{AllocError, Global};
@@ -13,6 +16,9 @@ use std::io::Write;
 
 /// How many references to an undefined name are told.
 const REFERENCES: u64 = 3;
+
+/// The symbol of an object that gcc makes by -flto without -ffat-lto-objects.
+const SLIM: &[u8] = b"__gnu_lto_slim";
 
 /// Names with a count each.
 type Counts<'a> = BTreeMap<&'a [u8], u64>;
@@ -44,13 +50,8 @@ fn references<'a>(alloc: Global, places: &[Place<'a>]) -> Result<Counts<'a>, All
 }
 
 /// Writes which archive has an undefined name.
-fn write_passed<W: Write>(
-    alloc: Global,
-    out: &mut W,
-    inputs: Inputs<'_>,
-    name: &[u8],
-) -> io::Result<()> {
-    let Some((item, path)) = passed_archive(alloc, inputs.files, inputs.words, name)? else {
+fn write_passed<W: Write>(out: &mut W, inputs: Inputs<'_>, name: &[u8]) -> io::Result<()> {
+    let Some((item, path)) = passed_archive(inputs.alloc, inputs.files, inputs.words, name)? else {
         return Ok(());
     };
     out.write_all(b"; ")?;
@@ -63,7 +64,6 @@ fn write_passed<W: Write>(
 /// Writes a reference to an undefined name, the first, second or third; behind the first which archive has the name, behind the
 /// third how many more there are.
 fn write_reference<W: Write>(
-    alloc: Global,
     out: &mut W,
     inputs: Inputs<'_>,
     name: &[u8],
@@ -71,7 +71,7 @@ fn write_reference<W: Write>(
     all: u64,
 ) -> io::Result<()> {
     if number == 1 {
-        write_passed(alloc, out, inputs, name)?;
+        write_passed(out, inputs, name)?;
     }
     let rest = all.saturating_sub(REFERENCES);
     if number == REFERENCES && rest > 0 {
@@ -82,7 +82,6 @@ fn write_reference<W: Write>(
 
 /// Writes a place with the end of its line, unless it is one of too many references to a name; answers whether it did.
 fn write_line<'a, W: Write>(
-    alloc: Global,
     out: &mut W,
     inputs: Inputs<'_>,
     all: &Counts<'a>,
@@ -100,33 +99,65 @@ fn write_line<'a, W: Write>(
     }
     write_place(out, inputs, place)?;
     let all = all.get(name).copied().unwrap_or(0);
-    write_reference(alloc, out, inputs, name, number, all)?;
+    write_reference(out, inputs, name, number, all)?;
     out.write_all(b"\n")?;
     Ok(true)
 }
 
+/// Whether a place asks for a definition that no object has.
+fn asks_for_code(place: &Place<'_>) -> bool {
+    match place {
+        Place::Entry(_) => true,
+        _ => undefined_name(place).is_some(),
+    }
+}
+
+/// Whether an object file has a symbol by which gcc says that it has no code, only data for optimization at link time.
+fn is_slim(alloc: Global, file: &InputFile) -> bool {
+    match ObjectFile::read(alloc, View::new(file.bytes.as_slice())) {
+        Ok(object) => (0..object.symbols().len()).any(|j| object.symbol_name(j) == SLIM),
+        Err(_) => false,
+    }
+}
+
+/// Writes a line for each object file without code of its own.
+fn write_slim_objects<W: Write>(out: &mut W, inputs: Inputs<'_>) -> io::Result<()> {
+    for file in inputs.files {
+        if is_slim(inputs.alloc, file) {
+            write_name(out, file.name.as_bytes())?;
+            out.write_all(
+                b": no code, only data for optimization at link time: compile it without -flto, or with -ffat-lto-objects\n",
+            )?;
+        }
+    }
+    Ok(())
+}
+
 /// Writes the places that were found, at most so many lines, and how many more places there are. Of references to one undefined
-/// name three are told, with the number of the others.
+/// name three are told, with the number of the others. Where a definition is missing, a line more for each object file that has
+/// no code of its own.
 pub fn write_places<W: Write>(
-    alloc: Global,
     out: &mut W,
     inputs: Inputs<'_>,
     found: &Found<'_>,
     most: u64,
 ) -> io::Result<()> {
-    let all = references(alloc, found.places())?;
-    let mut told = BTreeMap::new(alloc);
+    let all = references(inputs.alloc, found.places())?;
+    let mut told = BTreeMap::new(inputs.alloc);
     let mut lines: u64 = 0;
     let mut more = found.more();
     for place in found.places() {
         if lines >= most {
             more = more.saturating_add(1);
-        } else if write_line(alloc, out, inputs, &all, &mut told, place)? {
+        } else if write_line(out, inputs, &all, &mut told, place)? {
             lines = lines.saturating_add(1);
         }
     }
     if more > 0 {
         writeln!(out, "and {more} more places")?;
+    }
+    if found.places().iter().any(asks_for_code) {
+        write_slim_objects(out, inputs)?;
     }
     Ok(())
 }

@@ -1,17 +1,23 @@
 //! How a place reads: a line that names the object, what is wrong in it, and why.
 
 use crate::place::{ObjectPlace, Place, RelocationPlace, SectionPlace, SymbolFault, SymbolPlace};
+use crate::surroundings::{object_of, write_function, write_section_of};
 use bad_parts::{BadPart, write_bad_part};
 use command::Source;
-use elf_model::{ArFault, CmdFault, InputFile, LinkError, ObjFault};
-use input_names::{file_kind, object_bytes, write_name, write_object, write_relocation_type};
+use elf_model::{ArFault, CmdFault, InputFile, LinkError, ObjFault, SHF_LINK_ORDER};
+use input_names::{
+    file_kind, object_bytes, write_name, write_object, write_relocation_type, write_section_flags,
+    write_section_type,
+};
 use relocate::{Kind, Range, RelocationFault};
+use std::alloc::Global;
 use std::io;
 use std::io::Write;
 
-/// The inputs that places are of.
+/// The inputs that places are of, and where objects are read into again.
 #[derive(Clone, Copy)]
 pub struct Inputs<'i> {
+    pub alloc: Global,
     pub files: &'i [InputFile],
     pub words: &'i [String],
 }
@@ -75,8 +81,25 @@ fn write_section<W: Write>(
     place: &SectionPlace<'_>,
 ) -> io::Result<()> {
     write_section_name(out, inputs, place)?;
-    let (kind, flags) = (place.header.sh_type, place.header.sh_flags);
-    write!(out, ": type {kind:#x} and flags {flags:#x} are not linked")
+    out.write_all(b": ")?;
+    write_section_type(out, place.header.sh_type)?;
+    out.write_all(b", ")?;
+    write_section_flags(out, place.header.sh_flags)?;
+    write!(out, ": not linked{}", section_hint(place.header.sh_flags))
+}
+
+/// What avoids flags that are not linked.
+fn section_hint(flags: u64) -> &'static str {
+    if flags & 0x20_0000 != 0 {
+        return ", as of __attribute__((retain)) or Rust's #[used]";
+    }
+    if flags & 0x1000_0000 != 0 {
+        return ": -mcmodel=small avoids it";
+    }
+    if flags & SHF_LINK_ORDER != 0 {
+        return ", as of -fpatchable-function-entry";
+    }
+    ""
 }
 
 fn symbol_text(fault: SymbolFault) -> &'static str {
@@ -89,6 +112,15 @@ fn symbol_text(fault: SymbolFault) -> &'static str {
     }
 }
 
+/// Writes a space and a name, where it isn't empty.
+fn write_called<W: Write>(out: &mut W, name: &[u8]) -> io::Result<()> {
+    if name.is_empty() {
+        return Ok(());
+    }
+    out.write_all(b" ")?;
+    write_name(out, name)
+}
+
 fn write_symbol<W: Write>(
     out: &mut W,
     inputs: Inputs<'_>,
@@ -96,12 +128,16 @@ fn write_symbol<W: Write>(
     fault: SymbolFault,
 ) -> io::Result<()> {
     write_file(out, inputs, &place.file)?;
-    write!(out, "symbol {} ", place.symbol)?;
-    write_name(out, place.name)?;
+    write!(out, "symbol {}", place.symbol)?;
+    write_called(out, place.name)?;
+    if let Some(object) = object_of(inputs.alloc, inputs.files, &place.file) {
+        write_section_of(out, &object, place.symbol as usize)?;
+    }
     write!(out, ": {}", symbol_text(fault))
 }
 
-/// Writes where a relocation is: its section and offset there, its entry, its type and its symbol.
+/// Writes where a relocation is: its section, its offset there and its function, its entry, its type, its symbol and the
+/// section of that.
 fn write_relocation<W: Write>(
     out: &mut W,
     inputs: Inputs<'_>,
@@ -109,12 +145,20 @@ fn write_relocation<W: Write>(
 ) -> io::Result<()> {
     write_file(out, inputs, &place.file)?;
     write_name(out, place.section_name)?;
-    write!(out, "+{:#x}: ", place.entry.r_offset)?;
+    write!(out, "+{:#x}", place.entry.r_offset)?;
+    let object = object_of(inputs.alloc, inputs.files, &place.file);
+    if let Some(object) = &object {
+        write_function(out, object, place.section, place.entry.r_offset)?;
+    }
     let (number, table) = (place.number, place.table);
-    write!(out, "relocation {number} of section {table}, ")?;
+    write!(out, ": relocation {number} of section {table}, ")?;
     write_relocation_type(out, place.entry.kind())?;
-    write!(out, ", to symbol {} ", place.entry.symbol())?;
-    write_name(out, place.symbol_name)
+    write!(out, ", to symbol {}", place.entry.symbol())?;
+    write_called(out, place.symbol_name)?;
+    match &object {
+        Some(object) => write_section_of(out, object, place.entry.symbol() as usize),
+        None => Ok(()),
+    }
 }
 
 fn relocation_text(fault: RelocationFault) -> &'static str {
@@ -153,6 +197,10 @@ fn write_range<W: Write>(out: &mut W, number: u32) -> io::Result<()> {
         Range::Signed => write!(out, ", which takes -{low:#x} to {half:#x}"),
         Range::Unsigned => write!(out, ", which takes 0 to {whole:#x}"),
         Range::Either => write!(out, ", which takes -{low:#x} to {whole:#x}"),
+    }?;
+    match kind.width {
+        4 => out.write_all(b"; code of -mcmodel=large has no such limit"),
+        _ => Ok(()),
     }
 }
 

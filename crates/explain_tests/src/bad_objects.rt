@@ -123,7 +123,7 @@ static SECTIONS_AND_SYMBOLS: [Row; 9] = [
         &[START, INDIRECT],
         &[],
         &[],
-        "BadSymbolTable (9): symbol 2 f (entry at byte 0x80): binding 1, type 10 (an indirect function), section 0x1: not \
+        "BadSymbolTable (9): symbol 2 f (entry at byte 0x80): binding 1, type 10 (an indirect function, as glibc has: musl has none), section 0x1: not \
          linked\n",
     ),
     (
@@ -131,7 +131,7 @@ static SECTIONS_AND_SYMBOLS: [Row; 9] = [
         &[START, UNIQUE],
         &[],
         &[],
-        "BadSymbolTable (9): symbol 2 f (entry at byte 0x80): binding 10 (a unique symbol), type 2, section 0x1: not linked\n",
+        "BadSymbolTable (9): symbol 2 f (entry at byte 0x80): binding 10 (a unique symbol: -fno-gnu-unique of g++ makes none), type 2, section 0x1: not linked\n",
     ),
 ];
 

@@ -23,8 +23,12 @@ pub fn lines_of(
         return Ok(String::new(alloc));
     };
     let found = explain(alloc, files, words, &error, PLACES)?;
-    let inputs = Inputs { files, words };
+    let inputs = Inputs {
+        alloc,
+        files,
+        words,
+    };
     let mut text = Vec::new(alloc);
-    write_places(alloc, &mut text, inputs, &found, most as u64)?;
+    write_places(&mut text, inputs, &found, most as u64)?;
     Ok(String::from_utf8(text)?)
 }

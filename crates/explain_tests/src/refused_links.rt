@@ -194,7 +194,10 @@ const TRUNCATED: &str = "Truncated (2): shorter than the header of an ELF file: 
 /// First bytes of files that are no objects, and what they are.
 const KINDS: [(&[u8], &str); 7] = [
     (b"", "an empty file"),
-    (b"GROUP ( libm-2.so )\n", "a text, perhaps a linker script"),
+    (
+        b"GROUP ( libm-2.so )\n",
+        "a text, as a source or a linker script",
+    ),
     (
         b"BC\xc0\xde\x35\x14",
         "an LLVM bitcode file, which -flto makes in place of an object",
@@ -252,18 +255,32 @@ const COMMON: NamedSymbol<'static> = NamedSymbol {
 
 const OTHER_F: File = File::Object("b.o", &[TEXT], &[F], &[]);
 
-const NAMES: [Row; 5] = [
+/// A section with SHF_GNU_RETAIN.
+const RETAINED: Section<'static> = Section {
+    name: ".keep",
+    sh_flags: SHF_ALLOC | 0x20_0000,
+    ..DATA
+};
+
+const NAMES: [Row; 6] = [
+    (
+        &[File::Object("a.o", &[TEXT, RETAINED], &[START], &[])],
+        "a.o",
+        9,
+        "a.o: section 2 .keep: type PROGBITS, flags ALLOC GNU_RETAIN: not linked, as of __attribute__((retain)) or Rust's \
+         #[used]\n",
+    ),
     (
         &[File::Object("a.o", &[TEXT, WRITABLE_CODE], &[START], &[])],
         "a.o",
         9,
-        "a.o: section 2 .wx: type 0x1 and flags 0x7 are not linked\n",
+        "a.o: section 2 .wx: type PROGBITS, flags WRITE ALLOC EXECINSTR: not linked\n",
     ),
     (
         &[File::Object("a.o", &[TEXT], &[START, NAMELESS], &[])],
         "a.o",
         9,
-        "a.o: symbol 2 : a symbol that isn't LOCAL needs a name and a section that is loaded, and any symbol lies within \
+        "a.o: symbol 2 of .text: a symbol that isn't LOCAL needs a name and a section that is loaded, and any symbol lies within \
          its section\n",
     ),
     (
@@ -280,8 +297,8 @@ const NAMES: [Row; 5] = [
         ],
         "a.o b.o b.o",
         2,
-        "a.o: symbol 2 f: defined here\n\
-         b.o (item 1): symbol 1 f: defined here\n\
+        "a.o: symbol 2 f of .text: defined here\n\
+         b.o (item 1): symbol 1 f of .text: defined here\n\
          and 1 more places\n",
     ),
     (
@@ -348,7 +365,35 @@ const EARLY: File = File::Archive(
     }],
 );
 
-const RELOCATIONS: [Row; 12] = [
+/// What an object has that gcc makes by -flto alone.
+const SLIM: NamedSymbol<'static> = NamedSymbol {
+    name: "__gnu_lto_slim",
+    st_value: 1,
+    st_size: 1,
+    ..COMMON
+};
+
+const RELOCATIONS: [Row; 14] = [
+    (
+        &[File::Object("s.o", &[], &[SLIM], &[])],
+        "s.o",
+        9,
+        "the entry _start has no definition outside thread-local storage\n\
+         s.o: no code, only data for optimization at link time: compile it without -flto, or with -ffat-lto-objects\n",
+    ),
+    (
+        &[File::Object(
+            "a.o",
+            &[TEXT],
+            &[START],
+            &[Relocation(1, 1, 10, 1, -0x50_0000)],
+        )],
+        "a.o",
+        9,
+        "a.o: .text+0x1 in _start: relocation 0 of section 4, R_X86_64_32, to symbol 1 _start of .text: the value \
+         0xfffffffffff01000 does not fit the field at 0x401001, which takes 0 to 0xffffffff; code of -mcmodel=large has no such \
+         limit\n",
+    ),
     (
         &[File::Object(
             "a.o",
@@ -373,8 +418,8 @@ const RELOCATIONS: [Row; 12] = [
         )],
         "a.o",
         9,
-        "a.o: .text+0x0: relocation 0 of section 4, R_X86_64_PLT32, to symbol 2 f: not defined\n\
-         a.o: .text+0x5: relocation 1 of section 4, R_X86_64_PC32, to symbol 2 f: not defined\n",
+        "a.o: .text+0x0 in _start: relocation 0 of section 4, R_X86_64_PLT32, to symbol 2 f: not defined\n\
+         a.o: .text+0x5 in _start: relocation 1 of section 4, R_X86_64_PC32, to symbol 2 f: not defined\n",
     ),
     (
         &[File::Object(
@@ -392,9 +437,9 @@ const RELOCATIONS: [Row; 12] = [
         )],
         "a.o",
         9,
-        "a.o: .text+0x0: relocation 0 of section 4, R_X86_64_PC32, to symbol 2 f: not defined\n\
-         a.o: .text+0x4: relocation 1 of section 4, R_X86_64_PC32, to symbol 2 f: not defined\n\
-         a.o: .text+0x8: relocation 2 of section 4, R_X86_64_PC32, to symbol 2 f: not defined; and 2 more references to it\n\
+        "a.o: .text+0x0 in _start: relocation 0 of section 4, R_X86_64_PC32, to symbol 2 f: not defined\n\
+         a.o: .text+0x4 in _start: relocation 1 of section 4, R_X86_64_PC32, to symbol 2 f: not defined\n\
+         a.o: .text+0x8 in _start: relocation 2 of section 4, R_X86_64_PC32, to symbol 2 f: not defined; and 2 more references to it\n\
          a.o: .text+0x14: relocation 5 of section 4, R_X86_64_PC32, to symbol 3 g: not defined\n",
     ),
     (
@@ -409,7 +454,7 @@ const RELOCATIONS: [Row; 12] = [
         ],
         "e.a a.o",
         9,
-        "a.o: .text+0x0: relocation 0 of section 4, R_X86_64_PC32, to symbol 2 f: not defined; e.a (item 0) defines f, but was \
+        "a.o: .text+0x0 in _start: relocation 0 of section 4, R_X86_64_PC32, to symbol 2 f: not defined; e.a (item 0) defines f, but was \
          searched before it was needed: name it later, or in a group\n",
     ),
     (
@@ -421,13 +466,13 @@ const RELOCATIONS: [Row; 12] = [
         )],
         "a.o",
         9,
-        "a.o: .text+0x0: relocation 0 of section 5, R_X86_64_PC32, to symbol 1 l: LOCAL in a section that is not loaded\n",
+        "a.o: .text+0x0 in _start: relocation 0 of section 5, R_X86_64_PC32, to symbol 1 l of .notes: LOCAL in a section that is not loaded\n",
     ),
     (
         &[File::Object("a.o", &[TEXT], &[START, NO_F], &[Relocation(1, 0, 5, 1, 0)])],
         "a.o",
         9,
-        "a.o: .text+0x0: relocation 0 of section 4, R_X86_64_COPY, to symbol 1 _start: not a type of relocation that is linked\n",
+        "a.o: .text+0x0 in _start: relocation 0 of section 4, R_X86_64_COPY, to symbol 1 _start of .text: not a type of relocation that is linked\n",
     ),
     (
         &[File::Object(
@@ -438,7 +483,7 @@ const RELOCATIONS: [Row; 12] = [
         )],
         "a.o",
         9,
-        "a.o: .text+0x6: relocation 0 of section 4, R_X86_64_PC32, to symbol 1 _start: the field is not inside its section\n",
+        "a.o: .text+0x6 in _start: relocation 0 of section 4, R_X86_64_PC32, to symbol 1 _start of .text: the field is not inside its section\n",
     ),
     (
         &[File::Object(
@@ -449,7 +494,7 @@ const RELOCATIONS: [Row; 12] = [
         )],
         "a.o",
         9,
-        "a.o: .text+0x0: relocation 0 of section 5, R_X86_64_PC32, to symbol 1 l: thread-local, or not, against the relocation's \
+        "a.o: .text+0x0 in _start: relocation 0 of section 5, R_X86_64_PC32, to symbol 1 l of .tdata: thread-local, or not, against the relocation's \
          type\n",
     ),
     (
@@ -464,8 +509,8 @@ const RELOCATIONS: [Row; 12] = [
         )],
         "a.o",
         9,
-        "a.o: .text+0x1: relocation 1 of section 4, R_X86_64_PC32, to symbol 1 _start: its field shares a byte with that of a.o: \
-         .text+0x4: relocation 0 of section 4, R_X86_64_PC32, to symbol 1 _start\n",
+        "a.o: .text+0x1 in _start: relocation 1 of section 4, R_X86_64_PC32, to symbol 1 _start of .text: its field shares a byte with that of a.o: \
+         .text+0x4 in _start: relocation 0 of section 4, R_X86_64_PC32, to symbol 1 _start of .text\n",
     ),
     (
         &[File::Object(
@@ -476,14 +521,14 @@ const RELOCATIONS: [Row; 12] = [
         )],
         "a.o",
         9,
-        "a.o: .text+0x1: relocation 0 of section 4, R_X86_64_8, to symbol 1 _start: the value 0x401000 does not fit the field \
+        "a.o: .text+0x1 in _start: relocation 0 of section 4, R_X86_64_8, to symbol 1 _start of .text: the value 0x401000 does not fit the field \
          at 0x401001, which takes -0x80 to 0xff\n",
     ),
     (
         &[File::Object("a.o", &[TEXT], &[START], &[Relocation(1, 0, 19, 1, 0)])],
         "a.o",
         9,
-        "a.o: .text+0x0: relocation 0 of section 4, R_X86_64_TLSGD, to symbol 1 _start: not a type of relocation that is \
+        "a.o: .text+0x0 in _start: relocation 0 of section 4, R_X86_64_TLSGD, to symbol 1 _start of .text: not a type of relocation that is \
          linked: -ftls-model=local-exec or -fno-pic avoids it\n",
     ),
     (

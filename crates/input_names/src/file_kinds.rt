@@ -72,7 +72,7 @@ pub fn file_kind(file: &[u8]) -> Option<&'static str> {
         return elf_kind(file);
     }
     if is_text(file) {
-        return Some("a text, perhaps a linker script");
+        return Some("a text, as a source or a linker script");
     }
     None
 }

@@ -13,8 +13,9 @@ use input_names::write_name;
 use ld_main::{Failure, RealFiles, Verdict, check, gather, prepare, read_file, refused};
 use loader_model::Memory;
 use std::alloc::{AllocError, Global};
+use std::fs::File;
 use std::io;
-use std::io::{ErrorKind, Write};
+use std::io::{ErrorKind, Read, Write};
 use std::rt::Files;
 
 /// How many places are printed, and how many are looked for where some are printed as one.
@@ -44,9 +45,13 @@ fn reasons(
     requires { Cause (files_of files.now) (words_of words.now) error.now }
 {
     let found = explain(alloc, files, words, error, PLACES)?;
-    let inputs = Inputs { files, words };
+    let inputs = Inputs {
+        alloc,
+        files,
+        words,
+    };
     let mut text = Vec::new(alloc);
-    write_places(alloc, &mut text, inputs, &found, MOST as u64)?;
+    write_places(&mut text, inputs, &found, MOST as u64)?;
     Ok(text)
 }
 
@@ -54,6 +59,29 @@ fn reasons(
 fn fail<W: Write>(out: &mut W, failure: &Failure<'_>) -> io::Result<u8> {
     failure.print(out)?;
     Ok(failure.status())
+}
+
+/// Why a file can't be read, as the system says it; None where it can be.
+fn reason<R: Files>(rt: &R, path: &str) -> Option<io::Error> {
+    let mut file = match File::open(rt, path) {
+        Ok(file) => file,
+        Err(error) => return Some(error),
+    };
+    let mut byte = [0];
+    file.read(&mut byte).err()
+}
+
+/// Prints the line of a failure, and below it the system's reason where a file can't be read; answers the failure's status.
+fn fail_reading<R: Files, W: Write>(rt: &R, out: &mut W, failure: &Failure<'_>) -> io::Result<u8> {
+    let status = fail(out, failure)?;
+    let Failure::CannotRead(path) = failure else {
+        return Ok(status);
+    };
+    if let Some(error) = reason(rt, path) {
+        write_name(out, path.as_bytes())?;
+        writeln!(out, ": {error}")?;
+    }
+    Ok(status)
 }
 
 /// Prints the line of a refusal, and below it why; of want of memory the line alone.
@@ -186,11 +214,11 @@ fn check_files<R: Files + AllocGlobal, W: Write>(
 ) -> io::Result<u8> {
     let image = match read_file(rt, plan.output) {
         Ok(image) => image,
-        Err(failure) => return fail(out, &failure),
+        Err(failure) => return fail_reading(rt, out, &failure),
     };
     let map = match read_file(rt, plan.map.unwrap_or("")) {
         Ok(map) => map,
-        Err(failure) => return fail(out, &failure),
+        Err(failure) => return fail_reading(rt, out, &failure),
     };
     judge(rt.alloc(), out, plan, files, words, &image, &map)
 }
@@ -204,7 +232,7 @@ fn run_plan<R: Files + AllocGlobal, W: Write>(
 ) -> io::Result<u8> {
     let files = match gather(rt.alloc(), plan, &mut RealFiles::new(rt, &[])) {
         Ok(files) => files,
-        Err(fault) => return fail(out, &Failure::from(fault)),
+        Err(fault) => return fail_reading(rt, out, &Failure::from(fault)),
     };
     if plan.check {
         return check_files(rt, out, plan, &files, words);
