@@ -15,6 +15,8 @@
     map-slots     the same with lines `slot`
     map-symbols   the same with lines `symbol`
     segments      an image with 65,533 PT_LOADs, each of one page with a section of zeros; single: half of them
+    flooded       10,000 symbols with slots, common symbols, signatures, output sections and names of an index, whose
+                  names hash alike where a hasher multiplies by the golden ratio alone, as many do
     group-names   a group of 2,000 archives, of which the first one's member asks for 80,000 names that none defines
 
 Three more grow faster than their bytes, for reasons that docs/BENCHMARKS.md gives. They run only where they are named,
@@ -236,6 +238,38 @@ def group_names(folder, count):
     return link_and_check(folder, [start(folder, ["first"]), "-("] + words + ["-)"])
 
 
+def flooding(kind, number):
+    """A name of sixteen bytes of which the last eight are the golden ratio as a number of 64 bits."""
+    return (f"{kind}{number:07x}".encode() + struct.pack("<Q", 0x9E3779B97F4A7C15)).decode(errors="surrogateescape")
+
+
+def flooded(folder, count):
+    made = elf.Object()
+    code = made.section(".text", elf.PROGBITS, CODE, bytes(4 * count))
+    data = made.section(".data", elf.PROGBITS, DATA, bytes(8))
+    for k in range(count):
+        made.symbol(flooding("s", k), data)
+    made.relocations(code, [(4 * k, elf.GOTPCREL, 1 + k, 0) for k in range(count)])
+    for k in range(count):
+        made.symbol(flooding("c", k), elf.COMMON, value=1, size=1)
+    grouped = elf.Object()
+    for k in range(count):
+        number = len(grouped.sections) + 1
+        grouped.section(".group", elf.GROUP, 0, struct.pack("<II", 1, number + 1), 4, 1 + k)
+        grouped.section(".text.f", elf.PROGBITS, CODE | elf.IN_GROUP, b"\xc3")
+        grouped.symbol(flooding("g", k), number + 1, elf.WEAK)
+    parts = elf.Object()
+    for k in range(count):
+        parts.section(flooding("o", k), elf.PROGBITS, DATA, b"\0")
+    idle = elf.Object()
+    idle.symbol("idle", idle.section(".text", elf.PROGBITS, CODE, b"\xc3"))
+    words = [folder / name for name in ("symbols.o", "groups.o", "parts.o", "libidle.a")]
+    for path, body in zip(words, (made.bytes(), grouped.bytes(), parts.bytes())):
+        path.write_bytes(body)
+    words[-1].write_bytes(elf.archive([([flooding("i", k) for k in range(count)], idle.bytes())]))
+    return link_and_check(folder, [start(folder)] + words)
+
+
 def products(folder, count):
     for k in range(count):
         (folder / f"libe{k:x}.a").write_bytes(b"!<arch>\n")
@@ -321,6 +355,7 @@ INPUTS = {
     "map-symbols": (map_of_symbols, 1_000_000),
     "segments": (many_segments, 32_600),
     "group-names": (group_names, 2_000),
+    "flooded": (flooded, 10_000),
 }
 
 NOT_LINEAR = {

@@ -159,7 +159,7 @@ class Strings:
 
     def add(self, name):
         place = len(self.data)
-        self.data += name.encode() + b"\0"
+        self.data += name.encode(errors="surrogateescape") + b"\0"
         return place
 
 
@@ -223,7 +223,7 @@ def member_header(name, size):
 
 def archive(members):
     """An archive of members, each the names that the index has for it and its object."""
-    names = b"".join(name.encode() + b"\0" for listed, _ in members for name in listed)
+    names = b"".join(name.encode(errors="surrogateescape") + b"\0" for listed, _ in members for name in listed)
     count = sum(len(listed) for listed, _ in members)
     size = 4 + 4 * count + len(names)
     at = 8 + 60 + size + size % 2
