@@ -3,8 +3,8 @@
 
     python3 bench/beside.py [--runs N] [--scale F] [--program LD] [--libraries FOLDER] [--json FILE] [INPUT..]
 
-The inputs are those of bench/run.py, and `cpp`: the archive of bench/llvm.py (Debian's llvm-14-dev), where its
-libraries are there. The rows of an input:
+The inputs are those of bench/run.py, `cpp`: the archive of bench/llvm.py (Debian's llvm-14-dev), and `musl`: the C program
+of examples/musl_static.sh, both where what they need is there. The rows of an input:
 
     ours            link with -s
     ours, map       link with -s and -Map=
@@ -31,6 +31,8 @@ from pathlib import Path
 
 import llvm
 import run
+
+MUSL = Path("/usr/lib/x86_64-linux-musl")
 
 
 def newest_lld():
@@ -93,8 +95,21 @@ def measure(folder, program, words, runs):
     return best
 
 
+def musl_program(folder):
+    """The C program on musl's start files and libc.a; None without musl-gcc."""
+    if not shutil.which("musl-gcc"):
+        return None
+    program = folder / "words.o"
+    flags = ["-O2", "-fPIC", "-fno-plt", "-ftls-model=initial-exec"]
+    source = run.ROOT / "examples" / "musl_static" / "words.c"
+    subprocess.run(["musl-gcc", *flags, "-c", "-o", str(program), str(source)], check=True)
+    return [MUSL / "crt1.o", MUSL / "crti.o", program, MUSL / "libc.a", MUSL / "crtn.o"]
+
+
 def made(name, folder, scale, libraries):
     """An input's words; None where it can't be made here."""
+    if name == "musl":
+        return musl_program(folder)
     if name != "cpp":
         make, count = run.INPUTS[name]
         return make(folder, int(count * scale))
@@ -123,7 +138,7 @@ def print_rows(name, best):
 
 
 def main():
-    inputs = ["cpp", *run.INPUTS]
+    inputs = ["cpp", "musl", *run.INPUTS]
     parser = argparse.ArgumentParser(description="Measures the linker beside the newest LLD and mold.")
     parser.add_argument("--runs", type=int, default=5, help="counted rounds (5)")
     parser.add_argument("--scale", type=float, default=1.0, help="the size of made inputs, as a part of the whole (1.0)")
@@ -146,7 +161,7 @@ def main():
             folder = Path(place)
             words = made(name, folder, options.scale, options.libraries)
             if words is None:
-                print(f"{name}: no libLLVM*.a in {options.libraries}", file=sys.stderr)
+                print(f"{name}: what it is made of isn't here", file=sys.stderr)
                 continue
             results[name] = measure(folder, options.program.resolve(), words, options.runs)
         print_rows(name, results[name])
