@@ -30,13 +30,20 @@ impl<'a> Model for Groups<'a> {
 }
 
 impl<'a> Groups<'a> {
-    /// No group yet; takes no memory.
+    /// No group yet; takes no memory. Signatures are hashed from a seed that is always the same.
     pub fn new(alloc: Global) -> Groups<'a>
+        ensures { result ≡ [] }
+    {
+        Groups::seeded(alloc, NameSeed::fixed())
+    }
+
+    /// No group yet, with the seed from which signatures are hashed; takes no memory.
+    pub fn seeded(alloc: Global, seed: NameSeed) -> Groups<'a>
         ensures { result ≡ [] }
     {
         Groups {
             alloc,
-            signatures: IndexSet::with_hasher(alloc, NameSeed::fixed()),
+            signatures: IndexSet::with_hasher(alloc, seed),
         }
     }
 

@@ -17,7 +17,7 @@ kind_view content.Value = kind.Value
 kind_view content.Thread = kind.Thread
 
 abbrev pub owner_view : Owner → TargetRow
-owner_view (owner.Name name) = OfName name.now
+owner_view (owner.Name name) = OfName name.0.now
 owner_view (owner.Local object symbol) = OfLocal object symbol
 
 abbrev pub slot_view : Slot → Request

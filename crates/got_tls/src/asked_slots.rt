@@ -10,7 +10,7 @@ ghost use Rattle.got_tls.specs.Views.{wants};
 
 use crate::requests::{Asker, slot_of};
 use crate::slot_table::Slot;
-use elf_model::{Rela, SectionHeader};
+use elf_model::{NameSeed, Rela, SectionHeader};
 use elf_read::RelaRun;
 use indexmap::IndexSet;
 use resolve::Resolved;
@@ -21,7 +21,7 @@ use std::alloc::{AllocError, Global};
 #[derive(Drop)]
 pub struct Asked<'a> {
     pub got: bool,
-    pub slots: IndexSet<Slot<'a>>,
+    pub slots: IndexSet<Slot<'a>, NameSeed>,
 }
 
 /// Takes in what an entry asks for, which relocates the section `target`.
@@ -118,9 +118,10 @@ fn add_object<'a>(
     add_relocations(asked, &asker)
 }
 
-/// What the kept relocations of objects ask for.
+/// What the kept relocations of objects ask for. Names are hashed from a seed.
 pub fn asked_by<'a>(
     alloc: Global,
+    seed: NameSeed,
     objects: &[LoadedObject<'a>],
     resolved: &Resolved<'a>,
 ) -> Result<Asked<'a>, AllocError>
@@ -131,7 +132,7 @@ pub fn asked_by<'a>(
 {
     let mut asked = Asked {
         got: false,
-        slots: IndexSet::new(alloc),
+        slots: IndexSet::with_hasher(alloc, seed),
     };
     for k in 0..objects.len() {
         add_object(&mut asked, resolved, k, &objects[k])?;

@@ -24,6 +24,6 @@ pub fn slots<'a>(
     ensures slots { IfOk result (λ s. s.slots ≡ wanted.slots loaded.now.objects) }
     ensures size { IfOk result (λ s. s.got ≡ wanted.got_size loaded.now.objects) }
 {
-    let asked = asked_by(alloc, loaded.objects(), resolved)?;
+    let asked = asked_by(alloc, loaded.name_seed(), loaded.objects(), resolved)?;
     Slots::new(asked)
 }

@@ -6,7 +6,7 @@ ghost use Rattle.got_tls.specs.Asking.{offset_of};
 ghost use Rattle.got_tls.specs.Views.{kind_view, owner_view, slot_view, slot_views};
 
 use crate::asked_slots::Asked;
-use elf_model::{ObjectId, SlotKind, SymbolRef, Target};
+use elf_model::{Name, NameSeed, ObjectId, SlotKind, SymbolRef, Target};
 use indexmap::IndexSet;
 use layout::GotSize;
 use std::alloc::AllocError;
@@ -22,7 +22,7 @@ enum Content {
 /// Whose it is: a name's, or a LOCAL symbol's, by its object's and its own number.
 #[derive(Clone, Copy, Debug, PartialEq, Eq, Hash)]
 enum Owner<'a> {
-    Name(&'a [u8]),
+    Name(Name<'a>),
     Local(u64, u64),
 }
 
@@ -46,7 +46,7 @@ fn owner_of<'a>(target: &Target<'a>) -> Owner<'a>
     ensures { owner_view result ≡ target_view target.now }
 {
     match target {
-        Target::Name(name) => Owner::Name(name),
+        Target::Name(name) => Owner::Name(Name(name)),
         Target::Local(symbol) => Owner::Local(symbol.object.0, symbol.symbol),
     }
 }
@@ -77,7 +77,7 @@ impl<'a> Slot<'a> {
         ensures { target_view result ≡ (slot_view self.entry).target }
     {
         match self.owner {
-            Owner::Name(name) => Target::Name(name),
+            Owner::Name(name) => Target::Name(name.0),
             Owner::Local(object, symbol) => Target::Local(SymbolRef {
                 object: ObjectId(object),
                 symbol,
@@ -91,7 +91,7 @@ impl<'a> Slot<'a> {
 #[derive(Debug, Drop)]
 pub struct Slots<'a> {
     got: u64,
-    slots: IndexSet<Slot<'a>>,
+    slots: IndexSet<Slot<'a>, NameSeed>,
 }
 
 impl<'a> Model for Slots<'a> {

@@ -12,7 +12,7 @@ use Rattle.layout.proofs.GroupSteps.{Compares}
 -- the comparison that is derived
 abbrev pub key_eq : OutputSection → OutputSection → Bool
 key_eq a b =
-    bytes_eq a.name.now b.name.now
+    bytes_eq a.name.0.now b.name.0.now
     && (beq a.writable b.writable
     && (beq a.executable b.executable && (beq a.thread_local b.thread_local && beq a.nobits b.nobits)))
 
@@ -30,11 +30,11 @@ key_eq-compares a b = (told, tells)
 
     told : key_eq a b ≡ true → output_view a ≡ output_view b
     told e =
-        let e1 = and_parts (bytes_eq a.name.now b.name.now) all e in
+        let e1 = and_parts (bytes_eq a.name.0.now b.name.0.now) all e in
         let e2 = and_parts (beq a.writable b.writable) rest e1.1 in
         let e3 = and_parts (beq a.executable b.executable) last e2.1 in
         let e4 = and_parts (beq a.thread_local b.thread_local) (beq a.nobits b.nobits) e3.1 in
-        let n = (bytes_eq-Decides a.name.now b.name.now).0 e1.0 in
+        let n = (bytes_eq-Decides a.name.0.now b.name.0.now).0 e1.0 in
         let w = (booleans_Decides a.writable b.writable).0 e2.0 in
         let x = (booleans_Decides a.executable b.executable).0 e3.0 in
         let t = (booleans_Decides a.thread_local b.thread_local).0 e4.0 in
@@ -43,7 +43,7 @@ key_eq-compares a b = (told, tells)
 
     tells : output_view a ≡ output_view b → key_eq a b ≡ true
     tells e =
-        and_from (bytes_eq a.name.now b.name.now) all ((bytes_eq-Decides a.name.now b.name.now).1 (ap (λ (o : Output). o.name) e))
+        and_from (bytes_eq a.name.0.now b.name.0.now) all ((bytes_eq-Decides a.name.0.now b.name.0.now).1 (ap (λ (o : Output). o.name) e))
         (and_from (beq a.writable b.writable) rest ((booleans_Decides a.writable b.writable).1 (ap (λ (o : Output). o.writable) e))
         (and_from (beq a.executable b.executable) last ((booleans_Decides a.executable b.executable).1 (ap (λ (o : Output). o.executable) e))
         (and_from (beq a.thread_local b.thread_local) (beq a.nobits b.nobits)

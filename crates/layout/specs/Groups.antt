@@ -32,7 +32,7 @@ output_of p = record {
 
 abbrev pub output_view : OutputSection → Output
 output_view o = record {
-  name = o.name.now;
+  name = o.name.0.now;
   writable = o.writable;
   executable = o.executable;
   thread_local = o.thread_local;

@@ -11,6 +11,7 @@ use crate::output_sections::{Part, add_part, groups_of, part_of};
 use crate::pieces::{Piece, Pieces};
 use crate::segments::any_nonempty;
 use crate::threads::{any_thread_piece, thread_align};
+use elf_model::NameSeed;
 use search::LoadedObject;
 use std::alloc::{AllocError, Global};
 
@@ -69,9 +70,10 @@ fn data_of<'b, 'a>(
     Ok(data)
 }
 
-/// All pieces of objects in own order.
+/// All pieces of objects in own order. Names of output sections are hashed from a seed.
 pub fn order_of<'b, 'a>(
     alloc: Global,
+    seed: NameSeed,
     objects: &'b [LoadedObject<'a>],
     pieces: &'b Pieces<'a>,
 ) -> Result<Order<'b, 'a>, AllocError>
@@ -79,7 +81,7 @@ pub fn order_of<'b, 'a>(
     ensures objects { IfOk result (λ o. objects_of o ≡ loaded_views objects.entry.now) }
     ensures order { IfOk result (λ o. IsOrder o) }
 {
-    let groups = groups_of(alloc, &pieces.kept)?;
+    let groups = groups_of(alloc, seed, &pieces.kept)?;
     let count = pieces.kept.len().saturating_add(pieces.blocks.len());
     Ok(Order {
         objects,

@@ -7,7 +7,7 @@ ghost use Rattle.layout.specs.Views.{borrowed_views, piece_view, piece_views};
 
 use crate::array_order::{any_numbered, sorted_by_rank};
 use crate::pieces::Piece;
-use elf_model::SectionHeader;
+use elf_model::{Name, NameSeed, SectionHeader};
 use indexmap::IndexSet;
 use resolve::output_name;
 use std::alloc::{AllocError, Global};
@@ -15,7 +15,7 @@ use std::alloc::{AllocError, Global};
 /// What the pieces of one output section have in common.
 #[derive(Clone, Copy, Debug, PartialEq, Eq, Hash)]
 pub struct OutputSection<'a> {
-    pub name: &'a [u8],
+    pub name: Name<'a>,
     pub writable: bool,
     pub executable: bool,
     pub thread_local: bool,
@@ -38,7 +38,7 @@ fn output_section_of<'a>(piece: &Piece<'a>) -> OutputSection<'a>
     ensures { output_view result ≡ output_of (piece_view piece.now) }
 {
     OutputSection {
-        name: output_name(piece.name),
+        name: Name(output_name(piece.name)),
         writable: piece.header.is_writable(),
         executable: piece.header.is_executable(),
         thread_local: piece.header.is_thread_local(),
@@ -67,7 +67,7 @@ fn is_of_part(part: Part, piece: &Piece<'_>) -> bool
 /// Puts a piece into the group of its output section, which is the last one where it is new.
 fn add_piece<'p, 'a>(
     alloc: Global,
-    outputs: &mut IndexSet<OutputSection<'a>>,
+    outputs: &mut IndexSet<OutputSection<'a>, NameSeed>,
     groups: &mut Vec<Vec<&'p Piece<'a>>>,
     piece: &'p Piece<'a>,
 ) -> Result<(), AllocError>
@@ -85,14 +85,15 @@ fn add_piece<'p, 'a>(
     Ok(())
 }
 
-/// Pieces by output section, in one pass: the output sections by first appearance.
+/// Pieces by output section, in one pass: the output sections by first appearance. Their names are hashed from a seed.
 pub fn groups_of<'p, 'a>(
     alloc: Global,
+    seed: NameSeed,
     pieces: &'p [Piece<'a>],
 ) -> Result<Vec<Vec<&'p Piece<'a>>>, AllocError>
     ensures { IfOk result (λ v. AreGathered v.items (piece_views pieces.entry.now)) }
 {
-    let mut outputs = IndexSet::new(alloc);
+    let mut outputs = IndexSet::with_hasher(alloc, seed);
     let mut groups = Vec::new(alloc);
     for piece in pieces {
         add_piece(alloc, &mut outputs, &mut groups, piece)?;

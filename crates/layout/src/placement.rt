@@ -32,7 +32,7 @@ use crate::pieces::{Piece, all_pieces, got_number};
 use crate::placed_pieces::{Layout, lay_out};
 use crate::runs::Place;
 use crate::threads::block_of;
-use elf_model::{Bound, ProgramHeader, SectionRef, TlsBlock};
+use elf_model::{Bound, NameSeed, ProgramHeader, SectionRef, TlsBlock};
 use resolve::{Block, Resolved};
 use search::{Loaded, LoadedObject};
 use std::alloc::Global;
@@ -77,6 +77,7 @@ impl<'a> Model for Placement<'a> {
 /// The own layout of objects, whose common blocks these are, with a GOT of this size in bytes.
 fn layout_of<'a>(
     alloc: Global,
+    seed: NameSeed,
     objects: &[LoadedObject<'a>],
     blocks: &[Block<'a>],
     got_size: u64,
@@ -92,13 +93,14 @@ fn layout_of<'a>(
     ensures fault { IfErr result (LayoutFails base (loaded_views objects.now)) }
 {
     let pieces = all_pieces(alloc, objects, blocks, got_size)?;
-    let order = order_of(alloc, objects, &pieces)?;
+    let order = order_of(alloc, seed, objects, &pieces)?;
     lay_out(alloc, &order, base)
 }
 
 /// The tables of the own layout of objects, whose common blocks these are, with a GOT of this size in bytes.
 fn tables_of<'a>(
     alloc: Global,
+    seed: NameSeed,
     objects: &[LoadedObject<'a>],
     blocks: &[Block<'a>],
     got_size: u64,
@@ -115,7 +117,7 @@ fn tables_of<'a>(
     ensures fits { OnOk result (IsNotTooLarge base (loaded_views objects.now)) }
     ensures fault { IfErr result (LayoutFails base (loaded_views objects.now)) }
 {
-    let layout = layout_of(alloc, objects, blocks, got_size, base)?;
+    let layout = layout_of(alloc, seed, objects, blocks, got_size, base)?;
     let addresses = address_table(alloc, objects, blocks.len(), &layout.places)?;
     let bounds = bounds_of(alloc, got_number(objects), &layout.places)?;
     Ok(Tables {
@@ -154,7 +156,9 @@ pub fn place<'a>(
     ensures fits { OnOk result (IsNotTooLarge base loaded.now.objects) }
     ensures fault { IfErr result (LayoutFails base loaded.now.objects) }
 {
-    let tables = tables_of(alloc, loaded.objects(), resolved.blocks(), got.0, base)?;
+    let objects = loaded.objects();
+    let seed = loaded.name_seed();
+    let tables = tables_of(alloc, seed, objects, resolved.blocks(), got.0, base)?;
     Ok(Placement {
         base,
         loaded: loaded.clone()?,

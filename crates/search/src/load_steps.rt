@@ -176,7 +176,7 @@ pub fn load_seeded<'a>(
     ensures fault { IfErr result (LoadFails (files_of files.entry.now) plan.now) }
 {
     let inputs = inputs_of(alloc, plan, files)?;
-    let mut loader = Loader::new(alloc, plan, NameSet::new(alloc, seed))?;
+    let mut loader = Loader::new(alloc, plan, seed, NameSet::new(alloc, seed))?;
     load_inputs(alloc, &mut loader, &inputs)?;
     let (objects, names) = loader.into_parts();
     let loaded = Loaded::new(alloc, plan, objects, names)?;
@@ -207,8 +207,9 @@ fn last_reached<'a>(
     plan: &Plan<'a>,
     files: &'a [InputFile],
 ) -> Result<Option<Reached<'a>>, SearchFault> {
+    let seed = NameSeed::fixed();
     let inputs = inputs_of(alloc, plan, files)?;
-    let mut loader = Loader::new(alloc, plan, NameSet::new(alloc, NameSeed::fixed()))?;
+    let mut loader = Loader::new(alloc, plan, seed, NameSet::new(alloc, seed))?;
     match load_inputs(alloc, &mut loader, &inputs) {
         Ok(()) => Ok(None),
         Err(SearchFault::Memory) => Err(SearchFault::Memory),

@@ -10,7 +10,7 @@ ghost use Rattle.search.specs.Views.{loaded_views};
 use crate::names::NameSet;
 use comdat::Dropped;
 use command::Plan;
-use elf_model::SymbolRef;
+use elf_model::{NameSeed, SymbolRef};
 use elf_read::ObjectFile;
 use std::alloc::{AllocError, Global};
 use std::marker::Model;
@@ -150,6 +150,11 @@ impl<'a> Loaded<'a> {
         ensures numbered { AreNumbered self.now.names result.now }
     {
         self.contents.objects.as_slice()
+    }
+
+    /// The seed from which names are hashed.
+    pub fn name_seed(&self) -> NameSeed {
+        self.contents.names.seed()
     }
 
     /// How many names have numbers.

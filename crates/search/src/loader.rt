@@ -22,7 +22,7 @@ use crate::taken_members::Taken;
 use byteview::View;
 use comdat::{Dropped, Groups};
 use command::Plan;
-use elf_model::Symbol;
+use elf_model::{NameSeed, Symbol};
 use elf_read::ObjectFile;
 use std::alloc::{AllocError, Global};
 
@@ -60,6 +60,8 @@ pub struct Reached<'a> {
 #[derive(Drop)]
 pub struct Loader<'p, 'a, N> {
     plan: &'p Plan<'a>,
+    /// From which names are hashed.
+    seed: NameSeed,
     /// The object that loading has come to last.
     reached: Option<Reached<'a>>,
     objects: Vec<LoadedObject<'a>>,
@@ -265,10 +267,11 @@ fn read_object<'a>(alloc: Global, bytes: &'a [u8]) -> Result<ObjectFile<'a>, Sea
 }
 
 impl<'p, 'a, N: NameNumbers<'a> + Drop> Loader<'p, 'a, N> {
-    /// Nothing of a plan is loaded, and no name has a number.
+    /// Nothing of a plan is loaded, and no name has a number. Names are hashed from a seed.
     pub fn new(
         alloc: Global,
         plan: &'p Plan<'a>,
+        seed: NameSeed,
         numbers: N,
     ) -> Result<Loader<'p, 'a, N>, AllocError>
         requires { N.names numbers ≡ [] }
@@ -284,9 +287,10 @@ impl<'p, 'a, N: NameNumbers<'a> + Drop> Loader<'p, 'a, N> {
         names.add_roots(plan.entry, &plan.undefined)?;
         Ok(Loader {
             plan,
+            seed,
             reached: None,
             objects: Vec::new(alloc),
-            groups: Groups::new(alloc),
+            groups: Groups::seeded(alloc, seed),
             names,
             taken: Taken::new(alloc),
         })
@@ -305,6 +309,11 @@ impl<'p, 'a, N: NameNumbers<'a> + Drop> Loader<'p, 'a, N> {
 }
 
 impl<'p, 'a, N: NameNumbers<'a>> Loader<'p, 'a, N> {
+    /// The seed from which names are hashed.
+    pub fn seed(&self) -> NameSeed {
+        self.seed
+    }
+
     /// Loads an object of an item, from the offset of its member's header.
     pub fn add(
         &mut self,

@@ -68,15 +68,16 @@ fn add_archive<'a>(
     add_entries(alloc, names, archive, entries)
 }
 
-/// The places of all names in the indexes of archives that are searched.
+/// The places of all names in the indexes of archives that are searched, hashed from a seed.
 pub fn places_of<'a>(
     alloc: Global,
+    seed: NameSeed,
     inputs: &[Input<'a>],
 ) -> Result<IndexMap<Name<'a>, Vec<(usize, usize)>, NameSeed>, AllocError>
     requires { All (λ i. i.archive ≡ true) inputs.now }
     ensures { IfOk result (λ m. ArePlaced m.entries inputs.now) }
 {
-    let mut names = IndexMap::with_hasher(alloc, NameSeed::fixed());
+    let mut names = IndexMap::with_hasher(alloc, seed);
     for (i, input) in inputs.iter().enumerate() {
         add_archive(alloc, &mut names, i, input)?;
     }

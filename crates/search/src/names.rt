@@ -52,6 +52,11 @@ impl<'a> NameSet<'a> {
         }
     }
 
+    /// The seed from which the names are hashed.
+    pub fn seed(&self) -> NameSeed {
+        *self.names.hasher()
+    }
+
     /// How many names have numbers.
     pub fn len(&self) -> usize
         ensures { result ≡ length self.now }

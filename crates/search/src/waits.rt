@@ -154,7 +154,7 @@ impl<'a> Waits<'a> {
         ensures { IfOk result (Covers loader.now inputs.now) }
     {
         Ok(Waits {
-            places: places_of(alloc, inputs)?,
+            places: places_of(alloc, loader.seed(), inputs)?,
             waiting: waiting_now(alloc, loader, inputs)?,
             seen: loader.request_count(),
         })

@@ -26,11 +26,11 @@ add_roots-requires g c = λ k. (
 
 pub returns-clause-known : goal.returns-clause-known
 returns-clause-known g c =
-    knows_none g.N.NameNumbers.names _ (ap (λ (ls : List code.LoadedObject). loaded_views ls) c.new-3.ensures.items) c.new-4.ensures
+    knows_none g.N.NameNumbers.names _ (ap (λ (ls : List code.LoadedObject). loaded_views ls) c.new-3.ensures.items) c.seeded.ensures
     (λ n.
     c.in_ok-add_roots.ensures.requested n
     ∙ (ap (λ (us : List (Bor (List ℕ))). bytes_eq c.plan.inside.entry.now n || list_any (λ root. bytes_eq root n) (map (λ t. t.now) us)) c.deref.ensures.value
     ∙ ap (λ (p : Plan). list_any (λ root. bytes_eq root n) (p.entry ∷ p.undefined)) c.plan.view_is))
     c.in_ok-add_roots.ensures.noted
     (λ n. c.in_ok-add_roots.ensures.defined n ∙ undefined_none (g.N.NameNumbers.names c.args.numbers) c.new-2.result.items n c.new-2.ensures.items)
-    c.new-3.ensures.items c.new-5.ensures
+    c.new-3.ensures.items c.new-4.ensures
