@@ -155,8 +155,7 @@ fn glyph(digit: u8) -> u8
 pub fn put_pair(out: &mut Vec<u8>, n: u8) -> Result<(), AllocError>
     ensures { OnOk result (out.new.items ≡ out.old.items ++ pair n) }
 {
-    out.push(glyph(n / 16))?;
-    out.push(glyph(n % 16))?;
+    out.extend_from_slice(&[glyph(n / 16), glyph(n % 16)])?;
     Ok(())
 }
 

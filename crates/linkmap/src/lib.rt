@@ -5,12 +5,14 @@
 mod digits;
 mod fields;
 mod keys;
+mod line;
 mod names;
 mod printer;
 mod reader;
 
 pub use elf_model::{LinkMap, MapFault};
 pub use keys::ordered;
+pub use line::Line;
 pub use names::escape;
-pub use printer::print;
+pub use printer::{print, put_line};
 pub use reader::read;

@@ -3,12 +3,14 @@ ghost use Rattle.std.specs.Prelude.{◌≡◌, ◌<◌, ◌^◌, ◌++◌, IfOk,
 ghost use Rattle.std.specs.List.{flat_map};
 ghost use Rattle.elf_model.specs.MapRecord.{map_of, object_row, place_row, common_row, slot_row, target_row, symbol_row};
 ghost use Rattle.elf_model.specs.MapText as map_text;
+ghost use Rattle.linkmap.specs.Lines.{line_view, target_row_of};
 
 use crate::digits::{put_address, put_last_number, put_number};
+use crate::line::Line;
 use crate::names::put_name;
 use elf_model::{
-    CommonLine, Definition, DropLine, GotLine, LinkMap, ObjectLine, PlaceLine, SlotKind, SlotLine,
-    SlotTarget, SymbolLine, SymtabLine,
+    CommonLine, Definition, DropLine, GotLine, LinkMap, ObjectId, ObjectLine, PlaceLine, SlotKind,
+    SlotLine, SlotTarget, SymbolLine, SymbolRef, SymtabLine, Target,
 };
 use std::alloc::{AllocError, Global};
 
@@ -22,16 +24,29 @@ fn put_version(out: &mut Vec<u8>, version: u64) -> Result<(), AllocError>
 }
 
 #[tactic(auto, unfolding(elf_model::specs::MapText::object_text))]
+fn put_object_of(
+    out: &mut Vec<u8>,
+    object: u64,
+    item: u64,
+    offset: u64,
+    path: &[u8],
+) -> Result<(), AllocError>
+    ensures text { OnOk result (out.new.items ≡ out.old.items ++ map_text.object_text (record { object = object; item = item; offset = offset; path = path.now })) }
+    ensures fits { OnOk result (map_text.FitsObject (record { object = object; item = item; offset = offset; path = path.now })) }
+{
+    out.extend_from_slice(b"object ")?;
+    put_number(out, object)?;
+    put_number(out, item)?;
+    put_number(out, offset)?;
+    put_name(out, path)?;
+    Ok(())
+}
+
 fn put_object(out: &mut Vec<u8>, o: &ObjectLine) -> Result<(), AllocError>
     ensures text { OnOk result (out.new.items ≡ out.old.items ++ map_text.object_text (object_row o.now)) }
     ensures fits { OnOk result (map_text.FitsObject (object_row o.now)) }
 {
-    out.extend_from_slice(b"object ")?;
-    put_number(out, o.object)?;
-    put_number(out, o.item)?;
-    put_number(out, o.offset)?;
-    put_name(out, &o.path)?;
-    Ok(())
+    put_object_of(out, o.object, o.item, o.offset, &o.path)
 }
 
 #[tactic(auto, unfolding(elf_model::specs::MapText::drop_text))]
@@ -46,30 +61,57 @@ fn put_drop(out: &mut Vec<u8>, d: &DropLine) -> Result<(), AllocError>
 }
 
 #[tactic(auto, unfolding(elf_model::specs::MapText::place_text))]
+fn put_place_of(
+    out: &mut Vec<u8>,
+    address: u64,
+    size: u64,
+    object: u64,
+    section: u64,
+    name: &[u8],
+) -> Result<(), AllocError>
+    ensures text { OnOk result (out.new.items ≡ out.old.items ++ map_text.place_text (record { address = address; size = size; object = object; section = section; name = name.now })) }
+    ensures fits { OnOk result (map_text.FitsPlace (record { address = address; size = size; object = object; section = section; name = name.now })) }
+{
+    out.extend_from_slice(b"place ")?;
+    put_address(out, address)?;
+    put_number(out, size)?;
+    put_number(out, object)?;
+    put_number(out, section)?;
+    put_name(out, name)?;
+    Ok(())
+}
+
 fn put_place(out: &mut Vec<u8>, p: &PlaceLine) -> Result<(), AllocError>
     ensures text { OnOk result (out.new.items ≡ out.old.items ++ map_text.place_text (place_row p.now)) }
     ensures fits { OnOk result (map_text.FitsPlace (place_row p.now)) }
 {
-    out.extend_from_slice(b"place ")?;
-    put_address(out, p.address)?;
-    put_number(out, p.size)?;
-    put_number(out, p.object)?;
-    put_number(out, p.section)?;
-    put_name(out, &p.name)?;
-    Ok(())
+    put_place_of(out, p.address, p.size, p.object, p.section, &p.name)
 }
 
 #[tactic(auto, unfolding(elf_model::specs::MapText::common_text))]
+fn put_common_of(
+    out: &mut Vec<u8>,
+    address: u64,
+    size: u64,
+    align: u64,
+    name: &[u8],
+) -> Result<(), AllocError>
+    ensures text { OnOk result (out.new.items ≡ out.old.items ++ map_text.common_text (record { address = address; size = size; align = align; name = name.now })) }
+    ensures fits { OnOk result (map_text.FitsCommon (record { address = address; size = size; align = align; name = name.now })) }
+{
+    out.extend_from_slice(b"common ")?;
+    put_address(out, address)?;
+    put_number(out, size)?;
+    put_number(out, align)?;
+    put_name(out, name)?;
+    Ok(())
+}
+
 fn put_common(out: &mut Vec<u8>, c: &CommonLine) -> Result<(), AllocError>
     ensures text { OnOk result (out.new.items ≡ out.old.items ++ map_text.common_text (common_row c.now)) }
     ensures fits { OnOk result (map_text.FitsCommon (common_row c.now)) }
 {
-    out.extend_from_slice(b"common ")?;
-    put_address(out, c.address)?;
-    put_number(out, c.size)?;
-    put_number(out, c.align)?;
-    put_name(out, &c.name)?;
-    Ok(())
+    put_common_of(out, c.address, c.size, c.align, &c.name)
 }
 
 #[tactic(auto, unfolding(elf_model::specs::MapText::got_text))]
@@ -93,35 +135,60 @@ fn put_kind(out: &mut Vec<u8>, kind: SlotKind) -> Result<(), AllocError>
     Ok(())
 }
 
-fn put_target(out: &mut Vec<u8>, target: &SlotTarget) -> Result<(), AllocError>
-    ensures text { OnOk result (out.new.items ≡ out.old.items ++ map_text.target_text (target_row target.now)) }
-    ensures fits { OnOk result (map_text.FitsTarget (target_row target.now)) }
+fn put_target(out: &mut Vec<u8>, target: &Target<'_>) -> Result<(), AllocError>
+    ensures text { OnOk result (out.new.items ≡ out.old.items ++ map_text.target_text (target_row_of target.now)) }
+    ensures fits { OnOk result (map_text.FitsTarget (target_row_of target.now)) }
 {
     match target {
-        SlotTarget::Name(name) => {
+        Target::Name(name) => {
             out.extend_from_slice(b"name ")?;
             put_name(out, name)?;
             Ok(())
         }
-        SlotTarget::Local { object, symbol } => {
+        Target::Local(symbol) => {
             out.extend_from_slice(b"local ")?;
-            put_number(out, *object)?;
-            put_last_number(out, *symbol)?;
+            put_number(out, symbol.object.0)?;
+            put_last_number(out, symbol.symbol)?;
             Ok(())
         }
     }
 }
 
+/// What a slot stands for, with its name borrowed.
+fn borrowed_target(target: &SlotTarget) -> Target<'_>
+    ensures { target_row_of result ≡ target_row target.now }
+{
+    match target {
+        SlotTarget::Name(name) => Target::Name(name),
+        SlotTarget::Local { object, symbol } => Target::Local(SymbolRef {
+            object: ObjectId(*object),
+            symbol: *symbol,
+        }),
+    }
+}
+
 #[tactic(auto, unfolding(elf_model::specs::MapText::slot_text))]
+fn put_slot_of(
+    out: &mut Vec<u8>,
+    address: u64,
+    kind: SlotKind,
+    target: &Target<'_>,
+) -> Result<(), AllocError>
+    ensures text { OnOk result (out.new.items ≡ out.old.items ++ map_text.slot_text (record { address = address; kind = kind; target = target_row_of target.now })) }
+    ensures fits { OnOk result (map_text.FitsSlot (record { address = address; kind = kind; target = target_row_of target.now })) }
+{
+    out.extend_from_slice(b"slot ")?;
+    put_address(out, address)?;
+    put_kind(out, kind)?;
+    put_target(out, target)?;
+    Ok(())
+}
+
 fn put_slot(out: &mut Vec<u8>, s: &SlotLine) -> Result<(), AllocError>
     ensures text { OnOk result (out.new.items ≡ out.old.items ++ map_text.slot_text (slot_row s.now)) }
     ensures fits { OnOk result (map_text.FitsSlot (slot_row s.now)) }
 {
-    out.extend_from_slice(b"slot ")?;
-    put_address(out, s.address)?;
-    put_kind(out, s.kind)?;
-    put_target(out, &s.target)?;
-    Ok(())
+    put_slot_of(out, s.address, s.kind, &borrowed_target(&s.target))
 }
 
 /// Puts a word, and an object with the number of a symbol of it.
@@ -148,15 +215,27 @@ fn put_definition(out: &mut Vec<u8>, definition: Definition) -> Result<(), Alloc
 }
 
 #[tactic(auto, unfolding(elf_model::specs::MapText::symbol_text))]
+fn put_symbol_of(
+    out: &mut Vec<u8>,
+    address: u64,
+    definition: Definition,
+    name: &[u8],
+) -> Result<(), AllocError>
+    ensures text { OnOk result (out.new.items ≡ out.old.items ++ map_text.symbol_text (record { address = address; definition = definition; name = name.now })) }
+    ensures fits { OnOk result (map_text.FitsSymbol (record { address = address; definition = definition; name = name.now })) }
+{
+    out.extend_from_slice(b"symbol ")?;
+    put_address(out, address)?;
+    put_definition(out, definition)?;
+    put_name(out, name)?;
+    Ok(())
+}
+
 fn put_symbol(out: &mut Vec<u8>, s: &SymbolLine) -> Result<(), AllocError>
     ensures text { OnOk result (out.new.items ≡ out.old.items ++ map_text.symbol_text (symbol_row s.now)) }
     ensures fits { OnOk result (map_text.FitsSymbol (symbol_row s.now)) }
 {
-    out.extend_from_slice(b"symbol ")?;
-    put_address(out, s.address)?;
-    put_definition(out, s.definition)?;
-    put_name(out, &s.name)?;
-    Ok(())
+    put_symbol_of(out, s.address, s.definition, &s.name)
 }
 
 #[tactic(auto, unfolding(elf_model::specs::MapText::symtab_text))]
@@ -255,6 +334,48 @@ fn put_symtabs(out: &mut Vec<u8>, symtab: Option<SymtabLine>) -> Result<(), Allo
         put_symtab(out, t)?;
     }
     Ok(())
+}
+
+/// Appends the text of a line.
+pub fn put_line(out: &mut Vec<u8>, line: &Line<'_>) -> Result<(), AllocError>
+    ensures { OnOk result (out.new.items ≡ out.old.items ++ map_text.line_text (line_view line.now)) }
+{
+    match *line {
+        Line::Version(version) => put_version(out, version),
+        Line::Object {
+            object,
+            item,
+            offset,
+            path,
+        } => put_object_of(out, object, item, offset, path),
+        Line::Drop(drop) => put_drop(out, &drop),
+        Line::Place {
+            address,
+            size,
+            object,
+            section,
+            name,
+        } => put_place_of(out, address, size, object, section, name),
+        Line::Common {
+            address,
+            size,
+            align,
+            name,
+        } => put_common_of(out, address, size, align, name),
+        Line::Got(got) => put_got(out, &got),
+        Line::Slot {
+            address,
+            kind,
+            target,
+        } => put_slot_of(out, address, kind, &target),
+        Line::Symbol {
+            address,
+            definition,
+            name,
+        } => put_symbol_of(out, address, definition, name),
+        Line::Symtab(table) => put_symtab(out, table),
+        Line::End => out.extend_from_slice(b"end\n"),
+    }
 }
 
 /// The text of a map whose version and keys are in order.

@@ -1,7 +1,10 @@
 //! Texts of link maps.
 use byteview::View;
-use elf_model::{Definition, DropLine, GotLine, ObjectLine, PlaceLine, SymbolLine, SymtabLine};
-use linkmap::{LinkMap, MapFault, escape, ordered, print, read};
+use elf_model::{
+    Definition, DropLine, GotLine, ObjectId, ObjectLine, PlaceLine, SlotKind, SymbolLine,
+    SymbolRef, SymtabLine, Target,
+};
+use linkmap::{Line, LinkMap, MapFault, escape, ordered, print, put_line, read};
 use std::alloc::{AllocError, Global};
 use std::process::Abort;
 use std::test::Fail;
@@ -305,6 +308,116 @@ fn reads_fields(rt: HostRuntime) -> Result<(), Fail> {
         map.symbols.len(),
     ];
     assert_eq!(rt; counts, [2, 1, 2, 4]);
+    Ok(())
+}
+
+/// The lines of the text with each kind of line, and that of a symbol table before the last.
+const LINES: [Line<'static>; 17] = [
+    Line::Version(1),
+    Line::Object {
+        object: 0,
+        item: 0,
+        offset: 0,
+        path: b"a.o",
+    },
+    Line::Object {
+        object: 1,
+        item: 2,
+        offset: 78,
+        path: b"lib dir/b.a",
+    },
+    Line::Drop(DropLine {
+        object: 1,
+        section: 3,
+    }),
+    Line::Drop(DropLine {
+        object: 1,
+        section: 10,
+    }),
+    Line::Place {
+        address: 0x40_1000,
+        size: 9,
+        object: 0,
+        section: 1,
+        name: b".text",
+    },
+    Line::Place {
+        address: 0x40_1010,
+        size: u64::MAX,
+        object: 1,
+        section: 2,
+        name: b"",
+    },
+    Line::Common {
+        address: 0x40_3000,
+        size: 24,
+        align: 16,
+        name: b"\\\xff",
+    },
+    Line::Got(GotLine {
+        address: 0x40_2000,
+        size: 16,
+    }),
+    Line::Slot {
+        address: 0x40_2000,
+        kind: SlotKind::Value,
+        target: Target::Name(b"f"),
+    },
+    Line::Slot {
+        address: 0x40_2008,
+        kind: SlotKind::Thread,
+        target: Target::Local(SymbolRef {
+            object: ObjectId(1),
+            symbol: 5,
+        }),
+    },
+    Line::Symbol {
+        address: 0x40_3000,
+        definition: Definition::Common,
+        name: b"\\\xff",
+    },
+    Line::Symbol {
+        address: u64::MAX,
+        definition: Definition::Linker,
+        name: b"_end",
+    },
+    Line::Symbol {
+        address: 0x40_1000,
+        definition: Definition::Strong {
+            object: 0,
+            symbol: 1,
+        },
+        name: b"_start",
+    },
+    Line::Symbol {
+        address: 0xabcd_ef09,
+        definition: Definition::Weak {
+            object: 1,
+            symbol: 4,
+        },
+        name: b"f",
+    },
+    Line::Symtab(SymtabLine {
+        offset: 4112,
+        count: 2,
+    }),
+    Line::End,
+];
+
+/// The line of a symbol table, which the text with each kind of line doesn't have.
+const TABLE_LINE: &[u8] = b"symtab 4112 2\n";
+
+#[test]
+fn lines_are_put_one_by_one(rt: HostRuntime) -> Result<(), Fail> {
+    let mut wanted = Vec::from_slice(rt.alloc(), EACH_KIND)?;
+    wanted.truncate(EACH_KIND.len() - b"end\n".len());
+    wanted.extend_from_slice(TABLE_LINE)?;
+    wanted.extend_from_slice(b"end\n")?;
+    let mut text = Vec::new(rt.alloc());
+    for line in &LINES {
+        put_line(&mut text, line)?;
+    }
+    assert!(rt; text.as_slice() == wanted.as_slice());
     Ok(())
 }
 
