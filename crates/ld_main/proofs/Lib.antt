@@ -5,6 +5,8 @@ pub mod OwnMaps
 pub mod Tabled
 pub mod Links
 pub mod Listings
+pub mod NameKeyLaws
+pub mod InOrderLaws
 pub mod PlaceLines
 pub mod Spellings
 pub mod FinalRefusals

@@ -1,5 +1,7 @@
 pub mod FinalRefusals
+pub mod InOrder
 pub mod Linkages
+pub mod NameKeys
 pub mod NewFiles
 pub mod Outputs
 pub mod Program

@@ -7,6 +7,7 @@ mod file_id;
 mod file_sink;
 mod file_source;
 mod listed_definitions;
+mod name_order;
 mod new_file;
 mod output;
 mod own_map;

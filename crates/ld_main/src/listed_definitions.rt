@@ -1,59 +1,98 @@
 //! The definitions that have a line in the map, in the order of their names: what the chosen symbols mean, and those
 //! of the linker's names that relocations use.
-ghost use Rattle.std.specs.Prelude.{◌≡◌, ◌++◌, IfOk, IsPermutation, OnOk};
-ghost use Rattle.std.specs.Cmp.Lexicographic.{slice_cmp};
-ghost use Rattle.std.specs.List.Sorted.{IsSortedByKey};
-ghost use Rattle.std.specs.Ordering.{nat_cmp};
+ghost use Rattle.std.specs.Prelude.{◌≡◌, [], ◌++◌, IfOk, OnOk, slice_index_or};
 ghost use Rattle.elf_model.specs.Listing.{AreLinkerLines};
-ghost use Rattle.elf_model.specs.Meaning.{meanings_of};
-ghost use Rattle.resolve.specs.Views.{held_name, meaning_views, symbol_views};
+ghost use Rattle.elf_model.specs.Meaning.{Linker};
+ghost use Rattle.elf_model.specs.declared.bound.Bound.TheVariants.{ImageStart};
+ghost use Rattle.elf_model.specs.Resolution.{AreSoundSymbols};
+ghost use Rattle.resolve.specs.Views.{meaning_view, meaning_views, symbol_view};
 ghost use Rattle.relocate.specs.Uses.{line_views};
 ghost use Rattle.image_write.specs.Listings.{IsListing};
+ghost use Rattle.ld_main.specs.InOrder.{AreInOrder, meaning_at, meanings_at, meanings_in, own_meaning};
 
+use crate::name_order::{Keyed, Names, order};
 use elf_model::Bound;
 use resolve::{Definition, Resolved, SymbolOf};
 use std::alloc::{AllocError, Global};
 
-/// Adds what symbols mean: a common one, its name's block; another one, itself.
-fn add_symbols<'a>(
-    listed: &mut Vec<Definition<'a>>,
-    resolved: &Resolved<'a>,
-    symbols: &[SymbolOf<'a>],
-) -> Result<(), AllocError>
-    ensures { OnOk result (meaning_views listed.new.items ≡ meaning_views listed.old.items ++ meanings_of resolved.now (symbol_views symbols.now)) }
+/// What a chosen symbol means: a common one, its name's block; another one, itself.
+fn meant<'a>(resolved: &Resolved<'a>, symbol: &SymbolOf<'a>) -> Definition<'a>
+    ensures { meaning_view result ≡ own_meaning resolved.now (symbol_view symbol.now) }
 {
-    for symbol in symbols {
-        if let Some(meaning) = resolved.meant(symbol) {
-            listed.push(meaning)?;
-        }
+    match resolved.meant(symbol) {
+        Some(meaning) => meaning,
+        None => Definition::Symbol(*symbol),
     }
-    Ok(())
 }
 
-fn add_linkers<'a>(
-    listed: &mut Vec<Definition<'a>>,
-    linkers: &[(&'a [u8], Bound)],
-) -> Result<(), AllocError>
-    ensures { OnOk result (meaning_views listed.new.items ≡ meaning_views listed.old.items ++ line_views linkers.now) }
+/// The definition of a name of the linker's by its number; an empty name behind the last.
+fn linker_at<'a>(linkers: &[(&'a [u8], Bound)], i: usize) -> Definition<'a>
+    ensures { meaning_view result ≡ slice_index_or (line_views linkers.now) i (Linker [] ImageStart) }
 {
-    for (name, bound) in linkers {
-        listed.push(Definition::Linker(name, *bound))?;
+    match linkers.get(i) {
+        Some((name, bound)) => Definition::Linker(name, *bound),
+        None => Definition::Linker(&[], Bound::ImageStart),
     }
-    Ok(())
 }
 
-/// The same definitions in the order of their names.
-fn by_name<'a>(listed: Vec<Definition<'a>>) -> Vec<Definition<'a>>
-    ensures same { IsPermutation (meaning_views listed.entry.items) (meaning_views result.items) }
-    ensures rising { IsSortedByKey (λ m. (held_name m).now) (slice_cmp nat_cmp) result.items }
+/// What has its name at a place.
+fn definition_at<'a>(resolved: &Resolved<'a>, names: Names<'_, 'a>, place: usize) -> Definition<'a>
+    ensures { meaning_view result ≡ meaning_at resolved.now names.entry.symbols.now (line_views names.entry.linkers.now) place }
 {
-    let mut sorted = listed;
-    sorted.sort_unstable_by_key(|m| m.name());
-    sorted
+    let count = names.symbols.len();
+    if place < count {
+        return meant(resolved, &names.symbols[place]);
+    }
+    linker_at(names.linkers, place - count)
+}
+
+/// The definitions that have a line, found by the places of their names in order.
+#[derive(Drop)]
+pub struct InOrder<'c, 'a> {
+    resolved: &'c Resolved<'a>,
+    names: Names<'c, 'a>,
+    keys: Vec<Keyed>,
 }
 
 /// The definitions of resolved objects that have a line, in the order of their names, given the lines of the linker's
 /// names.
+pub fn in_order<'c, 'a>(
+    alloc: Global,
+    resolved: &'c Resolved<'a>,
+    linkers: &'c [(&'a [u8], Bound)],
+) -> Result<InOrder<'c, 'a>, AllocError>
+    requires { AreLinkerLines resolved.now (line_views linkers.now) }
+    ensures order { IfOk result (λ o. AreInOrder resolved.now (meanings_in o)) }
+    ensures sound { OnOk result (AreSoundSymbols resolved.now) }
+{
+    let names = Names {
+        symbols: resolved.definitions(),
+        linkers,
+    };
+    let keys = order(alloc, names)?;
+    Ok(InOrder {
+        resolved,
+        names,
+        keys,
+    })
+}
+
+/// Adds the definitions that have their names at places.
+pub fn add_definitions<'a>(
+    listed: &mut Vec<Definition<'a>>,
+    resolved: &Resolved<'a>,
+    names: Names<'_, 'a>,
+    keys: &[Keyed],
+) -> Result<(), AllocError>
+    ensures { OnOk result (meaning_views listed.new.items ≡ meaning_views listed.old.items ++ meanings_at resolved.now names.entry.symbols.now (line_views names.entry.linkers.now) keys.now) }
+{
+    for key in keys {
+        listed.push(definition_at(resolved, names, key.place))?;
+    }
+    Ok(())
+}
+
+/// The same as a list.
 pub fn listed<'a>(
     alloc: Global,
     resolved: &Resolved<'a>,
@@ -62,9 +101,8 @@ pub fn listed<'a>(
     requires { AreLinkerLines resolved.now (line_views linkers.now) }
     ensures { IfOk result (λ v. IsListing resolved.now v.items) }
 {
-    let symbols = resolved.definitions();
-    let mut listed = Vec::with_capacity(alloc, symbols.len())?;
-    add_symbols(&mut listed, resolved, symbols)?;
-    add_linkers(&mut listed, linkers)?;
-    Ok(by_name(listed))
+    let order = in_order(alloc, resolved, linkers)?;
+    let mut listed = Vec::with_capacity(alloc, order.keys.len())?;
+    add_definitions(&mut listed, order.resolved, order.names, &order.keys)?;
+    Ok(listed)
 }

@@ -1,0 +1,39 @@
+-- The definitions that have a line, in the order of their names: found by the places of the names.
+use Rattle.std.specs.Prelude.{ℕ, List, [], ◌++◌, map, slice_index_or, unwrap_or}
+use Rattle.std.specs.Cmp.Lexicographic.{slice_cmp}
+use Rattle.std.specs.List.Sorted.{IsSortedByKey}
+use Rattle.std.specs.Ordering.{nat_cmp}
+use Rattle.elf_model.specs.Listing.{AreListed}
+use Rattle.elf_model.specs.Loading.{LoadedObject}
+use Rattle.elf_model.specs.Meaning.{Linker, Meaning, Symbol, meaning_name, meant}
+use Rattle.elf_model.specs.Resolution.{SymbolOf}
+use Rattle.elf_model.specs.declared.bound.Bound.TheVariants.{ImageStart}
+use Rattle.resolve.specs.Views.{symbol_views}
+use Rattle.resolve.specs.declared.entries.SymbolOf as code
+use Rattle.relocate.specs.Uses.{line_views}
+use Rattle.ld_main.specs.declared.listed_definitions.InOrder.{InOrder}
+use Rattle.ld_main.specs.declared.name_order.Keyed.{Keyed}
+
+-- what a chosen symbol means: it always means something
+abbrev pub own_meaning : List LoadedObject → SymbolOf → Meaning
+own_meaning objects s = unwrap_or (meant objects s) (Symbol s)
+
+-- what symbols mean, and behind that the lines of the linker's names
+abbrev pub all_meanings : List LoadedObject → List code.SymbolOf → List Meaning → List Meaning
+all_meanings objects symbols lines = map (own_meaning objects) (symbol_views symbols) ++ lines
+
+-- what has its name at a place; the name behind the last is empty
+abbrev pub meaning_at : List LoadedObject → List code.SymbolOf → List Meaning → ℕ → Meaning
+meaning_at objects symbols lines place = slice_index_or (all_meanings objects symbols lines) place (Linker [] ImageStart)
+
+abbrev pub meanings_at : List LoadedObject → List code.SymbolOf → List Meaning → List Keyed → List Meaning
+meanings_at objects symbols lines ks = map (λ k. meaning_at objects symbols lines k.place) ks
+
+-- all that have a line, in the order of their names
+pub record AreInOrder (objects : List LoadedObject) (ms : List Meaning) : Type 0 where
+  pub listed : AreListed objects ms
+  pub rising : IsSortedByKey meaning_name (slice_cmp nat_cmp) ms
+
+-- those of what is found in order
+abbrev pub meanings_in : InOrder → List Meaning
+meanings_in o = meanings_at o.resolved.now o.names.symbols.now (line_views o.names.linkers.now) o.keys.items
