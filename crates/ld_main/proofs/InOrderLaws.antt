@@ -106,7 +106,7 @@ sorted_seen {X} {Y} view name xs up k d low within =
     (up k (view d) low (omega (arith, within, n))))
 
 -- the other way round
-seen_sorted :
+pub seen_sorted :
     {X Y : Type 0} (view : X → Y) (name : Y → List ℕ) (xs : List X) → IsSortedByKey (λ x. name (view x)) (slice_cmp nat_cmp) xs →
     IsSortedByKey name (slice_cmp nat_cmp) (map view xs)
 seen_sorted {X} {Y} view name [] up k e low within = absurd (omega (arith, within))
@@ -193,3 +193,7 @@ is_listing objects ms sound is = record {
   no_twins = no_twins objects ms is.listed;
   sound = sound;
 }
+
+pub from_listing :
+    (objects : List LoadedObject) (ms : List definitions.Definition) → IsListing objects ms → AreInOrder objects (meaning_views ms)
+from_listing objects ms is = record { listed = is.listed; rising = seen_sorted meaning_view meaning_name ms is.rising }

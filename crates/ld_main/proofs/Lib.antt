@@ -2,6 +2,8 @@ pub mod DropLines
 pub mod Values
 pub mod OwnCommons
 pub mod OwnMaps
+pub mod OwnTexts
+pub mod OwnSpelled
 pub mod Tabled
 pub mod Links
 pub mod Listings

@@ -100,7 +100,7 @@ module _ (b : Basis) (strip : Bool) (ms : List Meaning) (m : MapRecord) (is : Is
 
 -- each own map has the lines of what is listed, and so their table
 module _ (base : ℕ) (objects : List LoadedObject) (strip : Bool) (ms : List Meaning) (listed : AreListed objects ms) (up : Ascends SymbolBefore (map (symbol_row_of (own_where base objects)) ms)) (m : MapRecord) (own : IsOwnMap base objects strip m) where
-  rows_are : m.symbols ≡ map (symbol_row_of (own_where base objects)) ms
+  pub rows_are : m.symbols ≡ map (symbol_row_of (own_where base objects)) ms
   rows_are =
       same_from_look_ups m.symbols (map (symbol_row_of (own_where base objects)) ms) (rises_from_ascends m.symbols own.ordered.symbols)
       (rises_from_ascends (map (symbol_row_of (own_where base objects)) ms) up)

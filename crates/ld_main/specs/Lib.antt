@@ -3,6 +3,7 @@ pub mod InOrder
 pub mod Linkages
 pub mod NameKeys
 pub mod NewFiles
+pub mod OwnDefinitions
 pub mod Outputs
 pub mod Program
 pub mod Refusals

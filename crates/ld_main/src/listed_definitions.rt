@@ -77,19 +77,27 @@ pub fn in_order<'c, 'a>(
     })
 }
 
-/// Adds the definitions that have their names at places.
-pub fn add_definitions<'a>(
-    listed: &mut Vec<Definition<'a>>,
-    resolved: &Resolved<'a>,
-    names: Names<'_, 'a>,
-    keys: &[Keyed],
-) -> Result<(), AllocError>
-    ensures { OnOk result (meaning_views listed.new.items ≡ meaning_views listed.old.items ++ meanings_at resolved.now names.entry.symbols.now (line_views names.entry.linkers.now) keys.now) }
-{
-    for key in keys {
-        listed.push(definition_at(resolved, names, key.place))?;
+impl<'c, 'a> InOrder<'c, 'a> {
+    /// The places of their names.
+    pub fn keys(&self) -> &[Keyed]
+        ensures { result.now ≡ self.now.keys.items }
+    {
+        self.keys.as_slice()
     }
-    Ok(())
+
+    /// Adds those that have their names at places.
+    pub fn add_definitions(
+        &self,
+        listed: &mut Vec<Definition<'a>>,
+        keys: &[Keyed],
+    ) -> Result<(), AllocError>
+        ensures { OnOk result (meaning_views listed.new.items ≡ meaning_views listed.old.items ++ meanings_at self.now.resolved.now self.now.names.symbols.now (line_views self.now.names.linkers.now) keys.now) }
+    {
+        for key in keys {
+            listed.push(definition_at(self.resolved, self.names, key.place))?;
+        }
+        Ok(())
+    }
 }
 
 /// The same as a list.
@@ -103,6 +111,6 @@ pub fn listed<'a>(
 {
     let order = in_order(alloc, resolved, linkers)?;
     let mut listed = Vec::with_capacity(alloc, order.keys.len())?;
-    add_definitions(&mut listed, order.resolved, order.names, &order.keys)?;
+    order.add_definitions(&mut listed, order.keys())?;
     Ok(listed)
 }

@@ -4,10 +4,10 @@ ghost use Rattle.elf_model.specs.Causes.{Cause};
 ghost use Rattle.elf_model.specs.Files.{files_of, words_of};
 ghost use Rattle.elf_model.specs.RightLink.{IsRightLink};
 ghost use Rattle.ld_main.specs.FinalRefusals.{DeniesLinks};
-ghost use Rattle.ld_main.specs.Linkages.{IsOwnText};
 ghost use Rattle.ld_main.specs.Outputs.{IsOwnLink};
 
-use crate::phases::{link_map, prepare};
+use crate::own_text::map_text;
+use crate::phases::prepare;
 use elf_model::{InputFile, LinkError};
 use image_write::{Linkage, image};
 use std::alloc::{AllocError, Global};
@@ -17,14 +17,6 @@ use std::alloc::{AllocError, Global};
 pub struct Output {
     pub image: Vec<u8>,
     pub map: Vec<u8>,
-}
-
-/// The text of a link's map.
-pub fn map_text(alloc: Global, linkage: &Linkage<'_>) -> Result<Vec<u8>, AllocError>
-    ensures { IfOk result (λ v. IsOwnText linkage.now v.items) }
-{
-    let map = link_map(alloc, linkage)?;
-    linkmap::print(alloc, &map)
 }
 
 /// Links the files that a command's words name: the image and the map of the linker's own layout.

@@ -30,7 +30,7 @@ use search::{Loaded, LoadedObject};
 use std::alloc::{AllocError, Global};
 
 /// The version of the maps that the linker writes.
-const MAP_VERSION: u64 = 2;
+pub const MAP_VERSION: u64 = 2;
 
 /// A symbol as a map names it: strong, or weak.
 fn definition_of(symbol: &SymbolOf<'_>) -> Told
@@ -50,7 +50,7 @@ fn definition_of(symbol: &SymbolOf<'_>) -> Told
 }
 
 /// What a name means as a map names it.
-fn row_definition(meaning: &Definition<'_>) -> Told
+pub fn row_definition(meaning: &Definition<'_>) -> Told
     ensures { result ≡ definition_row (meaning_view meaning.now) }
 {
     match meaning {
@@ -111,7 +111,7 @@ fn object_lines(alloc: Global, objects: &[LoadedObject<'_>]) -> Result<Vec<Objec
 }
 
 /// Whether section `i` of an object has a drop line: it would be kept, were it not dropped.
-fn has_drop_line(loaded: &LoadedObject<'_>, i: usize, header: &SectionHeader) -> bool
+pub fn has_drop_line(loaded: &LoadedObject<'_>, i: usize, header: &SectionHeader) -> bool
     ensures { result ≡ is_dropped_line (loaded_view loaded.now) i header.now }
 {
     header.is_alloc() && loaded.is_dropped(i)

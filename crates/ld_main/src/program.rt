@@ -12,7 +12,7 @@ ghost use Rattle.ld_main.specs.Program.{Asks, HasRightLink, LinksRight, error_st
 use crate::file_id::OutputPath;
 use crate::file_source::{GatherFault, gather};
 use crate::new_file::{Content, NewFile};
-use crate::output::map_text;
+use crate::own_text::map_text;
 use crate::phases::prepare_seeded;
 use crate::real_files::{RealFiles, read_whole};
 use crate::refusals::command_error;

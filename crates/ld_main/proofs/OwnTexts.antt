@@ -1,0 +1,137 @@
+-- The text of a link's own map, list by list, and batch by batch.
+use Rattle.std.proofs.Common.{◌≡◌, ◌∙◌, ℕ, Bool, true, false, List, [], ◌∷◌, ◌++◌, ap, append_assoc, codes, drop, map, refl, sym, take}
+use Rattle.std.specs.Prelude.{Option, None, Some, option_map, option_to_list}
+use Rattle.std.specs.List.{flat_map}
+use Rattle.std.proofs.lemmas.List.{map-append, take-append-drop}
+use Rattle.std.proofs.lemmas.List.Concat.{flat_map-append}
+use Rattle.elf_model.specs.ImageFile.{own_end}
+use Rattle.elf_model.specs.Loading.{LoadedObject}
+use Rattle.elf_model.specs.MapRecord.{MapRecord, SymbolRow}
+use Rattle.elf_model.specs.MapText.{Line, body, common_text, drop_text, got_text, line_text, object_text, place_text, slot_text, symbol_text, symtab_text, text, version_text}
+use Rattle.elf_model.specs.Meaning.{Meaning}
+use Rattle.elf_model.specs.OwnLayout.{own_got, own_slots, own_where}
+use Rattle.elf_model.specs.Pieces.{kept_sections}
+use Rattle.elf_model.specs.Placement.{round_up}
+use Rattle.elf_model.specs.RightLink.{drop_rows, object_rows, symbol_row_of}
+use Rattle.elf_model.specs.declared.link_map.SymtabLine.{SymtabLine}
+use Rattle.layout.specs.Placements.{Basis}
+use Rattle.image_write.specs.CommonRows.{common_rows_of, own_commons}
+use Rattle.image_write.specs.Maps.{own_record, own_row, own_symtab}
+use Rattle.image_write.specs.Tables.{HasTable, line_of}
+use Rattle.image_write.specs.declared.symbol_table.SymbolTable.{SymbolTable}
+
+flat_map-map : {X Y : Type 0} (f : Y → List ℕ) (v : X → Y) (xs : List X) → flat_map f (map v xs) ≡ flat_map (λ x. f (v x)) xs
+flat_map-map f v [] = refl
+flat_map-map f v (x ∷ xs) = ap (λ (w : List ℕ). f (v x) ++ w) (flat_map-map f v xs)
+
+part :
+    {X : Type 0} (kind : X → Line) (xs : List X) (ls : List Line) →
+    flat_map line_text (map kind xs ++ ls) ≡ flat_map (λ x. line_text (kind x)) xs ++ flat_map line_text ls
+part kind xs ls =
+    flat_map-append line_text (map kind xs) ls ∙ ap (λ (w : List ℕ). w ++ flat_map line_text ls) (flat_map-map line_text kind xs)
+
+-- the lines of a map, kind by kind
+abbrev pub printed : MapRecord → List ℕ
+printed m =
+    version_text m.version
+    ++ (flat_map object_text m.objects
+    ++ (flat_map drop_text m.drops
+    ++ (flat_map place_text m.places
+    ++ (flat_map common_text m.commons
+    ++ (flat_map got_text (option_to_list m.got)
+    ++ (flat_map slot_text m.slots ++ (flat_map symbol_text m.symbols ++ (flat_map symtab_text (option_to_list m.symtab) ++ codes "end\n"))))))))
+
+pub text_is : (m : MapRecord) → text m ≡ printed m
+unfolding body
+text_is m = ap (λ (w : List ℕ). version_text m.version ++ w) (simp (append_assoc, part))
+
+-- lines put behind a text
+pub put_behind : (old new end more rest : List ℕ) → new ≡ old ++ more → end ≡ new ++ rest → end ≡ old ++ (more ++ rest)
+put_behind old new end more rest e h = h ∙ ap (λ (w : List ℕ). w ++ rest) e ∙ append_assoc old more rest
+
+-- a batch put behind a text, and what is left
+pub batch_put :
+    {K : Type 0} (at : K → Meaning) (spell : List Meaning → List ℕ) (keys : List K) (n : ℕ) (ms : List Meaning) (old new whole : List ℕ) →
+    ((xs ys : List Meaning) → spell (xs ++ ys) ≡ spell xs ++ spell ys) → old ++ spell (map at keys) ≡ whole → ms ≡ map at (take n keys) →
+    new ≡ old ++ spell ms → new ++ spell (map at (drop n keys)) ≡ whole
+batch_put {K} at spell keys n ms old new whole joins before batch put =
+    ap (λ (w : List ℕ). w ++ spell (map at (drop n keys))) (put ∙ ap (λ (xs : List Meaning). old ++ spell xs) batch)
+    ∙ append_assoc old (spell (map at (take n keys))) (spell (map at (drop n keys)))
+    ∙ ap (λ (w : List ℕ). old ++ w)
+    (sym (joins (map at (take n keys)) (map at (drop n keys)))
+    ∙ ap spell (sym (map-append at (take n keys) (drop n keys)) ∙ ap (map at) (take-append-drop n keys)))
+    ∙ before
+
+-- the lines of the common blocks among definitions, and those of the definitions
+pub commons_join :
+    (base : ℕ) (objects : List LoadedObject) (xs ys : List Meaning) →
+    flat_map common_text (own_commons base objects (xs ++ ys))
+    ≡ flat_map common_text (own_commons base objects xs) ++ flat_map common_text (own_commons base objects ys)
+commons_join base objects xs ys =
+    ap (flat_map common_text) (flat_map-append (common_rows_of base objects) xs ys)
+    ∙ flat_map-append common_text (own_commons base objects xs) (own_commons base objects ys)
+
+pub symbols_join :
+    (row : Meaning → SymbolRow) (xs ys : List Meaning) →
+    flat_map symbol_text (map row (xs ++ ys)) ≡ flat_map symbol_text (map row xs) ++ flat_map symbol_text (map row ys)
+symbols_join row xs ys = ap (flat_map symbol_text) (map-append row xs ys) ∙ flat_map-append symbol_text (map row xs) (map row ys)
+
+-- the line of the table of what is listed
+pub table_line :
+    (base : ℕ) (objects : List LoadedObject) (ms : List Meaning) (strip : Bool) (table : Option SymbolTable) →
+    HasTable objects (own_end base objects) ms strip table →
+    option_map line_of table ≡ own_symtab (record { base = base; objects = objects }) strip ms
+table_line base objects ms true None has = refl
+table_line base objects ms true (Some t) has = absurd has
+table_line base objects ms false None has = absurd has
+table_line base objects ms false (Some t) has =
+    ap (λ (e : ℕ). Some (line (round_up 8 e) t.count)) has.start ∙ ap (λ (n : ℕ). Some (line (round_up 8 (own_end base objects)) n)) has.count
+  where
+    line : ℕ → ℕ → SymtabLine
+    line offset count = record { offset = offset; count = count }
+
+-- nothing that is listed has a table where none is to be
+pub no_table :
+    (objects : List LoadedObject) (e : ℕ) (ms ns : List Meaning) (strip : Bool) → HasTable objects e ms strip None → HasTable objects e ns strip None
+no_table objects e ms ns true has = tt
+no_table objects e ms ns false has = absurd has
+
+-- the lines of objects that are laid out
+abbrev pub lined : Basis → List Meaning → List LoadedObject → Option SymtabLine → List ℕ
+lined b ms os line =
+    version_text 2
+    ++ (flat_map object_text (object_rows 0 os)
+    ++ (flat_map drop_text (drop_rows 0 os)
+    ++ (flat_map place_text (map (own_row b) (kept_sections os))
+    ++ (flat_map common_text (own_commons b.base b.objects ms)
+    ++ (flat_map got_text (option_to_list (own_got b.base b.objects))
+    ++ (flat_map slot_text (own_slots b.base b.objects)
+    ++ (flat_map symbol_text (map (symbol_row_of (own_where b.base b.objects)) ms)
+    ++ (flat_map symtab_text (option_to_list line) ++ codes "end\n"))))))))
+
+pub own_text_is :
+    (b : Basis) (strip : Bool) (ms : List Meaning) (os : List LoadedObject) (line : Option SymtabLine) → os ≡ b.objects → line ≡ own_symtab b strip ms →
+    lined b ms os line ≡ text (own_record b strip ms)
+own_text_is b strip ms os line e f =
+    ap (λ (xs : List LoadedObject). lined b ms xs line) e ∙ ap (lined b ms b.objects) f ∙ sym (text_is (own_record b strip ms))
+
+-- the lines put behind a text, one kind after the other
+pub lines_put :
+    (b : Basis) (strip : Bool) (ms : List Meaning) (os : List LoadedObject) (line : Option SymtabLine) (a c d e f g h i j k l : List ℕ) →
+    os ≡ b.objects → line ≡ own_symtab b strip ms →
+    c ≡ a ++ version_text 2 → d ≡ c ++ flat_map object_text (object_rows 0 os) → e ≡ d ++ flat_map drop_text (drop_rows 0 os) →
+    f ≡ e ++ flat_map place_text (map (own_row b) (kept_sections os)) → g ≡ f ++ flat_map common_text (own_commons b.base b.objects ms) →
+    h ≡ g ++ flat_map got_text (option_to_list (own_got b.base b.objects)) → i ≡ h ++ flat_map slot_text (own_slots b.base b.objects) →
+    j ≡ i ++ flat_map symbol_text (map (symbol_row_of (own_where b.base b.objects)) ms) → k ≡ j ++ flat_map symtab_text (option_to_list line) →
+    l ≡ k ++ codes "end\n" → l ≡ a ++ text (own_record b strip ms)
+lines_put b strip ms os line a c d e f g h i j k l same table version objects drops places commons got slots symbols symtab end =
+    put_behind a c l (version_text 2) _ version
+    (put_behind c d l (flat_map object_text (object_rows 0 os)) _ objects
+    (put_behind d e l (flat_map drop_text (drop_rows 0 os)) _ drops
+    (put_behind e f l (flat_map place_text (map (own_row b) (kept_sections os))) _ places
+    (put_behind f g l (flat_map common_text (own_commons b.base b.objects ms)) _ commons
+    (put_behind g h l (flat_map got_text (option_to_list (own_got b.base b.objects))) _ got
+    (put_behind h i l (flat_map slot_text (own_slots b.base b.objects)) _ slots
+    (put_behind i j l (flat_map symbol_text (map (symbol_row_of (own_where b.base b.objects)) ms)) _ symbols
+    (put_behind j k l (flat_map symtab_text (option_to_list line)) (codes "end\n") symtab end))))))))
+    ∙ ap (λ (w : List ℕ). a ++ w) (own_text_is b strip ms os line same table)

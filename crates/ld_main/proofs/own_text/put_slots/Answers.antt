@@ -1,0 +1,23 @@
+use Rattle.std.proofs.Common.{◌≡◌, ◌∙◌, ◌++◌, List, ap, arith, length, sym}
+use Rattle.std.specs.List.{flat_map}
+use Rattle.std.proofs.lemmas.List.{append-nil, length-map}
+use Rattle.elf_model.specs.MapRecord.{SlotRow}
+use Rattle.elf_model.specs.MapText.{slot_text}
+use Rattle.elf_model.specs.Slots.{slots}
+use Rattle.got_tls.specs.Views.{Got, slot_view}
+use Rattle.ld_main.proofs.SlotLines.{slots_low, slots_none}
+use Rattle.ld_main.proofs.own_text.put_slots.Goals as goal
+
+pub returns-in-None : goal.returns-in-None
+returns-in-None c =
+    let b = c.args.placement.now in
+    sym (append-nil c.args.text.now.items)
+    ∙ ap (λ (rows : List SlotRow). c.args.text.now.items ++ flat_map slot_text rows) (slots_none b.base b.objects (sym c.got.ensures ∙ c.in-None.is))
+
+pub put_slots_from-requires : goal.put_slots_from-requires
+put_slots_from-requires c =
+    let b = c.args.placement.now in
+    let count : length c.slots.result.now ≡ length (slots b.objects) =
+    sym (length-map c.slots.result.now slot_view) ∙ ap length (c.slots.ensures ∙ ap (λ (g : Got). g.slots) c.requires.made) in
+    let low = slots_low b.base b.objects c.requires.kinds c.requires.fits c.in-Some.got (sym c.got.ensures ∙ c.in-Some.is) in
+    omega (arith, count, low)
