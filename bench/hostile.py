@@ -15,9 +15,10 @@
     map-slots     the same with lines `slot`
     map-symbols   the same with lines `symbol`
     segments      an image with 65,533 PT_LOADs, each of one page with a section of zeros; single: half of them
-    flooded       10,000 symbols with slots, common symbols, signatures, output sections and names of an index, whose
-                  names hash alike where a hasher multiplies by the golden ratio alone, as many do
     group-names   a group of 2,000 archives, of which the first one's member asks for 80,000 names that none defines
+    group-order   a group of 10,000 archives, each of which asks for the one before it: a round loads one
+    flooded       20,000 symbols with slots, common symbols, signatures, output sections and names of an index each, whose
+                  names collide where they are hashed from the seed that everybody knows
 
 Three more grow faster than their bytes, for reasons that docs/BENCHMARKS.md gives. They run only where they are named,
 are small, and have no limit:
@@ -238,9 +239,29 @@ def group_names(folder, count):
     return link_and_check(folder, [start(folder, ["first"]), "-("] + words + ["-)"])
 
 
+def group_order(folder, count):
+    """The member of each archive but the first asks for that of the one before it, and the start for the last one's."""
+    words = [folder / f"lib{k}.a" for k in range(count)]
+    for k, path in enumerate(words):
+        made = elf.Object()
+        made.symbol(f"f{k}", made.section(".text", elf.PROGBITS, CODE, b"\xc3"))
+        if k:
+            made.symbol(f"f{k - 1}", 0)
+        path.write_bytes(elf.archive([([f"f{k}"], made.bytes())]))
+    return link_and_check(folder, [start(folder, [f"f{count - 1}"]), "-("] + words + ["-)"])
+
+
+def folded(first, second):
+    """Two words as the hashers of names join them."""
+    product = first * second
+    return product & (1 << 64) - 1 ^ product >> 64
+
+
 def flooding(kind, number):
-    """A name of sixteen bytes of which the last eight are the golden ratio as a number of 64 bits."""
-    return (f"{kind}{number:07x}".encode() + struct.pack("<Q", 0x9E3779B97F4A7C15)).decode(errors="surrogateescape")
+    """A name of 16 bytes, of which the last eight make a factor 0: the second word of the seed that `elf_model` calls fixed."""
+    factor = 0x9E3779B97F4A7C15 ^ 16
+    secret = folded(folded(0x243F6A8885A308D3, factor), factor)
+    return (f"{kind}{number:07x}".encode() + secret.to_bytes(8, "little")).decode(errors="surrogateescape")
 
 
 def flooded(folder, count):
@@ -355,7 +376,8 @@ INPUTS = {
     "map-symbols": (map_of_symbols, 1_000_000),
     "segments": (many_segments, 32_600),
     "group-names": (group_names, 2_000),
-    "flooded": (flooded, 10_000),
+    "group-order": (group_order, 10_000),
+    "flooded": (flooded, 20_000),
 }
 
 NOT_LINEAR = {

@@ -2,7 +2,7 @@
 use Rattle.std.proofs.Common.{◌≡◌, ℕ, ◌+◌, ◌<◌, ◌≤◌, ◌&&◌, Bool, true, false, cond, max, List, [], ◌∷◌, ◌++◌, append_assoc, Option, Some, drop, get_or, length, length-append, map, refl, sym, ap, ◌∙◌, arith}
 use Rattle.std.specs.Prelude.{filter, option_map, unwrap_or}
 use Rattle.std.specs.Borrow.{Bor}
-use Rattle.elf_model.specs.declared.name.Name.{Name}
+use Rattle.check_link.specs.declared.chosen_definitions.Chosen.{Chosen}
 use Rattle.std.specs.BTreeMap.{BTreeMap, get_by}
 use Rattle.std.specs.Cmp.Lexicographic.{slice_cmp}
 use Rattle.std.specs.Option.{option_map_or}
@@ -11,7 +11,6 @@ use Rattle.std.specs.Str.{bytes_eq}
 use Rattle.std.proofs.lemmas.List.{append-nil, drop_all, length-map}
 use Rattle.std.proofs.lemmas.Slice.Eq.{bytes_eq-Decides}
 use Rattle.elf_model.proofs.Rests.{rest_at}
-use Rattle.indexmap.specs.IndexMap.{IndexMap}
 use Rattle.elf_model.specs.ChosenSymbols.{definitions, is_chosen, is_definition, is_same_symbol}
 use Rattle.elf_model.specs.Commons.{Block, block_of, blocks, blocks_from, greatest, is_common_symbol}
 use Rattle.elf_model.specs.Loading.{LoadedObject}
@@ -136,7 +135,7 @@ kept_twice {X} p q (x ∷ xs) = by (p x) (q x) refl (kept_twice p q xs)
     by false false e rest = rest
 
 pub blocks_chosen :
-    {S : Type 0} (objects : List LoadedObject) (chosen : IndexMap Name ℕ S) (ss : List SymbolOf) → AreChosen objects ss chosen →
+    (objects : List LoadedObject) (chosen : Chosen) (ss : List SymbolOf) → AreChosen objects ss chosen →
     ss ≡ definitions objects → blocks_from objects 0 (filter (is_block_symbol chosen ss) ss) ≡ blocks objects
 blocks_chosen objects chosen ss are is =
     let same : is_found chosen ss ≡ is_chosen objects = λ i s. ap (λ (o : Option SymbolOf). option_map_or (is_same_symbol s) o false) (are s.name) i in

@@ -1,36 +1,62 @@
 -- The positions of the chosen definitions in the list of all.
-use Rattle.std.proofs.Common.{◌≡◌, ℕ, ◌+◌, Bool, true, false, cond, List, [], ◌∷◌, ◌++◌, append_assoc, length, length-append, Option, Some, None, refl, sym, ap, ◌∙◌, arith}
-use Rattle.std.specs.Prelude.{find, slice_get, unwrap_or}
-use Rattle.std.specs.HashMap.{HashMap, Updates}
-use Rattle.std.specs.Map.{lookup}
+use Rattle.std.proofs.Common.{◌≡◌, ℕ, ◌+◌, Bool, true, false, cond, not, List, [], ◌∷◌, ◌++◌, append_assoc, length, length-append, true≢false, Option, Some, None, refl, sym, ap, ◌∙◌, arith}
+use Rattle.std.specs.Prelude.{find, slice_get}
 use Rattle.std.specs.Option.{option_and_then, option_or}
 use Rattle.std.specs.Str.{bytes_eq}
-use Rattle.std.proofs.lemmas.Slice.Eq.{bytes_eq-Decides}
-use Rattle.elf_model.proofs.Found.{or_none}
-use Rattle.elf_model.proofs.NamedEntries.{entries_updated}
+use Rattle.std.proofs.lemmas.Bool.{not-true}
 use Rattle.elf_model.specs.Resolution.{SymbolOf}
-use Rattle.elf_model.specs.declared.name.Name.{Name}
-use Rattle.check_link.specs.Chosen.{first_from, position_in}
+use Rattle.check_link.specs.Chosen.{IsSized, first_from, position_in}
+use Rattle.check_link.specs.declared.chosen_definitions.Chosen.{Chosen}
+use Rattle.check_load.specs.NameNumbers.{is_among, number_of, with_name}
+use Rattle.check_load.proofs.Numbering.{value_known, value_pushed}
 
--- what an index has for each name, once a position came in for one that it might have
+-- what an index has for each name, once a position came in for one that is new
 pub position_added :
-    {S : Type 0} (m : HashMap Name ℕ S) (written : ℕ → HashMap Name ℕ S) (name : Name) (position there : ℕ) (to : List (Name × ℕ)) →
-    ((v : ℕ) → Updates (λ x y. bytes_eq x.0.now y.0.now) m (written v) name (Some v)) →
-    there ≡ unwrap_or (position_in m name.0.now) position → to ≡ (written there).entries →
-    (n : List ℕ) → lookup (λ k. bytes_eq n k.0.now) to ≡ option_or (position_in m n) (cond (bytes_eq name.0.now n) (Some position) None)
-position_added m written name position there to updates is same n =
-    ap (λ es. lookup (λ k. bytes_eq n k.0.now) es) same
-    ∙ entries_updated m (written there) name (Some there) (updates there) n
-    ∙ by (bytes_eq name.0.now n) refl
-  where
-    kept : (o : Option ℕ) → Some (unwrap_or o position) ≡ option_or o (Some position)
-    kept None = refl
-    kept (Some p) = refl
+    (old new : Chosen) (name : List ℕ) (position : ℕ) → IsSized old → is_among old.names name ≡ false → new.names ≡ with_name old.names name →
+    new.positions.items ≡ old.positions.items ++ position ∷ [] → (n : List ℕ) →
+    position_in new n ≡ option_or (position_in old n) (cond (bytes_eq name n) (Some position) None)
+position_added old new name position sized past comes grown n =
+    ap (λ (ps : List ℕ). slice_get ps (number_of new.names n)) grown
+    ∙ (ap (λ (ns : List (List ℕ)). slice_get (old.positions.items ++ position ∷ []) (number_of ns n)) comes
+    ∙ value_pushed old.names old.positions.items name position sized past n)
 
-    by : (b : Bool) → bytes_eq name.0.now n ≡ b → cond b (Some there) (position_in m n) ≡ option_or (position_in m n) (cond b (Some position) None)
-    by true e =
-        ap (λ (p : ℕ). Some p) (is ∙ ap (λ (bs : List ℕ). unwrap_or (position_in m bs) position) ((bytes_eq-Decides name.0.now n).0 e)) ∙ kept (position_in m n)
-    by false e = sym (or_none (position_in m n))
+-- and for one that it has
+pub position_kept :
+    (old new : Chosen) (name : List ℕ) (position : ℕ) → IsSized old → is_among old.names name ≡ true → new.names ≡ with_name old.names name →
+    new.positions.items ≡ old.positions.items → (n : List ℕ) → position_in new n ≡ option_or (position_in old n) (cond (bytes_eq name n) (Some position) None)
+position_kept old new name position sized known comes same n =
+    ap (λ (ps : List ℕ). slice_get ps (number_of new.names n)) same
+    ∙ (ap (λ (ns : List (List ℕ)). slice_get old.positions.items (number_of ns n))
+    (comes ∙ ap (λ (b : Bool). cond b old.names (old.names ++ name ∷ [])) known)
+    ∙ value_known old.names old.positions.items name position sized known n)
+
+-- whether a name is new, as the names tell it
+pub known : (names : List (List ℕ)) (name : List ℕ) (fresh : Bool) → fresh ≡ not (is_among names name) → fresh ≡ false → is_among names name ≡ true
+known names name fresh is no_ = by (is_among names name) (sym is ∙ no_)
+  where
+    by : (b : Bool) → not b ≡ false → b ≡ true
+    by true e = refl
+    by false e = absurd (true≢false e)
+
+pub unknown : (names : List (List ℕ)) (name : List ℕ) (fresh : Bool) → fresh ≡ not (is_among names name) → fresh ≡ true → is_among names name ≡ false
+unknown names name fresh is yes_ = not-true (is_among names name) (sym is ∙ yes_)
+
+-- each name has a position then, too
+pub sized_kept : (old new : Chosen) (name : List ℕ) → IsSized old → is_among old.names name ≡ true → new.names ≡ with_name old.names name →
+    new.positions.items ≡ old.positions.items → IsSized new
+sized_kept old new name sized there comes same =
+    ap (λ (ps : List ℕ). length ps) same
+    ∙ (sized ∙ sym (ap (λ (ns : List (List ℕ)). length ns) (comes ∙ ap (λ (b : Bool). cond b old.names (old.names ++ name ∷ [])) there)))
+
+pub sized_added : (old new : Chosen) (name : List ℕ) (position : ℕ) → IsSized old → is_among old.names name ≡ false → new.names ≡ with_name old.names name →
+    new.positions.items ≡ old.positions.items ++ position ∷ [] → IsSized new
+sized_added old new name position sized past comes grown =
+    let longer = length-append old.names (name ∷ []) in
+    let more = length-append old.positions.items (position ∷ []) in
+    let all : length new.names ≡ length (old.names ++ name ∷ []) =
+    ap (λ (ns : List (List ℕ)). length ns) (comes ∙ ap (λ (b : Bool). cond b old.names (old.names ++ name ∷ [])) past) in
+    let each : length new.positions.items ≡ length (old.positions.items ++ position ∷ []) = ap (λ (ps : List ℕ). length ps) grown in
+    omega (arith, longer, more, all, each, sized)
 
 -- what stands behind the front of a list
 behind : (front : List SymbolOf) (s : SymbolOf) (ss : List SymbolOf) → slice_get (front ++ s ∷ ss) (length front) ≡ Some s

@@ -1,29 +1,32 @@
 -- One slot line more in a table of slots, and one request more in a set.
 use Rattle.std.proofs.Common.{◌≡◌, ℕ, ◌+◌, ◌<◌, ◌≤◌, ◌&&◌, ◌||◌, Bool, true, false, not, cond, List, [], ◌∷◌, Option, Some, None, drop, get_or, length, refl, sym, ◌∙◌, ap}
 use Rattle.std.specs.Prelude.{find, is_some, map, option_map}
-use Rattle.std.specs.HashMap.{Updates, get, get_by}
-use Rattle.std.specs.HashSet as set
+use Rattle.std.specs.BTreeMap.{BTreeMap, Updates, get, get_by}
+use Rattle.std.specs.declared.cmp.Ordering.{Ordering}
+use Rattle.std.specs.BTreeSet as set
+use Rattle.std.specs.BTreeSet.{BTreeSet}
 use Rattle.std.specs.List.{list_any}
 use Rattle.std.specs.Option.{option_map_or, option_or}
+use Rattle.std.specs.Ordering.{is_eq}
 use Rattle.std.proofs.lemmas.List.{drop_all}
 use Rattle.std.proofs.lemmas.Option.{same_Some}
 use Rattle.elf_model.specs.MapRecord.{SlotRow, slot_row}
 use Rattle.elf_model.specs.Slots.{Request, is_slot_of, row_request, same_request}
 use Rattle.elf_model.specs.declared.link_map.SlotLine.{SlotLine}
 use Rattle.elf_model.proofs.Rests.{rest_at}
-use Rattle.check_link.specs.Slots.{Addresses, RequestSet, address_in, are_fresh, has_in, is_asked, is_same, key_of, request_view}
+use Rattle.check_link.specs.Slots.{address_in, are_fresh, has_in, is_asked, key_of, request_order, request_view}
 use Rattle.check_link.specs.declared.requests.Request as code
 use Rattle.elf_model.proofs.SameRequests.{requests_equal, same_sym}
 use Rattle.check_link.proofs.SameRequest.{ordered_alike, tied, view_of_key}
 
 -- what a table has for a request, as the code has it
-pub get_is : (table : Addresses) (k : code.Request) → address_in table (request_view k) ≡ get is_same table k
-get_is table k = ap (λ (same : code.Request → Bool). get_by same table) (ordered_alike k)
+pub get_is : (table : BTreeMap code.Request ℕ) (k : code.Request) → address_in table (request_view k) ≡ get request_order table k
+get_is table k = ap (λ (order : code.Request → Ordering). get_by order table) (ordered_alike k)
 
-pub asked_is : (asked : RequestSet) (k : code.Request) → is_asked asked (request_view k) ≡ set.contains is_same asked k
-asked_is asked k = ap (λ (same : code.Request → Bool). set.contains_by same asked) (ordered_alike k)
+pub asked_is : (asked : BTreeSet code.Request) (k : code.Request) → is_asked asked (request_view k) ≡ set.contains request_order asked k
+asked_is asked k = ap (λ (order : code.Request → Ordering). set.contains_by order asked) (ordered_alike k)
 
-pub tied_key : (k : code.Request) (q : Request) → is_same k (key_of q) ≡ same_request q (request_view k)
+pub tied_key : (k : code.Request) (q : Request) → is_eq (request_order k (key_of q)) ≡ same_request q (request_view k)
 tied_key k q = tied k (key_of q) ∙ ap (λ (r : Request). same_request (request_view k) r) (view_of_key q) ∙ same_sym (request_view k) q
 
 -- what a table has for each request once an address came in for a new one
@@ -37,14 +40,14 @@ none_of None e = refl
 none_of (Some x) e = absurd (cc)
 
 pub slot_added :
-    (old new : Addresses) (k : code.Request) (at : ℕ) (r : Request) → request_view k ≡ r →
-    is_some (get is_same old k) ≡ false → Updates is_same old new k (Some at) → (q : Request) →
+    (old new : BTreeMap code.Request ℕ) (k : code.Request) (at : ℕ) (r : Request) → request_view k ≡ r →
+    is_some (get request_order old k) ≡ false → Updates request_order old new k (Some at) → (q : Request) →
     address_in new q ≡ option_or (address_in old q) (cond (same_request q r) (Some at) None)
 slot_added old new k at r is lacks updates q =
     put (address_in old q) (address_in new q) (same_request q r) at
     (updates.0 (key_of q) ∙ ap (λ b. cond b (Some at) (address_in old q)) (tied_key k q ∙ ap (same_request q) is))
     (λ same.
-    ap (address_in old) (requests_equal q r same ∙ sym is) ∙ get_is old k ∙ none_of (get is_same old k) lacks)
+    ap (address_in old) (requests_equal q r same ∙ sym is) ∙ get_is old k ∙ none_of (get request_order old k) lacks)
 
 -- a request that is there already changes nothing
 kept : (old : Option ℕ) (same : Bool) (at : ℕ) → (same ≡ true → is_some old ≡ true) → old ≡ option_or old (cond same (Some at) None)
@@ -53,8 +56,8 @@ kept None false at there = refl
 kept None true at there = absurd (let e = there refl in cc)
 
 pub slot_there :
-    (old : Addresses) (k : code.Request) (at : ℕ) (r : Request) → request_view k ≡ r →
-    is_some (get is_same old k) ≡ true → (q : Request) →
+    (old : BTreeMap code.Request ℕ) (k : code.Request) (at : ℕ) (r : Request) → request_view k ≡ r →
+    is_some (get request_order old k) ≡ true → (q : Request) →
     address_in old q ≡ option_or (address_in old q) (cond (same_request q r) (Some at) None)
 slot_there old k at r is has q =
     kept (address_in old q) (same_request q r) at
@@ -90,7 +93,7 @@ module _ (lines : List SlotLine) (i : ℕ) (line : SlotLine) (within : i < lengt
   pub rows_more : rows_from lines i ≡ slot_row line ∷ rows_from lines (i + 1)
   rows_more = ap (map slot_row) (rest_at lines i line within) ∙ ap (λ (l : SlotLine). slot_row l ∷ rows_from lines (i + 1)) (sym read)
 
-  module _ (old new : Addresses) (grown : (q : Request) → address_in new q ≡ option_or (address_in old q) (cond (is_slot_of q (slot_row line)) (Some line.address) None)) where
+  module _ (old new : BTreeMap code.Request ℕ) (grown : (q : Request) → address_in new q ≡ option_or (address_in old q) (cond (is_slot_of q (slot_row line)) (Some line.address) None)) where
     pub index_more :
         (q : Request) (whole : Option ℕ) →
         option_or (address_in old q) (option_map (λ r. r.address) (find (is_slot_of q) (rows_from lines i))) ≡ whole →

@@ -4,15 +4,14 @@ use Rattle.std.specs.Borrow.{Bor}
 use Rattle.std.specs.BTreeMap.{BTreeMap, get_by}
 use Rattle.std.specs.Cmp.Lexicographic.{slice_cmp}
 use Rattle.std.specs.Ordering.{nat_cmp}
-use Rattle.indexmap.specs.IndexMap.{IndexMap}
 use Rattle.elf_model.specs.Commons.{Block, greatest, is_common_symbol}
 use Rattle.elf_model.specs.MapRecord.{CommonRow, common_row}
 use Rattle.elf_model.specs.Placement.{is_common_row_of}
 use Rattle.elf_model.specs.Resolution.{SymbolOf, has_name, is_common_definition}
 use Rattle.elf_model.specs.declared.link_map.CommonLine.{CommonLine}
-use Rattle.elf_model.specs.declared.name.Name.{Name}
 use Rattle.check_link.specs.Chosen.{is_found}
 use Rattle.check_link.specs.Views.{block_view}
+use Rattle.check_link.specs.declared.chosen_definitions.Chosen.{Chosen}
 use Rattle.check_link.specs.declared.commons.Asked.{Asked}
 use Rattle.check_link.specs.declared.things.Block as code
 
@@ -45,7 +44,7 @@ pub record HasAsked (asked : BTreeMap (Bor (List ℕ)) Asked) (ss : List SymbolO
   pub aligns : (name : List ℕ) → asked_in (λ a. a.align) asked name ≡ greatest_given given_align name ss
 
 -- a common symbol, and the one that an index has for its name
-abbrev pub is_block_symbol : {S : Type 0} → IndexMap Name ℕ S → List SymbolOf → SymbolOf → Bool
+abbrev pub is_block_symbol : Chosen → List SymbolOf → SymbolOf → Bool
 is_block_symbol chosen ss s = is_common_symbol s && is_found chosen ss s
 
 -- the block that an index has for a name

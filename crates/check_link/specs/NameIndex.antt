@@ -2,14 +2,13 @@
 use Rattle.std.specs.Prelude.{◌≡◌, ℕ, List}
 use Rattle.std.specs.Borrow.{Bor}
 use Rattle.std.specs.BTreeMap.{BTreeMap}
-use Rattle.indexmap.specs.IndexMap.{IndexMap}
 use Rattle.elf_model.specs.ChosenSymbols.{definitions}
 use Rattle.elf_model.specs.Commons.{block_named, blocks}
 use Rattle.elf_model.specs.Loading.{LoadedObject}
-use Rattle.elf_model.specs.declared.name.Name.{Name}
-use Rattle.check_link.specs.Chosen.{AreChosen}
+use Rattle.check_link.specs.Chosen.{AreChosen, IsSized}
 use Rattle.check_link.specs.Commons.{block_in}
 use Rattle.check_link.specs.Views.{block_views, symbol_views}
+use Rattle.check_link.specs.declared.chosen_definitions.Chosen.{Chosen}
 use Rattle.check_link.specs.declared.things.Block as code
 use Rattle.check_link.specs.declared.things.SymbolOf as things
 
@@ -18,8 +17,9 @@ abbrev pub IsBlockIndex : List LoadedObject → BTreeMap (Bor (List ℕ)) code.B
 IsBlockIndex objects index = (name : List ℕ) → block_in index name ≡ block_named objects name
 
 -- the definitions and the blocks of objects, and indexes of the chosen definitions and of the blocks
-pub record AreNames {S : Type 0} (objects : List LoadedObject) (defined : List things.SymbolOf) (chosen : IndexMap Name ℕ S) (found : List code.Block) (index : BTreeMap (Bor (List ℕ)) code.Block) : Type 0 where
+pub record AreNames (objects : List LoadedObject) (defined : List things.SymbolOf) (chosen : Chosen) (found : List code.Block) (index : BTreeMap (Bor (List ℕ)) code.Block) : Type 0 where
   pub definitions_are : symbol_views defined ≡ definitions objects
+  pub sized : IsSized chosen
   pub chosen_are : AreChosen objects (symbol_views defined) chosen
   pub blocks_are : block_views found ≡ blocks objects
   pub indexed : IsBlockIndex objects index

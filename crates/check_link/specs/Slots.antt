@@ -1,14 +1,13 @@
 -- Requests for slots of the GOT as the code compares them, and tables and sets of them.
 use Rattle.std.specs.Prelude.{◌≡◌, ℕ, ◌&&◌, ◌||◌, Bool, true, false, not, is_some, List, [], ◌∷◌, Option, find, map, option_map}
-use Rattle.std.specs.HashMap.{HashMap, get}
-use Rattle.std.specs.HashSet.{HashSet, contains}
-use Rattle.std.specs.declared.hash.BuildHasherDefault.{BuildHasherDefault}
-use Rattle.std.specs.declared.hash.FoldHasher.{FoldHasher}
+use Rattle.std.specs.BTreeMap.{BTreeMap, get}
+use Rattle.std.specs.BTreeSet.{BTreeSet, contains}
+use Rattle.std.specs.declared.cmp.Ordering.{Ordering}
 use Rattle.elf_model.specs.MapRecord.{OfLocal, OfName, SlotRow, TargetRow}
 use Rattle.elf_model.specs.Slots.{Request, is_slot_of, row_request, same_request}
 use Rattle.elf_model.specs.declared.link_map.SlotKind.{SlotKind}
 use Rattle.elf_model.specs.declared.link_map.SlotKind.TheVariants as slot
-use Rattle.check_link.specs.contracts.requests.RequestPartialEq.TheImpl as request_partial_eq
+use Rattle.check_link.specs.contracts.requests.RequestOrd.TheImpl as request_ord
 use Rattle.check_link.specs.declared.requests.Request as code
 use Rattle.check_link.specs.declared.requests.Wanted.{Wanted}
 use Rattle.check_link.specs.declared.requests.Wanted.TheVariants as wanted
@@ -36,23 +35,16 @@ key_target (OfLocal object symbol) = wanted.Local object symbol
 abbrev pub key_of : Request → code.Request
 key_of q = record { thread = is_thread q.kind; target = key_target q.target }
 
--- whether requests are the same, as the code compares them
-abbrev pub is_same : code.Request → code.Request → Bool
-is_same = (request_partial_eq.ghosts).eq
-
--- tables and sets that find requests by hash
-abbrev pub Addresses : Type 0
-Addresses = HashMap code.Request ℕ (BuildHasherDefault FoldHasher)
-
-abbrev pub RequestSet : Type 0
-RequestSet = HashSet code.Request (BuildHasherDefault FoldHasher)
+-- how requests compare
+abbrev pub request_order : code.Request → code.Request → Ordering
+request_order = (request_ord.ghosts).cmp
 
 -- the address that a table has for a request
-abbrev pub address_in : Addresses → Request → Option ℕ
-address_in table q = get is_same table (key_of q)
+abbrev pub address_in : BTreeMap code.Request ℕ → Request → Option ℕ
+address_in table q = get request_order table (key_of q)
 
 -- a table has the address of the first slot for each request
-abbrev pub IsSlotIndex : List SlotRow → Addresses → Type 0
+abbrev pub IsSlotIndex : List SlotRow → BTreeMap code.Request ℕ → Type 0
 IsSlotIndex rows table = (q : Request) → address_in table q ≡ option_map (λ row. row.address) (find (is_slot_of q) rows)
 
 -- each request is neither one of those seen nor one of those in front of it
@@ -68,13 +60,13 @@ abbrev pub are_distinct : List Request → Bool
 are_distinct qs = are_fresh none_seen qs
 
 -- a table has a request
-abbrev pub has_in : Addresses → Request → Bool
+abbrev pub has_in : BTreeMap code.Request ℕ → Request → Bool
 has_in table q = is_some (address_in table q)
 
-pub record IsSlotTable (rows : List SlotRow) (table : Addresses) (distinct : Bool) : Type 0 where
+pub record IsSlotTable (rows : List SlotRow) (table : BTreeMap code.Request ℕ) (distinct : Bool) : Type 0 where
   pub index : IsSlotIndex rows table
   pub distinct_is : distinct ≡ are_distinct (map row_request rows)
 
 -- whether a set has a request
-abbrev pub is_asked : RequestSet → Request → Bool
-is_asked set q = contains is_same set (key_of q)
+abbrev pub is_asked : BTreeSet code.Request → Request → Bool
+is_asked set q = contains request_order set (key_of q)

@@ -7,18 +7,17 @@ ghost use Rattle.elf_model.specs.Commons.{blocks, blocks_from, is_block_of};
 ghost use Rattle.elf_model.specs.ObjectFile.{symbols};
 ghost use Rattle.elf_model.specs.Resolution.{AreSoundCommons, all_symbols};
 ghost use Rattle.check_load.specs.Views.{loaded_views};
-ghost use Rattle.check_link.specs.Chosen.{AreChosen};
+ghost use Rattle.check_link.specs.Chosen.{AreChosen, IsSized};
 ghost use Rattle.check_link.specs.Commons.{HasAsked, HasGained, asked_in, block_in, is_block_symbol};
 ghost use Rattle.check_link.specs.Soundness.{IsSoundEntry};
 ghost use Rattle.check_link.specs.Views.{block_view, block_views, symbol_view, symbol_views};
 
-use crate::chosen_definitions::is_chosen;
+use crate::chosen_definitions::{Chosen, is_chosen};
 use crate::definitions::{is_common, is_common_definition};
 use crate::things::{Block, SymbolOf};
 use check_load::Loaded;
-use elf_model::{Name, NameSeed, SHN_COMMON, STB_GLOBAL, STT_TLS, Symbol};
+use elf_model::{SHN_COMMON, STB_GLOBAL, STT_TLS, Symbol};
 use elf_read::is_power_of_two;
-use indexmap::IndexMap;
 use std::alloc::{AllocError, Global};
 use std::collections::BTreeMap;
 
@@ -120,10 +119,11 @@ fn asked_of<'a>(
 
 /// Whether a symbol is a common one, and the one that an index has for its name.
 fn is_block_symbol<'a>(
-    chosen: &IndexMap<Name<'a>, usize, NameSeed>,
+    chosen: &Chosen<'a>,
     definitions: &[SymbolOf<'a>],
     symbol: &SymbolOf<'a>,
 ) -> bool
+    requires { IsSized chosen.now }
     ensures { result ≡ is_block_symbol chosen.now (symbol_views definitions.now) (symbol_view symbol.now) }
 {
     is_common(symbol) && is_chosen(chosen, definitions, symbol)
@@ -183,10 +183,11 @@ fn add_blocks<'a>(
     alloc: Global,
     objects: &[Loaded<'a>],
     asked: &BTreeMap<&'a [u8], Asked>,
-    chosen: &IndexMap<Name<'a>, usize, NameSeed>,
+    chosen: &Chosen<'a>,
     definitions: &[SymbolOf<'a>],
 ) -> Result<Vec<Block<'a>>, AllocError>
-    requires { HasAsked asked.now (all_symbols (loaded_views objects.now)) }
+    requires sized { IsSized chosen.now }
+    requires asked { HasAsked asked.now (all_symbols (loaded_views objects.now)) }
     ensures { IfOk result (λ v. block_views v.items ≡ blocks_from (loaded_views objects.now) 0 (filter (is_block_symbol chosen.now (symbol_views definitions.now)) (symbol_views definitions.now))) }
 {
     let mut blocks = Vec::new(alloc);
@@ -201,9 +202,10 @@ fn add_blocks<'a>(
 pub fn blocks_of<'a>(
     alloc: Global,
     objects: &[Loaded<'a>],
-    chosen: &IndexMap<Name<'a>, usize, NameSeed>,
+    chosen: &Chosen<'a>,
     definitions: &[SymbolOf<'a>],
 ) -> Result<Vec<Block<'a>>, AllocError>
+    requires sized { IsSized chosen.now }
     requires definitions { symbol_views definitions.now ≡ filter is_definition (all_symbols (loaded_views objects.now)) }
     requires chosen { AreChosen (loaded_views objects.now) (symbol_views definitions.now) chosen.now }
     ensures { IfOk result (λ v. block_views v.items ≡ blocks (loaded_views objects.now)) }

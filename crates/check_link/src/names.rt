@@ -5,17 +5,16 @@ ghost use Rattle.elf_model.specs.Commons.{block_named, blocks};
 ghost use Rattle.elf_model.specs.Meaning.{meant};
 ghost use Rattle.elf_model.specs.Resolution.{AreSoundCommons, all_symbols, chosen};
 ghost use Rattle.check_load.specs.Views.{loaded_views};
-ghost use Rattle.check_link.specs.Chosen.{AreChosen};
+ghost use Rattle.check_link.specs.Chosen.{AreChosen, IsSized};
 ghost use Rattle.check_link.specs.NameIndex.{IsBlockIndex};
 ghost use Rattle.check_link.specs.Views.{block_view, block_views, meaning_view, symbol_view, symbol_views};
 
-use crate::chosen_definitions::{definition_of, index_names, is_chosen};
+use crate::chosen_definitions::{Chosen, definition_of, index_names, is_chosen};
 use crate::commons::{are_sound_commons, blocks_of, index_blocks};
 use crate::definitions::{definitions_of, is_common};
 use crate::things::{Block, Meaning, SymbolOf};
 use check_load::Loaded;
-use elf_model::{Name, NameSeed};
-use indexmap::IndexMap;
+use elf_model::NameSeed;
 use std::alloc::{AllocError, Global};
 use std::collections::BTreeMap;
 use std::marker::Model;
@@ -26,7 +25,7 @@ use std::marker::Model;
 pub struct Names<'l, 'a> {
     objects: &'l [Loaded<'a>],
     definitions: Vec<SymbolOf<'a>>,
-    chosen: IndexMap<Name<'a>, usize, NameSeed>,
+    chosen: Chosen<'a>,
     blocks: Vec<Block<'a>>,
     blocks_by_name: BTreeMap<&'a [u8], Block<'a>>,
 }
@@ -48,9 +47,10 @@ impl<'l, 'a> Model for Names<'l, 'a> {
 fn found_blocks<'a>(
     alloc: Global,
     objects: &[Loaded<'a>],
-    chosen: &IndexMap<Name<'a>, usize, NameSeed>,
+    chosen: &Chosen<'a>,
     definitions: &[SymbolOf<'a>],
 ) -> Result<(Vec<Block<'a>>, BTreeMap<&'a [u8], Block<'a>>), AllocError>
+    requires sized { IsSized chosen.now }
     requires definitions { symbol_views definitions.now ≡ filter is_definition (all_symbols (loaded_views objects.now)) }
     requires chosen { AreChosen (loaded_views objects.now) (symbol_views definitions.now) chosen.now }
     ensures blocks { IfOk result (λ r. block_views r.0.items ≡ blocks (loaded_views objects.now)) }
@@ -62,12 +62,16 @@ fn found_blocks<'a>(
 }
 
 impl<'l, 'a> Names<'l, 'a> {
-    /// The names of loaded objects.
-    pub fn new(alloc: Global, objects: &'l [Loaded<'a>]) -> Result<Names<'l, 'a>, AllocError>
+    /// The names of loaded objects, which are to be hashed from a seed, or found by their order without one.
+    pub fn new(
+        alloc: Global,
+        objects: &'l [Loaded<'a>],
+        seed: Option<NameSeed>,
+    ) -> Result<Names<'l, 'a>, AllocError>
         ensures { IfOk result (λ n. n ≡ loaded_views objects.entry.now) }
     {
         let definitions = definitions_of(alloc, objects)?;
-        let chosen = index_names(alloc, objects, &definitions)?;
+        let chosen = index_names(alloc, objects, &definitions, seed)?;
         let (blocks, blocks_by_name) = found_blocks(alloc, objects, &chosen, &definitions)?;
         Ok(Names {
             objects,

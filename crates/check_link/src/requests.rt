@@ -7,14 +7,14 @@ ghost use Rattle.check_link.specs.Slots.{kind_view, request_view, target_view};
 use elf_model::{SlotKind, SlotLine, SlotTarget};
 
 /// Whose value or thread offset a slot holds: that of a name, or of a LOCAL symbol by its object's and its own number.
-#[derive(Clone, Copy, Debug, PartialEq, Eq, Hash)]
+#[derive(Clone, Copy, Debug, PartialEq, Eq, PartialOrd, Ord)]
 pub enum Wanted<'a> {
     Name(&'a [u8]),
     Local(u64, u64),
 }
 
 /// A request for a slot: whether it asks for the offset from the thread pointer, else for the value, and of what.
-#[derive(Clone, Copy, Debug, PartialEq, Eq, Hash)]
+#[derive(Clone, Copy, Debug, PartialEq, Eq, PartialOrd, Ord)]
 pub struct Request<'a> {
     pub thread: bool,
     pub target: Wanted<'a>,

@@ -10,14 +10,14 @@ ghost use Rattle.check_link.specs.Slots.{IsSlotIndex, address_in, are_distinct, 
 use crate::requests::{Request, request_of_line};
 use elf_model::SlotLine;
 use std::alloc::{AllocError, Global};
-use std::collections::HashMap;
+use std::collections::BTreeMap;
 use std::marker::Model;
 
 /// Slot lines, with the address of the first one for each request, and whether there is at most one for each.
 #[derive(Drop)]
 pub struct SlotTable<'m> {
     lines: &'m [SlotLine],
-    addresses: HashMap<Request<'m>, u64>,
+    addresses: BTreeMap<Request<'m>, u64>,
     distinct: bool,
 }
 
@@ -35,7 +35,7 @@ impl<'m> Model for SlotTable<'m> {
 
 /// Puts a line's slot into a table, unless one for the same request is there. True where it is put there.
 fn add_slot<'m>(
-    addresses: &mut HashMap<Request<'m>, u64>,
+    addresses: &mut BTreeMap<Request<'m>, u64>,
     line: &'m SlotLine,
 ) -> Result<bool, AllocError>
     ensures addresses { OnOk result ((q : slots.Request) → address_in addresses.new q ≡ option_or (address_in addresses.old q) (cond (is_slot_of q (slot_row line.entry.now)) (Some line.entry.now.address) None)) }
@@ -53,11 +53,11 @@ fn add_slot<'m>(
 fn index_slots<'m>(
     alloc: Global,
     lines: &'m [SlotLine],
-) -> Result<(HashMap<Request<'m>, u64>, bool), AllocError>
+) -> Result<(BTreeMap<Request<'m>, u64>, bool), AllocError>
     ensures index { IfOk result (λ r. IsSlotIndex (map slot_row lines.entry.now) r.0) }
     ensures distinct { IfOk result (λ r. r.1 ≡ are_distinct (map row_request (map slot_row lines.entry.now))) }
 {
-    let mut addresses = HashMap::new(alloc);
+    let mut addresses = BTreeMap::new(alloc);
     let mut distinct = true;
     for line in lines {
         let fresh = add_slot(&mut addresses, line)?;

@@ -43,6 +43,11 @@ key_parts a b c d is =
 from_first : (item q : ℕ) → is_gt (place_key (item, 0) (item, q)) ≡ false
 from_first item q = ap (λ (o : Ordering). is_gt (ordering_then o (nat_cmp 0 q))) (tied item item refl) ∙ not_above 0 q (omega arith)
 
+from_later : (item j q : ℕ) → item ≤ j → is_gt (place_key (item, 0) (j, q)) ≡ false
+from_later item j q low =
+    by_case (nat_lt item j) (λ t. ap (λ (o : Ordering). is_gt (ordering_then o (nat_cmp 0 q))) (less item j t))
+    (λ t. let f = ltb-false item j t in let same : item ≡ j = omega (arith, f, low) in ap (λ (o : Ordering). is_gt (ordering_then o (nat_cmp 0 q))) (tied item j same) ∙ not_above 0 q (omega arith))
+
 -- The places that are awake from an item's first on, where r are these: the first is one of them and none is before it.
 abbrev IsFrom : ℕ → ℕ × ℕ → Type 0
 IsFrom item k = (is_gt (place_key (item, 0) k) ≡ false) × ⊤
@@ -59,6 +64,12 @@ pub none_from :
 unfolding is_awake
 none_from a item r none empty q = none empty (item, q) (from_first item q, tt)
 
+pub none_later :
+    (a : Awake) (item : ℕ) (r : List (ℕ × ℕ)) → (r ≡ [] → (k : ℕ × ℕ) → IsFrom item k → contains place_key a.places k ≡ false) →
+    r ≡ [] → (j q : ℕ) → item ≤ j → is_awake a j q ≡ false
+unfolding is_awake
+none_later a item r none empty j q low = none empty (j, q) (from_later item j q low, tt)
+
 module _ (a : Awake) (item : ℕ) (r : List (ℕ × ℕ)) (head : IsHead a item r) (least : IsLeast a item r) where
   asleep_if : (q : ℕ) → (is_awake a item q ≡ true → ⊥) → is_awake a item q ≡ false
   asleep_if q never = false_from_ne_true (is_awake a item q) never
@@ -73,6 +84,18 @@ module _ (a : Awake) (item : ℕ) (r : List (ℕ × ℕ)) (head : IsHead a item 
     head_least : (q : ℕ) → is_awake a item q ≡ true → is_gt (place_key place (item, q)) ≡ false
     unfolding is_awake
     head_least q there = let h = rw first at least in h (item, q) (from_first item q, tt) there
+
+    later_least : (j q : ℕ) → item ≤ j → is_awake a j q ≡ true → is_gt (place_key place (j, q)) ≡ false
+    unfolding is_awake
+    later_least j q low there = let h = rw first at least in h (j, q) (from_later item j q low, tt) there
+
+    -- no entry is awake between the item and the first one's
+    pub none_between : (j q : ℕ) → item ≤ j → j < place.0 → is_awake a j q ≡ false
+    none_between j q low high = false_from_ne_true (is_awake a j q) (λ there. by (key_parts place.0 place.1 j q (later_least j q low there)))
+      where
+        by : (place.0 < j) ⊎ ((place.0 ≡ j) × (place.1 ≤ q)) → ⊥
+        by (inl past) = omega (arith, past, high)
+        by (inr at) = let e = at.0 in omega (arith, e, high)
 
     pub first_there : place.0 ≡ item → is_awake a item place.1 ≡ true
     unfolding is_awake

@@ -26,7 +26,7 @@ find_first test (x ∷ xs) (suc p) e at passes none =
     ap (λ (b : Bool). cond b (Some x) (find test xs)) (false_from_ne_true (test x) (λ t. none 0 x (omega arith) refl t))
     ∙ find_first test xs p e at passes (λ k y low here t. none (suc k) y (omega (arith, low)) here t)
 
-find_none : (test : IndexEntry → Bool) (es : List IndexEntry) → ((k : ℕ) (x : IndexEntry) → slice_get es k ≡ Some x → test x ≡ true → ⊥) → find test es ≡ None
+pub find_none : (test : IndexEntry → Bool) (es : List IndexEntry) → ((k : ℕ) (x : IndexEntry) → slice_get es k ≡ Some x → test x ≡ true → ⊥) → find test es ≡ None
 find_none test [] none = refl
 find_none test (x ∷ xs) none =
     ap (λ (b : Bool). cond b (Some x) (find test xs)) (false_from_ne_true (test x) (λ t. none 0 x refl t)) ∙ find_none test xs (λ k y here t. none (suc k) y here t)
@@ -91,7 +91,7 @@ looked os l o b k at own others = record {
   taken = k.taken;
   begun = k.begun;
   loadable = k.loadable;
-  awake = λ p there archive. by_case (p.number == o.number) (same p there) (λ e q x here t. others p.number q (λ n. eqb-false p.number o.number e n) (k.awake p there archive q x here t));
+  awake = λ p there archive searched. by_case (p.number == o.number) (same p there) (λ e q x here t. others p.number q (λ n. eqb-false p.number o.number e n) (k.awake p there archive searched q x here t));
 }
   where
     same : (p : Opened) → IsAt os p → (p.number == o.number) ≡ true → AreFreeAwake l.names l.taken p.number (archive_entries p.bytes) b

@@ -1,5 +1,4 @@
 pub mod AwakeLaws
-pub mod FileLaws
 pub mod FreeLaws
 pub mod LoadLaws
 pub mod LoaderLaws
@@ -7,7 +6,9 @@ pub mod LawfulGroups
 pub mod LostMembers
 pub mod NotedNames
 pub mod PlaceLaws
+pub mod Numbering
 pub mod OpenedLaws
+pub mod RoundLaws
 pub mod SignatureLaws
 pub mod StepLaws
 pub mod TakenLaws

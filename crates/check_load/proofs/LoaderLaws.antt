@@ -1,6 +1,5 @@
 -- What a loader knows, with nothing loaded and with one object more.
 use Rattle.std.proofs.Common.{◌≡◌, ℕ, ◌==◌, Bool, true, false, ◌&&◌, ◌||◌, not, List, [], ◌∷◌, ◌++◌, refl, sym, ◌∙◌, ap, subst}
-use Rattle.elf_model.specs.declared.name.Name.{Name}
 use Rattle.std.specs.List.{list_any}
 use Rattle.std.specs.Str.{bytes_eq}
 use Rattle.std.proofs.lemmas.Bool.{and_from, and_parts, eq-eqb, eqb-true, not-true, or_parts}
@@ -19,7 +18,8 @@ use Rattle.check_load.specs.Awake.{is_awake}
 use Rattle.check_load.specs.Loaders.{AreLoadable, IsLoadable, Knows, is_free, loaded}
 use Rattle.check_load.specs.Places.{AreWokenSince, none_asked}
 use Rattle.check_load.specs.Names.{Names, asked_from, asked_in, defined_from, defined_in, defines_name, requests_name}
-use Rattle.check_load.specs.Signatures.{lost_by, seen_by, seen_in}
+use Rattle.check_load.specs.Signatures.{lost_by, seen_by}
+use Rattle.check_load.specs.NameNumbers.{is_among}
 use Rattle.check_load.specs.Stops.{Refutes}
 use Rattle.check_load.specs.Taken.{has_item, has_member}
 use Rattle.check_load.specs.Views.{loaded_view, loaded_views}
@@ -81,9 +81,8 @@ unfolding is_begun
 is_begun_more os x i = list_any-append (λ y. y.item == i) os (x ∷ [])
 
 -- A loader.
-none_seen : (names : List Name) → names ≡ [] → (n : List ℕ) → seen_in names n ≡ false
-unfolding seen_in
-none_seen names none n = ap (λ (ks : List Name). list_any (λ k. bytes_eq n k.0.now) ks) none
+none_seen : (names : List (List ℕ)) → names ≡ [] → (n : List ℕ) → is_among names n ≡ false
+none_seen names none n = ap (λ (l : List (List ℕ)). is_among l n) none
 
 -- an entry that gives a member later gave it before where its name was asked for then
 free_before :
@@ -103,25 +102,25 @@ free_asked names taken item e free =
     (and_parts (requests_name names e.name && not (defines_name names e.name)) (not (has_member taken item e.offset)) free).0).0
 
 pub knows_none :
-    (os : List Opened) (l : Loader) → AreWokenSince os none_asked l.names l.awake → loaded l ≡ [] → l.seen.keys ≡ [] →
+    (os : List Opened) (l : Loader) → AreWokenSince os none_asked l.names l.awake → loaded l ≡ [] → l.seen ≡ [] →
     ((n : List ℕ) → requests_name l.names n ≡ list_any (λ root. bytes_eq root n) (l.plan.now.entry ∷ l.plan.now.undefined)) →
     ((n : List ℕ) → defines_name l.names n ≡ false) → ((item offset : ℕ) → has_member l.taken item offset ≡ false) →
     ((item : ℕ) → has_item l.taken item ≡ false) → Knows os l
 unfolding is_defined is_taken is_begun
 knows_none os l woken_ none seen_ asked_ defined_ taken_ begun_ = record {
-  seen = (λ j n. none_seen l.seen.keys seen_ n j) ∙ ap (λ (os : List LoadedObject). is_seen (seen_behind [] os)) (sym none);
+  seen = (λ j n. none_seen l.seen seen_ n j) ∙ ap (λ (os : List LoadedObject). is_seen (seen_behind [] os)) (sym none);
   requested = λ n. asked_ n ∙ (sym (requested_none l.plan.now n) ∙ ap (λ (os : List LoadedObject). is_requested l.plan.now os n) (sym none));
   defined = λ n. defined_ n ∙ ap (λ (os : List LoadedObject). is_defined os n) (sym none);
   taken = λ item offset. taken_ item offset ∙ ap (λ (os : List LoadedObject). is_taken os item offset) (sym none);
   begun = λ item. begun_ item ∙ ap (λ (os : List LoadedObject). is_begun os item) (sym none);
   loadable = subst AreLoadable (sym none) (record { objects_are = All-nil (λ o. IsObject o.bytes); lawful = All-nil (λ o. AreLawfulGroups (groups o.bytes)) });
-  awake = λ o at archive q e there free. woken_ o q e at (record { archive = archive; there = there }) refl (free_asked l.names l.taken o.number e free);
+  awake = λ o at archive searched q e there free. woken_ o q e at (record { archive = archive; searched = searched; there = there }) refl (free_asked l.names l.taken o.number e free);
 }
 
 pub knows_more :
     (os : List Opened) (old new : Loader) (o : Opened) (offset : ℕ) (bytes : List ℕ) → Knows os old → AreWokenSince os (requests_name old.names) new.names new.awake →
     ((i q : ℕ) → is_awake old.awake i q ≡ true → is_awake new.awake i q ≡ true) → new.plan.now ≡ old.plan.now →
-    loaded new ≡ with_object (loaded old) o offset bytes → seen_in new.seen.keys ≡ seen_by (seen_in old.seen.keys) (groups bytes) →
+    loaded new ≡ with_object (loaded old) o offset bytes → is_among new.seen ≡ seen_by (is_among old.seen) (groups bytes) →
     ((n : List ℕ) → requests_name new.names n ≡ (asked_in bytes (lost_sections (loaded old) bytes) n || requests_name old.names n)) →
     ((n : List ℕ) → defines_name new.names n ≡ (defined_in bytes (lost_sections (loaded old) bytes) n || defines_name old.names n)) →
     ((i k : ℕ) → has_member new.taken i k ≡ (o.number == i && offset == k || has_member old.taken i k)) →
@@ -152,14 +151,14 @@ knows_more os old new o offset bytes k woken_ stays plan_ is seen_ asked_ define
     objects_are = All-push (λ y. IsObject y.bytes) (loaded old) x k.loadable.objects_are object;
     lawful = All-push (λ y. AreLawfulGroups (groups y.bytes)) (loaded old) x k.loadable.lawful lawful_;
   });
-  awake = λ p at archive q e there free.
+  awake = λ p at archive searched q e there free.
       by_case (requests_name old.names e.name)
       (λ asked_before.
       stays p.number q
-      (k.awake p at archive q e there
+      (k.awake p at archive searched q e there
       (free_before old.names new.names old.taken new.taken p.number e (defined_in bytes (lost_sections (loaded old) bytes) e.name) (o.number == p.number && offset == e.offset)
       (defined_ e.name) (taken_ p.number e.offset) asked_before free)))
-      (λ fresh. woken_ p q e at (record { archive = archive; there = there }) fresh (free_asked new.names new.taken p.number e free));
+      (λ fresh. woken_ p q e at (record { archive = archive; searched = searched; there = there }) fresh (free_asked new.names new.taken p.number e free));
 }
   where
     x : LoadedObject

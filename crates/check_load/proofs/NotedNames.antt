@@ -1,64 +1,52 @@
 -- Names as symbols are noted, one after the other.
-use Rattle.std.proofs.Common.{◌≡◌, cond, ℕ, suc, ◌+◌, ◌<◌, ◌≤◌, Bool, true, false, ◌&&◌, ◌||◌, List, [], length, get_or, drop, Some, None, Option, refl, sym, ◌∙◌, ap, subst, arith, drop-cons}
-use Rattle.std.specs.Prelude.{unwrap_or}
+use Rattle.std.proofs.Common.{◌≡◌, cond, ℕ, suc, ◌+◌, ◌<◌, ◌≤◌, Bool, true, false, ◌&&◌, ◌||◌, List, [], ◌∷◌, ◌++◌, length, get_or, drop, Some, None, Option, refl, sym, ◌∙◌, ap, subst, arith, drop-cons}
+use Rattle.std.specs.Prelude.{set, slice_get, unwrap_or}
+use Rattle.std.proofs.lemmas.Option.{get_or_from_slice_get, unwrap_or-slice_get}
 use Rattle.std.specs.List.{list_any}
 use Rattle.std.specs.Str.{bytes_eq}
 use Rattle.std.proofs.Math.ListN.{drop_of_length-le}
-use Rattle.std.specs.HashMap.{HashMap, Updates}
-use Rattle.std.specs.Option.{option_map_or}
+use Rattle.std.proofs.lemmas.List.{get_or_default}
 use Rattle.std.proofs.lemmas.Slice.Eq.{bytes_eq-Decides}
 use Rattle.elf_model.specs.Loading.{has_name, is_definition, is_request}
-use Rattle.elf_model.specs.declared.name.Name.{Name}
 use Rattle.elf_model.specs.declared.records.Symbol.{Symbol}
-use Rattle.elf_model.proofs.NamedEntries.{entries_updated}
-use Rattle.check_load.specs.Names.{Names, asked_from, defined_from, defines_name, requests_name, state_in, unknown}
+use Rattle.check_load.specs.NameNumbers.{number_of, with_name}
+use Rattle.check_load.specs.Names.{Names, asked_from, defined_from, defines_name, requests_name, state_at, unknown}
 use Rattle.check_load.specs.declared.known_names.NameState.{NameState}
+use Rattle.check_load.proofs.Numbering.{none_behind, value_written}
 
--- after a map's entry took in what is said of a name, which is t by a field of the state
-module _ (field : NameState → Bool) where
-  abbrev has : Names → List ℕ → Bool
-  has names n = option_map_or field (state_in names n) false
+-- A name comes among names, of which some have states, and its state takes in what is said of it, which is t by a field
+-- of the state.
+module _ (names later : List (List ℕ)) (states reached written : List NameState) (name : List ℕ) (i : ℕ) (old new : NameState)
+    (sized : length states ≤ length names) (comes : later ≡ with_name names name) (is : i ≡ number_of names name)
+    (same : (k : ℕ) → state_at reached k ≡ state_at states k) (there : i < length reached) (read : old ≡ get_or reached i old) (put : written ≡ set reached i new) where
+  -- the state that is read is that of the name
+  pub read_state : old ≡ state_at states (number_of names name)
+  read_state = read ∙ (get_or_default reached i old unknown there ∙ (same i ∙ ap (state_at states) is))
 
-  read_or : (o : Option NameState) (d : NameState) → field d ≡ false → field (unwrap_or o d) ≡ option_map_or field o false
-  read_or (Some v) d none = refl
-  read_or None d none = none
+  state_put : (n : List ℕ) → state_at written (number_of later n) ≡ cond (bytes_eq name n) new (state_at states (number_of names n))
+  state_put n = ap (λ (l : List NameState). state_at l (number_of later n)) put ∙ value_written unknown names later states reached name i new sized comes is same there n
 
-  noted : {S : Type 0} (m w : HashMap Name NameState S) (name : Name) (old new d : NameState) (t : Bool) (es : Names) →
-      Updates (λ x y. bytes_eq x.0.now y.0.now) m w name (Some new) → old ≡ unwrap_or (state_in m.entries name.0.now) d → field d ≡ false →
-      field new ≡ (t || field old) → es ≡ w.entries → (n : List ℕ) → has es n ≡ (bytes_eq name.0.now n && t || has m.entries n)
-  noted m w name old new d t es updates was none is same n =
-      ap (λ (l : Names). has l n) same
-      ∙ (ap (λ (o : Option NameState). option_map_or field o false) (entries_updated m w name (Some new) updates n) ∙ by (bytes_eq name.0.now n) refl)
+  -- what a field says of a name later
+  pub field_put : (field : NameState → Bool) (t : Bool) → field new ≡ (t || field old) → (n : List ℕ) →
+      field (state_at written (number_of later n)) ≡ (bytes_eq name n && t || field (state_at states (number_of names n)))
+  field_put field t said n = ap field (state_put n) ∙ by (bytes_eq name n) refl
     where
-      by : (b : Bool) → bytes_eq name.0.now n ≡ b → option_map_or field (cond b (Some new) (state_in m.entries n)) false ≡ (b && t || has m.entries n)
-      by true e =
-          is ∙ ap (λ (b : Bool). t || b)
-          (ap field was ∙ (read_or (state_in m.entries name.0.now) d none ∙ ap (has m.entries) ((bytes_eq-Decides name.0.now n).0 e)))
+      by : (b : Bool) → bytes_eq name n ≡ b → field (cond b new (state_at states (number_of names n))) ≡ (b && t || field (state_at states (number_of names n)))
+      by true e = said ∙ ap (λ (s : NameState). t || field s) (read_state ∙ ap (λ (m : List ℕ). state_at states (number_of names m)) ((bytes_eq-Decides name n).0 e))
       by false e = refl
 
-module _ {S : Type 0} (m w : HashMap Name NameState S) (name : Name) (old new said : NameState) (es : Names)
-    (updates : Updates (λ x y. bytes_eq x.0.now y.0.now) m w name (Some new)) (was : old ≡ unwrap_or (state_in m.entries name.0.now) unknown) (same : es ≡ w.entries) where
-  pub requested_noted : new.requested ≡ (said.requested || old.requested) → (n : List ℕ) → requests_name es n ≡ (bytes_eq name.0.now n && said.requested || requests_name m.entries n)
-  unfolding requests_name
-  requested_noted is n = noted (λ s. s.requested) m w name old new unknown said.requested es updates was refl is same n
-
-  pub defined_noted : new.defined ≡ (said.defined || old.defined) → (n : List ℕ) → defines_name es n ≡ (bytes_eq name.0.now n && said.defined || defines_name m.entries n)
-  unfolding defines_name
-  defined_noted is n = noted (λ s. s.defined) m w name old new unknown said.defined es updates was refl is same n
-
-pub requested_before : {S : Type 0} (m : HashMap Name NameState S) (name : List ℕ) (old : NameState) → old ≡ unwrap_or (state_in m.entries name) unknown →
-    requests_name m.entries name ≡ old.requested
-unfolding requests_name
-requested_before m name old was = sym (ap (λ (s : NameState). s.requested) was ∙ read_or (λ s. s.requested) (state_in m.entries name) unknown refl)
-
 -- nothing is known of names where none is noted
-pub none_requested : (names : Names) → names ≡ [] → (n : List ℕ) → requests_name names n ≡ false
+pub none_requested : (names : Names) → names.states ≡ [] → (n : List ℕ) → requests_name names n ≡ false
 unfolding requests_name
-none_requested names none n = ap (λ (es : Names). option_map_or (λ s. s.requested) (state_in es n) false) none
+none_requested names none n = ap (λ (l : List NameState). (state_at l (number_of names.names n)).requested) none
 
-pub none_defined : (names : Names) → names ≡ [] → (n : List ℕ) → defines_name names n ≡ false
+pub none_defined : (names : Names) → names.states ≡ [] → (n : List ℕ) → defines_name names n ≡ false
 unfolding defines_name
-none_defined names none n = ap (λ (es : Names). option_map_or (λ s. s.defined) (state_in es n) false) none
+none_defined names none n = ap (λ (l : List NameState). (state_at l (number_of names.names n)).defined) none
+
+-- a state behind states that says nothing
+pub reached_more : (states : List NameState) (i : ℕ) → state_at (states ++ unknown ∷ []) i ≡ state_at states i
+reached_more states i = none_behind unknown states i
 
 -- one symbol more of a list
 pub any_more : {X : Type 0} (p : X → Bool) (xs : List X) (j : ℕ) (d : X) → j < length xs → list_any p (drop j xs) ≡ (p (get_or xs j d) || list_any p (drop (j + 1) xs))
@@ -135,3 +123,10 @@ not_defined e new none is empty = is ∙ ((λ j. e && false || empty j) ∙ by e
     by : (b : Bool) → (b && false || false) ≡ false
     by true = refl
     by false = refl
+
+-- the state of a name by a search of the states
+pub state_found : (names : Names) (name : List ℕ) (state : NameState) → Some state ≡ slice_get names.states (number_of names.names name) → state ≡ state_at names.states (number_of names.names name)
+state_found names name state is = sym (get_or_from_slice_get names.states (number_of names.names name) state unknown (sym is))
+
+pub state_missed : (names : Names) (name : List ℕ) → None ≡ slice_get names.states (number_of names.names name) → unknown ≡ state_at names.states (number_of names.names name)
+state_missed names name is = ap (λ (o : Option NameState). unwrap_or o unknown) is ∙ unwrap_or-slice_get names.states (number_of names.names name) unknown

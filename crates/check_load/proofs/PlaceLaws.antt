@@ -1,16 +1,12 @@
 -- The places of names, as they are added.
-use Rattle.std.proofs.Common.{◌≡◌, ℕ, suc, ◌+◌, ◌<◌, ◌≤◌, ◌⊎◌, inl, inr, ◌==◌, Bool, true, false, cond, ◌||◌, List, [], ◌∷◌, ◌++◌, length, get_or, Option, Some, None, option_map, refl, sym, ◌∙◌, ap, subst, arith}
-use Rattle.std.specs.Prelude.{All, unwrap_or}
-use Rattle.std.specs.Borrow.{Bor}
+use Rattle.std.proofs.Common.{◌≡◌, ℕ, zero, suc, ◌+◌, ◌<◌, ◌≤◌, ◌⊎◌, inl, inr, ◌==◌, Bool, true, false, cond, ◌||◌, List, [], ◌∷◌, ◌++◌, length, get_or, map, Some, refl, sym, ◌∙◌, ap, subst, arith}
+use Rattle.std.specs.Prelude.{All, set}
 use Rattle.std.specs.Global.{Vec}
-use Rattle.std.specs.HashMap.{HashMap, Updates}
 use Rattle.std.specs.List.{list_any, slice_get}
-use Rattle.std.specs.Map.{lookup}
 use Rattle.std.specs.Str.{bytes_eq}
 use Rattle.std.proofs.lemmas.Bool.{and_from, cases_lt, eq-eqb, or_left, or_right}
-use Rattle.std.proofs.lemmas.List.{get_or_default}
+use Rattle.std.proofs.lemmas.List.{get_or_default, map-append}
 use Rattle.std.proofs.lemmas.List.Folds.{list_any-append}
-use Rattle.std.proofs.lemmas.Map.Text.{hash_map_updates_str}
 use Rattle.std.proofs.lemmas.Option.{get_or_from_slice_get, slice_get_within}
 use Rattle.std.proofs.lemmas.Slice.Eq.{bytes_eq-Decides}
 use Rattle.elf_model.specs.ArchiveFile.{IndexEntry}
@@ -20,36 +16,59 @@ use Rattle.elf_model.specs.Files.{File}
 use Rattle.elf_model.specs.Opening.{Opened, opened, opened_from, opened_item}
 use Rattle.elf_model.proofs.LoadingBounds.{by_case}
 use Rattle.check_load.specs.Awake.{is_awake, is_place}
-use Rattle.check_load.specs.Places.{ArePlaced, IsAt, IsPlaced, IsWoken, PlaceMap, has_place, places_in}
+use Rattle.check_load.specs.Places.{ArePlaced, IsAt, IsPlaced, IsSized, IsWoken, has_place, list_at, places_in}
+use Rattle.check_load.specs.NameNumbers.{number_of, with_name}
+use Rattle.check_load.specs.declared.places.NamePlaces.{NamePlaces}
 use Rattle.check_load.specs.declared.awake_entries.Awake.{Awake}
+use Rattle.check_load.proofs.Numbering.{none_behind, value_written}
 
-abbrev found : PlaceMap → List ℕ → Option (Vec (ℕ × ℕ))
-found names n = lookup (λ k. bytes_eq n k.now) names
+-- lists as they are written
+abbrev items_of : List (Vec (ℕ × ℕ)) → List (List (ℕ × ℕ))
+items_of lists = map (λ v. v.items) lists
 
-abbrev items_of : Option (Vec (ℕ × ℕ)) → List (ℕ × ℕ)
-items_of f = unwrap_or (option_map (λ v. v.items) f) []
+items_length : (lists : List (Vec (ℕ × ℕ))) → length (items_of lists) ≡ length lists
+items_length [] = refl
+items_length (v ∷ vs) = ap (λ (c : ℕ). suc c) (items_length vs)
 
--- a place is added to those of a name
+items_set : (lists : List (Vec (ℕ × ℕ))) (i : ℕ) (v : Vec (ℕ × ℕ)) → items_of (set lists i v) ≡ set (items_of lists) i v.items
+items_set [] i v = refl
+items_set (x ∷ xs) zero v = refl
+items_set (x ∷ xs) (suc i) v = ap (λ (l : List (List (ℕ × ℕ))). x.items ∷ l) (items_set xs i v)
+
+items_at : (lists : List (Vec (ℕ × ℕ))) (i : ℕ) (d : Vec (ℕ × ℕ)) → i < length lists → (get_or lists i d).items ≡ get_or (items_of lists) i []
+items_at [] i d low = absurd (omega (arith, low))
+items_at (x ∷ xs) zero d low = refl
+items_at (x ∷ xs) (suc i) d low = items_at xs i d (omega (arith, low))
+
+-- an empty list behind lists
+pub list_behind : (lists : List (Vec (ℕ × ℕ))) (v : Vec (ℕ × ℕ)) → v.items ≡ [] → (i : ℕ) → list_at (lists ++ v ∷ []) i ≡ list_at lists i
+list_behind lists v empty i =
+    ap (λ (l : List (List (ℕ × ℕ))). get_or l i [])
+    (map-append (λ v. v.items) lists (v ∷ []) ∙ ap (λ (x : List (ℕ × ℕ)). items_of lists ++ x ∷ []) empty)
+    ∙ none_behind [] (items_of lists) i
+
+-- a place is added to those of a name that comes
 pub place_added :
-    {S : Type 0} (m w : HashMap (Bor (List ℕ)) (Vec (ℕ × ℕ)) S) (name : Bor (List ℕ)) (place : ℕ × ℕ) (old new d : Vec (ℕ × ℕ)) (names : PlaceMap) →
-    Updates (λ x y. bytes_eq x.now y.now) m w name (Some new) → old ≡ unwrap_or (found m.entries name.now) d → d.items ≡ [] →
-    new.items ≡ old.items ++ place ∷ [] → names ≡ w.entries → (n : List ℕ) →
-    places_in names n ≡ cond (bytes_eq name.now n) (places_in m.entries n ++ place ∷ []) (places_in m.entries n)
-place_added m w name place old new d names updates was none is same n =
-    ap (λ (l : PlaceMap). places_in l n) same ∙ (ap items_of (hash_map_updates_str name.now m w (Some new) updates n) ∙ by (bytes_eq name.now n) refl)
+    (old new : NamePlaces) (reached : List (Vec (ℕ × ℕ))) (name : List ℕ) (i : ℕ) (place : ℕ × ℕ) (read grown : Vec (ℕ × ℕ)) →
+    IsSized old → new.names ≡ with_name old.names name → i ≡ number_of old.names name → ((k : ℕ) → list_at reached k ≡ list_at old.lists.items k) →
+    i < length reached → read ≡ get_or reached i read → grown.items ≡ read.items ++ place ∷ [] → new.lists.items ≡ set reached i grown → (n : List ℕ) →
+    places_in new n ≡ cond (bytes_eq name n) (places_in old n ++ place ∷ []) (places_in old n)
+place_added old new reached name i place read grown sized comes is same there reads grows put n =
+    ap (λ (l : List (Vec (ℕ × ℕ))). list_at l (number_of new.names n)) put
+    ∙ (ap (λ (l : List (List (ℕ × ℕ))). get_or l (number_of new.names n) []) (items_set reached i grown)
+    ∙ (value_written [] old.names new.names (items_of old.lists.items) (items_of reached) name i grown.items (let e = items_length old.lists.items in omega (arith, e, sized)) comes is same
+    (let e = items_length reached in omega (arith, e, there)) n
+    ∙ by (bytes_eq name n) refl))
   where
-    had_items : (f : Option (Vec (ℕ × ℕ))) → (unwrap_or f d).items ≡ items_of f
-    had_items None = none
-    had_items (Some v) = refl
+    before : read.items ≡ places_in old name
+    before = ap (λ (v : Vec (ℕ × ℕ)). v.items) reads ∙ (items_at reached i read there ∙ (same i ∙ ap (list_at old.lists.items) is))
 
-    by : (b : Bool) → bytes_eq name.now n ≡ b → items_of (cond b (Some new) (found m.entries n)) ≡ cond b (places_in m.entries n ++ place ∷ []) (places_in m.entries n)
-    by true e =
-        is ∙ ap (λ (l : List (ℕ × ℕ)). l ++ place ∷ [])
-        (ap (λ (v : Vec (ℕ × ℕ)). v.items) was ∙ (had_items (found m.entries name.now) ∙ ap (places_in m.entries) ((bytes_eq-Decides name.now n).0 e)))
+    by : (b : Bool) → bytes_eq name n ≡ b → cond b grown.items (places_in old n) ≡ cond b (places_in old n ++ place ∷ []) (places_in old n)
+    by true e = grows ∙ ap (λ (l : List (ℕ × ℕ)). l ++ place ∷ []) (before ∙ ap (places_in old) ((bytes_eq-Decides name n).0 e))
     by false e = refl
 
 -- what a name had, it has; and it has the new place
-module _ (old new : PlaceMap) (name : List ℕ) (place : ℕ × ℕ) (added : (n : List ℕ) → places_in new n ≡ cond (bytes_eq name n) (places_in old n ++ place ∷ []) (places_in old n)) where
+module _ (old new : NamePlaces) (name : List ℕ) (place : ℕ × ℕ) (added : (n : List ℕ) → places_in new n ≡ cond (bytes_eq name n) (places_in old n ++ place ∷ []) (places_in old n)) where
   pub had : (n : List ℕ) (i q : ℕ) → has_place old n i q ≡ true → has_place new n i q ≡ true
   had n i q there =
       by_case (bytes_eq name n)
@@ -66,7 +85,7 @@ module _ (old new : PlaceMap) (name : List ℕ) (place : ℕ × ℕ) (added : (n
 
 -- one more entry of an item
 pub entries_step :
-    (old new : PlaceMap) (es : List IndexEntry) (i item : ℕ) (x : IndexEntry) (name : List ℕ) → x ≡ get_or es i x → name ≡ x.name →
+    (old new : NamePlaces) (es : List IndexEntry) (i item : ℕ) (x : IndexEntry) (name : List ℕ) → x ≡ get_or es i x → name ≡ x.name →
     ((n : List ℕ) → places_in new n ≡ cond (bytes_eq name n) (places_in old n ++ (item, i) ∷ []) (places_in old n)) →
     ((q : ℕ) (e : IndexEntry) → q < i → slice_get es q ≡ Some e → has_place old e.name item q ≡ true) →
     (q : ℕ) (e : IndexEntry) → q < i + 1 → slice_get es q ≡ Some e → has_place new e.name item q ≡ true
@@ -82,12 +101,12 @@ entries_step old new es i item x name is called added before q e within at = by 
         (has_now old new name (item, i) added e.name (sym (called ∙ ap (λ (y : IndexEntry). y.name) entry)))
 
 -- where the entries of an archive stand, they stand later
-pub placed_on : (old new : PlaceMap) (o : Opened) → ((n : List ℕ) (i q : ℕ) → has_place old n i q ≡ true → has_place new n i q ≡ true) → IsPlaced old o → IsPlaced new o
+pub placed_on : (old new : NamePlaces) (o : Opened) → ((n : List ℕ) (i q : ℕ) → has_place old n i q ≡ true → has_place new n i q ≡ true) → IsPlaced old o → IsPlaced new o
 placed_on old new o on placed q e entry = on e.name o.number q (placed q e entry)
 
 -- one more input
 pub inputs_step :
-    (old new : PlaceMap) (os : List Opened) (i : ℕ) (x : Opened) → i < length os → x ≡ get_or os i x → IsPlaced new x →
+    (old new : NamePlaces) (os : List Opened) (i : ℕ) (x : Opened) → i < length os → x ≡ get_or os i x → IsPlaced new x →
     ((n : List ℕ) (j q : ℕ) → has_place old n j q ≡ true → has_place new n j q ≡ true) → ((k : ℕ) (d : Opened) → k < i → IsPlaced old (get_or os k d)) →
     (k : ℕ) (d : Opened) → k < i + 1 → IsPlaced new (get_or os k d)
 inputs_step old new os i x low is here on before k d within = by (cases_lt k i)
@@ -104,7 +123,7 @@ at_number P os o all at = subst P (get_or_from_slice_get os o.number o o at) (al
 
 -- where all places of a name are woken, all entries of the name are
 pub all_woken :
-    (names : PlaceMap) (os : List Opened) (name : List ℕ) (list : List (ℕ × ℕ)) (old new : Awake) → ArePlaced names os → list ≡ places_in names name →
+    (names : NamePlaces) (os : List Opened) (name : List ℕ) (list : List (ℕ × ℕ)) (old new : Awake) → ArePlaced names os → list ≡ places_in names name →
     ((i q : ℕ) → is_awake new i q ≡ (list_any (is_place i q) list || is_awake old i q)) → IsWoken os name new
 all_woken names os name list old new placed is told o q e at entry same =
     let there : has_place names e.name o.number q ≡ true = at_number (IsPlaced names) os o placed at q e entry in

@@ -1,15 +1,14 @@
 -- The signatures seen, as a test of names and as a list.
 use Rattle.std.proofs.Common.{◌≡◌, ℕ, Bool, true, false, cond, not, ◌&&◌, ◌||◌, List, [], ◌∷◌, ◌++◌, refl, ap, sym, ◌∙◌, subst}
 use Rattle.std.specs.Cmp.Lexicographic.{nat_list_eq_equiv}
-use Rattle.std.specs.List.{flat_map, list_any}
+use Rattle.std.specs.List.{flat_map}
 use Rattle.std.specs.Str.{bytes_eq}
 use Rattle.std.proofs.lemmas.List.Folds.{list_any-append}
 use Rattle.std.proofs.lemmas.Slice.Eq.{bytes_eq-Decides}
 use Rattle.elf_model.specs.Groups.{ascending, dropped, dropped_groups, is_comdat, is_seen, seen_after, seen_with}
 use Rattle.elf_model.specs.ObjectFile.{Group}
-use Rattle.elf_model.specs.declared.name.Name.{Name}
-use Rattle.indexmap.specs.IndexSet.{insert_key}
-use Rattle.check_load.specs.Signatures.{lost_by, lost_groups, seen_by, seen_in, seen_then}
+use Rattle.check_load.specs.Signatures.{lost_by, lost_groups, seen_by, seen_then}
+use Rattle.check_load.specs.NameNumbers.{is_among, with_name}
 
 pub same_names : (a b : List ℕ) → bytes_eq a b ≡ bytes_eq b a
 same_names a b = nat_list_eq_equiv.symm a b
@@ -25,36 +24,33 @@ or_last true false = refl
 or_last false true = refl
 or_last false false = refl
 
-name_inserted : (names : List Name) (key : Name) (n : List ℕ) →
-    seen_in (insert_key (λ x y. bytes_eq x.0.now y.0.now) names key) n ≡ (bytes_eq key.0.now n || seen_in names n)
-unfolding seen_in
-name_inserted names key n = by (seen_in names key.0.now) refl
+name_comes : (names : List (List ℕ)) (name n : List ℕ) → is_among (with_name names name) n ≡ (bytes_eq name n || is_among names n)
+name_comes names name n = by (is_among names name) refl
   where
-    by : (b : Bool) → seen_in names key.0.now ≡ b → seen_in (cond b names (names ++ key ∷ [])) n ≡ (bytes_eq key.0.now n || seen_in names n)
-    by true is = or_known (bytes_eq key.0.now n) (seen_in names n) (λ e. subst (λ (m : List ℕ). seen_in names m ≡ true) ((bytes_eq-Decides key.0.now n).0 e) is)
+    by : (b : Bool) → is_among names name ≡ b → is_among (cond b names (names ++ name ∷ [])) n ≡ (bytes_eq name n || is_among names n)
+    by true is = or_known (bytes_eq name n) (is_among names n) (λ e. subst (λ (m : List ℕ). is_among names m ≡ true) ((bytes_eq-Decides name n).0 e) is)
     by false is =
-        list_any-append (λ k. bytes_eq n k.0.now) names (key ∷ [])
-        ∙ (or_last (seen_in names n) (bytes_eq n key.0.now) ∙ ap (λ (b : Bool). b || seen_in names n) (same_names n key.0.now))
+        list_any-append (bytes_eq n) names (name ∷ [])
+        ∙ (or_last (is_among names n) (bytes_eq n name) ∙ ap (λ (b : Bool). b || is_among names n) (same_names n name))
 
-pub set_then : (old new : List Name) (key : Name) (g : Group) → is_comdat g ≡ true → key.0.now ≡ g.signature →
-    new ≡ insert_key (λ x y. bytes_eq x.0.now y.0.now) old key → seen_in new ≡ seen_then (seen_in old) g
-set_then old new key g comdat same grown = λ j n. told n j
+pub set_then : (old new : List (List ℕ)) (name : List ℕ) (g : Group) → is_comdat g ≡ true → name ≡ g.signature →
+    new ≡ with_name old name → is_among new ≡ seen_then (is_among old) g
+set_then old new name g comdat same grown = λ j n. told n j
   where
-    told : (n : List ℕ) → seen_in new n ≡ seen_then (seen_in old) g n
+    told : (n : List ℕ) → is_among new n ≡ seen_then (is_among old) g n
     told n =
-        ap (λ (names : List Name). seen_in names n) grown
-        ∙ (name_inserted old key n ∙ (λ j. (sym comdat j && bytes_eq (same j) n) || seen_in old n))
+        ap (λ (names : List (List ℕ)). is_among names n) grown
+        ∙ (name_comes old name n ∙ (λ j. (sym comdat j && bytes_eq (same j) n) || is_among old n))
 
 -- whether a signature was seen, by what its insertion answers
 not_not : (b : Bool) → b ≡ not (not b)
 not_not true = refl
 not_not false = refl
 
-pub seen_unless : (old : List Name) (key : Name) (g : Group) (added : Bool) → is_comdat g ≡ true → key.0.now ≡ g.signature →
-    added ≡ not (list_any (λ k. bytes_eq key.0.now k.0.now) old) → (is_comdat g && seen_in old g.signature) ≡ not added
-unfolding seen_in
-seen_unless old key g added comdat same is =
-    (λ j. comdat j && seen_in old (sym same j)) ∙ (not_not (seen_in old key.0.now) ∙ ap not (sym is))
+pub seen_unless : (old : List (List ℕ)) (name : List ℕ) (g : Group) (added : Bool) → is_comdat g ≡ true → name ≡ g.signature →
+    added ≡ not (is_among old name) → (is_comdat g && is_among old g.signature) ≡ not added
+seen_unless old name g added comdat same is =
+    (λ j. comdat j && is_among old (sym same j)) ∙ (not_not (is_among old name) ∙ ap not (sym is))
 
 -- with the list of the definitions
 list_then : (seen : List (List ℕ)) (g : Group) (name : List ℕ) → is_seen (seen_with seen g) name ≡ seen_then (is_seen seen) g name

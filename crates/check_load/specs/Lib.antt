@@ -1,11 +1,13 @@
 pub mod Awake
-pub mod Files
 pub mod Loaders
 pub mod Marks
+pub mod NameFinders
+pub mod NameNumbers
 pub mod Names
 pub mod Opened
 pub mod Places
 pub mod Plans
+pub mod Rounds
 pub mod Signatures
 pub mod Steps
 pub mod Stops

@@ -1,14 +1,14 @@
 -- What a loader knows of the objects that are loaded.
-use Rattle.std.specs.Prelude.{◌≡◌, ℕ, ◌&&◌, Bool, true, not, List, [], Some, slice_get}
+use Rattle.std.specs.Prelude.{◌≡◌, ℕ, ◌&&◌, Bool, true, false, not, List, [], Some, slice_get}
 use Rattle.elf_model.specs.ArchiveFile.{IndexEntry}
 use Rattle.elf_model.specs.Groups.{AreLawfulGroups, is_seen}
 use Rattle.elf_model.specs.Loading.{AreObjects, HaveLawfulGroups, LoadedObject, is_begun, is_defined, is_requested, is_taken, seen_behind}
 use Rattle.elf_model.specs.ObjectFile.{IsObject, groups}
 use Rattle.elf_model.specs.Opening.{Opened, archive_entries}
 use Rattle.check_load.specs.Awake.{is_awake}
+use Rattle.check_load.specs.NameNumbers.{is_among}
 use Rattle.check_load.specs.Names.{Names, defines_name, requests_name}
 use Rattle.check_load.specs.Places.{IsAt}
-use Rattle.check_load.specs.Signatures.{seen_in}
 use Rattle.check_load.specs.Taken.{has_item, has_member}
 use Rattle.check_load.specs.Views.{loaded_views}
 use Rattle.check_load.specs.declared.awake_entries.Awake.{Awake}
@@ -38,10 +38,10 @@ AreFreeAwake names taken item es awake = (q : ℕ) (e : IndexEntry) → slice_ge
 -- its tables are those of the objects, which are objects with lawful groups, and what archives among the inputs may
 -- take is awake
 pub record Knows (os : List Opened) (l : Loader) : Type 0 where
-  pub seen : seen_in l.seen.keys ≡ is_seen (seen_behind [] (loaded l))
+  pub seen : is_among l.seen ≡ is_seen (seen_behind [] (loaded l))
   pub requested : (n : List ℕ) → requests_name l.names n ≡ is_requested l.plan.now (loaded l) n
   pub defined : (n : List ℕ) → defines_name l.names n ≡ is_defined (loaded l) n
   pub taken : (item offset : ℕ) → has_member l.taken item offset ≡ is_taken (loaded l) item offset
   pub begun : (item : ℕ) → has_item l.taken item ≡ is_begun (loaded l) item
   pub loadable : AreLoadable (loaded l)
-  pub awake : (o : Opened) → IsAt os o → o.archive ≡ true → AreFreeAwake l.names l.taken o.number (archive_entries o.bytes) l.awake
+  pub awake : (o : Opened) → IsAt os o → o.archive ≡ true → o.whole ≡ false → AreFreeAwake l.names l.taken o.number (archive_entries o.bytes) l.awake

@@ -1,38 +1,42 @@
 -- The places of names in the indexes of archives, and which of them are woken.
-use Rattle.std.specs.Prelude.{◌≡◌, ℕ, Bool, true, false, List, [], All, Some, option_map, slice_get, unwrap_or}
-use Rattle.std.specs.Borrow.{Bor}
+use Rattle.std.specs.Prelude.{◌≡◌, ℕ, Bool, true, false, List, [], ◌≤◌, All, Some, length, map, slice_get, slice_index_or}
 use Rattle.std.specs.Global.{Vec}
 use Rattle.std.specs.List.{list_any}
-use Rattle.std.specs.Map.{lookup}
-use Rattle.std.specs.Str.{bytes_eq}
 use Rattle.elf_model.specs.ArchiveFile.{IndexEntry}
 use Rattle.elf_model.specs.Opening.{Opened, archive_entries}
 use Rattle.check_load.specs.Awake.{is_awake, is_place}
 use Rattle.check_load.specs.Names.{Names, requests_name}
+use Rattle.check_load.specs.NameNumbers.{number_of}
 use Rattle.check_load.specs.declared.awake_entries.Awake.{Awake}
+use Rattle.check_load.specs.declared.places.NamePlaces.{NamePlaces}
 
--- borrowed names with their places
-abbrev pub PlaceMap : Type 0
-PlaceMap = List (Bor (List ℕ) × Vec (ℕ × ℕ))
+-- lists of places are of names
+abbrev pub IsSized : NamePlaces → Type 0
+IsSized p = length p.lists.items ≤ length p.names
+
+-- the places at a number
+abbrev pub list_at : List (Vec (ℕ × ℕ)) → ℕ → List (ℕ × ℕ)
+list_at lists i = slice_index_or (map (λ v. v.items) lists) i []
 
 -- the places of a name
-abbrev pub places_in : PlaceMap → List ℕ → List (ℕ × ℕ)
-places_in names name = unwrap_or (option_map (λ v. v.items) (lookup (λ k. bytes_eq name k.now) names)) []
+abbrev pub places_in : NamePlaces → List ℕ → List (ℕ × ℕ)
+places_in p name = list_at p.lists.items (number_of p.names name)
 
 -- an entry of an item is a place of a name
-abbrev pub has_place : PlaceMap → List ℕ → ℕ → ℕ → Bool
+abbrev pub has_place : NamePlaces → List ℕ → ℕ → ℕ → Bool
 has_place names name item entry = list_any (is_place item entry) (places_in names name)
 
--- entry number q of an archive
+-- entry number q of an archive that is searched
 pub record IsEntry (o : Opened) (q : ℕ) (e : IndexEntry) : Type 0 where
   pub archive : o.archive ≡ true
+  pub searched : o.whole ≡ false
   pub there : slice_get (archive_entries o.bytes) q ≡ Some e
 
 -- the entries of an archive stand at the places of their names; so do those of all inputs
-abbrev pub IsPlaced : PlaceMap → Opened → Type 0
+abbrev pub IsPlaced : NamePlaces → Opened → Type 0
 IsPlaced names o = (q : ℕ) (e : IndexEntry) → IsEntry o q e → has_place names e.name o.number q ≡ true
 
-abbrev pub ArePlaced : PlaceMap → List Opened → Type 0
+abbrev pub ArePlaced : NamePlaces → List Opened → Type 0
 ArePlaced names os = All (IsPlaced names) os
 
 -- an input stands at its number

@@ -1,14 +1,9 @@
 -- The signatures that were seen, as a test of names, and what is dropped by them.
 use Rattle.std.specs.Prelude.{ℕ, Bool, List, [], ◌∷◌, ◌++◌, ◌&&◌, ◌||◌, if◌then◌else◌}
-use Rattle.std.specs.List.{flat_map, list_any}
+use Rattle.std.specs.List.{flat_map}
 use Rattle.std.specs.Str.{bytes_eq}
 use Rattle.elf_model.specs.Groups.{ascending, is_comdat}
 use Rattle.elf_model.specs.ObjectFile.{Group}
-use Rattle.elf_model.specs.declared.name.Name.{Name}
-
--- whether a name is among names
-unfoldable pub seen_in : List Name → List ℕ → Bool
-seen_in names name = list_any (λ k. bytes_eq name k.0.now) names
 
 -- what is seen after a group, and after groups
 abbrev pub seen_then : (List ℕ → Bool) → Group → List ℕ → Bool

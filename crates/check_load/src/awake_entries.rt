@@ -55,6 +55,16 @@ impl Awake {
         Some(place.1)
     }
 
+    /// The first item, of those that have at least a number, that has an entry that is awake.
+    pub fn first_item(&self, from: u64) -> Option<u64>
+        ensures behind { IfSome result (λ k. from ≤ k) }
+        ensures least { IfSome result (λ k. (j q : ℕ) → from ≤ j → j < k → is_awake self.now j q ≡ false) }
+        ensures none { IfNone result ((j q : ℕ) → from ≤ j → is_awake self.now j q ≡ false) }
+    {
+        let place = self.places.range((from, 0)..).next()?;
+        Some(place.0)
+    }
+
     /// Lets an entry that is awake sleep.
     pub fn lull(&mut self, item: u64, entry: usize)
         requires { is_awake self.old item entry ≡ true }

@@ -3,31 +3,31 @@ ghost use Rattle.std.specs.Prelude.{◌≡◌, ℕ, IfOk, IfSome, List, None, On
 ghost use Rattle.std.specs.Option.{option_or};
 ghost use Rattle.std.specs.Str.{bytes_eq};
 ghost use Rattle.elf_model.specs.Files.{files_of};
-ghost use Rattle.check_load.specs.Files.{IsIndex, found};
+ghost use Rattle.elf_model.specs.FileIndex.{IsIndex, found};
 ghost use Rattle.elf_model.specs.Opening.{file_named};
 
 use elf_model::InputFile;
-use indexmap::IndexMap;
 use std::alloc::{AllocError, Global};
+use std::collections::BTreeMap;
 use std::marker::Model;
 
 /// Files, with an index of their names. Of several files of one name the first counts.
 #[derive(Drop)]
 pub struct FileIndex<'a> {
     files: &'a [InputFile],
-    index: IndexMap<&'a str, &'a [u8]>,
+    index: BTreeMap<&'a str, &'a [u8]>,
 }
 
 impl<'a> Model for FileIndex<'a> {
     ghost use Rattle.std.specs.Prelude.{List};
     ghost use Rattle.elf_model.specs.Files.{File, files_of};
-    ghost use Rattle.check_load.specs.Files.{IsIndex};
+    ghost use Rattle.elf_model.specs.FileIndex.{IsIndex};
 
     ghost Value = { List File };
 
     ghost view = { λ f. files_of f.files.now };
 
-    ghost invariant = { λ f. IsIndex (files_of f.files.now) f.index.entries };
+    ghost invariant = { λ f. IsIndex (files_of f.files.now) f.index };
 }
 
 impl<'a> FileIndex<'a> {
@@ -51,14 +51,15 @@ impl<'a> FileIndex<'a> {
 
 /// Puts a file into the index, unless one of its name is there.
 fn add_file<'a>(
-    index: &mut IndexMap<&'a str, &'a [u8]>,
+    index: &mut BTreeMap<&'a str, &'a [u8]>,
     file: &'a InputFile,
 ) -> Result<(), AllocError>
-    ensures { OnOk result ((name : List ℕ) → found index.new.entries name ≡ option_or (found index.old.entries name) (cond (bytes_eq (string_bytes file.entry.now.name) name) (Some file.entry.now.bytes.items) None)) }
+    ensures { OnOk result ((name : List ℕ) → found index.new name ≡ option_or (found index.old name) (cond (bytes_eq (string_bytes file.entry.now.name) name) (Some file.entry.now.bytes.items) None)) }
 {
     let name = file.name.as_str();
-    let bytes = file.bytes.as_slice();
-    index.entry(name)?.or_insert(bytes);
+    if !index.contains_key(name) {
+        index.insert(name, file.bytes.as_slice())?;
+    }
     Ok(())
 }
 
@@ -66,10 +67,10 @@ fn add_file<'a>(
 fn index_files<'a>(
     alloc: Global,
     files: &'a [InputFile],
-) -> Result<IndexMap<&'a str, &'a [u8]>, AllocError>
-    ensures { IfOk result (λ i. IsIndex (files_of files.entry.now) i.entries) }
+) -> Result<BTreeMap<&'a str, &'a [u8]>, AllocError>
+    ensures { IfOk result (IsIndex (files_of files.entry.now)) }
 {
-    let mut index = IndexMap::new(alloc);
+    let mut index = BTreeMap::new(alloc);
     for file in files {
         add_file(&mut index, file)?;
     }

@@ -1,10 +1,11 @@
-//! What is known of names, found by hash: which are asked for, and which are defined.
-ghost use Rattle.std.specs.Prelude.{◌≡◌, ◌&&◌, ◌||◌, ℕ, IfOk, List, OnOk, false};
+//! What is known of names, each at its number: which are asked for, and which are defined.
+ghost use Rattle.std.specs.Prelude.{◌≡◌, ◌≤◌, ◌<◌, ◌+◌, ◌&&◌, ◌||◌, ℕ, IfOk, List, OnOk, false, length, max, option_copied, slice_get};
 ghost use Rattle.std.specs.Str.{bytes_eq};
-ghost use Rattle.check_load.specs.Names.{defines_name, requests_name};
+ghost use Rattle.check_load.specs.NameNumbers.{number_of};
+ghost use Rattle.check_load.specs.Names.{defines_name, requests_name, state_at};
 
-use elf_model::{Name, NameSeed};
-use indexmap::IndexMap;
+use crate::name_table::NameTable;
+use elf_model::NameSeed;
 use std::alloc::{AllocError, Global};
 use std::marker::Model;
 
@@ -35,38 +36,62 @@ fn take_in(state: &mut NameState, said: NameState) -> bool
     before
 }
 
-/// The names that were noted, with what is known of them.
+/// Lets there be a state at a number: of those that come, nothing is known.
+fn reach(states: &mut Vec<NameState>, number: usize) -> Result<(), AllocError>
+    ensures same { (i : ℕ) → state_at states.new.items i ≡ state_at states.old.items i }
+    ensures there { OnOk result (number < length states.new.items) }
+    ensures size { length states.new.items ≤ max (length states.old.items) (number + 1) }
+{
+    while states.len() <= number {
+        states.push(UNKNOWN)?;
+    }
+    Ok(())
+}
+
+/// The names that were noted, with what is known of them. Names whose states are missing were never noted.
 #[derive(Drop)]
 pub struct KnownNames<'a> {
-    states: IndexMap<Name<'a>, NameState, NameSeed>,
+    names: NameTable<'a>,
+    states: Vec<NameState>,
 }
 
 impl<'a> Model for KnownNames<'a> {
+    ghost use Rattle.std.specs.Prelude.{◌≤◌, length};
     ghost use Rattle.check_load.specs.Names.{Names};
 
     ghost Value = { Names };
 
-    ghost view = { λ n. n.states.entries };
+    ghost view = { λ n. record { names = n.names; states = n.states.items } };
+
+    ghost invariant = { λ n. length n.states.items ≤ length n.names };
 }
 
 impl<'a> KnownNames<'a> {
-    /// No names. Takes no memory.
-    pub fn new(alloc: Global) -> KnownNames<'a>
+    /// No names, which are to be hashed from a seed, or found by their order without one. Takes no memory.
+    pub fn new(alloc: Global, seed: Option<NameSeed>) -> KnownNames<'a>
         ensures requested { (n : List ℕ) → requests_name result n ≡ false }
         ensures defined { (n : List ℕ) → defines_name result n ≡ false }
     {
         KnownNames {
-            states: IndexMap::with_hasher(alloc, NameSeed::fixed()),
+            names: NameTable::new(alloc, seed),
+            states: Vec::new(alloc),
         }
     }
 
+    /// The state of a name that was noted.
+    fn found(&self, name: &[u8]) -> Option<&NameState>
+        ensures { option_copied result ≡ slice_get self.now.states (number_of self.now.names name.now) }
+    {
+        let number = self.names.find(name)?;
+        self.states.get(number)
+    }
+
     /// What is known of a name; nothing of one that wasn't noted.
-    #[tactic(auto, unfolding(crate::specs::Names::requests_name, crate::specs::Names::defines_name))]
     pub fn state_of(&self, name: &[u8]) -> NameState
         ensures requested { result.requested ≡ requests_name self.now name.now }
         ensures defined { result.defined ≡ defines_name self.now name.now }
     {
-        match self.states.get(&Name(name)) {
+        match self.found(name) {
             Some(state) => *state,
             None => UNKNOWN,
         }
@@ -78,7 +103,8 @@ impl<'a> KnownNames<'a> {
         ensures requested { OnOk result ((n : List ℕ) → requests_name self.new n ≡ (bytes_eq name.entry.now n && said.requested || requests_name self.old n)) }
         ensures defined { OnOk result ((n : List ℕ) → defines_name self.new n ≡ (bytes_eq name.entry.now n && said.defined || defines_name self.old n)) }
     {
-        let state = self.states.entry(Name(name))?.or_insert(UNKNOWN);
-        Ok(take_in(state, said))
+        let (number, _is_new) = self.names.add(name)?;
+        reach(&mut self.states, number)?;
+        Ok(take_in(&mut self.states[number], said))
     }
 }

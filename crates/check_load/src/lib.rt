@@ -9,6 +9,7 @@ mod lawfulness;
 mod load_steps;
 mod loader;
 mod marks;
+mod name_table;
 mod names;
 mod opened_items;
 mod places;
@@ -20,4 +21,5 @@ mod turns;
 
 pub use load_steps::open;
 pub use loader::Loaded;
+pub use name_table::NameTable;
 pub use signatures::Dropped;

@@ -6,6 +6,7 @@ ghost use Rattle.elf_model.specs.Loading.{Single, group_of, loaded_objects, load
 ghost use Rattle.check_load.specs.Loaders.{AreLoadable, Knows, loaded};
 ghost use Rattle.check_load.specs.Places.{IsAt};
 ghost use Rattle.check_load.specs.Plans.{CanLoad};
+ghost use Rattle.check_load.specs.Rounds.{AreSideBySide};
 ghost use Rattle.check_load.specs.Steps.{in_group};
 ghost use Rattle.check_load.specs.Stops.{Refutes};
 ghost use Rattle.check_load.specs.Views.{loaded_views};
@@ -19,7 +20,7 @@ use crate::rounds::run_rounds;
 use crate::stops::Stop;
 use crate::turns::turn;
 use command::Plan;
-use elf_model::InputFile;
+use elf_model::{InputFile, NameSeed};
 use std::alloc::{AllocError, Global};
 
 /// The number of an archive's group; None of one that is in none, and of an object.
@@ -77,6 +78,7 @@ fn load_step<'a>(
 ) -> Result<usize, Stop>
     requires known { Knows places.now loader.old }
     requires at { All (IsAt places.now) inputs.now }
+    requires numbers { AreSideBySide inputs.now }
     requires some { 0 < length inputs.now }
     ensures plan { OnOk result (loader.new.plan.now ≡ loader.old.plan.now) }
     ensures known { OnOk result (Knows places.now loader.new) }
@@ -103,6 +105,7 @@ fn load_inputs<'a>(
 ) -> Result<(), Stop>
     requires known { Knows places.now loader.old }
     requires at { All (IsAt places.now) inputs.now }
+    requires numbers { AreSideBySide inputs.now }
     ensures known { OnOk result (Knows places.now loader.new) }
     ensures loaded { OnOk result (loaded loader.new ≡ loaded_steps loader.old.plan.now (steps inputs.now) (loaded loader.old)) }
     ensures stop { IfErr result (Refutes (AreLoadable (loaded_steps loader.old.plan.now (steps inputs.now) (loaded loader.old)))) }
@@ -120,20 +123,27 @@ fn load_all<'a>(
     alloc: Global,
     plan: &Plan<'a>,
     inputs: &[Input<'a>],
+    seed: Option<NameSeed>,
 ) -> Result<Vec<Loaded<'a>>, Stop>
-    requires { All (IsAt inputs.now) inputs.now }
+    requires at { All (IsAt inputs.now) inputs.now }
+    requires numbers { AreSideBySide inputs.now }
     ensures loaded { IfOk result (λ v. loaded_views v.items ≡ loaded_steps plan.now (steps inputs.now) []) }
     ensures good { OnOk result (AreLoadable (loaded_steps plan.now (steps inputs.now) [])) }
     ensures stop { IfErr result (Refutes (AreLoadable (loaded_steps plan.now (steps inputs.now) []))) }
 {
-    let places = Places::new(alloc, inputs)?;
-    let mut loader = Loader::new(alloc, &places, plan)?;
+    let places = Places::new(alloc, inputs, seed)?;
+    let mut loader = Loader::new(alloc, &places, plan, seed)?;
     load_inputs(alloc, &places, &mut loader, inputs)?;
     Ok(loader.take_objects(alloc))
 }
 
 /// Loads a plan.
-fn load<'a>(alloc: Global, plan: &Plan<'a>, files: &'a [InputFile]) -> Result<Vec<Loaded<'a>>, Stop>
+fn load<'a>(
+    alloc: Global,
+    plan: &Plan<'a>,
+    files: &'a [InputFile],
+    seed: Option<NameSeed>,
+) -> Result<Vec<Loaded<'a>>, Stop>
     ensures loaded { IfOk result (λ v. loaded_views v.items ≡ loaded_objects (files_of files.entry.now) plan.now) }
     ensures good { OnOk result (CanLoad (files_of files.entry.now) plan.now) }
     ensures stop { IfErr result (Refutes (CanLoad (files_of files.entry.now) plan.now)) }
@@ -141,7 +151,7 @@ fn load<'a>(alloc: Global, plan: &Plan<'a>, files: &'a [InputFile]) -> Result<Ve
     let index = FileIndex::new(alloc, files)?;
     let items = open_plan(alloc, &index, plan)?;
     let inputs = read_inputs(alloc, &items)?;
-    load_all(alloc, plan, &inputs)
+    load_all(alloc, plan, &inputs, seed)
 }
 
 /// The loaded objects of a plan, in load order (ld(1)); None where it can't be loaded: an item has no
@@ -154,6 +164,8 @@ fn load<'a>(alloc: Global, plan: &Plan<'a>, files: &'a [InputFile]) -> Result<Ve
 /// under `--whole-archive` gives all its members at its first turn. A COMDAT group whose signature a loaded
 /// object has already is dropped (System V gABI 4, "Section Groups").
 ///
+/// Names are hashed from the seed, which whoever picks them mustn't know, or found by their order without one.
+///
 /// # Errors
 ///
 /// AllocError where memory is refused.
@@ -161,11 +173,12 @@ pub fn open<'a>(
     alloc: Global,
     plan: &Plan<'a>,
     files: &'a [InputFile],
+    seed: Option<NameSeed>,
 ) -> Result<Option<Vec<Loaded<'a>>>, AllocError>
     ensures loaded { IfOk result (λ o. IfSome o (λ v. loaded_views v.items ≡ loaded_objects (files_of files.entry.now) plan.now)) }
     ensures some { IfOk result (λ o. IsSome o ↔ CanLoad (files_of files.entry.now) plan.now) }
 {
-    match load(alloc, plan, files) {
+    match load(alloc, plan, files, seed) {
         Ok(objects) => Ok(Some(objects)),
         Err(Stop::Memory) => Err(AllocError),
         Err(Stop::Unlawful) => Ok(None),

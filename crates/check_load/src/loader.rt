@@ -1,5 +1,5 @@
 //! The objects that are loaded so far, and what loading has to know of them.
-ghost use Rattle.std.specs.Prelude.{true, false, ◌≡◌, [], ℕ, IfErr, IfNone, IfOk, IfSome, IsSomeAnd, OnOk, Some, length, option_map, slice_get};
+ghost use Rattle.std.specs.Prelude.{true, false, ◌≡◌, ◌≤◌, ◌<◌, [], ℕ, IfErr, IfNone, IfOk, IfSome, IsSomeAnd, OnOk, Some, length, option_map, slice_get};
 ghost use Rattle.std.specs.List.{find};
 ghost use Rattle.elf_model.specs.ArchiveFile as archive;
 ghost use Rattle.elf_model.specs.Loading.{is_begun, is_dropped, next, with_object};
@@ -10,6 +10,7 @@ ghost use Rattle.check_load.specs.Loaders.{AreFreeAwake, IsLoadable, Knows, is_f
 ghost use Rattle.check_load.specs.Awake.{is_awake};
 ghost use Rattle.check_load.specs.Opened.{item_view};
 ghost use Rattle.check_load.specs.Places.{IsAt};
+ghost use Rattle.check_load.specs.Rounds.{AreAsleep, AreSideBySide};
 ghost use Rattle.check_load.specs.Stops.{Refutes};
 ghost use Rattle.check_load.specs.Taken.{has_item};
 ghost use Rattle.check_load.specs.Views.{loaded_view, loaded_views};
@@ -17,6 +18,7 @@ ghost use Rattle.check_load.specs.Views.{loaded_view, loaded_views};
 use crate::archives::Input;
 use crate::awake_entries::Awake;
 use crate::known_names::KnownNames;
+use crate::name_table::NameTable;
 use crate::names::{note_object, roots};
 use crate::opened_items::OpenedItem;
 use crate::places::Places;
@@ -26,9 +28,8 @@ use crate::taken_members::Taken;
 use ar_index::IndexEntry;
 use byteview::View;
 use command::Plan;
-use elf_model::{Name, NameSeed, ObjFault, SHT_RELA, SectionHeader};
+use elf_model::{NameSeed, ObjFault, SHT_RELA, SectionHeader};
 use elf_read::ObjectFile;
-use indexmap::IndexSet;
 use std::alloc::{AllocError, Global};
 use std::mem;
 
@@ -86,7 +87,7 @@ impl<'a> Loaded<'a> {
 pub struct Loader<'p, 'a> {
     plan: &'p Plan<'a>,
     objects: Vec<Loaded<'a>>,
-    seen: IndexSet<Name<'a>, NameSeed>,
+    seen: NameTable<'a>,
     names: KnownNames<'a>,
     taken: Taken,
     awake: Awake,
@@ -160,22 +161,23 @@ fn first_free(
 }
 
 impl<'p, 'a> Loader<'p, 'a> {
-    /// Nothing of a plan is loaded.
+    /// Nothing of a plan is loaded. Names are to be hashed from a seed, or found by their order without one.
     pub fn new(
         alloc: Global,
         places: &Places<'_, '_>,
         plan: &'p Plan<'a>,
+        seed: Option<NameSeed>,
     ) -> Result<Loader<'p, 'a>, AllocError>
         ensures plan { IfOk result (λ l. l.plan.now ≡ plan.entry.now) }
         ensures loaded { IfOk result (λ l. loaded l ≡ []) }
         ensures known { IfOk result (Knows places.now) }
     {
         let mut awake = Awake::new(alloc);
-        let names = roots(alloc, places, &mut awake, plan.entry, &plan.undefined)?;
+        let names = roots(alloc, places, &mut awake, plan.entry, &plan.undefined, seed)?;
         Ok(Loader {
             plan,
             objects: Vec::new(alloc),
-            seen: IndexSet::with_hasher(alloc, NameSeed::fixed()),
+            seen: NameTable::new(alloc, seed),
             names,
             taken: Taken::new(alloc),
             awake,
@@ -217,6 +219,7 @@ impl<'p, 'a> Loader<'p, 'a> {
         requires known { Knows places.now self.old }
         requires at { IsAt places.now input.now }
         requires archive { input.now.archive ≡ true }
+        requires searched { input.now.whole ≡ false }
         ensures plan { self.new.plan.now ≡ self.old.plan.now }
         ensures loaded { loaded self.new ≡ loaded self.old }
         ensures known { Knows places.now self.new }
@@ -227,6 +230,22 @@ impl<'p, 'a> Loader<'p, 'a> {
         };
         let item = input.item().number;
         first_free(&self.names, &self.taken, &mut self.awake, item, entries)
+    }
+
+    /// The number of the first of inputs from one on, which have numbers side by side, with an entry that is awake.
+    pub fn next_awake(&self, inputs: &[Input<'a>], from: usize) -> Option<usize>
+        requires { AreSideBySide inputs.now }
+        ensures inside { IfSome result (λ i. (from ≤ i) × (i < length inputs.now)) }
+        ensures least { IfSome result (λ i. AreAsleep self.now inputs.now from i) }
+        ensures none { IfNone result (AreAsleep self.now inputs.now from (length inputs.now)) }
+    {
+        let first = inputs.get(from)?.item().number;
+        let item = self.awake.first_item(first)?;
+        let behind = item - first;
+        if behind >= (inputs.len() - from) as u64 {
+            return None;
+        }
+        Some(from + behind as usize)
     }
 
     /// Whether an object of an item is loaded.

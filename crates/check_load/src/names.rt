@@ -13,7 +13,7 @@ use crate::awake_entries::Awake;
 use crate::known_names::{KnownNames, NameState};
 use crate::places::Places;
 use crate::signatures::Dropped;
-use elf_model::{SHN_UNDEF, STB_GLOBAL, STB_WEAK, Symbol};
+use elf_model::{NameSeed, SHN_UNDEF, STB_GLOBAL, STB_WEAK, Symbol};
 use elf_read::ObjectFile;
 use std::alloc::{AllocError, Global};
 
@@ -144,12 +144,13 @@ pub fn roots<'a>(
     awake: &mut Awake,
     entry: &'a str,
     undefined: &[&'a str],
+    seed: Option<NameSeed>,
 ) -> Result<KnownNames<'a>, AllocError>
     ensures woken { IfOk result (λ m. AreWokenSince places.now none_asked m awake.new) }
     ensures requested { IfOk result (λ m. (n : List ℕ) → requests_name m n ≡ list_any (λ root. bytes_eq root n) (entry.entry.now ∷ texts_of undefined.now)) }
     ensures defined { IfOk result (λ m. (n : List ℕ) → defines_name m n ≡ false) }
 {
-    let mut names = KnownNames::new(alloc);
+    let mut names = KnownNames::new(alloc, seed);
     note_root(places, awake, &mut names, entry.as_bytes())?;
     for name in undefined {
         note_root(places, awake, &mut names, name.as_bytes())?;

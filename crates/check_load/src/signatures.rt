@@ -4,15 +4,15 @@ ghost use Rattle.std.specs.List.{list_any};
 ghost use Rattle.elf_model.specs.Groups.{AreLawfulGroups, is_comdat};
 ghost use Rattle.elf_model.specs.ObjectFile.{groups};
 ghost use Rattle.check_load.specs.Marks.{marked};
-ghost use Rattle.check_load.specs.Signatures.{lost_by, lost_members, seen_by, seen_in, seen_then};
+ghost use Rattle.check_load.specs.NameNumbers.{is_among};
+ghost use Rattle.check_load.specs.Signatures.{lost_by, lost_members, seen_by, seen_then};
 ghost use Rattle.check_load.specs.Stops.{Refutes};
 
 use crate::lawfulness::{are_lawful, is_comdat};
 use crate::marks::{is_marked, mark};
+use crate::name_table::NameTable;
 use crate::stops::Stop;
-use elf_model::{Name, NameSeed};
 use elf_read::{Group, ObjectFile};
-use indexmap::IndexSet;
 use std::alloc::{AllocError, Global};
 use std::marker::Model;
 
@@ -42,17 +42,18 @@ impl Dropped {
 
 /// Adds the signature of a group that is seen, and marks its members where it is dropped.
 fn admit_group<'a>(
-    seen: &mut IndexSet<Name<'a>, NameSeed>,
+    seen: &mut NameTable<'a>,
     marks: &mut [bool],
     group: &Group<'a>,
 ) -> Result<(), AllocError>
-    ensures marks { OnOk result (marks.new ≡ (if is_comdat group.now && seen_in seen.old.keys group.now.signature then marked marks.old group.now.members else marks.old)) }
-    ensures seen { OnOk result (seen_in seen.new.keys ≡ seen_then (seen_in seen.old.keys) group.now) }
+    ensures marks { OnOk result (marks.new ≡ (if is_comdat group.now && is_among seen.old group.now.signature then marked marks.old group.now.members else marks.old)) }
+    ensures seen { OnOk result (is_among seen.new ≡ seen_then (is_among seen.old) group.now) }
 {
     if !is_comdat(group) {
         return Ok(());
     }
-    if seen.insert(Name(group.signature()))? {
+    let (_number, is_new) = seen.add(group.signature())?;
+    if is_new {
         return Ok(());
     }
     mark(marks, group.members());
@@ -61,12 +62,12 @@ fn admit_group<'a>(
 
 /// Adds the signatures of groups, and marks the members of those that are dropped.
 fn mark_lost<'a>(
-    seen: &mut IndexSet<Name<'a>, NameSeed>,
+    seen: &mut NameTable<'a>,
     marks: &mut Vec<bool>,
     groups: &[Group<'a>],
 ) -> Result<(), AllocError>
-    ensures marks { OnOk result (marks.new.items ≡ marked marks.old.items (lost_members (seen_in seen.old.keys) groups.now)) }
-    ensures seen { OnOk result (seen_in seen.new.keys ≡ seen_by (seen_in seen.old.keys) groups.now) }
+    ensures marks { OnOk result (marks.new.items ≡ marked marks.old.items (lost_members (is_among seen.old) groups.now)) }
+    ensures seen { OnOk result (is_among seen.new ≡ seen_by (is_among seen.old) groups.now) }
 {
     for group in groups {
         admit_group(seen, marks, group)?;
@@ -77,13 +78,13 @@ fn mark_lost<'a>(
 /// Adds the signatures of an object's groups, and tells which of its `count` sections are dropped.
 fn admit_groups<'a>(
     alloc: Global,
-    seen: &mut IndexSet<Name<'a>, NameSeed>,
+    seen: &mut NameTable<'a>,
     groups: &[Group<'a>],
     count: usize,
 ) -> Result<Dropped, AllocError>
     requires { All (λ g. All (λ k. k < count) g.members) groups.now }
-    ensures dropped { IfOk result (λ d. d ≡ lost_by (seen_in seen.old.keys) groups.now) }
-    ensures seen { OnOk result (seen_in seen.new.keys ≡ seen_by (seen_in seen.old.keys) groups.now) }
+    ensures dropped { IfOk result (λ d. d ≡ lost_by (is_among seen.old) groups.now) }
+    ensures seen { OnOk result (is_among seen.new ≡ seen_by (is_among seen.old) groups.now) }
 {
     let mut marks = vec![in alloc; false; count]?;
     mark_lost(seen, &mut marks, groups)?;
@@ -94,12 +95,12 @@ fn admit_groups<'a>(
 /// sections are dropped.
 pub fn admit<'a>(
     alloc: Global,
-    seen: &mut IndexSet<Name<'a>, NameSeed>,
+    seen: &mut NameTable<'a>,
     object: &ObjectFile<'a>,
 ) -> Result<Dropped, Stop>
     ensures lawful { OnOk result (AreLawfulGroups (groups object.now)) }
-    ensures dropped { IfOk result (λ d. d ≡ lost_by (seen_in seen.old.keys) (groups object.now)) }
-    ensures seen { OnOk result (seen_in seen.new.keys ≡ seen_by (seen_in seen.old.keys) (groups object.now)) }
+    ensures dropped { IfOk result (λ d. d ≡ lost_by (is_among seen.old) (groups object.now)) }
+    ensures seen { OnOk result (is_among seen.new ≡ seen_by (is_among seen.old) (groups object.now)) }
     ensures stop { IfErr result (Refutes (AreLawfulGroups (groups object.now))) }
 {
     let groups = object.groups();

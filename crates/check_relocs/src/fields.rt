@@ -8,10 +8,10 @@ use std::alloc::AllocError;
 /// width in bytes and the value that it wants.
 #[derive(Clone, Copy, Debug)]
 pub struct Field {
-    pub section: u32,
     pub at: u64,
-    pub width: u8,
     pub value: u64,
+    pub section: u32,
+    pub width: u8,
 }
 
 /// Whether a field ends before another begins, or lies in an earlier section.

@@ -15,7 +15,7 @@ ghost use Rattle.check_link.specs.Views.{meaning_views, symbol_view};
 
 use crate::bindings::Bindings;
 use crate::field_rows::is_some_kind;
-use crate::targets::{is_local_at, symbol_at};
+use crate::targets::{has_relas, is_local_at, symbol_at};
 use check_link::{Meaning, SymbolOf};
 use check_load::Loaded;
 use elf_model::{Rela, STB_LOCAL, SectionHeader};
@@ -48,7 +48,7 @@ fn is_use_of<'a>(
     is_linker_use(bindings, &symbol_at(loaded, number, j))
 }
 
-/// Of each symbol of the object that has a number, whether it is such a one.
+/// Of each symbol of the object that has a number, whether it is such a one; of none where the object has no relocations.
 fn linker_symbols<'a>(
     alloc: Global,
     bindings: &Bindings<'_, '_, 'a>,
@@ -57,6 +57,9 @@ fn linker_symbols<'a>(
 ) -> Result<Vec<bool>, AllocError>
     ensures { IfOk result (λ v. AreUses bindings.now.objects number (loaded_view loaded.now) v.items) }
 {
+    if !has_relas(loaded) {
+        return Ok(Vec::new(alloc));
+    }
     let count = loaded.object.symbols().len();
     let mut found = Vec::with_capacity(alloc, count)?;
     for j in 0..count {

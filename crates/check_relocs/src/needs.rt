@@ -16,19 +16,19 @@ use crate::bindings::Bindings;
 use crate::entry_requests::{request_of, speaks_of_got};
 use crate::field_rows::is_some_kind;
 use crate::kinds::kind_of;
-use crate::targets::{is_local_at, symbol_at};
+use crate::targets::{has_relas, is_local_at, symbol_at};
 use check_link::{Request, SymbolOf};
 use check_load::Loaded;
 use elf_model::{Rela, STB_LOCAL, SectionHeader};
 use elf_read::RelaRun;
 use std::alloc::{AllocError, Global};
-use std::collections::HashSet;
+use std::collections::BTreeSet;
 
 /// Whether relocations ask for a GOT, and their requests for slots, each once.
 #[derive(Drop)]
 pub struct Needs<'a> {
     pub got: bool,
-    pub requests: HashSet<Request<'a>>,
+    pub requests: BTreeSet<Request<'a>>,
 }
 
 /// Whether a symbol isn't LOCAL and has the name of the GOT, which no object defines.
@@ -59,7 +59,7 @@ fn names_got_of<'a>(
     names_got(bindings, &symbol_at(loaded, number, j))
 }
 
-/// Of each symbol of the object that has a number, whether it is such a one.
+/// Of each symbol of the object that has a number, whether it is such a one; of none where the object has no relocations.
 fn got_names<'a>(
     alloc: Global,
     bindings: &Bindings<'_, '_, 'a>,
@@ -68,6 +68,9 @@ fn got_names<'a>(
 ) -> Result<Vec<bool>, AllocError>
     ensures { IfOk result (λ v. AreGotNames bindings.now.objects number (loaded_view loaded.now) v.items) }
 {
+    if !has_relas(loaded) {
+        return Ok(Vec::new(alloc));
+    }
     let count = loaded.object.symbols().len();
     let mut found = Vec::with_capacity(alloc, count)?;
     for j in 0..count {
@@ -121,7 +124,7 @@ fn asks_for_got<'a>(
 }
 
 fn add_request<'a>(
-    requests: &mut HashSet<Request<'a>>,
+    requests: &mut BTreeSet<Request<'a>>,
     request: Request<'a>,
 ) -> Result<(), AllocError>
     ensures { OnOk result ((q : slots.Request) → is_asked requests.new q ≡ (is_asked requests.old q || same_request q (request_view request.entry))) }
@@ -132,7 +135,7 @@ fn add_request<'a>(
 
 /// Adds a request, if there is one.
 fn add_if_asked<'a>(
-    requests: &mut HashSet<Request<'a>>,
+    requests: &mut BTreeSet<Request<'a>>,
     request: Option<Request<'a>>,
 ) -> Result<(), AllocError>
     ensures { OnOk result ((q : slots.Request) → is_asked requests.new q ≡ (is_asked requests.old q || option_map_or (same_request q) (option_map request_view request.entry) false)) }
@@ -241,7 +244,7 @@ pub fn needs_of<'a>(alloc: Global, bindings: &Bindings<'_, '_, 'a>) -> Result<Ne
     let objects = bindings.objects();
     let mut needs = Needs {
         got: false,
-        requests: HashSet::new(alloc),
+        requests: BTreeSet::new(alloc),
     };
     for k in 0..objects.len() {
         add_object(alloc, &mut needs, bindings, k as u64, &objects[k])?;

@@ -1,5 +1,7 @@
 //! What the symbols of an object mean to its relocations, each looked up once.
-ghost use Rattle.std.specs.Prelude.{◌≡◌, ℕ, [], IfOk};
+ghost use Rattle.std.specs.Prelude.{◌≡◌, ◌==◌, ℕ, [], IfOk};
+ghost use Rattle.std.specs.List.{list_any};
+ghost use Rattle.elf_model.specs.ObjectFile.{sections};
 ghost use Rattle.elf_model.specs.Relocation.{is_local, symbol_at};
 ghost use Rattle.check_relocs.specs.Bindings.{AreTargets, IsTargetOf};
 ghost use Rattle.check_load.specs.Views.{loaded_view};
@@ -8,7 +10,7 @@ ghost use Rattle.check_link.specs.Views.{symbol_view};
 use crate::bindings::Bindings;
 use check_link::SymbolOf;
 use check_load::Loaded;
-use elf_model::STB_LOCAL;
+use elf_model::{SHT_RELA, STB_LOCAL};
 use std::alloc::{AllocError, Global};
 
 /// What a symbol means to relocations: whether it is in want of a definition, whether it is a LOCAL one of a
@@ -77,7 +79,18 @@ pub fn target_of_symbol<'a>(
     bindings.target(&symbol_at(loaded, number, j))
 }
 
-/// What the symbols of the object that has a number mean, in their order.
+/// Whether an object has relocations at all: only then it is worth while to know what all its symbols mean.
+pub fn has_relas(loaded: &Loaded<'_>) -> bool
+    ensures { result ≡ list_any (λ h. h.sh_type == SHT_RELA) (sections loaded.now.object) }
+{
+    loaded
+        .object
+        .sections()
+        .iter()
+        .any(|header| header.sh_type == SHT_RELA)
+}
+
+/// What the symbols of the object that has a number mean, in their order; none where it has no relocations.
 pub fn targets_of<'a>(
     alloc: Global,
     bindings: &Bindings<'_, '_, 'a>,
@@ -86,6 +99,9 @@ pub fn targets_of<'a>(
 ) -> Result<Vec<Target>, AllocError>
     ensures { IfOk result (λ v. AreTargets bindings.now number (loaded_view loaded.now) v.items) }
 {
+    if !has_relas(loaded) {
+        return Ok(Vec::new(alloc));
+    }
     let count = loaded.object.symbols().len();
     let mut found = Vec::with_capacity(alloc, count)?;
     for j in 0..count {

@@ -15,7 +15,7 @@ use check_link::{Request, SlotTable, request_of_line};
 use check_relocs::{Bindings, Needs, needs_of};
 use elf_model::SlotLine;
 use std::alloc::{AllocError, Global};
-use std::collections::HashSet;
+use std::collections::BTreeSet;
 
 mod got_bytes;
 
@@ -41,14 +41,14 @@ pub fn holds(alloc: Global, bound: &BoundLink<'_, '_>) -> Result<bool, AllocErro
 }
 
 /// Whether a line's slot is one of those that are asked for.
-fn is_asked<'a>(requests: &HashSet<Request<'a>>, line: &'a SlotLine) -> bool
+fn is_asked<'a>(requests: &BTreeSet<Request<'a>>, line: &'a SlotLine) -> bool
     ensures { result ≡ is_asked requests.now (row_request (slot_row line.entry.now)) }
 {
     requests.contains(&request_of_line(line))
 }
 
 /// Whether all lines' slots are asked for.
-fn are_asked<'a>(requests: &HashSet<Request<'a>>, lines: &'a [SlotLine]) -> bool
+fn are_asked<'a>(requests: &BTreeSet<Request<'a>>, lines: &'a [SlotLine]) -> bool
     ensures { IsTrue result ↔ All (λ line. is_asked requests.now (row_request (slot_row line)) ≡ true) lines.entry.now }
 {
     for line in lines {
@@ -60,7 +60,7 @@ fn are_asked<'a>(requests: &HashSet<Request<'a>>, lines: &'a [SlotLine]) -> bool
 }
 
 /// Whether there is a slot for each of requests.
-fn have_slots<'a>(requests: &HashSet<Request<'a>>, slots: &SlotTable<'a>) -> bool
+fn have_slots<'a>(requests: &BTreeSet<Request<'a>>, slots: &SlotTable<'a>) -> bool
     ensures { IsTrue result ↔ All (λ q. list_any (is_slot_of (request_view q)) slots.now ≡ true) requests.now.keys }
 {
     for request in requests {

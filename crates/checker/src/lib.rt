@@ -28,4 +28,4 @@ pub use elf_model::{Clause, Verdict};
 pub use loaded_link::LoadedLink;
 pub use placed_link::PlacedLink;
 pub use sorted_things::by_address;
-pub use verdict::check;
+pub use verdict::{check, check_in};

@@ -7,6 +7,7 @@ ghost use Rattle.check_load.specs.Views.{loaded_views};
 
 use check_link::{CommonLines, Link, Names, Piece, pieces_of};
 use check_load::Loaded;
+use elf_model::NameSeed;
 use std::alloc::{AllocError, Global};
 use std::marker::Model;
 
@@ -32,16 +33,17 @@ impl<'o, 'a> Model for LoadedLink<'o, 'a> {
 }
 
 impl<'o, 'a> LoadedLink<'o, 'a> {
-    /// A link with its loaded objects.
+    /// A link with its loaded objects, whose names are to be hashed from a seed, or found by their order without one.
     pub fn new(
         alloc: Global,
         link: &'a Link<'a>,
         objects: &'o [Loaded<'a>],
+        seed: Option<NameSeed>,
     ) -> Result<LoadedLink<'o, 'a>, AllocError>
         requires { loaded_views objects.now ≡ objects_of link.now }
         ensures { IfOk result (λ l. l ≡ link.entry.now) }
     {
-        let names = Names::new(alloc, objects)?;
+        let names = Names::new(alloc, objects, seed)?;
         let pieces = pieces_of(alloc, objects)?;
         let lines = CommonLines::new(alloc, &link.map.commons)?;
         Ok(LoadedLink {

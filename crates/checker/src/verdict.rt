@@ -16,21 +16,17 @@ use crate::{
 use check_link::{Link, Outputs, Places, SlotTable, base_of, read_map, read_plan};
 use check_load::open;
 use check_relocs::Bindings;
-use elf_model::{Clause, InputFile, Verdict};
+use elf_model::{Clause, InputFile, NameSeed, Verdict};
 use std::alloc::{AllocError, Global};
 
-/// Decides whether the image and the map are a right link of the files by the command's words: Yes, or the
-/// least clause that fails (docs/DEFINITIONS.md).
-///
-/// # Errors
-///
-/// Only where memory is refused.
-pub fn check(
+/// Decides as `check`, where names are hashed from a seed, or found by their order without one.
+fn check_by(
     alloc: Global,
     files: &[InputFile],
     words: &[String],
     image: &[u8],
     map: &[u8],
+    seed: Option<NameSeed>,
 ) -> Result<Verdict, AllocError>
     ensures yes { IfOk result (λ v. (v ≡ Verdict.Yes) ↔ IsRightLink (files_of files.now) (words_of words.now) image.now map.now) }
     ensures no { IfOk result (λ v. (c : Clause) → ((v ≡ Verdict.No c) ↔ Least c (files_of files.now) (words_of words.now) image.now map.now)) }
@@ -47,7 +43,46 @@ pub fn check(
         image,
         map,
     };
-    judge(alloc, &link)
+    judge(alloc, &link, seed)
+}
+
+/// Decides whether the image and the map are a right link of the files by the command's words: Yes, or the
+/// least clause that fails (docs/DEFINITIONS.md). Names are found by their order, so that no choice of them makes it slow.
+///
+/// # Errors
+///
+/// Only where memory is refused.
+pub fn check(
+    alloc: Global,
+    files: &[InputFile],
+    words: &[String],
+    image: &[u8],
+    map: &[u8],
+) -> Result<Verdict, AllocError>
+    ensures yes { IfOk result (λ v. (v ≡ Verdict.Yes) ↔ IsRightLink (files_of files.now) (words_of words.now) image.now map.now) }
+    ensures no { IfOk result (λ v. (c : Clause) → ((v ≡ Verdict.No c) ↔ Least c (files_of files.now) (words_of words.now) image.now map.now)) }
+{
+    check_by(alloc, files, words, image, map, None)
+}
+
+/// Decides as `check`, and is quicker where there are many names: they are hashed from a seed, which whoever picks them
+/// mustn't know.
+///
+/// # Errors
+///
+/// Only where memory is refused.
+pub fn check_in(
+    alloc: Global,
+    files: &[InputFile],
+    words: &[String],
+    image: &[u8],
+    map: &[u8],
+    seed: NameSeed,
+) -> Result<Verdict, AllocError>
+    ensures yes { IfOk result (λ v. (v ≡ Verdict.Yes) ↔ IsRightLink (files_of files.now) (words_of words.now) image.now map.now) }
+    ensures no { IfOk result (λ v. (c : Clause) → ((v ≡ Verdict.No c) ↔ Least c (files_of files.now) (words_of words.now) image.now map.now)) }
+{
+    check_by(alloc, files, words, image, map, Some(seed))
 }
 
 /// The answer for a clause that fails, where all before it hold.
@@ -60,16 +95,16 @@ fn no(clause: Clause, link: &Link<'_>) -> Verdict
 }
 
 /// Judges the clauses from the second on.
-fn judge(alloc: Global, link: &Link<'_>) -> Result<Verdict, AllocError>
+fn judge(alloc: Global, link: &Link<'_>, seed: Option<NameSeed>) -> Result<Verdict, AllocError>
     ensures { IfOk result (λ v. Judges v link.now) }
 {
-    let Some(objects) = open(alloc, &link.plan, link.files)? else {
+    let Some(objects) = open(alloc, &link.plan, link.files, seed)? else {
         return Ok(no(Clause::C2, link));
     };
     if !c02_loaded::holds(link, &objects) {
         return Ok(no(Clause::C2, link));
     }
-    let loaded = LoadedLink::new(alloc, link, &objects)?;
+    let loaded = LoadedLink::new(alloc, link, &objects, seed)?;
     judge_loaded(alloc, &loaded)
 }
 

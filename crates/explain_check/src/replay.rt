@@ -204,13 +204,13 @@ fn add_failures<'a>(
     requires { AreFailures link.now found.old.places.items }
     ensures { OnOk result (AreFailures link.entry.now found.new.places.items) }
 {
-    let Some(objects) = open(alloc, &link.plan, link.files)? else {
+    let Some(objects) = open(alloc, &link.plan, link.files, None)? else {
         return Ok(());
     };
     if !c02_loaded::holds(link, &objects) {
         return add_object_lines(found, link, &objects);
     }
-    let loaded = LoadedLink::new(alloc, link, &objects)?;
+    let loaded = LoadedLink::new(alloc, link, &objects, None)?;
     add_loaded(alloc, found, &loaded)
 }
 

@@ -22,7 +22,7 @@ mod sparse;
 mod spelled_lines;
 mod zero_pages;
 
-pub use checker::{Clause, Verdict, check};
+pub use checker::{Clause, Verdict, check, check_in};
 pub use command_line::{no_words, run_args, words};
 pub use elf_model::LinkError;
 pub use file_source::{FetchFault, FileSource, GatherFault, gather};

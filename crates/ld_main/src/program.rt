@@ -16,7 +16,7 @@ use crate::own_text::map_text;
 use crate::phases::prepare_seeded;
 use crate::real_files::{RealFiles, read_whole};
 use crate::refusals::command_error;
-use checker::check;
+use checker::check_in;
 use command::{Plan, read_words};
 use elf_model::{Clause, CmdFault, InputFile, LinkError, NameSeed, Verdict};
 use image_write::{Linkage, WriteFault};
@@ -342,9 +342,10 @@ fn link_files<'a, R: Files + AllocGlobal + RandomSource>(
     Ok(Outcome::Linked)
 }
 
-/// What a check of an image and a map comes to.
+/// What a check of an image and a map comes to, with names hashed from a seed.
 fn judged(
     alloc: Global,
+    seed: NameSeed,
     files: &[InputFile],
     words: &[String],
     image: &[u8],
@@ -354,14 +355,14 @@ fn judged(
     ensures wrong { IfOk result (λ o. (c : Clause) → ((o ≡ Outcome.Wrong c) ↔ Least c (files_of files.now) (words_of words.now) image.now map.now)) }
     ensures checked { IfOk result (λ o. is_checked o ≡ true) }
 {
-    match check(alloc, files, words, image, map)? {
+    match check_in(alloc, files, words, image, map, seed)? {
         Verdict::Yes => Ok(Outcome::Right),
         Verdict::No(clause) => Ok(Outcome::Wrong(clause)),
     }
 }
 
 /// Reads the image and then the map, and checks them.
-fn check_files<'a, R: Files + AllocGlobal>(
+fn check_files<'a, R: Files + AllocGlobal + RandomSource>(
     rt: &R,
     task: Task<'a>,
     files: &[InputFile],
@@ -377,7 +378,7 @@ fn check_files<'a, R: Files + AllocGlobal>(
     };
     let image = read_file(rt, task.output)?;
     let map = read_file(rt, map_path)?;
-    let outcome = judged(rt.alloc(), files, words, &image, &map)?;
+    let outcome = judged(rt.alloc(), seed(rt), files, words, &image, &map)?;
     Ok(outcome)
 }
 

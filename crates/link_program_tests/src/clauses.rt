@@ -1,7 +1,8 @@
 //! The least clause that fails, of links that are wrong in one place.
 use crate::one_object::{one_file, words_of};
 use crate::vectors::{IMAGE_HEADERS, MAP, OBJECT, TEXT, TEXT_OFFSET};
-use ld_main::{Clause, Verdict, check};
+use elf_model::NameSeed;
+use ld_main::{Clause, Verdict, check, check_in};
 use link_samples::links::{Change, File, Judged, first_misjudged};
 use link_samples::objects::{NamedSymbol, Relocation};
 use link_samples::parts::{NO_F, R_64, R_PC32, START, TEXT as TEXT_SECTION};
@@ -135,6 +136,39 @@ fn a_thread_block_without_thread_storage_is_wrong(rt: HostRuntime) -> Result<(),
     let words = words_of(rt.alloc(), "a.o")?;
     let verdict = check(rt.alloc(), &files, &words, &image, MAP)?;
     assert_eq!(rt; verdict, Verdict::No(Clause::C8));
+    Ok(())
+}
+
+/// The image of the object of `vectors`.
+fn right_image(alloc: Global) -> Result<Vec<u8>, Fail> {
+    let mut bytes = Vec::from_slice(alloc, &IMAGE_HEADERS)?;
+    bytes.resize(TEXT_OFFSET, 0)?;
+    bytes.extend_from_slice(&TEXT)?;
+    Ok(bytes)
+}
+
+/// What the check says of an image where names are hashed from a seed.
+fn seeded_verdict(alloc: Global, image: &[u8], seed: u64) -> Result<Verdict, Fail> {
+    let files = one_file(alloc, "a.o", &OBJECT)?;
+    let words = words_of(alloc, "a.o")?;
+    let verdict = check_in(alloc, &files, &words, image, MAP, NameSeed::new(seed))?;
+    Ok(verdict)
+}
+
+#[test]
+fn a_right_link_is_right_by_a_seed(rt: HostRuntime) -> Result<(), Fail> {
+    let image = right_image(rt.alloc())?;
+    assert_eq!(rt; seeded_verdict(rt.alloc(), &image, 7)?, Verdict::Yes);
+    Ok(())
+}
+
+#[test]
+fn a_wrong_link_is_wrong_by_a_seed(rt: HostRuntime) -> Result<(), Fail> {
+    let image = image_with_thread_block(rt.alloc())?;
+    assert_eq!(rt;
+        seeded_verdict(rt.alloc(), &image, 7)?,
+        Verdict::No(Clause::C8)
+    );
     Ok(())
 }
 

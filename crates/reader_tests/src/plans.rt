@@ -1,9 +1,9 @@
-//! What a plan of an object and of an archive that holds it loads, as the checker does it.
+//! What a plan of an object and of an archive that holds it loads, as the checker does it, by order and by hash.
 use crate::objects::start_object;
 use crate::words::words;
 use check_load::{Loaded, open};
 use command::read_words;
-use elf_model::{CmdFault, InputFile};
+use elf_model::{CmdFault, InputFile, NameSeed};
 use std::alloc::{AllocError, Global};
 use std::test::Fail;
 
@@ -53,17 +53,18 @@ fn open_words<'a>(
     alloc: Global,
     words: &'a [String],
     files: &'a [InputFile],
+    seed: Option<NameSeed>,
 ) -> Result<Option<Vec<Loaded<'a>>>, CmdFault> {
     let plan = read_words(alloc, words)?;
-    Ok(open(alloc, &plan, files)?)
+    Ok(open(alloc, &plan, files, seed)?)
 }
 
 /// The item and the offset of each object that a line loads, or that it can't be loaded.
-fn told(alloc: Global, line: &str) -> Result<String, Fail> {
+fn told(alloc: Global, line: &str, seed: Option<NameSeed>) -> Result<String, Fail> {
     let files = files(alloc)?;
     let words = words(alloc, line)?;
     let mut text = String::new(alloc);
-    match open_words(alloc, &words, &files)? {
+    match open_words(alloc, &words, &files, seed)? {
         Some(objects) => {
             for o in &objects {
                 text.push_str(&format!(in alloc; "{} {};", o.item, o.offset)?)?;
@@ -99,7 +100,16 @@ static LINES: [(&str, &str); 17] = [
 #[test]
 fn plans_load_what_is_needed(rt: HostRuntime) -> Result<(), Fail> {
     for (line, wanted) in &LINES {
-        assert_eq!(rt; told(rt.alloc(), line)?.as_str(), *wanted, "{line}");
+        assert_eq!(rt; told(rt.alloc(), line, None)?.as_str(), *wanted, "{line}");
+    }
+    Ok(())
+}
+
+#[test]
+fn plans_load_the_same_with_a_seed(rt: HostRuntime) -> Result<(), Fail> {
+    for (line, wanted) in &LINES {
+        let seed = Some(NameSeed::new(7));
+        assert_eq!(rt; told(rt.alloc(), line, seed)?.as_str(), *wanted, "{line}");
     }
     Ok(())
 }

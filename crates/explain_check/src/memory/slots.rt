@@ -4,6 +4,7 @@ ghost use Rattle.elf_model.specs.MapRecord.{slot_row};
 ghost use Rattle.check_link.specs.Slots as asked;
 ghost use Rattle.check_link.specs.Slots.{request_view};
 ghost use Rattle.std.specs.List.{slice_get};
+ghost use Rattle.std.specs.Ordering.{is_eq};
 ghost use Rattle.elf_model.specs.ObjectFile.{sections};
 ghost use Rattle.elf_model.specs.Relocation.{is_kept_rela};
 ghost use Rattle.elf_model.specs.RightLink.{objects_of};
@@ -23,7 +24,7 @@ use check_relocs::{Needs, is_some_kind, request_of};
 use checker::BoundLink;
 use elf_model::{SectionHeader, SlotLine};
 use std::alloc::{AllocError, Global};
-use std::collections::{HashMap, HashSet};
+use std::collections::{BTreeMap, BTreeSet};
 
 /// The slot line that has a number.
 pub fn line_at<'m>(bound: &BoundLink<'_, 'm>, number: usize) -> Option<&'m SlotLine>
@@ -58,9 +59,9 @@ fn unasked_line<'a>(
 
 /// Whether two requests are the same.
 fn are_same(a: &Request<'_>, b: &Request<'_>) -> bool
-    ensures { result ≡ asked.is_same a.now b.now }
+    ensures { result ≡ is_eq (asked.request_order a.now b.now) }
 {
-    a == b
+    a.cmp(b).is_eq()
 }
 
 /// The line that has a number, where the one that has an earlier number is for the same.
@@ -90,7 +91,7 @@ fn add_line<'a>(
     found: &mut Found<'a>,
     bound: &BoundLink<'_, 'a>,
     needs: &Needs<'a>,
-    seen: &mut HashMap<Request<'a>, usize>,
+    seen: &mut BTreeMap<Request<'a>, usize>,
     number: usize,
 ) -> Result<(), AllocError>
     requires needs { AreNeeds (objects_of bound.now) needs.now }
@@ -122,7 +123,7 @@ pub fn add_lines<'a>(
     requires before { AreFailures bound.now found.old.places.items }
     ensures { OnOk result (AreFailures bound.now found.new.places.items) }
 {
-    let mut seen = HashMap::new(alloc);
+    let mut seen = BTreeMap::new(alloc);
     for number in 0..bound.slots().lines().len() {
         add_line(found, bound, needs, &mut seen, number)?;
     }
@@ -167,7 +168,7 @@ fn add_entry<'a>(
     found: &mut Found<'a>,
     bound: &BoundLink<'_, 'a>,
     needs: &Needs<'a>,
-    told: &mut HashSet<Request<'a>>,
+    told: &mut BTreeSet<Request<'a>>,
     number: usize,
     one: &Loaded<'a>,
     i: usize,
@@ -196,7 +197,7 @@ fn add_section<'a>(
     found: &mut Found<'a>,
     bound: &BoundLink<'_, 'a>,
     needs: &Needs<'a>,
-    told: &mut HashSet<Request<'a>>,
+    told: &mut BTreeSet<Request<'a>>,
     number: usize,
     one: &Loaded<'a>,
     i: usize,
@@ -223,7 +224,7 @@ fn add_object<'a>(
     found: &mut Found<'a>,
     bound: &BoundLink<'_, 'a>,
     needs: &Needs<'a>,
-    told: &mut HashSet<Request<'a>>,
+    told: &mut BTreeSet<Request<'a>>,
     number: usize,
 ) -> Result<(), AllocError>
     requires needs { AreNeeds (objects_of bound.now) needs.now }
@@ -251,7 +252,7 @@ pub fn add_unserved<'a>(
     requires before { AreFailures bound.now found.old.places.items }
     ensures { OnOk result (AreFailures bound.now found.new.places.items) }
 {
-    let mut told = HashSet::new(alloc);
+    let mut told = BTreeSet::new(alloc);
     for number in 0..bound.bindings().objects().len() {
         add_object(found, bound, needs, &mut told, number)?;
     }

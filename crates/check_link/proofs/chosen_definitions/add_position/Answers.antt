@@ -1,10 +1,25 @@
-use Rattle.std.proofs.Common.{rules, ◌∙◌, ap}
-use Rattle.std.specs.Prelude.{unwrap_or}
-use Rattle.indexmap.specs.Entry.{map_with_value}
-use Rattle.check_link.proofs.Positions.{position_added}
+use Rattle.check_link.proofs.Positions.{known, position_added, position_kept, sized_added, sized_kept, unknown}
+use Rattle.std.proofs.Common.{refl}
 use Rattle.check_link.proofs.chosen_definitions.add_position.Goals as goal
 
-pub returns : goal.returns
-returns c = λ n.
-    position_added c.args.index.now (map_with_value c.in_ok-index.field-0) (record { 0 = c.args.name }) c.args.position c.or_insert-position.result.now _
-    c.in_ok-index.ensures.update.0 (c.or_insert-position.ensures.value ∙ ap (λ r. unwrap_or r c.args.position) c.in_ok-index.ensures.value) (search rules) n
+pub returns-then-not-is_new-clause-sized : goal.returns-then-not-is_new-clause-sized
+returns-then-not-is_new-clause-sized c =
+    sized_kept c.args.index.now (record { names = c.add.new.self; positions = c.args.index.now.positions }) c.args.name.now c.requires
+    (known c.args.index.now.names c.args.name.now c.in_ok-_number.is_new c.in_ok-_number.ensures.fresh c.if-not-is_new.true) c.in_ok-_number.ensures.added refl
+
+pub returns-then-not-is_new-clause-positions : goal.returns-then-not-is_new-clause-positions
+returns-then-not-is_new-clause-positions c =
+    position_kept c.args.index.now (record { names = c.add.new.self; positions = c.args.index.now.positions }) c.args.name.now c.args.position c.requires
+    (known c.args.index.now.names c.args.name.now c.in_ok-_number.is_new c.in_ok-_number.ensures.fresh c.if-not-is_new.true) c.in_ok-_number.ensures.added refl
+
+pub returns-clause-sized : goal.returns-clause-sized
+returns-clause-sized c =
+    sized_added c.args.index.now (record { names = c.add.new.self; positions = c.push.new.self }) c.args.name.now c.args.position c.requires
+    (unknown c.args.index.now.names c.args.name.now c.in_ok-_number.is_new c.in_ok-_number.ensures.fresh c.if-not-is_new.false) c.in_ok-_number.ensures.added
+    c.in_ok-push.ensures.items
+
+pub returns-clause-positions : goal.returns-clause-positions
+returns-clause-positions c =
+    position_added c.args.index.now (record { names = c.add.new.self; positions = c.push.new.self }) c.args.name.now c.args.position c.requires
+    (unknown c.args.index.now.names c.args.name.now c.in_ok-_number.is_new c.in_ok-_number.ensures.fresh c.if-not-is_new.false) c.in_ok-_number.ensures.added
+    c.in_ok-push.ensures.items

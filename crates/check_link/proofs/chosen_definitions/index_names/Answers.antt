@@ -1,11 +1,12 @@
-use Rattle.std.proofs.Common.{◌≡◌, ◌∙◌, ap, refl, rules, List, ℕ, sym, Some}
+use Rattle.std.proofs.Common.{◌≡◌, ◌∙◌, ap, refl, List, ℕ, sym, Some}
 use Rattle.std.specs.Prelude.{◌&&◌, Bool, None, Option, filter, find, slice_get}
 use Rattle.std.specs.Option.{option_and_then, option_or}
 use Rattle.elf_model.proofs.Found.{find-filter, or_none}
 use Rattle.elf_model.specs.ChosenSymbols.{is_definition}
 use Rattle.elf_model.specs.Resolution.{SymbolOf, all_symbols, has_name, is_common_definition, is_strong, is_weak_definition}
+use Rattle.check_load.specs.NameNumbers.{number_of}
 use Rattle.check_load.specs.Views.{loaded_views}
-use Rattle.check_link.specs.Chosen.{first_from, position_in}
+use Rattle.check_link.specs.Chosen.{first_from}
 use Rattle.check_link.specs.Views.{symbol_views}
 use Rattle.check_link.proofs.Defined.{common_defined, strong_defined, weak_defined}
 use Rattle.check_link.proofs.Positions.{first_found}
@@ -28,17 +29,17 @@ passes o a b c r s t none first_is second_is third_is =
     turned None y = refl
     turned (Some n) y = refl
 
-pub returns : goal.returns
-returns c = λ name.
+pub returns-clause-chosen : goal.returns-clause-chosen
+returns-clause-chosen c = λ name.
     let ss = symbol_views c.args.definitions.now in
     let all = all_symbols (loaded_views c.args.objects.now) in
     let strong = λ (s : SymbolOf). is_strong s && has_name name s in
     let common = λ (s : SymbolOf). is_common_definition s && has_name name s in
     let weak = λ (s : SymbolOf). is_weak_definition s && has_name name s in
     let look = option_and_then (slice_get ss) in
-    let none : position_in c.in_ok-index.index name ≡ None = search rules in
+    let none : slice_get c.new-2.result.items (number_of c.new.result name) ≡ None = ap (λ (ps : List ℕ). slice_get ps (number_of c.new.result name)) c.new-2.ensures.items in
     let positions = passes _ (first_from strong 0 ss) (first_from common 0 ss) (first_from weak 0 ss) _ _ _ none
-    (c.in_ok-add_strong.ensures name) (c.in_ok-add_common.ensures name) (c.in_ok-add_weak.ensures name) in
+    (c.in_ok-add_strong.ensures.positions name) (c.in_ok-add_common.ensures.positions name) (c.in_ok-add_weak.ensures.positions name) in
     ap look positions
     ∙ first_found strong ss (option_or (first_from common 0 ss) (option_or (first_from weak 0 ss) None))
     ∙ ap (option_or (find strong ss)) (first_found common ss (option_or (first_from weak 0 ss) None))

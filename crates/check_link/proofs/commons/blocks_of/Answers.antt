@@ -5,8 +5,8 @@ use Rattle.check_link.specs.Views.{symbol_views}
 use Rattle.check_link.proofs.Asked.{asked_of_all, blocks_chosen}
 use Rattle.check_link.proofs.commons.blocks_of.Goals as goal
 
-pub add_blocks-requires : goal.add_blocks-requires
-add_blocks-requires c =
+pub add_blocks-requires-clause-asked : goal.add_blocks-requires-clause-asked
+add_blocks-requires-clause-asked c =
     asked_of_all c.in_ok-asked.asked (symbol_views c.args.definitions.now) (all_symbols (loaded_views c.args.objects.now)) c.requires.definitions c.in_ok-asked.ensures
 
 pub returns : goal.returns

@@ -1,17 +1,15 @@
-use Rattle.std.proofs.Common.{rules, ◌∙◌, ap, List, ℕ, cond, Some, None, Option}
+use Rattle.std.proofs.Common.{◌∙◌, ap, sym, List, ℕ, cond, Some, None}
+use Rattle.std.specs.Borrow.{Bor}
 use Rattle.std.specs.Option.{option_or}
-use Rattle.std.specs.Prelude.{unwrap_or}
 use Rattle.std.specs.Str.{bytes_eq}
-use Rattle.indexmap.specs.Entry.{map_with_value}
-use Rattle.check_load.specs.Files.{found}
-use Rattle.check_load.proofs.FileLaws.{first_added}
+use Rattle.elf_model.specs.FileIndex.{found}
+use Rattle.elf_model.proofs.FirstNamed.{first_added}
 use Rattle.check_load.proofs.files.add_file.Goals as goal
 
-pub returns : goal.returns
-returns c = λ n.
+pub returns-in_ok-insert : goal.returns-in_ok-insert
+returns-in_ok-insert c = λ n.
+    let name = c.as_str-name.result.now in
     let index = c.args.index.now in
-    let kept = c.or_insert.result.now in
-    first_added index (map_with_value c.in_ok-index.field-0 kept) c.as_str-name.result c.as_slice-bytes.result kept _ (c.in_ok-index.ensures.update.0 kept)
-    (c.or_insert.ensures.value ∙ ap (λ f. unwrap_or f c.as_slice-bytes.result) c.in_ok-index.ensures.value) (search rules) n
-    ∙ (ap (λ (v : List ℕ). option_or (found index.entries n) (cond {A = Option (List ℕ)} (bytes_eq c.as_str-name.result.now n) (Some v) None)) c.as_slice-bytes.ensures.value
-    ∙ ap (λ (bs : List ℕ). option_or (found index.entries n) (cond {A = Option (List ℕ)} (bytes_eq bs n) (Some c.args.file.now.bytes.items) None)) c.as_str-name.ensures.value)
+    first_added (λ (b : Bor (List ℕ)). b.now) index c.insert.new.self name c.as_slice.result (sym c.contains_key.ensures ∙ c.if-not-contains_key.true) c.in_ok-insert.ensures.updates n
+    ∙ (ap (λ (v : List ℕ). option_or (found index n) (cond (bytes_eq name n) (Some v) None)) c.as_slice.ensures.value
+    ∙ ap (λ (bs : List ℕ). option_or (found index n) (cond (bytes_eq bs n) (Some c.args.file.now.bytes.items) None)) c.as_str-name.ensures.value)

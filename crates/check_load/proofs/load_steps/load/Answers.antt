@@ -8,6 +8,8 @@ use Rattle.check_load.specs.Loaders.{AreLoadable}
 use Rattle.check_load.specs.Plans.{CanLoad}
 use Rattle.check_load.specs.Views.{loaded_views}
 use Rattle.check_load.specs.Places.{IsAt}
+use Rattle.check_load.specs.Rounds.{AreSideBySide}
+use Rattle.check_load.proofs.RoundLaws.{side_opened}
 use Rattle.check_load.proofs.PlaceLaws.{all_at}
 use Rattle.check_load.specs.Opened.{item_view}
 use Rattle.check_load.specs.Stops.{Refutes}
@@ -33,14 +35,23 @@ returns-in_err-inputs-clause-stop c =
     (ap (λ (l : List OpenedItem). map item_view l) c.deref.ensures.value ∙ (c.in_ok-items.ensures.opened ∙ ap (λ (fs : List File). opened fs plan) c.in_ok-index.ensures))
     c.in_err-inputs.ensures.stop)
 
-pub load_all-requires : goal.load_all-requires
-load_all-requires c =
+pub load_all-requires-clause-at : goal.load_all-requires-clause-at
+load_all-requires-clause-at c =
     let files = files_of c.args.files.now in
     let plan = c.args.plan.now in
     let items : map item_view c.deref.result.now ≡ opened files plan =
     ap (λ (l : List OpenedItem). map item_view l) c.deref.ensures.value ∙ (c.in_ok-items.ensures.opened ∙ ap (λ (fs : List File). opened fs plan) c.in_ok-index.ensures) in
     let inputs : c.deref-2.result.now ≡ opened files plan = c.deref-2.ensures.value ∙ (c.in_ok-inputs.ensures.exact ∙ items) in
     subst (λ (xs : List Opened). All (IsAt xs) xs) (sym inputs) (all_at files plan)
+
+pub load_all-requires-clause-numbers : goal.load_all-requires-clause-numbers
+load_all-requires-clause-numbers c =
+    let files = files_of c.args.files.now in
+    let plan = c.args.plan.now in
+    let items : map item_view c.deref.result.now ≡ opened files plan =
+    ap (λ (l : List OpenedItem). map item_view l) c.deref.ensures.value ∙ (c.in_ok-items.ensures.opened ∙ ap (λ (fs : List File). opened fs plan) c.in_ok-index.ensures) in
+    let inputs : c.deref-2.result.now ≡ opened files plan = c.deref-2.ensures.value ∙ (c.in_ok-inputs.ensures.exact ∙ items) in
+    subst AreSideBySide (sym inputs) (side_opened files plan)
 
 pub returns-clause-loaded : goal.returns-clause-loaded
 returns-clause-loaded c =

@@ -4,6 +4,7 @@ use Rattle.std.proofs.lemmas.Result.{err_from_is_err_and}
 use Rattle.elf_model.specs.Loading.{Single, group_of, loaded_step, loaded_steps, rounds, steps}
 use Rattle.elf_model.specs.Opening.{Opened}
 use Rattle.check_load.specs.Loaders.{loaded}
+use Rattle.check_load.proofs.RoundLaws.{side_taken}
 use Rattle.check_load.proofs.StepLaws.{group_first, group_later, run_archives, run_within, same_first, single_later}
 use Rattle.check_load.proofs.TurnLaws.{fails_later}
 use Rattle.check_load.proofs.load_steps.load_step.Goals as goal
@@ -28,6 +29,9 @@ pub run_rounds-requires-clause-archives : goal.run_rounds-requires-clause-archiv
 run_rounds-requires-clause-archives c =
     subst (All (λ (o : Opened). o.archive ≡ true))
     (sym (c.split_at.ensures.front ∙ ap (λ (n : ℕ). take n c.args.inputs.now) c.run_length-count.ensures)) (run_archives c.in-Some.group c.args.inputs.now)
+
+pub run_rounds-requires-clause-numbers : goal.run_rounds-requires-clause-numbers
+run_rounds-requires-clause-numbers c = side_taken c.run_length-count.result c.args.inputs.now c.split_at.result.0.now c.split_at.ensures.front c.requires.numbers
 
 pub returns-in_err-run_rounds-clause-stop : goal.returns-in_err-run_rounds-clause-stop
 returns-in_err-run_rounds-clause-stop c =

@@ -5,11 +5,12 @@ use Rattle.check_load.proofs.places.add_entries.Goals as goal
 
 pub loop-i-preserved : goal.loop-i-preserved
 loop-i-preserved c = record {
+  sized = c.in_ok-add_place.ensures.sized;
   placed =
-      entries_step c.loop-i.names.entries c.add_place.new.names.entries c.args.entries.now c.loop-i.i c.args.item c.index-entries-i.result c.name.result.now c.index-entries-i.is
-      c.name.ensures c.in_ok-add_place.ensures c.loop-i.invariant.placed;
+      entries_step c.loop-i.names c.add_place.new.names c.args.entries.now c.loop-i.i c.args.item c.index-entries-i.result c.name.result.now c.index-entries-i.is
+      c.name.ensures c.in_ok-add_place.ensures.places c.loop-i.invariant.placed;
   stays = λ n i q there.
-      had c.loop-i.names.entries c.add_place.new.names.entries c.name.result.now (c.args.item, c.loop-i.i) c.in_ok-add_place.ensures n i q (c.loop-i.invariant.stays n i q there);
+      had c.loop-i.names c.add_place.new.names c.name.result.now (c.args.item, c.loop-i.i) c.in_ok-add_place.ensures.places n i q (c.loop-i.invariant.stays n i q there);
 }
 
 pub returns-clause-placed : goal.returns-clause-placed

@@ -1,12 +1,20 @@
-use Rattle.std.proofs.Common.{rules, ◌∙◌, ap}
-use Rattle.std.specs.Prelude.{unwrap_or}
-use Rattle.indexmap.specs.Entry.{map_with_value}
+use Rattle.std.proofs.Common.{refl, length, arith}
+use Rattle.std.specs.Vec.{with_item}
+use Rattle.std.proofs.lemmas.List.{length-set}
+use Rattle.check_load.proofs.Numbering.{size_with}
 use Rattle.check_load.proofs.PlaceLaws.{place_added}
 use Rattle.check_load.proofs.places.add_place.Goals as goal
 
-pub returns : goal.returns
-returns c = λ n.
-    let grown = c.push.new.self in
-    place_added c.args.names.now (map_with_value c.in_ok-names.field-0 grown) c.args.name c.args.place c.or_insert-places.result.now grown c.new.result _
-    (c.in_ok-names.ensures.update.0 grown) (c.or_insert-places.ensures.value ∙ ap (λ f. unwrap_or f c.new.result) c.in_ok-names.ensures.value) c.new.ensures.items
-    c.in_ok-push.ensures.items (search rules) n
+pub returns-clause-sized : goal.returns-clause-sized
+returns-clause-sized c =
+    let size =
+    size_with c.args.names.now.names c.add.new.self c.args.name.now c.in_ok-number.number (length c.args.names.now.lists.items) (length c.reach.new.lists.items)
+    c.in_ok-number.ensures.added c.in_ok-number.ensures.number c.requires c.in_ok-reach.ensures.size in
+    let kept = length-set c.reach.new.lists.items c.in_ok-number.number c.push.new.self in
+    omega (arith, size, kept)
+
+pub returns-clause-places : goal.returns-clause-places
+returns-clause-places c = λ n.
+    place_added c.args.names.now (record { names = c.add.new.self; lists = with_item c.reach.new.lists c.in_ok-number.number c.push.new.self }) c.reach.new.lists.items c.args.name.now c.in_ok-number.number c.args.place c.index_mut.result.now c.push.new.self c.requires
+    c.in_ok-number.ensures.added c.in_ok-number.ensures.number c.in_ok-reach.ensures.same c.in_ok-reach.ensures.there c.index_mut.ensures.value c.in_ok-push.ensures.items
+    refl n

@@ -2,12 +2,14 @@ use Rattle.std.proofs.Common.{◌≡◌}
 use Rattle.elf_model.specs.Loading.{rounds}
 use Rattle.elf_model.specs.LoadingBounds.{left_of_all}
 use Rattle.check_load.specs.Loaders.{Knows, loaded}
+use Rattle.check_load.specs.Rounds.{AreSpent}
 use Rattle.check_load.proofs.rounds.run_rounds.Given as goal
 
 abbrev pub invariant-loop-loader : goal.invariant-loop-loader
 invariant-loop-loader l = record {
   plan : l.loader.plan.now ≡ l.fn.loader.plan.now;
   known : Knows l.places l.loader;
+  spent : AreSpent (loaded l.loader) l.inputs;
   rest : rounds l.fn.loader.plan.now l.inputs (loaded l.loader) ≡ rounds l.fn.loader.plan.now l.inputs (loaded l.fn.loader);
 }
 

@@ -3,26 +3,26 @@ use Rattle.elf_model.specs.Marks.{marked}
 use Rattle.check_load.proofs.SignatureLaws.{seen_unless, set_then}
 use Rattle.check_load.proofs.signatures.admit_group.Goals as goal
 
-pub returns-then-branch-clause-marks : goal.returns-then-branch-clause-marks
-returns-then-branch-clause-marks c =
+pub returns-then-is_new-clause-marks : goal.returns-then-is_new-clause-marks
+returns-then-is_new-clause-marks c =
     let g = c.args.group.now in
     let kept =
-    seen_unless c.args.seen.now.keys (record { 0 = c.signature.result }) g c.in_ok-insert.field-0 (sym c.is_comdat.ensures ∙ c.if-not-is_comdat.false) c.signature.ensures c.in_ok-insert.ensures.added
-    ∙ ap not c.if-branch.true in
+    seen_unless c.args.seen.now c.signature.result.now g c.in_ok-_number.is_new (sym c.is_comdat.ensures ∙ c.if-not-is_comdat.false) c.signature.ensures c.in_ok-_number.ensures.fresh
+    ∙ ap not c.if-is_new.true in
     ap (λ b. cond b (marked c.args.marks.now g.members) c.args.marks.now) (sym kept)
 
-pub returns-then-branch-clause-seen : goal.returns-then-branch-clause-seen
-returns-then-branch-clause-seen c =
-    set_then c.args.seen.now.keys c.insert.new.self.keys (record { 0 = c.signature.result }) c.args.group.now (sym c.is_comdat.ensures ∙ c.if-not-is_comdat.false) c.signature.ensures c.in_ok-insert.ensures.keys
+pub returns-then-is_new-clause-seen : goal.returns-then-is_new-clause-seen
+returns-then-is_new-clause-seen c =
+    set_then c.args.seen.now c.add.new.self c.signature.result.now c.args.group.now (sym c.is_comdat.ensures ∙ c.if-not-is_comdat.false) c.signature.ensures c.in_ok-_number.ensures.added
 
 pub returns-clause-marks : goal.returns-clause-marks
 returns-clause-marks c =
     let g = c.args.group.now in
     let lost =
-    seen_unless c.args.seen.now.keys (record { 0 = c.signature.result }) g c.in_ok-insert.field-0 (sym c.is_comdat.ensures ∙ c.if-not-is_comdat.false) c.signature.ensures c.in_ok-insert.ensures.added
-    ∙ ap not c.if-branch.false in
+    seen_unless c.args.seen.now c.signature.result.now g c.in_ok-_number.is_new (sym c.is_comdat.ensures ∙ c.if-not-is_comdat.false) c.signature.ensures c.in_ok-_number.ensures.fresh
+    ∙ ap not c.if-is_new.false in
     c.mark.ensures ∙ ap (marked c.args.marks.now) c.members.ensures ∙ ap (λ b. cond b (marked c.args.marks.now g.members) c.args.marks.now) (sym lost)
 
 pub returns-clause-seen : goal.returns-clause-seen
 returns-clause-seen c =
-    set_then c.args.seen.now.keys c.insert.new.self.keys (record { 0 = c.signature.result }) c.args.group.now (sym c.is_comdat.ensures ∙ c.if-not-is_comdat.false) c.signature.ensures c.in_ok-insert.ensures.keys
+    set_then c.args.seen.now c.add.new.self c.signature.result.now c.args.group.now (sym c.is_comdat.ensures ∙ c.if-not-is_comdat.false) c.signature.ensures c.in_ok-_number.ensures.added

@@ -5,7 +5,8 @@ use Rattle.elf_model.specs.ObjectFile.{groups}
 use Rattle.check_load.specs.Loaders.{loaded}
 use Rattle.check_load.specs.Names.{asked_in, defined_in, defines_name, requests_name}
 use Rattle.check_load.specs.Opened.{item_view}
-use Rattle.check_load.specs.Signatures.{seen_by, seen_in}
+use Rattle.check_load.specs.NameNumbers.{is_among}
+use Rattle.check_load.specs.Signatures.{seen_by}
 use Rattle.check_load.proofs.LoaderLaws.{groups_stop, knows_more, lost, object_is, pushed}
 use Rattle.check_load.proofs.loader.Loader.add.Goals as goal
 
@@ -18,7 +19,7 @@ pub returns-clause-loaded : goal.returns-clause-loaded
 returns-clause-loaded c =
     let os = loaded c.args.self.now in
     let bytes = c.args.bytes.now in
-    let gone = lost os (seen_in c.args.self.now.seen.keys) bytes c.in_ok-object.object c.in_ok-dropped.dropped c.requires.seen c.in_ok-object.ensures.exact c.in_ok-dropped.ensures.dropped in
+    let gone = lost os (is_among c.args.self.now.seen) bytes c.in_ok-object.object c.in_ok-dropped.dropped c.requires.seen c.in_ok-object.ensures.exact c.in_ok-dropped.ensures.dropped in
     let o = item_view c.args.item.now in
     pushed c.args.self.now.objects.items c.push.new.self.items _ os o c.args.offset bytes refl c.in_ok-push.ensures.items
     (object_is os o c.args.offset bytes c.in_ok-object.object c.in_ok-dropped.dropped c.in_ok-object.ensures.exact gone)
@@ -27,10 +28,10 @@ pub returns-clause-known : goal.returns-clause-known
 returns-clause-known c =
     let os = loaded c.args.self.now in
     let bytes = c.args.bytes.now in
-    let gone = lost os (seen_in c.args.self.now.seen.keys) bytes c.in_ok-object.object c.in_ok-dropped.dropped c.requires.seen c.in_ok-object.ensures.exact c.in_ok-dropped.ensures.dropped in
+    let gone = lost os (is_among c.args.self.now.seen) bytes c.in_ok-object.object c.in_ok-dropped.dropped c.requires.seen c.in_ok-object.ensures.exact c.in_ok-dropped.ensures.dropped in
     let o = item_view c.args.item.now in
     knows_more c.args.places.now c.args.self.now _ o c.args.offset bytes c.requires c.in_ok-note_object.ensures.woken c.in_ok-note_object.ensures.stays refl (returns-clause-loaded c)
-    (subst (λ (b : List ℕ). seen_in c.admit.new.seen.keys ≡ seen_by (seen_in c.args.self.now.seen.keys) (groups b)) c.in_ok-object.ensures.exact c.in_ok-dropped.ensures.seen)
+    (subst (λ (b : List ℕ). is_among c.admit.new.seen ≡ seen_by (is_among c.args.self.now.seen) (groups b)) c.in_ok-object.ensures.exact c.in_ok-dropped.ensures.seen)
     (λ n.
     c.in_ok-note_object.ensures.requested n
     ∙ (ap (λ (b : List ℕ). asked_in b c.in_ok-dropped.dropped n || requests_name c.args.self.now.names n) c.in_ok-object.ensures.exact

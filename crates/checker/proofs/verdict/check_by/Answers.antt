@@ -3,7 +3,7 @@ use Rattle.std.specs.Prelude.{IfOk}
 use Rattle.elf_model.specs.Files.{files_of, words_of}
 use Rattle.elf_model.specs.MapRecord.{map_of}
 use Rattle.checker.proofs.Verdicts.{unread_no, unread_yes, verdict_no, verdict_yes}
-use Rattle.checker.proofs.verdict.check.Goals as goal
+use Rattle.checker.proofs.verdict.check_by.Goals as goal
 
 -- where a fact of a result gives another
 stronger : {X E : Type 0} (P Q : X → Type 0) (r : Result X E) → IfOk r P → ((x : X) → P x → Q x) → IfOk r Q
