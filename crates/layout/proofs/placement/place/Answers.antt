@@ -6,4 +6,4 @@ use Rattle.layout.proofs.placement.place.Goals as goal
 
 pub returns-clause-addresses : goal.returns-clause-addresses
 returns-clause-addresses c =
-    subst (λ (os : List LoadedObject). AreLawfulKinds os → AreOwnAddresses c.args.base os) c.objects.ensures.exact c.in_ok-tables.ensures.addresses
+    subst (λ (os : List LoadedObject). AreLawfulKinds os → AreOwnAddresses c.args.base os) c.objects-objects.ensures.exact c.in_ok-tables.ensures.addresses
