@@ -12,6 +12,7 @@ ghost use Rattle.ld_main.specs.InOrder.{AreInOrder, meaning_at, meanings_at, mea
 
 use crate::name_order::{Keyed, Names, order};
 use elf_model::Bound;
+use image_write::{Linkage, Listed};
 use resolve::{Definition, Resolved, SymbolOf};
 use std::alloc::{AllocError, Global};
 
@@ -113,4 +114,18 @@ pub fn listed<'a>(
     let mut listed = Vec::with_capacity(alloc, order.keys.len())?;
     order.add_definitions(&mut listed, order.keys())?;
     Ok(listed)
+}
+
+/// The definitions of a link that have a line in the map, in the order of their names.
+pub fn definitions<'a>(
+    alloc: Global,
+    linkage: &Linkage<'a>,
+) -> Result<Vec<Definition<'a>>, AllocError>
+    ensures { IfOk result (λ v. IsListing linkage.now.objects v.items) }
+{
+    let parts = linkage.parts();
+    match &parts.listed {
+        Listed::InOrder(listed, _) => Vec::from_slice(alloc, listed),
+        Listed::Unlisted(resolved, linkers) => listed(alloc, resolved, linkers),
+    }
 }

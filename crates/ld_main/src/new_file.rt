@@ -135,6 +135,36 @@ pub struct NewFile<'a> {
 }
 
 impl<'a> NewFile<'a> {
+    /// Opens an output to be written: a new file beside its path, or what is there, where that is no
+    /// regular file.
+    pub fn open<R: Files + AllocGlobal + RandomSource>(
+        rt: &R,
+        path: &'a str,
+    ) -> Result<(R::File, NewFile<'a>), WriteFault>
+        ensures path { IfOk result (λ f. f.1.path.now ≡ path.entry.now) }
+        ensures beside { IfOk result (λ f. IfSome f.1.beside (λ p. IsBeside path.entry.now (path_buf_bytes p))) }
+    {
+        if is_written_in_place(rt, path) {
+            return match File::create(rt, path) {
+                Ok(file) => Ok((file, NewFile { path, beside: None })),
+                Err(_) => Err(WriteFault::Device),
+            };
+        }
+        let (file, name) = create_beside(rt, path)?;
+        Ok((
+            file,
+            NewFile {
+                path,
+                beside: Some(name),
+            },
+        ))
+    }
+
+    /// Whether it is a new file.
+    pub fn is_new(&self) -> bool {
+        self.beside.is_some()
+    }
+
     /// Writes an output: a new file beside its path, or what is there, where that is no regular
     /// file.
     pub fn write<R: Files + AllocGlobal + RandomSource>(
@@ -146,21 +176,11 @@ impl<'a> NewFile<'a> {
         ensures path { IfOk result (λ f. f.path.now ≡ path.entry.now) }
         ensures beside { IfOk result (λ f. IfSome f.beside (λ p. IsBeside path.entry.now (path_buf_bytes p))) }
     {
-        if is_written_in_place(rt, path) {
-            let Ok(file) = File::create(rt, path) else {
-                return Err(WriteFault::Device);
-            };
-            fill(rt.alloc(), file, content, false)?;
-            return Ok(NewFile { path, beside: None });
-        }
-        let (file, name) = create_beside(rt, path)?;
-        match fill(rt.alloc(), file, content, true) {
-            Ok(()) => Ok(NewFile {
-                path,
-                beside: Some(name),
-            }),
+        let (file, output) = NewFile::open(rt, path)?;
+        match fill(rt.alloc(), file, content, output.is_new()) {
+            Ok(()) => Ok(output),
             Err(fault) => {
-                let _ = fs::remove_file(rt, name.as_path());
+                output.discard(rt);
                 Err(fault)
             }
         }

@@ -411,7 +411,7 @@ fn read_apart<'a, R: Files + AllocGlobal>(
 }
 
 /// Reads the files that a plan names. Where they are linked, the files of the image and of the map are none of them.
-fn read_files<'a, R: Files + AllocGlobal>(
+pub fn read_files<'a, R: Files + AllocGlobal>(
     rt: &R,
     plan: &Plan<'a>,
 ) -> Result<Vec<InputFile>, Failure<'a>>
