@@ -2,7 +2,7 @@
 ghost use Rattle.std.specs.Prelude.{true, take, ◌≡◌, ◌<◌, ◌≤◌, ◌^◌, ◌++◌, IsTrue, ◌↔◌, IfSome, IfOk, OnOk, SomeIff, length, option_map, option_copied};
 ghost use Rattle.std.specs.Str.{all_ascii_digits};
 ghost use Rattle.std.specs.Str.Parse.{digits_value};
-ghost use Rattle.elf_model.specs.MapText.{hex_digit, pair, quad, word, hex, address, number, last_number};
+ghost use Rattle.elf_model.specs.MapText.{hex_digit, pair, word, hex, address, number, last_number};
 ghost use Rattle.linkmap.specs.Reading as reading;
 ghost use Rattle.linkmap.specs.declared.digits.LineFault.TheVariants as line_fault;
 
@@ -159,21 +159,24 @@ pub fn put_pair(out: &mut Vec<u8>, n: u8) -> Result<(), AllocError>
     Ok(())
 }
 
-#[tactic(auto, unfolding(elf_model::specs::MapText::quad))]
-fn put_quad(out: &mut Vec<u8>, n: u16) -> Result<(), AllocError>
-    ensures { OnOk result (out.new.items ≡ out.old.items ++ quad n) }
-{
-    put_pair(out, (n / 256) as u8)?;
-    put_pair(out, (n % 256) as u8)?;
-    Ok(())
-}
-
-#[tactic(auto, unfolding(elf_model::specs::MapText::word))]
+/// Appends a number in eight hexadecimal digits, all at once.
+#[tactic(auto, unfolding(elf_model::specs::MapText::word, elf_model::specs::MapText::quad, elf_model::specs::MapText::pair))]
 fn put_word(out: &mut Vec<u8>, n: u32) -> Result<(), AllocError>
     ensures { OnOk result (out.new.items ≡ out.old.items ++ word n) }
 {
-    put_quad(out, (n / 65536) as u16)?;
-    put_quad(out, (n % 65536) as u16)?;
+    let (high, low) = (n / 65536, n % 65536);
+    let (a, b) = ((high / 256) as u8, (high % 256) as u8);
+    let (c, d) = ((low / 256) as u8, (low % 256) as u8);
+    out.extend_from_slice(&[
+        glyph(a / 16),
+        glyph(a % 16),
+        glyph(b / 16),
+        glyph(b % 16),
+        glyph(c / 16),
+        glyph(c % 16),
+        glyph(d / 16),
+        glyph(d % 16),
+    ])?;
     Ok(())
 }
 
