@@ -1,12 +1,13 @@
 -- The definitions that have a line, found by the places of their names in order, are those that have one, in order.
-use Rattle.std.proofs.Common.{◌≡◌, ◌∙◌, ℕ, zero, suc, ◌+◌, ◌-◌, ◌<◌, ◌≤◌, Bool, true, false, cond, List, [], ◌∷◌, ◌++◌, Option, None, Some, get_or, length, map, refl, ap, subst, sym, arith}
+use Rattle.std.proofs.Common.{◌≡◌, ◌∙◌, ℕ, zero, suc, ◌+◌, ◌-◌, ◌<◌, ◌≤◌, ◌==◌, Bool, true, false, cond, List, [], ◌∷◌, ◌++◌, Option, None, Some, get_or, length, map, refl, ap, subst, sym, arith}
 use Rattle.std.specs.Prelude.{All, Contains, IsPermutation, find, is_some, option_map, unwrap_or}
+use Rattle.std.specs.Borrow.{Bor}
 use Rattle.std.specs.Cmp.Lexicographic.{slice_cmp}
 use Rattle.std.specs.List.{range_with_len}
 use Rattle.std.specs.List.Sorted.{IsSortedByKey}
 use Rattle.std.specs.Option.{option_map_or}
 use Rattle.std.specs.Ordering.{is_lt, nat_cmp}
-use Rattle.std.proofs.lemmas.Bool.{false≢true}
+use Rattle.std.proofs.lemmas.Bool.{eqb-true, false≢true}
 use Rattle.std.proofs.lemmas.List.{get_or-map, length-map, map-append}
 use Rattle.std.proofs.lemmas.List.Elements.{All-contains, All-head, All-tail}
 use Rattle.std.proofs.lemmas.List.FromFn.{fill_by_all}
@@ -17,17 +18,22 @@ use Rattle.elf_model.specs.ChosenSymbols.{chosen_symbols}
 use Rattle.elf_model.specs.Commons.{Block, block_named, block_symbols, blocks, is_block_of, is_common_symbol}
 use Rattle.elf_model.specs.Listing.{AreLinkerLines, AreListed, listed}
 use Rattle.elf_model.specs.Loading.{LoadedObject}
+use Rattle.elf_model.specs.MapRecord.{CommonRow}
 use Rattle.elf_model.specs.Meaning.{Common, Linker, Meaning, Symbol, meaning_name, meanings_of, meant}
 use Rattle.elf_model.specs.Resolution.{AreSoundSymbols, SymbolOf, has_name}
+use Rattle.elf_model.specs.declared.bound.Bound.{Bound}
 use Rattle.elf_model.specs.declared.bound.Bound.TheVariants.{ImageStart}
 use Rattle.elf_model.proofs.Blocks.{block_named-some}
 use Rattle.elf_model.proofs.Finding.{find-found, none-passes}
 use Rattle.elf_model.proofs.Listed.{All-from_contains, Contains-filter}
 use Rattle.elf_model.proofs.Listing.{joined_listed, permuted_is_of}
+use Rattle.resolve.specs.Blocks.{block_views}
+use Rattle.resolve.specs.declared.blocks.Block as held
 use Rattle.resolve.specs.Defined.{AreDefinitions}
 use Rattle.resolve.specs.Views.{meaning_view, meaning_views, symbol_view, symbol_views}
 use Rattle.resolve.specs.declared.definition.Definition as definitions
 use Rattle.resolve.specs.declared.entries.SymbolOf as code
+use Rattle.image_write.specs.CommonRows.{common_rows_of, own_commons}
 use Rattle.image_write.specs.Listings.{IsListing}
 use Rattle.ld_main.specs.InOrder.{AreInOrder, all_meanings, meaning_at, meanings_at, own_meaning}
 use Rattle.relocate.specs.Uses.{line_view, line_views}
@@ -197,3 +203,31 @@ is_listing objects ms sound is = record {
 pub from_listing :
     (objects : List LoadedObject) (ms : List definitions.Definition) → IsListing objects ms → AreInOrder objects (meaning_views ms)
 from_listing objects ms is = record { listed = is.listed; rising = seen_sorted meaning_view meaning_name ms is.rising }
+
+-- where there is no common block, none has a line
+module _ (L : List LoadedObject) (none : blocks L ≡ []) (base : ℕ) (objects : List LoadedObject) where
+  no_row : (s : SymbolOf) → common_rows_of base objects (own_meaning L s) ≡ []
+  no_row s = by (is_common_symbol s) (ap (find (is_block_of s.name)) none)
+    where
+      by :
+          (b : Bool) → block_named L s.name ≡ None →
+          common_rows_of base objects (unwrap_or (cond b (option_map Common (block_named L s.name)) (Some (Symbol s))) (Symbol s)) ≡ []
+      by false named = refl
+      by true named = ap (λ (o : Option Block). common_rows_of base objects (unwrap_or (option_map Common o) (Symbol s))) named
+
+  row_at : (found : List code.SymbolOf) (lines : List (Bor (List ℕ) × Bound)) (place : ℕ) → common_rows_of base objects (meaning_at L found (line_views lines) place) ≡ []
+  row_at [] [] place = refl
+  row_at [] (l ∷ lines) zero = refl
+  row_at [] (l ∷ lines) (suc place) = row_at [] lines place
+  row_at (s ∷ found) lines zero = no_row (symbol_view s)
+  row_at (s ∷ found) lines (suc place) = row_at found lines place
+
+  pub no_commons : (found : List code.SymbolOf) (lines : List (Bor (List ℕ) × Bound)) (ks : List Keyed) → own_commons base objects (meanings_at L found (line_views lines) ks) ≡ []
+  no_commons found lines [] = refl
+  no_commons found lines (k ∷ ks) =
+      ap (λ (rows : List CommonRow). rows ++ own_commons base objects (meanings_at L found (line_views lines) ks)) (row_at found lines k.place)
+      ∙ no_commons found lines ks
+
+pub no_blocks : (bs : List held.Block) → (length bs == 0) ≡ true → block_views bs ≡ []
+no_blocks [] is = refl
+no_blocks (b ∷ bs) is = let e = eqb-true (length (b ∷ bs)) 0 is in absurd (omega (arith, e))

@@ -1,5 +1,5 @@
 -- The definitions that have a line, in the order of their names: found by the places of the names.
-use Rattle.std.specs.Prelude.{ℕ, List, [], ◌++◌, map, slice_index_or, unwrap_or}
+use Rattle.std.specs.Prelude.{◌≡◌, ℕ, List, [], ◌++◌, map, slice_index_or, unwrap_or}
 use Rattle.std.specs.Cmp.Lexicographic.{slice_cmp}
 use Rattle.std.specs.List.Sorted.{IsSortedByKey}
 use Rattle.std.specs.Ordering.{nat_cmp}
@@ -10,6 +10,7 @@ use Rattle.elf_model.specs.Resolution.{SymbolOf}
 use Rattle.elf_model.specs.declared.bound.Bound.TheVariants.{ImageStart}
 use Rattle.resolve.specs.Views.{symbol_views}
 use Rattle.resolve.specs.declared.entries.SymbolOf as code
+use Rattle.image_write.specs.CommonRows.{own_commons}
 use Rattle.relocate.specs.Uses.{line_views}
 use Rattle.ld_main.specs.declared.listed_definitions.InOrder.{InOrder}
 use Rattle.ld_main.specs.declared.name_order.Keyed.{Keyed}
@@ -37,3 +38,7 @@ pub record AreInOrder (objects : List LoadedObject) (ms : List Meaning) : Type 0
 -- those of what is found in order
 abbrev pub meanings_in : InOrder → List Meaning
 meanings_in o = meanings_at o.resolved.now o.names.symbols.now (line_views o.names.linkers.now) o.keys.items
+
+-- they are no common blocks
+abbrev pub HasNoCommonLine : List Meaning → Type 0
+HasNoCommonLine ms = (base : ℕ) (objects : List LoadedObject) → own_commons base objects ms ≡ []

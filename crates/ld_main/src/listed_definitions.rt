@@ -1,6 +1,6 @@
 //! The definitions that have a line in the map, in the order of their names: what the chosen symbols mean, and those
 //! of the linker's names that relocations use.
-ghost use Rattle.std.specs.Prelude.{◌≡◌, [], ◌++◌, IfOk, OnOk, slice_index_or};
+ghost use Rattle.std.specs.Prelude.{◌≡◌, [], ◌++◌, IfOk, IsTrue, OnOk, slice_index_or};
 ghost use Rattle.elf_model.specs.Listing.{AreLinkerLines};
 ghost use Rattle.elf_model.specs.Meaning.{Linker};
 ghost use Rattle.elf_model.specs.declared.bound.Bound.TheVariants.{ImageStart};
@@ -8,7 +8,7 @@ ghost use Rattle.elf_model.specs.Resolution.{AreSoundSymbols};
 ghost use Rattle.resolve.specs.Views.{meaning_view, meaning_views, symbol_view};
 ghost use Rattle.relocate.specs.Uses.{line_views};
 ghost use Rattle.image_write.specs.Listings.{IsListing};
-ghost use Rattle.ld_main.specs.InOrder.{AreInOrder, meaning_at, meanings_at, meanings_in, own_meaning};
+ghost use Rattle.ld_main.specs.InOrder.{AreInOrder, HasNoCommonLine, meaning_at, meanings_at, meanings_in, own_meaning};
 
 use crate::name_order::{Keyed, Names, order};
 use elf_model::Bound;
@@ -84,6 +84,13 @@ impl<'c, 'a> InOrder<'c, 'a> {
         ensures { result.now ≡ self.now.keys.items }
     {
         self.keys.as_slice()
+    }
+
+    /// Whether none of them can be a common block, for there is none.
+    pub fn has_no_commons(&self) -> bool
+        ensures { IsTrue result → HasNoCommonLine (meanings_in self.now) }
+    {
+        self.resolved.blocks().is_empty()
     }
 
     /// Adds those that have their names at places.

@@ -71,6 +71,9 @@ fn put_found_commons(
 ) -> Result<(), AllocError>
     ensures { OnOk result (text.new.items ≡ text.old.items ++ flat_map map_text.common_text (own_commons placement.now.base placement.now.objects (meanings_in found.now))) }
 {
+    if found.has_no_commons() {
+        return Ok(());
+    }
     let mut batch = Vec::with_capacity(alloc, BATCH)?;
     let mut rest = found.keys();
     while !rest.is_empty() {

@@ -1,5 +1,7 @@
 use Rattle.std.proofs.Common.{◌≡◌, ◌∙◌, ℕ, List, ◌++◌, ap, map, subst, sym, take}
 use Rattle.std.specs.List.{flat_map}
+use Rattle.std.proofs.lemmas.List.{append-nil}
+use Rattle.elf_model.specs.MapRecord.{CommonRow}
 use Rattle.elf_model.specs.MapText.{common_text}
 use Rattle.elf_model.specs.Meaning.{Meaning}
 use Rattle.image_write.specs.CommonRows.{own_commons}
@@ -26,3 +28,9 @@ loop-rest-preserved c =
     (sym c.split_at.ensures.back)
     (batch_put at (λ ms. flat_map common_text (own_commons b.base b.objects ms)) rest c.min.result (meaning_views c.deref.result.now)
     c.loop-rest.text.items c.put_commons.new.text.items whole (commons_join b.base b.objects) c.loop-rest.invariant part c.in_ok-put_commons.ensures)
+
+pub returns-then-has_no_commons : goal.returns-then-has_no_commons
+returns-then-has_no_commons c =
+    let b = c.args.placement.now in
+    sym (append-nil c.args.text.now.items)
+    ∙ ap (λ (rows : List CommonRow). c.args.text.now.items ++ flat_map common_text rows) (sym (c.has_no_commons.ensures c.if-has_no_commons.true b.base b.objects))
