@@ -17,7 +17,7 @@
     segments      an image with 65,533 PT_LOADs, each of one page with a section of zeros; single: half of them
     group-names   a group of 2,000 archives, of which the first one's member asks for 80,000 names that none defines
     group-order   a group of 10,000 archives, each of which asks for the one before it: a round loads one
-    flooded       20,000 symbols with slots, common symbols, signatures, output sections and names of an index each, whose
+    flooded       16,000 symbols with slots, common symbols, signatures, output sections and names of an index each, whose
                   names collide where they are hashed from the seed that everybody knows
 
 Three more grow faster than their bytes, for reasons that docs/BENCHMARKS.md gives. They run only where they are named,
@@ -377,7 +377,7 @@ INPUTS = {
     "segments": (many_segments, 32_600),
     "group-names": (group_names, 2_000),
     "group-order": (group_order, 10_000),
-    "flooded": (flooded, 20_000),
+    "flooded": (flooded, 16_000),
 }
 
 NOT_LINEAR = {
