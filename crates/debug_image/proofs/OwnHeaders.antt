@@ -1,0 +1,181 @@
+-- The own image with other fields of its file header, and other bytes behind its last file part.
+use Rattle.std.proofs.Common.{◌≡◌, inl, Bool, false, ℕ, ◌+◌, ◌-◌, ◌*◌, ◌^◌, ◌<◌, ◌≤◌, true, cond, List, ◌++◌, length, map, refl, sym, ◌∙◌, ap, arith, append_assoc, drop, take}
+use Rattle.std.specs.Prelude.{Contains, nat_le}
+use Rattle.std.specs.List.{flat_map, list_any, range_with_len}
+use Rattle.std.proofs.Math.Seq.{drop-append-add}
+use Rattle.std.proofs.lemmas.Bool.{le-leb}
+use Rattle.std.proofs.lemmas.List.{length-append}
+use Rattle.std.proofs.lemmas.List.Elements.{Contains-append_left}
+use Rattle.std.proofs.lemmas.List.FromFn.{length-map-range_with_len}
+use Rattle.byteview.specs.Numbers.{part}
+use Rattle.elf_model.specs.Command.{IsBase}
+use Rattle.elf_model.specs.ImageFile.{HeaderFields, fields_without, header_bytes, own_byte, own_end, own_file_header, own_program_headers, piece_byte}
+use Rattle.elf_model.specs.Loading.{AreObjects, LoadedObject}
+use Rattle.elf_model.specs.MemoryImage.{file_end, headers_size, loads, loads_in, program_headers}
+use Rattle.elf_model.specs.OwnLayout.{IsNotTooLarge, code_pieces, count_if, data_pieces, has_thread_pieces, header_count, is_nonempty, own_headers_size, own_loaded, own_segments, own_thread_rest, own_where, placed_has_bytes}
+use Rattle.elf_model.specs.Pieces.{AreLawfulKinds}
+use Rattle.elf_model.specs.Placement.{Placed}
+use Rattle.elf_model.specs.Records.{FitsFileHeader, file_header, file_header_bytes, program_header, program_header_bytes}
+use Rattle.elf_model.specs.declared.records.FileHeader.{FileHeader}
+use Rattle.elf_model.specs.declared.records.ProgramHeader.{ProgramHeader}
+use Rattle.elf_model.proofs.Places.{AreOwnPlaced, are_own_placed}
+use Rattle.elf_model.proofs.RecordLaws.{file_header-again, length-file_header_bytes}
+use Rattle.own_link.proofs.HeaderTable.{length-headers}
+use Rattle.own_link.proofs.ImageOwn.{good_segments, header_count_is, own_thread_headers_of, wanted_loads}
+use Rattle.own_link.proofs.ImageRead.{file_end-long}
+use Rattle.own_link.proofs.ZeroFilled.{own_wants_zero}
+use Rattle.debug_image.specs.PlainImages.{cleared, plain_of}
+use Rattle.debug_image.proofs.PlainParts.{plain_is}
+
+-- fields of a file header that fit it
+pub record FitFields (f : HeaderFields) : Type 0 where
+  pub entry : f.e_entry < 2 ^ 64
+  pub offset : f.e_shoff < 2 ^ 64
+  pub count : f.e_shnum < 2 ^ 16
+  pub names : f.e_shstrndx < 2 ^ 16
+
+fits_header : (f : HeaderFields) (n : ℕ) → FitFields f → n < 2 ^ 16 → FitsFileHeader (own_file_header f n)
+fits_header f n s c = record {
+  e_ident = refl;
+  e_type = omega arith;
+  e_machine = omega arith;
+  e_version = omega arith;
+  e_entry = s.entry;
+  e_phoff = omega arith;
+  e_shoff = s.offset;
+  e_flags = omega arith;
+  e_ehsize = omega arith;
+  e_phentsize = omega arith;
+  e_phnum = c;
+  e_shentsize = omega arith;
+  e_shnum = s.count;
+  e_shstrndx = s.names;
+}
+
+-- there are few of them
+one_at_most : (b : Bool) → ◌≤◌ (count_if b) 1
+one_at_most true = omega arith
+one_at_most false = omega arith
+
+few_headers : (objects : List LoadedObject) → header_count objects < 2 ^ 16
+few_headers objects =
+    let c = one_at_most (list_any is_nonempty (code_pieces objects)) in
+    let d = one_at_most (list_any is_nonempty (data_pieces objects)) in
+    let t = one_at_most (has_thread_pieces objects) in
+    omega (arith, c, d, t)
+
+-- program headers are read behind the file header, of which only their number matters
+headers_behind :
+    (h : List ℕ) (g : List ℕ) (rest : List ℕ) → length h ≡ 64 → length g ≡ 64 → (k : ℕ) → part (h ++ rest) (64 + k) 56 ≡ part (g ++ rest) (64 + k) 56
+headers_behind h g rest hn gn k =
+    let one : (f : List ℕ) → length f ≡ 64 → drop (64 + k) (f ++ rest) ≡ drop k rest =
+    λ f n. ap (λ (m : ℕ). drop (m + k) (f ++ rest)) (sym n) ∙ drop-append-add f rest k in
+    ap (take 56) (one h hn ∙ sym (one g gn))
+
+pub table_behind :
+    (h g rest : List ℕ) → length h ≡ 64 → length g ≡ 64 → (file_header (h ++ rest)).e_phnum ≡ (file_header (g ++ rest)).e_phnum →
+    program_headers (h ++ rest) ≡ program_headers (g ++ rest)
+table_behind h g rest hn gn same =
+    ap (λ (f : ℕ → List ℕ). map (λ i. program_header (f i)) (range_with_len 0 (file_header (h ++ rest)).e_phnum))
+    (λ i k. headers_behind h g rest hn gn (56 * k) i)
+    ∙ ap (λ (n : ℕ). map (λ i. program_header (part (g ++ rest) (64 + 56 * i) 56)) (range_with_len 0 n)) same
+
+module _ (base : ℕ) (objects : List LoadedObject) (kinds : AreLawfulKinds objects) (based : IsBase base) (fits : IsNotTooLarge base objects) (good : AreObjects objects) where
+  stand : AreOwnPlaced base objects
+  stand = are_own_placed base objects kinds
+
+  abbrev wants : Placed → ℕ → ℕ
+  wants q k = piece_byte objects (own_where base objects) q.piece k
+
+  wants_zero : (q : Placed) (k : ℕ) → Contains (own_loaded base objects) q → placed_has_bytes q ≡ false → wants q k ≡ 0
+  wants_zero q k c =
+      own_wants_zero objects good base stand (own_where base objects) q k
+      (Contains-append_left (own_loaded base objects) (own_thread_rest base objects) q c)
+
+  abbrev programs : List ℕ
+  programs = flat_map program_header_bytes (own_program_headers base objects)
+
+  abbrev body : List ℕ
+  body = map (λ i. own_byte base objects (base + i)) (range_with_len (own_headers_size objects) (own_end base objects - own_headers_size objects))
+
+  abbrev front : HeaderFields → List ℕ
+  front f = file_header_bytes (own_file_header f (header_count objects))
+
+  -- the image with these fields and this tail
+  abbrev pub image_with : HeaderFields → List ℕ → List ℕ
+  image_with f tail = header_bytes base objects f ++ (body ++ tail)
+
+  front_long : (f : HeaderFields) → length (front f) ≡ 64
+  front_long f = length-file_header_bytes (own_file_header f (header_count objects)) refl
+
+  pub headers_long : own_headers_size objects ≤ own_end base objects
+  headers_long =
+      file_end-long base (own_headers_size objects) (own_segments base objects) (good_segments base objects kinds based fits stand good) (omega arith)
+
+  counted : header_count objects ≡ length (own_program_headers base objects)
+  counted =
+      header_count_is base objects
+      ∙ sym (length-append (own_segments base objects) _ ∙ ap (λ (n : ℕ). length (own_segments base objects) + n) (length-append (own_thread_headers_of base objects) _))
+
+  pub part_long : (f : HeaderFields) → length (header_bytes base objects f ++ body) ≡ own_end base objects
+  part_long f =
+      let h = length-headers (own_file_header f (header_count objects)) (own_program_headers base objects) refl in
+      let b = length-map-range_with_len (λ i. own_byte base objects (base + i)) (own_headers_size objects) (own_end base objects - own_headers_size objects) in
+      length-append (header_bytes base objects f) body ∙ omega (arith, h, b, headers_long, counted)
+
+  -- up to the end of the last file part, with other fields
+  pub changed : (f g : HeaderFields) (tail : List ℕ) → front g ++ drop 64 (take (own_end base objects) (image_with f tail)) ≡ header_bytes base objects g ++ body
+  changed f g tail = plain_is (front f) (front g) programs body tail (own_end base objects) (front_long f) (part_long f)
+
+  pub header_read : (f : HeaderFields) (tail : List ℕ) → FitFields f → file_header (image_with f tail) ≡ own_file_header f (header_count objects)
+  header_read f tail s =
+      ap file_header (append_assoc (front f) programs (body ++ tail))
+      ∙ file_header-again (own_file_header f (header_count objects)) (programs ++ (body ++ tail)) (fits_header f (header_count objects) s (few_headers objects))
+
+  -- the segments of such an image
+  bare : (tail : List ℕ) → loads (image_with (fields_without 0) tail) ≡ own_segments base objects
+  bare tail =
+      wanted_loads base objects kinds based fits stand good wants wants_zero (fields_without 0) tail
+      (record {
+        entry = omega arith;
+        offset = omega arith;
+        count = omega arith;
+        names = omega arith;
+        sections = inl (record { offset = refl; count = refl; names = refl });
+      })
+
+  pub loads_read : (f : HeaderFields) (tail : List ℕ) → FitFields f → loads (image_with f tail) ≡ own_segments base objects
+  loads_read f tail s =
+      let g = fields_without 0 in
+      let rest : List ℕ = programs ++ (body ++ tail) in
+      let bare_fits : FitFields g = record { entry = omega arith; offset = omega arith; count = omega arith; names = omega arith } in
+      let same : (file_header (front f ++ rest)).e_phnum ≡ (file_header (front g ++ rest)).e_phnum =
+      ap (λ (xs : List ℕ). (file_header xs).e_phnum) (sym (append_assoc (front f) programs (body ++ tail)))
+      ∙ (ap (λ (h : FileHeader). h.e_phnum) (header_read f tail s)
+      ∙ (sym (ap (λ (h : FileHeader). h.e_phnum) (header_read g tail bare_fits))
+      ∙ ap (λ (xs : List ℕ). (file_header xs).e_phnum) (append_assoc (front g) programs (body ++ tail)))) in
+      ap loads (append_assoc (front f) programs (body ++ tail))
+      ∙ (ap loads_in (table_behind (front f) (front g) rest (front_long f) (front_long g) same)
+      ∙ (ap loads (sym (append_assoc (front g) programs (body ++ tail))) ∙ bare tail))
+
+  -- its file header is read as a whole
+  headers_inside : (f : HeaderFields) (tail : List ℕ) → FitFields f → headers_size (image_with f tail) ≤ length (image_with f tail)
+  headers_inside f tail s =
+      let n : headers_size (image_with f tail) ≡ own_headers_size objects =
+      ap (λ (h : FileHeader). 64 + 56 * h.e_phnum) (header_read f tail s) in
+      let all : length (image_with f tail) ≡ own_end base objects + length tail =
+      ap length (sym (append_assoc (header_bytes base objects f) body tail))
+      ∙ (length-append (header_bytes base objects f ++ body) tail ∙ ap (λ (k : ℕ). k + length tail) (part_long f)) in
+      omega (arith, n, all, headers_long)
+
+  -- the plain image of it is the image without section headers
+  pub plain_is_own :
+      (f : HeaderFields) (tail : List ℕ) → FitFields f →
+      plain_of (image_with f tail) ≡ header_bytes base objects (fields_without f.e_entry) ++ body
+  plain_is_own f tail s =
+      let x : List ℕ = image_with f tail in
+      let there : nat_le (headers_size x) (length x) ≡ true = le-leb (headers_size x) (length x) (headers_inside f tail s) in
+      ap (λ (b : Bool). cond b (file_header_bytes (cleared (file_header x)) ++ drop 64 (take (file_end (loads x)) x)) x) there
+      ∙ (ap (λ (h : FileHeader). file_header_bytes (cleared h) ++ drop 64 (take (file_end (loads x)) x)) (header_read f tail s)
+      ∙ (ap (λ (hs : List ProgramHeader). front (fields_without f.e_entry) ++ drop 64 (take (file_end hs) x)) (loads_read f tail s)
+      ∙ changed f (fields_without f.e_entry) tail))

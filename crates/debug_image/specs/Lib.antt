@@ -1,0 +1,9 @@
+pub mod DebugImage
+pub mod Layouts
+pub mod Offsets
+pub mod PlainImages
+pub mod Sections
+pub mod SectionViews
+pub mod Symbols
+pub mod Tables
+pub mod Views

@@ -1,0 +1,134 @@
+-- The symbols of a debuggable image (System V gABI 4, "Symbol Table"): which there are, and what each says.
+use Rattle.std.specs.Prelude.{ℕ, ◌+◌, ◌-◌, ◌*◌, ◌%◌, ◌^◌, ◌==◌, ◌&&◌, ◌||◌, Bool, not, cond, List, Option, None, Some, codes, find, length, nat_eq, nat_lt, option_map, false}
+use Rattle.std.specs.List.{filter_map, slice_get, starts_with}
+use Rattle.std.specs.Option.{option_and_then, option_map_or}
+use Rattle.elf_model.specs.Commons.{Block}
+use Rattle.elf_model.specs.LinkerValues.{bound_value}
+use Rattle.elf_model.specs.Meaning.{Common, Linker, Meaning, Symbol}
+use Rattle.elf_model.specs.ObjectFile.{section, sections}
+use Rattle.elf_model.specs.OwnLayout.{own_in_load_order, own_placed, own_where}
+use Rattle.elf_model.specs.Loading.{LoadedObject}
+use Rattle.elf_model.specs.Pieces.{Piece, is_thread_local, piece_of}
+use Rattle.elf_model.specs.Placement.{is_of_section}
+use Rattle.elf_model.specs.Resolution.{SymbolOf, all_symbols, binding, is_absolute, symbol_type}
+use Rattle.elf_model.specs.ThreadStorage.{thread_block}
+use Rattle.elf_model.specs.declared.constants.TheConstants.{SHN_ABS, STB_GLOBAL, STB_LOCAL, STT_FILE, STT_NOTYPE, STT_OBJECT, STT_SECTION}
+use Rattle.elf_model.specs.declared.records.Symbol as entry
+use Rattle.debug_image.specs.Sections.{Section, blocks_number, section_number}
+use Rattle.debug_image.specs.Tables.{Row}
+
+-- where a link is laid out: its base and its objects, with the sections of its image
+pub record Laid : Type 0 where
+  pub base : ℕ
+  pub objects : List LoadedObject
+  pub sections : List Section
+
+-- the address of a section of an object or of a common block, by their numbers, where it is kept
+abbrev pub address_of : Laid → ℕ → ℕ → Option ℕ
+address_of l object number = option_map (λ q. q.at) (find (is_of_section object number) (own_in_load_order l.base l.objects))
+
+-- where thread-local storage begins
+abbrev pub thread_start_of : ℕ → List LoadedObject → ℕ
+thread_start_of base objects = option_map_or (λ b. b.start) (thread_block (own_placed base objects)) 0
+
+abbrev pub thread_start : Laid → ℕ
+thread_start l = thread_start_of l.base l.objects
+
+-- the section of an object in which a symbol is defined, as a piece
+abbrev pub piece_in : ℕ → ℕ → LoadedObject → Piece
+piece_in object i o = piece_of object o.bytes i (section (sections o.bytes) i)
+
+abbrev pub symbol_piece : List LoadedObject → SymbolOf → Option Piece
+symbol_piece objects s = option_map (piece_in s.object s.entry.st_shndx) (slice_get objects s.object)
+
+-- the value of a symbol in a section at an address: the address of its place, or its offset in thread-local storage
+abbrev pub value_at : Laid → Piece → ℕ → ℕ → ℕ
+value_at l p at offset = cond (is_thread_local p.header) ((at + offset) % 2 ^ 64 - thread_start l) ((at + offset) % 2 ^ 64)
+
+-- the symbol of a section of the image, numbered from 1 on
+abbrev pub placed_row : List ℕ → entry.Symbol → ℕ → ℕ → Row
+placed_row name e number value = record {
+  name = name;
+  entry =
+      record { st_name = 0; st_info = e.st_info; st_other = e.st_other; st_shndx = (number + 1) % 2 ^ 16; st_value = value; st_size = e.st_size };
+}
+
+-- what a symbol of an object becomes: an absolute one stays what it is; one in a kept section is of the section of the image to which
+-- that belongs; any other one isn't there
+abbrev pub row_in : Laid → SymbolOf → ℕ → Piece → Option Row
+row_in l s at p =
+    option_map (λ k. placed_row s.name s.entry k (value_at l p at s.entry.st_value)) (section_number (length l.objects) l.sections p)
+
+abbrev pub row_at : Laid → SymbolOf → ℕ → Option Row
+row_at l s at = option_and_then (row_in l s at) (symbol_piece l.objects s)
+
+abbrev pub absolute_row : List ℕ → entry.Symbol → Row
+absolute_row name e = record { name = name; entry = record e { st_name = 0 } }
+
+abbrev pub symbol_row : Laid → SymbolOf → Option Row
+symbol_row l s =
+    cond (is_absolute s.entry) (Some (absolute_row s.name s.entry)) (option_and_then (row_at l s) (address_of l s.object s.entry.st_shndx))
+
+-- a LOCAL symbol that tools want: one that names a source file, or one with a name that doesn't begin with .L, but for those of
+-- sections
+abbrev pub is_named : List ℕ → Bool
+is_named name = nat_lt 0 (length name) && not (starts_with nat_eq name (codes ".L"))
+
+abbrev pub is_wanted : SymbolOf → Bool
+is_wanted s =
+    (binding s.entry == STB_LOCAL) && (not (symbol_type s.entry == STT_SECTION) && (symbol_type s.entry == STT_FILE || is_named s.name))
+
+abbrev pub local_row : Laid → SymbolOf → Option Row
+local_row l s = cond (is_wanted s) (symbol_row l s) None
+
+abbrev pub local_rows : Laid → List Row
+local_rows l = filter_map (local_row l) (all_symbols l.objects)
+
+-- what a name means: a symbol as its object says it; a common block is an OBJECT of its own section; a name of the linker is absolute
+abbrev pub block_entry : Block → entry.Symbol
+block_entry b = record { st_name = 0; st_info = STB_GLOBAL * 16 + STT_OBJECT; st_other = 0; st_shndx = 0; st_value = 0; st_size = b.size }
+
+abbrev pub block_row : Laid → Block → Option Row
+block_row l b =
+    option_and_then (λ at. option_map (λ k. placed_row b.name (block_entry b) k at) (blocks_number (length l.objects) l.sections))
+    (address_of l b.object b.number)
+
+abbrev pub linker_row : List ℕ → ℕ → Row
+linker_row name value = record {
+  name = name;
+  entry =
+      record { st_name = 0; st_info = STB_GLOBAL * 16 + STT_NOTYPE; st_other = 0; st_shndx = SHN_ABS; st_value = value; st_size = 0 };
+}
+
+abbrev pub meaning_row : Laid → Meaning → Option Row
+meaning_row l (Symbol s) = symbol_row l s
+meaning_row l (Common b) = block_row l b
+meaning_row l (Linker name bound) = Some (linker_row name (bound_value (own_where l.base l.objects) name bound))
+
+-- the visibilities INTERNAL and HIDDEN, which the two low bits of st_other have
+abbrev pub STV_INTERNAL : ℕ
+STV_INTERNAL = 1
+
+abbrev pub STV_HIDDEN : ℕ
+STV_HIDDEN = 2
+
+-- a definition whose visibility is INTERNAL or HIDDEN becomes LOCAL, as in an executable it must (gABI 4, "Symbol Visibility")
+abbrev pub is_hidden : Meaning → Bool
+is_hidden (Symbol s) = s.entry.st_other % 4 == STV_INTERNAL || s.entry.st_other % 4 == STV_HIDDEN
+is_hidden (Common b) = false
+is_hidden (Linker name bound) = false
+
+abbrev pub local_of : Row → Row
+local_of r = record { name = r.name; entry = record r.entry { st_info = r.entry.st_info % 16 } }
+
+abbrev pub hidden_row : Laid → Meaning → Option Row
+hidden_row l m = cond (is_hidden m) (option_map local_of (meaning_row l m)) None
+
+abbrev pub open_row : Laid → Meaning → Option Row
+open_row l m = cond (is_hidden m) None (meaning_row l m)
+
+abbrev pub hidden_rows : Laid → List Meaning → List Row
+hidden_rows l ms = filter_map (hidden_row l) ms
+
+abbrev pub meaning_rows : Laid → List Meaning → List Row
+meaning_rows l ms = filter_map (open_row l) ms

@@ -1,0 +1,351 @@
+//! The symbols of a debuggable image: which there are, and what each says.
+ghost use Rattle.std.specs.Prelude.{◌≡◌, ◌≤◌, ◌++◌, IfOk, OnOk, option_map};
+ghost use Rattle.std.specs.List.{filter_map};
+ghost use Rattle.std.specs.Option.{option_and_then};
+ghost use Rattle.elf_model.specs.ObjectFile.{section, sections, symbols};
+ghost use Rattle.elf_model.specs.Pieces as pieces;
+ghost use Rattle.elf_model.specs.Resolution.{symbols_from};
+ghost use Rattle.layout.specs.Views.{piece_view};
+ghost use Rattle.resolve.specs.Blocks.{block_view};
+ghost use Rattle.resolve.specs.Views.{meaning_view, meaning_views, symbol_view};
+ghost use Rattle.search.specs.Views.{loaded_view, loaded_views};
+ghost use Rattle.debug_image.specs.Layouts.{IsLayout, laid_in};
+ghost use Rattle.debug_image.specs.Symbols as spec;
+ghost use Rattle.debug_image.specs.Views.{row_view, row_views};
+
+use crate::row::Row;
+use crate::sections::{Section, blocks_number, section_number};
+use elf_model::{
+    ObjectId, SHN_ABS, STB_GLOBAL, STB_LOCAL, STT_FILE, STT_NOTYPE, STT_OBJECT, STT_SECTION,
+    SectionRef, Symbol,
+};
+use layout::{Piece, Placement};
+use resolve::{Block, Definition, SymbolOf, is_dropped};
+use search::LoadedObject;
+use std::alloc::{AllocError, Global};
+
+/// Visibilities, which the two low bits of st_other have (System V gABI 4, "Symbol Visibility").
+const STV_INTERNAL: u8 = 1;
+
+const STV_HIDDEN: u8 = 2;
+
+/// Where a link is laid out: its objects, their places, the sections of its image, and where thread-local storage begins.
+#[derive(Clone, Copy)]
+pub struct Layout<'c, 'a> {
+    pub objects: &'c [LoadedObject<'a>],
+    pub placement: &'c Placement<'a>,
+    pub sections: &'c [Section<'a>],
+    pub thread_start: u64,
+}
+
+/// Section `i` of an object as a piece.
+fn piece_of<'a>(number: u64, loaded: &LoadedObject<'a>, i: usize) -> Piece<'a>
+    ensures { piece_view result ≡ pieces.piece_of number loaded.now.object i (section (sections loaded.now.object) i) }
+{
+    Piece {
+        object: number,
+        section: i as u64,
+        header: loaded.object.section(i),
+        name: loaded.object.section_name(i).unwrap_or(&[]),
+        bytes: loaded.object.section_bytes(i).unwrap_or(&[]),
+    }
+}
+
+/// The address of the section of an object in which a symbol is defined, where it is kept.
+fn section_address(layout: &Layout<'_, '_>, symbol: &SymbolOf<'_>) -> Option<u64>
+    ensures { result ≡ spec.address_of (laid_in layout.now) symbol.now.object symbol.now.entry.st_shndx }
+{
+    layout.placement.numbered_address(SectionRef {
+        object: ObjectId(symbol.object),
+        section: symbol.entry.st_shndx as u64,
+    })
+}
+
+/// The value of a symbol in a section at an address: the address of its place, or its offset in thread-local storage.
+fn value_at(layout: &Layout<'_, '_>, piece: &Piece<'_>, at: u64, offset: u64) -> u64
+    requires { IsLayout layout.now }
+    ensures { result ≡ spec.value_at (laid_in layout.now) (piece_view piece.now) at offset }
+{
+    let address = at.wrapping_add(offset);
+    if piece.header.is_thread_local() {
+        address.saturating_sub(layout.thread_start)
+    } else {
+        address
+    }
+}
+
+/// The symbol of a section of the image, of which the first has number 0 here.
+fn placed_row<'a>(name: &'a [u8], entry: &Symbol, number: usize, value: u64) -> Row<'a>
+    ensures { row_view result ≡ spec.placed_row name.now entry.now number value }
+{
+    Row {
+        name,
+        entry: Symbol {
+            st_name: 0,
+            st_info: entry.st_info,
+            st_other: entry.st_other,
+            st_shndx: (number.wrapping_add(1) % 65536) as u16,
+            st_value: value,
+            st_size: entry.st_size,
+        },
+    }
+}
+
+fn absolute_row<'a>(symbol: &SymbolOf<'a>) -> Row<'a>
+    ensures { row_view result ≡ spec.absolute_row symbol.now.name.now symbol.now.entry }
+{
+    Row {
+        name: symbol.name,
+        entry: Symbol {
+            st_name: 0,
+            ..symbol.entry
+        },
+    }
+}
+
+/// The section of an object in which a symbol is defined, as a piece.
+fn symbol_piece<'a>(objects: &[LoadedObject<'a>], symbol: &SymbolOf<'_>) -> Option<Piece<'a>>
+    ensures { option_map piece_view result ≡ spec.symbol_piece (loaded_views objects.now) (symbol_view symbol.now) }
+{
+    let loaded = objects.get(symbol.object as usize)?;
+    Some(piece_of(symbol.object, loaded, symbol.entry.st_shndx as usize))
+}
+
+/// What a symbol becomes that is defined in a piece at an address.
+fn row_in<'a>(
+    layout: &Layout<'_, 'a>,
+    symbol: &SymbolOf<'a>,
+    at: u64,
+    piece: &Piece<'_>,
+) -> Option<Row<'a>>
+    requires { IsLayout layout.now }
+    ensures { option_map row_view result ≡ spec.row_in (laid_in layout.now) (symbol_view symbol.now) at (piece_view piece.now) }
+{
+    let number = section_number(layout.objects.len() as u64, layout.sections, piece)?;
+    let value = value_at(layout, piece, at, symbol.entry.st_value);
+    Some(placed_row(symbol.name, &symbol.entry, number, value))
+}
+
+/// What a symbol of an object becomes whose section is at an address.
+fn row_at<'a>(layout: &Layout<'_, 'a>, symbol: &SymbolOf<'a>, at: u64) -> Option<Row<'a>>
+    requires { IsLayout layout.now }
+    ensures { option_map row_view result ≡ spec.row_at (laid_in layout.now) (symbol_view symbol.now) at }
+{
+    let piece = symbol_piece(layout.objects, symbol)?;
+    row_in(layout, symbol, at, &piece)
+}
+
+/// What a symbol of an object becomes: an absolute one stays what it is; one in a kept section is of the section of the image to
+/// which that belongs; any other one isn't there.
+fn symbol_row<'a>(layout: &Layout<'_, 'a>, symbol: &SymbolOf<'a>) -> Option<Row<'a>>
+    requires { IsLayout layout.now }
+    ensures { option_map row_view result ≡ spec.symbol_row (laid_in layout.now) (symbol_view symbol.now) }
+{
+    if symbol.entry.st_shndx == SHN_ABS {
+        return Some(absolute_row(symbol));
+    }
+    let at = section_address(layout, symbol)?;
+    row_at(layout, symbol, at)
+}
+
+/// Whether a name isn't one that a compiler made for itself.
+fn is_named(name: &[u8]) -> bool
+    ensures { result ≡ spec.is_named name.now }
+{
+    !name.is_empty() && !name.starts_with(b".L")
+}
+
+/// Whether tools want a symbol, a LOCAL one: one that names a source file, or one with a name that doesn't begin with `.L`, but
+/// for those of sections.
+fn is_wanted(symbol: &SymbolOf<'_>) -> bool
+    ensures { result ≡ spec.is_wanted (symbol_view symbol.now) }
+{
+    let kind = symbol.entry.st_info % 16;
+    if symbol.entry.st_info / 16 != STB_LOCAL || kind == STT_SECTION {
+        return false;
+    }
+    kind == STT_FILE || is_named(symbol.name)
+}
+
+/// What a symbol of an object becomes that tools want as a LOCAL one.
+fn local_row<'a>(layout: &Layout<'_, 'a>, symbol: &SymbolOf<'a>) -> Option<Row<'a>>
+    requires { IsLayout layout.now }
+    ensures { option_map row_view result ≡ spec.local_row (laid_in layout.now) (symbol_view symbol.now) }
+{
+    if is_wanted(symbol) {
+        symbol_row(layout, symbol)
+    } else {
+        None
+    }
+}
+
+/// Adds the LOCAL symbols of the object that has a number.
+fn add_locals<'a>(
+    rows: &mut Vec<Row<'a>>,
+    layout: &Layout<'_, 'a>,
+    number: u64,
+    loaded: &LoadedObject<'a>,
+) -> Result<(), AllocError>
+    requires { IsLayout layout.now }
+    ensures { OnOk result (row_views rows.new.items ≡ row_views rows.old.items ++ filter_map (spec.local_row (laid_in layout.now)) (symbols_from number (loaded_view loaded.now) 0 (symbols loaded.now.object))) }
+{
+    let entries = loaded.object.symbols();
+    for (j, entry) in entries.iter().enumerate() {
+        let symbol = SymbolOf {
+            object: number,
+            number: j as u64,
+            name: loaded.object.symbol_name(j),
+            entry: *entry,
+            dropped: is_dropped(loaded, entry),
+        };
+        if let Some(row) = local_row(layout, &symbol) {
+            rows.push(row)?;
+        }
+    }
+    Ok(())
+}
+
+/// The LOCAL symbols of all objects.
+pub fn local_rows<'a>(alloc: Global, layout: &Layout<'_, 'a>) -> Result<Vec<Row<'a>>, AllocError>
+    requires { IsLayout layout.now }
+    ensures { IfOk result (λ v. row_views v.items ≡ spec.local_rows (laid_in layout.now)) }
+{
+    let mut rows = Vec::new(alloc);
+    for (k, loaded) in layout.objects.iter().enumerate() {
+        add_locals(&mut rows, layout, k as u64, loaded)?;
+    }
+    Ok(rows)
+}
+
+/// A common block as a symbol.
+fn block_row<'a>(layout: &Layout<'_, 'a>, block: &Block<'a>) -> Option<Row<'a>>
+    requires { IsLayout layout.now }
+    ensures { option_map row_view result ≡ spec.block_row (laid_in layout.now) (block_view block.now) }
+{
+    let at = layout.placement.numbered_address(block.section())?;
+    let number = blocks_number(layout.objects.len() as u64, layout.sections)?;
+    let entry = Symbol {
+        st_name: 0,
+        st_info: STB_GLOBAL * 16 + STT_OBJECT,
+        st_other: 0,
+        st_shndx: 0,
+        st_value: 0,
+        st_size: block.size,
+    };
+    Some(placed_row(block.name, &entry, number, at))
+}
+
+/// One of the linker's own names as a symbol.
+fn linker_row<'a>(name: &'a [u8], value: u64) -> Row<'a>
+    ensures { row_view result ≡ spec.linker_row name.now value }
+{
+    Row {
+        name,
+        entry: Symbol {
+            st_name: 0,
+            st_info: STB_GLOBAL * 16 + STT_NOTYPE,
+            st_other: 0,
+            st_shndx: SHN_ABS,
+            st_value: value,
+            st_size: 0,
+        },
+    }
+}
+
+/// What a name means as a symbol.
+fn meaning_row<'a>(layout: &Layout<'_, 'a>, meaning: &Definition<'a>) -> Option<Row<'a>>
+    requires { IsLayout layout.now }
+    ensures { option_map row_view result ≡ spec.meaning_row (laid_in layout.now) (meaning_view meaning.now) }
+{
+    match meaning {
+        Definition::Symbol(symbol) => symbol_row(layout, symbol),
+        Definition::Common(block) => block_row(layout, block),
+        Definition::Linker(name, bound) => {
+            Some(linker_row(name, layout.placement.bound(name, *bound)))
+        }
+    }
+}
+
+/// Whether what a name means is not to be seen outside of an image: its visibility is INTERNAL or HIDDEN.
+fn is_hidden(meaning: &Definition<'_>) -> bool
+    ensures { result ≡ spec.is_hidden (meaning_view meaning.now) }
+{
+    match meaning {
+        Definition::Symbol(symbol) => {
+            let visibility = symbol.entry.st_other % 4;
+            visibility == STV_INTERNAL || visibility == STV_HIDDEN
+        }
+        Definition::Common(_) => false,
+        Definition::Linker(_, _) => false,
+    }
+}
+
+/// The symbol as a LOCAL one.
+fn local_of<'a>(row: &Row<'a>) -> Row<'a>
+    ensures { row_view result ≡ spec.local_of (row_view row.now) }
+{
+    Row {
+        name: row.name,
+        entry: Symbol {
+            st_info: row.entry.st_info % 16,
+            ..row.entry
+        },
+    }
+}
+
+/// What a hidden name means as a LOCAL symbol.
+fn hidden_row<'a>(layout: &Layout<'_, 'a>, meaning: &Definition<'a>) -> Option<Row<'a>>
+    requires { IsLayout layout.now }
+    ensures { option_map row_view result ≡ spec.hidden_row (laid_in layout.now) (meaning_view meaning.now) }
+{
+    if !is_hidden(meaning) {
+        return None;
+    }
+    let row = meaning_row(layout, meaning)?;
+    Some(local_of(&row))
+}
+
+/// What a name means that isn't hidden.
+fn open_row<'a>(layout: &Layout<'_, 'a>, meaning: &Definition<'a>) -> Option<Row<'a>>
+    requires { IsLayout layout.now }
+    ensures { option_map row_view result ≡ spec.open_row (laid_in layout.now) (meaning_view meaning.now) }
+{
+    if is_hidden(meaning) {
+        return None;
+    }
+    meaning_row(layout, meaning)
+}
+
+/// Adds what hidden names mean.
+pub fn add_hidden<'a>(
+    rows: &mut Vec<Row<'a>>,
+    layout: &Layout<'_, 'a>,
+    listed: &[Definition<'a>],
+) -> Result<(), AllocError>
+    requires { IsLayout layout.now }
+    ensures { OnOk result (row_views rows.new.items ≡ row_views rows.old.items ++ spec.hidden_rows (laid_in layout.now) (meaning_views listed.now)) }
+{
+    for meaning in listed {
+        if let Some(row) = hidden_row(layout, meaning) {
+            rows.push(row)?;
+        }
+    }
+    Ok(())
+}
+
+/// Adds what names mean that aren't hidden.
+pub fn add_meanings<'a>(
+    rows: &mut Vec<Row<'a>>,
+    layout: &Layout<'_, 'a>,
+    listed: &[Definition<'a>],
+) -> Result<(), AllocError>
+    requires { IsLayout layout.now }
+    ensures { OnOk result (row_views rows.new.items ≡ row_views rows.old.items ++ spec.meaning_rows (laid_in layout.now) (meaning_views listed.now)) }
+{
+    for meaning in listed {
+        if let Some(row) = open_row(layout, meaning) {
+            rows.push(row)?;
+        }
+    }
+    Ok(())
+}
