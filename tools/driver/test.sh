@@ -295,13 +295,19 @@ compare 'bin/cakthuy-ld
 libexec/cakthuy/cc
 libexec/cakthuy/commit
 libexec/cakthuy/ld
+share/man/man1/cakthuy-ld-debug.1
 share/man/man1/cakthuy-ld-why.1
 share/man/man1/cakthuy-ld.1
 share/man/man5/cakthuy-map.5' "$(cd dest/p && find . -type f ! -path '*/judge/*' | sed 's,^\./,,' | LC_ALL=C sort)"
 compare '[-s][a.o], 0' "$(told -u LD_PROGRAM dest/p/libexec/cakthuy/ld -s a.o)"
 compare "It runs the proved linker, $(readlink -f dest/p/bin/cakthuy-ld)." \
     "$(env -u LD_PROGRAM dest/p/libexec/cakthuy/ld --version | sed 1d)"
-rm dest/p/bin/cakthuy-ld
+printf '#!/bin/sh\necho "for tools: $*"\n' >dest/p/bin/cakthuy-ld-debug
+chmod +x dest/p/bin/cakthuy-ld-debug
+compare 'for tools: a.o, 0' "$(told -u LD_PROGRAM dest/p/libexec/cakthuy/ld a.o)"
+compare '[a.o], 0' "$(told -u LD_PROGRAM LD_PLAIN=1 dest/p/libexec/cakthuy/ld a.o)"
+compare '[-s][a.o], 0' "$(told -u LD_PROGRAM dest/p/libexec/cakthuy/ld --strip-all a.o)"
+rm dest/p/bin/cakthuy-ld dest/p/bin/cakthuy-ld-debug
 compare "ld: there is no linker at dest/p/libexec/cakthuy/../../bin/cakthuy-ld: tools/install.sh of its tree puts it there, 2" \
     "$(told -u LD_PROGRAM dest/p/libexec/cakthuy/ld a.o)"
 compare ', 0' "$(told DESTDIR="$work/dest" tree/tools/install.sh --uninstall /p)"
