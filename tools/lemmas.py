@@ -48,7 +48,8 @@ LAYERS = {
         "Images and memory": "ImageFaults Parts PartsEnd Regions Runs SegmentsApart Stretching Sweep Sweeping"
         " ThingsOfSegment ThreadBlocks",
         "The GOT": "GotSteps SlotCounts",
-        "Symbols and their table": "CountedLines SymbolLines TableClause TableEntries TableLines TableParts TableSteps",
+        "Symbols and their table": "CountedLines OwnChoices SymbolLines TableClause TableEntries TableLines TableParts"
+        " TableSteps",
         "The verdict": "Clauses Verdicts",
     },
     "own_link": {

@@ -1,3 +1,4 @@
+pub mod OwnChoices
 pub mod ArrayRanks
 pub mod Clauses
 pub mod CountedLines

@@ -1,5 +1,5 @@
 -- The fourteenth clause, from the bytes after the last file part and the fields of the file header.
-use Rattle.std.proofs.Common.{◌≡◌, ℕ, ◌+◌, ◌-◌, ◌<◌, ◌^◌, Bool, true, false, not, List, ◌++◌, Option, None, Some, length, drop, map, replicate, refl, sym, ◌∙◌, ap, arith, subst}
+use Rattle.std.proofs.Common.{◌≡◌, ℕ, ◌-◌, ◌<◌, ◌^◌, Bool, not, List, ◌++◌, Option, None, length, drop, map, replicate, refl, sym, ◌∙◌, ap, subst}
 use Rattle.std.specs.List.{flat_map}
 use Rattle.std.specs.Prelude.{All, IfSome, IsTrue, is_some}
 use Rattle.elf_model.proofs.Listed.{All-unmap}
@@ -11,7 +11,7 @@ use Rattle.elf_model.specs.MemoryImage.{HasNoSections, file_end, loads}
 use Rattle.elf_model.specs.Placement.{Where, round_up}
 use Rattle.elf_model.specs.Records.{file_header, section_header_bytes}
 use Rattle.elf_model.specs.RightLink.{AreSymbolsListed, AreTablesRight, HoldsTables, Subject, objects_of, tabled_of, where_of}
-use Rattle.elf_model.specs.SymbolTable.{entry_count, headers_at, name_section, section_names, symbol_section, tabled, shstrtab_end, symtab_at, table_headers, tables}
+use Rattle.elf_model.specs.SymbolTable.{entry_count, headers_at, name_section, section_names, symbol_section, tabled, shstrtab_end, symtab_at, table_headers}
 use Rattle.elf_model.specs.declared.link_map.SymbolLine.{SymbolLine}
 use Rattle.elf_model.specs.declared.link_map.SymtabLine.{SymtabLine}
 use Rattle.elf_model.specs.declared.records.FileHeader.{FileHeader}

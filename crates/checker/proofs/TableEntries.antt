@@ -1,8 +1,8 @@
 -- The entry of a line's definition, and the entries and names that are left to compare.
-use Rattle.std.proofs.Common.{◌≡◌, ℕ, ◌+◌, ◌*◌, ◌<◌, ◌≤◌, ◌^◌, ◌%◌, Bool, true, false, not, cond, List, [], ◌∷◌, ◌++◌, Option, Some, None, length, get_or, drop, map, refl, sym, ◌∙◌, ap, append_assoc, arith, subst}
-use Rattle.std.specs.Prelude.{◌↔◌, All, IfNone, IfSome, IsSomeAnd, filter, option_map}
-use Rattle.std.specs.List.{cons_option, filter_map, flat_map}
-use Rattle.std.proofs.lemmas.List.{append-nil, length-append}
+use Rattle.std.proofs.Common.{◌≡◌, ℕ, ◌+◌, ◌<◌, ◌^◌, ◌%◌, Bool, true, false, cond, List, [], ◌∷◌, ◌++◌, Option, Some, None, length, get_or, refl, sym, ◌∙◌, ap, append_assoc, arith, subst}
+use Rattle.std.specs.Prelude.{All, IfNone, IfSome, filter, option_map}
+use Rattle.std.specs.List.{cons_option, flat_map}
+use Rattle.std.proofs.lemmas.List.{length-append}
 use Rattle.std.proofs.lemmas.Option.{none-some, same_Some}
 use Rattle.std.proofs.lemmas.Slice.Eq.{bytes_eq-Decides}
 use Rattle.elf_model.proofs.RisingNames.{all_found, has, rises_from_ascends, rises_unique}

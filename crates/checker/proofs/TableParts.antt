@@ -1,5 +1,5 @@
 -- The contents of .symtab and .strtab in front of others: where they are divided, and what is left of them.
-use Rattle.std.proofs.Common.{◌≡◌, ℕ, ◌+◌, ◌*◌, ◌/◌, ◌<◌, ◌≤◌, ◌^◌, List, [], ◌∷◌, ◌++◌, Some, None, length, take, drop, replicate, refl, sym, ◌∙◌, ap, append_assoc, arith}
+use Rattle.std.proofs.Common.{◌≡◌, ℕ, ◌*◌, ◌/◌, ◌<◌, ◌≤◌, List, [], ◌∷◌, ◌++◌, Some, None, length, take, drop, replicate, sym, ◌∙◌, ap, arith}
 use Rattle.std.specs.Borrow.{Bor}
 use Rattle.std.specs.List.{flat_map}
 use Rattle.std.proofs.lemmas.List.{drop_at, length-append, length-take, take-append-drop, take_at}
@@ -9,7 +9,7 @@ use Rattle.elf_model.specs.Meaning.{Meaning}
 use Rattle.elf_model.specs.Placement.{Where}
 use Rattle.elf_model.specs.Records.{symbol_bytes}
 use Rattle.elf_model.specs.ObjectFile.{null_symbol}
-use Rattle.elf_model.specs.SymbolTable.{entries_from, entry_count, name_section, symbol_section}
+use Rattle.elf_model.specs.SymbolTable.{entries_from, name_section, symbol_section}
 use Rattle.checker.specs.Tabled.{AreLeft, AreTables, Strips, ended_names}
 
 -- no more entries than there is room for

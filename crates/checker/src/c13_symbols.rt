@@ -1,25 +1,29 @@
 //! C13: whether the symbols are sound, no name has two strong definitions, and the symbol lines are those that the names
 //! ask for.
-ghost use Rattle.std.specs.Prelude.{◌≡◌, ◌+◌, ◌↔◌, ◌≤◌, ℕ, List, All, IfOk, IfSome, IsSome, IsTrue, [], ◌∷◌, filter, length, map, option_map, Some};
-ghost use Rattle.elf_model.specs.ChosenSymbols.{is_chosen};
+ghost use Rattle.std.specs.Prelude.{◌≡◌, ◌+◌, ◌↔◌, ◌≤◌, ℕ, List, All, IfOk, IfSome, IsSome, IsTrue, [], ◌∷◌, false, filter, length, map, option_map, Some};
+ghost use Rattle.std.specs.Option.{option_map_or};
+ghost use Rattle.elf_model.specs.ChosenSymbols.{is_chosen, is_same_symbol};
 ghost use Rattle.elf_model.specs.Listing.{linker_line};
 ghost use Rattle.elf_model.specs.MapRecord.{symbol_row};
-ghost use Rattle.elf_model.specs.Meaning.{Symbol, meaning_name, meanings_of, meant_list};
+ghost use Rattle.elf_model.specs.Meaning.{Symbol, meaning_name, meanings_of, meant_list, object_meaning};
 ghost use Rattle.elf_model.specs.declared.link_map.Definition.TheVariants as definition;
 ghost use Rattle.elf_model.specs.MapText.{Ascends, SymbolBefore};
-ghost use Rattle.elf_model.specs.Resolution.{AreSoundSymbols, AreUnique};
+ghost use Rattle.elf_model.specs.Resolution.{AreSoundSymbols, AreUnique, chosen};
 ghost use Rattle.elf_model.specs.RightLink.{HasLine, Holds, definition_row, symbol_row_of};
-ghost use Rattle.checker.specs.Listed.{IsChosenIfStrong, IsLine};
+ghost use Rattle.checker.specs.Listed.{AreOwnChoices, IsChosenIfStrong, IsLine};
 ghost use Rattle.check_link.specs.Views.{meaning_view, symbol_view, symbol_views};
 ghost use Rattle.check_relocs.specs.LinkerUses.{AreUsed};
 ghost use Rattle.elf_model.specs.declared.verdict.Clause.TheVariants as clause;
 
 use crate::bound_link::BoundLink;
+use crate::c13_symbols::own_choices::{OwnChoices, is_itself};
 use check_link::{Meaning, SymbolOf, is_strong};
 use check_relocs::{Bindings, linker_lines, used_names};
 use elf_model::{Definition, STB_WEAK, SymbolLine};
 use std::alloc::{AllocError, Global};
 use std::collections::BTreeSet;
+
+mod own_choices;
 
 /// Whether the thirteenth clause holds of a link.
 pub fn holds(alloc: Global, bound: &BoundLink<'_, '_>) -> Result<bool, AllocError>
@@ -41,31 +45,56 @@ fn meaning_count<'a>(bindings: &Bindings<'_, '_, 'a>, symbol: &SymbolOf<'a>) -> 
     }
 }
 
-/// How many lines a definition has: one where it is chosen. None where it is a strong one that isn't chosen.
-fn line_count<'a>(bindings: &Bindings<'_, '_, 'a>, symbol: &SymbolOf<'a>) -> Option<usize>
+/// Whether a symbol is the one that was chosen.
+fn is_chosen(symbol: &SymbolOf<'_>, choice: &Option<SymbolOf<'_>>) -> bool
+    ensures { result ≡ option_map_or (is_same_symbol (symbol_view symbol.now)) (option_map symbol_view choice.now) false }
+{
+    match choice {
+        Some(other) => symbol.object == other.object && symbol.number == other.number,
+        None => false,
+    }
+}
+
+/// How many lines a definition has, given the chosen one of its name: one where it is chosen. None where it is a strong
+/// one that isn't chosen.
+fn line_count<'a>(
+    bindings: &Bindings<'_, '_, 'a>,
+    symbol: &SymbolOf<'a>,
+    choice: &Option<SymbolOf<'a>>,
+) -> Option<usize>
+    requires { option_map symbol_view choice.now ≡ chosen bindings.now.objects symbol.now.name.now }
     ensures few { IfSome result (λ n. n ≤ 1) }
     ensures count { IfSome result (λ n. n ≡ length (meanings_of bindings.now.objects (filter (is_chosen bindings.now.objects) (symbol_view symbol.now ∷ [])))) }
     ensures lawful { IsSome result ↔ IsChosenIfStrong bindings.now.objects (symbol_view symbol.now) }
 {
-    if bindings.is_chosen(symbol) {
+    if is_chosen(symbol, choice) {
         return Some(meaning_count(bindings, symbol));
     }
     if is_strong(symbol) { None } else { Some(0) }
 }
 
-/// How many lines all definitions have together; None where a strong one isn't chosen.
-fn chosen_count<'a>(bindings: &Bindings<'_, '_, 'a>, definitions: &[SymbolOf<'a>]) -> Option<usize>
-    ensures count { IfSome result (λ n. n ≡ length (meanings_of bindings.now.objects (filter (is_chosen bindings.now.objects) (symbol_views definitions.now)))) }
-    ensures unique { IsSome result ↔ All (λ s. IsChosenIfStrong bindings.now.objects (symbol_view s)) definitions.now }
+/// How many lines all definitions have together; None where a strong one isn't chosen. Which of them are chosen for their
+/// own names is put into a list.
+fn chosen_count<'a>(
+    bindings: &Bindings<'_, '_, 'a>,
+    definitions: &[SymbolOf<'a>],
+    own: &mut Vec<bool>,
+) -> Result<Option<usize>, AllocError>
+    requires { own.old.items ≡ [] }
+    ensures own { IfOk result (λ o. IfSome o (λ _. AreOwnChoices bindings.now.objects (symbol_views definitions.now) own.new.items)) }
+    ensures count { IfOk result (λ o. IfSome o (λ n. n ≡ length (meanings_of bindings.now.objects (filter (is_chosen bindings.now.objects) (symbol_views definitions.now))))) }
+    ensures unique { IfOk result (λ o. IsSome o ↔ All (λ s. IsChosenIfStrong bindings.now.objects (symbol_view s)) definitions.now) }
 {
     let mut count = 0;
     for symbol in definitions {
-        let Some(more) = line_count(bindings, symbol) else {
-            return None;
+        let choice = bindings.chosen(symbol.name);
+        own.push(is_itself(symbol, &choice))?;
+        let Some(more) = line_count(bindings, symbol, &choice) else {
+            return Ok(None);
         };
         count += more;
     }
-    Some(count)
+    Ok(Some(count))
 }
 
 /// The name of what a name means.
@@ -161,6 +190,24 @@ fn is_linkers_line(
     }
 }
 
+/// Whether a line is that of what objects define for its name, or else of what the linker does, given the linker's names
+/// that have one.
+fn is_line_of_name(
+    bindings: &Bindings<'_, '_, '_>,
+    names: &BTreeSet<&[u8]>,
+    meaning: &Option<Meaning<'_>>,
+    line: &SymbolLine,
+) -> bool
+    requires names { AreUsed bindings.now.objects names.now }
+    requires meaning { option_map meaning_view meaning.now ≡ object_meaning bindings.now.objects line.now.name.items }
+    ensures { IsTrue result ↔ IsLine bindings.now.objects bindings.now.places (symbol_row line.now) }
+{
+    match meaning {
+        Some(meaning) => is_line_of(bindings, meaning, line),
+        None => is_linkers_line(bindings, names, line),
+    }
+}
+
 /// Whether a line is that of what its name means, given the linker's names that have one.
 pub fn is_right_line(
     bindings: &Bindings<'_, '_, '_>,
@@ -170,23 +217,56 @@ pub fn is_right_line(
     requires { AreUsed bindings.now.objects names.now }
     ensures { IsTrue result ↔ IsLine bindings.now.objects bindings.now.places (symbol_row line.now) }
 {
-    match bindings.object_meaning(&line.name) {
-        Some(meaning) => is_line_of(bindings, &meaning, line),
-        None => is_linkers_line(bindings, names, line),
+    let meaning = bindings.object_meaning(&line.name);
+    is_line_of_name(bindings, names, &meaning, line)
+}
+
+/// What objects define for a line's name. The name is looked up only where the line doesn't name its chosen definition.
+fn meaning_of_line<'a>(
+    bindings: &Bindings<'_, '_, 'a>,
+    choices: &OwnChoices<'_, 'a>,
+    line: &SymbolLine,
+) -> Option<Meaning<'a>>
+    requires { choices.now ≡ bindings.now.objects }
+    ensures { option_map meaning_view result ≡ object_meaning bindings.now.objects line.now.name.items }
+{
+    match choices.find(line) {
+        Some(symbol) => bindings.meant(symbol),
+        None => bindings.object_meaning(&line.name),
     }
 }
 
-fn are_right_lines(
-    bindings: &Bindings<'_, '_, '_>,
+/// Whether a line is that of what its name means, with the chosen definitions that lines name.
+fn is_right_by<'a>(
+    bindings: &Bindings<'_, '_, 'a>,
     names: &BTreeSet<&[u8]>,
+    choices: &OwnChoices<'_, 'a>,
+    line: &SymbolLine,
+) -> bool
+    requires names { AreUsed bindings.now.objects names.now }
+    requires choices { choices.now ≡ bindings.now.objects }
+    ensures { IsTrue result ↔ IsLine bindings.now.objects bindings.now.places (symbol_row line.now) }
+{
+    let meaning = meaning_of_line(bindings, choices, line);
+    is_line_of_name(bindings, names, &meaning, line)
+}
+
+fn are_right_lines<'a>(
+    bindings: &Bindings<'_, '_, 'a>,
+    names: &BTreeSet<&[u8]>,
+    choices: &OwnChoices<'_, 'a>,
     lines: &[SymbolLine],
 ) -> bool
-    requires { AreUsed bindings.now.objects names.now }
+    requires names { AreUsed bindings.now.objects names.now }
+    requires choices { choices.now ≡ bindings.now.objects }
     ensures { IsTrue result ↔ All (λ line. IsLine bindings.now.objects bindings.now.places (symbol_row line)) lines.now }
 {
-    lines
-        .iter()
-        .all(|line| is_right_line(bindings, names, line))
+    for line in lines {
+        if !is_right_by(bindings, names, choices, line) {
+            return false;
+        }
+    }
+    true
 }
 
 fn is_sum(whole: usize, a: usize, b: usize) -> bool
@@ -208,7 +288,9 @@ fn are_symbols_listed(
     if !bindings.are_sound() {
         return Ok(false);
     }
-    let Some(count) = chosen_count(bindings, bindings.definitions()) else {
+    let definitions = bindings.definitions();
+    let mut own = Vec::with_capacity(alloc, definitions.len())?;
+    let Some(count) = chosen_count(bindings, definitions, &mut own)? else {
         return Ok(false);
     };
     let names = used_names(alloc, bindings)?;
@@ -216,5 +298,6 @@ fn are_symbols_listed(
     if !is_sum(lines.len(), count, linkers.len()) {
         return Ok(false);
     }
-    Ok(are_right_lines(bindings, &names, lines))
+    let choices = OwnChoices::new(alloc, bindings, own)?;
+    Ok(are_right_lines(bindings, &names, &choices, lines))
 }

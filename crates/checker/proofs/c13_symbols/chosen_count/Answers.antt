@@ -1,11 +1,13 @@
-use Rattle.std.proofs.Common.{◌≡◌, ◌+◌, ℕ, refl, List, ap, arith, drop, get_or, length, sym, ◌∙◌}
-use Rattle.std.specs.Prelude.{All, filter}
+use Rattle.std.proofs.Common.{◌≡◌, ◌+◌, ◌++◌, ◌∷◌, [], Bool, ℕ, refl, List, length-append, ap, arith, drop, get_or, length, sym, ◌∙◌}
+use Rattle.std.specs.Prelude.{All, filter, slice_get}
+use Rattle.std.proofs.lemmas.Option.{slice_get-get_or}
 use Rattle.elf_model.proofs.Rests.{all_more, rest_at}
 use Rattle.elf_model.specs.ChosenSymbols.{is_chosen}
 use Rattle.elf_model.specs.Meaning.{meanings_of}
 use Rattle.checker.specs.Listed.{IsChosenIfStrong}
 use Rattle.check_link.specs.Views.{symbol_view, symbol_views}
 use Rattle.check_link.specs.declared.things.SymbolOf as code
+use Rattle.checker.proofs.OwnChoices.{own_more}
 use Rattle.checker.proofs.SymbolLines.{more_lines}
 use Rattle.checker.proofs.c13_symbols.chosen_count.Goals as goal
 
@@ -25,7 +27,14 @@ loop-symbol-preserved c =
     ∙ ap (λ (n : ℕ). n + length (meanings_of L (filter (is_chosen L) rest))) (sym own) in
     let before = c.loop-symbol.invariant.few in
     let whole = c.loop-symbol.invariant.count in
+    let pushed = c.in_ok-push.ensures.items in
+    let longer = length-append c.loop-symbol.own.items (c.is_itself.result ∷ []) in
+    let all : length c.push.new.self.items ≡ length (c.loop-symbol.own.items ++ c.is_itself.result ∷ []) = ap (λ (l : List Bool). length l) pushed in
+    let marks = c.loop-symbol.invariant.marks in
     record {
+      marks = omega (arith, longer, all, marks);
+      own = own_more L xs c.loop-symbol.own.items c.push.new.self.items c.is_itself.result here _ c.loop-symbol.invariant.own pushed
+          (ap (slice_get xs) marks ∙ slice_get-get_or xs i _ c.loop-symbol-test.true) c.chosen-choice.ensures c.is_itself.ensures;
       few = omega (arith, few, before);
       count = omega (arith, split, whole);
       unique =

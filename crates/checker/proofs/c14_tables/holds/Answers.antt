@@ -1,4 +1,4 @@
-use Rattle.std.proofs.Common.{◌∙◌, List, ℕ, ap, rules, subst, sym}
+use Rattle.std.proofs.Common.{◌∙◌, ap, rules, sym}
 use Rattle.elf_model.specs.Records.{file_header}
 use Rattle.elf_model.specs.RightLink.{Subject}
 use Rattle.checker.proofs.TableClause.{none_right}

@@ -1,4 +1,4 @@
-use Rattle.std.proofs.Common.{◌≡◌, ◌∙◌, ap, List, ℕ, arith, drop, map, refl, subst, sym}
+use Rattle.std.proofs.Common.{◌∙◌, ap, List, ℕ, arith, map, subst, sym}
 use Rattle.std.proofs.lemmas.Bool.{false≢true}
 use Rattle.std.proofs.lemmas.Bool.Decides.{Decides-eqb}
 use Rattle.elf_model.specs.MapRecord.{symbol_row}
@@ -8,7 +8,7 @@ use Rattle.elf_model.specs.Placement.{round_up}
 use Rattle.elf_model.specs.Records.{file_header}
 use Rattle.elf_model.specs.RightLink.{Subject}
 use Rattle.elf_model.specs.declared.verdict.Clause.TheVariants.{C13}
-use Rattle.checker.proofs.TableClause.{elsewhere, headers_elsewhere, lines_are, no_tables, tables_there}
+use Rattle.checker.proofs.TableClause.{headers_elsewhere, lines_are, no_tables, tables_there}
 use Rattle.checker.proofs.c14_tables.holds_tables.Goals as goal
 
 pub returns-then-line-symtab : goal.returns-then-line-symtab

@@ -1,9 +1,7 @@
 use Rattle.std.proofs.Common.{map}
 use Rattle.elf_model.specs.MapRecord.{symbol_row}
 use Rattle.elf_model.specs.SymbolTable.{tabled}
-use Rattle.checker.specs.declared.c14_tables.lines.Tables.{Tables}
-use Rattle.checker.proofs.TableLines.{end_of_names}
-use Rattle.checker.proofs.TableParts.{no_zeros, unpadded}
+use Rattle.checker.proofs.TableParts.{unpadded}
 use Rattle.checker.proofs.c14_tables.strip_tables.Goals as goal
 
 pub returns-clause-left : goal.returns-clause-left

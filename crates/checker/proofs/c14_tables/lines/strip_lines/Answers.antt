@@ -1,5 +1,5 @@
-use Rattle.std.proofs.Common.{◌+◌, arith, drop}
-use Rattle.checker.proofs.TableLines.{here, later, left_end, left_step, line_tabled, lines_split, names_end, names_split}
+use Rattle.std.proofs.Common.{arith, drop}
+use Rattle.checker.proofs.TableLines.{here, later, left_end, left_step, line_tabled, lines_split, names_split}
 use Rattle.checker.proofs.TableSteps.{empty_told}
 use Rattle.checker.proofs.c14_tables.lines.strip_lines.Goals as goal
 

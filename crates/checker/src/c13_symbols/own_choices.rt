@@ -1,0 +1,158 @@
+//! Definitions that are the chosen ones of their own names, found by the numbers by which lines of the map name them: for
+//! these no name is looked up.
+ghost use Rattle.std.specs.Prelude.{◌≡◌, IfOk, IfSome, IsTrue, Some, filter, option_copied, option_map, slice_get, true};
+ghost use Rattle.elf_model.specs.ChosenSymbols.{is_definition};
+ghost use Rattle.elf_model.specs.Resolution.{all_symbols, chosen};
+ghost use Rattle.check_link.specs.Views.{symbol_view};
+ghost use Rattle.checker.specs.Listed.{AreOwnChoices};
+
+use check_link::SymbolOf;
+use check_load::Loaded;
+use check_relocs::Bindings;
+use elf_model::{Definition, SymbolLine};
+use std::alloc::{AllocError, Global};
+use std::marker::Model;
+
+/// Whether two symbols are the same in all that is told of them.
+fn are_same(a: &SymbolOf<'_>, b: &SymbolOf<'_>) -> bool
+    ensures { IsTrue result → symbol_view a.now ≡ symbol_view b.now }
+{
+    if a.object != b.object || a.number != b.number || a.dropped != b.dropped {
+        return false;
+    }
+    a.entry == b.entry && a.name == b.name
+}
+
+/// Whether a symbol is the one that was chosen, in all that is told of it.
+pub fn is_itself(symbol: &SymbolOf<'_>, chosen: &Option<SymbolOf<'_>>) -> bool
+    ensures { IsTrue result → option_map symbol_view chosen.now ≡ Some (symbol_view symbol.now) }
+{
+    match chosen {
+        Some(other) => are_same(other, symbol),
+        None => false,
+    }
+}
+
+/// Definitions of objects, with a mark for each: one that has it is the chosen one of its name. By the numbers of objects
+/// and symbols positions in the list, which are only tried: a wrong one leads to no definition of a line's name.
+#[derive(Drop)]
+pub struct OwnChoices<'b, 'a> {
+    objects: &'b [Loaded<'a>],
+    definitions: &'b [SymbolOf<'a>],
+    own: Vec<bool>,
+    positions: Vec<Vec<u32>>,
+}
+
+impl<'b, 'a> Model for OwnChoices<'b, 'a> {
+    ghost use Rattle.std.specs.Prelude.{List};
+    ghost use Rattle.elf_model.specs.Loading.{LoadedObject};
+    ghost use Rattle.check_link.specs.Views.{symbol_views};
+    ghost use Rattle.check_load.specs.Views.{loaded_views};
+    ghost use Rattle.checker.specs.Listed.{AreOwnChoices};
+
+    ghost Value = { List LoadedObject };
+
+    ghost view = { λ c. loaded_views c.objects.now };
+
+    ghost invariant = { λ c. AreOwnChoices (loaded_views c.objects.now) (symbol_views c.definitions.now) c.own.items };
+}
+
+/// Notes the position of a symbol at its numbers.
+fn note_position(positions: &mut [Vec<u32>], symbol: &SymbolOf<'_>, position: u32) {
+    let (object, number) = (symbol.object as usize, symbol.number as usize);
+    if object < positions.len() && number < positions[object].len() {
+        positions[object][number] = position;
+    }
+}
+
+/// The positions of symbols in a list, by their numbers.
+fn positions_of(
+    alloc: Global,
+    objects: &[Loaded<'_>],
+    symbols: &[SymbolOf<'_>],
+) -> Result<Vec<Vec<u32>>, AllocError> {
+    let mut positions = Vec::with_capacity(alloc, objects.len())?;
+    for loaded in objects {
+        positions.push(vec![in alloc; u32::MAX; loaded.object.symbols().len()]?)?;
+    }
+    for (i, symbol) in symbols.iter().enumerate() {
+        if let Ok(position) = u32::try_from(i) {
+            note_position(&mut positions, symbol, position);
+        }
+    }
+    Ok(positions)
+}
+
+/// The numbers of the object and of the symbol that a line of the map names.
+fn numbers_in(definition: Definition) -> Option<(usize, usize)> {
+    match definition {
+        Definition::Strong { object, symbol } | Definition::Weak { object, symbol } => {
+            Some((object as usize, symbol as usize))
+        }
+        Definition::Common | Definition::Linker => None,
+    }
+}
+
+/// Whether a position has a mark.
+fn is_marked(own: &[bool], position: usize) -> bool
+    ensures { IsTrue result → slice_get own.now position ≡ Some true }
+{
+    match own.get(position) {
+        Some(mark) => *mark,
+        None => false,
+    }
+}
+
+/// The definition at a position.
+fn definition_at<'b, 'a>(
+    definitions: &'b [SymbolOf<'a>],
+    position: usize,
+) -> Option<&'b SymbolOf<'a>>
+    ensures { option_copied result ≡ slice_get definitions.entry.now position }
+{
+    definitions.get(position)
+}
+
+impl<'b, 'a> OwnChoices<'b, 'a> {
+    /// The definitions that names have, with marks for them.
+    pub fn new(
+        alloc: Global,
+        bindings: &'b Bindings<'_, '_, 'a>,
+        own: Vec<bool>,
+    ) -> Result<OwnChoices<'b, 'a>, AllocError>
+        requires { AreOwnChoices bindings.now.objects (filter is_definition (all_symbols bindings.now.objects)) own.items }
+        ensures { IfOk result (λ c. c ≡ bindings.now.objects) }
+    {
+        let objects = bindings.objects();
+        let definitions = bindings.definitions();
+        let positions = positions_of(alloc, objects, definitions)?;
+        Ok(OwnChoices {
+            objects,
+            definitions,
+            own,
+            positions,
+        })
+    }
+
+    /// The position that is noted for what a line names.
+    fn position(&self, line: &SymbolLine) -> Option<usize> {
+        let (object, number) = numbers_in(line.definition)?;
+        let position = self.positions.get(object)?.get(number)?;
+        Some(*position as usize)
+    }
+
+    /// The chosen definition of a line's name, where the line names it; None where that isn't known.
+    pub fn find(&self, line: &SymbolLine) -> Option<&'b SymbolOf<'a>>
+        ensures { IfSome result (λ s. chosen self.now line.now.name.items ≡ Some (symbol_view s.now)) }
+    {
+        let position = self.position(line)?;
+        if !is_marked(&self.own, position) {
+            return None;
+        }
+        let symbol = definition_at(self.definitions, position)?;
+        if symbol.name != line.name.as_slice() {
+            return None;
+        }
+        Some(symbol)
+    }
+}
