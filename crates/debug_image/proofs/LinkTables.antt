@@ -10,8 +10,8 @@ use Rattle.debug_image.specs.Tables.{Row, Tables}
 pub tables_are :
     (wanted : Bool) (base : ℕ) (objects : List LoadedObject) (ms : List Meaning) (t : Tables) (ss : List Section) (rows : List Row) (n : ℕ) (l : Laid) →
     t ≡ tables_from base (length objects) ss rows n → ss ≡ sections_in base objects → l ≡ laid_of base objects →
-    rows ≡ rows_of wanted l ms → n ≡ length (locals_of wanted l ms) + 1 → t ≡ tables_of wanted base objects ms
+    rows ≡ rows_of wanted l ms → n ≡ length (locals_of wanted l) + 1 → t ≡ tables_of wanted base objects ms
 tables_are wanted base objects ms t ss rows n l is is_ss is_l is_rows is_n =
     is
     ∙ (λ i. tables_from base (length objects) (is_ss i) (is_rows i) (is_n i))
-    ∙ ap (λ (k : Laid). tables_from base (length objects) (sections_in base objects) (rows_of wanted k ms) (length (locals_of wanted k ms) + 1)) is_l
+    ∙ ap (λ (k : Laid). tables_from base (length objects) (sections_in base objects) (rows_of wanted k ms) (length (locals_of wanted k) + 1)) is_l

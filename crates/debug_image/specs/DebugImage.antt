@@ -7,7 +7,7 @@ use Rattle.elf_model.specs.OwnLayout.{own_placed}
 use Rattle.image_write.specs.Linkages.{Linked}
 use Rattle.image_write.specs.Parts.{file_parts}
 use Rattle.debug_image.specs.Sections.{Section, section_rows, sections_of}
-use Rattle.debug_image.specs.Symbols.{Laid, hidden_rows, local_rows, meaning_rows}
+use Rattle.debug_image.specs.Symbols.{Laid, local_rows, meaning_rows}
 use Rattle.debug_image.specs.Tables.{Row, Tables, fields_of, strtab, symtab, tail, titles}
 
 -- the sections of an image, and where its link is laid out
@@ -17,15 +17,12 @@ sections_in base objects = sections_of (length objects) (own_placed base objects
 abbrev pub laid_of : ℕ → List LoadedObject → Laid
 laid_of base objects = record { base = base; objects = objects; sections = sections_in base objects }
 
--- its symbols: the LOCAL ones of objects, where they are wanted, what names mean that are hidden, and then what other names mean
-abbrev pub wanted_of : Bool → Laid → List Row
-wanted_of wanted l = cond wanted (local_rows l) []
-
-abbrev pub locals_of : Bool → Laid → List Meaning → List Row
-locals_of wanted l ms = wanted_of wanted l ++ hidden_rows l ms
+-- its symbols: the LOCAL ones, where they are wanted, and then what names mean
+abbrev pub locals_of : Bool → Laid → List Row
+locals_of wanted l = cond wanted (local_rows l) []
 
 abbrev pub rows_of : Bool → Laid → List Meaning → List Row
-rows_of wanted l ms = locals_of wanted l ms ++ meaning_rows l ms
+rows_of wanted l ms = locals_of wanted l ++ meaning_rows l ms
 
 -- its tables: those of sections and of symbols, of which so many are LOCAL, with that of number 0
 abbrev pub tables_from : ℕ → ℕ → List Section → List Row → ℕ → Tables
@@ -39,7 +36,7 @@ tables_from base count ss rows locals = record {
 
 abbrev pub tables_of : Bool → ℕ → List LoadedObject → List Meaning → Tables
 tables_of wanted base objects ms =
-    let l = laid_of base objects in tables_from base (length objects) l.sections (rows_of wanted l ms) (length (locals_of wanted l ms) + 1)
+    let l = laid_of base objects in tables_from base (length objects) l.sections (rows_of wanted l ms) (length (locals_of wanted l) + 1)
 
 abbrev pub tables_in : Bool → Linked → List Meaning → Tables
 tables_in wanted l ms = tables_of wanted l.plan.base l.objects ms

@@ -1,5 +1,5 @@
 -- The symbols of a debuggable image (System V gABI 4, "Symbol Table"): which there are, and what each says.
-use Rattle.std.specs.Prelude.{ℕ, ◌+◌, ◌-◌, ◌*◌, ◌%◌, ◌^◌, ◌==◌, ◌&&◌, ◌||◌, Bool, not, cond, List, Option, None, Some, codes, find, length, nat_eq, nat_lt, option_map, false}
+use Rattle.std.specs.Prelude.{ℕ, ◌+◌, ◌-◌, ◌*◌, ◌%◌, ◌^◌, ◌==◌, ◌&&◌, ◌||◌, Bool, not, cond, List, Option, None, Some, codes, find, length, nat_eq, nat_lt, option_map}
 use Rattle.std.specs.List.{filter_map, slice_get, starts_with}
 use Rattle.std.specs.Option.{option_and_then, option_map_or}
 use Rattle.elf_model.specs.Commons.{Block}
@@ -105,30 +105,5 @@ meaning_row l (Symbol s) = symbol_row l s
 meaning_row l (Common b) = block_row l b
 meaning_row l (Linker name bound) = Some (linker_row name (bound_value (own_where l.base l.objects) name bound))
 
--- the visibilities INTERNAL and HIDDEN, which the two low bits of st_other have
-abbrev pub STV_INTERNAL : ℕ
-STV_INTERNAL = 1
-
-abbrev pub STV_HIDDEN : ℕ
-STV_HIDDEN = 2
-
--- a definition whose visibility is INTERNAL or HIDDEN becomes LOCAL, as in an executable it must (gABI 4, "Symbol Visibility")
-abbrev pub is_hidden : Meaning → Bool
-is_hidden (Symbol s) = s.entry.st_other % 4 == STV_INTERNAL || s.entry.st_other % 4 == STV_HIDDEN
-is_hidden (Common b) = false
-is_hidden (Linker name bound) = false
-
-abbrev pub local_of : Row → Row
-local_of r = record { name = r.name; entry = record r.entry { st_info = r.entry.st_info % 16 } }
-
-abbrev pub hidden_row : Laid → Meaning → Option Row
-hidden_row l m = cond (is_hidden m) (option_map local_of (meaning_row l m)) None
-
-abbrev pub open_row : Laid → Meaning → Option Row
-open_row l m = cond (is_hidden m) None (meaning_row l m)
-
-abbrev pub hidden_rows : Laid → List Meaning → List Row
-hidden_rows l ms = filter_map (hidden_row l) ms
-
 abbrev pub meaning_rows : Laid → List Meaning → List Row
-meaning_rows l ms = filter_map (open_row l) ms
+meaning_rows l ms = filter_map (meaning_row l) ms

@@ -10,7 +10,7 @@ ghost use Rattle.debug_image.specs.Views.{row_views, tables_view};
 use crate::headers::title_bytes;
 use crate::row::Row;
 use crate::sections::{Section, section_rows, sections};
-use crate::symbol_rows::{Layout, add_hidden, add_meanings, local_rows};
+use crate::symbol_rows::{Layout, add_meanings, local_rows};
 use crate::symbol_table::symbol_bytes;
 use crate::tables::Tables;
 use image_write::Linkage;
@@ -57,7 +57,7 @@ fn wanted_locals<'a>(
     wanted: bool,
 ) -> Result<Vec<Row<'a>>, AllocError>
     requires { IsLayout layout.now }
-    ensures { IfOk result (λ v. row_views v.items ≡ spec.wanted_of wanted (laid_in layout.now)) }
+    ensures { IfOk result (λ v. row_views v.items ≡ spec.locals_of wanted (laid_in layout.now)) }
 {
     if wanted {
         return local_rows(alloc, layout);
@@ -65,7 +65,7 @@ fn wanted_locals<'a>(
     Ok(Vec::new(alloc))
 }
 
-/// The symbols: the LOCAL ones, where they are wanted, what names mean that are hidden, and what other names mean.
+/// The symbols: the LOCAL ones, where they are wanted, and what names mean.
 fn all_rows<'a>(
     alloc: Global,
     layout: &Layout<'_, 'a>,
@@ -74,10 +74,9 @@ fn all_rows<'a>(
 ) -> Result<Rows<'a>, AllocError>
     requires { IsLayout layout.now }
     ensures rows { IfOk result (λ r. row_views r.rows.items ≡ spec.rows_of wanted (laid_in layout.now) (meaning_views listed.now)) }
-    ensures locals { IfOk result (λ r. r.locals ≡ length (spec.locals_of wanted (laid_in layout.now) (meaning_views listed.now)) + 1) }
+    ensures locals { IfOk result (λ r. r.locals ≡ length (spec.locals_of wanted (laid_in layout.now)) + 1) }
 {
     let mut rows = wanted_locals(alloc, layout, wanted)?;
-    add_hidden(&mut rows, layout, listed)?;
     let locals = rows.len() as u64 + 1;
     add_meanings(&mut rows, layout, listed)?;
     Ok(Rows { rows, locals })

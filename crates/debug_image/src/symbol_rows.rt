@@ -24,11 +24,6 @@ use resolve::{Block, Definition, SymbolOf, is_dropped};
 use search::LoadedObject;
 use std::alloc::{AllocError, Global};
 
-/// Visibilities, which the two low bits of st_other have (System V gABI 4, "Symbol Visibility").
-const STV_INTERNAL: u8 = 1;
-
-const STV_HIDDEN: u8 = 2;
-
 /// Where a link is laid out: its objects, their places, the sections of its image, and where thread-local storage begins.
 #[derive(Clone, Copy)]
 pub struct Layout<'c, 'a> {
@@ -266,74 +261,7 @@ fn meaning_row<'a>(layout: &Layout<'_, 'a>, meaning: &Definition<'a>) -> Option<
     }
 }
 
-/// Whether what a name means is not to be seen outside of an image: its visibility is INTERNAL or HIDDEN.
-fn is_hidden(meaning: &Definition<'_>) -> bool
-    ensures { result ≡ spec.is_hidden (meaning_view meaning.now) }
-{
-    match meaning {
-        Definition::Symbol(symbol) => {
-            let visibility = symbol.entry.st_other % 4;
-            visibility == STV_INTERNAL || visibility == STV_HIDDEN
-        }
-        Definition::Common(_) => false,
-        Definition::Linker(_, _) => false,
-    }
-}
-
-/// The symbol as a LOCAL one.
-fn local_of<'a>(row: &Row<'a>) -> Row<'a>
-    ensures { row_view result ≡ spec.local_of (row_view row.now) }
-{
-    Row {
-        name: row.name,
-        entry: Symbol {
-            st_info: row.entry.st_info % 16,
-            ..row.entry
-        },
-    }
-}
-
-/// What a hidden name means as a LOCAL symbol.
-fn hidden_row<'a>(layout: &Layout<'_, 'a>, meaning: &Definition<'a>) -> Option<Row<'a>>
-    requires { IsLayout layout.now }
-    ensures { option_map row_view result ≡ spec.hidden_row (laid_in layout.now) (meaning_view meaning.now) }
-{
-    if !is_hidden(meaning) {
-        return None;
-    }
-    let row = meaning_row(layout, meaning)?;
-    Some(local_of(&row))
-}
-
-/// What a name means that isn't hidden.
-fn open_row<'a>(layout: &Layout<'_, 'a>, meaning: &Definition<'a>) -> Option<Row<'a>>
-    requires { IsLayout layout.now }
-    ensures { option_map row_view result ≡ spec.open_row (laid_in layout.now) (meaning_view meaning.now) }
-{
-    if is_hidden(meaning) {
-        return None;
-    }
-    meaning_row(layout, meaning)
-}
-
-/// Adds what hidden names mean.
-pub fn add_hidden<'a>(
-    rows: &mut Vec<Row<'a>>,
-    layout: &Layout<'_, 'a>,
-    listed: &[Definition<'a>],
-) -> Result<(), AllocError>
-    requires { IsLayout layout.now }
-    ensures { OnOk result (row_views rows.new.items ≡ row_views rows.old.items ++ spec.hidden_rows (laid_in layout.now) (meaning_views listed.now)) }
-{
-    for meaning in listed {
-        if let Some(row) = hidden_row(layout, meaning) {
-            rows.push(row)?;
-        }
-    }
-    Ok(())
-}
-
-/// Adds what names mean that aren't hidden.
+/// Adds what names mean.
 pub fn add_meanings<'a>(
     rows: &mut Vec<Row<'a>>,
     layout: &Layout<'_, 'a>,
@@ -343,7 +271,7 @@ pub fn add_meanings<'a>(
     ensures { OnOk result (row_views rows.new.items ≡ row_views rows.old.items ++ spec.meaning_rows (laid_in layout.now) (meaning_views listed.now)) }
 {
     for meaning in listed {
-        if let Some(row) = open_row(layout, meaning) {
+        if let Some(row) = meaning_row(layout, meaning) {
             rows.push(row)?;
         }
     }
