@@ -150,7 +150,7 @@ fn right_image(alloc: Global) -> Result<Vec<u8>, Fail> {
 /// What the check says of an image where names are hashed from a seed.
 fn seeded_verdict(alloc: Global, image: &[u8], seed: u64) -> Result<Verdict, Fail> {
     let files = one_file(alloc, "a.o", &OBJECT)?;
-    let words = words_of(alloc, "a.o")?;
+    let words = words_of(alloc, "-s a.o")?;
     let verdict = check_in(alloc, &files, &words, image, MAP, NameSeed::new(seed))?;
     Ok(verdict)
 }
