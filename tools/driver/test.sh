@@ -244,7 +244,7 @@ compare 'ld: -lz: no directory of -L has libz.a
 ld: b.o: there is no such file' "$(LD_PROGRAM=./absent "$driver" -o c.o says '-lx y' -lz b.o -Llib "-Ld ir" 2>&1)"
 
 refuses '-shared: no shared object is made here' -shared a.o
-refuses '-pie: the image stands at fixed addresses; give the compiler -static -no-pie' a.o -pie
+refuses '-pie: the image stands at fixed addresses; give the compiler -static (with make: LDFLAGS=-static), and no -pie or -static-pie' a.o -pie
 refuses '-dynamic-linker /lib/l.so: only static images are made; give the compiler -static -no-pie' -dynamic-linker /lib/l.so a.o
 refuses '-T none: there is no such file' -T none a.o
 refuses "-T names: no layout but the linker's own is made here" -T names a.o

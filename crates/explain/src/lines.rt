@@ -75,7 +75,8 @@ fn write_reference<W: Write>(
     }
     let rest = all.saturating_sub(REFERENCES);
     if number == REFERENCES && rest > 0 {
-        write!(out, "; and {rest} more references to it")?;
+        let ending = if rest == 1 { "" } else { "s" };
+        write!(out, "; and {rest} more reference{ending} to it")?;
     }
     Ok(())
 }
