@@ -1,5 +1,6 @@
 -- The tables of a link are those of its sections and of its symbols.
 use Rattle.std.proofs.Common.{◌≡◌, ◌+◌, ◌∙◌, ℕ, Bool, List, ap, length}
+use Rattle.elf_model.specs.ImageFile.{own_end}
 use Rattle.elf_model.specs.Loading.{LoadedObject}
 use Rattle.elf_model.specs.Meaning.{Meaning}
 use Rattle.debug_image.specs.DebugImage.{laid_of, locals_of, rows_of, sections_in, tables_from, tables_of}
@@ -9,9 +10,9 @@ use Rattle.debug_image.specs.Tables.{Row, Tables}
 
 pub tables_are :
     (wanted : Bool) (base : ℕ) (objects : List LoadedObject) (ms : List Meaning) (t : Tables) (ss : List Section) (rows : List Row) (n : ℕ) (l : Laid) →
-    t ≡ tables_from base (length objects) ss rows n → ss ≡ sections_in base objects → l ≡ laid_of base objects →
+    t ≡ tables_from base (own_end base objects) (length objects) ss rows n → ss ≡ sections_in base objects → l ≡ laid_of base objects →
     rows ≡ rows_of wanted l ms → n ≡ length (locals_of wanted l) + 1 → t ≡ tables_of wanted base objects ms
 tables_are wanted base objects ms t ss rows n l is is_ss is_l is_rows is_n =
     is
-    ∙ (λ i. tables_from base (length objects) (is_ss i) (is_rows i) (is_n i))
-    ∙ ap (λ (k : Laid). tables_from base (length objects) (sections_in base objects) (rows_of wanted k ms) (length (locals_of wanted k) + 1)) is_l
+    ∙ (λ i. tables_from base (own_end base objects) (length objects) (is_ss i) (is_rows i) (is_n i))
+    ∙ ap (λ (k : Laid). tables_from base (own_end base objects) (length objects) (sections_in base objects) (rows_of wanted k ms) (length (locals_of wanted k) + 1)) is_l

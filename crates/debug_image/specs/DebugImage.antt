@@ -25,18 +25,18 @@ abbrev pub rows_of : Bool → Laid → List Meaning → List Row
 rows_of wanted l ms = locals_of wanted l ++ meaning_rows l ms
 
 -- its tables: those of sections and of symbols, of which so many are LOCAL, with that of number 0
-abbrev pub tables_from : ℕ → ℕ → List Section → List Row → ℕ → Tables
-tables_from base count ss rows locals = record {
+abbrev pub tables_from : ℕ → ℕ → ℕ → List Section → List Row → ℕ → Tables
+tables_from base end count ss rows locals = record {
   symbols = symtab rows;
   names = strtab rows;
-  titles = titles (section_rows base count ss);
+  titles = titles (section_rows base end count ss);
   locals = locals;
-  sections = section_rows base count ss;
+  sections = section_rows base end count ss;
 }
 
 abbrev pub tables_of : Bool → ℕ → List LoadedObject → List Meaning → Tables
 tables_of wanted base objects ms =
-    let l = laid_of base objects in tables_from base (length objects) l.sections (rows_of wanted l ms) (length (locals_of wanted l) + 1)
+    let l = laid_of base objects in tables_from base (own_end base objects) (length objects) l.sections (rows_of wanted l ms) (length (locals_of wanted l) + 1)
 
 abbrev pub tables_in : Bool → Linked → List Meaning → Tables
 tables_in wanted l ms = tables_of wanted l.plan.base l.objects ms

@@ -1,6 +1,6 @@
 -- The output sections of an image (System V gABI 4, "Sections"; which pieces make one is the profile's): runs of neighbours
 -- among the places that are of one output section. The common blocks make a section of their own, and so does the GOT.
-use Rattle.std.specs.Prelude.{ℕ, ◌-◌, ◌==◌, ◌&&◌, Bool, cond, List, [], ◌∷◌, Option, bit_and, codes, map, max, nat_le, nat_lt}
+use Rattle.std.specs.Prelude.{ℕ, ◌-◌, ◌==◌, ◌&&◌, Bool, cond, List, [], ◌∷◌, Option, bit_and, codes, map, max, nat_le, nat_lt, ◌%◌, min}
 use Rattle.std.specs.List.{position_from}
 use Rattle.std.specs.Str.{bytes_eq}
 use Rattle.elf_model.specs.OwnLayout.{placed_end}
@@ -57,25 +57,33 @@ abbrev pub title_of : ℕ → Piece → List ℕ
 title_of count p =
     cond (p.object == count) (codes "COMMON") (cond (nat_lt count p.object) (codes ".got") (output_name p.name))
 
--- its header, in an image that is mapped from a base on: of the type of its first piece, with its address, its place in the file and
--- its size; of the flags WRITE, ALLOC, EXECINSTR and TLS
-abbrev pub header_of : ℕ → Section → SectionHeader
-header_of base s = record {
+-- its alignment: the greatest one of its pieces, where its address is a multiple of that, and else that of its first piece
+abbrev pub alignment_of : Section → ℕ
+alignment_of s = cond (nat_lt 0 s.align && (s.first.at % s.align == 0)) s.align s.first.piece.align
+
+-- its offset in a file whose last file part has an end: that of its address, which may be past the end only without bytes in the file
+abbrev pub offset_of : ℕ → ℕ → Section → ℕ
+offset_of base end s = cond (is_nobits s.first.piece.header) (s.first.at - base) (min (s.first.at - base) end)
+
+-- its header, in an image that is mapped from a base on and whose last file part has an end: of the type of its first piece, with its
+-- address, its offset in the file and its size; of the flags WRITE, ALLOC, EXECINSTR and TLS
+abbrev pub header_of : ℕ → ℕ → Section → SectionHeader
+header_of base end s = record {
   sh_name = 0;
   sh_type = s.first.piece.header.sh_type;
   sh_flags = bit_and s.first.piece.header.sh_flags 0x407;
   sh_addr = s.first.at;
-  sh_offset = s.first.at - base;
+  sh_offset = offset_of base end s;
   sh_size = s.end - s.first.at;
   sh_link = 0;
   sh_info = 0;
-  sh_addralign = s.align;
+  sh_addralign = alignment_of s;
   sh_entsize = 0;
 }
 
 -- the sections with their names
-abbrev pub section_row : ℕ → ℕ → Section → HeaderRow
-section_row base count s = record { title = title_of count s.first.piece; header = header_of base s }
+abbrev pub section_row : ℕ → ℕ → ℕ → Section → HeaderRow
+section_row base end count s = record { title = title_of count s.first.piece; header = header_of base end s }
 
-abbrev pub section_rows : ℕ → ℕ → List Section → List HeaderRow
-section_rows base count ss = map (section_row base count) ss
+abbrev pub section_rows : ℕ → ℕ → ℕ → List Section → List HeaderRow
+section_rows base end count ss = map (section_row base end count) ss

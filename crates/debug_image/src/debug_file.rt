@@ -40,7 +40,7 @@ impl From<AllocError> for DebugFault {
 }
 
 /// Where the last file part of a link's image ends, in bytes of the file.
-fn end_of(linkage: &Linkage<'_>) -> u64
+pub fn end_of(linkage: &Linkage<'_>) -> u64
     ensures end { result ≡ own_end linkage.now.plan.base linkage.now.objects }
     ensures low { result ≤ 2 ^ 46 }
     ensures long { 64 ≤ result }

@@ -1,5 +1,6 @@
 //! The tables of a link: its sections, its symbols and their names.
 ghost use Rattle.std.specs.Prelude.{◌≡◌, ◌+◌, IfOk, length};
+ghost use Rattle.elf_model.specs.ImageFile.{own_end};
 ghost use Rattle.resolve.specs.Views.{meaning_views};
 ghost use Rattle.debug_image.specs.DebugImage as spec;
 ghost use Rattle.debug_image.specs.Layouts.{IsLayout, laid_in};
@@ -7,6 +8,7 @@ ghost use Rattle.debug_image.specs.SectionViews.{section_views};
 ghost use Rattle.debug_image.specs.Symbols as symbols;
 ghost use Rattle.debug_image.specs.Views.{row_views, tables_view};
 
+use crate::debug_file::end_of;
 use crate::headers::title_bytes;
 use crate::row::Row;
 use crate::sections::{Section, section_rows, sections};
@@ -97,11 +99,13 @@ fn made_tables<'a>(
     found: &[Section<'a>],
     symbols: &Rows<'a>,
 ) -> Result<Tables<'a>, AllocError>
-    ensures { IfOk result (λ t. tables_view t ≡ spec.tables_from linkage.now.plan.base (length linkage.now.objects) (section_views found.now) (row_views symbols.now.rows.items) symbols.now.locals) }
+    ensures { IfOk result (λ t. tables_view t ≡ spec.tables_from linkage.now.plan.base (own_end linkage.now.plan.base linkage.now.objects) (length linkage.now.objects) (section_views found.now) (row_views symbols.now.rows.items) symbols.now.locals) }
 {
     let count = linkage.loaded().objects().len() as u64;
     let bytes = symbol_bytes(alloc, &symbols.rows)?;
-    let sections = section_rows(alloc, linkage.parts().placement.base(), count, found)?;
+    let end = end_of(linkage);
+    let base = linkage.parts().placement.base();
+    let sections = section_rows(alloc, base, end, count, found)?;
     Ok(Tables {
         symbols: bytes.symbols,
         names: bytes.names,

@@ -164,9 +164,31 @@ impl<'a> Section<'a> {
         output_name(piece.name)
     }
 
-    /// Its header, but for its name, in an image that is mapped from a base on.
-    pub fn header(&self, base: u64) -> SectionHeader
-        ensures { result ≡ spec.header_of base (section_view self.now) }
+    /// Its alignment: the greatest one of its pieces, where its address is a multiple of that, and else that of its first piece
+    /// (System V gABI 4, "Sections", sh_addralign).
+    fn alignment(&self) -> u64
+        ensures { result ≡ spec.alignment_of (section_view self.now) }
+    {
+        if self.align > 0 && self.first.at % self.align == 0 {
+            return self.align;
+        }
+        self.first.piece.header.sh_addralign.max(1)
+    }
+
+    /// Its offset in a file whose last file part has an end.
+    fn offset(&self, base: u64, end: u64) -> u64
+        ensures { result ≡ spec.offset_of base end (section_view self.now) }
+    {
+        let offset = self.first.at.saturating_sub(base);
+        if self.first.piece.header.is_nobits() {
+            return offset;
+        }
+        offset.min(end)
+    }
+
+    /// Its header, but for its name, in an image that is mapped from a base on, and whose last file part has an end.
+    pub fn header(&self, base: u64, end: u64) -> SectionHeader
+        ensures { result ≡ spec.header_of base end (section_view self.now) }
     {
         let first = &self.first;
         SectionHeader {
@@ -174,30 +196,31 @@ impl<'a> Section<'a> {
             sh_type: first.piece.header.sh_type,
             sh_flags: first.piece.header.sh_flags & 0x407,
             sh_addr: first.at,
-            sh_offset: first.at.saturating_sub(base),
+            sh_offset: self.offset(base, end),
             sh_size: self.end.saturating_sub(first.at),
             sh_link: 0,
             sh_info: 0,
-            sh_addralign: self.align,
+            sh_addralign: self.alignment(),
             sh_entsize: 0,
         }
     }
 }
 
-/// The rows of sections of so many objects, in an image that is mapped from a base on.
+/// The rows of sections of so many objects, in an image that is mapped from a base on, and whose last file part has an end.
 pub fn section_rows<'a>(
     alloc: Global,
     base: u64,
+    end: u64,
     count: u64,
     sections: &[Section<'a>],
 ) -> Result<Vec<HeaderRow<'a>>, AllocError>
-    ensures { IfOk result (λ v. header_views v.items ≡ spec.section_rows base count (section_views sections.now)) }
+    ensures { IfOk result (λ v. header_views v.items ≡ spec.section_rows base end count (section_views sections.now)) }
 {
     let mut rows = Vec::with_capacity(alloc, sections.len())?;
     for section in sections {
         rows.push(HeaderRow {
             title: section.title(count),
-            header: section.header(base),
+            header: section.header(base, end),
         })?;
     }
     Ok(rows)
