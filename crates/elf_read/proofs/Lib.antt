@@ -3,6 +3,9 @@ mod SectionLemmas
 pub mod Faults
 pub mod FirstBytes
 mod Whole
+mod Lookups
+mod Named
+mod SectionBytes
 mod Runs
 mod RelaRuns
 pub mod RunSteps

@@ -71,3 +71,9 @@ kept_entries kept = map (option_map (λ (v : Vec Rela). v.items)) kept
 
 abbrev pub AreKept : List ℕ → List (Option (Vec Rela)) → Type 0
 AreKept bytes kept = kept_entries kept ≡ map (relas_in bytes) (sections bytes)
+
+-- the tables that an object keeps are those of its file
+pub record AreTables (bytes : List ℕ) (kept_sections : List SectionHeader) (kept_symbols : List Symbol) (kept_relas : List (Option (Vec Rela))) : Type 0 where
+  pub sections_are : kept_sections ≡ sections bytes
+  pub symbols_are : kept_symbols ≡ symbols bytes
+  pub relas_are : AreKept bytes kept_relas

@@ -4,6 +4,7 @@ ghost use Rattle.byteview.specs.Numbers.{IsInside, part};
 ghost use Rattle.elf_model.specs.ObjectFile.{HasTable, IsElf64, ObjFaultStands, sections_of};
 ghost use Rattle.elf_model.specs.Records.{file_header, section_header};
 
+use crate::run::Run;
 use byteview::{View, equal_run};
 use elf_model::{
     EHDR_SIZE, EM_X86_64, ET_REL, FileHeader, ObjFault, SHDR_SIZE, SHN_LORESERVE, SectionHeader,
@@ -50,34 +51,27 @@ pub fn read_header(file: &View<'_>) -> Result<FileHeader, ObjFault>
 }
 
 /// The section header table, which lies inside the file.
-#[tactic(auto, using(crate::proofs::Entries::entries_more))]
+pub fn section_table<'a>(file: &View<'a>, header: &FileHeader) -> Run<'a, SectionHeader>
+    requires { HasTable (length file.now) header.now }
+    ensures { result ≡ sections_of file.now header.now }
+{
+    Run::new(
+        file.bytes(),
+        header.e_shoff as usize,
+        header.e_shnum as usize,
+    )
+}
+
+/// The section headers of a file, as a table of their own.
 pub fn read_sections(
     alloc: Global,
     file: &View<'_>,
     header: &FileHeader,
 ) -> Result<Vec<SectionHeader>, AllocError>
-    requires small { length file.now < 2 ^ 32 }
-    requires table { HasTable (length file.now) header.now }
+    requires { HasTable (length file.now) header.now }
     ensures { IfOk result (λ v. v.items ≡ sections_of file.now header.now) }
 {
-    let count = header.e_shnum as usize;
-    let mut sections = Vec::with_capacity(alloc, count)?;
-    for i in 0..count {
-        let section = section_at(file, header.e_shoff as usize + SHDR_SIZE * i);
-        sections.push(section)?;
-    }
-    Ok(sections)
-}
-
-/// The section header at an offset, which lies inside the file.
-fn section_at(file: &View<'_>, at: usize) -> SectionHeader
-    requires { IsInside file.now at 64 }
-    ensures { result ≡ section_header (part file.now at 64) }
-{
-    let Some(section) = SectionHeader::read(View::new(file.part(at, SHDR_SIZE))) else {
-        unreachable!()
-    };
-    section
+    section_table(file, header).to_vec(alloc)
 }
 
 fn is_elf64(header: &FileHeader) -> bool

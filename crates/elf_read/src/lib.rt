@@ -9,6 +9,7 @@ mod header;
 mod object;
 mod object_file;
 mod relas;
+mod run;
 mod sections;
 mod symbols;
 
@@ -18,6 +19,7 @@ pub use header::{read_header, read_sections};
 pub use object::Object;
 pub use object_file::ObjectFile;
 pub use relas::{RelaRun, is_rela_section};
+pub use run::{Record, Run};
 pub use sections::{
     contents, has_good_symbol_table, is_placed, is_power_of_two, is_symbol_table, lies_inside,
     section, symbol_table,

@@ -16,6 +16,8 @@ use std::marker::Model;
 #[derive(Drop)]
 pub struct Object<'a> {
     file: ObjectFile<'a>,
+    sections: Vec<SectionHeader>,
+    symbols: Vec<Symbol>,
     relas: Vec<Option<Vec<Rela>>>,
 }
 
@@ -24,11 +26,11 @@ impl<'a> Model for Object<'a> {
 
     ghost Value = { List ℕ };
 
-    ghost use Rattle.elf_read.specs.Reading.{AreKept};
+    ghost use Rattle.elf_read.specs.Reading.{AreTables};
 
     ghost view = { λ o. o.file };
 
-    ghost invariant = { λ o. AreKept o.file o.relas.items };
+    ghost invariant = { λ o. AreTables o.file o.sections.items o.symbols.items o.relas.items };
 }
 
 /// The entries of section `i`; None where there is no such section, and where it is no RELA section.
@@ -71,8 +73,15 @@ impl<'a> Object<'a> {
         ensures only { IsObject view.entry → IfErr result (λ f. f ≡ fault.Memory) }
     {
         let file = ObjectFile::read(alloc, view)?;
+        let sections = file.sections().to_vec(alloc)?;
+        let symbols = file.symbols().to_vec(alloc)?;
         let relas = read_relas(alloc, &file)?;
-        Ok(Object { file, relas })
+        Ok(Object {
+            file,
+            sections,
+            symbols,
+            relas,
+        })
     }
 
     /// The object without tables.
@@ -86,14 +95,14 @@ impl<'a> Object<'a> {
     pub fn sections(&self) -> &[SectionHeader]
         ensures { result.now ≡ sections self.now }
     {
-        self.file.sections()
+        self.sections.as_slice()
     }
 
     /// The symbols, the null symbol too; none where the file has no symbol table.
     pub fn symbols(&self) -> &[Symbol]
         ensures { result.now ≡ symbols self.now }
     {
-        self.file.symbols()
+        self.symbols.as_slice()
     }
 
     /// The name of section `i`; None where there is no such section.

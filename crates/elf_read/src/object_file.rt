@@ -1,16 +1,17 @@
 //! A relocatable object file, judged, and what it holds: all of it is read where it is in the file.
 ghost use Rattle.std.specs.Prelude.{◌≡◌, ◌↔◌, ◌<◌, [], List, ℕ, All, length, IfErr, IfOk, IfSome, IsTrue, OnOk, option_copied, slice_index_or, unwrap_or};
-ghost use Rattle.elf_model.specs.ObjectFile.{IsObject, ObjFaultStands, groups, null_symbol, relas, section, section_bytes, section_name, sections, symbol_name, symbols};
+ghost use Rattle.elf_model.specs.ObjectFile.{IsObject, ObjFaultStands, groups, null_symbol, relas, section, section_bytes, section_name, sections, symbol_name, symbols, symbols_of};
 ghost use Rattle.elf_model.specs.declared.faults.ObjFault.TheVariants as fault;
 ghost use Rattle.elf_read.specs.Reading.{HasGoodEntries, HasGoodHeader, HasGoodSections, is_begun};
 
 use crate::groups::{Group, judge_groups};
-use crate::header::{read_header, read_sections};
+use crate::header::{read_header, read_sections, section_table};
 use crate::relas::{RelaRun, have_good_entries};
+use crate::run::Run;
 use crate::sections::{
-    contents, has_no_bytes, judge_sections, section, section_strings, symbol_strings, symbol_table,
+    contents, has_no_bytes, judge_sections, section_strings, symbol_strings, symbol_table,
 };
-use crate::symbols::{judge_symbols, read_symbols};
+use crate::symbols::{judge_symbols, symbols_in};
 use byteview::View;
 use elf_model::{FileHeader, ObjFault, SHT_RELA, SectionHeader, Symbol};
 use std::alloc::Global;
@@ -23,8 +24,8 @@ pub struct ObjectFile<'a> {
     file: View<'a>,
     section_strings: View<'a>,
     symbol_strings: View<'a>,
-    sections: Vec<SectionHeader>,
-    symbols: Vec<Symbol>,
+    sections: Run<'a, SectionHeader>,
+    symbols: Run<'a, Symbol>,
     groups: Vec<Group<'a>>,
 }
 
@@ -37,7 +38,7 @@ impl<'a> Model for ObjectFile<'a> {
 
     ghost view = { λ o. o.file };
 
-    ghost invariant = { λ o. IsRead o.file o.section_strings o.symbol_strings o.sections.items o.symbols.items o.groups.items };
+    ghost invariant = { λ o. IsRead o.file o.section_strings o.symbol_strings o.sections o.symbols o.groups.items };
 }
 
 /// The file header, one of the profile, of a file whose section header table can be read.
@@ -63,6 +64,19 @@ fn good_sections(
     Ok(sections)
 }
 
+/// The symbols of a file whose section headers are good.
+fn symbols_of<'a>(
+    file: &View<'a>,
+    header: &FileHeader,
+    sections: &[SectionHeader],
+) -> Run<'a, Symbol>
+    requires { HasGoodSections file.now header.now sections.now }
+    ensures { result ≡ symbols_of file.now sections.now }
+{
+    let _header = header;
+    symbols_in(file, &symbol_table(sections))
+}
+
 /// The symbols of a file, which are good, as all names and relocation entries are.
 fn good_symbols(
     alloc: Global,
@@ -75,7 +89,7 @@ fn good_symbols(
     ensures good { IfOk result (λ v. HasGoodEntries file.now header.now sections.now v.items) }
     ensures fault { IfErr result (ObjFaultStands file.now) }
 {
-    let symbols = read_symbols(alloc, file, &symbol_table(sections))?;
+    let symbols = symbols_of(file, header, sections).to_vec(alloc)?;
     judge_symbols(file, header, sections, &symbols)?;
     if !have_good_entries(file, sections, symbols.len()) {
         return Err(ObjFault::BadRela);
@@ -147,9 +161,9 @@ impl<'a> ObjectFile<'a> {
         Ok(ObjectFile {
             section_strings: section_strings(&view, &header, &sections),
             symbol_strings: symbol_strings(&view, &sections),
+            sections: section_table(&view, &header),
+            symbols: symbols_of(&view, &header, &sections),
             file: view,
-            sections,
-            symbols,
             groups,
         })
     }
@@ -163,31 +177,31 @@ impl<'a> ObjectFile<'a> {
     }
 
     /// The section header table, its null section too.
-    pub fn sections(&self) -> &[SectionHeader]
+    pub fn sections(&self) -> &Run<'a, SectionHeader>
         ensures { result.now ≡ sections self.now }
     {
-        self.sections.as_slice()
+        &self.sections
     }
 
     /// The header of section `i`; that of a null section where there is no such section.
     pub fn section(&self, i: usize) -> SectionHeader
         ensures { result ≡ section (sections self.now) i }
     {
-        section(&self.sections, i)
+        self.sections.get(i).unwrap_or(SectionHeader::NULL)
     }
 
     /// The symbols, the null symbol too; none where the file has no symbol table.
-    pub fn symbols(&self) -> &[Symbol]
+    pub fn symbols(&self) -> &Run<'a, Symbol>
         ensures { result.now ≡ symbols self.now }
     {
-        self.symbols.as_slice()
+        &self.symbols
     }
 
     /// Symbol `j`; the null symbol where there is no such symbol.
     pub fn symbol(&self, j: usize) -> Symbol
         ensures { result ≡ slice_index_or (symbols self.now) j null_symbol }
     {
-        self.symbols.get(j).copied().unwrap_or(Symbol::NULL)
+        self.symbols.get(j).unwrap_or(Symbol::NULL)
     }
 
     /// The name of section `i`; None where there is no such section.
@@ -234,10 +248,10 @@ impl<'a> ObjectFile<'a> {
             ≡ (section (sections self.now) i).sh_size) }
     {
         let section = self.sections.get(i)?;
-        if has_no_bytes(section) {
+        if has_no_bytes(&section) {
             return None;
         }
-        Some(contents(&self.file, section).bytes())
+        Some(contents(&self.file, &section).bytes())
     }
 
     /// The entries of section `i`, one of type RELA; None where there is no such section, and where
@@ -249,7 +263,7 @@ impl<'a> ObjectFile<'a> {
         if section.sh_type != SHT_RELA {
             return None;
         }
-        Some(RelaRun::of_section(&self.file, section))
+        Some(RelaRun::of_section(&self.file, &section))
     }
 
     /// The entries of section `i`, one of type RELA; none where there is no such section, and where

@@ -7,94 +7,28 @@ ghost use Rattle.elf_model.specs.Records.{rela};
 ghost use Rattle.std.specs.List.{All, slice_get};
 ghost use Rattle.elf_read.specs.Reading.{HaveGoodEntries, null_rela};
 
+use crate::run::Run;
 use crate::sections::{links_to_symbols, section};
 use byteview::View;
 use elf_model::{
     RELA_SIZE, Rela, SHT_GROUP, SHT_NOBITS, SHT_NULL, SHT_REL, SHT_RELA, SHT_STRTAB, SHT_SYMTAB,
     SectionHeader,
 };
-use std::alloc::{AllocError, Global};
-use std::marker::Model;
 
 /// The entries of a RELA section, where they are in the file.
-#[derive(Drop)]
-pub struct RelaRun<'a> {
-    file: &'a [u8],
-    start: usize,
-    count: usize,
-}
+pub type RelaRun<'a> = Run<'a, Rela>;
 
-impl<'a> Model for RelaRun<'a> {
-    ghost use Rattle.std.specs.Prelude.{◌+◌, ◌*◌, ◌≤◌, List, length};
-    ghost use Rattle.elf_model.specs.ObjectFile.{entries};
-    ghost use Rattle.elf_model.specs.Records.{rela};
-    ghost use Rattle.elf_model.specs.declared.records.Rela.{Rela as Entry};
-
-    ghost Value = { List Entry };
-
-    ghost view = { λ r. entries rela 24 r.file.now r.start r.count };
-
-    ghost invariant = { λ r. r.start + 24 * r.count ≤ length r.file.now };
-}
-
-impl<'a> RelaRun<'a> {
-    /// The entries of no section.
-    pub fn none() -> RelaRun<'a>
-        ensures { result ≡ [] }
-    {
-        RelaRun {
-            file: &[],
-            start: 0,
-            count: 0,
-        }
-    }
-
+impl<'a> Run<'a, Rela> {
     /// The entries of a RELA section, which lies inside the file.
     pub fn of_section(file: &View<'a>, section: &SectionHeader) -> RelaRun<'a>
         requires { LiesInside (length file.now) section.now }
         ensures { result ≡ relas_of file.now section.now }
     {
-        RelaRun {
-            file: file.bytes(),
-            start: section.sh_offset as usize,
-            count: section.sh_size as usize / RELA_SIZE,
-        }
-    }
-
-    /// How many entries there are.
-    pub fn len(&self) -> usize
-        ensures { result ≡ length self.now }
-    {
-        self.count
-    }
-
-    /// The entry of a number, from 0.
-    pub fn at(&self, i: usize) -> Rela
-        requires { i < length self.now }
-        ensures { result ≡ slice_index_or self.now i null_rela }
-    {
-        rela_at(self.file, self.start + RELA_SIZE * i)
-    }
-
-    /// The entry of a number, from 0; None past the end.
-    pub fn get(&self, i: usize) -> Option<Rela>
-        ensures { result ≡ slice_get self.now i }
-    {
-        if i >= self.len() {
-            return None;
-        }
-        Some(self.at(i))
-    }
-
-    /// The entries as a table of their own.
-    pub fn to_vec(&self, alloc: Global) -> Result<Vec<Rela>, AllocError>
-        ensures { IfOk result (λ v. v.items ≡ self.now) }
-    {
-        let mut entries = Vec::with_capacity(alloc, self.len())?;
-        for i in 0..self.len() {
-            entries.push(self.at(i))?;
-        }
-        Ok(entries)
+        Run::new(
+            file.bytes(),
+            section.sh_offset as usize,
+            section.sh_size as usize / RELA_SIZE,
+        )
     }
 
     /// Whether each entry names one of `count` symbols.
@@ -108,17 +42,6 @@ impl<'a> RelaRun<'a> {
         }
         true
     }
-}
-
-/// The relocation entry at an offset, which lies inside the file.
-fn rela_at(file: &[u8], at: usize) -> Rela
-    requires { IsInside file.now at 24 }
-    ensures { result ≡ rela (part file.now at 24) }
-{
-    let Some(entry) = Rela::read(View::new(View::new(file).part(at, RELA_SIZE))) else {
-        unreachable!()
-    };
-    entry
 }
 
 /// Whether no section holds relocations without addends, and the headers of RELA sections are good.

@@ -5,6 +5,7 @@ ghost use Rattle.elf_model.specs.ObjectFile.{AreGoodSymbols, AreSectionsNamed, A
 ghost use Rattle.elf_model.specs.Records.{symbol};
 ghost use Rattle.elf_read.specs.Reading.{HasGoodSections};
 
+use crate::run::Run;
 use crate::sections::{are_sections_named, section_strings, symbol_strings};
 use byteview::View;
 use elf_model::{
@@ -13,35 +14,28 @@ use elf_model::{
 use std::alloc::{AllocError, Global};
 
 /// The symbols of a table that lies inside the file.
-#[tactic(auto, using(crate::proofs::Entries::entries_more))]
+pub fn symbols_in<'a>(file: &View<'a>, table: &SectionHeader) -> Run<'a, Symbol>
+    requires { LiesInside (length file.now) table.now }
+    ensures { result ≡ entries symbol 24 file.now table.now.sh_offset (table.now.sh_size / 24) }
+{
+    Run::new(
+        file.bytes(),
+        table.sh_offset as usize,
+        table.sh_size as usize / SYM_SIZE,
+    )
+}
+
+/// The symbols of a table that lies inside the file, as a table of their own.
 pub fn read_symbols(
     alloc: Global,
     file: &View<'_>,
     table: &SectionHeader,
 ) -> Result<Vec<Symbol>, AllocError>
-    requires small { length file.now < 2 ^ 32 }
-    requires inside { LiesInside (length file.now) table.now }
+    requires { LiesInside (length file.now) table.now }
     ensures { IfOk result (λ v. v.items
         ≡ entries symbol 24 file.now table.now.sh_offset (table.now.sh_size / 24)) }
 {
-    let count = table.sh_size as usize / SYM_SIZE;
-    let mut symbols = Vec::with_capacity(alloc, count)?;
-    for i in 0..count {
-        let symbol = symbol_at(file, table.sh_offset as usize + SYM_SIZE * i);
-        symbols.push(symbol)?;
-    }
-    Ok(symbols)
-}
-
-/// The symbol at an offset, which lies inside the file.
-fn symbol_at(file: &View<'_>, at: usize) -> Symbol
-    requires { IsInside file.now at 24 }
-    ensures { result ≡ symbol (part file.now at 24) }
-{
-    let Some(symbol) = Symbol::read(View::new(file.part(at, SYM_SIZE))) else {
-        unreachable!()
-    };
-    symbol
+    symbols_in(file, table).to_vec(alloc)
 }
 
 /// Judges the symbols, and the names of sections and symbols.

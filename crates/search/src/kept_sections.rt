@@ -32,10 +32,7 @@ impl<'a> LoadedObject<'a> {
         ensures { result ≡ is_kept (loaded_view self.now) number
             (section (sections self.now.object) number) }
     {
-        match self.object.sections().get(number) {
-            Some(header) => self.is_kept(number, header),
-            None => false,
-        }
+        self.is_kept(number, &self.object.section(number))
     }
 
     /// Whether a section, which has the header, holds relocations that are kept: a RELA section that isn't dropped

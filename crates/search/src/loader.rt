@@ -242,12 +242,13 @@ impl<'a, N: NameNumbers<'a>> Names<'a, N> {
     {
         let symbols = object.symbols();
         let mut numbers = Vec::with_capacity(alloc, symbols.len())?;
-        for (j, symbol) in symbols.iter().enumerate() {
-            if !is_global_or_weak(symbol) {
+        for j in 0..symbols.len() {
+            let symbol = symbols.at(j);
+            if !is_global_or_weak(&symbol) {
                 numbers.push(NO_NUMBER)?;
                 continue;
             }
-            let number = self.note(dropped, symbol, object.symbol_name(j))?;
+            let number = self.note(dropped, &symbol, object.symbol_name(j))?;
             numbers.push(number)?;
         }
         Ok(numbers)

@@ -14,7 +14,7 @@ returns-in-Some c =
     let there = found kept c.deref.result.now c.args.i c.in_ok-entries.field-0.now lookup.0 lookup.1 c.deref.ensures.value in
     ap Some c.as_slice.ensures.value
     ∙ sym (ap (option_map (λ (v : Vec Rela). v.items)) c.in-Some.is)
-    ∙ kept_at c.self.inside.file kept c.args.i c.in_ok-entries.field-0.now c.self.invariant there
+    ∙ kept_at c.self.inside.file kept c.args.i c.in_ok-entries.field-0.now c.self.invariant.relas_are there
     ∙ ap (λ bs. relas bs c.args.i) c.self.view_is
 
 pub returns-in-None : goal.returns-in-None
@@ -23,5 +23,5 @@ returns-in-None c =
     let kept = c.self.inside.relas.items in
     let there = found kept c.deref.result.now c.args.i c.in_ok-entries.field-0.now lookup.0 lookup.1 c.deref.ensures.value in
     sym (ap (option_map (λ (v : Vec Rela). v.items)) c.in-None.is)
-    ∙ kept_at c.self.inside.file kept c.args.i c.in_ok-entries.field-0.now c.self.invariant there
+    ∙ kept_at c.self.inside.file kept c.args.i c.in_ok-entries.field-0.now c.self.invariant.relas_are there
     ∙ ap (λ bs. relas bs c.args.i) c.self.view_is

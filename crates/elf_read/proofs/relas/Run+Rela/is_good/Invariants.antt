@@ -1,7 +1,7 @@
 use Rattle.std.proofs.Common.{drop}
 use Rattle.elf_model.proofs.Rests.{Left}
 use Rattle.elf_model.specs.ObjectFile.{AreGoodRelas}
-use Rattle.elf_read.proofs.relas.RelaRun.is_good.Given as goal
+use Rattle.elf_read.proofs.relas.Run+Rela.is_good.Given as goal
 
 abbrev pub invariant-loop-i : goal.invariant-loop-i
 invariant-loop-i l = Left (AreGoodRelas l.count l.self) (AreGoodRelas l.count (drop l.i l.self))
