@@ -24,8 +24,20 @@ pub struct Asked<'a> {
     pub slots: IndexSet<Slot<'a>, NameSeed>,
 }
 
+impl<'a> Asked<'a> {
+    /// Nothing yet. Names are hashed from a seed.
+    pub fn nothing(alloc: Global, seed: NameSeed) -> Asked<'a>
+        ensures { wants result ≡ nothing }
+    {
+        Asked {
+            got: false,
+            slots: IndexSet::with_hasher(alloc, seed),
+        }
+    }
+}
+
 /// Takes in what an entry asks for, which relocates the section `target`.
-fn add_entry<'a>(
+pub fn add_entry<'a>(
     asked: &mut Asked<'a>,
     asker: &Asker<'_, 'a>,
     target: u64,
@@ -93,7 +105,7 @@ fn add_relocations<'a>(asked: &mut Asked<'a>, asker: &Asker<'_, 'a>) -> Result<(
 {
     let headers = asker.loaded.object.sections();
     for i in 0..headers.len() {
-        let header = headers[i];
+        let header = headers.at(i);
         if !asker.loaded.is_kept_rela(i, &header) {
             continue;
         }
@@ -130,10 +142,7 @@ pub fn asked_by<'a>(
         ≡ with_relocations (loaded_views objects.now) nothing
         (relocations (loaded_views objects.now))) }
 {
-    let mut asked = Asked {
-        got: false,
-        slots: IndexSet::with_hasher(alloc, seed),
-    };
+    let mut asked = Asked::nothing(alloc, seed);
     for k in 0..objects.len() {
         add_object(&mut asked, resolved, k, &objects[k])?;
     }

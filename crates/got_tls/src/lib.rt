@@ -12,8 +12,10 @@ mod slot_list;
 mod slot_table;
 mod thread_storage;
 
+pub use asked_slots::{Asked, add_entry};
 pub use elf_model::TlsBlock;
 pub use kinds::{Formula, Kind, Range, slot_kind};
-pub use slot_list::slots;
+pub use requests::Asker;
+pub use slot_list::{slots, slots_asked};
 pub use slot_table::{Slot, Slots};
 pub use thread_storage::{thread_pointer, tls_block, tp_offset};

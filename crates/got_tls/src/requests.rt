@@ -59,11 +59,14 @@ fn names_got(resolved: &Resolved<'_>, number: usize, loaded: &LoadedObject<'_>, 
 }
 
 /// Whether a symbol of object `number` names the GOT so. Where none does, none need be looked at for each
-/// relocation.
+/// relocation; where an object defines the name, or none has it, no symbol is looked at at all.
 fn tells_of_got(resolved: &Resolved<'_>, number: usize, loaded: &LoadedObject<'_>) -> bool
     requires { slice_get resolved.now number ≡ Some (loaded_view loaded.now) }
     ensures { TellsOfGot resolved.now number (loaded_view loaded.now) result }
 {
+    if !resolved.is_left(GOT_NAME) {
+        return false;
+    }
     for j in 0..loaded.object.symbols().len() {
         if names_got(resolved, number, loaded, j) {
             return true;

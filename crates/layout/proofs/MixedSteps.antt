@@ -12,13 +12,14 @@ use Rattle.std.proofs.lemmas.Option.{none-some}
 use Rattle.std.proofs.lemmas.Slice.Eq.{bytes_eq-Decides}
 use Rattle.elf_model.specs.Loading.{LoadedObject}
 use Rattle.elf_model.specs.ObjectFile.{sections}
-use Rattle.elf_model.specs.Pieces.{Piece, is_kept, is_of_output, output_name, piece_of, pieces_from, pieces_of}
+use Rattle.elf_model.specs.Pieces.{Piece, is_executable, is_kept, is_nobits, is_of_output, is_thread_local, is_writable, output_name, piece_of, pieces_from, pieces_of, same_bool, same_output}
 use Rattle.elf_model.specs.declared.records.SectionHeader.{SectionHeader}
+use Rattle.elf_model.proofs.Finding.{find-found}
 use Rattle.elf_model.proofs.Found.{or_none}
 use Rattle.elf_model.proofs.SameOutput.{same_output-refl}
 use Rattle.search.specs.Views.{loaded_view, loaded_views}
 use Rattle.search.specs.declared.loaded.LoadedObject as code
-use Rattle.layout.specs.Mixed.{AreFound, differs, is_odd, kept_one}
+use Rattle.layout.specs.Mixed.{AreFound, are_alike, differs, is_odd, kept_one}
 use Rattle.layout.proofs.MixedOutputs.{odd_added}
 
 -- a piece of an output name that has none yet is the first, and not odd
@@ -39,6 +40,17 @@ none_odd n o (p ∷ ps) none = by (is_of_output n p) none (none_odd n o ps)
         ((b && differs o p) || list_any (λ q. is_of_output n q && differs o q) ps) ≡ false
     by true e rest = absurd (none-some p (sym e))
     by false e rest = rest e
+
+-- a first piece and another one of its output name are of one output section where they are alike
+pub alike_same :
+    (firsts : List ℕ → Option Piece) (has : List ℕ → Bool) (done : List Piece) (name : List ℕ) (f p : Piece) → AreFound firsts has done → name ≡ output_name p.name →
+    firsts name ≡ Some f → same_output f p ≡ are_alike f.header p.header
+unfolding same_output
+alike_same firsts has done name f p found named there =
+    ap (λ b.
+    b && same_bool (is_writable f.header) (is_writable p.header) && same_bool (is_executable f.header) (is_executable p.header)
+    && same_bool (is_thread_local f.header) (is_thread_local p.header) && same_bool (is_nobits f.header) (is_nobits p.header))
+    (sym (ap (bytes_eq (output_name f.name)) named) ∙ (find-found (is_of_output name) done f (sym (found.firsts_are name) ∙ there)).passes)
 
 module _ (p : Piece) (name : List ℕ) (named : name ≡ output_name p.name) (old new : List ℕ → Option Piece) (has gets : List ℕ → Bool) (done : List Piece) where
   test_is : (n : List ℕ) → is_of_output n p ≡ bytes_eq name n

@@ -8,11 +8,19 @@ use Rattle.std.specs.List.{list_any}
 use Rattle.std.specs.Option.{option_map_or}
 use Rattle.std.specs.Ordering.{nat_cmp}
 use Rattle.elf_model.specs.Loading.{LoadedObject}
-use Rattle.elf_model.specs.Pieces.{AreOneOutput, Piece, is_kept, is_of_output, piece_of, same_output}
+use Rattle.elf_model.specs.Pieces.{AreOneOutput, Piece, is_executable, is_kept, is_nobits, is_of_output, is_thread_local, is_writable, piece_of, same_bool, same_output}
 use Rattle.elf_model.specs.UsedNames.{is_among}
 use Rattle.elf_model.specs.declared.records.SectionHeader.{SectionHeader}
 use Rattle.layout.specs.Views.{piece_view}
 use Rattle.layout.specs.declared.pieces.Piece as code
+
+-- two sections are alike in WRITE, EXECINSTR, TLS and NOBITS
+abbrev pub are_alike : SectionHeader → SectionHeader → Bool
+are_alike h g =
+    same_bool (is_writable h) (is_writable g)
+    && same_bool (is_executable h) (is_executable g)
+    && same_bool (is_thread_local h) (is_thread_local g)
+    && same_bool (is_nobits h) (is_nobits g)
 
 -- the piece at an output name
 abbrev pub first_in : BTreeMap (Bor (List ℕ)) code.Piece → List ℕ → Option Piece

@@ -1,63 +1,71 @@
 //! The output names whose kept sections are of several output sections. Sections are looked at one by one, in load order.
-ghost use Rattle.std.specs.Prelude.{◌≡◌, ◌++◌, ◌∷◌, [], List, IfOk, OnOk, option_map};
-ghost use Rattle.elf_model.specs.ObjectFile.{sections};
+ghost use Rattle.std.specs.Prelude.{◌≡◌, ◌++◌, ◌∷◌, [], List, IfOk, OnOk, option_map, unwrap_or};
+ghost use Rattle.elf_model.specs.ObjectFile.{section_name, sections};
 ghost use Rattle.elf_model.specs.Pieces as pieces;
-ghost use Rattle.elf_model.specs.Pieces.{same_output};
+ghost use Rattle.elf_model.specs.Pieces.{output_name};
 ghost use Rattle.search.specs.Views.{loaded_view, loaded_views};
-ghost use Rattle.layout.specs.Mixed.{AreMixed, IsFound, first_in, kept_one};
+ghost use Rattle.layout.specs.Mixed.{AreMixed, IsFound, are_alike, first_in, kept_one};
 ghost use Rattle.layout.specs.Views.{piece_view};
 
 use crate::pieces::{Piece, piece_of};
 use elf_model::SectionHeader;
+use elf_read::ObjectFile;
 use resolve::output_name;
 use search::LoadedObject;
 use std::alloc::{AllocError, Global};
 use std::collections::{BTreeMap, BTreeSet};
 
-/// Whether two sections are of one output section.
-#[tactic(auto, unfolding(elf_model::specs::Pieces::same_output))]
-fn is_same_output(one: &Piece<'_>, other: &Piece<'_>) -> bool
-    ensures { result ≡ same_output (piece_view one.now) (piece_view other.now) }
+/// Whether two sections are alike in what tells the output sections of one output name apart.
+fn are_alike(one: &SectionHeader, other: &SectionHeader) -> bool
+    ensures { result ≡ are_alike one.now other.now }
 {
-    if output_name(one.name) != output_name(other.name) {
+    if one.is_writable() != other.is_writable() {
         return false;
     }
-    if one.header.is_writable() != other.header.is_writable() {
+    if one.is_executable() != other.is_executable() {
         return false;
     }
-    if one.header.is_executable() != other.header.is_executable() {
+    if one.is_thread_local() != other.is_thread_local() {
         return false;
     }
-    if one.header.is_thread_local() != other.header.is_thread_local() {
-        return false;
-    }
-    one.header.is_nobits() == other.header.is_nobits()
+    one.is_nobits() == other.is_nobits()
 }
 
 /// The first section of an output name.
-fn first_of<'a>(firsts: &BTreeMap<&[u8], Piece<'a>>, name: &[u8]) -> Option<Piece<'a>>
-    ensures { option_map piece_view result ≡ first_in firsts.now name.now }
+fn first_of<'f, 'a>(firsts: &'f BTreeMap<&'a [u8], Piece<'a>>, name: &[u8]) -> Option<&'f Piece<'a>>
+    ensures { option_map (λ p. piece_view p.now) result ≡ first_in firsts.entry.now name.now }
 {
-    firsts.get(name).copied()
+    firsts.get(name)
 }
 
-/// Takes a kept section in: it is the first one of its output name, or its name is an odd one where it is of another output
-/// section than the first one.
-fn add_piece<'a>(
+/// The output name of section `i`, that of the empty name where it has none.
+fn output_name_at<'a>(object: &ObjectFile<'a>, i: usize) -> &'a [u8]
+    ensures { result.now ≡ output_name (unwrap_or (section_name object.now i) []) }
+{
+    output_name(object.section_name(i).unwrap_or(&[]))
+}
+
+/// Takes section `i` of an object, which is kept and has the header, in: it is the first one of its output name, or its name
+/// is an odd one where it is of another output section than the first one.
+fn add_kept<'a>(
     firsts: &mut BTreeMap<&'a [u8], Piece<'a>>,
     names: &mut BTreeSet<&'a [u8]>,
-    piece: &Piece<'a>,
+    number: u64,
+    object: &ObjectFile<'a>,
+    i: usize,
+    header: &SectionHeader,
 ) -> Result<(), AllocError>
     ensures { OnOk result ((done : List pieces.Piece) →
         IsFound firsts.old names.old done
-        → IsFound firsts.new names.new (done ++ piece_view piece.now ∷ [])) }
+        → IsFound firsts.new names.new
+        (done ++ pieces.piece_of number object.now i header.now ∷ [])) }
 {
-    let name = output_name(piece.name);
+    let name = output_name_at(object, i);
     let Some(first) = first_of(firsts, name) else {
-        firsts.insert(name, *piece)?;
+        firsts.insert(name, piece_of(number, object, i, *header))?;
         return Ok(());
     };
-    if is_same_output(&first, piece) {
+    if are_alike(&first.header, header) {
         return Ok(());
     }
     names.insert(name)?;
@@ -81,9 +89,7 @@ fn add_section<'a>(
     if !loaded.is_kept(i, header) {
         return Ok(());
     }
-    let piece = piece_of(number, &loaded.object, i, *header);
-    add_piece(firsts, names, &piece)?;
-    Ok(())
+    add_kept(firsts, names, number, &loaded.object, i, header)
 }
 
 /// Takes the kept sections of an object in.
@@ -100,8 +106,9 @@ fn add_object<'a>(
         (sections loaded.now.object))) }
 {
     let headers = loaded.object.sections();
-    for (i, header) in headers.iter().enumerate() {
-        add_section(firsts, names, number, loaded, i, header)?;
+    for i in 0..headers.len() {
+        let header = headers.at(i);
+        add_section(firsts, names, number, loaded, i, &header)?;
     }
     Ok(())
 }

@@ -67,9 +67,10 @@ fn add_pieces<'a>(
         ++ pieces.pieces_from number (loaded_view loaded.now) 0 (sections loaded.now.object)) }
 {
     let headers = loaded.object.sections();
-    for (i, header) in headers.iter().enumerate() {
-        if loaded.is_kept(i, header) {
-            out.push(piece_of(number, &loaded.object, i, *header))?;
+    for i in 0..headers.len() {
+        let header = headers.at(i);
+        if loaded.is_kept(i, &header) {
+            out.push(piece_of(number, &loaded.object, i, header))?;
         }
     }
     Ok(())

@@ -53,8 +53,9 @@ fn is_lawful_object(loaded: &LoadedObject<'_>) -> bool
     ensures { IsTrue result ↔ HasLawfulKinds (loaded_view loaded.now) }
 {
     let headers = loaded.object.sections();
-    for (i, header) in headers.iter().enumerate() {
-        if !is_lawful_if_kept(loaded, i, header) {
+    for i in 0..headers.len() {
+        let header = headers.at(i);
+        if !is_lawful_if_kept(loaded, i, &header) {
             return false;
         }
     }

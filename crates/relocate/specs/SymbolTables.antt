@@ -13,6 +13,7 @@ use Rattle.elf_model.specs.Resolution.{SymbolOf, section_of}
 use Rattle.elf_model.specs.Slots.{slots}
 use Rattle.search.specs.Views.{loaded_view}
 use Rattle.layout.specs.Mixed.{AreMixed}
+use Rattle.got_tls.specs.Askers.{IsAsker, all_asked, asking}
 use Rattle.relocate.specs.References.{IsObjectAt}
 use Rattle.relocate.specs.Values.{pointer_in, where_in}
 use Rattle.relocate.specs.declared.referrer.Reference.{Reference}
@@ -46,6 +47,10 @@ all_of r = r.resolved.now
 pub record IsReferrer (r : Referrer) : Type 0 where
   pub here : IsObjectAt (all_of r) r.number (referring r)
   pub mixed : AreMixed (all_of r) r.mixed.now
+  pub asker : IsAsker r.asker
+  pub asked_all : all_asked r.asker ≡ all_of r
+  pub asked_number : r.asker.number ≡ r.number
+  pub asked_own : asking r.asker ≡ referring r
   pub table : AreReferences (all_of r) r.number (referring r) r.table.items
 
 -- a section of an object that entries relocate: its size, and whether it has the name .eh_frame

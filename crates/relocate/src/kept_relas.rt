@@ -22,7 +22,7 @@ fn listed(alloc: Global, loaded: &LoadedObject<'_>) -> Result<Vec<KeptRela>, All
     let mut relas = Vec::new(alloc);
     let headers = loaded.object.sections();
     for i in 0..headers.len() {
-        let header = headers[i];
+        let header = headers.at(i);
         if !loaded.is_kept_rela(i, &header) {
             continue;
         }

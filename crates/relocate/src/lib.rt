@@ -30,7 +30,7 @@ pub use faults::{RelocFault, RelocationFault};
 pub use got_tls::{Formula, Kind, Range};
 pub use kinds::{Terms, fits, value};
 pub use lawful_fields::lawful_kind;
-pub use lawful_relocations::references;
+pub use lawful_relocations::{references, referred_slots};
 pub use linker_uses::linker_lines;
 pub use patch_rows::patches;
 pub use patch_table::{Patches, apply, apply_part, next_field};

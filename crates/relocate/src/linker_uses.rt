@@ -10,6 +10,7 @@ ghost use Rattle.elf_model.specs.ObjectFile.{sections};
 ghost use Rattle.elf_model.specs.Relocation.{is_some_kind, relocation_of, relocations, relocations_from, relocations_in, symbol_at};
 ghost use Rattle.elf_model.specs.UsedNames.{Gains, is_among, is_linker_use, linker_meaning, linker_meanings, uses_line};
 ghost use Rattle.search.specs.Views.{loaded_view, loaded_views};
+ghost use Rattle.resolve.specs.Left.{HasNoLinkerNames};
 ghost use Rattle.resolve.specs.Views.{meaning_view};
 ghost use Rattle.relocate.specs.References.{IsObjectAt};
 ghost use Rattle.relocate.specs.Uses.{HasNoLinkerUse, IsUser, is_linkers, line_views, using};
@@ -58,11 +59,21 @@ fn is_linker_use(
     is_linkers(&resolved.used(symbol))
 }
 
-/// Whether a symbol of object `number` is such a one. Where none is, no relocation of the object need be read.
-fn has_linker_use(resolved: &Resolved<'_>, number: usize, loaded: &LoadedObject<'_>) -> bool
-    requires { IsObjectAt resolved.now number (loaded_view loaded.now) }
+/// Whether a symbol of object `number` is such a one. Where none is, no relocation of the object need be read; where no
+/// name is one of them (`named`), no symbol either.
+fn has_linker_use(
+    resolved: &Resolved<'_>,
+    named: bool,
+    number: usize,
+    loaded: &LoadedObject<'_>,
+) -> bool
+    requires here { IsObjectAt resolved.now number (loaded_view loaded.now) }
+    requires named { named ≡ false → HasNoLinkerNames resolved.now }
     ensures { result ≡ false → HasNoLinkerUse resolved.now number (loaded_view loaded.now) }
 {
+    if !named {
+        return false;
+    }
     for j in 0..loaded.object.symbols().len() {
         if is_linker_use(resolved, number, loaded, j) {
             return true;
@@ -156,7 +167,7 @@ fn add_relocations<'a>(
 {
     let headers = user.loaded.object.sections();
     for i in 0..headers.len() {
-        let header = headers[i];
+        let header = headers.at(i);
         if !user.loaded.is_kept_rela(i, &header) {
             continue;
         }
@@ -169,14 +180,16 @@ fn add_relocations<'a>(
 fn add_object<'a>(
     names: &mut BTreeSet<&'a [u8]>,
     resolved: &Resolved<'a>,
+    named: bool,
     number: usize,
     loaded: &LoadedObject<'a>,
 ) -> Result<(), AllocError>
-    requires { IsObjectAt resolved.now number (loaded_view loaded.now) }
+    requires here { IsObjectAt resolved.now number (loaded_view loaded.now) }
+    requires named { named ≡ false → HasNoLinkerNames resolved.now }
     ensures { OnOk result (Gains resolved.now
         (relocations_from number (loaded_view loaded.now)) names.old names.new) }
 {
-    if !has_linker_use(resolved, number, loaded) {
+    if !has_linker_use(resolved, named, number, loaded) {
         return Ok(());
     }
     let user = User {
@@ -198,9 +211,10 @@ fn used_names<'a>(
         is_among s n ≡ list_any (uses_line (loaded_views objects.now) n)
         (relocations (loaded_views objects.now))) }
 {
+    let named = resolved.has_linker_names();
     let mut names = BTreeSet::new(alloc);
     for k in 0..objects.len() {
-        add_object(&mut names, resolved, k, &objects[k])?;
+        add_object(&mut names, resolved, named, k, &objects[k])?;
     }
     Ok(names)
 }

@@ -15,6 +15,7 @@ use crate::targets::{
     holds_frames, is_dropped, is_mixed, is_thread_local, is_undefined, stands_in_unkept, use_of,
 };
 use elf_model::{ObjectId, RELA_SIZE, SHT_RELA, SymbolRef};
+use got_tls::Asker;
 use resolve::{Definition, Resolved};
 use search::LoadedObject;
 use std::alloc::{AllocError, Global};
@@ -42,6 +43,8 @@ pub struct Referrer<'r, 'm, 'a> {
     pub mixed: &'r BTreeSet<&'m [u8]>,
     pub number: usize,
     pub loaded: &'r LoadedObject<'a>,
+    /// What its relocations ask of the GOT.
+    pub asker: Asker<'r, 'a>,
     /// What a reference to each symbol is, as far as there are rows.
     pub table: Vec<Reference>,
 }
@@ -128,7 +131,9 @@ fn reference_to<'a>(
 /// Whether an object has more relocations than symbols, so that a row for each symbol saves work.
 pub fn refers_often(loaded: &LoadedObject<'_>) -> bool {
     let mut size: u64 = 0;
-    for header in loaded.object.sections() {
+    let headers = loaded.object.sections();
+    for i in 0..headers.len() {
+        let header = headers.at(i);
         if header.sh_type == SHT_RELA {
             size = size.saturating_add(header.sh_size);
         }
@@ -183,6 +188,7 @@ impl<'r, 'm, 'a> Referrer<'r, 'm, 'a> {
             mixed,
             number,
             loaded,
+            asker: Asker::new(resolved, number, loaded),
             table,
         })
     }

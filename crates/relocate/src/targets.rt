@@ -31,7 +31,7 @@ fn section_of(object: &ObjectFile<'_>, entry: &Symbol) -> Option<SectionHeader>
     if entry.is_undefined() {
         return None;
     }
-    object.sections().get(entry.st_shndx as usize).copied()
+    object.sections().get(entry.st_shndx as usize)
 }
 
 /// Whether a symbol of an object stands in a section that isn't kept.

@@ -1,6 +1,7 @@
 pub mod Definitions
 pub mod Gathered
 mod GatheringNames
+mod LeftNames
 pub mod Located
 pub mod NamedNumbers
 pub mod NamedOnce

@@ -1,18 +1,20 @@
--- The numbers of the names of definitions.
-use Rattle.std.proofs.Common.{◌≡◌, ℕ, ◌<◌, Bool, true, cond, List, [], length, get_or, sym, ◌∙◌, ap, subst, arith}
+-- The numbers of the names of symbols and of definitions.
+use Rattle.std.proofs.Common.{◌≡◌, ℕ, ◌<◌, Bool, true, false, cond, List, [], length, get_or, refl, sym, ◌∙◌, ap, subst, arith}
 use Rattle.std.specs.Prelude.{All, None, Option, Some, option_map, slice_get, unwrap_or}
 use Rattle.std.specs.Option.{option_and_then}
 use Rattle.std.proofs.lemmas.Bool.Decides.{nat_tests}
+use Rattle.std.proofs.lemmas.Option.{none-some, same_Some}
 use Rattle.std.proofs.lemmas.List.Elements.{All-filter, filter_passes}
 use Rattle.elf_model.proofs.Listed.{All-unmap}
 use Rattle.elf_model.specs.ChosenSymbols.{definitions, is_chosen, is_definition}
 use Rattle.elf_model.specs.Loading.{LoadedObject, is_global_or_weak}
-use Rattle.elf_model.specs.ObjectFile.{name_of_symbol, symbols}
+use Rattle.elf_model.specs.ObjectFile.{name_of_symbol, symbol_name, symbols}
 use Rattle.elf_model.specs.Resolution.{SymbolOf, all_symbols}
 use Rattle.elf_model.specs.declared.records.Symbol.{Symbol}
 use Rattle.search.specs.Loads.{LoadedPlan}
 use Rattle.search.specs.Names.{is_among, number_of}
 use Rattle.search.specs.Numbers.{AreNamed, name_number}
+use Rattle.search.proofs.Numbering.{number_at}
 use Rattle.resolve.specs.Defined.{AreDefinitions}
 use Rattle.resolve.specs.Views.{symbol_view, symbol_views}
 use Rattle.resolve.specs.declared.entries.SymbolOf as code
@@ -64,3 +66,25 @@ module _ (l : LoadedPlan) where
   chosen_number xs d =
       All-unmap (IsNumbered l) symbol_view xs
       (subst (All (IsNumbered l)) (sym d.same) (All-filter (is_chosen l.objects) (IsNumbered l) (definitions l.objects) all_numbered))
+
+-- the name that has the number of a symbol's name is that name
+pub name_told :
+    (l : LoadedPlan) (k j : ℕ) (o : LoadedObject) (number : ℕ) → AreNamed l → slice_get l.objects k ≡ Some o → name_number l k j ≡ Some number →
+    get_or l.names number [] ≡ unwrap_or (symbol_name o.bytes j) []
+name_told l k j o number named here told_ = by (slice_get (symbols o.bytes) j) refl (sym (ap (option_and_then (λ (x : LoadedObject). told l x j)) here) ∙ told_)
+  where
+    of_entry : (x : Symbol) → Option ℕ
+    of_entry x = cond (is_global_or_weak x) (Some (number_of l.names (name_of_symbol o.bytes x))) None
+
+    shared : (x : Symbol) → slice_get (symbols o.bytes) j ≡ Some x → (b : Bool) → is_global_or_weak x ≡ b →
+        cond {A = Option ℕ} b (Some (number_of l.names (name_of_symbol o.bytes x))) None ≡ Some number → get_or l.names number [] ≡ name_of_symbol o.bytes x
+    shared x at true e is =
+        ap (λ (n : ℕ). get_or l.names n []) (sym (same_Some _ _ is))
+        ∙ number_at l.names (name_of_symbol o.bytes x) [] (named k j o x here at e)
+    shared x at false e is = absurd (none-some number is)
+
+    by : (s : Option Symbol) → slice_get (symbols o.bytes) j ≡ s → option_and_then of_entry (slice_get (symbols o.bytes) j) ≡ Some number → get_or l.names number [] ≡ unwrap_or (symbol_name o.bytes j) []
+    by None at is = absurd (none-some number (sym (ap (option_and_then of_entry) at) ∙ is))
+    by (Some x) at is =
+        shared x at (is_global_or_weak x) refl (sym (ap (option_and_then of_entry) at) ∙ is)
+        ∙ sym (ap (λ (s : Option Symbol). unwrap_or (option_map (name_of_symbol o.bytes) s) []) at)

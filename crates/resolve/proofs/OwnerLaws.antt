@@ -1,6 +1,7 @@
 -- What names mean as definitions are taken in one by one, by the rows of these.
-use Rattle.std.proofs.Common.{◌≡◌, ℕ, ◌<◌, Bool, true, false, cond, ◌&&◌, ◌||◌, List, [], ◌∷◌, length, get_or, refl, sym, ◌∙◌, ap, subst, arith, true≢false}
+use Rattle.std.proofs.Common.{◌≡◌, ℕ, zero, suc, ◌<◌, Bool, true, false, cond, ◌&&◌, ◌||◌, List, [], ◌∷◌, length, get_or, refl, sym, ◌∙◌, ap, subst, arith, true≢false}
 use Rattle.std.specs.Prelude.{All, None, Option, Some, is_some, replicate, set, unwrap_or}
+use Rattle.std.specs.List.{list_any}
 use Rattle.std.specs.Option.{option_map_or, option_or}
 use Rattle.std.specs.Str.{bytes_eq}
 use Rattle.std.proofs.lemmas.List.{get_or-map, get_or-replicate, get_or-set_other, get_or-set_same, length-map, length-set}
@@ -10,7 +11,7 @@ use Rattle.elf_model.specs.Resolution.{SymbolOf, is_strong}
 use Rattle.elf_model.specs.declared.references.SymbolRef.{SymbolRef}
 use Rattle.search.specs.Loads.{LoadedPlan}
 use Rattle.search.specs.Names.{is_among, number_of}
-use Rattle.search.specs.Numbers.{AreNamed}
+use Rattle.search.specs.Numbers.{AreNamed, name_number}
 use Rattle.search.proofs.Numbering.{number_below, number_once}
 use Rattle.resolve.specs.Offered.{chosen_ref, is_meant, is_referred, is_twin_in, offers_of, rows_of}
 use Rattle.resolve.specs.Owned.{AreOwners, AreOwnersOf, after_kind, common_owner, is_owned_twice, is_owner, is_twice, owner_after, owner_at, owner_in, owner_of, owner_ref, strong_owner, weak_owner}
@@ -25,6 +26,11 @@ use Rattle.symbols.specs.declared.candidate.Candidate.{Candidate}
 use Rattle.symbols.specs.declared.candidate.CandidateKind.{CandidateKind}
 use Rattle.symbols.specs.declared.candidate.CandidateKind.TheVariants.{Common, Strong, Weak}
 use Rattle.symbols.specs.declared.row.Row.{Row}
+
+-- neither of two holds
+neither : (a b : Bool) → (a || b) ≡ false → (a ≡ false) × (b ≡ false)
+neither true b none = absurd (true≢false none)
+neither false b none = (refl, none)
 
 -- a row without a strong definition has no second one
 abbrev pub IsSettled : Row → Type 0
@@ -172,3 +178,20 @@ owners_told l ss owners rows numbered named h all = record {
       ap (λ (r : Option ℕ). option_map_or (λ n. get_or owners n owner.Nobody) r owner.Nobody) fit.number
       ∙ (h.each (get_or ss k d).name (fit.among named) ∙ ap (λ (r : Rows). owner_in r (get_or ss k d).name) all);
 }
+
+-- no owner is that of two: so no definition is a twin
+none_at : (p : Owner → Bool) (xs : List Owner) (n : ℕ) (d : Owner) → p d ≡ false → list_any p xs ≡ false → p (get_or xs n d) ≡ false
+none_at p [] n d past none = past
+none_at p (x ∷ xs) zero d past none = (neither (p x) (list_any p xs) none).0
+none_at p (x ∷ xs) (suc n) d past none = none_at p xs n d past (neither (p x) (list_any p xs) none).1
+
+pub untwinned : (l : LoadedPlan) (owners : List Owner) (s : SymbolOf) → list_any is_twice owners ≡ false → is_owned_twice l owners s ≡ false
+untwinned l owners s none = ap (λ (b : Bool). is_strong s && b) (by (name_number l s.object s.number)) ∙ nor (is_strong s)
+  where
+    nor : (b : Bool) → (b && false) ≡ false
+    nor true = refl
+    nor false = refl
+
+    by : (r : Option ℕ) → is_twice (option_map_or (λ n. get_or owners n owner.Nobody) r owner.Nobody) ≡ false
+    by None = refl
+    by (Some n) = none_at is_twice owners n owner.Nobody refl none

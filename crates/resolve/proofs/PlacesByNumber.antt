@@ -92,7 +92,7 @@ places_more names xs index i places new e h within few there is written = record
         let at : index ≡ NO_PLACE = sym (own (get_or xs k d).name.now ((bytes_eq-Decides (get_or xs index e).name.now (get_or xs k d).name.now).1 same)) ∙ none in
         absurd (omega (arith, at, within, few))
 
-past_none : {X : Type 0} (xs : List X) (i : ℕ) → slice_get xs i ≡ None → length xs ≤ i
+pub past_none : {X : Type 0} (xs : List X) (i : ℕ) → slice_get xs i ≡ None → length xs ≤ i
 past_none {X} xs i none = by (cases_lt i (length xs))
   where
     by : (i < length xs) ⊎ (length xs ≤ i) → length xs ≤ i
@@ -104,13 +104,13 @@ past_none {X} xs i none = by (cases_lt i (length xs))
     by (inr past) = past
 
 -- a symbol that is GLOBAL or WEAK isn't LOCAL, and one of an object that is neither is
-shared_global : (e : Symbol) → is_global_or_weak e ≡ true → (e.st_info / 16 == 0) ≡ false
+pub shared_global : (e : Symbol) → is_global_or_weak e ≡ true → (e.st_info / 16 == 0) ≡ false
 shared_global e shared = grind (arith, nat_tests)
 
-unshared_local : (e : Symbol) → e.st_info / 16 ≤ 2 → is_global_or_weak e ≡ false → (e.st_info / 16 == 0) ≡ true
+pub unshared_local : (e : Symbol) → e.st_info / 16 ≤ 2 → is_global_or_weak e ≡ false → (e.st_info / 16 == 0) ≡ true
 unshared_local e low local = grind (arith, nat_tests)
 
-lt_is : (a b : ℕ) → a < b → nat_lt a b ≡ true
+pub lt_is : (a b : ℕ) → a < b → nat_lt a b ≡ true
 lt_is a b less = grind (arith, nat_tests)
 
 not_lt : (a b : ℕ) → a ≡ b → nat_lt a b ≡ false

@@ -1,5 +1,6 @@
 pub mod Blocks
 pub mod Defined
+pub mod Left
 pub mod Meaning
 pub mod Offered
 pub mod Outputs

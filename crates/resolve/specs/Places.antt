@@ -1,5 +1,5 @@
 -- Indices among the definitions: for each name that has a number, where its definition is.
-use Rattle.std.specs.Prelude.{◌≡◌, ℕ, List, Option, option_map}
+use Rattle.std.specs.Prelude.{◌≡◌, ℕ, Bool, is_none, List, Option, option_map}
 use Rattle.std.specs.List.{position, slice_get}
 use Rattle.std.specs.Option.{option_and_then}
 use Rattle.std.specs.Str.{bytes_eq}
@@ -23,6 +23,10 @@ at_place definitions place = option_map symbol_view (slice_get definitions place
 -- what stands at a place, if there is one
 abbrev pub at_some : List code.SymbolOf → Option ℕ → Option SymbolOf
 at_some definitions place = option_map symbol_view (option_and_then (λ p. slice_get definitions p) place)
+
+-- no definition stands where the indices say for a number
+abbrev pub is_unplaced : List code.SymbolOf → List ℕ → ℕ → Bool
+is_unplaced definitions places number = is_none (option_and_then (λ p. slice_get definitions p) (slice_get places number))
 
 -- the symbol that has an object's and its own number; None where there is none
 abbrev pub symbol_numbered : List LoadedObject → ℕ → ℕ → Option SymbolOf

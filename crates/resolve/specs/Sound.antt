@@ -1,11 +1,23 @@
--- Where a symbol stands.
-use Rattle.std.specs.Prelude.{ℕ, List, Option, None, cond}
+-- Where a symbol stands, and symbols that are sound as common ones and as any.
+use Rattle.std.specs.Prelude.{ℕ, List, Option, None, All, cond}
 use Rattle.std.specs.List.{slice_get}
 use Rattle.elf_model.specs.Loading.{LoadedObject}
-use Rattle.elf_model.specs.Resolution.{is_undefined, sections_of_object}
+use Rattle.elf_model.specs.Resolution.{AreSoundCommons, AreSoundSymbols, IsSoundCommon, IsSoundSymbol, SymbolOf, all_symbols, is_undefined, sections_of_object}
 use Rattle.elf_model.specs.declared.records.SectionHeader.{SectionHeader}
 use Rattle.elf_model.specs.declared.records.Symbol.{Symbol}
 
 -- the section in which a symbol of an object is defined, by its entry
 abbrev pub section_by : List LoadedObject → ℕ → Symbol → Option SectionHeader
 section_by objects object s = cond (is_undefined s) None (slice_get (sections_of_object (slice_get objects object)) s.st_shndx)
+
+-- a symbol is sound, as a common one too; and all of the objects are
+abbrev pub IsWhollySound : List LoadedObject → SymbolOf → Type 0
+IsWhollySound objects s = IsSoundSymbol objects s × IsSoundCommon s
+
+abbrev pub AreWhollySound : List LoadedObject → Type 0
+AreWhollySound objects = All (IsWhollySound objects) (all_symbols objects)
+
+-- the symbols of objects are sound
+pub record HasOnlySound (objects : List LoadedObject) : Type 0 where
+  pub commons : AreSoundCommons objects
+  pub sound : AreSoundSymbols objects

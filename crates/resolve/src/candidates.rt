@@ -1,9 +1,10 @@
 //! Definitions as candidates for their names, and which of them their names mean.
 ghost use Rattle.std.specs.Prelude.{◌≡◌, ◌≤◌, IfNone, IfSome, OnOk, count_by, filter};
+ghost use Rattle.std.specs.List.{list_any};
 ghost use Rattle.elf_model.specs.Resolution.{is_common_definition};
 ghost use Rattle.resolve.specs.Defined.{HasNoStrongTwins, is_strong_of};
 ghost use Rattle.resolve.specs.Offered.{candidate_of, is_meant, kind_of, offers_of, rows_of};
-ghost use Rattle.resolve.specs.Owned.{AreOwnersOf, is_owned_twice, is_owner, is_strong_or_owner};
+ghost use Rattle.resolve.specs.Owned.{AreOwnersOf, is_owned_twice, is_owner, is_strong_or_owner, is_twice};
 ghost use Rattle.resolve.specs.Views.{symbol_view, symbol_views};
 ghost use Rattle.symbols.specs.Offers.{all_offered};
 
@@ -94,7 +95,14 @@ pub fn keep_meant<'a>(loaded: &Loaded<'a>, owners: &[Owner], definitions: &mut V
     );
 }
 
-/// The first name among definitions that two strong ones have.
+/// Whether a name has two strong definitions.
+fn has_twins(owners: &[Owner]) -> bool
+    ensures { result ≡ list_any is_twice owners.now }
+{
+    owners.iter().any(|owner| owner.is_twice())
+}
+
+/// The first name among definitions that two strong ones have. Where no owner tells of two, no definition is looked at.
 pub fn first_twin<'a>(
     loaded: &Loaded<'a>,
     owners: &[Owner],
@@ -105,6 +113,9 @@ pub fn first_twin<'a>(
         2 ≤ count_by (is_strong_of name.now) (symbol_views definitions.now)) }
     ensures none { IfNone result (HasNoStrongTwins (symbol_views definitions.now)) }
 {
+    if !has_twins(owners) {
+        return None;
+    }
     for symbol in definitions {
         if is_twin(loaded, owners, symbol) {
             return Some(symbol.name);

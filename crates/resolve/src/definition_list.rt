@@ -1,72 +1,119 @@
 //! The definitions of names: sound, in load order, each name with one.
-ghost use Rattle.std.specs.Prelude.{◌≡◌, ◌++◌, IfErr, IfOk, OnOk, filter};
-ghost use Rattle.elf_model.specs.ObjectFile.{symbols};
+ghost use Rattle.std.specs.Prelude.{◌≡◌, ◌++◌, IfErr, IfOk, OnOk, Some, [], filter, unwrap_or};
+ghost use Rattle.std.specs.List.{slice_get};
+ghost use Rattle.elf_model.specs.ObjectFile.{symbol_name, symbols};
 ghost use Rattle.elf_model.specs.ChosenSymbols.{definitions, is_definition};
 ghost use Rattle.elf_model.specs.Commons.{blocks};
-ghost use Rattle.elf_model.specs.Resolution.{symbols_from};
+ghost use Rattle.elf_model.specs.Loading as loading;
+ghost use Rattle.elf_model.specs.Resolution.{symbol_of, symbols_from};
 ghost use Rattle.search.specs.Views.{loaded_view, loaded_views};
 ghost use Rattle.resolve.specs.Blocks.{block_views};
 ghost use Rattle.resolve.specs.Defined.{AreDefinitions};
 ghost use Rattle.resolve.specs.Refusals.{IsDuplicateOf, ResolvingFails};
-ghost use Rattle.resolve.specs.Views.{symbol_views};
+ghost use Rattle.resolve.specs.Sound.{HasOnlySound};
+ghost use Rattle.resolve.specs.Views.{symbol_view, symbol_views};
 ghost use Rattle.symbols.specs.Rows.{no_rows};
 
 use crate::blocks::{Block, blocks_of};
 use crate::candidates::{first_twin, keep_meant, offer_commons};
-use crate::entries::{SymbolOf, is_definition, is_dropped, symbol_in};
+use crate::entries::{SymbolOf, is_definition, is_dropped};
 use crate::faults::ResolveFault;
 use crate::owners::owners_of;
-use crate::soundness::{are_sound, are_sound_commons};
+use crate::soundness::{are_sound, are_sound_commons, are_wholly_sound};
+use elf_model::{ObjectId, Symbol, SymbolRef};
 use search::{Loaded, LoadedObject};
 use std::alloc::{AllocError, Global};
 use symbols::NameTable;
 
+/// The name of symbol `j` of object `number`, as its number tells it where it has one: so it isn't read again.
+fn name_of<'a>(loaded: &Loaded<'a>, number: u64, own: &LoadedObject<'a>, j: usize) -> &'a [u8]
+    requires { slice_get loaded.now.objects number ≡ Some (loaded_view own.now) }
+    ensures { result.now ≡ unwrap_or (symbol_name own.now.object j) [] }
+{
+    let _named = loaded.name_count();
+    let symbol = SymbolRef {
+        object: ObjectId(number),
+        symbol: j as u64,
+    };
+    match loaded.name_number(symbol) {
+        Some(named) => loaded.name(named),
+        None => own.object.symbol_name(j),
+    }
+}
+
+/// Symbol `j` of object `number`, which has the entry, as one of the definitions.
+fn definition_in<'a>(
+    loaded: &Loaded<'a>,
+    number: u64,
+    own: &LoadedObject<'a>,
+    j: usize,
+    entry: &Symbol,
+    dropped: bool,
+) -> SymbolOf<'a>
+    requires here { slice_get loaded.now.objects number ≡ Some (loaded_view own.now) }
+    requires dropped { dropped ≡ loading.is_dropped (loaded_view own.now) entry.now.st_shndx }
+    ensures { symbol_view result ≡ symbol_of number (loaded_view own.now) j entry.now }
+{
+    SymbolOf {
+        object: number,
+        number: j as u64,
+        name: name_of(loaded, number, own, j),
+        entry: *entry,
+        dropped,
+    }
+}
+
 /// Adds the definitions of object `number`.
 fn add_definitions<'a>(
     found: &mut Vec<SymbolOf<'a>>,
+    loaded: &Loaded<'a>,
     number: u64,
-    loaded: &LoadedObject<'a>,
+    own: &LoadedObject<'a>,
 ) -> Result<(), AllocError>
+    requires { slice_get loaded.now.objects number ≡ Some (loaded_view own.now) }
     ensures { OnOk result (symbol_views found.new.items
         ≡ symbol_views found.old.items
         ++ filter is_definition
-        (symbols_from number (loaded_view loaded.now) 0 (symbols loaded.now.object))) }
+        (symbols_from number (loaded_view own.now) 0 (symbols own.now.object))) }
 {
-    let entries = loaded.object.symbols();
-    for (j, entry) in entries.iter().enumerate() {
-        if is_definition(entry, is_dropped(loaded, entry)) {
-            found.push(symbol_in(number, loaded, j, entry))?;
+    let entries = own.object.symbols();
+    for j in 0..entries.len() {
+        let entry = entries.at(j);
+        let dropped = is_dropped(own, &entry);
+        if is_definition(&entry, dropped) {
+            found.push(definition_in(loaded, number, own, j, &entry, dropped))?;
         }
     }
     Ok(())
 }
 
-/// How many definitions the objects have, as far as it can be counted: for so many there is to be room.
-fn definition_count(objects: &[LoadedObject<'_>]) -> usize {
-    let mut count: usize = 0;
-    for loaded in objects {
-        for entry in loaded.object.symbols() {
-            count = count.saturating_add(usize::from(is_definition(
-                entry,
-                is_dropped(loaded, entry),
-            )));
-        }
-    }
-    count
-}
-
-/// The definitions of all objects, strong, common and weak, in load order.
-pub fn definitions<'a>(
-    alloc: Global,
-    objects: &[LoadedObject<'a>],
-) -> Result<Vec<SymbolOf<'a>>, AllocError>
-    ensures { IfOk result (λ v. symbol_views v.items ≡ definitions (loaded_views objects.now)) }
+/// The definitions of all objects, strong, common and weak, in load order. There is room for one of each name.
+pub fn definitions<'a>(alloc: Global, loaded: &Loaded<'a>) -> Result<Vec<SymbolOf<'a>>, AllocError>
+    ensures { IfOk result (λ v. symbol_views v.items ≡ definitions loaded.now.objects) }
 {
-    let mut found = Vec::with_capacity(alloc, definition_count(objects))?;
-    for (k, loaded) in objects.iter().enumerate() {
-        add_definitions(&mut found, k as u64, loaded)?;
+    let objects = loaded.objects();
+    let mut found = Vec::with_capacity(alloc, loaded.name_count())?;
+    for (k, own) in objects.iter().enumerate() {
+        add_definitions(&mut found, loaded, k as u64, own)?;
     }
     Ok(found)
+}
+
+/// Judges the symbols of objects in one walk. Only where one isn't sound it is asked whether that is a common one.
+fn judge_symbols(objects: &[LoadedObject<'_>]) -> Result<(), ResolveFault>
+    ensures sound { OnOk result (HasOnlySound (loaded_views objects.now)) }
+    ensures fault { IfErr result (ResolvingFails (loaded_views objects.now)) }
+{
+    if are_wholly_sound(objects) {
+        return Ok(());
+    }
+    if !are_sound_commons(objects) {
+        return Err(ResolveFault::BadCommon);
+    }
+    if !are_sound(objects) {
+        return Err(ResolveFault::BadSymbol);
+    }
+    Ok(())
 }
 
 /// The refusal for a name with two strong definitions.
@@ -100,13 +147,8 @@ pub fn define<'a, T: NameTable<'a>>(
     ensures fault { IfErr result (ResolvingFails loaded.now.objects) }
 {
     let objects = loaded.objects();
-    if !are_sound_commons(objects) {
-        return Err(ResolveFault::BadCommon);
-    }
-    if !are_sound(objects) {
-        return Err(ResolveFault::BadSymbol);
-    }
-    let mut found = definitions(alloc, objects)?;
+    judge_symbols(objects)?;
+    let mut found = definitions(alloc, loaded)?;
     let owners = owners_of(alloc, loaded, &found)?;
     if let Some(name) = first_twin(loaded, &owners, &found) {
         return Err(duplicate(alloc, name));

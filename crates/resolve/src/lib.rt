@@ -12,6 +12,7 @@ mod definition;
 mod definition_list;
 mod entries;
 mod faults;
+mod linker_names;
 mod output_names;
 mod outputs;
 mod owners;

@@ -69,8 +69,9 @@ fn add_object<'a>(
 {
     let _number = number;
     let headers = loaded.object.sections();
-    for (i, header) in headers.iter().enumerate() {
-        add_section(names, loaded, i, header)?;
+    for i in 0..headers.len() {
+        let header = headers.at(i);
+        add_section(names, loaded, i, &header)?;
     }
     Ok(())
 }

@@ -1,7 +1,7 @@
 //! The index of each name's definition among the definitions, by the name's number.
 ghost use Rattle.std.specs.Prelude.{◌≡◌, ◌<◌, IfOk, length, set};
 ghost use Rattle.resolve.specs.Defined.{AreDefinitions};
-ghost use Rattle.resolve.specs.Places.{ArePlaces, place_at, place_named};
+ghost use Rattle.resolve.specs.Places.{ArePlaces, is_unplaced, place_at, place_named};
 
 use crate::entries::SymbolOf;
 use crate::owners::number_of_name;
@@ -26,6 +26,16 @@ pub fn place_named(loaded: &Loaded<'_>, places: &[usize], name: &[u8]) -> Option
 {
     let number = loaded.find_name(name)?;
     places.get(number).copied()
+}
+
+/// Whether no definition stands where the indices say for the name that has a number.
+pub fn is_unplaced(definitions: &[SymbolOf<'_>], places: &[usize], number: usize) -> bool
+    ensures { result ≡ is_unplaced definitions.now places.now number }
+{
+    match places.get(number) {
+        Some(place) => definitions.get(*place).is_none(),
+        None => true,
+    }
 }
 
 /// Writes the index of a definition for the number of its name.

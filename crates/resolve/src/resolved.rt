@@ -11,6 +11,7 @@ ghost use Rattle.elf_model.specs.Slots.{target_meaning};
 ghost use Rattle.search.specs.Views.{loaded_view};
 ghost use Rattle.resolve.specs.Blocks.{block_in, block_view, block_views};
 ghost use Rattle.resolve.specs.Defined.{AreDefinitions};
+ghost use Rattle.resolve.specs.Left.{HasNoLinkerNames, HasNoneLeft};
 ghost use Rattle.resolve.specs.Meaning.{chosen_definition, definition_at, itself_at, named_at, target_at, unchosen_at};
 ghost use Rattle.resolve.specs.Refusals.{ResolvingFails};
 ghost use Rattle.resolve.specs.Threads.{is_thread_chosen};
@@ -23,6 +24,7 @@ use crate::definition::Definition;
 use crate::definition_list::define;
 use crate::entries::{SymbolOf, symbol_in};
 use crate::faults::ResolveFault;
+use crate::linker_names::any_linkers;
 use crate::outputs::output_names_of;
 use crate::places::{place_at, place_named, places_of};
 use crate::sections::is_in_thread_section;
@@ -263,6 +265,28 @@ impl<'a> Resolved<'a> {
         self.threads.get(place).copied()
     }
 
+    /// Whether symbols that aren't LOCAL may have a name that no object defines. Where it is false, none has it.
+    pub fn is_left(&self, name: &[u8]) -> bool
+        ensures { result ≡ false → HasNoneLeft self.now name.now }
+    {
+        let _objects = self.loaded.objects();
+        let _named = self.loaded.name_count();
+        match self.loaded.find_name(name) {
+            Some(_number) => self.symbol(name).is_none(),
+            None => false,
+        }
+    }
+
+    /// Whether a name that a symbol may have, which isn't LOCAL, is one that the linker defines and no object does. Where it
+    /// is false, no symbol has such a name. Reads names that no object defines, and no others.
+    pub fn has_linker_names(&self) -> bool
+        ensures { result ≡ false → HasNoLinkerNames self.now }
+    {
+        let _objects = self.loaded.objects();
+        let _named = self.loaded.name_count();
+        any_linkers(&self.loaded, &self.definitions, &self.places, &self.outputs)
+    }
+
     /// What the linker itself defines a name as, whether or not an object does.
     pub fn bound(&self, name: &[u8]) -> Option<Bound>
         ensures { result ≡ bound_of self.now name.now }
@@ -284,9 +308,9 @@ impl<'a> Resolved<'a> {
         ensures { option_map meaning_view result ≡ unchosen_at self.now object number }
     {
         let loaded = self.loaded.objects().get(object)?;
-        let entry = loaded.object.symbols().get(number)?;
+        let entry = loaded.object.symbol(number);
         if entry.is_local() {
-            return itself(object as u64, loaded, number, entry);
+            return itself(object as u64, loaded, number, &entry);
         }
         self.linker_meaning(loaded.object.symbol_name(number))
     }
@@ -316,8 +340,8 @@ impl<'a> Resolved<'a> {
     {
         let number = symbol.symbol as usize;
         let loaded = self.loaded.objects().get(symbol.object.0 as usize)?;
-        let entry = loaded.object.symbols().get(number)?;
-        itself(symbol.object.0, loaded, number, entry)
+        let entry = loaded.object.symbol(number);
+        itself(symbol.object.0, loaded, number, &entry)
     }
 
     /// The chosen definition of a target: of a name what its strong, common or weak definition is, or else the linker's; of

@@ -10,16 +10,6 @@ use crate::entries::SymbolOf;
 use elf_model::{SectionHeader, Symbol};
 use search::LoadedObject;
 
-/// The sections of object `number`; none where there is no such object.
-fn sections_at<'b>(objects: &'b [LoadedObject<'_>], number: usize) -> &'b [SectionHeader]
-    ensures { result.now ≡ sections_of_object (slice_get (loaded_views objects.entry.now) number) }
-{
-    match objects.get(number) {
-        Some(loaded) => loaded.object.sections(),
-        None => &[],
-    }
-}
-
 /// The section in which a symbol of object `number` is defined; None where it is undefined,
 /// absolute or common.
 pub fn section_of(
@@ -32,8 +22,8 @@ pub fn section_of(
     if entry.is_undefined() {
         return None;
     }
-    let sections = sections_at(objects, number);
-    sections.get(entry.st_shndx as usize).copied()
+    let loaded = objects.get(number)?;
+    loaded.object.sections().get(entry.st_shndx as usize)
 }
 
 /// Whether a symbol stands in a section with SHF_TLS.

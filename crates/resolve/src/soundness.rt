@@ -4,6 +4,7 @@ ghost use Rattle.std.specs.Int.{IsPowerOfTwo};
 ghost use Rattle.elf_model.specs.ObjectFile.{symbols};
 ghost use Rattle.elf_model.specs.Resolution.{AreSoundCommons, AreSoundSymbols, IsSoundCommon, IsSoundSymbol, StandsWell, binding, symbol_of, symbols_from};
 ghost use Rattle.search.specs.Views.{loaded_view, loaded_views};
+ghost use Rattle.resolve.specs.Sound.{AreWhollySound, IsWhollySound};
 
 use crate::entries::is_dropped;
 use crate::sections::section_of;
@@ -58,8 +59,9 @@ fn has_sound_symbols(objects: &[LoadedObject<'_>], number: u64, loaded: &LoadedO
         (symbols_from number (loaded_view loaded.now) 0 (symbols loaded.now.object)) }
 {
     let entries = loaded.object.symbols();
-    for (j, entry) in entries.iter().enumerate() {
-        if !is_sound(objects, number, loaded, j, entry) {
+    for j in 0..entries.len() {
+        let entry = entries.at(j);
+        if !is_sound(objects, number, loaded, j, &entry) {
             return false;
         }
     }
@@ -109,8 +111,9 @@ fn has_sound_commons(number: u64, loaded: &LoadedObject<'_>) -> bool
         (symbols_from number (loaded_view loaded.now) 0 (symbols loaded.now.object)) }
 {
     let entries = loaded.object.symbols();
-    for (j, entry) in entries.iter().enumerate() {
-        if !is_sound_common(number, loaded, j, entry) {
+    for j in 0..entries.len() {
+        let entry = entries.at(j);
+        if !is_sound_common(number, loaded, j, &entry) {
             return false;
         }
     }
@@ -123,6 +126,47 @@ pub fn are_sound_commons(objects: &[LoadedObject<'_>]) -> bool
 {
     for (k, loaded) in objects.iter().enumerate() {
         if !has_sound_commons(k as u64, loaded) {
+            return false;
+        }
+    }
+    true
+}
+
+/// Whether symbol `j` of object `number` is sound, as a common one and as any.
+fn is_wholly_sound(
+    objects: &[LoadedObject<'_>],
+    number: u64,
+    loaded: &LoadedObject<'_>,
+    j: usize,
+    entry: &Symbol,
+) -> bool
+    ensures { IsTrue result ↔ IsWhollySound (loaded_views objects.now)
+        (symbol_of number (loaded_view loaded.now) j entry.now) }
+{
+    is_sound(objects, number, loaded, j, entry) && is_sound_common(number, loaded, j, entry)
+}
+
+/// Whether the symbols of object `number` are sound, its common ones too.
+fn has_wholly_sound(objects: &[LoadedObject<'_>], number: u64, loaded: &LoadedObject<'_>) -> bool
+    ensures { IsTrue result ↔ All (IsWhollySound (loaded_views objects.now))
+        (symbols_from number (loaded_view loaded.now) 0 (symbols loaded.now.object)) }
+{
+    let entries = loaded.object.symbols();
+    for j in 0..entries.len() {
+        let entry = entries.at(j);
+        if !is_wholly_sound(objects, number, loaded, j, &entry) {
+            return false;
+        }
+    }
+    true
+}
+
+/// Whether all symbols of the objects are sound, the common ones too: both are told in one walk over them.
+pub fn are_wholly_sound(objects: &[LoadedObject<'_>]) -> bool
+    ensures { IsTrue result ↔ AreWhollySound (loaded_views objects.now) }
+{
+    for (k, loaded) in objects.iter().enumerate() {
+        if !has_wholly_sound(objects, k as u64, loaded) {
             return false;
         }
     }

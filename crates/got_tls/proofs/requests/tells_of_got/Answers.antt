@@ -11,6 +11,6 @@ loop-j-preserved c =
 
 pub returns : goal.returns
 returns c =
-    let there = ap (λ (ss : List Symbol). length ss) c.symbols-j-end.ensures in
+    let there = c.len-j-end.ensures ∙ ap (λ (ss : List Symbol). length ss) c.symbols.ensures in
     let end = c.loop-j-test.false in
     λ e. none_at_all (names_got c.args.resolved.now) c.args.number (loaded_view c.args.loaded.now) (λ j. refl) c.loop-j.j (omega (arith, there, end)) c.loop-j.invariant

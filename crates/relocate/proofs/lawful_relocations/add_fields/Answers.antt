@@ -1,7 +1,9 @@
 use Rattle.std.proofs.Common.{◌∷◌, [], sym, ◌∙◌, arith}
 use Rattle.std.proofs.lemmas.Result.{err_from_is_err_and}
 use Rattle.elf_read.proofs.RunSteps.{run_more}
-use Rattle.relocate.specs.SymbolTables.{referring}
+use Rattle.got_tls.specs.Views.{wants}
+use Rattle.got_tls.proofs.AskedOnce.{taken}
+use Rattle.relocate.specs.SymbolTables.{all_of, referring}
 use Rattle.relocate.proofs.Judged.{exit_fails, fail_first, leaves_fail, leaves_one}
 use Rattle.elf_model.proofs.Mapped.{push_mapped}
 use Rattle.relocate.specs.Fields.{field_of}
@@ -24,5 +26,8 @@ loop-i-preserved c =
       fields =
           push_mapped field_of c.loop-i.fields.items c.push.new.self.items c.in_ok-field.field _ _ _ _ c.in_ok-push.ensures.items
           c.in_ok-field.ensures.field parts c.loop-i.invariant.fields;
+      asked =
+          taken (all_of c.args.referrer.now) (wants c.loop-i.asked) (wants c.note_request.new.asked) _ (_ ∷ []) _ _ c.in_ok-note_request.ensures parts
+          c.loop-i.invariant.asked;
       leaves = leaves_one _ _ _ _ _ parts c.in_ok-field.ensures.lawful c.loop-i.invariant.leaves;
     }

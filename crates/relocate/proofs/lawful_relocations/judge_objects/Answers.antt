@@ -1,4 +1,4 @@
-use Rattle.std.proofs.Common.{◌+◌, ◌∙◌, List, Some, ap, drop, map, option_map, subst, sym}
+use Rattle.std.proofs.Common.{◌≡◌, ◌+◌, ◌∙◌, List, Some, ap, drop, map, option_map, subst, sym}
 use Rattle.std.specs.List.{slice_get}
 use Rattle.std.proofs.lemmas.Option.{slice_get-get_or, slice_get-map}
 use Rattle.search.specs.declared.loaded.LoadedObject as code
@@ -10,6 +10,9 @@ use Rattle.search.specs.Views.{loaded_view, loaded_views}
 use Rattle.relocate.proofs.Judged.{exit_fails, remains_fail, remains_part}
 use Rattle.elf_model.proofs.RelocationFields.{objects_apart}
 use Rattle.got_tls.proofs.LoadedObjects.{next_relocations}
+use Rattle.got_tls.specs.Asking.{nothing, with_relocations}
+use Rattle.got_tls.specs.Views.{wants}
+use Rattle.got_tls.proofs.AskedOnce.{taken}
 use Rattle.relocate.specs.References.{AreLawful, RelocationsFail}
 use Rattle.relocate.proofs.lawful_relocations.judge_objects.Goals as goal
 
@@ -24,7 +27,7 @@ returns-in_err-judge_object-clause-fault c =
     (remains_fail L (relocations L) (left_of_objects loaded_view xs k) (relocations_from k o) (left_of_objects loaded_view xs (k + 1)) e
     (next_relocations xs k c.index-objects-k.result c.loop-k-test.true c.index-objects-k.is)
     (subst (λ (os : List LoadedObject). RelocationsFail os (relocations_from k o) e) c.requires c.in_err-judge_object.ensures.fault)
-    c.loop-k.invariant)
+    c.loop-k.invariant.remains)
 
 pub loop-k-preserved : goal.loop-k-preserved
 loop-k-preserved c =
@@ -32,10 +35,18 @@ loop-k-preserved c =
     let L = loaded_views xs in
     let k = c.loop-k.k in
     let o = loaded_view c.index-objects-k.result in
-    remains_part L (relocations L) (left_of_objects loaded_view xs k) (relocations_from k o) (left_of_objects loaded_view xs (k + 1))
-    (next_relocations xs k c.index-objects-k.result c.loop-k-test.true c.index-objects-k.is)
-    (subst (λ (os : List LoadedObject). AreLawful os (relocations_from k o)) c.requires c.in_ok-judge_object.ensures.lawful)
-    (objects_apart k o (map loaded_view (drop (k + 1) xs))) c.loop-k.invariant
+    let parts = next_relocations xs k c.index-objects-k.result c.loop-k-test.true c.index-objects-k.is in
+    record {
+      asked =
+          taken L (wants c.loop-k.asked) (wants c.judge_object.new.asked) (with_relocations L nothing (relocations L)) (relocations_from k o)
+          (left_of_objects loaded_view xs (k + 1)) (left_of_objects loaded_view xs k)
+          (subst (λ (os : List LoadedObject). wants c.judge_object.new.asked ≡ with_relocations os (wants c.loop-k.asked) (relocations_from k o)) c.requires c.in_ok-judge_object.ensures.asked)
+          parts c.loop-k.invariant.asked;
+      remains =
+          remains_part L (relocations L) (left_of_objects loaded_view xs k) (relocations_from k o) (left_of_objects loaded_view xs (k + 1)) parts
+          (subst (λ (os : List LoadedObject). AreLawful os (relocations_from k o)) c.requires c.in_ok-judge_object.ensures.lawful)
+          (objects_apart k o (map loaded_view (drop (k + 1) xs))) c.loop-k.invariant.remains;
+    }
 
 pub judge_object-requires-clause-here : goal.judge_object-requires-clause-here
 judge_object-requires-clause-here c =

@@ -8,5 +8,5 @@ use Rattle.resolve.proofs.definition_list.add_definitions.Given as goal
 
 abbrev pub invariant-loop-j : goal.invariant-loop-j
 invariant-loop-j l =
-    symbol_views l.found.items ++ filter is_definition (symbols_from l.number (loaded_view l.loaded) l.j (drop l.j l.entries))
-    ≡ symbol_views l.fn.found.items ++ filter is_definition (symbols_from l.number (loaded_view l.loaded) 0 l.entries)
+    symbol_views l.found.items ++ filter is_definition (symbols_from l.number (loaded_view l.own) l.j (drop l.j l.entries))
+    ≡ symbol_views l.fn.found.items ++ filter is_definition (symbols_from l.number (loaded_view l.own) 0 l.entries)

@@ -1,4 +1,4 @@
-use Rattle.std.proofs.Common.{List, subst, false}
+use Rattle.std.proofs.Common.{List, subst, false, ap, sym, ◌∙◌, ◌<◌}
 use Rattle.std.specs.Prelude.{◌↔◌, All, IsTrue}
 use Rattle.elf_model.specs.ObjectFile.{null_symbol}
 use Rattle.elf_model.specs.Resolution.{IsSoundSymbol, symbols_from}
@@ -11,13 +11,13 @@ pub returns-then-not-is_sound : goal.returns-then-not-is_sound
 returns-then-not-is_sound c =
     let L = loaded_views c.args.objects.now in
     subst (λ (es : List Symbol). IsTrue false ↔ All (IsSoundSymbol L) (symbols_from c.args.number (loaded_view c.args.loaded.now) 0 es)) c.symbols-entries.ensures
-    (sound_stop (IsSoundSymbol L) c.args.number (loaded_view c.args.loaded.now) c.symbols-entries.result.now c.loop-j.j null_symbol c.loop-j-test.true
-    c.is_sound.result c.is_sound.ensures
+    (sound_stop (IsSoundSymbol L) c.args.number (loaded_view c.args.loaded.now) c.symbols-entries.result.now c.loop-j.j null_symbol (subst (λ n. c.loop-j.j < n) c.len-j-end.ensures c.loop-j-test.true)
+    c.is_sound.result (rw c.at-entry.ensures at c.is_sound.ensures)
     (All (IsSoundSymbol L) (symbols_from c.args.number (loaded_view c.args.loaded.now) 0 c.symbols-entries.result.now)) c.loop-j.invariant c.if-not-is_sound.true)
 
 pub loop-j-preserved : goal.loop-j-preserved
 loop-j-preserved c =
     let L = loaded_views c.args.objects.now in
-    sound_more (IsSoundSymbol L) c.args.number (loaded_view c.args.loaded.now) c.symbols-entries.result.now c.loop-j.j null_symbol c.loop-j-test.true
-    c.is_sound.result c.is_sound.ensures
+    sound_more (IsSoundSymbol L) c.args.number (loaded_view c.args.loaded.now) c.symbols-entries.result.now c.loop-j.j null_symbol (subst (λ n. c.loop-j.j < n) c.len-j-end.ensures c.loop-j-test.true)
+    c.is_sound.result (rw c.at-entry.ensures at c.is_sound.ensures)
     (All (IsSoundSymbol L) (symbols_from c.args.number (loaded_view c.args.loaded.now) 0 c.symbols-entries.result.now)) c.loop-j.invariant c.if-not-is_sound.false
