@@ -9,6 +9,7 @@ pub mod PieceLemmas
 pub mod PlaceKeys
 pub mod PlaceSteps
 pub mod Positions
+pub mod RequestSteps
 pub mod SameOutput
 pub mod SameRequest
 pub mod SeenOutputs

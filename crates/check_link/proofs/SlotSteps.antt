@@ -1,10 +1,8 @@
--- One slot line more in a table of slots, and one request more in a set.
+-- One slot line more in a table of slots, and one request more in an ordered table.
 use Rattle.std.proofs.Common.{◌≡◌, ℕ, ◌+◌, ◌<◌, ◌≤◌, ◌&&◌, ◌||◌, Bool, true, false, not, cond, List, [], ◌∷◌, Option, Some, None, drop, get_or, length, refl, sym, ◌∙◌, ap}
 use Rattle.std.specs.Prelude.{find, is_some, map, option_map}
 use Rattle.std.specs.BTreeMap.{BTreeMap, Updates, get, get_by}
 use Rattle.std.specs.declared.cmp.Ordering.{Ordering}
-use Rattle.std.specs.BTreeSet as set
-use Rattle.std.specs.BTreeSet.{BTreeSet}
 use Rattle.std.specs.List.{list_any}
 use Rattle.std.specs.Option.{option_map_or, option_or}
 use Rattle.std.specs.Ordering.{is_eq}
@@ -14,17 +12,15 @@ use Rattle.elf_model.specs.MapRecord.{SlotRow, slot_row}
 use Rattle.elf_model.specs.Slots.{Request, is_slot_of, row_request, same_request}
 use Rattle.elf_model.specs.declared.link_map.SlotLine.{SlotLine}
 use Rattle.elf_model.proofs.Rests.{rest_at}
-use Rattle.check_link.specs.Slots.{address_in, are_fresh, has_in, is_asked, key_of, request_order, request_view}
+use Rattle.check_link.specs.Slots.{are_fresh, has_in, in_table, key_of, number_in, request_order, request_view}
+use Rattle.check_link.specs.declared.request_map.RequestMap.{RequestMap}
 use Rattle.check_link.specs.declared.requests.Request as code
 use Rattle.elf_model.proofs.SameRequests.{requests_equal, same_sym}
 use Rattle.check_link.proofs.SameRequest.{ordered_alike, tied, view_of_key}
 
 -- what a table has for a request, as the code has it
-pub get_is : (table : BTreeMap code.Request ℕ) (k : code.Request) → address_in table (request_view k) ≡ get request_order table k
+pub get_is : (table : BTreeMap code.Request ℕ) (k : code.Request) → in_table table (request_view k) ≡ get request_order table k
 get_is table k = ap (λ (order : code.Request → Ordering). get_by order table) (ordered_alike k)
-
-pub asked_is : (asked : BTreeSet code.Request) (k : code.Request) → is_asked asked (request_view k) ≡ set.contains request_order asked k
-asked_is asked k = ap (λ (order : code.Request → Ordering). set.contains_by order asked) (ordered_alike k)
 
 pub tied_key : (k : code.Request) (q : Request) → is_eq (request_order k (key_of q)) ≡ same_request q (request_view k)
 tied_key k q = tied k (key_of q) ∙ ap (λ (r : Request). same_request (request_view k) r) (view_of_key q) ∙ same_sym (request_view k) q
@@ -42,12 +38,12 @@ none_of (Some x) e = absurd (cc)
 pub slot_added :
     (old new : BTreeMap code.Request ℕ) (k : code.Request) (at : ℕ) (r : Request) → request_view k ≡ r →
     is_some (get request_order old k) ≡ false → Updates request_order old new k (Some at) → (q : Request) →
-    address_in new q ≡ option_or (address_in old q) (cond (same_request q r) (Some at) None)
+    in_table new q ≡ option_or (in_table old q) (cond (same_request q r) (Some at) None)
 slot_added old new k at r is lacks updates q =
-    put (address_in old q) (address_in new q) (same_request q r) at
-    (updates.0 (key_of q) ∙ ap (λ b. cond b (Some at) (address_in old q)) (tied_key k q ∙ ap (same_request q) is))
+    put (in_table old q) (in_table new q) (same_request q r) at
+    (updates.0 (key_of q) ∙ ap (λ b. cond b (Some at) (in_table old q)) (tied_key k q ∙ ap (same_request q) is))
     (λ same.
-    ap (address_in old) (requests_equal q r same ∙ sym is) ∙ get_is old k ∙ none_of (get request_order old k) lacks)
+    ap (in_table old) (requests_equal q r same ∙ sym is) ∙ get_is old k ∙ none_of (get request_order old k) lacks)
 
 -- a request that is there already changes nothing
 kept : (old : Option ℕ) (same : Bool) (at : ℕ) → (same ≡ true → is_some old ≡ true) → old ≡ option_or old (cond same (Some at) None)
@@ -58,10 +54,10 @@ kept None true at there = absurd (let e = there refl in cc)
 pub slot_there :
     (old : BTreeMap code.Request ℕ) (k : code.Request) (at : ℕ) (r : Request) → request_view k ≡ r →
     is_some (get request_order old k) ≡ true → (q : Request) →
-    address_in old q ≡ option_or (address_in old q) (cond (same_request q r) (Some at) None)
+    in_table old q ≡ option_or (in_table old q) (cond (same_request q r) (Some at) None)
 slot_there old k at r is has q =
-    kept (address_in old q) (same_request q r) at
-    (λ same. ap (λ (s : Request). is_some (address_in old s)) (requests_equal q r same ∙ sym is) ∙ ap (λ (o : Option ℕ). is_some o) (get_is old k) ∙ has)
+    kept (in_table old q) (same_request q r) at
+    (λ same. ap (λ (s : Request). is_some (in_table old s)) (requests_equal q r same ∙ sym is) ∙ ap (λ (o : Option ℕ). is_some o) (get_is old k) ∙ has)
 
 -- The table with one line more.
 first_more :
@@ -81,7 +77,7 @@ and_assoc : (a b c : Bool) → ((a && b) && c) ≡ (a && (b && c))
 and_assoc true b c = refl
 and_assoc false b c = refl
 
-some_or : (o : Option ℕ) (b : Bool) (at : ℕ) → is_some (option_or o (cond b (Some at) None)) ≡ (is_some o || b)
+pub some_or : (o : Option ℕ) (b : Bool) (at : ℕ) → is_some (option_or o (cond b (Some at) None)) ≡ (is_some o || b)
 some_or None true at = refl
 some_or None false at = refl
 some_or (Some x) b at = refl
@@ -93,17 +89,17 @@ module _ (lines : List SlotLine) (i : ℕ) (line : SlotLine) (within : i < lengt
   pub rows_more : rows_from lines i ≡ slot_row line ∷ rows_from lines (i + 1)
   rows_more = ap (map slot_row) (rest_at lines i line within) ∙ ap (λ (l : SlotLine). slot_row l ∷ rows_from lines (i + 1)) (sym read)
 
-  module _ (old new : BTreeMap code.Request ℕ) (grown : (q : Request) → address_in new q ≡ option_or (address_in old q) (cond (is_slot_of q (slot_row line)) (Some line.address) None)) where
+  module _ (old new : RequestMap) (grown : (q : Request) → number_in new q ≡ option_or (number_in old q) (cond (is_slot_of q (slot_row line)) (Some line.address) None)) where
     pub index_more :
         (q : Request) (whole : Option ℕ) →
-        option_or (address_in old q) (option_map (λ r. r.address) (find (is_slot_of q) (rows_from lines i))) ≡ whole →
-        option_or (address_in new q) (option_map (λ r. r.address) (find (is_slot_of q) (rows_from lines (i + 1)))) ≡ whole
+        option_or (number_in old q) (option_map (λ r. r.address) (find (is_slot_of q) (rows_from lines i))) ≡ whole →
+        option_or (number_in new q) (option_map (λ r. r.address) (find (is_slot_of q) (rows_from lines (i + 1)))) ≡ whole
     index_more q whole all =
-        first_more (is_slot_of q) (slot_row line) (rows_from lines (i + 1)) (address_in old q) (address_in new q) whole (grown q)
-        (sym (ap (λ (rs : List SlotRow). option_or (address_in old q) (option_map (λ r. r.address) (find (is_slot_of q) rs))) rows_more) ∙ all)
+        first_more (is_slot_of q) (slot_row line) (rows_from lines (i + 1)) (number_in old q) (number_in new q) whole (grown q)
+        (sym (ap (λ (rs : List SlotRow). option_or (number_in old q) (option_map (λ r. r.address) (find (is_slot_of q) rs))) rows_more) ∙ all)
 
     has_more : has_in new ≡ (λ q. has_in old q || same_request q (row_request (slot_row line)))
-    has_more = λ j q. (ap (λ (o : Option ℕ). is_some o) (grown q) ∙ some_or (address_in old q) (same_request q (row_request (slot_row line))) line.address) j
+    has_more = λ j q. (ap (λ (o : Option ℕ). is_some o) (grown q) ∙ some_or (number_in old q) (same_request q (row_request (slot_row line))) line.address) j
 
     pub distinct_more :
         (distinct fresh whole : Bool) → fresh ≡ not (has_in old (row_request (slot_row line))) →
@@ -117,7 +113,7 @@ module _ (lines : List SlotLine) (i : ℕ) (line : SlotLine) (within : i < lengt
         ∙ sym (ap (λ (rs : List SlotRow). distinct && are_fresh (has_in old) (map row_request rs)) rows_more)
         ∙ all
 
-or_none : (o : Option ℕ) → option_or o None ≡ o
+pub or_none : (o : Option ℕ) → option_or o None ≡ o
 or_none None = refl
 or_none (Some x) = refl
 

@@ -1,5 +1,5 @@
 -- The chosen definitions of names, as an index has their positions in the list of the definitions.
-use Rattle.std.specs.Prelude.{◌≡◌, ℕ, ◌+◌, Bool, false, cond, List, [], ◌∷◌, Option, Some, None, length, slice_get}
+use Rattle.std.specs.Prelude.{◌≡◌, ℕ, ◌+◌, Bool, true, false, cond, List, [], ◌∷◌, Option, Some, None, length, slice_get, slice_index_or}
 use Rattle.std.specs.Option.{option_and_then, option_map_or}
 use Rattle.check_load.specs.NameNumbers.{number_of}
 use Rattle.elf_model.specs.ChosenSymbols.{is_same_symbol}
@@ -31,3 +31,14 @@ is_found index ss s = option_map_or (is_same_symbol s) (definition_in index ss s
 -- an index has for each name its chosen definition
 abbrev pub AreChosen : List LoadedObject → List SymbolOf → Chosen → Type 0
 AreChosen objects ss index = (name : List ℕ) → definition_in index ss name ≡ chosen objects name
+
+-- each position that an index has is that of the chosen one of its own name
+abbrev pub IsOwn : List SymbolOf → Chosen → Type 0
+IsOwn ss index = (n p : ℕ) (s : SymbolOf) → slice_get index.positions.items n ≡ Some p → slice_get ss p ≡ Some s → position_in index s.name ≡ Some p
+
+-- definitions that have a mark are those that an index has for their names; they are the chosen ones of their names
+abbrev pub AreOwnIn : List SymbolOf → Chosen → List Bool → Type 0
+AreOwnIn ss index own = (i : ℕ) (s : SymbolOf) → slice_index_or own i false ≡ true → slice_get ss i ≡ Some s → definition_in index ss s.name ≡ Some s
+
+abbrev pub AreOwnChoices : List LoadedObject → List SymbolOf → List Bool → Type 0
+AreOwnChoices objects ss own = (i : ℕ) (s : SymbolOf) → slice_get own i ≡ Some true → slice_get ss i ≡ Some s → chosen objects s.name ≡ Some s

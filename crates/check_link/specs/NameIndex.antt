@@ -5,7 +5,7 @@ use Rattle.std.specs.BTreeMap.{BTreeMap}
 use Rattle.elf_model.specs.ChosenSymbols.{definitions}
 use Rattle.elf_model.specs.Commons.{block_named, blocks}
 use Rattle.elf_model.specs.Loading.{LoadedObject}
-use Rattle.check_link.specs.Chosen.{AreChosen, IsSized}
+use Rattle.check_link.specs.Chosen.{AreChosen, IsOwn, IsSized}
 use Rattle.check_link.specs.Commons.{block_in}
 use Rattle.check_link.specs.Views.{block_views, symbol_views}
 use Rattle.check_link.specs.declared.chosen_definitions.Chosen.{Chosen}
@@ -21,5 +21,6 @@ pub record AreNames (objects : List LoadedObject) (defined : List things.SymbolO
   pub definitions_are : symbol_views defined ≡ definitions objects
   pub sized : IsSized chosen
   pub chosen_are : AreChosen objects (symbol_views defined) chosen
+  pub own : IsOwn (symbol_views defined) chosen
   pub blocks_are : block_views found ≡ blocks objects
   pub indexed : IsBlockIndex objects index

@@ -120,7 +120,8 @@ pub fn start_of(part: Part, placed: &[Placed<'_>]) -> Option<u64>
 fn with_piece(before: Option<Span>, placed: &Placed<'_>) -> Span
     requires { IsInLimit (placed_view placed.now) }
     ensures start { result.start ≡ least_of placed.now.at (option_map (λ s. s.start) before) }
-    ensures end { result.end ≡ max (unwrap_or (option_map (λ s. s.end) before) 0) (placed.now.at + placed.now.piece.header.sh_size) }
+    ensures end { result.end ≡ max (unwrap_or (option_map (λ s. s.end) before) 0)
+        (placed.now.at + placed.now.piece.header.sh_size) }
 {
     let end = placed.at + placed.piece.header.sh_size;
     match before {

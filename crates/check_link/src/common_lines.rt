@@ -39,7 +39,11 @@ fn add_line<'m>(
     index: &mut BTreeMap<&'m [u8], &'m CommonLine>,
     line: &'m CommonLine,
 ) -> Result<(), AllocError>
-    ensures { OnOk result ((name : List ℕ) → line_in index.new name ≡ option_or (line_in index.old name) (cond (is_common_row_of name (common_row line.entry.now)) (Some (common_row line.entry.now)) None)) }
+    ensures { OnOk result ((name : List ℕ) →
+        line_in index.new name
+        ≡ option_or (line_in index.old name)
+        (cond (is_common_row_of name (common_row line.entry.now))
+        (Some (common_row line.entry.now)) None)) }
 {
     let name = line.name.as_slice();
     if !index.contains_key(name) {
@@ -64,7 +68,8 @@ fn index_lines<'m>(
 
 /// Whether a line, if there is one, says of a block, if there is one, what it is but for its address.
 fn agree(line: Option<&CommonLine>, block: Option<Block<'_>>) -> bool
-    ensures { IsTrue result ↔ (option_map facts_of_common (option_map line_view line.entry) ≡ option_map facts_of_block (option_map block_view block.entry)) }
+    ensures { IsTrue result ↔ (option_map facts_of_common (option_map line_view line.entry)
+        ≡ option_map facts_of_block (option_map block_view block.entry)) }
 {
     match (line, block) {
         (Some(line), Some(block)) => is_line_of(line, &block),
@@ -75,7 +80,8 @@ fn agree(line: Option<&CommonLine>, block: Option<Block<'_>>) -> bool
 
 /// Whether a line says of a block what it is but for its address.
 fn is_line_of(line: &CommonLine, block: &Block<'_>) -> bool
-    ensures { IsTrue result ↔ (facts_of_common (common_row line.now) ≡ facts_of_block (block_view block.now)) }
+    ensures { IsTrue result ↔ (facts_of_common (common_row line.now)
+        ≡ facts_of_block (block_view block.now)) }
 {
     if line.size != block.size || line.align != block.align.max(1) {
         return false;
@@ -124,7 +130,8 @@ impl<'m> CommonLines<'m> {
     }
 
     fn lines_have_blocks(&self, names: &Names<'_, '_>, lines: &[CommonLine]) -> bool
-        ensures { IsTrue result ↔ All (λ line. HasCommonLine self.now names.now line.name.items) lines.now }
+        ensures { IsTrue result ↔ All
+            (λ line. HasCommonLine self.now names.now line.name.items) lines.now }
     {
         for line in lines {
             if !self.has_line(names, &line.name) {
@@ -136,7 +143,8 @@ impl<'m> CommonLines<'m> {
 
     /// Whether each of blocks has its line.
     fn have_lines(&self, names: &Names<'_, '_>, blocks: &[Block<'_>]) -> bool
-        ensures { IsTrue result ↔ All (λ b. HasCommonLine self.now names.now b.name.now) blocks.now }
+        ensures { IsTrue result ↔ All
+            (λ b. HasCommonLine self.now names.now b.name.now) blocks.now }
     {
         for block in blocks {
             if !self.has_line(names, block.name) {

@@ -17,7 +17,7 @@ use crate::definitions::{is_common, is_common_definition};
 use crate::things::{Block, SymbolOf};
 use check_load::Loaded;
 use elf_model::{SHN_COMMON, STB_GLOBAL, STT_TLS, Symbol};
-use elf_read::is_power_of_two;
+use elf_read::{Run, is_power_of_two};
 use std::alloc::{AllocError, Global};
 use std::collections::BTreeMap;
 
@@ -39,17 +39,22 @@ fn is_sound(entry: &Symbol) -> bool
     if entry.st_shndx != SHN_COMMON {
         return true;
     }
-    if entry.st_info / 16 != STB_GLOBAL || entry.st_info % 16 == STT_TLS {
+    if entry.binding() != STB_GLOBAL || entry.symbol_type() == STT_TLS {
         return false;
     }
     is_power_of_two(entry.st_value) && entry.st_value <= GREATEST_ALIGN
 }
 
 /// Whether all common ones among entries are sound.
-fn all_sound(entries: &[Symbol]) -> bool
+fn all_sound(entries: &Run<'_, Symbol>) -> bool
     ensures { IsTrue result ↔ All IsSoundEntry entries.now }
 {
-    entries.iter().all(|entry| is_sound(entry))
+    for j in 0..entries.len() {
+        if !is_sound(&entries.at(j)) {
+            return false;
+        }
+    }
+    true
 }
 
 /// Whether all common symbols of an object are sound.
@@ -73,8 +78,10 @@ pub fn are_sound_commons(objects: &[Loaded<'_>]) -> bool
 
 /// What a name's common symbols ask for, given what those before one asked for.
 fn greater(before: Option<Asked>, entry: &Symbol) -> Asked
-    ensures size { result.size ≡ max (unwrap_or (option_map (λ a. a.size) before) 0) entry.now.st_size }
-    ensures align { result.align ≡ max (unwrap_or (option_map (λ a. a.align) before) 0) entry.now.st_value }
+    ensures size { result.size ≡ max
+        (unwrap_or (option_map (λ a. a.size) before) 0) entry.now.st_size }
+    ensures align { result.align ≡ max
+        (unwrap_or (option_map (λ a. a.align) before) 0) entry.now.st_value }
 {
     match before {
         Some(asked) => Asked {
@@ -124,7 +131,8 @@ fn is_block_symbol<'a>(
     symbol: &SymbolOf<'a>,
 ) -> bool
     requires { IsSized chosen.now }
-    ensures { result ≡ is_block_symbol chosen.now (symbol_views definitions.now) (symbol_view symbol.now) }
+    ensures { result ≡ is_block_symbol chosen.now (symbol_views definitions.now)
+        (symbol_view symbol.now) }
 {
     is_common(symbol) && is_chosen(chosen, definitions, symbol)
 }
@@ -147,7 +155,8 @@ fn block_of<'a>(
     symbol: &SymbolOf<'a>,
 ) -> Block<'a>
     requires { HasAsked asked.now (all_symbols (loaded_views objects.now)) }
-    ensures { block_view result ≡ commons.block_of (loaded_views objects.now) number (symbol_view symbol.now) }
+    ensures { block_view result
+        ≡ commons.block_of (loaded_views objects.now) number (symbol_view symbol.now) }
 {
     let most = asked_for(asked, symbol.name);
     Block {
@@ -168,7 +177,10 @@ fn add_block<'a>(
     blocks: &mut Vec<Block<'a>>,
 ) -> Result<(), AllocError>
     requires { HasAsked asked.now (all_symbols (loaded_views objects.now)) }
-    ensures { OnOk result (block_views blocks.new.items ≡ block_views blocks.old.items ++ blocks_from (loaded_views objects.now) (length blocks.old.items) (cond wanted (symbol_view symbol.now ∷ []) [])) }
+    ensures { OnOk result (block_views blocks.new.items
+        ≡ block_views blocks.old.items
+        ++ blocks_from (loaded_views objects.now) (length blocks.old.items)
+        (cond wanted (symbol_view symbol.now ∷ []) [])) }
 {
     if !wanted {
         return Ok(());
@@ -188,7 +200,10 @@ fn add_blocks<'a>(
 ) -> Result<Vec<Block<'a>>, AllocError>
     requires sized { IsSized chosen.now }
     requires asked { HasAsked asked.now (all_symbols (loaded_views objects.now)) }
-    ensures { IfOk result (λ v. block_views v.items ≡ blocks_from (loaded_views objects.now) 0 (filter (is_block_symbol chosen.now (symbol_views definitions.now)) (symbol_views definitions.now))) }
+    ensures { IfOk result (λ v. block_views v.items
+        ≡ blocks_from (loaded_views objects.now) 0
+        (filter (is_block_symbol chosen.now (symbol_views definitions.now))
+        (symbol_views definitions.now))) }
 {
     let mut blocks = Vec::new(alloc);
     for symbol in definitions {
@@ -206,8 +221,10 @@ pub fn blocks_of<'a>(
     definitions: &[SymbolOf<'a>],
 ) -> Result<Vec<Block<'a>>, AllocError>
     requires sized { IsSized chosen.now }
-    requires definitions { symbol_views definitions.now ≡ filter is_definition (all_symbols (loaded_views objects.now)) }
-    requires chosen { AreChosen (loaded_views objects.now) (symbol_views definitions.now) chosen.now }
+    requires definitions { symbol_views definitions.now
+        ≡ filter is_definition (all_symbols (loaded_views objects.now)) }
+    requires chosen { AreChosen (loaded_views objects.now)
+        (symbol_views definitions.now) chosen.now }
     ensures { IfOk result (λ v. block_views v.items ≡ blocks (loaded_views objects.now)) }
 {
     let asked = asked_of(alloc, definitions)?;
@@ -220,7 +237,10 @@ fn add_named<'a>(
     index: &mut BTreeMap<&'a [u8], Block<'a>>,
     block: &Block<'a>,
 ) -> Result<(), AllocError>
-    ensures { OnOk result ((name : List ℕ) → block_in index.new name ≡ option_or (block_in index.old name) (cond (is_block_of name (block_view block.now)) (Some (block_view block.now)) None)) }
+    ensures { OnOk result ((name : List ℕ) →
+        block_in index.new name
+        ≡ option_or (block_in index.old name)
+        (cond (is_block_of name (block_view block.now)) (Some (block_view block.now)) None)) }
 {
     if !index.contains_key(block.name) {
         index.insert(block.name, *block)?;
@@ -233,7 +253,8 @@ pub fn index_blocks<'a>(
     alloc: Global,
     blocks: &[Block<'a>],
 ) -> Result<BTreeMap<&'a [u8], Block<'a>>, AllocError>
-    ensures { IfOk result (λ m. (name : List ℕ) → block_in m name ≡ find (is_block_of name) (block_views blocks.now)) }
+    ensures { IfOk result (λ m. (name : List ℕ) →
+        block_in m name ≡ find (is_block_of name) (block_views blocks.now)) }
 {
     let mut index = BTreeMap::new(alloc);
     for block in blocks {

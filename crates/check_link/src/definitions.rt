@@ -33,14 +33,14 @@ fn is_defined(symbol: &SymbolOf<'_>) -> bool
 pub fn is_strong(symbol: &SymbolOf<'_>) -> bool
     ensures { result ≡ is_strong (symbol_view symbol.now) }
 {
-    symbol.entry.st_info / 16 == STB_GLOBAL && is_defined(symbol)
+    symbol.entry.binding() == STB_GLOBAL && is_defined(symbol)
 }
 
 /// Whether a symbol is a weak definition: WEAK, in a section that isn't dropped or absolute.
 pub fn is_weak_definition(symbol: &SymbolOf<'_>) -> bool
     ensures { result ≡ is_weak_definition (symbol_view symbol.now) }
 {
-    symbol.entry.st_info / 16 == STB_WEAK && is_defined(symbol)
+    symbol.entry.binding() == STB_WEAK && is_defined(symbol)
 }
 
 /// Whether a symbol is a common one.
@@ -54,7 +54,7 @@ pub fn is_common(symbol: &SymbolOf<'_>) -> bool
 pub fn is_common_definition(symbol: &SymbolOf<'_>) -> bool
     ensures { result ≡ is_common_definition (symbol_view symbol.now) }
 {
-    symbol.entry.st_info / 16 == STB_GLOBAL && (is_common(symbol) && !symbol.dropped)
+    symbol.entry.binding() == STB_GLOBAL && (is_common(symbol) && !symbol.dropped)
 }
 
 /// Whether a symbol is a definition, strong, common or weak.
@@ -70,15 +70,19 @@ fn add_definitions<'a>(
     number: u64,
     loaded: &Loaded<'a>,
 ) -> Result<(), AllocError>
-    ensures { OnOk result (symbol_views found.new.items ≡ symbol_views found.old.items ++ filter is_definition (symbols_from number (loaded_view loaded.now) 0 (symbols loaded.now.object))) }
+    ensures { OnOk result (symbol_views found.new.items
+        ≡ symbol_views found.old.items
+        ++ filter is_definition
+        (symbols_from number (loaded_view loaded.now) 0 (symbols loaded.now.object))) }
 {
     let entries = loaded.object.symbols();
-    for (j, entry) in entries.iter().enumerate() {
+    for j in 0..entries.len() {
+        let entry = entries.at(j);
         let mut symbol = SymbolOf {
             object: number,
             number: j as u64,
             name: &[],
-            entry: *entry,
+            entry,
             dropped: loaded.is_dropped(entry.st_shndx as usize),
         };
         if is_definition(&symbol) {
@@ -94,7 +98,8 @@ pub fn definitions_of<'a>(
     alloc: Global,
     objects: &[Loaded<'a>],
 ) -> Result<Vec<SymbolOf<'a>>, AllocError>
-    ensures { IfOk result (λ v. symbol_views v.items ≡ filter is_definition (all_symbols (loaded_views objects.now))) }
+    ensures { IfOk result (λ v. symbol_views v.items
+        ≡ filter is_definition (all_symbols (loaded_views objects.now))) }
 {
     let mut found = Vec::new(alloc);
     for (k, loaded) in objects.iter().enumerate() {

@@ -13,7 +13,8 @@ use std::alloc::{AllocError, Global};
 /// The plan that the words make; None where they are no command.
 pub fn read_plan<'a>(alloc: Global, words: &'a [String]) -> Result<Option<Plan<'a>>, AllocError>
     ensures plan { IfOk result (λ o. IfSome o (λ p. command_of (words_of words.entry.now) ≡ Ok p)) }
-    ensures only { IfOk result (λ o. (p : command.Plan) → command_of (words_of words.entry.now) ≡ Ok p → IsSomeAnd o (λ q. q ≡ p)) }
+    ensures only { IfOk result (λ o. (p : command.Plan) →
+        command_of (words_of words.entry.now) ≡ Ok p → IsSomeAnd o (λ q. q ≡ p)) }
 {
     match read_words(alloc, words) {
         Ok(plan) => Ok(Some(plan)),
@@ -24,8 +25,10 @@ pub fn read_plan<'a>(alloc: Global, words: &'a [String]) -> Result<Option<Plan<'
 
 /// The map that the bytes spell; None where they are no map's text.
 pub fn read_map(alloc: Global, bytes: &[u8]) -> Result<Option<LinkMap>, AllocError>
-    ensures map { IfOk result (λ o. IfSome o (λ m. IsMap (map_of m) × (bytes.now ≡ text (map_of m)))) }
-    ensures only { IfOk result (λ o. (m : MapRecord) → IsMap m → bytes.now ≡ text m → IsSomeAnd o (λ n. map_of n ≡ m)) }
+    ensures map { IfOk result (λ o.
+        IfSome o (λ m. IsMap (map_of m) × (bytes.now ≡ text (map_of m)))) }
+    ensures only { IfOk result (λ o. (m : MapRecord) →
+        IsMap m → bytes.now ≡ text m → IsSomeAnd o (λ n. map_of n ≡ m)) }
 {
     match linkmap::read(alloc, bytes) {
         Ok(map) => Ok(Some(map)),

@@ -16,6 +16,8 @@ mod output_sections;
 mod pieces;
 mod placed_pieces;
 mod places;
+mod request_map;
+mod request_set;
 mod requests;
 mod sizes;
 mod slots;
@@ -38,6 +40,7 @@ pub use placed_pieces::{
     things_of, thread_ranges_of,
 };
 pub use places::Places;
+pub use request_set::RequestSet;
 pub use requests::{Request, Wanted, is_thread, request_of_line};
 pub use sizes::{is_thread_zero, load_size};
 pub use slots::SlotTable;

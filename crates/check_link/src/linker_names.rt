@@ -17,7 +17,8 @@ fn is_either(first: &[u8], second: &[u8], name: &[u8]) -> bool
 
 /// What a name stands for that isn't one of an output name.
 fn edge_bound(name: &[u8]) -> Option<Bound>
-    ensures { result ≡ option_map (λ b. b.bound) (find (λ b. bytes_eq b.name name.now) bound_names) }
+    ensures { result ≡ option_map (λ b. b.bound)
+        (find (λ b. bytes_eq b.name name.now) bound_names) }
 {
     if is_either(b"__executable_start", b"__ehdr_start", name) {
         return Some(Bound::ImageStart);

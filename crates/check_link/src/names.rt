@@ -5,11 +5,11 @@ ghost use Rattle.elf_model.specs.Commons.{block_named, blocks};
 ghost use Rattle.elf_model.specs.Meaning.{meant};
 ghost use Rattle.elf_model.specs.Resolution.{AreSoundCommons, all_symbols, chosen};
 ghost use Rattle.check_load.specs.Views.{loaded_views};
-ghost use Rattle.check_link.specs.Chosen.{AreChosen, IsSized};
+ghost use Rattle.check_link.specs.Chosen.{AreChosen, AreOwnChoices, IsSized};
 ghost use Rattle.check_link.specs.NameIndex.{IsBlockIndex};
 ghost use Rattle.check_link.specs.Views.{block_view, block_views, meaning_view, symbol_view, symbol_views};
 
-use crate::chosen_definitions::{Chosen, definition_of, index_names, is_chosen};
+use crate::chosen_definitions::{Chosen, definition_of, index_names, is_chosen, own_choices};
 use crate::commons::{are_sound_commons, blocks_of, index_blocks};
 use crate::definitions::{definitions_of, is_common};
 use crate::things::{Block, Meaning, SymbolOf};
@@ -28,6 +28,7 @@ pub struct Names<'l, 'a> {
     chosen: Chosen<'a>,
     blocks: Vec<Block<'a>>,
     blocks_by_name: BTreeMap<&'a [u8], Block<'a>>,
+    seed: Option<NameSeed>,
 }
 
 impl<'l, 'a> Model for Names<'l, 'a> {
@@ -51,8 +52,10 @@ fn found_blocks<'a>(
     definitions: &[SymbolOf<'a>],
 ) -> Result<(Vec<Block<'a>>, BTreeMap<&'a [u8], Block<'a>>), AllocError>
     requires sized { IsSized chosen.now }
-    requires definitions { symbol_views definitions.now ≡ filter is_definition (all_symbols (loaded_views objects.now)) }
-    requires chosen { AreChosen (loaded_views objects.now) (symbol_views definitions.now) chosen.now }
+    requires definitions { symbol_views definitions.now
+        ≡ filter is_definition (all_symbols (loaded_views objects.now)) }
+    requires chosen { AreChosen (loaded_views objects.now)
+        (symbol_views definitions.now) chosen.now }
     ensures blocks { IfOk result (λ r. block_views r.0.items ≡ blocks (loaded_views objects.now)) }
     ensures index { IfOk result (λ r. IsBlockIndex (loaded_views objects.now) r.1) }
 {
@@ -79,7 +82,13 @@ impl<'l, 'a> Names<'l, 'a> {
             chosen,
             blocks,
             blocks_by_name,
+            seed,
         })
+    }
+
+    /// From what names are to be hashed, where they aren't to be found by their order.
+    pub fn seed(&self) -> Option<NameSeed> {
+        self.seed
     }
 
     /// The loaded objects.
@@ -122,6 +131,15 @@ impl<'l, 'a> Names<'l, 'a> {
         ensures { result ≡ is_chosen self.now (symbol_view symbol.now) }
     {
         is_chosen(&self.chosen, &self.definitions, symbol)
+    }
+
+    /// Marks of definitions that are the chosen ones of their names.
+    pub fn own_choices(&self, alloc: Global) -> Result<Vec<bool>, AllocError>
+        ensures { IfOk result (λ v. AreOwnChoices self.now
+            (filter is_definition (all_symbols self.now)) v.items) }
+    {
+        let marks = own_choices(alloc, &self.chosen, &self.definitions)?;
+        Ok(marks)
     }
 
     /// The common block of a name; None where it has none.

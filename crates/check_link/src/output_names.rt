@@ -41,7 +41,8 @@ impl<'l, 'a> Model for Outputs<'l, 'a> {
 
 /// What is known of an output name, once one more piece of it is seen.
 fn with_piece<'a>(before: Option<Output<'a>>, piece: &Piece<'a>) -> Output<'a>
-    ensures { seen_view result ≡ with_piece (piece_view piece.now) (option_map seen_view before.entry) }
+    ensures { seen_view result
+        ≡ with_piece (piece_view piece.now) (option_map seen_view before.entry) }
 {
     match before {
         Some(output) => Output {
@@ -60,7 +61,8 @@ fn add_piece<'a>(
     table: &mut BTreeMap<&'a [u8], Output<'a>>,
     piece: &Piece<'a>,
 ) -> Result<(), AllocError>
-    ensures { OnOk result ((name : List ℕ) → seen_in table.new name ≡ seen_more name (piece_view piece.now) (seen_in table.old name)) }
+    ensures { OnOk result ((name : List ℕ) →
+        seen_in table.new name ≡ seen_more name (piece_view piece.now) (seen_in table.old name)) }
 {
     let name = output_name(piece.name);
     let before = table.get(name).copied();

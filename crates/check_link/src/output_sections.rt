@@ -46,7 +46,8 @@ fn is_gathered_by(name: &[u8], gathering: &[u8]) -> bool
 
 /// The first of the names that gathers a section's name.
 fn find_gathering<'b, 'g>(name: &[u8], names: &'b [&'g [u8]]) -> Option<&'b &'g [u8]>
-    ensures { option_copied result ≡ find (λ g. pieces.is_gathered_by name.now g.now) names.entry.now }
+    ensures { option_copied result
+        ≡ find (λ g. pieces.is_gathered_by name.now g.now) names.entry.now }
 {
     names.iter().find(|g| is_gathered_by(name, g))
 }

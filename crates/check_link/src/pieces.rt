@@ -30,12 +30,15 @@ fn add_pieces<'a>(
     number: u64,
     loaded: &Loaded<'a>,
 ) -> Result<(), AllocError>
-    ensures { OnOk result (piece_views out.new.items ≡ piece_views out.old.items ++ piece_words.pieces_from number (loaded_view loaded.now) 0 (sections loaded.now.object)) }
+    ensures { OnOk result (piece_views out.new.items
+        ≡ piece_views out.old.items
+        ++ piece_words.pieces_from number (loaded_view loaded.now) 0 (sections loaded.now.object)) }
 {
     let headers = loaded.object.sections();
-    for (i, header) in headers.iter().enumerate() {
-        if loaded.is_kept(i, header) {
-            out.push(piece_of(number, &loaded.object, i, *header))?;
+    for i in 0..headers.len() {
+        let header = headers.at(i);
+        if loaded.is_kept(i, &header) {
+            out.push(piece_of(number, &loaded.object, i, header))?;
         }
     }
     Ok(())
@@ -43,7 +46,8 @@ fn add_pieces<'a>(
 
 /// The kept sections of all objects, in load order.
 pub fn pieces_of<'a>(alloc: Global, objects: &[Loaded<'a>]) -> Result<Vec<Piece<'a>>, AllocError>
-    ensures pieces { IfOk result (λ v. piece_views v.items ≡ piece_words.kept_sections (loaded_views objects.now)) }
+    ensures pieces { IfOk result (λ v. piece_views v.items
+        ≡ piece_words.kept_sections (loaded_views objects.now)) }
     ensures sizes { IfOk result (λ v. All (λ p. length p.bytes ≤ p.size) (piece_views v.items)) }
 {
     let mut found = Vec::new(alloc);

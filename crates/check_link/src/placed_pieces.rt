@@ -21,7 +21,8 @@ fn place<'a>(
     rows: &[PlaceLine],
     pieces: &[Piece<'a>],
 ) -> Result<Vec<Placed<'a>>, AllocError>
-    ensures { IfOk result (λ v. placed_views v.items ≡ placed_by (map place_row rows.now) (piece_views pieces.now)) }
+    ensures { IfOk result (λ v. placed_views v.items
+        ≡ placed_by (map place_row rows.now) (piece_views pieces.now)) }
 {
     let count = rows.len().min(pieces.len());
     let mut placed = Vec::with_capacity(alloc, count)?;
@@ -64,7 +65,8 @@ fn place_blocks<'a>(
     lines: &CommonLines<'_>,
     blocks: &[Block<'a>],
 ) -> Result<(), AllocError>
-    ensures { OnOk result (placed_views placed.new.items ≡ placed_views placed.old.items ++ placed_blocks lines.now (block_views blocks.now)) }
+    ensures { OnOk result (placed_views placed.new.items
+        ≡ placed_views placed.old.items ++ placed_blocks lines.now (block_views blocks.now)) }
 {
     for block in blocks {
         placed.push(Placed {
@@ -85,8 +87,11 @@ pub fn place_all<'a>(
     blocks: &[Block<'a>],
 ) -> Result<(Vec<Placed<'a>>, usize), AllocError>
     ensures count { IfOk result (λ r. r.1 ≤ length r.0.items) }
-    ensures sections { IfOk result (λ r. placed_views (take r.1 r.0.items) ≡ placed_by (map place_row rows.now) (piece_views pieces.now)) }
-    ensures placed { IfOk result (λ r. placed_views r.0.items ≡ placed_by (map place_row rows.now) (piece_views pieces.now) ++ placed_blocks lines.now (block_views blocks.now)) }
+    ensures sections { IfOk result (λ r. placed_views (take r.1 r.0.items)
+        ≡ placed_by (map place_row rows.now) (piece_views pieces.now)) }
+    ensures placed { IfOk result (λ r. placed_views r.0.items
+        ≡ placed_by (map place_row rows.now) (piece_views pieces.now)
+        ++ placed_blocks lines.now (block_views blocks.now)) }
 {
     let mut placed = place(alloc, rows, pieces)?;
     let count = placed.len();
@@ -197,7 +202,8 @@ pub fn things_of(
     got: &[Thing],
     placed: &[Placed<'_>],
 ) -> Result<Vec<Thing>, AllocError>
-    ensures { IfOk result (λ v. v.items ≡ headers_thing memory.now ∷ (got.now ++ map thing_of (placed_views placed.now))) }
+    ensures { IfOk result (λ v. v.items
+        ≡ headers_thing memory.now ∷ (got.now ++ map thing_of (placed_views placed.now))) }
 {
     let mut things = Vec::with_capacity(alloc, 1 + got.len() + placed.len())?;
     things.push(headers_of(memory))?;

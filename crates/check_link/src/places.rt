@@ -59,7 +59,13 @@ impl<'p, 'a> Places<'p, 'a> {
     ) -> Result<Places<'p, 'a>, AllocError>
         requires pieces { AreInLimit (placed_views placed.now) }
         requires got { IsGotInLimit got }
-        ensures { IfOk result (λ p. p ≡ record { base = base; placed = placed_views placed.entry.now; got = got; slots = slots.entry.now }) }
+        ensures { IfOk result (λ p. p
+            ≡ record {
+              base = base;
+              placed = placed_views placed.entry.now;
+              got = got;
+              slots = slots.entry.now;
+            }) }
     {
         let addresses = index_places(alloc, placed)?;
         let spans = spans_of(alloc, placed)?;
@@ -137,7 +143,8 @@ impl<'p, 'a> Places<'p, 'a> {
 
     /// The address of a section, where it is placed.
     pub fn address(&self, object: u64, section: u64) -> Option<u64>
-        ensures { result ≡ option_map (λ q. q.at) (find (is_of_section object section) self.now.placed) }
+        ensures { result ≡ option_map (λ q. q.at)
+            (find (is_of_section object section) self.now.placed) }
     {
         self.addresses.get(&(object, section)).copied()
     }
@@ -148,7 +155,10 @@ fn add_place(
     addresses: &mut HashMap<(u64, u64), u64>,
     placed: &Placed<'_>,
 ) -> Result<(), AllocError>
-    ensures { OnOk result ((object section : ℕ) → address_in addresses.new object section ≡ option_or (address_in addresses.old object section) (cond (is_of_section object section (placed_view placed.now)) (Some placed.now.at) None)) }
+    ensures { OnOk result ((object section : ℕ) →
+        address_in addresses.new object section
+        ≡ option_or (address_in addresses.old object section)
+        (cond (is_of_section object section (placed_view placed.now)) (Some placed.now.at) None)) }
 {
     let key = (placed.piece.object, placed.piece.section);
     if !addresses.contains_key(&key) {

@@ -5,19 +5,19 @@ ghost use Rattle.std.specs.Option.{option_or};
 ghost use Rattle.elf_model.specs.MapRecord.{slot_row};
 ghost use Rattle.elf_model.specs.Slots as slots;
 ghost use Rattle.elf_model.specs.Slots.{is_slot_of, requested_address, row_request};
-ghost use Rattle.check_link.specs.Slots.{IsSlotIndex, address_in, are_distinct, has_in, request_view};
+ghost use Rattle.check_link.specs.Slots.{IsSized, IsSlotIndex, are_distinct, request_view};
 
+use crate::request_map::RequestMap;
 use crate::requests::{Request, request_of_line};
-use elf_model::SlotLine;
+use elf_model::{NameSeed, SlotLine};
 use std::alloc::{AllocError, Global};
-use std::collections::BTreeMap;
 use std::marker::Model;
 
 /// Slot lines, with the address of the first one for each request, and whether there is at most one for each.
 #[derive(Drop)]
 pub struct SlotTable<'m> {
     lines: &'m [SlotLine],
-    addresses: BTreeMap<Request<'m>, u64>,
+    addresses: RequestMap<'m>,
     distinct: bool,
 }
 
@@ -33,45 +33,36 @@ impl<'m> Model for SlotTable<'m> {
     ghost invariant = { λ t. IsSlotTable (map slot_row t.lines.now) t.addresses t.distinct };
 }
 
-/// Puts a line's slot into a table, unless one for the same request is there. True where it is put there.
-fn add_slot<'m>(
-    addresses: &mut BTreeMap<Request<'m>, u64>,
-    line: &'m SlotLine,
-) -> Result<bool, AllocError>
-    ensures addresses { OnOk result ((q : slots.Request) → address_in addresses.new q ≡ option_or (address_in addresses.old q) (cond (is_slot_of q (slot_row line.entry.now)) (Some line.entry.now.address) None)) }
-    ensures fresh { IfOk result (λ b. b ≡ not (has_in addresses.old (row_request (slot_row line.entry.now)))) }
-{
-    let request = request_of_line(line);
-    if addresses.contains_key(&request) {
-        return Ok(false);
-    }
-    addresses.insert(request, line.address)?;
-    Ok(true)
-}
-
 /// The address of the first slot for each request, and whether no two lines are for the same.
 fn index_slots<'m>(
     alloc: Global,
     lines: &'m [SlotLine],
-) -> Result<(BTreeMap<Request<'m>, u64>, bool), AllocError>
+    seed: Option<NameSeed>,
+) -> Result<(RequestMap<'m>, bool), AllocError>
+    ensures sized { IfOk result (λ r. IsSized r.0) }
     ensures index { IfOk result (λ r. IsSlotIndex (map slot_row lines.entry.now) r.0) }
-    ensures distinct { IfOk result (λ r. r.1 ≡ are_distinct (map row_request (map slot_row lines.entry.now))) }
+    ensures distinct { IfOk result (λ r. r.1
+        ≡ are_distinct (map row_request (map slot_row lines.entry.now))) }
 {
-    let mut addresses = BTreeMap::new(alloc);
+    let mut addresses = RequestMap::new(alloc, seed);
     let mut distinct = true;
     for line in lines {
-        let fresh = add_slot(&mut addresses, line)?;
+        let fresh = addresses.add(request_of_line(line), line.address)?;
         distinct &= fresh;
     }
     Ok((addresses, distinct))
 }
 
 impl<'m> SlotTable<'m> {
-    /// A table of slot lines.
-    pub fn new(alloc: Global, lines: &'m [SlotLine]) -> Result<SlotTable<'m>, AllocError>
+    /// A table of slot lines, whose names are to be hashed from a seed, or found by their order without one.
+    pub fn new(
+        alloc: Global,
+        lines: &'m [SlotLine],
+        seed: Option<NameSeed>,
+    ) -> Result<SlotTable<'m>, AllocError>
         ensures { IfOk result (λ t. t ≡ map slot_row lines.entry.now) }
     {
-        let (addresses, distinct) = index_slots(alloc, lines)?;
+        let (addresses, distinct) = index_slots(alloc, lines, seed)?;
         Ok(SlotTable {
             lines,
             addresses,
@@ -84,7 +75,7 @@ impl<'m> SlotTable<'m> {
         ensures { result ≡ requested_address self.now (request_view request.now) }
     {
         match self.addresses.get(request) {
-            Some(address) => *address,
+            Some(address) => address,
             None => 0,
         }
     }
@@ -93,7 +84,7 @@ impl<'m> SlotTable<'m> {
     pub fn has(&self, request: &Request<'m>) -> bool
         ensures { result ≡ list_any (is_slot_of (request_view request.now)) self.now }
     {
-        self.addresses.contains_key(request)
+        self.addresses.get(request).is_some()
     }
 
     /// Whether no two lines are for the same request.

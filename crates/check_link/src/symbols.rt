@@ -11,16 +11,6 @@ use crate::things::SymbolOf;
 use check_load::Loaded;
 use elf_model::{SHN_UNDEF, SectionHeader, Symbol};
 
-/// The sections of the object that has a number; none where there is no such object.
-fn sections_at<'b>(objects: &'b [Loaded<'_>], number: usize) -> &'b [SectionHeader]
-    ensures { result.now ≡ sections_of_object (slice_get (loaded_views objects.entry.now) number) }
-{
-    match objects.get(number) {
-        Some(loaded) => loaded.object.sections(),
-        None => &[],
-    }
-}
-
 /// The section in which an entry of the object that has a number is defined; None where it is undefined, absolute or
 /// common.
 fn section_in(objects: &[Loaded<'_>], number: u64, entry: &Symbol) -> Option<SectionHeader>
@@ -29,8 +19,8 @@ fn section_in(objects: &[Loaded<'_>], number: u64, entry: &Symbol) -> Option<Sec
     if entry.st_shndx == SHN_UNDEF {
         return None;
     }
-    let sections = sections_at(objects, number as usize);
-    sections.get(entry.st_shndx as usize).copied()
+    let loaded = objects.get(number as usize)?;
+    loaded.object.sections().get(entry.st_shndx as usize)
 }
 
 /// The section in which a symbol is defined; None where it is undefined, absolute or common.
@@ -43,7 +33,7 @@ pub fn section_of(objects: &[Loaded<'_>], symbol: &SymbolOf<'_>) -> Option<Secti
 fn is_visible(entry: &Symbol) -> bool
     ensures { IsTrue result ↔ (1 ≤ binding entry.now) }
 {
-    entry.st_info / 16 >= 1
+    entry.binding() >= 1
 }
 
 /// Whether a symbol may stand in its section: a GLOBAL or WEAK one only in a kept one, and one of any
@@ -59,7 +49,8 @@ fn stands_well(entry: &Symbol, section: &SectionHeader) -> bool
 
 /// Whether an entry of the object that has a number stands well in its section where it has one.
 fn is_placed_well(objects: &[Loaded<'_>], number: u64, entry: &Symbol) -> bool
-    ensures { IsTrue result ↔ IfSome (section_in (loaded_views objects.now) number entry.now) (StandsWell entry.now) }
+    ensures { IsTrue result ↔ IfSome (section_in (loaded_views objects.now) number entry.now)
+        (StandsWell entry.now) }
 {
     match section_in(objects, number, entry) {
         Some(section) => stands_well(entry, &section),
@@ -76,7 +67,8 @@ fn is_sound(
     j: usize,
     entry: &Symbol,
 ) -> bool
-    ensures { IsTrue result ↔ IsSoundSymbol (loaded_views objects.now) (symbol_of number (loaded_view loaded.now) j entry.now) }
+    ensures { IsTrue result ↔ IsSoundSymbol (loaded_views objects.now)
+        (symbol_of number (loaded_view loaded.now) j entry.now) }
 {
     if is_visible(entry) && !loaded.object.is_named(j) {
         return false;
@@ -86,11 +78,13 @@ fn is_sound(
 
 /// Whether the symbols of the object that has a number are sound.
 fn are_sound_in(objects: &[Loaded<'_>], number: u64, loaded: &Loaded<'_>) -> bool
-    ensures { IsTrue result ↔ All (IsSoundSymbol (loaded_views objects.now)) (symbols_from number (loaded_view loaded.now) 0 (symbols loaded.now.object)) }
+    ensures { IsTrue result ↔ All (IsSoundSymbol (loaded_views objects.now))
+        (symbols_from number (loaded_view loaded.now) 0 (symbols loaded.now.object)) }
 {
     let entries = loaded.object.symbols();
-    for (j, entry) in entries.iter().enumerate() {
-        if !is_sound(objects, number, loaded, j, entry) {
+    for j in 0..entries.len() {
+        let entry = entries.at(j);
+        if !is_sound(objects, number, loaded, j, &entry) {
             return false;
         }
     }

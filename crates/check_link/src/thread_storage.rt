@@ -24,7 +24,8 @@ fn greater_alignment(align: u64, placed: &Placed<'_>) -> u64
 
 /// The greatest alignment of the thread-local pieces, 1 without any.
 fn alignment_of(placed: &[Placed<'_>]) -> u64
-    ensures greatest { result ≡ storage.alignment_of is_thread_piece (map (λ q. q.piece) (placed_views placed.now)) }
+    ensures greatest { result ≡ storage.alignment_of is_thread_piece
+        (map (λ q. q.piece) (placed_views placed.now)) }
     ensures some { 1 ≤ result }
 {
     let mut align = 1;

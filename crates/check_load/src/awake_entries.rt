@@ -26,7 +26,8 @@ impl Awake {
 
     /// Wakes an entry.
     fn wake(&mut self, place: (u64, usize)) -> Result<(), AllocError>
-        ensures { OnOk result ((i q : ℕ) → is_awake self.new i q ≡ (is_place i q place || is_awake self.old i q)) }
+        ensures { OnOk result ((i q : ℕ) →
+            is_awake self.new i q ≡ (is_place i q place || is_awake self.old i q)) }
     {
         self.places.insert(place)?;
         Ok(())
@@ -34,7 +35,8 @@ impl Awake {
 
     /// Wakes entries.
     pub fn wake_all(&mut self, places: &[(u64, usize)]) -> Result<(), AllocError>
-        ensures { OnOk result ((i q : ℕ) → is_awake self.new i q ≡ (list_any (is_place i q) places.now || is_awake self.old i q)) }
+        ensures { OnOk result ((i q : ℕ) →
+            is_awake self.new i q ≡ (list_any (is_place i q) places.now || is_awake self.old i q)) }
     {
         for place in places {
             self.wake(*place)?;
@@ -58,7 +60,8 @@ impl Awake {
     /// The first item, of those that have at least a number, that has an entry that is awake.
     pub fn first_item(&self, from: u64) -> Option<u64>
         ensures behind { IfSome result (λ k. from ≤ k) }
-        ensures least { IfSome result (λ k. (j q : ℕ) → from ≤ j → j < k → is_awake self.now j q ≡ false) }
+        ensures least { IfSome result (λ k. (j q : ℕ) →
+            from ≤ j → j < k → is_awake self.now j q ≡ false) }
         ensures none { IfNone result ((j q : ℕ) → from ≤ j → is_awake self.now j q ≡ false) }
     {
         let place = self.places.range((from, 0)..).next()?;
@@ -68,7 +71,8 @@ impl Awake {
     /// Lets an entry that is awake sleep.
     pub fn lull(&mut self, item: u64, entry: usize)
         requires { is_awake self.old item entry ≡ true }
-        ensures asleep { (i q : ℕ) → is_awake self.new i q ≡ (not (is_place i q (item, entry)) && is_awake self.old i q) }
+        ensures asleep { (i q : ℕ) → is_awake self.new i q
+            ≡ (not (is_place i q (item, entry)) && is_awake self.old i q) }
         ensures fewer { awake_count self.new < awake_count self.old }
     {
         self.places.remove(&(item, entry));

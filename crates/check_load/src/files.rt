@@ -54,7 +54,11 @@ fn add_file<'a>(
     index: &mut BTreeMap<&'a str, &'a [u8]>,
     file: &'a InputFile,
 ) -> Result<(), AllocError>
-    ensures { OnOk result ((name : List ℕ) → found index.new name ≡ option_or (found index.old name) (cond (bytes_eq (string_bytes file.entry.now.name) name) (Some file.entry.now.bytes.items) None)) }
+    ensures { OnOk result ((name : List ℕ) →
+        found index.new name
+        ≡ option_or (found index.old name)
+        (cond (bytes_eq (string_bytes file.entry.now.name) name)
+        (Some file.entry.now.bytes.items) None)) }
 {
     let name = file.name.as_str();
     if !index.contains_key(name) {

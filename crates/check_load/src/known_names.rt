@@ -80,7 +80,8 @@ impl<'a> KnownNames<'a> {
 
     /// The state of a name that was noted.
     fn found(&self, name: &[u8]) -> Option<&NameState>
-        ensures { option_copied result ≡ slice_get self.now.states (number_of self.now.names name.now) }
+        ensures { option_copied result
+            ≡ slice_get self.now.states (number_of self.now.names name.now) }
     {
         let number = self.names.find(name)?;
         self.states.get(number)
@@ -100,8 +101,12 @@ impl<'a> KnownNames<'a> {
     /// Notes what is said of a name, and answers whether it was asked for before.
     pub fn note(&mut self, name: &'a [u8], said: NameState) -> Result<bool, AllocError>
         ensures before { IfOk result (λ b. b ≡ requests_name self.old name.entry.now) }
-        ensures requested { OnOk result ((n : List ℕ) → requests_name self.new n ≡ (bytes_eq name.entry.now n && said.requested || requests_name self.old n)) }
-        ensures defined { OnOk result ((n : List ℕ) → defines_name self.new n ≡ (bytes_eq name.entry.now n && said.defined || defines_name self.old n)) }
+        ensures requested { OnOk result ((n : List ℕ) →
+            requests_name self.new n
+            ≡ (bytes_eq name.entry.now n && said.requested || requests_name self.old n)) }
+        ensures defined { OnOk result ((n : List ℕ) →
+            defines_name self.new n
+            ≡ (bytes_eq name.entry.now n && said.defined || defines_name self.old n)) }
     {
         let (number, _is_new) = self.names.add(name)?;
         reach(&mut self.states, number)?;

@@ -59,8 +59,10 @@ fn load_single<'a>(
     requires at { IsAt places.now input.now }
     ensures plan { OnOk result (loader.new.plan.now ≡ loader.old.plan.now) }
     ensures known { OnOk result (Knows places.now loader.new) }
-    ensures loaded { OnOk result (loaded loader.new ≡ loaded_step loader.old.plan.now (Single input.now) (loaded loader.old)) }
-    ensures stop { IfErr result (Refutes (AreLoadable (loaded_step loader.old.plan.now (Single input.now) (loaded loader.old)))) }
+    ensures loaded { OnOk result (loaded loader.new
+        ≡ loaded_step loader.old.plan.now (Single input.now) (loaded loader.old)) }
+    ensures stop { IfErr result (Refutes
+        (AreLoadable (loaded_step loader.old.plan.now (Single input.now) (loaded loader.old)))) }
 {
     let item = input.item();
     if item.archive {
@@ -83,8 +85,11 @@ fn load_step<'a>(
     ensures plan { OnOk result (loader.new.plan.now ≡ loader.old.plan.now) }
     ensures known { OnOk result (Knows places.now loader.new) }
     ensures count { IfOk result (λ n. (0 < n) × (n ≤ length inputs.now)) }
-    ensures loaded { IfOk result (λ n. loaded_steps loader.old.plan.now (steps (drop n inputs.now)) (loaded loader.new) ≡ loaded_steps loader.old.plan.now (steps inputs.now) (loaded loader.old)) }
-    ensures stop { IfErr result (Refutes (AreLoadable (loaded_steps loader.old.plan.now (steps inputs.now) (loaded loader.old)))) }
+    ensures loaded { IfOk result (λ n.
+        loaded_steps loader.old.plan.now (steps (drop n inputs.now)) (loaded loader.new)
+        ≡ loaded_steps loader.old.plan.now (steps inputs.now) (loaded loader.old)) }
+    ensures stop { IfErr result (Refutes
+        (AreLoadable (loaded_steps loader.old.plan.now (steps inputs.now) (loaded loader.old)))) }
 {
     let Some(group) = group_of(&inputs[0]) else {
         load_single(alloc, places, loader, &inputs[0])?;
@@ -107,8 +112,10 @@ fn load_inputs<'a>(
     requires at { All (IsAt places.now) inputs.now }
     requires numbers { AreSideBySide inputs.now }
     ensures known { OnOk result (Knows places.now loader.new) }
-    ensures loaded { OnOk result (loaded loader.new ≡ loaded_steps loader.old.plan.now (steps inputs.now) (loaded loader.old)) }
-    ensures stop { IfErr result (Refutes (AreLoadable (loaded_steps loader.old.plan.now (steps inputs.now) (loaded loader.old)))) }
+    ensures loaded { OnOk result (loaded loader.new
+        ≡ loaded_steps loader.old.plan.now (steps inputs.now) (loaded loader.old)) }
+    ensures stop { IfErr result (Refutes
+        (AreLoadable (loaded_steps loader.old.plan.now (steps inputs.now) (loaded loader.old)))) }
 {
     let mut at = 0;
     while at < inputs.len() {
@@ -127,9 +134,11 @@ fn load_all<'a>(
 ) -> Result<Vec<Loaded<'a>>, Stop>
     requires at { All (IsAt inputs.now) inputs.now }
     requires numbers { AreSideBySide inputs.now }
-    ensures loaded { IfOk result (λ v. loaded_views v.items ≡ loaded_steps plan.now (steps inputs.now) []) }
+    ensures loaded { IfOk result (λ v. loaded_views v.items
+        ≡ loaded_steps plan.now (steps inputs.now) []) }
     ensures good { OnOk result (AreLoadable (loaded_steps plan.now (steps inputs.now) [])) }
-    ensures stop { IfErr result (Refutes (AreLoadable (loaded_steps plan.now (steps inputs.now) []))) }
+    ensures stop { IfErr result (Refutes
+        (AreLoadable (loaded_steps plan.now (steps inputs.now) []))) }
 {
     let places = Places::new(alloc, inputs, seed)?;
     let mut loader = Loader::new(alloc, &places, plan, seed)?;
@@ -144,7 +153,8 @@ fn load<'a>(
     files: &'a [InputFile],
     seed: Option<NameSeed>,
 ) -> Result<Vec<Loaded<'a>>, Stop>
-    ensures loaded { IfOk result (λ v. loaded_views v.items ≡ loaded_objects (files_of files.entry.now) plan.now) }
+    ensures loaded { IfOk result (λ v. loaded_views v.items
+        ≡ loaded_objects (files_of files.entry.now) plan.now) }
     ensures good { OnOk result (CanLoad (files_of files.entry.now) plan.now) }
     ensures stop { IfErr result (Refutes (CanLoad (files_of files.entry.now) plan.now)) }
 {
@@ -175,7 +185,8 @@ pub fn open<'a>(
     files: &'a [InputFile],
     seed: Option<NameSeed>,
 ) -> Result<Option<Vec<Loaded<'a>>>, AllocError>
-    ensures loaded { IfOk result (λ o. IfSome o (λ v. loaded_views v.items ≡ loaded_objects (files_of files.entry.now) plan.now)) }
+    ensures loaded { IfOk result (λ o.
+        IfSome o (λ v. loaded_views v.items ≡ loaded_objects (files_of files.entry.now) plan.now)) }
     ensures some { IfOk result (λ o. IsSome o ↔ CanLoad (files_of files.entry.now) plan.now) }
 {
     match load(alloc, plan, files, seed) {

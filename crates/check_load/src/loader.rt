@@ -65,7 +65,8 @@ impl<'a> Loaded<'a> {
 
     /// Whether there is a section of a number, and it is kept.
     fn keeps(&self, number: usize) -> bool
-        ensures { result ≡ is_kept (loaded_view self.now) number (section (sections self.now.object) number) }
+        ensures { result ≡ is_kept (loaded_view self.now) number
+            (section (sections self.now.object) number) }
     {
         self.is_kept(number, &self.object.section(number))
     }
@@ -125,8 +126,11 @@ fn free_at(
     entries: &[IndexEntry<'_>],
     i: usize,
 ) -> Option<u64>
-    ensures found { IfSome result (λ k. IsSomeAnd (slice_get entries.now i) (λ e. (is_free names.now taken.now item e ≡ true) × (k ≡ e.offset))) }
-    ensures none { IfNone result ((e : archive.IndexEntry) → slice_get entries.now i ≡ Some e → is_free names.now taken.now item e ≡ false) }
+    ensures found { IfSome result (λ k.
+        IsSomeAnd (slice_get entries.now i)
+        (λ e. (is_free names.now taken.now item e ≡ true) × (k ≡ e.offset))) }
+    ensures none { IfNone result ((e : archive.IndexEntry) →
+        slice_get entries.now i ≡ Some e → is_free names.now taken.now item e ≡ false) }
 {
     let Some(entry) = entries.get(i) else {
         return None;
@@ -147,9 +151,11 @@ fn first_free(
     entries: &[IndexEntry<'_>],
 ) -> Option<u64>
     requires { AreFreeAwake names.now taken.now item entries.now awake.old }
-    ensures exact { result ≡ option_map (λ e. e.offset) (find (is_free names.now taken.now item) entries.now) }
+    ensures exact { result ≡ option_map (λ e. e.offset)
+        (find (is_free names.now taken.now item) entries.now) }
     ensures awake { AreFreeAwake names.now taken.now item entries.now awake.new }
-    ensures others { (i q : ℕ) → (i ≡ item → ⊥) → is_awake awake.old i q ≡ true → is_awake awake.new i q ≡ true }
+    ensures others { (i q : ℕ) → (i ≡ item → ⊥) →
+        is_awake awake.old i q ≡ true → is_awake awake.new i q ≡ true }
 {
     while let Some(i) = awake.first(item) {
         if let Some(offset) = free_at(names, taken, item, entries, i) {
@@ -195,7 +201,8 @@ impl<'p, 'a> Loader<'p, 'a> {
     ) -> Result<(), Stop>
         requires { Knows places.now self.old }
         ensures plan { OnOk result (self.new.plan.now ≡ self.old.plan.now) }
-        ensures loaded { OnOk result (loaded self.new ≡ with_object (loaded self.old) (item_view item.now) offset bytes.now) }
+        ensures loaded { OnOk result (loaded self.new
+            ≡ with_object (loaded self.old) (item_view item.now) offset bytes.now) }
         ensures known { OnOk result (Knows places.now self.new) }
         ensures stop { IfErr result (Refutes (IsLoadable bytes.now)) }
     {
@@ -223,7 +230,8 @@ impl<'p, 'a> Loader<'p, 'a> {
         ensures plan { self.new.plan.now ≡ self.old.plan.now }
         ensures loaded { loaded self.new ≡ loaded self.old }
         ensures known { Knows places.now self.new }
-        ensures exact { result ≡ option_map (λ e. e.offset) (next self.old.plan.now (loaded self.old) input.now) }
+        ensures exact { result ≡ option_map (λ e. e.offset)
+            (next self.old.plan.now (loaded self.old) input.now) }
     {
         let Some(entries) = input.entries() else {
             return None;

@@ -20,13 +20,13 @@ use std::alloc::{AllocError, Global};
 fn is_global(symbol: &Symbol) -> bool
     ensures { result ≡ is_global_symbol symbol.now }
 {
-    symbol.st_info >> 4 == STB_GLOBAL
+    symbol.binding() == STB_GLOBAL
 }
 
 fn is_global_or_weak(symbol: &Symbol) -> bool
     ensures { result ≡ is_global_or_weak symbol.now }
 {
-    is_global(symbol) || symbol.st_info >> 4 == STB_WEAK
+    is_global(symbol) || symbol.binding() == STB_WEAK
 }
 
 /// Whether a symbol is undefined, or stands in a dropped section.
@@ -56,10 +56,17 @@ fn note_name<'a>(
     name: &'a [u8],
     said: NameState,
 ) -> Result<(), AllocError>
-    ensures woken { OnOk result ((before : List ℕ → Bool) → AreWokenSince places.now before names.old awake.old → AreWokenSince places.now before names.new awake.new) }
-    ensures stays { OnOk result ((i q : ℕ) → is_awake awake.old i q ≡ true → is_awake awake.new i q ≡ true) }
-    ensures requested { OnOk result ((n : List ℕ) → requests_name names.new n ≡ (bytes_eq name.entry.now n && said.requested || requests_name names.old n)) }
-    ensures defined { OnOk result ((n : List ℕ) → defines_name names.new n ≡ (bytes_eq name.entry.now n && said.defined || defines_name names.old n)) }
+    ensures woken { OnOk result ((before : List ℕ → Bool) →
+        AreWokenSince places.now before names.old awake.old
+        → AreWokenSince places.now before names.new awake.new) }
+    ensures stays { OnOk result ((i q : ℕ) →
+        is_awake awake.old i q ≡ true → is_awake awake.new i q ≡ true) }
+    ensures requested { OnOk result ((n : List ℕ) →
+        requests_name names.new n
+        ≡ (bytes_eq name.entry.now n && said.requested || requests_name names.old n)) }
+    ensures defined { OnOk result ((n : List ℕ) →
+        defines_name names.new n
+        ≡ (bytes_eq name.entry.now n && said.defined || defines_name names.old n)) }
 {
     let before = names.note(name, said)?;
     if before || !said.requested {
@@ -80,10 +87,19 @@ fn note_symbol<'a>(
     symbol: &Symbol,
 ) -> Result<(), AllocError>
     requires { slice_get (symbols object.now) j ≡ Some symbol.now }
-    ensures woken { OnOk result ((before : List ℕ → Bool) → AreWokenSince places.now before names.old awake.old → AreWokenSince places.now before names.new awake.new) }
-    ensures stays { OnOk result ((i q : ℕ) → is_awake awake.old i q ≡ true → is_awake awake.new i q ≡ true) }
-    ensures requested { OnOk result ((n : List ℕ) → requests_name names.new n ≡ (has_name object.now n symbol.now && is_request dropped.now symbol.now || requests_name names.old n)) }
-    ensures defined { OnOk result ((n : List ℕ) → defines_name names.new n ≡ (has_name object.now n symbol.now && is_definition dropped.now symbol.now || defines_name names.old n)) }
+    ensures woken { OnOk result ((before : List ℕ → Bool) →
+        AreWokenSince places.now before names.old awake.old
+        → AreWokenSince places.now before names.new awake.new) }
+    ensures stays { OnOk result ((i q : ℕ) →
+        is_awake awake.old i q ≡ true → is_awake awake.new i q ≡ true) }
+    ensures requested { OnOk result ((n : List ℕ) →
+        requests_name names.new n
+        ≡ (has_name object.now n symbol.now && is_request dropped.now symbol.now
+        || requests_name names.old n)) }
+    ensures defined { OnOk result ((n : List ℕ) →
+        defines_name names.new n
+        ≡ (has_name object.now n symbol.now && is_definition dropped.now symbol.now
+        || defines_name names.old n)) }
 {
     let said = NameState {
         requested: is_request(dropped, symbol),
@@ -107,13 +123,20 @@ pub fn note_object<'a>(
     object: &ObjectFile<'a>,
     dropped: &Dropped,
 ) -> Result<(), AllocError>
-    ensures woken { OnOk result (AreWokenSince places.now (requests_name names.old) names.new awake.new) }
-    ensures stays { OnOk result ((i q : ℕ) → is_awake awake.old i q ≡ true → is_awake awake.new i q ≡ true) }
-    ensures requested { OnOk result ((n : List ℕ) → requests_name names.new n ≡ (asked_in object.now dropped.now n || requests_name names.old n)) }
-    ensures defined { OnOk result ((n : List ℕ) → defines_name names.new n ≡ (defined_in object.now dropped.now n || defines_name names.old n)) }
+    ensures woken { OnOk result (AreWokenSince places.now
+        (requests_name names.old) names.new awake.new) }
+    ensures stays { OnOk result ((i q : ℕ) →
+        is_awake awake.old i q ≡ true → is_awake awake.new i q ≡ true) }
+    ensures requested { OnOk result ((n : List ℕ) →
+        requests_name names.new n
+        ≡ (asked_in object.now dropped.now n || requests_name names.old n)) }
+    ensures defined { OnOk result ((n : List ℕ) →
+        defines_name names.new n
+        ≡ (defined_in object.now dropped.now n || defines_name names.old n)) }
 {
-    for (j, symbol) in object.symbols().iter().enumerate() {
-        note_symbol(places, awake, names, object, dropped, j, symbol)?;
+    let symbols = object.symbols();
+    for j in 0..symbols.len() {
+        note_symbol(places, awake, names, object, dropped, j, &symbols.at(j))?;
     }
     Ok(())
 }
@@ -125,9 +148,14 @@ fn note_root<'a>(
     names: &mut KnownNames<'a>,
     name: &'a [u8],
 ) -> Result<(), AllocError>
-    ensures requested { OnOk result ((n : List ℕ) → requests_name names.new n ≡ (bytes_eq name.entry.now n && true || requests_name names.old n)) }
-    ensures defined { OnOk result ((n : List ℕ) → defines_name names.new n ≡ (bytes_eq name.entry.now n && false || defines_name names.old n)) }
-    ensures woken { OnOk result (AreWokenSince places.now none_asked names.old awake.old → AreWokenSince places.now none_asked names.new awake.new) }
+    ensures requested { OnOk result ((n : List ℕ) →
+        requests_name names.new n
+        ≡ (bytes_eq name.entry.now n && true || requests_name names.old n)) }
+    ensures defined { OnOk result ((n : List ℕ) →
+        defines_name names.new n
+        ≡ (bytes_eq name.entry.now n && false || defines_name names.old n)) }
+    ensures woken { OnOk result (AreWokenSince places.now none_asked names.old awake.old
+        → AreWokenSince places.now none_asked names.new awake.new) }
 {
     let root = NameState {
         requested: true,
@@ -147,7 +175,9 @@ pub fn roots<'a>(
     seed: Option<NameSeed>,
 ) -> Result<KnownNames<'a>, AllocError>
     ensures woken { IfOk result (λ m. AreWokenSince places.now none_asked m awake.new) }
-    ensures requested { IfOk result (λ m. (n : List ℕ) → requests_name m n ≡ list_any (λ root. bytes_eq root n) (entry.entry.now ∷ texts_of undefined.now)) }
+    ensures requested { IfOk result (λ m. (n : List ℕ) →
+        requests_name m n
+        ≡ list_any (λ root. bytes_eq root n) (entry.entry.now ∷ texts_of undefined.now)) }
     ensures defined { IfOk result (λ m. (n : List ℕ) → defines_name m n ≡ false) }
 {
     let mut names = KnownNames::new(alloc, seed);

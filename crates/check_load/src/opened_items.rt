@@ -32,7 +32,8 @@ fn find_library<'a>(
     directories: &[&str],
     name: &str,
 ) -> Result<Option<(&'a str, &'a [u8])>, AllocError>
-    ensures { IfOk result (λ f. option_map found_view f ≡ first_found files.now (library_paths (texts_of directories.now) name.now)) }
+    ensures { IfOk result (λ f. option_map found_view f
+        ≡ first_found files.now (library_paths (texts_of directories.now) name.now)) }
 {
     for directory in directories {
         let path = library_path(alloc, directory, name)?;
@@ -50,7 +51,8 @@ fn find_source<'a>(
     directories: &[&str],
     source: Source<'_>,
 ) -> Result<Option<(&'a str, &'a [u8])>, AllocError>
-    ensures { IfOk result (λ f. option_map found_view f ≡ first_found files.now (paths_of (texts_of directories.now) (source_of source.entry))) }
+    ensures { IfOk result (λ f. option_map found_view f
+        ≡ first_found files.now (paths_of (texts_of directories.now) (source_of source.entry))) }
 {
     match source {
         Source::Path(path) => Ok(files.find(path)),
@@ -65,9 +67,12 @@ fn open_items<'a>(
     directories: &[&str],
     items: &[Item<'_>],
 ) -> Result<Vec<OpenedItem<'a>>, Stop>
-    ensures opened { IfOk result (λ v. map item_view v.items ≡ opened_from files.now (texts_of directories.now) 0 (map item_of items.now)) }
-    ensures files { OnOk result (All (HasFile files.now (texts_of directories.now)) (map item_of items.now)) }
-    ensures stop { IfErr result (Refutes (All (HasFile files.now (texts_of directories.now)) (map item_of items.now))) }
+    ensures opened { IfOk result (λ v. map item_view v.items
+        ≡ opened_from files.now (texts_of directories.now) 0 (map item_of items.now)) }
+    ensures files { OnOk result (All (HasFile files.now (texts_of directories.now))
+        (map item_of items.now)) }
+    ensures stop { IfErr result (Refutes
+        (All (HasFile files.now (texts_of directories.now)) (map item_of items.now))) }
 {
     let mut opened = Vec::new(alloc);
     for (i, item) in items.iter().enumerate() {

@@ -60,7 +60,10 @@ fn add_place<'a>(
 ) -> Result<(), AllocError>
     requires { IsSized names.old }
     ensures sized { OnOk result (IsSized names.new) }
-    ensures places { OnOk result ((n : List ℕ) → places_in names.new n ≡ cond (bytes_eq name.now n) (places_in names.old n ++ place ∷ []) (places_in names.old n)) }
+    ensures places { OnOk result ((n : List ℕ) →
+        places_in names.new n
+        ≡ cond (bytes_eq name.now n) (places_in names.old n ++ place ∷ [])
+        (places_in names.old n)) }
 {
     let (number, _is_new) = names.names.add(name)?;
     reach(alloc, &mut names.lists, number)?;
@@ -77,8 +80,10 @@ fn add_entries<'a>(
 ) -> Result<(), AllocError>
     requires { IsSized names.old }
     ensures sized { OnOk result (IsSized names.new) }
-    ensures placed { OnOk result ((q : ℕ) (e : archive.IndexEntry) → slice_get entries.now q ≡ Some e → has_place names.new e.name item q ≡ true) }
-    ensures stays { OnOk result ((n : List ℕ) (i q : ℕ) → has_place names.old n i q ≡ true → has_place names.new n i q ≡ true) }
+    ensures placed { OnOk result ((q : ℕ) (e : archive.IndexEntry) →
+        slice_get entries.now q ≡ Some e → has_place names.new e.name item q ≡ true) }
+    ensures stays { OnOk result ((n : List ℕ) (i q : ℕ) →
+        has_place names.old n i q ≡ true → has_place names.new n i q ≡ true) }
 {
     for (i, entry) in entries.iter().enumerate() {
         add_place(alloc, names, entry.name(), (item, i))?;
@@ -95,7 +100,8 @@ fn add_input<'a>(
     requires { IsSized names.old }
     ensures sized { OnOk result (IsSized names.new) }
     ensures placed { OnOk result (IsPlaced names.new input.now) }
-    ensures stays { OnOk result ((n : List ℕ) (i q : ℕ) → has_place names.old n i q ≡ true → has_place names.new n i q ≡ true) }
+    ensures stays { OnOk result ((n : List ℕ) (i q : ℕ) →
+        has_place names.old n i q ≡ true → has_place names.new n i q ≡ true) }
 {
     let item = input.item();
     if !item.archive || item.whole {
@@ -130,7 +136,8 @@ impl<'a> NamePlaces<'a> {
     /// The places of a name that has any.
     fn places(&self, name: &[u8]) -> Option<&Vec<(u64, usize)>>
         requires { IsSized self.now }
-        ensures { unwrap_or (option_map (λ v. v.now.items) result) [] ≡ places_in self.now name.now }
+        ensures { unwrap_or (option_map (λ v. v.now.items) result) []
+            ≡ places_in self.now name.now }
     {
         let number = self.names.find(name)?;
         self.lists.get(number)
@@ -153,7 +160,8 @@ impl<'i, 'a> Places<'i, 'a> {
     /// Wakes the entries of a name.
     pub fn wake(&self, awake: &mut Awake, name: &[u8]) -> Result<(), AllocError>
         ensures woken { OnOk result (IsWoken self.now name.now awake.new) }
-        ensures stays { OnOk result ((i q : ℕ) → is_awake awake.old i q ≡ true → is_awake awake.new i q ≡ true) }
+        ensures stays { OnOk result ((i q : ℕ) →
+            is_awake awake.old i q ≡ true → is_awake awake.new i q ≡ true) }
     {
         let Some(places) = self.names.places(name) else {
             return Ok(());

@@ -27,8 +27,10 @@ fn run_first<'a>(
     ensures plan { OnOk result (loader.new.plan.now ≡ loader.old.plan.now) }
     ensures known { OnOk result (Knows places.now loader.new) }
     ensures spent { OnOk result (AreSpent (loaded loader.new) inputs.now) }
-    ensures loaded { OnOk result (loaded loader.new ≡ round loader.old.plan.now inputs.now (loaded loader.old)) }
-    ensures stop { IfErr result (Refutes (AreLoadable (round loader.old.plan.now inputs.now (loaded loader.old)))) }
+    ensures loaded { OnOk result (loaded loader.new
+        ≡ round loader.old.plan.now inputs.now (loaded loader.old)) }
+    ensures stop { IfErr result (Refutes
+        (AreLoadable (round loader.old.plan.now inputs.now (loaded loader.old)))) }
 {
     for input in inputs {
         turn(alloc, places, loader, input)?;
@@ -50,8 +52,10 @@ fn run_round<'a>(
     requires spent { AreSpent (loaded loader.old) inputs.now }
     ensures plan { OnOk result (loader.new.plan.now ≡ loader.old.plan.now) }
     ensures known { OnOk result (Knows places.now loader.new) }
-    ensures loaded { OnOk result (loaded loader.new ≡ round loader.old.plan.now inputs.now (loaded loader.old)) }
-    ensures stop { IfErr result (Refutes (AreLoadable (round loader.old.plan.now inputs.now (loaded loader.old)))) }
+    ensures loaded { OnOk result (loaded loader.new
+        ≡ round loader.old.plan.now inputs.now (loaded loader.old)) }
+    ensures stop { IfErr result (Refutes
+        (AreLoadable (round loader.old.plan.now inputs.now (loaded loader.old)))) }
 {
     let mut from = 0;
     while let Some(i) = loader.next_awake(inputs, from) {
@@ -74,8 +78,10 @@ pub fn run_rounds<'a>(
     requires numbers { AreSideBySide inputs.now }
     ensures plan { OnOk result (loader.new.plan.now ≡ loader.old.plan.now) }
     ensures known { OnOk result (Knows places.now loader.new) }
-    ensures loaded { OnOk result (loaded loader.new ≡ rounds loader.old.plan.now inputs.now (loaded loader.old)) }
-    ensures stop { IfErr result (Refutes (AreLoadable (rounds loader.old.plan.now inputs.now (loaded loader.old)))) }
+    ensures loaded { OnOk result (loaded loader.new
+        ≡ rounds loader.old.plan.now inputs.now (loaded loader.old)) }
+    ensures stop { IfErr result (Refutes
+        (AreLoadable (rounds loader.old.plan.now inputs.now (loaded loader.old)))) }
 {
     run_first(alloc, places, loader, inputs)?;
     loop {

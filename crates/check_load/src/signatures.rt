@@ -46,7 +46,9 @@ fn admit_group<'a>(
     marks: &mut [bool],
     group: &Group<'a>,
 ) -> Result<(), AllocError>
-    ensures marks { OnOk result (marks.new ≡ (if is_comdat group.now && is_among seen.old group.now.signature then marked marks.old group.now.members else marks.old)) }
+    ensures marks { OnOk result (marks.new
+        ≡ (if is_comdat group.now
+        && is_among seen.old group.now.signature then marked marks.old group.now.members else marks.old)) }
     ensures seen { OnOk result (is_among seen.new ≡ seen_then (is_among seen.old) group.now) }
 {
     if !is_comdat(group) {
@@ -66,7 +68,8 @@ fn mark_lost<'a>(
     marks: &mut Vec<bool>,
     groups: &[Group<'a>],
 ) -> Result<(), AllocError>
-    ensures marks { OnOk result (marks.new.items ≡ marked marks.old.items (lost_members (is_among seen.old) groups.now)) }
+    ensures marks { OnOk result (marks.new.items
+        ≡ marked marks.old.items (lost_members (is_among seen.old) groups.now)) }
     ensures seen { OnOk result (is_among seen.new ≡ seen_by (is_among seen.old) groups.now) }
 {
     for group in groups {
@@ -100,7 +103,8 @@ pub fn admit<'a>(
 ) -> Result<Dropped, Stop>
     ensures lawful { OnOk result (AreLawfulGroups (groups object.now)) }
     ensures dropped { IfOk result (λ d. d ≡ lost_by (is_among seen.old) (groups object.now)) }
-    ensures seen { OnOk result (is_among seen.new ≡ seen_by (is_among seen.old) (groups object.now)) }
+    ensures seen { OnOk result (is_among seen.new
+        ≡ seen_by (is_among seen.old) (groups object.now)) }
     ensures stop { IfErr result (Refutes (AreLawfulGroups (groups object.now))) }
 {
     let groups = object.groups();

@@ -27,8 +27,10 @@ impl Taken {
 
     /// Notes a member of an item.
     pub fn add(&mut self, item: u64, offset: u64) -> Result<(), AllocError>
-        ensures members { OnOk result ((i k : ℕ) → has_member self.new i k ≡ (item == i && offset == k || has_member self.old i k)) }
-        ensures items { OnOk result ((i : ℕ) → has_item self.new i ≡ (item == i || has_item self.old i)) }
+        ensures members { OnOk result ((i k : ℕ) →
+            has_member self.new i k ≡ (item == i && offset == k || has_member self.old i k)) }
+        ensures items { OnOk result ((i : ℕ) →
+            has_item self.new i ≡ (item == i || has_item self.old i)) }
     {
         self.members.insert((item, offset))?;
         self.items.insert(item)?;

@@ -25,8 +25,10 @@ fn take_members<'a>(
     requires searched { input.now.whole ≡ false }
     ensures plan { OnOk result (loader.new.plan.now ≡ loader.old.plan.now) }
     ensures known { OnOk result (Knows places.now loader.new) }
-    ensures loaded { OnOk result (loaded loader.new ≡ turn loader.old.plan.now input.now (loaded loader.old)) }
-    ensures stop { IfErr result (Refutes (AreLoadable (turn loader.old.plan.now input.now (loaded loader.old)))) }
+    ensures loaded { OnOk result (loaded loader.new
+        ≡ turn loader.old.plan.now input.now (loaded loader.old)) }
+    ensures stop { IfErr result (Refutes
+        (AreLoadable (turn loader.old.plan.now input.now (loaded loader.old)))) }
 {
     let item = input.item();
     while let Some(offset) = loader.next_member(places, input) {
@@ -46,8 +48,11 @@ fn take_all<'a>(
     requires archive { input.now.archive ≡ true }
     ensures plan { OnOk result (loader.new.plan.now ≡ loader.old.plan.now) }
     ensures known { OnOk result (Knows places.now loader.new) }
-    ensures loaded { OnOk result (loaded loader.new ≡ with_members (loaded loader.old) input.now (archive_members input.now.bytes)) }
-    ensures stop { IfErr result (Refutes (AreLoadable (with_members (loaded loader.old) input.now (archive_members input.now.bytes)))) }
+    ensures loaded { OnOk result (loaded loader.new
+        ≡ with_members (loaded loader.old) input.now (archive_members input.now.bytes)) }
+    ensures stop { IfErr result (Refutes
+        (AreLoadable (with_members (loaded loader.old) input.now
+        (archive_members input.now.bytes)))) }
 {
     let item = input.item();
     for member in input.members() {
@@ -68,8 +73,10 @@ pub fn turn<'a>(
     requires archive { input.now.archive ≡ true }
     ensures plan { OnOk result (loader.new.plan.now ≡ loader.old.plan.now) }
     ensures known { OnOk result (Knows places.now loader.new) }
-    ensures loaded { OnOk result (loaded loader.new ≡ turn loader.old.plan.now input.now (loaded loader.old)) }
-    ensures stop { IfErr result (Refutes (AreLoadable (turn loader.old.plan.now input.now (loaded loader.old)))) }
+    ensures loaded { OnOk result (loaded loader.new
+        ≡ turn loader.old.plan.now input.now (loaded loader.old)) }
+    ensures stop { IfErr result (Refutes
+        (AreLoadable (turn loader.old.plan.now input.now (loaded loader.old)))) }
 {
     let item = input.item();
     if !item.whole {

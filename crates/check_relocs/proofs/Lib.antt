@@ -2,6 +2,7 @@ pub mod ByIndex
 pub mod FieldOrder
 pub mod FittingLemmas
 pub mod KindRows
+pub mod KnownSteps
 pub mod Modulo
 pub mod NeedSteps
 pub mod ObjectFields

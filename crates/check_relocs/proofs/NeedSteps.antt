@@ -1,7 +1,5 @@
 -- What relocations ask of the GOT, some relocations more.
-use Rattle.std.proofs.Common.{◌≡◌, ◌||◌, Bool, true, false, cond, List, [], ◌∷◌, ◌++◌, Option, Some, None, refl, sym, ◌∙◌, ap, subst}
-use Rattle.std.specs.BTreeSet as set
-use Rattle.std.specs.BTreeSet.{BTreeSet}
+use Rattle.std.proofs.Common.{◌≡◌, ◌||◌, Bool, true, false, List, [], ◌∷◌, ◌++◌, Option, Some, None, refl, sym, ◌∙◌, ap, subst}
 use Rattle.std.specs.List.{cons_option, filter_map, list_any}
 use Rattle.std.specs.Option.{option_map_or}
 use Rattle.std.proofs.lemmas.List.Folds.{list_any-append}
@@ -9,23 +7,8 @@ use Rattle.elf_model.specs.Loading.{LoadedObject}
 use Rattle.elf_model.specs.Relocation.{Relocation, relocations}
 use Rattle.elf_model.specs.Slots.{Request, asks_for_got, request_of, same_request}
 use Rattle.check_relocs.specs.Needs.{AreNeeds, HaveGained, asks_for_slot}
-use Rattle.check_link.specs.Slots.{is_asked, key_of, request_order, request_view}
+use Rattle.check_link.specs.Slots.{is_asked}
 use Rattle.check_relocs.specs.declared.needs.Needs.{Needs}
-use Rattle.check_link.specs.declared.requests.Request as code
-use Rattle.check_link.proofs.SlotSteps.{tied_key}
-
--- a request goes into a set
-pub request_added :
-    (old new : BTreeSet code.Request) (k : code.Request) → set.UpdatesBy request_order (request_order k) old new true → (q : Request) →
-    is_asked new q ≡ (is_asked old q || same_request q (request_view k))
-request_added old new k updates q =
-    updates.0 (key_of q) ∙ ap (λ b. cond b true (is_asked old q)) (tied_key k q) ∙ by (same_request q (request_view k)) (is_asked old q)
-  where
-    by : (b c : Bool) → cond b true c ≡ (c || b)
-    by true true = refl
-    by true false = refl
-    by false true = refl
-    by false false = refl
 
 or_assoc : (a b c : Bool) → ((a || b) || c) ≡ (a || (b || c))
 or_assoc true b c = refl

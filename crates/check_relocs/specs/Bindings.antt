@@ -1,5 +1,5 @@
 -- What the names and the symbols of objects mean.
-use Rattle.std.specs.Prelude.{◌≡◌, ◌↔◌, ℕ, ◌%◌, ◌^◌, ◌<◌, ◌&&◌, not, true, false, IsTrue, List, IsSomeAnd, length, option_map, slice_index_or, unwrap_or}
+use Rattle.std.specs.Prelude.{◌≡◌, ◌↔◌, ℕ, ◌%◌, ◌^◌, ◌&&◌, not, true, false, IsTrue, List, IsSomeAnd, Option, option_map, unwrap_or}
 use Rattle.std.specs.Option.{option_map_or}
 use Rattle.elf_model.specs.Loading.{LoadedObject}
 use Rattle.elf_model.specs.Pieces.{is_alloc}
@@ -8,6 +8,7 @@ use Rattle.elf_model.specs.Placement.{Where}
 use Rattle.elf_model.specs.Relocation.{IsMixed, IsUndefined, definition_of, is_local, symbol_at}
 use Rattle.elf_model.specs.Resolution.{SymbolOf, section_of}
 use Rattle.elf_model.specs.RightLink.{Subject, objects_of, where_of}
+use Rattle.check_relocs.specs.Known.{AreKnown}
 use Rattle.check_relocs.specs.declared.targets.Target.{Target}
 
 -- the objects and where their pieces are, which give symbols their meaning
@@ -33,6 +34,6 @@ pub record IsTargetOf (b : Bound) (s : SymbolOf) (t : Target) : Type 0 where
   pub value : t.value ≡ unwrap_or (option_map (meaning_value b.places) (definition_of b.objects s)) 0 % 2 ^ 64
   pub size : t.size ≡ unwrap_or (option_map meaning_size (definition_of b.objects s)) 0
 
--- what the symbols of the object that has a number mean, by their numbers
-abbrev pub AreTargets : Bound → ℕ → LoadedObject → List Target → Type 0
-AreTargets b object o ts = (j : ℕ) (d : Target) → j < length ts → IsTargetOf b (symbol_at object o j) (slice_index_or ts j d)
+-- what is known of the symbols of the object that has a number is what they mean
+abbrev pub AreTargets : Bound → ℕ → LoadedObject → List (Option Target) → Type 0
+AreTargets b object o ts = AreKnown (λ j t. IsTargetOf b (symbol_at object o j) t) ts

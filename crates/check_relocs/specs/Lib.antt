@@ -2,6 +2,7 @@ pub mod Bindings
 pub mod Bytes
 pub mod Fields
 pub mod Kinds
+pub mod Known
 pub mod LawfulFields
 pub mod LinkerUses
 pub mod Needs

@@ -1,16 +1,17 @@
 -- Which symbols of an object have names that the linker defines.
-use Rattle.std.specs.Prelude.{◌≡◌, ℕ, ◌<◌, Bool, List, length, slice_index_or}
+use Rattle.std.specs.Prelude.{◌≡◌, ℕ, Bool, List, Option}
 use Rattle.std.specs.BTreeSet.{BTreeSet}
 use Rattle.std.specs.Borrow.{Bor}
 use Rattle.std.specs.List.{list_any}
 use Rattle.elf_model.specs.Loading.{LoadedObject}
 use Rattle.elf_model.specs.Relocation.{relocations, symbol_at}
+use Rattle.check_relocs.specs.Known.{AreKnown}
 use Rattle.elf_model.specs.UsedNames.{is_among, is_linker_use, uses_line}
 
 -- a set has the linker's names that kept relocations use and no object defines
 abbrev pub AreUsed : List LoadedObject → BTreeSet (Bor (List ℕ)) → Type 0
 AreUsed objects names = (n : List ℕ) → is_among names n ≡ list_any (uses_line objects n) (relocations objects)
 
--- by their numbers, of the object that has a number
-abbrev pub AreUses : List LoadedObject → ℕ → LoadedObject → List Bool → Type 0
-AreUses objects number o us = (j : ℕ) (d : Bool) → j < length us → slice_index_or us j d ≡ is_linker_use objects (symbol_at number o j)
+-- what is known of the symbols of the object that has a number is whether they are such
+abbrev pub AreUses : List LoadedObject → ℕ → LoadedObject → List (Option Bool) → Type 0
+AreUses objects number o us = AreKnown (λ j u. u ≡ is_linker_use objects (symbol_at number o j)) us

@@ -1,16 +1,17 @@
 -- What kept relocations ask of the GOT.
-use Rattle.std.specs.Prelude.{◌≡◌, ℕ, ◌<◌, ◌||◌, Bool, false, List, length, slice_index_or}
+use Rattle.std.specs.Prelude.{◌≡◌, ℕ, ◌||◌, Bool, false, List, Option}
 use Rattle.std.specs.List.{list_any}
 use Rattle.std.specs.Option.{option_map_or}
 use Rattle.elf_model.specs.Loading.{LoadedObject}
 use Rattle.elf_model.specs.Relocation.{Relocation, symbol_at}
 use Rattle.elf_model.specs.Slots.{Request, asks_for_got, has_got, names_got, request_of, requests, same_request}
 use Rattle.check_link.specs.Slots.{is_asked}
+use Rattle.check_relocs.specs.Known.{AreKnown}
 use Rattle.check_relocs.specs.declared.needs.Needs.{Needs}
 
--- by their numbers, which symbols of the object that has a number have the GOT's name
-abbrev pub AreGotNames : List LoadedObject → ℕ → LoadedObject → List Bool → Type 0
-AreGotNames objects number o us = (j : ℕ) (d : Bool) → j < length us → slice_index_or us j d ≡ names_got objects (symbol_at number o j)
+-- what is known of the symbols of the object that has a number is whether they have the GOT's name
+abbrev pub AreGotNames : List LoadedObject → ℕ → LoadedObject → List (Option Bool) → Type 0
+AreGotNames objects number o us = AreKnown (λ j u. u ≡ names_got objects (symbol_at number o j)) us
 
 -- a relocation asks for the slot of a request
 abbrev pub asks_for_slot : Request → Relocation → Bool

@@ -1,5 +1,5 @@
 //! What names mean: the names of objects, the linker's own, and the addresses of the placed pieces.
-ghost use Rattle.std.specs.Prelude.{◌≡◌, ◌≢◌, ◌↔◌, ◌%◌, ◌^◌, IsSomeAnd, IsTrue, None, false, filter, option_map, unwrap_or};
+ghost use Rattle.std.specs.Prelude.{◌≡◌, ◌≢◌, ◌↔◌, ◌%◌, ◌^◌, IsSomeAnd, IfOk, IsTrue, None, false, filter, option_map, unwrap_or};
 ghost use Rattle.std.specs.Option.{option_map_or};
 ghost use Rattle.elf_model.specs.ChosenSymbols.{is_chosen, is_definition};
 ghost use Rattle.elf_model.specs.LinkerNames.{bound_of, named_output};
@@ -13,6 +13,7 @@ ghost use Rattle.elf_model.specs.Resolution.{AreSoundSymbols, all_symbols, bindi
 ghost use Rattle.elf_model.specs.Slots.{requested_address};
 ghost use Rattle.check_load.specs.Views.{loaded_views};
 ghost use Rattle.check_relocs.specs.Bindings.{IsOfUnkept, IsTargetOf};
+ghost use Rattle.check_link.specs.Chosen.{AreOwnChoices};
 ghost use Rattle.check_link.specs.Slots.{request_view};
 ghost use Rattle.check_link.specs.ThreadStorage.{thread_pointer};
 ghost use Rattle.check_link.specs.Views.{meaning_view, symbol_view, symbol_views};
@@ -23,7 +24,8 @@ use check_link::{
     is_in_thread_section, named_output, output_bound, section_of,
 };
 use check_load::Loaded;
-use elf_model::{Bound, SHN_ABS, SHN_UNDEF, STB_LOCAL, STB_WEAK};
+use elf_model::{Bound, NameSeed, SHN_ABS, SHN_UNDEF, STB_LOCAL, STB_WEAK};
+use std::alloc::{AllocError, Global};
 use std::marker::Model;
 
 /// What names mean: the names of the loaded objects, the output names of their kept sections, and the placed pieces.
@@ -48,9 +50,10 @@ impl<'l, 'p, 'a> Model for Bindings<'l, 'p, 'a> {
 
 /// Whether a symbol that isn't number 0 and isn't WEAK has no definition.
 fn is_in_want(symbol: &SymbolOf<'_>, definition: &Option<Meaning<'_>>) -> bool
-    ensures { IsTrue result ↔ ((symbol.now.number ≢ 0) × (binding symbol.now.entry ≢ 2) × (option_map meaning_view definition.now ≡ None)) }
+    ensures { IsTrue result ↔ ((symbol.now.number ≢ 0) × (binding symbol.now.entry ≢ 2)
+        × (option_map meaning_view definition.now ≡ None)) }
 {
-    if symbol.number == 0 || symbol.entry.st_info / 16 == STB_WEAK {
+    if symbol.number == 0 || symbol.entry.binding() == STB_WEAK {
         return false;
     }
     definition.is_none()
@@ -60,7 +63,7 @@ fn is_in_want(symbol: &SymbolOf<'_>, definition: &Option<Meaning<'_>>) -> bool
 fn is_of_unkept(objects: &[Loaded<'_>], symbol: &SymbolOf<'_>) -> bool
     ensures { IsTrue result ↔ IsOfUnkept (loaded_views objects.now) (symbol_view symbol.now) }
 {
-    if symbol.entry.st_info / 16 != STB_LOCAL {
+    if symbol.entry.binding() != STB_LOCAL {
         return false;
     }
     match section_of(objects, symbol) {
@@ -71,7 +74,8 @@ fn is_of_unkept(objects: &[Loaded<'_>], symbol: &SymbolOf<'_>) -> bool
 
 /// Whether there is a definition, one of a section with SHF_TLS.
 fn is_thread_local(objects: &[Loaded<'_>], definition: &Option<Meaning<'_>>) -> bool
-    ensures { result ≡ option_map_or (is_in_thread_storage (loaded_views objects.now)) (option_map meaning_view definition.now) false }
+    ensures { result ≡ option_map_or (is_in_thread_storage (loaded_views objects.now))
+        (option_map meaning_view definition.now) false }
 {
     match definition {
         Some(Meaning::Symbol(symbol)) => is_in_thread_section(objects, symbol),
@@ -118,7 +122,9 @@ fn meaning_value(places: &Places<'_, '_>, meaning: &Meaning<'_>) -> u64
 }
 
 fn value_or_none(places: &Places<'_, '_>, definition: &Option<Meaning<'_>>) -> u64
-    ensures { result ≡ unwrap_or (option_map (meaning_value places.now) (option_map meaning_view definition.now)) 0 % 2 ^ 64 }
+    ensures { result ≡ unwrap_or
+        (option_map (meaning_value places.now)
+        (option_map meaning_view definition.now)) 0 % 2 ^ 64 }
 {
     match definition {
         Some(meaning) => meaning_value(places, meaning),
@@ -127,7 +133,8 @@ fn value_or_none(places: &Places<'_, '_>, definition: &Option<Meaning<'_>>) -> u
 }
 
 fn size_or_none(definition: &Option<Meaning<'_>>) -> u64
-    ensures { result ≡ unwrap_or (option_map meaning_size (option_map meaning_view definition.now)) 0 }
+    ensures { result ≡ unwrap_or
+        (option_map meaning_size (option_map meaning_view definition.now)) 0 }
 {
     match definition {
         Some(Meaning::Symbol(symbol)) => symbol.entry.st_size,
@@ -163,9 +170,23 @@ impl<'l, 'p, 'a> Bindings<'l, 'p, 'a> {
         self.names.objects()
     }
 
+    /// From what names are to be hashed, where they aren't to be found by their order.
+    pub fn seed(&self) -> Option<NameSeed> {
+        self.names.seed()
+    }
+
+    /// Marks of definitions that are the chosen ones of their names.
+    pub fn own_choices(&self, alloc: Global) -> Result<Vec<bool>, AllocError>
+        ensures { IfOk result (λ v. AreOwnChoices self.now.objects
+            (filter is_definition (all_symbols self.now.objects)) v.items) }
+    {
+        self.names.own_choices(alloc)
+    }
+
     /// The definitions of the objects, strong, common and weak, in load order.
     pub fn definitions(&self) -> &[SymbolOf<'a>]
-        ensures { symbol_views result.now ≡ filter is_definition (all_symbols self.entry.now.objects) }
+        ensures { symbol_views result.now
+            ≡ filter is_definition (all_symbols self.entry.now.objects) }
     {
         self.names.definitions()
     }
@@ -216,7 +237,8 @@ impl<'l, 'p, 'a> Bindings<'l, 'p, 'a> {
 
     /// What the linker defines for a name.
     pub fn linker_meaning(&self, name: &'a [u8]) -> Option<Meaning<'a>>
-        ensures { option_map meaning_view result ≡ option_map (meanings.Linker name.now) (bound_of self.now.objects name.now) }
+        ensures { option_map meaning_view result
+            ≡ option_map (meanings.Linker name.now) (bound_of self.now.objects name.now) }
     {
         let bound = self.bound_of(name)?;
         Some(Meaning::Linker(name, bound))
@@ -256,7 +278,8 @@ impl<'l, 'p, 'a> Bindings<'l, 'p, 'a> {
 
     /// Whether a definition, if there is one, is such a bound.
     fn is_mixed(&self, definition: &Option<Meaning<'_>>) -> bool
-        ensures { IsTrue result ↔ IsSomeAnd (option_map meaning_view definition.now) (IsMixed self.now.objects) }
+        ensures { IsTrue result ↔ IsSomeAnd (option_map meaning_view definition.now)
+            (IsMixed self.now.objects) }
     {
         match definition {
             Some(Meaning::Linker(name, bound)) => self.is_mixed_bound(name, *bound),
@@ -266,9 +289,10 @@ impl<'l, 'p, 'a> Bindings<'l, 'p, 'a> {
 
     /// What a relocation uses which names a symbol: what its name means, or the symbol itself where that is LOCAL.
     fn definition(&self, symbol: &SymbolOf<'a>) -> Option<Meaning<'a>>
-        ensures { option_map meaning_view result ≡ definition_of self.now.objects (symbol_view symbol.now) }
+        ensures { option_map meaning_view result
+            ≡ definition_of self.now.objects (symbol_view symbol.now) }
     {
-        if symbol.entry.st_info / 16 != STB_LOCAL {
+        if symbol.entry.binding() != STB_LOCAL {
             return self.meaning(symbol.name);
         }
         if symbol.entry.st_shndx == SHN_UNDEF {
@@ -293,7 +317,8 @@ impl<'l, 'p, 'a> Bindings<'l, 'p, 'a> {
 
     /// Whether a defined symbol's value is a number. No sum past 2^64 is one.
     pub fn has_value(&self, symbol: &SymbolOf<'_>, value: u64) -> bool
-        ensures { IsTrue result ↔ (value ≡ symbol_value self.now.places.placed (symbol_view symbol.now)) }
+        ensures { IsTrue result ↔ (value
+            ≡ symbol_value self.now.places.placed (symbol_view symbol.now)) }
     {
         has_value(self.places, symbol, value)
     }
@@ -307,7 +332,8 @@ impl<'l, 'p, 'a> Bindings<'l, 'p, 'a> {
 
     /// Whether the value of what a name means is a number.
     pub fn is_value(&self, meaning: &Meaning<'_>, value: u64) -> bool
-        ensures { IsTrue result ↔ (value ≡ meaning_value self.now.places (meaning_view meaning.now)) }
+        ensures { IsTrue result ↔ (value
+            ≡ meaning_value self.now.places (meaning_view meaning.now)) }
     {
         match meaning {
             Meaning::Symbol(symbol) => self.has_value(symbol, value),
@@ -341,7 +367,9 @@ impl<'l, 'p, 'a> Bindings<'l, 'p, 'a> {
 
     /// The value of what a name of the linker's stands for, 0 where the linker defines nothing for it.
     fn bound_value(&self, name: &[u8]) -> u64
-        ensures { result ≡ unwrap_or (option_map (bound_value self.now.places name.now) (bound_of self.now.objects name.now)) 0 }
+        ensures { result ≡ unwrap_or
+            (option_map (bound_value self.now.places name.now)
+            (bound_of self.now.objects name.now)) 0 }
     {
         match self.bound_of(name) {
             Some(bound) => self.places.bound(name, bound),
@@ -351,7 +379,9 @@ impl<'l, 'p, 'a> Bindings<'l, 'p, 'a> {
 
     /// The value of what a name means, modulo 2^64, 0 where it means nothing.
     pub fn name_value(&self, name: &[u8]) -> u64
-        ensures { result ≡ unwrap_or (option_map (meaning_value self.now.places) (meaning self.now.objects name.now)) 0 % 2 ^ 64 }
+        ensures { result ≡ unwrap_or
+            (option_map (meaning_value self.now.places)
+            (meaning self.now.objects name.now)) 0 % 2 ^ 64 }
     {
         match self.object_meaning(name) {
             Some(meaning) => meaning_value(self.places, &meaning),

@@ -58,7 +58,8 @@ fn target_at<'a>(loaded: &Loaded<'a>, number: u64, j: usize) -> Wanted<'a>
 
 /// The slot for which an entry asks by its kind; None where it asks for none.
 fn kind_asked(entry: &Rela) -> Option<SlotKind>
-    ensures { result ≡ option_and_then (λ k. slots.slot_kind_of k.formula) (relocation.kind_of (rela_type entry.now)) }
+    ensures { result ≡ option_and_then (λ k. slots.slot_kind_of k.formula)
+        (relocation.kind_of (rela_type entry.now)) }
 {
     let kind = kind_of(entry.kind())?;
     slot_kind_of(kind.formula)
@@ -66,7 +67,9 @@ fn kind_asked(entry: &Rela) -> Option<SlotKind>
 
 /// The request of an entry of the object that has a number; None where it asks for no slot.
 pub fn request_of<'a>(loaded: &Loaded<'a>, number: u64, entry: &Rela) -> Option<Request<'a>>
-    ensures { (section : ℕ) → option_map request_view result ≡ slots.request_of (relocation_of number (loaded_view loaded.now) section entry.now) }
+    ensures { (section : ℕ) →
+        option_map request_view result
+        ≡ slots.request_of (relocation_of number (loaded_view loaded.now) section entry.now) }
 {
     let kind = kind_asked(entry)?;
     Some(Request {

@@ -1,5 +1,5 @@
 //! The fields of all kept relocations, object by object and in order: the ninth clause of a right link.
-ghost use Rattle.std.specs.Prelude.{◌≡◌, ◌↔◌, ◌++◌, All, IfOk, IfSome, IsSome, IsTrue, Some, filter, map};
+ghost use Rattle.std.specs.Prelude.{◌≡◌, ◌↔◌, ◌++◌, All, IfOk, IfSome, IsSome, IsTrue, OnOk, Some, filter, map};
 ghost use Rattle.std.specs.List.{slice_get};
 ghost use Rattle.elf_model.specs.ObjectFile.{section, sections};
 ghost use Rattle.elf_model.specs.Relocation.{AreLawfulRelocations, is_some_kind, relocation_of, relocations, relocations_from, relocations_in};
@@ -13,7 +13,7 @@ ghost use Rattle.check_load.specs.Views.{loaded_view, loaded_views};
 use crate::bindings::Bindings;
 use crate::fields::{Field, in_order};
 use crate::lawful_fields::{Relocated, right_field};
-use crate::targets::{Target, targets_of};
+use crate::targets::{Target, unknown_targets};
 use check_load::Loaded;
 use elf_model::{Rela, SectionHeader};
 use elf_read::{ObjectFile, RelaRun};
@@ -46,7 +46,8 @@ pub fn relocated(
     ensures section { result.section ≡ target }
     ensures size { result.size ≡ (section (sections object.now) result.section).sh_size }
     ensures frames { result.frames ≡ is_frames object.now result.section }
-    ensures address { result.address ≡ section_address bindings.now.places.placed number result.section }
+    ensures address { result.address
+        ≡ section_address bindings.now.places.placed number result.section }
 {
     Relocated {
         section: target,
@@ -59,19 +60,30 @@ pub fn relocated(
 /// Adds the fields of entries. False where one of them isn't lawful or has a value that doesn't fit.
 fn add_fields<'a>(
     bindings: &Bindings<'_, '_, 'a>,
-    targets: &[Target],
+    targets: &mut Vec<Option<Target>>,
     number: u64,
     loaded: &Loaded<'a>,
     to: &Relocated,
     entries: &RelaRun<'_>,
     fields: &mut Vec<Field>,
 ) -> Result<bool, AllocError>
-    requires targets { AreTargets bindings.now number (loaded_view loaded.now) targets.now }
+    requires targets { AreTargets bindings.now number (loaded_view loaded.now) targets.old.items }
     requires size { to.now.size ≡ (section (sections loaded.now.object) to.now.section).sh_size }
     requires frames { to.now.frames ≡ is_frames loaded.now.object to.now.section }
-    requires address { to.now.address ≡ section_address bindings.now.places.placed number to.now.section }
-    ensures right { IfOk result (λ b. IsTrue b ↔ All (IsRight bindings.now.objects bindings.now.places) (map (relocation_of number (loaded_view loaded.now) to.now.section) (filter is_some_kind entries.now))) }
-    ensures fields { IfOk result (λ b. IsTrue b → fields.new.items ≡ fields.old.items ++ map (field_of bindings.now.objects bindings.now.places) (map (relocation_of number (loaded_view loaded.now) to.now.section) (filter is_some_kind entries.now))) }
+    requires address { to.now.address
+        ≡ section_address bindings.now.places.placed number to.now.section }
+    ensures kept { OnOk result
+        (AreTargets bindings.now number (loaded_view loaded.now) targets.new.items) }
+    ensures right { IfOk result (λ b. IsTrue b
+        ↔ All (IsRight bindings.now.objects bindings.now.places)
+        (map (relocation_of number (loaded_view loaded.now) to.now.section)
+        (filter is_some_kind entries.now))) }
+    ensures fields { IfOk result (λ b. IsTrue b
+        → fields.new.items
+        ≡ fields.old.items
+        ++ map (field_of bindings.now.objects bindings.now.places)
+        (map (relocation_of number (loaded_view loaded.now) to.now.section)
+        (filter is_some_kind entries.now))) }
 {
     fields.reserve_exact(entries.len())?;
     for i in 0..entries.len() {
@@ -90,18 +102,26 @@ fn add_fields<'a>(
 /// Adds the fields of RELA section `i`, which has the header. False where a relocation isn't right.
 fn add_section<'a>(
     bindings: &Bindings<'_, '_, 'a>,
-    targets: &[Target],
+    targets: &mut Vec<Option<Target>>,
     number: u64,
     loaded: &Loaded<'a>,
     i: usize,
     header: &SectionHeader,
     fields: &mut Vec<Field>,
 ) -> Result<bool, AllocError>
-    requires targets { AreTargets bindings.now number (loaded_view loaded.now) targets.now }
+    requires targets { AreTargets bindings.now number (loaded_view loaded.now) targets.old.items }
     requires there { slice_get (sections loaded.now.object) i ≡ Some header.now }
     requires rela { header.now.sh_type ≡ 4 }
-    ensures right { IfOk result (λ b. IsTrue b ↔ All (IsRight bindings.now.objects bindings.now.places) (relocations_in number (loaded_view loaded.now) header.now)) }
-    ensures fields { IfOk result (λ b. IsTrue b → fields.new.items ≡ fields.old.items ++ map (field_of bindings.now.objects bindings.now.places) (relocations_in number (loaded_view loaded.now) header.now)) }
+    ensures kept { OnOk result
+        (AreTargets bindings.now number (loaded_view loaded.now) targets.new.items) }
+    ensures right { IfOk result (λ b. IsTrue b
+        ↔ All (IsRight bindings.now.objects bindings.now.places)
+        (relocations_in number (loaded_view loaded.now) header.now)) }
+    ensures fields { IfOk result (λ b. IsTrue b
+        → fields.new.items
+        ≡ fields.old.items
+        ++ map (field_of bindings.now.objects bindings.now.places)
+        (relocations_in number (loaded_view loaded.now) header.now)) }
 {
     let to = relocated(bindings, number, &loaded.object, header.sh_info);
     let entries = loaded.object.entries(i);
@@ -116,18 +136,31 @@ fn object_fields<'a>(
     number: u64,
     loaded: &Loaded<'a>,
 ) -> Result<Option<Vec<Field>>, AllocError>
-    ensures right { IfOk result (λ o. IsSome o ↔ All (IsRight bindings.now.objects bindings.now.places) (relocations_from number (loaded_view loaded.now))) }
-    ensures fields { IfOk result (λ o. IfSome o (λ v. v.items ≡ map (field_of bindings.now.objects bindings.now.places) (relocations_from number (loaded_view loaded.now)))) }
+    ensures right { IfOk result (λ o. IsSome o
+        ↔ All (IsRight bindings.now.objects bindings.now.places)
+        (relocations_from number (loaded_view loaded.now))) }
+    ensures fields { IfOk result (λ o.
+        IfSome o (λ v. v.items
+        ≡ map (field_of bindings.now.objects bindings.now.places)
+        (relocations_from number (loaded_view loaded.now)))) }
 {
-    let targets = targets_of(alloc, bindings, number, loaded)?;
+    let mut targets = unknown_targets(alloc, loaded)?;
     let mut fields = Vec::new(alloc);
     let headers = loaded.object.sections();
     for i in 0..headers.len() {
-        let header = headers[i];
+        let header = headers.at(i);
         if !loaded.is_kept_rela(i, &header) {
             continue;
         }
-        let right = add_section(bindings, &targets, number, loaded, i, &header, &mut fields)?;
+        let right = add_section(
+            bindings,
+            &mut targets,
+            number,
+            loaded,
+            i,
+            &header,
+            &mut fields,
+        )?;
         if !right {
             return Ok(None);
         }
@@ -143,8 +176,12 @@ fn object_row<'a>(
     number: u64,
     loaded: &Loaded<'a>,
 ) -> Result<Option<Vec<Field>>, AllocError>
-    ensures right { IfOk result (λ o. IsSome o ↔ AreRight bindings.now.objects bindings.now.places (relocations_from number (loaded_view loaded.now))) }
-    ensures row { IfOk result (λ o. IfSome o (λ v. IsRowOf bindings.now.objects bindings.now.places number (loaded_view loaded.now) v.items)) }
+    ensures right { IfOk result (λ o. IsSome o
+        ↔ AreRight bindings.now.objects bindings.now.places
+        (relocations_from number (loaded_view loaded.now))) }
+    ensures row { IfOk result (λ o.
+        IfSome o (λ v.
+        IsRowOf bindings.now.objects bindings.now.places number (loaded_view loaded.now) v.items)) }
 {
     let Some(fields) = object_fields(alloc, bindings, number, loaded)? else {
         return Ok(None);
@@ -158,8 +195,10 @@ fn all_rows(
     alloc: Global,
     bindings: &Bindings<'_, '_, '_>,
 ) -> Result<Option<Vec<Vec<Field>>>, AllocError>
-    ensures right { IfOk result (λ o. IsSome o ↔ AreRight bindings.now.objects bindings.now.places (relocations bindings.now.objects)) }
-    ensures rows { IfOk result (λ o. IfSome o (λ v. AreRows bindings.now.objects bindings.now.places v.items)) }
+    ensures right { IfOk result (λ o. IsSome o
+        ↔ AreRight bindings.now.objects bindings.now.places (relocations bindings.now.objects)) }
+    ensures rows { IfOk result (λ o.
+        IfSome o (λ v. AreRows bindings.now.objects bindings.now.places v.items)) }
 {
     let objects = bindings.objects();
     let mut rows = Vec::with_capacity(alloc, objects.len())?;
@@ -178,8 +217,11 @@ pub fn fields_right(
     alloc: Global,
     bindings: &Bindings<'_, '_, '_>,
 ) -> Result<Option<Vec<Vec<Field>>>, AllocError>
-    ensures right { IfOk result (λ o. IsSome o ↔ (AreLawfulRelocations bindings.now.objects × AllFit bindings.now.objects bindings.now.places)) }
-    ensures rows { IfOk result (λ o. IfSome o (λ v. AreRows bindings.now.objects bindings.now.places v.items)) }
+    ensures right { IfOk result (λ o. IsSome o
+        ↔ (AreLawfulRelocations bindings.now.objects
+        × AllFit bindings.now.objects bindings.now.places)) }
+    ensures rows { IfOk result (λ o.
+        IfSome o (λ v. AreRows bindings.now.objects bindings.now.places v.items)) }
 {
     let rows = all_rows(alloc, bindings)?;
     Ok(rows)

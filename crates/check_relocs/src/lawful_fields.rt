@@ -76,7 +76,9 @@ fn field_with(
     entry: &Rela,
 ) -> Option<Field>
     requires { IsWidth kind.now.width }
-    ensures { SomeIff result (IsRightWith (Some (kind_view kind.now)) target.now to.now given.now entry.now) (field_with (Some (kind_view kind.now)) target.now to.now given.now entry.now) }
+    ensures { SomeIff result
+        (IsRightWith (Some (kind_view kind.now)) target.now to.now given.now entry.now)
+        (field_with (Some (kind_view kind.now)) target.now to.now given.now entry.now) }
 {
     if target.undefined || target.mixed || refers_to_dropped(target, to) {
         return None;
@@ -111,7 +113,11 @@ fn field_with(
 /// The field of an entry whose symbol means a target; None where it isn't lawful, and where its value
 /// doesn't fit.
 fn field_for(target: &Target, to: &Relocated, given: &LinkTerms, entry: &Rela) -> Option<Field>
-    ensures { SomeIff result (IsRightWith (relocation.kind_of (rela_type entry.now)) target.now to.now given.now entry.now) (field_with (relocation.kind_of (rela_type entry.now)) target.now to.now given.now entry.now) }
+    ensures { SomeIff result
+        (IsRightWith (relocation.kind_of
+        (rela_type entry.now)) target.now to.now given.now entry.now)
+        (field_with (relocation.kind_of
+        (rela_type entry.now)) target.now to.now given.now entry.now) }
 {
     let Some(kind) = kind_of(entry.kind()) else {
         return None;
@@ -126,7 +132,9 @@ fn slot_address<'a>(
     loaded: &Loaded<'a>,
     entry: &Rela,
 ) -> u64
-    ensures { (section : ℕ) → result ≡ slot_address bindings.now.places.slots (relocation_of number (loaded_view loaded.now) section entry.now) }
+    ensures { (section : ℕ) →
+        result ≡ slot_address bindings.now.places.slots
+        (relocation_of number (loaded_view loaded.now) section entry.now) }
 {
     match request_of(loaded, number, entry) {
         Some(request) => bindings.slot_address(&request),
@@ -141,7 +149,10 @@ pub fn link_terms<'a>(
     loaded: &Loaded<'a>,
     entry: &Rela,
 ) -> LinkTerms
-    ensures slot { (section : ℕ) → result.slot ≡ slot_address bindings.now.places.slots (relocation_of number (loaded_view loaded.now) section entry.now) - got_start bindings.now.places.got }
+    ensures slot { (section : ℕ) →
+        result.slot ≡ slot_address bindings.now.places.slots
+        (relocation_of number
+        (loaded_view loaded.now) section entry.now) - got_start bindings.now.places.got }
     ensures got { result.got ≡ got_start bindings.now.places.got }
     ensures pointer { result.thread_pointer ≡ thread_pointer bindings.now.places.placed }
 {
@@ -158,17 +169,23 @@ pub fn link_terms<'a>(
 /// doesn't fit.
 pub fn right_field<'a>(
     bindings: &Bindings<'_, '_, 'a>,
-    targets: &[Target],
+    targets: &mut Vec<Option<Target>>,
     number: u64,
     loaded: &Loaded<'a>,
     to: &Relocated,
     entry: &Rela,
 ) -> Option<Field>
-    requires targets { AreTargets bindings.now number (loaded_view loaded.now) targets.now }
+    requires targets { AreTargets bindings.now number (loaded_view loaded.now) targets.old.items }
     requires size { to.now.size ≡ (section (sections loaded.now.object) to.now.section).sh_size }
     requires frames { to.now.frames ≡ is_frames loaded.now.object to.now.section }
-    requires address { to.now.address ≡ section_address bindings.now.places.placed number to.now.section }
-    ensures { SomeIff result (IsRight bindings.now.objects bindings.now.places (relocation_of number (loaded_view loaded.now) to.now.section entry.now)) (field_of bindings.now.objects bindings.now.places (relocation_of number (loaded_view loaded.now) to.now.section entry.now)) }
+    requires address { to.now.address
+        ≡ section_address bindings.now.places.placed number to.now.section }
+    ensures kept { AreTargets bindings.now number (loaded_view loaded.now) targets.new.items }
+    ensures field { SomeIff result
+        (IsRight bindings.now.objects bindings.now.places
+        (relocation_of number (loaded_view loaded.now) to.now.section entry.now))
+        (field_of bindings.now.objects bindings.now.places
+        (relocation_of number (loaded_view loaded.now) to.now.section entry.now)) }
 {
     let target = target_at(bindings, targets, number, loaded, entry.symbol() as usize);
     let given = link_terms(bindings, number, loaded, entry);

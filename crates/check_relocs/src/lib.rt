@@ -2,6 +2,7 @@
 //! and the fields with the bytes that they want.
 #![tactic(auto)]
 
+mod answers;
 mod bindings;
 mod entry_requests;
 mod field_rows;
@@ -23,5 +24,5 @@ pub use lawful_fields::{LinkTerms, Relocated, is_mismatch, link_terms, refers_to
 pub use linker_uses::{linker_lines, used_names};
 pub use needs::{Needs, needs_of};
 pub use section_fields::fields_in;
-pub use targets::{Target, target_at, target_of_symbol, targets_of};
+pub use targets::{Target, target_at, target_of_symbol, unknown_targets};
 pub use values::{Terms, fits, value_of};

@@ -13,9 +13,10 @@ ghost use Rattle.check_load.specs.Views.{loaded_view, loaded_views};
 ghost use Rattle.check_relocs.specs.LinkerUses.{AreUsed, AreUses};
 ghost use Rattle.check_link.specs.Views.{meaning_views, symbol_view};
 
+use crate::answers::{keep_answer, known_answer, no_answers};
 use crate::bindings::Bindings;
 use crate::field_rows::is_some_kind;
-use crate::targets::{has_relas, is_local_at, symbol_at};
+use crate::targets::{is_local_at, symbol_at};
 use check_link::{Meaning, SymbolOf};
 use check_load::Loaded;
 use elf_model::{Rela, STB_LOCAL, SectionHeader};
@@ -27,7 +28,7 @@ use std::collections::BTreeSet;
 fn is_linker_use(bindings: &Bindings<'_, '_, '_>, symbol: &SymbolOf<'_>) -> bool
     ensures { result ≡ is_linker_use bindings.now.objects (symbol_view symbol.now) }
 {
-    if symbol.entry.st_info / 16 == STB_LOCAL {
+    if symbol.entry.binding() == STB_LOCAL {
         return false;
     }
     bindings.bound_of(symbol.name).is_some() && bindings.chosen(symbol.name).is_none()
@@ -40,7 +41,8 @@ fn is_use_of<'a>(
     loaded: &Loaded<'a>,
     j: usize,
 ) -> bool
-    ensures { result ≡ is_linker_use bindings.now.objects (symbol_at number (loaded_view loaded.now) j) }
+    ensures { result ≡ is_linker_use bindings.now.objects
+        (symbol_at number (loaded_view loaded.now) j) }
 {
     if is_local_at(loaded, j) {
         return false;
@@ -48,45 +50,30 @@ fn is_use_of<'a>(
     is_linker_use(bindings, &symbol_at(loaded, number, j))
 }
 
-/// Of each symbol of the object that has a number, whether it is such a one; of none where the object has no relocations.
-fn linker_symbols<'a>(
-    alloc: Global,
-    bindings: &Bindings<'_, '_, 'a>,
-    number: u64,
-    loaded: &Loaded<'a>,
-) -> Result<Vec<bool>, AllocError>
-    ensures { IfOk result (λ v. AreUses bindings.now.objects number (loaded_view loaded.now) v.items) }
-{
-    if !has_relas(loaded) {
-        return Ok(Vec::new(alloc));
-    }
-    let count = loaded.object.symbols().len();
-    let mut found = Vec::with_capacity(alloc, count)?;
-    for j in 0..count {
-        found.push(is_use_of(bindings, number, loaded, j))?;
-    }
-    Ok(found)
-}
-
-/// Whether symbol `j` is such a one.
+/// Whether symbol `j` is such a one. It is looked up where that isn't known.
 fn is_use<'a>(
     bindings: &Bindings<'_, '_, 'a>,
-    uses: &[bool],
+    uses: &mut Vec<Option<bool>>,
     number: u64,
     loaded: &Loaded<'a>,
     j: usize,
 ) -> bool
-    requires { AreUses bindings.now.objects number (loaded_view loaded.now) uses.now }
-    ensures { result ≡ is_linker_use bindings.now.objects (symbol_at number (loaded_view loaded.now) j) }
+    requires { AreUses bindings.now.objects number (loaded_view loaded.now) uses.old.items }
+    ensures kept { AreUses bindings.now.objects number (loaded_view loaded.now) uses.new.items }
+    ensures is_use { result ≡ is_linker_use bindings.now.objects
+        (symbol_at number (loaded_view loaded.now) j) }
 {
-    match uses.get(j) {
-        Some(is_use) => *is_use,
-        None => is_use_of(bindings, number, loaded, j),
+    if let Some(is_use) = known_answer(uses, j) {
+        return is_use;
     }
+    let answer = is_use_of(bindings, number, loaded, j);
+    keep_answer(uses, j, answer);
+    answer
 }
 
 fn add_name<'a>(names: &mut BTreeSet<&'a [u8]>, name: &'a [u8]) -> Result<(), AllocError>
-    ensures { OnOk result ((n : List ℕ) → is_among names.new n ≡ (bytes_eq name.entry.now n || is_among names.old n)) }
+    ensures { OnOk result ((n : List ℕ) →
+        is_among names.new n ≡ (bytes_eq name.entry.now n || is_among names.old n)) }
 {
     names.insert(name)?;
     Ok(())
@@ -96,14 +83,17 @@ fn add_name<'a>(names: &mut BTreeSet<&'a [u8]>, name: &'a [u8]) -> Result<(), Al
 fn add_use<'a>(
     names: &mut BTreeSet<&'a [u8]>,
     bindings: &Bindings<'_, '_, 'a>,
-    uses: &[bool],
+    uses: &mut Vec<Option<bool>>,
     number: u64,
     loaded: &Loaded<'a>,
     to: u64,
     entry: &Rela,
 ) -> Result<(), AllocError>
-    requires { AreUses bindings.now.objects number (loaded_view loaded.now) uses.now }
-    ensures { OnOk result (Gains bindings.now.objects (relocation_of number (loaded_view loaded.now) to entry.now ∷ []) names.old names.new) }
+    requires { AreUses bindings.now.objects number (loaded_view loaded.now) uses.old.items }
+    ensures kept { OnOk result
+        (AreUses bindings.now.objects number (loaded_view loaded.now) uses.new.items) }
+    ensures gains { OnOk result (Gains bindings.now.objects
+        (relocation_of number (loaded_view loaded.now) to entry.now ∷ []) names.old names.new) }
 {
     let j = entry.symbol() as usize;
     if !is_use(bindings, uses, number, loaded, j) {
@@ -116,14 +106,18 @@ fn add_use<'a>(
 fn add_entries<'a>(
     names: &mut BTreeSet<&'a [u8]>,
     bindings: &Bindings<'_, '_, 'a>,
-    uses: &[bool],
+    uses: &mut Vec<Option<bool>>,
     number: u64,
     loaded: &Loaded<'a>,
     to: u64,
     entries: &RelaRun<'_>,
 ) -> Result<(), AllocError>
-    requires { AreUses bindings.now.objects number (loaded_view loaded.now) uses.now }
-    ensures { OnOk result (Gains bindings.now.objects (map (relocation_of number (loaded_view loaded.now) to) (filter is_some_kind entries.now)) names.old names.new) }
+    requires { AreUses bindings.now.objects number (loaded_view loaded.now) uses.old.items }
+    ensures kept { OnOk result
+        (AreUses bindings.now.objects number (loaded_view loaded.now) uses.new.items) }
+    ensures gains { OnOk result (Gains bindings.now.objects
+        (map (relocation_of number (loaded_view loaded.now) to)
+        (filter is_some_kind entries.now)) names.old names.new) }
 {
     for i in 0..entries.len() {
         let entry = entries.at(i);
@@ -139,16 +133,19 @@ fn add_entries<'a>(
 fn add_section<'a>(
     names: &mut BTreeSet<&'a [u8]>,
     bindings: &Bindings<'_, '_, 'a>,
-    uses: &[bool],
+    uses: &mut Vec<Option<bool>>,
     number: u64,
     loaded: &Loaded<'a>,
     i: usize,
     header: &SectionHeader,
 ) -> Result<(), AllocError>
-    requires uses { AreUses bindings.now.objects number (loaded_view loaded.now) uses.now }
+    requires uses { AreUses bindings.now.objects number (loaded_view loaded.now) uses.old.items }
     requires there { slice_get (sections loaded.now.object) i ≡ Some header.now }
     requires rela { header.now.sh_type ≡ 4 }
-    ensures { OnOk result (Gains bindings.now.objects (relocations_in number (loaded_view loaded.now) header.now) names.old names.new) }
+    ensures kept { OnOk result
+        (AreUses bindings.now.objects number (loaded_view loaded.now) uses.new.items) }
+    ensures gains { OnOk result (Gains bindings.now.objects
+        (relocations_in number (loaded_view loaded.now) header.now) names.old names.new) }
 {
     let entries = loaded.object.entries(i);
     add_entries(
@@ -170,16 +167,17 @@ fn add_object<'a>(
     number: u64,
     loaded: &Loaded<'a>,
 ) -> Result<(), AllocError>
-    ensures { OnOk result (Gains bindings.now.objects (relocations_from number (loaded_view loaded.now)) names.old names.new) }
+    ensures { OnOk result (Gains bindings.now.objects
+        (relocations_from number (loaded_view loaded.now)) names.old names.new) }
 {
-    let uses = linker_symbols(alloc, bindings, number, loaded)?;
+    let mut uses = no_answers(alloc, loaded)?;
     let headers = loaded.object.sections();
     for i in 0..headers.len() {
-        let header = headers[i];
+        let header = headers.at(i);
         if !loaded.is_kept_rela(i, &header) {
             continue;
         }
-        add_section(names, bindings, &uses, number, loaded, i, &header)?;
+        add_section(names, bindings, &mut uses, number, loaded, i, &header)?;
     }
     Ok(())
 }
@@ -205,7 +203,9 @@ fn add_line<'a>(
     name: &'a [u8],
     lines: &mut Vec<Meaning<'a>>,
 ) -> Result<(), AllocError>
-    ensures { OnOk result (meaning_views lines.new.items ≡ meaning_views lines.old.items ++ option_to_list (linker_meaning bindings.now.objects name.entry.now)) }
+    ensures { OnOk result (meaning_views lines.new.items
+        ≡ meaning_views lines.old.items
+        ++ option_to_list (linker_meaning bindings.now.objects name.entry.now)) }
 {
     if let Some(meaning) = bindings.linker_meaning(name) {
         lines.push(meaning)?;
@@ -219,8 +219,10 @@ fn lines_of<'a>(
     bindings: &Bindings<'_, '_, 'a>,
     names: &BTreeSet<&'a [u8]>,
 ) -> Result<Vec<Meaning<'a>>, AllocError>
-    ensures lines { IfOk result (λ v. meaning_views v.items ≡ linker_meanings bindings.now.objects names.now.keys) }
-    ensures ordered { IfOk result (λ v. IsOrdered (λ a b. slice_cmp nat_cmp a.now b.now) names.now) }
+    ensures lines { IfOk result (λ v. meaning_views v.items
+        ≡ linker_meanings bindings.now.objects names.now.keys) }
+    ensures ordered { IfOk result (λ v.
+        IsOrdered (λ a b. slice_cmp nat_cmp a.now b.now) names.now) }
 {
     let mut lines = Vec::new(alloc);
     for name in names {

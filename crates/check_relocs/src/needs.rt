@@ -12,30 +12,30 @@ ghost use Rattle.check_relocs.specs.Needs.{AreGotNames, AreNeeds, HaveGained};
 ghost use Rattle.check_link.specs.Slots.{is_asked, request_view};
 ghost use Rattle.check_link.specs.Views.{symbol_view};
 
+use crate::answers::{keep_answer, known_answer, no_answers};
 use crate::bindings::Bindings;
 use crate::entry_requests::{request_of, speaks_of_got};
 use crate::field_rows::is_some_kind;
 use crate::kinds::kind_of;
-use crate::targets::{has_relas, is_local_at, symbol_at};
-use check_link::{Request, SymbolOf};
+use crate::targets::{is_local_at, symbol_at};
+use check_link::{Request, RequestSet, SymbolOf};
 use check_load::Loaded;
 use elf_model::{Rela, STB_LOCAL, SectionHeader};
 use elf_read::RelaRun;
 use std::alloc::{AllocError, Global};
-use std::collections::BTreeSet;
 
 /// Whether relocations ask for a GOT, and their requests for slots, each once.
 #[derive(Drop)]
 pub struct Needs<'a> {
     pub got: bool,
-    pub requests: BTreeSet<Request<'a>>,
+    pub requests: RequestSet<'a>,
 }
 
 /// Whether a symbol isn't LOCAL and has the name of the GOT, which no object defines.
 fn names_got(bindings: &Bindings<'_, '_, '_>, symbol: &SymbolOf<'_>) -> bool
     ensures { result ≡ names_got bindings.now.objects (symbol_view symbol.now) }
 {
-    if symbol.entry.st_info / 16 == STB_LOCAL {
+    if symbol.entry.binding() == STB_LOCAL {
         return false;
     }
     if symbol.name != b"_GLOBAL_OFFSET_TABLE_".as_slice() {
@@ -51,7 +51,8 @@ fn names_got_of<'a>(
     loaded: &Loaded<'a>,
     j: usize,
 ) -> bool
-    ensures { result ≡ names_got bindings.now.objects (symbol_at number (loaded_view loaded.now) j) }
+    ensures { result ≡ names_got bindings.now.objects
+        (symbol_at number (loaded_view loaded.now) j) }
 {
     if is_local_at(loaded, j) {
         return false;
@@ -59,46 +60,32 @@ fn names_got_of<'a>(
     names_got(bindings, &symbol_at(loaded, number, j))
 }
 
-/// Of each symbol of the object that has a number, whether it is such a one; of none where the object has no relocations.
-fn got_names<'a>(
-    alloc: Global,
-    bindings: &Bindings<'_, '_, 'a>,
-    number: u64,
-    loaded: &Loaded<'a>,
-) -> Result<Vec<bool>, AllocError>
-    ensures { IfOk result (λ v. AreGotNames bindings.now.objects number (loaded_view loaded.now) v.items) }
-{
-    if !has_relas(loaded) {
-        return Ok(Vec::new(alloc));
-    }
-    let count = loaded.object.symbols().len();
-    let mut found = Vec::with_capacity(alloc, count)?;
-    for j in 0..count {
-        found.push(names_got_of(bindings, number, loaded, j))?;
-    }
-    Ok(found)
-}
-
-/// Whether symbol `j` is such a one.
+/// Whether symbol `j` is such a one. It is looked up where that isn't known.
 fn names_got_at<'a>(
     bindings: &Bindings<'_, '_, 'a>,
-    named: &[bool],
+    named: &mut Vec<Option<bool>>,
     number: u64,
     loaded: &Loaded<'a>,
     j: usize,
 ) -> bool
-    requires { AreGotNames bindings.now.objects number (loaded_view loaded.now) named.now }
-    ensures { result ≡ names_got bindings.now.objects (symbol_at number (loaded_view loaded.now) j) }
+    requires { AreGotNames bindings.now.objects number (loaded_view loaded.now) named.old.items }
+    ensures kept { AreGotNames bindings.now.objects number
+        (loaded_view loaded.now) named.new.items }
+    ensures named { result ≡ names_got bindings.now.objects
+        (symbol_at number (loaded_view loaded.now) j) }
 {
-    match named.get(j) {
-        Some(named) => *named,
-        None => names_got_of(bindings, number, loaded, j),
+    if let Some(named) = known_answer(named, j) {
+        return named;
     }
+    let answer = names_got_of(bindings, number, loaded, j);
+    keep_answer(named, j, answer);
+    answer
 }
 
 /// Whether an entry asks for a GOT by its kind.
 fn is_of_got(entry: &Rela) -> bool
-    ensures { result ≡ option_map_or (λ k. slots.speaks_of_got k.formula) (relocation.kind_of (rela_type entry.now)) false }
+    ensures { result ≡ option_map_or (λ k. slots.speaks_of_got k.formula)
+        (relocation.kind_of (rela_type entry.now)) false }
 {
     match kind_of(entry.kind()) {
         Some(kind) => speaks_of_got(kind.formula),
@@ -109,13 +96,17 @@ fn is_of_got(entry: &Rela) -> bool
 /// Whether an entry of the object that has a number asks for a GOT, by its kind or by the name.
 fn asks_for_got<'a>(
     bindings: &Bindings<'_, '_, 'a>,
-    named: &[bool],
+    named: &mut Vec<Option<bool>>,
     number: u64,
     loaded: &Loaded<'a>,
     entry: &Rela,
 ) -> bool
-    requires { AreGotNames bindings.now.objects number (loaded_view loaded.now) named.now }
-    ensures { (section : ℕ) → result ≡ asks_for_got bindings.now.objects (relocation_of number (loaded_view loaded.now) section entry.now) }
+    requires { AreGotNames bindings.now.objects number (loaded_view loaded.now) named.old.items }
+    ensures kept { AreGotNames bindings.now.objects number
+        (loaded_view loaded.now) named.new.items }
+    ensures asks { (section : ℕ) →
+        result ≡ asks_for_got bindings.now.objects
+        (relocation_of number (loaded_view loaded.now) section entry.now) }
 {
     if is_of_got(entry) {
         return true;
@@ -123,25 +114,40 @@ fn asks_for_got<'a>(
     names_got_at(bindings, named, number, loaded, entry.symbol() as usize)
 }
 
-fn add_request<'a>(
-    requests: &mut BTreeSet<Request<'a>>,
-    request: Request<'a>,
-) -> Result<(), AllocError>
-    ensures { OnOk result ((q : slots.Request) → is_asked requests.new q ≡ (is_asked requests.old q || same_request q (request_view request.entry))) }
+/// Whether a GOT is asked for, with one entry more.
+fn got_with<'a>(
+    got: bool,
+    bindings: &Bindings<'_, '_, 'a>,
+    named: &mut Vec<Option<bool>>,
+    number: u64,
+    loaded: &Loaded<'a>,
+    entry: &Rela,
+) -> bool
+    requires { AreGotNames bindings.now.objects number (loaded_view loaded.now) named.old.items }
+    ensures kept { AreGotNames bindings.now.objects number
+        (loaded_view loaded.now) named.new.items }
+    ensures got { (section : ℕ) →
+        result ≡ (got || asks_for_got bindings.now.objects
+        (relocation_of number (loaded_view loaded.now) section entry.now)) }
 {
-    requests.insert(request)?;
-    Ok(())
+    if got {
+        return true;
+    }
+    asks_for_got(bindings, named, number, loaded, entry)
 }
 
 /// Adds a request, if there is one.
 fn add_if_asked<'a>(
-    requests: &mut BTreeSet<Request<'a>>,
+    requests: &mut RequestSet<'a>,
     request: Option<Request<'a>>,
 ) -> Result<(), AllocError>
-    ensures { OnOk result ((q : slots.Request) → is_asked requests.new q ≡ (is_asked requests.old q || option_map_or (same_request q) (option_map request_view request.entry) false)) }
+    ensures { OnOk result ((q : slots.Request) →
+        is_asked requests.new q
+        ≡ (is_asked requests.old q
+        || option_map_or (same_request q) (option_map request_view request.entry) false)) }
 {
     match request {
-        Some(request) => add_request(requests, request),
+        Some(request) => requests.add(request),
         None => Ok(()),
     }
 }
@@ -150,17 +156,19 @@ fn add_if_asked<'a>(
 fn add_entry<'a>(
     needs: &mut Needs<'a>,
     bindings: &Bindings<'_, '_, 'a>,
-    named: &[bool],
+    named: &mut Vec<Option<bool>>,
     number: u64,
     loaded: &Loaded<'a>,
     to: u64,
     entry: &Rela,
 ) -> Result<(), AllocError>
-    requires { AreGotNames bindings.now.objects number (loaded_view loaded.now) named.now }
-    ensures { OnOk result (HaveGained bindings.now.objects (relocation_of number (loaded_view loaded.now) to entry.now ∷ []) needs.old needs.new) }
+    requires { AreGotNames bindings.now.objects number (loaded_view loaded.now) named.old.items }
+    ensures kept { OnOk result
+        (AreGotNames bindings.now.objects number (loaded_view loaded.now) named.new.items) }
+    ensures gained { OnOk result (HaveGained bindings.now.objects
+        (relocation_of number (loaded_view loaded.now) to entry.now ∷ []) needs.old needs.new) }
 {
-    let got = asks_for_got(bindings, named, number, loaded, entry);
-    needs.got |= got;
+    needs.got = got_with(needs.got, bindings, named, number, loaded, entry);
     add_if_asked(&mut needs.requests, request_of(loaded, number, entry))?;
     Ok(())
 }
@@ -169,14 +177,18 @@ fn add_entry<'a>(
 fn add_entries<'a>(
     needs: &mut Needs<'a>,
     bindings: &Bindings<'_, '_, 'a>,
-    named: &[bool],
+    named: &mut Vec<Option<bool>>,
     number: u64,
     loaded: &Loaded<'a>,
     to: u64,
     entries: &RelaRun<'_>,
 ) -> Result<(), AllocError>
-    requires { AreGotNames bindings.now.objects number (loaded_view loaded.now) named.now }
-    ensures { OnOk result (HaveGained bindings.now.objects (map (relocation_of number (loaded_view loaded.now) to) (filter is_some_kind entries.now)) needs.old needs.new) }
+    requires { AreGotNames bindings.now.objects number (loaded_view loaded.now) named.old.items }
+    ensures kept { OnOk result
+        (AreGotNames bindings.now.objects number (loaded_view loaded.now) named.new.items) }
+    ensures gained { OnOk result (HaveGained bindings.now.objects
+        (map (relocation_of number (loaded_view loaded.now) to)
+        (filter is_some_kind entries.now)) needs.old needs.new) }
 {
     for i in 0..entries.len() {
         let entry = entries.at(i);
@@ -192,16 +204,20 @@ fn add_entries<'a>(
 fn add_section<'a>(
     needs: &mut Needs<'a>,
     bindings: &Bindings<'_, '_, 'a>,
-    named: &[bool],
+    named: &mut Vec<Option<bool>>,
     number: u64,
     loaded: &Loaded<'a>,
     i: usize,
     header: &SectionHeader,
 ) -> Result<(), AllocError>
-    requires named { AreGotNames bindings.now.objects number (loaded_view loaded.now) named.now }
+    requires named { AreGotNames bindings.now.objects number
+        (loaded_view loaded.now) named.old.items }
     requires there { slice_get (sections loaded.now.object) i ≡ Some header.now }
     requires rela { header.now.sh_type ≡ 4 }
-    ensures { OnOk result (HaveGained bindings.now.objects (relocations_in number (loaded_view loaded.now) header.now) needs.old needs.new) }
+    ensures kept { OnOk result
+        (AreGotNames bindings.now.objects number (loaded_view loaded.now) named.new.items) }
+    ensures gained { OnOk result (HaveGained bindings.now.objects
+        (relocations_in number (loaded_view loaded.now) header.now) needs.old needs.new) }
 {
     let entries = loaded.object.entries(i);
     add_entries(
@@ -223,16 +239,17 @@ fn add_object<'a>(
     number: u64,
     loaded: &Loaded<'a>,
 ) -> Result<(), AllocError>
-    ensures { OnOk result (HaveGained bindings.now.objects (relocations_from number (loaded_view loaded.now)) needs.old needs.new) }
+    ensures { OnOk result (HaveGained bindings.now.objects
+        (relocations_from number (loaded_view loaded.now)) needs.old needs.new) }
 {
-    let named = got_names(alloc, bindings, number, loaded)?;
+    let mut named = no_answers(alloc, loaded)?;
     let headers = loaded.object.sections();
     for i in 0..headers.len() {
-        let header = headers[i];
+        let header = headers.at(i);
         if !loaded.is_kept_rela(i, &header) {
             continue;
         }
-        add_section(needs, bindings, &named, number, loaded, i, &header)?;
+        add_section(needs, bindings, &mut named, number, loaded, i, &header)?;
     }
     Ok(())
 }
@@ -244,7 +261,7 @@ pub fn needs_of<'a>(alloc: Global, bindings: &Bindings<'_, '_, 'a>) -> Result<Ne
     let objects = bindings.objects();
     let mut needs = Needs {
         got: false,
-        requests: BTreeSet::new(alloc),
+        requests: RequestSet::new(alloc, bindings.seed()),
     };
     for k in 0..objects.len() {
         add_object(alloc, &mut needs, bindings, k as u64, &objects[k])?;

@@ -10,8 +10,10 @@ use crate::fields::Field;
 fn count_before(row: &[Field], section: u64) -> usize
     requires { IsNonDecreasingBy (λ f. f.section) row.now }
     ensures within { result ≤ length row.now }
-    ensures before { (k : ℕ) (d : Field) → k < result → (slice_index_or row.now k d).section < section }
-    ensures from { (k : ℕ) (d : Field) → result ≤ k → k < length row.now → section ≤ (slice_index_or row.now k d).section }
+    ensures before { (k : ℕ) (d : Field) →
+        k < result → (slice_index_or row.now k d).section < section }
+    ensures from { (k : ℕ) (d : Field) →
+        result ≤ k → k < length row.now → section ≤ (slice_index_or row.now k d).section }
 {
     row.partition_point(|f| (f.section as u64) < section)
 }
@@ -20,8 +22,10 @@ fn count_before(row: &[Field], section: u64) -> usize
 fn count_through(row: &[Field], section: u64) -> usize
     requires { IsNonDecreasingBy (λ f. f.section) row.now }
     ensures within { result ≤ length row.now }
-    ensures through { (k : ℕ) (d : Field) → k < result → (slice_index_or row.now k d).section ≤ section }
-    ensures behind { (k : ℕ) (d : Field) → result ≤ k → k < length row.now → section < (slice_index_or row.now k d).section }
+    ensures through { (k : ℕ) (d : Field) →
+        k < result → (slice_index_or row.now k d).section ≤ section }
+    ensures behind { (k : ℕ) (d : Field) →
+        result ≤ k → k < length row.now → section < (slice_index_or row.now k d).section }
 {
     row.partition_point(|f| f.section as u64 <= section)
 }

@@ -1,9 +1,10 @@
 //! What the symbols of an object mean to its relocations, each looked up once.
-ghost use Rattle.std.specs.Prelude.{◌≡◌, ◌==◌, ℕ, [], IfOk};
+ghost use Rattle.std.specs.Prelude.{◌≡◌, ◌==◌, ℕ, [], IfOk, Some, slice_set};
 ghost use Rattle.std.specs.List.{list_any};
 ghost use Rattle.elf_model.specs.ObjectFile.{sections};
 ghost use Rattle.elf_model.specs.Relocation.{is_local, symbol_at};
-ghost use Rattle.check_relocs.specs.Bindings.{AreTargets, IsTargetOf};
+ghost use Rattle.check_relocs.specs.Bindings.{AreTargets, Bound, IsTargetOf};
+ghost use Rattle.check_relocs.specs.Known.{known_at};
 ghost use Rattle.check_load.specs.Views.{loaded_view};
 ghost use Rattle.check_link.specs.Views.{symbol_view};
 
@@ -47,12 +48,13 @@ pub fn symbol_at<'a>(loaded: &Loaded<'a>, number: u64, j: usize) -> SymbolOf<'a>
 pub fn is_local_at(loaded: &Loaded<'_>, j: usize) -> bool
     ensures { (number : ℕ) → result ≡ is_local (symbol_at number (loaded_view loaded.now) j) }
 {
-    loaded.object.symbol(j).st_info / 16 == STB_LOCAL
+    loaded.object.symbol(j).binding() == STB_LOCAL
 }
 
 /// Symbol `j` of the object that has a number, without its name.
 fn unnamed_at<'a>(loaded: &Loaded<'a>, number: u64, j: usize) -> SymbolOf<'a>
-    ensures { symbol_view result ≡ record (symbol_at number (loaded_view loaded.now) j) { name = [] } }
+    ensures { symbol_view result
+        ≡ record (symbol_at number (loaded_view loaded.now) j) { name = [] } }
 {
     let entry = loaded.object.symbol(j);
     SymbolOf {
@@ -83,46 +85,66 @@ pub fn target_of_symbol<'a>(
 pub fn has_relas(loaded: &Loaded<'_>) -> bool
     ensures { result ≡ list_any (λ h. h.sh_type == SHT_RELA) (sections loaded.now.object) }
 {
-    loaded
-        .object
-        .sections()
-        .iter()
-        .any(|header| header.sh_type == SHT_RELA)
+    let headers = loaded.object.sections();
+    for i in 0..headers.len() {
+        let header = headers.at(i);
+        if header.sh_type == SHT_RELA {
+            return true;
+        }
+    }
+    false
 }
 
-/// What the symbols of the object that has a number mean, in their order; none where it has no relocations.
-pub fn targets_of<'a>(
+/// Where what symbols mean will be kept once it is known, of none yet; no room where the object has no relocations.
+pub fn unknown_targets(
     alloc: Global,
-    bindings: &Bindings<'_, '_, 'a>,
-    number: u64,
-    loaded: &Loaded<'a>,
-) -> Result<Vec<Target>, AllocError>
-    ensures { IfOk result (λ v. AreTargets bindings.now number (loaded_view loaded.now) v.items) }
+    loaded: &Loaded<'_>,
+) -> Result<Vec<Option<Target>>, AllocError>
+    ensures { IfOk result (λ v. (b : Bound) (number : ℕ) →
+        AreTargets b number (loaded_view loaded.now) v.items) }
 {
     if !has_relas(loaded) {
         return Ok(Vec::new(alloc));
     }
-    let count = loaded.object.symbols().len();
-    let mut found = Vec::with_capacity(alloc, count)?;
-    for j in 0..count {
-        found.push(target_of_symbol(bindings, number, loaded, j))?;
-    }
-    Ok(found)
+    let targets = vec![in alloc; None; loaded.object.symbols().len()]?;
+    Ok(targets)
 }
 
-/// What symbol `j` means.
+/// Keeps what symbol `j` means, where there is room for it.
+fn keep_target(targets: &mut Vec<Option<Target>>, j: usize, target: Target)
+    ensures { targets.new.items ≡ slice_set targets.old.items j (Some target) }
+{
+    if j < targets.len() {
+        targets[j] = Some(target);
+    }
+}
+
+/// What symbol `j` means, where that is known.
+fn known_target(targets: &[Option<Target>], j: usize) -> Option<Target>
+    ensures { result ≡ known_at targets.now j }
+{
+    match targets.get(j) {
+        Some(target) => *target,
+        None => None,
+    }
+}
+
+/// What symbol `j` means. It is looked up where that isn't known.
 pub fn target_at<'a>(
     bindings: &Bindings<'_, '_, 'a>,
-    targets: &[Target],
+    targets: &mut Vec<Option<Target>>,
     number: u64,
     loaded: &Loaded<'a>,
     j: usize,
 ) -> Target
-    requires { AreTargets bindings.now number (loaded_view loaded.now) targets.now }
-    ensures { IsTargetOf bindings.now (symbol_at number (loaded_view loaded.now) j) result }
+    requires { AreTargets bindings.now number (loaded_view loaded.now) targets.old.items }
+    ensures kept { AreTargets bindings.now number (loaded_view loaded.now) targets.new.items }
+    ensures target { IsTargetOf bindings.now (symbol_at number (loaded_view loaded.now) j) result }
 {
-    match targets.get(j) {
-        Some(target) => *target,
-        None => target_of_symbol(bindings, number, loaded, j),
+    if let Some(target) = known_target(targets, j) {
+        return target;
     }
+    let target = target_of_symbol(bindings, number, loaded, j);
+    keep_target(targets, j, target);
+    target
 }

@@ -2,9 +2,7 @@
 -- request has a slot.
 use Rattle.std.proofs.Common.{◌≡◌, ℕ, ◌+◌, ◌≤◌, ◌||◌, Bool, true, false, not, cond, List, [], ◌∷◌, get_or, refl, sym, ◌∙◌, ap, subst, arith}
 use Rattle.std.specs.Prelude.{All, count_by, map}
-use Rattle.std.specs.BTreeMap.{is_at}
 use Rattle.std.specs.List.{list_any}
-use Rattle.std.specs.Ordering.{is_eq}
 use Rattle.std.proofs.lemmas.Bool.{and_from, and_parts, false≢true}
 use Rattle.std.proofs.lemmas.List.Elements.{All-contains, All-map}
 use Rattle.std.proofs.lemmas.List.Recursion.{is_count_by}
@@ -16,11 +14,10 @@ use Rattle.elf_model.specs.declared.link_map.SlotLine.{SlotLine}
 use Rattle.elf_model.specs.Slots.{Request, is_slot_of, requests, row_request, same_request}
 use Rattle.checker.specs.Got.{HaveSlots}
 use Rattle.check_relocs.specs.Needs.{AreNeeds}
-use Rattle.check_link.specs.Slots.{are_distinct, are_fresh, is_asked, key_of, none_seen, request_order, request_view}
+use Rattle.check_link.specs.Slots.{are_distinct, are_fresh, is_asked, none_seen, request_view}
 use Rattle.check_relocs.specs.declared.needs.Needs.{Needs}
 use Rattle.check_link.specs.declared.requests.Request as code
-use Rattle.elf_model.proofs.SameRequests.{requests_equal, same_itself, same_sym}
-use Rattle.check_link.proofs.SameRequest.{tied, view_of_key}
+use Rattle.elf_model.proofs.SameRequests.{requests_equal, same_itself}
 
 -- how many slots a request has
 unfoldable pub count : Request → List SlotRow → ℕ
@@ -173,9 +170,6 @@ module _ (rows : List SlotRow) (objects : List LoadedObject) where
       counted_any q rows (omega (arith, one)))
 
 -- The same of a set of what relocations ask for, as the code has it.
-tied_view : (q : Request) (k : code.Request) → is_eq (request_order (key_of q) k) ≡ same_request (request_view k) q
-tied_view q k = tied (key_of q) k ∙ ap (λ (r : Request). same_request r (request_view k)) (view_of_key q) ∙ same_sym q (request_view k)
-
 module _ (needs : Needs) (objects : List LoadedObject) (are : AreNeeds objects needs) where
   -- all lines' slots are asked for
   pub rows_asked :
@@ -193,24 +187,25 @@ module _ (needs : Needs) (objects : List LoadedObject) (are : AreNeeds objects n
       let mapped = All-unmap (λ (row : SlotRow). wanted rows objects (row_request row) ≡ true) slot_row lines (subst (All (λ (row : SlotRow). wanted rows objects (row_request row) ≡ true)) (sym same) all) in
       λ k d low. are.slots (row_request (slot_row (get_or lines k d))) ∙ mapped k d low
 
-  module _ (rows : List SlotRow) where
+  module _ (keys : List code.Request) (same : map request_view keys ≡ needs.requests) (rows : List SlotRow) where
     -- each request of a relocation is one of the set
-    pub keys_there : All (λ q. any_slot (request_view q) rows ≡ true) needs.requests.keys → All (λ q. any_slot q rows ≡ true) (requests objects)
+    pub keys_there : All (λ q. any_slot (request_view q) rows ≡ true) keys → All (λ q. any_slot q rows ≡ true) (requests objects)
     keys_there all =
+        let each : All (λ (q : Request). any_slot q rows ≡ true) needs.requests =
+        subst (All (λ (q : Request). any_slot q rows ≡ true)) same (All-map (λ (q : Request). any_slot q rows ≡ true) request_view keys all) in
         All-from_contains (λ (q : Request). any_slot q rows ≡ true) (requests objects)
         (λ q c.
         let asked = are.slots q ∙ list_any-from_Any (same_request q) (requests objects) (c.0, q, c.1, c.2, same_itself q) in
-        let a = Any-from_list_any (is_at (request_order (key_of q))) needs.requests.keys asked in
-        let same = requests_equal q (request_view a.1) (same_sym q (request_view a.1) ∙ sym (tied_view q a.1) ∙ a.4) in
-        subst (λ (r : Request). any_slot r rows ≡ true) (sym same)
-        (All-contains (λ (k : code.Request). any_slot (request_view k) rows ≡ true) needs.requests.keys a.1 all (a.0, a.2, a.3)))
+        let a = Any-from_list_any (same_request q) needs.requests asked in
+        subst (λ (r : Request). any_slot r rows ≡ true) (sym (requests_equal q a.1 a.4))
+        (All-contains (λ (r : Request). any_slot r rows ≡ true) needs.requests a.1 each (a.0, a.2, a.3)))
 
     -- and each of the set is the request of a relocation
-    pub keys_wanted : All (λ q. any_slot q rows ≡ true) (requests objects) → All (λ q. any_slot (request_view q) rows ≡ true) needs.requests.keys
+    pub keys_wanted : All (λ q. any_slot q rows ≡ true) (requests objects) → All (λ q. any_slot (request_view q) rows ≡ true) keys
     keys_wanted all =
-        All-from_contains (λ (k : code.Request). any_slot (request_view k) rows ≡ true) needs.requests.keys
-        (λ k c.
-        let q = request_view k in
-        let in_set : is_asked needs.requests q ≡ true =
-        list_any-from_Any (is_at (request_order (key_of q))) needs.requests.keys (c.0, k, c.1, c.2, tied_view q k ∙ same_itself q) in
-        there_of rows objects q all (sym (are.slots q) ∙ in_set))
+        All-unmap (λ (q : Request). any_slot q rows ≡ true) request_view keys
+        (subst (All (λ (q : Request). any_slot q rows ≡ true)) (sym same)
+        (All-from_contains (λ (q : Request). any_slot q rows ≡ true) needs.requests
+        (λ q c.
+        let in_set : is_asked needs.requests q ≡ true = list_any-from_Any (same_request q) needs.requests (c.0, q, c.1, c.2, same_itself q) in
+        there_of rows objects q all (sym (are.slots q) ∙ in_set))))

@@ -1,11 +1,11 @@
 -- The chosen definitions among strong ones, and the lines of what names mean.
-use Rattle.std.specs.Prelude.{◌≡◌, ℕ, Bool, true, List, Some, option_map, slice_get}
+use Rattle.std.specs.Prelude.{◌≡◌, true, List, Some, option_map}
 use Rattle.elf_model.specs.ChosenSymbols.{is_chosen}
 use Rattle.elf_model.specs.Listing.{listed}
 use Rattle.elf_model.specs.Loading.{LoadedObject}
 use Rattle.elf_model.specs.MapRecord.{SymbolRow}
 use Rattle.elf_model.specs.Placement.{Where}
-use Rattle.elf_model.specs.Resolution.{SymbolOf, chosen, is_strong}
+use Rattle.elf_model.specs.Resolution.{SymbolOf, is_strong}
 use Rattle.elf_model.specs.RightLink.{symbol_row_of}
 
 -- a symbol is no strong definition, or the chosen one of its name
@@ -15,7 +15,3 @@ IsChosenIfStrong objects s = is_strong s ≡ true → is_chosen objects s ≡ tr
 -- a row is that of what its name means, and the name has one
 abbrev pub IsLine : List LoadedObject → Where → SymbolRow → Type 0
 IsLine objects w row = option_map (symbol_row_of w) (listed objects row.name) ≡ Some row
-
--- definitions that have a mark are the chosen ones of their names
-abbrev pub AreOwnChoices : List LoadedObject → List SymbolOf → List Bool → Type 0
-AreOwnChoices objects ss own = (i : ℕ) (s : SymbolOf) → slice_get own i ≡ Some true → slice_get ss i ≡ Some s → chosen objects s.name ≡ Some s

@@ -22,7 +22,8 @@ pub fn is_line_of(line: &ObjectLine, number: u64, object: &Loaded<'_>) -> bool
 
 /// Whether the object lines are those of the objects, in order.
 fn are_lines_of(lines: &[ObjectLine], objects: &[Loaded<'_>]) -> bool
-    ensures { IsTrue result ↔ (map object_row lines.now ≡ object_rows 0 (loaded_views objects.now)) }
+    ensures { IsTrue result ↔ (map object_row lines.now
+        ≡ object_rows 0 (loaded_views objects.now)) }
 {
     if lines.len() != objects.len() {
         return false;

@@ -18,7 +18,8 @@ mod kinds;
 
 /// Whether a place line says of a piece what it is.
 pub fn is_line_of(line: &PlaceLine, piece: &Piece<'_>) -> bool
-    ensures { IsTrue result ↔ (facts_of_row (place_row line.now) ≡ facts_of_piece (piece_view piece.now)) }
+    ensures { IsTrue result ↔ (facts_of_row (place_row line.now)
+        ≡ facts_of_piece (piece_view piece.now)) }
 {
     if line.object != piece.object || line.section != piece.section {
         return false;
@@ -28,7 +29,8 @@ pub fn is_line_of(line: &PlaceLine, piece: &Piece<'_>) -> bool
 
 /// Whether the place lines are those of the pieces, in order, but for addresses.
 fn are_lines_of(lines: &[PlaceLine], pieces: &[Piece<'_>]) -> bool
-    ensures { IsTrue result ↔ (map facts_of_row (map place_row lines.now) ≡ map facts_of_piece (piece_views pieces.now)) }
+    ensures { IsTrue result ↔ (map facts_of_row (map place_row lines.now)
+        ≡ map facts_of_piece (piece_views pieces.now)) }
 {
     if lines.len() != pieces.len() {
         return false;

@@ -67,7 +67,8 @@ fn are_aligned(things: &[Thing]) -> bool
 
 /// Whether all things lie from the base on below 2^46, and no two share an address.
 fn lie_apart(alloc: Global, base: u64, things: &[Thing]) -> Result<bool, AllocError>
-    ensures { IfOk result (λ b. IsTrue b ↔ (All (IsWithin base) things.now × AllPairs AreApart things.now)) }
+    ensures { IfOk result (λ b. IsTrue b
+        ↔ (All (IsWithin base) things.now × AllPairs AreApart things.now)) }
 {
     if !are_within(base, things) {
         return Ok(false);
@@ -86,7 +87,9 @@ fn is_placed(
     threads: &[Thing],
     sections: &[Placed<'_>],
 ) -> Result<bool, AllocError>
-    ensures { IfOk result (λ b. IsTrue b ↔ IsPlaced base things.now threads.now (placed_in_array_order (placed_views sections.now))) }
+    ensures { IfOk result (λ b. IsTrue b
+        ↔ IsPlaced base things.now threads.now
+        (placed_in_array_order (placed_views sections.now))) }
 {
     if !are_aligned(things) {
         return Ok(false);

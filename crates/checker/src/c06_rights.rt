@@ -34,7 +34,8 @@ pub fn lies_if_nonempty(memory: &Memory<'_>, thing: &Thing) -> bool
 }
 
 fn nonempty_lie(memory: &Memory<'_>, things: &[Thing]) -> bool
-    ensures { IsTrue result ↔ All (λ t. 0 < t.size → LiesInSegment (loads memory.now) t) things.now }
+    ensures { IsTrue result ↔ All
+        (λ t. 0 < t.size → LiesInSegment (loads memory.now) t) things.now }
 {
     for thing in things {
         if !lies_if_nonempty(memory, thing) {
@@ -45,7 +46,8 @@ fn nonempty_lie(memory: &Memory<'_>, things: &[Thing]) -> bool
 }
 
 fn lies_in(segment: &ProgramHeader, thing: &Thing) -> bool
-    ensures { IsTrue result ↔ (Encloses segment.now thing.now.at thing.now.size × (segment.now.p_flags ≡ thing.now.rights)) }
+    ensures { IsTrue result ↔ (Encloses segment.now thing.now.at thing.now.size
+        × (segment.now.p_flags ≡ thing.now.rights)) }
 {
     if !encloses(segment, thing.at, thing.size) {
         return false;

@@ -11,11 +11,10 @@ ghost use Rattle.elf_model.specs.declared.verdict.Clause.TheVariants as clause;
 
 use crate::bound_link::BoundLink;
 use crate::c07_got::got_bytes::holds_got;
-use check_link::{Request, SlotTable, request_of_line};
+use check_link::{Request, RequestSet, SlotTable, request_of_line};
 use check_relocs::{Bindings, Needs, needs_of};
 use elf_model::SlotLine;
 use std::alloc::{AllocError, Global};
-use std::collections::BTreeSet;
 
 mod got_bytes;
 
@@ -41,15 +40,16 @@ pub fn holds(alloc: Global, bound: &BoundLink<'_, '_>) -> Result<bool, AllocErro
 }
 
 /// Whether a line's slot is one of those that are asked for.
-fn is_asked<'a>(requests: &BTreeSet<Request<'a>>, line: &'a SlotLine) -> bool
+fn is_asked<'a>(requests: &RequestSet<'a>, line: &'a SlotLine) -> bool
     ensures { result ≡ is_asked requests.now (row_request (slot_row line.entry.now)) }
 {
-    requests.contains(&request_of_line(line))
+    requests.has(&request_of_line(line))
 }
 
 /// Whether all lines' slots are asked for.
-fn are_asked<'a>(requests: &BTreeSet<Request<'a>>, lines: &'a [SlotLine]) -> bool
-    ensures { IsTrue result ↔ All (λ line. is_asked requests.now (row_request (slot_row line)) ≡ true) lines.entry.now }
+fn are_asked<'a>(requests: &RequestSet<'a>, lines: &'a [SlotLine]) -> bool
+    ensures { IsTrue result ↔ All
+        (λ line. is_asked requests.now (row_request (slot_row line)) ≡ true) lines.entry.now }
 {
     for line in lines {
         if !is_asked(requests, line) {
@@ -60,8 +60,9 @@ fn are_asked<'a>(requests: &BTreeSet<Request<'a>>, lines: &'a [SlotLine]) -> boo
 }
 
 /// Whether there is a slot for each of requests.
-fn have_slots<'a>(requests: &BTreeSet<Request<'a>>, slots: &SlotTable<'a>) -> bool
-    ensures { IsTrue result ↔ All (λ q. list_any (is_slot_of (request_view q)) slots.now ≡ true) requests.now.keys }
+fn have_slots<'a>(requests: &[Request<'a>], slots: &SlotTable<'a>) -> bool
+    ensures { IsTrue result ↔ All
+        (λ q. list_any (is_slot_of (request_view q)) slots.now ≡ true) requests.now }
 {
     for request in requests {
         if !slots.has(request) {
@@ -86,13 +87,15 @@ fn are_slots_right<'a>(
     if !are_asked(&needs.requests, slots.lines()) {
         return false;
     }
-    have_slots(&needs.requests, slots)
+    have_slots(needs.requests.requests(), slots)
 }
 
 /// Whether a GOT, if there is one, holds its slots.
 fn holds_if_there(alloc: Global, bound: &BoundLink<'_, '_>) -> Result<bool, AllocError>
     requires { IfSome bound.now.map.got (LiesInImage bound.now.image) }
-    ensures { IfOk result (λ b. IsTrue b ↔ IfSome bound.now.map.got (HoldsGot (objects_of bound.now) (where_of bound.now) bound.now.image)) }
+    ensures { IfOk result (λ b. IsTrue b
+        ↔ IfSome bound.now.map.got
+        (HoldsGot (objects_of bound.now) (where_of bound.now) bound.now.image)) }
 {
     let link = bound.link();
     match &link.map.got {

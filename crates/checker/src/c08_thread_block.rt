@@ -152,7 +152,8 @@ fn are_clear_to(
 ) -> bool
     requires got { IsGotInLimit got.now }
     requires pieces { AreInLimit (placed_views placed.now) }
-    ensures { IsTrue result ↔ All (λ h. AreOthersClear h.p_vaddr end got.now (placed_views placed.now)) headers.now }
+    ensures { IsTrue result ↔ All
+        (λ h. AreOthersClear h.p_vaddr end got.now (placed_views placed.now)) headers.now }
 {
     for header in headers {
         if !are_others_clear_of(header.p_vaddr, end, got, placed) {

@@ -11,7 +11,8 @@ use std::alloc::{AllocError, Global};
 /// The fields of a link's relocations by objects; None where the ninth clause doesn't hold.
 pub fn rows(alloc: Global, bound: &BoundLink<'_, '_>) -> Result<Option<Vec<Vec<Field>>>, AllocError>
     ensures right { IfOk result (λ o. IsSome o ↔ Holds clause.C9 bound.now) }
-    ensures rows { IfOk result (λ o. IfSome o (λ v. AreRows (objects_of bound.now) (where_of bound.now) v.items)) }
+    ensures rows { IfOk result (λ o.
+        IfSome o (λ v. AreRows (objects_of bound.now) (where_of bound.now) v.items)) }
 {
     let rows = fields_right(alloc, bound.bindings())?;
     Ok(rows)

@@ -25,7 +25,8 @@ pub fn holds(bound: &BoundLink<'_, '_>, rows: &[Vec<Field>]) -> bool
 /// Whether two runs are equal from one byte on and below another; bytes past an end count as 0.
 fn same_between(a: &[u8], b: &[u8], from: u64, to: u64) -> bool
     requires { from ≤ to }
-    ensures { IsTrue result ↔ ((k : ℕ) → from ≤ k → k < to → slice_index a.now k ≡ slice_index b.now k) }
+    ensures { IsTrue result ↔ ((k : ℕ) →
+        from ≤ k → k < to → slice_index a.now k ≡ slice_index b.now k) }
 {
     let start = from as usize;
     let len = (to - from) as usize;
@@ -35,7 +36,10 @@ fn same_between(a: &[u8], b: &[u8], from: u64, to: u64) -> bool
 /// Whether a field has the bytes of its value, the least significant first.
 fn has_value_at(held: &[u8], field: &Field) -> bool
     requires { field.now.width ≤ 8 }
-    ensures { IsTrue result ↔ ((j : ℕ) → j < field.now.width → slice_index held.now (field.now.at + j) ≡ slice_index (le_bytes field.now.width field.now.value) j) }
+    ensures { IsTrue result ↔ ((j : ℕ) →
+        j < field.now.width
+        → slice_index held.now (field.now.at + j)
+        ≡ slice_index (le_bytes field.now.width field.now.value) j) }
 {
     let spelled = field.value.to_le_bytes();
     let width = field.width as usize;
@@ -67,7 +71,9 @@ fn are_wanted(held: &[u8], bytes: &[u8], fields: &[Field], size: u64) -> bool
 fn has_wanted(held: &[u8], placed: &Placed<'_>, size: u64, fields: &[Field]) -> bool
     requires inside { All (FitsIn size) fields.now }
     requires rising { AllPairs EndsBefore fields.now }
-    ensures { IsTrue result ↔ ((k : ℕ) → k < size → slice_index held.now k ≡ byte_of placed.now.piece.bytes.now k (find (covers k) fields.now)) }
+    ensures { IsTrue result ↔ ((k : ℕ) →
+        k < size → slice_index held.now k
+        ≡ byte_of placed.now.piece.bytes.now k (find (covers k) fields.now)) }
 {
     are_wanted(held, placed.piece.bytes, fields, size)
 }
@@ -106,7 +112,8 @@ fn all_held(memory: &Memory<'_>, rows: &[Vec<Field>], placed: &[Placed<'_>]) -> 
     requires whole { All (LiesWhole memory.now) placed.now }
     requires rising { AreRising rows.now }
     requires inside { All (HasFieldsInside rows.now) placed.now }
-    ensures { IsTrue result ↔ All (λ q. HoldsFields memory.now rows.now (placed_view q)) placed.now }
+    ensures { IsTrue result ↔ All
+        (λ q. HoldsFields memory.now rows.now (placed_view q)) placed.now }
 {
     for q in placed {
         if !holds_piece(memory, rows, q) {

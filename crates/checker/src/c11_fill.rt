@@ -48,7 +48,8 @@ fn is_region_filled(region: &Region<'_>, stretches: &[Thing]) -> bool
     requires fits { All EndFits stretches.now }
     requires rising { IsNonDecreasingBy (λ t. t.at) stretches.now }
     requires ends { IsNonDecreasingBy (λ t. t.at + t.size) stretches.now }
-    ensures { IsTrue result ↔ RegionFilled region.now.bytes.now region.now.start region.now.top region.now.fill stretches.now }
+    ensures { IsTrue result
+        ↔ RegionFilled region.now.bytes.now region.now.start region.now.top region.now.fill stretches.now }
 {
     is_filled(region, lying_between(stretches, region.start, region.top))
 }

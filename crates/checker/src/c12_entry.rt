@@ -22,7 +22,8 @@ pub fn holds(bound: &BoundLink<'_, '_>) -> bool
 
 /// Whether a chosen definition means something, of which `e_entry` is the value.
 fn has_value<'a>(bindings: &Bindings<'_, '_, 'a>, entry: &SymbolOf<'a>, e_entry: u64) -> bool
-    ensures { IsTrue result ↔ IsSomeAnd (meant bindings.now.objects (symbol_view entry.now)) (λ d. e_entry ≡ meaning_value bindings.now.places d) }
+    ensures { IsTrue result ↔ IsSomeAnd (meant bindings.now.objects (symbol_view entry.now))
+        (λ d. e_entry ≡ meaning_value bindings.now.places d) }
 {
     match bindings.meant(entry) {
         Some(meaning) => bindings.is_value(&meaning, e_entry),
@@ -36,7 +37,8 @@ fn enters_at<'a>(
     found: &Option<SymbolOf<'a>>,
     e_entry: u64,
 ) -> bool
-    ensures { IsTrue result ↔ Enters bindings.now.objects bindings.now.places e_entry (option_map symbol_view found.now) }
+    ensures { IsTrue result ↔ Enters bindings.now.objects bindings.now.places e_entry
+        (option_map symbol_view found.now) }
 {
     match found {
         Some(entry) => {
@@ -52,7 +54,9 @@ fn enters_at<'a>(
 /// Whether the entry's name has a chosen definition that stands in no section with SHF_TLS, and `e_entry` is its
 /// value.
 fn enters_right(bindings: &Bindings<'_, '_, '_>, name: &[u8], e_entry: u64) -> bool
-    ensures { IsTrue result ↔ (IsEntry bindings.now.objects name.now × IsSomeAnd (object_meaning bindings.now.objects name.now) (λ d. e_entry ≡ meaning_value bindings.now.places d)) }
+    ensures { IsTrue result ↔ (IsEntry bindings.now.objects name.now
+        × IsSomeAnd (object_meaning bindings.now.objects name.now)
+        (λ d. e_entry ≡ meaning_value bindings.now.places d)) }
 {
     enters_at(bindings, &bindings.chosen(name), e_entry)
 }

@@ -1,6 +1,6 @@
 //! C13: whether the symbols are sound, no name has two strong definitions, and the symbol lines are those that the names
 //! ask for.
-ghost use Rattle.std.specs.Prelude.{◌≡◌, ◌+◌, ◌↔◌, ◌≤◌, ℕ, List, All, IfOk, IfSome, IsSome, IsTrue, [], ◌∷◌, false, filter, length, map, option_map, Some};
+ghost use Rattle.std.specs.Prelude.{◌≡◌, ◌+◌, ◌↔◌, ◌≤◌, ℕ, List, All, IfOk, IfSome, IsSome, IsTrue, [], ◌∷◌, false, filter, length, map, option_map, Some, true};
 ghost use Rattle.std.specs.Option.{option_map_or};
 ghost use Rattle.elf_model.specs.ChosenSymbols.{is_chosen, is_same_symbol};
 ghost use Rattle.elf_model.specs.Listing.{linker_line};
@@ -10,13 +10,14 @@ ghost use Rattle.elf_model.specs.declared.link_map.Definition.TheVariants as def
 ghost use Rattle.elf_model.specs.MapText.{Ascends, SymbolBefore};
 ghost use Rattle.elf_model.specs.Resolution.{AreSoundSymbols, AreUnique, chosen};
 ghost use Rattle.elf_model.specs.RightLink.{HasLine, Holds, definition_row, symbol_row_of};
-ghost use Rattle.checker.specs.Listed.{AreOwnChoices, IsChosenIfStrong, IsLine};
+ghost use Rattle.checker.specs.Listed.{IsChosenIfStrong, IsLine};
+ghost use Rattle.check_link.specs.Chosen.{AreOwnChoices};
 ghost use Rattle.check_link.specs.Views.{meaning_view, symbol_view, symbol_views};
 ghost use Rattle.check_relocs.specs.LinkerUses.{AreUsed};
 ghost use Rattle.elf_model.specs.declared.verdict.Clause.TheVariants as clause;
 
 use crate::bound_link::BoundLink;
-use crate::c13_symbols::own_choices::{OwnChoices, is_itself};
+use crate::c13_symbols::own_choices::{OwnChoices, is_marked};
 use check_link::{Meaning, SymbolOf, is_strong};
 use check_relocs::{Bindings, linker_lines, used_names};
 use elf_model::{Definition, STB_WEAK, SymbolLine};
@@ -47,7 +48,8 @@ fn meaning_count<'a>(bindings: &Bindings<'_, '_, 'a>, symbol: &SymbolOf<'a>) -> 
 
 /// Whether a symbol is the one that was chosen.
 fn is_chosen(symbol: &SymbolOf<'_>, choice: &Option<SymbolOf<'_>>) -> bool
-    ensures { result ≡ option_map_or (is_same_symbol (symbol_view symbol.now)) (option_map symbol_view choice.now) false }
+    ensures { result ≡ option_map_or (is_same_symbol (symbol_view symbol.now))
+        (option_map symbol_view choice.now) false }
 {
     match choice {
         Some(other) => symbol.object == other.object && symbol.number == other.number,
@@ -64,8 +66,11 @@ fn line_count<'a>(
 ) -> Option<usize>
     requires { option_map symbol_view choice.now ≡ chosen bindings.now.objects symbol.now.name.now }
     ensures few { IfSome result (λ n. n ≤ 1) }
-    ensures count { IfSome result (λ n. n ≡ length (meanings_of bindings.now.objects (filter (is_chosen bindings.now.objects) (symbol_view symbol.now ∷ [])))) }
-    ensures lawful { IsSome result ↔ IsChosenIfStrong bindings.now.objects (symbol_view symbol.now) }
+    ensures count { IfSome result (λ n. n
+        ≡ length (meanings_of bindings.now.objects
+        (filter (is_chosen bindings.now.objects) (symbol_view symbol.now ∷ [])))) }
+    ensures lawful { IsSome result ↔ IsChosenIfStrong bindings.now.objects
+        (symbol_view symbol.now) }
 {
     if is_chosen(symbol, choice) {
         return Some(meaning_count(bindings, symbol));
@@ -73,28 +78,45 @@ fn line_count<'a>(
     if is_strong(symbol) { None } else { Some(0) }
 }
 
-/// How many lines all definitions have together; None where a strong one isn't chosen. Which of them are chosen for their
-/// own names is put into a list.
+/// The chosen definition of the name of a definition, which may be known to be that itself.
+fn choice_of<'a>(
+    bindings: &Bindings<'_, '_, 'a>,
+    symbol: &SymbolOf<'a>,
+    is_own: bool,
+) -> Option<SymbolOf<'a>>
+    requires { is_own ≡ true
+        → chosen bindings.now.objects symbol.now.name.now ≡ Some (symbol_view symbol.now) }
+    ensures { option_map symbol_view result ≡ chosen bindings.now.objects symbol.now.name.now }
+{
+    if is_own {
+        return Some(*symbol);
+    }
+    bindings.chosen(symbol.name)
+}
+
+/// How many lines all definitions have together; None where a strong one isn't chosen. Those that have a mark are chosen for
+/// their own names.
 fn chosen_count<'a>(
     bindings: &Bindings<'_, '_, 'a>,
     definitions: &[SymbolOf<'a>],
-    own: &mut Vec<bool>,
-) -> Result<Option<usize>, AllocError>
-    requires { own.old.items ≡ [] }
-    ensures own { IfOk result (λ o. IfSome o (λ _. AreOwnChoices bindings.now.objects (symbol_views definitions.now) own.new.items)) }
-    ensures count { IfOk result (λ o. IfSome o (λ n. n ≡ length (meanings_of bindings.now.objects (filter (is_chosen bindings.now.objects) (symbol_views definitions.now))))) }
-    ensures unique { IfOk result (λ o. IsSome o ↔ All (λ s. IsChosenIfStrong bindings.now.objects (symbol_view s)) definitions.now) }
+    own: &[bool],
+) -> Option<usize>
+    requires { AreOwnChoices bindings.now.objects (symbol_views definitions.now) own.now }
+    ensures count { IfSome result (λ n. n
+        ≡ length (meanings_of bindings.now.objects
+        (filter (is_chosen bindings.now.objects) (symbol_views definitions.now)))) }
+    ensures unique { IsSome result
+        ↔ All (λ s. IsChosenIfStrong bindings.now.objects (symbol_view s)) definitions.now }
 {
     let mut count = 0;
-    for symbol in definitions {
-        let choice = bindings.chosen(symbol.name);
-        own.push(is_itself(symbol, &choice))?;
+    for (i, symbol) in definitions.iter().enumerate() {
+        let choice = choice_of(bindings, symbol, is_marked(own, i));
         let Some(more) = line_count(bindings, symbol, &choice) else {
-            return Ok(None);
+            return None;
         };
         count += more;
     }
-    Ok(Some(count))
+    Some(count)
 }
 
 /// The name of what a name means.
@@ -112,7 +134,7 @@ fn name_of<'a>(meaning: &Meaning<'a>) -> &'a [u8]
 fn names_symbol(definition: Definition, symbol: &SymbolOf<'_>) -> bool
     ensures { IsTrue result ↔ (definition ≡ definition_row (Symbol (symbol_view symbol.now))) }
 {
-    let weak = symbol.entry.st_info / 16 == STB_WEAK;
+    let weak = symbol.entry.binding() == STB_WEAK;
     match definition {
         Definition::Strong {
             object,
@@ -159,7 +181,8 @@ fn is_linkers(told: Definition) -> bool
 
 /// Whether a line has a definition's name, names it as what it is and gives its value.
 fn is_line_of(bindings: &Bindings<'_, '_, '_>, meaning: &Meaning<'_>, line: &SymbolLine) -> bool
-    ensures { IsTrue result ↔ (symbol_row line.now ≡ symbol_row_of bindings.now.places (meaning_view meaning.now)) }
+    ensures { IsTrue result ↔ (symbol_row line.now
+        ≡ symbol_row_of bindings.now.places (meaning_view meaning.now)) }
 {
     if line.name.as_slice() != name_of(meaning) {
         return false;
@@ -177,7 +200,9 @@ fn is_linkers_line(
     line: &SymbolLine,
 ) -> bool
     requires { AreUsed bindings.now.objects names.now }
-    ensures { IsTrue result ↔ (option_map (symbol_row_of bindings.now.places) (linker_line bindings.now.objects line.now.name.items) ≡ Some (symbol_row line.now)) }
+    ensures { IsTrue result
+        ↔ (option_map (symbol_row_of bindings.now.places)
+        (linker_line bindings.now.objects line.now.name.items) ≡ Some (symbol_row line.now)) }
 {
     if !names.contains(line.name.as_slice()) {
         return false;
@@ -199,8 +224,10 @@ fn is_line_of_name(
     line: &SymbolLine,
 ) -> bool
     requires names { AreUsed bindings.now.objects names.now }
-    requires meaning { option_map meaning_view meaning.now ≡ object_meaning bindings.now.objects line.now.name.items }
-    ensures { IsTrue result ↔ IsLine bindings.now.objects bindings.now.places (symbol_row line.now) }
+    requires meaning { option_map meaning_view meaning.now
+        ≡ object_meaning bindings.now.objects line.now.name.items }
+    ensures { IsTrue result ↔ IsLine bindings.now.objects bindings.now.places
+        (symbol_row line.now) }
 {
     match meaning {
         Some(meaning) => is_line_of(bindings, meaning, line),
@@ -215,7 +242,8 @@ pub fn is_right_line(
     line: &SymbolLine,
 ) -> bool
     requires { AreUsed bindings.now.objects names.now }
-    ensures { IsTrue result ↔ IsLine bindings.now.objects bindings.now.places (symbol_row line.now) }
+    ensures { IsTrue result ↔ IsLine bindings.now.objects bindings.now.places
+        (symbol_row line.now) }
 {
     let meaning = bindings.object_meaning(&line.name);
     is_line_of_name(bindings, names, &meaning, line)
@@ -228,7 +256,8 @@ fn meaning_of_line<'a>(
     line: &SymbolLine,
 ) -> Option<Meaning<'a>>
     requires { choices.now ≡ bindings.now.objects }
-    ensures { option_map meaning_view result ≡ object_meaning bindings.now.objects line.now.name.items }
+    ensures { option_map meaning_view result
+        ≡ object_meaning bindings.now.objects line.now.name.items }
 {
     match choices.find(line) {
         Some(symbol) => bindings.meant(symbol),
@@ -245,7 +274,8 @@ fn is_right_by<'a>(
 ) -> bool
     requires names { AreUsed bindings.now.objects names.now }
     requires choices { choices.now ≡ bindings.now.objects }
-    ensures { IsTrue result ↔ IsLine bindings.now.objects bindings.now.places (symbol_row line.now) }
+    ensures { IsTrue result ↔ IsLine bindings.now.objects bindings.now.places
+        (symbol_row line.now) }
 {
     let meaning = meaning_of_line(bindings, choices, line);
     is_line_of_name(bindings, names, &meaning, line)
@@ -259,7 +289,8 @@ fn are_right_lines<'a>(
 ) -> bool
     requires names { AreUsed bindings.now.objects names.now }
     requires choices { choices.now ≡ bindings.now.objects }
-    ensures { IsTrue result ↔ All (λ line. IsLine bindings.now.objects bindings.now.places (symbol_row line)) lines.now }
+    ensures { IsTrue result ↔ All
+        (λ line. IsLine bindings.now.objects bindings.now.places (symbol_row line)) lines.now }
 {
     for line in lines {
         if !is_right_by(bindings, names, choices, line) {
@@ -283,14 +314,17 @@ fn are_symbols_listed(
     lines: &[SymbolLine],
 ) -> Result<bool, AllocError>
     requires { Ascends SymbolBefore (map symbol_row lines.now) }
-    ensures { let L = bindings.now.objects in IfOk result (λ b. IsTrue b ↔ (AreSoundSymbols L × AreUnique L × ((name : List ℕ) → HasLine (map symbol_row lines.now) L bindings.now.places name))) }
+    ensures { let L = bindings.now.objects in IfOk result
+        (λ b. IsTrue b
+        ↔ (AreSoundSymbols L × AreUnique L
+        × ((name : List ℕ) → HasLine (map symbol_row lines.now) L bindings.now.places name))) }
 {
     if !bindings.are_sound() {
         return Ok(false);
     }
     let definitions = bindings.definitions();
-    let mut own = Vec::with_capacity(alloc, definitions.len())?;
-    let Some(count) = chosen_count(bindings, definitions, &mut own)? else {
+    let own = bindings.own_choices(alloc)?;
+    let Some(count) = chosen_count(bindings, definitions, &own) else {
         return Ok(false);
     };
     let names = used_names(alloc, bindings)?;

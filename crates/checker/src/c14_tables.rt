@@ -61,10 +61,16 @@ fn strip_tables<'b>(
     padding: usize,
     count: u64,
 ) -> Option<Tables<'b>>
-    requires lines { All (λ line. IsLine bindings.now.objects bindings.now.places (symbol_row line)) lines.now }
+    requires lines { All (λ line. IsLine bindings.now.objects bindings.now.places
+        (symbol_row line)) lines.now }
     requires padding { padding ≤ 8 }
-    ensures left { (others : List ℕ) → (AreTables bindings.now.places (tabled bindings.now.objects (map symbol_row lines.now)) padding bytes.entry.now count others ↔ IsSomeAnd result (λ t. t.names.now ≡ others)) }
-    ensures offset { IfSome result (λ t. t.name_at ≡ length (name_section (tabled bindings.now.objects (map symbol_row lines.now)))) }
+    ensures left { (others : List ℕ) →
+        (AreTables bindings.now.places
+        (tabled bindings.now.objects
+        (map symbol_row lines.now)) padding bytes.entry.now count others
+        ↔ IsSomeAnd result (λ t. t.names.now ≡ others)) }
+    ensures offset { IfSome result (λ t. t.name_at
+        ≡ length (name_section (tabled bindings.now.objects (map symbol_row lines.now)))) }
     ensures room { IfSome result (λ _. 24 * count < 2 ^ 63) }
 {
     let bytes = strip_zeros(bytes, padding)?;

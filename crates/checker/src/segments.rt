@@ -22,8 +22,10 @@ pub fn encloses(segment: &ProgramHeader, at: u64, size: u64) -> bool
 fn begun_at(segments: &[ProgramHeader], at: u64) -> usize
     requires { IsNonDecreasingBy (λ h. h.p_vaddr) segments.now }
     ensures within { result ≤ length segments.now }
-    ensures begun { (k : ℕ) (d : ProgramHeader) → k < result → (slice_index_or segments.now k d).p_vaddr ≤ at }
-    ensures not_yet { (k : ℕ) (d : ProgramHeader) → result ≤ k → k < length segments.now → at < (slice_index_or segments.now k d).p_vaddr }
+    ensures begun { (k : ℕ) (d : ProgramHeader) →
+        k < result → (slice_index_or segments.now k d).p_vaddr ≤ at }
+    ensures not_yet { (k : ℕ) (d : ProgramHeader) →
+        result ≤ k → k < length segments.now → at < (slice_index_or segments.now k d).p_vaddr }
 {
     segments.partition_point(|h| h.p_vaddr <= at)
 }
@@ -61,7 +63,8 @@ pub fn enclosing(memory: &Memory<'_>, at: u64, size: u64) -> Option<ProgramHeade
 /// The file part of a segment, as much of it as its file has.
 pub fn file_part<'f>(image: &'f [u8], segment: &ProgramHeader) -> &'f [u8]
     requires { IsLawful (length image.now) segment.now }
-    ensures { (k : ℕ) → slice_index result.now k ≡ segment_byte image.now segment.now (segment.now.p_vaddr + k) }
+    ensures { (k : ℕ) → slice_index result.now k
+        ≡ segment_byte image.now segment.now (segment.now.p_vaddr + k) }
 {
     if segment.p_filesz == 0 {
         return &[];
@@ -98,7 +101,8 @@ pub fn file_end(memory: &Memory<'_>) -> u64
 /// The bytes from `offset` on, `len` at most.
 pub fn sub_part<'f>(part: &'f [u8], offset: usize, len: usize) -> &'f [u8]
     ensures short { length result.now ≤ len }
-    ensures same { (k : ℕ) → k < len → slice_index part.now (offset + k) ≡ slice_index result.now k }
+    ensures same { (k : ℕ) → k < len
+        → slice_index part.now (offset + k) ≡ slice_index result.now k }
 {
     let (_before, rest) = part.split_at(offset.min(part.len()));
     let (bytes, _after) = rest.split_at(len.min(rest.len()));

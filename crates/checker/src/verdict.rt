@@ -28,8 +28,11 @@ fn check_by(
     map: &[u8],
     seed: Option<NameSeed>,
 ) -> Result<Verdict, AllocError>
-    ensures yes { IfOk result (λ v. (v ≡ Verdict.Yes) ↔ IsRightLink (files_of files.now) (words_of words.now) image.now map.now) }
-    ensures no { IfOk result (λ v. (c : Clause) → ((v ≡ Verdict.No c) ↔ Least c (files_of files.now) (words_of words.now) image.now map.now)) }
+    ensures yes { IfOk result (λ v. (v ≡ Verdict.Yes)
+        ↔ IsRightLink (files_of files.now) (words_of words.now) image.now map.now) }
+    ensures no { IfOk result (λ v. (c : Clause) →
+        ((v ≡ Verdict.No c)
+        ↔ Least c (files_of files.now) (words_of words.now) image.now map.now)) }
 {
     let Some(plan) = read_plan(alloc, words)? else {
         return Ok(Verdict::No(Clause::C1));
@@ -59,8 +62,11 @@ pub fn check(
     image: &[u8],
     map: &[u8],
 ) -> Result<Verdict, AllocError>
-    ensures yes { IfOk result (λ v. (v ≡ Verdict.Yes) ↔ IsRightLink (files_of files.now) (words_of words.now) image.now map.now) }
-    ensures no { IfOk result (λ v. (c : Clause) → ((v ≡ Verdict.No c) ↔ Least c (files_of files.now) (words_of words.now) image.now map.now)) }
+    ensures yes { IfOk result (λ v. (v ≡ Verdict.Yes)
+        ↔ IsRightLink (files_of files.now) (words_of words.now) image.now map.now) }
+    ensures no { IfOk result (λ v. (c : Clause) →
+        ((v ≡ Verdict.No c)
+        ↔ Least c (files_of files.now) (words_of words.now) image.now map.now)) }
 {
     check_by(alloc, files, words, image, map, None)
 }
@@ -79,8 +85,11 @@ pub fn check_in(
     map: &[u8],
     seed: NameSeed,
 ) -> Result<Verdict, AllocError>
-    ensures yes { IfOk result (λ v. (v ≡ Verdict.Yes) ↔ IsRightLink (files_of files.now) (words_of words.now) image.now map.now) }
-    ensures no { IfOk result (λ v. (c : Clause) → ((v ≡ Verdict.No c) ↔ Least c (files_of files.now) (words_of words.now) image.now map.now)) }
+    ensures yes { IfOk result (λ v. (v ≡ Verdict.Yes)
+        ↔ IsRightLink (files_of files.now) (words_of words.now) image.now map.now) }
+    ensures no { IfOk result (λ v. (c : Clause) →
+        ((v ≡ Verdict.No c)
+        ↔ Least c (files_of files.now) (words_of words.now) image.now map.now)) }
 {
     check_by(alloc, files, words, image, map, Some(seed))
 }
@@ -147,7 +156,7 @@ fn judge_names(alloc: Global, placed: &PlacedLink<'_, '_>) -> Result<Verdict, Al
     let link = placed.link();
     let got = link.map.got;
     let outputs = Outputs::new(alloc, placed.pieces())?;
-    let slots = SlotTable::new(alloc, &link.map.slots)?;
+    let slots = SlotTable::new(alloc, &link.map.slots, placed.names().seed())?;
     let places = Places::new(alloc, base_of(&link.plan), placed.placed(), got, &slots)?;
     let bindings = Bindings::new(placed.names(), &outputs, &places);
     judge_bound(alloc, &BoundLink::new(placed, &slots, bindings))

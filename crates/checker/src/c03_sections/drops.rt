@@ -23,7 +23,10 @@ fn add_drop(
     i: usize,
     header: &SectionHeader,
 ) -> Result<(), AllocError>
-    ensures { OnOk result (out.new.items ≡ out.old.items ++ cond (is_dropped_line (loaded_view loaded.now) i header.now) (record { object = number; section = i } ∷ []) []) }
+    ensures { OnOk result (out.new.items
+        ≡ out.old.items
+        ++ cond (is_dropped_line (loaded_view loaded.now) i header.now)
+        (record { object = number; section = i } ∷ []) []) }
 {
     if !is_dropped_line(loaded, i, header) {
         return Ok(());
@@ -37,11 +40,14 @@ fn add_drop(
 
 /// Puts the lines of the dropped sections of object `number` behind the others.
 fn add_drops(out: &mut Vec<DropLine>, number: u64, loaded: &Loaded<'_>) -> Result<(), AllocError>
-    ensures { OnOk result (out.new.items ≡ out.old.items ++ drops_from number (loaded_view loaded.now) 0 (sections loaded.now.object)) }
+    ensures { OnOk result (out.new.items
+        ≡ out.old.items
+        ++ drops_from number (loaded_view loaded.now) 0 (sections loaded.now.object)) }
 {
     let headers = loaded.object.sections();
-    for (i, header) in headers.iter().enumerate() {
-        add_drop(out, number, loaded, i, header)?;
+    for i in 0..headers.len() {
+        let header = headers.at(i);
+        add_drop(out, number, loaded, i, &header)?;
     }
     Ok(())
 }

@@ -42,7 +42,8 @@ fn is_short_number(bytes: &[u8]) -> bool
 
 /// The digits of a numbered array's name; None of another name.
 fn digits_of(name: &[u8]) -> Option<&[u8]>
-    ensures number { SomeIff (option_copied result) (order.is_numbered name.entry.now ≡ true) (drop 12 name.entry.now) }
+    ensures number { SomeIff (option_copied result) (order.is_numbered name.entry.now ≡ true)
+        (drop 12 name.entry.now) }
     ensures few { IfSome result (λ ds. length ds.now ≤ 5) }
     ensures digits { IfSome result (λ ds. list_all is_ascii_digit ds.now ≡ true) }
 {
@@ -92,7 +93,8 @@ pub fn in_array_order<'a>(
     alloc: Global,
     placed: &[Placed<'a>],
 ) -> Result<Vec<Placed<'a>>, AllocError>
-    ensures { IfOk result (λ v. placed_views v.items ≡ order.placed_in_array_order (placed_views placed.now)) }
+    ensures { IfOk result (λ v. placed_views v.items
+        ≡ order.placed_in_array_order (placed_views placed.now)) }
 {
     let mut ordered = Vec::from_slice(alloc, placed)?;
     ordered.sort_by_key(|q| array_rank(q.piece.name))?;
@@ -102,7 +104,8 @@ pub fn in_array_order<'a>(
 /// Whether each piece is near the one before it in its output section, where those of numbered arrays come first. Mostly
 /// there are none of these, and the pieces stand in that order already.
 pub fn are_near_in_array_order(alloc: Global, placed: &[Placed<'_>]) -> Result<bool, AllocError>
-    ensures { IfOk result (λ b. IsTrue b ↔ AreNear (order.placed_in_array_order (placed_views placed.now))) }
+    ensures { IfOk result (λ b. IsTrue b
+        ↔ AreNear (order.placed_in_array_order (placed_views placed.now))) }
 {
     if are_unnumbered(placed) {
         let near = are_near(alloc, placed)?;

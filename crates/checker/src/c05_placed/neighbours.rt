@@ -25,7 +25,8 @@ pub fn is_near(before: &Placed<'_>, next: &Placed<'_>) -> bool
 /// Whether a piece is near the last one of its output section, where there is one.
 fn is_near_last(placed: &[Placed<'_>], last: Option<usize>, next: &Placed<'_>) -> bool
     requires { IfSome last (λ i. i < length placed.now) }
-    ensures { IsTrue result ↔ IfSome last (λ i. IsNear (placed_view (slice_index_or placed.now i next.now)) (placed_view next.now)) }
+    ensures { IsTrue result ↔ IfSome last
+        (λ i. IsNear (placed_view (slice_index_or placed.now i next.now)) (placed_view next.now)) }
 {
     match last {
         Some(i) => is_near(&placed[i], next),

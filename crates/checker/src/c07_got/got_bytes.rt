@@ -19,7 +19,8 @@ use std::alloc::{AllocError, Global};
 /// The value of a LOCAL symbol by its object's and its own number, modulo 2^64; 0 where there is no such object, and
 /// where the symbol isn't defined.
 fn local_value(bindings: &Bindings<'_, '_, '_>, object: u64, symbol: u64) -> u64
-    ensures { result ≡ slots.target_value bindings.now.objects bindings.now.places (OfLocal object symbol) % 2 ^ 64 }
+    ensures { result ≡ slots.target_value bindings.now.objects bindings.now.places
+        (OfLocal object symbol) % 2 ^ 64 }
 {
     match bindings.objects().get(object as usize) {
         Some(loaded) => target_of_symbol(bindings, object, loaded, symbol as usize).value,
@@ -29,7 +30,8 @@ fn local_value(bindings: &Bindings<'_, '_, '_>, object: u64, symbol: u64) -> u64
 
 /// The value of what a slot stands for, modulo 2^64, 0 where that means nothing.
 fn target_value(bindings: &Bindings<'_, '_, '_>, target: &SlotTarget) -> u64
-    ensures { result ≡ slots.target_value bindings.now.objects bindings.now.places (target_row target.now) % 2 ^ 64 }
+    ensures { result ≡ slots.target_value bindings.now.objects bindings.now.places
+        (target_row target.now) % 2 ^ 64 }
 {
     match target {
         SlotTarget::Name(name) => bindings.name_value(name),
@@ -39,7 +41,8 @@ fn target_value(bindings: &Bindings<'_, '_, '_>, target: &SlotTarget) -> u64
 
 /// What a line's slot holds: the value of what it stands for, or that value's offset from the thread pointer, modulo 2^64.
 fn slot_value(bindings: &Bindings<'_, '_, '_>, line: &SlotLine) -> u64
-    ensures { result ≡ slots.slot_value bindings.now.objects bindings.now.places line.now.kind (target_row line.now.target) }
+    ensures { result ≡ slots.slot_value bindings.now.objects bindings.now.places line.now.kind
+        (target_row line.now.target) }
 {
     let value = target_value(bindings, &line.target);
     match line.kind {
@@ -54,7 +57,10 @@ pub fn wanted_bytes(
     bindings: &Bindings<'_, '_, '_>,
     lines: &[SlotLine],
 ) -> Result<Vec<u8>, AllocError>
-    ensures { IfOk result (λ v. v.items ≡ replicate 8 0 ++ flat_map (slot_bytes bindings.now.objects bindings.now.places) (map slot_row lines.now)) }
+    ensures { IfOk result (λ v. v.items
+        ≡ replicate 8 0
+        ++ flat_map (slot_bytes bindings.now.objects bindings.now.places)
+        (map slot_row lines.now)) }
 {
     let mut bytes = Vec::new(alloc);
     bytes.extend_from_slice(&[0; 8])?;
@@ -109,7 +115,8 @@ pub fn holds_got(
     got: &GotLine,
 ) -> Result<bool, AllocError>
     requires { LiesInImage bound.now.image got.now }
-    ensures { IfOk result (λ b. IsTrue b ↔ HoldsGot (objects_of bound.now) (where_of bound.now) bound.now.image got.now) }
+    ensures { IfOk result (λ b. IsTrue b
+        ↔ HoldsGot (objects_of bound.now) (where_of bound.now) bound.now.image got.now) }
 {
     let memory = bound.memory();
     let lines = bound.slots().lines();

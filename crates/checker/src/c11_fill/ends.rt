@@ -18,7 +18,8 @@ pub fn is_of_segment(segment: &ProgramHeader, thing: &Thing) -> bool
 
 /// Whether a nonempty thing of the segment ends where the segment's memory does.
 fn ends_memory(segment: &ProgramHeader, thing: &Thing) -> bool
-    ensures { IsTrue result ↔ (IsOfSegment segment.now thing.now × (thing.now.at + thing.now.size ≡ segment.now.p_vaddr + segment.now.p_memsz)) }
+    ensures { IsTrue result ↔ (IsOfSegment segment.now thing.now
+        × (thing.now.at + thing.now.size ≡ segment.now.p_vaddr + segment.now.p_memsz)) }
 {
     if !is_of_segment(segment, thing) {
         return false;
@@ -28,7 +29,8 @@ fn ends_memory(segment: &ProgramHeader, thing: &Thing) -> bool
 
 /// Whether a thing of the segment that has bytes in the file ends inside the segment's file part.
 fn is_held_by_file(segment: &ProgramHeader, thing: &Thing) -> bool
-    ensures { IsTrue result ↔ (IsOfSegment segment.now thing.now → thing.now.in_file ≡ true → thing.now.at + thing.now.size ≤ segment.now.p_vaddr + segment.now.p_filesz) }
+    ensures { IsTrue result ↔ (IsOfSegment segment.now thing.now → thing.now.in_file ≡ true
+        → thing.now.at + thing.now.size ≤ segment.now.p_vaddr + segment.now.p_filesz) }
 {
     if !is_of_segment(segment, thing) || !thing.in_file {
         return true;
@@ -38,7 +40,8 @@ fn is_held_by_file(segment: &ProgramHeader, thing: &Thing) -> bool
 
 /// Whether a thing of the segment that has bytes in the file ends where the segment's file part does.
 fn ends_file(segment: &ProgramHeader, thing: &Thing) -> bool
-    ensures { IsTrue result ↔ (IsOfSegment segment.now thing.now × (thing.now.in_file ≡ true) × (thing.now.at + thing.now.size ≡ segment.now.p_vaddr + segment.now.p_filesz)) }
+    ensures { IsTrue result ↔ (IsOfSegment segment.now thing.now × (thing.now.in_file ≡ true)
+        × (thing.now.at + thing.now.size ≡ segment.now.p_vaddr + segment.now.p_filesz)) }
 {
     if !is_of_segment(segment, thing) || !thing.in_file {
         return false;

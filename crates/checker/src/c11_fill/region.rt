@@ -19,7 +19,8 @@ pub struct Region<'a> {
 /// Whether each address from `from` up to `to` that is below the top has the fill.
 fn is_gap(region: &Region<'_>, from: u64, to: u64) -> bool
     requires { region.now.start ≤ from }
-    ensures { IsTrue result ↔ GapIs region.now.bytes.now region.now.start region.now.top region.now.fill from to }
+    ensures { IsTrue result
+        ↔ GapIs region.now.bytes.now region.now.start region.now.top region.now.fill from to }
 {
     let end = to.min(region.top);
     if end <= from {
@@ -36,7 +37,8 @@ fn is_gap(region: &Region<'_>, from: u64, to: u64) -> bool
 /// Whether the bytes from `low` up to `high` that are there are `fill`.
 fn is_fill(bytes: &[u8], low: usize, high: usize, fill: u8) -> bool
     requires { low ≤ high }
-    ensures { IsTrue result ↔ ((k : ℕ) → low ≤ k → k < high → k < length bytes.now → slice_index bytes.now k ≡ fill) }
+    ensures { IsTrue result ↔ ((k : ℕ) →
+        low ≤ k → k < high → k < length bytes.now → slice_index bytes.now k ≡ fill) }
 {
     let end = high.min(bytes.len());
     if end <= low {
@@ -52,7 +54,8 @@ fn is_fill(bytes: &[u8], low: usize, high: usize, fill: u8) -> bool
 pub fn is_filled(region: &Region<'_>, sorted: &[Thing]) -> bool
     requires fits { All EndFits sorted.now }
     requires rising { IsNonDecreasingBy (λ t. t.at) sorted.now }
-    ensures { IsTrue result ↔ RegionFilled region.now.bytes.now region.now.start region.now.top region.now.fill sorted.now }
+    ensures { IsTrue result
+        ↔ RegionFilled region.now.bytes.now region.now.start region.now.top region.now.fill sorted.now }
 {
     let mut from = region.start;
     for thing in sorted {

@@ -10,8 +10,10 @@ use std::alloc::{AllocError, Global};
 fn count_below(sorted: &[Thing], address: u64) -> usize
     requires { IsNonDecreasingBy (λ t. t.at) sorted.now }
     ensures within { result ≤ length sorted.now }
-    ensures below { (k : ℕ) (d : Thing) → k < result → (slice_index_or sorted.now k d).at < address }
-    ensures above { (k : ℕ) (d : Thing) → result ≤ k → k < length sorted.now → address ≤ (slice_index_or sorted.now k d).at }
+    ensures below { (k : ℕ) (d : Thing) →
+        k < result → (slice_index_or sorted.now k d).at < address }
+    ensures above { (k : ℕ) (d : Thing) →
+        result ≤ k → k < length sorted.now → address ≤ (slice_index_or sorted.now k d).at }
 {
     sorted.partition_point(|t| t.at < address)
 }
@@ -26,8 +28,12 @@ fn ends_by(thing: &Thing, address: u64) -> bool
 fn count_ended(sorted: &[Thing], address: u64) -> usize
     requires { IsNonDecreasingBy (λ t. t.at + t.size) sorted.now }
     ensures within { result ≤ length sorted.now }
-    ensures ended { (k : ℕ) (d : Thing) → k < result → (slice_index_or sorted.now k d).at + (slice_index_or sorted.now k d).size ≤ address }
-    ensures not_yet { (k : ℕ) (d : Thing) → result ≤ k → k < length sorted.now → address < (slice_index_or sorted.now k d).at + (slice_index_or sorted.now k d).size }
+    ensures ended { (k : ℕ) (d : Thing) →
+        k < result → (slice_index_or sorted.now k d).at + (slice_index_or sorted.now k d).size
+        ≤ address }
+    ensures not_yet { (k : ℕ) (d : Thing) →
+        result ≤ k → k < length sorted.now
+        → address < (slice_index_or sorted.now k d).at + (slice_index_or sorted.now k d).size }
 {
     sorted.partition_point(|t| ends_by(t, address))
 }
@@ -49,7 +55,8 @@ pub fn lying_between(sorted: &[Thing], from: u64, to: u64) -> &[Thing]
     requires rising { IsNonDecreasingBy (λ t. t.at) sorted.now }
     requires ends { IsNonDecreasingBy (λ t. t.at + t.size) sorted.now }
     ensures there { All (Contains sorted.entry.now) result.now }
-    ensures all { All (λ t. from < t.at + t.size → t.at < to → Contains result.now t) sorted.entry.now }
+    ensures all { All (λ t. from < t.at + t.size → t.at < to
+        → Contains result.now t) sorted.entry.now }
     ensures fits { All EndFits result.now }
     ensures rising { IsNonDecreasingBy (λ t. t.at) result.now }
 {
@@ -61,7 +68,10 @@ pub fn lying_between(sorted: &[Thing], from: u64, to: u64) -> &[Thing]
 /// The thing, up to the greatest end so far where it ends below that.
 fn stretch(end: u64, thing: &Thing) -> Thing
     requires { EndFits thing.now }
-    ensures { result ≡ record thing.now { size = max end (thing.now.at + thing.now.size) - thing.now.at } }
+    ensures { result ≡ record thing.now {
+      size = max end
+          (thing.now.at + thing.now.size) - thing.now.at;
+    } }
 {
     Thing {
         size: end.max(thing.at + thing.size) - thing.at,

@@ -1,10 +1,10 @@
 //! Definitions that are the chosen ones of their own names, found by the numbers by which lines of the map name them: for
 //! these no name is looked up.
-ghost use Rattle.std.specs.Prelude.{◌≡◌, IfOk, IfSome, IsTrue, Some, filter, option_copied, option_map, slice_get, true};
+ghost use Rattle.std.specs.Prelude.{◌≡◌, IfOk, IfSome, IsTrue, Some, filter, option_copied, slice_get, true};
 ghost use Rattle.elf_model.specs.ChosenSymbols.{is_definition};
 ghost use Rattle.elf_model.specs.Resolution.{all_symbols, chosen};
 ghost use Rattle.check_link.specs.Views.{symbol_view};
-ghost use Rattle.checker.specs.Listed.{AreOwnChoices};
+ghost use Rattle.check_link.specs.Chosen.{AreOwnChoices};
 
 use check_link::SymbolOf;
 use check_load::Loaded;
@@ -12,26 +12,6 @@ use check_relocs::Bindings;
 use elf_model::{Definition, SymbolLine};
 use std::alloc::{AllocError, Global};
 use std::marker::Model;
-
-/// Whether two symbols are the same in all that is told of them.
-fn are_same(a: &SymbolOf<'_>, b: &SymbolOf<'_>) -> bool
-    ensures { IsTrue result → symbol_view a.now ≡ symbol_view b.now }
-{
-    if a.object != b.object || a.number != b.number || a.dropped != b.dropped {
-        return false;
-    }
-    a.entry == b.entry && a.name == b.name
-}
-
-/// Whether a symbol is the one that was chosen, in all that is told of it.
-pub fn is_itself(symbol: &SymbolOf<'_>, chosen: &Option<SymbolOf<'_>>) -> bool
-    ensures { IsTrue result → option_map symbol_view chosen.now ≡ Some (symbol_view symbol.now) }
-{
-    match chosen {
-        Some(other) => are_same(other, symbol),
-        None => false,
-    }
-}
 
 /// Definitions of objects, with a mark for each: one that has it is the chosen one of its name. By the numbers of objects
 /// and symbols positions in the list, which are only tried: a wrong one leads to no definition of a line's name.
@@ -48,7 +28,7 @@ impl<'b, 'a> Model for OwnChoices<'b, 'a> {
     ghost use Rattle.elf_model.specs.Loading.{LoadedObject};
     ghost use Rattle.check_link.specs.Views.{symbol_views};
     ghost use Rattle.check_load.specs.Views.{loaded_views};
-    ghost use Rattle.checker.specs.Listed.{AreOwnChoices};
+    ghost use Rattle.check_link.specs.Chosen.{AreOwnChoices};
 
     ghost Value = { List LoadedObject };
 
@@ -94,7 +74,7 @@ fn numbers_in(definition: Definition) -> Option<(usize, usize)> {
 }
 
 /// Whether a position has a mark.
-fn is_marked(own: &[bool], position: usize) -> bool
+pub fn is_marked(own: &[bool], position: usize) -> bool
     ensures { IsTrue result → slice_get own.now position ≡ Some true }
 {
     match own.get(position) {
@@ -120,7 +100,8 @@ impl<'b, 'a> OwnChoices<'b, 'a> {
         bindings: &'b Bindings<'_, '_, 'a>,
         own: Vec<bool>,
     ) -> Result<OwnChoices<'b, 'a>, AllocError>
-        requires { AreOwnChoices bindings.now.objects (filter is_definition (all_symbols bindings.now.objects)) own.items }
+        requires { AreOwnChoices bindings.now.objects
+            (filter is_definition (all_symbols bindings.now.objects)) own.items }
         ensures { IfOk result (λ c. c ≡ bindings.now.objects) }
     {
         let objects = bindings.objects();
@@ -143,7 +124,8 @@ impl<'b, 'a> OwnChoices<'b, 'a> {
 
     /// The chosen definition of a line's name, where the line names it; None where that isn't known.
     pub fn find(&self, line: &SymbolLine) -> Option<&'b SymbolOf<'a>>
-        ensures { IfSome result (λ s. chosen self.now line.now.name.items ≡ Some (symbol_view s.now)) }
+        ensures { IfSome result (λ s. chosen self.now line.now.name.items
+            ≡ Some (symbol_view s.now)) }
     {
         let position = self.position(line)?;
         if !is_marked(&self.own, position) {

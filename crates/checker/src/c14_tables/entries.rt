@@ -17,7 +17,8 @@ use elf_model::{
 
 /// The binding and the type of a symbol of an object, as `st_info` has them.
 fn symbol_info(symbol: &SymbolOf<'_>) -> u8
-    ensures { result ≡ entry_binding (meaning.Symbol (symbol_view symbol.now)) * 16 + entry_type (meaning.Symbol (symbol_view symbol.now)) }
+    ensures { result ≡ entry_binding (meaning.Symbol (symbol_view symbol.now)) * 16 + entry_type
+        (meaning.Symbol (symbol_view symbol.now)) }
 {
     let info = symbol.entry.st_info;
     let binding = if info / 16 == STB_WEAK {
@@ -35,7 +36,8 @@ fn symbol_info(symbol: &SymbolOf<'_>) -> u8
 
 /// The binding and the type of a definition, as `st_info` has them.
 fn info_of(meaning: &Meaning<'_>) -> u8
-    ensures { result ≡ entry_binding (meaning_view meaning.now) * 16 + entry_type (meaning_view meaning.now) }
+    ensures { result ≡ entry_binding (meaning_view meaning.now) * 16 + entry_type
+        (meaning_view meaning.now) }
 {
     match meaning {
         Meaning::Symbol(symbol) => symbol_info(symbol),
@@ -81,7 +83,8 @@ fn entry_of(meaning: &Meaning<'_>, name_at: u32, address: u64) -> Symbol
 
 /// The entry of a name of the linker's own that stands for an address.
 fn linkers_entry(name_at: u32, address: u64) -> Symbol
-    ensures entry { (name : List ℕ) (bound : Bound) → result ≡ entry_at name_at address (meaning.Linker name bound) }
+    ensures entry { (name : List ℕ) (bound : Bound) →
+        result ≡ entry_at name_at address (meaning.Linker name bound) }
     ensures fits { address < 2 ^ 64 }
 {
     Symbol {
@@ -101,7 +104,8 @@ fn object_entry(
     name_at: u32,
     address: u64,
 ) -> Option<Symbol>
-    ensures entry { result ≡ entry_if_tabled bindings.now.objects name_at address (meaning_view meaning.now) }
+    ensures entry { result ≡ entry_if_tabled bindings.now.objects name_at address
+        (meaning_view meaning.now) }
     ensures fits { address < 2 ^ 64 }
 {
     if is_tabled(bindings, meaning) {
@@ -119,7 +123,8 @@ pub fn entry_of_line(
 ) -> Option<Symbol>
     requires { IsLine bindings.now.objects bindings.now.places (symbol_row line.now) }
     ensures none { IfNone result (tabled bindings.now.objects (symbol_row line.now ∷ []) ≡ []) }
-    ensures some { IfSome result (IsTabled bindings.now.objects bindings.now.places (symbol_row line.now) name_at) }
+    ensures some { IfSome result (IsTabled bindings.now.objects bindings.now.places
+        (symbol_row line.now) name_at) }
 {
     match bindings.object_meaning(&line.name) {
         Some(meaning) => object_entry(bindings, &meaning, name_at, line.address),

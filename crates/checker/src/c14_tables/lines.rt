@@ -34,7 +34,9 @@ pub struct Tables<'b> {
 /// The tables of `count` entries in front of others, but for the first entry and the first NUL; None where they begin
 /// otherwise.
 pub fn tables_of<'b>(bytes: &'b [u8], count: u64) -> Option<Tables<'b>>
-    ensures tables { (w : Where) (ms : List Meaning) (others : List ℕ) → (AreTables w ms 0 bytes.entry.now count others ↔ IsSomeAnd result (λ t. AreLeft w t.entries.now t.names.now t.name_at ms others)) }
+    ensures tables { (w : Where) (ms : List Meaning) (others : List ℕ) →
+        (AreTables w ms 0 bytes.entry.now count others
+        ↔ IsSomeAnd result (λ t. AreLeft w t.entries.now t.names.now t.name_at ms others)) }
     ensures first { IfSome result (λ t. t.name_at ≡ 1) }
     ensures room { IfSome result (λ _. 24 * count < 2 ^ 63) }
 {
@@ -51,7 +53,8 @@ pub fn tables_of<'b>(bytes: &'b [u8], count: u64) -> Option<Tables<'b>>
 
 /// The offset after a name and its NUL; None where it is 2^32 or more.
 fn offset_after(name_at: u32, name: &[u8]) -> Option<u32>
-    ensures { SomeIff result (name_at + (length name.now + 1) < 2 ^ 32) (name_at + (length name.now + 1)) }
+    ensures { SomeIff result (name_at + (length name.now + 1) < 2 ^ 32)
+        (name_at + (length name.now + 1)) }
 {
     let room = u32::MAX - name_at;
     if name.len() >= room as usize {
@@ -62,7 +65,10 @@ fn offset_after(name_at: u32, name: &[u8]) -> Option<u32>
 
 /// What is left after an entry and its name.
 fn strip_entry<'b>(left: Tables<'b>, entry: &Symbol, name: &[u8]) -> Option<Tables<'b>>
-    ensures left { (w : Where) (m : Meaning) (ms : List Meaning) (others : List ℕ) → entry.now ≡ entry_of w left.entry.name_at m → meaning_name m ≡ name.now → (AreLeft w left.entry.entries.now left.entry.names.now left.entry.name_at (m ∷ ms) others ↔ IsSomeAnd result (λ t. AreLeft w t.entries.now t.names.now t.name_at ms others)) }
+    ensures left { (w : Where) (m : Meaning) (ms : List Meaning) (others : List ℕ) →
+        entry.now ≡ entry_of w left.entry.name_at m → meaning_name m ≡ name.now
+        → (AreLeft w left.entry.entries.now left.entry.names.now left.entry.name_at (m ∷ ms) others
+        ↔ IsSomeAnd result (λ t. AreLeft w t.entries.now t.names.now t.name_at ms others)) }
     ensures offset { IfSome result (λ t. t.name_at ≡ left.entry.name_at + (length name.now + 1)) }
     ensures fits { IfSome result (λ t. t.name_at < 2 ^ 32) }
 {
@@ -80,8 +86,14 @@ fn strip_line<'b>(
     left: Tables<'b>,
 ) -> Option<Tables<'b>>
     requires { IsLine bindings.now.objects bindings.now.places (symbol_row line.now) }
-    ensures left { (ms : List Meaning) (others : List ℕ) → (AreLeft bindings.now.places left.entry.entries.now left.entry.names.now left.entry.name_at (tabled bindings.now.objects (symbol_row line.now ∷ []) ++ ms) others ↔ IsSomeAnd result (λ t. AreLeft bindings.now.places t.entries.now t.names.now t.name_at ms others)) }
-    ensures offset { IfSome result (λ t. t.name_at ≡ left.entry.name_at + length (ended_names (tabled bindings.now.objects (symbol_row line.now ∷ [])))) }
+    ensures left { (ms : List Meaning) (others : List ℕ) →
+        (AreLeft bindings.now.places left.entry.entries.now left.entry.names.now left.entry.name_at
+        (tabled bindings.now.objects (symbol_row line.now ∷ []) ++ ms) others
+        ↔ IsSomeAnd result
+        (λ t. AreLeft bindings.now.places t.entries.now t.names.now t.name_at ms others)) }
+    ensures offset { IfSome result (λ t. t.name_at
+        ≡ left.entry.name_at + length
+        (ended_names (tabled bindings.now.objects (symbol_row line.now ∷ [])))) }
     ensures fits { IfSome result (λ t. t.name_at < 2 ^ 32) }
 {
     match entry_of_line(bindings, line, left.name_at) {
@@ -96,9 +108,14 @@ pub fn strip_lines<'b>(
     lines: &[SymbolLine],
     tables: Tables<'b>,
 ) -> Option<Tables<'b>>
-    requires { All (λ line. IsLine bindings.now.objects bindings.now.places (symbol_row line)) lines.now }
-    ensures left { (others : List ℕ) → (AreLeft bindings.now.places tables.entry.entries.now tables.entry.names.now tables.entry.name_at (tabled bindings.now.objects (map symbol_row lines.now)) others ↔ IsSomeAnd result (λ t. t.names.now ≡ others)) }
-    ensures offset { IfSome result (λ t. t.name_at ≡ tables.entry.name_at + length (ended_names (tabled bindings.now.objects (map symbol_row lines.now)))) }
+    requires { All (λ line. IsLine bindings.now.objects bindings.now.places
+        (symbol_row line)) lines.now }
+    ensures left { (others : List ℕ) →
+        (AreLeft bindings.now.places tables.entry.entries.now tables.entry.names.now tables.entry.name_at (tabled bindings.now.objects (map symbol_row lines.now)) others
+        ↔ IsSomeAnd result (λ t. t.names.now ≡ others)) }
+    ensures offset { IfSome result (λ t. t.name_at
+        ≡ tables.entry.name_at + length
+        (ended_names (tabled bindings.now.objects (map symbol_row lines.now)))) }
 {
     let mut left = tables;
     for line in lines {

@@ -36,7 +36,8 @@ pub fn eight_up(x: u64) -> u64
 pub fn places_of(end: u64, count: u64, strtab_size: u32) -> Places
     requires end { end ≤ 2 ^ 46 }
     requires count { 24 * count < 2 ^ 63 }
-    ensures places { (ms : List Meaning) → count ≡ entry_count ms → strtab_size ≡ length (name_section ms) → AreAt end ms result }
+    ensures places { (ms : List Meaning) →
+        count ≡ entry_count ms → strtab_size ≡ length (name_section ms) → AreAt end ms result }
     ensures padded { result.headers ≡ round_up 8 result.shstrtab_end }
 {
     let symtab = eight_up(end);

@@ -1,6 +1,7 @@
 use Rattle.std.proofs.Common.{◌≡◌, ◌∙◌, ap, refl, List, ℕ, sym, Some}
 use Rattle.std.specs.Prelude.{◌&&◌, Bool, None, Option, filter, find, slice_get}
 use Rattle.std.specs.Option.{option_and_then, option_or}
+use Rattle.std.proofs.lemmas.Option.{none-some}
 use Rattle.elf_model.proofs.Found.{find-filter, or_none}
 use Rattle.elf_model.specs.ChosenSymbols.{is_definition}
 use Rattle.elf_model.specs.Resolution.{SymbolOf, all_symbols, has_name, is_common_definition, is_strong, is_weak_definition}
@@ -49,3 +50,9 @@ returns-clause-chosen c = λ name.
     (first is_common_definition name ss all c.requires (common_defined all))
     ∙ ap (λ (o : Option SymbolOf). option_or (find (has_name name) (filter is_strong all)) (option_or (find (has_name name) (filter is_common_definition all)) o))
     (first is_weak_definition name ss all c.requires (weak_defined all))
+
+pub returns-clause-own : goal.returns-clause-own
+returns-clause-own c =
+    c.in_ok-add_weak.ensures.own
+    (c.in_ok-add_common.ensures.own
+    (c.in_ok-add_strong.ensures.own (λ n p s at there. absurd (none-some p (sym (ap (λ (ps : List ℕ). slice_get ps n) c.new-2.ensures.items) ∙ at)))))

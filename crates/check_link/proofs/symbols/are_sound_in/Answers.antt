@@ -1,4 +1,4 @@
-use Rattle.std.proofs.Common.{◌∙◌, List, subst, sym}
+use Rattle.std.proofs.Common.{◌∙◌, List, subst, sym, ap, ◌<◌}
 use Rattle.std.specs.Prelude.{All}
 use Rattle.std.proofs.lemmas.Bool.{false≢true}
 use Rattle.elf_model.specs.Resolution.{IsSoundSymbol, symbols_from}
@@ -13,8 +13,8 @@ returns-then-not-is_sound c =
     let o = loaded_view c.args.loaded.now in
     let k = c.args.number in (
       λ t. absurd (false≢true t),
-      λ all. absurd (symbol_stop P (All P (symbols_from k o 0 c.symbols-entries.result.now)) k o c.symbols-entries.result.now c.loop-j.j _ c.loop-j-test.true c.loop-j.invariant
-          (λ holds. false≢true (sym c.if-not-is_sound.true ∙ c.is_sound.ensures.1 holds))
+      λ all. absurd (symbol_stop P (All P (symbols_from k o 0 c.symbols-entries.result.now)) k o c.symbols-entries.result.now c.loop-j.j _ (subst (λ n. c.loop-j.j < n) c.len-j-end.ensures c.loop-j-test.true) c.loop-j.invariant
+          (λ holds. false≢true (sym c.if-not-is_sound.true ∙ (rw c.at-entry.ensures at c.is_sound.ensures.1) holds))
           (subst (λ (es : List Symbol). All P (symbols_from k o 0 es)) (sym c.symbols-entries.ensures) all)),
     )
 
@@ -23,5 +23,5 @@ loop-j-preserved c =
     let P = IsSoundSymbol (loaded_views c.args.objects.now) in
     let o = loaded_view c.args.loaded.now in
     let k = c.args.number in
-    symbol_more P (All P (symbols_from k o 0 c.symbols-entries.result.now)) k o c.symbols-entries.result.now c.loop-j.j _ c.loop-j-test.true c.loop-j.invariant
-    (c.is_sound.ensures.0 c.if-not-is_sound.false)
+    symbol_more P (All P (symbols_from k o 0 c.symbols-entries.result.now)) k o c.symbols-entries.result.now c.loop-j.j _ (subst (λ n. c.loop-j.j < n) c.len-j-end.ensures c.loop-j-test.true) c.loop-j.invariant
+    ((rw c.at-entry.ensures at c.is_sound.ensures.0) c.if-not-is_sound.false)

@@ -19,7 +19,7 @@ returns-in_default-clause-right c =
     let r = make c.at-entry.result in
     let kept = sym c.is_some_kind.ensures ∙ c.if-not-is_some_kind.false in
     let parts = run_more c.args.number (loaded_view c.args.loaded.now) c.args.to.now.section es c.loop-i.i c.at-entry.result (omega (arith, c.loop-i-test.true, c.len-i-end.ensures)) c.at-entry.ensures kept in
-    let never = rw c.in_default.is at c.right_field.ensures in (
+    let never = rw c.in_default.is at c.right_field.ensures.field in (
       λ e. absurd (false≢true e),
       λ all. absurd (one_stop P (All P (map make (filter is_some_kind es))) (left c.loop-i.i) r (left (c.loop-i.i + 1)) parts never c.loop-i.invariant.right all),
     )
@@ -51,8 +51,9 @@ loop-i-preserved c =
     let r = make c.at-entry.result in
     let kept = sym c.is_some_kind.ensures ∙ c.if-not-is_some_kind.false in
     let parts = run_more c.args.number (loaded_view c.args.loaded.now) c.args.to.now.section es c.loop-i.i c.at-entry.result (omega (arith, c.loop-i-test.true, c.len-i-end.ensures)) c.at-entry.ensures kept in
-    let s = rw c.in-Some.is at c.right_field.ensures in
+    let s = rw c.in-Some.is at c.right_field.ensures.field in
     record {
+      known = c.right_field.ensures.kept;
       fields =
           push_mapped (field_of c.args.bindings.now.objects c.args.bindings.now.places) c.loop-i.fields.items c.push.new.self.items c.in-Some.field r (left c.loop-i.i)
           (left (c.loop-i.i + 1)) _ c.in_ok-push.ensures.items s.1 parts c.loop-i.invariant.fields;
@@ -69,6 +70,7 @@ loop-i-preserved-then-not-is_some_kind c =
     let none = sym c.is_some_kind.ensures ∙ c.if-not-is_some_kind.true in
     let same = run_skip c.args.number (loaded_view c.args.loaded.now) c.args.to.now.section es c.loop-i.i c.at-entry.result (omega (arith, c.loop-i-test.true, c.len-i-end.ensures)) c.at-entry.ensures none in
     record {
+      known = c.loop-i.invariant.known;
       fields = fields_same b.objects b.places c.loop-i.fields.items (left c.loop-i.i) (left (c.loop-i.i + 1)) _ same c.loop-i.invariant.fields;
       right = part_same P (All P (map make (filter is_some_kind es))) (left c.loop-i.i) (left (c.loop-i.i + 1)) same c.loop-i.invariant.right;
     }

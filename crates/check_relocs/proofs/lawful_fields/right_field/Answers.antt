@@ -5,15 +5,15 @@ use Rattle.check_relocs.specs.Bindings.{IsTargetOf}
 use Rattle.check_relocs.proofs.FittingLemmas.{field_is, right, right_with, some_iff}
 use Rattle.check_relocs.proofs.lawful_fields.right_field.Goals as goal
 
-pub returns : goal.returns
-returns c =
+pub returns-clause-field : goal.returns-clause-field
+returns-clause-field c =
     let b = c.args.bindings.now in
     let n = c.args.number in
     let o = loaded_view c.args.loaded.now in
     let to = c.args.to.now in
     let e = c.args.entry.now in
     let t = c.target_at-target.result in
-    let m = subst (λ (j : ℕ). IsTargetOf b (symbol_at n o j) t) c.symbol.ensures c.target_at-target.ensures in
+    let m = subst (λ (j : ℕ). IsTargetOf b (symbol_at n o j) t) c.symbol.ensures c.target_at-target.ensures.target in
     let g = c.link_terms-given.result in
     let slot = c.link_terms-given.ensures.slot to.section in
     let got = c.link_terms-given.ensures.got in

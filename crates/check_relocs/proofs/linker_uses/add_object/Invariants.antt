@@ -4,10 +4,14 @@ use Rattle.elf_model.proofs.FlatRelocations.{left_of_sections}
 use Rattle.elf_model.specs.Relocation.{relocations_from}
 use Rattle.elf_model.specs.UsedNames.{is_among, uses_line}
 use Rattle.check_load.specs.Views.{loaded_view}
+use Rattle.check_relocs.specs.LinkerUses.{AreUses}
 use Rattle.check_relocs.proofs.linker_uses.add_object.Given as goal
 
 abbrev pub invariant-loop-i : goal.invariant-loop-i
-invariant-loop-i l =
-    (n : List ℕ) →
-    (is_among l.names n || list_any (uses_line l.bindings.objects n) (left_of_sections l.number (loaded_view l.loaded) l.headers l.i))
-    ≡ (is_among l.fn.names n || list_any (uses_line l.bindings.objects n) (relocations_from l.number (loaded_view l.loaded)))
+invariant-loop-i l = record {
+  known : AreUses l.bindings.objects l.number (loaded_view l.loaded) l.uses.items;
+  gains :
+      (n : List ℕ)
+      → (is_among l.names n || list_any (uses_line l.bindings.objects n) (left_of_sections l.number (loaded_view l.loaded) l.headers l.i))
+      ≡ (is_among l.fn.names n || list_any (uses_line l.bindings.objects n) (relocations_from l.number (loaded_view l.loaded)));
+}

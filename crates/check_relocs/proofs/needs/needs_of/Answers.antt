@@ -1,4 +1,4 @@
-use Rattle.std.proofs.Common.{◌≡◌, ◌+◌, ◌++◌, ◌∙◌, List, ap, false, refl, rules, subst, sym}
+use Rattle.std.proofs.Common.{◌≡◌, ◌+◌, ◌++◌, ◌∙◌, List, ap, false, refl, subst, sym}
 use Rattle.elf_model.proofs.FlatRelocations.{left_of_objects, object_end, object_more}
 use Rattle.elf_model.specs.Loading.{LoadedObject}
 use Rattle.elf_model.specs.Relocation.{Relocation, relocations, relocations_from}
@@ -11,7 +11,7 @@ use Rattle.check_relocs.proofs.needs.needs_of.Goals as goal
 pub loop-k-init : goal.loop-k-init
 loop-k-init c =
     let L : List LoadedObject = c.args.bindings.now.objects in
-    let none : (q : Request) → is_asked c.new.result q ≡ false = λ q. search rules in
+    let none : (q : Request) → is_asked c.new.result q ≡ false = λ q. ap (λ (rs : List Request). is_asked rs q) c.new.ensures in
     subst (λ (os : List LoadedObject). Gaining L (relocations os) (relocations L) false none_asked (record { got = false; requests = c.new.result })) (sym c.objects-objects.ensures)
     (start L (relocations L) _ refl none)
 

@@ -26,6 +26,6 @@ returns c =
     let L = c.args.bindings.now.objects in
     let distinct = sym c.are_distinct.ensures ∙ c.if-not-are_distinct.false in
     let asked = rows_asked c.args.needs.now L c.requires c.lines.result.now rows c.lines.ensures (c.are_asked.ensures.0 c.if-not-are_asked.false) in (
-      λ e. have_slots rows L distinct asked (keys_there c.args.needs.now L c.requires rows (c.have_slots.ensures.0 e)),
-      λ have. c.have_slots.ensures.1 (keys_wanted c.args.needs.now L c.requires rows (slots_there rows L have)),
+      λ e. have_slots rows L distinct asked (keys_there c.args.needs.now L c.requires c.requests.result.now c.requests.ensures rows (c.have_slots.ensures.0 e)),
+      λ have. c.have_slots.ensures.1 (keys_wanted c.args.needs.now L c.requires c.requests.result.now c.requests.ensures rows (slots_there rows L have)),
     )

@@ -1,4 +1,4 @@
-use Rattle.std.proofs.Common.{◌≡◌, true}
+use Rattle.std.proofs.Common.{◌≡◌, true, drop}
 use Rattle.std.specs.Prelude.{All}
 use Rattle.std.specs.List.{list_any}
 use Rattle.elf_model.specs.Slots.{is_slot_of}
@@ -8,5 +8,5 @@ use Rattle.checker.proofs.c07_got.have_slots.Given as goal
 
 abbrev pub invariant-loop-request : goal.invariant-loop-request
 invariant-loop-request l =
-    Left (All (λ q. list_any (is_slot_of (request_view q)) l.slots ≡ true) l.requests.keys)
-    (All (λ q. list_any (is_slot_of (request_view q)) l.slots ≡ true) l.request-iterator)
+    Left (All (λ q. list_any (is_slot_of (request_view q)) l.slots ≡ true) l.requests)
+    (All (λ q. list_any (is_slot_of (request_view q)) l.slots ≡ true) (drop l.request-index l.requests))

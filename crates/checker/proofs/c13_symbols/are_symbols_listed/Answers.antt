@@ -1,4 +1,4 @@
-use Rattle.std.proofs.Common.{List, ap, arith, length, map, refl, subst, sym, ◌∙◌}
+use Rattle.std.proofs.Common.{Bool, List, ap, arith, length, map, refl, subst, sym, ◌∙◌}
 use Rattle.std.proofs.lemmas.Bool.{false≢true}
 use Rattle.std.proofs.lemmas.List.{length-map}
 use Rattle.std.proofs.lemmas.List.Elements.{All-map}
@@ -8,15 +8,16 @@ use Rattle.elf_model.specs.ChosenSymbols.{is_chosen}
 use Rattle.elf_model.specs.MapRecord.{symbol_row}
 use Rattle.elf_model.specs.Meaning.{meanings_of}
 use Rattle.elf_model.specs.Resolution.{SymbolOf}
-use Rattle.check_link.specs.Views.{meaning_view, meaning_views}
+use Rattle.check_link.specs.Views.{meaning_view, meaning_views, symbol_views}
 use Rattle.checker.proofs.SymbolLines.{listed, unique_told}
-use Rattle.checker.specs.Listed.{AreOwnChoices, IsLine}
+use Rattle.check_link.specs.Chosen.{AreOwnChoices}
+use Rattle.checker.specs.Listed.{IsLine}
 use Rattle.checker.proofs.c13_symbols.are_symbols_listed.Goals as goal
 
 pub returns-in_default : goal.returns-in_default
 returns-in_default c =
     let L = c.args.bindings.now.objects in
-    let told = rw c.in_default.is at c.in_ok-count.ensures.unique in (
+    let told = rw c.in_default.is at c.chosen_count.ensures.unique in (
       λ t. absurd (false≢true t),
       λ h. absurd (false≢true (told.1 ((unique_told L c.definitions-definitions.result.now c.definitions-definitions.ensures).1 h.1))),
     )
@@ -25,7 +26,7 @@ pub returns-then-not-is_sum : goal.returns-then-not-is_sum
 returns-then-not-is_sum c =
     let L = c.args.bindings.now.objects in
     let rows = map symbol_row c.args.lines.now in
-    let count = rw c.in-Some.is at c.in_ok-count.ensures.count in
+    let count = rw c.in-Some.is at c.chosen_count.ensures.count in
     let own = count ∙ ap (λ (ss : List SymbolOf). length (meanings_of L (filter (is_chosen L) ss))) c.definitions-definitions.ensures in
     let lines = listed L c.args.bindings.now.places rows (meaning_views c.in_ok-linkers.linkers.items) c.in-Some.count c.in_ok-linkers.ensures c.requires own in
     let a = length-map c.args.lines.now symbol_row in
@@ -39,8 +40,8 @@ returns c =
     let L = c.args.bindings.now.objects in
     let w = c.args.bindings.now.places in
     let rows = map symbol_row c.args.lines.now in
-    let count = rw c.in-Some.is at c.in_ok-count.ensures.count in
-    let told = rw c.in-Some.is at c.in_ok-count.ensures.unique in
+    let count = rw c.in-Some.is at c.chosen_count.ensures.count in
+    let told = rw c.in-Some.is at c.chosen_count.ensures.unique in
     let unique = (unique_told L c.definitions-definitions.result.now c.definitions-definitions.ensures).0 (told.0 refl) in
     let own = count ∙ ap (λ (ss : List SymbolOf). length (meanings_of L (filter (is_chosen L) ss))) c.definitions-definitions.ensures in
     let lines = listed L w rows (meaning_views c.in_ok-linkers.linkers.items) c.in-Some.count c.in_ok-linkers.ensures c.requires own in
@@ -51,8 +52,8 @@ returns c =
       λ h. c.are_right_lines.ensures.1 (All-unmap (IsLine L w) symbol_row c.args.lines.now (lines.1 h.2).0),
     )
 
-pub new-requires : goal.new-requires
-new-requires c =
+pub chosen_count-requires : goal.chosen_count-requires
+chosen_count-requires c =
     let L = c.args.bindings.now.objects in
-    let own = rw c.in-Some.is at c.in_ok-count.ensures.own in
-    subst (λ (ss : List SymbolOf). AreOwnChoices L ss c.chosen_count.new.own.items) c.definitions-definitions.ensures own
+    subst (λ (marks : List Bool). AreOwnChoices L (symbol_views c.definitions-definitions.result.now) marks) (sym c.deref.ensures.value)
+    (subst (λ (ss : List SymbolOf). AreOwnChoices L ss c.in_ok-own.own.items) (sym c.definitions-definitions.ensures) c.in_ok-own.ensures)

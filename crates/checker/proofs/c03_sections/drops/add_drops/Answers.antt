@@ -1,3 +1,4 @@
+use Rattle.std.proofs.Common.{subst, ap, sym, ◌∙◌, ◌<◌}
 use Rattle.elf_model.specs.ObjectFile.{null_section}
 use Rattle.check_load.specs.Views.{loaded_view}
 use Rattle.checker.proofs.DropSteps.{section_more}
@@ -6,4 +7,4 @@ use Rattle.checker.proofs.c03_sections.drops.add_drops.Goals as goal
 pub loop-i-preserved : goal.loop-i-preserved
 loop-i-preserved c =
     section_more c.loop-i.out.items c.add_drop.new.out.items c.args.number (loaded_view c.args.loaded.now) c.sections-headers.result.now c.loop-i.i
-    null_section _ c.loop-i-test.true c.in_ok-add_drop.ensures c.loop-i.invariant
+    null_section _ (subst (λ n. c.loop-i.i < n) c.len-i-end.ensures c.loop-i-test.true) (rw c.at-header.ensures at c.in_ok-add_drop.ensures) c.loop-i.invariant

@@ -1,0 +1,18 @@
+use Rattle.std.proofs.Common.{◌≡◌, ap, ◌||◌, List}
+use Rattle.std.specs.List.{list_any}
+use Rattle.elf_model.specs.Relocation.{relocations_behind, symbol_at}
+use Rattle.elf_model.specs.UsedNames.{is_among, is_linker_use, uses_line}
+use Rattle.elf_model.specs.declared.records.SectionHeader.{SectionHeader}
+use Rattle.check_load.specs.Views.{loaded_view}
+use Rattle.check_relocs.proofs.KnownSteps.{known_nothing}
+use Rattle.check_relocs.proofs.linker_uses.add_object.Goals as goal
+
+pub loop-i-init : goal.loop-i-init
+loop-i-init c =
+    let L = c.args.bindings.now.objects in
+    let k = c.args.number in
+    let o = loaded_view c.args.loaded.now in
+    record {
+      known = known_nothing (λ j u. u ≡ is_linker_use L (symbol_at k o j)) c.in_ok-uses.uses.items c.in_ok-uses.ensures;
+      gains = λ n. ap (λ (ss : List SectionHeader). is_among c.args.names.now n || list_any (uses_line L n) (relocations_behind k o 0 ss)) c.sections-headers.ensures;
+    }
