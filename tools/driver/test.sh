@@ -305,7 +305,9 @@ compare "It runs the proved linker, $(readlink -f dest/p/bin/cakthuy-ld)." \
 printf '#!/bin/sh\necho "for tools: $*"\n' >dest/p/bin/cakthuy-ld-debug
 chmod +x dest/p/bin/cakthuy-ld-debug
 compare 'for tools: a.o, 0' "$(told -u LD_PROGRAM dest/p/libexec/cakthuy/ld a.o)"
+compare 'for tools: -S a.o, 0' "$(told -u LD_PROGRAM dest/p/libexec/cakthuy/ld --strip-debug a.o)"
 compare '[a.o], 0' "$(told -u LD_PROGRAM LD_PLAIN=1 dest/p/libexec/cakthuy/ld a.o)"
+compare '[a.o], 0' "$(told -u LD_PROGRAM LD_PLAIN=1 dest/p/libexec/cakthuy/ld -S a.o)"
 compare '[-s][a.o], 0' "$(told -u LD_PROGRAM dest/p/libexec/cakthuy/ld --strip-all a.o)"
 rm dest/p/bin/cakthuy-ld dest/p/bin/cakthuy-ld-debug
 compare "ld: there is no linker at dest/p/libexec/cakthuy/../../bin/cakthuy-ld: tools/install.sh of its tree puts it there, 2" \

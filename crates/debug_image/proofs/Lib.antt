@@ -5,3 +5,7 @@ pub mod OwnHeaders
 pub mod LinkImages
 pub mod LinkTables
 pub mod PlainSteps
+pub mod RangeSteps
+pub mod FieldSteps
+pub mod JoinedSteps
+pub mod DataSteps

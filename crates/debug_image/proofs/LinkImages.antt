@@ -19,8 +19,8 @@ use Rattle.own_link.proofs.ImageOwn.{IsRoomFor, own_suits}
 use Rattle.resolve.specs.Views.{meaning_views}
 use Rattle.debug_image.specs.PlainImages.{plain_of, with_sections}
 use Rattle.elf_model.proofs.Running.{rounded_up}
-use Rattle.debug_image.specs.DebugImage.{debug_file}
-use Rattle.debug_image.specs.Tables.{IsSmall, Tables, fields_of, headers_at, shstrtab_end, tail}
+use Rattle.debug_image.specs.DebugImage.{front_of}
+use Rattle.debug_image.specs.Tables.{IsSmall, Tables, fields_of, headers_at, shstrtab_end}
 use Rattle.debug_image.proofs.OwnHeaders as own
 use Rattle.debug_image.proofs.OwnHeaders.{FitFields}
 
@@ -77,12 +77,12 @@ module _ (l : Linked) (x : Parts) (made : AreParts (loaded_of l) x) (listed : me
 
   -- the part up to the end of the last file part, with the fields of other sections
   pub plain_part_is :
-      (t : Tables) (image : List ℕ) (header : FileHeader) (at last end : ℕ) → image ≡ own_image l → end ≡ own_end base objects →
-      at ≡ headers_at (own_end base objects) t → last ≡ length t.sections + 3 →
+      (t : Tables) (x : ℕ) (image : List ℕ) (header : FileHeader) (at last end : ℕ) → image ≡ own_image l → end ≡ own_end base objects →
+      at ≡ headers_at x t → last ≡ length t.sections + 3 →
       header ≡ with_sections at last (file_header image) →
-      file_header_bytes header ++ drop 64 (take end image) ≡ file_parts base objects (fields_of entry (own_end base objects) t)
-  plain_part_is t image header at last end is_image is_end is_at is_last is_header =
-      let new : HeaderFields = fields_of entry (own_end base objects) t in
+      file_header_bytes header ++ drop 64 (take end image) ≡ file_parts base objects (fields_of entry x t)
+  plain_part_is t x image header at last end is_image is_end is_at is_last is_header =
+      let new : HeaderFields = fields_of entry x t in
       let read : file_header image ≡ own_file_header old (header_count objects) =
       ap file_header is_image ∙ own.header_read base objects made.kinds made.base made.not_too_large made.objects old (own_tables base objects table) old_fits in
       let count : last + 1 ≡ length t.sections + 4 = omega (arith, is_last) in
@@ -95,11 +95,10 @@ module _ (l : Linked) (x : Parts) (made : AreParts (loaded_of l) x) (listed : me
       ∙ (ap (λ (xs : List ℕ). file_header_bytes (own_file_header new (header_count objects)) ++ drop 64 (take (own_end base objects) xs)) is_image
       ∙ own.changed base objects made.kinds made.base made.not_too_large made.objects old new (own_tables base objects table)))
 
-  new_fits : (t : Tables) → IsSmall t → FitFields (fields_of entry (own_end base objects) t)
-  new_fits t small =
-      let e = made.not_too_large.file in
-      let front = (rounded_up 8 (own_end base objects) (omega arith)).1 in
-      let back = (rounded_up 8 (shstrtab_end (own_end base objects) t) (omega arith)).1 in
+  new_fits : (t : Tables) (x : ℕ) → IsSmall t → x ≤ 2 ^ 58 → FitFields (fields_of entry x t)
+  new_fits t x small e =
+      let front = (rounded_up 8 x (omega arith)).1 in
+      let back = (rounded_up 8 (shstrtab_end x t) (omega arith)).1 in
       let symbols = small.symbols in
       let names = small.names in
       let titles = small.titles in
@@ -112,13 +111,12 @@ module _ (l : Linked) (x : Parts) (made : AreParts (loaded_of l) x) (listed : me
       }
 
   -- what stands in front of the tables is the own image of a link without tables
-  pub plain_is_image : (t : Tables) → IsSmall t → l.plan.strip ≡ true → plain_of (debug_file l t) ≡ own_image l
-  plain_is_image t small strip =
-      let f : HeaderFields = fields_of entry (own_end base objects) t in
-      let rest : List ℕ = tail (own_end base objects) t in
+  pub plain_is_image : (t : Tables) (x : ℕ) (rest : List ℕ) → IsSmall t → x ≤ 2 ^ 58 → l.plan.strip ≡ true → plain_of (front_of l t x ++ rest) ≡ own_image l
+  plain_is_image t x rest small low strip =
+      let f : HeaderFields = fields_of entry x t in
       let bytes : List ℕ =
       map (λ i. own_byte base objects (base + i)) (range_with_len (own_headers_size objects) (own_end base objects - own_headers_size objects)) in
       ap plain_of (append_assoc (header_bytes base objects f) bytes rest)
-      ∙ (own.plain_is_own base objects made.kinds made.base made.not_too_large made.objects f rest (new_fits t small)
+      ∙ (own.plain_is_own base objects made.kinds made.base made.not_too_large made.objects f rest (new_fits t x small low)
       ∙ (ap (λ (xs : List ℕ). header_bytes base objects (fields_without entry) ++ xs) (sym (append-nil bytes))
       ∙ ap (λ (b : Bool). image_file base objects entry (table_of b objects l.listed)) (sym strip)))

@@ -12,7 +12,7 @@ use Rattle.search.specs.declared.loaded.LoadedObject as code
 use Rattle.debug_image.specs.Tables.{Row}
 
 -- the objects from number k on
-objects_at :
+pub objects_at :
     (objects : List code.LoadedObject) (k : ℕ) (d : code.LoadedObject) → k < length objects → d ≡ get_or objects k d →
     drop k (loaded_views objects) ≡ loaded_view d ∷ drop (k + 1) (loaded_views objects)
 objects_at objects k d within is =

@@ -1,7 +1,13 @@
 pub mod DebugImage
+pub mod DebugLayouts
+pub mod DebugSections
+pub mod DebugValues
+pub mod DebugViews
 pub mod Layouts
+pub mod Lists
 pub mod Offsets
 pub mod PlainImages
+pub mod Reports
 pub mod Sections
 pub mod SectionViews
 pub mod Symbols

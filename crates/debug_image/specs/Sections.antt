@@ -26,7 +26,7 @@ are_alike g h =
 
 abbrev pub same_section : ℕ → Piece → Piece → Bool
 same_section count p q =
-    bytes_eq (output_name p.name) (output_name q.name) && are_alike p.header q.header && same_bool (nat_le count p.object) (nat_le count q.object)
+    are_alike p.header q.header && same_bool (nat_le count p.object) (nat_le count q.object) && bytes_eq (output_name p.name) (output_name q.name)
 
 abbrev pub begun : Placed → Section
 begun q = record { first = q; end = placed_end q; align = q.piece.align }

@@ -1,42 +1,58 @@
 //! The file of a debuggable image.
-ghost use Rattle.std.specs.Prelude.{◌≡◌, ◌≤◌, ◌<◌, ◌^◌, ◌++◌, true, IfErr, IfOk, OnOk, drop, length};
+ghost use Rattle.std.specs.Prelude.{◌≡◌, ◌≤◌, ◌<◌, ◌^◌, ◌%◌, ◌++◌, ℕ, All, List, true, IfErr, IfOk, OnOk, cond, drop, length};
 ghost use Rattle.elf_model.specs.ImageFile.{own_end, own_entry};
 ghost use Rattle.elf_model.specs.Records.{file_header, file_header_bytes};
 ghost use Rattle.image_write.specs.Linkages.{own_image};
-ghost use Rattle.image_write.specs.Parts.{file_parts};
+ghost use Rattle.elf_model.specs.Placement as placements;
+ghost use Rattle.relocate.specs.Values.{where_in};
 ghost use Rattle.resolve.specs.Views.{meaning_views};
+ghost use Rattle.search.specs.Views.{loaded_views};
 ghost use Rattle.debug_image.specs.DebugImage as spec;
 ghost use Rattle.debug_image.specs.PlainImages.{plain_of, with_sections};
-ghost use Rattle.debug_image.specs.Tables.{IsSmall, fields_of};
+ghost use Rattle.debug_image.specs.DebugLayouts.{IsDataLayout, data_in};
+ghost use Rattle.debug_image.specs.DebugSections as sections;
+ghost use Rattle.debug_image.specs.DebugValues.{all_bytes};
+ghost use Rattle.debug_image.specs.DebugViews.{chunk_views, joined_views, row_views};
+ghost use Rattle.debug_image.specs.Tables.{IsSmall, tail};
 ghost use Rattle.debug_image.specs.Views.{tables_view};
-ghost use Rattle.debug_image.specs.declared.debug_file.DebugFault.TheVariants as fault;
+ghost use Rattle.debug_image.specs.declared.faults.DebugFault.TheVariants as fault;
 
-use crate::link_tables::tables_of;
+use crate::chunks::{Chunk, chunks, data_end};
+use crate::debug_bytes::chunk_bytes;
+use crate::debug_values::DataLayout;
+use crate::faults::DebugFault;
+use crate::joined::{DebugData, debug_data};
+use crate::link_tables::{tables_of, thread_start};
 use crate::tables::Tables;
 use byteview::View;
 use elf_model::FileHeader;
 use image_write::{Linkage, file_end, image};
-use resolve::Definition;
+use layout::{Place, Placement};
+use relocate::pointer_of;
+use resolve::{Definition, Resolved};
+use search::LoadedObject;
 use std::alloc::{AllocError, Global};
-use thiserror::Error;
 
-/// Why a debuggable image was not made.
-#[derive(Clone, Copy, Debug, Drop, Error)]
-pub enum DebugFault {
-    /// Memory was refused.
-    #[error("Memory (1)")]
-    Memory,
-    /// There are 65,280 sections or more, or 2^32 bytes or more of symbols or of names.
-    #[error("TooLarge (2)")]
-    TooLarge,
+/// The names of debug data that there may be, and no more.
+const MOST_JOINED: usize = 0xff00;
+
+/// What a debuggable image is to have besides its sections and what names mean.
+#[derive(Clone, Copy, Debug)]
+pub struct Wanted {
+    /// The LOCAL symbols of all objects.
+    pub locals: bool,
+    /// The debug data of all objects.
+    pub debug: bool,
 }
 
-impl From<AllocError> for DebugFault {
-    ghost from_gives = { λ _ f. f ≡ fault.Memory };
-
-    fn from(_error: AllocError) -> DebugFault {
-        DebugFault::Memory
-    }
+/// A debuggable image, but for the bytes of its debug data: what stands in front of them, the sections that hold them as they
+/// stand there, and what stands behind them.
+#[derive(Drop)]
+pub struct DebugParts<'a> {
+    pub data: DebugData<'a>,
+    pub front: Vec<u8>,
+    pub chunks: Vec<Chunk<'a>>,
+    pub tail: Vec<u8>,
 }
 
 /// Where the last file part of a link's image ends, in bytes of the file.
@@ -74,19 +90,32 @@ fn put_header(file: &mut Vec<u8>, header: &FileHeader)
     header.write_to(head);
 }
 
+/// The address of the GOT; 0 without one.
+fn got_start(placement: &Placement<'_>) -> u64
+    ensures { result ≡ placements.got_start (where_in placement.now).got % 2 ^ 64 }
+{
+    match placement.got() {
+        Some(at) => at,
+        None => 0,
+    }
+}
+
 /// The image of a link up to the end of its last file part, with the fields of the file header that tell where the section
-/// headers of tables are.
+/// headers of tables are, which stand behind an offset.
 fn plain_part(
     alloc: Global,
     linkage: &Linkage<'_>,
     tables: &Tables<'_>,
+    behind: u64,
 ) -> Result<Vec<u8>, AllocError>
-    requires { IsSmall (tables_view tables.now) }
-    ensures { IfOk result (λ v. v.items ≡ file_parts linkage.now.plan.base linkage.now.objects (fields_of (own_entry linkage.now.plan.base linkage.now.objects linkage.now.plan.entry) (own_end linkage.now.plan.base linkage.now.objects) (tables_view tables.now))) }
+    requires small { IsSmall (tables_view tables.now) }
+    requires low { behind ≤ 2 ^ 58 }
+    ensures { IfOk result (λ v. v.items
+        ≡ spec.front_of linkage.now (tables_view tables.now) behind) }
 {
-    let end = end_of(linkage);
-    let headers = tables.offsets(end).headers;
+    let headers = tables.offsets(behind).headers;
     let last = tables.last();
+    let end = end_of(linkage);
     let _parts = linkage.parts();
     let mut file = image(alloc, linkage)?;
     let header = header_of(&file, headers, last);
@@ -95,39 +124,189 @@ fn plain_part(
     Ok(file)
 }
 
-/// The file of a link with tables, which are small.
-fn file_of(alloc: Global, linkage: &Linkage<'_>, tables: &Tables<'_>) -> Result<Vec<u8>, AllocError>
-    requires { IsSmall (tables_view tables.now) }
-    ensures { IfOk result (λ v. v.items ≡ spec.debug_file linkage.now (tables_view tables.now)) }
+/// The tables of a link and their headers, which stand behind an offset.
+fn tail_of(alloc: Global, tables: &Tables<'_>, behind: u64) -> Result<Vec<u8>, AllocError>
+    requires small { IsSmall (tables_view tables.now) }
+    requires low { behind ≤ 2 ^ 58 }
+    ensures { IfOk result (λ v. v.items ≡ tail behind (tables_view tables.now)) }
 {
-    let mut file = plain_part(alloc, linkage, tables)?;
-    tables.add_to(alloc, &mut file, end_of(linkage))?;
-    Ok(file)
+    let mut bytes = Vec::new(alloc);
+    tables.add_to(alloc, &mut bytes, behind)?;
+    Ok(bytes)
 }
 
-/// The debuggable image of a link, in memory: its image up to the end of the last file part, and behind it `.symtab`, `.strtab`,
-/// `.shstrtab` and the section headers. Its symbols are what names mean, and the LOCAL symbols of all objects in front of them,
-/// where they are wanted.
+/// The debug data of objects, where they are wanted.
+fn wanted_data<'a>(
+    alloc: Global,
+    objects: &[LoadedObject<'a>],
+    wanted: Wanted,
+) -> Result<DebugData<'a>, DebugFault>
+    ensures rows { IfOk result (λ d. row_views d.rows.items
+        ≡ spec.rows_in wanted (loaded_views objects.now)) }
+    ensures joined { IfOk result (λ d. joined_views d.joined.items
+        ≡ spec.joined_in wanted (loaded_views objects.now)) }
+    ensures low { IfOk result (λ d. All sections.IsLow (joined_views d.joined.items)) }
+    ensures ends { IfOk result (λ d. sections.AreLow (row_views d.rows.items)) }
+    ensures large { IfErr result (λ f. f ≡ fault.TooLarge
+        → ¬ sections.AreLow (spec.rows_in wanted (loaded_views objects.now))) }
+{
+    if wanted.debug {
+        return debug_data(alloc, objects);
+    }
+    Ok(DebugData {
+        rows: Vec::new(alloc),
+        joined: Vec::new(alloc),
+    })
+}
+
+/// The parts of a link with tables, which are small, and with debug data.
+fn parts_of<'a>(
+    alloc: Global,
+    linkage: &Linkage<'a>,
+    tables: &Tables<'a>,
+    data: DebugData<'a>,
+) -> Result<DebugParts<'a>, AllocError>
+    requires small { IsSmall (tables_view tables.now) }
+    requires joined { All sections.IsLow (joined_views data.joined.items) }
+    requires rows { sections.AreLow (row_views data.rows.items) }
+    requires few { length data.joined.items < 0xff00 }
+    ensures front { IfOk result (λ p. p.front.items
+        ≡ spec.front_of linkage.now (tables_view tables.now)
+        (sections.data_end (spec.end_in linkage.now) (joined_views data.entry.joined.items))) }
+    ensures chunks { IfOk result (λ p. chunk_views p.chunks.items
+        ≡ sections.chunks_of (row_views data.entry.rows.items) (spec.end_in linkage.now)
+        (joined_views data.entry.joined.items)) }
+    ensures tail { IfOk result (λ p. p.tail.items
+        ≡ tail (sections.data_end (spec.end_in linkage.now)
+        (joined_views data.entry.joined.items)) (tables_view tables.now)) }
+    ensures rows { IfOk result (λ p. row_views p.data.rows.items
+        ≡ row_views data.entry.rows.items) }
+    ensures low { OnOk result (sections.data_end (spec.end_in linkage.now)
+        (joined_views data.entry.joined.items) ≤ 2 ^ 58) }
+{
+    let end = end_of(linkage);
+    let behind = data_end(end, &data.joined);
+    let front = plain_part(alloc, linkage, tables, behind)?;
+    let tail = tail_of(alloc, tables, behind)?;
+    let chunks = chunks(alloc, &data.rows, end, &data.joined)?;
+    Ok(DebugParts {
+        data,
+        front,
+        chunks,
+        tail,
+    })
+}
+
+/// The parts of the debuggable image of a link: its image up to the end of the last file part, and behind that the debug data,
+/// where they are wanted, `.symtab`, `.strtab`, `.shstrtab` and the section headers. Its symbols are what names mean, and the
+/// LOCAL symbols of all objects in front of them, where they are wanted. `chunk_bytes` answers the bytes of debug data.
 ///
 /// # Errors
 ///
-/// `TooLarge` where there are 65,280 section headers or more, or 2^32 bytes of a table or more; `Memory`.
-pub fn debug_image<'a>(
+/// `TooLarge` where there are 65,280 section headers or more, 2^32 bytes of a table or more, or more than 2^40 bytes of debug
+/// data of a name; `Memory`.
+pub fn debug_parts<'a>(
     alloc: Global,
     linkage: &Linkage<'a>,
     names: &[Definition<'a>],
-    with_locals: bool,
-) -> Result<Vec<u8>, DebugFault>
-    ensures small { OnOk result (IsSmall (spec.tables_in with_locals linkage.now (meaning_views names.now))) }
-    ensures file { IfOk result (λ v. v.items ≡ spec.debug_file linkage.now (spec.tables_in with_locals linkage.now (meaning_views names.now))) }
-    ensures plain { IfOk result (λ v. linkage.now.plan.strip ≡ true → plain_of v.items ≡ own_image linkage.now) }
-    ensures large { IfErr result (λ f. f ≡ fault.TooLarge → ¬ IsSmall (spec.tables_in with_locals linkage.now (meaning_views names.now))) }
+    wanted: Wanted,
+) -> Result<DebugParts<'a>, DebugFault>
+    ensures said { OnOk result (spec.CanBeSaid wanted linkage.now (meaning_views names.now)) }
+    ensures front { IfOk result (λ p. p.front.items
+        ≡ spec.front_of linkage.now
+        (spec.tables_in wanted linkage.now (meaning_views names.now))
+        (spec.data_end_in wanted linkage.now)) }
+    ensures chunks { IfOk result (λ p. chunk_views p.chunks.items
+        ≡ spec.chunks_in wanted linkage.now) }
+    ensures tail { IfOk result (λ p. p.tail.items
+        ≡ tail (spec.data_end_in wanted linkage.now)
+        (spec.tables_in wanted linkage.now (meaning_views names.now))) }
+    ensures rows { IfOk result (λ p. row_views p.data.rows.items
+        ≡ spec.rows_in wanted linkage.now.objects) }
+    ensures plain { IfOk result (λ p. linkage.now.plan.strip ≡ true
+        → (rest : List ℕ) → plain_of (p.front.items ++ rest) ≡ own_image linkage.now) }
+    ensures large { IfErr result (λ f. f ≡ fault.TooLarge
+        → ¬ spec.CanBeSaid wanted linkage.now (meaning_views names.now)) }
 {
-    let tables = tables_of(alloc, linkage, names, with_locals)?;
+    let data = wanted_data(alloc, linkage.loaded().objects(), wanted)?;
+    if data.joined.len() >= MOST_JOINED {
+        return Err(DebugFault::TooLarge);
+    }
+    let tables = tables_of(alloc, linkage, &data.joined, names, wanted.locals)?;
     if !tables.are_small() {
         return Err(DebugFault::TooLarge);
     }
     let _parts = linkage.parts();
-    let file = file_of(alloc, linkage, &tables)?;
+    let parts = parts_of(alloc, linkage, &tables, data)?;
+    Ok(parts)
+}
+
+/// Where a link with debug data is laid out, whose rows these are.
+pub fn data_layout<'c, 'a>(
+    linkage: &'c Linkage<'a>,
+    resolved: &'c Resolved<'a>,
+    rows: &'c [Vec<Place<'a>>],
+) -> DataLayout<'c, 'a>
+    requires { resolved.now ≡ linkage.now.objects }
+    ensures layout { IsDataLayout result }
+    ensures data { data_in result ≡ record { base = linkage.now.plan.base; objects = linkage.now.objects; rows = row_views rows.now } }
+{
+    let parts = linkage.parts();
+    let placement = &parts.placement;
+    DataLayout {
+        objects: linkage.loaded().objects(),
+        resolved,
+        placement,
+        slots: &parts.slots,
+        rows,
+        pointer: pointer_of(placement),
+        thread_start: thread_start(placement),
+        got: got_start(placement),
+    }
+}
+
+/// Adds the bytes of debug data.
+fn add_chunks<'a>(
+    alloc: Global,
+    file: &mut Vec<u8>,
+    layout: &DataLayout<'_, 'a>,
+    chunks: &[Chunk<'a>],
+) -> Result<(), AllocError>
+    requires { IsDataLayout layout.now }
+    ensures { OnOk result (file.new.items
+        ≡ file.old.items ++ all_bytes (data_in layout.now) (chunk_views chunks.now)) }
+{
+    for chunk in chunks {
+        file.extend_from_slice(&chunk_bytes(alloc, layout, chunk)?)?;
+    }
+    Ok(())
+}
+
+/// The debuggable image of a link, in memory: its parts, one behind the other.
+///
+/// # Errors
+///
+/// As `debug_parts`.
+pub fn debug_image<'a>(
+    alloc: Global,
+    linkage: &Linkage<'a>,
+    resolved: &Resolved<'a>,
+    names: &[Definition<'a>],
+    wanted: Wanted,
+) -> Result<Vec<u8>, DebugFault>
+    requires { resolved.now ≡ linkage.now.objects }
+    ensures said { OnOk result (spec.CanBeSaid wanted linkage.now (meaning_views names.now)) }
+    ensures file { IfOk result (λ v. v.items
+        ≡ spec.debug_file wanted linkage.now (meaning_views names.now)) }
+    ensures plain { IfOk result (λ v. linkage.now.plan.strip ≡ true
+        → plain_of v.items ≡ own_image linkage.now) }
+    ensures large { IfErr result (λ f. f ≡ fault.TooLarge
+        → ¬ spec.CanBeSaid wanted linkage.now (meaning_views names.now)) }
+{
+    let parts = debug_parts(alloc, linkage, names, wanted)?;
+    let layout = data_layout(linkage, resolved, &parts.data.rows);
+    let mut file = Vec::from_slice(alloc, &parts.front)?;
+    add_chunks(alloc, &mut file, &layout, &parts.chunks)?;
+    file.extend_from_slice(&parts.tail)?;
     Ok(file)
 }

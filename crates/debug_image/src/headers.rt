@@ -18,7 +18,8 @@ pub struct HeaderRow<'a> {
 }
 
 fn add_header(headers: &mut Vec<u8>, header: &SectionHeader) -> Result<(), AllocError>
-    ensures { OnOk result (headers.new.items ≡ headers.old.items ++ section_header_bytes header.now) }
+    ensures { OnOk result (headers.new.items
+        ≡ headers.old.items ++ section_header_bytes header.now) }
 {
     let mut bytes = [0; SHDR_SIZE];
     header.write_to(&mut bytes);
@@ -31,7 +32,9 @@ fn add_row(
     titles: &mut Vec<u8>,
     row: &HeaderRow<'_>,
 ) -> Result<(), AllocError>
-    ensures headers { OnOk result (headers.new.items ≡ headers.old.items ++ section_header_bytes (header_at (length titles.old.items) (header_view row.now))) }
+    ensures headers { OnOk result (headers.new.items
+        ≡ headers.old.items
+        ++ section_header_bytes (header_at (length titles.old.items) (header_view row.now))) }
     ensures titles { OnOk result (titles.new.items ≡ titles.old.items ++ ended row.now.title.now) }
 {
     let header = SectionHeader {

@@ -36,9 +36,9 @@ fn are_alike(one: &SectionHeader, other: &SectionHeader) -> bool
 pub fn is_same_section(count: u64, one: &Piece<'_>, other: &Piece<'_>) -> bool
     ensures { result ≡ spec.same_section count (piece_view one.now) (piece_view other.now) }
 {
-    output_name(one.name) == output_name(other.name)
-        && are_alike(&one.header, &other.header)
+    are_alike(&one.header, &other.header)
         && (count <= one.object) == (count <= other.object)
+        && output_name(one.name) == output_name(other.name)
 }
 
 fn end_of(place: &Place<'_>) -> u64
@@ -80,7 +80,10 @@ fn next<'a>(
     place: &Place<'a>,
 ) -> Result<Section<'a>, AllocError>
     requires { placed_end (place_view place.now) ≤ 2 ^ 46 }
-    ensures { IfOk result (λ s. (qs : List Placed) → section_views found.new.items ++ spec.sections_from count (section_view s) qs ≡ section_views found.old.items ++ spec.sections_from count (section_view current.now) (place_view place.now ∷ qs)) }
+    ensures { IfOk result (λ s. (qs : List Placed) →
+        section_views found.new.items ++ spec.sections_from count (section_view s) qs
+        ≡ section_views found.old.items
+        ++ spec.sections_from count (section_view current.now) (place_view place.now ∷ qs)) }
 {
     if is_same_section(count, &current.first.piece, &place.piece) {
         return Ok(grown(current, place));
@@ -97,7 +100,9 @@ fn add_sections<'a>(
     places: &[Place<'a>],
 ) -> Result<(), AllocError>
     requires { All (λ q. placed_end q ≤ 2 ^ 46) (place_views places.now) }
-    ensures { OnOk result (section_views found.new.items ≡ section_views found.old.items ++ spec.sections_from count (section_view first.entry) (place_views places.now)) }
+    ensures { OnOk result (section_views found.new.items
+        ≡ section_views found.old.items
+        ++ spec.sections_from count (section_view first.entry) (place_views places.now)) }
 {
     let mut current = first;
     for place in places {
@@ -114,7 +119,8 @@ pub fn sections<'a>(
     places: &[Place<'a>],
 ) -> Result<Vec<Section<'a>>, AllocError>
     requires { All (λ q. placed_end q ≤ 2 ^ 46) (place_views places.now) }
-    ensures { IfOk result (λ v. section_views v.items ≡ spec.sections_of count (place_views places.now)) }
+    ensures { IfOk result (λ v. section_views v.items
+        ≡ spec.sections_of count (place_views places.now)) }
 {
     let mut found = Vec::new(alloc);
     if places.is_empty() {
@@ -127,7 +133,8 @@ pub fn sections<'a>(
 
 /// The number of the first section that a piece is of.
 pub fn section_number(count: u64, sections: &[Section<'_>], piece: &Piece<'_>) -> Option<usize>
-    ensures { result ≡ spec.section_number count (section_views sections.now) (piece_view piece.now) }
+    ensures { result ≡ spec.section_number count (section_views sections.now)
+        (piece_view piece.now) }
 {
     for (k, section) in sections.iter().enumerate() {
         if is_same_section(count, &section.first.piece, piece) {
@@ -214,7 +221,8 @@ pub fn section_rows<'a>(
     count: u64,
     sections: &[Section<'a>],
 ) -> Result<Vec<HeaderRow<'a>>, AllocError>
-    ensures { IfOk result (λ v. header_views v.items ≡ spec.section_rows base end count (section_views sections.now)) }
+    ensures { IfOk result (λ v. header_views v.items
+        ≡ spec.section_rows base end count (section_views sections.now)) }
 {
     let mut rows = Vec::with_capacity(alloc, sections.len())?;
     for section in sections {

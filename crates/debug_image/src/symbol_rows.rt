@@ -35,7 +35,8 @@ pub struct Layout<'c, 'a> {
 
 /// Section `i` of an object as a piece.
 fn piece_of<'a>(number: u64, loaded: &LoadedObject<'a>, i: usize) -> Piece<'a>
-    ensures { piece_view result ≡ pieces.piece_of number loaded.now.object i (section (sections loaded.now.object) i) }
+    ensures { piece_view result
+        ≡ pieces.piece_of number loaded.now.object i (section (sections loaded.now.object) i) }
 {
     Piece {
         object: number,
@@ -48,7 +49,8 @@ fn piece_of<'a>(number: u64, loaded: &LoadedObject<'a>, i: usize) -> Piece<'a>
 
 /// The address of the section of an object in which a symbol is defined, where it is kept.
 fn section_address(layout: &Layout<'_, '_>, symbol: &SymbolOf<'_>) -> Option<u64>
-    ensures { result ≡ spec.address_of (laid_in layout.now) symbol.now.object symbol.now.entry.st_shndx }
+    ensures { result ≡ spec.address_of
+        (laid_in layout.now) symbol.now.object symbol.now.entry.st_shndx }
 {
     layout.placement.numbered_address(SectionRef {
         object: ObjectId(symbol.object),
@@ -100,7 +102,8 @@ fn absolute_row<'a>(symbol: &SymbolOf<'a>) -> Row<'a>
 
 /// The section of an object in which a symbol is defined, as a piece.
 fn symbol_piece<'a>(objects: &[LoadedObject<'a>], symbol: &SymbolOf<'_>) -> Option<Piece<'a>>
-    ensures { option_map piece_view result ≡ spec.symbol_piece (loaded_views objects.now) (symbol_view symbol.now) }
+    ensures { option_map piece_view result
+        ≡ spec.symbol_piece (loaded_views objects.now) (symbol_view symbol.now) }
 {
     let loaded = objects.get(symbol.object as usize)?;
     Some(piece_of(symbol.object, loaded, symbol.entry.st_shndx as usize))
@@ -114,7 +117,8 @@ fn row_in<'a>(
     piece: &Piece<'_>,
 ) -> Option<Row<'a>>
     requires { IsLayout layout.now }
-    ensures { option_map row_view result ≡ spec.row_in (laid_in layout.now) (symbol_view symbol.now) at (piece_view piece.now) }
+    ensures { option_map row_view result
+        ≡ spec.row_in (laid_in layout.now) (symbol_view symbol.now) at (piece_view piece.now) }
 {
     let number = section_number(layout.objects.len() as u64, layout.sections, piece)?;
     let value = value_at(layout, piece, at, symbol.entry.st_value);
@@ -124,7 +128,8 @@ fn row_in<'a>(
 /// What a symbol of an object becomes whose section is at an address.
 fn row_at<'a>(layout: &Layout<'_, 'a>, symbol: &SymbolOf<'a>, at: u64) -> Option<Row<'a>>
     requires { IsLayout layout.now }
-    ensures { option_map row_view result ≡ spec.row_at (laid_in layout.now) (symbol_view symbol.now) at }
+    ensures { option_map row_view result
+        ≡ spec.row_at (laid_in layout.now) (symbol_view symbol.now) at }
 {
     let piece = symbol_piece(layout.objects, symbol)?;
     row_in(layout, symbol, at, &piece)
@@ -134,7 +139,8 @@ fn row_at<'a>(layout: &Layout<'_, 'a>, symbol: &SymbolOf<'a>, at: u64) -> Option
 /// which that belongs; any other one isn't there.
 fn symbol_row<'a>(layout: &Layout<'_, 'a>, symbol: &SymbolOf<'a>) -> Option<Row<'a>>
     requires { IsLayout layout.now }
-    ensures { option_map row_view result ≡ spec.symbol_row (laid_in layout.now) (symbol_view symbol.now) }
+    ensures { option_map row_view result
+        ≡ spec.symbol_row (laid_in layout.now) (symbol_view symbol.now) }
 {
     if symbol.entry.st_shndx == SHN_ABS {
         return Some(absolute_row(symbol));
@@ -155,8 +161,8 @@ fn is_named(name: &[u8]) -> bool
 fn is_wanted(symbol: &SymbolOf<'_>) -> bool
     ensures { result ≡ spec.is_wanted (symbol_view symbol.now) }
 {
-    let kind = symbol.entry.st_info % 16;
-    if symbol.entry.st_info / 16 != STB_LOCAL || kind == STT_SECTION {
+    let kind = symbol.entry.symbol_type();
+    if symbol.entry.binding() != STB_LOCAL || kind == STT_SECTION {
         return false;
     }
     kind == STT_FILE || is_named(symbol.name)
@@ -165,7 +171,8 @@ fn is_wanted(symbol: &SymbolOf<'_>) -> bool
 /// What a symbol of an object becomes that tools want as a LOCAL one.
 fn local_row<'a>(layout: &Layout<'_, 'a>, symbol: &SymbolOf<'a>) -> Option<Row<'a>>
     requires { IsLayout layout.now }
-    ensures { option_map row_view result ≡ spec.local_row (laid_in layout.now) (symbol_view symbol.now) }
+    ensures { option_map row_view result
+        ≡ spec.local_row (laid_in layout.now) (symbol_view symbol.now) }
 {
     if is_wanted(symbol) {
         symbol_row(layout, symbol)
@@ -182,16 +189,20 @@ fn add_locals<'a>(
     loaded: &LoadedObject<'a>,
 ) -> Result<(), AllocError>
     requires { IsLayout layout.now }
-    ensures { OnOk result (row_views rows.new.items ≡ row_views rows.old.items ++ filter_map (spec.local_row (laid_in layout.now)) (symbols_from number (loaded_view loaded.now) 0 (symbols loaded.now.object))) }
+    ensures { OnOk result (row_views rows.new.items
+        ≡ row_views rows.old.items
+        ++ filter_map (spec.local_row (laid_in layout.now))
+        (symbols_from number (loaded_view loaded.now) 0 (symbols loaded.now.object))) }
 {
     let entries = loaded.object.symbols();
-    for (j, entry) in entries.iter().enumerate() {
+    for j in 0..entries.len() {
+        let entry = entries.at(j);
         let symbol = SymbolOf {
             object: number,
             number: j as u64,
             name: loaded.object.symbol_name(j),
-            entry: *entry,
-            dropped: is_dropped(loaded, entry),
+            entry,
+            dropped: is_dropped(loaded, &entry),
         };
         if let Some(row) = local_row(layout, &symbol) {
             rows.push(row)?;
@@ -215,7 +226,8 @@ pub fn local_rows<'a>(alloc: Global, layout: &Layout<'_, 'a>) -> Result<Vec<Row<
 /// A common block as a symbol.
 fn block_row<'a>(layout: &Layout<'_, 'a>, block: &Block<'a>) -> Option<Row<'a>>
     requires { IsLayout layout.now }
-    ensures { option_map row_view result ≡ spec.block_row (laid_in layout.now) (block_view block.now) }
+    ensures { option_map row_view result
+        ≡ spec.block_row (laid_in layout.now) (block_view block.now) }
 {
     let at = layout.placement.numbered_address(block.section())?;
     let number = blocks_number(layout.objects.len() as u64, layout.sections)?;
@@ -250,7 +262,8 @@ fn linker_row<'a>(name: &'a [u8], value: u64) -> Row<'a>
 /// What a name means as a symbol.
 fn meaning_row<'a>(layout: &Layout<'_, 'a>, meaning: &Definition<'a>) -> Option<Row<'a>>
     requires { IsLayout layout.now }
-    ensures { option_map row_view result ≡ spec.meaning_row (laid_in layout.now) (meaning_view meaning.now) }
+    ensures { option_map row_view result
+        ≡ spec.meaning_row (laid_in layout.now) (meaning_view meaning.now) }
 {
     match meaning {
         Definition::Symbol(symbol) => symbol_row(layout, symbol),
@@ -268,7 +281,9 @@ pub fn add_meanings<'a>(
     listed: &[Definition<'a>],
 ) -> Result<(), AllocError>
     requires { IsLayout layout.now }
-    ensures { OnOk result (row_views rows.new.items ≡ row_views rows.old.items ++ spec.meaning_rows (laid_in layout.now) (meaning_views listed.now)) }
+    ensures { OnOk result (row_views rows.new.items
+        ≡ row_views rows.old.items
+        ++ spec.meaning_rows (laid_in layout.now) (meaning_views listed.now)) }
 {
     for meaning in listed {
         if let Some(row) = meaning_row(layout, meaning) {

@@ -46,7 +46,8 @@ pub fn add_name(names: &mut Vec<u8>, name: &[u8]) -> Result<(), AllocError>
 
 /// Adds a row's entry and its name.
 fn add_row(symbols: &mut Vec<u8>, names: &mut Vec<u8>, row: &Row<'_>) -> Result<(), AllocError>
-    ensures symbols { OnOk result (symbols.new.items ≡ symbols.old.items ++ bytes_of (entry_at (length names.old.items) (row_view row.now))) }
+    ensures symbols { OnOk result (symbols.new.items
+        ≡ symbols.old.items ++ bytes_of (entry_at (length names.old.items) (row_view row.now))) }
     ensures names { OnOk result (names.new.items ≡ names.old.items ++ ended row.now.name.now) }
 {
     let entry = Symbol {

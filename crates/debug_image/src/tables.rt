@@ -69,7 +69,7 @@ impl<'a> Tables<'a> {
     /// Where the tables stand behind an image whose last file part ends at an offset.
     pub fn offsets(&self, end: u64) -> Offsets
         requires small { spec.IsSmall (tables_view self.now) }
-        requires low { end ≤ 2 ^ 46 }
+        requires low { end ≤ 2 ^ 58 }
         ensures { AreOffsets end (tables_view self.now) result }
     {
         let symtab = eight_up(end);
@@ -88,8 +88,9 @@ impl<'a> Tables<'a> {
     /// All section headers but that of number 0.
     fn rows(&self, alloc: Global, end: u64) -> Result<Vec<HeaderRow<'a>>, AllocError>
         requires small { spec.IsSmall (tables_view self.now) }
-        requires low { end ≤ 2 ^ 46 }
-        ensures { IfOk result (λ v. header_views v.items ≡ spec.header_rows end (tables_view self.now)) }
+        requires low { end ≤ 2 ^ 58 }
+        ensures { IfOk result (λ v. header_views v.items
+            ≡ spec.header_rows end (tables_view self.now)) }
     {
         let offsets = self.offsets(end);
         let symbols = self.symbols.len() as u64;
@@ -106,8 +107,9 @@ impl<'a> Tables<'a> {
     /// Puts the tables and the section headers behind an image whose last file part ends at an offset.
     pub fn add_to(&self, alloc: Global, file: &mut Vec<u8>, end: u64) -> Result<(), AllocError>
         requires small { spec.IsSmall (tables_view self.now) }
-        requires low { end ≤ 2 ^ 46 }
-        ensures { OnOk result (file.new.items ≡ file.old.items ++ spec.tail end (tables_view self.now)) }
+        requires low { end ≤ 2 ^ 58 }
+        ensures { OnOk result (file.new.items
+            ≡ file.old.items ++ spec.tail end (tables_view self.now)) }
     {
         let offsets = self.offsets(end);
         let rows = self.rows(alloc, end)?;

@@ -2,6 +2,10 @@
 #![tactic(auto)]
 
 #[cfg(test)]
+mod debug_data;
+#[cfg(test)]
+mod found;
+#[cfg(test)]
 mod tables;
 #[cfg(test)]
 mod vectors;

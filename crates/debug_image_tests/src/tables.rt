@@ -1,12 +1,13 @@
 //! The tables behind an image, byte for byte.
 use crate::vectors::{TEXT_FIELDS, TEXT_TABLES, THREAD_END, THREAD_FIELDS, THREAD_TABLES};
-use debug_image::{debug_image, plain_image};
+use debug_image::{Wanted, debug_image, plain_image};
 use elf_model::{InputFile, SHF_ALLOC, SHF_TLS, SHF_WRITE, SHT_NOBITS};
 use ld_main::{definitions, image, prepare};
 use link_samples::objects::{NamedSymbol, Section, relocatable};
 use link_samples::one_object::{one_file, words_of};
 use link_samples::parts::{START, TEXT};
 use link_samples::vectors::{OBJECT, image as text_image};
+use resolve::resolve;
 use std::alloc::Global;
 use std::test::Fail;
 
@@ -24,7 +25,14 @@ fn images_of(alloc: Global, files: &[InputFile], with_locals: bool) -> Result<Im
         return Err(Fail::from("the link is refused"));
     };
     let names = definitions(alloc, &linkage)?;
-    let Ok(debuggable) = debug_image(alloc, &linkage, &names, with_locals) else {
+    let Ok(resolved) = resolve(alloc, linkage.loaded()) else {
+        return Err(Fail::from("the names are refused"));
+    };
+    let wanted = Wanted {
+        locals: with_locals,
+        debug: true,
+    };
+    let Ok(debuggable) = debug_image(alloc, &linkage, &resolved, &names, wanted) else {
         return Err(Fail::from("the image is refused"));
     };
     Ok(Images {

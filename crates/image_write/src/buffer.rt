@@ -87,7 +87,10 @@ impl Buffer {
         bytes: &[u8],
     )
         requires { length self.old + length bytes.now ≤ BUFFER_SIZE }
-        ensures { (p : Piece) → IsOfSection section p → ArePartOf p from bytes.now → self.new ≡ self.old ++ wanted_run patches.now.objects (own_where patches.now.base patches.now.objects) p from (length bytes.now) }
+        ensures { (p : Piece) → IsOfSection section p → ArePartOf p from bytes.now
+            → self.new ≡ self.old
+            ++ wanted_run patches.now.objects
+            (own_where patches.now.base patches.now.objects) p from (length bytes.now) }
     {
         let at = self.bytes.len();
         let Ok(()) = self.bytes.extend_from_slice(bytes) else {

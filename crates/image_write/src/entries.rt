@@ -19,7 +19,7 @@ fn binding_of(definition: &Definition<'_>) -> u8
 {
     match definition {
         Definition::Symbol(symbol) => {
-            if symbol.entry.st_info / 16 == STB_WEAK {
+            if symbol.entry.binding() == STB_WEAK {
                 STB_WEAK
             } else {
                 STB_GLOBAL
@@ -37,7 +37,7 @@ fn type_of(definition: &Definition<'_>) -> u8
 {
     match definition {
         Definition::Symbol(symbol) => {
-            let own = symbol.entry.st_info % 16;
+            let own = symbol.entry.symbol_type();
             if own <= STT_FUNC { own } else { STT_NOTYPE }
         }
         Definition::Common(_) => STT_OBJECT,
@@ -59,8 +59,10 @@ fn size_of(definition: &Definition<'_>) -> u64
 /// The entry of a definition whose name stands at an offset of `.strtab`.
 pub fn entry_of(placement: &Placement<'_>, definition: &Definition<'_>, name_at: u32) -> Symbol
     requires kinds { AreLawfulKinds placement.now.objects }
-    requires within { LiesWithin (own_in_load_order placement.now.base placement.now.objects) (meaning_view definition.now) }
-    ensures { result ≡ table.entry_of (own_where placement.now.base placement.now.objects) name_at (meaning_view definition.now) }
+    requires within { LiesWithin (own_in_load_order placement.now.base placement.now.objects)
+        (meaning_view definition.now) }
+    ensures { result ≡ table.entry_of (own_where placement.now.base placement.now.objects) name_at
+        (meaning_view definition.now) }
 {
     Symbol {
         st_name: name_at,

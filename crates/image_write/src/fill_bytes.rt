@@ -44,7 +44,9 @@ pub fn fill<S: Sink>(
 ) -> Result<(), SinkFault>
     requires order { from ≤ to }
     requires whole { S.failed sink.old ≡ 0 }
-    ensures { Puts (stream (S.told sink.old) buffer.old (S.failed sink.old)) (fill_run code.now from to) result (stream (S.told sink.new) buffer.new (S.failed sink.new)) }
+    ensures { Puts (stream (S.told sink.old) buffer.old (S.failed sink.old))
+        (fill_run code.now from to) result
+        (stream (S.told sink.new) buffer.new (S.failed sink.new)) }
 {
     let start = from.max(code.start).min(to);
     let end = start.max(code.end).min(to);

@@ -84,7 +84,9 @@ fn put_file_header<S: Sink>(
     header: &FileHeader,
 ) -> Result<(), SinkFault>
     requires { S.failed sink.old ≡ 0 }
-    ensures { Puts (stream (S.told sink.old) buffer.old (S.failed sink.old)) (file_header_bytes header.now) result (stream (S.told sink.new) buffer.new (S.failed sink.new)) }
+    ensures { Puts (stream (S.told sink.old) buffer.old (S.failed sink.old))
+        (file_header_bytes header.now) result
+        (stream (S.told sink.new) buffer.new (S.failed sink.new)) }
 {
     let mut bytes = [0; EHDR_SIZE];
     header.write_to(&mut bytes);
@@ -97,7 +99,9 @@ fn put_program_header<S: Sink>(
     header: &ProgramHeader,
 ) -> Result<(), SinkFault>
     requires { S.failed sink.old ≡ 0 }
-    ensures { Puts (stream (S.told sink.old) buffer.old (S.failed sink.old)) (program_header_bytes header.now) result (stream (S.told sink.new) buffer.new (S.failed sink.new)) }
+    ensures { Puts (stream (S.told sink.old) buffer.old (S.failed sink.old))
+        (program_header_bytes header.now) result
+        (stream (S.told sink.new) buffer.new (S.failed sink.new)) }
 {
     let mut bytes = [0; PHDR_SIZE];
     header.write_to(&mut bytes);
@@ -110,7 +114,9 @@ fn put_segments<S: Sink>(
     segments: &[ProgramHeader],
 ) -> Result<(), SinkFault>
     requires { S.failed sink.old ≡ 0 }
-    ensures { Puts (stream (S.told sink.old) buffer.old (S.failed sink.old)) (flat_map program_header_bytes segments.now) result (stream (S.told sink.new) buffer.new (S.failed sink.new)) }
+    ensures { Puts (stream (S.told sink.old) buffer.old (S.failed sink.old))
+        (flat_map program_header_bytes segments.now) result
+        (stream (S.told sink.new) buffer.new (S.failed sink.new)) }
 {
     for segment in segments {
         put_program_header(sink, buffer, segment)?;
@@ -125,7 +131,9 @@ fn put_thread_header<S: Sink>(
     header: Option<ProgramHeader>,
 ) -> Result<(), SinkFault>
     requires { S.failed sink.old ≡ 0 }
-    ensures { Puts (stream (S.told sink.old) buffer.old (S.failed sink.old)) (flat_map program_header_bytes (as_list header)) result (stream (S.told sink.new) buffer.new (S.failed sink.new)) }
+    ensures { Puts (stream (S.told sink.old) buffer.old (S.failed sink.old))
+        (flat_map program_header_bytes (as_list header)) result
+        (stream (S.told sink.new) buffer.new (S.failed sink.new)) }
 {
     match header {
         Some(header) => put_program_header(sink, buffer, &header),
@@ -156,7 +164,9 @@ pub fn put_headers<S: Sink>(
     requires few { length segments.now + 2 < 2 ^ 16 }
     requires table { IfSome table IsInRange }
     requires whole { S.failed sink.old ≡ 0 }
-    ensures { Puts (stream (S.told sink.old) buffer.old (S.failed sink.old)) (headers_of (fields_of entry table) segments.now (as_list threads)) result (stream (S.told sink.new) buffer.new (S.failed sink.new)) }
+    ensures { Puts (stream (S.told sink.old) buffer.old (S.failed sink.old))
+        (headers_of (fields_of entry table) segments.now (as_list threads)) result
+        (stream (S.told sink.new) buffer.new (S.failed sink.new)) }
 {
     let header = file_header(entry, table, header_count(segments, threads));
     put_file_header(sink, buffer, &header)?;

@@ -48,7 +48,9 @@ pub fn write_file<S: Sink>(
     requires contents { AreContents contents.now }
     requires table { IfSome table IsInRange }
     requires whole { S.failed sink.old ≡ 0 }
-    ensures { Puts (stream (S.told sink.old) buffer.old (S.failed sink.old)) (file_parts (basis_of contents.now).base (basis_of contents.now).objects (fields_of entry table)) result (stream (S.told sink.new) buffer.new (S.failed sink.new)) }
+    ensures { Puts (stream (S.told sink.old) buffer.old (S.failed sink.old))
+        (file_parts (basis_of contents.now).base (basis_of contents.now).objects
+        (fields_of entry table)) result (stream (S.told sink.new) buffer.new (S.failed sink.new)) }
 {
     let placement = contents.placement;
     let base = placement.base();

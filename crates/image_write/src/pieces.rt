@@ -63,7 +63,9 @@ fn put_untouched<S: Sink>(
 ) -> Result<(), SinkFault>
     requires inside { (from ≤ next) × (next ≤ length piece.now.bytes.now) }
     requires whole { S.failed sink.old ≡ 0 }
-    ensures { Puts (stream (S.told sink.old) buffer.old (S.failed sink.old)) (take (next - from) (drop from piece.now.bytes.now)) result (stream (S.told sink.new) buffer.new (S.failed sink.new)) }
+    ensures { Puts (stream (S.told sink.old) buffer.old (S.failed sink.old))
+        (take (next - from) (drop from piece.now.bytes.now)) result
+        (stream (S.told sink.new) buffer.new (S.failed sink.new)) }
 {
     put(sink, buffer, part_of(piece.bytes, from, next - from))
 }
@@ -81,8 +83,15 @@ fn put_part<S: Sink>(
     requires inside { from < length piece.now.bytes.now }
     requires whole { S.failed sink.old ≡ 0 }
     ensures further { IfOk result (λ n. (from < n) × (n ≤ length piece.now.bytes.now)) }
-    ensures grows { IfOk result (λ n. Grows (stream (S.told sink.old) buffer.old (S.failed sink.old)) (wanted_run patches.now.objects (own_where patches.now.base patches.now.objects) (piece_view piece.now) from (n - from)) (stream (S.told sink.new) buffer.new (S.failed sink.new))) }
-    ensures breaks { OnErr result (Breaks (stream (S.told sink.old) buffer.old (S.failed sink.old)) (wanted_run patches.now.objects (own_where patches.now.base patches.now.objects) (piece_view piece.now) from (length piece.now.bytes.now - from)) (stream (S.told sink.new) buffer.new (S.failed sink.new))) }
+    ensures grows { IfOk result (λ n.
+        Grows (stream (S.told sink.old) buffer.old (S.failed sink.old))
+        (wanted_run patches.now.objects (own_where patches.now.base patches.now.objects)
+        (piece_view piece.now) from (n - from))
+        (stream (S.told sink.new) buffer.new (S.failed sink.new))) }
+    ensures breaks { OnErr result (Breaks (stream (S.told sink.old) buffer.old (S.failed sink.old))
+        (wanted_run patches.now.objects (own_where patches.now.base patches.now.objects)
+        (piece_view piece.now) from (length piece.now.bytes.now - from))
+        (stream (S.told sink.new) buffer.new (S.failed sink.new))) }
 {
     let section = section_of(piece);
     let size = piece.bytes.len();
@@ -112,7 +121,9 @@ fn put_section<S: Sink>(
     requires other { is_got_piece patches.now.objects (piece_view piece.now) ≡ false }
     requires bytes { length piece.now.bytes.now ≡ (piece_view piece.now).size }
     requires whole { S.failed sink.old ≡ 0 }
-    ensures { Puts (stream (S.told sink.old) buffer.old (S.failed sink.old)) (bytes_of patches.now.objects (own_where patches.now.base patches.now.objects) (piece_view piece.now)) result (stream (S.told sink.new) buffer.new (S.failed sink.new)) }
+    ensures { Puts (stream (S.told sink.old) buffer.old (S.failed sink.old))
+        (bytes_of patches.now.objects (own_where patches.now.base patches.now.objects)
+        (piece_view piece.now)) result (stream (S.told sink.new) buffer.new (S.failed sink.new)) }
 {
     let mut from = 0;
     while from < piece.bytes.len() {
@@ -131,7 +142,9 @@ fn put_piece<S: Sink>(
     requires contents { AreContents contents.now }
     requires full { HasContents contents.now (piece_view piece.now) }
     requires whole { S.failed sink.old ≡ 0 }
-    ensures { Puts (stream (S.told sink.old) buffer.old (S.failed sink.old)) (all_bytes contents.now (piece_view piece.now)) result (stream (S.told sink.new) buffer.new (S.failed sink.new)) }
+    ensures { Puts (stream (S.told sink.old) buffer.old (S.failed sink.old))
+        (all_bytes contents.now (piece_view piece.now)) result
+        (stream (S.told sink.new) buffer.new (S.failed sink.new)) }
 {
     if contents.placement.is_got(piece) {
         return put_got(sink, buffer, contents.slots);
@@ -155,7 +168,9 @@ pub fn put_places<S: Sink>(
     requires low { to ≤ 2 ^ 46 }
     requires full { AreFilled contents.now (place_views places.now) }
     requires whole { S.failed sink.old ≡ 0 }
-    ensures { Puts (stream (S.told sink.old) buffer.old (S.failed sink.old)) (all_body contents.now code.now to from (place_views places.now)) result (stream (S.told sink.new) buffer.new (S.failed sink.new)) }
+    ensures { Puts (stream (S.told sink.old) buffer.old (S.failed sink.old))
+        (all_body contents.now code.now to from (place_views places.now)) result
+        (stream (S.told sink.new) buffer.new (S.failed sink.new)) }
 {
     let mut next = from;
     for place in places {

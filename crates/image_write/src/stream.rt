@@ -8,7 +8,8 @@ use crate::sink::{Sink, SinkFault};
 /// Gives a device bytes until it has taken all.
 fn hand<S: Sink>(sink: &mut S, bytes: &[u8]) -> Result<(), SinkFault>
     requires { S.failed sink.old ≡ 0 }
-    ensures { Puts (stream (S.told sink.old) [] (S.failed sink.old)) bytes.now result (stream (S.told sink.new) [] (S.failed sink.new)) }
+    ensures { Puts (stream (S.told sink.old) [] (S.failed sink.old)) bytes.now result
+        (stream (S.told sink.new) [] (S.failed sink.new)) }
 {
     let mut rest = bytes;
     while !rest.is_empty() {
@@ -22,7 +23,8 @@ fn hand<S: Sink>(sink: &mut S, bytes: &[u8]) -> Result<(), SinkFault>
 /// Gives the device what the buffer holds, which is then empty.
 pub fn flush<S: Sink>(sink: &mut S, buffer: &mut Buffer) -> Result<(), SinkFault>
     requires { S.failed sink.old ≡ 0 }
-    ensures puts { Puts (stream (S.told sink.old) buffer.old (S.failed sink.old)) [] result (stream (S.told sink.new) buffer.new (S.failed sink.new)) }
+    ensures puts { Puts (stream (S.told sink.old) buffer.old (S.failed sink.old)) [] result
+        (stream (S.told sink.new) buffer.new (S.failed sink.new)) }
     ensures empty { OnOk result (buffer.new ≡ []) }
 {
     hand(sink, buffer.bytes())?;
@@ -34,7 +36,8 @@ pub fn flush<S: Sink>(sink: &mut S, buffer: &mut Buffer) -> Result<(), SinkFault
 /// are more than it takes.
 pub fn put<S: Sink>(sink: &mut S, buffer: &mut Buffer, bytes: &[u8]) -> Result<(), SinkFault>
     requires { S.failed sink.old ≡ 0 }
-    ensures { Puts (stream (S.told sink.old) buffer.old (S.failed sink.old)) bytes.now result (stream (S.told sink.new) buffer.new (S.failed sink.new)) }
+    ensures { Puts (stream (S.told sink.old) buffer.old (S.failed sink.old)) bytes.now result
+        (stream (S.told sink.new) buffer.new (S.failed sink.new)) }
 {
     if bytes.len() <= buffer.room() {
         buffer.add(bytes);
@@ -51,7 +54,8 @@ pub fn put<S: Sink>(sink: &mut S, buffer: &mut Buffer, bytes: &[u8]) -> Result<(
 /// Makes room for a byte at least.
 pub fn make_room<S: Sink>(sink: &mut S, buffer: &mut Buffer) -> Result<(), SinkFault>
     requires { S.failed sink.old ≡ 0 }
-    ensures puts { Puts (stream (S.told sink.old) buffer.old (S.failed sink.old)) [] result (stream (S.told sink.new) buffer.new (S.failed sink.new)) }
+    ensures puts { Puts (stream (S.told sink.old) buffer.old (S.failed sink.old)) [] result
+        (stream (S.told sink.new) buffer.new (S.failed sink.new)) }
     ensures room { OnOk result (length buffer.new < BUFFER_SIZE) }
 {
     if buffer.room() > 0 {
@@ -68,7 +72,8 @@ pub fn put_run<S: Sink>(
     byte: u8,
 ) -> Result<(), SinkFault>
     requires { S.failed sink.old ≡ 0 }
-    ensures { Puts (stream (S.told sink.old) buffer.old (S.failed sink.old)) (replicate count byte) result (stream (S.told sink.new) buffer.new (S.failed sink.new)) }
+    ensures { Puts (stream (S.told sink.old) buffer.old (S.failed sink.old))
+        (replicate count byte) result (stream (S.told sink.new) buffer.new (S.failed sink.new)) }
 {
     let mut left = count;
     while left > 0 {

@@ -42,8 +42,10 @@ impl SymbolTable {
         start: u64,
     ) -> Option<SymbolTable>
         requires { start ≤ 2 ^ 46 }
-        ensures some { IfSome result (IsTableOf (loaded_views objects.now) start (meaning_views listed.now)) }
-        ensures none { IfNone result (2 ^ 32 ≤ tables_end start (entered (loaded_views objects.now) (meaning_views listed.now))) }
+        ensures some { IfSome result (IsTableOf (loaded_views objects.now) start
+            (meaning_views listed.now)) }
+        ensures none { IfNone result (2 ^ 32
+            ≤ tables_end start (entered (loaded_views objects.now) (meaning_views listed.now))) }
     {
         let mut table = SymbolTable {
             start,
@@ -68,9 +70,15 @@ impl SymbolTable {
     fn with(self, objects: &[LoadedObject<'_>], definition: &Definition<'_>) -> SymbolTable
         requires { IsInRange self }
         ensures start { result.start ≡ self.start }
-        ensures count { result.count ≡ self.count + length (entered (loaded_views objects.now) (meaning_view definition.now ∷ [])) }
-        ensures names { result.names < 2 ^ 32 → result.names ≡ self.names + length (name_bytes (loaded_views objects.now) (meaning_view definition.now ∷ [])) }
-        ensures large { 2 ^ 32 ≤ result.names → 2 ^ 32 ≤ self.names + length (name_bytes (loaded_views objects.now) (meaning_view definition.now ∷ [])) }
+        ensures count { result.count ≡ self.count + length
+            (entered (loaded_views objects.now) (meaning_view definition.now ∷ [])) }
+        ensures names { result.names < 2 ^ 32
+            → result.names
+            ≡ self.names + length
+            (name_bytes (loaded_views objects.now) (meaning_view definition.now ∷ [])) }
+        ensures large { 2 ^ 32 ≤ result.names
+            → 2 ^ 32 ≤ self.names + length
+            (name_bytes (loaded_views objects.now) (meaning_view definition.now ∷ [])) }
     {
         if definition.is_in_thread_storage(objects) {
             return self;

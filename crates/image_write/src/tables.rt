@@ -29,7 +29,8 @@ pub struct Names<'c, 'a> {
 
 fn put_symbol<S: Sink>(sink: &mut S, buffer: &mut Buffer, symbol: &Symbol) -> Result<(), SinkFault>
     requires { S.failed sink.old ≡ 0 }
-    ensures { Puts (stream (S.told sink.old) buffer.old (S.failed sink.old)) (symbol_bytes symbol.now) result (stream (S.told sink.new) buffer.new (S.failed sink.new)) }
+    ensures { Puts (stream (S.told sink.old) buffer.old (S.failed sink.old))
+        (symbol_bytes symbol.now) result (stream (S.told sink.new) buffer.new (S.failed sink.new)) }
 {
     let mut bytes = [0; SYM_SIZE];
     symbol.write_to(&mut bytes);
@@ -47,10 +48,15 @@ fn put_entry<S: Sink>(
 ) -> Result<u64, SinkFault>
     requires names { AreNames names.now }
     requires within { LiesWithin (places_of names.now) (meaning_view definition.now) }
-    requires room { at + length (name_bytes (objects_of names.now) (meaning_view definition.now ∷ [])) < 2 ^ 32 }
+    requires room { at + length (name_bytes (objects_of names.now)
+        (meaning_view definition.now ∷ [])) < 2 ^ 32 }
     requires whole { S.failed sink.old ≡ 0 }
-    ensures puts { Puts (stream (S.told sink.old) buffer.old (S.failed sink.old)) (entry_bytes (where_of names.now) (objects_of names.now) at (meaning_view definition.now ∷ [])) result (stream (S.told sink.new) buffer.new (S.failed sink.new)) }
-    ensures next { IfOk result (λ n. n ≡ at + length (name_bytes (objects_of names.now) (meaning_view definition.now ∷ []))) }
+    ensures puts { Puts (stream (S.told sink.old) buffer.old (S.failed sink.old))
+        (entry_bytes (where_of names.now) (objects_of names.now) at
+        (meaning_view definition.now ∷ [])) result
+        (stream (S.told sink.new) buffer.new (S.failed sink.new)) }
+    ensures next { IfOk result (λ n. n
+        ≡ at + length (name_bytes (objects_of names.now) (meaning_view definition.now ∷ []))) }
 {
     if definition.is_in_thread_storage(names.objects) {
         return Ok(at);
@@ -69,7 +75,9 @@ fn put_entries<S: Sink>(
     requires names { AreNames names.now }
     requires room { 1 + length (name_bytes (objects_of names.now) (listed_of names.now)) < 2 ^ 32 }
     requires whole { S.failed sink.old ≡ 0 }
-    ensures { Puts (stream (S.told sink.old) buffer.old (S.failed sink.old)) (entry_bytes (where_of names.now) (objects_of names.now) 1 (listed_of names.now)) result (stream (S.told sink.new) buffer.new (S.failed sink.new)) }
+    ensures { Puts (stream (S.told sink.old) buffer.old (S.failed sink.old))
+        (entry_bytes (where_of names.now) (objects_of names.now) 1 (listed_of names.now)) result
+        (stream (S.told sink.new) buffer.new (S.failed sink.new)) }
 {
     let mut at = 1;
     for definition in names.listed {
@@ -86,7 +94,9 @@ fn put_name<S: Sink>(
     definition: &Definition<'_>,
 ) -> Result<(), SinkFault>
     requires { S.failed sink.old ≡ 0 }
-    ensures { Puts (stream (S.told sink.old) buffer.old (S.failed sink.old)) (name_bytes (loaded_views names.now.objects.now) (meaning_view definition.now ∷ [])) result (stream (S.told sink.new) buffer.new (S.failed sink.new)) }
+    ensures { Puts (stream (S.told sink.old) buffer.old (S.failed sink.old))
+        (name_bytes (loaded_views names.now.objects.now) (meaning_view definition.now ∷ [])) result
+        (stream (S.told sink.new) buffer.new (S.failed sink.new)) }
 {
     if definition.is_in_thread_storage(names.objects) {
         return Ok(());
@@ -102,7 +112,9 @@ fn put_names<S: Sink>(
     names: &Names<'_, '_>,
 ) -> Result<(), SinkFault>
     requires { S.failed sink.old ≡ 0 }
-    ensures { Puts (stream (S.told sink.old) buffer.old (S.failed sink.old)) (name_bytes (loaded_views names.now.objects.now) (listed_of names.now)) result (stream (S.told sink.new) buffer.new (S.failed sink.new)) }
+    ensures { Puts (stream (S.told sink.old) buffer.old (S.failed sink.old))
+        (name_bytes (loaded_views names.now.objects.now) (listed_of names.now)) result
+        (stream (S.told sink.new) buffer.new (S.failed sink.new)) }
 {
     for definition in names.listed {
         put_name(sink, buffer, names, definition)?;
@@ -153,7 +165,9 @@ fn put_header<S: Sink>(
     header: &SectionHeader,
 ) -> Result<(), SinkFault>
     requires { S.failed sink.old ≡ 0 }
-    ensures { Puts (stream (S.told sink.old) buffer.old (S.failed sink.old)) (section_header_bytes header.now) result (stream (S.told sink.new) buffer.new (S.failed sink.new)) }
+    ensures { Puts (stream (S.told sink.old) buffer.old (S.failed sink.old))
+        (section_header_bytes header.now) result
+        (stream (S.told sink.new) buffer.new (S.failed sink.new)) }
 {
     let mut bytes = [0; SHDR_SIZE];
     header.write_to(&mut bytes);
@@ -167,7 +181,9 @@ fn put_headers<S: Sink>(
     headers: &[SectionHeader],
 ) -> Result<(), SinkFault>
     requires { S.failed sink.old ≡ 0 }
-    ensures { Puts (stream (S.told sink.old) buffer.old (S.failed sink.old)) (flat_map section_header_bytes headers.now) result (stream (S.told sink.new) buffer.new (S.failed sink.new)) }
+    ensures { Puts (stream (S.told sink.old) buffer.old (S.failed sink.old))
+        (flat_map section_header_bytes headers.now) result
+        (stream (S.told sink.new) buffer.new (S.failed sink.new)) }
 {
     for header in headers {
         put_header(sink, buffer, header)?;
@@ -197,7 +213,10 @@ fn put_symbols<S: Sink>(
     requires names { AreNames names.now }
     requires room { 1 + length (name_bytes (objects_of names.now) (listed_of names.now)) < 2 ^ 32 }
     requires whole { S.failed sink.old ≡ 0 }
-    ensures { Puts (stream (S.told sink.old) buffer.old (S.failed sink.old)) (table.symbol_section (where_of names.now) (entered_of names.now) ++ table.name_section (entered_of names.now)) result (stream (S.told sink.new) buffer.new (S.failed sink.new)) }
+    ensures { Puts (stream (S.told sink.old) buffer.old (S.failed sink.old))
+        (table.symbol_section (where_of names.now) (entered_of names.now)
+        ++ table.name_section (entered_of names.now)) result
+        (stream (S.told sink.new) buffer.new (S.failed sink.new)) }
 {
     put_symbol(sink, buffer, &Symbol::NULL)?;
     put_entries(sink, buffer, names)?;
@@ -213,9 +232,12 @@ pub fn put_tables<S: Sink>(
     symbols: &SymbolTable,
 ) -> Result<(), SinkFault>
     requires names { AreNames names.now }
-    requires table { IsTableOf (objects_of names.now) symbols.now.start (listed_of names.now) symbols.now }
+    requires table { IsTableOf (objects_of names.now) symbols.now.start
+        (listed_of names.now) symbols.now }
     requires whole { S.failed sink.old ≡ 0 }
-    ensures { Puts (stream (S.told sink.old) buffer.old (S.failed sink.old)) (table.tables (where_of names.now) symbols.now.start (entered_of names.now)) result (stream (S.told sink.new) buffer.new (S.failed sink.new)) }
+    ensures { Puts (stream (S.told sink.old) buffer.old (S.failed sink.old))
+        (table.tables (where_of names.now) symbols.now.start (entered_of names.now)) result
+        (stream (S.told sink.new) buffer.new (S.failed sink.new)) }
 {
     put_run(sink, buffer, symbols.symbols() - symbols.start, 0)?;
     put_symbols(sink, buffer, names)?;

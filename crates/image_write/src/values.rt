@@ -16,8 +16,10 @@ use resolve::{Block, Definition, SymbolOf};
 /// The value of a definition: an absolute one's `st_value`, else the address of its section plus `st_value`,
 /// 0 in a section that isn't kept.
 pub fn symbol_value(placement: &Placement<'_>, symbol: &SymbolOf<'_>) -> u64
-    requires { LiesBelow (own_in_load_order placement.now.base placement.now.objects) (symbol_view symbol.now) }
-    ensures value { result ≡ placement_of.symbol_value (own_in_load_order placement.now.base placement.now.objects) (symbol_view symbol.now) }
+    requires { LiesBelow (own_in_load_order placement.now.base placement.now.objects)
+        (symbol_view symbol.now) }
+    ensures value { result ≡ placement_of.symbol_value
+        (own_in_load_order placement.now.base placement.now.objects) (symbol_view symbol.now) }
     ensures fits { result < 2 ^ 64 }
 {
     let entry = symbol.entry;
@@ -35,7 +37,8 @@ pub fn symbol_value(placement: &Placement<'_>, symbol: &SymbolOf<'_>) -> u64
 
 /// The address of a common block.
 pub fn block_address(placement: &Placement<'_>, block: &Block<'_>) -> u64
-    ensures { result ≡ section_address (own_in_load_order placement.now.base placement.now.objects) block.now.object block.now.number }
+    ensures { result ≡ section_address
+        (own_in_load_order placement.now.base placement.now.objects) block.now.object block.now.number }
 {
     match placement.numbered_address(block.section()) {
         Some(at) => at,
@@ -46,8 +49,10 @@ pub fn block_address(placement: &Placement<'_>, block: &Block<'_>) -> u64
 /// The value of what a name means.
 pub fn definition_value(placement: &Placement<'_>, meaning: &Definition<'_>) -> u64
     requires kinds { AreLawfulKinds placement.now.objects }
-    requires within { LiesWithin (own_in_load_order placement.now.base placement.now.objects) (meaning_view meaning.now) }
-    ensures value { result ≡ meaning_value (own_where placement.now.base placement.now.objects) (meaning_view meaning.now) }
+    requires within { LiesWithin (own_in_load_order placement.now.base placement.now.objects)
+        (meaning_view meaning.now) }
+    ensures value { result ≡ meaning_value (own_where placement.now.base placement.now.objects)
+        (meaning_view meaning.now) }
     ensures fits { result < 2 ^ 64 }
 {
     match meaning {

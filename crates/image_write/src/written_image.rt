@@ -20,7 +20,8 @@ fn write_tables<S: Sink>(
     linkage: &Linkage<'_>,
 ) -> Result<(), SinkFault>
     requires { S.failed sink.old ≡ 0 }
-    ensures { Puts (stream (S.told sink.old) buffer.old (S.failed sink.old)) (tables_in linkage.now) result (stream (S.told sink.new) buffer.new (S.failed sink.new)) }
+    ensures { Puts (stream (S.told sink.old) buffer.old (S.failed sink.old))
+        (tables_in linkage.now) result (stream (S.told sink.new) buffer.new (S.failed sink.new)) }
 {
     let parts = linkage.parts();
     let names = Names {
@@ -47,9 +48,11 @@ pub fn write_image<S: Sink>(
     sink: &mut S,
 ) -> Result<(), WriteFault>
     requires { S.failed sink.old ≡ 0 }
-    ensures written { OnOk result (Took (S.told sink.old) (own_image linkage.now) (S.told sink.new)) }
+    ensures written { OnOk result (Took (S.told sink.old) (own_image linkage.now)
+        (S.told sink.new)) }
     ensures kept { OnOk result (S.failed sink.new ≡ S.failed sink.old) }
-    ensures fault { IfErr result (WriteFails (S.told sink.old) (S.failed sink.old) (own_image linkage.now) (S.told sink.new) (S.failed sink.new)) }
+    ensures fault { IfErr result (WriteFails (S.told sink.old) (S.failed sink.old)
+        (own_image linkage.now) (S.told sink.new) (S.failed sink.new)) }
 {
     let mut buffer = Buffer::new(alloc)?;
     let parts = linkage.parts();

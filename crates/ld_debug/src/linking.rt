@@ -1,82 +1,123 @@
 //! The link, and the files that are written for it.
+ghost use Rattle.debug_image.specs.DebugLayouts.{IsDataLayout};
 
+use crate::image_files::written_image;
 use crate::outputs::{finish, written};
+use crate::reports::print_reports;
 use command::Plan;
-use debug_image::{DebugFault, debug_image};
+use debug_image::{DataLayout, DebugFault, DebugParts, Wanted, data_layout, debug_parts};
 use elf_model::{InputFile, LinkError};
-use ld_main::{Failure, Linkage, definitions, map_text, prepare, refused};
+use ld_main::{Failure, Linkage, NewFile, definitions, map_text, prepare, refused};
+use resolve::resolve;
 use std::alloc::Global;
+use std::io::Write;
 use std::random::RandomSource;
 use std::rt::Files;
 
-/// The debuggable image of a link.
-fn made<'a>(
+/// The parts of the debuggable image of a link.
+fn made<'a, 'b>(
     alloc: Global,
-    linkage: &Linkage<'_>,
-    with_locals: bool,
-) -> Result<Vec<u8>, Failure<'a>> {
+    linkage: &Linkage<'b>,
+    wanted: Wanted,
+) -> Result<DebugParts<'b>, Failure<'a>> {
     let names = definitions(alloc, linkage)?;
-    match debug_image(alloc, linkage, &names, with_locals) {
-        Ok(image) => Ok(image),
+    match debug_parts(alloc, linkage, &names, wanted) {
+        Ok(parts) => Ok(parts),
         Err(DebugFault::Memory) => Err(Failure::from(LinkError::Memory)),
         Err(DebugFault::TooLarge) => Err(Failure::from(LinkError::TooLarge)),
     }
 }
 
-/// Writes the image and the map before either has its name; where the map can't be written, the image is removed.
-fn write_both<'a, R: Files + AllocGlobal + RandomSource>(
+/// Gives the image and the map their names; where the image can't get its own, the map is removed.
+fn finish_both<'a, R: Files + AllocGlobal + RandomSource>(
     rt: &R,
     output: &'a str,
-    image: &[u8],
+    image: NewFile<'a>,
     map: &'a str,
-    text: &[u8],
+    text: NewFile<'a>,
 ) -> Result<(), Failure<'a>> {
-    let image_file = written(rt, output, image, true)?;
-    let map_file = match written(rt, map, text, false) {
-        Ok(file) => file,
-        Err(failure) => {
-            image_file.discard(rt);
-            return Err(failure);
-        }
-    };
-    if let Err(failure) = finish(rt, output, image_file) {
-        map_file.discard(rt);
+    if let Err(failure) = finish(rt, output, image) {
+        text.discard(rt);
         return Err(failure);
     }
-    finish(rt, map, map_file)
+    finish(rt, map, text)
+}
+
+/// Writes the image and the map before either has its name; where the map can't be written, the image is removed.
+fn write_both<'a, 'b, R: Files + AllocGlobal + RandomSource>(
+    rt: &R,
+    output: &'a str,
+    layout: &DataLayout<'_, 'b>,
+    parts: &DebugParts<'b>,
+    map: &'a str,
+    text: &[u8],
+) -> Result<(), Failure<'a>>
+    requires { IsDataLayout layout.now }
+{
+    let image_file = written_image(rt, output, layout, parts)?;
+    match written(rt, map, text) {
+        Ok(map_file) => finish_both(rt, output, image_file, map, map_file),
+        Err(failure) => {
+            image_file.discard(rt);
+            Err(failure)
+        }
+    }
 }
 
 /// Writes the image of a link, and its map, where the words name one.
-fn write_files<'a, R: Files + AllocGlobal + RandomSource>(
+fn write_files<'a, 'b, R: Files + AllocGlobal + RandomSource>(
     rt: &R,
     plan: &Plan<'a>,
     linkage: &Linkage<'_>,
-    with_locals: bool,
-) -> Result<(), Failure<'a>> {
-    let image = made(rt.alloc(), linkage, with_locals)?;
+    layout: &DataLayout<'_, 'b>,
+    parts: &DebugParts<'b>,
+) -> Result<(), Failure<'a>>
+    requires { IsDataLayout layout.now }
+{
     match plan.map {
         Some(map) => {
             let text = map_text(rt.alloc(), linkage)?;
-            write_both(rt, plan.output, &image, map, &text)
+            write_both(rt, plan.output, layout, parts, map, &text)
         }
         None => {
-            let file = written(rt, plan.output, &image, true)?;
+            let file = written_image(rt, plan.output, layout, parts)?;
             finish(rt, plan.output, file)
         }
     }
 }
 
+/// Makes the image of a link, tells what is left out of it, and writes it and the map.
+fn write_link<'a, 'b, R: Files + AllocGlobal + RandomSource, E: Write>(
+    rt: &R,
+    plan: &Plan<'a>,
+    files: &[InputFile],
+    linkage: &Linkage<'b>,
+    wanted: Wanted,
+    err: &mut E,
+) -> Result<(), Failure<'a>> {
+    let parts = made(rt.alloc(), linkage, wanted)?;
+    let Ok(resolved) = resolve(rt.alloc(), linkage.loaded()) else {
+        return Err(Failure::from(LinkError::Memory));
+    };
+    let layout = data_layout(linkage, &resolved, &parts.data.rows);
+    if wanted.debug {
+        print_reports(rt.alloc(), err, files, &layout)?;
+    }
+    write_files(rt, plan, linkage, &layout, &parts)
+}
+
 /// Links files, and writes the debuggable image and the map.
-pub fn link_files<'a, R: Files + AllocGlobal + RandomSource>(
+pub fn link_files<'a, R: Files + AllocGlobal + RandomSource, E: Write>(
     rt: &R,
     plan: &Plan<'a>,
     files: &[InputFile],
     words: &[String],
-    with_locals: bool,
+    wanted: Wanted,
+    err: &mut E,
 ) -> Result<(), Failure<'a>> {
     let linkage = match prepare(rt.alloc(), files, words) {
         Ok(linkage) => linkage,
         Err(error) => return Err(refused(rt.alloc(), error)),
     };
-    write_files(rt, plan, &linkage, with_locals)
+    write_link(rt, plan, files, &linkage, wanted, err)
 }

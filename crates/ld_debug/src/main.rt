@@ -2,11 +2,14 @@
 #![tactic(auto)]
 
 mod checking;
+mod image_files;
 mod linking;
 mod outputs;
+mod reports;
 mod words;
 
 use command::{Plan, read_words};
+use debug_image::Wanted;
 use elf_model::CmdFault;
 use ld_main::{Failure, no_words, read_files, words};
 use std::io;
@@ -19,30 +22,32 @@ use std::rt::Files;
 const NO_MEMORY: u8 = 4;
 
 /// Reads the files that a plan names, and links or checks them.
-fn run_plan<'a, R: Files + AllocGlobal + RandomSource, O: Write>(
+fn run_plan<'a, R: Files + AllocGlobal + RandomSource, O: Write, E: Write>(
     rt: &R,
     plan: &Plan<'a>,
     stripped: &[String],
-    with_locals: bool,
+    wanted: Wanted,
     out: &mut O,
+    err: &mut E,
 ) -> Result<u8, Failure<'a>> {
     let files = read_files(rt, plan)?;
     if plan.check {
         return checking::check_files(rt, plan, &files, stripped, out);
     }
-    linking::link_files(rt, plan, &files, stripped, with_locals)?;
+    linking::link_files(rt, plan, &files, stripped, wanted, err)?;
     Ok(0)
 }
 
 /// Links or checks as words say, and answers the exit status.
-fn answer<'a, R: Files + AllocGlobal + RandomSource, O: Write>(
+fn answer<'a, R: Files + AllocGlobal + RandomSource, O: Write, E: Write>(
     rt: &R,
     stripped: &'a [String],
-    with_locals: bool,
+    wanted: Wanted,
     out: &mut O,
+    err: &mut E,
 ) -> Result<u8, Failure<'a>> {
     let plan = read_words(rt.alloc(), stripped)?;
-    run_plan(rt, &plan, stripped, with_locals, out)
+    run_plan(rt, &plan, stripped, wanted, out, err)
 }
 
 /// Runs `ld-debug` with the words behind the program's name, and answers its exit status, which is that of `ld`.
@@ -56,7 +61,7 @@ fn run<R: Files + AllocGlobal + RandomSource, O: Write, E: Write>(
         let _ = writeln!(err, "ld: Memory (1)");
         return NO_MEMORY;
     };
-    match answer(rt, &stripped, !words::ask_for_no_locals(given), out) {
+    match answer(rt, &stripped, words::wanted(given), out, err) {
         Ok(status) => status,
         Err(failure) => {
             let _ = failure.print(err);

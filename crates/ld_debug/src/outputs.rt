@@ -1,23 +1,14 @@
 //! The files that are written.
 
-use ld_main::{Failure, NewFile, make_executable};
-use std::fs::OpenFile;
+use ld_main::{Failure, NewFile};
 use std::io::Write;
 use std::random::RandomSource;
 use std::rt::Files;
 
-/// Fills an opened file; a new one that is a program may then be run by those who may read it.
-fn fill<F: Write + OpenFile + Drop>(file: F, bytes: &[u8], executable: bool) -> bool {
+/// Fills an opened file.
+fn fill<F: Write + Drop>(file: F, bytes: &[u8]) -> bool {
     let mut file = file;
-    match file.write_all(bytes) {
-        Ok(()) => {
-            if executable {
-                let _ = make_executable(&file);
-            }
-            true
-        }
-        Err(_) => false,
-    }
+    file.write_all(bytes).is_ok()
 }
 
 /// Writes a file; where it is a new one it doesn't have its name yet.
@@ -25,13 +16,12 @@ pub fn written<'a, R: Files + AllocGlobal + RandomSource>(
     rt: &R,
     path: &'a str,
     bytes: &[u8],
-    is_program: bool,
 ) -> Result<NewFile<'a>, Failure<'a>> {
     let (file, output) = match NewFile::open(rt, path) {
         Ok(opened) => opened,
         Err(_) => return Err(Failure::CannotWrite(path)),
     };
-    if fill(file, bytes, is_program && output.is_new()) {
+    if fill(file, bytes) {
         return Ok(output);
     }
     output.discard(rt);

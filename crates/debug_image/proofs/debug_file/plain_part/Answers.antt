@@ -2,7 +2,6 @@ use Rattle.std.proofs.Common.{◌≡◌, ◌≤◌, ◌++◌, ◌∙◌, ℕ, Li
 use Rattle.std.proofs.lemmas.List.{length-take}
 use Rattle.elf_model.specs.Records.{file_header, file_header_bytes}
 use Rattle.debug_image.specs.PlainImages.{with_sections}
-use Rattle.debug_image.specs.Tables.{headers_at}
 use Rattle.debug_image.specs.Views.{tables_view}
 use Rattle.debug_image.proofs.LinkImages.{image_long, plain_part_is}
 use Rattle.debug_image.proofs.debug_file.plain_part.Goals as goal
@@ -30,9 +29,9 @@ returns c =
     let t = tables_view c.args.tables.now in
     c.put_header.ensures
     ∙ (ap (λ (xs : List ℕ). file_header_bytes c.header_of-header.result ++ drop 64 xs) c.truncate.ensures.items
-    ∙ plain_part_is c.args.linkage.now c.parts-parts.result.now e.parts e.listed t c.in_ok-file.file.items c.header_of-header.result
+    ∙ plain_part_is c.args.linkage.now c.parts-parts.result.now e.parts e.listed t c.args.behind c.in_ok-file.file.items c.header_of-header.result
     c.offsets-headers.result.headers c.last-last.result c.end_of-end.result c.in_ok-file.ensures c.end_of-end.ensures.end
-    (c.offsets-headers.ensures.headers ∙ ap (λ (n : ℕ). headers_at n t) c.end_of-end.ensures.end)
+    c.offsets-headers.ensures.headers
     c.last-last.ensures
     (c.header_of-header.ensures
     ∙ ap (λ (xs : List ℕ). with_sections c.offsets-headers.result.headers c.last-last.result (file_header xs)) c.deref.ensures.value))

@@ -1,0 +1,16 @@
+use Rattle.std.proofs.Common.{◌≡◌, ◌++◌, drop}
+use Rattle.std.specs.Prelude.{All}
+use Rattle.search.specs.Views.{loaded_views}
+use Rattle.debug_image.specs.DebugSections.{AreLow, IsLow, debug_rows, joined_from, joined_of, rows_from}
+use Rattle.debug_image.specs.DebugViews.{joined_views, row_views}
+use Rattle.debug_image.proofs.joined.debug_data.Given as goal
+
+abbrev pub invariant-loop-k : goal.invariant-loop-k
+invariant-loop-k l = record {
+  rows :
+      row_views l.rows.items ++ rows_from (joined_views l.joined.items) l.k (drop l.k (loaded_views l.objects))
+      ≡ debug_rows (loaded_views l.objects);
+  ends : AreLow (row_views l.rows.items);
+  joined : joined_from (joined_views l.joined.items) l.k (drop l.k (loaded_views l.objects)) ≡ joined_of (loaded_views l.objects);
+  low : All IsLow (joined_views l.joined.items);
+}

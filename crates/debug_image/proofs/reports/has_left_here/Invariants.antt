@@ -1,0 +1,11 @@
+use Rattle.std.proofs.Common.{◌≡◌}
+use Rattle.std.specs.List.{flat_map, list_any, range_with_len}
+use Rattle.debug_image.specs.DebugLayouts.{data_in, object_here, placed_here}
+use Rattle.debug_image.specs.DebugValues.{entries_at, is_left}
+use Rattle.debug_image.proofs.reports.has_left_here.Given as goal
+
+abbrev pub invariant-loop-i : goal.invariant-loop-i
+invariant-loop-i l =
+    l.found
+    ≡ list_any (is_left (data_in l.layout) (placed_here l.here) (object_here l.here))
+    (flat_map (entries_at (object_here l.here) l.here.place.now.piece.section) (range_with_len 0 l.i))

@@ -1,0 +1,48 @@
+-- What a layout of debug data as the code has it is of.
+use Rattle.std.specs.Prelude.{◌≡◌, ◌%◌, ◌^◌, Some}
+use Rattle.std.specs.List.{slice_get}
+use Rattle.elf_model.specs.Loading.{LoadedObject}
+use Rattle.elf_model.specs.OwnLayout.{own_got}
+use Rattle.elf_model.specs.Pieces.{AreLawfulKinds}
+use Rattle.elf_model.specs.Placement.{Placed, got_start}
+use Rattle.elf_model.specs.Relocation.{Relocation, relocation_of}
+use Rattle.elf_model.specs.Slots.{slots}
+use Rattle.elf_model.specs.declared.records.Rela.{Rela}
+use Rattle.layout.specs.PlaceViews.{place_view}
+use Rattle.layout.specs.Placements.{Basis}
+use Rattle.relocate.specs.Values.{pointer_in, where_in}
+use Rattle.search.specs.Views.{loaded_view, loaded_views}
+use Rattle.debug_image.specs.DebugValues.{Data}
+use Rattle.debug_image.specs.DebugViews.{row_views}
+use Rattle.debug_image.specs.Symbols.{thread_start_of}
+use Rattle.debug_image.specs.declared.debug_values.DataLayout.{DataLayout}
+use Rattle.debug_image.specs.declared.debug_values.Here.{Here}
+
+abbrev pub basis_of : DataLayout → Basis
+basis_of l = l.placement.now
+
+abbrev pub data_in : DataLayout → Data
+data_in l = record { base = (basis_of l).base; objects = (basis_of l).objects; rows = row_views l.rows.now }
+
+-- all is of the objects that are laid out, of lawful kinds
+pub record IsDataLayout (l : DataLayout) : Type 0 where
+  pub objects : (basis_of l).objects ≡ loaded_views l.objects.now
+  pub resolved : l.resolved.now ≡ (basis_of l).objects
+  pub kinds : AreLawfulKinds (basis_of l).objects
+  pub slots : l.slots.now.slots ≡ slots (basis_of l).objects
+  pub pointer : l.pointer ≡ pointer_in (where_in (basis_of l))
+  pub threads : l.thread_start ≡ thread_start_of (basis_of l).base (basis_of l).objects
+  pub got : l.got ≡ got_start (where_in (basis_of l)).got % 2 ^ 64
+
+-- a section that is relocated, and its object
+abbrev pub object_here : Here → LoadedObject
+object_here h = loaded_view h.loaded.now
+
+abbrev pub placed_here : Here → Placed
+placed_here h = place_view h.place.now
+
+abbrev pub IsHere : DataLayout → Here → Type 0
+IsHere l h = slice_get (basis_of l).objects h.place.now.piece.object ≡ Some (object_here h)
+
+abbrev pub relocation_here : Here → Rela → Relocation
+relocation_here h r = relocation_of h.place.now.piece.object (object_here h) h.place.now.piece.section r

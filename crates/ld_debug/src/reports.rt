@@ -1,0 +1,71 @@
+//! The lines that tell which debug data aren't in an image as they should be.
+ghost use Rattle.debug_image.specs.DebugLayouts.{IsDataLayout};
+
+use debug_image::{DataLayout, compressed, unrelocated};
+use elf_model::{InputFile, SectionRef};
+use input_names::{write_name, write_object};
+use search::LoadedObject;
+use std::alloc::{AllocError, Global};
+use std::io;
+use std::io::Write;
+
+/// Writes the name of an object, and that of a section of it.
+fn write_place<E: Write>(
+    err: &mut E,
+    files: &[InputFile],
+    loaded: &LoadedObject<'_>,
+    section: u64,
+) -> io::Result<()> {
+    err.write_all(b"ld: ")?;
+    write_object(err, files, loaded.path, loaded.offset)?;
+    err.write_all(b": ")?;
+    match loaded.object.section_name(section as usize) {
+        Some(name) => write_name(err, name),
+        None => Ok(()),
+    }
+}
+
+/// Prints a line for each of some sections.
+fn print_lines<E: Write>(
+    err: &mut E,
+    files: &[InputFile],
+    objects: &[LoadedObject<'_>],
+    sections: &[SectionRef],
+    line: &str,
+) -> io::Result<()> {
+    for section in sections {
+        if let Some(loaded) = objects.get(section.object.0 as usize) {
+            write_place(err, files, loaded, section.section)?;
+            writeln!(err, ": {line}")?;
+        }
+    }
+    Ok(())
+}
+
+/// Prints a line for each section of debug data that is left out, as it is compressed, or has entries that can't be relocated.
+pub fn print_reports<E: Write>(
+    alloc: Global,
+    err: &mut E,
+    files: &[InputFile],
+    layout: &DataLayout<'_, '_>,
+) -> Result<(), AllocError>
+    requires { IsDataLayout layout.now }
+{
+    let left = compressed(alloc, layout.objects)?;
+    let _ = print_lines(
+        err,
+        files,
+        layout.objects,
+        &left,
+        "compressed debug data are left out; compile with -gz=none",
+    );
+    let bare = unrelocated(alloc, layout)?;
+    let _ = print_lines(
+        err,
+        files,
+        layout.objects,
+        &bare,
+        "some relocations of debug data can't be done; the bytes are left as they are",
+    );
+    Ok(())
+}
