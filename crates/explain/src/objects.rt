@@ -117,14 +117,14 @@ pub fn object_at<'l, 'a>(loaded: &'l Loaded<'a>, k: usize) -> Option<&'l LoadedO
 pub fn header_at(one: &LoadedObject<'_>, i: usize) -> Option<SectionHeader>
     ensures { IfSome result (λ h. slice_get (sections (loaded_view one.now).bytes) i ≡ Some h) }
 {
-    one.object.sections().get(i).copied()
+    one.object.sections().get(i)
 }
 
 /// The entry of symbol `j` of an object.
 pub fn symbol_at(one: &LoadedObject<'_>, j: usize) -> Option<Symbol>
     ensures { IfSome result (λ s. slice_get (symbols (loaded_view one.now).bytes) j ≡ Some s) }
 {
-    one.object.symbols().get(j).copied()
+    one.object.symbols().get(j)
 }
 
 /// Entry `e` of RELA section `i`, which has the header, of an object.

@@ -34,8 +34,10 @@ pub fn write_function<W: Write>(
     section: u64,
     offset: u64,
 ) -> io::Result<()> {
-    for (j, symbol) in object.symbols().iter().enumerate() {
-        if covers(symbol, section, offset) {
+    let symbols = object.symbols();
+    for j in 0..symbols.len() {
+        let symbol = symbols.at(j);
+        if covers(&symbol, section, offset) {
             out.write_all(b" in ")?;
             return write_name(out, object.symbol_name(j));
         }

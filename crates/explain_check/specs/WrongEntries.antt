@@ -4,7 +4,7 @@ use Rattle.std.specs.List.{slice_get}
 use Rattle.elf_model.specs.Relocation.{IsMismatch, Kind}
 use Rattle.elf_model.specs.declared.records.Rela.{Rela}
 use Rattle.check_load.specs.Views.{loaded_view}
-use Rattle.check_relocs.specs.Bindings.{AreTargets, Bound}
+use Rattle.check_relocs.specs.Bindings.{Bound}
 use Rattle.check_relocs.specs.LawfulFields.{refers_to_dropped}
 use Rattle.check_relocs.specs.declared.lawful_fields.Relocated.{Relocated}
 use Rattle.check_relocs.specs.declared.targets.Target.{Target}
@@ -23,4 +23,3 @@ IsWrongWith kind t to e fault.MixedSection = t.mixed ≡ true
 -- an object has its number among the bound ones, and its symbols mean the targets
 pub record IsReferrer (b : Bound) (r : Referrer) : Type 0 where
   pub object : slice_get b.objects r.number ≡ Some (loaded_view r.one.now)
-  pub targets : AreTargets b r.number (loaded_view r.one.now) r.targets.now

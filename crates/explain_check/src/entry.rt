@@ -17,7 +17,8 @@ use std::alloc::AllocError;
 
 /// The chosen definition of the entry's name, where it stands in no section with SHF_TLS.
 fn lawful_entry<'a>(bindings: &Bindings<'_, '_, 'a>, name: &[u8]) -> Option<SymbolOf<'a>>
-    ensures some { IfSome result (λ s. chosen bindings.now.objects name.now ≡ Some (symbol_view s)) }
+    ensures some { IfSome result (λ s. chosen bindings.now.objects name.now
+        ≡ Some (symbol_view s)) }
     ensures lawful { IfSome result (λ _. IsEntry bindings.now.objects name.now) }
     ensures none { IfNone result (¬ IsEntry bindings.now.objects name.now) }
 {

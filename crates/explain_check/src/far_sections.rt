@@ -62,7 +62,8 @@ fn far_after<'a>(
     j: usize,
 ) -> Option<CheckPlace<'a>>
     requires sections { placed_views sections.now ≡ ordered_sections placed.now }
-    requires next { IfSome last (λ i. (d : placement.Placed) → IsNext (ordered_sections placed.now) i j d) }
+    requires next { IfSome last (λ i. (d : placement.Placed) →
+        IsNext (ordered_sections placed.now) i j d) }
     ensures { IfSome result (FailsIn placed.now) }
 {
     match last {

@@ -28,7 +28,9 @@ impl<'a> Found<'a> {
 
     /// Takes in a place: keeps it, or counts it where as many are kept as may be.
     pub fn add(&mut self, place: CheckPlace<'a>) -> Result<(), AllocError>
-        ensures { (s : Subject) → AreFailures s self.old.places.items → FailsIn s place.entry → OnOk result (AreFailures s self.new.places.items) }
+        ensures { (s : Subject) →
+            AreFailures s self.old.places.items → FailsIn s place.entry
+            → OnOk result (AreFailures s self.new.places.items) }
     {
         if self.places.len() >= self.most {
             self.more = self.more.saturating_add(1);
@@ -40,7 +42,9 @@ impl<'a> Found<'a> {
 
     /// Takes in a place, where there is one.
     pub fn add_some(&mut self, place: Option<CheckPlace<'a>>) -> Result<(), AllocError>
-        ensures { (s : Subject) → AreFailures s self.old.places.items → IfSome place.entry (FailsIn s) → OnOk result (AreFailures s self.new.places.items) }
+        ensures { (s : Subject) →
+            AreFailures s self.old.places.items → IfSome place.entry (FailsIn s) →
+            OnOk result (AreFailures s self.new.places.items) }
     {
         match place {
             Some(place) => self.add(place),

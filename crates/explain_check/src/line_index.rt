@@ -14,7 +14,11 @@ fn add_line<'m>(
     index: &mut BTreeMap<&'m [u8], &'m SymbolLine>,
     line: &'m SymbolLine,
 ) -> Result<(), AllocError>
-    ensures { OnOk result ((name : List ℕ) → symbol_in index.new name ≡ option_or (symbol_in index.old name) (cond (is_symbol_row_of name (symbol_row line.entry.now)) (Some (symbol_row line.entry.now)) None)) }
+    ensures { OnOk result ((name : List ℕ) →
+        symbol_in index.new name
+        ≡ option_or (symbol_in index.old name)
+        (cond (is_symbol_row_of name (symbol_row line.entry.now))
+        (Some (symbol_row line.entry.now)) None)) }
 {
     let name = line.name.as_slice();
     if !index.contains_key(name) {

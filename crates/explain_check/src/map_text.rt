@@ -68,7 +68,7 @@ fn write_line<W: Write>(
 
 fn definition_of(symbol: &SymbolOf<'_>) -> Definition {
     let (object, number) = (symbol.object, symbol.number);
-    if symbol.entry.st_info / 16 == STB_WEAK {
+    if symbol.entry.binding() == STB_WEAK {
         Definition::Weak {
             object,
             symbol: number,

@@ -73,7 +73,8 @@ pub fn parts_of<'a>(alloc: Global, placed: &PlacedLink<'_, 'a>) -> Result<Vec<Pa
 
 /// The thread-local sections among the placed pieces.
 fn threads_of<'a>(alloc: Global, placed: &[Placed<'a>]) -> Result<Vec<Placed<'a>>, AllocError>
-    ensures { IfOk result (λ v. placed_views v.items ≡ filter is_thread_place (placed_views placed.now)) }
+    ensures { IfOk result (λ v. placed_views v.items
+        ≡ filter is_thread_place (placed_views placed.now)) }
 {
     let mut threads = Vec::new(alloc);
     for q in placed {
@@ -86,7 +87,8 @@ fn threads_of<'a>(alloc: Global, placed: &[Placed<'a>]) -> Result<Vec<Placed<'a>
 
 /// A thread-local section, which has a number among these, as a part.
 fn thread_part<'a>(placed: &PlacedLink<'_, 'a>, k: usize, thread: &Placed<'a>) -> Part<'a>
-    requires { slice_get (filter is_thread_place (placed_of placed.now)) k ≡ Some (placed_view thread.now) }
+    requires { slice_get (filter is_thread_place (placed_of placed.now)) k
+        ≡ Some (placed_view thread.now) }
     ensures { IsPart placed.now result }
 {
     let _placed = placed;

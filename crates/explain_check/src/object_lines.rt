@@ -25,7 +25,8 @@ fn loaded_at<'l, 'a>(objects: &'l [Loaded<'a>], k: usize) -> Option<&'l Loaded<'
 
 /// What an object line says of an object.
 fn told_of<'a>(one: Option<&Loaded<'a>>) -> Option<ObjectAt<'a>>
-    ensures { (k : ℕ) → option_map (row_of k) (option_map borrowed_view one.entry) ≡ option_map (row_at k) result }
+    ensures { (k : ℕ) → option_map (row_of k) (option_map borrowed_view one.entry)
+        ≡ option_map (row_at k) result }
 {
     match one {
         Some(one) => Some(ObjectAt {
@@ -39,7 +40,8 @@ fn told_of<'a>(one: Option<&Loaded<'a>>) -> Option<ObjectAt<'a>>
 
 /// What an object line says of the loaded object that has a number.
 fn object_at<'a>(objects: &[Loaded<'a>], k: usize) -> Option<ObjectAt<'a>>
-    ensures { slice_get (object_rows 0 (loaded_views objects.now)) k ≡ option_map (row_at k) result }
+    ensures { slice_get (object_rows 0 (loaded_views objects.now)) k
+        ≡ option_map (row_at k) result }
 {
     told_of(loaded_at(objects, k))
 }
@@ -56,7 +58,8 @@ fn is_line_of(line: &ObjectLine, number: u64, object: &ObjectAt<'_>) -> bool
 
 /// Whether a line, if there is one, says of object `number`, if there is one, what is loaded.
 fn agree(line: Option<&ObjectLine>, number: u64, object: Option<ObjectAt<'_>>) -> bool
-    ensures { IsTrue result ↔ (option_map object_line_view line.entry ≡ option_map (row_at number) object.entry) }
+    ensures { IsTrue result ↔ (option_map object_line_view line.entry
+        ≡ option_map (row_at number) object.entry) }
 {
     match (line, object) {
         (Some(line), Some(object)) => is_line_of(line, number, &object),

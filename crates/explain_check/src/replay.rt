@@ -92,7 +92,7 @@ fn add_named<'a>(
     let link = placed.link();
     let got = link.map.got;
     let outputs = Outputs::new(alloc, placed.pieces())?;
-    let slots = SlotTable::new(alloc, &link.map.slots)?;
+    let slots = SlotTable::new(alloc, &link.map.slots, placed.names().seed())?;
     let places = Places::new(alloc, base_of(&link.plan), placed.placed(), got, &slots)?;
     let bindings = Bindings::new(placed.names(), &outputs, &places);
     add_bound(alloc, found, &BoundLink::new(placed, &slots, bindings))
@@ -226,7 +226,10 @@ pub fn explain_check<'a>(
     most: usize,
 ) -> Result<Found<'a>, AllocError>
     ensures fails { IfOk result (λ f. AreFailures link.entry.now f.places.items) }
-    ensures read { (words : List (List ℕ)) (bytes : List ℕ) → IsRead words bytes link.entry.now → IfOk result (λ f. All (FailsAt link.entry.now.files words link.entry.now.image bytes) f.places.items) }
+    ensures read { (words : List (List ℕ)) (bytes : List ℕ) →
+        IsRead words bytes link.entry.now
+        → IfOk result (λ f.
+        All (FailsAt link.entry.now.files words link.entry.now.image bytes) f.places.items) }
 {
     let mut found = Found::new(alloc, most);
     add_failures(alloc, &mut found, link)?;

@@ -39,7 +39,8 @@ fn lies(memory: &Memory<'_>, thing: &Thing) -> bool
 
 /// The segment that a thing lies whole in; None of an empty one.
 fn segment_of(memory: &Memory<'_>, thing: &Thing) -> Option<ProgramHeader>
-    ensures { IfSome result (λ h. Contains (loads memory.now) h × Encloses h thing.now.at thing.now.size) }
+    ensures { IfSome result (λ h. Contains (loads memory.now) h
+        × Encloses h thing.now.at thing.now.size) }
 {
     if thing.size == 0 {
         return None;

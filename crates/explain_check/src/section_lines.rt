@@ -73,7 +73,8 @@ pub fn add_drop_lines<'a>(
 
 /// Whether a place line, if there is one, says of a section, if there is one, what it is.
 fn agree(line: Option<&PlaceLine>, piece: &Option<Piece<'_>>) -> bool
-    ensures { IsTrue result ↔ (option_map facts_of_row (option_map place_line_view line.entry) ≡ option_map facts_of_piece (option_map piece_view piece.now)) }
+    ensures { IsTrue result ↔ (option_map facts_of_row (option_map place_line_view line.entry)
+        ≡ option_map facts_of_piece (option_map piece_view piece.now)) }
 {
     match (line, piece) {
         (Some(line), Some(piece)) => is_line_of(line, piece),

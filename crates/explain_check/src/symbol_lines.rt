@@ -52,7 +52,8 @@ fn listed_meaning<'a>(
 /// What a name means, with its value.
 pub fn valued<'a>(bindings: &Bindings<'_, '_, 'a>, meaning: Meaning<'a>) -> MeaningPlace<'a>
     ensures meaning { result.meaning ≡ meaning.entry }
-    ensures value { result.value ≡ meaning_value bindings.now.places (meaning_view meaning.entry) % 2 ^ 64 }
+    ensures value { result.value ≡ meaning_value bindings.now.places
+        (meaning_view meaning.entry) % 2 ^ 64 }
 {
     let value = bindings.value_of(&meaning);
     MeaningPlace { meaning, value }

@@ -71,7 +71,8 @@ fn add_header(out: &mut Vec<u8>, header: &SectionHeader) -> Result<(), AllocErro
 
 /// Adds section headers, one after the other.
 fn add_headers(out: &mut Vec<u8>, headers: &[SectionHeader]) -> Result<(), AllocError>
-    ensures { OnOk result (out.new.items ≡ out.old.items ++ flat_map section_header_bytes headers.now) }
+    ensures { OnOk result (out.new.items
+        ≡ out.old.items ++ flat_map section_header_bytes headers.now) }
 {
     for header in headers {
         add_header(out, header)?;
@@ -85,9 +86,12 @@ fn add_entry<'a>(
     entry: &Symbol,
     name: &'a [u8],
 ) -> Result<(), AllocError>
-    ensures symbols { OnOk result (table.new.symbols.items ≡ table.old.symbols.items ++ symbol_bytes entry.now) }
-    ensures strings { OnOk result (table.new.strings.items ≡ table.old.strings.items ++ ended name.entry.now) }
-    ensures names { OnOk result (map held table.new.names.items ≡ map held table.old.names.items ++ (name.entry.now ∷ [])) }
+    ensures symbols { OnOk result (table.new.symbols.items
+        ≡ table.old.symbols.items ++ symbol_bytes entry.now) }
+    ensures strings { OnOk result (table.new.strings.items
+        ≡ table.old.strings.items ++ ended name.entry.now) }
+    ensures names { OnOk result (map held table.new.names.items
+        ≡ map held table.old.names.items ++ (name.entry.now ∷ [])) }
 {
     add_symbol(&mut table.symbols, entry)?;
     add_name(&mut table.strings, name)?;
@@ -103,7 +107,8 @@ fn add_line<'a>(
 ) -> Result<(), AllocError>
     requires line { IsLine bindings.now.objects bindings.now.places (symbol_row line.now) }
     requires short { length table.old.strings.items < 2 ^ 32 }
-    ensures { OnOk result (HasAdded bindings.now.places table.old table.new (tabled bindings.now.objects (symbol_row line.entry.now ∷ []))) }
+    ensures { OnOk result (HasAdded bindings.now.places table.old table.new
+        (tabled bindings.now.objects (symbol_row line.entry.now ∷ []))) }
 {
     let name_at = table.strings.len() as u32;
     match entry_of_line(bindings, line, name_at) {
@@ -145,8 +150,12 @@ pub fn table_of<'a>(
     bindings: &Bindings<'_, '_, 'a>,
     lines: &'a [SymbolLine],
 ) -> Result<Option<TableBytes<'a>>, AllocError>
-    requires { All (λ line. IsLine bindings.now.objects bindings.now.places (symbol_row line)) lines.now }
-    ensures { IfOk result (λ o. IfSome o (λ t. AreBuilt bindings.now.places t [] (tabled bindings.now.objects (map symbol_row lines.entry.now)))) }
+    requires { All (λ line. IsLine bindings.now.objects bindings.now.places
+        (symbol_row line)) lines.now }
+    ensures { IfOk result (λ o.
+        IfSome o (λ t.
+        AreBuilt bindings.now.places t []
+        (tabled bindings.now.objects (map symbol_row lines.entry.now)))) }
 {
     let mut table = first_entry(alloc)?;
     for line in lines {
@@ -177,7 +186,9 @@ pub fn tail_bytes(
 ) -> Result<Vec<u8>, AllocError>
     requires padded { places.now.headers ≡ round_up 8 places.now.shstrtab_end }
     requires symtab { places.now.symtab ≡ round_up 8 end }
-    ensures { IfOk result (λ v. v.items ≡ replicate (places.now.symtab - end) 0 ++ (table.now.symbols.items ++ (table.now.strings.items ++ end_bytes places.now))) }
+    ensures { IfOk result (λ v. v.items
+        ≡ replicate (places.now.symtab - end) 0
+        ++ (table.now.symbols.items ++ (table.now.strings.items ++ end_bytes places.now))) }
 {
     let mut out = Vec::new(alloc);
     add_zeros(&mut out, (places.symtab - end) as usize)?;

@@ -181,7 +181,8 @@ fn wrong_byte<'a>(
 
 /// How many entries a table has.
 fn entry_count(table: &TableBytes<'_>) -> u64
-    ensures { (w : Where) (ms : List Meaning) → AreBuilt w table.now [] ms → result ≡ symbol_table.entry_count ms }
+    ensures { (w : Where) (ms : List Meaning) →
+        AreBuilt w table.now [] ms → result ≡ symbol_table.entry_count ms }
 {
     (table.symbols.len() / SYM_SIZE) as u64
 }
@@ -287,7 +288,8 @@ fn wanted_table<'a>(
     bound: &BoundLink<'_, 'a>,
 ) -> Result<Option<TableBytes<'a>>, AllocError>
     requires { HoldsBefore clause.C14 bound.now }
-    ensures { IfOk result (λ o. IfSome o (λ t. AreBuilt (where_of bound.now) t [] (tabled_of bound.now))) }
+    ensures { IfOk result (λ o.
+        IfSome o (λ t. AreBuilt (where_of bound.now) t [] (tabled_of bound.now))) }
 {
     let link = bound.link();
     let table = table_of(alloc, bound.bindings(), &link.map.symbols)?;

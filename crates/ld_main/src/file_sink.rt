@@ -31,7 +31,8 @@ const RUN: usize = 262_144;
 /// has taken none.
 fn write_some<F: Write>(file: &mut F, bytes: &[u8]) -> Result<usize, SinkFault>
     ensures count { IfOk result (λ n. (0 < n) × (n ≤ length bytes.now)) }
-    ensures written { IfOk result (λ n. Appends (F.contents file.old) (F.contents file.new) (take n bytes.now)) }
+    ensures written { IfOk result (λ n.
+        Appends (F.contents file.old) (F.contents file.new) (take n bytes.now)) }
     ensures refused { OnErr result (Keeps (F.contents file.old) (F.contents file.new)) }
 {
     'tries: for _ in 0..TRIES {
@@ -58,7 +59,8 @@ fn write_before_zeros<F: Write>(
     requires some { 0 < length bytes.now }
     requires further { 0 < first }
     ensures count { IfOk result (λ n. (0 < n) × (n ≤ length bytes.now)) }
-    ensures written { IfOk result (λ n. Appends (F.contents file.old) (F.contents file.new) (take n bytes.now)) }
+    ensures written { IfOk result (λ n.
+        Appends (F.contents file.old) (F.contents file.new) (take n bytes.now)) }
     ensures refused { OnErr result (Keeps (F.contents file.old) (F.contents file.new)) }
 {
     let (run, _) = bytes.split_at(bytes.len().min(RUN));
@@ -69,7 +71,8 @@ fn write_before_zeros<F: Write>(
 /// Passes over zeros.
 fn pass<F: SparseWrite>(file: &mut F, zeros: usize) -> Result<usize, SinkFault>
     ensures count { IfOk result (λ n. n ≡ zeros) }
-    ensures written { IfOk result (λ n. Appends (F.contents file.old) (F.contents file.new) (replicate n 0)) }
+    ensures written { IfOk result (λ n.
+        Appends (F.contents file.old) (F.contents file.new) (replicate n 0)) }
     ensures refused { OnErr result (Keeps (F.contents file.old) (F.contents file.new)) }
 {
     match file.skip(zeros as u64) {
@@ -101,7 +104,8 @@ fn put_sparse<F: SparseWrite>(
     requires some { 0 < length bytes.now }
     requires inside { within < PAGE }
     ensures count { IfOk result (λ t. (0 < t.0) × (t.0 ≤ length bytes.now)) }
-    ensures written { IfOk result (λ t. Appends (F.contents file.old) (F.contents file.new) (take t.0 bytes.now)) }
+    ensures written { IfOk result (λ t.
+        Appends (F.contents file.old) (F.contents file.new) (take t.0 bytes.now)) }
     ensures refused { OnErr result (Keeps (F.contents file.old) (F.contents file.new)) }
 {
     let zeros = zeros_to_pass(bytes, within);
@@ -123,7 +127,8 @@ fn put_some<F: SparseWrite>(
 ) -> Result<(usize, bool), SinkFault>
     requires some { 0 < length bytes.now }
     ensures count { IfOk result (λ t. (0 < t.0) × (t.0 ≤ length bytes.now)) }
-    ensures written { IfOk result (λ t. Appends (F.contents file.old) (F.contents file.new) (take t.0 bytes.now)) }
+    ensures written { IfOk result (λ t.
+        Appends (F.contents file.old) (F.contents file.new) (take t.0 bytes.now)) }
     ensures refused { OnErr result (Keeps (F.contents file.old) (F.contents file.new)) }
 {
     if sparse {
@@ -176,8 +181,10 @@ impl<F: SparseWrite + Drop> Sink for FileSink<F> {
         requires some { 0 < length bytes.now }
         requires whole { self.old.failures ≡ 0 }
         ensures count { IfOk result (λ n. (0 < n) × (n ≤ length bytes.now)) }
-        ensures written { IfOk result (λ n. Appends (F.contents self.old.file) (F.contents self.new.file) (take n bytes.now)) }
-        ensures refused { OnErr result (Keeps (F.contents self.old.file) (F.contents self.new.file)) }
+        ensures written { IfOk result (λ n.
+            Appends (F.contents self.old.file) (F.contents self.new.file) (take n bytes.now)) }
+        ensures refused { OnErr result (Keeps (F.contents self.old.file)
+            (F.contents self.new.file)) }
         ensures kept { OnOk result (self.new.failures ≡ 0) }
         ensures failure { OnErr result (self.new.failures ≡ self.old.failures + 1) }
     {

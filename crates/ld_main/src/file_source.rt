@@ -64,7 +64,8 @@ pub trait FileSource {
     /// called again after that.
     fn fetch(&mut self, path: &str) -> Result<Option<Vec<u8>>, FetchFault>
         requires { failed self.old ≡ 0 }
-        ensures answer { IfOk result (λ f. Answers (files self.old) path.now (option_map (λ v. v.items) f)) }
+        ensures answer { IfOk result (λ f.
+            Answers (files self.old) path.now (option_map (λ v. v.items) f)) }
         ensures same { files self.new ≡ files self.old }
         ensures kept { OnOk result (failed self.new ≡ failed self.old) }
         ensures fault { IfErr result (λ f. FetchFails f (failed self.old) (failed self.new)) };
@@ -81,10 +82,12 @@ fn add_file<F: FileSource>(
     found: &mut Vec<InputFile>,
 ) -> Result<(), GatherFault>
     requires { F.failed source.old ≡ 0 }
-    ensures added { OnOk result (AddsFile (F.files source.old) (string_bytes name) (files_of found.old.items) (files_of found.new.items)) }
+    ensures added { OnOk result (AddsFile (F.files source.old) (string_bytes name)
+        (files_of found.old.items) (files_of found.new.items)) }
     ensures same { F.files source.new ≡ F.files source.old }
     ensures kept { OnOk result (F.failed source.new ≡ F.failed source.old) }
-    ensures fault { IfErr result (λ f. AddFails (string_bytes name) f (F.failed source.old) (F.failed source.new)) }
+    ensures fault { IfErr result (λ f.
+        AddFails (string_bytes name) f (F.failed source.old) (F.failed source.new)) }
 {
     match source.fetch(name.as_str()) {
         Ok(Some(bytes)) => {
@@ -104,10 +107,12 @@ fn gather_paths<F: FileSource>(
     source: &mut F,
 ) -> Result<Vec<InputFile>, GatherFault>
     requires { F.failed source.old ≡ 0 }
-    ensures files { IfOk result (λ v. AreGathered (F.files source.old) (words_of paths.items) (files_of v.items)) }
+    ensures files { IfOk result (λ v.
+        AreGathered (F.files source.old) (words_of paths.items) (files_of v.items)) }
     ensures same { F.files source.new ≡ F.files source.old }
     ensures kept { OnOk result (F.failed source.new ≡ F.failed source.old) }
-    ensures fault { IfErr result (λ f. GatherFails (words_of paths.items) f (F.failed source.old) (F.failed source.new)) }
+    ensures fault { IfErr result (λ f.
+        GatherFails (words_of paths.items) f (F.failed source.old) (F.failed source.new)) }
 {
     let mut found = Vec::new(alloc);
     for name in paths {
@@ -128,10 +133,12 @@ pub fn gather<F: FileSource>(
     source: &mut F,
 ) -> Result<Vec<InputFile>, GatherFault>
     requires { F.failed source.old ≡ 0 }
-    ensures files { IfOk result (λ v. AreGathered (F.files source.old) (candidates_of plan.now) (files_of v.items)) }
+    ensures files { IfOk result (λ v.
+        AreGathered (F.files source.old) (candidates_of plan.now) (files_of v.items)) }
     ensures same { F.files source.new ≡ F.files source.old }
     ensures kept { OnOk result (F.failed source.new ≡ F.failed source.old) }
-    ensures fault { IfErr result (λ f. GatherFails (candidates_of plan.now) f (F.failed source.old) (F.failed source.new)) }
+    ensures fault { IfErr result (λ f.
+        GatherFails (candidates_of plan.now) f (F.failed source.old) (F.failed source.new)) }
 {
     let Ok(paths) = candidates(alloc, plan) else {
         return Err(GatherFault::Memory);

@@ -28,7 +28,8 @@ fn meant<'a>(resolved: &Resolved<'a>, symbol: &SymbolOf<'a>) -> Definition<'a>
 
 /// The definition of a name of the linker's by its number; an empty name behind the last.
 fn linker_at<'a>(linkers: &[(&'a [u8], Bound)], i: usize) -> Definition<'a>
-    ensures { meaning_view result ≡ slice_index_or (line_views linkers.now) i (Linker [] ImageStart) }
+    ensures { meaning_view result
+        ≡ slice_index_or (line_views linkers.now) i (Linker [] ImageStart) }
 {
     match linkers.get(i) {
         Some((name, bound)) => Definition::Linker(name, *bound),
@@ -38,7 +39,9 @@ fn linker_at<'a>(linkers: &[(&'a [u8], Bound)], i: usize) -> Definition<'a>
 
 /// What has its name at a place.
 fn definition_at<'a>(resolved: &Resolved<'a>, names: Names<'_, 'a>, place: usize) -> Definition<'a>
-    ensures { meaning_view result ≡ meaning_at resolved.now names.entry.symbols.now (line_views names.entry.linkers.now) place }
+    ensures { meaning_view result
+        ≡ meaning_at resolved.now names.entry.symbols.now
+        (line_views names.entry.linkers.now) place }
 {
     let count = names.symbols.len();
     if place < count {
@@ -99,7 +102,10 @@ impl<'c, 'a> InOrder<'c, 'a> {
         listed: &mut Vec<Definition<'a>>,
         keys: &[Keyed],
     ) -> Result<(), AllocError>
-        ensures { OnOk result (meaning_views listed.new.items ≡ meaning_views listed.old.items ++ meanings_at self.now.resolved.now self.now.names.symbols.now (line_views self.now.names.linkers.now) keys.now) }
+        ensures { OnOk result (meaning_views listed.new.items
+            ≡ meaning_views listed.old.items
+            ++ meanings_at self.now.resolved.now self.now.names.symbols.now
+            (line_views self.now.names.linkers.now) keys.now) }
     {
         for key in keys {
             listed.push(definition_at(self.resolved, self.names, key.place))?;

@@ -142,7 +142,8 @@ impl<'a> NewFile<'a> {
         path: &'a str,
     ) -> Result<(R::File, NewFile<'a>), WriteFault>
         ensures path { IfOk result (λ f. f.1.path.now ≡ path.entry.now) }
-        ensures beside { IfOk result (λ f. IfSome f.1.beside (λ p. IsBeside path.entry.now (path_buf_bytes p))) }
+        ensures beside { IfOk result (λ f.
+            IfSome f.1.beside (λ p. IsBeside path.entry.now (path_buf_bytes p))) }
     {
         if is_written_in_place(rt, path) {
             return match File::create(rt, path) {
@@ -174,7 +175,8 @@ impl<'a> NewFile<'a> {
     ) -> Result<NewFile<'a>, WriteFault>
         requires { IsOfLink content }
         ensures path { IfOk result (λ f. f.path.now ≡ path.entry.now) }
-        ensures beside { IfOk result (λ f. IfSome f.beside (λ p. IsBeside path.entry.now (path_buf_bytes p))) }
+        ensures beside { IfOk result (λ f.
+            IfSome f.beside (λ p. IsBeside path.entry.now (path_buf_bytes p))) }
     {
         let (file, output) = NewFile::open(rt, path)?;
         match fill(rt.alloc(), file, content, output.is_new()) {

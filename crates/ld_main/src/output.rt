@@ -25,8 +25,10 @@ pub struct Output {
 ///
 /// As `prepare`: a fault of the first phase that has one, or Memory.
 pub fn link(alloc: Global, files: &[InputFile], words: &[String]) -> Result<Output, LinkError>
-    ensures right { IfOk result (λ o. IsRightLink (files_of files.now) (words_of words.now) o.image.items o.map.items) }
-    ensures own { IfOk result (λ o. IsOwnLink (files_of files.now) (words_of words.now) o.image.items o.map.items) }
+    ensures right { IfOk result (λ o.
+        IsRightLink (files_of files.now) (words_of words.now) o.image.items o.map.items) }
+    ensures own { IfOk result (λ o.
+        IsOwnLink (files_of files.now) (words_of words.now) o.image.items o.map.items) }
     ensures cause { IfErr result (Cause (files_of files.now) (words_of words.now)) }
     ensures no_link { IfErr result (DeniesLinks (files_of files.now) (words_of words.now)) }
 {

@@ -38,7 +38,9 @@ pub fn own_definitions<'c, 'a>(
 ) -> Result<OwnDefinitions<'c, 'a>, AllocError>
     ensures order { IfOk result (λ d. AreInOrder linkage.now.objects (meanings_of d)) }
     ensures sound { OnOk result (AreSoundSymbols linkage.now.objects) }
-    ensures table { IfOk result (λ d. HasTable linkage.now.objects (own_end linkage.now.plan.base linkage.now.objects) (meanings_of d) linkage.now.plan.strip (table_with d)) }
+    ensures table { IfOk result (λ d.
+        HasTable linkage.now.objects (own_end linkage.now.plan.base linkage.now.objects)
+        (meanings_of d) linkage.now.plan.strip (table_with d)) }
 {
     let parts = linkage.parts();
     match &parts.listed {
@@ -69,7 +71,10 @@ fn put_found_commons(
     placement: &Placement<'_>,
     found: &InOrder<'_, '_>,
 ) -> Result<(), AllocError>
-    ensures { OnOk result (text.new.items ≡ text.old.items ++ flat_map map_text.common_text (own_commons placement.now.base placement.now.objects (meanings_in found.now))) }
+    ensures { OnOk result (text.new.items
+        ≡ text.old.items
+        ++ flat_map map_text.common_text
+        (own_commons placement.now.base placement.now.objects (meanings_in found.now))) }
 {
     if found.has_no_commons() {
         return Ok(());
@@ -94,8 +99,13 @@ fn put_found_symbols(
     found: &InOrder<'_, '_>,
 ) -> Result<(), AllocError>
     requires kinds { AreLawfulKinds placement.now.objects }
-    requires within { All (LiesWithin (own_in_load_order placement.now.base placement.now.objects)) (meanings_in found.now) }
-    ensures { OnOk result (text.new.items ≡ text.old.items ++ flat_map map_text.symbol_text (map (symbol_row_of (own_where placement.now.base placement.now.objects)) (meanings_in found.now))) }
+    requires within { All (LiesWithin (own_in_load_order placement.now.base placement.now.objects))
+        (meanings_in found.now) }
+    ensures { OnOk result (text.new.items
+        ≡ text.old.items
+        ++ flat_map map_text.symbol_text
+        (map (symbol_row_of (own_where placement.now.base placement.now.objects))
+        (meanings_in found.now))) }
 {
     let mut batch = Vec::with_capacity(alloc, BATCH)?;
     let mut rest = found.keys();
@@ -116,7 +126,10 @@ pub fn put_own_commons(
     placement: &Placement<'_>,
     definitions: &OwnDefinitions<'_, '_>,
 ) -> Result<(), AllocError>
-    ensures { OnOk result (text.new.items ≡ text.old.items ++ flat_map map_text.common_text (own_commons placement.now.base placement.now.objects (meanings_of definitions.now))) }
+    ensures { OnOk result (text.new.items
+        ≡ text.old.items
+        ++ flat_map map_text.common_text
+        (own_commons placement.now.base placement.now.objects (meanings_of definitions.now))) }
 {
     match definitions {
         OwnDefinitions::Listed(listed, _) => put_commons(text, placement, listed),
@@ -132,8 +145,13 @@ pub fn put_own_symbols(
     definitions: &OwnDefinitions<'_, '_>,
 ) -> Result<(), AllocError>
     requires kinds { AreLawfulKinds placement.now.objects }
-    requires within { All (LiesWithin (own_in_load_order placement.now.base placement.now.objects)) (meanings_of definitions.now) }
-    ensures { OnOk result (text.new.items ≡ text.old.items ++ flat_map map_text.symbol_text (map (symbol_row_of (own_where placement.now.base placement.now.objects)) (meanings_of definitions.now))) }
+    requires within { All (LiesWithin (own_in_load_order placement.now.base placement.now.objects))
+        (meanings_of definitions.now) }
+    ensures { OnOk result (text.new.items
+        ≡ text.old.items
+        ++ flat_map map_text.symbol_text
+        (map (symbol_row_of (own_where placement.now.base placement.now.objects))
+        (meanings_of definitions.now))) }
 {
     match definitions {
         OwnDefinitions::Listed(listed, _) => put_symbols(text, placement, listed),

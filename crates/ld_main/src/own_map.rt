@@ -37,7 +37,7 @@ fn definition_of(symbol: &SymbolOf<'_>) -> Told
     ensures { result ≡ definition_row (Symbol (symbol_view symbol.now)) }
 {
     let (object, number) = (symbol.object, symbol.number);
-    if symbol.entry.st_info / 16 == STB_WEAK {
+    if symbol.entry.binding() == STB_WEAK {
         return Told::Weak {
             object,
             symbol: number,
@@ -67,8 +67,11 @@ fn symbol_line(
     meaning: &Definition<'_>,
 ) -> Result<SymbolLine, AllocError>
     requires kinds { AreLawfulKinds placement.now.objects }
-    requires within { LiesWithin (own_in_load_order placement.now.base placement.now.objects) (meaning_view meaning.now) }
-    ensures { IfOk result (λ l. symbol_row l ≡ symbol_row_of (own_where placement.now.base placement.now.objects) (meaning_view meaning.now)) }
+    requires within { LiesWithin (own_in_load_order placement.now.base placement.now.objects)
+        (meaning_view meaning.now) }
+    ensures { IfOk result (λ l. symbol_row l
+        ≡ symbol_row_of (own_where placement.now.base placement.now.objects)
+        (meaning_view meaning.now)) }
 {
     Ok(SymbolLine {
         address: definition_value(placement, meaning),
@@ -84,8 +87,11 @@ fn symbol_lines(
     listed: &[Definition<'_>],
 ) -> Result<Vec<SymbolLine>, AllocError>
     requires kinds { AreLawfulKinds placement.now.objects }
-    requires within { All (λ m. LiesWithin (own_in_load_order placement.now.base placement.now.objects) (meaning_view m)) listed.now }
-    ensures { IfOk result (λ v. map symbol_row v.items ≡ map (symbol_row_of (own_where placement.now.base placement.now.objects)) (meaning_views listed.now)) }
+    requires within { All (λ m. LiesWithin
+        (own_in_load_order placement.now.base placement.now.objects) (meaning_view m)) listed.now }
+    ensures { IfOk result (λ v. map symbol_row v.items
+        ≡ map (symbol_row_of (own_where placement.now.base placement.now.objects))
+        (meaning_views listed.now)) }
 {
     let mut lines = Vec::with_capacity(alloc, listed.len())?;
     for meaning in listed {
@@ -123,11 +129,14 @@ fn add_drop_lines(
     number: u64,
     loaded: &LoadedObject<'_>,
 ) -> Result<(), AllocError>
-    ensures { OnOk result (lines.new.items ≡ lines.old.items ++ drops_from number (loaded_view loaded.now) 0 (sections loaded.now.object)) }
+    ensures { OnOk result (lines.new.items
+        ≡ lines.old.items
+        ++ drops_from number (loaded_view loaded.now) 0 (sections loaded.now.object)) }
 {
     let headers = loaded.object.sections();
-    for (i, header) in headers.iter().enumerate() {
-        if has_drop_line(loaded, i, header) {
+    for i in 0..headers.len() {
+        let header = headers.at(i);
+        if has_drop_line(loaded, i, &header) {
             lines.push(DropLine {
                 object: number,
                 section: i as u64,
@@ -150,7 +159,10 @@ fn drop_lines(alloc: Global, objects: &[LoadedObject<'_>]) -> Result<Vec<DropLin
 
 /// The address of a section of an object, 0 where it isn't kept.
 pub fn address_of(placement: &Placement<'_>, object: u64, section: usize) -> u64
-    ensures { result ≡ unwrap_or (option_map (λ q. q.at) (find (is_of_section object section) (own_placed placement.now.base placement.now.objects))) 0 }
+    ensures { result ≡ unwrap_or
+        (option_map (λ q. q.at)
+        (find (is_of_section object section)
+        (own_placed placement.now.base placement.now.objects))) 0 }
 {
     match placement.piece_address(SectionRef {
         object: ObjectId(object),
@@ -170,7 +182,8 @@ fn place_line(
     i: usize,
     header: &SectionHeader,
 ) -> Result<PlaceLine, AllocError>
-    ensures { IfOk result (λ l. place_row l ≡ own_row placement.now (piece_of number object.now i header.now)) }
+    ensures { IfOk result (λ l. place_row l
+        ≡ own_row placement.now (piece_of number object.now i header.now)) }
 {
     Ok(PlaceLine {
         address: address_of(placement, number, i),
@@ -189,12 +202,16 @@ fn add_place_lines(
     number: u64,
     loaded: &LoadedObject<'_>,
 ) -> Result<(), AllocError>
-    ensures { OnOk result (map place_row lines.new.items ≡ map place_row lines.old.items ++ map (own_row placement.now) (pieces_from number (loaded_view loaded.now) 0 (sections loaded.now.object))) }
+    ensures { OnOk result (map place_row lines.new.items
+        ≡ map place_row lines.old.items
+        ++ map (own_row placement.now)
+        (pieces_from number (loaded_view loaded.now) 0 (sections loaded.now.object))) }
 {
     let headers = loaded.object.sections();
-    for (i, header) in headers.iter().enumerate() {
-        if loaded.is_kept(i, header) {
-            lines.push(place_line(alloc, placement, number, &loaded.object, i, header)?)?;
+    for i in 0..headers.len() {
+        let header = headers.at(i);
+        if loaded.is_kept(i, &header) {
+            lines.push(place_line(alloc, placement, number, &loaded.object, i, &header)?)?;
         }
     }
     Ok(())
@@ -206,7 +223,8 @@ fn place_lines(
     placement: &Placement<'_>,
     objects: &[LoadedObject<'_>],
 ) -> Result<Vec<PlaceLine>, AllocError>
-    ensures { IfOk result (λ v. map place_row v.items ≡ map (own_row placement.now) (kept_sections (loaded_views objects.now))) }
+    ensures { IfOk result (λ v. map place_row v.items
+        ≡ map (own_row placement.now) (kept_sections (loaded_views objects.now))) }
 {
     let mut lines = Vec::with_capacity(alloc, placement.places().len())?;
     for (k, loaded) in objects.iter().enumerate() {
@@ -221,7 +239,8 @@ fn common_line(
     placement: &Placement<'_>,
     block: &Block<'_>,
 ) -> Result<CommonLine, AllocError>
-    ensures { IfOk result (λ l. common_row l ≡ common_row_of placement.now.base placement.now.objects (block_view block.now)) }
+    ensures { IfOk result (λ l. common_row l
+        ≡ common_row_of placement.now.base placement.now.objects (block_view block.now)) }
 {
     Ok(CommonLine {
         address: address_of(placement, block.object, block.number as usize),
@@ -237,7 +256,8 @@ fn common_lines(
     placement: &Placement<'_>,
     listed: &[Definition<'_>],
 ) -> Result<Vec<CommonLine>, AllocError>
-    ensures { IfOk result (λ v. map common_row v.items ≡ own_commons placement.now.base placement.now.objects (meaning_views listed.now)) }
+    ensures { IfOk result (λ v. map common_row v.items
+        ≡ own_commons placement.now.base placement.now.objects (meaning_views listed.now)) }
 {
     let mut lines = Vec::new(alloc);
     for meaning in listed {
@@ -269,13 +289,19 @@ pub fn map_of_layout(
     listed: &[Definition<'_>],
     table: Option<SymbolTable>,
 ) -> Result<LinkMap, AllocError>
-    requires same { placement.now ≡ record { base = loaded.now.plan.base; objects = loaded.now.objects } }
+    requires same { placement.now ≡ record {
+      base = loaded.now.plan.base;
+      objects = loaded.now.objects;
+    } }
     requires slots { slots.now ≡ own_table placement.now.objects }
     requires kinds { AreLawfulKinds placement.now.objects }
     requires fits { IsNotTooLarge placement.now.base placement.now.objects }
-    requires inside { All (λ m. LiesWithin (own_in_load_order placement.now.base placement.now.objects) (meaning_view m)) listed.now }
-    requires table { HasTable loaded.now.objects (own_end loaded.now.plan.base loaded.now.objects) (meaning_views listed.now) loaded.now.plan.strip table }
-    ensures { IfOk result (λ m. IsMapOf placement.now loaded.now.plan.strip (meaning_views listed.now) (map_of m)) }
+    requires inside { All (λ m. LiesWithin
+        (own_in_load_order placement.now.base placement.now.objects) (meaning_view m)) listed.now }
+    requires table { HasTable loaded.now.objects (own_end loaded.now.plan.base loaded.now.objects)
+        (meaning_views listed.now) loaded.now.plan.strip table }
+    ensures { IfOk result (λ m.
+        IsMapOf placement.now loaded.now.plan.strip (meaning_views listed.now) (map_of m)) }
 {
     let objects = loaded.objects();
     Ok(LinkMap {

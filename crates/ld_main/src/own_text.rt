@@ -31,7 +31,9 @@ use std::alloc::{AllocError, Global};
 
 /// The lines of loaded objects.
 fn put_objects(text: &mut Vec<u8>, objects: &[LoadedObject<'_>]) -> Result<(), AllocError>
-    ensures { OnOk result (text.new.items ≡ text.old.items ++ flat_map map_text.object_text (object_rows 0 (loaded_views objects.now))) }
+    ensures { OnOk result (text.new.items
+        ≡ text.old.items
+        ++ flat_map map_text.object_text (object_rows 0 (loaded_views objects.now))) }
 {
     for (k, loaded) in objects.iter().enumerate() {
         let line = Line::Object {
@@ -51,11 +53,15 @@ fn put_object_drops(
     number: u64,
     loaded: &LoadedObject<'_>,
 ) -> Result<(), AllocError>
-    ensures { OnOk result (text.new.items ≡ text.old.items ++ flat_map map_text.drop_text (drops_from number (loaded_view loaded.now) 0 (sections loaded.now.object))) }
+    ensures { OnOk result (text.new.items
+        ≡ text.old.items
+        ++ flat_map map_text.drop_text
+        (drops_from number (loaded_view loaded.now) 0 (sections loaded.now.object))) }
 {
     let headers = loaded.object.sections();
-    for (i, header) in headers.iter().enumerate() {
-        if has_drop_line(loaded, i, header) {
+    for i in 0..headers.len() {
+        let header = headers.at(i);
+        if has_drop_line(loaded, i, &header) {
             let line = DropLine {
                 object: number,
                 section: i as u64,
@@ -68,7 +74,8 @@ fn put_object_drops(
 
 /// The lines of all dropped sections, in load order.
 fn put_drops(text: &mut Vec<u8>, objects: &[LoadedObject<'_>]) -> Result<(), AllocError>
-    ensures { OnOk result (text.new.items ≡ text.old.items ++ flat_map map_text.drop_text (drop_rows 0 (loaded_views objects.now))) }
+    ensures { OnOk result (text.new.items
+        ≡ text.old.items ++ flat_map map_text.drop_text (drop_rows 0 (loaded_views objects.now))) }
 {
     for (k, loaded) in objects.iter().enumerate() {
         put_object_drops(text, k as u64, loaded)?;
@@ -83,11 +90,16 @@ fn put_object_places(
     number: u64,
     loaded: &LoadedObject<'_>,
 ) -> Result<(), AllocError>
-    ensures { OnOk result (text.new.items ≡ text.old.items ++ flat_map map_text.place_text (map (own_row placement.now) (pieces_from number (loaded_view loaded.now) 0 (sections loaded.now.object)))) }
+    ensures { OnOk result (text.new.items
+        ≡ text.old.items
+        ++ flat_map map_text.place_text
+        (map (own_row placement.now)
+        (pieces_from number (loaded_view loaded.now) 0 (sections loaded.now.object)))) }
 {
     let headers = loaded.object.sections();
-    for (i, header) in headers.iter().enumerate() {
-        if loaded.is_kept(i, header) {
+    for i in 0..headers.len() {
+        let header = headers.at(i);
+        if loaded.is_kept(i, &header) {
             let line = Line::Place {
                 address: address_of(placement, number, i),
                 size: header.sh_size,
@@ -107,7 +119,10 @@ fn put_places(
     placement: &Placement<'_>,
     objects: &[LoadedObject<'_>],
 ) -> Result<(), AllocError>
-    ensures { OnOk result (text.new.items ≡ text.old.items ++ flat_map map_text.place_text (map (own_row placement.now) (kept_sections (loaded_views objects.now)))) }
+    ensures { OnOk result (text.new.items
+        ≡ text.old.items
+        ++ flat_map map_text.place_text
+        (map (own_row placement.now) (kept_sections (loaded_views objects.now)))) }
 {
     for (k, loaded) in objects.iter().enumerate() {
         put_object_places(text, placement, k as u64, loaded)?;
@@ -121,7 +136,10 @@ fn put_common(
     placement: &Placement<'_>,
     meaning: &Definition<'_>,
 ) -> Result<(), AllocError>
-    ensures { OnOk result (text.new.items ≡ text.old.items ++ flat_map map_text.common_text (common_rows_of placement.now.base placement.now.objects (meaning_view meaning.now))) }
+    ensures { OnOk result (text.new.items
+        ≡ text.old.items
+        ++ flat_map map_text.common_text
+        (common_rows_of placement.now.base placement.now.objects (meaning_view meaning.now))) }
 {
     if let Definition::Common(block) = meaning {
         let line = Line::Common {
@@ -141,7 +159,10 @@ pub fn put_commons(
     placement: &Placement<'_>,
     listed: &[Definition<'_>],
 ) -> Result<(), AllocError>
-    ensures { OnOk result (text.new.items ≡ text.old.items ++ flat_map map_text.common_text (own_commons placement.now.base placement.now.objects (meaning_views listed.now))) }
+    ensures { OnOk result (text.new.items
+        ≡ text.old.items
+        ++ flat_map map_text.common_text
+        (own_commons placement.now.base placement.now.objects (meaning_views listed.now))) }
 {
     for meaning in listed {
         put_common(text, placement, meaning)?;
@@ -156,7 +177,10 @@ fn put_got(
     slots: &Slots<'_>,
 ) -> Result<(), AllocError>
     requires { slots.now ≡ own_table placement.now.objects }
-    ensures { OnOk result (text.new.items ≡ text.old.items ++ flat_map map_text.got_text (option_to_list (own_got placement.now.base placement.now.objects))) }
+    ensures { OnOk result (text.new.items
+        ≡ text.old.items
+        ++ flat_map map_text.got_text
+        (option_to_list (own_got placement.now.base placement.now.objects))) }
 {
     if let Some(line) = got_line(placement, slots) {
         put_line(text, &Line::Got(line))?;
@@ -167,7 +191,9 @@ fn put_got(
 /// The lines of the slots of a GOT at an address, which ends within the addresses.
 fn put_slots_from(text: &mut Vec<u8>, got: u64, slots: &[Slot<'_>]) -> Result<(), AllocError>
     requires { got + 8 * length slots.now ≤ 2 ^ 46 }
-    ensures { OnOk result (text.new.items ≡ text.old.items ++ flat_map map_text.slot_text (slots_from (got + 8) (slot_views slots.now))) }
+    ensures { OnOk result (text.new.items
+        ≡ text.old.items
+        ++ flat_map map_text.slot_text (slots_from (got + 8) (slot_views slots.now))) }
 {
     let mut address = got;
     for slot in slots {
@@ -191,7 +217,9 @@ fn put_slots(
     requires made { slots.now ≡ own_table placement.now.objects }
     requires kinds { AreLawfulKinds placement.now.objects }
     requires fits { IsNotTooLarge placement.now.base placement.now.objects }
-    ensures { OnOk result (text.new.items ≡ text.old.items ++ flat_map map_text.slot_text (own_slots placement.now.base placement.now.objects)) }
+    ensures { OnOk result (text.new.items
+        ≡ text.old.items
+        ++ flat_map map_text.slot_text (own_slots placement.now.base placement.now.objects)) }
 {
     match placement.got() {
         Some(got) => put_slots_from(text, got, slots.slots()),
@@ -206,8 +234,13 @@ fn put_symbol(
     meaning: &Definition<'_>,
 ) -> Result<(), AllocError>
     requires kinds { AreLawfulKinds placement.now.objects }
-    requires within { LiesWithin (own_in_load_order placement.now.base placement.now.objects) (meaning_view meaning.now) }
-    ensures { OnOk result (text.new.items ≡ text.old.items ++ map_text.symbol_text (symbol_row_of (own_where placement.now.base placement.now.objects) (meaning_view meaning.now))) }
+    requires within { LiesWithin (own_in_load_order placement.now.base placement.now.objects)
+        (meaning_view meaning.now) }
+    ensures { OnOk result (text.new.items
+        ≡ text.old.items
+        ++ map_text.symbol_text
+        (symbol_row_of (own_where placement.now.base placement.now.objects)
+        (meaning_view meaning.now))) }
 {
     let line = Line::Symbol {
         address: definition_value(placement, meaning),
@@ -224,8 +257,13 @@ pub fn put_symbols(
     listed: &[Definition<'_>],
 ) -> Result<(), AllocError>
     requires kinds { AreLawfulKinds placement.now.objects }
-    requires within { All (λ m. LiesWithin (own_in_load_order placement.now.base placement.now.objects) (meaning_view m)) listed.now }
-    ensures { OnOk result (text.new.items ≡ text.old.items ++ flat_map map_text.symbol_text (map (symbol_row_of (own_where placement.now.base placement.now.objects)) (meaning_views listed.now))) }
+    requires within { All (λ m. LiesWithin
+        (own_in_load_order placement.now.base placement.now.objects) (meaning_view m)) listed.now }
+    ensures { OnOk result (text.new.items
+        ≡ text.old.items
+        ++ flat_map map_text.symbol_text
+        (map (symbol_row_of (own_where placement.now.base placement.now.objects))
+        (meaning_views listed.now))) }
 {
     for meaning in listed {
         put_symbol(text, placement, meaning)?;
@@ -236,7 +274,9 @@ pub fn put_symbols(
 /// The line of a symbol table, where there is one.
 fn put_table(text: &mut Vec<u8>, table: Option<SymbolTable>) -> Result<(), AllocError>
     requires { IfSome table IsInRange }
-    ensures { OnOk result (text.new.items ≡ text.old.items ++ flat_map map_text.symtab_text (option_to_list (option_map line_of table))) }
+    ensures { OnOk result (text.new.items
+        ≡ text.old.items
+        ++ flat_map map_text.symtab_text (option_to_list (option_map line_of table))) }
 {
     if let Some(line) = symtab_line(table) {
         put_line(text, &Line::Symtab(line))?;
@@ -253,13 +293,21 @@ fn put_layout(
     slots: &Slots<'_>,
     definitions: &OwnDefinitions<'_, '_>,
 ) -> Result<(), AllocError>
-    requires same { placement.now ≡ record { base = loaded.now.plan.base; objects = loaded.now.objects } }
+    requires same { placement.now ≡ record {
+      base = loaded.now.plan.base;
+      objects = loaded.now.objects;
+    } }
     requires slots { slots.now ≡ own_table placement.now.objects }
     requires kinds { AreLawfulKinds placement.now.objects }
     requires fits { IsNotTooLarge placement.now.base placement.now.objects }
-    requires inside { All (LiesWithin (own_in_load_order placement.now.base placement.now.objects)) (meanings_of definitions.now) }
-    requires table { HasTable loaded.now.objects (own_end loaded.now.plan.base loaded.now.objects) (meanings_of definitions.now) loaded.now.plan.strip (table_with definitions.now) }
-    ensures { OnOk result (text.new.items ≡ text.old.items ++ map_text.text (own_record placement.now loaded.now.plan.strip (meanings_of definitions.now))) }
+    requires inside { All (LiesWithin (own_in_load_order placement.now.base placement.now.objects))
+        (meanings_of definitions.now) }
+    requires table { HasTable loaded.now.objects (own_end loaded.now.plan.base loaded.now.objects)
+        (meanings_of definitions.now) loaded.now.plan.strip (table_with definitions.now) }
+    ensures { OnOk result (text.new.items
+        ≡ text.old.items
+        ++ map_text.text
+        (own_record placement.now loaded.now.plan.strip (meanings_of definitions.now))) }
 {
     let objects = loaded.objects();
     put_line(text, &Line::Version(MAP_VERSION))?;

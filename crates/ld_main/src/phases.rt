@@ -8,6 +8,7 @@ ghost use Rattle.elf_model.specs.Listing.{AreLinkerLines};
 ghost use Rattle.elf_model.specs.MapRecord.{map_of};
 ghost use Rattle.elf_model.specs.OwnAddresses.{AreOwnAddresses};
 ghost use Rattle.elf_model.specs.OwnLayout.{IsNotTooLarge, own_where};
+ghost use Rattle.elf_model.specs.Relocation.{AreLawfulRelocations};
 ghost use Rattle.elf_model.specs.Slots as wanted;
 ghost use Rattle.resolve.specs.Views.{meaning_view, meaning_views};
 ghost use Rattle.symbols.specs.Rows.{no_rows};
@@ -27,10 +28,10 @@ use crate::refusals::{command_error, layout_error, reloc_error, resolve_error, s
 use crate::spelled_lines::show_spellings;
 use command::read_words;
 use elf_model::{Bound, InputFile, LinkError, LinkMap, NameSeed};
-use got_tls::{Slots, slots};
+use got_tls::Slots;
 use image_write::{Linkage, Listed, Parts, SymbolTable, definition_value, file_end};
 use layout::{GotSize, Placement, kinds, place};
-use relocate::{Patches, linker_lines, patches, references, slot_values};
+use relocate::{Patches, linker_lines, patches, referred_slots, slot_values};
 use resolve::{Definition, Resolved, resolve_in};
 use search::{Loaded, load_seeded};
 use std::alloc::{AllocError, Global};
@@ -57,22 +58,38 @@ fn resolved_names<'a, T: NameTable<'a> + Drop>(
     }
 }
 
+/// The GOT that kept relocations ask for, where all of them are lawful.
+fn judged_slots<'a>(
+    alloc: Global,
+    loaded: &Loaded<'a>,
+    resolved: &Resolved<'a>,
+) -> Result<Slots<'a>, LinkError>
+    requires same { resolved.now ≡ loaded.now.objects }
+    requires resolved { AreResolved loaded.now.objects }
+    ensures slots { IfOk result (λ s. s.slots ≡ wanted.slots loaded.now.objects) }
+    ensures size { IfOk result (λ s. s.got ≡ wanted.got_size loaded.now.objects) }
+    ensures lawful { OnOk result (AreLawfulRelocations loaded.now.objects) }
+    ensures fault { IfErr result (LinksRefuse loaded.now.plan loaded.now.objects) }
+{
+    match referred_slots(alloc, loaded, resolved) {
+        Ok(slots) => Ok(slots),
+        Err(fault) => Err(reloc_error(fault)),
+    }
+}
+
 /// The definition of the entry, where all kept relocations are lawful.
 fn referred_entry<'a>(
-    alloc: Global,
     loaded: &Loaded<'a>,
     resolved: &Resolved<'a>,
 ) -> Result<Definition<'a>, LinkError>
     requires same { resolved.now ≡ loaded.now.objects }
     requires resolved { AreResolved loaded.now.objects }
-    ensures entry { IfOk result (λ m. EntersAt loaded.now.plan loaded.now.objects (meaning_view m)) }
+    requires lawful { AreLawfulRelocations loaded.now.objects }
+    ensures entry { IfOk result (λ m.
+        EntersAt loaded.now.plan loaded.now.objects (meaning_view m)) }
     ensures referred { OnOk result (AreReferred loaded.now.plan loaded.now.objects) }
     ensures fault { IfErr result (LinksRefuse loaded.now.plan loaded.now.objects) }
 {
-    match references(alloc, loaded, resolved) {
-        Ok(()) => {}
-        Err(fault) => return Err(reloc_error(fault)),
-    }
     match resolved.entry(loaded.plan().entry.as_bytes()) {
         Some(entry) => Ok(entry),
         None => Err(LinkError::NoEntry),
@@ -91,7 +108,8 @@ fn laid_out<'a>(
     requires got { got.0 ≡ wanted.got_size loaded.now.objects }
     requires base { IsBase loaded.now.plan.base }
     requires referred { AreReferred loaded.now.plan loaded.now.objects }
-    ensures placed { IfOk result (λ p. p ≡ record { base = loaded.now.plan.base; objects = loaded.now.objects }) }
+    ensures placed { IfOk result (λ p. p
+        ≡ record { base = loaded.now.plan.base; objects = loaded.now.objects }) }
     ensures fits { OnOk result (IsNotTooLarge loaded.now.plan.base loaded.now.objects) }
     ensures fault { IfErr result (LinksRefuse loaded.now.plan loaded.now.objects) }
 {
@@ -125,12 +143,16 @@ fn tabled<'a>(
     linkers: &[(&'a [u8], Bound)],
 ) -> Result<Option<(Vec<Definition<'a>>, SymbolTable)>, LinkError>
     requires same { resolved.now ≡ loaded.now.objects }
-    requires placed { placement.now ≡ record { base = loaded.now.plan.base; objects = loaded.now.objects } }
+    requires placed { placement.now ≡ record {
+      base = loaded.now.plan.base;
+      objects = loaded.now.objects;
+    } }
     requires linkers { AreLinkerLines loaded.now.objects (line_views linkers.now) }
     requires referred { AreReferred loaded.now.plan loaded.now.objects }
     requires base { IsBase loaded.now.plan.base }
     requires fits { IsNotTooLarge loaded.now.plan.base loaded.now.objects }
-    ensures table { IfOk result (HasTabled loaded.now.objects (own_end loaded.now.plan.base loaded.now.objects) loaded.now.plan.strip) }
+    ensures table { IfOk result (HasTabled loaded.now.objects
+        (own_end loaded.now.plan.base loaded.now.objects) loaded.now.plan.strip) }
     ensures laid { OnOk result (AreLaidOut loaded.now.plan loaded.now.objects) }
     ensures fault { IfErr result (LinksRefuse loaded.now.plan loaded.now.objects) }
 {
@@ -171,7 +193,10 @@ fn fitted<'a>(
 ) -> Result<Patches<'a>, LinkError>
     requires same { resolved.now ≡ loaded.now.objects }
     requires slots { slots.now ≡ own_table loaded.now.objects }
-    requires placed { placement.now ≡ record { base = loaded.now.plan.base; objects = loaded.now.objects } }
+    requires placed { placement.now ≡ record {
+      base = loaded.now.plan.base;
+      objects = loaded.now.objects;
+    } }
     requires laid { AreLaidOut loaded.now.plan loaded.now.objects }
     ensures patches { IfOk result (λ p. p ≡ placement.now) }
     ensures linkable { OnOk result (AreLinkable loaded.now.plan loaded.now.objects) }
@@ -198,10 +223,16 @@ fn parts_of<'a>(
     requires base { IsBase loaded.now.plan.base }
     requires same { resolved ≡ loaded.now.objects }
     requires linkers { AreLinkerLines loaded.now.objects (line_views linkers.items) }
-    requires tabled { HasTabled loaded.now.objects (own_end loaded.now.plan.base loaded.now.objects) loaded.now.plan.strip tabled }
-    requires placed { placement ≡ record { base = loaded.now.plan.base; objects = loaded.now.objects } }
+    requires tabled { HasTabled loaded.now.objects
+        (own_end loaded.now.plan.base loaded.now.objects) loaded.now.plan.strip tabled }
+    requires placed { placement ≡ record {
+      base = loaded.now.plan.base;
+      objects = loaded.now.objects;
+    } }
     requires slots { slots ≡ own_table loaded.now.objects }
-    requires values { values.items ≡ map (slot_value_of loaded.now.objects (own_where loaded.now.plan.base loaded.now.objects)) (wanted.slots loaded.now.objects) }
+    requires values { values.items ≡ map
+        (slot_value_of loaded.now.objects (own_where loaded.now.plan.base loaded.now.objects))
+        (wanted.slots loaded.now.objects) }
     requires patches { patches ≡ placement }
     requires linkable { AreLinkable loaded.now.plan loaded.now.objects }
     requires entry { EntersAt loaded.now.plan loaded.now.objects (meaning_view entry.now) }
@@ -234,8 +265,12 @@ fn whole_parts<'a>(
     requires base { IsBase loaded.now.plan.base }
     requires same { resolved ≡ loaded.now.objects }
     requires linkers { AreLinkerLines loaded.now.objects (line_views linkers.items) }
-    requires tabled { HasTabled loaded.now.objects (own_end loaded.now.plan.base loaded.now.objects) loaded.now.plan.strip tabled }
-    requires placed { placement ≡ record { base = loaded.now.plan.base; objects = loaded.now.objects } }
+    requires tabled { HasTabled loaded.now.objects
+        (own_end loaded.now.plan.base loaded.now.objects) loaded.now.plan.strip tabled }
+    requires placed { placement ≡ record {
+      base = loaded.now.plan.base;
+      objects = loaded.now.objects;
+    } }
     requires slots { slots ≡ own_table loaded.now.objects }
     requires patches { patches ≡ placement }
     requires linkable { AreLinkable loaded.now.plan loaded.now.objects }
@@ -261,8 +296,8 @@ fn prepare_loaded<'a, T: NameTable<'a> + Drop>(
     ensures fault { IfErr result (LinksRefuse loaded.now.plan loaded.now.objects) }
 {
     let resolved = resolved_names(alloc, loaded, table)?;
-    let entry = referred_entry(alloc, loaded, &resolved)?;
-    let slots = slots(alloc, loaded, &resolved)?;
+    let slots = judged_slots(alloc, loaded, &resolved)?;
+    let entry = referred_entry(loaded, &resolved)?;
     let placement = laid_out(alloc, loaded, &resolved, slots.got())?;
     let linkers = linkers_of(alloc, loaded, &resolved)?;
     let tabled = tabled(alloc, loaded, &resolved, &placement, &linkers)?;
@@ -283,12 +318,15 @@ fn prepare_by<'a, T: NameTable<'a> + Drop>(
     resolution: T,
 ) -> Result<Linkage<'a>, LinkError>
     requires { T.rows resolution ≡ no_rows }
-    ensures prepared { IfOk result (IsPrepared (files_of files.entry.now) (words_of words.entry.now)) }
-    ensures own { IfOk result (AreOwnMapsRight (files_of files.entry.now) (words_of words.entry.now)) }
+    ensures prepared { IfOk result (IsPrepared (files_of files.entry.now)
+        (words_of words.entry.now)) }
+    ensures own { IfOk result (AreOwnMapsRight (files_of files.entry.now)
+        (words_of words.entry.now)) }
     ensures right { IfOk result (HasOwnLink (files_of files.entry.now) (words_of words.entry.now)) }
     ensures addresses { IfOk result (λ l. AreOwnAddresses l.plan.base l.objects) }
     ensures cause { IfErr result (Cause (files_of files.entry.now) (words_of words.entry.now)) }
-    ensures no_link { IfErr result (DeniesLinks (files_of files.entry.now) (words_of words.entry.now)) }
+    ensures no_link { IfErr result (DeniesLinks (files_of files.entry.now)
+        (words_of words.entry.now)) }
 {
     let plan = match read_words(alloc, words) {
         Ok(plan) => plan,
@@ -315,12 +353,15 @@ pub fn prepare_in<'a, T: NameTable<'a> + Drop>(
 ) -> Result<Linkage<'a>, LinkError>
     requires loading { T.rows _loading ≡ no_rows }
     requires resolution { T.rows resolution ≡ no_rows }
-    ensures prepared { IfOk result (IsPrepared (files_of files.entry.now) (words_of words.entry.now)) }
-    ensures own { IfOk result (AreOwnMapsRight (files_of files.entry.now) (words_of words.entry.now)) }
+    ensures prepared { IfOk result (IsPrepared (files_of files.entry.now)
+        (words_of words.entry.now)) }
+    ensures own { IfOk result (AreOwnMapsRight (files_of files.entry.now)
+        (words_of words.entry.now)) }
     ensures right { IfOk result (HasOwnLink (files_of files.entry.now) (words_of words.entry.now)) }
     ensures addresses { IfOk result (λ l. AreOwnAddresses l.plan.base l.objects) }
     ensures cause { IfErr result (Cause (files_of files.entry.now) (words_of words.entry.now)) }
-    ensures no_link { IfErr result (DeniesLinks (files_of files.entry.now) (words_of words.entry.now)) }
+    ensures no_link { IfErr result (DeniesLinks (files_of files.entry.now)
+        (words_of words.entry.now)) }
 {
     prepare_by(alloc, files, words, NameSeed::fixed(), resolution)
 }
@@ -333,12 +374,15 @@ pub fn prepare_seeded<'a>(
     words: &'a [String],
     seed: NameSeed,
 ) -> Result<Linkage<'a>, LinkError>
-    ensures prepared { IfOk result (IsPrepared (files_of files.entry.now) (words_of words.entry.now)) }
-    ensures own { IfOk result (AreOwnMapsRight (files_of files.entry.now) (words_of words.entry.now)) }
+    ensures prepared { IfOk result (IsPrepared (files_of files.entry.now)
+        (words_of words.entry.now)) }
+    ensures own { IfOk result (AreOwnMapsRight (files_of files.entry.now)
+        (words_of words.entry.now)) }
     ensures right { IfOk result (HasOwnLink (files_of files.entry.now) (words_of words.entry.now)) }
     ensures addresses { IfOk result (λ l. AreOwnAddresses l.plan.base l.objects) }
     ensures cause { IfErr result (Cause (files_of files.entry.now) (words_of words.entry.now)) }
-    ensures no_link { IfErr result (DeniesLinks (files_of files.entry.now) (words_of words.entry.now)) }
+    ensures no_link { IfErr result (DeniesLinks (files_of files.entry.now)
+        (words_of words.entry.now)) }
 {
     let resolution = IndexedTable::with_hasher(alloc, seed);
     prepare_by(alloc, files, words, seed, resolution)
@@ -364,12 +408,15 @@ pub fn prepare<'a>(
     files: &'a [InputFile],
     words: &'a [String],
 ) -> Result<Linkage<'a>, LinkError>
-    ensures prepared { IfOk result (IsPrepared (files_of files.entry.now) (words_of words.entry.now)) }
-    ensures own { IfOk result (AreOwnMapsRight (files_of files.entry.now) (words_of words.entry.now)) }
+    ensures prepared { IfOk result (IsPrepared (files_of files.entry.now)
+        (words_of words.entry.now)) }
+    ensures own { IfOk result (AreOwnMapsRight (files_of files.entry.now)
+        (words_of words.entry.now)) }
     ensures right { IfOk result (HasOwnLink (files_of files.entry.now) (words_of words.entry.now)) }
     ensures addresses { IfOk result (λ l. AreOwnAddresses l.plan.base l.objects) }
     ensures cause { IfErr result (Cause (files_of files.entry.now) (words_of words.entry.now)) }
-    ensures no_link { IfErr result (DeniesLinks (files_of files.entry.now) (words_of words.entry.now)) }
+    ensures no_link { IfErr result (DeniesLinks (files_of files.entry.now)
+        (words_of words.entry.now)) }
 {
     prepare_seeded(alloc, files, words, NameSeed::fixed())
 }
@@ -382,8 +429,11 @@ fn map_of_list(
     table: Option<SymbolTable>,
 ) -> Result<LinkMap, AllocError>
     requires listed { IsListing linkage.now.objects listed.now }
-    requires table { HasTable linkage.now.objects (own_end linkage.now.plan.base linkage.now.objects) (meaning_views listed.now) linkage.now.plan.strip table }
-    ensures { IfOk result (λ m. IsOwnMap linkage.now.plan.base linkage.now.objects linkage.now.plan.strip (map_of m)) }
+    requires table { HasTable linkage.now.objects
+        (own_end linkage.now.plan.base linkage.now.objects)
+        (meaning_views listed.now) linkage.now.plan.strip table }
+    ensures { IfOk result (λ m.
+        IsOwnMap linkage.now.plan.base linkage.now.objects linkage.now.plan.strip (map_of m)) }
 {
     let parts = linkage.parts();
     map_of_layout(
@@ -399,7 +449,8 @@ fn map_of_list(
 /// The map of a link: its objects, their dropped sections, their kept ones, the common blocks, the GOT and its slots at
 /// their addresses, the definitions of names with their values, and the symbol table; its lines are in order.
 pub fn link_map(alloc: Global, linkage: &Linkage<'_>) -> Result<LinkMap, AllocError>
-    ensures { IfOk result (λ m. IsOwnMap linkage.now.plan.base linkage.now.objects linkage.now.plan.strip (map_of m)) }
+    ensures { IfOk result (λ m.
+        IsOwnMap linkage.now.plan.base linkage.now.objects linkage.now.plan.strip (map_of m)) }
 {
     let parts = linkage.parts();
     match &parts.listed {

@@ -330,8 +330,10 @@ fn link_files<'a, R: Files + AllocGlobal + RandomSource>(
     files: &[InputFile],
     words: &[String],
 ) -> Result<Outcome, Failure<'a>>
-    ensures right { IfOk result (λ o. outcome_status o ≡ 0 → LinksRight (files_of files.now) (words_of words.now)) }
-    ensures words_alone { IfErr result (λ f. failure_status f ≡ 2 → IsErr (command_of (words_of words.now))) }
+    ensures right { IfOk result (λ o. outcome_status o ≡ 0
+        → LinksRight (files_of files.now) (words_of words.now)) }
+    ensures words_alone { IfErr result (λ f. failure_status f ≡ 2
+        → IsErr (command_of (words_of words.now))) }
     ensures linked { IfOk result (λ o. is_checked o ≡ false) }
 {
     let linkage = match prepared(rt.alloc(), seed(rt), files, words) {
@@ -351,8 +353,11 @@ fn judged(
     image: &[u8],
     map: &[u8],
 ) -> Result<Outcome, AllocError>
-    ensures right { IfOk result (λ o. (o ≡ Outcome.Right) ↔ IsRightLink (files_of files.now) (words_of words.now) image.now map.now) }
-    ensures wrong { IfOk result (λ o. (c : Clause) → ((o ≡ Outcome.Wrong c) ↔ Least c (files_of files.now) (words_of words.now) image.now map.now)) }
+    ensures right { IfOk result (λ o. (o ≡ Outcome.Right)
+        ↔ IsRightLink (files_of files.now) (words_of words.now) image.now map.now) }
+    ensures wrong { IfOk result (λ o. (c : Clause) →
+        ((o ≡ Outcome.Wrong c)
+        ↔ Least c (files_of files.now) (words_of words.now) image.now map.now)) }
     ensures checked { IfOk result (λ o. is_checked o ≡ true) }
 {
     match check_in(alloc, files, words, image, map, seed)? {
@@ -369,7 +374,8 @@ fn check_files<'a, R: Files + AllocGlobal + RandomSource>(
     words: &[String],
 ) -> Result<Outcome, Failure<'a>>
     requires mapped { task.map ≢ None }
-    ensures right { IfOk result (λ o. outcome_status o ≡ 0 → LinksRight (files_of files.now) (words_of words.now)) }
+    ensures right { IfOk result (λ o. outcome_status o ≡ 0
+        → LinksRight (files_of files.now) (words_of words.now)) }
     ensures checked { IfOk result (λ o. is_checked o ≡ true) }
     ensures fault { IfErr result (λ f. 3 ≤ failure_status f) }
 {
@@ -437,8 +443,10 @@ fn read_input<'a, R: Files + AllocGlobal>(
     ensures command { OnOk result (IsOk (command_of (words_of words.entry.now))) }
     ensures mode { IfOk result (λ g. Asks g.0.check (words_of words.entry.now)) }
     ensures fault { IfErr result (λ f. 2 ≤ failure_status f) }
-    ensures refused_words { IsErr (command_of (words_of words.entry.now)) → IsErrAnd result (λ f. (failure_status f ≡ 2) ⊎ (failure_status f ≡ 4)) }
-    ensures words_alone { IfErr result (λ f. failure_status f ≡ 2 → IsErr (command_of (words_of words.entry.now))) }
+    ensures refused_words { IsErr (command_of (words_of words.entry.now)) →
+        IsErrAnd result (λ f. (failure_status f ≡ 2) ⊎ (failure_status f ≡ 4)) }
+    ensures words_alone { IfErr result (λ f. failure_status f ≡ 2
+        → IsErr (command_of (words_of words.entry.now))) }
 {
     let plan = read_words(rt.alloc(), words)?;
     let files = read_files(rt, &plan)?;
@@ -454,11 +462,16 @@ fn run<'a, R: Files + AllocGlobal + RandomSource>(
     rt: &R,
     words: &'a [String],
 ) -> Result<Outcome, Failure<'a>>
-    ensures right { IfOk result (λ o. outcome_status o ≡ 0 → HasRightLink (words_of words.entry.now)) }
-    ensures refused_words { IsErr (command_of (words_of words.entry.now)) → IsErrAnd result (λ f. (failure_status f ≡ 2) ⊎ (failure_status f ≡ 4)) }
-    ensures words_alone { IfErr result (λ f. failure_status f ≡ 2 → IsErr (command_of (words_of words.entry.now))) }
+    ensures right { IfOk result (λ o. outcome_status o ≡ 0
+        → HasRightLink (words_of words.entry.now)) }
+    ensures refused_words { IsErr (command_of (words_of words.entry.now)) →
+        IsErrAnd result (λ f. (failure_status f ≡ 2) ⊎ (failure_status f ≡ 4)) }
+    ensures words_alone { IfErr result (λ f. failure_status f ≡ 2
+        → IsErr (command_of (words_of words.entry.now))) }
     ensures mode { IfOk result (λ o. Asks (is_checked o) (words_of words.entry.now)) }
-    ensures fault { (p : command.Plan) → command_of (words_of words.entry.now) ≡ Ok p → p.check ≡ true → IfErr result (λ f. 2 ≤ failure_status f) }
+    ensures fault { (p : command.Plan) →
+        command_of (words_of words.entry.now) ≡ Ok p → p.check ≡ true
+        → IfErr result (λ f. 2 ≤ failure_status f) }
 {
     let (task, files) = read_input(rt, words)?;
     if task.check {
@@ -498,8 +511,10 @@ pub fn run_ld<R: Files + AllocGlobal + RandomSource, O: Write, E: Write>(
     ensures words_alone { result ≡ 2 → IsErr (command_of (words_of words.now)) }
     ensures out_quiet { 2 ≤ result → out.new ≡ out.old }
     ensures err_quiet { result ≡ 0 → err.new ≡ err.old }
-    ensures link_prints_nothing { (p : command.Plan) → command_of (words_of words.now) ≡ Ok p → p.check ≡ false → out.new ≡ out.old }
-    ensures check_prints_no_fault { (p : command.Plan) → command_of (words_of words.now) ≡ Ok p → p.check ≡ true → result ≤ 1 → err.new ≡ err.old }
+    ensures link_prints_nothing { (p : command.Plan) →
+        command_of (words_of words.now) ≡ Ok p → p.check ≡ false → out.new ≡ out.old }
+    ensures check_prints_no_fault { (p : command.Plan) →
+        command_of (words_of words.now) ≡ Ok p → p.check ≡ true → result ≤ 1 → err.new ≡ err.old }
 {
     match run(rt, words) {
         Ok(outcome) => {

@@ -54,7 +54,8 @@ fn slot_line(alloc: Global, address: u64, slot: Slot<'_>) -> Result<SlotLine, Al
 /// The lines of the slots of a GOT at an address, which ends within the addresses.
 fn lines_from(alloc: Global, got: u64, slots: &[Slot<'_>]) -> Result<Vec<SlotLine>, AllocError>
     requires { got + 8 * length slots.now ≤ 2 ^ 46 }
-    ensures { IfOk result (λ v. map slot_row v.items ≡ slots_from (got + 8) (slot_views slots.now)) }
+    ensures { IfOk result (λ v. map slot_row v.items
+        ≡ slots_from (got + 8) (slot_views slots.now)) }
 {
     let mut lines = Vec::with_capacity(alloc, slots.len())?;
     let mut address = got;
@@ -74,7 +75,8 @@ pub fn slot_lines(
     requires made { slots.now ≡ own_table placement.now.objects }
     requires kinds { AreLawfulKinds placement.now.objects }
     requires fits { IsNotTooLarge placement.now.base placement.now.objects }
-    ensures { IfOk result (λ v. map slot_row v.items ≡ own_slots placement.now.base placement.now.objects) }
+    ensures { IfOk result (λ v. map slot_row v.items
+        ≡ own_slots placement.now.base placement.now.objects) }
 {
     let Some(got) = placement.got() else {
         return Ok(Vec::new(alloc));

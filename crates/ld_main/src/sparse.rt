@@ -14,7 +14,8 @@ pub trait SparseWrite: Write {
     ///
     /// Where the writer can't: it is then where it was.
     fn skip(&mut self, count: u64) -> io::Result<()>
-        ensures skipped { OnOk result (Appends (Self.contents self.old) (Self.contents self.new) (replicate count 0)) }
+        ensures skipped { OnOk result (Appends (Self.contents self.old) (Self.contents self.new)
+            (replicate count 0)) }
         ensures refused { OnErr result (Keeps (Self.contents self.old) (Self.contents self.new)) };
 
     /// Ends the file here, also where the last bytes were passed over.

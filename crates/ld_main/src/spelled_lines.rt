@@ -36,7 +36,12 @@ fn show_bytes(bytes: &[u8])
 
 /// The line of an object.
 fn show_object(number: u64, loaded: &LoadedObject<'_>)
-    ensures { FitsObject (record { object = number; item = loaded.now.item; offset = loaded.now.offset; path = loaded.now.path.now }) }
+    ensures { FitsObject (record {
+      object = number;
+      item = loaded.now.item;
+      offset = loaded.now.offset;
+      path = loaded.now.path.now;
+    }) }
 {
     show_number(number);
     show_number(loaded.item);
@@ -89,7 +94,8 @@ fn show_places(placement: &Placement<'_>, objects: &[LoadedObject<'_>])
     requires same { placement.now.objects ≡ loaded_views objects.now }
     requires objects { AreObjects (loaded_views objects.now) }
     requires fits { IsNotTooLarge placement.now.base placement.now.objects }
-    ensures { All FitsPlace (map (own_row placement.now) (kept_sections (loaded_views objects.now))) }
+    ensures { All FitsPlace (map (own_row placement.now)
+        (kept_sections (loaded_views objects.now))) }
 {
     show_count(objects);
     show_contents(objects);
@@ -183,7 +189,10 @@ pub fn show_spellings(
     resolved: &Resolved<'_>,
     linkers: &[(&[u8], Bound)],
 )
-    requires same { placement.now ≡ record { base = loaded.now.plan.base; objects = loaded.now.objects } }
+    requires same { placement.now ≡ record {
+      base = loaded.now.plan.base;
+      objects = loaded.now.objects;
+    } }
     requires slots { slots.now ≡ own_table placement.now.objects }
     requires kinds { AreLawfulKinds placement.now.objects }
     requires room { HasRoom loaded.now.plan loaded.now.objects }

@@ -59,7 +59,8 @@ pub fn may_follow_drops(drops: &[DropLine], d: &DropLine) -> bool
 
 /// Whether a line may stand behind those of its kind so far.
 pub fn may_follow_places(places: &[PlaceLine], p: &PlaceLine) -> bool
-    ensures { IsTrue result ↔ IsAboveLast (λ p q. PlaceBefore (place_row p) (place_row q)) places.now p.now }
+    ensures { IsTrue result ↔ IsAboveLast
+        (λ p q. PlaceBefore (place_row p) (place_row q)) places.now p.now }
 {
     match places.last() {
         Some(last) => place_before(last, p),
@@ -69,7 +70,8 @@ pub fn may_follow_places(places: &[PlaceLine], p: &PlaceLine) -> bool
 
 /// Whether a line may stand behind those of its kind so far.
 pub fn may_follow_commons(commons: &[CommonLine], c: &CommonLine) -> bool
-    ensures { IsTrue result ↔ IsAboveLast (λ p q. CommonBefore (common_row p) (common_row q)) commons.now c.now }
+    ensures { IsTrue result ↔ IsAboveLast
+        (λ p q. CommonBefore (common_row p) (common_row q)) commons.now c.now }
 {
     match commons.last() {
         Some(last) => common_before(last, c),
@@ -79,7 +81,8 @@ pub fn may_follow_commons(commons: &[CommonLine], c: &CommonLine) -> bool
 
 /// Whether a line may stand behind those of its kind so far.
 pub fn may_follow_slots(slots: &[SlotLine], s: &SlotLine) -> bool
-    ensures { IsTrue result ↔ IsAboveLast (λ p q. SlotBefore (slot_row p) (slot_row q)) slots.now s.now }
+    ensures { IsTrue result ↔ IsAboveLast
+        (λ p q. SlotBefore (slot_row p) (slot_row q)) slots.now s.now }
 {
     match slots.last() {
         Some(last) => slot_before(last, s),
@@ -89,7 +92,8 @@ pub fn may_follow_slots(slots: &[SlotLine], s: &SlotLine) -> bool
 
 /// Whether a line may stand behind those of its kind so far.
 pub fn may_follow_symbols(symbols: &[SymbolLine], s: &SymbolLine) -> bool
-    ensures { IsTrue result ↔ IsAboveLast (λ p q. SymbolBefore (symbol_row p) (symbol_row q)) symbols.now s.now }
+    ensures { IsTrue result ↔ IsAboveLast
+        (λ p q. SymbolBefore (symbol_row p) (symbol_row q)) symbols.now s.now }
 {
     match symbols.last() {
         Some(last) => symbol_before(last, s),
@@ -120,7 +124,8 @@ fn places_ascend(places: &[PlaceLine]) -> bool
 }
 
 fn commons_ascend(commons: &[CommonLine]) -> bool
-    ensures { IsTrue result ↔ Ascends (λ p q. CommonBefore (common_row p) (common_row q)) commons.now }
+    ensures { IsTrue result ↔ Ascends
+        (λ p q. CommonBefore (common_row p) (common_row q)) commons.now }
 {
     commons.windows(2).all(|w| common_before(&w[0], &w[1]))
 }
@@ -132,7 +137,8 @@ fn slots_ascend(slots: &[SlotLine]) -> bool
 }
 
 fn symbols_ascend(symbols: &[SymbolLine]) -> bool
-    ensures { IsTrue result ↔ Ascends (λ p q. SymbolBefore (symbol_row p) (symbol_row q)) symbols.now }
+    ensures { IsTrue result ↔ Ascends
+        (λ p q. SymbolBefore (symbol_row p) (symbol_row q)) symbols.now }
 {
     symbols.windows(2).all(|w| symbol_before(&w[0], &w[1]))
 }

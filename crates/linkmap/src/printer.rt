@@ -31,8 +31,12 @@ fn put_object_of(
     offset: u64,
     path: &[u8],
 ) -> Result<(), AllocError>
-    ensures text { OnOk result (out.new.items ≡ out.old.items ++ map_text.object_text (record { object = object; item = item; offset = offset; path = path.now })) }
-    ensures fits { OnOk result (map_text.FitsObject (record { object = object; item = item; offset = offset; path = path.now })) }
+    ensures text { OnOk result (out.new.items
+        ≡ out.old.items
+        ++ map_text.object_text
+        (record { object = object; item = item; offset = offset; path = path.now })) }
+    ensures fits { OnOk result (map_text.FitsObject
+        (record { object = object; item = item; offset = offset; path = path.now })) }
 {
     out.extend_from_slice(b"object ")?;
     put_number(out, object)?;
@@ -43,7 +47,8 @@ fn put_object_of(
 }
 
 fn put_object(out: &mut Vec<u8>, o: &ObjectLine) -> Result<(), AllocError>
-    ensures text { OnOk result (out.new.items ≡ out.old.items ++ map_text.object_text (object_row o.now)) }
+    ensures text { OnOk result (out.new.items
+        ≡ out.old.items ++ map_text.object_text (object_row o.now)) }
     ensures fits { OnOk result (map_text.FitsObject (object_row o.now)) }
 {
     put_object_of(out, o.object, o.item, o.offset, &o.path)
@@ -69,8 +74,24 @@ fn put_place_of(
     section: u64,
     name: &[u8],
 ) -> Result<(), AllocError>
-    ensures text { OnOk result (out.new.items ≡ out.old.items ++ map_text.place_text (record { address = address; size = size; object = object; section = section; name = name.now })) }
-    ensures fits { OnOk result (map_text.FitsPlace (record { address = address; size = size; object = object; section = section; name = name.now })) }
+    ensures text { OnOk result (out.new.items
+        ≡ out.old.items
+        ++ map_text.place_text
+        (record {
+          address = address;
+          size = size;
+          object = object;
+          section = section;
+          name = name.now;
+        })) }
+    ensures fits { OnOk result (map_text.FitsPlace
+        (record {
+          address = address;
+          size = size;
+          object = object;
+          section = section;
+          name = name.now;
+        })) }
 {
     out.extend_from_slice(b"place ")?;
     put_address(out, address)?;
@@ -82,7 +103,8 @@ fn put_place_of(
 }
 
 fn put_place(out: &mut Vec<u8>, p: &PlaceLine) -> Result<(), AllocError>
-    ensures text { OnOk result (out.new.items ≡ out.old.items ++ map_text.place_text (place_row p.now)) }
+    ensures text { OnOk result (out.new.items
+        ≡ out.old.items ++ map_text.place_text (place_row p.now)) }
     ensures fits { OnOk result (map_text.FitsPlace (place_row p.now)) }
 {
     put_place_of(out, p.address, p.size, p.object, p.section, &p.name)
@@ -96,8 +118,12 @@ fn put_common_of(
     align: u64,
     name: &[u8],
 ) -> Result<(), AllocError>
-    ensures text { OnOk result (out.new.items ≡ out.old.items ++ map_text.common_text (record { address = address; size = size; align = align; name = name.now })) }
-    ensures fits { OnOk result (map_text.FitsCommon (record { address = address; size = size; align = align; name = name.now })) }
+    ensures text { OnOk result (out.new.items
+        ≡ out.old.items
+        ++ map_text.common_text
+        (record { address = address; size = size; align = align; name = name.now })) }
+    ensures fits { OnOk result (map_text.FitsCommon
+        (record { address = address; size = size; align = align; name = name.now })) }
 {
     out.extend_from_slice(b"common ")?;
     put_address(out, address)?;
@@ -108,7 +134,8 @@ fn put_common_of(
 }
 
 fn put_common(out: &mut Vec<u8>, c: &CommonLine) -> Result<(), AllocError>
-    ensures text { OnOk result (out.new.items ≡ out.old.items ++ map_text.common_text (common_row c.now)) }
+    ensures text { OnOk result (out.new.items
+        ≡ out.old.items ++ map_text.common_text (common_row c.now)) }
     ensures fits { OnOk result (map_text.FitsCommon (common_row c.now)) }
 {
     put_common_of(out, c.address, c.size, c.align, &c.name)
@@ -136,7 +163,8 @@ fn put_kind(out: &mut Vec<u8>, kind: SlotKind) -> Result<(), AllocError>
 }
 
 fn put_target(out: &mut Vec<u8>, target: &Target<'_>) -> Result<(), AllocError>
-    ensures text { OnOk result (out.new.items ≡ out.old.items ++ map_text.target_text (target_row_of target.now)) }
+    ensures text { OnOk result (out.new.items
+        ≡ out.old.items ++ map_text.target_text (target_row_of target.now)) }
     ensures fits { OnOk result (map_text.FitsTarget (target_row_of target.now)) }
 {
     match target {
@@ -174,8 +202,12 @@ fn put_slot_of(
     kind: SlotKind,
     target: &Target<'_>,
 ) -> Result<(), AllocError>
-    ensures text { OnOk result (out.new.items ≡ out.old.items ++ map_text.slot_text (record { address = address; kind = kind; target = target_row_of target.now })) }
-    ensures fits { OnOk result (map_text.FitsSlot (record { address = address; kind = kind; target = target_row_of target.now })) }
+    ensures text { OnOk result (out.new.items
+        ≡ out.old.items
+        ++ map_text.slot_text
+        (record { address = address; kind = kind; target = target_row_of target.now })) }
+    ensures fits { OnOk result (map_text.FitsSlot
+        (record { address = address; kind = kind; target = target_row_of target.now })) }
 {
     out.extend_from_slice(b"slot ")?;
     put_address(out, address)?;
@@ -185,7 +217,8 @@ fn put_slot_of(
 }
 
 fn put_slot(out: &mut Vec<u8>, s: &SlotLine) -> Result<(), AllocError>
-    ensures text { OnOk result (out.new.items ≡ out.old.items ++ map_text.slot_text (slot_row s.now)) }
+    ensures text { OnOk result (out.new.items
+        ≡ out.old.items ++ map_text.slot_text (slot_row s.now)) }
     ensures fits { OnOk result (map_text.FitsSlot (slot_row s.now)) }
 {
     put_slot_of(out, s.address, s.kind, &borrowed_target(&s.target))
@@ -193,7 +226,8 @@ fn put_slot(out: &mut Vec<u8>, s: &SlotLine) -> Result<(), AllocError>
 
 /// Puts a word, and an object with the number of a symbol of it.
 fn put_chosen(out: &mut Vec<u8>, word: &[u8], object: u64, symbol: u64) -> Result<(), AllocError>
-    ensures text { OnOk result (out.new.items ≡ out.old.items ++ (word.now ++ (map_text.number object ++ map_text.number symbol))) }
+    ensures text { OnOk result (out.new.items
+        ≡ out.old.items ++ (word.now ++ (map_text.number object ++ map_text.number symbol))) }
     ensures fits { OnOk result ((object < 2 ^ 64) × (symbol < 2 ^ 64)) }
 {
     out.extend_from_slice(word)?;
@@ -203,7 +237,8 @@ fn put_chosen(out: &mut Vec<u8>, word: &[u8], object: u64, symbol: u64) -> Resul
 }
 
 fn put_definition(out: &mut Vec<u8>, definition: Definition) -> Result<(), AllocError>
-    ensures text { OnOk result (out.new.items ≡ out.old.items ++ map_text.definition_text definition) }
+    ensures text { OnOk result (out.new.items
+        ≡ out.old.items ++ map_text.definition_text definition) }
     ensures fits { OnOk result (map_text.FitsDefinition definition) }
 {
     match definition {
@@ -221,8 +256,12 @@ fn put_symbol_of(
     definition: Definition,
     name: &[u8],
 ) -> Result<(), AllocError>
-    ensures text { OnOk result (out.new.items ≡ out.old.items ++ map_text.symbol_text (record { address = address; definition = definition; name = name.now })) }
-    ensures fits { OnOk result (map_text.FitsSymbol (record { address = address; definition = definition; name = name.now })) }
+    ensures text { OnOk result (out.new.items
+        ≡ out.old.items
+        ++ map_text.symbol_text
+        (record { address = address; definition = definition; name = name.now })) }
+    ensures fits { OnOk result (map_text.FitsSymbol
+        (record { address = address; definition = definition; name = name.now })) }
 {
     out.extend_from_slice(b"symbol ")?;
     put_address(out, address)?;
@@ -232,7 +271,8 @@ fn put_symbol_of(
 }
 
 fn put_symbol(out: &mut Vec<u8>, s: &SymbolLine) -> Result<(), AllocError>
-    ensures text { OnOk result (out.new.items ≡ out.old.items ++ map_text.symbol_text (symbol_row s.now)) }
+    ensures text { OnOk result (out.new.items
+        ≡ out.old.items ++ map_text.symbol_text (symbol_row s.now)) }
     ensures fits { OnOk result (map_text.FitsSymbol (symbol_row s.now)) }
 {
     put_symbol_of(out, s.address, s.definition, &s.name)
@@ -261,7 +301,8 @@ fn put_objects(out: &mut Vec<u8>, objects: &[ObjectLine]) -> Result<(), AllocErr
 }
 
 fn put_drops(out: &mut Vec<u8>, drops: &[DropLine]) -> Result<(), AllocError>
-    ensures text { OnOk result (out.new.items ≡ out.old.items ++ flat_map map_text.drop_text drops.now) }
+    ensures text { OnOk result (out.new.items
+        ≡ out.old.items ++ flat_map map_text.drop_text drops.now) }
     ensures fits { OnOk result (All map_text.FitsDrop drops.now) }
 {
     for d in drops {
@@ -338,7 +379,8 @@ fn put_symtabs(out: &mut Vec<u8>, symtab: Option<SymtabLine>) -> Result<(), Allo
 
 /// Appends the text of a line.
 pub fn put_line(out: &mut Vec<u8>, line: &Line<'_>) -> Result<(), AllocError>
-    ensures { OnOk result (out.new.items ≡ out.old.items ++ map_text.line_text (line_view line.now)) }
+    ensures { OnOk result (out.new.items
+        ≡ out.old.items ++ map_text.line_text (line_view line.now)) }
 {
     match *line {
         Line::Version(version) => put_version(out, version),

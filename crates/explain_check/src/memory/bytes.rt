@@ -56,7 +56,8 @@ fn value_byte(field: &Field, j: u64) -> u8
 
 /// Byte `k` of a field's value, counted from the beginning of its section.
 fn byte_in(field: &Field, k: u64) -> Option<u8>
-    ensures { IfSome result (λ b. b ≡ slice_index (le_bytes field.now.width field.now.value) (k - field.now.at)) }
+    ensures { IfSome result (λ b. b
+        ≡ slice_index (le_bytes field.now.width field.now.value) (k - field.now.at)) }
 {
     if field.width > 8 {
         return None;

@@ -17,7 +17,8 @@ use elf_model::{Rela, SectionHeader};
 
 /// The width of an entry's field in bytes; 0 for a type that is no kind.
 fn width_of(entry: &Rela) -> u8
-    ensures { result ≡ unwrap_or (option_map (λ k. k.width) (relocation.kind_of (rela_type entry.now))) 0 }
+    ensures { result ≡ unwrap_or
+        (option_map (λ k. k.width) (relocation.kind_of (rela_type entry.now))) 0 }
 {
     match kind_of(entry.kind()) {
         Some(kind) => kind.width,
@@ -27,7 +28,9 @@ fn width_of(entry: &Rela) -> u8
 
 /// Whether byte `k` of a section lies in an entry's field.
 fn is_over(entry: &Rela, k: u64) -> bool
-    ensures { result ≡ (nat_le entry.now.r_offset k && nat_lt k (entry.now.r_offset + unwrap_or (option_map (λ j. j.width) (relocation.kind_of (rela_type entry.now))) 0)) }
+    ensures { result ≡ (nat_le entry.now.r_offset k
+        && nat_lt k (entry.now.r_offset + unwrap_or
+        (option_map (λ j. j.width) (relocation.kind_of (rela_type entry.now))) 0)) }
 {
     entry.r_offset <= k && k - entry.r_offset < width_of(entry) as u64
 }

@@ -51,7 +51,8 @@ fn fill_of(rights: u64) -> u8
 
 /// What memory has at an address: a byte and its rights.
 fn cell_at(memory: &Memory<'_>, address: u64) -> Option<(u8, u64)>
-    ensures { IfSome result (λ c. memory_of memory.now address ≡ Some (record { byte = c.0; rights = c.1 })) }
+    ensures { IfSome result (λ c. memory_of memory.now address
+        ≡ Some (record { byte = c.0; rights = c.1 })) }
 {
     let byte = memory.byte(address)?;
     let rights = memory.rights(address)?;

@@ -34,7 +34,8 @@ fn relocation_place<'a>(
     ensures table { result.table ≡ i }
     ensures number { result.number ≡ e }
     ensures entry { result.entry ≡ entry.now }
-    ensures told { IsTold result (relocation_of number (loaded_view one.now) header.now.sh_info entry.now) }
+    ensures told { IsTold result (relocation_of number
+        (loaded_view one.now) header.now.sh_info entry.now) }
 {
     let section = header.sh_info as usize;
     RelocationPlace {
@@ -50,7 +51,8 @@ fn relocation_place<'a>(
 
 /// The loaded object that has a number.
 pub fn object_at<'l, 'a>(objects: &'l [Loaded<'a>], k: usize) -> Option<&'l Loaded<'a>>
-    ensures { IfSome result (λ one. slice_get (loaded_views objects.now) k ≡ Some (loaded_view one.now)) }
+    ensures { IfSome result (λ one. slice_get (loaded_views objects.now) k
+        ≡ Some (loaded_view one.now)) }
 {
     objects.get(k)
 }
@@ -59,7 +61,7 @@ pub fn object_at<'l, 'a>(objects: &'l [Loaded<'a>], k: usize) -> Option<&'l Load
 pub fn header_at(one: &Loaded<'_>, i: usize) -> Option<SectionHeader>
     ensures { IfSome result (λ h. slice_get (sections (loaded_view one.now).bytes) i ≡ Some h) }
 {
-    one.object.sections().get(i).copied()
+    one.object.sections().get(i)
 }
 
 /// The entries of RELA section `i`, which has the header, of an object.
@@ -78,7 +80,8 @@ pub fn entries_of<'a>(one: &Loaded<'a>, i: usize, header: &SectionHeader) -> Rel
 pub fn entry_at(one: &Loaded<'_>, i: usize, header: &SectionHeader, e: usize) -> Option<Rela>
     requires there { slice_get (sections (loaded_view one.now).bytes) i ≡ Some header.now }
     requires rela { header.now.sh_type ≡ 4 }
-    ensures { IfSome result (λ x. slice_get (relas_of (loaded_view one.now).bytes header.now) e ≡ Some x) }
+    ensures { IfSome result (λ x. slice_get (relas_of (loaded_view one.now).bytes header.now) e
+        ≡ Some x) }
 {
     entries_of(one, i, header).get(e)
 }
@@ -97,9 +100,11 @@ pub fn kept_place<'a>(
     requires object { slice_get (loaded_views objects.now) number ≡ Some (loaded_view one.now) }
     requires table { slice_get (sections (loaded_view one.now).bytes) i ≡ Some header.now }
     requires kept { is_kept_rela (loaded_view one.now) i header.now ≡ true }
-    requires entry { slice_get (relas_of (loaded_view one.now).bytes header.now) e ≡ Some entry.now }
+    requires entry { slice_get (relas_of (loaded_view one.now).bytes header.now) e
+        ≡ Some entry.now }
     requires some_kind { is_some_kind entry.now ≡ true }
-    ensures { IsRelocationAt (loaded_views objects.now) result (relocation_of number (loaded_view one.now) header.now.sh_info entry.now) }
+    ensures { IsRelocationAt (loaded_views objects.now) result
+        (relocation_of number (loaded_view one.now) header.now.sh_info entry.now) }
 {
     let _objects = objects;
     relocation_place(number, one, i, header, e, entry)

@@ -5,7 +5,7 @@ ghost use Rattle.elf_model.specs.ObjectFile.{sections};
 ghost use Rattle.elf_model.specs.Relocation.{is_kept_rela};
 ghost use Rattle.elf_model.specs.RightLink.{objects_of, where_of};
 ghost use Rattle.check_load.specs.Views.{loaded_view};
-ghost use Rattle.check_relocs.specs.Bindings.{bound_of};
+ghost use Rattle.check_relocs.specs.Bindings.{AreTargets, bound_of};
 ghost use Rattle.check_relocs.specs.Kinds.{kind_view};
 ghost use Rattle.check_relocs.specs.LawfulFields as fields;
 ghost use Rattle.explain_check.specs.Places.{AreFailures, FailsIn};
@@ -19,18 +19,17 @@ use crate::place::CheckPlace;
 use check_load::Loaded;
 use check_relocs::{
     Kind, LinkTerms, Relocated, Target, Terms, fits, is_mismatch, is_some_kind, kind_of,
-    link_terms, refers_to_dropped, relocated, target_at, targets_of, value_of,
+    link_terms, refers_to_dropped, relocated, target_at, unknown_targets, value_of,
 };
 use checker::BoundLink;
 use elf_model::{Rela, SectionHeader};
 use std::alloc::{AllocError, Global};
 
-/// An object whose relocations are looked at: its number, and what its symbols mean to them.
+/// An object whose relocations are looked at, with its number.
 #[derive(Clone, Copy)]
 pub struct Referrer<'r, 'a> {
     pub number: usize,
     pub one: &'r Loaded<'a>,
-    pub targets: &'r [Target],
 }
 
 /// Whether a field of a width at an offset is inside so many bytes.
@@ -64,7 +63,8 @@ fn fault_with(kind: &Kind, target: &Target, to: &Relocated, entry: &Rela) -> Opt
 
 /// The value of an entry of a kind, modulo 2^64.
 fn value_with(kind: &Kind, target: &Target, to: &Relocated, given: &LinkTerms, entry: &Rela) -> u64
-    ensures { result ≡ fields.value_with (Some (kind_view kind.now)) target.now to.now given.now entry.now }
+    ensures { result ≡ fields.value_with
+        (Some (kind_view kind.now)) target.now to.now given.now entry.now }
 {
     let terms = Terms {
         symbol: target.value,
@@ -81,15 +81,21 @@ fn value_with(kind: &Kind, target: &Target, to: &Relocated, given: &LinkTerms, e
 fn wrong_entry<'a>(
     bound: &BoundLink<'_, 'a>,
     referrer: &Referrer<'_, 'a>,
+    targets: &mut Vec<Option<Target>>,
     i: usize,
     header: &SectionHeader,
     e: usize,
 ) -> Option<MemoryPlace<'a>>
     requires referrer { IsReferrer (bound_of bound.now) referrer.now }
-    requires there { slice_get (sections (loaded_view referrer.now.one.now).bytes) i ≡ Some header.now }
+    requires targets { AreTargets (bound_of bound.now) referrer.now.number
+        (loaded_view referrer.now.one.now) targets.old.items }
+    requires there { slice_get (sections (loaded_view referrer.now.one.now).bytes) i
+        ≡ Some header.now }
     requires kept { is_kept_rela (loaded_view referrer.now.one.now) i header.now ≡ true }
     requires rela { header.now.sh_type ≡ 4 }
-    ensures { IfSome result (λ p. FailsIn bound.now (CheckPlace.Memory p)) }
+    ensures kept { AreTargets (bound_of bound.now) referrer.now.number
+        (loaded_view referrer.now.one.now) targets.new.items }
+    ensures fails { IfSome result (λ p. FailsIn bound.now (CheckPlace.Memory p)) }
 {
     let bindings = bound.bindings();
     let one = referrer.one;
@@ -105,7 +111,7 @@ fn wrong_entry<'a>(
     };
     let to = relocated(bindings, number, &one.object, header.sh_info);
     let symbol = entry.symbol() as usize;
-    let target = target_at(bindings, referrer.targets, number, one, symbol);
+    let target = target_at(bindings, targets, number, one, symbol);
     let given = link_terms(bindings, number, one, &entry);
     if let Some(fault) = fault_with(&kind, &target, &to, &entry) {
         return Some(MemoryPlace::Relocation(place, fault));
@@ -123,11 +129,16 @@ fn add_entries<'a>(
     found: &mut Found<'a>,
     bound: &BoundLink<'_, 'a>,
     referrer: &Referrer<'_, 'a>,
+    targets: &mut Vec<Option<Target>>,
     i: usize,
 ) -> Result<(), AllocError>
     requires referrer { IsReferrer (bound_of bound.now) referrer.now }
+    requires targets { AreTargets (bound_of bound.now) referrer.now.number
+        (loaded_view referrer.now.one.now) targets.old.items }
     requires before { AreFailures bound.now found.old.places.items }
-    ensures { OnOk result (AreFailures bound.now found.new.places.items) }
+    ensures kept { OnOk result (AreTargets (bound_of bound.now) referrer.now.number
+        (loaded_view referrer.now.one.now) targets.new.items) }
+    ensures failures { OnOk result (AreFailures bound.now found.new.places.items) }
 {
     let Some(header) = header_at(referrer.one, i) else {
         return Ok(());
@@ -137,7 +148,7 @@ fn add_entries<'a>(
     }
     let count = entries_of(referrer.one, i, &header).len();
     for e in 0..count {
-        let wrong = wrong_entry(bound, referrer, i, &header, e);
+        let wrong = wrong_entry(bound, referrer, targets, i, &header, e);
         add_memory(found, bound, wrong)?;
     }
     Ok(())
@@ -148,13 +159,16 @@ fn add_object<'a>(
     found: &mut Found<'a>,
     bound: &BoundLink<'_, 'a>,
     referrer: &Referrer<'_, 'a>,
+    targets: &mut Vec<Option<Target>>,
 ) -> Result<(), AllocError>
     requires referrer { IsReferrer (bound_of bound.now) referrer.now }
+    requires targets { AreTargets (bound_of bound.now) referrer.now.number
+        (loaded_view referrer.now.one.now) targets.old.items }
     requires before { AreFailures bound.now found.old.places.items }
     ensures { OnOk result (AreFailures bound.now found.new.places.items) }
 {
     for i in 0..referrer.one.object.sections().len() {
-        add_entries(found, bound, referrer, i)?;
+        add_entries(found, bound, referrer, targets, i)?;
     }
     Ok(())
 }
@@ -173,13 +187,8 @@ fn add_numbered<'a>(
     let Some(one) = object_at(bindings.objects(), number) else {
         return Ok(());
     };
-    let targets = targets_of(alloc, bindings, number as u64, one)?;
-    let referrer = Referrer {
-        number,
-        one,
-        targets: &targets,
-    };
-    add_object(found, bound, &referrer)
+    let mut targets = unknown_targets(alloc, one)?;
+    add_object(found, bound, &Referrer { number, one }, &mut targets)
 }
 
 /// Adds the kept relocations of a link that aren't lawful or whose values don't fit: where its ninth clause fails, but for

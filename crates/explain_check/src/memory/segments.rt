@@ -39,27 +39,31 @@ fn holds_none(things: &[Thing], segment: &ProgramHeader) -> bool
 }
 
 fn is_last(segment: &ProgramHeader, thing: &Thing, end: u64) -> bool
-    ensures { IsTrue result ↔ (IsOfSegment segment.now thing.now × (thing.now.at + thing.now.size ≡ end)) }
+    ensures { IsTrue result ↔ (IsOfSegment segment.now thing.now
+        × (thing.now.at + thing.now.size ≡ end)) }
 {
     is_of_segment(segment, thing) && ends_at(thing, end)
 }
 
 fn is_no_later(segment: &ProgramHeader, thing: &Thing, end: u64) -> bool
-    ensures { IsTrue result ↔ (IsOfSegment segment.now thing.now → thing.now.at + thing.now.size ≤ end) }
+    ensures { IsTrue result ↔ (IsOfSegment segment.now thing.now
+        → thing.now.at + thing.now.size ≤ end) }
 {
     !is_of_segment(segment, thing) || ends_by(thing, end)
 }
 
 /// Whether a nonempty thing of a segment ends at an address.
 fn has_last(things: &[Thing], segment: &ProgramHeader, end: u64) -> bool
-    ensures { IsTrue result ↔ Any (λ t. IsOfSegment segment.now t × (t.at + t.size ≡ end)) things.now }
+    ensures { IsTrue result ↔ Any
+        (λ t. IsOfSegment segment.now t × (t.at + t.size ≡ end)) things.now }
 {
     things.iter().any(|t| is_last(segment, t, end))
 }
 
 /// Whether no nonempty thing of a segment ends above an address.
 fn has_none_later(things: &[Thing], segment: &ProgramHeader, end: u64) -> bool
-    ensures { IsTrue result ↔ All (λ t. IsOfSegment segment.now t → t.at + t.size ≤ end) things.now }
+    ensures { IsTrue result ↔ All
+        (λ t. IsOfSegment segment.now t → t.at + t.size ≤ end) things.now }
 {
     things.iter().all(|t| is_no_later(segment, t, end))
 }
@@ -72,26 +76,30 @@ fn is_in_file_of(segment: &ProgramHeader, thing: &Thing) -> bool
 }
 
 fn is_last_in_file(segment: &ProgramHeader, thing: &Thing, end: u64) -> bool
-    ensures { IsTrue result ↔ (IsInFileOf segment.now thing.now × (thing.now.at + thing.now.size ≡ end)) }
+    ensures { IsTrue result ↔ (IsInFileOf segment.now thing.now
+        × (thing.now.at + thing.now.size ≡ end)) }
 {
     is_in_file_of(segment, thing) && ends_at(thing, end)
 }
 
 fn is_no_later_in_file(segment: &ProgramHeader, thing: &Thing, end: u64) -> bool
-    ensures { IsTrue result ↔ (IsInFileOf segment.now thing.now → thing.now.at + thing.now.size ≤ end) }
+    ensures { IsTrue result ↔ (IsInFileOf segment.now thing.now
+        → thing.now.at + thing.now.size ≤ end) }
 {
     !is_in_file_of(segment, thing) || ends_by(thing, end)
 }
 
 fn has_last_in_file(things: &[Thing], segment: &ProgramHeader, end: u64) -> bool
-    ensures { IsTrue result ↔ Any (λ t. IsInFileOf segment.now t × (t.at + t.size ≡ end)) things.now }
+    ensures { IsTrue result ↔ Any
+        (λ t. IsInFileOf segment.now t × (t.at + t.size ≡ end)) things.now }
 {
     things.iter().any(|t| is_last_in_file(segment, t, end))
 }
 
 /// Whether a thing of a segment that has bytes in the file ends at an address, or the segment begins there.
 fn is_end_in_file(things: &[Thing], segment: &ProgramHeader, end: u64) -> bool
-    ensures { IsTrue result ↔ (end ≢ segment.now.p_vaddr → Any (λ t. IsInFileOf segment.now t × (t.at + t.size ≡ end)) things.now) }
+    ensures { IsTrue result ↔ (end ≢ segment.now.p_vaddr
+        → Any (λ t. IsInFileOf segment.now t × (t.at + t.size ≡ end)) things.now) }
 {
     end == segment.p_vaddr || has_last_in_file(things, segment, end)
 }

@@ -28,7 +28,8 @@ use std::collections::{BTreeMap, BTreeSet};
 
 /// The slot line that has a number.
 pub fn line_at<'m>(bound: &BoundLink<'_, 'm>, number: usize) -> Option<&'m SlotLine>
-    ensures { IfSome result (λ line. slice_get bound.now.map.slots number ≡ Some (slot_row line.now)) }
+    ensures { IfSome result (λ line. slice_get bound.now.map.slots number
+        ≡ Some (slot_row line.now)) }
 {
     bound.slots().lines().get(number)
 }
@@ -37,7 +38,7 @@ pub fn line_at<'m>(bound: &BoundLink<'_, 'm>, number: usize) -> Option<&'m SlotL
 fn is_asked<'a>(needs: &Needs<'a>, request: &Request<'a>) -> bool
     ensures { result ≡ asked.is_asked needs.now.requests (request_view request.now) }
 {
-    needs.requests.contains(request)
+    needs.requests.has(request)
 }
 
 /// The line that has a number, where no relocation asks for its slot.

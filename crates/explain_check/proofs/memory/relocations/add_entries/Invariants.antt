@@ -1,5 +1,10 @@
+use Rattle.check_load.specs.Views.{loaded_view}
+use Rattle.check_relocs.specs.Bindings.{AreTargets, bound_of}
 use Rattle.explain_check.specs.Places.{AreFailures}
 use Rattle.explain_check.proofs.memory.relocations.add_entries.Given as goal
 
 abbrev pub invariant-loop-e : goal.invariant-loop-e
-invariant-loop-e l = AreFailures l.bound l.found.places.items
+invariant-loop-e l = record {
+  known : AreTargets (bound_of l.bound) l.referrer.number (loaded_view l.referrer.one.now) l.targets.items;
+  failures : AreFailures l.bound l.found.places.items;
+}

@@ -9,8 +9,8 @@ use Rattle.explain_check.specs.WrongEntries.{IsWrongWith}
 use Rattle.explain_check.proofs.WrongRelocations.{told_unfit, told_unlawful, unfit, unlawful, value_same}
 use Rattle.explain_check.proofs.memory.relocations.wrong_entry.Goals as goal
 
-pub returns-in-Some-fault_with : goal.returns-in-Some-fault_with
-returns-in-Some-fault_with c =
+pub returns-in-Some-fault_with-clause-fails : goal.returns-in-Some-fault_with-clause-fails
+returns-in-Some-fault_with-clause-fails c =
     let b = c.bindings-bindings.result.now in
     let n = c.args.referrer.now.number in
     let o = loaded_view c.args.referrer.now.one.now in
@@ -19,7 +19,7 @@ returns-in-Some-fault_with c =
     let t = c.target_at-target.result in
     let g = c.link_terms-given.result in
     let f = c.in-Some-fault_with.fault in
-    let means = subst (λ (j : ℕ). IsTargetOf b (symbol_at n o j) t) c.symbol-symbol.ensures c.target_at-target.ensures in
+    let means = subst (λ (j : ℕ). IsTargetOf b (symbol_at n o j) t) c.symbol-symbol.ensures c.target_at-target.ensures.target in
     let kind : ◌≡◌ {A = Option Kind} (Some (kind_view c.in-Some.kind)) (kind_of (rela_type e)) = c.in-Some.ensures.kind ∙ ap kind_of c.kind.ensures in
     let wrong = subst (λ (k : Option Kind). IsWrongWith k t to e f) kind c.in-Some-fault_with.ensures in
     told_unlawful c.args.bound.now b (loaded_views c.objects-objects.result.now) c.kept_place-place.result n o c.args.header.now.sh_info to.section e f
@@ -27,8 +27,8 @@ returns-in-Some-fault_with c =
     (unlawful b n o to g e t means c.relocated-to.ensures.size c.relocated-to.ensures.frames c.relocated-to.ensures.address
     (c.link_terms-given.ensures.slot to.section) c.link_terms-given.ensures.got c.link_terms-given.ensures.pointer f wrong)
 
-pub returns : goal.returns
-returns c =
+pub returns-clause-fails : goal.returns-clause-fails
+returns-clause-fails c =
     let b = c.bindings-bindings.result.now in
     let n = c.args.referrer.now.number in
     let o = loaded_view c.args.referrer.now.one.now in
@@ -37,7 +37,7 @@ returns c =
     let t = c.target_at-target.result in
     let g = c.link_terms-given.result in
     let k = kind_view c.in-Some.kind in
-    let means = subst (λ (j : ℕ). IsTargetOf b (symbol_at n o j) t) c.symbol-symbol.ensures c.target_at-target.ensures in
+    let means = subst (λ (j : ℕ). IsTargetOf b (symbol_at n o j) t) c.symbol-symbol.ensures c.target_at-target.ensures.target in
     let kind : ◌≡◌ {A = Option Kind} (kind_of (rela_type e)) (Some k) = sym (c.in-Some.ensures.kind ∙ ap kind_of c.kind.ensures) in
     let slot = c.link_terms-given.ensures.slot to.section in
     let size = c.relocated-to.ensures.size in
