@@ -12,9 +12,10 @@ fn section(file: &View<'_>, header: &FileHeader, number: u16) -> Result<SectionH
 
 /// The bytes of a section.
 fn contents<'i>(file: &View<'i>, header: &SectionHeader) -> Result<View<'i>, Fail> {
-    Ok(file
-        .sub(header.sh_offset as usize, header.sh_size as usize)
-        .ok_or("a section's bytes")?)
+    Ok(
+        file.sub(header.sh_offset as usize, header.sh_size as usize)
+            .ok_or("a section's bytes")?,
+    )
 }
 
 /// Whether a name with its NUL stands at an offset of a table of strings.
@@ -22,8 +23,7 @@ fn is_named(strings: &View<'_>, at: usize, name: &str) -> bool {
     let Some(there) = strings.sub(at, name.len()) else {
         return false;
     };
-    there.bytes() == name.as_bytes()
-        && strings.bytes().get(at.wrapping_add(name.len())) == Some(&0)
+    there.bytes() == name.as_bytes() && strings.bytes().get(at.wrapping_add(name.len())) == Some(&0)
 }
 
 /// The header of the first section of a name.
