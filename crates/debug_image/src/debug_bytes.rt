@@ -1,41 +1,72 @@
 //! The bytes of debug data: those of the input, and over them what entries want.
-ghost use Rattle.std.specs.Prelude.{◌≡◌, ◌++◌, ◌<◌, ℕ, IfOk, length, replicate, slice_index};
+ghost use Rattle.std.specs.Prelude.{◌≡◌, ◌++◌, ◌<◌, ◌&&◌, ℕ, IfOk, Option, length, option_map, replicate, slice_index};
 ghost use Rattle.std.specs.List.{filter_map, list_any};
+ghost use Rattle.std.specs.Option.{is_none};
+ghost use Rattle.elf_model.specs.Relocation.{is_some_kind};
 ghost use Rattle.layout.specs.PlaceViews.{place_view};
 ghost use Rattle.search.specs.Views.{loaded_view};
 ghost use Rattle.debug_image.specs.DebugLayouts.{IsDataLayout, IsHere, data_in, object_here, placed_here};
 ghost use Rattle.debug_image.specs.DebugValues as spec;
-ghost use Rattle.debug_image.specs.DebugViews.{chunk_view};
+ghost use Rattle.debug_image.specs.DebugValues as values;
+ghost use Rattle.debug_image.specs.DebugViews.{chunk_view, field_view};
 
 use crate::chunks::Chunk;
 use crate::debug_values::{DataLayout, Here};
-use crate::fields::{entry_field, write_some};
+use crate::fields::{Field, entry_field, write_some};
+use crate::lists::either;
+use elf_model::Rela;
 use elf_read::RelaRun;
 use layout::Place;
+use relocate::is_some_kind;
 use search::LoadedObject;
 use std::alloc::{AllocError, Global};
 
-/// Writes what entries want.
+/// The bytes of a section as they stand in the image; and whether an entry for it can't be relocated: its type isn't known, its
+/// field isn't inside the section, or its value doesn't fit. The bytes of such a field are those of the input.
+#[derive(Drop)]
+pub struct ChunkBytes {
+    pub bytes: Vec<u8>,
+    pub has_left: bool,
+}
+
+/// Whether an entry relocates, and has no field.
+fn is_left(entry: &Rela, field: &Option<Field>) -> bool
+    ensures { (f : Option values.Field) → option_map field_view field.now ≡ f
+        → result ≡ (is_some_kind entry.now && is_none f) }
+{
+    match field {
+        Some(_) => false,
+        None => is_some_kind(entry),
+    }
+}
+
+/// Writes what entries want; answers whether one of them can't be relocated.
 fn write_run<'a>(
     layout: &DataLayout<'_, 'a>,
     here: &Here<'_, '_, 'a>,
     entries: &RelaRun<'_>,
     bytes: &mut [u8],
-)
+) -> bool
     requires layout { IsDataLayout layout.now }
     requires here { IsHere layout.now here.now }
     requires whole { length bytes.old ≡ length (placed_here here.now).piece.bytes }
-    ensures { (k : ℕ) → k < length bytes.old
+    ensures bytes { (k : ℕ) → k < length bytes.old
         → slice_index bytes.new k
         ≡ spec.byte_under k (slice_index bytes.old k)
         (filter_map (spec.entry_field (data_in layout.now) (placed_here here.now)
         (object_here here.now)) entries.now) }
+    ensures left { result ≡ list_any (spec.is_left (data_in layout.now) (placed_here here.now)
+        (object_here here.now)) entries.now }
 {
     let count = entries.len();
+    let mut left = false;
     for i in 0..count {
-        let field = entry_field(layout, here, &entries.at(i));
+        let entry = entries.at(i);
+        let field = entry_field(layout, here, &entry);
         write_some(&field, bytes);
+        left = either(left, is_left(&entry, &field));
     }
+    left
 }
 
 /// Whether section `i` of an object, if it holds relocations, holds those of a section, and isn't dropped.
@@ -46,7 +77,7 @@ fn is_rela_for(loaded: &LoadedObject<'_>, target: u64, i: usize) -> bool
 }
 
 /// The entries of section `i` of an object for a section; none where it holds none for that.
-pub fn entries_at<'a>(loaded: &LoadedObject<'a>, target: u64, i: usize) -> RelaRun<'a>
+fn entries_at<'a>(loaded: &LoadedObject<'a>, target: u64, i: usize) -> RelaRun<'a>
     ensures { result ≡ spec.entries_at (loaded_view loaded.now) target i }
 {
     if is_rela_for(loaded, target, i) {
@@ -56,37 +87,44 @@ pub fn entries_at<'a>(loaded: &LoadedObject<'a>, target: u64, i: usize) -> RelaR
     }
 }
 
-/// Writes what all entries for a section want.
-fn write_all<'a>(layout: &DataLayout<'_, 'a>, here: &Here<'_, '_, 'a>, bytes: &mut [u8])
+/// Writes what all entries for a section want; answers whether one of them can't be relocated.
+fn write_all<'a>(layout: &DataLayout<'_, 'a>, here: &Here<'_, '_, 'a>, bytes: &mut [u8]) -> bool
     requires layout { IsDataLayout layout.now }
     requires here { IsHere layout.now here.now }
     requires whole { length bytes.old ≡ length (placed_here here.now).piece.bytes }
-    ensures { (k : ℕ) → k < length bytes.old
+    ensures bytes { (k : ℕ) → k < length bytes.old
         → slice_index bytes.new k
         ≡ spec.byte_under k (slice_index bytes.old k)
         (spec.fields_for (data_in layout.now) (placed_here here.now) (object_here here.now)) }
+    ensures left { result ≡ list_any (spec.is_left (data_in layout.now) (placed_here here.now)
+        (object_here here.now))
+        (spec.entries_for (object_here here.now) here.now.place.now.piece.section) }
 {
     let place = here.place;
     let loaded = here.loaded;
     let count = loaded.object.sections().len();
+    let mut left = false;
     for i in 0..count {
         let entries = entries_at(loaded, place.piece.section, i);
-        write_run(layout, here, &entries, bytes);
+        left = either(left, write_run(layout, here, &entries, bytes));
     }
+    left
 }
 
-/// Writes what is wanted over the bytes of a section.
-fn write_wanted<'a>(layout: &DataLayout<'_, 'a>, place: &Place<'a>, bytes: &mut [u8])
+/// Writes what is wanted over the bytes of a section; answers whether an entry for it can't be relocated.
+fn write_wanted<'a>(layout: &DataLayout<'_, 'a>, place: &Place<'a>, bytes: &mut [u8]) -> bool
     requires layout { IsDataLayout layout.now }
     requires whole { length bytes.old ≡ length (place_view place.now).piece.bytes }
-    ensures { (k : ℕ) → k < length bytes.old
+    ensures bytes { (k : ℕ) → k < length bytes.old
         → slice_index bytes.new k
         ≡ spec.byte_under k (slice_index bytes.old k)
         (spec.fields (data_in layout.now) (place_view place.now)) }
+    ensures left { result ≡ spec.has_left (data_in layout.now) (place_view place.now) }
 {
     let objects = layout.objects;
-    if let Some(loaded) = objects.get(place.piece.object as usize) {
-        write_all(layout, &Here { loaded, place }, bytes);
+    match objects.get(place.piece.object as usize) {
+        Some(loaded) => write_all(layout, &Here { loaded, place }, bytes),
+        None => false,
     }
 }
 
@@ -95,14 +133,16 @@ fn debug_bytes<'a>(
     alloc: Global,
     layout: &DataLayout<'_, 'a>,
     place: &Place<'a>,
-) -> Result<Vec<u8>, AllocError>
+) -> Result<ChunkBytes, AllocError>
     requires { IsDataLayout layout.now }
-    ensures { IfOk result (λ v. v.items
+    ensures bytes { IfOk result (λ c. c.bytes.items
         ≡ spec.debug_bytes (data_in layout.now) (place_view place.now)) }
+    ensures left { IfOk result (λ c. c.has_left
+        ≡ spec.has_left (data_in layout.now) (place_view place.now)) }
 {
     let mut bytes = Vec::from_slice(alloc, place.piece.bytes)?;
-    write_wanted(layout, place, &mut bytes);
-    Ok(bytes)
+    let has_left = write_wanted(layout, place, &mut bytes);
+    Ok(ChunkBytes { bytes, has_left })
 }
 
 /// The bytes of a section as they stand in the image, and the zeros in front of them.
@@ -114,14 +154,22 @@ pub fn chunk_bytes<'a>(
     alloc: Global,
     layout: &DataLayout<'_, 'a>,
     chunk: &Chunk<'a>,
-) -> Result<Vec<u8>, AllocError>
+) -> Result<ChunkBytes, AllocError>
     requires { IsDataLayout layout.now }
-    ensures { IfOk result (λ v. v.items
+    ensures bytes { IfOk result (λ c. c.bytes.items
         ≡ spec.chunk_bytes (data_in layout.now) (chunk_view chunk.now)) }
+    ensures left { IfOk result (λ c. c.has_left
+        ≡ spec.has_left (data_in layout.now) (place_view chunk.now.place)) }
 {
-    let bytes = debug_bytes(alloc, layout, &chunk.place)?;
+    let made = debug_bytes(alloc, layout, &chunk.place)?;
+    if chunk.pad == 0 {
+        return Ok(made);
+    }
     let mut all = Vec::new(alloc);
     all.resize(chunk.pad as usize, 0)?;
-    all.extend_from_slice(&bytes)?;
-    Ok(all)
+    all.extend_from_slice(&made.bytes)?;
+    Ok(ChunkBytes {
+        bytes: all,
+        has_left: made.has_left,
+    })
 }

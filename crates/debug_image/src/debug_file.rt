@@ -277,7 +277,8 @@ fn add_chunks<'a>(
         ≡ file.old.items ++ all_bytes (data_in layout.now) (chunk_views chunks.now)) }
 {
     for chunk in chunks {
-        file.extend_from_slice(&chunk_bytes(alloc, layout, chunk)?)?;
+        let made = chunk_bytes(alloc, layout, chunk)?;
+        file.extend_from_slice(&made.bytes)?;
     }
     Ok(())
 }

@@ -21,10 +21,10 @@ mod symbol_table;
 mod tables;
 
 pub use chunks::Chunk;
-pub use debug_bytes::chunk_bytes;
+pub use debug_bytes::{ChunkBytes, chunk_bytes};
 pub use debug_file::{DebugParts, Wanted, data_layout, debug_image, debug_parts};
 pub use debug_values::DataLayout;
 pub use faults::DebugFault;
 pub use joined::{DebugData, Joined};
 pub use plain_part::plain_image;
-pub use reports::{compressed, unrelocated};
+pub use reports::compressed;

@@ -1,7 +1,10 @@
 //! Debug data of an image: what is joined, and what relocations want. The values are those of the psABI's formulas, by hand.
+ghost use Rattle.debug_image.specs.DebugLayouts.{IsDataLayout};
+
 use crate::found::{bytes_of, find, has_section};
 use debug_image::{
-    Wanted, compressed, data_layout, debug_image, debug_parts, plain_image, unrelocated,
+    Chunk, DataLayout, Wanted, chunk_bytes, compressed, data_layout, debug_image, debug_parts,
+    plain_image,
 };
 use elf_model::{
     InputFile, ObjectId, SHF_ALLOC, SHF_COMPRESSED, SHF_TLS, SHF_WRITE, SHT_GROUP, SHT_PROGBITS,
@@ -76,6 +79,27 @@ struct Made {
     unrelocated: Vec<SectionRef>,
 }
 
+/// The sections with an entry that can't be relocated.
+fn unrelocated<'a>(
+    alloc: Global,
+    layout: &DataLayout<'_, 'a>,
+    chunks: &[Chunk<'a>],
+) -> Result<Vec<SectionRef>, Fail>
+    requires { IsDataLayout layout.now }
+{
+    let mut found = Vec::new(alloc);
+    for chunk in chunks {
+        let made = chunk_bytes(alloc, layout, chunk)?;
+        if made.has_left {
+            found.push(SectionRef {
+                object: ObjectId(chunk.place.piece.object),
+                section: chunk.place.piece.section,
+            })?;
+        }
+    }
+    Ok(found)
+}
+
 /// The image of the link of files, with debug data or without.
 fn made_of(alloc: Global, files: &[InputFile], line: &str, debug: bool) -> Result<Made, Fail> {
     let words = words_of(alloc, line)?;
@@ -101,7 +125,7 @@ fn made_of(alloc: Global, files: &[InputFile], line: &str, debug: bool) -> Resul
         debuggable,
         plain: image(alloc, &linkage)?,
         compressed: compressed(alloc, layout.objects)?,
-        unrelocated: unrelocated(alloc, &layout)?,
+        unrelocated: unrelocated(alloc, &layout, &parts.chunks)?,
     })
 }
 

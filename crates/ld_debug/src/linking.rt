@@ -3,10 +3,10 @@ ghost use Rattle.debug_image.specs.DebugLayouts.{IsDataLayout};
 
 use crate::image_files::written_image;
 use crate::outputs::{finish, written};
-use crate::reports::print_reports;
+use crate::reports::{print_compressed, print_unrelocated};
 use command::Plan;
 use debug_image::{DataLayout, DebugFault, DebugParts, Wanted, data_layout, debug_parts};
-use elf_model::{InputFile, LinkError};
+use elf_model::{InputFile, LinkError, SectionRef};
 use ld_main::{Failure, Linkage, NewFile, definitions, map_text, prepare, refused};
 use resolve::resolve;
 use std::alloc::Global;
@@ -51,10 +51,11 @@ fn write_both<'a, 'b, R: Files + AllocGlobal + RandomSource>(
     parts: &DebugParts<'b>,
     map: &'a str,
     text: &[u8],
+    left: &mut Vec<SectionRef>,
 ) -> Result<(), Failure<'a>>
     requires { IsDataLayout layout.now }
 {
-    let image_file = written_image(rt, output, layout, parts)?;
+    let image_file = written_image(rt, output, layout, parts, left)?;
     match written(rt, map, text) {
         Ok(map_file) => finish_both(rt, output, image_file, map, map_file),
         Err(failure) => {
@@ -64,29 +65,31 @@ fn write_both<'a, 'b, R: Files + AllocGlobal + RandomSource>(
     }
 }
 
-/// Writes the image of a link, and its map, where the words name one.
+/// Writes the image of a link, and its map, where the words name one. Adds the sections of debug data of which some relocations
+/// can't be done.
 fn write_files<'a, 'b, R: Files + AllocGlobal + RandomSource>(
     rt: &R,
     plan: &Plan<'a>,
     linkage: &Linkage<'_>,
     layout: &DataLayout<'_, 'b>,
     parts: &DebugParts<'b>,
+    left: &mut Vec<SectionRef>,
 ) -> Result<(), Failure<'a>>
     requires { IsDataLayout layout.now }
 {
     match plan.map {
         Some(map) => {
             let text = map_text(rt.alloc(), linkage)?;
-            write_both(rt, plan.output, layout, parts, map, &text)
+            write_both(rt, plan.output, layout, parts, map, &text, left)
         }
         None => {
-            let file = written_image(rt, plan.output, layout, parts)?;
+            let file = written_image(rt, plan.output, layout, parts, left)?;
             finish(rt, plan.output, file)
         }
     }
 }
 
-/// Makes the image of a link, tells what is left out of it, and writes it and the map.
+/// Makes the image of a link, writes it and the map, and tells what is left out of it or isn't relocated.
 fn write_link<'a, 'b, R: Files + AllocGlobal + RandomSource, E: Write>(
     rt: &R,
     plan: &Plan<'a>,
@@ -101,9 +104,12 @@ fn write_link<'a, 'b, R: Files + AllocGlobal + RandomSource, E: Write>(
     };
     let layout = data_layout(linkage, &resolved, &parts.data.rows);
     if wanted.debug {
-        print_reports(rt.alloc(), err, files, &layout)?;
+        print_compressed(rt.alloc(), err, files, layout.objects)?;
     }
-    write_files(rt, plan, linkage, &layout, &parts)
+    let mut left = Vec::new(rt.alloc());
+    write_files(rt, plan, linkage, &layout, &parts, &mut left)?;
+    print_unrelocated(err, files, layout.objects, &left);
+    Ok(())
 }
 
 /// Links files, and writes the debuggable image and the map.

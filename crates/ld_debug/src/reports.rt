@@ -1,7 +1,5 @@
 //! The lines that tell which debug data aren't in an image as they should be.
-ghost use Rattle.debug_image.specs.DebugLayouts.{IsDataLayout};
-
-use debug_image::{DataLayout, compressed, unrelocated};
+use debug_image::compressed;
 use elf_model::{InputFile, SectionRef};
 use input_names::{write_name, write_object};
 use search::LoadedObject;
@@ -42,30 +40,36 @@ fn print_lines<E: Write>(
     Ok(())
 }
 
-/// Prints a line for each section of debug data that is left out, as it is compressed, or has entries that can't be relocated.
-pub fn print_reports<E: Write>(
+/// Prints a line for each section of debug data that is left out, as it is compressed.
+pub fn print_compressed<E: Write>(
     alloc: Global,
     err: &mut E,
     files: &[InputFile],
-    layout: &DataLayout<'_, '_>,
-) -> Result<(), AllocError>
-    requires { IsDataLayout layout.now }
-{
-    let left = compressed(alloc, layout.objects)?;
+    objects: &[LoadedObject<'_>],
+) -> Result<(), AllocError> {
+    let sections = compressed(alloc, objects)?;
     let _ = print_lines(
         err,
         files,
-        layout.objects,
-        &left,
+        objects,
+        &sections,
         "compressed debug data are left out; compile with -gz=none",
     );
-    let bare = unrelocated(alloc, layout)?;
+    Ok(())
+}
+
+/// Prints a line for each section of debug data of which some relocations can't be done.
+pub fn print_unrelocated<E: Write>(
+    err: &mut E,
+    files: &[InputFile],
+    objects: &[LoadedObject<'_>],
+    sections: &[SectionRef],
+) {
     let _ = print_lines(
         err,
         files,
-        layout.objects,
-        &bare,
+        objects,
+        sections,
         "some relocations of debug data can't be done; the bytes are left as they are",
     );
-    Ok(())
 }

@@ -23,13 +23,13 @@ under_all old new fs long each =
     ext_get_or 0 new (map f (range_with_len 0 (length old))) (long ∙ sym n)
     (λ k low. each k (omega (arith, low, long)) ∙ sym (get_or-map-range_with_len f 0 (length old) k k 0 (omega (arith, low, long)) (omega arith)))
 
-pub returns : goal.returns
-returns c =
+pub returns-clause-bytes : goal.returns-clause-bytes
+returns-clause-bytes c =
     let q = place_view c.args.place.now in
     let fs = fields (data_in c.args.layout.now) q in
     let old = c.deref_mut.result.now in
-    let new = c.write_wanted.new.bytes in
+    let new = c.write_wanted-has_left.new.bytes in
     let is : old ≡ q.piece.bytes = c.deref_mut.ensures.value ∙ c.in_ok-bytes.ensures.items in
-    written_back_any c.in_ok-bytes.bytes.items new c.in_ok-bytes.bytes.len (sym (c.write_wanted.auto.bytes ∙ c.deref_mut.ensures.len))
-    ∙ under_all old new fs c.write_wanted.auto.bytes c.write_wanted.ensures
+    written_back_any c.in_ok-bytes.bytes.items new c.in_ok-bytes.bytes.len (sym (c.write_wanted-has_left.auto.bytes ∙ c.deref_mut.ensures.len))
+    ∙ under_all old new fs c.write_wanted-has_left.auto.bytes c.write_wanted-has_left.ensures.bytes
     ∙ ap (λ (xs : List ℕ). map (λ k. byte_under k (slice_index xs k) fs) (range_with_len 0 (length xs))) is

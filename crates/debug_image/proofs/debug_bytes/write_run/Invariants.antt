@@ -1,13 +1,16 @@
 use Rattle.std.proofs.Common.{◌≡◌, ◌<◌, ℕ, length, take}
 use Rattle.std.specs.Prelude.{slice_index}
-use Rattle.std.specs.List.{filter_map}
+use Rattle.std.specs.List.{filter_map, list_any}
 use Rattle.debug_image.specs.DebugLayouts.{data_in, object_here, placed_here}
-use Rattle.debug_image.specs.DebugValues.{byte_under, entry_field}
+use Rattle.debug_image.specs.DebugValues.{byte_under, entry_field, is_left}
 use Rattle.debug_image.proofs.debug_bytes.write_run.Given as goal
 
 abbrev pub invariant-loop-i : goal.invariant-loop-i
-invariant-loop-i l =
-    (k : ℕ) → k < length l.bytes
-    → slice_index l.bytes k
-    ≡ byte_under k (slice_index l.fn.bytes k)
-    (filter_map (entry_field (data_in l.layout) (placed_here l.here) (object_here l.here)) (take l.i l.entries))
+invariant-loop-i l = record {
+  bytes :
+      (k : ℕ) → k < length l.bytes
+      → slice_index l.bytes k
+      ≡ byte_under k (slice_index l.fn.bytes k)
+      (filter_map (entry_field (data_in l.layout) (placed_here l.here) (object_here l.here)) (take l.i l.entries));
+  left : l.left ≡ list_any (is_left (data_in l.layout) (placed_here l.here) (object_here l.here)) (take l.i l.entries);
+}
