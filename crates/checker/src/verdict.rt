@@ -1,5 +1,5 @@
 //! The whole check, from the top: the clauses in their order, each judged where all before it hold.
-ghost use Rattle.std.specs.Prelude.{◌≡◌, ◌↔◌, IfNone, IfOk, IfSome};
+ghost use Rattle.std.specs.Prelude.{◌≡◌, ◌↔◌, IfNone, IfOk, IfSome, OnOk};
 ghost use Rattle.elf_model.specs.Files.{files_of, words_of};
 ghost use Rattle.elf_model.specs.RightLink.{Holds, HoldsBefore, IsRightLink, Least};
 ghost use Rattle.elf_model.specs.declared.verdict.Clause.{Clause};
@@ -8,6 +8,7 @@ ghost use Rattle.checker.specs.Judged.{Judges};
 
 use crate::bound_link::BoundLink;
 use crate::loaded_link::LoadedLink;
+use crate::observer::{Observer, Unobserved};
 use crate::placed_link::PlacedLink;
 use crate::{
     c02_loaded, c03_sections, c04_image, c05_placed, c06_rights, c07_got, c08_thread_block,
@@ -46,7 +47,7 @@ fn check_by(
         image,
         map,
     };
-    judge(alloc, &link, seed)
+    judge(alloc, &link, seed, &mut Unobserved)
 }
 
 /// Decides whether the image and the map are a right link of the files by the command's words: Yes, or the
@@ -103,55 +104,101 @@ fn no(clause: Clause, link: &Link<'_>) -> Verdict
     Verdict::No(clause)
 }
 
-/// Judges the clauses from the second on.
-fn judge(alloc: Global, link: &Link<'_>, seed: Option<NameSeed>) -> Result<Verdict, AllocError>
-    ensures { IfOk result (λ v. Judges v link.now) }
+/// Judges the clauses of a link in their order, from the second on: yes, or the first that fails, which an observer sees.
+///
+/// # Errors
+///
+/// Only where memory is refused.
+pub fn judge<'a, O: Observer<'a>>(
+    alloc: Global,
+    link: &'a Link<'a>,
+    seed: Option<NameSeed>,
+    observer: &mut O,
+) -> Result<Verdict, AllocError>
+    requires { O.Saw link.now observer.old }
+    ensures verdict { IfOk result (λ v. Judges v link.entry.now) }
+    ensures saw { OnOk result (O.Saw link.entry.now observer.new) }
 {
     let Some(objects) = open(alloc, &link.plan, link.files, seed)? else {
         return Ok(no(Clause::C2, link));
     };
     if !c02_loaded::holds(link, &objects) {
+        observer.see_objects(link, &objects)?;
         return Ok(no(Clause::C2, link));
     }
     let loaded = LoadedLink::new(alloc, link, &objects, seed)?;
-    judge_loaded(alloc, &loaded)
+    judge_loaded(alloc, &loaded, observer)
 }
 
 /// Judges the clauses from the third on.
-fn judge_loaded(alloc: Global, loaded: &LoadedLink<'_, '_>) -> Result<Verdict, AllocError>
-    requires { HoldsBefore clause.C3 loaded.now }
-    ensures { IfOk result (λ v. Judges v loaded.now) }
+fn judge_loaded<'a, O: Observer<'a>>(
+    alloc: Global,
+    loaded: &LoadedLink<'_, 'a>,
+    observer: &mut O,
+) -> Result<Verdict, AllocError>
+    requires clauses { HoldsBefore clause.C3 loaded.now }
+    requires before { O.Saw loaded.now observer.old }
+    ensures verdict { IfOk result (λ v. Judges v loaded.now) }
+    ensures saw { OnOk result (O.Saw loaded.now observer.new) }
 {
     let link = loaded.link();
     if !c03_sections::holds(alloc, loaded)? {
+        observer.see_loaded(loaded)?;
         return Ok(no(Clause::C3, link));
     }
     let Some(memory) = c04_image::load(alloc, link)? else {
         return Ok(no(Clause::C4, link));
     };
     let placed = PlacedLink::new(alloc, loaded, memory)?;
-    judge_placed(alloc, &placed)
+    judge_placed(alloc, &placed, observer)
+}
+
+/// The answer for a clause that fails of a link whose image is mapped.
+fn no_placed<'a, O: Observer<'a>>(
+    clause: Clause,
+    placed: &PlacedLink<'_, 'a>,
+    observer: &mut O,
+) -> Result<Verdict, AllocError>
+    requires clauses { HoldsBefore clause placed.now }
+    requires fails { ¬ Holds clause placed.now }
+    requires before { O.Saw placed.now observer.old }
+    ensures verdict { IfOk result (λ v. Judges v placed.now) }
+    ensures saw { OnOk result (O.Saw placed.now observer.new) }
+{
+    observer.see_placed(clause, placed)?;
+    Ok(no(clause, placed.link()))
 }
 
 /// Judges the clauses from the fifth on.
-fn judge_placed(alloc: Global, placed: &PlacedLink<'_, '_>) -> Result<Verdict, AllocError>
-    requires { HoldsBefore clause.C5 placed.now }
-    ensures { IfOk result (λ v. Judges v placed.now) }
+fn judge_placed<'a, O: Observer<'a>>(
+    alloc: Global,
+    placed: &PlacedLink<'_, 'a>,
+    observer: &mut O,
+) -> Result<Verdict, AllocError>
+    requires clauses { HoldsBefore clause.C5 placed.now }
+    requires before { O.Saw placed.now observer.old }
+    ensures verdict { IfOk result (λ v. Judges v placed.now) }
+    ensures saw { OnOk result (O.Saw placed.now observer.new) }
 {
-    let link = placed.link();
     if !c05_placed::holds(alloc, placed)? {
-        return Ok(no(Clause::C5, link));
+        return no_placed(Clause::C5, placed, observer);
     }
     if !c06_rights::holds(placed) {
-        return Ok(no(Clause::C6, link));
+        return no_placed(Clause::C6, placed, observer);
     }
-    judge_names(alloc, placed)
+    judge_names(alloc, placed, observer)
 }
 
 /// Judges the clauses from the seventh on, for which names get their meaning.
-fn judge_names(alloc: Global, placed: &PlacedLink<'_, '_>) -> Result<Verdict, AllocError>
-    requires { HoldsBefore clause.C7 placed.now }
-    ensures { IfOk result (λ v. Judges v placed.now) }
+fn judge_names<'a, O: Observer<'a>>(
+    alloc: Global,
+    placed: &PlacedLink<'_, 'a>,
+    observer: &mut O,
+) -> Result<Verdict, AllocError>
+    requires clauses { HoldsBefore clause.C7 placed.now }
+    requires before { O.Saw placed.now observer.old }
+    ensures verdict { IfOk result (λ v. Judges v placed.now) }
+    ensures saw { OnOk result (O.Saw placed.now observer.new) }
 {
     let link = placed.link();
     let got = link.map.got;
@@ -159,85 +206,121 @@ fn judge_names(alloc: Global, placed: &PlacedLink<'_, '_>) -> Result<Verdict, Al
     let slots = SlotTable::new(alloc, &link.map.slots, placed.names().seed())?;
     let places = Places::new(alloc, base_of(&link.plan), placed.placed(), got, &slots)?;
     let bindings = Bindings::new(placed.names(), &outputs, &places);
-    judge_bound(alloc, &BoundLink::new(placed, &slots, bindings))
+    judge_bound(alloc, &BoundLink::new(placed, &slots, bindings), observer)
+}
+
+/// The answer for a clause that fails of a link whose names have their meaning.
+fn no_bound<'a, O: Observer<'a>>(
+    clause: Clause,
+    bound: &BoundLink<'_, 'a>,
+    observer: &mut O,
+) -> Result<Verdict, AllocError>
+    requires clauses { HoldsBefore clause bound.now }
+    requires fails { ¬ Holds clause bound.now }
+    requires before { O.Saw bound.now observer.old }
+    ensures verdict { IfOk result (λ v. Judges v bound.now) }
+    ensures saw { OnOk result (O.Saw bound.now observer.new) }
+{
+    observer.see_bound(clause, bound)?;
+    Ok(no(clause, bound.link()))
 }
 
 /// Judges the clauses from the seventh on.
-fn judge_bound(alloc: Global, bound: &BoundLink<'_, '_>) -> Result<Verdict, AllocError>
-    requires { HoldsBefore clause.C7 bound.now }
-    ensures { IfOk result (λ v. Judges v bound.now) }
+fn judge_bound<'a, O: Observer<'a>>(
+    alloc: Global,
+    bound: &BoundLink<'_, 'a>,
+    observer: &mut O,
+) -> Result<Verdict, AllocError>
+    requires clauses { HoldsBefore clause.C7 bound.now }
+    requires before { O.Saw bound.now observer.old }
+    ensures verdict { IfOk result (λ v. Judges v bound.now) }
+    ensures saw { OnOk result (O.Saw bound.now observer.new) }
 {
-    let link = bound.link();
     if !c07_got::holds(alloc, bound)? {
-        return Ok(no(Clause::C7, link));
+        return no_bound(Clause::C7, bound, observer);
     }
     if !c08_thread_block::holds(bound) {
-        return Ok(no(Clause::C8, link));
+        return no_bound(Clause::C8, bound, observer);
     }
-    judge_relocations(alloc, bound)
+    judge_relocations(alloc, bound, observer)
 }
 
 /// Judges the ninth and the tenth clause, and then gives the fields of the relocations back: a verdict where one of the
 /// two fails.
-fn judge_fields(alloc: Global, bound: &BoundLink<'_, '_>) -> Result<Option<Verdict>, AllocError>
-    requires { HoldsBefore clause.C9 bound.now }
+fn judge_fields<'a, O: Observer<'a>>(
+    alloc: Global,
+    bound: &BoundLink<'_, 'a>,
+    observer: &mut O,
+) -> Result<Option<Verdict>, AllocError>
+    requires clauses { HoldsBefore clause.C9 bound.now }
+    requires before { O.Saw bound.now observer.old }
     ensures fails { IfOk result (λ o. IfSome o (λ v. Judges v bound.now)) }
     ensures holds { IfOk result (λ o. IfNone o (HoldsBefore clause.C11 bound.now)) }
+    ensures saw { OnOk result (O.Saw bound.now observer.new) }
 {
-    let link = bound.link();
     let Some(rows) = c09_relocations::rows(alloc, bound)? else {
-        return Ok(Some(no(Clause::C9, link)));
+        return Ok(Some(no_bound(Clause::C9, bound, observer)?));
     };
     if !c10_bytes::holds(bound, &rows) {
-        return Ok(Some(no(Clause::C10, link)));
+        observer.see_fields(bound, &rows)?;
+        return Ok(Some(no(Clause::C10, bound.link())));
     }
     Ok(None)
 }
 
 /// Judges the clauses from the ninth on.
-fn judge_relocations(alloc: Global, bound: &BoundLink<'_, '_>) -> Result<Verdict, AllocError>
-    requires { HoldsBefore clause.C9 bound.now }
-    ensures { IfOk result (λ v. Judges v bound.now) }
+fn judge_relocations<'a, O: Observer<'a>>(
+    alloc: Global,
+    bound: &BoundLink<'_, 'a>,
+    observer: &mut O,
+) -> Result<Verdict, AllocError>
+    requires clauses { HoldsBefore clause.C9 bound.now }
+    requires before { O.Saw bound.now observer.old }
+    ensures verdict { IfOk result (λ v. Judges v bound.now) }
+    ensures saw { OnOk result (O.Saw bound.now observer.new) }
 {
-    match judge_fields(alloc, bound)? {
+    match judge_fields(alloc, bound, observer)? {
         Some(verdict) => Ok(verdict),
-        None => judge_fill(alloc, bound),
+        None => judge_fill(alloc, bound, observer),
     }
 }
 
 /// Judges the clauses from the eleventh on.
-fn judge_fill(alloc: Global, bound: &BoundLink<'_, '_>) -> Result<Verdict, AllocError>
-    requires { HoldsBefore clause.C11 bound.now }
-    ensures { IfOk result (λ v. Judges v bound.now) }
+fn judge_fill<'a, O: Observer<'a>>(
+    alloc: Global,
+    bound: &BoundLink<'_, 'a>,
+    observer: &mut O,
+) -> Result<Verdict, AllocError>
+    requires clauses { HoldsBefore clause.C11 bound.now }
+    requires before { O.Saw bound.now observer.old }
+    ensures verdict { IfOk result (λ v. Judges v bound.now) }
+    ensures saw { OnOk result (O.Saw bound.now observer.new) }
 {
     if !c11_fill::holds(alloc, bound)? {
-        return Ok(no(Clause::C11, bound.link()));
+        return no_bound(Clause::C11, bound, observer);
     }
-    judge_symbols(alloc, bound)
+    judge_symbols(alloc, bound, observer)
 }
 
 /// Judges the clauses from the twelfth on.
-fn judge_symbols(alloc: Global, bound: &BoundLink<'_, '_>) -> Result<Verdict, AllocError>
-    requires { HoldsBefore clause.C12 bound.now }
-    ensures { IfOk result (λ v. Judges v bound.now) }
+fn judge_symbols<'a, O: Observer<'a>>(
+    alloc: Global,
+    bound: &BoundLink<'_, 'a>,
+    observer: &mut O,
+) -> Result<Verdict, AllocError>
+    requires clauses { HoldsBefore clause.C12 bound.now }
+    requires before { O.Saw bound.now observer.old }
+    ensures verdict { IfOk result (λ v. Judges v bound.now) }
+    ensures saw { OnOk result (O.Saw bound.now observer.new) }
 {
-    let link = bound.link();
     if !c12_entry::holds(bound) {
-        return Ok(no(Clause::C12, link));
+        return no_bound(Clause::C12, bound, observer);
     }
     if !c13_symbols::holds(alloc, bound)? {
-        return Ok(no(Clause::C13, link));
+        return no_bound(Clause::C13, bound, observer);
     }
-    Ok(judge_tables(bound))
-}
-
-/// Judges the fourteenth clause.
-fn judge_tables(bound: &BoundLink<'_, '_>) -> Verdict
-    requires { HoldsBefore clause.C14 bound.now }
-    ensures { Judges result bound.now }
-{
     if !c14_tables::holds(bound) {
-        return no(Clause::C14, bound.link());
+        return no_bound(Clause::C14, bound, observer);
     }
-    Verdict::Yes
+    Ok(Verdict::Yes)
 }

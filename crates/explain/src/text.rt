@@ -6,8 +6,8 @@ use bad_parts::{BadPart, write_bad_part};
 use command::Source;
 use elf_model::{ArFault, CmdFault, InputFile, LinkError, ObjFault, SHF_LINK_ORDER};
 use input_names::{
-    file_kind, object_bytes, write_name, write_object, write_relocation_type, write_section_flags,
-    write_section_type,
+    file_kind, object_bytes, write_name, write_object, write_relocation_entry,
+    write_relocation_symbol, write_section_flags, write_section_type,
 };
 use relocate::{Kind, Range, RelocationFault};
 use std::alloc::Global;
@@ -136,9 +136,8 @@ fn write_symbol<W: Write>(
     write!(out, ": {}", symbol_text(fault))
 }
 
-/// Writes where a relocation is: its section, its offset there and its function, its entry, its type, its symbol and the
-/// section of that.
-fn write_relocation<W: Write>(
+/// Writes where a relocation is: its section, its offset there and its function.
+fn write_place_of<W: Write>(
     out: &mut W,
     inputs: Inputs<'_>,
     place: &RelocationPlace<'_>,
@@ -146,30 +145,80 @@ fn write_relocation<W: Write>(
     write_file(out, inputs, &place.file)?;
     write_name(out, place.section_name)?;
     write!(out, "+{:#x}", place.entry.r_offset)?;
-    let object = object_of(inputs.alloc, inputs.files, &place.file);
-    if let Some(object) = &object {
-        write_function(out, object, place.section, place.entry.r_offset)?;
+    if let Some(object) = object_of(inputs.alloc, inputs.files, &place.file) {
+        write_function(out, &object, place.section, place.entry.r_offset)?;
     }
-    let (number, table) = (place.number, place.table);
-    write!(out, ": relocation {number} of section {table}, ")?;
-    write_relocation_type(out, place.entry.kind())?;
-    write!(out, ", to symbol {}", place.entry.symbol())?;
-    write_called(out, place.symbol_name)?;
-    match &object {
-        Some(object) => write_section_of(out, object, place.entry.symbol() as usize),
+    out.write_all(b": ")
+}
+
+/// Writes which entry a relocation is, its type and its symbol, by its number and a name, with the section of that.
+fn write_entry_of<W: Write>(
+    out: &mut W,
+    inputs: Inputs<'_>,
+    place: &RelocationPlace<'_>,
+    name: &[u8],
+) -> io::Result<()> {
+    write_relocation_entry(out, place.table, place.number, &place.entry, name)?;
+    match object_of(inputs.alloc, inputs.files, &place.file) {
+        Some(object) => write_section_of(out, &object, place.entry.symbol() as usize),
         None => Ok(()),
     }
 }
 
-fn relocation_text(fault: RelocationFault) -> &'static str {
+/// Writes which entry a relocation is, behind what is wrong with it.
+fn write_note<W: Write>(
+    out: &mut W,
+    inputs: Inputs<'_>,
+    place: &RelocationPlace<'_>,
+) -> io::Result<()> {
+    out.write_all(b" (")?;
+    write_entry_of(out, inputs, place, &[])?;
+    out.write_all(b")")
+}
+
+/// Writes where a relocation is, and which entry.
+fn write_relocation<W: Write>(
+    out: &mut W,
+    inputs: Inputs<'_>,
+    place: &RelocationPlace<'_>,
+) -> io::Result<()> {
+    write_place_of(out, inputs, place)?;
+    write_entry_of(out, inputs, place, place.symbol_name)
+}
+
+/// What is wrong with a relocation, behind the name of its symbol where it is the symbol's.
+fn fault_text(fault: RelocationFault) -> (bool, &'static str) {
     match fault {
-        RelocationFault::Undefined => "not defined",
-        RelocationFault::RefToDropped => "LOCAL in a section that is not loaded",
-        RelocationFault::RelocKind => "not a type of relocation that is linked",
-        RelocationFault::FieldOutside => "the field is not inside its section",
-        RelocationFault::TlsMismatch => "thread-local, or not, against the relocation's type",
-        RelocationFault::MixedSection => "a bound of an output name of several output sections",
+        RelocationFault::Undefined => (true, " is not defined"),
+        RelocationFault::RefToDropped => (true, " is LOCAL in a section that is not loaded"),
+        RelocationFault::RelocKind => (false, "not a type of relocation that is linked"),
+        RelocationFault::FieldOutside => (false, "the field is not inside its section"),
+        RelocationFault::TlsMismatch => {
+            (
+                true,
+                " is thread-local, or not, against the relocation's type",
+            )
+        }
+        RelocationFault::MixedSection => {
+            (
+                true,
+                " is a bound of an output name of several output sections",
+            )
+        }
     }
+}
+
+/// Writes what is wrong with a relocation.
+fn write_fault<W: Write>(
+    out: &mut W,
+    place: &RelocationPlace<'_>,
+    fault: RelocationFault,
+) -> io::Result<()> {
+    let (of_symbol, text) = fault_text(fault);
+    if of_symbol {
+        write_relocation_symbol(out, &place.entry, place.symbol_name)?;
+    }
+    out.write_all(text.as_bytes())
 }
 
 /// Writes what avoids relocations of thread-local storage in other objects, which a static link needs not.
@@ -324,9 +373,10 @@ fn write_relocations<W: Write>(
 ) -> io::Result<()> {
     match place {
         Place::Relocation(place, fault) => {
-            write_relocation(out, inputs, place)?;
-            write!(out, ": {}", relocation_text(*fault))?;
-            write_hint(out, place.entry.kind(), *fault)
+            write_place_of(out, inputs, place)?;
+            write_fault(out, place, *fault)?;
+            write_hint(out, place.entry.kind(), *fault)?;
+            write_note(out, inputs, place)
         }
         Place::Overlap(first, second) => {
             write_relocation(out, inputs, first)?;
@@ -334,12 +384,12 @@ fn write_relocations<W: Write>(
             write_relocation(out, inputs, second)
         }
         Place::Value(place, value, address) => {
-            write_relocation(out, inputs, place)?;
-            write!(
-                out,
-                ": the value {value:#x} does not fit the field at {address:#x}"
-            )?;
-            write_range(out, place.entry.kind())
+            write_place_of(out, inputs, place)?;
+            write!(out, "the value {value:#x} for ")?;
+            write_relocation_symbol(out, &place.entry, place.symbol_name)?;
+            write!(out, " does not fit the field at {address:#x}")?;
+            write_range(out, place.entry.kind())?;
+            write_note(out, inputs, place)
         }
         _ => Ok(()),
     }

@@ -214,3 +214,4 @@ denies s (place.Entry p) is_map h right = h.wrong right
 denies s (place.SymbolLine p) is_map h right = line_denied s p is_map h right
 denies s (place.NoSymbolLine name p) is_map h right = missing_denied s name.now p h right
 denies s (place.Table p) is_map h right = table_denied s p h right
+denies s (place.Whole c) is_map h right = h right

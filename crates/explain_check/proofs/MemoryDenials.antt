@@ -136,6 +136,7 @@ module _ (s : Subject) where
   denied (place.ThreadBytes x) h right = h.wrong (all_at (HoldsInitial (loads s.image)) (thread_blocks s.image) 0 x h.there right.held)
   denied (place.Relocation p f) h right =
       unlawful_denied (objects_of s) h.r f h.wrong (at_place (IsLawfulRelocation (objects_of s)) (objects_of s) p h.r h.at right.lawful.each)
+  denied (place.Overlap p q) h right = h.1 right
   denied (place.Value p value address) h right =
       h.wrong (at_place (Fits (objects_of s) (where_of s)) (objects_of s) p h.r h.at right.fits)
   denied (place.Byte p) h right =

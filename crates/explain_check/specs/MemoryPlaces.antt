@@ -1,11 +1,11 @@
 -- What a place of an image's memory, or of what relocations want there, says of the link: what makes its clause false.
-use Rattle.elf_model.specs.RightLink.{Subject, objects_of, where_of}
+use Rattle.elf_model.specs.RightLink.{AreRelocationsRight, Subject, objects_of, where_of}
 use Rattle.elf_model.specs.declared.verdict.Clause.{Clause}
 use Rattle.elf_model.specs.declared.verdict.Clause.TheVariants.{C7, C8, C9, C10, C11}
 use Rattle.explain_check.specs.BytePlaces.{IsWrongByte}
 use Rattle.explain_check.specs.FillPlaces.{IsEmptySegment, IsWrongFileEnd, IsWrongFill, IsWrongGap, IsWrongLength, IsWrongMemoryEnd}
 use Rattle.explain_check.specs.GotPlaces.{IsRepeated, IsUnasked, IsUnserved, IsWrongGotByte, IsWrongPresence, IsWrongSize, IsWrongSlotAddress}
-use Rattle.explain_check.specs.RelocationPlaces.{IsUnfit, IsWrongRelocation}
+use Rattle.explain_check.specs.RelocationPlaces.{IsOverlap, IsUnfit, IsWrongRelocation}
 use Rattle.explain_check.specs.ThreadPlaces.{AreEarlyZeros, AreUnheld, IsGotInside, IsPieceInside, IsWrongThreadHeader}
 use Rattle.explain_check.specs.declared.memory_place.MemoryPlace.{MemoryPlace}
 use Rattle.explain_check.specs.declared.memory_place.MemoryPlace.TheVariants as place
@@ -25,6 +25,7 @@ IsWrongMemory s (place.GotInThreadBlock got start end) = IsGotInside s got start
 IsWrongMemory s (place.PieceInThreadBlock k q start end) = IsPieceInside s k q start end
 IsWrongMemory s (place.ThreadBytes h) = AreUnheld s h
 IsWrongMemory s (place.Relocation p f) = IsWrongRelocation (objects_of s) p f
+IsWrongMemory s (place.Overlap p q) = IsOverlap (objects_of s) p q × (¬ AreRelocationsRight s)
 IsWrongMemory s (place.Value p value address) = IsUnfit (objects_of s) (where_of s) p value address
 IsWrongMemory s (place.Byte p) = IsWrongByte s p
 IsWrongMemory s (place.Fill p) = IsWrongFill s p
@@ -49,6 +50,7 @@ memory_clause (place.GotInThreadBlock got start end) = C8
 memory_clause (place.PieceInThreadBlock k q start end) = C8
 memory_clause (place.ThreadBytes h) = C8
 memory_clause (place.Relocation p f) = C9
+memory_clause (place.Overlap p q) = C9
 memory_clause (place.Value p value address) = C9
 memory_clause (place.Byte p) = C10
 memory_clause (place.Fill p) = C11

@@ -1,5 +1,5 @@
 -- What places of the fifth and the sixth clause say of a link.
-use Rattle.std.specs.Prelude.{◌≡◌, ◌≢◌, ◌+◌, ◌-◌, ◌<◌, ◌≤◌, ◌%◌, ◌⊎◌, ℕ, Bool, true, false, List, Option, Some, Contains, IfSome, IsSome, filter, length}
+use Rattle.std.specs.Prelude.{◌≡◌, ◌≢◌, ◌+◌, ◌-◌, ◌<◌, ◌≤◌, ◌%◌, ◌⊎◌, ℕ, Bool, true, false, List, Option, Some, All, Contains, IfNone, IfSome, IsSome, filter, length}
 use Rattle.std.specs.List.{slice_get}
 use Rattle.elf_model.specs.ArrayOrder.{placed_in_array_order}
 use Rattle.elf_model.specs.MemoryImage.{Encloses, first_address, loads}
@@ -77,6 +77,7 @@ pub record IsUnheld (s : Subject) (p : Part) (segment : Option ProgramHeader) : 
   pub thing : IsThing p
   pub must_lie : (0 < p.thing.size) ⊎ (p.name ≡ part_name.Got)
   pub held : IfSome segment (λ h. Contains (loads s.image) h × Encloses h p.thing.at p.thing.size)
+  pub nowhere : IfNone segment (All (λ h. ¬ Encloses h p.thing.at p.thing.size) (loads s.image))
   pub wrong : ¬ LiesInSegment (loads s.image) p.thing
 
 pub record IsWrongFirst (s : Subject) (address base : ℕ) : Type 0 where

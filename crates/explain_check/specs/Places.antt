@@ -1,9 +1,9 @@
 -- What a place of a failed check says of a link: the fact at this place that makes the clause false.
-use Rattle.std.specs.Prelude.{ℕ, List, All}
+use Rattle.std.specs.Prelude.{◌≡◌, ℕ, List, All}
 use Rattle.elf_model.specs.Command.{Plan}
 use Rattle.elf_model.specs.Files.{File}
 use Rattle.elf_model.specs.MapRecord.{MapRecord}
-use Rattle.elf_model.specs.RightLink.{IsRead, Subject}
+use Rattle.elf_model.specs.RightLink.{Holds, HoldsBefore, IsRead, Subject}
 use Rattle.elf_model.specs.declared.verdict.Clause.{Clause}
 use Rattle.elf_model.specs.declared.verdict.Clause.TheVariants.{C2, C3, C5, C6, C12, C13, C14}
 use Rattle.explain_check.specs.LinePlaces.{IsWrongCommon, IsWrongDrop, IsWrongObject, IsWrongPlace}
@@ -30,6 +30,7 @@ FailsIn s (place.Entry p) = IsWrongEntry s p
 FailsIn s (place.SymbolLine p) = IsWrongLine s p
 FailsIn s (place.NoSymbolLine name p) = LacksLine s name.now p
 FailsIn s (place.Table p) = FailsInTable s p
+FailsIn s (place.Whole c) = ¬ Holds c s
 
 -- the clause that fails at a place
 abbrev pub clause_of : CheckPlace → Clause
@@ -48,9 +49,20 @@ clause_of (place.Entry p) = C12
 clause_of (place.SymbolLine p) = C13
 clause_of (place.NoSymbolLine name p) = C13
 clause_of (place.Table p) = C14
+clause_of (place.Whole c) = c
 
 abbrev pub AreFailures : Subject → List CheckPlace → Type 0
 AreFailures s places = All (FailsIn s) places
+
+-- what a place says is so of a link, and the clause that it denies is this one
+pub record IsOf (s : Subject) (c : Clause) (p : CheckPlace) : Type 0 where
+  pub fails : FailsIn s p
+  pub clause : clause_of p ≡ c
+
+-- a clause is the first that fails of a link
+pub record IsFirst (s : Subject) (c : Clause) : Type 0 where
+  pub before : HoldsBefore c s
+  pub fails : ¬ Holds c s
 
 -- the words are a plan and the text is a map, and in their link a clause fails at the place
 pub record FailsAt (files : List File) (words : List (List ℕ)) (image bytes : List ℕ) (p : CheckPlace) : Type 0 where

@@ -4,7 +4,7 @@ use Rattle.std.specs.List.{slice_get}
 use Rattle.elf_model.specs.Loading.{LoadedObject}
 use Rattle.elf_model.specs.ObjectFile.{relas_of, sections}
 use Rattle.elf_model.specs.Placement.{Where, section_address}
-use Rattle.elf_model.specs.Relocation.{IsFieldInside, IsThreadMismatch, IsUndefined, RefersToDropped, RefersToMixed, Relocation, is_kept_rela, is_some_kind, relocation_kind, relocation_of}
+use Rattle.elf_model.specs.Relocation.{AreFieldsApart, IsFieldInside, IsThreadMismatch, IsUndefined, RefersToDropped, RefersToMixed, Relocation, is_kept_rela, is_some_kind, relocation_kind, relocation_of}
 use Rattle.elf_model.specs.RelocationValues.{Fits, value_of}
 use Rattle.elf_model.specs.declared.records.SectionHeader.{SectionHeader}
 use Rattle.explain_check.specs.declared.memory_place.RelocationFault.{RelocationFault}
@@ -46,6 +46,19 @@ pub record IsWrongRelocation (objects : List LoadedObject) (p : RelocationPlace)
   pub r : Relocation
   pub at : IsRelocationAt objects p r
   pub wrong : IsUnlawful objects r f
+
+-- two places are not those of one entry
+abbrev pub AreTwo : RelocationPlace → RelocationPlace → Type 0
+AreTwo p q = ¬ ((p.table ≡ q.table) × (p.number ≡ q.number))
+
+-- two places are those of two kept relocations whose fields share a byte
+pub record IsOverlap (objects : List LoadedObject) (p q : RelocationPlace) : Type 0 where
+  pub two : AreTwo p q
+  pub r : Relocation
+  pub t : Relocation
+  pub first : IsRelocationAt objects p r
+  pub second : IsRelocationAt objects q t
+  pub wrong : ¬ AreFieldsApart r t
 
 -- a kept relocation has a value that doesn't fit its field, which is at the address
 pub record IsUnfit (objects : List LoadedObject) (w : Where) (p : RelocationPlace) (value : ℕ) (address : ℕ) : Type 0 where

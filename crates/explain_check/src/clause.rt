@@ -9,7 +9,7 @@ use crate::place::CheckPlace;
 use elf_model::Clause;
 
 /// The clause of the kind of a place.
-fn kind_of(place: &CheckPlace<'_>) -> Clause
+pub fn kind_of(place: &CheckPlace<'_>) -> Clause
     ensures { result ≡ clause_of place.now }
 {
     match place {
@@ -26,6 +26,7 @@ fn kind_of(place: &CheckPlace<'_>) -> Clause
         CheckPlace::Entry(_) => Clause::C12,
         CheckPlace::SymbolLine(_) | CheckPlace::NoSymbolLine(_, _) => Clause::C13,
         CheckPlace::Table(_) => Clause::C14,
+        CheckPlace::Whole(clause) => *clause,
     }
 }
 

@@ -5,6 +5,7 @@
 mod clause;
 mod common_lines;
 mod entry;
+mod explain;
 mod far_sections;
 mod found;
 mod line_index;
@@ -16,9 +17,9 @@ mod named_parts;
 mod object_lines;
 mod place;
 mod placement;
-mod replay;
 mod rights;
 mod section_lines;
+mod seen;
 mod symbol_lines;
 mod table_bytes;
 mod table_text;
@@ -26,6 +27,7 @@ mod tables;
 mod text;
 
 pub use clause::clause_of;
+pub use explain::{explain_check, read_link};
 pub use found::Found;
 pub use memory_place::{
     BytePlace, FillPlace, GotBytePlace, MemoryPlace, RelocationFault, RelocationPlace, SegmentPlace,
@@ -35,5 +37,4 @@ pub use place::{
     ObjectLinePlace, Part, PartName, PlaceLinePlace, SymbolLinePlace, TableByte, TableEntry,
     TablePlace,
 };
-pub use replay::{explain_check, read_link};
 pub use text::write_check_place;

@@ -7,6 +7,7 @@ mod fields;
 pub mod file;
 mod fill;
 pub mod got;
+mod overlaps;
 mod relocation_places;
 pub mod relocations;
 mod segments;

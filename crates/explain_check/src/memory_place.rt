@@ -110,6 +110,8 @@ pub enum MemoryPlace<'a> {
     ThreadBytes(ProgramHeader),
     /// C9: a kept relocation that isn't lawful.
     Relocation(RelocationPlace<'a>, RelocationFault),
+    /// C9: two kept relocations of one object whose fields share a byte.
+    Overlap(RelocationPlace<'a>, RelocationPlace<'a>),
     /// C9: a kept relocation whose value, the first number, doesn't fit its field; the second number is the field's address.
     Value(RelocationPlace<'a>, u64, u64),
     /// C10: the first wrong byte of a piece.

@@ -3,7 +3,8 @@
 use crate::memory_place::MemoryPlace;
 use check_link::{Block, Meaning, Piece, Placed};
 use elf_model::{
-    CommonLine, DropLine, ObjectLine, PlaceLine, ProgramHeader, SymbolLine, SymtabLine, Thing,
+    Clause, CommonLine, DropLine, ObjectLine, PlaceLine, ProgramHeader, SymbolLine, SymtabLine,
+    Thing,
 };
 
 /// What takes up addresses.
@@ -171,4 +172,7 @@ pub enum CheckPlace<'a> {
     NoSymbolLine(&'a [u8], MeaningPlace<'a>),
     /// C14: the symbol table, or what the map or the file header tells of it, is another one than it should be.
     Table(TablePlace<'a>),
+    /// A clause that fails, of which no place is told: where the inputs themselves are refused, and where the image isn't
+    /// one.
+    Whole(Clause),
 }

@@ -1,5 +1,5 @@
 //! C6: things that no segment with their rights holds whole, and a first segment that doesn't begin at the base.
-ghost use Rattle.std.specs.Prelude.{◌≡◌, ◌<◌, ◌⊎◌, All, Contains, IfSome, IsTrue, OnOk};
+ghost use Rattle.std.specs.Prelude.{◌≡◌, ◌<◌, ◌⊎◌, All, Contains, IfNone, IfSome, IsTrue, OnOk};
 ghost use Rattle.elf_model.specs.MemoryImage.{Encloses, loads};
 ghost use Rattle.elf_model.specs.Placement.{LiesInSegment};
 ghost use Rattle.explain_check.specs.Places.{AreFailures, FailsIn};
@@ -12,7 +12,7 @@ use crate::place::{CheckPlace, Part, PartName};
 use check_link::{base_of, first_address};
 use checker::PlacedLink;
 use checker::c06_rights::{lies_if_nonempty, lies_in_segment};
-use checker::segments::enclosing;
+use checker::segments::{encloses, enclosing};
 use elf_model::{ProgramHeader, Thing};
 use loader_model::Memory;
 use std::alloc::{AllocError, Global};
@@ -37,13 +37,28 @@ fn lies(memory: &Memory<'_>, thing: &Thing) -> bool
     lies_if_nonempty(memory, thing)
 }
 
-/// The segment that a thing lies whole in; None of an empty one.
+/// The first of some segments that an address lies in, or stands at the end of.
+fn touching(segments: &[ProgramHeader], at: u64) -> Option<ProgramHeader>
+    ensures some { IfSome result (λ h. Contains segments.now h × Encloses h at 0) }
+    ensures none { IfNone result (All (λ h. ¬ Encloses h at 0) segments.now) }
+{
+    for segment in segments {
+        if encloses(segment, at, 0) {
+            return Some(*segment);
+        }
+    }
+    None
+}
+
+/// The segment that a thing lies whole in, if one holds it.
 fn segment_of(memory: &Memory<'_>, thing: &Thing) -> Option<ProgramHeader>
-    ensures { IfSome result (λ h. Contains (loads memory.now) h
+    ensures some { IfSome result (λ h. Contains (loads memory.now) h
         × Encloses h thing.now.at thing.now.size) }
+    ensures none { IfNone result
+        (All (λ h. ¬ Encloses h thing.now.at thing.now.size) (loads memory.now)) }
 {
     if thing.size == 0 {
-        return None;
+        return touching(memory.segments(), thing.at);
     }
     enclosing(memory, thing.at, thing.size)
 }

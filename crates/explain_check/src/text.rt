@@ -24,10 +24,12 @@ pub fn write_object_of<W: Write>(out: &mut W, link: &Link<'_>, number: u64) -> i
     }
 }
 
-/// Writes the name of the common block that the map has at an address.
-fn write_common<W: Write>(out: &mut W, link: &Link<'_>, at: u64) -> io::Result<()> {
+/// Writes the name of the common block that the map has at an address, with the size of the piece.
+fn write_common<W: Write>(out: &mut W, link: &Link<'_>, placed: &Placed<'_>) -> io::Result<()> {
     out.write_all(b"common block ")?;
-    match link.map.commons.iter().find(|line| line.address == at) {
+    let size = placed.piece.header.sh_size;
+    let mut lines = link.map.commons.iter();
+    match lines.find(|line| line.address == placed.at && line.size == size) {
         Some(line) => write_name(out, &line.name),
         None => Ok(()),
     }
@@ -43,7 +45,7 @@ pub fn write_section<W: Write>(out: &mut W, link: &Link<'_>, piece: &Piece<'_>) 
 /// Writes what a piece is: a section, or a common block, which is numbered like one of an object more than there are.
 pub fn write_piece<W: Write>(out: &mut W, link: &Link<'_>, placed: &Placed<'_>) -> io::Result<()> {
     if placed.piece.object as usize >= link.map.objects.len() {
-        return write_common(out, link, placed.at);
+        return write_common(out, link, placed);
     }
     write_section(out, link, &placed.piece)
 }
@@ -114,7 +116,10 @@ fn write_unheld<W: Write>(
             let rights = rights_text(u64::from(h.p_flags));
             write!(out, ": in a segment with {rights}, and not {wanted}")
         }
-        None => write!(out, ": whole in no segment, and not in one with {wanted}"),
+        None => write!(
+            out,
+            ": whole in no segment, and should be in one with {wanted}"
+        ),
     }
 }
 
@@ -173,6 +178,7 @@ pub fn write_check_place<W: Write>(
         CheckPlace::NoSymbolLine(name, wanted) => write_missing_line(out, name, wanted),
         CheckPlace::Memory(place) => write_memory_place(out, link, place),
         CheckPlace::Table(place) => write_table(out, place),
+        CheckPlace::Whole(clause) => write!(out, "clause C{} as a whole", *clause as u8),
         _ => write_placement(out, link, place),
     }
 }

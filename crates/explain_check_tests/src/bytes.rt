@@ -26,7 +26,7 @@ static BYTES: [Row; 2] = [
         POINTING,
         "-s a.o",
         Change::Image(0x2001, 0x11),
-        "a.o: section 2 .data: byte 0x1 at 0x402001 is 0x11, and should be 0x10: relocation 0 of section 5, of type 1, to \
+        "a.o: section 2 .data: byte 0x1 at 0x402001 is 0x11, and should be 0x10: relocation 0 of section 5, R_X86_64_64, to \
          symbol 1 _start\n",
     ),
 ];

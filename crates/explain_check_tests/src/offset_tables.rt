@@ -18,7 +18,7 @@ static GOTS: [Row; 7] = [
         LOADING,
         "-s a.o",
         Change::Text(SLOT, "got 0000000000402008 16\n"),
-        "a.o: .text+0x3: relocation 0 of section 5, of type 42, to symbol 2 v: no line of the map has its slot\n\
+        "a.o: .text+0x3: relocation 0 of section 5, R_X86_64_REX_GOTPCRELX, to symbol 2 v: no line of the map has its slot\n\
          the GOT at 0x402008 has 0x10 bytes, and should have 0x8\n",
     ),
     (
@@ -38,7 +38,7 @@ static GOTS: [Row; 7] = [
             "got 0000000000402008 16\nslot 0000000000402010 thread name v\n",
         ),
         "line 6 of the map: no relocation asks for this slot\n\
-         a.o: .text+0x3: relocation 0 of section 5, of type 42, to symbol 2 v: no line of the map has its slot\n",
+         a.o: .text+0x3: relocation 0 of section 5, R_X86_64_REX_GOTPCRELX, to symbol 2 v: no line of the map has its slot\n",
     ),
     (
         LOADING,

@@ -1,7 +1,7 @@
 //! C5 and C6: things that are not aligned, out of bounds, not apart, far from their neighbours, or in no segment with their
 //! rights.
 use crate::lines::{Row, assert_rows};
-use crate::samples::{LOADING, PLAIN, TWO, WITH_COMMON, WITH_THREAD_ZEROS};
+use crate::samples::{LOADING, PLAIN, TWO, WITH_COMMON, WITH_THREAD_ZEROS, WITH_TWO_COMMONS};
 use link_samples::links::{Change, File};
 use link_samples::parts::{BSS, DATA, START, TEXT};
 use std::test::Fail;
@@ -70,13 +70,26 @@ fn placing_is_explained(rt: HostRuntime) -> Result<(), Fail> {
     assert_rows(&rt, &PLACED)
 }
 
-/// A section in no segment; the rights of the second segment, at byte 124 of the file; a base below the first segment.
-static RIGHTS: [Row; 3] = [
+/// The rights of the third segment, at byte 180 of the file; an empty GOT among the headers; a section in no segment; the
+/// rights of the second segment, at byte 124; a base below the first segment.
+static RIGHTS: [Row; 5] = [
+    (
+        WITH_TWO_COMMONS,
+        "-s a.o",
+        Change::Image(180, 5),
+        "common block c at 0x402000, 0x8 bytes: in a segment with R E, and not RW\n",
+    ),
+    (
+        PLAIN,
+        "-s a.o",
+        Change::Text(".text\n", ".text\ngot 00000000004000e0 0\n"),
+        "the GOT at 0x4000e0, 0x0 bytes: in a segment with R, and not RW\n",
+    ),
     (
         PLAIN,
         "-s a.o",
         Change::Text("0000000000401000 9", "0000000000401001 9"),
-        "a.o: section 1 .text at 0x401001, 0x9 bytes: whole in no segment, and not in one with R E\n",
+        "a.o: section 1 .text at 0x401001, 0x9 bytes: whole in no segment, and should be in one with R E\n",
     ),
     (
         PLAIN,

@@ -77,7 +77,28 @@ const TO_FOO: &[File] = &[File::Object(
     &[Relocation(3, 0, 0, 2, 0)],
 )];
 
-static RELOCATIONS: [Row; 7] = [
+/// Two definitions of `f`, as of which the thirteenth clause fails, and not the ninth.
+const TWICE: &[NamedSymbol] = &[START, ABSOLUTE, ABSOLUTE];
+
+static RELOCATIONS: [Row; 9] = [
+    (
+        TO_ABSOLUTE,
+        "-s a.o",
+        Change::Files(&[File::Object(
+            "a.o",
+            &[TEXT],
+            TWICE,
+            &[Relocation(1, 1, R_64, 2, 0), Relocation(1, 0, R_64, 2, 0)],
+        )]),
+        "a.o: .text+0x0: relocation 1 of section 4, R_X86_64_64, to symbol 2 f: its field shares a byte with that of \
+         a.o: .text+0x1: relocation 0 of section 4, R_X86_64_64, to symbol 2 f\n",
+    ),
+    (
+        TO_ABSOLUTE,
+        "-s a.o",
+        Change::Files(&[File::Object("a.o", &[TEXT], TWICE, &[])]),
+        "clause C13 as a whole\n",
+    ),
     (
         TO_ABSOLUTE,
         "-s a.o",
@@ -87,7 +108,8 @@ static RELOCATIONS: [Row; 7] = [
             &[START, ABSOLUTE],
             &[Relocation(1, 0, 5, 2, 0)],
         )]),
-        "a.o: .text+0x0: relocation 0 of section 4, of type 5, to symbol 2 f: not a type of relocation that is linked\n",
+        "a.o: .text+0x0: not a type of relocation that is linked (relocation 0 of section 4, R_X86_64_COPY, to symbol \
+         2)\n",
     ),
     (
         TO_ABSOLUTE,
@@ -98,8 +120,8 @@ static RELOCATIONS: [Row; 7] = [
             &[START, ABSOLUTE],
             &[Relocation(1, 0, 10, 2, 0)],
         )]),
-        "a.o: .text+0x0: relocation 0 of section 4, of type 10, to symbol 2 f: the value 0x100000000 does not fit the \
-         field at 0x401000\n",
+        "a.o: .text+0x0: the value 0x100000000 for f does not fit the field at 0x401000 (relocation 0 of section 4, \
+         R_X86_64_32, to symbol 2)\n",
     ),
     (
         TO_ABSOLUTE,
@@ -110,7 +132,7 @@ static RELOCATIONS: [Row; 7] = [
             &[START, ABSOLUTE],
             &[Relocation(1, 6, R_PC32, 2, 0)],
         )]),
-        "a.o: .text+0x6: relocation 0 of section 4, of type 2, to symbol 2 f: the field is not inside its section\n",
+        "a.o: .text+0x6: the field is not inside its section (relocation 0 of section 4, R_X86_64_PC32, to symbol 2)\n",
     ),
     (
         TO_NOTHING,
@@ -121,7 +143,7 @@ static RELOCATIONS: [Row; 7] = [
             &[START, NO_F],
             &[Relocation(1, 0, R_64, 2, 0)],
         )]),
-        "a.o: .text+0x0: relocation 0 of section 4, of type 1, to symbol 2 f: not defined\n",
+        "a.o: .text+0x0: f is not defined (relocation 0 of section 4, R_X86_64_64, to symbol 2)\n",
     ),
     (
         TO_NOTES,
@@ -132,7 +154,8 @@ static RELOCATIONS: [Row; 7] = [
             &[LOCAL, START],
             &[Relocation(1, 0, R_PC32, 1, 0)],
         )]),
-        "a.o: .text+0x0: relocation 0 of section 5, of type 2, to symbol 1 l: LOCAL in a section that is not loaded\n",
+        "a.o: .text+0x0: l is LOCAL in a section that is not loaded (relocation 0 of section 5, R_X86_64_PC32, to \
+         symbol 1)\n",
     ),
     (
         TO_THREAD,
@@ -143,8 +166,8 @@ static RELOCATIONS: [Row; 7] = [
             &[LOCAL, START],
             &[Relocation(1, 0, R_PC32, 1, 0)],
         )]),
-        "a.o: .text+0x0: relocation 0 of section 5, of type 2, to symbol 1 l: thread-local, or not, against the relocation's \
-         type\n",
+        "a.o: .text+0x0: l is thread-local, or not, against the relocation's type (relocation 0 of section 5, \
+         R_X86_64_PC32, to symbol 1)\n",
     ),
     (
         TO_FOO,
@@ -155,8 +178,8 @@ static RELOCATIONS: [Row; 7] = [
             &[START, STOP_FOO],
             &[Relocation(3, 0, R_64, 2, 0)],
         )]),
-        "a.o: foo+0x0: relocation 0 of section 6, of type 1, to symbol 2 __stop_foo: a bound of an output name of several \
-         output sections\n",
+        "a.o: foo+0x0: __stop_foo is a bound of an output name of several output sections (relocation 0 of section 6, \
+         R_X86_64_64, to symbol 2)\n",
     ),
 ];
 

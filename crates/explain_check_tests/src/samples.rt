@@ -23,6 +23,20 @@ const COMMON: NamedSymbol<'static> = NamedSymbol {
     st_size: 8,
 };
 
+/// A common `b` of no bytes, which is where `c` is.
+const EMPTY_COMMON: NamedSymbol<'static> = NamedSymbol {
+    name: "b",
+    st_size: 0,
+    ..COMMON
+};
+
+pub const WITH_TWO_COMMONS: &[File] = &[File::Object(
+    "a.o",
+    &[TEXT],
+    &[START, EMPTY_COMMON, COMMON],
+    &[],
+)];
+
 pub const WITH_COMMON: &[File] = &[File::Object("a.o", &[TEXT], &[START, COMMON], &[])];
 
 /// `mov v@GOTPCREL(%rip), %rax`, and the nine bytes of the plain text.

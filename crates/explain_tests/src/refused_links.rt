@@ -267,7 +267,8 @@ const NAMES: [Row; 6] = [
         &[File::Object("a.o", &[TEXT, RETAINED], &[START], &[])],
         "a.o",
         9,
-        "a.o: section 2 .keep: type PROGBITS, flags ALLOC GNU_RETAIN: not linked, as of __attribute__((retain)) or Rust's \
+        "a.o: section 2 .keep: type PROGBITS, flags ALLOC GNU_RETAIN: not linked, as of __attribute__((retain)) or \
+         Rust's \
          #[used]\n",
     ),
     (
@@ -280,7 +281,8 @@ const NAMES: [Row; 6] = [
         &[File::Object("a.o", &[TEXT], &[START, NAMELESS], &[])],
         "a.o",
         9,
-        "a.o: symbol 2 of .text: a symbol that isn't LOCAL needs a name and a section that is loaded, and any symbol lies within \
+        "a.o: symbol 2 of .text: a symbol that isn't LOCAL needs a name and a section that is loaded, and any symbol \
+         lies within \
          its section\n",
     ),
     (
@@ -390,9 +392,9 @@ const RELOCATIONS: [Row; 14] = [
         )],
         "a.o",
         9,
-        "a.o: .text+0x1 in _start: relocation 0 of section 4, R_X86_64_32, to symbol 1 _start of .text: the value \
-         0xfffffffffff01000 does not fit the field at 0x401001, which takes 0 to 0xffffffff; code of -mcmodel=large has no such \
-         limit\n",
+        "a.o: .text+0x1 in _start: the value 0xfffffffffff01000 for _start does not fit the field at 0x401001, which \
+         takes 0 to 0xffffffff; code of -mcmodel=large has no such limit (relocation 0 of section 4, R_X86_64_32, to \
+         symbol 1 of .text)\n",
     ),
     (
         &[File::Object(
@@ -403,8 +405,8 @@ const RELOCATIONS: [Row; 14] = [
         )],
         "a.o",
         9,
-        "a.o: foo+0x0: relocation 0 of section 6, R_X86_64_64, to symbol 2 __stop_foo: a bound of an output name of several \
-         output sections\n",
+        "a.o: foo+0x0: __stop_foo is a bound of an output name of several output sections (relocation 0 of section 6, \
+         R_X86_64_64, to symbol 2)\n",
     ),
     (
         &[File::Object(
@@ -418,8 +420,8 @@ const RELOCATIONS: [Row; 14] = [
         )],
         "a.o",
         9,
-        "a.o: .text+0x0 in _start: relocation 0 of section 4, R_X86_64_PLT32, to symbol 2 f: not defined\n\
-         a.o: .text+0x5 in _start: relocation 1 of section 4, R_X86_64_PC32, to symbol 2 f: not defined\n",
+        "a.o: .text+0x0 in _start: f is not defined (relocation 0 of section 4, R_X86_64_PLT32, to symbol 2)\n\
+         a.o: .text+0x5 in _start: f is not defined (relocation 1 of section 4, R_X86_64_PC32, to symbol 2)\n",
     ),
     (
         &[File::Object(
@@ -437,10 +439,11 @@ const RELOCATIONS: [Row; 14] = [
         )],
         "a.o",
         9,
-        "a.o: .text+0x0 in _start: relocation 0 of section 4, R_X86_64_PC32, to symbol 2 f: not defined\n\
-         a.o: .text+0x4 in _start: relocation 1 of section 4, R_X86_64_PC32, to symbol 2 f: not defined\n\
-         a.o: .text+0x8 in _start: relocation 2 of section 4, R_X86_64_PC32, to symbol 2 f: not defined; and 2 more references to it\n\
-         a.o: .text+0x14: relocation 5 of section 4, R_X86_64_PC32, to symbol 3 g: not defined\n",
+        "a.o: .text+0x0 in _start: f is not defined (relocation 0 of section 4, R_X86_64_PC32, to symbol 2)\n\
+         a.o: .text+0x4 in _start: f is not defined (relocation 1 of section 4, R_X86_64_PC32, to symbol 2)\n\
+         a.o: .text+0x8 in _start: f is not defined (relocation 2 of section 4, R_X86_64_PC32, to symbol 2); and 2 \
+         more references to it\n\
+         a.o: .text+0x14: g is not defined (relocation 5 of section 4, R_X86_64_PC32, to symbol 3)\n",
     ),
     (
         &[
@@ -454,8 +457,8 @@ const RELOCATIONS: [Row; 14] = [
         ],
         "e.a a.o",
         9,
-        "a.o: .text+0x0 in _start: relocation 0 of section 4, R_X86_64_PC32, to symbol 2 f: not defined; e.a (item 0) defines f, but was \
-         searched before it was needed: name it later, or in a group\n",
+        "a.o: .text+0x0 in _start: f is not defined (relocation 0 of section 4, R_X86_64_PC32, to symbol 2); e.a (item \
+         0) defines f, but was searched before it was needed: name it later, or in a group\n",
     ),
     (
         &[File::Object(
@@ -466,13 +469,15 @@ const RELOCATIONS: [Row; 14] = [
         )],
         "a.o",
         9,
-        "a.o: .text+0x0 in _start: relocation 0 of section 5, R_X86_64_PC32, to symbol 1 l of .notes: LOCAL in a section that is not loaded\n",
+        "a.o: .text+0x0 in _start: l is LOCAL in a section that is not loaded (relocation 0 of section 5, \
+         R_X86_64_PC32, to symbol 1 of .notes)\n",
     ),
     (
         &[File::Object("a.o", &[TEXT], &[START, NO_F], &[Relocation(1, 0, 5, 1, 0)])],
         "a.o",
         9,
-        "a.o: .text+0x0 in _start: relocation 0 of section 4, R_X86_64_COPY, to symbol 1 _start of .text: not a type of relocation that is linked\n",
+        "a.o: .text+0x0 in _start: not a type of relocation that is linked (relocation 0 of section 4, R_X86_64_COPY, \
+         to symbol 1 of .text)\n",
     ),
     (
         &[File::Object(
@@ -483,7 +488,8 @@ const RELOCATIONS: [Row; 14] = [
         )],
         "a.o",
         9,
-        "a.o: .text+0x6 in _start: relocation 0 of section 4, R_X86_64_PC32, to symbol 1 _start of .text: the field is not inside its section\n",
+        "a.o: .text+0x6 in _start: the field is not inside its section (relocation 0 of section 4, R_X86_64_PC32, to \
+         symbol 1 of .text)\n",
     ),
     (
         &[File::Object(
@@ -494,8 +500,8 @@ const RELOCATIONS: [Row; 14] = [
         )],
         "a.o",
         9,
-        "a.o: .text+0x0 in _start: relocation 0 of section 5, R_X86_64_PC32, to symbol 1 l of .tdata: thread-local, or not, against the relocation's \
-         type\n",
+        "a.o: .text+0x0 in _start: l is thread-local, or not, against the relocation's type (relocation 0 of section \
+         5, R_X86_64_PC32, to symbol 1 of .tdata)\n",
     ),
     (
         &[File::Object(
@@ -509,8 +515,9 @@ const RELOCATIONS: [Row; 14] = [
         )],
         "a.o",
         9,
-        "a.o: .text+0x1 in _start: relocation 1 of section 4, R_X86_64_PC32, to symbol 1 _start of .text: its field shares a byte with that of a.o: \
-         .text+0x4 in _start: relocation 0 of section 4, R_X86_64_PC32, to symbol 1 _start of .text\n",
+        "a.o: .text+0x1 in _start: relocation 1 of section 4, R_X86_64_PC32, to symbol 1 _start of .text: its field \
+         shares a byte with that of a.o: .text+0x4 in _start: relocation 0 of section 4, R_X86_64_PC32, to symbol 1 \
+         _start of .text\n",
     ),
     (
         &[File::Object(
@@ -521,15 +528,15 @@ const RELOCATIONS: [Row; 14] = [
         )],
         "a.o",
         9,
-        "a.o: .text+0x1 in _start: relocation 0 of section 4, R_X86_64_8, to symbol 1 _start of .text: the value 0x401000 does not fit the field \
-         at 0x401001, which takes -0x80 to 0xff\n",
+        "a.o: .text+0x1 in _start: the value 0x401000 for _start does not fit the field at 0x401001, which takes -0x80 \
+         to 0xff (relocation 0 of section 4, R_X86_64_8, to symbol 1 of .text)\n",
     ),
     (
         &[File::Object("a.o", &[TEXT], &[START], &[Relocation(1, 0, 19, 1, 0)])],
         "a.o",
         9,
-        "a.o: .text+0x0 in _start: relocation 0 of section 4, R_X86_64_TLSGD, to symbol 1 _start of .text: not a type of relocation that is \
-         linked: -ftls-model=local-exec or -fno-pic avoids it\n",
+        "a.o: .text+0x0 in _start: not a type of relocation that is linked: -ftls-model=local-exec or -fno-pic avoids \
+         it (relocation 0 of section 4, R_X86_64_TLSGD, to symbol 1 of .text)\n",
     ),
     (
         &[PLAIN],

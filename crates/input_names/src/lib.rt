@@ -9,6 +9,6 @@ mod section_kinds;
 mod text;
 
 pub use file_kinds::file_kind;
-pub use relocation_types::write_relocation_type;
+pub use relocation_types::{write_relocation_entry, write_relocation_symbol};
 pub use section_kinds::{write_section_flags, write_section_type};
 pub use text::{object_bytes, write_name, write_object};

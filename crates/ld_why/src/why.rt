@@ -1,14 +1,17 @@
 //! What `ld-why` prints: the line of `ld`, and below it the places at which something is wrong.
 
+ghost use Rattle.std.specs.Prelude.{◌≡◌, ◌≢◌, ◌≤◌, IfOk, IsErr};
 ghost use Rattle.elf_model.specs.Causes.{Cause};
+ghost use Rattle.elf_model.specs.Command.{command_of};
 ghost use Rattle.elf_model.specs.Files.{files_of, words_of};
+ghost use Rattle.ld_main.specs.Program.{HasRightLink, failure_status};
 
 use byteview::View;
 use check_link::Link;
 use command::{Plan, read_words};
-use elf_model::{CmdFault, InputFile, LinkError, LoadFault, MapFault};
+use elf_model::{Clause, CmdFault, InputFile, LinkError, LoadFault, MapFault};
 use explain::{Inputs, explain, write_places};
-use explain_check::{explain_check, read_link, write_check_place};
+use explain_check::{CheckPlace, Found, explain_check, read_link, write_check_place};
 use input_names::write_name;
 use ld_main::{Failure, RealFiles, Verdict, check, gather, prepare, read_file, refused};
 use loader_model::Memory;
@@ -56,7 +59,9 @@ fn reasons(
 }
 
 /// Prints the line of a failure, and answers its status.
-fn fail<W: Write>(out: &mut W, failure: &Failure<'_>) -> io::Result<u8> {
+fn fail<W: Write>(out: &mut W, failure: &Failure<'_>) -> io::Result<u8>
+    ensures { IfOk result (λ n. n ≡ failure_status failure.now) }
+{
     failure.print(out)?;
     Ok(failure.status())
 }
@@ -72,7 +77,11 @@ fn reason<R: Files>(rt: &R, path: &str) -> Option<io::Error> {
 }
 
 /// Prints the line of a failure, and below it the system's reason where a file can't be read; answers the failure's status.
-fn fail_reading<R: Files, W: Write>(rt: &R, out: &mut W, failure: &Failure<'_>) -> io::Result<u8> {
+fn fail_reading<R: Files, W: Write>(rt: &R, out: &mut W, failure: &Failure<'_>) -> io::Result<u8>
+    requires { 3 ≤ failure_status failure.now }
+    ensures low { IfOk result (λ n. 3 ≤ n) }
+    ensures statuses { IfOk result (λ n. n ≤ 4) }
+{
     let status = fail(out, failure)?;
     let Failure::CannotRead(path) = failure else {
         return Ok(status);
@@ -93,6 +102,9 @@ fn refuse<W: Write>(
     error: LinkError,
 ) -> io::Result<u8>
     requires { Cause (files_of files.now) (words_of words.now) error }
+    ensures some { IfOk result (λ n. 1 ≤ n) }
+    ensures statuses { IfOk result (λ n. n ≤ 4) }
+    ensures words_alone { IfOk result (λ n. n ≡ 2 → IsErr (command_of (words_of words.now))) }
 {
     let text = reasons(alloc, files, words, &error)?;
     let status = fail(out, &refused(alloc, error))?;
@@ -108,55 +120,115 @@ fn link<W: Write>(
     out: &mut W,
     files: &[InputFile],
     words: &[String],
-) -> io::Result<u8> {
+) -> io::Result<u8>
+    ensures statuses { IfOk result (λ n. n ≤ 4) }
+    ensures right { IfOk result (λ n. n ≡ 0 → HasRightLink (words_of words.now)) }
+    ensures words_alone { IfOk result (λ n. n ≡ 2 → IsErr (command_of (words_of words.now))) }
+{
     match prepare(alloc, files, words) {
         Ok(_) => Ok(0),
         Err(error) => refuse(alloc, out, files, words, error),
     }
 }
 
-/// Writes the places at which the check of a link fails, a line each, and how many more there are; answers whether there are
-/// some.
-fn write_failures<W: Write>(alloc: Global, out: &mut W, link: &Link<'_>) -> io::Result<bool> {
-    let found = explain_check(alloc, link, MOST)?;
+/// Writes the places at which the check of a link fails, a line each, and how many more there are.
+fn write_failures<W: Write>(out: &mut W, link: &Link<'_>, found: &Found<'_>) -> io::Result<()> {
     for place in found.places() {
         write_check_place(out, link, place)?;
         out.write_all(b"\n")?;
     }
-    write_more(out, found.more())?;
-    Ok(!found.places().is_empty())
+    write_more(out, found.more())
 }
 
-/// Explains why a text is no map, or an image none that a loader maps; answers whether one of them is so.
-fn write_format<W: Write>(
+/// Writes which line of a text is none of a map.
+fn write_map_fault<W: Write>(
+    alloc: Global,
+    out: &mut W,
+    plan: &Plan<'_>,
+    map: &[u8],
+) -> io::Result<()> {
+    match linkmap::read(alloc, map) {
+        Ok(_) => Ok(()),
+        Err(MapFault::Memory) => Err(io::Error::from(AllocError)),
+        Err(MapFault::Line(line)) => {
+            write_name(out, plan.map.unwrap_or("").as_bytes())?;
+            writeln!(out, ": line {line} is none of a map")
+        }
+    }
+}
+
+/// Writes why an image is none that a loader maps.
+fn write_image_fault<W: Write>(
     alloc: Global,
     out: &mut W,
     plan: &Plan<'_>,
     image: &[u8],
-    map: &[u8],
-) -> io::Result<bool> {
-    match linkmap::read(alloc, map) {
-        Ok(_) => {}
-        Err(MapFault::Memory) => return Err(io::Error::from(AllocError)),
-        Err(MapFault::Line(line)) => {
-            write_name(out, plan.map.unwrap_or("").as_bytes())?;
-            writeln!(out, ": line {line} is none of a map")?;
-            return Ok(true);
-        }
-    }
+) -> io::Result<()> {
     match Memory::load(alloc, View::new(image)) {
-        Ok(_) => Ok(false),
+        Ok(_) => Ok(()),
         Err(LoadFault::Memory) => Err(io::Error::from(AllocError)),
         Err(fault) => {
             write_name(out, plan.output.as_bytes())?;
-            writeln!(out, ": {fault}")?;
-            Ok(true)
+            writeln!(out, ": {fault}")
         }
     }
 }
 
-/// The lines that explain where the check of an image and a map fails; where nothing of it is told, those why the link is
-/// refused.
+/// Whether an error of a link is one by which a clause fails of each image and map.
+fn is_of(error: &LinkError, clause: Clause) -> bool {
+    match error {
+        LinkError::FileMissing
+        | LinkError::BadArchive(_)
+        | LinkError::NoIndex
+        | LinkError::BadObject(_)
+        | LinkError::BadGroup(_) => clause == Clause::C2,
+        LinkError::SectionKind | LinkError::BadCommon => clause == Clause::C3,
+        LinkError::BadSymbol | LinkError::Duplicate(_) => clause == Clause::C13,
+        _ => false,
+    }
+}
+
+/// The lines that explain why a clause fails of each image and map of files and words, or none.
+fn input_reasons(
+    alloc: Global,
+    files: &[InputFile],
+    words: &[String],
+    clause: Clause,
+) -> io::Result<Vec<u8>> {
+    match prepare(alloc, files, words) {
+        Err(error) if is_of(&error, clause) => reasons(alloc, files, words, &error),
+        _ => Ok(Vec::new(alloc)),
+    }
+}
+
+/// Whether no place was found, but that a clause fails as a whole.
+fn is_whole(found: &Found<'_>) -> bool {
+    match found.places() {
+        [CheckPlace::Whole(_)] => true,
+        _ => false,
+    }
+}
+
+/// The lines that explain where the check of a link fails by a clause: the places, or where there are none, why the inputs
+/// are refused.
+fn link_failures(
+    alloc: Global,
+    words: &[String],
+    link: &Link<'_>,
+    clause: Clause,
+) -> io::Result<Vec<u8>> {
+    let found = explain_check(alloc, link, MOST)?;
+    let mut text = Vec::new(alloc);
+    if is_whole(&found) {
+        text = input_reasons(alloc, link.files, words, clause)?;
+    }
+    if text.is_empty() {
+        write_failures(&mut text, link, &found)?;
+    }
+    Ok(text)
+}
+
+/// The lines that explain why a clause fails of an image and a map.
 fn failures(
     alloc: Global,
     plan: &Plan<'_>,
@@ -164,20 +236,19 @@ fn failures(
     words: &[String],
     image: &[u8],
     map: &[u8],
+    clause: Clause,
 ) -> io::Result<Vec<u8>> {
     let mut text = Vec::new(alloc);
-    if write_format(alloc, &mut text, plan, image, map)? {
-        return Ok(text);
-    }
-    if let Some(link) = read_link(alloc, files, words, image, map)? {
-        if write_failures(alloc, &mut text, &link)? {
-            return Ok(text);
+    match clause {
+        Clause::C1 => write_map_fault(alloc, &mut text, plan, map)?,
+        Clause::C4 => write_image_fault(alloc, &mut text, plan, image)?,
+        _ => {
+            if let Some(link) = read_link(alloc, files, words, image, map)? {
+                return link_failures(alloc, words, &link, clause);
+            }
         }
     }
-    match prepare(alloc, files, words) {
-        Ok(_) => Ok(text),
-        Err(error) => reasons(alloc, files, words, &error),
-    }
+    Ok(text)
 }
 
 /// Checks an image and a map, and explains why they are no right link.
@@ -189,14 +260,17 @@ fn judge<W: Write>(
     words: &[String],
     image: &[u8],
     map: &[u8],
-) -> io::Result<u8> {
+) -> io::Result<u8>
+    ensures statuses { IfOk result (λ n. n ≤ 1) }
+    ensures right { IfOk result (λ n. n ≡ 0 → HasRightLink (words_of words.now)) }
+{
     match check(alloc, files, words, image, map)? {
         Verdict::Yes => {
             writeln!(out, "yes")?;
             Ok(0)
         }
         Verdict::No(clause) => {
-            let text = failures(alloc, plan, files, words, image, map)?;
+            let text = failures(alloc, plan, files, words, image, map, clause)?;
             writeln!(out, "no C{}", clause as u8)?;
             out.write_all(&text)?;
             Ok(1)
@@ -211,7 +285,11 @@ fn check_files<R: Files + AllocGlobal, W: Write>(
     plan: &Plan<'_>,
     files: &[InputFile],
     words: &[String],
-) -> io::Result<u8> {
+) -> io::Result<u8>
+    ensures statuses { IfOk result (λ n. n ≤ 4) }
+    ensures right { IfOk result (λ n. n ≡ 0 → HasRightLink (words_of words.now)) }
+    ensures read { IfOk result (λ n. n ≢ 2) }
+{
     let image = match read_file(rt, plan.output) {
         Ok(image) => image,
         Err(failure) => return fail_reading(rt, out, &failure),
@@ -229,7 +307,11 @@ fn run_plan<R: Files + AllocGlobal, W: Write>(
     out: &mut W,
     plan: &Plan<'_>,
     words: &[String],
-) -> io::Result<u8> {
+) -> io::Result<u8>
+    ensures statuses { IfOk result (λ n. n ≤ 4) }
+    ensures right { IfOk result (λ n. n ≡ 0 → HasRightLink (words_of words.now)) }
+    ensures words_alone { IfOk result (λ n. n ≡ 2 → IsErr (command_of (words_of words.now))) }
+{
     let files = match gather(rt.alloc(), plan, &mut RealFiles::new(rt, &[])) {
         Ok(files) => files,
         Err(fault) => return fail_reading(rt, out, &Failure::from(fault)),
@@ -240,11 +322,11 @@ fn run_plan<R: Files + AllocGlobal, W: Write>(
     link(rt.alloc(), out, &files, words)
 }
 
-fn answer<R: Files + AllocGlobal, W: Write>(
-    rt: &R,
-    words: &[String],
-    out: &mut W,
-) -> io::Result<u8> {
+fn answer<R: Files + AllocGlobal, W: Write>(rt: &R, words: &[String], out: &mut W) -> io::Result<u8>
+    ensures statuses { IfOk result (λ n. n ≤ 4) }
+    ensures right { IfOk result (λ n. n ≡ 0 → HasRightLink (words_of words.now)) }
+    ensures words_alone { IfOk result (λ n. n ≡ 2 → IsErr (command_of (words_of words.now))) }
+{
     match read_words(rt.alloc(), words) {
         Ok(plan) => run_plan(rt, out, &plan, words),
         Err(CmdFault::Memory) => fail(out, &Failure::from(CmdFault::Memory)),
@@ -254,7 +336,11 @@ fn answer<R: Files + AllocGlobal, W: Write>(
 
 /// Says why `ld` refuses these words or the link that they check, and answers the exit status of `ld`; 3 where a file can't
 /// be read or a line can't be written, 4 where memory can't be had, each with a line. It writes no file.
-pub fn run<R: Files + AllocGlobal, W: Write>(rt: &R, words: &[String], out: &mut W) -> u8 {
+pub fn run<R: Files + AllocGlobal, W: Write>(rt: &R, words: &[String], out: &mut W) -> u8
+    ensures statuses { result ≤ 4 }
+    ensures right { result ≡ 0 → HasRightLink (words_of words.now) }
+    ensures words_alone { result ≡ 2 → IsErr (command_of (words_of words.now)) }
+{
     match answer(rt, words, out) {
         Ok(status) => status,
         Err(error) => match error.kind() {

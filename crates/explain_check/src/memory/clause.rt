@@ -22,7 +22,8 @@ pub fn memory_clause(place: &MemoryPlace<'_>) -> Clause
         | MemoryPlace::GotInThreadBlock(_, _, _)
         | MemoryPlace::PieceInThreadBlock(_, _, _, _)
         | MemoryPlace::ThreadBytes(_) => Clause::C8,
-        MemoryPlace::Relocation(_, _) | MemoryPlace::Value(_, _, _) => Clause::C9,
+        MemoryPlace::Relocation(_, _) | MemoryPlace::Overlap(_, _) | MemoryPlace::Value(_, _, _) =>
+            Clause::C9,
         MemoryPlace::Byte(_) => Clause::C10,
         MemoryPlace::Fill(_)
         | MemoryPlace::EmptySegment(_)

@@ -16,7 +16,7 @@ use checker::BoundLink;
 use elf_model::{Rela, SectionHeader};
 
 /// The width of an entry's field in bytes; 0 for a type that is no kind.
-fn width_of(entry: &Rela) -> u8
+pub fn width_of(entry: &Rela) -> u8
     ensures { result ≡ unwrap_or
         (option_map (λ k. k.width) (relocation.kind_of (rela_type entry.now))) 0 }
 {

@@ -3,7 +3,7 @@ ghost use Rattle.std.specs.Prelude.{◌≡◌, ◌↔◌, ◌+◌, ◌≤◌, If
 ghost use Rattle.std.specs.List.{slice_get};
 ghost use Rattle.elf_model.specs.ObjectFile.{sections};
 ghost use Rattle.elf_model.specs.Relocation.{is_kept_rela};
-ghost use Rattle.elf_model.specs.RightLink.{objects_of, where_of};
+ghost use Rattle.elf_model.specs.RightLink.{AreRelocationsRight, objects_of, where_of};
 ghost use Rattle.check_load.specs.Views.{loaded_view};
 ghost use Rattle.check_relocs.specs.Bindings.{AreTargets, bound_of};
 ghost use Rattle.check_relocs.specs.Kinds.{kind_view};
@@ -13,6 +13,7 @@ ghost use Rattle.explain_check.specs.WrongEntries.{IsReferrer, IsWrongWith};
 
 use crate::found::Found;
 use crate::memory::added::add_memory;
+use crate::memory::overlaps::add_overlaps;
 use crate::memory::relocation_places::{entries_of, entry_at, header_at, kept_place, object_at};
 use crate::memory_place::{MemoryPlace, RelocationFault};
 use crate::place::CheckPlace;
@@ -180,6 +181,7 @@ fn add_numbered<'a>(
     bound: &BoundLink<'_, 'a>,
     number: usize,
 ) -> Result<(), AllocError>
+    requires fails { ¬ AreRelocationsRight bound.now }
     requires before { AreFailures bound.now found.old.places.items }
     ensures { OnOk result (AreFailures bound.now found.new.places.items) }
 {
@@ -188,17 +190,18 @@ fn add_numbered<'a>(
         return Ok(());
     };
     let mut targets = unknown_targets(alloc, one)?;
-    add_object(found, bound, &Referrer { number, one }, &mut targets)
+    add_object(found, bound, &Referrer { number, one }, &mut targets)?;
+    add_overlaps(alloc, found, bound, number)
 }
 
-/// Adds the kept relocations of a link that aren't lawful or whose values don't fit: where its ninth clause fails, but for
-/// fields that share a byte.
+/// Adds the kept relocations of a link that aren't lawful or whose values don't fit: where its ninth clause fails.
 pub fn add_c9<'a>(
     alloc: Global,
     found: &mut Found<'a>,
     bound: &BoundLink<'_, 'a>,
 ) -> Result<(), AllocError>
-    requires { AreFailures bound.now found.old.places.items }
+    requires fails { ¬ AreRelocationsRight bound.now }
+    requires before { AreFailures bound.now found.old.places.items }
     ensures { OnOk result (AreFailures bound.now found.new.places.items) }
 {
     for k in 0..bound.bindings().objects().len() {

@@ -7,7 +7,7 @@ use crate::memory_place::{
 use crate::text::{rights_text, write_object_of, write_piece};
 use check_link::Link;
 use elf_model::{GotLine, ProgramHeader};
-use input_names::write_name;
+use input_names::{write_name, write_relocation_entry, write_relocation_symbol};
 use std::io;
 use std::io::Write;
 
@@ -28,8 +28,8 @@ fn line_of_slot(link: &Link<'_>, number: u64) -> u64 {
     line
 }
 
-/// Writes where a relocation is: its section and offset there, its entry, its type and its symbol.
-fn write_relocation<W: Write>(
+/// Writes where a relocation is: its section and offset there.
+fn write_place_of<W: Write>(
     out: &mut W,
     link: &Link<'_>,
     place: &RelocationPlace<'_>,
@@ -37,30 +37,64 @@ fn write_relocation<W: Write>(
     write_object_of(out, link, place.object)?;
     out.write_all(b": ")?;
     write_name(out, place.section_name)?;
-    write!(out, "+{:#x}: ", place.entry.r_offset)?;
-    write_entry(out, place)
+    write!(out, "+{:#x}: ", place.entry.r_offset)
 }
 
-/// Writes which entry of which section a relocation is, its type and its symbol.
-fn write_entry<W: Write>(out: &mut W, place: &RelocationPlace<'_>) -> io::Result<()> {
-    let (number, table) = (place.number, place.table);
-    let (kind, symbol) = (place.entry.kind(), place.entry.symbol());
-    write!(
-        out,
-        "relocation {number} of section {table}, of type {kind}, to symbol {symbol} "
-    )?;
-    write_name(out, place.symbol_name)
+/// Writes which entry of which section a relocation is, its type and its symbol, by its number and a name.
+fn write_entry<W: Write>(out: &mut W, place: &RelocationPlace<'_>, name: &[u8]) -> io::Result<()> {
+    write_relocation_entry(out, place.table, place.number, &place.entry, name)
 }
 
-fn relocation_text(fault: RelocationFault) -> &'static str {
+/// Writes which entry a relocation is, behind what is wrong with it.
+fn write_note<W: Write>(out: &mut W, place: &RelocationPlace<'_>) -> io::Result<()> {
+    out.write_all(b" (")?;
+    write_entry(out, place, &[])?;
+    out.write_all(b")")
+}
+
+/// Writes where a relocation is, and which entry.
+fn write_relocation<W: Write>(
+    out: &mut W,
+    link: &Link<'_>,
+    place: &RelocationPlace<'_>,
+) -> io::Result<()> {
+    write_place_of(out, link, place)?;
+    write_entry(out, place, place.symbol_name)
+}
+
+/// What is wrong with a relocation, behind the name of its symbol where it is the symbol's.
+fn fault_text(fault: RelocationFault) -> (bool, &'static str) {
     match fault {
-        RelocationFault::Undefined => "not defined",
-        RelocationFault::RefToDropped => "LOCAL in a section that is not loaded",
-        RelocationFault::RelocKind => "not a type of relocation that is linked",
-        RelocationFault::FieldOutside => "the field is not inside its section",
-        RelocationFault::TlsMismatch => "thread-local, or not, against the relocation's type",
-        RelocationFault::MixedSection => "a bound of an output name of several output sections",
+        RelocationFault::Undefined => (true, " is not defined"),
+        RelocationFault::RefToDropped => (true, " is LOCAL in a section that is not loaded"),
+        RelocationFault::RelocKind => (false, "not a type of relocation that is linked"),
+        RelocationFault::FieldOutside => (false, "the field is not inside its section"),
+        RelocationFault::TlsMismatch => {
+            (
+                true,
+                " is thread-local, or not, against the relocation's type",
+            )
+        }
+        RelocationFault::MixedSection => {
+            (
+                true,
+                " is a bound of an output name of several output sections",
+            )
+        }
     }
+}
+
+/// Writes what is wrong with a relocation.
+fn write_fault<W: Write>(
+    out: &mut W,
+    place: &RelocationPlace<'_>,
+    fault: RelocationFault,
+) -> io::Result<()> {
+    let (of_symbol, text) = fault_text(fault);
+    if of_symbol {
+        write_relocation_symbol(out, &place.entry, place.symbol_name)?;
+    }
+    out.write_all(text.as_bytes())
 }
 
 /// Writes an address, the byte that memory has there, and the one that it should have.
@@ -93,7 +127,7 @@ fn write_piece_byte<W: Write>(
     write_byte(out, address, place.there, place.wanted)?;
     if let Some(relocation) = &place.relocation {
         out.write_all(b": ")?;
-        write_entry(out, relocation)?;
+        write_entry(out, relocation, relocation.symbol_name)?;
     }
     Ok(())
 }
@@ -272,15 +306,21 @@ pub fn write_memory_place<W: Write>(
 ) -> io::Result<()> {
     match place {
         MemoryPlace::Relocation(relocation, fault) => {
-            write_relocation(out, link, relocation)?;
-            write!(out, ": {}", relocation_text(*fault))
+            write_place_of(out, link, relocation)?;
+            write_fault(out, relocation, *fault)?;
+            write_note(out, relocation)
+        }
+        MemoryPlace::Overlap(first, second) => {
+            write_relocation(out, link, first)?;
+            out.write_all(b": its field shares a byte with that of ")?;
+            write_relocation(out, link, second)
         }
         MemoryPlace::Value(relocation, value, address) => {
-            write_relocation(out, link, relocation)?;
-            write!(
-                out,
-                ": the value {value:#x} does not fit the field at {address:#x}"
-            )
+            write_place_of(out, link, relocation)?;
+            write!(out, "the value {value:#x} for ")?;
+            write_relocation_symbol(out, &relocation.entry, relocation.symbol_name)?;
+            write!(out, " does not fit the field at {address:#x}")?;
+            write_note(out, relocation)
         }
         MemoryPlace::Byte(place) => write_piece_byte(out, link, place),
         MemoryPlace::ThreadHeader(_, _)

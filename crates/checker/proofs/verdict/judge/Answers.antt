@@ -5,7 +5,7 @@ use Rattle.check_load.specs.Plans.{CanLoad}
 use Rattle.checker.proofs.verdict.judge.Goals as goal
 
 pub no-requires-clause-fails : goal.no-requires-clause-fails
-no-requires-clause-fails c =
+no-requires-clause-fails g c =
     λ loaded.
     let can : CanLoad c.args.link.now.files c.args.link.now.plan =
     record { files_there = loaded.files; archives = loaded.archives; indexes = loaded.indexes; objects = loaded.objects; groups = loaded.groups } in

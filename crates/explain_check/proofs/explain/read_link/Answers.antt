@@ -1,4 +1,4 @@
-use Rattle.explain_check.proofs.replay.read_link.Goals as goal
+use Rattle.explain_check.proofs.explain.read_link.Goals as goal
 
 pub returns-clause-read : goal.returns-clause-read
 returns-clause-read c =

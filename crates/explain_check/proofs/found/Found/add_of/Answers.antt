@@ -1,0 +1,1 @@
+use Rattle.explain_check.proofs.found.Found.add_of.Goals as goal
