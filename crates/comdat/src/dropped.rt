@@ -63,6 +63,12 @@ pub fn admit_groups<'a>(
         ≡ seen_after (names_of signatures.old.keys) groups.now) }
     ensures begins { Begins signatures.old.keys signatures.new.keys }
 {
+    if groups.is_empty() {
+        return Ok(Dropped {
+            sections: Vec::new(alloc),
+            marks: Vec::new(alloc),
+        });
+    }
     let mut marks = vec![in alloc; false; count]?;
     for group in groups {
         admit_group(signatures, &mut marks, group)?;

@@ -20,5 +20,5 @@ returns-clause-dropped c =
     c.in_ok-sections.ensures ∙ ap marked_numbers (c.deref.ensures.value ∙ marks_are)
     ∙ numbers_marked c.args.count members (members_below c.args.count seen gs c.requires)
 
-pub invariant_of-result : goal.invariant_of-result
-invariant_of-result c = c.in_ok-sections.ensures ∙ ap marked_numbers c.deref.ensures.value
+pub invariant_of-result-2 : goal.invariant_of-result-2
+invariant_of-result-2 c = c.in_ok-sections.ensures ∙ ap marked_numbers c.deref.ensures.value
