@@ -1,4 +1,6 @@
 pub mod FaultLaws
+pub mod KeptListLaws
+pub mod KeptWalks
 pub mod LoadLaws
 pub mod LoaderLaws
 mod LostSections

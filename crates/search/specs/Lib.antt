@@ -1,4 +1,5 @@
 pub mod Faults
+pub mod KeptLists
 pub mod Loaders
 pub mod Loads
 pub mod Mentions

@@ -1,15 +1,17 @@
 //! What a loaded object keeps: sections with SHF_ALLOC that aren't dropped with their groups, and the relocations of
 //! these.
-ghost use Rattle.std.specs.Prelude.{◌≡◌, Some};
+ghost use Rattle.std.specs.Prelude.{◌≡◌, ℕ, All, Some};
 ghost use Rattle.std.specs.List.{slice_get};
 ghost use Rattle.elf_model.specs.Loading.{is_dropped};
 ghost use Rattle.elf_model.specs.ObjectFile.{relas_of, section, sections};
-ghost use Rattle.elf_model.specs.Pieces.{is_kept};
-ghost use Rattle.elf_model.specs.Relocation.{is_kept_rela};
+ghost use Rattle.elf_model.specs.Pieces.{is_kept, pieces_from};
+ghost use Rattle.elf_model.specs.Relocation.{is_kept_rela, relocations_from};
+ghost use Rattle.search.specs.KeptLists.{IsKeptRela, IsKeptSection, kept_numbers, kept_relas, pieces_at, relocations_of_relas};
 ghost use Rattle.search.specs.Views.{loaded_view};
 
+use crate::kept_lists::{KeptRela, is_kept, is_kept_rela};
 use crate::loaded::LoadedObject;
-use elf_model::{SHT_RELA, SectionHeader};
+use elf_model::SectionHeader;
 use elf_read::RelaRun;
 
 impl<'a> LoadedObject<'a> {
@@ -24,15 +26,7 @@ impl<'a> LoadedObject<'a> {
     pub fn is_kept(&self, number: usize, header: &SectionHeader) -> bool
         ensures { result ≡ is_kept (loaded_view self.now) number header.now }
     {
-        header.is_alloc() && !self.is_dropped(number)
-    }
-
-    /// Whether a section with this number is there and kept.
-    fn is_kept_at(&self, number: usize) -> bool
-        ensures { result ≡ is_kept (loaded_view self.now) number
-            (section (sections self.now.object) number) }
-    {
-        self.is_kept(number, &self.object.section(number))
+        is_kept(&self.dropped, number, header)
     }
 
     /// Whether a section, which has the header, holds relocations that are kept: a RELA section that isn't dropped
@@ -40,9 +34,35 @@ impl<'a> LoadedObject<'a> {
     pub fn is_kept_rela(&self, number: usize, header: &SectionHeader) -> bool
         ensures { result ≡ is_kept_rela (loaded_view self.now) number header.now }
     {
-        header.sh_type == SHT_RELA
-            && !self.is_dropped(number)
-            && self.is_kept_at(header.sh_info as usize)
+        is_kept_rela(&self.object, &self.dropped, number, header)
+    }
+
+    /// The numbers of its kept sections, ascending.
+    pub fn kept_sections(&self) -> &[u32]
+        ensures exact { result.now ≡ kept_numbers (loaded_view self.now) }
+        ensures kept { All (IsKeptSection (loaded_view self.now)) result.now }
+        ensures pieces { (n : ℕ) → pieces_from n (loaded_view self.now) 0 (sections self.now.object)
+            ≡ pieces_at n (loaded_view self.now) result.now }
+    {
+        self.kept.sections.as_slice()
+    }
+
+    /// Its kept RELA sections, by their numbers.
+    pub fn kept_relas(&self) -> &[KeptRela]
+        ensures exact { result.now ≡ kept_relas (loaded_view self.now) }
+        ensures kept { All (IsKeptRela (loaded_view self.now)) result.now }
+        ensures relocations { (n : ℕ) → relocations_from n (loaded_view self.now)
+            ≡ relocations_of_relas n (loaded_view self.now) result.now }
+    {
+        self.kept.relas.as_slice()
+    }
+
+    /// The entries of a kept RELA section.
+    pub fn kept_entries(&self, rela: KeptRela) -> RelaRun<'a>
+        requires { IsKeptRela (loaded_view self.now) rela }
+        ensures { result ≡ relas_of self.now.object (section (sections self.now.object) rela.number) }
+    {
+        self.object.entries(rela.number as usize)
     }
 
     /// The entries of RELA section `i`, which has the header.

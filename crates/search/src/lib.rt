@@ -7,6 +7,7 @@
 mod archives;
 mod faults;
 mod files;
+mod kept_lists;
 mod kept_sections;
 mod load_steps;
 mod loaded;
@@ -23,6 +24,7 @@ mod waits;
 pub use archives::read_input;
 pub use faults::SearchFault;
 pub use files::FileIndex;
+pub use kept_lists::KeptRela;
 pub use load_steps::{load, load_in, load_seeded, refused_object};
 pub use loaded::{Loaded, LoadedObject, NO_NUMBER};
 pub use loader::Reached;

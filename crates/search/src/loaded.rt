@@ -1,12 +1,9 @@
 //! What a command loads: its plan, the loaded objects in load order, and the numbers of their symbols' names, as one value
 //! that the layers above share.
-ghost use Rattle.std.specs.Prelude.{◌≡◌, ◌<◌, [], IfOk, IfSome, length, slice_index_or};
-ghost use Rattle.std.specs.List.{position};
-ghost use Rattle.std.specs.Str.{bytes_eq};
-ghost use Rattle.elf_model.specs.Loading.{AreObjects};
-ghost use Rattle.search.specs.Numbers.{AreNamed, AreNumbered, AreWhole, name_number, stored_number};
-ghost use Rattle.search.specs.Views.{loaded_views};
+ghost use Rattle.std.specs.Prelude.{◌≡◌, IfOk};
+ghost use Rattle.search.specs.KeptLists.{kept_in, relas_in};
 
+use crate::kept_lists::KeptLists;
 use crate::names::NameSet;
 use comdat::Dropped;
 use command::Plan;
@@ -34,6 +31,10 @@ pub struct LoadedObject<'a> {
     pub dropped: Dropped,
     /// The number of each symbol's name; NO_NUMBER where the symbol is LOCAL.
     pub numbers: Vec<usize>,
+    /// Lists of what is kept of it.
+    pub(crate) kept: KeptLists,
+    ghost sections_are: { kept.sections.items ≡ kept_in object dropped },
+    ghost relas_are: { kept.relas.items ≡ relas_in object dropped },
 }
 
 /// A plan, the objects, and the names that have numbers.
@@ -98,15 +99,22 @@ fn plan_again<'a>(alloc: Global, plan: &Plan<'a>) -> Result<Plan<'a>, AllocError
     })
 }
 
-/// The number that is kept for a symbol of an object; None where there is no such symbol.
-fn stored_number(objects: &[LoadedObject<'_>], object: usize, symbol: usize) -> Option<usize>
-    ensures { result ≡ stored_number objects.now object symbol }
-{
-    let loaded = objects.get(object)?;
-    loaded.numbers.get(symbol).copied()
-}
-
 impl<'a> Loaded<'a> {
+    ghost use Rattle.std.specs.Prelude.{◌≡◌, ◌<◌, [], IfOk, IfSome, length, slice_index_or};
+    ghost use Rattle.std.specs.List.{position};
+    ghost use Rattle.std.specs.Str.{bytes_eq};
+    ghost use Rattle.elf_model.specs.Loading.{AreObjects};
+    ghost use Rattle.search.specs.Numbers.{AreNamed, AreNumbered, AreWhole, name_number, stored_number};
+    ghost use Rattle.search.specs.Views.{loaded_views};
+
+    /// The number that is kept for a symbol of an object; None where there is no such symbol.
+    fn stored_number(objects: &[LoadedObject<'_>], object: usize, symbol: usize) -> Option<usize>
+        ensures { result ≡ stored_number objects.now object symbol }
+    {
+        let loaded = objects.get(object)?;
+        loaded.numbers.get(symbol).copied()
+    }
+
     /// A plan, and objects that were loaded, whose names have numbers.
     ///
     /// # Errors
@@ -173,7 +181,7 @@ impl<'a> Loaded<'a> {
     {
         let _count = self.name_count();
         let object = symbol.object.0 as usize;
-        let number = stored_number(self.objects(), object, symbol.symbol as usize)?;
+        let number = Loaded::stored_number(self.objects(), object, symbol.symbol as usize)?;
         if number == NO_NUMBER {
             return None;
         }

@@ -15,6 +15,7 @@ ghost use Rattle.search.specs.Opened.{item_view};
 ghost use Rattle.search.specs.Views.{loaded_views};
 
 use crate::faults::{SearchFault, group_fault, object_fault};
+use crate::kept_lists::kept_lists;
 use crate::loaded::{LoadedObject, NO_NUMBER};
 use crate::names::{NameList, NameNumbers};
 use crate::opened_items::OpenedItem;
@@ -339,6 +340,7 @@ impl<'p, 'a, N: NameNumbers<'a>> Loader<'p, 'a, N> {
             Err(fault) => return Err(group_fault(fault)),
         };
         let numbers = self.names.note_all(alloc, &object, &dropped)?;
+        let kept = kept_lists(alloc, &object, &dropped)?;
         self.taken.add(item.number, offset)?;
         self.objects.push(LoadedObject {
             object,
@@ -347,6 +349,7 @@ impl<'p, 'a, N: NameNumbers<'a>> Loader<'p, 'a, N> {
             path: item.path,
             dropped,
             numbers,
+            kept,
         })?;
         Ok(())
     }
