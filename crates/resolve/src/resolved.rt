@@ -303,11 +303,18 @@ impl<'a> Resolved<'a> {
         Some(Definition::Linker(name, bound))
     }
 
+    /// The loaded object that has a number.
+    fn object_at(&self, object: usize) -> Option<&LoadedObject<'a>>
+        ensures { option_map (λ o. loaded_view o.now) result ≡ slice_get self.now object }
+    {
+        self.loaded.objects().get(object)
+    }
+
     /// A symbol itself, for a LOCAL one that is defined; what the linker defines for the name of another one.
     fn unchosen(&self, object: usize, number: usize) -> Option<Definition<'a>>
         ensures { option_map meaning_view result ≡ unchosen_at self.now object number }
     {
-        let loaded = self.loaded.objects().get(object)?;
+        let loaded = self.object_at(object)?;
         let entry = loaded.object.symbol(number);
         if entry.is_local() {
             return itself(object as u64, loaded, number, &entry);
