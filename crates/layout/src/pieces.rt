@@ -66,21 +66,19 @@ fn add_pieces<'a>(
         ≡ piece_views out.old.items
         ++ pieces.pieces_from number (loaded_view loaded.now) 0 (sections loaded.now.object)) }
 {
-    let headers = loaded.object.sections();
-    for i in 0..headers.len() {
-        let header = headers.at(i);
-        if loaded.is_kept(i, &header) {
-            out.push(piece_of(number, &loaded.object, i, header))?;
-        }
+    let sections = loaded.kept_sections();
+    for section in sections {
+        let i = *section as usize;
+        out.push(piece_of(number, &loaded.object, i, loaded.object.section(i)))?;
     }
     Ok(())
 }
 
-/// How many sections objects have, kept and others.
-fn section_count(objects: &[LoadedObject<'_>]) -> usize {
+/// How many kept sections objects have; the greatest number where they are more.
+fn kept_count(objects: &[LoadedObject<'_>]) -> usize {
     let mut count: usize = 0;
     for loaded in objects {
-        count = count.saturating_add(loaded.object.sections().len());
+        count = count.saturating_add(loaded.kept_sections().len());
     }
     count
 }
@@ -90,7 +88,7 @@ fn kept_of<'a>(alloc: Global, objects: &[LoadedObject<'a>]) -> Result<Vec<Piece<
     ensures { IfOk result (λ v. piece_views v.items
         ≡ pieces.kept_sections (loaded_views objects.now)) }
 {
-    let mut found = Vec::with_capacity(alloc, section_count(objects))?;
+    let mut found = Vec::with_capacity(alloc, kept_count(objects))?;
     for (k, loaded) in objects.iter().enumerate() {
         add_pieces(&mut found, k as u64, loaded)?;
     }

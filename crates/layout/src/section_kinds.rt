@@ -52,10 +52,9 @@ pub fn is_lawful_if_kept(loaded: &LoadedObject<'_>, i: usize, header: &SectionHe
 fn is_lawful_object(loaded: &LoadedObject<'_>) -> bool
     ensures { IsTrue result ↔ HasLawfulKinds (loaded_view loaded.now) }
 {
-    let headers = loaded.object.sections();
-    for i in 0..headers.len() {
-        let header = headers.at(i);
-        if !is_lawful_if_kept(loaded, i, &header) {
+    let sections = loaded.kept_sections();
+    for section in sections {
+        if !is_lawful_kind(&loaded.object.section(*section as usize)) {
             return false;
         }
     }

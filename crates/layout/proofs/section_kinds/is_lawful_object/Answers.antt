@@ -1,33 +1,35 @@
-use Rattle.std.proofs.Common.{◌∙◌, subst, sym, ap, ◌<◌, ◌≤◌}
-use Rattle.std.specs.Prelude.{List}
+use Rattle.std.proofs.Common.{◌≡◌, ℕ, List, true, false, get_or, subst, sym, ◌∙◌}
+use Rattle.std.specs.Prelude.{All}
 use Rattle.std.proofs.lemmas.Bool.{false≢true}
-use Rattle.elf_model.specs.ObjectFile.{null_section}
+use Rattle.elf_model.specs.ObjectFile.{section, sections}
+use Rattle.elf_model.specs.Pieces.{IsLawfulKind}
 use Rattle.elf_model.specs.declared.records.SectionHeader.{SectionHeader}
-use Rattle.search.specs.Views.{loaded_view}
-use Rattle.layout.specs.Kinds.{AreLawfulFrom}
-use Rattle.layout.proofs.KindLemmas.{lawful_end, lawful_more, lawful_stop}
+use Rattle.elf_model.proofs.Rests.{all_end, all_more, all_stop}
 use Rattle.layout.proofs.section_kinds.is_lawful_object.Goals as goal
 
-pub loop-i-preserved : goal.loop-i-preserved
-loop-i-preserved c =
-    lawful_more _ (loaded_view c.args.loaded.now) c.sections-headers.result.now c.loop-i.i c.loop-i.invariant null_section (subst (λ n. c.loop-i.i < n) c.len-i-end.ensures c.loop-i-test.true)
-    ((rw c.at-header.ensures at c.is_lawful_if_kept.ensures.0) c.if-not-is_lawful_if_kept.false)
+abbrev IsLawfulAt : List ℕ → ℕ → Type 0
+IsLawfulAt bytes i = IsLawfulKind (section (sections bytes) i)
 
-pub returns-then-not-is_lawful_if_kept : goal.returns-then-not-is_lawful_if_kept
-returns-then-not-is_lawful_if_kept c = (
+pub loop-section-preserved : goal.loop-section-preserved
+loop-section-preserved c =
+    all_more _ (IsLawfulAt c.args.loaded.now.object) c.kept_sections-sections.result.now c.loop-section.section-index 0 c.loop-section-test.true
+    (subst IsLawfulKind c.section.ensures (c.is_lawful_kind.ensures.0 c.if-not-is_lawful_kind.false)) c.loop-section.invariant
+
+pub returns-then-not-is_lawful_kind : goal.returns-then-not-is_lawful_kind
+returns-then-not-is_lawful_kind c = (
   λ e. absurd (false≢true e),
   λ kinds. absurd
-      (lawful_stop _ (loaded_view c.args.loaded.now) c.sections-headers.result.now c.loop-i.i c.loop-i.invariant null_section (subst (λ n. c.loop-i.i < n) c.len-i-end.ensures c.loop-i-test.true)
-      (λ here. false≢true (sym c.if-not-is_lawful_if_kept.true ∙ (rw c.at-header.ensures at c.is_lawful_if_kept.ensures.1) here))
-      (subst (λ (hs : List SectionHeader). AreLawfulFrom (loaded_view c.args.loaded.now) 0 hs) (sym c.sections-headers.ensures) kinds.each)),
+      (all_stop _ (IsLawfulAt c.args.loaded.now.object) c.kept_sections-sections.result.now c.loop-section.section-index 0 c.loop-section-test.true
+      (λ here. false≢true (sym c.if-not-is_lawful_kind.true ∙ c.is_lawful_kind.ensures.1 (subst IsLawfulKind (sym c.section.ensures) here)))
+      c.loop-section.invariant (subst (All (IsLawfulAt c.args.loaded.now.object)) (sym c.kept_sections-sections.ensures.exact) kinds.each)),
 )
 
 pub returns : goal.returns
 returns c = (
   λ e. record {
     each =
-        subst (λ (hs : List SectionHeader). AreLawfulFrom (loaded_view c.args.loaded.now) 0 hs) c.sections-headers.ensures
-        (lawful_end _ (loaded_view c.args.loaded.now) c.sections-headers.result.now c.loop-i.i c.loop-i.invariant (subst (λ n. n ≤ c.loop-i.i) c.len-i-end.ensures c.loop-i-test.false));
+        subst (All (IsLawfulAt c.args.loaded.now.object)) c.kept_sections-sections.ensures.exact
+        (all_end _ (IsLawfulAt c.args.loaded.now.object) c.kept_sections-sections.result.now c.loop-section.section-index c.loop-section-test.false c.loop-section.invariant);
   },
   λ kinds. cc,
 )

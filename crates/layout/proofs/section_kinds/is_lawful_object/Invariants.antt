@@ -1,9 +1,11 @@
 use Rattle.std.proofs.Common.{drop}
+use Rattle.std.specs.Prelude.{All}
+use Rattle.elf_model.specs.ObjectFile.{section, sections}
+use Rattle.elf_model.specs.Pieces.{IsLawfulKind}
 use Rattle.elf_model.proofs.Rests.{Left}
-use Rattle.search.specs.Views.{loaded_view}
-use Rattle.layout.specs.Kinds.{AreLawfulFrom}
 use Rattle.layout.proofs.section_kinds.is_lawful_object.Given as goal
 
-abbrev pub invariant-loop-i : goal.invariant-loop-i
-invariant-loop-i l =
-    Left (AreLawfulFrom (loaded_view l.loaded) 0 l.headers) (AreLawfulFrom (loaded_view l.loaded) l.i (drop l.i l.headers))
+abbrev pub invariant-loop-section : goal.invariant-loop-section
+invariant-loop-section l =
+    Left (All (λ i. IsLawfulKind (section (sections l.loaded.object) i)) l.sections)
+    (All (λ i. IsLawfulKind (section (sections l.loaded.object) i)) (drop l.section-index l.sections))
