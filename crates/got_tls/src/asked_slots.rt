@@ -1,8 +1,8 @@
 //! What the kept relocations of loaded objects ask of the GOT, in load order.
 ghost use Rattle.std.specs.Prelude.{◌≡◌, IfOk, OnOk, Some, filter, map};
 ghost use Rattle.std.specs.List.{slice_get};
-ghost use Rattle.elf_model.specs.ObjectFile.{sections};
-ghost use Rattle.elf_model.specs.Relocation.{is_some_kind, relocation_of, relocations, relocations_from, relocations_in};
+ghost use Rattle.elf_model.specs.Relocation.{is_some_kind, relocation_of, relocations, relocations_from};
+ghost use Rattle.search.specs.KeptLists.{IsKeptRela, relocations_by};
 ghost use Rattle.search.specs.Views.{loaded_view, loaded_views};
 ghost use Rattle.got_tls.specs.Askers.{IsAsker, all_asked, asking};
 ghost use Rattle.got_tls.specs.Asking.{nothing, with_relocation, with_relocations};
@@ -10,11 +10,11 @@ ghost use Rattle.got_tls.specs.Views.{wants};
 
 use crate::requests::{Asker, slot_of};
 use crate::slot_table::Slot;
-use elf_model::{NameSeed, Rela, SectionHeader};
+use elf_model::{NameSeed, Rela};
 use elf_read::RelaRun;
 use indexmap::IndexSet;
 use resolve::Resolved;
-use search::LoadedObject;
+use search::{KeptRela, LoadedObject};
 use std::alloc::{AllocError, Global};
 
 /// What was asked for: whether a GOT, and its slots in the order of first request.
@@ -78,22 +78,20 @@ fn add_entries<'a>(
     Ok(())
 }
 
-/// Takes in what the entries of RELA section `i` ask for, which has the header.
+/// Takes in what the entries of a kept RELA section ask for.
 fn add_section<'a>(
     asked: &mut Asked<'a>,
     asker: &Asker<'_, 'a>,
-    i: usize,
-    header: &SectionHeader,
+    rela: KeptRela,
 ) -> Result<(), AllocError>
     requires asker { IsAsker asker.now }
-    requires there { slice_get (sections (asking asker.now).bytes) i ≡ Some header.now }
-    requires rela { header.now.sh_type ≡ 4 }
+    requires kept { IsKeptRela (asking asker.now) rela }
     ensures { OnOk result (wants asked.new
         ≡ with_relocations (all_asked asker.now) (wants asked.old)
-        (relocations_in asker.now.number (asking asker.now) header.now)) }
+        (relocations_by asker.now.number (asking asker.now) rela)) }
 {
-    let entries = asker.loaded.entries_of(i, header);
-    add_entries(asked, asker, header.sh_info as u64, &entries)
+    let entries = asker.loaded.kept_entries(rela);
+    add_entries(asked, asker, rela.target as u64, &entries)
 }
 
 /// Takes in what the kept relocations of an object ask for.
@@ -103,13 +101,9 @@ fn add_relocations<'a>(asked: &mut Asked<'a>, asker: &Asker<'_, 'a>) -> Result<(
         ≡ with_relocations (all_asked asker.now) (wants asked.old)
         (relocations_from asker.now.number (asking asker.now))) }
 {
-    let headers = asker.loaded.object.sections();
-    for i in 0..headers.len() {
-        let header = headers.at(i);
-        if !asker.loaded.is_kept_rela(i, &header) {
-            continue;
-        }
-        add_section(asked, asker, i, &header)?;
+    let relas = asker.loaded.kept_relas();
+    for rela in relas {
+        add_section(asked, asker, *rela)?;
     }
     Ok(())
 }

@@ -1,20 +1,24 @@
-use Rattle.std.proofs.Common.{◌+◌, sym, ◌∙◌, subst, ap, ◌<◌}
+use Rattle.std.proofs.Common.{◌+◌, ap, drop, get_or, sym}
 use Rattle.elf_model.specs.Relocation.{relocations_from}
-use Rattle.elf_model.proofs.FlatRelocations.{left_of_sections, section_more}
+use Rattle.search.proofs.KeptWalks.{no_rela, relas_more}
+use Rattle.search.specs.KeptLists.{relocations_by, relocations_of_relas}
 use Rattle.got_tls.specs.Askers.{all_asked, asking}
 use Rattle.got_tls.specs.Asking.{with_relocations}
 use Rattle.got_tls.specs.Views.{wants}
 use Rattle.got_tls.proofs.AskedOnce.{taken}
-use Rattle.elf_model.specs.Relocation.{is_kept_rela}
 use Rattle.got_tls.proofs.asked_slots.add_relocations.Goals as goal
 
-pub loop-i-preserved : goal.loop-i-preserved
-loop-i-preserved c =
+pub loop-rela-init : goal.loop-rela-init
+loop-rela-init c =
+    ap (with_relocations (all_asked c.args.asker.now) (wants c.args.asked.now)) (sym (c.kept_relas-relas.ensures.relocations c.args.asker.now.number))
+
+pub loop-rela-preserved : goal.loop-rela-preserved
+loop-rela-preserved c =
     let L = all_asked c.args.asker.now in
     let o = asking c.args.asker.now in
-    let hs = c.sections-headers.result.now in
     let n = c.args.asker.now.number in
-    let i = c.loop-i.i in
-    taken L (wants c.loop-i.asked) (wants c.add_section.new.asked) (with_relocations L (wants c.args.asked.now) (relocations_from n o)) _
-    (left_of_sections n o hs (i + 1)) (left_of_sections n o hs i) (rw c.at-header.ensures at c.in_ok-add_section.ensures)
-    (section_more n o hs i _ (subst (λ n. c.loop-i.i < n) c.len-i-end.ensures c.loop-i-test.true) (ap (is_kept_rela o i) (sym c.at-header.ensures) ∙ sym c.is_kept_rela.ensures ∙ c.if-not-is_kept_rela.false)) c.loop-i.invariant
+    let ks = c.kept_relas-relas.result.now in
+    let i = c.loop-rela.rela-index in
+    taken L (wants c.loop-rela.asked) (wants c.add_section.new.asked) (with_relocations L (wants c.args.asked.now) (relocations_from n o))
+    (relocations_by n o (get_or ks i no_rela)) (relocations_of_relas n o (drop (i + 1) ks)) (relocations_of_relas n o (drop i ks))
+    c.in_ok-add_section.ensures (relas_more n o ks i no_rela c.loop-rela-test.true) c.loop-rela.invariant
