@@ -120,7 +120,7 @@ pub fn add_relocations<'a>(
     requires before { AreSo loaded.now found.old.places.items }
     ensures { OnOk result (AreSo loaded.now found.new.places.items) }
 {
-    let mixed = mixed_names(alloc, loaded.objects())?;
+    let mixed = mixed_names(alloc, resolved)?;
     for k in 0..loaded.objects().len() {
         add_numbered(alloc, found, loaded, resolved, &mixed, k)?;
     }

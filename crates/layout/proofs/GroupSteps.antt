@@ -1,126 +1,23 @@
 -- Gathering pieces by output section, one more piece at a time.
-use Rattle.std.proofs.Common.{◌≡◌, ℕ, zero, suc, ◌+◌, ◌<◌, ◌≤◌, Bool, true, false, cond, ◌||◌, List, [], ◌∷◌, ◌++◌, get_or, set, take, length, refl, sym, ◌∙◌, ap, subst, arith}
-use Rattle.std.specs.Prelude.{Some, map}
+use Rattle.std.proofs.Common.{◌≡◌, ℕ, zero, suc, ◌+◌, ◌<◌, true, List, [], ◌∷◌, ◌++◌, get_or, set, take, length, refl, sym, ◌∙◌, ap, arith}
+use Rattle.std.specs.Prelude.{Option, None, Some, map, option_map, replicate}
 use Rattle.std.specs.Borrow.{Bor}
 use Rattle.std.specs.Global.{Vec}
-use Rattle.std.specs.List.{list_any, slice_get}
-use Rattle.std.proofs.lemmas.List.{append-nil, get_or-map, length-map, map-append, take_all, take_more}
+use Rattle.std.specs.List.{slice_get}
+use Rattle.std.proofs.lemmas.List.{get_or-map, length-map, map-append, take_more}
+use Rattle.std.proofs.lemmas.Option.{none-some, same_Some, slice_get-map, slice_get_within}
+use Rattle.elf_model.specs.ObjectFile.{null_section}
 use Rattle.elf_model.specs.OwnLayout.{leaders}
 use Rattle.elf_model.specs.Pieces as pieces
 use Rattle.elf_model.specs.Pieces.{same_output}
 use Rattle.elf_model.proofs.Grouped.{leaders_other}
-use Rattle.elf_model.proofs.SameOutput.{alike, both_ways_equal, same_from_alike}
-use Rattle.layout.specs.Groups.{AreGathered, AreGroups, Output, group, group_views, output_of, output_view}
-use Rattle.layout.specs.Views.{borrowed_view, borrowed_views, piece_view, piece_views}
-use Rattle.layout.specs.declared.output_sections.OutputSection.{OutputSection}
+use Rattle.resolve.specs.OutputSections.{AreOutputsOf, Output, output_at, output_of, output_view}
+use Rattle.resolve.specs.declared.output_sections.OutputSection.{OutputSection}
+use Rattle.resolve.proofs.OutputSteps.{same_output_of}
+use Rattle.layout.specs.Groups.{group, group_views, put_at}
+use Rattle.layout.specs.Views.{borrowed_view, borrowed_views}
 use Rattle.layout.specs.declared.pieces.Piece.{Piece}
-use Rattle.layout.proofs.Leading.{has_leader, leaders_push, no_group, put_at, put_at_leader}
-
--- pieces have one output section where what they have in common is the same
-pub same_output_of : (p q : pieces.Piece) → output_of p ≡ output_of q → same_output p q ≡ true
-same_output_of p q e = same_from_alike p q (record {
-  name = ap (λ (o : Output). o.name) e;
-  writable = ap (λ (o : Output). o.writable) e;
-  executable = ap (λ (o : Output). o.executable) e;
-  thread_local = ap (λ (o : Output). o.thread_local) e;
-  nobits = ap (λ (o : Output). o.nobits) e;
-})
-
-pub output_of_same : (p q : pieces.Piece) → same_output p q ≡ true → output_of p ≡ output_of q
-output_of_same p q e =
-    let a = alike p q e in
-    λ i. record {
-      name = a.name i;
-      writable = a.writable i;
-      executable = a.executable i;
-      thread_local = a.thread_local i;
-      nobits = a.nobits i;
-    }
-
--- a number of a list has an element of it
-slice_get_map : {X Y Z : Type 0} (f : X → Z) (g : Y → Z) (xs : List X) (ys : List Y) (i : ℕ) (x : X) → map f xs ≡ map g ys → slice_get xs i ≡ Some x → (y : Y) × (slice_get ys i ≡ Some y) × (f x ≡ g y)
-slice_get_map f g [] ys i x same there = absurd (cc)
-slice_get_map f g (x0 ∷ xs) [] i x same there = absurd (cc)
-slice_get_map {X} {Y} {Z} f g (x0 ∷ xs) (y0 ∷ ys) zero x same there = (y0, refl, ap f (sym (first there)) ∙ head same)
-  where
-    first : Some x0 ≡ Some x → x0 ≡ x
-    first e = cc
-
-    head : f x0 ∷ map f xs ≡ g y0 ∷ map g ys → f x0 ≡ g y0
-    head e = cc
-slice_get_map {X} {Y} {Z} f g (x0 ∷ xs) (y0 ∷ ys) (suc i) x same there = slice_get_map f g xs ys i x (tail same) there
-  where
-    tail : f x0 ∷ map f xs ≡ g y0 ∷ map g ys → map f xs ≡ map g ys
-    tail e = cc
-
--- keys compare as the pieces that they are of
-abbrev pub Compares : (OutputSection → OutputSection → Bool) → Type 0
-Compares eq = (a b : OutputSection) → ((eq a b ≡ true) → output_view a ≡ output_view b) × (output_view a ≡ output_view b → eq a b ≡ true)
-
-compared : (eq : OutputSection → OutputSection → Bool) → Compares eq → (v k : OutputSection) (q l : pieces.Piece) → output_view v ≡ output_of q → output_view k ≡ output_of l → eq v k ≡ same_output l q
-compared eq decides v k q l of_q of_l =
-    both_ways_equal (eq v k) (same_output l q)
-    (λ e. same_output_of l q (sym of_l ∙ (sym ((decides v k).0 e) ∙ of_q)))
-    (λ e. (decides v k).1 (of_q ∙ (sym (output_of_same l q e) ∙ sym of_l)))
-
--- a key is among the keys where a leader is of its output section
-pub key_there :
-    (eq : OutputSection → OutputSection → Bool) → Compares eq → (v : OutputSection) (q : pieces.Piece) → output_view v ≡ output_of q →
-    (keys : List OutputSection) (ls : List pieces.Piece) → map output_view keys ≡ map output_of ls → list_any (eq v) keys ≡ has_leader ls q
-key_there eq decides v q of_q [] [] same = refl
-key_there eq decides v q of_q [] (l ∷ ls) same = absurd (cc)
-key_there eq decides v q of_q (k ∷ keys) [] same = absurd (cc)
-key_there eq decides v q of_q (k ∷ keys) (l ∷ ls) same =
-    ap (λ (b : Bool). b || list_any (eq v) keys) (compared eq decides v k q l of_q (head same))
-    ∙ ap (λ (b : Bool). same_output l q || b) (key_there eq decides v q of_q keys ls (tail same))
-  where
-    head : output_view k ∷ map output_view keys ≡ output_of l ∷ map output_of ls → output_view k ≡ output_of l
-    head e = cc
-
-    tail : output_view k ∷ map output_view keys ≡ output_of l ∷ map output_of ls → map output_view keys ≡ map output_of ls
-    tail e = cc
-
--- the keys and the groups with a new one where it is new
-pub keys_step :
-    (there : Bool) (keys new : List OutputSection) (v : OutputSection) (done : List pieces.Piece) (q : pieces.Piece) →
-    there ≡ has_leader done q → output_view v ≡ output_of q → new ≡ cond there keys (keys ++ v ∷ []) →
-    map output_view keys ≡ map output_of (leaders done) → map output_view new ≡ map output_of (leaders (done ++ q ∷ []))
-keys_step there keys new v done q is of_q grown same =
-    ap (map output_view) grown ∙ (by there is ∙ sym (ap (map output_of) (leaders_push done q)))
-  where
-    by : (b : Bool) → b ≡ has_leader done q → map output_view (cond b keys (keys ++ v ∷ [])) ≡ map output_of (leaders done ++ cond (has_leader done q) [] (q ∷ []))
-    by true e = rw (← e) (same ∙ ap (map output_of) (sym (append-nil (leaders done))))
-    by false e =
-        rw (← e)
-        (map-append output_view keys (v ∷ [])
-        ∙ (ap (λ (os : List Output). os ++ output_view v ∷ []) same
-        ∙ (ap (λ (o : Output). map output_of (leaders done) ++ o ∷ []) of_q ∙ sym (map-append output_of (leaders done) (q ∷ [])))))
-
--- a piece of an output section that is there leads none
-pub leaders_same : (done : List pieces.Piece) (q : pieces.Piece) → true ≡ has_leader done q → leaders (done ++ q ∷ []) ≡ leaders done
-leaders_same done q is = leaders_push done q ∙ ap (λ (b : Bool). leaders done ++ cond b [] (q ∷ [])) (sym is) ∙ append-nil (leaders done)
-
-pub leaders_new : (done : List pieces.Piece) (q : pieces.Piece) → false ≡ has_leader done q → leaders (done ++ q ∷ []) ≡ leaders done ++ q ∷ []
-leaders_new done q is = leaders_push done q ∙ ap (λ (b : Bool). leaders done ++ cond b [] (q ∷ [])) (sym is)
-
--- the groups before a piece is put into one: where its output section is new, with an empty one behind them
-pub groups_kept :
-    (groups new : List (Vec (Bor Piece))) (done : List pieces.Piece) (q : pieces.Piece) → true ≡ has_leader done q → new ≡ groups →
-    AreGathered groups done → group_views new ≡ map (group done) (leaders (done ++ q ∷ []))
-groups_kept groups new done q is grown same = ap group_views grown ∙ same ∙ ap (map (group done)) (sym (leaders_same done q is))
-
-pub groups_grown :
-    (groups new : List (Vec (Bor Piece))) (empty : Vec (Bor Piece)) (done : List pieces.Piece) (q : pieces.Piece) →
-    false ≡ has_leader done q → empty.items ≡ [] → new ≡ groups ++ empty ∷ [] →
-    AreGathered groups done → group_views new ≡ map (group done) (leaders (done ++ q ∷ []))
-groups_grown groups new empty done q is none grown same =
-    ap group_views grown
-    ∙ map-append (λ (g : Vec (Bor Piece)). borrowed_views g.items) groups (empty ∷ [])
-    ∙ ap (λ (gs : List (List pieces.Piece)). gs ++ borrowed_views empty.items ∷ []) same
-    ∙ ap (λ (ps : List (Bor Piece)). map (group done) (leaders done) ++ borrowed_views ps ∷ []) none
-    ∙ ap (λ (ps : List pieces.Piece). map (group done) (leaders done) ++ ps ∷ []) (sym (no_group done q (sym is)))
-    ∙ sym (map-append (group done) (leaders done) (q ∷ []))
-    ∙ ap (map (group done)) (sym (leaders_new done q is))
+use Rattle.layout.proofs.Leading.{put_at_leader}
 
 -- one more piece in a group
 pub group_written :
@@ -132,32 +29,78 @@ group_written (h ∷ groups) zero d g p grown =
 group_written (h ∷ groups) (suc i) d g p grown =
     ap (λ (gs : List (List pieces.Piece)). borrowed_views h.items ∷ gs) (group_written groups i d g p grown)
 
--- the groups with the piece in that of its leader
-pub groups_put :
-    (eq : OutputSection → OutputSection → Bool) → Compares eq → (keys : List OutputSection) (groups : List (List pieces.Piece)) (v k : OutputSection)
-    (done : List pieces.Piece) (q : pieces.Piece) (i : ℕ) → output_view v ≡ output_of q → slice_get keys i ≡ Some k → eq v k ≡ true →
-    map output_view keys ≡ map output_of (leaders (done ++ q ∷ [])) → groups ≡ map (group done) (leaders (done ++ q ∷ [])) →
-    put_at groups i q ≡ map (group (done ++ q ∷ [])) (leaders (done ++ q ∷ []))
-groups_put eq decides keys groups v k done q i of_q there e same groups_are =
-    let l = slice_get_map output_view output_of keys (leaders (done ++ q ∷ [])) i k same there in
-    let s : same_output l.0 q ≡ true = same_output_of l.0 q (sym l.2 ∙ (sym ((decides v k).0 e) ∙ of_q)) in
-    ap (λ (gs : List (List pieces.Piece)). put_at gs i q) groups_are
-    ∙ put_at_leader done (leaders (done ++ q ∷ [])) i l.0 q l.1 s (leaders_other (done ++ q ∷ []))
+-- groups without pieces are those of no pieces
+pub empties : (ls : List pieces.Piece) (n : ℕ) → n ≡ length ls → replicate n [] ≡ map (group []) ls
+empties [] zero is = refl
+empties [] (suc n) is = absurd (omega (arith, is))
+empties (l ∷ ls) zero is = absurd (omega (arith, is))
+empties (l ∷ ls) (suc n) is = ap (λ (gs : List (List pieces.Piece)). [] ∷ gs) (empties ls n (omega (arith, is)))
 
--- one more piece is seen, and all are
-pub seen_more :
-    (keys : List OutputSection) (groups : List (Vec (Bor Piece))) (ps : List Piece) (i : ℕ) (d : Piece) → i < length ps →
-    AreGroups keys groups (take i (piece_views ps) ++ piece_view (get_or ps i d) ∷ []) → AreGroups keys groups (take (i + 1) (piece_views ps))
-seen_more keys groups ps i d within are =
-    let n = length-map ps piece_view in
-    let at : get_or (piece_views ps) i (piece_view d) ≡ piece_view (get_or ps i d) = get_or-map piece_view ps i d (piece_view d) within in
-    let more : take (i + 1) (piece_views ps) ≡ take i (piece_views ps) ++ piece_view (get_or ps i d) ∷ [] =
-    take_more (piece_views ps) i (piece_view d) (omega (arith, n, within))
-    ∙ ap (λ (x : pieces.Piece). take i (piece_views ps) ++ x ∷ []) at in
-    subst (AreGroups keys groups) (sym more) are
+module _ (ps : List pieces.Piece) (sections : List OutputSection) (numbers : List ℕ) (are : AreOutputsOf ps sections numbers) where
+  -- there are as many output sections as leaders, and as many numbers as pieces
+  pub sections_count : length sections ≡ length (leaders ps)
+  sections_count =
+      sym (length-map sections output_view) ∙ (ap (λ (os : List Output). length os) are.sections_are ∙ length-map (leaders ps) output_of)
 
-pub seen_all :
-    (groups : List (Vec (Bor Piece))) (ps : List Piece) (i : ℕ) → length ps ≤ i → AreGathered groups (take i (piece_views ps)) → AreGathered groups (piece_views ps)
-seen_all groups ps i behind are =
-    let n = length-map ps piece_view in
-    subst (AreGathered groups) (take_all i (piece_views ps) (omega (arith, n, behind))) are
+  pub numbers_count : length numbers ≡ length ps
+  numbers_count =
+      sym (length-map numbers (output_at sections))
+      ∙ (ap (λ (os : List (Option Output)). length os) are.numbers_are ∙ length-map ps (λ (p : pieces.Piece). Some (output_of p)))
+
+  module _ (k d : ℕ) (e : pieces.Piece) (within : k < length ps) where
+    -- the number of a piece is that of its output section, and of the leader of that
+    number_at : output_at sections (get_or numbers k d) ≡ Some (output_of (get_or ps k e))
+    number_at =
+        let n = numbers_count in
+        let there : k < length numbers = omega (arith, n, within) in
+        sym (get_or-map (output_at sections) numbers k d None there)
+        ∙ ap (λ (os : List (Option Output)). get_or os k None) are.numbers_are
+        ∙ get_or-map (λ (p : pieces.Piece). Some (output_of p)) ps k e None within
+
+    led : (l : pieces.Piece) × (slice_get (leaders ps) (get_or numbers k d) ≡ Some l) × (same_output l (get_or ps k e) ≡ true)
+    led = by (slice_get (leaders ps) i) refl
+      where
+        i : ℕ
+        i = get_or numbers k d
+
+        is : option_map output_of (slice_get (leaders ps) i) ≡ Some (output_of (get_or ps k e))
+        is =
+            sym (slice_get-map output_of (leaders ps) i)
+            ∙ ap (λ (os : List Output). slice_get os i) (sym are.sections_are)
+            ∙ slice_get-map output_view sections i
+            ∙ number_at
+
+        by : (o : Option pieces.Piece) → slice_get (leaders ps) i ≡ o → (l : pieces.Piece) × (slice_get (leaders ps) i ≡ Some l) × (same_output l (get_or ps k e) ≡ true)
+        by None there = absurd (none-some (output_of (get_or ps k e)) (ap (option_map output_of) (sym there) ∙ is))
+        by (Some l) there =
+            (l, there, same_output_of l (get_or ps k e) (same_Some (output_of l) (output_of (get_or ps k e)) (ap (option_map output_of) (sym there) ∙ is)))
+
+    led_within : get_or numbers k d < length (leaders ps)
+    led_within = slice_get_within (leaders ps) (get_or numbers k d) led.0 led.1
+
+    -- the groups with one more piece, in that of its leader
+    pub groups_more :
+        (groups new : List (List pieces.Piece)) → groups ≡ map (group (take k ps)) (leaders ps) → new ≡ put_at groups (get_or numbers k d) (get_or ps k e) →
+        new ≡ map (group (take (k + 1) ps)) (leaders ps)
+    groups_more groups new so_far put =
+        put
+        ∙ ap (λ (gs : List (List pieces.Piece)). put_at gs (get_or numbers k d) (get_or ps k e)) so_far
+        ∙ put_at_leader (take k ps) (leaders ps) (get_or numbers k d) led.0 (get_or ps k e) led.1 led.2 (leaders_other ps)
+        ∙ ap (λ (qs : List pieces.Piece). map (group qs) (leaders ps)) (sym (take_more ps k e within))
+
+  pub number_within : (k d : ℕ) → k < length ps → get_or numbers k d < length (leaders ps)
+  number_within k d within = led_within k d (some ps within) within
+    where
+      some : (qs : List pieces.Piece) → k < length qs → pieces.Piece
+      some [] w = absurd (omega (arith, w))
+      some (q ∷ qs) w = q
+
+-- what the code reads past the end of a list of pieces
+abbrev pub no_piece : Piece
+no_piece = record {
+  object = 0;
+  section = 0;
+  header = null_section;
+  name = record { ref_ptr = (0, 0); now = [] };
+  bytes = record { ref_ptr = (0, 0); now = [] };
+}

@@ -1,88 +1,19 @@
--- The leaders of output sections and the pieces that they lead, as pieces come one by one.
-use Rattle.std.proofs.Common.{◌≡◌, ℕ, zero, suc, Bool, true, false, not, cond, ◌||◌, List, [], ◌∷◌, ◌++◌, refl, sym, ◌∙◌, ap}
-use Rattle.std.specs.Prelude.{All, AllPairs, Some, filter, map}
-use Rattle.std.specs.List.{list_any, slice_get}
+-- The pieces that leaders of output sections lead, as pieces come one by one.
+use Rattle.std.proofs.Common.{◌≡◌, ℕ, zero, suc, Bool, true, false, cond, List, [], ◌∷◌, ◌++◌, refl, sym, ◌∙◌, ap}
+use Rattle.std.specs.Prelude.{All, AllPairs, Some, map}
+use Rattle.std.specs.List.{slice_get}
 use Rattle.std.proofs.lemmas.Bool.{false≢true}
 use Rattle.std.proofs.lemmas.List.Elements.{All-head, All-tail, All-weaker, filter-append}
 use Rattle.std.proofs.lemmas.Option.{same_Some}
-use Rattle.elf_model.specs.OwnLayout.{leaders}
 use Rattle.elf_model.specs.Pieces.{Piece, same_output}
 use Rattle.elf_model.proofs.Grouped.{AreOther}
 use Rattle.elf_model.proofs.Pairs.{AllPairs-head, AllPairs-tail}
 use Rattle.elf_model.proofs.SameOutput.{same_output-sym, same_output-trans}
-use Rattle.layout.specs.Groups.{group}
-
--- a piece is of the output section of one of these
-abbrev pub has_leader : List Piece → Piece → Bool
-has_leader ls q = list_any (λ l. same_output l q) ls
-
--- a piece that comes behind the others leads its output section where none of them does
-pub leaders_push : (ps : List Piece) (q : Piece) → leaders (ps ++ q ∷ []) ≡ leaders ps ++ cond (has_leader ps q) [] (q ∷ [])
-leaders_push [] q = refl
-leaders_push (p ∷ ps) q =
-    let other : Piece → Bool = λ r. not (same_output p r) in
-    ap (λ (ls : List Piece). p ∷ filter other ls) (leaders_push ps q)
-    ∙ (ap (λ (ls : List Piece). p ∷ ls) (filter-append other (leaders ps) (cond (has_leader ps q) [] (q ∷ [])))
-    ∙ ap (λ (ls : List Piece). p ∷ (filter other (leaders ps) ++ ls)) (by (same_output p q) (has_leader ps q) refl))
-  where
-    by : (b c : Bool) → same_output p q ≡ b → filter (λ r. not (same_output p r)) (cond c [] (q ∷ [])) ≡ cond (b || c) [] (q ∷ [])
-    by true true e = refl
-    by false true e = refl
-    by true false e = rw e refl
-    by false false e = rw e refl
-
--- a piece is of the output section of a leader where it is of one of any piece
-pub leaders_lead : (ps : List Piece) (q : Piece) → has_leader (leaders ps) q ≡ has_leader ps q
-leaders_lead [] q = refl
-leaders_lead (p ∷ ps) q = by (same_output p q) refl (leaders_lead ps q)
-  where
-    other : Piece → Bool
-    other r = not (same_output p r)
-
-    -- what p leads isn't of the output section of q, where p isn't
-    left_out : same_output p q ≡ false → (ls : List Piece) → has_leader (filter other ls) q ≡ has_leader ls q
-    left_out e [] = refl
-    left_out e (l ∷ ls) = at (same_output p l) refl (left_out e ls)
-      where
-        none : same_output p l ≡ true → (b : Bool) → same_output l q ≡ b → b ≡ false
-        none s true t = absurd (false≢true (sym e ∙ same_output-trans p l q s t))
-        none s false t = refl
-
-        at :
-            (b : Bool) → same_output p l ≡ b → has_leader (filter other ls) q ≡ has_leader ls q →
-            has_leader (cond (not b) (l ∷ filter other ls) (filter other ls)) q ≡ (same_output l q || has_leader ls q)
-        at false s ih = ap (λ (c : Bool). same_output l q || c) ih
-        at true s ih = ih ∙ ap (λ (c : Bool). c || has_leader ls q) (sym (none s (same_output l q) refl))
-
-    by : (b : Bool) → same_output p q ≡ b → has_leader (leaders ps) q ≡ has_leader ps q → (same_output p q || has_leader (filter other (leaders ps)) q) ≡ (same_output p q || has_leader ps q)
-    by true e ih = rw e refl
-    by false e ih = ap (λ (c : Bool). same_output p q || c) (left_out e (leaders ps) ∙ ih)
-
--- none is of the output section of a new leader
-pub no_group : (ps : List Piece) (q : Piece) → has_leader ps q ≡ false → group ps q ≡ []
-no_group [] q none = refl
-no_group (p ∷ ps) q none = by (same_output p q) (has_leader ps q) refl refl none (no_group ps q)
-  where
-    turned : same_output p q ≡ false → (b : Bool) → same_output q p ≡ b → b ≡ false
-    turned e true t = absurd (false≢true (sym e ∙ same_output-sym q p t))
-    turned e false t = refl
-
-    by :
-        (b c : Bool) → same_output p q ≡ b → has_leader ps q ≡ c → (b || c) ≡ false → (has_leader ps q ≡ false → group ps q ≡ []) →
-        group (p ∷ ps) q ≡ []
-    by true c e f n rest = absurd (false≢true (sym n))
-    by false true e f n rest = absurd (false≢true (sym n))
-    by false false e f n rest = rw (turned e (same_output q p) refl) (rest f)
+use Rattle.layout.specs.Groups.{group, put_at}
 
 -- the pieces of a leader's output section, with one more
 group_push : (ps : List Piece) (q l : Piece) → group (ps ++ q ∷ []) l ≡ group ps l ++ cond (same_output l q) (q ∷ []) []
 group_push ps q l = filter-append (same_output l) ps (q ∷ [])
-
--- a list of lists with one more piece in number i
-abbrev pub put_at : List (List Piece) → ℕ → Piece → List (List Piece)
-put_at [] i q = []
-put_at (g ∷ gs) zero q = (g ++ q ∷ []) ∷ gs
-put_at (g ∷ gs) (suc i) q = g ∷ put_at gs i q
 
 -- no leader of another output section takes it
 append_none : (g : List Piece) → g ++ [] ≡ g

@@ -6,11 +6,9 @@ pub mod Entries
 mod GotPieces
 pub mod GroupSteps
 pub mod KindLemmas
-pub mod Keys
 pub mod LaidSteps
 pub mod Leading
 mod MixedOutputs
-pub mod MixedSteps
 pub mod OrderSteps
 pub mod OtherPlaces
 pub mod OwnAddresses

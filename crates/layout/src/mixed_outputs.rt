@@ -1,116 +1,62 @@
-//! The output names whose kept sections are of several output sections. Sections are looked at one by one, in load order.
-ghost use Rattle.std.specs.Prelude.{◌≡◌, ◌++◌, ◌∷◌, [], List, IfOk, OnOk, option_map, unwrap_or};
-ghost use Rattle.elf_model.specs.ObjectFile.{section_name, sections};
-ghost use Rattle.elf_model.specs.Pieces as pieces;
-ghost use Rattle.elf_model.specs.Pieces.{output_name};
-ghost use Rattle.search.specs.Views.{loaded_view, loaded_views};
-ghost use Rattle.layout.specs.Mixed.{AreMixed, IsFound, are_alike, first_in, kept_one};
-ghost use Rattle.layout.specs.Views.{piece_view};
+//! The output names whose kept sections are of several output sections: the names that come twice among output sections.
+ghost use Rattle.std.specs.Prelude.{◌≡◌, ◌&&◌, ◌||◌, ℕ, List, IfOk, OnOk, false, map};
+ghost use Rattle.std.specs.Str.{bytes_eq};
+ghost use Rattle.elf_model.specs.UsedNames.{is_among};
+ghost use Rattle.resolve.specs.OutputSections.{output_view};
+ghost use Rattle.layout.specs.Mixed.{AreMixed, is_twice_from};
 
-use crate::pieces::{Piece, piece_of};
-use elf_model::SectionHeader;
-use elf_read::ObjectFile;
-use resolve::output_name;
-use search::LoadedObject;
+use resolve::{OutputSection, Resolved};
 use std::alloc::{AllocError, Global};
-use std::collections::{BTreeMap, BTreeSet};
+use std::collections::BTreeSet;
 
-/// Whether two sections are alike in what tells the output sections of one output name apart.
-fn are_alike(one: &SectionHeader, other: &SectionHeader) -> bool
-    ensures { result ≡ are_alike one.now other.now }
+fn has_name(names: &BTreeSet<&[u8]>, name: &[u8]) -> bool
+    ensures { result ≡ is_among names.now name.now }
 {
-    if one.is_writable() != other.is_writable() {
-        return false;
-    }
-    if one.is_executable() != other.is_executable() {
-        return false;
-    }
-    if one.is_thread_local() != other.is_thread_local() {
-        return false;
-    }
-    one.is_nobits() == other.is_nobits()
+    names.contains(name)
 }
 
-/// The first section of an output name.
-fn first_of<'f, 'a>(firsts: &'f BTreeMap<&'a [u8], Piece<'a>>, name: &[u8]) -> Option<&'f Piece<'a>>
-    ensures { option_map (λ p. piece_view p.now) result ≡ first_in firsts.entry.now name.now }
+fn put_name<'a>(names: &mut BTreeSet<&'a [u8]>, name: &'a [u8]) -> Result<(), AllocError>
+    ensures { OnOk result ((n : List ℕ) →
+        is_among names.new n ≡ (bytes_eq name.entry.now n || is_among names.old n)) }
 {
-    firsts.get(name)
-}
-
-/// The output name of section `i`, that of the empty name where it has none.
-fn output_name_at<'a>(object: &ObjectFile<'a>, i: usize) -> &'a [u8]
-    ensures { result.now ≡ output_name (unwrap_or (section_name object.now i) []) }
-{
-    output_name(object.section_name(i).unwrap_or(&[]))
-}
-
-/// Takes section `i` of an object, which is kept and has the header, in: it is the first one of its output name, or its name
-/// is an odd one where it is of another output section than the first one.
-fn add_kept<'a>(
-    firsts: &mut BTreeMap<&'a [u8], Piece<'a>>,
-    names: &mut BTreeSet<&'a [u8]>,
-    number: u64,
-    object: &ObjectFile<'a>,
-    i: usize,
-    header: &SectionHeader,
-) -> Result<(), AllocError>
-    ensures { OnOk result ((done : List pieces.Piece) →
-        IsFound firsts.old names.old done
-        → IsFound firsts.new names.new
-        (done ++ pieces.piece_of number object.now i header.now ∷ [])) }
-{
-    let name = output_name_at(object, i);
-    let Some(first) = first_of(firsts, name) else {
-        firsts.insert(name, piece_of(number, object, i, *header))?;
-        return Ok(());
-    };
-    if are_alike(&first.header, header) {
-        return Ok(());
-    }
     names.insert(name)?;
     Ok(())
 }
 
-/// Takes section `i` of an object in, where it is kept.
-fn add_section<'a>(
-    firsts: &mut BTreeMap<&'a [u8], Piece<'a>>,
-    names: &mut BTreeSet<&'a [u8]>,
-    number: u64,
-    loaded: &LoadedObject<'a>,
-    i: usize,
-    header: &SectionHeader,
+/// Takes the name of an output section in: it is a name that comes twice where it was seen before.
+fn add_name<'a>(
+    seen: &mut BTreeSet<&'a [u8]>,
+    twice: &mut BTreeSet<&'a [u8]>,
+    name: &'a [u8],
 ) -> Result<(), AllocError>
-    ensures { OnOk result ((done : List pieces.Piece) →
-        IsFound firsts.old names.old done
-        → IsFound firsts.new names.new
-        (done ++ kept_one number (loaded_view loaded.now) i header.now)) }
+    ensures seen { OnOk result ((n : List ℕ) →
+        is_among seen.new n ≡ (bytes_eq name.entry.now n || is_among seen.old n)) }
+    ensures twice { OnOk result ((n : List ℕ) →
+        is_among twice.new n
+        ≡ ((bytes_eq name.entry.now n && is_among seen.old n) || is_among twice.old n)) }
 {
-    if !loaded.is_kept(i, header) {
+    if has_name(seen, name) {
+        put_name(twice, name)?;
         return Ok(());
     }
-    add_kept(firsts, names, number, &loaded.object, i, header)
+    put_name(seen, name)?;
+    Ok(())
 }
 
-/// Takes the kept sections of an object in.
-fn add_object<'a>(
-    firsts: &mut BTreeMap<&'a [u8], Piece<'a>>,
-    names: &mut BTreeSet<&'a [u8]>,
-    number: u64,
-    loaded: &LoadedObject<'a>,
-) -> Result<(), AllocError>
-    ensures { OnOk result ((done : List pieces.Piece) →
-        IsFound firsts.old names.old done
-        → IsFound firsts.new names.new
-        (done ++ pieces.pieces_from number (loaded_view loaded.now) 0
-        (sections loaded.now.object))) }
+/// The names that come twice among output sections.
+fn twice_named<'a>(
+    alloc: Global,
+    sections: &[OutputSection<'a>],
+) -> Result<BTreeSet<&'a [u8]>, AllocError>
+    ensures { IfOk result (λ names. (n : List ℕ) →
+        is_among names n ≡ is_twice_from n false (map output_view sections.now)) }
 {
-    let headers = loaded.object.sections();
-    for i in 0..headers.len() {
-        let header = headers.at(i);
-        add_section(firsts, names, number, loaded, i, &header)?;
+    let mut seen = BTreeSet::new(alloc);
+    let mut twice = BTreeSet::new(alloc);
+    for section in sections {
+        add_name(&mut seen, &mut twice, section.name.0)?;
     }
-    Ok(())
+    Ok(twice)
 }
 
 /// The output names whose kept sections are of several output sections.
@@ -120,14 +66,11 @@ fn add_object<'a>(
 /// Only where memory is refused.
 pub fn mixed_names<'a>(
     alloc: Global,
-    objects: &[LoadedObject<'a>],
+    resolved: &Resolved<'a>,
 ) -> Result<BTreeSet<&'a [u8]>, AllocError>
-    ensures { IfOk result (AreMixed (loaded_views objects.now)) }
+    ensures { IfOk result (AreMixed resolved.now) }
 {
-    let mut firsts = BTreeMap::new(alloc);
-    let mut names = BTreeSet::new(alloc);
-    for (k, loaded) in objects.iter().enumerate() {
-        add_object(&mut firsts, &mut names, k as u64, loaded)?;
-    }
+    let outputs = resolved.output_sections();
+    let names = twice_named(alloc, &outputs.sections)?;
     Ok(names)
 }

@@ -3,6 +3,7 @@ ghost use Rattle.std.specs.Prelude.{◌≡◌, ◌≤◌, ◌++◌, IfOk, OnOk};
 ghost use Rattle.std.specs.List.{list_any};
 ghost use Rattle.elf_model.specs.OwnLayout as own;
 ghost use Rattle.search.specs.Views.{loaded_views};
+ghost use Rattle.resolve.specs.OutputSections.{AreOutputSections};
 ghost use Rattle.layout.specs.Orders.{IsOrder, data_in, objects_of};
 ghost use Rattle.layout.specs.PieceLists.{ArePieces, if_sized};
 ghost use Rattle.layout.specs.Views.{borrowed_views, piece_view, piece_views};
@@ -11,7 +12,7 @@ use crate::output_sections::{Part, add_part, groups_of, part_of};
 use crate::pieces::{Piece, Pieces};
 use crate::segments::any_nonempty;
 use crate::threads::{any_thread_piece, thread_align};
-use elf_model::NameSeed;
+use resolve::OutputSections;
 use search::LoadedObject;
 use std::alloc::{AllocError, Global};
 
@@ -70,18 +71,19 @@ fn data_of<'b, 'a>(
     Ok(data)
 }
 
-/// All pieces of objects in own order. Names of output sections are hashed from a seed.
+/// All pieces of objects, which have these output sections, in own order.
 pub fn order_of<'b, 'a>(
     alloc: Global,
-    seed: NameSeed,
+    outputs: &OutputSections<'a>,
     objects: &'b [LoadedObject<'a>],
     pieces: &'b Pieces<'a>,
 ) -> Result<Order<'b, 'a>, AllocError>
-    requires { ArePieces (loaded_views objects.now) pieces.now }
+    requires pieces { ArePieces (loaded_views objects.now) pieces.now }
+    requires outputs { AreOutputSections (loaded_views objects.now) outputs.now }
     ensures objects { IfOk result (λ o. objects_of o ≡ loaded_views objects.entry.now) }
     ensures order { IfOk result (λ o. IsOrder o) }
 {
-    let groups = groups_of(alloc, seed, &pieces.kept)?;
+    let groups = groups_of(alloc, outputs, &pieces.kept)?;
     let count = pieces.kept.len().saturating_add(pieces.blocks.len());
     Ok(Order {
         objects,

@@ -1,26 +1,14 @@
-//! Pieces by output section: output sections by first appearance, the pieces of each in load order, but for arrays of
-//! functions, where numbered ones stand first. Pieces stay where they are, and groups and parts borrow them.
-ghost use Rattle.std.specs.Prelude.{◌≡◌, ◌++◌, ◌∷◌, [], IfOk, OnOk, List, length};
-ghost use Rattle.elf_model.specs.Pieces as pieces;
-ghost use Rattle.layout.specs.Groups.{AreGathered, AreGroups, group_part, output_of, output_view, part_test, parts};
+//! Pieces by output section: output sections by first appearance, as they are numbered, the pieces of each in load order, but
+//! for arrays of functions, where numbered ones stand first. Pieces stay where they are, and groups and parts borrow them.
+ghost use Rattle.std.specs.Prelude.{◌≡◌, ◌<◌, ◌++◌, [], IfOk, OnOk, length, replicate};
+ghost use Rattle.resolve.specs.OutputSections.{AreOutputsOf};
+ghost use Rattle.layout.specs.Groups.{AreGathered, group_part, group_views, part_test, parts, put_at};
 ghost use Rattle.layout.specs.Views.{borrowed_views, piece_view, piece_views};
 
 use crate::array_order::{any_numbered, sorted_by_rank};
 use crate::pieces::Piece;
-use elf_model::{Name, NameSeed, SectionHeader};
-use indexmap::IndexSet;
-use resolve::output_name;
+use resolve::OutputSections;
 use std::alloc::{AllocError, Global};
-
-/// What the pieces of one output section have in common.
-#[derive(Clone, Copy, Debug, PartialEq, Eq, Hash)]
-pub struct OutputSection<'a> {
-    pub name: Name<'a>,
-    pub writable: bool,
-    pub executable: bool,
-    pub thread_local: bool,
-    pub nobits: bool,
-}
 
 /// The parts of the own order: what may only be read, and code; of what may be written, thread-local data with bytes, other
 /// data with bytes and without, and thread-local data without.
@@ -32,18 +20,6 @@ pub enum Part {
     Data,
     Zero,
     ThreadRest,
-}
-
-fn output_section_of<'a>(piece: &Piece<'a>) -> OutputSection<'a>
-    ensures { output_view result ≡ output_of (piece_view piece.now) }
-{
-    OutputSection {
-        name: Name(output_name(piece.name)),
-        writable: piece.header.is_writable(),
-        executable: piece.header.is_executable(),
-        thread_local: piece.header.is_thread_local(),
-        nobits: piece.header.is_nobits(),
-    }
 }
 
 /// Whether a piece with this header belongs to a part.
@@ -64,39 +40,50 @@ fn is_of_part(part: Part, piece: &Piece<'_>) -> bool
     }
 }
 
-/// Puts a piece into the group of its output section, which is the last one where it is new.
-fn add_piece<'p, 'a>(
+/// Puts so many groups without pieces behind the groups.
+fn add_groups<'p, 'a>(
     alloc: Global,
-    outputs: &mut IndexSet<OutputSection<'a>, NameSeed>,
     groups: &mut Vec<Vec<&'p Piece<'a>>>,
-    piece: &'p Piece<'a>,
+    count: usize,
 ) -> Result<(), AllocError>
-    requires { length outputs.old.keys ≡ length groups.old.items }
-    ensures same { OnOk result (length outputs.new.keys ≡ length groups.new.items) }
-    ensures added { OnOk result ((done : List pieces.Piece) →
-        AreGroups outputs.old.keys groups.old.items done
-        → AreGroups outputs.new.keys groups.new.items (done ++ piece_view piece.entry.now ∷ [])) }
+    ensures { OnOk result (group_views groups.new.items
+        ≡ group_views groups.old.items ++ replicate count []) }
 {
-    let (number, is_new) = outputs.insert_full(output_section_of(piece))?;
-    if is_new {
+    groups.reserve(count)?;
+    for _i in 0..count {
         groups.push(Vec::new(alloc))?;
     }
+    Ok(())
+}
+
+/// Puts a piece into the group that has a number.
+fn add_piece<'p, 'a>(
+    groups: &mut Vec<Vec<&'p Piece<'a>>>,
+    number: usize,
+    piece: &'p Piece<'a>,
+) -> Result<(), AllocError>
+    requires { number < length groups.old.items }
+    ensures { OnOk result (group_views groups.new.items
+        ≡ put_at (group_views groups.old.items) number (piece_view piece.entry.now)) }
+{
     groups[number].push(piece)?;
     Ok(())
 }
 
-/// Pieces by output section, in one pass: the output sections by first appearance. Their names are hashed from a seed.
+/// Pieces by output section, in one pass: each goes to the group that has the number of its output section.
 pub fn groups_of<'p, 'a>(
     alloc: Global,
-    seed: NameSeed,
+    outputs: &OutputSections<'a>,
     pieces: &'p [Piece<'a>],
 ) -> Result<Vec<Vec<&'p Piece<'a>>>, AllocError>
+    requires { AreOutputsOf (piece_views pieces.now)
+        outputs.now.sections.items outputs.now.numbers.items }
     ensures { IfOk result (λ v. AreGathered v.items (piece_views pieces.entry.now)) }
 {
-    let mut outputs = IndexSet::with_hasher(alloc, seed);
     let mut groups = Vec::new(alloc);
-    for piece in pieces {
-        add_piece(alloc, &mut outputs, &mut groups, piece)?;
+    add_groups(alloc, &mut groups, outputs.sections.len())?;
+    for k in 0..pieces.len() {
+        add_piece(&mut groups, outputs.numbers[k], &pieces[k])?;
     }
     Ok(groups)
 }

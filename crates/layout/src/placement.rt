@@ -15,6 +15,7 @@ ghost use Rattle.elf_model.specs.Resolution.{AreSoundCommons};
 ghost use Rattle.elf_model.specs.Slots as slots;
 ghost use Rattle.elf_model.specs.ThreadStorage.{thread_block};
 ghost use Rattle.search.specs.Views.{loaded_views};
+ghost use Rattle.resolve.specs.OutputSections.{AreOutputSections};
 ghost use Rattle.resolve.specs.Blocks.{block_in, block_view, block_views};
 ghost use Rattle.layout.specs.Laid.{IsLayout, LayoutFails};
 ghost use Rattle.layout.specs.PlaceViews.{place_views};
@@ -32,8 +33,8 @@ use crate::pieces::{Piece, all_pieces, got_number};
 use crate::placed_pieces::{Layout, lay_out};
 use crate::runs::Place;
 use crate::threads::block_of;
-use elf_model::{Bound, NameSeed, ProgramHeader, SectionRef, TlsBlock};
-use resolve::{Block, Resolved};
+use elf_model::{Bound, ProgramHeader, SectionRef, TlsBlock};
+use resolve::{Block, OutputSections, Resolved};
 use search::{Loaded, LoadedObject};
 use std::alloc::Global;
 use std::collections::BTreeMap;
@@ -77,7 +78,7 @@ impl<'a> Model for Placement<'a> {
 /// The own layout of objects, whose common blocks these are, with a GOT of this size in bytes.
 fn layout_of<'a>(
     alloc: Global,
-    seed: NameSeed,
+    outputs: &OutputSections<'a>,
     objects: &[LoadedObject<'a>],
     blocks: &[Block<'a>],
     got_size: u64,
@@ -88,19 +89,20 @@ fn layout_of<'a>(
     requires commons { AreSoundCommons (loaded_views objects.now) }
     requires listed { block_views blocks.now ≡ commons.blocks (loaded_views objects.now) }
     requires got { got_size ≡ slots.got_size (loaded_views objects.now) }
+    requires outputs { AreOutputSections (loaded_views objects.now) outputs.now }
     ensures layout { IfOk result (λ l. IsLayout base (loaded_views objects.now) l) }
     ensures fits { OnOk result (IsNotTooLarge base (loaded_views objects.now)) }
     ensures fault { IfErr result (LayoutFails base (loaded_views objects.now)) }
 {
     let pieces = all_pieces(alloc, objects, blocks, got_size)?;
-    let order = order_of(alloc, seed, objects, &pieces)?;
+    let order = order_of(alloc, outputs, objects, &pieces)?;
     lay_out(alloc, &order, base)
 }
 
 /// The tables of the own layout of objects, whose common blocks these are, with a GOT of this size in bytes.
 fn tables_of<'a>(
     alloc: Global,
-    seed: NameSeed,
+    outputs: &OutputSections<'a>,
     objects: &[LoadedObject<'a>],
     blocks: &[Block<'a>],
     got_size: u64,
@@ -111,13 +113,14 @@ fn tables_of<'a>(
     requires commons { AreSoundCommons (loaded_views objects.now) }
     requires listed { block_views blocks.now ≡ commons.blocks (loaded_views objects.now) }
     requires got { got_size ≡ slots.got_size (loaded_views objects.now) }
+    requires outputs { AreOutputSections (loaded_views objects.now) outputs.now }
     ensures tables { IfOk result (AreTables base (loaded_views objects.now)) }
     ensures addresses { OnOk result (AreLawfulKinds (loaded_views objects.now) →
         AreOwnAddresses base (loaded_views objects.now)) }
     ensures fits { OnOk result (IsNotTooLarge base (loaded_views objects.now)) }
     ensures fault { IfErr result (LayoutFails base (loaded_views objects.now)) }
 {
-    let layout = layout_of(alloc, seed, objects, blocks, got_size, base)?;
+    let layout = layout_of(alloc, outputs, objects, blocks, got_size, base)?;
     let addresses = address_table(alloc, objects, blocks.len(), &layout.places)?;
     let bounds = bounds_of(alloc, got_number(objects), &layout.places)?;
     Ok(Tables {
@@ -157,8 +160,8 @@ pub fn place<'a>(
     ensures fault { IfErr result (LayoutFails base loaded.now.objects) }
 {
     let objects = loaded.objects();
-    let seed = loaded.name_seed();
-    let tables = tables_of(alloc, seed, objects, resolved.blocks(), got.0, base)?;
+    let outputs = resolved.output_sections();
+    let tables = tables_of(alloc, outputs, objects, resolved.blocks(), got.0, base)?;
     Ok(Placement {
         base,
         loaded: loaded.clone()?,

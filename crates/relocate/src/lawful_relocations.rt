@@ -81,7 +81,7 @@ fn judge_objects<'a>(
     ensures lawful { OnOk result (AreLawfulRelocations (loaded_views objects.now)) }
     ensures fault { IfErr result (ReferencesFail (loaded_views objects.now)) }
 {
-    let mixed = mixed_names(alloc, objects)?;
+    let mixed = mixed_names(alloc, resolved)?;
     let mut fields = Vec::new(alloc);
     let mut asked = Asked::nothing(alloc, seed);
     for k in 0..objects.len() {

@@ -6,7 +6,11 @@ pub mod Located
 pub mod NamedNumbers
 pub mod NamedOnce
 pub mod Offers
-mod OutputWalks
+pub mod Leaders
+mod NamedOutputs
+pub mod OutputKeys
+pub mod OutputSteps
+pub mod SectionWalks
 pub mod OwnerLaws
 pub mod PlacesByNumber
 mod ArrayNames

@@ -12,6 +12,7 @@ ghost use Rattle.search.specs.Views.{loaded_view};
 ghost use Rattle.resolve.specs.Blocks.{block_in, block_view, block_views};
 ghost use Rattle.resolve.specs.Defined.{AreDefinitions};
 ghost use Rattle.resolve.specs.Left.{HasNoLinkerNames, HasNoneLeft};
+ghost use Rattle.resolve.specs.OutputSections.{AreOutputSections};
 ghost use Rattle.resolve.specs.Meaning.{chosen_definition, definition_at, itself_at, named_at, target_at, unchosen_at};
 ghost use Rattle.resolve.specs.Refusals.{ResolvingFails};
 ghost use Rattle.resolve.specs.Threads.{is_thread_chosen};
@@ -25,6 +26,7 @@ use crate::definition_list::define;
 use crate::entries::{SymbolOf, symbol_in};
 use crate::faults::ResolveFault;
 use crate::linker_names::any_linkers;
+use crate::output_sections::{OutputSections, output_sections_of};
 use crate::outputs::output_names_of;
 use crate::places::{place_at, place_named, places_of};
 use crate::sections::is_in_thread_section;
@@ -49,6 +51,7 @@ pub struct Resolved<'a> {
     blocks: Vec<Block<'a>>,
     named_blocks: Rc<BTreeMap<&'a [u8], Block<'a>>>,
     outputs: BTreeSet<&'a [u8]>,
+    sections: OutputSections<'a>,
 }
 
 impl<'a> Model for Resolved<'a> {
@@ -61,7 +64,7 @@ impl<'a> Model for Resolved<'a> {
 
     ghost view = { λ r. r.loaded.objects };
 
-    ghost invariant = { λ r. AreTables r.loaded r.definitions.items r.threads.items r.places.items r.blocks.items r.named_blocks.value r.outputs };
+    ghost invariant = { λ r. AreTables r.loaded r.definitions.items r.threads.items r.places.items r.blocks.items r.named_blocks.value r.outputs r.sections };
 }
 
 /// An index of common blocks that several values hold.
@@ -100,7 +103,8 @@ pub fn resolve_in<'a, T: NameTable<'a> + Drop>(
     let places = places_of(alloc, loaded, &defined.symbols)?;
     let threads = threads_of(alloc, objects, &defined.symbols)?;
     let named_blocks = index_of(alloc, &defined.blocks)?;
-    let outputs = output_names_of(alloc, objects)?;
+    let sections = output_sections_of(alloc, loaded.name_seed(), objects)?;
+    let outputs = output_names_of(alloc, &sections)?;
     Ok(Resolved {
         loaded: loaded.clone()?,
         definitions: defined.symbols,
@@ -109,6 +113,7 @@ pub fn resolve_in<'a, T: NameTable<'a> + Drop>(
         blocks: defined.blocks,
         named_blocks: shared(alloc, named_blocks)?,
         outputs,
+        sections,
     })
 }
 
@@ -285,6 +290,13 @@ impl<'a> Resolved<'a> {
         let _objects = self.loaded.objects();
         let _named = self.loaded.name_count();
         any_linkers(&self.loaded, &self.definitions, &self.places, &self.outputs)
+    }
+
+    /// The output sections of the kept sections, and which one each of these is of.
+    pub fn output_sections(&self) -> &OutputSections<'a>
+        ensures { AreOutputSections self.now result.now }
+    {
+        &self.sections
     }
 
     /// What the linker itself defines a name as, whether or not an object does.

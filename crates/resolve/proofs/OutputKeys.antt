@@ -5,9 +5,9 @@ use Rattle.std.specs.Str.{bytes_eq}
 use Rattle.std.specs.Cmp.{booleans_Decides}
 use Rattle.std.proofs.lemmas.Bool.{and_from, and_parts}
 use Rattle.std.proofs.lemmas.Slice.Eq.{bytes_eq-Decides}
-use Rattle.layout.specs.Groups.{Output, output_view}
-use Rattle.layout.specs.declared.output_sections.OutputSection.{OutputSection}
-use Rattle.layout.proofs.GroupSteps.{Compares}
+use Rattle.resolve.specs.OutputSections.{Output, output_view}
+use Rattle.resolve.specs.declared.output_sections.OutputSection.{OutputSection}
+use Rattle.resolve.proofs.OutputSteps.{Compares}
 
 -- the comparison that is derived
 abbrev pub key_eq : OutputSection → OutputSection → Bool
