@@ -1,10 +1,11 @@
 -- The parts of memory of which bounds tell, and what the bounds are.
-use Rattle.std.specs.Prelude.{◌≡◌, ◌==◌, ◌&&◌, ℕ, Bool, List, Option, filter, nat_lt, not, option_map, unwrap_or}
+use Rattle.std.specs.Prelude.{◌≡◌, ◌==◌, ◌&&◌, ℕ, Bool, List, Option, None, Some, cond, filter, nat_lt, not, option_map, unwrap_or}
 use Rattle.std.specs.BTreeMap.{BTreeMap, get_by}
 use Rattle.std.specs.Borrow.{Bor}
 use Rattle.std.specs.Cmp.Lexicographic.{slice_cmp}
 use Rattle.std.specs.Option.{option_map_or}
 use Rattle.std.specs.Ordering.{nat_cmp}
+use Rattle.std.specs.Str.{bytes_eq}
 use Rattle.elf_model.specs.LinkerNames.{named_output}
 use Rattle.elf_model.specs.LinkerValues.{end_of_pieces, is_code_piece, is_file_data, is_loaded_piece, is_zero_data, start_of_pieces}
 use Rattle.elf_model.specs.Pieces.{Piece, is_nobits, is_of_output, is_thread_local, is_thread_piece}
@@ -15,6 +16,7 @@ use Rattle.elf_model.specs.declared.records.SectionHeader.{SectionHeader}
 use Rattle.elf_model.specs.declared.bound.Bound.TheVariants.{CodeEnd, DataEnd, GotStart, ImageEnd, ImageStart, OutputEnd, OutputStart, ZeroStart}
 use Rattle.layout.specs.declared.bounds.Bounds.{Bounds}
 use Rattle.layout.specs.declared.bounds.Extent.{Extent}
+use Rattle.layout.specs.declared.bounds.Last.{Last}
 use Rattle.layout.specs.declared.bounds.Bounded.{Bounded}
 use Rattle.layout.specs.declared.bounds.Bounded.TheVariants as bounded
 
@@ -39,6 +41,22 @@ start_in extents name = option_map (λ e. e.start) (extent_in extents name)
 
 abbrev pub end_in : BTreeMap (Bor (List ℕ)) Extent → List ℕ → ℕ
 end_in extents name = option_map_or (λ e. e.end) (extent_in extents name) 0
+
+-- by a table and the extent of the name of the last piece, which the table has not
+abbrev pub extent_with : Option Last → BTreeMap (Bor (List ℕ)) Extent → List ℕ → Option Extent
+extent_with None extents name = extent_in extents name
+extent_with (Some l) extents name = cond (bytes_eq l.name.now name) (Some l.extent) (extent_in extents name)
+
+abbrev pub start_with : Option Last → BTreeMap (Bor (List ℕ)) Extent → List ℕ → Option ℕ
+start_with last extents name = option_map (λ e. e.start) (extent_with last extents name)
+
+abbrev pub end_with : Option Last → BTreeMap (Bor (List ℕ)) Extent → List ℕ → ℕ
+end_with last extents name = option_map_or (λ e. e.end) (extent_with last extents name) 0
+
+-- the last piece is of an output name, whose extent is this one
+abbrev pub IsLast : Option Last → List ℕ → Extent → Type 0
+IsLast None name e = ⊥
+IsLast (Some l) name e = (l.name.now ≡ name) × (l.extent ≡ e)
 
 pub record AreExtents (qs : List Placed) (extents : BTreeMap (Bor (List ℕ)) Extent) : Type 0 where
   pub starts : (name : List ℕ) → start_in extents name ≡ start_of_pieces (is_of_output name) qs

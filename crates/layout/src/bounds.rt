@@ -1,12 +1,13 @@
 //! Where code, data and all that memory has a place for end, where what has no bytes begins, and where the pieces of each
 //! output name begin and end: what the linker's own names stand for.
-ghost use Rattle.std.specs.Prelude.{◌≡◌, ◌+◌, ℕ, List, IfOk, OnOk, filter, max, option_map, unwrap_or};
+ghost use Rattle.std.specs.Prelude.{◌≡◌, ◌+◌, ℕ, List, IfOk, IfSome, OnOk, Some, cond, filter, max, option_map, unwrap_or};
+ghost use Rattle.std.specs.Str.{bytes_eq};
 ghost use Rattle.std.specs.Option.{option_map_or};
-ghost use Rattle.elf_model.specs.LinkerValues.{end_of_pieces, least_of, start_of_pieces};
+ghost use Rattle.elf_model.specs.LinkerValues.{end_of_pieces, is_code_piece, is_file_data, is_loaded_piece, is_zero_data, least_of, start_of_pieces};
 ghost use Rattle.elf_model.proofs.PieceBounds.{earlier, further};
 ghost use Rattle.elf_model.specs.Pieces.{is_of_output};
 ghost use Rattle.layout.specs.Limits.{AreInLimit, IsInLimit};
-ghost use Rattle.layout.specs.PieceParts.{AreBounds, AreExtents, bound_at, end_in, extent_in, is_nonempty_thread_data, is_other, part_test, start_in};
+ghost use Rattle.layout.specs.PieceParts.{AreBounds, AreExtents, IsLast, bound_at, end_in, end_with, extent_in, extent_with, is_nonempty_thread_data, is_other, part_test, start_in, start_with};
 ghost use Rattle.layout.specs.PlaceViews.{place_view, place_views};
 ghost use Rattle.layout.specs.Views.{piece_view};
 
@@ -34,6 +35,22 @@ pub enum Bounded {
 pub struct Extent {
     pub start: u64,
     pub end: u64,
+}
+
+/// The greatest ends of parts, in bytes, and the least address of what has no bytes; None without any.
+#[derive(Clone, Copy, Debug)]
+struct PartBounds {
+    code_end: u64,
+    data_end: u64,
+    image_end: u64,
+    zero_start: Option<u64>,
+}
+
+/// The output name of the piece that was seen last, and the extent of its pieces so far.
+#[derive(Clone, Copy, Debug)]
+struct Last<'a> {
+    name: &'a [u8],
+    extent: Extent,
 }
 
 /// The greatest ends of parts, in bytes; the least address of what has no bytes, 0 without any; and the extents of the
@@ -142,23 +159,77 @@ fn extent_of(extents: &BTreeMap<&[u8], Extent>, name: &[u8]) -> Option<Extent>
     extents.get(name).copied()
 }
 
-/// Takes a piece into the extent of its output name.
-fn add_place<'a>(
+/// Puts an output name's extent into the table.
+fn put_extent<'a>(
     extents: &mut BTreeMap<&'a [u8], Extent>,
-    place: &Place<'a>,
+    last: &Last<'a>,
 ) -> Result<(), AllocError>
+    ensures { OnOk result ((name : List ℕ) →
+        extent_in extents.new name
+        ≡ cond (bytes_eq last.now.name.now name) (Some last.now.extent)
+        (extent_in extents.old name)) }
+{
+    extents.insert(last.name, last.extent)?;
+    Ok(())
+}
+
+/// Puts an output name's extent into the table, where there is one.
+fn put_last<'a>(
+    extents: &mut BTreeMap<&'a [u8], Extent>,
+    last: &Option<Last<'a>>,
+) -> Result<(), AllocError>
+    ensures { OnOk result ((name : List ℕ) →
+        extent_in extents.new name ≡ extent_with last.now extents.old name) }
+{
+    let Some(known) = last else {
+        return Ok(());
+    };
+    put_extent(extents, known)?;
+    Ok(())
+}
+
+/// The extent of the last output name, where it is this one.
+fn extent_last(last: &Option<Last<'_>>, name: &[u8]) -> Option<Extent>
+    ensures { IfSome result (λ e. IsLast last.now name.now e) }
+{
+    let Some(known) = last else {
+        return None;
+    };
+    if known.name != name {
+        return None;
+    }
+    Some(known.extent)
+}
+
+/// The extent of the output name of a place, with that: the last one where it is of the same name; else that of the table,
+/// into which the last one is put.
+fn taken<'a>(
+    extents: &mut BTreeMap<&'a [u8], Extent>,
+    last: &Option<Last<'a>>,
+    place: &Place<'a>,
+) -> Result<Last<'a>, AllocError>
     requires { IsInLimit (place_view place.now) }
-    ensures start { OnOk result ((name : List ℕ) →
-        start_in extents.new name
-        ≡ earlier (is_of_output name) (start_in extents.old name) (place_view place.now)) }
-    ensures end { OnOk result ((name : List ℕ) →
-        end_in extents.new name
-        ≡ further (is_of_output name) (end_in extents.old name) (place_view place.now)) }
+    ensures start { IfOk result (λ l. (name : List ℕ) →
+        start_with (Some l) extents.new name
+        ≡ earlier (is_of_output name) (start_with last.now extents.old name)
+        (place_view place.now)) }
+    ensures end { IfOk result (λ l. (name : List ℕ) →
+        end_with (Some l) extents.new name
+        ≡ further (is_of_output name) (end_with last.now extents.old name)
+        (place_view place.now)) }
 {
     let name = output_name(place.piece.name);
-    let extent = grown(extent_of(extents, name), place);
-    extents.insert(name, extent)?;
-    Ok(())
+    if let Some(extent) = extent_last(last, name) {
+        return Ok(Last {
+            name,
+            extent: grown(Some(extent), place),
+        });
+    }
+    put_last(extents, last)?;
+    Ok(Last {
+        name,
+        extent: grown(extent_of(extents, name), place),
+    })
 }
 
 /// Whether a place is of another object than the one with a number.
@@ -178,13 +249,43 @@ fn extents_of<'a>(
     ensures { IfOk result (AreExtents (filter (is_other got) (place_views places.now))) }
 {
     let mut extents = BTreeMap::new(alloc);
+    let mut last = None;
     for place in places {
         if !is_other(got, place) {
             continue;
         }
-        add_place(&mut extents, place)?;
+        let next = taken(&mut extents, &last, place)?;
+        last = Some(next);
     }
+    put_last(&mut extents, &last)?;
     Ok(extents)
+}
+
+/// The bounds of the parts, in one pass.
+fn part_bounds(places: &[Place<'_>]) -> PartBounds
+    requires { AreInLimit (place_views places.now) }
+    ensures code { result.code_end ≡ end_of_pieces is_code_piece (place_views places.now) }
+    ensures file_data { result.data_end ≡ end_of_pieces is_file_data (place_views places.now) }
+    ensures image { result.image_end ≡ end_of_pieces is_loaded_piece (place_views places.now) }
+    ensures zeros { result.zero_start
+        ≡ start_of_pieces is_zero_data (place_views places.now) }
+{
+    let mut code_end = 0;
+    let mut data_end = 0;
+    let mut image_end = 0;
+    let mut zero_start = None;
+    for place in places {
+        code_end = further(Bounded::Code, code_end, place);
+        data_end = further(Bounded::FileData, data_end, place);
+        image_end = further(Bounded::Loaded, image_end, place);
+        zero_start = earlier(Bounded::Zeros, zero_start, place);
+    }
+    PartBounds {
+        code_end,
+        data_end,
+        image_end,
+        zero_start,
+    }
 }
 
 /// The bounds of pieces at their places, of which the GOT has this number.
@@ -196,11 +297,12 @@ pub fn bounds_of<'a>(
     requires { AreInLimit (place_views places.now) }
     ensures { IfOk result (AreBounds got (place_views places.now)) }
 {
+    let parts = part_bounds(places);
     Ok(Bounds {
-        code_end: end_of(Bounded::Code, places),
-        data_end: end_of(Bounded::FileData, places),
-        zero_start: start_of(Bounded::Zeros, places).unwrap_or(0),
-        image_end: end_of(Bounded::Loaded, places),
+        code_end: parts.code_end,
+        data_end: parts.data_end,
+        zero_start: parts.zero_start.unwrap_or(0),
+        image_end: parts.image_end,
         outputs: extents_of(alloc, got, places)?,
     })
 }
