@@ -1,6 +1,8 @@
 //! The kinds of relocations: the width, the formula and the range of each (AMD64 psABI 4.4, "Relocation
 //! Types"; the ranges of all kinds but 32 and 32S are the profile's).
-ghost use Rattle.std.specs.Prelude.{◌≡◌, ◌==◌, IfSome, find, option_copied, option_map};
+ghost use Rattle.std.specs.Prelude.{◌≡◌, IfSome, option_map};
+ghost use Rattle.std.specs.List.{slice_get};
+ghost use Rattle.std.specs.Option.{option_and_then};
 ghost use Rattle.elf_model.specs.Relocation as relocation;
 ghost use Rattle.check_relocs.specs.Kinds.{kind_view};
 ghost use Rattle.check_relocs.specs.Widths.{IsWidth};
@@ -38,41 +40,64 @@ pub struct Kind {
     pub range: Range,
 }
 
+/// The number, the width, the formula and the range of a kind.
 type Row = (u32, u8, Formula, Range);
 
-/// The number, the width, the formula and the range of each kind.
-static KINDS: [Row; 24] = [
-    (1, 8, Formula::Symbol, Range::Always),
-    (2, 4, Formula::SymbolFromPlace, Range::Signed),
-    (3, 4, Formula::Slot, Range::Signed),
-    (4, 4, Formula::SymbolFromPlace, Range::Signed),
-    (9, 4, Formula::SlotFromPlace, Range::Signed),
-    (10, 4, Formula::Symbol, Range::Unsigned),
-    (11, 4, Formula::Symbol, Range::Signed),
-    (12, 2, Formula::Symbol, Range::Either),
-    (13, 2, Formula::SymbolFromPlace, Range::Signed),
-    (14, 1, Formula::Symbol, Range::Either),
-    (15, 1, Formula::SymbolFromPlace, Range::Signed),
-    (18, 8, Formula::ThreadOffset, Range::Always),
-    (22, 4, Formula::ThreadSlotFromPlace, Range::Signed),
-    (23, 4, Formula::ThreadOffset, Range::Signed),
-    (24, 8, Formula::SymbolFromPlace, Range::Always),
-    (25, 8, Formula::SymbolFromGot, Range::Always),
-    (26, 4, Formula::GotFromPlace, Range::Signed),
-    (27, 8, Formula::Slot, Range::Always),
-    (28, 8, Formula::SlotFromPlace, Range::Always),
-    (29, 8, Formula::GotFromPlace, Range::Always),
-    (32, 4, Formula::Size, Range::Unsigned),
-    (33, 8, Formula::Size, Range::Always),
-    (41, 4, Formula::SlotFromPlace, Range::Signed),
-    (42, 4, Formula::SlotFromPlace, Range::Signed),
+/// The kinds, each at the place of its number.
+static KINDS: [Option<Row>; 43] = [
+    None,
+    Some((1, 8, Formula::Symbol, Range::Always)),
+    Some((2, 4, Formula::SymbolFromPlace, Range::Signed)),
+    Some((3, 4, Formula::Slot, Range::Signed)),
+    Some((4, 4, Formula::SymbolFromPlace, Range::Signed)),
+    None,
+    None,
+    None,
+    None,
+    Some((9, 4, Formula::SlotFromPlace, Range::Signed)),
+    Some((10, 4, Formula::Symbol, Range::Unsigned)),
+    Some((11, 4, Formula::Symbol, Range::Signed)),
+    Some((12, 2, Formula::Symbol, Range::Either)),
+    Some((13, 2, Formula::SymbolFromPlace, Range::Signed)),
+    Some((14, 1, Formula::Symbol, Range::Either)),
+    Some((15, 1, Formula::SymbolFromPlace, Range::Signed)),
+    None,
+    None,
+    Some((18, 8, Formula::ThreadOffset, Range::Always)),
+    None,
+    None,
+    None,
+    Some((22, 4, Formula::ThreadSlotFromPlace, Range::Signed)),
+    Some((23, 4, Formula::ThreadOffset, Range::Signed)),
+    Some((24, 8, Formula::SymbolFromPlace, Range::Always)),
+    Some((25, 8, Formula::SymbolFromGot, Range::Always)),
+    Some((26, 4, Formula::GotFromPlace, Range::Signed)),
+    Some((27, 8, Formula::Slot, Range::Always)),
+    Some((28, 8, Formula::SlotFromPlace, Range::Always)),
+    Some((29, 8, Formula::GotFromPlace, Range::Always)),
+    None,
+    None,
+    Some((32, 4, Formula::Size, Range::Unsigned)),
+    Some((33, 8, Formula::Size, Range::Always)),
+    None,
+    None,
+    None,
+    None,
+    None,
+    None,
+    None,
+    Some((41, 4, Formula::SlotFromPlace, Range::Signed)),
+    Some((42, 4, Formula::SlotFromPlace, Range::Signed)),
 ];
 
-/// The first row of a number.
-fn row_of<'b>(rows: &'b [Row], number: u32) -> Option<&'b Row>
-    ensures { option_copied result ≡ find (λ row. row.0 == number) rows.entry.now }
+/// The row of a number.
+fn row_of(rows: &[Option<Row>], number: u32) -> Option<Row>
+    ensures { result ≡ option_and_then (λ row. row) (slice_get rows.now number) }
 {
-    rows.iter().find(|row| row.0 == number)
+    match rows.get(number as usize) {
+        Some(row) => *row,
+        None => None,
+    }
 }
 
 /// The kind of a type, None where there is none.
