@@ -13,6 +13,14 @@ module _ {X : Type 0} (fact : ℕ → X → Type 0) where
   pub known_nothing : (ks : List (Option X)) → ((k : ℕ) → known_at ks k ≡ None) → AreKnown fact ks
   known_nothing ks none k = as_known None (known_at ks k) k (none k) tt
 
+  -- what is known says less
+  pub known_weaker : (other : ℕ → X → Type 0) (ks : List (Option X)) → ((k : ℕ) (x : X) → fact k x → other k x) → AreKnown fact ks → AreKnown other ks
+  known_weaker other ks weaker are k = by (known_at ks k) (are k)
+    where
+      by : (o : Option X) → IfSome o (fact k) → IfSome o (other k)
+      by (Some x) is = weaker k x is
+      by None is = tt
+
   -- one answer more
   pub known_more : (ks new : List (Option X)) (j : ℕ) (x : X) → new ≡ set ks j (Some x) → AreKnown fact ks → fact j x → AreKnown fact new
   known_more ks new j x put are here k =

@@ -1,11 +1,14 @@
 -- What relocations ask of the GOT, some relocations more.
 use Rattle.std.proofs.Common.{◌≡◌, ◌||◌, Bool, true, false, List, [], ◌∷◌, ◌++◌, Option, Some, None, refl, sym, ◌∙◌, ap, subst}
 use Rattle.std.specs.List.{cons_option, filter_map, list_any}
-use Rattle.std.specs.Option.{option_map_or}
+use Rattle.std.specs.Option.{option_and_then, option_map_or}
+use Rattle.std.specs.Prelude.{option_map}
 use Rattle.std.proofs.lemmas.List.Folds.{list_any-append}
 use Rattle.elf_model.specs.Loading.{LoadedObject}
-use Rattle.elf_model.specs.Relocation.{Relocation, relocations}
-use Rattle.elf_model.specs.Slots.{Request, asks_for_got, request_of, same_request}
+use Rattle.elf_model.specs.Relocation.{Relocation, relocation_kind, relocations}
+use Rattle.elf_model.specs.Slots.{Request, asks_for_got, request_of, same_request, slot_kind_of, target_of}
+use Rattle.elf_model.specs.declared.link_map.SlotKind.{SlotKind}
+use Rattle.elf_model.proofs.SameRequests.{same_itself}
 use Rattle.check_relocs.specs.Needs.{AreNeeds, HaveGained, asks_for_slot}
 use Rattle.check_link.specs.Slots.{is_asked}
 use Rattle.check_relocs.specs.declared.needs.Needs.{Needs}
@@ -93,13 +96,32 @@ gained_all objects left now none g =
 
 -- what one relocation asks for
 pub one_gained :
-    (objects : List LoadedObject) (r : Relocation) (old new : Needs) (flag : Bool) (o : Option Request) → new.got ≡ (old.got || flag) →
-    flag ≡ asks_for_got objects r → ((q : Request) → is_asked new.requests q ≡ (is_asked old.requests q || option_map_or (same_request q) o false)) →
-    o ≡ request_of r → HaveGained objects (r ∷ []) old new
-one_gained objects r old new flag o got is slots asks = record {
-  got = got ∙ ap (λ b. old.got || b) (is ∙ sym (or_false (asks_for_got objects r)));
-  slots = λ q.
-      slots q
-      ∙ ap (λ (s : Option Request). is_asked old.requests q || option_map_or (same_request q) s false) asks
-      ∙ ap (λ b. is_asked old.requests q || b) (sym (or_false (asks_for_slot q r)));
+    (objects : List LoadedObject) (r : Relocation) (old new : Needs) → new.got ≡ (old.got || asks_for_got objects r) →
+    ((q : Request) → is_asked new.requests q ≡ (is_asked old.requests q || asks_for_slot q r)) → HaveGained objects (r ∷ []) old new
+one_gained objects r old new got slots = record {
+  got = got ∙ ap (λ b. old.got || b) (sym (or_false (asks_for_got objects r)));
+  slots = λ q. slots q ∙ ap (λ b. is_asked old.requests q || b) (sym (or_false (asks_for_slot q r)));
 }
+
+or_true : (b : Bool) → (b || true) ≡ true
+or_true true = refl
+or_true false = refl
+
+-- a request that is there stays, and one that came is there
+pub still_asked : (old new : List Request) (r q : Request) → is_asked new q ≡ (is_asked old q || same_request q r) → is_asked old q ≡ true → is_asked new q ≡ true
+still_asked old new r q grown there = grown ∙ ap (λ b. b || same_request q r) there
+
+pub asked_itself : (old new : List Request) (r : Request) → is_asked new r ≡ (is_asked old r || same_request r r) → is_asked new r ≡ true
+asked_itself old new r grown = grown ∙ ap (λ b. is_asked old r || b) (same_itself r) ∙ or_true (is_asked old r)
+
+-- what a relocation asks for whose kind asks for a slot
+pub of_kind :
+    (q : Request) (r : Relocation) (k : SlotKind) → option_and_then (λ d. slot_kind_of d.formula) (relocation_kind r) ≡ Some k →
+    asks_for_slot q r ≡ same_request q (record { kind = k; target = target_of r.symbol })
+of_kind q r k asks =
+    ap (λ (o : Option SlotKind). option_map_or (same_request q) (option_map (λ kind. record { kind = kind; target = target_of r.symbol }) o) false) asks
+
+pub of_no_kind :
+    (q : Request) (r : Relocation) → option_and_then (λ d. slot_kind_of d.formula) (relocation_kind r) ≡ None → asks_for_slot q r ≡ false
+of_no_kind q r none =
+    ap (λ (o : Option SlotKind). option_map_or (same_request q) (option_map (λ kind. record { kind = kind; target = target_of r.symbol }) o) false) none

@@ -3,6 +3,7 @@ pub mod Bytes
 pub mod Fields
 pub mod Kinds
 pub mod Known
+pub mod KnownSlots
 pub mod LawfulFields
 pub mod LinkerUses
 pub mod Needs

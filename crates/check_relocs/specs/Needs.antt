@@ -7,6 +7,8 @@ use Rattle.elf_model.specs.Relocation.{Relocation, symbol_at}
 use Rattle.elf_model.specs.Slots.{Request, asks_for_got, has_got, names_got, request_of, requests, same_request}
 use Rattle.check_link.specs.Slots.{is_asked}
 use Rattle.check_relocs.specs.Known.{AreKnown}
+use Rattle.check_relocs.specs.KnownSlots.{AreAsked}
+use Rattle.check_relocs.specs.declared.needs.KnownNeeds.{KnownNeeds}
 use Rattle.check_relocs.specs.declared.needs.Needs.{Needs}
 
 -- what is known of the symbols of the object that has a number is whether they have the GOT's name
@@ -26,3 +28,9 @@ pub record HaveGained (objects : List LoadedObject) (rs : List Relocation) (old 
 pub record AreNeeds (objects : List LoadedObject) (needs : Needs) : Type 0 where
   pub got : needs.got ≡ has_got objects
   pub slots : (q : Request) → is_asked needs.requests q ≡ list_any (same_request q) (requests objects)
+
+-- what is known of the symbols of the object that has a number: whether they have the GOT's name, and which of their slots
+-- are among the requests already
+pub record AreNeedsKnown (objects : List LoadedObject) (needs : Needs) (number : ℕ) (o : LoadedObject) (known : KnownNeeds) : Type 0 where
+  pub named : AreGotNames objects number o known.named.items
+  pub asked : AreAsked needs.requests number o known.asked.items

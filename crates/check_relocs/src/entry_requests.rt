@@ -47,7 +47,7 @@ pub fn speaks_of_got(formula: Formula) -> bool
 
 /// The target of an entry that names symbol `j` of the object that has a number: its name, or the symbol itself where it
 /// is LOCAL.
-fn target_at<'a>(loaded: &Loaded<'a>, number: u64, j: usize) -> Wanted<'a>
+pub fn target_at<'a>(loaded: &Loaded<'a>, number: u64, j: usize) -> Wanted<'a>
     ensures { target_view result ≡ slots.target_of (symbol_at number (loaded_view loaded.now) j) }
 {
     if is_local_at(loaded, j) {
@@ -57,7 +57,7 @@ fn target_at<'a>(loaded: &Loaded<'a>, number: u64, j: usize) -> Wanted<'a>
 }
 
 /// The slot for which an entry asks by its kind; None where it asks for none.
-fn kind_asked(entry: &Rela) -> Option<SlotKind>
+pub fn kind_asked(entry: &Rela) -> Option<SlotKind>
     ensures { result ≡ option_and_then (λ k. slots.slot_kind_of k.formula)
         (relocation.kind_of (rela_type entry.now)) }
 {

@@ -5,15 +5,15 @@ ghost use Rattle.elf_model.specs.ObjectFile.{section, sections};
 ghost use Rattle.elf_model.specs.Relocation.{AreLawfulRelocations, is_some_kind, relocation_of, relocations, relocations_from, relocations_in};
 ghost use Rattle.elf_model.specs.RelocationValues.{AllFit};
 ghost use Rattle.elf_model.specs.Placement.{section_address};
-ghost use Rattle.check_relocs.specs.Bindings.{AreTargets};
+ghost use Rattle.check_relocs.specs.KnownSlots.{AreSymbolsKnown};
 ghost use Rattle.check_relocs.specs.LawfulFields.{is_frames};
 ghost use Rattle.check_relocs.specs.Fields.{AreRight, AreRows, IsRight, IsRowOf, field_of};
 ghost use Rattle.check_load.specs.Views.{loaded_view, loaded_views};
 
 use crate::bindings::Bindings;
 use crate::fields::{Field, in_order};
+use crate::known_symbols::{KnownSymbols, unknown_symbols};
 use crate::lawful_fields::{Relocated, right_field};
-use crate::targets::{Target, unknown_targets};
 use check_load::Loaded;
 use elf_model::{Rela, SectionHeader};
 use elf_read::{ObjectFile, RelaRun};
@@ -60,20 +60,20 @@ pub fn relocated(
 /// Adds the fields of entries. False where one of them isn't lawful or has a value that doesn't fit.
 fn add_fields<'a>(
     bindings: &Bindings<'_, '_, 'a>,
-    targets: &mut Vec<Option<Target>>,
+    known: &mut KnownSymbols,
     number: u64,
     loaded: &Loaded<'a>,
     to: &Relocated,
     entries: &RelaRun<'_>,
     fields: &mut Vec<Field>,
 ) -> Result<bool, AllocError>
-    requires targets { AreTargets bindings.now number (loaded_view loaded.now) targets.old.items }
+    requires known { AreSymbolsKnown bindings.now number (loaded_view loaded.now) known.old }
     requires size { to.now.size ≡ (section (sections loaded.now.object) to.now.section).sh_size }
     requires frames { to.now.frames ≡ is_frames loaded.now.object to.now.section }
     requires address { to.now.address
         ≡ section_address bindings.now.places.placed number to.now.section }
     ensures kept { OnOk result
-        (AreTargets bindings.now number (loaded_view loaded.now) targets.new.items) }
+        (AreSymbolsKnown bindings.now number (loaded_view loaded.now) known.new) }
     ensures right { IfOk result (λ b. IsTrue b
         ↔ All (IsRight bindings.now.objects bindings.now.places)
         (map (relocation_of number (loaded_view loaded.now) to.now.section)
@@ -91,7 +91,7 @@ fn add_fields<'a>(
         if !is_some_kind(&entry) {
             continue;
         }
-        let Some(field) = right_field(bindings, targets, number, loaded, to, &entry) else {
+        let Some(field) = right_field(bindings, known, number, loaded, to, &entry) else {
             return Ok(false);
         };
         fields.push(field)?;
@@ -102,18 +102,18 @@ fn add_fields<'a>(
 /// Adds the fields of RELA section `i`, which has the header. False where a relocation isn't right.
 fn add_section<'a>(
     bindings: &Bindings<'_, '_, 'a>,
-    targets: &mut Vec<Option<Target>>,
+    known: &mut KnownSymbols,
     number: u64,
     loaded: &Loaded<'a>,
     i: usize,
     header: &SectionHeader,
     fields: &mut Vec<Field>,
 ) -> Result<bool, AllocError>
-    requires targets { AreTargets bindings.now number (loaded_view loaded.now) targets.old.items }
+    requires known { AreSymbolsKnown bindings.now number (loaded_view loaded.now) known.old }
     requires there { slice_get (sections loaded.now.object) i ≡ Some header.now }
     requires rela { header.now.sh_type ≡ 4 }
     ensures kept { OnOk result
-        (AreTargets bindings.now number (loaded_view loaded.now) targets.new.items) }
+        (AreSymbolsKnown bindings.now number (loaded_view loaded.now) known.new) }
     ensures right { IfOk result (λ b. IsTrue b
         ↔ All (IsRight bindings.now.objects bindings.now.places)
         (relocations_in number (loaded_view loaded.now) header.now)) }
@@ -125,7 +125,7 @@ fn add_section<'a>(
 {
     let to = relocated(bindings, number, &loaded.object, header.sh_info);
     let entries = loaded.object.entries(i);
-    let right = add_fields(bindings, targets, number, loaded, &to, &entries, fields)?;
+    let right = add_fields(bindings, known, number, loaded, &to, &entries, fields)?;
     Ok(right)
 }
 
@@ -144,7 +144,7 @@ fn object_fields<'a>(
         ≡ map (field_of bindings.now.objects bindings.now.places)
         (relocations_from number (loaded_view loaded.now)))) }
 {
-    let mut targets = unknown_targets(alloc, loaded)?;
+    let mut known = unknown_symbols(alloc, loaded)?;
     let mut fields = Vec::new(alloc);
     let headers = loaded.object.sections();
     for i in 0..headers.len() {
@@ -154,7 +154,7 @@ fn object_fields<'a>(
         }
         let right = add_section(
             bindings,
-            &mut targets,
+            &mut known,
             number,
             loaded,
             i,

@@ -6,7 +6,7 @@ ghost use Rattle.elf_model.specs.Relocation.{IsMismatch, relocation_of};
 ghost use Rattle.elf_model.specs.Relocation as relocation;
 ghost use Rattle.elf_model.specs.Slots.{slot_address};
 ghost use Rattle.check_load.specs.Views.{loaded_view};
-ghost use Rattle.check_relocs.specs.Bindings.{AreTargets};
+ghost use Rattle.check_relocs.specs.KnownSlots.{AreSymbolsKnown};
 ghost use Rattle.check_relocs.specs.Fields.{IsRight, field_of};
 ghost use Rattle.check_relocs.specs.LawfulFields.{IsRightWith, field_with, is_frames, refers_to_dropped};
 ghost use Rattle.check_relocs.specs.Kinds.{formula_view, kind_view};
@@ -17,6 +17,8 @@ use crate::bindings::Bindings;
 use crate::entry_requests::request_of;
 use crate::fields::Field;
 use crate::kinds::{Formula, Kind, kind_of};
+use crate::known_symbols::KnownSymbols;
+use crate::slots::slot_at;
 use crate::targets::{Target, target_at};
 use crate::values::{Terms, fits, value_of};
 use check_load::Loaded;
@@ -142,6 +144,20 @@ fn slot_address<'a>(
     }
 }
 
+/// What the GOT and the block of thread-local storage give a value, for a slot at an address, 0 for none.
+fn terms_with_slot(bindings: &Bindings<'_, '_, '_>, address: u64) -> LinkTerms
+    ensures slot { result.slot ≡ address - got_start bindings.now.places.got }
+    ensures got { result.got ≡ got_start bindings.now.places.got }
+    ensures pointer { result.thread_pointer ≡ thread_pointer bindings.now.places.placed }
+{
+    let got = bindings.got_start();
+    LinkTerms {
+        slot: address.saturating_sub(got),
+        got,
+        thread_pointer: bindings.thread_pointer(),
+    }
+}
+
 /// What the GOT and the block of thread-local storage give the value of an entry.
 pub fn link_terms<'a>(
     bindings: &Bindings<'_, '_, 'a>,
@@ -156,38 +172,35 @@ pub fn link_terms<'a>(
     ensures got { result.got ≡ got_start bindings.now.places.got }
     ensures pointer { result.thread_pointer ≡ thread_pointer bindings.now.places.placed }
 {
-    let got = bindings.got_start();
     let address = slot_address(bindings, number, loaded, entry);
-    LinkTerms {
-        slot: address.saturating_sub(got),
-        got,
-        thread_pointer: bindings.thread_pointer(),
-    }
+    terms_with_slot(bindings, address)
 }
 
 /// The field of an entry of the object that has a number; None where it isn't lawful, and where its value
 /// doesn't fit.
 pub fn right_field<'a>(
     bindings: &Bindings<'_, '_, 'a>,
-    targets: &mut Vec<Option<Target>>,
+    known: &mut KnownSymbols,
     number: u64,
     loaded: &Loaded<'a>,
     to: &Relocated,
     entry: &Rela,
 ) -> Option<Field>
-    requires targets { AreTargets bindings.now number (loaded_view loaded.now) targets.old.items }
+    requires known { AreSymbolsKnown bindings.now number (loaded_view loaded.now) known.old }
     requires size { to.now.size ≡ (section (sections loaded.now.object) to.now.section).sh_size }
     requires frames { to.now.frames ≡ is_frames loaded.now.object to.now.section }
     requires address { to.now.address
         ≡ section_address bindings.now.places.placed number to.now.section }
-    ensures kept { AreTargets bindings.now number (loaded_view loaded.now) targets.new.items }
+    ensures kept { AreSymbolsKnown bindings.now number (loaded_view loaded.now) known.new }
     ensures field { SomeIff result
         (IsRight bindings.now.objects bindings.now.places
         (relocation_of number (loaded_view loaded.now) to.now.section entry.now))
         (field_of bindings.now.objects bindings.now.places
         (relocation_of number (loaded_view loaded.now) to.now.section entry.now)) }
 {
-    let target = target_at(bindings, targets, number, loaded, entry.symbol() as usize);
-    let given = link_terms(bindings, number, loaded, entry);
+    let j = entry.symbol() as usize;
+    let target = target_at(bindings, &mut known.targets, number, loaded, j);
+    let address = slot_at(bindings, &mut known.slots, number, loaded, entry);
+    let given = terms_with_slot(bindings, address);
     field_for(&target, to, &given, entry)
 }

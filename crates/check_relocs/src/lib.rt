@@ -8,10 +8,12 @@ mod entry_requests;
 mod field_rows;
 mod fields;
 mod kinds;
+mod known_symbols;
 mod lawful_fields;
 mod linker_uses;
 mod needs;
 mod section_fields;
+mod slots;
 mod targets;
 mod values;
 

@@ -1,4 +1,4 @@
-use Rattle.std.proofs.Common.{◌≡◌, ◌+◌, false, true, map, refl, sym, ◌∙◌, arith}
+use Rattle.std.proofs.Common.{◌+◌, map, refl, sym, ◌∙◌, arith}
 use Rattle.std.specs.Prelude.{All, filter}
 use Rattle.std.proofs.lemmas.Bool.{false≢true}
 use Rattle.elf_model.proofs.FlatRelocations.{entry_end, left_of_entries}

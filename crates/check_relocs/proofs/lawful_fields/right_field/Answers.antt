@@ -1,9 +1,13 @@
-use Rattle.std.proofs.Common.{ℕ, subst}
+use Rattle.std.proofs.Common.{◌-◌, ◌∙◌, ℕ, ap, subst}
+use Rattle.elf_model.specs.Placement.{got_start}
 use Rattle.elf_model.specs.Relocation.{symbol_at}
 use Rattle.check_load.specs.Views.{loaded_view}
 use Rattle.check_relocs.specs.Bindings.{IsTargetOf}
 use Rattle.check_relocs.proofs.FittingLemmas.{field_is, right, right_with, some_iff}
 use Rattle.check_relocs.proofs.lawful_fields.right_field.Goals as goal
+
+pub returns-clause-kept : goal.returns-clause-kept
+returns-clause-kept c = record { targets = c.target_at-target.ensures.kept; slots = c.slot_at-address.ensures.kept }
 
 pub returns-clause-field : goal.returns-clause-field
 returns-clause-field c =
@@ -13,11 +17,13 @@ returns-clause-field c =
     let to = c.args.to.now in
     let e = c.args.entry.now in
     let t = c.target_at-target.result in
-    let m = subst (λ (j : ℕ). IsTargetOf b (symbol_at n o j) t) c.symbol.ensures c.target_at-target.ensures.target in
-    let g = c.link_terms-given.result in
-    let slot = c.link_terms-given.ensures.slot to.section in
-    let got = c.link_terms-given.ensures.got in
-    let pointer = c.link_terms-given.ensures.pointer in
+    let m = subst (λ (j : ℕ). IsTargetOf b (symbol_at n o j) t) c.symbol-j.ensures c.target_at-target.ensures.target in
+    let g = c.terms_with_slot-given.result in
+    let slot =
+    c.terms_with_slot-given.ensures.slot
+    ∙ ap (λ (a : ℕ). a - got_start b.places.got) (c.slot_at-address.ensures.address to.section) in
+    let got = c.terms_with_slot-given.ensures.got in
+    let pointer = c.terms_with_slot-given.ensures.pointer in
     some_iff _ _ _ _ c.field_for.result (right b n o to g e t m c.requires.size c.requires.frames c.requires.address slot got pointer)
     (right_with b n o to g e t m c.requires.size c.requires.frames c.requires.address slot got pointer)
     (field_is b n o to g e t m c.requires.size c.requires.frames c.requires.address slot got pointer) c.field_for.ensures

@@ -1,4 +1,4 @@
-use Rattle.std.proofs.Common.{◌≡◌, ◌+◌, ◌∷◌, ◌∙◌, [], map, sym, arith}
+use Rattle.std.proofs.Common.{◌+◌, ◌∷◌, ◌∙◌, [], map, sym, arith}
 use Rattle.std.specs.Prelude.{filter}
 use Rattle.elf_model.proofs.FlatRelocations.{entry_end, left_of_entries}
 use Rattle.elf_model.specs.Relocation.{is_some_kind, relocation_of}

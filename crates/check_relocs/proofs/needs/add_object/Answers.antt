@@ -8,6 +8,7 @@ use Rattle.elf_model.specs.Slots.{names_got}
 use Rattle.elf_model.specs.declared.records.SectionHeader.{SectionHeader}
 use Rattle.check_load.specs.Views.{loaded_view}
 use Rattle.check_link.specs.Slots.{is_asked}
+use Rattle.check_relocs.specs.KnownSlots.{request_at}
 use Rattle.check_relocs.proofs.KnownSteps.{known_nothing}
 use Rattle.check_relocs.proofs.NeedSteps.{gaining_all, gaining_end, gaining_more, gaining_same}
 use Rattle.check_relocs.proofs.needs.add_object.Goals as goal
@@ -19,7 +20,10 @@ loop-i-init c =
     let same : left_of_sections n o c.sections-headers.result.now 0 ≡ relocations_from n o =
     ap (λ (ss : List SectionHeader). relocations_behind n o 0 ss) c.sections-headers.ensures in
     record {
-      known = known_nothing (λ j u. u ≡ names_got c.args.bindings.now.objects (symbol_at n o j)) c.in_ok-named.named.items c.in_ok-named.ensures;
+      known = record {
+        named = known_nothing (λ j u. u ≡ names_got c.args.bindings.now.objects (symbol_at n o j)) c.in_ok-known.known.named.items c.in_ok-known.ensures.named;
+        asked = known_nothing (λ j t. is_asked c.args.needs.now.requests (request_at n o j t) ≡ true) c.in_ok-known.known.asked.items c.in_ok-known.ensures.asked;
+      };
       gaining = gaining_all c.args.bindings.now.objects (left_of_sections n o c.sections-headers.result.now 0) (relocations_from n o) c.args.needs.now same;
     }
 

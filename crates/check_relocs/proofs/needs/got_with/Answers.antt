@@ -1,4 +1,4 @@
-use Rattle.std.proofs.Common.{◌≡◌, ◌∙◌, ◌||◌, ap, sym}
+use Rattle.std.proofs.Common.{◌∙◌, ◌||◌, ap, sym}
 use Rattle.elf_model.specs.Relocation.{relocation_of}
 use Rattle.elf_model.specs.Slots.{asks_for_got}
 use Rattle.check_load.specs.Views.{loaded_view}
