@@ -20,6 +20,17 @@ use check_relocs::Bindings;
 use elf_model::{Clause, InputFile, NameSeed, Verdict};
 use std::alloc::{AllocError, Global};
 
+/// Judges the clauses of a link from the second on, with nobody who sees.
+fn judge_alone(
+    alloc: Global,
+    link: &Link<'_>,
+    seed: Option<NameSeed>,
+) -> Result<Verdict, AllocError>
+    ensures { IfOk result (λ v. Judges v link.now) }
+{
+    judge(alloc, link, seed, &mut Unobserved)
+}
+
 /// Decides as `check`, where names are hashed from a seed, or found by their order without one.
 fn check_by(
     alloc: Global,
@@ -47,7 +58,7 @@ fn check_by(
         image,
         map,
     };
-    judge(alloc, &link, seed, &mut Unobserved)
+    judge_alone(alloc, &link, seed)
 }
 
 /// Decides whether the image and the map are a right link of the files by the command's words: Yes, or the

@@ -25,7 +25,7 @@ returns-clause-yes c =
     let plan_is = rw c.in-Some.is at c.in_ok-plan.ensures.plan in
     let spells = rw c.in-Some-2.is at c.in_ok-map.ensures.map in
     let only = rw c.in-Some-2.is at c.in_ok-map.ensures.only in
-    stronger _ _ c.judge.result c.judge.ensures
+    stronger _ _ c.judge_alone.result c.judge_alone.ensures
     (verdict_yes (files_of c.args.files.now) (words_of c.args.words.now) c.args.image.now c.args.map.now c.in-Some.plan (map_of c.in-Some-2.map)
     plan_is spells.0 spells.1 only)
 
@@ -34,6 +34,6 @@ returns-clause-no c =
     let plan_is = rw c.in-Some.is at c.in_ok-plan.ensures.plan in
     let spells = rw c.in-Some-2.is at c.in_ok-map.ensures.map in
     let only = rw c.in-Some-2.is at c.in_ok-map.ensures.only in
-    stronger _ _ c.judge.result c.judge.ensures
+    stronger _ _ c.judge_alone.result c.judge_alone.ensures
     (verdict_no (files_of c.args.files.now) (words_of c.args.words.now) c.args.image.now c.args.map.now c.in-Some.plan (map_of c.in-Some-2.map)
     plan_is spells.0 spells.1 only)
