@@ -1,7 +1,7 @@
 pub mod ChosenReferences
 pub mod Fitted
 pub mod Judged
-pub mod KeptRelas
+pub mod RelaOrders
 pub mod ObjectFields
 pub mod ObjectRows
 pub mod Overlaid

@@ -1,101 +1,28 @@
--- The kept RELA sections of an object: one after the other, and by the sections that they relocate. Their relocations are
--- those of the object, in another order.
-use Rattle.std.proofs.Common.{◌≡◌, ℕ, suc, ◌+◌, ◌<◌, ◌≤◌, ◌==◌, Bool, true, false, cond, List, [], ◌∷◌, ◌++◌, drop, get_or, length, map, refl, subst, sym, take, ap, ◌∙◌, arith}
+-- The kept RELA sections of an object by the sections that they relocate. Their relocations are those of the object, in
+-- another order.
+use Rattle.std.proofs.Common.{◌≡◌, ℕ, suc, ◌≤◌, ◌==◌, Bool, true, false, cond, List, [], ◌∷◌, ◌++◌, drop, length, map, refl, subst, sym, take, ap, ◌∙◌, arith}
 use Rattle.std.specs.Prelude.{All, Contains, filter, slice_range}
 use Rattle.std.specs.List.Sorted.{IsNonDecreasingBy}
-use Rattle.std.proofs.lemmas.List.{drop_all, length-take-le, map-append, take-append-drop, take-append-le}
+use Rattle.std.proofs.lemmas.List.{length-take-le, map-append, take-append-drop, take-append-le}
 use Rattle.std.proofs.lemmas.Bool.{eqb-false, eqb-true}
 use Rattle.std.proofs.lemmas.Grind.{flat_map-append}
-use Rattle.std.proofs.lemmas.List.Elements.{All-contains, All-cons, All-head, All-nil, All-tail}
+use Rattle.std.proofs.lemmas.List.Elements.{All-contains, All-head, All-tail}
 use Rattle.std.proofs.lemmas.List.Folds.{drop_split}
-use Rattle.std.proofs.lemmas.Option.{slice_get-get_or}
 use Rattle.std.proofs.lemmas.Slice.{between_is}
 use Rattle.elf_model.specs.ArrayOrder.{by_rank}
 use Rattle.elf_model.specs.Loading.{LoadedObject}
-use Rattle.elf_model.specs.ObjectFile.{null_section, section, sections}
+use Rattle.elf_model.specs.ObjectFile.{section, sections}
 use Rattle.elf_model.specs.Placement.{Where}
-use Rattle.elf_model.specs.Relocation.{Relocation, is_kept_rela, relocations_behind, relocations_from, relocations_in}
-use Rattle.elf_model.specs.declared.records.SectionHeader.{SectionHeader}
+use Rattle.elf_model.specs.Relocation.{Relocation, relocations_from}
 use Rattle.elf_model.proofs.ArrayOrder.{Contains-by_rank, Contains-from_by_rank, IsRising, by_rank_is, by_rank_kept}
 use Rattle.elf_model.proofs.Listed.{All-from_contains, Contains-flat_map, Contains-from_flat_map}
-use Rattle.elf_model.proofs.Rests.{rest_at}
+use Rattle.search.proofs.KeptListLaws.{relas_kept, relocations_listed}
+use Rattle.search.specs.KeptLists.{IsKeptRela, kept_relas, relocations_by, relocations_of_relas}
+use Rattle.search.specs.declared.kept_lists.KeptRela.{KeptRela}
 use Rattle.relocate.proofs.Rows.{own_section, patches_append, patches_elsewhere, patches_here}
-use Rattle.relocate.specs.KeptRelas.{IsKeptRela, kept_relas, kept_relas_behind, relocations_by, relocations_of_relas, target_of}
+use Rattle.relocate.specs.RelaOrders.{target_of}
 use Rattle.relocate.specs.Values.{patch_of, patches_in}
-use Rattle.relocate.specs.declared.kept_relas.KeptRela.{KeptRela}
 use Rattle.relocate.specs.declared.patch.Patch.{Patch}
-
--- those of the sections that are left
-abbrev pub left_of_relas : LoadedObject → List SectionHeader → ℕ → List KeptRela
-left_of_relas o hs i = kept_relas_behind o i (drop i hs)
-
-pub rela_step :
-    (o : LoadedObject) (hs : List SectionHeader) (i : ℕ) (d : SectionHeader) (b : Bool) → i < length hs → is_kept_rela o i (get_or hs i d) ≡ b →
-    left_of_relas o hs i ≡ cond b (record { target = (get_or hs i d).sh_info; number = i } ∷ []) [] ++ left_of_relas o hs (i + 1)
-rela_step o hs i d b within e =
-    ap (λ (ys : List SectionHeader). kept_relas_behind o i ys) (rest_at hs i d within)
-    ∙ ap (λ (t : Bool). cond {A = List KeptRela} t (record { target = (get_or hs i d).sh_info; number = i } ∷ []) [] ++ left_of_relas o hs (i + 1)) e
-
-pub rela_end : (o : LoadedObject) (hs : List SectionHeader) (i : ℕ) → length hs ≤ i → left_of_relas o hs i ≡ []
-rela_end o hs i behind = ap (λ (ys : List SectionHeader). kept_relas_behind o i ys) (drop_all i hs behind)
-
--- sections from number i on of all
-abbrev Reads : List SectionHeader → ℕ → List SectionHeader → Type 0
-Reads all i hs = (k j : ℕ) → j ≡ i + k → k < length hs → (j < length all) × (get_or all j null_section ≡ get_or hs k null_section)
-
-later : (all : List SectionHeader) (i : ℕ) (h : SectionHeader) (hs : List SectionHeader) → Reads all i (h ∷ hs) → Reads all (i + 1) hs
-later all i h hs reads k j at low = reads (suc k) j (omega (arith, at)) (omega (arith, low))
-
-module _ (n : ℕ) (o : LoadedObject) where
-  all_here : List SectionHeader
-  all_here = sections o.bytes
-
-  pub listed_is :
-      (hs : List SectionHeader) (i : ℕ) → Reads (sections o.bytes) i hs →
-      relocations_behind n o i hs ≡ relocations_of_relas n o (kept_relas_behind o i hs)
-  listed_is [] i reads = refl
-  listed_is (h ∷ hs) i reads = by (is_kept_rela o i h) (listed_is hs (i + 1) (later (sections o.bytes) i h hs reads))
-    where
-      here : section (sections o.bytes) i ≡ h
-      here = (reads 0 i (omega arith) (omega arith)).1
-
-      by :
-          (b : Bool) → relocations_behind n o (i + 1) hs ≡ relocations_of_relas n o (kept_relas_behind o (i + 1) hs) →
-          cond b (relocations_in n o h) [] ++ relocations_behind n o (i + 1) hs
-          ≡ relocations_of_relas n o (cond b (record { target = h.sh_info; number = i } ∷ []) [] ++ kept_relas_behind o (i + 1) hs)
-      by true rest =
-          ap (λ (rs : List Relocation). relocations_in n o h ++ rs) rest
-          ∙ ap (λ (g : SectionHeader). relocations_in n o g ++ relocations_of_relas n o (kept_relas_behind o (i + 1) hs)) (sym here)
-      by false rest = rest
-
-  whole_reads : Reads (sections o.bytes) 0 (sections o.bytes)
-  whole_reads k j at low = let same : k ≡ j = omega (arith, at) in (omega (arith, same, low), ap (λ (m : ℕ). get_or (sections o.bytes) m null_section) (sym same))
-
-  pub relocations_listed : relocations_from n o ≡ relocations_of_relas n o (kept_relas o)
-  relocations_listed = listed_is (sections o.bytes) 0 whole_reads
-
-  -- each of them is kept
-  all_kept : (hs : List SectionHeader) (i : ℕ) → Reads (sections o.bytes) i hs → All (IsKeptRela o) (kept_relas_behind o i hs)
-  all_kept [] i reads = All-nil (IsKeptRela o)
-  all_kept (h ∷ hs) i reads = by (is_kept_rela o i h) refl (all_kept hs (i + 1) (later (sections o.bytes) i h hs reads))
-    where
-      first : (i < length (sections o.bytes)) × (section (sections o.bytes) i ≡ h)
-      first = reads 0 i (omega arith) (omega arith)
-
-      by :
-          (b : Bool) → is_kept_rela o i h ≡ b → All (IsKeptRela o) (kept_relas_behind o (i + 1) hs) →
-          All (IsKeptRela o) (cond b (record { target = h.sh_info; number = i } ∷ []) [] ++ kept_relas_behind o (i + 1) hs)
-      by true e rest =
-          All-cons (IsKeptRela o) (record { target = h.sh_info; number = i }) (kept_relas_behind o (i + 1) hs)
-          (record {
-            there = slice_get-get_or (sections o.bytes) i null_section first.0;
-            kept = ap (is_kept_rela o i) first.1 ∙ e;
-            target_is = ap (λ (g : SectionHeader). g.sh_info) (sym first.1);
-          }) rest
-      by false e rest = rest
-
-  pub relas_kept : All (IsKeptRela o) (kept_relas o)
-  relas_kept = all_kept (sections o.bytes) 0 whole_reads
 
 -- By their targets.
 
@@ -139,16 +66,7 @@ rises (k ∷ ks) up = (
 pub ascending_is : (ks : List KeptRela) → IsNonDecreasingBy target_of ks → ks ≡ by_rank target_of ks
 ascending_is ks up = by_rank_is target_of ks ks (rises ks up) (λ z. refl)
 
--- the relocations of those that are left, and of the first ones
-pub relas_more :
-    (n : ℕ) (o : LoadedObject) (ks : List KeptRela) (i : ℕ) (d : KeptRela) → i < length ks →
-    relocations_of_relas n o (drop i ks) ≡ relocations_by n o (get_or ks i d) ++ relocations_of_relas n o (drop (i + 1) ks)
-relas_more n o ks i d within = ap (relocations_of_relas n o) (rest_at ks i d within)
-
-pub relas_end : (n : ℕ) (o : LoadedObject) (ks : List KeptRela) (i : ℕ) → length ks ≤ i → relocations_of_relas n o (drop i ks) ≡ []
-relas_end n o ks i behind = ap (relocations_of_relas n o) (drop_all i ks behind)
-
--- and of a row of them
+-- the relocations of a row of them
 pub row_left :
     (n : ℕ) (o : LoadedObject) (ks : List KeptRela) (from end : ℕ) → from ≤ end →
     relocations_of_relas n o (drop from ks) ≡ relocations_of_relas n o (slice_range ks from end) ++ relocations_of_relas n o (drop end ks)

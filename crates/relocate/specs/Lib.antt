@@ -1,6 +1,6 @@
 pub mod LocalUses
 pub mod Fields
-pub mod KeptRelas
+pub mod RelaOrders
 pub mod Kinds
 pub mod ObjectRows
 pub mod Patches

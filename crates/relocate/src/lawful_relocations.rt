@@ -1,8 +1,6 @@
 //! Whether the kept relocations of all objects are lawful.
-ghost use Rattle.std.specs.Prelude.{◌≡◌, ◌++◌, All, IfErr, IfOk, OnOk, Some, filter, map};
-ghost use Rattle.std.specs.List.{slice_get};
-ghost use Rattle.elf_model.specs.ObjectFile.{sections};
-ghost use Rattle.elf_model.specs.Relocation.{AreLawfulRelocations, IsLawfulRelocation, is_some_kind, relocation_of, relocations, relocations_from, relocations_in};
+ghost use Rattle.std.specs.Prelude.{◌≡◌, ◌++◌, All, IfErr, IfOk, OnOk, filter, map};
+ghost use Rattle.elf_model.specs.Relocation.{AreLawfulRelocations, IsLawfulRelocation, is_some_kind, relocation_of, relocations, relocations_from};
 ghost use Rattle.elf_model.specs.Slots as wanted;
 ghost use Rattle.got_tls.specs.Asking.{nothing, with_relocation, with_relocations};
 ghost use Rattle.got_tls.specs.Views.{wants};
@@ -10,6 +8,7 @@ ghost use Rattle.layout.specs.Mixed.{AreMixed};
 ghost use Rattle.relocate.specs.Fields.{field_of};
 ghost use Rattle.relocate.specs.References.{AreLawful, IsObjectAt, ReferencesFail, RelocationsFail};
 ghost use Rattle.relocate.specs.SymbolTables.{IsReferrer, IsRelocated, all_of, referring};
+ghost use Rattle.search.specs.KeptLists.{IsKeptRela, relocations_by};
 ghost use Rattle.search.specs.Views.{loaded_view, loaded_views};
 
 use crate::faults::RelocFault;
@@ -17,12 +16,12 @@ use crate::fields::{Field, are_apart};
 use crate::lawful_fields::lawful_field;
 use crate::referrer::{Referrer, Relocated};
 use crate::targets::is_some_kind;
-use elf_model::{NameSeed, Rela, SectionHeader};
+use elf_model::{NameSeed, Rela};
 use elf_read::RelaRun;
 use got_tls::{Asked, Slots, add_entry, slots_asked};
 use layout::mixed_names;
 use resolve::Resolved;
-use search::{Loaded, LoadedObject};
+use search::{KeptRela, Loaded, LoadedObject};
 use std::alloc::{AllocError, Global};
 use std::collections::BTreeSet;
 
@@ -166,42 +165,36 @@ fn list_fields<'a>(
         (relocations_from referrer.now.number (referring referrer.now))) }
 {
     fields.clear();
-    let headers = referrer.loaded.object.sections();
-    for i in 0..headers.len() {
-        let header = headers.at(i);
-        if !referrer.loaded.is_kept_rela(i, &header) {
-            continue;
-        }
-        add_section(alloc, referrer, i, &header, fields, asked)?;
+    let relas = referrer.loaded.kept_relas();
+    for rela in relas {
+        add_section(alloc, referrer, *rela, fields, asked)?;
     }
     Ok(())
 }
 
-/// Adds the fields of RELA section `i`, which has the header, and what its entries ask of the GOT.
+/// Adds the fields of a kept RELA section, and what its entries ask of the GOT.
 fn add_section<'a>(
     alloc: Global,
     referrer: &Referrer<'_, '_, 'a>,
-    i: usize,
-    header: &SectionHeader,
+    rela: KeptRela,
     fields: &mut Vec<Field>,
     asked: &mut Asked<'a>,
 ) -> Result<(), RelocFault>
     requires known { IsReferrer referrer.now }
-    requires there { slice_get (sections (referring referrer.now).bytes) i ≡ Some header.now }
-    requires rela { header.now.sh_type ≡ 4 }
+    requires kept { IsKeptRela (referring referrer.now) rela }
     ensures asked { OnOk result (wants asked.new
         ≡ with_relocations (all_of referrer.now) (wants asked.old)
-        (relocations_in referrer.now.number (referring referrer.now) header.now)) }
+        (relocations_by referrer.now.number (referring referrer.now) rela)) }
     ensures fields { OnOk result (fields.new.items
         ≡ fields.old.items
-        ++ map field_of (relocations_in referrer.now.number (referring referrer.now) header.now)) }
+        ++ map field_of (relocations_by referrer.now.number (referring referrer.now) rela)) }
     ensures lawful { OnOk result (All (IsLawfulRelocation (all_of referrer.now))
-        (relocations_in referrer.now.number (referring referrer.now) header.now)) }
+        (relocations_by referrer.now.number (referring referrer.now) rela)) }
     ensures fault { IfErr result (RelocationsFail (all_of referrer.now)
-        (relocations_in referrer.now.number (referring referrer.now) header.now)) }
+        (relocations_by referrer.now.number (referring referrer.now) rela)) }
 {
-    let entries = referrer.loaded.entries_of(i, header);
-    let target = referrer.relocated(header.sh_info as u64);
+    let entries = referrer.loaded.kept_entries(rela);
+    let target = referrer.relocated(rela.target as u64);
     add_fields(alloc, referrer, target, &entries, fields, asked)
 }
 

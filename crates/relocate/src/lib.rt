@@ -7,7 +7,6 @@
 
 mod faults;
 mod fields;
-mod kept_relas;
 mod kinds;
 mod lawful_fields;
 mod lawful_relocations;
@@ -18,6 +17,7 @@ mod patch;
 mod patch_rows;
 mod patch_table;
 mod referrer;
+mod rela_order;
 mod row_order;
 mod row_parts;
 mod slots;

@@ -1,14 +1,14 @@
 //! The linker's names that kept relocations use and no object defines: which of them have a line in the map.
-ghost use Rattle.std.specs.Prelude.{◌≡◌, ◌∷◌, ◌++◌, ◌||◌, ℕ, [], List, IfOk, OnOk, Some, false, filter, map, option_map, option_to_list};
+ghost use Rattle.std.specs.Prelude.{◌≡◌, ◌∷◌, ◌++◌, ◌||◌, ℕ, [], List, IfOk, OnOk, false, filter, map, option_map, option_to_list};
 ghost use Rattle.std.specs.BTreeSet.{IsOrdered};
 ghost use Rattle.std.specs.Cmp.Lexicographic.{slice_cmp};
-ghost use Rattle.std.specs.List.{list_any, slice_get};
+ghost use Rattle.std.specs.List.{list_any};
 ghost use Rattle.std.specs.Ordering.{nat_cmp};
 ghost use Rattle.std.specs.Str.{bytes_eq};
 ghost use Rattle.elf_model.specs.Listing.{AreLinkerLines};
-ghost use Rattle.elf_model.specs.ObjectFile.{sections};
-ghost use Rattle.elf_model.specs.Relocation.{is_some_kind, relocation_of, relocations, relocations_from, relocations_in, symbol_at};
+ghost use Rattle.elf_model.specs.Relocation.{is_some_kind, relocation_of, relocations, relocations_from, symbol_at};
 ghost use Rattle.elf_model.specs.UsedNames.{Gains, is_among, is_linker_use, linker_meaning, linker_meanings, uses_line};
+ghost use Rattle.search.specs.KeptLists.{IsKeptRela, relocations_by};
 ghost use Rattle.search.specs.Views.{loaded_view, loaded_views};
 ghost use Rattle.resolve.specs.Left.{HasNoLinkerNames};
 ghost use Rattle.resolve.specs.Views.{meaning_view};
@@ -16,10 +16,10 @@ ghost use Rattle.relocate.specs.References.{IsObjectAt};
 ghost use Rattle.relocate.specs.Uses.{HasNoLinkerUse, IsUser, is_linkers, line_views, using};
 
 use crate::targets::is_some_kind;
-use elf_model::{Bound, ObjectId, Rela, SectionHeader, SymbolRef};
+use elf_model::{Bound, ObjectId, Rela, SymbolRef};
 use elf_read::RelaRun;
 use resolve::{Definition, Resolved};
-use search::{Loaded, LoadedObject};
+use search::{KeptRela, Loaded, LoadedObject};
 use std::alloc::{AllocError, Global};
 use std::collections::BTreeSet;
 
@@ -139,21 +139,19 @@ fn add_entries<'a>(
     Ok(())
 }
 
-/// Adds those that the entries of RELA section `i` use, which has the header.
+/// Adds those that the entries of a kept RELA section use.
 fn add_section<'a>(
     names: &mut BTreeSet<&'a [u8]>,
     user: &User<'_, 'a>,
-    i: usize,
-    header: &SectionHeader,
+    rela: KeptRela,
 ) -> Result<(), AllocError>
     requires user { IsUser user.now }
-    requires there { slice_get (sections (using user.now).bytes) i ≡ Some header.now }
-    requires rela { header.now.sh_type ≡ 4 }
+    requires kept { IsKeptRela (using user.now) rela }
     ensures { OnOk result (Gains user.now.resolved.now
-        (relocations_in user.now.number (using user.now) header.now) names.old names.new) }
+        (relocations_by user.now.number (using user.now) rela) names.old names.new) }
 {
-    let entries = user.loaded.entries_of(i, header);
-    add_entries(names, user, header.sh_info as u64, &entries)
+    let entries = user.loaded.kept_entries(rela);
+    add_entries(names, user, rela.target as u64, &entries)
 }
 
 /// Adds those that the kept relocations of an object use.
@@ -165,13 +163,9 @@ fn add_relocations<'a>(
     ensures { OnOk result (Gains user.now.resolved.now
         (relocations_from user.now.number (using user.now)) names.old names.new) }
 {
-    let headers = user.loaded.object.sections();
-    for i in 0..headers.len() {
-        let header = headers.at(i);
-        if !user.loaded.is_kept_rela(i, &header) {
-            continue;
-        }
-        add_section(names, user, i, &header)?;
+    let relas = user.loaded.kept_relas();
+    for rela in relas {
+        add_section(names, user, *rela)?;
     }
     Ok(())
 }

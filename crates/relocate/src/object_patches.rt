@@ -1,24 +1,27 @@
 //! The patches of an object, by the sections that they are for.
 ghost use Rattle.std.specs.Prelude.{◌≡◌, ◌≤◌, ◌+◌, ◌++◌, [], All, IfErr, IfOk, IsSome, List, OnOk, filter, length, map};
 ghost use Rattle.std.specs.List.Sorted.{IsNonDecreasingBy};
+ghost use Rattle.elf_model.specs.ArrayOrder.{by_rank};
 ghost use Rattle.elf_model.specs.Relocation.{Relocation, is_some_kind, relocation_kind, relocation_of, relocations_from};
 ghost use Rattle.elf_model.specs.RelocationValues.{Fits};
-ghost use Rattle.relocate.specs.KeptRelas.{IsKeptRela, relocations_by, relocations_of_relas, target_of};
+ghost use Rattle.search.specs.KeptLists.{IsKeptRela, kept_relas, relocations_by, relocations_of_relas};
+ghost use Rattle.relocate.specs.RelaOrders.{target_of};
 ghost use Rattle.relocate.specs.ObjectRows.{HasRows};
 ghost use Rattle.relocate.specs.SymbolTables.{IsValued, all_valued, valued_object, where_of};
 ghost use Rattle.relocate.specs.Values.{ArePatchRows, FittingFails, patch_of};
 
 use crate::faults::RelocFault;
-use crate::kept_relas::{KeptRela, kept_relas, row_end};
 use crate::object_rows::ObjectPatches;
 use crate::patch::Patch;
+use crate::referrer::entry_count;
+use crate::rela_order::{ascend, ordered, row_end};
 use crate::row_order::order_from;
 use crate::symbol_values::Valued;
 use crate::targets::is_some_kind;
 use crate::values::{address_or_none, fitting_value};
-use elf_model::{RELA_SIZE, Rela};
+use elf_model::Rela;
 use elf_read::RelaRun;
-use search::LoadedObject;
+use search::KeptRela;
 use std::alloc::{AllocError, Global};
 
 /// The first byte of an entry's field, in the section that it relocates. That section lies in the image's file, which has
@@ -94,9 +97,8 @@ fn add_section(
     ensures fault { IfErr result (FittingFails (all_valued valued.now) (where_of valued.now)
         (relocations_by valued.now.number (valued_object valued.now) rela)) }
 {
-    let header = valued.loaded.object.section(rela.number);
-    let entries = valued.loaded.entries_of(rela.number, &header);
-    add_patches(valued, header.sh_info as u64, &entries, patches)
+    let entries = valued.loaded.kept_entries(rela);
+    add_patches(valued, rela.target as u64, &entries, patches)
 }
 
 /// Adds the patches of kept RELA sections, which relocate one section.
@@ -186,14 +188,31 @@ fn add_rows(
     Ok(())
 }
 
-/// How many entries an object's kept RELA sections have; the greatest number where they are more.
-fn entry_count(loaded: &LoadedObject<'_>, relas: &[KeptRela]) -> usize {
-    let mut count: u64 = 0;
-    for rela in relas {
-        let size = loaded.object.section(rela.number).sh_size;
-        count = count.saturating_add(size / RELA_SIZE as u64);
-    }
-    count as usize
+/// The patches of an object whose relocations are of known kinds, and whose kept RELA sections these are, in the order of the
+/// sections that they relocate.
+fn rows_of(
+    alloc: Global,
+    valued: &Valued<'_, '_>,
+    relas: &[KeptRela],
+) -> Result<ObjectPatches, RelocFault>
+    requires valued { IsValued valued.now }
+    requires order { relas.now ≡ by_rank target_of (kept_relas (valued_object valued.now)) }
+    requires rises { IsNonDecreasingBy target_of relas.now }
+    requires known { All (λ r. IsSome (relocation_kind r))
+        (relocations_from valued.now.number (valued_object valued.now)) }
+    ensures rows { IfOk result (ArePatchRows (all_valued valued.now) (where_of valued.now)
+        (relocations_from valued.now.number (valued_object valued.now))) }
+    ensures fit { OnOk result (All (Fits (all_valued valued.now) (where_of valued.now))
+        (relocations_from valued.now.number (valued_object valued.now))) }
+    ensures fault { IfErr result (FittingFails (all_valued valued.now) (where_of valued.now)
+        (relocations_from valued.now.number (valued_object valued.now))) }
+{
+    let mut rows = ObjectPatches {
+        patches: Vec::with_capacity(alloc, entry_count(valued.loaded))?,
+        begins: Vec::new(alloc),
+    };
+    add_rows(valued, relas, &mut rows)?;
+    Ok(rows)
 }
 
 /// The patches of an object whose relocations are of known kinds, those of each section in the order of their places. Overflow
@@ -209,11 +228,10 @@ pub fn object_patches(alloc: Global, valued: &Valued<'_, '_>) -> Result<ObjectPa
     ensures fault { IfErr result (FittingFails (all_valued valued.now) (where_of valued.now)
         (relocations_from valued.now.number (valued_object valued.now))) }
 {
-    let relas = kept_relas(alloc, valued.loaded)?;
-    let mut rows = ObjectPatches {
-        patches: Vec::with_capacity(alloc, entry_count(valued.loaded, &relas))?,
-        begins: Vec::new(alloc),
-    };
-    add_rows(valued, &relas, &mut rows)?;
-    Ok(rows)
+    let relas = valued.loaded.kept_relas();
+    if ascend(relas) {
+        return rows_of(alloc, valued, relas);
+    }
+    let relas = ordered(alloc, relas)?;
+    rows_of(alloc, valued, &relas)
 }

@@ -14,7 +14,7 @@ ghost use Rattle.relocate.specs.SymbolTables.{AreReferences, IsReference, IsRefe
 use crate::targets::{
     holds_frames, is_dropped, is_mixed, is_thread_local, is_undefined, stands_in_unkept, use_of,
 };
-use elf_model::{ObjectId, RELA_SIZE, SHT_RELA, SymbolRef};
+use elf_model::{ObjectId, SymbolRef};
 use got_tls::Asker;
 use resolve::{Definition, Resolved};
 use search::LoadedObject;
@@ -128,17 +128,18 @@ fn reference_to<'a>(
     reference_by(resolved, mixed, number, loaded, j, &definition)
 }
 
-/// Whether an object has more relocations than symbols, so that a row for each symbol saves work.
-pub fn refers_often(loaded: &LoadedObject<'_>) -> bool {
-    let mut size: u64 = 0;
-    let headers = loaded.object.sections();
-    for i in 0..headers.len() {
-        let header = headers.at(i);
-        if header.sh_type == SHT_RELA {
-            size = size.saturating_add(header.sh_size);
-        }
+/// How many entries the kept RELA sections of an object have; the greatest number where they are more.
+pub fn entry_count(loaded: &LoadedObject<'_>) -> usize {
+    let mut count: usize = 0;
+    for rela in loaded.kept_relas() {
+        count = count.saturating_add(loaded.kept_entries(*rela).len());
     }
-    size / RELA_SIZE as u64 > loaded.object.symbols().len() as u64
+    count
+}
+
+/// Whether an object has more kept relocations than symbols, so that a row for each symbol saves work.
+pub fn refers_often(loaded: &LoadedObject<'_>) -> bool {
+    entry_count(loaded) > loaded.object.symbols().len()
 }
 
 /// A row for each symbol of an object that refers often, and none of another one.

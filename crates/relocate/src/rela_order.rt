@@ -1,57 +1,25 @@
-//! The kept RELA sections of an object in the order of the sections that they relocate. They mostly are in that order already.
+//! RELA sections in the order of the sections that they relocate. Those of an object mostly are in that order already.
 ghost use Rattle.std.specs.Prelude.{◌≡◌, ◌≢◌, ◌↔◌, ◌<◌, ◌≤◌, ℕ, IfOk, IsTrue, length, slice_index_or};
 ghost use Rattle.std.specs.List.Sorted.{IsNonDecreasingBy};
 ghost use Rattle.elf_model.specs.ArrayOrder.{by_rank};
-ghost use Rattle.search.specs.Views.{loaded_view};
-ghost use Rattle.relocate.specs.KeptRelas.{IsByNeighbours, kept_relas, target_of};
+ghost use Rattle.relocate.specs.RelaOrders.{IsByNeighbours, target_of};
 
-use search::LoadedObject;
+use search::KeptRela;
 use std::alloc::{AllocError, Global};
 
-/// A kept RELA section of an object: the number of the section that it relocates, and its own.
-#[derive(Clone, Copy, Debug)]
-pub struct KeptRela {
-    pub target: u32,
-    pub number: usize,
-}
-
-/// The kept RELA sections of an object, by their numbers.
-fn listed(alloc: Global, loaded: &LoadedObject<'_>) -> Result<Vec<KeptRela>, AllocError>
-    ensures { IfOk result (λ v. v.items ≡ kept_relas (loaded_view loaded.now)) }
-{
-    let mut relas = Vec::new(alloc);
-    let headers = loaded.object.sections();
-    for i in 0..headers.len() {
-        let header = headers.at(i);
-        if !loaded.is_kept_rela(i, &header) {
-            continue;
-        }
-        relas.push(KeptRela {
-            target: header.sh_info,
-            number: i,
-        })?;
-    }
-    Ok(relas)
-}
-
 /// Whether each relocates the section that the one before relocates, or a later one.
-fn ascend(relas: &[KeptRela]) -> bool
+pub fn ascend(relas: &[KeptRela]) -> bool
     ensures { IsTrue result ↔ IsByNeighbours relas.now }
 {
     relas.windows(2).all(|w| w[0].target <= w[1].target)
 }
 
-/// The kept RELA sections of an object in the order of the sections that they relocate, those of one section by their own
-/// numbers.
-pub fn kept_relas(alloc: Global, loaded: &LoadedObject<'_>) -> Result<Vec<KeptRela>, AllocError>
-    ensures order { IfOk result (λ v. v.items
-        ≡ by_rank target_of (kept_relas (loaded_view loaded.now))) }
+/// RELA sections in the order of the sections that they relocate, those of one section as they come.
+pub fn ordered(alloc: Global, relas: &[KeptRela]) -> Result<Vec<KeptRela>, AllocError>
+    ensures order { IfOk result (λ v. v.items ≡ by_rank target_of relas.now) }
     ensures rises { IfOk result (λ v. IsNonDecreasingBy target_of v.items) }
 {
-    let mut relas = listed(alloc, loaded)?;
-    if ascend(&relas) {
-        return Ok(relas);
-    }
+    let mut relas = Vec::from_slice(alloc, relas)?;
     relas.sort_by_key(|rela| rela.target)?;
     Ok(relas)
 }

@@ -1,18 +1,22 @@
-use Rattle.std.proofs.Common.{◌≡◌, ◌++◌, map}
-use Rattle.elf_model.proofs.FlatRelocations.{left_of_sections}
+use Rattle.std.proofs.Common.{◌≡◌, ◌++◌, drop, map}
 use Rattle.elf_model.specs.Relocation.{relocations_from}
+use Rattle.search.specs.KeptLists.{relocations_of_relas}
 use Rattle.got_tls.specs.Asking.{with_relocations}
 use Rattle.got_tls.specs.Views.{wants}
+use Rattle.relocate.specs.Fields.{field_of}
 use Rattle.relocate.specs.SymbolTables.{all_of, referring}
 use Rattle.relocate.proofs.Judged.{Leaves}
-use Rattle.relocate.specs.Fields.{field_of}
 use Rattle.relocate.proofs.lawful_relocations.list_fields.Given as goal
 
-abbrev pub invariant-loop-i : goal.invariant-loop-i
-invariant-loop-i l = record {
-  fields : l.fields.items ++ map field_of (left_of_sections l.referrer.number (referring l.referrer) l.headers l.i) ≡ map field_of (relocations_from l.referrer.number (referring l.referrer));
+abbrev pub invariant-loop-rela : goal.invariant-loop-rela
+invariant-loop-rela l = record {
+  fields :
+      l.fields.items ++ map field_of (relocations_of_relas l.referrer.number (referring l.referrer) (drop l.rela-index l.relas))
+      ≡ map field_of (relocations_from l.referrer.number (referring l.referrer));
   asked :
-      with_relocations (all_of l.referrer) (wants l.asked) (left_of_sections l.referrer.number (referring l.referrer) l.headers l.i)
+      with_relocations (all_of l.referrer) (wants l.asked) (relocations_of_relas l.referrer.number (referring l.referrer) (drop l.rela-index l.relas))
       ≡ with_relocations (all_of l.referrer) (wants l.fn.asked) (relocations_from l.referrer.number (referring l.referrer));
-  leaves : Leaves (all_of l.referrer) (relocations_from l.referrer.number (referring l.referrer)) (left_of_sections l.referrer.number (referring l.referrer) l.headers l.i);
+  leaves :
+      Leaves (all_of l.referrer) (relocations_from l.referrer.number (referring l.referrer))
+      (relocations_of_relas l.referrer.number (referring l.referrer) (drop l.rela-index l.relas));
 }

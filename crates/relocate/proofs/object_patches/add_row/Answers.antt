@@ -1,9 +1,9 @@
 use Rattle.std.proofs.Common.{◌≡◌, arith, length, map, rules, ◌∙◌}
 use Rattle.std.specs.Vec.{with_items}
 use Rattle.std.proofs.lemmas.List.{with_items_is}
-use Rattle.relocate.proofs.KeptRelas.{row_section}
+use Rattle.relocate.proofs.RelaOrders.{row_section}
 use Rattle.relocate.proofs.RowSteps.{begins_more, row_put, rows_more}
-use Rattle.relocate.specs.KeptRelas.{relocations_of_relas}
+use Rattle.search.specs.KeptLists.{relocations_of_relas}
 use Rattle.relocate.specs.SymbolTables.{all_valued, valued_object, where_of}
 use Rattle.relocate.specs.Values.{patch_of}
 use Rattle.relocate.proofs.object_patches.add_row.Goals as goal

@@ -6,12 +6,14 @@ use Rattle.std.proofs.lemmas.Option.{get_or_from_slice_get, slice_get-get_or}
 use Rattle.std.proofs.lemmas.Result.{err_from_is_err_and}
 use Rattle.elf_model.specs.Relocation.{Relocation}
 use Rattle.relocate.proofs.Fitted.{exit_fitting, fit_all, fit_none, fit_part, fitting_fails, known_part}
-use Rattle.relocate.proofs.KeptRelas.{relas_end, row_done, row_left}
+use Rattle.search.proofs.KeptWalks.{relas_end}
+use Rattle.relocate.proofs.RelaOrders.{row_done, row_left}
 use Rattle.relocate.proofs.RowSteps.{no_rows}
-use Rattle.relocate.specs.KeptRelas.{IsKeptRela, relocations_of_relas, target_of}
+use Rattle.search.specs.KeptLists.{IsKeptRela, relocations_of_relas}
+use Rattle.relocate.specs.RelaOrders.{target_of}
 use Rattle.relocate.specs.ObjectRows.{HasRows}
 use Rattle.relocate.specs.SymbolTables.{all_valued, valued_object, where_of}
-use Rattle.relocate.specs.declared.kept_relas.KeptRela.{KeptRela}
+use Rattle.search.specs.declared.kept_lists.KeptRela.{KeptRela}
 use Rattle.relocate.proofs.object_patches.add_rows.Goals as goal
 
 no_rela : KeptRela

@@ -1,9 +1,10 @@
 use Rattle.std.proofs.Common.{ℕ, ◌+◌, ◌-◌, ◌<◌, ◌≤◌, drop, get_or, length, take}
 use Rattle.relocate.proofs.Fitted.{LeavesToFit}
-use Rattle.relocate.specs.KeptRelas.{relocations_of_relas, target_of}
+use Rattle.search.specs.KeptLists.{relocations_of_relas}
+use Rattle.relocate.specs.RelaOrders.{target_of}
 use Rattle.relocate.specs.ObjectRows.{HasRows}
 use Rattle.relocate.specs.SymbolTables.{all_valued, valued_object, where_of}
-use Rattle.relocate.specs.declared.kept_relas.KeptRela.{KeptRela}
+use Rattle.search.specs.declared.kept_lists.KeptRela.{KeptRela}
 use Rattle.relocate.proofs.object_patches.add_rows.Given as goal
 
 abbrev pub invariant-rows : goal.invariant-rows

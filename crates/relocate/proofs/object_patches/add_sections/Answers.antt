@@ -2,11 +2,11 @@ use Rattle.std.proofs.Common.{◌+◌, drop, get_or}
 use Rattle.std.proofs.lemmas.Result.{err_from_is_err_and}
 use Rattle.elf_model.proofs.Mapped.{append_mapped}
 use Rattle.relocate.proofs.Fitted.{exit_fitting, fit_part, fitting_fails, known_part}
-use Rattle.relocate.proofs.KeptRelas.{relas_more}
-use Rattle.relocate.specs.KeptRelas.{relocations_by, relocations_of_relas}
+use Rattle.search.proofs.KeptWalks.{relas_more}
+use Rattle.search.specs.KeptLists.{relocations_by, relocations_of_relas}
 use Rattle.relocate.specs.SymbolTables.{all_valued, valued_object, where_of}
 use Rattle.relocate.specs.Values.{patch_of}
-use Rattle.relocate.specs.declared.kept_relas.KeptRela.{KeptRela}
+use Rattle.search.specs.declared.kept_lists.KeptRela.{KeptRela}
 use Rattle.relocate.proofs.object_patches.add_sections.Goals as goal
 
 no_rela : KeptRela

@@ -1,6 +1,6 @@
 use Rattle.std.proofs.Common.{◌≡◌, ◌++◌, drop, map}
 use Rattle.relocate.proofs.Fitted.{LeavesToFit}
-use Rattle.relocate.specs.KeptRelas.{relocations_of_relas}
+use Rattle.search.specs.KeptLists.{relocations_of_relas}
 use Rattle.relocate.specs.SymbolTables.{all_valued, valued_object, where_of}
 use Rattle.relocate.specs.Values.{patch_of}
 use Rattle.relocate.proofs.object_patches.add_sections.Given as goal

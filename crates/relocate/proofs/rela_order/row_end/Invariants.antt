@@ -1,7 +1,7 @@
 use Rattle.std.proofs.Common.{◌≡◌, ℕ, ◌-◌, ◌<◌, ◌≤◌, get_or, length}
-use Rattle.relocate.specs.KeptRelas.{target_of}
-use Rattle.relocate.specs.declared.kept_relas.KeptRela.{KeptRela}
-use Rattle.relocate.proofs.kept_relas.row_end.Given as goal
+use Rattle.relocate.specs.RelaOrders.{target_of}
+use Rattle.search.specs.declared.kept_lists.KeptRela.{KeptRela}
+use Rattle.relocate.proofs.rela_order.row_end.Given as goal
 
 abbrev pub invariant-same : goal.invariant-same
 invariant-same l = record {
