@@ -1,21 +1,23 @@
 -- What a reference to a symbol is whose name an object defines.
-use Rattle.std.proofs.Common.{◌≡◌, ◌∙◌, ℕ, Bool, true, false, cond, List, Option, None, Some, ap, option_map, refl, subst, sym}
-use Rattle.std.specs.Prelude.{IsSomeAnd, is_some}
+use Rattle.std.proofs.Common.{◌≡◌, ◌∙◌, ◌%◌, ◌^◌, ℕ, Bool, true, false, cond, List, Option, None, Some, ap, option_map, refl, subst, sym}
+use Rattle.std.specs.Prelude.{IsSomeAnd, is_some, unwrap_or}
 use Rattle.std.specs.Option.{option_and_then, option_map_or, option_or}
 use Rattle.std.proofs.lemmas.Bool.{false≢true}
 use Rattle.std.proofs.lemmas.Option.{none-some, same_Some}
 use Rattle.elf_model.specs.Commons.{Block, block_named, is_common_symbol}
 use Rattle.elf_model.specs.LinkerNames.{bound_of}
 use Rattle.elf_model.specs.Loading.{LoadedObject}
-use Rattle.elf_model.specs.Meaning.{Common, Linker, Meaning, Symbol, is_in_thread_storage, meant}
+use Rattle.elf_model.specs.Meaning.{Common, Linker, Meaning, Symbol, is_in_thread_storage, meaning_size, meaning_value, meant}
+use Rattle.elf_model.specs.Placement.{Where}
 use Rattle.elf_model.specs.Relocation.{IsMixed, definition_of, is_local, symbol_at}
 use Rattle.elf_model.specs.Resolution.{SymbolOf, chosen, is_undefined}
 use Rattle.elf_model.proofs.Listing.{chosen_means}
 use Rattle.resolve.specs.Meaning.{named_at, named_of}
 use Rattle.resolve.specs.Threads.{is_thread_chosen}
 use Rattle.relocate.specs.References.{IsObjectAt}
-use Rattle.relocate.specs.SymbolTables.{IsReference}
+use Rattle.relocate.specs.SymbolTables.{IsReference, IsValueOf, IsWorth}
 use Rattle.relocate.specs.declared.referrer.Reference.{Reference}
+use Rattle.relocate.specs.declared.symbol_values.SymbolValue.{SymbolValue}
 
 module _ (objects : List LoadedObject) (s : SymbolOf) where
   -- it isn't LOCAL, and its name has a definition
@@ -75,3 +77,24 @@ is_reference objects number o j t r there e undefined unkept dropped thread_loca
     by : (n : Option SymbolOf) → named_of objects s ≡ n → option_map (is_thread_chosen objects) n ≡ Some t → IsReference objects s r
     by None is f = absurd (none-some t f)
     by (Some d) is f = reference_so objects s d t r (chosen_so objects s d is) (same_Some (is_thread_chosen objects d) t f) undefined unkept dropped thread_local mixed
+
+-- what a symbol is worth whose name an object defines
+pub is_value :
+    (objects : List LoadedObject) (number : ℕ) (o : LoadedObject) (j : ℕ) (w : Where) (v : SymbolValue) → IsObjectAt objects number o →
+    IsSomeAnd (named_at objects number j) (λ d. IsWorth w (meant objects d) v) → IsValueOf objects w (symbol_at number o j) v
+is_value objects number o j w v there worth =
+    by (named_of objects s) refl
+    (subst (λ (n : Option SymbolOf). IsSomeAnd n (λ d. IsWorth w (meant objects d) v))
+    (ap (λ (f : Option LoadedObject). option_and_then (λ (p : LoadedObject). named_of objects (symbol_at number p j)) f) there) worth)
+  where
+    s : SymbolOf
+    s = symbol_at number o j
+
+    by : (n : Option SymbolOf) → named_of objects s ≡ n → IsSomeAnd n (λ d. IsWorth w (meant objects d) v) → IsValueOf objects w s v
+    by None is k = absurd k
+    by (Some d) is k =
+        let e = sym (uses objects s d (chosen_so objects s d is)) in
+        record {
+          value = k.value ∙ ap (λ (m : Option Meaning). unwrap_or (option_map (meaning_value w) m) 0 % 2 ^ 64) e;
+          size = k.size ∙ ap (λ (m : Option Meaning). unwrap_or (option_map meaning_size m) 0 % 2 ^ 64) e;
+        }

@@ -1,4 +1,5 @@
 pub mod ChosenReferences
+mod ChosenValues
 pub mod Fitted
 pub mod Judged
 pub mod RelaOrders

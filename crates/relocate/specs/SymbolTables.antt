@@ -1,10 +1,11 @@
 -- Tables with a row for each symbol of an object: what a reference to the symbol is, what that uses is worth.
-use Rattle.std.specs.Prelude.{◌≡◌, ◌↔◌, ◌%◌, ◌^◌, ◌&&◌, ℕ, true, false, not, List, [], Some, IsSomeAnd, IsTrue, codes, option_map, unwrap_or}
+use Rattle.std.specs.Prelude.{◌≡◌, ◌↔◌, ◌%◌, ◌^◌, ◌&&◌, ℕ, true, false, not, List, [], Option, Some, IsSomeAnd, IsTrue, codes, option_map, unwrap_or}
 use Rattle.std.specs.List.{slice_get}
 use Rattle.std.specs.Option.{option_map_or}
 use Rattle.std.specs.Str.{bytes_eq}
 use Rattle.elf_model.specs.Loading.{LoadedObject}
-use Rattle.elf_model.specs.Meaning.{is_in_thread_storage, meaning_size, meaning_value}
+use Rattle.elf_model.specs.ChosenSymbols.{chosen_symbols}
+use Rattle.elf_model.specs.Meaning.{Meaning, is_in_thread_storage, meaning_size, meaning_value, meant}
 use Rattle.elf_model.specs.ObjectFile.{section, section_name, sections}
 use Rattle.elf_model.specs.Pieces.{AreLawfulKinds, is_alloc}
 use Rattle.elf_model.specs.Placement.{Where, got_start}
@@ -66,6 +67,15 @@ pub record IsValueOf (objects : List LoadedObject) (w : Where) (s : SymbolOf) (v
 abbrev pub AreValues : List LoadedObject → Where → ℕ → LoadedObject → List SymbolValue → Type 0
 AreValues objects w n o = EachTells (λ j. IsValueOf objects w (symbol_at n o j))
 
+-- what a meaning is worth, 0 of none
+pub record IsWorth (w : Where) (m : Option Meaning) (v : SymbolValue) : Type 0 where
+  pub value : v.value ≡ unwrap_or (option_map (meaning_value w) m) 0 % 2 ^ 64
+  pub size : v.size ≡ unwrap_or (option_map meaning_size m) 0 % 2 ^ 64
+
+-- row p is what the chosen definition at place p is worth, as far as there are rows
+abbrev pub AreChosenValues : List LoadedObject → Where → List SymbolValue → Type 0
+AreChosenValues objects w = EachTells (λ p v. IsSomeAnd (slice_get (chosen_symbols objects) p) (λ d. IsWorth w (meant objects d) v))
+
 -- an object whose relocations are given their values, all objects, and where things are
 abbrev pub valued_object : Valued → LoadedObject
 valued_object v = loaded_view v.loaded.now
@@ -82,4 +92,5 @@ pub record IsValued (v : Valued) : Type 0 where
   pub slots : v.slots.now.slots ≡ slots v.placement.now.objects
   pub pointer : v.pointer ≡ pointer_in (where_of v)
   pub got : v.got ≡ got_start (where_of v).got % 2 ^ 64
+  pub chosen : AreChosenValues (all_valued v) (where_of v) v.chosen.now
   pub table : AreValues (all_valued v) (where_of v) v.number (valued_object v) v.table.items

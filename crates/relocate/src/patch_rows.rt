@@ -7,13 +7,14 @@ ghost use Rattle.elf_model.specs.RelocationValues.{Fits};
 ghost use Rattle.elf_model.specs.Slots as wanted;
 ghost use Rattle.search.specs.Views.{loaded_view, loaded_views};
 ghost use Rattle.relocate.specs.References.{IsObjectAt};
+ghost use Rattle.relocate.specs.SymbolTables.{AreChosenValues};
 ghost use Rattle.relocate.specs.Values.{ArePatchRows, ArePatches, FittingFails, ValuesFail, pointer_in, where_in};
 
 use crate::faults::RelocFault;
 use crate::object_patches::object_patches;
 use crate::object_rows::ObjectPatches;
 use crate::patch_table::Patches;
-use crate::symbol_values::Valued;
+use crate::symbol_values::{SymbolValue, Valued, chosen_values};
 use crate::thread_pointer::pointer_of;
 use got_tls::Slots;
 use layout::Placement;
@@ -27,6 +28,7 @@ fn row_of<'a>(
     resolved: &Resolved<'a>,
     placement: &Placement<'a>,
     slots: &Slots<'a>,
+    chosen: &[SymbolValue],
     pointer: u64,
     number: usize,
     loaded: &LoadedObject<'a>,
@@ -34,6 +36,7 @@ fn row_of<'a>(
     requires kinds { AreLawfulKinds placement.now.objects }
     requires slots { slots.now.slots ≡ wanted.slots placement.now.objects }
     requires pointer { pointer ≡ pointer_in (where_in placement.now) }
+    requires chosen { AreChosenValues resolved.now (where_in placement.now) chosen.now }
     requires here { IsObjectAt resolved.now number (loaded_view loaded.now) }
     requires known { All (λ r. IsSome (relocation_kind r))
         (relocations_from number (loaded_view loaded.now)) }
@@ -44,7 +47,9 @@ fn row_of<'a>(
     ensures fault { IfErr result (FittingFails resolved.now (where_in placement.now)
         (relocations_from number (loaded_view loaded.now))) }
 {
-    let valued = Valued::new(alloc, resolved, placement, slots, pointer, number, loaded)?;
+    let valued = Valued::with_values(
+        alloc, resolved, placement, slots, chosen, pointer, number, loaded,
+    )?;
     object_patches(alloc, &valued)
 }
 
@@ -66,9 +71,19 @@ fn rows_of<'a>(
     ensures fault { IfErr result (ValuesFail placement.now) }
 {
     let pointer = pointer_of(placement);
+    let chosen = chosen_values(alloc, resolved, placement)?;
     let mut rows = Vec::with_capacity(alloc, objects.len())?;
     for k in 0..objects.len() {
-        let row = row_of(alloc, resolved, placement, slots, pointer, k, &objects[k])?;
+        let row = row_of(
+            alloc,
+            resolved,
+            placement,
+            slots,
+            &chosen,
+            pointer,
+            k,
+            &objects[k],
+        )?;
         rows.push(row)?;
     }
     Ok(rows)

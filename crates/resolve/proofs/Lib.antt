@@ -15,6 +15,7 @@ pub mod OwnerLaws
 pub mod PlacesByNumber
 mod ArrayNames
 mod BlockNames
+mod ChosenPlaces
 pub mod Rests
 pub mod Searched
 pub mod SoundWalk

@@ -2,6 +2,7 @@
 ghost use Rattle.std.specs.Prelude.{◌≡◌, ℕ, List, IfErr, IfNone, IfOk, IfSome, OnOk, OnSome, None, Some, cond, false, is_some};
 ghost use Rattle.std.specs.List.{slice_get};
 ghost use Rattle.std.specs.Option.{option_and_then, option_map, option_map_or};
+ghost use Rattle.elf_model.specs.ChosenSymbols.{chosen_symbols};
 ghost use Rattle.elf_model.specs.Commons.{block_named, blocks};
 ghost use Rattle.elf_model.specs.LinkerNames.{bound_of};
 ghost use Rattle.elf_model.specs.Meaning as meaning;
@@ -247,6 +248,16 @@ impl<'a> Resolved<'a> {
     {
         let place = place_at(&self.loaded, &self.places, symbol)?;
         definition_at(&self.definitions, place)
+    }
+
+    /// The place among the chosen definitions of that of a symbol's name, for a symbol that isn't LOCAL; none of them stands
+    /// there where no object defines the name. Reads no name.
+    #[tactic(auto, using(crate::proofs::ChosenPlaces::place_in))]
+    pub fn chosen_place(&self, symbol: SymbolRef) -> Option<usize>
+        ensures { option_and_then (slice_get (chosen_symbols self.now)) result
+            ≡ named_at self.now symbol.object.0 symbol.symbol }
+    {
+        place_at(&self.loaded, &self.places, symbol)
     }
 
     /// Whether an object defines the name of a symbol that isn't LOCAL. Reads no name.

@@ -1,5 +1,7 @@
 use Rattle.std.proofs.Common.{◌≡◌, ◌+◌, List, length, refl, subst, sym, ◌∙◌, arith}
-use Rattle.std.specs.Prelude.{All}
+use Rattle.std.specs.Prelude.{All, Some}
+use Rattle.std.specs.List.{slice_get}
+use Rattle.relocate.specs.SymbolTables.{AreChosenValues}
 use Rattle.std.proofs.lemmas.List.{length-map}
 use Rattle.std.proofs.lemmas.Result.{err_from_is_err_and}
 use Rattle.elf_model.proofs.FlatRelocations.{left_of_objects}
@@ -25,6 +27,16 @@ loop-k-init c =
 
 pub row_of-requires-clause-kinds : goal.row_of-requires-clause-kinds
 row_of-requires-clause-kinds c = subst AreLawfulKinds (sym c.requires.placed) c.requires.kinds
+
+pub row_of-requires-clause-chosen : goal.row_of-requires-clause-chosen
+row_of-requires-clause-chosen c =
+    subst (AreChosenValues c.args.resolved.now (where_in c.args.placement.now)) (sym c.deref.ensures.value) c.in_ok-chosen.ensures
+
+pub row_of-requires-clause-here : goal.row_of-requires-clause-here
+row_of-requires-clause-here c =
+    let d = c.index-objects-k.result in
+    subst (λ (os : List LoadedObject). slice_get os c.loop-k.k ≡ Some (loaded_view d)) (sym c.requires.resolved)
+    (next_there c.args.objects.now c.loop-k.k d c.loop-k-test.true c.index-objects-k.is)
 
 pub row_of-requires-clause-known : goal.row_of-requires-clause-known
 row_of-requires-clause-known c =
