@@ -34,13 +34,20 @@ LAYERS = {
         "Relocations and slots": "FlatRelocations KindWidths NoSlots OwnFields RelocationFields SameRequests Sectioned"
         " WrappedValues",
     },
+    "resolve": {
+        "Walks and lists": "Gathered Rests Searched SoundWalk Walks",
+        "Definitions and their places": "ChosenPlaces Definitions Located NamedNumbers NamedOnce Offers OwnerLaws"
+        " PlacesByNumber StrongOnes ThreadFlags",
+        "Common blocks and the linker's own names": "ArrayNames BlockNames LeftNames",
+        "Output sections": "GatheringNames Leaders NamedOutputs OutputKeys OutputSteps SectionWalks",
+    },
     "layout": {
-        "Pieces and their output sections": "Alignments ArraySteps GotPieces GroupSteps Keys Leading OrderSteps PartSteps"
+        "Pieces and their output sections": "Alignments ArraySteps GotPieces GroupSteps Leading OrderSteps PartSteps"
         " PieceEntries",
         "Addresses and segments": "EndSteps Entries LaidSteps OwnAddresses RunSteps",
         "Bounds": "ExtentSteps OtherPlaces OwnBounds",
         "Thread-local storage": "OwnThreads ThreadSteps",
-        "Kinds and mixed output sections": "KindLemmas MixedOutputs MixedSteps",
+        "Kinds and mixed output sections": "KindLemmas MixedOutputs",
     },
     "checker": {
         "Lists and numbers": "ArrayRanks Filtered Lines PartsOfLists Spelled",
