@@ -15,6 +15,7 @@ pub mod PartsOfLists
 pub mod PieceSections
 pub mod PlacedFacts
 pub mod Regions
+pub mod RunParts
 pub mod Runs
 pub mod SegmentsApart
 pub mod SlotCounts

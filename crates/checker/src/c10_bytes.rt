@@ -1,6 +1,6 @@
 //! C10: whether memory holds the wanted bytes of each piece.
-ghost use Rattle.std.specs.Prelude.{◌≡◌, ◌+◌, ◌≤◌, ◌<◌, ◌↔◌, ℕ, All, AllPairs, IsTrue, find, slice_index};
-ghost use Rattle.byteview.specs.Numbers.{le_bytes};
+ghost use Rattle.std.specs.Prelude.{◌≡◌, ◌+◌, ◌≤◌, ◌<◌, ◌↔◌, ℕ, All, AllPairs, IsTrue, find, slice_index, true};
+ghost use Rattle.byteview.specs.Numbers.{IsInside, le_bytes};
 ghost use Rattle.check_link.specs.Views.{placed_view, placed_views};
 ghost use Rattle.check_relocs.specs.Bytes.{AreRising, EndsBefore, FitsIn, HasFieldsInside, HoldsFields, LiesWhole, WantedFrom, byte_of, covers, fields_in};
 ghost use Rattle.elf_model.specs.RightLink.{Holds, HoldsBefore, objects_of, where_of};
@@ -8,6 +8,7 @@ ghost use Rattle.elf_model.specs.declared.verdict.Clause.TheVariants as clause;
 ghost use Rattle.check_relocs.specs.Fields.{AreRows};
 
 use crate::bound_link::BoundLink;
+use crate::same_runs::{has_word_value, same_inside};
 use crate::segments::{same_padded, sub_part};
 use check_link::{Placed, load_size};
 use check_relocs::{Field, fields_in};
@@ -28,13 +29,16 @@ fn same_between(a: &[u8], b: &[u8], from: u64, to: u64) -> bool
     ensures { IsTrue result ↔ ((k : ℕ) →
         from ≤ k → k < to → slice_index a.now k ≡ slice_index b.now k) }
 {
+    if to <= a.len() as u64 && to <= b.len() as u64 {
+        return same_inside(a, b, from as usize, to as usize);
+    }
     let start = from as usize;
     let len = (to - from) as usize;
     same_padded(sub_part(a, start, len), sub_part(b, start, len))
 }
 
-/// Whether a field has the bytes of its value, the least significant first.
-fn has_value_at(held: &[u8], field: &Field) -> bool
+/// Whether a field has the bytes of its value, spelled out.
+fn has_spelled_value(held: &[u8], field: &Field) -> bool
     requires { field.now.width ≤ 8 }
     ensures { IsTrue result ↔ ((j : ℕ) →
         j < field.now.width
@@ -45,6 +49,27 @@ fn has_value_at(held: &[u8], field: &Field) -> bool
     let width = field.width as usize;
     let (low, _high) = spelled.split_at(width);
     same_padded(sub_part(held, field.at as usize, width), low)
+}
+
+/// Whether a run has four bytes from a place on.
+fn has_four(held: &[u8], at: u64) -> bool
+    ensures { result ≡ true → IsInside held.now at 4 }
+{
+    held.len() >= 4 && at <= held.len() as u64 - 4
+}
+
+/// Whether a field has the bytes of its value, the least significant first.
+fn has_value_at(held: &[u8], field: &Field) -> bool
+    requires { field.now.width ≤ 8 }
+    ensures { IsTrue result ↔ ((j : ℕ) →
+        j < field.now.width
+        → slice_index held.now (field.now.at + j)
+        ≡ slice_index (le_bytes field.now.width field.now.value) j) }
+{
+    if field.width == 4 && has_four(held, field.at) {
+        return has_word_value(held, field.at as usize, field.value);
+    }
+    has_spelled_value(held, field)
 }
 
 /// Whether the bytes of a section of a size are the wanted ones: each field's value, and between the fields,

@@ -20,6 +20,7 @@ pub mod c14_tables;
 mod loaded_link;
 mod observer;
 mod placed_link;
+mod same_runs;
 pub mod segments;
 mod sorted_things;
 mod verdict;

@@ -3,7 +3,7 @@ use Rattle.byteview.proofs.NumberLaws.{length-le_bytes, low_first_is}
 use Rattle.byteview.specs.Numbers.{le_bytes}
 use Rattle.checker.proofs.Spelled.{take-little}
 use Rattle.checker.proofs.Sweeping.{value_parts}
-use Rattle.checker.proofs.c10_bytes.has_value_at.Goals as goal
+use Rattle.checker.proofs.c10_bytes.has_spelled_value.Goals as goal
 
 pub returns : goal.returns
 returns c =

@@ -1,0 +1,43 @@
+//! Runs of bytes compared in one go, where both have them.
+ghost use Rattle.std.specs.Prelude.{◌≡◌, ◌+◌, ◌≤◌, ◌<◌, ◌↔◌, ℕ, IsTrue, length, slice_index};
+ghost use Rattle.byteview.specs.Numbers.{IsInside, le_bytes, part};
+ghost use Rattle.byteview.proofs.NumberLaws.{AreBytes};
+
+use byteview::View;
+
+/// Whether two runs that reach to a byte are equal from another one on and below it.
+pub fn same_inside(a: &[u8], b: &[u8], from: usize, to: usize) -> bool
+    requires order { from ≤ to }
+    requires a { to ≤ length a.now }
+    requires b { to ≤ length b.now }
+    ensures { IsTrue result ↔ ((k : ℕ) →
+        from ≤ k → k < to → slice_index a.now k ≡ slice_index b.now k) }
+{
+    a[from..to] == b[from..to]
+}
+
+/// What a run has are bytes.
+fn are_bytes(bytes: &[u8])
+    ensures { AreBytes bytes.now }
+{}
+
+/// Whether four bytes of a run are the first four of another one.
+fn has_word(held: &[u8], at: usize, spelled: &[u8]) -> bool
+    requires held { IsInside held.now at 4 }
+    requires spelled { IsInside spelled.now 0 4 }
+    ensures { IsTrue result ↔ (part held.now at 4 ≡ part spelled.now 0 4) }
+{
+    are_bytes(held);
+    are_bytes(spelled);
+    View::new(held).u32_inside(at) == View::new(spelled).u32_inside(0)
+}
+
+/// Whether a run has the four bytes of a value at a place inside it, the least significant first.
+pub fn has_word_value(held: &[u8], at: usize, value: u64) -> bool
+    requires { IsInside held.now at 4 }
+    ensures { IsTrue result ↔ ((j : ℕ) →
+        j < 4 → slice_index held.now (at + j) ≡ slice_index (le_bytes 4 value) j) }
+{
+    let spelled = value.to_le_bytes();
+    has_word(held, at, &spelled)
+}
