@@ -3,13 +3,14 @@ ghost use Rattle.std.specs.Prelude.{◌≡◌, [], IfSome, Some, true, unwrap_or
 ghost use Rattle.std.specs.List.{slice_get};
 ghost use Rattle.elf_model.specs.ObjectFile.{relas_of, section_name, sections, symbol_name, symbols};
 ghost use Rattle.elf_model.specs.Relocation.{is_kept_rela, is_some_kind, relocation_of};
+ghost use Rattle.search.specs.KeptLists.{IsKeptRela};
 ghost use Rattle.search.specs.Views.{loaded_view};
 ghost use Rattle.explain.specs.Places.{IsFileOf, IsRelocationAt, IsTold};
 
 use crate::place::{ObjectPlace, RelocationPlace, SectionPlace, SymbolPlace};
 use elf_model::{Rela, SectionHeader, Symbol};
 use elf_read::ObjectFile;
-use search::{Loaded, LoadedObject};
+use search::{KeptRela, Loaded, LoadedObject};
 
 /// Where a loaded object is.
 fn file_of<'a>(loaded: &LoadedObject<'a>) -> ObjectPlace<'a>
@@ -118,6 +119,16 @@ pub fn header_at(one: &LoadedObject<'_>, i: usize) -> Option<SectionHeader>
     ensures { IfSome result (λ h. slice_get (sections (loaded_view one.now).bytes) i ≡ Some h) }
 {
     one.object.sections().get(i)
+}
+
+/// The header of a kept RELA section of an object.
+pub fn rela_header(one: &LoadedObject<'_>, rela: KeptRela) -> SectionHeader
+    requires { IsKeptRela (loaded_view one.now) rela }
+    ensures there { slice_get (sections (loaded_view one.now).bytes) rela.number ≡ Some result }
+    ensures kept { is_kept_rela (loaded_view one.now) rela.number result ≡ true }
+    ensures rela { result.sh_type ≡ 4 }
+{
+    one.object.section(rela.number as usize)
 }
 
 /// The entry of symbol `j` of an object.

@@ -4,17 +4,18 @@ ghost use Rattle.std.specs.List.{slice_get};
 ghost use Rattle.elf_model.specs.ObjectFile.{sections};
 ghost use Rattle.elf_model.specs.Relocation.{is_kept_rela};
 ghost use Rattle.layout.specs.Mixed.{AreMixed};
+ghost use Rattle.search.specs.KeptLists.{IsKeptRela};
 ghost use Rattle.relocate.specs.SymbolTables.{IsReferrer, all_of, referring};
 ghost use Rattle.explain.specs.Places.{AreSo, HoldsIn};
 
 use crate::found::Found;
-use crate::objects::{entry_at, header_at, object_at, relocation_place};
+use crate::objects::{entry_at, object_at, rela_header, relocation_place};
 use crate::place::Place;
 use elf_model::SectionHeader;
 use layout::mixed_names;
 use relocate::{Referrer, is_some_kind, lawful_kind};
 use resolve::Resolved;
-use search::Loaded;
+use search::{KeptRela, Loaded};
 use std::alloc::{AllocError, Global};
 use std::collections::BTreeSet;
 
@@ -46,25 +47,22 @@ fn unlawful_entry<'a>(
     Some(Place::Relocation(place, fault))
 }
 
-/// Adds the entries of section `i` that aren't lawful, where that holds kept relocations.
+/// Adds the entries of a kept RELA section that aren't lawful.
 fn add_entries<'a>(
     found: &mut Found<'a>,
     loaded: &Loaded<'a>,
     referrer: &Referrer<'_, '_, 'a>,
-    i: usize,
+    rela: KeptRela,
 ) -> Result<(), AllocError>
     requires known { IsReferrer referrer.now }
     requires same { all_of referrer.now ≡ loaded.now.objects }
+    requires kept { IsKeptRela (referring referrer.now) rela }
     requires before { AreSo loaded.now found.old.places.items }
     ensures { OnOk result (AreSo loaded.now found.new.places.items) }
 {
-    let Some(header) = header_at(referrer.loaded, i) else {
-        return Ok(());
-    };
-    if !referrer.loaded.is_kept_rela(i, &header) {
-        return Ok(());
-    }
-    let count = referrer.loaded.entries_of(i, &header).len();
+    let header = rela_header(referrer.loaded, rela);
+    let i = rela.number as usize;
+    let count = referrer.loaded.kept_entries(rela).len();
     for e in 0..count {
         found.add_some(unlawful_entry(loaded, referrer, i, &header, e))?;
     }
@@ -82,8 +80,9 @@ fn add_object<'a>(
     requires before { AreSo loaded.now found.old.places.items }
     ensures { OnOk result (AreSo loaded.now found.new.places.items) }
 {
-    for i in 0..referrer.loaded.object.sections().len() {
-        add_entries(found, loaded, referrer, i)?;
+    let relas = referrer.loaded.kept_relas();
+    for rela in relas {
+        add_entries(found, loaded, referrer, *rela)?;
     }
     Ok(())
 }

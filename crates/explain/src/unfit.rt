@@ -5,12 +5,13 @@ ghost use Rattle.elf_model.specs.ObjectFile.{sections};
 ghost use Rattle.elf_model.specs.Pieces.{AreLawfulKinds};
 ghost use Rattle.elf_model.specs.Relocation.{is_kept_rela};
 ghost use Rattle.elf_model.specs.Slots as wanted;
+ghost use Rattle.search.specs.KeptLists.{IsKeptRela};
 ghost use Rattle.relocate.specs.SymbolTables.{IsValued, all_valued, valued_object};
 ghost use Rattle.relocate.specs.Values.{pointer_in, where_in};
 ghost use Rattle.explain.specs.Places.{AreSo, HoldsIn, basis_of};
 
 use crate::found::Found;
-use crate::objects::{entry_at, header_at, kept_place, object_at};
+use crate::objects::{entry_at, kept_place, object_at, rela_header};
 use crate::place::Place;
 use elf_model::SectionHeader;
 use got_tls::Slots;
@@ -19,7 +20,7 @@ use relocate::{
     Kind, Valued, address_or_none, fitting_value, is_some_kind, pointer_of, wanted_value,
 };
 use resolve::Resolved;
-use search::Loaded;
+use search::{KeptRela, Loaded};
 use std::alloc::{AllocError, Global};
 
 /// Entry `e` of RELA section `i`, which has the header, where its value doesn't fit.
@@ -54,26 +55,23 @@ fn unfit_entry<'a>(
     Some(Place::Value(place, value, address))
 }
 
-/// Adds the entries of section `i` whose values don't fit, where that holds kept relocations.
+/// Adds the entries of a kept RELA section whose values don't fit.
 fn add_entries<'a>(
     found: &mut Found<'a>,
     loaded: &Loaded<'a>,
     valued: &Valued<'_, 'a>,
-    i: usize,
+    rela: KeptRela,
 ) -> Result<(), AllocError>
     requires known { IsValued valued.now }
     requires same { all_valued valued.now ≡ loaded.now.objects }
     requires placed { valued.now.placement.now ≡ basis_of loaded.now }
+    requires kept { IsKeptRela (valued_object valued.now) rela }
     requires before { AreSo loaded.now found.old.places.items }
     ensures { OnOk result (AreSo loaded.now found.new.places.items) }
 {
-    let Some(header) = header_at(valued.loaded, i) else {
-        return Ok(());
-    };
-    if !valued.loaded.is_kept_rela(i, &header) {
-        return Ok(());
-    }
-    let count = valued.loaded.entries_of(i, &header).len();
+    let header = rela_header(valued.loaded, rela);
+    let i = rela.number as usize;
+    let count = valued.loaded.kept_entries(rela).len();
     for e in 0..count {
         found.add_some(unfit_entry(loaded, valued, i, &header, e))?;
     }
@@ -92,8 +90,9 @@ fn add_object<'a>(
     requires before { AreSo loaded.now found.old.places.items }
     ensures { OnOk result (AreSo loaded.now found.new.places.items) }
 {
-    for i in 0..valued.loaded.object.sections().len() {
-        add_entries(found, loaded, valued, i)?;
+    let relas = valued.loaded.kept_relas();
+    for rela in relas {
+        add_entries(found, loaded, valued, *rela)?;
     }
     Ok(())
 }
