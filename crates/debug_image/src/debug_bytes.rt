@@ -7,7 +7,6 @@ ghost use Rattle.layout.specs.PlaceViews.{place_view};
 ghost use Rattle.search.specs.Views.{loaded_view};
 ghost use Rattle.debug_image.specs.DebugLayouts.{IsDataLayout, IsHere, data_in, object_here, placed_here};
 ghost use Rattle.debug_image.specs.DebugValues as spec;
-ghost use Rattle.debug_image.specs.DebugValues as values;
 ghost use Rattle.debug_image.specs.DebugViews.{chunk_view, field_view};
 
 use crate::chunks::Chunk;
@@ -31,7 +30,7 @@ pub struct ChunkBytes {
 
 /// Whether an entry relocates, and has no field.
 fn is_left(entry: &Rela, field: &Option<Field>) -> bool
-    ensures { (f : Option values.Field) → option_map field_view field.now ≡ f
+    ensures { (f : Option spec.Field) → option_map field_view field.now ≡ f
         → result ≡ (is_some_kind entry.now && is_none f) }
 {
     match field {

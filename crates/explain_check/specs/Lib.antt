@@ -3,6 +3,7 @@ pub mod FillPlaces
 pub mod GotPlaces
 pub mod LinePlaces
 pub mod MemoryPlaces
+pub mod Overlaps
 pub mod Parts
 pub mod PlacementPlaces
 pub mod Places

@@ -6,5 +6,5 @@ use Rattle.explain_check.proofs.memory.added.add_memory.Goals as goal
 
 pub returns-in-Some : goal.returns-in-Some
 returns-in-Some c =
-    c.add.ensures c.args.bound.now c.requires.before
+    c.add.ensures.fails c.args.bound.now c.requires.before
     (subst (λ (x : Option MemoryPlace). IfSome x (λ p. FailsIn c.args.bound.now (place.Memory p))) c.in-Some.is c.requires.place)

@@ -1,11 +1,4 @@
-use Rattle.std.proofs.Common.{All, subst, sym}
-use Rattle.std.proofs.lemmas.List.Sorted.{All-permutation}
-use Rattle.elf_model.specs.RightLink.{objects_of}
-use Rattle.explain_check.specs.Overlaps.{IsField}
 use Rattle.explain_check.proofs.memory.overlaps.add_overlaps.Goals as goal
 
 pub add_neighbours-requires-clause-fields : goal.add_neighbours-requires-clause-fields
-add_neighbours-requires-clause-fields c =
-    let P = IsField (objects_of c.args.bound.now) in
-    subst (All P) (sym c.deref.ensures.value)
-    (All-permutation P c.in_ok-fields.fields.items c.in_ok-ordered.ordered.items c.in_ok-ordered.ensures c.in_ok-fields.ensures)
+add_neighbours-requires-clause-fields c = ?
