@@ -188,6 +188,22 @@ fn is_of(error: &LinkError, clause: Clause) -> bool {
     }
 }
 
+/// The lines that explain an error of a link, where by it a clause fails of each image and map; else none.
+fn error_reasons(
+    alloc: Global,
+    files: &[InputFile],
+    words: &[String],
+    error: &LinkError,
+    clause: Clause,
+) -> io::Result<Vec<u8>>
+    requires { Cause (files_of files.now) (words_of words.now) error.now }
+{
+    if is_of(error, clause) {
+        return reasons(alloc, files, words, error);
+    }
+    Ok(Vec::new(alloc))
+}
+
 /// The lines that explain why a clause fails of each image and map of files and words, or none.
 fn input_reasons(
     alloc: Global,
@@ -196,8 +212,8 @@ fn input_reasons(
     clause: Clause,
 ) -> io::Result<Vec<u8>> {
     match prepare(alloc, files, words) {
-        Err(error) if is_of(&error, clause) => reasons(alloc, files, words, &error),
-        _ => Ok(Vec::new(alloc)),
+        Ok(_) => Ok(Vec::new(alloc)),
+        Err(error) => error_reasons(alloc, files, words, &error, clause),
     }
 }
 
