@@ -1,13 +1,10 @@
 -- The kept sections of objects, one after the other.
-use Rattle.std.proofs.Common.{◌≡◌, ℕ, Bool, true, false, cond, List, [], ◌∷◌, ◌++◌, ◌+◌, ◌<◌, ◌≤◌, length, get_or, drop, refl, sym, ◌∙◌, ap, subst}
+use Rattle.std.proofs.Common.{◌≡◌, ℕ, List, [], ◌++◌, ◌+◌, ◌<◌, ◌≤◌, length, get_or, drop, sym, ◌∙◌, ap, subst}
 use Rattle.std.proofs.lemmas.List.{append-nil, append_assoc, at_drop_all, at_drop_more}
-use Rattle.elf_model.specs.Loading.{LoadedObject}
 use Rattle.elf_model.specs.ObjectFile.{sections}
-use Rattle.elf_model.specs.Pieces.{Piece, is_kept, piece_of, pieces_from, pieces_of}
-use Rattle.elf_model.specs.declared.records.SectionHeader.{SectionHeader}
+use Rattle.elf_model.specs.Pieces.{Piece, pieces_from, pieces_of}
 use Rattle.search.specs.Views.{loaded_view, loaded_views}
 use Rattle.search.specs.declared.loaded.LoadedObject as code
-use Rattle.resolve.specs.OutputSections.{kept_one}
 
 -- sections looked at one after the other: what holds of those that were seen, and those that are left
 pub record Walks (Holds : List Piece → Type 0) (rest whole : List Piece) : Type 0 where
@@ -27,24 +24,6 @@ walk_more P Q here rest more whole split step w = record {
 pub walk_end : (P : List Piece → Type 0) (rest whole : List Piece) → rest ≡ [] → Walks P rest whole → P whole
 walk_end P rest whole none w =
     subst P (sym (append-nil w.seen) ∙ ap (λ (ps : List Piece). w.seen ++ ps) (sym none) ∙ w.is) w.holds
-
-pub next_section :
-    (number : ℕ) (o : LoadedObject) (hs : List SectionHeader) (i : ℕ) (d : SectionHeader) → i < length hs →
-    pieces_from number o i (drop i hs) ≡ kept_one number o i (get_or hs i d) ++ pieces_from number o (i + 1) (drop (i + 1) hs)
-next_section number o hs i d within = at_drop_more (pieces_from number o i) hs i d within ∙ by (is_kept o i h)
-  where
-    h : SectionHeader
-    h = get_or hs i d
-
-    rest : List Piece
-    rest = pieces_from number o (i + 1) (drop (i + 1) hs)
-
-    by : (b : Bool) → cond b (piece_of number o.bytes i h ∷ rest) rest ≡ cond b (piece_of number o.bytes i h ∷ []) [] ++ rest
-    by true = refl
-    by false = refl
-
-pub no_section : (number : ℕ) (o : LoadedObject) (hs : List SectionHeader) (i : ℕ) → length hs ≤ i → pieces_from number o i (drop i hs) ≡ []
-no_section number o hs i behind = at_drop_all (pieces_from number o i) hs i behind
 
 pub next_object :
     (objects : List code.LoadedObject) (k : ℕ) (d : code.LoadedObject) → k < length objects → d ≡ get_or objects k d →

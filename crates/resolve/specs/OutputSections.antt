@@ -1,11 +1,10 @@
 -- Output sections of kept sections as they are numbered.
-use Rattle.std.specs.Prelude.{◌≡◌, ℕ, Bool, cond, List, [], ◌∷◌, Option, Some, map, option_map}
+use Rattle.std.specs.Prelude.{◌≡◌, ℕ, Bool, List, Option, Some, map, option_map}
 use Rattle.std.specs.List.{slice_get}
 use Rattle.std.specs.Str.{bytes_eq}
 use Rattle.elf_model.specs.Loading.{LoadedObject}
 use Rattle.elf_model.specs.OwnLayout.{leaders}
-use Rattle.elf_model.specs.Pieces.{Piece, is_executable, is_kept, is_nobits, is_thread_local, is_writable, kept_sections, output_name, piece_of}
-use Rattle.elf_model.specs.declared.records.SectionHeader.{SectionHeader}
+use Rattle.elf_model.specs.Pieces.{Piece, is_executable, is_nobits, is_thread_local, is_writable, kept_sections, output_name}
 use Rattle.resolve.specs.declared.output_sections.OutputSection.{OutputSection}
 use Rattle.resolve.specs.declared.output_sections.OutputSections.{OutputSections}
 
@@ -38,10 +37,6 @@ output_view o = record {
 -- an output section has a name
 abbrev pub is_named : List ℕ → OutputSection → Bool
 is_named n o = bytes_eq o.name.0.now n
-
--- a section of an object as a piece, where it is kept
-abbrev pub kept_one : ℕ → LoadedObject → ℕ → SectionHeader → List Piece
-kept_one number o i h = cond (is_kept o i h) (piece_of number o.bytes i h ∷ []) []
 
 -- the output section that has a number
 abbrev pub output_at : List OutputSection → ℕ → Option Output

@@ -5,7 +5,8 @@ ghost use Rattle.elf_model.specs.ObjectFile.{section_name, sections};
 ghost use Rattle.elf_model.specs.Pieces as pieces;
 ghost use Rattle.elf_model.specs.Pieces.{Piece};
 ghost use Rattle.search.specs.Views.{loaded_view, loaded_views};
-ghost use Rattle.resolve.specs.OutputSections.{AreOutputSections, AreOutputsOf, kept_one, output_of, output_view};
+ghost use Rattle.search.specs.KeptLists.{piece_at};
+ghost use Rattle.resolve.specs.OutputSections.{AreOutputSections, AreOutputsOf, output_of, output_view};
 
 use crate::output_names::output_name;
 use elf_model::{Name, NameSeed, SectionHeader};
@@ -72,26 +73,26 @@ fn add_output<'a>(
     Ok(())
 }
 
-/// Puts the number of the output section of section `i` of object `number`, which has the header, behind the numbers, where
-/// it is kept.
+/// Puts the number of the output section of section `i` of object `number` behind the numbers.
 fn add_section<'a>(
     index: &mut IndexSet<OutputSection<'a>, NameSeed>,
     numbers: &mut Vec<usize>,
     number: usize,
     loaded: &LoadedObject<'a>,
     i: usize,
-    header: &SectionHeader,
 ) -> Result<(), AllocError>
     ensures { OnOk result ((done : List Piece) →
         AreOutputsOf done index.old.keys numbers.old.items
-        → AreOutputsOf (done ++ kept_one number (loaded_view loaded.now) i header.now)
+        → AreOutputsOf (done ++ piece_at number (loaded_view loaded.now) i ∷ [])
         index.new.keys numbers.new.items) }
 {
     let _number = number;
-    if !loaded.is_kept(i, header) {
-        return Ok(());
-    }
-    add_output(index, numbers, output_section_of(&loaded.object, i, header))
+    let header = loaded.object.section(i);
+    add_output(
+        index,
+        numbers,
+        output_section_of(&loaded.object, i, &header),
+    )
 }
 
 /// Puts the numbers of the output sections of the kept sections of object `number` behind the numbers.
@@ -107,10 +108,9 @@ fn add_object<'a>(
         (done ++ pieces.pieces_from number (loaded_view loaded.now) 0 (sections loaded.now.object))
         index.new.keys numbers.new.items) }
 {
-    let headers = loaded.object.sections();
-    for i in 0..headers.len() {
-        let header = headers.at(i);
-        add_section(index, numbers, number, loaded, i, &header)?;
+    let sections = loaded.kept_sections();
+    for section in sections {
+        add_section(index, numbers, number, loaded, *section as usize)?;
     }
     Ok(())
 }
