@@ -42,7 +42,7 @@ LAYERS = {
         "Output sections": "GatheringNames Leaders NamedOutputs OutputKeys OutputSteps SectionWalks",
     },
     "layout": {
-        "Pieces and their output sections": "Alignments ArraySteps GotPieces GroupSteps Leading OrderSteps PartSteps"
+        "Pieces and their output sections": "Alignments ArrayNames ArraySteps GotPieces GroupSteps Leading OrderSteps PartSteps"
         " PieceEntries",
         "Addresses and segments": "EndSteps Entries LaidSteps OwnAddresses RunSteps",
         "Bounds": "ExtentSteps OtherPlaces OwnBounds",

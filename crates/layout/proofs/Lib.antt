@@ -1,4 +1,5 @@
 pub mod Alignments
+pub mod ArrayNames
 pub mod ArraySteps
 pub mod EndSteps
 pub mod ExtentSteps

@@ -8,6 +8,7 @@ ghost use Rattle.layout.specs.Arrays.{has_number};
 ghost use Rattle.layout.specs.Views.{borrowed_views, piece_view};
 
 use crate::pieces::Piece;
+use resolve::second_byte;
 use std::alloc::{AllocError, Global};
 
 /// The rank of sections without a number: above all numbers of five digits.
@@ -46,11 +47,23 @@ fn is_short_number(bytes: &[u8]) -> bool
     are_digits(bytes)
 }
 
+/// Whether a name begins as those of numbered sections do. The second byte tells most names apart.
+#[tactic(auto, using(crate::proofs::ArrayNames::no_prefix))]
+fn is_array_prefixed(name: &[u8]) -> bool
+    ensures { result ≡ order.is_array_prefixed name.now }
+{
+    let letter = second_byte(name);
+    if letter != b'i' && letter != b'f' {
+        return false;
+    }
+    name.starts_with(b".init_array.") || name.starts_with(b".fini_array.")
+}
+
 /// Whether a section is a numbered one of an array of functions by its name.
 fn is_numbered(name: &[u8]) -> bool
     ensures { result ≡ order.is_numbered name.now }
 {
-    if !name.starts_with(b".init_array.") && !name.starts_with(b".fini_array.") {
+    if !is_array_prefixed(name) {
         return false;
     }
     is_short_number(behind_prefix(name))

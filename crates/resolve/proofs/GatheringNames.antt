@@ -10,7 +10,7 @@ and_false : (b : Bool) → (b && false) ≡ false
 and_false true = refl
 and_false false = refl
 
-begins_otherwise : (name dotted : List ℕ) → 2 ≤ length dotted → slice_index name 1 ≢ slice_index dotted 1 → starts_with nat_eq name dotted ≡ false
+pub begins_otherwise : (name dotted : List ℕ) → 2 ≤ length dotted → slice_index name 1 ≢ slice_index dotted 1 → starts_with nat_eq name dotted ≡ false
 begins_otherwise name [] long differ = absurd (omega (arith, long))
 begins_otherwise name (d ∷ []) long differ = absurd (omega (arith, long))
 begins_otherwise [] (d ∷ e ∷ ds) long differ = refl

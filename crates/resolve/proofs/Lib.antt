@@ -1,6 +1,6 @@
 pub mod Definitions
 pub mod Gathered
-mod GatheringNames
+pub mod GatheringNames
 mod LeftNames
 pub mod Located
 pub mod NamedNumbers

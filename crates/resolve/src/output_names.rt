@@ -5,7 +5,7 @@ ghost use Rattle.std.specs.Str.{bytes_eq};
 ghost use Rattle.elf_model.specs.Pieces as pieces;
 
 /// The second byte of a name; 0 where it has none.
-fn second(name: &[u8]) -> u8
+pub fn second_byte(name: &[u8]) -> u8
     ensures { result ≡ slice_index name.now 1 }
 {
     match name.get(1) {
@@ -22,7 +22,7 @@ fn is_either(name: &[u8], gathering: &[u8], with_dot: &[u8]) -> bool
     ensures { result ≡ (bytes_eq name.now gathering.now
         || starts_with nat_eq name.now with_dot.now) }
 {
-    if second(name) != second(gathering) {
+    if second_byte(name) != second_byte(gathering) {
         return false;
     }
     name == gathering || name.starts_with(with_dot)
