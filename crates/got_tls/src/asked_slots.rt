@@ -2,13 +2,16 @@
 ghost use Rattle.std.specs.Prelude.{◌≡◌, IfOk, OnOk, Some, filter, map};
 ghost use Rattle.std.specs.List.{slice_get};
 ghost use Rattle.elf_model.specs.Relocation.{is_some_kind, relocation_of, relocations, relocations_from};
+ghost use Rattle.elf_model.specs.Slots.{same_request};
+ghost use Rattle.indexmap.specs.IndexSet.{insert_key};
 ghost use Rattle.search.specs.KeptLists.{IsKeptRela, relocations_by};
 ghost use Rattle.search.specs.Views.{loaded_view, loaded_views};
 ghost use Rattle.got_tls.specs.Askers.{IsAsker, all_asked, asking};
 ghost use Rattle.got_tls.specs.Asking.{nothing, with_relocation, with_relocations};
-ghost use Rattle.got_tls.specs.Views.{wants};
+ghost use Rattle.got_tls.specs.Views.{slot_view, slot_views, wants};
 
 use crate::requests::{Asker, slot_of};
+use crate::slot_places::{name_number, note_place, place_told};
 use crate::slot_table::Slot;
 use elf_model::{NameSeed, Rela};
 use elf_read::RelaRun;
@@ -17,11 +20,13 @@ use resolve::Resolved;
 use search::{KeptRela, LoadedObject};
 use std::alloc::{AllocError, Global};
 
-/// What was asked for: whether a GOT, and its slots in the order of first request.
+/// What was asked for: whether a GOT, and its slots in the order of first request; and where some of these stand, by the
+/// numbers of their names.
 #[derive(Drop)]
 pub struct Asked<'a> {
     pub got: bool,
     pub slots: IndexSet<Slot<'a>, NameSeed>,
+    pub places: Vec<usize>,
 }
 
 impl<'a> Asked<'a> {
@@ -32,8 +37,23 @@ impl<'a> Asked<'a> {
         Asked {
             got: false,
             slots: IndexSet::with_hasher(alloc, seed),
+            places: Vec::new(alloc),
         }
     }
+}
+
+/// Takes in a slot, of a name that has this number.
+fn add_slot<'a>(asked: &mut Asked<'a>, number: usize, slot: Slot<'a>) -> Result<(), AllocError>
+    ensures got { asked.new.got ≡ asked.old.got }
+    ensures slots { OnOk result (slot_views asked.new.slots.keys
+        ≡ insert_key same_request (slot_views asked.old.slots.keys) (slot_view slot.entry)) }
+{
+    if let Some(_place) = place_told(&asked.slots, &asked.places, number, slot) {
+        return Ok(());
+    }
+    let (place, _is_new) = asked.slots.insert_full(slot)?;
+    note_place(&mut asked.places, number, place)?;
+    Ok(())
 }
 
 /// Takes in what an entry asks for, which relocates the section `target`.
@@ -50,7 +70,11 @@ pub fn add_entry<'a>(
 {
     asked.got = asked.got || asker.asks_for_got(target, entry);
     if let Some(slot) = slot_of(asker.number, asker.loaded, entry) {
-        asked.slots.insert(slot)?;
+        add_slot(
+            asked,
+            name_number(asker.loaded, entry.symbol() as usize),
+            slot,
+        )?;
     }
     Ok(())
 }

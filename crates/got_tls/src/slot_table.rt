@@ -6,6 +6,7 @@ ghost use Rattle.got_tls.specs.Asking.{offset_of};
 ghost use Rattle.got_tls.specs.Views.{kind_view, owner_view, slot_view, slot_views};
 
 use crate::asked_slots::Asked;
+use crate::slot_places::place_told;
 use elf_model::{Name, NameSeed, ObjectId, SlotKind, SymbolRef, Target};
 use indexmap::IndexSet;
 use layout::GotSize;
@@ -87,11 +88,12 @@ impl<'a> Slot<'a> {
 }
 
 /// The GOT: its size in bytes, 0 where there is none, and its slots of 8 bytes each, in the order in which
-/// they stand behind its first word.
+/// they stand behind its first word; and where some of these stand, by the numbers of their names.
 #[derive(Debug, Drop)]
 pub struct Slots<'a> {
     got: u64,
     slots: IndexSet<Slot<'a>, NameSeed>,
+    places: Vec<usize>,
 }
 
 impl<'a> Model for Slots<'a> {
@@ -134,6 +136,7 @@ impl<'a> Slots<'a> {
         Ok(Slots {
             got,
             slots: asked.slots,
+            places: asked.places,
         })
     }
 
@@ -149,6 +152,16 @@ impl<'a> Slots<'a> {
         ensures { slot_views result.now ≡ self.now.slots }
     {
         self.slots.as_slice()
+    }
+
+    /// As `offset`, for a slot of a name that has this number: it mostly is found without its hash.
+    pub fn offset_by(&self, number: usize, slot: Slot<'a>) -> u64
+        ensures { result ≡ offset_of self.now.slots (slot_view slot.entry) % 2 ^ 64 }
+    {
+        match place_told(&self.slots, &self.places, number, slot) {
+            Some(i) => (i as u64).wrapping_mul(8).wrapping_add(8),
+            None => self.offset(slot),
+        }
     }
 
     /// How far behind the GOT's beginning a slot stands, modulo 2 to the 64; 0 where there is no such slot.
