@@ -15,6 +15,20 @@ fn greatest(bytes: &[u8]) -> u8
     most
 }
 
+/// How many of the first bytes mostly tell that some bytes aren't zeros.
+const HEAD: usize = 64;
+
+/// Whether some bytes are zeros. The first ones mostly tell that they aren't.
+fn are_zeros(bytes: &[u8]) -> bool
+    ensures { result ≡ true → bytes.now ≡ replicate (length bytes.now) 0 }
+{
+    let (head, _) = bytes.split_at(HEAD.min(bytes.len()));
+    if greatest(head) != 0 {
+        return false;
+    }
+    greatest(bytes) == 0
+}
+
 /// Whether bytes begin with a page of zeros.
 fn begins_with_zeros(bytes: &[u8]) -> bool
     ensures within { result ≡ true → PAGE ≤ length bytes.now }
@@ -24,7 +38,7 @@ fn begins_with_zeros(bytes: &[u8]) -> bool
         return false;
     }
     let (page, _) = bytes.split_at(PAGE);
-    greatest(page) == 0
+    are_zeros(page)
 }
 
 /// How many of the first bytes are whole pages of zeros.
