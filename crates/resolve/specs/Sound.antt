@@ -2,7 +2,7 @@
 use Rattle.std.specs.Prelude.{ℕ, List, Option, None, All, cond}
 use Rattle.std.specs.List.{slice_get}
 use Rattle.elf_model.specs.Loading.{LoadedObject}
-use Rattle.elf_model.specs.Resolution.{AreSoundCommons, AreSoundSymbols, IsSoundCommon, IsSoundSymbol, SymbolOf, all_symbols, is_undefined, sections_of_object}
+use Rattle.elf_model.specs.Resolution.{IsSoundCommon, IsSoundSymbol, SymbolOf, all_symbols, is_undefined, sections_of_object}
 use Rattle.elf_model.specs.declared.records.SectionHeader.{SectionHeader}
 use Rattle.elf_model.specs.declared.records.Symbol.{Symbol}
 
@@ -16,8 +16,3 @@ IsWhollySound objects s = IsSoundSymbol objects s × IsSoundCommon s
 
 abbrev pub AreWhollySound : List LoadedObject → Type 0
 AreWhollySound objects = All (IsWhollySound objects) (all_symbols objects)
-
--- the symbols of objects are sound
-pub record HasOnlySound (objects : List LoadedObject) : Type 0 where
-  pub commons : AreSoundCommons objects
-  pub sound : AreSoundSymbols objects

@@ -10,7 +10,7 @@ ghost use Rattle.search.specs.Views.{loaded_view, loaded_views};
 ghost use Rattle.resolve.specs.Blocks.{block_views};
 ghost use Rattle.resolve.specs.Defined.{AreDefinitions};
 ghost use Rattle.resolve.specs.Refusals.{IsDuplicateOf, ResolvingFails};
-ghost use Rattle.resolve.specs.Sound.{HasOnlySound};
+ghost use Rattle.resolve.specs.Sound.{AreWhollySound};
 ghost use Rattle.resolve.specs.Views.{symbol_view, symbol_views};
 ghost use Rattle.symbols.specs.Rows.{no_rows};
 
@@ -19,7 +19,7 @@ use crate::candidates::{first_twin, keep_meant, offer_commons};
 use crate::entries::{SymbolOf, is_definition, is_dropped};
 use crate::faults::ResolveFault;
 use crate::owners::owners_of;
-use crate::soundness::{are_sound, are_sound_commons, are_wholly_sound};
+use crate::soundness::{are_sound_commons, has_wholly_sound};
 use elf_model::{ObjectId, Symbol, SymbolRef};
 use search::{Loaded, LoadedObject};
 use std::alloc::{AllocError, Global};
@@ -87,33 +87,36 @@ fn add_definitions<'a>(
     Ok(())
 }
 
-/// The definitions of all objects, strong, common and weak, in load order. There is room for one of each name.
-pub fn definitions<'a>(alloc: Global, loaded: &Loaded<'a>) -> Result<Vec<SymbolOf<'a>>, AllocError>
-    ensures { IfOk result (λ v. symbol_views v.items ≡ definitions loaded.now.objects) }
+/// The definitions of all objects, strong, common and weak, in load order; symbols are judged object by object before. There
+/// is room for one of each name.
+fn sound_definitions<'a>(
+    alloc: Global,
+    loaded: &Loaded<'a>,
+) -> Result<Vec<SymbolOf<'a>>, ResolveFault>
+    ensures exact { IfOk result (λ v. symbol_views v.items ≡ definitions loaded.now.objects) }
+    ensures sound { OnOk result (AreWhollySound loaded.now.objects) }
+    ensures fault { IfErr result (ResolvingFails loaded.now.objects) }
 {
     let objects = loaded.objects();
     let mut found = Vec::with_capacity(alloc, loaded.name_count())?;
     for (k, own) in objects.iter().enumerate() {
+        if !has_wholly_sound(objects, k as u64, own) {
+            return Err(unsound(objects));
+        }
         add_definitions(&mut found, loaded, k as u64, own)?;
     }
     Ok(found)
 }
 
-/// Judges the symbols of objects in one walk. Only where one isn't sound it is asked whether that is a common one.
-fn judge_symbols(objects: &[LoadedObject<'_>]) -> Result<(), ResolveFault>
-    ensures sound { OnOk result (HasOnlySound (loaded_views objects.now)) }
-    ensures fault { IfErr result (ResolvingFails (loaded_views objects.now)) }
+/// The fault of objects of which a symbol isn't sound: whether that is a common one.
+fn unsound(objects: &[LoadedObject<'_>]) -> ResolveFault
+    requires { ¬ AreWhollySound (loaded_views objects.now) }
+    ensures { ResolvingFails (loaded_views objects.now) result }
 {
-    if are_wholly_sound(objects) {
-        return Ok(());
-    }
     if !are_sound_commons(objects) {
-        return Err(ResolveFault::BadCommon);
+        return ResolveFault::BadCommon;
     }
-    if !are_sound(objects) {
-        return Err(ResolveFault::BadSymbol);
-    }
-    Ok(())
+    ResolveFault::BadSymbol
 }
 
 /// The refusal for a name with two strong definitions.
@@ -147,8 +150,7 @@ pub fn define<'a, T: NameTable<'a>>(
     ensures fault { IfErr result (ResolvingFails loaded.now.objects) }
 {
     let objects = loaded.objects();
-    judge_symbols(objects)?;
-    let mut found = definitions(alloc, loaded)?;
+    let mut found = sound_definitions(alloc, loaded)?;
     let owners = owners_of(alloc, loaded, &found)?;
     if let Some(name) = first_twin(loaded, &owners, &found) {
         return Err(duplicate(alloc, name));

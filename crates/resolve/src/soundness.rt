@@ -2,9 +2,9 @@
 ghost use Rattle.std.specs.Prelude.{◌≤◌, ◌^◌, ◌↔◌, All, IsTrue};
 ghost use Rattle.std.specs.Int.{IsPowerOfTwo};
 ghost use Rattle.elf_model.specs.ObjectFile.{symbols};
-ghost use Rattle.elf_model.specs.Resolution.{AreSoundCommons, AreSoundSymbols, IsSoundCommon, IsSoundSymbol, StandsWell, binding, symbol_of, symbols_from};
+ghost use Rattle.elf_model.specs.Resolution.{AreSoundCommons, IsSoundCommon, IsSoundSymbol, StandsWell, binding, symbol_of, symbols_from};
 ghost use Rattle.search.specs.Views.{loaded_view, loaded_views};
-ghost use Rattle.resolve.specs.Sound.{AreWhollySound, IsWhollySound};
+ghost use Rattle.resolve.specs.Sound.{IsWhollySound};
 
 use crate::entries::is_dropped;
 use crate::sections::section_of;
@@ -51,33 +51,6 @@ pub fn is_sound(
         Some(section) => stands_well(entry, &section),
         None => true,
     }
-}
-
-/// Whether the symbols of object `number` are sound among the objects.
-fn has_sound_symbols(objects: &[LoadedObject<'_>], number: u64, loaded: &LoadedObject<'_>) -> bool
-    ensures { IsTrue result ↔ All (IsSoundSymbol (loaded_views objects.now))
-        (symbols_from number (loaded_view loaded.now) 0 (symbols loaded.now.object)) }
-{
-    let entries = loaded.object.symbols();
-    for j in 0..entries.len() {
-        let entry = entries.at(j);
-        if !is_sound(objects, number, loaded, j, &entry) {
-            return false;
-        }
-    }
-    true
-}
-
-/// Whether all symbols of the objects are sound.
-pub fn are_sound(objects: &[LoadedObject<'_>]) -> bool
-    ensures { IsTrue result ↔ AreSoundSymbols (loaded_views objects.now) }
-{
-    for (k, loaded) in objects.iter().enumerate() {
-        if !has_sound_symbols(objects, k as u64, loaded) {
-            return false;
-        }
-    }
-    true
 }
 
 /// The greatest alignment of a common symbol, in bytes.
@@ -147,7 +120,11 @@ fn is_wholly_sound(
 }
 
 /// Whether the symbols of object `number` are sound, its common ones too.
-fn has_wholly_sound(objects: &[LoadedObject<'_>], number: u64, loaded: &LoadedObject<'_>) -> bool
+pub fn has_wholly_sound(
+    objects: &[LoadedObject<'_>],
+    number: u64,
+    loaded: &LoadedObject<'_>,
+) -> bool
     ensures { IsTrue result ↔ All (IsWhollySound (loaded_views objects.now))
         (symbols_from number (loaded_view loaded.now) 0 (symbols loaded.now.object)) }
 {
@@ -155,18 +132,6 @@ fn has_wholly_sound(objects: &[LoadedObject<'_>], number: u64, loaded: &LoadedOb
     for j in 0..entries.len() {
         let entry = entries.at(j);
         if !is_wholly_sound(objects, number, loaded, j, &entry) {
-            return false;
-        }
-    }
-    true
-}
-
-/// Whether all symbols of the objects are sound, the common ones too: both are told in one walk over them.
-pub fn are_wholly_sound(objects: &[LoadedObject<'_>]) -> bool
-    ensures { IsTrue result ↔ AreWhollySound (loaded_views objects.now) }
-{
-    for (k, loaded) in objects.iter().enumerate() {
-        if !has_wholly_sound(objects, k as u64, loaded) {
             return false;
         }
     }

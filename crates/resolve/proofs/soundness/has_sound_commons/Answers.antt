@@ -1,4 +1,4 @@
-use Rattle.std.proofs.Common.{List, subst, false, ap, sym, ◌∙◌, ◌<◌}
+use Rattle.std.proofs.Common.{List, subst, false, ◌<◌}
 use Rattle.std.specs.Prelude.{◌↔◌, All, IsTrue}
 use Rattle.elf_model.specs.ObjectFile.{null_symbol}
 use Rattle.elf_model.specs.Resolution.{IsSoundCommon, symbols_from}
