@@ -1,5 +1,5 @@
 //! The GOT as it is handed out: its size, and whose value or thread offset each slot holds.
-ghost use Rattle.std.specs.Prelude.{◌≡◌, ◌%◌, ◌^◌, IfOk, cond, length};
+ghost use Rattle.std.specs.Prelude.{◌≡◌, ◌+◌, ◌*◌, ◌%◌, ◌^◌, IfOk, cond, length};
 ghost use Rattle.elf_model.specs.Slots as wanted;
 ghost use Rattle.resolve.specs.Views.{target_view};
 ghost use Rattle.got_tls.specs.Asking.{offset_of};
@@ -117,6 +117,13 @@ fn size_with(count: usize) -> Result<u64, AllocError>
     }
 }
 
+/// How far behind the GOT's beginning slot number `place` stands, modulo 2 to the 64: behind its first word.
+fn offset_at(place: usize) -> u64
+    ensures { result ≡ (8 + 8 * place) % 2 ^ 64 }
+{
+    (place as u64).wrapping_mul(8).wrapping_add(8)
+}
+
 impl<'a> Slots<'a> {
     /// The GOT that was asked for.
     ///
@@ -159,7 +166,7 @@ impl<'a> Slots<'a> {
         ensures { result ≡ offset_of self.now.slots (slot_view slot.entry) % 2 ^ 64 }
     {
         match place_told(&self.slots, &self.places, number, slot) {
-            Some(i) => (i as u64).wrapping_mul(8).wrapping_add(8),
+            Some(i) => offset_at(i),
             None => self.offset(slot),
         }
     }
@@ -169,7 +176,7 @@ impl<'a> Slots<'a> {
         ensures { result ≡ offset_of self.now.slots (slot_view slot.entry) % 2 ^ 64 }
     {
         match self.slots.get_index_of(&slot) {
-            Some(i) => (i as u64).wrapping_mul(8).wrapping_add(8),
+            Some(i) => offset_at(i),
             None => 0,
         }
     }

@@ -1,6 +1,4 @@
-use Rattle.std.proofs.Common.{◌≡◌, ap, sym, ◌∙◌}
-use Rattle.elf_model.specs.Slots.{same_request}
-use Rattle.indexmap.specs.IndexSet.{insert_key}
+use Rattle.std.proofs.Common.{ap, sym, ◌∙◌}
 use Rattle.got_tls.specs.Views.{slot_view, slot_views}
 use Rattle.got_tls.proofs.Keys.{inserted}
 use Rattle.got_tls.proofs.ToldPlaces.{not_added}

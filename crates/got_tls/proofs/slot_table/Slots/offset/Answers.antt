@@ -3,13 +3,12 @@ use Rattle.std.specs.Option.{option_map_or}
 use Rattle.got_tls.specs.Asking.{offset_of}
 use Rattle.got_tls.specs.Views.{Got, slot_view}
 use Rattle.got_tls.proofs.Keys.{position_same}
-use Rattle.got_tls.proofs.SlotPlaces.{wrapped}
 use Rattle.got_tls.proofs.slot_table.Slots.offset.Goals as goal
 
 pub returns-in-Some : goal.returns-in-Some
 returns-in-Some c =
     let is = c.in-Some.ensures.index ∙ position_same c.args.slot c.self.inside.slots.keys in
-    wrapped c.in-Some.i
+    c.offset_at.ensures
     ∙ ap (λ (o : Option ℕ). option_map_or (λ i. 8 + 8 * i) o 0 % 2 ^ 64) is
     ∙ ap (λ (g : Got). offset_of g.slots (slot_view c.args.slot) % 2 ^ 64) c.self.view_is
 
