@@ -19,7 +19,7 @@ use crate::kinds::{Terms, fits, value};
 use crate::symbol_values::Valued;
 use crate::thread_pointer::offset_from;
 use elf_model::{ObjectId, Rela, SHN_ABS, SectionRef, SymbolRef};
-use got_tls::{Kind, Slot, slot_kind};
+use got_tls::{Kind, Slot, name_number, slot_kind};
 use layout::Placement;
 use resolve::{Definition, SymbolOf, target_of};
 
@@ -135,7 +135,8 @@ fn slot_offset(valued: &Valued<'_, '_>, target: u64, kind: Kind, entry: &Rela) -
                 symbol: entry.symbol() as u64,
             };
             let target = target_of(symbol, valued.loaded);
-            valued.slots.offset(Slot::new(kind, &target))
+            let number = name_number(valued.loaded, entry.symbol() as usize);
+            valued.slots.offset_by(number, Slot::new(kind, &target))
         }
         None => 0,
     }
