@@ -1,12 +1,11 @@
 -- Tables with a row for each symbol of an object: what a reference to the symbol is, what that uses is worth.
-use Rattle.std.specs.Prelude.{◌≡◌, ◌↔◌, ◌%◌, ◌^◌, ◌&&◌, ℕ, true, false, not, List, [], Option, Some, IsSomeAnd, IsTrue, codes, option_map, unwrap_or}
+use Rattle.std.specs.Prelude.{◌≡◌, ◌↔◌, ◌%◌, ◌^◌, ◌&&◌, ℕ, true, false, not, List, Option, Some, IsSomeAnd, IsTrue, option_map, unwrap_or}
 use Rattle.std.specs.List.{slice_get}
 use Rattle.std.specs.Option.{option_map_or}
-use Rattle.std.specs.Str.{bytes_eq}
 use Rattle.elf_model.specs.Loading.{LoadedObject}
 use Rattle.elf_model.specs.ChosenSymbols.{chosen_symbols}
 use Rattle.elf_model.specs.Meaning.{Meaning, is_in_thread_storage, meaning_size, meaning_value, meant}
-use Rattle.elf_model.specs.ObjectFile.{section, section_name, sections}
+use Rattle.elf_model.specs.ObjectFile.{section, sections}
 use Rattle.elf_model.specs.Pieces.{AreLawfulKinds, is_alloc}
 use Rattle.elf_model.specs.Placement.{Where, got_start}
 use Rattle.elf_model.specs.Relocation.{IsMixed, IsUndefined, definition_of, is_local, symbol_at}
@@ -54,10 +53,9 @@ pub record IsReferrer (r : Referrer) : Type 0 where
   pub asked_own : asking r.asker ≡ referring r
   pub table : AreReferences (all_of r) r.number (referring r) r.table.items
 
--- a section of an object that entries relocate: its size, and whether it has the name .eh_frame
+-- a section of an object that entries relocate: its size
 pub record IsRelocated (o : LoadedObject) (t : Relocated) : Type 0 where
   pub size : t.size ≡ (section (sections o.bytes) t.number).sh_size
-  pub frames : t.frames ≡ bytes_eq (unwrap_or (section_name o.bytes t.number) []) (codes ".eh_frame")
 
 -- the value and the size of what a reference to a symbol uses, 0 of nothing
 pub record IsValueOf (objects : List LoadedObject) (w : Where) (s : SymbolOf) (v : SymbolValue) : Type 0 where

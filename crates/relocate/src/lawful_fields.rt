@@ -42,7 +42,7 @@ pub fn lawful_kind(
     if reference.undefined {
         return Err(RelocationFault::Undefined);
     }
-    if reference.unkept && !(reference.dropped && target.frames) {
+    if reference.unkept && !(reference.dropped && referrer.holds_frames(target.number)) {
         return Err(RelocationFault::RefToDropped);
     }
     if is_mismatch(kind.formula, reference.thread_local) {

@@ -1,6 +1,8 @@
 //! An object that refers: what a reference to each of its symbols is, found once a symbol, and read by each relocation
 //! that names it.
-ghost use Rattle.std.specs.Prelude.{◌≡◌, IfOk, Some, option_map};
+ghost use Rattle.std.specs.Prelude.{◌≡◌, [], IfOk, Some, codes, option_map, unwrap_or};
+ghost use Rattle.std.specs.Str.{bytes_eq};
+ghost use Rattle.elf_model.specs.ObjectFile.{section_name};
 ghost use Rattle.elf_model.specs.Relocation.{symbol_at};
 ghost use Rattle.search.specs.Views.{loaded_view};
 ghost use Rattle.layout.specs.Mixed.{AreMixed};
@@ -49,12 +51,11 @@ pub struct Referrer<'r, 'm, 'a> {
     pub table: Vec<Reference>,
 }
 
-/// A section that entries relocate: its number, its size in bytes, and whether it holds frames of code.
+/// A section that entries relocate: its number, and its size in bytes.
 #[derive(Clone, Copy, Debug)]
 pub struct Relocated {
     pub number: u64,
     pub size: u64,
-    pub frames: bool,
 }
 
 /// What a reference to symbol `j` of the object that has a number is, where it uses a definition, or none.
@@ -214,7 +215,14 @@ impl<'r, 'm, 'a> Referrer<'r, 'm, 'a> {
         Relocated {
             number,
             size: self.loaded.object.section(number as usize).sh_size,
-            frames: holds_frames(&self.loaded.object, number as usize),
         }
+    }
+
+    /// Whether a section, which entries relocate, holds frames of code.
+    pub fn holds_frames(&self, number: u64) -> bool
+        ensures { result ≡ bytes_eq
+            (unwrap_or (section_name (referring self.now).bytes number) []) (codes ".eh_frame") }
+    {
+        holds_frames(&self.loaded.object, number as usize)
     }
 }
