@@ -1,5 +1,5 @@
 -- Steps over sections of debug data, from one to the next.
-use Rattle.std.proofs.Common.{◌≡◌, ◌≤◌, ◌<◌, ◌^◌, ◌+◌, ◌∷◌, ℕ, List, drop, get_or, length, ◌∙◌, ap, subst, sym}
+use Rattle.std.proofs.Common.{◌≡◌, ◌<◌, ℕ, List, get_or, length, subst, sym}
 use Rattle.std.specs.Prelude.{All}
 use Rattle.elf_model.proofs.Listed.{All-unmap}
 use Rattle.layout.specs.PlaceViews.{place_view, place_views}

@@ -1,19 +1,19 @@
 -- Fields over the bytes of a section, one after the other.
-use Rattle.std.proofs.Common.{◌≡◌, ℕ, ◌+◌, ◌-◌, ◌<◌, ◌≤◌, ◌++◌, ◌∷◌, [], Bool, true, false, cond, List, Option, None, Some, length, option_map, refl, ap, sym, ◌∙◌, subst, arith}
-use Rattle.std.specs.Prelude.{nat_le, nat_lt, slice_index, IfSome}
+use Rattle.std.proofs.Common.{◌≡◌, ℕ, ◌+◌, ◌-◌, ◌<◌, ◌≤◌, ◌++◌, ◌∷◌, [], ◌||◌, Bool, true, false, cond, List, Option, None, Some, length, option_map, refl, ap, sym, ◌∙◌, arith}
+use Rattle.std.specs.Prelude.{nat_lt, slice_index, IfSome}
 use Rattle.std.proofs.lemmas.Bool.Decides.{nat_tests}
 use Rattle.std.proofs.lemmas.List.{places}
 use borrow.Rule.Slice.PartMut.{put_mid}
 use Rattle.byteview.specs.Numbers.{le_bytes}
-use Rattle.elf_model.specs.Relocation as relocation
 use Rattle.got_tls.specs.Kinds.{kind_view}
 use Rattle.got_tls.specs.declared.kinds.Kind as code
 use Rattle.std.proofs.Common.{get_or, take}
-use Rattle.std.specs.List.{filter_map, flat_map, range_with_len}
+use Rattle.std.specs.List.{filter_map, list_any}
+use Rattle.std.proofs.lemmas.List.Folds.{list_any-append}
 use Rattle.std.proofs.lemmas.List.Elements.{filter_map-append}
 use Rattle.debug_image.specs.DebugValues.{Field, byte_under, covers, field_byte}
 use Rattle.debug_image.specs.Lists.{some_list}
-use Rattle.debug_image.proofs.RangeSteps.{filter_map_take, flat_map_range}
+use Rattle.debug_image.proofs.RangeSteps.{filter_map_take}
 
 pub byte_under-append : (k b : ℕ) (fs gs : List Field) → byte_under k b (fs ++ gs) ≡ byte_under k (byte_under k b fs) gs
 byte_under-append k b [] gs = refl
@@ -65,14 +65,20 @@ entry_more f xs i d o k b now new within is so_far more =
     ∙ sym (byte_under-append k b (filter_map f (take i xs)) (some_list (f (get_or xs i d))))
     ∙ ap (byte_under k b) (sym (filter_map_take f xs i d within))
 
-pub section_more :
-    {X : Type 0} (f : X → Option Field) (g : ℕ → List X) (i : ℕ) (xs : List X) (k b now new : ℕ) → xs ≡ g i →
-    now ≡ byte_under k b (filter_map f (flat_map g (range_with_len 0 i))) → new ≡ byte_under k now (filter_map f xs) →
-    new ≡ byte_under k b (filter_map f (flat_map g (range_with_len 0 (i + 1))))
-section_more f g i xs k b now new is so_far more =
-    let old : List _ = flat_map g (range_with_len 0 i) in
+pub entries_more :
+    {X : Type 0} (f : X → Option Field) (old xs next : List X) (k b now new : ℕ) → next ≡ old ++ xs → now ≡ byte_under k b (filter_map f old) →
+    new ≡ byte_under k now (filter_map f xs) → new ≡ byte_under k b (filter_map f next)
+entries_more f old xs next k b now new is so_far more =
     more
-    ∙ ap (λ (ys : List _). byte_under k now (filter_map f ys)) is
-    ∙ ap (λ (n : ℕ). byte_under k n (filter_map f (g i))) so_far
-    ∙ sym (byte_under-append k b (filter_map f old) (filter_map f (g i)))
-    ∙ ap (byte_under k b) (sym (ap (filter_map f) (flat_map_range g i) ∙ filter_map-append f old (g i)))
+    ∙ ap (λ (n : ℕ). byte_under k n (filter_map f xs)) so_far
+    ∙ sym (byte_under-append k b (filter_map f old) (filter_map f xs))
+    ∙ ap (byte_under k b) (sym (ap (filter_map f) is ∙ filter_map-append f old xs))
+
+pub any_more :
+    {X : Type 0} (p : X → Bool) (old xs next : List X) (before one now : Bool) → next ≡ old ++ xs → before ≡ list_any p old → one ≡ list_any p xs →
+    now ≡ (before || one) → now ≡ list_any p next
+any_more p old xs next before one now is so_far more both =
+    both
+    ∙ ap (λ (b : Bool). b || one) so_far
+    ∙ ap (λ (b : Bool). list_any p old || b) more
+    ∙ sym (ap (list_any p) is ∙ list_any-append p old xs)

@@ -1,7 +1,7 @@
 -- Debug data joined by their names, one section after the other.
-use Rattle.std.proofs.Common.{◌≡◌, ℕ, ◌+◌, ◌<◌, ◌≤◌, ◌++◌, ◌∷◌, [], Bool, true, false, cond, List, Option, drop, get_or, length, map, refl, ap, set, sym, ◌∙◌, subst, take, arith, append_assoc}
+use Rattle.std.proofs.Common.{◌≡◌, ℕ, ◌+◌, ◌<◌, ◌≤◌, ◌++◌, ◌∷◌, [], Bool, true, false, cond, List, drop, get_or, length, refl, ap, set, sym, ◌∙◌, subst, take, arith, append_assoc}
 use Rattle.std.specs.Prelude.{All}
-use Rattle.std.proofs.lemmas.List.{at_drop_more, drop_all, drop_more, map-append, take-append-drop, take-set, take_all, take_more}
+use Rattle.std.proofs.lemmas.List.{at_drop_more, drop_all, map-append, take-append-drop, take-set, take_all, take_more}
 use Rattle.std.proofs.lemmas.Grind.{drop-set_at}
 use Rattle.std.proofs.lemmas.List.Elements.{All-append, All-cons, All-head, All-nil, All-tail}
 use Rattle.elf_model.proofs.Listed.{All-parts, All-unmap}
@@ -12,7 +12,7 @@ use Rattle.layout.specs.Views.{piece_view, piece_views}
 use Rattle.layout.specs.declared.pieces.Piece as code_piece
 use Rattle.search.specs.Views.{loaded_view, loaded_views}
 use Rattle.search.specs.declared.loaded.LoadedObject as code_object
-use Rattle.debug_image.specs.DebugSections.{AreLow, EndsLow, IsLow, Joined, debug_pieces, is_joined_of, joined_all, joined_from, joined_with, place_in, places_from, replaced, rows_from}
+use Rattle.debug_image.specs.DebugSections.{AreFew, AreLow, EndsLow, HaveRoom, IsLow, Joined, debug_pieces, is_joined_of, joined_all, joined_from, joined_of, joined_with, place_in, places_from, replaced, rows_from, debug_rows, grown, named}
 use Rattle.debug_image.specs.DebugViews.{joined_view, joined_views}
 use Rattle.debug_image.specs.declared.joined.Joined as code
 use Rattle.debug_image.proofs.RowSteps.{objects_at}
@@ -118,16 +118,53 @@ joined_more js new ps k d all within is so_far =
 pub ends_more : (qs more : List Placed) (q : Placed) → more ≡ qs ++ q ∷ [] → All EndsLow qs → EndsLow q → All EndsLow more
 ends_more qs more q is all low = subst (All EndsLow) (sym is) (All-append EndsLow qs (q ∷ []) all (All-cons EndsLow q [] low (All-nil EndsLow)))
 
-pub not_low :
-    (js : List Joined) (ps : List code_piece.Piece) (k : ℕ) (d : code_piece.Piece) (qs all : List Placed) → k < length ps →
-    qs ++ places_from js (piece_views (drop k ps)) ≡ all → ¬ EndsLow (place_in js (piece_view (get_or ps k d))) → ¬ All EndsLow all
-not_low js ps k d qs all within so_far high = λ every.
-    let q : Placed = place_in js (piece_view (get_or ps k d)) in
-    let rest : List Placed = places_from (joined_with js (piece_view (get_or ps k d))) (piece_views (drop (k + 1) ps)) in
-    let parts : All EndsLow (q ∷ rest) =
+-- what is joined grows
+replaced_grows : (js : List Joined) (j : Joined) → length js ≤ length (replaced js j)
+replaced_grows [] j = grind (arith)
+replaced_grows (i ∷ is) j = by (is_joined_of j.title i) (replaced_grows is j)
+  where
+    by : (b : Bool) → length is ≤ length (replaced is j) → length (i ∷ is) ≤ length (cond b (j ∷ is) (i ∷ replaced is j))
+    by true e = grind (arith)
+    by false e = grind (arith, e)
+
+all_grow : (js : List Joined) (ps : List Piece) → length js ≤ length (joined_all js ps)
+all_grow js [] = grind (arith)
+all_grow js (p ∷ ps) =
+    let one = replaced_grows js (grown (named js p.name) p) in
+    let more = all_grow (joined_with js p) ps in
+    grind (arith, one, more)
+
+from_grows : (js : List Joined) (k : ℕ) (os : List LoadedObject) → length js ≤ length (joined_from js k os)
+from_grows js k [] = grind (arith)
+from_grows js k (o ∷ os) =
+    let one = all_grow js (debug_pieces k o) in
+    let more = from_grows (joined_all js (debug_pieces k o)) (k + 1) os in
+    grind (arith, one, more)
+
+pub too_high : (js : List Joined) (p : Piece) → ¬ EndsLow (place_in js p) → ¬ HaveRoom js (p ∷ [])
+too_high js p high = λ room. high (All-head EndsLow (place_in js p) [] room.low)
+
+pub no_room :
+    (js : List Joined) (ps : List code_piece.Piece) (k : ℕ) (d : code_piece.Piece) (qs : List Placed) (first : List Joined) → k < length ps →
+    qs ++ places_from js (piece_views (drop k ps)) ≡ places_from first (piece_views ps) →
+    joined_all js (piece_views (drop k ps)) ≡ joined_all first (piece_views ps) →
+    ¬ HaveRoom js (piece_view (get_or ps k d) ∷ []) → ¬ HaveRoom first (piece_views ps)
+no_room js ps k d qs first within places joined none = λ room.
+    let p : Piece = piece_view (get_or ps k d) in
+    let rest : List Piece = piece_views (drop (k + 1) ps) in
+    let parts : All EndsLow (place_in js p ∷ places_from (joined_with js p) rest) =
     subst (All EndsLow) (left_pieces js ps k d within)
-    ((All-parts EndsLow qs (places_from js (piece_views (drop k ps))) (subst (All EndsLow) (sym so_far) every)).1) in
-    high (All-head EndsLow q rest parts)
+    ((All-parts EndsLow qs (places_from js (piece_views (drop k ps))) (subst (All EndsLow) (sym places) room.low)).1) in
+    let same : length (joined_all first (piece_views ps)) ≡ length (joined_all (joined_with js p) rest) =
+    ap (λ (xs : List Joined). length xs)
+    (sym joined ∙ at_drop_more (λ (xs : List code_piece.Piece). joined_all js (piece_views xs)) ps k d within) in
+    let few = room.few in
+    let more = all_grow (joined_with js p) rest in
+    none
+    (record {
+      low = All-cons EndsLow (place_in js p) [] (All-head EndsLow (place_in js p) (places_from (joined_with js p) rest) parts) (All-nil EndsLow);
+      few = grind (arith, few, same, more);
+    })
 
 -- the sections of one more object
 left_rows :
@@ -163,13 +200,29 @@ pub rows_low_more : (rows more : List (List Placed)) (row : List Placed) → mor
 rows_low_more rows more row is all low =
     subst AreLow (sym is) (All-append (All EndsLow) rows (row ∷ []) all (All-cons (All EndsLow) row [] low (All-nil (All EndsLow))))
 
-pub rows_not_low :
-    (js : List Joined) (os : List code_object.LoadedObject) (k : ℕ) (d : code_object.LoadedObject) (rows all : List (List Placed)) → k < length os →
-    d ≡ get_or os k d → rows ++ rows_from js k (drop k (loaded_views os)) ≡ all → ¬ All EndsLow (places_from js (debug_pieces k (loaded_view d))) → ¬ AreLow all
-rows_not_low js os k d rows all within is so_far high = λ every.
+pub rows_no_room :
+    (js : List Joined) (os : List code_object.LoadedObject) (k : ℕ) (d : code_object.LoadedObject) (rows : List (List Placed)) → k < length os →
+    d ≡ get_or os k d → rows ++ rows_from js k (drop k (loaded_views os)) ≡ debug_rows (loaded_views os) →
+    joined_from js k (drop k (loaded_views os)) ≡ joined_of (loaded_views os) → ¬ HaveRoom js (debug_pieces k (loaded_view d)) →
+    ¬ AreFew (debug_rows (loaded_views os)) (joined_of (loaded_views os))
+rows_no_room js os k d rows within is so_far joined none = λ few.
     let row : List Placed = places_from js (debug_pieces k (loaded_view d)) in
-    let rest : List (List Placed) = rows_from (joined_all js (debug_pieces k (loaded_view d))) (k + 1) (drop (k + 1) (loaded_views os)) in
+    let new : List Joined = joined_all js (debug_pieces k (loaded_view d)) in
+    let rest : List (List Placed) = rows_from new (k + 1) (drop (k + 1) (loaded_views os)) in
     let parts : AreLow (row ∷ rest) =
     subst AreLow (left_rows js os k d within is)
-    ((All-parts (All EndsLow) rows (rows_from js k (drop k (loaded_views os))) (subst AreLow (sym so_far) every)).1) in
-    high (All-head (All EndsLow) row rest parts)
+    ((All-parts (All EndsLow) rows (rows_from js k (drop k (loaded_views os))) (subst AreLow (sym so_far) few.low)).1) in
+    let same : length (joined_of (loaded_views os)) ≡ length (joined_from new (k + 1) (drop (k + 1) (loaded_views os))) =
+    ap (λ (xs : List Joined). length xs) (sym joined ∙ ap (λ (xs : List LoadedObject). joined_from js k xs) (objects_at os k d within is)) in
+    let count = few.few in
+    let more = from_grows new (k + 1) (drop (k + 1) (loaded_views os)) in
+    none (record { low = All-head (All EndsLow) row rest parts; few = grind (arith, count, same, more) })
+
+-- the first objects and the next one
+pub views_more :
+    (os : List code_object.LoadedObject) (k : ℕ) (d : code_object.LoadedObject) → k < length os → d ≡ get_or os k d →
+    loaded_views (take (k + 1) os) ≡ loaded_views (take k os) ++ loaded_view d ∷ []
+views_more os k d within is =
+    ap loaded_views (take_more os k d within)
+    ∙ map-append loaded_view (take k os) (get_or os k d ∷ [])
+    ∙ ap (λ (x : code_object.LoadedObject). loaded_views (take k os) ++ loaded_view x ∷ []) (sym is)

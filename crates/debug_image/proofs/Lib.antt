@@ -1,5 +1,8 @@
 pub mod PlainParts
 pub mod SectionSteps
+pub mod FirstSections
+pub mod IndexSteps
+pub mod UsedSymbols
 pub mod RowSteps
 pub mod OwnHeaders
 pub mod LinkImages

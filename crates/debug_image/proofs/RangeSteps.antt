@@ -1,5 +1,5 @@
 -- Numbers from 0 on and entries, one more.
-use Rattle.std.proofs.Common.{◌≡◌, ℕ, zero, suc, ◌+◌, ◌<◌, ◌++◌, ◌∷◌, [], ◌||◌, Bool, true, false, List, Option, None, Some, get_or, length, map, option_map, refl, ap, sym, ◌∙◌, take, arith}
+use Rattle.std.proofs.Common.{◌≡◌, ℕ, zero, suc, ◌+◌, ◌<◌, ◌++◌, ◌∷◌, [], ◌||◌, Bool, true, false, List, Option, None, Some, get_or, length, map, option_map, refl, ap, ◌∙◌, take, arith}
 use Rattle.std.specs.List.{cons_option, filter_map, flat_map, list_any, range_with_len}
 use Rattle.std.proofs.lemmas.List.{append-nil, map-append, take_more}
 use Rattle.std.proofs.lemmas.List.Elements.{filter_map-append}
@@ -37,6 +37,13 @@ flat_map_range f n =
     ap (flat_map f) (range_more n)
     ∙ flat_map-append f (range_with_len 0 n) (n ∷ [])
     ∙ ap (λ (ys : List _). flat_map f (range_with_len 0 n) ++ ys) (append-nil (f n))
+
+pub flat_map_take :
+    {X Y : Type 0} (f : X → List Y) (xs : List X) (i : ℕ) (d : X) → i < length xs → flat_map f (take (i + 1) xs) ≡ flat_map f (take i xs) ++ f (get_or xs i d)
+flat_map_take f xs i d within =
+    ap (flat_map f) (take_more xs i d within)
+    ∙ flat_map-append f (take i xs) (get_or xs i d ∷ [])
+    ∙ ap (λ (ys : List _). flat_map f (take i xs) ++ ys) (append-nil (f (get_or xs i d)))
 
 pub filter_map_take :
     {X Y : Type 0} (f : X → Option Y) (xs : List X) (i : ℕ) (d : X) → i < length xs →

@@ -7,7 +7,7 @@ use Rattle.elf_model.specs.OwnLayout.{own_placed}
 use Rattle.elf_model.specs.Placement.{Placed}
 use Rattle.image_write.specs.Linkages.{Linked}
 use Rattle.image_write.specs.Parts.{file_parts}
-use Rattle.debug_image.specs.DebugSections.{AreLow, Chunk, Joined, chunks_of, data_end, debug_rows, joined_of, joined_rows}
+use Rattle.debug_image.specs.DebugSections.{AreFew, Chunk, Joined, chunks_of, data_end, debug_rows, joined_of, joined_rows}
 use Rattle.debug_image.specs.DebugValues.{Data, all_bytes}
 use Rattle.debug_image.specs.Sections.{Section, section_rows, sections_of}
 use Rattle.debug_image.specs.Symbols.{Laid, local_rows, meaning_rows}
@@ -57,7 +57,7 @@ tables_in w l ms = tables_with w.locals l.plan.base l.objects (joined_in w l.obj
 -- its numbers can be said
 pub record CanBeSaid (w : Wanted) (l : Linked) (ms : List Meaning) : Type 0 where
   pub small : IsSmall (tables_in w l ms)
-  pub low : AreLow (rows_in w l.objects)
+  pub few : AreFew (rows_in w l.objects) (joined_in w l.objects)
 
 -- The file of a link, of names that mean what is listed: the image up to the end of its last file part, the debug data, and the tables.
 abbrev pub end_in : Linked → ℕ

@@ -1,6 +1,6 @@
 -- Debug data (System V gABI 4, "Sections"; which sections hold them, and how these are joined, is the profile's): the sections of
 -- objects that hold them, joined by their names.
-use Rattle.std.specs.Prelude.{◌≡◌, ◌≤◌, ℕ, ◌+◌, ◌-◌, ◌^◌, ◌==◌, ◌&&◌, Bool, not, cond, All, List, [], ◌∷◌, ◌++◌, Option, None, Some, codes, find, length, max, nat_eq, nat_le, option_map, unwrap_or}
+use Rattle.std.specs.Prelude.{◌≤◌, ℕ, ◌+◌, ◌-◌, ◌^◌, ◌==◌, ◌&&◌, Bool, not, cond, All, List, [], ◌∷◌, ◌++◌, Option, None, Some, codes, find, length, max, nat_eq, nat_le, option_map, unwrap_or}
 use Rattle.std.specs.List.{filter_map, range_with_len, slice_get, starts_with}
 use Rattle.std.specs.Option.{option_and_then}
 use Rattle.std.specs.Str.{bytes_eq}
@@ -95,8 +95,11 @@ joined_all js [] = js
 joined_all js (p ∷ ps) = joined_all (joined_with js p) ps
 
 -- sections at their offsets in what is joined of their names, behind what is joined already
+abbrev pub place_behind : Joined → Piece → Placed
+place_behind j p = record { at = round_up (alignment p) j.end; piece = p }
+
 abbrev pub place_in : List Joined → Piece → Placed
-place_in js p = record { at = round_up (alignment p) (named js p.name).end; piece = p }
+place_in js p = place_behind (named js p.name) p
 
 abbrev pub places_from : List Joined → List Piece → List Placed
 places_from js [] = []
@@ -127,7 +130,7 @@ offset_in_row number row = option_map (λ q. q.at) (find (is_numbered number) ro
 abbrev pub debug_offset : List (List Placed) → ℕ → ℕ → Option ℕ
 debug_offset rows object number = option_and_then (offset_in_row number) (slice_get rows object)
 
--- the data are few enough: each section ends below 2 ^ 40
+-- a section ends low enough, below 2 ^ 40
 abbrev pub debug_end : Placed → ℕ
 debug_end q = q.at + size_of q.piece
 
@@ -136,6 +139,19 @@ EndsLow q = debug_end q ≤ 2 ^ 40
 
 abbrev pub AreLow : List (List Placed) → Type 0
 AreLow rows = All (All EndsLow) rows
+
+-- the data are few enough: each section ends low, and there are at most 256 names
+abbrev pub most_names : ℕ
+most_names = 256
+
+pub record AreFew (rows : List (List Placed)) (js : List Joined) : Type 0 where
+  pub low : AreLow rows
+  pub few : length js ≤ most_names
+
+-- there is room for sections behind what is joined already
+pub record HaveRoom (js : List Joined) (ps : List Piece) : Type 0 where
+  pub low : All EndsLow (places_from js ps)
+  pub few : length (joined_all js ps) ≤ most_names
 
 pub record IsLow (j : Joined) : Type 0 where
   pub end : j.end ≤ 2 ^ 40

@@ -1,3 +1,4 @@
+pub mod DataIndexes
 pub mod DebugImage
 pub mod DebugLayouts
 pub mod DebugSections
@@ -8,6 +9,7 @@ pub mod Lists
 pub mod Offsets
 pub mod PlainImages
 pub mod Reports
+pub mod SectionNumbers
 pub mod Sections
 pub mod SectionViews
 pub mod Symbols

@@ -1,5 +1,5 @@
 //! Debug data as they stand in the file, one section behind the other.
-ghost use Rattle.std.specs.Prelude.{◌≡◌, ◌+◌, ◌≤◌, ◌<◌, ◌^◌, ◌++◌, All, IfOk, OnOk, length};
+ghost use Rattle.std.specs.Prelude.{◌≡◌, ◌+◌, ◌≤◌, ◌^◌, ◌++◌, All, IfOk, OnOk, length};
 ghost use Rattle.layout.specs.PlaceViews.{place_view, place_views};
 ghost use Rattle.debug_image.specs.DebugSections as spec;
 ghost use Rattle.debug_image.specs.DebugViews.{chunk_view, chunk_views, joined_view, joined_views, row_views};
@@ -113,7 +113,7 @@ pub fn chunks<'a>(
 ) -> Result<Vec<Chunk<'a>>, AllocError>
     requires rows { spec.AreLow (row_views rows.now) }
     requires joined { All spec.IsLow (joined_views joined.now) }
-    requires few { length joined.now < 0xff00 }
+    requires few { length joined.now ≤ spec.most_names }
     requires end { end ≤ 2 ^ 46 }
     ensures { IfOk result (λ v. chunk_views v.items
         ≡ spec.chunks_of (row_views rows.now) end (joined_views joined.now)) }
@@ -130,7 +130,7 @@ pub fn chunks<'a>(
 /// Where debug data end behind an offset of the file.
 pub fn data_end(end: u64, joined: &[Joined<'_>]) -> u64
     requires joined { All spec.IsLow (joined_views joined.now) }
-    requires few { length joined.now < 0xff00 }
+    requires few { length joined.now ≤ spec.most_names }
     requires end { end ≤ 2 ^ 46 }
     ensures exact { result ≡ spec.data_end end (joined_views joined.now) }
     ensures low { result ≤ 2 ^ 58 }
@@ -170,7 +170,7 @@ pub fn add_joined_rows<'a>(
     joined: &[Joined<'a>],
 ) -> Result<(), AllocError>
     requires joined { All spec.IsLow (joined_views joined.now) }
-    requires few { length joined.now < 0xff00 }
+    requires few { length joined.now ≤ spec.most_names }
     requires end { end ≤ 2 ^ 46 }
     ensures { OnOk result (header_views rows.new.items
         ≡ header_views rows.old.items ++ spec.joined_rows end (joined_views joined.now)) }

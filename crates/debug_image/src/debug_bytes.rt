@@ -5,12 +5,14 @@ ghost use Rattle.std.specs.Option.{is_none};
 ghost use Rattle.elf_model.specs.Relocation.{is_some_kind};
 ghost use Rattle.layout.specs.PlaceViews.{place_view};
 ghost use Rattle.search.specs.Views.{loaded_view};
+ghost use Rattle.debug_image.specs.DataIndexes.{listed_entries};
 ghost use Rattle.debug_image.specs.DebugLayouts.{IsDataLayout, IsHere, data_in, object_here, placed_here};
 ghost use Rattle.debug_image.specs.DebugValues as spec;
 ghost use Rattle.debug_image.specs.DebugViews.{chunk_view, field_view};
 
 use crate::chunks::Chunk;
-use crate::debug_values::{DataLayout, Here};
+use crate::data_index::DataSection;
+use crate::debug_values::{DataLayout, Here, data_section};
 use crate::fields::{Field, entry_field, write_some};
 use crate::lists::either;
 use elf_model::Rela;
@@ -86,8 +88,35 @@ fn entries_at<'a>(loaded: &LoadedObject<'a>, target: u64, i: usize) -> RelaRun<'
     }
 }
 
-/// Writes what all entries for a section want; answers whether one of them can't be relocated.
-fn write_all<'a>(layout: &DataLayout<'_, 'a>, here: &Here<'_, '_, 'a>, bytes: &mut [u8]) -> bool
+/// Writes what the entries of the sections that are listed for a section want; answers whether one of them can't be relocated.
+fn write_listed<'a>(
+    layout: &DataLayout<'_, 'a>,
+    here: &Here<'_, '_, 'a>,
+    section: &DataSection,
+    bytes: &mut [u8],
+) -> bool
+    requires layout { IsDataLayout layout.now }
+    requires here { IsHere layout.now here.now }
+    requires whole { length bytes.old ≡ length (placed_here here.now).piece.bytes }
+    ensures bytes { (k : ℕ) → k < length bytes.old
+        → slice_index bytes.new k
+        ≡ spec.byte_under k (slice_index bytes.old k)
+        (filter_map (spec.entry_field (data_in layout.now) (placed_here here.now)
+        (object_here here.now)) (listed_entries (object_here here.now) section.now)) }
+    ensures left { result ≡ list_any (spec.is_left (data_in layout.now) (placed_here here.now)
+        (object_here here.now)) (listed_entries (object_here here.now) section.now) }
+{
+    let loaded = here.loaded;
+    let mut left = false;
+    for number in &section.relas {
+        let entries = loaded.object.entries(*number);
+        left = either(left, write_run(layout, here, &entries, bytes));
+    }
+    left
+}
+
+/// Writes what the entries of all sections for a section want, as `write_listed` of what isn't in the index.
+fn write_each<'a>(layout: &DataLayout<'_, 'a>, here: &Here<'_, '_, 'a>, bytes: &mut [u8]) -> bool
     requires layout { IsDataLayout layout.now }
     requires here { IsHere layout.now here.now }
     requires whole { length bytes.old ≡ length (placed_here here.now).piece.bytes }
@@ -108,6 +137,26 @@ fn write_all<'a>(layout: &DataLayout<'_, 'a>, here: &Here<'_, '_, 'a>, bytes: &m
         left = either(left, write_run(layout, here, &entries, bytes));
     }
     left
+}
+
+/// Writes what all entries for a section want; answers whether one of them can't be relocated.
+fn write_all<'a>(layout: &DataLayout<'_, 'a>, here: &Here<'_, '_, 'a>, bytes: &mut [u8]) -> bool
+    requires layout { IsDataLayout layout.now }
+    requires here { IsHere layout.now here.now }
+    requires whole { length bytes.old ≡ length (placed_here here.now).piece.bytes }
+    ensures bytes { (k : ℕ) → k < length bytes.old
+        → slice_index bytes.new k
+        ≡ spec.byte_under k (slice_index bytes.old k)
+        (spec.fields_for (data_in layout.now) (placed_here here.now) (object_here here.now)) }
+    ensures left { result ≡ list_any (spec.is_left (data_in layout.now) (placed_here here.now)
+        (object_here here.now))
+        (spec.entries_for (object_here here.now) here.now.place.now.piece.section) }
+{
+    let place = here.place;
+    match data_section(layout, place.piece.object, place.piece.section) {
+        Some(section) => write_listed(layout, here, section, bytes),
+        None => write_each(layout, here, bytes),
+    }
 }
 
 /// Writes what is wanted over the bytes of a section; answers whether an entry for it can't be relocated.

@@ -7,6 +7,7 @@ ghost use Rattle.elf_model.specs.Placement as placements;
 ghost use Rattle.relocate.specs.Values.{where_in};
 ghost use Rattle.resolve.specs.Views.{meaning_views};
 ghost use Rattle.search.specs.Views.{loaded_views};
+ghost use Rattle.debug_image.specs.DataIndexes.{AreIndexes};
 ghost use Rattle.debug_image.specs.DebugImage as spec;
 ghost use Rattle.debug_image.specs.PlainImages.{plain_of, with_sections};
 ghost use Rattle.debug_image.specs.DebugLayouts.{IsDataLayout, data_in};
@@ -27,14 +28,11 @@ use crate::tables::Tables;
 use byteview::View;
 use elf_model::FileHeader;
 use image_write::{Linkage, file_end, image};
-use layout::{Place, Placement};
+use layout::Placement;
 use relocate::pointer_of;
 use resolve::{Definition, Resolved};
 use search::LoadedObject;
 use std::alloc::{AllocError, Global};
-
-/// The names of debug data that there may be, and no more.
-const MOST_JOINED: usize = 0xff00;
 
 /// What a debuggable image is to have besides its sections and what names mean.
 #[derive(Clone, Copy, Debug)]
@@ -147,8 +145,12 @@ fn wanted_data<'a>(
         ≡ spec.joined_in wanted (loaded_views objects.now)) }
     ensures low { IfOk result (λ d. All sections.IsLow (joined_views d.joined.items)) }
     ensures ends { IfOk result (λ d. sections.AreLow (row_views d.rows.items)) }
+    ensures few { IfOk result (λ d. length d.joined.items ≤ sections.most_names) }
     ensures large { IfErr result (λ f. f ≡ fault.TooLarge
-        → ¬ sections.AreLow (spec.rows_in wanted (loaded_views objects.now))) }
+        → ¬ sections.AreFew (spec.rows_in wanted (loaded_views objects.now))
+        (spec.joined_in wanted (loaded_views objects.now))) }
+    ensures index { IfOk result (λ d. AreIndexes (loaded_views objects.now)
+        (row_views d.rows.items) d.index.items) }
 {
     if wanted.debug {
         return debug_data(alloc, objects);
@@ -156,6 +158,7 @@ fn wanted_data<'a>(
     Ok(DebugData {
         rows: Vec::new(alloc),
         joined: Vec::new(alloc),
+        index: Vec::new(alloc),
     })
 }
 
@@ -164,33 +167,32 @@ fn parts_of<'a>(
     alloc: Global,
     linkage: &Linkage<'a>,
     tables: &Tables<'a>,
-    data: DebugData<'a>,
+    found: DebugData<'a>,
 ) -> Result<DebugParts<'a>, AllocError>
     requires small { IsSmall (tables_view tables.now) }
-    requires joined { All sections.IsLow (joined_views data.joined.items) }
-    requires rows { sections.AreLow (row_views data.rows.items) }
-    requires few { length data.joined.items < 0xff00 }
+    requires joined { All sections.IsLow (joined_views found.joined.items) }
+    requires rows { sections.AreLow (row_views found.rows.items) }
+    requires few { length found.joined.items ≤ sections.most_names }
     ensures front { IfOk result (λ p. p.front.items
         ≡ spec.front_of linkage.now (tables_view tables.now)
-        (sections.data_end (spec.end_in linkage.now) (joined_views data.entry.joined.items))) }
+        (sections.data_end (spec.end_in linkage.now) (joined_views found.entry.joined.items))) }
     ensures chunks { IfOk result (λ p. chunk_views p.chunks.items
-        ≡ sections.chunks_of (row_views data.entry.rows.items) (spec.end_in linkage.now)
-        (joined_views data.entry.joined.items)) }
+        ≡ sections.chunks_of (row_views found.entry.rows.items) (spec.end_in linkage.now)
+        (joined_views found.entry.joined.items)) }
     ensures tail { IfOk result (λ p. p.tail.items
         ≡ tail (sections.data_end (spec.end_in linkage.now)
-        (joined_views data.entry.joined.items)) (tables_view tables.now)) }
-    ensures rows { IfOk result (λ p. row_views p.data.rows.items
-        ≡ row_views data.entry.rows.items) }
+        (joined_views found.entry.joined.items)) (tables_view tables.now)) }
+    ensures data { IfOk result (λ p. p.data ≡ found.entry) }
     ensures low { OnOk result (sections.data_end (spec.end_in linkage.now)
-        (joined_views data.entry.joined.items) ≤ 2 ^ 58) }
+        (joined_views found.entry.joined.items) ≤ 2 ^ 58) }
 {
     let end = end_of(linkage);
-    let behind = data_end(end, &data.joined);
+    let behind = data_end(end, &found.joined);
     let front = plain_part(alloc, linkage, tables, behind)?;
     let tail = tail_of(alloc, tables, behind)?;
-    let chunks = chunks(alloc, &data.rows, end, &data.joined)?;
+    let chunks = chunks(alloc, &found.rows, end, &found.joined)?;
     Ok(DebugParts {
-        data,
+        data: found,
         front,
         chunks,
         tail,
@@ -203,8 +205,8 @@ fn parts_of<'a>(
 ///
 /// # Errors
 ///
-/// `TooLarge` where there are 65,280 section headers or more, 2^32 bytes of a table or more, or more than 2^40 bytes of debug
-/// data of a name; `Memory`.
+/// `TooLarge` where there are 65,280 section headers or more, 2^32 bytes of a table or more, more than 2^40 bytes of debug data
+/// of a name, or more than 256 names of debug data; `Memory`.
 pub fn debug_parts<'a>(
     alloc: Global,
     linkage: &Linkage<'a>,
@@ -223,15 +225,14 @@ pub fn debug_parts<'a>(
         (spec.tables_in wanted linkage.now (meaning_views names.now))) }
     ensures rows { IfOk result (λ p. row_views p.data.rows.items
         ≡ spec.rows_in wanted linkage.now.objects) }
+    ensures index { IfOk result (λ p. AreIndexes linkage.now.objects
+        (row_views p.data.rows.items) p.data.index.items) }
     ensures plain { IfOk result (λ p. linkage.now.plan.strip ≡ true
         → (rest : List ℕ) → plain_of (p.front.items ++ rest) ≡ own_image linkage.now) }
     ensures large { IfErr result (λ f. f ≡ fault.TooLarge
         → ¬ spec.CanBeSaid wanted linkage.now (meaning_views names.now)) }
 {
     let data = wanted_data(alloc, linkage.loaded().objects(), wanted)?;
-    if data.joined.len() >= MOST_JOINED {
-        return Err(DebugFault::TooLarge);
-    }
     let tables = tables_of(alloc, linkage, &data.joined, names, wanted.locals)?;
     if !tables.are_small() {
         return Err(DebugFault::TooLarge);
@@ -241,15 +242,22 @@ pub fn debug_parts<'a>(
     Ok(parts)
 }
 
-/// Where a link with debug data is laid out, whose rows these are.
+/// Where a link is laid out whose debug data were found.
 pub fn data_layout<'c, 'a>(
     linkage: &'c Linkage<'a>,
     resolved: &'c Resolved<'a>,
-    rows: &'c [Vec<Place<'a>>],
+    found: &'c DebugData<'a>,
 ) -> DataLayout<'c, 'a>
-    requires { resolved.now ≡ linkage.now.objects }
+    requires resolved { resolved.now ≡ linkage.now.objects }
+    requires index { AreIndexes linkage.now.objects
+        (row_views found.now.rows.items) found.now.index.items }
     ensures layout { IsDataLayout result }
-    ensures data { data_in result ≡ record { base = linkage.now.plan.base; objects = linkage.now.objects; rows = row_views rows.now } }
+    ensures data { data_in result
+        ≡ record {
+      base = linkage.now.plan.base;
+      objects = linkage.now.objects;
+      rows = row_views found.now.rows.items;
+    } }
 {
     let parts = linkage.parts();
     let placement = &parts.placement;
@@ -258,7 +266,8 @@ pub fn data_layout<'c, 'a>(
         resolved,
         placement,
         slots: &parts.slots,
-        rows,
+        rows: &found.rows,
+        index: &found.index,
         pointer: pointer_of(placement),
         thread_start: thread_start(placement),
         got: got_start(placement),
@@ -305,7 +314,7 @@ pub fn debug_image<'a>(
         → ¬ spec.CanBeSaid wanted linkage.now (meaning_views names.now)) }
 {
     let parts = debug_parts(alloc, linkage, names, wanted)?;
-    let layout = data_layout(linkage, resolved, &parts.data.rows);
+    let layout = data_layout(linkage, resolved, &parts.data);
     let mut file = Vec::from_slice(alloc, &parts.front)?;
     add_chunks(alloc, &mut file, &layout, &parts.chunks)?;
     file.extend_from_slice(&parts.tail)?;

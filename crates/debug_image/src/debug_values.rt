@@ -1,26 +1,33 @@
 //! The values that entries want in debug data.
 ghost use Rattle.std.specs.Prelude.{◌≡◌, ◌≤◌, ◌%◌, ◌^◌, ◌-ℤ◌, ℕ, IfSome, option_map, pos, unwrap_or};
+ghost use Rattle.std.specs.BTreeMap.{get};
+ghost use Rattle.std.specs.List.{slice_get};
 ghost use Rattle.std.specs.Option.{option_and_then, option_map_or};
+ghost use Rattle.std.specs.Ordering.{nat_cmp};
+ghost use Rattle.elf_model.specs.Resolution.{SymbolOf};
 ghost use Rattle.elf_model.specs.Meaning as meaning;
 ghost use Rattle.elf_model.specs.Relocation.{definition_of, kind_of, modulo_64, symbol_at};
 ghost use Rattle.elf_model.specs.Slots as wanted;
 ghost use Rattle.got_tls.specs.Asking.{offset_of};
 ghost use Rattle.got_tls.specs.Kinds.{kind_view};
-ghost use Rattle.layout.specs.PlaceViews.{place_view, place_views};
+ghost use Rattle.layout.specs.PlaceViews.{place_view};
 ghost use Rattle.relocate.specs.Kinds.{Reduces};
-ghost use Rattle.resolve.specs.Views.{meaning_view, symbol_view};
+ghost use Rattle.resolve.specs.Views.{meaning_view};
 ghost use Rattle.search.specs.Views.{loaded_view};
-ghost use Rattle.debug_image.specs.DebugLayouts.{IsDataLayout, IsHere, data_in, relocation_here};
+ghost use Rattle.debug_image.specs.DebugLayouts.{IsDataLayout, IsDefined, IsHere, IsUsed, data_in, relocation_here};
 ghost use Rattle.debug_image.specs.DebugSections as sections;
 ghost use Rattle.debug_image.specs.DebugValues as spec;
-ghost use Rattle.debug_image.specs.DebugViews.{row_views};
 
-use elf_model::{ObjectId, Rela, SHN_ABS, SectionRef, SlotKind, SymbolRef};
+use crate::data_index::DataSection;
+use elf_model::{
+    ObjectId, Rela, SHN_ABS, SHN_UNDEF, STB_LOCAL, SectionRef, SlotKind, Symbol, SymbolRef,
+};
 use got_tls::{Formula, Kind, Range, Slot, Slots, slot_kind};
 use layout::{Place, Placement};
 use relocate::{Terms, value};
-use resolve::{Definition, Resolved, SymbolOf, target_of};
+use resolve::{Definition, Resolved, target_of};
 use search::LoadedObject;
+use std::collections::BTreeMap;
 
 /// R_X86_64_DTPOFF64 (ELF Handling For Thread-Local Storage).
 const R_X86_64_DTPOFF64: u32 = 17;
@@ -29,7 +36,7 @@ const R_X86_64_DTPOFF64: u32 = 17;
 const R_X86_64_DTPOFF32: u32 = 21;
 
 /// Where a link with debug data is laid out: its objects, their places, the slots of the GOT, the sections that hold debug data
-/// at their offsets, a row for each object, the thread pointer, where thread-local storage begins and the address of the GOT,
+/// at their offsets, a row for each object, an index of each row, the thread pointer, where thread-local storage begins and the address of the GOT,
 /// all modulo 2 to the 64.
 #[derive(Clone, Copy)]
 pub struct DataLayout<'c, 'a> {
@@ -38,6 +45,7 @@ pub struct DataLayout<'c, 'a> {
     pub placement: &'c Placement<'a>,
     pub slots: &'c Slots<'a>,
     pub rows: &'c [Vec<Place<'a>>],
+    pub index: &'c [BTreeMap<u64, DataSection>],
     pub pointer: u64,
     pub thread_start: u64,
     pub got: u64,
@@ -72,24 +80,31 @@ pub fn debug_kind(number: u32) -> Option<Kind>
     }
 }
 
-/// The offset of a section of debug data, by its number, in a row.
-fn offset_in_row(row: &[Place<'_>], number: u64) -> Option<u64>
-    ensures { result ≡ sections.offset_in_row number (place_views row.now) }
+/// A section of debug data, by the numbers of its object and its own.
+pub fn data_section<'c>(
+    layout: &DataLayout<'c, '_>,
+    object: u64,
+    number: u64,
+) -> Option<&'c DataSection>
+    ensures { option_map (λ s. s.now) result
+        ≡ option_and_then (λ d. get nat_cmp d number) (slice_get layout.now.index.now object) }
 {
-    for place in row {
-        if place.piece.section == number {
-            return Some(place.at);
-        }
+    let index = layout.index;
+    match index.get(object as usize) {
+        Some(sections) => sections.get(&number),
+        None => None,
     }
-    None
 }
 
 /// The offset of a section of debug data, by the numbers of its object and its own.
-fn debug_offset(rows: &[Vec<Place<'_>>], object: u64, number: u64) -> Option<u64>
-    ensures { result ≡ sections.debug_offset (row_views rows.now) object number }
+fn debug_offset(layout: &DataLayout<'_, '_>, object: u64, number: u64) -> Option<u64>
+    requires { IsDataLayout layout.now }
+    ensures { result ≡ sections.debug_offset (data_in layout.now).rows object number }
 {
-    let row = rows.get(object as usize)?;
-    offset_in_row(row, number)
+    match data_section(layout, object, number) {
+        Some(section) => Some(section.at),
+        None => None,
+    }
 }
 
 /// The address of a section of an object or of a common block, by their numbers, where it is kept.
@@ -104,23 +119,26 @@ fn address_of(layout: &DataLayout<'_, '_>, object: u64, section: u64) -> Option<
 
 /// Where a section of an object is, by their numbers: its address, or its offset in debug data.
 fn section_value(layout: &DataLayout<'_, '_>, object: u64, section: u64) -> Option<u64>
+    requires { IsDataLayout layout.now }
     ensures { result ≡ spec.section_value (data_in layout.now) object section }
 {
     match address_of(layout, object, section) {
         Some(at) => Some(at),
-        None => debug_offset(layout.rows, object, section),
+        None => debug_offset(layout, object, section),
     }
 }
 
-/// The value of a symbol; None where its section isn't in the image.
-fn symbol_value(layout: &DataLayout<'_, '_>, symbol: &SymbolOf<'_>) -> Option<u64>
-    ensures { result ≡ spec.symbol_value (data_in layout.now) (symbol_view symbol.now) }
+/// The value of a symbol of an object; None where its section isn't in the image.
+fn symbol_value(layout: &DataLayout<'_, '_>, object: u64, entry: &Symbol) -> Option<u64>
+    requires { IsDataLayout layout.now }
+    ensures { (s : SymbolOf) → s.object ≡ object → s.entry ≡ entry.now
+        → result ≡ spec.symbol_value (data_in layout.now) s }
 {
-    if symbol.entry.st_shndx == SHN_ABS {
-        return Some(symbol.entry.st_value);
+    if entry.st_shndx == SHN_ABS {
+        return Some(entry.st_value);
     }
-    let at = section_value(layout, symbol.object, symbol.entry.st_shndx as u64)?;
-    Some(at.wrapping_add(symbol.entry.st_value))
+    let at = section_value(layout, object, entry.st_shndx as u64)?;
+    Some(at.wrapping_add(entry.st_value))
 }
 
 /// The value of what a name means.
@@ -129,13 +147,38 @@ fn meaning_value(layout: &DataLayout<'_, '_>, meaning: &Definition<'_>) -> Optio
     ensures { result ≡ spec.meaning_value (data_in layout.now) (meaning_view meaning.now) }
 {
     match meaning {
-        Definition::Symbol(symbol) => symbol_value(layout, symbol),
+        Definition::Symbol(symbol) => symbol_value(layout, symbol.object, &symbol.entry),
         Definition::Common(block) => address_of(layout, block.object, block.number),
         Definition::Linker(name, bound) => Some(layout.placement.bound(name, *bound)),
     }
 }
 
-/// What an entry that names symbol `j` uses.
+/// The size of what an entry uses; 0 of nothing, and of the linker's own names.
+fn size_of(used: &Option<Definition<'_>>) -> u64
+    ensures { result ≡ unwrap_or (option_map meaning.meaning_size
+        (option_map meaning_view used.now)) 0 % 2 ^ 64 }
+{
+    match used {
+        Some(Definition::Symbol(symbol)) => symbol.entry.st_size,
+        Some(Definition::Common(block)) => block.size,
+        Some(Definition::Linker(_, _)) => 0,
+        None => 0,
+    }
+}
+
+/// The value of what an entry uses; None of nothing, and of what isn't in the image.
+fn value_of(layout: &DataLayout<'_, '_>, used: &Option<Definition<'_>>) -> Option<u64>
+    requires { IsDataLayout layout.now }
+    ensures { result ≡ option_and_then (spec.meaning_value (data_in layout.now))
+        (option_map meaning_view used.now) }
+{
+    match used {
+        Some(definition) => meaning_value(layout, definition),
+        None => None,
+    }
+}
+
+/// What an entry uses that names symbol `j`.
 fn meaning_of<'a>(
     layout: &DataLayout<'_, 'a>,
     here: &Here<'_, '_, 'a>,
@@ -154,32 +197,61 @@ fn meaning_of<'a>(
     })
 }
 
-/// The value of what an entry uses that names symbol `j`: 0 where that is number 0.
-fn used_value(layout: &DataLayout<'_, '_>, j: u64, used: &Option<Definition<'_>>) -> Option<u64>
-    requires { IsDataLayout layout.now }
-    ensures { result
-        ≡ spec.used_value (data_in layout.now) j (option_map meaning_view used.now) }
+/// The value of what an entry uses, None where that isn't in the image; and its size in bytes.
+#[derive(Clone, Copy, Debug)]
+pub struct Used {
+    pub value: Option<u64>,
+    pub size: u64,
+}
+
+/// What an entry uses that names symbol `j`, by what its name means.
+fn defined_by_name<'a>(layout: &DataLayout<'_, 'a>, here: &Here<'_, '_, 'a>, j: u64) -> Used
+    requires layout { IsDataLayout layout.now }
+    requires here { IsHere layout.now here.now }
+    ensures { IsDefined layout.now (symbol_at here.now.place.now.piece.object
+        (loaded_view here.now.loaded.now) j) result }
 {
-    if j == 0 {
-        return Some(0);
-    }
-    match used {
-        Some(definition) => meaning_value(layout, definition),
-        None => None,
+    let used = meaning_of(layout, here, j);
+    Used {
+        value: value_of(layout, &used),
+        size: size_of(&used),
     }
 }
 
-/// The size of what an entry uses; 0 of nothing, and of the linker's own names.
-fn size_of(used: &Option<Definition<'_>>) -> u64
-    ensures { result ≡ unwrap_or (option_map meaning.meaning_size
-        (option_map meaning_view used.now)) 0 % 2 ^ 64 }
+/// What an entry uses that names symbol `j`. No name is read where the symbol is LOCAL and defined.
+fn defined_at<'a>(layout: &DataLayout<'_, 'a>, here: &Here<'_, '_, 'a>, j: u64) -> Used
+    requires layout { IsDataLayout layout.now }
+    requires here { IsHere layout.now here.now }
+    ensures { IsDefined layout.now (symbol_at here.now.place.now.piece.object
+        (loaded_view here.now.loaded.now) j) result }
 {
-    match used {
-        Some(Definition::Symbol(symbol)) => symbol.entry.st_size,
-        Some(Definition::Common(block)) => block.size,
-        Some(Definition::Linker(_, _)) => 0,
-        None => 0,
+    let loaded = here.loaded;
+    let entry = loaded.object.symbol(j as usize);
+    if entry.binding() != STB_LOCAL || entry.st_shndx == SHN_UNDEF {
+        return defined_by_name(layout, here, j);
     }
+    let place = here.place;
+    Used {
+        value: symbol_value(layout, place.piece.object, &entry),
+        size: entry.st_size,
+    }
+}
+
+/// What an entry uses that names symbol `j`, of the value 0 where that is number 0.
+fn used_at<'a>(layout: &DataLayout<'_, 'a>, here: &Here<'_, '_, 'a>, j: u64) -> Used
+    requires layout { IsDataLayout layout.now }
+    requires here { IsHere layout.now here.now }
+    ensures { IsUsed layout.now (symbol_at here.now.place.now.piece.object
+        (loaded_view here.now.loaded.now) j) result }
+{
+    let used = defined_at(layout, here, j);
+    if j == 0 {
+        return Used {
+            value: Some(0),
+            size: used.size,
+        };
+    }
+    used
 }
 
 /// The offset of a value from the thread pointer, both modulo 2 to the 64.
@@ -286,9 +358,9 @@ pub fn wanted_value<'a>(
 {
     let place = here.place;
     let j = entry.symbol() as u64;
-    let used = meaning_of(layout, here, j);
-    match used_value(layout, j, &used) {
-        Some(symbol) => value(kind, terms(layout, here, entry, symbol, size_of(&used))),
+    let used = used_at(layout, here, j);
+    match used.value {
+        Some(symbol) => value(kind, terms(layout, here, entry, symbol, used.size)),
         None => gone_value(place.piece.name),
     }
 }

@@ -1,18 +1,22 @@
 //! Debug data joined by their names.
-ghost use Rattle.std.specs.Prelude.{◌≡◌, ◌+◌, ◌≤◌, ◌^◌, ◌++◌, ◌∷◌, [], All, IfErr, IfOk, OnOk};
+ghost use Rattle.std.specs.Prelude.{◌≡◌, ◌+◌, ◌≤◌, ◌^◌, ◌++◌, ◌∷◌, [], All, IfErr, IfOk, List, OnErr, OnOk, length};
+ghost use Rattle.elf_model.specs.Loading as loading;
 ghost use Rattle.elf_model.specs.Placement.{round_up};
 ghost use Rattle.layout.specs.PlaceViews.{place_view, place_views};
 ghost use Rattle.layout.specs.Views.{piece_view, piece_views};
 ghost use Rattle.search.specs.Views.{loaded_view, loaded_views};
+ghost use Rattle.debug_image.specs.DataIndexes.{AreAll};
 ghost use Rattle.debug_image.specs.DebugSections as spec;
 ghost use Rattle.debug_image.specs.DebugViews.{joined_view, joined_views, row_views};
 ghost use Rattle.debug_image.specs.declared.faults.DebugFault.TheVariants as fault;
 
+use crate::data_index::{DataSection, index_of};
 use crate::debug_sections::debug_pieces;
 use crate::faults::DebugFault;
 use layout::{Piece, Place};
 use search::LoadedObject;
 use std::alloc::{AllocError, Global};
+use std::collections::BTreeMap;
 
 /// The sections of one name, joined: its size, and the greatest alignment of them, in bytes.
 #[derive(Clone, Copy, Debug)]
@@ -23,11 +27,12 @@ pub struct Joined<'a> {
 }
 
 /// The sections of all objects that hold debug data, at their offsets in what is joined of their names, in a row for each
-/// object; and what is joined.
+/// object; what is joined; and an index of each row.
 #[derive(Drop)]
 pub struct DebugData<'a> {
     pub rows: Vec<Vec<Place<'a>>>,
     pub joined: Vec<Joined<'a>>,
+    pub index: Vec<BTreeMap<u64, DataSection>>,
 }
 
 /// The greatest alignment that is heeded, in bytes.
@@ -35,6 +40,9 @@ const MOST_ALIGNMENT: u64 = 1 << 21;
 
 /// Where joined data may end, in bytes.
 const MOST_BYTES: u64 = 1 << 40;
+
+/// The names of debug data that there may be, so that looking through them takes little for each section.
+const MOST_NAMES: usize = 256;
 
 /// The alignment of a section, in bytes; one of more than 2^21 counts as 1.
 fn alignment(piece: &Piece<'_>) -> u64
@@ -114,7 +122,25 @@ fn put<'a>(joined: &mut Vec<Joined<'a>>, more: Joined<'a>) -> Result<(), AllocEr
     Ok(())
 }
 
-/// Adds a section to what is joined of its name, and its place there; TooLarge where it ends too high.
+/// The place of a section behind what is joined of its name; TooLarge where it ends too high.
+fn place_behind<'a>(joined: &Joined<'a>, piece: &Piece<'a>) -> Result<Place<'a>, DebugFault>
+    requires { spec.IsLow (joined_view joined.now) }
+    ensures place { IfOk result (λ q. place_view q
+        ≡ spec.place_behind (joined_view joined.now) (piece_view piece.now)) }
+    ensures low { IfOk result (λ q. spec.EndsLow (place_view q)) }
+    ensures large { OnErr result (¬ spec.EndsLow
+        (spec.place_behind (joined_view joined.now) (piece_view piece.now))) }
+{
+    let at = round_up(alignment(piece), joined.end);
+    let size = piece.bytes.len() as u64;
+    if at > MOST_BYTES || size > MOST_BYTES - at {
+        return Err(DebugFault::TooLarge);
+    }
+    Ok(Place { at, piece: *piece })
+}
+
+/// Adds a section to what is joined of its name, and its place there; TooLarge where it ends too high, or there are more names
+/// than there may be.
 fn add<'a>(
     places: &mut Vec<Place<'a>>,
     joined: &mut Vec<Joined<'a>>,
@@ -129,17 +155,20 @@ fn add<'a>(
     ensures joined { OnOk result (joined_views joined.new.items
         ≡ spec.joined_with (joined_views joined.old.items) (piece_view piece.now)) }
     ensures low { OnOk result (All spec.IsLow (joined_views joined.new.items)) }
+    ensures few { OnOk result (length joined.new.items ≤ spec.most_names) }
     ensures large { IfErr result (λ f. f ≡ fault.TooLarge
-        → ¬ spec.EndsLow (spec.place_in (joined_views joined.old.items) (piece_view piece.now))) }
+        → ¬ spec.HaveRoom (joined_views joined.old.items) (piece_view piece.now ∷ [])) }
 {
     let one = named(joined, piece.name);
-    let at = round_up(alignment(piece), one.end);
-    let size = piece.bytes.len() as u64;
-    if at > MOST_BYTES || size > MOST_BYTES - at {
+    let place = match place_behind(&one, piece) {
+        Ok(place) => place,
+        Err(fault) => return Err(fault),
+    };
+    put(joined, grown(&one, piece, place.at))?;
+    places.push(place)?;
+    if joined.len() > MOST_NAMES {
         return Err(DebugFault::TooLarge);
     }
-    places.push(Place { at, piece: *piece })?;
-    put(joined, grown(&one, piece, at))?;
     Ok(())
 }
 
@@ -149,16 +178,17 @@ fn add_all<'a>(
     joined: &mut Vec<Joined<'a>>,
     pieces: &[Piece<'a>],
 ) -> Result<Vec<Place<'a>>, DebugFault>
-    requires { All spec.IsLow (joined_views joined.old.items) }
+    requires low { All spec.IsLow (joined_views joined.old.items) }
+    requires few { length joined.old.items ≤ spec.most_names }
     ensures places { IfOk result (λ v. place_views v.items
         ≡ spec.places_from (joined_views joined.old.items) (piece_views pieces.now)) }
     ensures ends { IfOk result (λ v. All spec.EndsLow (place_views v.items)) }
     ensures joined { OnOk result (joined_views joined.new.items
         ≡ spec.joined_all (joined_views joined.old.items) (piece_views pieces.now)) }
     ensures low { OnOk result (All spec.IsLow (joined_views joined.new.items)) }
+    ensures few { OnOk result (length joined.new.items ≤ spec.most_names) }
     ensures large { IfErr result (λ f. f ≡ fault.TooLarge
-        → ¬ All spec.EndsLow
-        (spec.places_from (joined_views joined.old.items) (piece_views pieces.now))) }
+        → ¬ spec.HaveRoom (joined_views joined.old.items) (piece_views pieces.now)) }
 {
     let mut places = Vec::new(alloc);
     for piece in pieces {
@@ -169,15 +199,17 @@ fn add_all<'a>(
     Ok(places)
 }
 
-/// Adds the sections of the object that has a number, and a row of their places.
+/// Adds the sections of the object that has a number, a row of their places, and an index of that.
 fn add_object<'a>(
     alloc: Global,
     rows: &mut Vec<Vec<Place<'a>>>,
     joined: &mut Vec<Joined<'a>>,
+    index: &mut Vec<BTreeMap<u64, DataSection>>,
     number: u64,
     loaded: &LoadedObject<'a>,
 ) -> Result<(), DebugFault>
-    requires { All spec.IsLow (joined_views joined.old.items) }
+    requires low { All spec.IsLow (joined_views joined.old.items) }
+    requires few { length joined.old.items ≤ spec.most_names }
     ensures rows { OnOk result (row_views rows.new.items
         ≡ row_views rows.old.items
         ++ spec.places_from (joined_views joined.old.items)
@@ -189,13 +221,17 @@ fn add_object<'a>(
         ≡ spec.joined_all (joined_views joined.old.items)
         (spec.debug_pieces number (loaded_view loaded.now))) }
     ensures low { OnOk result (All spec.IsLow (joined_views joined.new.items)) }
+    ensures few { OnOk result (length joined.new.items ≤ spec.most_names) }
     ensures large { IfErr result (λ f. f ≡ fault.TooLarge
-        → ¬ All spec.EndsLow
-        (spec.places_from (joined_views joined.old.items)
-        (spec.debug_pieces number (loaded_view loaded.now)))) }
+        → ¬ spec.HaveRoom (joined_views joined.old.items)
+        (spec.debug_pieces number (loaded_view loaded.now))) }
+    ensures index { OnOk result ((os : List loading.LoadedObject) →
+        AreAll os (row_views rows.old.items) index.old.items
+        → AreAll (os ++ loaded_view loaded.now ∷ []) (row_views rows.new.items) index.new.items) }
 {
     let pieces = debug_pieces(alloc, number, loaded)?;
     let places = add_all(alloc, joined, &pieces)?;
+    index.push(index_of(alloc, loaded, &places)?)?;
     rows.push(places)?;
     Ok(())
 }
@@ -204,7 +240,7 @@ fn add_object<'a>(
 ///
 /// # Errors
 ///
-/// TooLarge where a section of them would end above 2^40 in what is joined of its name; Memory.
+/// TooLarge where a section of them would end above 2^40 in what is joined of its name, or there are more than 256 names; Memory.
 pub fn debug_data<'a>(
     alloc: Global,
     objects: &[LoadedObject<'a>],
@@ -215,15 +251,26 @@ pub fn debug_data<'a>(
         ≡ spec.joined_of (loaded_views objects.now)) }
     ensures low { IfOk result (λ d. All spec.IsLow (joined_views d.joined.items)) }
     ensures ends { IfOk result (λ d. spec.AreLow (row_views d.rows.items)) }
+    ensures few { IfOk result (λ d. length d.joined.items ≤ spec.most_names) }
     ensures large { IfErr result (λ f. f ≡ fault.TooLarge
-        → ¬ spec.AreLow (spec.debug_rows (loaded_views objects.now))) }
+        → ¬ spec.AreFew (spec.debug_rows (loaded_views objects.now))
+        (spec.joined_of (loaded_views objects.now))) }
+    ensures index { IfOk result (λ d. AreAll (loaded_views objects.now)
+        (row_views d.rows.items) d.index.items) }
 {
     let mut rows = Vec::new(alloc);
     let mut joined = Vec::new(alloc);
+    let mut index = Vec::new(alloc);
     for (k, loaded) in objects.iter().enumerate() {
-        if let Err(fault) = add_object(alloc, &mut rows, &mut joined, k as u64, loaded) {
+        if let Err(fault) =
+            add_object(alloc, &mut rows, &mut joined, &mut index, k as u64, loaded)
+        {
             return Err(fault);
         }
     }
-    Ok(DebugData { rows, joined })
+    Ok(DebugData {
+        rows,
+        joined,
+        index,
+    })
 }

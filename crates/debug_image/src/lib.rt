@@ -2,6 +2,7 @@
 #![tactic(auto)]
 
 mod chunks;
+mod data_index;
 mod debug_bytes;
 mod debug_file;
 mod debug_sections;
@@ -15,6 +16,7 @@ mod lists;
 mod plain_part;
 mod reports;
 mod row;
+mod section_numbers;
 mod sections;
 mod symbol_rows;
 mod symbol_table;

@@ -1,11 +1,12 @@
 //! The tables of a link: its sections, its symbols and their names.
-ghost use Rattle.std.specs.Prelude.{◌≡◌, ◌+◌, ◌<◌, ◌++◌, All, IfOk, length};
+ghost use Rattle.std.specs.Prelude.{◌≡◌, ◌+◌, ◌≤◌, ◌++◌, All, IfOk, length};
 ghost use Rattle.elf_model.specs.ImageFile.{own_end};
 ghost use Rattle.resolve.specs.Views.{meaning_views};
 ghost use Rattle.debug_image.specs.DebugImage as spec;
-ghost use Rattle.debug_image.specs.DebugSections.{IsLow, joined_rows};
+ghost use Rattle.debug_image.specs.DebugSections.{IsLow, joined_rows, most_names};
 ghost use Rattle.debug_image.specs.DebugViews.{joined_views};
 ghost use Rattle.debug_image.specs.Layouts.{IsLayout, laid_in};
+ghost use Rattle.debug_image.specs.SectionNumbers.{AreNumbers};
 ghost use Rattle.debug_image.specs.Sections as image_sections;
 ghost use Rattle.debug_image.specs.SectionViews.{section_views};
 ghost use Rattle.debug_image.specs.Symbols as symbols;
@@ -16,6 +17,7 @@ use crate::debug_file::end_of;
 use crate::headers::{HeaderRow, title_bytes};
 use crate::joined::Joined;
 use crate::row::Row;
+use crate::section_numbers::{SectionNumbers, section_numbers};
 use crate::sections::{Section, section_rows, sections};
 use crate::symbol_rows::{Layout, add_meanings, local_rows};
 use crate::symbol_table::symbol_bytes;
@@ -42,10 +44,16 @@ pub fn thread_start(placement: &Placement<'_>) -> u64
     }
 }
 
-/// Where a link is laid out, whose image has these sections.
-fn layout_of<'c, 'a>(linkage: &'c Linkage<'a>, sections: &'c [Section<'a>]) -> Layout<'c, 'a>
-    requires { section_views sections.now
+/// Where a link is laid out, whose image has these sections, with these numbers.
+fn layout_of<'c, 'a>(
+    linkage: &'c Linkage<'a>,
+    sections: &'c [Section<'a>],
+    numbers: &'c SectionNumbers<'a>,
+) -> Layout<'c, 'a>
+    requires sections { section_views sections.now
         ≡ spec.sections_in linkage.now.plan.base linkage.now.objects }
+    requires numbers { AreNumbers (length linkage.now.objects)
+        (section_views sections.now) numbers.now }
     ensures layout { IsLayout result }
     ensures laid { laid_in result ≡ spec.laid_of linkage.now.plan.base linkage.now.objects }
 {
@@ -54,6 +62,7 @@ fn layout_of<'c, 'a>(linkage: &'c Linkage<'a>, sections: &'c [Section<'a>]) -> L
         objects: linkage.loaded().objects(),
         placement,
         sections,
+        numbers,
         thread_start: thread_start(placement),
     }
 }
@@ -101,6 +110,19 @@ fn link_sections<'a>(alloc: Global, linkage: &Linkage<'a>) -> Result<Vec<Section
     sections(alloc, count, linkage.parts().placement.places())
 }
 
+/// The numbers of the sections of the image of a link.
+fn link_numbers<'a>(
+    alloc: Global,
+    linkage: &Linkage<'a>,
+    sections: &[Section<'a>],
+) -> Result<SectionNumbers<'a>, AllocError>
+    ensures { IfOk result (AreNumbers (length linkage.now.objects) (section_views sections.now)) }
+{
+    let loaded = linkage.loaded();
+    let count = loaded.objects().len() as u64;
+    section_numbers(alloc, loaded.name_seed(), count, sections)
+}
+
 /// The rows of the sections of an image, and of joined debug data behind them.
 fn all_sections<'a>(
     alloc: Global,
@@ -109,7 +131,7 @@ fn all_sections<'a>(
     joined: &[Joined<'a>],
 ) -> Result<Vec<HeaderRow<'a>>, AllocError>
     requires low { All IsLow (joined_views joined.now) }
-    requires few { length joined.now < 0xff00 }
+    requires few { length joined.now ≤ most_names }
     ensures { IfOk result (λ v. header_views v.items
         ≡ image_sections.section_rows linkage.now.plan.base (own_end linkage.now.plan.base linkage.now.objects)
         (length linkage.now.objects) (section_views found.now)
@@ -133,7 +155,7 @@ fn made_tables<'a>(
     symbols: &Rows<'a>,
 ) -> Result<Tables<'a>, AllocError>
     requires low { All IsLow (joined_views joined.now) }
-    requires few { length joined.now < 0xff00 }
+    requires few { length joined.now ≤ most_names }
     ensures { IfOk result (λ t. tables_view t
         ≡ spec.tables_from linkage.now.plan.base (own_end linkage.now.plan.base linkage.now.objects)
         (length linkage.now.objects) (section_views found.now) (joined_views joined.now)
@@ -160,13 +182,15 @@ pub fn tables_of<'a>(
     wanted: bool,
 ) -> Result<Tables<'a>, AllocError>
     requires low { All IsLow (joined_views joined.now) }
-    requires few { length joined.now < 0xff00 }
+    requires few { length joined.now ≤ most_names }
     ensures { IfOk result (λ t. tables_view t
         ≡ spec.tables_with wanted linkage.now.plan.base linkage.now.objects
         (joined_views joined.now) (meaning_views listed.now)) }
 {
     let found = link_sections(alloc, linkage)?;
-    let symbols = all_rows(alloc, &layout_of(&*linkage, &found), listed, wanted)?;
+    let numbers = link_numbers(alloc, linkage, &found)?;
+    let layout = layout_of(&*linkage, &found, &numbers);
+    let symbols = all_rows(alloc, &layout, listed, wanted)?;
     let tables = made_tables(alloc, linkage, &found, joined, &symbols)?;
     Ok(tables)
 }

@@ -33,7 +33,7 @@ fn are_alike(one: &SectionHeader, other: &SectionHeader) -> bool
 }
 
 /// Whether two pieces of so many objects are of one output section; a common block or the GOT isn't with a section of an object.
-pub fn is_same_section(count: u64, one: &Piece<'_>, other: &Piece<'_>) -> bool
+fn is_same_section(count: u64, one: &Piece<'_>, other: &Piece<'_>) -> bool
     ensures { result ≡ spec.same_section count (piece_view one.now) (piece_view other.now) }
 {
     are_alike(&one.header, &other.header)
@@ -129,19 +129,6 @@ pub fn sections<'a>(
     let (_, rest) = places.split_at(1);
     add_sections(&mut found, count, begun(&places[0]), rest)?;
     Ok(found)
-}
-
-/// The number of the first section that a piece is of.
-pub fn section_number(count: u64, sections: &[Section<'_>], piece: &Piece<'_>) -> Option<usize>
-    ensures { result ≡ spec.section_number count (section_views sections.now)
-        (piece_view piece.now) }
-{
-    for (k, section) in sections.iter().enumerate() {
-        if is_same_section(count, &section.first.piece, piece) {
-            return Some(k);
-        }
-    }
-    None
 }
 
 /// The number of the section of the common blocks of so many objects.

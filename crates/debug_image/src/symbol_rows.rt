@@ -1,5 +1,5 @@
 //! The symbols of a debuggable image: which there are, and what each says.
-ghost use Rattle.std.specs.Prelude.{◌≡◌, ◌≤◌, ◌++◌, IfOk, OnOk, option_map};
+ghost use Rattle.std.specs.Prelude.{◌≡◌, ◌<◌, ◌++◌, IfOk, IfSome, OnOk, length, option_map};
 ghost use Rattle.std.specs.List.{filter_map};
 ghost use Rattle.std.specs.Option.{option_and_then};
 ghost use Rattle.elf_model.specs.ObjectFile.{section, sections, symbols};
@@ -14,7 +14,8 @@ ghost use Rattle.debug_image.specs.Symbols as spec;
 ghost use Rattle.debug_image.specs.Views.{row_view, row_views};
 
 use crate::row::Row;
-use crate::sections::{Section, blocks_number, section_number};
+use crate::section_numbers::SectionNumbers;
+use crate::sections::Section;
 use elf_model::{
     ObjectId, SHN_ABS, STB_GLOBAL, STB_LOCAL, STT_FILE, STT_NOTYPE, STT_OBJECT, STT_SECTION,
     SectionRef, Symbol,
@@ -24,12 +25,14 @@ use resolve::{Block, Definition, SymbolOf, is_dropped};
 use search::LoadedObject;
 use std::alloc::{AllocError, Global};
 
-/// Where a link is laid out: its objects, their places, the sections of its image, and where thread-local storage begins.
+/// Where a link is laid out: its objects, their places, the sections of its image, their numbers, and where thread-local
+/// storage begins.
 #[derive(Clone, Copy)]
 pub struct Layout<'c, 'a> {
     pub objects: &'c [LoadedObject<'a>],
     pub placement: &'c Placement<'a>,
     pub sections: &'c [Section<'a>],
+    pub numbers: &'c SectionNumbers<'a>,
     pub thread_start: u64,
 }
 
@@ -102,8 +105,9 @@ fn absolute_row<'a>(symbol: &SymbolOf<'a>) -> Row<'a>
 
 /// The section of an object in which a symbol is defined, as a piece.
 fn symbol_piece<'a>(objects: &[LoadedObject<'a>], symbol: &SymbolOf<'_>) -> Option<Piece<'a>>
-    ensures { option_map piece_view result
+    ensures exact { option_map piece_view result
         ≡ spec.symbol_piece (loaded_views objects.now) (symbol_view symbol.now) }
+    ensures inside { IfSome result (λ p. p.object < length objects.now) }
 {
     let loaded = objects.get(symbol.object as usize)?;
     Some(piece_of(symbol.object, loaded, symbol.entry.st_shndx as usize))
@@ -114,13 +118,14 @@ fn row_in<'a>(
     layout: &Layout<'_, 'a>,
     symbol: &SymbolOf<'a>,
     at: u64,
-    piece: &Piece<'_>,
+    piece: &Piece<'a>,
 ) -> Option<Row<'a>>
-    requires { IsLayout layout.now }
+    requires layout { IsLayout layout.now }
+    requires inside { piece.now.object < length layout.now.objects.now }
     ensures { option_map row_view result
         ≡ spec.row_in (laid_in layout.now) (symbol_view symbol.now) at (piece_view piece.now) }
 {
-    let number = section_number(layout.objects.len() as u64, layout.sections, piece)?;
+    let number = layout.numbers.of(piece)?;
     let value = value_at(layout, piece, at, symbol.entry.st_value);
     Some(placed_row(symbol.name, &symbol.entry, number, value))
 }
@@ -230,7 +235,7 @@ fn block_row<'a>(layout: &Layout<'_, 'a>, block: &Block<'a>) -> Option<Row<'a>>
         ≡ spec.block_row (laid_in layout.now) (block_view block.now) }
 {
     let at = layout.placement.numbered_address(block.section())?;
-    let number = blocks_number(layout.objects.len() as u64, layout.sections)?;
+    let number = layout.numbers.blocks()?;
     let entry = Symbol {
         st_name: 0,
         st_info: STB_GLOBAL * 16 + STT_OBJECT,

@@ -102,7 +102,7 @@ fn write_link<'a, 'b, R: Files + AllocGlobal + RandomSource, E: Write>(
     let Ok(resolved) = resolve(rt.alloc(), linkage.loaded()) else {
         return Err(Failure::from(LinkError::Memory));
     };
-    let layout = data_layout(linkage, &resolved, &parts.data.rows);
+    let layout = data_layout(linkage, &resolved, &parts.data);
     if wanted.debug {
         print_compressed(rt.alloc(), err, files, layout.objects)?;
     }

@@ -10,16 +10,8 @@ use Rattle.debug_image.specs.Tables.{IsSmall}
 use Rattle.debug_image.specs.Views.{tables_view}
 use Rattle.debug_image.specs.declared.joined.Joined as code
 use Rattle.debug_image.proofs.LinkImages.{plain_is_image}
-use Rattle.debug_image.proofs.LinkTables.{too_many}
+use Rattle.debug_image.proofs.LinkTables.{few_of}
 use Rattle.debug_image.proofs.debug_file.debug_parts.Goals as goal
-
-pub returns-then-len-ge-MOST_JOINED-clause-large : goal.returns-then-len-ge-MOST_JOINED-clause-large
-returns-then-len-ge-MOST_JOINED-clause-large c = λ _.
-    let w = c.args.wanted in
-    let l = c.args.linkage.now in
-    too_many w l (meaning_views c.args.names.now) c.in_ok-data.data.joined.items c.len.result
-    (c.in_ok-data.ensures.joined ∙ ap (λ (os : List LoadedObject). joined_in w os) (c.objects.ensures.exact ∙ ap (λ (p : LoadedPlan). p.objects) c.loaded.ensures))
-    (c.len.ensures ∙ c.in_ok-data.data.joined.ok.0) c.if-len-ge-MOST_JOINED.true
 
 pub returns-clause-said : goal.returns-clause-said
 returns-clause-said c =
@@ -35,7 +27,10 @@ returns-clause-said c =
           ∙ ap (λ (js : List Joined). tables_with w.locals l.plan.base l.objects js ms)
           (c.in_ok-data.ensures.joined ∙ ap (λ (os : List LoadedObject). joined_in w os) same))
           (c.if-not-are_small.ensures.0 refl);
-      low = subst AreLow (c.in_ok-data.ensures.rows ∙ ap (λ (os : List LoadedObject). rows_in w os) same) c.in_ok-data.ensures.ends;
+      few = record {
+        low = subst AreLow (c.in_ok-data.ensures.rows ∙ ap (λ (os : List LoadedObject). rows_in w os) same) c.in_ok-data.ensures.ends;
+        few = few_of c.in_ok-data.data.joined.items _ (c.in_ok-data.ensures.joined ∙ ap (λ (os : List LoadedObject). joined_in w os) same) c.in_ok-data.ensures.few;
+      };
     }
 
 pub returns-clause-plain : goal.returns-clause-plain

@@ -1,4 +1,4 @@
-use Rattle.std.proofs.Common.{◌≡◌, ◌++◌, ◌∙◌, List, Option, ap, option_map, sym}
+use Rattle.std.proofs.Common.{◌++◌, ◌∙◌, List, Option, ap, sym}
 use Rattle.elf_model.specs.Pieces as pieces
 use Rattle.layout.specs.Views.{piece_view, piece_views}
 use Rattle.search.specs.Views.{loaded_view}

@@ -1,7 +1,7 @@
 use Rattle.layout.proofs.RunSteps.{no_piece}
 use Rattle.layout.specs.PlaceViews.{place_views}
 use Rattle.debug_image.specs.DebugViews.{joined_views}
-use Rattle.debug_image.proofs.JoinedSteps.{ends_more, joined_more, not_low, places_more}
+use Rattle.debug_image.proofs.JoinedSteps.{ends_more, joined_more, no_room, places_more}
 use Rattle.debug_image.proofs.joined.add_all.Goals as goal
 
 pub loop-piece-preserved : goal.loop-piece-preserved
@@ -16,9 +16,10 @@ loop-piece-preserved c =
       ends = ends_more (place_views c.loop-piece.places.items) _ _ more.places v.ends more.ends;
       joined = joined_more (joined_views c.loop-piece.joined.items) _ ps k no_piece _ within more.joined v.joined;
       low = more.low;
+      few = more.few;
     }
 
 pub returns-in-Err-clause-large : goal.returns-in-Err-clause-large
 returns-in-Err-clause-large c = λ large.
-    not_low (joined_views c.loop-piece.joined.items) c.args.pieces.now c.loop-piece.piece-index no_piece (place_views c.loop-piece.places.items) _
-    c.loop-piece-test.true c.loop-piece.invariant.places (c.in-Err.ensures.large large)
+    no_room (joined_views c.loop-piece.joined.items) c.args.pieces.now c.loop-piece.piece-index no_piece (place_views c.loop-piece.places.items)
+    (joined_views c.args.joined.now.items) c.loop-piece-test.true c.loop-piece.invariant.places c.loop-piece.invariant.joined (c.in-Err.ensures.large large)

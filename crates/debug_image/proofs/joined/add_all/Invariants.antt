@@ -1,8 +1,8 @@
-use Rattle.std.proofs.Common.{◌≡◌, ◌++◌, drop}
+use Rattle.std.proofs.Common.{◌≡◌, ◌≤◌, ◌++◌, drop, length}
 use Rattle.std.specs.Prelude.{All}
 use Rattle.layout.specs.PlaceViews.{place_views}
 use Rattle.layout.specs.Views.{piece_views}
-use Rattle.debug_image.specs.DebugSections.{EndsLow, IsLow, joined_all, places_from}
+use Rattle.debug_image.specs.DebugSections.{EndsLow, IsLow, joined_all, most_names, places_from}
 use Rattle.debug_image.specs.DebugViews.{joined_views}
 use Rattle.debug_image.proofs.joined.add_all.Given as goal
 
@@ -16,4 +16,5 @@ invariant-loop-piece l = record {
       joined_all (joined_views l.joined.items) (piece_views (drop l.piece-index l.pieces))
       ≡ joined_all (joined_views l.fn.joined.items) (piece_views l.pieces);
   low : All IsLow (joined_views l.joined.items);
+  few : length l.joined.items ≤ most_names;
 }

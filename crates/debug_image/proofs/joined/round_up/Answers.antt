@@ -1,5 +1,4 @@
 use Rattle.elf_model.proofs.Running.{rounded_up}
-use Rattle.std.proofs.Common.{arith}
 use Rattle.debug_image.proofs.joined.round_up.Goals as goal
 
 pub returns-clause-above : goal.returns-clause-above

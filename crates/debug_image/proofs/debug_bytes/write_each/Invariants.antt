@@ -3,7 +3,7 @@ use Rattle.std.specs.Prelude.{slice_index}
 use Rattle.std.specs.List.{filter_map, flat_map, list_any, range_with_len}
 use Rattle.debug_image.specs.DebugLayouts.{data_in, object_here, placed_here}
 use Rattle.debug_image.specs.DebugValues.{byte_under, entries_at, entry_field, is_left}
-use Rattle.debug_image.proofs.debug_bytes.write_all.Given as goal
+use Rattle.debug_image.proofs.debug_bytes.write_each.Given as goal
 
 abbrev pub invariant-loop-i : goal.invariant-loop-i
 invariant-loop-i l = record {
