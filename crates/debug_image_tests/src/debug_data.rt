@@ -1,6 +1,8 @@
 //! Debug data of an image: what is joined, and what relocations want. The values are those of the psABI's formulas, by hand.
 ghost use Rattle.std.specs.Prelude.{◌≡◌};
+ghost use Rattle.debug_image.specs.DataIndexes.{AreIndexes};
 ghost use Rattle.debug_image.specs.DebugLayouts.{IsDataLayout};
+ghost use Rattle.debug_image.specs.DebugViews.{row_views};
 
 use crate::found::{bytes_of, find, has_section};
 use debug_image::{
@@ -134,9 +136,11 @@ fn named<'a>(
     resolved: &Resolved<'a>,
     parts: &DebugParts<'a>,
 ) -> Result<(Vec<SectionRef>, Vec<SectionRef>), Fail>
-    requires { resolved.now ≡ linkage.now.objects }
+    requires resolved { resolved.now ≡ linkage.now.objects }
+    requires index { AreIndexes linkage.now.objects
+        (row_views parts.now.data.rows.items) parts.now.data.index.items }
 {
-    let layout = data_layout(linkage, resolved, &parts.data.rows);
+    let layout = data_layout(linkage, resolved, &parts.data);
     let left = unrelocated(alloc, &layout, &parts.chunks)?;
     Ok((compressed(alloc, layout.objects)?, left))
 }

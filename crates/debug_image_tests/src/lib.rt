@@ -6,6 +6,8 @@ mod debug_data;
 #[cfg(test)]
 mod found;
 #[cfg(test)]
+mod names;
+#[cfg(test)]
 mod tables;
 #[cfg(test)]
 mod vectors;

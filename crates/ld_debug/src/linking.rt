@@ -1,5 +1,8 @@
 //! The link, and the files that are written for it.
+ghost use Rattle.std.specs.Prelude.{IfOk};
+ghost use Rattle.debug_image.specs.DataIndexes.{AreIndexes};
 ghost use Rattle.debug_image.specs.DebugLayouts.{IsDataLayout};
+ghost use Rattle.debug_image.specs.DebugViews.{row_views};
 
 use crate::image_files::written_image;
 use crate::outputs::{finish, written};
@@ -19,7 +22,10 @@ fn made<'a, 'b>(
     alloc: Global,
     linkage: &Linkage<'b>,
     wanted: Wanted,
-) -> Result<DebugParts<'b>, Failure<'a>> {
+) -> Result<DebugParts<'b>, Failure<'a>>
+    ensures { IfOk result (λ p. AreIndexes linkage.now.objects
+        (row_views p.data.rows.items) p.data.index.items) }
+{
     let names = definitions(alloc, linkage)?;
     match debug_parts(alloc, linkage, &names, wanted) {
         Ok(parts) => Ok(parts),
