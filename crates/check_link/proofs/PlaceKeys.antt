@@ -1,10 +1,15 @@
 -- One more piece in the index of addresses by sections.
-use Rattle.std.proofs.Common.{◌≡◌, ℕ, ◌==◌, ◌&&◌, Bool, true, false, cond, Option, Some, None, refl, sym, ◌∙◌, ap, subst}
-use Rattle.std.specs.Prelude.{is_some}
+use Rattle.std.proofs.Common.{◌≡◌, ℕ, ◌+◌, ◌<◌, ◌==◌, ◌&&◌, Bool, true, false, cond, List, length, drop, get_or, Option, Some, None, refl, sym, ◌∙◌, ap, subst}
+use Rattle.std.specs.Prelude.{find, is_some, option_map}
 use Rattle.std.specs.HashMap.{Updates}
 use Rattle.std.specs.Option.{option_or}
 use Rattle.std.proofs.lemmas.Bool.{eqb-true}
+use Rattle.elf_model.proofs.Rests.{rest_at}
+use Rattle.elf_model.specs.Placement as placement
+use Rattle.elf_model.specs.Placement.{is_of_section}
 use Rattle.check_link.specs.PlaceIndex.{Addresses, address_in, is_same}
+use Rattle.check_link.specs.Views.{placed_view, placed_views}
+use Rattle.check_link.specs.declared.things.Placed.{Placed}
 
 -- the test of a section tells that both numbers are its
 both_equal : (a b c d : ℕ) → (a == c && b == d) ≡ true → (a ≡ c) × (b ≡ d)
@@ -36,3 +41,28 @@ module _ (old : Addresses) (o s at : ℕ) where
 pub no_address : (o : Option ℕ) → is_some o ≡ false → o ≡ None
 no_address None e = refl
 no_address (Some x) e = absurd (cc)
+
+-- one piece more is in the index, and one less is left
+pub place_step :
+    (old new : Option ℕ) (object section : ℕ) (xs : List Placed) (i : ℕ) (d : Placed) → i < length xs →
+    new ≡ option_or old (cond (is_of_section object section (placed_view (get_or xs i d))) (Some (get_or xs i d).at) None) →
+    option_or new (option_map (λ q. q.at) (find (is_of_section object section) (placed_views (drop (i + 1) xs))))
+    ≡ option_or old (option_map (λ q. q.at) (find (is_of_section object section) (placed_views (drop i xs))))
+place_step old new object section xs i d low e =
+    ap (λ (o : Option ℕ). option_or o (option_map at (find test (placed_views (drop (i + 1) xs))))) e
+    ∙ (by (test (placed_view (get_or xs i d))) old
+    ∙ sym (ap (λ (ys : List Placed). option_or old (option_map at (find test (placed_views ys)))) (rest_at xs i d low)))
+  where
+    at : placement.Placed → ℕ
+    at q = q.at
+
+    test : placement.Placed → Bool
+    test q = is_of_section object section q
+
+    by : (b : Bool) (o : Option ℕ) →
+        option_or (option_or o (cond b (Some (get_or xs i d).at) None)) (option_map at (find test (placed_views (drop (i + 1) xs))))
+        ≡ option_or o (option_map at (cond b (Some (placed_view (get_or xs i d))) (find test (placed_views (drop (i + 1) xs)))))
+    by true None = refl
+    by true (Some x) = refl
+    by false None = refl
+    by false (Some x) = refl

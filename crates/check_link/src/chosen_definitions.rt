@@ -1,6 +1,6 @@
 //! The index of the chosen definitions by their names: of each name the position of its chosen one in the list of the
 //! definitions.
-ghost use Rattle.std.specs.Prelude.{◌≡◌, ◌&&◌, ℕ, IfOk, List, None, OnOk, Some, cond, filter, option_map, slice_get, slice_set, true};
+ghost use Rattle.std.specs.Prelude.{◌≡◌, ◌&&◌, ℕ, [], IfOk, List, None, OnOk, Some, cond, filter, option_map, slice_get, slice_set, true};
 ghost use Rattle.std.specs.Option.{option_or};
 ghost use Rattle.std.specs.Str.{bytes_eq};
 ghost use Rattle.elf_model.specs.ChosenSymbols.{is_definition};
@@ -122,6 +122,22 @@ fn add_weak<'a>(index: &mut Chosen<'a>, definitions: &[SymbolOf<'a>]) -> Result<
     Ok(())
 }
 
+/// An index of no names, with room for a number of them. Names are to be hashed from a seed, or found by their order without
+/// one.
+fn empty_index<'a>(
+    alloc: Global,
+    count: usize,
+    seed: Option<NameSeed>,
+) -> Result<Chosen<'a>, AllocError>
+    ensures sized { IfOk result IsSized }
+    ensures empty { IfOk result (λ c. c.positions.items ≡ []) }
+{
+    let mut names = NameTable::new(alloc, seed);
+    names.reserve(count)?;
+    let positions = Vec::with_capacity(alloc, count)?;
+    Ok(Chosen { names, positions })
+}
+
 /// The chosen definition of each name, by its position. The definitions are those of the objects. Names are to be hashed
 /// from a seed, or found by their order without one.
 pub fn index_names<'a>(
@@ -137,10 +153,7 @@ pub fn index_names<'a>(
         (symbol_views definitions.now)) }
     ensures own { IfOk result (IsOwn (symbol_views definitions.now)) }
 {
-    let mut index = Chosen {
-        names: NameTable::new(alloc, seed),
-        positions: Vec::new(alloc),
-    };
+    let mut index = empty_index(alloc, definitions.len(), seed)?;
     add_strong(&mut index, definitions)?;
     add_common(&mut index, definitions)?;
     add_weak(&mut index, definitions)?;

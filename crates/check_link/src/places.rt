@@ -174,7 +174,7 @@ fn index_places(
 ) -> Result<HashMap<(u64, u64), u64>, AllocError>
     ensures { IfOk result (IsPlaceIndex (placed_views placed.now)) }
 {
-    let mut addresses = HashMap::new(alloc);
+    let mut addresses = HashMap::with_capacity(alloc, placed.len())?;
     for q in placed {
         add_place(&mut addresses, q)?;
     }

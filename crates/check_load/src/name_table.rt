@@ -34,6 +34,13 @@ impl<'a> HashedNames<'a> {
         }
     }
 
+    /// Makes room for a number of names more.
+    fn reserve(&mut self, count: usize) -> Result<(), AllocError>
+        ensures { self.new ≡ self.old }
+    {
+        self.names.reserve(count)
+    }
+
     fn find(&self, name: &[u8]) -> Option<usize>
         ensures { result ≡ position (bytes_eq name.now) self.now }
     {
@@ -77,6 +84,13 @@ impl<'a> OrderedNames<'a> {
             names: Vec::new(alloc),
             numbers: BTreeMap::new(alloc),
         }
+    }
+
+    /// Makes room for a number of names more, as far as that can be done.
+    fn reserve(&mut self, count: usize) -> Result<(), AllocError>
+        ensures { self.new ≡ self.old }
+    {
+        self.names.reserve(count)
     }
 
     fn find(&self, name: &[u8]) -> Option<usize>
@@ -149,6 +163,20 @@ impl<'a> NameTable<'a> {
             None => Finder::Ordered(OrderedNames::new(alloc)),
         };
         NameTable { finder }
+    }
+
+    /// Makes room for a number of names more, so that fewer of those that come need memory.
+    ///
+    /// # Errors
+    ///
+    /// Where memory is refused.
+    pub fn reserve(&mut self, count: usize) -> Result<(), AllocError>
+        ensures { self.new ≡ self.old }
+    {
+        match &mut self.finder {
+            Finder::Hashed(names) => names.reserve(count),
+            Finder::Ordered(names) => names.reserve(count),
+        }
     }
 
     /// The number of a name; None where it has none. Takes no memory.

@@ -38,7 +38,8 @@ returns-clause-chosen c = λ name.
     let common = λ (s : SymbolOf). is_common_definition s && has_name name s in
     let weak = λ (s : SymbolOf). is_weak_definition s && has_name name s in
     let look = option_and_then (slice_get ss) in
-    let none : slice_get c.new-2.result.items (number_of c.new.result name) ≡ None = ap (λ (ps : List ℕ). slice_get ps (number_of c.new.result name)) c.new-2.ensures.items in
+    let index = c.in_ok-index.index in
+    let none : slice_get index.positions.items (number_of index.names name) ≡ None = ap (λ (ps : List ℕ). slice_get ps (number_of index.names name)) c.in_ok-index.ensures.empty in
     let positions = passes _ (first_from strong 0 ss) (first_from common 0 ss) (first_from weak 0 ss) _ _ _ none
     (c.in_ok-add_strong.ensures.positions name) (c.in_ok-add_common.ensures.positions name) (c.in_ok-add_weak.ensures.positions name) in
     ap look positions
@@ -55,4 +56,4 @@ pub returns-clause-own : goal.returns-clause-own
 returns-clause-own c =
     c.in_ok-add_weak.ensures.own
     (c.in_ok-add_common.ensures.own
-    (c.in_ok-add_strong.ensures.own (λ n p s at there. absurd (none-some p (sym (ap (λ (ps : List ℕ). slice_get ps n) c.new-2.ensures.items) ∙ at)))))
+    (c.in_ok-add_strong.ensures.own (λ n p s at there. absurd (none-some p (sym (ap (λ (ps : List ℕ). slice_get ps n) c.in_ok-index.ensures.empty) ∙ at)))))
