@@ -5,6 +5,7 @@ pub mod KindRows
 pub mod KnownSteps
 pub mod Modulo
 pub mod NeedSteps
+pub mod NoUses
 pub mod ObjectFields
 pub mod PartitionPoints
 pub mod RightParts

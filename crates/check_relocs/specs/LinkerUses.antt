@@ -1,5 +1,5 @@
 -- Which symbols of an object have names that the linker defines.
-use Rattle.std.specs.Prelude.{◌≡◌, ℕ, Bool, List, Option}
+use Rattle.std.specs.Prelude.{◌≡◌, ℕ, Bool, false, List, Option}
 use Rattle.std.specs.BTreeSet.{BTreeSet}
 use Rattle.std.specs.Borrow.{Bor}
 use Rattle.std.specs.List.{list_any}
@@ -15,3 +15,7 @@ AreUsed objects names = (n : List ℕ) → is_among names n ≡ list_any (uses_l
 -- what is known of the symbols of the object that has a number is whether they are such
 abbrev pub AreUses : List LoadedObject → ℕ → LoadedObject → List (Option Bool) → Type 0
 AreUses objects number o us = AreKnown (λ j u. u ≡ is_linker_use objects (symbol_at number o j)) us
+
+-- no symbol of the object that has a number is such
+abbrev pub HaveNoUses : List LoadedObject → ℕ → LoadedObject → Type 0
+HaveNoUses objects number o = (j : ℕ) → is_linker_use objects (symbol_at number o j) ≡ false

@@ -1,5 +1,5 @@
 //! The linker's names that kept relocations use: which of them have a line in the map.
-ghost use Rattle.std.specs.Prelude.{◌≡◌, ◌∷◌, ◌++◌, ◌||◌, ℕ, [], List, IfOk, OnOk, Some, filter, map, option_to_list};
+ghost use Rattle.std.specs.Prelude.{◌≡◌, ◌∷◌, ◌++◌, ◌||◌, ℕ, [], List, IfOk, OnOk, Some, false, filter, map, option_to_list};
 ghost use Rattle.std.specs.List.{list_any, slice_get};
 ghost use Rattle.std.specs.Str.{bytes_eq};
 ghost use Rattle.std.specs.BTreeSet.{IsOrdered};
@@ -10,7 +10,7 @@ ghost use Rattle.elf_model.specs.ObjectFile.{sections};
 ghost use Rattle.elf_model.specs.Relocation.{is_some_kind, relocation_of, relocations, relocations_from, relocations_in, symbol_at};
 ghost use Rattle.elf_model.specs.UsedNames.{Gains, is_among, is_linker_use, linker_meaning, linker_meanings, uses_line};
 ghost use Rattle.check_load.specs.Views.{loaded_view, loaded_views};
-ghost use Rattle.check_relocs.specs.LinkerUses.{AreUsed, AreUses};
+ghost use Rattle.check_relocs.specs.LinkerUses.{AreUsed, AreUses, HaveNoUses};
 ghost use Rattle.check_link.specs.Views.{meaning_views, symbol_view};
 
 use crate::answers::{keep_answer, known_answer, no_answers};
@@ -159,6 +159,19 @@ fn add_section<'a>(
     )
 }
 
+/// Whether the object that has a number has such a symbol at all: mostly none does, and then its relocations aren't read.
+fn has_use<'a>(bindings: &Bindings<'_, '_, 'a>, number: u64, loaded: &Loaded<'a>) -> bool
+    ensures { result ≡ false
+        → HaveNoUses bindings.now.objects number (loaded_view loaded.now) }
+{
+    for j in 0..loaded.object.symbols().len() {
+        if is_use_of(bindings, number, loaded, j) {
+            return true;
+        }
+    }
+    false
+}
+
 /// Adds those that the kept relocations of an object use.
 fn add_object<'a>(
     alloc: Global,
@@ -170,6 +183,9 @@ fn add_object<'a>(
     ensures { OnOk result (Gains bindings.now.objects
         (relocations_from number (loaded_view loaded.now)) names.old names.new) }
 {
+    if !has_use(bindings, number, loaded) {
+        return Ok(());
+    }
     let mut uses = no_answers(alloc, loaded)?;
     let headers = loaded.object.sections();
     for i in 0..headers.len() {
