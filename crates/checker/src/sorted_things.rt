@@ -11,6 +11,6 @@ pub fn by_address(alloc: Global, things: &[Thing]) -> Result<Vec<Thing>, AllocEr
     ensures rising { IfOk result (λ v. IsNonDecreasingBy (λ t. t.at) v.items) }
 {
     let mut sorted = Vec::from_slice(alloc, things)?;
-    sorted.sort_by_key(|t| t.at)?;
+    sorted.sort_unstable_by_key(|t| t.at);
     Ok(sorted)
 }

@@ -5,4 +5,4 @@ use Rattle.checker.proofs.sorted_things.by_address.Goals as goal
 
 pub returns-clause-rising : goal.returns-clause-rising
 returns-clause-rising c =
-    IsNonDecreasingBy-from_sort_by_key (λ (t : Thing). t.at) _ c.in_ok-sort_by_key.ensures.sorted (λ a r q k. search rules)
+    IsNonDecreasingBy-from_sort_by_key (λ (t : Thing). t.at) _ c.sort_unstable_by_key.ensures.sorted (λ a r q k. search rules)
