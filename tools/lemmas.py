@@ -51,7 +51,7 @@ LAYERS = {
     },
     "checker": {
         "Lists and numbers": "ArrayRanks Filtered Lines PartsOfLists Spelled",
-        "Sections and where they are": "DropSteps NearSteps NextPieces PieceSections PlacedFacts",
+        "Sections and where they are": "DropSteps LinkRows NearSteps NextPieces PieceOrder PieceSections PlacedFacts",
         "Images and memory": "ImageFaults Parts PartsEnd Regions RunParts Runs SegmentsApart Stretching Sweep Sweeping"
         " ThingsOfSegment ThreadBlocks",
         "The GOT": "GotSteps SlotCounts",

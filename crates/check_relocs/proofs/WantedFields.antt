@@ -158,6 +158,28 @@ some_object os i low = of (slice_get_cases os i).1
     of (inl a) = (a.0, a.2)
     of (inr b) = absurd (omega (arith, low, b.0))
 
+-- the byte that the fields of its section give a piece of an object that is there, in that object's row
+pub byte_in_row :
+    (objects : List LoadedObject) (ps : Where) (row : List Field) (p : Piece) (k : ℕ) (o : LoadedObject) → p.object < length objects →
+    IsRowOf objects ps p.object (get_or objects p.object o) row →
+    byte_of p.bytes k (find (covers k) (filter (is_of p.section) row)) ≡ wanted_byte objects ps p k
+byte_in_row objects ps row p k o low is =
+    let rs = relocations_from p.object (get_or objects p.object o) in
+    ap (byte_of p.bytes k) (row_found objects ps p.object p.section k rs row (own_object p.object (get_or objects p.object o)) is.sorted)
+    ∙ (byte_is objects ps p k (find (is_in_field p.object p.section k) rs)
+    ∙ ap (byte_or_field objects ps p k) (sym (of_all objects p.object p.section k o low)))
+
+-- and they lie inside the piece where it has its section's size
+pub fields_inside :
+    (objects : List LoadedObject) (ps : Where) (row : List Field) (n : ℕ) (s : ℕ) (size : ℕ) (o : LoadedObject) →
+    size ≡ (section (sections o.bytes) s).sh_size → IsRowOf objects ps n o row → All (FitsIn size) (filter (is_of s) row)
+fields_inside objects ps row n s size o has is i d within =
+    let f = get_or (filter (is_of s) row) i d in
+    let lies : LiesIn o.bytes f = All-filter (is_of s) (LiesIn o.bytes) row is.inside i d within in
+    let of : f.section ≡ s = eqb-true f.section s (filter_passes (is_of s) row i d within) in
+    let same : (section (sections o.bytes) f.section).sh_size ≡ size = ap (λ (j : ℕ). (section (sections o.bytes) j).sh_size) of ∙ sym has in
+    record { inside = subst (λ (n : ℕ). f.at + f.width ≤ n) same lies.inside; narrow = lies.narrow }
+
 module _ (objects : List LoadedObject) (ps : Where) (rows : List (Vec Field)) (are : AreRows objects ps rows) where
   own_row : (i : ℕ) (o : LoadedObject) → i < length objects → IsRowOf objects ps i (get_or objects i o) (row_of rows i)
   own_row i o low =
@@ -172,25 +194,7 @@ module _ (objects : List LoadedObject) (ps : Where) (rows : List (Vec Field)) (a
       byte_of p.bytes k (find (covers k) (fields_in rows p.object p.section)) ≡ wanted_byte objects ps p k
   byte_wanted p k low =
       let o = (some_object objects p.object low).0 in
-      let rs = relocations_from p.object (get_or objects p.object o) in
-      ap (byte_of p.bytes k)
-      (row_found objects ps p.object p.section k rs (row_of rows p.object) (own_object p.object (get_or objects p.object o)) (own_row p.object o low).sorted)
-      ∙ (byte_is objects ps p k (find (is_in_field p.object p.section k) rs)
-      ∙ ap (byte_or_field objects ps p k) (sym (of_all objects p.object p.section k o low)))
-
-  -- and they lie inside the piece where it has its section's size
-  pub fields_inside :
-      (o s size : ℕ) → o < length objects →
-      ((d : LoadedObject) → size ≡ (section (sections (get_or objects o d).bytes) s).sh_size) →
-      All (FitsIn size) (fields_in rows o s)
-  fields_inside o s size low has i d within =
-      let x = (some_object objects o low).0 in
-      let b = (get_or objects o x).bytes in
-      let f = get_or (fields_in rows o s) i d in
-      let lies : LiesIn b f = All-filter (is_of s) (LiesIn b) (row_of rows o) (own_row o x low).inside i d within in
-      let of : f.section ≡ s = eqb-true f.section s (filter_passes (is_of s) (row_of rows o) i d within) in
-      let same : (section (sections b) f.section).sh_size ≡ size = ap (λ (j : ℕ). (section (sections b) j).sh_size) of ∙ sym (has x) in
-      record { inside = subst (λ (n : ℕ). f.at + f.width ≤ n) same lies.inside; narrow = lies.narrow }
+      byte_in_row objects ps (row_of rows p.object) p k o low (own_row p.object o low)
 
 -- the fields of right relocations lie inside their sections, in a row of them too
 pub row_inside :

@@ -45,9 +45,9 @@ pub record FitsIn (size : ℕ) (f : Field) : Type 0 where
 abbrev pub EndsBefore : Field → Field → Type 0
 EndsBefore f g = f.at + f.width ≤ g.at
 
--- the fields of a piece's section lie inside the piece
-abbrev pub HasFieldsInside : List (Vec Field) → Placed → Type 0
-HasFieldsInside rows q = All (FitsIn q.piece.header.sh_size) (fields_in rows q.piece.object q.piece.section)
+-- the fields of a piece's section, in the row of its object, lie inside the piece
+abbrev pub HasFieldsInside : List Field → Placed → Type 0
+HasFieldsInside row q = All (FitsIn q.piece.header.sh_size) (filter (is_of q.piece.section) row)
 
 -- each row has fields of which each ends before all later ones begin
 abbrev pub AreRising : List (Vec Field) → Type 0
@@ -58,9 +58,9 @@ abbrev pub WantedFrom : List ℕ → List ℕ → List Field → ℕ → ℕ →
 WantedFrom held bytes fs from to =
     (k : ℕ) → from ≤ k → k < to → slice_index held k ≡ byte_of bytes k (find (covers k) fs)
 
--- at each address that a piece takes up memory has the byte of the field's value there, else the input's, and 0 where
--- the input has none
-pub record HoldsFields (image : List ℕ) (rows : List (Vec Field)) (q : placement.Placed) : Type 0 where
+-- at each address that a piece takes up memory has the byte of the field's value, by the row of the piece's object,
+-- else the input's, and 0 where the input has none
+pub record HoldsFields (image : List ℕ) (row : List Field) (q : placement.Placed) : Type 0 where
   pub bytes :
       (k : ℕ) → k < load_size q.piece
-      → byte_at image (q.at + k) ≡ Some (byte_of q.piece.bytes k (find (covers k) (fields_in rows q.piece.object q.piece.section)))
+      → byte_at image (q.at + k) ≡ Some (byte_of q.piece.bytes k (find (covers k) (filter (is_of q.piece.section) row)))

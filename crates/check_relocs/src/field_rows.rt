@@ -85,7 +85,7 @@ fn add_fields<'a>(
         (map (relocation_of number (loaded_view loaded.now) to.now.section)
         (filter is_some_kind entries.now))) }
 {
-    fields.reserve_exact(entries.len())?;
+    fields.reserve(entries.len())?;
     for i in 0..entries.len() {
         let entry = entries.at(i);
         if !is_some_kind(&entry) {
@@ -170,7 +170,7 @@ fn object_fields<'a>(
 
 /// The fields of an object's kept relocations in order; None where one of these isn't right, and where a
 /// byte lies in two fields.
-fn object_row<'a>(
+pub fn object_row<'a>(
     alloc: Global,
     bindings: &Bindings<'_, '_, 'a>,
     number: u64,

@@ -19,12 +19,12 @@ mod values;
 
 pub use bindings::Bindings;
 pub use entry_requests::request_of;
-pub use field_rows::{fields_right, is_some_kind, relocated};
+pub use field_rows::{fields_right, is_some_kind, object_row, relocated};
 pub use fields::Field;
 pub use kinds::{Kind, kind_of};
 pub use lawful_fields::{LinkTerms, Relocated, is_mismatch, link_terms, refers_to_dropped};
 pub use linker_uses::{linker_lines, used_names};
 pub use needs::{Needs, needs_of};
-pub use section_fields::fields_in;
+pub use section_fields::{fields_in, part_of};
 pub use targets::{Target, target_at, target_of_symbol, unknown_targets};
 pub use values::{Terms, fits, value_of};

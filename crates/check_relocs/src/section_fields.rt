@@ -31,7 +31,7 @@ fn count_through(row: &[Field], section: u64) -> usize
 }
 
 /// The fields of a section in a row.
-fn part_of(row: &[Field], section: u64) -> &[Field]
+pub fn part_of(row: &[Field], section: u64) -> &[Field]
     requires { AllPairs IsBefore row.now }
     ensures fields { result.now ≡ filter (is_of section) row.entry.now }
     ensures rising { AllPairs EndsBefore result.now }

@@ -7,11 +7,13 @@ pub mod Filtered
 pub mod GotSteps
 pub mod ImageFaults
 pub mod Lines
+pub mod LinkRows
 pub mod NearSteps
 pub mod NextPieces
 pub mod Parts
 pub mod PartsEnd
 pub mod PartsOfLists
+pub mod PieceOrder
 pub mod PieceSections
 pub mod PlacedFacts
 pub mod Regions

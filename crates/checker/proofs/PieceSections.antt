@@ -1,11 +1,11 @@
 -- A piece is of an object that is there, and has its section's size; or it is a common block, which no field is of.
 use Rattle.std.proofs.Common.{◌≡◌, ℕ, ◌+◌, ◌<◌, ◌≤◌, ◌==◌, ◌&&◌, Bool, true, false, ◌⊎◌, inl, inr, List, [], ◌∷◌, Option, Some, None, get_or, length, refl, sym, ap, subst, ◌∙◌, arith}
-use Rattle.std.specs.Prelude.{All, filter, find, nat_le, nat_lt, option_map, unwrap_or}
+use Rattle.std.specs.Prelude.{All, AllPairs, Contains, filter, find, nat_le, nat_lt, option_map, unwrap_or}
 use Rattle.std.specs.List.{slice_get}
 use Rattle.std.specs.Global.{Vec}
 use Rattle.std.proofs.lemmas.Bool.{eqb-true}
 use Rattle.std.proofs.lemmas.Option.{get_or_from_slice_get, none-some, slice_get_cases}
-use Rattle.std.proofs.lemmas.List.Elements.{All-append, All-cons, All-head, All-map, All-nil, All-tail, All-weaker}
+use Rattle.std.proofs.lemmas.List.Elements.{All-append, All-contains, All-cons, All-head, All-map, All-nil, All-tail, All-weaker}
 use Rattle.elf_model.proofs.Blocks.{blocks-each}
 use Rattle.elf_model.proofs.Finding.{find-none}
 use Rattle.elf_model.proofs.Sectioned.{kept-each, relocations-each}
@@ -22,12 +22,15 @@ use Rattle.elf_model.specs.RightLink.{HoldsPiece, Subject, objects_of, placed_of
 use Rattle.elf_model.specs.WantedBytes.{byte_or_field, wanted_byte}
 use Rattle.elf_model.specs.declared.records.SectionHeader.{SectionHeader}
 use Rattle.check_relocs.specs.Bytes.{FitsIn, HasFieldsInside, HoldsFields, byte_of, covers, fields_in, is_of}
-use Rattle.check_relocs.specs.Fields.{AreRows}
+use Rattle.check_relocs.specs.Fields.{AreRows, IsBefore, IsRowOf}
 use Rattle.check_link.specs.Views.{placed_view, placed_views}
 use Rattle.check_relocs.specs.declared.fields.Field.{Field}
 use Rattle.check_link.specs.declared.things.Placed.{Placed}
 use Rattle.elf_model.proofs.Listed.{All-unmap}
-use Rattle.check_relocs.proofs.WantedFields.{byte_wanted, fields_inside}
+use Rattle.elf_model.proofs.Pairs.{AllPairs-nil}
+use Rattle.check_link.proofs.Padded.{below_or_not}
+use Rattle.check_relocs.proofs.WantedFields.{byte_in_row, byte_wanted, fields_inside, some_object}
+use Rattle.checker.specs.Comparing.{AreHeld, AreOwn, IsRowAt}
 
 pub record IsOfSection (objects : List LoadedObject) (p : pieces.Piece) : Type 0 where
   pub there : p.object < length objects
@@ -58,10 +61,10 @@ placed_all P (row ∷ rows) (p ∷ ps) all =
     (All-head P p ps all) (placed_all P rows ps (All-tail P p ps all))
 
 -- a piece is a kept section, or is of the object past the last one, as common blocks are
-record IsBlockOf (objects : List LoadedObject) (p : pieces.Piece) : Type 0 where
-  object : p.object ≡ length objects
+pub record IsBlockOf (objects : List LoadedObject) (p : pieces.Piece) : Type 0 where
+  pub object : p.object ≡ length objects
 
-abbrev IsThere : List LoadedObject → pieces.Piece → Type 0
+abbrev pub IsThere : List LoadedObject → pieces.Piece → Type 0
 IsThere objects p = IsOfSection objects p ⊎ IsBlockOf objects p
 
 -- what holds of all kept sections and of all blocks holds of them where they are placed
@@ -79,6 +82,9 @@ placed_there s =
     placed_each (IsThere (objects_of s)) s
     (All-weaker (IsOfSection (objects_of s)) (IsThere (objects_of s)) (λ p of. inl of) (pieces.kept_sections (objects_of s)) (all_of_sections (objects_of s)))
     (λ k t. inr (record { object = refl }))
+
+pub is_there : (s : Subject) (q : placement.Placed) → Contains (placed_of s) q → IsThere (objects_of s) q.piece
+is_there s q c = All-contains (λ (x : placement.Placed). IsThere (objects_of s) x.piece) (placed_of s) q (placed_there s) c
 
 -- No relocation and no row is of the object past the last one.
 not_in_field : (objects : List LoadedObject) (s k : ℕ) (r : Relocation) → r.object < length objects → is_in_field (length objects) s k r ≡ false
@@ -127,32 +133,53 @@ module _ (s : Subject) (rows : List (Vec Field)) (are : AreRows (objects_of s) (
       (subst (λ (x : placement.Placed). IsThere (objects_of s) x.piece) (get_or_from_slice_get (placed_of s) i q q there)
       (placed_there s i q (within (placed_of s) i q there)))
 
-  inside_of : (p : pieces.Piece) → IsThere (objects_of s) p → All (FitsIn p.size) (fields_in rows p.object p.section)
-  inside_of p (inl of) = fields_inside (objects_of s) (where_of s) rows are p.object p.section p.size of.there of.size
-  inside_of p (inr block) =
-      subst (All (FitsIn p.size)) (sym (ap (λ (n : ℕ). fields_in rows n p.section) block.object ∙ no_fields p.section)) (All-nil (FitsIn p.size))
+-- The row of one object, for the pieces of that object.
+module _ (s : Subject) (n : ℕ) (row : List Field) (is : IsRowAt s n row) where
+  own_row : (p : pieces.Piece) (o : LoadedObject) → p.object ≡ n → p.object < length (objects_of s) → IsRowOf (objects_of s) (where_of s) p.object (get_or (objects_of s) p.object o) row
+  own_row p o same low =
+      subst (λ (m : ℕ). IsRowOf (objects_of s) (where_of s) m (get_or (objects_of s) m o) row) (sym same) (is.there o (omega (arith, same, low)))
 
-  -- the fields of a placed piece's section lie inside it
-  pub all_inside : (placed : List Placed) → placed_views placed ≡ placed_of s → All (HasFieldsInside rows) placed
-  all_inside placed same =
-      let all =
-      All-unmap (λ (q : placement.Placed). IsThere (objects_of s) q.piece) placed_view placed
-      (subst (All (λ (q : placement.Placed). IsThere (objects_of s) q.piece)) (sym same) (placed_there s)) in
-      λ k d low. inside_of (placed_view (get_or placed k d)).piece (all k d low)
+  -- the byte that the fields give a piece is the wanted one
+  byte_is : (p : pieces.Piece) (k : ℕ) → IsThere (objects_of s) p → p.object ≡ n → byte_of p.bytes k (find (covers k) (filter (is_of p.section) row)) ≡ wanted_byte (objects_of s) (where_of s) p k
+  byte_is p k (inl of) same =
+      let o = (some_object (objects_of s) p.object of.there).0 in
+      byte_in_row (objects_of s) (where_of s) row p k o of.there (own_row p o same of.there)
+  byte_is p k (inr block) same =
+      let none : row ≡ [] = is.past (let b = block.object in omega (arith, b, same)) in
+      ap (λ (fs : List Field). byte_of p.bytes k (find (covers k) (filter (is_of p.section) fs))) none
+      ∙ (sym (ap (byte_or_field (objects_of s) (where_of s) p k) (no_relocation (objects_of s) p.section k))
+      ∙ sym (ap (λ (m : ℕ). byte_or_field (objects_of s) (where_of s) p k (find (is_in_field m p.section k) (relocations (objects_of s)))) block.object))
 
-  wants : (q : placement.Placed) → IsThere (objects_of s) q.piece → HoldsFields s.image rows q → HoldsPiece (objects_of s) (where_of s) s.image q
-  wants q p held = record { bytes = λ k below. held.bytes k below ∙ ap Some (wanted_is q.piece k p) }
+  -- the fields of a piece's section lie inside it
+  inside_of : (p : pieces.Piece) → IsThere (objects_of s) p → p.object ≡ n → All (FitsIn p.size) (filter (is_of p.section) row)
+  inside_of p (inl of) same =
+      let o = (some_object (objects_of s) p.object of.there).0 in
+      fields_inside (objects_of s) (where_of s) row p.object p.section p.size (get_or (objects_of s) p.object o) (of.size o) (own_row p o same of.there)
+  inside_of p (inr block) same =
+      let none : row ≡ [] = is.past (let b = block.object in omega (arith, b, same)) in
+      subst (λ (fs : List Field). All (FitsIn p.size) (filter (is_of p.section) fs)) (sym none) (All-nil (FitsIn p.size))
 
-  wanted : (q : placement.Placed) → IsThere (objects_of s) q.piece → HoldsPiece (objects_of s) (where_of s) s.image q → HoldsFields s.image rows q
-  wanted q p held = record { bytes = λ k below. held.bytes k below ∙ ap Some (sym (wanted_is q.piece k p)) }
+  pub all_inside : (own : List Placed) → AreOwn s n (placed_views own) → All (HasFieldsInside row) own
+  all_inside own of =
+      let there = All-unmap (Contains (placed_of s)) placed_view own of.among in
+      let same = All-unmap (λ (q : placement.Placed). q.piece.object ≡ n) placed_view own of.own in
+      λ k d low. inside_of (placed_view (get_or own k d)).piece (is_there s (placed_view (get_or own k d)) (there k d low)) (same k d low)
 
-  -- what memory holds by the rows is what the tenth clause asks
-  pub holds_wanted : (placed : List placement.Placed) → placed ≡ placed_of s → All (HoldsFields s.image rows) placed → All (HoldsPiece (objects_of s) (where_of s) s.image) (placed_of s)
-  holds_wanted placed same all =
-      let held = subst (All (HoldsFields s.image rows)) same all in
-      λ k d low. wants (get_or (placed_of s) k d) (placed_there s k d low) (held k d low)
+  -- what memory holds by the row is what the tenth clause asks
+  pub holds_wanted : (qs : List placement.Placed) → AreOwn s n qs → All (HoldsFields s.image row) qs → AreHeld s qs
+  holds_wanted qs of held k d low =
+      let q = get_or qs k d in
+      record { bytes = λ j below. (held k d low).bytes j below ∙ ap Some (byte_is q.piece j (is_there s q (of.among k d low)) (of.own k d low)) }
 
-  pub wanted_holds : (placed : List placement.Placed) → placed ≡ placed_of s → All (HoldsPiece (objects_of s) (where_of s) s.image) (placed_of s) → All (HoldsFields s.image rows) placed
-  wanted_holds placed same all =
-      subst (All (HoldsFields s.image rows)) (sym same)
-      (λ k d low. wanted (get_or (placed_of s) k d) (placed_there s k d low) (all k d low))
+  pub wanted_holds : (qs : List placement.Placed) → AreOwn s n qs → AreHeld s qs → All (HoldsFields s.image row) qs
+  wanted_holds qs of held k d low =
+      let q = get_or qs k d in
+      record { bytes = λ j below. (held k d low).bytes j below ∙ ap Some (sym (byte_is q.piece j (is_there s q (of.among k d low)) (of.own k d low))) }
+
+  -- each of its fields ends before all later ones begin
+  pub rising_row : AllPairs IsBefore row
+  rising_row = by (below_or_not n (length (objects_of s)))
+    where
+      by : (n < length (objects_of s)) ⊎ (length (objects_of s) ≤ n) → AllPairs IsBefore row
+      by (inl low) = (is.there (some_object (objects_of s) n low).0 low).sorted.rising
+      by (inr past) = subst (AllPairs IsBefore) (sym (is.past past)) (AllPairs-nil IsBefore)

@@ -1,8 +1,8 @@
 -- What the clauses before say of the placed pieces: each lies whole in a segment, with no more input bytes
 -- than its size.
 use Rattle.std.proofs.Common.{◌≡◌, ℕ, ◌+◌, ◌^◌, ◌<◌, ◌≤◌, ◌&&◌, Bool, true, false, cond, List, [], ◌++◌, Option, None, Some, length, get_or, map, refl, subst, sym, arith}
-use Rattle.std.specs.Prelude.{All, Any, IfSome, filter}
-use Rattle.std.proofs.lemmas.List.Elements.{All-head, All-tail}
+use Rattle.std.specs.Prelude.{All, Any, Contains, IfSome, filter}
+use Rattle.std.proofs.lemmas.List.Elements.{All-contains, All-head, All-tail}
 use Rattle.elf_model.specs.MemoryImage.{Encloses, loads}
 use Rattle.elf_model.specs.Pieces as pieces
 use Rattle.elf_model.specs.Placement as placement
@@ -33,21 +33,21 @@ enclosed : (segments : List ProgramHeader) (t : Thing) → (0 < t.size → LiesI
 enclosed segments t lies some = let a = lies some in (a.0, a.1, a.2, a.3, a.4.0)
 
 pub lie_whole :
-    (s : Subject) (placed : List Placed) → placed_views placed ≡ placed_of s →
-    HasRights s.plan.base (loads s.image) (things_of s) (got_things s.map.got) → All (LiesWhole s.image) placed
-lie_whole s placed same rights =
+    (s : Subject) (qs : List Placed) → All (Contains (placed_of s)) (placed_views qs) →
+    HasRights s.plan.base (loads s.image) (things_of s) (got_things s.map.got) → All (LiesWhole s.image) qs
+lie_whole s qs among rights =
     let segments = loads s.image in
     let Lies : Thing → Type 0 = λ t. 0 < t.size → LiesInSegment segments t in
     let all = All-tail Lies (headers_thing s.image) (got_things s.map.got ++ map thing_of (placed_of s)) rights.nonempty in
     let mapped = (All-parts Lies (got_things s.map.got) (map thing_of (placed_of s)) all).1 in
-    let lies = All-unmap (λ (q : placement.Placed). Lies (thing_of q)) placed_view placed
-    (subst (All (λ (q : placement.Placed). Lies (thing_of q))) (sym same) (All-unmap Lies thing_of (placed_of s) mapped)) in
-    let short = All-unmap (λ (q : placement.Placed). Short q.piece) placed_view placed
-    (subst (All (λ (q : placement.Placed). Short q.piece)) (sym same)
-    (placed_each Short s (all_short (objects_of s)) (λ k t. omega arith))) in
-    λ k d within. record {
-      encloses = enclosed segments (thing_of (placed_view (get_or placed k d))) (lies k d within);
-      short = short k d within;
+    let lies = All-unmap Lies thing_of (placed_of s) mapped in
+    let short = placed_each Short s (all_short (objects_of s)) (λ k t. omega arith) in
+    let there = All-unmap (Contains (placed_of s)) placed_view qs among in
+    λ k d within.
+    let q = placed_view (get_or qs k d) in
+    record {
+      encloses = enclosed segments (thing_of q) (All-contains (λ (x : placement.Placed). Lies (thing_of x)) (placed_of s) q lies (there k d within));
+      short = All-contains (λ (x : placement.Placed). Short x.piece) (placed_of s) q short (there k d within);
     }
 
 -- a piece ends where its thing does, or where its addresses do, which are asked of a thread-local one

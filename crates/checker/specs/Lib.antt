@@ -1,3 +1,4 @@
+pub mod Comparing
 pub mod Entering
 pub mod Filled
 pub mod Got

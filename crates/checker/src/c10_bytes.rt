@@ -1,26 +1,29 @@
-//! C10: whether memory holds the wanted bytes of each piece.
+//! C10: whether memory holds the wanted bytes of the pieces of an object.
 ghost use Rattle.std.specs.Prelude.{◌≡◌, ◌+◌, ◌≤◌, ◌<◌, ◌↔◌, ℕ, All, AllPairs, IsTrue, find, slice_index, true};
 ghost use Rattle.byteview.specs.Numbers.{IsInside, le_bytes};
 ghost use Rattle.check_link.specs.Views.{placed_view, placed_views};
-ghost use Rattle.check_relocs.specs.Bytes.{AreRising, EndsBefore, FitsIn, HasFieldsInside, HoldsFields, LiesWhole, WantedFrom, byte_of, covers, fields_in};
-ghost use Rattle.elf_model.specs.RightLink.{Holds, HoldsBefore, objects_of, where_of};
+ghost use Rattle.check_relocs.specs.Bytes.{EndsBefore, FitsIn, HasFieldsInside, HoldsFields, LiesWhole, WantedFrom, byte_of, covers};
+ghost use Rattle.check_relocs.specs.Fields.{IsBefore};
+ghost use Rattle.checker.specs.Comparing.{AreHeld, AreOwn, IsRowAt};
+ghost use Rattle.elf_model.specs.RightLink.{HoldsBefore};
 ghost use Rattle.elf_model.specs.declared.verdict.Clause.TheVariants as clause;
-ghost use Rattle.check_relocs.specs.Fields.{AreRows};
 
 use crate::bound_link::BoundLink;
 use crate::same_runs::{has_word_value, same_inside};
 use crate::segments::{same_padded, sub_part};
 use check_link::{Placed, load_size};
-use check_relocs::{Field, fields_in};
+use check_relocs::{Field, part_of};
 use loader_model::Memory;
 
-/// Whether the tenth clause holds of a link, given the fields of its relocations by objects.
-pub fn holds(bound: &BoundLink<'_, '_>, rows: &[Vec<Field>]) -> bool
-    requires before { HoldsBefore clause.C10 bound.now }
-    requires rows { AreRows (objects_of bound.now) (where_of bound.now) rows.now }
-    ensures { IsTrue result ↔ Holds clause.C10 bound.now }
+/// Whether memory holds the wanted bytes of pieces of the object that has a number, given the row of its fields. The pieces
+/// of common blocks are of no object, and have no fields.
+pub fn holds_own(bound: &BoundLink<'_, '_>, number: u64, row: &[Field], own: &[Placed<'_>]) -> bool
+    requires before { HoldsBefore clause.C9 bound.now }
+    requires row { IsRowAt bound.now number row.now }
+    requires own { AreOwn bound.now number (placed_views own.now) }
+    ensures { IsTrue result ↔ AreHeld bound.now (placed_views own.now) }
 {
-    holds_pieces(bound.memory(), rows, bound.placed())
+    all_held(bound.memory(), row, own)
 }
 
 /// Whether two runs are equal from one byte on and below another; bytes past an end count as 0.
@@ -103,45 +106,36 @@ fn has_wanted(held: &[u8], placed: &Placed<'_>, size: u64, fields: &[Field]) -> 
     are_wanted(held, placed.piece.bytes, fields, size)
 }
 
-/// Whether memory holds a piece's wanted bytes at its address, as far as the piece takes up memory.
-fn holds_piece(memory: &Memory<'_>, rows: &[Vec<Field>], placed: &Placed<'_>) -> bool
+/// Whether memory holds a piece's wanted bytes at its address, as far as the piece takes up memory, given the row of its
+/// object.
+fn holds_piece(memory: &Memory<'_>, row: &[Field], placed: &Placed<'_>) -> bool
     requires whole { LiesWhole memory.now placed.now }
-    requires rising { AreRising rows.now }
-    requires inside { HasFieldsInside rows.now placed.now }
-    ensures { IsTrue result ↔ HoldsFields memory.now rows.now (placed_view placed.now) }
+    requires rising { AllPairs IsBefore row.now }
+    requires inside { HasFieldsInside row.now placed.now }
+    ensures { IsTrue result ↔ HoldsFields memory.now row.now (placed_view placed.now) }
 {
     let piece = &placed.piece;
     let size = load_size(piece);
     if size == 0 {
         return true;
     }
-    let fields = fields_in(rows, piece.object, piece.section);
+    let fields = part_of(row, piece.section);
     match memory.run(placed.at, size) {
         Some(held) => has_wanted(held.bytes, placed, size, fields),
         None => false,
     }
 }
 
-/// Whether memory holds the wanted bytes of every piece, given the rows of fields by objects. Each piece that takes up
-/// memory lies in a segment, and the fields of its section lie inside it.
-fn holds_pieces(memory: &Memory<'_>, rows: &[Vec<Field>], placed: &[Placed<'_>]) -> bool
+/// Whether memory holds the wanted bytes of pieces, given the row of their object.
+fn all_held(memory: &Memory<'_>, row: &[Field], placed: &[Placed<'_>]) -> bool
     requires whole { All (LiesWhole memory.now) placed.now }
-    requires rising { AreRising rows.now }
-    requires inside { All (HasFieldsInside rows.now) placed.now }
-    ensures { IsTrue result ↔ All (HoldsFields memory.now rows.now) (placed_views placed.now) }
-{
-    all_held(memory, rows, placed)
-}
-
-fn all_held(memory: &Memory<'_>, rows: &[Vec<Field>], placed: &[Placed<'_>]) -> bool
-    requires whole { All (LiesWhole memory.now) placed.now }
-    requires rising { AreRising rows.now }
-    requires inside { All (HasFieldsInside rows.now) placed.now }
+    requires rising { AllPairs IsBefore row.now }
+    requires inside { All (HasFieldsInside row.now) placed.now }
     ensures { IsTrue result ↔ All
-        (λ q. HoldsFields memory.now rows.now (placed_view q)) placed.now }
+        (λ q. HoldsFields memory.now row.now (placed_view q)) placed.now }
 {
     for q in placed {
-        if !holds_piece(memory, rows, q) {
+        if !holds_piece(memory, row, q) {
             return false;
         }
     }

@@ -18,6 +18,7 @@ pub mod c12_entry;
 pub mod c13_symbols;
 pub mod c14_tables;
 mod loaded_link;
+mod object_fields;
 mod observer;
 mod placed_link;
 mod same_runs;

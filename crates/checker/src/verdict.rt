@@ -8,11 +8,12 @@ ghost use Rattle.checker.specs.Judged.{Judges};
 
 use crate::bound_link::BoundLink;
 use crate::loaded_link::LoadedLink;
+use crate::object_fields::are_held;
 use crate::observer::{Observer, Unobserved};
 use crate::placed_link::PlacedLink;
 use crate::{
     c02_loaded, c03_sections, c04_image, c05_placed, c06_rights, c07_got, c08_thread_block,
-    c09_relocations, c10_bytes, c11_fill, c12_entry, c13_symbols, c14_tables,
+    c09_relocations, c11_fill, c12_entry, c13_symbols, c14_tables,
 };
 use check_link::{Link, Outputs, Places, SlotTable, base_of, read_map, read_plan};
 use check_load::open;
@@ -256,6 +257,26 @@ fn judge_bound<'a, O: Observer<'a>>(
     judge_relocations(alloc, bound, observer)
 }
 
+/// The answer where the tenth clause fails and all before it hold.
+fn no_bytes<'a, O: Observer<'a>>(
+    alloc: Global,
+    bound: &BoundLink<'_, 'a>,
+    observer: &mut O,
+) -> Result<Verdict, AllocError>
+    requires clauses { HoldsBefore clause.C10 bound.now }
+    requires ninth { Holds clause.C9 bound.now }
+    requires fails { ¬ Holds clause.C10 bound.now }
+    requires before { O.Saw bound.now observer.old }
+    ensures verdict { IfOk result (λ v. Judges v bound.now) }
+    ensures saw { OnOk result (O.Saw bound.now observer.new) }
+{
+    let Some(rows) = c09_relocations::rows(alloc, bound)? else {
+        unreachable!()
+    };
+    observer.see_fields(bound, &rows)?;
+    Ok(no(Clause::C10, bound.link()))
+}
+
 /// Judges the ninth and the tenth clause, and then gives the fields of the relocations back: a verdict where one of the
 /// two fails.
 fn judge_fields<'a, O: Observer<'a>>(
@@ -269,14 +290,11 @@ fn judge_fields<'a, O: Observer<'a>>(
     ensures holds { IfOk result (λ o. IfNone o (HoldsBefore clause.C11 bound.now)) }
     ensures saw { OnOk result (O.Saw bound.now observer.new) }
 {
-    let Some(rows) = c09_relocations::rows(alloc, bound)? else {
-        return Ok(Some(no_bound(Clause::C9, bound, observer)?));
-    };
-    if !c10_bytes::holds(bound, &rows) {
-        observer.see_fields(bound, &rows)?;
-        return Ok(Some(no(Clause::C10, bound.link())));
+    match are_held(alloc, bound)? {
+        Some(true) => Ok(None),
+        Some(false) => Ok(Some(no_bytes(alloc, bound, observer)?)),
+        None => Ok(Some(no_bound(Clause::C9, bound, observer)?)),
     }
-    Ok(None)
 }
 
 /// Judges the clauses from the ninth on.

@@ -2,7 +2,7 @@ use Rattle.std.proofs.Common.{◌≡◌, ◌+◌, ◌<◌, ◌∷◌, ◌++◌, 
 use Rattle.std.specs.Global.{Vec}
 use Rattle.std.proofs.lemmas.Bool.{false≢true}
 use Rattle.std.proofs.lemmas.List.{get_or-map, length-append}
-use Rattle.elf_model.proofs.FlatRelocations.{left_of_objects, object_end, object_more}
+use Rattle.elf_model.proofs.FlatRelocations.{left_of_objects, object_end}
 use Rattle.elf_model.specs.Loading.{LoadedObject}
 use Rattle.elf_model.specs.Relocation.{relocations, relocations_from}
 use Rattle.check_relocs.specs.Fields.{AreRight, IsRowOf}
@@ -11,16 +11,9 @@ use Rattle.check_load.specs.declared.loader.Loaded.{Loaded}
 use Rattle.check_relocs.specs.declared.fields.Field.{Field}
 use Rattle.check_relocs.proofs.ByIndex.{by_index_more}
 use Rattle.elf_model.proofs.RelocationFields.{objects_apart}
+use Rattle.check_relocs.proofs.ObjectFields.{object_read}
 use Rattle.check_relocs.proofs.RightParts.{right_end, right_more, right_stop}
 use Rattle.check_relocs.proofs.field_rows.all_rows.Goals as goal
-
--- the relocations that are left begin with those of the object that is read
-object_read :
-    (xs : List Loaded) (k : ℕ) (x : Loaded) → k < length xs → x ≡ get_or xs k x →
-    left_of_objects loaded_view xs k ≡ relocations_from k (loaded_view x) ++ left_of_objects loaded_view xs (k + 1)
-object_read xs k x within is =
-    object_more loaded_view xs k x within
-    ∙ ap (λ (y : Loaded). relocations_from k (loaded_view y) ++ left_of_objects loaded_view xs (k + 1)) (sym is)
 
 pub returns-in_default-clause-right : goal.returns-in_default-clause-right
 returns-in_default-clause-right c =

@@ -7,4 +7,4 @@ use Rattle.checker.proofs.c10_bytes.all_held.Given as goal
 
 abbrev pub invariant-loop-q : goal.invariant-loop-q
 invariant-loop-q l =
-    Left (All (λ r. HoldsFields l.memory l.rows (placed_view r)) l.placed) (All (λ r. HoldsFields l.memory l.rows (placed_view r)) (drop l.q-index l.placed))
+    Left (All (λ r. HoldsFields l.memory l.row (placed_view r)) l.placed) (All (λ r. HoldsFields l.memory l.row (placed_view r)) (drop l.q-index l.placed))

@@ -1,0 +1,72 @@
+//! C9 and C10, object by object: the fields of an object's relocations are compared with memory before those of the next
+//! object are made, so that only one object's fields take memory.
+ghost use Rattle.std.specs.Prelude.{◌≡◌, ◌==◌, ◌+◌, ◌≤◌, ◌↔◌, IfOk, IfSome, IsSome, IsTrue, length};
+ghost use Rattle.std.specs.List.{prefix_len};
+ghost use Rattle.check_link.specs.Views.{placed_views};
+ghost use Rattle.checker.specs.Comparing.{AreCompared, IsRowAt};
+ghost use Rattle.elf_model.specs.RightLink.{Holds, HoldsBefore};
+ghost use Rattle.elf_model.specs.declared.verdict.Clause.TheVariants as clause;
+
+use crate::bound_link::BoundLink;
+use crate::c10_bytes::holds_own;
+use check_link::Placed;
+use check_relocs::{Field, object_row};
+use std::alloc::{AllocError, Global};
+
+/// How far the pieces are compared: whether memory holds the wanted bytes of all so far, and the pieces that are left.
+#[derive(Clone, Copy)]
+pub struct Compared<'p, 'a> {
+    held: bool,
+    left: &'p [Placed<'a>],
+}
+
+/// How many of the first pieces are of the object that has a number.
+fn own_count(left: &[Placed<'_>], number: u64) -> usize
+    ensures count { result ≡ prefix_len (λ q. q.piece.object == number) left.now }
+    ensures within { result ≤ length left.now }
+{
+    left.iter().take_while(|q| q.piece.object == number).count()
+}
+
+/// Compares the pieces of the object that has a number, which are the first of those that are left, given the row of its
+/// fields.
+fn compare_own<'p, 'a>(
+    bound: &BoundLink<'_, '_>,
+    number: u64,
+    row: &[Field],
+    so_far: Compared<'p, 'a>,
+) -> Compared<'p, 'a>
+    requires before { HoldsBefore clause.C9 bound.now }
+    requires row { IsRowAt bound.now number row.now }
+    requires so_far { AreCompared bound.now number so_far.held (placed_views so_far.left.now) }
+    ensures { AreCompared bound.now (number + 1) result.held (placed_views result.left.now) }
+{
+    let (own, left) = so_far.left.split_at(own_count(so_far.left, number));
+    let held = holds_own(bound, number, row, own);
+    Compared {
+        held: so_far.held & held,
+        left,
+    }
+}
+
+/// Whether the tenth clause holds of a link; None where the ninth doesn't.
+pub fn are_held(alloc: Global, bound: &BoundLink<'_, '_>) -> Result<Option<bool>, AllocError>
+    requires { HoldsBefore clause.C9 bound.now }
+    ensures ninth { IfOk result (λ o. IsSome o ↔ Holds clause.C9 bound.now) }
+    ensures tenth { IfOk result (λ o. IfSome o (λ b. IsTrue b ↔ Holds clause.C10 bound.now)) }
+{
+    let bindings = bound.bindings();
+    let objects = bindings.objects();
+    let mut compared = Compared {
+        held: true,
+        left: bound.placed(),
+    };
+    for k in 0..objects.len() {
+        let Some(row) = object_row(alloc, bindings, k as u64, &objects[k])? else {
+            return Ok(None);
+        };
+        compared = compare_own(bound, k as u64, &row, compared);
+    }
+    let whole = compare_own(bound, objects.len() as u64, &[], compared);
+    Ok(Some(whole.held))
+}
