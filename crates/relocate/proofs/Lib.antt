@@ -15,4 +15,5 @@ pub mod ThreadSums
 pub mod Wanted
 pub mod WantedParts
 pub mod LinkerMeanings
+pub mod LocalReferences
 pub mod SymbolTables

@@ -1,9 +1,9 @@
 //! An object that refers: what a reference to each of its symbols is, found once a symbol, and read by each relocation
 //! that names it.
-ghost use Rattle.std.specs.Prelude.{◌≡◌, [], IfOk, Some, codes, option_map, unwrap_or};
+ghost use Rattle.std.specs.Prelude.{◌≡◌, [], IfOk, Some, codes, option_map, true, unwrap_or};
 ghost use Rattle.std.specs.Str.{bytes_eq};
 ghost use Rattle.elf_model.specs.ObjectFile.{section_name};
-ghost use Rattle.elf_model.specs.Relocation.{symbol_at};
+ghost use Rattle.elf_model.specs.Relocation.{is_local, symbol_at};
 ghost use Rattle.search.specs.Views.{loaded_view};
 ghost use Rattle.layout.specs.Mixed.{AreMixed};
 ghost use Rattle.resolve.specs.Meaning.{named_at};
@@ -14,7 +14,8 @@ ghost use Rattle.relocate.specs.References.{IsObjectAt};
 ghost use Rattle.relocate.specs.SymbolTables.{AreReferences, IsReference, IsReferrer, IsRelocated, all_of, referring};
 
 use crate::targets::{
-    holds_frames, is_dropped, is_mixed, is_thread_local, is_undefined, stands_in_unkept, use_of,
+    holds_frames, is_dropped, is_mixed, is_thread_local, is_thread_section, is_undefined,
+    is_undefined_local, is_unkept, section_of, stands_in_unkept, use_of,
 };
 use elf_model::{ObjectId, SymbolRef};
 use got_tls::Asker;
@@ -106,6 +107,30 @@ fn reference_chosen(
     }
 }
 
+/// What a reference to symbol `j` of the object that has a number is, which is LOCAL: it uses the symbol itself.
+fn reference_local(
+    resolved: &Resolved<'_>,
+    _number: usize,
+    loaded: &LoadedObject<'_>,
+    j: usize,
+) -> Reference
+    requires here { IsObjectAt resolved.now _number (loaded_view loaded.now) }
+    requires local { is_local (symbol_at _number (loaded_view loaded.now) j) ≡ true }
+    ensures { IsReference resolved.now (symbol_at _number (loaded_view loaded.now) j) result }
+{
+    let _resolved = resolved;
+    let entry = loaded.object.symbol(j);
+    let section = section_of(&loaded.object, &entry);
+    let dropped = is_dropped(loaded, &entry);
+    Reference {
+        undefined: is_undefined_local(j, &entry),
+        unkept: is_unkept(&section, dropped),
+        dropped,
+        thread_local: is_thread_section(&section),
+        mixed: false,
+    }
+}
+
 /// What a reference to symbol `j` of object `number` is.
 fn reference_to<'a>(
     resolved: &Resolved<'a>,
@@ -122,6 +147,9 @@ fn reference_to<'a>(
         object: ObjectId(number as u64),
         symbol: j as u64,
     };
+    if loaded.object.symbol(j).is_local() {
+        return reference_local(resolved, number, loaded, j);
+    }
     if let Some(thread_local) = resolved.chosen_thread(symbol) {
         return reference_chosen(resolved, number, loaded, j, thread_local);
     }

@@ -1,11 +1,11 @@
 //! What the symbols of an object are worth where the objects are laid out: the value and the size of what a reference to
 //! each uses, found once a symbol, and read by each relocation that names it; what a chosen definition is worth, once for all
 //! objects.
-ghost use Rattle.std.specs.Prelude.{◌≡◌, IfOk, IfSome, IsSomeAnd};
+ghost use Rattle.std.specs.Prelude.{◌≡◌, IfOk, IfSome, IsSomeAnd, true};
 ghost use Rattle.std.specs.List.{slice_get};
 ghost use Rattle.elf_model.specs.Meaning.{meant};
 ghost use Rattle.elf_model.specs.Pieces.{AreLawfulKinds};
-ghost use Rattle.elf_model.specs.Relocation.{symbol_at};
+ghost use Rattle.elf_model.specs.Relocation.{is_local, symbol_at};
 ghost use Rattle.elf_model.specs.Slots as wanted;
 ghost use Rattle.search.specs.Views.{loaded_view};
 ghost use Rattle.resolve.specs.Meaning.{named_at};
@@ -15,8 +15,8 @@ ghost use Rattle.relocate.specs.SymbolTables.{AreChosenValues, AreValues, IsValu
 ghost use Rattle.relocate.specs.Values.{pointer_in, where_in};
 
 use crate::referrer::refers_often;
-use crate::targets::use_of;
-use crate::values::{got_or_none, size_or_none, value_or_none};
+use crate::targets::{unnamed_at, use_of};
+use crate::values::{got_or_none, size_or_none, symbol_size, symbol_value, value_or_none};
 use elf_model::{ObjectId, SymbolRef};
 use got_tls::Slots;
 use layout::Placement;
@@ -108,6 +108,29 @@ fn chosen_value<'a>(
     row_at(chosen, place)
 }
 
+/// What symbol `j` of object `number` is worth, which is LOCAL: it is used itself.
+fn local_value(
+    resolved: &Resolved<'_>,
+    placement: &Placement<'_>,
+    number: usize,
+    loaded: &LoadedObject<'_>,
+    j: usize,
+) -> SymbolValue
+    requires { is_local (symbol_at number (loaded_view loaded.now) j) ≡ true }
+    ensures { IsValueOf resolved.now (where_in placement.now)
+        (symbol_at number (loaded_view loaded.now) j) result }
+{
+    let _resolved = resolved;
+    let symbol = unnamed_at(number, loaded, j);
+    if symbol.entry.is_undefined() {
+        return SymbolValue { value: 0, size: 0 };
+    }
+    SymbolValue {
+        value: symbol_value(placement, &symbol),
+        size: symbol_size(&symbol),
+    }
+}
+
 /// What symbol `j` of object `number` is worth.
 fn value_of_symbol<'a>(
     resolved: &Resolved<'a>,
@@ -123,6 +146,9 @@ fn value_of_symbol<'a>(
     ensures { IsValueOf resolved.now (where_in placement.now)
         (symbol_at number (loaded_view loaded.now) j) result }
 {
+    if loaded.object.symbol(j).is_local() {
+        return local_value(resolved, placement, number, loaded, j);
+    }
     let symbol = SymbolRef {
         object: ObjectId(number as u64),
         symbol: j as u64,

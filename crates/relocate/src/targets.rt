@@ -1,12 +1,13 @@
 //! What a relocation refers to, and what is asked of that: the symbols and sections of one object.
-ghost use Rattle.std.specs.Prelude.{◌≡◌, ◌↔◌, [], ◌==◌, List, IsSomeAnd, IsTrue, codes, false, option_map, unwrap_or};
+ghost use Rattle.std.specs.Prelude.{◌≡◌, ◌≢◌, ◌↔◌, ◌&&◌, [], ◌==◌, List, IsSomeAnd, IsTrue, codes, false, not, option_map, true, unwrap_or};
 ghost use Rattle.std.specs.Str.{bytes_eq};
 ghost use Rattle.elf_model.specs.Meaning.{is_in_thread_storage};
 ghost use Rattle.elf_model.specs.ObjectFile.{section, section_name, sections, symbols};
-ghost use Rattle.elf_model.specs.Pieces.{is_kept};
+ghost use Rattle.elf_model.specs.Pieces.{is_alloc, is_kept, is_thread_local};
 ghost use Rattle.elf_model.specs.Loading as loading;
 ghost use Rattle.elf_model.specs.Loading.{is_dropped};
 ghost use Rattle.elf_model.specs.Relocation.{IsMixed, IsMixedBound, definition_of, is_some_kind, symbol_at};
+ghost use Rattle.elf_model.specs.Resolution.{is_undefined};
 ghost use Rattle.std.specs.Prelude.{Some};
 ghost use Rattle.std.specs.Option.{option_map_or};
 ghost use Rattle.search.specs.Views.{loaded_view};
@@ -25,7 +26,7 @@ use std::alloc::Global;
 use std::collections::BTreeSet;
 
 /// The section in which a symbol is defined; None where it is undefined, absolute or common.
-fn section_of(object: &ObjectFile<'_>, entry: &Symbol) -> Option<SectionHeader>
+pub fn section_of(object: &ObjectFile<'_>, entry: &Symbol) -> Option<SectionHeader>
     ensures { result ≡ section_in object.now entry.now }
 {
     if entry.is_undefined() {
@@ -41,6 +42,27 @@ pub fn stands_in_unkept(loaded: &LoadedObject<'_>, entry: &Symbol) -> bool
 {
     match section_of(&loaded.object, entry) {
         Some(header) => !loaded.is_kept(entry.st_shndx as usize, &header),
+        None => false,
+    }
+}
+
+/// Whether a section isn't kept, which is dropped or not.
+pub fn is_unkept(section: &Option<SectionHeader>, dropped: bool) -> bool
+    ensures { IsTrue result ↔ IsSomeAnd section.now
+        (λ h. (is_alloc h && not dropped) ≡ false) }
+{
+    match section {
+        Some(header) => dropped || !header.is_alloc(),
+        None => false,
+    }
+}
+
+/// Whether a section has SHF_TLS.
+pub fn is_thread_section(section: &Option<SectionHeader>) -> bool
+    ensures { result ≡ option_map_or is_thread_local section.now false }
+{
+    match section {
+        Some(header) => header.is_thread_local(),
         None => false,
     }
 }
@@ -74,7 +96,7 @@ pub fn holds_frames(object: &ObjectFile<'_>, number: usize) -> bool
 }
 
 /// Symbol `j` of object `number`, without its name.
-fn unnamed_at<'a>(number: usize, loaded: &LoadedObject<'_>, j: usize) -> SymbolOf<'a>
+pub fn unnamed_at<'a>(number: usize, loaded: &LoadedObject<'_>, j: usize) -> SymbolOf<'a>
     ensures { symbol_view result ≡ unnamed (symbol_at number (loaded_view loaded.now) j) }
 {
     let entry = loaded.object.symbol(j);
@@ -143,6 +165,17 @@ pub fn is_undefined(j: usize, entry: &Symbol, definition: &Option<Definition<'_>
         return false;
     }
     definition.is_none()
+}
+
+/// Whether a reference to symbol number `j`, which is LOCAL and has the entry, is in want of a definition: symbol 0 stands
+/// for none.
+pub fn is_undefined_local(j: usize, entry: &Symbol) -> bool
+    ensures { IsTrue result ↔ ((j ≢ 0) × (is_undefined entry.now ≡ true)) }
+{
+    if j == 0 {
+        return false;
+    }
+    entry.is_undefined()
 }
 
 /// Whether what a reference uses stands in a section with SHF_TLS.

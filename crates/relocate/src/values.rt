@@ -46,7 +46,7 @@ pub fn address_or_none(placement: &Placement<'_>, number: usize, target: usize) 
 
 /// The value of a symbol that is defined, modulo 2 to the 64: an absolute one's own, else the address of its
 /// section plus its own, 0 where the section isn't kept.
-fn symbol_value(placement: &Placement<'_>, symbol: &SymbolOf<'_>) -> u64
+pub fn symbol_value(placement: &Placement<'_>, symbol: &SymbolOf<'_>) -> u64
     ensures { result ≡ symbol_value (where_in placement.now).placed
         (symbol_view symbol.now) % 2 ^ 64 }
 {
@@ -86,12 +86,19 @@ pub fn value_or_none(placement: &Placement<'_>, definition: &Option<Definition<'
     }
 }
 
+/// The size of a symbol that is defined.
+pub fn symbol_size(symbol: &SymbolOf<'_>) -> u64
+    ensures { result ≡ (symbol_view symbol.now).entry.st_size % 2 ^ 64 }
+{
+    symbol.entry.st_size
+}
+
 /// The size of what a name means; 0 for the linker's own names.
 fn size_of(meaning: &Definition<'_>) -> u64
     ensures { result ≡ meaning_size (meaning_view meaning.now) % 2 ^ 64 }
 {
     match meaning {
-        Definition::Symbol(symbol) => symbol.entry.st_size,
+        Definition::Symbol(symbol) => symbol_size(symbol),
         Definition::Common(block) => block.size,
         Definition::Linker(_, _) => 0,
     }
