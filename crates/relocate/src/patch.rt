@@ -25,6 +25,9 @@ pub fn write_all(patches: &[Patch], from: u64, bytes: &mut [u8])
     }
 }
 
+/// The width of most fields, in bytes. So many are written by one move where their number is known.
+const WORD: usize = 4;
+
 /// Writes a value over the bytes of its field that lie in a part of a section, which begins at byte `from` of the
 /// section; least significant byte first.
 fn write(patch: &Patch, from: u64, bytes: &mut [u8])
@@ -42,6 +45,11 @@ fn write(patch: &Patch, from: u64, bytes: &mut [u8])
     let count = (width - earlier).min(bytes.len() - at);
     let spelled = patch.value.to_le_bytes();
     let (_, rest) = spelled.split_at(earlier);
+    if count == WORD {
+        let (word, _) = rest.split_at(WORD);
+        bytes[at..at + WORD].copy_from_slice(word);
+        return;
+    }
     let (here, _) = rest.split_at(count);
     bytes[at..at + count].copy_from_slice(here);
 }
