@@ -14,4 +14,5 @@ pub mod SameOutput
 pub mod SameRequest
 pub mod SeenOutputs
 pub mod SlotSteps
+pub mod SymbolNumbers
 pub mod Walked

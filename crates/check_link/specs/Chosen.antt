@@ -2,7 +2,7 @@
 use Rattle.std.specs.Prelude.{◌≡◌, ℕ, ◌+◌, Bool, true, false, cond, List, [], ◌∷◌, Option, Some, None, length, slice_get, slice_index_or}
 use Rattle.std.specs.Option.{option_and_then, option_map_or}
 use Rattle.check_load.specs.NameNumbers.{number_of}
-use Rattle.elf_model.specs.ChosenSymbols.{is_same_symbol}
+use Rattle.elf_model.specs.ChosenSymbols.{is_chosen, is_same_symbol}
 use Rattle.elf_model.specs.Loading.{LoadedObject}
 use Rattle.elf_model.specs.Resolution.{SymbolOf, chosen}
 use Rattle.check_link.specs.declared.chosen_definitions.Chosen.{Chosen}
@@ -40,5 +40,13 @@ IsOwn ss index = (n p : ℕ) (s : SymbolOf) → slice_get index.positions.items 
 abbrev pub AreOwnIn : List SymbolOf → Chosen → List Bool → Type 0
 AreOwnIn ss index own = (i : ℕ) (s : SymbolOf) → slice_index_or own i false ≡ true → slice_get ss i ≡ Some s → definition_in index ss s.name ≡ Some s
 
+-- the positions that an index has are those of marks that are set
+abbrev pub HaveMarks : Chosen → List Bool → Type 0
+HaveMarks index own = (n p : ℕ) → slice_get index.positions.items n ≡ Some p → slice_get own p ≡ Some false → ⊥
+
 abbrev pub AreOwnChoices : List LoadedObject → List SymbolOf → List Bool → Type 0
 AreOwnChoices objects ss own = (i : ℕ) (s : SymbolOf) → slice_get own i ≡ Some true → slice_get ss i ≡ Some s → chosen objects s.name ≡ Some s
+
+-- definitions without a mark aren't chosen
+abbrev pub AreOtherChoices : List LoadedObject → List SymbolOf → List Bool → Type 0
+AreOtherChoices objects ss own = (i : ℕ) (s : SymbolOf) → slice_get own i ≡ Some false → slice_get ss i ≡ Some s → is_chosen objects s ≡ false

@@ -7,7 +7,7 @@ ghost use Rattle.elf_model.specs.ChosenSymbols.{is_definition};
 ghost use Rattle.elf_model.specs.Resolution as resolution;
 ghost use Rattle.elf_model.specs.Resolution.{all_symbols, has_name, is_common_definition, is_strong, is_weak_definition};
 ghost use Rattle.check_load.specs.Views.{loaded_views};
-ghost use Rattle.check_link.specs.Chosen.{AreChosen, AreOwnIn, IsOwn, IsSized, definition_in, first_from, is_found, position_in};
+ghost use Rattle.check_link.specs.Chosen.{AreChosen, AreOwnIn, HaveMarks, IsOwn, IsSized, definition_in, first_from, is_found, position_in};
 ghost use Rattle.check_link.specs.Views.{symbol_view, symbol_views};
 
 use crate::definitions::{is_common_definition, is_strong, is_weak_definition};
@@ -206,7 +206,8 @@ pub fn own_choices(
     definitions: &[SymbolOf<'_>],
 ) -> Result<Vec<bool>, AllocError>
     requires { IsOwn (symbol_views definitions.now) index.now }
-    ensures { IfOk result (λ v. AreOwnIn (symbol_views definitions.now) index.now v.items) }
+    ensures own { IfOk result (λ v. AreOwnIn (symbol_views definitions.now) index.now v.items) }
+    ensures all { IfOk result (λ v. HaveMarks index.now v.items) }
 {
     let mut marks = vec![in alloc; false; definitions.len()]?;
     for position in &index.positions {

@@ -5,7 +5,7 @@ ghost use Rattle.elf_model.specs.Commons.{block_named, blocks};
 ghost use Rattle.elf_model.specs.Meaning.{meant};
 ghost use Rattle.elf_model.specs.Resolution.{AreSoundCommons, all_symbols, chosen};
 ghost use Rattle.check_load.specs.Views.{loaded_views};
-ghost use Rattle.check_link.specs.Chosen.{AreChosen, AreOwnChoices, IsSized};
+ghost use Rattle.check_link.specs.Chosen.{AreChosen, AreOtherChoices, AreOwnChoices, IsSized};
 ghost use Rattle.check_link.specs.NameIndex.{IsBlockIndex};
 ghost use Rattle.check_link.specs.Views.{block_view, block_views, meaning_view, symbol_view, symbol_views};
 
@@ -133,9 +133,11 @@ impl<'l, 'a> Names<'l, 'a> {
         is_chosen(&self.chosen, &self.definitions, symbol)
     }
 
-    /// Marks of definitions that are the chosen ones of their names.
+    /// A mark for each definition: whether it is the chosen one of its name.
     pub fn own_choices(&self, alloc: Global) -> Result<Vec<bool>, AllocError>
-        ensures { IfOk result (λ v. AreOwnChoices self.now
+        ensures own { IfOk result (λ v. AreOwnChoices self.now
+            (filter is_definition (all_symbols self.now)) v.items) }
+        ensures others { IfOk result (λ v. AreOtherChoices self.now
             (filter is_definition (all_symbols self.now)) v.items) }
     {
         let marks = own_choices(alloc, &self.chosen, &self.definitions)?;

@@ -13,7 +13,7 @@ ghost use Rattle.elf_model.specs.Resolution.{AreSoundSymbols, all_symbols, bindi
 ghost use Rattle.elf_model.specs.Slots.{requested_address};
 ghost use Rattle.check_load.specs.Views.{loaded_views};
 ghost use Rattle.check_relocs.specs.Bindings.{IsOfUnkept, IsTargetOf};
-ghost use Rattle.check_link.specs.Chosen.{AreOwnChoices};
+ghost use Rattle.check_link.specs.Chosen.{AreOtherChoices, AreOwnChoices};
 ghost use Rattle.check_link.specs.Slots.{request_view};
 ghost use Rattle.check_link.specs.ThreadStorage.{thread_pointer};
 ghost use Rattle.check_link.specs.Views.{meaning_view, symbol_view, symbol_views};
@@ -175,9 +175,11 @@ impl<'l, 'p, 'a> Bindings<'l, 'p, 'a> {
         self.names.seed()
     }
 
-    /// Marks of definitions that are the chosen ones of their names.
+    /// A mark for each definition: whether it is the chosen one of its name.
     pub fn own_choices(&self, alloc: Global) -> Result<Vec<bool>, AllocError>
-        ensures { IfOk result (λ v. AreOwnChoices self.now.objects
+        ensures own { IfOk result (λ v. AreOwnChoices self.now.objects
+            (filter is_definition (all_symbols self.now.objects)) v.items) }
+        ensures others { IfOk result (λ v. AreOtherChoices self.now.objects
             (filter is_definition (all_symbols self.now.objects)) v.items) }
     {
         self.names.own_choices(alloc)

@@ -1,23 +1,23 @@
 //! C13: whether the symbols are sound, no name has two strong definitions, and the symbol lines are those that the names
 //! ask for.
 ghost use Rattle.std.specs.Prelude.{◌≡◌, ◌+◌, ◌↔◌, ◌≤◌, ℕ, List, All, IfOk, IfSome, IsSome, IsTrue, [], ◌∷◌, false, filter, length, map, option_map, Some, true};
-ghost use Rattle.std.specs.Option.{option_map_or};
-ghost use Rattle.elf_model.specs.ChosenSymbols.{is_chosen, is_same_symbol};
+ghost use Rattle.std.specs.List.{slice_get};
+ghost use Rattle.elf_model.specs.ChosenSymbols.{is_chosen};
 ghost use Rattle.elf_model.specs.Listing.{linker_line};
 ghost use Rattle.elf_model.specs.MapRecord.{symbol_row};
 ghost use Rattle.elf_model.specs.Meaning.{Symbol, meaning_name, meanings_of, meant_list, object_meaning};
 ghost use Rattle.elf_model.specs.declared.link_map.Definition.TheVariants as definition;
 ghost use Rattle.elf_model.specs.MapText.{Ascends, SymbolBefore};
-ghost use Rattle.elf_model.specs.Resolution.{AreSoundSymbols, AreUnique, chosen};
+ghost use Rattle.elf_model.specs.Resolution.{AreSoundSymbols, AreUnique};
 ghost use Rattle.elf_model.specs.RightLink.{HasLine, Holds, definition_row, symbol_row_of};
 ghost use Rattle.checker.specs.Listed.{IsChosenIfStrong, IsLine};
-ghost use Rattle.check_link.specs.Chosen.{AreOwnChoices};
+ghost use Rattle.check_link.specs.Chosen.{AreOtherChoices, AreOwnChoices};
 ghost use Rattle.check_link.specs.Views.{meaning_view, symbol_view, symbol_views};
 ghost use Rattle.check_relocs.specs.LinkerUses.{AreUsed};
 ghost use Rattle.elf_model.specs.declared.verdict.Clause.TheVariants as clause;
 
 use crate::bound_link::BoundLink;
-use crate::c13_symbols::own_choices::{OwnChoices, is_marked};
+use crate::c13_symbols::own_choices::OwnChoices;
 use check_link::{Meaning, SymbolOf, is_strong};
 use check_relocs::{Bindings, linker_lines, used_names};
 use elf_model::{Definition, STB_WEAK, SymbolLine};
@@ -46,25 +46,38 @@ fn meaning_count<'a>(bindings: &Bindings<'_, '_, 'a>, symbol: &SymbolOf<'a>) -> 
     }
 }
 
-/// Whether a symbol is the one that was chosen.
-fn is_chosen(symbol: &SymbolOf<'_>, choice: &Option<SymbolOf<'_>>) -> bool
-    ensures { result ≡ option_map_or (is_same_symbol (symbol_view symbol.now))
-        (option_map symbol_view choice.now) false }
+/// The mark at a position, where there is one.
+fn mark_at(own: &[bool], position: usize) -> Option<bool>
+    ensures { result ≡ slice_get own.now position }
 {
-    match choice {
-        Some(other) => symbol.object == other.object && symbol.number == other.number,
-        None => false,
+    own.get(position).copied()
+}
+
+/// Whether a definition is the chosen one of its name, which its mark tells. It is looked up where there is none.
+fn is_chosen_by<'a>(
+    bindings: &Bindings<'_, '_, 'a>,
+    symbol: &SymbolOf<'a>,
+    mark: Option<bool>,
+) -> bool
+    requires own { mark ≡ Some true → is_chosen bindings.now.objects (symbol_view symbol.now) ≡ true }
+    requires others { mark ≡ Some false
+        → is_chosen bindings.now.objects (symbol_view symbol.now) ≡ false }
+    ensures { result ≡ is_chosen bindings.now.objects (symbol_view symbol.now) }
+{
+    match mark {
+        Some(mark) => mark,
+        None => bindings.is_chosen(symbol),
     }
 }
 
-/// How many lines a definition has, given the chosen one of its name: one where it is chosen. None where it is a strong
-/// one that isn't chosen.
+/// How many lines a definition has, which may be the chosen one of its name: one where it is. None where it is a strong one
+/// that isn't.
 fn line_count<'a>(
     bindings: &Bindings<'_, '_, 'a>,
     symbol: &SymbolOf<'a>,
-    choice: &Option<SymbolOf<'a>>,
+    chosen: bool,
 ) -> Option<usize>
-    requires { option_map symbol_view choice.now ≡ chosen bindings.now.objects symbol.now.name.now }
+    requires { chosen ≡ is_chosen bindings.now.objects (symbol_view symbol.now) }
     ensures few { IfSome result (λ n. n ≤ 1) }
     ensures count { IfSome result (λ n. n
         ≡ length (meanings_of bindings.now.objects
@@ -72,36 +85,21 @@ fn line_count<'a>(
     ensures lawful { IsSome result ↔ IsChosenIfStrong bindings.now.objects
         (symbol_view symbol.now) }
 {
-    if is_chosen(symbol, choice) {
+    if chosen {
         return Some(meaning_count(bindings, symbol));
     }
     if is_strong(symbol) { None } else { Some(0) }
 }
 
-/// The chosen definition of the name of a definition, which may be known to be that itself.
-fn choice_of<'a>(
-    bindings: &Bindings<'_, '_, 'a>,
-    symbol: &SymbolOf<'a>,
-    is_own: bool,
-) -> Option<SymbolOf<'a>>
-    requires { is_own ≡ true
-        → chosen bindings.now.objects symbol.now.name.now ≡ Some (symbol_view symbol.now) }
-    ensures { option_map symbol_view result ≡ chosen bindings.now.objects symbol.now.name.now }
-{
-    if is_own {
-        return Some(*symbol);
-    }
-    bindings.chosen(symbol.name)
-}
-
 /// How many lines all definitions have together; None where a strong one isn't chosen. Those that have a mark are chosen for
-/// their own names.
+/// their own names, and those whose mark isn't set aren't.
 fn chosen_count<'a>(
     bindings: &Bindings<'_, '_, 'a>,
     definitions: &[SymbolOf<'a>],
     own: &[bool],
 ) -> Option<usize>
-    requires { AreOwnChoices bindings.now.objects (symbol_views definitions.now) own.now }
+    requires own { AreOwnChoices bindings.now.objects (symbol_views definitions.now) own.now }
+    requires others { AreOtherChoices bindings.now.objects (symbol_views definitions.now) own.now }
     ensures count { IfSome result (λ n. n
         ≡ length (meanings_of bindings.now.objects
         (filter (is_chosen bindings.now.objects) (symbol_views definitions.now)))) }
@@ -110,8 +108,8 @@ fn chosen_count<'a>(
 {
     let mut count = 0;
     for (i, symbol) in definitions.iter().enumerate() {
-        let choice = choice_of(bindings, symbol, is_marked(own, i));
-        let Some(more) = line_count(bindings, symbol, &choice) else {
+        let chosen = is_chosen_by(bindings, symbol, mark_at(own, i));
+        let Some(more) = line_count(bindings, symbol, chosen) else {
             return None;
         };
         count += more;

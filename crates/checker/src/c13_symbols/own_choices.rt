@@ -74,7 +74,7 @@ fn numbers_in(definition: Definition) -> Option<(usize, usize)> {
 }
 
 /// Whether a position has a mark.
-pub fn is_marked(own: &[bool], position: usize) -> bool
+fn is_marked(own: &[bool], position: usize) -> bool
     ensures { IsTrue result → slice_get own.now position ≡ Some true }
 {
     match own.get(position) {

@@ -10,7 +10,7 @@ use Rattle.elf_model.specs.Meaning.{meanings_of}
 use Rattle.elf_model.specs.Resolution.{SymbolOf}
 use Rattle.check_link.specs.Views.{meaning_view, meaning_views, symbol_views}
 use Rattle.checker.proofs.SymbolLines.{listed, unique_told}
-use Rattle.check_link.specs.Chosen.{AreOwnChoices}
+use Rattle.check_link.specs.Chosen.{AreOtherChoices, AreOwnChoices}
 use Rattle.checker.specs.Listed.{IsLine}
 use Rattle.checker.proofs.c13_symbols.are_symbols_listed.Goals as goal
 
@@ -52,8 +52,14 @@ returns c =
       λ h. c.are_right_lines.ensures.1 (All-unmap (IsLine L w) symbol_row c.args.lines.now (lines.1 h.2).0),
     )
 
-pub chosen_count-requires : goal.chosen_count-requires
-chosen_count-requires c =
+pub chosen_count-requires-clause-own : goal.chosen_count-requires-clause-own
+chosen_count-requires-clause-own c =
     let L = c.args.bindings.now.objects in
     subst (λ (marks : List Bool). AreOwnChoices L (symbol_views c.definitions-definitions.result.now) marks) (sym c.deref.ensures.value)
-    (subst (λ (ss : List SymbolOf). AreOwnChoices L ss c.in_ok-own.own.items) (sym c.definitions-definitions.ensures) c.in_ok-own.ensures)
+    (subst (λ (ss : List SymbolOf). AreOwnChoices L ss c.in_ok-own.own.items) (sym c.definitions-definitions.ensures) c.in_ok-own.ensures.own)
+
+pub chosen_count-requires-clause-others : goal.chosen_count-requires-clause-others
+chosen_count-requires-clause-others c =
+    let L = c.args.bindings.now.objects in
+    subst (λ (marks : List Bool). AreOtherChoices L (symbol_views c.definitions-definitions.result.now) marks) (sym c.deref.ensures.value)
+    (subst (λ (ss : List SymbolOf). AreOtherChoices L ss c.in_ok-own.own.items) (sym c.definitions-definitions.ensures) c.in_ok-own.ensures.others)

@@ -7,11 +7,18 @@ use Rattle.checker.specs.Listed.{IsChosenIfStrong}
 use Rattle.check_link.specs.Views.{symbol_view, symbol_views}
 use Rattle.check_link.specs.declared.things.SymbolOf as code
 use Rattle.check_link.proofs.Positions.{viewed_at}
+use Rattle.checker.proofs.OwnChoices.{chosen_itself}
 use Rattle.checker.proofs.SymbolLines.{more_lines}
 use Rattle.checker.proofs.c13_symbols.chosen_count.Goals as goal
 
-pub choice_of-choice-requires : goal.choice_of-choice-requires
-choice_of-choice-requires c = λ e. c.requires c.loop-i.i _ (c.is_marked.ensures e) (viewed_at c.args.definitions.now c.loop-i.i _ c.loop-i-test.true)
+pub is_chosen_by-chosen-requires-clause-own : goal.is_chosen_by-chosen-requires-clause-own
+is_chosen_by-chosen-requires-clause-own c = λ e.
+    chosen_itself c.args.bindings.now.objects _
+    (c.requires.own c.loop-i.i _ (sym c.mark_at.ensures ∙ e) (viewed_at c.args.definitions.now c.loop-i.i _ c.loop-i-test.true))
+
+pub is_chosen_by-chosen-requires-clause-others : goal.is_chosen_by-chosen-requires-clause-others
+is_chosen_by-chosen-requires-clause-others c = λ e.
+    c.requires.others c.loop-i.i _ (sym c.mark_at.ensures ∙ e) (viewed_at c.args.definitions.now c.loop-i.i _ c.loop-i-test.true)
 
 pub loop-i-preserved : goal.loop-i-preserved
 loop-i-preserved c =
