@@ -1,8 +1,9 @@
 -- Objects of which no symbol has a name that the linker defines: their relocations use none.
 use Rattle.std.proofs.Common.{◌≡◌, ℕ, ◌+◌, ◌<◌, ◌≤◌, ◌⊎◌, inl, inr, ◌||◌, ◌&&◌, ◌++◌, Bool, true, false, cond, List, [], ◌∷◌, get_or, length, map, refl, ap, subst, sym, ◌∙◌, arith}
-use Rattle.std.specs.Prelude.{All, filter}
+use Rattle.std.specs.Prelude.{All, filter, not}
 use Rattle.std.specs.List.{list_any}
 use Rattle.std.specs.Str.{bytes_eq}
+use Rattle.std.proofs.lemmas.Bool.{false≢true}
 use Rattle.std.proofs.lemmas.List.{get_or_past}
 use Rattle.std.proofs.lemmas.List.Elements.{All-append, All-head, All-map, All-nil, All-tail}
 use Rattle.elf_model.specs.Loading.{LoadedObject}
@@ -65,3 +66,7 @@ module _ (L : List LoadedObject) (k : ℕ) (o : LoadedObject) where
 pub or_none : (a b : Bool) → b ≡ false → a ≡ (a || b)
 or_none true b e = refl
 or_none false b e = sym e
+
+pub was_false : (b : Bool) → not b ≡ true → b ≡ false
+was_false true e = absurd (false≢true e)
+was_false false e = refl

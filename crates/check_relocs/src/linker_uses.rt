@@ -1,5 +1,5 @@
 //! The linker's names that kept relocations use: which of them have a line in the map.
-ghost use Rattle.std.specs.Prelude.{◌≡◌, ◌∷◌, ◌++◌, ◌||◌, ℕ, [], List, IfOk, OnOk, Some, false, filter, map, option_to_list};
+ghost use Rattle.std.specs.Prelude.{◌≡◌, ◌∷◌, ◌++◌, ◌||◌, ℕ, [], List, IfOk, OnOk, Some, false, filter, map, option_to_list, true};
 ghost use Rattle.std.specs.List.{list_any, slice_get};
 ghost use Rattle.std.specs.Str.{bytes_eq};
 ghost use Rattle.std.specs.BTreeSet.{IsOrdered};
@@ -19,7 +19,7 @@ use crate::field_rows::is_some_kind;
 use crate::targets::{is_local_at, symbol_at};
 use check_link::{Meaning, SymbolOf};
 use check_load::Loaded;
-use elf_model::{Rela, STB_LOCAL, SectionHeader};
+use elf_model::{RELA_SIZE, Rela, SHT_RELA, STB_LOCAL, SectionHeader};
 use elf_read::RelaRun;
 use std::alloc::{AllocError, Global};
 use std::collections::BTreeSet;
@@ -159,7 +159,7 @@ fn add_section<'a>(
     )
 }
 
-/// Whether the object that has a number has such a symbol at all: mostly none does, and then its relocations aren't read.
+/// Whether the object that has a number has such a symbol at all. Mostly none does, and then its relocations needn't be read.
 fn has_use<'a>(bindings: &Bindings<'_, '_, 'a>, number: u64, loaded: &Loaded<'a>) -> bool
     ensures { result ≡ false
         → HaveNoUses bindings.now.objects number (loaded_view loaded.now) }
@@ -170,6 +170,31 @@ fn has_use<'a>(bindings: &Bindings<'_, '_, 'a>, number: u64, loaded: &Loaded<'a>
         }
     }
     false
+}
+
+/// How many entries the RELA sections of an object have, kept or not.
+fn entry_count(loaded: &Loaded<'_>) -> u64 {
+    let headers = loaded.object.sections();
+    let mut count: u64 = 0;
+    for i in 0..headers.len() {
+        let header = headers.at(i);
+        if header.sh_type == SHT_RELA {
+            count = count.saturating_add(header.sh_size / RELA_SIZE as u64);
+        }
+    }
+    count
+}
+
+/// Whether it is known that no symbol of the object that has a number is such. The symbols are asked only where there are no
+/// more of them than relocations.
+fn has_no_use<'a>(bindings: &Bindings<'_, '_, 'a>, number: u64, loaded: &Loaded<'a>) -> bool
+    ensures { result ≡ true
+        → HaveNoUses bindings.now.objects number (loaded_view loaded.now) }
+{
+    if entry_count(loaded) < loaded.object.symbols().len() as u64 {
+        return false;
+    }
+    !has_use(bindings, number, loaded)
 }
 
 /// Adds those that the kept relocations of an object use.
@@ -183,7 +208,7 @@ fn add_object<'a>(
     ensures { OnOk result (Gains bindings.now.objects
         (relocations_from number (loaded_view loaded.now)) names.old names.new) }
 {
-    if !has_use(bindings, number, loaded) {
+    if has_no_use(bindings, number, loaded) {
         return Ok(());
     }
     let mut uses = no_answers(alloc, loaded)?;

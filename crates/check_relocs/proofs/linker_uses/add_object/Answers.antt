@@ -18,9 +18,9 @@ loop-i-init c =
       gains = λ n. ap (λ (ss : List SectionHeader). is_among c.args.names.now n || list_any (uses_line L n) (relocations_behind k o 0 ss)) c.sections-headers.ensures;
     }
 
-pub returns-then-not-has_use : goal.returns-then-not-has_use
-returns-then-not-has_use c = λ n.
+pub returns-then-has_no_use : goal.returns-then-has_no_use
+returns-then-has_no_use c = λ n.
     let L = c.args.bindings.now.objects in
     let k = c.args.number in
     let o = loaded_view c.args.loaded.now in
-    or_none (is_among c.args.names.now n) (list_any (uses_line L n) (relocations_from k o)) (object_uses_none L k o (c.has_use.ensures c.if-not-has_use.true) n)
+    or_none (is_among c.args.names.now n) (list_any (uses_line L n) (relocations_from k o)) (object_uses_none L k o (c.has_no_use.ensures c.if-has_no_use.true) n)
