@@ -10,3 +10,4 @@ pub mod Ahead
 pub mod Splitting
 pub mod Growth
 pub mod Hexadecimal
+pub mod RefusedPhrases

@@ -3,3 +3,4 @@ pub mod PhraseViews
 pub mod Steps
 pub mod PlaceViews
 pub mod Candidates
+pub mod RefusedWords

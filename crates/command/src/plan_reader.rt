@@ -1,19 +1,20 @@
 //! Reads a command's words phrase by phrase.
-ghost use Rattle.std.specs.Prelude.{◌≡◌, ◌+◌, ◌<◌, ◌≤◌, ◌^◌, MatchResult, IfErr, Ok, Err};
-ghost use Rattle.std.specs.Prelude.{nat_eq, codes, [], IfOk};
+ghost use Rattle.std.specs.Prelude.{◌≡◌, ◌≢◌, ◌+◌, ◌<◌, ◌≤◌, ◌^◌, MatchResult, IfErr, OnOk, Ok, Err};
+ghost use Rattle.std.specs.Prelude.{nat_eq, codes, [], IfOk, List};
 ghost use Rattle.std.specs.List.{ends_with};
 ghost use Rattle.elf_model.specs.Command as command;
-ghost use Rattle.elf_model.specs.Command.{is_archive, plan_of_phrases, command_of, IsRefusal, HasPlan, IsBase, IsNamed};
+ghost use Rattle.elf_model.specs.Command.{is_archive, plan_of_phrases, command_of, read_behind, split, IsRefusal, HasPlan, IsBase, IsNamed};
 ghost use Rattle.elf_model.specs.Files.{words_of};
 ghost use Rattle.command.specs.Views.{source_of, item_of};
 ghost use Rattle.command.specs.PhraseViews.{said_of};
 ghost use Rattle.command.specs.PlaceViews.{state_of};
+ghost use Rattle.command.specs.RefusedWords.{AreRefused, IsRefusedAt};
 ghost use Rattle.command.specs.Steps.{accept, finish, item_at, Fails};
 
 use crate::items::{Item, Plan, Source};
 use crate::phrases::{Phrase, phrase_at};
 use elf_model::CmdFault;
-use std::alloc::Global;
+use std::alloc::{AllocError, Global};
 
 /// What the phrases so far say of how later ones are read.
 #[derive(Clone, Copy, Debug)]
@@ -140,7 +141,10 @@ fn read_phrases<'a>(
 ) -> Result<(Plan<'a>, Place), CmdFault>
     ensures plan { IfOk result (λ r. command_of (words_of words.entry.now)
         ≡ finish (state_of r.0 r.1)) }
-    ensures fault { IfErr result (IsRefusal (words_of words.entry.now)) }
+    ensures read { OnOk result ((ps : List command.Phrase)
+        × (read_behind [] (split (words_of words.entry.now)) ≡ Ok ps)) }
+    ensures word { IfErr result (λ f. f ≢ CmdFault.Memory →
+        IsRefusedAt (words_of words.entry.now) at.new f) }
 {
     let mut plan = default_plan(alloc);
     let mut place = Place {
@@ -178,11 +182,21 @@ pub fn read_words<'a>(alloc: Global, words: &'a [String]) -> Result<Plan<'a>, Cm
     finish(plan, place)
 }
 
-/// The number of the word, from 0, at which a command's words are refused; None where all of them together are, or none is.
-pub fn refused_word(alloc: Global, words: &[String]) -> Option<usize> {
+/// The number of the word, from 0, at which a command's words are refused; None where only all of them together are, or none is.
+///
+/// # Errors
+///
+/// Only where memory is refused.
+pub fn refused_word(alloc: Global, words: &[String]) -> Result<Option<u64>, AllocError>
+    ensures { (f : CmdFault) →
+        command_of (words_of words.now) ≡ Err f → IfOk result (AreRefused (words_of words.now) f) }
+{
     let mut at = 0;
-    match read_phrases(alloc, words, &mut at) {
-        Ok(_) => None,
-        Err(_) => Some(at),
+    let Err(fault) = read_phrases(alloc, words, &mut at) else {
+        return Ok(None);
+    };
+    match fault {
+        CmdFault::Memory => Err(AllocError),
+        _ => Ok(Some(at as u64)),
     }
 }

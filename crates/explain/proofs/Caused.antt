@@ -1,15 +1,15 @@
 -- Each place carries the cause of its error: by what the error's own cause gives of the phase, and by what the place says.
-use Rattle.std.proofs.Common.{◌≡◌, ◌∙◌, ℕ, zero, suc, ◌+◌, List, [], ◌∷◌, Ok, Some, All, arith, refl, subst, sym}
+use Rattle.std.proofs.Common.{◌≡◌, ◌∙◌, inr, ℕ, zero, suc, ◌+◌, List, [], ◌∷◌, Ok, Some, All, arith, refl, subst, sym}
 use Rattle.std.specs.Prelude.{None, ◌≢◌, Any, Contains, true, cond, filter}
 use Rattle.std.specs.List.{slice_get}
 use Rattle.std.proofs.lemmas.List.Elements.{All-weaker, Contains-append_left, Contains-append_right}
 use Rattle.std.proofs.lemmas.Option.{none-some, same_Some}
 use Rattle.command.proofs.Found.{same_ok}
-use Rattle.elf_model.specs.Causes.{Cause, HasFiles, HasObjects, IsBadArchive, IsResolved, IsToDropped, IsToMixed, IsUndefinedName, IsWithoutIndex}
+use Rattle.elf_model.specs.Causes.{Cause, HasArchives, HasBadGroups, HasFiles, HasObjects, IsBadArchive, IsResolved, IsToDropped, IsToMixed, IsUndefinedName, IsWithoutIndex}
 use Rattle.elf_model.specs.Command.{Plan, command_of}
 use Rattle.elf_model.specs.Files.{File}
 use Rattle.elf_model.specs.Loading.{LoadedObject, loaded_objects}
-use Rattle.elf_model.specs.ObjectFile.{relas_of, sections}
+use Rattle.elf_model.specs.ObjectFile.{ObjFaultStands, relas_of, sections}
 use Rattle.elf_model.specs.Opening.{opened}
 use Rattle.elf_model.specs.Relocation.{IsFieldInside, IsThreadMismatch, Relocation, is_kept_rela, is_some_kind, relocation_kind, relocation_of, relocations, relocations_behind, relocations_from, relocations_in, relocations_of}
 use Rattle.elf_model.specs.Resolution.{IsDuplicate}
@@ -19,11 +19,14 @@ use Rattle.elf_model.specs.declared.records.Rela.{Rela}
 use Rattle.elf_model.specs.declared.records.SectionHeader.{SectionHeader}
 use Rattle.elf_model.proofs.Finding.{Any-from_contains}
 use Rattle.elf_model.proofs.Listed.{Contains-filter, Contains-from_slice_get, Contains-map}
+use Rattle.search.specs.Faults.{IsSearchable}
+use Rattle.search.proofs.LoadLaws.{reaches_weaker}
 use Rattle.relocate.specs.References.{IsUnlawful}
 use Rattle.relocate.specs.declared.faults.RelocationFault.{RelocationFault}
 use Rattle.relocate.specs.declared.faults.RelocationFault.TheVariants as wrong
 use Rattle.explain.specs.Phases.{error_phase, place_phase}
-use Rattle.explain.specs.Places.{CauseOf, Holds, IsNoneLoaded, IsOfPhase, IsRelocationAt, IsWrongRelocation, RelocationCause, Says}
+use Rattle.explain.specs.Places as places
+use Rattle.explain.specs.Places.{CauseOf, HasFault, Holds, IsFileOf, IsOfPhase, IsRelocationAt, IsWrongRelocation, RelocationCause, Says}
 use Rattle.explain.specs.declared.phase.Phase.{Phase}
 use Rattle.explain.specs.declared.phase.Phase.TheVariants as phase
 use Rattle.explain.specs.declared.place.Place.{Place}
@@ -79,7 +82,7 @@ Given files words phase.None = ⊥
 Given files words phase.Words = Unit {0}
 Given files words phase.Files = Cause files words error.FileMissing
 Given files words phase.Archives = (p : Plan) × HasFiles files words p
-Given files words phase.Objects = IsNoneLoaded files words
+Given files words phase.Objects = Unit {0}
 Given files words phase.Kinds = Cause files words error.SectionKind
 Given files words phase.Commons = Cause files words error.BadCommon
 Given files words phase.Symbols = Cause files words error.BadSymbol
@@ -96,8 +99,8 @@ given files words (error.Command f) some c = tt
 given files words error.FileMissing some c = c
 given files words (error.BadArchive f) some c = (c.0, c.1)
 given files words error.NoIndex some c = (c.0, c.1)
-given files words (error.BadObject f) some c = (error.BadObject f, refl, c)
-given files words (error.BadGroup f) some c = (error.BadGroup f, refl, c)
+given files words (error.BadObject f) some c = tt
+given files words (error.BadGroup f) some c = tt
 given files words error.SectionKind some c = c
 given files words error.BadCommon some c = c
 given files words error.BadSymbol some c = c
@@ -136,6 +139,10 @@ relocation_cause files words p q f resolved w = by f w.wrong
     by wrong.TlsMismatch h = (p, resolved, any (IsThreadMismatch objects) h)
     by wrong.MixedSection h = (p, resolved, any (IsToMixed objects) h)
 
+-- the archives of a plan can be searched
+archives : {files : List File} (words : List (List ℕ)) (p : Plan) → command_of words ≡ Ok p → IsSearchable files p → HasArchives files words p
+archives words p is s = record { before = record { words_are = is; files_are = s.files_are }; archives = s.archives; indexes = s.indexes }
+
 caused : (files : List File) (words : List (List ℕ)) (x : Place) → Given files words (place_phase x) → Says files words x → CauseOf files words x
 caused files words (place.Word number f) g s = s.refused
 caused files words (place.Missing i source) g s = g
@@ -152,8 +159,15 @@ caused files words (place.NoIndex p) g s =
       subst (HasFiles files words) same g.1,
       Any-from_contains IsWithoutIndex (opened files s.0) s.2.item (Contains-from_slice_get (opened files s.0) p.item s.2.item s.2.there) s.2.stands,
     )
-caused files words (place.Object p f part) g s = g
-caused files words (place.Groups p f) g s = g
+caused files words (place.Object p f part) g s =
+    let all = archives words s.0 s.1 s.2.searchable in
+    (s.0, all.before, s.2.reaches.stands.1.0, inr (all, reaches_weaker (loaded_objects files s.0) (λ o. IsFileOf o p × HasFault f part o.bytes) (λ o. ObjFaultStands o.bytes f) (λ o h. h.1.1) s.2.reaches))
+caused files words (place.Groups p f) g s = (
+  s.0,
+  archives words s.0 s.1 s.2.searchable,
+  s.2.reaches.stands.1.0,
+  reaches_weaker (loaded_objects files s.0) (λ o. IsFileOf o p × places.HasBadGroups f o.bytes) (HasBadGroups f) (λ o h. (h.1.1, h.1.2)) s.2.reaches,
+)
 caused files words (place.Section p) g s = g
 caused files words (place.Large p) g s = g
 caused files words (place.Symbol p symbol_fault.BadCommon) g s = g

@@ -1,65 +1,53 @@
 -- What places say, from the objects to the files and the words.
-use Rattle.std.proofs.Common.{◌≡◌, ℕ, List, Ok, Option, None, Some, IfSome, All, subst, sym}
+use Rattle.std.proofs.Common.{◌≡◌, ◌∙◌, ℕ, List, Ok, Some, All, subst, sym}
 use Rattle.std.specs.List.{slice_get}
 use Rattle.std.proofs.lemmas.List.Elements.{All-weaker}
 use Rattle.elf_model.specs.Command.{Plan, command_of}
 use Rattle.elf_model.specs.Files.{File}
-use Rattle.elf_model.specs.Loading.{loaded_objects}
+use Rattle.elf_model.specs.Loading.{LoadedObject, loaded_objects}
 use Rattle.elf_model.specs.Opening as opened_items
 use Rattle.elf_model.specs.Opening.{Opened}
+use Rattle.search.specs.Faults.{IsRefusedIn, LoadsBadly}
 use Rattle.search.specs.Loads.{LoadedPlan}
 use Rattle.search.specs.Opened.{item_view}
+use Rattle.search.specs.declared.loader.RefusedObject.{RefusedObject}
 use Rattle.search.specs.declared.opened_items.OpenedItem.{OpenedItem}
-use Rattle.explain.specs.Opened.{IsOpened, IsPlaceOf}
-use Rattle.explain.specs.Places.{AreSo, AreSoOf, HasBadGroups, HasDataThat, HasFault, HoldsIn, HoldsOf, HoldsOfBytes, IsDataOf, IsItemAt, IsObjectOf, Says}
+use Rattle.explain.specs.Opened.{IsOpened, IsPlaceAt, IsPlaceOf}
+use Rattle.explain.specs.Places.{AreSo, AreSoOf, HoldsIn, HoldsOf, IsItemAt, IsStoppedAt, Says}
 use Rattle.explain.specs.declared.place.ObjectPlace.{ObjectPlace}
 use Rattle.explain.specs.declared.place.Place.{Place}
 use Rattle.explain.specs.declared.place.Place.TheVariants as place
 
 -- what stands of an opened item is said of a place of it
 pub item_at :
-    (files : List File) (plan : Plan) (item : OpenedItem) (offset : ℕ) (p : ObjectPlace) (Stands : Opened → Type 0) → IsOpened files plan item →
-    IsPlaceOf item offset p → Stands (item_view item) → IsItemAt files plan p Stands
-item_at files plan item offset p Stands opened at stands = record {
+    (files : List File) (plan : Plan) (item : OpenedItem) (p : ObjectPlace) (Stands : Opened → Type 0) → IsOpened files plan item →
+    IsPlaceOf item p → Stands (item_view item) → IsItemAt files plan p Stands
+item_at files plan item p Stands opened at stands = record {
   item = item_view item;
   there = subst (λ (n : ℕ). slice_get (opened_items.opened files plan) n ≡ Some (item_view item)) (sym at.item_is) opened;
   path = at.path;
   stands = stands;
 }
 
-object_of :
-    (files : List File) (plan : Plan) (item : OpenedItem) (offset : ℕ) (p q : ObjectPlace) (bytes : List ℕ) (Stands : List ℕ → Type 0) →
-    IsOpened files plan item → IsPlaceOf item offset p → IsDataOf (item_view item) offset bytes → q ≡ p → Stands bytes → IsObjectOf files plan q Stands
-object_of files plan item offset p q bytes Stands opened at held is stands =
-    subst (λ (x : ObjectPlace). IsObjectOf files plan x Stands) (sym is)
-    (item_at files plan item offset p (HasDataThat p.offset Stands) opened at
-    (record { bytes = bytes; data_is = subst (λ (n : ℕ). IsDataOf (item_view item) n bytes) (sym at.offset_is) held; stands = stands }))
-
-pub object_law :
-    (files : List File) (plan : Plan) (item : OpenedItem) (offset : ℕ) (p : ObjectPlace) (bytes : List ℕ) (x : Place) → IsOpened files plan item →
-    IsPlaceOf item offset p → IsDataOf (item_view item) offset bytes → HoldsOfBytes p bytes x → HoldsOf files plan x
-object_law files plan item offset p bytes (place.Object q f part) opened at held h =
-    object_of files plan item offset p q bytes (HasFault f part) opened at held h.0 h.1
-object_law files plan item offset p bytes (place.Groups q f) opened at held h =
-    object_of files plan item offset p q bytes (HasBadGroups f) opened at held h.0 h.1
-object_law files plan item offset p bytes (place.Word number f) opened at held h = absurd h
-object_law files plan item offset p bytes (place.Missing i source) opened at held h = absurd h
-object_law files plan item offset p bytes (place.Archive q f) opened at held h = absurd h
-object_law files plan item offset p bytes (place.NoIndex q) opened at held h = absurd h
-object_law files plan item offset p bytes (place.Section q) opened at held h = absurd h
-object_law files plan item offset p bytes (place.Large q) opened at held h = absurd h
-object_law files plan item offset p bytes (place.Symbol q f) opened at held h = absurd h
-object_law files plan item offset p bytes (place.Relocation q f) opened at held h = absurd h
-object_law files plan item offset p bytes (place.Overlap q r) opened at held h = absurd h
-object_law files plan item offset p bytes (place.Value q value address) opened at held h = absurd h
-object_law files plan item offset p bytes (place.Entry name) opened at held h = absurd h
-object_law files plan item offset p bytes (place.Refused e) opened at held h = absurd h
-
-pub object_some :
-    (files : List File) (plan : Plan) (item : OpenedItem) (offset : ℕ) (p : ObjectPlace) (bytes : List ℕ) (o : Option Place) → IsOpened files plan item →
-    IsPlaceOf item offset p → IsDataOf (item_view item) offset bytes → IfSome o (HoldsOfBytes p bytes) → IfSome o (HoldsOf files plan)
-object_some files plan item offset p bytes None opened at held h = h
-object_some files plan item offset p bytes (Some x) opened at held h = object_law files plan item offset p bytes x opened at held h
+-- what stands of the object at which loading stops is said of its place
+pub stopped_at :
+    (files : List File) (plan : Plan) (r : RefusedObject) (p : ObjectPlace) (Stands : List ℕ → Type 0) → IsRefusedIn files plan (Some r) → IsPlaceAt r.at p →
+    ((o : LoadedObject) → LoadsBadly r.fault o → r.at.bytes.now ≡ o.bytes → Stands o.bytes) → IsStoppedAt files plan p Stands
+stopped_at files plan r p Stands is at stands = record {
+  searchable = is.0;
+  reaches = record {
+    front = is.1.front;
+    reached = is.1.reached;
+    rest = is.1.rest;
+    order = is.1.order;
+    are_objects = is.1.are_objects;
+    lawful = is.1.lawful;
+    stands = (
+      record { item = at.item ∙ is.1.stands.0.item; path = at.path ∙ is.1.stands.0.path; offset = at.offset ∙ is.1.stands.0.offset },
+      stands is.1.reached is.1.stands.1 is.1.stands.0.bytes,
+    );
+  };
+}
 
 -- what holds of the objects that a plan loads
 of_loaded : (files : List File) (plan : Plan) (ns : List (List ℕ)) (x : Place) → HoldsIn (record { plan = plan; objects = loaded_objects files plan; names = ns }) x → HoldsOf files plan x

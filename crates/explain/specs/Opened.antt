@@ -1,10 +1,11 @@
--- Items that the explanation opens, and the places of their objects.
-use Rattle.std.specs.Prelude.{◌≡◌, ℕ, List, Some}
+-- Items that the explanation opens, and the places of them and of objects.
+use Rattle.std.specs.Prelude.{◌≡◌, List, Some}
 use Rattle.std.specs.List.{slice_get}
 use Rattle.elf_model.specs.Command.{Plan}
 use Rattle.elf_model.specs.Files.{File}
 use Rattle.elf_model.specs.Opening.{opened}
 use Rattle.search.specs.Opened.{item_view}
+use Rattle.search.specs.declared.loader.Reached.{Reached}
 use Rattle.search.specs.declared.opened_items.OpenedItem.{OpenedItem}
 use Rattle.explain.specs.declared.place.ObjectPlace.{ObjectPlace}
 
@@ -12,8 +13,13 @@ use Rattle.explain.specs.declared.place.ObjectPlace.{ObjectPlace}
 abbrev pub IsOpened : List File → Plan → OpenedItem → Type 0
 IsOpened files plan item = slice_get (opened files plan) item.number ≡ Some (item_view item)
 
--- a place is that of an object of an opened item
-pub record IsPlaceOf (item : OpenedItem) (offset : ℕ) (p : ObjectPlace) : Type 0 where
+-- a place is that of an opened item
+pub record IsPlaceOf (item : OpenedItem) (p : ObjectPlace) : Type 0 where
   pub item_is : p.item ≡ item.number
   pub path : p.path.now ≡ item.path.now
-  pub offset_is : p.offset ≡ offset
+
+-- a place is that of an object to which loading has come
+pub record IsPlaceAt (r : Reached) (p : ObjectPlace) : Type 0 where
+  pub item : p.item ≡ r.item
+  pub path : p.path.now ≡ r.path.now
+  pub offset : p.offset ≡ r.offset

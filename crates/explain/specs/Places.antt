@@ -1,8 +1,7 @@
 -- What a place of an explanation says, and the cause that it carries.
-use Rattle.std.specs.Prelude.{◌≡◌, ◌≢◌, ◌⊎◌, ◌<◌, ◌+◌, ◌%◌, ◌^◌, ℕ, true, false, List, [], Option, Some, Ok, Err, All, IfSome, length, unwrap_or}
+use Rattle.std.specs.Prelude.{◌≡◌, ◌≢◌, ◌<◌, ◌+◌, ◌%◌, ◌^◌, ℕ, true, List, [], Option, Some, Ok, Err, All, IfSome, unwrap_or}
 use Rattle.std.specs.List.{slice_get}
-use Rattle.elf_model.specs.ArchiveFile.{member_at}
-use Rattle.elf_model.specs.Causes.{AnyRelocation, Cause, HasObjects, IsBadArchive, IsUndefinedName, IsWithoutIndex}
+use Rattle.elf_model.specs.Causes.{AnyRelocation, Cause, HasObjects, IsBadArchive, IsUndefinedName, IsWithoutIndex, Reaches}
 use Rattle.elf_model.specs.Command.{Item, Plan, command_of}
 use Rattle.elf_model.specs.Files.{File}
 use Rattle.elf_model.specs.Groups.{GroupFaultStands}
@@ -18,15 +17,16 @@ use Rattle.elf_model.specs.declared.faults.ArFault.TheVariants as archive_fault
 use Rattle.elf_model.specs.declared.faults.CmdFault.{CmdFault}
 use Rattle.elf_model.specs.declared.faults.GroupFault.{GroupFault}
 use Rattle.elf_model.specs.declared.faults.GroupFault.TheVariants as group_fault
-use Rattle.elf_model.specs.declared.faults.LinkError.{LinkError}
 use Rattle.elf_model.specs.declared.faults.LinkError.TheVariants as error
 use Rattle.elf_model.specs.declared.faults.ObjFault.{ObjFault}
 use Rattle.elf_model.specs.declared.faults.ObjFault.TheVariants as object_fault
 use Rattle.elf_model.specs.declared.records.SectionHeader.{SectionHeader}
 use Rattle.bad_parts.specs.BadParts.{IsBadOf}
 use Rattle.bad_parts.specs.declared.part.BadPart.{BadPart}
+use Rattle.command.specs.RefusedWords.{AreRefused}
 use Rattle.command.specs.Views.{source_of}
 use Rattle.command.specs.declared.items.Source.{Source}
+use Rattle.search.specs.Faults.{IsSearchable}
 use Rattle.search.specs.Loads.{LoadedPlan}
 use Rattle.layout.specs.Kinds.{IsLawfulIfKept}
 use Rattle.layout.specs.Placements.{Basis}
@@ -34,9 +34,8 @@ use Rattle.relocate.specs.References.{IsUnlawful}
 use Rattle.relocate.specs.declared.faults.RelocationFault.{RelocationFault}
 use Rattle.relocate.specs.declared.faults.RelocationFault.TheVariants as wrong
 use Rattle.relocate.specs.Values.{where_in}
-use Rattle.explain.specs.Phases.{error_phase, place_phase}
+use Rattle.explain.specs.Phases.{place_phase}
 use Rattle.explain.specs.declared.phase.Phase.{Phase}
-use Rattle.explain.specs.declared.phase.Phase.TheVariants as phase
 use Rattle.explain.specs.declared.place.ObjectPlace.{ObjectPlace}
 use Rattle.explain.specs.declared.place.Place.{Place}
 use Rattle.explain.specs.declared.place.Place.TheVariants as place
@@ -163,12 +162,6 @@ HasFault f part bytes = (f ≢ object_fault.Memory) × ObjFaultStands bytes f ×
 abbrev pub HasBadGroups : GroupFault → List ℕ → Type 0
 HasBadGroups f bytes = (f ≢ group_fault.Memory) × IsObject bytes × GroupFaultStands (groups bytes) f
 
--- what a place says of an object by its bytes
-abbrev pub HoldsOfBytes : ObjectPlace → List ℕ → Place → Type 0
-HoldsOfBytes p bytes (place.Object q f part) = (q ≡ p) × HasFault f part bytes
-HoldsOfBytes p bytes (place.Groups q f) = (q ≡ p) × HasBadGroups f bytes
-HoldsOfBytes p bytes _ = ⊥
-
 -- a place is that of an item of a plan, which is opened, and something stands of it
 pub record IsItemAt (files : List File) (plan : Plan) (p : ObjectPlace) (Stands : Opened → Type 0) : Type 0 where
   pub item : Opened
@@ -176,20 +169,11 @@ pub record IsItemAt (files : List File) (plan : Plan) (p : ObjectPlace) (Stands 
   pub path : p.path.now ≡ item.path
   pub stands : Stands item
 
--- the bytes of an object of an opened item: its file where it is an object, and the data of a member that is there where it
--- is an archive
-abbrev pub IsDataOf : Opened → ℕ → List ℕ → Type 0
-IsDataOf o offset bytes =
-    ((o.archive ≡ false) × (offset ≡ 0) × (bytes ≡ o.bytes)) ⊎ ((o.archive ≡ true) × (member_at o.bytes offset ≡ Some bytes))
-
--- an opened item has an object at an offset of whose bytes something stands
-pub record HasDataThat (offset : ℕ) (Stands : List ℕ → Type 0) (o : Opened) : Type 0 where
-  pub bytes : List ℕ
-  pub data_is : IsDataOf o offset bytes
-  pub stands : Stands bytes
-
-abbrev pub IsObjectOf : List File → Plan → ObjectPlace → (List ℕ → Type 0) → Type 0
-IsObjectOf files plan p Stands = IsItemAt files plan p (HasDataThat p.offset Stands)
+-- loading a plan stops at the object of a place: its archives can be searched, all objects before this one are objects with
+-- lawful groups, and something stands of its bytes
+pub record IsStoppedAt (files : List File) (plan : Plan) (p : ObjectPlace) (Stands : List ℕ → Type 0) : Type 0 where
+  pub searchable : IsSearchable files plan
+  pub reaches : Reaches (loaded_objects files plan) (λ o. IsFileOf o p × Stands o.bytes)
 
 -- an item of a plan, which names a source, has no file
 pub record IsMissing (files : List File) (plan : Plan) (i : ℕ) (source : Source) : Type 0 where
@@ -203,13 +187,13 @@ abbrev pub HoldsOf : List File → Plan → Place → Type 0
 HoldsOf files plan (place.Missing i source) = IsMissing files plan i source
 HoldsOf files plan (place.Archive p f) = IsItemAt files plan p (λ o. (f ≢ archive_fault.Memory) × IsBadArchive f o)
 HoldsOf files plan (place.NoIndex p) = IsItemAt files plan p IsWithoutIndex
-HoldsOf files plan (place.Object p f part) = IsObjectOf files plan p (HasFault f part)
-HoldsOf files plan (place.Groups p f) = IsObjectOf files plan p (HasBadGroups f)
+HoldsOf files plan (place.Object p f part) = IsStoppedAt files plan p (HasFault f part)
+HoldsOf files plan (place.Groups p f) = IsStoppedAt files plan p (HasBadGroups f)
 HoldsOf files plan p = HoldsIn (record { plan = plan; objects = loaded_objects files plan; names = [] }) p
 
--- the words are refused; the word that is told, where one is, is one of them
+-- the words are refused with a fault: at the word that has the number, or without one all of them together
 pub record IsWordAt (words : List (List ℕ)) (number : Option ℕ) (f : CmdFault) : Type 0 where
-  pub there : IfSome number (λ n. n < length words)
+  pub at : AreRefused words f number
   pub refused : command_of words ≡ Err f
 
 -- what a place says of the words of a command, and of its files; of an error that is told as a whole its cause says all
@@ -217,10 +201,6 @@ abbrev pub Says : List File → List (List ℕ) → Place → Type 0
 Says files words (place.Word number f) = IsWordAt words number f
 Says files words (place.Refused e) = e.now ≢ error.Memory
 Says files words p = (plan : Plan) × (command_of words ≡ Ok plan) × HoldsOf files plan p
-
--- an object that loading comes to is none, or has unlawful groups
-abbrev pub IsNoneLoaded : List File → List (List ℕ) → Type 0
-IsNoneLoaded files words = (e : LinkError) × (error_phase e ≡ phase.Objects) × Cause files words e
 
 -- the cause of the error that a place is of, where a name is that of the place
 abbrev pub SymbolCause : List File → List (List ℕ) → List ℕ → SymbolFault → Type 0
@@ -242,8 +222,8 @@ CauseOf files words (place.Word number f) = Cause files words (error.Command f)
 CauseOf files words (place.Missing i source) = Cause files words error.FileMissing
 CauseOf files words (place.Archive p f) = Cause files words (error.BadArchive f)
 CauseOf files words (place.NoIndex p) = Cause files words error.NoIndex
-CauseOf files words (place.Object p f part) = IsNoneLoaded files words
-CauseOf files words (place.Groups p f) = IsNoneLoaded files words
+CauseOf files words (place.Object p f part) = Cause files words (error.BadObject f)
+CauseOf files words (place.Groups p f) = Cause files words (error.BadGroup f)
 CauseOf files words (place.Section p) = Cause files words error.SectionKind
 CauseOf files words (place.Large p) = Cause files words error.TooLarge
 CauseOf files words (place.Symbol p f) = SymbolCause files words p.name.now f

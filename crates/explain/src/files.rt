@@ -1,23 +1,21 @@
-//! Items without files, archives that are none, and objects that are refused.
-ghost use Rattle.std.specs.Prelude.{◌≡◌, List, IfErr, IfOk, IfSome, OnOk};
+//! Items without files, archives that are none, and the object at which loading stops.
+ghost use Rattle.std.specs.Prelude.{List, IfOk, IfSome, OnOk, Some};
 ghost use Rattle.elf_model.specs.Command as command;
-ghost use Rattle.elf_model.specs.Files.{File};
-ghost use Rattle.elf_model.specs.ObjectFile.{IsObject, ObjFaultStands};
-ghost use Rattle.search.specs.Faults.{IsUnsearchable};
+ghost use Rattle.elf_model.specs.Files.{File, files_of};
+ghost use Rattle.search.specs.Faults.{IsRefusedIn, IsUnsearchable};
 ghost use Rattle.search.specs.Opened.{item_view};
-ghost use Rattle.explain.specs.Opened.{IsOpened, IsPlaceOf};
-ghost use Rattle.explain.specs.Places.{AreSoOf, HoldsOf, HoldsOfBytes, IsDataOf};
+ghost use Rattle.explain.specs.Opened.{IsOpened, IsPlaceAt, IsPlaceOf};
+ghost use Rattle.explain.specs.Places.{AreSoOf, HoldsOf};
 
 use crate::found::Found;
 use crate::place::{ObjectPlace, Place};
-use ar_index::Archive;
 use bad_parts::bad_part;
-use byteview::View;
-use comdat::Groups;
 use command::Plan;
-use elf_model::{ArFault, GroupFault, ObjFault};
-use elf_read::ObjectFile;
-use search::{FileIndex, OpenedItem, Reached, SearchFault, find_source, read_input};
+use elf_model::InputFile;
+use search::{
+    FileIndex, OpenedItem, Reached, RefusedObject, SearchFault, find_source, read_input,
+    refused_object,
+};
 use std::alloc::{AllocError, Global};
 
 /// Item `i` of a plan, where it has no file.
@@ -79,14 +77,14 @@ fn opened<'a>(
     }))
 }
 
-/// The place of an object of an opened item, by the offset of its member's header.
-fn place_of<'a>(item: &OpenedItem<'a>, offset: u64) -> ObjectPlace<'a>
-    ensures { IsPlaceOf item.now offset result }
+/// The place of an opened item.
+fn place_of<'a>(item: &OpenedItem<'a>) -> ObjectPlace<'a>
+    ensures { IsPlaceOf item.now result }
 {
     ObjectPlace {
         item: item.number,
         path: item.path,
-        offset,
+        offset: 0,
     }
 }
 
@@ -99,7 +97,7 @@ fn unsearchable_place<'a>(
     ensures { (files : List File) (plan : command.Plan) →
         IsOpened files plan item.now → IfOk result (λ o. IfSome o (HoldsOf files plan)) }
 {
-    let place = place_of(item, 0);
+    let place = place_of(item);
     match fault {
         SearchFault::BadArchive(fault) => Ok(Some(Place::Archive(place, fault))),
         SearchFault::NoIndex => Ok(Some(Place::NoIndex(place))),
@@ -149,133 +147,48 @@ pub fn add_archives<'a>(
     Ok(())
 }
 
-/// The bytes of an object of an opened item: its file, or the data of the member whose header is at an offset. None where there
-/// is no such member.
-fn data_of<'a>(
-    alloc: Global,
-    item: &OpenedItem<'a>,
-    offset: u64,
-) -> Result<Option<&'a [u8]>, AllocError>
-    ensures { IfOk result (λ o.
-        IfSome o (λ bytes. IsDataOf (item_view item.now) offset bytes.now)) }
+/// The place of an object that loading has come to.
+fn place_at<'a>(reached: &Reached<'a>) -> ObjectPlace<'a>
+    ensures { IsPlaceAt reached.now result }
 {
-    if !item.archive {
-        return Ok(if offset == 0 { Some(item.bytes) } else { None });
-    }
-    match Archive::read(alloc, View::new(item.bytes)) {
-        Ok(archive) => match archive.member_at(offset) {
-            Some(data) => Ok(Some(data.bytes())),
-            None => Ok(None),
-        },
-        Err(ArFault::Memory) => Err(AllocError),
-        Err(_) => Ok(None),
+    ObjectPlace {
+        item: reached.item,
+        path: reached.path,
+        offset: reached.offset,
     }
 }
 
-/// The object that bytes are, or a fault of them.
-fn read_object<'a>(alloc: Global, bytes: &'a [u8]) -> Result<ObjectFile<'a>, ObjFault>
-    ensures exact { IfOk result (λ o. o ≡ bytes.entry.now) }
-    ensures object { OnOk result (IsObject bytes.entry.now) }
-    ensures fault { IfErr result (ObjFaultStands bytes.entry.now) }
-{
-    ObjectFile::read(alloc, View::new(bytes))
-}
-
-/// What is wrong with the groups of an object, which is at a place.
-fn groups_place<'a>(
+/// The object at which loading stops.
+fn refused_place<'a>(
     alloc: Global,
-    place: ObjectPlace<'a>,
-    object: &ObjectFile<'a>,
-) -> Result<Option<Place<'a>>, AllocError>
-    requires { IsObject object.now }
-    ensures { IfOk result (λ o. IfSome o (HoldsOfBytes place.entry object.now)) }
-{
-    match Groups::new(alloc).admit(object) {
-        Ok(_) => Ok(None),
-        Err(GroupFault::Memory) => Err(AllocError),
-        Err(fault) => Ok(Some(Place::Groups(place, fault))),
-    }
-}
-
-/// What is wrong with an object, which is at a place.
-fn bytes_place<'a>(
-    alloc: Global,
-    place: ObjectPlace<'a>,
-    bytes: &'a [u8],
-) -> Result<Option<Place<'a>>, AllocError>
-    ensures { IfOk result (λ o. IfSome o (HoldsOfBytes place.entry bytes.entry.now)) }
-{
-    match read_object(alloc, bytes) {
-        Ok(object) => groups_place(alloc, place, &object),
-        Err(ObjFault::Memory) => Err(AllocError),
-        Err(fault) => {
-            let part = bad_part(alloc, bytes, fault)?;
-            Ok(Some(Place::Object(place, fault, part)))
-        }
-    }
-}
-
-/// What is wrong with the object that an opened item has at an offset.
-fn object_place<'a>(
-    alloc: Global,
-    item: &OpenedItem<'a>,
-    offset: u64,
+    object: &RefusedObject<'a>,
 ) -> Result<Option<Place<'a>>, AllocError>
     ensures { (files : List File) (plan : command.Plan) →
-        IsOpened files plan item.now → IfOk result (λ o. IfSome o (HoldsOf files plan)) }
+        IsRefusedIn files plan (Some object.now) → IfOk result (λ o. IfSome o (HoldsOf files plan)) }
 {
-    match data_of(alloc, item, offset)? {
-        Some(bytes) => bytes_place(alloc, place_of(item, offset), bytes),
-        None => Ok(None),
-    }
-}
-
-/// Item `i` of a plan, where the object that loading has come to may be of it, and is refused.
-fn bad_object<'a>(
-    alloc: Global,
-    files: &FileIndex<'a>,
-    plan: &Plan<'a>,
-    reached: Reached<'a>,
-    i: usize,
-) -> Result<Option<Place<'a>>, AllocError>
-    ensures { IfOk result (λ o. IfSome o (HoldsOf files.now plan.now)) }
-{
-    let Some(item) = opened(alloc, files, plan, i)? else {
-        return Ok(None);
-    };
-    if item.path != reached.path {
-        return Ok(None);
-    }
-    object_place(alloc, &item, reached.offset)
-}
-
-/// The object that loading has come to, of the first item that has it, where it is refused.
-fn first_bad_object<'a>(
-    alloc: Global,
-    files: &FileIndex<'a>,
-    plan: &Plan<'a>,
-    reached: Reached<'a>,
-) -> Result<Option<Place<'a>>, AllocError>
-    ensures { IfOk result (λ o. IfSome o (HoldsOf files.now plan.now)) }
-{
-    for i in 0..plan.items.len() {
-        if let Some(place) = bad_object(alloc, files, plan, reached, i)? {
-            return Ok(Some(place));
+    let place = place_at(&object.at);
+    match object.fault {
+        SearchFault::BadObject(fault) => {
+            let part = bad_part(alloc, object.at.bytes, fault)?;
+            Ok(Some(Place::Object(place, fault, part)))
         }
+        SearchFault::Group(fault) => Ok(Some(Place::Groups(place, fault))),
+        _ => Ok(None),
     }
-    Ok(None)
 }
 
-/// Adds the object that loading has come to, where it is refused.
+/// Adds the object at which loading stops, where it stops at one.
 pub fn add_object<'a>(
     alloc: Global,
     found: &mut Found<'a>,
-    files: &FileIndex<'a>,
+    files: &'a [InputFile],
     plan: &Plan<'a>,
-    reached: Reached<'a>,
 ) -> Result<(), AllocError>
-    requires { AreSoOf files.now plan.now found.old.places.items }
-    ensures { OnOk result (AreSoOf files.now plan.now found.new.places.items) }
+    requires { AreSoOf (files_of files.now) plan.now found.old.places.items }
+    ensures { OnOk result (AreSoOf (files_of files.now) plan.now found.new.places.items) }
 {
-    found.add_some(first_bad_object(alloc, files, plan, reached)?)
+    match refused_object(alloc, plan, files)? {
+        Some(object) => found.add_some(refused_place(alloc, &object)?),
+        None => Ok(()),
+    }
 }

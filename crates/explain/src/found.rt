@@ -1,16 +1,24 @@
 //! The places that were found so far: the first of them, and how many more there are.
-ghost use Rattle.std.specs.Prelude.{◌≡◌, ◌≢◌, ◌<◌, ◌≤◌, [], All, IfOk, IfSome, List, OnOk, length, ℕ};
+ghost use Rattle.std.specs.Prelude.{◌≡◌, ◌≢◌, ◌<◌, ◌≤◌, [], All, IfOk, IfSome, IsTrue, List, OnOk, length, ℕ};
 ghost use Rattle.elf_model.specs.Command as command;
 ghost use Rattle.elf_model.specs.Files.{File};
 ghost use Rattle.search.specs.Loads.{LoadedPlan};
 ghost use Rattle.elf_model.specs.Causes.{Cause};
 ghost use Rattle.elf_model.specs.declared.faults.LinkError.TheVariants as link_error;
+ghost use Rattle.explain.specs.Phases.{place_phase};
 ghost use Rattle.explain.specs.Places.{AreSo, AreSoOf, Holds, HoldsIn, HoldsOf, IsOfPhase, Says};
 
 use crate::phase::Phase;
 use crate::place::Place;
 use elf_model::LinkError;
 use std::alloc::{AllocError, Global};
+
+/// Whether a place is of a phase.
+fn is_of(place: &Place<'_>, phase: Phase) -> bool
+    ensures { IsTrue result → place_phase place.now ≡ phase }
+{
+    place.phase() == phase
+}
 
 /// The first places that were found, and how many more.
 #[derive(Drop)]
@@ -88,7 +96,7 @@ impl<'a> Found<'a> {
         ensures most { OnOk result (self.new.most ≡ self.old.most) }
         ensures few { OnOk result (length self.new.places.items ≤ self.new.most) }
     {
-        if place.phase() != phase {
+        if !is_of(&place, phase) {
             return Ok(());
         }
         self.add(place)

@@ -5,6 +5,7 @@
 
 mod files;
 mod found;
+mod kept_entries;
 mod lines;
 mod link;
 mod objects;
@@ -18,6 +19,7 @@ mod text;
 mod unfit;
 mod unlawful;
 mod unsound;
+mod wanted;
 
 pub use found::Found;
 pub use lines::write_places;

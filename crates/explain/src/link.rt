@@ -15,28 +15,15 @@ use crate::phase::phase_of;
 use crate::place::Place;
 use crate::relocations::add_relocations;
 use crate::unfit::add_values;
-use crate::unlawful::{add_largest, add_sections};
-use crate::unsound::{add_commons, add_definitions, add_symbols};
+use crate::wanted::{Wanted, add_wanted};
 use command::{Plan, read_words, refused_word};
 use elf_model::{CmdFault, InputFile, LinkError};
 use got_tls::slots;
 use layout::{LayoutFault, kinds, place};
 use relocate::{RelocFault, references};
 use resolve::{ResolveFault, Resolved, resolve};
-use search::{FileIndex, Loaded, SearchFault, load, refused_object};
+use search::{FileIndex, Loaded, SearchFault, load};
 use std::alloc::{AllocError, Global};
-
-/// The number of the word at which words are refused.
-fn word_at(alloc: Global, words: &[String]) -> Option<u64>
-    ensures { IfSome result (λ n. n < length (words_of words.now)) }
-{
-    let number = refused_word(alloc, words)?;
-    if number < words.len() {
-        Some(number as u64)
-    } else {
-        None
-    }
-}
 
 /// Adds why the words are refused.
 fn add_word(
@@ -50,7 +37,8 @@ fn add_word(
     ensures { (files : List File) →
         OnOk result (All (Says files (words_of words.now)) found.new.places.items) }
 {
-    found.add(Place::Word(word_at(alloc, words), fault))
+    let number = refused_word(alloc, words)?;
+    found.add(Place::Word(number, fault))
 }
 
 /// Adds why a plan isn't loaded.
@@ -72,10 +60,7 @@ fn add_unloaded<'a>(
             add_archives(alloc, found, &index, plan)
         }
         SearchFault::BadObject(_) | SearchFault::Group(_) => {
-            match refused_object(alloc, plan, files)? {
-                Some(reached) => add_object(alloc, found, &index, plan, reached),
-                None => Ok(()),
-            }
+            add_object(alloc, found, files, plan)
         }
     }
 }
@@ -92,9 +77,9 @@ fn add_unresolved<'a>(
 {
     match fault {
         ResolveFault::Memory => Err(AllocError),
-        ResolveFault::BadCommon => add_commons(found, loaded),
-        ResolveFault::BadSymbol => add_symbols(found, loaded),
-        ResolveFault::Duplicate(name) => add_definitions(found, loaded, name),
+        ResolveFault::BadCommon => add_wanted(found, Wanted::UnsoundCommons, loaded),
+        ResolveFault::BadSymbol => add_wanted(found, Wanted::UnsoundSymbols, loaded),
+        ResolveFault::Duplicate(name) => add_wanted(found, Wanted::Definitions(name), loaded),
     }
 }
 
@@ -134,7 +119,7 @@ fn add_unfit<'a>(
     match place(alloc, loaded, resolved, slots.got(), loaded.plan().base) {
         Ok(placement) => add_values(alloc, found, loaded, resolved, &placement, &slots),
         Err(LayoutFault::Memory) => Err(AllocError),
-        Err(_) => add_largest(found, loaded),
+        Err(_) => add_wanted(found, Wanted::LargeSections, loaded),
     }
 }
 
@@ -173,7 +158,7 @@ fn add_loaded<'a>(
 {
     match kinds(loaded) {
         Ok(()) => {}
-        Err(_) => return add_sections(found, loaded),
+        Err(_) => return add_wanted(found, Wanted::UnlawfulSections, loaded),
     }
     match resolve(alloc, loaded) {
         Ok(resolved) => add_unlinked(alloc, found, loaded, &resolved),

@@ -1,16 +1,15 @@
 //! The places of objects, sections, symbols and relocations, as their objects tell them.
-ghost use Rattle.std.specs.Prelude.{◌≡◌, [], IfSome, Some, true, unwrap_or};
+ghost use Rattle.std.specs.Prelude.{◌≡◌, [], IfSome, Some, unwrap_or};
 ghost use Rattle.std.specs.List.{slice_get};
 ghost use Rattle.elf_model.specs.ObjectFile.{relas_of, section_name, sections, symbol_name, symbols};
-ghost use Rattle.elf_model.specs.Relocation.{is_kept_rela, is_some_kind, relocation_of};
-ghost use Rattle.search.specs.KeptLists.{IsKeptRela};
+ghost use Rattle.elf_model.specs.Relocation.{relocation_of};
 ghost use Rattle.search.specs.Views.{loaded_view};
-ghost use Rattle.explain.specs.Places.{IsFileOf, IsRelocationAt, IsTold};
+ghost use Rattle.explain.specs.Places.{IsFileOf, IsTold};
 
 use crate::place::{ObjectPlace, RelocationPlace, SectionPlace, SymbolPlace};
 use elf_model::{Rela, SectionHeader, Symbol};
 use elf_read::ObjectFile;
-use search::{KeptRela, Loaded, LoadedObject};
+use search::{Loaded, LoadedObject};
 
 /// Where a loaded object is.
 fn file_of<'a>(loaded: &LoadedObject<'a>) -> ObjectPlace<'a>
@@ -121,14 +120,13 @@ pub fn header_at(one: &LoadedObject<'_>, i: usize) -> Option<SectionHeader>
     one.object.sections().get(i)
 }
 
-/// The header of a kept RELA section of an object.
-pub fn rela_header(one: &LoadedObject<'_>, rela: KeptRela) -> SectionHeader
-    requires { IsKeptRela (loaded_view one.now) rela }
-    ensures there { slice_get (sections (loaded_view one.now).bytes) rela.number ≡ Some result }
-    ensures kept { is_kept_rela (loaded_view one.now) rela.number result ≡ true }
-    ensures rela { result.sh_type ≡ 4 }
+/// The number and the header of kept section `n` of an object.
+pub fn kept_at(one: &LoadedObject<'_>, n: usize) -> Option<(usize, SectionHeader)>
+    ensures { IfSome result (λ p. slice_get (sections (loaded_view one.now).bytes) p.0 ≡ Some p.1) }
 {
-    one.object.section(rela.number as usize)
+    let i = *one.kept_sections().get(n)? as usize;
+    let header = header_at(one, i)?;
+    Some((i, header))
 }
 
 /// The entry of symbol `j` of an object.
@@ -146,28 +144,4 @@ pub fn entry_at(one: &LoadedObject<'_>, i: usize, header: &SectionHeader, e: usi
         ≡ Some x) }
 {
     one.entries_of(i, header).get(e)
-}
-
-/// The place of an entry of a RELA section, which has the header, of a loaded object, which has a number: that of a kept
-/// relocation.
-pub fn kept_place<'a>(
-    loaded: &Loaded<'a>,
-    number: usize,
-    one: &LoadedObject<'a>,
-    i: usize,
-    header: &SectionHeader,
-    e: usize,
-    entry: &Rela,
-) -> RelocationPlace<'a>
-    requires object { slice_get loaded.now.objects number ≡ Some (loaded_view one.now) }
-    requires table { slice_get (sections (loaded_view one.now).bytes) i ≡ Some header.now }
-    requires kept { is_kept_rela (loaded_view one.now) i header.now ≡ true }
-    requires entry { slice_get (relas_of (loaded_view one.now).bytes header.now) e
-        ≡ Some entry.now }
-    requires some_kind { is_some_kind entry.now ≡ true }
-    ensures { IsRelocationAt loaded.now.objects result
-        (relocation_of number (loaded_view one.now) header.now.sh_info entry.now) }
-{
-    let _loaded = loaded;
-    relocation_place(number, one, i, header, e, entry)
 }

@@ -1,12 +1,13 @@
 //! Relocations of an object whose fields share a byte: neighbours in the order of their fields.
-ghost use Rattle.std.specs.Prelude.{All, IfOk, IfSome, IsPermutation, IsTrue, OnOk};
+ghost use Rattle.std.specs.Prelude.{IfSome, IsTrue, OnOk};
 ghost use Rattle.explain.specs.Overlaps.{BeginsIn, IsField};
 ghost use Rattle.explain.specs.Places.{AreSo, AreTwo, HoldsIn};
 
 use crate::found::Found;
-use crate::objects::{entry_at, header_at, object_at, relocation_place};
+use crate::kept_entries::{EntryAt, in_order, kept_at, kept_entries, kept_place};
+use crate::objects::object_at;
 use crate::place::{Place, RelocationPlace};
-use relocate::{Kind, is_some_kind};
+use relocate::Kind;
 use search::Loaded;
 use std::alloc::{AllocError, Global};
 
@@ -39,119 +40,48 @@ fn begins_in(first: &Field<'_>, second: &Field<'_>) -> bool
     second.width > 0 && from <= to && to - from < first.width
 }
 
-/// The field of entry `e` of section `i` of object `number`, where that is a kept relocation.
-fn field_at<'a>(loaded: &Loaded<'a>, number: usize, i: usize, e: usize) -> Option<Field<'a>>
+/// The field of an entry of object `k`, where that is a kept relocation.
+fn field_at<'a>(loaded: &Loaded<'a>, k: usize, at: &EntryAt) -> Option<Field<'a>>
     ensures { IfSome result (IsField loaded.now.objects) }
 {
-    let one = object_at(loaded, number)?;
-    let header = header_at(one, i)?;
-    if !one.is_kept_rela(i, &header) {
-        return None;
-    }
-    let entry = entry_at(one, i, &header, e)?;
-    if !is_some_kind(&entry) {
-        return None;
-    }
-    let kind = Kind::of(entry.kind())?;
+    let one = object_at(loaded, k)?;
+    let kept = kept_at(one, at)?;
+    let kind = Kind::of(kept.entry.kind())?;
     Some(Field {
-        place: relocation_place(number, one, i, &header, e, &entry),
+        place: kept_place(loaded, k, one, &kept),
         width: u64::from(kind.width),
     })
 }
 
-/// How many entries section `i` has of object `number`.
-fn entry_count(loaded: &Loaded<'_>, number: usize, i: usize) -> usize {
-    match loaded.objects().get(number) {
-        Some(one) => one.object.entries(i).len(),
-        None => 0,
-    }
-}
-
-/// Adds a field, where there is one.
-fn add_some<'a>(
+/// Two entries of object `k`, where the field of the second one begins inside that of the first one.
+fn overlap<'a>(
     loaded: &Loaded<'a>,
-    fields: &mut Vec<Field<'a>>,
-    field: Option<Field<'a>>,
-) -> Result<(), AllocError>
-    requires before { All (IsField loaded.now.objects) fields.old.items }
-    requires field { IfSome field (IsField loaded.now.objects) }
-    ensures { OnOk result (All (IsField loaded.now.objects) fields.new.items) }
-{
-    let _loaded = loaded;
-    if let Some(field) = field {
-        fields.push(field)?;
-    }
-    Ok(())
-}
-
-/// Adds the fields of the kept relocations in section `i` of object `number`.
-fn add_fields<'a>(
-    fields: &mut Vec<Field<'a>>,
-    loaded: &Loaded<'a>,
-    number: usize,
-    i: usize,
-) -> Result<(), AllocError>
-    requires { All (IsField loaded.now.objects) fields.old.items }
-    ensures { OnOk result (All (IsField loaded.now.objects) fields.new.items) }
-{
-    for e in 0..entry_count(loaded, number, i) {
-        add_some(loaded, fields, field_at(loaded, number, i, e))?;
-    }
-    Ok(())
-}
-
-/// The fields of the kept relocations of object `number`.
-fn fields_of<'a>(
-    alloc: Global,
-    loaded: &Loaded<'a>,
-    number: usize,
-) -> Result<Vec<Field<'a>>, AllocError>
-    ensures { IfOk result (λ v. All (IsField loaded.now.objects) v.items) }
-{
-    let mut fields = Vec::new(alloc);
-    let count = match loaded.objects().get(number) {
-        Some(one) => one.object.sections().len(),
-        None => 0,
-    };
-    for i in 0..count {
-        add_fields(&mut fields, loaded, number, i)?;
-    }
-    Ok(fields)
-}
-
-/// The fields in the order of their sections and of their beginnings.
-fn in_order(mut fields: Vec<Field<'_>>) -> Result<Vec<Field<'_>>, AllocError>
-    ensures { IfOk result (λ v. IsPermutation fields.entry.items v.items) }
-{
-    fields.sort_by_key(|f| (f.place.section, f.place.entry.r_offset))?;
-    Ok(fields)
-}
-
-/// The places of two fields where one begins inside the other.
-fn overlap<'a>(loaded: &Loaded<'a>, first: &Field<'a>, second: &Field<'a>) -> Option<Place<'a>>
-    requires first { IsField loaded.now.objects first.now }
-    requires second { IsField loaded.now.objects second.now }
+    k: usize,
+    first: &EntryAt,
+    second: &EntryAt,
+) -> Option<Place<'a>>
     ensures { IfSome result (HoldsIn loaded.now) }
 {
-    let _loaded = loaded;
-    if !begins_in(first, second) {
+    let first = field_at(loaded, k, first)?;
+    let second = field_at(loaded, k, second)?;
+    if !begins_in(&first, &second) {
         return None;
     }
     Some(Place::Overlap(first.place, second.place))
 }
 
-/// Adds the neighbours among fields that share a byte.
+/// Adds the neighbours among entries of object `k` whose fields share a byte.
 fn add_neighbours<'a>(
     found: &mut Found<'a>,
     loaded: &Loaded<'a>,
-    fields: &[Field<'a>],
+    k: usize,
+    entries: &[EntryAt],
 ) -> Result<(), AllocError>
-    requires fields { All (IsField loaded.now.objects) fields.now }
-    requires before { AreSo loaded.now found.old.places.items }
+    requires { AreSo loaded.now found.old.places.items }
     ensures { OnOk result (AreSo loaded.now found.new.places.items) }
 {
-    for i in 1..fields.len() {
-        found.add_some(overlap(loaded, &fields[i - 1], &fields[i]))?;
+    for i in 1..entries.len() {
+        found.add_some(overlap(loaded, k, &entries[i - 1], &entries[i]))?;
     }
     Ok(())
 }
@@ -165,10 +95,9 @@ pub fn add_overlaps<'a>(
     requires { AreSo loaded.now found.old.places.items }
     ensures { OnOk result (AreSo loaded.now found.new.places.items) }
 {
-    for k in 0..loaded.objects().len() {
-        let fields = fields_of(alloc, loaded, k)?;
-        let ordered = in_order(fields)?;
-        add_neighbours(found, loaded, &ordered)?;
+    for (k, one) in loaded.objects().iter().enumerate() {
+        let entries = in_order(kept_entries(alloc, one)?)?;
+        add_neighbours(found, loaded, k, &entries)?;
     }
     Ok(())
 }

@@ -17,7 +17,7 @@ use Rattle.elf_model.proofs.LoadingBounds.{by_case}
 use Rattle.elf_model.proofs.SameOutput.{both_ways_equal}
 use Rattle.search.specs.Loaders.{Knows, asked_from, asked_in, defined_from, defined_in, loaded}
 use Rattle.search.specs.Mentions.{AreNoted, has_definition}
-use Rattle.search.specs.Names.{Begins, is_among, with_name}
+use Rattle.search.specs.Names.{is_among}
 use Rattle.search.specs.Numbers.{AreNumbered, IsNumbered}
 use Rattle.search.specs.Taken.{TakenMembers, has_item, has_member, with_member_taken}
 use Rattle.search.specs.Views.{loaded_view, loaded_views}

@@ -1,6 +1,6 @@
 -- The numbers of the names of symbols, one symbol after the other and one object after the other.
 use Rattle.std.proofs.Common.{◌≡◌, ℕ, ◌+◌, ◌<◌, ◌≤◌, Bool, true, false, cond, List, [], ◌∷◌, ◌++◌, ◌⊎◌, length, get_or, refl, sym, ◌∙◌, ap, subst, arith, inl, inr, true≢false}
-use Rattle.std.specs.Prelude.{◌^◌, ◌==◌, All, None, Option, Some, zero, suc}
+use Rattle.std.specs.Prelude.{◌^◌, ◌==◌, None, Option, Some, zero, suc}
 use Rattle.std.specs.List.{slice_get}
 use Rattle.std.specs.Option.{option_and_then}
 use Rattle.std.proofs.lemmas.Bool.{cases_lt, eq-eqb, ne_eqb}

@@ -1,15 +1,14 @@
 -- The numbers of names, as names come one by one, and what is known of each.
-use Rattle.std.proofs.Common.{◌≡◌, ◌≢◌, ℕ, suc, ◌+◌, ◌<◌, ◌≤◌, Bool, true, false, cond, not, ◌||◌, ◌&&◌, List, [], ◌∷◌, ◌++◌, map, length, get_or, Option, Some, None, refl, sym, ◌∙◌, ap, subst, arith, true≢false}
+use Rattle.std.proofs.Common.{◌≡◌, ◌≢◌, ℕ, suc, ◌+◌, ◌<◌, Bool, true, false, cond, not, ◌||◌, List, [], ◌∷◌, ◌++◌, map, length, get_or, Some, None, refl, sym, ◌∙◌, ap, arith, true≢false}
 use Rattle.std.specs.Prelude.{nat_lt, set, slice_index_or}
-use Rattle.std.specs.List.{list_any, position, position_or_len}
+use Rattle.std.specs.List.{position, position_or_len}
 use Rattle.std.specs.Str.{bytes_eq}
-use Rattle.std.proofs.lemmas.Bool.{ltb-true, or_right}
 use Rattle.std.proofs.lemmas.List.{get_or-set_other, get_or-set_same, get_or_default, length-append}
 use Rattle.std.proofs.lemmas.Slice.Eq.{bytes_eq-Decides}
 use Rattle.elf_model.specs.declared.name.Name.{Name}
 use Rattle.elf_model.proofs.LoadingBounds.{by_case}
 use Rattle.search.specs.Mentions.{mention_of, no_mention}
-use Rattle.search.specs.Names.{Begins, is_among, number_of, with_name}
+use Rattle.search.specs.Names.{is_among, number_of, with_name}
 use Rattle.search.specs.declared.loader.Mention.{Mention}
 
 -- by the keys of a set

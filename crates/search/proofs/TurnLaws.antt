@@ -13,10 +13,11 @@ use Rattle.elf_model.specs.Opening.{Opened, archive_data, archive_members}
 use Rattle.elf_model.proofs.LoadingBounds.{Extends, begun_now, begun_stays, extends_same}
 use Rattle.elf_model.proofs.LoadingLaws.{members_extend}
 use Rattle.elf_model.proofs.LoadingSteps.{reaches_later, round_behind, turn_behind, turn_some}
-use Rattle.search.specs.Faults.{FailsAt, FailsOn, LoadsBadly}
+use Rattle.search.specs.Faults.{FailsAt, FailsOn, IsReached, LoadsBadly}
 use Rattle.search.specs.Loaders.{loaded}
 use Rattle.search.specs.Waiting.{AreIdle, IsSpent}
 use Rattle.search.specs.declared.loader.Loader.{Loader}
+use Rattle.search.specs.declared.loader.Reached.{Reached}
 use Rattle.search.specs.declared.faults.SearchFault.{SearchFault}
 use Rattle.search.specs.declared.faults.SearchFault.TheVariants as error
 
@@ -32,31 +33,33 @@ reached_next os o offset bytes Stands objects lawful stands = record {
   stands = stands;
 }
 
--- an object that can't be loaded behind others fails what goes on behind it
-pub fails_next : (os : List LoadedObject) (o : Opened) (offset : ℕ) (bytes : List ℕ) (end : List LoadedObject) (e : SearchFault) → AreObjects os →
-    HaveLawfulGroups os → Extends (with_object os o offset bytes) end → FailsAt bytes e → FailsOn end e
-fails_next os o offset bytes end error.Memory objects lawful later s = tt
-fails_next os o offset bytes end (error.BadObject f) objects lawful later s =
-    reaches_later (with_object os o offset bytes) end (LoadsBadly (error.BadObject f)) later
-    (reached_next os o offset bytes (LoadsBadly (error.BadObject f)) objects lawful s)
-fails_next os o offset bytes end (error.Group f) objects lawful later s =
-    reaches_later (with_object os o offset bytes) end (LoadsBadly (error.Group f)) later
-    (reached_next os o offset bytes (LoadsBadly (error.Group f)) objects lawful (s.0, (s.1, s.2)))
-fails_next os o offset bytes end _ objects lawful later s = absurd s
+-- an object to which loading has come, behind others, and which can't be loaded fails what goes on behind it
+pub fails_next : (r : Option Reached) (os : List LoadedObject) (o : Opened) (offset : ℕ) (bytes : List ℕ) (end : List LoadedObject) (e : SearchFault) →
+    AreObjects os → HaveLawfulGroups os → Extends (with_object os o offset bytes) end → IsReached r (object_behind os o offset bytes) → FailsAt bytes e →
+    FailsOn r end e
+fails_next r os o offset bytes end error.Memory objects lawful later at s = tt
+fails_next r os o offset bytes end (error.BadObject f) objects lawful later at s =
+    reaches_later (with_object os o offset bytes) end (λ x. IsReached r x × LoadsBadly (error.BadObject f) x) later
+    (reached_next os o offset bytes (λ x. IsReached r x × LoadsBadly (error.BadObject f) x) objects lawful (at, s))
+fails_next r os o offset bytes end (error.Group f) objects lawful later at s =
+    reaches_later (with_object os o offset bytes) end (λ x. IsReached r x × LoadsBadly (error.Group f) x) later
+    (reached_next os o offset bytes (λ x. IsReached r x × LoadsBadly (error.Group f) x) objects lawful (at, (s.0, (s.1, s.2))))
+fails_next r os o offset bytes end _ objects lawful later at s = absurd s
 
-pub fails_later : (from to : List LoadedObject) (e : SearchFault) → Extends from to → FailsOn from e → FailsOn to e
-fails_later from to error.Memory later s = tt
-fails_later from to error.FileMissing later s = reaches_later from to (LoadsBadly error.FileMissing) later s
-fails_later from to (error.BadObject f) later s = reaches_later from to (LoadsBadly (error.BadObject f)) later s
-fails_later from to (error.BadArchive f) later s = reaches_later from to (LoadsBadly (error.BadArchive f)) later s
-fails_later from to error.NoIndex later s = reaches_later from to (LoadsBadly error.NoIndex) later s
-fails_later from to (error.Group f) later s = reaches_later from to (LoadsBadly (error.Group f)) later s
+pub fails_later : (r : Option Reached) (from to : List LoadedObject) (e : SearchFault) → Extends from to → FailsOn r from e → FailsOn r to e
+fails_later r from to error.Memory later s = tt
+fails_later r from to error.FileMissing later s = reaches_later from to (λ x. IsReached r x × LoadsBadly error.FileMissing x) later s
+fails_later r from to (error.BadObject f) later s = reaches_later from to (λ x. IsReached r x × LoadsBadly (error.BadObject f) x) later s
+fails_later r from to (error.BadArchive f) later s = reaches_later from to (λ x. IsReached r x × LoadsBadly (error.BadArchive f) x) later s
+fails_later r from to error.NoIndex later s = reaches_later from to (λ x. IsReached r x × LoadsBadly error.NoIndex x) later s
+fails_later r from to (error.Group f) later s = reaches_later from to (λ x. IsReached r x × LoadsBadly (error.Group f) x) later s
 
 pub err_fails_next :
-    {X : Type 0} (r : Result X SearchFault) (os : List LoadedObject) (o : Opened) (offset : ℕ) (bytes : List ℕ) (end : List LoadedObject) → AreObjects os →
-    HaveLawfulGroups os → Extends (with_object os o offset bytes) end → IfErr r (FailsAt bytes) → IfErr r (FailsOn end)
-err_fails_next (Ok x) os o offset bytes end objects lawful later s = tt
-err_fails_next (Err e) os o offset bytes end objects lawful later s = fails_next os o offset bytes end e objects lawful later s
+    {X : Type 0} (x : Result X SearchFault) (r : Option Reached) (os : List LoadedObject) (o : Opened) (offset : ℕ) (bytes : List ℕ) (end : List LoadedObject) →
+    AreObjects os → HaveLawfulGroups os → Extends (with_object os o offset bytes) end → IsReached r (object_behind os o offset bytes) →
+    IfErr x (FailsAt bytes) → IfErr x (FailsOn r end)
+err_fails_next (Ok x) r os o offset bytes end objects lawful later at s = tt
+err_fails_next (Err e) r os o offset bytes end objects lawful later at s = fails_next r os o offset bytes end e objects lawful later at s
 
 -- The members of a whole archive, one after the other.
 module _ (os : List LoadedObject) (o : Opened) (ms : List Member) (i : ℕ) (m : Member) (end : List LoadedObject) (within : i < length ms) (is : m ≡ get_or ms i m) where
@@ -174,11 +177,12 @@ pub took_some : (os to : List LoadedObject) → (length to ≡ length os → ⊥
 took_some os to other same = other (ap (λ (l : List LoadedObject). length l) same)
 
 -- A single object.
-pub single_fails : {X : Type 0} (plan : Plan) (r : Result X SearchFault) (os : List LoadedObject) (o : Opened) → AreObjects os → HaveLawfulGroups os →
-    o.archive ≡ false → IfErr r (FailsAt o.bytes) → IfErr r (FailsOn (loaded_step plan (Single o) os))
-single_fails plan r os o objects lawful single s =
-    err_fails_next r os o 0 o.bytes (loaded_step plan (Single o) os) objects lawful
-    (extends_same (with_object os o 0 o.bytes) (loaded_step plan (Single o) os) (cond-false o.archive (turn plan o os) (with_object os o 0 o.bytes) single)) s
+pub single_fails : {X : Type 0} (plan : Plan) (x : Result X SearchFault) (r : Option Reached) (os : List LoadedObject) (o : Opened) → AreObjects os →
+    HaveLawfulGroups os → o.archive ≡ false → IsReached r (object_behind os o 0 o.bytes) → IfErr x (FailsAt o.bytes) →
+    IfErr x (FailsOn r (loaded_step plan (Single o) os))
+single_fails plan x r os o objects lawful single at s =
+    err_fails_next x r os o 0 o.bytes (loaded_step plan (Single o) os) objects lawful
+    (extends_same (with_object os o 0 o.bytes) (loaded_step plan (Single o) os) (cond-false o.archive (turn plan o os) (with_object os o 0 o.bytes) single)) at s
 
 -- No member is next.
 pub none_next : (plan : Plan) (os : List LoadedObject) (o : Opened) (r : Option ℕ) → r ≡ option_map (λ e. e.offset) (next plan os o) → r ≡ None → next plan os o ≡ None

@@ -1,10 +1,10 @@
 -- The faults of objects, archives and groups as those of loading, and when each stands.
-use Rattle.std.specs.Prelude.{◌≢◌, ℕ, List, Any}
+use Rattle.std.specs.Prelude.{◌≡◌, ◌≢◌, ℕ, List, Any, Option, Some, None}
 use Rattle.elf_model.specs.Causes.{HasBadGroups, IsBadArchive, IsWithoutIndex, Reaches}
 use Rattle.elf_model.specs.Command.{Plan}
 use Rattle.elf_model.specs.Files.{File}
 use Rattle.elf_model.specs.Groups.{GroupFaultStands}
-use Rattle.elf_model.specs.Loading.{LoadedObject, loaded_objects}
+use Rattle.elf_model.specs.Loading.{AreObjects, HaveLawfulGroups, LoadedObject, loaded_objects}
 use Rattle.elf_model.specs.ObjectFile.{IsObject, ObjFaultStands, groups}
 use Rattle.elf_model.specs.Opening.{AreArchives, AreFilesThere, HaveIndexes, Opened, opened}
 use Rattle.elf_model.specs.declared.faults.ArFault.{ArFault}
@@ -14,6 +14,8 @@ use Rattle.elf_model.specs.declared.faults.GroupFault.TheVariants as group_fault
 use Rattle.elf_model.specs.declared.faults.ObjFault.{ObjFault}
 use Rattle.elf_model.specs.declared.faults.ObjFault.TheVariants as object_fault
 use Rattle.search.specs.declared.faults.SearchFault.{SearchFault}
+use Rattle.search.specs.declared.loader.Reached.{Reached}
+use Rattle.search.specs.declared.loader.RefusedObject.{RefusedObject}
 use Rattle.search.specs.declared.faults.SearchFault.TheVariants as error
 
 abbrev pub of_object : ObjFault → SearchFault
@@ -41,10 +43,26 @@ FailsAt bytes (error.BadObject f) = (f ≢ object_fault.Memory) × ObjFaultStand
 FailsAt bytes (error.Group f) = (f ≢ group_fault.Memory) × IsObject bytes × GroupFaultStands (groups bytes) f
 FailsAt bytes _ = ⊥
 
--- why objects could not all be loaded: one that loading reaches, or want of memory
-abbrev pub FailsOn : List LoadedObject → SearchFault → Type 0
-FailsOn objects error.Memory = Unit {0}
-FailsOn objects e = Reaches objects (LoadsBadly e)
+-- an object to which loading has come is this one
+pub record IsObjectAt (r : Reached) (o : LoadedObject) : Type 0 where
+  pub item : r.item ≡ o.item
+  pub path : r.path.now ≡ o.path
+  pub offset : r.offset ≡ o.offset
+  pub bytes : r.bytes.now ≡ o.bytes
+
+abbrev pub IsReached : Option Reached → LoadedObject → Type 0
+IsReached None o = ⊥
+IsReached (Some r) o = IsObjectAt r o
+
+-- why objects could not all be loaded: one that loading reaches, which is the one to which it has come, or want of memory
+abbrev pub FailsOn : Option Reached → List LoadedObject → SearchFault → Type 0
+FailsOn reached objects error.Memory = Unit {0}
+FailsOn reached objects e = Reaches objects (λ o. IsReached reached o × LoadsBadly e o)
+
+-- the object that loading reaches and can't load, and why; none where it loads all
+abbrev pub IsRefusedOf : List LoadedObject → Option RefusedObject → Type 0
+IsRefusedOf objects None = AreObjects objects × HaveLawfulGroups objects
+IsRefusedOf objects (Some r) = Reaches objects (λ o. IsObjectAt r.at o × LoadsBadly r.fault o)
 
 -- why items have no files, or want of memory
 abbrev pub OpensBadly : List File → Plan → SearchFault → Type 0
@@ -68,6 +86,19 @@ pub record IsSearchable (files : List File) (plan : Plan) : Type 0 where
   pub files_are : AreFilesThere files plan
   pub archives : AreArchives (opened files plan)
   pub indexes : HaveIndexes (opened files plan)
+
+-- why the items of a plan could not be read, or want of memory
+abbrev pub ReadsBadly : List File → Plan → SearchFault → Type 0
+ReadsBadly files plan error.Memory = Unit {0}
+ReadsBadly files plan error.FileMissing = ¬ AreFilesThere files plan
+ReadsBadly files plan (error.BadArchive f) = AreFilesThere files plan × (f ≢ archive_fault.Memory) × Any (IsBadArchive f) (opened files plan)
+ReadsBadly files plan error.NoIndex = AreFilesThere files plan × Any IsWithoutIndex (opened files plan)
+ReadsBadly files plan _ = ⊥
+
+-- the object of a plan that loading reaches and can't load, and why; none where its items can't be read, or it loads all
+abbrev pub IsRefusedIn : List File → Plan → Option RefusedObject → Type 0
+IsRefusedIn files plan None = IsSearchable files plan → IsRefusedOf (loaded_objects files plan) None
+IsRefusedIn files plan (Some r) = IsSearchable files plan × IsRefusedOf (loaded_objects files plan) (Some r)
 
 -- why a plan could not be loaded
 abbrev pub LoadFails : List File → Plan → SearchFault → Type 0

@@ -27,5 +27,5 @@ pub use files::FileIndex;
 pub use kept_lists::KeptRela;
 pub use load_steps::{load, load_in, load_seeded, refused_object};
 pub use loaded::{Loaded, LoadedObject, NO_NUMBER};
-pub use loader::Reached;
+pub use loader::{Reached, RefusedObject};
 pub use opened_items::{OpenedItem, find_source};

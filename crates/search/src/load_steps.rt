@@ -1,11 +1,12 @@
 //! The whole command: its items in order, groups of archives as one.
-ghost use Rattle.std.specs.Prelude.{◌≡◌, IfErr, IfOk, OnOk, drop, length, ◌≤◌, ◌<◌};
+ghost use Rattle.std.specs.Prelude.{◌≡◌, IfErr, IfOk, List, OnOk, [], drop, length, ◌≤◌, ◌<◌};
 ghost use Rattle.std.specs.List.{prefix_len};
-ghost use Rattle.elf_model.specs.Files.{files_of};
-ghost use Rattle.elf_model.specs.Loading.{AreObjects, HaveLawfulGroups, Single, group_of, loaded_objects, loaded_step, loaded_steps, steps};
+ghost use Rattle.elf_model.specs.Command as command;
+ghost use Rattle.elf_model.specs.Files.{File, files_of};
+ghost use Rattle.elf_model.specs.Loading.{AreObjects, HaveLawfulGroups, LoadedObject, Single, group_of, loaded_objects, loaded_step, loaded_steps, steps};
 ghost use Rattle.elf_model.specs.LoadingRules.{FollowsRules};
 ghost use Rattle.elf_model.specs.Opening.{AreArchives, AreFilesThere, HaveIndexes, opened};
-ghost use Rattle.search.specs.Faults.{FailsOn, IsSearchable, LoadFails};
+ghost use Rattle.search.specs.Faults.{FailsOn, IsRefusedIn, IsRefusedOf, IsSearchable, LoadFails, ReadsBadly};
 ghost use Rattle.search.specs.Loaders.{IsLater, Knows, loaded};
 ghost use Rattle.search.specs.Loads.{AreDroppedInOrder};
 ghost use Rattle.search.specs.Steps.{in_group};
@@ -16,7 +17,7 @@ use crate::archives::{Input, read_inputs};
 use crate::faults::SearchFault;
 use crate::files::FileIndex;
 use crate::loaded::Loaded;
-use crate::loader::{Loader, Reached};
+use crate::loader::{Loader, Reached, RefusedObject};
 use crate::names::{NameNumbers, NameSet};
 use crate::opened_items::open;
 use crate::rounds::{run_round, run_rounds};
@@ -63,7 +64,7 @@ fn load_single<'a, N: NameNumbers<'a>>(
     ensures known { OnOk result (Knows N.names loader.new) }
     ensures loaded { OnOk result (loaded loader.new
         ≡ loaded_step loader.old.plan.now (Single input.now) (loaded loader.old)) }
-    ensures fault { IfErr result (FailsOn
+    ensures fault { IfErr result (FailsOn loader.new.reached
         (loaded_step loader.old.plan.now (Single input.now) (loaded loader.old))) }
 {
     let item = input.item();
@@ -89,7 +90,7 @@ fn load_step<'a, N: NameNumbers<'a>>(
     ensures loaded { IfOk result (λ n.
         loaded_steps loader.old.plan.now (steps (drop n inputs.now)) (loaded loader.new)
         ≡ loaded_steps loader.old.plan.now (steps inputs.now) (loaded loader.old)) }
-    ensures fault { IfErr result (FailsOn
+    ensures fault { IfErr result (FailsOn loader.new.reached
         (loaded_steps loader.old.plan.now (steps inputs.now) (loaded loader.old))) }
 {
     let Some(group) = group_of(&inputs[0]) else {
@@ -112,7 +113,7 @@ fn load_inputs<'a, N: NameNumbers<'a>>(
     ensures known { OnOk result (Knows N.names loader.new) }
     ensures loaded { OnOk result (loaded loader.new
         ≡ loaded_steps loader.old.plan.now (steps inputs.now) (loaded loader.old)) }
-    ensures fault { IfErr result (FailsOn
+    ensures fault { IfErr result (FailsOn loader.new.reached
         (loaded_steps loader.old.plan.now (steps inputs.now) (loaded loader.old))) }
 {
     let mut at = 0;
@@ -131,7 +132,7 @@ fn inputs_of<'a>(
 ) -> Result<Vec<Input<'a>>, SearchFault>
     ensures exact { IfOk result (λ v. v.items ≡ opened (files_of files.entry.now) plan.now) }
     ensures searchable { OnOk result (IsSearchable (files_of files.entry.now) plan.now) }
-    ensures fault { IfErr result (LoadFails (files_of files.entry.now) plan.now) }
+    ensures fault { IfErr result (ReadsBadly (files_of files.entry.now) plan.now) }
 {
     let index = FileIndex::new(alloc, files)?;
     let items = open(alloc, &index, plan)?;
@@ -183,7 +184,51 @@ pub fn load_seeded<'a>(
     Ok(loaded)
 }
 
-/// The object at which loading stops, the first that is refused; None where the items are refused for another reason, or all are
+/// The object that loading has come to, where it can't be loaded, and why.
+fn refused_at<'a>(
+    reached: Option<Reached<'a>>,
+    fault: SearchFault,
+) -> Result<Option<RefusedObject<'a>>, AllocError>
+    ensures { (objects : List LoadedObject) →
+        FailsOn reached.entry objects fault → IfOk result (IsRefusedOf objects) }
+{
+    if let SearchFault::Memory = fault {
+        return Err(AllocError);
+    }
+    match reached {
+        Some(at) => Ok(Some(RefusedObject { at, fault })),
+        None => Ok(None),
+    }
+}
+
+/// The first object of inputs at which loading stops, and why; None where all are loaded.
+fn first_refused<'a>(
+    alloc: Global,
+    plan: &Plan<'a>,
+    inputs: &[Input<'a>],
+) -> Result<Option<RefusedObject<'a>>, AllocError>
+    ensures { IfOk result (IsRefusedOf (loaded_steps plan.now (steps inputs.now) [])) }
+{
+    let seed = NameSeed::fixed();
+    let mut loader = Loader::new(alloc, plan, seed, NameSet::new(alloc, seed))?;
+    match load_inputs(alloc, &mut loader, inputs) {
+        Ok(()) => Ok(None),
+        Err(fault) => refused_at(loader.reached(), fault),
+    }
+}
+
+/// That loading comes to no object where items can't be read.
+fn none_reached<'a>(fault: SearchFault) -> Result<Option<RefusedObject<'a>>, AllocError>
+    ensures { (files : List File) (plan : command.Plan) →
+        ReadsBadly files plan fault → IfOk result (IsRefusedIn files plan) }
+{
+    match fault {
+        SearchFault::Memory => Err(AllocError),
+        _ => Ok(None),
+    }
+}
+
+/// The object of a plan at which loading stops, the first that is refused, and why; None where its items are refused, or all is
 /// loaded.
 ///
 /// # Errors
@@ -193,27 +238,12 @@ pub fn refused_object<'a>(
     alloc: Global,
     plan: &Plan<'a>,
     files: &'a [InputFile],
-) -> Result<Option<Reached<'a>>, AllocError> {
-    match last_reached(alloc, plan, files) {
-        Ok(reached) => Ok(reached),
-        Err(SearchFault::Memory) => Err(AllocError),
-        Err(_) => Ok(None),
-    }
-}
-
-/// The object at which loading stops; None where all are loaded, and the fault of the items where one can't be opened or read.
-fn last_reached<'a>(
-    alloc: Global,
-    plan: &Plan<'a>,
-    files: &'a [InputFile],
-) -> Result<Option<Reached<'a>>, SearchFault> {
-    let seed = NameSeed::fixed();
-    let inputs = inputs_of(alloc, plan, files)?;
-    let mut loader = Loader::new(alloc, plan, seed, NameSet::new(alloc, seed))?;
-    match load_inputs(alloc, &mut loader, &inputs) {
-        Ok(()) => Ok(None),
-        Err(SearchFault::Memory) => Err(SearchFault::Memory),
-        Err(_) => Ok(loader.reached()),
+) -> Result<Option<RefusedObject<'a>>, AllocError>
+    ensures { IfOk result (IsRefusedIn (files_of files.entry.now) plan.now) }
+{
+    match inputs_of(alloc, plan, files) {
+        Ok(inputs) => first_refused(alloc, plan, &inputs),
+        Err(fault) => none_reached(fault),
     }
 }
 

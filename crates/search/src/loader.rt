@@ -6,7 +6,7 @@ ghost use Rattle.command.specs.Views.{texts_of};
 ghost use Rattle.elf_model.specs.Groups.{AreLawfulGroups};
 ghost use Rattle.elf_model.specs.Loading.{is_begun, is_definition, is_global_or_weak, is_global_symbol, is_left_undefined, is_request, is_taken, needed, object_behind, with_object};
 ghost use Rattle.elf_model.specs.ObjectFile.{IsObject, groups, symbols};
-ghost use Rattle.search.specs.Faults.{FailsAt};
+ghost use Rattle.search.specs.Faults.{FailsAt, IsReached};
 ghost use Rattle.search.specs.Loaders.{Knows, asked_in, defined_in, loaded};
 ghost use Rattle.search.specs.Mentions.{AreNoted, has_definition, mention_of};
 ghost use Rattle.search.specs.Names.{Begins, is_among, number_of, with_name};
@@ -49,12 +49,23 @@ pub struct Names<'a, N> {
     mentions: Vec<Mention>,
 }
 
-/// An object that loading has come to, by the path of its file and the offset of its member's header in the archive; 0 for an
-/// object item.
+/// An object that loading has come to.
 #[derive(Clone, Copy, Debug)]
 pub struct Reached<'a> {
+    /// The number of its item in the command, from 0.
+    pub item: u64,
+    /// The path of its file.
     pub path: &'a str,
+    /// The offset of its member's header in the archive; 0 for an object item.
     pub offset: u64,
+    pub bytes: &'a [u8],
+}
+
+/// An object that can't be loaded, and why.
+#[derive(Clone, Copy, Debug)]
+pub struct RefusedObject<'a> {
+    pub at: Reached<'a>,
+    pub fault: SearchFault,
 }
 
 /// The loaded objects of a plan so far.
@@ -330,10 +341,16 @@ impl<'p, 'a, N: NameNumbers<'a>> Loader<'p, 'a, N> {
             ≡ with_object (loaded self.old) (item_view item.now) offset bytes.now) }
         ensures known { OnOk result (Knows N.names self.new) }
         ensures grows { OnOk result (Begins self.old.names.requested self.new.names.requested) }
+        ensures reached { IsReached self.new.reached
+            (object_behind (loaded self.old) (item_view item.now) offset bytes.now) }
         ensures fault { IfErr result (FailsAt bytes.now) }
     {
-        let path = item.path;
-        self.reached = Some(Reached { path, offset });
+        self.reached = Some(Reached {
+            item: item.number,
+            path: item.path,
+            offset,
+            bytes,
+        });
         let object = read_object(alloc, bytes)?;
         let dropped = match self.groups.admit(&object) {
             Ok(dropped) => dropped,
@@ -386,7 +403,9 @@ impl<'p, 'a, N: NameNumbers<'a>> Loader<'p, 'a, N> {
     }
 
     /// The object that loading has come to last.
-    pub fn reached(&self) -> Option<Reached<'a>> {
+    pub fn reached(&self) -> Option<Reached<'a>>
+        ensures { result ≡ self.now.reached }
+    {
         self.reached
     }
 

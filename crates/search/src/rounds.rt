@@ -28,7 +28,7 @@ pub fn run_round<'a, N: NameNumbers<'a>>(
     ensures covers { OnOk result (Covers loader.new inputs.now waits.new) }
     ensures loaded { OnOk result (loaded loader.new
         ≡ round loader.old.plan.now inputs.now (loaded loader.old)) }
-    ensures fault { IfErr result (FailsOn
+    ensures fault { IfErr result (FailsOn loader.new.reached
         (round loader.old.plan.now inputs.now (loaded loader.old))) }
 {
     let mut from = 0;
@@ -51,7 +51,7 @@ pub fn run_rounds<'a, N: NameNumbers<'a>>(
     ensures known { OnOk result (Knows N.names loader.new) }
     ensures loaded { OnOk result (loaded loader.new
         ≡ rounds loader.old.plan.now inputs.now (loaded loader.old)) }
-    ensures fault { IfErr result (FailsOn
+    ensures fault { IfErr result (FailsOn loader.new.reached
         (rounds loader.old.plan.now inputs.now (loaded loader.old))) }
 {
     let mut waits = Waits::new(alloc, loader, inputs)?;

@@ -32,7 +32,7 @@ fn take_members<'a, N: NameNumbers<'a>>(
     ensures covers { OnOk result (Covers loader.new inputs.now waits.new) }
     ensures loaded { OnOk result (loaded loader.new
         ≡ turn loader.old.plan.now input.now (loaded loader.old)) }
-    ensures fault { IfErr result (FailsOn
+    ensures fault { IfErr result (FailsOn loader.new.reached
         (turn loader.old.plan.now input.now (loaded loader.old))) }
 {
     let item = input.item();
@@ -54,7 +54,7 @@ fn take_all<'a, N: NameNumbers<'a>>(
     ensures known { OnOk result (Knows N.names loader.new) }
     ensures loaded { OnOk result (loaded loader.new
         ≡ with_members (loaded loader.old) input.now (archive_members input.now.bytes)) }
-    ensures fault { IfErr result (FailsOn
+    ensures fault { IfErr result (FailsOn loader.new.reached
         (with_members (loaded loader.old) input.now (archive_members input.now.bytes))) }
 {
     let item = input.item();
@@ -76,7 +76,8 @@ fn take_whole<'a, N: NameNumbers<'a>>(
     ensures known { OnOk result (Knows N.names loader.new) }
     ensures spent { OnOk result (IsSpent (loaded loader.new) input.now) }
     ensures loaded { OnOk result (loaded loader.new ≡ turn_of_whole input.now (loaded loader.old)) }
-    ensures fault { IfErr result (FailsOn (turn_of_whole input.now (loaded loader.old))) }
+    ensures fault { IfErr result (FailsOn loader.new.reached
+        (turn_of_whole input.now (loaded loader.old))) }
 {
     if loader.has_begun(input.item().number) {
         return Ok(());
@@ -102,7 +103,7 @@ pub fn turn<'a, N: NameNumbers<'a>>(
     ensures covers { OnOk result (Covers loader.new inputs.now waits.new) }
     ensures loaded { OnOk result (loaded loader.new
         ≡ turn loader.old.plan.now input.now (loaded loader.old)) }
-    ensures fault { IfErr result (FailsOn
+    ensures fault { IfErr result (FailsOn loader.new.reached
         (turn loader.old.plan.now input.now (loaded loader.old))) }
 {
     if !input.item().whole {

@@ -1,4 +1,11 @@
+use Rattle.std.proofs.Common.{subst}
+use Rattle.elf_model.specs.Files.{files_of}
+use Rattle.search.specs.Faults.{IsRefusedIn}
 use Rattle.explain.proofs.files.add_object.Goals as goal
 
-pub returns : goal.returns
-returns c = c.add_some.ensures.files c.args.files.now c.args.plan.now c.requires c.in_ok-first_bad_object.ensures
+pub returns-in_ok-refused_place-in-Some : goal.returns-in_ok-refused_place-in-Some
+returns-in_ok-refused_place-in-Some c =
+    let files = files_of c.args.files.now in
+    let plan = c.args.plan.now in
+    c.add_some.ensures.files files plan c.requires
+    (c.in_ok-refused_place-in-Some.ensures files plan (subst (IsRefusedIn files plan) c.in-Some.is c.in_ok-object.ensures))

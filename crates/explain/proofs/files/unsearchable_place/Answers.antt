@@ -7,10 +7,10 @@ use Rattle.explain.proofs.files.unsearchable_place.Goals as goal
 
 pub returns-in-BadArchive : goal.returns-in-BadArchive
 returns-in-BadArchive c = λ files plan opened.
-    item_at files plan c.args.item.now 0 c.place_of-place.result _ opened c.place_of-place.ensures
+    item_at files plan c.args.item.now c.place_of-place.result _ opened c.place_of-place.ensures
     (subst (λ (e : SearchFault). IsUnsearchable e (item_view c.args.item.now)) c.in-BadArchive.is c.requires)
 
 pub returns-in-NoIndex : goal.returns-in-NoIndex
 returns-in-NoIndex c = λ files plan opened.
-    item_at files plan c.args.item.now 0 c.place_of-place.result _ opened c.place_of-place.ensures
+    item_at files plan c.args.item.now c.place_of-place.result _ opened c.place_of-place.ensures
     (subst (λ (e : SearchFault). IsUnsearchable e (item_view c.args.item.now)) c.in-NoIndex.is c.requires)

@@ -11,4 +11,4 @@ returns c =
     λ files.
     c.add.ensures.words files words
     (subst (λ (xs : List Place). All (Says files words) xs) (sym c.requires.none) (All-nil (Says files words)))
-    (record { there = c.word_at.ensures; refused = c.requires.fault })
+    (record { at = c.in_ok-number.ensures c.args.fault c.requires.fault; refused = c.requires.fault })

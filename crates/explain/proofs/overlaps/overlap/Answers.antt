@@ -4,4 +4,4 @@ use Rattle.explain.proofs.overlaps.overlap.Goals as goal
 
 pub returns : goal.returns
 returns c =
-    overlap_law c.args.loaded.now.objects c.args.first.now c.args.second.now c.requires.first c.requires.second (c.if-not-begins_in.ensures refl)
+    overlap_law c.args.loaded.now.objects c.in_ok-first.first c.in_ok-second.second c.in_ok-first.ensures c.in_ok-second.ensures (c.if-not-begins_in.ensures refl)

@@ -1,5 +1,5 @@
 use Rattle.explain.specs.Places.{AreSo}
 use Rattle.explain.proofs.relocations.add_object.Given as goal
 
-abbrev pub invariant-loop-rela : goal.invariant-loop-rela
-invariant-loop-rela l = AreSo l.loaded l.found.places.items
+abbrev pub invariant-loop-at : goal.invariant-loop-at
+invariant-loop-at l = AreSo l.loaded l.found.places.items

@@ -16,7 +16,7 @@ returns-in_err-load_inputs-clause-fault c =
     let plan = c.args.plan.now in
     let inputs : c.deref.result.now ≡ opened files plan = c.deref.ensures.value ∙ c.in_ok-inputs.ensures.exact in
     rw (p.1, p.2)
-    (objects_fail files plan (loaded_steps c.in_ok-loader.loader.plan.now (steps c.deref.result.now) (loaded c.in_ok-loader.loader)) c.in_err-load_inputs.field-0.0
+    (objects_fail files plan c.load_inputs.new.loader.reached (loaded_steps c.in_ok-loader.loader.plan.now (steps c.deref.result.now) (loaded c.in_ok-loader.loader)) c.in_err-load_inputs.field-0.0
     (whole files plan c.in_ok-loader.loader.plan.now c.deref.result.now (loaded c.in_ok-loader.loader) c.in_ok-loader.ensures.plan inputs c.in_ok-loader.ensures.loaded)
     c.in_ok-inputs.ensures.searchable c.in_err-load_inputs.ensures.fault)
 

@@ -12,5 +12,5 @@ pub returns-then-not-item-clause-fault : goal.returns-then-not-item-clause-fault
 returns-then-not-item-clause-fault g c =
     let plan = c.args.loader.now.plan.now in
     let os = loaded c.args.loader.now in
-    subst (λ (o : Opened). IfErr c.add.result (FailsOn (loaded_step plan (Single o) os))) c.item-item.ensures
-    (single_fails plan c.add.result os (item_view c.item-item.result) c.requires.known.objects c.requires.known.lawful c.if-not-item.true c.add.ensures.fault)
+    subst (λ (o : Opened). IfErr c.add.result (FailsOn c.add.new.self.reached (loaded_step plan (Single o) os))) c.item-item.ensures
+    (single_fails plan c.add.result c.add.new.self.reached os (item_view c.item-item.result) c.requires.known.objects c.requires.known.lawful c.if-not-item.true c.add.ensures.reached c.add.ensures.fault)

@@ -18,7 +18,7 @@ returns-in_err-load_single-clause-fault g c =
     let same = same_first xs c.index-inputs-0.result x c.requires.some c.index-inputs-0.is c.index-inputs-0-in_default.is in
     let alone = sym c.in_default.is ∙ (c.group_of.ensures ∙ ap group_of same) in
     rw (p.1, p.2)
-    (fails_later (loaded_step plan (Single x) os) (loaded_steps plan (steps xs) os) c.in_err-load_single.field-0.0
+    (fails_later c.load_single.new.loader.reached (loaded_step plan (Single x) os) (loaded_steps plan (steps xs) os) c.in_err-load_single.field-0.0
     (single_later plan os xs x c.requires.some c.index-inputs-0-in_default.is alone) c.in_err-load_single.ensures.fault)
 
 pub split_at-requires : goal.split_at-requires
@@ -41,7 +41,7 @@ returns-in_err-run_rounds-clause-fault g c =
     let os = loaded c.args.loader.now in
     let run = c.split_at.result.0.now in
     rw (p.1, p.2)
-    (fails_later (rounds plan run os) (loaded_steps plan (steps c.args.inputs.now) os) c.in_err-run_rounds.field-0.0
+    (fails_later c.run_rounds.new.loader.reached (rounds plan run os) (loaded_steps plan (steps c.args.inputs.now) os) c.in_err-run_rounds.field-0.0
     (group_later plan os c.args.inputs.now c.index-inputs-0.result c.requires.some c.index-inputs-0.is c.in-Some.group (sym c.in-Some.is ∙ c.group_of.ensures) run
     (c.split_at.ensures.front ∙ ap (λ (n : ℕ). take n c.args.inputs.now) c.run_length-count.ensures)) c.in_err-run_rounds.ensures.fault)
 

@@ -37,8 +37,8 @@ returns-in_err-turn-clause-fault g c =
     let end = round plan xs (loaded c.args.loader.now) in
     let to = skipped_to c.loop-i.loader plan xs c.loop-i.from c.in_ok-i.field-0 i c.loop-i.invariant.later.plan c.in-Some.is c.in_ok-i.ensures.within c.in_ok-i.ensures.idle in
     rw (p.1, p.2)
-    (fails_later (turn plan x os) end c.in_err-turn.field-0.0 (round_later plan xs i x os end to.0 c.index-inputs-i.is (sym to.1 ∙ c.loop-i.invariant.rest))
-    (subst (λ (q : Plan). FailsOn (turn q x os) c.in_err-turn.field-0.0) c.loop-i.invariant.later.plan c.in_err-turn.ensures.fault))
+    (fails_later c.turn.new.loader.reached (turn plan x os) end c.in_err-turn.field-0.0 (round_later plan xs i x os end to.0 c.index-inputs-i.is (sym to.1 ∙ c.loop-i.invariant.rest))
+    (subst (λ (q : Plan). FailsOn c.turn.new.loader.reached (turn q x os) c.in_err-turn.field-0.0) c.loop-i.invariant.later.plan c.in_err-turn.ensures.fault))
 
 pub loop-i-preserved : goal.loop-i-preserved
 loop-i-preserved g c =

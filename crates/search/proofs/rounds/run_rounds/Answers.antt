@@ -19,9 +19,9 @@ returns-in_err-run_round-clause-fault g c =
     let os = loaded c.loop-waits.loader in
     let inputs = c.args.inputs.now in
     rw (p.1, p.2)
-    (fails_later (round plan inputs os) (rounds plan inputs (loaded c.args.loader.now)) c.in_err-run_round.field-0.0
+    (fails_later c.run_round.new.loader.reached (round plan inputs os) (rounds plan inputs (loaded c.args.loader.now)) c.in_err-run_round.field-0.0
     (subst (Extends (round plan inputs os)) c.loop-waits.invariant.rest (rounds_from_round plan inputs os))
-    (subst (λ (q : Plan). FailsOn (round q inputs os) c.in_err-run_round.field-0.0) c.loop-waits.invariant.later.plan c.in_err-run_round.ensures.fault))
+    (subst (λ (q : Plan). FailsOn c.run_round.new.loader.reached (round q inputs os) c.in_err-run_round.field-0.0) c.loop-waits.invariant.later.plan c.in_err-run_round.ensures.fault))
 
 pub returns-then-count-before-clause-loaded : goal.returns-then-count-before-clause-loaded
 returns-then-count-before-clause-loaded g c =

@@ -1,10 +1,11 @@
 use Rattle.std.proofs.Common.{◌≡◌, ◌<◌, List, ℕ, get_or, length, subst}
 use Rattle.std.proofs.lemmas.Result.{err_from_is_err_and}
 use Rattle.elf_model.specs.ArchiveFile.{Member}
-use Rattle.elf_model.specs.Loading.{with_members}
-use Rattle.elf_model.specs.Opening.{archive_members}
-use Rattle.search.specs.Faults.{FailsAt}
+use Rattle.elf_model.specs.Loading.{object_behind, with_members}
+use Rattle.elf_model.specs.Opening.{Opened, archive_members}
+use Rattle.search.specs.Faults.{FailsAt, IsReached}
 use Rattle.search.specs.Loaders.{loaded}
+use Rattle.search.specs.Opened.{item_view}
 use Rattle.search.proofs.TurnLaws.{fails_next, members_later}
 use Rattle.search.proofs.turns.take_all.Goals as goal
 
@@ -18,7 +19,13 @@ returns-in_err-add-clause-fault g c =
     let i = c.loop-member.member-index in
     let within = subst (λ (l : List Member). i < length l) c.members-member-items.ensures c.loop-member-test.true in
     let is = subst (λ (l : List Member). m ≡ get_or l i m) c.members-member-items.ensures c.member-item.is in
+    let r = c.add.new.self.reached in
+    let at =
+    subst (λ (x : Opened). IsReached r (object_behind os x m.offset m.bytes)) c.item-item.ensures
+    (subst (λ (k : ℕ). IsReached r (object_behind os (item_view c.item-item.result) k m.bytes)) c.offset.ensures
+    (subst (λ (b : List ℕ). IsReached r (object_behind os (item_view c.item-item.result) c.offset.result b)) c.bytes.ensures c.in_err-add.ensures.reached)) in
     rw (p.1, p.2)
-    (fails_next os o m.offset m.bytes (with_members (loaded c.args.loader.now) o ms) c.in_err-add.field-0.0 c.loop-member.invariant.known.objects
+    (fails_next r os o m.offset m.bytes (with_members (loaded c.args.loader.now) o ms) c.in_err-add.field-0.0 c.loop-member.invariant.known.objects
     c.loop-member.invariant.known.lawful (members_later os o ms i m (with_members (loaded c.args.loader.now) o ms) within is c.loop-member.invariant.rest)
+    at
     (subst (λ (b : List ℕ). FailsAt b c.in_err-add.field-0.0) c.bytes.ensures c.in_err-add.ensures.fault))

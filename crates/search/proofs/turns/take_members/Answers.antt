@@ -50,10 +50,10 @@ returns-in_err-add-clause-fault g c =
     let f = found_next c.loop-offset.loader.plan.now os o item offset c.data_at.result.now c.in_ok-offset.field-0 c.in_ok-offset.ensures.exact c.in-Some.is c.item-item.ensures c.data_at.ensures in
     let some = ap (λ (q : Plan). next q os o) (sym c.loop-offset.invariant.later.plan) ∙ f.1 in
     rw (p.1, p.2)
-    (fails_next os item offset c.data_at.result.now (turn first o (loaded c.args.loader.now)) c.in_err-add.field-0.0
+    (fails_next c.add.new.self.reached os item offset c.data_at.result.now (turn first o (loaded c.args.loader.now)) c.in_err-add.field-0.0
     c.loop-offset.invariant.known.objects c.loop-offset.invariant.known.lawful
     (turn_extends_later first os o f.0 _ (turn first o (loaded c.args.loader.now)) c.requires.searched some f.2 c.loop-offset.invariant.rest)
-    c.in_err-add.ensures.fault)
+    c.in_err-add.ensures.reached c.in_err-add.ensures.fault)
 
 pub returns-clause-loaded : goal.returns-clause-loaded
 returns-clause-loaded g c =

@@ -1,9 +1,8 @@
-use Rattle.std.proofs.Common.{◌≡◌, ◌∙◌, ◌∷◌, ◌||◌, [], List, ℕ, ap, false, length, map, refl, sym}
+use Rattle.std.proofs.Common.{◌∙◌, ◌∷◌, ◌||◌, List, ℕ, ap, length, map, refl, sym}
 use Rattle.std.specs.Borrow.{Bor}
 use Rattle.std.specs.List.{list_any}
 use Rattle.std.specs.Str.{bytes_eq}
 use Rattle.elf_model.specs.Command.{Plan}
-use Rattle.search.specs.Mentions.{has_definition, mention_of}
 use Rattle.search.specs.Names.{is_among}
 use Rattle.search.specs.Views.{loaded_views}
 use Rattle.search.specs.declared.loaded.LoadedObject as code

@@ -1,4 +1,4 @@
-use Rattle.std.proofs.Common.{◌≡◌, ◌∙◌, ℕ, rules, List, arith, length}
+use Rattle.std.proofs.Common.{◌≡◌, ◌∙◌, rules, arith, length}
 use Rattle.std.specs.Vec.{vec_len}
 use Rattle.std.proofs.lemmas.List.{length-set}
 use Rattle.search.proofs.Numbering.{definition_keeps, definition_noted, mention_inside}

@@ -1,5 +1,0 @@
-use Rattle.explain.specs.Places.{AreSo}
-use Rattle.explain.proofs.unsound.add_definitions_of.Given as goal
-
-abbrev pub invariant-loop-j : goal.invariant-loop-j
-invariant-loop-j l = AreSo l.loaded l.found.places.items
