@@ -1,4 +1,7 @@
 //! What `ld-why` prints: the line of `ld`, and below it the places at which something is wrong.
+//!
+//! Begin with `run`.
+#![tactic(auto)]
 
 ghost use Rattle.std.specs.Prelude.{◌≡◌, ◌≢◌, ◌≤◌, IfOk, IsErr};
 ghost use Rattle.elf_model.specs.Causes.{Cause};
