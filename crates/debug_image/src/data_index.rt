@@ -43,10 +43,7 @@ fn add_place(
 }
 
 /// The sections of a row, without relocations.
-fn places_of(
-    alloc: Global,
-    row: &[Place<'_>],
-) -> Result<BTreeMap<u64, DataSection>, AllocError>
+fn places_of(alloc: Global, row: &[Place<'_>]) -> Result<BTreeMap<u64, DataSection>, AllocError>
     ensures offsets { IfOk result (AreOffsets (place_views row.now)) }
     ensures relas { IfOk result HasNoRelas }
 {

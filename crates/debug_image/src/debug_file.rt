@@ -254,10 +254,10 @@ pub fn data_layout<'c, 'a>(
     ensures layout { IsDataLayout result }
     ensures data { data_in result
         ≡ record {
-      base = linkage.now.plan.base;
-      objects = linkage.now.objects;
-      rows = row_views found.now.rows.items;
-    } }
+          base = linkage.now.plan.base;
+          objects = linkage.now.objects;
+          rows = row_views found.now.rows.items;
+        } }
 {
     let parts = linkage.parts();
     let placement = &parts.placement;

@@ -262,9 +262,14 @@ pub fn debug_data<'a>(
     let mut joined = Vec::new(alloc);
     let mut index = Vec::new(alloc);
     for (k, loaded) in objects.iter().enumerate() {
-        if let Err(fault) =
-            add_object(alloc, &mut rows, &mut joined, &mut index, k as u64, loaded)
-        {
+        if let Err(fault) = add_object(
+            alloc,
+            &mut rows,
+            &mut joined,
+            &mut index,
+            k as u64,
+            loaded,
+        ) {
             return Err(fault);
         }
     }
