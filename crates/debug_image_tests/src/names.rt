@@ -15,28 +15,41 @@ const DEBUG: Section<'static> = Section {
     ..TEXT
 };
 
-/// An object with a text and debug data of so many names, which are the beginnings of one.
-fn object_of(alloc: Global, names: usize) -> Result<Vec<u8>, Fail> {
-    let mut longest = String::from_str(alloc, ".debug_")?;
-    for _ in 0..names {
-        longest.push('x')?;
+/// So many names of debug data, each a byte longer than the one before.
+fn names_of(alloc: Global, count: usize) -> Result<Vec<String>, Fail> {
+    let mut names = Vec::new(alloc);
+    for k in 0..count {
+        let mut name = String::from_str(alloc, ".debug_")?;
+        for _ in 0..k {
+            name.push('x')?;
+        }
+        names.push(name)?;
     }
-    let mut sections = Vec::from_slice(alloc, &[TEXT])?;
-    for k in 0..names {
-        let (name, _) = longest.split_at(8 + k);
-        sections.push(Section { name, ..DEBUG })?;
+    Ok(names)
+}
+
+/// An object with a text and debug data of names.
+fn object_of(alloc: Global, names: &[String]) -> Result<Vec<u8>, Fail> {
+    let mut sections = Vec::new(alloc);
+    sections.push(TEXT)?;
+    for name in names {
+        sections.push(Section {
+            name: name.as_str(),
+            ..DEBUG
+        })?;
     }
     object(alloc, &sections, &[START])
 }
 
 /// The fault of the image of a link with debug data of so many names.
-fn fault_of(alloc: Global, names: usize) -> Result<Option<DebugFault>, Fail> {
-    let files = one_file(alloc, "a.o", &object_of(alloc, names)?)?;
+fn fault_of(alloc: Global, count: usize) -> Result<Option<DebugFault>, Fail> {
+    let names = names_of(alloc, count)?;
+    let files = one_file(alloc, "a.o", &object_of(alloc, &names)?)?;
     let words = words_of(alloc, "a.o -s")?;
     let Ok(linkage) = prepare(alloc, &files, &words) else {
         return Err(Fail::from("the link is refused"));
     };
-    let names = definitions(alloc, &linkage)?;
+    let listed = definitions(alloc, &linkage)?;
     let Ok(resolved) = resolve(alloc, linkage.loaded()) else {
         return Err(Fail::from("the names are refused"));
     };
@@ -44,7 +57,7 @@ fn fault_of(alloc: Global, names: usize) -> Result<Option<DebugFault>, Fail> {
         locals: true,
         debug: true,
     };
-    Ok(debug_image(alloc, &linkage, &resolved, &names, wanted).err())
+    Ok(debug_image(alloc, &linkage, &resolved, &listed, wanted).err())
 }
 
 #[test]
