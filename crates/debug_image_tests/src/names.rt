@@ -1,10 +1,10 @@
 //! How many names debug data may have.
-use debug_image::{DebugFault, Wanted, debug_image};
-use ld_main::{definitions, prepare};
+use crate::tables::debuggable_of;
+use debug_image::DebugFault;
+use ld_main::prepare;
 use link_samples::objects::{Section, object};
 use link_samples::one_object::{one_file, words_of};
 use link_samples::parts::{START, TEXT};
-use resolve::resolve;
 use std::alloc::Global;
 use std::test::Fail;
 
@@ -41,28 +41,25 @@ fn object_of(alloc: Global, names: &[String]) -> Result<Vec<u8>, Fail> {
     object(alloc, &sections, &[START])
 }
 
-/// The fault of the image of a link with debug data of so many names.
-fn fault_of(alloc: Global, count: usize) -> Result<Option<DebugFault>, Fail> {
-    let names = names_of(alloc, count)?;
-    let files = one_file(alloc, "a.o", &object_of(alloc, &names)?)?;
+/// The fault of the image of an object's link.
+fn fault_of(alloc: Global, object: &[u8]) -> Result<Option<DebugFault>, Fail> {
+    let files = one_file(alloc, "a.o", object)?;
     let words = words_of(alloc, "a.o -s")?;
     let Ok(linkage) = prepare(alloc, &files, &words) else {
         return Err(Fail::from("the link is refused"));
     };
-    let listed = definitions(alloc, &linkage)?;
-    let Ok(resolved) = resolve(alloc, linkage.loaded()) else {
-        return Err(Fail::from("the names are refused"));
-    };
-    let wanted = Wanted {
-        locals: true,
-        debug: true,
-    };
-    Ok(debug_image(alloc, &linkage, &resolved, &listed, wanted).err())
+    Ok(debuggable_of(alloc, &linkage, true)?.err())
+}
+
+/// The fault of an image with debug data of so many names.
+fn fault_with(alloc: Global, count: usize) -> Result<Option<DebugFault>, Fail> {
+    let names = names_of(alloc, count)?;
+    fault_of(alloc, &object_of(alloc, &names)?)
 }
 
 #[test]
 fn debug_data_have_at_most_256_names(rt: HostRuntime) -> Result<(), Fail> {
-    assert!(rt; matches!(fault_of(rt.alloc(), 256)?, None));
-    assert!(rt; matches!(fault_of(rt.alloc(), 257)?, Some(DebugFault::TooLarge)));
+    assert!(rt; matches!(fault_with(rt.alloc(), 256)?, None));
+    assert!(rt; matches!(fault_with(rt.alloc(), 257)?, Some(DebugFault::TooLarge)));
     Ok(())
 }

@@ -1,8 +1,8 @@
 //! The tables behind an image, byte for byte.
 use crate::vectors::{TEXT_FIELDS, TEXT_TABLES, THREAD_END, THREAD_FIELDS, THREAD_TABLES};
-use debug_image::{Wanted, debug_image, plain_image};
+use debug_image::{DebugFault, Wanted, debug_image, plain_image};
 use elf_model::{InputFile, SHF_ALLOC, SHF_TLS, SHF_WRITE, SHT_NOBITS};
-use ld_main::{definitions, image, prepare};
+use ld_main::{Linkage, definitions, image, prepare};
 use link_samples::objects::{NamedSymbol, Section, relocatable};
 use link_samples::one_object::{one_file, words_of};
 use link_samples::parts::{START, TEXT};
@@ -18,27 +18,41 @@ struct Images {
     debuggable: Vec<u8>,
 }
 
+/// The debuggable image of a link, or its fault.
+pub fn debuggable_of(
+    alloc: Global,
+    linkage: &Linkage<'_>,
+    with_locals: bool,
+) -> Result<Result<Vec<u8>, DebugFault>, Fail> {
+    let Ok(resolved) = resolve(alloc, linkage.loaded()) else {
+        return Err(Fail::from("the names are refused"));
+    };
+    let names = definitions(alloc, linkage)?;
+    let wanted = Wanted {
+        locals: with_locals,
+        debug: true,
+    };
+    Ok(debug_image(alloc, linkage, &resolved, &names, wanted))
+}
+
+/// The images of a link.
+fn both_of(alloc: Global, linkage: &Linkage<'_>, with_locals: bool) -> Result<Images, Fail> {
+    let Ok(debuggable) = debuggable_of(alloc, linkage, with_locals)? else {
+        return Err(Fail::from("the image is refused"));
+    };
+    Ok(Images {
+        plain: image(alloc, linkage)?,
+        debuggable,
+    })
+}
+
 /// The images of the link of a file.
 fn images_of(alloc: Global, files: &[InputFile], with_locals: bool) -> Result<Images, Fail> {
     let words = words_of(alloc, "a.o -s")?;
     let Ok(linkage) = prepare(alloc, files, &words) else {
         return Err(Fail::from("the link is refused"));
     };
-    let names = definitions(alloc, &linkage)?;
-    let Ok(resolved) = resolve(alloc, linkage.loaded()) else {
-        return Err(Fail::from("the names are refused"));
-    };
-    let wanted = Wanted {
-        locals: with_locals,
-        debug: true,
-    };
-    let Ok(debuggable) = debug_image(alloc, &linkage, &resolved, &names, wanted) else {
-        return Err(Fail::from("the image is refused"));
-    };
-    Ok(Images {
-        plain: image(alloc, &linkage)?,
-        debuggable,
-    })
+    both_of(alloc, &linkage, with_locals)
 }
 
 /// An image with the fields of its file header that speak of sections, and bytes behind it.
