@@ -7,9 +7,7 @@ pub mod LostMembers
 pub mod NotedNames
 pub mod PlaceLaws
 pub mod Numbering
-pub mod OpenedLaws
 pub mod RoundLaws
 pub mod SignatureLaws
-pub mod StepLaws
 pub mod TakenLaws
 pub mod TurnLaws

@@ -4,12 +4,10 @@ pub mod Marks
 pub mod NameFinders
 pub mod NameNumbers
 pub mod Names
-pub mod Opened
 pub mod Places
 pub mod Plans
 pub mod Rounds
 pub mod Signatures
-pub mod Steps
 pub mod Stops
 pub mod Taken
 pub mod Views

@@ -1,9 +1,7 @@
 //! The checker's own loading: which objects a command loads (ld(1)), apart from the linker's.
 #![tactic(auto)]
 
-mod archives;
 mod awake_entries;
-mod files;
 mod known_names;
 mod lawfulness;
 mod load_steps;
@@ -11,7 +9,6 @@ mod loader;
 mod marks;
 mod name_table;
 mod names;
-mod opened_items;
 mod places;
 mod rounds;
 mod signatures;

@@ -7,20 +7,18 @@ ghost use Rattle.check_load.specs.Loaders.{AreLoadable, Knows, loaded};
 ghost use Rattle.check_load.specs.Places.{IsAt};
 ghost use Rattle.check_load.specs.Plans.{CanLoad};
 ghost use Rattle.check_load.specs.Rounds.{AreSideBySide};
-ghost use Rattle.check_load.specs.Steps.{in_group};
+ghost use Rattle.opening.specs.Steps.{in_group};
 ghost use Rattle.check_load.specs.Stops.{Refutes};
 ghost use Rattle.check_load.specs.Views.{loaded_views};
 
-use crate::archives::{Input, read_inputs};
-use crate::files::FileIndex;
 use crate::loader::{Loaded, Loader};
-use crate::opened_items::open_plan;
 use crate::places::Places;
 use crate::rounds::run_rounds;
 use crate::stops::Stop;
 use crate::turns::turn;
 use command::Plan;
 use elf_model::{InputFile, NameSeed};
+use opening::{Input, inputs_of};
 use std::alloc::{AllocError, Global};
 
 /// The number of an archive's group; None of one that is in none, and of an object.
@@ -158,9 +156,7 @@ fn load<'a>(
     ensures good { OnOk result (CanLoad (files_of files.entry.now) plan.now) }
     ensures stop { IfErr result (Refutes (CanLoad (files_of files.entry.now) plan.now)) }
 {
-    let index = FileIndex::new(alloc, files)?;
-    let items = open_plan(alloc, &index, plan)?;
-    let inputs = read_inputs(alloc, &items)?;
+    let inputs = inputs_of(alloc, plan, files)?;
     load_all(alloc, plan, &inputs, seed)
 }
 

@@ -8,19 +8,17 @@ ghost use Rattle.elf_model.specs.Pieces.{is_kept};
 ghost use Rattle.elf_model.specs.Relocation.{is_kept_rela};
 ghost use Rattle.check_load.specs.Loaders.{AreFreeAwake, IsLoadable, Knows, is_free, loaded};
 ghost use Rattle.check_load.specs.Awake.{is_awake};
-ghost use Rattle.check_load.specs.Opened.{item_view};
+ghost use Rattle.opening.specs.Opened.{item_view};
 ghost use Rattle.check_load.specs.Places.{IsAt};
 ghost use Rattle.check_load.specs.Rounds.{AreAsleep, AreSideBySide};
 ghost use Rattle.check_load.specs.Stops.{Refutes};
 ghost use Rattle.check_load.specs.Taken.{has_item};
 ghost use Rattle.check_load.specs.Views.{loaded_view, loaded_views};
 
-use crate::archives::Input;
 use crate::awake_entries::Awake;
 use crate::known_names::KnownNames;
 use crate::name_table::NameTable;
 use crate::names::{note_object, roots};
-use crate::opened_items::OpenedItem;
 use crate::places::Places;
 use crate::signatures::{Dropped, admit};
 use crate::stops::Stop;
@@ -30,6 +28,7 @@ use byteview::View;
 use command::Plan;
 use elf_model::{NameSeed, ObjFault, SHT_RELA, SectionHeader};
 use elf_read::ObjectFile;
+use opening::{Input, OpenedItem};
 use std::alloc::{AllocError, Global};
 use std::mem;
 

@@ -5,11 +5,11 @@ ghost use Rattle.elf_model.specs.ArchiveFile as archive;
 ghost use Rattle.check_load.specs.Awake.{is_awake};
 ghost use Rattle.check_load.specs.Places.{IsWoken, ArePlaced, IsPlaced, IsSized, has_place, list_at, places_in};
 
-use crate::archives::Input;
 use crate::awake_entries::Awake;
 use crate::name_table::NameTable;
 use ar_index::IndexEntry;
 use elf_model::NameSeed;
+use opening::Input;
 use std::alloc::{AllocError, Global};
 use std::marker::Model;
 

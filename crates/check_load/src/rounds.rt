@@ -7,11 +7,11 @@ ghost use Rattle.check_load.specs.Rounds.{AreSideBySide, AreSpent};
 ghost use Rattle.check_load.specs.Stops.{Refutes};
 ghost use Rattle.check_load.specs.Loaders.{AreLoadable, Knows, loaded};
 
-use crate::archives::Input;
 use crate::loader::Loader;
 use crate::places::Places;
 use crate::stops::Stop;
 use crate::turns::turn;
+use opening::Input;
 use std::alloc::Global;
 
 /// The first round: a turn of each archive, in order.

@@ -1,7 +1,9 @@
 //! Why nothing is loaded, inside this crate.
 ghost use Rattle.std.specs.Prelude.{◌≡◌};
+ghost use Rattle.check_load.specs.Stops.{stop_of};
 ghost use Rattle.check_load.specs.declared.stops.Stop.TheVariants as stop;
 
+use opening::OpenFault;
 use std::alloc::{AllocError, AllocFailed};
 
 /// Why the objects of a plan could not be loaded.
@@ -26,5 +28,16 @@ impl<T: Drop> From<AllocFailed<T>> for Stop {
 
     fn from(_error: AllocFailed<T>) -> Stop {
         Stop::from(AllocError)
+    }
+}
+
+impl From<OpenFault> for Stop {
+    ghost from_gives = { λ fault s. s ≡ stop_of fault };
+
+    fn from(fault: OpenFault) -> Stop {
+        match fault {
+            OpenFault::Memory => Stop::Memory,
+            _ => Stop::Unlawful,
+        }
     }
 }

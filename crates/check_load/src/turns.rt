@@ -6,10 +6,10 @@ ghost use Rattle.check_load.specs.Places.{IsAt};
 ghost use Rattle.check_load.specs.Stops.{Refutes};
 ghost use Rattle.check_load.specs.Loaders.{AreLoadable, Knows, loaded};
 
-use crate::archives::Input;
 use crate::loader::Loader;
 use crate::places::Places;
 use crate::stops::Stop;
+use opening::Input;
 use std::alloc::Global;
 
 /// Takes members of an archive, until none is next.

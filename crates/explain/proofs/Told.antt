@@ -9,9 +9,9 @@ use Rattle.elf_model.specs.Opening as opened_items
 use Rattle.elf_model.specs.Opening.{Opened}
 use Rattle.search.specs.Faults.{IsRefusedIn, LoadsBadly}
 use Rattle.search.specs.Loads.{LoadedPlan}
-use Rattle.search.specs.Opened.{item_view}
+use Rattle.opening.specs.Opened.{item_view}
 use Rattle.search.specs.declared.loader.RefusedObject.{RefusedObject}
-use Rattle.search.specs.declared.opened_items.OpenedItem.{OpenedItem}
+use Rattle.opening.specs.declared.opened_items.OpenedItem.{OpenedItem}
 use Rattle.explain.specs.Opened.{IsOpened, IsPlaceAt, IsPlaceOf}
 use Rattle.explain.specs.Places.{AreSo, AreSoOf, HoldsIn, HoldsOf, IsItemAt, IsStoppedAt, Says}
 use Rattle.explain.specs.declared.place.ObjectPlace.{ObjectPlace}

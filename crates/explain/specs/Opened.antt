@@ -4,9 +4,9 @@ use Rattle.std.specs.List.{slice_get}
 use Rattle.elf_model.specs.Command.{Plan}
 use Rattle.elf_model.specs.Files.{File}
 use Rattle.elf_model.specs.Opening.{opened}
-use Rattle.search.specs.Opened.{item_view}
+use Rattle.opening.specs.Opened.{item_view}
 use Rattle.search.specs.declared.loader.Reached.{Reached}
-use Rattle.search.specs.declared.opened_items.OpenedItem.{OpenedItem}
+use Rattle.opening.specs.declared.opened_items.OpenedItem.{OpenedItem}
 use Rattle.explain.specs.declared.place.ObjectPlace.{ObjectPlace}
 
 -- it is the opened item of a plan that has its number

@@ -2,8 +2,9 @@
 ghost use Rattle.std.specs.Prelude.{List, IfOk, IfSome, OnOk, Some};
 ghost use Rattle.elf_model.specs.Command as command;
 ghost use Rattle.elf_model.specs.Files.{File, files_of};
-ghost use Rattle.search.specs.Faults.{IsRefusedIn, IsUnsearchable};
-ghost use Rattle.search.specs.Opened.{item_view};
+ghost use Rattle.opening.specs.Faults.{IsUnsearchable};
+ghost use Rattle.search.specs.Faults.{IsRefusedIn};
+ghost use Rattle.opening.specs.Opened.{item_view};
 ghost use Rattle.explain.specs.Opened.{IsOpened, IsPlaceAt, IsPlaceOf};
 ghost use Rattle.explain.specs.Places.{AreSoOf, HoldsOf};
 
@@ -12,10 +13,8 @@ use crate::place::{ObjectPlace, Place};
 use bad_parts::bad_part;
 use command::Plan;
 use elf_model::InputFile;
-use search::{
-    FileIndex, OpenedItem, Reached, RefusedObject, SearchFault, find_source, read_input,
-    refused_object,
-};
+use opening::{FileIndex, OpenFault, OpenedItem, find_source, read_input};
+use search::{Reached, RefusedObject, SearchFault, refused_object};
 use std::alloc::{AllocError, Global};
 
 /// Item `i` of a plan, where it has no file.
@@ -91,7 +90,7 @@ fn place_of<'a>(item: &OpenedItem<'a>) -> ObjectPlace<'a>
 /// The place of an opened item that can't be searched.
 fn unsearchable_place<'a>(
     item: &OpenedItem<'a>,
-    fault: SearchFault,
+    fault: OpenFault,
 ) -> Result<Option<Place<'a>>, AllocError>
     requires { IsUnsearchable fault (item_view item.now) }
     ensures { (files : List File) (plan : command.Plan) →
@@ -99,8 +98,8 @@ fn unsearchable_place<'a>(
 {
     let place = place_of(item);
     match fault {
-        SearchFault::BadArchive(fault) => Ok(Some(Place::Archive(place, fault))),
-        SearchFault::NoIndex => Ok(Some(Place::NoIndex(place))),
+        OpenFault::BadArchive(fault) => Ok(Some(Place::Archive(place, fault))),
+        OpenFault::NoIndex => Ok(Some(Place::NoIndex(place))),
         _ => Err(AllocError),
     }
 }

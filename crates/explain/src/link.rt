@@ -20,9 +20,10 @@ use command::{Plan, read_words, refused_word};
 use elf_model::{CmdFault, InputFile, LinkError};
 use got_tls::slots;
 use layout::{LayoutFault, kinds, place};
+use opening::FileIndex;
 use relocate::{RelocFault, references};
 use resolve::{ResolveFault, Resolved, resolve};
-use search::{FileIndex, Loaded, SearchFault, load};
+use search::{Loaded, SearchFault, load};
 use std::alloc::{AllocError, Global};
 
 /// Adds why the words are refused.

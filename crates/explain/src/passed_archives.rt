@@ -4,7 +4,7 @@ use ar_index::Archive;
 use byteview::View;
 use command::{Item, Plan, read_words};
 use elf_model::{ArFault, CmdFault, InputFile};
-use search::{FileIndex, find_source};
+use opening::{FileIndex, find_source};
 use std::alloc::{AllocError, Global};
 
 /// Whether the index of an archive has a name.

@@ -1,16 +1,12 @@
--- Faults of objects, archives and groups as those of loading.
-use Rattle.std.proofs.Common.{◌≡◌, ℕ, List, true}
-use Rattle.elf_model.specs.ArchiveFile.{ArFaultStands}
+-- Faults of objects and groups as those of loading.
+use Rattle.std.proofs.Common.{ℕ, List}
 use Rattle.elf_model.specs.Groups.{GroupFaultStands}
 use Rattle.elf_model.specs.ObjectFile.{IsObject, ObjFaultStands, groups}
-use Rattle.elf_model.specs.Opening.{Opened}
-use Rattle.elf_model.specs.declared.faults.ArFault.{ArFault}
-use Rattle.elf_model.specs.declared.faults.ArFault.TheVariants as archive_fault
 use Rattle.elf_model.specs.declared.faults.GroupFault.{GroupFault}
 use Rattle.elf_model.specs.declared.faults.GroupFault.TheVariants as group_fault
 use Rattle.elf_model.specs.declared.faults.ObjFault.{ObjFault}
 use Rattle.elf_model.specs.declared.faults.ObjFault.TheVariants as object_fault
-use Rattle.search.specs.Faults.{FailsAt, IsUnsearchable, of_archive, of_groups, of_object}
+use Rattle.search.specs.Faults.{FailsAt, of_groups, of_object}
 
 pub object_fails : (bytes : List ℕ) (f : ObjFault) → ObjFaultStands bytes f → FailsAt bytes (of_object f)
 object_fails bytes object_fault.Memory s = tt
@@ -31,12 +27,3 @@ groups_fail bytes group_fault.Memory o s = tt
 groups_fail bytes group_fault.NamelessSignature o s = (λ m. cc, o, s)
 groups_fail bytes group_fault.BadFlags o s = (λ m. cc, o, s)
 groups_fail bytes group_fault.TwoGroups o s = (λ m. cc, o, s)
-
-pub archive_fails : (o : Opened) (f : ArFault) → o.archive ≡ true → ArFaultStands o.bytes f → IsUnsearchable (of_archive f) o
-archive_fails o archive_fault.Memory a s = tt
-archive_fails o archive_fault.NotArchive a s = (λ m. cc, (a, s))
-archive_fails o archive_fault.Truncated a s = (λ m. cc, (a, s))
-archive_fails o archive_fault.BadHeader a s = (λ m. cc, (a, s))
-archive_fails o archive_fault.BadIndex a s = (λ m. cc, (a, s))
-archive_fails o archive_fault.BadName a s = (λ m. cc, (a, s))
-archive_fails o archive_fault.TooMany a s = (λ m. cc, (a, s))

@@ -8,8 +8,6 @@ pub mod NameSets
 pub mod NotedNames
 pub mod NumberedSymbols
 pub mod Numbering
-pub mod OpenedLaws
 pub mod PlaceLaws
-pub mod StepLaws
 pub mod TurnLaws
 pub mod WaitLaws

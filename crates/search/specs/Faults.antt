@@ -6,13 +6,15 @@ use Rattle.elf_model.specs.Files.{File}
 use Rattle.elf_model.specs.Groups.{GroupFaultStands}
 use Rattle.elf_model.specs.Loading.{AreObjects, HaveLawfulGroups, LoadedObject, loaded_objects}
 use Rattle.elf_model.specs.ObjectFile.{IsObject, ObjFaultStands, groups}
-use Rattle.elf_model.specs.Opening.{AreArchives, AreFilesThere, HaveIndexes, Opened, opened}
-use Rattle.elf_model.specs.declared.faults.ArFault.{ArFault}
+use Rattle.elf_model.specs.Opening.{AreFilesThere, opened}
 use Rattle.elf_model.specs.declared.faults.ArFault.TheVariants as archive_fault
 use Rattle.elf_model.specs.declared.faults.GroupFault.{GroupFault}
 use Rattle.elf_model.specs.declared.faults.GroupFault.TheVariants as group_fault
 use Rattle.elf_model.specs.declared.faults.ObjFault.{ObjFault}
 use Rattle.elf_model.specs.declared.faults.ObjFault.TheVariants as object_fault
+use Rattle.opening.specs.Faults.{IsSearchable}
+use Rattle.opening.specs.declared.faults.OpenFault.{OpenFault}
+use Rattle.opening.specs.declared.faults.OpenFault.TheVariants as open_fault
 use Rattle.search.specs.declared.faults.SearchFault.{SearchFault}
 use Rattle.search.specs.declared.loader.Reached.{Reached}
 use Rattle.search.specs.declared.loader.RefusedObject.{RefusedObject}
@@ -22,9 +24,12 @@ abbrev pub of_object : ObjFault → SearchFault
 of_object object_fault.Memory = error.Memory
 of_object f = error.BadObject f
 
-abbrev pub of_archive : ArFault → SearchFault
-of_archive archive_fault.Memory = error.Memory
-of_archive f = error.BadArchive f
+-- a fault of items
+abbrev pub of_opening : OpenFault → SearchFault
+of_opening open_fault.Memory = error.Memory
+of_opening open_fault.FileMissing = error.FileMissing
+of_opening (open_fault.BadArchive f) = error.BadArchive f
+of_opening open_fault.NoIndex = error.NoIndex
 
 abbrev pub of_groups : GroupFault → SearchFault
 of_groups group_fault.Memory = error.Memory
@@ -63,37 +68,6 @@ FailsOn reached objects e = Reaches objects (λ o. IsReached reached o × LoadsB
 abbrev pub IsRefusedOf : List LoadedObject → Option RefusedObject → Type 0
 IsRefusedOf objects None = AreObjects objects × HaveLawfulGroups objects
 IsRefusedOf objects (Some r) = Reaches objects (λ o. IsObjectAt r.at o × LoadsBadly r.fault o)
-
--- why items have no files, or want of memory
-abbrev pub OpensBadly : List File → Plan → SearchFault → Type 0
-OpensBadly files plan error.Memory = Unit {0}
-OpensBadly files plan error.FileMissing = ¬ AreFilesThere files plan
-OpensBadly files plan _ = ⊥
-
--- why an archive item can't be searched, or want of memory
-abbrev pub IsUnsearchable : SearchFault → Opened → Type 0
-IsUnsearchable error.Memory o = Unit {0}
-IsUnsearchable (error.BadArchive f) o = (f ≢ archive_fault.Memory) × IsBadArchive f o
-IsUnsearchable error.NoIndex o = IsWithoutIndex o
-IsUnsearchable _ o = ⊥
-
-abbrev pub AreUnsearchable : List Opened → SearchFault → Type 0
-AreUnsearchable os error.Memory = Unit {0}
-AreUnsearchable os e = Any (IsUnsearchable e) os
-
--- the files of a plan are there, and its archives can be searched
-pub record IsSearchable (files : List File) (plan : Plan) : Type 0 where
-  pub files_are : AreFilesThere files plan
-  pub archives : AreArchives (opened files plan)
-  pub indexes : HaveIndexes (opened files plan)
-
--- why the items of a plan could not be read, or want of memory
-abbrev pub ReadsBadly : List File → Plan → SearchFault → Type 0
-ReadsBadly files plan error.Memory = Unit {0}
-ReadsBadly files plan error.FileMissing = ¬ AreFilesThere files plan
-ReadsBadly files plan (error.BadArchive f) = AreFilesThere files plan × (f ≢ archive_fault.Memory) × Any (IsBadArchive f) (opened files plan)
-ReadsBadly files plan error.NoIndex = AreFilesThere files plan × Any IsWithoutIndex (opened files plan)
-ReadsBadly files plan _ = ⊥
 
 -- the object of a plan that loading reaches and can't load, and why; none where its items can't be read, or it loads all
 abbrev pub IsRefusedIn : List File → Plan → Option RefusedObject → Type 0

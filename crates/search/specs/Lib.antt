@@ -5,9 +5,7 @@ pub mod Loads
 pub mod Mentions
 pub mod Names
 pub mod Numbers
-pub mod Opened
 pub mod Places
-pub mod Steps
 pub mod Taken
 pub mod Views
 pub mod Waiting

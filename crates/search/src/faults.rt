@@ -1,9 +1,10 @@
 //! Why nothing is loaded. Each refusal prints as its name and its number.
 ghost use Rattle.std.specs.Prelude.{◌≡◌};
-ghost use Rattle.search.specs.Faults.{of_archive, of_groups, of_object};
+ghost use Rattle.search.specs.Faults.{of_groups, of_object, of_opening};
 ghost use Rattle.search.specs.declared.faults.SearchFault.TheVariants as search_fault;
 
 use elf_model::{ArFault, GroupFault, ObjFault};
+use opening::OpenFault;
 use std::alloc::{AllocError, AllocFailed};
 use thiserror::Error;
 
@@ -40,6 +41,19 @@ impl<T: Drop> From<AllocFailed<T>> for SearchFault {
     }
 }
 
+impl From<OpenFault> for SearchFault {
+    ghost from_gives = { λ opening fault. fault ≡ of_opening opening };
+
+    fn from(fault: OpenFault) -> SearchFault {
+        match fault {
+            OpenFault::Memory => SearchFault::Memory,
+            OpenFault::FileMissing => SearchFault::FileMissing,
+            OpenFault::BadArchive(fault) => SearchFault::BadArchive(fault),
+            OpenFault::NoIndex => SearchFault::NoIndex,
+        }
+    }
+}
+
 /// A fault of an object as one of loading.
 pub fn object_fault(fault: ObjFault) -> SearchFault
     ensures { result ≡ of_object fault }
@@ -47,16 +61,6 @@ pub fn object_fault(fault: ObjFault) -> SearchFault
     match fault {
         ObjFault::Memory => SearchFault::Memory,
         other => SearchFault::BadObject(other),
-    }
-}
-
-/// A fault of an archive as one of loading.
-pub fn archive_fault(fault: ArFault) -> SearchFault
-    ensures { result ≡ of_archive fault }
-{
-    match fault {
-        ArFault::Memory => SearchFault::Memory,
-        other => SearchFault::BadArchive(other),
     }
 }
 

@@ -1,12 +1,9 @@
-//! Which objects a command loads (ld(1)): finds the files of its items, reads its objects and archives, and
-//! takes members of archives for the names that are needed, in load order.
+//! Which objects a command loads (ld(1)): reads its objects, and takes members of archives for the names that are needed, in load order.
 //!
 //! Begin with `load_seeded`.
 #![tactic(auto)]
 
-mod archives;
 mod faults;
-mod files;
 mod kept_lists;
 mod kept_sections;
 mod load_steps;
@@ -14,18 +11,14 @@ mod loaded;
 mod loader;
 mod name_places;
 mod names;
-mod opened_items;
 mod rounds;
 mod taken_members;
 mod turns;
 mod waiting_places;
 mod waits;
 
-pub use archives::read_input;
 pub use faults::SearchFault;
-pub use files::FileIndex;
 pub use kept_lists::KeptRela;
 pub use load_steps::{load, load_in, load_seeded, refused_object};
 pub use loaded::{Loaded, LoadedObject, NO_NUMBER};
 pub use loader::{Reached, RefusedObject};
-pub use opened_items::{OpenedItem, find_source};

@@ -6,24 +6,23 @@ ghost use Rattle.elf_model.specs.Files.{File, files_of};
 ghost use Rattle.elf_model.specs.Loading.{AreObjects, HaveLawfulGroups, LoadedObject, Single, group_of, loaded_objects, loaded_step, loaded_steps, steps};
 ghost use Rattle.elf_model.specs.LoadingRules.{FollowsRules};
 ghost use Rattle.elf_model.specs.Opening.{AreArchives, AreFilesThere, HaveIndexes, opened};
-ghost use Rattle.search.specs.Faults.{FailsOn, IsRefusedIn, IsRefusedOf, IsSearchable, LoadFails, ReadsBadly};
+ghost use Rattle.opening.specs.Faults.{ReadsBadly};
+ghost use Rattle.search.specs.Faults.{FailsOn, IsRefusedIn, IsRefusedOf, LoadFails};
 ghost use Rattle.search.specs.Loaders.{IsLater, Knows, loaded};
 ghost use Rattle.search.specs.Loads.{AreDroppedInOrder};
-ghost use Rattle.search.specs.Steps.{in_group};
+ghost use Rattle.opening.specs.Steps.{in_group};
 ghost use Rattle.search.specs.Views.{loaded_views};
 ghost use Rattle.symbols.specs.Rows.{no_rows};
 
-use crate::archives::{Input, read_inputs};
 use crate::faults::SearchFault;
-use crate::files::FileIndex;
 use crate::loaded::Loaded;
 use crate::loader::{Loader, Reached, RefusedObject};
 use crate::names::{NameNumbers, NameSet};
-use crate::opened_items::open;
 use crate::rounds::{run_round, run_rounds};
 use crate::waits::Waits;
 use command::Plan;
 use elf_model::{InputFile, NameSeed};
+use opening::{Input, OpenFault, inputs_of};
 use std::alloc::{AllocError, Global};
 use std::slice;
 use symbols::NameTable;
@@ -124,22 +123,6 @@ fn load_inputs<'a, N: NameNumbers<'a>>(
     Ok(())
 }
 
-/// What the items of a plan hold, in order.
-fn inputs_of<'a>(
-    alloc: Global,
-    plan: &Plan<'a>,
-    files: &'a [InputFile],
-) -> Result<Vec<Input<'a>>, SearchFault>
-    ensures exact { IfOk result (λ v. v.items ≡ opened (files_of files.entry.now) plan.now) }
-    ensures searchable { OnOk result (IsSearchable (files_of files.entry.now) plan.now) }
-    ensures fault { IfErr result (ReadsBadly (files_of files.entry.now) plan.now) }
-{
-    let index = FileIndex::new(alloc, files)?;
-    let items = open(alloc, &index, plan)?;
-    let inputs = read_inputs(alloc, &items)?;
-    Ok(inputs)
-}
-
 /// The plan, and the objects that it loads, in load order (ld(1)).
 ///
 /// An object item is loaded where it stands. An archive has one turn: the first entry of its index, in the
@@ -218,12 +201,12 @@ fn first_refused<'a>(
 }
 
 /// That loading comes to no object where items can't be read.
-fn none_reached<'a>(fault: SearchFault) -> Result<Option<RefusedObject<'a>>, AllocError>
+fn none_reached<'a>(fault: OpenFault) -> Result<Option<RefusedObject<'a>>, AllocError>
     ensures { (files : List File) (plan : command.Plan) →
         ReadsBadly files plan fault → IfOk result (IsRefusedIn files plan) }
 {
     match fault {
-        SearchFault::Memory => Err(AllocError),
+        OpenFault::Memory => Err(AllocError),
         _ => Ok(None),
     }
 }

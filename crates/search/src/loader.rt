@@ -11,20 +11,20 @@ ghost use Rattle.search.specs.Loaders.{Knows, asked_in, defined_in, loaded};
 ghost use Rattle.search.specs.Mentions.{AreNoted, has_definition, mention_of};
 ghost use Rattle.search.specs.Names.{Begins, is_among, number_of, with_name};
 ghost use Rattle.search.specs.Numbers.{AreFirstNumbers, AreWhole};
-ghost use Rattle.search.specs.Opened.{item_view};
+ghost use Rattle.opening.specs.Opened.{item_view};
 ghost use Rattle.search.specs.Views.{loaded_views};
 
 use crate::faults::{SearchFault, group_fault, object_fault};
 use crate::kept_lists::kept_lists;
 use crate::loaded::{LoadedObject, NO_NUMBER};
 use crate::names::{NameList, NameNumbers};
-use crate::opened_items::OpenedItem;
 use crate::taken_members::Taken;
 use byteview::View;
 use comdat::{Dropped, Groups};
 use command::Plan;
 use elf_model::{NameSeed, Symbol};
 use elf_read::ObjectFile;
+use opening::OpenedItem;
 use std::alloc::{AllocError, Global};
 
 /// What is known of a name: whether the command or a loaded object asks for it, and whether one defines it.

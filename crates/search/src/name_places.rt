@@ -5,11 +5,11 @@ ghost use Rattle.std.specs.Str.{bytes_eq};
 ghost use Rattle.elf_model.specs.ArchiveFile as archive_file;
 ghost use Rattle.search.specs.Places.{ArePlaced, IsPlaced, has_place, is_place, is_waiting, places_in};
 
-use crate::archives::Input;
 use crate::waiting_places::WaitingPlaces;
 use ar_index::IndexEntry;
 use elf_model::{Name, NameSeed};
 use indexmap::IndexMap;
+use opening::Input;
 use std::alloc::{AllocError, Global};
 
 /// Adds a place of a name.

@@ -5,12 +5,12 @@ ghost use Rattle.search.specs.Faults.{FailsOn};
 ghost use Rattle.search.specs.Loaders.{IsLater, Knows, loaded};
 ghost use Rattle.search.specs.Waiting.{Covers};
 
-use crate::archives::Input;
 use crate::faults::SearchFault;
 use crate::loader::Loader;
 use crate::names::NameNumbers;
 use crate::turns::turn;
 use crate::waits::Waits;
+use opening::Input;
 use std::alloc::Global;
 
 /// A round: a turn of each archive, in order, but for those whose turns take nothing.

@@ -6,11 +6,11 @@ ghost use Rattle.search.specs.Faults.{FailsOn};
 ghost use Rattle.search.specs.Loaders.{IsLater, Knows, loaded};
 ghost use Rattle.search.specs.Waiting.{Covers, IsSpent};
 
-use crate::archives::Input;
 use crate::faults::SearchFault;
 use crate::loader::Loader;
 use crate::names::NameNumbers;
 use crate::waits::Waits;
+use opening::Input;
 use std::alloc::Global;
 
 /// Takes members of an archive that is searched, and has a number in the group, until none is next.

@@ -9,7 +9,6 @@ ghost use Rattle.search.specs.Loaders.{Knows, is_next_of, loaded};
 ghost use Rattle.search.specs.Places.{is_place, is_waiting};
 ghost use Rattle.search.specs.Waiting.{AllAwait, AreIdle, Awaits, Covers, NextWait};
 
-use crate::archives::Input;
 use crate::loader::Loader;
 use crate::name_places::{places_of, wake};
 use crate::names::NameNumbers;
@@ -17,6 +16,7 @@ use crate::waiting_places::WaitingPlaces;
 use ar_index::IndexEntry;
 use elf_model::{Name, NameSeed};
 use indexmap::IndexMap;
+use opening::Input;
 use std::alloc::{AllocError, Global};
 
 /// What may give the next members of the archives of a group.

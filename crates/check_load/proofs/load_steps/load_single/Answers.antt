@@ -4,7 +4,7 @@ use Rattle.elf_model.specs.Loading.{Single, loaded_step}
 use Rattle.elf_model.specs.Opening.{Opened}
 use Rattle.check_load.specs.Stops.{Refutes}
 use Rattle.check_load.specs.Loaders.{AreLoadable, loaded}
-use Rattle.check_load.specs.Opened.{item_view}
+use Rattle.opening.specs.Opened.{item_view}
 use Rattle.check_load.proofs.TurnLaws.{single_fails}
 use Rattle.check_load.proofs.load_steps.load_single.Goals as goal
 

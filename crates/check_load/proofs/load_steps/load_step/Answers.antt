@@ -5,7 +5,7 @@ use Rattle.elf_model.specs.Loading.{Single, group_of, loaded_step, loaded_steps,
 use Rattle.elf_model.specs.Opening.{Opened}
 use Rattle.check_load.specs.Loaders.{loaded}
 use Rattle.check_load.proofs.RoundLaws.{side_taken}
-use Rattle.check_load.proofs.StepLaws.{group_first, group_later, run_archives, run_within, same_first, single_later}
+use Rattle.opening.proofs.StepLaws.{group_first, group_later, run_archives, run_within, same_first, single_later}
 use Rattle.check_load.proofs.TurnLaws.{fails_later}
 use Rattle.check_load.proofs.load_steps.load_step.Goals as goal
 

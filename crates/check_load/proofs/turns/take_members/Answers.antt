@@ -6,7 +6,7 @@ use Rattle.elf_model.specs.LoadingBounds.{untaken}
 use Rattle.elf_model.specs.Opening.{archive_entries}
 use Rattle.elf_model.proofs.LoadingBounds.{untaken_falls}
 use Rattle.check_load.specs.Loaders.{loaded}
-use Rattle.check_load.specs.Opened.{item_view}
+use Rattle.opening.specs.Opened.{item_view}
 use Rattle.check_load.proofs.TurnLaws.{fails_next, found_next, turn_extends_later, turn_later}
 use Rattle.check_load.proofs.turns.take_members.Goals as goal
 

@@ -7,8 +7,8 @@ use Rattle.command.specs.Views.{item_of, texts_of}
 use Rattle.command.specs.declared.items.Item as code
 use Rattle.elf_model.specs.Command.{Item, Plan}
 use Rattle.elf_model.specs.Opening.{HasFile}
-use Rattle.search.specs.Opened.{found_view}
-use Rattle.search.proofs.OpenedLaws.{none_found}
+use Rattle.opening.specs.Opened.{found_view}
+use Rattle.opening.proofs.OpenedLaws.{none_found}
 use Rattle.explain.proofs.files.missing_item.Goals as goal
 
 pub returns-in-None : goal.returns-in-None

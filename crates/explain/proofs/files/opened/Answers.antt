@@ -7,8 +7,8 @@ use Rattle.command.specs.Views.{item_of, texts_of}
 use Rattle.command.specs.declared.items.Item as code
 use Rattle.elf_model.specs.Command.{Item, Plan}
 use Rattle.elf_model.specs.Opening.{Opened, opened_item}
-use Rattle.search.specs.Opened.{found_view}
-use Rattle.search.proofs.OpenedLaws.{opened_is}
+use Rattle.opening.specs.Opened.{found_view}
+use Rattle.opening.proofs.OpenedLaws.{opened_is}
 use Rattle.explain.proofs.OpenedItems.{opened_at}
 use Rattle.explain.proofs.files.opened.Goals as goal
 

@@ -4,7 +4,7 @@ use Rattle.elf_model.specs.Loading.{Single, loaded_step}
 use Rattle.elf_model.specs.Opening.{Opened}
 use Rattle.search.specs.Faults.{FailsOn}
 use Rattle.search.specs.Loaders.{loaded}
-use Rattle.search.specs.Opened.{item_view}
+use Rattle.opening.specs.Opened.{item_view}
 use Rattle.search.proofs.TurnLaws.{single_fails}
 use Rattle.search.proofs.load_steps.load_single.Goals as goal
 

@@ -1,4 +1,4 @@
-use Rattle.search.proofs.LoadLaws.{not_searchable}
+use Rattle.opening.proofs.FaultLaws.{not_searchable}
 use Rattle.search.proofs.load_steps.none_reached.Goals as goal
 
 pub returns-in_default : goal.returns-in_default

@@ -5,7 +5,7 @@ use Rattle.elf_model.specs.Loading.{object_behind, with_members}
 use Rattle.elf_model.specs.Opening.{Opened, archive_members}
 use Rattle.search.specs.Faults.{FailsAt, IsReached}
 use Rattle.search.specs.Loaders.{loaded}
-use Rattle.search.specs.Opened.{item_view}
+use Rattle.opening.specs.Opened.{item_view}
 use Rattle.search.proofs.TurnLaws.{fails_next, members_later}
 use Rattle.search.proofs.turns.take_all.Goals as goal
 

@@ -4,7 +4,7 @@ use Rattle.elf_model.specs.Groups.{AreLawfulGroups}
 use Rattle.elf_model.specs.ObjectFile.{groups}
 use Rattle.check_load.specs.Loaders.{loaded}
 use Rattle.check_load.specs.Names.{asked_in, defined_in, defines_name, requests_name}
-use Rattle.check_load.specs.Opened.{item_view}
+use Rattle.opening.specs.Opened.{item_view}
 use Rattle.check_load.specs.NameNumbers.{is_among}
 use Rattle.check_load.specs.Signatures.{seen_by}
 use Rattle.check_load.proofs.LoaderLaws.{groups_stop, knows_more, lost, object_is, pushed}

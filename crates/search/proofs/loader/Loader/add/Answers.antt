@@ -7,7 +7,7 @@ use Rattle.search.specs.Loaders.{asked_in, defined_in, loaded}
 use Rattle.search.specs.Mentions.{has_definition}
 use Rattle.search.specs.Names.{is_among}
 use Rattle.search.specs.Numbers.{AreNumbered, IsNumbered}
-use Rattle.search.specs.Opened.{item_view}
+use Rattle.opening.specs.Opened.{item_view}
 use Rattle.search.specs.declared.loaded.LoadedObject as code
 use Rattle.search.proofs.FaultLaws.{groups_fail}
 use Rattle.search.proofs.LoaderLaws.{knows_more, lost, object_is, pushed}

@@ -1,0 +1,21 @@
+use Rattle.std.proofs.Common.{◌∙◌, List, ℕ, ap, map, subst, sym, Option}
+use Rattle.std.specs.Borrow.{Bor}
+use Rattle.std.specs.Global.{Vec}
+use Rattle.std.specs.Prelude.{All, IsSome}
+use Rattle.std.proofs.lemmas.Bool.{false≢true}
+use Rattle.command.specs.Views.{item_of, texts_of}
+use Rattle.command.specs.declared.items.Item.{Item}
+use Rattle.elf_model.specs.Command as command
+use Rattle.elf_model.specs.Command.{Plan}
+use Rattle.elf_model.specs.Opening.{HasFile}
+use Rattle.opening.specs.declared.opened_items.OpenedItem.{OpenedItem}
+use Rattle.opening.proofs.opened_items.open.Goals as goal
+
+pub returns-in-None-clause-fault : goal.returns-in-None-clause-fault
+returns-in-None-clause-fault c = λ there.
+    let directories = ap (λ (ds : List (Bor (List ℕ))). texts_of ds) c.deref.ensures.value ∙ ap (λ (p : Plan). p.directories) c.plan.view_is in
+    let items = ap (λ (is : List Item). map item_of is) c.deref-2.ensures.value ∙ ap (λ (p : Plan). p.items) c.plan.view_is in
+    let all =
+    subst (λ (ds : List (List ℕ)). All (HasFile c.args.files.now ds) (map item_of c.deref-2.result.now)) (sym directories)
+    (subst (λ (is : List command.Item). All (HasFile c.args.files.now c.args.plan.now.directories) is) (sym items) there) in
+    false≢true (subst (λ (o : Option (Vec OpenedItem)). IsSome o) c.in-None.is (c.in_ok-opened.ensures.files.1 all))

@@ -1,0 +1,33 @@
+-- Opened items as the definitions see them.
+use Rattle.std.specs.Prelude.{◌≡◌, ℕ, List, [], Option, IfSome, is_some, option_map, unwrap_or}
+use Rattle.std.specs.Borrow.{Bor}
+use Rattle.std.specs.List.{find}
+use Rattle.elf_model.specs.Files.{File}
+use Rattle.elf_model.specs.Opening.{Opened, file_named, is_file}
+use Rattle.opening.specs.declared.opened_items.OpenedItem.{OpenedItem}
+
+abbrev pub found_view : Bor (List ℕ) × Bor (List ℕ) → File
+found_view f = record { name = f.0.now; bytes = f.1.now }
+
+-- the file of a path that is one's name
+abbrev pub file_at : List File → List ℕ → File
+file_at files path = record { name = path; bytes = unwrap_or (file_named files path) [] }
+
+-- the file of the first path that is one's name
+abbrev pub first_found : List File → List (List ℕ) → Option File
+first_found files paths = option_map (file_at files) (find (is_file files) paths)
+
+abbrev pub item_view : OpenedItem → Opened
+item_view i = record {
+  number = i.number;
+  path = i.path.now;
+  bytes = i.bytes.now;
+  archive = i.archive;
+  whole = i.whole;
+  group = i.group;
+}
+
+-- an item's archive is there where it is one, and is that of its bytes
+pub record IsInput (item : Opened) (archive : Option (List ℕ)) : Type 0 where
+  pub some : is_some archive ≡ item.archive
+  pub same : IfSome archive (λ bytes. bytes ≡ item.bytes)
