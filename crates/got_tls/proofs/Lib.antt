@@ -6,4 +6,4 @@ pub mod KindRows
 pub mod LoadedObjects
 pub mod Offsets
 pub mod SlotPlaces
-mod ToldPlaces
+mod ToldPositions

@@ -11,7 +11,7 @@ ghost use Rattle.got_tls.specs.Asking.{nothing, with_relocation, with_relocation
 ghost use Rattle.got_tls.specs.Views.{slot_view, slot_views, wants};
 
 use crate::requests::{Asker, slot_of};
-use crate::slot_places::{name_number, note_place, place_told};
+use crate::slot_positions::{name_number, note_position, position_told};
 use crate::slot_table::Slot;
 use elf_model::{NameSeed, Rela};
 use elf_read::RelaRun;
@@ -26,7 +26,7 @@ use std::alloc::{AllocError, Global};
 pub struct Asked<'a> {
     pub got: bool,
     pub slots: IndexSet<Slot<'a>, NameSeed>,
-    pub places: Vec<usize>,
+    pub positions: Vec<usize>,
 }
 
 impl<'a> Asked<'a> {
@@ -37,7 +37,7 @@ impl<'a> Asked<'a> {
         Asked {
             got: false,
             slots: IndexSet::with_hasher(alloc, seed),
-            places: Vec::new(alloc),
+            positions: Vec::new(alloc),
         }
     }
 }
@@ -48,11 +48,11 @@ fn add_slot<'a>(asked: &mut Asked<'a>, number: usize, slot: Slot<'a>) -> Result<
     ensures slots { OnOk result (slot_views asked.new.slots.keys
         ≡ insert_key same_request (slot_views asked.old.slots.keys) (slot_view slot.entry)) }
 {
-    if let Some(_place) = place_told(&asked.slots, &asked.places, number, slot) {
+    if let Some(_position) = position_told(&asked.slots, &asked.positions, number, slot) {
         return Ok(());
     }
-    let (place, _is_new) = asked.slots.insert_full(slot)?;
-    note_place(&mut asked.places, number, place)?;
+    let (position, _is_new) = asked.slots.insert_full(slot)?;
+    note_position(&mut asked.positions, number, position)?;
     Ok(())
 }
 

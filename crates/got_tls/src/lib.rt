@@ -9,7 +9,7 @@ mod asked_slots;
 mod kinds;
 mod requests;
 mod slot_list;
-mod slot_places;
+mod slot_positions;
 mod slot_table;
 mod thread_storage;
 
@@ -18,6 +18,6 @@ pub use elf_model::TlsBlock;
 pub use kinds::{Formula, Kind, Range, slot_kind};
 pub use requests::Asker;
 pub use slot_list::{slots, slots_asked};
-pub use slot_places::name_number;
+pub use slot_positions::name_number;
 pub use slot_table::{Slot, Slots};
 pub use thread_storage::{thread_pointer, tls_block, tp_offset};

@@ -6,7 +6,7 @@ ghost use Rattle.got_tls.specs.Asking.{offset_of};
 ghost use Rattle.got_tls.specs.Views.{kind_view, owner_view, slot_view, slot_views};
 
 use crate::asked_slots::Asked;
-use crate::slot_places::place_told;
+use crate::slot_positions::position_told;
 use elf_model::{Name, NameSeed, ObjectId, SlotKind, SymbolRef, Target};
 use indexmap::IndexSet;
 use layout::GotSize;
@@ -93,7 +93,7 @@ impl<'a> Slot<'a> {
 pub struct Slots<'a> {
     got: u64,
     slots: IndexSet<Slot<'a>, NameSeed>,
-    places: Vec<usize>,
+    positions: Vec<usize>,
 }
 
 impl<'a> Model for Slots<'a> {
@@ -117,11 +117,11 @@ fn size_with(count: usize) -> Result<u64, AllocError>
     }
 }
 
-/// How far behind the GOT's beginning slot number `place` stands, modulo 2 to the 64: behind its first word.
-fn offset_at(place: usize) -> u64
-    ensures { result ≡ (8 + 8 * place) % 2 ^ 64 }
+/// How far behind the GOT's beginning slot number `position` stands, modulo 2 to the 64: behind its first word.
+fn offset_at(position: usize) -> u64
+    ensures { result ≡ (8 + 8 * position) % 2 ^ 64 }
 {
-    (place as u64).wrapping_mul(8).wrapping_add(8)
+    (position as u64).wrapping_mul(8).wrapping_add(8)
 }
 
 impl<'a> Slots<'a> {
@@ -143,7 +143,7 @@ impl<'a> Slots<'a> {
         Ok(Slots {
             got,
             slots: asked.slots,
-            places: asked.places,
+            positions: asked.positions,
         })
     }
 
@@ -165,7 +165,7 @@ impl<'a> Slots<'a> {
     pub fn offset_by(&self, number: usize, slot: Slot<'a>) -> u64
         ensures { result ≡ offset_of self.now.slots (slot_view slot.entry) % 2 ^ 64 }
     {
-        match place_told(&self.slots, &self.places, number, slot) {
+        match position_told(&self.slots, &self.positions, number, slot) {
             Some(i) => offset_at(i),
             None => self.offset(slot),
         }

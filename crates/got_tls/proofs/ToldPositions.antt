@@ -1,4 +1,4 @@
--- A slot that stands at a place of slots that differ stands there first.
+-- A slot that stands at a position of slots that differ stands there first.
 use Rattle.std.proofs.Common.{◌≡◌, ℕ, zero, suc, ◌+◌, ◌++◌, ◌||◌, ◌<◌, nat_lt, Bool, true, false, not, cond, List, [], ◌∷◌, Option, Some, None, length, refl, sym, ap, ◌∙◌, arith, subst}
 use Rattle.std.specs.Prelude.{position}
 use Rattle.std.specs.List.{AllByRecursion, IsDistinct, list_any, position_or_len, slice_get}
@@ -41,15 +41,15 @@ first_there s (x ∷ ks) (suc i) k differ there same = by (slot_eq s x) refl (fi
         absurd (false≢true (sym (at_number (λ (y : Slot). slot_eq x y ≡ false) ks i k (IsDistinct-head slot_eq x ks differ) there) ∙ equal_both s x k e same))
     by false e rest = omega (arith, rest)
 
-pub place_of :
+pub position_of :
     (s : Slot) (ks : List Slot) (i : ℕ) (k : Slot) → IsDistinct slot_eq ks → slice_get ks i ≡ Some k → slot_eq s k ≡ true →
     position (same_request (slot_view s)) (slot_views ks) ≡ Some i
-place_of s ks i k differ there same =
+position_of s ks i k differ there same =
     sym (position_same s ks)
     ∙ (ap (λ (n : ℕ). cond {A = Option ℕ} (nat_lt n (length ks)) (Some n) None) (first_there s ks i k differ there same)
     ∙ ap (λ (b : Bool). cond {A = Option ℕ} b (Some i) None) (lt-ltb i (length ks) (slice_get_within ks i k there)))
 
--- what has a place is among the list
+-- what has a position is among the list
 among : (q : Request) (rs : List Request) → position_or_len (same_request q) rs < length rs → list_any (same_request q) rs ≡ true
 among q [] below = absurd (omega (arith, below))
 among q (r ∷ rs) below = by (same_request q r) below (among q rs)
