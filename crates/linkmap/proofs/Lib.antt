@@ -6,6 +6,7 @@ pub mod LineLaws
 pub mod NameLaws
 pub mod NumberLaws
 pub mod OrderLaws
+pub mod PlainVectors
 pub mod Parsers
 pub mod PrintLaws
 pub mod ReadLaws

@@ -180,11 +180,22 @@ fn put_word(out: &mut Vec<u8>, n: u32) -> Result<(), AllocError>
     Ok(())
 }
 
+/// The same, of a number that is mostly 0.
+#[tactic(auto, unfolding(elf_model::specs::MapText::word, elf_model::specs::MapText::quad, elf_model::specs::MapText::pair))]
+fn put_high_word(out: &mut Vec<u8>, n: u32) -> Result<(), AllocError>
+    ensures { OnOk result (out.new.items ≡ out.old.items ++ word n) }
+{
+    if n != 0 {
+        return put_word(out, n);
+    }
+    out.extend_from_slice(b"00000000")
+}
+
 #[tactic(auto, unfolding(elf_model::specs::MapText::hex))]
 fn put_hex(out: &mut Vec<u8>, n: u64) -> Result<(), AllocError>
     ensures { OnOk result (out.new.items ≡ out.old.items ++ hex n) }
 {
-    put_word(out, (n / 4294967296) as u32)?;
+    put_high_word(out, (n / 4294967296) as u32)?;
     put_word(out, (n % 4294967296) as u32)?;
     Ok(())
 }

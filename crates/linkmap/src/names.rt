@@ -1,12 +1,13 @@
 //! The names in a map: visible ASCII but the backslash stands for itself, every other byte is `\x` and two
 //! hexadecimal digits.
-ghost use Rattle.std.specs.Prelude.{false, ◌≡◌, ◌<◌, ◌≤◌, ◌++◌, IfOk, OnOk, length, take, drop, option_map};
+ghost use Rattle.std.specs.Prelude.{All, IsTrue, true, false, ◌≡◌, ◌≢◌, ◌<◌, ◌≤◌, ◌++◌, IfOk, OnOk, length, take, drop, option_map};
 ghost use Rattle.std.specs.List.{prefix_len};
 ghost use Rattle.elf_model.specs.MapText as map_text;
 ghost use Rattle.linkmap.specs.Reading as reading;
 
 use crate::digits::{LineFault, put_pair, read_pair, strip};
 use std::alloc::{AllocError, Global};
+use std::simd::prelude::*;
 
 /// Whether a byte of a name stands for itself.
 fn is_plain(byte: u8) -> bool
@@ -15,12 +16,55 @@ fn is_plain(byte: u8) -> bool
     33 <= byte && byte <= 126 && byte != b'\\'
 }
 
-/// How many of the first bytes stand for themselves.
-fn plain_len(bytes: &[u8]) -> usize
+/// Whether no byte of a vector is below a number.
+fn none_below(bytes: u8x16, least: u8) -> bool
+    ensures { IsTrue result → All (λ b. least ≤ b) bytes }
+{
+    bytes.simd_lt(u8x16::splat(least)).to_bitmask() == 0
+}
+
+/// Whether no byte of a vector is above a number.
+fn none_above(bytes: u8x16, most: u8) -> bool
+    ensures { IsTrue result → All (λ b. b ≤ most) bytes }
+{
+    u8x16::splat(most).simd_lt(bytes).to_bitmask() == 0
+}
+
+/// Whether no byte of a vector is a certain one.
+fn none_is(bytes: u8x16, other: u8) -> bool
+    ensures { IsTrue result → All (λ b. b ≢ other) bytes }
+{
+    bytes.simd_eq(u8x16::splat(other)).to_bitmask() == 0
+}
+
+/// Whether each byte of a vector stands for itself.
+fn are_plain(bytes: u8x16) -> bool
+    ensures { IsTrue result → All (λ b. map_text.is_plain b ≡ true) bytes }
+{
+    none_below(bytes, 33) && none_above(bytes, 126) && none_is(bytes, b'\\')
+}
+
+/// How many of the first bytes stand for themselves, byte by byte.
+fn plain_count(bytes: &[u8]) -> usize
     ensures value { result ≡ prefix_len map_text.is_plain bytes.now }
     ensures within { result ≤ length bytes.now }
 {
     bytes.iter().take_while(|b| is_plain(**b)).count()
+}
+
+/// How many of the first bytes stand for themselves: vector by vector, and what is left of them byte by byte.
+fn plain_len(bytes: &[u8]) -> usize
+    ensures value { result ≡ prefix_len map_text.is_plain bytes.now }
+    ensures within { result ≤ length bytes.now }
+{
+    let mut rest = bytes;
+    'vectors: while rest.len() >= 16 {
+        if !are_plain(u8x16::from_slice(rest)) {
+            break 'vectors;
+        }
+        (_, rest) = rest.split_at(16);
+    }
+    bytes.len() - rest.len() + plain_count(rest)
 }
 
 /// The first bytes that stand for themselves, and the bytes behind them.
