@@ -12,6 +12,13 @@ use crate::pieces::Piece;
 use crate::runs::{PAGE, Place};
 use elf_model::{PT_LOAD, ProgramHeader};
 
+/// Where the pieces of a segment end in memory, and where those do that have bytes in the file.
+#[derive(Clone, Copy, Debug)]
+struct Ends {
+    memory: u64,
+    file: u64,
+}
+
 /// Whether a piece takes up memory.
 fn is_some(piece: &Piece<'_>) -> bool
     ensures { result ≡ is_nonempty (piece_view piece.now) }
@@ -57,34 +64,23 @@ fn further_in_file(end: u64, place: &Place<'_>) -> u64
     further(end, place)
 }
 
-/// The greatest end of places that take up memory, or where their segment's pieces begin.
-fn memory_end(places: &[Place<'_>], from: u64) -> u64
+/// The greatest end of places that take up memory, and that of those that have bytes in the file; or where their segment's
+/// pieces begin.
+fn ends_of(places: &[Place<'_>], from: u64) -> Ends
     requires low { from ≤ 2 ^ 46 }
     requires limit { AreInLimit (place_views places.now) }
-    ensures end { result ≡ greatest_end any_placed from (place_views places.now) }
-    ensures above { from ≤ result }
-    ensures limit { result ≤ 2 ^ 46 }
+    ensures memory { result.memory ≡ greatest_end any_placed from (place_views places.now) }
+    ensures file { result.file ≡ greatest_end placed_has_bytes from (place_views places.now) }
+    ensures memory_above { from ≤ result.memory }
+    ensures file_above { from ≤ result.file }
 {
-    let mut end = from;
+    let mut memory = from;
+    let mut file = from;
     for place in places {
-        end = further(end, place);
+        memory = further(memory, place);
+        file = further_in_file(file, place);
     }
-    end
-}
-
-/// The greatest end of those that have bytes in the file.
-fn file_part_end(places: &[Place<'_>], from: u64) -> u64
-    requires low { from ≤ 2 ^ 46 }
-    requires limit { AreInLimit (place_views places.now) }
-    ensures end { result ≡ greatest_end placed_has_bytes from (place_views places.now) }
-    ensures above { from ≤ result }
-    ensures limit { result ≤ 2 ^ 46 }
-{
-    let mut end = from;
-    for place in places {
-        end = further_in_file(end, place);
-    }
-    end
+    Ends { memory, file }
 }
 
 /// The PT_LOAD from an address on, with rights, of pieces that begin at another.
@@ -101,16 +97,15 @@ pub fn segment_of(
     requires limit { AreInLimit (place_views places.now) }
     ensures { result ≡ own.segment base rights start from (place_views places.now) }
 {
-    let file_end = file_part_end(places, from);
-    let memory_end = memory_end(places, from);
+    let ends = ends_of(places, from);
     ProgramHeader {
         p_type: PT_LOAD,
         p_flags: rights,
         p_offset: start - base,
         p_vaddr: start,
         p_paddr: start,
-        p_filesz: file_end - start,
-        p_memsz: memory_end - start,
+        p_filesz: ends.file - start,
+        p_memsz: ends.memory - start,
         p_align: PAGE,
     }
 }
