@@ -1,7 +1,8 @@
 -- The greatest alignment of thread-local pieces, one more piece at a time, and in another order; and where pieces begin
 -- and end.
-use Rattle.std.proofs.Common.{◌≡◌, ◌∙◌, ℕ, ◌+◌, ◌<◌, ◌≤◌, Bool, true, false, cond, max, min, List, [], ◌∷◌, get_or, drop, length, refl, sym, ap, arith}
+use Rattle.std.proofs.Common.{◌≡◌, ◌∙◌, ℕ, ◌+◌, ◌<◌, ◌≤◌, ◌||◌, Bool, true, false, cond, max, min, List, [], ◌∷◌, get_or, drop, length, refl, sym, ap, arith}
 use Rattle.std.specs.Prelude.{All, Option, Some, None}
+use Rattle.std.specs.List.{list_any}
 use Rattle.std.proofs.lemmas.List.Elements.{All-head, All-tail}
 use Rattle.std.proofs.lemmas.Option.{none-some, same_Some}
 use Rattle.elf_model.specs.LinkerValues.{end_of_pieces, least_of, start_of_pieces}
@@ -12,6 +13,10 @@ use Rattle.elf_model.proofs.Rests.{rest_at}
 use Rattle.layout.specs.Threads.{wider}
 use Rattle.layout.specs.Views.{piece_view, piece_views}
 use Rattle.layout.specs.declared.pieces.Piece as code
+
+or_assoc : (a b c : Bool) → ((a || b) || c) ≡ (a || (b || c))
+or_assoc true b c = refl
+or_assoc false b c = refl
 
 -- one more piece
 align_step : (a : ℕ) (p : Piece) (rest : List Piece) → max (wider a p) (alignment_of is_thread_piece rest) ≡ max a (alignment_of is_thread_piece (p ∷ rest))
@@ -29,6 +34,15 @@ align_more ps i d a b whole within is so_far =
     ap (λ n. max n (alignment_of is_thread_piece (piece_views (drop (i + 1) ps)))) is
     ∙ (align_step a (piece_view (get_or ps i d)) (piece_views (drop (i + 1) ps))
     ∙ (ap (λ (qs : List code.Piece). max a (alignment_of is_thread_piece (piece_views qs))) (sym (rest_at ps i d within)) ∙ so_far))
+
+pub any_more :
+    (ps : List code.Piece) (i : ℕ) (d : code.Piece) (a b whole : Bool) → i < length ps → b ≡ (a || is_thread_piece (piece_view (get_or ps i d))) →
+    (a || list_any is_thread_piece (piece_views (drop i ps))) ≡ whole → (b || list_any is_thread_piece (piece_views (drop (i + 1) ps))) ≡ whole
+any_more ps i d a b whole within is so_far =
+    let rest = list_any is_thread_piece (piece_views (drop (i + 1) ps)) in
+    ap (λ (x : Bool). x || rest) is
+    ∙ (or_assoc a (is_thread_piece (piece_view (get_or ps i d))) rest
+    ∙ (ap (λ (qs : List code.Piece). a || list_any is_thread_piece (piece_views qs)) (sym (rest_at ps i d within)) ∙ so_far))
 
 -- where the pieces of a part begin: below none of their places, and not behind where they end
 pub start_within :

@@ -11,7 +11,7 @@ ghost use Rattle.layout.specs.Views.{borrowed_views, piece_view, piece_views};
 use crate::output_sections::{Part, add_part, groups_of, part_of};
 use crate::pieces::{Piece, Pieces};
 use crate::segments::any_nonempty;
-use crate::threads::{any_thread_piece, thread_align};
+use crate::threads::threads_of;
 use resolve::OutputSections;
 use search::LoadedObject;
 use std::alloc::{AllocError, Global};
@@ -84,6 +84,7 @@ pub fn order_of<'b, 'a>(
     ensures order { IfOk result (λ o. IsOrder o) }
 {
     let groups = groups_of(alloc, outputs, &pieces.kept)?;
+    let threads = threads_of(&pieces.kept);
     let count = pieces.kept.len().saturating_add(pieces.blocks.len());
     Ok(Order {
         objects,
@@ -93,8 +94,8 @@ pub fn order_of<'b, 'a>(
         initial: part_of(alloc, &groups, Part::Initial)?,
         data: data_of(alloc, &groups, pieces)?,
         thread_rest: part_of(alloc, &groups, Part::ThreadRest)?,
-        thread_align: thread_align(&pieces.kept),
-        has_threads: any_thread_piece(&pieces.kept),
+        thread_align: threads.align,
+        has_threads: threads.any,
     })
 }
 

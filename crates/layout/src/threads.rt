@@ -1,5 +1,5 @@
 //! Thread-local storage: how its pieces are aligned, and the program header that says where they stand.
-ghost use Rattle.std.specs.Prelude.{◌≡◌, ◌≤◌, All};
+ghost use Rattle.std.specs.Prelude.{◌≡◌, ◌≤◌, ◌||◌, All};
 ghost use Rattle.std.specs.List.{list_any};
 ghost use Rattle.elf_model.specs.Pieces.{is_thread_piece};
 ghost use Rattle.elf_model.specs.ThreadStorage.{alignment_of};
@@ -13,23 +13,18 @@ use crate::pieces::Piece;
 use crate::runs::Place;
 use elf_model::{PF_R, PT_TLS, ProgramHeader, TlsBlock};
 
+/// The greatest alignment of the thread-local ones among pieces, 1 without any; and whether there are any.
+#[derive(Clone, Copy, Debug)]
+pub struct Threads {
+    pub align: u64,
+    pub any: bool,
+}
+
 /// Whether a piece is thread-local.
 fn is_thread_piece(piece: &Piece<'_>) -> bool
     ensures { result ≡ is_thread_piece (piece_view piece.now) }
 {
     piece.header.is_thread_local()
-}
-
-/// Whether a thread-local piece is among pieces.
-pub fn any_thread_piece(pieces: &[Piece<'_>]) -> bool
-    ensures { result ≡ list_any is_thread_piece (piece_views pieces.now) }
-{
-    for piece in pieces {
-        if is_thread_piece(piece) {
-            return true;
-        }
-    }
-    false
 }
 
 /// The alignment of a thread-local piece, where it is greater than another one.
@@ -44,15 +39,25 @@ fn wider(align: u64, piece: &Piece<'_>) -> u64
     align
 }
 
-/// The greatest alignment of the thread-local ones among pieces; 1 without any.
-pub fn thread_align(pieces: &[Piece<'_>]) -> u64
-    ensures { result ≡ alignment_of is_thread_piece (piece_views pieces.now) }
+/// Whether there was a thread-local piece, or this is one.
+fn any_with(any: bool, piece: &Piece<'_>) -> bool
+    ensures { result ≡ (any || is_thread_piece (piece_view piece.now)) }
+{
+    any || is_thread_piece(piece)
+}
+
+/// The greatest alignment of the thread-local ones among pieces, and whether there are any.
+pub fn threads_of(pieces: &[Piece<'_>]) -> Threads
+    ensures align { result.align ≡ alignment_of is_thread_piece (piece_views pieces.now) }
+    ensures any { result.any ≡ list_any is_thread_piece (piece_views pieces.now) }
 {
     let mut align = 1;
+    let mut any = false;
     for piece in pieces {
         align = wider(align, piece);
+        any = any_with(any, piece);
     }
-    align
+    Threads { align, any }
 }
 
 /// PT_TLS of an image that is mapped from a base on, with pieces at their places, of which the thread-local ones have

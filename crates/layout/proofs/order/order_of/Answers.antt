@@ -16,17 +16,17 @@ returns-clause-order c =
     let groups = c.in_ok-groups.groups.items in
     let is = part_is objects ps c.requires.pieces groups c.deref.result.now c.deref.ensures.value c.in_ok-groups.ensures in
     record {
-      read_only = c.in_ok-part_of.ensures ∙ is part.ReadOnly c.deref-2.result.now c.deref-2.ensures.value;
-      code = c.in_ok-part_of-2.ensures ∙ is part.Code c.deref-3.result.now c.deref-3.ensures.value;
-      initial = c.in_ok-part_of-3.ensures ∙ is part.Initial c.deref-4.result.now c.deref-4.ensures.value;
-      data_ = c.in_ok-data_of.ensures ∙ data_is objects ps c.requires.pieces groups c.deref.result.now c.deref.ensures.value c.in_ok-groups.ensures c.deref-5.result.now c.deref-5.ensures.value;
-      thread_rest = c.in_ok-part_of-4.ensures ∙ is part.ThreadRest c.deref-6.result.now c.deref-6.ensures.value;
+      read_only = c.in_ok-part_of.ensures ∙ is part.ReadOnly c.deref-3.result.now c.deref-3.ensures.value;
+      code = c.in_ok-part_of-2.ensures ∙ is part.Code c.deref-4.result.now c.deref-4.ensures.value;
+      initial = c.in_ok-part_of-3.ensures ∙ is part.Initial c.deref-5.result.now c.deref-5.ensures.value;
+      data_ = c.in_ok-data_of.ensures ∙ data_is objects ps c.requires.pieces groups c.deref.result.now c.deref.ensures.value c.in_ok-groups.ensures c.deref-6.result.now c.deref-6.ensures.value;
+      thread_rest = c.in_ok-part_of-4.ensures ∙ is part.ThreadRest c.deref-7.result.now c.deref-7.ensures.value;
       thread_align =
-          c.thread_align.ensures
-          ∙ (ap (λ (qs : List Piece). alignment_of pieces.is_thread_piece (piece_views qs)) c.deref-7.ensures.value
+          c.threads_of-threads.ensures.align
+          ∙ (ap (λ (qs : List Piece). alignment_of pieces.is_thread_piece (piece_views qs)) c.deref-2.ensures.value
           ∙ ap (alignment_of pieces.is_thread_piece) c.requires.pieces.kept);
       threads =
-          c.any_thread_piece.ensures
-          ∙ (ap (λ (qs : List Piece). list_any pieces.is_thread_piece (piece_views qs)) c.deref-8.ensures.value
+          c.threads_of-threads.ensures.any
+          ∙ (ap (λ (qs : List Piece). list_any pieces.is_thread_piece (piece_views qs)) c.deref-2.ensures.value
           ∙ ap (list_any pieces.is_thread_piece) c.requires.pieces.kept);
     }
