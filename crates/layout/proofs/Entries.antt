@@ -4,13 +4,13 @@ use Rattle.std.specs.Prelude.{Option, Some, None, find, option_map}
 use Rattle.std.specs.Global.{Vec}
 use Rattle.std.specs.List.{slice_get}
 use Rattle.std.specs.Option.{option_and_then}
-use Rattle.std.proofs.lemmas.Bool.{eqb-false, eqb-true}
+use Rattle.std.proofs.lemmas.Bool.{eqb-false, eqb-true, ne_eqb}
 use Rattle.std.proofs.lemmas.List.{append_assoc, get_or-map, length-map}
 use Rattle.elf_model.specs.ObjectFile.{sections}
 use Rattle.elf_model.specs.Placement.{Placed, is_of_section}
 use Rattle.search.specs.Views.{loaded_views}
 use Rattle.search.specs.declared.loaded.LoadedObject as code
-use Rattle.layout.specs.Addresses.{HasEntry, entry, entry_in, section_counts, shape_of}
+use Rattle.layout.specs.Addresses.{HasEntry, entry, entry_in, section_counts, shape_of, told}
 use Rattle.layout.specs.PlaceViews.{place_view, place_views}
 use Rattle.layout.specs.declared.runs.Place.{Place}
 use Rattle.elf_model.proofs.Rests.{rest_at}
@@ -34,60 +34,64 @@ got_within (x ∷ xs) zero d within = refl
 got_within (x ∷ xs) (suc i) d within = got_within xs i d (omega (arith, within))
 
 -- the row and the entry of a section that is there
-pub row_there : (table : List (Vec (Option ℕ))) (object section : ℕ) (d : Vec (Option ℕ)) → HasEntry (shape_of table) object section → (object < length table) × (section < length (get_or table object d).items)
+pub row_there : (table : List (Vec ℕ)) (object section : ℕ) (d : Vec ℕ) → HasEntry (shape_of table) object section → (object < length table) × (section < length (get_or table object d).items)
 row_there table object section d has =
-    let n = length-map table (λ (row : Vec (Option ℕ)). length row.items) in
+    let n = length-map table (λ (row : Vec ℕ). length row.items) in
     let o = has.object_there in
     let within : object < length table = omega (arith, n, o) in
     let at : get_or (shape_of table) object 0 ≡ length (get_or table object d).items =
-    get_or-map (λ (row : Vec (Option ℕ)). length row.items) table object d 0 within in
+    get_or-map (λ (row : Vec ℕ). length row.items) table object d 0 within in
     (within, subst (λ (k : ℕ). section < k) at has.section_there)
+
+-- an address that isn't 0 is told
+told_some : (at : ℕ) → 0 < at → told at ≡ Some at
+told_some at some = ap (λ (b : Bool). cond b None (Some at)) (ne_eqb at 0 (λ e. omega (arith, e, some)))
 
 -- an entry that is written, and the others
 pub put_entry :
-    (table new : List (Vec (Option ℕ))) (object section at : ℕ) (d row : Vec (Option ℕ)) → object < length table →
-    section < length (get_or table object d).items → row.items ≡ set (get_or table object d).items section (Some at) → new ≡ set table object row →
+    (table new : List (Vec ℕ)) (object section at : ℕ) (d row : Vec ℕ) → object < length table →
+    0 < at → section < length (get_or table object d).items → row.items ≡ set (get_or table object d).items section at → new ≡ set table object row →
     (o s : ℕ) → entry new o s ≡ cond {A = Option ℕ} ((object == o) && (section == s)) (Some at) (entry table o s)
-put_entry table new object section at d row within inside written is o s =
-    ap (λ (t : List (Vec (Option ℕ))). entry t o s) is ∙ by (object == o) (section == s) refl refl
+put_entry table new object section at d row within some inside written is o s =
+    ap (λ (t : List (Vec ℕ)). entry t o s) is ∙ by (object == o) (section == s) refl refl
   where
     Row : Type 0
-    Row = Vec (Option ℕ)
+    Row = Vec ℕ
 
     next : List Row
     next = set table object row
 
-    new_row : object ≡ o → entry next o s ≡ entry_in (set (get_or table object d).items section (Some at)) s
+    new_row : object ≡ o → entry next o s ≡ entry_in (set (get_or table object d).items section at) s
     new_row e =
         ap (λ (k : ℕ). entry next k s) (sym e)
         ∙ (ap (λ (g : Option Row). option_and_then (λ r. entry_in r.items s) g) (got_same table object row within)
-        ∙ ap (λ (r : List (Option ℕ)). entry_in r s) written)
+        ∙ ap (λ (r : List ℕ). entry_in r s) written)
 
     old_row : object ≡ o → entry table o s ≡ entry_in (get_or table object d).items s
     old_row e =
         ap (λ (k : ℕ). entry table k s) (sym e)
         ∙ ap (λ (g : Option Row). option_and_then (λ r. entry_in r.items s) g) (got_within table object d within)
 
-    flat : Option (Option ℕ) → Option ℕ
-    flat g = option_and_then (λ e. e) g
+    flat : Option ℕ → Option ℕ
+    flat g = option_and_then told g
 
     by :
         (b c : Bool) → (object == o) ≡ b → (section == s) ≡ c →
         entry next o s ≡ cond {A = Option ℕ} (b && c) (Some at) (entry table o s)
     by true true e f =
         new_row (eqb-true object o e)
-        ∙ (ap (λ (k : ℕ). entry_in (set (get_or table object d).items section (Some at)) k) (sym (eqb-true section s f))
-        ∙ ap flat (got_same (get_or table object d).items section (Some at) inside))
+        ∙ (ap (λ (k : ℕ). entry_in (set (get_or table object d).items section at) k) (sym (eqb-true section s f))
+        ∙ (ap flat (got_same (get_or table object d).items section at inside) ∙ told_some at some))
     by true false e f =
         new_row (eqb-true object o e)
-        ∙ (ap flat (got_other (get_or table object d).items section s (Some at) (eqb-false section s f)) ∙ sym (old_row (eqb-true object o e)))
+        ∙ (ap flat (got_other (get_or table object d).items section s at (eqb-false section s f)) ∙ sym (old_row (eqb-true object o e)))
     by false c e f =
         ap (λ (g : Option Row). option_and_then (λ r. entry_in r.items s) g) (got_other table object o row (eqb-false object o e))
 
 -- rows keep their lengths
 pub put_shape :
-    (table new : List (Vec (Option ℕ))) (object section at : ℕ) (d row : Vec (Option ℕ)) →
-    row.items ≡ set (get_or table object d).items section (Some at) → new ≡ set table object row → shape_of new ≡ shape_of table
+    (table new : List (Vec ℕ)) (object section at : ℕ) (d row : Vec ℕ) →
+    row.items ≡ set (get_or table object d).items section at → new ≡ set table object row → shape_of new ≡ shape_of table
 put_shape table new object section at d row written is = ap shape_of is ∙ same table object written
   where
     kept : {X : Type 0} (xs : List X) (i : ℕ) (x : X) → length (set xs i x) ≡ length xs
@@ -95,14 +99,14 @@ put_shape table new object section at d row written is = ap shape_of is ∙ same
     kept (y ∷ ys) zero x = refl
     kept (y ∷ ys) (suc i) x = ap suc (kept ys i x)
 
-    same : (t : List (Vec (Option ℕ))) (o : ℕ) → row.items ≡ set (get_or t o d).items section (Some at) → shape_of (set t o row) ≡ shape_of t
+    same : (t : List (Vec ℕ)) (o : ℕ) → row.items ≡ set (get_or t o d).items section at → shape_of (set t o row) ≡ shape_of t
     same [] o w = refl
-    same (r ∷ rs) zero w = ap (λ (n : ℕ). n ∷ shape_of rs) (ap (λ (xs : List (Option ℕ)). length xs) w ∙ kept r.items section (Some at))
+    same (r ∷ rs) zero w = ap (λ (n : ℕ). n ∷ shape_of rs) (ap (λ (xs : List ℕ). length xs) w ∙ kept r.items section at)
     same (r ∷ rs) (suc o) w = ap (λ (ns : List ℕ). length r.items ∷ ns) (same rs o w)
 
 -- one more place, in front of those whose addresses are there
 pub entry_more :
-    (places : List Place) (left : ℕ) (d : Place) (old new : List (Vec (Option ℕ))) (o s : ℕ) → left < length places →
+    (places : List Place) (left : ℕ) (d : Place) (old new : List (Vec ℕ)) (o s : ℕ) → left < length places →
     entry new o s ≡ cond {A = Option ℕ} (is_of_section o s (place_view (get_or places left d))) (Some (get_or places left d).at) (entry old o s) →
     entry old o s ≡ option_map (λ q. q.at) (find (is_of_section o s) (place_views (drop (left + 1) places))) →
     entry new o s ≡ option_map (λ q. q.at) (find (is_of_section o s) (place_views (drop left places)))
@@ -121,24 +125,24 @@ entry_more places left d old new o s within put before =
     by false q rest = refl
 
 -- a table without addresses, with one more row
-none_in : (n s : ℕ) → entry_in (replicate n None) s ≡ None
+none_in : (n s : ℕ) → entry_in (replicate n 0) s ≡ None
 none_in zero s = refl
 none_in (suc n) zero = refl
 none_in (suc n) (suc s) = none_in n s
 
 pub empty_more :
-    (table new : List (Vec (Option ℕ))) (row : Vec (Option ℕ)) (n : ℕ) → new ≡ table ++ row ∷ [] → row.items ≡ replicate n None →
+    (table new : List (Vec ℕ)) (row : Vec ℕ) (n : ℕ) → new ≡ table ++ row ∷ [] → row.items ≡ replicate n 0 →
     ((o s : ℕ) → entry table o s ≡ None) → (o s : ℕ) → entry new o s ≡ None
-empty_more table new row n grown empty none o s = ap (λ (t : List (Vec (Option ℕ))). entry t o s) grown ∙ at table o none
+empty_more table new row n grown empty none o s = ap (λ (t : List (Vec ℕ)). entry t o s) grown ∙ at table o none
   where
-    at : (t : List (Vec (Option ℕ))) (k : ℕ) → ((i j : ℕ) → entry t i j ≡ None) → entry (t ++ row ∷ []) k s ≡ None
-    at [] zero h = ap (λ (xs : List (Option ℕ)). entry_in xs s) empty ∙ none_in n s
+    at : (t : List (Vec ℕ)) (k : ℕ) → ((i j : ℕ) → entry t i j ≡ None) → entry (t ++ row ∷ []) k s ≡ None
+    at [] zero h = ap (λ (xs : List ℕ). entry_in xs s) empty ∙ none_in n s
     at [] (suc k) h = refl
     at (r ∷ t) zero h = h 0 s
     at (r ∷ t) (suc k) h = at t k (λ i j. h (suc i) j)
 
 pub shape_more :
-    (table new : List (Vec (Option ℕ))) (n : ℕ) (objects : List code.LoadedObject) (i : ℕ) (d : code.LoadedObject) (whole : List ℕ) →
+    (table new : List (Vec ℕ)) (n : ℕ) (objects : List code.LoadedObject) (i : ℕ) (d : code.LoadedObject) (whole : List ℕ) →
     i < length objects → d ≡ get_or objects i d → shape_of new ≡ shape_of table ++ n ∷ [] → n ≡ length (sections d.object) →
     shape_of table ++ section_counts (loaded_views (drop i objects)) ≡ whole →
     shape_of new ++ section_counts (loaded_views (drop (i + 1) objects)) ≡ whole

@@ -1,5 +1,5 @@
 -- A table of addresses by the numbers of objects and of their sections.
-use Rattle.std.specs.Prelude.{ℕ, ◌<◌, ◌++◌, ◌∷◌, [], List, Option, length, map, slice_index_or}
+use Rattle.std.specs.Prelude.{ℕ, ◌<◌, ◌==◌, ◌++◌, ◌∷◌, [], List, Option, None, Some, cond, length, map, slice_index_or}
 use Rattle.std.specs.Global.{Vec}
 use Rattle.std.specs.List.{slice_get}
 use Rattle.std.specs.Option.{option_and_then}
@@ -7,15 +7,19 @@ use Rattle.elf_model.specs.Loading.{LoadedObject}
 use Rattle.elf_model.specs.ObjectFile.{sections}
 use Rattle.elf_model.specs.Placement.{Placed}
 
--- what a row has for a section, and a table for a section of an object; nothing where either isn't there
-abbrev pub entry_in : List (Option ℕ) → ℕ → Option ℕ
-entry_in row section = option_and_then (λ e. e) (slice_get row section)
+-- the address that an entry tells: none where it is 0
+abbrev pub told : ℕ → Option ℕ
+told n = cond (n == 0) None (Some n)
 
-abbrev pub entry : List (Vec (Option ℕ)) → ℕ → ℕ → Option ℕ
+-- what a row has for a section, and a table for a section of an object; nothing where either isn't there
+abbrev pub entry_in : List ℕ → ℕ → Option ℕ
+entry_in row section = option_and_then told (slice_get row section)
+
+abbrev pub entry : List (Vec ℕ) → ℕ → ℕ → Option ℕ
 entry table object section = option_and_then (λ row. entry_in row.items section) (slice_get table object)
 
 -- how long the rows are, and how many sections the objects have, and so many blocks and the GOT behind them
-abbrev pub shape_of : List (Vec (Option ℕ)) → List ℕ
+abbrev pub shape_of : List (Vec ℕ) → List ℕ
 shape_of table = map (λ row. length row.items) table
 
 abbrev pub section_counts : List LoadedObject → List ℕ

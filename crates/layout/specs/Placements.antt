@@ -16,7 +16,7 @@ pub record Basis : Type 0 where
   pub objects : List LoadedObject
 
 -- the places, how many memory has room for, the segments, the header of thread-local storage, the addresses and the bounds of the own layout
-pub record IsPlacement (base : ℕ) (objects : List LoadedObject) (places : List Placed) (loaded : ℕ) (segments : List ProgramHeader) (header : Option ProgramHeader) (addresses : List (Vec (Option ℕ))) (bounds : Bounds) : Type 0 where
+pub record IsPlacement (base : ℕ) (objects : List LoadedObject) (places : List Placed) (loaded : ℕ) (segments : List ProgramHeader) (header : Option ProgramHeader) (addresses : List (Vec ℕ)) (bounds : Bounds) : Type 0 where
   pub places_are : places ≡ own_placed base objects
   pub loaded_are : loaded ≡ length (own_loaded base objects)
   pub segments_are : segments ≡ own_segments base objects

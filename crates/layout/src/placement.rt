@@ -50,7 +50,7 @@ struct Tables<'a> {
     loaded: usize,
     segments: Vec<ProgramHeader>,
     thread_header: Option<ProgramHeader>,
-    addresses: Vec<Vec<Option<u64>>>,
+    addresses: Vec<Vec<u64>>,
     bounds: Bounds<'a>,
 }
 

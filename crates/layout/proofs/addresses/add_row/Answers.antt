@@ -1,5 +1,4 @@
 use Rattle.std.proofs.Common.{rules, ◌∙◌, ◌++◌, ◌∷◌, [], ℕ, List, ap, length}
-use Rattle.std.specs.Prelude.{None, Option}
 use Rattle.std.specs.Global.{Vec}
 use Rattle.std.proofs.lemmas.List.{length-replicate, map-append}
 use Rattle.layout.specs.Addresses.{shape_of}
@@ -9,9 +8,9 @@ use Rattle.layout.proofs.addresses.add_row.Goals as goal
 pub returns-clause-shape : goal.returns-clause-shape
 returns-clause-shape c =
     ap shape_of c.in_ok-push.ensures.items
-    ∙ map-append (λ (r : Vec (Option ℕ)). length r.items) c.args.table.now.items (c.in_ok-row.row ∷ [])
+    ∙ map-append (λ (r : Vec ℕ). length r.items) c.args.table.now.items (c.in_ok-row.row ∷ [])
     ∙ ap (λ (n : ℕ). shape_of c.args.table.now.items ++ n ∷ [])
-    (ap (λ (row : List (Option ℕ)). length row) (c.in_ok-row.ensures.items_if_clones_equal (λ y k. search rules)) ∙ length-replicate c.args.count None)
+    (ap (λ (row : List ℕ). length row) (c.in_ok-row.ensures.items_if_clones_equal (λ y k. search rules)) ∙ length-replicate c.args.count 0)
 
 pub returns-clause-empty : goal.returns-clause-empty
 returns-clause-empty c =

@@ -1,5 +1,6 @@
-use Rattle.std.proofs.Common.{ℕ, ◌≡◌, ◌∙◌, List, ap, length, subst, sym}
+use Rattle.std.proofs.Common.{ℕ, ◌≡◌, ◌<◌, ◌≤◌, ◌∙◌, arith, List, ap, length, subst, sym}
 use Rattle.std.proofs.lemmas.List.{length-map}
+use Rattle.std.proofs.lemmas.List.Elements.{All-weaker}
 use Rattle.elf_model.specs.Commons.{Block}
 use Rattle.resolve.specs.Blocks.{block_view}
 use Rattle.std.specs.Prelude.{All, find, option_map}
@@ -12,11 +13,21 @@ use Rattle.layout.specs.PieceParts.{AreBounds}
 use Rattle.layout.specs.PlaceViews.{place_views}
 use Rattle.elf_model.proofs.OwnRelation.{are_own_addresses}
 use Rattle.layout.proofs.OwnAddresses.{address_either}
+use Rattle.layout.proofs.OwnThreads.{own_above}
 use Rattle.layout.proofs.PieceEntries.{places_there}
 use Rattle.layout.proofs.placement.tables_of.Goals as goal
 
-pub address_table-requires : goal.address_table-requires
-address_table-requires c =
+pub address_table-requires-clause-some : goal.address_table-requires-clause-some
+address_table-requires-clause-some c =
+    let os = loaded_views c.args.objects.now in
+    let places : place_views c.deref.result.now ≡ own_placed c.args.base os =
+    ap place_views c.deref.ensures.value ∙ c.in_ok-layout.ensures.layout.places in
+    let base = c.requires.base.0 in
+    subst (All (λ q. 0 < q.at)) (sym places)
+    (All-weaker (λ q. c.args.base ≤ q.at) (λ q. 0 < q.at) (λ q low. omega (arith, base, low)) (own_placed c.args.base os) (own_above c.args.base os))
+
+pub address_table-requires-clause-there : goal.address_table-requires-clause-there
+address_table-requires-clause-there c =
     let os = loaded_views c.args.objects.now in
     let places : place_views c.deref.result.now ≡ own_placed c.args.base os =
     ap place_views c.deref.ensures.value ∙ c.in_ok-layout.ensures.layout.places in

@@ -1,5 +1,5 @@
 use Rattle.std.proofs.Common.{◌∙◌, ℕ, ◌<◌, ◌≤◌, List, ap, arith, length, option_map, sym}
-use Rattle.std.specs.Prelude.{Option, find}
+use Rattle.std.specs.Prelude.{find}
 use Rattle.std.specs.Global.{Vec}
 use Rattle.std.proofs.lemmas.List.{length-map}
 use Rattle.elf_model.specs.Loading.{LoadedObject}
@@ -27,7 +27,7 @@ returns c =
     let within = c.if-object-objects.false in
     let low : c.args.section.object.0 ≤ length objects = omega (arith, count, within) in
     c.address_in.ensures
-    ∙ (ap (λ (t : List (Vec (Option ℕ))). entry t c.args.section.object.0 c.args.section.section) c.deref.ensures.value
+    ∙ (ap (λ (t : List (Vec ℕ)). entry t c.args.section.object.0 c.args.section.section) c.deref.ensures.value
     ∙ (c.self.invariant.0.addresses_are c.args.section.object.0 c.args.section.section
     ∙ (object_address c.self.inside.base objects c.args.section.object.0 c.args.section.section low
     ∙ ap (λ (b : Basis). option_map (λ q. q.at) (find (is_of_section c.args.section.object.0 c.args.section.section) (own_in_load_order b.base b.objects))) c.self.view_is)))
