@@ -39,7 +39,7 @@ const EACH_KIND: &[u8] = b"ldmap 1\n\
     drop 1 10\n\
     place 0000000000401000 9 0 1 .text\n\
     place 0000000000401010 18446744073709551615 1 2 \n\
-    common 0000000000403000 24 16 \\x5c\\xff\n\
+    common 0000001200403000 24 16 \\x5c\\xff\n\
     got 0000000000402000 16\n\
     slot 0000000000402000 value name f\n\
     slot 0000000000402008 thread local 1 5\n\
@@ -173,11 +173,26 @@ fn finds_the_first_wrong_line(rt: HostRuntime) {
     }
 }
 
-/// Names, and how a map spells them.
-static SPELLINGS: [(&[u8], &[u8]); 3] = [
+/// Names, and how a map spells them: short ones, and ones of 16 bytes and more, with what doesn't stand for itself at their
+/// beginning, within, at either side of byte 16, and at their end.
+static SPELLINGS: [(&[u8], &[u8]); 11] = [
     (b"a b\\", b"a\\x20b\\x5c"),
     (b".text", b".text"),
     (b"\n\x7f\xc3!~", b"\\x0a\\x7f\\xc3!~"),
+    (b"!bcdefghijklmno~", b"!bcdefghijklmno~"),
+    (b"\\bcdefghijklmnopq", b"\\x5cbcdefghijklmnopq"),
+    (b"abcd\xffefghijklmnop", b"abcd\\xffefghijklmnop"),
+    (b"abcdefghijklmno qrst", b"abcdefghijklmno\\x20qrst"),
+    (b"abcdefghijklmnop\x7frst", b"abcdefghijklmnop\\x7frst"),
+    (b"abcdefghijklmnop\x80", b"abcdefghijklmnop\\x80"),
+    (
+        b"_ZN4llvm12DenseMapBase16getBucketsEndEv\0",
+        b"_ZN4llvm12DenseMapBase16getBucketsEndEv\\x00",
+    ),
+    (
+        b"_ZN4llvm12DenseMapBase16getBuckets\x1fEndEv",
+        b"_ZN4llvm12DenseMapBase16getBuckets\\x1fEndEv",
+    ),
 ];
 
 #[test]
@@ -349,7 +364,7 @@ const LINES: [Line<'static>; 17] = [
         name: b"",
     },
     Line::Common {
-        address: 0x40_3000,
+        address: 0x12_0040_3000,
         size: 24,
         align: 16,
         name: b"\\\xff",
