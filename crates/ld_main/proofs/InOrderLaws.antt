@@ -1,4 +1,4 @@
--- The definitions that have a line, found by the places of their names in order, are those that have one, in order.
+-- The definitions that have a line, found by the positions of their names in order, are those that have one, in order.
 use Rattle.std.proofs.Common.{◌≡◌, ◌∙◌, ℕ, zero, suc, ◌+◌, ◌-◌, ◌<◌, ◌≤◌, ◌==◌, Bool, true, false, cond, List, [], ◌∷◌, ◌++◌, Option, None, Some, get_or, length, map, refl, ap, subst, sym, arith}
 use Rattle.std.specs.Prelude.{All, Contains, IsPermutation, find, is_some, option_map, unwrap_or}
 use Rattle.std.specs.Borrow.{Bor}
@@ -89,7 +89,7 @@ module _ (L : List LoadedObject) where
   chosen_meanings : meanings_of L (chosen_symbols L) ≡ map (own_meaning L) (chosen_symbols L)
   chosen_meanings = each_means (chosen_symbols L) (All-from_contains (λ (s : SymbolOf). is_some (meant L s) ≡ true) (chosen_symbols L) chosen_means)
 
--- the elements of a list at its places
+-- the elements of a list at its positions
 all_places : {X : Type 0} (xs : List X) (d : X) → xs ≡ map (λ p. get_or xs p d) (range_with_len 0 (length xs))
 all_places xs d = fill_by_all (λ p. get_or xs p d) xs (length xs) d refl (λ k within. refl)
 
@@ -144,17 +144,17 @@ module _ (L : List LoadedObject) (found : List code.SymbolOf) (lines : List Mean
       (subst (λ (ms : List Meaning). AreListed L (ms ++ lines)) (chosen_meanings L)
       (joined_listed L (chosen_symbols L) lines (IsPermutation-refl (chosen_symbols L)) of))
 
-  named : (place : ℕ) → get_or held place [] ≡ meaning_name (meaning_at L found lines place)
-  named place = ap (λ (ns : List (List ℕ)). get_or ns place []) (sym names_are) ∙ get_or-seen meaning_name all place (Linker [] ImageStart)
+  named : (position : ℕ) → get_or held position [] ≡ meaning_name (meaning_at L found lines position)
+  named position = ap (λ (ns : List (List ℕ)). get_or ns position []) (sym names_are) ∙ get_or-seen meaning_name all position (Linker [] ImageStart)
 
   pub in_order : (ks : List Keyed) → IsOrderOf held ks → AreInOrder L (meanings_at L found lines ks)
   in_order ks order = record {
     listed = permuted_is_of (listed L) all (meanings_at L found lines ks) moved all_listed;
-    rising = seen_sorted (λ k. meaning_at L found lines k.place) meaning_name ks rising;
+    rising = seen_sorted (λ k. meaning_at L found lines k.position) meaning_name ks rising;
   }
     where
       at : ℕ → Meaning
-      at place = meaning_at L found lines place
+      at position = meaning_at L found lines position
 
       count : length held ≡ length all
       count = ap length (sym names_are) ∙ length-map all meaning_name
@@ -163,28 +163,28 @@ module _ (L : List LoadedObject) (found : List code.SymbolOf) (lines : List Mean
       moved =
           subst (λ (ms : List Meaning). IsPermutation ms (meanings_at L found lines ks)) (sym (all_places all (Linker [] ImageStart)))
           (subst (λ (n : ℕ). IsPermutation (map at (range_with_len 0 n)) (meanings_at L found lines ks)) count
-          (subst (IsPermutation (map at (range_with_len 0 (length held)))) (map-map at (λ k. k.place) ks)
-          (IsPermutation-map at (range_with_len 0 (length held)) (map (λ k. k.place) ks) order.places)))
+          (subst (IsPermutation (map at (range_with_len 0 (length held)))) (map-map at (λ k. k.position) ks)
+          (IsPermutation-map at (range_with_len 0 (length held)) (map (λ k. k.position) ks) order.positions)))
 
-      rising : IsSortedByKey (λ k. meaning_name (at k.place)) (slice_cmp nat_cmp) ks
+      rising : IsSortedByKey (λ k. meaning_name (at k.position)) (slice_cmp nat_cmp) ks
       rising =
-          subst (λ (key : Keyed → List ℕ). IsSortedByKey key (slice_cmp nat_cmp) ks) (λ i k. named k.place i) order.rising
+          subst (λ (key : Keyed → List ℕ). IsSortedByKey key (slice_cmp nat_cmp) ks) (λ i k. named k.position i) order.rising
 
--- what stands at a place
+-- what stands at a position
 pub at_symbol :
-    (L : List LoadedObject) (found : List code.SymbolOf) (lines : List Meaning) (place : ℕ) (d : code.SymbolOf) → place < length found →
-    own_meaning L (symbol_view (get_or found place d)) ≡ meaning_at L found lines place
-at_symbol L [] lines place d within = absurd (omega (arith, within))
+    (L : List LoadedObject) (found : List code.SymbolOf) (lines : List Meaning) (position : ℕ) (d : code.SymbolOf) → position < length found →
+    own_meaning L (symbol_view (get_or found position d)) ≡ meaning_at L found lines position
+at_symbol L [] lines position d within = absurd (omega (arith, within))
 at_symbol L (t ∷ found) lines zero d within = refl
-at_symbol L (t ∷ found) lines (suc place) d within = at_symbol L found lines place d (omega (arith, within))
+at_symbol L (t ∷ found) lines (suc position) d within = at_symbol L found lines position d (omega (arith, within))
 
 pub at_line :
-    (L : List LoadedObject) (found : List code.SymbolOf) (lines : List Meaning) (place : ℕ) → length found ≤ place →
-    get_or lines (place - length found) (Linker [] ImageStart) ≡ meaning_at L found lines place
-at_line L [] lines place behind = ap (λ (p : ℕ). get_or lines p (Linker [] ImageStart)) (omega arith)
+    (L : List LoadedObject) (found : List code.SymbolOf) (lines : List Meaning) (position : ℕ) → length found ≤ position →
+    get_or lines (position - length found) (Linker [] ImageStart) ≡ meaning_at L found lines position
+at_line L [] lines position behind = ap (λ (p : ℕ). get_or lines p (Linker [] ImageStart)) (omega arith)
 at_line L (t ∷ found) lines zero behind = absurd (omega (arith, behind))
-at_line L (t ∷ found) lines (suc place) behind =
-    ap (λ (p : ℕ). get_or lines p (Linker [] ImageStart)) (omega arith) ∙ at_line L found lines place (omega (arith, behind))
+at_line L (t ∷ found) lines (suc position) behind =
+    ap (λ (p : ℕ). get_or lines p (Linker [] ImageStart)) (omega arith) ∙ at_line L found lines position (omega (arith, behind))
 
 -- the names of symbols and of lines
 pub held_are : (n : Names) → map (λ s. s.name.now) n.symbols.now ++ map meaning_name (line_views n.linkers.now) ≡ held_names n
@@ -215,17 +215,17 @@ module _ (L : List LoadedObject) (none : blocks L ≡ []) (base : ℕ) (objects 
       by false named = refl
       by true named = ap (λ (o : Option Block). common_rows_of base objects (unwrap_or (option_map Common o) (Symbol s))) named
 
-  row_at : (found : List code.SymbolOf) (lines : List (Bor (List ℕ) × Bound)) (place : ℕ) → common_rows_of base objects (meaning_at L found (line_views lines) place) ≡ []
-  row_at [] [] place = refl
+  row_at : (found : List code.SymbolOf) (lines : List (Bor (List ℕ) × Bound)) (position : ℕ) → common_rows_of base objects (meaning_at L found (line_views lines) position) ≡ []
+  row_at [] [] position = refl
   row_at [] (l ∷ lines) zero = refl
-  row_at [] (l ∷ lines) (suc place) = row_at [] lines place
+  row_at [] (l ∷ lines) (suc position) = row_at [] lines position
   row_at (s ∷ found) lines zero = no_row (symbol_view s)
-  row_at (s ∷ found) lines (suc place) = row_at found lines place
+  row_at (s ∷ found) lines (suc position) = row_at found lines position
 
   pub no_commons : (found : List code.SymbolOf) (lines : List (Bor (List ℕ) × Bound)) (ks : List Keyed) → own_commons base objects (meanings_at L found (line_views lines) ks) ≡ []
   no_commons found lines [] = refl
   no_commons found lines (k ∷ ks) =
-      ap (λ (rows : List CommonRow). rows ++ own_commons base objects (meanings_at L found (line_views lines) ks)) (row_at found lines k.place)
+      ap (λ (rows : List CommonRow). rows ++ own_commons base objects (meanings_at L found (line_views lines) ks)) (row_at found lines k.position)
       ∙ no_commons found lines ks
 
 pub no_blocks : (bs : List held.Block) → (length bs == 0) ≡ true → block_views bs ≡ []

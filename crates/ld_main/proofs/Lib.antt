@@ -1,5 +1,6 @@
 pub mod DropLines
 pub mod Values
+pub mod Behind
 pub mod OwnCommons
 pub mod OwnMaps
 pub mod OwnTexts

@@ -1,5 +1,5 @@
 -- What numbers that are made of the first bytes of two names say of the order of the names.
-use Rattle.std.proofs.Common.{◌≡◌, ◌∙◌, ℕ, zero, suc, ◌+◌, ◌*◌, ◌^◌, ◌<◌, ◌≤◌, Bool, Option, None, Some, List, [], ◌∷◌, ◌++◌, drop, get_or, map, pow-suc, refl, sym, ap, subst, arith}
+use Rattle.std.proofs.Common.{◌≡◌, ◌∙◌, ℕ, zero, suc, ◌+◌, ◌*◌, ◌^◌, ◌<◌, ◌≤◌, Bool, Option, None, Some, List, [], ◌∷◌, ◌++◌, drop, get_or, length, map, pow-suc, refl, sym, take, ap, subst, arith}
 use Rattle.std.specs.Prelude.{All, IsPermutation, slice_get}
 use Rattle.std.specs.List.{range_with_len}
 use Rattle.std.specs.List.Sorted.{IsSortedBy, IsSortedByKey}
@@ -131,6 +131,19 @@ digit_small xs i all = by (slice_get xs i) (λ b is. All-at (λ b. b < 256) xs i
     by None each = omega arith
     by (Some b) each = let s = each b refl in omega (arith, s)
 
+-- a byte that is there as a digit
+pub digit_at : (xs : List ℕ) (i d : ℕ) → i < length xs → digit (slice_get xs i) ≡ get_or xs i d + 1
+digit_at [] i d within = absurd (omega (arith, within))
+digit_at (x ∷ xs) zero d within = refl
+digit_at (x ∷ xs) (suc i) d within = digit_at xs i d (omega (arith, within))
+
+-- a number is made of as many bytes
+pub key_of_front : (n : ℕ) (xs : List ℕ) → key_with n (take n xs) ≡ key_with n xs
+unfolding key_with
+key_of_front zero xs = refl
+key_of_front (suc n) [] = refl
+key_of_front (suc n) (x ∷ xs) = ap (λ (k : ℕ). (x + 1) * 257 ^ n + k) (key_of_front n xs)
+
 pub range_more : (n : ℕ) → range_with_len 0 (n + 1) ≡ range_with_len 0 n ++ n ∷ []
 range_more n =
     sym (map-id (range_with_len 0 (n + 1)))
@@ -158,17 +171,17 @@ spelled_order xs ys ax ay =
 
 -- keys are in the order of their names
 module _ (n : Names) where
-  same_order : (j k : Keyed) → IsKeyed (name_of n j.place) j → IsKeyed (name_of n k.place) k → slice_cmp nat_cmp (key_list n j) (key_list n k) ≡ slice_cmp nat_cmp (name_of n j.place) (name_of n k.place)
+  same_order : (j k : Keyed) → IsKeyed (name_of n j.position) j → IsKeyed (name_of n k.position) k → slice_cmp nat_cmp (key_list n j) (key_list n k) ≡ slice_cmp nat_cmp (name_of n j.position) (name_of n k.position)
   same_order j k a b =
-      ap (λ (us : List ℕ). slice_cmp nat_cmp us (key_list n k)) (spelled_is (name_of n j.place) j a)
-      ∙ ap (λ (vs : List ℕ). slice_cmp nat_cmp (spelled (name_of n j.place)) vs) (spelled_is (name_of n k.place) k b)
-      ∙ spelled_order (name_of n j.place) (name_of n k.place) a.bytes b.bytes
+      ap (λ (us : List ℕ). slice_cmp nat_cmp us (key_list n k)) (spelled_is (name_of n j.position) j a)
+      ∙ ap (λ (vs : List ℕ). slice_cmp nat_cmp (spelled (name_of n j.position)) vs) (spelled_is (name_of n k.position) k b)
+      ∙ spelled_order (name_of n j.position) (name_of n k.position) a.bytes b.bytes
 
   pub order_of : (ks js : List Keyed) → AreKeyed n ks → IsPermutation ks js → IsSortedByKey (key_list n) (slice_cmp nat_cmp) js → IsOrderOf (held_names n) js
   order_of ks js are moved up = record {
-    places = subst (λ (ps : List ℕ). IsPermutation ps (map (λ k. k.place) js)) are.places (IsPermutation-map (λ k. k.place) ks js moved);
+    positions = subst (λ (ps : List ℕ). IsPermutation ps (map (λ k. k.position) js)) are.positions (IsPermutation-map (λ k. k.position) ks js moved);
     rising = λ k d low within.
-        let each : All (λ k. IsKeyed (name_of n k.place) k) js = All-permutation (λ (k : Keyed). IsKeyed (name_of n k.place) k) ks js moved are.keys in
+        let each : All (λ k. IsKeyed (name_of n k.position) k) js = All-permutation (λ (k : Keyed). IsKeyed (name_of n k.position) k) ks js moved are.keys in
         sym (ap is_lt (same_order (get_or js (k + 1) d) (get_or js k d) (each (k + 1) d within) (each k d (omega (arith, within)))))
         ∙ up k d low within;
   }
@@ -186,9 +199,9 @@ sorted_by_list {g = g} {f = f} n ks up calls =
     (λ a r f' k. (ap is_lt (calls a r f' k).0, (calls a r f' k).1)))
 
 -- one more key
-pub more_keys : (n : Names) (ks : List Keyed) (i : ℕ) (k : Keyed) → map (λ k. k.place) ks ≡ range_with_len 0 i → k.place ≡ i → map (λ k. k.place) (ks ++ k ∷ []) ≡ range_with_len 0 (i + 1)
+pub more_keys : (n : Names) (ks : List Keyed) (i : ℕ) (k : Keyed) → map (λ k. k.position) ks ≡ range_with_len 0 i → k.position ≡ i → map (λ k. k.position) (ks ++ k ∷ []) ≡ range_with_len 0 (i + 1)
 more_keys n ks i k are is =
-    map-append (λ k. k.place) ks (k ∷ [])
-    ∙ ap (λ (ps : List ℕ). ps ++ k.place ∷ []) are
+    map-append (λ k. k.position) ks (k ∷ [])
+    ∙ ap (λ (ps : List ℕ). ps ++ k.position ∷ []) are
     ∙ ap (λ (p : ℕ). range_with_len 0 i ++ p ∷ []) is
     ∙ sym (range_more i)

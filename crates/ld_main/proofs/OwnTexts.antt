@@ -1,6 +1,7 @@
 -- The text of a link's own map, list by list, and batch by batch.
-use Rattle.std.proofs.Common.{◌≡◌, ◌∙◌, ℕ, Bool, true, false, List, [], ◌∷◌, ◌++◌, ap, append_assoc, codes, drop, map, refl, sym, take}
+use Rattle.std.proofs.Common.{◌≡◌, ◌∙◌, ℕ, Bool, true, false, List, [], ◌∷◌, ◌++◌, ap, append_assoc, codes, drop, map, refl, subst, sym, take}
 use Rattle.std.specs.Prelude.{Option, None, Some, option_map, option_to_list}
+use Rattle.std.specs.Io.KnownBytes.{Appends}
 use Rattle.std.specs.List.{flat_map}
 use Rattle.std.proofs.lemmas.List.{map-append, take-append-drop}
 use Rattle.std.proofs.lemmas.List.Concat.{flat_map-append}
@@ -18,6 +19,7 @@ use Rattle.layout.specs.Placements.{Basis}
 use Rattle.image_write.specs.CommonRows.{common_rows_of, own_commons}
 use Rattle.image_write.specs.Maps.{own_record, own_row, own_symtab}
 use Rattle.image_write.specs.Tables.{HasTable, line_of}
+use Rattle.ld_main.proofs.Behind.{both_put}
 use Rattle.image_write.specs.declared.symbol_table.SymbolTable.{SymbolTable}
 
 flat_map-map : {X Y : Type 0} (f : Y → List ℕ) (v : X → Y) (xs : List X) → flat_map f (map v xs) ≡ flat_map (λ x. f (v x)) xs
@@ -45,22 +47,16 @@ pub text_is : (m : MapRecord) → text m ≡ printed m
 unfolding body
 text_is m = ap (λ (w : List ℕ). version_text m.version ++ w) (simp (append_assoc, part))
 
--- lines put behind a text
-pub put_behind : (old new end more rest : List ℕ) → new ≡ old ++ more → end ≡ new ++ rest → end ≡ old ++ (more ++ rest)
-put_behind old new end more rest e h = h ∙ ap (λ (w : List ℕ). w ++ rest) e ∙ append_assoc old more rest
-
--- a batch put behind a text, and what is left
-pub batch_put :
-    {K : Type 0} (at : K → Meaning) (spell : List Meaning → List ℕ) (keys : List K) (n : ℕ) (ms : List Meaning) (old new whole : List ℕ) →
-    ((xs ys : List Meaning) → spell (xs ++ ys) ≡ spell xs ++ spell ys) → old ++ spell (map at keys) ≡ whole → ms ≡ map at (take n keys) →
-    new ≡ old ++ spell ms → new ++ spell (map at (drop n keys)) ≡ whole
-batch_put {K} at spell keys n ms old new whole joins before batch put =
-    ap (λ (w : List ℕ). w ++ spell (map at (drop n keys))) (put ∙ ap (λ (xs : List Meaning). old ++ spell xs) batch)
-    ∙ append_assoc old (spell (map at (take n keys))) (spell (map at (drop n keys)))
-    ∙ ap (λ (w : List ℕ). old ++ w)
-    (sym (joins (map at (take n keys)) (map at (drop n keys)))
-    ∙ ap spell (sym (map-append at (take n keys) (drop n keys)) ∙ ap (map at) (take-append-drop n keys)))
-    ∙ before
+-- the lines of a batch, and of what is left
+pub batch_is :
+    {K : Type 0} (at : K → Meaning) (spell : List Meaning → List ℕ) (keys : List K) (n : ℕ) (ms : List Meaning) →
+    ((xs ys : List Meaning) → spell (xs ++ ys) ≡ spell xs ++ spell ys) → ms ≡ map at (take n keys) →
+    spell (map at keys) ≡ spell ms ++ spell (map at (drop n keys))
+batch_is {K} at spell keys n ms joins batch =
+    ap (λ (ks : List K). spell (map at ks)) (sym (take-append-drop n keys))
+    ∙ ap spell (map-append at (take n keys) (drop n keys))
+    ∙ joins (map at (take n keys)) (map at (drop n keys))
+    ∙ ap (λ (xs : List Meaning). spell xs ++ spell (map at (drop n keys))) (sym batch)
 
 -- the lines of the common blocks among definitions, and those of the definitions
 pub commons_join :
@@ -117,21 +113,21 @@ own_text_is b strip ms os line e f =
 
 -- the lines put behind a text, one kind after the other
 pub lines_put :
-    (b : Basis) (strip : Bool) (ms : List Meaning) (os : List LoadedObject) (line : Option SymtabLine) (a c d e f g h i j k l : List ℕ) →
+    (b : Basis) (strip : Bool) (ms : List Meaning) (os : List LoadedObject) (line : Option SymtabLine) (a c d e f g h i j k l : Option (List ℕ)) →
     os ≡ b.objects → line ≡ own_symtab b strip ms →
-    c ≡ a ++ version_text 2 → d ≡ c ++ flat_map object_text (object_rows 0 os) → e ≡ d ++ flat_map drop_text (drop_rows 0 os) →
-    f ≡ e ++ flat_map place_text (map (own_row b) (kept_sections os)) → g ≡ f ++ flat_map common_text (own_commons b.base b.objects ms) →
-    h ≡ g ++ flat_map got_text (option_to_list (own_got b.base b.objects)) → i ≡ h ++ flat_map slot_text (own_slots b.base b.objects) →
-    j ≡ i ++ flat_map symbol_text (map (symbol_row_of (own_where b.base b.objects)) ms) → k ≡ j ++ flat_map symtab_text (option_to_list line) →
-    l ≡ k ++ codes "end\n" → l ≡ a ++ text (own_record b strip ms)
+    Appends a c (version_text 2) → Appends c d (flat_map object_text (object_rows 0 os)) → Appends d e (flat_map drop_text (drop_rows 0 os)) →
+    Appends e f (flat_map place_text (map (own_row b) (kept_sections os))) → Appends f g (flat_map common_text (own_commons b.base b.objects ms)) →
+    Appends g h (flat_map got_text (option_to_list (own_got b.base b.objects))) → Appends h i (flat_map slot_text (own_slots b.base b.objects)) →
+    Appends i j (flat_map symbol_text (map (symbol_row_of (own_where b.base b.objects)) ms)) → Appends j k (flat_map symtab_text (option_to_list line)) →
+    Appends k l (codes "end\n") → Appends a l (text (own_record b strip ms))
 lines_put b strip ms os line a c d e f g h i j k l same table version objects drops places commons got slots symbols symtab end =
-    put_behind a c l (version_text 2) _ version
-    (put_behind c d l (flat_map object_text (object_rows 0 os)) _ objects
-    (put_behind d e l (flat_map drop_text (drop_rows 0 os)) _ drops
-    (put_behind e f l (flat_map place_text (map (own_row b) (kept_sections os))) _ places
-    (put_behind f g l (flat_map common_text (own_commons b.base b.objects ms)) _ commons
-    (put_behind g h l (flat_map got_text (option_to_list (own_got b.base b.objects))) _ got
-    (put_behind h i l (flat_map slot_text (own_slots b.base b.objects)) _ slots
-    (put_behind i j l (flat_map symbol_text (map (symbol_row_of (own_where b.base b.objects)) ms)) _ symbols
-    (put_behind j k l (flat_map symtab_text (option_to_list line)) (codes "end\n") symtab end))))))))
-    ∙ ap (λ (w : List ℕ). a ++ w) (own_text_is b strip ms os line same table)
+    subst (Appends a l) (own_text_is b strip ms os line same table)
+    (both_put a c l (version_text 2) _ version
+    (both_put c d l (flat_map object_text (object_rows 0 os)) _ objects
+    (both_put d e l (flat_map drop_text (drop_rows 0 os)) _ drops
+    (both_put e f l (flat_map place_text (map (own_row b) (kept_sections os))) _ places
+    (both_put f g l (flat_map common_text (own_commons b.base b.objects ms)) _ commons
+    (both_put g h l (flat_map got_text (option_to_list (own_got b.base b.objects))) _ got
+    (both_put h i l (flat_map slot_text (own_slots b.base b.objects)) _ slots
+    (both_put i j l (flat_map symbol_text (map (symbol_row_of (own_where b.base b.objects)) ms)) _ symbols
+    (both_put j k l (flat_map symtab_text (option_to_list line)) (codes "end\n") symtab end)))))))))

@@ -1,4 +1,4 @@
--- The definitions that have a line, in the order of their names: found by the places of the names.
+-- The definitions that have a line, in the order of their names: found by the positions of the names.
 use Rattle.std.specs.Prelude.{◌≡◌, ℕ, List, [], ◌++◌, map, slice_index_or, unwrap_or}
 use Rattle.std.specs.Cmp.Lexicographic.{slice_cmp}
 use Rattle.std.specs.List.Sorted.{IsSortedByKey}
@@ -23,12 +23,12 @@ own_meaning objects s = unwrap_or (meant objects s) (Symbol s)
 abbrev pub all_meanings : List LoadedObject → List code.SymbolOf → List Meaning → List Meaning
 all_meanings objects symbols lines = map (own_meaning objects) (symbol_views symbols) ++ lines
 
--- what has its name at a place; the name behind the last is empty
+-- what has its name at a position; the name behind the last is empty
 abbrev pub meaning_at : List LoadedObject → List code.SymbolOf → List Meaning → ℕ → Meaning
-meaning_at objects symbols lines place = slice_index_or (all_meanings objects symbols lines) place (Linker [] ImageStart)
+meaning_at objects symbols lines position = slice_index_or (all_meanings objects symbols lines) position (Linker [] ImageStart)
 
 abbrev pub meanings_at : List LoadedObject → List code.SymbolOf → List Meaning → List Keyed → List Meaning
-meanings_at objects symbols lines ks = map (λ k. meaning_at objects symbols lines k.place) ks
+meanings_at objects symbols lines ks = map (λ k. meaning_at objects symbols lines k.position) ks
 
 -- all that have a line, in the order of their names
 pub record AreInOrder (objects : List LoadedObject) (ms : List Meaning) : Type 0 where

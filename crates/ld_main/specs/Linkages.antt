@@ -2,6 +2,7 @@
 use Rattle.std.specs.Prelude.{◌≡◌, ℕ, ◌^◌, ◌<◌, Bool, false, true, List, Option, None, Some, map}
 use Rattle.std.specs.Borrow.{Bor}
 use Rattle.std.specs.Global.{Vec}
+use Rattle.std.specs.Io.KnownBytes.{Appends}
 use Rattle.elf_model.specs.Causes.{IsLinkable}
 use Rattle.elf_model.specs.Command.{IsBase}
 use Rattle.elf_model.specs.Files.{File}
@@ -44,6 +45,10 @@ pub record IsOwnText (l : Linked) (text : List ℕ) : Type 0 where
   pub own_map : IsOwnMap l.plan.base l.objects l.plan.strip record_of
   pub is_map : IsMap record_of
   pub spelled : text ≡ map_text.text record_of
+
+-- the text of a link's own map was put behind what is told
+abbrev pub PutsOwnText : Linked → Option (List ℕ) → Option (List ℕ) → Type 0
+PutsOwnText l old new = (text : List ℕ) × IsOwnText l text × Appends old new text
 
 -- the text of a link's own map, which with the link's own image is a right link of files by words
 pub record HasOwnLink (files : List File) (words : List (List ℕ)) (l : Linked) : Type 0 where

@@ -7,12 +7,12 @@ use Rattle.std.specs.Ordering.{nat_cmp}
 use Rattle.ld_main.specs.declared.name_order.Keyed.{Keyed}
 use Rattle.ld_main.specs.declared.name_order.Names.{Names}
 
--- the names, each at its place
+-- the names, each at its position
 abbrev pub held_names : Names → List (List ℕ)
 held_names n = map (λ s. s.name.now) n.symbols.now ++ map (λ l. l.0.now) n.linkers.now
 
 abbrev pub name_of : Names → ℕ → List ℕ
-name_of n place = slice_index_or (held_names n) place []
+name_of n position = slice_index_or (held_names n) position []
 
 -- a byte as a digit of a number to the base of 257, so that no byte at all is less than each byte
 abbrev pub digit : Option ℕ → ℕ
@@ -41,14 +41,14 @@ pub record IsKeyed (name : List ℕ) (k : Keyed) : Type 0 where
 
 -- what is compared of a name: its numbers, then the bytes behind
 abbrev pub key_list : Names → Keyed → List ℕ
-key_list n k = k.first ∷ (k.second ∷ (k.third ∷ rest_of (name_of n k.place)))
+key_list n k = k.first ∷ (k.second ∷ (k.third ∷ rest_of (name_of n k.position)))
 
--- all places of names, with their numbers
+-- all positions of names, with their numbers
 pub record AreKeyed (n : Names) (ks : List Keyed) : Type 0 where
-  pub places : map (λ k. k.place) ks ≡ range_with_len 0 (length (held_names n))
-  pub keys : All (λ k. IsKeyed (name_of n k.place) k) ks
+  pub positions : map (λ k. k.position) ks ≡ range_with_len 0 (length (held_names n))
+  pub keys : All (λ k. IsKeyed (name_of n k.position) k) ks
 
--- all places of names in the order of the names
+-- all positions of names in the order of the names
 pub record IsOrderOf (names : List (List ℕ)) (ks : List Keyed) : Type 0 where
-  pub places : IsPermutation (range_with_len 0 (length names)) (map (λ k. k.place) ks)
-  pub rising : IsSortedByKey (λ k. slice_index_or names k.place []) (slice_cmp nat_cmp) ks
+  pub positions : IsPermutation (range_with_len 0 (length names)) (map (λ k. k.position) ks)
+  pub rising : IsSortedByKey (λ k. slice_index_or names k.position []) (slice_cmp nat_cmp) ks

@@ -4,7 +4,7 @@ use Rattle.std.specs.Fmt.{decimal}
 use Rattle.std.specs.Path.{path_with_file_name}
 use Rattle.elf_model.specs.Files.{File}
 use Rattle.image_write.specs.Linkages.{Linked}
-use Rattle.ld_main.specs.Linkages.{HasOwnLink, IsOwnText}
+use Rattle.ld_main.specs.Linkages.{HasOwnLink}
 use Rattle.ld_main.specs.declared.file_id.FileId.{FileId}
 use Rattle.ld_main.specs.declared.file_id.OutputPath.{OutputPath}
 use Rattle.ld_main.specs.declared.new_file.Content.{Content}
@@ -36,7 +36,7 @@ Tells path id told output = IsRead output path id × (output.path.now ≡ told)
 abbrev pub IsSomeLink : Linked → Type 0
 IsSomeLink l = (files : List File) × (words : List (List ℕ)) × HasOwnLink files words l
 
--- what is written is the image of a right link, or the text of its map
+-- what is written is the image or the map of a right link
 abbrev pub IsOfLink : Content → Type 0
 IsOfLink (content.Image l) = IsSomeLink l.now
-IsOfLink (content.Map text) = (l : Linked) × IsSomeLink l × IsOwnText l text.now
+IsOfLink (content.Map l) = IsSomeLink l.now

@@ -6,6 +6,7 @@ mod command_line;
 mod file_id;
 mod file_sink;
 mod file_source;
+mod line_sink;
 mod listed_definitions;
 mod name_order;
 mod new_file;

@@ -37,20 +37,20 @@ fn linker_at<'a>(linkers: &[(&'a [u8], Bound)], i: usize) -> Definition<'a>
     }
 }
 
-/// What has its name at a place.
-fn definition_at<'a>(resolved: &Resolved<'a>, names: Names<'_, 'a>, place: usize) -> Definition<'a>
+/// What has its name at a position.
+fn definition_at<'a>(resolved: &Resolved<'a>, names: Names<'_, 'a>, position: usize) -> Definition<'a>
     ensures { meaning_view result
         ≡ meaning_at resolved.now names.entry.symbols.now
-        (line_views names.entry.linkers.now) place }
+        (line_views names.entry.linkers.now) position }
 {
     let count = names.symbols.len();
-    if place < count {
-        return meant(resolved, &names.symbols[place]);
+    if position < count {
+        return meant(resolved, &names.symbols[position]);
     }
-    linker_at(names.linkers, place - count)
+    linker_at(names.linkers, position - count)
 }
 
-/// The definitions that have a line, found by the places of their names in order.
+/// The definitions that have a line, found by the positions of their names in order.
 #[derive(Drop)]
 pub struct InOrder<'c, 'a> {
     resolved: &'c Resolved<'a>,
@@ -82,7 +82,7 @@ pub fn in_order<'c, 'a>(
 }
 
 impl<'c, 'a> InOrder<'c, 'a> {
-    /// The places of their names.
+    /// The positions of their names.
     pub fn keys(&self) -> &[Keyed]
         ensures { result.now ≡ self.now.keys.items }
     {
@@ -96,7 +96,7 @@ impl<'c, 'a> InOrder<'c, 'a> {
         self.resolved.blocks().is_empty()
     }
 
-    /// Adds those that have their names at places.
+    /// Adds those that have their names at positions.
     pub fn add_definitions(
         &self,
         listed: &mut Vec<Definition<'a>>,
@@ -108,7 +108,7 @@ impl<'c, 'a> InOrder<'c, 'a> {
             (line_views self.now.names.linkers.now) keys.now) }
     {
         for key in keys {
-            listed.push(definition_at(self.resolved, self.names, key.place))?;
+            listed.push(definition_at(self.resolved, self.names, key.position))?;
         }
         Ok(())
     }

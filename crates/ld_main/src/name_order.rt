@@ -11,34 +11,34 @@ use resolve::SymbolOf;
 use std::alloc::{AllocError, Global};
 use std::cmp::Ordering;
 
-/// What has a name: symbols, and behind them names of the linker's. Each has a place among them, from 0.
+/// What has a name: symbols, and behind them names of the linker's. Each has a position among them, from 0.
 #[derive(Clone, Copy)]
 pub struct Names<'c, 'a> {
     pub symbols: &'c [SymbolOf<'a>],
     pub linkers: &'c [(&'a [u8], Bound)],
 }
 
-/// The place of a name, with three numbers that are made of its first 21 bytes.
+/// The position of a name, with three numbers that are made of its first 21 bytes.
 #[derive(Clone, Copy, Debug)]
 pub struct Keyed {
     first: u64,
     second: u64,
     third: u64,
-    pub place: usize,
+    pub position: usize,
 }
 
 /// How many bytes of a name a number is made of.
 const DIGITS: usize = 7;
 
-/// The name at a place; an empty one behind the last.
-fn name_at<'a>(names: Names<'_, 'a>, place: usize) -> &'a [u8]
-    ensures { result.now ≡ name_of names.entry place }
+/// The name at a position; an empty one behind the last.
+fn name_at<'a>(names: Names<'_, 'a>, position: usize) -> &'a [u8]
+    ensures { result.now ≡ name_of names.entry position }
 {
     let count = names.symbols.len();
-    if place < count {
-        return names.symbols[place].name;
+    if position < count {
+        return names.symbols[position].name;
     }
-    match names.linkers.get(place - count) {
+    match names.linkers.get(position - count) {
         Some((name, _)) => name,
         None => &[],
     }
@@ -58,10 +58,9 @@ fn show_bytes(name: &[u8])
     ensures { All (λ b. b < 256) name.now }
 {}
 
-/// The first bytes of a name as a number.
-fn key(name: &[u8]) -> u64
-    ensures key { result ≡ name_key name.now }
-    ensures bytes { All (λ b. b < 256) name.now }
+/// The first bytes of a name, which may be fewer than a number is made of, as a number.
+fn short_key(name: &[u8]) -> u64
+    ensures { result ≡ name_key name.now }
 {
     show_bytes(name);
     let mut key = 0;
@@ -69,6 +68,30 @@ fn key(name: &[u8]) -> u64
         key = key * 257 + digit(name, i);
     }
     key
+}
+
+/// As many bytes as a number is made of as that number.
+fn whole_key(bytes: &[u8; DIGITS]) -> u64
+    ensures { result ≡ name_key bytes.now }
+{
+    show_bytes(bytes);
+    let mut key = 0;
+    for byte in bytes {
+        key = key * 257 + (u64::from(*byte) + 1);
+    }
+    key
+}
+
+/// The first bytes of a name as a number.
+fn key(name: &[u8]) -> u64
+    ensures key { result ≡ name_key name.now }
+    ensures bytes { All (λ b. b < 256) name.now }
+{
+    show_bytes(name);
+    match name.split_first_chunk::<DIGITS>() {
+        Some((front, _)) => whole_key(front),
+        None => short_key(name),
+    }
 }
 
 /// The bytes of a name behind those that a number is made of.
@@ -89,9 +112,9 @@ fn rest(name: &[u8]) -> &[u8]
     behind(behind(behind(name)))
 }
 
-/// A name at a place, with its numbers.
-fn with_keys(name: &[u8], place: usize) -> Keyed
-    ensures place { result.place ≡ place }
+/// A name at a position, with its numbers.
+fn with_keys(name: &[u8], position: usize) -> Keyed
+    ensures position { result.position ≡ position }
     ensures keys { IsKeyed name.now result }
 {
     let second = behind(name);
@@ -99,7 +122,7 @@ fn with_keys(name: &[u8], place: usize) -> Keyed
         first: key(name),
         second: key(second),
         third: key(behind(second)),
-        place,
+        position,
     }
 }
 
@@ -116,26 +139,26 @@ fn compare(names: Names<'_, '_>, a: &Keyed, b: &Keyed) -> Ordering
     if a.third != b.third {
         return a.third.cmp(&b.third);
     }
-    rest(name_at(names, a.place)).cmp(&rest(name_at(names, b.place)))
+    rest(name_at(names, a.position)).cmp(&rest(name_at(names, b.position)))
 }
 
-/// The places of names, with their numbers.
-fn places(alloc: Global, names: Names<'_, '_>) -> Result<Vec<Keyed>, AllocError>
+/// The positions of names, with their numbers.
+fn positions(alloc: Global, names: Names<'_, '_>) -> Result<Vec<Keyed>, AllocError>
     ensures { IfOk result (λ v. AreKeyed names.entry v.items) }
 {
     let count = names.symbols.len() + names.linkers.len();
     let mut keys = Vec::with_capacity(alloc, count)?;
-    for place in 0..count {
-        keys.push(with_keys(name_at(names, place), place))?;
+    for position in 0..count {
+        keys.push(with_keys(name_at(names, position), position))?;
     }
     Ok(keys)
 }
 
-/// The places of names in the order of the names.
+/// The positions of names in the order of the names.
 pub fn order(alloc: Global, names: Names<'_, '_>) -> Result<Vec<Keyed>, AllocError>
     ensures { IfOk result (λ v. IsOrderOf (held_names names.entry) v.items) }
 {
-    let mut keys = places(alloc, names)?;
+    let mut keys = positions(alloc, names)?;
     keys.sort_unstable_by(|a, b| compare(names, a, b));
     Ok(keys)
 }

@@ -4,6 +4,8 @@ ghost use Rattle.std.specs.Path.{path_buf_bytes};
 ghost use Rattle.ld_main.specs.NewFiles.{IsBeside, IsOfLink, IsSomeLink, beside};
 
 use crate::file_sink::FileSink;
+use crate::line_sink::LineFile;
+use crate::own_text::write_map;
 use crate::real_files::make_executable;
 use crate::sparse::SparseFile;
 use image_write::{Linkage, WriteFault, write_image};
@@ -84,7 +86,7 @@ fn create_beside<R: Files + AllocGlobal + RandomSource>(
 #[derive(Clone, Copy)]
 pub enum Content<'c, 'a> {
     Image(&'c Linkage<'a>),
-    Map(&'c [u8]),
+    Map(&'c Linkage<'a>),
 }
 
 /// Fills a file with the image of a link; a sparse one is new, and may then be run by those who may
@@ -106,7 +108,7 @@ fn fill_with_image<F: Write + Seek + OpenFile + Drop>(
     Ok(())
 }
 
-/// Fills a file.
+/// Fills a file with the image or the map of a link.
 fn fill<F: Write + Seek + OpenFile + Drop>(
     alloc: Global,
     file: F,
@@ -117,12 +119,9 @@ fn fill<F: Write + Seek + OpenFile + Drop>(
 {
     match content {
         Content::Image(linkage) => fill_with_image(alloc, file, linkage, is_new),
-        Content::Map(text) => {
-            let mut file = file;
-            match file.write_all(text) {
-                Ok(()) => Ok(()),
-                Err(_) => Err(WriteFault::Device),
-            }
+        Content::Map(linkage) => {
+            let mut lines = LineFile::new(alloc, file)?;
+            write_map(alloc, &mut lines, linkage)
         }
     }
 }

@@ -1,6 +1,7 @@
 //! The definitions of a link that have a line, in the order of their names: its list of them, or where it keeps none, the
-//! places at which they are found, so that no list is made.
+//! positions at which they are found, so that no list is made.
 ghost use Rattle.std.specs.Prelude.{◌≡◌, ◌++◌, All, IfOk, OnOk, map};
+ghost use Rattle.std.specs.Io.KnownBytes.{Appends};
 ghost use Rattle.std.specs.List.{flat_map};
 ghost use Rattle.elf_model.specs.ImageFile.{own_end};
 ghost use Rattle.elf_model.specs.MapText as map_text;
@@ -14,6 +15,7 @@ ghost use Rattle.image_write.specs.Tables.{HasTable};
 ghost use Rattle.ld_main.specs.InOrder.{AreInOrder, meanings_in};
 ghost use Rattle.ld_main.specs.OwnDefinitions.{meanings_of, table_with};
 
+use crate::line_sink::LineSink;
 use crate::listed_definitions::{InOrder, in_order};
 use crate::own_text::{put_commons, put_symbols};
 use image_write::{Linkage, Listed, SymbolTable};
@@ -65,16 +67,15 @@ impl OwnDefinitions<'_, '_> {
 }
 
 /// The lines of the common blocks among definitions that are found, in their order.
-fn put_found_commons(
+fn put_found_commons<T: LineSink>(
     alloc: Global,
-    text: &mut Vec<u8>,
+    text: &mut T,
     placement: &Placement<'_>,
     found: &InOrder<'_, '_>,
-) -> Result<(), AllocError>
-    ensures { OnOk result (text.new.items
-        ≡ text.old.items
-        ++ flat_map map_text.common_text
-        (own_commons placement.now.base placement.now.objects (meanings_in found.now))) }
+) -> Result<(), T::Fault>
+    ensures { OnOk result (Appends (T.told text.old) (T.told text.new)
+        (flat_map map_text.common_text
+        (own_commons placement.now.base placement.now.objects (meanings_in found.now)))) }
 {
     if found.has_no_commons() {
         return Ok(());
@@ -92,20 +93,19 @@ fn put_found_commons(
 }
 
 /// The lines of definitions that are found, in their order.
-fn put_found_symbols(
+fn put_found_symbols<T: LineSink>(
     alloc: Global,
-    text: &mut Vec<u8>,
+    text: &mut T,
     placement: &Placement<'_>,
     found: &InOrder<'_, '_>,
-) -> Result<(), AllocError>
+) -> Result<(), T::Fault>
     requires kinds { AreLawfulKinds placement.now.objects }
     requires within { All (LiesWithin (own_in_load_order placement.now.base placement.now.objects))
         (meanings_in found.now) }
-    ensures { OnOk result (text.new.items
-        ≡ text.old.items
-        ++ flat_map map_text.symbol_text
+    ensures { OnOk result (Appends (T.told text.old) (T.told text.new)
+        (flat_map map_text.symbol_text
         (map (symbol_row_of (own_where placement.now.base placement.now.objects))
-        (meanings_in found.now))) }
+        (meanings_in found.now)))) }
 {
     let mut batch = Vec::with_capacity(alloc, BATCH)?;
     let mut rest = found.keys();
@@ -120,16 +120,15 @@ fn put_found_symbols(
 }
 
 /// The lines of the common blocks among definitions, in their order.
-pub fn put_own_commons(
+pub fn put_own_commons<T: LineSink>(
     alloc: Global,
-    text: &mut Vec<u8>,
+    text: &mut T,
     placement: &Placement<'_>,
     definitions: &OwnDefinitions<'_, '_>,
-) -> Result<(), AllocError>
-    ensures { OnOk result (text.new.items
-        ≡ text.old.items
-        ++ flat_map map_text.common_text
-        (own_commons placement.now.base placement.now.objects (meanings_of definitions.now))) }
+) -> Result<(), T::Fault>
+    ensures { OnOk result (Appends (T.told text.old) (T.told text.new)
+        (flat_map map_text.common_text
+        (own_commons placement.now.base placement.now.objects (meanings_of definitions.now)))) }
 {
     match definitions {
         OwnDefinitions::Listed(listed, _) => put_commons(text, placement, listed),
@@ -138,20 +137,19 @@ pub fn put_own_commons(
 }
 
 /// The lines of definitions, in their order.
-pub fn put_own_symbols(
+pub fn put_own_symbols<T: LineSink>(
     alloc: Global,
-    text: &mut Vec<u8>,
+    text: &mut T,
     placement: &Placement<'_>,
     definitions: &OwnDefinitions<'_, '_>,
-) -> Result<(), AllocError>
+) -> Result<(), T::Fault>
     requires kinds { AreLawfulKinds placement.now.objects }
     requires within { All (LiesWithin (own_in_load_order placement.now.base placement.now.objects))
         (meanings_of definitions.now) }
-    ensures { OnOk result (text.new.items
-        ≡ text.old.items
-        ++ flat_map map_text.symbol_text
+    ensures { OnOk result (Appends (T.told text.old) (T.told text.new)
+        (flat_map map_text.symbol_text
         (map (symbol_row_of (own_where placement.now.base placement.now.objects))
-        (meanings_of definitions.now))) }
+        (meanings_of definitions.now)))) }
 {
     match definitions {
         OwnDefinitions::Listed(listed, _) => put_symbols(text, placement, listed),

@@ -1,6 +1,7 @@
 //! The text of a link's own map, line by line: the objects, their dropped sections, their kept ones, their common blocks,
 //! the GOT and its slots, the definitions with their values.
 ghost use Rattle.std.specs.Prelude.{◌≡◌, ◌+◌, ◌*◌, ◌≤◌, ◌++◌, ◌^◌, All, IfOk, IfSome, OnOk, length, map, option_map, option_to_list};
+ghost use Rattle.std.specs.Io.KnownBytes.{Appends, append_known};
 ghost use Rattle.std.specs.List.{flat_map};
 ghost use Rattle.elf_model.specs.ImageFile.{own_end};
 ghost use Rattle.elf_model.specs.MapText as map_text;
@@ -14,26 +15,27 @@ ghost use Rattle.got_tls.specs.Views.{slot_views};
 ghost use Rattle.image_write.specs.CommonRows.{common_rows_of, own_commons};
 ghost use Rattle.image_write.specs.Maps.{LiesWithin, own_record, own_row, own_table};
 ghost use Rattle.image_write.specs.Tables.{HasTable, IsInRange, line_of};
-ghost use Rattle.ld_main.specs.Linkages.{IsOwnText};
+ghost use Rattle.ld_main.specs.Linkages.{IsOwnText, PutsOwnText};
 ghost use Rattle.ld_main.specs.OwnDefinitions.{meanings_of, table_with};
 
+use crate::line_sink::{LineFile, LineSink};
 use crate::own_definitions::{OwnDefinitions, own_definitions, put_own_commons, put_own_symbols};
 use crate::own_map::{MAP_VERSION, address_of, has_drop_line, row_definition, symtab_line};
 use crate::slot_lines::got_line;
 use elf_model::DropLine;
 use got_tls::{Slot, Slots};
-use image_write::{Linkage, SymbolTable, definition_value};
+use image_write::{Linkage, SymbolTable, WriteFault, definition_value};
 use layout::Placement;
-use linkmap::{Line, put_line};
+use linkmap::Line;
 use resolve::Definition;
 use search::{Loaded, LoadedObject};
 use std::alloc::{AllocError, Global};
+use std::io::Write;
 
 /// The lines of loaded objects.
-fn put_objects(text: &mut Vec<u8>, objects: &[LoadedObject<'_>]) -> Result<(), AllocError>
-    ensures { OnOk result (text.new.items
-        ≡ text.old.items
-        ++ flat_map map_text.object_text (object_rows 0 (loaded_views objects.now))) }
+fn put_objects<T: LineSink>(text: &mut T, objects: &[LoadedObject<'_>]) -> Result<(), T::Fault>
+    ensures { OnOk result (Appends (T.told text.old) (T.told text.new)
+        (flat_map map_text.object_text (object_rows 0 (loaded_views objects.now)))) }
 {
     for (k, loaded) in objects.iter().enumerate() {
         let line = Line::Object {
@@ -42,21 +44,20 @@ fn put_objects(text: &mut Vec<u8>, objects: &[LoadedObject<'_>]) -> Result<(), A
             offset: loaded.offset,
             path: loaded.path.as_bytes(),
         };
-        put_line(text, &line)?;
+        text.put(&line)?;
     }
     Ok(())
 }
 
 /// The drop lines of the object that has a number.
-fn put_object_drops(
-    text: &mut Vec<u8>,
+fn put_object_drops<T: LineSink>(
+    text: &mut T,
     number: u64,
     loaded: &LoadedObject<'_>,
-) -> Result<(), AllocError>
-    ensures { OnOk result (text.new.items
-        ≡ text.old.items
-        ++ flat_map map_text.drop_text
-        (drops_from number (loaded_view loaded.now) 0 (sections loaded.now.object))) }
+) -> Result<(), T::Fault>
+    ensures { OnOk result (Appends (T.told text.old) (T.told text.new)
+        (flat_map map_text.drop_text
+        (drops_from number (loaded_view loaded.now) 0 (sections loaded.now.object)))) }
 {
     let headers = loaded.object.sections();
     for i in 0..headers.len() {
@@ -66,16 +67,16 @@ fn put_object_drops(
                 object: number,
                 section: i as u64,
             };
-            put_line(text, &Line::Drop(line))?;
+            text.put(&Line::Drop(line))?;
         }
     }
     Ok(())
 }
 
 /// The lines of all dropped sections, in load order.
-fn put_drops(text: &mut Vec<u8>, objects: &[LoadedObject<'_>]) -> Result<(), AllocError>
-    ensures { OnOk result (text.new.items
-        ≡ text.old.items ++ flat_map map_text.drop_text (drop_rows 0 (loaded_views objects.now))) }
+fn put_drops<T: LineSink>(text: &mut T, objects: &[LoadedObject<'_>]) -> Result<(), T::Fault>
+    ensures { OnOk result (Appends (T.told text.old) (T.told text.new)
+        (flat_map map_text.drop_text (drop_rows 0 (loaded_views objects.now)))) }
 {
     for (k, loaded) in objects.iter().enumerate() {
         put_object_drops(text, k as u64, loaded)?;
@@ -84,17 +85,16 @@ fn put_drops(text: &mut Vec<u8>, objects: &[LoadedObject<'_>]) -> Result<(), All
 }
 
 /// The lines of the kept sections of the object that has a number.
-fn put_object_places(
-    text: &mut Vec<u8>,
+fn put_object_places<T: LineSink>(
+    text: &mut T,
     placement: &Placement<'_>,
     number: u64,
     loaded: &LoadedObject<'_>,
-) -> Result<(), AllocError>
-    ensures { OnOk result (text.new.items
-        ≡ text.old.items
-        ++ flat_map map_text.place_text
+) -> Result<(), T::Fault>
+    ensures { OnOk result (Appends (T.told text.old) (T.told text.new)
+        (flat_map map_text.place_text
         (map (own_row placement.now)
-        (pieces_from number (loaded_view loaded.now) 0 (sections loaded.now.object)))) }
+        (pieces_from number (loaded_view loaded.now) 0 (sections loaded.now.object))))) }
 {
     let headers = loaded.object.sections();
     for i in 0..headers.len() {
@@ -107,22 +107,21 @@ fn put_object_places(
                 section: i as u64,
                 name: loaded.object.section_name(i).unwrap_or(&[]),
             };
-            put_line(text, &line)?;
+            text.put(&line)?;
         }
     }
     Ok(())
 }
 
 /// The lines of all kept sections, in load order.
-fn put_places(
-    text: &mut Vec<u8>,
+fn put_places<T: LineSink>(
+    text: &mut T,
     placement: &Placement<'_>,
     objects: &[LoadedObject<'_>],
-) -> Result<(), AllocError>
-    ensures { OnOk result (text.new.items
-        ≡ text.old.items
-        ++ flat_map map_text.place_text
-        (map (own_row placement.now) (kept_sections (loaded_views objects.now)))) }
+) -> Result<(), T::Fault>
+    ensures { OnOk result (Appends (T.told text.old) (T.told text.new)
+        (flat_map map_text.place_text
+        (map (own_row placement.now) (kept_sections (loaded_views objects.now))))) }
 {
     for (k, loaded) in objects.iter().enumerate() {
         put_object_places(text, placement, k as u64, loaded)?;
@@ -131,15 +130,14 @@ fn put_places(
 }
 
 /// The line of what a name means where that is a common block.
-fn put_common(
-    text: &mut Vec<u8>,
+fn put_common<T: LineSink>(
+    text: &mut T,
     placement: &Placement<'_>,
     meaning: &Definition<'_>,
-) -> Result<(), AllocError>
-    ensures { OnOk result (text.new.items
-        ≡ text.old.items
-        ++ flat_map map_text.common_text
-        (common_rows_of placement.now.base placement.now.objects (meaning_view meaning.now))) }
+) -> Result<(), T::Fault>
+    ensures { OnOk result (Appends (T.told text.old) (T.told text.new)
+        (flat_map map_text.common_text
+        (common_rows_of placement.now.base placement.now.objects (meaning_view meaning.now)))) }
 {
     if let Definition::Common(block) = meaning {
         let line = Line::Common {
@@ -148,21 +146,20 @@ fn put_common(
             align: block.align,
             name: block.name,
         };
-        put_line(text, &line)?;
+        text.put(&line)?;
     }
     Ok(())
 }
 
 /// The lines of the common blocks among definitions, in their order.
-pub fn put_commons(
-    text: &mut Vec<u8>,
+pub fn put_commons<T: LineSink>(
+    text: &mut T,
     placement: &Placement<'_>,
     listed: &[Definition<'_>],
-) -> Result<(), AllocError>
-    ensures { OnOk result (text.new.items
-        ≡ text.old.items
-        ++ flat_map map_text.common_text
-        (own_commons placement.now.base placement.now.objects (meaning_views listed.now))) }
+) -> Result<(), T::Fault>
+    ensures { OnOk result (Appends (T.told text.old) (T.told text.new)
+        (flat_map map_text.common_text
+        (own_commons placement.now.base placement.now.objects (meaning_views listed.now)))) }
 {
     for meaning in listed {
         put_common(text, placement, meaning)?;
@@ -171,29 +168,27 @@ pub fn put_commons(
 }
 
 /// The line of the GOT, where there is one.
-fn put_got(
-    text: &mut Vec<u8>,
+fn put_got<T: LineSink>(
+    text: &mut T,
     placement: &Placement<'_>,
     slots: &Slots<'_>,
-) -> Result<(), AllocError>
+) -> Result<(), T::Fault>
     requires { slots.now ≡ own_table placement.now.objects }
-    ensures { OnOk result (text.new.items
-        ≡ text.old.items
-        ++ flat_map map_text.got_text
-        (option_to_list (own_got placement.now.base placement.now.objects))) }
+    ensures { OnOk result (Appends (T.told text.old) (T.told text.new)
+        (flat_map map_text.got_text
+        (option_to_list (own_got placement.now.base placement.now.objects)))) }
 {
     if let Some(line) = got_line(placement, slots) {
-        put_line(text, &Line::Got(line))?;
+        text.put(&Line::Got(line))?;
     }
     Ok(())
 }
 
 /// The lines of the slots of a GOT at an address, which ends within the addresses.
-fn put_slots_from(text: &mut Vec<u8>, got: u64, slots: &[Slot<'_>]) -> Result<(), AllocError>
+fn put_slots_from<T: LineSink>(text: &mut T, got: u64, slots: &[Slot<'_>]) -> Result<(), T::Fault>
     requires { got + 8 * length slots.now ≤ 2 ^ 46 }
-    ensures { OnOk result (text.new.items
-        ≡ text.old.items
-        ++ flat_map map_text.slot_text (slots_from (got + 8) (slot_views slots.now))) }
+    ensures { OnOk result (Appends (T.told text.old) (T.told text.new)
+        (flat_map map_text.slot_text (slots_from (got + 8) (slot_views slots.now)))) }
 {
     let mut address = got;
     for slot in slots {
@@ -203,23 +198,22 @@ fn put_slots_from(text: &mut Vec<u8>, got: u64, slots: &[Slot<'_>]) -> Result<()
             kind: slot.kind(),
             target: slot.target(),
         };
-        put_line(text, &line)?;
+        text.put(&line)?;
     }
     Ok(())
 }
 
 /// The lines of the slots, in the order in which they stand.
-fn put_slots(
-    text: &mut Vec<u8>,
+fn put_slots<T: LineSink>(
+    text: &mut T,
     placement: &Placement<'_>,
     slots: &Slots<'_>,
-) -> Result<(), AllocError>
+) -> Result<(), T::Fault>
     requires made { slots.now ≡ own_table placement.now.objects }
     requires kinds { AreLawfulKinds placement.now.objects }
     requires fits { IsNotTooLarge placement.now.base placement.now.objects }
-    ensures { OnOk result (text.new.items
-        ≡ text.old.items
-        ++ flat_map map_text.slot_text (own_slots placement.now.base placement.now.objects)) }
+    ensures { OnOk result (Appends (T.told text.old) (T.told text.new)
+        (flat_map map_text.slot_text (own_slots placement.now.base placement.now.objects))) }
 {
     match placement.got() {
         Some(got) => put_slots_from(text, got, slots.slots()),
@@ -228,42 +222,40 @@ fn put_slots(
 }
 
 /// The line of a definition.
-fn put_symbol(
-    text: &mut Vec<u8>,
+fn put_symbol<T: LineSink>(
+    text: &mut T,
     placement: &Placement<'_>,
     meaning: &Definition<'_>,
-) -> Result<(), AllocError>
+) -> Result<(), T::Fault>
     requires kinds { AreLawfulKinds placement.now.objects }
     requires within { LiesWithin (own_in_load_order placement.now.base placement.now.objects)
         (meaning_view meaning.now) }
-    ensures { OnOk result (text.new.items
-        ≡ text.old.items
-        ++ map_text.symbol_text
+    ensures { OnOk result (Appends (T.told text.old) (T.told text.new)
+        (map_text.symbol_text
         (symbol_row_of (own_where placement.now.base placement.now.objects)
-        (meaning_view meaning.now))) }
+        (meaning_view meaning.now)))) }
 {
     let line = Line::Symbol {
         address: definition_value(placement, meaning),
         definition: row_definition(meaning),
         name: meaning.name(),
     };
-    put_line(text, &line)
+    text.put(&line)
 }
 
 /// The lines of definitions, in their order.
-pub fn put_symbols(
-    text: &mut Vec<u8>,
+pub fn put_symbols<T: LineSink>(
+    text: &mut T,
     placement: &Placement<'_>,
     listed: &[Definition<'_>],
-) -> Result<(), AllocError>
+) -> Result<(), T::Fault>
     requires kinds { AreLawfulKinds placement.now.objects }
     requires within { All (λ m. LiesWithin
         (own_in_load_order placement.now.base placement.now.objects) (meaning_view m)) listed.now }
-    ensures { OnOk result (text.new.items
-        ≡ text.old.items
-        ++ flat_map map_text.symbol_text
+    ensures { OnOk result (Appends (T.told text.old) (T.told text.new)
+        (flat_map map_text.symbol_text
         (map (symbol_row_of (own_where placement.now.base placement.now.objects))
-        (meaning_views listed.now))) }
+        (meaning_views listed.now)))) }
 {
     for meaning in listed {
         put_symbol(text, placement, meaning)?;
@@ -272,27 +264,26 @@ pub fn put_symbols(
 }
 
 /// The line of a symbol table, where there is one.
-fn put_table(text: &mut Vec<u8>, table: Option<SymbolTable>) -> Result<(), AllocError>
+fn put_table<T: LineSink>(text: &mut T, table: Option<SymbolTable>) -> Result<(), T::Fault>
     requires { IfSome table IsInRange }
-    ensures { OnOk result (text.new.items
-        ≡ text.old.items
-        ++ flat_map map_text.symtab_text (option_to_list (option_map line_of table))) }
+    ensures { OnOk result (Appends (T.told text.old) (T.told text.new)
+        (flat_map map_text.symtab_text (option_to_list (option_map line_of table)))) }
 {
     if let Some(line) = symtab_line(table) {
-        put_line(text, &Line::Symtab(line))?;
+        text.put(&Line::Symtab(line))?;
     }
     Ok(())
 }
 
 /// The lines of objects where they are laid out with their GOT, of the definitions that have a line, and of the table of these.
-fn put_layout(
+fn put_layout<T: LineSink>(
     alloc: Global,
-    text: &mut Vec<u8>,
+    text: &mut T,
     placement: &Placement<'_>,
     loaded: &Loaded<'_>,
     slots: &Slots<'_>,
     definitions: &OwnDefinitions<'_, '_>,
-) -> Result<(), AllocError>
+) -> Result<(), T::Fault>
     requires same { placement.now ≡ record {
       base = loaded.now.plan.base;
       objects = loaded.now.objects;
@@ -304,13 +295,12 @@ fn put_layout(
         (meanings_of definitions.now) }
     requires table { HasTable loaded.now.objects (own_end loaded.now.plan.base loaded.now.objects)
         (meanings_of definitions.now) loaded.now.plan.strip (table_with definitions.now) }
-    ensures { OnOk result (text.new.items
-        ≡ text.old.items
-        ++ map_text.text
-        (own_record placement.now loaded.now.plan.strip (meanings_of definitions.now))) }
+    ensures { OnOk result (Appends (T.told text.old) (T.told text.new)
+        (map_text.text
+        (own_record placement.now loaded.now.plan.strip (meanings_of definitions.now)))) }
 {
     let objects = loaded.objects();
-    put_line(text, &Line::Version(MAP_VERSION))?;
+    text.put(&Line::Version(MAP_VERSION))?;
     put_objects(text, objects)?;
     put_drops(text, objects)?;
     put_places(text, placement, objects)?;
@@ -319,24 +309,45 @@ fn put_layout(
     put_slots(text, placement, slots)?;
     put_own_symbols(alloc, text, placement, definitions)?;
     put_table(text, definitions.table())?;
-    put_line(text, &Line::End)?;
+    text.put(&Line::End)?;
     Ok(())
+}
+
+/// Puts the text of a link's map.
+fn put_map<T: LineSink>(alloc: Global, text: &mut T, linkage: &Linkage<'_>) -> Result<(), T::Fault>
+    ensures { OnOk result (PutsOwnText linkage.now (T.told text.old) (T.told text.new)) }
+{
+    let parts = linkage.parts();
+    let definitions = own_definitions(alloc, linkage)?;
+    put_layout(
+        alloc,
+        text,
+        &parts.placement,
+        linkage.loaded(),
+        &parts.slots,
+        &definitions,
+    )
 }
 
 /// The text of a link's map.
 pub fn map_text(alloc: Global, linkage: &Linkage<'_>) -> Result<Vec<u8>, AllocError>
     ensures { IfOk result (λ v. IsOwnText linkage.now v.items) }
 {
-    let parts = linkage.parts();
-    let definitions = own_definitions(alloc, linkage)?;
     let mut text = Vec::new(alloc);
-    put_layout(
-        alloc,
-        &mut text,
-        &parts.placement,
-        linkage.loaded(),
-        &parts.slots,
-        &definitions,
-    )?;
+    put_map(alloc, &mut text, linkage)?;
     Ok(text)
+}
+
+/// Writes the text of a link's map behind what a file has.
+pub fn write_map<F: Write + Drop>(
+    alloc: Global,
+    file: &mut LineFile<F>,
+    linkage: &Linkage<'_>,
+) -> Result<(), WriteFault>
+    ensures { OnOk result (PutsOwnText linkage.now
+        (append_known (F.contents file.old.file) file.old.run.items)
+        (F.contents file.new.file)) }
+{
+    put_map(alloc, file, linkage)?;
+    file.finish()
 }

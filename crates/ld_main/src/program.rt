@@ -5,14 +5,13 @@ ghost use Rattle.elf_model.specs.Command as command;
 ghost use Rattle.elf_model.specs.Command.{command_of};
 ghost use Rattle.elf_model.specs.Files.{files_of, words_of};
 ghost use Rattle.elf_model.specs.RightLink.{IsRightLink, Least};
-ghost use Rattle.ld_main.specs.Linkages.{HasOwnLink, IsOwnText};
+ghost use Rattle.ld_main.specs.Linkages.{HasOwnLink};
 ghost use Rattle.ld_main.specs.NewFiles.{IsOfLink, IsSomeLink};
 ghost use Rattle.ld_main.specs.Program.{Asks, HasRightLink, LinksRight, error_status, failure_status, is_checked, outcome_status, words_status};
 
 use crate::file_id::OutputPath;
 use crate::file_source::{GatherFault, gather};
 use crate::new_file::{Content, NewFile};
-use crate::own_text::map_text;
 use crate::phases::prepare_seeded;
 use crate::real_files::{RealFiles, read_whole};
 use crate::refusals::command_error;
@@ -264,14 +263,12 @@ fn write_both<'a, R: Files + AllocGlobal + RandomSource>(
     task: Task<'a>,
     map: &'a str,
     linkage: &Linkage<'_>,
-    text: &[u8],
 ) -> Result<(), Failure<'a>>
-    requires link { IsSomeLink linkage.now }
-    requires text { IsOwnText linkage.now text.now }
+    requires { IsSomeLink linkage.now }
     ensures { IfErr result (λ f. 3 ≤ failure_status f) }
 {
     let image_file = write_output(rt, task.output, Content::Image(linkage))?;
-    let map_file = match write_output(rt, map, Content::Map(text)) {
+    let map_file = match write_output(rt, map, Content::Map(linkage)) {
         Ok(file) => file,
         Err(failure) => {
             image_file.discard(rt);
@@ -285,7 +282,7 @@ fn write_both<'a, R: Files + AllocGlobal + RandomSource>(
     finish(rt, map, map_file)
 }
 
-/// Writes the image, and the map, whose text is made before, where its path is given.
+/// Writes the image, and the map where its path is given.
 fn write_files<'a, R: Files + AllocGlobal + RandomSource>(
     rt: &R,
     task: Task<'a>,
@@ -298,8 +295,7 @@ fn write_files<'a, R: Files + AllocGlobal + RandomSource>(
         let file = write_output(rt, task.output, Content::Image(linkage))?;
         return finish(rt, task.output, file);
     };
-    let text = map_text(rt.alloc(), linkage)?;
-    write_both(rt, task, map, linkage, &text)
+    write_both(rt, task, map, linkage)
 }
 
 /// A seed for the hashes of names that no input can know; the fixed one where the system gives no random bytes.

@@ -5,21 +5,21 @@ use Rattle.std.proofs.lemmas.List.Elements.{All-push}
 use Rattle.ld_main.specs.NameKeys.{IsKeyed, name_of}
 use Rattle.ld_main.specs.declared.name_order.Keyed.{Keyed}
 use Rattle.ld_main.proofs.NameKeyLaws.{more_keys}
-use Rattle.ld_main.proofs.name_order.places.Goals as goal
+use Rattle.ld_main.proofs.name_order.positions.Goals as goal
 
-pub loop-place-preserved : goal.loop-place-preserved
-loop-place-preserved c =
+pub loop-position-preserved : goal.loop-position-preserved
+loop-position-preserved c =
     let n = c.args.names in
     let k = c.with_keys.result in
-    let ks = c.loop-place.keys.items in
-    let at : IsKeyed (name_of n k.place) k =
-    subst (λ (j : ℕ). IsKeyed (name_of n j) k) (sym c.with_keys.ensures.place)
+    let ks = c.loop-position.keys.items in
+    let at : IsKeyed (name_of n k.position) k =
+    subst (λ (j : ℕ). IsKeyed (name_of n j) k) (sym c.with_keys.ensures.position)
     (subst (λ (name : List ℕ). IsKeyed name k) c.name_at.ensures c.with_keys.ensures.keys) in
     record {
-      places =
-          subst (λ (js : List Keyed). map (λ k. k.place) js ≡ range_with_len 0 (c.loop-place.place + 1)) (sym c.in_ok-push.ensures.items)
-          (more_keys n ks c.loop-place.place k c.loop-place.invariant.places c.with_keys.ensures.place);
+      positions =
+          subst (λ (js : List Keyed). map (λ k. k.position) js ≡ range_with_len 0 (c.loop-position.position + 1)) (sym c.in_ok-push.ensures.items)
+          (more_keys n ks c.loop-position.position k c.loop-position.invariant.positions c.with_keys.ensures.position);
       keys =
-          subst (All (λ k. IsKeyed (name_of n k.place) k)) (sym c.in_ok-push.ensures.items)
-          (All-push (λ k. IsKeyed (name_of n k.place) k) ks k c.loop-place.invariant.keys at);
+          subst (All (λ k. IsKeyed (name_of n k.position) k)) (sym c.in_ok-push.ensures.items)
+          (All-push (λ k. IsKeyed (name_of n k.position) k) ks k c.loop-position.invariant.keys at);
     }

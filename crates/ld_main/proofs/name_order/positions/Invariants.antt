@@ -2,10 +2,10 @@ use Rattle.std.proofs.Common.{◌≡◌, map}
 use Rattle.std.specs.Prelude.{All}
 use Rattle.std.specs.List.{range_with_len}
 use Rattle.ld_main.specs.NameKeys.{IsKeyed, name_of}
-use Rattle.ld_main.proofs.name_order.places.Given as goal
+use Rattle.ld_main.proofs.name_order.positions.Given as goal
 
-abbrev pub invariant-loop-place : goal.invariant-loop-place
-invariant-loop-place l = record {
-  places : map (λ k. k.place) l.keys.items ≡ range_with_len 0 l.place;
-  keys : All (λ k. IsKeyed (name_of l.names k.place) k) l.keys.items;
+abbrev pub invariant-loop-position : goal.invariant-loop-position
+invariant-loop-position l = record {
+  positions : map (λ k. k.position) l.keys.items ≡ range_with_len 0 l.position;
+  keys : All (λ k. IsKeyed (name_of l.names k.position) k) l.keys.items;
 }

@@ -1,7 +1,7 @@
 use Rattle.std.proofs.Common.{◌≡◌, ℕ, suc, ◌+◌, ◌*◌, arith, refl, subst}
 use Rattle.ld_main.specs.NameKeys.{key_with}
 use Rattle.ld_main.proofs.NameKeyLaws.{digit_small, key_more, key_small}
-use Rattle.ld_main.proofs.name_order.key.Goals as goal
+use Rattle.ld_main.proofs.name_order.short_key.Goals as goal
 
 pub loop-i-init : goal.loop-i-init
 unfolding key_with

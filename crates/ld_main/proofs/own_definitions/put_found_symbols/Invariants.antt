@@ -1,4 +1,4 @@
-use Rattle.std.proofs.Common.{◌≡◌, ◌++◌, length, map}
+use Rattle.std.proofs.Common.{◌≡◌, length, map}
 use Rattle.std.specs.Prelude.{All}
 use Rattle.std.specs.List.{flat_map}
 use Rattle.elf_model.specs.MapText.{symbol_text}
@@ -7,15 +7,15 @@ use Rattle.elf_model.specs.RightLink.{symbol_row_of}
 use Rattle.image_write.specs.Maps.{LiesWithin}
 use Rattle.relocate.specs.Uses.{line_views}
 use Rattle.ld_main.specs.InOrder.{meaning_at, meanings_at, meanings_in}
+use Rattle.ld_main.proofs.Behind.{Leads}
 use Rattle.ld_main.proofs.own_definitions.put_found_symbols.Given as goal
 
 abbrev pub invariant-loop-rest : goal.invariant-loop-rest
-invariant-loop-rest l = record {
-  text : l.text.items
-      ++ flat_map symbol_text (map (symbol_row_of (own_where l.placement.base l.placement.objects)) (meanings_at l.found.resolved.now l.found.names.symbols.now (line_views l.found.names.linkers.now) l.rest))
-      ≡ l.fn.text.items ++ flat_map symbol_text (map (symbol_row_of (own_where l.placement.base l.placement.objects)) (meanings_in l.found));
-  within : All (λ k. LiesWithin (own_in_load_order l.placement.base l.placement.objects) (meaning_at l.found.resolved.now l.found.names.symbols.now (line_views l.found.names.linkers.now) k.place)) l.rest;
+invariant-loop-rest g l = record {
+  text : Leads (g.T.LineSink.told l.fn.text) (flat_map symbol_text (map (symbol_row_of (own_where l.placement.base l.placement.objects)) (meanings_in l.found)))
+      (g.T.LineSink.told l.text) (flat_map symbol_text (map (symbol_row_of (own_where l.placement.base l.placement.objects)) (meanings_at l.found.resolved.now l.found.names.symbols.now (line_views l.found.names.linkers.now) l.rest)));
+  within : All (λ k. LiesWithin (own_in_load_order l.placement.base l.placement.objects) (meaning_at l.found.resolved.now l.found.names.symbols.now (line_views l.found.names.linkers.now) k.position)) l.rest;
 }
 
 abbrev pub decreases-loop-rest : goal.decreases-loop-rest
-decreases-loop-rest l = length l.rest
+decreases-loop-rest g l = length l.rest

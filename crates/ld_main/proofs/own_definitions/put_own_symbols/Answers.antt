@@ -9,7 +9,7 @@ use Rattle.ld_main.specs.declared.own_definitions.OwnDefinitions.{OwnDefinitions
 use Rattle.ld_main.proofs.own_definitions.put_own_symbols.Goals as goal
 
 pub put_symbols-requires-clause-within : goal.put_symbols-requires-clause-within
-put_symbols-requires-clause-within c =
+put_symbols-requires-clause-within g c =
     let ps = own_in_load_order c.args.placement.now.base c.args.placement.now.objects in
     All-unmap (LiesWithin ps) meaning_view c.in-Listed.listed.now
     (subst (λ (d : OwnDefinitions). All (LiesWithin ps) (meanings_of d)) c.in-Listed.is c.requires.within)

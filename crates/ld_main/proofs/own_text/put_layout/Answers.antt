@@ -9,7 +9,7 @@ use Rattle.ld_main.proofs.OwnTexts.{lines_put, table_line}
 use Rattle.ld_main.proofs.own_text.put_layout.Goals as goal
 
 pub returns : goal.returns
-returns c =
+returns g c =
     let b = c.args.placement.now in
     let l = c.args.loaded.now in
     let ms = meanings_of c.args.definitions.now in
@@ -17,9 +17,7 @@ returns c =
     ap (option_map line_of) c.table.ensures
     ∙ (table_line l.plan.base l.objects ms l.plan.strip (table_with c.args.definitions.now) c.requires.table
     ∙ ap (λ (y : Basis). own_symtab y l.plan.strip ms) (sym c.requires.same)) in
-    lines_put b l.plan.strip ms (loaded_views c.objects-objects.result.now) (option_map line_of c.table.result) c.args.text.now.items
-    c.put_line.new.out.items c.put_objects.new.text.items c.put_drops.new.text.items c.put_places.new.text.items c.put_own_commons.new.text.items
-    c.put_got.new.text.items c.put_slots.new.text.items c.put_own_symbols.new.text.items c.put_table.new.text.items c.put_line-2.new.out.items
-    (c.objects-objects.ensures.exact ∙ ap (λ (y : Basis). y.objects) (sym c.requires.same)) line c.in_ok-put_line.ensures c.in_ok-put_objects.ensures
+    lines_put b l.plan.strip ms (loaded_views c.objects-objects.result.now) (option_map line_of c.table.result) _ _ _ _ _ _ _ _ _ _ _
+    (c.objects-objects.ensures.exact ∙ ap (λ (y : Basis). y.objects) (sym c.requires.same)) line c.in_ok-put.ensures c.in_ok-put_objects.ensures
     c.in_ok-put_drops.ensures c.in_ok-put_places.ensures c.in_ok-put_own_commons.ensures c.in_ok-put_got.ensures c.in_ok-put_slots.ensures
-    c.in_ok-put_own_symbols.ensures c.in_ok-put_table.ensures c.in_ok-put_line-2.ensures
+    c.in_ok-put_own_symbols.ensures c.in_ok-put_table.ensures c.in_ok-put-2.ensures

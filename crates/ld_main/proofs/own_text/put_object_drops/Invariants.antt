@@ -1,11 +1,12 @@
-use Rattle.std.proofs.Common.{◌≡◌, ◌++◌, drop}
+use Rattle.std.proofs.Common.{drop}
 use Rattle.std.specs.List.{flat_map}
 use Rattle.elf_model.specs.MapText.{drop_text}
 use Rattle.elf_model.specs.RightLink.{drops_from}
 use Rattle.search.specs.Views.{loaded_view}
+use Rattle.ld_main.proofs.Behind.{Leads}
 use Rattle.ld_main.proofs.own_text.put_object_drops.Given as goal
 
 abbrev pub invariant-loop-i : goal.invariant-loop-i
-invariant-loop-i l =
-    l.text.items ++ flat_map drop_text (drops_from l.number (loaded_view l.loaded) l.i (drop l.i l.headers))
-    ≡ l.fn.text.items ++ flat_map drop_text (drops_from l.number (loaded_view l.loaded) 0 l.headers)
+invariant-loop-i g l =
+    Leads (g.T.LineSink.told l.fn.text) (flat_map drop_text (drops_from l.number (loaded_view l.loaded) 0 l.headers))
+    (g.T.LineSink.told l.text) (flat_map drop_text (drops_from l.number (loaded_view l.loaded) l.i (drop l.i l.headers)))

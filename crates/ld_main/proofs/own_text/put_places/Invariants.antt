@@ -1,12 +1,13 @@
-use Rattle.std.proofs.Common.{◌≡◌, ◌++◌, drop, map}
+use Rattle.std.proofs.Common.{drop, map}
 use Rattle.std.specs.List.{flat_map}
 use Rattle.elf_model.specs.MapText.{place_text}
 use Rattle.elf_model.specs.Pieces.{pieces_of}
 use Rattle.search.specs.Views.{loaded_views}
 use Rattle.image_write.specs.Maps.{own_row}
+use Rattle.ld_main.proofs.Behind.{Leads}
 use Rattle.ld_main.proofs.own_text.put_places.Given as goal
 
 abbrev pub invariant-loop-k : goal.invariant-loop-k
-invariant-loop-k l =
-    l.text.items ++ flat_map place_text (map (own_row l.placement) (pieces_of l.k (loaded_views (drop l.k l.objects))))
-    ≡ l.fn.text.items ++ flat_map place_text (map (own_row l.placement) (pieces_of 0 (loaded_views l.objects)))
+invariant-loop-k g l =
+    Leads (g.T.LineSink.told l.fn.text) (flat_map place_text (map (own_row l.placement) (pieces_of 0 (loaded_views l.objects))))
+    (g.T.LineSink.told l.text) (flat_map place_text (map (own_row l.placement) (pieces_of l.k (loaded_views (drop l.k l.objects)))))

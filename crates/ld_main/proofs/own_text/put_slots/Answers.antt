@@ -1,21 +1,23 @@
-use Rattle.std.proofs.Common.{◌≡◌, ◌∙◌, ◌++◌, List, ap, arith, length, sym}
+use Rattle.std.proofs.Common.{◌≡◌, ◌∙◌, List, ap, arith, length, subst, sym}
+use Rattle.std.specs.Io.KnownBytes.{Appends}
 use Rattle.std.specs.List.{flat_map}
-use Rattle.std.proofs.lemmas.List.{append-nil, length-map}
+use Rattle.std.proofs.lemmas.List.{length-map}
 use Rattle.elf_model.specs.MapRecord.{SlotRow}
 use Rattle.elf_model.specs.MapText.{slot_text}
 use Rattle.elf_model.specs.Slots.{slots}
 use Rattle.got_tls.specs.Views.{Got, slot_view}
+use Rattle.ld_main.proofs.Behind.{nothing_put}
 use Rattle.ld_main.proofs.SlotLines.{slots_low, slots_none}
 use Rattle.ld_main.proofs.own_text.put_slots.Goals as goal
 
 pub returns-in-None : goal.returns-in-None
-returns-in-None c =
+returns-in-None g c =
     let b = c.args.placement.now in
-    sym (append-nil c.args.text.now.items)
-    ∙ ap (λ (rows : List SlotRow). c.args.text.now.items ++ flat_map slot_text rows) (slots_none b.base b.objects (sym c.got.ensures ∙ c.in-None.is))
+    subst (λ (rows : List SlotRow). Appends (g.T.LineSink.told c.args.text.now) (g.T.LineSink.told c.args.text.now) (flat_map slot_text rows))
+    (slots_none b.base b.objects (sym c.got.ensures ∙ c.in-None.is)) (nothing_put (g.T.LineSink.told c.args.text.now))
 
 pub put_slots_from-requires : goal.put_slots_from-requires
-put_slots_from-requires c =
+put_slots_from-requires g c =
     let b = c.args.placement.now in
     let count : length c.slots.result.now ≡ length (slots b.objects) =
     sym (length-map c.slots.result.now slot_view) ∙ ap length (c.slots.ensures ∙ ap (λ (g : Got). g.slots) c.requires.made) in
