@@ -1,23 +1,24 @@
 -- Thread-local storage of the own layout, in whichever order its pieces are listed.
-use Rattle.std.proofs.Common.{◌≡◌, ◌∙◌, ℕ, ◌-◌, ◌<◌, ◌≤◌, ◌⊎◌, inl, inr, Bool, true, false, cond, max, List, [], ◌∷◌, ◌++◌, length, map, refl, sym, ap, take, arith}
+use Rattle.std.proofs.Common.{◌≡◌, ◌∙◌, ℕ, ◌-◌, ◌<◌, ◌≤◌, ◌||◌, ◌⊎◌, inl, inr, Bool, true, false, cond, max, List, [], ◌∷◌, ◌++◌, length, map, refl, subst, sym, ap, take, arith}
 use Rattle.std.specs.Prelude.{All, Contains, Option, Some, None, option_map}
+use Rattle.std.specs.List.{list_any}
 use Rattle.std.proofs.Math.Seq.{take-append_seam}
 use Rattle.std.proofs.lemmas.Bool.{false≢true}
 use Rattle.std.proofs.lemmas.List.{take-map}
-use Rattle.std.proofs.lemmas.List.Elements.{All-append, All-contains, All-cons, All-head, All-nil, All-tail, All-weaker, Contains-append_cases, Contains-append_left}
+use Rattle.std.proofs.lemmas.List.Elements.{All-append, All-contains, All-cons, All-head, All-map, All-nil, All-tail, All-weaker, Contains-append_cases, Contains-append_left}
 use Rattle.elf_model.specs.Commons.{Block, block_piece, block_pieces, blocks, pieces}
-use Rattle.elf_model.specs.LinkerValues.{start_of_pieces}
+use Rattle.elf_model.specs.LinkerValues.{least_of, start_of_pieces}
 use Rattle.elf_model.specs.Loading.{LoadedObject}
-use Rattle.elf_model.specs.OwnLayout.{got_pieces, initial_pieces, laid_out, own_code, own_data, own_in_load_order, own_loaded, own_placed, own_read_only, own_thread_rest, thread_start}
+use Rattle.elf_model.specs.OwnLayout.{got_pieces, has_thread_pieces, initial_pieces, laid_out, own_code, own_data, own_in_load_order, own_loaded, own_placed, own_read_only, own_thread_rest, thread_start}
 use Rattle.elf_model.specs.Pieces.{AreLawfulKinds, Piece, is_thread_piece, kept_sections}
 use Rattle.elf_model.specs.Placement.{Placed}
 use Rattle.elf_model.specs.ThreadStorage.{alignment_of, block_from, is_some_thread_data, thread_block, thread_header}
 use Rattle.elf_model.specs.declared.records.ProgramHeader.{ProgramHeader}
 use Rattle.elf_model.specs.declared.tls_block.TlsBlock.{TlsBlock}
-use Rattle.elf_model.proofs.Listed.{All-from_contains, Contains-from_map}
+use Rattle.elf_model.proofs.Listed.{All-from_contains, All-unmap, Contains-from_map}
 use Rattle.elf_model.proofs.OwnOrder.{from_own_order, is_laid_out, own_order, to_own_order}
 use Rattle.elf_model.proofs.PieceNumbers.{got_pieces-each}
-use Rattle.elf_model.proofs.Places.{InCode, InData, InReadOnly, InThreadRest, at_own_address, initial_aligned, own_code_within, own_data_within, own_placed_pieces, own_read_only_within, own_starts, own_thread_rest_within, some_alignment, thread_start_high}
+use Rattle.elf_model.proofs.Places.{All-ordered, InCode, InData, InReadOnly, InThreadRest, at_own_address, initial_aligned, own_code_within, own_data_within, own_placed_pieces, own_read_only_within, own_starts, own_thread_rest_within, some_alignment, thread_start_high}
 use Rattle.elf_model.proofs.Running.{end_of-ge}
 use Rattle.layout.specs.PlaceViews.{place_view, place_views}
 use Rattle.layout.specs.Threads.{block_of, header_in, placed_alignment}
@@ -158,6 +159,41 @@ module _ (base : ℕ) (objects : List LoadedObject) where
     headers_same =
         ap (option_map (thread_header base (own_placed base objects))) threads_same
         ∙ ap (λ f. option_map f (thread_block (own_in_load_order base objects))) (λ i b. header_same b i)
+
+-- without thread-local sections there is no header
+abbrev IsPlain : Piece → Type 0
+IsPlain p = is_thread_piece p ≡ false
+
+all_plain : (ps : List Piece) → list_any is_thread_piece ps ≡ false → All IsPlain ps
+all_plain [] none = All-nil IsPlain
+all_plain (p ∷ ps) none = by (is_thread_piece p) refl none (all_plain ps)
+  where
+    by : (b : Bool) → is_thread_piece p ≡ b → (b || list_any is_thread_piece ps) ≡ false → (list_any is_thread_piece ps ≡ false → All IsPlain ps) → All IsPlain (p ∷ ps)
+    by true e f rest = absurd (false≢true (sym f))
+    by false e f rest = All-cons IsPlain p ps e (rest f)
+
+no_start : (qs : List Placed) → All (λ (q : Placed). IsPlain q.piece) qs → start_of_pieces is_thread_piece qs ≡ None
+no_start [] all = refl
+no_start (q ∷ qs) all =
+    let rest = start_of_pieces is_thread_piece qs in
+    ap (λ (b : Bool). cond b (Some (least_of q.at rest)) rest) (All-head (λ (r : Placed). IsPlain r.piece) q qs all)
+    ∙ no_start qs (All-tail (λ (r : Placed). IsPlain r.piece) q qs all)
+
+plain_laid_out : (objects : List LoadedObject) → has_thread_pieces objects ≡ false → All IsPlain (laid_out objects)
+plain_laid_out objects none =
+    All-append IsPlain (pieces objects) (got_pieces objects)
+    (All-append IsPlain (kept_sections objects) (block_pieces objects) (all_plain (kept_sections objects) none)
+    (All-map IsPlain block_piece (blocks objects) (All-from_contains (λ (b : Block). IsPlain (block_piece b)) (blocks objects) (λ b c. block_plain b))))
+    (got_pieces-each objects IsPlain refl)
+
+pub no_header :
+    (base : ℕ) (objects : List LoadedObject) (qs : List Placed) → qs ≡ own_placed base objects → has_thread_pieces objects ≡ false → None ≡ header_in base qs
+no_header base objects qs are none =
+    let all : All (λ (q : Placed). IsPlain q.piece) (own_placed base objects) =
+    All-unmap IsPlain (λ (q : Placed). q.piece) (own_placed base objects)
+    (subst (All IsPlain) (sym (own_placed_pieces base objects)) (All-ordered IsPlain objects (plain_laid_out objects none))) in
+    let no_place : start_of_pieces is_thread_piece qs ≡ None = ap (start_of_pieces is_thread_piece) are ∙ no_start (own_placed base objects) all in
+    sym (ap (λ (o : Option ℕ). option_map (thread_header base qs) (option_map (block_from qs) o)) no_place)
 
 -- the block of which a PT_TLS tells
 pub told_block : (base : ℕ) (qs : List Placed) (header : Option ProgramHeader) → header ≡ header_in base qs → option_map block_of header ≡ thread_block qs

@@ -9,6 +9,7 @@ ghost use Rattle.layout.specs.Laid.{IsLaid, IsLayout, LayoutFails, plain_start};
 ghost use Rattle.layout.specs.Limits.{AreAligned, AreInLimit, RunFails};
 ghost use Rattle.layout.specs.Orders.{IsOrder, objects_of};
 ghost use Rattle.layout.specs.PlaceViews.{place_views};
+ghost use Rattle.layout.specs.Threads.{header_in};
 ghost use Rattle.layout.specs.Views.{borrowed_views};
 
 use crate::faults::LayoutFault;
@@ -196,6 +197,19 @@ fn segments_of(
     Ok(segments)
 }
 
+/// The program header of thread-local storage of pieces in own order, at their places.
+fn header_of(order: &Order<'_, '_>, base: u64, places: &[Place<'_>]) -> Option<ProgramHeader>
+    requires order { IsOrder order.now }
+    requires places { place_views places.now ≡ own_placed base (objects_of order.now) }
+    requires limit { AreInLimit (place_views places.now) }
+    ensures { result ≡ header_in base (place_views places.now) }
+{
+    if !order.has_threads {
+        return None;
+    }
+    thread_header(base, order.thread_align, places)
+}
+
 /// Places all pieces and makes the segments that hold them. TooLarge where they, or the file, reach too far.
 pub fn lay_out<'a>(
     alloc: Global,
@@ -220,7 +234,7 @@ pub fn lay_out<'a>(
         return Err(LayoutFault::TooLarge);
     }
     Ok(Layout {
-        thread_header: thread_header(base, order.thread_align, &laid.places),
+        thread_header: header_of(order, base, &laid.places),
         places: laid.places,
         loaded: laid.loaded,
         segments,
