@@ -46,6 +46,13 @@ struct PartBounds {
     zero_start: Option<u64>,
 }
 
+/// The bounds of parts, and the extents of the pieces of each output name.
+#[derive(Drop)]
+struct AllBounds<'a> {
+    parts: PartBounds,
+    outputs: BTreeMap<&'a [u8], Extent>,
+}
+
 /// The output name of the piece that was seen last, and the extent of its pieces so far.
 #[derive(Clone, Copy, Debug)]
 struct Last<'a> {
@@ -239,53 +246,63 @@ fn is_other(number: u64, place: &Place<'_>) -> bool
     place.piece.object != number
 }
 
-/// The extents of the pieces of each output name, but for the GOT, which has this number.
-fn extents_of<'a>(
+/// The bounds of the parts with one more place.
+fn parts_with(parts: &PartBounds, place: &Place<'_>) -> PartBounds
+    requires { IsInLimit (place_view place.now) }
+    ensures code { result.code_end
+        ≡ further is_code_piece parts.now.code_end (place_view place.now) }
+    ensures file_data { result.data_end
+        ≡ further is_file_data parts.now.data_end (place_view place.now) }
+    ensures image { result.image_end
+        ≡ further is_loaded_piece parts.now.image_end (place_view place.now) }
+    ensures zeros { result.zero_start
+        ≡ earlier is_zero_data parts.now.zero_start (place_view place.now) }
+{
+    PartBounds {
+        code_end: further(Bounded::Code, parts.code_end, place),
+        data_end: further(Bounded::FileData, parts.data_end, place),
+        image_end: further(Bounded::Loaded, parts.image_end, place),
+        zero_start: earlier(Bounded::Zeros, parts.zero_start, place),
+    }
+}
+
+/// The bounds of the parts, and the extents of the pieces of each output name, but for the GOT, which has this number; in
+/// one pass.
+fn all_bounds<'a>(
     alloc: Global,
     got: u64,
     places: &[Place<'a>],
-) -> Result<BTreeMap<&'a [u8], Extent>, AllocError>
+) -> Result<AllBounds<'a>, AllocError>
     requires { AreInLimit (place_views places.now) }
-    ensures { IfOk result (AreExtents (filter (is_other got) (place_views places.now))) }
+    ensures code { IfOk result (λ b. b.parts.code_end
+        ≡ end_of_pieces is_code_piece (place_views places.now)) }
+    ensures file_data { IfOk result (λ b. b.parts.data_end
+        ≡ end_of_pieces is_file_data (place_views places.now)) }
+    ensures image { IfOk result (λ b. b.parts.image_end
+        ≡ end_of_pieces is_loaded_piece (place_views places.now)) }
+    ensures zeros { IfOk result (λ b. b.parts.zero_start
+        ≡ start_of_pieces is_zero_data (place_views places.now)) }
+    ensures outputs { IfOk result (λ b. AreExtents (filter (is_other got) (place_views places.now))
+        b.outputs) }
 {
-    let mut extents = BTreeMap::new(alloc);
+    let mut parts = PartBounds {
+        code_end: 0,
+        data_end: 0,
+        image_end: 0,
+        zero_start: None,
+    };
+    let mut outputs = BTreeMap::new(alloc);
     let mut last = None;
     for place in places {
+        parts = parts_with(&parts, place);
         if !is_other(got, place) {
             continue;
         }
-        let next = taken(&mut extents, &last, place)?;
+        let next = taken(&mut outputs, &last, place)?;
         last = Some(next);
     }
-    put_last(&mut extents, &last)?;
-    Ok(extents)
-}
-
-/// The bounds of the parts, in one pass.
-fn part_bounds(places: &[Place<'_>]) -> PartBounds
-    requires { AreInLimit (place_views places.now) }
-    ensures code { result.code_end ≡ end_of_pieces is_code_piece (place_views places.now) }
-    ensures file_data { result.data_end ≡ end_of_pieces is_file_data (place_views places.now) }
-    ensures image { result.image_end ≡ end_of_pieces is_loaded_piece (place_views places.now) }
-    ensures zeros { result.zero_start
-        ≡ start_of_pieces is_zero_data (place_views places.now) }
-{
-    let mut code_end = 0;
-    let mut data_end = 0;
-    let mut image_end = 0;
-    let mut zero_start = None;
-    for place in places {
-        code_end = further(Bounded::Code, code_end, place);
-        data_end = further(Bounded::FileData, data_end, place);
-        image_end = further(Bounded::Loaded, image_end, place);
-        zero_start = earlier(Bounded::Zeros, zero_start, place);
-    }
-    PartBounds {
-        code_end,
-        data_end,
-        image_end,
-        zero_start,
-    }
+    put_last(&mut outputs, &last)?;
+    Ok(AllBounds { parts, outputs })
 }
 
 /// The bounds of pieces at their places, of which the GOT has this number.
@@ -297,13 +314,13 @@ pub fn bounds_of<'a>(
     requires { AreInLimit (place_views places.now) }
     ensures { IfOk result (AreBounds got (place_views places.now)) }
 {
-    let parts = part_bounds(places);
+    let AllBounds { parts, outputs } = all_bounds(alloc, got, places)?;
     Ok(Bounds {
         code_end: parts.code_end,
         data_end: parts.data_end,
         zero_start: parts.zero_start.unwrap_or(0),
         image_end: parts.image_end,
-        outputs: extents_of(alloc, got, places)?,
+        outputs,
     })
 }
 
