@@ -4,6 +4,7 @@ pub mod CommonEntries
 pub mod CommonRows
 pub mod Defined
 pub mod Gathering
+pub mod Hints
 pub mod Padded
 pub mod PieceLemmas
 pub mod PlaceKeys

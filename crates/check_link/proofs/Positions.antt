@@ -4,68 +4,83 @@ use Rattle.std.specs.Prelude.{◌&&◌, find, slice_get}
 use Rattle.std.specs.Option.{option_and_then, option_or}
 use Rattle.std.specs.Str.{bytes_eq}
 use Rattle.std.proofs.lemmas.Bool.{not-true}
-use Rattle.std.proofs.lemmas.List.{get_or_past, get_or-replicate, get_or-set_other, length-replicate}
+use Rattle.std.proofs.lemmas.List.{get_or_default, get_or_past, get_or-replicate, get_or-set_other, get_or-set_same, length-replicate}
 use Rattle.std.proofs.lemmas.Option.{get_or_from_slice_get, none-some, same_Some, slice_get_past}
 use Rattle.std.proofs.lemmas.Slice.Eq.{bytes_eq-Decides}
 use Rattle.elf_model.specs.ChosenSymbols.{definitions}
 use Rattle.elf_model.specs.Loading.{LoadedObject}
 use Rattle.elf_model.specs.Resolution.{SymbolOf, has_name}
-use Rattle.check_link.specs.Chosen.{AreChosen, AreOwnChoices, AreOwnIn, IsOwn, IsSized, definition_in, first_from, position_in}
+use Rattle.check_link.specs.Chosen.{AreChosen, AreOwnChoices, AreOwnIn, IsOwn, IsSized, definition_in, first_from, marked_by, position_at, position_in}
 use Rattle.check_link.proofs.Padded.{below_or_not}
 use Rattle.check_link.specs.Views.{symbol_view, symbol_views}
 use Rattle.check_link.specs.declared.chosen_definitions.Chosen.{Chosen}
 use Rattle.check_link.specs.declared.things.SymbolOf as code
 use Rattle.elf_model.proofs.Rests.{rest_at}
-use Rattle.check_load.specs.NameNumbers.{is_among, number_of, with_name}
-use Rattle.check_load.proofs.Numbering.{number_past, value_known, value_pushed}
+use Rattle.check_load.specs.NameNumbers.{number_of, with_name}
+use Rattle.check_load.proofs.Numbering.{value_written}
+use Rattle.elf_model.proofs.Found.{or_none}
 
--- what an index has for each name, once a position came in for one that is new
-pub position_added :
-    (old new : Chosen) (name : List ℕ) (position : ℕ) → IsSized old → is_among old.names name ≡ false → new.names ≡ with_name old.names name →
-    new.positions.items ≡ old.positions.items ++ position ∷ [] → (n : List ℕ) →
-    position_in new n ≡ option_or (position_in old n) (cond (bytes_eq name n) (Some position) None)
-position_added old new name position sized past comes grown n =
-    ap (λ (ps : List ℕ). slice_get ps (number_of new.names n)) grown
-    ∙ (ap (λ (ns : List (List ℕ)). slice_get (old.positions.items ++ position ∷ []) (number_of ns n)) comes
-    ∙ value_pushed old.names old.positions.items name position sized past n)
+still : (old more new : Option ℕ) (p : ℕ) → new ≡ option_or old more → old ≡ Some p → new ≡ Some p
+still old more new p is was = is ∙ ap (λ (o : Option ℕ). option_or o more) was
 
--- and for one that it has
-pub position_kept :
-    (old new : Chosen) (name : List ℕ) (position : ℕ) → IsSized old → is_among old.names name ≡ true → new.names ≡ with_name old.names name →
-    new.positions.items ≡ old.positions.items → (n : List ℕ) → position_in new n ≡ option_or (position_in old n) (cond (bytes_eq name n) (Some position) None)
-position_kept old new name position sized known comes same n =
-    ap (λ (ps : List ℕ). slice_get ps (number_of new.names n)) same
-    ∙ (ap (λ (ns : List (List ℕ)). slice_get old.positions.items (number_of ns n))
-    (comes ∙ ap (λ (b : Bool). cond b old.names (old.names ++ name ∷ [])) known)
-    ∙ value_known old.names old.positions.items name position sized known n)
+-- A position comes into an index, unless one of its name is there.
+module _ (before : Chosen) (later : List (List ℕ)) (reached written : List (Option ℕ)) (name : List ℕ) (i : ℕ) (old new : Option ℕ) (position : ℕ)
+    (sized : IsSized before) (comes : later ≡ with_name before.names name) (is : i ≡ number_of before.names name)
+    (same : (k : ℕ) → position_at reached k ≡ position_at before.positions.items k) (there : i < length reached) (read : old ≡ get_or reached i old)
+    (put : written ≡ set reached i new) (taken : new ≡ option_or old (Some position)) where
+  read_position : old ≡ position_in before name
+  read_position = read ∙ (get_or_default reached i old None there ∙ (same i ∙ ap (position_at before.positions.items) is))
 
--- whether a name is new, as the names tell it
-pub known : (names : List (List ℕ)) (name : List ℕ) (fresh : Bool) → fresh ≡ not (is_among names name) → fresh ≡ false → is_among names name ≡ true
-known names name fresh is no_ = by (is_among names name) (sym is ∙ no_)
-  where
-    by : (b : Bool) → not b ≡ false → b ≡ true
-    by true e = refl
-    by false e = absurd (true≢false e)
+  -- what it has later for a name
+  abbrev later_of : List ℕ → Option ℕ
+  later_of n = position_at written (number_of later n)
 
-pub unknown : (names : List (List ℕ)) (name : List ℕ) (fresh : Bool) → fresh ≡ not (is_among names name) → fresh ≡ true → is_among names name ≡ false
-unknown names name fresh is yes_ = not-true (is_among names name) (sym is ∙ yes_)
+  pub position_put : (n : List ℕ) → position_at written (number_of later n) ≡ option_or (position_in before n) (cond (bytes_eq name n) (Some position) None)
+  position_put n =
+      ap (λ (l : List (Option ℕ)). position_at l (number_of later n)) put
+      ∙ value_written None before.names later before.positions.items reached name i new sized comes is same there n
+      ∙ by (bytes_eq name n) refl
+    where
+      by : (b : Bool) → bytes_eq name n ≡ b → cond b new (position_in before n) ≡ option_or (position_in before n) (cond b (Some position) None)
+      by true e = taken ∙ ap (λ (o : Option ℕ). option_or o (Some position)) (read_position ∙ ap (position_in before) ((bytes_eq-Decides name n).0 e))
+      by false e = sym (or_none (position_in before n))
 
--- each name has a position then, too
-pub sized_kept : (old new : Chosen) (name : List ℕ) → IsSized old → is_among old.names name ≡ true → new.names ≡ with_name old.names name →
-    new.positions.items ≡ old.positions.items → IsSized new
-sized_kept old new name sized there comes same =
-    ap (λ (ps : List ℕ). length ps) same
-    ∙ (sized ∙ sym (ap (λ (ns : List (List ℕ)). length ns) (comes ∙ ap (λ (b : Bool). cond b old.names (old.names ++ name ∷ [])) there)))
+  kept_for : (p : ℕ) (s : SymbolOf) → position_in before s.name ≡ Some p → later_of s.name ≡ Some p
+  kept_for p s was = still (position_in before s.name) _ (later_of s.name) p (position_put s.name) was
 
-pub sized_added : (old new : Chosen) (name : List ℕ) (position : ℕ) → IsSized old → is_among old.names name ≡ false → new.names ≡ with_name old.names name →
-    new.positions.items ≡ old.positions.items ++ position ∷ [] → IsSized new
-sized_added old new name position sized past comes grown =
-    let longer = length-append old.names (name ∷ []) in
-    let more = length-append old.positions.items (position ∷ []) in
-    let all : length new.names ≡ length (old.names ++ name ∷ []) =
-    ap (λ (ns : List (List ℕ)). length ns) (comes ∙ ap (λ (b : Bool). cond b old.names (old.names ++ name ∷ [])) past) in
-    let each : length new.positions.items ≡ length (old.positions.items ++ position ∷ []) = ap (λ (ps : List ℕ). length ps) grown in
-    omega (arith, longer, more, all, each, sized)
+  put_first : old ≡ None → later_of name ≡ Some position
+  put_first none =
+      position_put name
+      ∙ ap (λ (o : Option ℕ). option_or o (cond (bytes_eq name name) (Some position) None)) (sym read_position ∙ none)
+      ∙ ap (λ (b : Bool). option_or None (cond b (Some position) None)) ((bytes_eq-Decides name name).1 refl)
+
+  pub own_put :
+      (ss : List SymbolOf) → ((s : SymbolOf) → slice_get ss position ≡ Some s → s.name ≡ name) → IsOwn ss before →
+      (n p : ℕ) (s : SymbolOf) → position_at written n ≡ Some p → slice_get ss p ≡ Some s → position_at written (number_of later s.name) ≡ Some p
+  own_put ss named own n p s at found = by (below_or_not n i) (below_or_not i n)
+    where
+      stored : position_at (set reached i new) n ≡ Some p
+      stored = sym (ap (λ (l : List (Option ℕ)). position_at l n) put) ∙ at
+
+      other : (n ≡ i → ⊥) → later_of s.name ≡ Some p
+      other apart = kept_for p s (own n p s (sym (same n) ∙ (sym (get_or-set_other reached i n new None apart) ∙ stored)) found)
+
+      first : old ≡ None → position ≡ p → later_of s.name ≡ Some p
+      first none last = ap later_of (named s (ap (slice_get ss) last ∙ found)) ∙ put_first none ∙ ap Some last
+
+      here : (o : Option ℕ) → old ≡ o → option_or o (Some position) ≡ Some p → later_of s.name ≡ Some p
+      here (Some q) e f = kept_for p s (own (number_of before.names name) p s (sym read_position ∙ (e ∙ f)) found)
+      here None e f = first e (same_Some position p f)
+
+      at_i : n ≡ i → later_of s.name ≡ Some p
+      at_i e =
+          here old refl
+          (sym taken ∙ (sym (get_or-set_same reached i new None there) ∙ (ap (position_at (set reached i new)) (sym e) ∙ stored)))
+
+      by : (n < i) ⊎ (i ≤ n) → (i < n) ⊎ (n ≤ i) → later_of s.name ≡ Some p
+      by (inl low) either = other (λ e. omega (arith, low, e))
+      by (inr past) (inl low) = other (λ e. omega (arith, low, e))
+      by (inr past) (inr behind) = at_i (omega (arith, past, behind))
 
 -- what stands behind the front of a list
 behind : (front : List SymbolOf) (s : SymbolOf) (ss : List SymbolOf) → slice_get (front ++ s ∷ ss) (length front) ≡ Some s
@@ -98,45 +113,6 @@ pub first_found :
     option_and_then (slice_get all) (option_or (first_from test 0 all) o) ≡ option_or (find test all) (option_and_then (slice_get all) o)
 first_found test all o = found_at test all [] all 0 o refl refl
 
--- Positions of the chosen ones of their own names, with one more.
-last_or_before : (ps : List ℕ) (q n p : ℕ) → slice_get (ps ++ q ∷ []) n ≡ Some p → (slice_get ps n ≡ Some p) ⊎ (p ≡ q)
-last_or_before [] q zero p at = inr (sym (same_Some q p at))
-last_or_before [] q (suc n) p at = absurd (none-some p at)
-last_or_before (x ∷ xs) q zero p at = inl at
-last_or_before (x ∷ xs) q (suc n) p at = last_or_before xs q n p at
-
-still : (old more new : Option ℕ) (p : ℕ) → new ≡ option_or old more → old ≡ Some p → new ≡ Some p
-still old more new p is was = is ∙ ap (λ (o : Option ℕ). option_or o more) was
-
-module _ (ss : List SymbolOf) (old new : Chosen) (name : List ℕ) (position : ℕ)
-    (grown : (n : List ℕ) → position_in new n ≡ option_or (position_in old n) (cond (bytes_eq name n) (Some position) None)) (own : IsOwn ss old) where
-  pub own_kept : new.positions.items ≡ old.positions.items → IsOwn ss new
-  own_kept same n p s at there =
-      still (position_in old s.name) _ (position_in new s.name) p (grown s.name) (own n p s (sym (ap (λ (ps : List ℕ). slice_get ps n) same) ∙ at) there)
-
-  pub own_added :
-      new.positions.items ≡ old.positions.items ++ position ∷ [] → IsSized old → is_among old.names name ≡ false →
-      ((s : SymbolOf) → slice_get ss position ≡ Some s → s.name ≡ name) → IsOwn ss new
-  own_added more sized past named n p s at there =
-      by (last_or_before old.positions.items position n p (sym (ap (λ (ps : List ℕ). slice_get ps n) more) ∙ at))
-    where
-      fresh : position_in old name ≡ None
-      fresh =
-          let last = number_past old.names name past in
-          slice_get_past old.positions.items (number_of old.names name) (omega (arith, last, sized))
-
-      now : position_in new name ≡ Some position
-      now =
-          grown name
-          ∙ ap (λ (o : Option ℕ). option_or o (cond (bytes_eq name name) (Some position) None)) fresh
-          ∙ ap (λ (b : Bool). option_or None (cond b (Some position) None)) ((bytes_eq-Decides name name).1 refl)
-
-      by : (slice_get old.positions.items n ≡ Some p) ⊎ (p ≡ position) → position_in new s.name ≡ Some p
-      by (inl before) = still (position_in old s.name) _ (position_in new s.name) p (grown s.name) (own n p s before there)
-      by (inr last) =
-          let same : s.name ≡ name = named s (ap (slice_get ss) (sym last) ∙ there) in
-          ap (position_in new) same ∙ now ∙ ap Some (sym last)
-
 -- Marks of such definitions.
 pub own_none : (ss : List SymbolOf) (index : Chosen) (own : List Bool) (n : ℕ) → own ≡ replicate n false → AreOwnIn ss index own
 own_none ss index own n are i s mark there =
@@ -149,7 +125,7 @@ own_none ss index own n are i s mark there =
         get_or_past (replicate n false) i false (omega (arith, past, long))
 
 pub own_marked :
-    (ss : List SymbolOf) (index : Chosen) (own new : List Bool) (k p : ℕ) → IsOwn ss index → AreOwnIn ss index own → slice_get index.positions.items k ≡ Some p →
+    (ss : List SymbolOf) (index : Chosen) (own new : List Bool) (k p : ℕ) → IsOwn ss index → AreOwnIn ss index own → position_at index.positions.items k ≡ Some p →
     new ≡ set own p true → AreOwnIn ss index new
 own_marked ss index own new k p is are at put i s mark there = by (below_or_not i p) (below_or_not p i)
   where
@@ -167,6 +143,13 @@ own_marked ss index own new k p is are at put i s mark there = by (below_or_not 
         let here : slice_get ss p ≡ Some s = ap (slice_get ss) (sym same) ∙ there in
         ap (option_and_then (slice_get ss)) (is k p s at here) ∙ here
 
+-- a position more, where there is one
+pub own_marked_by :
+    (ss : List SymbolOf) (index : Chosen) (own new : List Bool) (k : ℕ) (o : Option ℕ) → IsOwn ss index → AreOwnIn ss index own → position_at index.positions.items k ≡ o →
+    new ≡ marked_by own o → AreOwnIn ss index new
+own_marked_by ss index own new k None is are at put = subst (AreOwnIn ss index) (sym put) are
+own_marked_by ss index own new k (Some p) is are at put = own_marked ss index own new k p is are at put
+
 pub own_told :
     (objects L : List LoadedObject) (ss : List SymbolOf) (index : Chosen) (own : List Bool) → AreChosen objects ss index → objects ≡ L → ss ≡ definitions objects →
     AreOwnIn ss index own → AreOwnChoices L (definitions L) own
@@ -175,6 +158,10 @@ own_told objects L ss index own chosen_are same are is =
     (λ i s mark there.
     sym (chosen_are s.name)
     ∙ is i s (get_or_from_slice_get own i true false mark) (ap (λ (ts : List SymbolOf). slice_get ts i) are ∙ there))
+
+-- the one at a position has its name
+pub name_of : (ss : List SymbolOf) (position : ℕ) (t : SymbolOf) → slice_get ss position ≡ Some t → (s : SymbolOf) → slice_get ss position ≡ Some s → s.name ≡ t.name
+name_of ss position t found s there = ap (λ (x : SymbolOf). x.name) (same_Some s t (sym there ∙ found))
 
 -- One definition more in an index.
 pub viewed_at : (xs : List code.SymbolOf) (i : ℕ) (d : code.SymbolOf) → i < length xs → slice_get (symbol_views xs) i ≡ Some (symbol_view (get_or xs i d))

@@ -1,5 +1,5 @@
 -- One request more in a table of requests with numbers, and in a set of requests.
-use Rattle.std.proofs.Common.{◌≡◌, ℕ, ◌<◌, ◌≤◌, ◌&&◌, ◌||◌, Bool, true, false, cond, List, [], ◌∷◌, ◌++◌, Option, Some, None, get_or, length, map, refl, sym, ◌∙◌, ap}
+use Rattle.std.proofs.Common.{◌≡◌, ℕ, ◌<◌, ◌≤◌, ◌-◌, ◌&&◌, ◌||◌, Bool, true, false, cond, List, [], ◌∷◌, ◌++◌, Option, Some, None, get_or, length, map, not, refl, sym, take, take_at, ◌∙◌, ap}
 use Rattle.std.specs.Prelude.{Err, Ok, OnErr, Result, is_some, set}
 use Rattle.std.specs.List.{list_any}
 use Rattle.std.specs.Option.{option_or}
@@ -15,7 +15,7 @@ use Rattle.elf_model.specs.Slots.{Request, same_kind, same_request}
 use Rattle.elf_model.specs.declared.link_map.SlotKind.{SlotKind}
 use Rattle.elf_model.specs.declared.link_map.SlotKind.TheVariants as slot
 use Rattle.elf_model.proofs.SameRequests.{requests_equal}
-use Rattle.check_link.specs.Slots.{has_in, in_table, is_asked, is_thread, kind_view, no_requests, number_in, number_of_kind, of_name_in, requests_at, request_view, same_flag}
+use Rattle.check_link.specs.Slots.{HasAll, IsSized, has_in, in_table, is_asked, is_thread, kind_view, no_requests, number_in, number_of_kind, of_name_in, requests_at, request_view, same_flag}
 use Rattle.check_link.specs.declared.request_map.NameRequests.{NameRequests}
 use Rattle.check_link.specs.declared.request_map.RequestMap.{RequestMap}
 use Rattle.check_link.specs.declared.requests.Request as code
@@ -190,3 +190,22 @@ asked_same rs r q there = by (is_asked rs q) (same_request q r) refl refl
     by true b e f = refl
     by false false e f = refl
     by false true e f = absurd (false≢true (sym e ∙ ap (is_asked rs) (requests_equal q r f) ∙ there))
+
+-- a table takes in a request that it has
+pub has_kept :
+    (rs : List Request) (old new : RequestMap) (r : Request) (at : ℕ) → HasAll rs old → IsSized new →
+    ((q : Request) → number_in new q ≡ option_or (number_in old q) (cond (same_request q r) (Some at) None)) → has_in old r ≡ true → HasAll rs new
+has_kept rs old new r at are sized gained there = record {
+  sized = sized;
+  all = λ q.
+      has_added old new r at gained q
+      ∙ (ap (λ (b : Bool). b || same_request q r) (are.all q) ∙ sym (asked_same rs r q (sym (are.all r) ∙ there)));
+}
+
+pub told_there : (b fresh : Bool) → fresh ≡ not b → fresh ≡ false → b ≡ true
+told_there true fresh is e = refl
+told_there false fresh is e = absurd (false≢true (sym e ∙ is))
+
+-- what is left of a list with one more, without that
+pub popped : {X : Type 0} (xs more left : List X) (x : X) (n : ℕ) → more ≡ xs ++ x ∷ [] → left ≡ take (n - 1) more → length xs ≡ n - 1 → left ≡ xs
+popped {X} xs more left x n is taken long = taken ∙ (ap (λ (l : List X). take (n - 1) l) is ∙ take_at xs (x ∷ []) (n - 1) long)

@@ -14,7 +14,7 @@ use Rattle.elf_model.specs.ObjectFile.{symbols}
 use Rattle.elf_model.specs.Resolution.{SymbolOf, all_symbols, symbol_of, symbols_from, symbols_of}
 use Rattle.elf_model.specs.declared.records.Symbol.{Symbol}
 use Rattle.check_load.specs.NameNumbers.{number_of}
-use Rattle.check_link.specs.Chosen.{AreChosen, AreOtherChoices, HaveMarks, position_in}
+use Rattle.check_link.specs.Chosen.{AreChosen, AreOtherChoices, HaveMarks, marked_by, position_at, position_in}
 use Rattle.check_link.specs.declared.chosen_definitions.Chosen.{Chosen}
 use Rattle.check_link.proofs.Padded.{below_or_not}
 
@@ -98,19 +98,27 @@ unset (m ∷ ms) (suc q) (suc p) e = let r = unset ms q p e in (r.0, λ h. r.1 (
 
 -- one position more has its mark
 pub marks_more :
-    (positions : List ℕ) (k q : ℕ) (old new : List Bool) → new ≡ slice_set old q true → slice_get positions k ≡ Some q →
-    ((n p : ℕ) → n < k → slice_get positions n ≡ Some p → slice_get old p ≡ Some false → ⊥) →
-    (n p : ℕ) → n < k + 1 → slice_get positions n ≡ Some p → slice_get new p ≡ Some false → ⊥
+    (positions : List (Option ℕ)) (k : ℕ) (q : Option ℕ) (old new : List Bool) → new ≡ marked_by old q → position_at positions k ≡ q →
+    ((n p : ℕ) → n < k → position_at positions n ≡ Some p → slice_get old p ≡ Some false → ⊥) →
+    (n p : ℕ) → n < k + 1 → position_at positions n ≡ Some p → slice_get new p ≡ Some false → ⊥
 marks_more positions k q old new is here before n p low at unmarked = by (below_or_not n k)
   where
-    was : (slice_get old p ≡ Some false) × (p ≡ q → ⊥)
-    was = unset old q p (ap (λ (ms : List Bool). slice_get ms p) (sym is) ∙ unmarked)
+    marked : slice_get (marked_by old q) p ≡ Some false
+    marked = ap (λ (ms : List Bool). slice_get ms p) (sym is) ∙ unmarked
+
+    was : (o : Option ℕ) → slice_get (marked_by old o) p ≡ Some false → slice_get old p ≡ Some false
+    was None u = u
+    was (Some i) u = (unset old i p u).0
+
+    not_here : (o : Option ℕ) → slice_get (marked_by old o) p ≡ Some false → o ≡ Some p → ⊥
+    not_here None u e = none-some p e
+    not_here (Some i) u e = (unset old i p u).1 (sym (same_Some i p e))
 
     by : (n < k) ⊎ (k ≤ n) → ⊥
-    by (inl below) = before n p below at was.0
+    by (inl below) = before n p below at (was q marked)
     by (inr past) =
         let e : n ≡ k = omega (arith, past, low) in
-        was.1 (sym (same_Some q p (sym here ∙ (ap (slice_get positions) (sym e) ∙ at))))
+        not_here q marked (sym here ∙ (ap (position_at positions) (sym e) ∙ at))
 
 -- definitions without a mark aren't chosen, where the positions of all chosen ones have one
 pub unmarked_unchosen :

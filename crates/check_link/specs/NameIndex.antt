@@ -5,6 +5,8 @@ use Rattle.std.specs.BTreeMap.{BTreeMap}
 use Rattle.elf_model.specs.ChosenSymbols.{definitions}
 use Rattle.elf_model.specs.Commons.{block_named, blocks}
 use Rattle.elf_model.specs.Loading.{LoadedObject}
+use Rattle.check_load.specs.Numbered.{AreNumbered}
+use Rattle.check_load.specs.declared.loader.Loaded.{Loaded}
 use Rattle.check_link.specs.Chosen.{AreChosen, IsOwn, IsSized}
 use Rattle.check_link.specs.Commons.{block_in}
 use Rattle.check_link.specs.Views.{block_views, symbol_views}
@@ -17,8 +19,9 @@ abbrev pub IsBlockIndex : List LoadedObject → BTreeMap (Bor (List ℕ)) code.B
 IsBlockIndex objects index = (name : List ℕ) → block_in index name ≡ block_named objects name
 
 -- the definitions and the blocks of objects, and indexes of the chosen definitions and of the blocks
-pub record AreNames (objects : List LoadedObject) (defined : List things.SymbolOf) (chosen : Chosen) (found : List code.Block) (index : BTreeMap (Bor (List ℕ)) code.Block) : Type 0 where
+pub record AreNames (loaded : List Loaded) (objects : List LoadedObject) (defined : List things.SymbolOf) (chosen : Chosen) (found : List code.Block) (index : BTreeMap (Bor (List ℕ)) code.Block) : Type 0 where
   pub definitions_are : symbol_views defined ≡ definitions objects
+  pub numbered : AreNumbered chosen.names loaded
   pub sized : IsSized chosen
   pub chosen_are : AreChosen objects (symbol_views defined) chosen
   pub own : IsOwn (symbol_views defined) chosen

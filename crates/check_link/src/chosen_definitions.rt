@@ -1,60 +1,112 @@
 //! The index of the chosen definitions by their names: of each name the position of its chosen one in the list of the
 //! definitions.
-ghost use Rattle.std.specs.Prelude.{◌≡◌, ◌&&◌, ℕ, [], IfOk, List, None, OnOk, Some, cond, filter, option_map, slice_get, slice_set, true};
-ghost use Rattle.std.specs.Option.{option_or};
+ghost use Rattle.std.specs.Prelude.{◌≡◌, ◌≤◌, ◌<◌, ◌+◌, ◌&&◌, ℕ, IfOk, List, None, OnOk, Some, cond, filter, length, max, option_map, slice_get, slice_set, true};
+ghost use Rattle.std.specs.Option.{option_and_then, option_or};
 ghost use Rattle.std.specs.Str.{bytes_eq};
 ghost use Rattle.elf_model.specs.ChosenSymbols.{is_definition};
 ghost use Rattle.elf_model.specs.Resolution as resolution;
 ghost use Rattle.elf_model.specs.Resolution.{all_symbols, has_name, is_common_definition, is_strong, is_weak_definition};
+ghost use Rattle.check_load.specs.NameNumbers.{KeepNumbers, number_of, with_name};
+ghost use Rattle.check_load.specs.Numbered.{AreNumbered};
 ghost use Rattle.check_load.specs.Views.{loaded_views};
-ghost use Rattle.check_link.specs.Chosen.{AreChosen, AreOwnIn, HaveMarks, IsOwn, IsSized, definition_in, first_from, is_found, position_in};
+ghost use Rattle.check_link.specs.Chosen.{AreChosen, AreHinted, AreOwnIn, HaveMarks, IsHinted, IsOwn, IsSized, definition_in, first_from, hint_at, is_found, marked_by, position_at, position_in};
 ghost use Rattle.check_link.specs.Views.{symbol_view, symbol_views};
 
 use crate::definitions::{is_common_definition, is_strong, is_weak_definition};
 use crate::things::SymbolOf;
 use check_load::{Loaded, NameTable};
-use elf_model::NameSeed;
 use std::alloc::{AllocError, Global};
 
-/// Names, and the position of the chosen definition of each at its number.
+/// Names, and the position of the chosen definition of each at its number. Names that have no place in the list have none.
 #[derive(Drop)]
 pub struct Chosen<'a> {
     pub names: NameTable<'a>,
-    pub positions: Vec<usize>,
+    pub positions: Vec<Option<usize>>,
 }
 
-/// Puts a position into the index, unless one of the name is there.
+/// Lets there be a place at a number: those that come have no position.
+fn reach(positions: &mut Vec<Option<usize>>, number: usize) -> Result<(), AllocError>
+    ensures same { (i : ℕ) → position_at positions.new.items i ≡ position_at positions.old.items i }
+    ensures there { OnOk result (number < length positions.new.items) }
+    ensures size { length positions.new.items ≤ max (length positions.old.items) (number + 1) }
+{
+    while positions.len() <= number {
+        positions.push(None)?;
+    }
+    Ok(())
+}
+
+/// The number of the name of a symbol, by its object's and its own number; None where none is kept.
+pub fn number_at(objects: &[Loaded<'_>], object: u64, symbol: u64) -> Option<usize>
+    ensures { result ≡ hint_at objects.now object symbol }
+{
+    let loaded = objects.get(object as usize)?;
+    loaded.numbers.at(symbol as usize)
+}
+
+/// The number of a symbol's name, which gets one unless it has one.
+fn number_for<'a>(
+    objects: &[Loaded<'a>],
+    names: &mut NameTable<'a>,
+    symbol: &SymbolOf<'a>,
+) -> Result<usize, AllocError>
+    requires { IsHinted names.old objects.now (symbol_view symbol.now) }
+    ensures added { OnOk result (names.new ≡ with_name names.old symbol.now.name.now) }
+    ensures number { IfOk result (λ k. k ≡ number_of names.old symbol.now.name.now) }
+{
+    if let Some(known) = number_at(objects, symbol.object, symbol.number) {
+        return Ok(known);
+    }
+    let (number, _is_new) = names.add(symbol.name)?;
+    Ok(number)
+}
+
+/// Keeps a position, unless there is one.
+fn keep_first(place: &mut Option<usize>, position: usize)
+    ensures { place.new ≡ option_or place.old (Some position) }
+{
+    if place.is_none() {
+        *place = Some(position);
+    }
+}
+
+/// Puts a symbol's position into the index, unless one of its name is there.
 fn add_position<'a>(
+    objects: &[Loaded<'a>],
     index: &mut Chosen<'a>,
-    name: &'a [u8],
+    symbol: &SymbolOf<'a>,
     position: usize,
 ) -> Result<(), AllocError>
-    requires { IsSized index.old }
+    requires sized { IsSized index.old }
+    requires hinted { IsHinted index.old.names objects.now (symbol_view symbol.now) }
     ensures sized { OnOk result (IsSized index.new) }
+    ensures kept { OnOk result (KeepNumbers index.old.names index.new.names) }
     ensures positions { OnOk result ((n : List ℕ) →
         position_in index.new n
-        ≡ option_or (position_in index.old n) (cond (bytes_eq name.now n) (Some position) None)) }
+        ≡ option_or (position_in index.old n)
+        (cond (bytes_eq symbol.now.name.now n) (Some position) None)) }
     ensures own { OnOk result ((ss : List resolution.SymbolOf) →
-        ((s : resolution.SymbolOf) → slice_get ss position ≡ Some s → s.name ≡ name.now)
+        slice_get ss position ≡ Some (symbol_view symbol.now)
         → IsOwn ss index.old → IsOwn ss index.new) }
 {
-    let (_number, is_new) = index.names.add(name)?;
-    if !is_new {
-        return Ok(());
-    }
-    index.positions.push(position)?;
+    let number = number_for(objects, &mut index.names, symbol)?;
+    reach(&mut index.positions, number)?;
+    keep_first(&mut index.positions[number], position);
     Ok(())
 }
 
 /// Puts a definition's position into the index where it is `wanted`, unless one of its name is there.
 fn add_wanted<'a>(
+    objects: &[Loaded<'a>],
     index: &mut Chosen<'a>,
     wanted: bool,
     symbol: &SymbolOf<'a>,
     position: usize,
 ) -> Result<(), AllocError>
-    requires { IsSized index.old }
+    requires sized { IsSized index.old }
+    requires hinted { IsHinted index.old.names objects.now (symbol_view symbol.now) }
     ensures sized { OnOk result (IsSized index.new) }
+    ensures kept { OnOk result (KeepNumbers index.old.names index.new.names) }
     ensures positions { OnOk result ((name : List ℕ) →
         position_in index.new name
         ≡ option_or (position_in index.old name)
@@ -66,13 +118,21 @@ fn add_wanted<'a>(
     if !wanted {
         return Ok(());
     }
-    add_position(index, symbol.name, position)
+    add_position(objects, index, symbol, position)
 }
 
 /// Adds the first strong one among definitions of each name that the index hasn't got.
-fn add_strong<'a>(index: &mut Chosen<'a>, definitions: &[SymbolOf<'a>]) -> Result<(), AllocError>
-    requires { IsSized index.old }
+fn add_strong<'a>(
+    objects: &[Loaded<'a>],
+    index: &mut Chosen<'a>,
+    definitions: &[SymbolOf<'a>],
+) -> Result<(), AllocError>
+    requires sized { IsSized index.old }
+    requires hinted { AreHinted index.old.names objects.now (symbol_views definitions.now) }
     ensures sized { OnOk result (IsSized index.new) }
+    ensures kept { OnOk result (KeepNumbers index.old.names index.new.names) }
+    ensures hinted { OnOk result
+        (AreHinted index.new.names objects.now (symbol_views definitions.now)) }
     ensures positions { OnOk result ((name : List ℕ) →
         position_in index.new name
         ≡ option_or (position_in index.old name)
@@ -81,15 +141,23 @@ fn add_strong<'a>(index: &mut Chosen<'a>, definitions: &[SymbolOf<'a>]) -> Resul
         → IsOwn (symbol_views definitions.now) index.new) }
 {
     for (i, symbol) in definitions.iter().enumerate() {
-        add_wanted(index, is_strong(symbol), symbol, i)?;
+        add_wanted(objects, index, is_strong(symbol), symbol, i)?;
     }
     Ok(())
 }
 
 /// Adds the first common one among definitions of each name that the index hasn't got.
-fn add_common<'a>(index: &mut Chosen<'a>, definitions: &[SymbolOf<'a>]) -> Result<(), AllocError>
-    requires { IsSized index.old }
+fn add_common<'a>(
+    objects: &[Loaded<'a>],
+    index: &mut Chosen<'a>,
+    definitions: &[SymbolOf<'a>],
+) -> Result<(), AllocError>
+    requires sized { IsSized index.old }
+    requires hinted { AreHinted index.old.names objects.now (symbol_views definitions.now) }
     ensures sized { OnOk result (IsSized index.new) }
+    ensures kept { OnOk result (KeepNumbers index.old.names index.new.names) }
+    ensures hinted { OnOk result
+        (AreHinted index.new.names objects.now (symbol_views definitions.now)) }
     ensures positions { OnOk result ((name : List ℕ) →
         position_in index.new name
         ≡ option_or (position_in index.old name)
@@ -99,15 +167,23 @@ fn add_common<'a>(index: &mut Chosen<'a>, definitions: &[SymbolOf<'a>]) -> Resul
         → IsOwn (symbol_views definitions.now) index.new) }
 {
     for (i, symbol) in definitions.iter().enumerate() {
-        add_wanted(index, is_common_definition(symbol), symbol, i)?;
+        add_wanted(objects, index, is_common_definition(symbol), symbol, i)?;
     }
     Ok(())
 }
 
 /// Adds the first weak one among definitions of each name that the index hasn't got.
-fn add_weak<'a>(index: &mut Chosen<'a>, definitions: &[SymbolOf<'a>]) -> Result<(), AllocError>
-    requires { IsSized index.old }
+fn add_weak<'a>(
+    objects: &[Loaded<'a>],
+    index: &mut Chosen<'a>,
+    definitions: &[SymbolOf<'a>],
+) -> Result<(), AllocError>
+    requires sized { IsSized index.old }
+    requires hinted { AreHinted index.old.names objects.now (symbol_views definitions.now) }
     ensures sized { OnOk result (IsSized index.new) }
+    ensures kept { OnOk result (KeepNumbers index.old.names index.new.names) }
+    ensures hinted { OnOk result
+        (AreHinted index.new.names objects.now (symbol_views definitions.now)) }
     ensures positions { OnOk result ((name : List ℕ) →
         position_in index.new name
         ≡ option_or (position_in index.old name)
@@ -117,46 +193,35 @@ fn add_weak<'a>(index: &mut Chosen<'a>, definitions: &[SymbolOf<'a>]) -> Result<
         → IsOwn (symbol_views definitions.now) index.new) }
 {
     for (i, symbol) in definitions.iter().enumerate() {
-        add_wanted(index, is_weak_definition(symbol), symbol, i)?;
+        add_wanted(objects, index, is_weak_definition(symbol), symbol, i)?;
     }
     Ok(())
 }
 
-/// An index of no names, with room for a number of them. Names are to be hashed from a seed, or found by their order without
-/// one.
-fn empty_index<'a>(
-    alloc: Global,
-    count: usize,
-    seed: Option<NameSeed>,
-) -> Result<Chosen<'a>, AllocError>
-    ensures sized { IfOk result IsSized }
-    ensures empty { IfOk result (λ c. c.positions.items ≡ []) }
-{
-    let mut names = NameTable::new(alloc, seed);
-    names.reserve(count)?;
-    let positions = Vec::with_capacity(alloc, count)?;
-    Ok(Chosen { names, positions })
-}
-
-/// The chosen definition of each name, by its position. The definitions are those of the objects. Names are to be hashed
-/// from a seed, or found by their order without one.
+/// The chosen definition of each name, by its position. The definitions are those of the objects, whose symbols have numbers of
+/// the names.
 pub fn index_names<'a>(
     alloc: Global,
     objects: &[Loaded<'a>],
     definitions: &[SymbolOf<'a>],
-    seed: Option<NameSeed>,
+    names: NameTable<'a>,
 ) -> Result<Chosen<'a>, AllocError>
-    requires { symbol_views definitions.now
+    requires definitions { symbol_views definitions.now
         ≡ filter is_definition (all_symbols (loaded_views objects.now)) }
+    requires numbered { AreNumbered names objects.now }
     ensures sized { IfOk result IsSized }
+    ensures numbered { IfOk result (λ c. AreNumbered c.names objects.now) }
     ensures chosen { IfOk result (AreChosen (loaded_views objects.now)
         (symbol_views definitions.now)) }
     ensures own { IfOk result (IsOwn (symbol_views definitions.now)) }
 {
-    let mut index = empty_index(alloc, definitions.len(), seed)?;
-    add_strong(&mut index, definitions)?;
-    add_common(&mut index, definitions)?;
-    add_weak(&mut index, definitions)?;
+    let mut index = Chosen {
+        names,
+        positions: Vec::new(alloc),
+    };
+    add_strong(objects, &mut index, definitions)?;
+    add_common(objects, &mut index, definitions)?;
+    add_weak(objects, &mut index, definitions)?;
     Ok(index)
 }
 
@@ -171,8 +236,31 @@ pub fn definition_of<'a>(
         ≡ definition_in index.now (symbol_views definitions.now) name.now }
 {
     let number = index.names.find(name)?;
-    let position = index.positions.get(number).copied()?;
+    definition_at(index, definitions, number)
+}
+
+/// The definition that an index has for the name that has a number; None where it has none.
+pub fn definition_at<'a>(
+    index: &Chosen<'a>,
+    definitions: &[SymbolOf<'a>],
+    number: usize,
+) -> Option<SymbolOf<'a>>
+    ensures { option_map symbol_view result
+        ≡ option_and_then (slice_get (symbol_views definitions.now))
+        (position_at index.now.positions.items number) }
+{
+    let position = position_at(&index.positions, number)?;
     definitions.get(position).copied()
+}
+
+/// The position at a number; None where there is none.
+fn position_at(positions: &[Option<usize>], number: usize) -> Option<usize>
+    ensures { result ≡ position_at positions.now number }
+{
+    match positions.get(number) {
+        Some(position) => *position,
+        None => None,
+    }
 }
 
 /// Whether a symbol is the one that an index has for its name.
@@ -199,6 +287,15 @@ fn set_mark(marks: &mut [bool], position: usize)
     }
 }
 
+/// Sets the mark at a position, if there is one.
+fn set_mark_of(marks: &mut [bool], position: Option<usize>)
+    ensures { marks.new ≡ marked_by marks.old position }
+{
+    if let Some(position) = position {
+        set_mark(marks, position);
+    }
+}
+
 /// Marks of definitions that are the chosen ones of their names.
 pub fn own_choices(
     alloc: Global,
@@ -211,7 +308,7 @@ pub fn own_choices(
 {
     let mut marks = vec![in alloc; false; definitions.len()]?;
     for position in &index.positions {
-        set_mark(&mut marks, *position);
+        set_mark_of(&mut marks, *position);
     }
     Ok(marks)
 }

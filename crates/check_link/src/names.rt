@@ -1,19 +1,23 @@
 //! The definitions and the common blocks of loaded objects, found by their names.
-ghost use Rattle.std.specs.Prelude.{◌≡◌, ◌↔◌, IfOk, IsTrue, filter, option_map};
+ghost use Rattle.std.specs.Prelude.{◌≡◌, ◌↔◌, IfOk, IsTrue, Some, filter, option_map, slice_get};
 ghost use Rattle.elf_model.specs.ChosenSymbols.{is_chosen, is_definition};
 ghost use Rattle.elf_model.specs.Commons.{block_named, blocks};
+ghost use Rattle.elf_model.specs.Loading.{LoadedObject};
 ghost use Rattle.elf_model.specs.Meaning.{meant};
 ghost use Rattle.elf_model.specs.Resolution.{AreSoundCommons, all_symbols, chosen};
+ghost use Rattle.check_load.specs.Numbered.{AreNumbered, name_at};
 ghost use Rattle.check_load.specs.Views.{loaded_views};
 ghost use Rattle.check_link.specs.Chosen.{AreChosen, AreOtherChoices, AreOwnChoices, IsSized};
 ghost use Rattle.check_link.specs.NameIndex.{IsBlockIndex};
 ghost use Rattle.check_link.specs.Views.{block_view, block_views, meaning_view, symbol_view, symbol_views};
 
-use crate::chosen_definitions::{Chosen, definition_of, index_names, is_chosen, own_choices};
+use crate::chosen_definitions::{
+    Chosen, definition_at, definition_of, index_names, is_chosen, number_at, own_choices,
+};
 use crate::commons::{are_sound_commons, blocks_of, index_blocks};
 use crate::definitions::{definitions_of, is_common};
 use crate::things::{Block, Meaning, SymbolOf};
-use check_load::Loaded;
+use check_load::{Loaded, NameTable};
 use elf_model::NameSeed;
 use std::alloc::{AllocError, Global};
 use std::collections::BTreeMap;
@@ -41,7 +45,7 @@ impl<'l, 'a> Model for Names<'l, 'a> {
 
     ghost view = { λ n. loaded_views n.objects.now };
 
-    ghost invariant = { λ n. AreNames (loaded_views n.objects.now) n.definitions.items n.chosen n.blocks.items n.blocks_by_name };
+    ghost invariant = { λ n. AreNames n.objects.now (loaded_views n.objects.now) n.definitions.items n.chosen n.blocks.items n.blocks_by_name };
 }
 
 /// The common blocks, in load order and by their names.
@@ -65,16 +69,19 @@ fn found_blocks<'a>(
 }
 
 impl<'l, 'a> Names<'l, 'a> {
-    /// The names of loaded objects, which are to be hashed from a seed, or found by their order without one.
+    /// What loaded objects define, given the names whose numbers their symbols have. Further names are to be hashed from the
+    /// seed, or found by their order without one.
     pub fn new(
         alloc: Global,
         objects: &'l [Loaded<'a>],
+        names: NameTable<'a>,
         seed: Option<NameSeed>,
     ) -> Result<Names<'l, 'a>, AllocError>
+        requires { AreNumbered names objects.now }
         ensures { IfOk result (λ n. n ≡ loaded_views objects.entry.now) }
     {
         let definitions = definitions_of(alloc, objects)?;
-        let chosen = index_names(alloc, objects, &definitions, seed)?;
+        let chosen = index_names(alloc, objects, &definitions, names)?;
         let (blocks, blocks_by_name) = found_blocks(alloc, objects, &chosen, &definitions)?;
         Ok(Names {
             objects,
@@ -124,6 +131,19 @@ impl<'l, 'a> Names<'l, 'a> {
         ensures { option_map symbol_view result ≡ chosen self.now name.now }
     {
         definition_of(&self.chosen, &self.definitions, name)
+    }
+
+    /// The chosen definition of a symbol's name, given the symbol's object's and its own number; None where it has none. It is
+    /// found without a look-up where loading noted the name.
+    pub fn chosen_for(&self, object: u64, number: u64, name: &[u8]) -> Option<SymbolOf<'a>>
+        ensures { (o : LoadedObject) → slice_get self.now object ≡ Some o
+            → name.now ≡ name_at o.bytes number
+            → option_map symbol_view result ≡ chosen self.now name.now }
+    {
+        match number_at(self.objects, object, number) {
+            Some(known) => definition_at(&self.chosen, &self.definitions, known),
+            None => self.chosen(name),
+        }
     }
 
     /// Whether a symbol is the chosen definition of its name.

@@ -112,6 +112,15 @@ impl<'m> RequestMap<'m> {
         }
     }
 
+    /// Makes room for the names of a number of requests more.
+    pub fn reserve(&mut self, count: usize) -> Result<(), AllocError>
+        requires { IsSized self.old }
+        ensures sized { IsSized self.new }
+        ensures same { (q : slots.Request) → number_in self.new q ≡ number_in self.old q }
+    {
+        self.names.reserve(count)
+    }
+
     /// The number of a name's request of a kind; None where it has none.
     fn of_name(&self, name: &[u8], thread: bool) -> Option<u64>
         requires { IsSized self.now }

@@ -54,13 +54,14 @@ impl<'m> RequestSet<'m> {
             is_asked self.new q
             ≡ (is_asked self.old q || same_request q (request_view request.entry))) }
     {
-        if self.has(&request) {
-            return Ok(());
-        }
         let place = self.requests.len() as u64;
         self.requests.push(request)?;
         match self.places.add(request, place) {
-            Ok(_) => Ok(()),
+            Ok(true) => Ok(()),
+            Ok(false) => {
+                self.requests.pop();
+                Ok(())
+            }
             Err(_) => {
                 self.requests.pop();
                 Err(AllocError)

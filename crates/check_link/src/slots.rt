@@ -45,6 +45,7 @@ fn index_slots<'m>(
         ≡ are_distinct (map row_request (map slot_row lines.entry.now))) }
 {
     let mut addresses = RequestMap::new(alloc, seed);
+    addresses.reserve(lines.len())?;
     let mut distinct = true;
     for line in lines {
         let fresh = addresses.add(request_of_line(line), line.address)?;

@@ -91,6 +91,7 @@ looked os l o b k at own others = record {
   taken = k.taken;
   begun = k.begun;
   loadable = k.loadable;
+  numbered = k.numbered;
   awake = λ p there archive searched. by_case (p.number == o.number) (same p there) (λ e q x here t. others p.number q (λ n. eqb-false p.number o.number e n) (k.awake p there archive searched q x here t));
 }
   where

@@ -7,6 +7,7 @@ pub mod LostMembers
 pub mod NotedNames
 pub mod PlaceLaws
 pub mod Numbering
+pub mod NumberedNames
 pub mod RoundLaws
 pub mod SignatureLaws
 pub mod TakenLaws

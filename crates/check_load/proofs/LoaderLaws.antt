@@ -19,6 +19,7 @@ use Rattle.check_load.specs.Loaders.{AreLoadable, IsLoadable, Knows, is_free, lo
 use Rattle.check_load.specs.Places.{AreWokenSince, none_asked}
 use Rattle.check_load.specs.Names.{Names, asked_from, asked_in, defined_from, defined_in, defines_name, requests_name}
 use Rattle.check_load.specs.Signatures.{lost_by, seen_by}
+use Rattle.check_load.specs.Numbered.{AreNumbered}
 use Rattle.check_load.specs.NameNumbers.{is_among}
 use Rattle.check_load.specs.Stops.{Refutes}
 use Rattle.check_load.specs.Taken.{has_item, has_member}
@@ -105,9 +106,10 @@ pub knows_none :
     (os : List Opened) (l : Loader) → AreWokenSince os none_asked l.names l.awake → loaded l ≡ [] → l.seen ≡ [] →
     ((n : List ℕ) → requests_name l.names n ≡ list_any (λ root. bytes_eq root n) (l.plan.now.entry ∷ l.plan.now.undefined)) →
     ((n : List ℕ) → defines_name l.names n ≡ false) → ((item offset : ℕ) → has_member l.taken item offset ≡ false) →
-    ((item : ℕ) → has_item l.taken item ≡ false) → Knows os l
+    ((item : ℕ) → has_item l.taken item ≡ false) → AreNumbered l.names.names l.objects.items → Knows os l
 unfolding is_defined is_taken is_begun
-knows_none os l woken_ none seen_ asked_ defined_ taken_ begun_ = record {
+knows_none os l woken_ none seen_ asked_ defined_ taken_ begun_ numbered_ = record {
+  numbered = numbered_;
   seen = (λ j n. none_seen l.seen seen_ n j) ∙ ap (λ (os : List LoadedObject). is_seen (seen_behind [] os)) (sym none);
   requested = λ n. asked_ n ∙ (sym (requested_none l.plan.now n) ∙ ap (λ (os : List LoadedObject). is_requested l.plan.now os n) (sym none));
   defined = λ n. defined_ n ∙ ap (λ (os : List LoadedObject). is_defined os n) (sym none);
@@ -124,8 +126,10 @@ pub knows_more :
     ((n : List ℕ) → requests_name new.names n ≡ (asked_in bytes (lost_sections (loaded old) bytes) n || requests_name old.names n)) →
     ((n : List ℕ) → defines_name new.names n ≡ (defined_in bytes (lost_sections (loaded old) bytes) n || defines_name old.names n)) →
     ((i k : ℕ) → has_member new.taken i k ≡ (o.number == i && offset == k || has_member old.taken i k)) →
-    ((i : ℕ) → has_item new.taken i ≡ (o.number == i || has_item old.taken i)) → IsObject bytes → AreLawfulGroups (groups bytes) → Knows os new
-knows_more os old new o offset bytes k woken_ stays plan_ is seen_ asked_ defined_ taken_ begun_ object lawful_ = record {
+    ((i : ℕ) → has_item new.taken i ≡ (o.number == i || has_item old.taken i)) → IsObject bytes → AreLawfulGroups (groups bytes) →
+    AreNumbered new.names.names new.objects.items → Knows os new
+knows_more os old new o offset bytes k woken_ stays plan_ is seen_ asked_ defined_ taken_ begun_ object lawful_ numbered_ = record {
+  numbered = numbered_;
   seen =
       seen_ ∙ (ap (λ (f : List ℕ → Bool). seen_by f (groups bytes)) k.seen
       ∙ (list_by (seen_behind [] (loaded old)) (groups bytes)

@@ -101,17 +101,26 @@ number_pushed (m ∷ ms) n past = by (bytes_eq n m) refl (number_pushed ms n)
     by false e rest = omega (arith, rest (sym (ap (λ (c : Bool). c || is_among ms n) e) ∙ past))
 
 -- a name that comes has its number among the names before it, or their count
-number_with : (names : List (List ℕ)) (n : List ℕ) → number_of (with_name names n) n ≡ number_of names n
+pub number_with : (names : List (List ℕ)) (n : List ℕ) → number_of (with_name names n) n ≡ number_of names n
 number_with names n = by_case (is_among names n)
     (λ t. ap (λ (b : Bool). number_of (cond b names (names ++ n ∷ [])) n) t)
     (λ f. ap (λ (b : Bool). number_of (cond b names (names ++ n ∷ [])) n) f ∙ (number_pushed names n f ∙ sym (number_past names n f)))
+
+-- a name is among more names too
+among_front : (names : List (List ℕ)) (x n : List ℕ) → is_among names n ≡ true → is_among (names ++ x ∷ []) n ≡ true
+among_front [] x n there = absurd (true≢false (sym there))
+among_front (m ∷ ms) x n there = by (bytes_eq n m) refl (among_front ms x n)
+  where
+    by : (b : Bool) → bytes_eq n m ≡ b → (is_among ms n ≡ true → is_among (ms ++ x ∷ []) n ≡ true) → (bytes_eq n m || is_among (ms ++ x ∷ []) n) ≡ true
+    by true e rest = ap (λ (c : Bool). c || is_among (ms ++ x ∷ []) n) e
+    by false e rest = or_right (bytes_eq n m) (is_among (ms ++ x ∷ []) n) (rest (sym (ap (λ (c : Bool). c || is_among ms n) e) ∙ there))
 
 -- a name that comes is among names
 among_last : (names : List (List ℕ)) (n : List ℕ) → is_among (names ++ n ∷ []) n ≡ true
 among_last [] n = ap (λ (c : Bool). c || false) ((bytes_eq-Decides n n).1 refl)
 among_last (m ∷ ms) n = or_right (bytes_eq n m) (is_among (ms ++ n ∷ []) n) (among_last ms n)
 
-among_with : (names : List (List ℕ)) (n : List ℕ) → is_among (with_name names n) n ≡ true
+pub among_with : (names : List (List ℕ)) (n : List ℕ) → is_among (with_name names n) n ≡ true
 among_with names n = by_case (is_among names n)
     (λ t. ap (λ (b : Bool). is_among (cond b names (names ++ n ∷ [])) n) t ∙ t)
     (λ f. ap (λ (b : Bool). is_among (cond b names (names ++ n ∷ [])) n) f ∙ among_last names n)
@@ -199,6 +208,18 @@ numbers_put items new_items old new name k are none grown last updates =
     long : (xs : List (Bor (List ℕ))) → length xs ≡ length (map (λ n. n.now) xs)
     long [] = refl
     long (x ∷ xs) = ap (λ (c : ℕ). suc c) (long xs)
+
+-- a name that has a number keeps it when another comes
+pub kept_with : (names : List (List ℕ)) (x n : List ℕ) (k : ℕ) → position (bytes_eq n) names ≡ Some k → position (bytes_eq n) (with_name names x) ≡ Some k
+kept_with names x n k is = by_case (is_among names x)
+    (λ t. ap (λ (b : Bool). position (bytes_eq n) (cond b names (names ++ x ∷ []))) t ∙ is)
+    (λ f. ap (λ (b : Bool). position (bytes_eq n) (cond b names (names ++ x ∷ []))) f ∙ behind)
+  where
+    among : is_among names n ≡ true
+    among = by_case (is_among names n) (λ t. t) (λ f. absurd (true≢false (ap (λ (o : Option ℕ). elim o as (λ _. Bool) [ None ↦ false | Some _ ↦ true ]) (sym is ∙ found_none names n f))))
+
+    behind : position (bytes_eq n) (names ++ x ∷ []) ≡ Some k
+    behind = found_number (names ++ x ∷ []) n (among_front names x n among) ∙ (ap Some (number_kept names x n among) ∙ (sym (found_number names n among) ∙ is))
 
 -- Values at the numbers of names.
 module _ {X : Type 0} (none : X) where

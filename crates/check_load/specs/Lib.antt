@@ -4,6 +4,7 @@ pub mod Marks
 pub mod NameFinders
 pub mod NameNumbers
 pub mod Names
+pub mod Numbered
 pub mod Places
 pub mod Plans
 pub mod Rounds

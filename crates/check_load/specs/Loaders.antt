@@ -8,6 +8,7 @@ use Rattle.elf_model.specs.Opening.{Opened, archive_entries}
 use Rattle.check_load.specs.Awake.{is_awake}
 use Rattle.check_load.specs.NameNumbers.{is_among}
 use Rattle.check_load.specs.Names.{Names, defines_name, requests_name}
+use Rattle.check_load.specs.Numbered.{AreNumbered}
 use Rattle.check_load.specs.Places.{IsAt}
 use Rattle.check_load.specs.Taken.{has_item, has_member}
 use Rattle.check_load.specs.Views.{loaded_views}
@@ -44,4 +45,5 @@ pub record Knows (os : List Opened) (l : Loader) : Type 0 where
   pub taken : (item offset : ℕ) → has_member l.taken item offset ≡ is_taken (loaded l) item offset
   pub begun : (item : ℕ) → has_item l.taken item ≡ is_begun (loaded l) item
   pub loadable : AreLoadable (loaded l)
+  pub numbered : AreNumbered l.names.names l.objects.items
   pub awake : (o : Opened) → IsAt os o → o.archive ≡ true → o.whole ≡ false → AreFreeAwake l.names l.taken o.number (archive_entries o.bytes) l.awake

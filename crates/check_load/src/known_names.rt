@@ -1,7 +1,7 @@
 //! What is known of names, each at its number: which are asked for, and which are defined.
 ghost use Rattle.std.specs.Prelude.{◌≡◌, ◌≤◌, ◌<◌, ◌+◌, ◌&&◌, ◌||◌, ℕ, IfOk, List, OnOk, false, length, max, option_copied, slice_get};
 ghost use Rattle.std.specs.Str.{bytes_eq};
-ghost use Rattle.check_load.specs.NameNumbers.{number_of};
+ghost use Rattle.check_load.specs.NameNumbers.{IsNumberOf, KeepNumbers, number_of};
 ghost use Rattle.check_load.specs.Names.{defines_name, requests_name, state_at};
 
 use crate::name_table::NameTable;
@@ -23,6 +23,13 @@ const UNKNOWN: NameState = NameState {
     requested: false,
     defined: false,
 };
+
+/// What is told of a name that is noted: its number, and whether it was asked for before.
+#[derive(Clone, Copy)]
+pub struct Noted {
+    pub number: usize,
+    pub before: bool,
+}
 
 /// Adds what is said of a name to its state, and answers whether it was asked for before.
 fn take_in(state: &mut NameState, said: NameState) -> bool
@@ -98,9 +105,11 @@ impl<'a> KnownNames<'a> {
         }
     }
 
-    /// Notes what is said of a name, and answers whether it was asked for before.
-    pub fn note(&mut self, name: &'a [u8], said: NameState) -> Result<bool, AllocError>
-        ensures before { IfOk result (λ b. b ≡ requests_name self.old name.entry.now) }
+    /// Notes what is said of a name, and answers its number and whether it was asked for before.
+    pub fn note(&mut self, name: &'a [u8], said: NameState) -> Result<Noted, AllocError>
+        ensures before { IfOk result (λ r. r.before ≡ requests_name self.old name.entry.now) }
+        ensures number { IfOk result (λ r. IsNumberOf self.new.names name.entry.now r.number) }
+        ensures kept { OnOk result (KeepNumbers self.old.names self.new.names) }
         ensures requested { OnOk result ((n : List ℕ) →
             requests_name self.new n
             ≡ (bytes_eq name.entry.now n && said.requested || requests_name self.old n)) }
@@ -110,6 +119,14 @@ impl<'a> KnownNames<'a> {
     {
         let (number, _is_new) = self.names.add(name)?;
         reach(&mut self.states, number)?;
-        Ok(take_in(&mut self.states[number], said))
+        let before = take_in(&mut self.states[number], said);
+        Ok(Noted { number, before })
+    }
+
+    /// The names by their numbers, of which nothing more is known then.
+    pub fn into_names(self) -> NameTable<'a>
+        ensures { result ≡ self.entry.names }
+    {
+        self.names
     }
 }

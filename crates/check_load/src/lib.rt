@@ -13,10 +13,12 @@ mod places;
 mod rounds;
 mod signatures;
 mod stops;
+mod symbol_numbers;
 mod taken_members;
 mod turns;
 
-pub use load_steps::open;
-pub use loader::Loaded;
+pub use load_steps::{open, open_named};
+pub use loader::{Loaded, NamedObjects};
 pub use name_table::NameTable;
 pub use signatures::Dropped;
+pub use symbol_numbers::SymbolNumbers;

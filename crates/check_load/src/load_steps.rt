@@ -4,6 +4,7 @@ ghost use Rattle.std.specs.List.{prefix_len};
 ghost use Rattle.elf_model.specs.Files.{files_of};
 ghost use Rattle.elf_model.specs.Loading.{Single, group_of, loaded_objects, loaded_step, loaded_steps, steps};
 ghost use Rattle.check_load.specs.Loaders.{AreLoadable, Knows, loaded};
+ghost use Rattle.check_load.specs.Numbered.{AreNumbered};
 ghost use Rattle.check_load.specs.Places.{IsAt};
 ghost use Rattle.check_load.specs.Plans.{CanLoad};
 ghost use Rattle.check_load.specs.Rounds.{AreSideBySide};
@@ -11,7 +12,7 @@ ghost use Rattle.opening.specs.Steps.{in_group};
 ghost use Rattle.check_load.specs.Stops.{Refutes};
 ghost use Rattle.check_load.specs.Views.{loaded_views};
 
-use crate::loader::{Loaded, Loader};
+use crate::loader::{Loaded, Loader, NamedObjects};
 use crate::places::Places;
 use crate::rounds::run_rounds;
 use crate::stops::Stop;
@@ -129,11 +130,12 @@ fn load_all<'a>(
     plan: &Plan<'a>,
     inputs: &[Input<'a>],
     seed: Option<NameSeed>,
-) -> Result<Vec<Loaded<'a>>, Stop>
+) -> Result<NamedObjects<'a>, Stop>
     requires at { All (IsAt inputs.now) inputs.now }
     requires numbers { AreSideBySide inputs.now }
-    ensures loaded { IfOk result (λ v. loaded_views v.items
+    ensures loaded { IfOk result (λ v. loaded_views v.objects.items
         ≡ loaded_steps plan.now (steps inputs.now) []) }
+    ensures numbered { IfOk result (λ v. AreNumbered v.names v.objects.items) }
     ensures good { OnOk result (AreLoadable (loaded_steps plan.now (steps inputs.now) [])) }
     ensures stop { IfErr result (Refutes
         (AreLoadable (loaded_steps plan.now (steps inputs.now) []))) }
@@ -141,7 +143,7 @@ fn load_all<'a>(
     let places = Places::new(alloc, inputs, seed)?;
     let mut loader = Loader::new(alloc, &places, plan, seed)?;
     load_inputs(alloc, &places, &mut loader, inputs)?;
-    Ok(loader.take_objects(alloc))
+    Ok(loader.finish())
 }
 
 /// Loads a plan.
@@ -150,9 +152,10 @@ fn load<'a>(
     plan: &Plan<'a>,
     files: &'a [InputFile],
     seed: Option<NameSeed>,
-) -> Result<Vec<Loaded<'a>>, Stop>
-    ensures loaded { IfOk result (λ v. loaded_views v.items
+) -> Result<NamedObjects<'a>, Stop>
+    ensures loaded { IfOk result (λ v. loaded_views v.objects.items
         ≡ loaded_objects (files_of files.entry.now) plan.now) }
+    ensures numbered { IfOk result (λ v. AreNumbered v.names v.objects.items) }
     ensures good { OnOk result (CanLoad (files_of files.entry.now) plan.now) }
     ensures stop { IfErr result (Refutes (CanLoad (files_of files.entry.now) plan.now)) }
 {
@@ -185,8 +188,31 @@ pub fn open<'a>(
         IfSome o (λ v. loaded_views v.items ≡ loaded_objects (files_of files.entry.now) plan.now)) }
     ensures some { IfOk result (λ o. IsSome o ↔ CanLoad (files_of files.entry.now) plan.now) }
 {
+    match open_named(alloc, plan, files, seed)? {
+        Some(named) => Ok(Some(named.objects)),
+        None => Ok(None),
+    }
+}
+
+/// The loaded objects as `open` tells them, and the names of their symbols with their numbers.
+///
+/// # Errors
+///
+/// AllocError where memory is refused.
+pub fn open_named<'a>(
+    alloc: Global,
+    plan: &Plan<'a>,
+    files: &'a [InputFile],
+    seed: Option<NameSeed>,
+) -> Result<Option<NamedObjects<'a>>, AllocError>
+    ensures loaded { IfOk result (λ o.
+        IfSome o (λ v. loaded_views v.objects.items
+        ≡ loaded_objects (files_of files.entry.now) plan.now)) }
+    ensures numbered { IfOk result (λ o. IfSome o (λ v. AreNumbered v.names v.objects.items)) }
+    ensures some { IfOk result (λ o. IsSome o ↔ CanLoad (files_of files.entry.now) plan.now) }
+{
     match load(alloc, plan, files, seed) {
-        Ok(objects) => Ok(Some(objects)),
+        Ok(named) => Ok(Some(named)),
         Err(Stop::Memory) => Err(AllocError),
         Err(Stop::Unlawful) => Ok(None),
     }

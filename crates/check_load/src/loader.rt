@@ -22,6 +22,7 @@ use crate::names::{note_object, roots};
 use crate::places::Places;
 use crate::signatures::{Dropped, admit};
 use crate::stops::Stop;
+use crate::symbol_numbers::SymbolNumbers;
 use crate::taken_members::Taken;
 use ar_index::IndexEntry;
 use byteview::View;
@@ -30,7 +31,6 @@ use elf_model::{NameSeed, ObjFault, SHT_RELA, SectionHeader};
 use elf_read::ObjectFile;
 use opening::{Input, OpenedItem};
 use std::alloc::{AllocError, Global};
-use std::mem;
 
 /// A loaded object.
 #[derive(Drop)]
@@ -45,6 +45,8 @@ pub struct Loaded<'a> {
     pub path: &'a str,
     /// Its dropped sections.
     pub dropped: Dropped,
+    /// The numbers of the names of its symbols.
+    pub numbers: SymbolNumbers,
 }
 
 impl<'a> Loaded<'a> {
@@ -80,6 +82,13 @@ impl<'a> Loaded<'a> {
         }
         self.keeps(header.sh_info as usize)
     }
+}
+
+/// Loaded objects in load order, and the names whose numbers their symbols have.
+#[derive(Drop)]
+pub struct NamedObjects<'a> {
+    pub objects: Vec<Loaded<'a>>,
+    pub names: NameTable<'a>,
 }
 
 /// The loaded objects of a plan so far.
@@ -207,7 +216,14 @@ impl<'p, 'a> Loader<'p, 'a> {
     {
         let object = read_object(alloc, bytes)?;
         let dropped = admit(alloc, &mut self.seen, &object)?;
-        note_object(places, &mut self.awake, &mut self.names, &object, &dropped)?;
+        let numbers = note_object(
+            alloc,
+            places,
+            &mut self.awake,
+            &mut self.names,
+            &object,
+            &dropped,
+        )?;
         self.taken.add(item.number, offset)?;
         self.objects.push(Loaded {
             object,
@@ -215,6 +231,7 @@ impl<'p, 'a> Loader<'p, 'a> {
             offset,
             path: item.path,
             dropped,
+            numbers,
         })?;
         Ok(())
     }
@@ -270,10 +287,15 @@ impl<'p, 'a> Loader<'p, 'a> {
         self.objects.len()
     }
 
-    /// The objects that are loaded, in load order, of which it keeps none.
-    pub fn take_objects(&mut self, alloc: Global) -> Vec<Loaded<'a>>
-        ensures { loaded_views result.items ≡ loaded self.old }
+    /// What was loaded.
+    pub fn finish(self) -> NamedObjects<'a>
+        ensures objects { result.objects ≡ self.entry.objects }
+        ensures names { result.names ≡ self.entry.names.names }
     {
-        mem::replace(&mut self.objects, Vec::new(alloc))
+        let Loader { objects, names, .. } = self;
+        NamedObjects {
+            objects,
+            names: names.into_names(),
+        }
     }
 }

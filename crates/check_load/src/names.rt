@@ -1,5 +1,5 @@
 //! The names that the command and the loaded objects ask for and define, as they are noted.
-ghost use Rattle.std.specs.Prelude.{◌≡◌, ◌&&◌, ◌||◌, ◌∷◌, ℕ, Bool, IfOk, List, OnOk, Some, false, slice_get, true};
+ghost use Rattle.std.specs.Prelude.{◌≡◌, ◌&&◌, ◌||◌, ◌∷◌, ℕ, Bool, IfOk, IfSome, List, OnOk, Some, false, slice_get, true};
 ghost use Rattle.std.specs.List.{list_any};
 ghost use Rattle.std.specs.Str.{bytes_eq};
 ghost use Rattle.command.specs.Views.{texts_of};
@@ -7,12 +7,15 @@ ghost use Rattle.elf_model.specs.Loading.{has_name, is_definition, is_global_or_
 ghost use Rattle.elf_model.specs.ObjectFile.{symbols};
 ghost use Rattle.check_load.specs.Awake.{is_awake};
 ghost use Rattle.check_load.specs.Places.{AreWokenSince, none_asked};
+ghost use Rattle.check_load.specs.NameNumbers.{IsNumberOf, KeepNumbers};
 ghost use Rattle.check_load.specs.Names.{asked_in, defined_in, defines_name, requests_name};
+ghost use Rattle.check_load.specs.Numbered.{AreNumbersOf, name_at};
 
 use crate::awake_entries::Awake;
 use crate::known_names::{KnownNames, NameState};
 use crate::places::Places;
 use crate::signatures::Dropped;
+use crate::symbol_numbers::SymbolNumbers;
 use elf_model::{NameSeed, SHN_UNDEF, STB_GLOBAL, STB_WEAK, Symbol};
 use elf_read::ObjectFile;
 use std::alloc::{AllocError, Global};
@@ -55,7 +58,9 @@ fn note_name<'a>(
     names: &mut KnownNames<'a>,
     name: &'a [u8],
     said: NameState,
-) -> Result<(), AllocError>
+) -> Result<usize, AllocError>
+    ensures number { IfOk result (λ k. IsNumberOf names.new.names name.entry.now k) }
+    ensures kept { OnOk result (KeepNumbers names.old.names names.new.names) }
     ensures woken { OnOk result ((before : List ℕ → Bool) →
         AreWokenSince places.now before names.old awake.old
         → AreWokenSince places.now before names.new awake.new) }
@@ -68,15 +73,15 @@ fn note_name<'a>(
         defines_name names.new n
         ≡ (bytes_eq name.entry.now n && said.defined || defines_name names.old n)) }
 {
-    let before = names.note(name, said)?;
-    if before || !said.requested {
-        return Ok(());
+    let noted = names.note(name, said)?;
+    if noted.before || !said.requested {
+        return Ok(noted.number);
     }
     places.wake(awake, name)?;
-    Ok(())
+    Ok(noted.number)
 }
 
-/// Notes the name of symbol `j` of an object, where it asks for a definition or is one.
+/// Notes the name of symbol `j` of an object, where it asks for a definition or is one, and answers its number then.
 fn note_symbol<'a>(
     places: &Places<'_, '_>,
     awake: &mut Awake,
@@ -85,8 +90,11 @@ fn note_symbol<'a>(
     dropped: &Dropped,
     j: usize,
     symbol: &Symbol,
-) -> Result<(), AllocError>
+) -> Result<Option<usize>, AllocError>
     requires { slice_get (symbols object.now) j ≡ Some symbol.now }
+    ensures number { IfOk result (λ o. IfSome o (λ k.
+        IsNumberOf names.new.names (name_at object.now j) k)) }
+    ensures kept { OnOk result (KeepNumbers names.old.names names.new.names) }
     ensures woken { OnOk result ((before : List ℕ → Bool) →
         AreWokenSince places.now before names.old awake.old
         → AreWokenSince places.now before names.new awake.new) }
@@ -106,23 +114,27 @@ fn note_symbol<'a>(
         defined: is_definition(dropped, symbol),
     };
     if !said.requested && !said.defined {
-        return Ok(());
+        return Ok(None);
     }
     let Some(name) = object.name(j) else {
         unreachable!()
     };
-    note_name(places, awake, names, name, said)?;
-    Ok(())
+    let number = note_name(places, awake, names, name, said)?;
+    Ok(Some(number))
 }
 
-/// Notes the names of an object's symbols, and wakes the entries of those that nothing asked for before.
+/// Notes the names of an object's symbols, and wakes the entries of those that nothing asked for before. Answers the
+/// numbers of the names.
 pub fn note_object<'a>(
+    alloc: Global,
     places: &Places<'_, '_>,
     awake: &mut Awake,
     names: &mut KnownNames<'a>,
     object: &ObjectFile<'a>,
     dropped: &Dropped,
-) -> Result<(), AllocError>
+) -> Result<SymbolNumbers, AllocError>
+    ensures numbers { IfOk result (λ v. AreNumbersOf names.new.names object.now v) }
+    ensures kept { OnOk result (KeepNumbers names.old.names names.new.names) }
     ensures woken { OnOk result (AreWokenSince places.now
         (requests_name names.old) names.new awake.new) }
     ensures stays { OnOk result ((i q : ℕ) →
@@ -135,10 +147,12 @@ pub fn note_object<'a>(
         ≡ (defined_in object.now dropped.now n || defines_name names.old n)) }
 {
     let symbols = object.symbols();
+    let mut numbers = SymbolNumbers::new(alloc, symbols.len())?;
     for j in 0..symbols.len() {
-        note_symbol(places, awake, names, object, dropped, j, &symbols.at(j))?;
+        let number = note_symbol(places, awake, names, object, dropped, j, &symbols.at(j))?;
+        numbers.push(number)?;
     }
-    Ok(())
+    Ok(numbers)
 }
 
 /// Notes a name that the command asks for.

@@ -1,5 +1,5 @@
 -- What is known of the slots of an object's symbols.
-use Rattle.std.specs.Prelude.{◌≡◌, ℕ, Bool, true, List, Option}
+use Rattle.std.specs.Prelude.{◌≡◌, ℕ, Bool, true, List, Option, Some, slice_get}
 use Rattle.elf_model.specs.Loading.{LoadedObject}
 use Rattle.elf_model.specs.Relocation.{symbol_at}
 use Rattle.elf_model.specs.Slots.{Request, requested_address, target_of}
@@ -21,7 +21,8 @@ AreSlots b object o ss = AreKnown (λ j s. s.address ≡ requested_address b.pla
 abbrev pub AreAsked : List Request → ℕ → LoadedObject → List (Option Bool) → Type 0
 AreAsked asked object o ts = AreKnown (λ j t. is_asked asked (request_at object o j t) ≡ true) ts
 
--- both what they mean and where their slots are
+-- both what they mean and where their slots are; and where the object is said to be the one that has the number, it is
 pub record AreSymbolsKnown (b : Bound) (object : ℕ) (o : LoadedObject) (known : KnownSymbols) : Type 0 where
   pub targets : AreTargets b object o known.targets.items
   pub slots : AreSlots b object o known.slots.items
+  pub own : known.own ≡ true → slice_get b.objects object ≡ Some o

@@ -8,11 +8,11 @@ ghost use Rattle.elf_model.specs.Meaning as meanings;
 ghost use Rattle.elf_model.specs.Meaning.{is_in_thread_storage, meaning, meaning_size, meaning_value, meant, object_meaning};
 ghost use Rattle.elf_model.specs.Pieces.{AreOneOutput, kept_sections};
 ghost use Rattle.elf_model.specs.Placement.{got_start, section_address, symbol_value};
-ghost use Rattle.elf_model.specs.Relocation.{IsMixed, IsMixedBound, definition_of};
+ghost use Rattle.elf_model.specs.Relocation.{IsMixed, IsMixedBound, definition_of, is_local};
 ghost use Rattle.elf_model.specs.Resolution.{AreSoundSymbols, all_symbols, binding, chosen, is_in_thread_section};
 ghost use Rattle.elf_model.specs.Slots.{requested_address};
 ghost use Rattle.check_load.specs.Views.{loaded_views};
-ghost use Rattle.check_relocs.specs.Bindings.{IsOfUnkept, IsTargetOf};
+ghost use Rattle.check_relocs.specs.Bindings.{IsOfObjects, IsOfUnkept, IsTargetOf};
 ghost use Rattle.check_link.specs.Chosen.{AreOtherChoices, AreOwnChoices};
 ghost use Rattle.check_link.specs.Slots.{request_view};
 ghost use Rattle.check_link.specs.ThreadStorage.{thread_pointer};
@@ -303,6 +303,46 @@ impl<'l, 'p, 'a> Bindings<'l, 'p, 'a> {
         Some(Meaning::Symbol(*symbol))
     }
 
+    /// The chosen definition of the name of a symbol of the objects; None where it has none.
+    fn own_chosen(&self, symbol: &SymbolOf<'a>) -> Option<SymbolOf<'a>>
+        requires { IsOfObjects self.now.objects (symbol_view symbol.now) }
+        ensures { option_map symbol_view result ≡ chosen self.now.objects symbol.now.name.now }
+    {
+        self.names
+            .chosen_for(symbol.object, symbol.number, symbol.name)
+    }
+
+    /// What the name of a symbol of the objects means, where an object defines it.
+    fn own_object_meaning(&self, symbol: &SymbolOf<'a>) -> Option<Meaning<'a>>
+        requires { IsOfObjects self.now.objects (symbol_view symbol.now) }
+        ensures { option_map meaning_view result
+            ≡ object_meaning self.now.objects symbol.now.name.now }
+    {
+        let chosen = self.own_chosen(symbol)?;
+        self.meant(&chosen)
+    }
+
+    /// What the name of a symbol of the objects means.
+    fn own_meaning(&self, symbol: &SymbolOf<'a>) -> Option<Meaning<'a>>
+        requires { IsOfObjects self.now.objects (symbol_view symbol.now) }
+        ensures { option_map meaning_view result ≡ meaning self.now.objects symbol.now.name.now }
+    {
+        match self.own_object_meaning(symbol) {
+            Some(meaning) => Some(meaning),
+            None => self.linker_meaning(symbol.name),
+        }
+    }
+
+    /// What a relocation uses which names a symbol of the objects that isn't LOCAL.
+    fn own_definition(&self, symbol: &SymbolOf<'a>) -> Option<Meaning<'a>>
+        requires of { IsOfObjects self.now.objects (symbol_view symbol.now) }
+        requires visible { is_local (symbol_view symbol.now) ≡ false }
+        ensures { option_map meaning_view result
+            ≡ definition_of self.now.objects (symbol_view symbol.now) }
+    {
+        self.own_meaning(symbol)
+    }
+
     /// Whether a symbol is the chosen definition of its name.
     pub fn is_chosen(&self, symbol: &SymbolOf<'a>) -> bool
         ensures { result ≡ is_chosen self.now.objects (symbol_view symbol.now) }
@@ -351,20 +391,40 @@ impl<'l, 'p, 'a> Bindings<'l, 'p, 'a> {
         are_sound(self.names.objects())
     }
 
+    /// What a symbol means to the relocations that name it, given what these use.
+    fn target_with(&self, symbol: &SymbolOf<'a>, definition: &Option<Meaning<'a>>) -> Target
+        requires { option_map meaning_view definition.now
+            ≡ definition_of self.now.objects (symbol_view symbol.now) }
+        ensures { IsTargetOf self.now (symbol_view symbol.now) result }
+    {
+        Target {
+            undefined: is_in_want(symbol, definition),
+            unkept: is_of_unkept(self.names.objects(), symbol),
+            dropped: symbol.dropped,
+            mixed: self.is_mixed(definition),
+            thread_local: is_thread_local(self.names.objects(), definition),
+            value: value_or_none(self.places, definition),
+            size: size_or_none(definition),
+        }
+    }
+
     /// What a symbol means to the relocations that name it.
     pub fn target(&self, symbol: &SymbolOf<'a>) -> Target
         ensures { IsTargetOf self.now (symbol_view symbol.now) result }
     {
         let definition = self.definition(symbol);
-        Target {
-            undefined: is_in_want(symbol, &definition),
-            unkept: is_of_unkept(self.names.objects(), symbol),
-            dropped: symbol.dropped,
-            mixed: self.is_mixed(&definition),
-            thread_local: is_thread_local(self.names.objects(), &definition),
-            value: value_or_none(self.places, &definition),
-            size: size_or_none(&definition),
-        }
+        self.target_with(symbol, &definition)
+    }
+
+    /// What a symbol of the objects that isn't LOCAL means to the relocations that name it. Its name is looked up only where
+    /// loading gave it no number.
+    pub fn own_target(&self, symbol: &SymbolOf<'a>) -> Target
+        requires of { IsOfObjects self.now.objects (symbol_view symbol.now) }
+        requires visible { is_local (symbol_view symbol.now) ≡ false }
+        ensures { IsTargetOf self.now (symbol_view symbol.now) result }
+    {
+        let definition = self.own_definition(symbol);
+        self.target_with(symbol, &definition)
     }
 
     /// The value of what a name of the linker's stands for, 0 where the linker defines nothing for it.

@@ -12,7 +12,7 @@ ghost use Rattle.check_load.specs.Views.{loaded_view, loaded_views};
 
 use crate::bindings::Bindings;
 use crate::fields::{Field, in_order};
-use crate::known_symbols::{KnownSymbols, unknown_symbols};
+use crate::known_symbols::{KnownSymbols, unknown_own, unknown_symbols};
 use crate::lawful_fields::{Relocated, right_field};
 use check_load::Loaded;
 use elf_model::{Rela, SectionHeader};
@@ -129,13 +129,16 @@ fn add_section<'a>(
     Ok(right)
 }
 
-/// The fields of an object's kept relocations; None where one of these isn't right.
+/// The fields of an object's kept relocations; None where one of these isn't right. What its symbols mean is looked up where
+/// it isn't known.
 fn object_fields<'a>(
     alloc: Global,
     bindings: &Bindings<'_, '_, 'a>,
+    known: KnownSymbols,
     number: u64,
     loaded: &Loaded<'a>,
 ) -> Result<Option<Vec<Field>>, AllocError>
+    requires { AreSymbolsKnown bindings.now number (loaded_view loaded.now) known }
     ensures right { IfOk result (λ o. IsSome o
         ↔ All (IsRight bindings.now.objects bindings.now.places)
         (relocations_from number (loaded_view loaded.now))) }
@@ -144,7 +147,7 @@ fn object_fields<'a>(
         ≡ map (field_of bindings.now.objects bindings.now.places)
         (relocations_from number (loaded_view loaded.now)))) }
 {
-    let mut known = unknown_symbols(alloc, loaded)?;
+    let mut known = known;
     let mut fields = Vec::new(alloc);
     let headers = loaded.object.sections();
     for i in 0..headers.len() {
@@ -168,6 +171,29 @@ fn object_fields<'a>(
     Ok(Some(fields))
 }
 
+/// The fields of an object's kept relocations in order, given what is known of its symbols.
+fn row_with<'a>(
+    alloc: Global,
+    bindings: &Bindings<'_, '_, 'a>,
+    known: KnownSymbols,
+    number: u64,
+    loaded: &Loaded<'a>,
+) -> Result<Option<Vec<Field>>, AllocError>
+    requires { AreSymbolsKnown bindings.now number (loaded_view loaded.now) known }
+    ensures right { IfOk result (λ o. IsSome o
+        ↔ AreRight bindings.now.objects bindings.now.places
+        (relocations_from number (loaded_view loaded.now))) }
+    ensures row { IfOk result (λ o.
+        IfSome o (λ v.
+        IsRowOf bindings.now.objects bindings.now.places number (loaded_view loaded.now) v.items)) }
+{
+    let Some(fields) = object_fields(alloc, bindings, known, number, loaded)? else {
+        return Ok(None);
+    };
+    let row = in_order(fields)?;
+    Ok(row)
+}
+
 /// The fields of an object's kept relocations in order; None where one of these isn't right, and where a
 /// byte lies in two fields.
 pub fn object_row<'a>(
@@ -183,11 +209,27 @@ pub fn object_row<'a>(
         IfSome o (λ v.
         IsRowOf bindings.now.objects bindings.now.places number (loaded_view loaded.now) v.items)) }
 {
-    let Some(fields) = object_fields(alloc, bindings, number, loaded)? else {
-        return Ok(None);
-    };
-    let row = in_order(fields)?;
-    Ok(row)
+    let known = unknown_symbols(alloc, loaded)?;
+    row_with(alloc, bindings, known, number, loaded)
+}
+
+/// The same of the object that has a number. Its symbols' names are looked up only where loading gave them no numbers.
+pub fn own_row<'a>(
+    alloc: Global,
+    bindings: &Bindings<'_, '_, 'a>,
+    number: u64,
+    loaded: &Loaded<'a>,
+) -> Result<Option<Vec<Field>>, AllocError>
+    requires { slice_get bindings.now.objects number ≡ Some (loaded_view loaded.now) }
+    ensures right { IfOk result (λ o. IsSome o
+        ↔ AreRight bindings.now.objects bindings.now.places
+        (relocations_from number (loaded_view loaded.now))) }
+    ensures row { IfOk result (λ o.
+        IfSome o (λ v.
+        IsRowOf bindings.now.objects bindings.now.places number (loaded_view loaded.now) v.items)) }
+{
+    let known = unknown_own(alloc, bindings, number, loaded)?;
+    row_with(alloc, bindings, known, number, loaded)
 }
 
 /// The rows of all objects; None where relocations aren't right.

@@ -19,7 +19,7 @@ use crate::fields::Field;
 use crate::kinds::{Formula, Kind, kind_of};
 use crate::known_symbols::KnownSymbols;
 use crate::slots::slot_at;
-use crate::targets::{Target, target_at};
+use crate::targets::{Target, target_by};
 use crate::values::{Terms, fits, value_of};
 use check_load::Loaded;
 use elf_model::Rela;
@@ -199,7 +199,7 @@ pub fn right_field<'a>(
         (relocation_of number (loaded_view loaded.now) to.now.section entry.now)) }
 {
     let j = entry.symbol() as usize;
-    let target = target_at(bindings, &mut known.targets, number, loaded, j);
+    let target = target_by(bindings, known.own, &mut known.targets, number, loaded, j);
     let address = slot_at(bindings, &mut known.slots, number, loaded, entry);
     let given = terms_with_slot(bindings, address);
     field_for(&target, to, &given, entry)

@@ -19,7 +19,7 @@ mod values;
 
 pub use bindings::Bindings;
 pub use entry_requests::request_of;
-pub use field_rows::{fields_right, is_some_kind, object_row, relocated};
+pub use field_rows::{fields_right, is_some_kind, object_row, own_row, relocated};
 pub use fields::Field;
 pub use kinds::{Kind, kind_of};
 pub use lawful_fields::{LinkTerms, Relocated, is_mismatch, link_terms, refers_to_dropped};

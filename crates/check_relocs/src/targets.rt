@@ -1,6 +1,6 @@
 //! What the symbols of an object mean to its relocations, each looked up once.
-ghost use Rattle.std.specs.Prelude.{◌≡◌, ◌==◌, ℕ, [], IfOk, Some, slice_set};
-ghost use Rattle.std.specs.List.{list_any};
+ghost use Rattle.std.specs.Prelude.{◌≡◌, ◌==◌, ℕ, [], IfOk, Some, slice_set, true};
+ghost use Rattle.std.specs.List.{list_any, slice_get};
 ghost use Rattle.elf_model.specs.ObjectFile.{sections};
 ghost use Rattle.elf_model.specs.Relocation.{is_local, symbol_at};
 ghost use Rattle.check_relocs.specs.Bindings.{AreTargets, Bound, IsTargetOf};
@@ -129,6 +129,39 @@ fn known_target(targets: &[Option<Target>], j: usize) -> Option<Target>
     }
 }
 
+/// What symbol `j` of the object that has a number means, without a look-up where loading gave its name a number.
+fn own_target_of<'a>(
+    bindings: &Bindings<'_, '_, 'a>,
+    number: u64,
+    loaded: &Loaded<'a>,
+    j: usize,
+) -> Target
+    requires { slice_get bindings.now.objects number ≡ Some (loaded_view loaded.now) }
+    ensures { IsTargetOf bindings.now (symbol_at number (loaded_view loaded.now) j) result }
+{
+    if is_local_at(loaded, j) {
+        return target_of_symbol(bindings, number, loaded, j);
+    }
+    bindings.own_target(&symbol_at(loaded, number, j))
+}
+
+/// What symbol `j` means, where the object may be known to be the one that has the number.
+fn target_looked_up<'a>(
+    bindings: &Bindings<'_, '_, 'a>,
+    own: bool,
+    number: u64,
+    loaded: &Loaded<'a>,
+    j: usize,
+) -> Target
+    requires { own ≡ true → slice_get bindings.now.objects number ≡ Some (loaded_view loaded.now) }
+    ensures { IsTargetOf bindings.now (symbol_at number (loaded_view loaded.now) j) result }
+{
+    if own {
+        return own_target_of(bindings, number, loaded, j);
+    }
+    target_of_symbol(bindings, number, loaded, j)
+}
+
 /// What symbol `j` means. It is looked up where that isn't known.
 pub fn target_at<'a>(
     bindings: &Bindings<'_, '_, 'a>,
@@ -141,10 +174,28 @@ pub fn target_at<'a>(
     ensures kept { AreTargets bindings.now number (loaded_view loaded.now) targets.new.items }
     ensures target { IsTargetOf bindings.now (symbol_at number (loaded_view loaded.now) j) result }
 {
+    target_by(bindings, false, targets, number, loaded, j)
+}
+
+/// What symbol `j` means, where the object may be known to be the one that has the number.
+pub fn target_by<'a>(
+    bindings: &Bindings<'_, '_, 'a>,
+    own: bool,
+    targets: &mut Vec<Option<Target>>,
+    number: u64,
+    loaded: &Loaded<'a>,
+    j: usize,
+) -> Target
+    requires own { own ≡ true
+        → slice_get bindings.now.objects number ≡ Some (loaded_view loaded.now) }
+    requires targets { AreTargets bindings.now number (loaded_view loaded.now) targets.old.items }
+    ensures kept { AreTargets bindings.now number (loaded_view loaded.now) targets.new.items }
+    ensures target { IsTargetOf bindings.now (symbol_at number (loaded_view loaded.now) j) result }
+{
     if let Some(target) = known_target(targets, j) {
         return target;
     }
-    let target = target_of_symbol(bindings, number, loaded, j);
+    let target = target_looked_up(bindings, own, number, loaded, j);
     keep_target(targets, j, target);
     target
 }

@@ -1,6 +1,6 @@
 -- The rows of fields of a link's objects, and the ninth clause by its relocations.
-use Rattle.std.proofs.Common.{◌≡◌, ◌<◌, ℕ, List, ap, get_or, length, subst, sym, ◌∙◌, arith}
-use Rattle.std.specs.Prelude.{◌↔◌, All}
+use Rattle.std.proofs.Common.{◌≡◌, ◌<◌, ℕ, zero, suc, List, [], ◌∷◌, Some, ap, get_or, length, refl, subst, sym, ◌∙◌, arith}
+use Rattle.std.specs.Prelude.{◌↔◌, All, slice_get}
 use Rattle.std.proofs.lemmas.List.{get_or-map, length-map}
 use Rattle.elf_model.specs.Loading.{LoadedObject}
 use Rattle.elf_model.specs.Relocation.{Relocation, relocations}
@@ -52,3 +52,15 @@ ninth s = (
     apart = h.lawful.apart;
   },
 )
+
+-- the object that has a number is that of the views
+viewed : (xs : List Loaded) (k : ℕ) (d : Loaded) → k < length xs → slice_get (loaded_views xs) k ≡ Some (loaded_view (get_or xs k d))
+viewed [] k d low = absurd (omega (arith, low))
+viewed (x ∷ xs) zero d low = refl
+viewed (x ∷ xs) (suc k) d low = viewed xs k d (omega (arith, low))
+
+pub own_there :
+    (xs : List Loaded) (L : List LoadedObject) (k : ℕ) (x : Loaded) → loaded_views xs ≡ L → k < length xs → x ≡ get_or xs k x →
+    slice_get L k ≡ Some (loaded_view x)
+own_there xs L k x same within is =
+    ap (λ (os : List LoadedObject). slice_get os k) (sym same) ∙ (viewed xs k x within ∙ ap (λ (y : Loaded). Some (loaded_view y)) (sym is))

@@ -3,10 +3,11 @@ ghost use Rattle.std.specs.Prelude.{◌≡◌, IfOk};
 ghost use Rattle.elf_model.specs.Pieces.{kept_sections};
 ghost use Rattle.elf_model.specs.RightLink.{objects_of};
 ghost use Rattle.check_link.specs.Views.{piece_views};
+ghost use Rattle.check_load.specs.Numbered.{AreNumbered};
 ghost use Rattle.check_load.specs.Views.{loaded_views};
 
 use check_link::{CommonLines, Link, Names, Piece, pieces_of};
-use check_load::Loaded;
+use check_load::{Loaded, NameTable};
 use elf_model::NameSeed;
 use std::alloc::{AllocError, Global};
 use std::marker::Model;
@@ -33,17 +34,20 @@ impl<'o, 'a> Model for LoadedLink<'o, 'a> {
 }
 
 impl<'o, 'a> LoadedLink<'o, 'a> {
-    /// A link with its loaded objects, whose names are to be hashed from a seed, or found by their order without one.
+    /// A link with its loaded objects and the names whose numbers their symbols have. Further names are to be hashed from the
+    /// seed, or found by their order without one.
     pub fn new(
         alloc: Global,
         link: &'a Link<'a>,
         objects: &'o [Loaded<'a>],
+        names: NameTable<'a>,
         seed: Option<NameSeed>,
     ) -> Result<LoadedLink<'o, 'a>, AllocError>
-        requires { loaded_views objects.now ≡ objects_of link.now }
+        requires objects { loaded_views objects.now ≡ objects_of link.now }
+        requires numbered { AreNumbered names objects.now }
         ensures { IfOk result (λ l. l ≡ link.entry.now) }
     {
-        let names = Names::new(alloc, objects, seed)?;
+        let names = Names::new(alloc, objects, names, seed)?;
         let pieces = pieces_of(alloc, objects)?;
         let lines = CommonLines::new(alloc, &link.map.commons)?;
         Ok(LoadedLink {

@@ -10,7 +10,7 @@ ghost use Rattle.elf_model.specs.declared.verdict.Clause.TheVariants as clause;
 use crate::bound_link::BoundLink;
 use crate::c10_bytes::holds_own;
 use check_link::Placed;
-use check_relocs::{Field, object_row};
+use check_relocs::{Field, own_row};
 use std::alloc::{AllocError, Global};
 
 /// How far the pieces are compared: whether memory holds the wanted bytes of all so far, and the pieces that are left.
@@ -62,7 +62,7 @@ pub fn are_held(alloc: Global, bound: &BoundLink<'_, '_>) -> Result<Option<bool>
         left: bound.placed(),
     };
     for k in 0..objects.len() {
-        let Some(row) = object_row(alloc, bindings, k as u64, &objects[k])? else {
+        let Some(row) = own_row(alloc, bindings, k as u64, &objects[k])? else {
             return Ok(None);
         };
         compared = compare_own(bound, k as u64, &row, compared);

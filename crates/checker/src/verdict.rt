@@ -16,7 +16,7 @@ use crate::{
     c09_relocations, c11_fill, c12_entry, c13_symbols, c14_tables,
 };
 use check_link::{Link, Outputs, Places, SlotTable, base_of, read_map, read_plan};
-use check_load::open;
+use check_load::{NamedObjects, open_named};
 use check_relocs::Bindings;
 use elf_model::{Clause, InputFile, NameSeed, Verdict};
 use std::alloc::{AllocError, Global};
@@ -131,14 +131,15 @@ pub fn judge<'a, O: Observer<'a>>(
     ensures verdict { IfOk result (λ v. Judges v link.entry.now) }
     ensures saw { OnOk result (O.Saw link.entry.now observer.new) }
 {
-    let Some(objects) = open(alloc, &link.plan, link.files, seed)? else {
+    let Some(named) = open_named(alloc, &link.plan, link.files, seed)? else {
         return Ok(no(Clause::C2, link));
     };
+    let NamedObjects { objects, names } = named;
     if !c02_loaded::holds(link, &objects) {
         observer.see_objects(link, &objects)?;
         return Ok(no(Clause::C2, link));
     }
-    let loaded = LoadedLink::new(alloc, link, &objects, seed)?;
+    let loaded = LoadedLink::new(alloc, link, &objects, names, seed)?;
     judge_loaded(alloc, &loaded, observer)
 }
 

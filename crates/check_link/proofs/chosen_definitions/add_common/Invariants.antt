@@ -2,13 +2,16 @@ use Rattle.std.proofs.Common.{◌≡◌, List, ℕ, drop}
 use Rattle.std.specs.Prelude.{◌&&◌}
 use Rattle.std.specs.Option.{option_or}
 use Rattle.elf_model.specs.Resolution.{has_name, is_common_definition}
-use Rattle.check_link.specs.Chosen.{IsOwn, IsSized, first_from, position_in}
+use Rattle.check_load.specs.NameNumbers.{KeepNumbers}
+use Rattle.check_link.specs.Chosen.{AreHinted, IsOwn, IsSized, first_from, position_in}
 use Rattle.check_link.specs.Views.{symbol_views}
 use Rattle.check_link.proofs.chosen_definitions.add_common.Given as goal
 
 abbrev pub invariant-loop-i : goal.invariant-loop-i
 invariant-loop-i l = record {
   sized : IsSized l.index;
+  kept : KeepNumbers l.fn.index.names l.index.names;
+  hinted : AreHinted l.index.names l.objects (symbol_views l.definitions);
   own : IsOwn (symbol_views l.definitions) l.fn.index → IsOwn (symbol_views l.definitions) l.index;
   positions :
       (name : List ℕ) → option_or (position_in l.index name) (first_from (λ s. is_common_definition s && has_name name s) l.i (symbol_views (drop l.i l.definitions)))

@@ -1,40 +1,31 @@
-use Rattle.check_link.proofs.Positions.{known, own_added, own_kept, position_added, position_kept, sized_added, sized_kept, unknown}
-use Rattle.std.proofs.Common.{refl}
+use Rattle.std.proofs.Common.{arith, length, refl}
+use Rattle.std.specs.Prelude.{set}
+use Rattle.std.proofs.lemmas.List.{length-set}
+use Rattle.check_load.proofs.Numbering.{size_with}
+use Rattle.check_load.proofs.NumberedNames.{kept_by}
+use Rattle.check_link.proofs.Positions.{name_of, own_put, position_put}
 use Rattle.check_link.proofs.chosen_definitions.add_position.Goals as goal
-
-pub returns-then-not-is_new-clause-sized : goal.returns-then-not-is_new-clause-sized
-returns-then-not-is_new-clause-sized c =
-    sized_kept c.args.index.now (record { names = c.add.new.self; positions = c.args.index.now.positions }) c.args.name.now c.requires
-    (known c.args.index.now.names c.args.name.now c.in_ok-_number.is_new c.in_ok-_number.ensures.fresh c.if-not-is_new.true) c.in_ok-_number.ensures.added refl
-
-pub returns-then-not-is_new-clause-positions : goal.returns-then-not-is_new-clause-positions
-returns-then-not-is_new-clause-positions c =
-    position_kept c.args.index.now (record { names = c.add.new.self; positions = c.args.index.now.positions }) c.args.name.now c.args.position c.requires
-    (known c.args.index.now.names c.args.name.now c.in_ok-_number.is_new c.in_ok-_number.ensures.fresh c.if-not-is_new.true) c.in_ok-_number.ensures.added refl
 
 pub returns-clause-sized : goal.returns-clause-sized
 returns-clause-sized c =
-    sized_added c.args.index.now (record { names = c.add.new.self; positions = c.push.new.self }) c.args.name.now c.args.position c.requires
-    (unknown c.args.index.now.names c.args.name.now c.in_ok-_number.is_new c.in_ok-_number.ensures.fresh c.if-not-is_new.false) c.in_ok-_number.ensures.added
-    c.in_ok-push.ensures.items
+    let size =
+    size_with c.args.index.now.names c.number_for.new.names c.args.symbol.now.name.now c.in_ok-number.number (length c.args.index.now.positions.items) (length c.reach.new.positions.items)
+    c.in_ok-number.ensures.added c.in_ok-number.ensures.number c.requires.sized c.in_ok-reach.ensures.size in
+    let kept = length-set c.reach.new.positions.items c.in_ok-number.number c.keep_first.new.place in
+    omega (arith, size, kept)
+
+pub returns-clause-kept : goal.returns-clause-kept
+returns-clause-kept c = kept_by c.args.index.now.names c.number_for.new.names c.args.symbol.now.name.now c.in_ok-number.ensures.added
 
 pub returns-clause-positions : goal.returns-clause-positions
 returns-clause-positions c =
-    position_added c.args.index.now (record { names = c.add.new.self; positions = c.push.new.self }) c.args.name.now c.args.position c.requires
-    (unknown c.args.index.now.names c.args.name.now c.in_ok-_number.is_new c.in_ok-_number.ensures.fresh c.if-not-is_new.false) c.in_ok-_number.ensures.added
-    c.in_ok-push.ensures.items
-
-pub returns-then-not-is_new-clause-own : goal.returns-then-not-is_new-clause-own
-returns-then-not-is_new-clause-own c = λ ss named own.
-    own_kept ss c.args.index.now (record { names = c.add.new.self; positions = c.args.index.now.positions }) c.args.name.now c.args.position
-    (position_kept c.args.index.now (record { names = c.add.new.self; positions = c.args.index.now.positions }) c.args.name.now c.args.position c.requires
-    (known c.args.index.now.names c.args.name.now c.in_ok-_number.is_new c.in_ok-_number.ensures.fresh c.if-not-is_new.true) c.in_ok-_number.ensures.added refl)
-    own refl
+    position_put c.args.index.now c.number_for.new.names c.reach.new.positions.items
+    (set c.reach.new.positions.items c.in_ok-number.number c.keep_first.new.place) c.args.symbol.now.name.now c.in_ok-number.number c.index_mut.result.now c.keep_first.new.place c.args.position
+    c.requires.sized c.in_ok-number.ensures.added c.in_ok-number.ensures.number c.in_ok-reach.ensures.same c.in_ok-reach.ensures.there c.index_mut.ensures.value refl c.keep_first.ensures
 
 pub returns-clause-own : goal.returns-clause-own
-returns-clause-own c = λ ss named own.
-    let new = unknown c.args.index.now.names c.args.name.now c.in_ok-_number.is_new c.in_ok-_number.ensures.fresh c.if-not-is_new.false in
-    own_added ss c.args.index.now (record { names = c.add.new.self; positions = c.push.new.self }) c.args.name.now c.args.position
-    (position_added c.args.index.now (record { names = c.add.new.self; positions = c.push.new.self }) c.args.name.now c.args.position c.requires
-    new c.in_ok-_number.ensures.added c.in_ok-push.ensures.items)
-    own c.in_ok-push.ensures.items c.requires new named
+returns-clause-own c = λ ss found.
+    own_put c.args.index.now c.number_for.new.names c.reach.new.positions.items
+    (set c.reach.new.positions.items c.in_ok-number.number c.keep_first.new.place) c.args.symbol.now.name.now c.in_ok-number.number c.index_mut.result.now c.keep_first.new.place c.args.position
+    c.requires.sized c.in_ok-number.ensures.added c.in_ok-number.ensures.number c.in_ok-reach.ensures.same c.in_ok-reach.ensures.there c.index_mut.ensures.value refl c.keep_first.ensures
+    ss (name_of ss c.args.position _ found)

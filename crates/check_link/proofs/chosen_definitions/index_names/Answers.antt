@@ -7,9 +7,11 @@ use Rattle.elf_model.specs.ChosenSymbols.{is_definition}
 use Rattle.elf_model.specs.Resolution.{SymbolOf, all_symbols, has_name, is_common_definition, is_strong, is_weak_definition}
 use Rattle.check_load.specs.NameNumbers.{number_of}
 use Rattle.check_load.specs.Views.{loaded_views}
-use Rattle.check_link.specs.Chosen.{first_from}
+use Rattle.check_link.specs.Chosen.{first_from, position_at}
 use Rattle.check_link.specs.Views.{symbol_views}
 use Rattle.check_link.proofs.Defined.{common_defined, strong_defined, weak_defined}
+use Rattle.check_load.proofs.NumberedNames.{still_numbered}
+use Rattle.check_link.proofs.Hints.{definitions_hinted}
 use Rattle.check_link.proofs.Positions.{first_found}
 use Rattle.check_link.proofs.chosen_definitions.index_names.Goals as goal
 
@@ -38,22 +40,31 @@ returns-clause-chosen c = λ name.
     let common = λ (s : SymbolOf). is_common_definition s && has_name name s in
     let weak = λ (s : SymbolOf). is_weak_definition s && has_name name s in
     let look = option_and_then (slice_get ss) in
-    let index = c.in_ok-index.index in
-    let none : slice_get index.positions.items (number_of index.names name) ≡ None = ap (λ (ps : List ℕ). slice_get ps (number_of index.names name)) c.in_ok-index.ensures.empty in
+    let names = c.args.names in
+    let none : position_at c.new.result.items (number_of names name) ≡ None = ap (λ (ps : List (Option ℕ)). position_at ps (number_of names name)) c.new.ensures.items in
     let positions = passes _ (first_from strong 0 ss) (first_from common 0 ss) (first_from weak 0 ss) _ _ _ none
     (c.in_ok-add_strong.ensures.positions name) (c.in_ok-add_common.ensures.positions name) (c.in_ok-add_weak.ensures.positions name) in
     ap look positions
     ∙ first_found strong ss (option_or (first_from common 0 ss) (option_or (first_from weak 0 ss) None))
     ∙ ap (option_or (find strong ss)) (first_found common ss (option_or (first_from weak 0 ss) None))
     ∙ ap (λ (o : Option SymbolOf). option_or (find strong ss) (option_or (find common ss) o)) (first_found weak ss None ∙ or_none (find weak ss))
-    ∙ ap (λ (o : Option SymbolOf). option_or o (option_or (find common ss) (find weak ss))) (first is_strong name ss all c.requires (strong_defined all))
+    ∙ ap (λ (o : Option SymbolOf). option_or o (option_or (find common ss) (find weak ss))) (first is_strong name ss all c.requires.definitions (strong_defined all))
     ∙ ap (λ (o : Option SymbolOf). option_or (find (has_name name) (filter is_strong all)) (option_or o (find weak ss)))
-    (first is_common_definition name ss all c.requires (common_defined all))
+    (first is_common_definition name ss all c.requires.definitions (common_defined all))
     ∙ ap (λ (o : Option SymbolOf). option_or (find (has_name name) (filter is_strong all)) (option_or (find (has_name name) (filter is_common_definition all)) o))
-    (first is_weak_definition name ss all c.requires (weak_defined all))
+    (first is_weak_definition name ss all c.requires.definitions (weak_defined all))
 
 pub returns-clause-own : goal.returns-clause-own
 returns-clause-own c =
     c.in_ok-add_weak.ensures.own
     (c.in_ok-add_common.ensures.own
-    (c.in_ok-add_strong.ensures.own (λ n p s at there. absurd (none-some p (sym (ap (λ (ps : List ℕ). slice_get ps n) c.in_ok-index.ensures.empty) ∙ at)))))
+    (c.in_ok-add_strong.ensures.own (λ n p s at there. absurd (none-some p (sym (ap (λ (ps : List (Option ℕ)). position_at ps n) c.new.ensures.items) ∙ at)))))
+
+pub add_strong-requires-clause-hinted : goal.add_strong-requires-clause-hinted
+add_strong-requires-clause-hinted c = definitions_hinted c.args.names c.args.objects.now (symbol_views c.args.definitions.now) c.requires.definitions c.requires.numbered
+
+pub returns-clause-numbered : goal.returns-clause-numbered
+returns-clause-numbered c =
+    still_numbered _ _ c.args.objects.now c.in_ok-add_weak.ensures.kept
+    (still_numbered _ _ c.args.objects.now c.in_ok-add_common.ensures.kept
+    (still_numbered _ _ c.args.objects.now c.in_ok-add_strong.ensures.kept c.requires.numbered))

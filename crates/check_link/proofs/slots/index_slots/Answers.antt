@@ -9,10 +9,11 @@ use Rattle.check_link.proofs.slots.index_slots.Goals as goal
 
 pub loop-line-init : goal.loop-line-init
 loop-line-init c =
-    let none = c.new-addresses.ensures.none in
-    let unseen : has_in c.new-addresses.result ≡ none_seen = λ i q. ap (λ (o : Option ℕ). is_some o) (none q) i in
+    let table = c.reserve.new.self in
+    let none : (q : Request) → number_in table q ≡ None = λ q. c.reserve.ensures.same q ∙ c.new-addresses.ensures.none q in
+    let unseen : has_in table ≡ none_seen = λ i q. ap (λ (o : Option ℕ). is_some o) (none q) i in
     record {
-      sized = c.new-addresses.ensures.sized;
+      sized = c.reserve.ensures.sized;
       index = λ q. ap (λ (o : Option ℕ). option_or o (option_map (λ row. row.address) (find (is_slot_of q) (map slot_row c.args.lines.now)))) (none q);
       distinct = ap (λ (seen : Request → Bool). are_fresh seen (map row_request (map slot_row c.args.lines.now))) unseen;
     }

@@ -35,7 +35,7 @@ returns-clause-loaded c =
     let files = files_of c.args.files.now in
     let plan = c.args.plan.now in
     let inputs : c.deref.result.now ≡ opened files plan = c.deref.ensures.value ∙ c.in_ok-inputs.ensures.exact in
-    subst (λ (os : List LoadedObject). IfOk c.load_all.result (λ v. loaded_views v.items ≡ os)) (whole files plan c.deref.result.now inputs) c.load_all.ensures.loaded
+    subst (λ (os : List LoadedObject). IfOk c.load_all.result (λ v. loaded_views v.objects.items ≡ os)) (whole files plan c.deref.result.now inputs) c.load_all.ensures.loaded
 
 pub returns-clause-good : goal.returns-clause-good
 returns-clause-good c =

@@ -24,7 +24,7 @@ loop-i-init c =
     let same : left_of_sections n b hs 0 ≡ relocations_from n b =
     ap (λ (ss : List SectionHeader). relocations_behind n b 0 ss) c.sections-headers.ensures in
     record {
-      known = c.in_ok-known.ensures c.args.bindings.now n;
+      known = c.requires;
       fields =
           ap (λ (xs : List Field). xs ++ map make (left_of_sections n b hs 0)) c.new-fields.ensures.items ∙ ap (map make) same;
       right = part_all P (relocations_from n b) (left_of_sections n b hs 0) same;

@@ -7,7 +7,7 @@ use Rattle.check_relocs.proofs.FittingLemmas.{field_is, right, right_with, some_
 use Rattle.check_relocs.proofs.lawful_fields.right_field.Goals as goal
 
 pub returns-clause-kept : goal.returns-clause-kept
-returns-clause-kept c = record { targets = c.target_at-target.ensures.kept; slots = c.slot_at-address.ensures.kept }
+returns-clause-kept c = record { targets = c.target_by-target.ensures.kept; slots = c.slot_at-address.ensures.kept; own = c.requires.known.own }
 
 pub returns-clause-field : goal.returns-clause-field
 returns-clause-field c =
@@ -16,8 +16,8 @@ returns-clause-field c =
     let o = loaded_view c.args.loaded.now in
     let to = c.args.to.now in
     let e = c.args.entry.now in
-    let t = c.target_at-target.result in
-    let m = subst (λ (j : ℕ). IsTargetOf b (symbol_at n o j) t) c.symbol-j.ensures c.target_at-target.ensures.target in
+    let t = c.target_by-target.result in
+    let m = subst (λ (j : ℕ). IsTargetOf b (symbol_at n o j) t) c.symbol-j.ensures c.target_by-target.ensures.target in
     let g = c.terms_with_slot-given.result in
     let slot =
     c.terms_with_slot-given.ensures.slot

@@ -10,7 +10,7 @@ use Rattle.check_link.specs.Views.{placed_views}
 use Rattle.check_relocs.specs.Fields.{AreRight}
 use Rattle.check_relocs.proofs.ObjectFields.{object_read}
 use Rattle.check_relocs.proofs.RightParts.{right_end, right_more, right_stop}
-use Rattle.checker.proofs.LinkRows.{count_is, ninth, objects_are, right_in_link, row_at}
+use Rattle.checker.proofs.LinkRows.{count_is, ninth, objects_are, own_there, right_in_link, row_at}
 use Rattle.checker.proofs.PieceOrder.{compared_all, compared_none}
 use Rattle.checker.specs.Comparing.{AreCompared, IsRowAt}
 use Rattle.checker.proofs.object_fields.are_held.Goals as goal
@@ -105,3 +105,8 @@ returns-clause-tenth c =
     (subst (λ (n : ℕ). AreCompared s (n + 1) whole.held (placed_views whole.left.now))
     (count_is s c.bindings-bindings.result.now c.bindings-bindings.ensures c.objects-objects.result.now c.objects-objects.ensures)
     c.compare_own-whole.ensures)
+
+pub own_row-requires : goal.own_row-requires
+own_row-requires c =
+    own_there c.objects-objects.result.now c.bindings-bindings.result.now.objects c.loop-k.k c.index-objects-k.result c.objects-objects.ensures c.loop-k-test.true
+    c.index-objects-k.is
