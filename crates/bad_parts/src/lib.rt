@@ -15,4 +15,3 @@ mod text;
 
 pub use part::{BadPart, EntryPart, MemberPart, SectionPart, SymbolPart};
 pub use parts::bad_part;
-pub use text::write_bad_part;

@@ -3,11 +3,11 @@
 use crate::found::Found;
 use crate::passed_archives::passed_archive;
 use crate::place::Place;
-use crate::text::{Inputs, write_place};
+use crate::text::{Inputs, PlaceText};
 use byteview::View;
 use elf_model::InputFile;
 use elf_read::ObjectFile;
-use input_names::write_name;
+use input_names::Name;
 use relocate::RelocationFault;
 use std::alloc::{AllocError, Global};
 use std::collections::BTreeMap;
@@ -54,11 +54,11 @@ fn write_passed<W: Write>(out: &mut W, inputs: Inputs<'_>, name: &[u8]) -> io::R
     let Some((item, path)) = passed_archive(inputs.alloc, inputs.files, inputs.words, name)? else {
         return Ok(());
     };
-    out.write_all(b"; ")?;
-    write_name(out, path.as_bytes())?;
-    write!(out, " (item {item}) defines ")?;
-    write_name(out, name)?;
-    out.write_all(b", but was searched before it was needed: name it later, or in a group")
+    let (path, name) = (Name(path.as_bytes()), Name(name));
+    write!(
+        out,
+        "; {path} (item {item}) defines {name}, but was searched before it was needed: name it later, or in a group"
+    )
 }
 
 /// Writes a reference to an undefined name, the first, second or third; behind the first which archive has the name, behind the
@@ -90,15 +90,14 @@ fn write_line<'a, W: Write>(
     place: &Place<'a>,
 ) -> io::Result<bool> {
     let Some(name) = undefined_name(place) else {
-        write_place(out, inputs, place)?;
-        out.write_all(b"\n")?;
+        writeln!(out, "{}", PlaceText { inputs, place })?;
         return Ok(true);
     };
     let number = count(told, name)?;
     if number > REFERENCES {
         return Ok(false);
     }
-    write_place(out, inputs, place)?;
+    write!(out, "{}", PlaceText { inputs, place })?;
     let all = all.get(name).copied().unwrap_or(0);
     write_reference(out, inputs, name, number, all)?;
     out.write_all(b"\n")?;
@@ -125,9 +124,10 @@ fn is_slim(alloc: Global, file: &InputFile) -> bool {
 fn write_slim_objects<W: Write>(out: &mut W, inputs: Inputs<'_>) -> io::Result<()> {
     for file in inputs.files {
         if is_slim(inputs.alloc, file) {
-            write_name(out, file.name.as_bytes())?;
-            out.write_all(
-                b": no code, only data for optimization at link time: compile it without -flto, or with -ffat-lto-objects\n",
+            let name = Name(file.name.as_bytes());
+            writeln!(
+                out,
+                "{name}: no code, only data for optimization at link time: compile it without -flto, or with -ffat-lto-objects"
             )?;
         }
     }

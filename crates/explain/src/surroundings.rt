@@ -4,10 +4,8 @@ use crate::place::ObjectPlace;
 use byteview::View;
 use elf_model::{InputFile, STT_FUNC, Symbol};
 use elf_read::ObjectFile;
-use input_names::{object_bytes, write_name};
+use input_names::object_bytes;
 use std::alloc::Global;
-use std::io;
-use std::io::Write;
 
 /// The object of a place; None where it isn't one that is read.
 pub fn object_of<'f>(
@@ -27,39 +25,21 @@ fn covers(symbol: &Symbol, section: u64, offset: u64) -> bool {
         && offset - symbol.st_value < symbol.st_size
 }
 
-/// Writes ` in ` and the name of the function that a byte of a section belongs to, where a symbol says so.
-pub fn write_function<W: Write>(
-    out: &mut W,
-    object: &ObjectFile<'_>,
-    section: u64,
-    offset: u64,
-) -> io::Result<()> {
-    let symbols = object.symbols();
-    for j in 0..symbols.len() {
-        let symbol = symbols.at(j);
-        if covers(&symbol, section, offset) {
-            out.write_all(b" in ")?;
-            return write_name(out, object.symbol_name(j));
+/// The name of the function that a byte of a section belongs to, where a symbol says so.
+pub fn function_at<'f>(object: &ObjectFile<'f>, section: u64, offset: u64) -> Option<&'f [u8]> {
+    for j in 0..object.symbols().len() {
+        if covers(&object.symbol(j), section, offset) {
+            return Some(object.symbol_name(j));
         }
     }
-    Ok(())
+    None
 }
 
-/// Writes ` of ` and the name of the section in which symbol `j` is defined, where it is in one.
-pub fn write_section_of<W: Write>(
-    out: &mut W,
-    object: &ObjectFile<'_>,
-    j: usize,
-) -> io::Result<()> {
+/// The name of the section in which symbol `j` is defined, where it is in one.
+pub fn section_of<'f>(object: &ObjectFile<'f>, j: usize) -> Option<&'f [u8]> {
     let symbol = object.symbol(j);
     if symbol.is_undefined() {
-        return Ok(());
+        return None;
     }
-    match object.section_name(symbol.st_shndx as usize) {
-        Some(name) => {
-            out.write_all(b" of ")?;
-            write_name(out, name)
-        }
-        None => Ok(()),
-    }
+    object.section_name(symbol.st_shndx as usize)
 }

@@ -1,18 +1,18 @@
 //! How a place reads: a line that names the object, what is wrong in it, and why.
 
 use crate::place::{ObjectPlace, Place, RelocationPlace, SectionPlace, SymbolFault, SymbolPlace};
-use crate::surroundings::{object_of, write_function, write_section_of};
-use bad_parts::{BadPart, write_bad_part};
+use crate::surroundings::{function_at, object_of, section_of};
+use bad_parts::BadPart;
 use command::Source;
 use elf_model::{ArFault, CmdFault, InputFile, LinkError, ObjFault, SHF_LINK_ORDER};
 use input_names::{
-    file_kind, object_bytes, write_name, write_object, write_relocation_entry,
-    write_relocation_symbol, write_section_flags, write_section_type,
+    Called, FaultOf, Name, ObjectName, RelocationEntry, RelocationFault as Fault, RelocationSymbol,
+    SectionFlags, SectionType, file_kind, object_bytes,
 };
 use relocate::{Kind, Range, RelocationFault};
 use std::alloc::Global;
-use std::io;
-use std::io::Write;
+use std::fmt;
+use std::fmt::{Formatter, Write};
 
 /// The inputs that places are of, and where objects are read into again.
 #[derive(Clone, Copy)]
@@ -20,6 +20,19 @@ pub struct Inputs<'i> {
     pub alloc: Global,
     pub files: &'i [InputFile],
     pub words: &'i [String],
+}
+
+/// A word and a name after a space each, where there is a name.
+#[derive(Clone, Copy)]
+struct Where<'a>(&'static str, Option<&'a [u8]>);
+
+impl fmt::Display for Where<'_> {
+    fn fmt<W: Write>(&self, f: &mut Formatter<W>) -> fmt::Result {
+        match self.1 {
+            Some(name) => write!(f, " {} {}", self.0, Name(name)),
+            None => Ok(()),
+        }
+    }
 }
 
 /// Whether a word names a file: its path, or `-lNAME` for a path that ends in `libNAME.a`.
@@ -34,58 +47,6 @@ fn names_file(word: &str, path: &str) -> bool {
         Some(front) => front.ends_with("/lib"),
         None => false,
     }
-}
-
-/// Writes the path of an object's file, and the member that it is; and the number of its item, where more than one word names
-/// the file.
-fn write_file<W: Write>(
-    out: &mut W,
-    inputs: Inputs<'_>,
-    place: &ObjectPlace<'_>,
-) -> io::Result<()> {
-    write_object(out, inputs.files, place.path, place.offset)?;
-    let words = inputs.words.iter();
-    if words.filter(|w| names_file(w.as_str(), place.path)).count() > 1 {
-        write!(out, " (item {})", place.item)?;
-    }
-    out.write_all(b": ")
-}
-
-/// Writes the object of a section, its number and its name.
-fn write_section_name<W: Write>(
-    out: &mut W,
-    inputs: Inputs<'_>,
-    place: &SectionPlace<'_>,
-) -> io::Result<()> {
-    write_file(out, inputs, &place.file)?;
-    write!(out, "section {} ", place.section)?;
-    write_name(out, place.name)
-}
-
-fn write_large<W: Write>(
-    out: &mut W,
-    inputs: Inputs<'_>,
-    place: &SectionPlace<'_>,
-) -> io::Result<()> {
-    write_section_name(out, inputs, place)?;
-    write!(
-        out,
-        ": {:#x} bytes, more than the addresses from the base on up to 2^46",
-        place.header.sh_size
-    )
-}
-
-fn write_section<W: Write>(
-    out: &mut W,
-    inputs: Inputs<'_>,
-    place: &SectionPlace<'_>,
-) -> io::Result<()> {
-    write_section_name(out, inputs, place)?;
-    out.write_all(b": ")?;
-    write_section_type(out, place.header.sh_type)?;
-    out.write_all(b", ")?;
-    write_section_flags(out, place.header.sh_flags)?;
-    write!(out, ": not linked{}", section_hint(place.header.sh_flags))
 }
 
 /// What avoids flags that are not linked.
@@ -112,179 +73,48 @@ fn symbol_text(fault: SymbolFault) -> &'static str {
     }
 }
 
-/// Writes a space and a name, where it isn't empty.
-fn write_called<W: Write>(out: &mut W, name: &[u8]) -> io::Result<()> {
-    if name.is_empty() {
-        return Ok(());
-    }
-    out.write_all(b" ")?;
-    write_name(out, name)
-}
-
-fn write_symbol<W: Write>(
-    out: &mut W,
-    inputs: Inputs<'_>,
-    place: &SymbolPlace<'_>,
-    fault: SymbolFault,
-) -> io::Result<()> {
-    write_file(out, inputs, &place.file)?;
-    write!(out, "symbol {}", place.symbol)?;
-    write_called(out, place.name)?;
-    if let Some(object) = object_of(inputs.alloc, inputs.files, &place.file) {
-        write_section_of(out, &object, place.symbol as usize)?;
-    }
-    write!(out, ": {}", symbol_text(fault))
-}
-
-/// Writes where a relocation is: its section, its offset there and its function.
-fn write_place_of<W: Write>(
-    out: &mut W,
-    inputs: Inputs<'_>,
-    place: &RelocationPlace<'_>,
-) -> io::Result<()> {
-    write_file(out, inputs, &place.file)?;
-    write_name(out, place.section_name)?;
-    write!(out, "+{:#x}", place.entry.r_offset)?;
-    if let Some(object) = object_of(inputs.alloc, inputs.files, &place.file) {
-        write_function(out, &object, place.section, place.entry.r_offset)?;
-    }
-    out.write_all(b": ")
-}
-
-/// Writes which entry a relocation is, its type and its symbol, by its number and a name, with the section of that.
-fn write_entry_of<W: Write>(
-    out: &mut W,
-    inputs: Inputs<'_>,
-    place: &RelocationPlace<'_>,
-    name: &[u8],
-) -> io::Result<()> {
-    write_relocation_entry(out, place.table, place.number, &place.entry, name)?;
-    match object_of(inputs.alloc, inputs.files, &place.file) {
-        Some(object) => write_section_of(out, &object, place.entry.symbol() as usize),
-        None => Ok(()),
-    }
-}
-
-/// Writes which entry a relocation is, behind what is wrong with it.
-fn write_note<W: Write>(
-    out: &mut W,
-    inputs: Inputs<'_>,
-    place: &RelocationPlace<'_>,
-) -> io::Result<()> {
-    out.write_all(b" (")?;
-    write_entry_of(out, inputs, place, &[])?;
-    out.write_all(b")")
-}
-
-/// Writes where a relocation is, and which entry.
-fn write_relocation<W: Write>(
-    out: &mut W,
-    inputs: Inputs<'_>,
-    place: &RelocationPlace<'_>,
-) -> io::Result<()> {
-    write_place_of(out, inputs, place)?;
-    write_entry_of(out, inputs, place, place.symbol_name)
-}
-
-/// What is wrong with a relocation, behind the name of its symbol where it is the symbol's.
-fn fault_text(fault: RelocationFault) -> (bool, &'static str) {
+/// What is wrong with a relocation.
+fn fault_of(fault: RelocationFault) -> Fault {
     match fault {
-        RelocationFault::Undefined => (true, " is not defined"),
-        RelocationFault::RefToDropped => (true, " is LOCAL in a section that is not loaded"),
-        RelocationFault::RelocKind => (false, "not a type of relocation that is linked"),
-        RelocationFault::FieldOutside => (false, "the field is not inside its section"),
-        RelocationFault::TlsMismatch => {
-            (
-                true,
-                " is thread-local, or not, against the relocation's type",
-            )
-        }
-        RelocationFault::MixedSection => {
-            (
-                true,
-                " is a bound of an output name of several output sections",
-            )
-        }
+        RelocationFault::Undefined => Fault::Undefined,
+        RelocationFault::RefToDropped => Fault::RefToDropped,
+        RelocationFault::RelocKind => Fault::RelocKind,
+        RelocationFault::FieldOutside => Fault::FieldOutside,
+        RelocationFault::TlsMismatch => Fault::TlsMismatch,
+        RelocationFault::MixedSection => Fault::MixedSection,
     }
 }
 
-/// Writes what is wrong with a relocation.
-fn write_fault<W: Write>(
-    out: &mut W,
-    place: &RelocationPlace<'_>,
-    fault: RelocationFault,
-) -> io::Result<()> {
-    let (of_symbol, text) = fault_text(fault);
-    if of_symbol {
-        write_relocation_symbol(out, &place.entry, place.symbol_name)?;
-    }
-    out.write_all(text.as_bytes())
-}
-
-/// Writes what avoids relocations of thread-local storage in other objects, which a static link needs not.
-fn write_hint<W: Write>(out: &mut W, kind: u32, fault: RelocationFault) -> io::Result<()> {
+/// What avoids relocations of thread-local storage in other objects, which a static link needs not.
+fn hint(kind: u32, fault: RelocationFault) -> &'static str {
     match (fault, kind) {
         (RelocationFault::RelocKind, 16 | 17 | 19..=21 | 34..=36) => {
-            out.write_all(b": -ftls-model=local-exec or -fno-pic avoids it")
+            ": -ftls-model=local-exec or -fno-pic avoids it"
         }
-        _ => Ok(()),
+        _ => "",
     }
 }
 
-/// Writes which values fit the field of a type of relocations.
-fn write_range<W: Write>(out: &mut W, number: u32) -> io::Result<()> {
-    let Some(kind) = Kind::of(number) else {
-        return Ok(());
-    };
-    let (low, half, whole): (u64, u64, u64) = match kind.width {
-        1 => (0x80, 0x7f, 0xff),
-        2 => (0x8000, 0x7fff, 0xffff),
-        _ => (0x8000_0000, 0x7fff_ffff, 0xffff_ffff),
-    };
-    match kind.range {
-        Range::Always => Ok(()),
-        Range::Signed => write!(out, ", which takes -{low:#x} to {half:#x}"),
-        Range::Unsigned => write!(out, ", which takes 0 to {whole:#x}"),
-        Range::Either => write!(out, ", which takes -{low:#x} to {whole:#x}"),
-    }?;
-    match kind.width {
-        4 => out.write_all(b"; code of -mcmodel=large has no such limit"),
-        _ => Ok(()),
-    }
-}
+/// Which values fit the field of a type of relocations.
+#[derive(Clone, Copy)]
+struct Fitting(Kind);
 
-/// Writes the word at which a command is refused, and what it says.
-fn write_word<W: Write>(
-    out: &mut W,
-    words: &[String],
-    number: Option<u64>,
-    fault: CmdFault,
-) -> io::Result<()> {
-    let Some(number) = number else {
-        return write!(out, "the words together: {fault}");
-    };
-    match words.get(number as usize) {
-        Some(word) => {
-            write!(out, "word {number} ")?;
-            write_name(out, word.as_bytes())?;
-            write!(out, ": {fault}")
-        }
-        None => write!(out, "word {number}: {fault}"),
-    }
-}
-
-fn write_missing<W: Write>(out: &mut W, number: u64, source: Source<'_>) -> io::Result<()> {
-    match source {
-        Source::Path(path) => {
-            write_name(out, path.as_bytes())?;
-            write!(out, ": item {number}: there is no such file")
-        }
-        Source::Library(name) => {
-            out.write_all(b"-l")?;
-            write_name(out, name.as_bytes())?;
-            write!(out, ": item {number}: no directory of -L has lib")?;
-            write_name(out, name.as_bytes())?;
-            out.write_all(b".a")
+impl fmt::Display for Fitting {
+    fn fmt<W: Write>(&self, f: &mut Formatter<W>) -> fmt::Result {
+        let (low, half, whole): (u64, u64, u64) = match self.0.width {
+            1 => (0x80, 0x7f, 0xff),
+            2 => (0x8000, 0x7fff, 0xffff),
+            _ => (0x8000_0000, 0x7fff_ffff, 0xffff_ffff),
+        };
+        match self.0.range {
+            Range::Always => Ok(()),
+            Range::Signed => write!(f, ", which takes -{low:#x} to {half:#x}"),
+            Range::Unsigned => write!(f, ", which takes 0 to {whole:#x}"),
+            Range::Either => write!(f, ", which takes -{low:#x} to {whole:#x}"),
+        }?;
+        match self.0.width {
+            4 => f.write_str("; code of -mcmodel=large has no such limit"),
+            _ => Ok(()),
         }
     }
 }
@@ -309,120 +139,279 @@ fn object_text(fault: ObjFault) -> &'static str {
     }
 }
 
-/// Writes what a file is that is no object or no archive, where its first bytes tell.
-fn write_kind<W: Write>(
-    out: &mut W,
-    inputs: Inputs<'_>,
-    place: &ObjectPlace<'_>,
-) -> io::Result<()> {
-    let Some(bytes) = object_bytes(inputs.files, place.path, place.offset) else {
-        return Ok(());
-    };
-    match file_kind(bytes) {
-        Some(kind) => write!(out, ": {kind}"),
-        None => Ok(()),
+/// The name of a symbol of a relocation.
+fn symbol_of<'a>(place: &RelocationPlace<'a>) -> RelocationSymbol<'a> {
+    RelocationSymbol {
+        entry: place.entry,
+        name: place.symbol_name,
     }
 }
 
-/// Writes the fault of an object, and the part of it that has the fault, where one is told; else what the file is.
-fn write_bad_object<W: Write>(
-    out: &mut W,
-    inputs: Inputs<'_>,
-    place: &ObjectPlace<'_>,
-    fault: ObjFault,
-    part: &Option<BadPart<'_>>,
-) -> io::Result<()> {
-    write_file(out, inputs, place)?;
-    write!(out, "{fault}: ")?;
-    if let Some(part) = part {
-        return write_bad_part(out, part);
+impl Inputs<'_> {
+    /// The path of an object's file, and the member that it is; and the number of its item, where more than one word names the
+    /// file.
+    fn file<W: Write>(self, f: &mut Formatter<W>, place: &ObjectPlace<'_>) -> fmt::Result {
+        let path = place.path;
+        write!(f, "{}", ObjectName::new(self.files, path, place.offset))?;
+        let words = self.words.iter();
+        if words.filter(|w| names_file(w.as_str(), path)).count() > 1 {
+            write!(f, " (item {})", place.item)?;
+        }
+        f.write_str(": ")
     }
-    out.write_all(object_text(fault).as_bytes())?;
-    write_kind(out, inputs, place)
-}
 
-/// Writes a place of the files.
-fn write_input<W: Write>(out: &mut W, inputs: Inputs<'_>, place: &Place<'_>) -> io::Result<()> {
-    match place {
-        Place::Missing(number, source) => write_missing(out, *number, *source),
-        Place::Archive(file, fault) => {
-            write_file(out, inputs, file)?;
-            write!(out, "{fault}")?;
-            match fault {
-                ArFault::NotArchive => write_kind(out, inputs, file),
-                _ => Ok(()),
+    /// A section, and what the flags of its kind say or how large it is.
+    fn section<W: Write>(self, f: &mut Formatter<W>, place: &SectionPlace<'_>) -> fmt::Result {
+        self.file(f, &place.file)?;
+        write!(f, "section {} {}: ", place.section, Name(place.name))
+    }
+
+    fn symbol<W: Write>(self, f: &mut Formatter<W>, place: &SymbolPlace<'_>) -> fmt::Result {
+        self.file(f, &place.file)?;
+        write!(f, "symbol {}{}", place.symbol, Called(place.name))?;
+        if let Some(object) = object_of(self.alloc, self.files, &place.file) {
+            let section = section_of(&object, place.symbol as usize);
+            write!(f, "{}", Where("of", section))?;
+        }
+        f.write_str(": ")
+    }
+
+    /// Where a relocation is: its section, its offset there and its function.
+    fn field<W: Write>(self, f: &mut Formatter<W>, place: &RelocationPlace<'_>) -> fmt::Result {
+        self.file(f, &place.file)?;
+        let offset = place.entry.r_offset;
+        write!(f, "{}+{offset:#x}", Name(place.section_name))?;
+        if let Some(object) = object_of(self.alloc, self.files, &place.file) {
+            let function = function_at(&object, place.section, offset);
+            write!(f, "{}", Where("in", function))?;
+        }
+        f.write_str(": ")
+    }
+
+    /// Which entry a relocation is, its type and its symbol, by its number and a name, with the section of that.
+    fn entry<W: Write>(
+        self,
+        f: &mut Formatter<W>,
+        place: &RelocationPlace<'_>,
+        symbol_name: &[u8],
+    ) -> fmt::Result {
+        let entry = RelocationEntry {
+            table: place.table,
+            number: place.number,
+            entry: place.entry,
+            symbol_name,
+        };
+        write!(f, "{entry}")?;
+        let Some(object) = object_of(self.alloc, self.files, &place.file) else {
+            return Ok(());
+        };
+        let section = section_of(&object, place.entry.symbol() as usize);
+        write!(f, "{}", Where("of", section))
+    }
+
+    /// Which entry a relocation is, behind what is wrong with it.
+    fn note<W: Write>(self, f: &mut Formatter<W>, place: &RelocationPlace<'_>) -> fmt::Result {
+        f.write_str(" (")?;
+        self.entry(f, place, &[])?;
+        f.write_str(")")
+    }
+
+    /// Where a relocation is, and which entry.
+    fn relocation<W: Write>(
+        self,
+        f: &mut Formatter<W>,
+        place: &RelocationPlace<'_>,
+    ) -> fmt::Result {
+        self.field(f, place)?;
+        self.entry(f, place, place.symbol_name)
+    }
+
+    /// The word at which a command is refused, and what it says.
+    fn word<W: Write>(
+        self,
+        f: &mut Formatter<W>,
+        number: Option<u64>,
+        fault: CmdFault,
+    ) -> fmt::Result {
+        let Some(number) = number else {
+            return write!(f, "the words together: {fault}");
+        };
+        match self.words.get(number as usize) {
+            Some(word) => write!(f, "word {number} {}: {fault}", Name(word.as_bytes())),
+            None => write!(f, "word {number}: {fault}"),
+        }
+    }
+
+    /// What a file is that is no object or no archive, where its first bytes tell.
+    fn kind<W: Write>(self, f: &mut Formatter<W>, place: &ObjectPlace<'_>) -> fmt::Result {
+        let Some(bytes) = object_bytes(self.files, place.path, place.offset) else {
+            return Ok(());
+        };
+        match file_kind(bytes) {
+            Some(kind) => write!(f, ": {kind}"),
+            None => Ok(()),
+        }
+    }
+
+    /// The fault of an object, and the part of it that has the fault, where one is told; else what the file is.
+    fn object<W: Write>(
+        self,
+        f: &mut Formatter<W>,
+        place: &ObjectPlace<'_>,
+        fault: ObjFault,
+        part: &Option<BadPart<'_>>,
+    ) -> fmt::Result {
+        self.file(f, place)?;
+        match part {
+            Some(part) => write!(f, "{fault}: {part}"),
+            None => {
+                write!(f, "{fault}: {}", object_text(fault))?;
+                self.kind(f, place)
             }
         }
-        Place::NoIndex(file) => {
-            write_file(out, inputs, file)?;
-            out.write_all(b"the archive has no index: ranlib makes one")
-        }
-        Place::Object(file, fault, part) => { write_bad_object(out, inputs, file, *fault, part) }
-        Place::Groups(file, fault) => {
-            write_file(out, inputs, file)?;
-            write!(out, "{fault}")
-        }
-        _ => Ok(()),
     }
 }
 
-fn write_relocations<W: Write>(
-    out: &mut W,
-    inputs: Inputs<'_>,
-    place: &Place<'_>,
-) -> io::Result<()> {
-    match place {
-        Place::Relocation(place, fault) => {
-            write_place_of(out, inputs, place)?;
-            write_fault(out, place, *fault)?;
-            write_hint(out, place.entry.kind(), *fault)?;
-            write_note(out, inputs, place)
+/// An item of the command of which there is no file.
+fn write_missing<W: Write>(f: &mut Formatter<W>, number: u64, source: Source<'_>) -> fmt::Result {
+    match source {
+        Source::Path(path) => {
+            let name = Name(path.as_bytes());
+            write!(f, "{name}: item {number}: there is no such file")
         }
-        Place::Overlap(first, second) => {
-            write_relocation(out, inputs, first)?;
-            write!(out, ": its field shares a byte with that of ")?;
-            write_relocation(out, inputs, second)
+        Source::Library(name) => {
+            let name = Name(name.as_bytes());
+            write!(
+                f,
+                "-l{name}: item {number}: no directory of -L has lib{name}.a"
+            )
         }
-        Place::Value(place, value, address) => {
-            write_place_of(out, inputs, place)?;
-            write!(out, "the value {value:#x} for ")?;
-            write_relocation_symbol(out, &place.entry, place.symbol_name)?;
-            write!(out, " does not fit the field at {address:#x}")?;
-            write_range(out, place.entry.kind())?;
-            write_note(out, inputs, place)
-        }
-        _ => Ok(()),
     }
 }
 
-fn write_entry<W: Write>(out: &mut W, name: &str) -> io::Result<()> {
-    out.write_all(b"the entry ")?;
-    write_name(out, name.as_bytes())?;
-    out.write_all(b" has no definition outside thread-local storage")
-}
-
-/// Writes an error of which no single place is told.
-fn write_refused<W: Write>(out: &mut W, error: &LinkError) -> io::Result<()> {
+/// An error of which no single place is told.
+fn write_refused<W: Write>(f: &mut Formatter<W>, error: &LinkError) -> fmt::Result {
     match error {
-        LinkError::TooLarge => out.write_all(
-            b"all together: the addresses end above 2^46, or the image has 2^32 bytes or more",
+        LinkError::TooLarge => f.write_str(
+            "all together: the addresses end above 2^46, or the image has 2^32 bytes or more",
         ),
-        _ => write!(out, "all together: {error}"),
+        _ => write!(f, "all together: {error}"),
     }
 }
 
-/// Writes a place of inputs, without the end of the line.
-pub fn write_place<W: Write>(out: &mut W, inputs: Inputs<'_>, place: &Place<'_>) -> io::Result<()> {
-    match place {
-        Place::Word(number, fault) => write_word(out, inputs.words, *number, *fault),
-        Place::Section(place) => write_section(out, inputs, place),
-        Place::Large(place) => write_large(out, inputs, place),
-        Place::Refused(error) => write_refused(out, error),
-        Place::Symbol(place, fault) => write_symbol(out, inputs, place, *fault),
-        Place::Entry(name) => write_entry(out, name),
-        Place::Relocation(_, _) | Place::Overlap(_, _) | Place::Value(_, _, _) => {
-            write_relocations(out, inputs, place)
+/// A place of inputs, which reads as a line without its end.
+#[derive(Clone, Copy)]
+pub struct PlaceText<'i, 'p, 'a> {
+    pub inputs: Inputs<'i>,
+    pub place: &'p Place<'a>,
+}
+
+impl PlaceText<'_, '_, '_> {
+    /// A place of the files.
+    fn input<W: Write>(&self, f: &mut Formatter<W>) -> fmt::Result {
+        let inputs = self.inputs;
+        match self.place {
+            Place::Missing(number, source) => write_missing(f, *number, *source),
+            Place::Archive(file, fault) => {
+                inputs.file(f, file)?;
+                write!(f, "{fault}")?;
+                match fault {
+                    ArFault::NotArchive => inputs.kind(f, file),
+                    _ => Ok(()),
+                }
+            }
+            Place::NoIndex(file) => {
+                inputs.file(f, file)?;
+                f.write_str("the archive has no index: ranlib makes one")
+            }
+            Place::Object(file, fault, part) => inputs.object(f, file, *fault, part),
+            Place::Groups(file, fault) => {
+                inputs.file(f, file)?;
+                write!(f, "{fault}")
+            }
+            _ => Ok(()),
         }
-        _ => write_input(out, inputs, place),
+    }
+
+    /// A place of sections, symbols or relocations.
+    fn linked<W: Write>(&self, f: &mut Formatter<W>) -> fmt::Result {
+        let inputs = self.inputs;
+        match self.place {
+            Place::Section(place) => {
+                inputs.section(f, place)?;
+                let (kind, flags) = (place.header.sh_type, place.header.sh_flags);
+                let hint = section_hint(flags);
+                write!(
+                    f,
+                    "{}, {}: not linked{hint}",
+                    SectionType(kind),
+                    SectionFlags(flags)
+                )
+            }
+            Place::Large(place) => {
+                inputs.section(f, place)?;
+                let size = place.header.sh_size;
+                write!(
+                    f,
+                    "{size:#x} bytes, more than the addresses from the base on up to 2^46"
+                )
+            }
+            Place::Symbol(place, fault) => {
+                inputs.symbol(f, place)?;
+                f.write_str(symbol_text(*fault))
+            }
+            _ => self.relocated(f),
+        }
+    }
+
+    /// A place of relocations.
+    fn relocated<W: Write>(&self, f: &mut Formatter<W>) -> fmt::Result {
+        let inputs = self.inputs;
+        match self.place {
+            Place::Relocation(place, fault) => {
+                inputs.field(f, place)?;
+                let hint = hint(place.entry.kind(), *fault);
+                write!(f, "{}{hint}", FaultOf(fault_of(*fault), symbol_of(place)))?;
+                inputs.note(f, place)
+            }
+            Place::Overlap(first, second) => {
+                inputs.relocation(f, first)?;
+                f.write_str(": its field shares a byte with that of ")?;
+                inputs.relocation(f, second)
+            }
+            Place::Value(place, value, address) => {
+                inputs.field(f, place)?;
+                write!(
+                    f,
+                    "the value {value:#x} for {} does not fit the field at {address:#x}",
+                    symbol_of(place)
+                )?;
+                if let Some(kind) = Kind::of(place.entry.kind()) {
+                    write!(f, "{}", Fitting(kind))?;
+                }
+                inputs.note(f, place)
+            }
+            _ => Ok(()),
+        }
+    }
+}
+
+impl fmt::Display for PlaceText<'_, '_, '_> {
+    fn fmt<W: Write>(&self, f: &mut Formatter<W>) -> fmt::Result {
+        match self.place {
+            Place::Word(number, fault) => self.inputs.word(f, *number, *fault),
+            Place::Refused(error) => write_refused(f, error),
+            Place::Entry(name) => write!(
+                f,
+                "the entry {} has no definition outside thread-local storage",
+                Name(name.as_bytes())
+            ),
+            Place::Missing(_, _)
+            | Place::Archive(_, _)
+            | Place::NoIndex(_)
+            | Place::Object(_, _, _)
+            | Place::Groups(_, _) => self.input(f),
+            _ => self.linked(f),
+        }
     }
 }

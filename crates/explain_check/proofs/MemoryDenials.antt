@@ -33,8 +33,8 @@ use Rattle.explain_check.specs.RelocationPlaces.{IsRelocationAt, IsUnlawful}
 use Rattle.explain_check.specs.ThreadPlaces.{IsBlock}
 use Rattle.explain_check.specs.declared.memory_place.MemoryPlace.{MemoryPlace}
 use Rattle.explain_check.specs.declared.memory_place.MemoryPlace.TheVariants as place
-use Rattle.explain_check.specs.declared.memory_place.RelocationFault.{RelocationFault}
-use Rattle.explain_check.specs.declared.memory_place.RelocationFault.TheVariants as fault
+use Rattle.input_names.specs.declared.relocation_faults.RelocationFault.{RelocationFault}
+use Rattle.input_names.specs.declared.relocation_faults.RelocationFault.TheVariants as fault
 use Rattle.explain_check.specs.declared.memory_place.RelocationPlace.{RelocationPlace}
 
 -- what holds of all elements holds of the one that has a number

@@ -7,8 +7,8 @@ use Rattle.elf_model.specs.Placement.{Where, section_address}
 use Rattle.elf_model.specs.Relocation.{AreFieldsApart, IsFieldInside, IsThreadMismatch, IsUndefined, RefersToDropped, RefersToMixed, Relocation, is_kept_rela, is_some_kind, relocation_kind, relocation_of}
 use Rattle.elf_model.specs.RelocationValues.{Fits, value_of}
 use Rattle.elf_model.specs.declared.records.SectionHeader.{SectionHeader}
-use Rattle.explain_check.specs.declared.memory_place.RelocationFault.{RelocationFault}
-use Rattle.explain_check.specs.declared.memory_place.RelocationFault.TheVariants as fault
+use Rattle.input_names.specs.declared.relocation_faults.RelocationFault.{RelocationFault}
+use Rattle.input_names.specs.declared.relocation_faults.RelocationFault.TheVariants as fault
 use Rattle.explain_check.specs.declared.memory_place.RelocationPlace.{RelocationPlace}
 
 -- a place is that of a kept relocation, an entry of a RELA section, which has the header

@@ -8,8 +8,8 @@ use Rattle.check_relocs.specs.Bindings.{Bound}
 use Rattle.check_relocs.specs.LawfulFields.{refers_to_dropped}
 use Rattle.check_relocs.specs.declared.lawful_fields.Relocated.{Relocated}
 use Rattle.check_relocs.specs.declared.targets.Target.{Target}
-use Rattle.explain_check.specs.declared.memory_place.RelocationFault.{RelocationFault}
-use Rattle.explain_check.specs.declared.memory_place.RelocationFault.TheVariants as fault
+use Rattle.input_names.specs.declared.relocation_faults.RelocationFault.{RelocationFault}
+use Rattle.input_names.specs.declared.relocation_faults.RelocationFault.TheVariants as fault
 use Rattle.explain_check.specs.declared.memory.relocations.Referrer.{Referrer}
 
 abbrev pub IsWrongWith : Option Kind → Target → Relocated → Rela → RelocationFault → Type 0

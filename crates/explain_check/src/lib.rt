@@ -30,7 +30,7 @@ pub use clause::clause_of;
 pub use explain::{explain_check, read_link};
 pub use found::Found;
 pub use memory_place::{
-    BytePlace, FillPlace, GotBytePlace, MemoryPlace, RelocationFault, RelocationPlace, SegmentPlace,
+    BytePlace, FillPlace, GotBytePlace, MemoryPlace, RelocationPlace, SegmentPlace,
 };
 pub use place::{
     CheckPlace, CommonLinePlace, DropLinePlace, EntryPlace, MeaningPlace, Neighbours, ObjectAt,

@@ -2,6 +2,7 @@
 
 use check_link::{Placed, Request};
 use elf_model::{GotLine, ProgramHeader, Rela};
+use input_names::RelocationFault;
 
 /// A kept relocation of a loaded object (System V gABI 4, "Relocation").
 #[derive(Clone, Copy, Debug)]
@@ -17,23 +18,6 @@ pub struct RelocationPlace<'a> {
     pub section: u64,
     pub section_name: &'a [u8],
     pub symbol_name: &'a [u8],
-}
-
-/// Why a relocation isn't lawful.
-#[derive(Clone, Copy, Debug, PartialEq, Eq)]
-pub enum RelocationFault {
-    /// Its symbol has no definition, and needs one.
-    Undefined,
-    /// It names a LOCAL symbol of a section that isn't kept.
-    RefToDropped,
-    /// Its type is no kind.
-    RelocKind,
-    /// Its field isn't inside its section.
-    FieldOutside,
-    /// Its kind isn't for what its symbol is, of thread-local storage or not.
-    TlsMismatch,
-    /// It uses a bound of an output name of several output sections.
-    MixedSection,
 }
 
 /// A byte of a piece that isn't the wanted one.

@@ -1,96 +1,101 @@
 //! How a place of a failed check reads: a line that says what is there, and what should be.
 
+use crate::clause::kind_of;
 use crate::map_text::{
     write_common_line, write_drop_line, write_missing_line, write_object_line, write_place_line,
     write_symbol_line,
 };
 use crate::memory::text::write_memory_place;
 use crate::place::{CheckPlace, EntryPlace, Neighbours, Part, PartName};
-use crate::table_text::write_table;
 use check_link::{Link, Piece, Placed};
-use elf_model::ProgramHeader;
-use input_names::{write_name, write_object};
-use std::io;
+use elf_model::{Clause, ProgramHeader};
+use input_names::{Name, ObjectName};
 use std::io::Write;
+use std::{fmt, io};
 
-/// Writes the path of an object's file, and the member that it is, by the object's number in the map.
-pub fn write_object_of<W: Write>(out: &mut W, link: &Link<'_>, number: u64) -> io::Result<()> {
-    let Some(line) = link.map.objects.get(number as usize) else {
-        return write!(out, "object {number}");
-    };
-    match str::from_utf8(&line.path) {
-        Ok(path) => write_object(out, link.files, path, line.offset),
-        Err(_) => write_name(out, &line.path),
+/// The object that has a number in the map, which reads as the path of its file and the member that it is.
+#[derive(Clone, Copy)]
+pub struct ObjectText<'l>(pub &'l Link<'l>, pub u64);
+
+impl fmt::Display for ObjectText<'_> {
+    fn fmt<W: fmt::Write>(&self, f: &mut fmt::Formatter<W>) -> fmt::Result {
+        let link = self.0;
+        let files = link.files;
+        let Some(line) = link.map.objects.get(self.1 as usize) else {
+            return write!(f, "object {}", self.1);
+        };
+        match str::from_utf8(&line.path) {
+            Ok(path) => write!(f, "{}", ObjectName::new(files, path, line.offset)),
+            Err(_) => write!(f, "{}", Name(&line.path)),
+        }
     }
 }
 
-/// Writes the name of the common block that the map has at an address, with the size of the piece.
-fn write_common<W: Write>(out: &mut W, link: &Link<'_>, placed: &Placed<'_>) -> io::Result<()> {
-    out.write_all(b"common block ")?;
-    let size = placed.piece.header.sh_size;
-    let mut lines = link.map.commons.iter();
-    match lines.find(|line| line.address == placed.at && line.size == size) {
-        Some(line) => write_name(out, &line.name),
-        None => Ok(()),
+/// A section, which reads as its object, its number and its name.
+#[derive(Clone, Copy)]
+pub struct SectionText<'l>(pub &'l Link<'l>, pub &'l Piece<'l>);
+
+impl fmt::Display for SectionText<'_> {
+    fn fmt<W: fmt::Write>(&self, f: &mut fmt::Formatter<W>) -> fmt::Result {
+        let (object, name) = (ObjectText(self.0, self.1.object), Name(self.1.name));
+        write!(f, "{object}: section {} {name}", self.1.section)
     }
 }
 
-/// Writes the object of a section, its number and its name.
-pub fn write_section<W: Write>(out: &mut W, link: &Link<'_>, piece: &Piece<'_>) -> io::Result<()> {
-    write_object_of(out, link, piece.object)?;
-    write!(out, ": section {} ", piece.section)?;
-    write_name(out, piece.name)
-}
+/// What a piece is: a section, or a common block, which is numbered like one of an object more than there are, and has the
+/// name that the map has at its address, with its size.
+#[derive(Clone, Copy)]
+pub struct PieceText<'l>(pub &'l Link<'l>, pub &'l Placed<'l>);
 
-/// Writes what a piece is: a section, or a common block, which is numbered like one of an object more than there are.
-pub fn write_piece<W: Write>(out: &mut W, link: &Link<'_>, placed: &Placed<'_>) -> io::Result<()> {
-    if placed.piece.object as usize >= link.map.objects.len() {
-        return write_common(out, link, placed);
-    }
-    write_section(out, link, &placed.piece)
-}
-
-fn write_part_name<W: Write>(out: &mut W, link: &Link<'_>, name: &PartName<'_>) -> io::Result<()> {
-    match name {
-        PartName::Headers => out.write_all(b"the headers"),
-        PartName::Got => out.write_all(b"the GOT"),
-        PartName::Piece(placed) => write_piece(out, link, placed),
-        PartName::Thread(placed) => write_piece(out, link, placed),
+impl fmt::Display for PieceText<'_> {
+    fn fmt<W: fmt::Write>(&self, f: &mut fmt::Formatter<W>) -> fmt::Result {
+        let (link, placed) = (self.0, self.1);
+        if (placed.piece.object as usize) < link.map.objects.len() {
+            return write!(f, "{}", SectionText(link, &placed.piece));
+        }
+        f.write_str("common block ")?;
+        let size = placed.piece.header.sh_size;
+        let mut lines = link.map.commons.iter();
+        match lines.find(|line| line.address == placed.at && line.size == size) {
+            Some(line) => write!(f, "{}", Name(&line.name)),
+            None => Ok(()),
+        }
     }
 }
 
-/// Writes what a part is, and which addresses it takes up.
-pub fn write_part<W: Write>(out: &mut W, link: &Link<'_>, part: &Part<'_>) -> io::Result<()> {
-    write_part_name(out, link, &part.name)?;
-    write!(
-        out,
-        " at {:#x}, {:#x} bytes",
-        part.thing.at, part.thing.size
-    )
-}
+/// What a part is, and which addresses it takes up.
+#[derive(Clone, Copy)]
+struct PartText<'l>(&'l Link<'l>, &'l Part<'l>);
 
-fn write_shared<W: Write>(
-    out: &mut W,
-    link: &Link<'_>,
-    first: &Part<'_>,
-    second: &Part<'_>,
-) -> io::Result<()> {
-    write_part(out, link, first)?;
-    out.write_all(b": shares addresses with ")?;
-    write_part(out, link, second)
+impl fmt::Display for PartText<'_> {
+    fn fmt<W: fmt::Write>(&self, f: &mut fmt::Formatter<W>) -> fmt::Result {
+        match &self.1.name {
+            PartName::Headers => f.write_str("the headers"),
+            PartName::Got => f.write_str("the GOT"),
+            PartName::Piece(placed) => write!(f, "{}", PieceText(self.0, placed)),
+            PartName::Thread(placed) => write!(f, "{}", PieceText(self.0, placed)),
+        }?;
+        write!(
+            f,
+            " at {:#x}, {:#x} bytes",
+            self.1.thing.at, self.1.thing.size
+        )
+    }
 }
 
 fn write_far<W: Write>(out: &mut W, link: &Link<'_>, far: &Neighbours<'_>) -> io::Result<()> {
-    write_section(out, link, &far.second.piece)?;
+    let (first, second) = (
+        SectionText(link, &far.first.piece),
+        SectionText(link, &far.second.piece),
+    );
     let align = far.second.piece.header.sh_addralign;
+    write!(out, "{second} at {:#x}, aligned to {align}", far.second.at)?;
+    let size = far.first.piece.header.sh_size;
     write!(
         out,
-        " at {:#x}, aligned to {align}: not close after ",
-        far.second.at
-    )?;
-    write_section(out, link, &far.first.piece)?;
-    let size = far.first.piece.header.sh_size;
-    write!(out, " at {:#x}, {size:#x} bytes", far.first.at)
+        ": not close after {first} at {:#x}, {size:#x} bytes",
+        far.first.at
+    )
 }
 
 /// The rights that a sum of flags gives, as readelf shows them.
@@ -103,36 +108,37 @@ pub fn rights_text(rights: u64) -> &'static str {
     }
 }
 
-fn write_unheld<W: Write>(
+/// Writes in which segment a part is whole that must be in one with other rights.
+fn write_segment<W: Write>(
     out: &mut W,
-    link: &Link<'_>,
-    part: &Part<'_>,
+    wanted: u64,
     segment: &Option<ProgramHeader>,
 ) -> io::Result<()> {
-    write_part(out, link, part)?;
-    let wanted = rights_text(part.thing.rights);
+    let wanted = rights_text(wanted);
     match segment {
         Some(h) => {
             let rights = rights_text(u64::from(h.p_flags));
-            write!(out, ": in a segment with {rights}, and not {wanted}")
+            write!(out, "in a segment with {rights}, and not {wanted}")
         }
         None => write!(
             out,
-            ": whole in no segment, and should be in one with {wanted}"
+            "whole in no segment, and should be in one with {wanted}"
         ),
     }
 }
 
 fn write_entry<W: Write>(out: &mut W, place: &EntryPlace<'_>) -> io::Result<()> {
-    out.write_all(b"the entry ")?;
-    write_name(out, place.name)?;
+    let name = Name(place.name);
     match &place.wanted {
         Some(wanted) => write!(
             out,
-            " is at {:#x}, and e_entry is {:#x}",
+            "the entry {name} is at {:#x}, and e_entry is {:#x}",
             wanted.value, place.e_entry
         ),
-        None => out.write_all(b" has no definition outside thread-local storage"),
+        None => write!(
+            out,
+            "the entry {name} has no definition outside thread-local storage"
+        ),
     }
 }
 
@@ -143,21 +149,46 @@ fn write_placement<W: Write>(
     place: &CheckPlace<'_>,
 ) -> io::Result<()> {
     match place {
-        CheckPlace::Unaligned(part) => {
-            write_part(out, link, part)?;
-            write!(out, ": not aligned to {}", part.thing.align)
+        CheckPlace::Unaligned(part) => write!(
+            out,
+            "{}: not aligned to {}",
+            PartText(link, part),
+            part.thing.align
+        ),
+        CheckPlace::Outside(part, base) => write!(
+            out,
+            "{}: not from the base {base:#x} on and below 2^46",
+            PartText(link, part)
+        ),
+        CheckPlace::Shared(first, second) => {
+            let (first, second) = (PartText(link, first), PartText(link, second));
+            write!(out, "{first}: shares addresses with {second}")
         }
-        CheckPlace::Outside(part, base) => {
-            write_part(out, link, part)?;
-            write!(out, ": not from the base {base:#x} on and below 2^46")
-        }
-        CheckPlace::Shared(first, second) => write_shared(out, link, first, second),
         CheckPlace::Far(far) => write_far(out, link, far),
-        CheckPlace::Unheld(part, segment) => write_unheld(out, link, part, segment),
+        CheckPlace::Unheld(part, segment) => {
+            write!(out, "{}: ", PartText(link, part))?;
+            write_segment(out, part.thing.rights, segment)
+        }
         CheckPlace::First(address, base) => write!(
             out,
             "the first segment begins at {address:#x}, and not at the base {base:#x}"
         ),
+        _ => Ok(()),
+    }
+}
+
+/// Writes a place of the third or the thirteenth clause.
+fn write_map_line<W: Write>(
+    out: &mut W,
+    link: &Link<'_>,
+    place: &CheckPlace<'_>,
+) -> io::Result<()> {
+    match place {
+        CheckPlace::DropLine(place) => write_drop_line(out, link, place),
+        CheckPlace::PlaceLine(place) => write_place_line(out, link, place),
+        CheckPlace::CommonLine(place) => write_common_line(out, place),
+        CheckPlace::SymbolLine(place) => write_symbol_line(out, link, place),
+        CheckPlace::NoSymbolLine(name, wanted) => write_missing_line(out, name, wanted),
         _ => Ok(()),
     }
 }
@@ -169,16 +200,14 @@ pub fn write_check_place<W: Write>(
     place: &CheckPlace<'_>,
 ) -> io::Result<()> {
     match place {
-        CheckPlace::ObjectLine(place) => write_object_line(out, link, place),
-        CheckPlace::DropLine(place) => write_drop_line(out, link, place),
-        CheckPlace::PlaceLine(place) => write_place_line(out, link, place),
-        CheckPlace::CommonLine(place) => write_common_line(out, place),
-        CheckPlace::Entry(place) => write_entry(out, place),
-        CheckPlace::SymbolLine(place) => write_symbol_line(out, link, place),
-        CheckPlace::NoSymbolLine(name, wanted) => write_missing_line(out, name, wanted),
-        CheckPlace::Memory(place) => write_memory_place(out, link, place),
-        CheckPlace::Table(place) => write_table(out, place),
         CheckPlace::Whole(clause) => write!(out, "clause C{} as a whole", *clause as u8),
-        _ => write_placement(out, link, place),
+        CheckPlace::ObjectLine(place) => write_object_line(out, link, place),
+        CheckPlace::Entry(place) => write_entry(out, place),
+        CheckPlace::Table(place) => write!(out, "{place}"),
+        CheckPlace::Memory(place) => write_memory_place(out, link, place),
+        _ => match kind_of(place) {
+            Clause::C3 | Clause::C13 => write_map_line(out, link, place),
+            _ => write_placement(out, link, place),
+        },
     }
 }

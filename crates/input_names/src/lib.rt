@@ -4,11 +4,13 @@
 
 mod file_kinds;
 mod member_names;
+mod relocation_faults;
 mod relocation_types;
 mod section_kinds;
 mod text;
 
 pub use file_kinds::file_kind;
-pub use relocation_types::{write_relocation_entry, write_relocation_symbol};
-pub use section_kinds::{write_section_flags, write_section_type};
-pub use text::{object_bytes, write_name, write_object};
+pub use relocation_faults::{FaultOf, RelocationFault};
+pub use relocation_types::{RelocationEntry, RelocationSymbol};
+pub use section_kinds::{SectionFlags, SectionType};
+pub use text::{Called, Name, ObjectName, object_bytes};

@@ -1,8 +1,7 @@
 //! The names of the types of relocations (AMD64 psABI 4.4.1, "Relocation Types"), and entries with these.
-use crate::text::write_name;
+use crate::text::{Called, Name};
 use elf_model::Rela;
-use std::io;
-use std::io::Write;
+use std::fmt;
 
 /// What the name of a type has behind `R_X86_64_`, at the place of its number.
 static NAMES: [&str; 43] = [
@@ -51,41 +50,52 @@ static NAMES: [&str; 43] = [
     "REX_GOTPCRELX",
 ];
 
-/// Writes the name of a type of relocations; its number where the psABI has none.
-fn write_relocation_type<W: Write>(out: &mut W, number: u32) -> io::Result<()> {
-    match NAMES.get(number as usize) {
-        Some(name) => write!(out, "R_X86_64_{name}"),
-        None => write!(out, "type {number}"),
+/// A type of relocations, by its name; by its number where the psABI has none.
+#[derive(Clone, Copy)]
+struct RelocationType(u32);
+
+impl fmt::Display for RelocationType {
+    fn fmt<W: fmt::Write>(&self, f: &mut fmt::Formatter<W>) -> fmt::Result {
+        match NAMES.get(self.0 as usize) {
+            Some(name) => write!(f, "R_X86_64_{name}"),
+            None => write!(f, "type {}", self.0),
+        }
     }
 }
 
-/// Writes which entry of which RELA section a relocation is, both by their numbers, its type, and the number and the name of
-/// its symbol.
-pub fn write_relocation_entry<W: Write>(
-    out: &mut W,
-    table: u64,
-    number: u64,
-    entry: &Rela,
-    symbol_name: &[u8],
-) -> io::Result<()> {
-    write!(out, "relocation {number} of section {table}, ")?;
-    write_relocation_type(out, entry.kind())?;
-    write!(out, ", to symbol {}", entry.symbol())?;
-    if symbol_name.is_empty() {
-        return Ok(());
-    }
-    out.write_all(b" ")?;
-    write_name(out, symbol_name)
+/// An entry of a RELA section, both by their numbers, which reads with its type and the number and the name of its symbol.
+#[derive(Clone, Copy)]
+pub struct RelocationEntry<'a> {
+    pub table: u64,
+    pub number: u64,
+    pub entry: Rela,
+    pub symbol_name: &'a [u8],
 }
 
-/// Writes the name of a relocation's symbol, or its number where it has none.
-pub fn write_relocation_symbol<W: Write>(
-    out: &mut W,
-    entry: &Rela,
-    symbol_name: &[u8],
-) -> io::Result<()> {
-    if symbol_name.is_empty() {
-        return write!(out, "symbol {}", entry.symbol());
+impl fmt::Display for RelocationEntry<'_> {
+    fn fmt<W: fmt::Write>(&self, f: &mut fmt::Formatter<W>) -> fmt::Result {
+        let (table, number, symbol) = (self.table, self.number, self.entry.symbol());
+        let kind = RelocationType(self.entry.kind());
+        write!(
+            f,
+            "relocation {number} of section {table}, {kind}, to symbol {symbol}{}",
+            Called(self.symbol_name)
+        )
     }
-    write_name(out, symbol_name)
+}
+
+/// The symbol of a relocation, by its name, or by its number where it has none.
+#[derive(Clone, Copy)]
+pub struct RelocationSymbol<'a> {
+    pub entry: Rela,
+    pub name: &'a [u8],
+}
+
+impl fmt::Display for RelocationSymbol<'_> {
+    fn fmt<W: fmt::Write>(&self, f: &mut fmt::Formatter<W>) -> fmt::Result {
+        if self.name.is_empty() {
+            return write!(f, "symbol {}", self.entry.symbol());
+        }
+        write!(f, "{}", Name(self.name))
+    }
 }

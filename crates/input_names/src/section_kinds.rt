@@ -1,6 +1,5 @@
 //! The names of the types and the flags of sections (System V gABI 4, "Sections"; AMD64 psABI 4.2; GNU's SHF_GNU_RETAIN).
-use std::io;
-use std::io::Write;
+use std::fmt;
 
 /// Types of sections, by what their names have behind `SHT_`.
 static TYPES: [(u32, &str); 18] = [
@@ -42,28 +41,36 @@ static FLAGS: [(u64, &str); 14] = [
     (0x8000_0000, "EXCLUDE"),
 ];
 
-/// Writes the name of a type of sections; its number where none of these has it.
-pub fn write_section_type<W: Write>(out: &mut W, number: u32) -> io::Result<()> {
-    for (known, name) in TYPES.iter() {
-        if *known == number {
-            return write!(out, "type {name}");
+/// A type of sections, by its name; by its number where none of these has it.
+#[derive(Clone, Copy)]
+pub struct SectionType(pub u32);
+
+impl fmt::Display for SectionType {
+    fn fmt<W: fmt::Write>(&self, f: &mut fmt::Formatter<W>) -> fmt::Result {
+        match TYPES.iter().find(|known| known.0 == self.0) {
+            Some(known) => write!(f, "type {}", known.1),
+            None => write!(f, "type {:#x}", self.0),
         }
     }
-    write!(out, "type {number:#x}")
 }
 
-/// Writes the names of a section's flags, and the number of those that have none here.
-pub fn write_section_flags<W: Write>(out: &mut W, flags: u64) -> io::Result<()> {
-    out.write_all(b"flags")?;
-    let mut rest = flags;
-    for (flag, name) in FLAGS.iter() {
-        if rest & *flag != 0 {
-            write!(out, " {name}")?;
-            rest &= !*flag;
+/// A section's flags, by their names, and the number of those that have none here.
+#[derive(Clone, Copy)]
+pub struct SectionFlags(pub u64);
+
+impl fmt::Display for SectionFlags {
+    fn fmt<W: fmt::Write>(&self, f: &mut fmt::Formatter<W>) -> fmt::Result {
+        f.write_str("flags")?;
+        let mut rest = self.0;
+        for (flag, name) in FLAGS.iter() {
+            if rest & *flag != 0 {
+                write!(f, " {name}")?;
+                rest &= !*flag;
+            }
         }
+        if rest == 0 && self.0 != 0 {
+            return Ok(());
+        }
+        write!(f, " {rest:#x}")
     }
-    if rest != 0 || flags == 0 {
-        write!(out, " {rest:#x}")?;
-    }
-    Ok(())
 }

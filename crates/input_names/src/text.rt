@@ -2,20 +2,37 @@
 
 use crate::member_names::{member_data, member_name};
 use elf_model::InputFile;
-use std::io;
-use std::io::Write;
+use std::fmt;
 
-/// Writes a name as a map spells it: bytes from 0x21 to 0x7e but `\` as they are, every other one as `\x` and two
+/// A name, which reads as a map spells it: bytes from 0x21 to 0x7e but `\` as they are, every other one as `\x` and two
 /// hexadecimal digits.
-pub fn write_name<W: Write>(out: &mut W, name: &[u8]) -> io::Result<()> {
-    for byte in name {
-        if (0x21..=0x7e).contains(byte) && *byte != b'\\' {
-            out.write_all(&[*byte])?;
-        } else {
-            write!(out, "\\x{byte:02x}")?;
+#[derive(Clone, Copy)]
+pub struct Name<'a>(pub &'a [u8]);
+
+impl fmt::Display for Name<'_> {
+    fn fmt<W: fmt::Write>(&self, f: &mut fmt::Formatter<W>) -> fmt::Result {
+        for byte in self.0 {
+            if (0x21..=0x7e).contains(byte) && *byte != b'\\' {
+                write!(f, "{}", char::from(*byte))?;
+            } else {
+                write!(f, "\\x{byte:02x}")?;
+            }
         }
+        Ok(())
     }
-    Ok(())
+}
+
+/// A space and a name; nothing where the name is empty.
+#[derive(Clone, Copy)]
+pub struct Called<'a>(pub &'a [u8]);
+
+impl fmt::Display for Called<'_> {
+    fn fmt<W: fmt::Write>(&self, f: &mut fmt::Formatter<W>) -> fmt::Result {
+        if self.0.is_empty() {
+            return Ok(());
+        }
+        write!(f, " {}", Name(self.0))
+    }
 }
 
 /// The bytes of the first file of a path.
@@ -33,32 +50,39 @@ pub fn object_bytes<'f>(files: &'f [InputFile], path: &str, offset: u64) -> Opti
     member_data(file, offset as usize)
 }
 
-/// Writes the name of an archive's member, and the offset of its header.
-fn write_member<W: Write>(
-    out: &mut W,
-    files: &[InputFile],
-    path: &str,
+/// An object, which reads as the path of its file and the member that it is, by the offset of the member's header; 0 for a
+/// file that is an object.
+#[derive(Clone, Copy)]
+pub struct ObjectName<'i> {
+    files: &'i [InputFile],
+    path: &'i str,
     offset: u64,
-) -> io::Result<()> {
-    out.write_all(b"(")?;
-    if let Some(file) = file_named(files, path) {
-        write_name(out, member_name(file, offset).unwrap_or(&[]))?;
-        out.write_all(b" ")?;
-    }
-    write!(out, "at {offset:#x})")
 }
 
-/// Writes the path of an object's file, and the member that it is, by the offset of the member's header; 0 for a file that
-/// is an object.
-pub fn write_object<W: Write>(
-    out: &mut W,
-    files: &[InputFile],
-    path: &str,
-    offset: u64,
-) -> io::Result<()> {
-    write_name(out, path.as_bytes())?;
-    if offset != 0 {
-        write_member(out, files, path, offset)?;
+impl<'i> ObjectName<'i> {
+    /// The object of files that the path and the offset name.
+    pub fn new(files: &'i [InputFile], path: &'i str, offset: u64) -> ObjectName<'i> {
+        ObjectName {
+            files,
+            path,
+            offset,
+        }
     }
-    Ok(())
+}
+
+impl fmt::Display for ObjectName<'_> {
+    fn fmt<W: fmt::Write>(&self, f: &mut fmt::Formatter<W>) -> fmt::Result {
+        let offset = self.offset;
+        write!(f, "{}", Name(self.path.as_bytes()))?;
+        if offset == 0 {
+            return Ok(());
+        }
+        match file_named(self.files, self.path) {
+            Some(file) => {
+                let name = member_name(file, offset).unwrap_or(&[]);
+                write!(f, "({} at {offset:#x})", Name(name))
+            }
+            None => write!(f, "(at {offset:#x})"),
+        }
+    }
 }

@@ -1,7 +1,7 @@
 //! The lines that tell which debug data aren't in an image as they should be.
 use debug_image::compressed;
 use elf_model::{InputFile, SectionRef};
-use input_names::{write_name, write_object};
+use input_names::{Name, ObjectName};
 use search::LoadedObject;
 use std::alloc::{AllocError, Global};
 use std::io;
@@ -14,13 +14,9 @@ fn write_place<E: Write>(
     loaded: &LoadedObject<'_>,
     section: u64,
 ) -> io::Result<()> {
-    err.write_all(b"ld: ")?;
-    write_object(err, files, loaded.path, loaded.offset)?;
-    err.write_all(b": ")?;
-    match loaded.object.section_name(section as usize) {
-        Some(name) => write_name(err, name),
-        None => Ok(()),
-    }
+    let object = ObjectName::new(files, loaded.path, loaded.offset);
+    let name = loaded.object.section_name(section as usize);
+    write!(err, "ld: {object}: {}", Name(name.unwrap_or(&[])))
 }
 
 /// Prints a line for each of some sections.

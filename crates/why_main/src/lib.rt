@@ -15,7 +15,7 @@ use command::{Plan, read_words};
 use elf_model::{Clause, CmdFault, InputFile, LinkError, LoadFault, MapFault};
 use explain::{Inputs, explain, write_places};
 use explain_check::{CheckPlace, Found, explain_check, read_link, write_check_place};
-use input_names::write_name;
+use input_names::Name;
 use ld_main::{Failure, RealFiles, Verdict, check, gather, prepare, read_file, refused};
 use loader_model::Memory;
 use std::alloc::{AllocError, Global};
@@ -90,8 +90,7 @@ fn fail_reading<R: Files, W: Write>(rt: &R, out: &mut W, failure: &Failure<'_>) 
         return Ok(status);
     };
     if let Some(error) = reason(rt, path) {
-        write_name(out, path.as_bytes())?;
-        writeln!(out, ": {error}")?;
+        writeln!(out, "{}: {error}", Name(path.as_bytes()))?;
     }
     Ok(status)
 }
@@ -154,8 +153,8 @@ fn write_map_fault<W: Write>(
         Ok(_) => Ok(()),
         Err(MapFault::Memory) => Err(io::Error::from(AllocError)),
         Err(MapFault::Line(line)) => {
-            write_name(out, plan.map.unwrap_or("").as_bytes())?;
-            writeln!(out, ": line {line} is none of a map")
+            let name = Name(plan.map.unwrap_or("").as_bytes());
+            writeln!(out, "{name}: line {line} is none of a map")
         }
     }
 }
@@ -171,8 +170,8 @@ fn write_image_fault<W: Write>(
         Ok(_) => Ok(()),
         Err(LoadFault::Memory) => Err(io::Error::from(AllocError)),
         Err(fault) => {
-            write_name(out, plan.output.as_bytes())?;
-            writeln!(out, ": {fault}")
+            let name = Name(plan.output.as_bytes());
+            writeln!(out, "{name}: {fault}")
         }
     }
 }

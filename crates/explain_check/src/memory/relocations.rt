@@ -15,7 +15,7 @@ use crate::found::Found;
 use crate::memory::added::add_memory;
 use crate::memory::overlaps::add_overlaps;
 use crate::memory::relocation_places::{entries_of, entry_at, header_at, kept_place, object_at};
-use crate::memory_place::{MemoryPlace, RelocationFault};
+use crate::memory_place::MemoryPlace;
 use crate::place::CheckPlace;
 use check_load::Loaded;
 use check_relocs::{
@@ -24,6 +24,7 @@ use check_relocs::{
 };
 use checker::BoundLink;
 use elf_model::{Rela, SectionHeader};
+use input_names::RelocationFault;
 use std::alloc::{AllocError, Global};
 
 /// An object whose relocations are looked at, with its number.

@@ -1,155 +1,64 @@
 //! How a place of memory reads: a line that names the piece, the relocation, the segment or the line of the map, and says
 //! what is there and what should be.
 
-use crate::memory_place::{
-    BytePlace, FillPlace, GotBytePlace, MemoryPlace, RelocationFault, RelocationPlace, SegmentPlace,
-};
-use crate::text::{rights_text, write_object_of, write_piece};
+use crate::map_text::{Kind, line_number};
+use crate::memory::clause::memory_clause;
+use crate::memory_place::{MemoryPlace, RelocationPlace, SegmentPlace};
+use crate::text::{ObjectText, PieceText, rights_text};
 use check_link::Link;
-use elf_model::{GotLine, ProgramHeader};
-use input_names::{write_name, write_relocation_entry, write_relocation_symbol};
-use std::io;
+use elf_model::{Clause, ProgramHeader};
+use input_names::{FaultOf, Name, RelocationEntry, RelocationSymbol};
 use std::io::Write;
+use std::{fmt, io};
 
-/// The number of the line of the map, from 1, that has the slot that has a number, from 0.
-fn line_of_slot(link: &Link<'_>, number: u64) -> u64 {
-    let map = &link.map;
-    let before = [
-        map.objects.len(),
-        map.drops.len(),
-        map.places.len(),
-        map.commons.len(),
-        map.got.is_some() as usize,
-    ];
-    let mut line = number.saturating_add(2);
-    for count in before {
-        line = line.saturating_add(count as u64);
+/// Writes where a relocation is: its section and its offset there.
+fn write_field<W: Write>(
+    out: &mut W,
+    link: &Link<'_>,
+    place: &RelocationPlace<'_>,
+) -> io::Result<()> {
+    let (object, section) = (ObjectText(link, place.object), Name(place.section_name));
+    write!(out, "{object}: {section}+{:#x}: ", place.entry.r_offset)
+}
+
+/// Which entry of which section a relocation is, its type and its symbol, by its number and a name.
+fn entry_of<'a>(place: &RelocationPlace<'a>, symbol_name: &'a [u8]) -> RelocationEntry<'a> {
+    RelocationEntry {
+        table: place.table,
+        number: place.number,
+        entry: place.entry,
+        symbol_name,
     }
-    line
 }
 
-/// Writes where a relocation is: its section and offset there.
-fn write_place_of<W: Write>(
-    out: &mut W,
-    link: &Link<'_>,
-    place: &RelocationPlace<'_>,
-) -> io::Result<()> {
-    write_object_of(out, link, place.object)?;
-    out.write_all(b": ")?;
-    write_name(out, place.section_name)?;
-    write!(out, "+{:#x}: ", place.entry.r_offset)
+fn symbol_of<'a>(place: &RelocationPlace<'a>) -> RelocationSymbol<'a> {
+    RelocationSymbol {
+        entry: place.entry,
+        name: place.symbol_name,
+    }
 }
 
-/// Writes which entry of which section a relocation is, its type and its symbol, by its number and a name.
-fn write_entry<W: Write>(out: &mut W, place: &RelocationPlace<'_>, name: &[u8]) -> io::Result<()> {
-    write_relocation_entry(out, place.table, place.number, &place.entry, name)
-}
+/// An address, the byte that memory has there, and the one that it should have.
+#[derive(Clone, Copy)]
+struct ByteText(u64, Option<u8>, u8);
 
-/// Writes which entry a relocation is, behind what is wrong with it.
-fn write_note<W: Write>(out: &mut W, place: &RelocationPlace<'_>) -> io::Result<()> {
-    out.write_all(b" (")?;
-    write_entry(out, place, &[])?;
-    out.write_all(b")")
-}
-
-/// Writes where a relocation is, and which entry.
-fn write_relocation<W: Write>(
-    out: &mut W,
-    link: &Link<'_>,
-    place: &RelocationPlace<'_>,
-) -> io::Result<()> {
-    write_place_of(out, link, place)?;
-    write_entry(out, place, place.symbol_name)
-}
-
-/// What is wrong with a relocation, behind the name of its symbol where it is the symbol's.
-fn fault_text(fault: RelocationFault) -> (bool, &'static str) {
-    match fault {
-        RelocationFault::Undefined => (true, " is not defined"),
-        RelocationFault::RefToDropped => (true, " is LOCAL in a section that is not loaded"),
-        RelocationFault::RelocKind => (false, "not a type of relocation that is linked"),
-        RelocationFault::FieldOutside => (false, "the field is not inside its section"),
-        RelocationFault::TlsMismatch => {
-            (
-                true,
-                " is thread-local, or not, against the relocation's type",
-            )
-        }
-        RelocationFault::MixedSection => {
-            (
-                true,
-                " is a bound of an output name of several output sections",
-            )
+impl fmt::Display for ByteText {
+    fn fmt<W: fmt::Write>(&self, f: &mut fmt::Formatter<W>) -> fmt::Result {
+        let (address, wanted) = (self.0, self.2);
+        match self.1 {
+            Some(byte) => write!(
+                f,
+                "at {address:#x} is {byte:#04x}, and should be {wanted:#04x}"
+            ),
+            None => write!(
+                f,
+                "at {address:#x} is not mapped, and should be {wanted:#04x}"
+            ),
         }
     }
 }
 
-/// Writes what is wrong with a relocation.
-fn write_fault<W: Write>(
-    out: &mut W,
-    place: &RelocationPlace<'_>,
-    fault: RelocationFault,
-) -> io::Result<()> {
-    let (of_symbol, text) = fault_text(fault);
-    if of_symbol {
-        write_relocation_symbol(out, &place.entry, place.symbol_name)?;
-    }
-    out.write_all(text.as_bytes())
-}
-
-/// Writes an address, the byte that memory has there, and the one that it should have.
-fn write_byte<W: Write>(
-    out: &mut W,
-    address: u64,
-    there: Option<u8>,
-    wanted: u8,
-) -> io::Result<()> {
-    match there {
-        Some(byte) => write!(
-            out,
-            "at {address:#x} is {byte:#04x}, and should be {wanted:#04x}"
-        ),
-        None => write!(
-            out,
-            "at {address:#x} is not mapped, and should be {wanted:#04x}"
-        ),
-    }
-}
-
-fn write_piece_byte<W: Write>(
-    out: &mut W,
-    link: &Link<'_>,
-    place: &BytePlace<'_>,
-) -> io::Result<()> {
-    write_piece(out, link, &place.piece)?;
-    write!(out, ": byte {:#x} ", place.offset)?;
-    let address = place.piece.at.saturating_add(place.offset);
-    write_byte(out, address, place.there, place.wanted)?;
-    if let Some(relocation) = &place.relocation {
-        out.write_all(b": ")?;
-        write_entry(out, relocation, relocation.symbol_name)?;
-    }
-    Ok(())
-}
-
-fn write_fill<W: Write>(out: &mut W, place: &FillPlace) -> io::Result<()> {
-    let (address, rights) = (place.address, rights_text(place.rights));
-    let (byte, wanted) = (place.byte, place.wanted);
-    write!(
-        out,
-        "{address:#x}: {byte:#04x} is in no section, and should be {wanted:#04x} in a segment with {rights}"
-    )
-}
-
-fn write_segment<W: Write>(out: &mut W, place: &SegmentPlace) -> io::Result<()> {
-    write!(
-        out,
-        "segment {} at {:#x}",
-        place.number, place.header.p_vaddr
-    )
-}
-
-/// Writes where a part of a segment ends, and where it should.
+/// Where a part of a segment ends, and where it should.
 fn write_end<W: Write>(
     out: &mut W,
     place: &SegmentPlace,
@@ -157,38 +66,30 @@ fn write_end<W: Write>(
     size: u64,
     wanted: u64,
 ) -> io::Result<()> {
-    write_segment(out, place)?;
-    let end = place.header.p_vaddr.saturating_add(size);
+    let (number, at) = (place.number, place.header.p_vaddr);
+    let end = at.saturating_add(size);
     write!(
         out,
-        ": its {part} ends at {end:#x}, and should end at {wanted:#x}"
+        "segment {number} at {at:#x}: its {part} ends at {end:#x}, and should end at {wanted:#x}"
     )
 }
 
-fn write_header<W: Write>(out: &mut W, header: &Option<ProgramHeader>) -> io::Result<()> {
-    let Some(h) = header else {
-        return out.write_all(b"none");
-    };
-    let (at, offset, align) = (h.p_vaddr, h.p_offset, h.p_align);
-    let (file, memory) = (h.p_filesz, h.p_memsz);
-    write!(
-        out,
-        "at {at:#x}, file offset {offset:#x}, {file:#x} bytes in the file and {memory:#x} in memory, alignment {align:#x}"
-    )
-}
+/// A PT_TLS header, if there is one.
+#[derive(Clone, Copy)]
+struct HeaderText<'h>(&'h Option<ProgramHeader>);
 
-fn write_got_size<W: Write>(out: &mut W, got: &GotLine, wanted: u64) -> io::Result<()> {
-    let (address, size) = (got.address, got.size);
-    write!(
-        out,
-        "the GOT at {address:#x} has {size:#x} bytes, and should have {wanted:#x}"
-    )
-}
-
-fn write_got_byte<W: Write>(out: &mut W, place: &GotBytePlace) -> io::Result<()> {
-    write!(out, "the GOT: byte {:#x} ", place.offset)?;
-    let address = place.got.address.saturating_add(place.offset);
-    write_byte(out, address, place.there, place.wanted)
+impl fmt::Display for HeaderText<'_> {
+    fn fmt<W: fmt::Write>(&self, f: &mut fmt::Formatter<W>) -> fmt::Result {
+        let Some(h) = self.0 else {
+            return f.write_str("none");
+        };
+        let (at, offset, align) = (h.p_vaddr, h.p_offset, h.p_align);
+        let (file, memory) = (h.p_filesz, h.p_memsz);
+        write!(
+            f,
+            "at {at:#x}, file offset {offset:#x}, {file:#x} bytes in the file and {memory:#x} in memory, alignment {align:#x}"
+        )
+    }
 }
 
 /// Writes a place of the seventh clause.
@@ -199,32 +100,44 @@ fn write_got<W: Write>(out: &mut W, link: &Link<'_>, place: &MemoryPlace<'_>) ->
             b"the map has no GOT, and a relocation asks for one",
         ),
         MemoryPlace::UnaskedSlot(number, _) => {
-            let line = line_of_slot(link, *number);
+            let line = line_number(link, Kind::Slot, *number);
             write!(
                 out,
                 "line {line} of the map: no relocation asks for this slot"
             )
         }
         MemoryPlace::RepeatedSlot(first, number, _) => {
-            let (line, again) = (line_of_slot(link, *first), line_of_slot(link, *number));
+            let line = line_number(link, Kind::Slot, *first);
+            let again = line_number(link, Kind::Slot, *number);
             write!(
                 out,
                 "line {again} of the map: the slot of line {line} again"
             )
         }
-        MemoryPlace::NoSlot(relocation, _) => {
-            write_relocation(out, link, relocation)?;
-            out.write_all(b": no line of the map has its slot")
+        MemoryPlace::NoSlot(place, _) => {
+            write_field(out, link, place)?;
+            let entry = entry_of(place, place.symbol_name);
+            write!(out, "{entry}: no line of the map has its slot")
         }
-        MemoryPlace::GotSize(got, wanted) => write_got_size(out, got, *wanted),
+        MemoryPlace::GotSize(got, wanted) => {
+            let (address, size) = (got.address, got.size);
+            write!(
+                out,
+                "the GOT at {address:#x} has {size:#x} bytes, and should have {wanted:#x}"
+            )
+        }
         MemoryPlace::SlotAddress(number, there, wanted) => {
-            let line = line_of_slot(link, *number);
+            let line = line_number(link, Kind::Slot, *number);
             write!(
                 out,
                 "line {line} of the map: the slot at {there:#x} should be at {wanted:#x}"
             )
         }
-        MemoryPlace::GotByte(place) => write_got_byte(out, place),
+        MemoryPlace::GotByte(place) => {
+            let address = place.got.address.saturating_add(place.offset);
+            let byte = ByteText(address, place.there, place.wanted);
+            write!(out, "the GOT: byte {:#x} {byte}", place.offset)
+        }
         _ => Ok(()),
     }
 }
@@ -232,18 +145,17 @@ fn write_got<W: Write>(out: &mut W, link: &Link<'_>, place: &MemoryPlace<'_>) ->
 /// Writes a place of the eighth clause.
 fn write_thread<W: Write>(out: &mut W, link: &Link<'_>, place: &MemoryPlace<'_>) -> io::Result<()> {
     match place {
-        MemoryPlace::ThreadHeader(there, wanted) => {
-            out.write_all(b"PT_TLS: ")?;
-            write_header(out, there)?;
-            out.write_all(b"; it should be: ")?;
-            write_header(out, wanted)
-        }
+        MemoryPlace::ThreadHeader(there, wanted) => write!(
+            out,
+            "PT_TLS: {}; it should be: {}",
+            HeaderText(there),
+            HeaderText(wanted)
+        ),
         MemoryPlace::ThreadZeros(_, placed, end) => {
-            write_piece(out, link, placed)?;
-            let at = placed.at;
+            let (piece, at) = (PieceText(link, placed), placed.at);
             write!(
                 out,
-                " at {at:#x} begins before the thread-local bytes end, at {end:#x}"
+                "{piece} at {at:#x} begins before the thread-local bytes end, at {end:#x}"
             )
         }
         MemoryPlace::GotInThreadBlock(got, start, end) => {
@@ -254,11 +166,10 @@ fn write_thread<W: Write>(out: &mut W, link: &Link<'_>, place: &MemoryPlace<'_>)
             )
         }
         MemoryPlace::PieceInThreadBlock(_, placed, start, end) => {
-            write_piece(out, link, placed)?;
-            let at = placed.at;
+            let (piece, at) = (PieceText(link, placed), placed.at);
             write!(
                 out,
-                " at {at:#x} is among the thread-local bytes, from {start:#x} to {end:#x}"
+                "{piece} at {at:#x} is among the thread-local bytes, from {start:#x} to {end:#x}"
             )
         }
         MemoryPlace::ThreadBytes(header) => {
@@ -272,20 +183,80 @@ fn write_thread<W: Write>(out: &mut W, link: &Link<'_>, place: &MemoryPlace<'_>)
     }
 }
 
-/// Writes a place of the eleventh clause.
-fn write_rest<W: Write>(out: &mut W, place: &MemoryPlace<'_>) -> io::Result<()> {
+/// Writes a place of the ninth clause.
+fn write_relocation_place<W: Write>(
+    out: &mut W,
+    link: &Link<'_>,
+    place: &MemoryPlace<'_>,
+) -> io::Result<()> {
     match place {
-        MemoryPlace::Fill(place) => write_fill(out, place),
-        MemoryPlace::EmptySegment(place) => {
-            write_segment(out, place)?;
-            out.write_all(b": nothing is in it")
+        MemoryPlace::Relocation(place, fault) => {
+            write_field(out, link, place)?;
+            let fault = FaultOf(*fault, symbol_of(place));
+            write!(out, "{fault} ({})", entry_of(place, &[]))
         }
-        MemoryPlace::MemoryEnd(place, end) => {
-            write_end(out, place, "memory", place.header.p_memsz, *end)
+        MemoryPlace::Overlap(first, second) => {
+            write_field(out, link, first)?;
+            let entry = entry_of(first, first.symbol_name);
+            write!(out, "{entry}: its field shares a byte with that of ")?;
+            write_field(out, link, second)?;
+            write!(out, "{}", entry_of(second, second.symbol_name))
         }
-        MemoryPlace::FileEnd(place, end) => {
-            write_end(out, place, "file part", place.header.p_filesz, *end)
+        MemoryPlace::Value(place, value, address) => {
+            write_field(out, link, place)?;
+            let symbol = symbol_of(place);
+            write!(
+                out,
+                "the value {value:#x} for {symbol} does not fit the field at {address:#x}"
+            )?;
+            write!(out, " ({})", entry_of(place, &[]))
         }
+        _ => Ok(()),
+    }
+}
+
+/// Writes a place of the tenth or the eleventh clause.
+fn write_memory<W: Write>(out: &mut W, link: &Link<'_>, place: &MemoryPlace<'_>) -> io::Result<()> {
+    match place {
+        MemoryPlace::Byte(place) => {
+            let address = place.piece.at.saturating_add(place.offset);
+            let (piece, byte) = (
+                PieceText(link, &place.piece),
+                ByteText(address, place.there, place.wanted),
+            );
+            write!(out, "{piece}: byte {:#x} {byte}", place.offset)?;
+            match &place.relocation {
+                Some(place) => write!(out, ": {}", entry_of(place, place.symbol_name)),
+                None => Ok(()),
+            }
+        }
+        MemoryPlace::Fill(place) => {
+            let (address, rights) = (place.address, rights_text(place.rights));
+            let (byte, wanted) = (place.byte, place.wanted);
+            write!(
+                out,
+                "{address:#x}: {byte:#04x} is in no section, and should be {wanted:#04x} in a segment with {rights}"
+            )
+        }
+        MemoryPlace::EmptySegment(place) => write!(
+            out,
+            "segment {} at {:#x}: nothing is in it",
+            place.number, place.header.p_vaddr
+        ),
+        MemoryPlace::MemoryEnd(place, end) => write_end(
+            out,
+            place,
+            "memory",
+            place.header.p_memsz,
+            *end,
+        ),
+        MemoryPlace::FileEnd(place, end) => write_end(
+            out,
+            place,
+            "file part",
+            place.header.p_filesz,
+            *end,
+        ),
         MemoryPlace::Gap(offset, byte) => write!(
             out,
             "offset {offset:#x} of the image: {byte:#04x} is in no segment, and should be 0x00"
@@ -304,36 +275,10 @@ pub fn write_memory_place<W: Write>(
     link: &Link<'_>,
     place: &MemoryPlace<'_>,
 ) -> io::Result<()> {
-    match place {
-        MemoryPlace::Relocation(relocation, fault) => {
-            write_place_of(out, link, relocation)?;
-            write_fault(out, relocation, *fault)?;
-            write_note(out, relocation)
-        }
-        MemoryPlace::Overlap(first, second) => {
-            write_relocation(out, link, first)?;
-            out.write_all(b": its field shares a byte with that of ")?;
-            write_relocation(out, link, second)
-        }
-        MemoryPlace::Value(relocation, value, address) => {
-            write_place_of(out, link, relocation)?;
-            write!(out, "the value {value:#x} for ")?;
-            write_relocation_symbol(out, &relocation.entry, relocation.symbol_name)?;
-            write!(out, " does not fit the field at {address:#x}")?;
-            write_note(out, relocation)
-        }
-        MemoryPlace::Byte(place) => write_piece_byte(out, link, place),
-        MemoryPlace::ThreadHeader(_, _)
-        | MemoryPlace::ThreadZeros(_, _, _)
-        | MemoryPlace::GotInThreadBlock(_, _, _)
-        | MemoryPlace::PieceInThreadBlock(_, _, _, _)
-        | MemoryPlace::ThreadBytes(_) => write_thread(out, link, place),
-        MemoryPlace::Fill(_)
-        | MemoryPlace::EmptySegment(_)
-        | MemoryPlace::MemoryEnd(_, _)
-        | MemoryPlace::FileEnd(_, _)
-        | MemoryPlace::Gap(_, _)
-        | MemoryPlace::Length(_, _) => write_rest(out, place),
-        _ => write_got(out, link, place),
+    match memory_clause(place) {
+        Clause::C7 => write_got(out, link, place),
+        Clause::C8 => write_thread(out, link, place),
+        Clause::C9 => write_relocation_place(out, link, place),
+        _ => write_memory(out, link, place),
     }
 }
