@@ -1,28 +1,33 @@
 -- What a place says denies its clause.
-use Rattle.std.proofs.Common.{◌≡◌, ◌∙◌, ℕ, ◌%◌, ◌<◌, ◌≤◌, ◌⊎◌, inl, inr, ⊎_elim, Bool, true, false, List, [], ◌∷◌, ◌++◌, Option, None, Some, length, get_or, map, option_map, refl, sym, subst, ap, arith}
-use Rattle.std.specs.Prelude.{All, AllPairs, IfSome, IsSome, find, is_some}
+use Rattle.std.proofs.Common.{Bool, List, None, Option, Some, [], ap, arith, false, get_or, inl, inr, map, not, option_map, refl, subst, sym, true, ℕ, ⊎_elim, ◌%◌, ◌++◌, ◌+◌, ◌<◌, ◌∙◌, ◌∷◌, ◌≡◌, ◌≤◌, ◌⊎◌}
+use Rattle.std.specs.Prelude.{All, AllPairs, IfSome, IsSome, filter, is_some}
 use Rattle.std.specs.List.{slice_get}
 use Rattle.std.proofs.lemmas.Bool.{false≢true}
 use Rattle.std.proofs.lemmas.Option.{get_or_from_slice_get, none-some, same_Some, slice_get-map, slice_get_within}
+use Rattle.std.proofs.lemmas.List.Elements.{All-head}
 use Rattle.elf_model.specs.MapText.{IsMap}
-use Rattle.elf_model.specs.MemoryImage.{loads}
-use Rattle.elf_model.specs.Pieces.{kept_sections}
-use Rattle.elf_model.specs.Placement.{AreApart, HasRights, IsNear, IsPlaced, IsWithin, LiesInSegment, Placed, got_things, headers_thing, thing_of, thread_ranges}
-use Rattle.elf_model.specs.RightLink.{AreSectionsListed, AreSymbolsListed, AreTablesRight, Holds, HoldsTables, IsLoaded, Subject, facts_of_piece, facts_of_row, objects_of, placed_of, symbol_row_of, things_of, where_of}
-use Rattle.elf_model.specs.Listing.{listed}
-use Rattle.elf_model.specs.MapRecord.{SymbolRow, symbol_row}
+use Rattle.elf_model.specs.MemoryImage.{loads, thread_blocks}
+use Rattle.elf_model.specs.Pieces.{is_thread_zero, kept_sections}
+use Rattle.elf_model.specs.Placement.{AreApart, HasRights, IsNear, IsPlaced, IsWithin, LiesInSegment, Placed, got_things, headers_thing, is_thread_place, thing_of, thread_ranges}
+use Rattle.elf_model.specs.RightLink.{AreSectionsListed, AreSymbolsListed, AreTablesRight, EndsRight, Holds, HoldsInitial, HoldsPiece, HoldsTables, IsClearOf, IsLoaded, Subject, facts_of_piece, facts_of_row, objects_of, placed_of, symbol_row_of, things_of, thread_data_end, where_of}
+use Rattle.elf_model.specs.MapRecord.{symbol_row}
 use Rattle.elf_model.specs.declared.link_map.GotLine.{GotLine}
 use Rattle.elf_model.specs.declared.link_map.SymtabLine.{SymtabLine}
 use Rattle.elf_model.specs.declared.records.ProgramHeader.{ProgramHeader}
 use Rattle.elf_model.specs.declared.thing.Thing.{Thing}
+use Rattle.elf_model.proofs.Listed.{All-parts, All-unmap}
+use Rattle.elf_model.specs.Placement as placement
+use Rattle.elf_model.specs.Relocation.{IsLawfulRelocation, Relocation}
+use Rattle.elf_model.specs.RelocationValues.{Fits}
 use Rattle.check_link.specs.Views.{meaning_view, placed_view}
 use Rattle.check_link.proofs.Padded.{below_or_not}
+use Rattle.check_link.specs.Slots.{request_view}
 use Rattle.checker.specs.Listed.{IsLine}
 use Rattle.checker.proofs.TableEntries.{each_line}
-use Rattle.explain_check.proofs.MemoryDenials.{denied}
+use Rattle.checker.proofs.Filtered.{All-unfilter}
 use Rattle.explain_check.specs.LinePlaces.{IsWrongCommon, IsWrongDrop, IsWrongObject, IsWrongPlace}
-use Rattle.explain_check.specs.PlacementPlaces.{AreFar, IsOutside, IsPart, IsShared, IsUnaligned, IsUnheld, IsNamed, IsWrongFirst, is_thread_name, list_of, ordered_sections}
-use Rattle.explain_check.specs.SymbolPlaces.{IsWrongLine, LacksLine, is_symbol_row_of, wanted_row}
+use Rattle.explain_check.specs.PlacementPlaces.{AreFar, IsNamed, IsOutside, IsPart, IsShared, IsUnaligned, IsUnheld, IsWrongFirst, is_thread_name, list_of, ordered_sections}
+use Rattle.explain_check.specs.SymbolPlaces.{IsWrongLine, LacksLine}
 use Rattle.explain_check.specs.TablePlaces.{FailsInTable}
 use Rattle.explain_check.specs.Places.{FailsIn, clause_of}
 use Rattle.explain_check.specs.declared.place.CheckPlace.{CheckPlace}
@@ -39,10 +44,8 @@ use Rattle.explain_check.specs.declared.place.PlaceLinePlace.{PlaceLinePlace}
 use Rattle.explain_check.specs.declared.place.SymbolLinePlace.{SymbolLinePlace}
 use Rattle.explain_check.specs.declared.place.TablePlace.{TablePlace}
 use Rattle.explain_check.specs.declared.place.TablePlace.TheVariants as table
-
--- what holds of all of a list holds of the one that has a number
-at_number : {X : Type 0} (P : X → Type 0) (xs : List X) (k : ℕ) (x : X) → All P xs → slice_get xs k ≡ Some x → P x
-at_number P xs k x all there = subst P (get_or_from_slice_get xs k x x there) (all k x (slice_get_within xs k x there))
+use Rattle.explain_check.specs.Parts.{got_thing}
+use Rattle.explain_check.proofs.MemoryDenials.{at_number, at_place, clear_at, held, stand_at, unlawful_denied}
 
 pairs_at :
     {X : Type 0} (R : X → X → Type 0) (xs : List X) (i j : ℕ) (x y : X) → AllPairs R xs → i < j → slice_get xs i ≡ Some x → slice_get xs j ≡ Some y → R x y
@@ -209,7 +212,44 @@ denies s (place.Shared p q) is_map h right = shared_denied s p q h right
 denies s (place.Far n) is_map h right = far_denied s n h right
 denies s (place.Unheld p segment) is_map h right = unheld_denied s p segment h right
 denies s (place.First address base) is_map h right = first_denied s address base h right
-denies s (place.Memory p) is_map h right = denied s p h right
+denies s (place.Got there) is_map h right = h.wrong right.present
+denies s (place.UnaskedSlot k q) is_map h right = h.wrong (right.slots (request_view q))
+denies s (place.RepeatedSlot i k q) is_map h right = h.wrong (right.slots (request_view q))
+denies s (place.NoSlot p q) is_map h right = h.wrong (right.slots (request_view q))
+denies s (place.GotSize got wanted) is_map h right = h.wrong (held s got h.got_is right.held).size
+denies s (place.SlotAddress k there wanted) is_map h right =
+    let e = stand_at (h.got.address + 8) s.map.slots k h.row h.line (held s h.got h.got_is right.held).places in
+    h.wrong (omega (arith, e))
+denies s (place.GotByte p) is_map h right = h.wrong ((held s p.got h.got right.held).bytes p.offset h.below)
+denies s (place.ThreadHeader there wanted) is_map h right = h.wrong right.headers
+denies s (place.ThreadZeros k q end) is_map h right =
+    let e = at_number (λ (x : placement.Placed). is_thread_zero x.piece ≡ true → thread_data_end s ≤ x.at) (placed_of s) k (placed_view q) right.before h.there h.zeros in
+    let w = h.wrong in
+    omega (arith, e, w)
+denies s (place.GotInThreadBlock got start end) is_map h right =
+    let all = clear_at s start end h.block right.clear in
+    let gots = (All-parts (IsClearOf start end) (got_things s.map.got) (map thing_of (filter (λ q. not (is_thread_place q)) (placed_of s))) all).0 in
+    let one = subst (λ (o : Option GotLine). All (IsClearOf start end) (got_things o)) h.got_is gots in
+    h.wrong (All-head (IsClearOf start end) (got_thing got) [] one)
+denies s (place.PieceInThreadBlock k q start end) is_map h right =
+    let all = clear_at s start end h.block right.clear in
+    let rest = (All-parts (IsClearOf start end) (got_things s.map.got) (map thing_of (filter (λ q. not (is_thread_place q)) (placed_of s))) all).1 in
+    let each = All-unfilter (λ (x : placement.Placed). not (is_thread_place x)) (λ (x : placement.Placed). IsClearOf start end (thing_of x)) (placed_of s) (All-unmap (IsClearOf start end) thing_of (filter (λ (x : placement.Placed). not (is_thread_place x)) (placed_of s)) rest) in
+    h.wrong (at_number (λ (x : placement.Placed). not (is_thread_place x) ≡ true → IsClearOf start end (thing_of x)) (placed_of s) k (placed_view q) each h.there (ap not h.other))
+denies s (place.ThreadBytes x) is_map h right = h.wrong (at_number (HoldsInitial (loads s.image)) (thread_blocks s.image) 0 x right.held h.there)
+denies s (place.Relocation p f) is_map h right =
+    unlawful_denied (objects_of s) h.r f h.wrong (at_place (IsLawfulRelocation (objects_of s)) (objects_of s) p h.r h.at right.lawful.each)
+denies s (place.Overlap p q) is_map h right = h.1 right
+denies s (place.Value p value address) is_map h right =
+    h.wrong (at_place (Fits (objects_of s) (where_of s)) (objects_of s) p h.r h.at right.fits)
+denies s (place.Byte p) is_map h right =
+    h.wrong ((at_number (HoldsPiece (objects_of s) (where_of s) s.image) (placed_of s) p.number (placed_view p.piece) right h.piece).bytes p.offset h.below)
+denies s (place.Fill p) is_map h right = h.wrong (right.fill p.address (record { byte = p.byte; rights = p.rights }) h.there h.outside)
+denies s (place.EmptySegment p) is_map h right = h.wrong (at_number (EndsRight (things_of s)) (loads s.image) p.number p.header right.segments h.there)
+denies s (place.MemoryEnd p end) is_map h right = h.wrong (at_number (EndsRight (things_of s)) (loads s.image) p.number p.header right.segments h.there)
+denies s (place.FileEnd p end) is_map h right = h.wrong (at_number (EndsRight (things_of s)) (loads s.image) p.number p.header right.segments h.there)
+denies s (place.Gap i byte) is_map h right = h.wrong (right.gaps i h.below h.outside)
+denies s (place.Length len end) is_map h right = h.wrong (right.end h.untold)
 denies s (place.Entry p) is_map h right = h.wrong right
 denies s (place.SymbolLine p) is_map h right = line_denied s p is_map h right
 denies s (place.NoSymbolLine name p) is_map h right = missing_denied s name.now p h right

@@ -2,7 +2,6 @@ pub mod BytePlaces
 pub mod FillPlaces
 pub mod GotPlaces
 pub mod LinePlaces
-pub mod MemoryPlaces
 pub mod Overlaps
 pub mod Parts
 pub mod PlacementPlaces

@@ -3,16 +3,20 @@ use Rattle.std.specs.Prelude.{◌≡◌, ℕ, List, All}
 use Rattle.elf_model.specs.Command.{Plan}
 use Rattle.elf_model.specs.Files.{File}
 use Rattle.elf_model.specs.MapRecord.{MapRecord}
-use Rattle.elf_model.specs.RightLink.{Holds, HoldsBefore, IsRead, Subject}
+use Rattle.elf_model.specs.RightLink.{AreRelocationsRight, Holds, HoldsBefore, IsRead, Subject, objects_of, where_of}
 use Rattle.elf_model.specs.declared.verdict.Clause.{Clause}
-use Rattle.elf_model.specs.declared.verdict.Clause.TheVariants.{C2, C3, C5, C6, C12, C13, C14}
+use Rattle.elf_model.specs.declared.verdict.Clause.TheVariants.{C2, C3, C5, C6, C7, C8, C9, C10, C11, C12, C13, C14}
+use Rattle.explain_check.specs.BytePlaces.{IsWrongByte}
+use Rattle.explain_check.specs.FillPlaces.{IsEmptySegment, IsWrongFileEnd, IsWrongFill, IsWrongGap, IsWrongLength, IsWrongMemoryEnd}
+use Rattle.explain_check.specs.GotPlaces.{IsRepeated, IsUnasked, IsUnserved, IsWrongGotByte, IsWrongPresence, IsWrongSize, IsWrongSlotAddress}
 use Rattle.explain_check.specs.LinePlaces.{IsWrongCommon, IsWrongDrop, IsWrongObject, IsWrongPlace}
-use Rattle.explain_check.specs.MemoryPlaces.{IsWrongMemory, memory_clause}
 use Rattle.explain_check.specs.PlacementPlaces.{AreFar, IsOutside, IsShared, IsUnaligned, IsUnheld, IsWrongFirst}
+use Rattle.explain_check.specs.RelocationPlaces.{IsOverlap, IsUnfit, IsWrongRelocation}
 use Rattle.explain_check.specs.SymbolPlaces.{IsWrongEntry, IsWrongLine, LacksLine}
 use Rattle.explain_check.specs.TablePlaces.{FailsInTable}
-use Rattle.explain_check.specs.declared.place.CheckPlace.{CheckPlace}
+use Rattle.explain_check.specs.ThreadPlaces.{AreEarlyZeros, AreUnheld, IsGotInside, IsPieceInside, IsWrongThreadHeader}
 use Rattle.explain_check.specs.declared.place.CheckPlace.TheVariants as place
+use Rattle.explain_check.specs.declared.place.CheckPlace.{CheckPlace}
 
 abbrev pub FailsIn : Subject → CheckPlace → Type 0
 FailsIn s (place.ObjectLine p) = IsWrongObject s p
@@ -25,7 +29,28 @@ FailsIn s (place.Shared p q) = IsShared s p q
 FailsIn s (place.Far n) = AreFar s n
 FailsIn s (place.Unheld p segment) = IsUnheld s p segment
 FailsIn s (place.First address base) = IsWrongFirst s address base
-FailsIn s (place.Memory p) = IsWrongMemory s p
+FailsIn s (place.Got there) = IsWrongPresence s there
+FailsIn s (place.UnaskedSlot k q) = IsUnasked s k q
+FailsIn s (place.RepeatedSlot i k q) = IsRepeated s i k q
+FailsIn s (place.NoSlot p q) = IsUnserved s p q
+FailsIn s (place.GotSize got wanted) = IsWrongSize s got wanted
+FailsIn s (place.SlotAddress k there wanted) = IsWrongSlotAddress s k there wanted
+FailsIn s (place.GotByte p) = IsWrongGotByte s p
+FailsIn s (place.ThreadHeader there wanted) = IsWrongThreadHeader s there wanted
+FailsIn s (place.ThreadZeros k q end) = AreEarlyZeros s k q end
+FailsIn s (place.GotInThreadBlock got start end) = IsGotInside s got start end
+FailsIn s (place.PieceInThreadBlock k q start end) = IsPieceInside s k q start end
+FailsIn s (place.ThreadBytes h) = AreUnheld s h
+FailsIn s (place.Relocation p f) = IsWrongRelocation (objects_of s) p f
+FailsIn s (place.Overlap p q) = IsOverlap (objects_of s) p q × (¬ AreRelocationsRight s)
+FailsIn s (place.Value p value address) = IsUnfit (objects_of s) (where_of s) p value address
+FailsIn s (place.Byte p) = IsWrongByte s p
+FailsIn s (place.Fill p) = IsWrongFill s p
+FailsIn s (place.EmptySegment p) = IsEmptySegment s p
+FailsIn s (place.MemoryEnd p end) = IsWrongMemoryEnd s p end
+FailsIn s (place.FileEnd p end) = IsWrongFileEnd s p end
+FailsIn s (place.Gap i byte) = IsWrongGap s.image i byte
+FailsIn s (place.Length len end) = IsWrongLength s len end
 FailsIn s (place.Entry p) = IsWrongEntry s p
 FailsIn s (place.SymbolLine p) = IsWrongLine s p
 FailsIn s (place.NoSymbolLine name p) = LacksLine s name.now p
@@ -44,7 +69,28 @@ clause_of (place.Shared p q) = C5
 clause_of (place.Far n) = C5
 clause_of (place.Unheld p segment) = C6
 clause_of (place.First address base) = C6
-clause_of (place.Memory p) = memory_clause p
+clause_of (place.Got there) = C7
+clause_of (place.UnaskedSlot k q) = C7
+clause_of (place.RepeatedSlot i k q) = C7
+clause_of (place.NoSlot p q) = C7
+clause_of (place.GotSize got wanted) = C7
+clause_of (place.SlotAddress k there wanted) = C7
+clause_of (place.GotByte p) = C7
+clause_of (place.ThreadHeader there wanted) = C8
+clause_of (place.ThreadZeros k q end) = C8
+clause_of (place.GotInThreadBlock got start end) = C8
+clause_of (place.PieceInThreadBlock k q start end) = C8
+clause_of (place.ThreadBytes h) = C8
+clause_of (place.Relocation p f) = C9
+clause_of (place.Overlap p q) = C9
+clause_of (place.Value p value address) = C9
+clause_of (place.Byte p) = C10
+clause_of (place.Fill p) = C11
+clause_of (place.EmptySegment p) = C11
+clause_of (place.MemoryEnd p end) = C11
+clause_of (place.FileEnd p end) = C11
+clause_of (place.Gap i byte) = C11
+clause_of (place.Length len end) = C11
 clause_of (place.Entry p) = C12
 clause_of (place.SymbolLine p) = C13
 clause_of (place.NoSymbolLine name p) = C13

@@ -4,7 +4,6 @@ ghost use Rattle.elf_model.specs.MapText.{IsMap};
 ghost use Rattle.elf_model.specs.RightLink.{Holds, Subject};
 ghost use Rattle.explain_check.specs.Places.{FailsIn, clause_of};
 
-use crate::memory::clause::memory_clause;
 use crate::place::CheckPlace;
 use elf_model::Clause;
 
@@ -22,7 +21,27 @@ pub fn kind_of(place: &CheckPlace<'_>) -> Clause
         | CheckPlace::Shared(_, _)
         | CheckPlace::Far(_) => Clause::C5,
         CheckPlace::Unheld(_, _) | CheckPlace::First(_, _) => Clause::C6,
-        CheckPlace::Memory(place) => memory_clause(place),
+        CheckPlace::Got(_)
+        | CheckPlace::UnaskedSlot(_, _)
+        | CheckPlace::RepeatedSlot(_, _, _)
+        | CheckPlace::NoSlot(_, _)
+        | CheckPlace::GotSize(_, _)
+        | CheckPlace::SlotAddress(_, _, _)
+        | CheckPlace::GotByte(_) => Clause::C7,
+        CheckPlace::ThreadHeader(_, _)
+        | CheckPlace::ThreadZeros(_, _, _)
+        | CheckPlace::GotInThreadBlock(_, _, _)
+        | CheckPlace::PieceInThreadBlock(_, _, _, _)
+        | CheckPlace::ThreadBytes(_) => Clause::C8,
+        CheckPlace::Relocation(_, _) | CheckPlace::Overlap(_, _) | CheckPlace::Value(_, _, _) =>
+            Clause::C9,
+        CheckPlace::Byte(_) => Clause::C10,
+        CheckPlace::Fill(_)
+        | CheckPlace::EmptySegment(_)
+        | CheckPlace::MemoryEnd(_, _)
+        | CheckPlace::FileEnd(_, _)
+        | CheckPlace::Gap(_, _)
+        | CheckPlace::Length(_, _) => Clause::C11,
         CheckPlace::Entry(_) => Clause::C12,
         CheckPlace::SymbolLine(_) | CheckPlace::NoSymbolLine(_, _) => Clause::C13,
         CheckPlace::Table(_) => Clause::C14,

@@ -1,8 +1,6 @@
 //! Where an image's memory, or what relocations want of it, is wrong, clause by clause.
 
-mod added;
 pub mod bytes;
-pub mod clause;
 mod fields;
 pub mod file;
 mod fill;

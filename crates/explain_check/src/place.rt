@@ -1,11 +1,12 @@
 //! The places at which a clause fails.
 
-use crate::memory_place::MemoryPlace;
-use check_link::{Block, Meaning, Piece, Placed};
+use crate::memory_place::{BytePlace, FillPlace, GotBytePlace, RelocationPlace, SegmentPlace};
+use check_link::{Block, Meaning, Piece, Placed, Request};
 use elf_model::{
-    Clause, CommonLine, DropLine, ObjectLine, PlaceLine, ProgramHeader, SymbolLine, SymtabLine,
-    Thing,
+    Clause, CommonLine, DropLine, GotLine, ObjectLine, PlaceLine, ProgramHeader, SymbolLine,
+    SymtabLine, Thing,
 };
+use input_names::RelocationFault;
 
 /// What takes up addresses.
 #[derive(Clone, Copy, Debug)]
@@ -162,8 +163,53 @@ pub enum CheckPlace<'a> {
     Unheld(Part<'a>, Option<ProgramHeader>),
     /// C6: the address of the first segment, which isn't the base, the second number.
     First(u64, u64),
-    /// C7 to C11: a place of the image's memory, or of what relocations want there.
-    Memory(MemoryPlace<'a>),
+    /// C7: whether the map has a GOT, where a relocation asks for one if it hasn't, and none does if it has.
+    Got(bool),
+    /// C7: the slot line of a number, from 0, for whose slot no relocation asks.
+    UnaskedSlot(u64, Request<'a>),
+    /// C7: two slot lines, the earlier first, of the same slot.
+    RepeatedSlot(u64, u64, Request<'a>),
+    /// C7: a kept relocation that asks for a slot that no line has.
+    NoSlot(RelocationPlace<'a>, Request<'a>),
+    /// C7: a GOT whose size in bytes isn't that of its slots, which is the number.
+    GotSize(GotLine, u64),
+    /// C7: the slot line of a number, from 0; its address, and that at which its slot must stand.
+    SlotAddress(u64, u64, u64),
+    /// C7: the first wrong byte of a word of the GOT.
+    GotByte(GotBytePlace),
+    /// C8: the PT_TLS header that the image has, and the one that the thread-local pieces ask for.
+    ThreadHeader(Option<ProgramHeader>, Option<ProgramHeader>),
+    /// C8: a thread-local piece without bytes, by its number among all, that begins before those with bytes end, at the
+    /// address.
+    ThreadZeros(u64, Placed<'a>, u64),
+    /// C8: a GOT that has an address from the beginning of the block of thread-local storage, the first address, on and below
+    /// the end of its initial bytes, the second.
+    GotInThreadBlock(GotLine, u64, u64),
+    /// C8: a piece, by its number among all, that isn't thread-local and has such an address.
+    PieceInThreadBlock(u64, Placed<'a>, u64, u64),
+    /// C8: a block of thread-local storage whose initial bytes lie in no PT_LOAD.
+    ThreadBytes(ProgramHeader),
+    /// C9: a kept relocation that isn't lawful.
+    Relocation(RelocationPlace<'a>, RelocationFault),
+    /// C9: two kept relocations of one object whose fields share a byte.
+    Overlap(RelocationPlace<'a>, RelocationPlace<'a>),
+    /// C9: a kept relocation whose value, the first number, doesn't fit its field; the second number is the field's address.
+    Value(RelocationPlace<'a>, u64, u64),
+    /// C10: the first wrong byte of a piece.
+    Byte(BytePlace<'a>),
+    /// C11: a byte that is no fill, the first of its gap.
+    Fill(FillPlace),
+    /// C11: a PT_LOAD in which no nonempty thing lies.
+    EmptySegment(SegmentPlace),
+    /// C11: a PT_LOAD whose memory doesn't end with the last thing in it; where that ends.
+    MemoryEnd(SegmentPlace, u64),
+    /// C11: a PT_LOAD whose file part doesn't end with the last thing in it that has bytes in the file; where that ends,
+    /// or where the segment begins if there is none.
+    FileEnd(SegmentPlace, u64),
+    /// C11: a byte of the file in no file part that isn't 0, the first of its gap: its offset and its value.
+    Gap(u64, u8),
+    /// C11: the length of an image in bytes, and where its last file part ends, with which it must.
+    Length(u64, u64),
     /// C12: the entry has no lawful definition, or `e_entry` is another than its value.
     Entry(EntryPlace<'a>),
     /// C13: a symbol line that is another one than its name asks for.

@@ -5,7 +5,7 @@ use crate::map_text::{
     write_common_line, write_drop_line, write_missing_line, write_object_line, write_place_line,
     write_symbol_line,
 };
-use crate::memory::text::write_memory_place;
+use crate::memory::text::{write_got, write_memory, write_relocation_place, write_thread};
 use crate::place::{CheckPlace, EntryPlace, Neighbours, Part, PartName};
 use check_link::{Link, Piece, Placed};
 use elf_model::{Clause, ProgramHeader};
@@ -204,9 +204,12 @@ pub fn write_check_place<W: Write>(
         CheckPlace::ObjectLine(place) => write_object_line(out, link, place),
         CheckPlace::Entry(place) => write_entry(out, place),
         CheckPlace::Table(place) => write!(out, "{place}"),
-        CheckPlace::Memory(place) => write_memory_place(out, link, place),
         _ => match kind_of(place) {
             Clause::C3 | Clause::C13 => write_map_line(out, link, place),
+            Clause::C7 => write_got(out, link, place),
+            Clause::C8 => write_thread(out, link, place),
+            Clause::C9 => write_relocation_place(out, link, place),
+            Clause::C10 | Clause::C11 => write_memory(out, link, place),
             _ => write_placement(out, link, place),
         },
     }

@@ -9,10 +9,9 @@ ghost use Rattle.check_relocs.specs.Fields.{AreRows};
 ghost use Rattle.explain_check.specs.Places.{AreFailures, FailsIn};
 
 use crate::found::Found;
-use crate::memory::added::add_memory;
 use crate::memory::fields::field_place;
 use crate::memory::sums::sum;
-use crate::memory_place::{BytePlace, MemoryPlace};
+use crate::memory_place::BytePlace;
 use crate::place::CheckPlace;
 use check_link::{Placed, load_size};
 use check_relocs::{Field, fields_in};
@@ -148,10 +147,10 @@ fn wrong_byte<'a>(
     number: usize,
     placed: &Placed<'a>,
     k: u64,
-) -> Option<MemoryPlace<'a>>
+) -> Option<CheckPlace<'a>>
     requires rows { AreRows (objects_of bound.now) (where_of bound.now) rows.now }
     requires piece { slice_get (placed_of bound.now) number ≡ Some (placed_view placed.now) }
-    ensures { IfSome result (λ p. FailsIn bound.now (CheckPlace.Memory p)) }
+    ensures { IfSome result (FailsIn bound.now) }
 {
     let piece = &placed.piece;
     if k >= load_size(piece) {
@@ -165,7 +164,7 @@ fn wrong_byte<'a>(
         return None;
     }
     let relocation = field_place(bound, piece.object, piece.section, k);
-    Some(MemoryPlace::Byte(BytePlace {
+    Some(CheckPlace::Byte(BytePlace {
         number: number as u64,
         piece: *placed,
         offset: k,
@@ -197,7 +196,7 @@ fn add_piece<'a>(
         found.count();
         return Ok(());
     }
-    add_memory(found, bound, wrong_byte(bound, rows, number, &placed, k))
+    found.add_some(wrong_byte(bound, rows, number, &placed, k))
 }
 
 /// Adds the first wrong byte of each piece: where the tenth clause fails, given the fields of the link's relocations by

@@ -4,10 +4,8 @@ ghost use Rattle.elf_model.specs.RightLink.{IsInFilePart};
 ghost use Rattle.explain_check.specs.Places.{AreFailures, FailsIn};
 
 use crate::found::Found;
-use crate::memory::added::add_memory;
 use crate::memory::fill::add_fill;
 use crate::memory::segments::add_ends;
-use crate::memory_place::MemoryPlace;
 use crate::place::CheckPlace;
 use checker::segments::file_end;
 use checker::{BoundLink, by_address};
@@ -29,8 +27,8 @@ fn is_in_no_part(segments: &[ProgramHeader], i: u64) -> bool
 }
 
 /// The byte of the file at an offset, where that is in no file part and below the end of the last, and the byte isn't 0.
-fn wrong_gap<'a>(bound: &BoundLink<'_, 'a>, i: u64) -> Option<MemoryPlace<'a>>
-    ensures { IfSome result (λ p. FailsIn bound.now (CheckPlace.Memory p)) }
+fn wrong_gap<'a>(bound: &BoundLink<'_, 'a>, i: u64) -> Option<CheckPlace<'a>>
+    ensures { IfSome result (FailsIn bound.now) }
 {
     let memory = bound.memory();
     let byte = *memory.image().get(i as usize)?;
@@ -40,7 +38,7 @@ fn wrong_gap<'a>(bound: &BoundLink<'_, 'a>, i: u64) -> Option<MemoryPlace<'a>>
     if !is_in_no_part(memory.segments(), i) {
         return None;
     }
-    Some(MemoryPlace::Gap(i, byte))
+    Some(CheckPlace::Gap(i, byte))
 }
 
 /// The offset of the first byte that isn't 0, from one on and below another.
@@ -70,7 +68,7 @@ fn add_gap<'a>(
         found.count();
         return Ok(());
     }
-    add_memory(found, bound, wrong_gap(bound, i))
+    found.add_some(wrong_gap(bound, i))
 }
 
 /// Adds the bytes of the file between its parts that aren't 0, the first of each gap.
@@ -90,9 +88,9 @@ fn add_gaps<'a>(found: &mut Found<'a>, bound: &BoundLink<'_, 'a>) -> Result<(), 
 }
 
 /// A file that doesn't end with its last part, where the map has no line of a symbol table.
-fn wrong_length<'a>(bound: &BoundLink<'_, 'a>) -> Option<MemoryPlace<'a>>
+fn wrong_length<'a>(bound: &BoundLink<'_, 'a>) -> Option<CheckPlace<'a>>
     requires { bound.now.map.symtab ≡ None }
-    ensures { IfSome result (λ p. FailsIn bound.now (CheckPlace.Memory p)) }
+    ensures { IfSome result (FailsIn bound.now) }
 {
     let memory = bound.memory();
     let len = memory.image().len() as u64;
@@ -100,7 +98,7 @@ fn wrong_length<'a>(bound: &BoundLink<'_, 'a>) -> Option<MemoryPlace<'a>>
     if len == end {
         return None;
     }
-    Some(MemoryPlace::Length(len, end))
+    Some(CheckPlace::Length(len, end))
 }
 
 /// The line of a symbol table of the map.
@@ -111,8 +109,8 @@ fn symtab_of(bound: &BoundLink<'_, '_>) -> Option<SymtabLine>
 }
 
 /// A file that doesn't end as the map tells.
-fn untold_length<'a>(bound: &BoundLink<'_, 'a>) -> Option<MemoryPlace<'a>>
-    ensures { IfSome result (λ p. FailsIn bound.now (CheckPlace.Memory p)) }
+fn untold_length<'a>(bound: &BoundLink<'_, 'a>) -> Option<CheckPlace<'a>>
+    ensures { IfSome result (FailsIn bound.now) }
 {
     match symtab_of(bound) {
         Some(_) => None,
@@ -132,7 +130,7 @@ pub fn add_c11<'a>(
 {
     let sorted = by_address(alloc, bound.things())?;
     add_ends(found, bound, &sorted)?;
-    add_memory(found, bound, untold_length(bound))?;
+    found.add_some(untold_length(bound))?;
     add_gaps(found, bound)?;
     add_fill(found, bound, &sorted)
 }

@@ -8,8 +8,7 @@ ghost use Rattle.loader_model.specs.Rights as loader;
 ghost use Rattle.explain_check.specs.Places.{AreFailures, FailsIn};
 
 use crate::found::Found;
-use crate::memory::added::add_memory;
-use crate::memory_place::{FillPlace, MemoryPlace};
+use crate::memory_place::FillPlace;
 use crate::place::CheckPlace;
 use checker::BoundLink;
 use checker::c11_fill::begun_between;
@@ -60,8 +59,8 @@ fn cell_at(memory: &Memory<'_>, address: u64) -> Option<(u8, u64)>
 }
 
 /// An address that is mapped and lies in no thing, where its byte isn't fill.
-fn wrong_fill<'a>(bound: &BoundLink<'_, 'a>, address: u64) -> Option<MemoryPlace<'a>>
-    ensures { IfSome result (λ p. FailsIn bound.now (CheckPlace.Memory p)) }
+fn wrong_fill<'a>(bound: &BoundLink<'_, 'a>, address: u64) -> Option<CheckPlace<'a>>
+    ensures { IfSome result (FailsIn bound.now) }
 {
     let cell = cell_at(bound.memory(), address)?;
     let wanted = fill_of(cell.1);
@@ -71,7 +70,7 @@ fn wrong_fill<'a>(bound: &BoundLink<'_, 'a>, address: u64) -> Option<MemoryPlace
     if !is_outside(bound.things(), address) {
         return None;
     }
-    Some(MemoryPlace::Fill(FillPlace {
+    Some(CheckPlace::Fill(FillPlace {
         address,
         byte: cell.0,
         rights: cell.1,
@@ -108,7 +107,7 @@ fn add_gap<'a>(
         found.count();
         return Ok(());
     }
-    add_memory(found, bound, wrong_fill(bound, address))
+    found.add_some(wrong_fill(bound, address))
 }
 
 /// Adds what isn't fill between the things, which stand by address, of a segment.

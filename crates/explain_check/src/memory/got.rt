@@ -10,10 +10,9 @@ ghost use Rattle.explain_check.specs.GotPlaces.{IsWrongGotByte};
 ghost use Rattle.explain_check.specs.Places.{AreFailures, FailsIn};
 
 use crate::found::Found;
-use crate::memory::added::add_memory;
 use crate::memory::bytes::{byte_of, is_byte};
 use crate::memory::slots::{add_lines, add_unserved, line_at};
-use crate::memory_place::{GotBytePlace, MemoryPlace};
+use crate::memory_place::GotBytePlace;
 use crate::place::CheckPlace;
 use check_relocs::{Needs, needs_of};
 use checker::BoundLink;
@@ -22,15 +21,15 @@ use elf_model::GotLine;
 use std::alloc::{AllocError, Global};
 
 /// A GOT that is there and that no relocation asks for, or the other way round.
-fn wrong_presence<'a>(bound: &BoundLink<'_, 'a>, needs: &Needs<'_>) -> Option<MemoryPlace<'a>>
+fn wrong_presence<'a>(bound: &BoundLink<'_, 'a>, needs: &Needs<'_>) -> Option<CheckPlace<'a>>
     requires { AreNeeds (objects_of bound.now) needs.now }
-    ensures { IfSome result (λ p. FailsIn bound.now (CheckPlace.Memory p)) }
+    ensures { IfSome result (FailsIn bound.now) }
 {
     let there = bound.link().map.got.is_some();
     if there == needs.got {
         return None;
     }
-    Some(MemoryPlace::Got(there))
+    Some(CheckPlace::Got(there))
 }
 
 /// The GOT of the map.
@@ -41,16 +40,16 @@ fn got_of(bound: &BoundLink<'_, '_>) -> Option<GotLine>
 }
 
 /// A GOT whose size isn't that of its slots.
-fn wrong_size<'a>(bound: &BoundLink<'_, 'a>, got: GotLine) -> Option<MemoryPlace<'a>>
+fn wrong_size<'a>(bound: &BoundLink<'_, 'a>, got: GotLine) -> Option<CheckPlace<'a>>
     requires { bound.now.map.got ≡ Some got }
-    ensures { IfSome result (λ p. FailsIn bound.now (CheckPlace.Memory p)) }
+    ensures { IfSome result (FailsIn bound.now) }
 {
     let count = bound.slots().lines().len() as u64;
     let wanted = count.checked_mul(8)?.checked_add(8)?;
     if got.size == wanted {
         return None;
     }
-    Some(MemoryPlace::GotSize(got, wanted))
+    Some(CheckPlace::GotSize(got, wanted))
 }
 
 /// Where the slot of the line that has a number must stand in a GOT.
@@ -66,16 +65,16 @@ fn wrong_address<'a>(
     bound: &BoundLink<'_, 'a>,
     got: GotLine,
     number: usize,
-) -> Option<MemoryPlace<'a>>
+) -> Option<CheckPlace<'a>>
     requires { bound.now.map.got ≡ Some got }
-    ensures { IfSome result (λ p. FailsIn bound.now (CheckPlace.Memory p)) }
+    ensures { IfSome result (FailsIn bound.now) }
 {
     let line = line_at(bound, number)?;
     let wanted = place_of_slot(got, number)?;
     if line.address == wanted {
         return None;
     }
-    Some(MemoryPlace::SlotAddress(number as u64, line.address, wanted))
+    Some(CheckPlace::SlotAddress(number as u64, line.address, wanted))
 }
 
 /// Byte `k` of the GOT, which is to have these bytes, where memory has another one or none.
@@ -111,15 +110,15 @@ fn first_of_word<'a>(
     got: GotLine,
     wanted: &[u8],
     i: u64,
-) -> Option<MemoryPlace<'a>>
+) -> Option<CheckPlace<'a>>
     requires got { bound.now.map.got ≡ Some got }
     requires wanted { wanted.now ≡ got_bytes (objects_of bound.now) (where_of bound.now) }
-    ensures { IfSome result (λ p. FailsIn bound.now (CheckPlace.Memory p)) }
+    ensures { IfSome result (FailsIn bound.now) }
 {
     let start = i.checked_mul(8)?;
     for j in 0..8 {
         if let Some(place) = wrong_byte(bound, got, wanted, start.saturating_add(j)) {
-            return Some(MemoryPlace::GotByte(place));
+            return Some(CheckPlace::GotByte(place));
         }
     }
     None
@@ -138,7 +137,7 @@ fn add_words<'a>(
     ensures { OnOk result (AreFailures bound.now found.new.places.items) }
 {
     for i in 0..wanted.len() as u64 / 8 {
-        add_memory(found, bound, first_of_word(bound, got, wanted, i))?;
+        found.add_some(first_of_word(bound, got, wanted, i))?;
     }
     Ok(())
 }
@@ -154,7 +153,7 @@ fn add_addresses<'a>(
     ensures { OnOk result (AreFailures bound.now found.new.places.items) }
 {
     for number in 0..bound.slots().lines().len() {
-        add_memory(found, bound, wrong_address(bound, got, number))?;
+        found.add_some(wrong_address(bound, got, number))?;
     }
     Ok(())
 }
@@ -178,7 +177,7 @@ fn add_got<'a>(
     requires before { AreFailures bound.now found.old.places.items }
     ensures { OnOk result (AreFailures bound.now found.new.places.items) }
 {
-    add_memory(found, bound, wrong_size(bound, got))?;
+    found.add_some(wrong_size(bound, got))?;
     add_addresses(found, bound, got)?;
     let wanted = bytes_of_got(alloc, bound)?;
     add_words(found, bound, got, &wanted)
@@ -195,7 +194,7 @@ pub fn add_c7<'a>(
     ensures { OnOk result (AreFailures bound.now found.new.places.items) }
 {
     let needs = needs_of(alloc, bound.bindings())?;
-    add_memory(found, bound, wrong_presence(bound, &needs))?;
+    found.add_some(wrong_presence(bound, &needs))?;
     add_lines(alloc, found, bound, &needs)?;
     add_unserved(alloc, found, bound, &needs)?;
     match got_of(bound) {

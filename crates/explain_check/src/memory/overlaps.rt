@@ -10,10 +10,9 @@ ghost use Rattle.explain_check.specs.Places.{AreFailures, FailsIn};
 ghost use Rattle.explain_check.specs.RelocationPlaces.{AreTwo};
 
 use crate::found::Found;
-use crate::memory::added::add_memory;
 use crate::memory::fields::width_of;
 use crate::memory::relocation_places::{entries_of, entry_at, header_at, kept_place, object_at};
-use crate::memory_place::{MemoryPlace, RelocationPlace};
+use crate::memory_place::RelocationPlace;
 use crate::place::CheckPlace;
 use check_load::Loaded;
 use check_relocs::is_some_kind;
@@ -150,17 +149,17 @@ fn overlap<'a>(
     bound: &BoundLink<'_, 'a>,
     first: &PlacedField<'a>,
     second: &PlacedField<'a>,
-) -> Option<MemoryPlace<'a>>
+) -> Option<CheckPlace<'a>>
     requires first { IsField (objects_of bound.now) first.now }
     requires second { IsField (objects_of bound.now) second.now }
     requires fails { ¬ AreRelocationsRight bound.now }
-    ensures { IfSome result (λ p. FailsIn bound.now (CheckPlace.Memory p)) }
+    ensures { IfSome result (FailsIn bound.now) }
 {
     let _bound = bound;
     if !begins_in(first, second) {
         return None;
     }
-    Some(MemoryPlace::Overlap(first.place, second.place))
+    Some(CheckPlace::Overlap(first.place, second.place))
 }
 
 /// Adds the neighbours among fields that share a byte.
@@ -175,7 +174,7 @@ fn add_neighbours<'a>(
     ensures { OnOk result (AreFailures bound.now found.new.places.items) }
 {
     for i in 1..fields.len() {
-        add_memory(found, bound, overlap(bound, &fields[i - 1], &fields[i]))?;
+        found.add_some(overlap(bound, &fields[i - 1], &fields[i]))?;
     }
     Ok(())
 }

@@ -12,10 +12,8 @@ ghost use Rattle.explain_check.specs.Places.{AreFailures, FailsIn};
 ghost use Rattle.explain_check.specs.WrongEntries.{IsReferrer, IsWrongWith};
 
 use crate::found::Found;
-use crate::memory::added::add_memory;
 use crate::memory::overlaps::add_overlaps;
 use crate::memory::relocation_places::{entries_of, entry_at, header_at, kept_place, object_at};
-use crate::memory_place::MemoryPlace;
 use crate::place::CheckPlace;
 use check_load::Loaded;
 use check_relocs::{
@@ -87,7 +85,7 @@ fn wrong_entry<'a>(
     i: usize,
     header: &SectionHeader,
     e: usize,
-) -> Option<MemoryPlace<'a>>
+) -> Option<CheckPlace<'a>>
     requires referrer { IsReferrer (bound_of bound.now) referrer.now }
     requires targets { AreTargets (bound_of bound.now) referrer.now.number
         (loaded_view referrer.now.one.now) targets.old.items }
@@ -97,7 +95,7 @@ fn wrong_entry<'a>(
     requires rela { header.now.sh_type ≡ 4 }
     ensures kept { AreTargets (bound_of bound.now) referrer.now.number
         (loaded_view referrer.now.one.now) targets.new.items }
-    ensures fails { IfSome result (λ p. FailsIn bound.now (CheckPlace.Memory p)) }
+    ensures fails { IfSome result (FailsIn bound.now) }
 {
     let bindings = bound.bindings();
     let one = referrer.one;
@@ -109,21 +107,21 @@ fn wrong_entry<'a>(
     let objects = bindings.objects();
     let place = kept_place(objects, referrer.number, one, i, header, e, &entry);
     let Some(kind) = kind_of(entry.kind()) else {
-        return Some(MemoryPlace::Relocation(place, RelocationFault::RelocKind));
+        return Some(CheckPlace::Relocation(place, RelocationFault::RelocKind));
     };
     let to = relocated(bindings, number, &one.object, header.sh_info);
     let symbol = entry.symbol() as usize;
     let target = target_at(bindings, targets, number, one, symbol);
     let given = link_terms(bindings, number, one, &entry);
     if let Some(fault) = fault_with(&kind, &target, &to, &entry) {
-        return Some(MemoryPlace::Relocation(place, fault));
+        return Some(CheckPlace::Relocation(place, fault));
     }
     let value = value_with(&kind, &target, &to, &given, &entry);
     if fits(kind.range, kind.width as u64, value) {
         return None;
     }
     let address = to.address.wrapping_add(entry.r_offset);
-    Some(MemoryPlace::Value(place, value, address))
+    Some(CheckPlace::Value(place, value, address))
 }
 
 /// Adds what is wrong with the entries of section `i` of an object of the link, where that holds kept relocations.
@@ -151,7 +149,7 @@ fn add_entries<'a>(
     let count = entries_of(referrer.one, i, &header).len();
     for e in 0..count {
         let wrong = wrong_entry(bound, referrer, targets, i, &header, e);
-        add_memory(found, bound, wrong)?;
+        found.add_some(wrong)?;
     }
     Ok(())
 }

@@ -8,9 +8,8 @@ ghost use Rattle.explain_check.specs.FillPlaces.{IsInFileOf};
 ghost use Rattle.explain_check.specs.Places.{AreFailures, FailsIn};
 
 use crate::found::Found;
-use crate::memory::added::add_memory;
 use crate::memory::sums::sum;
-use crate::memory_place::{MemoryPlace, SegmentPlace};
+use crate::memory_place::SegmentPlace;
 use crate::place::CheckPlace;
 use checker::BoundLink;
 use checker::c11_fill::{begun_between, ends_right, is_of_segment};
@@ -145,15 +144,15 @@ fn segment_at(bound: &BoundLink<'_, '_>, number: usize) -> Option<SegmentPlace>
 }
 
 /// A segment that has no nonempty thing, or whose memory doesn't end with the last one.
-fn wrong_memory_end<'a>(bound: &BoundLink<'_, 'a>, place: SegmentPlace) -> Option<MemoryPlace<'a>>
+fn wrong_memory_end<'a>(bound: &BoundLink<'_, 'a>, place: SegmentPlace) -> Option<CheckPlace<'a>>
     requires there { slice_get (loads bound.now.image) place.number ≡ Some place.header }
     requires wrong { ¬ EndsRight (things_of bound.now) place.header }
-    ensures { IfSome result (λ p. FailsIn bound.now (CheckPlace.Memory p)) }
+    ensures { IfSome result (FailsIn bound.now) }
 {
     let things = bound.things();
     let segment = place.header;
     if holds_none(things, &segment) {
-        return Some(MemoryPlace::EmptySegment(place));
+        return Some(CheckPlace::EmptySegment(place));
     }
     let end = last_end(things, &segment)?;
     let memory_end = sum(segment.p_vaddr, segment.p_memsz)?;
@@ -166,14 +165,14 @@ fn wrong_memory_end<'a>(bound: &BoundLink<'_, 'a>, place: SegmentPlace) -> Optio
     if !has_none_later(things, &segment, end) {
         return None;
     }
-    Some(MemoryPlace::MemoryEnd(place, end))
+    Some(CheckPlace::MemoryEnd(place, end))
 }
 
 /// A segment whose file part doesn't end with the last thing in it that has bytes in the file.
-fn wrong_file_end<'a>(bound: &BoundLink<'_, 'a>, place: SegmentPlace) -> Option<MemoryPlace<'a>>
+fn wrong_file_end<'a>(bound: &BoundLink<'_, 'a>, place: SegmentPlace) -> Option<CheckPlace<'a>>
     requires there { slice_get (loads bound.now.image) place.number ≡ Some place.header }
     requires wrong { ¬ EndsRight (things_of bound.now) place.header }
-    ensures { IfSome result (λ p. FailsIn bound.now (CheckPlace.Memory p)) }
+    ensures { IfSome result (FailsIn bound.now) }
 {
     let things = bound.things();
     let segment = place.header;
@@ -188,7 +187,7 @@ fn wrong_file_end<'a>(bound: &BoundLink<'_, 'a>, place: SegmentPlace) -> Option<
     if !has_none_later_in_file(things, &segment, end) {
         return None;
     }
-    Some(MemoryPlace::FileEnd(place, end))
+    Some(CheckPlace::FileEnd(place, end))
 }
 
 /// Adds how a PT_LOAD ends otherwise than the things in it.
@@ -204,8 +203,8 @@ fn add_segment<'a>(
     if ends_right(bound.things(), &place.header) {
         return Ok(());
     }
-    add_memory(found, bound, wrong_memory_end(bound, place))?;
-    add_memory(found, bound, wrong_file_end(bound, place))
+    found.add_some(wrong_memory_end(bound, place))?;
+    found.add_some(wrong_file_end(bound, place))
 }
 
 /// Adds how the PT_LOAD that has a number ends otherwise than the things in it, which stand by address.

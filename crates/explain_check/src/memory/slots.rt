@@ -14,9 +14,8 @@ ghost use Rattle.explain_check.specs.GotPlaces.{IsUnserved};
 ghost use Rattle.explain_check.specs.Places.{AreFailures, FailsIn};
 
 use crate::found::Found;
-use crate::memory::added::add_memory;
 use crate::memory::relocation_places::{entries_of, entry_at, header_at, kept_place, object_at};
-use crate::memory_place::{MemoryPlace, RelocationPlace};
+use crate::memory_place::RelocationPlace;
 use crate::place::CheckPlace;
 use check_link::{Request, request_of_line};
 use check_load::Loaded;
@@ -46,16 +45,16 @@ fn unasked_line<'a>(
     bound: &BoundLink<'_, 'a>,
     needs: &Needs<'a>,
     number: usize,
-) -> Option<MemoryPlace<'a>>
+) -> Option<CheckPlace<'a>>
     requires { AreNeeds (objects_of bound.now) needs.now }
-    ensures { IfSome result (λ p. FailsIn bound.now (CheckPlace.Memory p)) }
+    ensures { IfSome result (FailsIn bound.now) }
 {
     let line = line_at(bound, number)?;
     let request = request_of_line(line);
     if is_asked(needs, &request) {
         return None;
     }
-    Some(MemoryPlace::UnaskedSlot(number as u64, request))
+    Some(CheckPlace::UnaskedSlot(number as u64, request))
 }
 
 /// Whether two requests are the same.
@@ -70,8 +69,8 @@ fn repeated_line<'a>(
     bound: &BoundLink<'_, 'a>,
     first: usize,
     number: usize,
-) -> Option<MemoryPlace<'a>>
-    ensures { IfSome result (λ p. FailsIn bound.now (CheckPlace.Memory p)) }
+) -> Option<CheckPlace<'a>>
+    ensures { IfSome result (FailsIn bound.now) }
 {
     if first >= number {
         return None;
@@ -83,7 +82,7 @@ fn repeated_line<'a>(
     if !are_same(&request, &other) {
         return None;
     }
-    Some(MemoryPlace::RepeatedSlot(first as u64, number as u64, request))
+    Some(CheckPlace::RepeatedSlot(first as u64, number as u64, request))
 }
 
 /// Adds the line that has a number, where no relocation asks for its slot, or where an earlier line of those that were seen
@@ -99,13 +98,13 @@ fn add_line<'a>(
     requires before { AreFailures bound.now found.old.places.items }
     ensures { OnOk result (AreFailures bound.now found.new.places.items) }
 {
-    add_memory(found, bound, unasked_line(bound, needs, number))?;
+    found.add_some(unasked_line(bound, needs, number))?;
     let Some(line) = line_at(bound, number) else {
         return Ok(());
     };
     let request = request_of_line(line);
     match seen.get(&request).copied() {
-        Some(first) => add_memory(found, bound, repeated_line(bound, first, number)),
+        Some(first) => found.add_some(repeated_line(bound, first, number)),
         None => {
             seen.insert(request, number)?;
             Ok(())
@@ -190,7 +189,7 @@ fn add_entry<'a>(
     if !told.insert(request)? {
         return Ok(());
     }
-    found.add(CheckPlace::Memory(MemoryPlace::NoSlot(place, request)))
+    found.add(CheckPlace::NoSlot(place, request))
 }
 
 /// Adds the entries of section `i`, where that holds kept relocations, that ask for slots that aren't there.

@@ -2,11 +2,11 @@
 //! what is there and what should be.
 
 use crate::map_text::{Kind, line_number};
-use crate::memory::clause::memory_clause;
-use crate::memory_place::{MemoryPlace, RelocationPlace, SegmentPlace};
+use crate::memory_place::{RelocationPlace, SegmentPlace};
+use crate::place::CheckPlace;
 use crate::text::{ObjectText, PieceText, rights_text};
 use check_link::Link;
-use elf_model::{Clause, ProgramHeader};
+use elf_model::ProgramHeader;
 use input_names::{FaultOf, Name, RelocationEntry, RelocationSymbol};
 use std::io::Write;
 use std::{fmt, io};
@@ -93,20 +93,20 @@ impl fmt::Display for HeaderText<'_> {
 }
 
 /// Writes a place of the seventh clause.
-fn write_got<W: Write>(out: &mut W, link: &Link<'_>, place: &MemoryPlace<'_>) -> io::Result<()> {
+pub fn write_got<W: Write>(out: &mut W, link: &Link<'_>, place: &CheckPlace<'_>) -> io::Result<()> {
     match place {
-        MemoryPlace::Got(true) => out.write_all(b"the map has a GOT, for which no relocation asks"),
-        MemoryPlace::Got(false) => out.write_all(
+        CheckPlace::Got(true) => out.write_all(b"the map has a GOT, for which no relocation asks"),
+        CheckPlace::Got(false) => out.write_all(
             b"the map has no GOT, and a relocation asks for one",
         ),
-        MemoryPlace::UnaskedSlot(number, _) => {
+        CheckPlace::UnaskedSlot(number, _) => {
             let line = line_number(link, Kind::Slot, *number);
             write!(
                 out,
                 "line {line} of the map: no relocation asks for this slot"
             )
         }
-        MemoryPlace::RepeatedSlot(first, number, _) => {
+        CheckPlace::RepeatedSlot(first, number, _) => {
             let line = line_number(link, Kind::Slot, *first);
             let again = line_number(link, Kind::Slot, *number);
             write!(
@@ -114,26 +114,26 @@ fn write_got<W: Write>(out: &mut W, link: &Link<'_>, place: &MemoryPlace<'_>) ->
                 "line {again} of the map: the slot of line {line} again"
             )
         }
-        MemoryPlace::NoSlot(place, _) => {
+        CheckPlace::NoSlot(place, _) => {
             write_field(out, link, place)?;
             let entry = entry_of(place, place.symbol_name);
             write!(out, "{entry}: no line of the map has its slot")
         }
-        MemoryPlace::GotSize(got, wanted) => {
+        CheckPlace::GotSize(got, wanted) => {
             let (address, size) = (got.address, got.size);
             write!(
                 out,
                 "the GOT at {address:#x} has {size:#x} bytes, and should have {wanted:#x}"
             )
         }
-        MemoryPlace::SlotAddress(number, there, wanted) => {
+        CheckPlace::SlotAddress(number, there, wanted) => {
             let line = line_number(link, Kind::Slot, *number);
             write!(
                 out,
                 "line {line} of the map: the slot at {there:#x} should be at {wanted:#x}"
             )
         }
-        MemoryPlace::GotByte(place) => {
+        CheckPlace::GotByte(place) => {
             let address = place.got.address.saturating_add(place.offset);
             let byte = ByteText(address, place.there, place.wanted);
             write!(out, "the GOT: byte {:#x} {byte}", place.offset)
@@ -143,36 +143,40 @@ fn write_got<W: Write>(out: &mut W, link: &Link<'_>, place: &MemoryPlace<'_>) ->
 }
 
 /// Writes a place of the eighth clause.
-fn write_thread<W: Write>(out: &mut W, link: &Link<'_>, place: &MemoryPlace<'_>) -> io::Result<()> {
+pub fn write_thread<W: Write>(
+    out: &mut W,
+    link: &Link<'_>,
+    place: &CheckPlace<'_>,
+) -> io::Result<()> {
     match place {
-        MemoryPlace::ThreadHeader(there, wanted) => write!(
+        CheckPlace::ThreadHeader(there, wanted) => write!(
             out,
             "PT_TLS: {}; it should be: {}",
             HeaderText(there),
             HeaderText(wanted)
         ),
-        MemoryPlace::ThreadZeros(_, placed, end) => {
+        CheckPlace::ThreadZeros(_, placed, end) => {
             let (piece, at) = (PieceText(link, placed), placed.at);
             write!(
                 out,
                 "{piece} at {at:#x} begins before the thread-local bytes end, at {end:#x}"
             )
         }
-        MemoryPlace::GotInThreadBlock(got, start, end) => {
+        CheckPlace::GotInThreadBlock(got, start, end) => {
             let at = got.address;
             write!(
                 out,
                 "the GOT at {at:#x} is among the thread-local bytes, from {start:#x} to {end:#x}"
             )
         }
-        MemoryPlace::PieceInThreadBlock(_, placed, start, end) => {
+        CheckPlace::PieceInThreadBlock(_, placed, start, end) => {
             let (piece, at) = (PieceText(link, placed), placed.at);
             write!(
                 out,
                 "{piece} at {at:#x} is among the thread-local bytes, from {start:#x} to {end:#x}"
             )
         }
-        MemoryPlace::ThreadBytes(header) => {
+        CheckPlace::ThreadBytes(header) => {
             let (at, size) = (header.p_vaddr, header.p_filesz);
             write!(
                 out,
@@ -184,25 +188,25 @@ fn write_thread<W: Write>(out: &mut W, link: &Link<'_>, place: &MemoryPlace<'_>)
 }
 
 /// Writes a place of the ninth clause.
-fn write_relocation_place<W: Write>(
+pub fn write_relocation_place<W: Write>(
     out: &mut W,
     link: &Link<'_>,
-    place: &MemoryPlace<'_>,
+    place: &CheckPlace<'_>,
 ) -> io::Result<()> {
     match place {
-        MemoryPlace::Relocation(place, fault) => {
+        CheckPlace::Relocation(place, fault) => {
             write_field(out, link, place)?;
             let fault = FaultOf(*fault, symbol_of(place));
             write!(out, "{fault} ({})", entry_of(place, &[]))
         }
-        MemoryPlace::Overlap(first, second) => {
+        CheckPlace::Overlap(first, second) => {
             write_field(out, link, first)?;
             let entry = entry_of(first, first.symbol_name);
             write!(out, "{entry}: its field shares a byte with that of ")?;
             write_field(out, link, second)?;
             write!(out, "{}", entry_of(second, second.symbol_name))
         }
-        MemoryPlace::Value(place, value, address) => {
+        CheckPlace::Value(place, value, address) => {
             write_field(out, link, place)?;
             let symbol = symbol_of(place);
             write!(
@@ -216,9 +220,13 @@ fn write_relocation_place<W: Write>(
 }
 
 /// Writes a place of the tenth or the eleventh clause.
-fn write_memory<W: Write>(out: &mut W, link: &Link<'_>, place: &MemoryPlace<'_>) -> io::Result<()> {
+pub fn write_memory<W: Write>(
+    out: &mut W,
+    link: &Link<'_>,
+    place: &CheckPlace<'_>,
+) -> io::Result<()> {
     match place {
-        MemoryPlace::Byte(place) => {
+        CheckPlace::Byte(place) => {
             let address = place.piece.at.saturating_add(place.offset);
             let (piece, byte) = (
                 PieceText(link, &place.piece),
@@ -230,7 +238,7 @@ fn write_memory<W: Write>(out: &mut W, link: &Link<'_>, place: &MemoryPlace<'_>)
                 None => Ok(()),
             }
         }
-        MemoryPlace::Fill(place) => {
+        CheckPlace::Fill(place) => {
             let (address, rights) = (place.address, rights_text(place.rights));
             let (byte, wanted) = (place.byte, place.wanted);
             write!(
@@ -238,47 +246,33 @@ fn write_memory<W: Write>(out: &mut W, link: &Link<'_>, place: &MemoryPlace<'_>)
                 "{address:#x}: {byte:#04x} is in no section, and should be {wanted:#04x} in a segment with {rights}"
             )
         }
-        MemoryPlace::EmptySegment(place) => write!(
+        CheckPlace::EmptySegment(place) => write!(
             out,
             "segment {} at {:#x}: nothing is in it",
             place.number, place.header.p_vaddr
         ),
-        MemoryPlace::MemoryEnd(place, end) => write_end(
+        CheckPlace::MemoryEnd(place, end) => write_end(
             out,
             place,
             "memory",
             place.header.p_memsz,
             *end,
         ),
-        MemoryPlace::FileEnd(place, end) => write_end(
+        CheckPlace::FileEnd(place, end) => write_end(
             out,
             place,
             "file part",
             place.header.p_filesz,
             *end,
         ),
-        MemoryPlace::Gap(offset, byte) => write!(
+        CheckPlace::Gap(offset, byte) => write!(
             out,
             "offset {offset:#x} of the image: {byte:#04x} is in no segment, and should be 0x00"
         ),
-        MemoryPlace::Length(len, end) => write!(
+        CheckPlace::Length(len, end) => write!(
             out,
             "the image has {len:#x} bytes, and its last file part ends at {end:#x}"
         ),
         _ => Ok(()),
-    }
-}
-
-/// Writes a place of memory in a link, without the end of the line.
-pub fn write_memory_place<W: Write>(
-    out: &mut W,
-    link: &Link<'_>,
-    place: &MemoryPlace<'_>,
-) -> io::Result<()> {
-    match memory_clause(place) {
-        Clause::C7 => write_got(out, link, place),
-        Clause::C8 => write_thread(out, link, place),
-        Clause::C9 => write_relocation_place(out, link, place),
-        _ => write_memory(out, link, place),
     }
 }

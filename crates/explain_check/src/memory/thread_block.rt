@@ -10,9 +10,7 @@ ghost use Rattle.check_link.specs.Views.{placed_view, placed_views};
 ghost use Rattle.explain_check.specs.Places.{AreFailures, FailsIn};
 
 use crate::found::Found;
-use crate::memory::added::add_memory;
 use crate::memory::bytes::piece_at;
-use crate::memory_place::MemoryPlace;
 use crate::place::CheckPlace;
 use check_link::{
     Part, Placed, base_of, end_of, got_thing, is_thread_zero, thing_of_placed, thread_block,
@@ -34,9 +32,9 @@ fn wanted_header(base: u64, placed: &[Placed<'_>]) -> Option<ProgramHeader>
 }
 
 /// The PT_TLS header that is there and the wanted one, where they differ.
-fn wrong_header<'a>(bound: &BoundLink<'_, 'a>) -> Option<MemoryPlace<'a>>
+fn wrong_header<'a>(bound: &BoundLink<'_, 'a>) -> Option<CheckPlace<'a>>
     requires { AreInLimit (placed_of bound.now) }
-    ensures { IfSome result (λ p. FailsIn bound.now (CheckPlace.Memory p)) }
+    ensures { IfSome result (FailsIn bound.now) }
 {
     let headers = bound.memory().thread_blocks();
     let base = base_of(&bound.link().plan);
@@ -44,13 +42,13 @@ fn wrong_header<'a>(bound: &BoundLink<'_, 'a>) -> Option<MemoryPlace<'a>>
         return None;
     }
     let wanted = wanted_header(base, bound.placed());
-    Some(MemoryPlace::ThreadHeader(headers.get(0).copied(), wanted))
+    Some(CheckPlace::ThreadHeader(headers.get(0).copied(), wanted))
 }
 
 /// The piece that has a number, where it is thread-local, has no bytes, and begins before those with bytes end.
-fn early_zeros<'a>(bound: &BoundLink<'_, 'a>, number: usize, end: u64) -> Option<MemoryPlace<'a>>
+fn early_zeros<'a>(bound: &BoundLink<'_, 'a>, number: usize, end: u64) -> Option<CheckPlace<'a>>
     requires { end ≡ thread_data_end bound.now }
-    ensures { IfSome result (λ p. FailsIn bound.now (CheckPlace.Memory p)) }
+    ensures { IfSome result (FailsIn bound.now) }
 {
     let placed = piece_at(bound, number)?;
     if !is_thread_zero(&placed.piece) {
@@ -59,7 +57,7 @@ fn early_zeros<'a>(bound: &BoundLink<'_, 'a>, number: usize, end: u64) -> Option
     if placed.at >= end {
         return None;
     }
-    Some(MemoryPlace::ThreadZeros(number as u64, placed, end))
+    Some(CheckPlace::ThreadZeros(number as u64, placed, end))
 }
 
 /// Adds the thread-local pieces without bytes that begin before those with bytes end.
@@ -73,7 +71,7 @@ fn add_early_zeros<'a>(
     ensures { OnOk result (AreFailures bound.now found.new.places.items) }
 {
     for number in 0..bound.placed().len() {
-        add_memory(found, bound, early_zeros(bound, number, end))?;
+        found.add_some(early_zeros(bound, number, end))?;
     }
     Ok(())
 }
@@ -83,17 +81,17 @@ fn inner_got<'a>(
     bound: &BoundLink<'_, 'a>,
     header: &ProgramHeader,
     end: u64,
-) -> Option<MemoryPlace<'a>>
+) -> Option<CheckPlace<'a>>
     requires got { IsGotInLimit bound.now.map.got }
     requires header { slice_get (thread_blocks bound.now.image) 0 ≡ Some header.now }
     requires end { end ≡ thread_data_end bound.now }
-    ensures { IfSome result (λ p. FailsIn bound.now (CheckPlace.Memory p)) }
+    ensures { IfSome result (FailsIn bound.now) }
 {
     let got = bound.link().map.got?;
     if is_clear_of(header.p_vaddr, end, &got_thing(got)) {
         return None;
     }
-    Some(MemoryPlace::GotInThreadBlock(got, header.p_vaddr, end))
+    Some(CheckPlace::GotInThreadBlock(got, header.p_vaddr, end))
 }
 
 /// The piece that has a number, where it isn't thread-local and has an address from the beginning of the block on and below
@@ -103,11 +101,11 @@ fn inner_piece<'a>(
     header: &ProgramHeader,
     number: usize,
     end: u64,
-) -> Option<MemoryPlace<'a>>
+) -> Option<CheckPlace<'a>>
     requires pieces { AreInLimit (placed_of bound.now) }
     requires header { slice_get (thread_blocks bound.now.image) 0 ≡ Some header.now }
     requires end { end ≡ thread_data_end bound.now }
-    ensures { IfSome result (λ p. FailsIn bound.now (CheckPlace.Memory p)) }
+    ensures { IfSome result (FailsIn bound.now) }
 {
     let placed = piece_at(bound, number)?;
     if placed.piece.header.is_thread_local() {
@@ -116,7 +114,7 @@ fn inner_piece<'a>(
     if is_clear_of(header.p_vaddr, end, &thing_of_placed(&placed)) {
         return None;
     }
-    Some(MemoryPlace::PieceInThreadBlock(number as u64, placed, header.p_vaddr, end))
+    Some(CheckPlace::PieceInThreadBlock(number as u64, placed, header.p_vaddr, end))
 }
 
 /// Adds what else stands among the initial bytes of a block, which end at an address.
@@ -133,22 +131,22 @@ fn add_inner<'a>(
     requires before { AreFailures bound.now found.old.places.items }
     ensures { OnOk result (AreFailures bound.now found.new.places.items) }
 {
-    add_memory(found, bound, inner_got(bound, header, end))?;
+    found.add_some(inner_got(bound, header, end))?;
     for number in 0..bound.placed().len() {
-        add_memory(found, bound, inner_piece(bound, header, number, end))?;
+        found.add_some(inner_piece(bound, header, number, end))?;
     }
     Ok(())
 }
 
 /// A block whose initial bytes no PT_LOAD holds.
-fn unheld<'a>(bound: &BoundLink<'_, 'a>, header: &ProgramHeader) -> Option<MemoryPlace<'a>>
+fn unheld<'a>(bound: &BoundLink<'_, 'a>, header: &ProgramHeader) -> Option<CheckPlace<'a>>
     requires { slice_get (thread_blocks bound.now.image) 0 ≡ Some header.now }
-    ensures { IfSome result (λ p. FailsIn bound.now (CheckPlace.Memory p)) }
+    ensures { IfSome result (FailsIn bound.now) }
 {
     if holds_initial(bound.memory(), header) {
         return None;
     }
-    Some(MemoryPlace::ThreadBytes(*header))
+    Some(CheckPlace::ThreadBytes(*header))
 }
 
 /// The PT_TLS header of the image.
@@ -165,11 +163,11 @@ pub fn add_c8<'a>(found: &mut Found<'a>, bound: &BoundLink<'_, 'a>) -> Result<()
     ensures { OnOk result (AreFailures bound.now found.new.places.items) }
 {
     let end = end_of(Part::ThreadData, bound.placed());
-    add_memory(found, bound, wrong_header(bound))?;
+    found.add_some(wrong_header(bound))?;
     add_early_zeros(found, bound, end)?;
     let Some(header) = header_there(bound) else {
         return Ok(());
     };
     add_inner(found, bound, &header, end)?;
-    add_memory(found, bound, unheld(bound, &header))
+    found.add_some(unheld(bound, &header))
 }
