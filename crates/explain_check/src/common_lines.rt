@@ -5,7 +5,7 @@ ghost use Rattle.explain_check.specs.Places.{AreFailures, FailsIn};
 
 use crate::found::Found;
 use crate::place::{CheckPlace, CommonLinePlace};
-use crate::section_lines::{add_drop_lines, add_place_lines};
+use crate::section_lines::{wrong_drop, wrong_place};
 use checker::LoadedLink;
 use checker::c03_sections::drops::drops_of;
 use std::alloc::{AllocError, Global};
@@ -26,40 +26,27 @@ fn wrong_common<'a>(loaded: &LoadedLink<'_, 'a>, name: &'a [u8]) -> Option<Check
     }))
 }
 
-/// Adds the common lines that are others than those of their names' blocks.
-fn add_lines<'a>(found: &mut Found<'a>, loaded: &LoadedLink<'_, 'a>) -> Result<(), AllocError>
-    requires { AreFailures loaded.now found.old.places.items }
-    ensures { OnOk result (AreFailures loaded.now found.new.places.items) }
-{
-    let link = loaded.link();
-    for line in &link.map.commons {
-        found.add_some(wrong_common(loaded, &line.name))?;
-    }
-    Ok(())
-}
-
-/// A common block, by its name, that has no line.
-fn missing_block<'a>(loaded: &LoadedLink<'_, 'a>, name: &'a [u8]) -> Option<CheckPlace<'a>>
+/// The common line that has a number, where its name's block asks for another one.
+fn wrong_line<'a>(loaded: &LoadedLink<'_, 'a>, number: usize) -> Option<CheckPlace<'a>>
     ensures { IfSome result (FailsIn loaded.now) }
 {
-    if loaded.lines().line(name).is_some() {
+    let line = loaded.link().map.commons.get(number)?;
+    wrong_common(loaded, &line.name)
+}
+
+/// The common block that has a number, where it has no line.
+fn missing_block<'a>(loaded: &LoadedLink<'_, 'a>, number: usize) -> Option<CheckPlace<'a>>
+    ensures { IfSome result (FailsIn loaded.now) }
+{
+    let block = loaded.names().blocks().get(number)?;
+    if loaded.lines().line(block.name).is_some() {
         return None;
     }
-    wrong_common(loaded, name)
+    wrong_common(loaded, block.name)
 }
 
-/// Adds the common blocks that have no line.
-fn add_blocks<'a>(found: &mut Found<'a>, loaded: &LoadedLink<'_, 'a>) -> Result<(), AllocError>
-    requires { AreFailures loaded.now found.old.places.items }
-    ensures { OnOk result (AreFailures loaded.now found.new.places.items) }
-{
-    for block in loaded.names().blocks() {
-        found.add_some(missing_block(loaded, block.name))?;
-    }
-    Ok(())
-}
-
-/// Adds where the third clause fails, but for kinds of sections and for common symbols that aren't sound.
+/// Adds where the third clause fails, but for kinds of sections and for common symbols that aren't sound. Of drop lines and of
+/// place lines that aren't as many as there should be the first wrong one: those after it differ only because they are shifted.
 pub fn add_c3<'a>(
     alloc: Global,
     found: &mut Found<'a>,
@@ -69,8 +56,14 @@ pub fn add_c3<'a>(
     ensures { OnOk result (AreFailures loaded.now found.new.places.items) }
 {
     let drops = drops_of(alloc, loaded.names().objects())?;
-    add_drop_lines(found, loaded, &drops)?;
-    add_place_lines(found, loaded)?;
-    add_lines(found, loaded)?;
-    add_blocks(found, loaded)
+    let (told, wanted) = (loaded.link().map.drops.len(), drops.len());
+    found.add_rows(
+        told.max(wanted),
+        told == wanted,
+        |k| wrong_drop(loaded, &drops, k),
+    )?;
+    let (told, wanted) = (loaded.link().map.places.len(), loaded.pieces().len());
+    found.add_rows(told.max(wanted), told == wanted, |k| wrong_place(loaded, k))?;
+    found.add_each(loaded.link().map.commons.len(), |k| wrong_line(loaded, k))?;
+    found.add_each(loaded.names().blocks().len(), |k| missing_block(loaded, k))
 }

@@ -9,7 +9,6 @@ mod explain;
 mod far_sections;
 mod found;
 mod line_index;
-mod lists;
 mod map_text;
 mod memory;
 mod memory_place;

@@ -9,7 +9,6 @@ ghost use Rattle.explain_check.specs.LinePlaces.{borrowed_view, object_line_view
 ghost use Rattle.explain_check.specs.Places.{AreFailures, FailsIn};
 
 use crate::found::Found;
-use crate::lists::is_last;
 use crate::place::{CheckPlace, ObjectAt, ObjectLinePlace};
 use check_link::Link;
 use check_load::Loaded;
@@ -99,7 +98,7 @@ pub fn add_object_lines<'a>(
     let lines = link.map.objects.len();
     for k in 0..lines.max(objects.len()) {
         let place = wrong_object(link, objects, k);
-        let last = is_last(&place, lines, objects.len());
+        let last = place.is_some() && lines != objects.len();
         found.add_some(place)?;
         if last {
             break;

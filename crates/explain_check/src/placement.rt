@@ -16,7 +16,7 @@ use elf_model::Thing;
 use std::alloc::{AllocError, Global};
 
 /// A part that isn't aligned.
-fn unaligned<'a>(placed: &PlacedLink<'_, 'a>, part: &Part<'a>) -> Option<CheckPlace<'a>>
+fn unaligned<'a>(placed: &PlacedLink<'_, '_>, part: &Part<'a>) -> Option<CheckPlace<'a>>
     requires part { IsPart placed.now part.now }
     requires thing { IsThing part.now }
     ensures { IfSome result (FailsIn placed.now) }
@@ -28,25 +28,8 @@ fn unaligned<'a>(placed: &PlacedLink<'_, 'a>, part: &Part<'a>) -> Option<CheckPl
     Some(CheckPlace::Unaligned(*part))
 }
 
-/// Adds the parts that aren't aligned.
-fn add_unaligned<'a>(
-    found: &mut Found<'a>,
-    placed: &PlacedLink<'_, 'a>,
-    parts: &[Part<'a>],
-) -> Result<(), AllocError>
-    requires parts { All (IsPart placed.now) parts.now }
-    requires things { All IsThing parts.now }
-    requires before { AreFailures placed.now found.old.places.items }
-    ensures { OnOk result (AreFailures placed.now found.new.places.items) }
-{
-    for i in 0..parts.len() {
-        found.add_some(unaligned(placed, &parts[i]))?;
-    }
-    Ok(())
-}
-
 /// A part that doesn't lie from the base on and below 2^46.
-fn outside<'a>(placed: &PlacedLink<'_, 'a>, part: &Part<'a>) -> Option<CheckPlace<'a>>
+fn outside<'a>(placed: &PlacedLink<'_, '_>, part: &Part<'a>) -> Option<CheckPlace<'a>>
     requires { IsPart placed.now part.now }
     ensures { IfSome result (FailsIn placed.now) }
 {
@@ -56,22 +39,6 @@ fn outside<'a>(placed: &PlacedLink<'_, 'a>, part: &Part<'a>) -> Option<CheckPlac
         return None;
     }
     Some(CheckPlace::Outside(*part, base))
-}
-
-/// Adds the parts that don't lie from the base on and below 2^46.
-fn add_outside<'a>(
-    found: &mut Found<'a>,
-    placed: &PlacedLink<'_, 'a>,
-    parts: &[Part<'a>],
-) -> Result<(), AllocError>
-    requires parts { All (IsPart placed.now) parts.now }
-    requires before { AreFailures placed.now found.old.places.items }
-    ensures { OnOk result (AreFailures placed.now found.new.places.items) }
-{
-    for i in 0..parts.len() {
-        found.add_some(outside(placed, &parts[i]))?;
-    }
-    Ok(())
 }
 
 /// Whether the second one of two things begins in the first one, and takes up some addresses.
@@ -178,8 +145,8 @@ fn add_things<'a>(
     ensures { OnOk result (AreFailures placed.now found.new.places.items) }
 {
     let parts = parts_of(alloc, placed)?;
-    add_unaligned(found, placed, &parts)?;
-    add_outside(found, placed, &parts)?;
+    found.add_each(parts.len(), |i| unaligned(placed, &parts[i]))?;
+    found.add_each(parts.len(), |i| outside(placed, &parts[i]))?;
     add_shared(found, placed, parts)
 }
 
@@ -193,7 +160,7 @@ fn add_threads<'a>(
     ensures { OnOk result (AreFailures placed.now found.new.places.items) }
 {
     let parts = thread_parts_of(alloc, placed)?;
-    add_outside(found, placed, &parts)?;
+    found.add_each(parts.len(), |i| outside(placed, &parts[i]))?;
     add_shared(found, placed, parts)
 }
 

@@ -64,7 +64,7 @@ fn segment_of(memory: &Memory<'_>, thing: &Thing) -> Option<ProgramHeader>
 }
 
 /// A part that doesn't lie in a segment with its rights.
-fn unheld<'a>(placed: &PlacedLink<'_, 'a>, part: &Part<'a>) -> Option<CheckPlace<'a>>
+fn unheld<'a>(placed: &PlacedLink<'_, '_>, part: &Part<'a>) -> Option<CheckPlace<'a>>
     requires part { IsPart placed.now part.now }
     requires thing { IsThing part.now }
     ensures { IfSome result (FailsIn placed.now) }
@@ -77,23 +77,6 @@ fn unheld<'a>(placed: &PlacedLink<'_, 'a>, part: &Part<'a>) -> Option<CheckPlace
         return None;
     }
     Some(CheckPlace::Unheld(*part, segment_of(memory, &part.thing)))
-}
-
-/// Adds the parts that don't lie in a segment with their rights.
-fn add_unheld<'a>(
-    found: &mut Found<'a>,
-    placed: &PlacedLink<'_, 'a>,
-    parts: &[Part<'a>],
-) -> Result<(), AllocError>
-    requires parts { All (IsPart placed.now) parts.now }
-    requires things { All IsThing parts.now }
-    requires before { AreFailures placed.now found.old.places.items }
-    ensures { OnOk result (AreFailures placed.now found.new.places.items) }
-{
-    for i in 0..parts.len() {
-        found.add_some(unheld(placed, &parts[i]))?;
-    }
-    Ok(())
 }
 
 /// The first segment, where it doesn't begin at the base.
@@ -120,5 +103,5 @@ pub fn add_c6<'a>(
 {
     found.add_some(wrong_first(placed))?;
     let parts = parts_of(alloc, placed)?;
-    add_unheld(found, placed, &parts)
+    found.add_each(parts.len(), |i| unheld(placed, &parts[i]))
 }

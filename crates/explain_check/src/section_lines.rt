@@ -1,21 +1,18 @@
 //! C3: drop lines and place lines that are others than those of the loaded objects' sections.
-ghost use Rattle.std.specs.Prelude.{◌≡◌, ◌↔◌, IfSome, IsTrue, OnOk, option_map};
+ghost use Rattle.std.specs.Prelude.{◌≡◌, ◌↔◌, IfSome, IsTrue, option_map};
 ghost use Rattle.std.specs.List.{slice_get};
 ghost use Rattle.elf_model.specs.Pieces.{kept_sections};
 ghost use Rattle.elf_model.specs.RightLink.{drop_rows, facts_of_piece, facts_of_row, objects_of};
 ghost use Rattle.check_link.specs.Views.{piece_view};
 ghost use Rattle.explain_check.specs.LinePlaces.{place_line_view};
-ghost use Rattle.explain_check.specs.Places.{AreFailures, FailsIn};
+ghost use Rattle.explain_check.specs.Places.{FailsIn};
 
-use crate::found::Found;
-use crate::lists::is_last;
 use crate::place::{CheckPlace, DropLinePlace, PlaceLinePlace};
 use check_link::Piece;
 use checker::LoadedLink;
 use checker::c03_sections::drops::is_drop;
 use checker::c03_sections::is_line_of;
 use elf_model::{DropLine, PlaceLine};
-use std::alloc::AllocError;
 
 /// Whether two drop lines, as far as there are such, are the same.
 fn are_same(line: &Option<DropLine>, wanted: &Option<DropLine>) -> bool
@@ -29,7 +26,7 @@ fn are_same(line: &Option<DropLine>, wanted: &Option<DropLine>) -> bool
 }
 
 /// The drop line of a number, or that none is there, where it is another one than among those that should be there.
-fn wrong_drop<'a>(
+pub fn wrong_drop<'a>(
     loaded: &LoadedLink<'_, 'a>,
     drops: &[DropLine],
     k: usize,
@@ -47,28 +44,6 @@ fn wrong_drop<'a>(
         line,
         wanted,
     }))
-}
-
-/// Adds the drop lines that are others than those that should be there: all where there are as many, else the first one.
-pub fn add_drop_lines<'a>(
-    found: &mut Found<'a>,
-    loaded: &LoadedLink<'_, 'a>,
-    drops: &[DropLine],
-) -> Result<(), AllocError>
-    requires drops { drops.now ≡ drop_rows 0 (objects_of loaded.now) }
-    requires before { AreFailures loaded.now found.old.places.items }
-    ensures { OnOk result (AreFailures loaded.now found.new.places.items) }
-{
-    let lines = loaded.link().map.drops.len();
-    for k in 0..lines.max(drops.len()) {
-        let place = wrong_drop(loaded, drops, k);
-        let last = is_last(&place, lines, drops.len());
-        found.add_some(place)?;
-        if last {
-            break;
-        }
-    }
-    Ok(())
 }
 
 /// Whether a place line, if there is one, says of a section, if there is one, what it is.
@@ -91,7 +66,7 @@ fn section_at<'a>(loaded: &LoadedLink<'_, 'a>, k: usize) -> Option<Piece<'a>>
 }
 
 /// The place line of a number, or that none is there, where the kept section of this number asks for another one.
-fn wrong_place<'a>(loaded: &LoadedLink<'_, 'a>, k: usize) -> Option<CheckPlace<'a>>
+pub fn wrong_place<'a>(loaded: &LoadedLink<'_, 'a>, k: usize) -> Option<CheckPlace<'a>>
     ensures { IfSome result (FailsIn loaded.now) }
 {
     let link = loaded.link();
@@ -105,25 +80,4 @@ fn wrong_place<'a>(loaded: &LoadedLink<'_, 'a>, k: usize) -> Option<CheckPlace<'
         line,
         wanted,
     }))
-}
-
-/// Adds the place lines that are others than those of the kept sections: all where there are as many, else the first one.
-pub fn add_place_lines<'a>(
-    found: &mut Found<'a>,
-    loaded: &LoadedLink<'_, 'a>,
-) -> Result<(), AllocError>
-    requires { AreFailures loaded.now found.old.places.items }
-    ensures { OnOk result (AreFailures loaded.now found.new.places.items) }
-{
-    let lines = loaded.link().map.places.len();
-    let wanted = loaded.pieces().len();
-    for k in 0..lines.max(wanted) {
-        let place = wrong_place(loaded, k);
-        let last = is_last(&place, lines, wanted);
-        found.add_some(place)?;
-        if last {
-            break;
-        }
-    }
-    Ok(())
 }

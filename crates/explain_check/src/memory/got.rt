@@ -124,40 +124,6 @@ fn first_of_word<'a>(
     None
 }
 
-/// Adds the first wrong byte of each word of the GOT, which is to have these bytes.
-fn add_words<'a>(
-    found: &mut Found<'a>,
-    bound: &BoundLink<'_, 'a>,
-    got: GotLine,
-    wanted: &[u8],
-) -> Result<(), AllocError>
-    requires got { bound.now.map.got ≡ Some got }
-    requires wanted { wanted.now ≡ got_bytes (objects_of bound.now) (where_of bound.now) }
-    requires before { AreFailures bound.now found.old.places.items }
-    ensures { OnOk result (AreFailures bound.now found.new.places.items) }
-{
-    for i in 0..wanted.len() as u64 / 8 {
-        found.add_some(first_of_word(bound, got, wanted, i))?;
-    }
-    Ok(())
-}
-
-/// Adds the slots of a GOT that aren't at their places.
-fn add_addresses<'a>(
-    found: &mut Found<'a>,
-    bound: &BoundLink<'_, 'a>,
-    got: GotLine,
-) -> Result<(), AllocError>
-    requires got { bound.now.map.got ≡ Some got }
-    requires before { AreFailures bound.now found.old.places.items }
-    ensures { OnOk result (AreFailures bound.now found.new.places.items) }
-{
-    for number in 0..bound.slots().lines().len() {
-        found.add_some(wrong_address(bound, got, number))?;
-    }
-    Ok(())
-}
-
 /// The bytes that the GOT is to have.
 fn bytes_of_got(alloc: Global, bound: &BoundLink<'_, '_>) -> Result<Vec<u8>, AllocError>
     ensures { IfOk result (λ v. v.items ≡ got_bytes (objects_of bound.now) (where_of bound.now)) }
@@ -178,9 +144,13 @@ fn add_got<'a>(
     ensures { OnOk result (AreFailures bound.now found.new.places.items) }
 {
     found.add_some(wrong_size(bound, got))?;
-    add_addresses(found, bound, got)?;
+    let count = bound.slots().lines().len();
+    found.add_each(count, |number| wrong_address(bound, got, number))?;
     let wanted = bytes_of_got(alloc, bound)?;
-    add_words(found, bound, got, &wanted)
+    found.add_each(
+        wanted.len() / 8,
+        |i| first_of_word(bound, got, &wanted, i as u64),
+    )
 }
 
 /// Adds where the seventh clause fails: the GOT as a whole, lines of slots that nothing asks for or that stand twice,

@@ -60,22 +60,6 @@ fn early_zeros<'a>(bound: &BoundLink<'_, 'a>, number: usize, end: u64) -> Option
     Some(CheckPlace::ThreadZeros(number as u64, placed, end))
 }
 
-/// Adds the thread-local pieces without bytes that begin before those with bytes end.
-fn add_early_zeros<'a>(
-    found: &mut Found<'a>,
-    bound: &BoundLink<'_, 'a>,
-    end: u64,
-) -> Result<(), AllocError>
-    requires end { end ≡ thread_data_end bound.now }
-    requires before { AreFailures bound.now found.old.places.items }
-    ensures { OnOk result (AreFailures bound.now found.new.places.items) }
-{
-    for number in 0..bound.placed().len() {
-        found.add_some(early_zeros(bound, number, end))?;
-    }
-    Ok(())
-}
-
 /// The GOT, where it has an address from the beginning of the block on and below an end.
 fn inner_got<'a>(
     bound: &BoundLink<'_, 'a>,
@@ -132,10 +116,8 @@ fn add_inner<'a>(
     ensures { OnOk result (AreFailures bound.now found.new.places.items) }
 {
     found.add_some(inner_got(bound, header, end))?;
-    for number in 0..bound.placed().len() {
-        found.add_some(inner_piece(bound, header, number, end))?;
-    }
-    Ok(())
+    let count = bound.placed().len();
+    found.add_each(count, |number| inner_piece(bound, header, number, end))
 }
 
 /// A block whose initial bytes no PT_LOAD holds.
@@ -164,7 +146,8 @@ pub fn add_c8<'a>(found: &mut Found<'a>, bound: &BoundLink<'_, 'a>) -> Result<()
 {
     let end = end_of(Part::ThreadData, bound.placed());
     found.add_some(wrong_header(bound))?;
-    add_early_zeros(found, bound, end)?;
+    let count = bound.placed().len();
+    found.add_each(count, |number| early_zeros(bound, number, end))?;
     let Some(header) = header_there(bound) else {
         return Ok(());
     };
