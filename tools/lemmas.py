@@ -59,6 +59,12 @@ LAYERS = {
         " TableSteps",
         "The verdict": "Clauses Verdicts",
     },
+    "ld_main": {
+        "The link and its refusals": "FinalRefusals Gatherings Links OwnUnfit Tabled Values",
+        "The own map": "DropLines OwnCommons OwnMaps OwnSpelled PlaceLines SlotLines SpelledMaps Spellings SymbolLines",
+        "Its text": "Behind OwnTexts",
+        "The definitions in order": "InOrderLaws Listings NameKeyLaws SortedOnce",
+    },
     "own_link": {
         "The image file": "Bytes HeaderTable ImageOwn ImageRead ImageRight SegmentHeaders",
         "Segments": "Ends SegmentEnds SegmentPieces Segments SegmentsOwn",

@@ -42,7 +42,11 @@ pub fn position_told(
 }
 
 /// Notes the position of a slot for a number. That of no name isn't noted.
-pub fn note_position(positions: &mut Vec<usize>, number: usize, position: usize) -> Result<(), AllocError>
+pub fn note_position(
+    positions: &mut Vec<usize>,
+    number: usize,
+    position: usize,
+) -> Result<(), AllocError>
     ensures { length positions.old.items ≤ length positions.new.items }
 {
     if number == NO_POSITION {

@@ -38,7 +38,11 @@ fn linker_at<'a>(linkers: &[(&'a [u8], Bound)], i: usize) -> Definition<'a>
 }
 
 /// What has its name at a position.
-fn definition_at<'a>(resolved: &Resolved<'a>, names: Names<'_, 'a>, position: usize) -> Definition<'a>
+fn definition_at<'a>(
+    resolved: &Resolved<'a>,
+    names: Names<'_, 'a>,
+    position: usize,
+) -> Definition<'a>
     ensures { meaning_view result
         ≡ meaning_at resolved.now names.entry.symbols.now
         (line_views names.entry.linkers.now) position }
