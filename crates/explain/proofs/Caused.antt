@@ -19,7 +19,7 @@ use Rattle.elf_model.specs.declared.records.Rela.{Rela}
 use Rattle.elf_model.specs.declared.records.SectionHeader.{SectionHeader}
 use Rattle.elf_model.proofs.Finding.{Any-from_contains}
 use Rattle.elf_model.proofs.Listed.{Contains-filter, Contains-from_slice_get, Contains-map}
-use Rattle.search.specs.Faults.{IsSearchable}
+use Rattle.opening.specs.Faults.{IsSearchable}
 use Rattle.search.proofs.LoadLaws.{reaches_weaker}
 use Rattle.relocate.specs.References.{IsUnlawful}
 use Rattle.relocate.specs.declared.faults.RelocationFault.{RelocationFault}

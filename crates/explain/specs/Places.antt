@@ -26,7 +26,7 @@ use Rattle.bad_parts.specs.declared.part.BadPart.{BadPart}
 use Rattle.command.specs.RefusedWords.{AreRefused}
 use Rattle.command.specs.Views.{source_of}
 use Rattle.command.specs.declared.items.Source.{Source}
-use Rattle.search.specs.Faults.{IsSearchable}
+use Rattle.opening.specs.Faults.{IsSearchable}
 use Rattle.search.specs.Loads.{LoadedPlan}
 use Rattle.layout.specs.Kinds.{IsLawfulIfKept}
 use Rattle.layout.specs.Placements.{Basis}

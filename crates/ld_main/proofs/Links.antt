@@ -19,7 +19,8 @@ use Rattle.own_link.proofs.OwnRight.{own_is_right}
 use Rattle.relocate.specs.Values.{ValuesFail}
 use Rattle.relocate.specs.declared.faults.RelocFault.{RelocFault}
 use Rattle.relocate.specs.declared.faults.RelocFault.TheVariants as reloc
-use Rattle.search.specs.Faults.{IsSearchable, LoadFails}
+use Rattle.opening.specs.Faults.{IsSearchable}
+use Rattle.search.specs.Faults.{LoadFails}
 use Rattle.search.specs.declared.faults.SearchFault.{SearchFault}
 use Rattle.search.specs.declared.faults.SearchFault.TheVariants as search
 use Rattle.resolve.specs.Refusals.{ResolvingFails}
