@@ -1,5 +1,5 @@
 -- The text of a link's own map, list by list, and batch by batch.
-use Rattle.std.proofs.Common.{◌≡◌, ◌∙◌, ℕ, Bool, true, false, List, [], ◌∷◌, ◌++◌, ap, append_assoc, codes, drop, map, refl, subst, sym, take}
+use Rattle.std.proofs.Common.{◌≡◌, ◌∙◌, ℕ, suc, ◌+◌, ◌<◌, Bool, true, false, List, [], ◌∷◌, ◌++◌, ap, append_assoc, arith, codes, drop, drop-cons, get_or, length, map, refl, subst, sym, take}
 use Rattle.std.specs.Prelude.{Option, None, Some, option_map, option_to_list}
 use Rattle.std.specs.Io.KnownBytes.{Appends}
 use Rattle.std.specs.List.{flat_map}
@@ -16,6 +16,8 @@ use Rattle.elf_model.specs.Placement.{round_up}
 use Rattle.elf_model.specs.RightLink.{drop_rows, object_rows, symbol_row_of}
 use Rattle.elf_model.specs.declared.link_map.SymtabLine.{SymtabLine}
 use Rattle.layout.specs.Placements.{Basis}
+use Rattle.resolve.specs.Views.{meaning_view, meaning_views}
+use Rattle.resolve.specs.declared.definition.Definition as code
 use Rattle.image_write.specs.CommonRows.{common_rows_of, own_commons}
 use Rattle.image_write.specs.Maps.{own_record, own_row, own_symtab}
 use Rattle.image_write.specs.Tables.{HasTable, line_of}
@@ -71,6 +73,25 @@ pub symbols_join :
     (row : Meaning → SymbolRow) (xs ys : List Meaning) →
     flat_map symbol_text (map row (xs ++ ys)) ≡ flat_map symbol_text (map row xs) ++ flat_map symbol_text (map row ys)
 symbols_join row xs ys = ap (flat_map symbol_text) (map-append row xs ys) ∙ flat_map-append symbol_text (map row xs) (map row ys)
+
+-- the lines of the first of the definitions that are left, and of those behind
+pub commons_front :
+    (base : ℕ) (objects : List LoadedObject) (listed : List code.Definition) (i : ℕ) (d : code.Definition) → i < length listed →
+    flat_map common_text (own_commons base objects (meaning_views (drop i listed)))
+    ≡ flat_map common_text (common_rows_of base objects (meaning_view (get_or listed i d)))
+    ++ flat_map common_text (own_commons base objects (meaning_views (drop (i + 1) listed)))
+commons_front base objects listed i d within =
+    let e : i + 1 ≡ suc i = omega arith in
+    rw e (ap (λ (ds : List code.Definition). flat_map common_text (own_commons base objects (meaning_views ds))) (drop-cons listed i d within)
+    ∙ flat_map-append common_text (common_rows_of base objects (meaning_view (get_or listed i d))) (own_commons base objects (meaning_views (drop (suc i) listed))))
+
+pub symbols_front :
+    (row : Meaning → SymbolRow) (listed : List code.Definition) (i : ℕ) (d : code.Definition) → i < length listed →
+    flat_map symbol_text (map row (meaning_views (drop i listed)))
+    ≡ symbol_text (row (meaning_view (get_or listed i d))) ++ flat_map symbol_text (map row (meaning_views (drop (i + 1) listed)))
+symbols_front row listed i d within =
+    let e : i + 1 ≡ suc i = omega arith in
+    rw e (ap (λ (ds : List code.Definition). flat_map symbol_text (map row (meaning_views ds))) (drop-cons listed i d within))
 
 -- the line of the table of what is listed
 pub table_line :
