@@ -8,9 +8,10 @@ use Rattle.std.specs.Option.{option_map_or, option_or}
 use Rattle.std.specs.Ordering.{is_eq}
 use Rattle.std.proofs.lemmas.List.{drop_all}
 use Rattle.std.proofs.lemmas.Option.{same_Some}
-use Rattle.elf_model.specs.MapRecord.{SlotRow, slot_row}
+use Rattle.elf_model.specs.MapRecord.{SlotRow}
+use Rattle.linkmap.specs.Borrowed.{slot_row}
 use Rattle.elf_model.specs.Slots.{Request, is_slot_of, row_request, same_request}
-use Rattle.elf_model.specs.declared.link_map.SlotLine.{SlotLine}
+use Rattle.linkmap.specs.declared.borrowed.BorrowedSlot.{BorrowedSlot}
 use Rattle.elf_model.proofs.Rests.{rest_at}
 use Rattle.check_link.specs.Slots.{are_fresh, has_in, in_table, key_of, number_in, request_order, request_view}
 use Rattle.check_link.specs.declared.request_map.RequestMap.{RequestMap}
@@ -82,12 +83,12 @@ some_or None true at = refl
 some_or None false at = refl
 some_or (Some x) b at = refl
 
-abbrev pub rows_from : List SlotLine → ℕ → List SlotRow
+abbrev pub rows_from : List BorrowedSlot → ℕ → List SlotRow
 rows_from lines i = map slot_row (drop i lines)
 
-module _ (lines : List SlotLine) (i : ℕ) (line : SlotLine) (within : i < length lines) (read : line ≡ get_or lines i line) where
+module _ (lines : List BorrowedSlot) (i : ℕ) (line : BorrowedSlot) (within : i < length lines) (read : line ≡ get_or lines i line) where
   pub rows_more : rows_from lines i ≡ slot_row line ∷ rows_from lines (i + 1)
-  rows_more = ap (map slot_row) (rest_at lines i line within) ∙ ap (λ (l : SlotLine). slot_row l ∷ rows_from lines (i + 1)) (sym read)
+  rows_more = ap (map slot_row) (rest_at lines i line within) ∙ ap (λ (l : BorrowedSlot). slot_row l ∷ rows_from lines (i + 1)) (sym read)
 
   module _ (old new : RequestMap) (grown : (q : Request) → number_in new q ≡ option_or (number_in old q) (cond (is_slot_of q (slot_row line)) (Some line.address) None)) where
     pub index_more :
@@ -121,15 +122,15 @@ and_true : (b : Bool) → (b && true) ≡ b
 and_true true = refl
 and_true false = refl
 
-module _ (lines : List SlotLine) (i : ℕ) (behind : length lines ≤ i) where
+module _ (lines : List BorrowedSlot) (i : ℕ) (behind : length lines ≤ i) where
   pub index_end :
       (o whole : Option ℕ) (p : SlotRow → Bool) → option_or o (option_map (λ r. r.address) (find p (rows_from lines i))) ≡ whole → o ≡ whole
   index_end o whole p all =
-      sym (or_none o) ∙ sym (ap (λ (ls : List SlotLine). option_or o (option_map (λ r. r.address) (find p (map slot_row ls)))) (drop_all i lines behind)) ∙ all
+      sym (or_none o) ∙ sym (ap (λ (ls : List BorrowedSlot). option_or o (option_map (λ r. r.address) (find p (map slot_row ls)))) (drop_all i lines behind)) ∙ all
 
   pub distinct_end : (b whole : Bool) (seen : Request → Bool) → (b && are_fresh seen (map row_request (rows_from lines i))) ≡ whole → b ≡ whole
   distinct_end b whole seen all =
-      sym (and_true b) ∙ sym (ap (λ (ls : List SlotLine). b && are_fresh seen (map row_request (map slot_row ls))) (drop_all i lines behind)) ∙ all
+      sym (and_true b) ∙ sym (ap (λ (ls : List BorrowedSlot). b && are_fresh seen (map row_request (map slot_row ls))) (drop_all i lines behind)) ∙ all
 
 -- a first that is found is one that passes
 pub found_any : {X Y : Type 0} (f : X → Y) (p : X → Bool) (xs : List X) → is_some (option_map f (find p xs)) ≡ list_any p xs

@@ -5,10 +5,11 @@ use Rattle.std.specs.BTreeMap.{BTreeMap, get_by}
 use Rattle.std.specs.Cmp.Lexicographic.{slice_cmp}
 use Rattle.std.specs.Ordering.{nat_cmp}
 use Rattle.elf_model.specs.Commons.{Block, greatest, is_common_symbol}
-use Rattle.elf_model.specs.MapRecord.{CommonRow, common_row}
+use Rattle.elf_model.specs.MapRecord.{CommonRow}
+use Rattle.linkmap.specs.Borrowed.{common_row}
 use Rattle.elf_model.specs.Placement.{is_common_row_of}
 use Rattle.elf_model.specs.Resolution.{SymbolOf, has_name, is_common_definition}
-use Rattle.elf_model.specs.declared.link_map.CommonLine.{CommonLine}
+use Rattle.linkmap.specs.declared.borrowed.BorrowedCommon.{BorrowedCommon}
 use Rattle.check_link.specs.Chosen.{is_found}
 use Rattle.check_link.specs.Views.{block_view}
 use Rattle.check_link.specs.declared.chosen_definitions.Chosen.{Chosen}
@@ -52,12 +53,12 @@ abbrev pub block_in : BTreeMap (Bor (List ℕ)) code.Block → List ℕ → Opti
 block_in index name = option_map block_view (get_by (λ k. slice_cmp nat_cmp name k.now) index)
 
 -- the common line that an index has for a name
-abbrev pub line_view : Bor CommonLine → CommonRow
+abbrev pub line_view : Bor BorrowedCommon → CommonRow
 line_view line = common_row line.now
 
-abbrev pub line_in : BTreeMap (Bor (List ℕ)) (Bor CommonLine) → List ℕ → Option CommonRow
+abbrev pub line_in : BTreeMap (Bor (List ℕ)) (Bor BorrowedCommon) → List ℕ → Option CommonRow
 line_in index name = option_map line_view (get_by (λ k. slice_cmp nat_cmp name k.now) index)
 
 -- an index has for each name the first line of it
-abbrev pub IsLineIndex : List CommonRow → BTreeMap (Bor (List ℕ)) (Bor CommonLine) → Type 0
+abbrev pub IsLineIndex : List CommonRow → BTreeMap (Bor (List ℕ)) (Bor BorrowedCommon) → Type 0
 IsLineIndex rows index = (name : List ℕ) → line_in index name ≡ find (is_common_row_of name) rows

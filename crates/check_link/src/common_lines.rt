@@ -1,8 +1,9 @@
 //! The map's common lines, found by their names, and whether they are those of the common blocks: a part of the third
 //! clause.
 ghost use Rattle.std.specs.Prelude.{◌≡◌, ◌↔◌, ℕ, All, IfOk, IsTrue, List, None, OnOk, Some, cond, find, map, option_map};
+ghost use Rattle.std.specs.Cow.{cow_slice_items};
 ghost use Rattle.std.specs.Option.{option_or};
-ghost use Rattle.elf_model.specs.MapRecord.{common_row};
+ghost use Rattle.linkmap.specs.Borrowed.{common_row};
 ghost use Rattle.elf_model.specs.Placement.{common_address, is_common_row_of};
 ghost use Rattle.elf_model.specs.RightLink.{HasCommonLine, facts_of_block, facts_of_common};
 ghost use Rattle.check_link.specs.Commons.{IsLineIndex, line_in, line_view};
@@ -10,7 +11,7 @@ ghost use Rattle.check_link.specs.Views.{block_view};
 
 use crate::names::Names;
 use crate::things::Block;
-use elf_model::CommonLine;
+use linkmap::BorrowedCommon;
 use std::alloc::{AllocError, Global};
 use std::collections::BTreeMap;
 use std::marker::Model;
@@ -18,13 +19,14 @@ use std::marker::Model;
 /// Common lines, with an index by their names.
 #[derive(Drop)]
 pub struct CommonLines<'m> {
-    lines: &'m [CommonLine],
-    by_name: BTreeMap<&'m [u8], &'m CommonLine>,
+    lines: &'m [BorrowedCommon<'m>],
+    by_name: BTreeMap<&'m [u8], &'m BorrowedCommon<'m>>,
 }
 
 impl<'m> Model for CommonLines<'m> {
     ghost use Rattle.std.specs.Prelude.{List, map};
-    ghost use Rattle.elf_model.specs.MapRecord.{CommonRow, common_row};
+    ghost use Rattle.elf_model.specs.MapRecord.{CommonRow};
+    ghost use Rattle.linkmap.specs.Borrowed.{common_row};
     ghost use Rattle.check_link.specs.Commons.{IsLineIndex};
 
     ghost Value = { List CommonRow };
@@ -36,8 +38,8 @@ impl<'m> Model for CommonLines<'m> {
 
 /// Puts a line into an index by names, unless one of its name is there.
 fn add_line<'m>(
-    index: &mut BTreeMap<&'m [u8], &'m CommonLine>,
-    line: &'m CommonLine,
+    index: &mut BTreeMap<&'m [u8], &'m BorrowedCommon<'m>>,
+    line: &'m BorrowedCommon<'m>,
 ) -> Result<(), AllocError>
     ensures { OnOk result ((name : List ℕ) →
         line_in index.new name
@@ -55,8 +57,8 @@ fn add_line<'m>(
 /// The first of lines of each name.
 fn index_lines<'m>(
     alloc: Global,
-    lines: &'m [CommonLine],
-) -> Result<BTreeMap<&'m [u8], &'m CommonLine>, AllocError>
+    lines: &'m [BorrowedCommon<'m>],
+) -> Result<BTreeMap<&'m [u8], &'m BorrowedCommon<'m>>, AllocError>
     ensures { IfOk result (IsLineIndex (map common_row lines.entry.now)) }
 {
     let mut index = BTreeMap::new(alloc);
@@ -67,7 +69,7 @@ fn index_lines<'m>(
 }
 
 /// Whether a line, if there is one, says of a block, if there is one, what it is but for its address.
-fn agree(line: Option<&CommonLine>, block: Option<Block<'_>>) -> bool
+fn agree(line: Option<&BorrowedCommon<'_>>, block: Option<Block<'_>>) -> bool
     ensures { IsTrue result ↔ (option_map facts_of_common (option_map line_view line.entry)
         ≡ option_map facts_of_block (option_map block_view block.entry)) }
 {
@@ -79,7 +81,7 @@ fn agree(line: Option<&CommonLine>, block: Option<Block<'_>>) -> bool
 }
 
 /// Whether a line says of a block what it is but for its address.
-fn is_line_of(line: &CommonLine, block: &Block<'_>) -> bool
+fn is_line_of(line: &BorrowedCommon<'_>, block: &Block<'_>) -> bool
     ensures { IsTrue result ↔ (facts_of_common (common_row line.now)
         ≡ facts_of_block (block_view block.now)) }
 {
@@ -91,7 +93,10 @@ fn is_line_of(line: &CommonLine, block: &Block<'_>) -> bool
 
 impl<'m> CommonLines<'m> {
     /// An index of common lines.
-    pub fn new(alloc: Global, lines: &'m [CommonLine]) -> Result<CommonLines<'m>, AllocError>
+    pub fn new(
+        alloc: Global,
+        lines: &'m [BorrowedCommon<'m>],
+    ) -> Result<CommonLines<'m>, AllocError>
         ensures { IfOk result (λ c. c ≡ map common_row lines.entry.now) }
     {
         let by_name = index_lines(alloc, lines)?;
@@ -99,7 +104,7 @@ impl<'m> CommonLines<'m> {
     }
 
     /// The first line of a name.
-    pub fn line(&self, name: &[u8]) -> Option<&'m CommonLine>
+    pub fn line(&self, name: &[u8]) -> Option<&'m BorrowedCommon<'m>>
         ensures { option_map line_view result ≡ find (is_common_row_of name.now) self.now }
     {
         self.by_name.get(name).copied()
@@ -129,9 +134,9 @@ impl<'m> CommonLines<'m> {
         self.lines_have_blocks(names, self.lines)
     }
 
-    fn lines_have_blocks(&self, names: &Names<'_, '_>, lines: &[CommonLine]) -> bool
+    fn lines_have_blocks(&self, names: &Names<'_, '_>, lines: &[BorrowedCommon<'_>]) -> bool
         ensures { IsTrue result ↔ All
-            (λ line. HasCommonLine self.now names.now line.name.items) lines.now }
+            (λ line. HasCommonLine self.now names.now (cow_slice_items line.name)) lines.now }
     {
         for line in lines {
             if !self.has_line(names, &line.name) {

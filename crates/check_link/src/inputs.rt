@@ -3,11 +3,13 @@ ghost use Rattle.std.specs.Prelude.{◌≡◌, IfOk, IfSome, IsSomeAnd, None, Ok
 ghost use Rattle.elf_model.specs.Command as command;
 ghost use Rattle.elf_model.specs.Command.{command_of};
 ghost use Rattle.elf_model.specs.Files.{words_of};
-ghost use Rattle.elf_model.specs.MapRecord.{MapRecord, map_of};
+ghost use Rattle.elf_model.specs.MapRecord.{MapRecord};
+ghost use Rattle.linkmap.specs.Borrowed.{record_of};
 ghost use Rattle.elf_model.specs.MapText.{IsMap, text};
 
 use command::{CmdFault, Plan, read_words};
-use elf_model::{LinkMap, MapFault};
+use elf_model::MapFault;
+use linkmap::BorrowedMap;
 use std::alloc::{AllocError, Global};
 
 /// The plan that the words make; None where they are no command.
@@ -24,13 +26,13 @@ pub fn read_plan<'a>(alloc: Global, words: &'a [String]) -> Result<Option<Plan<'
 }
 
 /// The map that the bytes spell; None where they are no map's text.
-pub fn read_map(alloc: Global, bytes: &[u8]) -> Result<Option<LinkMap>, AllocError>
+pub fn read_map(alloc: Global, bytes: &[u8]) -> Result<Option<BorrowedMap<'_>>, AllocError>
     ensures map { IfOk result (λ o.
-        IfSome o (λ m. IsMap (map_of m) × (bytes.now ≡ text (map_of m)))) }
+        IfSome o (λ m. IsMap (record_of m) × (bytes.now ≡ text (record_of m)))) }
     ensures only { IfOk result (λ o. (m : MapRecord) →
-        IsMap m → bytes.now ≡ text m → IsSomeAnd o (λ n. map_of n ≡ m)) }
+        IsMap m → bytes.now ≡ text m → IsSomeAnd o (λ n. record_of n ≡ m)) }
 {
-    match linkmap::read(alloc, bytes) {
+    match linkmap::read_borrowed(alloc, bytes) {
         Ok(map) => Ok(Some(map)),
         Err(MapFault::Memory) => Err(AllocError),
         Err(MapFault::Line(_)) => Ok(None),

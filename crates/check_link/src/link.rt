@@ -2,7 +2,8 @@
 ghost use Rattle.std.specs.Prelude.{◌≡◌};
 
 use command::Plan;
-use elf_model::{InputFile, LinkMap};
+use elf_model::InputFile;
+use linkmap::BorrowedMap;
 use std::marker::Model;
 
 /// A link that is checked: its plan, the files that were read, and what came out. Its map is one that has a text.
@@ -11,20 +12,20 @@ pub struct Link<'a> {
     pub plan: Plan<'a>,
     pub files: &'a [InputFile],
     pub image: &'a [u8],
-    pub map: LinkMap,
+    pub map: BorrowedMap<'a>,
 }
 
 impl<'a> Model for Link<'a> {
     ghost use Rattle.elf_model.specs.Files.{files_of};
-    ghost use Rattle.elf_model.specs.MapRecord.{map_of};
+    ghost use Rattle.linkmap.specs.Borrowed.{record_of};
     ghost use Rattle.elf_model.specs.MapText.{IsMap};
     ghost use Rattle.elf_model.specs.RightLink.{Subject};
 
     ghost Value = { Subject };
 
-    ghost view = { λ l. record { plan = l.plan; files = files_of l.files.now; image = l.image.now; map = map_of l.map } };
+    ghost view = { λ l. record { plan = l.plan; files = files_of l.files.now; image = l.image.now; map = record_of l.map } };
 
-    ghost invariant = { λ l. IsMap (map_of l.map) };
+    ghost invariant = { λ l. IsMap (record_of l.map) };
 }
 
 /// The address at which a plan's image begins.

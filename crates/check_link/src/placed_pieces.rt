@@ -1,7 +1,7 @@
 //! The pieces at the addresses of the map, and all things of an image with its map.
 ghost use Rattle.std.specs.Prelude.{◌≡◌, ◌++◌, ◌∷◌, ◌≤◌, IfOk, OnOk, Some, [], length, map, take};
 ghost use Rattle.elf_model.specs.Commons.{block_piece};
-ghost use Rattle.elf_model.specs.MapRecord.{place_row};
+ghost use Rattle.linkmap.specs.Borrowed.{place_row};
 ghost use Rattle.elf_model.specs.Pieces.{rights_of};
 ghost use Rattle.elf_model.specs.Placement.{got_things, headers_thing, placed_blocks, placed_by, range_of, thing_of, thread_ranges};
 ghost use Rattle.elf_model.specs.MemoryImage as placement;
@@ -11,14 +11,15 @@ ghost use Rattle.check_link.specs.Views.{block_view, block_views, piece_view, pi
 use crate::common_lines::CommonLines;
 use crate::sizes::load_size;
 use crate::things::{Block, Piece, Placed};
-use elf_model::{GotLine, PlaceLine, SHF_ALLOC, SHF_WRITE, SHT_NOBITS, SectionHeader, Thing};
+use elf_model::{GotLine, SHF_ALLOC, SHF_WRITE, SHT_NOBITS, SectionHeader, Thing};
+use linkmap::BorrowedPlace;
 use loader_model::Memory;
 use std::alloc::{AllocError, Global};
 
 /// The pieces at the addresses that the place lines give, the k-th line for the k-th piece.
 fn place<'a>(
     alloc: Global,
-    rows: &[PlaceLine],
+    rows: &[BorrowedPlace<'_>],
     pieces: &[Piece<'a>],
 ) -> Result<Vec<Placed<'a>>, AllocError>
     ensures { IfOk result (λ v. placed_views v.items
@@ -81,7 +82,7 @@ fn place_blocks<'a>(
 /// and behind them the common blocks where the common lines do. And how many of them are sections.
 pub fn place_all<'a>(
     alloc: Global,
-    rows: &[PlaceLine],
+    rows: &[BorrowedPlace<'_>],
     pieces: &[Piece<'a>],
     lines: &CommonLines<'_>,
     blocks: &[Block<'a>],

@@ -2,28 +2,30 @@
 ghost use Rattle.std.specs.Prelude.{◌≡◌, ◌&&◌, IfOk, List, None, OnOk, Some, cond, find, map, not, option_map};
 ghost use Rattle.std.specs.List.{list_any};
 ghost use Rattle.std.specs.Option.{option_or};
-ghost use Rattle.elf_model.specs.MapRecord.{slot_row};
+ghost use Rattle.linkmap.specs.Borrowed.{slot_row};
 ghost use Rattle.elf_model.specs.Slots as slots;
 ghost use Rattle.elf_model.specs.Slots.{is_slot_of, requested_address, row_request};
 ghost use Rattle.check_link.specs.Slots.{IsSized, IsSlotIndex, are_distinct, request_view};
 
 use crate::request_map::RequestMap;
 use crate::requests::{Request, request_of_line};
-use elf_model::{NameSeed, SlotLine};
+use elf_model::NameSeed;
+use linkmap::BorrowedSlot;
 use std::alloc::{AllocError, Global};
 use std::marker::Model;
 
 /// Slot lines, with the address of the first one for each request, and whether there is at most one for each.
 #[derive(Drop)]
 pub struct SlotTable<'m> {
-    lines: &'m [SlotLine],
+    lines: &'m [BorrowedSlot<'m>],
     addresses: RequestMap<'m>,
     distinct: bool,
 }
 
 impl<'m> Model for SlotTable<'m> {
     ghost use Rattle.std.specs.Prelude.{List, map};
-    ghost use Rattle.elf_model.specs.MapRecord.{SlotRow, slot_row};
+    ghost use Rattle.elf_model.specs.MapRecord.{SlotRow};
+    ghost use Rattle.linkmap.specs.Borrowed.{slot_row};
     ghost use Rattle.check_link.specs.Slots.{IsSlotTable};
 
     ghost Value = { List SlotRow };
@@ -36,7 +38,7 @@ impl<'m> Model for SlotTable<'m> {
 /// The address of the first slot for each request, and whether no two lines are for the same.
 fn index_slots<'m>(
     alloc: Global,
-    lines: &'m [SlotLine],
+    lines: &'m [BorrowedSlot<'m>],
     seed: Option<NameSeed>,
 ) -> Result<(RequestMap<'m>, bool), AllocError>
     ensures sized { IfOk result (λ r. IsSized r.0) }
@@ -58,7 +60,7 @@ impl<'m> SlotTable<'m> {
     /// A table of slot lines, whose names are to be hashed from a seed, or found by their order without one.
     pub fn new(
         alloc: Global,
-        lines: &'m [SlotLine],
+        lines: &'m [BorrowedSlot<'m>],
         seed: Option<NameSeed>,
     ) -> Result<SlotTable<'m>, AllocError>
         ensures { IfOk result (λ t. t ≡ map slot_row lines.entry.now) }
@@ -96,7 +98,7 @@ impl<'m> SlotTable<'m> {
     }
 
     /// The lines.
-    pub fn lines(&self) -> &'m [SlotLine]
+    pub fn lines(&self) -> &'m [BorrowedSlot<'m>]
         ensures { map slot_row result.now ≡ self.now }
     {
         self.lines

@@ -6,12 +6,13 @@ use Rattle.std.proofs.lemmas.List.{get_or_past, length-map}
 use Rattle.std.proofs.lemmas.List.Elements.{All-cons, All-tail}
 use Rattle.byteview.proofs.NumberLaws.{length-le_bytes}
 use Rattle.elf_model.specs.Loading.{LoadedObject}
-use Rattle.elf_model.specs.MapRecord.{SlotRow, slot_row}
+use Rattle.elf_model.specs.MapRecord.{SlotRow}
+use Rattle.linkmap.specs.Borrowed.{slot_row}
 use Rattle.elf_model.specs.Placement.{Where}
 use Rattle.elf_model.specs.RightLink.{HoldsGot, StandFrom}
 use Rattle.elf_model.specs.Slots.{got_bytes, size_with, slot_bytes, slot_value}
 use Rattle.elf_model.specs.declared.link_map.GotLine.{GotLine}
-use Rattle.elf_model.specs.declared.link_map.SlotLine.{SlotLine}
+use Rattle.linkmap.specs.declared.borrowed.BorrowedSlot.{BorrowedSlot}
 use Rattle.elf_model.proofs.Rests.{Left}
 use Rattle.checker.specs.Got.{HoldsBytes}
 use Rattle.check_link.proofs.Padded.{SamePadded, below_or_not}
@@ -27,7 +28,7 @@ first_passes Q P left rest x is here q = (
 
 -- the bytes of one slot more
 pub bytes_more :
-    (f : SlotRow → List ℕ) (lines : List SlotLine) (i : ℕ) (line : SlotLine) → i < length lines → line ≡ get_or lines i line →
+    (f : SlotRow → List ℕ) (lines : List BorrowedSlot) (i : ℕ) (line : BorrowedSlot) → i < length lines → line ≡ get_or lines i line →
     (old new all : List ℕ) → new ≡ old ++ f (slot_row line) → old ++ flat_map f (rows_from lines i) ≡ all → new ++ flat_map f (rows_from lines (i + 1)) ≡ all
 bytes_more f lines i line within read old new all grown whole =
     ap (λ (bs : List ℕ). bs ++ flat_map f (rows_from lines (i + 1))) grown
@@ -59,7 +60,7 @@ module _ (objects : List LoadedObject) (w : Where) where
 
   -- the bytes of a GOT are as many as its size
   pub bytes_length :
-      (size : ℕ) (lines : List SlotLine) (wanted : List ℕ) → size ≡ size_with (length lines) →
+      (size : ℕ) (lines : List BorrowedSlot) (wanted : List ℕ) → size ≡ size_with (length lines) →
       wanted ≡ replicate 8 0 ++ flat_map (slot_bytes objects w) (map slot_row lines) → length wanted ≡ size
   bytes_length size lines wanted is are =
       let n = ap (length {A = ℕ}) are in
@@ -70,7 +71,7 @@ module _ (objects : List LoadedObject) (w : Where) where
 
   -- memory holds a GOT where it holds its bytes, and size and places are right
   pub got_held :
-      (image : List ℕ) (got : GotLine) (lines : List SlotLine) (wanted : List ℕ) (t : Bool) → map slot_row lines ≡ w.slots →
+      (image : List ℕ) (got : GotLine) (lines : List BorrowedSlot) (wanted : List ℕ) (t : Bool) → map slot_row lines ≡ w.slots →
       got.size ≡ size_with (length lines) → StandFrom (got.address + 8) (map slot_row lines) →
       wanted ≡ replicate 8 0 ++ flat_map (slot_bytes objects w) (map slot_row lines) →
       (IsTrue t ↔ HoldsBytes image got.address wanted) → IsTrue t ↔ HoldsGot objects w image got

@@ -2,10 +2,10 @@
 use Rattle.std.proofs.Common.{◌≡◌, ℕ, ◌+◌, ◌<◌, List, [], ◌∷◌, length, get_or, drop, map, refl, sym, ap, ◌∙◌, arith}
 use Rattle.std.proofs.lemmas.List.{at_drop_more, length-map}
 use Rattle.elf_model.specs.Loading.{LoadedObject}
-use Rattle.elf_model.specs.MapRecord.{object_row, place_row}
+use Rattle.linkmap.specs.Borrowed.{object_row, place_row}
 use Rattle.elf_model.specs.RightLink.{facts_of_piece, facts_of_row, object_rows}
-use Rattle.elf_model.specs.declared.link_map.ObjectLine.{ObjectLine}
-use Rattle.elf_model.specs.declared.link_map.PlaceLine.{PlaceLine}
+use Rattle.linkmap.specs.declared.borrowed.BorrowedObject.{BorrowedObject}
+use Rattle.linkmap.specs.declared.borrowed.BorrowedPlace.{BorrowedPlace}
 use Rattle.elf_model.proofs.Rests.{Left}
 use Rattle.checker.specs.ObjectLines.{row_of}
 use Rattle.check_load.specs.Views.{loaded_view, loaded_views}
@@ -39,12 +39,12 @@ rows_front os k o within read =
     at_drop_more (λ (xs : List Loaded). object_rows k (loaded_views xs)) os k o within
     ∙ ap (λ (y : Loaded). row_of k (loaded_view y) ∷ object_rows (k + 1) (loaded_views (drop (k + 1) os))) (sym read)
 
-pub rows_length : (lines : List ObjectLine) (os : List Loaded) → map object_row lines ≡ object_rows 0 (loaded_views os) → length lines ≡ length os
+pub rows_length : (lines : List BorrowedObject) (os : List Loaded) → map object_row lines ≡ object_rows 0 (loaded_views os) → length lines ≡ length os
 rows_length lines os e =
     sym (length-map lines object_row) ∙ (ap length e ∙ (length-object_rows 0 (loaded_views os) ∙ length-map os loaded_view))
 
 pub facts_front :
-    (lines : List PlaceLine) (k : ℕ) (x : PlaceLine) → k < length lines → x ≡ get_or lines k x →
+    (lines : List BorrowedPlace) (k : ℕ) (x : BorrowedPlace) → k < length lines → x ≡ get_or lines k x →
     map facts_of_row (map place_row (drop k lines)) ≡ facts_of_row (place_row x) ∷ map facts_of_row (map place_row (drop (k + 1) lines))
 facts_front lines k x within read = ap (map facts_of_row) (map_front place_row lines k x within read)
 

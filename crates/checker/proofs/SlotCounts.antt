@@ -9,8 +9,9 @@ use Rattle.std.proofs.lemmas.List.Recursion.{is_count_by}
 use Rattle.std.proofs.lemmas.List.Folds.{Any-from_list_any, list_any-from_Any}
 use Rattle.elf_model.proofs.Listed.{All-from_contains, All-unmap}
 use Rattle.elf_model.specs.Loading.{LoadedObject}
-use Rattle.elf_model.specs.MapRecord.{SlotRow, slot_row}
-use Rattle.elf_model.specs.declared.link_map.SlotLine.{SlotLine}
+use Rattle.elf_model.specs.MapRecord.{SlotRow}
+use Rattle.linkmap.specs.Borrowed.{slot_row}
+use Rattle.linkmap.specs.declared.borrowed.BorrowedSlot.{BorrowedSlot}
 use Rattle.elf_model.specs.Slots.{Request, is_slot_of, requests, row_request, same_request}
 use Rattle.checker.specs.Got.{HaveSlots}
 use Rattle.check_relocs.specs.Needs.{AreNeeds}
@@ -173,7 +174,7 @@ module _ (rows : List SlotRow) (objects : List LoadedObject) where
 module _ (needs : Needs) (objects : List LoadedObject) (are : AreNeeds objects needs) where
   -- all lines' slots are asked for
   pub rows_asked :
-      (lines : List SlotLine) (rows : List SlotRow) → map slot_row lines ≡ rows →
+      (lines : List BorrowedSlot) (rows : List SlotRow) → map slot_row lines ≡ rows →
       All (λ line. is_asked needs.requests (row_request (slot_row line)) ≡ true) lines → All (λ row. wanted rows objects (row_request row) ≡ true) rows
   rows_asked lines rows same all =
       subst (All (λ (row : SlotRow). wanted rows objects (row_request row) ≡ true)) same
@@ -181,7 +182,7 @@ module _ (needs : Needs) (objects : List LoadedObject) (are : AreNeeds objects n
       (λ k d low. sym (are.slots (row_request (slot_row (get_or lines k d)))) ∙ all k d low))
 
   pub asked_rows :
-      (lines : List SlotLine) (rows : List SlotRow) → map slot_row lines ≡ rows →
+      (lines : List BorrowedSlot) (rows : List SlotRow) → map slot_row lines ≡ rows →
       All (λ row. wanted rows objects (row_request row) ≡ true) rows → All (λ line. is_asked needs.requests (row_request (slot_row line)) ≡ true) lines
   asked_rows lines rows same all =
       let mapped = All-unmap (λ (row : SlotRow). wanted rows objects (row_request row) ≡ true) slot_row lines (subst (All (λ (row : SlotRow). wanted rows objects (row_request row) ≡ true)) (sym same) all) in

@@ -4,7 +4,8 @@ use Rattle.std.specs.List.{flat_map}
 use Rattle.std.specs.Prelude.{All, IfSome, IsTrue, is_some}
 use Rattle.elf_model.proofs.Listed.{All-unmap}
 use Rattle.elf_model.proofs.Rests.{Left}
-use Rattle.elf_model.specs.MapRecord.{SymbolRow, symbol_row}
+use Rattle.elf_model.specs.MapRecord.{SymbolRow}
+use Rattle.linkmap.specs.Borrowed.{symbol_row}
 use Rattle.elf_model.specs.MapText.{Ascends, SymbolBefore}
 use Rattle.elf_model.specs.Meaning.{Meaning}
 use Rattle.elf_model.specs.MemoryImage.{HasNoSections, file_end, loads}
@@ -12,7 +13,7 @@ use Rattle.elf_model.specs.Placement.{Where, round_up}
 use Rattle.elf_model.specs.Records.{file_header, section_header_bytes}
 use Rattle.elf_model.specs.RightLink.{AreSymbolsListed, AreTablesRight, HoldsTables, Subject, objects_of, tabled_of, where_of}
 use Rattle.elf_model.specs.SymbolTable.{entry_count, headers_at, name_section, section_names, symbol_section, tabled, shstrtab_end, symtab_at, table_headers}
-use Rattle.elf_model.specs.declared.link_map.SymbolLine.{SymbolLine}
+use Rattle.linkmap.specs.declared.borrowed.BorrowedSymbol.{BorrowedSymbol}
 use Rattle.elf_model.specs.declared.link_map.SymtabLine.{SymtabLine}
 use Rattle.elf_model.specs.declared.records.FileHeader.{FileHeader}
 use Rattle.check_relocs.specs.Bindings.{Bound, bound_of}
@@ -154,7 +155,7 @@ none_right s header t none asked eh same = (
 
 -- each line of the map is that of what its name means
 pub lines_are :
-    (s : Subject) (b : Bound) (lines : List SymbolLine) → b ≡ bound_of s → map symbol_row lines ≡ s.map.symbols →
+    (s : Subject) (b : Bound) (lines : List BorrowedSymbol) → b ≡ bound_of s → map symbol_row lines ≡ s.map.symbols →
     Ascends SymbolBefore s.map.symbols → AreSymbolsListed s → All (λ line. IsLine b.objects b.places (symbol_row line)) lines
 lines_are s b lines eb er ascend listed =
     All-unmap (IsLine b.objects b.places) symbol_row lines

@@ -4,15 +4,15 @@ use Rattle.std.specs.Prelude.{IfSome}
 use Rattle.std.proofs.lemmas.List.{append_assoc, drop_all, length-append}
 use Rattle.elf_model.proofs.Rests.{Left, rest_at}
 use Rattle.elf_model.specs.Loading.{LoadedObject}
-use Rattle.elf_model.specs.MapRecord.{symbol_row}
+use Rattle.linkmap.specs.Borrowed.{symbol_row}
 use Rattle.elf_model.specs.Meaning.{Meaning, meaning_name}
 use Rattle.elf_model.specs.Placement.{Where}
 use Rattle.elf_model.specs.SymbolTable.{ended, name_section, tabled}
-use Rattle.elf_model.specs.declared.link_map.SymbolLine.{SymbolLine}
+use Rattle.linkmap.specs.declared.borrowed.BorrowedSymbol.{BorrowedSymbol}
 use Rattle.checker.specs.Tabled.{AreLeft, ended_names}
 use Rattle.checker.proofs.TableEntries.{tabled_more}
 
-abbrev pub line_tabled : List LoadedObject → List SymbolLine → List Meaning
+abbrev pub line_tabled : List LoadedObject → List BorrowedSymbol → List Meaning
 line_tabled objects lines = tabled objects (map symbol_row lines)
 
 -- the bytes of the name of one definition
@@ -29,7 +29,7 @@ names_append (d ∷ ds) ms =
     ap (λ (xs : List ℕ). ended (meaning_name d) ++ xs) (names_append ds ms) ∙ sym (append_assoc (ended (meaning_name d)) (ended_names ds) (ended_names ms))
 
 module _
-    (objects : List LoadedObject) (lines : List SymbolLine) (i : ℕ) (x : SymbolLine) (within : i < length lines) (is : x ≡ get_or lines i x)
+    (objects : List LoadedObject) (lines : List BorrowedSymbol) (i : ℕ) (x : BorrowedSymbol) (within : i < length lines) (is : x ≡ get_or lines i x)
   where
     abbrev pub here : List Meaning
     here = tabled objects (symbol_row x ∷ [])
@@ -40,7 +40,7 @@ module _
     pub lines_split : line_tabled objects (drop i lines) ≡ here ++ later
     lines_split =
         ap (line_tabled objects) (rest_at lines i x within)
-        ∙ (ap (λ (y : SymbolLine). tabled objects (symbol_row y ∷ map symbol_row (drop (i + 1) lines))) (sym is)
+        ∙ (ap (λ (y : BorrowedSymbol). tabled objects (symbol_row y ∷ map symbol_row (drop (i + 1) lines))) (sym is)
         ∙ tabled_more objects (symbol_row x) (map symbol_row (drop (i + 1) lines)))
 
     pub names_split : length (ended_names (line_tabled objects (drop i lines))) ≡ length (ended_names here) + length (ended_names later)
@@ -60,7 +60,7 @@ left_step Q P w entries names name_at ms ds es others q e p = (
 
 -- and after the last, where no entries are left or some are
 module _
-    (Q : Type 0) (w : Where) (objects : List LoadedObject) (lines : List SymbolLine) (i : ℕ) (past : length lines ≤ i)
+    (Q : Type 0) (w : Where) (objects : List LoadedObject) (lines : List BorrowedSymbol) (i : ℕ) (past : length lines ≤ i)
     (entries names : List ℕ) (name_at : ℕ) (others : List ℕ) (q : Left Q (AreLeft w entries names name_at (line_tabled objects (drop i lines)) others))
   where
     none_after : line_tabled objects (drop i lines) ≡ []
@@ -78,8 +78,8 @@ module _
     left_over some a = some (subst (λ (xs : List Meaning). AreLeft w entries names name_at xs others) none_after (q.0 a)).entries_are
 
 pub names_end :
-    (objects : List LoadedObject) (lines : List SymbolLine) (i : ℕ) → length lines ≤ i → length (ended_names (line_tabled objects (drop i lines))) ≡ 0
-names_end objects lines i past = ap (λ (ys : List SymbolLine). length (ended_names (line_tabled objects ys))) (drop_all i lines past)
+    (objects : List LoadedObject) (lines : List BorrowedSymbol) (i : ℕ) → length lines ≤ i → length (ended_names (line_tabled objects (drop i lines))) ≡ 0
+names_end objects lines i past = ap (λ (ys : List BorrowedSymbol). length (ended_names (line_tabled objects ys))) (drop_all i lines past)
 
 -- the offset after the last name, from the first NUL on
 pub end_of_names :

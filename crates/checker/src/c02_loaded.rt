@@ -1,6 +1,6 @@
 //! C2: whether the map's object lines are those of the objects that were loaded.
 ghost use Rattle.std.specs.Prelude.{◌≡◌, ◌↔◌, IsTrue, map};
-ghost use Rattle.elf_model.specs.MapRecord.{object_row};
+ghost use Rattle.linkmap.specs.Borrowed.{object_row};
 ghost use Rattle.elf_model.specs.RightLink.{IsLoaded, object_rows, objects_of};
 ghost use Rattle.check_load.specs.Plans.{CanLoad};
 ghost use Rattle.check_load.specs.Views.{loaded_view, loaded_views};
@@ -8,10 +8,10 @@ ghost use Rattle.checker.specs.ObjectLines.{row_of};
 
 use check_link::Link;
 use check_load::Loaded;
-use elf_model::ObjectLine;
+use linkmap::BorrowedObject;
 
 /// Whether an object line says of object `number` what was loaded.
-pub fn is_line_of(line: &ObjectLine, number: u64, object: &Loaded<'_>) -> bool
+pub fn is_line_of(line: &BorrowedObject<'_>, number: u64, object: &Loaded<'_>) -> bool
     ensures { IsTrue result ↔ (object_row line.now ≡ row_of number (loaded_view object.now)) }
 {
     if line.object != number || line.item != object.item {
@@ -21,7 +21,7 @@ pub fn is_line_of(line: &ObjectLine, number: u64, object: &Loaded<'_>) -> bool
 }
 
 /// Whether the object lines are those of the objects, in order.
-fn are_lines_of(lines: &[ObjectLine], objects: &[Loaded<'_>]) -> bool
+fn are_lines_of(lines: &[BorrowedObject<'_>], objects: &[Loaded<'_>]) -> bool
     ensures { IsTrue result ↔ (map object_row lines.now
         ≡ object_rows 0 (loaded_views objects.now)) }
 {

@@ -1,7 +1,7 @@
 //! C3: whether kept sections have lawful kinds, common symbols are sound, and the drop, place and common lines of the map
 //! are those of the objects.
 ghost use Rattle.std.specs.Prelude.{◌≡◌, ◌↔◌, IfOk, IsTrue, map};
-ghost use Rattle.elf_model.specs.MapRecord.{place_row};
+ghost use Rattle.linkmap.specs.Borrowed.{place_row};
 ghost use Rattle.elf_model.specs.RightLink.{Holds, drop_rows, facts_of_piece, facts_of_row, objects_of};
 ghost use Rattle.elf_model.specs.declared.verdict.Clause.TheVariants as clause;
 ghost use Rattle.check_link.specs.Views.{piece_view, piece_views};
@@ -10,14 +10,15 @@ use crate::c03_sections::drops::{are_drops, drops_of};
 use crate::c03_sections::kinds::are_lawful_kinds;
 use crate::loaded_link::LoadedLink;
 use check_link::Piece;
-use elf_model::{DropLine, PlaceLine};
+use elf_model::DropLine;
+use linkmap::BorrowedPlace;
 use std::alloc::{AllocError, Global};
 
 pub mod drops;
 mod kinds;
 
 /// Whether a place line says of a piece what it is.
-pub fn is_line_of(line: &PlaceLine, piece: &Piece<'_>) -> bool
+pub fn is_line_of(line: &BorrowedPlace<'_>, piece: &Piece<'_>) -> bool
     ensures { IsTrue result ↔ (facts_of_row (place_row line.now)
         ≡ facts_of_piece (piece_view piece.now)) }
 {
@@ -28,7 +29,7 @@ pub fn is_line_of(line: &PlaceLine, piece: &Piece<'_>) -> bool
 }
 
 /// Whether the place lines are those of the pieces, in order, but for addresses.
-fn are_lines_of(lines: &[PlaceLine], pieces: &[Piece<'_>]) -> bool
+fn are_lines_of(lines: &[BorrowedPlace<'_>], pieces: &[Piece<'_>]) -> bool
     ensures { IsTrue result ↔ (map facts_of_row (map place_row lines.now)
         ≡ map facts_of_piece (piece_views pieces.now)) }
 {

@@ -1,7 +1,7 @@
 //! C7: whether the global offset table stands where a relocation asks for one, with a slot for each request and no other.
 ghost use Rattle.std.specs.Prelude.{◌≡◌, ◌↔◌, All, IfOk, IfSome, IsTrue, true};
 ghost use Rattle.std.specs.List.{list_any};
-ghost use Rattle.elf_model.specs.MapRecord.{slot_row};
+ghost use Rattle.linkmap.specs.Borrowed.{slot_row};
 ghost use Rattle.elf_model.specs.RightLink.{Holds, HoldsBefore, HoldsGot, objects_of, where_of};
 ghost use Rattle.elf_model.specs.Slots.{is_slot_of, row_request};
 ghost use Rattle.checker.specs.Got.{HaveSlots, LiesInImage};
@@ -13,7 +13,7 @@ use crate::bound_link::BoundLink;
 use crate::c07_got::got_bytes::holds_got;
 use check_link::{Request, RequestSet, SlotTable, request_of_line};
 use check_relocs::{Bindings, Needs, needs_of};
-use elf_model::SlotLine;
+use linkmap::BorrowedSlot;
 use std::alloc::{AllocError, Global};
 
 mod got_bytes;
@@ -40,14 +40,14 @@ pub fn holds(alloc: Global, bound: &BoundLink<'_, '_>) -> Result<bool, AllocErro
 }
 
 /// Whether a line's slot is one of those that are asked for.
-fn is_asked<'a>(requests: &RequestSet<'a>, line: &'a SlotLine) -> bool
+fn is_asked<'a>(requests: &RequestSet<'a>, line: &'a BorrowedSlot<'a>) -> bool
     ensures { result ≡ is_asked requests.now (row_request (slot_row line.entry.now)) }
 {
     requests.has(&request_of_line(line))
 }
 
 /// Whether all lines' slots are asked for.
-fn are_asked<'a>(requests: &RequestSet<'a>, lines: &'a [SlotLine]) -> bool
+fn are_asked<'a>(requests: &RequestSet<'a>, lines: &'a [BorrowedSlot<'a>]) -> bool
     ensures { IsTrue result ↔ All
         (λ line. is_asked requests.now (row_request (slot_row line)) ≡ true) lines.entry.now }
 {

@@ -1,10 +1,11 @@
 //! C13: whether the symbols are sound, no name has two strong definitions, and the symbol lines are those that the names
 //! ask for.
 ghost use Rattle.std.specs.Prelude.{◌≡◌, ◌+◌, ◌↔◌, ◌≤◌, ℕ, List, All, IfOk, IfSome, IsSome, IsTrue, [], ◌∷◌, false, filter, length, map, option_map, Some, true};
+ghost use Rattle.std.specs.Cow.{cow_slice_items};
 ghost use Rattle.std.specs.List.{slice_get};
 ghost use Rattle.elf_model.specs.ChosenSymbols.{is_chosen};
 ghost use Rattle.elf_model.specs.Listing.{linker_line};
-ghost use Rattle.elf_model.specs.MapRecord.{symbol_row};
+ghost use Rattle.linkmap.specs.Borrowed.{symbol_row};
 ghost use Rattle.elf_model.specs.Meaning.{Symbol, meaning_name, meanings_of, meant_list, object_meaning};
 ghost use Rattle.elf_model.specs.declared.link_map.Definition.TheVariants as definition;
 ghost use Rattle.elf_model.specs.MapText.{Ascends, SymbolBefore};
@@ -20,7 +21,8 @@ use crate::bound_link::BoundLink;
 use crate::c13_symbols::own_choices::OwnChoices;
 use check_link::{Meaning, SymbolOf, is_strong};
 use check_relocs::{Bindings, linker_lines, used_names};
-use elf_model::{Definition, STB_WEAK, SymbolLine};
+use elf_model::{Definition, STB_WEAK};
+use linkmap::BorrowedSymbol;
 use std::alloc::{AllocError, Global};
 use std::collections::BTreeSet;
 
@@ -178,7 +180,11 @@ fn is_linkers(told: Definition) -> bool
 }
 
 /// Whether a line has a definition's name, names it as what it is and gives its value.
-fn is_line_of(bindings: &Bindings<'_, '_, '_>, meaning: &Meaning<'_>, line: &SymbolLine) -> bool
+fn is_line_of(
+    bindings: &Bindings<'_, '_, '_>,
+    meaning: &Meaning<'_>,
+    line: &BorrowedSymbol<'_>,
+) -> bool
     ensures { IsTrue result ↔ (symbol_row line.now
         ≡ symbol_row_of bindings.now.places (meaning_view meaning.now)) }
 {
@@ -195,12 +201,12 @@ fn is_line_of(bindings: &Bindings<'_, '_, '_>, meaning: &Meaning<'_>, line: &Sym
 fn is_linkers_line(
     bindings: &Bindings<'_, '_, '_>,
     names: &BTreeSet<&[u8]>,
-    line: &SymbolLine,
+    line: &BorrowedSymbol<'_>,
 ) -> bool
     requires { AreUsed bindings.now.objects names.now }
     ensures { IsTrue result
         ↔ (option_map (symbol_row_of bindings.now.places)
-        (linker_line bindings.now.objects line.now.name.items) ≡ Some (symbol_row line.now)) }
+        (linker_line bindings.now.objects (cow_slice_items line.now.name)) ≡ Some (symbol_row line.now)) }
 {
     if !names.contains(line.name.as_slice()) {
         return false;
@@ -219,11 +225,11 @@ fn is_line_of_name(
     bindings: &Bindings<'_, '_, '_>,
     names: &BTreeSet<&[u8]>,
     meaning: &Option<Meaning<'_>>,
-    line: &SymbolLine,
+    line: &BorrowedSymbol<'_>,
 ) -> bool
     requires names { AreUsed bindings.now.objects names.now }
     requires meaning { option_map meaning_view meaning.now
-        ≡ object_meaning bindings.now.objects line.now.name.items }
+        ≡ object_meaning bindings.now.objects (cow_slice_items line.now.name) }
     ensures { IsTrue result ↔ IsLine bindings.now.objects bindings.now.places
         (symbol_row line.now) }
 {
@@ -237,7 +243,7 @@ fn is_line_of_name(
 pub fn is_right_line(
     bindings: &Bindings<'_, '_, '_>,
     names: &BTreeSet<&[u8]>,
-    line: &SymbolLine,
+    line: &BorrowedSymbol<'_>,
 ) -> bool
     requires { AreUsed bindings.now.objects names.now }
     ensures { IsTrue result ↔ IsLine bindings.now.objects bindings.now.places
@@ -251,11 +257,11 @@ pub fn is_right_line(
 fn meaning_of_line<'a>(
     bindings: &Bindings<'_, '_, 'a>,
     choices: &OwnChoices<'_, 'a>,
-    line: &SymbolLine,
+    line: &BorrowedSymbol<'_>,
 ) -> Option<Meaning<'a>>
     requires { choices.now ≡ bindings.now.objects }
     ensures { option_map meaning_view result
-        ≡ object_meaning bindings.now.objects line.now.name.items }
+        ≡ object_meaning bindings.now.objects (cow_slice_items line.now.name) }
 {
     match choices.find(line) {
         Some(symbol) => bindings.meant(symbol),
@@ -268,7 +274,7 @@ fn is_right_by<'a>(
     bindings: &Bindings<'_, '_, 'a>,
     names: &BTreeSet<&[u8]>,
     choices: &OwnChoices<'_, 'a>,
-    line: &SymbolLine,
+    line: &BorrowedSymbol<'_>,
 ) -> bool
     requires names { AreUsed bindings.now.objects names.now }
     requires choices { choices.now ≡ bindings.now.objects }
@@ -283,7 +289,7 @@ fn are_right_lines<'a>(
     bindings: &Bindings<'_, '_, 'a>,
     names: &BTreeSet<&[u8]>,
     choices: &OwnChoices<'_, 'a>,
-    lines: &[SymbolLine],
+    lines: &[BorrowedSymbol<'_>],
 ) -> bool
     requires names { AreUsed bindings.now.objects names.now }
     requires choices { choices.now ≡ bindings.now.objects }
@@ -309,7 +315,7 @@ fn is_sum(whole: usize, a: usize, b: usize) -> bool
 fn are_symbols_listed(
     alloc: Global,
     bindings: &Bindings<'_, '_, '_>,
-    lines: &[SymbolLine],
+    lines: &[BorrowedSymbol<'_>],
 ) -> Result<bool, AllocError>
     requires { Ascends SymbolBefore (map symbol_row lines.now) }
     ensures { let L = bindings.now.objects in IfOk result

@@ -1,7 +1,7 @@
 //! C14: whether the map tells of a symbol table where it has to, and the image has that table and its sections after
 //! its last file part, or no sections. All is compared in place, and each line's name is looked up once.
 ghost use Rattle.std.specs.Prelude.{◌≡◌, ◌↔◌, ◌*◌, ◌<◌, ◌≤◌, ◌^◌, ℕ, All, List, IfSome, IsSomeAnd, IsTrue, is_some, length, map, not};
-ghost use Rattle.elf_model.specs.MapRecord.{symbol_row};
+ghost use Rattle.linkmap.specs.Borrowed.{symbol_row};
 ghost use Rattle.elf_model.specs.MemoryImage.{HasNoSections, loads, file_end};
 ghost use Rattle.elf_model.specs.Records.{file_header};
 ghost use Rattle.elf_model.specs.RightLink.{Holds, HoldsBefore, HoldsTables};
@@ -16,7 +16,8 @@ use crate::c14_tables::places::{are_end, eight_up, places_of};
 use crate::c14_tables::strip::strip_zeros;
 use crate::segments::file_end;
 use check_relocs::Bindings;
-use elf_model::{FileHeader, SymbolLine, SymtabLine};
+use elf_model::{FileHeader, SymtabLine};
+use linkmap::BorrowedSymbol;
 
 pub mod entries;
 pub mod lines;
@@ -56,7 +57,7 @@ pub fn has_no_sections(header: &FileHeader) -> bool
 /// stripped.
 fn strip_tables<'b>(
     bindings: &Bindings<'_, '_, '_>,
-    lines: &[SymbolLine],
+    lines: &[BorrowedSymbol<'_>],
     bytes: &'b [u8],
     padding: usize,
     count: u64,

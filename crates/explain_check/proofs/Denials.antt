@@ -10,7 +10,7 @@ use Rattle.elf_model.specs.MemoryImage.{loads, thread_blocks}
 use Rattle.elf_model.specs.Pieces.{is_thread_zero, kept_sections}
 use Rattle.elf_model.specs.Placement.{AreApart, HasRights, IsNear, IsPlaced, IsWithin, LiesInSegment, Placed, got_things, headers_thing, is_thread_place, thing_of, thread_ranges}
 use Rattle.elf_model.specs.RightLink.{AreSectionsListed, AreSymbolsListed, AreTablesRight, EndsRight, Holds, HoldsInitial, HoldsPiece, HoldsTables, IsClearOf, IsLoaded, Subject, facts_of_piece, facts_of_row, objects_of, placed_of, symbol_row_of, things_of, thread_data_end, where_of}
-use Rattle.elf_model.specs.MapRecord.{symbol_row}
+use Rattle.linkmap.specs.Borrowed.{symbol_row}
 use Rattle.elf_model.specs.declared.link_map.GotLine.{GotLine}
 use Rattle.elf_model.specs.declared.link_map.SymtabLine.{SymtabLine}
 use Rattle.elf_model.specs.declared.records.ProgramHeader.{ProgramHeader}

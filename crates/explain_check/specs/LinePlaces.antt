@@ -4,13 +4,14 @@ use Rattle.std.specs.Borrow.{Bor}
 use Rattle.std.specs.List.{slice_get}
 use Rattle.elf_model.specs.Commons.{block_named}
 use Rattle.elf_model.specs.Loading.{LoadedObject}
-use Rattle.elf_model.specs.MapRecord.{CommonRow, ObjectRow, PlaceRow, common_row, object_row, place_row}
+use Rattle.elf_model.specs.MapRecord.{CommonRow, ObjectRow, PlaceRow}
+use Rattle.linkmap.specs.Borrowed.{common_row, object_row, place_row}
 use Rattle.elf_model.specs.Pieces.{kept_sections}
 use Rattle.elf_model.specs.Placement.{is_common_row_of}
 use Rattle.elf_model.specs.RightLink.{HasCommonLine, Subject, drop_rows, facts_of_piece, facts_of_row, object_rows, objects_of}
-use Rattle.elf_model.specs.declared.link_map.CommonLine.{CommonLine}
-use Rattle.elf_model.specs.declared.link_map.ObjectLine.{ObjectLine}
-use Rattle.elf_model.specs.declared.link_map.PlaceLine.{PlaceLine}
+use Rattle.linkmap.specs.declared.borrowed.BorrowedCommon.{BorrowedCommon}
+use Rattle.linkmap.specs.declared.borrowed.BorrowedObject.{BorrowedObject}
+use Rattle.linkmap.specs.declared.borrowed.BorrowedPlace.{BorrowedPlace}
 use Rattle.check_load.specs.Views.{loaded_view}
 use Rattle.check_load.specs.declared.loader.Loaded.{Loaded}
 use Rattle.check_link.specs.Views.{block_view, piece_view}
@@ -20,13 +21,13 @@ use Rattle.explain_check.specs.declared.place.ObjectAt.{ObjectAt}
 use Rattle.explain_check.specs.declared.place.ObjectLinePlace.{ObjectLinePlace}
 use Rattle.explain_check.specs.declared.place.PlaceLinePlace.{PlaceLinePlace}
 
-abbrev pub object_line_view : Bor ObjectLine → ObjectRow
+abbrev pub object_line_view : Bor BorrowedObject → ObjectRow
 object_line_view l = object_row l.now
 
-abbrev pub place_line_view : Bor PlaceLine → PlaceRow
+abbrev pub place_line_view : Bor BorrowedPlace → PlaceRow
 place_line_view l = place_row l.now
 
-abbrev pub common_line_view : Bor CommonLine → CommonRow
+abbrev pub common_line_view : Bor BorrowedCommon → CommonRow
 common_line_view l = common_row l.now
 
 -- a loaded object to which a reference points

@@ -6,15 +6,17 @@ use Rattle.std.specs.Cmp.Lexicographic.{slice_cmp}
 use Rattle.std.specs.List.{slice_get}
 use Rattle.std.specs.Ordering.{nat_cmp}
 use Rattle.std.specs.Str.{bytes_eq}
+use Rattle.std.specs.Cow.{cow_slice_items}
 use Rattle.elf_model.specs.Listing.{listed}
 use Rattle.elf_model.specs.Loading.{LoadedObject}
-use Rattle.elf_model.specs.MapRecord.{SymbolRow, symbol_row}
+use Rattle.elf_model.specs.MapRecord.{SymbolRow}
+use Rattle.linkmap.specs.Borrowed.{symbol_row}
 use Rattle.elf_model.specs.Meaning.{meaning_value, object_meaning}
 use Rattle.elf_model.specs.Placement.{Where}
 use Rattle.elf_model.specs.Records.{file_header}
 use Rattle.elf_model.specs.Resolution.{IsEntry}
 use Rattle.elf_model.specs.RightLink.{EntersRight, Subject, objects_of, symbol_row_of, where_of}
-use Rattle.elf_model.specs.declared.link_map.SymbolLine.{SymbolLine}
+use Rattle.linkmap.specs.declared.borrowed.BorrowedSymbol.{BorrowedSymbol}
 use Rattle.check_link.specs.Views.{meaning_view}
 use Rattle.explain_check.specs.declared.place.EntryPlace.{EntryPlace}
 use Rattle.explain_check.specs.declared.place.MeaningPlace.{MeaningPlace}
@@ -35,8 +37,8 @@ wanted_row s name = option_map (symbol_row_of (where_of s)) (listed (objects_of 
 
 pub record IsWrongLine (s : Subject) (p : SymbolLinePlace) : Type 0 where
   pub line : slice_get s.map.symbols p.number ≡ Some (symbol_row p.line.now)
-  pub wanted : IsMeantIf s p.line.now.name.items p.wanted
-  pub wrong : ¬ (wanted_row s p.line.now.name.items ≡ Some (symbol_row p.line.now))
+  pub wanted : IsMeantIf s (cow_slice_items p.line.now.name) p.wanted
+  pub wrong : ¬ (wanted_row s (cow_slice_items p.line.now.name) ≡ Some (symbol_row p.line.now))
 
 -- a name that asks for a line has none
 abbrev pub is_symbol_row_of : List ℕ → SymbolRow → Bool
@@ -47,13 +49,13 @@ pub record LacksLine (s : Subject) (name : List ℕ) (p : MeaningPlace) : Type 0
   pub none : find (is_symbol_row_of name) s.map.symbols ≡ None
 
 -- an index has for each name the first line of it
-abbrev pub symbol_line_view : Bor SymbolLine → SymbolRow
+abbrev pub symbol_line_view : Bor BorrowedSymbol → SymbolRow
 symbol_line_view line = symbol_row line.now
 
-abbrev pub symbol_in : BTreeMap (Bor (List ℕ)) (Bor SymbolLine) → List ℕ → Option SymbolRow
+abbrev pub symbol_in : BTreeMap (Bor (List ℕ)) (Bor BorrowedSymbol) → List ℕ → Option SymbolRow
 symbol_in index name = option_map symbol_line_view (get_by (λ k. slice_cmp nat_cmp name k.now) index)
 
-abbrev pub IsSymbolIndex : List SymbolRow → BTreeMap (Bor (List ℕ)) (Bor SymbolLine) → Type 0
+abbrev pub IsSymbolIndex : List SymbolRow → BTreeMap (Bor (List ℕ)) (Bor BorrowedSymbol) → Type 0
 IsSymbolIndex rows index = (name : List ℕ) → symbol_in index name ≡ find (is_symbol_row_of name) rows
 
 -- what the entry's name means, with its value modulo 2 ^ 64; None where it has no lawful meaning

@@ -23,9 +23,10 @@ pub fn read_link<'a>(
     files: &'a [InputFile],
     words: &'a [String],
     image: &'a [u8],
-    map: &[u8],
+    map: &'a [u8],
 ) -> Result<Option<Link<'a>>, AllocError>
-    ensures read { IfOk result (λ o. IfSome o (λ l. IsRead (words_of words.entry.now) map.now l)) }
+    ensures read { IfOk result (λ o.
+        IfSome o (λ l. IsRead (words_of words.entry.now) map.entry.now l)) }
     ensures files { IfOk result (λ o. IfSome o (λ l. l.files ≡ files_of files.entry.now)) }
     ensures image { IfOk result (λ o. IfSome o (λ l. l.image ≡ image.entry.now)) }
 {

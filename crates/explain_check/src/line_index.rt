@@ -1,18 +1,18 @@
 //! The map's symbol lines, found by their names.
 ghost use Rattle.std.specs.Prelude.{◌≡◌, ℕ, IfOk, IsTrue, List, None, OnOk, Some, cond, find, map};
 ghost use Rattle.std.specs.Option.{option_or};
-ghost use Rattle.elf_model.specs.MapRecord.{symbol_row};
+ghost use Rattle.linkmap.specs.Borrowed.{symbol_row};
 ghost use Rattle.explain_check.specs.SymbolPlaces.{IsSymbolIndex, is_symbol_row_of, symbol_in};
 
 use check_link::Link;
-use elf_model::SymbolLine;
+use linkmap::BorrowedSymbol;
 use std::alloc::{AllocError, Global};
 use std::collections::BTreeMap;
 
 /// Puts a line into an index by names, unless one of its name is there.
 fn add_line<'m>(
-    index: &mut BTreeMap<&'m [u8], &'m SymbolLine>,
-    line: &'m SymbolLine,
+    index: &mut BTreeMap<&'m [u8], &'m BorrowedSymbol<'m>>,
+    line: &'m BorrowedSymbol<'m>,
 ) -> Result<(), AllocError>
     ensures { OnOk result ((name : List ℕ) →
         symbol_in index.new name
@@ -30,8 +30,8 @@ fn add_line<'m>(
 /// The first of symbol lines of each name.
 pub fn index_symbols<'m>(
     alloc: Global,
-    lines: &'m [SymbolLine],
-) -> Result<BTreeMap<&'m [u8], &'m SymbolLine>, AllocError>
+    lines: &'m [BorrowedSymbol<'m>],
+) -> Result<BTreeMap<&'m [u8], &'m BorrowedSymbol<'m>>, AllocError>
     ensures { IfOk result (IsSymbolIndex (map symbol_row lines.entry.now)) }
 {
     let mut index = BTreeMap::new(alloc);
@@ -42,7 +42,11 @@ pub fn index_symbols<'m>(
 }
 
 /// Whether the map of a link has no symbol line of a name.
-pub fn lacks<'a>(link: &Link<'a>, index: &BTreeMap<&'a [u8], &'a SymbolLine>, name: &[u8]) -> bool
+pub fn lacks<'a>(
+    link: &Link<'a>,
+    index: &BTreeMap<&'a [u8], &'a BorrowedSymbol<'a>>,
+    name: &[u8],
+) -> bool
     requires { IsSymbolIndex link.now.map.symbols index.now }
     ensures { IsTrue result → find (is_symbol_row_of name.now) link.now.map.symbols ≡ None }
 {

@@ -1,7 +1,7 @@
 //! C2: object lines that are others than those of the objects that are loaded.
 ghost use Rattle.std.specs.Prelude.{◌≡◌, ◌↔◌, ℕ, IfSome, IsTrue, OnOk, option_map};
 ghost use Rattle.std.specs.List.{slice_get};
-ghost use Rattle.elf_model.specs.MapRecord.{object_row};
+ghost use Rattle.linkmap.specs.Borrowed.{object_row};
 ghost use Rattle.elf_model.specs.RightLink.{object_rows, objects_of};
 ghost use Rattle.check_load.specs.Views.{loaded_views};
 ghost use Rattle.checker.specs.ObjectLines.{row_of};
@@ -12,7 +12,7 @@ use crate::found::Found;
 use crate::place::{CheckPlace, ObjectAt, ObjectLinePlace};
 use check_link::Link;
 use check_load::Loaded;
-use elf_model::ObjectLine;
+use linkmap::BorrowedObject;
 use std::alloc::AllocError;
 
 /// The loaded object that has a number.
@@ -46,7 +46,7 @@ fn object_at<'a>(objects: &[Loaded<'a>], k: usize) -> Option<ObjectAt<'a>>
 }
 
 /// Whether a line says of object `number` what is loaded.
-fn is_line_of(line: &ObjectLine, number: u64, object: &ObjectAt<'_>) -> bool
+fn is_line_of(line: &BorrowedObject<'_>, number: u64, object: &ObjectAt<'_>) -> bool
     ensures { IsTrue result ↔ (object_row line.now ≡ row_at number object.now) }
 {
     if line.object != number || line.item != object.item {
@@ -56,7 +56,7 @@ fn is_line_of(line: &ObjectLine, number: u64, object: &ObjectAt<'_>) -> bool
 }
 
 /// Whether a line, if there is one, says of object `number`, if there is one, what is loaded.
-fn agree(line: Option<&ObjectLine>, number: u64, object: Option<ObjectAt<'_>>) -> bool
+fn agree(line: Option<&BorrowedObject<'_>>, number: u64, object: Option<ObjectAt<'_>>) -> bool
     ensures { IsTrue result ↔ (option_map object_line_view line.entry
         ≡ option_map (row_at number) object.entry) }
 {

@@ -2,11 +2,9 @@
 
 use crate::memory_place::{BytePlace, FillPlace, GotBytePlace, RelocationPlace, SegmentPlace};
 use check_link::{Block, Meaning, Piece, Placed, Request};
-use elf_model::{
-    Clause, CommonLine, DropLine, GotLine, ObjectLine, PlaceLine, ProgramHeader, SymbolLine,
-    SymtabLine, Thing,
-};
+use elf_model::{Clause, DropLine, GotLine, ProgramHeader, SymtabLine, Thing};
 use input_names::RelocationFault;
+use linkmap::{BorrowedCommon, BorrowedObject, BorrowedPlace, BorrowedSymbol};
 
 /// What takes up addresses.
 #[derive(Clone, Copy, Debug)]
@@ -51,7 +49,7 @@ pub struct MeaningPlace<'a> {
 #[derive(Clone, Copy, Debug)]
 pub struct SymbolLinePlace<'a> {
     pub number: u64,
-    pub line: &'a SymbolLine,
+    pub line: &'a BorrowedSymbol<'a>,
     pub wanted: Option<MeaningPlace<'a>>,
 }
 
@@ -67,7 +65,7 @@ pub struct ObjectAt<'a> {
 #[derive(Clone, Copy, Debug)]
 pub struct ObjectLinePlace<'a> {
     pub number: u64,
-    pub line: Option<&'a ObjectLine>,
+    pub line: Option<&'a BorrowedObject<'a>>,
     pub wanted: Option<ObjectAt<'a>>,
 }
 
@@ -83,7 +81,7 @@ pub struct DropLinePlace {
 #[derive(Clone, Copy, Debug)]
 pub struct PlaceLinePlace<'a> {
     pub number: u64,
-    pub line: Option<&'a PlaceLine>,
+    pub line: Option<&'a BorrowedPlace<'a>>,
     pub wanted: Option<Piece<'a>>,
 }
 
@@ -91,7 +89,7 @@ pub struct PlaceLinePlace<'a> {
 #[derive(Clone, Copy, Debug)]
 pub struct CommonLinePlace<'a> {
     pub name: &'a [u8],
-    pub line: Option<&'a CommonLine>,
+    pub line: Option<&'a BorrowedCommon<'a>>,
     pub block: Option<Block<'a>>,
 }
 

@@ -12,7 +12,8 @@ use check_link::Piece;
 use checker::LoadedLink;
 use checker::c03_sections::drops::is_drop;
 use checker::c03_sections::is_line_of;
-use elf_model::{DropLine, PlaceLine};
+use elf_model::DropLine;
+use linkmap::BorrowedPlace;
 
 /// Whether two drop lines, as far as there are such, are the same.
 fn are_same(line: &Option<DropLine>, wanted: &Option<DropLine>) -> bool
@@ -47,7 +48,7 @@ pub fn wrong_drop<'a>(
 }
 
 /// Whether a place line, if there is one, says of a section, if there is one, what it is.
-fn agree(line: Option<&PlaceLine>, piece: &Option<Piece<'_>>) -> bool
+fn agree(line: Option<&BorrowedPlace<'_>>, piece: &Option<Piece<'_>>) -> bool
     ensures { IsTrue result ↔ (option_map facts_of_row (option_map place_line_view line.entry)
         ≡ option_map facts_of_piece (option_map piece_view piece.now)) }
 {

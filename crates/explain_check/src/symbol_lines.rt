@@ -15,7 +15,7 @@ use check_link::{Meaning, SymbolOf};
 use check_relocs::{Bindings, used_names};
 use checker::BoundLink;
 use checker::c13_symbols::is_right_line;
-use elf_model::SymbolLine;
+use linkmap::BorrowedSymbol;
 use std::alloc::{AllocError, Global};
 use std::collections::{BTreeMap, BTreeSet};
 
@@ -116,7 +116,7 @@ fn add_wrong_lines<'a>(
 fn missing<'a>(
     bound: &BoundLink<'_, 'a>,
     names: &BTreeSet<&'a [u8]>,
-    index: &BTreeMap<&'a [u8], &'a SymbolLine>,
+    index: &BTreeMap<&'a [u8], &'a BorrowedSymbol<'a>>,
     name: &'a [u8],
 ) -> Option<CheckPlace<'a>>
     requires names { AreUsed (objects_of bound.now) names.now }
@@ -136,7 +136,7 @@ fn missing<'a>(
 fn missing_definition<'a>(
     bound: &BoundLink<'_, 'a>,
     names: &BTreeSet<&'a [u8]>,
-    index: &BTreeMap<&'a [u8], &'a SymbolLine>,
+    index: &BTreeMap<&'a [u8], &'a BorrowedSymbol<'a>>,
     symbol: &SymbolOf<'a>,
 ) -> Option<CheckPlace<'a>>
     requires names { AreUsed (objects_of bound.now) names.now }
@@ -154,7 +154,7 @@ fn add_missing_definitions<'a>(
     found: &mut Found<'a>,
     bound: &BoundLink<'_, 'a>,
     names: &BTreeSet<&'a [u8]>,
-    index: &BTreeMap<&'a [u8], &'a SymbolLine>,
+    index: &BTreeMap<&'a [u8], &'a BorrowedSymbol<'a>>,
 ) -> Result<(), AllocError>
     requires names { AreUsed (objects_of bound.now) names.now }
     requires index { IsSymbolIndex bound.now.map.symbols index.now }
@@ -172,7 +172,7 @@ fn add_missing_names<'a>(
     found: &mut Found<'a>,
     bound: &BoundLink<'_, 'a>,
     names: &BTreeSet<&'a [u8]>,
-    index: &BTreeMap<&'a [u8], &'a SymbolLine>,
+    index: &BTreeMap<&'a [u8], &'a BorrowedSymbol<'a>>,
 ) -> Result<(), AllocError>
     requires names { AreUsed (objects_of bound.now) names.now }
     requires index { IsSymbolIndex bound.now.map.symbols index.now }

@@ -1,7 +1,7 @@
 //! The bytes that an image's symbol table should have (System V gABI 4, "Symbol Table", "String Table", "Sections").
 ghost use Rattle.std.specs.Prelude.{◌≡◌, ◌-◌, ◌<◌, ◌≤◌, ◌^◌, ◌++◌, ◌∷◌, [], All, IfOk, IfSome, List, OnOk, length, map, replicate};
 ghost use Rattle.std.specs.List.{flat_map};
-ghost use Rattle.elf_model.specs.MapRecord.{symbol_row};
+ghost use Rattle.linkmap.specs.Borrowed.{symbol_row};
 ghost use Rattle.elf_model.specs.Meaning.{Meaning};
 ghost use Rattle.elf_model.specs.Placement.{Where, round_up};
 ghost use Rattle.elf_model.specs.Records.{section_header_bytes, symbol_bytes};
@@ -14,7 +14,8 @@ ghost use Rattle.explain_check.specs.TablePlaces.{AreBuilt, HasAdded};
 use check_relocs::Bindings;
 use checker::c14_tables::entries::entry_of_line;
 use checker::c14_tables::places::{Places, headers_of};
-use elf_model::{SHDR_SIZE, SYM_SIZE, SectionHeader, Symbol, SymbolLine};
+use elf_model::{SHDR_SIZE, SYM_SIZE, SectionHeader, Symbol};
+use linkmap::BorrowedSymbol;
 use std::alloc::{AllocError, Global};
 
 /// The contents of `.symtab` and of `.strtab`, and the names of the entries from the second on.
@@ -103,7 +104,7 @@ fn add_entry<'a>(
 fn add_line<'a>(
     table: &mut TableBytes<'a>,
     bindings: &Bindings<'_, '_, 'a>,
-    line: &'a SymbolLine,
+    line: &'a BorrowedSymbol<'a>,
 ) -> Result<(), AllocError>
     requires line { IsLine bindings.now.objects bindings.now.places (symbol_row line.now) }
     requires short { length table.old.strings.items < 2 ^ 32 }
@@ -148,7 +149,7 @@ fn first_entry<'a>(alloc: Global) -> Result<TableBytes<'a>, AllocError>
 pub fn table_of<'a>(
     alloc: Global,
     bindings: &Bindings<'_, '_, 'a>,
-    lines: &'a [SymbolLine],
+    lines: &'a [BorrowedSymbol<'a>],
 ) -> Result<Option<TableBytes<'a>>, AllocError>
     requires { All (λ line. IsLine bindings.now.objects bindings.now.places
         (symbol_row line)) lines.now }

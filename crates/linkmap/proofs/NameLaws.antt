@@ -225,6 +225,17 @@ turn_escape done rest plain after left c r h =
     let escape = name_escape after left c h in
     cc
 
+newline_end : (left : List ℕ) → name_at (10 ∷ left) ≡ Some ([], left)
+unfolding name_behind
+newline_end left = refl
+
+-- a name of which each byte stands for itself
+pub plain_name : (rest plain after left : List ℕ) → IsRun rest plain after → tag (codes "\n") after ≡ Some left → name_at rest ≡ Some (plain, left)
+plain_name rest plain after left r h =
+    let run = plain_at rest plain after r in
+    let end = ap name_at (tag_takes (codes "\n") after left h) ∙ newline_end left in
+    rw (run, end, append-nil plain) refl
+
 not_plain : (rest plain after : List ℕ) → IsRun rest plain after → (b : ℕ) (tail : List ℕ) → after ≡ b ∷ tail → is_plain b ≡ false
 not_plain rest plain after r b tail e =
     behind_run rest tail b (sym r.back ∙ e)

@@ -1,33 +1,33 @@
 //! The lines of a map: the first, which tells the version, and the others, each read by its first word.
 ghost use Rattle.std.specs.Prelude.{◌≡◌, option_map};
-ghost use Rattle.elf_model.specs.MapRecord.{object_row, place_row, common_row, slot_row, target_row, symbol_row};
+ghost use Rattle.linkmap.specs.Borrowed.{object_row, place_row, common_row, slot_row, target_row, symbol_row};
 ghost use Rattle.linkmap.specs.Reading as reading;
 ghost use Rattle.linkmap.specs.Order.{row};
 
+use crate::borrowed::{
+    BorrowedCommon, BorrowedObject, BorrowedPlace, BorrowedSlot, BorrowedSymbol, BorrowedTarget,
+};
 use crate::digits::{LineFault, read_address, read_last_number, read_number, strip};
 use crate::names::read_name;
-use elf_model::{
-    CommonLine, Definition, DropLine, GotLine, ObjectLine, PlaceLine, SlotKind, SlotLine,
-    SlotTarget, SymbolLine, SymtabLine,
-};
+use elf_model::{Definition, DropLine, GotLine, SlotKind, SymtabLine};
 use std::alloc::Global;
 
 /// A line behind the first.
 #[derive(Debug, Drop)]
-pub enum MapLine {
-    Object(ObjectLine),
+pub enum MapLine<'t> {
+    Object(BorrowedObject<'t>),
     Drop(DropLine),
-    Place(PlaceLine),
-    Common(CommonLine),
+    Place(BorrowedPlace<'t>),
+    Common(BorrowedCommon<'t>),
     Got(GotLine),
-    Slot(SlotLine),
-    Symbol(SymbolLine),
+    Slot(BorrowedSlot<'t>),
+    Symbol(BorrowedSymbol<'t>),
     Symtab(SymtabLine),
     End,
 }
 
 #[tactic(auto, unfolding(crate::specs::Reading::object_at))]
-fn read_object(alloc: Global, bytes: &[u8]) -> Result<(ObjectLine, &[u8]), LineFault>
+fn read_object(alloc: Global, bytes: &[u8]) -> Result<(BorrowedObject<'_>, &[u8]), LineFault>
     ensures { reading.Gives (λ x. (object_row x.0, x.1.now)) result (reading.object_at bytes.now) }
 {
     let (object, bytes) = read_number(bytes).ok_or(LineFault::Bad)?;
@@ -35,7 +35,7 @@ fn read_object(alloc: Global, bytes: &[u8]) -> Result<(ObjectLine, &[u8]), LineF
     let (offset, bytes) = read_number(bytes).ok_or(LineFault::Bad)?;
     let (path, bytes) = read_name(alloc, bytes)?;
     Ok((
-        ObjectLine {
+        BorrowedObject {
             object,
             item,
             offset,
@@ -55,7 +55,7 @@ fn read_drop(bytes: &[u8]) -> Option<(DropLine, &[u8])>
 }
 
 #[tactic(auto, unfolding(crate::specs::Reading::place_at))]
-fn read_place(alloc: Global, bytes: &[u8]) -> Result<(PlaceLine, &[u8]), LineFault>
+fn read_place(alloc: Global, bytes: &[u8]) -> Result<(BorrowedPlace<'_>, &[u8]), LineFault>
     ensures { reading.Gives (λ x. (place_row x.0, x.1.now)) result (reading.place_at bytes.now) }
 {
     let (address, bytes) = read_address(bytes).ok_or(LineFault::Bad)?;
@@ -64,7 +64,7 @@ fn read_place(alloc: Global, bytes: &[u8]) -> Result<(PlaceLine, &[u8]), LineFau
     let (section, bytes) = read_number(bytes).ok_or(LineFault::Bad)?;
     let (name, bytes) = read_name(alloc, bytes)?;
     Ok((
-        PlaceLine {
+        BorrowedPlace {
             address,
             size,
             object,
@@ -76,7 +76,7 @@ fn read_place(alloc: Global, bytes: &[u8]) -> Result<(PlaceLine, &[u8]), LineFau
 }
 
 #[tactic(auto, unfolding(crate::specs::Reading::common_at))]
-fn read_common(alloc: Global, bytes: &[u8]) -> Result<(CommonLine, &[u8]), LineFault>
+fn read_common(alloc: Global, bytes: &[u8]) -> Result<(BorrowedCommon<'_>, &[u8]), LineFault>
     ensures { reading.Gives (λ x. (common_row x.0, x.1.now)) result (reading.common_at bytes.now) }
 {
     let (address, bytes) = read_address(bytes).ok_or(LineFault::Bad)?;
@@ -84,7 +84,7 @@ fn read_common(alloc: Global, bytes: &[u8]) -> Result<(CommonLine, &[u8]), LineF
     let (align, bytes) = read_number(bytes).ok_or(LineFault::Bad)?;
     let (name, bytes) = read_name(alloc, bytes)?;
     Ok((
-        CommonLine {
+        BorrowedCommon {
             address,
             size,
             align,
@@ -115,28 +115,28 @@ fn read_kind(bytes: &[u8]) -> Option<(SlotKind, &[u8])>
 }
 
 #[tactic(auto, unfolding(crate::specs::Reading::target_at))]
-fn read_target(alloc: Global, bytes: &[u8]) -> Result<(SlotTarget, &[u8]), LineFault>
+fn read_target(alloc: Global, bytes: &[u8]) -> Result<(BorrowedTarget<'_>, &[u8]), LineFault>
     ensures { reading.Gives (λ x. (target_row x.0, x.1.now)) result (reading.target_at bytes.now) }
 {
     if let Some(rest) = strip(bytes, b"name ") {
         let (name, rest) = read_name(alloc, rest)?;
-        return Ok((SlotTarget::Name(name), rest));
+        return Ok((BorrowedTarget::Name(name), rest));
     }
     let rest = strip(bytes, b"local ").ok_or(LineFault::Bad)?;
     let (object, rest) = read_number(rest).ok_or(LineFault::Bad)?;
     let (symbol, rest) = read_last_number(rest).ok_or(LineFault::Bad)?;
-    Ok((SlotTarget::Local { object, symbol }, rest))
+    Ok((BorrowedTarget::Local { object, symbol }, rest))
 }
 
 #[tactic(auto, unfolding(crate::specs::Reading::slot_at))]
-fn read_slot(alloc: Global, bytes: &[u8]) -> Result<(SlotLine, &[u8]), LineFault>
+fn read_slot(alloc: Global, bytes: &[u8]) -> Result<(BorrowedSlot<'_>, &[u8]), LineFault>
     ensures { reading.Gives (λ x. (slot_row x.0, x.1.now)) result (reading.slot_at bytes.now) }
 {
     let (address, bytes) = read_address(bytes).ok_or(LineFault::Bad)?;
     let (kind, bytes) = read_kind(bytes).ok_or(LineFault::Bad)?;
     let (target, bytes) = read_target(alloc, bytes)?;
     Ok((
-        SlotLine {
+        BorrowedSlot {
             address,
             kind,
             target,
@@ -167,14 +167,14 @@ fn read_definition(bytes: &[u8]) -> Option<(Definition, &[u8])>
 }
 
 #[tactic(auto, unfolding(crate::specs::Reading::symbol_at))]
-fn read_symbol(alloc: Global, bytes: &[u8]) -> Result<(SymbolLine, &[u8]), LineFault>
+fn read_symbol(alloc: Global, bytes: &[u8]) -> Result<(BorrowedSymbol<'_>, &[u8]), LineFault>
     ensures { reading.Gives (λ x. (symbol_row x.0, x.1.now)) result (reading.symbol_at bytes.now) }
 {
     let (address, bytes) = read_address(bytes).ok_or(LineFault::Bad)?;
     let (definition, bytes) = read_definition(bytes).ok_or(LineFault::Bad)?;
     let (name, bytes) = read_name(alloc, bytes)?;
     Ok((
-        SymbolLine {
+        BorrowedSymbol {
             address,
             definition,
             name,
@@ -206,7 +206,7 @@ pub fn read_version(bytes: &[u8]) -> Option<(u64, &[u8])>
 
 /// The line that the bytes begin with, and the bytes behind it.
 #[tactic(auto, unfolding(crate::specs::Reading::line_at))]
-pub fn read_line(alloc: Global, bytes: &[u8]) -> Result<(MapLine, &[u8]), LineFault>
+pub fn read_line(alloc: Global, bytes: &[u8]) -> Result<(MapLine<'_>, &[u8]), LineFault>
     ensures { reading.Gives (λ x. (row x.0, x.1.now)) result (reading.line_at bytes.now) }
 {
     if let Some(rest) = strip(bytes, b"object ") {

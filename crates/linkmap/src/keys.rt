@@ -1,14 +1,13 @@
-//! The order of a map's lines.
+//! The order of the lines of a map.
 ghost use Rattle.std.specs.Prelude.{◌≡◌, ℕ, ◌<◌, ◌↔◌, IsTrue, length, slice_index_or};
 ghost use Rattle.elf_model.specs.MapRecord.{map_of, object_row, place_row, common_row, slot_row, symbol_row};
 ghost use Rattle.elf_model.specs.MapText.{NameBefore, DropBefore, PlaceBefore, CommonBefore, SlotBefore, SymbolBefore, Ascends, IsVersioned, IsOrdered};
 ghost use Rattle.elf_model.specs.declared.link_map.ObjectLine.{ObjectLine};
-ghost use Rattle.linkmap.specs.Order.{IsAboveLast};
 
 use elf_model::{CommonLine, DropLine, LinkMap, ObjectLine, PlaceLine, SlotLine, SymbolLine};
 use std::cmp::Ordering;
 
-fn name_before(a: &[u8], b: &[u8]) -> bool
+pub fn name_before(a: &[u8], b: &[u8]) -> bool
     ensures { IsTrue result ↔ NameBefore a.now b.now }
 {
     match a.cmp(b) {
@@ -17,7 +16,7 @@ fn name_before(a: &[u8], b: &[u8]) -> bool
     }
 }
 
-fn drop_before(p: &DropLine, q: &DropLine) -> bool
+pub fn drop_before(p: &DropLine, q: &DropLine) -> bool
     ensures { IsTrue result ↔ DropBefore p.now q.now }
 {
     p.object < q.object || p.object == q.object && p.section < q.section
@@ -45,60 +44,6 @@ fn symbol_before(p: &SymbolLine, q: &SymbolLine) -> bool
     ensures { IsTrue result ↔ SymbolBefore (symbol_row p.now) (symbol_row q.now) }
 {
     name_before(&p.name, &q.name)
-}
-
-/// Whether a line may stand behind those of its kind so far.
-pub fn may_follow_drops(drops: &[DropLine], d: &DropLine) -> bool
-    ensures { IsTrue result ↔ IsAboveLast DropBefore drops.now d.now }
-{
-    match drops.last() {
-        Some(last) => drop_before(last, d),
-        None => true,
-    }
-}
-
-/// Whether a line may stand behind those of its kind so far.
-pub fn may_follow_places(places: &[PlaceLine], p: &PlaceLine) -> bool
-    ensures { IsTrue result ↔ IsAboveLast
-        (λ p q. PlaceBefore (place_row p) (place_row q)) places.now p.now }
-{
-    match places.last() {
-        Some(last) => place_before(last, p),
-        None => true,
-    }
-}
-
-/// Whether a line may stand behind those of its kind so far.
-pub fn may_follow_commons(commons: &[CommonLine], c: &CommonLine) -> bool
-    ensures { IsTrue result ↔ IsAboveLast
-        (λ p q. CommonBefore (common_row p) (common_row q)) commons.now c.now }
-{
-    match commons.last() {
-        Some(last) => common_before(last, c),
-        None => true,
-    }
-}
-
-/// Whether a line may stand behind those of its kind so far.
-pub fn may_follow_slots(slots: &[SlotLine], s: &SlotLine) -> bool
-    ensures { IsTrue result ↔ IsAboveLast
-        (λ p q. SlotBefore (slot_row p) (slot_row q)) slots.now s.now }
-{
-    match slots.last() {
-        Some(last) => slot_before(last, s),
-        None => true,
-    }
-}
-
-/// Whether a line may stand behind those of its kind so far.
-pub fn may_follow_symbols(symbols: &[SymbolLine], s: &SymbolLine) -> bool
-    ensures { IsTrue result ↔ IsAboveLast
-        (λ p q. SymbolBefore (symbol_row p) (symbol_row q)) symbols.now s.now }
-{
-    match symbols.last() {
-        Some(last) => symbol_before(last, s),
-        None => true,
-    }
 }
 
 fn are_numbered(objects: &[ObjectLine]) -> bool

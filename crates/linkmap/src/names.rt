@@ -1,12 +1,14 @@
 //! The names in a map: visible ASCII but the backslash stands for itself, every other byte is `\x` and two
 //! hexadecimal digits.
 ghost use Rattle.std.specs.Prelude.{All, IsTrue, true, false, ◌≡◌, ◌≢◌, ◌<◌, ◌≤◌, ◌++◌, IfOk, OnOk, length, take, drop, option_map};
+ghost use Rattle.std.specs.Cow.{cow_slice_items};
 ghost use Rattle.std.specs.List.{prefix_len};
 ghost use Rattle.elf_model.specs.MapText as map_text;
 ghost use Rattle.linkmap.specs.Reading as reading;
 
 use crate::digits::{LineFault, put_pair, read_pair, strip};
 use std::alloc::{AllocError, Global};
+use std::borrow::CowSlice;
 use std::simd::prelude::*;
 
 /// Whether a byte of a name stands for itself.
@@ -136,8 +138,8 @@ fn read_escape(bytes: &[u8]) -> Option<(u8, &[u8])>
     }
 }
 
-/// A name with the newline that ends its line, and the bytes behind it.
-pub fn read_name(alloc: Global, bytes: &[u8]) -> Result<(Vec<u8>, &[u8]), LineFault>
+/// A name with the newline that ends its line, and the bytes behind it, where not all of its bytes may stand for themselves.
+fn read_spelled(alloc: Global, bytes: &[u8]) -> Result<(Vec<u8>, &[u8]), LineFault>
     ensures { reading.Gives (λ x. (x.0.items, x.1.now)) result (reading.name_at bytes.now) }
 {
     let mut name = Vec::new(alloc);
@@ -154,4 +156,17 @@ pub fn read_name(alloc: Global, bytes: &[u8]) -> Result<(Vec<u8>, &[u8]), LineFa
         name.extend_from_slice(&[byte])?;
         rest = left;
     }
+}
+
+/// A name with the newline that ends its line, and the bytes behind it. It is borrowed where each of its bytes stands for
+/// itself.
+pub fn read_name(alloc: Global, bytes: &[u8]) -> Result<(CowSlice<'_, u8>, &[u8]), LineFault>
+    ensures { reading.Gives (λ x. (cow_slice_items x.0, x.1.now)) result (reading.name_at bytes.now) }
+{
+    let (plain, after) = split_plain(bytes);
+    if let Some(rest) = strip(after, b"\n") {
+        return Ok((CowSlice::Borrowed(plain), rest));
+    }
+    let (name, rest) = read_spelled(alloc, bytes)?;
+    Ok((CowSlice::Owned(name), rest))
 }

@@ -2,21 +2,24 @@
 ghost use Rattle.std.specs.Prelude.{◌≡◌, ◌↔◌, IsTrue, IfOk, IfErr, OnOk, MatchResult};
 ghost use Rattle.elf_model.specs.MapRecord.{MapRecord, map_of};
 ghost use Rattle.elf_model.specs.MapText.{End, IsMap, MapFails, text};
+ghost use Rattle.linkmap.specs.Borrowed.{record_of};
 ghost use Rattle.linkmap.specs.Order.{row, EndsBeforeDrops, EndsBeforePlaces, EndsBeforeCommons, EndsBeforeGot, EndsBeforeSlots, EndsBeforeSymbols, MayStand, add, empty_map};
 ghost use Rattle.elf_model.specs.declared.faults.MapFault.TheVariants as map_fault;
 
+use crate::borrowed::BorrowedMap;
 use crate::digits::LineFault;
 use crate::fields::{MapLine, read_line, read_version};
-use crate::keys::{
+use crate::followers::{
     may_follow_commons, may_follow_drops, may_follow_places, may_follow_slots, may_follow_symbols,
 };
+use crate::owned::owned;
 use elf_model::{LinkMap, MapFault};
 use std::alloc::{AllocError, Global};
 
-fn empty(alloc: Global, version: u64) -> LinkMap
-    ensures { map_of result ≡ empty_map version }
+fn empty<'t>(alloc: Global, version: u64) -> BorrowedMap<'t>
+    ensures { record_of result ≡ empty_map version }
 {
-    LinkMap {
+    BorrowedMap {
         version,
         objects: Vec::new(alloc),
         drops: Vec::new(alloc),
@@ -29,45 +32,45 @@ fn empty(alloc: Global, version: u64) -> LinkMap
     }
 }
 
-fn ends_before_symbols(map: &LinkMap) -> bool
-    ensures { IsTrue result ↔ EndsBeforeSymbols (map_of map.now) }
+fn ends_before_symbols(map: &BorrowedMap<'_>) -> bool
+    ensures { IsTrue result ↔ EndsBeforeSymbols (record_of map.now) }
 {
     map.symbols.is_empty() && map.symtab.is_none()
 }
 
-fn ends_before_slots(map: &LinkMap) -> bool
-    ensures { IsTrue result ↔ EndsBeforeSlots (map_of map.now) }
+fn ends_before_slots(map: &BorrowedMap<'_>) -> bool
+    ensures { IsTrue result ↔ EndsBeforeSlots (record_of map.now) }
 {
     map.slots.is_empty() && ends_before_symbols(map)
 }
 
-fn ends_before_got(map: &LinkMap) -> bool
-    ensures { IsTrue result ↔ EndsBeforeGot (map_of map.now) }
+fn ends_before_got(map: &BorrowedMap<'_>) -> bool
+    ensures { IsTrue result ↔ EndsBeforeGot (record_of map.now) }
 {
     map.got.is_none() && ends_before_slots(map)
 }
 
-fn ends_before_commons(map: &LinkMap) -> bool
-    ensures { IsTrue result ↔ EndsBeforeCommons (map_of map.now) }
+fn ends_before_commons(map: &BorrowedMap<'_>) -> bool
+    ensures { IsTrue result ↔ EndsBeforeCommons (record_of map.now) }
 {
     map.commons.is_empty() && ends_before_got(map)
 }
 
-fn ends_before_places(map: &LinkMap) -> bool
-    ensures { IsTrue result ↔ EndsBeforePlaces (map_of map.now) }
+fn ends_before_places(map: &BorrowedMap<'_>) -> bool
+    ensures { IsTrue result ↔ EndsBeforePlaces (record_of map.now) }
 {
     map.places.is_empty() && ends_before_commons(map)
 }
 
-fn ends_before_drops(map: &LinkMap) -> bool
-    ensures { IsTrue result ↔ EndsBeforeDrops (map_of map.now) }
+fn ends_before_drops(map: &BorrowedMap<'_>) -> bool
+    ensures { IsTrue result ↔ EndsBeforeDrops (record_of map.now) }
 {
     map.drops.is_empty() && ends_before_places(map)
 }
 
 /// Whether a line may stand behind those of the map so far.
-fn may_stand(map: &LinkMap, line: &MapLine) -> bool
-    ensures { IsTrue result ↔ MayStand (map_of map.now) (row line.now) }
+fn may_stand(map: &BorrowedMap<'_>, line: &MapLine<'_>) -> bool
+    ensures { IsTrue result ↔ MayStand (record_of map.now) (row line.now) }
 {
     match line {
         MapLine::Object(o) => ends_before_drops(map) && o.object == map.objects.len() as u64,
@@ -82,8 +85,8 @@ fn may_stand(map: &LinkMap, line: &MapLine) -> bool
     }
 }
 
-fn add_line(map: &mut LinkMap, line: MapLine) -> Result<(), AllocError>
-    ensures { OnOk result (map_of map.new ≡ add (map_of map.old) (row line)) }
+fn add_line<'t>(map: &mut BorrowedMap<'t>, line: MapLine<'t>) -> Result<(), AllocError>
+    ensures { OnOk result (record_of map.new ≡ add (record_of map.old) (row line.entry)) }
 {
     match line {
         MapLine::Object(o) => map.objects.push(o)?,
@@ -99,21 +102,22 @@ fn add_line(map: &mut LinkMap, line: MapLine) -> Result<(), AllocError>
     Ok(())
 }
 
-fn is_end(line: &MapLine) -> bool
+fn is_end(line: &MapLine<'_>) -> bool
     ensures { IsTrue result ↔ (row line.now ≡ End) }
 {
     matches!(line, MapLine::End)
 }
 
-/// The map that a text spells. `Line(n)` is the first line, counted from 1, at which the text is no beginning
-/// of a map.
-pub fn read(alloc: Global, bytes: &[u8]) -> Result<LinkMap, MapFault>
-    ensures found { IfOk result (λ map. IsMap (map_of map) × (bytes.now ≡ text (map_of map))) }
+/// The map that a text spells, with its names as they stand in the text. `Line(n)` is the first line, counted from 1, at
+/// which the text is no beginning of a map.
+pub fn read_borrowed(alloc: Global, bytes: &[u8]) -> Result<BorrowedMap<'_>, MapFault>
+    ensures found { IfOk result (λ map.
+        IsMap (record_of map) × (bytes.now ≡ text (record_of map))) }
     ensures fault { IfErr result (MapFails bytes.now) }
 
     // What `print` wrote is read as the same map, or memory was refused.
     ensures only { (m : MapRecord) → IsMap m → bytes.now ≡ text m
-        → MatchResult result (λ map. map_of map ≡ m) (λ fault. fault ≡ map_fault.Memory) }
+        → MatchResult result (λ map. record_of map ≡ m) (λ fault. fault ≡ map_fault.Memory) }
 {
     let Some((version, mut rest)) = read_version(bytes) else {
         return Err(MapFault::Line(1));
@@ -127,11 +131,10 @@ pub fn read(alloc: Global, bytes: &[u8]) -> Result<LinkMap, MapFault>
             Err(LineFault::Bad) => return Err(MapFault::Line(number)),
         };
         if is_end(&line) {
-            return if after.is_empty() {
-                Ok(map)
-            } else {
-                Err(MapFault::Line(number + 1))
-            };
+            if !after.is_empty() {
+                return Err(MapFault::Line(number + 1));
+            }
+            return Ok(map);
         }
         if !may_stand(&map, &line) {
             return Err(MapFault::Line(number));
@@ -140,4 +143,19 @@ pub fn read(alloc: Global, bytes: &[u8]) -> Result<LinkMap, MapFault>
         rest = after;
         number += 1;
     }
+}
+
+/// The map that a text spells. `Line(n)` is the first line, counted from 1, at which the text is no beginning
+/// of a map.
+pub fn read(alloc: Global, bytes: &[u8]) -> Result<LinkMap, MapFault>
+    ensures found { IfOk result (λ map. IsMap (map_of map) × (bytes.now ≡ text (map_of map))) }
+    ensures fault { IfErr result (MapFails bytes.now) }
+
+    // What `print` wrote is read as the same map, or memory was refused.
+    ensures only { (m : MapRecord) → IsMap m → bytes.now ≡ text m
+        → MatchResult result (λ map. map_of map ≡ m) (λ fault. fault ≡ map_fault.Memory) }
+{
+    let borrowed = read_borrowed(alloc, bytes)?;
+    let map = owned(alloc, borrowed)?;
+    Ok(map)
 }

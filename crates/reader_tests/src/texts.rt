@@ -4,8 +4,11 @@ use elf_model::{
     Definition, DropLine, GotLine, ObjectId, ObjectLine, PlaceLine, SlotKind, SymbolLine,
     SymbolRef, SymtabLine, Target,
 };
-use linkmap::{Line, LinkMap, MapFault, escape, ordered, print, put_line, read};
+use linkmap::{
+    BorrowedMap, Line, LinkMap, MapFault, escape, ordered, print, put_line, read, read_borrowed,
+};
 use std::alloc::{AllocError, Global};
+use std::borrow::CowSlice;
 use std::process::Abort;
 use std::test::Fail;
 
@@ -421,6 +424,25 @@ const LINES: [Line<'static>; 17] = [
 
 /// The line of a symbol table, which the text with each kind of line doesn't have.
 const TABLE_LINE: &[u8] = b"symtab 4112 2\n";
+
+/// Whether a map of two objects has the path of the first as it stands in the text, and that of the second as it is
+/// spelled there.
+fn has_paths(map: &BorrowedMap<'_>, plain: &[u8], spelled: &[u8]) -> bool {
+    let [first, second] = map.objects.as_slice() else {
+        return false;
+    };
+    match (&first.path, &second.path) {
+        (CowSlice::Borrowed(a), CowSlice::Owned(b)) => *a == plain && b.as_slice() == spelled,
+        _ => false,
+    }
+}
+
+#[test]
+fn plain_names_are_borrowed(rt: HostRuntime) -> Result<(), Fail> {
+    let map = read_borrowed(rt.alloc(), EACH_KIND)?;
+    assert!(rt; has_paths(&map, b"a.o", b"lib dir/b.a"));
+    Ok(())
+}
 
 #[test]
 fn lines_are_put_one_by_one(rt: HostRuntime) -> Result<(), Fail> {

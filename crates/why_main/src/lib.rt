@@ -149,7 +149,7 @@ fn write_map_fault<W: Write>(
     plan: &Plan<'_>,
     map: &[u8],
 ) -> io::Result<()> {
-    match linkmap::read(alloc, map) {
+    match linkmap::read_borrowed(alloc, map) {
         Ok(_) => Ok(()),
         Err(MapFault::Memory) => Err(io::Error::from(AllocError)),
         Err(MapFault::Line(line)) => {

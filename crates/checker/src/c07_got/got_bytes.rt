@@ -2,7 +2,8 @@
 ghost use Rattle.std.specs.Prelude.{◌≡◌, ◌+◌, ◌*◌, ◌%◌, ◌≤◌, ◌<◌, ◌^◌, ◌++◌, ◌↔◌, Any, IfOk, IsTrue, OnOk, length, map, option_map, replicate};
 ghost use Rattle.std.specs.List.{flat_map};
 ghost use Rattle.byteview.specs.Numbers.{le_bytes};
-ghost use Rattle.elf_model.specs.MapRecord.{OfLocal, slot_row, target_row};
+ghost use Rattle.elf_model.specs.MapRecord.{OfLocal};
+ghost use Rattle.linkmap.specs.Borrowed.{slot_row, target_row};
 ghost use Rattle.elf_model.specs.MemoryImage.{Encloses, loads};
 ghost use Rattle.elf_model.specs.RightLink.{HoldsGot, StandFrom, objects_of, where_of};
 ghost use Rattle.elf_model.specs.Slots as slots;
@@ -12,7 +13,8 @@ ghost use Rattle.checker.specs.Got.{HoldsBytes, LiesInImage};
 use crate::bound_link::BoundLink;
 use crate::segments::same_padded;
 use check_relocs::{Bindings, target_of_symbol};
-use elf_model::{GotLine, SlotKind, SlotLine, SlotTarget};
+use elf_model::{GotLine, SlotKind};
+use linkmap::{BorrowedSlot, BorrowedTarget};
 use loader_model::Memory;
 use std::alloc::{AllocError, Global};
 
@@ -29,18 +31,18 @@ fn local_value(bindings: &Bindings<'_, '_, '_>, object: u64, symbol: u64) -> u64
 }
 
 /// The value of what a slot stands for, modulo 2^64, 0 where that means nothing.
-fn target_value(bindings: &Bindings<'_, '_, '_>, target: &SlotTarget) -> u64
+fn target_value(bindings: &Bindings<'_, '_, '_>, target: &BorrowedTarget<'_>) -> u64
     ensures { result ≡ slots.target_value bindings.now.objects bindings.now.places
         (target_row target.now) % 2 ^ 64 }
 {
     match target {
-        SlotTarget::Name(name) => bindings.name_value(name),
-        SlotTarget::Local { object, symbol } => local_value(bindings, *object, *symbol),
+        BorrowedTarget::Name(name) => bindings.name_value(name),
+        BorrowedTarget::Local { object, symbol } => local_value(bindings, *object, *symbol),
     }
 }
 
 /// What a line's slot holds: the value of what it stands for, or that value's offset from the thread pointer, modulo 2^64.
-fn slot_value(bindings: &Bindings<'_, '_, '_>, line: &SlotLine) -> u64
+fn slot_value(bindings: &Bindings<'_, '_, '_>, line: &BorrowedSlot<'_>) -> u64
     ensures { result ≡ slots.slot_value bindings.now.objects bindings.now.places line.now.kind
         (target_row line.now.target) }
 {
@@ -55,7 +57,7 @@ fn slot_value(bindings: &Bindings<'_, '_, '_>, line: &SlotLine) -> u64
 pub fn wanted_bytes(
     alloc: Global,
     bindings: &Bindings<'_, '_, '_>,
-    lines: &[SlotLine],
+    lines: &[BorrowedSlot<'_>],
 ) -> Result<Vec<u8>, AllocError>
     ensures { IfOk result (λ v. v.items
         ≡ replicate 8 0
@@ -82,7 +84,7 @@ fn is_size_of(size: u64, count: usize) -> bool
 }
 
 /// Whether the lines' slots stand one behind the other, from an address on.
-fn stand_from(address: u64, lines: &[SlotLine]) -> bool
+fn stand_from(address: u64, lines: &[BorrowedSlot<'_>]) -> bool
     requires { address + 8 * length lines.now ≤ 2 ^ 46 }
     ensures { IsTrue result ↔ StandFrom address (map slot_row lines.now) }
 {

@@ -1,6 +1,7 @@
 //! Definitions that are the chosen ones of their own names, found by the numbers by which lines of the map name them: for
 //! these no name is looked up.
 ghost use Rattle.std.specs.Prelude.{◌≡◌, IfOk, IfSome, IsTrue, Some, filter, option_copied, slice_get, true};
+ghost use Rattle.std.specs.Cow.{cow_slice_items};
 ghost use Rattle.elf_model.specs.ChosenSymbols.{is_definition};
 ghost use Rattle.elf_model.specs.Resolution.{all_symbols, chosen};
 ghost use Rattle.check_link.specs.Views.{symbol_view};
@@ -9,7 +10,8 @@ ghost use Rattle.check_link.specs.Chosen.{AreOwnChoices};
 use check_link::SymbolOf;
 use check_load::Loaded;
 use check_relocs::Bindings;
-use elf_model::{Definition, SymbolLine};
+use elf_model::Definition;
+use linkmap::BorrowedSymbol;
 use std::alloc::{AllocError, Global};
 use std::marker::Model;
 
@@ -116,15 +118,15 @@ impl<'b, 'a> OwnChoices<'b, 'a> {
     }
 
     /// The position that is noted for what a line names.
-    fn position(&self, line: &SymbolLine) -> Option<usize> {
+    fn position(&self, line: &BorrowedSymbol<'_>) -> Option<usize> {
         let (object, number) = numbers_in(line.definition)?;
         let position = self.positions.get(object)?.get(number)?;
         Some(*position as usize)
     }
 
     /// The chosen definition of a line's name, where the line names it; None where that isn't known.
-    pub fn find(&self, line: &SymbolLine) -> Option<&'b SymbolOf<'a>>
-        ensures { IfSome result (λ s. chosen self.now line.now.name.items
+    pub fn find(&self, line: &BorrowedSymbol<'_>) -> Option<&'b SymbolOf<'a>>
+        ensures { IfSome result (λ s. chosen self.now (cow_slice_items line.now.name)
             ≡ Some (symbol_view s.now)) }
     {
         let position = self.position(line)?;

@@ -1,6 +1,6 @@
 //! The entry that the definition of a name has in a symbol table (System V gABI 4, "Symbol Table").
 ghost use Rattle.std.specs.Prelude.{◌≡◌, ◌+◌, ◌*◌, ◌<◌, ◌^◌, ◌∷◌, [], ℕ, List, IfNone, IfSome};
-ghost use Rattle.elf_model.specs.MapRecord.{symbol_row};
+ghost use Rattle.linkmap.specs.Borrowed.{symbol_row};
 ghost use Rattle.elf_model.specs.Meaning as meaning;
 ghost use Rattle.elf_model.specs.Meaning.{meaning_size};
 ghost use Rattle.elf_model.specs.SymbolTable.{entry_binding, entry_type, has_entry, tabled};
@@ -11,9 +11,8 @@ ghost use Rattle.checker.specs.Tabled.{IsTabled, entry_at, entry_if_tabled};
 
 use check_link::{Meaning, SymbolOf};
 use check_relocs::Bindings;
-use elf_model::{
-    SHN_ABS, STB_GLOBAL, STB_WEAK, STT_FUNC, STT_NOTYPE, STT_OBJECT, Symbol, SymbolLine,
-};
+use elf_model::{SHN_ABS, STB_GLOBAL, STB_WEAK, STT_FUNC, STT_NOTYPE, STT_OBJECT, Symbol};
+use linkmap::BorrowedSymbol;
 
 /// The binding and the type of a symbol of an object, as `st_info` has them.
 fn symbol_info(symbol: &SymbolOf<'_>) -> u8
@@ -118,7 +117,7 @@ fn object_entry(
 /// The entry of the definition of a line, where it has one. The line is that of what its name means.
 pub fn entry_of_line(
     bindings: &Bindings<'_, '_, '_>,
-    line: &SymbolLine,
+    line: &BorrowedSymbol<'_>,
     name_at: u32,
 ) -> Option<Symbol>
     requires { IsLine bindings.now.objects bindings.now.places (symbol_row line.now) }

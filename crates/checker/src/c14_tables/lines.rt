@@ -1,6 +1,6 @@
 //! The entries and the names of a symbol table against the lines of the map, line by line.
 ghost use Rattle.std.specs.Prelude.{◌≡◌, ◌↔◌, ◌+◌, ◌*◌, ◌<◌, ◌^◌, ◌++◌, ◌∷◌, [], ℕ, All, List, IfSome, IsSomeAnd, SomeIff, length, map};
-ghost use Rattle.elf_model.specs.MapRecord.{symbol_row};
+ghost use Rattle.linkmap.specs.Borrowed.{symbol_row};
 ghost use Rattle.elf_model.specs.Meaning.{Meaning, meaning_name};
 ghost use Rattle.elf_model.specs.Placement.{Where};
 ghost use Rattle.elf_model.specs.SymbolTable.{entry_of, tabled};
@@ -10,7 +10,7 @@ ghost use Rattle.checker.specs.Tabled.{AreLeft, AreTables, ended_names};
 use crate::c14_tables::entries::entry_of_line;
 use crate::c14_tables::strip::{strip, strip_name, strip_symbol};
 use check_relocs::Bindings;
-use elf_model::{SYM_SIZE, Symbol, SymbolLine};
+use elf_model::{SYM_SIZE, Symbol};
 
 /// The entry of number 0.
 const NULL_ENTRY: Symbol = Symbol {
@@ -21,6 +21,8 @@ const NULL_ENTRY: Symbol = Symbol {
     st_value: 0,
     st_size: 0,
 };
+
+use linkmap::BorrowedSymbol;
 
 /// What is left to compare: the entries that are left, the bytes from the next name on, and the offset of that
 /// name in `.strtab`.
@@ -82,7 +84,7 @@ fn strip_entry<'b>(left: Tables<'b>, entry: &Symbol, name: &[u8]) -> Option<Tabl
 /// What is left after the definition of a line, which has no entry or one.
 fn strip_line<'b>(
     bindings: &Bindings<'_, '_, '_>,
-    line: &SymbolLine,
+    line: &BorrowedSymbol<'_>,
     left: Tables<'b>,
 ) -> Option<Tables<'b>>
     requires { IsLine bindings.now.objects bindings.now.places (symbol_row line.now) }
@@ -105,7 +107,7 @@ fn strip_line<'b>(
 /// What is left after the definitions of all lines, where no entry is.
 pub fn strip_lines<'b>(
     bindings: &Bindings<'_, '_, '_>,
-    lines: &[SymbolLine],
+    lines: &[BorrowedSymbol<'_>],
     tables: Tables<'b>,
 ) -> Option<Tables<'b>>
     requires { All (λ line. IsLine bindings.now.objects bindings.now.places

@@ -1,7 +1,7 @@
 //! C7: a GOT that isn't where, or isn't what, the relocations ask for.
 ghost use Rattle.std.specs.Prelude.{◌≡◌, ◌↔◌, ◌+◌, ◌*◌, ◌<◌, ◌++◌, IfOk, IfSome, IsTrue, OnOk, Some, option_map, true};
 ghost use Rattle.std.specs.List.{list_any, slice_get};
-ghost use Rattle.elf_model.specs.MapRecord.{slot_row};
+ghost use Rattle.linkmap.specs.Borrowed.{slot_row};
 ghost use Rattle.elf_model.specs.RightLink.{objects_of, where_of};
 ghost use Rattle.elf_model.specs.Slots.{got_bytes, is_slot_of, row_request, same_request, size_with};
 ghost use Rattle.check_link.specs.Slots.{request_view};

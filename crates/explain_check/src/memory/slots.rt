@@ -1,6 +1,6 @@
 //! C7: slots that no relocation asks for or that stand twice, and relocations that have none.
 ghost use Rattle.std.specs.Prelude.{◌≡◌, ◌<◌, IfSome, OnOk, Some, true};
-ghost use Rattle.elf_model.specs.MapRecord.{slot_row};
+ghost use Rattle.linkmap.specs.Borrowed.{slot_row};
 ghost use Rattle.check_link.specs.Slots as asked;
 ghost use Rattle.check_link.specs.Slots.{request_view};
 ghost use Rattle.std.specs.List.{slice_get};
@@ -21,12 +21,13 @@ use check_link::{Request, request_of_line};
 use check_load::Loaded;
 use check_relocs::{Needs, is_some_kind, request_of};
 use checker::BoundLink;
-use elf_model::{SectionHeader, SlotLine};
+use elf_model::SectionHeader;
+use linkmap::BorrowedSlot;
 use std::alloc::{AllocError, Global};
 use std::collections::{BTreeMap, BTreeSet};
 
 /// The slot line that has a number.
-pub fn line_at<'m>(bound: &BoundLink<'_, 'm>, number: usize) -> Option<&'m SlotLine>
+pub fn line_at<'m>(bound: &BoundLink<'_, 'm>, number: usize) -> Option<&'m BorrowedSlot<'m>>
     ensures { IfSome result (λ line. slice_get bound.now.map.slots number
         ≡ Some (slot_row line.now)) }
 {

@@ -1,7 +1,7 @@
 use Rattle.std.proofs.Common.{◌≡◌, ◌∙◌, Bool, ℕ, Option, Some, None, ap, cond, map, not, arith}
 use Rattle.std.specs.Prelude.{find, is_some, option_map}
 use Rattle.std.specs.Option.{option_or}
-use Rattle.elf_model.specs.MapRecord.{slot_row}
+use Rattle.linkmap.specs.Borrowed.{slot_row}
 use Rattle.elf_model.specs.Slots.{Request, is_slot_of, row_request, same_request}
 use Rattle.check_link.specs.Slots.{are_fresh, has_in, none_seen, number_in}
 use Rattle.check_link.proofs.SlotSteps.{distinct_end, distinct_more, index_end, index_more}

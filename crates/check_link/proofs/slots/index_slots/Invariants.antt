@@ -1,7 +1,7 @@
 use Rattle.std.proofs.Common.{◌≡◌, ◌&&◌, map}
 use Rattle.std.specs.Prelude.{find, option_map}
 use Rattle.std.specs.Option.{option_or}
-use Rattle.elf_model.specs.MapRecord.{slot_row}
+use Rattle.linkmap.specs.Borrowed.{slot_row}
 use Rattle.elf_model.specs.Slots.{Request, is_slot_of, row_request}
 use Rattle.check_link.specs.Slots.{IsSized, are_distinct, are_fresh, has_in, number_in}
 use Rattle.check_link.proofs.SlotSteps.{rows_from}

@@ -1,5 +1,5 @@
 use Rattle.std.proofs.Common.{◌≡◌, true, false, arith}
-use Rattle.elf_model.specs.MapRecord.{object_row}
+use Rattle.linkmap.specs.Borrowed.{object_row}
 use Rattle.checker.proofs.Lines.{cells_more, cells_stop, map_front, rows_front, rows_length}
 use Rattle.checker.proofs.c02_loaded.are_lines_of.Goals as goal
 

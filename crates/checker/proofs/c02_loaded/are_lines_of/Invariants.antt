@@ -1,5 +1,5 @@
 use Rattle.std.proofs.Common.{◌≡◌, drop, map}
-use Rattle.elf_model.specs.MapRecord.{object_row}
+use Rattle.linkmap.specs.Borrowed.{object_row}
 use Rattle.elf_model.specs.RightLink.{object_rows}
 use Rattle.elf_model.proofs.Rests.{Left}
 use Rattle.check_load.specs.Views.{loaded_views}

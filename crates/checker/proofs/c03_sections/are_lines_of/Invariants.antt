@@ -1,5 +1,5 @@
 use Rattle.std.proofs.Common.{◌≡◌, drop, map}
-use Rattle.elf_model.specs.MapRecord.{place_row}
+use Rattle.linkmap.specs.Borrowed.{place_row}
 use Rattle.elf_model.specs.RightLink.{facts_of_piece, facts_of_row}
 use Rattle.elf_model.proofs.Rests.{Left}
 use Rattle.check_link.specs.Views.{piece_views}

@@ -1,6 +1,6 @@
 use Rattle.std.proofs.Common.{◌≡◌, true, drop}
 use Rattle.std.specs.Prelude.{All}
-use Rattle.elf_model.specs.MapRecord.{slot_row}
+use Rattle.linkmap.specs.Borrowed.{slot_row}
 use Rattle.elf_model.specs.Slots.{row_request}
 use Rattle.elf_model.proofs.Rests.{Left}
 use Rattle.check_link.specs.Slots.{is_asked}

@@ -1,6 +1,6 @@
 use Rattle.std.proofs.Common.{drop}
 use Rattle.std.specs.Prelude.{◌↔◌, All}
-use Rattle.elf_model.specs.MapRecord.{symbol_row}
+use Rattle.linkmap.specs.Borrowed.{symbol_row}
 use Rattle.checker.specs.Listed.{IsLine}
 use Rattle.checker.proofs.c13_symbols.are_right_lines.Given as goal
 

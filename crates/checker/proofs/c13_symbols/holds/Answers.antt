@@ -1,6 +1,7 @@
 use Rattle.std.proofs.Common.{◌≡◌, ◌∙◌, ap, List, ℕ, map, Bool, subst}
 use Rattle.std.specs.Prelude.{◌↔◌, IsTrue}
-use Rattle.elf_model.specs.MapRecord.{SymbolRow, symbol_row}
+use Rattle.elf_model.specs.MapRecord.{SymbolRow}
+use Rattle.linkmap.specs.Borrowed.{symbol_row}
 use Rattle.elf_model.specs.Resolution.{AreSoundSymbols, AreUnique}
 use Rattle.elf_model.specs.RightLink.{AreSymbolsListed, HasLine, Subject}
 use Rattle.check_relocs.specs.Bindings.{Bound, bound_of}

@@ -3,11 +3,12 @@ use Rattle.std.specs.Prelude.{option_map}
 use Rattle.std.proofs.lemmas.Bool.{false≢true}
 use Rattle.std.proofs.lemmas.Option.{none-some}
 use Rattle.std.proofs.lemmas.Bool.Decides.{Decides-eqb}
+use Rattle.std.specs.Cow.{cow_slice_items}
 use Rattle.elf_model.proofs.LinkerUses.{line_among}
 use Rattle.elf_model.specs.LinkerNames.{bound_of}
 use Rattle.elf_model.specs.LinkerValues.{bound_value}
 use Rattle.elf_model.specs.Listing.{linker_line}
-use Rattle.elf_model.specs.MapRecord.{symbol_row}
+use Rattle.linkmap.specs.Borrowed.{symbol_row}
 use Rattle.elf_model.specs.Meaning.{Linker, Meaning}
 use Rattle.elf_model.specs.RightLink.{symbol_row_of}
 use Rattle.elf_model.specs.UsedNames.{is_among}
@@ -17,7 +18,7 @@ use Rattle.checker.proofs.c13_symbols.is_linkers_line.Goals as goal
 pub returns-then-not-contains : goal.returns-then-not-contains
 returns-then-not-contains c =
     let L = c.args.bindings.now.objects in
-    let name = c.args.line.now.name.items in
+    let name = cow_slice_items c.args.line.now.name in
     let absent = ap (is_among c.args.names.now) (sym c.as_slice.ensures.value) ∙ sym c.contains.ensures ∙ c.if-not-contains.true in
     let none : linker_line L name ≡ None =
     sym (line_among L c.args.names.now c.requires name)
@@ -31,7 +32,7 @@ returns-then-is_linkers c =
     let L = c.args.bindings.now.objects in
     let w = c.args.bindings.now.places in
     let line = c.args.line.now in
-    let name = line.name.items in
+    let name = cow_slice_items line.name in
     let there = ap (is_among c.args.names.now) (sym c.as_slice.ensures.value) ∙ sym c.contains.ensures ∙ c.if-not-contains.false in
     let bound : bound_of L name ≡ Some c.in-Some.bound = ap (bound_of L) (sym c.deref.ensures.value) ∙ sym c.bound_of.ensures ∙ c.in-Some.is in
     let is : linker_line L name ≡ Some (Linker name c.in-Some.bound) =

@@ -1,7 +1,7 @@
 use Rattle.std.proofs.Common.{Ok, Err, Result}
 use Rattle.std.specs.Prelude.{IfOk}
 use Rattle.elf_model.specs.Files.{files_of, words_of}
-use Rattle.elf_model.specs.MapRecord.{map_of}
+use Rattle.linkmap.specs.Borrowed.{record_of}
 use Rattle.checker.proofs.Verdicts.{unread_no, unread_yes, verdict_no, verdict_yes}
 use Rattle.checker.proofs.verdict.check_by.Goals as goal
 
@@ -26,7 +26,7 @@ returns-clause-yes c =
     let spells = rw c.in-Some-2.is at c.in_ok-map.ensures.map in
     let only = rw c.in-Some-2.is at c.in_ok-map.ensures.only in
     stronger _ _ c.judge_alone.result c.judge_alone.ensures
-    (verdict_yes (files_of c.args.files.now) (words_of c.args.words.now) c.args.image.now c.args.map.now c.in-Some.plan (map_of c.in-Some-2.map)
+    (verdict_yes (files_of c.args.files.now) (words_of c.args.words.now) c.args.image.now c.args.map.now c.in-Some.plan (record_of c.in-Some-2.map)
     plan_is spells.0 spells.1 only)
 
 pub returns-clause-no : goal.returns-clause-no
@@ -35,5 +35,5 @@ returns-clause-no c =
     let spells = rw c.in-Some-2.is at c.in_ok-map.ensures.map in
     let only = rw c.in-Some-2.is at c.in_ok-map.ensures.only in
     stronger _ _ c.judge_alone.result c.judge_alone.ensures
-    (verdict_no (files_of c.args.files.now) (words_of c.args.words.now) c.args.image.now c.args.map.now c.in-Some.plan (map_of c.in-Some-2.map)
+    (verdict_no (files_of c.args.files.now) (words_of c.args.words.now) c.args.image.now c.args.map.now c.in-Some.plan (record_of c.in-Some-2.map)
     plan_is spells.0 spells.1 only)

@@ -1,7 +1,7 @@
 use Rattle.std.proofs.Common.{◌≡◌, ℕ, List, drop, map}
 use Rattle.std.specs.Prelude.{find}
 use Rattle.std.specs.Option.{option_or}
-use Rattle.elf_model.specs.MapRecord.{symbol_row}
+use Rattle.linkmap.specs.Borrowed.{symbol_row}
 use Rattle.explain_check.specs.SymbolPlaces.{is_symbol_row_of, symbol_in}
 use Rattle.explain_check.proofs.line_index.index_symbols.Given as goal
 

@@ -1,6 +1,6 @@
 use Rattle.std.proofs.Common.{List, [], ap, drop, map, subst}
 use Rattle.std.proofs.lemmas.List.{drop_all}
-use Rattle.elf_model.specs.MapRecord.{symbol_row}
+use Rattle.linkmap.specs.Borrowed.{symbol_row}
 use Rattle.elf_model.specs.Meaning.{Meaning}
 use Rattle.elf_model.specs.SymbolTable.{tabled}
 use Rattle.checker.proofs.TableLines.{here, later, line_tabled, lines_split}

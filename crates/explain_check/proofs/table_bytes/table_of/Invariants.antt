@@ -1,5 +1,5 @@
 use Rattle.std.proofs.Common.{drop, map}
-use Rattle.elf_model.specs.MapRecord.{symbol_row}
+use Rattle.linkmap.specs.Borrowed.{symbol_row}
 use Rattle.elf_model.specs.SymbolTable.{tabled}
 use Rattle.explain_check.specs.TablePlaces.{AreBuilt}
 use Rattle.explain_check.proofs.table_bytes.table_of.Given as goal

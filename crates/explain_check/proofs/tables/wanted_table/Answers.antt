@@ -1,5 +1,5 @@
 use Rattle.std.proofs.Common.{◌∙◌, ap, arith, map, subst}
-use Rattle.elf_model.specs.MapRecord.{symbol_row}
+use Rattle.linkmap.specs.Borrowed.{symbol_row}
 use Rattle.elf_model.specs.MapText.{Ascends, SymbolBefore}
 use Rattle.elf_model.specs.RightLink.{Subject}
 use Rattle.elf_model.specs.declared.verdict.Clause.TheVariants.{C13}

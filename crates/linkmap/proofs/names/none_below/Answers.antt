@@ -1,4 +1,4 @@
-use Rattle.std.proofs.Common.{arith, refl, ltb}
+use Rattle.std.proofs.Common.{arith, ltb}
 use Rattle.std.proofs.lemmas.Bool.{ltb-false}
 use Rattle.linkmap.proofs.PlainVectors.{clear_lanes}
 use Rattle.linkmap.proofs.names.none_below.Goals as goal

@@ -1,4 +1,4 @@
-use Rattle.std.proofs.Common.{arith, refl, eqb}
+use Rattle.std.proofs.Common.{arith, eqb}
 use Rattle.std.proofs.lemmas.Bool.{eqb-false}
 use Rattle.linkmap.proofs.PlainVectors.{clear_lanes}
 use Rattle.linkmap.proofs.names.none_is.Goals as goal

@@ -1,8 +1,9 @@
 use Rattle.std.proofs.Common.{drop}
 use Rattle.std.specs.Prelude.{◌↔◌, All}
+use Rattle.std.specs.Cow.{cow_slice_items}
 use Rattle.elf_model.specs.RightLink.{HasCommonLine}
 use Rattle.check_link.proofs.common_lines.CommonLines.lines_have_blocks.Given as goal
 
 abbrev pub invariant-loop-line : goal.invariant-loop-line
 invariant-loop-line l =
-    All (λ b. HasCommonLine l.self l.names b.name.items) l.lines ↔ All (λ b. HasCommonLine l.self l.names b.name.items) (drop l.line-index l.lines)
+    All (λ b. HasCommonLine l.self l.names (cow_slice_items b.name)) l.lines ↔ All (λ b. HasCommonLine l.self l.names (cow_slice_items b.name)) (drop l.line-index l.lines)

@@ -1,5 +1,5 @@
 use Rattle.std.proofs.Common.{◌+◌, ◌*◌, ◌^◌, ◌≤◌, drop, length, map}
-use Rattle.elf_model.specs.MapRecord.{slot_row}
+use Rattle.linkmap.specs.Borrowed.{slot_row}
 use Rattle.elf_model.specs.RightLink.{StandFrom}
 use Rattle.elf_model.proofs.Rests.{Left}
 use Rattle.check_link.proofs.SlotSteps.{rows_from}

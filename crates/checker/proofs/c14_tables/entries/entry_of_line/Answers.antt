@@ -1,5 +1,5 @@
 use Rattle.std.proofs.Common.{refl, rules}
-use Rattle.elf_model.specs.MapRecord.{symbol_row}
+use Rattle.linkmap.specs.Borrowed.{symbol_row}
 use Rattle.checker.proofs.TableEntries.{linker_some}
 use Rattle.checker.proofs.c14_tables.entries.entry_of_line.Goals as goal
 

@@ -1,5 +1,5 @@
 use Rattle.std.proofs.Common.{refl, sym, ◌∙◌}
-use Rattle.elf_model.specs.MapRecord.{slot_row}
+use Rattle.linkmap.specs.Borrowed.{slot_row}
 use Rattle.explain_check.proofs.memory.got.wrong_address.Goals as goal
 
 pub returns : goal.returns

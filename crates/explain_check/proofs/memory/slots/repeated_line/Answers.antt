@@ -1,6 +1,6 @@
 use Rattle.std.proofs.Common.{◌∙◌, arith, sym}
 use Rattle.elf_model.proofs.SameRequests.{requests_equal}
-use Rattle.elf_model.specs.MapRecord.{slot_row}
+use Rattle.linkmap.specs.Borrowed.{slot_row}
 use Rattle.check_link.proofs.SameRequest.{tied}
 use Rattle.check_link.specs.Slots.{request_view}
 use Rattle.explain_check.proofs.WrongSlots.{is_repeated}

@@ -1,5 +1,5 @@
 use Rattle.std.proofs.Common.{◌∙◌, sym}
-use Rattle.elf_model.specs.MapRecord.{slot_row}
+use Rattle.linkmap.specs.Borrowed.{slot_row}
 use Rattle.check_link.specs.Slots.{request_view}
 use Rattle.explain_check.proofs.WrongSlots.{is_unasked}
 use Rattle.explain_check.proofs.memory.slots.unasked_line.Goals as goal

@@ -1,4 +1,5 @@
 use Rattle.std.proofs.Common.{List, rules, subst, ◌≡◌, Some}
+use Rattle.std.specs.Cow.{cow_slice_items}
 use Rattle.elf_model.specs.Loading.{LoadedObject}
 use Rattle.elf_model.specs.Resolution.{chosen}
 use Rattle.check_link.specs.Views.{symbol_view}
@@ -7,6 +8,6 @@ use Rattle.checker.proofs.c13_symbols.own_choices.OwnChoices.find.Goals as goal
 
 pub returns : goal.returns
 returns c =
-    subst (λ (L : List LoadedObject). chosen L c.args.line.now.name.items ≡ Some (symbol_view c.in_ok-symbol.symbol.now)) c.self.view_is
-    (own_found _ c.self.inside.definitions.now c.self.inside.own.items c.in_ok-position.position c.in_ok-symbol.symbol.now c.args.line.now.name.items c.self.invariant
+    subst (λ (L : List LoadedObject). chosen L (cow_slice_items c.args.line.now.name) ≡ Some (symbol_view c.in_ok-symbol.symbol.now)) c.self.view_is
+    (own_found _ c.self.inside.definitions.now c.self.inside.own.items c.in_ok-position.position c.in_ok-symbol.symbol.now (cow_slice_items c.args.line.now.name) c.self.invariant
     (search rules) (search rules) (search rules))

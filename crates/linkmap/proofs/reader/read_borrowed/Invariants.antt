@@ -1,11 +1,11 @@
 use Rattle.std.proofs.Common.{◌+◌, ◌≤◌, length}
-use Rattle.elf_model.specs.MapRecord.{map_of}
+use Rattle.linkmap.specs.Borrowed.{record_of}
 use Rattle.linkmap.proofs.ReadLaws.{Reading}
-use Rattle.linkmap.proofs.reader.read.Given as goal
+use Rattle.linkmap.proofs.reader.read_borrowed.Given as goal
 
 abbrev pub invariant-lines : goal.invariant-lines
 invariant-lines l = record {
-  reading : Reading (map_of l.map) l.fn.bytes l.rest l.number;
+  reading : Reading (record_of l.map) l.fn.bytes l.rest l.number;
   within : l.number + length l.rest ≤ length l.fn.bytes;
 }
 
