@@ -1,5 +1,5 @@
 //! The places that were found so far: the first of them, and how many more there are.
-ghost use Rattle.std.specs.Prelude.{◌≡◌, ◌<◌, ◌≤◌, [], All, IfOk, IfSome, OnOk, length, ℕ};
+ghost use Rattle.std.specs.Prelude.{◌≡◌, ◌<◌, ◌≤◌, [], All, IfOk, IfSome, OnErr, OnOk, length, ℕ};
 ghost use Rattle.elf_model.specs.RightLink.{Holds, Subject};
 ghost use Rattle.elf_model.specs.declared.verdict.Clause as verdict;
 ghost use Rattle.explain_check.specs.Places.{AreFailures, FailsIn, IsOf};
@@ -42,6 +42,8 @@ impl<'a> Found<'a> {
         ensures few { length self.old.places.items ≤ self.old.most
             → length self.new.places.items ≤ self.old.most }
         ensures some { OnOk result (0 < self.old.most → 0 < length self.new.places.items) }
+        ensures refused { OnErr result ((self.new.places.items ≡ self.old.places.items)
+            × (self.new.more ≡ self.old.more)) }
     {
         if self.places.len() >= self.most {
             self.more = self.more.saturating_add(1);

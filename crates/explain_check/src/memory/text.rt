@@ -2,7 +2,7 @@
 //! what is there and what should be.
 
 use crate::map_text::{Kind, line_number};
-use crate::memory_place::{RelocationPlace, SegmentPlace};
+use crate::memory_place::{BytePlace, RelocationPlace, SegmentPlace};
 use crate::place::CheckPlace;
 use crate::text::{ObjectText, PieceText, rights_text};
 use check_link::Link;
@@ -92,13 +92,9 @@ impl fmt::Display for HeaderText<'_> {
     }
 }
 
-/// Writes a place of the seventh clause.
-pub fn write_got<W: Write>(out: &mut W, link: &Link<'_>, place: &CheckPlace<'_>) -> io::Result<()> {
+/// Writes what is wrong with a slot of the GOT, or with its line.
+fn write_slot<W: Write>(out: &mut W, link: &Link<'_>, place: &CheckPlace<'_>) -> io::Result<()> {
     match place {
-        CheckPlace::Got(true) => out.write_all(b"the map has a GOT, for which no relocation asks"),
-        CheckPlace::Got(false) => out.write_all(
-            b"the map has no GOT, and a relocation asks for one",
-        ),
         CheckPlace::UnaskedSlot(number, _) => {
             let line = line_number(link, Kind::Slot, *number);
             write!(
@@ -119,13 +115,6 @@ pub fn write_got<W: Write>(out: &mut W, link: &Link<'_>, place: &CheckPlace<'_>)
             let entry = entry_of(place, place.symbol_name);
             write!(out, "{entry}: no line of the map has its slot")
         }
-        CheckPlace::GotSize(got, wanted) => {
-            let (address, size) = (got.address, got.size);
-            write!(
-                out,
-                "the GOT at {address:#x} has {size:#x} bytes, and should have {wanted:#x}"
-            )
-        }
         CheckPlace::SlotAddress(number, there, wanted) => {
             let line = line_number(link, Kind::Slot, *number);
             write!(
@@ -133,12 +122,30 @@ pub fn write_got<W: Write>(out: &mut W, link: &Link<'_>, place: &CheckPlace<'_>)
                 "line {line} of the map: the slot at {there:#x} should be at {wanted:#x}"
             )
         }
+        _ => Ok(()),
+    }
+}
+
+/// Writes a place of the seventh clause.
+pub fn write_got<W: Write>(out: &mut W, link: &Link<'_>, place: &CheckPlace<'_>) -> io::Result<()> {
+    match place {
+        CheckPlace::Got(true) => out.write_all(b"the map has a GOT, for which no relocation asks"),
+        CheckPlace::Got(false) => out.write_all(
+            b"the map has no GOT, and a relocation asks for one",
+        ),
+        CheckPlace::GotSize(got, wanted) => {
+            let (address, size) = (got.address, got.size);
+            write!(
+                out,
+                "the GOT at {address:#x} has {size:#x} bytes, and should have {wanted:#x}"
+            )
+        }
         CheckPlace::GotByte(place) => {
             let address = place.got.address.saturating_add(place.offset);
             let byte = ByteText(address, place.there, place.wanted);
             write!(out, "the GOT: byte {:#x} {byte}", place.offset)
         }
-        _ => Ok(()),
+        _ => write_slot(out, link, place),
     }
 }
 
@@ -219,6 +226,20 @@ pub fn write_relocation_place<W: Write>(
     }
 }
 
+/// Writes a byte of a piece, and the relocation in whose field it lies.
+fn write_byte<W: Write>(out: &mut W, link: &Link<'_>, place: &BytePlace<'_>) -> io::Result<()> {
+    let address = place.piece.at.saturating_add(place.offset);
+    let (piece, byte) = (
+        PieceText(link, &place.piece),
+        ByteText(address, place.there, place.wanted),
+    );
+    write!(out, "{piece}: byte {:#x} {byte}", place.offset)?;
+    match &place.relocation {
+        Some(place) => write!(out, ": {}", entry_of(place, place.symbol_name)),
+        None => Ok(()),
+    }
+}
+
 /// Writes a place of the tenth or the eleventh clause.
 pub fn write_memory<W: Write>(
     out: &mut W,
@@ -226,18 +247,7 @@ pub fn write_memory<W: Write>(
     place: &CheckPlace<'_>,
 ) -> io::Result<()> {
     match place {
-        CheckPlace::Byte(place) => {
-            let address = place.piece.at.saturating_add(place.offset);
-            let (piece, byte) = (
-                PieceText(link, &place.piece),
-                ByteText(address, place.there, place.wanted),
-            );
-            write!(out, "{piece}: byte {:#x} {byte}", place.offset)?;
-            match &place.relocation {
-                Some(place) => write!(out, ": {}", entry_of(place, place.symbol_name)),
-                None => Ok(()),
-            }
-        }
+        CheckPlace::Byte(place) => write_byte(out, link, place),
         CheckPlace::Fill(place) => {
             let (address, rights) = (place.address, rights_text(place.rights));
             let (byte, wanted) = (place.byte, place.wanted);
