@@ -1,15 +1,13 @@
 -- The numbers that are kept for the names of symbols: those of loaded objects' symbols are right.
-use Rattle.std.proofs.Common.{◌≡◌, ℕ, zero, suc, ◌+◌, List, [], ◌∷◌, ◌++◌, append_assoc, length, length-append, Option, Some, None, get_or, refl, sym, ap, subst, ◌∙◌, arith}
-use Rattle.std.specs.Prelude.{All, filter, slice_get}
-use Rattle.std.specs.List.{position}
+use Rattle.std.proofs.Common.{◌≡◌, ℕ, zero, suc, ◌+◌, List, [], ◌∷◌, ◌++◌, append_assoc, length, length-append, Option, Some, None, refl, sym, ap, subst, ◌∙◌, arith}
+use Rattle.std.specs.Prelude.{All, IfSome, filter, option_map, slice_get}
 use Rattle.std.specs.Option.{option_and_then}
-use Rattle.std.specs.Str.{bytes_eq}
 use Rattle.std.proofs.lemmas.List.Elements.{All-append, All-cons, All-filter, All-head, All-nil, All-tail}
 use Rattle.std.proofs.lemmas.Option.{get_or_from_slice_get, none-some, same_Some, slice_get_within}
 use Rattle.elf_model.specs.ChosenSymbols.{is_definition}
 use Rattle.elf_model.specs.Loading.{LoadedObject}
 use Rattle.elf_model.specs.ObjectFile.{symbols}
-use Rattle.elf_model.specs.Resolution.{SymbolOf, all_symbols, symbol_of, symbols_from, symbols_of}
+use Rattle.elf_model.specs.Resolution.{SymbolOf, all_symbols, chosen, symbol_of, symbols_from, symbols_of}
 use Rattle.elf_model.specs.declared.records.Symbol.{Symbol}
 use Rattle.check_load.specs.NameNumbers.{IsNumberOf, KeepNumbers, number_of}
 use Rattle.check_load.specs.Numbered.{AreNumbered, IsNumbered, name_at, number_in}
@@ -17,6 +15,8 @@ use Rattle.check_load.specs.Views.{loaded_view, loaded_views}
 use Rattle.check_load.specs.declared.loader.Loaded.{Loaded}
 use Rattle.check_load.proofs.Numbering.{known_with}
 use Rattle.check_link.specs.Chosen.{AreHinted, IsHinted, hint_at}
+use Rattle.check_link.specs.Views.{symbol_view}
+use Rattle.check_link.specs.declared.things.SymbolOf as code
 
 -- what is kept stays right as names come
 pub still_hinted : (old new : List (List ℕ)) (objects : List Loaded) (ss : List SymbolOf) → KeepNumbers old new → AreHinted old objects ss → AreHinted new objects ss
@@ -80,3 +80,11 @@ hinted_number names objects k j n o are at told = by (slice_get objects k) refl
         let known : IsNumberOf names (name_at l.object j) n = is.each j n (sym (ap (option_and_then (λ (x : Loaded). number_in x.numbers j)) e) ∙ told) in
         let same : loaded_view l ≡ o = found_view objects k o at l e in
         subst (λ (x : LoadedObject). n ≡ number_of names (name_at x.bytes j)) same (known_with names (name_at l.object j) n known.found).1
+
+-- the definition of the symbol's name is told
+pub choice_told :
+    (L : List LoadedObject) (k j : ℕ) (r : Option code.SymbolOf) →
+    ((o : LoadedObject) → slice_get L k ≡ Some o → option_map symbol_view r ≡ chosen L (name_at o.bytes j)) →
+    IfSome r (λ s. (o : LoadedObject) → slice_get L k ≡ Some o → chosen L (name_at o.bytes j) ≡ Some (symbol_view s))
+choice_told L k j None is = tt
+choice_told L k j (Some s) is = λ o at. sym (is o at)

@@ -1,5 +1,5 @@
 //! The definitions and the common blocks of loaded objects, found by their names.
-ghost use Rattle.std.specs.Prelude.{◌≡◌, ◌↔◌, IfOk, IsTrue, Some, filter, option_map, slice_get};
+ghost use Rattle.std.specs.Prelude.{◌≡◌, ◌↔◌, IfOk, IfSome, IsTrue, Some, filter, option_map, slice_get};
 ghost use Rattle.elf_model.specs.ChosenSymbols.{is_chosen, is_definition};
 ghost use Rattle.elf_model.specs.Commons.{block_named, blocks};
 ghost use Rattle.elf_model.specs.Loading.{LoadedObject};
@@ -133,17 +133,14 @@ impl<'l, 'a> Names<'l, 'a> {
         definition_of(&self.chosen, &self.definitions, name)
     }
 
-    /// The chosen definition of a symbol's name, given the symbol's object's and its own number; None where it has none. It is
-    /// found without a look-up where loading noted the name.
-    pub fn chosen_for(&self, object: u64, number: u64, name: &[u8]) -> Option<SymbolOf<'a>>
-        ensures { (o : LoadedObject) → slice_get self.now object ≡ Some o
-            → name.now ≡ name_at o.bytes number
-            → option_map symbol_view result ≡ chosen self.now name.now }
+    /// The chosen definition of a symbol's name, given the symbol's object's and its own number, where loading noted the name. The
+    /// name isn't read.
+    pub fn noted_choice(&self, object: u64, number: u64) -> Option<SymbolOf<'a>>
+        ensures { IfSome result (λ s. (o : LoadedObject) → slice_get self.now object ≡ Some o
+            → chosen self.now (name_at o.bytes number) ≡ Some (symbol_view s)) }
     {
-        match number_at(self.objects, object, number) {
-            Some(known) => definition_at(&self.chosen, &self.definitions, known),
-            None => self.chosen(name),
-        }
+        let known = number_at(self.objects, object, number)?;
+        definition_at(&self.chosen, &self.definitions, known)
     }
 
     /// Whether a symbol is the chosen definition of its name.

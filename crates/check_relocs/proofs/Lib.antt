@@ -6,6 +6,7 @@ pub mod KnownSteps
 pub mod Modulo
 pub mod NeedSteps
 pub mod NoUses
+pub mod Noted
 pub mod ObjectFields
 pub mod PartitionPoints
 pub mod RightParts

@@ -1,5 +1,5 @@
 -- What the names and the symbols of objects mean.
-use Rattle.std.specs.Prelude.{◌≡◌, ◌↔◌, ℕ, ◌%◌, ◌^◌, ◌&&◌, not, true, false, IsTrue, List, IsSomeAnd, Option, Some, option_map, slice_get, unwrap_or}
+use Rattle.std.specs.Prelude.{◌≡◌, ◌↔◌, ℕ, ◌%◌, ◌^◌, ◌&&◌, not, true, false, IsTrue, List, IsSomeAnd, Option, option_map, unwrap_or}
 use Rattle.std.specs.Option.{option_map_or}
 use Rattle.elf_model.specs.Loading.{LoadedObject}
 use Rattle.elf_model.specs.Pieces.{is_alloc}
@@ -8,7 +8,6 @@ use Rattle.elf_model.specs.Placement.{Where}
 use Rattle.elf_model.specs.Relocation.{IsMixed, IsUndefined, definition_of, is_local, symbol_at}
 use Rattle.elf_model.specs.Resolution.{SymbolOf, section_of}
 use Rattle.elf_model.specs.RightLink.{Subject, objects_of, where_of}
-use Rattle.check_load.specs.Numbered.{name_at}
 use Rattle.check_relocs.specs.Known.{AreKnown}
 use Rattle.check_relocs.specs.declared.targets.Target.{Target}
 
@@ -20,12 +19,6 @@ pub record Bound : Type 0 where
 -- the objects of a link, and where their pieces are
 abbrev pub bound_of : Subject → Bound
 bound_of s = record { objects = objects_of s; places = where_of s }
-
--- a symbol is one of the objects', by its object's and its own number
-pub record IsOfObjects (objects : List LoadedObject) (s : SymbolOf) : Type 0 where
-  pub owner : LoadedObject
-  pub there : slice_get objects s.object ≡ Some owner
-  pub named : s.name ≡ name_at owner.bytes s.number
 
 -- a LOCAL symbol of a section that isn't kept
 abbrev pub IsOfUnkept : List LoadedObject → SymbolOf → Type 0

@@ -1,9 +1,10 @@
 //! What names mean: the names of objects, the linker's own, and the addresses of the placed pieces.
-ghost use Rattle.std.specs.Prelude.{◌≡◌, ◌≢◌, ◌↔◌, ◌%◌, ◌^◌, IsSomeAnd, IfOk, IsTrue, None, false, filter, option_map, unwrap_or};
+ghost use Rattle.std.specs.Prelude.{◌≡◌, ◌≢◌, ◌↔◌, ◌%◌, ◌^◌, IsSomeAnd, IfOk, IfSome, IsTrue, None, Some, false, filter, option_map, slice_get, unwrap_or};
 ghost use Rattle.std.specs.Option.{option_map_or};
 ghost use Rattle.elf_model.specs.ChosenSymbols.{is_chosen, is_definition};
 ghost use Rattle.elf_model.specs.LinkerNames.{bound_of, named_output};
 ghost use Rattle.elf_model.specs.LinkerValues.{bound_value};
+ghost use Rattle.elf_model.specs.Loading.{LoadedObject};
 ghost use Rattle.elf_model.specs.Meaning as meanings;
 ghost use Rattle.elf_model.specs.Meaning.{is_in_thread_storage, meaning, meaning_size, meaning_value, meant, object_meaning};
 ghost use Rattle.elf_model.specs.Pieces.{AreOneOutput, kept_sections};
@@ -11,8 +12,9 @@ ghost use Rattle.elf_model.specs.Placement.{got_start, section_address, symbol_v
 ghost use Rattle.elf_model.specs.Relocation.{IsMixed, IsMixedBound, definition_of, is_local};
 ghost use Rattle.elf_model.specs.Resolution.{AreSoundSymbols, all_symbols, binding, chosen, is_in_thread_section};
 ghost use Rattle.elf_model.specs.Slots.{requested_address};
+ghost use Rattle.check_load.specs.Numbered.{name_at};
 ghost use Rattle.check_load.specs.Views.{loaded_views};
-ghost use Rattle.check_relocs.specs.Bindings.{IsOfObjects, IsOfUnkept, IsTargetOf};
+ghost use Rattle.check_relocs.specs.Bindings.{IsOfUnkept, IsTargetOf};
 ghost use Rattle.check_link.specs.Chosen.{AreOtherChoices, AreOwnChoices};
 ghost use Rattle.check_link.specs.Slots.{request_view};
 ghost use Rattle.check_link.specs.ThreadStorage.{thread_pointer};
@@ -200,6 +202,16 @@ impl<'l, 'p, 'a> Bindings<'l, 'p, 'a> {
         self.names.chosen(name)
     }
 
+    /// The chosen definition of the name of a symbol, given its object's and its own number, where loading noted the name. The name
+    /// isn't read.
+    pub fn noted_choice(&self, object: u64, number: u64) -> Option<SymbolOf<'a>>
+        ensures { IfSome result (λ s. (o : LoadedObject)
+            → slice_get self.now.objects object ≡ Some o
+            → chosen self.now.objects (name_at o.bytes number) ≡ Some (symbol_view s)) }
+    {
+        self.names.noted_choice(object, number)
+    }
+
     /// What a chosen definition means.
     pub fn meant(&self, symbol: &SymbolOf<'a>) -> Option<Meaning<'a>>
         ensures { option_map meaning_view result ≡ meant self.now.objects (symbol_view symbol.now) }
@@ -303,46 +315,6 @@ impl<'l, 'p, 'a> Bindings<'l, 'p, 'a> {
         Some(Meaning::Symbol(*symbol))
     }
 
-    /// The chosen definition of the name of a symbol of the objects; None where it has none.
-    fn own_chosen(&self, symbol: &SymbolOf<'a>) -> Option<SymbolOf<'a>>
-        requires { IsOfObjects self.now.objects (symbol_view symbol.now) }
-        ensures { option_map symbol_view result ≡ chosen self.now.objects symbol.now.name.now }
-    {
-        self.names
-            .chosen_for(symbol.object, symbol.number, symbol.name)
-    }
-
-    /// What the name of a symbol of the objects means, where an object defines it.
-    fn own_object_meaning(&self, symbol: &SymbolOf<'a>) -> Option<Meaning<'a>>
-        requires { IsOfObjects self.now.objects (symbol_view symbol.now) }
-        ensures { option_map meaning_view result
-            ≡ object_meaning self.now.objects symbol.now.name.now }
-    {
-        let chosen = self.own_chosen(symbol)?;
-        self.meant(&chosen)
-    }
-
-    /// What the name of a symbol of the objects means.
-    fn own_meaning(&self, symbol: &SymbolOf<'a>) -> Option<Meaning<'a>>
-        requires { IsOfObjects self.now.objects (symbol_view symbol.now) }
-        ensures { option_map meaning_view result ≡ meaning self.now.objects symbol.now.name.now }
-    {
-        match self.own_object_meaning(symbol) {
-            Some(meaning) => Some(meaning),
-            None => self.linker_meaning(symbol.name),
-        }
-    }
-
-    /// What a relocation uses which names a symbol of the objects that isn't LOCAL.
-    fn own_definition(&self, symbol: &SymbolOf<'a>) -> Option<Meaning<'a>>
-        requires of { IsOfObjects self.now.objects (symbol_view symbol.now) }
-        requires visible { is_local (symbol_view symbol.now) ≡ false }
-        ensures { option_map meaning_view result
-            ≡ definition_of self.now.objects (symbol_view symbol.now) }
-    {
-        self.own_meaning(symbol)
-    }
-
     /// Whether a symbol is the chosen definition of its name.
     pub fn is_chosen(&self, symbol: &SymbolOf<'a>) -> bool
         ensures { result ≡ is_chosen self.now.objects (symbol_view symbol.now) }
@@ -416,14 +388,25 @@ impl<'l, 'p, 'a> Bindings<'l, 'p, 'a> {
         self.target_with(symbol, &definition)
     }
 
-    /// What a symbol of the objects that isn't LOCAL means to the relocations that name it. Its name is looked up only where
-    /// loading gave it no number.
-    pub fn own_target(&self, symbol: &SymbolOf<'a>) -> Target
-        requires of { IsOfObjects self.now.objects (symbol_view symbol.now) }
+    /// What a name means, given its chosen definition.
+    fn meaning_of(&self, name: &'a [u8], choice: &SymbolOf<'a>) -> Option<Meaning<'a>>
+        requires { chosen self.now.objects name.now ≡ Some (symbol_view choice.now) }
+        ensures { option_map meaning_view result ≡ meaning self.now.objects name.now }
+    {
+        match self.meant(choice) {
+            Some(meaning) => Some(meaning),
+            None => self.linker_meaning(name),
+        }
+    }
+
+    /// What a symbol that isn't LOCAL means to the relocations that name it, given the chosen definition of its name.
+    pub fn target_chosen(&self, symbol: &SymbolOf<'a>, choice: &SymbolOf<'a>) -> Target
+        requires chosen { chosen self.now.objects symbol.now.name.now
+            ≡ Some (symbol_view choice.now) }
         requires visible { is_local (symbol_view symbol.now) ≡ false }
         ensures { IsTargetOf self.now (symbol_view symbol.now) result }
     {
-        let definition = self.own_definition(symbol);
+        let definition = self.meaning_of(symbol.name, choice);
         self.target_with(symbol, &definition)
     }
 

@@ -34,17 +34,22 @@ fn is_linker_use(bindings: &Bindings<'_, '_, '_>, symbol: &SymbolOf<'_>) -> bool
     bindings.bound_of(symbol.name).is_some() && bindings.chosen(symbol.name).is_none()
 }
 
-/// Whether symbol `j` of the object that has a number is such a one.
+/// Whether symbol `j` of the object that has a number is such a one. Of a LOCAL one the name isn't read, nor of one for whose
+/// name loading noted that an object defines it.
 fn is_use_of<'a>(
     bindings: &Bindings<'_, '_, 'a>,
     number: u64,
     loaded: &Loaded<'a>,
     j: usize,
 ) -> bool
+    requires { slice_get bindings.now.objects number ≡ Some (loaded_view loaded.now) }
     ensures { result ≡ is_linker_use bindings.now.objects
         (symbol_at number (loaded_view loaded.now) j) }
 {
     if is_local_at(loaded, j) {
+        return false;
+    }
+    if bindings.noted_choice(number, j as u64).is_some() {
         return false;
     }
     is_linker_use(bindings, &symbol_at(loaded, number, j))
@@ -58,7 +63,8 @@ fn is_use<'a>(
     loaded: &Loaded<'a>,
     j: usize,
 ) -> bool
-    requires { AreUses bindings.now.objects number (loaded_view loaded.now) uses.old.items }
+    requires own { slice_get bindings.now.objects number ≡ Some (loaded_view loaded.now) }
+    requires uses { AreUses bindings.now.objects number (loaded_view loaded.now) uses.old.items }
     ensures kept { AreUses bindings.now.objects number (loaded_view loaded.now) uses.new.items }
     ensures is_use { result ≡ is_linker_use bindings.now.objects
         (symbol_at number (loaded_view loaded.now) j) }
@@ -89,7 +95,8 @@ fn add_use<'a>(
     to: u64,
     entry: &Rela,
 ) -> Result<(), AllocError>
-    requires { AreUses bindings.now.objects number (loaded_view loaded.now) uses.old.items }
+    requires own { slice_get bindings.now.objects number ≡ Some (loaded_view loaded.now) }
+    requires uses { AreUses bindings.now.objects number (loaded_view loaded.now) uses.old.items }
     ensures kept { OnOk result
         (AreUses bindings.now.objects number (loaded_view loaded.now) uses.new.items) }
     ensures gains { OnOk result (Gains bindings.now.objects
@@ -112,7 +119,8 @@ fn add_entries<'a>(
     to: u64,
     entries: &RelaRun<'_>,
 ) -> Result<(), AllocError>
-    requires { AreUses bindings.now.objects number (loaded_view loaded.now) uses.old.items }
+    requires own { slice_get bindings.now.objects number ≡ Some (loaded_view loaded.now) }
+    requires uses { AreUses bindings.now.objects number (loaded_view loaded.now) uses.old.items }
     ensures kept { OnOk result
         (AreUses bindings.now.objects number (loaded_view loaded.now) uses.new.items) }
     ensures gains { OnOk result (Gains bindings.now.objects
@@ -139,6 +147,7 @@ fn add_section<'a>(
     i: usize,
     header: &SectionHeader,
 ) -> Result<(), AllocError>
+    requires own { slice_get bindings.now.objects number ≡ Some (loaded_view loaded.now) }
     requires uses { AreUses bindings.now.objects number (loaded_view loaded.now) uses.old.items }
     requires there { slice_get (sections loaded.now.object) i ≡ Some header.now }
     requires rela { header.now.sh_type ≡ 4 }
@@ -161,6 +170,7 @@ fn add_section<'a>(
 
 /// Whether the object that has a number has such a symbol at all. Mostly none does, and then its relocations needn't be read.
 fn has_use<'a>(bindings: &Bindings<'_, '_, 'a>, number: u64, loaded: &Loaded<'a>) -> bool
+    requires { slice_get bindings.now.objects number ≡ Some (loaded_view loaded.now) }
     ensures { result ≡ false
         → HaveNoUses bindings.now.objects number (loaded_view loaded.now) }
 {
@@ -188,6 +198,7 @@ fn entry_count(loaded: &Loaded<'_>) -> u64 {
 /// Whether it is known that no symbol of the object that has a number is such. The symbols are asked only where there are no
 /// more of them than relocations.
 fn has_no_use<'a>(bindings: &Bindings<'_, '_, 'a>, number: u64, loaded: &Loaded<'a>) -> bool
+    requires { slice_get bindings.now.objects number ≡ Some (loaded_view loaded.now) }
     ensures { result ≡ true
         → HaveNoUses bindings.now.objects number (loaded_view loaded.now) }
 {
@@ -205,6 +216,7 @@ fn add_object<'a>(
     number: u64,
     loaded: &Loaded<'a>,
 ) -> Result<(), AllocError>
+    requires { slice_get bindings.now.objects number ≡ Some (loaded_view loaded.now) }
     ensures { OnOk result (Gains bindings.now.objects
         (relocations_from number (loaded_view loaded.now)) names.old names.new) }
 {

@@ -66,6 +66,21 @@ fn unnamed_at<'a>(loaded: &Loaded<'a>, number: u64, j: usize) -> SymbolOf<'a>
     }
 }
 
+/// Symbol `j` of the object that has a number, given its name.
+fn named_at<'a>(loaded: &Loaded<'a>, number: u64, j: usize, name: &'a [u8]) -> SymbolOf<'a>
+    ensures { symbol_view result
+        ≡ record (symbol_at number (loaded_view loaded.now) j) { name = name.entry.now } }
+{
+    let entry = loaded.object.symbol(j);
+    SymbolOf {
+        object: number,
+        number: j as u64,
+        name,
+        entry,
+        dropped: loaded.is_dropped(entry.st_shndx as usize),
+    }
+}
+
 /// What symbol `j` of the object that has a number means. Of a LOCAL one the name isn't read.
 pub fn target_of_symbol<'a>(
     bindings: &Bindings<'_, '_, 'a>,
@@ -129,7 +144,7 @@ fn known_target(targets: &[Option<Target>], j: usize) -> Option<Target>
     }
 }
 
-/// What symbol `j` of the object that has a number means, without a look-up where loading gave its name a number.
+/// What symbol `j` of the object that has a number means. The name isn't read where loading noted it and an object defines it.
 fn own_target_of<'a>(
     bindings: &Bindings<'_, '_, 'a>,
     number: u64,
@@ -142,7 +157,12 @@ fn own_target_of<'a>(
     if is_local_at(loaded, j) {
         return target_of_symbol(bindings, number, loaded, j);
     }
-    bindings.own_target(&symbol_at(loaded, number, j))
+    match bindings.noted_choice(number, j as u64) {
+        Some(chosen) => {
+            bindings.target_chosen(&named_at(loaded, number, j, chosen.name), &chosen)
+        }
+        None => bindings.target(&symbol_at(loaded, number, j)),
+    }
 }
 
 /// What symbol `j` means, where the object may be known to be the one that has the number.

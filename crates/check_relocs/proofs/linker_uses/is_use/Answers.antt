@@ -8,4 +8,4 @@ use Rattle.check_relocs.proofs.linker_uses.is_use.Goals as goal
 pub returns-clause-kept : goal.returns-clause-kept
 returns-clause-kept c =
     known_more (λ j u. u ≡ is_linker_use c.args.bindings.now.objects (symbol_at c.args.number (loaded_view c.args.loaded.now) j)) c.args.uses.now.items
-    c.keep_answer.new.answers.items c.args.j c.is_use_of-answer.result c.keep_answer.ensures c.requires c.is_use_of-answer.ensures
+    c.keep_answer.new.answers.items c.args.j c.is_use_of-answer.result c.keep_answer.ensures c.requires.uses c.is_use_of-answer.ensures

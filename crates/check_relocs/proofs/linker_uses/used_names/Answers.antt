@@ -6,6 +6,7 @@ use Rattle.elf_model.specs.UsedNames.{is_among, uses_line}
 use Rattle.elf_model.proofs.FlatRelocations.{left_of_objects, object_more}
 use Rattle.elf_model.proofs.LinkerUses.{gained}
 use Rattle.check_load.specs.Views.{loaded_view}
+use Rattle.check_relocs.proofs.Noted.{element_there}
 use Rattle.check_relocs.proofs.linker_uses.used_names.Goals as goal
 
 pub loop-k-preserved : goal.loop-k-preserved
@@ -19,3 +20,8 @@ loop-k-preserved c n =
     object_more loaded_view xs k _ c.loop-k-test.true ∙ ap (λ l. relocations_from k (loaded_view l) ++ rest) (sym c.index-objects-k.is) in
     gained L here rest c.loop-k.names c.add_object.new.names n (list_any (uses_line L n) (relocations L)) c.in_ok-add_object.ensures
     (ap (λ (rs : List Relocation). is_among c.loop-k.names n || list_any (uses_line L n) rs) (sym is) ∙ c.loop-k.invariant n)
+
+pub add_object-requires : goal.add_object-requires
+add_object-requires c =
+    element_there c.objects-objects.result.now c.args.bindings.now.objects c.loop-k.k c.index-objects-k.result c.objects-objects.ensures c.loop-k-test.true
+    c.index-objects-k.is

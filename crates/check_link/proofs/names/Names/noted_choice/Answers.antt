@@ -4,26 +4,27 @@ use Rattle.std.specs.Option.{option_and_then}
 use Rattle.elf_model.specs.Loading.{LoadedObject}
 use Rattle.elf_model.specs.Resolution.{chosen}
 use Rattle.check_load.specs.NameNumbers.{number_of}
+use Rattle.check_load.specs.Numbered.{name_at}
 use Rattle.check_load.specs.Views.{loaded_views}
 use Rattle.check_link.specs.Chosen.{position_at}
 use Rattle.check_link.specs.Views.{symbol_views}
 use Rattle.check_link.specs.declared.things.SymbolOf as code
-use Rattle.check_link.proofs.Hints.{hinted_number}
-use Rattle.check_link.proofs.names.Names.chosen_for.Goals as goal
+use Rattle.check_link.proofs.Hints.{choice_told, hinted_number}
+use Rattle.check_link.proofs.names.Names.noted_choice.Goals as goal
 
-pub returns-in-Some : goal.returns-in-Some
-returns-in-Some c = λ o at named.
+pub returns : goal.returns
+returns c =
     let names = c.self.inside in
     let are = c.self.invariant in
-    let k = c.in-Some.known in
-    let name = c.args.name.now in
+    let k = c.in_ok-known.known in
+    choice_told c.args.self.now c.args.object c.args.number c.definition_at.result
+    (λ o at.
     let there : slice_get (loaded_views names.objects.now) c.args.object ≡ Some o =
     subst (λ (os : List LoadedObject). slice_get os c.args.object ≡ Some o) (sym c.self.view_is) at in
-    let number : k ≡ number_of names.chosen.names name =
-    hinted_number names.chosen.names names.objects.now c.args.object c.args.number k o are.numbered there (sym c.number_at.ensures ∙ c.in-Some.is)
-    ∙ ap (number_of names.chosen.names) (sym named) in
+    let number : k ≡ number_of names.chosen.names (name_at o.bytes c.args.number) =
+    hinted_number names.chosen.names names.objects.now c.args.object c.args.number k o are.numbered there (sym c.number_at.ensures ∙ c.in_ok-known.was) in
     c.definition_at.ensures
     ∙ ap (λ (ds : List code.SymbolOf). option_and_then (slice_get (symbol_views ds)) (position_at names.chosen.positions.items k)) c.deref.ensures.value
     ∙ ap (λ (n : ℕ). option_and_then (slice_get (symbol_views names.definitions.items)) (position_at names.chosen.positions.items n)) number
-    ∙ are.chosen_are name
-    ∙ ap (λ (os : List LoadedObject). chosen os name) c.self.view_is
+    ∙ are.chosen_are (name_at o.bytes c.args.number)
+    ∙ ap (λ (os : List LoadedObject). chosen os (name_at o.bytes c.args.number)) c.self.view_is)
