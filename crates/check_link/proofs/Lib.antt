@@ -5,6 +5,7 @@ pub mod CommonRows
 pub mod Defined
 pub mod Gathering
 pub mod Hints
+pub mod Mangled
 pub mod Padded
 pub mod PieceLemmas
 pub mod PlaceKeys

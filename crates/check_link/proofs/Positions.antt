@@ -1,11 +1,10 @@
 -- The positions of the chosen definitions in the list of all.
-use Rattle.std.proofs.Common.{◌≡◌, ℕ, zero, suc, ◌+◌, ◌<◌, ◌≤◌, ◌⊎◌, inl, inr, Bool, true, false, cond, not, List, [], ◌∷◌, ◌++◌, append_assoc, drop, get_or, length, length-append, replicate, set, true≢false, Option, Some, None, refl, sym, ap, subst, ◌∙◌, arith}
+use Rattle.std.proofs.Common.{◌≡◌, ℕ, zero, suc, ◌+◌, ◌<◌, ◌≤◌, ◌⊎◌, inl, inr, Bool, true, false, cond, List, [], ◌∷◌, ◌++◌, append_assoc, drop, get_or, length, length-append, replicate, set, true≢false, Option, Some, None, refl, sym, ap, subst, ◌∙◌, arith}
 use Rattle.std.specs.Prelude.{◌&&◌, find, slice_get}
 use Rattle.std.specs.Option.{option_and_then, option_or}
 use Rattle.std.specs.Str.{bytes_eq}
-use Rattle.std.proofs.lemmas.Bool.{not-true}
 use Rattle.std.proofs.lemmas.List.{get_or_default, get_or_past, get_or-replicate, get_or-set_other, get_or-set_same, length-replicate}
-use Rattle.std.proofs.lemmas.Option.{get_or_from_slice_get, none-some, same_Some, slice_get_past}
+use Rattle.std.proofs.lemmas.Option.{get_or_from_slice_get, same_Some}
 use Rattle.std.proofs.lemmas.Slice.Eq.{bytes_eq-Decides}
 use Rattle.elf_model.specs.ChosenSymbols.{definitions}
 use Rattle.elf_model.specs.Loading.{LoadedObject}
@@ -189,3 +188,15 @@ position_step kind name xs i d wanted old new whole within is grown all =
     by (Some x) b g a = ap (λ (n : Option ℕ). option_or n rest) g ∙ a
     by None true g a = ap (λ (n : Option ℕ). option_or n rest) g ∙ a
     by None false g a = ap (λ (n : Option ℕ). option_or n rest) g ∙ a
+
+-- where one that isn't of the kind is passed over
+pub position_skip :
+    (kind : SymbolOf → Bool) (name : List ℕ) (xs : List code.SymbolOf) (i : ℕ) (d : code.SymbolOf) (old whole : Option ℕ) → i < length xs →
+    kind (symbol_view (get_or xs i d)) ≡ false →
+    option_or old (first_from (λ s. kind s && has_name name s) i (symbol_views (drop i xs))) ≡ whole →
+    option_or old (first_from (λ s. kind s && has_name name s) (i + 1) (symbol_views (drop (i + 1) xs))) ≡ whole
+position_skip kind name xs i d old whole within is all = position_step kind name xs i d false old old whole within (sym is) (same old) all
+  where
+    same : (o : Option ℕ) → o ≡ option_or o None
+    same (Some x) = refl
+    same None = refl

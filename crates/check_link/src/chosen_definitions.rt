@@ -95,32 +95,6 @@ fn add_position<'a>(
     Ok(())
 }
 
-/// Puts a definition's position into the index where it is `wanted`, unless one of its name is there.
-fn add_wanted<'a>(
-    objects: &[Loaded<'a>],
-    index: &mut Chosen<'a>,
-    wanted: bool,
-    symbol: &SymbolOf<'a>,
-    position: usize,
-) -> Result<(), AllocError>
-    requires sized { IsSized index.old }
-    requires hinted { IsHinted index.old.names objects.now (symbol_view symbol.now) }
-    ensures sized { OnOk result (IsSized index.new) }
-    ensures kept { OnOk result (KeepNumbers index.old.names index.new.names) }
-    ensures positions { OnOk result ((name : List ℕ) →
-        position_in index.new name
-        ≡ option_or (position_in index.old name)
-        (cond (wanted && has_name name (symbol_view symbol.now)) (Some position) None)) }
-    ensures own { OnOk result ((ss : List resolution.SymbolOf) →
-        slice_get ss position ≡ Some (symbol_view symbol.now)
-        → IsOwn ss index.old → IsOwn ss index.new) }
-{
-    if !wanted {
-        return Ok(());
-    }
-    add_position(objects, index, symbol, position)
-}
-
 /// Adds the first strong one among definitions of each name that the index hasn't got.
 fn add_strong<'a>(
     objects: &[Loaded<'a>],
@@ -141,7 +115,10 @@ fn add_strong<'a>(
         → IsOwn (symbol_views definitions.now) index.new) }
 {
     for (i, symbol) in definitions.iter().enumerate() {
-        add_wanted(objects, index, is_strong(symbol), symbol, i)?;
+        if !is_strong(symbol) {
+            continue;
+        }
+        add_position(objects, index, symbol, i)?;
     }
     Ok(())
 }
@@ -167,7 +144,10 @@ fn add_common<'a>(
         → IsOwn (symbol_views definitions.now) index.new) }
 {
     for (i, symbol) in definitions.iter().enumerate() {
-        add_wanted(objects, index, is_common_definition(symbol), symbol, i)?;
+        if !is_common_definition(symbol) {
+            continue;
+        }
+        add_position(objects, index, symbol, i)?;
     }
     Ok(())
 }
@@ -193,7 +173,10 @@ fn add_weak<'a>(
         → IsOwn (symbol_views definitions.now) index.new) }
 {
     for (i, symbol) in definitions.iter().enumerate() {
-        add_wanted(objects, index, is_weak_definition(symbol), symbol, i)?;
+        if !is_weak_definition(symbol) {
+            continue;
+        }
+        add_position(objects, index, symbol, i)?;
     }
     Ok(())
 }

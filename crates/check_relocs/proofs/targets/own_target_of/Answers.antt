@@ -1,5 +1,5 @@
-use Rattle.std.proofs.Common.{◌≡◌, ◌∙◌, List, Some, false, sym, ap, subst}
-use Rattle.elf_model.specs.Relocation.{is_local, symbol_at}
+use Rattle.std.proofs.Common.{◌≡◌, ◌∙◌, Some, sym, ap, subst}
+use Rattle.elf_model.specs.Relocation.{is_local}
 use Rattle.elf_model.specs.Resolution.{SymbolOf, chosen}
 use Rattle.check_load.specs.Numbered.{name_at}
 use Rattle.check_load.specs.Views.{loaded_view}
