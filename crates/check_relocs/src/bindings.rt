@@ -1,5 +1,5 @@
 //! What names mean: the names of objects, the linker's own, and the addresses of the placed pieces.
-ghost use Rattle.std.specs.Prelude.{◌≡◌, ◌≢◌, ◌↔◌, ◌%◌, ◌^◌, IsSomeAnd, IfOk, IfSome, IsTrue, None, Some, false, filter, option_map, slice_get, unwrap_or};
+ghost use Rattle.std.specs.Prelude.{◌≡◌, ◌≢◌, ◌↔◌, ◌%◌, ◌^◌, IsSomeAnd, IfOk, IfSome, IsTrue, None, Some, false, filter, option_map, slice_get, true, unwrap_or};
 ghost use Rattle.std.specs.Option.{option_map_or};
 ghost use Rattle.elf_model.specs.ChosenSymbols.{is_chosen, is_definition};
 ghost use Rattle.elf_model.specs.LinkerNames.{bound_of, named_output};
@@ -26,7 +26,7 @@ use check_link::{
     is_in_thread_section, is_mangled, named_output, output_bound, section_of,
 };
 use check_load::Loaded;
-use elf_model::{Bound, NameSeed, SHN_ABS, SHN_UNDEF, STB_LOCAL, STB_WEAK};
+use elf_model::{Bound, NameSeed, SHN_ABS, SHN_COMMON, SHN_UNDEF, STB_LOCAL, STB_WEAK};
 use std::alloc::{AllocError, Global};
 use std::marker::Model;
 
@@ -383,6 +383,35 @@ impl<'l, 'p, 'a> Bindings<'l, 'p, 'a> {
         }
     }
 
+    /// What a symbol means to the relocations that name it, given the symbol which these use.
+    fn target_defined(&self, symbol: &SymbolOf<'a>, definition: &SymbolOf<'a>) -> Target
+        requires { definition_of self.now.objects (symbol_view symbol.now)
+            ≡ Some (meanings.Symbol (symbol_view definition.now)) }
+        ensures { IsTargetOf self.now (symbol_view symbol.now) result }
+    {
+        let objects = self.names.objects();
+        Target {
+            undefined: false,
+            unkept: is_of_unkept(objects, symbol),
+            dropped: symbol.dropped,
+            mixed: false,
+            thread_local: is_in_thread_section(objects, definition),
+            value: symbol_value(self.places, definition),
+            size: definition.entry.st_size,
+        }
+    }
+
+    /// What a LOCAL symbol means to the relocations that name it.
+    pub fn local_target(&self, symbol: &SymbolOf<'a>) -> Target
+        requires { is_local (symbol_view symbol.now) ≡ true }
+        ensures { IsTargetOf self.now (symbol_view symbol.now) result }
+    {
+        if symbol.entry.st_shndx == SHN_UNDEF {
+            return self.target_with(symbol, &None);
+        }
+        self.target_defined(symbol, symbol)
+    }
+
     /// What a symbol means to the relocations that name it.
     pub fn target(&self, symbol: &SymbolOf<'a>) -> Target
         ensures { IsTargetOf self.now (symbol_view symbol.now) result }
@@ -409,6 +438,9 @@ impl<'l, 'p, 'a> Bindings<'l, 'p, 'a> {
         requires visible { is_local (symbol_view symbol.now) ≡ false }
         ensures { IsTargetOf self.now (symbol_view symbol.now) result }
     {
+        if choice.entry.st_shndx != SHN_COMMON {
+            return self.target_defined(symbol, choice);
+        }
         let definition = self.meaning_of(symbol.name, choice);
         self.target_with(symbol, &definition)
     }

@@ -91,7 +91,7 @@ pub fn target_of_symbol<'a>(
     ensures { IsTargetOf bindings.now (symbol_at number (loaded_view loaded.now) j) result }
 {
     if is_local_at(loaded, j) {
-        return bindings.target(&unnamed_at(loaded, number, j));
+        return bindings.local_target(&unnamed_at(loaded, number, j));
     }
     bindings.target(&symbol_at(loaded, number, j))
 }
@@ -144,7 +144,8 @@ fn known_target(targets: &[Option<Target>], j: usize) -> Option<Target>
     }
 }
 
-/// What symbol `j` of the object that has a number means. The name isn't read where loading noted it and an object defines it.
+/// What symbol `j` of the object that has a number means. Of a LOCAL one the name isn't read, nor where loading noted it and an
+/// object defines it.
 fn own_target_of<'a>(
     bindings: &Bindings<'_, '_, 'a>,
     number: u64,
@@ -155,7 +156,7 @@ fn own_target_of<'a>(
     ensures { IsTargetOf bindings.now (symbol_at number (loaded_view loaded.now) j) result }
 {
     if is_local_at(loaded, j) {
-        return target_of_symbol(bindings, number, loaded, j);
+        return bindings.local_target(&unnamed_at(loaded, number, j));
     }
     match bindings.noted_choice(number, j as u64) {
         Some(chosen) => {
