@@ -12,6 +12,7 @@ pub mod PlaceKeys
 pub mod PlaceSteps
 pub mod Positions
 pub mod RequestSteps
+pub mod RunParts
 pub mod SameOutput
 pub mod SameRequest
 pub mod SeenOutputs

@@ -5,6 +5,7 @@ pub mod OutputSections
 pub mod Outputs
 pub mod PieceParts
 pub mod PlaceIndex
+pub mod SameRuns
 pub mod Slots
 pub mod Soundness
 pub mod ThreadStorage

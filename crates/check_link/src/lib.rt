@@ -19,6 +19,7 @@ mod places;
 mod request_map;
 mod request_set;
 mod requests;
+mod same_runs;
 mod sizes;
 mod slots;
 mod symbols;
@@ -42,6 +43,7 @@ pub use placed_pieces::{
 pub use places::Places;
 pub use request_set::RequestSet;
 pub use requests::{Request, Wanted, is_thread, request_of_line};
+pub use same_runs::same_inside;
 pub use sizes::{is_thread_zero, load_size};
 pub use slots::SlotTable;
 pub use symbols::{are_sound, section_of};

@@ -17,7 +17,6 @@ pub mod PieceOrder
 pub mod PieceSections
 pub mod PlacedFacts
 pub mod Regions
-pub mod RunParts
 pub mod Runs
 pub mod SegmentsApart
 pub mod SlotCounts

@@ -1,6 +1,7 @@
 //! C10: whether memory holds the wanted bytes of the pieces of an object.
 ghost use Rattle.std.specs.Prelude.{◌≡◌, ◌+◌, ◌≤◌, ◌<◌, ◌↔◌, ℕ, All, AllPairs, IsTrue, find, slice_index, true};
 ghost use Rattle.byteview.specs.Numbers.{IsInside, le_bytes};
+ghost use Rattle.check_link.specs.SameRuns.{AreSame};
 ghost use Rattle.check_link.specs.Views.{placed_view, placed_views};
 ghost use Rattle.check_relocs.specs.Bytes.{EndsBefore, FitsIn, HasFieldsInside, HoldsFields, LiesWhole, WantedFrom, byte_of, covers};
 ghost use Rattle.check_relocs.specs.Fields.{IsBefore};
@@ -9,9 +10,9 @@ ghost use Rattle.elf_model.specs.RightLink.{HoldsBefore};
 ghost use Rattle.elf_model.specs.declared.verdict.Clause.TheVariants as clause;
 
 use crate::bound_link::BoundLink;
-use crate::same_runs::{has_word_value, same_inside};
+use crate::same_runs::has_word_value;
 use crate::segments::{same_padded, sub_part};
-use check_link::{Placed, load_size};
+use check_link::{Placed, load_size, same_inside};
 use check_relocs::{Field, part_of};
 use loader_model::Memory;
 
@@ -26,18 +27,29 @@ pub fn holds_own(bound: &BoundLink<'_, '_>, number: u64, row: &[Field], own: &[P
     all_held(bound.memory(), row, own)
 }
 
-/// Whether two runs are equal from one byte on and below another; bytes past an end count as 0.
-fn same_between(a: &[u8], b: &[u8], from: u64, to: u64) -> bool
+/// Whether two runs, one of which ends between two places, are equal from the one on and below the other; bytes past an end
+/// count as 0.
+fn same_past_end(a: &[u8], b: &[u8], from: u64, to: u64) -> bool
     requires { from ≤ to }
-    ensures { IsTrue result ↔ ((k : ℕ) →
-        from ≤ k → k < to → slice_index a.now k ≡ slice_index b.now k) }
+    ensures { IsTrue result ↔ AreSame a.now b.now from to }
 {
-    if to <= a.len() as u64 && to <= b.len() as u64 {
-        return same_inside(a, b, from as usize, to as usize);
-    }
     let start = from as usize;
     let len = (to - from) as usize;
     same_padded(sub_part(a, start, len), sub_part(b, start, len))
+}
+
+/// Whether two runs are equal from one byte on and below another; bytes past an end count as 0.
+fn same_between(a: &[u8], b: &[u8], from: u64, to: u64) -> bool
+    requires { from ≤ to }
+    ensures { IsTrue result ↔ AreSame a.now b.now from to }
+{
+    if from == to {
+        return true;
+    }
+    if to <= a.len() as u64 && to <= b.len() as u64 {
+        return same_inside(a, b, from as usize, to as usize);
+    }
+    same_past_end(a, b, from, to)
 }
 
 /// Whether a field has the bytes of its value, spelled out.

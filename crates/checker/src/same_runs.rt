@@ -1,20 +1,9 @@
-//! Runs of bytes compared in one go, where both have them.
-ghost use Rattle.std.specs.Prelude.{◌≡◌, ◌+◌, ◌≤◌, ◌<◌, ◌↔◌, ℕ, IsTrue, length, slice_index};
+//! Words of bytes compared in one go, where a run has them.
+ghost use Rattle.std.specs.Prelude.{◌≡◌, ◌+◌, ◌<◌, ◌↔◌, ℕ, IsTrue, slice_index};
 ghost use Rattle.byteview.specs.Numbers.{IsInside, le_bytes, part};
 ghost use Rattle.byteview.proofs.NumberLaws.{AreBytes};
 
 use byteview::View;
-
-/// Whether two runs that reach to a byte are equal from another one on and below it.
-pub fn same_inside(a: &[u8], b: &[u8], from: usize, to: usize) -> bool
-    requires order { from ≤ to }
-    requires a { to ≤ length a.now }
-    requires b { to ≤ length b.now }
-    ensures { IsTrue result ↔ ((k : ℕ) →
-        from ≤ k → k < to → slice_index a.now k ≡ slice_index b.now k) }
-{
-    a[from..to] == b[from..to]
-}
 
 /// What a run has are bytes.
 fn are_bytes(bytes: &[u8])

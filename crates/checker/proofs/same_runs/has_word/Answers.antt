@@ -1,7 +1,7 @@
 use Rattle.std.proofs.Common.{◌∙◌, List, ℕ, ap, sym}
 use Rattle.std.proofs.lemmas.Bool.{eq-eqb, eqb-true}
 use Rattle.byteview.specs.Numbers.{le, le_at, part}
-use Rattle.checker.proofs.RunParts.{part_bytes, part_long, same_number}
+use Rattle.check_link.proofs.RunParts.{part_bytes, part_long, same_number}
 use Rattle.checker.proofs.same_runs.has_word.Goals as goal
 
 pub returns : goal.returns

@@ -1,7 +1,7 @@
 use Rattle.std.proofs.Common.{◌≡◌, ◌∙◌, ap, sym, take, arith}
 use Rattle.byteview.proofs.NumberLaws.{length-le_bytes, low_first_is, take-le_bytes}
 use Rattle.byteview.specs.Numbers.{le_bytes, part}
-use Rattle.checker.proofs.RunParts.{part_holds, part_same}
+use Rattle.check_link.proofs.RunParts.{part_holds, part_same}
 use Rattle.checker.proofs.same_runs.has_word_value.Goals as goal
 
 pub returns : goal.returns

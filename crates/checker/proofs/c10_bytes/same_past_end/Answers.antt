@@ -1,5 +1,5 @@
 use Rattle.checker.proofs.Sweeping.{same_parts}
-use Rattle.checker.proofs.c10_bytes.same_between.Goals as goal
+use Rattle.checker.proofs.c10_bytes.same_past_end.Goals as goal
 
 pub returns : goal.returns
 returns c =
