@@ -1,11 +1,11 @@
 -- Whether a name begins with a gathering one and a dot, by the bytes in front and the byte behind them.
 use Rattle.std.proofs.Common.{◌≡◌, ℕ, ◌<◌, ◌==◌, ◌&&◌, ◌||◌, Bool, true, false, List, [], ◌∷◌, ◌++◌, length, take, drop, refl, sym, ◌∙◌, ap, arith}
-use Rattle.std.specs.Prelude.{Option, find, nat_eq, slice_index, unwrap_or}
+use Rattle.std.specs.Prelude.{nat_eq, slice_index}
 use Rattle.std.specs.Cmp.{nat_eq_equiv}
 use Rattle.std.specs.List.{starts_with}
 use Rattle.std.specs.Str.{bytes_eq}
 use Rattle.std.proofs.lemmas.Bool.{eqb-true}
-use Rattle.elf_model.specs.Pieces.{gathering_names, is_gathered_by, output_name}
+use Rattle.elf_model.specs.Pieces.{is_gathered_by}
 
 -- one byte in front of both names, which is the same or not
 one_head :
@@ -48,8 +48,3 @@ module _ (name g front rest : List ℕ) (long : length g < length name) (front_i
       by : (t : Bool) → (slice_index rest 0 == 46) ≡ t → (slice_index rest 0 == 46) ≡ is_gathered_by name g
       by true e = absurd (never (eqb-true (slice_index rest 0) 46 e))
       by false e = e ∙ sym (by_parts ∙ ap (λ (t : Bool). t && bytes_eq front g) e)
-
--- the output name is the gathering name that was found, or the own name
-pub output_found : (name : List ℕ) (o : Option (List ℕ)) → o ≡ find (is_gathered_by name) gathering_names → unwrap_or o name ≡ output_name name
-unfolding output_name
-output_found name o e = ap (λ (p : Option (List ℕ)). unwrap_or p name) e

@@ -1,16 +1,17 @@
 -- Pieces that are compared with a third, and the comparison of the checker's output sections, which decides
 -- whether pieces are of one output section.
-use Rattle.std.proofs.Common.{◌≡◌, Bool, true, false, ◌&&◌, List, ℕ, refl, sym, ◌∙◌}
+use Rattle.std.proofs.Common.{◌≡◌, Bool, true, false, ◌&&◌, List, ℕ, refl, sym, ap, ◌∙◌}
 use Rattle.std.specs.Cmp.Lexicographic.{slice_cmp}
 use Rattle.std.specs.Ordering.{is_eq, bool_cmp, nat_cmp, ordering_then}
 use Rattle.std.specs.declared.cmp.Ordering.{Ordering}
 use Rattle.std.specs.declared.cmp.Ordering.TheVariants.{Less, Equal, Greater}
 use Rattle.std.proofs.lemmas.Bool.{false_from_ne_true, true≢false}
 use Rattle.std.proofs.lemmas.Map.Text.{is_eq-slice_cmp}
+use Rattle.std.proofs.lemmas.Slice.Eq.{bytes_eq-Decides}
 use Rattle.std.specs.Str.{bytes_eq}
 use Rattle.elf_model.specs.Pieces.{Piece, is_executable, is_nobits, is_thread_local, is_writable, output_name, same_bool, same_output}
 use Rattle.elf_model.proofs.SameOutput.{same_output-sym, same_output-trans}
-use Rattle.check_link.specs.OutputSections.{IsOutputSection, section_order}
+use Rattle.check_link.specs.OutputSections.{IsOutputSection, IsSameSection, section_order}
 use Rattle.check_link.specs.declared.output_sections.OutputSection.{OutputSection}
 
 -- two pieces that are each of one output section with a third
@@ -72,3 +73,35 @@ sections_tie p q s t is_p is_q =
     (tie_flags s.executable t.executable (is_executable p.header) (is_executable q.header) is_p.executable is_q.executable)
     (tie_flags s.thread_local t.thread_local (is_thread_local p.header) (is_thread_local q.header) is_p.thread_local is_q.thread_local)
     (tie_flags s.nobits t.nobits (is_nobits p.header) (is_nobits q.header) is_p.nobits is_q.nobits)
+
+-- Output sections that are one compare alike with a third, and as equal with one another.
+ordered_alike :
+    (a b : List ℕ) (c d e f g h i j : Bool) (t : OutputSection) → a ≡ b → c ≡ d → e ≡ f → g ≡ h → i ≡ j →
+    ordering_then (slice_cmp nat_cmp a t.name.now)
+    (ordering_then (bool_cmp c t.writable) (ordering_then (bool_cmp e t.executable) (ordering_then (bool_cmp g t.thread_local) (bool_cmp i t.nobits))))
+    ≡ ordering_then (slice_cmp nat_cmp b t.name.now)
+    (ordering_then (bool_cmp d t.writable) (ordering_then (bool_cmp f t.executable) (ordering_then (bool_cmp h t.thread_local) (bool_cmp j t.nobits))))
+ordered_alike a b c d e f g h i j t p q r u v = rw (p, q, r, u, v) refl
+
+pub one_orders : (s u t : OutputSection) → IsSameSection s u → section_order s t ≡ section_order u t
+one_orders s u t same =
+    ordered_alike s.name.now u.name.now s.writable u.writable s.executable u.executable s.thread_local u.thread_local s.nobits u.nobits t
+    same.name same.writable same.executable same.thread_local same.nobits
+
+same_self : (b : Bool) → same_bool b b ≡ true
+same_self true = refl
+same_self false = refl
+
+equal_self : (s : OutputSection) → is_eq (section_order s s) ≡ true
+equal_self s =
+    tie_five (slice_cmp nat_cmp s.name.now s.name.now) (bool_cmp s.writable s.writable) (bool_cmp s.executable s.executable)
+    (bool_cmp s.thread_local s.thread_local) (bool_cmp s.nobits s.nobits)
+    ∙ all_alike (is_eq (slice_cmp nat_cmp s.name.now s.name.now)) (is_eq (bool_cmp s.writable s.writable))
+    (is_eq (bool_cmp s.executable s.executable)) (is_eq (bool_cmp s.thread_local s.thread_local)) (is_eq (bool_cmp s.nobits s.nobits))
+    true true true true true
+    (is_eq-slice_cmp s.name.now s.name.now ∙ (bytes_eq-Decides s.name.now s.name.now).1 refl)
+    (tie_bools s.writable s.writable ∙ same_self s.writable) (tie_bools s.executable s.executable ∙ same_self s.executable)
+    (tie_bools s.thread_local s.thread_local ∙ same_self s.thread_local) (tie_bools s.nobits s.nobits ∙ same_self s.nobits)
+
+pub one_equal : (s u : OutputSection) → IsSameSection s u → is_eq (section_order s u) ≡ true
+one_equal s u same = ap is_eq (one_orders s u u same) ∙ equal_self u

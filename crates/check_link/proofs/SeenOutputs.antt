@@ -1,12 +1,10 @@
 -- Tables by output names, one piece more; and what they tell in the end.
 use Rattle.std.proofs.Common.{◌≡◌, ℕ, ◌+◌, ◌<◌, ◌≤◌, ◌&&◌, ◌||◌, not, Bool, true, false, cond, max, List, [], ◌∷◌, Option, None, Some, drop, get_or, length, refl, sym, ap, ◌∙◌, arith}
-use Rattle.std.specs.Prelude.{◌↔◌, All, is_some, option_map, unwrap_or}
+use Rattle.std.specs.Prelude.{◌↔◌, All, is_some, option_map}
 use Rattle.std.specs.Borrow.{Bor}
-use Rattle.std.specs.BTreeMap.{BTreeMap, get_by}
-use Rattle.std.specs.Cmp.Lexicographic.{slice_cmp}
+use Rattle.std.specs.BTreeMap.{BTreeMap}
 use Rattle.std.specs.List.{list_all, list_any}
 use Rattle.std.specs.Option.{option_map_or}
-use Rattle.std.specs.Ordering.{nat_cmp}
 use Rattle.std.specs.Str.{bytes_eq}
 use Rattle.std.proofs.lemmas.Bool.{and_from, and_parts, false≢true}
 use Rattle.std.proofs.lemmas.List.{drop_all}
@@ -18,28 +16,31 @@ use Rattle.elf_model.proofs.PieceBounds.{earlier, further}
 use Rattle.elf_model.proofs.Rests.{rest_at}
 use Rattle.elf_model.proofs.SameOutput.{same_output-sym, same_output-trans}
 use Rattle.elf_model.specs.LinkerValues.{least_of}
-use Rattle.elf_model.specs.Pieces.{Piece, is_of_output, output_name, same_output}
+use Rattle.elf_model.specs.Pieces.{Piece, is_executable, is_nobits, is_of_output, is_thread_local, is_writable, output_name, same_bool, same_output}
 use Rattle.elf_model.specs.Placement.{Placed}
-use Rattle.check_link.specs.Outputs.{AreOne, Seen, end_in, seen_all, seen_in, seen_more, seen_view, start_in, with_piece}
+use Rattle.check_link.specs.ByName.{found_in}
+use Rattle.check_link.specs.OutputSections.{same_flags}
+use Rattle.check_link.specs.Outputs.{AreOne, Seen, end_of, seen_all, seen_in, seen_more, seen_view, start_of, with_piece}
 use Rattle.check_link.specs.Views.{piece_view, piece_views}
 use Rattle.check_link.specs.declared.bounds.Span.{Span}
 use Rattle.check_link.specs.declared.output_names.Output.{Output}
 use Rattle.check_link.specs.declared.things.Piece as code
 
--- what a table has for each output name, once a piece of one came in
+-- what is known of each output name, once a piece of one came in
 pub seen_put :
-    (old new : BTreeMap (Bor (List ℕ)) Output) (name n : List ℕ) (p : Piece) (v : Output) → name ≡ output_name p.name →
-    get_by (λ k. slice_cmp nat_cmp n k.now) new ≡ cond (bytes_eq name n) (Some v) (get_by (λ k. slice_cmp nat_cmp n k.now) old) →
-    seen_view v ≡ with_piece p (seen_in old name) → seen_in new n ≡ seen_more n p (seen_in old n)
-seen_put old new name n p v named e is =
+    (old : List ℕ → Option Output) (next : Option Output) (name n : List ℕ) (p : Piece) (v : Output) → name ≡ output_name p.name →
+    next ≡ cond (bytes_eq name n) (Some v) (old n) → seen_view v ≡ with_piece p (option_map seen_view (old name)) →
+    option_map seen_view next ≡ seen_more n p (option_map seen_view (old n))
+seen_put old next name n p v named e is =
     ap (option_map seen_view) e
     ∙ (by (bytes_eq name n) refl
-    ∙ ap (λ (m : List ℕ). cond {A = Option Seen} (bytes_eq m n) (Some (with_piece p (seen_in old n))) (seen_in old n)) named)
+    ∙ ap (λ (m : List ℕ). cond {A = Option Seen} (bytes_eq m n) (Some (with_piece p (option_map seen_view (old n)))) (option_map seen_view (old n))) named)
   where
     by :
         (b : Bool) → bytes_eq name n ≡ b →
-        option_map seen_view (cond b (Some v) (get_by (λ k. slice_cmp nat_cmp n k.now) old)) ≡ cond {A = Option Seen} b (Some (with_piece p (seen_in old n))) (seen_in old n)
-    by true same = ap (λ (s : Seen). Some s) (is ∙ ap (λ (m : List ℕ). with_piece p (seen_in old m)) ((bytes_eq-Decides name n).0 same))
+        option_map seen_view (cond b (Some v) (old n))
+        ≡ cond {A = Option Seen} b (Some (with_piece p (option_map seen_view (old n)))) (option_map seen_view (old n))
+    by true same = ap (λ (s : Seen). Some s) (is ∙ ap (λ (m : List ℕ). with_piece p (option_map seen_view (old m))) ((bytes_eq-Decides name n).0 same))
     by false same = refl
 
 module _ (n : List ℕ) where
@@ -73,7 +74,7 @@ module _ (n : List ℕ) where
 
   -- what is known in the end, by the first piece
   abbrev is_alike : Piece → Piece → Bool
-  is_alike p q = not (is_of_output n q) || same_output p q
+  is_alike p q = not (is_of_output n q) || same_flags p q
 
   and_assoc : (a b c : Bool) → ((a && b) && c) ≡ (a && (b && c))
   and_assoc true b c = refl
@@ -89,29 +90,42 @@ module _ (n : List ℕ) where
     where
       by :
           (t : Bool) → ((c : Bool) → seen_all n qs (Some (p, c)) ≡ Some (p, c && list_all (is_alike p) qs)) →
-          seen_all n qs (cond t (Some (p, b && same_output p q)) (Some (p, b))) ≡ Some (p, b && ((not t || same_output p q) && list_all (is_alike p) qs))
-      by true rest = rest (b && same_output p q) ∙ ap (λ (c : Bool). Some (p, c)) (and_assoc b (same_output p q) (list_all (is_alike p) qs))
+          seen_all n qs (cond t (Some (p, b && same_flags p q)) (Some (p, b))) ≡ Some (p, b && ((not t || same_flags p q) && list_all (is_alike p) qs))
+      by true rest = rest (b && same_flags p q) ∙ ap (λ (c : Bool). Some (p, c)) (and_assoc b (same_flags p q) (list_all (is_alike p) qs))
       by false rest = rest b
+
+  with_true : (a b c d e : Bool) → a ≡ true → (a && b && c && d && e) ≡ (b && c && d && e)
+  with_true a b c d e t = rw t refl
+
+  -- pieces of the name are of one output section where their flags are alike
+  by_flags : (p q : Piece) → is_of_output n p ≡ true → is_of_output n q ≡ true → same_output p q ≡ same_flags p q
+  unfolding same_output
+  by_flags p q of_p of_q =
+      let same : output_name p.name ≡ output_name q.name =
+      (bytes_eq-Decides (output_name p.name) n).0 of_p ∙ sym ((bytes_eq-Decides (output_name q.name) n).0 of_q) in
+      with_true (bytes_eq (output_name p.name) (output_name q.name)) (same_bool (is_writable p.header) (is_writable q.header))
+      (same_bool (is_executable p.header) (is_executable q.header)) (same_bool (is_thread_local p.header) (is_thread_local q.header))
+      (same_bool (is_nobits p.header) (is_nobits q.header)) ((bytes_eq-Decides (output_name p.name) (output_name q.name)).1 same)
 
   -- all that are of the name are of one output section with a piece
   abbrev AreAlike : Piece → List Piece → Type 0
   AreAlike p ps = All (λ q. is_of_output n q ≡ true → same_output p q ≡ true) ps
 
-  alike_from : (p : Piece) (ps : List Piece) → list_all (is_alike p) ps ≡ true → AreAlike p ps
-  alike_from p [] e = All-nil (λ q. is_of_output n q ≡ true → same_output p q ≡ true)
-  alike_from p (q ∷ qs) e =
+  alike_from : (p : Piece) (ps : List Piece) → is_of_output n p ≡ true → list_all (is_alike p) ps ≡ true → AreAlike p ps
+  alike_from p [] own e = All-nil (λ q. is_of_output n q ≡ true → same_output p q ≡ true)
+  alike_from p (q ∷ qs) own e =
       let parts = and_parts (is_alike p q) (list_all (is_alike p) qs) e in
       All-cons (λ r. is_of_output n r ≡ true → same_output p r ≡ true) q qs
-      (λ of. sym (ap (λ (b : Bool). not b || same_output p q) of) ∙ parts.0) (alike_from p qs parts.1)
+      (λ of. by_flags p q own of ∙ (sym (ap (λ (b : Bool). not b || same_flags p q) of) ∙ parts.0)) (alike_from p qs own parts.1)
 
-  alike_all : (p : Piece) (ps : List Piece) → AreAlike p ps → list_all (is_alike p) ps ≡ true
-  alike_all p [] all = refl
-  alike_all p (q ∷ qs) all =
+  alike_all : (p : Piece) (ps : List Piece) → is_of_output n p ≡ true → AreAlike p ps → list_all (is_alike p) ps ≡ true
+  alike_all p [] own all = refl
+  alike_all p (q ∷ qs) own all =
       and_from (is_alike p q) (list_all (is_alike p) qs)
-      (by (is_of_output n q) (All-head (λ r. is_of_output n r ≡ true → same_output p r ≡ true) q qs all))
-      (alike_all p qs (All-tail (λ r. is_of_output n r ≡ true → same_output p r ≡ true) q qs all))
+      (by (is_of_output n q) (λ of. sym (by_flags p q own of) ∙ All-head (λ r. is_of_output n r ≡ true → same_output p r ≡ true) q qs all of))
+      (alike_all p qs own (All-tail (λ r. is_of_output n r ≡ true → same_output p r ≡ true) q qs all))
     where
-      by : (b : Bool) → (b ≡ true → same_output p q ≡ true) → (not b || same_output p q) ≡ true
+      by : (b : Bool) → (b ≡ true → same_flags p q ≡ true) → (not b || same_flags p q) ≡ true
       by true same = same refl
       by false same = refl
 
@@ -139,8 +153,8 @@ module _ (n : List ℕ) where
           (alike (seen_all n ps (cond b (Some (p, true)) None)) ≡ true) ↔ AreOne (p ∷ ps) n
       by true of rest =
           let told : alike (seen_all n ps (Some (p, true))) ≡ list_all (is_alike p) ps = ap alike (seen_from ps p true) in (
-            λ e. one_from p ps (alike_from p ps (sym told ∙ e)),
-            λ one. told ∙ alike_all p ps (λ k d within of_q. AllPairs-head BothSame p ps one k d within of of_q),
+            λ e. one_from p ps (alike_from p ps of (sym told ∙ e)),
+            λ one. told ∙ alike_all p ps of (λ k d within of_q. AllPairs-head BothSame p ps one k d within of of_q),
           )
       by false of rest = (
         λ e. AllPairs-cons BothSame p ps (λ k d within of_p of_q. absurd (false≢true (sym of ∙ of_p))) (rest.0 e),
@@ -150,7 +164,7 @@ module _ (n : List ℕ) where
   -- what a table has for the name says the same
   pub one_in_table :
       (ps : List Piece) (table : BTreeMap (Bor (List ℕ)) Output) → seen_in table n ≡ seen_all n ps None →
-      (o : Option Output) → get_by (λ k. slice_cmp nat_cmp n k.now) table ≡ o → (b : Bool) → b ≡ option_map_or (λ t. t.alike) o true → (b ≡ true) ↔ AreOne ps n
+      (o : Option Output) → found_in table n ≡ o → (b : Bool) → b ≡ option_map_or (λ t. t.alike) o true → (b ≡ true) ↔ AreOne ps n
   one_in_table ps table are o got b is =
       let e : b ≡ alike (seen_all n ps None) = is ∙ (seen o ∙ ap alike (sym (ap (option_map seen_view) got) ∙ are)) in
       (λ t. (one_told ps).0 (sym e ∙ t), λ one. e ∙ (one_told ps).1 one)
@@ -161,35 +175,34 @@ module _ (n : List ℕ) where
 
   pub any_in_table :
       (ps : List Piece) (table : BTreeMap (Bor (List ℕ)) Output) → seen_in table n ≡ seen_all n ps None →
-      is_some (get_by (λ k. slice_cmp nat_cmp n k.now) table) ≡ list_any (is_of_output n) ps
-  any_in_table ps table are = seen (get_by (λ k. slice_cmp nat_cmp n k.now) table) ∙ (ap is_some are ∙ seen_any ps)
+      is_some (found_in table n) ≡ list_any (is_of_output n) ps
+  any_in_table ps table are = seen (found_in table n) ∙ (ap is_some are ∙ seen_any ps)
     where
       seen : (p : Option Output) → is_some p ≡ is_some (option_map seen_view p)
       seen None = refl
       seen (Some t) = refl
 
 -- The spans of output names, once a piece of one came in.
-module _ (old new : BTreeMap (Bor (List ℕ)) Span) (name n : List ℕ) (q : Placed) (v : Span) (named : name ≡ output_name q.piece.name)
-    (put : get_by (λ k. slice_cmp nat_cmp n k.now) new ≡ cond (bytes_eq name n) (Some v) (get_by (λ k. slice_cmp nat_cmp n k.now) old)) where
-  pub start_put : v.start ≡ least_of q.at (start_in old name) → start_in new n ≡ earlier (is_of_output n) (start_in old n) q
+module _ (old : List ℕ → Option Span) (next : Option Span) (name n : List ℕ) (q : Placed) (v : Span) (named : name ≡ output_name q.piece.name)
+    (put : next ≡ cond (bytes_eq name n) (Some v) (old n)) where
+  pub start_put : v.start ≡ least_of q.at (start_of (old name)) → start_of next ≡ earlier (is_of_output n) (start_of (old n)) q
   start_put is =
-      ap (option_map (λ s. s.start)) put
-      ∙ (by (bytes_eq name n) refl ∙ ap (λ (m : List ℕ). cond {A = Option ℕ} (bytes_eq m n) (Some (least_of q.at (start_in old n))) (start_in old n)) named)
+      ap start_of put
+      ∙ (by (bytes_eq name n) refl ∙ ap (λ (m : List ℕ). cond {A = Option ℕ} (bytes_eq m n) (Some (least_of q.at (start_of (old n)))) (start_of (old n))) named)
     where
       by :
           (b : Bool) → bytes_eq name n ≡ b →
-          option_map (λ s. s.start) (cond b (Some v) (get_by (λ k. slice_cmp nat_cmp n k.now) old)) ≡ cond {A = Option ℕ} b (Some (least_of q.at (start_in old n))) (start_in old n)
-      by true same = ap (λ (x : ℕ). Some x) (is ∙ ap (λ (m : List ℕ). least_of q.at (start_in old m)) ((bytes_eq-Decides name n).0 same))
+          start_of (cond b (Some v) (old n)) ≡ cond {A = Option ℕ} b (Some (least_of q.at (start_of (old n)))) (start_of (old n))
+      by true same = ap (λ (x : ℕ). Some x) (is ∙ ap (λ (m : List ℕ). least_of q.at (start_of (old m))) ((bytes_eq-Decides name n).0 same))
       by false same = refl
 
-  pub end_put : v.end ≡ max (end_in old name) (q.at + q.piece.size) → end_in new n ≡ further (is_of_output n) (end_in old n) q
+  pub end_put : v.end ≡ max (end_of (old name)) (q.at + q.piece.size) → end_of next ≡ further (is_of_output n) (end_of (old n)) q
   end_put is =
-      ap (λ (o : Option Span). unwrap_or (option_map (λ s. s.end) o) 0) put
-      ∙ (by (bytes_eq name n) refl ∙ ap (λ (m : List ℕ). cond {A = ℕ} (bytes_eq m n) (max (end_in old n) (q.at + q.piece.size)) (end_in old n)) named)
+      ap end_of put
+      ∙ (by (bytes_eq name n) refl ∙ ap (λ (m : List ℕ). cond {A = ℕ} (bytes_eq m n) (max (end_of (old n)) (q.at + q.piece.size)) (end_of (old n))) named)
     where
       by :
           (b : Bool) → bytes_eq name n ≡ b →
-          unwrap_or (option_map (λ s. s.end) (cond b (Some v) (get_by (λ k. slice_cmp nat_cmp n k.now) old))) 0
-          ≡ cond {A = ℕ} b (max (end_in old n) (q.at + q.piece.size)) (end_in old n)
-      by true same = is ∙ ap (λ (m : List ℕ). max (end_in old m) (q.at + q.piece.size)) ((bytes_eq-Decides name n).0 same)
+          end_of (cond b (Some v) (old n)) ≡ cond {A = ℕ} b (max (end_of (old n)) (q.at + q.piece.size)) (end_of (old n))
+      by true same = is ∙ ap (λ (m : List ℕ). max (end_of (old m)) (q.at + q.piece.size)) ((bytes_eq-Decides name n).0 same)
       by false same = refl

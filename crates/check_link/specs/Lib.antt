@@ -1,3 +1,4 @@
+pub mod ByName
 pub mod Chosen
 pub mod Commons
 pub mod NameIndex

@@ -6,9 +6,11 @@ ghost use Rattle.elf_model.specs.Placement.{got_end};
 ghost use Rattle.elf_model.specs.ThreadStorage.{is_thread_data};
 ghost use Rattle.elf_model.proofs.PieceBounds.{earlier, further};
 ghost use Rattle.check_link.specs.PieceParts.{AreBounds, AreInLimit, IsGotInLimit, IsInLimit, part_test};
+ghost use Rattle.check_link.specs.ByName.{IsKept};
 ghost use Rattle.check_link.specs.Outputs.{AreSpans, HasSpanned};
 ghost use Rattle.check_link.specs.Views.{piece_view, placed_view, placed_views};
 
+use crate::by_name::ByName;
 use crate::output_sections::output_name;
 use crate::sizes::is_thread_zero;
 use crate::things::{Piece, Placed};
@@ -137,13 +139,14 @@ fn with_piece(before: Option<Span>, placed: &Placed<'_>) -> Span
 }
 
 /// Adds a piece to a table of the spans of output names.
-fn add_span<'a>(spans: &mut BTreeMap<&'a [u8], Span>, placed: &Placed<'a>) -> Result<(), AllocError>
-    requires { IsInLimit (placed_view placed.now) }
-    ensures { OnOk result (HasSpanned spans.old spans.new (placed_view placed.now)) }
+fn add_span<'a>(spans: &mut ByName<'a, Span>, placed: &Placed<'a>) -> Result<(), AllocError>
+    requires limit { IsInLimit (placed_view placed.now) }
+    requires kept { IsKept spans.old }
+    ensures kept { OnOk result (IsKept spans.new) }
+    ensures spanned { OnOk result (HasSpanned spans.old spans.new (placed_view placed.now)) }
 {
-    let name = output_name(placed.piece.name);
-    let before = spans.get(name).copied();
-    spans.insert(name, with_piece(before, placed))?;
+    spans.turn_to(output_name(placed.piece.name))?;
+    spans.value = Some(with_piece(spans.value, placed));
     Ok(())
 }
 
@@ -155,11 +158,11 @@ pub fn spans_of<'a>(
     requires { AreInLimit (placed_views placed.now) }
     ensures { IfOk result (AreSpans (placed_views placed.now)) }
 {
-    let mut spans = BTreeMap::new(alloc);
+    let mut spans = ByName::new(alloc);
     for q in placed {
         add_span(&mut spans, q)?;
     }
-    Ok(spans)
+    spans.into_table()
 }
 
 /// Where the GOT ends, 0 without one.

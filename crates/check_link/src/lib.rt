@@ -3,6 +3,7 @@
 #![tactic(auto)]
 
 mod bounds;
+mod by_name;
 mod chosen_definitions;
 mod common_lines;
 mod commons;
@@ -34,7 +35,7 @@ pub use link::{Link, base_of, entry_of};
 pub use linker_names::{fixed_bound, is_mangled, named_output, output_bound};
 pub use names::Names;
 pub use output_names::Outputs;
-pub use output_sections::output_section;
+pub use output_sections::{OutputSection, output_section, same_section};
 pub use pieces::pieces_of;
 pub use placed_pieces::{
     first_address, got_thing, got_things_of, place_all, range_of_placed, thing_of_placed,

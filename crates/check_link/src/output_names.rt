@@ -2,10 +2,12 @@
 ghost use Rattle.std.specs.Prelude.{◌≡◌, ◌↔◌, ℕ, IfOk, IsTrue, List, OnOk, option_map};
 ghost use Rattle.std.specs.List.{list_any};
 ghost use Rattle.elf_model.specs.Pieces.{is_of_output};
-ghost use Rattle.check_link.specs.Outputs.{AreOne, AreOutputs, seen_in, seen_more, seen_view, with_piece};
+ghost use Rattle.check_link.specs.ByName.{IsKept};
+ghost use Rattle.check_link.specs.Outputs.{AreOne, AreOutputs, seen_more, seen_now, seen_view, with_piece};
 ghost use Rattle.check_link.specs.Views.{piece_view, piece_views};
 
-use crate::output_sections::{output_name, same_output};
+use crate::by_name::ByName;
+use crate::output_sections::{output_name, same_flags};
 use crate::things::Piece;
 use std::alloc::{AllocError, Global};
 use std::collections::BTreeMap;
@@ -47,7 +49,7 @@ fn with_piece<'a>(before: Option<Output<'a>>, piece: &Piece<'a>) -> Output<'a>
     match before {
         Some(output) => Output {
             first: output.first,
-            alike: output.alike && same_output(&output.first, piece),
+            alike: output.alike && same_flags(&output.first, piece),
         },
         None => Output {
             first: *piece,
@@ -57,16 +59,14 @@ fn with_piece<'a>(before: Option<Output<'a>>, piece: &Piece<'a>) -> Output<'a>
 }
 
 /// Adds a piece to a table of output names.
-fn add_piece<'a>(
-    table: &mut BTreeMap<&'a [u8], Output<'a>>,
-    piece: &Piece<'a>,
-) -> Result<(), AllocError>
-    ensures { OnOk result ((name : List ℕ) →
-        seen_in table.new name ≡ seen_more name (piece_view piece.now) (seen_in table.old name)) }
+fn add_piece<'a>(table: &mut ByName<'a, Output<'a>>, piece: &Piece<'a>) -> Result<(), AllocError>
+    requires { IsKept table.old }
+    ensures kept { OnOk result (IsKept table.new) }
+    ensures seen { OnOk result ((name : List ℕ) →
+        seen_now table.new name ≡ seen_more name (piece_view piece.now) (seen_now table.old name)) }
 {
-    let name = output_name(piece.name);
-    let before = table.get(name).copied();
-    table.insert(name, with_piece(before, piece))?;
+    table.turn_to(output_name(piece.name))?;
+    table.value = Some(with_piece(table.value, piece));
     Ok(())
 }
 
@@ -77,11 +77,11 @@ fn table_of<'a>(
 ) -> Result<BTreeMap<&'a [u8], Output<'a>>, AllocError>
     ensures { IfOk result (AreOutputs (piece_views pieces.now)) }
 {
-    let mut table = BTreeMap::new(alloc);
+    let mut table = ByName::new(alloc);
     for piece in pieces {
         add_piece(&mut table, piece)?;
     }
-    Ok(table)
+    table.into_table()
 }
 
 impl<'l, 'a> Outputs<'l, 'a> {

@@ -1,9 +1,10 @@
 //! Output sections: which pieces are of one.
-ghost use Rattle.std.specs.Prelude.{◌≡◌, find, map, option_copied};
+ghost use Rattle.std.specs.Prelude.{◌≡◌, ◌↔◌, IsTrue};
 ghost use Rattle.elf_model.specs.Pieces as pieces;
-ghost use Rattle.check_link.specs.OutputSections.{IsOutputSection};
+ghost use Rattle.check_link.specs.OutputSections.{IsOutputSection, IsSameSection, same_flags};
 ghost use Rattle.check_link.specs.Views.{piece_view};
 
+use crate::same_runs::same_text;
 use crate::things::Piece;
 
 /// What the pieces of one output section have in common.
@@ -16,58 +17,50 @@ pub struct OutputSection<'a> {
     pub nobits: bool,
 }
 
-/// The names that gather the sections whose name begins with them and a dot.
-fn gathering_names() -> [&'static [u8]; 9]
-    ensures { map (λ g. g.now) result ≡ pieces.gathering_names }
-{
-    [
-        b".text",
-        b".rodata",
-        b".data",
-        b".bss",
-        b".tdata",
-        b".tbss",
-        b".init_array",
-        b".fini_array",
-        b".preinit_array",
-    ]
-}
-
 /// Whether a name is a gathering one, or begins with it and a dot.
 fn is_gathered_by(name: &[u8], gathering: &[u8]) -> bool
     ensures { result ≡ pieces.is_gathered_by name.now gathering.now }
 {
     if name.len() <= gathering.len() {
-        return name == gathering;
+        return same_text(name, gathering);
     }
     let (front, rest) = name.split_at(gathering.len());
-    rest[0] == b'.' && front == gathering
+    rest[0] == b'.' && same_text(front, gathering)
 }
 
-/// The first of the names that gathers a section's name.
-fn find_gathering<'b, 'g>(name: &[u8], names: &'b [&'g [u8]]) -> Option<&'b &'g [u8]>
-    ensures { option_copied result
-        ≡ find (λ g. pieces.is_gathered_by name.now g.now) names.entry.now }
-{
-    names.iter().find(|g| is_gathered_by(name, g))
-}
-
-/// The gathering name that a section's name belongs to.
-fn gathering_name(name: &[u8]) -> Option<&'static [u8]>
-    ensures { option_copied result ≡ find (pieces.is_gathered_by name.now) pieces.gathering_names }
-{
-    let names = gathering_names();
-    find_gathering(name, &names).copied()
-}
-
-/// The gathering name that a section's name belongs to, or its own.
+/// The output name of a section: the gathering name that it belongs to, or its own.
+#[tactic(auto, unfolding(elf_model::specs::Pieces::output_name))]
 pub fn output_name<'a>(name: &'a [u8]) -> &'a [u8]
     ensures { result.now ≡ pieces.output_name name.now }
 {
-    match gathering_name(name) {
-        Some(gathering) => gathering,
-        None => name,
+    if is_gathered_by(name, b".text") {
+        return b".text";
     }
+    if is_gathered_by(name, b".rodata") {
+        return b".rodata";
+    }
+    if is_gathered_by(name, b".data") {
+        return b".data";
+    }
+    if is_gathered_by(name, b".bss") {
+        return b".bss";
+    }
+    if is_gathered_by(name, b".tdata") {
+        return b".tdata";
+    }
+    if is_gathered_by(name, b".tbss") {
+        return b".tbss";
+    }
+    if is_gathered_by(name, b".init_array") {
+        return b".init_array";
+    }
+    if is_gathered_by(name, b".fini_array") {
+        return b".fini_array";
+    }
+    if is_gathered_by(name, b".preinit_array") {
+        return b".preinit_array";
+    }
+    name
 }
 
 /// The output section of a piece.
@@ -84,9 +77,27 @@ pub fn output_section<'a>(piece: &Piece<'a>) -> OutputSection<'a>
     }
 }
 
-/// Whether two pieces are of one output section.
-pub fn same_output(first: &Piece<'_>, second: &Piece<'_>) -> bool
-    ensures { result ≡ pieces.same_output (piece_view first.now) (piece_view second.now) }
+/// Whether two pieces are alike in WRITE, EXECINSTR, TLS and NOBITS.
+pub fn same_flags(first: &Piece<'_>, second: &Piece<'_>) -> bool
+    ensures { result ≡ same_flags (piece_view first.now) (piece_view second.now) }
 {
-    output_section(first).cmp(&output_section(second)).is_eq()
+    let one = &first.header;
+    let other = &second.header;
+    if one.is_writable() != other.is_writable() || one.is_executable() != other.is_executable() {
+        return false;
+    }
+    one.is_thread_local() == other.is_thread_local() && one.is_nobits() == other.is_nobits()
+}
+
+/// Whether two output sections are one.
+pub fn same_section(first: &OutputSection<'_>, second: &OutputSection<'_>) -> bool
+    ensures { IsTrue result ↔ IsSameSection first.now second.now }
+{
+    if first.writable != second.writable || first.executable != second.executable {
+        return false;
+    }
+    if first.thread_local != second.thread_local || first.nobits != second.nobits {
+        return false;
+    }
+    same_text(first.name, second.name)
 }

@@ -1,7 +1,8 @@
 -- One step of the rule on neighbours, at a piece as the checker has it.
-use Rattle.std.proofs.Common.{◌≡◌, ℕ, ◌+◌, ◌<◌, Bool, true, Option, Some, None, List, length, get_or, sym, subst, arith}
+use Rattle.std.proofs.Common.{◌≡◌, ℕ, ◌+◌, ◌<◌, Bool, true, cond, Option, Some, None, List, length, get_or, sym, subst, arith}
 use Rattle.std.specs.Prelude.{IfSome, IsTrue, slice_index_or}
 use Rattle.std.specs.BTreeMap.{BTreeMap, Updates, get}
+use Rattle.std.specs.Ordering.{is_eq}
 use Rattle.std.proofs.lemmas.List.{get_or-map, length-map}
 use Rattle.elf_model.specs.Placement as placement
 use Rattle.elf_model.specs.Placement.{IsNear}
@@ -9,7 +10,7 @@ use Rattle.check_link.specs.OutputSections.{IsOutputSection, section_order}
 use Rattle.check_link.specs.Views.{placed_view, placed_views}
 use Rattle.check_link.specs.declared.output_sections.OutputSection.{OutputSection}
 use Rattle.check_link.specs.declared.things.Placed.{Placed}
-use Rattle.checker.proofs.NextPieces.{HasLasts, IsLast, NearFrom, StandsAt, lasts_more, near_more, near_stop}
+use Rattle.checker.proofs.NextPieces.{HasLasts, IsLast, LastsAre, NearFrom, StandsAt, lasts_more, near_more, near_stop}
 use Rattle.elf_model.proofs.Rests.{Left}
 
 abbrev pub NearLast : List Placed → Placed → Option ℕ → Type 0
@@ -28,13 +29,18 @@ module _ (placed : List Placed) (j : ℕ) (d : Placed) (within : j < length plac
   there : j < length all
   there = let n = length-map placed placed_view in omega (arith, n, within)
 
-  -- piece j goes into the map
+  -- piece j is the last one of its output section; and so it is in a map into which it goes
+  pub placed_next :
+      (s : OutputSection) (f g : OutputSection → Option ℕ) → IsOutputSection (placed_view next).piece s →
+      ((t : OutputSection) → g t ≡ cond (is_eq (section_order s t)) (Some j) (f t)) → LastsAre all j f → LastsAre all (j + 1) g
+  placed_next s f g is more lasts = lasts_more all j (placed_view next) s f g (stands j d within) is more lasts
+
   pub placed_more :
       (s : OutputSection) (m n : BTreeMap OutputSection ℕ) → IsOutputSection (placed_view next).piece s →
       Updates section_order m n s (Some j) → HasLasts all j m → HasLasts all (j + 1) n
-  placed_more s m n is updates lasts = lasts_more all j (placed_view next) s m n (stands j d within) is updates lasts
+  placed_more s m n is updates lasts = placed_next s (get section_order m) (get section_order n) is updates.0 lasts
 
-  module _ (s : OutputSection) (m : BTreeMap OutputSection ℕ) (o : Option ℕ) (is : IsOutputSection (placed_view next).piece s) (lasts : HasLasts all j m) (old : o ≡ get section_order m s) where
+  module _ (s : OutputSection) (f : OutputSection → Option ℕ) (o : Option ℕ) (is : IsOutputSection (placed_view next).piece s) (lasts : LastsAre all j f) (old : o ≡ f s) where
     last : IsLast all j (placed_view next).piece o
     last = subst (IsLast all j (placed_view next).piece) (sym old) (lasts (placed_view next).piece s is)
 
@@ -42,7 +48,7 @@ module _ (placed : List Placed) (j : ℕ) (d : Placed) (within : j < length plac
     inside_of None l = tt
     inside_of (Some i) l = let b = l.before in omega (arith, b, within)
 
-    -- what the map has is a piece
+    -- what is known of it is a piece
     pub last_within : IfSome o (λ i. i < length placed)
     last_within = inside_of o last
 

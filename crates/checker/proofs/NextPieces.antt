@@ -1,15 +1,16 @@
 -- The rule on neighbours, piece by piece: the last piece of each output section is kept.
-use Rattle.std.proofs.Common.{◌≡◌, ℕ, ◌+◌, ◌<◌, ◌≤◌, ◌⊎◌, inl, inr, Bool, true, false, cond, Option, Some, None, List, length, sym, ◌∙◌, ap, subst, arith}
+use Rattle.std.proofs.Common.{◌≡◌, ℕ, ◌+◌, ◌-◌, ◌<◌, ◌≤◌, ◌⊎◌, inl, inr, Bool, true, false, cond, Option, Some, None, List, length, refl, sym, ◌∙◌, ap, subst, arith}
 use Rattle.std.specs.Prelude.{IfSome, slice_index_or}
-use Rattle.std.specs.BTreeMap.{BTreeMap, Updates, get}
+use Rattle.std.specs.BTreeMap.{BTreeMap, get}
 use Rattle.std.specs.Ordering.{is_eq}
 use Rattle.elf_model.specs.Pieces.{Piece, same_output}
 use Rattle.elf_model.specs.Placement.{IsNear, IsNext, Placed}
-use Rattle.check_link.specs.OutputSections.{IsOutputSection, section_order}
+use Rattle.check_link.specs.OutputSections.{IsOutputSection, IsSameSection, section_order}
 use Rattle.check_link.specs.declared.output_sections.OutputSection.{OutputSection}
 use Rattle.check_link.proofs.Padded.{below_or_not}
 use Rattle.elf_model.proofs.Rests.{Left}
-use Rattle.check_link.proofs.SameOutput.{differ_by_third, same_by_third, sections_tie}
+use Rattle.check_link.proofs.SameOutput.{differ_by_third, one_equal, one_orders, same_by_third, sections_tie}
+use Rattle.checker.specs.Neighbours.{HasOthers, last_known}
 
 -- of the first j pieces, number i is the last that is of one output section with q
 pub record IsLastAt (ps : List Placed) (j : ℕ) (q : Piece) (i : ℕ) : Type 0 where
@@ -21,9 +22,12 @@ abbrev pub IsLast : List Placed → ℕ → Piece → Option ℕ → Type 0
 IsLast ps j q None = (k : ℕ) (d : Placed) → k < j → same_output (slice_index_or ps k d).piece q ≡ false
 IsLast ps j q (Some i) = IsLastAt ps j q i
 
--- the map has the last of the first j pieces for each output section
+-- these are the last ones of the first j pieces for each output section; and a map has them
+abbrev pub LastsAre : List Placed → ℕ → (OutputSection → Option ℕ) → Type 0
+LastsAre ps j f = (q : Piece) (t : OutputSection) → IsOutputSection q t → IsLast ps j q (f t)
+
 abbrev pub HasLasts : List Placed → ℕ → BTreeMap OutputSection ℕ → Type 0
-HasLasts ps j m = (q : Piece) (t : OutputSection) → IsOutputSection q t → IsLast ps j q (get section_order m t)
+HasLasts ps j m = LastsAre ps j (get section_order m)
 
 -- the rule for the pieces from number j on
 abbrev pub NearFrom : List Placed → ℕ → Type 0
@@ -68,14 +72,43 @@ module _ (ps : List Placed) (j : ℕ) (x : Placed) (at : StandsAt ps j x) (q : P
   last_more o true e last = own_more e
   last_more o false e last = other_more o e last
 
--- piece j goes into the map
+-- piece j is the last one of its output section
 pub lasts_more :
-    (ps : List Placed) (j : ℕ) (x : Placed) (s : OutputSection) (m n : BTreeMap OutputSection ℕ) → StandsAt ps j x →
-    IsOutputSection x.piece s → Updates section_order m n s (Some j) → HasLasts ps j m → HasLasts ps (j + 1) n
-lasts_more ps j x s m n at is updates lasts = λ q t of_q.
+    (ps : List Placed) (j : ℕ) (x : Placed) (s : OutputSection) (f g : OutputSection → Option ℕ) → StandsAt ps j x →
+    IsOutputSection x.piece s → ((t : OutputSection) → g t ≡ cond (is_eq (section_order s t)) (Some j) (f t)) → LastsAre ps j f →
+    LastsAre ps (j + 1) g
+lasts_more ps j x s f g at is more lasts = λ q t of_q.
     let tie = sections_tie x.piece q s t is of_q in
-    subst (IsLast ps (j + 1) q) (sym (updates.0 t))
-    (last_more ps j x at q (get section_order m t) (is_eq (section_order s t)) (sym tie) (lasts q t of_q))
+    subst (IsLast ps (j + 1) q) (sym (more t))
+    (last_more ps j x at q (f t) (is_eq (section_order s t)) (sym tie) (lasts q t of_q))
+
+-- what is known where the latest piece is of an output section: of that one the piece itself, of others what the map has
+module _ (m : BTreeMap OutputSection ℕ) (latest : Option OutputSection) (own : OutputSection) (is : latest ≡ Some own) (j : ℕ) where
+  pub known_by_latest : (t : OutputSection) → last_known m latest j t ≡ cond (is_eq (section_order own t)) (Some (j - 1)) (get section_order m t)
+  known_by_latest t = ap (λ (o : Option OutputSection). last_known m o j t) is
+
+  module _ (s : OutputSection) (same : IsSameSection own s) where
+    pub known_own : Some (j - 1) ≡ last_known m latest j s
+    known_own =
+        sym (known_by_latest s ∙ ap (λ (b : Bool). cond {A = Option ℕ} b (Some (j - 1)) (get section_order m s)) (one_equal own s same))
+
+    pub known_others : HasOthers m m latest j s
+    known_others t differ =
+        sym
+        (known_by_latest t
+        ∙ ap (λ (b : Bool). cond {A = Option ℕ} b (Some (j - 1)) (get section_order m t)) (ap is_eq (one_orders own s t same) ∙ differ))
+
+-- once piece j is the latest one, in output section s
+pub known_more :
+    (m n : BTreeMap OutputSection ℕ) (latest : Option OutputSection) (j : ℕ) (s : OutputSection) → HasOthers m n latest j s →
+    (t : OutputSection) → last_known n (Some s) (j + 1) t ≡ cond (is_eq (section_order s t)) (Some j) (last_known m latest j t)
+known_more m n latest j s others t = by (is_eq (section_order s t)) refl
+  where
+    by :
+        (b : Bool) → is_eq (section_order s t) ≡ b →
+        cond b (Some (j + 1 - 1)) (get section_order n t) ≡ cond {A = Option ℕ} b (Some j) (last_known m latest j t)
+    by true e = let same : j + 1 - 1 ≡ j = omega arith in ap (λ (k : ℕ). Some k) same
+    by false e = others t e
 
 -- What stands before piece j in its output section, if there is anything.
 module _ (ps : List Placed) (j : ℕ) (x : Placed) (at : StandsAt ps j x) (within : j < length ps) where
