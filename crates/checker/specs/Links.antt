@@ -1,5 +1,6 @@
 -- What is known of a link that is judged, by the stages in which it becomes known.
-use Rattle.std.specs.Prelude.{◌≡◌, ℕ, ◌≤◌, List, length, take}
+use Rattle.std.specs.Prelude.{◌≡◌, ℕ, ◌≤◌, IsPermutation, List, length, take}
+use Rattle.std.specs.List.Sorted.{IsNonDecreasingBy}
 use Rattle.elf_model.specs.Loading.{LoadedObject}
 use Rattle.elf_model.specs.MapRecord.{CommonRow, SlotRow}
 use Rattle.elf_model.specs.Pieces.{Piece, kept_sections}
@@ -16,14 +17,16 @@ pub record IsLoadedLink (s : Subject) (os : List LoadedObject) (ps : List Piece)
   pub pieces : ps ≡ kept_sections (objects_of s)
   pub lines : rows ≡ s.map.commons
 
--- the image is mapped, and what the map places in it is listed, the sections first
-pub record IsPlacedLink (s : Subject) (image : List ℕ) (qs : List Placed) (count : ℕ) (got ts : List Thing) : Type 0 where
+-- the image is mapped, and what the map places in it is listed, the sections first, and the things by address too
+pub record IsPlacedLink (s : Subject) (image : List ℕ) (qs : List Placed) (count : ℕ) (got ts sorted : List Thing) : Type 0 where
   pub memory : image ≡ s.image
   pub placed : placed_views qs ≡ placed_of s
   pub within : count ≤ length qs
   pub sections : placed_views (take count qs) ≡ sections_of s
   pub gots : got ≡ got_things s.map.got
   pub things : ts ≡ things_of s
+  pub same : IsPermutation (things_of s) sorted
+  pub rising : IsNonDecreasingBy (λ t. t.at) sorted
 
 -- names mean what they do in the link
 pub record IsBoundLink (s : Subject) (rows : List SlotRow) (b : Bound) : Type 0 where

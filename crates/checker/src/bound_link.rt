@@ -1,5 +1,6 @@
 //! A placed link with what its names mean: what the clauses from the seventh on judge.
-ghost use Rattle.std.specs.Prelude.{◌≡◌};
+ghost use Rattle.std.specs.Prelude.{◌≡◌, IsPermutation};
+ghost use Rattle.std.specs.List.Sorted.{IsNonDecreasingBy};
 ghost use Rattle.elf_model.specs.RightLink.{placed_of, things_of};
 ghost use Rattle.check_link.specs.Views.{placed_views};
 ghost use Rattle.check_relocs.specs.Bindings.{bound_of};
@@ -74,6 +75,14 @@ impl<'o, 'a> BoundLink<'o, 'a> {
         ensures { result.now ≡ things_of self.entry.now }
     {
         self.placed.things()
+    }
+
+    /// All things in the order of their addresses.
+    pub fn things_by_address(&self) -> &'o [Thing]
+        ensures same { IsPermutation (things_of self.entry.now) result.now }
+        ensures rising { IsNonDecreasingBy (λ t. t.at) result.now }
+    {
+        self.placed.things_by_address()
     }
 
     /// The slots of the map.

@@ -1,14 +1,16 @@
 //! C5: whether all things are aligned, within the addresses and apart, and the pieces of an output section near one another.
-ghost use Rattle.std.specs.Prelude.{◌≡◌, ◌<◌, ◌^◌, ◌%◌, ◌↔◌, All, AllPairs, IfOk, IsTrue};
+ghost use Rattle.std.specs.Prelude.{◌≡◌, ◌<◌, ◌^◌, ◌%◌, ◌↔◌, All, AllPairs, IfOk, IsPermutation, IsTrue};
+ghost use Rattle.std.specs.List.Sorted.{IsNonDecreasingBy};
 ghost use Rattle.elf_model.specs.ArrayOrder.{placed_in_array_order};
 ghost use Rattle.elf_model.specs.Placement.{AreApart, IsPlaced, IsWithin};
 ghost use Rattle.check_link.specs.Views.{placed_views};
 ghost use Rattle.elf_model.specs.RightLink.{Holds};
 ghost use Rattle.elf_model.specs.declared.verdict.Clause.TheVariants as clause;
 
-use crate::c05_placed::apart::share_no_address;
+use crate::c05_placed::apart::are_apart;
 use crate::c05_placed::array_order::are_near_in_array_order;
 use crate::placed_link::PlacedLink;
+use crate::sorted_things::by_address;
 use check_link::{Placed, base_of, thread_ranges_of};
 use elf_model::Thing;
 use std::alloc::{AllocError, Global};
@@ -27,6 +29,7 @@ pub fn holds(alloc: Global, placed: &PlacedLink<'_, '_>) -> Result<bool, AllocEr
         alloc,
         base_of(&link.plan),
         placed.things(),
+        placed.things_by_address(),
         &threads,
         placed.sections(),
     )?;
@@ -65,28 +68,41 @@ fn are_aligned(things: &[Thing]) -> bool
     things.iter().all(|t| is_aligned(t))
 }
 
-/// Whether all things lie from the base on below 2^46, and no two share an address.
-fn lie_apart(alloc: Global, base: u64, things: &[Thing]) -> Result<bool, AllocError>
-    ensures { IfOk result (λ b. IsTrue b
-        ↔ (All (IsWithin base) things.now × AllPairs AreApart things.now)) }
+/// Whether all things lie from the base on below 2^46, and no two share an address, given them by address too.
+fn lie_apart(base: u64, things: &[Thing], sorted: &[Thing]) -> bool
+    requires same { IsPermutation things.now sorted.now }
+    requires rising { IsNonDecreasingBy (λ t. t.at) sorted.now }
+    ensures { IsTrue result
+        ↔ (All (IsWithin base) things.now × AllPairs AreApart things.now) }
 {
     if !are_within(base, things) {
-        return Ok(false);
+        return false;
     }
-    let apart = share_no_address(alloc, things)?;
-    Ok(apart)
+    are_apart(sorted)
+}
+
+/// Whether thread-local ranges do.
+fn do_threads_lie_apart(alloc: Global, base: u64, threads: &[Thing]) -> Result<bool, AllocError>
+    ensures { IfOk result (λ b. IsTrue b
+        ↔ (All (IsWithin base) threads.now × AllPairs AreApart threads.now)) }
+{
+    let sorted = by_address(alloc, threads)?;
+    Ok(lie_apart(base, threads, &sorted))
 }
 
 /// Whether each thing has an address that is a multiple of its alignment, all lie from the base on below 2^46, no two share
 /// an address, nor do two thread-local pieces; and each of the sections stands close after the one before it in its
-/// output section.
+/// output section. The things are given by address too.
 fn is_placed(
     alloc: Global,
     base: u64,
     things: &[Thing],
+    sorted: &[Thing],
     threads: &[Thing],
     sections: &[Placed<'_>],
 ) -> Result<bool, AllocError>
+    requires same { IsPermutation things.now sorted.now }
+    requires rising { IsNonDecreasingBy (λ t. t.at) sorted.now }
     ensures { IfOk result (λ b. IsTrue b
         ↔ IsPlaced base things.now threads.now
         (placed_in_array_order (placed_views sections.now))) }
@@ -94,10 +110,10 @@ fn is_placed(
     if !are_aligned(things) {
         return Ok(false);
     }
-    if !lie_apart(alloc, base, things)? {
+    if !lie_apart(base, things, sorted) {
         return Ok(false);
     }
-    if !lie_apart(alloc, base, threads)? {
+    if !do_threads_lie_apart(alloc, base, threads)? {
         return Ok(false);
     }
     let near = are_near_in_array_order(alloc, sections)?;

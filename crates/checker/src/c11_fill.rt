@@ -13,7 +13,6 @@ use crate::c11_fill::ends::{all_end_right, ends_as_told};
 use crate::c11_fill::region::{Region, is_filled};
 use crate::c11_fill::stretches::{lying_between, stretched};
 use crate::segments::{file_end, file_part};
-use crate::sorted_things::by_address;
 use elf_model::{ProgramHeader, SymtabLine, Thing};
 use loader_model::Memory;
 use std::alloc::{AllocError, Global};
@@ -31,7 +30,7 @@ pub fn holds(alloc: Global, bound: &BoundLink<'_, '_>) -> Result<bool, AllocErro
     ensures { IfOk result (λ b. IsTrue b ↔ Holds clause.C11 bound.now) }
 {
     let symtab = bound.link().map.symtab;
-    let filled = has_nothing_else(alloc, bound.memory(), symtab, bound.things())?;
+    let filled = has_nothing_else(alloc, bound.memory(), symtab, bound.things_by_address())?;
     Ok(filled)
 }
 
@@ -157,8 +156,9 @@ fn do_segments_end_right(memory: &Memory<'_>, sorted: &[Thing]) -> bool
     all_end_right(sorted, memory.segments())
 }
 
-/// `has_nothing_else` of things that stand by address.
-fn sorted_have_nothing_else(
+/// Whether each byte of memory and of the file's parts outside of all things, which stand by address, is what it must be,
+/// segments end as the things in them do, and the file as the map's line of a symbol table tells.
+fn has_nothing_else(
     alloc: Global,
     memory: &Memory<'_>,
     symtab: Option<SymtabLine>,
@@ -181,20 +181,4 @@ fn sorted_have_nothing_else(
     }
     let filled = is_memory_filled(alloc, memory, sorted)?;
     Ok(filled)
-}
-
-/// Whether each byte of memory and of the file's parts outside of all things is what it must be, segments end as
-/// the things in them do, and the file as the map's line of a symbol table tells.
-fn has_nothing_else(
-    alloc: Global,
-    memory: &Memory<'_>,
-    symtab: Option<SymtabLine>,
-    things: &[Thing],
-) -> Result<bool, AllocError>
-    requires { All EndFits things.now }
-    ensures { IfOk result (λ b. IsTrue b ↔ HasNothingElse memory.now symtab things.now) }
-{
-    let sorted = by_address(alloc, things)?;
-    let nothing = sorted_have_nothing_else(alloc, memory, symtab, &sorted)?;
-    Ok(nothing)
 }

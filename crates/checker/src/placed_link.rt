@@ -1,11 +1,13 @@
 //! A link whose image is mapped, with what its map places in it: what the fifth and the sixth clause judge.
-ghost use Rattle.std.specs.Prelude.{◌≡◌, IfOk};
+ghost use Rattle.std.specs.Prelude.{◌≡◌, IfOk, IsPermutation};
+ghost use Rattle.std.specs.List.Sorted.{IsNonDecreasingBy};
 ghost use Rattle.elf_model.specs.Placement.{got_things};
 ghost use Rattle.elf_model.specs.RightLink.{objects_of, placed_of, sections_of, things_of};
 ghost use Rattle.elf_model.specs.Pieces.{kept_sections};
 ghost use Rattle.check_link.specs.Views.{piece_views, placed_views};
 
 use crate::loaded_link::LoadedLink;
+use crate::sorted_things::by_address;
 use check_link::{Link, Names, Piece, Placed, got_things_of, place_all, things_of};
 use elf_model::Thing;
 use loader_model::Memory;
@@ -13,7 +15,7 @@ use std::alloc::{AllocError, Global};
 use std::marker::Model;
 
 /// A link with the memory of its image, and its sections, its common blocks and its things at the addresses that its map
-/// gives them.
+/// gives them, the things by these addresses too.
 #[derive(Drop)]
 pub struct PlacedLink<'o, 'a> {
     loaded: &'o LoadedLink<'o, 'a>,
@@ -22,6 +24,7 @@ pub struct PlacedLink<'o, 'a> {
     section_count: usize,
     gots: Vec<Thing>,
     things: Vec<Thing>,
+    sorted: Vec<Thing>,
 }
 
 impl<'o, 'a> Model for PlacedLink<'o, 'a> {
@@ -33,7 +36,7 @@ impl<'o, 'a> Model for PlacedLink<'o, 'a> {
 
     ghost view = { λ p. p.loaded.now };
 
-    ghost invariant = { λ p. IsPlacedLink p.loaded.now p.memory p.placed.items p.section_count p.gots.items p.things.items };
+    ghost invariant = { λ p. IsPlacedLink p.loaded.now p.memory p.placed.items p.section_count p.gots.items p.things.items p.sorted.items };
 }
 
 impl<'o, 'a> PlacedLink<'o, 'a> {
@@ -57,6 +60,7 @@ impl<'o, 'a> PlacedLink<'o, 'a> {
         )?;
         let gots = got_things_of(alloc, link.map.got)?;
         let things = things_of(alloc, &memory, &gots, &placed)?;
+        let sorted = by_address(alloc, &things)?;
         Ok(PlacedLink {
             loaded,
             memory,
@@ -64,6 +68,7 @@ impl<'o, 'a> PlacedLink<'o, 'a> {
             section_count,
             gots,
             things,
+            sorted,
         })
     }
 
@@ -122,5 +127,12 @@ impl<'o, 'a> PlacedLink<'o, 'a> {
         ensures { result.now ≡ things_of self.entry.now }
     {
         &self.things
+    }
+    /// All things in the order of their addresses.
+    pub fn things_by_address(&self) -> &[Thing]
+        ensures same { IsPermutation (things_of self.entry.now) result.now }
+        ensures rising { IsNonDecreasingBy (λ t. t.at) result.now }
+    {
+        &self.sorted
     }
 }

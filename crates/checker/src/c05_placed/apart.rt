@@ -1,25 +1,14 @@
 //! Whether no two things share an address, by one sweep over them in the order of their addresses.
-ghost use Rattle.std.specs.Prelude.{◌+◌, ◌<◌, ◌^◌, ◌↔◌, All, AllPairs, IfOk, IsTrue, MatchOption};
+ghost use Rattle.std.specs.Prelude.{◌+◌, ◌<◌, ◌^◌, ◌↔◌, All, AllPairs, IsTrue, MatchOption};
 ghost use Rattle.std.specs.List.Sorted.{IsNonDecreasingBy};
 ghost use Rattle.elf_model.specs.Placement.{AreApart};
 ghost use Rattle.checker.specs.Sweeps.{EndFits, Follows, Overlaps};
 
-use crate::sorted_things::by_address;
 use elf_model::Thing;
-use std::alloc::{AllocError, Global};
-
-/// Whether no address lies in two of the things, which end below 2^64.
-pub fn share_no_address(alloc: Global, things: &[Thing]) -> Result<bool, AllocError>
-    requires { All EndFits things.now }
-    ensures { IfOk result (λ b. IsTrue b ↔ AllPairs AreApart things.now) }
-{
-    let sorted = by_address(alloc, things)?;
-    Ok(are_apart(&sorted))
-}
 
 /// Whether no address lies in two of the things, which stand in the order of their addresses and end below
 /// 2^64. An empty one covers nothing.
-fn are_apart(sorted: &[Thing]) -> bool
+pub fn are_apart(sorted: &[Thing]) -> bool
     requires fits { All EndFits sorted.now }
     requires rising { IsNonDecreasingBy (λ t. t.at) sorted.now }
     ensures { IsTrue result ↔ AllPairs AreApart sorted.now }

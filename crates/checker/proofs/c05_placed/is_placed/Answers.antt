@@ -2,8 +2,8 @@ use Rattle.checker.proofs.c05_placed.is_placed.Goals as goal
 
 pub returns : goal.returns
 returns c =
-    let things = c.in_ok-lie_apart.ensures.0 c.if-not-branch.false in
-    let threads = c.in_ok-lie_apart-2.ensures.0 c.if-not-branch-2.false in (
+    let things = c.lie_apart.ensures.0 c.if-not-lie_apart.false in
+    let threads = c.in_ok-do_threads_lie_apart.ensures.0 c.if-not-branch.false in (
       λ near. record {
         aligned = c.are_aligned.ensures.0 c.if-not-are_aligned.false;
         within = things.0;
