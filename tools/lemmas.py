@@ -49,10 +49,17 @@ LAYERS = {
         "Thread-local storage": "OwnThreads ThreadSteps",
         "Kinds and mixed output sections": "KindLemmas MixedOutputs",
     },
+    "check_link": {
+        "Names, definitions and common blocks": "Asked CommonEntries CommonRows Defined Hints Mangled Positions SymbolNumbers"
+        " Walked",
+        "Pieces and output sections": "Alignments ByNames Gathering Padded PieceLemmas PlaceKeys PlaceSteps RunParts SameOutput"
+        " SeenOutputs",
+        "Slots": "RequestSteps SameRequest SlotSteps",
+    },
     "checker": {
         "Lists and numbers": "ArrayRanks Filtered Lines PartsOfLists Spelled",
         "Sections and where they are": "DropSteps LinkRows NearSteps NextPieces PieceOrder PieceSections PlacedFacts",
-        "Images and memory": "ImageFaults Parts PartsEnd Regions RunParts Runs SegmentsApart Stretching Sweep Sweeping"
+        "Images and memory": "ImageFaults Parts PartsEnd Regions Runs SegmentsApart Stretching Sweep Sweeping"
         " ThingsOfSegment ThreadBlocks",
         "The GOT": "GotSteps SlotCounts",
         "Symbols and their table": "CountedLines OwnChoices SymbolLines TableClause TableEntries TableLines TableParts"
