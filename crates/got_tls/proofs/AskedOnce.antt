@@ -5,12 +5,11 @@ use Rattle.std.specs.List.{cons_option, filter_map, list_any}
 use Rattle.std.proofs.Math.Bool.{or_assoc}
 use Rattle.std.proofs.lemmas.List.Elements.{filter_agree}
 use Rattle.std.proofs.lemmas.List.Folds.{list_any-append}
-use Rattle.std.proofs.lemmas.List.{length-map}
 use Rattle.elf_model.specs.Loading.{LoadedObject}
 use Rattle.elf_model.specs.Relocation.{Relocation, relocations}
 use Rattle.elf_model.specs.Slots.{Request, asks_for_got, each_once, got_size, has_got, request_of, same_request, size_with, slots}
 use Rattle.got_tls.specs.Asking.{Wants, nothing, with_relocation, with_relocations, with_request}
-use Rattle.got_tls.specs.Views.{slot_view, wants}
+use Rattle.got_tls.specs.AskedViews.{wants}
 use Rattle.got_tls.specs.declared.asked_slots.Asked.{Asked}
 use Rattle.elf_model.proofs.SameRequests.{requests_equal, same_sym}
 
@@ -18,6 +17,14 @@ use Rattle.elf_model.proofs.SameRequests.{requests_equal, same_sym}
 pub behind : (L : List LoadedObject) (w : Wants) (rs ss : List Relocation) → with_relocations L w (rs ++ ss) ≡ with_relocations L (with_relocations L w rs) ss
 behind L w [] ss = refl
 behind L w (r ∷ rs) ss = behind L (with_relocation L w r) rs ss
+
+-- the objects stay
+objects_of : (L : List LoadedObject) (w : Wants) (rs : List Relocation) → (with_relocations L w rs).objects ≡ w.objects
+objects_of L w [] = refl
+objects_of L w (r ∷ rs) = objects_of L (with_relocation L w r) rs
+
+pub objects_kept : (L : List LoadedObject) (v w : Wants) (rs ss : List Relocation) → with_relocations L v rs ≡ with_relocations L w ss → v.objects ≡ w.objects
+objects_kept L v w rs ss same = sym (objects_of L v rs) ∙ (ap (λ (x : Wants). x.objects) same ∙ objects_of L w ss)
 
 -- whether a GOT is asked for
 got_after : (L : List LoadedObject) (w : Wants) (rs : List Relocation) → (with_relocations L w rs).got ≡ (w.got || list_any (asks_for_got L) rs)
@@ -102,11 +109,14 @@ all_new [] = refl
 all_new (q ∷ qs) = ap (λ (ss : List Request). q ∷ ss) (all_new qs)
 
 module _ (L : List LoadedObject) where
-  pub slots_are : (with_relocations L nothing (relocations L)).slots ≡ slots L
-  slots_are = slots_after L nothing (relocations L) ∙ all_new (slots L)
+  pub objects_are : (with_relocations L (nothing L) (relocations L)).objects ≡ L
+  objects_are = objects_of L (nothing L) (relocations L)
 
-  pub got_is : (with_relocations L nothing (relocations L)).got ≡ has_got L
-  got_is = got_after L nothing (relocations L)
+  pub slots_are : (with_relocations L (nothing L) (relocations L)).slots ≡ slots L
+  slots_are = slots_after L (nothing L) (relocations L) ∙ all_new (slots L)
+
+  pub got_is : (with_relocations L (nothing L) (relocations L)).got ≡ has_got L
+  got_is = got_after L (nothing L) (relocations L)
 
 -- what relocations ask for, taken in before the rest
 pub taken :
@@ -118,10 +128,9 @@ taken L old new all here rest left grown is whole =
 
 -- the size of the GOT that was asked for
 pub size_is :
-    (L : List LoadedObject) (a : Asked) → wants a ≡ with_relocations L nothing (relocations L) →
-    cond a.got (size_with (length a.slots.keys)) 0 ≡ got_size L
+    (L : List LoadedObject) (a : Asked) → wants a ≡ with_relocations L (nothing L) (relocations L) →
+    cond a.got (size_with (length a.listed.slots)) 0 ≡ got_size L
 size_is L a e =
-    ap (λ (n : ℕ). cond a.got (size_with n) 0) (sym (length-map a.slots.keys slot_view))
-    ∙ (ap (λ (w : Wants). cond w.got (size_with (length w.slots)) 0) e
-    ∙ (ap (λ (b : Bool). cond b (size_with (length (with_relocations L nothing (relocations L)).slots)) 0) (got_is L)
-    ∙ ap (λ (qs : List Request). cond (has_got L) (size_with (length qs)) 0) (slots_are L)))
+    ap (λ (w : Wants). cond w.got (size_with (length w.slots)) 0) e
+    ∙ (ap (λ (b : Bool). cond b (size_with (length (with_relocations L (nothing L) (relocations L)).slots)) 0) (got_is L)
+    ∙ ap (λ (qs : List Request). cond (has_got L) (size_with (length qs)) 0) (slots_are L))

@@ -6,14 +6,14 @@ use Rattle.std.proofs.lemmas.List.{length-map, map-append}
 use Rattle.elf_model.specs.Slots.{same_kind, same_request, same_target}
 use Rattle.indexmap.specs.IndexSet.{insert_key}
 use Rattle.got_tls.specs.Views.{kind_view, owner_view, slot_view, slot_views}
-use Rattle.got_tls.specs.contracts.slot_table.ContentPartialEq.TheImpl as content_impl
-use Rattle.got_tls.specs.contracts.slot_table.OwnerPartialEq.TheImpl as owner_impl
-use Rattle.got_tls.specs.contracts.slot_table.SlotPartialEq.TheImpl as slot_impl
-use Rattle.got_tls.specs.declared.slot_table.Content.{Content}
-use Rattle.got_tls.specs.declared.slot_table.Content.TheVariants as content
-use Rattle.got_tls.specs.declared.slot_table.Owner.{Owner}
-use Rattle.got_tls.specs.declared.slot_table.Owner.TheVariants as owner
-use Rattle.got_tls.specs.declared.slot_table.Slot.{Slot}
+use Rattle.got_tls.specs.contracts.slot.ContentPartialEq.TheImpl as content_impl
+use Rattle.got_tls.specs.contracts.slot.OwnerPartialEq.TheImpl as owner_impl
+use Rattle.got_tls.specs.contracts.slot.SlotPartialEq.TheImpl as slot_impl
+use Rattle.got_tls.specs.declared.slot.Content.{Content}
+use Rattle.got_tls.specs.declared.slot.Content.TheVariants as content
+use Rattle.got_tls.specs.declared.slot.Owner.{Owner}
+use Rattle.got_tls.specs.declared.slot.Owner.TheVariants as owner
+use Rattle.got_tls.specs.declared.slot.Slot.{Slot}
 
 abbrev pub slot_eq : Slot → Slot → Bool
 slot_eq a b = slot_impl.eq-value.it a b

@@ -6,4 +6,5 @@ pub mod KindRows
 pub mod LoadedObjects
 pub mod Offsets
 pub mod SlotPlaces
+pub mod NotedPositions
 mod ToldPositions

@@ -2,22 +2,23 @@
 use Rattle.std.specs.Prelude.{◌≡◌, ℕ, ◌+◌, ◌*◌, ◌||◌, Bool, false, List, [], ◌∷◌, Option, Some, None, position}
 use Rattle.std.specs.Option.{option_map_or}
 use Rattle.elf_model.specs.Loading.{LoadedObject}
-use Rattle.elf_model.specs.Relocation.{Relocation, relocation_of, symbol_at}
-use Rattle.elf_model.specs.Slots.{Request, asks_for_got, names_got, request_of, same_request}
-use Rattle.elf_model.specs.declared.records.Rela.{Rela}
+use Rattle.elf_model.specs.Relocation.{Relocation, symbol_at}
+use Rattle.elf_model.specs.Slots.{Request, asks_for_got, names_got, request_of, same_request, target_of}
+use Rattle.elf_model.specs.declared.link_map.SlotKind.{SlotKind}
 use Rattle.indexmap.specs.IndexSet.{insert_key}
 
 -- how far behind the beginning of a GOT with these slots that of a request stands, 0 where there is none
 abbrev pub offset_of : List Request → Request → ℕ
 offset_of qs q = option_map_or (λ i. 8 + 8 * i) (position (same_request q) qs) 0
 
--- what was asked for: a GOT, and slots
+-- what was asked for of objects: a GOT, and slots
 pub record Wants : Type 0 where
   pub got : Bool
   pub slots : List Request
+  pub objects : List LoadedObject
 
-abbrev pub nothing : Wants
-nothing = record { got = false; slots = [] }
+abbrev pub nothing : List LoadedObject → Wants
+nothing objects = record { got = false; slots = []; objects = objects }
 
 -- a request more: its slot goes last where it is new
 abbrev pub with_request : List Request → Option Request → List Request
@@ -26,7 +27,7 @@ with_request qs (Some q) = insert_key same_request qs q
 
 -- what one more relocation leaves
 abbrev pub with_relocation : List LoadedObject → Wants → Relocation → Wants
-with_relocation objects w r = record { got = w.got || asks_for_got objects r; slots = with_request w.slots (request_of r) }
+with_relocation objects w r = record { got = w.got || asks_for_got objects r; slots = with_request w.slots (request_of r); objects = w.objects }
 
 -- a flag that, unless it is set, no symbol of an object names the GOT
 abbrev pub TellsOfGot : List LoadedObject → ℕ → LoadedObject → Bool → Type 0
@@ -37,6 +38,6 @@ abbrev pub with_relocations : List LoadedObject → Wants → List Relocation �
 with_relocations objects w [] = w
 with_relocations objects w (r ∷ rs) = with_relocations objects (with_relocation objects w r) rs
 
--- what an entry of an object asks for, whichever section it relocates
-abbrev pub request_at : ℕ → LoadedObject → Rela → Option Request
-request_at object o r = request_of (relocation_of object o 0 r)
+-- the slot of a kind for a symbol of an object
+abbrev pub request_for : SlotKind → ℕ → LoadedObject → ℕ → Request
+request_for kind object o number = record { kind = kind; target = target_of (symbol_at object o number) }

@@ -1,16 +1,15 @@
 -- Slots as the definitions see them.
 use Rattle.std.specs.Prelude.{ℕ, List, map}
+use Rattle.elf_model.specs.Loading.{LoadedObject}
 use Rattle.elf_model.specs.MapRecord.{TargetRow, OfName, OfLocal}
 use Rattle.elf_model.specs.declared.link_map.SlotKind.{SlotKind}
 use Rattle.elf_model.specs.declared.link_map.SlotKind.TheVariants as kind
 use Rattle.elf_model.specs.Slots.{Request}
-use Rattle.got_tls.specs.Asking.{Wants}
-use Rattle.got_tls.specs.declared.asked_slots.Asked.{Asked}
-use Rattle.got_tls.specs.declared.slot_table.Content.{Content}
-use Rattle.got_tls.specs.declared.slot_table.Content.TheVariants as content
-use Rattle.got_tls.specs.declared.slot_table.Owner.{Owner}
-use Rattle.got_tls.specs.declared.slot_table.Owner.TheVariants as owner
-use Rattle.got_tls.specs.declared.slot_table.Slot.{Slot}
+use Rattle.got_tls.specs.declared.slot.Content.{Content}
+use Rattle.got_tls.specs.declared.slot.Content.TheVariants as content
+use Rattle.got_tls.specs.declared.slot.Owner.{Owner}
+use Rattle.got_tls.specs.declared.slot.Owner.TheVariants as owner
+use Rattle.got_tls.specs.declared.slot.Slot.{Slot}
 
 abbrev pub kind_view : Content → SlotKind
 kind_view content.Value = kind.Value
@@ -26,11 +25,13 @@ slot_view s = record { kind = kind_view s.content; target = owner_view s.owner }
 abbrev pub slot_views : List Slot → List Request
 slot_views ss = map slot_view ss
 
--- the GOT: its size in bytes, and its slots
+-- slots of objects
+pub record Listed : Type 0 where
+  pub slots : List Request
+  pub objects : List LoadedObject
+
+-- the GOT of objects: its size in bytes, and its slots
 pub record Got : Type 0 where
   pub got : ℕ
   pub slots : List Request
-
--- what was asked for
-abbrev pub wants : Asked → Wants
-wants a = record { got = a.got; slots = slot_views a.slots.keys }
+  pub objects : List LoadedObject

@@ -8,8 +8,9 @@
 mod asked_slots;
 mod kinds;
 mod requests;
+mod slot;
+mod slot_index;
 mod slot_list;
-mod slot_positions;
 mod slot_table;
 mod thread_storage;
 
@@ -17,7 +18,7 @@ pub use asked_slots::{Asked, add_entry};
 pub use elf_model::TlsBlock;
 pub use kinds::{Formula, Kind, Range, slot_kind};
 pub use requests::Asker;
+pub use slot::Slot;
 pub use slot_list::{slots, slots_asked};
-pub use slot_positions::name_number;
-pub use slot_table::{Slot, Slots};
+pub use slot_table::Slots;
 pub use thread_storage::{thread_pointer, tls_block, tp_offset};

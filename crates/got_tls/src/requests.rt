@@ -1,31 +1,17 @@
 //! What one relocation asks of the GOT.
-ghost use Rattle.std.specs.Prelude.{◌≡◌, Some, option_map};
+ghost use Rattle.std.specs.Prelude.{◌≡◌, Some};
 ghost use Rattle.std.specs.List.{slice_get};
+ghost use Rattle.elf_model.specs.ObjectFile.{rela_symbol};
 ghost use Rattle.elf_model.specs.Relocation.{relocation_of, symbol_at};
 ghost use Rattle.elf_model.specs.Slots as wanted;
 ghost use Rattle.search.specs.Views.{loaded_view};
-ghost use Rattle.got_tls.specs.Asking.{TellsOfGot, request_at};
+ghost use Rattle.got_tls.specs.Asking.{TellsOfGot};
 ghost use Rattle.got_tls.specs.Askers.{IsAsker, all_asked, asking};
-ghost use Rattle.got_tls.specs.Views.{slot_view};
 
-use crate::kinds::{asked_slot, asks_of_got};
-use crate::slot_table::Slot;
+use crate::kinds::asks_of_got;
 use elf_model::{ObjectId, Rela, SymbolRef};
-use resolve::{Resolved, target_of};
+use resolve::Resolved;
 use search::LoadedObject;
-
-/// The slot that an entry of object `number` asks for; None where it asks for none.
-pub fn slot_of<'a>(number: usize, loaded: &LoadedObject<'a>, entry: &Rela) -> Option<Slot<'a>>
-    ensures { option_map slot_view result ≡ request_at number (loaded_view loaded.now) entry.now }
-{
-    let kind = asked_slot(entry.kind())?;
-    let symbol = SymbolRef {
-        object: ObjectId(number as u64),
-        symbol: entry.symbol() as u64,
-    };
-    let target = target_of(symbol, loaded);
-    Some(Slot::new(kind, &target))
-}
 
 /// An object whose relocations ask, with its number, and whether one of its symbols names the GOT at all.
 #[derive(Clone, Copy)]
@@ -93,6 +79,17 @@ impl<'k, 'a> Asker<'k, 'a> {
             number,
             loaded,
             named: tells_of_got(resolved, number, loaded),
+        }
+    }
+
+    /// The symbol that an entry names.
+    pub fn symbol(&self, entry: &Rela) -> SymbolRef
+        ensures object { result.object.0 ≡ self.now.number }
+        ensures symbol { result.symbol ≡ rela_symbol entry.now }
+    {
+        SymbolRef {
+            object: ObjectId(self.number as u64),
+            symbol: entry.symbol() as u64,
         }
     }
 

@@ -3,7 +3,7 @@ ghost use Rattle.std.specs.Prelude.{◌≡◌, IfOk};
 ghost use Rattle.elf_model.specs.Relocation.{relocations};
 ghost use Rattle.elf_model.specs.Slots as wanted;
 ghost use Rattle.got_tls.specs.Asking.{nothing, with_relocations};
-ghost use Rattle.got_tls.specs.Views.{wants};
+ghost use Rattle.got_tls.specs.AskedViews.{wants};
 
 use crate::asked_slots::{Asked, asked_by};
 use crate::slot_table::Slots;
@@ -16,10 +16,12 @@ use std::alloc::{AllocError, Global};
 /// # Errors
 ///
 /// Only where memory is refused.
-#[tactic(auto, using(crate::proofs::AskedOnce::slots_are, crate::proofs::AskedOnce::got_is))]
+#[tactic(auto, using(crate::proofs::AskedOnce::objects_are, crate::proofs::AskedOnce::slots_are, crate::proofs::AskedOnce::got_is))]
 pub fn slots_asked<'a>(loaded: &Loaded<'a>, asked: Asked<'a>) -> Result<Slots<'a>, AllocError>
     requires { wants asked
-        ≡ with_relocations loaded.now.objects nothing (relocations loaded.now.objects) }
+        ≡ with_relocations loaded.now.objects (nothing loaded.now.objects)
+        (relocations loaded.now.objects) }
+    ensures objects { IfOk result (λ s. s.objects ≡ loaded.now.objects) }
     ensures slots { IfOk result (λ s. s.slots ≡ wanted.slots loaded.now.objects) }
     ensures size { IfOk result (λ s. s.got ≡ wanted.got_size loaded.now.objects) }
 {
@@ -39,9 +41,10 @@ pub fn slots<'a>(
     resolved: &Resolved<'a>,
 ) -> Result<Slots<'a>, AllocError>
     requires { resolved.now ≡ loaded.now.objects }
+    ensures objects { IfOk result (λ s. s.objects ≡ loaded.now.objects) }
     ensures slots { IfOk result (λ s. s.slots ≡ wanted.slots loaded.now.objects) }
     ensures size { IfOk result (λ s. s.got ≡ wanted.got_size loaded.now.objects) }
 {
-    let asked = asked_by(alloc, loaded.name_seed(), loaded.objects(), resolved)?;
+    let asked = asked_by(alloc, loaded, resolved)?;
     slots_asked(loaded, asked)
 }

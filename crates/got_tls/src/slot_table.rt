@@ -1,107 +1,35 @@
 //! The GOT as it is handed out: its size, and whose value or thread offset each slot holds.
-ghost use Rattle.std.specs.Prelude.{◌≡◌, ◌+◌, ◌*◌, ◌%◌, ◌^◌, IfOk, cond, length};
+ghost use Rattle.std.specs.Prelude.{◌≡◌, ◌+◌, ◌*◌, ◌%◌, ◌^◌, IfOk, Some, cond, length};
+ghost use Rattle.std.specs.List.{slice_get};
+ghost use Rattle.std.specs.Option.{option_map_or};
 ghost use Rattle.elf_model.specs.Slots as wanted;
-ghost use Rattle.resolve.specs.Views.{target_view};
-ghost use Rattle.got_tls.specs.Asking.{offset_of};
-ghost use Rattle.got_tls.specs.Views.{kind_view, owner_view, slot_view, slot_views};
+ghost use Rattle.search.specs.Views.{loaded_view};
+ghost use Rattle.got_tls.specs.Asking.{offset_of, request_for};
+ghost use Rattle.got_tls.specs.Views.{slot_view, slot_views};
 
 use crate::asked_slots::Asked;
-use crate::slot_positions::position_told;
-use elf_model::{Name, NameSeed, ObjectId, SlotKind, SymbolRef, Target};
-use indexmap::IndexSet;
+use crate::slot::Slot;
+use crate::slot_index::SlotIndex;
+use elf_model::{SlotKind, SymbolRef};
 use layout::GotSize;
+use search::LoadedObject;
 use std::alloc::AllocError;
 use std::marker::Model;
 
-/// What a slot holds.
-#[derive(Clone, Copy, Debug, PartialEq, Eq, Hash)]
-enum Content {
-    Value,
-    Thread,
-}
-
-/// Whose it is: a name's, or a LOCAL symbol's, by its object's and its own number.
-#[derive(Clone, Copy, Debug, PartialEq, Eq, Hash)]
-enum Owner<'a> {
-    Name(Name<'a>),
-    Local(u64, u64),
-}
-
-/// A slot of the GOT: what it holds, and of which target.
-#[derive(Clone, Copy, Debug, PartialEq, Eq, Hash)]
-pub struct Slot<'a> {
-    content: Content,
-    owner: Owner<'a>,
-}
-
-fn content_of(kind: SlotKind) -> Content
-    ensures { kind_view result ≡ kind }
-{
-    match kind {
-        SlotKind::Value => Content::Value,
-        SlotKind::Thread => Content::Thread,
-    }
-}
-
-fn owner_of<'a>(target: &Target<'a>) -> Owner<'a>
-    ensures { owner_view result ≡ target_view target.now }
-{
-    match target {
-        Target::Name(name) => Owner::Name(Name(name)),
-        Target::Local(symbol) => Owner::Local(symbol.object.0, symbol.symbol),
-    }
-}
-
-impl<'a> Slot<'a> {
-    /// The slot for the value or the thread offset of a target.
-    pub fn new(kind: SlotKind, target: &Target<'a>) -> Slot<'a>
-        ensures { slot_view result ≡ record { kind = kind; target = target_view target.now } }
-    {
-        Slot {
-            content: content_of(kind),
-            owner: owner_of(target),
-        }
-    }
-
-    /// What it holds.
-    pub fn kind(self) -> SlotKind
-        ensures { result ≡ (slot_view self.entry).kind }
-    {
-        match self.content {
-            Content::Value => SlotKind::Value,
-            Content::Thread => SlotKind::Thread,
-        }
-    }
-
-    /// Of which target.
-    pub fn target(self) -> Target<'a>
-        ensures { target_view result ≡ (slot_view self.entry).target }
-    {
-        match self.owner {
-            Owner::Name(name) => Target::Name(name.0),
-            Owner::Local(object, symbol) => Target::Local(SymbolRef {
-                object: ObjectId(object),
-                symbol,
-            }),
-        }
-    }
-}
-
 /// The GOT: its size in bytes, 0 where there is none, and its slots of 8 bytes each, in the order in which
-/// they stand behind its first word; and where some of these stand, by the numbers of their names.
-#[derive(Debug, Drop)]
+/// they stand behind its first word.
+#[derive(Drop)]
 pub struct Slots<'a> {
     got: u64,
-    slots: IndexSet<Slot<'a>, NameSeed>,
-    positions: Vec<usize>,
+    listed: SlotIndex<'a>,
 }
 
 impl<'a> Model for Slots<'a> {
-    ghost use Rattle.got_tls.specs.Views.{Got, slot_views};
+    ghost use Rattle.got_tls.specs.Views.{Got};
 
     ghost Value = { Got };
 
-    ghost view = { λ s. record { got = s.got; slots = slot_views s.slots.keys } };
+    ghost view = { λ s. record { got = s.got; slots = s.listed.slots; objects = s.listed.objects } };
 }
 
 /// The size in bytes of a GOT of so many slots. As where memory is refused, if that isn't a number of 64 bits.
@@ -124,6 +52,16 @@ fn offset_at(position: usize) -> u64
     (position as u64).wrapping_mul(8).wrapping_add(8)
 }
 
+/// The same of a position that there may be; 0 without one.
+fn offset_or_none(position: Option<usize>) -> u64
+    ensures { result ≡ option_map_or (λ i. 8 + 8 * i) position 0 % 2 ^ 64 }
+{
+    match position {
+        Some(position) => offset_at(position),
+        None => 0,
+    }
+}
+
 impl<'a> Slots<'a> {
     /// The GOT that was asked for.
     ///
@@ -131,19 +69,19 @@ impl<'a> Slots<'a> {
     ///
     /// Where the GOT's size isn't a number of 64 bits, for which there is no memory either.
     pub(crate) fn new(asked: Asked<'a>) -> Result<Slots<'a>, AllocError>
-        ensures slots { IfOk result (λ s. s.slots ≡ slot_views asked.entry.slots.keys) }
+        ensures objects { IfOk result (λ s. s.objects ≡ asked.entry.listed.objects) }
+        ensures slots { IfOk result (λ s. s.slots ≡ asked.entry.listed.slots) }
         ensures got { IfOk result (λ s. s.got
-            ≡ cond asked.entry.got (wanted.size_with (length asked.entry.slots.keys)) 0) }
+            ≡ cond asked.entry.got (wanted.size_with (length asked.entry.listed.slots)) 0) }
     {
         let got = if asked.got {
-            size_with(asked.slots.len())?
+            size_with(asked.listed.len())?
         } else {
             0
         };
         Ok(Slots {
             got,
-            slots: asked.slots,
-            positions: asked.positions,
+            listed: asked.listed,
         })
     }
 
@@ -158,26 +96,22 @@ impl<'a> Slots<'a> {
     pub fn slots(&self) -> &[Slot<'a>]
         ensures { slot_views result.now ≡ self.now.slots }
     {
-        self.slots.as_slice()
-    }
-
-    /// As `offset`, for a slot of a name that has this number: it mostly is found without its hash.
-    pub fn offset_by(&self, number: usize, slot: Slot<'a>) -> u64
-        ensures { result ≡ offset_of self.now.slots (slot_view slot.entry) % 2 ^ 64 }
-    {
-        match position_told(&self.slots, &self.positions, number, slot) {
-            Some(i) => offset_at(i),
-            None => self.offset(slot),
-        }
+        self.listed.slots()
     }
 
     /// How far behind the GOT's beginning a slot stands, modulo 2 to the 64; 0 where there is no such slot.
     pub fn offset(&self, slot: Slot<'a>) -> u64
         ensures { result ≡ offset_of self.now.slots (slot_view slot.entry) % 2 ^ 64 }
     {
-        match self.slots.get_index_of(&slot) {
-            Some(i) => offset_at(i),
-            None => 0,
-        }
+        offset_or_none(self.listed.find(&slot))
+    }
+
+    /// The same of the slot of a kind for a symbol of a loaded object. It mostly is found without reading the symbol's name.
+    pub fn symbol_offset(&self, kind: SlotKind, symbol: SymbolRef, loaded: &LoadedObject<'a>) -> u64
+        requires { slice_get self.now.objects symbol.object.0 ≡ Some (loaded_view loaded.now) }
+        ensures { result ≡ offset_of self.now.slots
+            (request_for kind symbol.object.0 (loaded_view loaded.now) symbol.symbol) % 2 ^ 64 }
+    {
+        offset_or_none(self.listed.position(kind, symbol, loaded))
     }
 }

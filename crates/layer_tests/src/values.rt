@@ -104,6 +104,7 @@ fn judged_patches<'a>(
 ) -> Result<Patches<'a>, RelocFault>
     requires resolved { resolved.now ≡ loaded.now.objects }
     requires slots { slots.now.slots ≡ wanted.slots loaded.now.objects }
+    requires slots_of { slots.now.objects ≡ loaded.now.objects }
     requires placed { placement.now.objects ≡ loaded.now.objects }
     requires kinds { AreLawfulKinds loaded.now.objects }
     ensures { IfOk result (λ p. p ≡ placement.now) }

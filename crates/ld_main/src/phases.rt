@@ -66,6 +66,7 @@ fn judged_slots<'a>(
 ) -> Result<Slots<'a>, LinkError>
     requires same { resolved.now ≡ loaded.now.objects }
     requires resolved { AreResolved loaded.now.objects }
+    ensures objects { IfOk result (λ s. s.objects ≡ loaded.now.objects) }
     ensures slots { IfOk result (λ s. s.slots ≡ wanted.slots loaded.now.objects) }
     ensures size { IfOk result (λ s. s.got ≡ wanted.got_size loaded.now.objects) }
     ensures lawful { OnOk result (AreLawfulRelocations loaded.now.objects) }

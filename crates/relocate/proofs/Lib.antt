@@ -3,6 +3,7 @@ mod ChosenValues
 pub mod Fitted
 pub mod Judged
 pub mod RelaOrders
+mod FieldRuns
 pub mod ObjectFields
 pub mod ObjectRows
 pub mod Overlaid

@@ -88,6 +88,7 @@ pub record IsValued (v : Valued) : Type 0 where
   pub here : IsObjectAt (all_valued v) v.number (valued_object v)
   pub kinds : AreLawfulKinds v.placement.now.objects
   pub slots : v.slots.now.slots ≡ slots v.placement.now.objects
+  pub slots_of : v.slots.now.objects ≡ all_valued v
   pub pointer : v.pointer ≡ pointer_in (where_of v)
   pub got : v.got ≡ got_start (where_of v).got % 2 ^ 64
   pub chosen : AreChosenValues (all_valued v) (where_of v) v.chosen.now

@@ -1,6 +1,6 @@
 //! The fields of an object's relocations, and whether no byte lies in two of them.
-ghost use Rattle.std.specs.Prelude.{◌↔◌, All, AllPairs, IfOk, IsPermutation, IsTrue, OnOk};
-ghost use Rattle.relocate.specs.Fields.{AreApart, IsBefore, IsOrdered, IsSome, Rise};
+ghost use Rattle.std.specs.Prelude.{◌≡◌, ◌↔◌, All, AllPairs, IfOk, IsPermutation, IsTrue, OnOk};
+ghost use Rattle.relocate.specs.Fields.{AreApart, IsBefore, IsOrdered, IsSome, Rise, is_before};
 
 use std::alloc::AllocError;
 
@@ -38,11 +38,19 @@ fn put_in_order(fields: &mut Vec<Field>) -> Result<(), AllocError>
 fn rise(fields: &[Field]) -> bool
     ensures { IsTrue result ↔ Rise fields.now }
 {
-    fields.windows(2).all(|w| is_before(&w[0], &w[1]))
+    fields.windows(2).all(|w| ends_before(&w[0], &w[1]))
 }
 
-fn is_before(f: &Field, g: &Field) -> bool
+#[tactic(auto, using(crate::proofs::FieldRuns::before_told))]
+fn ends_before(f: &Field, g: &Field) -> bool
     ensures { IsTrue result ↔ IsBefore f.now g.now }
+{
+    is_before(f, g)
+}
+
+/// Whether a field ends before another one begins.
+pub fn is_before(f: &Field, g: &Field) -> bool
+    ensures { result ≡ is_before f.now g.now }
 {
     f.section < g.section || f.section == g.section && f.end <= g.start
 }

@@ -1,22 +1,24 @@
 //! Whether the kept relocations of all objects are lawful.
-ghost use Rattle.std.specs.Prelude.{◌≡◌, ◌++◌, All, IfErr, IfOk, OnOk, filter, map};
+ghost use Rattle.std.specs.Prelude.{◌≡◌, All, IfErr, IfOk, OnOk, filter, map};
 ghost use Rattle.elf_model.specs.Relocation.{AreLawfulRelocations, IsLawfulRelocation, is_some_kind, relocation_of, relocations, relocations_from};
 ghost use Rattle.elf_model.specs.Slots as wanted;
 ghost use Rattle.got_tls.specs.Asking.{nothing, with_relocation, with_relocations};
-ghost use Rattle.got_tls.specs.Views.{wants};
+ghost use Rattle.got_tls.specs.AskedViews.{wants};
 ghost use Rattle.layout.specs.Mixed.{AreMixed};
-ghost use Rattle.relocate.specs.Fields.{field_of};
+ghost use Rattle.relocate.specs.Fields.{run_after};
 ghost use Rattle.relocate.specs.References.{AreLawful, IsObjectAt, ReferencesFail, RelocationsFail};
 ghost use Rattle.relocate.specs.SymbolTables.{IsReferrer, IsRelocated, all_of, referring};
 ghost use Rattle.search.specs.KeptLists.{IsKeptRela, relocations_by};
 ghost use Rattle.search.specs.Views.{loaded_view, loaded_views};
 
 use crate::faults::RelocFault;
+use crate::field_list::list_fields;
+use crate::field_run::FieldRun;
 use crate::fields::{Field, are_apart};
 use crate::lawful_fields::lawful_field;
 use crate::referrer::{Referrer, Relocated};
 use crate::targets::is_some_kind;
-use elf_model::{NameSeed, Rela};
+use elf_model::Rela;
 use elf_read::RelaRun;
 use got_tls::{Asked, Slots, add_entry, slots_asked};
 use layout::mixed_names;
@@ -40,7 +42,7 @@ pub fn references<'a>(
     ensures lawful { OnOk result (AreLawfulRelocations loaded.now.objects) }
     ensures fault { IfErr result (ReferencesFail loaded.now.objects) }
 {
-    let _asked = judge_objects(alloc, loaded.name_seed(), loaded.objects(), resolved)?;
+    let _asked = judge_objects(alloc, loaded, loaded.objects(), resolved)?;
     Ok(())
 }
 
@@ -56,12 +58,13 @@ pub fn referred_slots<'a>(
     resolved: &Resolved<'a>,
 ) -> Result<Slots<'a>, RelocFault>
     requires { resolved.now ≡ loaded.now.objects }
+    ensures objects { IfOk result (λ s. s.objects ≡ loaded.now.objects) }
     ensures slots { IfOk result (λ s. s.slots ≡ wanted.slots loaded.now.objects) }
     ensures size { IfOk result (λ s. s.got ≡ wanted.got_size loaded.now.objects) }
     ensures lawful { OnOk result (AreLawfulRelocations loaded.now.objects) }
     ensures fault { IfErr result (ReferencesFail loaded.now.objects) }
 {
-    let asked = judge_objects(alloc, loaded.name_seed(), loaded.objects(), resolved)?;
+    let asked = judge_objects(alloc, loaded, loaded.objects(), resolved)?;
     let slots = slots_asked(loaded, asked)?;
     Ok(slots)
 }
@@ -69,20 +72,21 @@ pub fn referred_slots<'a>(
 /// Judges the relocations of all objects, and tells what they ask of the GOT.
 fn judge_objects<'a>(
     alloc: Global,
-    seed: NameSeed,
+    loaded: &Loaded<'a>,
     objects: &[LoadedObject<'a>],
     resolved: &Resolved<'a>,
 ) -> Result<Asked<'a>, RelocFault>
-    requires { resolved.now ≡ loaded_views objects.now }
+    requires all { loaded.now.objects ≡ loaded_views objects.now }
+    requires resolved { resolved.now ≡ loaded_views objects.now }
     ensures asked { IfOk result (λ a. wants a
-        ≡ with_relocations (loaded_views objects.now) nothing
+        ≡ with_relocations (loaded_views objects.now) (nothing (loaded_views objects.now))
         (relocations (loaded_views objects.now))) }
     ensures lawful { OnOk result (AreLawfulRelocations (loaded_views objects.now)) }
     ensures fault { IfErr result (ReferencesFail (loaded_views objects.now)) }
 {
     let mixed = mixed_names(alloc, resolved)?;
     let mut fields = Vec::new(alloc);
-    let mut asked = Asked::nothing(alloc, seed);
+    let mut asked = Asked::nothing(alloc, loaded)?;
     for k in 0..objects.len() {
         judge_object(
             alloc,
@@ -110,6 +114,7 @@ fn judge_object<'a>(
 ) -> Result<(), RelocFault>
     requires here { IsObjectAt resolved.now number (loaded_view loaded.now) }
     requires mixed { AreMixed resolved.now mixed.now }
+    requires same { asked.old.listed.objects ≡ resolved.now }
     ensures asked { OnOk result (wants asked.new
         ≡ with_relocations resolved.now (wants asked.old)
         (relocations_from number (loaded_view loaded.now))) }
@@ -122,14 +127,16 @@ fn judge_object<'a>(
     judge_referrer(alloc, &referrer, fields, asked)
 }
 
-/// Judges the relocations of an object, and tells what they ask of the GOT.
+/// Judges the relocations of an object, and tells what they ask of the GOT. The fields mostly come in order, and then aren't
+/// listed.
 fn judge_referrer<'a>(
     alloc: Global,
     referrer: &Referrer<'_, '_, 'a>,
     fields: &mut Vec<Field>,
     asked: &mut Asked<'a>,
 ) -> Result<(), RelocFault>
-    requires { IsReferrer referrer.now }
+    requires known { IsReferrer referrer.now }
+    requires same { asked.old.listed.objects ≡ all_of referrer.now }
     ensures asked { OnOk result (wants asked.new
         ≡ with_relocations (all_of referrer.now) (wants asked.old)
         (relocations_from referrer.now.number (referring referrer.now))) }
@@ -138,56 +145,60 @@ fn judge_referrer<'a>(
     ensures fault { IfErr result (RelocationsFail (all_of referrer.now)
         (relocations_from referrer.now.number (referring referrer.now))) }
 {
-    list_fields(alloc, referrer, fields, asked)?;
+    let mut run = FieldRun::start();
+    judge_fields(alloc, referrer, &mut run, asked)?;
+    if run.rises {
+        return Ok(());
+    }
+    list_fields(referrer, fields)?;
     if !are_apart(fields)? {
         return Err(RelocFault::OverlappingFields);
     }
     Ok(())
 }
 
-/// Lists the fields of an object's relocations, each of which is lawful, in place of others, and tells what they ask of the
-/// GOT.
-fn list_fields<'a>(
+/// Judges the relocations of an object one by one, and tells what they ask of the GOT, and whether their fields rise.
+fn judge_fields<'a>(
     alloc: Global,
     referrer: &Referrer<'_, '_, 'a>,
-    fields: &mut Vec<Field>,
+    run: &mut FieldRun,
     asked: &mut Asked<'a>,
 ) -> Result<(), RelocFault>
-    requires { IsReferrer referrer.now }
+    requires known { IsReferrer referrer.now }
+    requires same { asked.old.listed.objects ≡ all_of referrer.now }
     ensures asked { OnOk result (wants asked.new
         ≡ with_relocations (all_of referrer.now) (wants asked.old)
         (relocations_from referrer.now.number (referring referrer.now))) }
-    ensures fields { OnOk result (fields.new.items
-        ≡ map field_of (relocations_from referrer.now.number (referring referrer.now))) }
+    ensures run { OnOk result (run.new
+        ≡ run_after run.old (relocations_from referrer.now.number (referring referrer.now))) }
     ensures lawful { OnOk result (All (IsLawfulRelocation (all_of referrer.now))
         (relocations_from referrer.now.number (referring referrer.now))) }
     ensures fault { IfErr result (RelocationsFail (all_of referrer.now)
         (relocations_from referrer.now.number (referring referrer.now))) }
 {
-    fields.clear();
     let relas = referrer.loaded.kept_relas();
     for rela in relas {
-        add_section(alloc, referrer, *rela, fields, asked)?;
+        judge_section(alloc, referrer, *rela, run, asked)?;
     }
     Ok(())
 }
 
-/// Adds the fields of a kept RELA section, and what its entries ask of the GOT.
-fn add_section<'a>(
+/// Judges the entries of a kept RELA section one by one, and tells the same of them.
+fn judge_section<'a>(
     alloc: Global,
     referrer: &Referrer<'_, '_, 'a>,
     rela: KeptRela,
-    fields: &mut Vec<Field>,
+    run: &mut FieldRun,
     asked: &mut Asked<'a>,
 ) -> Result<(), RelocFault>
     requires known { IsReferrer referrer.now }
     requires kept { IsKeptRela (referring referrer.now) rela }
+    requires same { asked.old.listed.objects ≡ all_of referrer.now }
     ensures asked { OnOk result (wants asked.new
         ≡ with_relocations (all_of referrer.now) (wants asked.old)
         (relocations_by referrer.now.number (referring referrer.now) rela)) }
-    ensures fields { OnOk result (fields.new.items
-        ≡ fields.old.items
-        ++ map field_of (relocations_by referrer.now.number (referring referrer.now) rela)) }
+    ensures run { OnOk result (run.new
+        ≡ run_after run.old (relocations_by referrer.now.number (referring referrer.now) rela)) }
     ensures lawful { OnOk result (All (IsLawfulRelocation (all_of referrer.now))
         (relocations_by referrer.now.number (referring referrer.now) rela)) }
     ensures fault { IfErr result (RelocationsFail (all_of referrer.now)
@@ -195,7 +206,7 @@ fn add_section<'a>(
 {
     let entries = referrer.loaded.kept_entries(rela);
     let target = referrer.relocated(rela.target as u64);
-    add_fields(alloc, referrer, target, &entries, fields, asked)
+    judge_entries(alloc, referrer, target, &entries, run, asked)
 }
 
 /// Takes in what an entry of an object, which relocates the section `target`, asks of the GOT.
@@ -205,7 +216,8 @@ fn note_request<'a>(
     target: u64,
     entry: &Rela,
 ) -> Result<(), AllocError>
-    requires { IsReferrer referrer.now }
+    requires known { IsReferrer referrer.now }
+    requires same { asked.old.listed.objects ≡ all_of referrer.now }
     ensures { OnOk result (wants asked.new
         ≡ with_relocation (all_of referrer.now) (wants asked.old)
         (relocation_of referrer.now.number (referring referrer.now) target entry.now)) }
@@ -213,24 +225,24 @@ fn note_request<'a>(
     add_entry(asked, &referrer.asker, target, entry)
 }
 
-/// Adds the fields of entries that relocate a section, and what they ask of the GOT.
-fn add_fields<'a>(
+/// Judges entries that relocate a section one by one, and tells the same of them.
+fn judge_entries<'a>(
     alloc: Global,
     referrer: &Referrer<'_, '_, 'a>,
     target: Relocated,
     entries: &RelaRun<'_>,
-    fields: &mut Vec<Field>,
+    run: &mut FieldRun,
     asked: &mut Asked<'a>,
 ) -> Result<(), RelocFault>
     requires known { IsReferrer referrer.now }
     requires target { IsRelocated (referring referrer.now) target }
+    requires same { asked.old.listed.objects ≡ all_of referrer.now }
     ensures asked { OnOk result (wants asked.new
         ≡ with_relocations (all_of referrer.now) (wants asked.old)
         (map (relocation_of referrer.now.number (referring referrer.now) target.number)
         (filter is_some_kind entries.now))) }
-    ensures fields { OnOk result (fields.new.items
-        ≡ fields.old.items
-        ++ map field_of
+    ensures run { OnOk result (run.new
+        ≡ run_after run.old
         (map (relocation_of referrer.now.number (referring referrer.now) target.number)
         (filter is_some_kind entries.now))) }
     ensures lawful { OnOk result (All (IsLawfulRelocation (all_of referrer.now))
@@ -240,14 +252,13 @@ fn add_fields<'a>(
         (map (relocation_of referrer.now.number (referring referrer.now) target.number)
         (filter is_some_kind entries.now))) }
 {
-    fields.reserve(entries.len())?;
     for i in 0..entries.len() {
         let entry = entries.at(i);
         if !is_some_kind(&entry) {
             continue;
         }
         let field = lawful_field(alloc, referrer, target, &entry)?;
-        fields.push(field)?;
+        *run = run.with(field);
         note_request(asked, referrer, target.number, &entry)?;
     }
     Ok(())

@@ -6,6 +6,8 @@
 #![tactic(auto)]
 
 mod faults;
+mod field_list;
+mod field_run;
 mod fields;
 mod kinds;
 mod lawful_fields;

@@ -35,6 +35,7 @@ fn row_of<'a>(
 ) -> Result<ObjectPatches, RelocFault>
     requires kinds { AreLawfulKinds placement.now.objects }
     requires slots { slots.now.slots ≡ wanted.slots placement.now.objects }
+    requires slots_of { slots.now.objects ≡ resolved.now }
     requires pointer { pointer ≡ pointer_in (where_in placement.now) }
     requires chosen { AreChosenValues resolved.now (where_in placement.now) chosen.now }
     requires here { IsObjectAt resolved.now number (loaded_view loaded.now) }
@@ -64,6 +65,7 @@ fn rows_of<'a>(
     requires resolved { resolved.now ≡ loaded_views objects.now }
     requires placed { placement.now.objects ≡ loaded_views objects.now }
     requires slots { slots.now.slots ≡ wanted.slots (loaded_views objects.now) }
+    requires slots_of { slots.now.objects ≡ resolved.now }
     requires kinds { AreLawfulKinds (loaded_views objects.now) }
     requires lawful { AreLawfulRelocations (loaded_views objects.now) }
     ensures rows { IfOk result (λ v. ArePatches placement.now v.items) }
@@ -71,7 +73,7 @@ fn rows_of<'a>(
     ensures fault { IfErr result (ValuesFail placement.now) }
 {
     let pointer = pointer_of(placement);
-    let chosen = chosen_values(alloc, resolved, placement)?;
+    let chosen = chosen_values(alloc, objects, resolved, placement)?;
     let mut rows = Vec::with_capacity(alloc, objects.len())?;
     for k in 0..objects.len() {
         let row = row_of(
@@ -105,6 +107,7 @@ pub fn patches<'a>(
     requires resolved { resolved.now ≡ loaded.now.objects }
     requires placed { placement.now.objects ≡ loaded.now.objects }
     requires slots { slots.now.slots ≡ wanted.slots loaded.now.objects }
+    requires slots_of { slots.now.objects ≡ loaded.now.objects }
     requires kinds { AreLawfulKinds loaded.now.objects }
     requires lawful { AreLawfulRelocations loaded.now.objects }
     ensures exact { IfOk result (λ p. p ≡ placement.now) }

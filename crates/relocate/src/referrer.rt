@@ -171,6 +171,18 @@ pub fn refers_often(loaded: &LoadedObject<'_>) -> bool {
     entry_count(loaded) > loaded.object.symbols().len()
 }
 
+/// Whether objects have more kept relocations than a number.
+pub fn refer_more_than(objects: &[LoadedObject<'_>], number: usize) -> bool {
+    let mut count: usize = 0;
+    for loaded in objects {
+        count = count.saturating_add(entry_count(loaded));
+        if count > number {
+            return true;
+        }
+    }
+    false
+}
+
 /// A row for each symbol of an object that refers often, and none of another one.
 fn table_of<'a>(
     alloc: Global,

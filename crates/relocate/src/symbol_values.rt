@@ -14,7 +14,7 @@ ghost use Rattle.relocate.specs.References.{IsObjectAt};
 ghost use Rattle.relocate.specs.SymbolTables.{AreChosenValues, AreValues, IsValueOf, IsValued, IsWorth, all_valued, valued_object, where_of};
 ghost use Rattle.relocate.specs.Values.{pointer_in, where_in};
 
-use crate::referrer::refers_often;
+use crate::referrer::{refer_more_than, refers_often};
 use crate::targets::{unnamed_at, use_of};
 use crate::values::{got_or_none, size_or_none, symbol_size, symbol_value, value_or_none};
 use elf_model::{ObjectId, SymbolRef};
@@ -67,7 +67,7 @@ fn worth_of<'a>(
 }
 
 /// A row for each chosen definition.
-pub fn chosen_values<'a>(
+fn all_chosen<'a>(
     alloc: Global,
     resolved: &Resolved<'a>,
     placement: &Placement<'a>,
@@ -82,6 +82,24 @@ pub fn chosen_values<'a>(
         values.push(worth_of(resolved, placement, &definitions[i]))?;
     }
     Ok(values)
+}
+
+/// A row for each chosen definition, where the objects have more relocations than there are definitions, so that the rows
+/// save work; else none.
+pub fn chosen_values<'a>(
+    alloc: Global,
+    objects: &[LoadedObject<'a>],
+    resolved: &Resolved<'a>,
+    placement: &Placement<'a>,
+) -> Result<Vec<SymbolValue>, AllocError>
+    requires kinds { AreLawfulKinds placement.now.objects }
+    ensures { IfOk result (λ v.
+        AreChosenValues resolved.now (where_in placement.now) v.items) }
+{
+    if !refer_more_than(objects, resolved.definitions().len()) {
+        return Ok(Vec::new(alloc));
+    }
+    all_chosen(alloc, resolved, placement)
 }
 
 /// The row at a place; None past the end.
@@ -206,6 +224,7 @@ impl<'v, 'a> Valued<'v, 'a> {
         requires here { IsObjectAt resolved.now number (loaded_view loaded.now) }
         requires kinds { AreLawfulKinds placement.now.objects }
         requires slots { slots.now.slots ≡ wanted.slots placement.now.objects }
+        requires slots_of { slots.now.objects ≡ resolved.now }
         requires pointer { pointer ≡ pointer_in (where_in placement.now) }
         ensures known { IfOk result IsValued }
         ensures all { IfOk result (λ v. all_valued v ≡ resolved.entry.now) }
@@ -240,6 +259,7 @@ impl<'v, 'a> Valued<'v, 'a> {
         requires here { IsObjectAt resolved.now number (loaded_view loaded.now) }
         requires kinds { AreLawfulKinds placement.now.objects }
         requires slots { slots.now.slots ≡ wanted.slots placement.now.objects }
+        requires slots_of { slots.now.objects ≡ resolved.now }
         requires pointer { pointer ≡ pointer_in (where_in placement.now) }
         ensures known { IfOk result IsValued }
         ensures all { IfOk result (λ v. all_valued v ≡ resolved.entry.now) }

@@ -19,9 +19,9 @@ use crate::kinds::{Terms, fits, value};
 use crate::symbol_values::Valued;
 use crate::thread_pointer::offset_from;
 use elf_model::{ObjectId, Rela, SHN_ABS, SectionRef, SymbolRef};
-use got_tls::{Kind, Slot, name_number, slot_kind};
+use got_tls::{Kind, slot_kind};
 use layout::Placement;
-use resolve::{Definition, SymbolOf, target_of};
+use resolve::{Definition, SymbolOf};
 
 /// A section of an object, by their numbers.
 fn section_ref(object: u64, section: u64) -> SectionRef
@@ -127,7 +127,8 @@ pub fn got_or_none(placement: &Placement<'_>) -> u64
 /// How far behind the GOT's beginning the slot stands that an entry of a kind asks for, modulo 2 to the 64; 0 where it
 /// asks for none.
 fn slot_offset(valued: &Valued<'_, '_>, target: u64, kind: Kind, entry: &Rela) -> u64
-    requires { relocation_kind
+    requires known { IsValued valued.now }
+    requires kind { relocation_kind
         (relocation_of valued.now.number (valued_object valued.now) target entry.now)
         ≡ Some (kind_view kind) }
     ensures { result ≡ option_map_or (offset_of valued.now.slots.now.slots)
@@ -141,9 +142,7 @@ fn slot_offset(valued: &Valued<'_, '_>, target: u64, kind: Kind, entry: &Rela) -
                 object: ObjectId(valued.number as u64),
                 symbol: entry.symbol() as u64,
             };
-            let target = target_of(symbol, valued.loaded);
-            let number = name_number(valued.loaded, entry.symbol() as usize);
-            valued.slots.offset_by(number, Slot::new(kind, &target))
+            valued.slots.symbol_offset(kind, symbol, valued.loaded)
         }
         None => 0,
     }

@@ -4,7 +4,7 @@ use Rattle.elf_model.proofs.FlatRelocations.{left_of_entries}
 use Rattle.elf_model.specs.Relocation.{is_some_kind, relocation_of}
 use Rattle.got_tls.specs.Askers.{all_asked, asking}
 use Rattle.got_tls.specs.Asking.{with_relocations}
-use Rattle.got_tls.specs.Views.{wants}
+use Rattle.got_tls.specs.AskedViews.{wants}
 use Rattle.got_tls.proofs.asked_slots.add_entries.Given as goal
 
 abbrev pub invariant-loop-i : goal.invariant-loop-i

@@ -3,7 +3,7 @@ use Rattle.elf_model.specs.Relocation.{relocations_from}
 use Rattle.search.specs.KeptLists.{relocations_of_relas}
 use Rattle.got_tls.specs.Askers.{all_asked, asking}
 use Rattle.got_tls.specs.Asking.{with_relocations}
-use Rattle.got_tls.specs.Views.{wants}
+use Rattle.got_tls.specs.AskedViews.{wants}
 use Rattle.got_tls.proofs.asked_slots.add_relocations.Given as goal
 
 abbrev pub invariant-loop-rela : goal.invariant-loop-rela

@@ -4,7 +4,7 @@ use Rattle.elf_model.specs.Relocation.{Relocation}
 use Rattle.search.proofs.KeptWalks.{entries_told}
 use Rattle.got_tls.specs.Askers.{all_asked, asking}
 use Rattle.got_tls.specs.Asking.{with_relocations}
-use Rattle.got_tls.specs.Views.{wants}
+use Rattle.got_tls.specs.AskedViews.{wants}
 use Rattle.got_tls.proofs.asked_slots.add_section.Goals as goal
 
 pub returns : goal.returns

@@ -3,7 +3,7 @@ use Rattle.std.specs.Prelude.{OnOk}
 use Rattle.elf_model.specs.Relocation.{relocations_from}
 use Rattle.search.specs.Views.{loaded_view}
 use Rattle.got_tls.specs.Asking.{with_relocations}
-use Rattle.got_tls.specs.Views.{wants}
+use Rattle.got_tls.specs.AskedViews.{wants}
 use Rattle.relocate.specs.References.{AreLawful, RelocationsFail}
 use Rattle.relocate.specs.SymbolTables.{all_of, referring}
 use Rattle.relocate.proofs.SymbolTables.{moved}
