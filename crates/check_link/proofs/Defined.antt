@@ -9,7 +9,7 @@ use Rattle.elf_model.specs.Loading.{LoadedObject}
 use Rattle.elf_model.specs.ObjectFile.{symbols}
 use Rattle.elf_model.specs.Resolution.{SymbolOf, is_common_definition, is_strong, is_weak_definition, symbols_from, symbols_of}
 use Rattle.check_load.specs.Views.{loaded_view, loaded_views}
-use Rattle.check_load.specs.declared.loader.Loaded.{Loaded}
+use Rattle.check_load.specs.declared.loaded.Loaded.{Loaded}
 
 -- a filter by a weaker test in front of another one changes nothing
 weaker_first :

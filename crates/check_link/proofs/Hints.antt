@@ -12,7 +12,7 @@ use Rattle.elf_model.specs.declared.records.Symbol.{Symbol}
 use Rattle.check_load.specs.NameNumbers.{IsNumberOf, KeepNumbers, number_of}
 use Rattle.check_load.specs.Numbered.{AreNumbered, IsNumbered, name_at, number_in}
 use Rattle.check_load.specs.Views.{loaded_view, loaded_views}
-use Rattle.check_load.specs.declared.loader.Loaded.{Loaded}
+use Rattle.check_load.specs.declared.loaded.Loaded.{Loaded}
 use Rattle.check_load.proofs.Numbering.{known_with}
 use Rattle.check_link.specs.Chosen.{AreHinted, IsHinted, hint_at}
 use Rattle.check_link.specs.Views.{symbol_view}

@@ -9,7 +9,7 @@ use Rattle.elf_model.specs.Pieces.{pieces_of}
 use Rattle.elf_model.proofs.PieceNumbers.{IsKept, kept_whole}
 use Rattle.check_load.specs.Views.{loaded_views}
 use Rattle.check_link.specs.Views.{piece_views}
-use Rattle.check_load.specs.declared.loader.Loaded.{Loaded}
+use Rattle.check_load.specs.declared.loaded.Loaded.{Loaded}
 use Rattle.check_link.specs.declared.things.Piece.{Piece}
 
 -- behind the last object, what was listed is all

@@ -9,7 +9,7 @@ use Rattle.elf_model.specs.ObjectFile.{symbols}
 use Rattle.elf_model.specs.Resolution.{SymbolOf, symbol_of, symbols_from, symbols_of}
 use Rattle.elf_model.specs.declared.records.Symbol.{Symbol}
 use Rattle.check_load.specs.Views.{loaded_view, loaded_views}
-use Rattle.check_load.specs.declared.loader.Loaded.{Loaded}
+use Rattle.check_load.specs.declared.loaded.Loaded.{Loaded}
 use Rattle.check_link.proofs.Defined.{objects_at}
 
 module _ (P : SymbolOf → Type 0) (Q : Type 0) where

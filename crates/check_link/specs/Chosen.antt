@@ -3,7 +3,7 @@ use Rattle.std.specs.Prelude.{◌≡◌, ℕ, ◌+◌, ◌≤◌, Bool, true, fa
 use Rattle.std.specs.Option.{option_and_then, option_map_or}
 use Rattle.check_load.specs.NameNumbers.{IsNumberOf, number_of}
 use Rattle.check_load.specs.Numbered.{number_in}
-use Rattle.check_load.specs.declared.loader.Loaded.{Loaded}
+use Rattle.check_load.specs.declared.loaded.Loaded.{Loaded}
 use Rattle.elf_model.specs.ChosenSymbols.{is_chosen, is_same_symbol}
 use Rattle.elf_model.specs.Loading.{LoadedObject}
 use Rattle.elf_model.specs.Resolution.{SymbolOf, chosen}

@@ -6,7 +6,7 @@ use Rattle.elf_model.specs.ChosenSymbols.{definitions}
 use Rattle.elf_model.specs.Commons.{block_named, blocks}
 use Rattle.elf_model.specs.Loading.{LoadedObject}
 use Rattle.check_load.specs.Numbered.{AreNumbered}
-use Rattle.check_load.specs.declared.loader.Loaded.{Loaded}
+use Rattle.check_load.specs.declared.loaded.Loaded.{Loaded}
 use Rattle.check_link.specs.Chosen.{AreChosen, IsOwn, IsSized}
 use Rattle.check_link.specs.Commons.{block_in}
 use Rattle.check_link.specs.Views.{block_views, symbol_views}

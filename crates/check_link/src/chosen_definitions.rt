@@ -14,7 +14,7 @@ ghost use Rattle.check_link.specs.Views.{symbol_view, symbol_views};
 
 use crate::definitions::{is_common_definition, is_strong, is_weak_definition};
 use crate::things::SymbolOf;
-use check_load::{Loaded, NameTable};
+use check_load::{Loaded, NameTable, filled};
 use std::alloc::{AllocError, Global};
 
 /// Names, and the position of the chosen definition of each at its number. Names that have no place in the list have none.
@@ -289,7 +289,7 @@ pub fn own_choices(
     ensures own { IfOk result (λ v. AreOwnIn (symbol_views definitions.now) index.now v.items) }
     ensures all { IfOk result (λ v. HaveMarks index.now v.items) }
 {
-    let mut marks = vec![in alloc; false; definitions.len()]?;
+    let mut marks = filled(alloc, false, definitions.len())?;
     for position in &index.positions {
         set_mark_of(&mut marks, *position);
     }

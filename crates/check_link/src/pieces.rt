@@ -34,14 +34,21 @@ fn add_pieces<'a>(
         ≡ piece_views out.old.items
         ++ piece_words.pieces_from number (loaded_view loaded.now) 0 (sections loaded.now.object)) }
 {
-    let headers = loaded.object.sections();
-    for i in 0..headers.len() {
-        let header = headers.at(i);
-        if loaded.is_kept(i, &header) {
-            out.push(piece_of(number, &loaded.object, i, header))?;
-        }
+    let sections = loaded.kept_sections();
+    for section in sections {
+        let i = *section as usize;
+        out.push(piece_of(number, &loaded.object, i, loaded.object.section(i)))?;
     }
     Ok(())
+}
+
+/// How many kept sections objects have; the greatest number where they are more.
+fn kept_count(objects: &[Loaded<'_>]) -> usize {
+    let mut count: usize = 0;
+    for loaded in objects {
+        count = count.saturating_add(loaded.kept_sections().len());
+    }
+    count
 }
 
 /// The kept sections of all objects, in load order.
@@ -50,7 +57,7 @@ pub fn pieces_of<'a>(alloc: Global, objects: &[Loaded<'a>]) -> Result<Vec<Piece<
         ≡ piece_words.kept_sections (loaded_views objects.now)) }
     ensures sizes { IfOk result (λ v. All (λ p. length p.bytes ≤ p.size) (piece_views v.items)) }
 {
-    let mut found = Vec::new(alloc);
+    let mut found = Vec::with_capacity(alloc, kept_count(objects))?;
     for (k, loaded) in objects.iter().enumerate() {
         add_pieces(&mut found, k as u64, loaded)?;
     }

@@ -1,5 +1,7 @@
 pub mod AwakeLaws
 pub mod FreeLaws
+pub mod KeptLaws
+pub mod KeptRelocationLaws
 pub mod LoadLaws
 pub mod LoaderLaws
 pub mod LawfulGroups

@@ -24,7 +24,7 @@ use Rattle.check_load.specs.NameNumbers.{is_among}
 use Rattle.check_load.specs.Stops.{Refutes}
 use Rattle.check_load.specs.Taken.{has_item, has_member}
 use Rattle.check_load.specs.Views.{loaded_view, loaded_views}
-use Rattle.check_load.specs.declared.loader.Loaded.{Loaded}
+use Rattle.check_load.specs.declared.loaded.Loaded.{Loaded}
 use Rattle.check_load.specs.declared.loader.Loader.{Loader}
 use Rattle.check_load.specs.declared.stops.Stop.{Stop}
 use Rattle.check_load.specs.declared.taken_members.Taken.{Taken}

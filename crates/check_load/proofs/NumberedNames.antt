@@ -1,14 +1,13 @@
 -- The numbers of the names of objects' symbols, as names come one by one.
-use Rattle.std.proofs.Common.{◌≡◌, ℕ, zero, suc, ◌+◌, ◌<◌, ◌≤◌, ◌⊎◌, inl, inr, Bool, true, false, cond, List, [], ◌∷◌, ◌++◌, length, length-append, Option, Some, None, get_or, refl, sym, ap, subst, ◌∙◌, arith}
-use Rattle.std.specs.Prelude.{All, IfSome}
+use Rattle.std.proofs.Common.{◌≡◌, ℕ, zero, suc, ◌+◌, ◌⊎◌, inl, inr, List, [], ◌∷◌, ◌++◌, length, length-append, Option, Some, None, refl, sym, ap, subst, ◌∙◌}
+use Rattle.std.specs.Prelude.{IfSome}
 use Rattle.std.specs.List.{position}
 use Rattle.std.specs.Str.{bytes_eq}
 use Rattle.std.proofs.lemmas.List.Elements.{All-nil, All-push, All-weaker}
 use Rattle.std.proofs.lemmas.Option.{none-some}
-use Rattle.elf_model.proofs.LoadingBounds.{by_case}
-use Rattle.check_load.specs.NameNumbers.{IsNumberOf, KeepNumbers, is_among, number_of, with_name}
+use Rattle.check_load.specs.NameNumbers.{IsNumberOf, KeepNumbers, number_of, with_name}
 use Rattle.check_load.specs.Numbered.{AreNumbered, AreNumbersOf, HasOneMore, IsNumbered, name_at, number_in}
-use Rattle.check_load.specs.declared.loader.Loaded.{Loaded}
+use Rattle.check_load.specs.declared.loaded.Loaded.{Loaded}
 use Rattle.check_load.proofs.Numbering.{among_with, found_number, kept_with, number_with}
 
 -- a name that came has its number, and those before it theirs

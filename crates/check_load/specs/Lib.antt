@@ -1,4 +1,6 @@
 pub mod Awake
+pub mod Kept
+pub mod KeptRelocations
 pub mod Loaders
 pub mod Marks
 pub mod NameFinders

@@ -2,7 +2,7 @@
 use Rattle.std.specs.Prelude.{◌≡◌, ℕ, ◌++◌, ◌∷◌, [], All, IfSome, List, None, Option, Some, slice_index_or, unwrap_or}
 use Rattle.elf_model.specs.ObjectFile.{symbol_name}
 use Rattle.check_load.specs.NameNumbers.{IsNumberOf}
-use Rattle.check_load.specs.declared.loader.Loaded.{Loaded}
+use Rattle.check_load.specs.declared.loaded.Loaded.{Loaded}
 
 -- the number that is known for the name of symbol j
 abbrev pub number_in : List (Option ℕ) → ℕ → Option ℕ

@@ -2,6 +2,7 @@
 ghost use Rattle.std.specs.Prelude.{◌≡◌, ◌↔◌, ◌<◌, All, AllPairs, IfOk, IsTrue};
 ghost use Rattle.elf_model.specs.Groups.{AreLawfulGroups, HasKnownFlags, HasNamedSignature, ShareNoSection, is_comdat};
 
+use crate::copies::filled;
 use crate::marks::{are_unmarked, mark};
 use elf_model::GRP_COMDAT;
 use elf_read::Group;
@@ -54,7 +55,7 @@ fn share_no_section(alloc: Global, groups: &[Group<'_>], count: usize) -> Result
     requires { All (λ g. All (λ k. k < count) g.members) groups.now }
     ensures { IfOk result (λ b. IsTrue b ↔ AllPairs ShareNoSection groups.now) }
 {
-    let mut marks = vec![in alloc; false; count]?;
+    let mut marks = filled(alloc, false, count)?;
     for group in groups {
         if !are_unmarked(&marks, group.members()) {
             return Ok(false);

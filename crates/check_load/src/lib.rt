@@ -2,9 +2,13 @@
 #![tactic(auto)]
 
 mod awake_entries;
+mod copies;
+mod kept_relocations;
+mod kept_sections;
 mod known_names;
 mod lawfulness;
 mod load_steps;
+mod loaded;
 mod loader;
 mod marks;
 mod name_table;
@@ -17,8 +21,12 @@ mod symbol_numbers;
 mod taken_members;
 mod turns;
 
+pub use copies::filled;
+pub use kept_relocations::{KeptRelocation, Relocations, is_some_kind};
+pub use kept_sections::KeptRela;
 pub use load_steps::{open, open_named};
-pub use loader::{Loaded, NamedObjects};
+pub use loaded::Loaded;
+pub use loader::NamedObjects;
 pub use name_table::NameTable;
 pub use signatures::Dropped;
 pub use symbol_numbers::SymbolNumbers;

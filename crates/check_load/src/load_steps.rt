@@ -12,7 +12,8 @@ ghost use Rattle.opening.specs.Steps.{in_group};
 ghost use Rattle.check_load.specs.Stops.{Refutes};
 ghost use Rattle.check_load.specs.Views.{loaded_views};
 
-use crate::loader::{Loaded, Loader, NamedObjects};
+use crate::loaded::Loaded;
+use crate::loader::{Loader, NamedObjects};
 use crate::places::Places;
 use crate::rounds::run_rounds;
 use crate::stops::Stop;

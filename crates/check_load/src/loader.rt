@@ -2,10 +2,8 @@
 ghost use Rattle.std.specs.Prelude.{true, false, ◌≡◌, ◌≤◌, ◌<◌, [], ℕ, IfErr, IfNone, IfOk, IfSome, IsSomeAnd, OnOk, Some, length, option_map, slice_get};
 ghost use Rattle.std.specs.List.{find};
 ghost use Rattle.elf_model.specs.ArchiveFile as archive;
-ghost use Rattle.elf_model.specs.Loading.{is_begun, is_dropped, next, with_object};
-ghost use Rattle.elf_model.specs.ObjectFile.{IsObject, section, sections};
-ghost use Rattle.elf_model.specs.Pieces.{is_kept};
-ghost use Rattle.elf_model.specs.Relocation.{is_kept_rela};
+ghost use Rattle.elf_model.specs.Loading.{is_begun, next, with_object};
+ghost use Rattle.elf_model.specs.ObjectFile.{IsObject};
 ghost use Rattle.check_load.specs.Loaders.{AreFreeAwake, IsLoadable, Knows, is_free, loaded};
 ghost use Rattle.check_load.specs.Awake.{is_awake};
 ghost use Rattle.opening.specs.Opened.{item_view};
@@ -13,76 +11,24 @@ ghost use Rattle.check_load.specs.Places.{IsAt};
 ghost use Rattle.check_load.specs.Rounds.{AreAsleep, AreSideBySide};
 ghost use Rattle.check_load.specs.Stops.{Refutes};
 ghost use Rattle.check_load.specs.Taken.{has_item};
-ghost use Rattle.check_load.specs.Views.{loaded_view, loaded_views};
 
 use crate::awake_entries::Awake;
+use crate::kept_sections::kept_of;
 use crate::known_names::KnownNames;
+use crate::loaded::Loaded;
 use crate::name_table::NameTable;
 use crate::names::{note_object, roots};
 use crate::places::Places;
-use crate::signatures::{Dropped, admit};
+use crate::signatures::admit;
 use crate::stops::Stop;
-use crate::symbol_numbers::SymbolNumbers;
 use crate::taken_members::Taken;
 use ar_index::IndexEntry;
 use byteview::View;
 use command::Plan;
-use elf_model::{NameSeed, ObjFault, SHT_RELA, SectionHeader};
+use elf_model::{NameSeed, ObjFault};
 use elf_read::ObjectFile;
 use opening::{Input, OpenedItem};
 use std::alloc::{AllocError, Global};
-
-/// A loaded object.
-#[derive(Drop)]
-pub struct Loaded<'a> {
-    /// What its bytes hold.
-    pub object: ObjectFile<'a>,
-    /// The number of its item in the command.
-    pub item: u64,
-    /// The offset of its member's header in the archive; 0 for an object item.
-    pub offset: u64,
-    /// The path of its file.
-    pub path: &'a str,
-    /// Its dropped sections.
-    pub dropped: Dropped,
-    /// The numbers of the names of its symbols.
-    pub numbers: SymbolNumbers,
-}
-
-impl<'a> Loaded<'a> {
-    /// Whether a section is dropped with its group. Takes the same time for each.
-    pub fn is_dropped(&self, section: usize) -> bool
-        ensures { result ≡ is_dropped (loaded_view self.now) section }
-    {
-        self.dropped.has(section)
-    }
-
-    /// Whether a section, which has the header, is kept: it has SHF_ALLOC, and isn't dropped.
-    pub fn is_kept(&self, section: usize, header: &SectionHeader) -> bool
-        ensures { result ≡ is_kept (loaded_view self.now) section header.now }
-    {
-        header.is_alloc() && !self.is_dropped(section)
-    }
-
-    /// Whether there is a section of a number, and it is kept.
-    fn keeps(&self, number: usize) -> bool
-        ensures { result ≡ is_kept (loaded_view self.now) number
-            (section (sections self.now.object) number) }
-    {
-        self.is_kept(number, &self.object.section(number))
-    }
-
-    /// Whether a section, which has the header, is a RELA section that isn't dropped and relocates one that is kept.
-    pub fn is_kept_rela(&self, section: usize, header: &SectionHeader) -> bool
-        ensures value { result ≡ is_kept_rela (loaded_view self.now) section header.now }
-        ensures rela { result ≡ true → header.now.sh_type ≡ 4 }
-    {
-        if header.sh_type != SHT_RELA || self.is_dropped(section) {
-            return false;
-        }
-        self.keeps(header.sh_info as usize)
-    }
-}
 
 /// Loaded objects in load order, and the names whose numbers their symbols have.
 #[derive(Drop)]
@@ -224,6 +170,7 @@ impl<'p, 'a> Loader<'p, 'a> {
             &object,
             &dropped,
         )?;
+        let kept = kept_of(alloc, &object, &dropped)?;
         self.taken.add(item.number, offset)?;
         self.objects.push(Loaded {
             object,
@@ -232,6 +179,7 @@ impl<'p, 'a> Loader<'p, 'a> {
             path: item.path,
             dropped,
             numbers,
+            kept,
         })?;
         Ok(())
     }

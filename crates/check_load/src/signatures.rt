@@ -8,6 +8,7 @@ ghost use Rattle.check_load.specs.NameNumbers.{is_among};
 ghost use Rattle.check_load.specs.Signatures.{lost_by, lost_members, seen_by, seen_then};
 ghost use Rattle.check_load.specs.Stops.{Refutes};
 
+use crate::copies::filled;
 use crate::lawfulness::{are_lawful, is_comdat};
 use crate::marks::{is_marked, mark};
 use crate::name_table::NameTable;
@@ -89,7 +90,7 @@ fn admit_groups<'a>(
     ensures dropped { IfOk result (λ d. d ≡ lost_by (is_among seen.old) groups.now) }
     ensures seen { OnOk result (is_among seen.new ≡ seen_by (is_among seen.old) groups.now) }
 {
-    let mut marks = vec![in alloc; false; count]?;
+    let mut marks = filled(alloc, false, count)?;
     mark_lost(seen, &mut marks, groups)?;
     Ok(Dropped { marks })
 }

@@ -70,3 +70,7 @@ or_none false b e = sym e
 pub was_false : (b : Bool) → not b ≡ true → b ≡ false
 was_false true e = absurd (false≢true e)
 was_false false e = refl
+
+pub no_more : (b : Bool) → b ≡ (b || false)
+no_more true = refl
+no_more false = refl

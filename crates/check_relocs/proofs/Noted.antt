@@ -1,19 +1,22 @@
 -- Symbols for whose names loading noted that objects define them: their definitions have these names, and none is the linker's.
 use Rattle.std.proofs.Common.{◌≡◌, ℕ, zero, suc, ◌<◌, ◌&&◌, Bool, true, false, List, [], ◌∷◌, Option, None, Some, get_or, length, refl, sym, ap, ◌∙◌, arith}
 use Rattle.std.specs.Prelude.{IfSome, is_some, not, slice_get}
+use Rattle.std.specs.Option.{is_none}
+use Rattle.std.specs.Str.{bytes_eq}
 use Rattle.std.proofs.lemmas.Bool.{false≢true}
 use Rattle.std.proofs.lemmas.Slice.Eq.{bytes_eq-Decides}
 use Rattle.elf_model.proofs.ChosenSymbols.{chosen_listed}
 use Rattle.elf_model.proofs.Finding.{find-found}
 use Rattle.elf_model.specs.ChosenSymbols.{chosen_symbols}
-use Rattle.elf_model.specs.LinkerNames.{bound_of}
 use Rattle.elf_model.specs.Loading.{LoadedObject}
 use Rattle.elf_model.specs.Relocation.{is_local, symbol_at}
 use Rattle.elf_model.specs.Resolution.{SymbolOf, chosen, has_name}
+use Rattle.elf_model.specs.LinkerNames.{bound_of, got_name}
+use Rattle.elf_model.specs.Slots.{names_got}
 use Rattle.elf_model.specs.UsedNames.{is_linker_use}
 use Rattle.check_load.specs.Numbered.{name_at}
 use Rattle.check_load.specs.Views.{loaded_view, loaded_views}
-use Rattle.check_load.specs.declared.loader.Loaded.{Loaded}
+use Rattle.check_load.specs.declared.loaded.Loaded.{Loaded}
 use Rattle.check_link.specs.Views.{symbol_view}
 use Rattle.check_link.specs.declared.things.SymbolOf as code
 
@@ -43,6 +46,24 @@ pub noted_is_no_use :
     is_some r ≡ true → false ≡ is_linker_use L (symbol_at k o j)
 noted_is_no_use L k j o None told there some = absurd (false≢true some)
 noted_is_no_use L k j o (Some t) told there some = chosen_is_no_use L (symbol_at k o j) (symbol_view t) (told o there)
+
+-- nor does it name the GOT
+pub noted_names_no_got :
+    (L : List LoadedObject) (k j : ℕ) (o : LoadedObject) (r : Option code.SymbolOf) →
+    IfSome r (λ t. (x : LoadedObject) → slice_get L k ≡ Some x → chosen L (name_at x.bytes j) ≡ Some (symbol_view t)) → slice_get L k ≡ Some o →
+    is_some r ≡ true → false ≡ names_got L (symbol_at k o j)
+noted_names_no_got L k j o None told there some = absurd (false≢true some)
+noted_names_no_got L k j o (Some t) told there some = by (symbol_at k o j) (told o there)
+  where
+    none : (a b : Bool) → false ≡ (a && (b && false))
+    none true true = refl
+    none true false = refl
+    none false b = refl
+
+    by : (s : SymbolOf) → chosen L s.name ≡ Some (symbol_view t) → false ≡ names_got L s
+    by s is =
+        none (not (is_local s)) (bytes_eq s.name got_name)
+        ∙ sym (ap (λ (x : Option SymbolOf). not (is_local s) && (bytes_eq s.name got_name && is_none x)) is)
 
 -- an element of the objects is the one that has its number
 viewed : (xs : List Loaded) (k : ℕ) (d : Loaded) → k < length xs → slice_get (loaded_views xs) k ≡ Some (loaded_view (get_or xs k d))

@@ -8,7 +8,7 @@ use Rattle.elf_model.specs.Placement.{Where}
 use Rattle.elf_model.specs.Relocation.{Relocation, relocations_from}
 use Rattle.elf_model.proofs.FlatRelocations.{left_of_objects, object_more}
 use Rattle.check_load.specs.Views.{loaded_view}
-use Rattle.check_load.specs.declared.loader.Loaded.{Loaded}
+use Rattle.check_load.specs.declared.loaded.Loaded.{Loaded}
 use Rattle.elf_model.proofs.RelocationFields.{width_some}
 use Rattle.check_relocs.specs.Fields.{IsNarrow, IsRight, field_of}
 

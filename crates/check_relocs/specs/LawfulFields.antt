@@ -1,17 +1,26 @@
 -- What one relocation asks, by its kind, by what its symbol means, and by the section that it relocates.
 use Rattle.std.specs.Prelude.{ℕ, pos, ◌-ℤ◌, ◌≡◌, ◌+◌, ◌*◌, ◌%◌, ◌^◌, ◌≤◌, ◌&&◌, Bool, false, not, codes, List, [], Option, IfSome, IsSome, IsSomeAnd, option_map, unwrap_or}
 use Rattle.std.specs.Str.{bytes_eq}
-use Rattle.elf_model.specs.ObjectFile.{section_name}
+use Rattle.elf_model.specs.ObjectFile.{section, section_name, sections}
+use Rattle.elf_model.specs.Placement.{section_address}
 use Rattle.elf_model.specs.Relocation.{IsInRange, IsMismatch, Kind, Terms, modulo_64, whole_value}
 use Rattle.elf_model.specs.declared.records.Rela.{Rela}
+use Rattle.check_relocs.specs.Referrers.{object_here}
 use Rattle.check_relocs.specs.declared.fields.Field.{Field}
 use Rattle.check_relocs.specs.declared.lawful_fields.LinkTerms.{LinkTerms}
 use Rattle.check_relocs.specs.declared.lawful_fields.Relocated.{Relocated}
+use Rattle.check_relocs.specs.declared.referrer.Referrer.{Referrer}
 use Rattle.check_relocs.specs.declared.targets.Target.{Target}
 
 -- a section of an object is .eh_frame
 abbrev pub is_frames : List ℕ → ℕ → Bool
 is_frames bytes k = bytes_eq (unwrap_or (section_name bytes k) []) (codes ".eh_frame")
+
+-- what entries relocate is what a section of the object is
+pub record IsRelocated (r : Referrer) (to : Relocated) : Type 0 where
+  pub size : to.size ≡ (section (sections (object_here r).bytes) to.section).sh_size
+  pub frames : to.frames ≡ is_frames (object_here r).bytes to.section
+  pub address : to.address ≡ section_address r.bindings.now.places.placed r.number to.section
 
 -- entries name a LOCAL symbol of a section that isn't kept, and aren't those of .eh_frame of a dropped one
 abbrev pub refers_to_dropped : Target → Relocated → Bool

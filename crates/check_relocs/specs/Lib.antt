@@ -7,4 +7,5 @@ pub mod KnownSlots
 pub mod LawfulFields
 pub mod LinkerUses
 pub mod Needs
+pub mod Referrers
 pub mod Widths

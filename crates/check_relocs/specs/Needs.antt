@@ -1,19 +1,21 @@
 -- What kept relocations ask of the GOT.
-use Rattle.std.specs.Prelude.{◌≡◌, ℕ, ◌||◌, Bool, false, List, Option}
+use Rattle.std.specs.Prelude.{◌≡◌, ◌||◌, Bool, false, List, Option}
 use Rattle.std.specs.List.{list_any}
 use Rattle.std.specs.Option.{option_map_or}
 use Rattle.elf_model.specs.Loading.{LoadedObject}
-use Rattle.elf_model.specs.Relocation.{Relocation, symbol_at}
+use Rattle.elf_model.specs.Relocation.{Relocation}
 use Rattle.elf_model.specs.Slots.{Request, asks_for_got, has_got, names_got, request_of, requests, same_request}
 use Rattle.check_link.specs.Slots.{is_asked}
 use Rattle.check_relocs.specs.Known.{AreKnown}
 use Rattle.check_relocs.specs.KnownSlots.{AreAsked}
+use Rattle.check_relocs.specs.Referrers.{objects_here, symbol_here}
 use Rattle.check_relocs.specs.declared.needs.KnownNeeds.{KnownNeeds}
 use Rattle.check_relocs.specs.declared.needs.Needs.{Needs}
+use Rattle.check_relocs.specs.declared.referrer.Referrer.{Referrer}
 
--- what is known of the symbols of the object that has a number is whether they have the GOT's name
-abbrev pub AreGotNames : List LoadedObject → ℕ → LoadedObject → List (Option Bool) → Type 0
-AreGotNames objects number o us = AreKnown (λ j u. u ≡ names_got objects (symbol_at number o j)) us
+-- what is known of the symbols of an object is whether they have the GOT's name
+abbrev pub AreGotNames : Referrer → List (Option Bool) → Type 0
+AreGotNames r us = AreKnown (λ j u. u ≡ names_got (objects_here r) (symbol_here r j)) us
 
 -- a relocation asks for the slot of a request
 abbrev pub asks_for_slot : Request → Relocation → Bool
@@ -29,8 +31,8 @@ pub record AreNeeds (objects : List LoadedObject) (needs : Needs) : Type 0 where
   pub got : needs.got ≡ has_got objects
   pub slots : (q : Request) → is_asked needs.requests q ≡ list_any (same_request q) (requests objects)
 
--- what is known of the symbols of the object that has a number: whether they have the GOT's name, and which of their slots
--- are among the requests already
-pub record AreNeedsKnown (objects : List LoadedObject) (needs : Needs) (number : ℕ) (o : LoadedObject) (known : KnownNeeds) : Type 0 where
-  pub named : AreGotNames objects number o known.named.items
-  pub asked : AreAsked needs.requests number o known.asked.items
+-- what is known of the symbols of an object: whether they have the GOT's name, and which of their slots are among the
+-- requests already
+pub record AreNeedsKnown (r : Referrer) (needs : Needs) (known : KnownNeeds) : Type 0 where
+  pub named : AreGotNames r known.named.items
+  pub asked : AreAsked needs.requests r known.asked.items

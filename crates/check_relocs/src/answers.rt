@@ -3,7 +3,7 @@ ghost use Rattle.std.specs.Prelude.{◌≡◌, ℕ, IfOk, None, Some, slice_set}
 ghost use Rattle.check_relocs.specs.Known.{known_at};
 
 use crate::targets::has_relas;
-use check_load::Loaded;
+use check_load::{Loaded, filled};
 use std::alloc::{AllocError, Global};
 
 /// Where answers about the symbols of an object will be kept, none yet; no room where the object has no relocations.
@@ -13,7 +13,7 @@ pub fn no_answers(alloc: Global, loaded: &Loaded<'_>) -> Result<Vec<Option<bool>
     if !has_relas(loaded) {
         return Ok(Vec::new(alloc));
     }
-    let answers = vec![in alloc; None; loaded.object.symbols().len()]?;
+    let answers = filled(alloc, None, loaded.object.symbols().len())?;
     Ok(answers)
 }
 

@@ -1,30 +1,26 @@
 //! The fields of all kept relocations, object by object and in order: the ninth clause of a right link.
-ghost use Rattle.std.specs.Prelude.{◌≡◌, ◌↔◌, ◌++◌, All, IfOk, IfSome, IsSome, IsTrue, OnOk, Some, filter, map};
+ghost use Rattle.std.specs.Prelude.{◌≡◌, ◌↔◌, All, IfOk, IfSome, IsSome, Some, map};
 ghost use Rattle.std.specs.List.{slice_get};
 ghost use Rattle.elf_model.specs.ObjectFile.{section, sections};
-ghost use Rattle.elf_model.specs.Relocation.{AreLawfulRelocations, is_some_kind, relocation_of, relocations, relocations_from, relocations_in};
+ghost use Rattle.elf_model.specs.Relocation.{AreLawfulRelocations, relocations, relocations_from};
 ghost use Rattle.elf_model.specs.RelocationValues.{AllFit};
 ghost use Rattle.elf_model.specs.Placement.{section_address};
 ghost use Rattle.check_relocs.specs.KnownSlots.{AreSymbolsKnown};
-ghost use Rattle.check_relocs.specs.LawfulFields.{is_frames};
+ghost use Rattle.check_relocs.specs.LawfulFields.{IsRelocated, is_frames};
 ghost use Rattle.check_relocs.specs.Fields.{AreRight, AreRows, IsRight, IsRowOf, field_of};
-ghost use Rattle.check_load.specs.Views.{loaded_view, loaded_views};
+ghost use Rattle.check_relocs.specs.Referrers.{objects_here, relocations_here};
+ghost use Rattle.check_load.specs.Views.{loaded_view};
 
 use crate::bindings::Bindings;
 use crate::fields::{Field, in_order};
-use crate::known_symbols::{KnownSymbols, unknown_own, unknown_symbols};
+use crate::known_symbols::{KnownSymbols, unknown_symbols};
 use crate::lawful_fields::{Relocated, right_field};
+use crate::referrer::Referrer;
+use crate::targets::entry_count;
 use check_load::Loaded;
-use elf_model::{Rela, SectionHeader};
-use elf_read::{ObjectFile, RelaRun};
+use elf_model::RELA_SIZE;
+use elf_read::ObjectFile;
 use std::alloc::{AllocError, Global};
-
-/// Whether an entry relocates at all: its type isn't NONE.
-pub fn is_some_kind(entry: &Rela) -> bool
-    ensures { result ≡ is_some_kind entry.now }
-{
-    entry.kind() != 0
-}
 
 /// Whether a section has the name `.eh_frame`.
 fn is_frames(object: &ObjectFile<'_>, number: usize) -> bool
@@ -57,163 +53,54 @@ pub fn relocated(
     }
 }
 
-/// Adds the fields of entries. False where one of them isn't lawful or has a value that doesn't fit.
-fn add_fields<'a>(
-    bindings: &Bindings<'_, '_, 'a>,
-    known: &mut KnownSymbols,
-    number: u64,
-    loaded: &Loaded<'a>,
-    to: &Relocated,
-    entries: &RelaRun<'_>,
-    fields: &mut Vec<Field>,
-) -> Result<bool, AllocError>
-    requires known { AreSymbolsKnown bindings.now number (loaded_view loaded.now) known.old }
-    requires size { to.now.size ≡ (section (sections loaded.now.object) to.now.section).sh_size }
-    requires frames { to.now.frames ≡ is_frames loaded.now.object to.now.section }
-    requires address { to.now.address
-        ≡ section_address bindings.now.places.placed number to.now.section }
-    ensures kept { OnOk result
-        (AreSymbolsKnown bindings.now number (loaded_view loaded.now) known.new) }
-    ensures right { IfOk result (λ b. IsTrue b
-        ↔ All (IsRight bindings.now.objects bindings.now.places)
-        (map (relocation_of number (loaded_view loaded.now) to.now.section)
-        (filter is_some_kind entries.now))) }
-    ensures fields { IfOk result (λ b. IsTrue b
-        → fields.new.items
-        ≡ fields.old.items
-        ++ map (field_of bindings.now.objects bindings.now.places)
-        (map (relocation_of number (loaded_view loaded.now) to.now.section)
-        (filter is_some_kind entries.now))) }
+/// Lets what is told of a relocated section be that of another one. It is found out again only where the section isn't the same.
+fn turn_to(here: &Referrer<'_, '_, '_, '_>, to: &mut Relocated, section: u32)
+    requires { IsRelocated here.now to.old }
+    ensures told { IsRelocated here.now to.new }
+    ensures section { to.new.section ≡ section }
 {
-    fields.reserve(entries.len())?;
-    for i in 0..entries.len() {
-        let entry = entries.at(i);
-        if !is_some_kind(&entry) {
-            continue;
-        }
-        let Some(field) = right_field(bindings, known, number, loaded, to, &entry) else {
-            return Ok(false);
-        };
-        fields.push(field)?;
+    if to.section == section {
+        return;
     }
-    Ok(true)
+    *to = relocated(here.bindings, here.number, &here.loaded.object, section);
 }
 
-/// Adds the fields of RELA section `i`, which has the header. False where a relocation isn't right.
-fn add_section<'a>(
-    bindings: &Bindings<'_, '_, 'a>,
-    known: &mut KnownSymbols,
-    number: u64,
-    loaded: &Loaded<'a>,
-    i: usize,
-    header: &SectionHeader,
-    fields: &mut Vec<Field>,
-) -> Result<bool, AllocError>
-    requires known { AreSymbolsKnown bindings.now number (loaded_view loaded.now) known.old }
-    requires there { slice_get (sections loaded.now.object) i ≡ Some header.now }
-    requires rela { header.now.sh_type ≡ 4 }
-    ensures kept { OnOk result
-        (AreSymbolsKnown bindings.now number (loaded_view loaded.now) known.new) }
-    ensures right { IfOk result (λ b. IsTrue b
-        ↔ All (IsRight bindings.now.objects bindings.now.places)
-        (relocations_in number (loaded_view loaded.now) header.now)) }
-    ensures fields { IfOk result (λ b. IsTrue b
-        → fields.new.items
-        ≡ fields.old.items
-        ++ map (field_of bindings.now.objects bindings.now.places)
-        (relocations_in number (loaded_view loaded.now) header.now)) }
-{
-    let to = relocated(bindings, number, &loaded.object, header.sh_info);
-    let entries = loaded.object.entries(i);
-    let right = add_fields(bindings, known, number, loaded, &to, &entries, fields)?;
-    Ok(right)
+/// For how many fields of an object there should be room: one for each entry, as far as the entries don't share bytes.
+fn room_for_fields(loaded: &Loaded<'_>) -> usize {
+    entry_count(loaded).min(loaded.object.bytes().len() / RELA_SIZE)
 }
 
 /// The fields of an object's kept relocations; None where one of these isn't right. What its symbols mean is looked up where
 /// it isn't known.
-fn object_fields<'a>(
+fn object_fields(
     alloc: Global,
-    bindings: &Bindings<'_, '_, 'a>,
-    known: KnownSymbols,
-    number: u64,
-    loaded: &Loaded<'a>,
+    here: &Referrer<'_, '_, '_, '_>,
+    known: &mut KnownSymbols,
 ) -> Result<Option<Vec<Field>>, AllocError>
-    requires { AreSymbolsKnown bindings.now number (loaded_view loaded.now) known }
+    requires { AreSymbolsKnown here.now known.old }
     ensures right { IfOk result (λ o. IsSome o
-        ↔ All (IsRight bindings.now.objects bindings.now.places)
-        (relocations_from number (loaded_view loaded.now))) }
+        ↔ All (IsRight (objects_here here.now) here.now.bindings.now.places)
+        (relocations_here here.now)) }
     ensures fields { IfOk result (λ o.
         IfSome o (λ v. v.items
-        ≡ map (field_of bindings.now.objects bindings.now.places)
-        (relocations_from number (loaded_view loaded.now)))) }
+        ≡ map (field_of (objects_here here.now) here.now.bindings.now.places)
+        (relocations_here here.now))) }
 {
-    let mut known = known;
     let mut fields = Vec::new(alloc);
-    let headers = loaded.object.sections();
-    for i in 0..headers.len() {
-        let header = headers.at(i);
-        if !loaded.is_kept_rela(i, &header) {
-            continue;
-        }
-        let right = add_section(
-            bindings,
-            &mut known,
-            number,
-            loaded,
-            i,
-            &header,
-            &mut fields,
-        )?;
-        if !right {
+    fields.reserve(room_for_fields(here.loaded))?;
+    let mut to = relocated(here.bindings, here.number, &here.loaded.object, 0);
+    for relocation in here.loaded.relocations() {
+        turn_to(here, &mut to, relocation.section);
+        let Some(field) = right_field(here, known, &to, &relocation) else {
             return Ok(None);
-        }
+        };
+        fields.push(field)?;
     }
     Ok(Some(fields))
 }
 
-/// The fields of an object's kept relocations in order, given what is known of its symbols.
-fn row_with<'a>(
-    alloc: Global,
-    bindings: &Bindings<'_, '_, 'a>,
-    known: KnownSymbols,
-    number: u64,
-    loaded: &Loaded<'a>,
-) -> Result<Option<Vec<Field>>, AllocError>
-    requires { AreSymbolsKnown bindings.now number (loaded_view loaded.now) known }
-    ensures right { IfOk result (λ o. IsSome o
-        ↔ AreRight bindings.now.objects bindings.now.places
-        (relocations_from number (loaded_view loaded.now))) }
-    ensures row { IfOk result (λ o.
-        IfSome o (λ v.
-        IsRowOf bindings.now.objects bindings.now.places number (loaded_view loaded.now) v.items)) }
-{
-    let Some(fields) = object_fields(alloc, bindings, known, number, loaded)? else {
-        return Ok(None);
-    };
-    let row = in_order(fields)?;
-    Ok(row)
-}
-
-/// The fields of an object's kept relocations in order; None where one of these isn't right, and where a
-/// byte lies in two fields.
-pub fn object_row<'a>(
-    alloc: Global,
-    bindings: &Bindings<'_, '_, 'a>,
-    number: u64,
-    loaded: &Loaded<'a>,
-) -> Result<Option<Vec<Field>>, AllocError>
-    ensures right { IfOk result (λ o. IsSome o
-        ↔ AreRight bindings.now.objects bindings.now.places
-        (relocations_from number (loaded_view loaded.now))) }
-    ensures row { IfOk result (λ o.
-        IfSome o (λ v.
-        IsRowOf bindings.now.objects bindings.now.places number (loaded_view loaded.now) v.items)) }
-{
-    let known = unknown_symbols(alloc, loaded)?;
-    row_with(alloc, bindings, known, number, loaded)
-}
-
-/// The same of the object that has a number. Its symbols' names are looked up only where loading gave them no numbers.
+/// The fields in order of the kept relocations of the object that has a number; None where one of these isn't right, and where
+/// a byte lies in two fields.
 pub fn own_row<'a>(
     alloc: Global,
     bindings: &Bindings<'_, '_, 'a>,
@@ -228,8 +115,17 @@ pub fn own_row<'a>(
         IfSome o (λ v.
         IsRowOf bindings.now.objects bindings.now.places number (loaded_view loaded.now) v.items)) }
 {
-    let known = unknown_own(alloc, bindings, number, loaded)?;
-    row_with(alloc, bindings, known, number, loaded)
+    let here = Referrer {
+        bindings,
+        number,
+        loaded,
+    };
+    let mut known = unknown_symbols(alloc, &here)?;
+    let Some(fields) = object_fields(alloc, &here, &mut known)? else {
+        return Ok(None);
+    };
+    let row = in_order(fields)?;
+    Ok(row)
 }
 
 /// The rows of all objects; None where relocations aren't right.
@@ -245,7 +141,7 @@ fn all_rows(
     let objects = bindings.objects();
     let mut rows = Vec::with_capacity(alloc, objects.len())?;
     for k in 0..objects.len() {
-        let Some(row) = object_row(alloc, bindings, k as u64, &objects[k])? else {
+        let Some(row) = own_row(alloc, bindings, k as u64, &objects[k])? else {
             return Ok(None);
         };
         rows.push(row)?;

@@ -1,15 +1,16 @@
 //! Whether one relocation is lawful and its value fits, and its field.
 ghost use Rattle.std.specs.Prelude.{◌≡◌, ◌-◌, ◌↔◌, ℕ, IsTrue, Some, SomeIff};
-ghost use Rattle.elf_model.specs.ObjectFile.{rela_type, section, sections};
-ghost use Rattle.elf_model.specs.Placement.{got_start, section_address};
+ghost use Rattle.elf_model.specs.ObjectFile.{rela_type};
+ghost use Rattle.elf_model.specs.Placement.{got_start};
 ghost use Rattle.elf_model.specs.Relocation.{IsMismatch, relocation_of};
 ghost use Rattle.elf_model.specs.Relocation as relocation;
 ghost use Rattle.elf_model.specs.Slots.{slot_address};
 ghost use Rattle.check_load.specs.Views.{loaded_view};
 ghost use Rattle.check_relocs.specs.KnownSlots.{AreSymbolsKnown};
 ghost use Rattle.check_relocs.specs.Fields.{IsRight, field_of};
-ghost use Rattle.check_relocs.specs.LawfulFields.{IsRightWith, field_with, is_frames, refers_to_dropped};
+ghost use Rattle.check_relocs.specs.LawfulFields.{IsRelocated, IsRightWith, field_with, refers_to_dropped};
 ghost use Rattle.check_relocs.specs.Kinds.{formula_view, kind_view};
+ghost use Rattle.check_relocs.specs.Referrers.{objects_here, relocation_here};
 ghost use Rattle.check_link.specs.ThreadStorage.{thread_pointer};
 ghost use Rattle.check_relocs.specs.Widths.{IsWidth};
 
@@ -18,10 +19,11 @@ use crate::entry_requests::request_of;
 use crate::fields::Field;
 use crate::kinds::{Formula, Kind, kind_of};
 use crate::known_symbols::KnownSymbols;
+use crate::referrer::Referrer;
 use crate::slots::slot_at;
-use crate::targets::{Target, target_by};
+use crate::targets::{Target, own_target_at};
 use crate::values::{Terms, fits, value_of};
-use check_load::Loaded;
+use check_load::{KeptRelocation, Loaded};
 use elf_model::Rela;
 
 /// What entries relocate: a section's number, its size in bytes, its address, and whether it is `.eh_frame`.
@@ -176,31 +178,26 @@ pub fn link_terms<'a>(
     terms_with_slot(bindings, address)
 }
 
-/// The field of an entry of the object that has a number; None where it isn't lawful, and where its value
-/// doesn't fit.
+/// The field of a relocation, given what it relocates; None where it isn't lawful, and where its value doesn't fit.
 pub fn right_field<'a>(
-    bindings: &Bindings<'_, '_, 'a>,
+    here: &Referrer<'_, '_, '_, 'a>,
     known: &mut KnownSymbols,
-    number: u64,
-    loaded: &Loaded<'a>,
     to: &Relocated,
-    entry: &Rela,
+    relocation: &KeptRelocation,
 ) -> Option<Field>
-    requires known { AreSymbolsKnown bindings.now number (loaded_view loaded.now) known.old }
-    requires size { to.now.size ≡ (section (sections loaded.now.object) to.now.section).sh_size }
-    requires frames { to.now.frames ≡ is_frames loaded.now.object to.now.section }
-    requires address { to.now.address
-        ≡ section_address bindings.now.places.placed number to.now.section }
-    ensures kept { AreSymbolsKnown bindings.now number (loaded_view loaded.now) known.new }
+    requires known { AreSymbolsKnown here.now known.old }
+    requires to { IsRelocated here.now to.now }
+    requires section { to.now.section ≡ relocation.now.section }
+    ensures kept { AreSymbolsKnown here.now known.new }
     ensures field { SomeIff result
-        (IsRight bindings.now.objects bindings.now.places
-        (relocation_of number (loaded_view loaded.now) to.now.section entry.now))
-        (field_of bindings.now.objects bindings.now.places
-        (relocation_of number (loaded_view loaded.now) to.now.section entry.now)) }
+        (IsRight (objects_here here.now) here.now.bindings.now.places
+        (relocation_here here.now relocation.now))
+        (field_of (objects_here here.now) here.now.bindings.now.places
+        (relocation_here here.now relocation.now)) }
 {
-    let j = entry.symbol() as usize;
-    let target = target_by(bindings, known.own, &mut known.targets, number, loaded, j);
-    let address = slot_at(bindings, &mut known.slots, number, loaded, entry);
-    let given = terms_with_slot(bindings, address);
-    field_for(&target, to, &given, entry)
+    let j = relocation.entry.symbol() as usize;
+    let target = own_target_at(here, &mut known.targets, j);
+    let address = slot_at(here, &mut known.slots, relocation);
+    let given = terms_with_slot(here.bindings, address);
+    field_for(&target, to, &given, &relocation.entry)
 }

@@ -12,14 +12,16 @@ mod known_symbols;
 mod lawful_fields;
 mod linker_uses;
 mod needs;
+mod referrer;
 mod section_fields;
 mod slots;
 mod targets;
 mod values;
 
 pub use bindings::Bindings;
+pub use check_load::is_some_kind;
 pub use entry_requests::request_of;
-pub use field_rows::{fields_right, is_some_kind, object_row, own_row, relocated};
+pub use field_rows::{fields_right, own_row, relocated};
 pub use fields::Field;
 pub use kinds::{Kind, kind_of};
 pub use lawful_fields::{LinkTerms, Relocated, is_mismatch, link_terms, refers_to_dropped};

@@ -1,26 +1,22 @@
 //! The linker's names that kept relocations use: which of them have a line in the map.
-ghost use Rattle.std.specs.Prelude.{◌≡◌, ◌∷◌, ◌++◌, ◌||◌, ℕ, [], List, IfOk, OnOk, Some, false, filter, map, option_to_list, true};
-ghost use Rattle.std.specs.List.{list_any, slice_get};
+ghost use Rattle.std.specs.Prelude.{◌≡◌, ◌∷◌, ◌++◌, ◌||◌, [], List, ℕ, IfOk, OnOk, false, option_to_list, true};
 ghost use Rattle.std.specs.Str.{bytes_eq};
 ghost use Rattle.std.specs.BTreeSet.{IsOrdered};
 ghost use Rattle.std.specs.Cmp.Lexicographic.{slice_cmp};
 ghost use Rattle.std.specs.Ordering.{nat_cmp};
 ghost use Rattle.elf_model.specs.Listing.{AreLinkerLines};
-ghost use Rattle.elf_model.specs.ObjectFile.{sections};
-ghost use Rattle.elf_model.specs.Relocation.{is_some_kind, relocation_of, relocations, relocations_from, relocations_in, symbol_at};
-ghost use Rattle.elf_model.specs.UsedNames.{Gains, is_among, is_linker_use, linker_meaning, linker_meanings, uses_line};
-ghost use Rattle.check_load.specs.Views.{loaded_view, loaded_views};
+ghost use Rattle.elf_model.specs.UsedNames.{Gains, is_among, is_linker_use, linker_meaning, linker_meanings};
 ghost use Rattle.check_relocs.specs.LinkerUses.{AreUsed, AreUses, HaveNoUses};
+ghost use Rattle.check_relocs.specs.Referrers.{object_here, objects_here, relocation_here, relocations_here, symbol_here};
 ghost use Rattle.check_link.specs.Views.{meaning_views, symbol_view};
 
 use crate::answers::{keep_answer, known_answer, no_answers};
 use crate::bindings::Bindings;
-use crate::field_rows::is_some_kind;
-use crate::targets::{is_local_at, symbol_at};
+use crate::referrer::Referrer;
+use crate::targets::{entry_count, is_local_at, symbol_at};
 use check_link::{Meaning, SymbolOf};
-use check_load::Loaded;
-use elf_model::{RELA_SIZE, Rela, SHT_RELA, STB_LOCAL, SectionHeader};
-use elf_read::RelaRun;
+use check_load::KeptRelocation;
+use elf_model::STB_LOCAL;
 use std::alloc::{AllocError, Global};
 use std::collections::BTreeSet;
 
@@ -34,45 +30,30 @@ fn is_linker_use(bindings: &Bindings<'_, '_, '_>, symbol: &SymbolOf<'_>) -> bool
     bindings.bound_of(symbol.name).is_some() && bindings.chosen(symbol.name).is_none()
 }
 
-/// Whether symbol `j` of the object that has a number is such a one. Of a LOCAL one the name isn't read, nor of one for whose
-/// name loading noted that an object defines it.
-fn is_use_of<'a>(
-    bindings: &Bindings<'_, '_, 'a>,
-    number: u64,
-    loaded: &Loaded<'a>,
-    j: usize,
-) -> bool
-    requires { slice_get bindings.now.objects number ≡ Some (loaded_view loaded.now) }
-    ensures { result ≡ is_linker_use bindings.now.objects
-        (symbol_at number (loaded_view loaded.now) j) }
+/// Whether symbol `j` of an object is such a one. Of a LOCAL one the name isn't read, nor of one for whose name loading noted
+/// that an object defines it.
+fn is_use_of(here: &Referrer<'_, '_, '_, '_>, j: usize) -> bool
+    ensures { result ≡ is_linker_use (objects_here here.now) (symbol_here here.now j) }
 {
-    if is_local_at(loaded, j) {
+    if is_local_at(here.loaded, j) {
         return false;
     }
-    if bindings.noted_choice(number, j as u64).is_some() {
+    if here.bindings.noted_choice(here.number, j as u64).is_some() {
         return false;
     }
-    is_linker_use(bindings, &symbol_at(loaded, number, j))
+    is_linker_use(here.bindings, &symbol_at(here.loaded, here.number, j))
 }
 
 /// Whether symbol `j` is such a one. It is looked up where that isn't known.
-fn is_use<'a>(
-    bindings: &Bindings<'_, '_, 'a>,
-    uses: &mut Vec<Option<bool>>,
-    number: u64,
-    loaded: &Loaded<'a>,
-    j: usize,
-) -> bool
-    requires own { slice_get bindings.now.objects number ≡ Some (loaded_view loaded.now) }
-    requires uses { AreUses bindings.now.objects number (loaded_view loaded.now) uses.old.items }
-    ensures kept { AreUses bindings.now.objects number (loaded_view loaded.now) uses.new.items }
-    ensures is_use { result ≡ is_linker_use bindings.now.objects
-        (symbol_at number (loaded_view loaded.now) j) }
+fn is_use(here: &Referrer<'_, '_, '_, '_>, uses: &mut Vec<Option<bool>>, j: usize) -> bool
+    requires { AreUses here.now uses.old.items }
+    ensures kept { AreUses here.now uses.new.items }
+    ensures is_use { result ≡ is_linker_use (objects_here here.now) (symbol_here here.now j) }
 {
     if let Some(is_use) = known_answer(uses, j) {
         return is_use;
     }
-    let answer = is_use_of(bindings, number, loaded, j);
+    let answer = is_use_of(here, j);
     keep_answer(uses, j, answer);
     answer
 }
@@ -85,152 +66,65 @@ fn add_name<'a>(names: &mut BTreeSet<&'a [u8]>, name: &'a [u8]) -> Result<(), Al
     Ok(())
 }
 
-/// Adds the name that an entry uses, where that is a linker's.
+/// Adds the name that a relocation uses, where that is a linker's.
 fn add_use<'a>(
     names: &mut BTreeSet<&'a [u8]>,
-    bindings: &Bindings<'_, '_, 'a>,
+    here: &Referrer<'_, '_, '_, 'a>,
     uses: &mut Vec<Option<bool>>,
-    number: u64,
-    loaded: &Loaded<'a>,
-    to: u64,
-    entry: &Rela,
+    relocation: &KeptRelocation,
 ) -> Result<(), AllocError>
-    requires own { slice_get bindings.now.objects number ≡ Some (loaded_view loaded.now) }
-    requires uses { AreUses bindings.now.objects number (loaded_view loaded.now) uses.old.items }
-    ensures kept { OnOk result
-        (AreUses bindings.now.objects number (loaded_view loaded.now) uses.new.items) }
-    ensures gains { OnOk result (Gains bindings.now.objects
-        (relocation_of number (loaded_view loaded.now) to entry.now ∷ []) names.old names.new) }
+    requires { AreUses here.now uses.old.items }
+    ensures kept { OnOk result (AreUses here.now uses.new.items) }
+    ensures gains { OnOk result (Gains (objects_here here.now)
+        (relocation_here here.now relocation.now ∷ []) names.old names.new) }
 {
-    let j = entry.symbol() as usize;
-    if !is_use(bindings, uses, number, loaded, j) {
+    let j = relocation.entry.symbol() as usize;
+    if !is_use(here, uses, j) {
         return Ok(());
     }
-    add_name(names, loaded.object.symbol_name(j))
+    add_name(names, here.loaded.object.symbol_name(j))
 }
 
-/// Adds the linker's names that entries use which relocate the section `to` of the object that has a number.
-fn add_entries<'a>(
-    names: &mut BTreeSet<&'a [u8]>,
-    bindings: &Bindings<'_, '_, 'a>,
-    uses: &mut Vec<Option<bool>>,
-    number: u64,
-    loaded: &Loaded<'a>,
-    to: u64,
-    entries: &RelaRun<'_>,
-) -> Result<(), AllocError>
-    requires own { slice_get bindings.now.objects number ≡ Some (loaded_view loaded.now) }
-    requires uses { AreUses bindings.now.objects number (loaded_view loaded.now) uses.old.items }
-    ensures kept { OnOk result
-        (AreUses bindings.now.objects number (loaded_view loaded.now) uses.new.items) }
-    ensures gains { OnOk result (Gains bindings.now.objects
-        (map (relocation_of number (loaded_view loaded.now) to)
-        (filter is_some_kind entries.now)) names.old names.new) }
-{
-    for i in 0..entries.len() {
-        let entry = entries.at(i);
-        if !is_some_kind(&entry) {
-            continue;
-        }
-        add_use(names, bindings, uses, number, loaded, to, &entry)?;
-    }
-    Ok(())
-}
-
-/// Adds those that the entries of RELA section `i` use, which has the header.
-fn add_section<'a>(
-    names: &mut BTreeSet<&'a [u8]>,
-    bindings: &Bindings<'_, '_, 'a>,
-    uses: &mut Vec<Option<bool>>,
-    number: u64,
-    loaded: &Loaded<'a>,
-    i: usize,
-    header: &SectionHeader,
-) -> Result<(), AllocError>
-    requires own { slice_get bindings.now.objects number ≡ Some (loaded_view loaded.now) }
-    requires uses { AreUses bindings.now.objects number (loaded_view loaded.now) uses.old.items }
-    requires there { slice_get (sections loaded.now.object) i ≡ Some header.now }
-    requires rela { header.now.sh_type ≡ 4 }
-    ensures kept { OnOk result
-        (AreUses bindings.now.objects number (loaded_view loaded.now) uses.new.items) }
-    ensures gains { OnOk result (Gains bindings.now.objects
-        (relocations_in number (loaded_view loaded.now) header.now) names.old names.new) }
-{
-    let entries = loaded.object.entries(i);
-    add_entries(
-        names,
-        bindings,
-        uses,
-        number,
-        loaded,
-        header.sh_info as u64,
-        &entries,
-    )
-}
-
-/// Whether the object that has a number has such a symbol at all. Mostly none does, and then its relocations needn't be read.
-fn has_use<'a>(bindings: &Bindings<'_, '_, 'a>, number: u64, loaded: &Loaded<'a>) -> bool
-    requires { slice_get bindings.now.objects number ≡ Some (loaded_view loaded.now) }
+/// Whether an object has such a symbol at all. Mostly none does, and then its relocations needn't be read.
+fn has_use(here: &Referrer<'_, '_, '_, '_>) -> bool
     ensures { result ≡ false
-        → HaveNoUses bindings.now.objects number (loaded_view loaded.now) }
+        → HaveNoUses (objects_here here.now) here.now.number (object_here here.now) }
 {
-    for j in 0..loaded.object.symbols().len() {
-        if is_use_of(bindings, number, loaded, j) {
+    for j in 0..here.loaded.object.symbols().len() {
+        if is_use_of(here, j) {
             return true;
         }
     }
     false
 }
 
-/// How many entries the RELA sections of an object have, kept or not.
-fn entry_count(loaded: &Loaded<'_>) -> u64 {
-    let headers = loaded.object.sections();
-    let mut count: u64 = 0;
-    for i in 0..headers.len() {
-        let header = headers.at(i);
-        if header.sh_type == SHT_RELA {
-            count = count.saturating_add(header.sh_size / RELA_SIZE as u64);
-        }
-    }
-    count
-}
-
-/// Whether it is known that no symbol of the object that has a number is such. The symbols are asked only where there are no
-/// more of them than relocations.
-fn has_no_use<'a>(bindings: &Bindings<'_, '_, 'a>, number: u64, loaded: &Loaded<'a>) -> bool
-    requires { slice_get bindings.now.objects number ≡ Some (loaded_view loaded.now) }
+/// Whether it is known that no symbol of an object is such. The symbols are asked only where there are no more of them than
+/// relocations.
+fn has_no_use(here: &Referrer<'_, '_, '_, '_>) -> bool
     ensures { result ≡ true
-        → HaveNoUses bindings.now.objects number (loaded_view loaded.now) }
+        → HaveNoUses (objects_here here.now) here.now.number (object_here here.now) }
 {
-    if entry_count(loaded) < loaded.object.symbols().len() as u64 {
+    if entry_count(here.loaded) < here.loaded.object.symbols().len() {
         return false;
     }
-    !has_use(bindings, number, loaded)
+    !has_use(here)
 }
 
 /// Adds those that the kept relocations of an object use.
 fn add_object<'a>(
     alloc: Global,
     names: &mut BTreeSet<&'a [u8]>,
-    bindings: &Bindings<'_, '_, 'a>,
-    number: u64,
-    loaded: &Loaded<'a>,
+    here: &Referrer<'_, '_, '_, 'a>,
 ) -> Result<(), AllocError>
-    requires { slice_get bindings.now.objects number ≡ Some (loaded_view loaded.now) }
-    ensures { OnOk result (Gains bindings.now.objects
-        (relocations_from number (loaded_view loaded.now)) names.old names.new) }
+    ensures { OnOk result (Gains (objects_here here.now)
+        (relocations_here here.now) names.old names.new) }
 {
-    if has_no_use(bindings, number, loaded) {
+    if has_no_use(here) {
         return Ok(());
     }
-    let mut uses = no_answers(alloc, loaded)?;
-    let headers = loaded.object.sections();
-    for i in 0..headers.len() {
-        let header = headers.at(i);
-        if !loaded.is_kept_rela(i, &header) {
-            continue;
-        }
-        add_section(names, bindings, &mut uses, number, loaded, i, &header)?;
+    let mut uses = no_answers(alloc, here.loaded)?;
+    for relocation in here.loaded.relocations() {
+        add_use(names, here, &mut uses, &relocation)?;
     }
     Ok(())
 }
@@ -245,7 +139,12 @@ pub fn used_names<'a>(
     let objects = bindings.objects();
     let mut names = BTreeSet::new(alloc);
     for k in 0..objects.len() {
-        add_object(alloc, &mut names, bindings, k as u64, &objects[k])?;
+        let here = Referrer {
+            bindings,
+            number: k as u64,
+            loaded: &objects[k],
+        };
+        add_object(alloc, &mut names, &here)?;
     }
     Ok(names)
 }

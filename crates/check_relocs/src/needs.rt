@@ -1,29 +1,26 @@
 //! What the kept relocations ask of the global offset table: whether there is one, and which slots it has.
-ghost use Rattle.std.specs.Prelude.{◌≡◌, ◌∷◌, ◌||◌, ℕ, [], false, true, IfOk, None, OnOk, Some, filter, map};
-ghost use Rattle.std.specs.List.{list_any, slice_get};
+ghost use Rattle.std.specs.Prelude.{◌≡◌, ◌∷◌, ◌||◌, ℕ, [], false, true, IfOk, None, OnOk, Some};
 ghost use Rattle.std.specs.Option.{option_map_or};
-ghost use Rattle.elf_model.specs.ObjectFile.{rela_type, sections};
+ghost use Rattle.elf_model.specs.ObjectFile.{rela_type};
 ghost use Rattle.elf_model.specs.Relocation as relocation;
-ghost use Rattle.elf_model.specs.Relocation.{is_some_kind, relocation_of, relocations_from, relocations_in, symbol_at};
 ghost use Rattle.elf_model.specs.Slots as slots;
 ghost use Rattle.elf_model.specs.Slots.{asks_for_got, names_got, same_request};
-ghost use Rattle.check_load.specs.Views.{loaded_view, loaded_views};
 ghost use Rattle.check_relocs.specs.Known.{known_at};
-ghost use Rattle.check_relocs.specs.KnownSlots.{AreAsked, request_at};
+ghost use Rattle.check_relocs.specs.KnownSlots.{AreAsked, request_here};
 ghost use Rattle.check_relocs.specs.Needs.{AreGotNames, AreNeeds, AreNeedsKnown, HaveGained, asks_for_slot};
+ghost use Rattle.check_relocs.specs.Referrers.{objects_here, relocation_here, relocations_here, symbol_here};
 ghost use Rattle.check_link.specs.Slots.{is_asked};
 ghost use Rattle.check_link.specs.Views.{symbol_view};
 
 use crate::answers::{keep_answer, known_answer, no_answers};
 use crate::bindings::Bindings;
 use crate::entry_requests::{kind_asked, speaks_of_got, target_at};
-use crate::field_rows::is_some_kind;
 use crate::kinds::kind_of;
+use crate::referrer::Referrer;
 use crate::targets::{is_local_at, symbol_at};
 use check_link::{Request, RequestSet, SymbolOf, is_thread};
-use check_load::Loaded;
-use elf_model::{Rela, STB_LOCAL, SectionHeader};
-use elf_read::RelaRun;
+use check_load::{KeptRelocation, Loaded};
+use elf_model::{Rela, STB_LOCAL};
 use std::alloc::{AllocError, Global};
 
 /// Whether relocations ask for a GOT, and their requests for slots, each once.
@@ -41,14 +38,24 @@ pub struct KnownNeeds {
     pub asked: Vec<Option<bool>>,
 }
 
+/// Where it will be kept which symbols of an object have the GOT's name; no room where a GOT is asked for already.
+fn no_names(alloc: Global, loaded: &Loaded<'_>, got: bool) -> Result<Vec<Option<bool>>, AllocError>
+    ensures { IfOk result (λ v. (j : ℕ) → known_at v.items j ≡ None) }
+{
+    if !got {
+        return no_answers(alloc, loaded);
+    }
+    Ok(Vec::new(alloc))
+}
+
 impl KnownNeeds {
-    /// Nothing is known of the symbols of an object.
-    fn new(alloc: Global, loaded: &Loaded<'_>) -> Result<KnownNeeds, AllocError>
+    /// Nothing is known of the symbols of an object, where it is told whether a GOT is asked for already.
+    fn new(alloc: Global, loaded: &Loaded<'_>, got: bool) -> Result<KnownNeeds, AllocError>
         ensures named { IfOk result (λ known. (j : ℕ) → known_at known.named.items j ≡ None) }
         ensures asked { IfOk result (λ known. (j : ℕ) → known_at known.asked.items j ≡ None) }
     {
         Ok(KnownNeeds {
-            named: no_answers(alloc, loaded)?,
+            named: no_names(alloc, loaded, got)?,
             asked: no_answers(alloc, loaded)?,
         })
     }
@@ -67,40 +74,30 @@ fn names_got(bindings: &Bindings<'_, '_, '_>, symbol: &SymbolOf<'_>) -> bool
     bindings.chosen(symbol.name).is_none()
 }
 
-/// Whether symbol `j` of the object that has a number is such a one.
-fn names_got_of<'a>(
-    bindings: &Bindings<'_, '_, 'a>,
-    number: u64,
-    loaded: &Loaded<'a>,
-    j: usize,
-) -> bool
-    ensures { result ≡ names_got bindings.now.objects
-        (symbol_at number (loaded_view loaded.now) j) }
+/// Whether symbol `j` of an object is such a one. Of a LOCAL one the name isn't read, nor of one for whose name loading noted
+/// that an object defines it.
+fn names_got_of(here: &Referrer<'_, '_, '_, '_>, j: usize) -> bool
+    ensures { result ≡ names_got (objects_here here.now) (symbol_here here.now j) }
 {
-    if is_local_at(loaded, j) {
+    if is_local_at(here.loaded, j) {
         return false;
     }
-    names_got(bindings, &symbol_at(loaded, number, j))
+    if here.bindings.noted_choice(here.number, j as u64).is_some() {
+        return false;
+    }
+    names_got(here.bindings, &symbol_at(here.loaded, here.number, j))
 }
 
 /// Whether symbol `j` is such a one. It is looked up where that isn't known.
-fn names_got_at<'a>(
-    bindings: &Bindings<'_, '_, 'a>,
-    named: &mut Vec<Option<bool>>,
-    number: u64,
-    loaded: &Loaded<'a>,
-    j: usize,
-) -> bool
-    requires { AreGotNames bindings.now.objects number (loaded_view loaded.now) named.old.items }
-    ensures kept { AreGotNames bindings.now.objects number
-        (loaded_view loaded.now) named.new.items }
-    ensures named { result ≡ names_got bindings.now.objects
-        (symbol_at number (loaded_view loaded.now) j) }
+fn names_got_at(here: &Referrer<'_, '_, '_, '_>, named: &mut Vec<Option<bool>>, j: usize) -> bool
+    requires { AreGotNames here.now named.old.items }
+    ensures kept { AreGotNames here.now named.new.items }
+    ensures named { result ≡ names_got (objects_here here.now) (symbol_here here.now j) }
 {
     if let Some(named) = known_answer(named, j) {
         return named;
     }
-    let answer = names_got_of(bindings, number, loaded, j);
+    let answer = names_got_of(here, j);
     keep_answer(named, j, answer);
     answer
 }
@@ -116,47 +113,39 @@ fn is_of_got(entry: &Rela) -> bool
     }
 }
 
-/// Whether an entry of the object that has a number asks for a GOT, by its kind or by the name.
-fn asks_for_got<'a>(
-    bindings: &Bindings<'_, '_, 'a>,
+/// Whether a relocation asks for a GOT, by its kind or by the name.
+fn asks_for_got(
+    here: &Referrer<'_, '_, '_, '_>,
     named: &mut Vec<Option<bool>>,
-    number: u64,
-    loaded: &Loaded<'a>,
-    entry: &Rela,
+    relocation: &KeptRelocation,
 ) -> bool
-    requires { AreGotNames bindings.now.objects number (loaded_view loaded.now) named.old.items }
-    ensures kept { AreGotNames bindings.now.objects number
-        (loaded_view loaded.now) named.new.items }
-    ensures asks { (section : ℕ) →
-        result ≡ asks_for_got bindings.now.objects
-        (relocation_of number (loaded_view loaded.now) section entry.now) }
+    requires { AreGotNames here.now named.old.items }
+    ensures kept { AreGotNames here.now named.new.items }
+    ensures asks { result ≡ asks_for_got (objects_here here.now)
+        (relocation_here here.now relocation.now) }
 {
-    if is_of_got(entry) {
+    if is_of_got(&relocation.entry) {
         return true;
     }
-    names_got_at(bindings, named, number, loaded, entry.symbol() as usize)
+    names_got_at(here, named, relocation.entry.symbol() as usize)
 }
 
-/// Whether a GOT is asked for, with one entry more.
-fn got_with<'a>(
+/// Whether a GOT is asked for, with one relocation more.
+fn got_with(
     got: bool,
-    bindings: &Bindings<'_, '_, 'a>,
+    here: &Referrer<'_, '_, '_, '_>,
     named: &mut Vec<Option<bool>>,
-    number: u64,
-    loaded: &Loaded<'a>,
-    entry: &Rela,
+    relocation: &KeptRelocation,
 ) -> bool
-    requires { AreGotNames bindings.now.objects number (loaded_view loaded.now) named.old.items }
-    ensures kept { AreGotNames bindings.now.objects number
-        (loaded_view loaded.now) named.new.items }
-    ensures got { (section : ℕ) →
-        result ≡ (got || asks_for_got bindings.now.objects
-        (relocation_of number (loaded_view loaded.now) section entry.now)) }
+    requires { AreGotNames here.now named.old.items }
+    ensures kept { AreGotNames here.now named.new.items }
+    ensures got { result ≡ (got || asks_for_got (objects_here here.now)
+        (relocation_here here.now relocation.now)) }
 {
     if got {
         return true;
     }
-    asks_for_got(bindings, named, number, loaded, entry)
+    asks_for_got(here, named, relocation)
 }
 
 /// Whether it is known of symbol `j` that its slot of a kind is asked for.
@@ -173,155 +162,75 @@ fn is_known_asked(asked: &[Option<bool>], j: usize, thread: bool) -> bool
 fn add_request<'a>(
     requests: &mut RequestSet<'a>,
     asked: &mut Vec<Option<bool>>,
-    number: u64,
-    loaded: &Loaded<'a>,
+    here: &Referrer<'_, '_, '_, 'a>,
     j: usize,
     thread: bool,
 ) -> Result<(), AllocError>
-    requires { AreAsked requests.old number (loaded_view loaded.now) asked.old.items }
-    ensures kept { OnOk result
-        (AreAsked requests.new number (loaded_view loaded.now) asked.new.items) }
+    requires { AreAsked requests.old here.now asked.old.items }
+    ensures kept { OnOk result (AreAsked requests.new here.now asked.new.items) }
     ensures asked { OnOk result ((q : slots.Request) →
         is_asked requests.new q
-        ≡ (is_asked requests.old q
-        || same_request q (request_at number (loaded_view loaded.now) j thread))) }
+        ≡ (is_asked requests.old q || same_request q (request_here here.now j thread))) }
 {
     if is_known_asked(asked, j, thread) {
         return Ok(());
     }
-    let target = target_at(loaded, number, j);
+    let target = target_at(here.loaded, here.number, j);
     requests.add(Request { thread, target })?;
     keep_answer(asked, j, thread);
     Ok(())
 }
 
-/// Adds the request of an entry of the object that has a number, if it asks for a slot.
+/// Adds the request of a relocation, if it asks for a slot.
 fn add_if_asked<'a>(
     requests: &mut RequestSet<'a>,
     asked: &mut Vec<Option<bool>>,
-    number: u64,
-    loaded: &Loaded<'a>,
-    entry: &Rela,
+    here: &Referrer<'_, '_, '_, 'a>,
+    relocation: &KeptRelocation,
 ) -> Result<(), AllocError>
-    requires { AreAsked requests.old number (loaded_view loaded.now) asked.old.items }
-    ensures kept { OnOk result
-        (AreAsked requests.new number (loaded_view loaded.now) asked.new.items) }
-    ensures asked { OnOk result ((section : ℕ) (q : slots.Request) →
+    requires { AreAsked requests.old here.now asked.old.items }
+    ensures kept { OnOk result (AreAsked requests.new here.now asked.new.items) }
+    ensures asked { OnOk result ((q : slots.Request) →
         is_asked requests.new q
         ≡ (is_asked requests.old q
-        || asks_for_slot q
-        (relocation_of number (loaded_view loaded.now) section entry.now))) }
+        || asks_for_slot q (relocation_here here.now relocation.now))) }
 {
-    let Some(kind) = kind_asked(entry) else {
+    let Some(kind) = kind_asked(&relocation.entry) else {
         return Ok(());
     };
-    let j = entry.symbol() as usize;
-    add_request(requests, asked, number, loaded, j, is_thread(kind))
+    let j = relocation.entry.symbol() as usize;
+    add_request(requests, asked, here, j, is_thread(kind))
 }
 
-/// Adds what an entry asks for which relocates the section `to` of the object that has a number.
-fn add_entry<'a>(
+/// Adds what a relocation asks for.
+fn add_relocation<'a>(
     needs: &mut Needs<'a>,
-    bindings: &Bindings<'_, '_, 'a>,
+    here: &Referrer<'_, '_, '_, 'a>,
     known: &mut KnownNeeds,
-    number: u64,
-    loaded: &Loaded<'a>,
-    to: u64,
-    entry: &Rela,
+    relocation: &KeptRelocation,
 ) -> Result<(), AllocError>
-    requires { AreNeedsKnown bindings.now.objects needs.old number
-        (loaded_view loaded.now) known.old }
-    ensures kept { OnOk result
-        (AreNeedsKnown bindings.now.objects needs.new number
-        (loaded_view loaded.now) known.new) }
-    ensures gained { OnOk result (HaveGained bindings.now.objects
-        (relocation_of number (loaded_view loaded.now) to entry.now ∷ []) needs.old needs.new) }
+    requires { AreNeedsKnown here.now needs.old known.old }
+    ensures kept { OnOk result (AreNeedsKnown here.now needs.new known.new) }
+    ensures gained { OnOk result (HaveGained (objects_here here.now)
+        (relocation_here here.now relocation.now ∷ []) needs.old needs.new) }
 {
-    needs.got = got_with(needs.got, bindings, &mut known.named, number, loaded, entry);
-    add_if_asked(&mut needs.requests, &mut known.asked, number, loaded, entry)?;
+    needs.got = got_with(needs.got, here, &mut known.named, relocation);
+    add_if_asked(&mut needs.requests, &mut known.asked, here, relocation)?;
     Ok(())
-}
-
-/// Adds what entries ask for which relocate the section `to` of the object that has a number.
-fn add_entries<'a>(
-    needs: &mut Needs<'a>,
-    bindings: &Bindings<'_, '_, 'a>,
-    known: &mut KnownNeeds,
-    number: u64,
-    loaded: &Loaded<'a>,
-    to: u64,
-    entries: &RelaRun<'_>,
-) -> Result<(), AllocError>
-    requires { AreNeedsKnown bindings.now.objects needs.old number
-        (loaded_view loaded.now) known.old }
-    ensures kept { OnOk result
-        (AreNeedsKnown bindings.now.objects needs.new number
-        (loaded_view loaded.now) known.new) }
-    ensures gained { OnOk result (HaveGained bindings.now.objects
-        (map (relocation_of number (loaded_view loaded.now) to)
-        (filter is_some_kind entries.now)) needs.old needs.new) }
-{
-    for i in 0..entries.len() {
-        let entry = entries.at(i);
-        if !is_some_kind(&entry) {
-            continue;
-        }
-        add_entry(needs, bindings, known, number, loaded, to, &entry)?;
-    }
-    Ok(())
-}
-
-/// Adds what the entries of RELA section `i` ask for, which has the header.
-fn add_section<'a>(
-    needs: &mut Needs<'a>,
-    bindings: &Bindings<'_, '_, 'a>,
-    known: &mut KnownNeeds,
-    number: u64,
-    loaded: &Loaded<'a>,
-    i: usize,
-    header: &SectionHeader,
-) -> Result<(), AllocError>
-    requires known { AreNeedsKnown bindings.now.objects needs.old number
-        (loaded_view loaded.now) known.old }
-    requires there { slice_get (sections loaded.now.object) i ≡ Some header.now }
-    requires rela { header.now.sh_type ≡ 4 }
-    ensures kept { OnOk result
-        (AreNeedsKnown bindings.now.objects needs.new number
-        (loaded_view loaded.now) known.new) }
-    ensures gained { OnOk result (HaveGained bindings.now.objects
-        (relocations_in number (loaded_view loaded.now) header.now) needs.old needs.new) }
-{
-    let entries = loaded.object.entries(i);
-    add_entries(
-        needs,
-        bindings,
-        known,
-        number,
-        loaded,
-        header.sh_info as u64,
-        &entries,
-    )
 }
 
 /// Adds what the kept relocations of an object ask for.
 fn add_object<'a>(
     alloc: Global,
     needs: &mut Needs<'a>,
-    bindings: &Bindings<'_, '_, 'a>,
-    number: u64,
-    loaded: &Loaded<'a>,
+    here: &Referrer<'_, '_, '_, 'a>,
 ) -> Result<(), AllocError>
-    ensures { OnOk result (HaveGained bindings.now.objects
-        (relocations_from number (loaded_view loaded.now)) needs.old needs.new) }
+    ensures { OnOk result (HaveGained (objects_here here.now)
+        (relocations_here here.now) needs.old needs.new) }
 {
-    let mut known = KnownNeeds::new(alloc, loaded)?;
-    let headers = loaded.object.sections();
-    for i in 0..headers.len() {
-        let header = headers.at(i);
-        if !loaded.is_kept_rela(i, &header) {
-            continue;
-        }
-        add_section(needs, bindings, &mut known, number, loaded, i, &header)?;
+    let mut known = KnownNeeds::new(alloc, here.loaded, needs.got)?;
+    for relocation in here.loaded.relocations() {
+        add_relocation(needs, here, &mut known, &relocation)?;
     }
     Ok(())
 }
@@ -336,7 +245,12 @@ pub fn needs_of<'a>(alloc: Global, bindings: &Bindings<'_, '_, 'a>) -> Result<Ne
         requests: RequestSet::new(alloc, bindings.seed()),
     };
     for k in 0..objects.len() {
-        add_object(alloc, &mut needs, bindings, k as u64, &objects[k])?;
+        let here = Referrer {
+            bindings,
+            number: k as u64,
+            loaded: &objects[k],
+        };
+        add_object(alloc, &mut needs, &here)?;
     }
     Ok(needs)
 }

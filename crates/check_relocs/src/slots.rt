@@ -1,18 +1,15 @@
 //! Where the slots are for which relocations ask, each looked up once for a symbol of an object.
-ghost use Rattle.std.specs.Prelude.{◌≡◌, ℕ, IfOk, IfSome, Some, slice_set};
-ghost use Rattle.elf_model.specs.Relocation.{relocation_of, symbol_at};
+ghost use Rattle.std.specs.Prelude.{◌≡◌, ℕ, IfOk, IfSome, None, Some, slice_set};
 ghost use Rattle.elf_model.specs.Slots.{requested_address, slot_address};
-ghost use Rattle.check_load.specs.Views.{loaded_view};
-ghost use Rattle.check_relocs.specs.Bindings.{Bound};
 ghost use Rattle.check_relocs.specs.Known.{known_at};
-ghost use Rattle.check_relocs.specs.KnownSlots.{AreSlots, request_at};
+ghost use Rattle.check_relocs.specs.KnownSlots.{AreSlots, request_here};
+ghost use Rattle.check_relocs.specs.Referrers.{relocation_here};
 
-use crate::bindings::Bindings;
 use crate::entry_requests::{kind_asked, target_at};
+use crate::referrer::Referrer;
 use crate::targets::has_relas;
 use check_link::{Request, is_thread};
-use check_load::Loaded;
-use elf_model::Rela;
+use check_load::{KeptRelocation, Loaded, filled};
 use std::alloc::{AllocError, Global};
 
 /// A slot of a symbol: whether it is for the offset from the thread pointer, else for the value, and its address, 0 where
@@ -28,13 +25,12 @@ pub fn unknown_slots(
     alloc: Global,
     loaded: &Loaded<'_>,
 ) -> Result<Vec<Option<SymbolSlot>>, AllocError>
-    ensures { IfOk result (λ v. (b : Bound) (number : ℕ) →
-        AreSlots b number (loaded_view loaded.now) v.items) }
+    ensures { IfOk result (λ v. (j : ℕ) → known_at v.items j ≡ None) }
 {
     if !has_relas(loaded) {
         return Ok(Vec::new(alloc));
     }
-    let slots = vec![in alloc; None; loaded.object.symbols().len()]?;
+    let slots = filled(alloc, None, loaded.object.symbols().len())?;
     Ok(slots)
 }
 
@@ -68,51 +64,43 @@ fn known_address(slots: &[Option<SymbolSlot>], j: usize, thread: bool) -> Option
     }
 }
 
-/// The address of the slot of a kind for symbol `j` of the object that has a number, 0 without one. It is looked up where
-/// that isn't known.
-fn address_at<'a>(
-    bindings: &Bindings<'_, '_, 'a>,
+/// The address of the slot of a kind for symbol `j` of an object, 0 without one. It is looked up where that isn't known.
+fn address_at(
+    here: &Referrer<'_, '_, '_, '_>,
     slots: &mut Vec<Option<SymbolSlot>>,
-    number: u64,
-    loaded: &Loaded<'a>,
     j: usize,
     thread: bool,
 ) -> u64
-    requires { AreSlots bindings.now number (loaded_view loaded.now) slots.old.items }
-    ensures kept { AreSlots bindings.now number (loaded_view loaded.now) slots.new.items }
+    requires { AreSlots here.now slots.old.items }
+    ensures kept { AreSlots here.now slots.new.items }
     ensures address { result
-        ≡ requested_address bindings.now.places.slots
-        (request_at number (loaded_view loaded.now) j thread) }
+        ≡ requested_address here.now.bindings.now.places.slots (request_here here.now j thread) }
 {
     if let Some(address) = known_address(slots, j, thread) {
         return address;
     }
-    let address = bindings.slot_address(&Request {
+    let address = here.bindings.slot_address(&Request {
         thread,
-        target: target_at(loaded, number, j),
+        target: target_at(here.loaded, here.number, j),
     });
     keep_slot(slots, j, SymbolSlot { thread, address });
     address
 }
 
-/// The address of the slot for which an entry of the object that has a number asks, 0 where it asks for none and where
-/// there is none.
-pub fn slot_at<'a>(
-    bindings: &Bindings<'_, '_, 'a>,
+/// The address of the slot for which a relocation asks, 0 where it asks for none and where there is none.
+pub fn slot_at(
+    here: &Referrer<'_, '_, '_, '_>,
     slots: &mut Vec<Option<SymbolSlot>>,
-    number: u64,
-    loaded: &Loaded<'a>,
-    entry: &Rela,
+    relocation: &KeptRelocation,
 ) -> u64
-    requires { AreSlots bindings.now number (loaded_view loaded.now) slots.old.items }
-    ensures kept { AreSlots bindings.now number (loaded_view loaded.now) slots.new.items }
-    ensures address { (section : ℕ) →
-        result ≡ slot_address bindings.now.places.slots
-        (relocation_of number (loaded_view loaded.now) section entry.now) }
+    requires { AreSlots here.now slots.old.items }
+    ensures kept { AreSlots here.now slots.new.items }
+    ensures address { result ≡ slot_address here.now.bindings.now.places.slots
+        (relocation_here here.now relocation.now) }
 {
-    let Some(kind) = kind_asked(entry) else {
+    let Some(kind) = kind_asked(&relocation.entry) else {
         return 0;
     };
-    let j = entry.symbol() as usize;
-    address_at(bindings, slots, number, loaded, j, is_thread(kind))
+    let j = relocation.entry.symbol() as usize;
+    address_at(here, slots, j, is_thread(kind))
 }

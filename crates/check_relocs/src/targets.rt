@@ -1,17 +1,18 @@
 //! What the symbols of an object mean to its relocations, each looked up once.
-ghost use Rattle.std.specs.Prelude.{◌≡◌, ◌==◌, ℕ, [], IfOk, Some, slice_set, true};
-ghost use Rattle.std.specs.List.{list_any, slice_get};
-ghost use Rattle.elf_model.specs.ObjectFile.{sections};
+ghost use Rattle.std.specs.Prelude.{◌≡◌, ◌↔◌, ◌<◌, ℕ, [], IfOk, IsTrue, Some, length, slice_set, true};
 ghost use Rattle.elf_model.specs.Relocation.{is_local, symbol_at};
 ghost use Rattle.check_relocs.specs.Bindings.{AreTargets, Bound, IsTargetOf};
 ghost use Rattle.check_relocs.specs.Known.{known_at};
+ghost use Rattle.check_relocs.specs.Referrers.{object_here, symbol_here};
+ghost use Rattle.check_load.specs.Kept.{kept_relas};
 ghost use Rattle.check_load.specs.Views.{loaded_view};
 ghost use Rattle.check_link.specs.Views.{symbol_view};
 
 use crate::bindings::Bindings;
+use crate::referrer::Referrer;
 use check_link::SymbolOf;
-use check_load::Loaded;
-use elf_model::{SHT_RELA, STB_LOCAL};
+use check_load::{Loaded, filled};
+use elf_model::STB_LOCAL;
 use std::alloc::{AllocError, Global};
 
 /// What a symbol means to relocations: whether it is in want of a definition, whether it is a LOCAL one of a
@@ -96,18 +97,20 @@ pub fn target_of_symbol<'a>(
     bindings.target(&symbol_at(loaded, number, j))
 }
 
-/// Whether an object has relocations at all: only then it is worth while to know what all its symbols mean.
+/// Whether an object has kept relocations at all: only then it is worth while to know what all its symbols mean.
 pub fn has_relas(loaded: &Loaded<'_>) -> bool
-    ensures { result ≡ list_any (λ h. h.sh_type == SHT_RELA) (sections loaded.now.object) }
+    ensures { IsTrue result ↔ (0 < length (kept_relas (loaded_view loaded.now))) }
 {
-    let headers = loaded.object.sections();
-    for i in 0..headers.len() {
-        let header = headers.at(i);
-        if header.sh_type == SHT_RELA {
-            return true;
-        }
+    !loaded.kept_relas().is_empty()
+}
+
+/// How many entries the kept RELA sections of an object have.
+pub fn entry_count(loaded: &Loaded<'_>) -> usize {
+    let mut count: usize = 0;
+    for rela in loaded.kept_relas() {
+        count = count.saturating_add(loaded.object.entries(rela.number as usize).len());
     }
-    false
+    count
 }
 
 /// Where what symbols mean will be kept once it is known, of none yet; no room where the object has no relocations.
@@ -121,7 +124,7 @@ pub fn unknown_targets(
     if !has_relas(loaded) {
         return Ok(Vec::new(alloc));
     }
-    let targets = vec![in alloc; None; loaded.object.symbols().len()]?;
+    let targets = filled(alloc, None, loaded.object.symbols().len())?;
     Ok(targets)
 }
 
@@ -144,45 +147,6 @@ fn known_target(targets: &[Option<Target>], j: usize) -> Option<Target>
     }
 }
 
-/// What symbol `j` of the object that has a number means. Of a LOCAL one the name isn't read, nor where loading noted it and an
-/// object defines it.
-fn own_target_of<'a>(
-    bindings: &Bindings<'_, '_, 'a>,
-    number: u64,
-    loaded: &Loaded<'a>,
-    j: usize,
-) -> Target
-    requires { slice_get bindings.now.objects number ≡ Some (loaded_view loaded.now) }
-    ensures { IsTargetOf bindings.now (symbol_at number (loaded_view loaded.now) j) result }
-{
-    if is_local_at(loaded, j) {
-        return bindings.local_target(&unnamed_at(loaded, number, j));
-    }
-    match bindings.noted_choice(number, j as u64) {
-        Some(chosen) => {
-            bindings.target_chosen(&named_at(loaded, number, j, chosen.name), &chosen)
-        }
-        None => bindings.target(&symbol_at(loaded, number, j)),
-    }
-}
-
-/// What symbol `j` means, where the object may be known to be the one that has the number.
-fn target_looked_up<'a>(
-    bindings: &Bindings<'_, '_, 'a>,
-    own: bool,
-    number: u64,
-    loaded: &Loaded<'a>,
-    j: usize,
-) -> Target
-    requires { own ≡ true → slice_get bindings.now.objects number ≡ Some (loaded_view loaded.now) }
-    ensures { IsTargetOf bindings.now (symbol_at number (loaded_view loaded.now) j) result }
-{
-    if own {
-        return own_target_of(bindings, number, loaded, j);
-    }
-    target_of_symbol(bindings, number, loaded, j)
-}
-
 /// What symbol `j` means. It is looked up where that isn't known.
 pub fn target_at<'a>(
     bindings: &Bindings<'_, '_, 'a>,
@@ -195,28 +159,46 @@ pub fn target_at<'a>(
     ensures kept { AreTargets bindings.now number (loaded_view loaded.now) targets.new.items }
     ensures target { IsTargetOf bindings.now (symbol_at number (loaded_view loaded.now) j) result }
 {
-    target_by(bindings, false, targets, number, loaded, j)
+    if let Some(target) = known_target(targets, j) {
+        return target;
+    }
+    let target = target_of_symbol(bindings, number, loaded, j);
+    keep_target(targets, j, target);
+    target
 }
 
-/// What symbol `j` means, where the object may be known to be the one that has the number.
-pub fn target_by<'a>(
-    bindings: &Bindings<'_, '_, 'a>,
-    own: bool,
+/// What symbol `j` of an object means. Of a LOCAL one the name isn't read, nor where loading noted it and an object defines it.
+fn own_target_of<'a>(here: &Referrer<'_, '_, '_, 'a>, j: usize) -> Target
+    ensures { IsTargetOf here.now.bindings.now (symbol_here here.now j) result }
+{
+    let (bindings, number, loaded) = (here.bindings, here.number, here.loaded);
+    if is_local_at(loaded, j) {
+        return bindings.local_target(&unnamed_at(loaded, number, j));
+    }
+    match bindings.noted_choice(number, j as u64) {
+        Some(chosen) => {
+            bindings.target_chosen(&named_at(loaded, number, j, chosen.name), &chosen)
+        }
+        None => bindings.target(&symbol_at(loaded, number, j)),
+    }
+}
+
+/// What symbol `j` of an object means. It is looked up where that isn't known.
+pub fn own_target_at<'a>(
+    here: &Referrer<'_, '_, '_, 'a>,
     targets: &mut Vec<Option<Target>>,
-    number: u64,
-    loaded: &Loaded<'a>,
     j: usize,
 ) -> Target
-    requires own { own ≡ true
-        → slice_get bindings.now.objects number ≡ Some (loaded_view loaded.now) }
-    requires targets { AreTargets bindings.now number (loaded_view loaded.now) targets.old.items }
-    ensures kept { AreTargets bindings.now number (loaded_view loaded.now) targets.new.items }
-    ensures target { IsTargetOf bindings.now (symbol_at number (loaded_view loaded.now) j) result }
+    requires { AreTargets here.now.bindings.now here.now.number
+        (object_here here.now) targets.old.items }
+    ensures kept { AreTargets here.now.bindings.now here.now.number
+        (object_here here.now) targets.new.items }
+    ensures target { IsTargetOf here.now.bindings.now (symbol_here here.now j) result }
 {
     if let Some(target) = known_target(targets, j) {
         return target;
     }
-    let target = target_looked_up(bindings, own, number, loaded, j);
-    keep_target(targets, j, target);
-    target
+    let found = own_target_of(here, j);
+    keep_target(targets, j, found);
+    found
 }

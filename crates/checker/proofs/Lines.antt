@@ -10,7 +10,7 @@ use Rattle.elf_model.proofs.Rests.{Left}
 use Rattle.checker.specs.ObjectLines.{row_of}
 use Rattle.check_load.specs.Views.{loaded_view, loaded_views}
 use Rattle.check_link.specs.Views.{piece_view, piece_views}
-use Rattle.check_load.specs.declared.loader.Loaded.{Loaded}
+use Rattle.check_load.specs.declared.loaded.Loaded.{Loaded}
 use Rattle.check_link.specs.declared.things.Piece.{Piece}
 
 module _ {Z : Type 0} (Q : Type 0) where

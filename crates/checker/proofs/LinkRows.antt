@@ -6,7 +6,7 @@ use Rattle.elf_model.specs.Loading.{LoadedObject}
 use Rattle.elf_model.specs.Relocation.{Relocation, relocations}
 use Rattle.elf_model.specs.RightLink.{AreRelocationsRight, Subject, objects_of, where_of}
 use Rattle.check_load.specs.Views.{loaded_view, loaded_views}
-use Rattle.check_load.specs.declared.loader.Loaded.{Loaded}
+use Rattle.check_load.specs.declared.loaded.Loaded.{Loaded}
 use Rattle.check_relocs.specs.Bindings.{Bound, bound_of}
 use Rattle.check_relocs.specs.Fields.{AreRight, IsRowOf}
 use Rattle.check_relocs.specs.declared.fields.Field.{Field}

@@ -10,7 +10,7 @@ ghost use Rattle.elf_model.specs.Meaning.{Symbol, meaning_name, meanings_of, mea
 ghost use Rattle.elf_model.specs.declared.link_map.Definition.TheVariants as definition;
 ghost use Rattle.elf_model.specs.MapText.{Ascends, SymbolBefore};
 ghost use Rattle.elf_model.specs.Resolution.{AreSoundSymbols, AreUnique};
-ghost use Rattle.elf_model.specs.RightLink.{HasLine, Holds, definition_row, symbol_row_of};
+ghost use Rattle.elf_model.specs.RightLink.{HasLine, Holds, definition_row, objects_of, symbol_row_of};
 ghost use Rattle.checker.specs.Listed.{IsChosenIfStrong, IsLine};
 ghost use Rattle.check_link.specs.Chosen.{AreOtherChoices, AreOwnChoices};
 ghost use Rattle.check_link.specs.Views.{meaning_view, symbol_view, symbol_views};
@@ -26,15 +26,19 @@ use linkmap::BorrowedSymbol;
 use std::alloc::{AllocError, Global};
 use std::collections::BTreeSet;
 
-mod own_choices;
+pub mod own_choices;
 
-/// Whether the thirteenth clause holds of a link.
-pub fn holds(alloc: Global, bound: &BoundLink<'_, '_>) -> Result<bool, AllocError>
-    ensures { IfOk result (λ b. IsTrue b ↔ Holds clause.C13 bound.now) }
+/// The chosen definitions that lines of the map name, where the thirteenth clause holds of a link; None where it doesn't.
+pub fn choices<'b, 'a>(
+    alloc: Global,
+    bound: &'b BoundLink<'_, 'a>,
+) -> Result<Option<OwnChoices<'b, 'a>>, AllocError>
+    ensures listed { IfOk result (λ o. IsSome o ↔ Holds clause.C13 bound.now) }
+    ensures choices { IfOk result (λ o. IfSome o (λ c. c ≡ objects_of bound.now)) }
 {
     let link = bound.link();
-    let listed = are_symbols_listed(alloc, bound.bindings(), &link.map.symbols)?;
-    Ok(listed)
+    let choices = listed_choices(alloc, bound.bindings(), &link.map.symbols)?;
+    Ok(choices)
 }
 
 /// 1 where a chosen symbol means something, else 0.
@@ -254,7 +258,7 @@ pub fn is_right_line(
 }
 
 /// What objects define for a line's name. The name is looked up only where the line doesn't name its chosen definition.
-fn meaning_of_line<'a>(
+pub fn meaning_of_line<'a>(
     bindings: &Bindings<'_, '_, 'a>,
     choices: &OwnChoices<'_, 'a>,
     line: &BorrowedSymbol<'_>,
@@ -310,32 +314,36 @@ fn is_sum(whole: usize, a: usize, b: usize) -> bool
     a <= whole && whole - a == b
 }
 
-/// Whether all symbols are sound, no name has two strong definitions, and the lines, which ascend by name,
-/// are those of the names that have one: each is right, and there are as many.
-fn are_symbols_listed(
+/// The chosen definitions that lines name, which ascend by name, where all symbols are sound, no name has two strong definitions,
+/// and the lines are those of the names that have one: each is right, and there are as many. Else None.
+fn listed_choices<'b, 'a>(
     alloc: Global,
-    bindings: &Bindings<'_, '_, '_>,
+    bindings: &'b Bindings<'_, '_, 'a>,
     lines: &[BorrowedSymbol<'_>],
-) -> Result<bool, AllocError>
+) -> Result<Option<OwnChoices<'b, 'a>>, AllocError>
     requires { Ascends SymbolBefore (map symbol_row lines.now) }
-    ensures { let L = bindings.now.objects in IfOk result
-        (λ b. IsTrue b
+    ensures listed { let L = bindings.now.objects in IfOk result
+        (λ o. IsSome o
         ↔ (AreSoundSymbols L × AreUnique L
         × ((name : List ℕ) → HasLine (map symbol_row lines.now) L bindings.now.places name))) }
+    ensures choices { IfOk result (λ o. IfSome o (λ c. c ≡ bindings.now.objects)) }
 {
     if !bindings.are_sound() {
-        return Ok(false);
+        return Ok(None);
     }
     let definitions = bindings.definitions();
     let own = bindings.own_choices(alloc)?;
     let Some(count) = chosen_count(bindings, definitions, &own) else {
-        return Ok(false);
+        return Ok(None);
     };
     let names = used_names(alloc, bindings)?;
     let linkers = linker_lines(alloc, bindings, &names)?;
     if !is_sum(lines.len(), count, linkers.len()) {
-        return Ok(false);
+        return Ok(None);
     }
     let choices = OwnChoices::new(alloc, bindings, own)?;
-    Ok(are_right_lines(bindings, &names, &choices, lines))
+    if !are_right_lines(bindings, &names, &choices, lines) {
+        return Ok(None);
+    }
+    Ok(Some(choices))
 }

@@ -1,16 +1,18 @@
 //! C14: whether the map tells of a symbol table where it has to, and the image has that table and its sections after
-//! its last file part, or no sections. All is compared in place, and each line's name is looked up once.
+//! its last file part, or no sections. All is compared in place, and no name is looked up whose line names its chosen
+//! definition.
 ghost use Rattle.std.specs.Prelude.{◌≡◌, ◌↔◌, ◌*◌, ◌<◌, ◌≤◌, ◌^◌, ℕ, All, List, IfSome, IsSomeAnd, IsTrue, is_some, length, map, not};
 ghost use Rattle.linkmap.specs.Borrowed.{symbol_row};
 ghost use Rattle.elf_model.specs.MemoryImage.{HasNoSections, loads, file_end};
 ghost use Rattle.elf_model.specs.Records.{file_header};
-ghost use Rattle.elf_model.specs.RightLink.{Holds, HoldsBefore, HoldsTables};
+ghost use Rattle.elf_model.specs.RightLink.{Holds, HoldsBefore, HoldsTables, objects_of};
 ghost use Rattle.elf_model.specs.SymbolTable.{name_section, tabled};
 ghost use Rattle.elf_model.specs.declared.verdict.Clause.TheVariants as clause;
 ghost use Rattle.checker.specs.Listed.{IsLine};
 ghost use Rattle.checker.specs.Tabled.{AreTables};
 
 use crate::bound_link::BoundLink;
+use crate::c13_symbols::own_choices::OwnChoices;
 use crate::c14_tables::lines::{Tables, strip_lines, tables_of};
 use crate::c14_tables::places::{are_end, eight_up, places_of};
 use crate::c14_tables::strip::strip_zeros;
@@ -25,8 +27,9 @@ pub mod places;
 pub mod strip;
 
 /// Whether the fourteenth clause holds of a link.
-pub fn holds(bound: &BoundLink<'_, '_>) -> bool
-    requires { HoldsBefore clause.C14 bound.now }
+pub fn holds<'a>(bound: &BoundLink<'_, 'a>, choices: &OwnChoices<'_, 'a>) -> bool
+    requires clauses { HoldsBefore clause.C14 bound.now }
+    requires choices { choices.now ≡ objects_of bound.now }
     ensures { IsTrue result ↔ Holds clause.C14 bound.now }
 {
     let map = &bound.link().map;
@@ -34,7 +37,7 @@ pub fn holds(bound: &BoundLink<'_, '_>) -> bool
         return false;
     }
     match map.symtab {
-        Some(line) => holds_tables(bound, line),
+        Some(line) => holds_tables(bound, choices, line),
         None => has_no_sections(&bound.memory().header()),
     }
 }
@@ -55,8 +58,9 @@ pub fn has_no_sections(header: &FileHeader) -> bool
 
 /// What is left of the bytes after the last file part once zeros, the entries and the names of all lines are
 /// stripped.
-fn strip_tables<'b>(
-    bindings: &Bindings<'_, '_, '_>,
+fn strip_tables<'a, 'b>(
+    bindings: &Bindings<'_, '_, 'a>,
+    choices: &OwnChoices<'_, 'a>,
     lines: &[BorrowedSymbol<'_>],
     bytes: &'b [u8],
     padding: usize,
@@ -64,6 +68,7 @@ fn strip_tables<'b>(
 ) -> Option<Tables<'b>>
     requires lines { All (λ line. IsLine bindings.now.objects bindings.now.places
         (symbol_row line)) lines.now }
+    requires choices { choices.now ≡ bindings.now.objects }
     requires padding { padding ≤ 8 }
     ensures left { (others : List ℕ) →
         (AreTables bindings.now.places
@@ -76,12 +81,17 @@ fn strip_tables<'b>(
 {
     let bytes = strip_zeros(bytes, padding)?;
     let tables = tables_of(bytes, count)?;
-    strip_lines(bindings, lines, tables)
+    strip_lines(bindings, choices, lines, tables)
 }
 
 /// Whether the header and the bytes after the last file part are those of the table that the line tells of.
-fn holds_tables(bound: &BoundLink<'_, '_>, line: SymtabLine) -> bool
-    requires { HoldsBefore clause.C14 bound.now }
+fn holds_tables<'a>(
+    bound: &BoundLink<'_, 'a>,
+    choices: &OwnChoices<'_, 'a>,
+    line: SymtabLine,
+) -> bool
+    requires clauses { HoldsBefore clause.C14 bound.now }
+    requires choices { choices.now ≡ objects_of bound.now }
     ensures { IsTrue result ↔ HoldsTables bound.now line }
 {
     let memory = bound.memory();
@@ -97,7 +107,8 @@ fn holds_tables(bound: &BoundLink<'_, '_>, line: SymtabLine) -> bool
     let (_parts, bytes) = memory.image().split_at(end as usize);
     let lines = &bound.link().map.symbols;
     let padding = (symtab - end) as usize;
-    match strip_tables(bound.bindings(), lines, bytes, padding, line.count) {
+    let bindings = bound.bindings();
+    match strip_tables(bindings, choices, lines, bytes, padding, line.count) {
         Some(left) => {
             let places = places_of(end, line.count, left.name_at);
             header.e_shoff == places.headers && are_end(left.names, &places)

@@ -346,10 +346,10 @@ fn judge_symbols<'a, O: Observer<'a>>(
     if !c12_entry::holds(bound) {
         return no_bound(Clause::C12, bound, observer);
     }
-    if !c13_symbols::holds(alloc, bound)? {
+    let Some(choices) = c13_symbols::choices(alloc, bound)? else {
         return no_bound(Clause::C13, bound, observer);
-    }
-    if !c14_tables::holds(bound) {
+    };
+    if !c14_tables::holds(bound, &choices) {
         return no_bound(Clause::C14, bound, observer);
     }
     Ok(Verdict::Yes)

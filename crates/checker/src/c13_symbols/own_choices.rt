@@ -8,7 +8,7 @@ ghost use Rattle.check_link.specs.Views.{symbol_view};
 ghost use Rattle.check_link.specs.Chosen.{AreOwnChoices};
 
 use check_link::SymbolOf;
-use check_load::Loaded;
+use check_load::{Loaded, filled};
 use check_relocs::Bindings;
 use elf_model::Definition;
 use linkmap::BorrowedSymbol;
@@ -55,7 +55,7 @@ fn positions_of(
 ) -> Result<Vec<Vec<u32>>, AllocError> {
     let mut positions = Vec::with_capacity(alloc, objects.len())?;
     for loaded in objects {
-        positions.push(vec![in alloc; u32::MAX; loaded.object.symbols().len()]?)?;
+        positions.push(filled(alloc, u32::MAX, loaded.object.symbols().len())?)?;
     }
     for (i, symbol) in symbols.iter().enumerate() {
         if let Ok(position) = u32::try_from(i) {

@@ -1,14 +1,17 @@
 //! The entry that the definition of a name has in a symbol table (System V gABI 4, "Symbol Table").
-ghost use Rattle.std.specs.Prelude.{◌≡◌, ◌+◌, ◌*◌, ◌<◌, ◌^◌, ◌∷◌, [], ℕ, List, IfNone, IfSome};
+ghost use Rattle.std.specs.Prelude.{◌≡◌, ◌+◌, ◌*◌, ◌<◌, ◌^◌, ◌∷◌, [], ℕ, List, IfNone, IfSome, option_map};
+ghost use Rattle.std.specs.Cow.{cow_slice_items};
 ghost use Rattle.linkmap.specs.Borrowed.{symbol_row};
 ghost use Rattle.elf_model.specs.Meaning as meaning;
-ghost use Rattle.elf_model.specs.Meaning.{meaning_size};
+ghost use Rattle.elf_model.specs.Meaning.{meaning_size, object_meaning};
 ghost use Rattle.elf_model.specs.SymbolTable.{entry_binding, entry_type, has_entry, tabled};
 ghost use Rattle.elf_model.specs.declared.bound.Bound.{Bound};
 ghost use Rattle.check_link.specs.Views.{meaning_view, symbol_view};
 ghost use Rattle.checker.specs.Listed.{IsLine};
 ghost use Rattle.checker.specs.Tabled.{IsTabled, entry_at, entry_if_tabled};
 
+use crate::c13_symbols::meaning_of_line;
+use crate::c13_symbols::own_choices::OwnChoices;
 use check_link::{Meaning, SymbolOf};
 use check_relocs::Bindings;
 use elf_model::{SHN_ABS, STB_GLOBAL, STB_WEAK, STT_FUNC, STT_NOTYPE, STT_OBJECT, Symbol};
@@ -114,6 +117,27 @@ fn object_entry(
     }
 }
 
+/// The entry of the definition of a line, where it has one, given what objects define for the line's name. The line is that
+/// of what its name means.
+fn entry_with(
+    bindings: &Bindings<'_, '_, '_>,
+    meaning: &Option<Meaning<'_>>,
+    line: &BorrowedSymbol<'_>,
+    name_at: u32,
+) -> Option<Symbol>
+    requires line { IsLine bindings.now.objects bindings.now.places (symbol_row line.now) }
+    requires meaning { option_map meaning_view meaning.now
+        ≡ object_meaning bindings.now.objects (cow_slice_items line.now.name) }
+    ensures none { IfNone result (tabled bindings.now.objects (symbol_row line.now ∷ []) ≡ []) }
+    ensures some { IfSome result (IsTabled bindings.now.objects bindings.now.places
+        (symbol_row line.now) name_at) }
+{
+    match meaning {
+        Some(meaning) => object_entry(bindings, meaning, name_at, line.address),
+        None => Some(linkers_entry(name_at, line.address)),
+    }
+}
+
 /// The entry of the definition of a line, where it has one. The line is that of what its name means.
 pub fn entry_of_line(
     bindings: &Bindings<'_, '_, '_>,
@@ -125,8 +149,23 @@ pub fn entry_of_line(
     ensures some { IfSome result (IsTabled bindings.now.objects bindings.now.places
         (symbol_row line.now) name_at) }
 {
-    match bindings.object_meaning(&line.name) {
-        Some(meaning) => object_entry(bindings, &meaning, name_at, line.address),
-        None => Some(linkers_entry(name_at, line.address)),
-    }
+    let meaning = bindings.object_meaning(&line.name);
+    entry_with(bindings, &meaning, line, name_at)
+}
+
+/// The same, with the chosen definitions that lines name: of a line that names its own no name is looked up.
+pub fn entry_by<'a>(
+    bindings: &Bindings<'_, '_, 'a>,
+    choices: &OwnChoices<'_, 'a>,
+    line: &BorrowedSymbol<'_>,
+    name_at: u32,
+) -> Option<Symbol>
+    requires line { IsLine bindings.now.objects bindings.now.places (symbol_row line.now) }
+    requires choices { choices.now ≡ bindings.now.objects }
+    ensures none { IfNone result (tabled bindings.now.objects (symbol_row line.now ∷ []) ≡ []) }
+    ensures some { IfSome result (IsTabled bindings.now.objects bindings.now.places
+        (symbol_row line.now) name_at) }
+{
+    let meaning = meaning_of_line(bindings, choices, line);
+    entry_with(bindings, &meaning, line, name_at)
 }

@@ -7,7 +7,8 @@ ghost use Rattle.elf_model.specs.SymbolTable.{entry_of, tabled};
 ghost use Rattle.checker.specs.Listed.{IsLine};
 ghost use Rattle.checker.specs.Tabled.{AreLeft, AreTables, ended_names};
 
-use crate::c14_tables::entries::entry_of_line;
+use crate::c13_symbols::own_choices::OwnChoices;
+use crate::c14_tables::entries::entry_by;
 use crate::c14_tables::strip::{strip, strip_name, strip_symbol};
 use check_relocs::Bindings;
 use elf_model::{SYM_SIZE, Symbol};
@@ -82,12 +83,14 @@ fn strip_entry<'b>(left: Tables<'b>, entry: &Symbol, name: &[u8]) -> Option<Tabl
 }
 
 /// What is left after the definition of a line, which has no entry or one.
-fn strip_line<'b>(
-    bindings: &Bindings<'_, '_, '_>,
+fn strip_line<'a, 'b>(
+    bindings: &Bindings<'_, '_, 'a>,
+    choices: &OwnChoices<'_, 'a>,
     line: &BorrowedSymbol<'_>,
     left: Tables<'b>,
 ) -> Option<Tables<'b>>
-    requires { IsLine bindings.now.objects bindings.now.places (symbol_row line.now) }
+    requires line { IsLine bindings.now.objects bindings.now.places (symbol_row line.now) }
+    requires choices { choices.now ≡ bindings.now.objects }
     ensures left { (ms : List Meaning) (others : List ℕ) →
         (AreLeft bindings.now.places left.entry.entries.now left.entry.names.now left.entry.name_at
         (tabled bindings.now.objects (symbol_row line.now ∷ []) ++ ms) others
@@ -98,20 +101,22 @@ fn strip_line<'b>(
         (ended_names (tabled bindings.now.objects (symbol_row line.now ∷ [])))) }
     ensures fits { IfSome result (λ t. t.name_at < 2 ^ 32) }
 {
-    match entry_of_line(bindings, line, left.name_at) {
+    match entry_by(bindings, choices, line, left.name_at) {
         Some(entry) => strip_entry(left, &entry, &line.name),
         None => Some(left),
     }
 }
 
 /// What is left after the definitions of all lines, where no entry is.
-pub fn strip_lines<'b>(
-    bindings: &Bindings<'_, '_, '_>,
+pub fn strip_lines<'a, 'b>(
+    bindings: &Bindings<'_, '_, 'a>,
+    choices: &OwnChoices<'_, 'a>,
     lines: &[BorrowedSymbol<'_>],
     tables: Tables<'b>,
 ) -> Option<Tables<'b>>
-    requires { All (λ line. IsLine bindings.now.objects bindings.now.places
+    requires lines { All (λ line. IsLine bindings.now.objects bindings.now.places
         (symbol_row line)) lines.now }
+    requires choices { choices.now ≡ bindings.now.objects }
     ensures left { (others : List ℕ) →
         (AreLeft bindings.now.places tables.entry.entries.now tables.entry.names.now tables.entry.name_at (tabled bindings.now.objects (map symbol_row lines.now)) others
         ↔ IsSomeAnd result (λ t. t.names.now ≡ others)) }
@@ -121,7 +126,7 @@ pub fn strip_lines<'b>(
 {
     let mut left = tables;
     for line in lines {
-        left = strip_line(bindings, line, left)?;
+        left = strip_line(bindings, choices, line, left)?;
     }
     if left.entries.is_empty() {
         Some(left)

@@ -1,4 +1,4 @@
-use Rattle.std.proofs.Common.{subst, ap, sym, ◌∙◌, ◌<◌, ◌≤◌}
+use Rattle.std.proofs.Common.{subst, ◌<◌, ◌≤◌}
 use Rattle.elf_model.specs.ObjectFile.{null_symbol, symbols}
 use Rattle.check_load.specs.Names.{requests_name}
 use Rattle.check_load.proofs.NumberedNames.{count_more, kept_on, numbered_more}

@@ -1,4 +1,4 @@
-use Rattle.std.proofs.Common.{◌≡◌, Bool, false, List, rules, ap, ◌∙◌, replicate}
+use Rattle.std.proofs.Common.{◌≡◌, Bool, false, List, ap, ◌∙◌, replicate}
 use Rattle.elf_model.specs.Marks.{marked, marked_numbers}
 use Rattle.check_load.specs.Signatures.{lost_members}
 use Rattle.check_load.specs.NameNumbers.{is_among}
@@ -13,5 +13,5 @@ returns-clause-dropped c =
     let members = lost_members seen gs in
     let marks_are : c.mark_lost.new.marks.items ≡ marked (replicate c.args.count false) members =
     c.in_ok-mark_lost.ensures.marks
-    ∙ ap (λ (m : List Bool). marked m members) (c.in_ok-marks.ensures.items_if_clones_equal (λ y k. search rules)) in
+    ∙ ap (λ (m : List Bool). marked m members) c.in_ok-marks.ensures in
     ap marked_numbers marks_are ∙ numbers_marked c.args.count members (members_below c.args.count seen gs c.requires)

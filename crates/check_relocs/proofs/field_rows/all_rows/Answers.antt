@@ -7,10 +7,11 @@ use Rattle.elf_model.specs.Loading.{LoadedObject}
 use Rattle.elf_model.specs.Relocation.{relocations, relocations_from}
 use Rattle.check_relocs.specs.Fields.{AreRight, IsRowOf}
 use Rattle.check_load.specs.Views.{loaded_view}
-use Rattle.check_load.specs.declared.loader.Loaded.{Loaded}
+use Rattle.check_load.specs.declared.loaded.Loaded.{Loaded}
 use Rattle.check_relocs.specs.declared.fields.Field.{Field}
 use Rattle.check_relocs.proofs.ByIndex.{by_index_more}
 use Rattle.elf_model.proofs.RelocationFields.{objects_apart}
+use Rattle.check_relocs.proofs.Noted.{element_there}
 use Rattle.check_relocs.proofs.ObjectFields.{object_read}
 use Rattle.check_relocs.proofs.RightParts.{right_end, right_more, right_stop}
 use Rattle.check_relocs.proofs.field_rows.all_rows.Goals as goal
@@ -71,3 +72,8 @@ loop-k-preserved c =
           (right.0 refl)
           (objects_apart k (loaded_view x) (map loaded_view (drop (k + 1) xs))) c.loop-k.invariant.right;
     }
+
+pub own_row-requires : goal.own_row-requires
+own_row-requires c =
+    element_there c.objects-objects.result.now c.args.bindings.now.objects c.loop-k.k c.index-objects-k.result c.objects-objects.ensures c.loop-k-test.true
+    c.index-objects-k.is

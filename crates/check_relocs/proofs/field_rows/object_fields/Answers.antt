@@ -1,108 +1,73 @@
-use Rattle.std.proofs.Common.{◌≡◌, ◌+◌, ◌++◌, List, false, true, ap, get_or, map, refl, sym, ◌∙◌, subst, ◌<◌, ◌≤◌, Some}
+use Rattle.std.proofs.Common.{◌≡◌, ◌∷◌, ◌++◌, List, ap, map, refl, ◌∙◌}
 use Rattle.std.specs.Prelude.{All}
-use Rattle.std.specs.List.{slice_get}
 use Rattle.std.proofs.lemmas.Bool.{false≢true}
-use Rattle.std.proofs.lemmas.Option.{slice_get-get_or}
-use Rattle.elf_model.proofs.FlatRelocations.{left_of_sections, section_end, section_more, section_skip}
-use Rattle.elf_model.specs.ObjectFile.{null_section}
-use Rattle.elf_model.specs.Relocation.{is_kept_rela, relocations_behind, relocations_from, relocations_in}
-use Rattle.elf_model.specs.declared.records.SectionHeader.{SectionHeader}
-use Rattle.elf_model.proofs.Mapped.{append_mapped}
-use Rattle.check_load.specs.Views.{loaded_view}
+use Rattle.elf_model.proofs.Mapped.{push_mapped}
 use Rattle.check_relocs.specs.Fields.{IsRight, field_of}
+use Rattle.check_relocs.specs.Referrers.{objects_here, relocation_here, relocations_here}
 use Rattle.check_relocs.specs.declared.fields.Field.{Field}
-use Rattle.check_relocs.proofs.RightParts.{fields_end, fields_same, part_all, part_end, part_more, part_same, part_stop}
+use Rattle.check_relocs.proofs.RightParts.{fields_end, one_more, one_stop, part_all, part_end}
 use Rattle.check_relocs.proofs.field_rows.object_fields.Goals as goal
 
-pub loop-i-init : goal.loop-i-init
-loop-i-init c =
-    let n = c.args.number in
-    let b = loaded_view c.args.loaded.now in
-    let P = IsRight c.args.bindings.now.objects c.args.bindings.now.places in
-    let make = field_of c.args.bindings.now.objects c.args.bindings.now.places in
-    let hs = c.sections-headers.result.now in
-    let same : left_of_sections n b hs 0 ≡ relocations_from n b =
-    ap (λ (ss : List SectionHeader). relocations_behind n b 0 ss) c.sections-headers.ensures in
+pub loop-relocation-init : goal.loop-relocation-init
+loop-relocation-init c =
+    let h = c.args.here.now in
+    let ps = h.bindings.now.places in
+    let make = field_of (objects_here h) ps in
+    let same = ap (map (relocation_here h)) c.into_iter-relocation-iterator.ensures.into_iter_gives ∙ c.relocations-relocation-items.ensures.relocations h.number in
+    let left = map (relocation_here h) c.into_iter-relocation-iterator.result in
     record {
       known = c.requires;
+      to = record {
+        size = c.relocated-to.ensures.size;
+        frames = c.relocated-to.ensures.frames;
+        address = c.relocated-to.ensures.address;
+      };
       fields =
-          ap (λ (xs : List Field). xs ++ map make (left_of_sections n b hs 0)) c.new-fields.ensures.items ∙ ap (map make) same;
-      right = part_all P (relocations_from n b) (left_of_sections n b hs 0) same;
+          ap (λ (xs : List Field). xs ++ map make left) (c.in_ok-reserve.ensures.items ∙ c.new-fields.ensures.items) ∙ ap (map make) same;
+      right = part_all (IsRight (objects_here h) ps) (relocations_here h) left same;
     }
 
-pub add_section-requires-clause-there : goal.add_section-requires-clause-there
-add_section-requires-clause-there c =
-    ap (λ (ss : List SectionHeader). slice_get ss c.loop-i.i) (sym c.sections-headers.ensures)
-    ∙ slice_get-get_or c.sections-headers.result.now c.loop-i.i null_section (subst (λ n. c.loop-i.i < n) c.len-i-end.ensures c.loop-i-test.true)
-    ∙ ap Some (sym c.at-header.ensures)
-
-pub returns-then-not-right-clause-right : goal.returns-then-not-right-clause-right
-returns-then-not-right-clause-right c =
-    let n = c.args.number in
-    let b = loaded_view c.args.loaded.now in
-    let P = IsRight c.args.bindings.now.objects c.args.bindings.now.places in
-    let hs = c.sections-headers.result.now in
-    let i = c.loop-i.i in
-    let kept : is_kept_rela b i (get_or hs i null_section) ≡ true = ap (is_kept_rela b i) (sym c.at-header.ensures) ∙ sym c.is_kept_rela.ensures.value ∙ c.if-not-is_kept_rela.false in
-    let parts = section_more n b hs i null_section (subst (λ n. c.loop-i.i < n) c.len-i-end.ensures c.loop-i-test.true) kept in (
+pub returns-in_default-clause-right : goal.returns-in_default-clause-right
+returns-in_default-clause-right c =
+    let h = c.args.here.now in
+    let P = IsRight (objects_here h) h.bindings.now.places in
+    let left = map (relocation_here h) c.loop-relocation.relocation-iterator in
+    let never = rw c.in_default.is at c.right_field.ensures.field in (
       λ e. absurd (false≢true e),
       λ all. absurd
-          (part_stop P (All P (relocations_from n b)) (left_of_sections n b hs i) (relocations_in n b (get_or hs i null_section))
-          (left_of_sections n b hs (i + 1)) parts (λ h. false≢true (sym c.if-not-right.true ∙ (rw c.at-header.ensures at c.in_ok-right.ensures.right.1) h)) c.loop-i.invariant.right all),
+          (one_stop P (All P (relocations_here h)) left (relocation_here h c.in-Some.relocation) (map (relocation_here h) c.next.new.self)
+          (ap (map (relocation_here h)) c.in-Some.ensures.steps) never c.loop-relocation.invariant.right all),
     )
+
+pub loop-relocation-preserved : goal.loop-relocation-preserved
+loop-relocation-preserved c =
+    let h = c.args.here.now in
+    let P = IsRight (objects_here h) h.bindings.now.places in
+    let left = map (relocation_here h) c.loop-relocation.relocation-iterator in
+    let r = relocation_here h c.in-Some.relocation in
+    let rest = map (relocation_here h) c.next.new.self in
+    let parts : left ≡ r ∷ rest = ap (map (relocation_here h)) c.in-Some.ensures.steps in
+    let s = rw c.in-Some-right_field.is at c.right_field.ensures.field in
+    record {
+      known = c.right_field.ensures.kept;
+      to = c.turn_to.ensures.told;
+      fields =
+          push_mapped (field_of (objects_here h) h.bindings.now.places) c.loop-relocation.fields.items c.push.new.self.items c.in-Some-right_field.field r left rest _
+          c.in_ok-push.ensures.items s.1 parts c.loop-relocation.invariant.fields;
+      right = one_more P (All P (relocations_here h)) left r rest parts s.0 c.loop-relocation.invariant.right;
+    }
 
 pub returns-clause-right : goal.returns-clause-right
 returns-clause-right c =
-    let n = c.args.number in
-    let b = loaded_view c.args.loaded.now in
-    let P = IsRight c.args.bindings.now.objects c.args.bindings.now.places in
-    let hs = c.sections-headers.result.now in (
-      λ e. part_end P (All P (relocations_from n b)) (left_of_sections n b hs c.loop-i.i) (section_end n b hs c.loop-i.i (subst (λ n. n ≤ c.loop-i.i) c.len-i-end.ensures c.loop-i-test.false)) c.loop-i.invariant.right,
+    let h = c.args.here.now in
+    let P = IsRight (objects_here h) h.bindings.now.places in
+    let left = map (relocation_here h) c.loop-relocation.relocation-iterator in (
+      λ e. part_end P (All P (relocations_here h)) left (ap (map (relocation_here h)) c.in-None.ensures.steps.0) c.loop-relocation.invariant.right,
       λ all. refl,
     )
 
 pub returns-clause-fields : goal.returns-clause-fields
 returns-clause-fields c =
-    let n = c.args.number in
-    let b = loaded_view c.args.loaded.now in
-    let hs = c.sections-headers.result.now in
-    fields_end c.args.bindings.now.objects c.args.bindings.now.places c.loop-i.fields.items (left_of_sections n b hs c.loop-i.i) _
-    (section_end n b hs c.loop-i.i (subst (λ n. n ≤ c.loop-i.i) c.len-i-end.ensures c.loop-i-test.false)) c.loop-i.invariant.fields
-
-pub loop-i-preserved : goal.loop-i-preserved
-loop-i-preserved c =
-    let n = c.args.number in
-    let b = loaded_view c.args.loaded.now in
-    let P = IsRight c.args.bindings.now.objects c.args.bindings.now.places in
-    let hs = c.sections-headers.result.now in
-    let i = c.loop-i.i in
-    let here = relocations_in n b (get_or hs i null_section) in
-    let kept : is_kept_rela b i (get_or hs i null_section) ≡ true = ap (is_kept_rela b i) (sym c.at-header.ensures) ∙ sym c.is_kept_rela.ensures.value ∙ c.if-not-is_kept_rela.false in
-    let parts = section_more n b hs i null_section (subst (λ n. c.loop-i.i < n) c.len-i-end.ensures c.loop-i-test.true) kept in
-    let yes_right = c.if-not-right.false in
-    record {
-      known = c.in_ok-right.ensures.kept;
-      fields =
-          append_mapped (field_of c.args.bindings.now.objects c.args.bindings.now.places) c.loop-i.fields.items c.add_section.new.fields.items here
-          (left_of_sections n b hs i) (left_of_sections n b hs (i + 1)) _ (rw c.at-header.ensures at (c.in_ok-right.ensures.fields yes_right)) parts c.loop-i.invariant.fields;
-      right =
-          part_more P (All P (relocations_from n b)) (left_of_sections n b hs i) here (left_of_sections n b hs (i + 1)) parts
-          (rw c.at-header.ensures at (c.in_ok-right.ensures.right.0 yes_right)) c.loop-i.invariant.right;
-    }
-
-pub loop-i-preserved-then-not-is_kept_rela : goal.loop-i-preserved-then-not-is_kept_rela
-loop-i-preserved-then-not-is_kept_rela c =
-    let n = c.args.number in
-    let b = loaded_view c.args.loaded.now in
-    let P = IsRight c.args.bindings.now.objects c.args.bindings.now.places in
-    let hs = c.sections-headers.result.now in
-    let i = c.loop-i.i in
-    let other : is_kept_rela b i (get_or hs i null_section) ≡ false = ap (is_kept_rela b i) (sym c.at-header.ensures) ∙ sym c.is_kept_rela.ensures.value ∙ c.if-not-is_kept_rela.true in
-    let same = section_skip n b hs i null_section (subst (λ n. c.loop-i.i < n) c.len-i-end.ensures c.loop-i-test.true) other in
-    record {
-      known = c.loop-i.invariant.known;
-      fields =
-          fields_same c.args.bindings.now.objects c.args.bindings.now.places c.loop-i.fields.items (left_of_sections n b hs i) (left_of_sections n b hs (i + 1)) _ same
-          c.loop-i.invariant.fields;
-      right = part_same P (All P (relocations_from n b)) (left_of_sections n b hs i) (left_of_sections n b hs (i + 1)) same c.loop-i.invariant.right;
-    }
+    let h = c.args.here.now in
+    fields_end (objects_here h) h.bindings.now.places c.loop-relocation.fields.items (map (relocation_here h) c.loop-relocation.relocation-iterator) _
+    (ap (map (relocation_here h)) c.in-None.ensures.steps.0) c.loop-relocation.invariant.fields

@@ -1,9 +1,14 @@
-use Rattle.std.proofs.lemmas.Bool.{false≢true}
+use Rattle.std.proofs.Common.{◌≡◌}
+use Rattle.elf_model.specs.Slots.{requested_address}
+use Rattle.check_relocs.specs.KnownSlots.{request_here}
+use Rattle.check_relocs.proofs.KnownSteps.{known_nothing}
 use Rattle.check_relocs.proofs.known_symbols.unknown_symbols.Goals as goal
 
 pub returns : goal.returns
-returns c = λ b number. record {
-  targets = c.in_ok-targets.ensures b number;
-  slots = c.in_ok-slots.ensures b number;
-  own = λ e. absurd (false≢true e);
-}
+returns c =
+    let h = c.args.here.now in
+    record {
+      targets = c.in_ok-targets.ensures h.bindings.now h.number;
+      slots = known_nothing (λ j s. s.address ≡ requested_address h.bindings.now.places.slots (request_here h j s.thread)) c.in_ok-slots.slots.items
+          c.in_ok-slots.ensures;
+    }

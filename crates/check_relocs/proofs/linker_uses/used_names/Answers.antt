@@ -21,7 +21,8 @@ loop-k-preserved c n =
     gained L here rest c.loop-k.names c.add_object.new.names n (list_any (uses_line L n) (relocations L)) c.in_ok-add_object.ensures
     (ap (λ (rs : List Relocation). is_among c.loop-k.names n || list_any (uses_line L n) rs) (sym is) ∙ c.loop-k.invariant n)
 
-pub add_object-requires : goal.add_object-requires
-add_object-requires c =
-    element_there c.objects-objects.result.now c.args.bindings.now.objects c.loop-k.k c.index-objects-k.result c.objects-objects.ensures c.loop-k-test.true
-    c.index-objects-k.is
+pub invariant_of-here : goal.invariant_of-here
+invariant_of-here c = record {
+  own = element_there c.objects-objects.result.now c.args.bindings.now.objects c.loop-k.k c.index-objects-k.result c.objects-objects.ensures c.loop-k-test.true
+      c.index-objects-k.is;
+}

@@ -1,15 +1,14 @@
-use Rattle.elf_model.proofs.FlatRelocations.{left_of_sections}
-use Rattle.elf_model.specs.Relocation.{relocations_from}
-use Rattle.check_load.specs.Views.{loaded_view}
+use Rattle.std.proofs.Common.{map}
 use Rattle.check_link.specs.Slots.{is_asked}
 use Rattle.check_relocs.specs.Needs.{AreNeedsKnown}
+use Rattle.check_relocs.specs.Referrers.{objects_here, relocation_here, relocations_here}
 use Rattle.check_relocs.proofs.NeedSteps.{Gaining}
 use Rattle.check_relocs.proofs.needs.add_object.Given as goal
 
-abbrev pub invariant-loop-i : goal.invariant-loop-i
-invariant-loop-i l = record {
-  known : AreNeedsKnown l.bindings.objects l.needs l.number (loaded_view l.loaded) l.known;
+abbrev pub invariant-loop-relocation : goal.invariant-loop-relocation
+invariant-loop-relocation l = record {
+  known : AreNeedsKnown l.here l.needs l.known;
   gaining :
-      Gaining l.bindings.objects (left_of_sections l.number (loaded_view l.loaded) l.headers l.i) (relocations_from l.number (loaded_view l.loaded)) l.fn.needs.got
-      (is_asked l.fn.needs.requests) l.needs;
+      Gaining (objects_here l.here) (map (relocation_here l.here) l.relocation-iterator) (relocations_here l.here) l.fn.needs.got (is_asked l.fn.needs.requests)
+      l.needs;
 }

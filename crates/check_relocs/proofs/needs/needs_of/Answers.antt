@@ -5,6 +5,7 @@ use Rattle.elf_model.specs.Relocation.{Relocation, relocations, relocations_from
 use Rattle.elf_model.specs.Slots.{Request}
 use Rattle.check_load.specs.Views.{loaded_view}
 use Rattle.check_link.specs.Slots.{is_asked}
+use Rattle.check_relocs.proofs.Noted.{element_there}
 use Rattle.check_relocs.proofs.NeedSteps.{Gaining, gained_all, gaining_more, none_asked, start}
 use Rattle.check_relocs.proofs.needs.needs_of.Goals as goal
 
@@ -32,3 +33,9 @@ returns c =
     let xs = c.objects-objects.result.now in
     gained_all c.args.bindings.now.objects (left_of_objects loaded_view xs c.loop-k.k) c.loop-k.needs
     (object_end loaded_view xs c.loop-k.k c.loop-k-test.false) c.loop-k.invariant
+
+pub invariant_of-here : goal.invariant_of-here
+invariant_of-here c = record {
+  own = element_there c.objects-objects.result.now c.args.bindings.now.objects c.loop-k.k c.index-objects-k.result c.objects-objects.ensures c.loop-k-test.true
+      c.index-objects-k.is;
+}

@@ -4,7 +4,7 @@ use Rattle.std.specs.List.{list_any}
 use Rattle.std.specs.Str.{bytes_eq}
 use Rattle.elf_model.specs.Command.{Plan}
 use Rattle.check_load.specs.Views.{loaded_views}
-use Rattle.check_load.specs.declared.loader.Loaded.{Loaded}
+use Rattle.check_load.specs.declared.loaded.Loaded.{Loaded}
 use Rattle.check_load.proofs.LoaderLaws.{knows_none}
 use Rattle.check_load.proofs.NumberedNames.{none_numbered}
 use Rattle.check_load.proofs.loader.Loader.new.Goals as goal
