@@ -15,6 +15,10 @@ use Rattle.debug_image.specs.DebugValues.{Field, byte_under, covers, field_byte}
 use Rattle.debug_image.specs.Lists.{some_list}
 use Rattle.debug_image.proofs.RangeSteps.{filter_map_take}
 
+-- bytes are others with fields over them
+abbrev pub AreUnder : List ℕ → List ℕ → List Field → Type 0
+AreUnder new old fs = (k : ℕ) → k < length new → slice_index new k ≡ byte_under k (slice_index old k) fs
+
 pub byte_under-append : (k b : ℕ) (fs gs : List Field) → byte_under k b (fs ++ gs) ≡ byte_under k (byte_under k b fs) gs
 byte_under-append k b [] gs = refl
 byte_under-append k b (f ∷ fs) gs = byte_under-append k (cond (covers k f) (field_byte k f) b) fs gs

@@ -48,24 +48,22 @@ is_same true false e = absurd (false≢true e)
 is_same false true e = absurd (false≢true e)
 is_same false false e = refl
 
+together :
+    (w x t z o n : Bool) → w ≡ true → x ≡ true → t ≡ true → z ≡ true → o ≡ true → n ≡ true → ((((w && x) && t) && z) && o) && n ≡ true
+together w x t z o n is_w is_x is_t is_z is_o is_n =
+    and_from ((((w && x) && t) && z) && o) n
+    (and_from (((w && x) && t) && z) o (and_from ((w && x) && t) z (and_from (w && x) t (and_from w x is_w is_x) is_t) is_z) is_o)
+    is_n
+
 -- sections of objects are of one section of an image where what they have in common is the same
 same_of :
     (count : ℕ) (q p : Piece) → nat_le count q.object ≡ nat_le count p.object → output_of q ≡ output_of p → same_section count q p ≡ true
 same_of count q p own e =
-    let w = same_bool (is_writable q.header) (is_writable p.header) in
-    let x = same_bool (is_executable q.header) (is_executable p.header) in
-    let t = same_bool (is_thread_local q.header) (is_thread_local p.header) in
-    let z = same_bool (is_nobits q.header) (is_nobits p.header) in
-    let o = same_bool (nat_le count q.object) (nat_le count p.object) in
-    let n = bytes_eq (output_name q.name) (output_name p.name) in
-    and_from (are_alike q.header p.header && o) n
-    (and_from (are_alike q.header p.header) o
-    (and_from ((w && x) && t) z
-    (and_from (w && x) t
-    (and_from w x (same_is _ _ (ap (λ (k : Output). k.writable) e)) (same_is _ _ (ap (λ (k : Output). k.executable) e)))
-    (same_is _ _ (ap (λ (k : Output). k.thread_local) e)))
-    (same_is _ _ (ap (λ (k : Output). k.nobits) e)))
-    (same_is _ _ own))
+    together (same_bool (is_writable q.header) (is_writable p.header)) (same_bool (is_executable q.header) (is_executable p.header))
+    (same_bool (is_thread_local q.header) (is_thread_local p.header)) (same_bool (is_nobits q.header) (is_nobits p.header))
+    (same_bool (nat_le count q.object) (nat_le count p.object)) (bytes_eq (output_name q.name) (output_name p.name))
+    (same_is _ _ (ap (λ (k : Output). k.writable) e)) (same_is _ _ (ap (λ (k : Output). k.executable) e))
+    (same_is _ _ (ap (λ (k : Output). k.thread_local) e)) (same_is _ _ (ap (λ (k : Output). k.nobits) e)) (same_is _ _ own)
     ((bytes_eq-Decides (output_name q.name) (output_name p.name)).1 (ap (λ (k : Output). k.name) e))
 
 -- what is the same of pieces that are of one section

@@ -15,7 +15,7 @@ use Rattle.search.specs.declared.loaded.LoadedObject as code_object
 use Rattle.debug_image.specs.DebugSections.{AreFew, AreLow, EndsLow, HaveRoom, IsLow, Joined, debug_pieces, is_joined_of, joined_all, joined_from, joined_of, joined_with, place_in, places_from, replaced, rows_from, debug_rows, grown, named}
 use Rattle.debug_image.specs.DebugViews.{joined_view, joined_views}
 use Rattle.debug_image.specs.declared.joined.Joined as code
-use Rattle.debug_image.proofs.RowSteps.{objects_at}
+use Rattle.resolve.proofs.Walks.{next_loaded}
 
 abbrev pub no_joined : code.Joined
 no_joined = record { title = record { ref_ptr = (0, 0); now = [] }; end = 0; align = 0 }
@@ -171,7 +171,7 @@ left_rows :
     (js : List Joined) (os : List code_object.LoadedObject) (k : ℕ) (d : code_object.LoadedObject) → k < length os → d ≡ get_or os k d →
     rows_from js k (drop k (loaded_views os))
     ≡ places_from js (debug_pieces k (loaded_view d)) ∷ rows_from (joined_all js (debug_pieces k (loaded_view d))) (k + 1) (drop (k + 1) (loaded_views os))
-left_rows js os k d within is = ap (λ (xs : List LoadedObject). rows_from js k xs) (objects_at os k d within is)
+left_rows js os k d within is = ap (λ (xs : List LoadedObject). rows_from js k xs) (next_loaded os k d within is)
 
 pub rows_more :
     (js new : List Joined) (os : List code_object.LoadedObject) (k : ℕ) (d : code_object.LoadedObject) (rows more all : List (List Placed)) →
@@ -193,7 +193,7 @@ pub joined_from_more :
     joined_from new (k + 1) (drop (k + 1) (loaded_views os)) ≡ all
 joined_from_more js new os k d all within is is_new so_far =
     ap (λ (xs : List Joined). joined_from xs (k + 1) (drop (k + 1) (loaded_views os))) is_new
-    ∙ sym (ap (λ (xs : List LoadedObject). joined_from js k xs) (objects_at os k d within is))
+    ∙ sym (ap (λ (xs : List LoadedObject). joined_from js k xs) (next_loaded os k d within is))
     ∙ so_far
 
 pub rows_low_more : (rows more : List (List Placed)) (row : List Placed) → more ≡ rows ++ row ∷ [] → AreLow rows → All EndsLow row → AreLow more
@@ -213,7 +213,7 @@ rows_no_room js os k d rows within is so_far joined none = λ few.
     subst AreLow (left_rows js os k d within is)
     ((All-parts (All EndsLow) rows (rows_from js k (drop k (loaded_views os))) (subst AreLow (sym so_far) few.low)).1) in
     let same : length (joined_of (loaded_views os)) ≡ length (joined_from new (k + 1) (drop (k + 1) (loaded_views os))) =
-    ap (λ (xs : List Joined). length xs) (sym joined ∙ ap (λ (xs : List LoadedObject). joined_from js k xs) (objects_at os k d within is)) in
+    ap (λ (xs : List Joined). length xs) (sym joined ∙ ap (λ (xs : List LoadedObject). joined_from js k xs) (next_loaded os k d within is)) in
     let count = few.few in
     let more = from_grows new (k + 1) (drop (k + 1) (loaded_views os)) in
     none (record { low = All-head (All EndsLow) row rest parts; few = grind (arith, count, same, more) })

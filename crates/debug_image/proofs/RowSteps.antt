@@ -1,25 +1,15 @@
 -- The LOCAL symbols of objects, from one object to the next.
-use Rattle.std.proofs.Common.{◌≡◌, ◌<◌, ◌+◌, ◌++◌, ◌∷◌, ◌∙◌, ℕ, List, ap, append_assoc, drop, get_or, length, map, sym}
+use Rattle.std.proofs.Common.{◌≡◌, ◌<◌, ◌+◌, ◌++◌, ◌∙◌, ℕ, List, ap, append_assoc, drop, get_or, length, sym}
 use Rattle.std.specs.Prelude.{Option}
 use Rattle.std.specs.List.{filter_map}
-use Rattle.std.proofs.lemmas.List.{drop-map, drop_more}
 use Rattle.std.proofs.lemmas.List.Elements.{filter_map-append}
 use Rattle.elf_model.specs.Loading.{LoadedObject}
 use Rattle.elf_model.specs.ObjectFile.{symbols}
 use Rattle.elf_model.specs.Resolution.{SymbolOf, symbols_from, symbols_of}
 use Rattle.search.specs.Views.{loaded_view, loaded_views}
 use Rattle.search.specs.declared.loaded.LoadedObject as code
+use Rattle.resolve.proofs.Walks.{next_loaded}
 use Rattle.debug_image.specs.Tables.{Row}
-
--- the objects from number k on
-pub objects_at :
-    (objects : List code.LoadedObject) (k : ℕ) (d : code.LoadedObject) → k < length objects → d ≡ get_or objects k d →
-    drop k (loaded_views objects) ≡ loaded_view d ∷ drop (k + 1) (loaded_views objects)
-objects_at objects k d within is =
-    drop-map loaded_view k objects
-    ∙ ap (map loaded_view) (drop_more objects k d within)
-    ∙ ap (λ (x : code.LoadedObject). loaded_view x ∷ map loaded_view (drop (k + 1) objects)) (sym is)
-    ∙ ap (λ (xs : List LoadedObject). loaded_view d ∷ xs) (sym (drop-map loaded_view (k + 1) objects))
 
 pub rows_more :
     (row : SymbolOf → Option Row) (found more all : List Row) (objects : List code.LoadedObject) (k : ℕ) (d : code.LoadedObject) →
@@ -33,5 +23,5 @@ rows_more row found more all objects k d within is added so_far =
     ap (λ (xs : List Row). xs ++ filter_map row rest) added
     ∙ append_assoc found (filter_map row here) (filter_map row rest)
     ∙ ap (λ (xs : List Row). found ++ xs) (sym (filter_map-append row here rest))
-    ∙ ap (λ (xs : List LoadedObject). found ++ filter_map row (symbols_of k xs)) (sym (objects_at objects k d within is))
+    ∙ ap (λ (xs : List LoadedObject). found ++ filter_map row (symbols_of k xs)) (sym (next_loaded objects k d within is))
     ∙ so_far

@@ -6,8 +6,8 @@ use Rattle.elf_model.specs.ImageFile.{HeaderFields}
 use Rattle.elf_model.specs.ObjectFile.{null_section, null_symbol}
 use Rattle.elf_model.specs.Placement.{round_up}
 use Rattle.elf_model.specs.Records.{section_header_bytes, symbol_bytes}
-use Rattle.elf_model.specs.SymbolTable.{ended}
-use Rattle.elf_model.specs.declared.constants.TheConstants.{SHT_STRTAB, SHT_SYMTAB}
+use Rattle.elf_model.specs.SymbolTable.{ended, strings_header}
+use Rattle.elf_model.specs.declared.constants.TheConstants.{SHT_SYMTAB}
 use Rattle.elf_model.specs.declared.records.SectionHeader.{SectionHeader}
 use Rattle.elf_model.specs.declared.records.Symbol as entry
 
@@ -113,22 +113,7 @@ symtab_row offset size link info = record {
 }
 
 abbrev pub strings_row : List ℕ → ℕ → ℕ → HeaderRow
-strings_row title offset size = record {
-  title = title;
-  header =
-      record {
-        sh_name = 0;
-        sh_type = SHT_STRTAB;
-        sh_flags = 0;
-        sh_addr = 0;
-        sh_offset = offset;
-        sh_size = size;
-        sh_link = 0;
-        sh_info = 0;
-        sh_addralign = 1;
-        sh_entsize = 0;
-      };
-}
+strings_row title offset size = record { title = title; header = strings_header 0 offset size }
 
 -- All headers but that of number 0: those of the sections of the image, .symtab, .strtab and .shstrtab.
 abbrev pub header_rows : ℕ → Tables → List HeaderRow

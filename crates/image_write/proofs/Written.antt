@@ -29,3 +29,9 @@ pub device_fault :
 device_fault {X} old new failed later image r is took count =
     subst (λ (s : Result X WriteFault). IfErr s (WriteFails old failed image new later)) (sym is.1)
     (subst (WriteFails old failed image new later) (sym is.2) (took, count))
+
+-- so where the device has failed after the first of it
+pub part_fault :
+    {X : Type 0} (s u : Stream) (image : List ℕ) (r : Result X WriteFault) →
+    (e : WriteFault) × (r ≡ Err e) × (e ≡ Device) → s.held ≡ [] → Breaks s image u → IfErr r (WriteFails s.told s.failed image u.told u.failed)
+part_fault s u image r is before b = device_fault s.told u.told s.failed u.failed image r is (took_part s u image before b) b.failed

@@ -30,9 +30,9 @@ LiesWithin ps (Linker name bound) = Unit {0}
 abbrev pub own_row : Basis → Piece → PlaceRow
 own_row b p = place_row_of (record { at = own_address b.base b.objects p; piece = p })
 
--- the GOT's size and its slots
+-- the GOT of objects: its size and its slots
 abbrev pub own_table : List LoadedObject → Got
-own_table objects = record { got = got_size objects; slots = slots objects }
+own_table objects = record { got = got_size objects; slots = slots objects; objects = objects }
 
 -- the line of the symbol table of what is listed, where there is to be one
 abbrev pub own_symtab : Basis → Bool → List Meaning → Option SymtabLine

@@ -6,7 +6,6 @@ use Rattle.std.specs.Global.{Vec}
 use Rattle.std.specs.List.{slice_get}
 use Rattle.std.proofs.lemmas.List.{get_or-map, length-map, map-append, take_more}
 use Rattle.std.proofs.lemmas.Option.{none-some, same_Some, slice_get-map, slice_get_within}
-use Rattle.elf_model.specs.ObjectFile.{null_section}
 use Rattle.elf_model.specs.OwnLayout.{leaders}
 use Rattle.elf_model.specs.Pieces as pieces
 use Rattle.elf_model.specs.Pieces.{same_output}
@@ -94,13 +93,3 @@ module _ (ps : List pieces.Piece) (sections : List OutputSection) (numbers : Lis
       some : (qs : List pieces.Piece) → k < length qs → pieces.Piece
       some [] w = absurd (omega (arith, w))
       some (q ∷ qs) w = q
-
--- what the code reads past the end of a list of pieces
-abbrev pub no_piece : Piece
-no_piece = record {
-  object = 0;
-  section = 0;
-  header = null_section;
-  name = record { ref_ptr = (0, 0); now = [] };
-  bytes = record { ref_ptr = (0, 0); now = [] };
-}

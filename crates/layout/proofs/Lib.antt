@@ -16,6 +16,7 @@ pub mod OwnAddresses
 pub mod OwnBounds
 pub mod OwnThreads
 pub mod PieceEntries
+pub mod PlaceSteps
 pub mod PartSteps
 pub mod RunSteps
 pub mod ThreadSteps

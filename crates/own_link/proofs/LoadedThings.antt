@@ -60,26 +60,21 @@ thing_whole q whole =
     λ i. record { at = q.at; size = same i; align = (range_of q).align; rights = (range_of q).rights; in_file = (range_of q).in_file }
 
 module _ (base : ℕ) (objects : List LoadedObject) (kinds : AreLawfulKinds objects) where
-  -- a piece of which memory has a byte is one that memory has a place for
-  pub loaded_by_size : (q : Placed) → Contains (own_placed base objects) q → 0 < load_size q.piece → Contains (own_loaded base objects) q
-  loaded_by_size q c some = by (Contains-append_cases (own_loaded base objects) (own_thread_rest base objects) q c)
+  -- memory has a place for a piece unless that is thread-local without bytes
+  loaded_unless : (q : Placed) → Contains (own_placed base objects) q → (is_thread_zero q.piece ≡ true → ⊥) → Contains (own_loaded base objects) q
+  loaded_unless q c bare = by (Contains-append_cases (own_loaded base objects) (own_thread_rest base objects) q c)
     where
       by : Contains (own_loaded base objects) q ⊎ Contains (own_thread_rest base objects) q → Contains (own_loaded base objects) q
       by (inl loaded) = loaded
-      by (inr rest) =
-          let bare = (All-contains (InThreadRest base objects) (own_thread_rest base objects) q (own_thread_rest_within base objects) rest).1 in
-          let none : load_size q.piece ≡ 0 = ap (λ b. cond b 0 q.piece.size) bare in
-          absurd (omega (arith, none, some))
+      by (inr rest) = absurd (bare (All-contains (InThreadRest base objects) (own_thread_rest base objects) q (own_thread_rest_within base objects) rest).1)
 
-  -- and so is one that isn't thread-local without bytes
+  -- so for one of which it has a byte
+  pub loaded_by_size : (q : Placed) → Contains (own_placed base objects) q → 0 < load_size q.piece → Contains (own_loaded base objects) q
+  loaded_by_size q c some =
+      loaded_unless q c (λ bare. let none : load_size q.piece ≡ 0 = ap (λ b. cond b 0 q.piece.size) bare in omega (arith, none, some))
+
   pub loaded_whole_place : (q : Placed) → Contains (own_placed base objects) q → is_thread_zero q.piece ≡ false → Contains (own_loaded base objects) q
-  loaded_whole_place q c whole = by (Contains-append_cases (own_loaded base objects) (own_thread_rest base objects) q c)
-    where
-      by : Contains (own_loaded base objects) q ⊎ Contains (own_thread_rest base objects) q → Contains (own_loaded base objects) q
-      by (inl loaded) = loaded
-      by (inr rest) =
-          let bare = (All-contains (InThreadRest base objects) (own_thread_rest base objects) q (own_thread_rest_within base objects) rest).1 in
-          absurd (false≢true (sym whole ∙ bare))
+  loaded_whole_place q c whole = loaded_unless q c (λ bare. false≢true (sym whole ∙ bare))
 
   pub got_loaded : has_got objects ≡ true → Contains (own_loaded base objects) (at_own_address base objects (got_piece objects))
   got_loaded there =

@@ -3,22 +3,4 @@
 #![tactic(auto)]
 
 #[cfg(test)]
-mod archives;
-#[cfg(test)]
-mod groups;
-#[cfg(test)]
-mod memories;
-#[cfg(test)]
-mod names;
-#[cfg(test)]
-mod objects;
-#[cfg(test)]
-mod plans;
-#[cfg(test)]
-mod records;
-#[cfg(test)]
-mod texts;
-#[cfg(test)]
-mod views;
-#[cfg(test)]
-mod words;
+mod tests;

@@ -19,16 +19,6 @@ not_noted false t old e = refl
 pub any_more : {X : Type 0} (p : X → Bool) (xs : List X) (j : ℕ) (d : X) → j < length xs → list_any p (drop j xs) ≡ (p (get_or xs j d) || list_any p (drop (j + 1) xs))
 any_more p xs j d within = let e : j + 1 ≡ suc j = omega arith in rw e (ap (list_any p) (drop-cons xs j d within))
 
-pub asked_more : (bytes dropped : List ℕ) (ss : List Symbol) (j : ℕ) (d : Symbol) (n : List ℕ) → j < length ss →
-    asked_from bytes dropped (drop j ss) n ≡ (has_name bytes n (get_or ss j d) && is_request dropped (get_or ss j d) || asked_from bytes dropped (drop (j + 1) ss) n)
-unfolding asked_from
-asked_more bytes dropped ss j d n within = any_more (λ s. has_name bytes n s && is_request dropped s) ss j d within
-
-pub defined_more : (bytes dropped : List ℕ) (ss : List Symbol) (j : ℕ) (d : Symbol) (n : List ℕ) → j < length ss →
-    defined_from bytes dropped (drop j ss) n ≡ (has_name bytes n (get_or ss j d) && is_definition dropped (get_or ss j d) || defined_from bytes dropped (drop (j + 1) ss) n)
-unfolding defined_from
-defined_more bytes dropped ss j d n within = any_more (λ s. has_name bytes n s && is_definition dropped s) ss j d within
-
 -- a LOCAL symbol asks for nothing and defines nothing
 pub local_asks : (dropped : List ℕ) (s : Symbol) → is_global_or_weak s ≡ false → is_request dropped s ≡ false
 local_asks dropped s local = and_left (is_global_symbol s) (is_left_undefined dropped s) ((or_parts (is_global_symbol s) _ local).0)
@@ -72,40 +62,46 @@ module _ (bytes dropped : List ℕ) (items ss : List Symbol) (same : items ≡ s
       ∙ (ap (λ (o : Option Symbol). unwrap_or (option_map (name_of_symbol bytes) o) []) (slice_get-get_or (symbols bytes) j d (subst (λ (l : List Symbol). j < length l) all inside))
       ∙ ap (λ (l : List Symbol). name_of_symbol bytes (get_or l j d)) (sym (same ∙ all)))
 
+  -- one symbol more of those with a name that pass a test
+  any_step : (test : Symbol → Bool) (name n : List ℕ) (old new total : Bool) → name ≡ name_of_symbol bytes (get_or items j d) →
+      new ≡ (bytes_eq name n && test (get_or items j d) || old) → (list_any (λ s. has_name bytes n s && test s) (drop j ss) || old) ≡ total →
+      (list_any (λ s. has_name bytes n s && test s) (drop (j + 1) ss) || new) ≡ total
+  any_step test name n old new total called next is =
+      let p : Symbol → Bool = λ s. has_name bytes n s && test s in
+      stepped (list_any p (drop j ss)) (p (get_or ss j d)) (list_any p (drop (j + 1) ss)) old new total (any_more p ss j d inside)
+      (next ∙ (ap (λ (m : List ℕ). bytes_eq m n && test (get_or items j d) || old) called
+      ∙ ap (λ (l : List Symbol). has_name bytes n (get_or l j d) && test (get_or l j d) || old) same)) is
+
   pub asked_step : (name n : List ℕ) (old new total : Bool) → name ≡ name_of_symbol bytes (get_or items j d) →
       new ≡ (bytes_eq name n && is_request dropped (get_or items j d) || old) → (asked_from bytes dropped (drop j ss) n || old) ≡ total →
       (asked_from bytes dropped (drop (j + 1) ss) n || new) ≡ total
-  asked_step name n old new total called next is =
-      stepped (asked_from bytes dropped (drop j ss) n) (has_name bytes n (get_or ss j d) && is_request dropped (get_or ss j d))
-      (asked_from bytes dropped (drop (j + 1) ss) n) old new total (asked_more bytes dropped ss j d n inside)
-      (next ∙ (ap (λ (m : List ℕ). bytes_eq m n && is_request dropped (get_or items j d) || old) called
-      ∙ ap (λ (l : List Symbol). has_name bytes n (get_or l j d) && is_request dropped (get_or l j d) || old) same)) is
+  unfolding asked_from
+  asked_step = any_step (is_request dropped)
 
   pub defined_step : (name n : List ℕ) (old new total : Bool) → name ≡ name_of_symbol bytes (get_or items j d) →
       new ≡ (bytes_eq name n && is_definition dropped (get_or items j d) || old) → (defined_from bytes dropped (drop j ss) n || old) ≡ total →
       (defined_from bytes dropped (drop (j + 1) ss) n || new) ≡ total
-  defined_step name n old new total called next is =
-      stepped (defined_from bytes dropped (drop j ss) n) (has_name bytes n (get_or ss j d) && is_definition dropped (get_or ss j d))
-      (defined_from bytes dropped (drop (j + 1) ss) n) old new total (defined_more bytes dropped ss j d n inside)
-      (next ∙ (ap (λ (m : List ℕ). bytes_eq m n && is_definition dropped (get_or items j d) || old) called
-      ∙ ap (λ (l : List Symbol). has_name bytes n (get_or l j d) && is_definition dropped (get_or l j d) || old) same)) is
+  unfolding defined_from
+  defined_step = any_step (is_definition dropped)
 
   local_there : is_global_or_weak (get_or items j d) ≡ false → is_global_or_weak (get_or ss j d) ≡ false
   local_there local = subst (λ (l : List Symbol). is_global_or_weak (get_or l j d) ≡ false) same local
 
+  any_past : (test : Symbol → Bool) (n : List ℕ) (old total : Bool) → test (get_or ss j d) ≡ false →
+      (list_any (λ s. has_name bytes n s && test s) (drop j ss) || old) ≡ total → (list_any (λ s. has_name bytes n s && test s) (drop (j + 1) ss) || old) ≡ total
+  any_past test n old total fails is =
+      let p : Symbol → Bool = λ s. has_name bytes n s && test s in
+      passed (list_any p (drop j ss)) (has_name bytes n (get_or ss j d)) (test (get_or ss j d)) (list_any p (drop (j + 1) ss)) old total (any_more p ss j d inside) fails is
+
   pub asked_past : (n : List ℕ) (old total : Bool) → is_global_or_weak (get_or items j d) ≡ false →
       (asked_from bytes dropped (drop j ss) n || old) ≡ total → (asked_from bytes dropped (drop (j + 1) ss) n || old) ≡ total
-  asked_past n old total local is =
-      passed (asked_from bytes dropped (drop j ss) n) (has_name bytes n (get_or ss j d)) (is_request dropped (get_or ss j d))
-      (asked_from bytes dropped (drop (j + 1) ss) n) old total (asked_more bytes dropped ss j d n inside)
-      (local_asks dropped (get_or ss j d) (local_there local)) is
+  unfolding asked_from
+  asked_past n old total local = any_past (is_request dropped) n old total (local_asks dropped (get_or ss j d) (local_there local))
 
   pub defined_past : (n : List ℕ) (old total : Bool) → is_global_or_weak (get_or items j d) ≡ false →
       (defined_from bytes dropped (drop j ss) n || old) ≡ total → (defined_from bytes dropped (drop (j + 1) ss) n || old) ≡ total
-  defined_past n old total local is =
-      passed (defined_from bytes dropped (drop j ss) n) (has_name bytes n (get_or ss j d)) (is_definition dropped (get_or ss j d))
-      (defined_from bytes dropped (drop (j + 1) ss) n) old total (defined_more bytes dropped ss j d n inside)
-      (local_defines dropped (get_or ss j d) (local_there local)) is
+  unfolding defined_from
+  defined_past n old total local = any_past (is_definition dropped) n old total (local_defines dropped (get_or ss j d) (local_there local))
 
 -- the end of that loop
 pub asked_all : (bytes dropped : List ℕ) (items ss : List Symbol) (j : ℕ) (n : List ℕ) (old total : Bool) → items ≡ ss → length items ≤ j →

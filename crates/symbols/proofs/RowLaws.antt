@@ -104,33 +104,27 @@ row_after-twice (c ∷ cs) row =
     row_after-twice cs (taken_in c row) ∙ twice_step c.kind c row (count_by is_strong cs)
     ∙ ap (λ n. row.twice || nat_le 2 (ones row.strong + n)) (sym counted)
 
-size_step :
-    (k : CandidateKind) (c : Candidate) (row : Row) (rest : List Candidate) →
-    max (taken_as k c row).common_size (greatest (map (λ x. x.size) rest))
-    ≡ max row.common_size (greatest (map (λ x. x.size) (cond (is_common_kind k) (c ∷ rest) rest)))
-size_step Strong c row rest = refl
-size_step Weak c row rest = refl
-size_step Common c row rest = omega arith
+-- the greatest number of a common one, which a row keeps
+module _ (number : Candidate → ℕ) (kept : Row → ℕ) (strong : (c : Candidate) (row : Row) → kept (taken_as Strong c row) ≡ kept row)
+    (weak : (c : Candidate) (row : Row) → kept (taken_as Weak c row) ≡ kept row) (common : (c : Candidate) (row : Row) → kept (taken_as Common c row) ≡ max (kept row) (number c)) where
+  greatest_step :
+      (k : CandidateKind) (c : Candidate) (row : Row) (rest : List Candidate) →
+      max (kept (taken_as k c row)) (greatest (map number rest)) ≡ max (kept row) (greatest (map number (cond (is_common_kind k) (c ∷ rest) rest)))
+  greatest_step Strong c row rest = ap (λ n. max n (greatest (map number rest))) (strong c row)
+  greatest_step Weak c row rest = ap (λ n. max n (greatest (map number rest))) (weak c row)
+  greatest_step Common c row rest = let is = common c row in omega (arith, is)
 
--- the greatest size of a common one
+  greatest_after : (cs : List Candidate) (row : Row) → kept (row_after cs row) ≡ max (kept row) (greatest (map number (filter is_common cs)))
+  greatest_after [] row = omega arith
+  greatest_after (c ∷ cs) row = greatest_after cs (taken_in c row) ∙ greatest_step c.kind c row (filter is_common cs)
+
 pub row_after-common_size :
     (cs : List Candidate) (row : Row) → (row_after cs row).common_size ≡ max row.common_size (greatest (map (λ c. c.size) (filter is_common cs)))
-row_after-common_size [] row = omega arith
-row_after-common_size (c ∷ cs) row = row_after-common_size cs (taken_in c row) ∙ size_step c.kind c row (filter is_common cs)
+row_after-common_size = greatest_after (λ c. c.size) (λ row. row.common_size) (λ c row. refl) (λ c row. refl) (λ c row. refl)
 
-align_step :
-    (k : CandidateKind) (c : Candidate) (row : Row) (rest : List Candidate) →
-    max (taken_as k c row).common_align (greatest (map (λ x. x.align) rest))
-    ≡ max row.common_align (greatest (map (λ x. x.align) (cond (is_common_kind k) (c ∷ rest) rest)))
-align_step Strong c row rest = refl
-align_step Weak c row rest = refl
-align_step Common c row rest = omega arith
-
--- the greatest alignment of a common one
 pub row_after-common_align :
     (cs : List Candidate) (row : Row) → (row_after cs row).common_align ≡ max row.common_align (greatest (map (λ c. c.align) (filter is_common cs)))
-row_after-common_align [] row = omega arith
-row_after-common_align (c ∷ cs) row = row_after-common_align cs (taken_in c row) ∙ align_step c.kind c row (filter is_common cs)
+row_after-common_align = greatest_after (λ c. c.align) (λ row. row.common_align) (λ c row. refl) (λ c row. refl) (λ c row. refl)
 
 -- what a row says after candidates in order, where nothing was said before
 pub row_after-IsRowOf : (cs : List Candidate) → IsRowOf cs (row_after cs no_row)

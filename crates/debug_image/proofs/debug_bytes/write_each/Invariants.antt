@@ -1,16 +1,14 @@
-use Rattle.std.proofs.Common.{◌≡◌, ◌<◌, ℕ, length}
-use Rattle.std.specs.Prelude.{slice_index}
+use Rattle.std.proofs.Common.{◌≡◌}
 use Rattle.std.specs.List.{filter_map, flat_map, list_any, range_with_len}
 use Rattle.debug_image.specs.DebugLayouts.{data_in, object_here, placed_here}
-use Rattle.debug_image.specs.DebugValues.{byte_under, entries_at, entry_field, is_left}
+use Rattle.debug_image.specs.DebugValues.{entries_at, entry_field, is_left}
+use Rattle.debug_image.proofs.FieldSteps.{AreUnder}
 use Rattle.debug_image.proofs.debug_bytes.write_each.Given as goal
 
 abbrev pub invariant-loop-i : goal.invariant-loop-i
 invariant-loop-i l = record {
   bytes :
-      (k : ℕ) → k < length l.bytes
-      → slice_index l.bytes k
-      ≡ byte_under k (slice_index l.fn.bytes k)
+      AreUnder l.bytes l.fn.bytes
       (filter_map (entry_field (data_in l.layout) (placed_here l.here) (object_here l.here))
       (flat_map (entries_at (object_here l.here) l.here.place.now.piece.section) (range_with_len 0 l.i)));
   left :

@@ -4,7 +4,7 @@ use Rattle.elf_model.specs.declared.references.SectionRef.{SectionRef}
 use Rattle.search.specs.Views.{loaded_view, loaded_views}
 use Rattle.std.proofs.Common.{drop, ◌+◌}
 use Rattle.debug_image.specs.Reports.{compressed_from, compressed_in}
-use Rattle.debug_image.proofs.RowSteps.{objects_at}
+use Rattle.resolve.proofs.Walks.{next_loaded}
 use Rattle.debug_image.proofs.reports.compressed.Goals as goal
 
 pub loop-k-preserved : goal.loop-k-preserved
@@ -15,5 +15,5 @@ loop-k-preserved c =
     ap (λ (xs : List SectionRef). xs ++ rest) c.in_ok-add_compressed.ensures
     ∙ append_assoc c.loop-k.found.items (compressed_in k (loaded_view c.index-objects-k.result)) rest
     ∙ ap (λ (xs : List LoadedObject). c.loop-k.found.items ++ compressed_from k xs)
-    (sym (objects_at os k c.index-objects-k.result c.loop-k-test.true c.index-objects-k.is))
+    (sym (next_loaded os k c.index-objects-k.result c.loop-k-test.true c.index-objects-k.is))
     ∙ c.loop-k.invariant

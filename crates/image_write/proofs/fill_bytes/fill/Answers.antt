@@ -16,43 +16,26 @@ pub returns-in_err-put_run : goal.returns-in_err-put_run
 returns-in_err-put_run g c =
     let s = c.min-start.result in
     let e = c.min-end.result in
-    let m = c.max.ensures in
-    let n = c.min-start.ensures in
-    let k = c.max-2.ensures in
-    let l = c.min-end.ensures in
-    let is_s : s ≡ min (max c.args.from c.args.code.now.start) c.args.to = omega (arith, m, n) in
-    let is_e : e ≡ min (max s c.args.code.now.end) c.args.to = omega (arith, k, l) in
     towards_fault _ _ _ _ _ (replicate (s - c.args.from) 0) _ _ (towards_nothing _ _)
-    (runs_are c.args.code.now c.args.from c.args.to s e c.requires.order is_s is_e) c.from_residual.ensures.0 c.in_err-put_run.ensures.breaks
+    (runs_are c.args.code.now c.args.from c.args.to s e c.requires.order (omega (arith, c.max.ensures, c.min-start.ensures)) (omega (arith, c.max-2.ensures, c.min-end.ensures)))
+    c.from_residual.ensures.0 c.in_err-put_run.ensures.breaks
 
 pub returns-in_err-put_run-2 : goal.returns-in_err-put_run-2
 returns-in_err-put_run-2 g c =
     let s = c.min-start.result in
     let e = c.min-end.result in
-    let m = c.max.ensures in
-    let n = c.min-start.ensures in
-    let k = c.max-2.ensures in
-    let l = c.min-end.ensures in
-    let is_s : s ≡ min (max c.args.from c.args.code.now.start) c.args.to = omega (arith, m, n) in
-    let is_e : e ≡ min (max s c.args.code.now.end) c.args.to = omega (arith, k, l) in
     towards_fault _ _ _ _ _ (replicate (e - s) 0x90) (replicate (c.args.to - e) 0) _
     (towards_more _ _ _ _ _ (replicate (s - c.args.from) 0) _ (towards_nothing _ _)
-    (runs_are c.args.code.now c.args.from c.args.to s e c.requires.order is_s is_e) c.in_ok-put_run.ensures.grows)
+    (runs_are c.args.code.now c.args.from c.args.to s e c.requires.order (omega (arith, c.max.ensures, c.min-start.ensures)) (omega (arith, c.max-2.ensures, c.min-end.ensures))) c.in_ok-put_run.ensures.grows)
     refl c.from_residual-in_err-put_run-2.ensures.0 c.in_err-put_run-2.ensures.breaks
 
 pub returns : goal.returns
 returns g c =
     let s = c.min-start.result in
     let e = c.min-end.result in
-    let m = c.max.ensures in
-    let n = c.min-start.ensures in
-    let k = c.max-2.ensures in
-    let l = c.min-end.ensures in
-    let is_s : s ≡ min (max c.args.from c.args.code.now.start) c.args.to = omega (arith, m, n) in
-    let is_e : e ≡ min (max s c.args.code.now.end) c.args.to = omega (arith, k, l) in
     towards_last _ _ _ _ _ _
     (towards_more _ _ _ _ _ (replicate (e - s) 0x90) (replicate (c.args.to - e) 0)
     (towards_more _ _ _ _ _ (replicate (s - c.args.from) 0) _ (towards_nothing _ _)
-    (runs_are c.args.code.now c.args.from c.args.to s e c.requires.order is_s is_e) c.in_ok-put_run.ensures.grows)
+    (runs_are c.args.code.now c.args.from c.args.to s e c.requires.order (omega (arith, c.max.ensures, c.min-start.ensures)) (omega (arith, c.max-2.ensures, c.min-end.ensures))) c.in_ok-put_run.ensures.grows)
     refl c.in_ok-put_run-2.ensures.grows)
     c.put_run-3.ensures

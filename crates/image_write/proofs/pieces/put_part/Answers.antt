@@ -1,4 +1,4 @@
-use Rattle.std.proofs.Common.{◌≡◌, ◌+◌, ◌-◌, ◌≤◌, ◌++◌, ◌∙◌, List, [], ap, arith, drop, length, sym, take, ℕ}
+use Rattle.std.proofs.Common.{◌≡◌, ◌+◌, ◌-◌, ◌≤◌, ◌<◌, ◌++◌, ◌∙◌, List, [], ap, arith, drop, length, sym, take, ℕ}
 use Rattle.std.specs.Prelude.{map, slice_index}
 use Rattle.std.specs.List.{range_with_len}
 use Rattle.elf_model.specs.OwnLayout.{own_where}
@@ -16,42 +16,33 @@ run_with :
 run_with f bytes from next size low high is =
     ap (λ (xs : List ℕ). xs ++ map f (range_with_len next (size - next))) is ∙ sym (run_parts f from next size low high)
 
+-- bytes that are those of the function from a number on, up to another one
+untouched_run :
+    (f : ℕ → ℕ) (bytes : List ℕ) (from next : ℕ) → from ≤ next → next ≤ length bytes →
+    ((k : ℕ) → from ≤ k → k < next → f k ≡ slice_index bytes k) → take (next - from) (drop from bytes) ≡ map f (range_with_len from (next - from))
+untouched_run f bytes from next low high same =
+    part_is f bytes from (next - from) (omega (arith, low, high)) (λ k l h. same k l (omega (arith, h, low)))
+
 pub returns-in_err-put_untouched-clause-breaks : goal.returns-in_err-put_untouched-clause-breaks
 returns-in_err-put_untouched-clause-breaks g c =
-    let objects = c.args.patches.now.objects in
-    let p = piece_view c.args.piece.now in
-    let f : ℕ → ℕ = wanted_byte objects (own_where c.args.patches.now.base objects) p in
-    let bytes = c.args.piece.now.bytes.now in
-    let from = c.args.from in
-    let next = c.min-next.result in
-    let inside = c.requires.inside in
-    let above = c.next_field.ensures.from in
-    let m = c.min-next.ensures in
-    let low : from ≤ next = omega (arith, m, above, inside) in
-    let high : next ≤ length bytes = omega (arith, m) in
-    let is : take (next - from) (drop from bytes) ≡ map f (range_with_len from (next - from)) =
-    part_is f bytes from (next - from) (omega (arith, low, high))
-    (λ k l h. c.next_field.ensures.untouched p c.section_of-section.ensures.object c.section_of-section.ensures.section k l (omega (arith, h, m, low))) in
+    let f : ℕ → ℕ = wanted_byte c.args.patches.now.objects (own_where c.args.patches.now.base c.args.patches.now.objects) (piece_view c.args.piece.now) in
+    let low : c.args.from ≤ c.min-next.result = omega (arith, c.min-next.ensures, c.next_field.ensures.from, c.requires.inside) in
+    let high : c.min-next.result ≤ length c.args.piece.now.bytes.now = omega (arith, c.min-next.ensures) in
+    let is = untouched_run f c.args.piece.now.bytes.now c.args.from c.min-next.result low high
+    (λ k l h. c.next_field.ensures.untouched (piece_view c.args.piece.now) c.section_of-section.ensures.object c.section_of-section.ensures.section k l (omega (arith, h, c.min-next.ensures))) in
     whatever _ c.from_residual.result
-    (breaks_are _ _ _ _ (run_with f _ from next (length bytes) low high is)
-    (breaks_on _ _ (take (next - from) (drop from bytes)) (map f (range_with_len next (length bytes - next))) c.in_err-put_untouched.ensures.breaks))
+    (breaks_are _ _ _ _ (run_with f _ c.args.from c.min-next.result (length c.args.piece.now.bytes.now) low high is)
+    (breaks_on _ _ (take (c.min-next.result - c.args.from) (drop c.args.from c.args.piece.now.bytes.now))
+    (map f (range_with_len c.min-next.result (length c.args.piece.now.bytes.now - c.min-next.result))) c.in_err-put_untouched.ensures.breaks))
 
 pub returns-then-next-from-ge-BUFFER_SIZE-clause-grows : goal.returns-then-next-from-ge-BUFFER_SIZE-clause-grows
 returns-then-next-from-ge-BUFFER_SIZE-clause-grows g c =
-    let objects = c.args.patches.now.objects in
-    let p = piece_view c.args.piece.now in
-    let f : ℕ → ℕ = wanted_byte objects (own_where c.args.patches.now.base objects) p in
-    let bytes = c.args.piece.now.bytes.now in
-    let from = c.args.from in
-    let next = c.min-next.result in
-    let inside = c.requires.inside in
-    let above = c.next_field.ensures.from in
-    let m = c.min-next.ensures in
-    let low : from ≤ next = omega (arith, m, above, inside) in
-    let high : next ≤ length bytes = omega (arith, m) in
+    let f : ℕ → ℕ = wanted_byte c.args.patches.now.objects (own_where c.args.patches.now.base c.args.patches.now.objects) (piece_view c.args.piece.now) in
+    let low : c.args.from ≤ c.min-next.result = omega (arith, c.min-next.ensures, c.next_field.ensures.from, c.requires.inside) in
+    let high : c.min-next.result ≤ length c.args.piece.now.bytes.now = omega (arith, c.min-next.ensures) in
     grows_are _ _ _ _
-    (part_is f bytes from (next - from) (omega (arith, low, high))
-    (λ k l h. c.next_field.ensures.untouched p c.section_of-section.ensures.object c.section_of-section.ensures.section k l (omega (arith, h, m, low))))
+    (untouched_run f c.args.piece.now.bytes.now c.args.from c.min-next.result low high
+    (λ k l h. c.next_field.ensures.untouched (piece_view c.args.piece.now) c.section_of-section.ensures.object c.section_of-section.ensures.section k l (omega (arith, h, c.min-next.ensures))))
     c.in_ok-put_untouched.ensures.grows
 
 pub returns-in_err-make_room-clause-breaks : goal.returns-in_err-make_room-clause-breaks

@@ -15,7 +15,7 @@ use Rattle.image_write.specs.declared.symbol_table.SymbolTable.{SymbolTable}
 use Rattle.image_write.specs.declared.linkage.Parts.{Parts}
 use Rattle.image_write.proofs.StreamLaws.{breaks_are, breaks_between, breaks_on, breaks_then, grows_are, grows_between, grows_then}
 use Rattle.image_write.proofs.Tabled.{range_of, whole_image}
-use Rattle.image_write.proofs.Written.{device_fault, took_all, took_part}
+use Rattle.image_write.proofs.Written.{part_fault, took_all}
 use Rattle.image_write.proofs.written_image.write_image.Goals as goal
 
 -- the image is what the parts of the file and the tables are
@@ -49,27 +49,21 @@ pub returns-in_err-write_file-clause-fault : goal.returns-in_err-write_file-clau
 returns-in_err-write_file-clause-fault g c =
     let e = c.parts-parts.ensures in
     let b = breaks_are _ _ _ _ (image_is c.args.linkage.now c.parts-parts.result.now c.table.result e.parts e.listed c.table.ensures) (breaks_on _ _ _ (tables_in c.args.linkage.now) c.in_err-write_file.ensures.breaks) in
-    device_fault _ _ _ _ _ c.from_residual-in_err-write_file.result
-    (err_from_is_err_and c.from_residual-in_err-write_file.result c.from_residual-in_err-write_file.ensures.1)
-    (took_part _ _ _ c.in_ok-buffer.ensures b) b.failed
+    part_fault _ _ _ _ (err_from_is_err_and c.from_residual-in_err-write_file.result c.from_residual-in_err-write_file.ensures.1) c.in_ok-buffer.ensures b
 
 pub returns-in_err-write_tables-clause-fault : goal.returns-in_err-write_tables-clause-fault
 returns-in_err-write_tables-clause-fault g c =
     let e = c.parts-parts.ensures in
     let b = breaks_are _ _ _ _ (image_is c.args.linkage.now c.parts-parts.result.now c.table.result e.parts e.listed c.table.ensures)
     (breaks_then _ _ _ _ _ c.in_ok-write_file.ensures.grows c.in_err-write_tables.ensures.breaks) in
-    device_fault _ _ _ _ _ c.from_residual-in_err-write_tables.result
-    (err_from_is_err_and c.from_residual-in_err-write_tables.result c.from_residual-in_err-write_tables.ensures.1)
-    (took_part _ _ _ c.in_ok-buffer.ensures b) b.failed
+    part_fault _ _ _ _ (err_from_is_err_and c.from_residual-in_err-write_tables.result c.from_residual-in_err-write_tables.ensures.1) c.in_ok-buffer.ensures b
 
 pub returns-in_err-flush-clause-fault : goal.returns-in_err-flush-clause-fault
 returns-in_err-flush-clause-fault g c =
     let e = c.parts-parts.ensures in
     let b = breaks_are _ _ _ _ (image_is c.args.linkage.now c.parts-parts.result.now c.table.result e.parts e.listed c.table.ensures)
     (breaks_between _ _ _ _ (grows_then _ _ _ _ _ c.in_ok-write_file.ensures.grows c.in_ok-write_tables.ensures.grows) c.in_err-flush.ensures.puts.breaks) in
-    device_fault _ _ _ _ _ c.from_residual-in_err-flush.result
-    (err_from_is_err_and c.from_residual-in_err-flush.result c.from_residual-in_err-flush.ensures.1)
-    (took_part _ _ _ c.in_ok-buffer.ensures b) b.failed
+    part_fault _ _ _ _ (err_from_is_err_and c.from_residual-in_err-flush.result c.from_residual-in_err-flush.ensures.1) c.in_ok-buffer.ensures b
 
 pub returns-clause-written : goal.returns-clause-written
 returns-clause-written g c =

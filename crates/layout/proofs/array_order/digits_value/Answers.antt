@@ -5,25 +5,15 @@ use Rattle.layout.proofs.ArraySteps.{small_step}
 use Rattle.layout.proofs.array_order.digits_value.Goals as goal
 
 pub overflow_mul-value : goal.overflow_mul-value
-overflow_mul-value c =
-    let s = small_step c.args.digits.now c.loop-digit.digit-index c.requires.digits c.requires.short (omega arith) in
-    let more = s.more in
-    let small = s.small in
-    omega (arith, more, small)
+overflow_mul-value c = let s = small_step c.args.digits.now c.loop-digit.digit-index c.requires.digits c.requires.short (omega arith) in omega (arith, s.more, s.small)
 
 pub overflow_add-value : goal.overflow_add-value
-overflow_add-value c =
-    let s = small_step c.args.digits.now c.loop-digit.digit-index c.requires.digits c.requires.short (omega arith) in
-    let more = s.more in
-    let small = s.small in
-    omega (arith, more, small)
+overflow_add-value c = let s = small_step c.args.digits.now c.loop-digit.digit-index c.requires.digits c.requires.short (omega arith) in omega (arith, s.more, s.small)
 
 pub loop-digit-preserved : goal.loop-digit-preserved
 loop-digit-preserved c =
     let s = small_step c.args.digits.now c.loop-digit.digit-index c.requires.digits c.requires.short (omega arith) in
-    let more = s.more in
-    let is = c.loop-digit.invariant in
-    omega (arith, more, is)
+    omega (arith, s.more, c.loop-digit.invariant)
 
 pub returns : goal.returns
 returns c =

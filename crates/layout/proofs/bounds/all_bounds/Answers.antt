@@ -1,13 +1,11 @@
-use Rattle.std.proofs.Common.{rules, ◌≡◌, ◌∙◌, ◌+◌, ◌<◌, ◌≤◌, Bool, ℕ, List, [], ap, arith, drop, get_or, length, map, max, refl, sym}
+use Rattle.std.proofs.Common.{rules, ◌≡◌, ◌∙◌, List, [], ap, arith, max, refl, sym}
 use Rattle.std.specs.Prelude.{Option, filter, option_map}
 use Rattle.std.specs.Option.{option_map_or}
 use Rattle.std.proofs.lemmas.List.{drop_all}
 use Rattle.elf_model.specs.LinkerValues.{end_of_pieces, is_code_piece, is_file_data, is_loaded_piece, is_zero_data, start_of_pieces}
-use Rattle.elf_model.specs.Pieces as pieces
 use Rattle.elf_model.specs.Pieces.{is_of_output}
 use Rattle.elf_model.specs.Placement.{Placed}
 use Rattle.elf_model.proofs.Listed.{All-unmap}
-use Rattle.elf_model.proofs.PieceBounds as bounds
 use Rattle.elf_model.proofs.PieceBounds.{either_least, either_none}
 use Rattle.layout.specs.Limits.{IsInLimit}
 use Rattle.layout.specs.PieceParts.{end_with, is_other, start_with}
@@ -15,6 +13,7 @@ use Rattle.layout.specs.PlaceViews.{place_view, place_views}
 use Rattle.layout.specs.declared.bounds.Extent.{Extent}
 use Rattle.layout.specs.declared.runs.Place.{Place}
 use Rattle.layout.proofs.OtherPlaces.{end_more, none_more, passing, start_more}
+use Rattle.layout.proofs.PlaceSteps.{end_step, start_step, whole_end, whole_start}
 use Rattle.layout.proofs.bounds.all_bounds.Goals as goal
 
 pub parts_with-parts-requires : goal.parts_with-parts-requires
@@ -26,28 +25,12 @@ taken-requires c = All-unmap IsInLimit place_view c.args.places.now c.requires c
 pub loop-place-init : goal.loop-place-init
 loop-place-init c = record { code = omega arith; data_ = omega arith; image = omega arith; zeros = refl; starts = λ n. search rules; ends = λ n. search rules }
 
--- the end and the beginning of a part with one more place
-end_step :
-    (test : pieces.Piece → Bool) (xs : List Place) (i : ℕ) (d : Place) (old new whole : ℕ) → i < length xs →
-    new ≡ bounds.further test old (place_view (get_or xs i d)) → max old (end_of_pieces test (map place_view (drop i xs))) ≡ whole →
-    max new (end_of_pieces test (map place_view (drop (i + 1) xs))) ≡ whole
-end_step test xs i d old new whole within is so_far =
-    ap (λ x. max x (end_of_pieces test (map place_view (drop (i + 1) xs)))) is ∙ bounds.end_more place_view test xs i d old within ∙ so_far
-
-start_step :
-    (test : pieces.Piece → Bool) (xs : List Place) (i : ℕ) (d : Place) (old new whole : Option ℕ) → i < length xs →
-    new ≡ bounds.earlier test old (place_view (get_or xs i d)) → either_least old (start_of_pieces test (map place_view (drop i xs))) ≡ whole →
-    either_least new (start_of_pieces test (map place_view (drop (i + 1) xs))) ≡ whole
-start_step test xs i d old new whole within is so_far =
-    ap (λ (o : Option ℕ). either_least o (start_of_pieces test (map place_view (drop (i + 1) xs)))) is ∙ bounds.start_more place_view test xs i d old within ∙ so_far
-
 pub loop-place-preserved-then-not-is_other : goal.loop-place-preserved-then-not-is_other
 loop-place-preserved-then-not-is_other c =
     let xs = c.args.places.now in
     let i = c.loop-place.place-index in
     let inside = c.loop-place-test.true in
-    let same = none_more (is_other c.args.got) xs i _ inside (sym c.is_other.ensures ∙ c.if-not-is_other.true) in
-    record {
+    let same = none_more (is_other c.args.got) xs i _ inside (sym c.is_other.ensures ∙ c.if-not-is_other.true) in record {
       code = end_step is_code_piece xs i _ c.loop-place.parts.code_end _ _ inside c.parts_with-parts.ensures.code c.loop-place.invariant.code;
       data_ = end_step is_file_data xs i _ c.loop-place.parts.data_end _ _ inside c.parts_with-parts.ensures.file_data c.loop-place.invariant.data_;
       image = end_step is_loaded_piece xs i _ c.loop-place.parts.image_end _ _ inside c.parts_with-parts.ensures.image c.loop-place.invariant.image;
@@ -65,8 +48,7 @@ loop-place-preserved c =
     let xs = c.args.places.now in
     let i = c.loop-place.place-index in
     let inside = c.loop-place-test.true in
-    let passes = sym c.is_other.ensures ∙ c.if-not-is_other.false in
-    record {
+    let passes = sym c.is_other.ensures ∙ c.if-not-is_other.false in record {
       code = end_step is_code_piece xs i _ c.loop-place.parts.code_end _ _ inside c.parts_with-parts.ensures.code c.loop-place.invariant.code;
       data_ = end_step is_file_data xs i _ c.loop-place.parts.data_end _ _ inside c.parts_with-parts.ensures.file_data c.loop-place.invariant.data_;
       image = end_step is_loaded_piece xs i _ c.loop-place.parts.image_end _ _ inside c.parts_with-parts.ensures.image c.loop-place.invariant.image;
@@ -78,12 +60,6 @@ loop-place-preserved c =
           end_more (is_other c.args.got) xs i _ inside (is_of_output n) (end_with c.loop-place.last c.loop-place.outputs n) _ _
           passes (c.in_ok-next.ensures.end n) (c.loop-place.invariant.ends n);
     }
-
-whole_end : (test : pieces.Piece → Bool) (x : ℕ) (xs : List Place) (i : ℕ) → length xs ≤ i → max x (end_of_pieces test (map place_view (drop i xs))) ≡ x
-whole_end test x xs i behind =
-    let none = ap (λ (ys : List Place). max x (end_of_pieces test (map place_view ys))) (drop_all i xs behind) in
-    let zero : max x 0 ≡ x = omega arith in
-    none ∙ zero
 
 pub returns-clause-code : goal.returns-clause-code
 returns-clause-code c =
@@ -99,8 +75,7 @@ returns-clause-image c =
 
 pub returns-clause-zeros : goal.returns-clause-zeros
 returns-clause-zeros c =
-    let none = ap (λ (xs : List Place). either_least c.loop-place.parts.zero_start (start_of_pieces is_zero_data (map place_view xs))) (drop_all c.loop-place.place-index c.args.places.now (omega (arith, c.loop-place-test.false))) in
-    sym (none ∙ either_none c.loop-place.parts.zero_start) ∙ c.loop-place.invariant.zeros
+    sym (whole_start is_zero_data c.loop-place.parts.zero_start c.args.places.now c.loop-place.place-index (omega (arith, c.loop-place-test.false))) ∙ c.loop-place.invariant.zeros
 
 pub returns-clause-outputs : goal.returns-clause-outputs
 returns-clause-outputs c =

@@ -6,7 +6,8 @@ use Rattle.elf_model.specs.OwnLayout.{leaders}
 use Rattle.elf_model.specs.Pieces as pieces
 use Rattle.layout.specs.Groups.{group_views, put_at}
 use Rattle.layout.specs.Views.{piece_view, piece_views}
-use Rattle.layout.proofs.GroupSteps.{empties, groups_more, no_piece, number_within, sections_count}
+use Rattle.layout.proofs.GroupSteps.{empties, groups_more, number_within, sections_count}
+use Rattle.layout.proofs.RunSteps.{no_piece}
 use Rattle.layout.proofs.output_sections.groups_of.Goals as goal
 
 pub loop-k-init : goal.loop-k-init

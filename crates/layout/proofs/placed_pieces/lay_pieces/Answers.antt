@@ -42,11 +42,10 @@ returns-in_err-code-clause-fault c =
 pub lay_writable-requires-clause-start : goal.lay_writable-requires-clause-start
 lay_writable-requires-clause-start c =
     let os = objects_of c.args.order.now in
-    let r : borrowed_views c.deref.result.now ≡ read_only_pieces os = ap borrowed_views c.deref.ensures.value ∙ c.requires.order.read_only in
     let t : borrowed_views c.deref-2.result.now ≡ code_pieces os = ap borrowed_views c.deref-2.ensures.value ∙ c.requires.order.code in
     let cs : c.page_up-code_start.result ≡ code_start c.args.base os =
     code_from c.args.base os c.args.headers_end c.in_ok-read_only.read_only.end c.page_up-code_start.result (borrowed_views c.deref.result.now)
-    c.requires.start r c.in_ok-read_only.ensures.end c.page_up-code_start.ensures.page in
+    c.requires.start (ap borrowed_views c.deref.ensures.value ∙ c.requires.order.read_only) c.in_ok-read_only.ensures.end c.page_up-code_start.ensures.page in
     data_from c.args.base os c.page_up-code_start.result c.in_ok-code.code.end c.page_up-data_start.result (borrowed_views c.deref-2.result.now)
     cs t c.in_ok-code.ensures.end c.page_up-data_start.ensures.page
 

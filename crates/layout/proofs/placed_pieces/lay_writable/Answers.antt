@@ -66,8 +66,7 @@ place_run-requires-2-clause-aligned c =
 pub returns-in_err-place_run-clause-fault : goal.returns-in_err-place_run-clause-fault
 returns-in_err-place_run-clause-fault c =
     let os = objects_of c.args.order.now in
-    let runs = placed_runs c.args.base os c.args.start c.args.order.now.thread_align c.round_up-thread_start.result c.in_ok-thread_end.thread_end c.plain_start-from.result
-    c.deref.result.now c.deref-2.result.now c.deref-3.result.now _ _ c.requires.start c.requires.order.thread_align c.round_up-thread_start.ensures.multiple c.deref.ensures.value
+    let runs = placed_runs c.args.base os _ _ _ _ _ _ _ _ _ _ c.requires.start c.requires.order.thread_align c.round_up-thread_start.ensures.multiple c.deref.ensures.value
     c.deref-2.ensures.value c.deref-3.ensures.value c.requires.order.initial c.requires.order.data_ c.in_ok-thread_end.ensures.end c.plain_start-from.ensures in
     let p = err_from_is_err_and c.from_residual-in_err-place_run.result c.from_residual-in_err-place_run.ensures.1 in
     rw (p.1, p.2) (plain_fails c.args.base os _ _ _ _ _ runs c.in_err-place_run.field-0.0 c.in_err-place_run.ensures.fault)
@@ -83,8 +82,7 @@ split_at-requires c =
 pub segment_of-requires-clause-limit : goal.segment_of-requires-clause-limit
 segment_of-requires-clause-limit c =
     let os = objects_of c.args.order.now in
-    let runs = placed_runs c.args.base os c.args.start c.args.order.now.thread_align c.round_up-thread_start.result c.in_ok-thread_end.thread_end c.plain_start-from.result
-    c.deref.result.now c.deref-2.result.now c.deref-3.result.now _ _ c.requires.start c.requires.order.thread_align c.round_up-thread_start.ensures.multiple c.deref.ensures.value
+    let runs = placed_runs c.args.base os _ _ _ _ _ _ _ _ _ _ c.requires.start c.requires.order.thread_align c.round_up-thread_start.ensures.multiple c.deref.ensures.value
     c.deref-2.ensures.value c.deref-3.ensures.value c.requires.order.initial c.requires.order.data_ c.in_ok-thread_end.ensures.end c.plain_start-from.ensures in
     let placed : place_views c.place_run-2.new.out.items ≡ place_views c.args.out.now.items ++ own_data c.args.base os =
     data_placed c.args.base os _ _ _ _ _ runs (place_views c.args.out.now.items) (place_views c.place_run.new.out.items) (place_views c.place_run-2.new.out.items)
@@ -97,8 +95,7 @@ segment_of-requires-clause-limit c =
 pub returns-clause-placed : goal.returns-clause-placed
 returns-clause-placed c =
     let os = objects_of c.args.order.now in
-    let runs = placed_runs c.args.base os c.args.start c.args.order.now.thread_align c.round_up-thread_start.result c.in_ok-thread_end.thread_end c.plain_start-from.result
-    c.deref.result.now c.deref-2.result.now c.deref-3.result.now _ _ c.requires.start c.requires.order.thread_align c.round_up-thread_start.ensures.multiple c.deref.ensures.value
+    let runs = placed_runs c.args.base os _ _ _ _ _ _ _ _ _ _ c.requires.start c.requires.order.thread_align c.round_up-thread_start.ensures.multiple c.deref.ensures.value
     c.deref-2.ensures.value c.deref-3.ensures.value c.requires.order.initial c.requires.order.data_ c.in_ok-thread_end.ensures.end c.plain_start-from.ensures in
     data_placed c.args.base os _ _ _ _ _ runs (place_views c.args.out.now.items) (place_views c.place_run.new.out.items) (place_views c.place_run-2.new.out.items)
     c.in_ok-thread_end.ensures.placed c.in_ok-place_run.ensures.placed
@@ -114,22 +111,14 @@ returns-clause-low c =
 
 pub returns-clause-segment : goal.returns-clause-segment
 returns-clause-segment c =
-    let os = objects_of c.args.order.now in
-    let runs = placed_runs c.args.base os c.args.start c.args.order.now.thread_align c.round_up-thread_start.result c.in_ok-thread_end.thread_end c.plain_start-from.result
-    c.deref.result.now c.deref-2.result.now c.deref-3.result.now _ _ c.requires.start c.requires.order.thread_align c.round_up-thread_start.ensures.multiple c.deref.ensures.value
-    c.deref-2.ensures.value c.deref-3.ensures.value c.requires.order.initial c.requires.order.data_ c.in_ok-thread_end.ensures.end c.plain_start-from.ensures in
-    let placed : place_views c.place_run-2.new.out.items ≡ place_views c.args.out.now.items ++ own_data c.args.base os =
-    data_placed c.args.base os _ _ _ _ _ runs (place_views c.args.out.now.items) (place_views c.place_run.new.out.items) (place_views c.place_run-2.new.out.items)
-    c.in_ok-thread_end.ensures.placed c.in_ok-place_run.ensures.placed in
-    let same : place_views c.split_at.result.1.now ≡ own_data c.args.base os =
+    let same : place_views c.split_at.result.1.now ≡ own_data c.args.base (objects_of c.args.order.now) =
     ap place_views (c.split_at.ensures.back ∙ ap (drop c.len-before.result) c.deref-4.ensures.value)
-    ∙ run_behind c.args.out.now.items c.place_run-2.new.out.items c.len-before.result _ (search rules) placed in
+    ∙ run_behind c.args.out.now.items c.place_run-2.new.out.items c.len-before.result _ (search rules) (returns-clause-placed c) in
     c.segment_of.ensures ∙ ap (segment c.args.base 6 c.args.start c.args.start) same
 
 pub returns-clause-limit : goal.returns-clause-limit
 returns-clause-limit c =
     let os = objects_of c.args.order.now in
-    let runs = placed_runs c.args.base os c.args.start c.args.order.now.thread_align c.round_up-thread_start.result c.in_ok-thread_end.thread_end c.plain_start-from.result
-    c.deref.result.now c.deref-2.result.now c.deref-3.result.now _ _ c.requires.start c.requires.order.thread_align c.round_up-thread_start.ensures.multiple c.deref.ensures.value
+    let runs = placed_runs c.args.base os _ _ _ _ _ _ _ _ _ _ c.requires.start c.requires.order.thread_align c.round_up-thread_start.ensures.multiple c.deref.ensures.value
     c.deref-2.ensures.value c.deref-3.ensures.value c.requires.order.initial c.requires.order.data_ c.in_ok-thread_end.ensures.end c.plain_start-from.ensures in
     data_limit c.args.base os _ _ _ _ _ runs c.in_ok-thread_end.ensures.limit c.in_ok-place_run.ensures.limit

@@ -31,32 +31,28 @@ returns-in_err-turn-clause-fault g c =
     let p = err_from_is_err_and c.from_residual-in_err-turn.result c.from_residual-in_err-turn.ensures.1 in
     let plan = c.args.loader.now.plan.now in
     let xs = c.args.inputs.now in
-    let i = c.in-Some.i in
-    let x = c.index-inputs-i.result in
     let os = loaded c.loop-i.loader in
     let end = round plan xs (loaded c.args.loader.now) in
-    let to = skipped_to c.loop-i.loader plan xs c.loop-i.from c.in_ok-i.field-0 i c.loop-i.invariant.later.plan c.in-Some.is c.in_ok-i.ensures.within c.in_ok-i.ensures.idle in
+    let to = skipped_to c.loop-i.loader plan xs c.loop-i.from c.in_ok-i.field-0 c.in-Some.i c.loop-i.invariant.later.plan c.in-Some.is c.in_ok-i.ensures.within c.in_ok-i.ensures.idle in
     rw (p.1, p.2)
-    (fails_later c.turn.new.loader.reached (turn plan x os) end c.in_err-turn.field-0.0 (round_later plan xs i x os end to.0 c.index-inputs-i.is (sym to.1 ∙ c.loop-i.invariant.rest))
-    (subst (λ (q : Plan). FailsOn c.turn.new.loader.reached (turn q x os) c.in_err-turn.field-0.0) c.loop-i.invariant.later.plan c.in_err-turn.ensures.fault))
+    (fails_later c.turn.new.loader.reached (turn plan c.index-inputs-i.result os) end c.in_err-turn.field-0.0 (round_later plan xs c.in-Some.i c.index-inputs-i.result os end to.0 c.index-inputs-i.is (sym to.1 ∙ c.loop-i.invariant.rest))
+    (subst (λ (q : Plan). FailsOn c.turn.new.loader.reached (turn q c.index-inputs-i.result os) c.in_err-turn.field-0.0) c.loop-i.invariant.later.plan c.in_err-turn.ensures.fault))
 
 pub loop-i-preserved : goal.loop-i-preserved
 loop-i-preserved g c =
     let plan = c.args.loader.now.plan.now in
     let xs = c.args.inputs.now in
-    let i = c.in-Some.i in
-    let x = c.index-inputs-i.result in
     let os = loaded c.loop-i.loader in
     let end = round plan xs (loaded c.args.loader.now) in
-    let to = skipped_to c.loop-i.loader plan xs c.loop-i.from c.in_ok-i.field-0 i c.loop-i.invariant.later.plan c.in-Some.is c.in_ok-i.ensures.within c.in_ok-i.ensures.idle in
+    let to = skipped_to c.loop-i.loader plan xs c.loop-i.from c.in_ok-i.field-0 c.in-Some.i c.loop-i.invariant.later.plan c.in-Some.is c.in_ok-i.ensures.within c.in_ok-i.ensures.idle in
     let high = to.0 in record {
       later = is_later_trans c.args.loader.now c.loop-i.loader c.turn.new.loader c.loop-i.invariant.later c.in_ok-turn.ensures.later;
       known = c.in_ok-turn.ensures.known;
       covers = c.in_ok-turn.ensures.covers;
       within = omega (arith, high);
       rest =
-          round_step plan xs i x os end to.0 c.index-inputs-i.is (sym to.1 ∙ c.loop-i.invariant.rest) (loaded c.turn.new.loader)
-          (c.in_ok-turn.ensures.loaded ∙ ap (λ (q : Plan). turn q x os) c.loop-i.invariant.later.plan);
+          round_step plan xs c.in-Some.i c.index-inputs-i.result os end to.0 c.index-inputs-i.is (sym to.1 ∙ c.loop-i.invariant.rest) (loaded c.turn.new.loader)
+          (c.in_ok-turn.ensures.loaded ∙ ap (λ (q : Plan). turn q c.index-inputs-i.result os) c.loop-i.invariant.later.plan);
     }
 
 pub returns-clause-loaded : goal.returns-clause-loaded

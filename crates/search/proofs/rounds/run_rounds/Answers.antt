@@ -1,5 +1,4 @@
 use Rattle.std.proofs.Common.{◌≡◌, ◌∙◌, ◌<◌, List, ap, sym, subst}
-use Rattle.std.specs.Prelude.{◌≢◌}
 use Rattle.std.proofs.lemmas.Result.{err_from_is_err_and}
 use Rattle.elf_model.specs.Command.{Plan}
 use Rattle.elf_model.specs.Loading.{LoadedObject, round, rounds}
@@ -35,26 +34,20 @@ returns-then-count-before-clause-loaded g c =
 
 pub loop-waits-smaller : goal.loop-waits-smaller
 loop-waits-smaller g c =
-    let plan = c.args.loader.now.plan.now in
     let os = loaded c.loop-waits.loader in
-    let inputs = c.args.inputs.now in
-    let is : loaded c.run_round.new.loader ≡ round plan inputs os = c.in_ok-run_round.ensures.loaded ∙ ap (λ (q : Plan). round q inputs os) c.loop-waits.invariant.later.plan in
-    let some : loaded c.run_round.new.loader ≢ os =
-    took_some os (loaded c.run_round.new.loader) (λ same. c.if-count-before.false (c.count.ensures ∙ (same ∙ sym c.count-before.ensures))) in
-    subst (λ (to : List LoadedObject). left_of_all inputs to < left_of_all inputs os) (sym is) (rounds_less plan inputs os (λ same. some (is ∙ same)))
+    let is : loaded c.run_round.new.loader ≡ round c.args.loader.now.plan.now c.args.inputs.now os = c.in_ok-run_round.ensures.loaded ∙ ap (λ (q : Plan). round q c.args.inputs.now os) c.loop-waits.invariant.later.plan in
+    let some = took_some os (loaded c.run_round.new.loader) (λ same. c.if-count-before.false (c.count.ensures ∙ (same ∙ sym c.count-before.ensures))) in
+    subst (λ (to : List LoadedObject). left_of_all c.args.inputs.now to < left_of_all c.args.inputs.now os) (sym is) (rounds_less c.args.loader.now.plan.now c.args.inputs.now os (λ same. some (is ∙ same)))
 
 pub loop-waits-preserved : goal.loop-waits-preserved
 loop-waits-preserved g c =
-    let plan = c.args.loader.now.plan.now in
     let os = loaded c.loop-waits.loader in
-    let inputs = c.args.inputs.now in
-    let is : loaded c.run_round.new.loader ≡ round plan inputs os = c.in_ok-run_round.ensures.loaded ∙ ap (λ (q : Plan). round q inputs os) c.loop-waits.invariant.later.plan in
-    let some : loaded c.run_round.new.loader ≢ os =
-    took_some os (loaded c.run_round.new.loader) (λ same. c.if-count-before.false (c.count.ensures ∙ (same ∙ sym c.count-before.ensures))) in record {
+    let is : loaded c.run_round.new.loader ≡ round c.args.loader.now.plan.now c.args.inputs.now os = c.in_ok-run_round.ensures.loaded ∙ ap (λ (q : Plan). round q c.args.inputs.now os) c.loop-waits.invariant.later.plan in
+    let some = took_some os (loaded c.run_round.new.loader) (λ same. c.if-count-before.false (c.count.ensures ∙ (same ∙ sym c.count-before.ensures))) in record {
       later = is_later_trans c.args.loader.now c.loop-waits.loader c.run_round.new.loader c.loop-waits.invariant.later c.in_ok-run_round.ensures.later;
       known = c.in_ok-run_round.ensures.known;
       covers = c.in_ok-run_round.ensures.covers;
-      rest = ap (rounds plan inputs) is ∙ (rounds_more plan inputs os (λ same. some (is ∙ same)) ∙ c.loop-waits.invariant.rest);
+      rest = ap (rounds c.args.loader.now.plan.now c.args.inputs.now) is ∙ (rounds_more c.args.loader.now.plan.now c.args.inputs.now os (λ same. some (is ∙ same)) ∙ c.loop-waits.invariant.rest);
     }
 
 pub returns-then-count-before-clause-later : goal.returns-then-count-before-clause-later

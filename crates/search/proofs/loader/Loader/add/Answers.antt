@@ -26,9 +26,8 @@ returns-clause-loaded g c =
     let os = loaded c.args.self.now in
     let bytes = c.args.bytes.now in
     let gone = lost os c.args.self.now.groups bytes c.in_ok-object.object c.in-Ok.dropped c.requires.seen c.in_ok-object.ensures.exact c.in-Ok.ensures.dropped in
-    let o = item_view c.args.item.now in
-    pushed c.args.self.now.objects.items c.push.new.self.items _ os o c.args.offset bytes refl c.in_ok-push.ensures.items
-    (object_is os o c.args.offset bytes c.in_ok-object.object c.in-Ok.dropped c.in_ok-object.ensures.exact gone)
+    pushed c.args.self.now.objects.items c.push.new.self.items _ os (item_view c.args.item.now) c.args.offset bytes refl c.in_ok-push.ensures.items
+    (object_is os (item_view c.args.item.now) c.args.offset bytes c.in_ok-object.object c.in-Ok.dropped c.in_ok-object.ensures.exact gone)
 
 pub returns-clause-known : goal.returns-clause-known
 returns-clause-known g c =

@@ -1,6 +1,6 @@
 //! What a plan of an object and of an archive that holds it loads, as the checker does it, by order and by hash.
-use crate::objects::start_object;
-use crate::words::words;
+use crate::tests::objects::start_object;
+use crate::tests::words::words;
 use check_load::{Loaded, open};
 use command::read_words;
 use elf_model::{CmdFault, InputFile, NameSeed};

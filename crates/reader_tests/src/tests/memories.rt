@@ -1,27 +1,22 @@
 //! Memory as an image's segments make it.
+use crate::tests::objects::HEADER as OBJECT_HEADER;
 use byteview::View;
-use elf_model::{
-    EM_X86_64, ET_EXEC, ET_REL, FileHeader, PT_GNU_STACK, PT_LOAD, PT_TLS, ProgramHeader,
-};
+use elf_model::{ET_EXEC, ET_REL, FileHeader, PT_GNU_STACK, PT_LOAD, PT_TLS, ProgramHeader};
 use loader_model::{Memory, Rights};
 use std::alloc::{AllocError, Global};
 use std::test::Fail;
 
+/// The header of an image with two program headers.
 const HEADER: FileHeader = FileHeader {
-    e_ident: [0x7f, b'E', b'L', b'F', 2, 1, 1, 0, 0, 0, 0, 0, 0, 0, 0, 0],
     e_type: ET_EXEC,
-    e_machine: EM_X86_64,
-    e_version: 1,
     e_entry: 0x40_0000,
     e_phoff: 64,
     e_shoff: 0,
-    e_flags: 0,
-    e_ehsize: 64,
     e_phentsize: 56,
     e_phnum: 2,
-    e_shentsize: 64,
     e_shnum: 0,
     e_shstrndx: 0,
+    ..OBJECT_HEADER
 };
 
 /// 176 bytes of the file, then 24 zeros.

@@ -1,4 +1,5 @@
 //! Records of ELF files, the texts of faults, and what becomes of refused memory.
+use crate::tests::objects::HEADER;
 use byteview::View;
 use elf_model::{
     ArFault, CmdFault, FileHeader, GroupFault, LinkError, LoadFault, MapFault, ObjFault, PF_R,
@@ -37,24 +38,7 @@ static SYMBOLS: [u8; 64] = [
 #[test]
 fn a_file_header_is_read_and_written(rt: HostRuntime) -> Result<(), Fail> {
     let header = FileHeader::read(View::new(&OBJECT)).ok_or("64 bytes")?;
-    let ident = [0x7f, b'E', b'L', b'F', 2, 1, 1, 0, 0, 0, 0, 0, 0, 0, 0, 0];
-    let wanted = FileHeader {
-        e_ident: ident,
-        e_type: 1,
-        e_machine: 62,
-        e_version: 1,
-        e_entry: 0,
-        e_phoff: 0,
-        e_shoff: 176,
-        e_flags: 0,
-        e_ehsize: 64,
-        e_phentsize: 0,
-        e_phnum: 0,
-        e_shentsize: 64,
-        e_shnum: 5,
-        e_shstrndx: 4,
-    };
-    assert_eq!(rt; header, wanted);
+    assert_eq!(rt; header, HEADER);
     let mut out = [0; 64];
     header.write_to(&mut out);
     assert_eq!(rt; out, OBJECT);
@@ -82,21 +66,18 @@ fn a_section_header_is_read_and_written(rt: HostRuntime) -> Result<(), Fail> {
     header.write_to(&mut out);
     assert_eq!(rt; out, SYMBOLS);
     assert_eq!(rt; SectionHeader::read(View::new(&SYMBOLS[1..])), None);
+    let null = SectionHeader::read(View::new(&[0; 64]));
+    assert_eq!(rt; null, Some(SectionHeader::NULL));
     Ok(())
 }
 
 fn section_of(sh_type: u32, sh_flags: u64) -> SectionHeader {
     SectionHeader {
-        sh_name: 0,
         sh_type,
         sh_flags,
-        sh_addr: 0,
-        sh_offset: 0,
         sh_size: 1,
-        sh_link: 0,
-        sh_info: 0,
         sh_addralign: 1,
-        sh_entsize: 0,
+        ..SectionHeader::NULL
     }
 }
 
@@ -151,6 +132,8 @@ fn a_symbol_is_read_and_written(rt: HostRuntime) -> Result<(), Fail> {
     start.write_to(&mut out);
     assert_eq!(rt; out, START);
     assert_eq!(rt; Symbol::read(View::new(&START[1..])), None);
+    let null = Symbol::read(View::new(&[0; 24]));
+    assert_eq!(rt; null, Some(Symbol::NULL));
     Ok(())
 }
 

@@ -1,25 +1,12 @@
 //! Objects as they are read.
 use byteview::View;
 use elf_model::{
-    EM_X86_64, ET_REL, FileHeader, Rela, SHF_ALLOC, SHF_EXECINSTR, SHT_NOBITS, SHT_NULL,
-    SHT_PROGBITS, SHT_REL, SHT_RELA, SHT_STRTAB, SHT_SYMTAB, SectionHeader, Symbol,
+    FileHeader, Rela, SHF_ALLOC, SHF_EXECINSTR, SHT_NOBITS, SHT_PROGBITS, SHT_REL, SHT_RELA,
+    SHT_STRTAB, SHT_SYMTAB, SectionHeader, Symbol,
 };
 use elf_read::{Object, ObjectFile};
 use std::alloc::{AllocError, Global};
 use std::test::Fail;
-
-pub const NULL_SECTION: SectionHeader = SectionHeader {
-    sh_name: 0,
-    sh_type: SHT_NULL,
-    sh_flags: 0,
-    sh_addr: 0,
-    sh_offset: 0,
-    sh_size: 0,
-    sh_link: 0,
-    sh_info: 0,
-    sh_addralign: 0,
-    sh_entsize: 0,
-};
 
 static TEXT: [u8; 9] = [0xb8, 0x3c, 0, 0, 0, 0x31, 0xff, 0x0f, 0x05];
 
@@ -32,13 +19,15 @@ const SYMTAB: SectionHeader = SectionHeader {
     sh_info: 1,
     sh_addralign: 8,
     sh_entsize: 24,
-    ..NULL_SECTION
+    ..SectionHeader::NULL
 };
 
-const HEADER: FileHeader = FileHeader {
+/// The header of the object of `_start`: ET_REL and EM_X86_64 by their numbers, five section headers at 176, of which the
+/// last names them.
+pub const HEADER: FileHeader = FileHeader {
     e_ident: [0x7f, b'E', b'L', b'F', 2, 1, 1, 0, 0, 0, 0, 0, 0, 0, 0, 0],
-    e_type: ET_REL,
-    e_machine: EM_X86_64,
+    e_type: 1,
+    e_machine: 62,
     e_version: 1,
     e_entry: 0,
     e_phoff: 0,
@@ -52,22 +41,13 @@ const HEADER: FileHeader = FileHeader {
     e_shstrndx: 4,
 };
 
-pub const NULL_SYMBOL: Symbol = Symbol {
-    st_name: 0,
-    st_info: 0,
-    st_other: 0,
-    st_shndx: 0,
-    st_value: 0,
-    st_size: 0,
-};
-
-const START: Symbol = Symbol {
+/// A function in section 1 whose name is the first of its string table.
+pub const START: Symbol = Symbol {
     st_name: 1,
     st_info: 0x12,
-    st_other: 0,
     st_shndx: 1,
-    st_value: 0,
     st_size: 9,
+    ..Symbol::NULL
 };
 
 const TEXT_SECTION: SectionHeader = SectionHeader {
@@ -77,7 +57,7 @@ const TEXT_SECTION: SectionHeader = SectionHeader {
     sh_offset: 64,
     sh_size: 9,
     sh_addralign: 1,
-    ..NULL_SECTION
+    ..SectionHeader::NULL
 };
 
 // The relocations of `.text`, one entry behind a table of six sections.
@@ -89,7 +69,7 @@ const RELOCATIONS: SectionHeader = SectionHeader {
     sh_info: 1,
     sh_addralign: 8,
     sh_entsize: 24,
-    ..NULL_SECTION
+    ..SectionHeader::NULL
 };
 
 // R_X86_64_PLT32 against symbol 1.
@@ -121,7 +101,7 @@ fn object_of(
     bytes.extend_from_slice(b"\0_start\0")?;
     bytes.extend_from_slice(b"\0.text\0.symtab\0.strtab\0.shstrtab\0")?;
     bytes.extend_from_slice(&[0; 7])?;
-    put_section(&mut bytes, &NULL_SECTION)?;
+    put_section(&mut bytes, &SectionHeader::NULL)?;
     put_section(&mut bytes, text)?;
     put_section(&mut bytes, &SYMTAB)?;
     put_section(&mut bytes, &strings(15, 128, 8))?;
@@ -161,7 +141,7 @@ fn strings(name: u32, offset: u64, size: u64) -> SectionHeader {
         sh_offset: offset,
         sh_size: size,
         sh_addralign: 1,
-        ..NULL_SECTION
+        ..SectionHeader::NULL
     }
 }
 
@@ -187,9 +167,9 @@ fn has_names(object: &Object<'_>) -> bool {
 /// Whether that object answers by number, where it has such a section or symbol and where it has none.
 fn answers_by_number(object: &ObjectFile<'_>) -> bool {
     object.section(1) == TEXT_SECTION
-        && object.section(5) == NULL_SECTION
+        && object.section(5) == SectionHeader::NULL
         && object.symbol(1) == START
-        && object.symbol(2) == NULL_SYMBOL
+        && object.symbol(2) == Symbol::NULL
         && object.symbol_name(1) == b"_start".as_slice()
         && object.symbol_name(2).is_empty()
 }
@@ -197,14 +177,14 @@ fn answers_by_number(object: &ObjectFile<'_>) -> bool {
 /// Whether that object has its tables, and its sections their bytes.
 fn has_tables(object: &Object<'_>) -> bool {
     let sections = [
-        NULL_SECTION,
+        SectionHeader::NULL,
         TEXT_SECTION,
         SYMTAB,
         strings(15, 128, 8),
         strings(23, 136, 33),
     ];
     object.sections() == sections.as_slice()
-        && object.symbols() == [NULL_SYMBOL, START].as_slice()
+        && object.symbols() == [Symbol::NULL, START].as_slice()
         && object.section_bytes(0).is_none()
         && object.section_bytes(1) == Some(TEXT.as_slice())
         && object.section_bytes(5).is_none()

@@ -1,30 +1,18 @@
 //! Groups of sections as they are read, and as they are admitted.
-use crate::objects::{NULL_SECTION, NULL_SYMBOL, outcome, put_section};
+use crate::tests::objects::{HEADER as OBJECT_HEADER, START as F, outcome, put_section};
 use byteview::View;
 use comdat::Groups;
 use elf_model::{
-    EM_X86_64, ET_REL, FileHeader, SHT_GROUP, SHT_PROGBITS, SHT_STRTAB, SHT_SYMTAB, SectionHeader,
-    Symbol,
+    FileHeader, SHT_GROUP, SHT_PROGBITS, SHT_STRTAB, SHT_SYMTAB, SectionHeader, Symbol,
 };
 use elf_read::ObjectFile;
 use std::alloc::{AllocError, Global};
 use std::test::Fail;
 
 const HEADER: FileHeader = FileHeader {
-    e_ident: [0x7f, b'E', b'L', b'F', 2, 1, 1, 0, 0, 0, 0, 0, 0, 0, 0, 0],
-    e_type: ET_REL,
-    e_machine: EM_X86_64,
-    e_version: 1,
-    e_entry: 0,
-    e_phoff: 0,
     e_shoff: 184,
-    e_flags: 0,
-    e_ehsize: 64,
-    e_phentsize: 0,
-    e_phnum: 0,
-    e_shentsize: 64,
     e_shnum: 7,
-    e_shstrndx: 4,
+    ..OBJECT_HEADER
 };
 
 /// Sections 1 and 2, which may be members.
@@ -32,7 +20,7 @@ const TEXT: SectionHeader = SectionHeader {
     sh_type: SHT_PROGBITS,
     sh_offset: 64,
     sh_size: 16,
-    ..NULL_SECTION
+    ..SectionHeader::NULL
 };
 
 /// Section 3, the null symbol, `f` and `g`; its sh_info is 0.
@@ -42,7 +30,7 @@ const SYMBOLS: SectionHeader = SectionHeader {
     sh_size: 72,
     sh_link: 4,
     sh_entsize: 24,
-    ..NULL_SECTION
+    ..SectionHeader::NULL
 };
 
 /// Section 4, the names of symbols and of sections.
@@ -50,7 +38,7 @@ const STRINGS: SectionHeader = SectionHeader {
     sh_type: SHT_STRTAB,
     sh_offset: 152,
     sh_size: 5,
-    ..NULL_SECTION
+    ..SectionHeader::NULL
 };
 
 /// A group of the signature `f`, which holds the first two words.
@@ -62,7 +50,7 @@ const GROUP_F: SectionHeader = SectionHeader {
     sh_info: 1,
     sh_addralign: 4,
     sh_entsize: 4,
-    ..NULL_SECTION
+    ..SectionHeader::NULL
 };
 
 /// The same, of the last three words.
@@ -82,15 +70,6 @@ const LATER_G: SectionHeader = SectionHeader {
 const NAMELESS: SectionHeader = SectionHeader {
     sh_info: 0,
     ..GROUP_F
-};
-
-const F: Symbol = Symbol {
-    st_name: 1,
-    st_info: 0x12,
-    st_other: 0,
-    st_shndx: 1,
-    st_value: 0,
-    st_size: 9,
 };
 
 const G: Symbol = Symbol {
@@ -120,7 +99,7 @@ fn contents_of(alloc: Global, words: &[u32]) -> Result<Vec<u8>, AllocError> {
     HEADER.write_to(&mut record);
     bytes.extend_from_slice(&record)?;
     bytes.extend_from_slice(&[0; 16])?;
-    put_symbol(&mut bytes, &NULL_SYMBOL)?;
+    put_symbol(&mut bytes, &Symbol::NULL)?;
     put_symbol(&mut bytes, &F)?;
     put_symbol(&mut bytes, &G)?;
     bytes.extend_from_slice(b"\0f\0g\0\0\0\0")?;
@@ -137,7 +116,7 @@ fn object_of(
     listing: &Listing,
 ) -> Result<Vec<u8>, AllocError> {
     let mut bytes = contents_of(alloc, &listing.words)?;
-    put_section(&mut bytes, &NULL_SECTION)?;
+    put_section(&mut bytes, &SectionHeader::NULL)?;
     put_section(&mut bytes, &TEXT)?;
     put_section(&mut bytes, &TEXT)?;
     put_section(&mut bytes, symbols)?;
@@ -243,7 +222,7 @@ fn good_group_sections_are_read(rt: HostRuntime) -> Result<(), Fail> {
     for (group, words, text) in &GROUP_SECTIONS {
         let listing = Listing {
             first: *group,
-            second: NULL_SECTION,
+            second: SectionHeader::NULL,
             words: [words[0], words[1], 0, 0, 0, 0],
         };
         let told = outcome_of(rt.alloc(), &SYMBOLS, &listing)?;
@@ -297,8 +276,8 @@ fn groups_are_told(rt: HostRuntime) -> Result<(), Fail> {
 
 /// No group, a COMDAT group of `f`, and one of `f` without flags.
 const NO_GROUP: Listing = Listing {
-    first: NULL_SECTION,
-    second: NULL_SECTION,
+    first: SectionHeader::NULL,
+    second: SectionHeader::NULL,
     words: [0; 6],
 };
 

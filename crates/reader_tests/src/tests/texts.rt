@@ -26,14 +26,6 @@ const WITH_TABLE: &[u8] = b"ldmap 2\n\
     symtab 4112 2\n\
     end\n";
 
-/// Version 1 has no line of a symbol table.
-const TABLE_IN_VERSION_1: &[u8] = b"ldmap 1\n\
-    object 0 0 0 a.o\n\
-    place 0000000000401000 9 0 1 .text\n\
-    symbol 0000000000401000 strong 0 1 _start\n\
-    symtab 4112 2\n\
-    end\n";
-
 /// One line of each kind of version 1, every form of a slot and of a symbol, escapes and an empty name.
 const EACH_KIND: &[u8] = b"ldmap 1\n\
     object 0 0 0 a.o\n\
@@ -50,19 +42,6 @@ const EACH_KIND: &[u8] = b"ldmap 1\n\
     symbol ffffffffffffffff linker _end\n\
     symbol 0000000000401000 strong 0 1 _start\n\
     symbol 00000000abcdef09 weak 1 4 f\n\
-    end\n";
-
-const SAME_PLACE_TWICE: &[u8] = b"ldmap 1\n\
-    object 0 0 0 a.o\n\
-    place 0000000000401000 9 0 1 .text\n\
-    place 0000000000401000 9 0 1 .text\n\
-    symbol 0000000000401000 strong 0 1 _start\n\
-    end\n";
-
-const ZERO_IN_FRONT: &[u8] = b"ldmap 1\n\
-    object 0 0 0 a.o\n\
-    place 0000000000401000 09 0 1 .text\n\
-    symbol 0000000000401000 strong 0 1 _start\n\
     end\n";
 
 fn reads_back(rt: &impl Abort, alloc: Global, bytes: &[u8]) -> Result<(), Fail> {
@@ -142,15 +121,12 @@ fn wrong_lines_are_found(rt: HostRuntime) -> Result<(), Fail> {
 
 /// Texts, how many of their bytes are there, and the line at which these are no beginning of a map: of the last two, the
 /// one lacks its last newline, the other its last line.
-static WRONG_TEXTS: [(&[u8], usize, u64); 15] = [
-    (SAME_PLACE_TWICE, usize::MAX, 4),
-    (ZERO_IN_FRONT, usize::MAX, 3),
+static WRONG_TEXTS: [(&[u8], usize, u64); 12] = [
     (b"", 0, 1),
     (b"ldmap 1\n", usize::MAX, 2),
     (b"ldmap 1\nend\n\n", usize::MAX, 3),
     (b"ldmap 3\nend\n", usize::MAX, 1),
     (b"ldmap 02\nend\n", usize::MAX, 1),
-    (TABLE_IN_VERSION_1, usize::MAX, 5),
     (b"ldmap 2\nsymtab x 2\nend\n", usize::MAX, 2),
     (b"ldmap 2\nsymtab 4112 x\nend\n", usize::MAX, 2),
     (
@@ -168,12 +144,33 @@ static WRONG_TEXTS: [(&[u8], usize, u64); 15] = [
     (ONE_OBJECT, 102, 5),
 ];
 
+/// Maps, texts in them, what stands in their first place, and the line at which that is no beginning of a map: a place
+/// twice, a zero before a number, and a symbol table in version 1.
+static WRONG_CHANGES: [(&[u8], &str, &str, u64); 3] = [
+    (ONE_OBJECT, "symbol", PLACE_AND_SYMBOL, 4),
+    (ONE_OBJECT, " 9 ", " 09 ", 3),
+    (WITH_TABLE, "ldmap 2", "ldmap 1", 5),
+];
+
+const PLACE_AND_SYMBOL: &str = "place 0000000000401000 9 0 1 .text\nsymbol";
+
+/// The line at which a map is none once a text in it is another.
+fn changed_line(alloc: Global, map: &[u8], old: &str, new: &str) -> Result<u64, Fail> {
+    let (front, rest) = str::from_utf8(map)?.split_once(old).ok_or("no such text")?;
+    let text = format!(in alloc; "{front}{new}{rest}")?;
+    Ok(wrong_line(alloc, text.as_bytes()))
+}
+
 #[test]
-fn finds_the_first_wrong_line(rt: HostRuntime) {
+fn finds_the_first_wrong_line(rt: HostRuntime) -> Result<(), Fail> {
     for (text, len, line) in WRONG_TEXTS {
         let found = wrong_line(rt.alloc(), View::new(text).part(0, len));
         assert_eq!(rt; found, line, "{len} of it");
     }
+    for (map, old, new, line) in &WRONG_CHANGES {
+        assert_eq!(rt; changed_line(rt.alloc(), map, old, new)?, *line, "{new}");
+    }
+    Ok(())
 }
 
 /// Names, and how a map spells them: short ones, and ones of 16 bytes and more, with what doesn't stand for itself at their

@@ -2,7 +2,7 @@ use Rattle.std.proofs.Common.{◌≡◌, ℕ, List, drop, map}
 use Rattle.std.specs.Borrow.{Bor}
 use Rattle.symbols.specs.Offers.{Offer, all_offered}
 use Rattle.symbols.specs.declared.candidate.Candidate.{Candidate}
-use Rattle.reader_tests.proofs.names.offer_all.Given as goal
+use Rattle.reader_tests.proofs.tests.names.offer_all.Given as goal
 
 abbrev pub offers_in : List (Bor (List ℕ) × Candidate) → List Offer
 offers_in offers = map (λ o. record { name = o.0.now; candidate = o.1 }) offers

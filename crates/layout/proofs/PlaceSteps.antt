@@ -1,0 +1,35 @@
+-- The end and the beginning of a part of the pieces that places have, with one more place, and behind the last one.
+use Rattle.std.proofs.Common.{◌≡◌, ◌∙◌, ◌+◌, ◌<◌, ◌≤◌, Bool, ℕ, List, ap, arith, drop, get_or, length, map, max}
+use Rattle.std.specs.Prelude.{Option}
+use Rattle.std.proofs.lemmas.List.{drop_all}
+use Rattle.elf_model.specs.LinkerValues.{end_of_pieces, start_of_pieces}
+use Rattle.elf_model.specs.Pieces as pieces
+use Rattle.elf_model.proofs.PieceBounds.{earlier, either_least, either_none, end_more, further, start_more}
+use Rattle.layout.specs.PlaceViews.{place_view}
+use Rattle.layout.specs.declared.runs.Place.{Place}
+
+pub end_step :
+    (test : pieces.Piece → Bool) (xs : List Place) (i : ℕ) (d : Place) (old new whole : ℕ) → i < length xs →
+    new ≡ further test old (place_view (get_or xs i d)) → max old (end_of_pieces test (map place_view (drop i xs))) ≡ whole →
+    max new (end_of_pieces test (map place_view (drop (i + 1) xs))) ≡ whole
+end_step test xs i d old new whole within is so_far =
+    ap (λ x. max x (end_of_pieces test (map place_view (drop (i + 1) xs)))) is ∙ end_more place_view test xs i d old within ∙ so_far
+
+pub start_step :
+    (test : pieces.Piece → Bool) (xs : List Place) (i : ℕ) (d : Place) (old new whole : Option ℕ) → i < length xs →
+    new ≡ earlier test old (place_view (get_or xs i d)) → either_least old (start_of_pieces test (map place_view (drop i xs))) ≡ whole →
+    either_least new (start_of_pieces test (map place_view (drop (i + 1) xs))) ≡ whole
+start_step test xs i d old new whole within is so_far =
+    ap (λ (o : Option ℕ). either_least o (start_of_pieces test (map place_view (drop (i + 1) xs)))) is ∙ start_more place_view test xs i d old within ∙ so_far
+
+pub whole_end : (test : pieces.Piece → Bool) (x : ℕ) (xs : List Place) (i : ℕ) → length xs ≤ i → max x (end_of_pieces test (map place_view (drop i xs))) ≡ x
+whole_end test x xs i behind =
+    let none = ap (λ (ys : List Place). max x (end_of_pieces test (map place_view ys))) (drop_all i xs behind) in
+    let zero : max x 0 ≡ x = omega arith in
+    none ∙ zero
+
+pub whole_start :
+    (test : pieces.Piece → Bool) (o : Option ℕ) (xs : List Place) (i : ℕ) → length xs ≤ i →
+    either_least o (start_of_pieces test (map place_view (drop i xs))) ≡ o
+whole_start test o xs i behind =
+    ap (λ (ys : List Place). either_least o (start_of_pieces test (map place_view ys))) (drop_all i xs behind) ∙ either_none o
