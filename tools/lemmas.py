@@ -45,7 +45,7 @@ LAYERS = {
         "Pieces and their output sections": "Alignments ArrayNames ArraySteps GotPieces GroupSteps Leading OrderSteps PartSteps"
         " PieceEntries",
         "Addresses and segments": "EndSteps Entries LaidSteps OwnAddresses RunSteps",
-        "Bounds": "ExtentSteps OtherPlaces OwnBounds",
+        "Bounds": "ExtentSteps OtherPlaces OwnBounds PlaceSteps",
         "Thread-local storage": "OwnThreads ThreadSteps",
         "Kinds and mixed output sections": "KindLemmas MixedOutputs",
     },

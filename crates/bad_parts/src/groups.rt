@@ -4,7 +4,7 @@ ghost use Rattle.elf_model.specs.ObjectFile.{HasMembers, group_members, symbols}
 ghost use Rattle.elf_model.specs.declared.faults.ObjFault.TheVariants as fault;
 ghost use Rattle.bad_parts.specs.BadParts.{HasSymbols, IsBadOf, IsOfType};
 
-use crate::part::{BadPart, MemberPart, SectionPart};
+use crate::part::{BadPart, MemberPart, SectionPart, Sought};
 use crate::tables::Tables;
 use elf_model::SHT_GROUP;
 use elf_read::{has_good_symbol_table, is_group_section, lies_inside, may_be_member, read_members};
@@ -64,7 +64,7 @@ fn unsigned<'a>(tables: &Tables<'a>, number: usize, count: usize) -> Option<BadP
 }
 
 /// The first group whose signature is a symbol that isn't there.
-fn bad_signature<'a>(alloc: Global, tables: &Tables<'a>) -> Result<Option<BadPart<'a>>, AllocError>
+fn bad_signature<'a>(alloc: Global, tables: &Tables<'a>) -> Sought<'a>
     ensures { IfOk result (λ o. IfSome o (IsBadOf tables.now fault.BadGroup)) }
 {
     let Some(symbols) = tables.symbols(alloc)? else {
@@ -123,11 +123,7 @@ fn unlawful_member<'a>(
 }
 
 /// The first unlawful member of the group that the section of a number lists.
-fn bad_member_of<'a>(
-    alloc: Global,
-    tables: &Tables<'a>,
-    number: usize,
-) -> Result<Option<BadPart<'a>>, AllocError>
+fn bad_member_of<'a>(alloc: Global, tables: &Tables<'a>, number: usize) -> Sought<'a>
     ensures { IfOk result (λ o. IfSome o (IsBadOf tables.now fault.BadGroup)) }
 {
     let Some(group) = group_section(tables, number) else {
@@ -145,7 +141,7 @@ fn bad_member_of<'a>(
 }
 
 /// The first section that a group lists and that may be no member of one.
-fn bad_member<'a>(alloc: Global, tables: &Tables<'a>) -> Result<Option<BadPart<'a>>, AllocError>
+fn bad_member<'a>(alloc: Global, tables: &Tables<'a>) -> Sought<'a>
     ensures { IfOk result (λ o. IfSome o (IsBadOf tables.now fault.BadGroup)) }
 {
     for number in 0..tables.sections().len() {
@@ -157,7 +153,7 @@ fn bad_member<'a>(alloc: Global, tables: &Tables<'a>) -> Result<Option<BadPart<'
 }
 
 /// The first unlawful header of a group; else the first signature; else the first member.
-pub fn bad_group<'a>(alloc: Global, tables: &Tables<'a>) -> Result<Option<BadPart<'a>>, AllocError>
+pub fn bad_group<'a>(alloc: Global, tables: &Tables<'a>) -> Sought<'a>
     ensures { IfOk result (λ o. IfSome o (IsBadOf tables.now fault.BadGroup)) }
 {
     if let Some(part) = bad_header(tables) {

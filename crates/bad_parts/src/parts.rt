@@ -5,7 +5,7 @@ ghost use Rattle.elf_model.specs.declared.faults.ObjFault.TheVariants as fault;
 ghost use Rattle.bad_parts.specs.BadParts.{IsBadOf};
 
 use crate::groups::bad_group;
-use crate::part::BadPart;
+use crate::part::{BadPart, Sought};
 use crate::relas::bad_rela;
 use crate::sections::{bad_range, bad_section_name};
 use crate::symbols::{bad_symbol_name, bad_symbol_table};
@@ -15,7 +15,7 @@ use elf_model::ObjFault;
 use std::alloc::{AllocError, Global};
 
 /// The first section whose name can't be read; else the first symbol.
-fn bad_name<'a>(alloc: Global, tables: &Tables<'a>) -> Result<Option<BadPart<'a>>, AllocError>
+fn bad_name<'a>(alloc: Global, tables: &Tables<'a>) -> Sought<'a>
     ensures { IfOk result (λ o. IfSome o (IsBadOf tables.now fault.BadString)) }
 {
     match bad_section_name(tables) {
@@ -25,11 +25,7 @@ fn bad_name<'a>(alloc: Global, tables: &Tables<'a>) -> Result<Option<BadPart<'a>
 }
 
 /// The first part of a file that has a fault, and may be none of an object.
-fn part_of_fault<'a>(
-    alloc: Global,
-    bytes: &'a [u8],
-    fault: ObjFault,
-) -> Result<Option<BadPart<'a>>, AllocError>
+fn part_of_fault<'a>(alloc: Global, bytes: &'a [u8], fault: ObjFault) -> Sought<'a>
     ensures { IfOk result (λ o. IfSome o (IsBadOf bytes.entry.now fault)) }
 {
     let Some(tables) = Tables::read(alloc, View::new(bytes))? else {

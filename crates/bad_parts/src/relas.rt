@@ -4,11 +4,11 @@ ghost use Rattle.elf_model.specs.ObjectFile.{HasEntries, relas_of, symbols};
 ghost use Rattle.elf_model.specs.declared.faults.ObjFault.TheVariants as fault;
 ghost use Rattle.bad_parts.specs.BadParts.{HasSymbols, IsBadOf, IsOfType};
 
-use crate::part::{BadPart, EntryPart, SectionPart};
+use crate::part::{BadPart, EntryPart, SectionPart, Sought};
 use crate::tables::Tables;
 use elf_model::{RELA_SIZE, SHT_REL, SHT_RELA};
 use elf_read::{RelaRun, has_good_symbol_table, is_rela_section, lies_inside};
-use std::alloc::{AllocError, Global};
+use std::alloc::Global;
 
 /// The section that has a number, where it is of relocations, and its own header is unlawful.
 fn unlawful_section<'a>(tables: &Tables<'a>, number: usize) -> Option<BadPart<'a>>
@@ -109,7 +109,7 @@ fn bad_entry_of<'a>(tables: &Tables<'a>, number: usize, count: usize) -> Option<
 }
 
 /// The first entry that names a symbol which isn't there.
-fn bad_entry<'a>(alloc: Global, tables: &Tables<'a>) -> Result<Option<BadPart<'a>>, AllocError>
+fn bad_entry<'a>(alloc: Global, tables: &Tables<'a>) -> Sought<'a>
     ensures { IfOk result (λ o. IfSome o (IsBadOf tables.now fault.BadRela)) }
 {
     let Some(symbols) = tables.symbols(alloc)? else {
@@ -124,7 +124,7 @@ fn bad_entry<'a>(alloc: Global, tables: &Tables<'a>) -> Result<Option<BadPart<'a
 }
 
 /// The first section of relocations whose own header is unlawful; else the first entry that names no symbol.
-pub fn bad_rela<'a>(alloc: Global, tables: &Tables<'a>) -> Result<Option<BadPart<'a>>, AllocError>
+pub fn bad_rela<'a>(alloc: Global, tables: &Tables<'a>) -> Sought<'a>
     ensures { IfOk result (λ o. IfSome o (IsBadOf tables.now fault.BadRela)) }
 {
     match bad_section(tables) {

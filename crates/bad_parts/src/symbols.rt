@@ -4,11 +4,11 @@ ghost use Rattle.elf_model.specs.ObjectFile as object;
 ghost use Rattle.elf_model.specs.declared.faults.ObjFault.TheVariants as fault;
 ghost use Rattle.bad_parts.specs.BadParts.{HasSymbolStrings, HasSymbols, IsBadOf};
 
-use crate::part::BadPart;
+use crate::part::{BadPart, Sought};
 use crate::tables::Tables;
 use elf_model::{SHT_SYMTAB, SHT_SYMTAB_SHNDX, Symbol};
 use elf_read::{is_good_symbol, is_symbol_table};
-use std::alloc::{AllocError, Global};
+use std::alloc::Global;
 
 /// The symbol that has a number, where its name can't be read.
 fn unnamed<'a>(tables: &Tables<'a>, symbols: &[Symbol], number: usize) -> Option<BadPart<'a>>
@@ -24,10 +24,7 @@ fn unnamed<'a>(tables: &Tables<'a>, symbols: &[Symbol], number: usize) -> Option
 }
 
 /// The first symbol whose name can't be read.
-pub fn bad_symbol_name<'a>(
-    alloc: Global,
-    tables: &Tables<'a>,
-) -> Result<Option<BadPart<'a>>, AllocError>
+pub fn bad_symbol_name<'a>(alloc: Global, tables: &Tables<'a>) -> Sought<'a>
     ensures { IfOk result (λ o. IfSome o (IsBadOf tables.now fault.BadString)) }
 {
     if !tables.has_symbol_strings() {
@@ -127,7 +124,7 @@ fn unlawful_symbol<'a>(
 }
 
 /// The first symbol that is unlawful.
-fn bad_symbol<'a>(alloc: Global, tables: &Tables<'a>) -> Result<Option<BadPart<'a>>, AllocError>
+fn bad_symbol<'a>(alloc: Global, tables: &Tables<'a>) -> Sought<'a>
     ensures { IfOk result (λ o. IfSome o (IsBadOf tables.now fault.BadSymbolTable)) }
 {
     let Some(symbols) = tables.symbols(alloc)? else {
@@ -142,10 +139,7 @@ fn bad_symbol<'a>(alloc: Global, tables: &Tables<'a>) -> Result<Option<BadPart<'
 }
 
 /// The first section that makes the symbol table unlawful; else the first symbol that is.
-pub fn bad_symbol_table<'a>(
-    alloc: Global,
-    tables: &Tables<'a>,
-) -> Result<Option<BadPart<'a>>, AllocError>
+pub fn bad_symbol_table<'a>(alloc: Global, tables: &Tables<'a>) -> Sought<'a>
     ensures { IfOk result (λ o. IfSome o (IsBadOf tables.now fault.BadSymbolTable)) }
 {
     match bad_table(tables) {

@@ -13,23 +13,17 @@ const UNIQUE: u8 = 10;
 
 impl fmt::Display for SectionPart<'_> {
     fn fmt<W: fmt::Write>(&self, f: &mut fmt::Formatter<W>) -> fmt::Result {
+        let (number, at) = (self.number, self.at);
         let name = Called(self.name.unwrap_or(&[]));
-        write!(
-            f,
-            "section {}{name} (header at byte {:#x})",
-            self.number, self.at
-        )
+        write!(f, "section {number}{name} (header at byte {at:#x})")
     }
 }
 
 impl fmt::Display for SymbolPart<'_> {
     fn fmt<W: fmt::Write>(&self, f: &mut fmt::Formatter<W>) -> fmt::Result {
+        let (number, at) = (self.number, self.at);
         let name = Called(self.name.unwrap_or(&[]));
-        write!(
-            f,
-            "symbol {}{name} (entry at byte {:#x})",
-            self.number, self.at
-        )
+        write!(f, "symbol {number}{name} (entry at byte {at:#x})")
     }
 }
 
@@ -38,20 +32,19 @@ impl fmt::Display for EntryPart<'_> {
         let (number, at, symbol) = (self.number, self.at, self.entry.symbol());
         write!(
             f,
-            "{}: relocation {number} (entry at byte {at:#x}) names symbol {symbol}, which isn't there",
+            "{}: relocation {number} (entry at byte {at:#x}) ",
             self.table
-        )
+        )?;
+        write!(f, "names symbol {symbol}, which isn't there")
     }
 }
 
 impl fmt::Display for MemberPart<'_> {
     fn fmt<W: fmt::Write>(&self, f: &mut fmt::Formatter<W>) -> fmt::Result {
         let (number, at, member) = (self.number, self.at, self.member);
-        write!(
-            f,
-            "{}: member {number} of the group (word at byte {at:#x}) is section {member}, which may be in no group",
-            self.group
-        )
+        write!(f, "{}: member {number} of the group ", self.group)?;
+        write!(f, "(word at byte {at:#x}) is section {member}, ")?;
+        f.write_str("which may be in no group")
     }
 }
 
@@ -62,10 +55,8 @@ struct Range<'h>(&'h SectionHeader);
 impl fmt::Display for Range<'_> {
     fn fmt<W: fmt::Write>(&self, f: &mut fmt::Formatter<W>) -> fmt::Result {
         let (offset, size, align) = (self.0.sh_offset, self.0.sh_size, self.0.sh_addralign);
-        write!(
-            f,
-            "{size:#x} bytes from byte {offset:#x} on, aligned to {align:#x}"
-        )
+        write!(f, "{size:#x} bytes from byte {offset:#x} on, ")?;
+        write!(f, "aligned to {align:#x}")
     }
 }
 
@@ -77,10 +68,8 @@ impl fmt::Display for Table<'_> {
     fn fmt<W: fmt::Write>(&self, f: &mut fmt::Formatter<W>) -> fmt::Result {
         let (size, entry) = (self.0.sh_size, self.0.sh_entsize);
         let (link, info) = (self.0.sh_link, self.0.sh_info);
-        write!(
-            f,
-            "of {size:#x} bytes, sh_entsize {entry}, sh_link {link} and sh_info {info} is unlawful"
-        )
+        write!(f, "of {size:#x} bytes, sh_entsize {entry}, ")?;
+        write!(f, "sh_link {link} and sh_info {info} is unlawful")
     }
 }
 
@@ -103,6 +92,21 @@ impl fmt::Display for Kind<'_> {
     }
 }
 
+/// A text that begins at a byte of a string table and doesn't end there.
+#[derive(Clone, Copy)]
+struct Endless(u32);
+
+impl fmt::Display for Endless {
+    fn fmt<W: fmt::Write>(&self, f: &mut fmt::Formatter<W>) -> fmt::Result {
+        write!(
+            f,
+            "its name, from byte {:#x} of the string table on, ",
+            self.0
+        )?;
+        f.write_str("doesn't end there")
+    }
+}
+
 /// Writes what is wrong with a symbol table or a symbol.
 fn write_bad_symbol<W: fmt::Write>(f: &mut fmt::Formatter<W>, part: &BadPart<'_>) -> fmt::Result {
     match part {
@@ -118,30 +122,24 @@ fn write_bad_symbol<W: fmt::Write>(f: &mut fmt::Formatter<W>, part: &BadPart<'_>
 impl fmt::Display for BadPart<'_> {
     fn fmt<W: fmt::Write>(&self, f: &mut fmt::Formatter<W>) -> fmt::Result {
         match self {
-            BadPart::Range(p) => write!(
-                f,
-                "{p}: {}: not inside the file, or no lawful alignment",
-                Range(&p.header)
-            ),
-            BadPart::SectionName(p) => write!(
-                f,
-                "{p}: its name, from byte {:#x} of the string table on, doesn't end there",
-                p.header.sh_name
-            ),
-            BadPart::SymbolName(p) => write!(
-                f,
-                "{p}: its name, from byte {:#x} of the string table on, doesn't end there",
-                p.entry.st_name
-            ),
+            BadPart::Range(p) => {
+                write!(f, "{p}: {}: not inside the file, ", Range(&p.header))?;
+                f.write_str("or no lawful alignment")
+            }
+            BadPart::SectionName(p) => write!(f, "{p}: {}", Endless(p.header.sh_name)),
+            BadPart::SymbolName(p) => write!(f, "{p}: {}", Endless(p.entry.st_name)),
             BadPart::Rel(p) => write!(f, "{p}: relocations without addends are not linked"),
             BadPart::Relas(p) => write!(f, "{p}: a table of relocations {}", Table(&p.header)),
             BadPart::Entry(p) => write!(f, "{p}"),
             BadPart::Group(p) => write!(f, "{p}: a group {}", Table(&p.header)),
-            BadPart::Signature(p) => write!(
-                f,
-                "{p}: the group's signature is symbol {}, which isn't there",
-                p.header.sh_info
-            ),
+            BadPart::Signature(p) => {
+                write!(
+                    f,
+                    "{p}: the group's signature is symbol {}",
+                    p.header.sh_info
+                )?;
+                f.write_str(", which isn't there")
+            }
             BadPart::Member(p) => write!(f, "{p}"),
             _ => write_bad_symbol(f, self),
         }

@@ -1,24 +1,21 @@
 -- Each place carries the cause of its error: by what the error's own cause gives of the phase, and by what the place says.
-use Rattle.std.proofs.Common.{◌≡◌, ◌∙◌, inr, ℕ, zero, suc, ◌+◌, List, [], ◌∷◌, Ok, Some, All, arith, refl, subst, sym}
-use Rattle.std.specs.Prelude.{None, ◌≢◌, Any, Contains, true, cond, filter}
-use Rattle.std.specs.List.{slice_get}
-use Rattle.std.proofs.lemmas.List.Elements.{All-weaker, Contains-append_left, Contains-append_right}
-use Rattle.std.proofs.lemmas.Option.{none-some, same_Some}
+use Rattle.std.proofs.Common.{◌≡◌, ◌∙◌, inr, ℕ, List, Ok, All, refl, subst, sym}
+use Rattle.std.specs.Prelude.{None, ◌≢◌, Any}
+use Rattle.std.proofs.lemmas.List.Elements.{All-weaker}
 use Rattle.command.proofs.Found.{same_ok}
 use Rattle.elf_model.specs.Causes.{Cause, HasArchives, HasBadGroups, HasFiles, HasObjects, IsBadArchive, IsResolved, IsToDropped, IsToMixed, IsUndefinedName, IsWithoutIndex}
 use Rattle.elf_model.specs.Command.{Plan, command_of}
 use Rattle.elf_model.specs.Files.{File}
 use Rattle.elf_model.specs.Loading.{LoadedObject, loaded_objects}
-use Rattle.elf_model.specs.ObjectFile.{ObjFaultStands, relas_of, sections}
+use Rattle.elf_model.specs.ObjectFile.{ObjFaultStands}
 use Rattle.elf_model.specs.Opening.{opened}
-use Rattle.elf_model.specs.Relocation.{IsFieldInside, IsThreadMismatch, Relocation, is_kept_rela, is_some_kind, relocation_kind, relocation_of, relocations, relocations_behind, relocations_from, relocations_in, relocations_of}
+use Rattle.elf_model.specs.Relocation.{IsFieldInside, IsThreadMismatch, Relocation, relocation_kind, relocations}
 use Rattle.elf_model.specs.Resolution.{IsDuplicate}
 use Rattle.elf_model.specs.declared.faults.LinkError.{LinkError}
 use Rattle.elf_model.specs.declared.faults.LinkError.TheVariants as error
-use Rattle.elf_model.specs.declared.records.Rela.{Rela}
-use Rattle.elf_model.specs.declared.records.SectionHeader.{SectionHeader}
 use Rattle.elf_model.proofs.Finding.{Any-from_contains}
-use Rattle.elf_model.proofs.Listed.{Contains-filter, Contains-from_slice_get, Contains-map}
+use Rattle.elf_model.proofs.Listed.{Contains-from_slice_get}
+use Rattle.input_names.proofs.ListedPlaces.{listed}
 use Rattle.opening.specs.Faults.{IsSearchable}
 use Rattle.search.proofs.LoadLaws.{reaches_weaker}
 use Rattle.relocate.specs.References.{IsUnlawful}
@@ -26,55 +23,13 @@ use Rattle.relocate.specs.declared.faults.RelocationFault.{RelocationFault}
 use Rattle.relocate.specs.declared.faults.RelocationFault.TheVariants as wrong
 use Rattle.explain.specs.Phases.{error_phase, place_phase}
 use Rattle.explain.specs.Places as places
-use Rattle.explain.specs.Places.{CauseOf, HasFault, Holds, IsFileOf, IsOfPhase, IsRelocationAt, IsWrongRelocation, RelocationCause, Says}
+use Rattle.explain.specs.Places.{CauseOf, HasFault, Holds, IsFileOf, IsOfPhase, IsWrongRelocation, RelocationCause, Says}
 use Rattle.explain.specs.declared.phase.Phase.{Phase}
 use Rattle.explain.specs.declared.phase.Phase.TheVariants as phase
 use Rattle.explain.specs.declared.place.Place.{Place}
 use Rattle.explain.specs.declared.place.Place.TheVariants as place
 use Rattle.explain.specs.declared.place.RelocationPlace.{RelocationPlace}
 use Rattle.explain.specs.declared.place.SymbolFault.TheVariants as symbol_fault
-
--- A kept relocation that has a place is one of all.
-in_section : (o : LoadedObject) (k n : ℕ) (h : SectionHeader) (e : Rela) → slice_get (relas_of o.bytes h) n ≡ Some e → is_some_kind e ≡ true →
-    Contains (relocations_in k o h) (relocation_of k o h.sh_info e)
-in_section o k n h e there some =
-    Contains-map (relocation_of k o h.sh_info) (filter is_some_kind (relas_of o.bytes h)) e
-    (Contains-filter is_some_kind (relas_of o.bytes h) e (Contains-from_slice_get (relas_of o.bytes h) n e there) some)
-
-in_sections :
-    (o : LoadedObject) (k t i j : ℕ) (hs : List SectionHeader) (h : SectionHeader) (r : Relocation) → slice_get hs t ≡ Some h → j ≡ i + t →
-    is_kept_rela o j h ≡ true → Contains (relocations_in k o h) r → Contains (relocations_behind k o i hs) r
-in_sections o k t i j [] h r there number kept listed = absurd (none-some h there)
-in_sections o k zero i j (x ∷ xs) h r there number kept listed =
-    let same : h ≡ x = sym (same_Some x h there) in
-    let at : j ≡ i = omega (arith, number) in
-    Contains-append_left (cond (is_kept_rela o i x) (relocations_in k o x) []) (relocations_behind k o (i + 1) xs) r
-    (subst (λ b. Contains (cond b (relocations_in k o x) []) r)
-    (sym (subst (λ (y : SectionHeader). is_kept_rela o i y ≡ true) same (subst (λ (m : ℕ). is_kept_rela o m h ≡ true) at kept)))
-    (subst (λ (y : SectionHeader). Contains (relocations_in k o y) r) same listed))
-in_sections o k (suc t) i j (x ∷ xs) h r there number kept listed =
-    Contains-append_right (cond (is_kept_rela o i x) (relocations_in k o x) []) (relocations_behind k o (i + 1) xs) r
-    (in_sections o k t (i + 1) j xs h r there (omega (arith, number)) kept listed)
-
-in_objects :
-    (k i n : ℕ) (os : List LoadedObject) (o : LoadedObject) (r : Relocation) → slice_get os i ≡ Some o → n ≡ k + i →
-    Contains (relocations_from n o) r → Contains (relocations_of k os) r
-in_objects k i n [] o r there number listed = absurd (none-some o there)
-in_objects k zero n (x ∷ xs) o r there number listed =
-    let same : o ≡ x = sym (same_Some x o there) in
-    let at : n ≡ k = omega (arith, number) in
-    Contains-append_left (relocations_from k x) (relocations_of (k + 1) xs) r
-    (subst (λ (y : LoadedObject). Contains (relocations_from k y) r) same (subst (λ (m : ℕ). Contains (relocations_from m o) r) at listed))
-in_objects k (suc i) n (x ∷ xs) o r there number listed =
-    Contains-append_right (relocations_from k x) (relocations_of (k + 1) xs) r
-    (in_objects (k + 1) i n xs o r there (omega (arith, number)) listed)
-
-pub listed : (objects : List LoadedObject) (p : RelocationPlace) (r : Relocation) → IsRelocationAt objects p r → Contains (relocations objects) r
-listed objects p r at =
-    subst (Contains (relocations objects)) (sym at.relocation)
-    (in_objects 0 p.object p.object objects at.o (relocation_of p.object at.o at.h.sh_info p.entry) at.at.object (omega arith)
-    (in_sections at.o p.object p.table 0 p.table (sections at.o.bytes) at.h (relocation_of p.object at.o at.h.sh_info p.entry) at.at.table (omega arith) at.at.kept
-    (in_section at.o p.object p.number at.h p.entry at.at.entry at.at.some_kind)))
 
 -- what the cause of an error gives of its phase
 abbrev pub Given : List File → List (List ℕ) → Phase → Type 0
@@ -122,17 +77,17 @@ one_plan words p q a b = same_ok q p (sym b ∙ a)
 
 relocation_cause :
     (files : List File) (words : List (List ℕ)) (p : Plan) (q : RelocationPlace) (f : RelocationFault) → IsResolved files words p →
-    IsWrongRelocation (loaded_objects files p) q f → RelocationCause files words q.symbol_name.now f
+    IsWrongRelocation (loaded_objects files p) q f → RelocationCause files words q.at.symbol_name.now f
 relocation_cause files words p q f resolved w = by f w.wrong
   where
     objects : List LoadedObject
     objects = loaded_objects files p
 
     any : (Stands : Relocation → Type 0) → Stands w.r → Any Stands (relocations objects)
-    any Stands stands = Any-from_contains Stands (relocations objects) w.r (listed objects q w.r w.at) stands
+    any Stands stands = Any-from_contains Stands (relocations objects) w.r (listed objects q.at w.r w.at.at) stands
 
-    by : (g : RelocationFault) → IsUnlawful objects w.r g → RelocationCause files words q.symbol_name.now g
-    by wrong.Undefined h = (p, resolved, any (IsUndefinedName q.symbol_name.now objects) (h.0, h.1, sym w.at.told.symbol_name))
+    by : (g : RelocationFault) → IsUnlawful objects w.r g → RelocationCause files words q.at.symbol_name.now g
+    by wrong.Undefined h = (p, resolved, any (IsUndefinedName q.at.symbol_name.now objects) (h.0, h.1, sym w.at.at.told.symbol_name))
     by wrong.RefToDropped h = (p, resolved, any (IsToDropped objects) h)
     by wrong.RelocKind h = (p, resolved, any (λ r. relocation_kind r ≡ None) h)
     by wrong.FieldOutside h = (p, resolved, any (λ r. ¬ IsFieldInside r) h)

@@ -1,41 +1,26 @@
 -- Two fields of one section share a byte where one begins inside the other.
-use Rattle.std.proofs.Common.{◌≡◌, ◌∙◌, ℕ, ◌<◌, ◌≤◌, ◌+◌, true, List, ap, subst, sym, arith}
+use Rattle.std.proofs.Common.{ℕ, List, subst}
 use Rattle.elf_model.specs.Loading.{LoadedObject}
-use Rattle.elf_model.specs.Relocation.{Relocation, is_in_field, width_of}
-use Rattle.elf_model.proofs.RelocationFields.{field_has}
-use Rattle.explain.specs.Overlaps.{BeginsIn, IsField}
-use Rattle.explain.specs.Places.{IsOverlap, IsRelocationAt}
+use Rattle.elf_model.specs.Relocation.{width_of}
+use Rattle.input_names.proofs.Overlapping.{not_apart}
+use Rattle.input_names.specs.RelocationPlaces.{BeginsIn}
+use Rattle.explain.specs.Overlaps.{IsField}
+use Rattle.explain.specs.Places.{IsOverlap}
 use Rattle.explain.specs.declared.overlaps.Field.{Field}
-use Rattle.explain.specs.declared.place.RelocationPlace.{RelocationPlace}
 
-object_is : (objects : List LoadedObject) (p : RelocationPlace) (r : Relocation) → IsRelocationAt objects p r → r.object ≡ p.object
-object_is objects p r at = ap (λ (x : Relocation). x.object) at.relocation
-
-offset_is : (objects : List LoadedObject) (p : RelocationPlace) (r : Relocation) → IsRelocationAt objects p r → r.entry.r_offset ≡ p.entry.r_offset
-offset_is objects p r at = ap (λ (x : Relocation). x.entry.r_offset) at.relocation
-
-pub overlap_law : (objects : List LoadedObject) (f g : Field) → IsField objects f → IsField objects g → BeginsIn f g → IsOverlap objects f.place g.place
+pub overlap_law :
+    (objects : List LoadedObject) (f g : Field) → IsField objects f → IsField objects g → BeginsIn f.place.at f.width g.place.at g.width →
+    IsOverlap objects f.place g.place
 overlap_law objects f g a b begins = record {
   two = begins.two;
   r = a.r;
   t = b.r;
   first = a.at;
   second = b.at;
-  wrong = λ apart. apart g.place.object g.place.section g.place.entry.r_offset first second;
+  wrong = not_apart objects f.place.at g.place.at a.r b.r a.at.at b.at.at wide;
 }
   where
-    first : is_in_field g.place.object g.place.section g.place.entry.r_offset a.r ≡ true
-    first =
-        field_has g.place.object g.place.section g.place.entry.r_offset a.r
-        (object_is objects f.place a.r a.at ∙ begins.object)
-        (sym a.at.told.section ∙ begins.section)
-        (subst (λ (n : ℕ). n ≤ g.place.entry.r_offset) (sym (offset_is objects f.place a.r a.at)) begins.from)
-        (subst (λ (n : ℕ). g.place.entry.r_offset < n + width_of a.r) (sym (offset_is objects f.place a.r a.at))
-        (subst (λ (n : ℕ). g.place.entry.r_offset < f.place.entry.r_offset + n) a.width begins.to))
-
-    second : is_in_field g.place.object g.place.section g.place.entry.r_offset b.r ≡ true
-    second =
-        let o = offset_is objects g.place b.r b.at in
-        let some = subst (λ (n : ℕ). 0 < n) b.width begins.some in
-        field_has g.place.object g.place.section g.place.entry.r_offset b.r (object_is objects g.place b.r b.at) (sym b.at.told.section)
-        (omega (arith, o)) (omega (arith, o, some))
+    wide : BeginsIn f.place.at (width_of a.r) g.place.at (width_of b.r)
+    wide =
+        subst (λ (n : ℕ). BeginsIn f.place.at n g.place.at (width_of b.r)) a.width
+        (subst (λ (n : ℕ). BeginsIn f.place.at f.width g.place.at n) b.width begins)

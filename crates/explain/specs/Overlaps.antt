@@ -1,8 +1,8 @@
--- Fields of relocations of one object, and when one begins inside another.
-use Rattle.std.specs.Prelude.{◌≡◌, ◌+◌, ◌<◌, ◌≤◌, List}
+-- Fields of relocations.
+use Rattle.std.specs.Prelude.{◌≡◌, List}
 use Rattle.elf_model.specs.Loading.{LoadedObject}
 use Rattle.elf_model.specs.Relocation.{Relocation, width_of}
-use Rattle.explain.specs.Places.{AreTwo, IsRelocationAt}
+use Rattle.explain.specs.Places.{IsRelocationAt}
 use Rattle.explain.specs.declared.overlaps.Field.{Field}
 
 -- the field of a kept relocation
@@ -10,12 +10,3 @@ pub record IsField (objects : List LoadedObject) (f : Field) : Type 0 where
   pub r : Relocation
   pub at : IsRelocationAt objects f.place r
   pub width : f.width ≡ width_of r
-
--- the first byte of the second one is one of the first one, which is another one
-pub record BeginsIn (f g : Field) : Type 0 where
-  pub two : AreTwo f.place g.place
-  pub object : f.place.object ≡ g.place.object
-  pub section : f.place.section ≡ g.place.section
-  pub some : 0 < g.width
-  pub from : f.place.entry.r_offset ≤ g.place.entry.r_offset
-  pub to : g.place.entry.r_offset < f.place.entry.r_offset + f.width

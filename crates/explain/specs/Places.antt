@@ -6,8 +6,8 @@ use Rattle.elf_model.specs.Command.{Item, Plan, command_of}
 use Rattle.elf_model.specs.Files.{File}
 use Rattle.elf_model.specs.Groups.{GroupFaultStands}
 use Rattle.elf_model.specs.Loading.{LoadedObject, loaded_objects}
-use Rattle.elf_model.specs.ObjectFile.{IsObject, ObjFaultStands, groups, relas_of, section_name, sections, symbol_name, symbols}
-use Rattle.elf_model.specs.Relocation.{AreFieldsApart, Relocation, is_kept_rela, is_some_kind, relocation_of}
+use Rattle.elf_model.specs.ObjectFile.{IsObject, ObjFaultStands, groups, section_name, sections, symbol_name, symbols}
+use Rattle.elf_model.specs.Relocation.{AreFieldsApart, Relocation}
 use Rattle.elf_model.specs.Opening.{HasFile, Opened, opened}
 use Rattle.elf_model.specs.Pieces.{is_kept}
 use Rattle.elf_model.specs.Placement.{section_address}
@@ -20,7 +20,6 @@ use Rattle.elf_model.specs.declared.faults.GroupFault.TheVariants as group_fault
 use Rattle.elf_model.specs.declared.faults.LinkError.TheVariants as error
 use Rattle.elf_model.specs.declared.faults.ObjFault.{ObjFault}
 use Rattle.elf_model.specs.declared.faults.ObjFault.TheVariants as object_fault
-use Rattle.elf_model.specs.declared.records.SectionHeader.{SectionHeader}
 use Rattle.bad_parts.specs.BadParts.{IsBadOf}
 use Rattle.bad_parts.specs.declared.part.BadPart.{BadPart}
 use Rattle.command.specs.RefusedWords.{AreRefused}
@@ -28,6 +27,8 @@ use Rattle.command.specs.Views.{source_of}
 use Rattle.command.specs.declared.items.Source.{Source}
 use Rattle.opening.specs.Faults.{IsSearchable}
 use Rattle.search.specs.Loads.{LoadedPlan}
+use Rattle.input_names.specs.RelocationPlaces as kept_places
+use Rattle.input_names.specs.RelocationPlaces.{AreTwo}
 use Rattle.layout.specs.Kinds.{IsLawfulIfKept}
 use Rattle.layout.specs.Placements.{Basis}
 use Rattle.relocate.specs.References.{IsUnlawful}
@@ -89,28 +90,12 @@ pub record IsWrongSymbol (objects : List LoadedObject) (p : SymbolPlace) (fault 
   pub at : IsSymbolAt objects p o
   pub wrong : IsSymbolWrong objects (symbol_of p.object o p.symbol p.entry) fault
 
--- a place is that of a kept relocation, an entry of a RELA section, which has the header
-pub record IsEntryAt (objects : List LoadedObject) (p : RelocationPlace) (o : LoadedObject) (h : SectionHeader) : Type 0 where
-  pub file : IsFileOf o p.file
-  pub object : slice_get objects p.object ≡ Some o
-  pub table : slice_get (sections o.bytes) p.table ≡ Some h
-  pub kept : is_kept_rela o p.table h ≡ true
-  pub entry : slice_get (relas_of o.bytes h) p.number ≡ Some p.entry
-  pub some_kind : is_some_kind p.entry ≡ true
-
--- what a place tells of a relocation
-pub record IsTold (p : RelocationPlace) (r : Relocation) : Type 0 where
-  pub section : p.section ≡ r.section
-  pub section_name : p.section_name.now ≡ r.name
-  pub symbol_name : p.symbol_name.now ≡ r.symbol.name
-
--- a place is that of a kept relocation
+-- a place is that of a kept relocation, and of its object
 pub record IsRelocationAt (objects : List LoadedObject) (p : RelocationPlace) (r : Relocation) : Type 0 where
   pub o : LoadedObject
-  pub h : SectionHeader
-  pub at : IsEntryAt objects p o h
-  pub relocation : r ≡ relocation_of p.object o h.sh_info p.entry
-  pub told : IsTold p r
+  pub object : slice_get objects p.at.object ≡ Some o
+  pub file : IsFileOf o p.file
+  pub at : kept_places.IsRelocationAt objects p.at r
 
 -- a kept relocation is wrong
 pub record IsWrongRelocation (objects : List LoadedObject) (p : RelocationPlace) (fault : RelocationFault) : Type 0 where
@@ -127,13 +112,9 @@ pub record IsUnfit (b : Basis) (p : RelocationPlace) (value : ℕ) (address : �
   pub is_address : address ≡ (section_address (where_in b).placed r.object r.section + r.entry.r_offset) % 2 ^ 64
   pub wrong : ¬ Fits b.objects (where_in b) r
 
--- two places are those of entries of one object that aren't the same
-abbrev pub AreTwo : RelocationPlace → RelocationPlace → Type 0
-AreTwo p q = ¬ ((p.table ≡ q.table) × (p.number ≡ q.number))
-
 -- two places are those of two kept relocations whose fields share a byte
 pub record IsOverlap (objects : List LoadedObject) (p q : RelocationPlace) : Type 0 where
-  pub two : AreTwo p q
+  pub two : AreTwo p.at q.at
   pub r : Relocation
   pub t : Relocation
   pub first : IsRelocationAt objects p r
@@ -227,7 +208,7 @@ CauseOf files words (place.Groups p f) = Cause files words (error.BadGroup f)
 CauseOf files words (place.Section p) = Cause files words error.SectionKind
 CauseOf files words (place.Large p) = Cause files words error.TooLarge
 CauseOf files words (place.Symbol p f) = SymbolCause files words p.name.now f
-CauseOf files words (place.Relocation p f) = RelocationCause files words p.symbol_name.now f
+CauseOf files words (place.Relocation p f) = RelocationCause files words p.at.symbol_name.now f
 CauseOf files words (place.Overlap p q) = Cause files words error.OverlappingFields
 CauseOf files words (place.Value p value address) = Cause files words error.Overflow
 CauseOf files words (place.Entry name) = Cause files words error.NoEntry

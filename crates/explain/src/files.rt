@@ -8,8 +8,8 @@ ghost use Rattle.opening.specs.Opened.{item_view};
 ghost use Rattle.explain.specs.Opened.{IsOpened, IsPlaceAt, IsPlaceOf};
 ghost use Rattle.explain.specs.Places.{AreSoOf, HoldsOf};
 
-use crate::found::Found;
-use crate::place::{ObjectPlace, Place};
+use crate::found::{Added, Found};
+use crate::place::{ObjectPlace, Place, Wrong};
 use bad_parts::bad_part;
 use command::Plan;
 use elf_model::InputFile;
@@ -23,7 +23,7 @@ fn missing_item<'a>(
     files: &FileIndex<'a>,
     plan: &Plan<'a>,
     i: usize,
-) -> Result<Option<Place<'a>>, AllocError>
+) -> Result<Wrong<'a>, AllocError>
     ensures { IfOk result (λ o. IfSome o (HoldsOf files.now plan.now)) }
 {
     let Some(item) = plan.items.get(i) else {
@@ -41,7 +41,7 @@ pub fn add_missing<'a>(
     found: &mut Found<'a>,
     files: &FileIndex<'a>,
     plan: &Plan<'a>,
-) -> Result<(), AllocError>
+) -> Added
     requires { AreSoOf files.now plan.now found.old.places.items }
     ensures { OnOk result (AreSoOf files.now plan.now found.new.places.items) }
 {
@@ -88,10 +88,7 @@ fn place_of<'a>(item: &OpenedItem<'a>) -> ObjectPlace<'a>
 }
 
 /// The place of an opened item that can't be searched.
-fn unsearchable_place<'a>(
-    item: &OpenedItem<'a>,
-    fault: OpenFault,
-) -> Result<Option<Place<'a>>, AllocError>
+fn unsearchable_place<'a>(item: &OpenedItem<'a>, fault: OpenFault) -> Result<Wrong<'a>, AllocError>
     requires { IsUnsearchable fault (item_view item.now) }
     ensures { (files : List File) (plan : command.Plan) →
         IsOpened files plan item.now → IfOk result (λ o. IfSome o (HoldsOf files plan)) }
@@ -105,7 +102,7 @@ fn unsearchable_place<'a>(
 }
 
 /// What is wrong with an opened item, where it is read as an archive.
-fn archive_place<'a>(alloc: Global, item: &OpenedItem<'a>) -> Result<Option<Place<'a>>, AllocError>
+fn archive_place<'a>(alloc: Global, item: &OpenedItem<'a>) -> Result<Wrong<'a>, AllocError>
     ensures { (files : List File) (plan : command.Plan) →
         IsOpened files plan item.now → IfOk result (λ o. IfSome o (HoldsOf files plan)) }
 {
@@ -121,7 +118,7 @@ fn bad_archive<'a>(
     files: &FileIndex<'a>,
     plan: &Plan<'a>,
     i: usize,
-) -> Result<Option<Place<'a>>, AllocError>
+) -> Result<Wrong<'a>, AllocError>
     ensures { IfOk result (λ o. IfSome o (HoldsOf files.now plan.now)) }
 {
     match opened(alloc, files, plan, i)? {
@@ -136,7 +133,7 @@ pub fn add_archives<'a>(
     found: &mut Found<'a>,
     files: &FileIndex<'a>,
     plan: &Plan<'a>,
-) -> Result<(), AllocError>
+) -> Added
     requires { AreSoOf files.now plan.now found.old.places.items }
     ensures { OnOk result (AreSoOf files.now plan.now found.new.places.items) }
 {
@@ -158,10 +155,7 @@ fn place_at<'a>(reached: &Reached<'a>) -> ObjectPlace<'a>
 }
 
 /// The object at which loading stops.
-fn refused_place<'a>(
-    alloc: Global,
-    object: &RefusedObject<'a>,
-) -> Result<Option<Place<'a>>, AllocError>
+fn refused_place<'a>(alloc: Global, object: &RefusedObject<'a>) -> Result<Wrong<'a>, AllocError>
     ensures { (files : List File) (plan : command.Plan) →
         IsRefusedIn files plan (Some object.now) → IfOk result (λ o. IfSome o (HoldsOf files plan)) }
 {
@@ -182,7 +176,7 @@ pub fn add_object<'a>(
     found: &mut Found<'a>,
     files: &'a [InputFile],
     plan: &Plan<'a>,
-) -> Result<(), AllocError>
+) -> Added
     requires { AreSoOf (files_of files.now) plan.now found.old.places.items }
     ensures { OnOk result (AreSoOf (files_of files.now) plan.now found.new.places.items) }
 {

@@ -20,6 +20,9 @@ fn is_of(place: &Place<'_>, phase: Phase) -> bool
     place.phase() == phase
 }
 
+/// Whether there was memory for what was to be added.
+pub(crate) type Added = Result<(), AllocError>;
+
 /// The first places that were found, and how many more.
 #[derive(Drop)]
 pub struct Found<'a> {
@@ -88,7 +91,7 @@ impl<'a> Found<'a> {
     }
 
     /// Takes in a place, where it is of a phase.
-    fn add_of(&mut self, place: Place<'a>, phase: Phase) -> Result<(), AllocError>
+    fn add_of(&mut self, place: Place<'a>, phase: Phase) -> Added
         requires { length self.old.places.items ≤ self.old.most }
         ensures phase { (files : List File) (words : List (List ℕ)) →
             All (IsOfPhase files words phase) self.old.places.items → Says files words place.entry

@@ -7,9 +7,11 @@ ghost use Rattle.search.specs.Views.{loaded_view};
 ghost use Rattle.explain.specs.KeptEntries.{IsKept};
 ghost use Rattle.explain.specs.Places.{IsRelocationAt};
 
-use crate::objects::{entry_at, header_at, relocation_place};
+use crate::found::Added;
+use crate::objects::{entry_at, file_of, header_at};
 use crate::place::RelocationPlace;
 use elf_model::{Rela, SectionHeader};
+use input_names::relocation_place;
 use relocate::is_some_kind;
 use search::{KeptRela, Loaded, LoadedObject};
 use std::alloc::{AllocError, Global};
@@ -35,11 +37,7 @@ pub struct Kept {
 }
 
 /// Adds the entries of a kept RELA section of an object.
-fn add_entries(
-    entries: &mut Vec<EntryAt>,
-    one: &LoadedObject<'_>,
-    rela: KeptRela,
-) -> Result<(), AllocError>
+fn add_entries(entries: &mut Vec<EntryAt>, one: &LoadedObject<'_>, rela: KeptRela) -> Added
     requires { IsKeptRela (loaded_view one.now) rela }
 {
     let run = one.kept_entries(rela);
@@ -103,11 +101,9 @@ pub fn kept_place<'a>(
         (relocation_of number (loaded_view one.now) kept.now.header.sh_info kept.now.entry) }
 {
     let _loaded = loaded;
-    let Kept {
-        table,
-        header,
-        number: e,
-        entry,
-    } = *kept;
-    relocation_place(number, one, table, &header, e, &entry)
+    let (object, header) = (&one.object, &kept.header);
+    RelocationPlace {
+        file: file_of(one),
+        at: relocation_place(number, object, kept.table, header, kept.number, &kept.entry),
+    }
 }

@@ -26,7 +26,7 @@ type Counts<'a> = BTreeMap<&'a [u8], u64>;
 /// The undefined name that a place asks for.
 fn undefined_name<'a>(place: &Place<'a>) -> Option<&'a [u8]> {
     match place {
-        Place::Relocation(place, RelocationFault::Undefined) => Some(place.symbol_name),
+        Place::Relocation(place, RelocationFault::Undefined) => Some(place.at.symbol_name),
         _ => None,
     }
 }

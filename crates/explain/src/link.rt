@@ -9,7 +9,7 @@ ghost use Rattle.resolve.specs.Refusals.{ResolvingFails};
 ghost use Rattle.explain.specs.Places.{AreSo, AreSoOf, Holds, Says};
 
 use crate::files::{add_archives, add_missing, add_object};
-use crate::found::Found;
+use crate::found::{Added, Found};
 use crate::overlaps::add_overlaps;
 use crate::phase::phase_of;
 use crate::place::Place;
@@ -27,12 +27,7 @@ use search::{Loaded, SearchFault, load};
 use std::alloc::{AllocError, Global};
 
 /// Adds why the words are refused.
-fn add_word(
-    alloc: Global,
-    found: &mut Found<'_>,
-    words: &[String],
-    fault: CmdFault,
-) -> Result<(), AllocError>
+fn add_word(alloc: Global, found: &mut Found<'_>, words: &[String], fault: CmdFault) -> Added
     requires none { found.old.places.items ≡ [] }
     requires fault { command_of (words_of words.now) ≡ Err fault }
     ensures { (files : List File) →
@@ -49,7 +44,7 @@ fn add_unloaded<'a>(
     files: &'a [InputFile],
     plan: &Plan<'a>,
     fault: SearchFault,
-) -> Result<(), AllocError>
+) -> Added
     requires { AreSoOf (files_of files.now) plan.now found.old.places.items }
     ensures { OnOk result (AreSoOf (files_of files.now) plan.now found.new.places.items) }
 {
@@ -67,11 +62,7 @@ fn add_unloaded<'a>(
 }
 
 /// Adds why names mean nothing.
-fn add_unresolved<'a>(
-    found: &mut Found<'a>,
-    loaded: &Loaded<'a>,
-    fault: &ResolveFault,
-) -> Result<(), AllocError>
+fn add_unresolved<'a>(found: &mut Found<'a>, loaded: &Loaded<'a>, fault: &ResolveFault) -> Added
     requires fault { ResolvingFails loaded.now.objects fault.now }
     requires before { AreSo loaded.now found.old.places.items }
     ensures { OnOk result (AreSo loaded.now found.new.places.items) }
@@ -91,7 +82,7 @@ fn add_unreferred<'a>(
     loaded: &Loaded<'a>,
     resolved: &Resolved<'a>,
     fault: &RelocFault,
-) -> Result<(), AllocError>
+) -> Added
     requires resolved { resolved.now ≡ loaded.now.objects }
     requires before { AreSo loaded.now found.old.places.items }
     ensures { OnOk result (AreSo loaded.now found.new.places.items) }
@@ -109,7 +100,7 @@ fn add_unfit<'a>(
     found: &mut Found<'a>,
     loaded: &Loaded<'a>,
     resolved: &Resolved<'a>,
-) -> Result<(), AllocError>
+) -> Added
     requires resolved { resolved.now ≡ loaded.now.objects }
     requires base { IsBase loaded.now.plan.base }
     requires kinds { AreLawfulKinds loaded.now.objects }
@@ -130,7 +121,7 @@ fn add_unlinked<'a>(
     found: &mut Found<'a>,
     loaded: &Loaded<'a>,
     resolved: &Resolved<'a>,
-) -> Result<(), AllocError>
+) -> Added
     requires resolved { resolved.now ≡ loaded.now.objects }
     requires base { IsBase loaded.now.plan.base }
     requires kinds { AreLawfulKinds loaded.now.objects }
@@ -148,11 +139,7 @@ fn add_unlinked<'a>(
 }
 
 /// Adds why what is loaded isn't linked.
-fn add_loaded<'a>(
-    alloc: Global,
-    found: &mut Found<'a>,
-    loaded: &Loaded<'a>,
-) -> Result<(), AllocError>
+fn add_loaded<'a>(alloc: Global, found: &mut Found<'a>, loaded: &Loaded<'a>) -> Added
     requires base { IsBase loaded.now.plan.base }
     requires before { AreSo loaded.now found.old.places.items }
     ensures { OnOk result (AreSo loaded.now found.new.places.items) }
@@ -174,7 +161,7 @@ fn add_plan<'a>(
     found: &mut Found<'a>,
     files: &'a [InputFile],
     plan: &Plan<'a>,
-) -> Result<(), AllocError>
+) -> Added
     requires base { IsBase plan.now.base }
     requires none { found.old.places.items ≡ [] }
     ensures { OnOk result (AreSoOf (files_of files.now) plan.now found.new.places.items) }
@@ -202,7 +189,7 @@ fn add_reasons<'a>(
     found: &mut Found<'a>,
     files: &'a [InputFile],
     words: &'a [String],
-) -> Result<(), AllocError>
+) -> Added
     requires { found.old.places.items ≡ [] }
     ensures { OnOk result (All
         (Says (files_of files.now) (words_of words.now)) found.new.places.items) }

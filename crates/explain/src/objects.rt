@@ -2,33 +2,22 @@
 ghost use Rattle.std.specs.Prelude.{◌≡◌, [], IfSome, Some, unwrap_or};
 ghost use Rattle.std.specs.List.{slice_get};
 ghost use Rattle.elf_model.specs.ObjectFile.{relas_of, section_name, sections, symbol_name, symbols};
-ghost use Rattle.elf_model.specs.Relocation.{relocation_of};
 ghost use Rattle.search.specs.Views.{loaded_view};
-ghost use Rattle.explain.specs.Places.{IsFileOf, IsTold};
+ghost use Rattle.explain.specs.Places.{IsFileOf};
 
-use crate::place::{ObjectPlace, RelocationPlace, SectionPlace, SymbolPlace};
+use crate::place::{ObjectPlace, SectionPlace, SymbolPlace};
 use elf_model::{Rela, SectionHeader, Symbol};
-use elf_read::ObjectFile;
+use input_names::section_name;
 use search::{Loaded, LoadedObject};
 
 /// Where a loaded object is.
-fn file_of<'a>(loaded: &LoadedObject<'a>) -> ObjectPlace<'a>
+pub fn file_of<'a>(loaded: &LoadedObject<'a>) -> ObjectPlace<'a>
     ensures { IsFileOf (loaded_view loaded.now) result }
 {
     ObjectPlace {
         item: loaded.item,
         path: loaded.path,
         offset: loaded.offset,
-    }
-}
-
-/// The name of section `i`; empty where it has none.
-fn section_name<'a>(object: &ObjectFile<'a>, i: usize) -> &'a [u8]
-    ensures { result.now ≡ unwrap_or (section_name object.now i) [] }
-{
-    match object.section_name(i) {
-        Some(name) => name,
-        None => &[],
     }
 }
 
@@ -73,36 +62,6 @@ pub fn symbol_place<'a>(
         symbol: j as u64,
         entry: *entry,
         name: loaded.object.symbol_name(j),
-    }
-}
-
-/// The place of entry `e` of RELA section `i`, which has the header, of object `number`.
-pub fn relocation_place<'a>(
-    number: usize,
-    loaded: &LoadedObject<'a>,
-    i: usize,
-    header: &SectionHeader,
-    e: usize,
-    entry: &Rela,
-) -> RelocationPlace<'a>
-    ensures file { IsFileOf (loaded_view loaded.now) result.file }
-    ensures object { result.object ≡ number }
-    ensures table { result.table ≡ i }
-    ensures number { result.number ≡ e }
-    ensures entry { result.entry ≡ entry.now }
-    ensures told { IsTold result (relocation_of number
-        (loaded_view loaded.now) header.now.sh_info entry.now) }
-{
-    let section = header.sh_info as usize;
-    RelocationPlace {
-        file: file_of(loaded),
-        object: number as u64,
-        table: i as u64,
-        number: e as u64,
-        entry: *entry,
-        section: section as u64,
-        section_name: section_name(&loaded.object, section),
-        symbol_name: loaded.object.symbol_name(entry.symbol() as usize),
     }
 }
 

@@ -1,43 +1,22 @@
 //! Relocations of an object whose fields share a byte: neighbours in the order of their fields.
-ghost use Rattle.std.specs.Prelude.{IfSome, IsTrue, OnOk};
-ghost use Rattle.explain.specs.Overlaps.{BeginsIn, IsField};
-ghost use Rattle.explain.specs.Places.{AreSo, AreTwo, HoldsIn};
+ghost use Rattle.std.specs.Prelude.{IfSome, OnOk};
+ghost use Rattle.explain.specs.Overlaps.{IsField};
+ghost use Rattle.explain.specs.Places.{AreSo, HoldsIn};
 
-use crate::found::Found;
+use crate::found::{Added, Found};
 use crate::kept_entries::{EntryAt, in_order, kept_at, kept_entries, kept_place};
 use crate::objects::object_at;
-use crate::place::{Place, RelocationPlace};
+use crate::place::{Place, RelocationPlace, Wrong};
+use input_names::begins_in;
 use relocate::Kind;
 use search::Loaded;
-use std::alloc::{AllocError, Global};
+use std::alloc::Global;
 
 /// A relocation, and the width of its field in bytes.
 #[derive(Clone, Copy, Debug)]
 pub struct Field<'a> {
     place: RelocationPlace<'a>,
     width: u64,
-}
-
-/// Whether two places of one object are those of two entries.
-fn are_two(first: &RelocationPlace<'_>, second: &RelocationPlace<'_>) -> bool
-    ensures { IsTrue result → AreTwo first.now second.now }
-{
-    first.table != second.table || first.number != second.number
-}
-
-/// Whether a field begins inside another one of the same section.
-fn begins_in(first: &Field<'_>, second: &Field<'_>) -> bool
-    ensures { IsTrue result → BeginsIn first.now second.now }
-{
-    if first.place.object != second.place.object || first.place.section != second.place.section {
-        return false;
-    }
-    if !are_two(&first.place, &second.place) {
-        return false;
-    }
-    let from = first.place.entry.r_offset;
-    let to = second.place.entry.r_offset;
-    second.width > 0 && from <= to && to - from < first.width
 }
 
 /// The field of an entry of object `k`, where that is a kept relocation.
@@ -54,17 +33,13 @@ fn field_at<'a>(loaded: &Loaded<'a>, k: usize, at: &EntryAt) -> Option<Field<'a>
 }
 
 /// Two entries of object `k`, where the field of the second one begins inside that of the first one.
-fn overlap<'a>(
-    loaded: &Loaded<'a>,
-    k: usize,
-    first: &EntryAt,
-    second: &EntryAt,
-) -> Option<Place<'a>>
+fn overlap<'a>(loaded: &Loaded<'a>, k: usize, first: &EntryAt, second: &EntryAt) -> Wrong<'a>
     ensures { IfSome result (HoldsIn loaded.now) }
 {
     let first = field_at(loaded, k, first)?;
     let second = field_at(loaded, k, second)?;
-    if !begins_in(&first, &second) {
+    let (place, other) = (&first.place.at, &second.place.at);
+    if !begins_in(place, first.width, other, second.width) {
         return None;
     }
     Some(Place::Overlap(first.place, second.place))
@@ -76,7 +51,7 @@ fn add_neighbours<'a>(
     loaded: &Loaded<'a>,
     k: usize,
     entries: &[EntryAt],
-) -> Result<(), AllocError>
+) -> Added
     requires { AreSo loaded.now found.old.places.items }
     ensures { OnOk result (AreSo loaded.now found.new.places.items) }
 {
@@ -87,11 +62,7 @@ fn add_neighbours<'a>(
 }
 
 /// Adds the kept relocations of what is loaded whose fields share a byte.
-pub fn add_overlaps<'a>(
-    alloc: Global,
-    found: &mut Found<'a>,
-    loaded: &Loaded<'a>,
-) -> Result<(), AllocError>
+pub fn add_overlaps<'a>(alloc: Global, found: &mut Found<'a>, loaded: &Loaded<'a>) -> Added
     requires { AreSo loaded.now found.old.places.items }
     ensures { OnOk result (AreSo loaded.now found.new.places.items) }
 {

@@ -2,7 +2,7 @@
 
 use bad_parts::BadPart;
 use command::Source;
-use elf_model::{ArFault, CmdFault, GroupFault, LinkError, ObjFault, Rela, SectionHeader, Symbol};
+use elf_model::{ArFault, CmdFault, GroupFault, LinkError, ObjFault, SectionHeader, Symbol};
 use relocate::RelocationFault;
 
 /// Where an object is: its item, the item's file, and its member in there.
@@ -40,21 +40,11 @@ pub struct SymbolPlace<'a> {
     pub name: &'a [u8],
 }
 
-/// A kept relocation of a loaded object (System V gABI 4, "Relocation").
+/// A kept relocation of a loaded object.
 #[derive(Clone, Copy, Debug)]
 pub struct RelocationPlace<'a> {
     pub file: ObjectPlace<'a>,
-    /// The number of the object, from 0 in load order.
-    pub object: u64,
-    /// The number of the RELA section that the entry is in.
-    pub table: u64,
-    /// The number of the entry in there, from 0.
-    pub number: u64,
-    pub entry: Rela,
-    /// The number of the section that it relocates.
-    pub section: u64,
-    pub section_name: &'a [u8],
-    pub symbol_name: &'a [u8],
+    pub at: input_names::RelocationPlace<'a>,
 }
 
 /// What is wrong with a symbol.
@@ -67,6 +57,9 @@ pub enum SymbolFault {
     /// It is a strong definition of a name that has another one.
     Duplicate,
 }
+
+/// A place at which something is wrong, where there is one.
+pub(crate) type Wrong<'a> = Option<Place<'a>>;
 
 /// Where something is wrong, and what.
 #[derive(Clone, Copy, Debug)]

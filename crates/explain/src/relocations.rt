@@ -4,15 +4,15 @@ ghost use Rattle.layout.specs.Mixed.{AreMixed};
 ghost use Rattle.relocate.specs.SymbolTables.{IsReferrer, all_of};
 ghost use Rattle.explain.specs.Places.{AreSo, HoldsIn};
 
-use crate::found::Found;
+use crate::found::{Added, Found};
 use crate::kept_entries::{EntryAt, kept_at, kept_entries, kept_place};
 use crate::objects::object_at;
-use crate::place::Place;
+use crate::place::{Place, Wrong};
 use layout::mixed_names;
 use relocate::{Referrer, lawful_kind};
 use resolve::Resolved;
 use search::Loaded;
-use std::alloc::{AllocError, Global};
+use std::alloc::Global;
 use std::collections::BTreeSet;
 
 /// An entry, where it isn't lawful.
@@ -20,7 +20,7 @@ fn unlawful_entry<'a>(
     loaded: &Loaded<'a>,
     referrer: &Referrer<'_, '_, 'a>,
     at: &EntryAt,
-) -> Option<Place<'a>>
+) -> Wrong<'a>
     requires known { IsReferrer referrer.now }
     requires same { all_of referrer.now ≡ loaded.now.objects }
     ensures { IfSome result (HoldsIn loaded.now) }
@@ -34,33 +34,15 @@ fn unlawful_entry<'a>(
     Some(Place::Relocation(place, fault))
 }
 
-/// Adds the entries of an object that aren't lawful.
-fn add_object<'a>(
-    found: &mut Found<'a>,
-    loaded: &Loaded<'a>,
-    referrer: &Referrer<'_, '_, 'a>,
-    entries: &[EntryAt],
-) -> Result<(), AllocError>
-    requires known { IsReferrer referrer.now }
-    requires same { all_of referrer.now ≡ loaded.now.objects }
-    requires before { AreSo loaded.now found.old.places.items }
-    ensures { OnOk result (AreSo loaded.now found.new.places.items) }
-{
-    for at in entries {
-        found.add_some(unlawful_entry(loaded, referrer, at))?;
-    }
-    Ok(())
-}
-
 /// Adds the kept relocations of object `number` that aren't lawful.
-fn add_numbered<'a>(
+fn add_object<'a>(
     alloc: Global,
     found: &mut Found<'a>,
     loaded: &Loaded<'a>,
     resolved: &Resolved<'a>,
     mixed: &BTreeSet<&[u8]>,
     number: usize,
-) -> Result<(), AllocError>
+) -> Added
     requires resolved { resolved.now ≡ loaded.now.objects }
     requires mixed { AreMixed resolved.now mixed.now }
     requires before { AreSo loaded.now found.old.places.items }
@@ -71,7 +53,10 @@ fn add_numbered<'a>(
     };
     let referrer = Referrer::new(alloc, resolved, mixed, number, one)?;
     let entries = kept_entries(alloc, one)?;
-    add_object(found, loaded, &referrer, &entries)
+    for at in &entries {
+        found.add_some(unlawful_entry(loaded, &referrer, at))?;
+    }
+    Ok(())
 }
 
 /// Adds the kept relocations of what is loaded, whose names are resolved, that aren't lawful.
@@ -80,14 +65,14 @@ pub fn add_relocations<'a>(
     found: &mut Found<'a>,
     loaded: &Loaded<'a>,
     resolved: &Resolved<'a>,
-) -> Result<(), AllocError>
+) -> Added
     requires resolved { resolved.now ≡ loaded.now.objects }
     requires before { AreSo loaded.now found.old.places.items }
     ensures { OnOk result (AreSo loaded.now found.new.places.items) }
 {
     let mixed = mixed_names(alloc, resolved)?;
     for k in 0..loaded.objects().len() {
-        add_numbered(alloc, found, loaded, resolved, &mixed, k)?;
+        add_object(alloc, found, loaded, resolved, &mixed, k)?;
     }
     Ok(())
 }

@@ -18,21 +18,18 @@ pub fn object_of<'f>(
 }
 
 /// Whether a symbol is a function with a byte at an offset of a section.
-fn covers(symbol: &Symbol, section: u64, offset: u64) -> bool {
+fn covers(symbol: &Symbol, section: u32, offset: u64) -> bool {
     symbol.symbol_type() == STT_FUNC
-        && u64::from(symbol.st_shndx) == section
+        && u32::from(symbol.st_shndx) == section
         && symbol.st_value <= offset
         && offset - symbol.st_value < symbol.st_size
 }
 
 /// The name of the function that a byte of a section belongs to, where a symbol says so.
-pub fn function_at<'f>(object: &ObjectFile<'f>, section: u64, offset: u64) -> Option<&'f [u8]> {
-    for j in 0..object.symbols().len() {
-        if covers(&object.symbol(j), section, offset) {
-            return Some(object.symbol_name(j));
-        }
-    }
-    None
+pub fn function_at<'f>(object: &ObjectFile<'f>, section: u32, offset: u64) -> Option<&'f [u8]> {
+    let mut symbols = 0..object.symbols().len();
+    let j = symbols.find(|j| covers(&object.symbol(*j), section, offset))?;
+    Some(object.symbol_name(j))
 }
 
 /// The name of the section in which symbol `j` is defined, where it is in one.

@@ -139,14 +139,6 @@ fn object_text(fault: ObjFault) -> &'static str {
     }
 }
 
-/// The name of a symbol of a relocation.
-fn symbol_of<'a>(place: &RelocationPlace<'a>) -> RelocationSymbol<'a> {
-    RelocationSymbol {
-        entry: place.entry,
-        name: place.symbol_name,
-    }
-}
-
 impl Inputs<'_> {
     /// The path of an object's file, and the member that it is; and the number of its item, where more than one word names the
     /// file.
@@ -179,61 +171,47 @@ impl Inputs<'_> {
     /// Where a relocation is: its section, its offset there and its function.
     fn field<W: Write>(self, f: &mut Formatter<W>, place: &RelocationPlace<'_>) -> fmt::Result {
         self.file(f, &place.file)?;
-        let offset = place.entry.r_offset;
-        write!(f, "{}+{offset:#x}", Name(place.section_name))?;
+        let offset = place.at.entry.r_offset;
+        write!(f, "{}+{offset:#x}", Name(place.at.section_name))?;
         if let Some(object) = object_of(self.alloc, self.files, &place.file) {
-            let function = function_at(&object, place.section, offset);
+            let function = function_at(&object, place.at.section, offset);
             write!(f, "{}", Where("in", function))?;
         }
         f.write_str(": ")
     }
 
-    /// Which entry a relocation is, its type and its symbol, by its number and a name, with the section of that.
+    /// Which entry a relocation is, its type and its symbol, by its number and, where this is wanted, its name, with the section
+    /// of that.
     fn entry<W: Write>(
         self,
         f: &mut Formatter<W>,
         place: &RelocationPlace<'_>,
-        symbol_name: &[u8],
+        named: bool,
     ) -> fmt::Result {
-        let entry = RelocationEntry {
-            table: place.table,
-            number: place.number,
-            entry: place.entry,
-            symbol_name,
-        };
-        write!(f, "{entry}")?;
+        write!(f, "{}", RelocationEntry(&place.at, named))?;
         let Some(object) = object_of(self.alloc, self.files, &place.file) else {
             return Ok(());
         };
-        let section = section_of(&object, place.entry.symbol() as usize);
+        let section = section_of(&object, place.at.entry.symbol() as usize);
         write!(f, "{}", Where("of", section))
     }
 
     /// Which entry a relocation is, behind what is wrong with it.
     fn note<W: Write>(self, f: &mut Formatter<W>, place: &RelocationPlace<'_>) -> fmt::Result {
         f.write_str(" (")?;
-        self.entry(f, place, &[])?;
+        self.entry(f, place, false)?;
         f.write_str(")")
     }
 
     /// Where a relocation is, and which entry.
-    fn relocation<W: Write>(
-        self,
-        f: &mut Formatter<W>,
-        place: &RelocationPlace<'_>,
-    ) -> fmt::Result {
+    fn whole<W: Write>(self, f: &mut Formatter<W>, place: &RelocationPlace<'_>) -> fmt::Result {
         self.field(f, place)?;
-        self.entry(f, place, place.symbol_name)
+        self.entry(f, place, true)
     }
 
     /// The word at which a command is refused, and what it says.
-    fn word<W: Write>(
-        self,
-        f: &mut Formatter<W>,
-        number: Option<u64>,
-        fault: CmdFault,
-    ) -> fmt::Result {
-        let Some(number) = number else {
+    fn word<W: Write>(self, f: &mut Formatter<W>, at: Option<u64>, fault: CmdFault) -> fmt::Result {
+        let Some(number) = at else {
             return write!(f, "the words together: {fault}");
         };
         match self.words.get(number as usize) {
@@ -281,10 +259,8 @@ fn write_missing<W: Write>(f: &mut Formatter<W>, number: u64, source: Source<'_>
         }
         Source::Library(name) => {
             let name = Name(name.as_bytes());
-            write!(
-                f,
-                "-l{name}: item {number}: no directory of -L has lib{name}.a"
-            )
+            write!(f, "-l{name}: item {number}: ")?;
+            write!(f, "no directory of -L has lib{name}.a")
         }
     }
 }
@@ -340,21 +316,18 @@ impl PlaceText<'_, '_, '_> {
             Place::Section(place) => {
                 inputs.section(f, place)?;
                 let (kind, flags) = (place.header.sh_type, place.header.sh_flags);
-                let hint = section_hint(flags);
-                write!(
-                    f,
-                    "{}, {}: not linked{hint}",
+                let (hint, kind, flags) = (
+                    section_hint(flags),
                     SectionType(kind),
-                    SectionFlags(flags)
-                )
+                    SectionFlags(flags),
+                );
+                write!(f, "{kind}, {flags}: not linked{hint}")
             }
             Place::Large(place) => {
                 inputs.section(f, place)?;
                 let size = place.header.sh_size;
-                write!(
-                    f,
-                    "{size:#x} bytes, more than the addresses from the base on up to 2^46"
-                )
+                write!(f, "{size:#x} bytes, more than the addresses ")?;
+                f.write_str("from the base on up to 2^46")
             }
             Place::Symbol(place, fault) => {
                 inputs.symbol(f, place)?;
@@ -370,23 +343,21 @@ impl PlaceText<'_, '_, '_> {
         match self.place {
             Place::Relocation(place, fault) => {
                 inputs.field(f, place)?;
-                let hint = hint(place.entry.kind(), *fault);
-                write!(f, "{}{hint}", FaultOf(fault_of(*fault), symbol_of(place)))?;
+                let hint = hint(place.at.entry.kind(), *fault);
+                write!(f, "{}{hint}", FaultOf(fault_of(*fault), &place.at))?;
                 inputs.note(f, place)
             }
             Place::Overlap(first, second) => {
-                inputs.relocation(f, first)?;
+                inputs.whole(f, first)?;
                 f.write_str(": its field shares a byte with that of ")?;
-                inputs.relocation(f, second)
+                inputs.whole(f, second)
             }
             Place::Value(place, value, address) => {
                 inputs.field(f, place)?;
-                write!(
-                    f,
-                    "the value {value:#x} for {} does not fit the field at {address:#x}",
-                    symbol_of(place)
-                )?;
-                if let Some(kind) = Kind::of(place.entry.kind()) {
+                let symbol = RelocationSymbol(&place.at);
+                write!(f, "the value {value:#x} for {symbol} does not fit the ")?;
+                write!(f, "field at {address:#x}")?;
+                if let Some(kind) = Kind::of(place.at.entry.kind()) {
                     write!(f, "{}", Fitting(kind))?;
                 }
                 inputs.note(f, place)

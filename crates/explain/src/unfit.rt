@@ -6,19 +6,19 @@ ghost use Rattle.relocate.specs.SymbolTables.{IsValued, all_valued};
 ghost use Rattle.relocate.specs.Values.{pointer_in, where_in};
 ghost use Rattle.explain.specs.Places.{AreSo, HoldsIn, basis_of};
 
-use crate::found::Found;
+use crate::found::{Added, Found};
 use crate::kept_entries::{EntryAt, kept_at, kept_entries, kept_place};
 use crate::objects::object_at;
-use crate::place::Place;
+use crate::place::{Place, Wrong};
 use got_tls::Slots;
 use layout::Placement;
 use relocate::{Kind, Valued, address_or_none, fitting_value, pointer_of, wanted_value};
 use resolve::Resolved;
 use search::Loaded;
-use std::alloc::{AllocError, Global};
+use std::alloc::Global;
 
 /// An entry, where its value doesn't fit.
-fn unfit_entry<'a>(loaded: &Loaded<'a>, valued: &Valued<'_, 'a>, at: &EntryAt) -> Option<Place<'a>>
+fn unfit_entry<'a>(loaded: &Loaded<'a>, valued: &Valued<'_, 'a>, at: &EntryAt) -> Wrong<'a>
     requires known { IsValued valued.now }
     requires same { all_valued valued.now ≡ loaded.now.objects }
     requires placed { valued.now.placement.now ≡ basis_of loaded.now }
@@ -38,27 +38,8 @@ fn unfit_entry<'a>(loaded: &Loaded<'a>, valued: &Valued<'_, 'a>, at: &EntryAt) -
     Some(Place::Value(place, value, address))
 }
 
-/// Adds the entries of an object whose values don't fit.
-fn add_object<'a>(
-    found: &mut Found<'a>,
-    loaded: &Loaded<'a>,
-    valued: &Valued<'_, 'a>,
-    entries: &[EntryAt],
-) -> Result<(), AllocError>
-    requires known { IsValued valued.now }
-    requires same { all_valued valued.now ≡ loaded.now.objects }
-    requires placed { valued.now.placement.now ≡ basis_of loaded.now }
-    requires before { AreSo loaded.now found.old.places.items }
-    ensures { OnOk result (AreSo loaded.now found.new.places.items) }
-{
-    for at in entries {
-        found.add_some(unfit_entry(loaded, valued, at))?;
-    }
-    Ok(())
-}
-
 /// Adds the kept relocations of object `number` whose values don't fit.
-fn add_numbered<'a>(
+fn add_object<'a>(
     alloc: Global,
     found: &mut Found<'a>,
     loaded: &Loaded<'a>,
@@ -67,10 +48,11 @@ fn add_numbered<'a>(
     slots: &Slots<'a>,
     pointer: u64,
     number: usize,
-) -> Result<(), AllocError>
+) -> Added
     requires resolved { resolved.now ≡ loaded.now.objects }
     requires placed { placement.now ≡ basis_of loaded.now }
     requires slots { slots.now.slots ≡ wanted.slots placement.now.objects }
+    requires slots_of { slots.now.objects ≡ loaded.now.objects }
     requires kinds { AreLawfulKinds placement.now.objects }
     requires pointer { pointer ≡ pointer_in (where_in placement.now) }
     requires before { AreSo loaded.now found.old.places.items }
@@ -81,7 +63,10 @@ fn add_numbered<'a>(
     };
     let valued = Valued::new(alloc, resolved, placement, slots, pointer, number, one)?;
     let entries = kept_entries(alloc, one)?;
-    add_object(found, loaded, &valued, &entries)
+    for at in &entries {
+        found.add_some(unfit_entry(loaded, &valued, at))?;
+    }
+    Ok(())
 }
 
 /// Adds the kept relocations of what is loaded and laid out, with its GOT, which has these slots, whose values don't fit.
@@ -92,17 +77,18 @@ pub fn add_values<'a>(
     resolved: &Resolved<'a>,
     placement: &Placement<'a>,
     slots: &Slots<'a>,
-) -> Result<(), AllocError>
+) -> Added
     requires resolved { resolved.now ≡ loaded.now.objects }
     requires placed { placement.now ≡ basis_of loaded.now }
     requires slots { slots.now.slots ≡ wanted.slots placement.now.objects }
+    requires slots_of { slots.now.objects ≡ loaded.now.objects }
     requires kinds { AreLawfulKinds placement.now.objects }
     requires before { AreSo loaded.now found.old.places.items }
     ensures { OnOk result (AreSo loaded.now found.new.places.items) }
 {
     let pointer = pointer_of(placement);
     for k in 0..loaded.objects().len() {
-        add_numbered(alloc, found, loaded, resolved, placement, slots, pointer, k)?;
+        add_object(alloc, found, loaded, resolved, placement, slots, pointer, k)?;
     }
     Ok(())
 }

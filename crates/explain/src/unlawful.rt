@@ -4,7 +4,7 @@ ghost use Rattle.elf_model.specs.Command.{IsBase};
 ghost use Rattle.explain.specs.Places.{HoldsIn};
 
 use crate::objects::{kept_at, object_at, section_place};
-use crate::place::Place;
+use crate::place::{Place, Wrong};
 use layout::is_lawful_if_kept;
 use search::Loaded;
 
@@ -12,7 +12,7 @@ use search::Loaded;
 const TOP: u64 = 1 << 46;
 
 /// Kept section `n` of object `k`, where it is of another kind than the profile's.
-pub fn unlawful_section<'a>(loaded: &Loaded<'a>, k: usize, n: usize) -> Option<Place<'a>>
+pub fn unlawful_section<'a>(loaded: &Loaded<'a>, k: usize, n: usize) -> Wrong<'a>
     ensures { IfSome result (HoldsIn loaded.now) }
 {
     let one = object_at(loaded, k)?;
@@ -24,7 +24,7 @@ pub fn unlawful_section<'a>(loaded: &Loaded<'a>, k: usize, n: usize) -> Option<P
 }
 
 /// Kept section `n` of object `k`, where it takes up more than all addresses from the base on.
-pub fn large_section<'a>(loaded: &Loaded<'a>, k: usize, n: usize) -> Option<Place<'a>>
+pub fn large_section<'a>(loaded: &Loaded<'a>, k: usize, n: usize) -> Wrong<'a>
     requires { IsBase loaded.now.plan.base }
     ensures { IfSome result (HoldsIn loaded.now) }
 {

@@ -4,12 +4,12 @@ ghost use Rattle.elf_model.specs.Resolution.{IsDuplicate};
 ghost use Rattle.explain.specs.Places.{HoldsIn};
 
 use crate::objects::{object_at, symbol_at, symbol_place};
-use crate::place::{Place, SymbolFault};
+use crate::place::{Place, SymbolFault, Wrong};
 use resolve::{is_dropped, is_sound, is_sound_common, is_strong};
 use search::Loaded;
 
 /// Symbol `j` of object `k`, where it is common and not sound.
-pub fn unsound_common<'a>(loaded: &Loaded<'a>, k: usize, j: usize) -> Option<Place<'a>>
+pub fn unsound_common<'a>(loaded: &Loaded<'a>, k: usize, j: usize) -> Wrong<'a>
     ensures { IfSome result (HoldsIn loaded.now) }
 {
     let one = object_at(loaded, k)?;
@@ -22,7 +22,7 @@ pub fn unsound_common<'a>(loaded: &Loaded<'a>, k: usize, j: usize) -> Option<Pla
 }
 
 /// Symbol `j` of object `k`, where it isn't sound.
-pub fn unsound_symbol<'a>(loaded: &Loaded<'a>, k: usize, j: usize) -> Option<Place<'a>>
+pub fn unsound_symbol<'a>(loaded: &Loaded<'a>, k: usize, j: usize) -> Wrong<'a>
     ensures { IfSome result (HoldsIn loaded.now) }
 {
     let one = object_at(loaded, k)?;
@@ -35,12 +35,7 @@ pub fn unsound_symbol<'a>(loaded: &Loaded<'a>, k: usize, j: usize) -> Option<Pla
 }
 
 /// Symbol `j` of object `k`, where it is a strong definition of a name that has two.
-pub fn strong_definition<'a>(
-    loaded: &Loaded<'a>,
-    k: usize,
-    j: usize,
-    name: &[u8],
-) -> Option<Place<'a>>
+pub fn strong_definition<'a>(loaded: &Loaded<'a>, k: usize, j: usize, name: &[u8]) -> Wrong<'a>
     requires { IsDuplicate loaded.now.objects name.now }
     ensures { IfSome result (HoldsIn loaded.now) }
 {

@@ -3,12 +3,11 @@ ghost use Rattle.std.specs.Prelude.{IfSome, OnOk};
 ghost use Rattle.explain.specs.Places.{AreSo, HoldsIn};
 ghost use Rattle.explain.specs.Wanted.{MayBeAsked};
 
-use crate::found::Found;
-use crate::place::Place;
+use crate::found::{Added, Found};
+use crate::place::{Place, Wrong};
 use crate::unlawful::{large_section, unlawful_section};
 use crate::unsound::{strong_definition, unsound_common, unsound_symbol};
 use search::{Loaded, LoadedObject};
-use std::alloc::AllocError;
 
 /// In which way sections or symbols are wrong.
 #[derive(Clone, Copy, Debug)]
@@ -34,7 +33,7 @@ fn count(wanted: Wanted<'_>, one: &LoadedObject<'_>) -> usize {
 }
 
 /// Kept section or symbol `n` of object `k`, where it is wrong.
-fn wrong_at<'a>(wanted: Wanted<'_>, loaded: &Loaded<'a>, k: usize, n: usize) -> Option<Place<'a>>
+fn wrong_at<'a>(wanted: Wanted<'_>, loaded: &Loaded<'a>, k: usize, n: usize) -> Wrong<'a>
     requires { MayBeAsked loaded.now wanted }
     ensures { IfSome result (HoldsIn loaded.now) }
 {
@@ -48,12 +47,7 @@ fn wrong_at<'a>(wanted: Wanted<'_>, loaded: &Loaded<'a>, k: usize, n: usize) -> 
 }
 
 /// Adds the wrong ones of object `k`.
-fn add_object<'a>(
-    found: &mut Found<'a>,
-    wanted: Wanted<'_>,
-    loaded: &Loaded<'a>,
-    k: usize,
-) -> Result<(), AllocError>
+fn add_object<'a>(found: &mut Found<'a>, wanted: Wanted<'_>, loaded: &Loaded<'a>, k: usize) -> Added
     requires asked { MayBeAsked loaded.now wanted }
     requires before { AreSo loaded.now found.old.places.items }
     ensures { OnOk result (AreSo loaded.now found.new.places.items) }
@@ -68,11 +62,7 @@ fn add_object<'a>(
 }
 
 /// Adds the wrong ones of what is loaded.
-pub fn add_wanted<'a>(
-    found: &mut Found<'a>,
-    wanted: Wanted<'_>,
-    loaded: &Loaded<'a>,
-) -> Result<(), AllocError>
+pub fn add_wanted<'a>(found: &mut Found<'a>, wanted: Wanted<'_>, loaded: &Loaded<'a>) -> Added
     requires asked { MayBeAsked loaded.now wanted }
     requires before { AreSo loaded.now found.old.places.items }
     ensures { OnOk result (AreSo loaded.now found.new.places.items) }

@@ -1,9 +1,7 @@
 pub mod Denials
 pub mod FarSections
-pub mod KeptPlaces
 pub mod MemoryDenials
 pub mod ObjectLines
-pub mod Overlapping
 pub mod Reading
 pub mod SegmentEnds
 pub mod TableBuilding

@@ -1,25 +1,30 @@
 -- What is found among the things of a link is said of it.
-use Rattle.std.proofs.Common.{◌≡◌, ◌≢◌, ◌+◌, ◌≤◌, ℕ, true, List, Some, subst}
+use Rattle.std.proofs.Common.{◌≡◌, ◌≢◌, ◌+◌, ◌≤◌, ℕ, false, true, List, Some, refl, subst}
 use Rattle.std.specs.Prelude.{All, Any}
 use Rattle.std.specs.List.{slice_get}
 use Rattle.elf_model.specs.MemoryImage.{Cell, loads, memory_of}
 use Rattle.elf_model.specs.Placement.{Covers}
 use Rattle.elf_model.specs.RightLink.{EndsRight, IsOfSegment, Subject, fill_of, things_of}
 use Rattle.elf_model.specs.declared.thing.Thing.{Thing}
-use Rattle.explain_check.specs.FillPlaces.{IsEmptySegment, IsInFileOf, IsWrongFileEnd, IsWrongFill, IsWrongMemoryEnd}
+use Rattle.explain_check.specs.FillPlaces.{IsAmong, IsEmptySegment, IsInFileOf, IsWrongFileEnd, IsWrongFill, IsWrongMemoryEnd}
 use Rattle.explain_check.specs.declared.memory_place.SegmentPlace.{SegmentPlace}
 
 module _ (s : Subject) (p : SegmentPlace) (ts : List Thing) (same : ts ≡ things_of s) (there : slice_get (loads s.image) p.number ≡ Some p.header) (wrong : ¬ EndsRight (things_of s) p.header) where
   pub empty : All (λ t. ¬ IsOfSegment p.header t) ts → IsEmptySegment s p
   empty none = record { there = there; none = subst (All (λ (t : Thing). ¬ IsOfSegment p.header t)) same none; wrong = wrong }
 
+  -- each nonempty thing is among those that are asked for, where no bytes in the file are
   pub memory_end :
-      (end : ℕ) → Any (λ t. IsOfSegment p.header t × (t.at + t.size ≡ end)) ts → All (λ t. IsOfSegment p.header t → t.at + t.size ≤ end) ts →
+      (end : ℕ) → Any (λ t. IsAmong false p.header t × (t.at + t.size ≡ end)) ts → All (λ t. IsAmong false p.header t → t.at + t.size ≤ end) ts →
       ¬ (p.header.p_vaddr + p.header.p_memsz ≡ end) → IsWrongMemoryEnd s p end
   memory_end end last none_later differs = record {
     there = there;
-    last = subst (Any (λ (t : Thing). IsOfSegment p.header t × (t.at + t.size ≡ end))) same last;
-    none_later = subst (All (λ (t : Thing). IsOfSegment p.header t → t.at + t.size ≤ end)) same none_later;
+    last =
+        subst (Any (λ (t : Thing). IsOfSegment p.header t × (t.at + t.size ≡ end))) same
+        (last.0, last.1, last.2, last.3, (last.4.0.0, last.4.1));
+    none_later =
+        subst (All (λ (t : Thing). IsOfSegment p.header t → t.at + t.size ≤ end)) same
+        (λ k t within of. none_later k t within (of, refl));
     differs = differs;
     wrong = wrong;
   }

@@ -14,7 +14,7 @@ use Rattle.check_relocs.specs.Fields.{AreRows}
 use Rattle.check_relocs.specs.declared.fields.Field.{Field}
 use Rattle.checker.proofs.PieceSections.{wanted_at}
 use Rattle.explain_check.specs.BytePlaces.{IsFieldOver, IsWrongByte}
-use Rattle.explain_check.specs.declared.memory_place.RelocationPlace.{RelocationPlace}
+use Rattle.input_names.specs.declared.relocation_places.RelocationPlace.{RelocationPlace}
 
 pub wrong_byte :
     (s : Subject) (rows : List (Vec Field)) (number : ℕ) (q : Placed) (k : ℕ) (there : Option ℕ) (wanted address size : ℕ) (image : List ℕ)

@@ -16,11 +16,12 @@ use Rattle.check_relocs.specs.LawfulFields.{is_frames, value_with}
 use Rattle.check_relocs.specs.declared.lawful_fields.LinkTerms.{LinkTerms}
 use Rattle.check_relocs.specs.declared.lawful_fields.Relocated.{Relocated}
 use Rattle.check_relocs.specs.declared.targets.Target.{Target}
-use Rattle.explain_check.specs.RelocationPlaces.{IsRelocationAt, IsUnfit, IsUnlawful, IsWrongRelocation}
-use Rattle.explain_check.specs.WrongEntries.{IsWrongWith}
+use Rattle.input_names.specs.RelocationPlaces.{IsRelocationAt}
+use Rattle.explain_check.specs.RelocationPlaces.{IsUnfit, IsUnlawful, IsWrongRelocation}
+use Rattle.explain_check.specs.Referrers.{IsWrongWith}
 use Rattle.input_names.specs.declared.relocation_faults.RelocationFault.{RelocationFault}
 use Rattle.input_names.specs.declared.relocation_faults.RelocationFault.TheVariants as fault
-use Rattle.explain_check.specs.declared.memory_place.RelocationPlace.{RelocationPlace}
+use Rattle.input_names.specs.declared.relocation_places.RelocationPlace.{RelocationPlace}
 
 module _ (b : Bound) (n : ℕ) (o : LoadedObject) (to : Relocated) (g : LinkTerms) (e : Rela) (t : Target) (means : IsTargetOf b (symbol_at n o (rela_symbol e)) t) (size : to.size ≡ (section (sections o.bytes) to.section).sh_size) (frames : to.frames ≡ is_frames o.bytes to.section) (address : to.address ≡ section_address b.places.placed n to.section) (slot : g.slot ≡ slot_address b.places.slots (relocation_of n o to.section e) - got_start b.places.got) (got : g.got ≡ got_start b.places.got) (pointer : g.thread_pointer ≡ thread_pointer b.places.placed) where
   pub unlawful : (f : RelocationFault) → IsWrongWith (kind_of (rela_type e)) t to e f → IsUnlawful b.objects (relocation_of n o to.section e) f

@@ -15,8 +15,8 @@ use Rattle.check_link.specs.Slots.{request_view}
 use Rattle.check_link.specs.declared.requests.Request as code
 use Rattle.checker.proofs.SlotCounts.{any_counted, count, count_is, none_counted}
 use Rattle.explain_check.specs.GotPlaces.{IsRepeated, IsUnasked, IsUnserved}
-use Rattle.explain_check.specs.RelocationPlaces.{IsRelocationAt}
-use Rattle.explain_check.specs.declared.memory_place.RelocationPlace.{RelocationPlace}
+use Rattle.input_names.specs.RelocationPlaces.{IsRelocationAt}
+use Rattle.input_names.specs.declared.relocation_places.RelocationPlace.{RelocationPlace}
 
 -- a line is for a request
 is_of : (q : Request) (row : SlotRow) → row_request row ≡ q → is_slot_of q row ≡ true

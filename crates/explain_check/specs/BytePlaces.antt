@@ -1,15 +1,21 @@
 -- What a place of a piece's byte says of a link.
-use Rattle.std.specs.Prelude.{◌≡◌, ℕ, ◌+◌, ◌<◌, true, List, Some, IfSome}
+use Rattle.std.specs.Prelude.{◌≡◌, ℕ, ◌+◌, ◌<◌, true, List, Some, IfSome, option_map, unwrap_or}
 use Rattle.std.specs.List.{slice_get}
 use Rattle.elf_model.specs.Loading.{LoadedObject}
+use Rattle.elf_model.specs.ObjectFile.{rela_type}
 use Rattle.elf_model.specs.Pieces.{load_size}
-use Rattle.elf_model.specs.Relocation.{Relocation, is_in_field}
+use Rattle.elf_model.specs.Relocation.{Relocation, is_in_field, kind_of}
 use Rattle.elf_model.specs.RightLink.{Subject, byte_at, objects_of, placed_of, where_of}
 use Rattle.elf_model.specs.WantedBytes.{wanted_byte}
+use Rattle.elf_model.specs.declared.records.Rela.{Rela}
 use Rattle.check_link.specs.Views.{placed_view}
-use Rattle.explain_check.specs.RelocationPlaces.{IsRelocationAt}
+use Rattle.input_names.specs.RelocationPlaces.{IsRelocationAt}
+use Rattle.input_names.specs.declared.relocation_places.RelocationPlace.{RelocationPlace}
 use Rattle.explain_check.specs.declared.memory_place.BytePlace.{BytePlace}
-use Rattle.explain_check.specs.declared.memory_place.RelocationPlace.{RelocationPlace}
+
+-- the width of an entry's field; 0 for a type that is no kind
+abbrev pub width_of_entry : Rela → ℕ
+width_of_entry e = unwrap_or (option_map (λ k. k.width) (kind_of (rela_type e))) 0
 
 -- C10. Memory doesn't have the wanted byte at a place of a piece, which lies in a relocation's field if one is told.
 pub record IsFieldOver (objects : List LoadedObject) (object section k : ℕ) (p : RelocationPlace) : Type 0 where

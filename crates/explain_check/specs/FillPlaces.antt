@@ -1,5 +1,5 @@
 -- What a place outside of all things, and one of where segments and the file end, says of a link.
-use Rattle.std.specs.Prelude.{◌≡◌, ℕ, ◌+◌, ◌<◌, ◌≤◌, ◌≢◌, true, List, None, Some, All, Any, length, slice_index}
+use Rattle.std.specs.Prelude.{◌≡◌, ℕ, ◌+◌, ◌<◌, ◌≤◌, ◌≢◌, ◌||◌, Bool, not, true, List, None, Some, All, Any, IsTrue, length, slice_index}
 use Rattle.std.specs.List.{slice_get}
 use Rattle.elf_model.specs.MemoryImage.{file_end, loads, memory_of}
 use Rattle.elf_model.specs.Placement.{Covers}
@@ -15,6 +15,10 @@ pub record IsWrongFill (s : Subject) (p : FillPlace) : Type 0 where
   pub outside : All (λ t. ¬ Covers t p.address) (things_of s)
   pub wanted : p.wanted ≡ fill_of p.rights
   pub wrong : ¬ (p.byte ≡ fill_of p.rights)
+
+-- a thing is a nonempty one of a segment, and has bytes in the file, where this is asked for
+abbrev pub IsAmong : Bool → ProgramHeader → Thing → Type 0
+IsAmong in_file h t = IsOfSegment h t × IsTrue (not in_file || t.in_file)
 
 -- no nonempty thing lies in a segment
 pub record IsEmptySegment (s : Subject) (p : SegmentPlace) : Type 0 where

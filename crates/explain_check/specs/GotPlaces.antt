@@ -8,9 +8,9 @@ use Rattle.elf_model.specs.Slots.{got_bytes, has_got, is_slot_of, request_of, re
 use Rattle.elf_model.specs.declared.link_map.GotLine.{GotLine}
 use Rattle.check_link.specs.Slots.{request_view}
 use Rattle.check_link.specs.declared.requests.Request as code
-use Rattle.explain_check.specs.RelocationPlaces.{IsRelocationAt}
+use Rattle.input_names.specs.RelocationPlaces.{IsRelocationAt}
+use Rattle.input_names.specs.declared.relocation_places.RelocationPlace.{RelocationPlace}
 use Rattle.explain_check.specs.declared.memory_place.GotBytePlace.{GotBytePlace}
-use Rattle.explain_check.specs.declared.memory_place.RelocationPlace.{RelocationPlace}
 
 -- whether the map has a GOT; relocations ask for the contrary
 pub record IsWrongPresence (s : Subject) (there : Bool) : Type 0 where

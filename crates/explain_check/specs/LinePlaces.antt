@@ -13,7 +13,7 @@ use Rattle.linkmap.specs.declared.borrowed.BorrowedCommon.{BorrowedCommon}
 use Rattle.linkmap.specs.declared.borrowed.BorrowedObject.{BorrowedObject}
 use Rattle.linkmap.specs.declared.borrowed.BorrowedPlace.{BorrowedPlace}
 use Rattle.check_load.specs.Views.{loaded_view}
-use Rattle.check_load.specs.declared.loader.Loaded.{Loaded}
+use Rattle.check_load.specs.declared.loaded.Loaded.{Loaded}
 use Rattle.check_link.specs.Views.{block_view, piece_view}
 use Rattle.explain_check.specs.declared.place.CommonLinePlace.{CommonLinePlace}
 use Rattle.explain_check.specs.declared.place.DropLinePlace.{DropLinePlace}

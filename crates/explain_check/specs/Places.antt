@@ -6,12 +6,13 @@ use Rattle.elf_model.specs.MapRecord.{MapRecord}
 use Rattle.elf_model.specs.RightLink.{AreRelocationsRight, Holds, HoldsBefore, IsRead, Subject, objects_of, where_of}
 use Rattle.elf_model.specs.declared.verdict.Clause.{Clause}
 use Rattle.elf_model.specs.declared.verdict.Clause.TheVariants.{C2, C3, C5, C6, C7, C8, C9, C10, C11, C12, C13, C14}
+use Rattle.input_names.specs.RelocationPlaces.{IsOverlap}
 use Rattle.explain_check.specs.BytePlaces.{IsWrongByte}
 use Rattle.explain_check.specs.FillPlaces.{IsEmptySegment, IsWrongFileEnd, IsWrongFill, IsWrongGap, IsWrongLength, IsWrongMemoryEnd}
 use Rattle.explain_check.specs.GotPlaces.{IsRepeated, IsUnasked, IsUnserved, IsWrongGotByte, IsWrongPresence, IsWrongSize, IsWrongSlotAddress}
 use Rattle.explain_check.specs.LinePlaces.{IsWrongCommon, IsWrongDrop, IsWrongObject, IsWrongPlace}
 use Rattle.explain_check.specs.PlacementPlaces.{AreFar, IsOutside, IsShared, IsUnaligned, IsUnheld, IsWrongFirst}
-use Rattle.explain_check.specs.RelocationPlaces.{IsOverlap, IsUnfit, IsWrongRelocation}
+use Rattle.explain_check.specs.RelocationPlaces.{IsUnfit, IsWrongRelocation}
 use Rattle.explain_check.specs.SymbolPlaces.{IsWrongEntry, IsWrongLine, LacksLine}
 use Rattle.explain_check.specs.TablePlaces.{FailsInTable}
 use Rattle.explain_check.specs.ThreadPlaces.{AreEarlyZeros, AreUnheld, IsGotInside, IsPieceInside, IsWrongThreadHeader}

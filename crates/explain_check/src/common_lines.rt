@@ -3,15 +3,15 @@ ghost use Rattle.std.specs.Prelude.{◌≡◌, IfSome, IsTrue, OnOk};
 ghost use Rattle.elf_model.specs.RightLink.{HasCommonLine, objects_of};
 ghost use Rattle.explain_check.specs.Places.{AreFailures, FailsIn};
 
-use crate::found::Found;
-use crate::place::{CheckPlace, CommonLinePlace};
+use crate::found::{Added, Found};
+use crate::place::{CheckPlace, CommonLinePlace, Failure};
 use crate::section_lines::{wrong_drop, wrong_place};
 use checker::LoadedLink;
 use checker::c03_sections::drops::drops_of;
-use std::alloc::{AllocError, Global};
+use std::alloc::Global;
 
 /// The common line of a name, or that there is none, where its block asks for another one.
-fn wrong_common<'a>(loaded: &LoadedLink<'_, 'a>, name: &'a [u8]) -> Option<CheckPlace<'a>>
+fn wrong_common<'a>(loaded: &LoadedLink<'_, 'a>, name: &'a [u8]) -> Failure<'a>
     ensures { IfSome result (FailsIn loaded.now) }
 {
     let lines = loaded.lines();
@@ -27,7 +27,7 @@ fn wrong_common<'a>(loaded: &LoadedLink<'_, 'a>, name: &'a [u8]) -> Option<Check
 }
 
 /// The common line that has a number, where its name's block asks for another one.
-fn wrong_line<'a>(loaded: &LoadedLink<'_, 'a>, number: usize) -> Option<CheckPlace<'a>>
+fn wrong_line<'a>(loaded: &LoadedLink<'_, 'a>, number: usize) -> Failure<'a>
     ensures { IfSome result (FailsIn loaded.now) }
 {
     let line = loaded.link().map.commons.get(number)?;
@@ -35,7 +35,7 @@ fn wrong_line<'a>(loaded: &LoadedLink<'_, 'a>, number: usize) -> Option<CheckPla
 }
 
 /// The common block that has a number, where it has no line.
-fn missing_block<'a>(loaded: &LoadedLink<'_, 'a>, number: usize) -> Option<CheckPlace<'a>>
+fn missing_block<'a>(loaded: &LoadedLink<'_, 'a>, number: usize) -> Failure<'a>
     ensures { IfSome result (FailsIn loaded.now) }
 {
     let block = loaded.names().blocks().get(number)?;
@@ -47,11 +47,7 @@ fn missing_block<'a>(loaded: &LoadedLink<'_, 'a>, number: usize) -> Option<Check
 
 /// Adds where the third clause fails, but for kinds of sections and for common symbols that aren't sound. Of drop lines and of
 /// place lines that aren't as many as there should be the first wrong one: those after it differ only because they are shifted.
-pub fn add_c3<'a>(
-    alloc: Global,
-    found: &mut Found<'a>,
-    loaded: &LoadedLink<'_, 'a>,
-) -> Result<(), AllocError>
+pub fn add_c3<'a>(alloc: Global, found: &mut Found<'a>, loaded: &LoadedLink<'_, 'a>) -> Added
     requires { AreFailures loaded.now found.old.places.items }
     ensures { OnOk result (AreFailures loaded.now found.new.places.items) }
 {

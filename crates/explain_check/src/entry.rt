@@ -7,13 +7,12 @@ ghost use Rattle.check_link.specs.Views.{symbol_view};
 ghost use Rattle.explain_check.specs.Places.{AreFailures};
 ghost use Rattle.explain_check.specs.SymbolPlaces.{IsEntryMeaning};
 
-use crate::found::Found;
+use crate::found::{Added, Found};
 use crate::place::{CheckPlace, EntryPlace, MeaningPlace};
 use crate::symbol_lines::valued;
 use check_link::{SymbolOf, entry_of};
 use check_relocs::Bindings;
 use checker::BoundLink;
-use std::alloc::AllocError;
 
 /// The chosen definition of the entry's name, where it stands in no section with SHF_TLS.
 fn lawful_entry<'a>(bindings: &Bindings<'_, '_, 'a>, name: &[u8]) -> Option<SymbolOf<'a>>
@@ -39,7 +38,7 @@ fn entry_meaning<'a>(bindings: &Bindings<'_, '_, 'a>, name: &[u8]) -> Option<Mea
 }
 
 /// Adds that the twelfth clause fails.
-pub fn add_c12<'a>(found: &mut Found<'a>, bound: &BoundLink<'_, 'a>) -> Result<(), AllocError>
+pub fn add_c12<'a>(found: &mut Found<'a>, bound: &BoundLink<'_, 'a>) -> Added
     requires fails { ¬ Holds clause.C12 bound.now }
     requires before { AreFailures bound.now found.old.places.items }
     ensures { OnOk result (AreFailures bound.now found.new.places.items) }

@@ -7,14 +7,14 @@ ghost use Rattle.check_link.specs.Views.{placed_view, placed_views};
 ghost use Rattle.explain_check.specs.Places.{AreFailures, FailsIn};
 ghost use Rattle.explain_check.specs.PlacementPlaces.{ordered_sections};
 
-use crate::found::Found;
+use crate::found::{Added, Found};
 use crate::named_parts::at_number;
-use crate::place::{CheckPlace, Neighbours};
+use crate::place::{CheckPlace, Failure, Neighbours};
 use check_link::{Placed, output_section};
 use checker::PlacedLink;
 use checker::c05_placed::array_order::in_array_order;
 use checker::c05_placed::neighbours::is_near;
-use std::alloc::{AllocError, Global};
+use std::alloc::Global;
 use std::collections::BTreeMap;
 
 /// The section that has a number in the order of the output sections.
@@ -31,12 +31,7 @@ fn section_at<'a>(
 }
 
 /// Two neighbours, by their numbers, that aren't close together.
-fn far<'a>(
-    placed: &PlacedLink<'_, 'a>,
-    sections: &[Placed<'a>],
-    i: usize,
-    j: usize,
-) -> Option<CheckPlace<'a>>
+fn far<'a>(placed: &PlacedLink<'_, 'a>, sections: &[Placed<'a>], i: usize, j: usize) -> Failure<'a>
     requires sections { placed_views sections.now ≡ ordered_sections placed.now }
     requires next { (d : placement.Placed) → IsNext (ordered_sections placed.now) i j d }
     ensures { IfSome result (FailsIn placed.now) }
@@ -60,7 +55,7 @@ fn far_after<'a>(
     sections: &[Placed<'a>],
     last: Option<usize>,
     j: usize,
-) -> Option<CheckPlace<'a>>
+) -> Failure<'a>
     requires sections { placed_views sections.now ≡ ordered_sections placed.now }
     requires next { IfSome last (λ i. (d : placement.Placed) →
         IsNext (ordered_sections placed.now) i j d) }
@@ -78,7 +73,7 @@ fn add_far_ones<'a>(
     found: &mut Found<'a>,
     placed: &PlacedLink<'_, 'a>,
     sections: &[Placed<'a>],
-) -> Result<(), AllocError>
+) -> Added
     requires sections { placed_views sections.now ≡ ordered_sections placed.now }
     requires before { AreFailures placed.now found.old.places.items }
     ensures { OnOk result (AreFailures placed.now found.new.places.items) }
@@ -92,11 +87,7 @@ fn add_far_ones<'a>(
 }
 
 /// Adds the sections that aren't close after the one before them in their output section.
-pub fn add_far<'a>(
-    alloc: Global,
-    found: &mut Found<'a>,
-    placed: &PlacedLink<'_, 'a>,
-) -> Result<(), AllocError>
+pub fn add_far<'a>(alloc: Global, found: &mut Found<'a>, placed: &PlacedLink<'_, 'a>) -> Added
     requires { AreFailures placed.now found.old.places.items }
     ensures { OnOk result (AreFailures placed.now found.new.places.items) }
 {

@@ -5,9 +5,12 @@ ghost use Rattle.elf_model.specs.declared.verdict.Clause as verdict;
 ghost use Rattle.explain_check.specs.Places.{AreFailures, FailsIn, IsOf};
 
 use crate::clause::kind_of;
-use crate::place::CheckPlace;
+use crate::place::{CheckPlace, Failure};
 use elf_model::Clause;
 use std::alloc::{AllocError, Global};
+
+/// Whether there was memory for what was to be added.
+pub(crate) type Added = Result<(), AllocError>;
 
 /// The first places that were found, and how many more.
 #[derive(Drop)]
@@ -65,31 +68,13 @@ impl<'a> Found<'a> {
         }
     }
 
-    /// Takes in the places that there are at the numbers below a count.
-    pub(crate) fn add_each<F: Fn(usize) -> Option<CheckPlace<'a>>>(
-        &mut self,
-        count: usize,
-        at: F,
-    ) -> Result<(), AllocError>
-        requires { (i : ℕ) → i < count → F.pre at i }
-        ensures { (s : Subject) →
-            AreFailures s self.old.places.items
-            → ((i : ℕ) (o : _) → i < count → F.post at i o → IfSome o (FailsIn s))
-            → OnOk result (AreFailures s self.new.places.items) }
-    {
-        for i in 0..count {
-            self.add_some(at(i))?;
-        }
-        Ok(())
-    }
-
     /// Takes in the places that there are at the numbers below a count, all or only the first one.
-    pub(crate) fn add_rows<F: Fn(usize) -> Option<CheckPlace<'a>>>(
+    pub(crate) fn add_rows<F: Fn(usize) -> Failure<'a>>(
         &mut self,
         count: usize,
         all: bool,
         at: F,
-    ) -> Result<(), AllocError>
+    ) -> Added
         requires { (i : ℕ) → i < count → F.pre at i }
         ensures { (s : Subject) →
             AreFailures s self.old.places.items
@@ -107,8 +92,37 @@ impl<'a> Found<'a> {
         Ok(())
     }
 
+    /// Takes in the places that there are at the numbers below a count.
+    pub(crate) fn add_each<F: Fn(usize) -> Failure<'a>>(&mut self, count: usize, at: F) -> Added
+        requires { (i : ℕ) → i < count → F.pre at i }
+        ensures { (s : Subject) →
+            AreFailures s self.old.places.items
+            → ((i : ℕ) (o : _) → i < count → F.post at i o → IfSome o (FailsIn s))
+            → OnOk result (AreFailures s self.new.places.items) }
+    {
+        self.add_rows(count, true, at)
+    }
+
+    /// Takes in the places that there are at the numbers below a count; where as many are kept as may be, only counts them.
+    pub(crate) fn add_known<F: Fn(usize) -> Failure<'a>>(&mut self, count: usize, at: F) -> Added
+        requires { (i : ℕ) → i < count → F.pre at i }
+        ensures { (s : Subject) →
+            AreFailures s self.old.places.items
+            → ((i : ℕ) (o : _) → i < count → F.post at i o → IfSome o (FailsIn s))
+            → OnOk result (AreFailures s self.new.places.items) }
+    {
+        for i in 0..count {
+            if self.is_full() {
+                self.count();
+            } else {
+                self.add_some(at(i))?;
+            }
+        }
+        Ok(())
+    }
+
     /// Takes in a place, where it is of a clause.
-    fn add_of(&mut self, place: CheckPlace<'a>, clause: Clause) -> Result<(), AllocError>
+    fn add_of(&mut self, place: CheckPlace<'a>, clause: Clause) -> Added
         requires { length self.old.places.items ≤ self.old.most }
         ensures of { (s : Subject) →
             All (IsOf s clause) self.old.places.items → FailsIn s place.entry

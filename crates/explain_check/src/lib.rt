@@ -28,7 +28,7 @@ mod text;
 pub use clause::clause_of;
 pub use explain::{explain_check, read_link};
 pub use found::Found;
-pub use memory_place::{BytePlace, FillPlace, GotBytePlace, RelocationPlace, SegmentPlace};
+pub use memory_place::{BytePlace, FillPlace, GotBytePlace, SegmentPlace};
 pub use place::{
     CheckPlace, CommonLinePlace, DropLinePlace, EntryPlace, MeaningPlace, Neighbours, ObjectAt,
     ObjectLinePlace, Part, PartName, PlaceLinePlace, SymbolLinePlace, TableByte, TableEntry,

@@ -4,6 +4,7 @@ ghost use Rattle.std.specs.Option.{option_or};
 ghost use Rattle.linkmap.specs.Borrowed.{symbol_row};
 ghost use Rattle.explain_check.specs.SymbolPlaces.{IsSymbolIndex, is_symbol_row_of, symbol_in};
 
+use crate::found::Added;
 use check_link::Link;
 use linkmap::BorrowedSymbol;
 use std::alloc::{AllocError, Global};
@@ -13,7 +14,7 @@ use std::collections::BTreeMap;
 fn add_line<'m>(
     index: &mut BTreeMap<&'m [u8], &'m BorrowedSymbol<'m>>,
     line: &'m BorrowedSymbol<'m>,
-) -> Result<(), AllocError>
+) -> Added
     ensures { OnOk result ((name : List ℕ) →
         symbol_in index.new name
         ≡ option_or (symbol_in index.old name)

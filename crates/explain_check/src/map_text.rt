@@ -1,14 +1,15 @@
 //! How lines of the map read: as the map spells them, with the number of the line.
 
 use crate::place::{
-    CommonLinePlace, DropLinePlace, MeaningPlace, ObjectAt, ObjectLinePlace, PlaceLinePlace,
-    SymbolLinePlace,
+    CheckPlace, CommonLinePlace, DropLinePlace, MeaningPlace, ObjectAt, ObjectLinePlace,
+    PlaceLinePlace, SymbolLinePlace,
 };
-use check_link::{Link, Meaning, Piece};
+use crate::text::Told;
+use check_link::{Link, Meaning};
 use elf_model::{Definition, DropLine, STB_WEAK};
 use input_names::Name;
+use std::fmt;
 use std::io::Write;
-use std::{fmt, io};
 
 /// Lines of a map of one kind.
 #[derive(Clone, Copy)]
@@ -36,6 +37,17 @@ pub fn line_number(link: &Link<'_>, kind: Kind, number: u64) -> u64 {
         Kind::Symbol => slots.saturating_add(map.slots.len()),
     };
     (before as u64).saturating_add(number).saturating_add(2)
+}
+
+/// A line of a map, by its kind and its number among the lines of this from 0, which reads by its number among all.
+#[derive(Clone, Copy)]
+pub struct MapLine<'l>(pub &'l Link<'l>, pub Kind, pub u64);
+
+impl fmt::Display for MapLine<'_> {
+    fn fmt<W: fmt::Write>(&self, f: &mut fmt::Formatter<W>) -> fmt::Result {
+        let number = line_number(self.0, self.1, self.2);
+        write!(f, "line {number} of the map")
+    }
 }
 
 /// A symbol line as a map has it.
@@ -83,134 +95,104 @@ fn wanted_line<'n>(name: &'n [u8], wanted: &MeaningPlace<'_>) -> Line<'n> {
 }
 
 /// Writes a symbol line that is another one than its name asks for.
-pub fn write_symbol_line<W: Write>(
-    out: &mut W,
-    link: &Link<'_>,
-    place: &SymbolLinePlace<'_>,
-) -> io::Result<()> {
-    let number = line_number(link, Kind::Symbol, place.number);
+fn write_symbol<W: Write>(out: &mut W, link: &Link<'_>, place: &SymbolLinePlace<'_>) -> Told {
     let line = place.line;
     let there = Line {
         address: line.address,
         definition: line.definition,
         name: &line.name,
     };
-    write!(out, "line {number} of the map: {there}: ")?;
+    let line = MapLine(link, Kind::Symbol, place.number);
+    write!(out, "{line}: {there}: ")?;
     match &place.wanted {
-        Some(wanted) => write!(out, "should be {}", wanted_line(&line.name, wanted)),
+        Some(wanted) => write!(out, "should be {}", wanted_line(there.name, wanted)),
         None => out.write_all(b"the name has no line"),
     }
 }
 
-/// Writes the line that a name lacks.
-pub fn write_missing_line<W: Write>(
-    out: &mut W,
-    name: &[u8],
-    wanted: &MeaningPlace<'_>,
-) -> io::Result<()> {
-    write!(out, "the map lacks: {}", wanted_line(name, wanted))
+const NO_LINE: &str = "the map lacks:";
+
+const NO_PLACE: &str = "the map lacks a place line that ends";
+
+const NO_COMMON: &str = "the map lacks a common line that ends";
+
+/// What stands before what a line should say: one text where a line is there, another one where none is.
+fn lead(is_there: bool, there: &'static str, none: &'static str) -> &'static str {
+    if is_there { there } else { none }
 }
 
 /// Writes an object line that is another one than it should be.
-pub fn write_object_line<W: Write>(
-    out: &mut W,
-    link: &Link<'_>,
-    place: &ObjectLinePlace<'_>,
-) -> io::Result<()> {
+fn write_object<W: Write>(out: &mut W, link: &Link<'_>, place: &ObjectLinePlace<'_>) -> Told {
     if let Some(line) = place.line {
-        let number = line_number(link, Kind::Object, place.number);
+        let number = MapLine(link, Kind::Object, place.number);
         let (object, item, offset) = (line.object, line.item, line.offset);
-        write!(
-            out,
-            "line {number} of the map: object {object} {item} {offset} {}: ",
-            Name(&line.path)
-        )?;
+        write!(out, "{number}: object {object} {item} {offset} ")?;
+        write!(out, "{}: ", Name(&line.path))?;
     }
     let Some(ObjectAt { item, offset, path }) = &place.wanted else {
         return out.write_all(b"no more objects are loaded");
     };
     let (number, path) = (place.number, Name(path.as_bytes()));
-    match place.line {
-        Some(_) => write!(out, "should be object {number} {item} {offset} {path}"),
-        None => write!(out, "the map lacks: object {number} {item} {offset} {path}"),
-    }
+    let words = lead(place.line.is_some(), "should be", NO_LINE);
+    write!(out, "{words} object {number} {item} {offset} {path}")
 }
 
 /// Writes a drop line that is another one than it should be.
-pub fn write_drop_line<W: Write>(
-    out: &mut W,
-    link: &Link<'_>,
-    place: &DropLinePlace,
-) -> io::Result<()> {
+fn write_drop<W: Write>(out: &mut W, link: &Link<'_>, place: &DropLinePlace) -> Told {
     if let Some(DropLine { object, section }) = &place.line {
-        let number = line_number(link, Kind::Drop, place.number);
-        write!(out, "line {number} of the map: drop {object} {section}: ")?;
+        let number = MapLine(link, Kind::Drop, place.number);
+        write!(out, "{number}: drop {object} {section}: ")?;
     }
     let Some(DropLine { object, section }) = &place.wanted else {
         return out.write_all(b"no more sections are dropped");
     };
-    match place.line {
-        Some(_) => write!(out, "should be drop {object} {section}"),
-        None => write!(out, "the map lacks: drop {object} {section}"),
-    }
-}
-
-/// What a place line says of a section after its address.
-#[derive(Clone, Copy)]
-struct Facts<'p, 'a>(&'p Piece<'a>);
-
-impl fmt::Display for Facts<'_, '_> {
-    fn fmt<W: fmt::Write>(&self, f: &mut fmt::Formatter<W>) -> fmt::Result {
-        let (size, object, section) = (self.0.header.sh_size, self.0.object, self.0.section);
-        write!(f, "{size} {object} {section} {}", Name(self.0.name))
-    }
+    let words = lead(place.line.is_some(), "should be", NO_LINE);
+    write!(out, "{words} drop {object} {section}")
 }
 
 /// Writes a place line that is another one than it should be.
-pub fn write_place_line<W: Write>(
-    out: &mut W,
-    link: &Link<'_>,
-    place: &PlaceLinePlace<'_>,
-) -> io::Result<()> {
+fn write_place<W: Write>(out: &mut W, link: &Link<'_>, place: &PlaceLinePlace<'_>) -> Told {
     if let Some(line) = place.line {
-        let number = line_number(link, Kind::Place, place.number);
-        let (address, size, name) = (line.address, line.size, Name(&line.name));
-        write!(
-            out,
-            "line {number} of the map: place {address:016x} {size} {} {} {name}: ",
-            line.object, line.section
-        )?;
+        let number = MapLine(link, Kind::Place, place.number);
+        let (address, size, object) = (line.address, line.size, line.object);
+        write!(out, "{number}: place {address:016x} {size} {object} ")?;
+        write!(out, "{} {}: ", line.section, Name(&line.name))?;
     }
-    match (place.line, &place.wanted) {
-        (_, None) => out.write_all(b"no more sections are kept"),
-        (Some(_), Some(piece)) => write!(out, "should end with {}", Facts(piece)),
-        (None, Some(piece)) => write!(
-            out,
-            "the map lacks a place line that ends with {}",
-            Facts(piece)
-        ),
-    }
+    let Some(piece) = &place.wanted else {
+        return out.write_all(b"no more sections are kept");
+    };
+    let words = lead(place.line.is_some(), "should end", NO_PLACE);
+    let (size, object, section) = (piece.header.sh_size, piece.object, piece.section);
+    write!(out, "{words} with {size} {object} {section} ")?;
+    write!(out, "{}", Name(piece.name))
 }
 
 /// Writes a common line that is another one than it should be.
-pub fn write_common_line<W: Write>(out: &mut W, place: &CommonLinePlace<'_>) -> io::Result<()> {
+fn write_common<W: Write>(out: &mut W, place: &CommonLinePlace<'_>) -> Told {
     if let Some(line) = place.line {
         let (address, size, align) = (line.address, line.size, line.align);
-        write!(
-            out,
-            "the map's line common {address:016x} {size} {align} {}: ",
-            Name(&line.name)
-        )?;
+        write!(out, "the map's line common {address:016x} {size} {align} ")?;
+        write!(out, "{}: ", Name(&line.name))?;
     }
     let Some(block) = &place.block else {
         return out.write_all(b"the name has no common block");
     };
+    let words = lead(place.line.is_some(), "should end", NO_COMMON);
     let (size, align, name) = (block.size, block.align.max(1), Name(block.name));
-    match place.line {
-        Some(_) => write!(out, "should end with {size} {align} {name}"),
-        None => write!(
-            out,
-            "the map lacks a common line that ends with {size} {align} {name}"
-        ),
+    write!(out, "{words} with {size} {align} {name}")
+}
+
+/// Writes a place of the second, the third or the thirteenth clause.
+pub fn write_line<W: Write>(out: &mut W, link: &Link<'_>, place: &CheckPlace<'_>) -> Told {
+    match place {
+        CheckPlace::ObjectLine(place) => write_object(out, link, place),
+        CheckPlace::DropLine(place) => write_drop(out, link, place),
+        CheckPlace::PlaceLine(place) => write_place(out, link, place),
+        CheckPlace::CommonLine(place) => write_common(out, place),
+        CheckPlace::SymbolLine(place) => write_symbol(out, link, place),
+        CheckPlace::NoSymbolLine(name, wanted) => {
+            write!(out, "the map lacks: {}", wanted_line(name, wanted))
+        }
+        _ => Ok(()),
     }
 }

@@ -1,23 +1,8 @@
 //! The places at which an image's memory, or what relocations want of it, is wrong.
 
 use check_link::Placed;
-use elf_model::{GotLine, ProgramHeader, Rela};
-
-/// A kept relocation of a loaded object (System V gABI 4, "Relocation").
-#[derive(Clone, Copy, Debug)]
-pub struct RelocationPlace<'a> {
-    /// The number of the object, from 0 in load order.
-    pub object: u64,
-    /// The number of the RELA section that the entry is in.
-    pub table: u64,
-    /// The number of the entry in there, from 0.
-    pub number: u64,
-    pub entry: Rela,
-    /// The number of the section that it relocates.
-    pub section: u64,
-    pub section_name: &'a [u8],
-    pub symbol_name: &'a [u8],
-}
+use elf_model::{GotLine, ProgramHeader};
+use input_names::RelocationPlace;
 
 /// A byte of a piece that isn't the wanted one.
 #[derive(Clone, Copy, Debug)]

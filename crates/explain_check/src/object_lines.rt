@@ -8,12 +8,11 @@ ghost use Rattle.checker.specs.ObjectLines.{row_of};
 ghost use Rattle.explain_check.specs.LinePlaces.{borrowed_view, object_line_view, row_at};
 ghost use Rattle.explain_check.specs.Places.{AreFailures, FailsIn};
 
-use crate::found::Found;
-use crate::place::{CheckPlace, ObjectAt, ObjectLinePlace};
+use crate::found::{Added, Found};
+use crate::place::{CheckPlace, Failure, ObjectAt, ObjectLinePlace};
 use check_link::Link;
 use check_load::Loaded;
 use linkmap::BorrowedObject;
-use std::alloc::AllocError;
 
 /// The loaded object that has a number.
 fn loaded_at<'l, 'a>(objects: &'l [Loaded<'a>], k: usize) -> Option<&'l Loaded<'a>>
@@ -68,7 +67,7 @@ fn agree(line: Option<&BorrowedObject<'_>>, number: u64, object: Option<ObjectAt
 }
 
 /// The object line of a number, or that none is there, where the object that is loaded asks for another one.
-fn wrong_object<'a>(link: &'a Link<'a>, objects: &[Loaded<'a>], k: usize) -> Option<CheckPlace<'a>>
+fn wrong_object<'a>(link: &'a Link<'a>, objects: &[Loaded<'a>], k: usize) -> Failure<'a>
     requires { loaded_views objects.now ≡ objects_of link.now }
     ensures { IfSome result (FailsIn link.entry.now) }
 {
@@ -90,7 +89,7 @@ pub fn add_object_lines<'a>(
     found: &mut Found<'a>,
     link: &'a Link<'a>,
     objects: &[Loaded<'a>],
-) -> Result<(), AllocError>
+) -> Added
     requires objects { loaded_views objects.now ≡ objects_of link.now }
     requires before { AreFailures link.now found.old.places.items }
     ensures { OnOk result (AreFailures link.entry.now found.new.places.items) }

@@ -1,9 +1,9 @@
 //! The places at which a clause fails.
 
-use crate::memory_place::{BytePlace, FillPlace, GotBytePlace, RelocationPlace, SegmentPlace};
+use crate::memory_place::{BytePlace, FillPlace, GotBytePlace, SegmentPlace};
 use check_link::{Block, Meaning, Piece, Placed, Request};
 use elf_model::{Clause, DropLine, GotLine, ProgramHeader, SymtabLine, Thing};
-use input_names::RelocationFault;
+use input_names::{RelocationFault, RelocationPlace};
 use linkmap::{BorrowedCommon, BorrowedObject, BorrowedPlace, BorrowedSymbol};
 
 /// What takes up addresses.
@@ -137,6 +137,9 @@ pub enum TablePlace<'a> {
     /// The first byte after the last file part that is another one than it should be.
     Byte(TableByte<'a>),
 }
+
+/// A place at which a clause fails, where there is one.
+pub(crate) type Failure<'a> = Option<CheckPlace<'a>>;
 
 /// Where a clause fails, and what is wrong there.
 #[derive(Clone, Copy, Debug)]

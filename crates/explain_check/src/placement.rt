@@ -6,9 +6,9 @@ ghost use Rattle.explain_check.specs.Places.{AreFailures, FailsIn};
 ghost use Rattle.explain_check.specs.PlacementPlaces.{IsPart, IsThing, is_thread_name};
 
 use crate::far_sections::add_far;
-use crate::found::Found;
+use crate::found::{Added, Found};
 use crate::named_parts::{parts_of, thread_parts_of};
-use crate::place::{CheckPlace, Part, PartName};
+use crate::place::{CheckPlace, Failure, Part, PartName};
 use check_link::base_of;
 use checker::PlacedLink;
 use checker::c05_placed::{is_aligned, is_within};
@@ -16,7 +16,7 @@ use elf_model::Thing;
 use std::alloc::{AllocError, Global};
 
 /// A part that isn't aligned.
-fn unaligned<'a>(placed: &PlacedLink<'_, '_>, part: &Part<'a>) -> Option<CheckPlace<'a>>
+fn unaligned<'a>(placed: &PlacedLink<'_, '_>, part: &Part<'a>) -> Failure<'a>
     requires part { IsPart placed.now part.now }
     requires thing { IsThing part.now }
     ensures { IfSome result (FailsIn placed.now) }
@@ -29,7 +29,7 @@ fn unaligned<'a>(placed: &PlacedLink<'_, '_>, part: &Part<'a>) -> Option<CheckPl
 }
 
 /// A part that doesn't lie from the base on and below 2^46.
-fn outside<'a>(placed: &PlacedLink<'_, '_>, part: &Part<'a>) -> Option<CheckPlace<'a>>
+fn outside<'a>(placed: &PlacedLink<'_, '_>, part: &Part<'a>) -> Failure<'a>
     requires { IsPart placed.now part.now }
     ensures { IfSome result (FailsIn placed.now) }
 {
@@ -61,11 +61,7 @@ fn is_thread(name: &PartName<'_>) -> bool
 }
 
 /// Two parts of one list of which the second one begins in the first one.
-fn shared<'a>(
-    placed: &PlacedLink<'_, 'a>,
-    first: &Part<'a>,
-    second: &Part<'a>,
-) -> Option<CheckPlace<'a>>
+fn shared<'a>(placed: &PlacedLink<'_, 'a>, first: &Part<'a>, second: &Part<'a>) -> Failure<'a>
     requires first { IsPart placed.now first.now }
     requires second { IsPart placed.now second.now }
     ensures { IfSome result (FailsIn placed.now) }
@@ -108,7 +104,7 @@ fn add_overlapping<'a>(
     found: &mut Found<'a>,
     placed: &PlacedLink<'_, 'a>,
     parts: &[Part<'a>],
-) -> Result<(), AllocError>
+) -> Added
     requires parts { All (IsPart placed.now) parts.now }
     requires before { AreFailures placed.now found.old.places.items }
     ensures { OnOk result (AreFailures placed.now found.new.places.items) }
@@ -122,11 +118,7 @@ fn add_overlapping<'a>(
 }
 
 /// Adds the parts that share an address.
-fn add_shared<'a>(
-    found: &mut Found<'a>,
-    placed: &PlacedLink<'_, 'a>,
-    parts: Vec<Part<'a>>,
-) -> Result<(), AllocError>
+fn add_shared<'a>(found: &mut Found<'a>, placed: &PlacedLink<'_, 'a>, parts: Vec<Part<'a>>) -> Added
     requires parts { All (IsPart placed.now) parts.items }
     requires before { AreFailures placed.now found.old.places.items }
     ensures { OnOk result (AreFailures placed.now found.new.places.items) }
@@ -136,11 +128,7 @@ fn add_shared<'a>(
 }
 
 /// Adds the things that aren't aligned, lie outside of the addresses or share one.
-fn add_things<'a>(
-    alloc: Global,
-    found: &mut Found<'a>,
-    placed: &PlacedLink<'_, 'a>,
-) -> Result<(), AllocError>
+fn add_things<'a>(alloc: Global, found: &mut Found<'a>, placed: &PlacedLink<'_, 'a>) -> Added
     requires { AreFailures placed.now found.old.places.items }
     ensures { OnOk result (AreFailures placed.now found.new.places.items) }
 {
@@ -151,11 +139,7 @@ fn add_things<'a>(
 }
 
 /// Adds the thread-local sections that lie outside of the addresses or share one.
-fn add_threads<'a>(
-    alloc: Global,
-    found: &mut Found<'a>,
-    placed: &PlacedLink<'_, 'a>,
-) -> Result<(), AllocError>
+fn add_threads<'a>(alloc: Global, found: &mut Found<'a>, placed: &PlacedLink<'_, 'a>) -> Added
     requires { AreFailures placed.now found.old.places.items }
     ensures { OnOk result (AreFailures placed.now found.new.places.items) }
 {
@@ -165,11 +149,7 @@ fn add_threads<'a>(
 }
 
 /// Adds where the fifth clause fails.
-pub fn add_c5<'a>(
-    alloc: Global,
-    found: &mut Found<'a>,
-    placed: &PlacedLink<'_, 'a>,
-) -> Result<(), AllocError>
+pub fn add_c5<'a>(alloc: Global, found: &mut Found<'a>, placed: &PlacedLink<'_, 'a>) -> Added
     requires { AreFailures placed.now found.old.places.items }
     ensures { OnOk result (AreFailures placed.now found.new.places.items) }
 {

@@ -6,16 +6,16 @@ ghost use Rattle.explain_check.specs.Places.{AreFailures, FailsIn};
 ghost use Rattle.explain_check.specs.PlacementPlaces.{IsPart, IsThing};
 ghost use Rattle.explain_check.specs.declared.place.PartName.TheVariants as part_name;
 
-use crate::found::Found;
+use crate::found::{Added, Found};
 use crate::named_parts::parts_of;
-use crate::place::{CheckPlace, Part, PartName};
+use crate::place::{CheckPlace, Failure, Part, PartName};
 use check_link::{base_of, first_address};
 use checker::PlacedLink;
 use checker::c06_rights::{lies_if_nonempty, lies_in_segment};
 use checker::segments::{encloses, enclosing};
 use elf_model::{ProgramHeader, Thing};
 use loader_model::Memory;
-use std::alloc::{AllocError, Global};
+use std::alloc::Global;
 
 /// Whether a part must lie in a segment: it isn't empty, or is the GOT.
 fn must_lie(part: &Part<'_>) -> bool
@@ -64,7 +64,7 @@ fn segment_of(memory: &Memory<'_>, thing: &Thing) -> Option<ProgramHeader>
 }
 
 /// A part that doesn't lie in a segment with its rights.
-fn unheld<'a>(placed: &PlacedLink<'_, '_>, part: &Part<'a>) -> Option<CheckPlace<'a>>
+fn unheld<'a>(placed: &PlacedLink<'_, '_>, part: &Part<'a>) -> Failure<'a>
     requires part { IsPart placed.now part.now }
     requires thing { IsThing part.now }
     ensures { IfSome result (FailsIn placed.now) }
@@ -80,7 +80,7 @@ fn unheld<'a>(placed: &PlacedLink<'_, '_>, part: &Part<'a>) -> Option<CheckPlace
 }
 
 /// The first segment, where it doesn't begin at the base.
-fn wrong_first<'a>(placed: &PlacedLink<'_, 'a>) -> Option<CheckPlace<'a>>
+fn wrong_first<'a>(placed: &PlacedLink<'_, 'a>) -> Failure<'a>
     ensures { IfSome result (FailsIn placed.now) }
 {
     let link = placed.link();
@@ -93,11 +93,7 @@ fn wrong_first<'a>(placed: &PlacedLink<'_, 'a>) -> Option<CheckPlace<'a>>
 }
 
 /// Adds where the sixth clause fails.
-pub fn add_c6<'a>(
-    alloc: Global,
-    found: &mut Found<'a>,
-    placed: &PlacedLink<'_, 'a>,
-) -> Result<(), AllocError>
+pub fn add_c6<'a>(alloc: Global, found: &mut Found<'a>, placed: &PlacedLink<'_, 'a>) -> Added
     requires { AreFailures placed.now found.old.places.items }
     ensures { OnOk result (AreFailures placed.now found.new.places.items) }
 {

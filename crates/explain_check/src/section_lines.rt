@@ -7,7 +7,7 @@ ghost use Rattle.check_link.specs.Views.{piece_view};
 ghost use Rattle.explain_check.specs.LinePlaces.{place_line_view};
 ghost use Rattle.explain_check.specs.Places.{FailsIn};
 
-use crate::place::{CheckPlace, DropLinePlace, PlaceLinePlace};
+use crate::place::{CheckPlace, DropLinePlace, Failure, PlaceLinePlace};
 use check_link::Piece;
 use checker::LoadedLink;
 use checker::c03_sections::drops::is_drop;
@@ -27,11 +27,7 @@ fn are_same(line: &Option<DropLine>, wanted: &Option<DropLine>) -> bool
 }
 
 /// The drop line of a number, or that none is there, where it is another one than among those that should be there.
-pub fn wrong_drop<'a>(
-    loaded: &LoadedLink<'_, 'a>,
-    drops: &[DropLine],
-    k: usize,
-) -> Option<CheckPlace<'a>>
+pub fn wrong_drop<'a>(loaded: &LoadedLink<'_, 'a>, drops: &[DropLine], k: usize) -> Failure<'a>
     requires { drops.now ≡ drop_rows 0 (objects_of loaded.now) }
     ensures { IfSome result (FailsIn loaded.now) }
 {
@@ -67,7 +63,7 @@ fn section_at<'a>(loaded: &LoadedLink<'_, 'a>, k: usize) -> Option<Piece<'a>>
 }
 
 /// The place line of a number, or that none is there, where the kept section of this number asks for another one.
-pub fn wrong_place<'a>(loaded: &LoadedLink<'_, 'a>, k: usize) -> Option<CheckPlace<'a>>
+pub fn wrong_place<'a>(loaded: &LoadedLink<'_, 'a>, k: usize) -> Failure<'a>
     ensures { IfSome result (FailsIn loaded.now) }
 {
     let link = loaded.link();

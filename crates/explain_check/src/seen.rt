@@ -94,6 +94,6 @@ impl<'a> Observer<'a> for Seen<'a> {
         bound: &BoundLink<'_, 'a>,
         rows: &[Vec<Field>],
     ) -> Result<(), AllocError> {
-        add_c10(&mut self.found, bound, rows)
+        add_c10(self.alloc, &mut self.found, bound, rows)
     }
 }

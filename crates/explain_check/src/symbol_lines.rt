@@ -2,21 +2,21 @@
 ghost use Rattle.std.specs.Prelude.{◌≡◌, ◌%◌, ◌^◌, IfSome, OnOk, option_map};
 ghost use Rattle.elf_model.specs.Listing.{linker_line, listed};
 ghost use Rattle.elf_model.specs.Meaning.{meaning_value};
-ghost use Rattle.elf_model.specs.RightLink.{objects_of};
 ghost use Rattle.check_link.specs.Views.{meaning_view};
 ghost use Rattle.check_relocs.specs.LinkerUses.{AreUsed};
 ghost use Rattle.explain_check.specs.Places.{AreFailures, FailsIn};
-ghost use Rattle.explain_check.specs.SymbolPlaces.{IsMeantIf, IsSymbolIndex};
+ghost use Rattle.explain_check.specs.SymbolPlaces.{IsMeantIf};
+ghost use Rattle.explain_check.specs.Listings.{IsListing};
 
-use crate::found::Found;
+use crate::found::{Added, Found};
 use crate::line_index::{index_symbols, lacks};
-use crate::place::{CheckPlace, MeaningPlace, SymbolLinePlace};
-use check_link::{Meaning, SymbolOf};
+use crate::place::{CheckPlace, Failure, MeaningPlace, SymbolLinePlace};
+use check_link::Meaning;
 use check_relocs::{Bindings, used_names};
 use checker::BoundLink;
 use checker::c13_symbols::is_right_line;
 use linkmap::BorrowedSymbol;
-use std::alloc::{AllocError, Global};
+use std::alloc::Global;
 use std::collections::{BTreeMap, BTreeSet};
 
 /// What one of the linker's names means that has a line, given these names.
@@ -59,145 +59,107 @@ pub fn valued<'a>(bindings: &Bindings<'_, '_, 'a>, meaning: Meaning<'a>) -> Mean
     MeaningPlace { meaning, value }
 }
 
+/// A link, the linker's names that have a line in its map, and the map's lines by their names.
+#[derive(Drop)]
+struct Listing<'b, 'o, 'a> {
+    bound: &'b BoundLink<'o, 'a>,
+    names: BTreeSet<&'a [u8]>,
+    index: BTreeMap<&'a [u8], &'a BorrowedSymbol<'a>>,
+}
+
 /// What the name of a line means, with its value, where it has a line.
-fn wanted_of<'a>(
-    bound: &BoundLink<'_, 'a>,
-    names: &BTreeSet<&'a [u8]>,
-    name: &'a [u8],
-) -> Option<MeaningPlace<'a>>
-    requires { AreUsed (objects_of bound.now) names.now }
-    ensures { IsMeantIf bound.now name.entry.now result }
+fn wanted_of<'a>(listing: &Listing<'_, '_, 'a>, name: &'a [u8]) -> Option<MeaningPlace<'a>>
+    requires { IsListing listing.now }
+    ensures { IsMeantIf listing.now.bound.now name.entry.now result }
 {
-    let bindings = bound.bindings();
-    match listed_meaning(bindings, names, name) {
+    let bindings = listing.bound.bindings();
+    match listed_meaning(bindings, &listing.names, name) {
         Some(meaning) => Some(valued(bindings, meaning)),
         None => None,
     }
 }
 
 /// The symbol line that has a number, where it is another one than its name asks for.
-fn wrong_line<'a>(
-    bound: &BoundLink<'_, 'a>,
-    names: &BTreeSet<&'a [u8]>,
-    k: usize,
-) -> Option<CheckPlace<'a>>
-    requires { AreUsed (objects_of bound.now) names.now }
-    ensures { IfSome result (FailsIn bound.now) }
+fn wrong_line<'a>(listing: &Listing<'_, '_, 'a>, k: usize) -> Failure<'a>
+    requires { IsListing listing.now }
+    ensures { IfSome result (FailsIn listing.now.bound.now) }
 {
-    let link = bound.link();
+    let link = listing.bound.link();
     let line = link.map.symbols.get(k)?;
-    if is_right_line(bound.bindings(), names, line) {
+    if is_right_line(listing.bound.bindings(), &listing.names, line) {
         return None;
     }
     Some(CheckPlace::SymbolLine(SymbolLinePlace {
         number: k as u64,
         line,
-        wanted: wanted_of(bound, names, &line.name),
+        wanted: wanted_of(listing, &line.name),
     }))
 }
 
-/// Adds the symbol lines that are others than their names ask for.
-fn add_wrong_lines<'a>(
-    found: &mut Found<'a>,
-    bound: &BoundLink<'_, 'a>,
-    names: &BTreeSet<&'a [u8]>,
-) -> Result<(), AllocError>
-    requires names { AreUsed (objects_of bound.now) names.now }
-    requires before { AreFailures bound.now found.old.places.items }
-    ensures { OnOk result (AreFailures bound.now found.new.places.items) }
+/// A name that lacks the line that it asks for.
+fn missing<'a>(listing: &Listing<'_, '_, 'a>, name: &'a [u8]) -> Failure<'a>
+    requires { IsListing listing.now }
+    ensures { IfSome result (FailsIn listing.now.bound.now) }
 {
-    for k in 0..bound.link().map.symbols.len() {
-        found.add_some(wrong_line(bound, names, k))?;
-    }
-    Ok(())
-}
-
-/// A name that lacks the line that it asks for, given the linker's names that have one and the lines by their names.
-fn missing<'a>(
-    bound: &BoundLink<'_, 'a>,
-    names: &BTreeSet<&'a [u8]>,
-    index: &BTreeMap<&'a [u8], &'a BorrowedSymbol<'a>>,
-    name: &'a [u8],
-) -> Option<CheckPlace<'a>>
-    requires names { AreUsed (objects_of bound.now) names.now }
-    requires index { IsSymbolIndex bound.now.map.symbols index.now }
-    ensures { IfSome result (FailsIn bound.now) }
-{
-    if !lacks(bound.link(), index, name) {
+    if !lacks(listing.bound.link(), &listing.index, name) {
         return None;
     }
-    match wanted_of(bound, names, name) {
+    match wanted_of(listing, name) {
         Some(meant) => Some(CheckPlace::NoSymbolLine(name, meant)),
         None => None,
     }
 }
 
-/// The name of a chosen definition that lacks its line.
-fn missing_definition<'a>(
-    bound: &BoundLink<'_, 'a>,
-    names: &BTreeSet<&'a [u8]>,
-    index: &BTreeMap<&'a [u8], &'a BorrowedSymbol<'a>>,
-    symbol: &SymbolOf<'a>,
-) -> Option<CheckPlace<'a>>
-    requires names { AreUsed (objects_of bound.now) names.now }
-    requires index { IsSymbolIndex bound.now.map.symbols index.now }
-    ensures { IfSome result (FailsIn bound.now) }
+/// The name of the definition that has a number, where it is chosen and lacks its line.
+fn missing_definition<'a>(listing: &Listing<'_, '_, 'a>, k: usize) -> Failure<'a>
+    requires { IsListing listing.now }
+    ensures { IfSome result (FailsIn listing.now.bound.now) }
 {
-    if !bound.bindings().is_chosen(symbol) {
+    let bindings = listing.bound.bindings();
+    let symbol = bindings.definitions().get(k)?;
+    if !bindings.is_chosen(symbol) {
         return None;
     }
-    missing(bound, names, index, symbol.name)
+    missing(listing, symbol.name)
 }
 
-/// Adds the names that objects define and that lack their line.
-fn add_missing_definitions<'a>(
-    found: &mut Found<'a>,
-    bound: &BoundLink<'_, 'a>,
-    names: &BTreeSet<&'a [u8]>,
-    index: &BTreeMap<&'a [u8], &'a BorrowedSymbol<'a>>,
-) -> Result<(), AllocError>
-    requires names { AreUsed (objects_of bound.now) names.now }
-    requires index { IsSymbolIndex bound.now.map.symbols index.now }
-    requires before { AreFailures bound.now found.old.places.items }
-    ensures { OnOk result (AreFailures bound.now found.new.places.items) }
+/// Adds the symbol lines that are others than their names ask for, and the names that objects define and that lack their line.
+fn add_lines<'a>(found: &mut Found<'a>, listing: &Listing<'_, '_, 'a>) -> Added
+    requires listing { IsListing listing.now }
+    requires before { AreFailures listing.now.bound.now found.old.places.items }
+    ensures { OnOk result (AreFailures listing.now.bound.now found.new.places.items) }
 {
-    for symbol in bound.bindings().definitions() {
-        found.add_some(missing_definition(bound, names, index, symbol))?;
-    }
-    Ok(())
+    let bound = listing.bound;
+    found.add_each(bound.link().map.symbols.len(), |k| wrong_line(listing, k))?;
+    let count = bound.bindings().definitions().len();
+    found.add_each(count, |k| missing_definition(listing, k))
 }
 
 /// Adds the linker's names that lack their line.
-fn add_missing_names<'a>(
-    found: &mut Found<'a>,
-    bound: &BoundLink<'_, 'a>,
-    names: &BTreeSet<&'a [u8]>,
-    index: &BTreeMap<&'a [u8], &'a BorrowedSymbol<'a>>,
-) -> Result<(), AllocError>
-    requires names { AreUsed (objects_of bound.now) names.now }
-    requires index { IsSymbolIndex bound.now.map.symbols index.now }
-    requires before { AreFailures bound.now found.old.places.items }
-    ensures { OnOk result (AreFailures bound.now found.new.places.items) }
+fn add_missing_names<'a>(found: &mut Found<'a>, listing: &Listing<'_, '_, 'a>) -> Added
+    requires listing { IsListing listing.now }
+    requires before { AreFailures listing.now.bound.now found.old.places.items }
+    ensures { OnOk result (AreFailures listing.now.bound.now found.new.places.items) }
 {
-    for name in names {
-        found.add_some(missing(bound, names, index, name))?;
+    for name in &listing.names {
+        found.add_some(missing(listing, name))?;
     }
     Ok(())
 }
 
 /// Adds where the thirteenth clause fails, but for symbols that aren't sound and second strong definitions of a name.
-pub fn add_c13<'a>(
-    alloc: Global,
-    found: &mut Found<'a>,
-    bound: &BoundLink<'_, 'a>,
-) -> Result<(), AllocError>
+pub fn add_c13<'a>(alloc: Global, found: &mut Found<'a>, bound: &BoundLink<'_, 'a>) -> Added
     requires { AreFailures bound.now found.old.places.items }
     ensures { OnOk result (AreFailures bound.now found.new.places.items) }
 {
     let link = bound.link();
     let names = used_names(alloc, bound.bindings())?;
     let index = index_symbols(alloc, &link.map.symbols)?;
-    add_wrong_lines(found, bound, &names)?;
-    add_missing_definitions(found, bound, &names, &index)?;
-    add_missing_names(found, bound, &names, &index)
+    let listing = Listing {
+        bound,
+        names,
+        index,
+    };
+    add_lines(found, &listing)?;
+    add_missing_names(found, &listing)
 }

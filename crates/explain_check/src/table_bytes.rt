@@ -11,6 +11,7 @@ ghost use Rattle.checker.specs.Listed.{IsLine};
 ghost use Rattle.checker.specs.Tabled.{end_bytes};
 ghost use Rattle.explain_check.specs.TablePlaces.{AreBuilt, HasAdded};
 
+use crate::found::Added;
 use check_relocs::Bindings;
 use checker::c14_tables::entries::entry_of_line;
 use checker::c14_tables::places::{Places, headers_of};
@@ -32,7 +33,7 @@ const ZEROS: [u8; 8] = [0; 8];
 const SECTION_NAMES: &[u8; 27] = b"\0.symtab\0.strtab\0.shstrtab\0";
 
 /// Adds zeros, at most 8.
-pub fn add_zeros(out: &mut Vec<u8>, count: usize) -> Result<(), AllocError>
+pub fn add_zeros(out: &mut Vec<u8>, count: usize) -> Added
     requires { count ≤ 8 }
     ensures { OnOk result (out.new.items ≡ out.old.items ++ replicate count 0) }
 {
@@ -42,7 +43,7 @@ pub fn add_zeros(out: &mut Vec<u8>, count: usize) -> Result<(), AllocError>
 }
 
 /// Adds a symbol.
-fn add_symbol(out: &mut Vec<u8>, symbol: &Symbol) -> Result<(), AllocError>
+fn add_symbol(out: &mut Vec<u8>, symbol: &Symbol) -> Added
     ensures { OnOk result (out.new.items ≡ out.old.items ++ symbol_bytes symbol.now) }
 {
     let mut record = [0; SYM_SIZE];
@@ -52,7 +53,7 @@ fn add_symbol(out: &mut Vec<u8>, symbol: &Symbol) -> Result<(), AllocError>
 }
 
 /// Adds a name and its NUL.
-fn add_name(out: &mut Vec<u8>, name: &[u8]) -> Result<(), AllocError>
+fn add_name(out: &mut Vec<u8>, name: &[u8]) -> Added
     ensures { OnOk result (out.new.items ≡ out.old.items ++ ended name.now) }
 {
     out.extend_from_slice(name)?;
@@ -61,7 +62,7 @@ fn add_name(out: &mut Vec<u8>, name: &[u8]) -> Result<(), AllocError>
 }
 
 /// Adds a section header.
-fn add_header(out: &mut Vec<u8>, header: &SectionHeader) -> Result<(), AllocError>
+fn add_header(out: &mut Vec<u8>, header: &SectionHeader) -> Added
     ensures { OnOk result (out.new.items ≡ out.old.items ++ section_header_bytes header.now) }
 {
     let mut record = [0; SHDR_SIZE];
@@ -71,7 +72,7 @@ fn add_header(out: &mut Vec<u8>, header: &SectionHeader) -> Result<(), AllocErro
 }
 
 /// Adds section headers, one after the other.
-fn add_headers(out: &mut Vec<u8>, headers: &[SectionHeader]) -> Result<(), AllocError>
+fn add_headers(out: &mut Vec<u8>, headers: &[SectionHeader]) -> Added
     ensures { OnOk result (out.new.items
         ≡ out.old.items ++ flat_map section_header_bytes headers.now) }
 {
@@ -82,11 +83,7 @@ fn add_headers(out: &mut Vec<u8>, headers: &[SectionHeader]) -> Result<(), Alloc
 }
 
 /// Adds an entry and its name.
-fn add_entry<'a>(
-    table: &mut TableBytes<'a>,
-    entry: &Symbol,
-    name: &'a [u8],
-) -> Result<(), AllocError>
+fn add_entry<'a>(table: &mut TableBytes<'a>, entry: &Symbol, name: &'a [u8]) -> Added
     ensures symbols { OnOk result (table.new.symbols.items
         ≡ table.old.symbols.items ++ symbol_bytes entry.now) }
     ensures strings { OnOk result (table.new.strings.items
@@ -105,7 +102,7 @@ fn add_line<'a>(
     table: &mut TableBytes<'a>,
     bindings: &Bindings<'_, '_, 'a>,
     line: &'a BorrowedSymbol<'a>,
-) -> Result<(), AllocError>
+) -> Added
     requires line { IsLine bindings.now.objects bindings.now.places (symbol_row line.now) }
     requires short { length table.old.strings.items < 2 ^ 32 }
     ensures { OnOk result (HasAdded bindings.now.places table.old table.new
@@ -169,7 +166,7 @@ pub fn table_of<'a>(
 }
 
 /// The names of the sections, zeros up to the headers, and the headers.
-fn add_end(out: &mut Vec<u8>, places: &Places) -> Result<(), AllocError>
+fn add_end(out: &mut Vec<u8>, places: &Places) -> Added
     requires { places.now.headers ≡ round_up 8 places.now.shstrtab_end }
     ensures { OnOk result (out.new.items ≡ out.old.items ++ end_bytes places.now) }
 {

@@ -34,32 +34,34 @@ impl fmt::Display for TableByte<'_> {
 impl fmt::Display for TablePlace<'_> {
     fn fmt<W: Write>(&self, f: &mut Formatter<W>) -> fmt::Result {
         match self {
-            TablePlace::Told(Some(_)) => {
-                f.write_str("the map has a symtab line, and -s is among the words")
+            TablePlace::Told(line) => match line {
+                Some(_) => f.write_str("the map has a symtab line, and -s is among the words"),
+                None => f.write_str("the map has no symtab line, and -s is not among the words"),
+            },
+            TablePlace::Sections(offset, count, names) => {
+                write!(
+                    f,
+                    "the file header tells of sections (e_shoff {offset:#x}, "
+                )?;
+                write!(f, "e_shnum {count}, e_shstrndx {names}), ")?;
+                f.write_str("and the map of no symbol table")
             }
-            TablePlace::Told(None) => {
-                f.write_str("the map has no symtab line, and -s is not among the words")
+            TablePlace::Offset(told, wanted) => {
+                write!(f, "the map's symtab line says offset {told}, ")?;
+                write!(f, "and should say {wanted}")
             }
-            TablePlace::Sections(offset, count, names) => write!(
-                f,
-                "the file header tells of sections (e_shoff {offset:#x}, e_shnum {count}, e_shstrndx {names}), and the map of no symbol table"
-            ),
-            TablePlace::Offset(told, wanted) => write!(
-                f,
-                "the map's symtab line says offset {told}, and should say {wanted}"
-            ),
-            TablePlace::Count(told, wanted) => write!(
-                f,
-                "the map's symtab line says {told} entries, and should say {wanted}"
-            ),
-            TablePlace::Numbers(count, names) => write!(
-                f,
-                "the file header: e_shnum is {count} and should be 4, e_shstrndx is {names} and should be 3"
-            ),
-            TablePlace::Headers(offset, wanted) => write!(
-                f,
-                "the file header: e_shoff is {offset:#x}, and should be {wanted:#x}"
-            ),
+            TablePlace::Count(told, wanted) => {
+                write!(f, "the map's symtab line says {told} entries, ")?;
+                write!(f, "and should say {wanted}")
+            }
+            TablePlace::Numbers(count, names) => {
+                write!(f, "the file header: e_shnum is {count} and should be 4, ")?;
+                write!(f, "e_shstrndx is {names} and should be 3")
+            }
+            TablePlace::Headers(offset, wanted) => {
+                write!(f, "the file header: e_shoff is {offset:#x}, ")?;
+                write!(f, "and should be {wanted:#x}")
+            }
             TablePlace::Byte(place) => write!(f, "{place}"),
         }
     }

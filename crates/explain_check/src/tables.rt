@@ -13,8 +13,8 @@ ghost use Rattle.checker.specs.Tabled.{AreAt};
 ghost use Rattle.explain_check.specs.Places.{AreFailures, FailsIn};
 ghost use Rattle.explain_check.specs.TablePlaces.{AreBuilt, IsEntryOf, parts_end, tail_of, wanted_tail};
 
-use crate::found::Found;
-use crate::place::{CheckPlace, TableByte, TableEntry, TablePlace};
+use crate::found::{Added, Found};
+use crate::place::{CheckPlace, Failure, TableByte, TableEntry, TablePlace};
 use crate::table_bytes::{TableBytes, table_of, tail_bytes};
 use checker::BoundLink;
 use checker::c14_tables::has_no_sections;
@@ -24,7 +24,7 @@ use elf_model::{SYM_SIZE, SymtabLine};
 use std::alloc::{AllocError, Global};
 
 /// The line of a table, or that there is none, where it must be otherwise.
-fn wrongly_told<'a>(bound: &BoundLink<'_, 'a>) -> Option<CheckPlace<'a>>
+fn wrongly_told<'a>(bound: &BoundLink<'_, 'a>) -> Failure<'a>
     ensures { IfSome result (FailsIn bound.now) }
 {
     let link = bound.link();
@@ -36,7 +36,7 @@ fn wrongly_told<'a>(bound: &BoundLink<'_, 'a>) -> Option<CheckPlace<'a>>
 }
 
 /// What the file header tells of sections, where no table is told of.
-fn untold_sections<'a>(bound: &BoundLink<'_, 'a>) -> Option<CheckPlace<'a>>
+fn untold_sections<'a>(bound: &BoundLink<'_, 'a>) -> Failure<'a>
     requires { bound.now.map.symtab ≡ None }
     ensures { IfSome result (FailsIn bound.now) }
 {
@@ -48,7 +48,7 @@ fn untold_sections<'a>(bound: &BoundLink<'_, 'a>) -> Option<CheckPlace<'a>>
 }
 
 /// The numbers of the file header that tell of the sections of a table, where they are others.
-fn wrong_numbers<'a>(bound: &BoundLink<'_, 'a>) -> Option<CheckPlace<'a>>
+fn wrong_numbers<'a>(bound: &BoundLink<'_, 'a>) -> Failure<'a>
     requires { IsSome bound.now.map.symtab }
     ensures { IfSome result (FailsIn bound.now) }
 {
@@ -60,11 +60,7 @@ fn wrong_numbers<'a>(bound: &BoundLink<'_, 'a>) -> Option<CheckPlace<'a>>
 }
 
 /// The offset that the line tells of, where the table has to be elsewhere.
-fn wrong_offset<'a>(
-    bound: &BoundLink<'_, 'a>,
-    line: SymtabLine,
-    wanted: u64,
-) -> Option<CheckPlace<'a>>
+fn wrong_offset<'a>(bound: &BoundLink<'_, 'a>, line: SymtabLine, wanted: u64) -> Failure<'a>
     requires line { bound.now.map.symtab ≡ Some line }
     requires wanted { wanted ≡ symtab_at (parts_end bound.now) }
     ensures { IfSome result (FailsIn bound.now) }
@@ -77,11 +73,7 @@ fn wrong_offset<'a>(
 }
 
 /// The number of entries that the line tells of, where there should be another.
-fn wrong_count<'a>(
-    bound: &BoundLink<'_, 'a>,
-    line: SymtabLine,
-    wanted: u64,
-) -> Option<CheckPlace<'a>>
+fn wrong_count<'a>(bound: &BoundLink<'_, 'a>, line: SymtabLine, wanted: u64) -> Failure<'a>
     requires line { bound.now.map.symtab ≡ Some line }
     requires wanted { wanted ≡ symbol_table.entry_count (tabled_of bound.now) }
     ensures { IfSome result (FailsIn bound.now) }
@@ -94,7 +86,7 @@ fn wrong_count<'a>(
 }
 
 /// Where the file header says that the headers of sections are, where they should be elsewhere.
-fn wrong_headers<'a>(bound: &BoundLink<'_, 'a>, wanted: u64) -> Option<CheckPlace<'a>>
+fn wrong_headers<'a>(bound: &BoundLink<'_, 'a>, wanted: u64) -> Failure<'a>
     requires told { IsSome bound.now.map.symtab }
     requires wanted { wanted ≡ headers_at (parts_end bound.now) (tabled_of bound.now) }
     ensures { IfSome result (FailsIn bound.now) }
@@ -153,7 +145,7 @@ fn wrong_byte<'a>(
     bytes: &[u8],
     wanted: &[u8],
     names: &[&'a [u8]],
-) -> Option<CheckPlace<'a>>
+) -> Failure<'a>
     requires told { IsSome bound.now.map.symtab }
     requires end { end ≡ parts_end bound.now }
     requires bytes { bytes.now ≡ tail_of bound.now }
@@ -241,7 +233,7 @@ fn add_byte<'a>(
     end: u64,
     table: &TableBytes<'a>,
     places: &Places,
-) -> Result<(), AllocError>
+) -> Added
     requires told { IsSome bound.now.map.symtab }
     requires end { end ≡ parts_end bound.now }
     requires low { end ≤ 2 ^ 46 }
@@ -265,7 +257,7 @@ fn add_contents<'a>(
     line: SymtabLine,
     end: u64,
     table: &TableBytes<'a>,
-) -> Result<(), AllocError>
+) -> Added
     requires line { bound.now.map.symtab ≡ Some line }
     requires end { end ≡ parts_end bound.now }
     requires low { end ≤ 2 ^ 46 }
@@ -302,7 +294,7 @@ fn add_table<'a>(
     found: &mut Found<'a>,
     bound: &BoundLink<'_, 'a>,
     line: SymtabLine,
-) -> Result<(), AllocError>
+) -> Added
     requires clauses { HoldsBefore clause.C14 bound.now }
     requires line { bound.now.map.symtab ≡ Some line }
     requires before { AreFailures bound.now found.old.places.items }
@@ -318,11 +310,7 @@ fn add_table<'a>(
 }
 
 /// Adds where what is told of a table, if it is told, is otherwise.
-fn add_told<'a>(
-    alloc: Global,
-    found: &mut Found<'a>,
-    bound: &BoundLink<'_, 'a>,
-) -> Result<(), AllocError>
+fn add_told<'a>(alloc: Global, found: &mut Found<'a>, bound: &BoundLink<'_, 'a>) -> Added
     requires clauses { HoldsBefore clause.C14 bound.now }
     requires before { AreFailures bound.now found.old.places.items }
     ensures { OnOk result (AreFailures bound.now found.new.places.items) }
@@ -334,11 +322,7 @@ fn add_told<'a>(
 }
 
 /// Adds where the fourteenth clause fails.
-pub fn add_c14<'a>(
-    alloc: Global,
-    found: &mut Found<'a>,
-    bound: &BoundLink<'_, 'a>,
-) -> Result<(), AllocError>
+pub fn add_c14<'a>(alloc: Global, found: &mut Found<'a>, bound: &BoundLink<'_, 'a>) -> Added
     requires clauses { HoldsBefore clause.C14 bound.now }
     requires before { AreFailures bound.now found.old.places.items }
     ensures { OnOk result (AreFailures bound.now found.new.places.items) }

@@ -1,17 +1,17 @@
 //! How a place of a failed check reads: a line that says what is there, and what should be.
 
 use crate::clause::kind_of;
-use crate::map_text::{
-    write_common_line, write_drop_line, write_missing_line, write_object_line, write_place_line,
-    write_symbol_line,
-};
-use crate::memory::text::{write_got, write_memory, write_relocation_place, write_thread};
+use crate::map_text::write_line;
+use crate::memory::text::{write_got, write_memory, write_relocation, write_thread};
 use crate::place::{CheckPlace, EntryPlace, Neighbours, Part, PartName};
 use check_link::{Link, Piece, Placed};
 use elf_model::{Clause, ProgramHeader};
 use input_names::{Name, ObjectName};
 use std::io::Write;
 use std::{fmt, io};
+
+/// Whether a line could be written.
+pub type Told = io::Result<()>;
 
 /// The object that has a number in the map, which reads as the path of its file and the member that it is.
 #[derive(Clone, Copy)]
@@ -72,30 +72,23 @@ impl fmt::Display for PartText<'_> {
         match &self.1.name {
             PartName::Headers => f.write_str("the headers"),
             PartName::Got => f.write_str("the GOT"),
-            PartName::Piece(placed) => write!(f, "{}", PieceText(self.0, placed)),
-            PartName::Thread(placed) => write!(f, "{}", PieceText(self.0, placed)),
+            PartName::Piece(placed) | PartName::Thread(placed) => {
+                write!(f, "{}", PieceText(self.0, placed))
+            }
         }?;
-        write!(
-            f,
-            " at {:#x}, {:#x} bytes",
-            self.1.thing.at, self.1.thing.size
-        )
+        let thing = &self.1.thing;
+        write!(f, " at {:#x}, {:#x} bytes", thing.at, thing.size)
     }
 }
 
-fn write_far<W: Write>(out: &mut W, link: &Link<'_>, far: &Neighbours<'_>) -> io::Result<()> {
-    let (first, second) = (
-        SectionText(link, &far.first.piece),
-        SectionText(link, &far.second.piece),
-    );
-    let align = far.second.piece.header.sh_addralign;
-    write!(out, "{second} at {:#x}, aligned to {align}", far.second.at)?;
-    let size = far.first.piece.header.sh_size;
-    write!(
-        out,
-        ": not close after {first} at {:#x}, {size:#x} bytes",
-        far.first.at
-    )
+fn write_far<W: Write>(out: &mut W, link: &Link<'_>, far: &Neighbours<'_>) -> Told {
+    let (first, second) = (&far.first, &far.second);
+    let align = second.piece.header.sh_addralign;
+    let section = SectionText(link, &second.piece);
+    write!(out, "{section} at {:#x}, aligned to {align}", second.at)?;
+    let section = SectionText(link, &first.piece);
+    write!(out, ": not close after {section} at {:#x}", first.at)?;
+    write!(out, ", {:#x} bytes", first.piece.header.sh_size)
 }
 
 /// The rights that a sum of flags gives, as readelf shows them.
@@ -109,57 +102,42 @@ pub fn rights_text(rights: u64) -> &'static str {
 }
 
 /// Writes in which segment a part is whole that must be in one with other rights.
-fn write_segment<W: Write>(
-    out: &mut W,
-    wanted: u64,
-    segment: &Option<ProgramHeader>,
-) -> io::Result<()> {
+fn write_segment<W: Write>(out: &mut W, wanted: u64, segment: &Option<ProgramHeader>) -> Told {
     let wanted = rights_text(wanted);
     match segment {
         Some(h) => {
             let rights = rights_text(u64::from(h.p_flags));
             write!(out, "in a segment with {rights}, and not {wanted}")
         }
-        None => write!(
-            out,
-            "whole in no segment, and should be in one with {wanted}"
-        ),
+        None => {
+            out.write_all(b"whole in no segment, and should be in one ")?;
+            write!(out, "with {wanted}")
+        }
     }
 }
 
-fn write_entry<W: Write>(out: &mut W, place: &EntryPlace<'_>) -> io::Result<()> {
-    let name = Name(place.name);
+fn write_entry<W: Write>(out: &mut W, place: &EntryPlace<'_>) -> Told {
+    write!(out, "the entry {} ", Name(place.name))?;
     match &place.wanted {
-        Some(wanted) => write!(
-            out,
-            "the entry {name} is at {:#x}, and e_entry is {:#x}",
-            wanted.value, place.e_entry
-        ),
-        None => write!(
-            out,
-            "the entry {name} has no definition outside thread-local storage"
-        ),
+        Some(wanted) => {
+            let (value, e_entry) = (wanted.value, place.e_entry);
+            write!(out, "is at {value:#x}, and e_entry is {e_entry:#x}")
+        }
+        None => out.write_all(b"has no definition outside thread-local storage"),
     }
 }
 
 /// Writes a place of the fifth or the sixth clause.
-fn write_placement<W: Write>(
-    out: &mut W,
-    link: &Link<'_>,
-    place: &CheckPlace<'_>,
-) -> io::Result<()> {
+fn write_placement<W: Write>(out: &mut W, link: &Link<'_>, place: &CheckPlace<'_>) -> Told {
     match place {
-        CheckPlace::Unaligned(part) => write!(
-            out,
-            "{}: not aligned to {}",
-            PartText(link, part),
-            part.thing.align
-        ),
-        CheckPlace::Outside(part, base) => write!(
-            out,
-            "{}: not from the base {base:#x} on and below 2^46",
-            PartText(link, part)
-        ),
+        CheckPlace::Unaligned(part) => {
+            let (text, align) = (PartText(link, part), part.thing.align);
+            write!(out, "{text}: not aligned to {align}")
+        }
+        CheckPlace::Outside(part, base) => {
+            let text = PartText(link, part);
+            write!(out, "{text}: not from the base {base:#x} on and below 2^46")
+        }
         CheckPlace::Shared(first, second) => {
             let (first, second) = (PartText(link, first), PartText(link, second));
             write!(out, "{first}: shares addresses with {second}")
@@ -169,26 +147,10 @@ fn write_placement<W: Write>(
             write!(out, "{}: ", PartText(link, part))?;
             write_segment(out, part.thing.rights, segment)
         }
-        CheckPlace::First(address, base) => write!(
-            out,
-            "the first segment begins at {address:#x}, and not at the base {base:#x}"
-        ),
-        _ => Ok(()),
-    }
-}
-
-/// Writes a place of the third or the thirteenth clause.
-fn write_map_line<W: Write>(
-    out: &mut W,
-    link: &Link<'_>,
-    place: &CheckPlace<'_>,
-) -> io::Result<()> {
-    match place {
-        CheckPlace::DropLine(place) => write_drop_line(out, link, place),
-        CheckPlace::PlaceLine(place) => write_place_line(out, link, place),
-        CheckPlace::CommonLine(place) => write_common_line(out, place),
-        CheckPlace::SymbolLine(place) => write_symbol_line(out, link, place),
-        CheckPlace::NoSymbolLine(name, wanted) => write_missing_line(out, name, wanted),
+        CheckPlace::First(address, base) => {
+            write!(out, "the first segment begins at {address:#x}, and ")?;
+            write!(out, "not at the base {base:#x}")
+        }
         _ => Ok(()),
     }
 }
@@ -201,14 +163,13 @@ pub fn write_check_place<W: Write>(
 ) -> io::Result<()> {
     match place {
         CheckPlace::Whole(clause) => write!(out, "clause C{} as a whole", *clause as u8),
-        CheckPlace::ObjectLine(place) => write_object_line(out, link, place),
         CheckPlace::Entry(place) => write_entry(out, place),
         CheckPlace::Table(place) => write!(out, "{place}"),
         _ => match kind_of(place) {
-            Clause::C3 | Clause::C13 => write_map_line(out, link, place),
+            Clause::C2 | Clause::C3 | Clause::C13 => write_line(out, link, place),
             Clause::C7 => write_got(out, link, place),
             Clause::C8 => write_thread(out, link, place),
-            Clause::C9 => write_relocation_place(out, link, place),
+            Clause::C9 => write_relocation(out, link, place),
             Clause::C10 | Clause::C11 => write_memory(out, link, place),
             _ => write_placement(out, link, place),
         },

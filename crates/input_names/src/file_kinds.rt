@@ -1,5 +1,7 @@
 //! What a file is that is no object and no archive of the profile, by its first bytes, for reading only.
 
+const BITCODE: &str = "an LLVM bitcode file, which -flto makes in place of an object";
+
 /// Files that begin with these bytes are of a kind.
 static MAGICS: [(&[u8], &str); 11] = [
     (
@@ -7,14 +9,8 @@ static MAGICS: [(&[u8], &str); 11] = [
         "a thin archive, which has no members of its own: ar makes one that has without T",
     ),
     (b"!<arch>\n", "an archive, whose name has to end in .a"),
-    (
-        b"BC\xc0\xde",
-        "an LLVM bitcode file, which -flto makes in place of an object",
-    ),
-    (
-        b"\xde\xc0\x17\x0b",
-        "an LLVM bitcode file, which -flto makes in place of an object",
-    ),
+    (b"BC\xc0\xde", BITCODE),
+    (b"\xde\xc0\x17\x0b", BITCODE),
     (b"\xcf\xfa\xed\xfe", "a Mach-O file"),
     (b"\xce\xfa\xed\xfe", "a Mach-O file"),
     (b"\xca\xfe\xba\xbe", "a Mach-O file for several machines"),

@@ -1,5 +1,6 @@
 //! What is wrong with relocations, and how it reads.
 
+use crate::relocation_places::RelocationPlace;
 use crate::relocation_types::RelocationSymbol;
 use std::fmt;
 use std::fmt::{Formatter, Write};
@@ -21,28 +22,26 @@ pub enum RelocationFault {
     MixedSection,
 }
 
-/// What is wrong with a relocation to a symbol.
+/// What is wrong with a relocation, which is at a place.
 #[derive(Clone, Copy)]
-pub struct FaultOf<'a>(pub RelocationFault, pub RelocationSymbol<'a>);
+pub struct FaultOf<'p, 'a>(pub RelocationFault, pub &'p RelocationPlace<'a>);
 
-impl fmt::Display for FaultOf<'_> {
+impl fmt::Display for FaultOf<'_, '_> {
     fn fmt<W: Write>(&self, f: &mut Formatter<W>) -> fmt::Result {
-        let symbol = self.1;
-        match self.0 {
-            RelocationFault::Undefined => write!(f, "{symbol} is not defined"),
-            RelocationFault::RefToDropped => {
-                write!(f, "{symbol} is LOCAL in a section that is not loaded")
+        let text = match self.0 {
+            RelocationFault::Undefined => "is not defined",
+            RelocationFault::RefToDropped => "is LOCAL in a section that is not loaded",
+            RelocationFault::TlsMismatch =>
+                "is thread-local, or not, against the relocation's type",
+            RelocationFault::MixedSection =>
+                "is a bound of an output name of several output sections",
+            RelocationFault::RelocKind => {
+                return f.write_str("not a type of relocation that is linked");
             }
-            RelocationFault::RelocKind => f.write_str("not a type of relocation that is linked"),
-            RelocationFault::FieldOutside => f.write_str("the field is not inside its section"),
-            RelocationFault::TlsMismatch => write!(
-                f,
-                "{symbol} is thread-local, or not, against the relocation's type"
-            ),
-            RelocationFault::MixedSection => write!(
-                f,
-                "{symbol} is a bound of an output name of several output sections"
-            ),
-        }
+            RelocationFault::FieldOutside => {
+                return f.write_str("the field is not inside its section");
+            }
+        };
+        write!(f, "{} {text}", RelocationSymbol(self.1))
     }
 }

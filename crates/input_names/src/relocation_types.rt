@@ -1,54 +1,22 @@
 //! The names of the types of relocations (AMD64 psABI 4.4.1, "Relocation Types"), and entries with these.
+use crate::relocation_places::RelocationPlace;
 use crate::text::{Called, Name};
-use elf_model::Rela;
 use std::fmt;
 
-/// What the name of a type has behind `R_X86_64_`, at the place of its number.
-static NAMES: [&str; 43] = [
-    "NONE",
-    "64",
-    "PC32",
-    "GOT32",
-    "PLT32",
-    "COPY",
-    "GLOB_DAT",
-    "JUMP_SLOT",
-    "RELATIVE",
-    "GOTPCREL",
-    "32",
-    "32S",
-    "16",
-    "PC16",
-    "8",
-    "PC8",
-    "DTPMOD64",
-    "DTPOFF64",
-    "TPOFF64",
-    "TLSGD",
-    "TLSLD",
-    "DTPOFF32",
-    "GOTTPOFF",
-    "TPOFF32",
-    "PC64",
-    "GOTOFF64",
-    "GOTPC32",
-    "GOT64",
-    "GOTPCREL64",
-    "GOTPC64",
-    "GOTPLT64",
-    "PLTOFF64",
-    "SIZE32",
-    "SIZE64",
-    "GOTPC32_TLSDESC",
-    "TLSDESC_CALL",
-    "TLSDESC",
-    "IRELATIVE",
-    "RELATIVE64",
-    "PC32_BND",
-    "PLT32_BND",
-    "GOTPCRELX",
-    "REX_GOTPCRELX",
+/// What the names of types have behind `R_X86_64_`, in the order of their numbers, eight in each row.
+static NAMES: [&str; 6] = [
+    "NONE 64 PC32 GOT32 PLT32 COPY GLOB_DAT JUMP_SLOT",
+    "RELATIVE GOTPCREL 32 32S 16 PC16 8 PC8",
+    "DTPMOD64 DTPOFF64 TPOFF64 TLSGD TLSLD DTPOFF32 GOTTPOFF TPOFF32",
+    "PC64 GOTOFF64 GOTPC32 GOT64 GOTPCREL64 GOTPC64 GOTPLT64 PLTOFF64",
+    "SIZE32 SIZE64 GOTPC32_TLSDESC TLSDESC_CALL TLSDESC IRELATIVE RELATIVE64 PC32_BND",
+    "PLT32_BND GOTPCRELX REX_GOTPCRELX",
 ];
+
+fn name_of(number: u32) -> Option<&'static str> {
+    let row = NAMES.get(number as usize / 8)?;
+    row.split(' ').nth(number as usize % 8)
+}
 
 /// A type of relocations, by its name; by its number where the psABI has none.
 #[derive(Clone, Copy)]
@@ -56,46 +24,40 @@ struct RelocationType(u32);
 
 impl fmt::Display for RelocationType {
     fn fmt<W: fmt::Write>(&self, f: &mut fmt::Formatter<W>) -> fmt::Result {
-        match NAMES.get(self.0 as usize) {
+        match name_of(self.0) {
             Some(name) => write!(f, "R_X86_64_{name}"),
             None => write!(f, "type {}", self.0),
         }
     }
 }
 
-/// An entry of a RELA section, both by their numbers, which reads with its type and the number and the name of its symbol.
+/// A relocation, which reads as its number, that of its section, its type, the number of its symbol and, where this is wanted,
+/// the name of that.
 #[derive(Clone, Copy)]
-pub struct RelocationEntry<'a> {
-    pub table: u64,
-    pub number: u64,
-    pub entry: Rela,
-    pub symbol_name: &'a [u8],
-}
+pub struct RelocationEntry<'p, 'a>(pub &'p RelocationPlace<'a>, pub bool);
 
-impl fmt::Display for RelocationEntry<'_> {
+impl fmt::Display for RelocationEntry<'_, '_> {
     fn fmt<W: fmt::Write>(&self, f: &mut fmt::Formatter<W>) -> fmt::Result {
-        let (table, number, symbol) = (self.table, self.number, self.entry.symbol());
-        let kind = RelocationType(self.entry.kind());
+        let place = self.0;
+        let (table, number, symbol) = (place.table, place.number, place.entry.symbol());
+        let kind = RelocationType(place.entry.kind());
+        let name = Called(if self.1 { place.symbol_name } else { &[] });
         write!(
             f,
-            "relocation {number} of section {table}, {kind}, to symbol {symbol}{}",
-            Called(self.symbol_name)
+            "relocation {number} of section {table}, {kind}, to symbol {symbol}{name}"
         )
     }
 }
 
 /// The symbol of a relocation, by its name, or by its number where it has none.
 #[derive(Clone, Copy)]
-pub struct RelocationSymbol<'a> {
-    pub entry: Rela,
-    pub name: &'a [u8],
-}
+pub struct RelocationSymbol<'p, 'a>(pub &'p RelocationPlace<'a>);
 
-impl fmt::Display for RelocationSymbol<'_> {
+impl fmt::Display for RelocationSymbol<'_, '_> {
     fn fmt<W: fmt::Write>(&self, f: &mut fmt::Formatter<W>) -> fmt::Result {
-        if self.name.is_empty() {
-            return write!(f, "symbol {}", self.entry.symbol());
+        if self.0.symbol_name.is_empty() {
+            return write!(f, "symbol {}", self.0.entry.symbol());
         }
-        write!(f, "{}", Name(self.name))
+        write!(f, "{}", Name(self.0.symbol_name))
     }
 }

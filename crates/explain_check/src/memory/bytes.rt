@@ -1,23 +1,25 @@
 //! C10: the first wrong byte of each piece.
-ghost use Rattle.std.specs.Prelude.{◌≡◌, ◌↔◌, ◌≤◌, ◌-◌, ◌<◌, IfSome, IsTrue, OnOk, Some, find, option_copied, option_map, slice_index};
+ghost use Rattle.std.specs.Prelude.{◌≡◌, ◌↔◌, ◌≤◌, ◌-◌, IfSome, IsTrue, OnOk, Some, find, option_copied, option_map, slice_index};
 ghost use Rattle.std.specs.List.{slice_get};
 ghost use Rattle.byteview.specs.Numbers.{le_bytes};
 ghost use Rattle.elf_model.specs.RightLink.{objects_of, placed_of, where_of};
 ghost use Rattle.check_link.specs.Views.{placed_view};
 ghost use Rattle.check_relocs.specs.Bytes as bytes;
 ghost use Rattle.check_relocs.specs.Fields.{AreRows};
+ghost use Rattle.explain_check.specs.BytePlaces.{IsFieldOver};
 ghost use Rattle.explain_check.specs.Places.{AreFailures, FailsIn};
 
-use crate::found::Found;
+use crate::found::{Added, Found};
 use crate::memory::fields::field_place;
 use crate::memory::sums::sum;
 use crate::memory_place::BytePlace;
-use crate::place::CheckPlace;
+use crate::place::{CheckPlace, Failure};
 use check_link::{Placed, load_size};
 use check_relocs::{Field, fields_in};
 use checker::BoundLink;
+use input_names::RelocationPlace;
 use loader_model::Memory;
-use std::alloc::AllocError;
+use std::alloc::Global;
 
 /// Byte `k` of a run; 0 past its end.
 pub fn byte_of(run: &[u8], k: u64) -> u8
@@ -85,27 +87,14 @@ pub fn is_byte(there: &Option<u8>, wanted: u8) -> bool
 }
 
 /// The first index from one on and below another at which two runs differ; bytes past an end count as 0.
-fn first_difference(a: &[u8], b: &[u8], from: u64, to: u64) -> Option<u64>
-    ensures within { IfSome result (λ k. (from ≤ k) × (k < to)) }
-    ensures differs { IfSome result (λ k. ¬ (slice_index a.now k ≡ slice_index b.now k)) }
-{
-    for k in from..to {
-        if byte_of(a, k) != byte_of(b, k) {
-            return Some(k);
-        }
-    }
-    None
+fn first_difference(a: &[u8], b: &[u8], from: u64, to: u64) -> Option<u64> {
+    (from..to).find(|k| byte_of(a, *k) != byte_of(b, *k))
 }
 
 /// The first index at which a run differs from a field's value.
 fn first_in_field(held: &[u8], field: &Field) -> Option<u64> {
-    for j in 0..field.width as u64 {
-        let k = field.at.saturating_add(j);
-        if byte_in(field, k) != Some(byte_of(held, k)) {
-            return Some(k);
-        }
-    }
-    None
+    let to = field.at.saturating_add(field.width as u64);
+    (field.at..to).find(|k| byte_in(field, *k) != Some(byte_of(held, *k)))
 }
 
 /// The first index below a size at which what memory holds of a section isn't what its fields, which stand in order, and
@@ -113,11 +102,13 @@ fn first_in_field(held: &[u8], field: &Field) -> Option<u64> {
 fn first_unwanted(held: &[u8], own: &[u8], fields: &[Field], size: u64) -> Option<u64> {
     let mut from = 0;
     for field in fields {
-        if let Some(k) = first_difference(held, own, from, field.at) {
-            return Some(k);
+        let before = first_difference(held, own, from, field.at);
+        if before.is_some() {
+            return before;
         }
-        if let Some(k) = first_in_field(held, field) {
-            return Some(k);
+        let inside = first_in_field(held, field);
+        if inside.is_some() {
+            return inside;
         }
         from = field.at.saturating_add(field.width as u64);
     }
@@ -140,16 +131,20 @@ pub fn piece_at<'a>(bound: &BoundLink<'_, 'a>, number: usize) -> Option<Placed<'
     bound.placed().get(number).copied()
 }
 
-/// Byte `k` of the piece that has a number, where it isn't what the fields of the piece's section want.
+/// Byte `k` of the piece that has a number, where it isn't what the fields of the piece's section want; and the relocation in
+/// whose field it lies, where that is told.
 fn wrong_byte<'a>(
     bound: &BoundLink<'_, 'a>,
     rows: &[Vec<Field>],
     number: usize,
     placed: &Placed<'a>,
     k: u64,
-) -> Option<CheckPlace<'a>>
+    relocation: Option<RelocationPlace<'a>>,
+) -> Failure<'a>
     requires rows { AreRows (objects_of bound.now) (where_of bound.now) rows.now }
     requires piece { slice_get (placed_of bound.now) number ≡ Some (placed_view placed.now) }
+    requires field { IfSome relocation (IsFieldOver (objects_of bound.now)
+        placed.now.piece.object placed.now.piece.section k) }
     ensures { IfSome result (FailsIn bound.now) }
 {
     let piece = &placed.piece;
@@ -163,7 +158,6 @@ fn wrong_byte<'a>(
     if is_byte(&there, wanted) {
         return None;
     }
-    let relocation = field_place(bound, piece.object, piece.section, k);
     Some(CheckPlace::Byte(BytePlace {
         number: number as u64,
         piece: *placed,
@@ -176,11 +170,12 @@ fn wrong_byte<'a>(
 
 /// Adds the first wrong byte of the piece that has a number.
 fn add_piece<'a>(
+    alloc: Global,
     found: &mut Found<'a>,
     bound: &BoundLink<'_, 'a>,
     rows: &[Vec<Field>],
     number: usize,
-) -> Result<(), AllocError>
+) -> Added
     requires rows { AreRows (objects_of bound.now) (where_of bound.now) rows.now }
     requires before { AreFailures bound.now found.old.places.items }
     ensures { OnOk result (AreFailures bound.now found.new.places.items) }
@@ -196,22 +191,24 @@ fn add_piece<'a>(
         found.count();
         return Ok(());
     }
-    found.add_some(wrong_byte(bound, rows, number, &placed, k))
+    let relocation = field_place(alloc, bound, placed.piece.object, placed.piece.section, k)?;
+    found.add_some(wrong_byte(bound, rows, number, &placed, k, relocation))
 }
 
 /// Adds the first wrong byte of each piece: where the tenth clause fails, given the fields of the link's relocations by
 /// objects.
 pub fn add_c10<'a>(
+    alloc: Global,
     found: &mut Found<'a>,
     bound: &BoundLink<'_, 'a>,
     rows: &[Vec<Field>],
-) -> Result<(), AllocError>
+) -> Added
     requires rows { AreRows (objects_of bound.now) (where_of bound.now) rows.now }
     requires before { AreFailures bound.now found.old.places.items }
     ensures { OnOk result (AreFailures bound.now found.new.places.items) }
 {
     for number in 0..bound.placed().len() {
-        add_piece(found, bound, rows, number)?;
+        add_piece(alloc, found, bound, rows, number)?;
     }
     Ok(())
 }

@@ -1,20 +1,20 @@
 //! C11: bytes of memory outside of all things that aren't fill, the first of each gap.
-ghost use Rattle.std.specs.Prelude.{◌≡◌, ◌↔◌, All, IfSome, IsTrue, OnOk, Some};
+ghost use Rattle.std.specs.Prelude.{◌≡◌, ◌↔◌, All, IfSome, IsTrue, Some};
 ghost use Rattle.std.specs.List.Sorted.{IsNonDecreasingBy};
 ghost use Rattle.elf_model.specs.MemoryImage.{memory_of};
 ghost use Rattle.elf_model.specs.Placement.{Covers};
 ghost use Rattle.elf_model.specs.RightLink.{fill_of};
 ghost use Rattle.loader_model.specs.Rights as loader;
-ghost use Rattle.explain_check.specs.Places.{AreFailures, FailsIn};
+ghost use Rattle.explain_check.specs.Places.{FailsIn};
 
-use crate::found::Found;
+use crate::found::Added;
 use crate::memory_place::FillPlace;
-use crate::place::CheckPlace;
+use crate::place::{CheckPlace, Failure};
 use checker::BoundLink;
 use checker::c11_fill::begun_between;
 use elf_model::{ProgramHeader, Thing};
 use loader_model::{Memory, Rights};
-use std::alloc::AllocError;
+use std::alloc::{AllocError, Global};
 
 /// Whether an address lies in a thing.
 fn covers(thing: &Thing, address: u64) -> bool
@@ -59,7 +59,7 @@ fn cell_at(memory: &Memory<'_>, address: u64) -> Option<(u8, u64)>
 }
 
 /// An address that is mapped and lies in no thing, where its byte isn't fill.
-fn wrong_fill<'a>(bound: &BoundLink<'_, 'a>, address: u64) -> Option<CheckPlace<'a>>
+pub fn wrong_fill<'a>(bound: &BoundLink<'_, 'a>, address: u64) -> Failure<'a>
     ensures { IfSome result (FailsIn bound.now) }
 {
     let cell = cell_at(bound.memory(), address)?;
@@ -88,61 +88,39 @@ fn first_unfilled(memory: &Memory<'_>, from: u64, to: u64, fill: u8) -> Option<u
     }
 }
 
-/// Adds the first byte that isn't fill, from one address on and below another, between the things of a segment.
-fn add_gap<'a>(
-    found: &mut Found<'a>,
-    bound: &BoundLink<'_, 'a>,
-    segment: &ProgramHeader,
-    from: u64,
-    to: u64,
-) -> Result<(), AllocError>
-    requires { AreFailures bound.now found.old.places.items }
-    ensures { OnOk result (AreFailures bound.now found.new.places.items) }
-{
-    let fill = fill_of(segment.p_flags as u64);
-    let Some(address) = first_unfilled(bound.memory(), from, to, fill) else {
-        return Ok(());
-    };
-    if found.is_full() {
-        found.count();
-        return Ok(());
+/// Adds a number to a list, where there is one.
+pub fn push_some(list: &mut Vec<u64>, number: Option<u64>) -> Added {
+    if let Some(number) = number {
+        list.push(number)?;
     }
-    found.add_some(wrong_fill(bound, address))
+    Ok(())
 }
 
-/// Adds what isn't fill between the things, which stand by address, of a segment.
-fn add_gaps<'a>(
-    found: &mut Found<'a>,
-    bound: &BoundLink<'_, 'a>,
+/// Adds the bytes that aren't fill between the things, which stand by address, of a segment, the first of each gap.
+fn add_gaps(
+    gaps: &mut Vec<u64>,
+    memory: &Memory<'_>,
     sorted: &[Thing],
     segment: &ProgramHeader,
-) -> Result<(), AllocError>
-    requires rising { IsNonDecreasingBy (λ t. t.at) sorted.now }
-    requires before { AreFailures bound.now found.old.places.items }
-    ensures { OnOk result (AreFailures bound.now found.new.places.items) }
+) -> Added
+    requires { IsNonDecreasingBy (λ t. t.at) sorted.now }
 {
+    let fill = fill_of(segment.p_flags as u64);
     let top = segment.p_vaddr.saturating_add(segment.p_memsz);
     let mut from = segment.p_vaddr;
     for thing in begun_between(sorted, segment.p_vaddr, top) {
-        add_gap(found, bound, segment, from, thing.at)?;
+        push_some(gaps, first_unfilled(memory, from, thing.at, fill))?;
         from = from.max(thing.at.saturating_add(thing.size));
     }
-    add_gap(found, bound, segment, from, top)
+    push_some(gaps, first_unfilled(memory, from, top, fill))
 }
 
-/// Adds the bytes of memory outside of all things that aren't fill, the first of each gap between the things, which stand by
-/// address.
-pub fn add_fill<'a>(
-    found: &mut Found<'a>,
-    bound: &BoundLink<'_, 'a>,
-    sorted: &[Thing],
-) -> Result<(), AllocError>
-    requires rising { IsNonDecreasingBy (λ t. t.at) sorted.now }
-    requires before { AreFailures bound.now found.old.places.items }
-    ensures { OnOk result (AreFailures bound.now found.new.places.items) }
-{
+/// The addresses of the bytes of memory between things that aren't fill, the first of each gap.
+pub fn gaps_of_memory(alloc: Global, bound: &BoundLink<'_, '_>) -> Result<Vec<u64>, AllocError> {
+    let sorted = bound.things_by_address();
+    let mut gaps = Vec::new(alloc);
     for segment in bound.memory().segments() {
-        add_gaps(found, bound, sorted, segment)?;
+        add_gaps(&mut gaps, bound.memory(), sorted, segment)?;
     }
-    Ok(())
+    Ok(gaps)
 }

@@ -9,11 +9,11 @@ ghost use Rattle.check_relocs.specs.Needs.{AreNeeds};
 ghost use Rattle.explain_check.specs.GotPlaces.{IsWrongGotByte};
 ghost use Rattle.explain_check.specs.Places.{AreFailures, FailsIn};
 
-use crate::found::Found;
+use crate::found::{Added, Found};
 use crate::memory::bytes::{byte_of, is_byte};
 use crate::memory::slots::{add_lines, add_unserved, line_at};
 use crate::memory_place::GotBytePlace;
-use crate::place::CheckPlace;
+use crate::place::{CheckPlace, Failure};
 use check_relocs::{Needs, needs_of};
 use checker::BoundLink;
 use checker::c07_got::wanted_bytes;
@@ -21,7 +21,7 @@ use elf_model::GotLine;
 use std::alloc::{AllocError, Global};
 
 /// A GOT that is there and that no relocation asks for, or the other way round.
-fn wrong_presence<'a>(bound: &BoundLink<'_, 'a>, needs: &Needs<'_>) -> Option<CheckPlace<'a>>
+fn wrong_presence<'a>(bound: &BoundLink<'_, 'a>, needs: &Needs<'_>) -> Failure<'a>
     requires { AreNeeds (objects_of bound.now) needs.now }
     ensures { IfSome result (FailsIn bound.now) }
 {
@@ -40,7 +40,7 @@ fn got_of(bound: &BoundLink<'_, '_>) -> Option<GotLine>
 }
 
 /// A GOT whose size isn't that of its slots.
-fn wrong_size<'a>(bound: &BoundLink<'_, 'a>, got: GotLine) -> Option<CheckPlace<'a>>
+fn wrong_size<'a>(bound: &BoundLink<'_, 'a>, got: GotLine) -> Failure<'a>
     requires { bound.now.map.got ≡ Some got }
     ensures { IfSome result (FailsIn bound.now) }
 {
@@ -61,11 +61,7 @@ fn place_of_slot(got: GotLine, number: usize) -> Option<u64>
 }
 
 /// The slot line that has a number, where its slot isn't behind those of the lines before.
-fn wrong_address<'a>(
-    bound: &BoundLink<'_, 'a>,
-    got: GotLine,
-    number: usize,
-) -> Option<CheckPlace<'a>>
+fn wrong_address<'a>(bound: &BoundLink<'_, 'a>, got: GotLine, number: usize) -> Failure<'a>
     requires { bound.now.map.got ≡ Some got }
     ensures { IfSome result (FailsIn bound.now) }
 {
@@ -105,12 +101,7 @@ fn wrong_byte(
 }
 
 /// The first wrong byte of word `i` of the GOT, which is to have these bytes.
-fn first_of_word<'a>(
-    bound: &BoundLink<'_, 'a>,
-    got: GotLine,
-    wanted: &[u8],
-    i: u64,
-) -> Option<CheckPlace<'a>>
+fn first_of_word<'a>(bound: &BoundLink<'_, 'a>, got: GotLine, wanted: &[u8], i: u64) -> Failure<'a>
     requires got { bound.now.map.got ≡ Some got }
     requires wanted { wanted.now ≡ got_bytes (objects_of bound.now) (where_of bound.now) }
     ensures { IfSome result (FailsIn bound.now) }
@@ -138,7 +129,7 @@ fn add_got<'a>(
     found: &mut Found<'a>,
     bound: &BoundLink<'_, 'a>,
     got: GotLine,
-) -> Result<(), AllocError>
+) -> Added
     requires got { bound.now.map.got ≡ Some got }
     requires before { AreFailures bound.now found.old.places.items }
     ensures { OnOk result (AreFailures bound.now found.new.places.items) }
@@ -155,11 +146,7 @@ fn add_got<'a>(
 
 /// Adds where the seventh clause fails: the GOT as a whole, lines of slots that nothing asks for or that stand twice,
 /// relocations without a slot, and what is wrong with the GOT.
-pub fn add_c7<'a>(
-    alloc: Global,
-    found: &mut Found<'a>,
-    bound: &BoundLink<'_, 'a>,
-) -> Result<(), AllocError>
+pub fn add_c7<'a>(alloc: Global, found: &mut Found<'a>, bound: &BoundLink<'_, 'a>) -> Added
     requires { AreFailures bound.now found.old.places.items }
     ensures { OnOk result (AreFailures bound.now found.new.places.items) }
 {

@@ -1,20 +1,18 @@
 //! C11: PT_LOADs that don't end as the things in them do.
 ghost use Rattle.std.specs.Prelude.{◌≡◌, ◌≢◌, ◌↔◌, ◌+◌, ◌≤◌, All, Any, IfSome, IsTrue, OnOk, Some, true};
 ghost use Rattle.std.specs.List.{slice_get};
-ghost use Rattle.std.specs.List.Sorted.{IsNonDecreasingBy};
 ghost use Rattle.elf_model.specs.MemoryImage.{loads};
 ghost use Rattle.elf_model.specs.RightLink.{EndsRight, IsOfSegment, things_of};
-ghost use Rattle.explain_check.specs.FillPlaces.{IsInFileOf};
+ghost use Rattle.explain_check.specs.FillPlaces.{IsAmong};
 ghost use Rattle.explain_check.specs.Places.{AreFailures, FailsIn};
 
-use crate::found::Found;
+use crate::found::{Added, Found};
 use crate::memory::sums::sum;
 use crate::memory_place::SegmentPlace;
-use crate::place::CheckPlace;
+use crate::place::{CheckPlace, Failure};
 use checker::BoundLink;
 use checker::c11_fill::{begun_between, ends_right, is_of_segment};
 use elf_model::{ProgramHeader, Thing};
-use std::alloc::AllocError;
 
 /// Whether a thing ends at an address.
 fn ends_at(thing: &Thing, end: u64) -> bool
@@ -37,96 +35,58 @@ fn holds_none(things: &[Thing], segment: &ProgramHeader) -> bool
     things.iter().all(|t| !is_of_segment(segment, t))
 }
 
-fn is_last(segment: &ProgramHeader, thing: &Thing, end: u64) -> bool
-    ensures { IsTrue result ↔ (IsOfSegment segment.now thing.now
+/// Whether a thing is a nonempty one of a segment, and has bytes in the file, where this is asked for.
+fn is_among(segment: &ProgramHeader, thing: &Thing, in_file: bool) -> bool
+    ensures { IsTrue result ↔ IsAmong in_file segment.now thing.now }
+{
+    is_of_segment(segment, thing) && (!in_file || thing.in_file)
+}
+
+fn is_last(segment: &ProgramHeader, thing: &Thing, in_file: bool, end: u64) -> bool
+    ensures { IsTrue result ↔ (IsAmong in_file segment.now thing.now
         × (thing.now.at + thing.now.size ≡ end)) }
 {
-    is_of_segment(segment, thing) && ends_at(thing, end)
+    is_among(segment, thing, in_file) && ends_at(thing, end)
 }
 
-fn is_no_later(segment: &ProgramHeader, thing: &Thing, end: u64) -> bool
-    ensures { IsTrue result ↔ (IsOfSegment segment.now thing.now
+fn is_no_later(segment: &ProgramHeader, thing: &Thing, in_file: bool, end: u64) -> bool
+    ensures { IsTrue result ↔ (IsAmong in_file segment.now thing.now
         → thing.now.at + thing.now.size ≤ end) }
 {
-    !is_of_segment(segment, thing) || ends_by(thing, end)
+    !is_among(segment, thing, in_file) || ends_by(thing, end)
 }
 
-/// Whether a nonempty thing of a segment ends at an address.
-fn has_last(things: &[Thing], segment: &ProgramHeader, end: u64) -> bool
+/// Whether one of these things ends at an address.
+fn has_last(things: &[Thing], segment: &ProgramHeader, in_file: bool, end: u64) -> bool
     ensures { IsTrue result ↔ Any
-        (λ t. IsOfSegment segment.now t × (t.at + t.size ≡ end)) things.now }
+        (λ t. IsAmong in_file segment.now t × (t.at + t.size ≡ end)) things.now }
 {
-    things.iter().any(|t| is_last(segment, t, end))
+    things.iter().any(|t| is_last(segment, t, in_file, end))
 }
 
-/// Whether no nonempty thing of a segment ends above an address.
-fn has_none_later(things: &[Thing], segment: &ProgramHeader, end: u64) -> bool
+/// Whether none of these things ends above an address.
+fn has_none_later(things: &[Thing], segment: &ProgramHeader, in_file: bool, end: u64) -> bool
     ensures { IsTrue result ↔ All
-        (λ t. IsOfSegment segment.now t → t.at + t.size ≤ end) things.now }
+        (λ t. IsAmong in_file segment.now t → t.at + t.size ≤ end) things.now }
 {
-    things.iter().all(|t| is_no_later(segment, t, end))
-}
-
-/// Whether a nonempty thing of a segment has bytes in the file.
-fn is_in_file_of(segment: &ProgramHeader, thing: &Thing) -> bool
-    ensures { IsTrue result ↔ IsInFileOf segment.now thing.now }
-{
-    is_of_segment(segment, thing) && thing.in_file
-}
-
-fn is_last_in_file(segment: &ProgramHeader, thing: &Thing, end: u64) -> bool
-    ensures { IsTrue result ↔ (IsInFileOf segment.now thing.now
-        × (thing.now.at + thing.now.size ≡ end)) }
-{
-    is_in_file_of(segment, thing) && ends_at(thing, end)
-}
-
-fn is_no_later_in_file(segment: &ProgramHeader, thing: &Thing, end: u64) -> bool
-    ensures { IsTrue result ↔ (IsInFileOf segment.now thing.now
-        → thing.now.at + thing.now.size ≤ end) }
-{
-    !is_in_file_of(segment, thing) || ends_by(thing, end)
-}
-
-fn has_last_in_file(things: &[Thing], segment: &ProgramHeader, end: u64) -> bool
-    ensures { IsTrue result ↔ Any
-        (λ t. IsInFileOf segment.now t × (t.at + t.size ≡ end)) things.now }
-{
-    things.iter().any(|t| is_last_in_file(segment, t, end))
+    things.iter().all(|t| is_no_later(segment, t, in_file, end))
 }
 
 /// Whether a thing of a segment that has bytes in the file ends at an address, or the segment begins there.
 fn is_end_in_file(things: &[Thing], segment: &ProgramHeader, end: u64) -> bool
     ensures { IsTrue result ↔ (end ≢ segment.now.p_vaddr
-        → Any (λ t. IsInFileOf segment.now t × (t.at + t.size ≡ end)) things.now) }
+        → Any (λ t. IsAmong true segment.now t × (t.at + t.size ≡ end)) things.now) }
 {
-    end == segment.p_vaddr || has_last_in_file(things, segment, end)
+    end == segment.p_vaddr || has_last(things, segment, true, end)
 }
 
-fn has_none_later_in_file(things: &[Thing], segment: &ProgramHeader, end: u64) -> bool
-    ensures { IsTrue result ↔ All (λ t. IsInFileOf segment.now t → t.at + t.size ≤ end) things.now }
-{
-    things.iter().all(|t| is_no_later_in_file(segment, t, end))
-}
-
-/// Where the last nonempty thing of a segment ends.
-fn last_end(things: &[Thing], segment: &ProgramHeader) -> Option<u64> {
+/// Where the last of these things ends.
+fn last_end(things: &[Thing], segment: &ProgramHeader, in_file: bool) -> Option<u64> {
     let mut last = None;
     for thing in things {
-        if is_of_segment(segment, thing) {
+        if is_among(segment, thing, in_file) {
             let end = thing.at.saturating_add(thing.size);
             last = last.max(Some(end));
-        }
-    }
-    last
-}
-
-/// Where the last thing of a segment ends that has bytes in the file; where the segment begins without one.
-fn file_end_of(things: &[Thing], segment: &ProgramHeader) -> u64 {
-    let mut last = segment.p_vaddr;
-    for thing in things {
-        if is_in_file_of(segment, thing) {
-            last = last.max(thing.at.saturating_add(thing.size));
         }
     }
     last
@@ -144,7 +104,7 @@ fn segment_at(bound: &BoundLink<'_, '_>, number: usize) -> Option<SegmentPlace>
 }
 
 /// A segment that has no nonempty thing, or whose memory doesn't end with the last one.
-fn wrong_memory_end<'a>(bound: &BoundLink<'_, 'a>, place: SegmentPlace) -> Option<CheckPlace<'a>>
+fn wrong_memory_end<'a>(bound: &BoundLink<'_, 'a>, place: SegmentPlace) -> Failure<'a>
     requires there { slice_get (loads bound.now.image) place.number ≡ Some place.header }
     requires wrong { ¬ EndsRight (things_of bound.now) place.header }
     ensures { IfSome result (FailsIn bound.now) }
@@ -154,29 +114,29 @@ fn wrong_memory_end<'a>(bound: &BoundLink<'_, 'a>, place: SegmentPlace) -> Optio
     if holds_none(things, &segment) {
         return Some(CheckPlace::EmptySegment(place));
     }
-    let end = last_end(things, &segment)?;
+    let end = last_end(things, &segment, false)?;
     let memory_end = sum(segment.p_vaddr, segment.p_memsz)?;
     if memory_end == end {
         return None;
     }
-    if !has_last(things, &segment, end) {
+    if !has_last(things, &segment, false, end) {
         return None;
     }
-    if !has_none_later(things, &segment, end) {
+    if !has_none_later(things, &segment, false, end) {
         return None;
     }
     Some(CheckPlace::MemoryEnd(place, end))
 }
 
 /// A segment whose file part doesn't end with the last thing in it that has bytes in the file.
-fn wrong_file_end<'a>(bound: &BoundLink<'_, 'a>, place: SegmentPlace) -> Option<CheckPlace<'a>>
+fn wrong_file_end<'a>(bound: &BoundLink<'_, 'a>, place: SegmentPlace) -> Failure<'a>
     requires there { slice_get (loads bound.now.image) place.number ≡ Some place.header }
     requires wrong { ¬ EndsRight (things_of bound.now) place.header }
     ensures { IfSome result (FailsIn bound.now) }
 {
     let things = bound.things();
     let segment = place.header;
-    let end = file_end_of(things, &segment);
+    let end = last_end(things, &segment, true).unwrap_or(segment.p_vaddr);
     let file_end = sum(segment.p_vaddr, segment.p_filesz)?;
     if file_end == end {
         return None;
@@ -184,18 +144,14 @@ fn wrong_file_end<'a>(bound: &BoundLink<'_, 'a>, place: SegmentPlace) -> Option<
     if !is_end_in_file(things, &segment, end) {
         return None;
     }
-    if !has_none_later_in_file(things, &segment, end) {
+    if !has_none_later(things, &segment, true, end) {
         return None;
     }
     Some(CheckPlace::FileEnd(place, end))
 }
 
 /// Adds how a PT_LOAD ends otherwise than the things in it.
-fn add_segment<'a>(
-    found: &mut Found<'a>,
-    bound: &BoundLink<'_, 'a>,
-    place: SegmentPlace,
-) -> Result<(), AllocError>
+fn add_segment<'a>(found: &mut Found<'a>, bound: &BoundLink<'_, 'a>, place: SegmentPlace) -> Added
     requires there { slice_get (loads bound.now.image) place.number ≡ Some place.header }
     requires before { AreFailures bound.now found.old.places.items }
     ensures { OnOk result (AreFailures bound.now found.new.places.items) }
@@ -207,46 +163,30 @@ fn add_segment<'a>(
     found.add_some(wrong_file_end(bound, place))
 }
 
-/// Adds how the PT_LOAD that has a number ends otherwise than the things in it, which stand by address.
-fn add_numbered<'a>(
-    found: &mut Found<'a>,
-    bound: &BoundLink<'_, 'a>,
-    sorted: &[Thing],
-    number: usize,
-) -> Result<(), AllocError>
-    requires rising { IsNonDecreasingBy (λ t. t.at) sorted.now }
-    requires before { AreFailures bound.now found.old.places.items }
-    ensures { OnOk result (AreFailures bound.now found.new.places.items) }
-{
-    let Some(place) = segment_at(bound, number) else {
-        return Ok(());
-    };
-    let top = place.header.p_vaddr.saturating_add(place.header.p_memsz);
-    if ends_right(
-        begun_between(sorted, place.header.p_vaddr, top),
-        &place.header,
-    ) {
-        return Ok(());
-    }
-    if found.is_full() {
-        found.count();
-        return Ok(());
-    }
-    add_segment(found, bound, place)
+/// Whether a PT_LOAD ends as the things in it do.
+fn is_right(bound: &BoundLink<'_, '_>, segment: &ProgramHeader) -> bool {
+    let (from, size) = (segment.p_vaddr, segment.p_memsz);
+    let things = begun_between(bound.things_by_address(), from, from.saturating_add(size));
+    ends_right(things, segment)
 }
 
-/// Adds the PT_LOADs that don't end as the things in them do, which stand by address.
-pub fn add_ends<'a>(
-    found: &mut Found<'a>,
-    bound: &BoundLink<'_, 'a>,
-    sorted: &[Thing],
-) -> Result<(), AllocError>
-    requires rising { IsNonDecreasingBy (λ t. t.at) sorted.now }
-    requires before { AreFailures bound.now found.old.places.items }
+/// Adds the PT_LOADs that don't end as the things in them do.
+pub fn add_ends<'a>(found: &mut Found<'a>, bound: &BoundLink<'_, 'a>) -> Added
+    requires { AreFailures bound.now found.old.places.items }
     ensures { OnOk result (AreFailures bound.now found.new.places.items) }
 {
     for number in 0..bound.memory().segments().len() {
-        add_numbered(found, bound, sorted, number)?;
+        let Some(place) = segment_at(bound, number) else {
+            continue;
+        };
+        if is_right(bound, &place.header) {
+            continue;
+        }
+        if found.is_full() {
+            found.count();
+        } else {
+            add_segment(found, bound, place)?;
+        }
     }
     Ok(())
 }

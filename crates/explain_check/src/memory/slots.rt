@@ -1,29 +1,25 @@
 //! C7: slots that no relocation asks for or that stand twice, and relocations that have none.
-ghost use Rattle.std.specs.Prelude.{◌≡◌, ◌<◌, IfSome, OnOk, Some, true};
+ghost use Rattle.std.specs.Prelude.{◌≡◌, ◌<◌, IfSome, OnOk, Some};
 ghost use Rattle.linkmap.specs.Borrowed.{slot_row};
 ghost use Rattle.check_link.specs.Slots as asked;
 ghost use Rattle.check_link.specs.Slots.{request_view};
 ghost use Rattle.std.specs.List.{slice_get};
 ghost use Rattle.std.specs.Ordering.{is_eq};
-ghost use Rattle.elf_model.specs.ObjectFile.{sections};
-ghost use Rattle.elf_model.specs.Relocation.{is_kept_rela};
 ghost use Rattle.elf_model.specs.RightLink.{objects_of};
-ghost use Rattle.check_load.specs.Views.{loaded_view};
 ghost use Rattle.check_relocs.specs.Needs.{AreNeeds};
 ghost use Rattle.explain_check.specs.GotPlaces.{IsUnserved};
 ghost use Rattle.explain_check.specs.Places.{AreFailures, FailsIn};
+ghost use Rattle.explain_check.specs.Referrers.{IsPlaceOf};
 
-use crate::found::Found;
-use crate::memory::relocation_places::{entries_of, entry_at, header_at, kept_place, object_at};
-use crate::memory_place::RelocationPlace;
-use crate::place::CheckPlace;
+use crate::found::{Added, Found};
+use crate::memory::relocation_places::{Referrer, kept_places, object_at};
+use crate::place::{CheckPlace, Failure};
 use check_link::{Request, request_of_line};
-use check_load::Loaded;
-use check_relocs::{Needs, is_some_kind, request_of};
+use check_relocs::{Needs, request_of};
 use checker::BoundLink;
-use elf_model::SectionHeader;
+use input_names::RelocationPlace;
 use linkmap::BorrowedSlot;
-use std::alloc::{AllocError, Global};
+use std::alloc::Global;
 use std::collections::{BTreeMap, BTreeSet};
 
 /// The slot line that has a number.
@@ -42,11 +38,7 @@ fn is_asked<'a>(needs: &Needs<'a>, request: &Request<'a>) -> bool
 }
 
 /// The line that has a number, where no relocation asks for its slot.
-fn unasked_line<'a>(
-    bound: &BoundLink<'_, 'a>,
-    needs: &Needs<'a>,
-    number: usize,
-) -> Option<CheckPlace<'a>>
+fn unasked_line<'a>(bound: &BoundLink<'_, 'a>, needs: &Needs<'a>, number: usize) -> Failure<'a>
     requires { AreNeeds (objects_of bound.now) needs.now }
     ensures { IfSome result (FailsIn bound.now) }
 {
@@ -66,11 +58,7 @@ fn are_same(a: &Request<'_>, b: &Request<'_>) -> bool
 }
 
 /// The line that has a number, where the one that has an earlier number is for the same.
-fn repeated_line<'a>(
-    bound: &BoundLink<'_, 'a>,
-    first: usize,
-    number: usize,
-) -> Option<CheckPlace<'a>>
+fn repeated_line<'a>(bound: &BoundLink<'_, 'a>, first: usize, number: usize) -> Failure<'a>
     ensures { IfSome result (FailsIn bound.now) }
 {
     if first >= number {
@@ -94,7 +82,7 @@ fn add_line<'a>(
     needs: &Needs<'a>,
     seen: &mut BTreeMap<Request<'a>, usize>,
     number: usize,
-) -> Result<(), AllocError>
+) -> Added
     requires needs { AreNeeds (objects_of bound.now) needs.now }
     requires before { AreFailures bound.now found.old.places.items }
     ensures { OnOk result (AreFailures bound.now found.new.places.items) }
@@ -119,7 +107,7 @@ pub fn add_lines<'a>(
     found: &mut Found<'a>,
     bound: &BoundLink<'_, 'a>,
     needs: &Needs<'a>,
-) -> Result<(), AllocError>
+) -> Added
     requires needs { AreNeeds (objects_of bound.now) needs.now }
     requires before { AreFailures bound.now found.old.places.items }
     ensures { OnOk result (AreFailures bound.now found.new.places.items) }
@@ -131,113 +119,68 @@ pub fn add_lines<'a>(
     Ok(())
 }
 
-/// The slot for which entry `e` of RELA section `i` asks, which has the header, where there is none.
-fn unserved_entry<'a>(
-    bound: &BoundLink<'_, 'a>,
+/// The slot for which a relocation asks, where there is none.
+fn unserved<'a>(
+    referrer: &Referrer<'_, '_, 'a>,
     needs: &Needs<'a>,
-    number: usize,
-    one: &Loaded<'a>,
-    i: usize,
-    header: &SectionHeader,
-    e: usize,
-) -> Option<(RelocationPlace<'a>, Request<'a>)>
-    requires object { slice_get (objects_of bound.now) number ≡ Some (loaded_view one.now) }
-    requires there { slice_get (sections (loaded_view one.now).bytes) i ≡ Some header.now }
-    requires kept { is_kept_rela (loaded_view one.now) i header.now ≡ true }
-    requires rela { header.now.sh_type ≡ 4 }
-    requires needs { AreNeeds (objects_of bound.now) needs.now }
-    ensures { IfSome result (λ x. IsUnserved bound.now x.0 x.1) }
+    place: &RelocationPlace<'a>,
+) -> Option<Request<'a>>
+    requires place { IsPlaceOf referrer.now place.now }
+    requires needs { AreNeeds (objects_of referrer.now.bound.now) needs.now }
+    ensures { IfSome result (IsUnserved referrer.now.bound.now place.now) }
 {
-    let entry = entry_at(one, i, header, e)?;
-    if !is_some_kind(&entry) {
-        return None;
-    }
-    let request = request_of(one, number as u64, &entry)?;
-    if bound.slots().has(&request) {
+    let request = request_of(referrer.one, referrer.number as u64, &place.entry)?;
+    if referrer.bound.slots().has(&request) {
         return None;
     }
     if !is_asked(needs, &request) {
         return None;
     }
-    let objects = bound.bindings().objects();
-    let place = kept_place(objects, number, one, i, header, e, &entry);
-    Some((place, request))
+    Some(request)
 }
 
-/// Adds entry `e` of RELA section `i`, which has the header, where it asks for a slot that isn't there, and none before did.
-fn add_entry<'a>(
+/// Adds a relocation, where it asks for a slot that isn't there, and none before did.
+fn add_place<'a>(
     found: &mut Found<'a>,
-    bound: &BoundLink<'_, 'a>,
+    referrer: &Referrer<'_, '_, 'a>,
     needs: &Needs<'a>,
     told: &mut BTreeSet<Request<'a>>,
-    number: usize,
-    one: &Loaded<'a>,
-    i: usize,
-    header: &SectionHeader,
-    e: usize,
-) -> Result<(), AllocError>
-    requires needs { AreNeeds (objects_of bound.now) needs.now }
-    requires object { slice_get (objects_of bound.now) number ≡ Some (loaded_view one.now) }
-    requires there { slice_get (sections (loaded_view one.now).bytes) i ≡ Some header.now }
-    requires kept { is_kept_rela (loaded_view one.now) i header.now ≡ true }
-    requires rela { header.now.sh_type ≡ 4 }
-    requires before { AreFailures bound.now found.old.places.items }
-    ensures { OnOk result (AreFailures bound.now found.new.places.items) }
+    place: &RelocationPlace<'a>,
+) -> Added
+    requires place { IsPlaceOf referrer.now place.now }
+    requires needs { AreNeeds (objects_of referrer.now.bound.now) needs.now }
+    requires before { AreFailures referrer.now.bound.now found.old.places.items }
+    ensures { OnOk result (AreFailures referrer.now.bound.now found.new.places.items) }
 {
-    let Some((place, request)) = unserved_entry(bound, needs, number, one, i, header, e) else {
+    let Some(request) = unserved(referrer, needs, place) else {
         return Ok(());
     };
     if !told.insert(request)? {
         return Ok(());
     }
-    found.add(CheckPlace::NoSlot(place, request))
+    found.add(CheckPlace::NoSlot(*place, request))
 }
 
-/// Adds the entries of section `i`, where that holds kept relocations, that ask for slots that aren't there.
-fn add_section<'a>(
-    found: &mut Found<'a>,
-    bound: &BoundLink<'_, 'a>,
-    needs: &Needs<'a>,
-    told: &mut BTreeSet<Request<'a>>,
-    number: usize,
-    one: &Loaded<'a>,
-    i: usize,
-) -> Result<(), AllocError>
-    requires needs { AreNeeds (objects_of bound.now) needs.now }
-    requires object { slice_get (objects_of bound.now) number ≡ Some (loaded_view one.now) }
-    requires before { AreFailures bound.now found.old.places.items }
-    ensures { OnOk result (AreFailures bound.now found.new.places.items) }
-{
-    let Some(header) = header_at(one, i) else {
-        return Ok(());
-    };
-    if !one.is_kept_rela(i, &header) {
-        return Ok(());
-    }
-    for e in 0..entries_of(one, i, &header).len() {
-        add_entry(found, bound, needs, told, number, one, i, &header, e)?;
-    }
-    Ok(())
-}
-
-/// Adds the relocations of an object that ask for slots that aren't there.
+/// Adds the relocations of the object that has a number that ask for slots that aren't there.
 fn add_object<'a>(
+    alloc: Global,
     found: &mut Found<'a>,
     bound: &BoundLink<'_, 'a>,
     needs: &Needs<'a>,
     told: &mut BTreeSet<Request<'a>>,
     number: usize,
-) -> Result<(), AllocError>
+) -> Added
     requires needs { AreNeeds (objects_of bound.now) needs.now }
     requires before { AreFailures bound.now found.old.places.items }
     ensures { OnOk result (AreFailures bound.now found.new.places.items) }
 {
-    let bindings = bound.bindings();
-    let Some(one) = object_at(bindings.objects(), number) else {
+    let Some(one) = object_at(bound.bindings().objects(), number) else {
         return Ok(());
     };
-    for i in 0..one.object.sections().len() {
-        add_section(found, bound, needs, told, number, one, i)?;
+    let referrer = Referrer { bound, number, one };
+    let places = kept_places(alloc, &referrer)?;
+    for i in 0..places.len() {
+        add_place(found, &referrer, needs, told, &places[i])?;
     }
     Ok(())
 }
@@ -248,14 +191,14 @@ pub fn add_unserved<'a>(
     found: &mut Found<'a>,
     bound: &BoundLink<'_, 'a>,
     needs: &Needs<'a>,
-) -> Result<(), AllocError>
+) -> Added
     requires needs { AreNeeds (objects_of bound.now) needs.now }
     requires before { AreFailures bound.now found.old.places.items }
     ensures { OnOk result (AreFailures bound.now found.new.places.items) }
 {
     let mut told = BTreeSet::new(alloc);
     for number in 0..bound.bindings().objects().len() {
-        add_object(found, bound, needs, &mut told, number)?;
+        add_object(alloc, found, bound, needs, &mut told, number)?;
     }
     Ok(())
 }

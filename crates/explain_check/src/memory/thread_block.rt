@@ -9,16 +9,15 @@ ghost use Rattle.check_link.specs.PieceParts.{AreInLimit, IsGotInLimit};
 ghost use Rattle.check_link.specs.Views.{placed_view, placed_views};
 ghost use Rattle.explain_check.specs.Places.{AreFailures, FailsIn};
 
-use crate::found::Found;
+use crate::found::{Added, Found};
 use crate::memory::bytes::piece_at;
-use crate::place::CheckPlace;
+use crate::place::{CheckPlace, Failure};
 use check_link::{
     Part, Placed, base_of, end_of, got_thing, is_thread_zero, thing_of_placed, thread_block,
 };
 use checker::BoundLink;
 use checker::c08_thread_block::{are_headers_right, header_of, holds_initial, is_clear_of};
 use elf_model::{GotLine, ProgramHeader};
-use std::alloc::AllocError;
 
 /// The PT_TLS header that placed pieces ask for, in an image that begins at the base; None without thread-local ones.
 fn wanted_header(base: u64, placed: &[Placed<'_>]) -> Option<ProgramHeader>
@@ -32,7 +31,7 @@ fn wanted_header(base: u64, placed: &[Placed<'_>]) -> Option<ProgramHeader>
 }
 
 /// The PT_TLS header that is there and the wanted one, where they differ.
-fn wrong_header<'a>(bound: &BoundLink<'_, 'a>) -> Option<CheckPlace<'a>>
+fn wrong_header<'a>(bound: &BoundLink<'_, 'a>) -> Failure<'a>
     requires { AreInLimit (placed_of bound.now) }
     ensures { IfSome result (FailsIn bound.now) }
 {
@@ -46,7 +45,7 @@ fn wrong_header<'a>(bound: &BoundLink<'_, 'a>) -> Option<CheckPlace<'a>>
 }
 
 /// The piece that has a number, where it is thread-local, has no bytes, and begins before those with bytes end.
-fn early_zeros<'a>(bound: &BoundLink<'_, 'a>, number: usize, end: u64) -> Option<CheckPlace<'a>>
+fn early_zeros<'a>(bound: &BoundLink<'_, 'a>, number: usize, end: u64) -> Failure<'a>
     requires { end ≡ thread_data_end bound.now }
     ensures { IfSome result (FailsIn bound.now) }
 {
@@ -61,11 +60,7 @@ fn early_zeros<'a>(bound: &BoundLink<'_, 'a>, number: usize, end: u64) -> Option
 }
 
 /// The GOT, where it has an address from the beginning of the block on and below an end.
-fn inner_got<'a>(
-    bound: &BoundLink<'_, 'a>,
-    header: &ProgramHeader,
-    end: u64,
-) -> Option<CheckPlace<'a>>
+fn inner_got<'a>(bound: &BoundLink<'_, 'a>, header: &ProgramHeader, end: u64) -> Failure<'a>
     requires got { IsGotInLimit bound.now.map.got }
     requires header { slice_get (thread_blocks bound.now.image) 0 ≡ Some header.now }
     requires end { end ≡ thread_data_end bound.now }
@@ -85,7 +80,7 @@ fn inner_piece<'a>(
     header: &ProgramHeader,
     number: usize,
     end: u64,
-) -> Option<CheckPlace<'a>>
+) -> Failure<'a>
     requires pieces { AreInLimit (placed_of bound.now) }
     requires header { slice_get (thread_blocks bound.now.image) 0 ≡ Some header.now }
     requires end { end ≡ thread_data_end bound.now }
@@ -107,7 +102,7 @@ fn add_inner<'a>(
     bound: &BoundLink<'_, 'a>,
     header: &ProgramHeader,
     end: u64,
-) -> Result<(), AllocError>
+) -> Added
     requires got { IsGotInLimit bound.now.map.got }
     requires pieces { AreInLimit (placed_of bound.now) }
     requires header { slice_get (thread_blocks bound.now.image) 0 ≡ Some header.now }
@@ -121,7 +116,7 @@ fn add_inner<'a>(
 }
 
 /// A block whose initial bytes no PT_LOAD holds.
-fn unheld<'a>(bound: &BoundLink<'_, 'a>, header: &ProgramHeader) -> Option<CheckPlace<'a>>
+fn unheld<'a>(bound: &BoundLink<'_, 'a>, header: &ProgramHeader) -> Failure<'a>
     requires { slice_get (thread_blocks bound.now.image) 0 ≡ Some header.now }
     ensures { IfSome result (FailsIn bound.now) }
 {
@@ -139,7 +134,7 @@ fn header_there(bound: &BoundLink<'_, '_>) -> Option<ProgramHeader>
 }
 
 /// Adds where the eighth clause fails.
-pub fn add_c8<'a>(found: &mut Found<'a>, bound: &BoundLink<'_, 'a>) -> Result<(), AllocError>
+pub fn add_c8<'a>(found: &mut Found<'a>, bound: &BoundLink<'_, 'a>) -> Added
     requires clauses { HoldsBefore clause.C8 bound.now }
     requires before { AreFailures bound.now found.old.places.items }
     ensures { OnOk result (AreFailures bound.now found.new.places.items) }

@@ -1,0 +1,19 @@
+use Rattle.std.proofs.Common.{◌∙◌, List, ap, sym}
+use Rattle.std.specs.List.{list_any}
+use Rattle.elf_model.specs.MapRecord.{SlotRow}
+use Rattle.elf_model.specs.Relocation.{relocation_of}
+use Rattle.elf_model.specs.Slots.{is_slot_of}
+use Rattle.check_load.specs.Views.{loaded_view}
+use Rattle.check_link.specs.Slots.{request_view}
+use Rattle.explain_check.proofs.WrongSlots.{is_unserved}
+use Rattle.explain_check.proofs.memory.slots.unserved.Goals as goal
+
+pub returns : goal.returns
+returns c =
+    let q = c.in_ok-request.request in
+    let f = c.args.referrer.now in
+    let p = c.args.place.now in
+    is_unserved f.bound.now p (relocation_of f.number (loaded_view f.one.now) p.section p.entry) q c.requires.place.at
+    (sym (c.in_ok-request.ensures p.section))
+    (ap (λ (rows : List SlotRow). list_any (is_slot_of (request_view q)) rows) (sym c.slots.ensures) ∙ sym c.has.ensures ∙ c.if-has.false)
+    (sym (c.requires.needs.slots (request_view q)) ∙ sym c.is_asked.ensures ∙ c.if-not-is_asked.false)

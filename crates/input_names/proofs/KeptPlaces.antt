@@ -1,0 +1,47 @@
+-- A place that has the numbers of a kept relocation, and tells of it, is its place.
+use Rattle.std.proofs.Common.{◌≡◌, ◌∙◌, ℕ, true, List, [], Some, ap, subst, sym}
+use Rattle.std.specs.Prelude.{unwrap_or}
+use Rattle.std.specs.List.{slice_get}
+use Rattle.elf_model.specs.Loading.{LoadedObject}
+use Rattle.elf_model.specs.ObjectFile.{rela_symbol, relas_of, section_name, sections, symbol_name}
+use Rattle.elf_model.specs.Relocation.{is_kept_rela, is_some_kind, relocation_of}
+use Rattle.elf_model.specs.declared.records.Rela.{Rela}
+use Rattle.elf_model.specs.declared.records.SectionHeader.{SectionHeader}
+use Rattle.input_names.specs.RelocationPlaces.{IsKeptOf, IsRelocationAt}
+use Rattle.input_names.specs.declared.relocation_places.RelocationPlace.{RelocationPlace}
+
+-- a place has the numbers of an entry, and tells of what it relocates
+pub record HasNumbers (p : RelocationPlace) (o : LoadedObject) (h : SectionHeader) (n i e : ℕ) (x : Rela) : Type 0 where
+  pub object : p.object ≡ n
+  pub table : p.table ≡ i
+  pub number : p.number ≡ e
+  pub entry : p.entry ≡ x
+  pub section : p.section ≡ h.sh_info
+  pub section_name : p.section_name.now ≡ unwrap_or (section_name o.bytes h.sh_info) []
+  pub symbol_name : p.symbol_name.now ≡ unwrap_or (symbol_name o.bytes (rela_symbol x)) []
+
+pub placed :
+    (objects : List LoadedObject) (p : RelocationPlace) (o : LoadedObject) (h : SectionHeader) (n i e : ℕ) (x : Rela) → HasNumbers p o h n i e x →
+    slice_get objects n ≡ Some o → slice_get (sections o.bytes) i ≡ Some h → is_kept_rela o i h ≡ true →
+    slice_get (relas_of o.bytes h) e ≡ Some x → is_some_kind x ≡ true → IsRelocationAt objects p (relocation_of n o h.sh_info x)
+placed objects p o h n i e x has there header is_kept listed some = record {
+  o = o;
+  h = h;
+  at = record {
+    object = subst (λ (m : ℕ). slice_get objects m ≡ Some o) (sym has.object) there;
+    table = subst (λ (m : ℕ). slice_get (sections o.bytes) m ≡ Some h) (sym has.table) header;
+    kept = subst (λ (m : ℕ). is_kept_rela o m h ≡ true) (sym has.table) is_kept;
+    entry = ap (slice_get (relas_of o.bytes h)) has.number ∙ listed ∙ ap Some (sym has.entry);
+    some_kind = subst (λ (y : Rela). is_some_kind y ≡ true) (sym has.entry) some;
+  };
+  relocation =
+      ap (λ (m : ℕ). relocation_of m o h.sh_info x) (sym has.object) ∙ ap (λ (y : Rela). relocation_of p.object o h.sh_info y) (sym has.entry);
+  told = record { section = has.section; section_name = has.section_name; symbol_name = has.symbol_name };
+}
+
+pub kept :
+    (objects : List LoadedObject) (p : RelocationPlace) (o : LoadedObject) (h : SectionHeader) (n i e : ℕ) (x : Rela) → HasNumbers p o h n i e x →
+    IsRelocationAt objects p (relocation_of n o h.sh_info x) → IsKeptOf objects n o p
+kept objects p o h n i e x has at =
+    subst (λ (y : Rela). IsRelocationAt objects p (relocation_of n o p.section y)) (sym has.entry)
+    (subst (λ (k : ℕ). IsRelocationAt objects p (relocation_of n o k x)) (sym has.section) at)

@@ -1,0 +1,3 @@
+pub mod KeptPlaces
+pub mod ListedPlaces
+pub mod Overlapping
