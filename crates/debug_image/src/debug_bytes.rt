@@ -18,8 +18,7 @@ use crate::lists::either;
 use elf_model::Rela;
 use elf_read::RelaRun;
 use layout::Place;
-use relocate::is_some_kind;
-use search::LoadedObject;
+use search::{LoadedObject, is_some_kind};
 use std::alloc::{AllocError, Global};
 
 /// The bytes of a section as they stand in the image; and whether an entry for it can't be relocated: its type isn't known, its

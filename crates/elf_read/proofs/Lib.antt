@@ -8,7 +8,6 @@ mod Named
 mod SectionBytes
 mod Runs
 mod RelaRuns
-pub mod RunSteps
 mod KeptRelas
 mod RelaFaults
 mod GroupLists

@@ -12,8 +12,7 @@ use crate::objects::{entry_at, file_of, header_at};
 use crate::place::RelocationPlace;
 use elf_model::{Rela, SectionHeader};
 use input_names::relocation_place;
-use relocate::is_some_kind;
-use search::{KeptRela, Loaded, LoadedObject};
+use search::{KeptRela, Loaded, LoadedObject, is_some_kind};
 use std::alloc::{AllocError, Global};
 
 /// An entry of a RELA section of an object.
@@ -40,7 +39,7 @@ pub struct Kept {
 fn add_entries(entries: &mut Vec<EntryAt>, one: &LoadedObject<'_>, rela: KeptRela) -> Added
     requires { IsKeptRela (loaded_view one.now) rela }
 {
-    let run = one.kept_entries(rela);
+    let run = one.all_entries(rela);
     for number in 0..run.len() {
         entries.push(EntryAt {
             section: rela.target,

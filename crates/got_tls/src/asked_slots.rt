@@ -1,7 +1,7 @@
 //! What the kept relocations of loaded objects ask of the GOT, in load order.
-ghost use Rattle.std.specs.Prelude.{◌≡◌, IfOk, OnOk, Some, filter, map};
+ghost use Rattle.std.specs.Prelude.{◌≡◌, IfOk, OnOk, Some};
 ghost use Rattle.std.specs.List.{slice_get};
-ghost use Rattle.elf_model.specs.Relocation.{is_some_kind, relocation_of, relocations, relocations_from};
+ghost use Rattle.elf_model.specs.Relocation.{relocation_of, relocations, relocations_from};
 ghost use Rattle.search.specs.KeptLists.{IsKeptRela, relocations_by};
 ghost use Rattle.search.specs.Views.{loaded_view};
 ghost use Rattle.got_tls.specs.Askers.{IsAsker, all_asked, asking};
@@ -12,7 +12,6 @@ use crate::kinds::asked_slot;
 use crate::requests::Asker;
 use crate::slot_index::SlotIndex;
 use elf_model::Rela;
-use elf_read::RelaRun;
 use resolve::Resolved;
 use search::{KeptRela, Loaded, LoadedObject};
 use std::alloc::{AllocError, Global};
@@ -60,30 +59,6 @@ pub fn add_entry<'a>(
     Ok(())
 }
 
-/// Takes in what entries ask for which relocate the section `target`.
-fn add_entries<'a>(
-    asked: &mut Asked<'a>,
-    asker: &Asker<'_, 'a>,
-    target: u64,
-    entries: &RelaRun<'_>,
-) -> Result<(), AllocError>
-    requires asker { IsAsker asker.now }
-    requires same { asked.old.listed.objects ≡ all_asked asker.now }
-    ensures { OnOk result (wants asked.new
-        ≡ with_relocations (all_asked asker.now) (wants asked.old)
-        (map (relocation_of asker.now.number (asking asker.now) target)
-        (filter is_some_kind entries.now))) }
-{
-    for i in 0..entries.len() {
-        let entry = entries.at(i);
-        if entry.kind() == 0 {
-            continue;
-        }
-        add_entry(asked, asker, target, &entry)?;
-    }
-    Ok(())
-}
-
 /// Takes in what the entries of a kept RELA section ask for.
 fn add_section<'a>(
     asked: &mut Asked<'a>,
@@ -97,8 +72,10 @@ fn add_section<'a>(
         ≡ with_relocations (all_asked asker.now) (wants asked.old)
         (relocations_by asker.now.number (asking asker.now) rela)) }
 {
-    let entries = asker.loaded.kept_entries(rela);
-    add_entries(asked, asker, rela.target as u64, &entries)
+    for entry in asker.loaded.kept_entries(rela) {
+        add_entry(asked, asker, rela.target as u64, &entry)?;
+    }
+    Ok(())
 }
 
 /// Takes in what the kept relocations of an object ask for.

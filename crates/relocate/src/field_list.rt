@@ -1,15 +1,13 @@
 //! The fields of an object's lawful relocations as a list, where they don't come in order.
-ghost use Rattle.std.specs.Prelude.{◌≡◌, ◌++◌, All, OnOk, filter, map};
-ghost use Rattle.elf_model.specs.Relocation.{IsLawfulRelocation, is_some_kind, relocation_of, relocations_from};
+ghost use Rattle.std.specs.Prelude.{◌≡◌, ◌++◌, All, OnOk, map};
+ghost use Rattle.elf_model.specs.Relocation.{IsLawfulRelocation, relocation_of, relocations_from};
 ghost use Rattle.relocate.specs.Fields.{field_of};
 ghost use Rattle.relocate.specs.SymbolTables.{IsRelocated, all_of, referring};
 ghost use Rattle.search.specs.KeptLists.{IsKeptRela, relocations_by};
 
 use crate::fields::Field;
 use crate::referrer::{Referrer, Relocated};
-use crate::targets::is_some_kind;
 use elf_model::Rela;
-use elf_read::RelaRun;
 use got_tls::Kind;
 use search::KeptRela;
 use std::alloc::AllocError;
@@ -45,34 +43,9 @@ fn add_section(
         ≡ fields.old.items
         ++ map field_of (relocations_by referrer.now.number (referring referrer.now) rela)) }
 {
-    let entries = referrer.loaded.kept_entries(rela);
     let target = referrer.relocated(rela.target as u64);
-    add_fields(referrer, target, &entries, fields)
-}
-
-/// Adds the fields of entries that relocate a section.
-fn add_fields(
-    referrer: &Referrer<'_, '_, '_>,
-    target: Relocated,
-    entries: &RelaRun<'_>,
-    fields: &mut Vec<Field>,
-) -> Result<(), AllocError>
-    requires target { IsRelocated (referring referrer.now) target }
-    requires lawful { All (IsLawfulRelocation (all_of referrer.now))
-        (map (relocation_of referrer.now.number (referring referrer.now) target.number)
-        (filter is_some_kind entries.now)) }
-    ensures { OnOk result (fields.new.items
-        ≡ fields.old.items
-        ++ map field_of
-        (map (relocation_of referrer.now.number (referring referrer.now) target.number)
-        (filter is_some_kind entries.now))) }
-{
-    fields.reserve(entries.len())?;
-    for i in 0..entries.len() {
-        let entry = entries.at(i);
-        if !is_some_kind(&entry) {
-            continue;
-        }
+    fields.reserve(referrer.loaded.all_entries(rela).len())?;
+    for entry in referrer.loaded.kept_entries(rela) {
         fields.push(field_in(referrer, target, &entry))?;
     }
     Ok(())

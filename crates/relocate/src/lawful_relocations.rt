@@ -1,13 +1,13 @@
 //! Whether the kept relocations of all objects are lawful.
-ghost use Rattle.std.specs.Prelude.{◌≡◌, All, IfErr, IfOk, OnOk, filter, map};
-ghost use Rattle.elf_model.specs.Relocation.{AreLawfulRelocations, IsLawfulRelocation, is_some_kind, relocation_of, relocations, relocations_from};
+ghost use Rattle.std.specs.Prelude.{◌≡◌, All, IfErr, IfOk, OnOk};
+ghost use Rattle.elf_model.specs.Relocation.{AreLawfulRelocations, IsLawfulRelocation, relocation_of, relocations, relocations_from};
 ghost use Rattle.elf_model.specs.Slots as wanted;
 ghost use Rattle.got_tls.specs.Asking.{nothing, with_relocation, with_relocations};
 ghost use Rattle.got_tls.specs.AskedViews.{wants};
 ghost use Rattle.layout.specs.Mixed.{AreMixed};
 ghost use Rattle.relocate.specs.Fields.{run_after};
 ghost use Rattle.relocate.specs.References.{AreLawful, IsObjectAt, ReferencesFail, RelocationsFail};
-ghost use Rattle.relocate.specs.SymbolTables.{IsReferrer, IsRelocated, all_of, referring};
+ghost use Rattle.relocate.specs.SymbolTables.{IsReferrer, all_of, referring};
 ghost use Rattle.search.specs.KeptLists.{IsKeptRela, relocations_by};
 ghost use Rattle.search.specs.Views.{loaded_view, loaded_views};
 
@@ -16,10 +16,8 @@ use crate::field_list::list_fields;
 use crate::field_run::FieldRun;
 use crate::fields::{Field, are_apart};
 use crate::lawful_fields::lawful_field;
-use crate::referrer::{Referrer, Relocated};
-use crate::targets::is_some_kind;
+use crate::referrer::Referrer;
 use elf_model::Rela;
-use elf_read::RelaRun;
 use got_tls::{Asked, Slots, add_entry, slots_asked};
 use layout::mixed_names;
 use resolve::Resolved;
@@ -204,9 +202,13 @@ fn judge_section<'a>(
     ensures fault { IfErr result (RelocationsFail (all_of referrer.now)
         (relocations_by referrer.now.number (referring referrer.now) rela)) }
 {
-    let entries = referrer.loaded.kept_entries(rela);
     let target = referrer.relocated(rela.target as u64);
-    judge_entries(alloc, referrer, target, &entries, run, asked)
+    for entry in referrer.loaded.kept_entries(rela) {
+        let field = lawful_field(alloc, referrer, target, &entry)?;
+        *run = run.with(field);
+        note_request(asked, referrer, target.number, &entry)?;
+    }
+    Ok(())
 }
 
 /// Takes in what an entry of an object, which relocates the section `target`, asks of the GOT.
@@ -223,43 +225,4 @@ fn note_request<'a>(
         (relocation_of referrer.now.number (referring referrer.now) target entry.now)) }
 {
     add_entry(asked, &referrer.asker, target, entry)
-}
-
-/// Judges entries that relocate a section one by one, and tells the same of them.
-fn judge_entries<'a>(
-    alloc: Global,
-    referrer: &Referrer<'_, '_, 'a>,
-    target: Relocated,
-    entries: &RelaRun<'_>,
-    run: &mut FieldRun,
-    asked: &mut Asked<'a>,
-) -> Result<(), RelocFault>
-    requires known { IsReferrer referrer.now }
-    requires target { IsRelocated (referring referrer.now) target }
-    requires same { asked.old.listed.objects ≡ all_of referrer.now }
-    ensures asked { OnOk result (wants asked.new
-        ≡ with_relocations (all_of referrer.now) (wants asked.old)
-        (map (relocation_of referrer.now.number (referring referrer.now) target.number)
-        (filter is_some_kind entries.now))) }
-    ensures run { OnOk result (run.new
-        ≡ run_after run.old
-        (map (relocation_of referrer.now.number (referring referrer.now) target.number)
-        (filter is_some_kind entries.now))) }
-    ensures lawful { OnOk result (All (IsLawfulRelocation (all_of referrer.now))
-        (map (relocation_of referrer.now.number (referring referrer.now) target.number)
-        (filter is_some_kind entries.now))) }
-    ensures fault { IfErr result (RelocationsFail (all_of referrer.now)
-        (map (relocation_of referrer.now.number (referring referrer.now) target.number)
-        (filter is_some_kind entries.now))) }
-{
-    for i in 0..entries.len() {
-        let entry = entries.at(i);
-        if !is_some_kind(&entry) {
-            continue;
-        }
-        let field = lawful_field(alloc, referrer, target, &entry)?;
-        *run = run.with(field);
-        note_request(asked, referrer, target.number, &entry)?;
-    }
-    Ok(())
 }

@@ -39,6 +39,5 @@ pub use patch_table::{Patches, apply, apply_part, next_field};
 pub use referrer::{Referrer, Relocated};
 pub use slots::slot_values;
 pub use symbol_values::Valued;
-pub use targets::is_some_kind;
 pub use thread_pointer::pointer_of;
 pub use values::{address_or_none, fitting_value, wanted_value};

@@ -1,12 +1,12 @@
 //! The linker's names that kept relocations use and no object defines: which of them have a line in the map.
-ghost use Rattle.std.specs.Prelude.{◌≡◌, ◌∷◌, ◌++◌, ◌||◌, ℕ, [], List, IfOk, OnOk, false, filter, map, option_map, option_to_list};
+ghost use Rattle.std.specs.Prelude.{◌≡◌, ◌∷◌, ◌++◌, ◌||◌, ℕ, [], List, IfOk, OnOk, false, option_map, option_to_list};
 ghost use Rattle.std.specs.BTreeSet.{IsOrdered};
 ghost use Rattle.std.specs.Cmp.Lexicographic.{slice_cmp};
 ghost use Rattle.std.specs.List.{list_any};
 ghost use Rattle.std.specs.Ordering.{nat_cmp};
 ghost use Rattle.std.specs.Str.{bytes_eq};
 ghost use Rattle.elf_model.specs.Listing.{AreLinkerLines};
-ghost use Rattle.elf_model.specs.Relocation.{is_some_kind, relocation_of, relocations, relocations_from, symbol_at};
+ghost use Rattle.elf_model.specs.Relocation.{relocation_of, relocations, relocations_from, symbol_at};
 ghost use Rattle.elf_model.specs.UsedNames.{Gains, is_among, is_linker_use, linker_meaning, linker_meanings, uses_line};
 ghost use Rattle.search.specs.KeptLists.{IsKeptRela, relocations_by};
 ghost use Rattle.search.specs.Views.{loaded_view, loaded_views};
@@ -15,9 +15,7 @@ ghost use Rattle.resolve.specs.Views.{meaning_view};
 ghost use Rattle.relocate.specs.References.{IsObjectAt};
 ghost use Rattle.relocate.specs.Uses.{HasNoLinkerUse, IsUser, is_linkers, line_views, using};
 
-use crate::targets::is_some_kind;
 use elf_model::{Bound, ObjectId, Rela, SymbolRef};
-use elf_read::RelaRun;
 use resolve::{Definition, Resolved};
 use search::{KeptRela, Loaded, LoadedObject};
 use std::alloc::{AllocError, Global};
@@ -117,29 +115,7 @@ fn add_use<'a>(
     add_name(names, user.loaded.object.symbol_name(j))
 }
 
-/// Adds the linker's names that entries use which relocate the section `target` of an object.
-fn add_entries<'a>(
-    names: &mut BTreeSet<&'a [u8]>,
-    user: &User<'_, 'a>,
-    target: u64,
-    entries: &RelaRun<'_>,
-) -> Result<(), AllocError>
-    requires { IsUser user.now }
-    ensures { OnOk result (Gains user.now.resolved.now
-        (map (relocation_of user.now.number (using user.now) target)
-        (filter is_some_kind entries.now)) names.old names.new) }
-{
-    for i in 0..entries.len() {
-        let entry = entries.at(i);
-        if !is_some_kind(&entry) {
-            continue;
-        }
-        add_use(names, user, target, &entry)?;
-    }
-    Ok(())
-}
-
-/// Adds those that the entries of a kept RELA section use.
+/// Adds the linker's names that the entries of a kept RELA section use.
 fn add_section<'a>(
     names: &mut BTreeSet<&'a [u8]>,
     user: &User<'_, 'a>,
@@ -150,8 +126,10 @@ fn add_section<'a>(
     ensures { OnOk result (Gains user.now.resolved.now
         (relocations_by user.now.number (using user.now) rela) names.old names.new) }
 {
-    let entries = user.loaded.kept_entries(rela);
-    add_entries(names, user, rela.target as u64, &entries)
+    for entry in user.loaded.kept_entries(rela) {
+        add_use(names, user, rela.target as u64, &entry)?;
+    }
+    Ok(())
 }
 
 /// Adds those that the kept relocations of an object use.

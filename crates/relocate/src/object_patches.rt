@@ -1,8 +1,8 @@
 //! The patches of an object, by the sections that they are for.
-ghost use Rattle.std.specs.Prelude.{◌≡◌, ◌≤◌, ◌+◌, ◌++◌, [], All, IfErr, IfOk, IsSome, List, OnOk, filter, length, map};
+ghost use Rattle.std.specs.Prelude.{◌≡◌, ◌≤◌, ◌+◌, ◌++◌, [], All, IfErr, IfOk, IsSome, List, OnOk, length, map};
 ghost use Rattle.std.specs.List.Sorted.{IsNonDecreasingBy};
 ghost use Rattle.elf_model.specs.ArrayOrder.{by_rank};
-ghost use Rattle.elf_model.specs.Relocation.{Relocation, is_some_kind, relocation_kind, relocation_of, relocations_from};
+ghost use Rattle.elf_model.specs.Relocation.{Relocation, relocation_kind, relocations_from};
 ghost use Rattle.elf_model.specs.RelocationValues.{Fits};
 ghost use Rattle.search.specs.KeptLists.{IsKeptRela, kept_relas, relocations_by, relocations_of_relas};
 ghost use Rattle.relocate.specs.RelaOrders.{target_of};
@@ -17,10 +17,8 @@ use crate::referrer::entry_count;
 use crate::rela_order::{ascend, ordered, row_end};
 use crate::row_order::order_from;
 use crate::symbol_values::Valued;
-use crate::targets::is_some_kind;
 use crate::values::{address_or_none, fitting_value};
 use elf_model::Rela;
-use elf_read::RelaRun;
 use search::KeptRela;
 use std::alloc::{AllocError, Global};
 
@@ -35,50 +33,7 @@ fn first_byte(entry: &Rela) -> Result<u32, AllocError>
     }
 }
 
-/// Adds the patches of entries of known kinds that relocate the section `target` of an object. Overflow where a value
-/// doesn't fit.
-fn add_patches(
-    valued: &Valued<'_, '_>,
-    target: u64,
-    entries: &RelaRun<'_>,
-    row: &mut Vec<Patch>,
-) -> Result<(), RelocFault>
-    requires valued { IsValued valued.now }
-    requires known { All (λ r. IsSome (relocation_kind r))
-        (map (relocation_of valued.now.number (valued_object valued.now) target)
-        (filter is_some_kind entries.now)) }
-    ensures patches { OnOk result (row.new.items
-        ≡ row.old.items
-        ++ map (patch_of (all_valued valued.now) (where_of valued.now))
-        (map (relocation_of valued.now.number (valued_object valued.now) target)
-        (filter is_some_kind entries.now))) }
-    ensures fit { OnOk result (All (Fits (all_valued valued.now) (where_of valued.now))
-        (map (relocation_of valued.now.number (valued_object valued.now) target)
-        (filter is_some_kind entries.now))) }
-    ensures fault { IfErr result (FittingFails (all_valued valued.now) (where_of valued.now)
-        (map (relocation_of valued.now.number (valued_object valued.now) target)
-        (filter is_some_kind entries.now))) }
-{
-    let at = address_or_none(valued.placement, valued.number, target as usize);
-    for i in 0..entries.len() {
-        let entry = entries.at(i);
-        if !is_some_kind(&entry) {
-            continue;
-        }
-        let Some(fitting) = fitting_value(valued, target, at, &entry) else {
-            return Err(RelocFault::Overflow);
-        };
-        let place = first_byte(&entry)?;
-        row.push(Patch {
-            value: fitting.value,
-            at: place,
-            width: fitting.width,
-        })?;
-    }
-    Ok(())
-}
-
-/// Adds the patches of a kept RELA section of an object.
+/// Adds the patches of a kept RELA section of an object, whose entries are of known kinds. Overflow where a value doesn't fit.
 fn add_section(
     valued: &Valued<'_, '_>,
     rela: KeptRela,
@@ -97,8 +52,20 @@ fn add_section(
     ensures fault { IfErr result (FittingFails (all_valued valued.now) (where_of valued.now)
         (relocations_by valued.now.number (valued_object valued.now) rela)) }
 {
-    let entries = valued.loaded.kept_entries(rela);
-    add_patches(valued, rela.target as u64, &entries, patches)
+    let target = rela.target as u64;
+    let at = address_or_none(valued.placement, valued.number, target as usize);
+    for entry in valued.loaded.kept_entries(rela) {
+        let Some(fitting) = fitting_value(valued, target, at, &entry) else {
+            return Err(RelocFault::Overflow);
+        };
+        let place = first_byte(&entry)?;
+        patches.push(Patch {
+            value: fitting.value,
+            at: place,
+            width: fitting.width,
+        })?;
+    }
+    Ok(())
 }
 
 /// Adds the patches of kept RELA sections, which relocate one section.

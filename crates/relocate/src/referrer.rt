@@ -161,7 +161,7 @@ fn reference_to<'a>(
 pub fn entry_count(loaded: &LoadedObject<'_>) -> usize {
     let mut count: usize = 0;
     for rela in loaded.kept_relas() {
-        count = count.saturating_add(loaded.kept_entries(*rela).len());
+        count = count.saturating_add(loaded.all_entries(*rela).len());
     }
     count
 }

@@ -6,7 +6,7 @@ ghost use Rattle.elf_model.specs.ObjectFile.{section, section_name, sections, sy
 ghost use Rattle.elf_model.specs.Pieces.{is_alloc, is_kept, is_thread_local};
 ghost use Rattle.elf_model.specs.Loading as loading;
 ghost use Rattle.elf_model.specs.Loading.{is_dropped};
-ghost use Rattle.elf_model.specs.Relocation.{IsMixed, IsMixedBound, definition_of, is_some_kind, symbol_at};
+ghost use Rattle.elf_model.specs.Relocation.{IsMixed, IsMixedBound, definition_of, symbol_at};
 ghost use Rattle.elf_model.specs.Resolution.{is_undefined};
 ghost use Rattle.std.specs.Prelude.{Some};
 ghost use Rattle.std.specs.Option.{option_map_or};
@@ -223,11 +223,4 @@ pub fn undefined(alloc: Global, name: &[u8]) -> RelocFault
         Ok(copy) => RelocFault::Undefined(copy),
         Err(_) => RelocFault::Memory,
     }
-}
-
-/// Whether an entry relocates at all: its type isn't NONE.
-pub fn is_some_kind(entry: &Rela) -> bool
-    ensures { result ≡ is_some_kind entry.now }
-{
-    entry.kind() != 0
 }

@@ -1,5 +1,5 @@
 -- Walks over the lists of what is kept of an object: what is left of them, and the relocations of one RELA section.
-use Rattle.std.proofs.Common.{◌≡◌, ℕ, ◌+◌, ◌<◌, ◌≤◌, List, [], ◌∷◌, ◌++◌, ap, drop, get_or, length, map, ◌∙◌}
+use Rattle.std.proofs.Common.{◌≡◌, ℕ, ◌+◌, ◌<◌, ◌≤◌, Bool, false, true, cond, List, [], ◌∷◌, ◌++◌, ap, drop, get_or, length, map, sym, ◌∙◌}
 use Rattle.std.specs.Prelude.{filter}
 use Rattle.std.proofs.lemmas.List.{drop_all}
 use Rattle.elf_model.specs.Loading.{LoadedObject}
@@ -7,6 +7,7 @@ use Rattle.elf_model.specs.ObjectFile.{relas_of, section, sections}
 use Rattle.elf_model.specs.Relocation.{is_some_kind, relocation_of}
 use Rattle.elf_model.specs.declared.records.Rela.{Rela}
 use Rattle.elf_model.proofs.Rests.{rest_at}
+use Rattle.elf_read.specs.Reading.{null_rela}
 use Rattle.search.specs.KeptLists.{IsKeptRela, piece_at, pieces_at, relocations_by, relocations_of_relas}
 use Rattle.search.specs.declared.kept_lists.KeptRela.{KeptRela}
 
@@ -36,3 +37,32 @@ pub entries_told :
 entries_told n o k es kept are =
     ap (λ (t : ℕ). map (relocation_of n o t) (filter is_some_kind es)) kept.target_is
     ∙ ap (λ (xs : List Rela). map (relocation_of n o (section (sections o.bytes) k.number).sh_info) (filter is_some_kind xs)) are
+
+-- Entries that are left: the first is kept, or is passed over, or there is none.
+module _ (es : List Rela) (i : ℕ) where
+  abbrev others : List Rela
+  others = filter is_some_kind (drop (i + 1) es)
+
+  first_is : (e : Rela) (b : Bool) → i < length es → e ≡ get_or es i null_rela → is_some_kind e ≡ b →
+      filter is_some_kind (drop i es) ≡ cond b (e ∷ others) others
+  first_is e b within is kind =
+      ap (filter is_some_kind) (rest_at es i null_rela within)
+      ∙ ap (λ (x : Rela). filter is_some_kind (x ∷ drop (i + 1) es)) (sym is)
+      ∙ ap (λ (t : Bool). cond t (e ∷ others) others) kind
+
+  pub kept_told : (e : Rela) → i < length es → e ≡ get_or es i null_rela → is_some_kind e ≡ true →
+      filter is_some_kind (drop i es) ≡ e ∷ others
+  kept_told e within is kind = first_is e true within is kind
+
+  pub kept_passed : (e : Rela) → i < length es → e ≡ get_or es i null_rela → is_some_kind e ≡ false → filter is_some_kind (drop i es) ≡ others
+  kept_passed e within is kind = first_is e false within is kind
+
+  pub kept_ended : length es ≤ i → filter is_some_kind (drop i es) ≡ []
+  kept_ended behind = ap (filter is_some_kind) (drop_all i es behind)
+
+-- what the first entry that is left tells, where its section's number is the same
+pub entry_first :
+    (n : ℕ) (o : LoadedObject) (t k : ℕ) (e : Rela) (left rest : List Rela) → k ≡ t → left ≡ e ∷ rest →
+    map (relocation_of n o t) left ≡ relocation_of n o k e ∷ map (relocation_of n o t) rest
+entry_first n o t k e left rest same steps =
+    ap (map (relocation_of n o t)) steps ∙ ap (λ (x : ℕ). relocation_of n o x e ∷ map (relocation_of n o t) rest) (sym same)

@@ -1,14 +1,15 @@
 //! What a loaded object keeps: sections with SHF_ALLOC that aren't dropped with their groups, and the relocations of
 //! these.
-ghost use Rattle.std.specs.Prelude.{◌≡◌, ℕ, All, Some};
+ghost use Rattle.std.specs.Prelude.{◌≡◌, ℕ, All, Some, map};
 ghost use Rattle.std.specs.List.{slice_get};
 ghost use Rattle.elf_model.specs.Loading.{is_dropped};
 ghost use Rattle.elf_model.specs.ObjectFile.{relas_of, section, sections};
 ghost use Rattle.elf_model.specs.Pieces.{is_kept, pieces_from};
-ghost use Rattle.elf_model.specs.Relocation.{is_kept_rela, relocations_from};
-ghost use Rattle.search.specs.KeptLists.{IsKeptRela, IsKeptSection, kept_numbers, kept_relas, pieces_at, relocations_of_relas};
+ghost use Rattle.elf_model.specs.Relocation.{is_kept_rela, relocation_of, relocations_from};
+ghost use Rattle.search.specs.KeptLists.{IsKeptRela, IsKeptSection, kept_numbers, kept_relas, pieces_at, relocations_by, relocations_of_relas};
 ghost use Rattle.search.specs.Views.{loaded_view};
 
+use crate::kept_entries::KeptEntries;
 use crate::kept_lists::{KeptRela, is_kept, is_kept_rela};
 use crate::loaded::LoadedObject;
 use elf_model::SectionHeader;
@@ -57,12 +58,21 @@ impl<'a> LoadedObject<'a> {
         self.kept.relas.as_slice()
     }
 
-    /// The entries of a kept RELA section.
-    pub fn kept_entries(&self, rela: KeptRela) -> RelaRun<'a>
+    /// The entries of a kept RELA section, also those of type NONE.
+    pub fn all_entries(&self, rela: KeptRela) -> RelaRun<'a>
         requires { IsKeptRela (loaded_view self.now) rela }
         ensures { result ≡ relas_of self.now.object (section (sections self.now.object) rela.number) }
     {
         self.object.entries(rela.number as usize)
+    }
+
+    /// The entries of a kept RELA section, in order, but for those of type NONE: what it tells of kept relocations.
+    pub fn kept_entries(&self, rela: KeptRela) -> KeptEntries<'a>
+        requires { IsKeptRela (loaded_view self.now) rela }
+        ensures { (n : ℕ) → map (relocation_of n (loaded_view self.now) rela.target) result
+            ≡ relocations_by n (loaded_view self.now) rela }
+    {
+        KeptEntries::of(self.all_entries(rela))
     }
 
     /// The entries of RELA section `i`, which has the header.

@@ -4,6 +4,7 @@
 #![tactic(auto)]
 
 mod faults;
+mod kept_entries;
 mod kept_lists;
 mod kept_sections;
 mod load_steps;
@@ -18,6 +19,7 @@ mod waiting_places;
 mod waits;
 
 pub use faults::SearchFault;
+pub use kept_entries::{KeptEntries, is_some_kind};
 pub use kept_lists::KeptRela;
 pub use load_steps::{load, load_in, load_seeded, refused_object};
 pub use loaded::{Loaded, LoadedObject, NO_NUMBER};

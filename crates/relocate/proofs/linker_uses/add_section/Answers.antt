@@ -1,13 +1,26 @@
-use Rattle.std.proofs.Common.{List, subst}
-use Rattle.std.specs.Prelude.{OnOk}
-use Rattle.elf_model.specs.Relocation.{Relocation}
-use Rattle.elf_model.specs.UsedNames.{Gains}
-use Rattle.search.proofs.KeptWalks.{entries_told}
+use Rattle.std.proofs.Common.{◌∷◌, [], List, ap, map, refl, sym, ◌||◌, ◌∙◌}
+use Rattle.std.specs.List.{list_any}
+use Rattle.elf_model.specs.Relocation.{Relocation, relocation_of}
+use Rattle.elf_model.specs.UsedNames.{is_among, uses_line}
+use Rattle.elf_model.proofs.LinkerUses.{gained}
+use Rattle.search.proofs.KeptWalks.{entry_first}
 use Rattle.relocate.specs.Uses.{using}
 use Rattle.relocate.proofs.linker_uses.add_section.Goals as goal
 
-pub returns : goal.returns
-returns c =
-    subst (λ (rs : List Relocation). OnOk c.add_entries.result (Gains c.args.user.now.resolved.now rs c.args.names.now c.add_entries.new.names))
-    (entries_told c.args.user.now.number (using c.args.user.now) c.args.rela c.kept_entries-entries.result c.requires.kept c.kept_entries-entries.ensures)
-    c.add_entries.ensures
+pub loop-entry-init : goal.loop-entry-init
+loop-entry-init c = λ n.
+    let u = c.args.user.now in
+    ap (λ (rs : List Relocation). is_among c.args.names.now n || list_any (uses_line u.resolved.now n) rs)
+    (ap (map (relocation_of u.number (using u) c.args.rela.target)) c.into_iter-entry-iterator.ensures.into_iter_gives
+    ∙ c.kept_entries-entry-items.ensures u.number)
+
+pub loop-entry-preserved : goal.loop-entry-preserved
+loop-entry-preserved c = λ n.
+    let u = c.args.user.now in
+    let t = c.args.rela.target in
+    let f = relocation_of u.number (using u) t in
+    let old = c.loop-entry.names in
+    gained u.resolved.now (f c.in-Some.entry ∷ []) (map f c.next.new.self) old c.add_use.new.names n _ c.in_ok-add_use.ensures
+    (sym (ap (λ (rs : List Relocation). is_among old n || list_any (uses_line u.resolved.now n) rs)
+    (entry_first u.number (using u) t t c.in-Some.entry _ _ refl c.in-Some.ensures.steps))
+    ∙ c.loop-entry.invariant n)

@@ -1,20 +1,54 @@
-use Rattle.std.proofs.Common.{List, subst}
-use Rattle.std.specs.Prelude.{All, IfErr, OnOk}
-use Rattle.elf_model.specs.Relocation.{Relocation}
-use Rattle.elf_model.specs.RelocationValues.{Fits}
-use Rattle.search.proofs.KeptWalks.{entries_told}
+use Rattle.std.proofs.Common.{◌≡◌, ◌∷◌, ◌++◌, [], List, ap, map, refl, ◌∙◌}
+use Rattle.std.specs.Prelude.{IsSome}
+use Rattle.std.proofs.lemmas.List.Elements.{All-head}
+use Rattle.elf_model.specs.Relocation.{Relocation, relocation_kind, relocation_of}
+use Rattle.elf_model.proofs.Mapped.{push_mapped}
+use Rattle.search.proofs.KeptWalks.{entry_first}
+use Rattle.search.specs.KeptLists.{relocations_by}
+use Rattle.relocate.specs.declared.faults.RelocFault.TheVariants as error
+use Rattle.relocate.proofs.Rows.{patch_is}
+use Rattle.relocate.proofs.Fitted.{fit_all, fit_none, fit_part, fitting_fails, known_part, one_fails, one_fits}
 use Rattle.relocate.specs.SymbolTables.{all_valued, valued_object, where_of}
-use Rattle.relocate.specs.Values.{FittingFails}
+use Rattle.relocate.specs.Values.{patch_of}
 use Rattle.relocate.proofs.object_patches.add_section.Goals as goal
+
+pub loop-entry-init : goal.loop-entry-init
+loop-entry-init c =
+    let v = c.args.valued.now in
+    let f = relocation_of v.number (valued_object v) c.args.rela.target in
+    let told : map f c.into_iter-entry-iterator.result ≡ relocations_by v.number (valued_object v) c.args.rela =
+    ap (map f) c.into_iter-entry-iterator.ensures.into_iter_gives ∙ c.kept_entries-entry-items.ensures v.number in
+    record {
+      patches = ap (λ (rs : List Relocation). c.args.patches.now.items ++ map (patch_of (all_valued v) (where_of v)) rs) told;
+      leaves = fit_all (all_valued v) (where_of v) _ _ told c.requires.known;
+    }
+
+pub fitting_value-requires-clause-known : goal.fitting_value-requires-clause-known
+fitting_value-requires-clause-known c =
+    let v = c.args.valued.now in
+    let parts = entry_first v.number (valued_object v) c.args.rela.target c.args.rela.target c.in-Some.entry _ _ refl c.in-Some.ensures.steps in
+    All-head (λ (t : Relocation). IsSome (relocation_kind t)) _ [] (known_part _ _ _ _ (_ ∷ []) _ parts c.loop-entry.invariant.leaves)
+
+pub returns-in_default-clause-fault : goal.returns-in_default-clause-fault
+returns-in_default-clause-fault c =
+    let v = c.args.valued.now in
+    let parts = entry_first v.number (valued_object v) c.args.rela.target c.args.rela.target c.in-Some.entry _ _ refl c.in-Some.ensures.steps in
+    fitting_fails _ _ _ _ (_ ∷ []) _ error.Overflow parts c.loop-entry.invariant.leaves (one_fails _ _ _ c.in_default.ensures)
+
+pub loop-entry-preserved : goal.loop-entry-preserved
+loop-entry-preserved c =
+    let v = c.args.valued.now in
+    let f = relocation_of v.number (valued_object v) c.args.rela.target in
+    let parts = entry_first v.number (valued_object v) c.args.rela.target c.args.rela.target c.in-Some.entry _ _ refl c.in-Some.ensures.steps in
+    record {
+      patches =
+          push_mapped (patch_of (all_valued v) (where_of v)) c.loop-entry.patches.items c.push.new.self.items _ _ _ _ _
+          c.in_ok-push.ensures.items (patch_is (all_valued v) (where_of v) (f c.in-Some.entry) c.in-Some-fitting_value.fitting c.in_ok-place.place c.in-Some-fitting_value.ensures.1 c.in_ok-place.ensures)
+          parts c.loop-entry.invariant.patches;
+      leaves = fit_part _ _ _ _ (_ ∷ []) _ parts (one_fits _ _ _ c.in-Some-fitting_value.ensures.0) c.loop-entry.invariant.leaves;
+    }
 
 pub returns-clause-fit : goal.returns-clause-fit
 returns-clause-fit c =
-    subst (λ (rs : List Relocation). OnOk c.add_patches.result (All (Fits (all_valued c.args.valued.now) (where_of c.args.valued.now)) rs))
-    (entries_told c.args.valued.now.number (valued_object c.args.valued.now) c.args.rela c.kept_entries-entries.result c.requires.kept c.kept_entries-entries.ensures)
-    c.add_patches.ensures.fit
-
-pub returns-clause-fault : goal.returns-clause-fault
-returns-clause-fault c =
-    subst (λ (rs : List Relocation). IfErr c.add_patches.result (FittingFails (all_valued c.args.valued.now) (where_of c.args.valued.now) rs))
-    (entries_told c.args.valued.now.number (valued_object c.args.valued.now) c.args.rela c.kept_entries-entries.result c.requires.kept c.kept_entries-entries.ensures)
-    c.add_patches.ensures.fault
+    let v = c.args.valued.now in
+    fit_none (all_valued v) (where_of v) _ _ (ap (map (relocation_of v.number (valued_object v) c.args.rela.target)) c.in-None.ensures.steps.0) c.loop-entry.invariant.leaves
