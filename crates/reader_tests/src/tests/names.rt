@@ -53,7 +53,9 @@ fn offer_all<'a, T: NameTable<'a>>(
     table: &mut T,
     offers: &[(&'a [u8], Candidate)],
 ) -> Result<(), AllocError>
-    ensures { OnOk result (T.rows table.new ≡ all_offered (map (λ o. record { name = o.0.now; candidate = o.1 }) offers.now) (T.rows table.old)) }
+    ensures { OnOk result (T.rows table.new
+        ≡ all_offered (map (λ o. record { name = o.0.now; candidate = o.1 }) offers.now)
+        (T.rows table.old)) }
 {
     for (name, candidate) in offers {
         table.offer(name, *candidate)?;
