@@ -54,7 +54,7 @@ LAYERS = {
         " Walked",
         "Pieces and output sections": "Alignments ByNames Gathering Padded PieceLemmas PlaceKeys PlaceSteps RunParts SameOutput"
         " SeenOutputs",
-        "Slots": "RequestSteps SameRequest SlotSteps",
+        "Slots": "PositionSteps SameRequest SlotLines SlotSteps",
     },
     "checker": {
         "Lists and numbers": "ArrayRanks Filtered Lines PartsOfLists Spelled",

@@ -68,18 +68,29 @@ found_view [] k o at l there = absurd (none-some o at)
 found_view (x ∷ xs) zero o at l there = ap loaded_view (sym (same_Some x l there)) ∙ same_Some (loaded_view x) o at
 found_view (x ∷ xs) (suc k) o at l there = found_view xs k o at l there
 
-pub hinted_number :
+pub hinted_name :
     (names : List (List ℕ)) (objects : List Loaded) (k j n : ℕ) (o : LoadedObject) → AreNumbered names objects → slice_get (loaded_views objects) k ≡ Some o →
-    hint_at objects k j ≡ Some n → n ≡ number_of names (name_at o.bytes j)
-hinted_number names objects k j n o are at told = by (slice_get objects k) refl
+    hint_at objects k j ≡ Some n → IsNumberOf names (name_at o.bytes j) n
+hinted_name names objects k j n o are at told = by (slice_get objects k) refl
   where
-    by : (x : Option Loaded) → slice_get objects k ≡ x → n ≡ number_of names (name_at o.bytes j)
+    by : (x : Option Loaded) → slice_get objects k ≡ x → IsNumberOf names (name_at o.bytes j) n
     by None e = absurd (none-some n (sym (ap (option_and_then (λ (l : Loaded). number_in l.numbers j)) e) ∙ told))
     by (Some l) e =
         let is : IsNumbered names l = subst (IsNumbered names) (get_or_from_slice_get objects k l l e) (are k l (slice_get_within objects k l e)) in
         let known : IsNumberOf names (name_at l.object j) n = is.each j n (sym (ap (option_and_then (λ (x : Loaded). number_in x.numbers j)) e) ∙ told) in
         let same : loaded_view l ≡ o = found_view objects k o at l e in
-        subst (λ (x : LoadedObject). n ≡ number_of names (name_at x.bytes j)) same (known_with names (name_at l.object j) n known.found).1
+        subst (λ (x : LoadedObject). IsNumberOf names (name_at x.bytes j) n) same known
+
+pub hinted_number :
+    (names : List (List ℕ)) (objects : List Loaded) (k j n : ℕ) (o : LoadedObject) → AreNumbered names objects → slice_get (loaded_views objects) k ≡ Some o →
+    hint_at objects k j ≡ Some n → n ≡ number_of names (name_at o.bytes j)
+hinted_number names objects k j n o are at told = (known_with names (name_at o.bytes j) n (hinted_name names objects k j n o are at told).found).1
+
+pub hint_told :
+    (names : List (List ℕ)) (objects : List Loaded) (k j : ℕ) (r : Option ℕ) → AreNumbered names objects → r ≡ hint_at objects k j →
+    IfSome r (λ n. (o : LoadedObject) → slice_get (loaded_views objects) k ≡ Some o → IsNumberOf names (name_at o.bytes j) n)
+hint_told names objects k j None are is = tt
+hint_told names objects k j (Some n) are is = λ o at. hinted_name names objects k j n o are at (sym is)
 
 -- the definition of the symbol's name is told
 pub choice_told :

@@ -11,12 +11,13 @@ pub mod Padded
 pub mod PieceLemmas
 pub mod PlaceKeys
 pub mod PlaceSteps
+pub mod PositionSteps
 pub mod Positions
-pub mod RequestSteps
 pub mod RunParts
 pub mod SameOutput
 pub mod SameRequest
 pub mod SeenOutputs
+pub mod SlotLines
 pub mod SlotSteps
 pub mod SymbolNumbers
 pub mod Walked

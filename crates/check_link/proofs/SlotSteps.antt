@@ -1,20 +1,19 @@
 -- One slot line more in a table of slots, and one request more in an ordered table.
-use Rattle.std.proofs.Common.{◌≡◌, ℕ, ◌+◌, ◌<◌, ◌≤◌, ◌&&◌, ◌||◌, Bool, true, false, not, cond, List, [], ◌∷◌, Option, Some, None, drop, get_or, length, refl, sym, ◌∙◌, ap}
-use Rattle.std.specs.Prelude.{find, is_some, map, option_map}
+use Rattle.std.proofs.Common.{◌≡◌, ℕ, ◌+◌, ◌<◌, ◌≤◌, ◌&&◌, ◌||◌, Bool, true, false, not, cond, List, ◌∷◌, Option, Some, None, drop, get_or, length, refl, sym, ◌∙◌, ap}
+use Rattle.std.specs.Prelude.{is_some, map}
 use Rattle.std.specs.BTreeMap.{BTreeMap, Updates, get, get_by}
 use Rattle.std.specs.declared.cmp.Ordering.{Ordering}
-use Rattle.std.specs.List.{list_any}
-use Rattle.std.specs.Option.{option_map_or, option_or}
+use Rattle.std.specs.List.{position_from}
+use Rattle.std.specs.Option.{option_or}
 use Rattle.std.specs.Ordering.{is_eq}
 use Rattle.std.proofs.lemmas.List.{drop_all}
-use Rattle.std.proofs.lemmas.Option.{same_Some}
 use Rattle.elf_model.specs.MapRecord.{SlotRow}
 use Rattle.linkmap.specs.Borrowed.{slot_row}
 use Rattle.elf_model.specs.Slots.{Request, is_slot_of, row_request, same_request}
 use Rattle.linkmap.specs.declared.borrowed.BorrowedSlot.{BorrowedSlot}
 use Rattle.elf_model.proofs.Rests.{rest_at}
-use Rattle.check_link.specs.Slots.{are_fresh, has_in, in_table, key_of, number_in, request_order, request_view}
-use Rattle.check_link.specs.declared.request_map.RequestMap.{RequestMap}
+use Rattle.check_link.specs.Slots.{are_fresh, has_in, in_table, key_of, place_in, request_order, request_view}
+use Rattle.check_link.specs.declared.slot_positions.SlotPositions.{SlotPositions}
 use Rattle.check_link.specs.declared.requests.Request as code
 use Rattle.elf_model.proofs.SameRequests.{requests_equal, same_sym}
 use Rattle.check_link.proofs.SameRequest.{ordered_alike, tied, view_of_key}
@@ -62,17 +61,17 @@ slot_there old k at r is has q =
 
 -- The table with one line more.
 first_more :
-    (p : SlotRow → Bool) (row : SlotRow) (rest : List SlotRow) (old new whole : Option ℕ) →
-    new ≡ option_or old (cond (p row) (Some row.address) None) → option_or old (option_map (λ r. r.address) (find p (row ∷ rest))) ≡ whole →
-    option_or new (option_map (λ r. r.address) (find p rest)) ≡ whole
-first_more p row rest (Some x) new whole grown all = ap (λ (o : Option ℕ). option_or o (option_map (λ r. r.address) (find p rest))) grown ∙ all
-first_more p row rest None new whole grown all = by (p row) grown all
+    (p : SlotRow → Bool) (row : SlotRow) (rest : List SlotRow) (i : ℕ) (old new whole : Option ℕ) →
+    new ≡ option_or old (cond (p row) (Some i) None) → option_or old (position_from p i (row ∷ rest)) ≡ whole →
+    option_or new (position_from p (i + 1) rest) ≡ whole
+first_more p row rest i (Some x) new whole grown all = ap (λ (o : Option ℕ). option_or o (position_from p (i + 1) rest)) grown ∙ all
+first_more p row rest i None new whole grown all = by (p row) grown all
   where
     by :
-        (b : Bool) → new ≡ cond b (Some row.address) None → option_map (λ r. r.address) (cond b (Some row) (find p rest)) ≡ whole →
-        option_or new (option_map (λ r. r.address) (find p rest)) ≡ whole
-    by true g a = ap (λ (o : Option ℕ). option_or o (option_map (λ r. r.address) (find p rest))) g ∙ a
-    by false g a = ap (λ (o : Option ℕ). option_or o (option_map (λ r. r.address) (find p rest))) g ∙ a
+        (b : Bool) → new ≡ cond b (Some i) None → cond b (Some i) (position_from p (i + 1) rest) ≡ whole →
+        option_or new (position_from p (i + 1) rest) ≡ whole
+    by true g a = ap (λ (o : Option ℕ). option_or o (position_from p (i + 1) rest)) g ∙ a
+    by false g a = ap (λ (o : Option ℕ). option_or o (position_from p (i + 1) rest)) g ∙ a
 
 and_assoc : (a b c : Bool) → ((a && b) && c) ≡ (a && (b && c))
 and_assoc true b c = refl
@@ -90,28 +89,27 @@ module _ (lines : List BorrowedSlot) (i : ℕ) (line : BorrowedSlot) (within : i
   pub rows_more : rows_from lines i ≡ slot_row line ∷ rows_from lines (i + 1)
   rows_more = ap (map slot_row) (rest_at lines i line within) ∙ ap (λ (l : BorrowedSlot). slot_row l ∷ rows_from lines (i + 1)) (sym read)
 
-  module _ (old new : RequestMap) (grown : (q : Request) → number_in new q ≡ option_or (number_in old q) (cond (is_slot_of q (slot_row line)) (Some line.address) None)) where
+  module _ (names : List (List ℕ)) (old new : SlotPositions) (grown : (q : Request) → place_in names new q ≡ option_or (place_in names old q) (cond (is_slot_of q (slot_row line)) (Some i) None)) where
     pub index_more :
-        (q : Request) (whole : Option ℕ) →
-        option_or (number_in old q) (option_map (λ r. r.address) (find (is_slot_of q) (rows_from lines i))) ≡ whole →
-        option_or (number_in new q) (option_map (λ r. r.address) (find (is_slot_of q) (rows_from lines (i + 1)))) ≡ whole
+        (q : Request) (whole : Option ℕ) → option_or (place_in names old q) (position_from (is_slot_of q) i (rows_from lines i)) ≡ whole →
+        option_or (place_in names new q) (position_from (is_slot_of q) (i + 1) (rows_from lines (i + 1))) ≡ whole
     index_more q whole all =
-        first_more (is_slot_of q) (slot_row line) (rows_from lines (i + 1)) (number_in old q) (number_in new q) whole (grown q)
-        (sym (ap (λ (rs : List SlotRow). option_or (number_in old q) (option_map (λ r. r.address) (find (is_slot_of q) rs))) rows_more) ∙ all)
+        first_more (is_slot_of q) (slot_row line) (rows_from lines (i + 1)) i (place_in names old q) (place_in names new q) whole (grown q)
+        (sym (ap (λ (rs : List SlotRow). option_or (place_in names old q) (position_from (is_slot_of q) i rs)) rows_more) ∙ all)
 
-    has_more : has_in new ≡ (λ q. has_in old q || same_request q (row_request (slot_row line)))
-    has_more = λ j q. (ap (λ (o : Option ℕ). is_some o) (grown q) ∙ some_or (number_in old q) (same_request q (row_request (slot_row line))) line.address) j
+    has_more : has_in names new ≡ (λ q. has_in names old q || same_request q (row_request (slot_row line)))
+    has_more = λ j q. (ap (λ (o : Option ℕ). is_some o) (grown q) ∙ some_or (place_in names old q) (same_request q (row_request (slot_row line))) i) j
 
     pub distinct_more :
-        (distinct fresh whole : Bool) → fresh ≡ not (has_in old (row_request (slot_row line))) →
-        (distinct && are_fresh (has_in old) (map row_request (rows_from lines i))) ≡ whole →
-        ((distinct && fresh) && are_fresh (has_in new) (map row_request (rows_from lines (i + 1)))) ≡ whole
+        (distinct fresh whole : Bool) → fresh ≡ not (has_in names old (row_request (slot_row line))) →
+        (distinct && are_fresh (has_in names old) (map row_request (rows_from lines i))) ≡ whole →
+        ((distinct && fresh) && are_fresh (has_in names new) (map row_request (rows_from lines (i + 1)))) ≡ whole
     distinct_more distinct fresh whole is all =
         let rest : List Request = map row_request (rows_from lines (i + 1)) in
-        ap (λ b. (distinct && b) && are_fresh (has_in new) rest) is
-        ∙ ap (λ (seen : Request → Bool). (distinct && not (has_in old (row_request (slot_row line)))) && are_fresh seen rest) has_more
-        ∙ and_assoc distinct (not (has_in old (row_request (slot_row line)))) (are_fresh (λ q. has_in old q || same_request q (row_request (slot_row line))) rest)
-        ∙ sym (ap (λ (rs : List SlotRow). distinct && are_fresh (has_in old) (map row_request rs)) rows_more)
+        ap (λ b. (distinct && b) && are_fresh (has_in names new) rest) is
+        ∙ ap (λ (seen : Request → Bool). (distinct && not (has_in names old (row_request (slot_row line)))) && are_fresh seen rest) has_more
+        ∙ and_assoc distinct (not (has_in names old (row_request (slot_row line)))) (are_fresh (λ q. has_in names old q || same_request q (row_request (slot_row line))) rest)
+        ∙ sym (ap (λ (rs : List SlotRow). distinct && are_fresh (has_in names old) (map row_request rs)) rows_more)
         ∙ all
 
 pub or_none : (o : Option ℕ) → option_or o None ≡ o
@@ -123,30 +121,10 @@ and_true true = refl
 and_true false = refl
 
 module _ (lines : List BorrowedSlot) (i : ℕ) (behind : length lines ≤ i) where
-  pub index_end :
-      (o whole : Option ℕ) (p : SlotRow → Bool) → option_or o (option_map (λ r. r.address) (find p (rows_from lines i))) ≡ whole → o ≡ whole
+  pub index_end : (o whole : Option ℕ) (p : SlotRow → Bool) → option_or o (position_from p i (rows_from lines i)) ≡ whole → o ≡ whole
   index_end o whole p all =
-      sym (or_none o) ∙ sym (ap (λ (ls : List BorrowedSlot). option_or o (option_map (λ r. r.address) (find p (map slot_row ls)))) (drop_all i lines behind)) ∙ all
+      sym (or_none o) ∙ sym (ap (λ (ls : List BorrowedSlot). option_or o (position_from p i (map slot_row ls))) (drop_all i lines behind)) ∙ all
 
   pub distinct_end : (b whole : Bool) (seen : Request → Bool) → (b && are_fresh seen (map row_request (rows_from lines i))) ≡ whole → b ≡ whole
   distinct_end b whole seen all =
       sym (and_true b) ∙ sym (ap (λ (ls : List BorrowedSlot). b && are_fresh seen (map row_request (map slot_row ls))) (drop_all i lines behind)) ∙ all
-
--- a first that is found is one that passes
-pub found_any : {X Y : Type 0} (f : X → Y) (p : X → Bool) (xs : List X) → is_some (option_map f (find p xs)) ≡ list_any p xs
-found_any f p [] = refl
-found_any {X} f p (x ∷ xs) = by (p x) (found_any f p xs)
-  where
-    by : (b : Bool) → is_some (option_map f (find p xs)) ≡ list_any p xs → is_some (option_map f (cond b (Some x) (find p xs))) ≡ (b || list_any p xs)
-    by true rest = refl
-    by false rest = rest
-
--- the address of the first that is found
-pub address_found :
-    (p : SlotRow → Bool) (rows : List SlotRow) (o : Option ℕ) (a : ℕ) → o ≡ option_map (λ r. r.address) (find p rows) → o ≡ Some a →
-    a ≡ option_map_or (λ r. r.address) (find p rows) 0
-address_found p rows o a e is = by (find p rows) (sym is ∙ e)
-  where
-    by : (f : Option SlotRow) → Some a ≡ option_map (λ r. r.address) f → a ≡ option_map_or (λ r. r.address) f 0
-    by (Some row) g = same_Some a row.address g
-    by None g = absurd (cc)

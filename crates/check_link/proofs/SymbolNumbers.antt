@@ -8,7 +8,7 @@ use Rattle.std.proofs.lemmas.List.Elements.{All-append, All-cons, All-nil, All-w
 use Rattle.std.proofs.lemmas.List.Kept.{AllPairs-cons, AllPairs-filter}
 use Rattle.std.proofs.lemmas.Option.{get_or_from_slice_get, none-some, same_Some, slice_get_within}
 use Rattle.elf_model.proofs.Pairs.{AllPairs-append, AllPairs-nil}
-use Rattle.elf_model.specs.ChosenSymbols.{definitions, is_chosen, is_definition, is_same_symbol}
+use Rattle.elf_model.specs.ChosenSymbols.{definitions, is_definition, is_same_symbol}
 use Rattle.elf_model.specs.Loading.{LoadedObject}
 use Rattle.elf_model.specs.ObjectFile.{symbols}
 use Rattle.elf_model.specs.Resolution.{SymbolOf, all_symbols, symbol_of, symbols_from, symbols_of}

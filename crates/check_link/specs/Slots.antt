@@ -1,16 +1,18 @@
--- Requests for slots of the GOT as the code finds them, and tables and sets of them.
-use Rattle.std.specs.Prelude.{◌≡◌, ℕ, ◌&&◌, ◌||◌, Bool, true, false, not, is_some, List, [], ◌∷◌, ◌≤◌, None, Option, find, length, map, option_map, slice_index_or}
+-- Requests for slots of the GOT as the code has them, and tables of positions of slots.
+use Rattle.std.specs.Prelude.{◌≡◌, ℕ, ◌&&◌, ◌||◌, Bool, true, false, not, is_some, List, [], ◌∷◌, None, Option, Some, map}
 use Rattle.std.specs.BTreeMap.{BTreeMap, get}
-use Rattle.std.specs.List.{list_any}
-use Rattle.check_load.specs.NameNumbers.{number_of}
+use Rattle.std.specs.List.{position, position_from}
+use Rattle.std.specs.Str.{bytes_eq}
+use Rattle.check_load.specs.Numbered.{name_at}
 use Rattle.std.specs.declared.cmp.Ordering.{Ordering}
+use Rattle.elf_model.specs.Loading.{LoadedObject}
 use Rattle.elf_model.specs.MapRecord.{OfLocal, OfName, SlotRow, TargetRow}
 use Rattle.elf_model.specs.Slots.{Request, is_slot_of, row_request, same_request}
 use Rattle.elf_model.specs.declared.link_map.SlotKind.{SlotKind}
 use Rattle.elf_model.specs.declared.link_map.SlotKind.TheVariants as slot
 use Rattle.check_link.specs.contracts.requests.RequestOrd.TheImpl as request_ord
-use Rattle.check_link.specs.declared.request_map.NameRequests.{NameRequests}
-use Rattle.check_link.specs.declared.request_map.RequestMap.{RequestMap}
+use Rattle.check_link.specs.Chosen.{position_at}
+use Rattle.check_link.specs.declared.slot_positions.SlotPositions.{SlotPositions}
 use Rattle.check_link.specs.declared.requests.Request as code
 use Rattle.check_link.specs.declared.requests.Wanted.{Wanted}
 use Rattle.check_link.specs.declared.requests.Wanted.TheVariants as wanted
@@ -38,51 +40,40 @@ key_target (OfLocal object symbol) = wanted.Local object symbol
 abbrev pub key_of : Request → code.Request
 key_of q = record { thread = is_thread q.kind; target = key_target q.target }
 
-abbrev pub same_flag : Bool → Bool → Bool
-same_flag true true = true
-same_flag true false = false
-same_flag false true = false
-same_flag false false = true
-
 -- how requests compare
 abbrev pub request_order : code.Request → code.Request → Ordering
 request_order = (request_ord.ghosts).cmp
 
--- the number that an ordered table has for a request
+-- the position that an ordered table has for a request
 abbrev pub in_table : BTreeMap code.Request ℕ → Request → Option ℕ
 in_table table q = get request_order table (key_of q)
 
--- places of requests are of names
-abbrev pub IsSized : RequestMap → Type 0
-IsSized m = length m.of_names.items ≤ length m.names
+-- the number of the name of a target; None where it has none
+abbrev pub number_for : List (List ℕ) → TargetRow → Option ℕ
+number_for names (OfName name) = position (bytes_eq name) names
+number_for names (OfLocal object symbol) = None
 
--- a name without requests
-abbrev pub no_requests : NameRequests
-no_requests = record { value = None; thread = None }
+-- the positions of slots of a kind for names, at the numbers of these
+abbrev pub positions_of : SlotKind → SlotPositions → List (Option ℕ)
+positions_of slot.Value p = p.values.items
+positions_of slot.Thread p = p.threads.items
 
--- the requests of the name that has a number
-abbrev pub requests_at : List NameRequests → ℕ → NameRequests
-requests_at of_names i = slice_index_or of_names i no_requests
+-- the position of a request, given the number of its name where it has one
+abbrev pub place_at : SlotPositions → Request → Option ℕ → Option ℕ
+place_at p q (Some k) = position_at (positions_of q.kind p) k
+place_at p q None = in_table p.others q
 
--- the number of a name's request of a kind
-abbrev pub number_of_kind : Bool → NameRequests → Option ℕ
-number_of_kind true r = r.thread
-number_of_kind false r = r.value
+-- the position of a request, where names have these numbers
+unfoldable pub place_in : List (List ℕ) → SlotPositions → Request → Option ℕ
+place_in names p q = place_at p q (number_for names q.target)
 
-abbrev pub of_name_in : RequestMap → Bool → List ℕ → Option ℕ
-of_name_in m thread name = number_of_kind thread (requests_at m.of_names.items (number_of m.names name))
+-- the position of the first slot line for a request
+abbrev pub line_of : List SlotRow → Request → Option ℕ
+line_of rows q = position_from (is_slot_of q) 0 rows
 
--- the number of a request
-abbrev pub of_target_in : RequestMap → Request → TargetRow → Option ℕ
-of_target_in m q (OfName name) = of_name_in m (is_thread q.kind) name
-of_target_in m q (OfLocal object symbol) = in_table m.of_locals q
-
-unfoldable pub number_in : RequestMap → Request → Option ℕ
-number_in m q = of_target_in m q q.target
-
--- a table has the address of the first slot for each request
-abbrev pub IsSlotIndex : List SlotRow → RequestMap → Type 0
-IsSlotIndex rows table = (q : Request) → number_in table q ≡ option_map (λ row. row.address) (find (is_slot_of q) rows)
+-- a table has for each request the position of the first slot line
+abbrev pub IsSlotIndex : List (List ℕ) → List SlotRow → SlotPositions → Type 0
+IsSlotIndex names rows p = (q : Request) → place_in names p q ≡ line_of rows q
 
 -- each request is neither one of those seen nor one of those in front of it
 abbrev pub are_fresh : (Request → Bool) → List Request → Bool
@@ -96,20 +87,19 @@ none_seen q = false
 abbrev pub are_distinct : List Request → Bool
 are_distinct qs = are_fresh none_seen qs
 
--- a table has a request
-abbrev pub has_in : RequestMap → Request → Bool
-has_in table q = is_some (number_in table q)
+-- a table has a position for a request
+abbrev pub has_in : List (List ℕ) → SlotPositions → Request → Bool
+has_in names p q = is_some (place_in names p q)
 
-pub record IsSlotTable (rows : List SlotRow) (table : RequestMap) (distinct : Bool) : Type 0 where
-  pub sized : IsSized table
-  pub index : IsSlotIndex rows table
+-- slot lines, and the objects by whose symbols they are found
+pub record Slots : Type 0 where
+  pub rows : List SlotRow
+  pub objects : List LoadedObject
+
+-- the request for a slot of a kind for the name of symbol number j of an object
+abbrev pub name_request : Bool → LoadedObject → ℕ → Request
+name_request thread o j = record { kind = kind_view thread; target = OfName (name_at o.bytes j) }
+
+pub record IsSlotTable (names : List (List ℕ)) (rows : List SlotRow) (p : SlotPositions) (distinct : Bool) : Type 0 where
+  pub index : IsSlotIndex names rows p
   pub distinct_is : distinct ≡ are_distinct (map row_request rows)
-
--- whether a request is one of those that are asked for
-abbrev pub is_asked : List Request → Request → Bool
-is_asked asked q = list_any (same_request q) asked
-
--- a table has just these requests
-pub record HasAll (asked : List Request) (table : RequestMap) : Type 0 where
-  pub sized : IsSized table
-  pub all : (q : Request) → has_in table q ≡ is_asked asked q

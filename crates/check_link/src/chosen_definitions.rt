@@ -25,7 +25,7 @@ pub struct Chosen<'a> {
 }
 
 /// Lets there be a place at a number: those that come have no position.
-fn reach(positions: &mut Vec<Option<usize>>, number: usize) -> Result<(), AllocError>
+pub fn reach(positions: &mut Vec<Option<usize>>, number: usize) -> Result<(), AllocError>
     ensures same { (i : ℕ) → position_at positions.new.items i ≡ position_at positions.old.items i }
     ensures there { OnOk result (number < length positions.new.items) }
     ensures size { length positions.new.items ≤ max (length positions.old.items) (number + 1) }
@@ -62,7 +62,7 @@ fn number_for<'a>(
 }
 
 /// Keeps a position, unless there is one.
-fn keep_first(place: &mut Option<usize>, position: usize)
+pub fn keep_first(place: &mut Option<usize>, position: usize)
     ensures { place.new ≡ option_or place.old (Some position) }
 {
     if place.is_none() {
@@ -237,7 +237,7 @@ pub fn definition_at<'a>(
 }
 
 /// The position at a number; None where there is none.
-fn position_at(positions: &[Option<usize>], number: usize) -> Option<usize>
+pub fn position_at(positions: &[Option<usize>], number: usize) -> Option<usize>
     ensures { result ≡ position_at positions.now number }
 {
     match positions.get(number) {

@@ -16,9 +16,9 @@ use crate::chosen_definitions::{
 };
 use crate::commons::{are_sound_commons, blocks_of, index_blocks};
 use crate::definitions::{definitions_of, is_common};
+use crate::numbering::Numbering;
 use crate::things::{Block, Meaning, SymbolOf};
 use check_load::{Loaded, NameTable};
-use elf_model::NameSeed;
 use std::alloc::{AllocError, Global};
 use std::collections::BTreeMap;
 use std::marker::Model;
@@ -32,7 +32,6 @@ pub struct Names<'l, 'a> {
     chosen: Chosen<'a>,
     blocks: Vec<Block<'a>>,
     blocks_by_name: BTreeMap<&'a [u8], Block<'a>>,
-    seed: Option<NameSeed>,
 }
 
 impl<'l, 'a> Model for Names<'l, 'a> {
@@ -69,13 +68,11 @@ fn found_blocks<'a>(
 }
 
 impl<'l, 'a> Names<'l, 'a> {
-    /// What loaded objects define, given the names whose numbers their symbols have. Further names are to be hashed from the
-    /// seed, or found by their order without one.
+    /// What loaded objects define, given the names whose numbers their symbols have.
     pub fn new(
         alloc: Global,
         objects: &'l [Loaded<'a>],
         names: NameTable<'a>,
-        seed: Option<NameSeed>,
     ) -> Result<Names<'l, 'a>, AllocError>
         requires { AreNumbered names objects.now }
         ensures { IfOk result (λ n. n ≡ loaded_views objects.entry.now) }
@@ -89,13 +86,17 @@ impl<'l, 'a> Names<'l, 'a> {
             chosen,
             blocks,
             blocks_by_name,
-            seed,
         })
     }
 
-    /// From what names are to be hashed, where they aren't to be found by their order.
-    pub fn seed(&self) -> Option<NameSeed> {
-        self.seed
+    /// The objects with the names whose numbers their symbols have.
+    pub fn numbering(&self) -> Numbering<'_, 'a>
+        ensures { loaded_views result.objects.now ≡ self.entry.now }
+    {
+        Numbering {
+            objects: self.objects,
+            names: &self.chosen.names,
+        }
     }
 
     /// The loaded objects.

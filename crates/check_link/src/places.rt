@@ -1,23 +1,21 @@
 //! The addresses of placed pieces, found by their sections.
-ghost use Rattle.std.specs.Prelude.{◌≡◌, ◌==◌, ◌&&◌, ℕ, IfOk, None, OnOk, Option, Some, cond, find, option_map, unwrap_or};
+ghost use Rattle.std.specs.Prelude.{◌≡◌, ◌==◌, ◌&&◌, ℕ, IfOk, None, OnOk, Option, Some, cond, find, map, option_map, unwrap_or};
 ghost use Rattle.std.specs.Option.{option_or};
 ghost use Rattle.elf_model.specs.LinkerValues.{bound_value, end_of_pieces, start_of_pieces};
 ghost use Rattle.elf_model.specs.Pieces.{is_of_output};
 ghost use Rattle.elf_model.specs.Placement.{got_start, is_of_section};
-ghost use Rattle.elf_model.specs.Slots.{requested_address};
+ghost use Rattle.linkmap.specs.Borrowed.{slot_row};
 ghost use Rattle.check_link.specs.PieceParts.{AreInLimit, IsGotInLimit};
 ghost use Rattle.check_link.specs.PlaceIndex.{IsPlaceIndex, address_in};
-ghost use Rattle.check_link.specs.Slots.{request_view};
 ghost use Rattle.check_link.specs.ThreadStorage.{thread_pointer};
 ghost use Rattle.check_link.specs.Views.{placed_view, placed_views};
 
 use crate::bounds::{Bounds, Span, bounds_of, spans_of};
 use crate::linker_names::named_output;
-use crate::requests::Request;
-use crate::slots::SlotTable;
 use crate::things::Placed;
 use crate::thread_storage::thread_pointer;
 use elf_model::{Bound, GotLine};
+use linkmap::BorrowedSlot;
 use std::alloc::{AllocError, Global};
 use std::collections::{BTreeMap, HashMap};
 use std::marker::Model;
@@ -29,7 +27,7 @@ pub struct Places<'p, 'a> {
     base: u64,
     placed: &'p [Placed<'a>],
     got: Option<GotLine>,
-    slots: &'p SlotTable<'a>,
+    slots: &'p [BorrowedSlot<'a>],
     addresses: HashMap<(u64, u64), u64>,
     bounds: Bounds,
     spans: BTreeMap<&'a [u8], Span>,
@@ -37,13 +35,15 @@ pub struct Places<'p, 'a> {
 }
 
 impl<'p, 'a> Model for Places<'p, 'a> {
+    ghost use Rattle.std.specs.Prelude.{map};
     ghost use Rattle.elf_model.specs.Placement.{Where};
+    ghost use Rattle.linkmap.specs.Borrowed.{slot_row};
     ghost use Rattle.check_link.specs.PlaceIndex.{ArePlaces};
     ghost use Rattle.check_link.specs.Views.{placed_views};
 
     ghost Value = { Where };
 
-    ghost view = { λ p. record { base = p.base; placed = placed_views p.placed.now; got = p.got; slots = p.slots.now } };
+    ghost view = { λ p. record { base = p.base; placed = placed_views p.placed.now; got = p.got; slots = map slot_row p.slots.now } };
 
     ghost invariant = { λ p. ArePlaces (placed_views p.placed.now) p.got p.addresses p.bounds p.spans p.thread_pointer };
 }
@@ -55,7 +55,7 @@ impl<'p, 'a> Places<'p, 'a> {
         base: u64,
         placed: &'p [Placed<'a>],
         got: Option<GotLine>,
-        slots: &'p SlotTable<'a>,
+        slots: &'p [BorrowedSlot<'a>],
     ) -> Result<Places<'p, 'a>, AllocError>
         requires pieces { AreInLimit (placed_views placed.now) }
         requires got { IsGotInLimit got }
@@ -64,7 +64,7 @@ impl<'p, 'a> Places<'p, 'a> {
               base = base;
               placed = placed_views placed.entry.now;
               got = got;
-              slots = slots.entry.now;
+              slots = map slot_row slots.entry.now;
             }) }
     {
         let addresses = index_places(alloc, placed)?;
@@ -116,13 +116,6 @@ impl<'p, 'a> Places<'p, 'a> {
         ensures { result ≡ thread_pointer self.now.placed }
     {
         self.thread_pointer
-    }
-
-    /// The address of the slot for a request, 0 without one.
-    pub fn slot_address(&self, request: &Request<'a>) -> u64
-        ensures { result ≡ requested_address self.now.slots (request_view request.now) }
-    {
-        self.slots.address(request)
     }
 
     /// Where the bound is for which a name of the linker's stands.

@@ -7,6 +7,7 @@ pub mod Modulo
 pub mod NeedSteps
 pub mod NoUses
 pub mod Noted
+pub mod NotedSlots
 pub mod ObjectFields
 pub mod PartitionPoints
 pub mod RightParts

@@ -1,5 +1,5 @@
 -- Objects of which no symbol has a name that the linker defines: their relocations use none.
-use Rattle.std.proofs.Common.{◌≡◌, ℕ, ◌+◌, ◌<◌, ◌≤◌, ◌⊎◌, inl, inr, ◌||◌, ◌&&◌, ◌++◌, Bool, true, false, cond, List, [], ◌∷◌, get_or, length, map, refl, ap, subst, sym, ◌∙◌, arith}
+use Rattle.std.proofs.Common.{◌≡◌, ℕ, ◌+◌, ◌<◌, ◌≤◌, ◌⊎◌, inl, inr, ◌||◌, ◌&&◌, ◌++◌, Bool, true, false, cond, List, [], ◌∷◌, get_or, length, refl, ap, subst, sym, ◌∙◌, arith}
 use Rattle.std.specs.Prelude.{All, filter, not}
 use Rattle.std.specs.List.{list_any}
 use Rattle.std.specs.Str.{bytes_eq}
@@ -11,7 +11,6 @@ use Rattle.elf_model.specs.ObjectFile.{null_symbol, relas_of, sections, symbols}
 use Rattle.elf_model.specs.Relocation.{Relocation, is_kept_rela, is_some_kind, relocation_of, relocations_behind, relocations_from, relocations_in, symbol_at}
 use Rattle.elf_model.specs.Resolution.{symbol_of}
 use Rattle.elf_model.specs.UsedNames.{is_linker_use, uses_line}
-use Rattle.elf_model.specs.declared.records.Rela.{Rela}
 use Rattle.elf_model.specs.declared.records.SectionHeader.{SectionHeader}
 use Rattle.elf_model.specs.declared.records.Symbol.{Symbol}
 use Rattle.check_link.proofs.Padded.{below_or_not}

@@ -2,12 +2,13 @@
 use Rattle.std.specs.Prelude.{◌≡◌, ◌↔◌, ℕ, ◌%◌, ◌^◌, ◌&&◌, not, true, false, IsTrue, List, IsSomeAnd, Option, option_map, unwrap_or}
 use Rattle.std.specs.Option.{option_map_or}
 use Rattle.elf_model.specs.Loading.{LoadedObject}
-use Rattle.elf_model.specs.Pieces.{is_alloc}
+use Rattle.elf_model.specs.Pieces.{Piece, is_alloc, kept_sections}
 use Rattle.elf_model.specs.Meaning.{is_in_thread_storage, meaning_size, meaning_value}
 use Rattle.elf_model.specs.Placement.{Where}
 use Rattle.elf_model.specs.Relocation.{IsMixed, IsUndefined, definition_of, is_local, symbol_at}
 use Rattle.elf_model.specs.Resolution.{SymbolOf, section_of}
 use Rattle.elf_model.specs.RightLink.{Subject, objects_of, where_of}
+use Rattle.check_link.specs.Slots.{Slots}
 use Rattle.check_relocs.specs.Known.{AreKnown}
 use Rattle.check_relocs.specs.declared.targets.Target.{Target}
 
@@ -37,3 +38,9 @@ pub record IsTargetOf (b : Bound) (s : SymbolOf) (t : Target) : Type 0 where
 -- what is known of the symbols of the object that has a number is what they mean
 abbrev pub AreTargets : Bound → ℕ → LoadedObject → List (Option Target) → Type 0
 AreTargets b object o ts = AreKnown (λ j t. IsTargetOf b (symbol_at object o j) t) ts
+
+-- the output sections, the slots and the places of objects belong together
+pub record AreBindings (objects : List LoadedObject) (outputs : List Piece) (slots : Slots) (places : Where) : Type 0 where
+  pub outputs_are : outputs ≡ kept_sections objects
+  pub rows_are : slots.rows ≡ places.slots
+  pub objects_are : slots.objects ≡ objects

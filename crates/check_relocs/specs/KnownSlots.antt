@@ -1,9 +1,10 @@
 -- What is known of the slots of an object's symbols.
-use Rattle.std.specs.Prelude.{◌≡◌, ℕ, Bool, true, List, Option}
+use Rattle.std.specs.Prelude.{◌≡◌, ℕ, Bool, true, false, List, None, Option, Some, slice_index_or}
 use Rattle.elf_model.specs.Loading.{LoadedObject}
 use Rattle.elf_model.specs.Relocation.{symbol_at}
 use Rattle.elf_model.specs.Slots.{Request, requested_address, target_of}
-use Rattle.check_link.specs.Slots.{is_asked, kind_view}
+use Rattle.elf_model.specs.MapRecord.{SlotRow}
+use Rattle.check_link.specs.Slots.{kind_view, line_of}
 use Rattle.check_relocs.specs.Bindings.{AreTargets}
 use Rattle.check_relocs.specs.Known.{AreKnown}
 use Rattle.check_relocs.specs.Referrers.{object_here}
@@ -23,9 +24,22 @@ request_here r j thread = request_at r.number (object_here r) j thread
 abbrev pub AreSlots : Referrer → List (Option SymbolSlot) → Type 0
 AreSlots r ss = AreKnown (λ j s. s.address ≡ requested_address r.bindings.now.places.slots (request_here r j s.thread)) ss
 
--- what is known of them is of which kind a slot is that is among requests
-abbrev pub AreAsked : List Request → Referrer → List (Option Bool) → Type 0
-AreAsked asked r ts = AreKnown (λ j t. is_asked asked (request_here r j t) ≡ true) ts
+-- the mark at a position
+abbrev pub mark_at : List Bool → ℕ → Bool
+mark_at marks i = slice_index_or marks i false
+
+-- the slot lines
+abbrev pub rows_here : Referrer → List SlotRow
+rows_here r = r.bindings.now.places.slots
+
+-- a request is noted: its line has a mark, or there is none and that is told
+pub record IsNoted (rows : List SlotRow) (unserved : Bool) (marks : List Bool) (q : Request) : Type 0 where
+  pub there : (i : ℕ) → line_of rows q ≡ Some i → mark_at marks i ≡ true
+  pub none : line_of rows q ≡ None → unserved ≡ true
+
+-- what is known of them is of which kind a slot is whose request is noted
+abbrev pub AreAsked : Bool → List Bool → Referrer → List (Option Bool) → Type 0
+AreAsked unserved marks r ts = AreKnown (λ j t. IsNoted (rows_here r) unserved marks (request_here r j t)) ts
 
 -- both what they mean and where their slots are
 pub record AreSymbolsKnown (r : Referrer) (known : KnownSymbols) : Type 0 where

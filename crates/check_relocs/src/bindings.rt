@@ -11,43 +11,40 @@ ghost use Rattle.elf_model.specs.Pieces.{AreOneOutput, kept_sections};
 ghost use Rattle.elf_model.specs.Placement.{got_start, section_address, symbol_value};
 ghost use Rattle.elf_model.specs.Relocation.{IsMixed, IsMixedBound, definition_of, is_local};
 ghost use Rattle.elf_model.specs.Resolution.{AreSoundSymbols, all_symbols, binding, chosen, is_in_thread_section};
-ghost use Rattle.elf_model.specs.Slots.{requested_address};
 ghost use Rattle.check_load.specs.Numbered.{name_at};
 ghost use Rattle.check_load.specs.Views.{loaded_views};
 ghost use Rattle.check_relocs.specs.Bindings.{IsOfUnkept, IsTargetOf};
 ghost use Rattle.check_link.specs.Chosen.{AreOtherChoices, AreOwnChoices};
-ghost use Rattle.check_link.specs.Slots.{request_view};
 ghost use Rattle.check_link.specs.ThreadStorage.{thread_pointer};
 ghost use Rattle.check_link.specs.Views.{meaning_view, symbol_view, symbol_views};
 
 use crate::targets::Target;
 use check_link::{
-    Meaning, Names, Outputs, Places, Request, SymbolOf, are_sound, fixed_bound, has_value,
+    Meaning, Names, Outputs, Places, SlotTable, SymbolOf, are_sound, fixed_bound, has_value,
     is_in_thread_section, is_mangled, named_output, output_bound, section_of,
 };
 use check_load::Loaded;
-use elf_model::{Bound, NameSeed, SHN_ABS, SHN_COMMON, SHN_UNDEF, STB_LOCAL, STB_WEAK};
+use elf_model::{Bound, SHN_ABS, SHN_COMMON, SHN_UNDEF, STB_LOCAL, STB_WEAK};
 use std::alloc::{AllocError, Global};
 use std::marker::Model;
 
-/// What names mean: the names of the loaded objects, the output names of their kept sections, and the placed pieces.
+/// What names mean: the names of the loaded objects, the output names of their kept sections, the placed pieces, and the slots.
 #[derive(Drop)]
 pub struct Bindings<'l, 'p, 'a> {
     names: &'l Names<'l, 'a>,
     outputs: &'l Outputs<'l, 'a>,
     places: &'l Places<'p, 'a>,
+    slots: &'l SlotTable<'l, 'a>,
 }
 
 impl<'l, 'p, 'a> Model for Bindings<'l, 'p, 'a> {
-    ghost use Rattle.std.specs.Prelude.{◌≡◌};
-    ghost use Rattle.elf_model.specs.Pieces.{kept_sections};
-    ghost use Rattle.check_relocs.specs.Bindings.{Bound};
+    ghost use Rattle.check_relocs.specs.Bindings.{AreBindings, Bound};
 
     ghost Value = { Bound };
 
     ghost view = { λ b. record { objects = b.names.now; places = b.places.now } };
 
-    ghost invariant = { λ b. b.outputs.now ≡ kept_sections b.names.now };
+    ghost invariant = { λ b. AreBindings b.names.now b.outputs.now b.slots.now b.places.now };
 }
 
 /// Whether a symbol that isn't number 0 and isn't WEAK has no definition.
@@ -148,13 +145,16 @@ fn size_or_none(definition: &Option<Meaning<'_>>) -> u64
 
 impl<'l, 'p, 'a> Bindings<'l, 'p, 'a> {
     /// What names mean where the pieces of loaded objects are placed. The outputs are those of the objects' kept
-    /// sections.
+    /// sections, and the slots those of the places, found by the objects' symbols.
     pub fn new(
         names: &'l Names<'l, 'a>,
         outputs: &'l Outputs<'l, 'a>,
         places: &'l Places<'p, 'a>,
+        slots: &'l SlotTable<'l, 'a>,
     ) -> Bindings<'l, 'p, 'a>
-        requires { outputs.now ≡ kept_sections names.now }
+        requires outputs { outputs.now ≡ kept_sections names.now }
+        requires rows { slots.now.rows ≡ places.now.slots }
+        requires objects { slots.now.objects ≡ names.now }
         ensures objects { result.objects ≡ names.entry.now }
         ensures places { result.places ≡ places.entry.now }
     {
@@ -162,6 +162,7 @@ impl<'l, 'p, 'a> Bindings<'l, 'p, 'a> {
             names,
             outputs,
             places,
+            slots,
         }
     }
 
@@ -170,11 +171,6 @@ impl<'l, 'p, 'a> Bindings<'l, 'p, 'a> {
         ensures { loaded_views result.now ≡ self.entry.now.objects }
     {
         self.names.objects()
-    }
-
-    /// From what names are to be hashed, where they aren't to be found by their order.
-    pub fn seed(&self) -> Option<NameSeed> {
-        self.names.seed()
     }
 
     /// A mark for each definition: whether it is the chosen one of its name.
@@ -483,11 +479,12 @@ impl<'l, 'p, 'a> Bindings<'l, 'p, 'a> {
         self.places.thread_pointer()
     }
 
-    /// The address of the slot for a request, 0 without one.
-    pub fn slot_address(&self, request: &Request<'a>) -> u64
-        ensures { result ≡ requested_address self.now.places.slots (request_view request.now) }
+    /// The slots of the map.
+    pub fn slots(&self) -> &'l SlotTable<'l, 'a>
+        ensures rows { result.now.rows ≡ self.entry.now.places.slots }
+        ensures objects { result.now.objects ≡ self.entry.now.objects }
     {
-        self.places.slot_address(request)
+        self.slots
     }
 
     /// The address of a section of an object, 0 where it isn't placed.

@@ -141,7 +141,7 @@ fn slot_address<'a>(
         (relocation_of number (loaded_view loaded.now) section entry.now) }
 {
     match request_of(loaded, number, entry) {
-        Some(request) => bindings.slot_address(&request),
+        Some(request) => bindings.slots().address(&request),
         None => 0,
     }
 }

@@ -1,33 +1,38 @@
 //! What the kept relocations ask of the global offset table: whether there is one, and which slots it has.
-ghost use Rattle.std.specs.Prelude.{◌≡◌, ◌∷◌, ◌||◌, ℕ, [], false, true, IfOk, None, OnOk, Some};
-ghost use Rattle.std.specs.Option.{option_map_or};
+ghost use Rattle.std.specs.Prelude.{◌≡◌, ◌∷◌, ◌||◌, ℕ, [], false, not, true, IfOk, None, OnOk, Some, length, slice_set};
+ghost use Rattle.std.specs.List.{list_any};
+ghost use Rattle.std.specs.Option.{is_none, option_map_or};
 ghost use Rattle.elf_model.specs.ObjectFile.{rela_type};
 ghost use Rattle.elf_model.specs.Relocation as relocation;
 ghost use Rattle.elf_model.specs.Slots as slots;
-ghost use Rattle.elf_model.specs.Slots.{asks_for_got, names_got, same_request};
+ghost use Rattle.elf_model.specs.Slots.{asks_for_got, is_slot_of, names_got, same_request};
 ghost use Rattle.check_relocs.specs.Known.{known_at};
-ghost use Rattle.check_relocs.specs.KnownSlots.{AreAsked, request_here};
-ghost use Rattle.check_relocs.specs.Needs.{AreGotNames, AreNeeds, AreNeedsKnown, HaveGained, asks_for_slot};
+ghost use Rattle.check_relocs.specs.KnownSlots.{AreAsked, mark_at, request_here, rows_here};
+ghost use Rattle.check_relocs.specs.Needs.{AreGotNames, AreNeeds, AreNeedsKnown, HaveGained, asks_for_slot, is_unserved};
 ghost use Rattle.check_relocs.specs.Referrers.{objects_here, relocation_here, relocations_here, symbol_here};
-ghost use Rattle.check_link.specs.Slots.{is_asked};
+ghost use Rattle.check_link.specs.Chosen.{marked_by};
+ghost use Rattle.check_link.specs.Slots.{line_of};
 ghost use Rattle.check_link.specs.Views.{symbol_view};
 
 use crate::answers::{keep_answer, known_answer, no_answers};
 use crate::bindings::Bindings;
-use crate::entry_requests::{kind_asked, speaks_of_got, target_at};
+use crate::entry_requests::{kind_asked, speaks_of_got};
 use crate::kinds::kind_of;
 use crate::referrer::Referrer;
+use crate::slots::position_at;
 use crate::targets::{is_local_at, symbol_at};
-use check_link::{Request, RequestSet, SymbolOf, is_thread};
-use check_load::{KeptRelocation, Loaded};
+use check_link::{SymbolOf, is_thread};
+use check_load::{KeptRelocation, Loaded, filled};
 use elf_model::{Rela, STB_LOCAL};
 use std::alloc::{AllocError, Global};
 
-/// Whether relocations ask for a GOT, and their requests for slots, each once.
+/// Whether relocations ask for a GOT, whether one asks for a slot that isn't there, and marks of the lines of slots: whether one
+/// asks for the slot. Of several lines for the same slot only the first gets its mark.
 #[derive(Drop)]
-pub struct Needs<'a> {
+pub struct Needs {
     pub got: bool,
-    pub requests: RequestSet<'a>,
+    pub unserved: bool,
+    pub asked: Vec<bool>,
 }
 
 /// What is known of the symbols of an object: whether they have the GOT's name, and of which kind their slot is that was
@@ -158,99 +163,146 @@ fn is_known_asked(asked: &[Option<bool>], j: usize, thread: bool) -> bool
     }
 }
 
-/// Adds the request for the slot of a kind for symbol `j`, unless it is known to be there.
-fn add_request<'a>(
-    requests: &mut RequestSet<'a>,
+/// Sets the mark at a position, where there is one.
+fn set_mark(marks: &mut [bool], position: usize)
+    ensures { marks.new ≡ slice_set marks.old position true }
+{
+    if position < marks.len() {
+        marks[position] = true;
+    }
+}
+
+/// Adds a request for the slot whose line has a position; None for one that isn't there.
+fn add_position(needs: &mut Needs, position: Option<usize>)
+    ensures got { needs.new.got ≡ needs.old.got }
+    ensures unserved { needs.new.unserved ≡ (needs.old.unserved || is_none position) }
+    ensures asked { needs.new.asked.items ≡ marked_by needs.old.asked.items position }
+{
+    match position {
+        Some(position) => set_mark(&mut needs.asked, position),
+        None => needs.unserved = true,
+    }
+}
+
+/// Adds the request for the slot of a kind for symbol `j`, unless it is known to be noted.
+fn add_request(
+    needs: &mut Needs,
     asked: &mut Vec<Option<bool>>,
-    here: &Referrer<'_, '_, '_, 'a>,
+    here: &Referrer<'_, '_, '_, '_>,
     j: usize,
     thread: bool,
-) -> Result<(), AllocError>
-    requires { AreAsked requests.old here.now asked.old.items }
-    ensures kept { OnOk result (AreAsked requests.new here.now asked.new.items) }
-    ensures asked { OnOk result ((q : slots.Request) →
-        is_asked requests.new q
-        ≡ (is_asked requests.old q || same_request q (request_here here.now j thread))) }
+)
+    requires known { AreAsked needs.old.unserved needs.old.asked.items here.now asked.old.items }
+    requires size { length needs.old.asked.items ≡ length (rows_here here.now) }
+    ensures kept { AreAsked needs.new.unserved needs.new.asked.items here.now asked.new.items }
+    ensures got { needs.new.got ≡ needs.old.got }
+    ensures unserved { needs.new.unserved
+        ≡ (needs.old.unserved
+        || not (list_any (is_slot_of (request_here here.now j thread)) (rows_here here.now))) }
+    ensures asked { (q : slots.Request) (i : ℕ) → line_of (rows_here here.now) q ≡ Some i
+        → mark_at needs.new.asked.items i
+        ≡ (mark_at needs.old.asked.items i || same_request q (request_here here.now j thread)) }
+    ensures size { length needs.new.asked.items ≡ length needs.old.asked.items }
 {
     if is_known_asked(asked, j, thread) {
-        return Ok(());
+        return;
     }
-    let target = target_at(here.loaded, here.number, j);
-    requests.add(Request { thread, target })?;
+    add_position(needs, position_at(here, j, thread));
     keep_answer(asked, j, thread);
-    Ok(())
 }
 
 /// Adds the request of a relocation, if it asks for a slot.
-fn add_if_asked<'a>(
-    requests: &mut RequestSet<'a>,
+fn add_if_asked(
+    needs: &mut Needs,
     asked: &mut Vec<Option<bool>>,
-    here: &Referrer<'_, '_, '_, 'a>,
+    here: &Referrer<'_, '_, '_, '_>,
     relocation: &KeptRelocation,
-) -> Result<(), AllocError>
-    requires { AreAsked requests.old here.now asked.old.items }
-    ensures kept { OnOk result (AreAsked requests.new here.now asked.new.items) }
-    ensures asked { OnOk result ((q : slots.Request) →
-        is_asked requests.new q
-        ≡ (is_asked requests.old q
-        || asks_for_slot q (relocation_here here.now relocation.now))) }
+)
+    requires known { AreAsked needs.old.unserved needs.old.asked.items here.now asked.old.items }
+    requires size { length needs.old.asked.items ≡ length (rows_here here.now) }
+    ensures kept { AreAsked needs.new.unserved needs.new.asked.items here.now asked.new.items }
+    ensures got { needs.new.got ≡ needs.old.got }
+    ensures unserved { needs.new.unserved
+        ≡ (needs.old.unserved
+        || is_unserved (rows_here here.now) (relocation_here here.now relocation.now)) }
+    ensures asked { (q : slots.Request) (i : ℕ) → line_of (rows_here here.now) q ≡ Some i
+        → mark_at needs.new.asked.items i
+        ≡ (mark_at needs.old.asked.items i
+        || asks_for_slot q (relocation_here here.now relocation.now)) }
+    ensures size { length needs.new.asked.items ≡ length needs.old.asked.items }
 {
     let Some(kind) = kind_asked(&relocation.entry) else {
-        return Ok(());
+        return;
     };
     let j = relocation.entry.symbol() as usize;
-    add_request(requests, asked, here, j, is_thread(kind))
+    add_request(needs, asked, here, j, is_thread(kind));
 }
 
 /// Adds what a relocation asks for.
-fn add_relocation<'a>(
-    needs: &mut Needs<'a>,
-    here: &Referrer<'_, '_, '_, 'a>,
+fn add_relocation(
+    needs: &mut Needs,
+    here: &Referrer<'_, '_, '_, '_>,
     known: &mut KnownNeeds,
     relocation: &KeptRelocation,
-) -> Result<(), AllocError>
+)
     requires { AreNeedsKnown here.now needs.old known.old }
-    ensures kept { OnOk result (AreNeedsKnown here.now needs.new known.new) }
-    ensures gained { OnOk result (HaveGained (objects_here here.now)
-        (relocation_here here.now relocation.now ∷ []) needs.old needs.new) }
+    ensures kept { AreNeedsKnown here.now needs.new known.new }
+    ensures gained { HaveGained (objects_here here.now) (rows_here here.now)
+        (relocation_here here.now relocation.now ∷ []) needs.old needs.new }
 {
     needs.got = got_with(needs.got, here, &mut known.named, relocation);
-    add_if_asked(&mut needs.requests, &mut known.asked, here, relocation)?;
-    Ok(())
+    add_if_asked(needs, &mut known.asked, here, relocation);
 }
 
 /// Adds what the kept relocations of an object ask for.
-fn add_object<'a>(
+fn add_object(
     alloc: Global,
-    needs: &mut Needs<'a>,
-    here: &Referrer<'_, '_, '_, 'a>,
+    needs: &mut Needs,
+    here: &Referrer<'_, '_, '_, '_>,
 ) -> Result<(), AllocError>
-    ensures { OnOk result (HaveGained (objects_here here.now)
+    requires { length needs.old.asked.items ≡ length (rows_here here.now) }
+    ensures { OnOk result (HaveGained (objects_here here.now) (rows_here here.now)
         (relocations_here here.now) needs.old needs.new) }
 {
     let mut known = KnownNeeds::new(alloc, here.loaded, needs.got)?;
     for relocation in here.loaded.relocations() {
-        add_relocation(needs, here, &mut known, &relocation)?;
+        add_relocation(needs, here, &mut known, &relocation);
     }
     Ok(())
 }
 
-/// What the kept relocations of all objects ask of the GOT.
-pub fn needs_of<'a>(alloc: Global, bindings: &Bindings<'_, '_, 'a>) -> Result<Needs<'a>, AllocError>
-    ensures { IfOk result (AreNeeds bindings.now.objects) }
+/// Adds what the kept relocations of all objects ask for.
+fn add_objects(
+    alloc: Global,
+    needs: &mut Needs,
+    bindings: &Bindings<'_, '_, '_>,
+) -> Result<(), AllocError>
+    requires { length needs.old.asked.items ≡ length bindings.now.places.slots }
+    ensures { OnOk result (HaveGained bindings.now.objects bindings.now.places.slots
+        (relocation.relocations bindings.now.objects) needs.old needs.new) }
 {
     let objects = bindings.objects();
-    let mut needs = Needs {
-        got: false,
-        requests: RequestSet::new(alloc, bindings.seed()),
-    };
     for k in 0..objects.len() {
         let here = Referrer {
             bindings,
             number: k as u64,
             loaded: &objects[k],
         };
-        add_object(alloc, &mut needs, &here)?;
+        add_object(alloc, needs, &here)?;
     }
+    Ok(())
+}
+
+/// What the kept relocations of all objects ask of the GOT.
+pub fn needs_of(alloc: Global, bindings: &Bindings<'_, '_, '_>) -> Result<Needs, AllocError>
+    ensures { IfOk result (AreNeeds bindings.now.objects bindings.now.places.slots) }
+{
+    let asked = filled(alloc, false, bindings.slots().lines().len())?;
+    let mut needs = Needs {
+        got: false,
+        unserved: false,
+        asked,
+    };
+    add_objects(alloc, &mut needs, bindings)?;
     Ok(needs)
 }

@@ -1,13 +1,14 @@
 //! Where the slots are for which relocations ask, each looked up once for a symbol of an object.
 ghost use Rattle.std.specs.Prelude.{◌≡◌, ℕ, IfOk, IfSome, None, Some, slice_set};
 ghost use Rattle.elf_model.specs.Slots.{requested_address, slot_address};
+ghost use Rattle.check_link.specs.Slots.{line_of};
 ghost use Rattle.check_relocs.specs.Known.{known_at};
-ghost use Rattle.check_relocs.specs.KnownSlots.{AreSlots, request_here};
+ghost use Rattle.check_relocs.specs.KnownSlots.{AreSlots, request_here, rows_here};
 ghost use Rattle.check_relocs.specs.Referrers.{relocation_here};
 
 use crate::entry_requests::{kind_asked, target_at};
 use crate::referrer::Referrer;
-use crate::targets::has_relas;
+use crate::targets::{has_relas, is_local_at};
 use check_link::{Request, is_thread};
 use check_load::{KeptRelocation, Loaded, filled};
 use std::alloc::{AllocError, Global};
@@ -64,6 +65,39 @@ fn known_address(slots: &[Option<SymbolSlot>], j: usize, thread: bool) -> Option
     }
 }
 
+/// The position of the line of the slot of a kind for symbol `j` of an object, as far as loading noted the symbol's name. The name
+/// isn't read.
+fn noted_position(here: &Referrer<'_, '_, '_, '_>, j: usize, thread: bool) -> Option<usize>
+    ensures { IfSome result (λ i.
+        line_of (rows_here here.now) (request_here here.now j thread) ≡ Some i) }
+{
+    if is_local_at(here.loaded, j) {
+        return None;
+    }
+    here.bindings.slots().noted(here.number, j as u64, thread)
+}
+
+/// The position of the line of the slot of a kind for symbol `j` of an object; None without one.
+pub fn position_at(here: &Referrer<'_, '_, '_, '_>, j: usize, thread: bool) -> Option<usize>
+    ensures { result ≡ line_of (rows_here here.now) (request_here here.now j thread) }
+{
+    if let Some(position) = noted_position(here, j, thread) {
+        return Some(position);
+    }
+    let target = target_at(here.loaded, here.number, j);
+    here.bindings.slots().position(&Request { thread, target })
+}
+
+/// The address of that slot, 0 without one.
+fn found_address(here: &Referrer<'_, '_, '_, '_>, j: usize, thread: bool) -> u64
+    ensures { result ≡ requested_address (rows_here here.now) (request_here here.now j thread) }
+{
+    match position_at(here, j, thread) {
+        Some(position) => here.bindings.slots().address_at(position),
+        None => 0,
+    }
+}
+
 /// The address of the slot of a kind for symbol `j` of an object, 0 without one. It is looked up where that isn't known.
 fn address_at(
     here: &Referrer<'_, '_, '_, '_>,
@@ -79,10 +113,7 @@ fn address_at(
     if let Some(address) = known_address(slots, j, thread) {
         return address;
     }
-    let address = here.bindings.slot_address(&Request {
-        thread,
-        target: target_at(here.loaded, here.number, j),
-    });
+    let address = found_address(here, j, thread);
     keep_slot(slots, j, SymbolSlot { thread, address });
     address
 }

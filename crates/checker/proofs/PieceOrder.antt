@@ -1,6 +1,6 @@
 -- Placed pieces stand by objects, common blocks behind all others; and what is left of them once those of one object more
 -- are compared.
-use Rattle.std.proofs.Common.{◌≡◌, ℕ, zero, suc, ◌+◌, ◌<◌, ◌≤◌, ◌==◌, ◌⊎◌, inl, inr, Bool, true, false, cond, List, [], ◌∷◌, ◌++◌, drop, get_or, length, length-drop, length-take, map, refl, subst, sym, take, take-append-drop, ap, ◌∙◌, arith}
+use Rattle.std.proofs.Common.{◌≡◌, ℕ, ◌+◌, ◌<◌, ◌≤◌, ◌==◌, inl, inr, Bool, true, false, List, [], ◌∷◌, ◌++◌, drop, get_or, length, length-drop, length-take, refl, subst, sym, take, take-append-drop, ap, ◌∙◌, arith}
 use Rattle.std.specs.Prelude.{◌&&◌, All, AllPairs, Contains, ◌↔◌}
 use Rattle.std.specs.List.{prefix_len}
 use Rattle.std.proofs.lemmas.Bool.{and_parts, eqb-true}
@@ -9,13 +9,13 @@ use Rattle.std.proofs.lemmas.List.{drop-map, get_or-drop, get_or-map, get_or-tak
 use Rattle.std.proofs.lemmas.List.Sums.{prefix_len_passes, prefix_len_stops}
 use Rattle.check_link.specs.Views.{placed_view, placed_views}
 use Rattle.check_link.specs.declared.things.Placed as things
-use Rattle.std.proofs.lemmas.List.Elements.{All-append, All-cons, All-contains_itself, All-head, All-map, All-nil, All-tail, All-weaker}
+use Rattle.std.proofs.lemmas.List.Elements.{All-append, All-cons, All-contains_itself, All-head, All-map, All-nil, All-weaker}
 use Rattle.std.proofs.lemmas.List.Kept.{AllPairs-cons}
 use Rattle.elf_model.proofs.Blocks.{blocks-each}
 use Rattle.elf_model.proofs.Listed.{All-parts}
 use Rattle.elf_model.proofs.Pairs.{AllPairs-append, AllPairs-head, AllPairs-nil, AllPairs-parts, AllPairs-tail, AllPairs-weaker}
 use Rattle.elf_model.proofs.PieceNumbers.{ComesBefore, kept_ascend, kept_below}
-use Rattle.elf_model.specs.Commons.{Block, block_of, block_piece, blocks}
+use Rattle.elf_model.specs.Commons.{Block, block_piece, blocks}
 use Rattle.elf_model.specs.Loading.{LoadedObject}
 use Rattle.elf_model.specs.MapRecord.{PlaceRow}
 use Rattle.elf_model.specs.Pieces.{Piece, kept_sections}

@@ -18,7 +18,7 @@ use Rattle.elf_model.specs.Placement as placement
 use Rattle.elf_model.specs.Placement.{placed_block, placed_blocks, placed_by}
 use Rattle.elf_model.specs.Relocation.{Relocation, is_in_field, relocations, width_of}
 use Rattle.elf_model.specs.Resolution.{SymbolOf}
-use Rattle.elf_model.specs.RightLink.{HoldsPiece, Subject, objects_of, placed_of, sections_of, where_of}
+use Rattle.elf_model.specs.RightLink.{Subject, objects_of, placed_of, sections_of, where_of}
 use Rattle.elf_model.specs.WantedBytes.{byte_or_field, wanted_byte}
 use Rattle.elf_model.specs.declared.records.SectionHeader.{SectionHeader}
 use Rattle.check_relocs.specs.Bytes.{FitsIn, HasFieldsInside, HoldsFields, byte_of, covers, fields_in, is_of}

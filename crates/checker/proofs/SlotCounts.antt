@@ -1,23 +1,25 @@
 -- There is one slot for each request and no other: no two slots are for the same request, all are asked for, and each
 -- request has a slot.
-use Rattle.std.proofs.Common.{◌≡◌, ℕ, ◌+◌, ◌≤◌, ◌||◌, Bool, true, false, not, cond, List, [], ◌∷◌, get_or, refl, sym, ◌∙◌, ap, subst, arith}
-use Rattle.std.specs.Prelude.{All, count_by, map}
-use Rattle.std.specs.List.{list_any}
+use Rattle.std.proofs.Common.{◌≡◌, ℕ, zero, suc, ◌+◌, ◌<◌, ◌≤◌, ◌||◌, Bool, true, false, not, cond, List, [], ◌∷◌, Option, None, Some, get_or, length, refl, sym, ◌∙◌, ap, subst, arith}
+use Rattle.std.specs.Prelude.{All, count_by, is_some, map}
+use Rattle.std.specs.List.{cons_option, filter_map, list_any, position_from}
+use Rattle.std.specs.Option.{option_map_or}
+use Rattle.std.proofs.lemmas.List.{get_or_default}
 use Rattle.std.proofs.lemmas.Bool.{and_from, and_parts, false≢true}
-use Rattle.std.proofs.lemmas.List.Elements.{All-contains, All-map}
+use Rattle.std.proofs.lemmas.List.Elements.{All-cons, All-contains, All-head, All-nil, All-tail}
 use Rattle.std.proofs.lemmas.List.Recursion.{is_count_by}
 use Rattle.std.proofs.lemmas.List.Folds.{Any-from_list_any, list_any-from_Any}
-use Rattle.elf_model.proofs.Listed.{All-from_contains, All-unmap}
+use Rattle.elf_model.proofs.Listed.{All-from_contains}
 use Rattle.elf_model.specs.Loading.{LoadedObject}
-use Rattle.elf_model.specs.MapRecord.{SlotRow}
-use Rattle.linkmap.specs.Borrowed.{slot_row}
-use Rattle.linkmap.specs.declared.borrowed.BorrowedSlot.{BorrowedSlot}
-use Rattle.elf_model.specs.Slots.{Request, is_slot_of, requests, row_request, same_request}
+use Rattle.elf_model.specs.MapRecord.{OfLocal, SlotRow}
+use Rattle.elf_model.specs.Relocation.{Relocation, relocations}
+use Rattle.elf_model.specs.Slots.{Request, is_slot_of, request_of, requests, row_request, same_request}
+use Rattle.elf_model.specs.declared.link_map.SlotKind.TheVariants as slot
 use Rattle.checker.specs.Got.{HaveSlots}
-use Rattle.check_relocs.specs.Needs.{AreNeeds}
-use Rattle.check_link.specs.Slots.{are_distinct, are_fresh, is_asked, none_seen, request_view}
+use Rattle.check_relocs.specs.Needs.{AreNeeds, is_unserved}
+use Rattle.check_link.specs.Slots.{are_distinct, are_fresh, line_of, none_seen}
+use Rattle.check_link.proofs.SlotLines.{has_line, line_below}
 use Rattle.check_relocs.specs.declared.needs.Needs.{Needs}
-use Rattle.check_link.specs.declared.requests.Request as code
 use Rattle.elf_model.proofs.SameRequests.{requests_equal, same_itself}
 
 -- how many slots a request has
@@ -170,43 +172,108 @@ module _ (rows : List SlotRow) (objects : List LoadedObject) where
       let one = count_is q rows ∙ have q ∙ ap (λ (b : Bool). cond b 1 0) asked in
       counted_any q rows (omega (arith, one)))
 
--- The same of a set of what relocations ask for, as the code has it.
-module _ (needs : Needs) (objects : List LoadedObject) (are : AreNeeds objects needs) where
-  -- all lines' slots are asked for
-  pub rows_asked :
-      (lines : List BorrowedSlot) (rows : List SlotRow) → map slot_row lines ≡ rows →
-      All (λ line. is_asked needs.requests (row_request (slot_row line)) ≡ true) lines → All (λ row. wanted rows objects (row_request row) ≡ true) rows
-  rows_asked lines rows same all =
-      subst (All (λ (row : SlotRow). wanted rows objects (row_request row) ≡ true)) same
-      (All-map (λ (row : SlotRow). wanted rows objects (row_request row) ≡ true) slot_row lines
-      (λ k d low. sym (are.slots (row_request (slot_row (get_or lines k d)))) ∙ all k d low))
+-- one that passes is there
+any_at : {X : Type 0} (p : X → Bool) (xs : List X) (i : ℕ) (d : X) → i < length xs → p (get_or xs i d) ≡ true → list_any p xs ≡ true
+any_at p [] i d low e = absurd (omega (arith, low))
+any_at p (x ∷ xs) zero d low e = ap (λ b. b || list_any p xs) e
+any_at {X} p (x ∷ xs) (suc i) d low e = by (p x) (any_at p xs i d (omega (arith, low)) e)
+  where
+    by : (b : Bool) → list_any p xs ≡ true → (b || list_any p xs) ≡ true
+    by true rest = refl
+    by false rest = rest
 
-  pub asked_rows :
-      (lines : List BorrowedSlot) (rows : List SlotRow) → map slot_row lines ≡ rows →
-      All (λ row. wanted rows objects (row_request row) ≡ true) rows → All (λ line. is_asked needs.requests (row_request (slot_row line)) ≡ true) lines
-  asked_rows lines rows same all =
-      let mapped = All-unmap (λ (row : SlotRow). wanted rows objects (row_request row) ≡ true) slot_row lines (subst (All (λ (row : SlotRow). wanted rows objects (row_request row) ≡ true)) (sym same) all) in
-      λ k d low. are.slots (row_request (slot_row (get_or lines k d))) ∙ mapped k d low
+-- a slot that is the only one for its request stands at the first position
+only_first :
+    (q : Request) (rows : List SlotRow) (k i : ℕ) (d : SlotRow) → count q rows ≤ 1 → i < length rows → is_slot_of q (get_or rows i d) ≡ true →
+    position_from (is_slot_of q) k rows ≡ Some (k + i)
+unfolding count
+only_first q [] k i d one low e = absurd (omega (arith, low))
+only_first q (row ∷ rows) k zero d one low e =
+    ap (λ b. cond b (Some k) (position_from (is_slot_of q) (k + 1) rows)) e ∙ ap Some (omega arith)
+only_first q (row ∷ rows) k (suc i) d one low e = by (is_slot_of q row) one (only_first q rows (k + 1) i d)
+  where
+    below : i < length rows
+    below = omega (arith, low)
 
-  module _ (keys : List code.Request) (same : map request_view keys ≡ needs.requests) (rows : List SlotRow) where
-    -- each request of a relocation is one of the set
-    pub keys_there : All (λ q. any_slot (request_view q) rows ≡ true) keys → All (λ q. any_slot q rows ≡ true) (requests objects)
-    keys_there all =
-        let each : All (λ (q : Request). any_slot q rows ≡ true) needs.requests =
-        subst (All (λ (q : Request). any_slot q rows ≡ true)) same (All-map (λ (q : Request). any_slot q rows ≡ true) request_view keys all) in
-        All-from_contains (λ (q : Request). any_slot q rows ≡ true) (requests objects)
-        (λ q c.
-        let asked = are.slots q ∙ list_any-from_Any (same_request q) (requests objects) (c.0, q, c.1, c.2, same_itself q) in
-        let a = Any-from_list_any (same_request q) needs.requests asked in
-        subst (λ (r : Request). any_slot r rows ≡ true) (sym (requests_equal q a.1 a.4))
-        (All-contains (λ (r : Request). any_slot r rows ≡ true) needs.requests a.1 each (a.0, a.2, a.3)))
+    by :
+        (b : Bool) → cond b (1 + count q rows) (count q rows) ≤ 1 →
+        (count q rows ≤ 1 → i < length rows → is_slot_of q (get_or rows i d) ≡ true → position_from (is_slot_of q) (k + 1) rows ≡ Some (k + 1 + i)) →
+        cond b (Some k) (position_from (is_slot_of q) (k + 1) rows) ≡ Some (k + suc i)
+    by true h rest = let some = any_counted q rows (any_at (is_slot_of q) rows i d below e) in absurd (omega (arith, h, some))
+    by false h rest = rest h below e ∙ ap Some (omega arith)
 
-    -- and each of the set is the request of a relocation
-    pub keys_wanted : All (λ q. any_slot q rows ≡ true) (requests objects) → All (λ q. any_slot (request_view q) rows ≡ true) keys
-    keys_wanted all =
-        All-unmap (λ (q : Request). any_slot q rows ≡ true) request_view keys
-        (subst (All (λ (q : Request). any_slot q rows ≡ true)) (sym same)
-        (All-from_contains (λ (q : Request). any_slot q rows ≡ true) needs.requests
-        (λ q c.
-        let in_set : is_asked needs.requests q ≡ true = list_any-from_Any (same_request q) needs.requests (c.0, q, c.1, c.2, same_itself q) in
-        there_of rows objects q all (sym (are.slots q) ∙ in_set))))
+-- no relocation asks for a slot that isn't there where each request has one
+pub all_served : (rows : List SlotRow) (rs : List Relocation) → All (λ q. any_slot q rows ≡ true) (filter_map request_of rs) → list_any (is_unserved rows) rs ≡ false
+all_served rows [] all = refl
+all_served rows (r ∷ rs) all = by (request_of r) all (all_served rows rs)
+  where
+    P : Request → Type 0
+    P q = any_slot q rows ≡ true
+
+    by :
+        (o : Option Request) → All P (cons_option o (filter_map request_of rs)) →
+        (All P (filter_map request_of rs) → list_any (is_unserved rows) rs ≡ false) →
+        (option_map_or (λ q. not (any_slot q rows)) o false || list_any (is_unserved rows) rs) ≡ false
+    by (Some q) h rest =
+        ap (λ b. not b || list_any (is_unserved rows) rs) (All-head P q (filter_map request_of rs) h) ∙ rest (All-tail P q (filter_map request_of rs) h)
+    by None h rest = rest h
+
+pub served_all : (rows : List SlotRow) (rs : List Relocation) → list_any (is_unserved rows) rs ≡ false → All (λ q. any_slot q rows ≡ true) (filter_map request_of rs)
+served_all rows [] none = All-nil (λ (q : Request). any_slot q rows ≡ true)
+served_all rows (r ∷ rs) none = by (request_of r) none (served_all rows rs)
+  where
+    P : Request → Type 0
+    P q = any_slot q rows ≡ true
+
+    served : (b c : Bool) → (not b || c) ≡ false → (b ≡ true) × (c ≡ false)
+    served true c e = (refl, e)
+    served false c e = absurd (false≢true (sym e))
+
+    by :
+        (o : Option Request) → (option_map_or (λ q. not (any_slot q rows)) o false || list_any (is_unserved rows) rs) ≡ false →
+        (list_any (is_unserved rows) rs ≡ false → All P (filter_map request_of rs)) → All P (cons_option o (filter_map request_of rs))
+    by (Some q) e rest =
+        let both = served (any_slot q rows) (list_any (is_unserved rows) rs) e in
+        All-cons P q (filter_map request_of rs) both.0 (rest both.1)
+    by None e rest = rest e
+
+-- The same of what relocations ask for, as the code has it: each first line of a slot has its mark, and no slot is missing.
+module _ (needs : Needs) (objects : List LoadedObject) (rows : List SlotRow) (are : AreNeeds objects rows needs) where
+  pub rows_asked : All (λ mark. mark ≡ true) needs.asked.items → All (λ row. wanted rows objects (row_request row) ≡ true) rows
+  rows_asked set k d low =
+      let q = row_request (get_or rows k d) in
+      by q (line_of rows q) refl (any_at (is_slot_of q) rows k d low (same_itself q))
+    where
+      by : (q : Request) (o : Option ℕ) → line_of rows q ≡ o → any_slot q rows ≡ true → wanted rows objects q ≡ true
+      by q (Some i) at some =
+          let below = line_below rows q i at in
+          let size = are.size in
+          sym (are.asked q i at) ∙ set i false (omega (arith, below, size))
+      by q None at some = absurd (false≢true (sym (ap (λ (o : Option ℕ). is_some o) at) ∙ (has_line rows q ∙ some)))
+
+  pub marks_set : HaveSlots rows objects → All (λ mark. mark ≡ true) needs.asked.items
+  marks_set have k d low =
+      get_or_default needs.asked.items k d false low ∙ (are.asked q k first ∙ asked)
+    where
+      q : Request
+      q = row_request (get_or rows k (record { address = 0; kind = slot.Value; target = OfLocal 0 0 }))
+
+      below : k < length rows
+      below = let size = are.size in omega (arith, low, size)
+
+      asked : wanted rows objects q ≡ true
+      asked = slots_asked rows objects have k (record { address = 0; kind = slot.Value; target = OfLocal 0 0 }) below
+
+      one : count q rows ≡ 1
+      one = count_is q rows ∙ (have q ∙ ap (λ (b : Bool). cond b 1 0) asked)
+
+      first : line_of rows q ≡ Some k
+      first =
+          only_first q rows 0 k (record { address = 0; kind = slot.Value; target = OfLocal 0 0 }) (omega (arith, one)) below (same_itself q)
+          ∙ ap Some (omega arith)
+
+  pub all_there : needs.unserved ≡ false → All (λ q. any_slot q rows ≡ true) (requests objects)
+  all_there none = served_all rows (relocations objects) (sym are.unserved ∙ none)
+
+  pub none_missing : HaveSlots rows objects → needs.unserved ≡ false
+  none_missing have = are.unserved ∙ all_served rows (relocations objects) (slots_there rows objects have)

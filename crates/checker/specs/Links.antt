@@ -2,14 +2,13 @@
 use Rattle.std.specs.Prelude.{◌≡◌, ℕ, ◌≤◌, IsPermutation, List, length, take}
 use Rattle.std.specs.List.Sorted.{IsNonDecreasingBy}
 use Rattle.elf_model.specs.Loading.{LoadedObject}
-use Rattle.elf_model.specs.MapRecord.{CommonRow, SlotRow}
+use Rattle.elf_model.specs.MapRecord.{CommonRow}
 use Rattle.elf_model.specs.Pieces.{Piece, kept_sections}
 use Rattle.elf_model.specs.Placement.{got_things}
 use Rattle.elf_model.specs.RightLink.{Subject, objects_of, placed_of, sections_of, things_of}
 use Rattle.elf_model.specs.declared.thing.Thing.{Thing}
 use Rattle.check_link.specs.Views.{placed_views}
 use Rattle.check_link.specs.declared.things.Placed.{Placed}
-use Rattle.check_relocs.specs.Bindings.{Bound, bound_of}
 
 -- the objects are loaded
 pub record IsLoadedLink (s : Subject) (os : List LoadedObject) (ps : List Piece) (rows : List CommonRow) : Type 0 where
@@ -27,8 +26,3 @@ pub record IsPlacedLink (s : Subject) (image : List ℕ) (qs : List Placed) (cou
   pub things : ts ≡ things_of s
   pub same : IsPermutation (things_of s) sorted
   pub rising : IsNonDecreasingBy (λ t. t.at) sorted
-
--- names mean what they do in the link
-pub record IsBoundLink (s : Subject) (rows : List SlotRow) (b : Bound) : Type 0 where
-  pub slots : rows ≡ s.map.slots
-  pub bound : b ≡ bound_of s

@@ -12,41 +12,32 @@ use elf_model::Thing;
 use loader_model::Memory;
 use std::marker::Model;
 
-/// A placed link with the slots of its map and with what its names mean.
+/// A placed link with what its names mean.
 #[derive(Drop)]
 pub struct BoundLink<'o, 'a> {
     placed: &'o PlacedLink<'o, 'a>,
-    slots: &'o SlotTable<'a>,
     bindings: Bindings<'o, 'o, 'a>,
 }
 
 impl<'o, 'a> Model for BoundLink<'o, 'a> {
     ghost use Rattle.elf_model.specs.RightLink.{Subject};
-    ghost use Rattle.checker.specs.Links.{IsBoundLink};
+    ghost use Rattle.std.specs.Prelude.{◌≡◌};
+    ghost use Rattle.check_relocs.specs.Bindings.{bound_of};
 
     ghost Value = { Subject };
 
     ghost view = { λ b. b.placed.now };
 
-    ghost invariant = { λ b. IsBoundLink b.placed.now b.slots.now b.bindings };
+    ghost invariant = { λ b. b.bindings ≡ bound_of b.placed.now };
 }
 
 impl<'o, 'a> BoundLink<'o, 'a> {
-    /// A placed link, whose map has these slots, and whose names mean this.
-    pub fn new(
-        placed: &'o PlacedLink<'o, 'a>,
-        slots: &'o SlotTable<'a>,
-        bindings: Bindings<'o, 'o, 'a>,
-    ) -> BoundLink<'o, 'a>
-        requires slots { slots.now ≡ placed.now.map.slots }
-        requires bound { bindings ≡ bound_of placed.now }
+    /// A placed link whose names mean this.
+    pub fn new(placed: &'o PlacedLink<'o, 'a>, bindings: Bindings<'o, 'o, 'a>) -> BoundLink<'o, 'a>
+        requires { bindings ≡ bound_of placed.now }
         ensures { result ≡ placed.entry.now }
     {
-        BoundLink {
-            placed,
-            slots,
-            bindings,
-        }
+        BoundLink { placed, bindings }
     }
 
     /// The link itself.
@@ -86,10 +77,10 @@ impl<'o, 'a> BoundLink<'o, 'a> {
     }
 
     /// The slots of the map.
-    pub fn slots(&self) -> &SlotTable<'a>
-        ensures { result.now ≡ self.entry.now.map.slots }
+    pub fn slots(&self) -> &SlotTable<'o, 'a>
+        ensures { result.now.rows ≡ self.entry.now.map.slots }
     {
-        self.slots
+        self.bindings.slots()
     }
 
     /// What names mean.

@@ -1,19 +1,13 @@
 //! C7: whether the global offset table stands where a relocation asks for one, with a slot for each request and no other.
 ghost use Rattle.std.specs.Prelude.{◌≡◌, ◌↔◌, All, IfOk, IfSome, IsTrue, true};
-ghost use Rattle.std.specs.List.{list_any};
-ghost use Rattle.linkmap.specs.Borrowed.{slot_row};
 ghost use Rattle.elf_model.specs.RightLink.{Holds, HoldsBefore, HoldsGot, objects_of, where_of};
-ghost use Rattle.elf_model.specs.Slots.{is_slot_of, row_request};
 ghost use Rattle.checker.specs.Got.{HaveSlots, LiesInImage};
 ghost use Rattle.check_relocs.specs.Needs.{AreNeeds};
-ghost use Rattle.check_link.specs.Slots.{is_asked, request_view};
 ghost use Rattle.elf_model.specs.declared.verdict.Clause.TheVariants as clause;
 
 use crate::bound_link::BoundLink;
 use crate::c07_got::got_bytes::holds_got;
-use check_link::{Request, RequestSet, SlotTable, request_of_line};
 use check_relocs::{Bindings, Needs, needs_of};
-use linkmap::BorrowedSlot;
 use std::alloc::{AllocError, Global};
 
 mod got_bytes;
@@ -32,62 +26,32 @@ pub fn holds(alloc: Global, bound: &BoundLink<'_, '_>) -> Result<bool, AllocErro
     if link.map.got.is_some() != needs.got {
         return Ok(false);
     }
-    if !are_slots_right(bindings, &needs, bound.slots()) {
+    if !are_slots_right(bindings, &needs) {
         return Ok(false);
     }
     let held = holds_if_there(alloc, bound)?;
     Ok(held)
 }
 
-/// Whether a line's slot is one of those that are asked for.
-fn is_asked<'a>(requests: &RequestSet<'a>, line: &'a BorrowedSlot<'a>) -> bool
-    ensures { result ≡ is_asked requests.now (row_request (slot_row line.entry.now)) }
+/// Whether all marks are set.
+fn are_set(marks: &[bool]) -> bool
+    ensures { IsTrue result ↔ All (λ mark. mark ≡ true) marks.now }
 {
-    requests.has(&request_of_line(line))
-}
-
-/// Whether all lines' slots are asked for.
-fn are_asked<'a>(requests: &RequestSet<'a>, lines: &'a [BorrowedSlot<'a>]) -> bool
-    ensures { IsTrue result ↔ All
-        (λ line. is_asked requests.now (row_request (slot_row line)) ≡ true) lines.entry.now }
-{
-    for line in lines {
-        if !is_asked(requests, line) {
-            return false;
-        }
-    }
-    true
-}
-
-/// Whether there is a slot for each of requests.
-fn have_slots<'a>(requests: &[Request<'a>], slots: &SlotTable<'a>) -> bool
-    ensures { IsTrue result ↔ All
-        (λ q. list_any (is_slot_of (request_view q)) slots.now ≡ true) requests.now }
-{
-    for request in requests {
-        if !slots.has(request) {
-            return false;
-        }
-    }
-    true
+    marks.iter().all(|mark| *mark)
 }
 
 /// Whether there is one slot for each request of the relocations, and no other.
-fn are_slots_right<'a>(
-    bindings: &Bindings<'_, '_, '_>,
-    needs: &Needs<'a>,
-    slots: &SlotTable<'a>,
-) -> bool
-    requires { AreNeeds bindings.now.objects needs.now }
-    ensures { IsTrue result ↔ HaveSlots slots.now bindings.now.objects }
+fn are_slots_right(bindings: &Bindings<'_, '_, '_>, needs: &Needs) -> bool
+    requires { AreNeeds bindings.now.objects bindings.now.places.slots needs.now }
+    ensures { IsTrue result ↔ HaveSlots bindings.now.places.slots bindings.now.objects }
 {
-    if !slots.are_distinct() {
+    if !bindings.slots().are_distinct() {
         return false;
     }
-    if !are_asked(&needs.requests, slots.lines()) {
+    if needs.unserved {
         return false;
     }
-    have_slots(needs.requests.requests(), slots)
+    are_set(&needs.asked)
 }
 
 /// Whether a GOT, if there is one, holds its slots.

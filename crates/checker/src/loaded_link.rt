@@ -8,7 +8,6 @@ ghost use Rattle.check_load.specs.Views.{loaded_views};
 
 use check_link::{CommonLines, Link, Names, Piece, pieces_of};
 use check_load::{Loaded, NameTable};
-use elf_model::NameSeed;
 use std::alloc::{AllocError, Global};
 use std::marker::Model;
 
@@ -34,20 +33,18 @@ impl<'o, 'a> Model for LoadedLink<'o, 'a> {
 }
 
 impl<'o, 'a> LoadedLink<'o, 'a> {
-    /// A link with its loaded objects and the names whose numbers their symbols have. Further names are to be hashed from the
-    /// seed, or found by their order without one.
+    /// A link with its loaded objects and the names whose numbers their symbols have.
     pub fn new(
         alloc: Global,
         link: &'a Link<'a>,
         objects: &'o [Loaded<'a>],
         names: NameTable<'a>,
-        seed: Option<NameSeed>,
     ) -> Result<LoadedLink<'o, 'a>, AllocError>
         requires objects { loaded_views objects.now ≡ objects_of link.now }
         requires numbered { AreNumbered names objects.now }
         ensures { IfOk result (λ l. l ≡ link.entry.now) }
     {
-        let names = Names::new(alloc, objects, names, seed)?;
+        let names = Names::new(alloc, objects, names)?;
         let pieces = pieces_of(alloc, objects)?;
         let lines = CommonLines::new(alloc, &link.map.commons)?;
         Ok(LoadedLink {

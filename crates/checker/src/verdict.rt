@@ -139,7 +139,7 @@ pub fn judge<'a, O: Observer<'a>>(
         observer.see_objects(link, &objects)?;
         return Ok(no(Clause::C2, link));
     }
-    let loaded = LoadedLink::new(alloc, link, &objects, names, seed)?;
+    let loaded = LoadedLink::new(alloc, link, &objects, names)?;
     judge_loaded(alloc, &loaded, observer)
 }
 
@@ -216,10 +216,17 @@ fn judge_names<'a, O: Observer<'a>>(
     let link = placed.link();
     let got = link.map.got;
     let outputs = Outputs::new(alloc, placed.pieces())?;
-    let slots = SlotTable::new(alloc, &link.map.slots, placed.names().seed())?;
-    let places = Places::new(alloc, base_of(&link.plan), placed.placed(), got, &slots)?;
-    let bindings = Bindings::new(placed.names(), &outputs, &places);
-    judge_bound(alloc, &BoundLink::new(placed, &slots, bindings), observer)
+    let names = placed.names();
+    let slots = SlotTable::new(alloc, &link.map.slots, names)?;
+    let places = Places::new(
+        alloc,
+        base_of(&link.plan),
+        placed.placed(),
+        got,
+        slots.lines(),
+    )?;
+    let bindings = Bindings::new(names, &outputs, &places, &slots);
+    judge_bound(alloc, &BoundLink::new(placed, bindings), observer)
 }
 
 /// The answer for a clause that fails of a link whose names have their meaning.

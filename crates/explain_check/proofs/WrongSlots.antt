@@ -1,20 +1,26 @@
 -- Which slots deny that each request has one slot where a relocation makes it, and none elsewhere.
-use Rattle.std.proofs.Common.{◌≡◌, ℕ, zero, suc, ◌+◌, ◌<◌, ◌≤◌, Bool, true, false, cond, List, [], ◌∷◌, Some, refl, sym, ◌∙◌, ap, subst, arith}
-use Rattle.std.specs.List.{list_any, slice_get}
+use Rattle.std.proofs.Common.{◌≡◌, ℕ, zero, suc, ◌+◌, ◌<◌, ◌≤◌, Bool, true, false, not, cond, List, [], ◌∷◌, Option, Some, refl, sym, ◌∙◌, ap, subst, arith}
+use Rattle.std.specs.Prelude.{Contains}
+use Rattle.std.specs.List.{filter_map, list_any, slice_get}
+use Rattle.std.specs.Option.{option_map_or}
 use Rattle.std.proofs.lemmas.Bool.{false≢true}
 use Rattle.std.proofs.lemmas.List.Folds.{list_any-from_Any}
-use Rattle.std.proofs.lemmas.Option.{none-some, same_Some}
+use Rattle.std.proofs.lemmas.Option.{get_or_from_slice_get, none-some, same_Some}
 use Rattle.elf_model.proofs.Listed.{Contains-from_slice_get}
 use Rattle.elf_model.proofs.SameRequests.{same_itself}
 use Rattle.elf_model.specs.Loading.{LoadedObject}
 use Rattle.elf_model.specs.MapRecord.{SlotRow}
-use Rattle.elf_model.specs.Relocation.{Relocation}
+use Rattle.elf_model.specs.Relocation.{Relocation, relocations}
 use Rattle.elf_model.specs.RightLink.{HasSlot, Subject, objects_of}
 use Rattle.elf_model.specs.Slots.{Request, is_slot_of, request_of, requests, row_request, same_request}
-use Rattle.check_link.specs.Slots.{request_view}
+use Rattle.check_link.specs.Slots.{line_of, request_view}
 use Rattle.check_link.specs.declared.requests.Request as code
+use Rattle.check_relocs.proofs.NeedSteps.{any_requests}
+use Rattle.check_relocs.specs.Needs.{AreNeeds, asks_for_slot}
+use Rattle.check_relocs.specs.declared.needs.Needs.{Needs}
 use Rattle.checker.proofs.SlotCounts.{any_counted, count, count_is, none_counted}
 use Rattle.explain_check.specs.GotPlaces.{IsRepeated, IsUnasked, IsUnserved}
+use Rattle.input_names.proofs.ListedPlaces.{listed}
 use Rattle.input_names.specs.RelocationPlaces.{IsRelocationAt}
 use Rattle.input_names.specs.declared.relocation_places.RelocationPlace.{RelocationPlace}
 
@@ -72,6 +78,20 @@ module _ (rows : List SlotRow) (objects : List LoadedObject) (q : Request) where
       let one : count q rows ≡ 1 = count_is q rows ∙ has ∙ ap (λ (b : Bool). cond b 1 0) wanted in
       omega (arith, zeroed, one)
 
+-- a request whose line has no mark is none of these
+pub unmarked :
+    (needs : Needs) (objects : List LoadedObject) (rows : List SlotRow) → AreNeeds objects rows needs → (q : Request) (i : ℕ) → line_of rows q ≡ Some i →
+    (mark : Bool) → slice_get needs.asked.items i ≡ Some mark → not mark ≡ true → list_any (same_request q) (requests objects) ≡ false
+unmarked needs objects rows are q i at true there e = absurd (false≢true e)
+unmarked needs objects rows are q i at false there e = sym (are.asked q i at) ∙ get_or_from_slice_get needs.asked.items i false false there
+
+-- the request of a kept relocation is one of those that relocations make
+asked_by : (q : Request) (rs : List Relocation) (r : Relocation) → Contains rs r → request_of r ≡ Some q → list_any (same_request q) (filter_map request_of rs) ≡ true
+asked_by q rs r c asks =
+    sym (any_requests q rs)
+    ∙ list_any-from_Any (asks_for_slot q) rs
+    (c.0, r, c.1, c.2, ap (λ (o : Option Request). option_map_or (same_request q) o false) asks ∙ same_itself q)
+
 -- the same of a link, as places say it
 pub is_unasked :
     (s : Subject) (k : ℕ) (row : SlotRow) (q : code.Request) → slice_get s.map.slots k ≡ Some row → request_view q ≡ row_request row →
@@ -94,13 +114,14 @@ is_repeated s i k a b q behind first second is same = record {
 
 pub is_unserved :
     (s : Subject) (p : RelocationPlace) (r : Relocation) (q : code.Request) → IsRelocationAt (objects_of s) p r → request_of r ≡ Some (request_view q) →
-    list_any (is_slot_of (request_view q)) s.map.slots ≡ false → list_any (same_request (request_view q)) (requests (objects_of s)) ≡ true →
-    IsUnserved s p q
-is_unserved s p r q at asks none asked = record {
-  r = r;
-  at = at;
-  asks = asks;
-  none = none;
-  asked = asked;
-  wrong = unserved s.map.slots (objects_of s) (request_view q) none asked;
-}
+    list_any (is_slot_of (request_view q)) s.map.slots ≡ false → IsUnserved s p q
+is_unserved s p r q at asks none =
+    let made = asked_by (request_view q) (relocations (objects_of s)) r (listed (objects_of s) p r at) asks in
+    record {
+      r = r;
+      at = at;
+      asks = asks;
+      none = none;
+      asked = made;
+      wrong = unserved s.map.slots (objects_of s) (request_view q) none made;
+    }

@@ -21,8 +21,8 @@ use elf_model::GotLine;
 use std::alloc::{AllocError, Global};
 
 /// A GOT that is there and that no relocation asks for, or the other way round.
-fn wrong_presence<'a>(bound: &BoundLink<'_, 'a>, needs: &Needs<'_>) -> Failure<'a>
-    requires { AreNeeds (objects_of bound.now) needs.now }
+fn wrong_presence<'a>(bound: &BoundLink<'_, 'a>, needs: &Needs) -> Failure<'a>
+    requires { AreNeeds (objects_of bound.now) bound.now.map.slots needs.now }
     ensures { IfSome result (FailsIn bound.now) }
 {
     let there = bound.link().map.got.is_some();
@@ -153,7 +153,7 @@ pub fn add_c7<'a>(alloc: Global, found: &mut Found<'a>, bound: &BoundLink<'_, 'a
     let needs = needs_of(alloc, bound.bindings())?;
     found.add_some(wrong_presence(bound, &needs))?;
     add_lines(alloc, found, bound, &needs)?;
-    add_unserved(alloc, found, bound, &needs)?;
+    add_unserved(alloc, found, bound)?;
     match got_of(bound) {
         Some(got) => add_got(alloc, found, bound, got),
         None => Ok(()),

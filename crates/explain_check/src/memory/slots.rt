@@ -1,11 +1,12 @@
 //! C7: slots that no relocation asks for or that stand twice, and relocations that have none.
-ghost use Rattle.std.specs.Prelude.{◌≡◌, ◌<◌, IfSome, OnOk, Some};
+ghost use Rattle.std.specs.Prelude.{◌≡◌, IfSome, OnOk, Some, false, true};
 ghost use Rattle.linkmap.specs.Borrowed.{slot_row};
-ghost use Rattle.check_link.specs.Slots as asked;
+ghost use Rattle.check_link.specs.Slots as compared;
 ghost use Rattle.check_link.specs.Slots.{request_view};
-ghost use Rattle.std.specs.List.{slice_get};
+ghost use Rattle.std.specs.List.{list_any, slice_get};
 ghost use Rattle.std.specs.Ordering.{is_eq};
 ghost use Rattle.elf_model.specs.RightLink.{objects_of};
+ghost use Rattle.elf_model.specs.Slots.{requests, same_request};
 ghost use Rattle.check_relocs.specs.Needs.{AreNeeds};
 ghost use Rattle.explain_check.specs.GotPlaces.{IsUnserved};
 ghost use Rattle.explain_check.specs.Places.{AreFailures, FailsIn};
@@ -30,21 +31,29 @@ pub fn line_at<'m>(bound: &BoundLink<'_, 'm>, number: usize) -> Option<&'m Borro
     bound.slots().lines().get(number)
 }
 
-/// Whether requests contain that of a line.
-fn is_asked<'a>(needs: &Needs<'a>, request: &Request<'a>) -> bool
-    ensures { result ≡ asked.is_asked needs.now.requests (request_view request.now) }
+/// Whether no relocation makes a request that a slot line is for.
+fn is_unasked<'a>(bound: &BoundLink<'_, 'a>, needs: &Needs, request: &Request<'a>) -> bool
+    requires { AreNeeds (objects_of bound.now) bound.now.map.slots needs.now }
+    ensures { result ≡ true
+        → list_any (same_request (request_view request.now)) (requests (objects_of bound.now)) ≡ false }
 {
-    needs.requests.has(request)
+    let Some(position) = bound.slots().position(request) else {
+        return false;
+    };
+    match needs.asked.get(position) {
+        Some(asked) => !*asked,
+        None => false,
+    }
 }
 
 /// The line that has a number, where no relocation asks for its slot.
-fn unasked_line<'a>(bound: &BoundLink<'_, 'a>, needs: &Needs<'a>, number: usize) -> Failure<'a>
-    requires { AreNeeds (objects_of bound.now) needs.now }
+fn unasked_line<'a>(bound: &BoundLink<'_, 'a>, needs: &Needs, number: usize) -> Failure<'a>
+    requires { AreNeeds (objects_of bound.now) bound.now.map.slots needs.now }
     ensures { IfSome result (FailsIn bound.now) }
 {
     let line = line_at(bound, number)?;
     let request = request_of_line(line);
-    if is_asked(needs, &request) {
+    if !is_unasked(bound, needs, &request) {
         return None;
     }
     Some(CheckPlace::UnaskedSlot(number as u64, request))
@@ -52,7 +61,7 @@ fn unasked_line<'a>(bound: &BoundLink<'_, 'a>, needs: &Needs<'a>, number: usize)
 
 /// Whether two requests are the same.
 fn are_same(a: &Request<'_>, b: &Request<'_>) -> bool
-    ensures { result ≡ is_eq (asked.request_order a.now b.now) }
+    ensures { result ≡ is_eq (compared.request_order a.now b.now) }
 {
     a.cmp(b).is_eq()
 }
@@ -79,11 +88,11 @@ fn repeated_line<'a>(bound: &BoundLink<'_, 'a>, first: usize, number: usize) -> 
 fn add_line<'a>(
     found: &mut Found<'a>,
     bound: &BoundLink<'_, 'a>,
-    needs: &Needs<'a>,
+    needs: &Needs,
     seen: &mut BTreeMap<Request<'a>, usize>,
     number: usize,
 ) -> Added
-    requires needs { AreNeeds (objects_of bound.now) needs.now }
+    requires needs { AreNeeds (objects_of bound.now) bound.now.map.slots needs.now }
     requires before { AreFailures bound.now found.old.places.items }
     ensures { OnOk result (AreFailures bound.now found.new.places.items) }
 {
@@ -106,9 +115,9 @@ pub fn add_lines<'a>(
     alloc: Global,
     found: &mut Found<'a>,
     bound: &BoundLink<'_, 'a>,
-    needs: &Needs<'a>,
+    needs: &Needs,
 ) -> Added
-    requires needs { AreNeeds (objects_of bound.now) needs.now }
+    requires needs { AreNeeds (objects_of bound.now) bound.now.map.slots needs.now }
     requires before { AreFailures bound.now found.old.places.items }
     ensures { OnOk result (AreFailures bound.now found.new.places.items) }
 {
@@ -120,20 +129,12 @@ pub fn add_lines<'a>(
 }
 
 /// The slot for which a relocation asks, where there is none.
-fn unserved<'a>(
-    referrer: &Referrer<'_, '_, 'a>,
-    needs: &Needs<'a>,
-    place: &RelocationPlace<'a>,
-) -> Option<Request<'a>>
-    requires place { IsPlaceOf referrer.now place.now }
-    requires needs { AreNeeds (objects_of referrer.now.bound.now) needs.now }
+fn unserved<'a>(referrer: &Referrer<'_, '_, 'a>, place: &RelocationPlace<'a>) -> Option<Request<'a>>
+    requires { IsPlaceOf referrer.now place.now }
     ensures { IfSome result (IsUnserved referrer.now.bound.now place.now) }
 {
     let request = request_of(referrer.one, referrer.number as u64, &place.entry)?;
     if referrer.bound.slots().has(&request) {
-        return None;
-    }
-    if !is_asked(needs, &request) {
         return None;
     }
     Some(request)
@@ -143,16 +144,14 @@ fn unserved<'a>(
 fn add_place<'a>(
     found: &mut Found<'a>,
     referrer: &Referrer<'_, '_, 'a>,
-    needs: &Needs<'a>,
     told: &mut BTreeSet<Request<'a>>,
     place: &RelocationPlace<'a>,
 ) -> Added
     requires place { IsPlaceOf referrer.now place.now }
-    requires needs { AreNeeds (objects_of referrer.now.bound.now) needs.now }
     requires before { AreFailures referrer.now.bound.now found.old.places.items }
     ensures { OnOk result (AreFailures referrer.now.bound.now found.new.places.items) }
 {
-    let Some(request) = unserved(referrer, needs, place) else {
+    let Some(request) = unserved(referrer, place) else {
         return Ok(());
     };
     if !told.insert(request)? {
@@ -166,12 +165,10 @@ fn add_object<'a>(
     alloc: Global,
     found: &mut Found<'a>,
     bound: &BoundLink<'_, 'a>,
-    needs: &Needs<'a>,
     told: &mut BTreeSet<Request<'a>>,
     number: usize,
 ) -> Added
-    requires needs { AreNeeds (objects_of bound.now) needs.now }
-    requires before { AreFailures bound.now found.old.places.items }
+    requires { AreFailures bound.now found.old.places.items }
     ensures { OnOk result (AreFailures bound.now found.new.places.items) }
 {
     let Some(one) = object_at(bound.bindings().objects(), number) else {
@@ -180,25 +177,19 @@ fn add_object<'a>(
     let referrer = Referrer { bound, number, one };
     let places = kept_places(alloc, &referrer)?;
     for i in 0..places.len() {
-        add_place(found, &referrer, needs, told, &places[i])?;
+        add_place(found, &referrer, told, &places[i])?;
     }
     Ok(())
 }
 
 /// Adds the relocations that ask for slots that aren't there, the first for each slot.
-pub fn add_unserved<'a>(
-    alloc: Global,
-    found: &mut Found<'a>,
-    bound: &BoundLink<'_, 'a>,
-    needs: &Needs<'a>,
-) -> Added
-    requires needs { AreNeeds (objects_of bound.now) needs.now }
-    requires before { AreFailures bound.now found.old.places.items }
+pub fn add_unserved<'a>(alloc: Global, found: &mut Found<'a>, bound: &BoundLink<'_, 'a>) -> Added
+    requires { AreFailures bound.now found.old.places.items }
     ensures { OnOk result (AreFailures bound.now found.new.places.items) }
 {
     let mut told = BTreeSet::new(alloc);
     for number in 0..bound.bindings().objects().len() {
-        add_object(alloc, found, bound, needs, &mut told, number)?;
+        add_object(alloc, found, bound, &mut told, number)?;
     }
     Ok(())
 }

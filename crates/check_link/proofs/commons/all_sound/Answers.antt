@@ -2,7 +2,6 @@ use Rattle.std.proofs.Common.{◌<◌, subst}
 use Rattle.std.specs.List.{All}
 use Rattle.elf_model.proofs.Rests.{all_more}
 use Rattle.elf_model.specs.ObjectFile.{null_symbol}
-use Rattle.elf_model.specs.declared.records.Symbol.{Symbol}
 use Rattle.check_link.specs.Soundness.{IsSoundEntry}
 use Rattle.check_link.proofs.commons.all_sound.Goals as goal
 

@@ -1,4 +1,4 @@
-use Rattle.std.proofs.Common.{◌∙◌, List, subst, sym, ap, ◌<◌}
+use Rattle.std.proofs.Common.{◌∙◌, List, subst, sym, ◌<◌}
 use Rattle.std.specs.Prelude.{All}
 use Rattle.std.proofs.lemmas.Bool.{false≢true}
 use Rattle.elf_model.specs.Resolution.{IsSoundSymbol, symbols_from}

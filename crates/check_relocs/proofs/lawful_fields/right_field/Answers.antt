@@ -2,10 +2,9 @@ use Rattle.std.proofs.Common.{◌-◌, ◌∙◌, ℕ, ap, subst}
 use Rattle.std.specs.Prelude.{SomeIff}
 use Rattle.elf_model.specs.Placement.{got_start}
 use Rattle.elf_model.specs.Relocation.{relocation_of}
-use Rattle.elf_model.specs.Slots.{slot_address}
 use Rattle.check_relocs.specs.Bindings.{IsTargetOf}
 use Rattle.check_relocs.specs.Fields.{IsRight, field_of}
-use Rattle.check_relocs.specs.Referrers.{object_here, objects_here, symbol_here}
+use Rattle.check_relocs.specs.Referrers.{object_here, symbol_here}
 use Rattle.check_relocs.proofs.FittingLemmas.{field_is, right, right_with, some_iff}
 use Rattle.check_relocs.proofs.lawful_fields.right_field.Goals as goal
 

@@ -1,8 +1,6 @@
 use Rattle.std.proofs.Common.{◌≡◌, ◌∙◌, List, ap, subst, sym}
 use Rattle.std.specs.Prelude.{IfSome, Option}
-use Rattle.elf_model.specs.MapRecord.{TargetRow}
 use Rattle.elf_model.specs.Slots.{requested_address}
-use Rattle.check_link.specs.Slots.{kind_view}
 use Rattle.check_relocs.specs.Known.{known_at}
 use Rattle.check_relocs.specs.KnownSlots.{request_here}
 use Rattle.check_relocs.specs.declared.slots.SymbolSlot.{SymbolSlot}
@@ -18,13 +16,8 @@ returns-in-Some-clause-address c =
     (λ (s : Option SymbolSlot). IfSome s (λ x. x.address ≡ requested_address h.bindings.now.places.slots (request_here h j x.thread)))
     at (c.requires j)
 
-pub returns-clause-address : goal.returns-clause-address
-returns-clause-address c =
-    c.slot_address-address.ensures
-    ∙ ap (λ (t : TargetRow). requested_address c.args.here.now.bindings.now.places.slots (record { kind = kind_view c.args.thread; target = t })) c.target_at.ensures
-
 pub returns-clause-kept : goal.returns-clause-kept
 returns-clause-kept c =
     let h = c.args.here.now in
     known_more (λ j (s : SymbolSlot). s.address ≡ requested_address h.bindings.now.places.slots (request_here h j s.thread)) c.args.slots.now.items
-    c.keep_slot.new.slots.items c.args.j _ c.keep_slot.ensures c.requires (returns-clause-address c)
+    c.keep_slot.new.slots.items c.args.j _ c.keep_slot.ensures c.requires c.found_address-address.ensures

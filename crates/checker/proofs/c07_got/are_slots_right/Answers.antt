@@ -1,31 +1,34 @@
-use Rattle.std.proofs.Common.{◌∙◌, sym}
+use Rattle.std.proofs.Common.{◌≡◌, ◌∙◌, List, Bool, ap, map, subst, sym, true}
+use Rattle.std.specs.Prelude.{◌↔◌, All, IsTrue}
 use Rattle.std.proofs.lemmas.Bool.{false≢true}
-use Rattle.checker.proofs.SlotCounts.{asked_rows, have_slots, keys_there, keys_wanted, rows_asked, slots_asked, slots_distinct, slots_there}
+use Rattle.elf_model.specs.MapRecord.{SlotRow}
+use Rattle.elf_model.specs.Slots.{row_request}
+use Rattle.check_link.specs.Slots.{are_distinct}
+use Rattle.checker.proofs.SlotCounts.{all_there, have_slots, marks_set, none_missing, rows_asked, slots_distinct}
 use Rattle.checker.proofs.c07_got.are_slots_right.Goals as goal
 
 pub returns-then-not-are_distinct : goal.returns-then-not-are_distinct
-returns-then-not-are_distinct c = (
-  λ e. absurd (false≢true e),
-  λ have. absurd (false≢true (sym c.if-not-are_distinct.true ∙ c.are_distinct.ensures ∙ slots_distinct c.args.slots.now c.args.bindings.now.objects have)),
-)
+returns-then-not-are_distinct c =
+    let b = c.args.bindings.now in
+    let told = c.are_distinct.ensures ∙ ap (λ (rows : List SlotRow). are_distinct (map row_request rows)) c.slots.ensures.rows in (
+      λ e. absurd (false≢true e),
+      λ have. absurd (false≢true (sym c.if-not-are_distinct.true ∙ told ∙ slots_distinct b.places.slots b.objects have)),
+    )
 
-pub returns-then-not-are_asked : goal.returns-then-not-are_asked
-returns-then-not-are_asked c = (
-  λ e. absurd (false≢true e),
-  λ have. absurd
-      (false≢true
-      (sym c.if-not-are_asked.true
-      ∙ c.are_asked.ensures.1
-      (asked_rows c.args.needs.now c.args.bindings.now.objects c.requires c.lines.result.now c.args.slots.now c.lines.ensures
-      (slots_asked c.args.slots.now c.args.bindings.now.objects have)))),
-)
+pub returns-then-needs : goal.returns-then-needs
+returns-then-needs c =
+    let b = c.args.bindings.now in (
+      λ e. absurd (false≢true e),
+      λ have. absurd (false≢true (sym (none_missing c.args.needs.now b.objects b.places.slots c.requires have) ∙ c.if-needs.true)),
+    )
 
 pub returns : goal.returns
 returns c =
-    let rows = c.args.slots.now in
-    let L = c.args.bindings.now.objects in
-    let distinct = sym c.are_distinct.ensures ∙ c.if-not-are_distinct.false in
-    let asked = rows_asked c.args.needs.now L c.requires c.lines.result.now rows c.lines.ensures (c.are_asked.ensures.0 c.if-not-are_asked.false) in (
-      λ e. have_slots rows L distinct asked (keys_there c.args.needs.now L c.requires c.requests.result.now c.requests.ensures rows (c.have_slots.ensures.0 e)),
-      λ have. c.have_slots.ensures.1 (keys_wanted c.args.needs.now L c.requires c.requests.result.now c.requests.ensures rows (slots_there rows L have)),
+    let b = c.args.bindings.now in
+    let n = c.args.needs.now in
+    let told = c.are_distinct.ensures ∙ ap (λ (rows : List SlotRow). are_distinct (map row_request rows)) c.slots.ensures.rows in
+    let set = subst (λ (marks : List Bool). IsTrue c.are_set.result ↔ All (λ mark. mark ≡ true) marks) c.deref.ensures.value c.are_set.ensures in (
+      λ e. have_slots b.places.slots b.objects (sym told ∙ c.if-not-are_distinct.false) (rows_asked n b.objects b.places.slots c.requires (set.0 e))
+          (all_there n b.objects b.places.slots c.requires c.if-needs.false),
+      λ have. set.1 (marks_set n b.objects b.places.slots c.requires have),
     )

@@ -1,12 +1,11 @@
-use Rattle.std.proofs.Common.{◌∙◌, ap, List}
-use Rattle.elf_model.specs.MapRecord.{SlotRow}
-use Rattle.elf_model.specs.Slots.{is_slot_of, requested_address}
+use Rattle.std.proofs.Common.{◌∙◌, sym}
 use Rattle.check_link.specs.Slots.{request_view}
-use Rattle.check_link.proofs.SlotSteps.{address_found}
+use Rattle.check_link.proofs.SlotLines.{line_address, no_address}
 use Rattle.check_link.proofs.slots.SlotTable.address.Goals as goal
 
 pub returns-in-Some : goal.returns-in-Some
 returns-in-Some c =
-    let q = request_view c.args.request.now in
-    address_found (is_slot_of q) _ c.get.result c.in-Some.address (c.get.ensures ∙ c.self.invariant.index q) c.in-Some.is
-    ∙ ap (λ (rows : List SlotRow). requested_address rows q) c.self.view_is
+    c.address_at.ensures ∙ line_address c.args.self.now.rows (request_view c.args.request.now) c.in-Some.position (sym c.position.ensures ∙ c.in-Some.is)
+
+pub returns-in-None : goal.returns-in-None
+returns-in-None c = no_address c.args.self.now.rows (request_view c.args.request.now) (sym c.position.ensures ∙ c.in-None.is)

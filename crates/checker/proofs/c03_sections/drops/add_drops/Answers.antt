@@ -1,4 +1,4 @@
-use Rattle.std.proofs.Common.{subst, ap, sym, ◌∙◌, ◌<◌}
+use Rattle.std.proofs.Common.{subst, ◌<◌}
 use Rattle.elf_model.specs.ObjectFile.{null_section}
 use Rattle.check_load.specs.Views.{loaded_view}
 use Rattle.checker.proofs.DropSteps.{section_more}

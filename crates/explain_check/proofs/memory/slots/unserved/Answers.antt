@@ -13,7 +13,5 @@ returns c =
     let q = c.in_ok-request.request in
     let f = c.args.referrer.now in
     let p = c.args.place.now in
-    is_unserved f.bound.now p (relocation_of f.number (loaded_view f.one.now) p.section p.entry) q c.requires.place.at
-    (sym (c.in_ok-request.ensures p.section))
+    is_unserved f.bound.now p (relocation_of f.number (loaded_view f.one.now) p.section p.entry) q c.requires.at (sym (c.in_ok-request.ensures p.section))
     (ap (λ (rows : List SlotRow). list_any (is_slot_of (request_view q)) rows) (sym c.slots.ensures) ∙ sym c.has.ensures ∙ c.if-has.false)
-    (sym (c.requires.needs.slots (request_view q)) ∙ sym c.is_asked.ensures ∙ c.if-not-is_asked.false)
