@@ -31,6 +31,13 @@ pub fn line_at<'m>(bound: &BoundLink<'_, 'm>, number: usize) -> Option<&'m Borro
     bound.slots().lines().get(number)
 }
 
+/// The mark at a position; None where there is none.
+fn mark_of(marks: &[bool], position: usize) -> Option<bool>
+    ensures { result ≡ slice_get marks.now position }
+{
+    marks.get(position).copied()
+}
+
 /// Whether no relocation makes a request that a slot line is for.
 fn is_unasked<'a>(bound: &BoundLink<'_, 'a>, needs: &Needs, request: &Request<'a>) -> bool
     requires { AreNeeds (objects_of bound.now) bound.now.map.slots needs.now }
@@ -40,8 +47,8 @@ fn is_unasked<'a>(bound: &BoundLink<'_, 'a>, needs: &Needs, request: &Request<'a
     let Some(position) = bound.slots().position(request) else {
         return false;
     };
-    match needs.asked.get(position) {
-        Some(asked) => !*asked,
+    match mark_of(&needs.asked, position) {
+        Some(asked) => !asked,
         None => false,
     }
 }
