@@ -2,10 +2,4 @@
 #![tactic(auto)]
 
 #[cfg(test)]
-mod global_offsets;
-#[cfg(test)]
-mod many_slots;
-#[cfg(test)]
-mod output_names;
-#[cfg(test)]
-mod thread_local;
+mod tests;

@@ -2,12 +2,4 @@
 #![tactic(auto)]
 
 #[cfg(test)]
-mod archives;
-#[cfg(test)]
-mod common_blocks;
-#[cfg(test)]
-mod groups;
-#[cfg(test)]
-mod linker_names;
-#[cfg(test)]
-mod weak_names;
+mod tests;

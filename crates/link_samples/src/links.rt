@@ -57,17 +57,24 @@ pub enum Change {
 /// A change of a link, and the verdict on what it makes.
 pub type Judged = (Change, Verdict);
 
+/// The path of a file.
+pub fn path_of(file: &File) -> &'static str {
+    match file {
+        File::Object(path, _, _, _) | File::Archive(path, _, _) | File::Bytes(path, _) => *path,
+    }
+}
+
 /// The bytes of a file, and its path.
 fn file_of(alloc: Global, file: &File) -> Result<InputFile, Fail> {
-    let (path, bytes) = match file {
-        File::Object(path, sections, symbols, relocations) => {
-            (path, relocatable(alloc, sections, symbols, relocations)?)
+    let bytes = match file {
+        File::Object(_, sections, symbols, relocations) => {
+            relocatable(alloc, sections, symbols, relocations)?
         }
-        File::Archive(path, entries, members) => (path, archive(alloc, entries, members)?),
-        File::Bytes(path, bytes) => (path, Vec::from_slice(alloc, bytes)?),
+        File::Archive(_, entries, members) => archive(alloc, entries, members)?,
+        File::Bytes(_, bytes) => Vec::from_slice(alloc, bytes)?,
     };
     Ok(InputFile {
-        name: String::from_str(alloc, path)?,
+        name: String::from_str(alloc, path_of(file))?,
         bytes,
     })
 }
@@ -181,7 +188,7 @@ pub fn first_wrong(alloc: Global, rows: &[Row]) -> Result<Option<usize>, Fail> {
 }
 
 /// A text with the first place of another one in it replaced.
-fn replaced(alloc: Global, text: &[u8], old: &str, new: &str) -> Result<Vec<u8>, Fail> {
+pub fn replaced(alloc: Global, text: &[u8], old: &str, new: &str) -> Result<Vec<u8>, Fail> {
     let text = str::from_utf8(text)?;
     let (front, rest) = text.split_once(old).ok_or("no such text")?;
     let mut bytes = Vec::from_slice(alloc, front.as_bytes())?;

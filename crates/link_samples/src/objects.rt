@@ -33,30 +33,10 @@ pub struct NamedSymbol<'a> {
     pub st_size: u64,
 }
 
-const NULL_SECTION: SectionHeader = SectionHeader {
-    sh_name: 0,
-    sh_type: 0,
-    sh_flags: 0,
-    sh_addr: 0,
-    sh_offset: 0,
-    sh_size: 0,
-    sh_link: 0,
-    sh_info: 0,
-    sh_addralign: 0,
-    sh_entsize: 0,
-};
-
 const STRING_TABLE: SectionHeader = SectionHeader {
-    sh_name: 0,
     sh_type: SHT_STRTAB,
-    sh_flags: 0,
-    sh_addr: 0,
-    sh_offset: 0,
-    sh_size: 0,
-    sh_link: 0,
-    sh_info: 0,
     sh_addralign: 1,
-    sh_entsize: 0,
+    ..SectionHeader::NULL
 };
 
 const IDENT: [u8; 16] = [0x7f, b'E', b'L', b'F', 2, 1, 1, 0, 0, 0, 0, 0, 0, 0, 0, 0];
@@ -92,7 +72,7 @@ impl Draft {
     fn new(alloc: Global) -> Result<Draft, Fail> {
         Ok(Draft {
             bytes: Vec::from_slice(alloc, &[0; EHDR_SIZE])?,
-            headers: Vec::from_slice(alloc, &[NULL_SECTION])?,
+            headers: Vec::from_slice(alloc, &[SectionHeader::NULL])?,
             names: Vec::from_slice(alloc, &[0])?,
         })
     }
@@ -133,7 +113,7 @@ impl Draft {
             sh_info: section,
             sh_addralign: 8,
             sh_entsize: 24,
-            ..NULL_SECTION
+            ..SectionHeader::NULL
         };
         self.add(".rela", header, &entries)
     }
@@ -146,7 +126,7 @@ impl Draft {
             sh_info: u32::try_from(locals)?.saturating_add(1),
             sh_addralign: 8,
             sh_entsize: 24,
-            ..NULL_SECTION
+            ..SectionHeader::NULL
         };
         self.add(".symtab", header, symbols)
     }
@@ -216,7 +196,7 @@ fn header_of(section: &Section<'_>, table: u32) -> SectionHeader {
         sh_size: section.memory,
         sh_link: if is_group { table } else { 0 },
         sh_info: section.signature,
-        ..NULL_SECTION
+        ..SectionHeader::NULL
     }
 }
 

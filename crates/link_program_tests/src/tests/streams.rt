@@ -2,15 +2,15 @@
 ghost use Rattle.std.specs.Prelude.{◌≡◌, None, Some, cond};
 ghost use Rattle.std.specs.Str.{bytes_eq};
 
-use crate::objects::{Relocation, Section, relocatable};
-use crate::one_object::{one_file, words_of};
-use crate::vectors::{OBJECT, image};
 use command::read_words;
 use ld_main::{
     FetchFault, FileSource, GatherFault, Linkage, Sink, SinkFault, WriteFault, gather, prepare,
     write_image,
 };
+use link_samples::objects::{Relocation, Section, relocatable};
+use link_samples::one_object::{one_file, words_of};
 use link_samples::parts::{DATA, R_64, SECTION_2, START, TEXT};
+use link_samples::vectors::{OBJECT, image};
 use std::alloc::Global;
 use std::process::Abort;
 use std::test::Fail;

@@ -1,14 +1,16 @@
 //! Links with thread-local storage: PT_TLS, offsets from the thread pointer, slots that hold them, and zeros that take up
 //! no memory.
-use elf_model::{LinkError, SHF_ALLOC, SHF_TLS, SHF_WRITE};
+use elf_model::LinkError;
 use ld_main::{Clause, Output, Verdict, check};
 use link_samples::links::{
     Change, File, Judged, Row, Wanted, files_of, first_misjudged, first_wrong, is_as_wanted,
-    linked, linked_bytes,
+    linked, linked_bytes, replaced,
 };
 use link_samples::objects::{NamedSymbol, Relocation, Section, relocatable};
 use link_samples::one_object::words_of;
-use link_samples::parts::{BSS, DATA, R_PC32, SECTION_2, START, TEXT};
+use link_samples::parts::{
+    DATA, LOADER, R_PC32, SECTION_2, START, TEXT, THREAD_DATA, THREAD_ZEROS,
+};
 use std::alloc::Global;
 use std::test::Fail;
 
@@ -18,35 +20,13 @@ const R_GOTTPOFF: u32 = 22;
 
 const R_TPOFF32: u32 = 23;
 
-/// Twelve bytes of code; and `mov t@GOTTPOFF(%rip), %rax` with the nine bytes of the plain text.
+/// Twelve bytes of code.
 const NOPS: Section<'static> = Section {
     bytes: &[0x90; 12],
     ..TEXT
 };
 
-const LOADER: Section<'static> = Section {
-    bytes: &[
-        0x48, 0x8b, 0x05, 0, 0, 0, 0, 0xb8, 0x3c, 0, 0, 0, 0x31, 0xff, 0x0f, 0x05,
-    ],
-    ..TEXT
-};
-
-/// `.tdata` of 4 bytes, and `.tbss` of 4 and of 8 bytes.
-const THREAD_DATA: Section<'static> = Section {
-    name: ".tdata",
-    sh_flags: SHF_ALLOC | SHF_WRITE | SHF_TLS,
-    sh_addralign: 4,
-    bytes: &[1, 2, 3, 4],
-    ..TEXT
-};
-
-const THREAD_ZEROS: Section<'static> = Section {
-    name: ".tbss",
-    sh_flags: SHF_ALLOC | SHF_WRITE | SHF_TLS,
-    memory: 4,
-    ..BSS
-};
-
+/// `.tbss` of 8 bytes.
 const EIGHT_ZEROS: Section<'static> = Section {
     memory: 8,
     ..THREAD_ZEROS
@@ -67,7 +47,7 @@ const T: NamedSymbol<'static> = NamedSymbol {
     ..D
 };
 
-/// A text with TPOFF32 to `d` and to `t`, and one that loads the offset of `t` from a slot.
+/// A text with TPOFF32 to `d` and to `t`, and one that loads the offset of `t` from a slot (`mov t@GOTTPOFF(%rip), %rax`).
 const OFFSETTING: File = File::Object(
     "a.o",
     &[NOPS, THREAD_DATA, THREAD_ZEROS],
@@ -293,18 +273,6 @@ fn wrong_thread_storage_is_found(rt: HostRuntime) -> Result<(), Fail> {
     Ok(())
 }
 
-static FAR_SLOT_MAP: &[u8] = b"ldmap 2\n\
-    object 0 0 0 a.o\n\
-    place 0000000000401000 16 0 1 .text\n\
-    place 0000000000402000 4 0 2 .tdata\n\
-    place 0000000000402008 4 0 3 .tbss\n\
-    got 0000000000402010 16\n\
-    slot 0000000000402018 thread name t\n\
-    symbol 0000000000401000 strong 0 1 _start\n\
-    symbol 0000000000402000 strong 0 2 d\n\
-    symbol 0000000000402008 strong 0 3 t\n\
-    end\n";
-
 /// The image with the table behind the addresses of the zeros.
 fn far_image(alloc: Global, near: &[u8]) -> Result<Vec<u8>, Fail> {
     let mut image = Vec::from_slice(alloc, near.get(..0x2008).ok_or("the image")?)?;
@@ -326,7 +294,13 @@ fn far_verdict(alloc: Global) -> Result<(usize, Verdict), Fail> {
     let words = words_of(alloc, "-s a.o")?;
     let near = linked(alloc, &files, "a.o")??;
     let image = far_image(alloc, &near.image)?;
-    let verdict = check(alloc, &files, &words, &image, FAR_SLOT_MAP)?;
+    let map = replaced(
+        alloc,
+        SLOT_MAP,
+        "got 0000000000402008 16\nslot 0000000000402010",
+        "got 0000000000402010 16\nslot 0000000000402018",
+    )?;
+    let verdict = check(alloc, &files, &words, &image, &map)?;
     Ok((image.len(), verdict))
 }
 

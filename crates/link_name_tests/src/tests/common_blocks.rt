@@ -3,7 +3,8 @@
 use elf_model::{LinkError, SHN_COMMON};
 use ld_main::{Clause, Output, Verdict};
 use link_samples::links::{
-    Change, File, Judged, Row, Wanted, first_misjudged, first_wrong, is_as_wanted, linked_bytes,
+    Change, File, Judged, Row, Wanted, files_of, first_misjudged, first_wrong, is_as_wanted,
+    linked, linked_bytes,
 };
 use link_samples::objects::{NamedSymbol, Relocation, Section, object};
 use link_samples::parts::{BSS, DATA, F, NO_F, R_64, START, TEXT};
@@ -37,7 +38,8 @@ const WEAK_F: NamedSymbol<'static> = NamedSymbol { st_info: 0x22, ..F };
 /// An object of a text and of `c` without a definition.
 const START_NO_C: File = File::Object("a.o", &[TEXT], &[START, NO_C], &[]);
 
-static MAPS: [Row; 5] = [
+/// Files, and the end of the map of their link.
+static MAPS: [(&[File], &[u8]); 5] = [
     // A strong definition before a common symbol, and that before a weak definition, which stands first.
     (
         &[
@@ -45,16 +47,11 @@ static MAPS: [Row; 5] = [
             File::Object("b.o", &[TEXT], &[F], &[]),
             File::Object("c.o", &[], &[F_8], &[]),
         ],
-        "a.o b.o c.o",
-        Wanted::Linked(
-            0,
-            &[],
-            b"place 0000000000401000 9 0 1 .text\n\
-            place 0000000000401009 9 1 1 .text\n\
-            symbol 0000000000401000 strong 0 1 _start\n\
-            symbol 0000000000401009 strong 1 1 f\n\
-            end\n",
-        ),
+        b"place 0000000000401000 9 0 1 .text\n\
+        place 0000000000401009 9 1 1 .text\n\
+        symbol 0000000000401000 strong 0 1 _start\n\
+        symbol 0000000000401009 strong 1 1 f\n\
+        end\n",
     ),
     (
         &[
@@ -62,15 +59,10 @@ static MAPS: [Row; 5] = [
             File::Object("b.o", &[], &[F_8], &[]),
             File::Object("c.o", &[], &[NO_C], &[]),
         ],
-        "a.o b.o c.o",
-        Wanted::Linked(
-            0,
-            &[],
-            b"common 0000000000402000 8 8 f\n\
-            symbol 0000000000401000 strong 0 1 _start\n\
-            symbol 0000000000402000 common f\n\
-            end\n",
-        ),
+        b"common 0000000000402000 8 8 f\n\
+        symbol 0000000000401000 strong 0 1 _start\n\
+        symbol 0000000000402000 common f\n\
+        end\n",
     ),
     // The greatest size and the greatest alignment.
     (
@@ -79,15 +71,10 @@ static MAPS: [Row; 5] = [
             File::Object("b.o", &[], &[C_4], &[]),
             File::Object("c.o", &[], &[C_8], &[]),
         ],
-        "a.o b.o c.o",
-        Wanted::Linked(
-            0,
-            &[],
-            b"common 0000000000402000 8 8 c\n\
-            symbol 0000000000401000 strong 0 1 _start\n\
-            symbol 0000000000402000 common c\n\
-            end\n",
-        ),
+        b"common 0000000000402000 8 8 c\n\
+        symbol 0000000000401000 strong 0 1 _start\n\
+        symbol 0000000000402000 common c\n\
+        end\n",
     ),
     (
         &[
@@ -116,15 +103,10 @@ static MAPS: [Row; 5] = [
             ),
             File::Object("c.o", &[], &[NO_C], &[]),
         ],
-        "a.o b.o c.o",
-        Wanted::Linked(
-            0,
-            &[],
-            b"common 0000000000600000 16 2097152 c\n\
-            symbol 0000000000401000 strong 0 1 _start\n\
-            symbol 0000000000600000 common c\n\
-            end\n",
-        ),
+        b"common 0000000000600000 16 2097152 c\n\
+        symbol 0000000000401000 strong 0 1 _start\n\
+        symbol 0000000000600000 common c\n\
+        end\n",
     ),
     // Two blocks, in load order.
     (
@@ -133,19 +115,20 @@ static MAPS: [Row; 5] = [
             File::Object("b.o", &[], &[NamedSymbol { name: "b", ..C_4 }], &[]),
             File::Object("c.o", &[], &[NamedSymbol { name: "a", ..C_8 }], &[]),
         ],
-        "a.o b.o c.o",
-        Wanted::Linked(
-            0,
-            &[],
-            b"common 0000000000402008 8 8 a\n\
-            common 0000000000402000 4 4 b\n\
-            symbol 0000000000401000 strong 0 1 _start\n\
-            symbol 0000000000402008 common a\n\
-            symbol 0000000000402000 common b\n\
-            end\n",
-        ),
+        b"common 0000000000402008 8 8 a\n\
+        common 0000000000402000 4 4 b\n\
+        symbol 0000000000401000 strong 0 1 _start\n\
+        symbol 0000000000402008 common a\n\
+        symbol 0000000000402000 common b\n\
+        end\n",
     ),
 ];
+
+/// Whether the map of a link of `a.o`, `b.o` and `c.o` ends with a text.
+fn has_lines(alloc: Global, files: &[File], lines: &[u8]) -> Result<bool, Fail> {
+    let files = files_of(alloc, files)?;
+    Ok(linked(alloc, &files, "a.o b.o c.o")??.map.ends_with(lines))
+}
 
 /// A text, and a common `c` of 4 bytes and one of 8.
 const TWO: &[File] = &[
@@ -284,7 +267,9 @@ static LINKS: [Row; 5] = [
 
 #[test]
 fn blocks_are_linked(rt: HostRuntime) -> Result<(), Fail> {
-    assert_eq!(rt; first_wrong(rt.alloc(), &MAPS)?, None);
+    for (number, (files, lines)) in MAPS.iter().enumerate() {
+        assert!(rt; has_lines(rt.alloc(), files, lines)?, "row {number}");
+    }
     assert_eq!(rt; first_wrong(rt.alloc(), &LINKS)?, None);
     Ok(())
 }

@@ -1,11 +1,11 @@
 //! The symbol table of an image, byte for byte, and what the check says of wrong ones.
-use crate::one_object::{one_file, words_of};
-use crate::vectors::{MAP, OBJECT, OLD_MAP, image};
-use elf_model::{InputFile, SHF_ALLOC, SHF_TLS, SHF_WRITE};
+use elf_model::InputFile;
 use ld_main::{Clause, Output, Verdict, check};
-use link_samples::links::{has_bytes, linked_by};
-use link_samples::objects::{NamedSymbol, Relocation, Section, relocatable};
-use link_samples::parts::{DATA, NO_F, R_PC32, START, TEXT};
+use link_samples::links::{has_bytes, linked_by, replaced};
+use link_samples::objects::{NamedSymbol, Relocation, relocatable};
+use link_samples::one_object::{one_file, words_of};
+use link_samples::parts::{COMMON, NO_F, R_PC32, START, TEXT, THREAD_DATA};
+use link_samples::vectors::{MAP, OBJECT, OLD_MAP, image};
 use std::alloc::Global;
 use std::test::Fail;
 
@@ -94,26 +94,12 @@ fn verdict_on(
     Ok(check(alloc, &files, &words, &bytes, map)?)
 }
 
-const COUNT_OF_THREE: &[u8] = b"ldmap 2\n\
-    object 0 0 0 a.o\n\
-    place 0000000000401000 9 0 1 .text\n\
-    symbol 0000000000401000 strong 0 1 _start\n\
-    symtab 4112 3\n\
-    end\n";
-
-const AT_ANOTHER_PLACE: &[u8] = b"ldmap 2\n\
-    object 0 0 0 a.o\n\
-    place 0000000000401000 9 0 1 .text\n\
-    symbol 0000000000401000 strong 0 1 _start\n\
-    symtab 4120 2\n\
-    end\n";
-
-const IN_VERSION_1: &[u8] = b"ldmap 1\n\
-    object 0 0 0 a.o\n\
-    place 0000000000401000 9 0 1 .text\n\
-    symbol 0000000000401000 strong 0 1 _start\n\
-    symtab 4112 2\n\
-    end\n";
+/// Texts of the map with a table, others in their places, and what the check says of the map.
+static CHANGED_MAPS: [(&str, &str, Verdict); 3] = [
+    ("symtab 4112 2", "symtab 4112 3", Verdict::No(Clause::C14)),
+    ("symtab 4112 2", "symtab 4120 2", Verdict::No(Clause::C14)),
+    ("ldmap 2", "ldmap 1", Verdict::No(Clause::C1)),
+];
 
 #[test]
 fn the_check_asks_for_the_table_that_words_and_map_name(rt: HostRuntime) -> Result<(), Fail> {
@@ -127,13 +113,15 @@ fn the_check_asks_for_the_table_that_words_and_map_name(rt: HostRuntime) -> Resu
         ("a.o", TABLE_MAP, false, Verdict::No(Clause::C14)),
         // Without the line the file ends with its last part.
         ("-s a.o", MAP, true, Verdict::No(Clause::C11)),
-        ("a.o", COUNT_OF_THREE, true, Verdict::No(Clause::C14)),
-        ("a.o", AT_ANOTHER_PLACE, true, Verdict::No(Clause::C14)),
-        ("a.o", IN_VERSION_1, true, Verdict::No(Clause::C1)),
     ];
     for (number, (line, map, table, wanted)) in rows.into_iter().enumerate() {
         let verdict = verdict_on(rt.alloc(), line, map, table, None)?;
         assert_eq!(rt; verdict, wanted, "{number}");
+    }
+    for (old, new, wanted) in &CHANGED_MAPS {
+        let map = replaced(rt.alloc(), TABLE_MAP, old, new)?;
+        let verdict = verdict_on(rt.alloc(), "a.o", &map, true, None)?;
+        assert_eq!(rt; verdict, *wanted, "{new}");
     }
     Ok(())
 }
@@ -153,30 +141,13 @@ fn each_byte_of_a_table_counts(rt: HostRuntime) -> Result<(), Fail> {
     Ok(())
 }
 
-/// Initial thread-local data, and what is named: a weak absolute object, a common one, a thread-local one, and the
-/// linker's name `__bss_start`.
-const THREAD_DATA: Section<'static> = Section {
-    name: ".tdata",
-    sh_flags: SHF_ALLOC | SHF_WRITE | SHF_TLS,
-    sh_addralign: 4,
-    bytes: &[1, 2, 3, 4],
-    ..DATA
-};
-
+/// A weak absolute object, a thread-local one, and the linker's name `__bss_start`.
 const WEAK_OBJECT: NamedSymbol<'static> = NamedSymbol {
     name: "w",
     st_info: 0x21,
     st_shndx: 0xfff1,
     st_value: 0x1234,
     st_size: 5,
-};
-
-const COMMON_OBJECT: NamedSymbol<'static> = NamedSymbol {
-    name: "c",
-    st_info: 0x11,
-    st_shndx: 0xfff2,
-    st_value: 8,
-    st_size: 8,
 };
 
 const THREAD_OBJECT: NamedSymbol<'static> = NamedSymbol {
@@ -206,7 +177,7 @@ static EACH_KIND: [u8; 120] = [
 
 #[test]
 fn each_kind_of_definition_has_its_entry(rt: HostRuntime) -> Result<(), Fail> {
-    let symbols = [START, WEAK_OBJECT, COMMON_OBJECT, THREAD_OBJECT, ZERO_START];
+    let symbols = [START, WEAK_OBJECT, COMMON, THREAD_OBJECT, ZERO_START];
     let relocations = [Relocation(1, 1, R_PC32, 5, 0)];
     let bytes = relocatable(rt.alloc(), &[TEXT, THREAD_DATA], &symbols, &relocations)?;
     let files = one_file(rt.alloc(), "a.o", &bytes)?;

@@ -1,10 +1,10 @@
 //! A prepared link, its image and its map; and a link of many names, kept in either table of names.
-use crate::objects::{NamedSymbol, Relocation, object, relocatable};
-use crate::one_object::{function, one_file, text_section, words_of};
-use crate::several_objects::{R_64, add_file, in_text, section, undefined};
-use crate::vectors::{MAP, OBJECT, image};
 use elf_model::{InputFile, NameSeed, SHF_WRITE};
 use ld_main::{Linkage, link_map, prepare, prepare_in};
+use link_samples::objects::{NamedSymbol, Relocation, object, relocatable};
+use link_samples::one_object::{function, one_file, text_section, words_of};
+use link_samples::several_objects::{R_64, add_file, in_text, section, undefined};
+use link_samples::vectors::{MAP, OBJECT, image};
 use std::alloc::Global;
 use std::process::Abort;
 use std::test::Fail;

@@ -1,11 +1,11 @@
 //! The least clause that fails, of links that are wrong in one place.
-use crate::one_object::{one_file, words_of};
-use crate::vectors::{IMAGE_HEADERS, MAP, OBJECT, TEXT, TEXT_OFFSET};
-use elf_model::NameSeed;
+use elf_model::{InputFile, NameSeed};
 use ld_main::{Clause, Verdict, check, check_in};
-use link_samples::links::{Change, File, Judged, first_misjudged};
-use link_samples::objects::{NamedSymbol, Relocation};
-use link_samples::parts::{NO_F, R_64, R_PC32, START, TEXT as TEXT_SECTION};
+use link_samples::links::{Change, File, Judged, first_misjudged, linked};
+use link_samples::objects::{NamedSymbol, Relocation, relocatable};
+use link_samples::one_object::{one_file, words_of};
+use link_samples::parts::{ABSOLUTE_F, R_64, R_PC32, START, TEXT as TEXT_SECTION};
+use link_samples::vectors::{IMAGE_HEADERS, MAP, OBJECT, TEXT, TEXT_OFFSET, image};
 use std::alloc::Global;
 use std::test::Fail;
 
@@ -139,14 +139,6 @@ fn a_thread_block_without_thread_storage_is_wrong(rt: HostRuntime) -> Result<(),
     Ok(())
 }
 
-/// The image of the object of `vectors`.
-fn right_image(alloc: Global) -> Result<Vec<u8>, Fail> {
-    let mut bytes = Vec::from_slice(alloc, &IMAGE_HEADERS)?;
-    bytes.resize(TEXT_OFFSET, 0)?;
-    bytes.extend_from_slice(&TEXT)?;
-    Ok(bytes)
-}
-
 /// What the check says of an image where names are hashed from a seed.
 fn seeded_verdict(alloc: Global, image: &[u8], seed: u64) -> Result<Verdict, Fail> {
     let files = one_file(alloc, "a.o", &OBJECT)?;
@@ -157,8 +149,8 @@ fn seeded_verdict(alloc: Global, image: &[u8], seed: u64) -> Result<Verdict, Fai
 
 #[test]
 fn a_right_link_is_right_by_a_seed(rt: HostRuntime) -> Result<(), Fail> {
-    let image = right_image(rt.alloc())?;
-    assert_eq!(rt; seeded_verdict(rt.alloc(), &image, 7)?, Verdict::Yes);
+    let right = image(rt.alloc())?;
+    assert_eq!(rt; seeded_verdict(rt.alloc(), &right, 7)?, Verdict::Yes);
     Ok(())
 }
 
@@ -172,89 +164,54 @@ fn a_wrong_link_is_wrong_by_a_seed(rt: HostRuntime) -> Result<(), Fail> {
     Ok(())
 }
 
-/// `f` as an absolute symbol, and without a definition.
-const ABSOLUTE: NamedSymbol<'static> = NamedSymbol {
-    st_shndx: 0xfff1,
-    st_value: 0x1_0000_0000,
-    ..NO_F
-};
-
+/// `f` without a definition.
 const NOWHERE: NamedSymbol<'static> = NamedSymbol {
     st_shndx: 0,
-    ..ABSOLUTE
+    ..ABSOLUTE_F
 };
 
-/// Objects with a relocation of no field, which link.
-const NO_FIELD: &[File] = &[File::Object(
-    "a.o",
-    &[TEXT_SECTION],
-    &[START, ABSOLUTE],
-    &[Relocation(1, 0, 0, 2, 0)],
-)];
-
-const NO_FIELD_AT_6: &[File] = &[File::Object(
-    "a.o",
-    &[TEXT_SECTION],
-    &[START, ABSOLUTE],
-    &[Relocation(1, 6, 0, 2, 0)],
-)];
-
-const NO_FIELD_UNDEFINED: &[File] = &[File::Object(
-    "a.o",
-    &[TEXT_SECTION],
-    &[START, NOWHERE],
-    &[Relocation(1, 0, 0, 2, 0)],
-)];
-
-/// COPY, and 32, of which the value doesn't fit; PC32 with a field past the end; 64 without a definition.
-static WRONG_KINDS: [Judged; 2] = [
-    (
-        Change::Files(&[File::Object(
-            "a.o",
-            &[TEXT_SECTION],
-            &[START, ABSOLUTE],
-            &[Relocation(1, 0, 5, 2, 0)],
-        )]),
-        Verdict::No(Clause::C9),
-    ),
-    (
-        Change::Files(&[File::Object(
-            "a.o",
-            &[TEXT_SECTION],
-            &[START, ABSOLUTE],
-            &[Relocation(1, 0, 10, 2, 0)],
-        )]),
-        Verdict::No(Clause::C9),
-    ),
+/// A symbol, and an unlawful relocation of it: COPY, and 32, of which the value doesn't fit; PC32 with a field past the end;
+/// 64 without a definition.
+static UNLAWFUL: [(NamedSymbol, Relocation); 4] = [
+    (ABSOLUTE_F, Relocation(1, 0, 5, 2, 0)),
+    (ABSOLUTE_F, Relocation(1, 0, 10, 2, 0)),
+    (ABSOLUTE_F, Relocation(1, 6, R_PC32, 2, 0)),
+    (NOWHERE, Relocation(1, 0, R_64, 2, 0)),
 ];
 
-static OUTSIDE: [Judged; 1] = [(
-    Change::Files(&[File::Object(
-        "a.o",
-        &[TEXT_SECTION],
-        &[START, ABSOLUTE],
-        &[Relocation(1, 6, R_PC32, 2, 0)],
-    )]),
-    Verdict::No(Clause::C9),
-)];
+/// An object with a symbol and a relocation of it.
+fn referring(
+    alloc: Global,
+    symbol: NamedSymbol<'_>,
+    relocation: Relocation,
+) -> Result<Vec<InputFile>, Fail> {
+    let bytes = relocatable(alloc, &[TEXT_SECTION], &[START, symbol], &[relocation])?;
+    one_file(alloc, "a.o", &bytes)
+}
 
-static UNDEFINED: [Judged; 1] = [(
-    Change::Files(&[File::Object(
-        "a.o",
-        &[TEXT_SECTION],
-        &[START, NOWHERE],
-        &[Relocation(1, 0, R_64, 2, 0)],
-    )]),
-    Verdict::No(Clause::C9),
-)];
+/// What the check says where an object has a relocation, and was linked with one of type NONE at its place.
+fn verdict_with(
+    alloc: Global,
+    symbol: NamedSymbol<'_>,
+    relocation: Relocation,
+) -> Result<Verdict, Fail> {
+    let Relocation(section, offset, _, number, addend) = relocation;
+    let files = referring(
+        alloc,
+        symbol,
+        Relocation(section, offset, 0, number, addend),
+    )?;
+    let output = linked(alloc, &files, "a.o")??;
+    let files = referring(alloc, symbol, relocation)?;
+    let words = words_of(alloc, "-s a.o")?;
+    Ok(check(alloc, &files, &words, &output.image, &output.map)?)
+}
 
 #[test]
 fn wrong_relocations_fail_the_ninth_clause(rt: HostRuntime) -> Result<(), Fail> {
-    let found = [
-        first_misjudged(rt.alloc(), NO_FIELD, "a.o", &WRONG_KINDS)?,
-        first_misjudged(rt.alloc(), NO_FIELD_AT_6, "a.o", &OUTSIDE)?,
-        first_misjudged(rt.alloc(), NO_FIELD_UNDEFINED, "a.o", &UNDEFINED)?,
-    ];
-    assert_eq!(rt; found, [None, None, None]);
+    for (number, (symbol, relocation)) in UNLAWFUL.iter().enumerate() {
+        let verdict = verdict_with(rt.alloc(), *symbol, *relocation)?;
+        assert_eq!(rt; verdict, Verdict::No(Clause::C9), "row {number}");
+    }
     Ok(())
 }

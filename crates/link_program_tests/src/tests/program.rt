@@ -1,9 +1,9 @@
 //! Runs of the whole program, over files in a folder of each test's own.
-use crate::objects::{NamedSymbol, Relocation, object, relocatable};
-use crate::one_object::{function, words_of};
-use crate::vectors::{MAP, OBJECT, image};
 use ld_main::run_ld;
+use link_samples::objects::{NamedSymbol, Relocation, object, relocatable};
+use link_samples::one_object::{function, words_of};
 use link_samples::parts::{NO_F, R_PC32, START, TEXT};
+use link_samples::vectors::{MAP, OBJECT, image};
 use std::fs::Permissions;
 use std::io::{self, Write};
 use std::os::unix::fs::PermissionsExt;

@@ -1,21 +1,12 @@
 //! Links of objects with COMDAT groups (System V gABI 4, "Section Groups"): what is dropped, and what may refer to it.
-use elf_model::SHT_GROUP;
-use link_samples::links::{File, Row, Wanted, first_wrong};
-use link_samples::objects::{NamedSymbol, Relocation, Section};
-use link_samples::parts::{F, NO_F, R_PC32, R_PLT32, RODATA, SECTION_2, START, TEXT};
+use link_samples::links::{File, Row, Wanted, files_of, first_wrong, is_as_wanted, linked};
+use link_samples::objects::{NamedSymbol, Relocation, Section, relocatable};
+use link_samples::parts::{F, GROUP, NO_F, R_PC32, R_PLT32, RODATA, SECTION_2, START, TEXT};
+use link_samples::several_objects::add_file;
+use std::alloc::Global;
 use std::test::Fail;
 
-/// A COMDAT group whose signature is symbol 2, and whose one member has the number 2; and one whose member is number 3.
-const GROUP: Section<'static> = Section {
-    name: ".group",
-    sh_type: SHT_GROUP,
-    sh_flags: 0,
-    sh_addralign: 4,
-    bytes: &[1, 0, 0, 0, 2, 0, 0, 0],
-    memory: 0,
-    signature: 2,
-};
-
+/// A COMDAT group whose signature is symbol 2, and whose one member has the number 3.
 const GROUP_OF_3: Section<'static> = Section {
     bytes: &[1, 0, 0, 0, 3, 0, 0, 0],
     ..GROUP
@@ -60,6 +51,10 @@ const CALL: Relocation = Relocation(3, 1, R_PLT32, 2, -4);
 
 /// A relocation of a kind that isn't known.
 const UNKNOWN: Relocation = Relocation(3, 0, 5, 2, -4);
+
+const LINKED: Wanted = Wanted::Linked(0, &[], b"");
+
+const TWICE: Wanted = Wanted::Refused("Duplicate (9): f");
 
 const DROP_MAP: &[u8] = b"ldmap 2\n\
     object 0 0 0 a.o\n\
@@ -117,144 +112,53 @@ static LINKS: [Row; 2] = [
     ),
 ];
 
-static JUDGED: [Row; 8] = [
+/// What is varied of `b.o`, an object of that group, the member and a caller: the bytes of the group, symbol 3 and a
+/// relocation; and what comes of its link behind `a.o`.
+type JudgedRow = (&'static [u8], NamedSymbol<'static>, Relocation, Wanted);
+
+const COMDAT: &[u8] = &[1, 0, 0, 0, 2, 0, 0, 0];
+
+static JUDGED: [JudgedRow; 8] = [
     // The section of a dropped member, and a name that only it defines.
     (
-        &[
-            FIRST,
-            File::Object(
-                "b.o",
-                &[GROUP, TEXT_F, CALLER],
-                &[SECTION_2, F_IN_2, H],
-                &[Relocation(3, 1, R_PLT32, 1, -4)],
-            ),
-        ],
-        "a.o b.o",
+        COMDAT,
+        H,
+        Relocation(3, 1, R_PLT32, 1, -4),
         Wanted::Refused("RefToDropped (11)"),
     ),
     (
-        &[
-            FIRST,
-            File::Object(
-                "b.o",
-                &[GROUP, TEXT_F, CALLER],
-                &[SECTION_2, F_IN_2, H_IN_2],
-                &[Relocation(3, 1, R_PLT32, 3, -4)],
-            ),
-        ],
-        "a.o b.o",
+        COMDAT,
+        H_IN_2,
+        Relocation(3, 1, R_PLT32, 3, -4),
         Wanted::Refused("Undefined (10): h"),
     ),
     // Relocations of a kind that isn't known: of the member, with which they go, and of no member.
-    (
-        &[
-            FIRST,
-            File::Object(
-                "b.o",
-                &[GROUP, TEXT_F, CALLER],
-                &[SECTION_2, F_IN_2, H],
-                &[Relocation(2, 0, 5, 2, -4)],
-            ),
-        ],
-        "a.o b.o",
-        Wanted::Linked(0, &[], b""),
-    ),
-    (
-        &[
-            FIRST,
-            File::Object(
-                "b.o",
-                &[GROUP, TEXT_F, CALLER],
-                &[SECTION_2, F_IN_2, H],
-                &[UNKNOWN],
-            ),
-        ],
-        "a.o b.o",
-        Wanted::Refused("RelocKind (12)"),
-    ),
+    (COMDAT, H, Relocation(2, 0, 5, 2, -4), LINKED),
+    (COMDAT, H, UNKNOWN, Wanted::Refused("RelocKind (12)")),
     // The RELA section, number 6, is the member, or one of two.
-    (
-        &[
-            FIRST,
-            File::Object(
-                "b.o",
-                &[
-                    Section {
-                        bytes: &[1, 0, 0, 0, 6, 0, 0, 0],
-                        ..GROUP
-                    },
-                    TEXT_F,
-                    CALLER,
-                ],
-                &[SECTION_2, F_IN_2, H],
-                &[UNKNOWN],
-            ),
-        ],
-        "a.o b.o",
-        Wanted::Refused("Duplicate (9): f"),
-    ),
-    (
-        &[
-            FIRST,
-            File::Object(
-                "b.o",
-                &[
-                    Section {
-                        bytes: &[1, 0, 0, 0, 2, 0, 0, 0, 6, 0, 0, 0],
-                        ..GROUP
-                    },
-                    TEXT_F,
-                    CALLER,
-                ],
-                &[SECTION_2, F_IN_2, H],
-                &[UNKNOWN],
-            ),
-        ],
-        "a.o b.o",
-        Wanted::Linked(0, &[], b""),
-    ),
+    (&[1, 0, 0, 0, 6, 0, 0, 0], H, UNKNOWN, TWICE),
+    (&[1, 0, 0, 0, 2, 0, 0, 0, 6, 0, 0, 0], H, UNKNOWN, LINKED),
     // A group that isn't COMDAT drops nothing; other flags are refused.
+    (&[0, 0, 0, 0, 2, 0, 0, 0], H, CALL, TWICE),
     (
-        &[
-            FIRST,
-            File::Object(
-                "b.o",
-                &[
-                    Section {
-                        bytes: &[0, 0, 0, 0, 2, 0, 0, 0],
-                        ..GROUP
-                    },
-                    TEXT_F,
-                    CALLER,
-                ],
-                &[SECTION_2, F_IN_2, H],
-                &[CALL],
-            ),
-        ],
-        "a.o b.o",
-        Wanted::Refused("Duplicate (9): f"),
-    ),
-    (
-        &[
-            FIRST,
-            File::Object(
-                "b.o",
-                &[
-                    Section {
-                        bytes: &[2, 0, 0, 0, 2, 0, 0, 0],
-                        ..GROUP
-                    },
-                    TEXT_F,
-                    CALLER,
-                ],
-                &[SECTION_2, F_IN_2, H],
-                &[CALL],
-            ),
-        ],
-        "a.o b.o",
+        &[2, 0, 0, 0, 2, 0, 0, 0],
+        H,
+        CALL,
         Wanted::Refused("BadGroup (8): BadFlags (3)"),
     ),
 ];
+
+/// Whether the link of a row is as wanted.
+fn is_judged(alloc: Global, row: &JudgedRow) -> Result<bool, Fail> {
+    let (bytes, third, relocation, wanted) = row;
+    let group = Section { bytes, ..GROUP };
+    let symbols = [SECTION_2, F_IN_2, *third];
+    let object = relocatable(alloc, &[group, TEXT_F, CALLER], &symbols, &[*relocation])?;
+    let mut files = files_of(alloc, &[FIRST])?;
+    add_file(&mut files, "b.o", &object)?;
+    let answer = linked(alloc, &files, "a.o b.o")?;
+    is_as_wanted(alloc, &answer, wanted)
+}
 
 /// The symbols of an object of groups and of a text, section 3: 1 is that of the section, which has no name.
 const SECTION_3: NamedSymbol<'static> = NamedSymbol {
@@ -317,6 +221,8 @@ fn groups_are_linked_once(rt: HostRuntime) -> Result<(), Fail> {
 
 #[test]
 fn references_to_dropped_sections_are_judged(rt: HostRuntime) -> Result<(), Fail> {
-    assert_eq!(rt; first_wrong(rt.alloc(), &JUDGED)?, None);
+    for (number, row) in JUDGED.iter().enumerate() {
+        assert!(rt; is_judged(rt.alloc(), row)?, "row {number}");
+    }
     Ok(())
 }

@@ -2,28 +2,12 @@
 use ld_main::{Clause, Verdict};
 use link_samples::links::{Change, File, Judged, Row, Wanted, first_misjudged, first_wrong};
 use link_samples::objects::{NamedSymbol, Relocation, Section};
-use link_samples::parts::{DATA, NO_F, R_64, R_PC32, RODATA, START, TEXT};
+use link_samples::parts::{DATA, LOADER, NO_F, R_64, R_PC32, RODATA, START, TEXT, V};
 use std::test::Fail;
 
 const R_REX_GOTPCRELX: u32 = 42;
 
-/// `mov v@GOTPCREL(%rip), %rax`, and the nine bytes of the plain text.
-const LOADER: Section<'static> = Section {
-    bytes: &[
-        0x48, 0x8b, 0x05, 0, 0, 0, 0, 0xb8, 0x3c, 0, 0, 0, 0x31, 0xff, 0x0f, 0x05,
-    ],
-    ..TEXT
-};
-
-/// A datum of 8 bytes at the beginning of section 2, global and local; and a global one without a definition.
-const V: NamedSymbol<'static> = NamedSymbol {
-    name: "v",
-    st_info: 0x11,
-    st_shndx: 2,
-    st_size: 8,
-    ..START
-};
-
+/// That datum as a local one, and a global one without a definition.
 const LOCAL_V: NamedSymbol<'static> = NamedSymbol { st_info: 1, ..V };
 
 const NO_V: NamedSymbol<'static> = NamedSymbol { name: "v", ..NO_F };
