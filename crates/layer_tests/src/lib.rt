@@ -2,18 +2,4 @@
 #![tactic(auto)]
 
 #[cfg(test)]
-mod archives;
-#[cfg(test)]
-mod faults;
-#[cfg(test)]
-mod loading;
-#[cfg(test)]
-mod meanings;
-#[cfg(test)]
-mod objects;
-#[cfg(test)]
-mod places;
-#[cfg(test)]
-mod thread_storage;
-#[cfg(test)]
-mod values;
+mod tests;

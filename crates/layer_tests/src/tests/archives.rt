@@ -1,25 +1,16 @@
 //! Loading of archives: which members are taken, and in which order.
-use crate::loading::{load_words, put_file, words};
-use crate::objects::{F_NAME, G_NAME, H_NAME, START_NAME, SYMBOLS, TEXT, object_with};
+use crate::tests::loading::{load_words, put_file, words};
+use crate::tests::objects::{F_NAME, G_NAME, H_NAME, START_NAME, SYMBOLS, TEXT, object_with};
 use elf_model::{InputFile, STB_GLOBAL, STB_WEAK, Symbol};
 use std::alloc::{AllocError, Global};
 use std::test::Fail;
-
-const NULL_SYMBOL: Symbol = Symbol {
-    st_name: 0,
-    st_info: 0,
-    st_other: 0,
-    st_shndx: 0,
-    st_value: 0,
-    st_size: 0,
-};
 
 /// Strong definitions at the beginning of the text, which is section 2.
 const START: Symbol = Symbol {
     st_name: START_NAME,
     st_info: STB_GLOBAL << 4,
     st_shndx: 2,
-    ..NULL_SYMBOL
+    ..Symbol::NULL
 };
 
 const F: Symbol = Symbol {

@@ -1,7 +1,7 @@
 //! Layouts: where pieces stand, and in which segments, and what the linker's names for output sections stand for.
 ghost use Rattle.elf_model.specs.Pieces.{AreLawfulKinds};
 
-use crate::objects::{
+use crate::tests::objects::{
     A_NAME, BSS, DATA, F_NAME, G_NAME, NOTES_NAME, RODATA, RODATA_B_NAME, SYMBOLS, TEXT,
     load_files, object_of, object_with, two_files,
 };
@@ -126,10 +126,10 @@ type LayoutRow = (
 const COMMON_G: Symbol = Symbol {
     st_name: G_NAME,
     st_info: 0x11,
-    st_other: 0,
     st_shndx: SHN_COMMON,
     st_value: 4,
     st_size: 4,
+    ..Symbol::NULL
 };
 
 const COMMON_F: Symbol = Symbol {

@@ -1,5 +1,5 @@
 //! Loading of objects.
-use crate::objects::{DATA, TEXT, object_of};
+use crate::tests::objects::{DATA, TEXT, object_of};
 use command::read_words;
 use elf_model::{CmdFault, InputFile};
 use search::{Loaded, SearchFault, load};

@@ -1,8 +1,8 @@
 //! The size of the GOT, the block of thread-local storage, and offsets from the thread pointer.
 ghost use Rattle.std.specs.Prelude.{◌<◌};
 
-use crate::meanings::{global, local};
-use crate::objects::{
+use crate::tests::meanings::{global, local};
+use crate::tests::objects::{
     BSS, DATA, ENTRY, F_NAME, G_NAME, SYMBOLS, TEXT, load_files, object_of, object_with, one_file,
 };
 use elf_model::{Rela, SHF_ALLOC, SHF_TLS, SHF_WRITE, SectionHeader};

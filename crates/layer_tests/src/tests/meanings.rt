@@ -1,5 +1,5 @@
 //! What names and symbols mean.
-use crate::objects::{
+use crate::tests::objects::{
     DATA, F_NAME, G_NAME, START_NAME, SYMBOLS, TEXT, load_files, object_with, two_files,
 };
 use elf_model::{
@@ -16,10 +16,8 @@ pub fn global(st_name: u32, st_shndx: u16) -> Symbol {
     Symbol {
         st_name,
         st_info: 0x10,
-        st_other: 0,
         st_shndx,
-        st_value: 0,
-        st_size: 0,
+        ..Symbol::NULL
     }
 }
 
@@ -203,10 +201,8 @@ fn told(alloc: Global, a: &[Symbol; 2], b: &[Symbol; 2]) -> Result<String, Fail>
 const GLOBAL_F: Symbol = Symbol {
     st_name: F_NAME,
     st_info: 0x10,
-    st_other: 0,
     st_shndx: 2,
-    st_value: 0,
-    st_size: 0,
+    ..Symbol::NULL
 };
 
 const NAMELESS: Symbol = Symbol {
@@ -247,11 +243,9 @@ fn unsound_symbols_are_refused(rt: HostRuntime) -> Result<(), Fail> {
 fn common(st_name: u32, st_size: u64, st_value: u64) -> Symbol {
     Symbol {
         st_name,
-        st_info: 0x11,
-        st_other: 0,
-        st_shndx: SHN_COMMON,
         st_value,
         st_size,
+        ..COMMON_F
     }
 }
 
@@ -319,10 +313,10 @@ fn common_symbols_share_blocks(rt: HostRuntime) -> Result<(), Fail> {
 const COMMON_F: Symbol = Symbol {
     st_name: F_NAME,
     st_info: 0x11,
-    st_other: 0,
     st_shndx: SHN_COMMON,
     st_value: 8,
     st_size: 8,
+    ..Symbol::NULL
 };
 
 /// Bindings and types, and alignments of common symbols, and what becomes of them.

@@ -6,9 +6,9 @@ ghost use Rattle.elf_model.specs.Pieces.{AreLawfulKinds};
 ghost use Rattle.elf_model.specs.Resolution.{sections_of_object};
 ghost use Rattle.elf_model.specs.Slots as wanted;
 
-use crate::objects::{
-    A_NAME, BSS, DATA, ENTRY, ETEXT_NAME, F_NAME, NULL_SYMBOL, RODATA, STOP_NAME, SYMBOLS, TEXT,
-    load_files, object_with, one_file,
+use crate::tests::objects::{
+    A_NAME, BSS, DATA, ENTRY, ETEXT_NAME, F_NAME, RODATA, STOP_NAME, SYMBOLS, TEXT, load_files,
+    object_with, one_file,
 };
 use elf_model::{
     Bound, ObjectId, Rela, SHF_ALLOC, SHF_WRITE, STT_SECTION, SectionHeader, SectionRef, Symbol,
@@ -27,12 +27,9 @@ use std::test::Fail;
 /// The symbol of a section.
 fn section_symbol(number: u16) -> Symbol {
     Symbol {
-        st_name: 0,
         st_info: STT_SECTION,
-        st_other: 0,
         st_shndx: number,
-        st_value: 0,
-        st_size: 0,
+        ..Symbol::NULL
     }
 }
 
@@ -40,10 +37,7 @@ fn section_symbol(number: u16) -> Symbol {
 const TEXT_END: Symbol = Symbol {
     st_name: ETEXT_NAME,
     st_info: 0x10,
-    st_other: 0,
-    st_shndx: 0,
-    st_value: 0,
-    st_size: 0,
+    ..Symbol::NULL
 };
 
 /// An object with an entry that relocates `.rodata`, section 2 of 5 bytes, and one for another section, of which `.data`
@@ -81,7 +75,9 @@ fn object_over(
 
 /// The input bytes of a section of the first object.
 fn input_of<'a>(loaded: &Loaded<'a>, number: usize) -> Option<&'a [u8]>
-    ensures { IfSome result (λ bytes. length bytes.now ≡ (object_file.section (sections_of_object (slice_get loaded.now.objects 0)) number).sh_size) }
+    ensures { IfSome result (λ bytes. length bytes.now
+        ≡ (object_file.section
+        (sections_of_object (slice_get loaded.now.objects 0)) number).sh_size) }
 {
     let first = loaded.objects().first()?;
     first.object.section_bytes(number)
@@ -182,145 +178,95 @@ fn judged(number: u32, terms: Terms) -> Option<(u64, bool)> {
     Some((value, fits(kind, value)))
 }
 
-/// A type, the terms S, P, G, GOT, Z and the offset from the thread pointer, the addend, the value, and whether it fits.
-type ValueRow = (u32, [u64; 6], i64, u64, bool);
+/// Terms of 0.
+const ZEROS: Terms = Terms {
+    symbol: 0,
+    addend: 0,
+    place: 0,
+    slot: 0,
+    got: 0,
+    size: 0,
+    thread: 0,
+};
 
-static VALUES: [ValueRow; 27] = [
-    // The value is S + 0. Type 10 wants an unsigned number of 32 bits, 11 a signed one of 32, 12 either of 16 and 14
-    // either of 8.
-    (
-        10,
-        [0xffff_ffff, 0x401001, 0, 0, 0, 0],
-        0,
-        0xffff_ffff,
-        true,
-    ),
-    (
-        10,
-        [0x8000_0000, 0x401001, 0, 0, 0, 0],
-        0,
-        0x8000_0000,
-        true,
-    ),
-    (
-        10,
-        [0x1_0000_0000, 0x401001, 0, 0, 0, 0],
-        0,
-        0x1_0000_0000,
-        false,
-    ),
-    (
-        11,
-        [0xffff_ffff_ffff_ffff, 0x401001, 0, 0, 0, 0],
-        0,
-        0xffff_ffff_ffff_ffff,
-        true,
-    ),
-    (
-        11,
-        [0x8000_0000, 0x401001, 0, 0, 0, 0],
-        0,
-        0x8000_0000,
-        false,
-    ),
-    (12, [0xffff, 0x401001, 0, 0, 0, 0], 0, 0xffff, true),
-    (
-        12,
-        [0xffff_ffff_ffff_8000, 0x401001, 0, 0, 0, 0],
-        0,
-        0xffff_ffff_ffff_8000,
-        true,
-    ),
-    (12, [0x1_0000, 0x401001, 0, 0, 0, 0], 0, 0x1_0000, false),
-    (
-        14,
-        [0xffff_ffff_ffff_ff80, 0x401001, 0, 0, 0, 0],
-        0,
-        0xffff_ffff_ffff_ff80,
-        true,
-    ),
-    (
-        14,
-        [0xffff_ffff_ffff_ff7f, 0x401001, 0, 0, 0, 0],
-        0,
-        0xffff_ffff_ffff_ff7f,
-        false,
-    ),
+/// A type whose value is S + 0, for a field at 0x401001, S, the value, and whether it fits.
+type SymbolRow = (u32, u64, u64, bool);
+
+/// Type 10 wants an unsigned number of 32 bits, 11 a signed one of 32, 12 either of 16 and 14 either of 8.
+static SYMBOLS_ALONE: [SymbolRow; 10] = [
+    (10, 0xffff_ffff, 0xffff_ffff, true),
+    (10, 0x8000_0000, 0x8000_0000, true),
+    (10, 0x1_0000_0000, 0x1_0000_0000, false),
+    (11, 0xffff_ffff_ffff_ffff, 0xffff_ffff_ffff_ffff, true),
+    (11, 0x8000_0000, 0x8000_0000, false),
+    (12, 0xffff, 0xffff, true),
+    (12, 0xffff_ffff_ffff_8000, 0xffff_ffff_ffff_8000, true),
+    (12, 0x1_0000, 0x1_0000, false),
+    (14, 0xffff_ffff_ffff_ff80, 0xffff_ffff_ffff_ff80, true),
+    (14, 0xffff_ffff_ffff_ff7f, 0xffff_ffff_ffff_ff7f, false),
+];
+
+/// A type, the terms S, P, G, GOT and Z, the addend, the value, and whether it fits.
+type ValueRow = (u32, [u64; 5], i64, u64, bool);
+
+static VALUES: [ValueRow; 13] = [
     // Types 2 and 4 are S + A - P, 1 is S + A and 33 is Z + A, modulo 2 to the 64; 2 and 4 want a signed number of 32
     // bits.
-    (4, [0x401010, 0x401001, 0, 0, 8, 0], -4, 0xb, true),
-    (2, [0x402000, 0x400120, 0, 0, 8, 0], 0, 0x1ee0, true),
+    (4, [0x401010, 0x401001, 0, 0, 8], -4, 0xb, true),
+    (2, [0x402000, 0x400120, 0, 0, 8], 0, 0x1ee0, true),
+    (2, [0, 0x401001, 0, 0, 8], -4, 0xffff_ffff_ffbf_effb, true),
     (
         2,
-        [0, 0x401001, 0, 0, 8, 0],
-        -4,
-        0xffff_ffff_ffbf_effb,
-        true,
-    ),
-    (
-        2,
-        [0, 0x1_0000_1001, 0, 0, 8, 0],
+        [0, 0x1_0000_1001, 0, 0, 8],
         -4,
         0xffff_fffe_ffff_effb,
         false,
     ),
-    (1, [0xffff_ffff_ffff_ffff, 0x402000, 0, 0, 8, 0], 2, 1, true),
-    (33, [0x402000, 0x400130, 0, 0, 8, 0], 1, 9, true),
+    (1, [0xffff_ffff_ffff_ffff, 0x402000, 0, 0, 8], 2, 1, true),
+    (33, [0x402000, 0x400130, 0, 0, 8], 1, 9, true),
     // Types 9 and 42 are G + GOT + A - P, as 22 is for the slot of a thread offset; 3 and 27 are G + A, 26 is GOT + A - P
     // and 25 is S + A - GOT.
-    (9, [0x402000, 0x401003, 8, 0x402008, 0, 0], -4, 0x1009, true),
-    (
-        42,
-        [0x402000, 0x401003, 8, 0x402008, 0, 0],
-        -4,
-        0x1009,
-        true,
-    ),
-    (
-        22,
-        [0x402000, 0x401003, 8, 0x402010, 0, 0],
-        -4,
-        0x1011,
-        true,
-    ),
-    (3, [0x402000, 0x400120, 8, 0x402008, 0, 0], 0, 8, true),
-    (27, [0x402000, 0x400138, 8, 0x402008, 0, 0], 0, 8, true),
-    (26, [0x402000, 0x400124, 8, 0x402008, 0, 0], 0, 0x1ee4, true),
+    (9, [0x402000, 0x401003, 8, 0x402008, 0], -4, 0x1009, true),
+    (42, [0x402000, 0x401003, 8, 0x402008, 0], -4, 0x1009, true),
+    (22, [0x402000, 0x401003, 8, 0x402010, 0], -4, 0x1011, true),
+    (3, [0x402000, 0x400120, 8, 0x402008, 0], 0, 8, true),
+    (27, [0x402000, 0x400138, 8, 0x402008, 0], 0, 8, true),
+    (26, [0x402000, 0x400124, 8, 0x402008, 0], 0, 0x1ee4, true),
     (
         25,
-        [0x402000, 0x400128, 8, 0x402008, 0, 0],
+        [0x402000, 0x400128, 8, 0x402008, 0],
         0,
         0xffff_ffff_ffff_fff8,
         true,
     ),
-    // Types 18 and 23 are the offset from the thread pointer plus A; 23 wants a signed number of 32 bits.
-    (
-        23,
-        [0, 0, 0, 0, 0, 0xffff_ffff_ffff_fff0],
-        0,
-        0xffff_ffff_ffff_fff0,
-        true,
-    ),
-    (
-        23,
-        [0, 0, 0, 0, 0, 0xffff_ffff_ffff_fff8],
-        0,
-        0xffff_ffff_ffff_fff8,
-        true,
-    ),
-    (
-        23,
-        [0, 0, 0, 0, 0, 0xffff_ffff_8000_0000],
-        -1,
-        0xffff_ffff_7fff_ffff,
-        false,
-    ),
-    (18, [0, 0, 0, 0, 0, 0xffff_ffff_ffff_fff8], 12, 4, true),
+];
+
+/// A type whose value is an offset from the thread pointer plus A, the offset, A, the value, and whether it fits: 23 wants a
+/// signed number of 32 bits.
+type ThreadRow = (u32, u64, i64, u64, bool);
+
+static THREAD_OFFSETS: [ThreadRow; 4] = [
+    (23, 0xffff_ffff_ffff_fff0, 0, 0xffff_ffff_ffff_fff0, true),
+    (23, 0xffff_ffff_ffff_fff8, 0, 0xffff_ffff_ffff_fff8, true),
+    (23, 0xffff_ffff_8000_0000, -1, 0xffff_ffff_7fff_ffff, false),
+    (18, 0xffff_ffff_ffff_fff8, 12, 4, true),
 ];
 
 #[test]
 fn values_are_made_of_their_terms(rt: HostRuntime) {
-    for (number, [symbol, place, slot, got, size, thread], addend, value, fit) in VALUES {
+    for (number, symbol, value, fit) in SYMBOLS_ALONE {
+        let place = 0x401001;
+        let terms = Terms {
+            symbol,
+            place,
+            ..ZEROS
+        };
+        assert!(rt;
+            judged(number, terms) == Some((value, fit)),
+            "type {number} of {value}"
+        );
+    }
+    for (number, [symbol, place, slot, got, size], addend, value, fit) in VALUES {
         let terms = Terms {
             symbol,
             addend,
@@ -328,10 +274,23 @@ fn values_are_made_of_their_terms(rt: HostRuntime) {
             slot,
             got,
             size,
-            thread,
+            ..ZEROS
         };
-        let found = judged(number, terms);
-        assert!(rt; found == Some((value, fit)), "type {number} of {value}");
+        assert!(rt;
+            judged(number, terms) == Some((value, fit)),
+            "type {number} of {value}"
+        );
+    }
+    for (number, thread, addend, value, fit) in THREAD_OFFSETS {
+        let terms = Terms {
+            thread,
+            addend,
+            ..ZEROS
+        };
+        assert!(rt;
+            judged(number, terms) == Some((value, fit)),
+            "type {number} of {value}"
+        );
     }
 }
 
@@ -483,7 +442,7 @@ fn refusal_of(alloc: Global, file: &[u8]) -> Result<String, Fail> {
 const DATA_SYMBOL: Symbol = Symbol {
     st_info: STT_SECTION,
     st_shndx: 4,
-    ..NULL_SYMBOL
+    ..Symbol::NULL
 };
 
 const SYMBOLS_SYMBOL: Symbol = Symbol {

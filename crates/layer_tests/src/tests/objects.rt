@@ -2,33 +2,11 @@
 use command::{Item, Plan, Source};
 use elf_model::{
     EM_X86_64, ET_REL, FileHeader, InputFile, Rela, SHF_ALLOC, SHF_EXECINSTR, SHF_WRITE,
-    SHT_NOBITS, SHT_NULL, SHT_PROGBITS, SHT_RELA, SHT_STRTAB, SHT_SYMTAB, SectionHeader, Symbol,
+    SHT_NOBITS, SHT_PROGBITS, SHT_RELA, SHT_STRTAB, SHT_SYMTAB, SectionHeader, Symbol,
 };
 use search::{Loaded, load};
 use std::alloc::{AllocError, Global};
 use std::test::Fail;
-
-pub const NULL_SECTION: SectionHeader = SectionHeader {
-    sh_name: 0,
-    sh_type: SHT_NULL,
-    sh_flags: 0,
-    sh_addr: 0,
-    sh_offset: 0,
-    sh_size: 0,
-    sh_link: 0,
-    sh_info: 0,
-    sh_addralign: 0,
-    sh_entsize: 0,
-};
-
-pub const NULL_SYMBOL: Symbol = Symbol {
-    st_name: 0,
-    st_info: 0,
-    st_other: 0,
-    st_shndx: 0,
-    st_value: 0,
-    st_size: 0,
-};
 
 const HEADER: FileHeader = FileHeader {
     e_ident: [0x7f, b'E', b'L', b'F', 2, 1, 1, 0, 0, 0, 0, 0, 0, 0, 0, 0],
@@ -83,7 +61,7 @@ pub const RODATA: SectionHeader = SectionHeader {
     sh_offset: 160,
     sh_size: 5,
     sh_addralign: 4,
-    ..NULL_SECTION
+    ..SectionHeader::NULL
 };
 
 pub const TEXT: SectionHeader = SectionHeader {
@@ -93,7 +71,7 @@ pub const TEXT: SectionHeader = SectionHeader {
     sh_offset: 168,
     sh_size: 9,
     sh_addralign: 1,
-    ..NULL_SECTION
+    ..SectionHeader::NULL
 };
 
 pub const DATA: SectionHeader = SectionHeader {
@@ -103,7 +81,7 @@ pub const DATA: SectionHeader = SectionHeader {
     sh_offset: 184,
     sh_size: 8,
     sh_addralign: 8,
-    ..NULL_SECTION
+    ..SectionHeader::NULL
 };
 
 pub const BSS: SectionHeader = SectionHeader {
@@ -113,7 +91,7 @@ pub const BSS: SectionHeader = SectionHeader {
     sh_offset: 192,
     sh_size: 8,
     sh_addralign: 8,
-    ..NULL_SECTION
+    ..SectionHeader::NULL
 };
 
 /// A table of two symbols behind the null symbol.
@@ -124,7 +102,7 @@ pub const SYMBOLS: SectionHeader = SectionHeader {
     sh_link: 1,
     sh_addralign: 8,
     sh_entsize: 24,
-    ..NULL_SECTION
+    ..SectionHeader::NULL
 };
 
 /// One relocation behind these symbols; which section it relocates and which one has the symbols isn't said.
@@ -134,7 +112,7 @@ pub const ENTRY: SectionHeader = SectionHeader {
     sh_size: 24,
     sh_addralign: 8,
     sh_entsize: 24,
-    ..NULL_SECTION
+    ..SectionHeader::NULL
 };
 
 fn put_section(bytes: &mut Vec<u8>, section: &SectionHeader) -> Result<(), AllocError> {
@@ -189,13 +167,13 @@ pub fn object_with(
     header.write_to(&mut record);
     let mut bytes = Vec::from_slice(alloc, &record)?;
     bytes.extend_from_slice(&contents)?;
-    put_section(&mut bytes, &NULL_SECTION)?;
+    put_section(&mut bytes, &SectionHeader::NULL)?;
     let names = SectionHeader {
         sh_type: SHT_STRTAB,
         sh_offset: 64,
         sh_size: NAMES.len() as u64,
         sh_addralign: 1,
-        ..NULL_SECTION
+        ..SectionHeader::NULL
     };
     put_section(&mut bytes, &names)?;
     for section in sections {
