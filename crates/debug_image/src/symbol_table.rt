@@ -9,16 +9,6 @@ use crate::row::Row;
 use elf_model::{SYM_SIZE, Symbol};
 use std::alloc::{AllocError, Global};
 
-/// The entry of number 0, which stands for no symbol (System V gABI 4, "Symbol Table").
-const NULL: Symbol = Symbol {
-    st_name: 0,
-    st_info: 0,
-    st_other: 0,
-    st_shndx: 0,
-    st_value: 0,
-    st_size: 0,
-};
-
 /// The bytes of a symbol table and of its names.
 #[derive(Drop)]
 pub struct SymbolBytes {
@@ -65,7 +55,7 @@ pub fn symbol_bytes(alloc: Global, rows: &[Row<'_>]) -> Result<SymbolBytes, Allo
 {
     let mut symbols = Vec::new(alloc);
     let mut names = Vec::new(alloc);
-    add_entry(&mut symbols, &NULL)?;
+    add_entry(&mut symbols, &Symbol::NULL)?;
     names.push(0)?;
     for row in rows {
         add_row(&mut symbols, &mut names, row)?;

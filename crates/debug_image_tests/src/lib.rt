@@ -2,12 +2,4 @@
 #![tactic(auto)]
 
 #[cfg(test)]
-mod debug_data;
-#[cfg(test)]
-mod found;
-#[cfg(test)]
-mod names;
-#[cfg(test)]
-mod tables;
-#[cfg(test)]
-mod vectors;
+mod tests;

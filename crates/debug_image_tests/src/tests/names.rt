@@ -1,5 +1,5 @@
 //! How many names debug data may have.
-use crate::tables::debuggable_of;
+use crate::tests::tables::debuggable_of;
 use debug_image::DebugFault;
 use ld_main::prepare;
 use link_samples::objects::{Section, object};

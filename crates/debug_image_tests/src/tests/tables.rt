@@ -1,11 +1,11 @@
 //! The tables behind an image, byte for byte.
-use crate::vectors::{TEXT_FIELDS, TEXT_TABLES, THREAD_END, THREAD_FIELDS, THREAD_TABLES};
+use crate::tests::vectors::{TEXT_FIELDS, TEXT_TABLES, THREAD_END, THREAD_FIELDS, THREAD_TABLES};
 use debug_image::{DebugFault, Wanted, debug_image, plain_image};
-use elf_model::{InputFile, SHF_ALLOC, SHF_TLS, SHF_WRITE, SHT_NOBITS};
+use elf_model::InputFile;
 use ld_main::{Linkage, definitions, image, prepare};
 use link_samples::objects::{NamedSymbol, Section, relocatable};
 use link_samples::one_object::{one_file, words_of};
-use link_samples::parts::{START, TEXT};
+use link_samples::parts::{START, TEXT, THREAD_DATA, THREAD_ZEROS};
 use link_samples::vectors::{OBJECT, image as text_image};
 use resolve::resolve;
 use std::alloc::Global;
@@ -75,22 +75,11 @@ fn an_image_of_one_text_has_its_section_and_its_symbol(rt: HostRuntime) -> Resul
     Ok(())
 }
 
-/// Initial thread-local data of four bytes.
-const TDATA: Section<'static> = Section {
-    name: ".tdata",
-    sh_flags: SHF_ALLOC | SHF_WRITE | SHF_TLS,
-    sh_addralign: 4,
-    bytes: &[1, 2, 3, 4],
-    ..TEXT
-};
-
 /// Thread-local zeros, eight bytes.
 const TBSS: Section<'static> = Section {
-    name: ".tbss",
-    sh_type: SHT_NOBITS,
-    bytes: &[],
+    sh_addralign: 4,
     memory: 8,
-    ..TDATA
+    ..THREAD_ZEROS
 };
 
 /// A source file, the symbol of the text, a name of the compiler's own, a function and a thread-local symbol, all LOCAL, then the
@@ -152,7 +141,7 @@ static SYMBOLS: [NamedSymbol<'static>; 8] = [
 fn symbols_are_of_their_sections_and_thread_local_ones_are_offsets(
     rt: HostRuntime,
 ) -> Result<(), Fail> {
-    let object = relocatable(rt.alloc(), &[TEXT, TDATA, TBSS], &SYMBOLS, &[])?;
+    let object = relocatable(rt.alloc(), &[TEXT, THREAD_DATA, TBSS], &SYMBOLS, &[])?;
     let files = one_file(rt.alloc(), "a.o", &object)?;
     let images = images_of(rt.alloc(), &files, true)?;
     let plain = Vec::from_slice(rt.alloc(), &images.plain)?;
@@ -165,7 +154,7 @@ fn symbols_are_of_their_sections_and_thread_local_ones_are_offsets(
 
 #[test]
 fn an_image_without_local_symbols_begins_with_the_same_bytes(rt: HostRuntime) -> Result<(), Fail> {
-    let object = relocatable(rt.alloc(), &[TEXT, TDATA, TBSS], &SYMBOLS, &[])?;
+    let object = relocatable(rt.alloc(), &[TEXT, THREAD_DATA, TBSS], &SYMBOLS, &[])?;
     let files = one_file(rt.alloc(), "a.o", &object)?;
     let images = images_of(rt.alloc(), &files, false)?;
     // The entries of three symbols are left out, and 13 bytes of names, which 3 bytes of padding follow.

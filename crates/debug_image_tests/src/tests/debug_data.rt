@@ -4,20 +4,19 @@ ghost use Rattle.debug_image.specs.DataIndexes.{AreIndexes};
 ghost use Rattle.debug_image.specs.DebugLayouts.{IsDataLayout};
 ghost use Rattle.debug_image.specs.DebugViews.{row_views};
 
-use crate::found::{bytes_of, find, has_section};
+use crate::tests::found::{bytes_of, find, has_section};
 use debug_image::{
     Chunk, DataLayout, DebugParts, Wanted, chunk_bytes, compressed, data_layout, debug_image,
     debug_parts, plain_image,
 };
-use elf_model::{
-    InputFile, ObjectId, SHF_ALLOC, SHF_COMPRESSED, SHF_TLS, SHF_WRITE, SHT_GROUP, SHT_PROGBITS,
-    SectionRef,
-};
+use elf_model::{InputFile, ObjectId, SHF_COMPRESSED, SHT_PROGBITS, SectionRef};
 use ld_main::{Linkage, definitions, image, prepare};
 use link_samples::links::{File, files_of};
 use link_samples::objects::{NamedSymbol, Relocation, Section};
 use link_samples::one_object::words_of;
-use link_samples::parts::{R_64, R_PC32, START, TEXT, WEAK_NO_F};
+use link_samples::parts::{
+    ABSOLUTE_F, COMMON, GROUP, R_64, R_PC32, START, TEXT, THREAD_DATA, WEAK_NO_F,
+};
 use resolve::{Definition, Resolved, resolve};
 use std::alloc::Global;
 use std::test::Fail;
@@ -35,12 +34,9 @@ const R_TPOFF64: u32 = 18;
 /// Debug data of eight zeros.
 const INFO: Section<'static> = Section {
     name: ".debug_info",
-    sh_type: SHT_PROGBITS,
     sh_flags: 0,
-    sh_addralign: 1,
     bytes: &[0; 8],
-    memory: 0,
-    signature: 0,
+    ..TEXT
 };
 
 const RANGES: Section<'static> = Section {
@@ -301,17 +297,14 @@ const ALIGNED: Section<'static> = Section {
 const JOINED: [Relocation; 2] = [Relocation(2, 0, R_64, 1, 4), Relocation(4, 0, R_32, 2, 1)];
 
 /// The group of sections 2 and 3, a text and debug data of its own, and what is of no group.
-const GROUP: Section<'static> = Section {
-    name: ".group",
-    sh_type: SHT_GROUP,
-    sh_addralign: 4,
+const GROUP_OF_TWO: Section<'static> = Section {
     bytes: &[1, 0, 0, 0, 2, 0, 0, 0, 3, 0, 0, 0],
     signature: 3,
-    ..INFO
+    ..GROUP
 };
 
 const GROUPED: &[Section] = &[
-    GROUP,
+    GROUP_OF_TWO,
     Section {
         name: ".text.g",
         ..TEXT
@@ -369,28 +362,16 @@ const GOOD: Section<'static> = Section {
 };
 
 /// `.tdata` of 16 bytes.
-const THREAD_DATA: Section<'static> = Section {
-    name: ".tdata",
-    sh_flags: SHF_ALLOC | SHF_WRITE | SHF_TLS,
+const THREAD_16: Section<'static> = Section {
     sh_addralign: 8,
     bytes: &[1; 16],
-    ..TEXT
+    ..THREAD_DATA
 };
 
 const ABSOLUTE: NamedSymbol<'static> = NamedSymbol {
     name: "a",
-    st_info: 0x10,
-    st_shndx: 0xfff1,
     st_value: 0x1234,
-    st_size: 0,
-};
-
-const COMMON: NamedSymbol<'static> = NamedSymbol {
-    name: "c",
-    st_info: 0x11,
-    st_shndx: 0xfff2,
-    st_value: 8,
-    st_size: 8,
+    ..ABSOLUTE_F
 };
 
 /// Sections that are left out: compressed, excluded, and of another name.
@@ -529,7 +510,7 @@ static ROWS: [Row; 7] = [
     Row {
         files: &[File::Object(
             "a.o",
-            &[TEXT, THREAD_DATA, TWENTY],
+            &[TEXT, THREAD_16, TWENTY],
             &[SECOND_SECTION, START],
             &[
                 Relocation(3, 0, R_DTPOFF64, 1, 8),
