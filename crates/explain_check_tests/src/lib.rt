@@ -2,22 +2,4 @@
 #![tactic(auto)]
 
 #[cfg(test)]
-mod bytes;
-#[cfg(test)]
-mod lines;
-#[cfg(test)]
-mod map_lines;
-#[cfg(test)]
-mod offset_tables;
-#[cfg(test)]
-mod other_links;
-#[cfg(test)]
-mod placing;
-#[cfg(test)]
-mod relocations;
-#[cfg(test)]
-mod samples;
-#[cfg(test)]
-mod symbol_tables;
-#[cfg(test)]
-mod thread_blocks;
+mod tests;

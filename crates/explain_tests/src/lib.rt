@@ -2,8 +2,4 @@
 #![tactic(auto)]
 
 #[cfg(test)]
-mod bad_objects;
-#[cfg(test)]
-mod lines;
-#[cfg(test)]
-mod refused_links;
+mod tests;

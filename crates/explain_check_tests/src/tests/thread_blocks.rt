@@ -1,10 +1,10 @@
 //! C8: a PT_TLS header that is another than the thread-local sections ask for, and what stands among their bytes.
-use crate::lines::{Row, assert_rows};
-use crate::samples::{LOADER, THREAD_DATA, WITH_THREAD_ZEROS};
+use crate::tests::lines::{Row, assert_rows};
+use crate::tests::samples::WITH_THREAD_ZEROS;
 use elf_model::{SHF_ALLOC, SHF_WRITE};
 use link_samples::links::{Change, File};
 use link_samples::objects::{Relocation, Section};
-use link_samples::parts::{DATA, START, TEXT, WEAK_NO_F};
+use link_samples::parts::{DATA, LOADER, START, TEXT, THREAD_DATA, WEAK_NO_F};
 use std::test::Fail;
 
 /// The thread-local data as plain data.
@@ -39,28 +39,24 @@ const ROOM_AND_SLOT: &[File] = &[File::Object(
 static THREAD_BLOCKS: [Row; 6] = [
     (
         THREADED,
-        "-s a.o",
         Change::Files(UNTHREADED),
         "PT_TLS: at 0x402000, file offset 0x2000, 0x4 bytes in the file and 0x4 in memory, alignment 0x4; it should be: \
          none\n",
     ),
     (
         UNTHREADED,
-        "-s a.o",
         Change::Files(THREADED),
         "PT_TLS: none; it should be: at 0x402000, file offset 0x2000, 0x4 bytes in the file and 0x4 in memory, alignment \
          0x4\n",
     ),
     (
         WITH_THREAD_ZEROS,
-        "-s a.o",
         Change::Image(0x108, 3),
         "PT_TLS: at 0x402000, file offset 0x2000, 0x3 bytes in the file and 0xc in memory, alignment 0x8; it should be: \
          at 0x402000, file offset 0x2000, 0x4 bytes in the file and 0xc in memory, alignment 0x8\n",
     ),
     (
         WITH_THREAD_ZEROS,
-        "-s a.o",
         Change::Text("place 0000000000402008", "place 0000000000401ff8"),
         "PT_TLS: at 0x402000, file offset 0x2000, 0x4 bytes in the file and 0xc in memory, alignment 0x8; it should be: \
          at 0x401ff8, file offset 0x1ff8, 0xc bytes in the file and 0xc in memory, alignment 0x8\n\
@@ -68,13 +64,11 @@ static THREAD_BLOCKS: [Row; 6] = [
     ),
     (
         WITH_ROOM,
-        "-s a.o",
         Change::Text("place 0000000000402028", "place 0000000000402008"),
         "a.o: section 4 .data at 0x402008 is among the thread-local bytes, from 0x402000 to 0x402024\n",
     ),
     (
         ROOM_AND_SLOT,
-        "-s a.o",
         Change::Text(
             "got 0000000000402028 16\nslot 0000000000402030",
             "got 0000000000402008 16\nslot 0000000000402010",

@@ -1,10 +1,10 @@
 //! Objects that are refused: the lines that tell the section, the symbol, the entry or the member at fault.
-use crate::lines::lines_of;
+use crate::tests::lines::lines_of;
 use bad_parts::bad_part;
-use elf_model::{InputFile, ObjFault, SHT_GROUP, SHT_REL, SHT_SYMTAB, SHT_SYMTAB_SHNDX};
+use elf_model::{InputFile, ObjFault, SHT_REL, SHT_SYMTAB, SHT_SYMTAB_SHNDX};
 use link_samples::objects::{NamedSymbol, Relocation, Section, relocatable};
 use link_samples::one_object::one_file;
-use link_samples::parts::{DATA, F, R_PC32, START, TEXT};
+use link_samples::parts::{DATA, F, GROUP, NOTES, R_PC32, START, TEXT};
 use std::alloc::Global;
 use std::test::Fail;
 
@@ -44,19 +44,16 @@ const SKEWED: Section<'static> = Section {
 const SECTION_NUMBERS: Section<'static> = Section {
     name: ".shndx",
     sh_type: SHT_SYMTAB_SHNDX,
-    sh_flags: 0,
     sh_addralign: 4,
     bytes: &[0; 4],
-    ..TEXT
+    ..NOTES
 };
 
 const OTHER_SYMBOLS: Section<'static> = Section {
     name: ".symtab",
     sh_type: SHT_SYMTAB,
-    sh_flags: 0,
-    sh_addralign: 8,
     bytes: &[0; 24],
-    ..TEXT
+    ..NOTES
 };
 
 /// A function that is resolved when the program runs, and one that is unique in a process.
@@ -138,21 +135,15 @@ static SECTIONS_AND_SYMBOLS: [Row; 9] = [
 const NO_ADDENDS: Section<'static> = Section {
     name: ".rel",
     sh_type: SHT_REL,
-    sh_flags: 0,
-    sh_addralign: 8,
     bytes: &[0; 16],
-    ..TEXT
+    ..NOTES
 };
 
 /// A group of five bytes, one whose signature is symbol 9, and one of which section 0 is a member.
 const CUT_GROUP: Section<'static> = Section {
-    name: ".group",
-    sh_type: SHT_GROUP,
-    sh_flags: 0,
-    sh_addralign: 4,
     bytes: &[1, 0, 0, 0, 2],
     signature: 1,
-    ..TEXT
+    ..GROUP
 };
 
 const UNSIGNED: Section<'static> = Section {

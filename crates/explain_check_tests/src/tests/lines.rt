@@ -2,14 +2,14 @@
 use check_link::Link;
 use elf_model::InputFile;
 use explain_check::{explain_check, read_link, write_check_place};
-use link_samples::links::{Change, File, changed};
+use link_samples::links::{Change, File, changed, path_of};
 use link_samples::one_object::words_of;
 use std::alloc::Global;
 use std::process::Abort;
 use std::test::Fail;
 
-/// Files, the words of a line, a change of their link, and the lines of where its check fails.
-pub type Row = (&'static [File], &'static str, Change, &'static str);
+/// Files, a change of their link without a symbol table, and the lines of where its check fails.
+pub type Row = (&'static [File], Change, &'static str);
 
 /// The lines of where the check of a link fails, so many at most, and how many more places there are.
 fn places_of(alloc: Global, link: &Link<'_>, most: usize) -> Result<String, Fail> {
@@ -40,9 +40,14 @@ pub fn lines_of(
     places_of(alloc, &link, most)
 }
 
-/// The lines of where the check of a row's link fails, so many at most, and how many more places there are.
-pub fn row_lines(alloc: Global, row: &Row, most: usize) -> Result<String, Fail> {
-    let (files, line, change, _) = row;
+/// The lines of where the check of a changed link fails, so many at most, and how many more places there are.
+pub fn changed_lines(
+    alloc: Global,
+    files: &[File],
+    line: &str,
+    change: &Change,
+    most: usize,
+) -> Result<String, Fail> {
     let words = words_of(alloc, line)?;
     let (files, output) = changed(alloc, files, &words, change)?;
     let line = if let Change::Words(other) = change {
@@ -54,11 +59,22 @@ pub fn row_lines(alloc: Global, row: &Row, most: usize) -> Result<String, Fail> 
     lines_of(alloc, &files, &words, &output.image, &output.map, most)
 }
 
+/// That of the link of a row's files.
+pub fn row_lines(alloc: Global, row: &Row, most: usize) -> Result<String, Fail> {
+    let (files, change, _) = row;
+    let mut line = String::from_str(alloc, "-s")?;
+    for file in files.iter() {
+        line.push(' ')?;
+        line.push_str(path_of(file))?;
+    }
+    changed_lines(alloc, files, &line, change, most)
+}
+
 /// Asserts that the checks of rows fail where they say.
 pub fn assert_rows<R: AllocGlobal + Abort>(rt: &R, rows: &[Row]) -> Result<(), Fail> {
     for (number, row) in rows.iter().enumerate() {
         let lines = row_lines(rt.alloc(), row, 9)?;
-        assert_eq!(rt; lines.as_str(), row.3, "row {number}");
+        assert_eq!(rt; lines.as_str(), row.2, "row {number}");
     }
     Ok(())
 }

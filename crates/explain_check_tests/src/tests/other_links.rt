@@ -1,10 +1,10 @@
 //! Images that are changed in several bytes, or checked with other files and another map.
-use crate::lines::lines_of;
-use crate::samples::{PLAIN, THREAD_DATA, WITH_DATA};
+use crate::tests::lines::lines_of;
+use crate::tests::samples::{PLAIN, WITH_DATA};
 use link_samples::links::{File, files_of, linked_by};
 use link_samples::objects::Section;
 use link_samples::one_object::words_of;
-use link_samples::parts::{BSS, START, TEXT};
+use link_samples::parts::{BSS, START, TEXT, THREAD_DATA};
 use std::alloc::Global;
 use std::test::Fail;
 

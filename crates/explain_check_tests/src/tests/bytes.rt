@@ -1,6 +1,6 @@
 //! C10 and C11: bytes of sections that are others than they should be, fill, and where segments and the file end.
-use crate::lines::{Row, assert_rows};
-use crate::samples::WITH_DATA;
+use crate::tests::lines::{Row, assert_rows};
+use crate::tests::samples::WITH_DATA;
 use link_samples::links::{Change, File};
 use link_samples::objects::{NamedSymbol, Relocation, Section};
 use link_samples::parts::{DATA, F, R_64, START, TEXT};
@@ -18,13 +18,11 @@ const POINTING: &[File] = &[File::Object(
 static BYTES: [Row; 2] = [
     (
         WITH_DATA,
-        "-s a.o",
         Change::Image(0x1001, 0x3d),
         "a.o: section 1 .text: byte 0x1 at 0x401001 is 0x3d, and should be 0x3c\n",
     ),
     (
         POINTING,
-        "-s a.o",
         Change::Image(0x2001, 0x11),
         "a.o: section 2 .data: byte 0x1 at 0x402001 is 0x11, and should be 0x10: relocation 0 of section 5, R_X86_64_64, to \
          symbol 1 _start\n",
@@ -51,26 +49,22 @@ const GAPPED: &[File] = &[File::Object("a.o", &[TEXT, ALIGNED], &[START, F_IN_2]
 static FILLS: [Row; 4] = [
     (
         GAPPED,
-        "-s a.o",
         Change::Image(0x100a, 0),
         "0x40100a: 0x00 is in no section, and should be 0x90 in a segment with R E\n",
     ),
     (
         WITH_DATA,
-        "-s a.o",
         Change::Image(0x200, 1),
         "offset 0x200 of the image: 0x01 is in no segment, and should be 0x00\n",
     ),
     (
         WITH_DATA,
-        "-s a.o",
         Change::Image(0xd0, 7),
         "segment 2 at 0x402000: its file part ends at 0x402007, and should end at 0x402008\n\
          the image has 0x2008 bytes, and its last file part ends at 0x2007\n",
     ),
     (
         WITH_DATA,
-        "-s a.o",
         Change::Image(0xd8, 12),
         "segment 2 at 0x402000: its memory ends at 0x40200c, and should end at 0x402008\n",
     ),

@@ -1,6 +1,6 @@
 //! C7: a GOT that should be there or not, its slots, their places and the bytes that memory has of it.
-use crate::lines::{Row, assert_rows};
-use crate::samples::LOADING;
+use crate::tests::lines::{Row, assert_rows};
+use crate::tests::samples::LOADING;
 use link_samples::links::Change;
 use std::test::Fail;
 
@@ -10,20 +10,17 @@ const SLOT: &str = "got 0000000000402008 16\nslot 0000000000402010 value name v\
 static GOTS: [Row; 7] = [
     (
         LOADING,
-        "-s a.o",
         Change::Text(SLOT, "slot 0000000000402010 value name v\n"),
         "the map has no GOT, and a relocation asks for one\n",
     ),
     (
         LOADING,
-        "-s a.o",
         Change::Text(SLOT, "got 0000000000402008 16\n"),
         "a.o: .text+0x3: relocation 0 of section 5, R_X86_64_REX_GOTPCRELX, to symbol 2 v: no line of the map has its slot\n\
          the GOT at 0x402008 has 0x10 bytes, and should have 0x8\n",
     ),
     (
         LOADING,
-        "-s a.o",
         Change::Text(
             SLOT,
             "got 0000000000402008 16\nslot 0000000000402008 value name v\n",
@@ -32,7 +29,6 @@ static GOTS: [Row; 7] = [
     ),
     (
         LOADING,
-        "-s a.o",
         Change::Text(
             SLOT,
             "got 0000000000402008 16\nslot 0000000000402010 thread name v\n",
@@ -42,7 +38,6 @@ static GOTS: [Row; 7] = [
     ),
     (
         LOADING,
-        "-s a.o",
         Change::Text(
             SLOT,
             "got 0000000000402008 16\nslot 0000000000402008 value name v\nslot 0000000000402010 value name v\n",
@@ -54,13 +49,11 @@ static GOTS: [Row; 7] = [
     ),
     (
         LOADING,
-        "-s a.o",
         Change::Image(0x2008, 0x55),
         "the GOT: byte 0x0 at 0x402008 is 0x55, and should be 0x00\n",
     ),
     (
         LOADING,
-        "-s a.o",
         Change::Image(0x2012, 0x55),
         "the GOT: byte 0xa at 0x402012 is 0x55, and should be 0x40\n",
     ),

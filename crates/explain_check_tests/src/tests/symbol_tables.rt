@@ -1,6 +1,6 @@
 //! C12 and C14: the entry, and the symbol table with what the map and the file header tell of it.
-use crate::lines::{Row, assert_rows, row_lines};
-use crate::samples::PLAIN;
+use crate::tests::lines::{Row, assert_rows, changed_lines, row_lines};
+use crate::tests::samples::PLAIN;
 use link_samples::links::Change;
 use std::test::Fail;
 
@@ -8,13 +8,11 @@ use std::test::Fail;
 static ENTRY: [Row; 2] = [
     (
         PLAIN,
-        "-s a.o",
         Change::Image(24, 1),
         "the entry _start is at 0x401000, and e_entry is 0x401001\n",
     ),
     (
         PLAIN,
-        "-s a.o",
         Change::Words("-s a.o -e x"),
         "the entry x has no definition outside thread-local storage\n",
     ),
@@ -28,7 +26,6 @@ fn the_entry_is_explained(rt: HostRuntime) -> Result<(), Fail> {
 /// A line of a table under -s.
 const TOLD: Row = (
     PLAIN,
-    "-s a.o",
     Change::Text("end\n", "symtab 4112 2\nend\n"),
     "the map has a symtab line, and -s is among the words\n\
      the file header: e_shnum is 0 and should be 4, e_shstrndx is 0 and should be 3\n\
@@ -37,35 +34,24 @@ const TOLD: Row = (
 );
 
 /// The offset and the count of a line; a byte of an entry and one of a name; `e_shoff`.
-static TABLES: [Row; 6] = [
-    TOLD,
+static TABLES: [(Change, &str); 5] = [
     (
-        PLAIN,
-        "a.o",
         Change::Text("symtab 4112 2", "symtab 4120 2"),
         "the map's symtab line says offset 4120, and should say 4112\n",
     ),
     (
-        PLAIN,
-        "a.o",
         Change::Text("symtab 4112 2", "symtab 4112 3"),
         "the map's symtab line says 3 entries, and should say 2\n",
     ),
     (
-        PLAIN,
-        "a.o",
         Change::Image(4144, 1),
         "the image at byte 0x1030, after its last segment, in entry 1 of the symbol table, of _start: 0x01, and should be 0x00\n",
     ),
     (
-        PLAIN,
-        "a.o",
         Change::Image(4161, 0x78),
         "the image at byte 0x1041, after its last segment: 0x78, and should be 0x5f\n",
     ),
     (
-        PLAIN,
-        "a.o",
         Change::Image(40, 0x60),
         "the file header: e_shoff is 0x1060, and should be 0x1068\n",
     ),
@@ -73,7 +59,11 @@ static TABLES: [Row; 6] = [
 
 #[test]
 fn symbol_tables_are_explained(rt: HostRuntime) -> Result<(), Fail> {
-    assert_rows(&rt, &TABLES)
+    for (change, wanted) in &TABLES {
+        let lines = changed_lines(rt.alloc(), PLAIN, "a.o", change, 9)?;
+        assert_eq!(rt; lines.as_str(), *wanted);
+    }
+    assert_rows(&rt, &[TOLD])
 }
 
 /// How many lines of four are told.

@@ -1,10 +1,13 @@
 //! Why links are refused: the lines of each error, the places in the order in which they are met.
-use crate::lines::lines_of;
-use elf_model::{SHF_ALLOC, SHF_EXECINSTR, SHF_TLS, SHF_WRITE, SHT_GROUP};
+use crate::tests::lines::lines_of;
+use elf_model::{SHF_ALLOC, SHF_EXECINSTR, SHF_WRITE};
 use link_samples::links::{File, Member, files_of};
 use link_samples::objects::{NamedSymbol, Relocation, Section};
 use link_samples::one_object::one_file;
-use link_samples::parts::{BSS, DATA, F, NO_F, R_64, R_PC32, R_PLT32, START, TEXT};
+use link_samples::parts::{
+    BSS, COMMON, DATA, F, FOO, GROUP, LOCAL, NO_F, NOTES, R_64, R_PC32, R_PLT32, START, STOP_FOO,
+    TEXT, THREAD_DATA, ZEROS_FOO,
+};
 use std::process::Abort;
 use std::test::Fail;
 
@@ -110,13 +113,9 @@ const NESTED: File = File::Bytes(
 
 /// A group whose flags are none of COMDAT's.
 const BAD_GROUP: Section<'static> = Section {
-    name: ".group",
-    sh_type: SHT_GROUP,
-    sh_flags: 0,
-    sh_addralign: 4,
     bytes: &[2, 0, 0, 0, 2, 0, 0, 0],
-    memory: 0,
     signature: 1,
+    ..GROUP
 };
 
 const START_IN_2: NamedSymbol<'static> = NamedSymbol {
@@ -245,12 +244,9 @@ const HUGE: Section<'static> = Section {
 
 const NAMELESS: NamedSymbol<'static> = NamedSymbol { name: "", ..F };
 
-const COMMON: NamedSymbol<'static> = NamedSymbol {
-    name: "c",
-    st_info: 0x11,
-    st_shndx: 0xfff2,
+const SKEWED_COMMON: NamedSymbol<'static> = NamedSymbol {
     st_value: 3,
-    st_size: 8,
+    ..COMMON
 };
 
 const OTHER_F: File = File::Object("b.o", &[TEXT], &[F], &[]);
@@ -286,7 +282,7 @@ const NAMES: [Row; 6] = [
          its section\n",
     ),
     (
-        &[File::Object("a.o", &[TEXT], &[START, COMMON], &[])],
+        &[File::Object("a.o", &[TEXT], &[START, SKEWED_COMMON], &[])],
         "a.o",
         9,
         "a.o: symbol 2 c: a common symbol must be GLOBAL, not of type TLS, and aligned to a power of two up to 2^21\n",
@@ -315,39 +311,6 @@ const NAMES: [Row; 6] = [
 fn sections_and_symbols_are_named(rt: HostRuntime) -> Result<(), Fail> {
     assert_rows(&rt, &NAMES)
 }
-
-/// A LOCAL symbol of section 2, and a section that takes up no memory.
-const LOCAL: NamedSymbol<'static> = NamedSymbol {
-    name: "l",
-    st_info: 0,
-    st_shndx: 2,
-    ..NO_F
-};
-
-const NOTES: Section<'static> = Section {
-    name: ".notes",
-    sh_flags: 0,
-    ..DATA
-};
-
-const THREAD: Section<'static> = Section {
-    name: ".tdata",
-    sh_flags: SHF_ALLOC | SHF_WRITE | SHF_TLS,
-    ..DATA
-};
-
-/// Two sections of one name that are of several output sections, and the linker's name for where they end.
-const FOO: Section<'static> = Section {
-    name: "foo",
-    ..DATA
-};
-
-const ZEROS_FOO: Section<'static> = Section { name: "foo", ..BSS };
-
-const STOP_FOO: NamedSymbol<'static> = NamedSymbol {
-    name: "__stop_foo",
-    ..NO_F
-};
 
 const LONG_TEXT: Section<'static> = Section {
     bytes: &[0x90; 24],
@@ -494,7 +457,7 @@ const RELOCATIONS: [Row; 14] = [
     (
         &[File::Object(
             "a.o",
-            &[TEXT, THREAD],
+            &[TEXT, THREAD_DATA],
             &[LOCAL, START],
             &[Relocation(1, 0, R_PC32, 1, 0)],
         )],

@@ -1,0 +1,11 @@
+//! The tests, and what they are made of.
+mod bytes;
+mod lines;
+mod map_lines;
+mod offset_tables;
+mod other_links;
+mod placing;
+mod relocations;
+mod samples;
+mod symbol_tables;
+mod thread_blocks;

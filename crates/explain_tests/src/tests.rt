@@ -1,0 +1,4 @@
+//! The tests, and what they are made of.
+mod bad_objects;
+mod lines;
+mod refused_links;
