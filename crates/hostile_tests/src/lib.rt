@@ -3,12 +3,4 @@
 #![tactic(auto)]
 
 #[cfg(test)]
-mod images;
-#[cfg(test)]
-mod inputs;
-#[cfg(test)]
-mod maps;
-#[cfg(test)]
-mod numbers;
-#[cfg(test)]
-mod samples;
+mod tests;

@@ -1,5 +1,5 @@
 //! Maps that are cut off, or that have another byte, with and without the line of a symbol table.
-use crate::samples::{Sample, sample_of};
+use crate::tests::samples::{Sample, sample_of};
 use ld_main::{Clause, Verdict};
 use std::alloc::Global;
 use std::test::Fail;

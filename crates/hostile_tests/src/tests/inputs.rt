@@ -1,5 +1,5 @@
 //! Objects and archives that are cut off, or that have another byte: they are refused, or their link is right.
-use crate::samples::{CHANGES, change_byte};
+use crate::tests::samples::{CHANGES, change_byte};
 use byteview::View;
 use elf_model::{InputFile, LinkError};
 use elf_read::Object;

@@ -1,5 +1,5 @@
 //! Images that are cut off, or that have another byte or one byte more, with and without a symbol table.
-use crate::samples::{CHANGES, Sample, change_byte, sample_of};
+use crate::tests::samples::{CHANGES, Sample, change_byte, sample_of};
 use ld_main::{Clause, Verdict};
 use std::alloc::Global;
 use std::test::Fail;
