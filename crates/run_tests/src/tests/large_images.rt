@@ -1,7 +1,7 @@
 //! The image of a link with more data than is gathered before the file is written, byte by byte, also of a file that takes
 //! fewer bytes than it is given.
-use crate::machine::StoredFile;
-use crate::runs::{Outcome, run_line};
+use crate::tests::machine::StoredFile;
+use crate::tests::runs::{Outcome, run_line};
 use link_samples::objects::{Relocation, Section, relocatable};
 use link_samples::parts::{DATA, R_64, START, TEXT as TEXT_SECTION};
 use link_samples::vectors::{TEXT, TEXT_OFFSET};

@@ -1,6 +1,6 @@
 //! Images with pages of zeros: which bytes are passed over, and what the file holds.
-use crate::machine::{Kind, NewFiles, SOUND, StoredFile};
-use crate::runs::{Outcome, run_line, run_line_with, spelled};
+use crate::tests::machine::{Kind, NewFiles, SOUND, StoredFile};
+use crate::tests::runs::{Outcome, run_line, run_line_with, spelled};
 use link_samples::objects::{Section, relocatable};
 use link_samples::parts::{DATA, START, TEXT};
 use std::alloc::Global;

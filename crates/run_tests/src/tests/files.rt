@@ -1,6 +1,6 @@
 //! The files that a run opens, in order, and what comes of input that answers in another way than a disk mostly does.
-use crate::machine::StoredFile;
-use crate::runs::{Outcome, run_line, spelled};
+use crate::tests::machine::StoredFile;
+use crate::tests::runs::{Outcome, run_line, spelled};
 use link_samples::objects::{Relocation, relocatable};
 use link_samples::parts::{NO_F, R_PC32, START, TEXT};
 use link_samples::vectors::{MAP, OBJECT, image};

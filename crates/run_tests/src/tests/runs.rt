@@ -1,5 +1,5 @@
 //! Runs of the program on a system in memory, and all that comes of one.
-use crate::machine::{Disk, Machine, NewFiles, SOUND, StoredFile};
+use crate::tests::machine::{Disk, Machine, NewFiles, SOUND, StoredFile};
 use elf_model::InputFile;
 use ld_main::run_args;
 use std::alloc::Global;

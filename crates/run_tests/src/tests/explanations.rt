@@ -1,5 +1,5 @@
 //! What `ld-why` prints of a check, on a system in memory.
-use crate::machine::{Disk, Machine, SOUND, StoredFile};
+use crate::tests::machine::{Disk, Machine, SOUND, StoredFile};
 use link_samples::links::{Change, File, changed};
 use link_samples::one_object::words_of;
 use link_samples::parts::{START, TEXT};

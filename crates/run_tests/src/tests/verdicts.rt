@@ -1,6 +1,6 @@
 //! The line that a check prints for each clause, of links that are wrong in one place.
-use crate::machine::StoredFile;
-use crate::runs::run_line;
+use crate::tests::machine::StoredFile;
+use crate::tests::runs::run_line;
 use elf_model::{SHF_ALLOC, SHF_TLS, SHF_WRITE};
 use link_samples::links::{Change, File, changed};
 use link_samples::objects::{NamedSymbol, Relocation, Section};

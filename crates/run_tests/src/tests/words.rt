@@ -1,6 +1,6 @@
 //! The words that the system hands to the program.
-use crate::machine::{SOUND, StoredFile};
-use crate::runs::{run, spelled};
+use crate::tests::machine::{SOUND, StoredFile};
+use crate::tests::runs::{run, spelled};
 use link_samples::vectors::OBJECT;
 use std::test::Fail;
 

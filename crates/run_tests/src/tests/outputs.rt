@@ -1,7 +1,7 @@
 //! What a run makes, and in which order: a new file beside each path, which gets its name at the
 //! end; and what is there after a fault.
-use crate::machine::{Kind, NewFiles, SOUND, StoredFile};
-use crate::runs::{run_line_with, spelled};
+use crate::tests::machine::{Kind, NewFiles, SOUND, StoredFile};
+use crate::tests::runs::{run_line_with, spelled};
 use link_samples::vectors::OBJECT;
 use std::alloc::Global;
 use std::io::ErrorKind;

@@ -1,0 +1,11 @@
+//! The tests, and what they are made of.
+mod explanations;
+mod files;
+mod large_images;
+mod machine;
+mod outputs;
+mod runs;
+mod sparse_images;
+mod system_files;
+mod verdicts;
+mod words;
