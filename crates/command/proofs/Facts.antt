@@ -27,21 +27,18 @@ last_said_is : {X : Type 0} (says : Phrase → Option X) (P : X → Type 0) (d :
 last_said_is says P d each k words ps h = otherwise P (last_or None (filter_map says ps)) d (last_of P None (filter_map says ps) tt (said_all says P each words ps h)) k
 
 -- what each phrase says, by its spelling
-output_is : (ws : List (List ℕ)) (p : Phrase) → IsSpelled ws p → IfSome (output_in p) (λ v. v ≢ [])
-output_is ws (Output v) h = h.1
-output_is ws p h = tt
+record IsSaid (p : Phrase) : Type 0 where
+  output : IfSome (output_in p) (λ v. v ≢ [])
+  entry : IfSome (entry_in p) (λ v. v ≢ [])
+  undefined : IfSome (undefined_in p) (λ v. v ≢ [])
+  map : IfSome (map_in p) (λ v. v ≢ [])
 
-entry_is : (ws : List (List ℕ)) (p : Phrase) → IsSpelled ws p → IfSome (entry_in p) (λ v. v ≢ [])
-entry_is ws (Entry v) h = h.1
-entry_is ws p h = tt
-
-undefined_is : (ws : List (List ℕ)) (p : Phrase) → IsSpelled ws p → IfSome (undefined_in p) (λ v. v ≢ [])
-undefined_is ws (Undefined v) h = h.1
-undefined_is ws p h = tt
-
-map_is : (ws : List (List ℕ)) (p : Phrase) → IsSpelled ws p → IfSome (map_in p) (λ v. v ≢ [])
-map_is ws (MapFile v) h = h.1
-map_is ws p h = tt
+said_is : (ws : List (List ℕ)) (p : Phrase) → IsSpelled ws p → IsSaid p
+said_is ws (Output v) h = record { output = h.1; entry = tt; undefined = tt; map = tt }
+said_is ws (Entry v) h = record { output = tt; entry = h.1; undefined = tt; map = tt }
+said_is ws (Undefined v) h = record { output = tt; entry = tt; undefined = h.1; map = tt }
+said_is ws (MapFile v) h = record { output = tt; entry = tt; undefined = tt; map = h.1 }
+said_is ws p h = record { output = tt; entry = tt; undefined = tt; map = tt }
 
 directory_is : (ws : List (List ℕ)) (p : Phrase) → IsSpelled ws p → IfSome (directory_in p) (λ v. v ≢ [])
 directory_is ws (Directory v) (inl h) = h.1
@@ -93,8 +90,8 @@ pub names_hold : (words : List (List ℕ)) (phrases : List Phrase) (plan : Plan)
 names_hold words phrases plan h = subst IsNamed (sym h.plan_is) (record {
   items = items_are [] words phrases h.spelled;
   directories = said_all directory_in (λ v. v ≢ []) directory_is words phrases h.spelled;
-  undefined = said_all undefined_in (λ v. v ≢ []) undefined_is words phrases h.spelled;
-  entry = last_said_is entry_in (λ v. v ≢ []) (codes "_start") entry_is (λ e. absurd cc) words phrases h.spelled;
-  output = last_said_is output_in (λ v. v ≢ []) (codes "a.out") output_is (λ e. absurd cc) words phrases h.spelled;
-  map = no_empty (last_or None (filter_map map_in phrases)) (last_of (λ v. v ≢ []) None (filter_map map_in phrases) tt (said_all map_in (λ v. v ≢ []) map_is words phrases h.spelled));
+  undefined = said_all undefined_in (λ v. v ≢ []) (λ ws p h. (said_is ws p h).undefined) words phrases h.spelled;
+  entry = last_said_is entry_in (λ v. v ≢ []) (codes "_start") (λ ws p h. (said_is ws p h).entry) (λ e. absurd cc) words phrases h.spelled;
+  output = last_said_is output_in (λ v. v ≢ []) (codes "a.out") (λ ws p h. (said_is ws p h).output) (λ e. absurd cc) words phrases h.spelled;
+  map = no_empty (last_or None (filter_map map_in phrases)) (last_of (λ v. v ≢ []) None (filter_map map_in phrases) tt (said_all map_in (λ v. v ≢ []) (λ ws p h. (said_is ws p h).map) words phrases h.spelled));
 })
