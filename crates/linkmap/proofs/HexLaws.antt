@@ -1,5 +1,5 @@
 -- Hexadecimal digits: the readers of 1, 2, 4, 8 and 16 digits take just their spellings.
-use Rattle.std.proofs.Common.{◌≡◌, ℕ, ◌+◌, ◌*◌, ◌-◌, ◌/◌, ◌%◌, ◌^◌, ◌<◌, Bool, true, false, cond, leb, List, [], ◌∷◌, ◌++◌, Option, Some, None, refl, ap, subst, arith, codes}
+use Rattle.std.proofs.Common.{◌≡◌, ℕ, ◌+◌, ◌*◌, ◌-◌, ◌/◌, ◌%◌, ◌^◌, ◌<◌, ◌≤◌, Bool, true, false, cond, leb, List, [], ◌∷◌, ◌++◌, Option, Some, None, refl, ap, subst, arith, codes}
 use Rattle.std.specs.Prelude.{◌&&◌}
 use Rattle.std.proofs.lemmas.Bool.{leb-true, and_parts}
 use Rattle.std.proofs.lemmas.Bool.Decides.{nat_tests}
@@ -17,13 +17,17 @@ digit_text d = hex_digit d ∷ []
 abbrev pub Below : ℕ → ℕ → Type 0
 Below m n = n < m
 
+-- a byte from a first to a last one
+ranged : (low high b : ℕ) → (leb low b && leb b high) ≡ true → (low ≤ b) × (b ≤ high)
+ranged low high b t =
+    let p = and_parts (leb low b) (leb b high) t in
+    (leb-true low b p.0, leb-true b high p.1)
+
 digit_from : (b d : ℕ) (rest left : List ℕ) → digit_at (b ∷ rest) ≡ Some (d, left) → (b ≡ hex_digit d) × (d < 16) × (rest ≡ left)
 digit_from b d rest left e = by (leb 48 b && leb b 57) refl e where
   letter : (v : Bool) → (leb 97 b && leb b 102) ≡ v → cond {A = Option (ℕ × List ℕ)} v (Some (b - 87, rest)) None ≡ Some (d, left) → (b ≡ hex_digit d) × (d < 16) × (rest ≡ left)
   letter true t h =
-      let p = and_parts (leb 97 b) (leb b 102) t in
-      let low = leb-true 97 b p.0 in
-      let high = leb-true b 102 p.1 in
+      let within = ranged 97 102 b t in
       let same = some_pair_parts (b - 87) d rest left h in
       let is = same.0 in
       (grind (arith, nat_tests), omega arith, same.1)
@@ -31,9 +35,7 @@ digit_from b d rest left e = by (leb 48 b && leb b 57) refl e where
 
   by : (v : Bool) → (leb 48 b && leb b 57) ≡ v → cond {A = Option (ℕ × List ℕ)} v (Some (b - 48, rest)) (cond (leb 97 b && leb b 102) (Some (b - 87, rest)) None) ≡ Some (d, left) → (b ≡ hex_digit d) × (d < 16) × (rest ≡ left)
   by true t h =
-      let p = and_parts (leb 48 b) (leb b 57) t in
-      let low = leb-true 48 b p.0 in
-      let high = leb-true b 57 p.1 in
+      let within = ranged 48 57 b t in
       let same = some_pair_parts (b - 48) d rest left h in
       let is = same.0 in
       (grind (arith, nat_tests), omega arith, same.1)

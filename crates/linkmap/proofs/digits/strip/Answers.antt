@@ -5,7 +5,5 @@ use Rattle.linkmap.proofs.digits.strip.Goals as goal
 
 pub returns : goal.returns
 returns c =
-    let text = c.args.text.now in
-    let bytes = c.args.bytes.now in
-    let r = c.strip_prefix.result in
-    tag_is text bytes r (strip_prefix_is Decides-eqb bytes text r c.strip_prefix.ensures.cases)
+    tag_is c.args.text.now c.args.bytes.now c.strip_prefix.result
+    (strip_prefix_is Decides-eqb c.args.bytes.now c.args.text.now c.strip_prefix.result c.strip_prefix.ensures.cases)
