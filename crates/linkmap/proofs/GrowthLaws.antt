@@ -71,6 +71,14 @@ module _ (v : ℕ) {X : Type 0} (kind : X → Line) (R : X → X → Type 0) (sa
       let e = ap (slice_get (x ∷ xs)) short ∙ slice_get_last x xs in
       subst (λ (o : Option X). MatchOption o ⊤ (λ p. R p y)) (sym e) r
 
+  -- where lines of later kinds follow these, there are none
+  last_above :
+      {E : Type 0} (k : ℕ) (xs : List X) (later : List Line) (y : X) → rank (kind y) ≤ k → All (λ x. k < rank x) later →
+      (later ≡ [] → E) → Behind v (map kind xs ++ later) (kind y) → E × IsAboveLast R xs y
+  last_above k xs later y low high ends b =
+      let none = none_later k later (kind y) low high (past (map kind xs) later (kind y) b) in
+      (ends none, above_last xs y (behind_none (map kind xs) later (kind y) none b))
+
 -- lines from one kind on are of a high rank
 pub high_symtab : (m : MapRecord) (k : ℕ) → k < 8 → All (λ x. k < rank x) (from_symtab m)
 high_symtab m k l = All-map (λ x. k < rank x) Symtab (option_to_list m.symtab) (λ i d h. l)
@@ -188,23 +196,18 @@ stands m numbered (Object o) f =
     let own = subst (λ (w : List Line). Follows m.version (last (Version m.version) w) (Object o)) (ap (λ w. map Object m.objects ++ w) e ∙ append-nil (map Object m.objects)) f in
     inl (ends_drops m e, next_object m.version m.objects numbered o own)
 stands m numbered (Drop d) f =
-    let e = none_later 2 (from_places m) (Drop d) (omega arith) (high_places m 2 (omega arith)) (at_places m (Drop d) f) in
-    inl (ends_places m e, above_last m.version Drop DropBefore (λ x y. refl) (λ x y h. h) m.drops d (behind_none (map Drop m.drops) (from_places m) (Drop d) e (at_drops m (Drop d) f)))
+    inl (last_above m.version Drop DropBefore (λ x y. refl) (λ x y h. h) 2 m.drops (from_places m) d (omega arith) (high_places m 2 (omega arith)) (ends_places m) (at_drops m (Drop d) f))
 stands m numbered (Place p) f =
-    let e = none_later 3 (from_commons m) (Place p) (omega arith) (high_commons m 3 (omega arith)) (at_commons m (Place p) f) in
-    inl (ends_commons m e, above_last m.version Place PlaceBefore (λ x y. refl) (λ x y h. h) m.places p (behind_none (map Place m.places) (from_commons m) (Place p) e (at_places m (Place p) f)))
+    inl (last_above m.version Place PlaceBefore (λ x y. refl) (λ x y h. h) 3 m.places (from_commons m) p (omega arith) (high_commons m 3 (omega arith)) (ends_commons m) (at_places m (Place p) f))
 stands m numbered (Common c) f =
-    let e = none_later 4 (from_got m) (Common c) (omega arith) (high_got m 4 (omega arith)) (at_got m (Common c) f) in
-    inl (ends_got m e, above_last m.version Common CommonBefore (λ x y. refl) (λ x y h. h) m.commons c (behind_none (map Common m.commons) (from_got m) (Common c) e (at_commons m (Common c) f)))
+    inl (last_above m.version Common CommonBefore (λ x y. refl) (λ x y h. h) 4 m.commons (from_got m) c (omega arith) (high_got m 4 (omega arith)) (ends_got m) (at_commons m (Common c) f))
 stands m numbered (Got g) f =
     let e = none_later 5 (from_slots m) (Got g) (omega arith) (high_slots m 5 (omega arith)) (at_slots m (Got g) f) in
     inl (no_second Got (λ x y. refl) (λ x y h. h) m.version m.got g (behind_none (map Got (option_to_list m.got)) (from_slots m) (Got g) e (at_got m (Got g) f)), ends_slots m e)
 stands m numbered (Slot s) f =
-    let e = none_later 6 (from_symbols m) (Slot s) (omega arith) (high_symbols m 6 (omega arith)) (at_symbols m (Slot s) f) in
-    inl (ends_symbols m e, above_last m.version Slot SlotBefore (λ x y. refl) (λ x y h. h) m.slots s (behind_none (map Slot m.slots) (from_symbols m) (Slot s) e (at_slots m (Slot s) f)))
+    inl (last_above m.version Slot SlotBefore (λ x y. refl) (λ x y h. h) 6 m.slots (from_symbols m) s (omega arith) (high_symbols m 6 (omega arith)) (ends_symbols m) (at_slots m (Slot s) f))
 stands m numbered (Symbol s) f =
-    let e = none_later 7 (from_symtab m) (Symbol s) (omega arith) (high_symtab m 7 (omega arith)) (at_symtab m (Symbol s) f) in
-    inl (ends_symtab m e, above_last m.version Symbol SymbolBefore (λ x y. refl) (λ x y h. h) m.symbols s (behind_none (map Symbol m.symbols) (from_symtab m) (Symbol s) e (at_symbols m (Symbol s) f)))
+    inl (last_above m.version Symbol SymbolBefore (λ x y. refl) (λ x y h. h) 7 m.symbols (from_symtab m) s (omega arith) (high_symtab m 7 (omega arith)) (ends_symtab m) (at_symbols m (Symbol s) f))
 stands m numbered (Symtab t) f =
     inl (no_second Symtab (λ x y. refl) (λ x y h. h) m.version m.symtab t (at_symtab m (Symtab t) f), of_version m.version (last (Version m.version) (body m)) t f)
 stands m numbered End f = inr refl
