@@ -28,48 +28,55 @@ first_stays : (first : Option SymbolRef) (s : SymbolRef) (rest : Option SymbolRe
 first_stays None s rest = refl
 first_stays (Some f) s rest = refl
 
-strong_step :
-    (k : CandidateKind) (c : Candidate) (row : Row) (rest : Option Candidate) →
-    option_or (taken_as k c row).strong (option_map (λ x. x.symbol) rest)
-    ≡ option_or row.strong (option_map (λ x. x.symbol) (cond (is_strong_kind k) (Some c) rest))
-strong_step Strong c row rest = first_stays row.strong c.symbol (option_map (λ x. x.symbol) rest)
-strong_step Weak c row rest = refl
-strong_step Common c row rest = refl
+-- what a row keeps of candidates of a kind, where it takes in one, and then others, of which the first is given
+abbrev Keeps : (CandidateKind → Bool) → (Row → Option SymbolRef) → CandidateKind → Candidate → Row → Type 0
+Keeps is part k c row =
+    (rest : Option Candidate) →
+    option_or (part (taken_as k c row)) (option_map (λ x. x.symbol) rest)
+    ≡ option_or (part row) (option_map (λ x. x.symbol) (cond (is k) (Some c) rest))
+
+record KeepsFirst (k : CandidateKind) (c : Candidate) (row : Row) : Type 0 where
+  strong : Keeps is_strong_kind (λ r. r.strong) k c row
+  weak : Keeps is_weak_kind (λ r. r.weak) k c row
+  common : Keeps is_common_kind (λ r. r.common) k c row
+
+keeps_first : (k : CandidateKind) (c : Candidate) (row : Row) → KeepsFirst k c row
+keeps_first Strong c row = record {
+  strong = λ rest. first_stays row.strong c.symbol (option_map (λ x. x.symbol) rest);
+  weak = λ rest. refl;
+  common = λ rest. refl;
+}
+keeps_first Weak c row = record {
+  strong = λ rest. refl;
+  weak = λ rest. first_stays row.weak c.symbol (option_map (λ x. x.symbol) rest);
+  common = λ rest. refl;
+}
+keeps_first Common c row = record {
+  strong = λ rest. refl;
+  weak = λ rest. refl;
+  common = λ rest. first_stays row.common c.symbol (option_map (λ x. x.symbol) rest);
+}
 
 nothing_else : (o : Option SymbolRef) → o ≡ option_or o None
 nothing_else None = refl
 nothing_else (Some s) = refl
 
--- the first strong one
+-- the first one of a kind
+row_after-first :
+    (is : CandidateKind → Bool) (part : Row → Option SymbolRef) →
+    ((k : CandidateKind) (c : Candidate) (row : Row) → Keeps is part k c row) →
+    (cs : List Candidate) (row : Row) → part (row_after cs row) ≡ option_or (part row) (first_symbol (λ c. is c.kind) cs)
+row_after-first is part keeps [] row = nothing_else (part row)
+row_after-first is part keeps (c ∷ cs) row = row_after-first is part keeps cs (taken_in c row) ∙ keeps c.kind c row (find (λ x. is x.kind) cs)
+
 pub row_after-strong : (cs : List Candidate) (row : Row) → (row_after cs row).strong ≡ option_or row.strong (first_symbol is_strong cs)
-row_after-strong [] row = nothing_else row.strong
-row_after-strong (c ∷ cs) row = row_after-strong cs (taken_in c row) ∙ strong_step c.kind c row (find is_strong cs)
+row_after-strong = row_after-first is_strong_kind (λ r. r.strong) (λ k c row. (keeps_first k c row).strong)
 
-weak_step :
-    (k : CandidateKind) (c : Candidate) (row : Row) (rest : Option Candidate) →
-    option_or (taken_as k c row).weak (option_map (λ x. x.symbol) rest)
-    ≡ option_or row.weak (option_map (λ x. x.symbol) (cond (is_weak_kind k) (Some c) rest))
-weak_step Strong c row rest = refl
-weak_step Weak c row rest = first_stays row.weak c.symbol (option_map (λ x. x.symbol) rest)
-weak_step Common c row rest = refl
-
--- the first weak one
 pub row_after-weak : (cs : List Candidate) (row : Row) → (row_after cs row).weak ≡ option_or row.weak (first_symbol is_weak cs)
-row_after-weak [] row = nothing_else row.weak
-row_after-weak (c ∷ cs) row = row_after-weak cs (taken_in c row) ∙ weak_step c.kind c row (find is_weak cs)
+row_after-weak = row_after-first is_weak_kind (λ r. r.weak) (λ k c row. (keeps_first k c row).weak)
 
-common_step :
-    (k : CandidateKind) (c : Candidate) (row : Row) (rest : Option Candidate) →
-    option_or (taken_as k c row).common (option_map (λ x. x.symbol) rest)
-    ≡ option_or row.common (option_map (λ x. x.symbol) (cond (is_common_kind k) (Some c) rest))
-common_step Strong c row rest = refl
-common_step Weak c row rest = refl
-common_step Common c row rest = first_stays row.common c.symbol (option_map (λ x. x.symbol) rest)
-
--- the first common one
 pub row_after-common : (cs : List Candidate) (row : Row) → (row_after cs row).common ≡ option_or row.common (first_symbol is_common cs)
-row_after-common [] row = nothing_else row.common
-row_after-common (c ∷ cs) row = row_after-common cs (taken_in c row) ∙ common_step c.kind c row (find is_common cs)
+row_after-common = row_after-first is_common_kind (λ r. r.common) (λ k c row. (keeps_first k c row).common)
 
 -- how many strong ones a row has seen, as far as its first
 abbrev pub ones : Option SymbolRef → ℕ
