@@ -15,7 +15,8 @@ use Rattle.elf_model.specs.Placement.{Placed}
 use Rattle.elf_model.specs.ThreadStorage.{alignment_of, block_from, is_some_thread_data, thread_block, thread_header}
 use Rattle.elf_model.specs.declared.records.ProgramHeader.{ProgramHeader}
 use Rattle.elf_model.specs.declared.tls_block.TlsBlock.{TlsBlock}
-use Rattle.elf_model.proofs.Listed.{All-from_contains, All-unmap, Contains-from_map}
+use Rattle.elf_model.proofs.Blocks.{block_pieces-each}
+use Rattle.elf_model.proofs.Listed.{All-from_contains, All-unmap}
 use Rattle.elf_model.proofs.OwnOrder.{from_own_order, is_laid_out, own_order, to_own_order}
 use Rattle.elf_model.proofs.PieceNumbers.{got_pieces-each}
 use Rattle.elf_model.proofs.Places.{All-ordered, InCode, InData, InReadOnly, InThreadRest, at_own_address, initial_aligned, own_code_within, own_data_within, own_placed_pieces, own_read_only_within, own_starts, own_thread_rest_within, some_alignment, thread_start_high}
@@ -70,6 +71,16 @@ module _ (test : Piece → Bool) where
       let g = no_wider qs ps back in
       omega (arith, l, g)
 
+-- what holds of no block, and of a piece, makes the piece a kept section
+pub kept_where :
+    (test : Piece → Bool) (objects : List LoadedObject) (p : Piece) → Contains (pieces objects) p →
+    All (λ (q : Piece). test q ≡ false) (block_pieces objects) → test p ≡ true → Contains (kept_sections objects) p
+kept_where test objects p c blocks is = by (Contains-append_cases (kept_sections objects) (block_pieces objects) p c)
+  where
+    by : Contains (kept_sections objects) p ⊎ Contains (block_pieces objects) p → Contains (kept_sections objects) p
+    by (inl kept) = kept
+    by (inr block) = absurd (false≢true (sym (All-contains (λ (q : Piece). test q ≡ false) (block_pieces objects) p blocks block) ∙ is))
+
 -- blocks and the GOT aren't thread-local
 block_plain : (b : Block) → is_thread_piece (block_piece b) ≡ false
 block_plain b = refl
@@ -77,14 +88,8 @@ block_plain b = refl
 thread_is_kept : (objects : List LoadedObject) (p : Piece) → Contains (laid_out objects) p → is_thread_piece p ≡ true → Contains (kept_sections objects) p
 thread_is_kept objects p c t = by (Contains-append_cases (pieces objects) (got_pieces objects) p c)
   where
-    in_pieces : Contains (kept_sections objects) p ⊎ Contains (block_pieces objects) p → Contains (kept_sections objects) p
-    in_pieces (inl kept) = kept
-    in_pieces (inr block) =
-        let image = Contains-from_map block_piece (blocks objects) p block in
-        absurd (false≢true (sym (block_plain image.of) ∙ (ap is_thread_piece image.is ∙ t)))
-
     by : Contains (pieces objects) p ⊎ Contains (got_pieces objects) p → Contains (kept_sections objects) p
-    by (inl piece) = in_pieces (Contains-append_cases (kept_sections objects) (block_pieces objects) p piece)
+    by (inl piece) = kept_where is_thread_piece objects p piece (block_pieces-each objects (λ (q : Piece). is_thread_piece q ≡ false) (λ k s there. refl)) t
     by (inr got) =
         absurd (false≢true (sym (All-contains (λ (q : Piece). is_thread_piece q ≡ false) (got_pieces objects) p
         (got_pieces-each objects (λ (q : Piece). is_thread_piece q ≡ false) refl) got) ∙ t))

@@ -1,5 +1,5 @@
 -- The end and the beginning of a part of the pieces that places have, with one more place, and behind the last one.
-use Rattle.std.proofs.Common.{◌≡◌, ◌∙◌, ◌+◌, ◌<◌, ◌≤◌, Bool, ℕ, List, ap, arith, drop, get_or, length, map, max}
+use Rattle.std.proofs.Common.{◌≡◌, ◌∙◌, ◌+◌, ◌<◌, ◌≤◌, Bool, ℕ, List, ap, arith, drop, get_or, length, map, max, sym}
 use Rattle.std.specs.Prelude.{Option}
 use Rattle.std.proofs.lemmas.List.{drop_all}
 use Rattle.elf_model.specs.LinkerValues.{end_of_pieces, start_of_pieces}
@@ -22,14 +22,17 @@ pub start_step :
 start_step test xs i d old new whole within is so_far =
     ap (λ (o : Option ℕ). either_least o (start_of_pieces test (map place_view (drop (i + 1) xs)))) is ∙ start_more place_view test xs i d old within ∙ so_far
 
-pub whole_end : (test : pieces.Piece → Bool) (x : ℕ) (xs : List Place) (i : ℕ) → length xs ≤ i → max x (end_of_pieces test (map place_view (drop i xs))) ≡ x
-whole_end test x xs i behind =
+-- behind the last place
+pub end_reached :
+    (test : pieces.Piece → Bool) (x whole : ℕ) (xs : List Place) (i : ℕ) → length xs ≤ i →
+    max x (end_of_pieces test (map place_view (drop i xs))) ≡ whole → x ≡ whole
+end_reached test x whole xs i behind so_far =
     let none = ap (λ (ys : List Place). max x (end_of_pieces test (map place_view ys))) (drop_all i xs behind) in
     let zero : max x 0 ≡ x = omega arith in
-    none ∙ zero
+    sym (none ∙ zero) ∙ so_far
 
-pub whole_start :
-    (test : pieces.Piece → Bool) (o : Option ℕ) (xs : List Place) (i : ℕ) → length xs ≤ i →
-    either_least o (start_of_pieces test (map place_view (drop i xs))) ≡ o
-whole_start test o xs i behind =
-    ap (λ (ys : List Place). either_least o (start_of_pieces test (map place_view ys))) (drop_all i xs behind) ∙ either_none o
+pub start_reached :
+    (test : pieces.Piece → Bool) (o whole : Option ℕ) (xs : List Place) (i : ℕ) → length xs ≤ i →
+    either_least o (start_of_pieces test (map place_view (drop i xs))) ≡ whole → o ≡ whole
+start_reached test o whole xs i behind so_far =
+    sym (ap (λ (ys : List Place). either_least o (start_of_pieces test (map place_view ys))) (drop_all i xs behind) ∙ either_none o) ∙ so_far

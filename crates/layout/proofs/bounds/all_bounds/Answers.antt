@@ -13,7 +13,7 @@ use Rattle.layout.specs.PlaceViews.{place_view, place_views}
 use Rattle.layout.specs.declared.bounds.Extent.{Extent}
 use Rattle.layout.specs.declared.runs.Place.{Place}
 use Rattle.layout.proofs.OtherPlaces.{end_more, none_more, passing, start_more}
-use Rattle.layout.proofs.PlaceSteps.{end_step, start_step, whole_end, whole_start}
+use Rattle.layout.proofs.PlaceSteps.{end_reached, end_step, start_reached, start_step}
 use Rattle.layout.proofs.bounds.all_bounds.Goals as goal
 
 pub parts_with-parts-requires : goal.parts_with-parts-requires
@@ -62,20 +62,16 @@ loop-place-preserved c =
     }
 
 pub returns-clause-code : goal.returns-clause-code
-returns-clause-code c =
-    sym (whole_end is_code_piece c.loop-place.parts.code_end c.args.places.now c.loop-place.place-index (omega (arith, c.loop-place-test.false))) ∙ c.loop-place.invariant.code
+returns-clause-code c = end_reached is_code_piece _ _ c.args.places.now c.loop-place.place-index (omega (arith, c.loop-place-test.false)) c.loop-place.invariant.code
 
 pub returns-clause-file_data : goal.returns-clause-file_data
-returns-clause-file_data c =
-    sym (whole_end is_file_data c.loop-place.parts.data_end c.args.places.now c.loop-place.place-index (omega (arith, c.loop-place-test.false))) ∙ c.loop-place.invariant.data_
+returns-clause-file_data c = end_reached is_file_data _ _ c.args.places.now c.loop-place.place-index (omega (arith, c.loop-place-test.false)) c.loop-place.invariant.data_
 
 pub returns-clause-image : goal.returns-clause-image
-returns-clause-image c =
-    sym (whole_end is_loaded_piece c.loop-place.parts.image_end c.args.places.now c.loop-place.place-index (omega (arith, c.loop-place-test.false))) ∙ c.loop-place.invariant.image
+returns-clause-image c = end_reached is_loaded_piece _ _ c.args.places.now c.loop-place.place-index (omega (arith, c.loop-place-test.false)) c.loop-place.invariant.image
 
 pub returns-clause-zeros : goal.returns-clause-zeros
-returns-clause-zeros c =
-    sym (whole_start is_zero_data c.loop-place.parts.zero_start c.args.places.now c.loop-place.place-index (omega (arith, c.loop-place-test.false))) ∙ c.loop-place.invariant.zeros
+returns-clause-zeros c = start_reached is_zero_data _ _ c.args.places.now c.loop-place.place-index (omega (arith, c.loop-place-test.false)) c.loop-place.invariant.zeros
 
 pub returns-clause-outputs : goal.returns-clause-outputs
 returns-clause-outputs c =

@@ -22,10 +22,10 @@ returns-in-Some-clause-start c =
 
 pub returns-in-Some-clause-end : goal.returns-in-Some-clause-end
 returns-in-Some-clause-end c =
+    let place = place_view c.args.place.now in
     let last = c.args.last.now in
     let table = c.args.extents.now in
     let name = c.output_name-name.result.now in
-    let place = place_view c.args.place.now in
     let is : IsLast last name c.in-Some.extent = c.in-Some.ensures in
     taken_end (extent_with last table) (λ n. cond (bytes_eq name n) (Some c.grown.result) (extent_in table n)) name c.grown.result
     place c.output_name-name.ensures
@@ -45,10 +45,10 @@ returns-clause-start c =
 
 pub returns-clause-end : goal.returns-clause-end
 returns-clause-end c =
+    let place = place_view c.args.place.now in
     let last = c.args.last.now in
     let table = c.args.extents.now in
     let name = c.output_name-name.result.now in
-    let place = place_view c.args.place.now in
     taken_end (extent_with last table) (λ n. cond (bytes_eq name n) (Some c.grown-2.result) (extent_in c.put_last.new.extents n)) name c.grown-2.result
     place c.output_name-name.ensures
     (λ n. ap (cond (bytes_eq name n) (Some c.grown-2.result)) (c.in_ok-put_last.ensures n))
