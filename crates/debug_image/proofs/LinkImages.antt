@@ -22,7 +22,7 @@ use Rattle.elf_model.proofs.Running.{rounded_up}
 use Rattle.debug_image.specs.DebugImage.{front_of}
 use Rattle.debug_image.specs.Tables.{IsSmall, Tables, fields_of, headers_at, shstrtab_end}
 use Rattle.debug_image.proofs.OwnHeaders as own
-use Rattle.debug_image.proofs.OwnHeaders.{FitFields}
+use Rattle.own_link.proofs.ImageRead.{FitFields}
 
 -- a table that there is has room
 has_room :
@@ -58,11 +58,9 @@ module _ (l : Linked) (x : Parts) (made : AreParts (loaded_of l) x) (listed : me
 
   old_fits : FitFields old
   old_fits =
-      let s =
-      own_suits base objects entry table entry_fits
+      (own_suits base objects entry table entry_fits
       (subst (λ (ms : List Meaning). IsRoomFor base objects (table_of l.plan.strip objects ms)) listed
-      (has_room base objects (meaning_views (in_order x.listed)) l.plan.strip (table_in x.listed) made.tabled)) in
-      record { entry = s.entry; offset = s.offset; count = s.count; names = s.names }
+      (has_room base objects (meaning_views (in_order x.listed)) l.plan.strip (table_in x.listed) made.tabled))).fit
 
   pub long : 64 ≤ own_end base objects
   long = let h = own.headers_long base objects made.kinds made.base made.not_too_large made.objects in omega (arith, h)

@@ -21,48 +21,11 @@ use Rattle.elf_model.specs.declared.records.ProgramHeader.{ProgramHeader}
 use Rattle.elf_model.proofs.Places.{AreOwnPlaced, are_own_placed}
 use Rattle.elf_model.proofs.RecordLaws.{file_header-again, length-file_header_bytes}
 use Rattle.own_link.proofs.HeaderTable.{length-headers}
-use Rattle.own_link.proofs.ImageOwn.{good_segments, header_count_is, own_thread_headers_of, wanted_loads}
-use Rattle.own_link.proofs.ImageRead.{file_end-long}
-use Rattle.own_link.proofs.ZeroFilled.{own_wants_zero}
+use Rattle.own_link.proofs.ImageOwn.{few_headers, good_segments, header_count_is, own_thread_headers_of, wanted_loads}
+use Rattle.own_link.proofs.ImageRead.{FitFields, file_end-long, fits_header}
+use Rattle.own_link.proofs.ZeroFilled.{loaded_wants_zero, own_wants}
 use Rattle.debug_image.specs.PlainImages.{cleared, plain_of}
 use Rattle.debug_image.proofs.PlainParts.{plain_is}
-
--- fields of a file header that fit it
-pub record FitFields (f : HeaderFields) : Type 0 where
-  pub entry : f.e_entry < 2 ^ 64
-  pub offset : f.e_shoff < 2 ^ 64
-  pub count : f.e_shnum < 2 ^ 16
-  pub names : f.e_shstrndx < 2 ^ 16
-
-fits_header : (f : HeaderFields) (n : ℕ) → FitFields f → n < 2 ^ 16 → FitsFileHeader (own_file_header f n)
-fits_header f n s c = record {
-  e_ident = refl;
-  e_type = omega arith;
-  e_machine = omega arith;
-  e_version = omega arith;
-  e_entry = s.entry;
-  e_phoff = omega arith;
-  e_shoff = s.offset;
-  e_flags = omega arith;
-  e_ehsize = omega arith;
-  e_phentsize = omega arith;
-  e_phnum = c;
-  e_shentsize = omega arith;
-  e_shnum = s.count;
-  e_shstrndx = s.names;
-}
-
--- there are few of them
-one_at_most : (b : Bool) → ◌≤◌ (count_if b) 1
-one_at_most true = omega arith
-one_at_most false = omega arith
-
-few_headers : (objects : List LoadedObject) → header_count objects < 2 ^ 16
-few_headers objects =
-    let c = one_at_most (list_any is_nonempty (code_pieces objects)) in
-    let d = one_at_most (list_any is_nonempty (data_pieces objects)) in
-    let t = one_at_most (has_thread_pieces objects) in
-    omega (arith, c, d, t)
 
 -- program headers are read behind the file header, of which only their number matters
 headers_behind :
@@ -83,14 +46,6 @@ table_behind h g rest hn gn same =
 module _ (base : ℕ) (objects : List LoadedObject) (kinds : AreLawfulKinds objects) (based : IsBase base) (fits : IsNotTooLarge base objects) (good : AreObjects objects) where
   stand : AreOwnPlaced base objects
   stand = are_own_placed base objects kinds
-
-  abbrev wants : Placed → ℕ → ℕ
-  wants q k = piece_byte objects (own_where base objects) q.piece k
-
-  wants_zero : (q : Placed) (k : ℕ) → Contains (own_loaded base objects) q → placed_has_bytes q ≡ false → wants q k ≡ 0
-  wants_zero q k c =
-      own_wants_zero objects good base stand (own_where base objects) q k
-      (Contains-append_left (own_loaded base objects) (own_thread_rest base objects) q c)
 
   abbrev programs : List ℕ
   programs = flat_map program_header_bytes (own_program_headers base objects)
@@ -135,12 +90,9 @@ module _ (base : ℕ) (objects : List LoadedObject) (kinds : AreLawfulKinds obje
   -- the segments of such an image
   bare : (tail : List ℕ) → loads (image_with (fields_without 0) tail) ≡ own_segments base objects
   bare tail =
-      wanted_loads base objects kinds based fits stand good wants wants_zero (fields_without 0) tail
+      wanted_loads base objects kinds based fits stand good (own_wants base objects) (loaded_wants_zero objects good base stand) (fields_without 0) tail
       (record {
-        entry = omega arith;
-        offset = omega arith;
-        count = omega arith;
-        names = omega arith;
+        fit = record { entry = omega arith; offset = omega arith; count = omega arith; names = omega arith };
         sections = inl (record { offset = refl; count = refl; names = refl });
       })
 

@@ -6,14 +6,13 @@ use Rattle.std.specs.List.{list_any}
 use Rattle.std.specs.Option.{option_map_or}
 use Rattle.std.proofs.lemmas.List.{append-nil}
 use Rattle.std.proofs.lemmas.List.Folds.{list_any_none}
-use Rattle.std.proofs.lemmas.List.Elements.{Contains-append_left}
 use Rattle.elf_model.specs.Command.{IsBase}
 use Rattle.elf_model.specs.Commons.{block_pieces, pieces}
-use Rattle.elf_model.specs.ImageFile.{HeaderFields, image_file, own_end, own_fields, own_file_header, own_tables, piece_byte}
+use Rattle.elf_model.specs.ImageFile.{HeaderFields, image_file, own_end, own_fields, own_file_header, own_tables}
 use Rattle.elf_model.specs.Loading.{AreObjects, LoadedObject}
 use Rattle.elf_model.specs.MemoryImage.{IsImage, loads, thread_blocks}
 use Rattle.elf_model.specs.LinkerValues.{least_of, start_of_pieces}
-use Rattle.elf_model.specs.OwnLayout.{IsNotTooLarge, code_pieces, code_start, count_if, data_pieces, data_start, got_piece, has_thread_pieces, header_count, is_nonempty, own_address, own_code, own_data, own_headers_size, own_in_load_order, own_where, own_loaded, own_read_only, own_segments, own_thread_rest, placed_has_bytes, read_only_start, segment}
+use Rattle.elf_model.specs.OwnLayout.{IsNotTooLarge, code_pieces, code_start, count_if, data_pieces, data_start, got_piece, has_thread_pieces, header_count, is_nonempty, own_address, own_code, own_data, own_headers_size, own_in_load_order, own_where, own_loaded, own_read_only, own_segments, placed_has_bytes, read_only_start, segment}
 use Rattle.elf_model.specs.Pieces.{AreLawfulKinds, Piece, is_thread_piece, kept_sections}
 use Rattle.elf_model.specs.Meaning.{Meaning}
 use Rattle.elf_model.specs.Placement.{Placed, headers_thing}
@@ -41,7 +40,7 @@ use Rattle.own_link.proofs.SegmentHeaders.{AreOwnSegments, own_segments_good}
 use Rattle.own_link.proofs.SegmentPieces.{ArePlacedIn}
 use Rattle.own_link.proofs.Segments.{AreGoodParts, own_parts, own_segments_are, segments_of}
 use Rattle.own_link.proofs.SegmentsOwn.{own_parts_good}
-use Rattle.own_link.proofs.ZeroFilled.{got_wants, own_wants_zero, piece_wants}
+use Rattle.own_link.proofs.ZeroFilled.{got_wants, loaded_wants_zero, own_wants, piece_wants}
 
 -- the own header of the thread block, where there is one
 abbrev pub own_thread_headers_of : ℕ → List LoadedObject → List ProgramHeader
@@ -110,7 +109,7 @@ few_by false true false = omega arith
 few_by false false true = omega arith
 few_by false false false = omega arith
 
-few_headers : (objects : List LoadedObject) → header_count objects < 2 ^ 16
+pub few_headers : (objects : List LoadedObject) → header_count objects < 2 ^ 16
 few_headers objects =
     few_by (list_any is_nonempty (code_pieces objects)) (list_any is_nonempty (data_pieces objects)) (has_thread_pieces objects)
 
@@ -138,19 +137,13 @@ pub own_suits :
     (base : ℕ) (objects : List LoadedObject) (entry : ℕ) (table : Option (List Meaning)) → entry < 2 ^ 64 → IsRoomFor base objects table →
     SuitsFile (own_fields base objects entry table) (own_end base objects + length (own_tables base objects table))
 own_suits base objects entry None small room = record {
-  entry = small;
-  offset = omega arith;
-  count = omega arith;
-  names = omega arith;
+  fit = record { entry = small; offset = omega arith; count = omega arith; names = omega arith };
   sections = inl (record { offset = refl; count = refl; names = refl });
 }
 own_suits base objects entry (Some ms) small room =
     let long = length-tables (own_where base objects) (own_end base objects) ms in
     record {
-      entry = small;
-      offset = omega (arith, room);
-      count = omega arith;
-      names = omega arith;
+      fit = record { entry = small; offset = omega (arith, room); count = omega arith; names = omega arith };
       sections =
           inr (record { offset = headers_at-multiple (own_end base objects) ms; inside = omega (arith, long); count = refl; names = refl });
     }
@@ -261,12 +254,10 @@ module _ (base : ℕ) (objects : List LoadedObject) (kinds : AreLawfulKinds obje
     tail = own_tables base objects table
 
     abbrev wants : Placed → ℕ → ℕ
-    wants q k = piece_byte objects (own_where base objects) q.piece k
+    wants = own_wants base objects
 
     wants_zero : (q : Placed) (k : ℕ) → Contains (own_loaded base objects) q → placed_has_bytes q ≡ false → wants q k ≡ 0
-    wants_zero q k c =
-        own_wants_zero objects are_objects base stand (own_where base objects) q k
-        (Contains-append_left (own_loaded base objects) (own_thread_rest base objects) q c)
+    wants_zero = loaded_wants_zero objects are_objects base stand
 
     pieces_held : All (HoldsPiece objects (own_where base objects) (image_file base objects entry table)) (own_in_load_order base objects)
     pieces_held =

@@ -38,12 +38,16 @@ abbrev pub made_image : HeaderFields → ℕ → ℕ → ℕ → List ProgramHea
 made_image fields count base size hs ts byte tail =
     made_headers fields count hs ts ++ (map (λ i. byte (base + i)) (range_with_len size (file_end hs - size)) ++ tail)
 
--- fields fit their records, and speak of no sections or of those at the end of a file that is so long
-pub record SuitsFile (fields : HeaderFields) (len : ℕ) : Type 0 where
+-- fields of a file header that fit it
+pub record FitFields (fields : HeaderFields) : Type 0 where
   pub entry : fields.e_entry < 2 ^ 64
   pub offset : fields.e_shoff < 2 ^ 64
   pub count : fields.e_shnum < 2 ^ 16
   pub names : fields.e_shstrndx < 2 ^ 16
+
+-- fields fit their records, and speak of no sections or of those at the end of a file that is so long
+pub record SuitsFile (fields : HeaderFields) (len : ℕ) : Type 0 where
+  pub fit : FitFields fields
   pub sections : HasNoSections (own_file_header fields 0) ⊎ HasSections len (own_file_header fields 0)
 
 -- what is read of such an image
@@ -61,8 +65,8 @@ pub record IsOwnFile (image : List ℕ) (fields : HeaderFields) (count base size
   pub bytes : (i : ℕ) → size ≤ i → i < file_end hs → slice_index image i ≡ byte (base + i)
   pub rest : drop (file_end hs) image ≡ tail
 
-fits_header : (fields : HeaderFields) (count n : ℕ) → SuitsFile fields n → count < 2 ^ 16 → FitsFileHeader (own_file_header fields count)
-fits_header fields count n s c = record {
+pub fits_header : (fields : HeaderFields) (count : ℕ) → FitFields fields → count < 2 ^ 16 → FitsFileHeader (own_file_header fields count)
+fits_header fields count s c = record {
   e_ident = refl;
   e_type = omega arith;
   e_machine = omega arith;
@@ -146,7 +150,7 @@ pub made_is_own :
 made_is_own fields count base size hs ts byte tail own blocks counted sized suits c =
     let table : List ProgramHeader = table_of hs ts in
     let h : FileHeader = own_file_header fields count in
-    let fh = fits_header fields count (file_end hs + length tail) suits c in
+    let fh = fits_header fields count suits.fit c in
     let body : List ℕ = map (λ i. byte (base + i)) (range_with_len size (file_end hs - size)) in
     let front : List ℕ = made_headers fields count hs ts in
     let fit : All FitsProgramHeader table =

@@ -1,13 +1,13 @@
 -- The pieces that memory has a place for, among all things of the own layout: the others take up nothing, so what is asked
 -- of nonempty things, and of what things cover, is asked of these.
-use Rattle.std.proofs.Common.{◌≡◌, ◌⊎◌, inl, inr, ℕ, ◌+◌, ◌<◌, ◌≤◌, Bool, true, false, cond, List, ◌∷◌, ◌++◌, map, refl, sym, ◌∙◌, ap, subst, arith}
+use Rattle.std.proofs.Common.{◌≡◌, ◌⊎◌, inl, inr, ℕ, ◌+◌, ◌<◌, ◌≤◌, true, false, cond, List, map, refl, sym, ◌∙◌, ap, subst, arith}
 use Rattle.std.specs.Prelude.{All, Any, Contains, Option}
 use Rattle.std.proofs.lemmas.Bool.{false≢true}
-use Rattle.std.proofs.lemmas.List.Elements.{All-contains, All-cons, All-head, All-tail, Contains-append_cases, Contains-append_left}
+use Rattle.std.proofs.lemmas.List.Elements.{All-contains, All-cons, Contains-append_cases, Contains-append_left}
 use Rattle.elf_model.specs.Loading.{LoadedObject}
 use Rattle.elf_model.specs.MemoryImage.{loads}
-use Rattle.elf_model.specs.OwnLayout.{got_piece, got_pieces, laid_out, own_headers_size, own_loaded, own_placed, own_thread_rest}
-use Rattle.elf_model.specs.Pieces.{AreLawfulKinds, Piece, is_thread_zero, load_size}
+use Rattle.elf_model.specs.OwnLayout.{got_piece, own_headers_size, own_loaded, own_placed, own_thread_rest}
+use Rattle.elf_model.specs.Pieces.{AreLawfulKinds, is_thread_zero, load_size}
 use Rattle.elf_model.specs.Placement.{Covers, Placed, range_of, thing_of}
 use Rattle.elf_model.specs.RightLink.{EndsRight, HasNothingElse, IsOfSegment}
 use Rattle.elf_model.specs.Slots.{has_got}

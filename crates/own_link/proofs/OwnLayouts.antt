@@ -1,5 +1,5 @@
 -- The own layout has each piece once, in load order, and a GOT just where one is asked for.
-use Rattle.std.proofs.Common.{◌≡◌, ℕ, Bool, true, false, cond, List, [], ◌∷◌, Option, None, Some, map, refl, ap}
+use Rattle.std.proofs.Common.{◌≡◌, ℕ, Bool, true, false, cond, List, [], ◌∷◌, None, Some, map, refl, ap}
 use Rattle.std.specs.Prelude.{is_some}
 use Rattle.elf_model.specs.Commons.{pieces}
 use Rattle.elf_model.specs.Loading.{LoadedObject}

@@ -1,8 +1,6 @@
 -- The lines of the own slots: they ascend, lie within the addresses, and fit their text where their targets do.
-use Rattle.std.proofs.Common.{◌≡◌, ℕ, zero, suc, ◌+◌, ◌*◌, ◌<◌, ◌≤◌, ◌^◌, ◌||◌, Bool, true, false, List, [], ◌∷◌, length, get_or, refl, sym, ◌∙◌, ap, arith}
+use Rattle.std.proofs.Common.{◌≡◌, ℕ, zero, suc, ◌+◌, ◌*◌, ◌<◌, ◌≤◌, ◌^◌, Bool, true, false, List, [], ◌∷◌, length, get_or, refl, ◌∙◌, ap, arith}
 use Rattle.std.specs.Prelude.{All, Option, Some, None, find, option_map, unwrap_or}
-use Rattle.std.specs.List.{cons_option, filter_map, list_any}
-use Rattle.std.specs.Option.{option_and_then, option_map_or}
 use Rattle.std.proofs.lemmas.List.Elements.{All-contains, All-cons, All-head, All-nil, All-tail}
 use Rattle.elf_model.specs.Loading.{LoadedObject}
 use Rattle.elf_model.specs.MapRecord.{SlotRow}
@@ -10,7 +8,7 @@ use Rattle.elf_model.specs.MapText.{Ascends, FitsSlot, FitsTarget, SlotBefore}
 use Rattle.elf_model.specs.OwnLayout.{IsNotTooLarge, got_piece, own_address, own_placed, placed_end, slot_at, slots_from}
 use Rattle.elf_model.specs.Pieces.{AreLawfulKinds}
 use Rattle.elf_model.specs.Placement.{Placed, is_of_section}
-use Rattle.elf_model.specs.Slots.{Request, asks_for_got, each_once, has_got, names_got, request_of, slot_kind_of, slots, speaks_of_got, target_of}
+use Rattle.elf_model.specs.Slots.{Request, has_got, slots}
 use Rattle.elf_model.proofs.Finding.{find-found}
 pub use Rattle.elf_model.proofs.NoSlots.{no_slots}
 use Rattle.elf_model.proofs.Places.{at_own_address, got_listed}

@@ -1,6 +1,6 @@
 -- Clause C6 holds of the own layout: the first segment begins at the base, and each nonempty thing lies whole
 -- in a segment with its rights.
-use Rattle.std.proofs.Common.{◌≡◌, ℕ, ◌+◌, ◌<◌, ◌≤◌, ◌⊎◌, ◌||◌, inl, inr, Bool, true, false, cond, not, List, [], ◌∷◌, ◌++◌, map, refl, sym, ◌∙◌, ap, subst, arith}
+use Rattle.std.proofs.Common.{◌≡◌, ℕ, ◌+◌, ◌<◌, ◌≤◌, ◌⊎◌, ◌||◌, inl, inr, Bool, true, false, cond, not, List, [], ◌∷◌, ◌++◌, refl, sym, ◌∙◌, ap, subst, arith}
 use Rattle.std.specs.Prelude.{All, Contains, Some, None}
 use Rattle.std.specs.List.{list_any}
 use Rattle.std.proofs.lemmas.Bool.{and_parts, false_from_ne_true, lt-ltb, not-true, or_left, or_right}
@@ -12,7 +12,6 @@ use Rattle.elf_model.specs.Pieces.{AreLawfulKinds, IsLawfulKind, Piece, is_execu
 use Rattle.elf_model.specs.Placement.{HasRights, LiesInSegment, Placed, got_things, range_of}
 use Rattle.elf_model.specs.Slots.{has_got}
 use Rattle.elf_model.specs.declared.records.ProgramHeader.{ProgramHeader}
-use Rattle.elf_model.specs.declared.thing.Thing.{Thing}
 use Rattle.own_link.proofs.LoadedThings.{got_loaded, nonempty_of_all}
 use Rattle.own_link.proofs.Ends.{EndsBelow, greatest_end-from, greatest_end-holds}
 use Rattle.own_link.proofs.OwnGot.{got_nonempty}

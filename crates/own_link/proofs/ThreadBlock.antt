@@ -1,16 +1,16 @@
 -- Clause C8 holds of the own layout: PT_TLS says where the thread-local pieces are, those with bytes come first, nothing
 -- else stands among them, and one PT_LOAD holds their initial bytes.
-use Rattle.std.proofs.Common.{◌≡◌, ◌⊎◌, inl, inr, ℕ, ◌+◌, ◌-◌, ◌<◌, ◌≤◌, ◌&&◌, Bool, true, false, not, cond, max, List, [], ◌∷◌, ◌++◌, Option, Some, None, map, refl, sym, ◌∙◌, ap, subst, arith}
-use Rattle.std.specs.Prelude.{All, Any, Contains, filter, nat_lt, option_map}
+use Rattle.std.proofs.Common.{◌≡◌, ◌⊎◌, inl, inr, ℕ, ◌+◌, ◌<◌, ◌≤◌, ◌&&◌, Bool, true, false, not, cond, max, List, [], ◌∷◌, ◌++◌, Option, Some, None, map, refl, sym, ◌∙◌, ap, subst, arith}
+use Rattle.std.specs.Prelude.{All, Contains, filter, nat_lt, option_map}
 use Rattle.std.specs.Option.{option_map_or}
 use Rattle.std.proofs.lemmas.Bool.{and_parts, cases_lt, false≢true, ltb-true, not-true}
-use Rattle.std.proofs.lemmas.List.Elements.{All-append, All-contains, All-cons, All-head, All-nil, Contains-append_cases, Contains-append_left, Contains-append_right}
+use Rattle.std.proofs.lemmas.List.Elements.{All-append, All-contains, All-cons, All-nil, Contains-append_cases, Contains-append_left, Contains-append_right}
 use Rattle.elf_model.specs.LinkerValues.{end_of_pieces, start_of_pieces}
 use Rattle.elf_model.specs.Loading.{AreObjects, LoadedObject}
 use Rattle.elf_model.specs.MemoryImage.{Encloses, loads, thread_blocks}
-use Rattle.elf_model.specs.OwnLayout.{IsNotTooLarge, code_pieces, code_start, data_pieces, data_start, end_of, first_start, got_line_of, got_piece, initial_pieces, loaded_start, own_code, own_data, own_got, own_in_load_order, own_loaded, own_placed, own_read_only, own_segments, own_thread_rest, placed_end, read_only_pieces, read_only_start, segment, segment_if, thread_rest_pieces, thread_rest_start, thread_start}
+use Rattle.elf_model.specs.OwnLayout.{IsNotTooLarge, code_pieces, code_start, data_pieces, data_start, end_of, first_start, got_line_of, got_piece, initial_pieces, loaded_start, own_code, own_data, own_got, own_in_load_order, own_loaded, own_read_only, own_segments, own_thread_rest, placed_end, segment_if, thread_rest_start, thread_start}
 use Rattle.elf_model.specs.Pieces.{AreLawfulKinds, Piece, has_bytes, is_nobits, is_thread_piece, is_thread_zero}
-use Rattle.elf_model.specs.Placement.{Covers, Placed, got_things, is_thread_place, thing_of}
+use Rattle.elf_model.specs.Placement.{Placed, got_things, is_thread_place, thing_of}
 use Rattle.elf_model.specs.RightLink.{HoldsInitial, IsClearOf, IsThreadBlockRight, Subject, other_things, placed_of, thread_data_end}
 use Rattle.elf_model.specs.Slots.{has_got}
 use Rattle.elf_model.specs.ThreadStorage.{block_from, is_some_thread_data, is_thread_data, thread_header, thread_headers}
@@ -18,12 +18,12 @@ use Rattle.elf_model.specs.declared.link_map.GotLine.{GotLine}
 use Rattle.elf_model.specs.declared.records.ProgramHeader.{ProgramHeader}
 use Rattle.elf_model.specs.declared.thing.Thing.{Thing}
 use Rattle.elf_model.proofs.Finding.{Any-from_contains}
-use Rattle.elf_model.proofs.Listed.{All-from_contains, All-parts, Contains-cons_cases, Contains-from_filter, Contains-from_map, Contains-nil, Contains-there}
-use Rattle.elf_model.proofs.OwnOrder.{from_initial, from_thread_rest, initial_is, plain_data, thread_rest_is}
-use Rattle.elf_model.proofs.PieceBounds.{EndsBy, all_end, end_by}
-use Rattle.elf_model.proofs.Places.{are_own_placed, at_own_address, data_aligned, initial_aligned, own_listed, thread_start_high}
-use Rattle.elf_model.proofs.Running.{HasAlignment, StandsWithin, end_of-ge, placed_within}
-use Rattle.elf_model.proofs.ThreadPlaces.{initial_within, initial_loaded, own_data_parts, own_initial, own_plain, run_piece, thread_in_initial}
+use Rattle.elf_model.proofs.Listed.{All-from_contains, All-parts, Contains-from_filter, Contains-from_map, Contains-nil, Contains-there}
+use Rattle.elf_model.proofs.OwnOrder.{from_initial, initial_is, plain_data}
+use Rattle.elf_model.proofs.PieceBounds.{EndsBy, end_by}
+use Rattle.elf_model.proofs.Places.{are_own_placed, at_own_address, data_aligned, own_listed, thread_start_high}
+use Rattle.elf_model.proofs.Running.{HasAlignment, StandsWithin, placed_within}
+use Rattle.elf_model.proofs.ThreadPlaces.{initial_within, own_data_parts, own_initial, own_plain, run_piece, thread_in_initial}
 use Rattle.own_link.proofs.ApartThings.{load_size-less}
 use Rattle.own_link.proofs.LoadedThings.{got_loaded, loaded_whole_place}
 use Rattle.own_link.proofs.Rights.{code_segment, data_segment, read_only_segment, segment_encloses, segment_there}

@@ -1,26 +1,22 @@
 -- The thread block of the own layout: it begins where the thread-local pieces do, and its header is good.
-use Rattle.std.proofs.Common.{◌≡◌, ◌⊎◌, inl, inr, ℕ, ◌+◌, ◌-◌, ◌*◌, ◌/◌, ◌%◌, ◌^◌, ◌<◌, ◌≤◌, ◌&&◌, Bool, true, false, cond, max, List, [], ◌∷◌, ◌++◌, Option, Some, None, length, map, refl, sym, ◌∙◌, ap, subst, arith, rules, div-add-mod'}
+use Rattle.std.proofs.Common.{◌≡◌, ◌⊎◌, inl, inr, ℕ, ◌+◌, ◌*◌, ◌/◌, ◌%◌, ◌^◌, ◌<◌, ◌≤◌, Bool, true, false, cond, max, List, [], ◌∷◌, ◌++◌, Option, Some, None, map, refl, sym, ◌∙◌, ap, subst, arith, rules, div-add-mod'}
 use Rattle.std.specs.Prelude.{All, Contains, nat_lt, option_map}
 use Rattle.std.specs.Int.{is_power_of_two}
 use Rattle.std.specs.Option.{option_map_or}
-use Rattle.std.proofs.lemmas.Bool.{and_parts, cases_lt, false≢true, not-true}
+use Rattle.std.proofs.lemmas.Bool.{and_parts, cases_lt, false≢true}
 use Rattle.std.proofs.lemmas.List.{map-append}
-use Rattle.std.proofs.lemmas.List.Elements.{All-append, All-contains, All-head, All-nil, All-cons, All-tail, All-weaker, Contains-append_cases, Contains-append_left, Contains-append_right}
+use Rattle.std.proofs.lemmas.List.Elements.{All-contains, All-head, All-nil, All-cons, All-tail, All-weaker, Contains-append_cases, Contains-append_left, Contains-append_right}
 use Rattle.std.proofs.Math.Nat.{mul-le-mul_right, mul-mod_left}
 use Rattle.std.proofs.lemmas.Nat.{mul-mod_second}
-use Rattle.elf_model.specs.Command.{IsBase}
 use Rattle.elf_model.specs.Commons.{block_pieces, pieces}
 use Rattle.elf_model.specs.LinkerValues.{end_of_pieces, start_of_pieces}
 use Rattle.elf_model.specs.Loading.{AreObjects, LoadedObject}
-use Rattle.elf_model.specs.MemoryImage.{IsGoodThreadBlock}
-use Rattle.elf_model.specs.OwnLayout.{IsNotTooLarge, data_start, end_of, got_pieces, initial_pieces, is_initial, is_thread_rest, laid_out, own_in_load_order, own_laid_out, own_loaded, own_places, own_placed, own_thread_rest, place_at, placed_end, placed_from, thread_rest_pieces, thread_rest_start, thread_start}
-use Rattle.elf_model.specs.Pieces.{AreLawfulKinds, Piece, has_bytes, is_nobits, is_thread_piece, is_thread_zero, kept_sections}
+use Rattle.elf_model.specs.OwnLayout.{IsNotTooLarge, data_start, end_of, got_pieces, initial_pieces, is_initial, is_thread_rest, own_in_load_order, own_loaded, own_places, own_placed, own_thread_rest, place_at, placed_end, placed_from, thread_rest_pieces, thread_rest_start, thread_start}
+use Rattle.elf_model.specs.Pieces.{AreLawfulKinds, Piece, has_bytes, is_thread_piece, kept_sections}
 use Rattle.elf_model.specs.Placement.{Placed, round_up}
-use Rattle.elf_model.specs.ThreadStorage.{alignment_of, block_from, is_some_thread_data, is_thread_data, thread_block, thread_header, thread_headers}
-use Rattle.elf_model.specs.declared.records.ProgramHeader.{ProgramHeader}
-use Rattle.elf_model.specs.declared.tls_block.TlsBlock.{TlsBlock}
+use Rattle.elf_model.specs.ThreadStorage.{alignment_of, block_from, is_some_thread_data, is_thread_data, thread_header, thread_headers}
 use Rattle.elf_model.proofs.Blocks.{block_pieces-each}
-use Rattle.elf_model.proofs.Listed.{All-from_contains, Contains-from_filter, Contains-from_map, Contains-here, Contains-map, Contains-nil}
+use Rattle.elf_model.proofs.Listed.{All-from_contains, Contains-from_map, Contains-here, Contains-nil}
 use Rattle.elf_model.proofs.OwnOrder.{from_chosen_kept, from_initial, from_thread_rest, initial_is, thread_rest_is}
 use Rattle.elf_model.proofs.PieceAlignments.{IsLawfulAlignment, kept_lawful}
 use Rattle.elf_model.proofs.PieceBounds.{BeginsFrom, EndsBy, IsStart, all_end, end_by, start_is}
@@ -28,7 +24,7 @@ use Rattle.elf_model.proofs.PieceNumbers.{got_pieces-each}
 use Rattle.elf_model.proofs.Places.{at_own_address, initial_aligned, own_all, own_listed, own_starts, some_alignment, thread_rest_aligned, thread_start_high}
 use Rattle.elf_model.proofs.PowersOfTwo.{lower_divides, power_test}
 use Rattle.elf_model.proofs.Running.{HasAlignment, StandsWithin, end_of-ge, rounded_up}
-use Rattle.elf_model.proofs.ThreadPlaces.{initial_loaded, initial_within, own_initial, own_threads, run_piece, thread_in_threads, thread_rest_within, threads_run}
+use Rattle.elf_model.proofs.ThreadPlaces.{initial_loaded, initial_within, own_initial, own_threads, thread_in_threads, thread_rest_within, threads_run}
 use Rattle.own_link.proofs.ImageRead.{AreThreadHeaders, IsThreadHeader}
 
 -- Alignments.

@@ -5,13 +5,13 @@ use Rattle.std.specs.Prelude.{◌≢◌, All, Contains, Option, Some, None, find
 use Rattle.std.specs.List.{slice_get}
 use Rattle.std.specs.Option.{option_and_then}
 use Rattle.std.proofs.lemmas.Bool.{and_parts, eq-eqb, eqb-true, false_from_ne_true, false≢true, not-false, or_right}
-use Rattle.std.proofs.lemmas.List.Elements.{All-append, All-contains, Contains-append_cases}
+use Rattle.std.proofs.lemmas.List.Elements.{All-append, All-contains, Contains-append_cases, Contains-append_left}
 use Rattle.std.proofs.lemmas.Option.{get_or_from_slice_get, slice_get_within}
 use Rattle.elf_model.specs.Commons.{block_pieces, pieces}
 use Rattle.elf_model.specs.Loading.{AreObjects, LoadedObject, is_dropped}
 use Rattle.elf_model.specs.ObjectFile.{IsObject, IsRelaSection, bytes_in_file, contents, has_no_bytes, null_section, section, sections}
 use Rattle.elf_model.specs.ImageFile.{is_got_piece, piece_byte}
-use Rattle.elf_model.specs.OwnLayout.{got_number, got_piece, got_pieces, laid_out, own_placed, placed_has_bytes}
+use Rattle.elf_model.specs.OwnLayout.{got_number, got_piece, got_pieces, laid_out, own_loaded, own_placed, own_thread_rest, own_where, placed_has_bytes}
 use Rattle.elf_model.specs.Pieces.{Piece, is_kept, is_nobits, kept_sections, piece_of}
 use Rattle.elf_model.specs.Placement.{Placed, Where}
 use Rattle.elf_model.specs.Relocation.{Relocation, is_in_field, relocations, width_of}
@@ -25,6 +25,10 @@ use Rattle.elf_model.proofs.Listed.{All-from_contains, Contains-from_map, Contai
 use Rattle.elf_model.proofs.Places.{AreOwnPlaced, at_own_address}
 use Rattle.elf_model.proofs.PieceNumbers.{got_pieces-each, pieces_low}
 use Rattle.elf_model.proofs.Sectioned.{kept-each, relocations-each}
+
+-- what the own link wants of a place's bytes
+abbrev pub own_wants : ℕ → List LoadedObject → Placed → ℕ → ℕ
+own_wants base objects q k = piece_byte objects (own_where base objects) q.piece k
 
 -- a piece that is NOBITS has no bytes of its input
 abbrev IsBare : Piece → Type 0
@@ -167,3 +171,10 @@ module _ (objects : List LoadedObject) (good : AreObjects objects) where
       by : Contains (pieces objects) q.piece ⊎ Contains (got_pieces objects) q.piece → piece_byte objects w q.piece k ≡ 0
       by (inl piece) = piece_wants w q.piece k piece ∙ wants_zero w q.piece k piece (not-false (is_nobits q.piece.header) e)
       by (inr got) = absurd (false≢true (sym (got_has_bytes q.piece got) ∙ not-false (is_nobits q.piece.header) e))
+
+  -- so do those that a segment loads
+  pub loaded_wants_zero :
+      (base : ℕ) → AreOwnPlaced base objects → (q : Placed) (k : ℕ) → Contains (own_loaded base objects) q →
+      placed_has_bytes q ≡ false → own_wants base objects q k ≡ 0
+  loaded_wants_zero base stand q k c =
+      own_wants_zero base stand (own_where base objects) q k (Contains-append_left (own_loaded base objects) (own_thread_rest base objects) q c)
