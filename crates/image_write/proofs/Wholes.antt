@@ -25,6 +25,7 @@ use Rattle.elf_model.proofs.OwnOrder.{laid_out_lawful}
 use Rattle.elf_model.proofs.PieceNumbers.{got_pieces-each, pieces_low}
 use Rattle.elf_model.proofs.Sectioned.{kept-each}
 use Rattle.own_link.proofs.ZeroFilled.{piece_headers}
+use Rattle.layout.proofs.OwnThreads.{kept_where}
 use Rattle.image_write.specs.Parts.{AreFull, IsFull, IsWhole, is_written}
 use Rattle.image_write.proofs.GotBytes.{got_sized}
 
@@ -141,14 +142,9 @@ the_got objects p c is = by (Contains-append_cases (pieces objects) (got_pieces 
 
 -- a piece that has bytes in the file is a kept section
 kept_piece : (objects : List LoadedObject) (p : Piece) → Contains (pieces objects) p → has_bytes p ≡ true → Contains (kept_sections objects) p
-kept_piece objects p c some = by (Contains-append_cases (kept_sections objects) (block_pieces objects) p c)
-  where
-    by : Contains (kept_sections objects) p ⊎ Contains (block_pieces objects) p → Contains (kept_sections objects) p
-    by (inl kept) = kept
-    by (inr block) =
-        let bare = All-contains (λ (x : Piece). has_bytes x ≡ false) (block_pieces objects) p
-        (block_pieces-each objects (λ (x : Piece). has_bytes x ≡ false) (λ k s there. block_bare (block_of objects k s))) block in
-        absurd (true≢false (sym some ∙ bare))
+kept_piece objects p c some =
+    kept_where has_bytes objects p c
+    (block_pieces-each objects (λ (x : Piece). has_bytes x ≡ false) (λ k s there. block_bare (block_of objects k s))) some
 
 module _ (base : ℕ) (objects : List LoadedObject) (good : AreObjects objects) (kinds : AreLawfulKinds objects) (stand : AreOwnPlaced base objects) where
   section_full : (q : Placed) → Contains (own_placed base objects) q → is_written q ≡ true → is_got_piece objects q.piece ≡ false → IsWhole objects q.piece
