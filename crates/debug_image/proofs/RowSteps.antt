@@ -20,8 +20,9 @@ pub rows_more :
 rows_more row found more all objects k d within is added so_far =
     let here : List SymbolOf = symbols_from k (loaded_view d) 0 (symbols (loaded_view d).bytes) in
     let rest : List SymbolOf = symbols_of (k + 1) (drop (k + 1) (loaded_views objects)) in
+    let split : filter_map row (symbols_of k (drop k (loaded_views objects))) ≡ filter_map row here ++ filter_map row rest =
+    ap (λ (xs : List LoadedObject). filter_map row (symbols_of k xs)) (next_loaded objects k d within is) ∙ filter_map-append row here rest in
     ap (λ (xs : List Row). xs ++ filter_map row rest) added
     ∙ append_assoc found (filter_map row here) (filter_map row rest)
-    ∙ ap (λ (xs : List Row). found ++ xs) (sym (filter_map-append row here rest))
-    ∙ ap (λ (xs : List LoadedObject). found ++ filter_map row (symbols_of k xs)) (sym (next_loaded objects k d within is))
+    ∙ ap (λ (xs : List Row). found ++ xs) (sym split)
     ∙ so_far

@@ -7,14 +7,20 @@ use Rattle.elf_model.specs.ObjectFile.{null_section, null_symbol}
 use Rattle.elf_model.specs.Placement.{round_up}
 use Rattle.elf_model.specs.Records.{section_header_bytes, symbol_bytes}
 use Rattle.elf_model.specs.SymbolTable.{ended, strings_header}
-use Rattle.elf_model.specs.declared.constants.TheConstants.{SHT_SYMTAB}
 use Rattle.elf_model.specs.declared.records.SectionHeader.{SectionHeader}
 use Rattle.elf_model.specs.declared.records.Symbol as entry
+use Rattle.image_write.specs.Tables.{symbols_header}
 
 -- a symbol: its name, and its entry but for st_name
 pub record Row : Type 0 where
   pub name : List ℕ
   pub entry : entry.Symbol
+
+-- The spellings of what has names, each by the offset of its name; the names are one behind the other from an offset on, each with
+-- its NUL.
+abbrev pub spelled_from : {A : Type 0} → (A → List ℕ) → (ℕ → A → List ℕ) → ℕ → List A → List ℕ
+spelled_from name spelling at [] = []
+spelled_from name spelling at (x ∷ xs) = spelling at x ++ spelled_from name spelling (at + (length (name x) + 1)) xs
 
 -- The contents of .symtab and .strtab: the entry of number 0, then those of rows, each with the offset of its name, which are one
 -- behind the other from 1 on.
@@ -22,8 +28,7 @@ abbrev pub entry_at : ℕ → Row → entry.Symbol
 entry_at at r = record r.entry { st_name = at % 2 ^ 32 }
 
 abbrev pub entries_from : ℕ → List Row → List ℕ
-entries_from at [] = []
-entries_from at (r ∷ rs) = symbol_bytes (entry_at at r) ++ entries_from (at + (length r.name + 1)) rs
+entries_from = spelled_from (λ r. r.name) (λ at r. symbol_bytes (entry_at at r))
 
 abbrev pub row_names : List Row → List ℕ
 row_names rs = flat_map (λ r. ended r.name) rs
@@ -43,11 +48,7 @@ abbrev pub header_at : ℕ → HeaderRow → SectionHeader
 header_at at r = record r.header { sh_name = at % 2 ^ 32 }
 
 abbrev pub headers_from : ℕ → List HeaderRow → List ℕ
-headers_from at [] = []
-headers_from at (r ∷ rs) = section_header_bytes (header_at at r) ++ headers_from (at + (length r.title + 1)) rs
-
-abbrev pub row_titles : List HeaderRow → List ℕ
-row_titles rs = flat_map (λ r. ended r.title) rs
+headers_from = spelled_from (λ r. r.title) (λ at r. section_header_bytes (header_at at r))
 
 abbrev pub headers : List HeaderRow → List ℕ
 headers rs = section_header_bytes null_section ++ headers_from 1 rs
@@ -55,6 +56,9 @@ headers rs = section_header_bytes null_section ++ headers_from 1 rs
 -- .shstrtab: the names of the sections, and those of the three tables.
 abbrev pub table_titles : List ℕ
 table_titles = ended (codes ".symtab") ++ (ended (codes ".strtab") ++ ended (codes ".shstrtab"))
+
+abbrev pub row_titles : List HeaderRow → List ℕ
+row_titles rs = flat_map (λ r. ended r.title) rs
 
 abbrev pub titles : List HeaderRow → List ℕ
 titles rs = 0 ∷ (row_titles rs ++ table_titles)
@@ -95,22 +99,7 @@ headers_at e t = round_up 8 (shstrtab_end e t)
 -- The header of .symtab, whose names are in the section with a number, and the first of whose entries are LOCAL; and that of a
 -- string table.
 abbrev pub symtab_row : ℕ → ℕ → ℕ → ℕ → HeaderRow
-symtab_row offset size link info = record {
-  title = codes ".symtab";
-  header =
-      record {
-        sh_name = 0;
-        sh_type = SHT_SYMTAB;
-        sh_flags = 0;
-        sh_addr = 0;
-        sh_offset = offset;
-        sh_size = size;
-        sh_link = link;
-        sh_info = info;
-        sh_addralign = 8;
-        sh_entsize = 24;
-      };
-}
+symtab_row offset size link info = record { title = codes ".symtab"; header = symbols_header 0 offset size link info }
 
 abbrev pub strings_row : List ℕ → ℕ → ℕ → HeaderRow
 strings_row title offset size = record { title = title; header = strings_header 0 offset size }

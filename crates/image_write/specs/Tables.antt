@@ -76,19 +76,20 @@ fields_of entry None = fields_without entry
 fields_of entry (Some t) = fields_with entry (headers_place t)
 
 -- the headers of its sections
-abbrev pub symbols_header_of : SymbolTable → SectionHeader
-symbols_header_of t = record {
-  sh_name = 1;
+abbrev pub symbols_header : ℕ → ℕ → ℕ → ℕ → ℕ → SectionHeader
+symbols_header name_at offset size link info = record null_section {
+  sh_name = name_at;
   sh_type = SHT_SYMTAB;
-  sh_flags = 0;
-  sh_addr = 0;
-  sh_offset = symbols_place t;
-  sh_size = 24 * t.count;
-  sh_link = 2;
-  sh_info = 1;
+  sh_offset = offset;
+  sh_size = size;
+  sh_link = link;
+  sh_info = info;
   sh_addralign = 8;
   sh_entsize = 24;
 }
+
+abbrev pub symbols_header_of : SymbolTable → SectionHeader
+symbols_header_of t = symbols_header 1 (symbols_place t) (24 * t.count) 2 1
 
 abbrev pub table_headers_of : SymbolTable → List SectionHeader
 table_headers_of t =
