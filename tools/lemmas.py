@@ -35,9 +35,9 @@ LAYERS = {
         " WrappedValues",
     },
     "resolve": {
-        "Walks and lists": "Gathered Rests Searched SoundWalk Walks",
-        "Definitions and their places": "ChosenPlaces Definitions Located NamedNumbers NamedOnce Offers OwnerLaws"
-        " PlacesByNumber StrongOnes ThreadFlags",
+        "Walks and lists": "Gathered KeptSteps Rests SoundWalk Walks",
+        "Definitions and their places": "ChosenLaws ChosenPlaces Located NamedNumbers NamedOnce Offers PlacesByNumber"
+        " Takings ThreadFlags",
         "Common blocks and the linker's own names": "ArrayNames BlockNames LeftNames",
         "Output sections": "GatheringNames Leaders NamedOutputs OutputKeys OutputSteps SectionWalks",
     },

@@ -88,7 +88,9 @@ fn resolve_loaded(run: &Run<'_>, loaded: &Loaded<'_>) {
     let Some(resolved) = answered!(run, "resolve", resolve(run.alloc(), loaded)) else {
         return;
     };
-    for definition in resolved.definitions() {
+    let definitions = resolved.definitions();
+    for place in 0..definitions.len() {
+        let definition = definitions.at(place);
         let name = str::from_utf8(definition.name).unwrap_or("no text");
         let _ = println!(run.rt;
             "resolve: {name} of {} {}",

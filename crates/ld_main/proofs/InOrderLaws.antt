@@ -3,7 +3,7 @@ use Rattle.std.proofs.Common.{◌≡◌, ◌∙◌, ℕ, zero, suc, ◌+◌, ◌
 use Rattle.std.specs.Prelude.{All, Contains, IsPermutation, find, is_some, option_map, unwrap_or}
 use Rattle.std.specs.Borrow.{Bor}
 use Rattle.std.specs.Cmp.Lexicographic.{slice_cmp}
-use Rattle.std.specs.List.{range_with_len}
+use Rattle.std.specs.List.{range_with_len, slice_get}
 use Rattle.std.specs.List.Sorted.{IsSortedByKey}
 use Rattle.std.specs.Option.{option_map_or}
 use Rattle.std.specs.Ordering.{is_lt, nat_cmp}
@@ -13,6 +13,7 @@ use Rattle.std.proofs.lemmas.List.Elements.{All-contains, All-head, All-tail}
 use Rattle.std.proofs.lemmas.List.FromFn.{fill_by_all}
 use Rattle.std.proofs.lemmas.List.Sorted.{IsPermutation-map, IsPermutation-refl}
 use Rattle.std.proofs.lemmas.Simd.{map-map}
+use Rattle.std.proofs.lemmas.Option.{none-some, same_Some, slice_get_past}
 use Rattle.std.proofs.lemmas.Slice.Eq.{bytes_eq-Decides}
 use Rattle.elf_model.specs.ChosenSymbols.{chosen_symbols}
 use Rattle.elf_model.specs.Commons.{Block, block_named, block_symbols, blocks, is_block_of, is_common_symbol}
@@ -29,10 +30,9 @@ use Rattle.elf_model.proofs.Listed.{All-from_contains, Contains-filter}
 use Rattle.elf_model.proofs.Listing.{joined_listed, permuted_is_of}
 use Rattle.resolve.specs.Blocks.{block_views}
 use Rattle.resolve.specs.declared.blocks.Block as held
-use Rattle.resolve.specs.Defined.{AreDefinitions}
-use Rattle.resolve.specs.Views.{meaning_view, meaning_views, symbol_view, symbol_views}
+use Rattle.resolve.specs.Chosen.{defined_in}
+use Rattle.resolve.specs.Views.{meaning_view, meaning_views}
 use Rattle.resolve.specs.declared.definition.Definition as definitions
-use Rattle.resolve.specs.declared.entries.SymbolOf as code
 use Rattle.image_write.specs.CommonRows.{common_rows_of, own_commons}
 use Rattle.image_write.specs.Listings.{IsListing}
 use Rattle.ld_main.specs.InOrder.{AreInOrder, all_meanings, meaning_at, meanings_at, own_meaning}
@@ -124,23 +124,23 @@ seen_sorted {X} {Y} view name (x ∷ xs) up k e low within =
     (subst (λ (y : Y). is_lt (slice_cmp nat_cmp (name y) (name (view (get_or (x ∷ xs) k x)))) ≡ false) (sym next)
     (up k x low (omega (arith, within, n))))
 
-module _ (L : List LoadedObject) (found : List code.SymbolOf) (lines : List Meaning) (held : List (List ℕ)) (definitions : AreDefinitions L found) (of : AreLinkerLines L lines) (names : map (λ s. s.name.now) found ++ map meaning_name lines ≡ held) where
+module _ (L : List LoadedObject) (found : List SymbolOf) (lines : List Meaning) (held : List (List ℕ)) (same : found ≡ chosen_symbols L) (of : AreLinkerLines L lines) (names : map (λ s. s.name) found ++ map meaning_name lines ≡ held) where
   abbrev all : List Meaning
   all = all_meanings L found lines
 
   names_are : map meaning_name all ≡ held
   names_are =
-      map-append meaning_name (map (own_meaning L) (symbol_views found)) lines
+      map-append meaning_name (map (own_meaning L) found) lines
       ∙ ap (λ (ns : List (List ℕ)). ns ++ map meaning_name lines) (each found)
       ∙ names
     where
-      each : (ss : List code.SymbolOf) → map meaning_name (map (own_meaning L) (symbol_views ss)) ≡ map (λ s. s.name.now) ss
+      each : (ss : List SymbolOf) → map meaning_name (map (own_meaning L) ss) ≡ map (λ s. s.name) ss
       each [] = refl
-      each (s ∷ ss) = ap (λ (n : List ℕ). n ∷ map meaning_name (map (own_meaning L) (symbol_views ss))) (own_name L (symbol_view s)) ∙ ap (λ (ns : List (List ℕ)). s.name.now ∷ ns) (each ss)
+      each (s ∷ ss) = ap (λ (n : List ℕ). n ∷ map meaning_name (map (own_meaning L) ss)) (own_name L s) ∙ ap (λ (ns : List (List ℕ)). s.name ∷ ns) (each ss)
 
   all_listed : AreListed L all
   all_listed =
-      subst (λ (ss : List SymbolOf). AreListed L (map (own_meaning L) ss ++ lines)) (sym definitions.same)
+      subst (λ (ss : List SymbolOf). AreListed L (map (own_meaning L) ss ++ lines)) (sym same)
       (subst (λ (ms : List Meaning). AreListed L (ms ++ lines)) (chosen_meanings L)
       (joined_listed L (chosen_symbols L) lines (IsPermutation-refl (chosen_symbols L)) of))
 
@@ -172,14 +172,14 @@ module _ (L : List LoadedObject) (found : List code.SymbolOf) (lines : List Mean
 
 -- what stands at a position
 pub at_symbol :
-    (L : List LoadedObject) (found : List code.SymbolOf) (lines : List Meaning) (position : ℕ) (d : code.SymbolOf) → position < length found →
-    own_meaning L (symbol_view (get_or found position d)) ≡ meaning_at L found lines position
-at_symbol L [] lines position d within = absurd (omega (arith, within))
-at_symbol L (t ∷ found) lines zero d within = refl
-at_symbol L (t ∷ found) lines (suc position) d within = at_symbol L found lines position d (omega (arith, within))
+    (L : List LoadedObject) (found : List SymbolOf) (lines : List Meaning) (position : ℕ) (s : SymbolOf) → slice_get found position ≡ Some s →
+    own_meaning L s ≡ meaning_at L found lines position
+at_symbol L [] lines position s at = absurd (none-some s (sym (slice_get_past [] position (omega arith)) ∙ at))
+at_symbol L (t ∷ found) lines zero s at = ap (own_meaning L) (sym (same_Some t s at))
+at_symbol L (t ∷ found) lines (suc position) s at = at_symbol L found lines position s at
 
 pub at_line :
-    (L : List LoadedObject) (found : List code.SymbolOf) (lines : List Meaning) (position : ℕ) → length found ≤ position →
+    (L : List LoadedObject) (found : List SymbolOf) (lines : List Meaning) (position : ℕ) → length found ≤ position →
     get_or lines (position - length found) (Linker [] ImageStart) ≡ meaning_at L found lines position
 at_line L [] lines position behind = ap (λ (p : ℕ). get_or lines p (Linker [] ImageStart)) (omega arith)
 at_line L (t ∷ found) lines zero behind = absurd (omega (arith, behind))
@@ -187,8 +187,8 @@ at_line L (t ∷ found) lines (suc position) behind =
     ap (λ (p : ℕ). get_or lines p (Linker [] ImageStart)) (omega arith) ∙ at_line L found lines position (omega (arith, behind))
 
 -- the names of symbols and of lines
-pub held_are : (n : Names) → map (λ s. s.name.now) n.symbols.now ++ map meaning_name (line_views n.linkers.now) ≡ held_names n
-held_are n = ap (λ (ns : List (List ℕ)). map (λ s. s.name.now) n.symbols.now ++ ns) (map-map meaning_name line_view n.linkers.now)
+pub held_are : (n : Names) → map (λ s. s.name) (defined_in n.symbols) ++ map meaning_name (line_views n.linkers.now) ≡ held_names n
+held_are n = ap (λ (ns : List (List ℕ)). map (λ s. s.name) (defined_in n.symbols) ++ ns) (map-map meaning_name line_view n.linkers.now)
 
 -- a list of definitions that are those in order
 pub is_listing :
@@ -215,14 +215,14 @@ module _ (L : List LoadedObject) (none : blocks L ≡ []) (base : ℕ) (objects 
       by false named = refl
       by true named = ap (λ (o : Option Block). common_rows_of base objects (unwrap_or (option_map Common o) (Symbol s))) named
 
-  row_at : (found : List code.SymbolOf) (lines : List (Bor (List ℕ) × Bound)) (position : ℕ) → common_rows_of base objects (meaning_at L found (line_views lines) position) ≡ []
+  row_at : (found : List SymbolOf) (lines : List (Bor (List ℕ) × Bound)) (position : ℕ) → common_rows_of base objects (meaning_at L found (line_views lines) position) ≡ []
   row_at [] [] position = refl
   row_at [] (l ∷ lines) zero = refl
   row_at [] (l ∷ lines) (suc position) = row_at [] lines position
-  row_at (s ∷ found) lines zero = no_row (symbol_view s)
+  row_at (s ∷ found) lines zero = no_row s
   row_at (s ∷ found) lines (suc position) = row_at found lines position
 
-  pub no_commons : (found : List code.SymbolOf) (lines : List (Bor (List ℕ) × Bound)) (ks : List Keyed) → own_commons base objects (meanings_at L found (line_views lines) ks) ≡ []
+  pub no_commons : (found : List SymbolOf) (lines : List (Bor (List ℕ) × Bound)) (ks : List Keyed) → own_commons base objects (meanings_at L found (line_views lines) ks) ≡ []
   no_commons found lines [] = refl
   no_commons found lines (k ∷ ks) =
       ap (λ (rows : List CommonRow). rows ++ own_commons base objects (meanings_at L found (line_views lines) ks)) (row_at found lines k.position)

@@ -8,8 +8,7 @@ use Rattle.elf_model.specs.Loading.{LoadedObject}
 use Rattle.elf_model.specs.Meaning.{Linker, Meaning, Symbol, meaning_name, meant}
 use Rattle.elf_model.specs.Resolution.{SymbolOf}
 use Rattle.elf_model.specs.declared.bound.Bound.TheVariants.{ImageStart}
-use Rattle.resolve.specs.Views.{symbol_views}
-use Rattle.resolve.specs.declared.entries.SymbolOf as code
+use Rattle.resolve.specs.Chosen.{defined_in}
 use Rattle.image_write.specs.CommonRows.{own_commons}
 use Rattle.relocate.specs.Uses.{line_views}
 use Rattle.ld_main.specs.declared.listed_definitions.InOrder.{InOrder}
@@ -20,14 +19,14 @@ abbrev pub own_meaning : List LoadedObject → SymbolOf → Meaning
 own_meaning objects s = unwrap_or (meant objects s) (Symbol s)
 
 -- what symbols mean, and behind that the lines of the linker's names
-abbrev pub all_meanings : List LoadedObject → List code.SymbolOf → List Meaning → List Meaning
-all_meanings objects symbols lines = map (own_meaning objects) (symbol_views symbols) ++ lines
+abbrev pub all_meanings : List LoadedObject → List SymbolOf → List Meaning → List Meaning
+all_meanings objects symbols lines = map (own_meaning objects) symbols ++ lines
 
 -- what has its name at a position; the name behind the last is empty
-abbrev pub meaning_at : List LoadedObject → List code.SymbolOf → List Meaning → ℕ → Meaning
+abbrev pub meaning_at : List LoadedObject → List SymbolOf → List Meaning → ℕ → Meaning
 meaning_at objects symbols lines position = slice_index_or (all_meanings objects symbols lines) position (Linker [] ImageStart)
 
-abbrev pub meanings_at : List LoadedObject → List code.SymbolOf → List Meaning → List Keyed → List Meaning
+abbrev pub meanings_at : List LoadedObject → List SymbolOf → List Meaning → List Keyed → List Meaning
 meanings_at objects symbols lines ks = map (λ k. meaning_at objects symbols lines k.position) ks
 
 -- all that have a line, in the order of their names
@@ -37,7 +36,7 @@ pub record AreInOrder (objects : List LoadedObject) (ms : List Meaning) : Type 0
 
 -- those of what is found in order
 abbrev pub meanings_in : InOrder → List Meaning
-meanings_in o = meanings_at o.resolved.now o.names.symbols.now (line_views o.names.linkers.now) o.keys.items
+meanings_in o = meanings_at o.resolved.now (defined_in o.names.symbols) (line_views o.names.linkers.now) o.keys.items
 
 -- they are no common blocks
 abbrev pub HasNoCommonLine : List Meaning → Type 0

@@ -4,12 +4,13 @@ use Rattle.std.specs.Cmp.Lexicographic.{slice_cmp}
 use Rattle.std.specs.List.{range_with_len}
 use Rattle.std.specs.List.Sorted.{IsSortedByKey}
 use Rattle.std.specs.Ordering.{nat_cmp}
+use Rattle.resolve.specs.Chosen.{defined_in}
 use Rattle.ld_main.specs.declared.name_order.Keyed.{Keyed}
 use Rattle.ld_main.specs.declared.name_order.Names.{Names}
 
 -- the names, each at its position
 abbrev pub held_names : Names → List (List ℕ)
-held_names n = map (λ s. s.name.now) n.symbols.now ++ map (λ l. l.0.now) n.linkers.now
+held_names n = map (λ s. s.name) (defined_in n.symbols) ++ map (λ l. l.0.now) n.linkers.now
 
 abbrev pub name_of : Names → ℕ → List ℕ
 name_of n position = slice_index_or (held_names n) position []

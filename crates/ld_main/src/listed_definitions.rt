@@ -5,6 +5,7 @@ ghost use Rattle.elf_model.specs.Listing.{AreLinkerLines};
 ghost use Rattle.elf_model.specs.Meaning.{Linker};
 ghost use Rattle.elf_model.specs.declared.bound.Bound.TheVariants.{ImageStart};
 ghost use Rattle.elf_model.specs.Resolution.{AreSoundSymbols};
+ghost use Rattle.resolve.specs.Chosen.{defined_in};
 ghost use Rattle.resolve.specs.Views.{meaning_view, meaning_views, symbol_view};
 ghost use Rattle.relocate.specs.Uses.{line_views};
 ghost use Rattle.image_write.specs.Listings.{IsListing};
@@ -44,12 +45,12 @@ fn definition_at<'a>(
     position: usize,
 ) -> Definition<'a>
     ensures { meaning_view result
-        ≡ meaning_at resolved.now names.entry.symbols.now
+        ≡ meaning_at resolved.now (defined_in names.entry.symbols)
         (line_views names.entry.linkers.now) position }
 {
     let count = names.symbols.len();
     if position < count {
-        return meant(resolved, &names.symbols[position]);
+        return meant(resolved, &names.symbols.at(position));
     }
     linker_at(names.linkers, position - count)
 }
@@ -108,7 +109,7 @@ impl<'c, 'a> InOrder<'c, 'a> {
     ) -> Result<(), AllocError>
         ensures { OnOk result (meaning_views listed.new.items
             ≡ meaning_views listed.old.items
-            ++ meanings_at self.now.resolved.now self.now.names.symbols.now
+            ++ meanings_at self.now.resolved.now (defined_in self.now.names.symbols)
             (line_views self.now.names.linkers.now) keys.now) }
     {
         for key in keys {

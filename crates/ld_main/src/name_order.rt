@@ -7,14 +7,14 @@ ghost use Rattle.std.specs.Ordering.{nat_cmp};
 ghost use Rattle.ld_main.specs.NameKeys.{AreKeyed, IsKeyed, IsOrderOf, digit, held_names, key_list, name_key, name_of, rest_of};
 
 use elf_model::Bound;
-use resolve::SymbolOf;
+use resolve::Definitions;
 use std::alloc::{AllocError, Global};
 use std::cmp::Ordering;
 
 /// What has a name: symbols, and behind them names of the linker's. Each has a position among them, from 0.
 #[derive(Clone, Copy)]
 pub struct Names<'c, 'a> {
-    pub symbols: &'c [SymbolOf<'a>],
+    pub symbols: Definitions<'c, 'a>,
     pub linkers: &'c [(&'a [u8], Bound)],
 }
 
@@ -36,7 +36,7 @@ fn name_at<'a>(names: Names<'_, 'a>, position: usize) -> &'a [u8]
 {
     let count = names.symbols.len();
     if position < count {
-        return names.symbols[position].name;
+        return names.symbols.name(position);
     }
     match names.linkers.get(position - count) {
         Some((name, _)) => name,

@@ -79,7 +79,7 @@ fn all_chosen<'a>(
     let definitions = resolved.definitions();
     let mut values = Vec::with_capacity(alloc, definitions.len())?;
     for i in 0..definitions.len() {
-        values.push(worth_of(resolved, placement, &definitions[i]))?;
+        values.push(worth_of(resolved, placement, &definitions.at(i)))?;
     }
     Ok(values)
 }

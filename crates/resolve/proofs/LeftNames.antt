@@ -12,6 +12,7 @@ use Rattle.std.proofs.lemmas.Option.{get_or_from_slice_get, none-some, slice_get
 use Rattle.std.proofs.lemmas.Slice.Eq.{bytes_eq-Decides}
 use Rattle.elf_model.specs.LinkerNames.{bound_of, fixed_bound, named_output, output_bound}
 use Rattle.elf_model.specs.declared.bound.Bound.{Bound}
+use Rattle.elf_model.specs.ChosenSymbols.{chosen_symbols}
 use Rattle.elf_model.specs.Loading.{AreObjects, LoadedObject, is_global_or_weak}
 use Rattle.elf_model.specs.ObjectFile.{IsObject, name_of_symbol, null_symbol, symbols}
 use Rattle.elf_model.specs.Relocation.{is_local, symbol_at}
@@ -21,11 +22,13 @@ use Rattle.search.specs.Loads.{LoadedPlan}
 use Rattle.search.specs.Names.{is_among, number_of}
 use Rattle.search.specs.Numbers.{AreNamed}
 use Rattle.search.proofs.Numbering.{number_at, number_below}
+use Rattle.elf_model.specs.declared.references.SymbolRef.{SymbolRef}
+use Rattle.resolve.specs.Defined.{AreChosen}
 use Rattle.resolve.specs.Left.{HasNoLinkerNames, HasNoneLeft, is_linkers}
+use Rattle.resolve.specs.Offered.{ref_of}
 use Rattle.resolve.specs.Outputs.{AreOutputs, bound_among}
 use Rattle.resolve.specs.Places.{ArePlaces, at_some, is_unplaced}
-use Rattle.resolve.specs.Views.{symbol_view}
-use Rattle.resolve.specs.declared.entries.SymbolOf as code
+use Rattle.resolve.proofs.ChosenPlaces.{numbers_at}
 use Rattle.resolve.proofs.PlacesByNumber.{lt_is, past_none, unshared_local}
 
 -- the third of three, where the others hold
@@ -70,9 +73,9 @@ module _ (l : LoadedPlan) (named : AreNamed l) (objects : AreObjects l.objects) 
 
   -- where no name that has a number is the linker's and undefined
   pub none_linkers :
-      (definitions : List code.SymbolOf) (places : List ℕ) (outputs : BTreeSet (Bor (List ℕ))) → ArePlaces l definitions places → AreOutputs l.objects outputs →
-      ((n : ℕ) → n < length l.names → is_linkers definitions places outputs l.names n ≡ false) → HasNoLinkerNames l.objects
-  none_linkers definitions places outputs placed named_ none k o at j =
+      (chosen_ : List SymbolRef) (places : List ℕ) (outputs : BTreeSet (Bor (List ℕ))) → AreChosen l.objects chosen_ → ArePlaces l places → AreOutputs l.objects outputs →
+      ((n : ℕ) → n < length l.names → is_linkers chosen_ places outputs l.names n ≡ false) → HasNoLinkerNames l.objects
+  none_linkers chosen_ places outputs are placed named_ none k o at j =
       third (not (is_local (symbol_at k o j))) (is_some (bound_of l.objects m)) (not (is_some (chosen l.objects m))) (λ shared bound. told (among k j o at shared) bound)
     where
       m : List ℕ
@@ -81,9 +84,13 @@ module _ (l : LoadedPlan) (named : AreNamed l) (objects : AreObjects l.objects) 
       n : ℕ
       n = number_of l.names m
 
-      found : (a : Option code.SymbolOf) → is_none a ≡ false → not (is_some (option_map symbol_view a)) ≡ false
+      found : (p : Option ℕ) → is_none (option_and_then (λ i. slice_get chosen_ i) p) ≡ false → not (is_some (at_some l.objects p)) ≡ false
       found None missing = absurd (false≢true (sym missing))
-      found (Some d) missing = refl
+      found (Some i) missing = by_symbol (slice_get (chosen_symbols l.objects) i) (sym (ap (λ (r : Option SymbolRef). is_none r) (numbers_at l.objects chosen_ i are)) ∙ missing)
+        where
+          by_symbol : (s : Option SymbolOf) → is_none (option_map ref_of s) ≡ false → not (is_some s) ≡ false
+          by_symbol None missing_ = absurd (false≢true (sym missing_))
+          by_symbol (Some s) missing_ = refl
 
       first : (a b : Bool) → (a && b) ≡ false → b ≡ true → a ≡ false
       first true true both is = both
@@ -97,9 +104,9 @@ module _ (l : LoadedPlan) (named : AreNamed l) (objects : AreObjects l.objects) 
           ap (λ (b : Bool). option_or (fixed_bound m) (cond {A = Option Bound} b (output_bound m) None)) (named_.each (named_output m)) in
           let defined : is_some (bound_among outputs (get_or l.names n [])) ≡ true =
           ap (λ (x : List ℕ). is_some (bound_among outputs x)) (number_at l.names m [] there) ∙ (ap is_some bounds ∙ bound) in
-          let kept = first (is_unplaced definitions places n) (is_some (bound_among outputs (get_or l.names n []))) (none n within) defined in
-          let stands : option_map symbol_view (option_and_then (λ p. slice_get definitions p) (slice_get places n)) ≡ chosen l.objects m =
-          ap (λ (b : Bool). at_some definitions (option_and_then (λ p. slice_get places p) (cond {A = Option ℕ} b (Some n) None))) (sym (lt_is n (length l.names) within))
+          let kept = first (is_unplaced chosen_ places n) (is_some (bound_among outputs (get_or l.names n []))) (none n within) defined in
+          let stands : at_some l.objects (slice_get places n) ≡ chosen l.objects m =
+          ap (λ (b : Bool). at_some l.objects (option_and_then (λ p. slice_get places p) (cond {A = Option ℕ} b (Some n) None))) (sym (lt_is n (length l.names) within))
           ∙ placed.named m in
           sym (ap (λ (c : Option SymbolOf). not (is_some c)) stands)
-          ∙ found (option_and_then (λ p. slice_get definitions p) (slice_get places n)) kept
+          ∙ found (slice_get places n) kept

@@ -1,7 +1,8 @@
-pub mod Definitions
+pub mod ChosenLaws
 pub mod Gathered
 pub mod GatheringNames
 mod LeftNames
+pub mod KeptSteps
 pub mod Located
 pub mod NamedNumbers
 pub mod NamedOnce
@@ -11,14 +12,12 @@ mod NamedOutputs
 pub mod OutputKeys
 pub mod OutputSteps
 pub mod SectionWalks
-pub mod OwnerLaws
 pub mod PlacesByNumber
 mod ArrayNames
 mod BlockNames
 mod ChosenPlaces
 pub mod Rests
-pub mod Searched
 pub mod SoundWalk
-mod StrongOnes
+pub mod Takings
 pub mod Walks
 pub mod ThreadFlags

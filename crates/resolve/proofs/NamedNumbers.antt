@@ -1,12 +1,11 @@
 -- The numbers of the names of symbols and of definitions.
-use Rattle.std.proofs.Common.{◌≡◌, ℕ, ◌<◌, Bool, true, false, cond, List, [], length, get_or, refl, sym, ◌∙◌, ap, subst, arith}
+use Rattle.std.proofs.Common.{◌≡◌, ℕ, Bool, true, false, cond, List, [], get_or, refl, sym, ◌∙◌, ap, arith}
 use Rattle.std.specs.Prelude.{All, None, Option, Some, option_map, slice_get, unwrap_or}
 use Rattle.std.specs.Option.{option_and_then}
 use Rattle.std.proofs.lemmas.Bool.Decides.{nat_tests}
 use Rattle.std.proofs.lemmas.Option.{none-some, same_Some}
 use Rattle.std.proofs.lemmas.List.Elements.{All-filter, filter_passes}
-use Rattle.elf_model.proofs.Listed.{All-unmap}
-use Rattle.elf_model.specs.ChosenSymbols.{definitions, is_chosen, is_definition}
+use Rattle.elf_model.specs.ChosenSymbols.{chosen_symbols, definitions, is_chosen, is_definition}
 use Rattle.elf_model.specs.Loading.{LoadedObject, is_global_or_weak}
 use Rattle.elf_model.specs.ObjectFile.{name_of_symbol, symbol_name, symbols}
 use Rattle.elf_model.specs.Resolution.{SymbolOf, all_symbols}
@@ -15,9 +14,6 @@ use Rattle.search.specs.Loads.{LoadedPlan}
 use Rattle.search.specs.Names.{is_among, number_of}
 use Rattle.search.specs.Numbers.{AreNamed, name_number}
 use Rattle.search.proofs.Numbering.{number_at}
-use Rattle.resolve.specs.Defined.{AreDefinitions}
-use Rattle.resolve.specs.Views.{symbol_view, symbol_views}
-use Rattle.resolve.specs.declared.entries.SymbolOf as code
 use Rattle.resolve.proofs.Located.{IsAt, found_at, located}
 
 -- a definition isn't LOCAL
@@ -49,23 +45,15 @@ module _ (l : LoadedPlan) where
         among = λ named. sym (ap (is_among l.names) called) ∙ named s.object s.number f.0 f.1 f.2 f.3 shared;
       }
 
-  all_numbered : All (IsNumbered l) (definitions l.objects)
+  -- each definition, and each chosen one
+  pub all_numbered : All (IsNumbered l) (definitions l.objects)
   all_numbered m e within =
       numbered (get_or (definitions l.objects) m e)
       (All-filter is_definition (IsAt l.objects) (all_symbols l.objects) (located l.objects) m e within)
       (filter_passes is_definition (all_symbols l.objects) m e within)
 
-  -- of each definition of a list of all, and of one of the chosen ones
-  pub defined_numbers : (ss : List SymbolOf) → ss ≡ definitions l.objects → All (IsNumbered l) ss
-  defined_numbers ss is = subst (All (IsNumbered l)) (sym is) all_numbered
-
-  pub defined_number : (xs : List code.SymbolOf) → symbol_views xs ≡ definitions l.objects → (k : ℕ) (d : code.SymbolOf) → k < length xs → IsNumbered l (symbol_view (get_or xs k d))
-  defined_number xs is = All-unmap (IsNumbered l) symbol_view xs (defined_numbers (symbol_views xs) is)
-
-  pub chosen_number : (xs : List code.SymbolOf) → AreDefinitions l.objects xs → (k : ℕ) (d : code.SymbolOf) → k < length xs → IsNumbered l (symbol_view (get_or xs k d))
-  chosen_number xs d =
-      All-unmap (IsNumbered l) symbol_view xs
-      (subst (All (IsNumbered l)) (sym d.same) (All-filter (is_chosen l.objects) (IsNumbered l) (definitions l.objects) all_numbered))
+  pub chosen_numbered : All (IsNumbered l) (chosen_symbols l.objects)
+  chosen_numbered = All-filter (is_chosen l.objects) (IsNumbered l) (definitions l.objects) all_numbered
 
 -- the name that has the number of a symbol's name is that name
 pub name_told :

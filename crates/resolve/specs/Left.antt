@@ -8,7 +8,7 @@ use Rattle.elf_model.specs.Loading.{LoadedObject}
 use Rattle.elf_model.specs.Relocation.{is_local, symbol_at}
 use Rattle.elf_model.specs.Resolution.{SymbolOf, chosen}
 use Rattle.elf_model.specs.UsedNames.{is_linker_use}
-use Rattle.resolve.specs.declared.entries.SymbolOf as code
+use Rattle.elf_model.specs.declared.references.SymbolRef.{SymbolRef}
 use Rattle.resolve.specs.Outputs.{bound_among}
 use Rattle.resolve.specs.Places.{is_unplaced}
 
@@ -27,5 +27,5 @@ HasNoLinkerNames objects =
     (k : ℕ) (o : LoadedObject) → slice_get objects k ≡ Some o → (j : ℕ) → is_linker_use objects (symbol_at k o j) ≡ false
 
 -- the name that has a number is none of a definition, by the indices, and one that the linker defines, by the output names
-abbrev pub is_linkers : List code.SymbolOf → List ℕ → BTreeSet (Bor (List ℕ)) → List (List ℕ) → ℕ → Bool
-is_linkers definitions places outputs names n = is_unplaced definitions places n && is_some (bound_among outputs (slice_index_or names n []))
+abbrev pub is_linkers : List SymbolRef → List ℕ → BTreeSet (Bor (List ℕ)) → List (List ℕ) → ℕ → Bool
+is_linkers chosen places outputs names n = is_unplaced chosen places n && is_some (bound_among outputs (slice_index_or names n []))

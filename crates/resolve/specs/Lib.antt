@@ -1,4 +1,5 @@
 pub mod Blocks
+pub mod Chosen
 pub mod Defined
 pub mod Left
 pub mod Meaning
@@ -11,5 +12,6 @@ pub mod Places
 pub mod Refusals
 pub mod Sound
 pub mod Tables
+pub mod Taken
 pub mod Threads
 pub mod Views

@@ -1,7 +1,7 @@
 -- Definitions as candidates that a table of names is offered, and what its rows then say a name means.
 use Rattle.std.specs.Prelude.{ℕ, ◌==◌, ◌&&◌, ◌||◌, Bool, false, cond, not, List, Option, map, unwrap_or}
 use Rattle.std.specs.Option.{option_map_or, option_or}
-use Rattle.elf_model.specs.Resolution.{SymbolOf, is_common, is_common_definition, is_global, is_placed_symbol, is_strong, is_weak}
+use Rattle.elf_model.specs.Resolution.{SymbolOf, is_common, is_global, is_placed_symbol, is_weak}
 use Rattle.elf_model.specs.declared.records.Symbol.{Symbol}
 use Rattle.elf_model.specs.declared.references.SymbolRef.{SymbolRef}
 use Rattle.symbols.specs.Offers.{Offer, all_offered}
@@ -15,8 +15,12 @@ abbrev pub ref_of : SymbolOf → SymbolRef
 ref_of s = record { object = record { 0 = s.object }; symbol = s.number }
 
 -- a definition's kind by its entry, and whether it is one
+abbrev pub kind_by : Symbol → Bool → CandidateKind
+kind_by e dropped =
+    cond (is_global e && (is_placed_symbol e && not dropped)) Strong (cond (is_global e && (is_common e && not dropped)) Common Weak)
+
 abbrev pub kind_of : SymbolOf → CandidateKind
-kind_of s = cond (is_strong s) Strong (cond (is_common_definition s) Common Weak)
+kind_of s = kind_by s.entry s.dropped
 
 abbrev pub is_defining : Symbol → Bool → Bool
 is_defining e dropped =
@@ -50,7 +54,3 @@ is_referred s r = s.object == r.object.0 && s.number == r.symbol
 -- a symbol is the one that its name means
 abbrev pub is_meant : Rows → SymbolOf → Bool
 is_meant rows s = option_map_or (is_referred s) (chosen_in rows s.name) false
-
--- a symbol is strong, and its name that of two strong ones
-abbrev pub is_twin_in : Rows → SymbolOf → Bool
-is_twin_in rows s = is_strong s && (unwrap_or (rows s.name) no_row).twice

@@ -1,9 +1,9 @@
 //! The common blocks of the objects: one for each name whose chosen symbol is common (System V gABI 4, "Symbol Table";
 //! that a block has the greatest alignment is the profile's).
-ghost use Rattle.std.specs.Prelude.{◌≡◌, ℕ, List, IfOk, None, OnOk, Option, Some, cond, filter, option_map};
+ghost use Rattle.std.specs.Prelude.{◌≡◌, ℕ, List, IfOk, None, OnOk, Option, Some, cond, option_map};
 ghost use Rattle.std.specs.Option.{option_or};
 ghost use Rattle.std.specs.Str.{bytes_eq};
-ghost use Rattle.elf_model.specs.Commons.{Block as BlockOf, is_common_symbol};
+ghost use Rattle.elf_model.specs.Commons.{Block as BlockOf};
 ghost use Rattle.resolve.specs.Blocks.{block_by, block_in, block_view, block_views, blocks_by, extent_in, first_block};
 ghost use Rattle.resolve.specs.Views.{symbol_view, symbol_views};
 
@@ -67,22 +67,19 @@ fn block_of<'a, T: NameTable<'a>>(
     }
 }
 
-/// The blocks of those symbols that are common, numbered from 0 as sections of an object.
+/// The blocks of common symbols, numbered from 0 as sections of an object.
 pub fn blocks_of<'a, T: NameTable<'a>>(
     alloc: Global,
     table: &T,
     object: u64,
-    chosen: &[SymbolOf<'a>],
+    commons: &[SymbolOf<'a>],
 ) -> Result<Vec<Block<'a>>, AllocError>
     ensures { IfOk result (λ v. block_views v.items
-        ≡ blocks_by (T.rows table.now) object 0
-        (filter is_common_symbol (symbol_views chosen.now))) }
+        ≡ blocks_by (T.rows table.now) object 0 (symbol_views commons.now)) }
 {
-    let mut blocks = Vec::new(alloc);
-    for symbol in chosen {
-        if symbol.entry.is_common() {
-            blocks.push(block_of(table, object, blocks.len() as u64, symbol))?;
-        }
+    let mut blocks = Vec::with_capacity(alloc, commons.len())?;
+    for symbol in commons {
+        blocks.push(block_of(table, object, blocks.len() as u64, symbol))?;
     }
     Ok(blocks)
 }

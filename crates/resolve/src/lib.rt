@@ -8,8 +8,10 @@
 mod blocks;
 mod bounds;
 mod candidates;
+mod chosen;
 mod definition;
 mod definition_list;
+mod definitions;
 mod entries;
 mod faults;
 mod linker_names;
@@ -21,12 +23,13 @@ mod places;
 mod resolved;
 mod sections;
 mod soundness;
+mod taken;
 mod targets;
-mod threads;
 
 pub use blocks::Block;
 pub use bounds::named_output;
 pub use definition::Definition;
+pub use definitions::Definitions;
 pub use entries::{SymbolOf, is_dropped, is_strong};
 pub use faults::ResolveFault;
 pub use output_names::{output_name, second_byte};

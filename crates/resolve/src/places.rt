@@ -1,10 +1,8 @@
 //! The index of each name's definition among the definitions, by the name's number.
 ghost use Rattle.std.specs.Prelude.{◌≡◌, ◌<◌, IfOk, length, set};
-ghost use Rattle.resolve.specs.Defined.{AreDefinitions};
+ghost use Rattle.resolve.specs.Defined.{AreChosen};
 ghost use Rattle.resolve.specs.Places.{ArePlaces, is_unplaced, place_at, place_named};
 
-use crate::entries::SymbolOf;
-use crate::owners::number_of_name;
 use elf_model::SymbolRef;
 use search::Loaded;
 use std::alloc::{AllocError, Global};
@@ -29,11 +27,11 @@ pub fn place_named(loaded: &Loaded<'_>, places: &[usize], name: &[u8]) -> Option
 }
 
 /// Whether no definition stands where the indices say for the name that has a number.
-pub fn is_unplaced(definitions: &[SymbolOf<'_>], places: &[usize], number: usize) -> bool
-    ensures { result ≡ is_unplaced definitions.now places.now number }
+pub fn is_unplaced(chosen: &[SymbolRef], places: &[usize], number: usize) -> bool
+    ensures { result ≡ is_unplaced chosen.now places.now number }
 {
     match places.get(number) {
-        Some(place) => definitions.get(*place).is_none(),
+        Some(place) => chosen.get(*place).is_none(),
         None => true,
     }
 }
@@ -50,15 +48,15 @@ fn put(places: &mut Vec<usize>, number: usize, index: usize)
 pub fn places_of(
     alloc: Global,
     loaded: &Loaded<'_>,
-    definitions: &[SymbolOf<'_>],
+    chosen: &[SymbolRef],
 ) -> Result<Vec<usize>, AllocError>
-    requires { AreDefinitions loaded.now.objects definitions.now }
-    ensures { IfOk result (λ v. ArePlaces loaded.now definitions.now v.items) }
+    requires { AreChosen loaded.now.objects chosen.now }
+    ensures { IfOk result (λ v. ArePlaces loaded.now v.items) }
 {
     let _objects = loaded.objects();
     let mut places = vec![in alloc; NO_PLACE; loaded.name_count()]?;
-    for (index, symbol) in definitions.iter().enumerate() {
-        if let Some(number) = number_of_name(loaded, symbol) {
+    for (index, symbol) in chosen.iter().enumerate() {
+        if let Some(number) = loaded.name_number(*symbol) {
             put(&mut places, number, index);
         }
     }

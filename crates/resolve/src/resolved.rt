@@ -11,7 +11,8 @@ ghost use Rattle.elf_model.specs.Resolution.{AreSoundCommons, AreSoundSymbols, A
 ghost use Rattle.elf_model.specs.Slots.{target_meaning};
 ghost use Rattle.search.specs.Views.{loaded_view};
 ghost use Rattle.resolve.specs.Blocks.{block_in, block_view, block_views};
-ghost use Rattle.resolve.specs.Defined.{AreDefinitions};
+ghost use Rattle.resolve.specs.Chosen.{defined_in};
+ghost use Rattle.resolve.specs.Defined.{AreDefined};
 ghost use Rattle.resolve.specs.Left.{HasNoLinkerNames, HasNoneLeft};
 ghost use Rattle.resolve.specs.OutputSections.{AreOutputSections};
 ghost use Rattle.resolve.specs.Meaning.{chosen_definition, definition_at, itself_at, named_at, target_at, unchosen_at};
@@ -24,6 +25,7 @@ use crate::blocks::{Block, index_of};
 use crate::bounds::bound_of;
 use crate::definition::Definition;
 use crate::definition_list::define;
+use crate::definitions::Definitions;
 use crate::entries::{SymbolOf, symbol_in};
 use crate::faults::ResolveFault;
 use crate::linker_names::any_linkers;
@@ -32,7 +34,6 @@ use crate::outputs::output_names_of;
 use crate::places::{place_at, place_named, places_of};
 use crate::sections::is_in_thread_section;
 use crate::targets::target_of;
-use crate::threads::threads_of;
 use elf_model::{Bound, NameSeed, Symbol, SymbolRef, Target};
 use search::{Loaded, LoadedObject};
 use std::alloc::{AllocError, Global};
@@ -46,7 +47,7 @@ use symbols::{IndexedTable, NameTable};
 #[derive(Drop)]
 pub struct Resolved<'a> {
     loaded: Loaded<'a>,
-    definitions: Vec<SymbolOf<'a>>,
+    chosen: Vec<SymbolRef>,
     threads: Vec<bool>,
     places: Vec<usize>,
     blocks: Vec<Block<'a>>,
@@ -65,7 +66,7 @@ impl<'a> Model for Resolved<'a> {
 
     ghost view = { λ r. r.loaded.objects };
 
-    ghost invariant = { λ r. AreTables r.loaded r.definitions.items r.threads.items r.places.items r.blocks.items r.named_blocks.value r.outputs r.sections };
+    ghost invariant = { λ r. AreTables r.loaded r.chosen.items r.threads.items r.places.items r.blocks.items r.named_blocks.value r.outputs r.sections };
 }
 
 /// An index of common blocks that several values hold.
@@ -102,14 +103,13 @@ pub fn resolve_in<'a, T: NameTable<'a> + Drop>(
     let mut offered = table;
     let defined = define(alloc, loaded, &mut offered)?;
     let places = places_of(alloc, loaded, &defined.symbols)?;
-    let threads = threads_of(alloc, objects, &defined.symbols)?;
     let named_blocks = index_of(alloc, &defined.blocks)?;
     let sections = output_sections_of(alloc, loaded.name_seed(), objects)?;
     let outputs = output_names_of(alloc, &sections)?;
     Ok(Resolved {
         loaded: loaded.clone()?,
-        definitions: defined.symbols,
-        threads,
+        chosen: defined.symbols,
+        threads: defined.threads,
         places,
         blocks: defined.blocks,
         named_blocks: shared(alloc, named_blocks)?,
@@ -134,13 +134,6 @@ pub fn resolve<'a>(alloc: Global, loaded: &Loaded<'a>) -> Result<Resolved<'a>, R
     resolve_in(alloc, loaded, table)
 }
 
-/// The definition at a place; None past the end.
-fn definition_at<'a>(definitions: &[SymbolOf<'a>], place: usize) -> Option<SymbolOf<'a>>
-    ensures { result ≡ slice_get definitions.now place }
-{
-    definitions.get(place).copied()
-}
-
 /// Symbol `j` of an object itself, where it is defined.
 fn itself<'a>(
     number: u64,
@@ -160,10 +153,11 @@ fn itself<'a>(
 
 impl<'a> Resolved<'a> {
     /// The chosen definitions, in load order.
-    pub fn definitions(&self) -> &[SymbolOf<'a>]
-        ensures { AreDefinitions self.now result.now }
+    pub fn definitions(&self) -> Definitions<'_, 'a>
+        ensures exact { defined_in result ≡ chosen_symbols self.now }
+        ensures defined { AreDefined self.now }
     {
-        self.definitions.as_slice()
+        Definitions::of(&self.loaded, &self.chosen)
     }
 
     /// The symbol that defines a name; None where no object does.
@@ -171,7 +165,7 @@ impl<'a> Resolved<'a> {
         ensures { option_map symbol_view result ≡ chosen self.now name.now }
     {
         let place = place_named(&self.loaded, &self.places, name)?;
-        definition_at(&self.definitions, place)
+        self.definitions().get(place)
     }
 
     /// The common blocks, in load order.
@@ -247,12 +241,11 @@ impl<'a> Resolved<'a> {
         ensures { option_map symbol_view result ≡ named_at self.now symbol.object.0 symbol.symbol }
     {
         let place = place_at(&self.loaded, &self.places, symbol)?;
-        definition_at(&self.definitions, place)
+        self.definitions().get(place)
     }
 
     /// The place among the chosen definitions of that of a symbol's name, for a symbol that isn't LOCAL; none of them stands
     /// there where no object defines the name. Reads no name.
-    #[tactic(auto, using(crate::proofs::ChosenPlaces::place_in))]
     pub fn chosen_place(&self, symbol: SymbolRef) -> Option<usize>
         ensures { option_and_then (slice_get (chosen_symbols self.now)) result
             ≡ named_at self.now symbol.object.0 symbol.symbol }
@@ -265,7 +258,7 @@ impl<'a> Resolved<'a> {
         ensures { result ≡ is_some (named_at self.now symbol.object.0 symbol.symbol) }
     {
         match place_at(&self.loaded, &self.places, symbol) {
-            Some(place) => self.definitions.get(place).is_some(),
+            Some(place) => self.chosen.get(place).is_some(),
             None => false,
         }
     }
@@ -300,7 +293,7 @@ impl<'a> Resolved<'a> {
     {
         let _objects = self.loaded.objects();
         let _named = self.loaded.name_count();
-        any_linkers(&self.loaded, &self.definitions, &self.places, &self.outputs)
+        any_linkers(&self.loaded, &self.chosen, &self.places, &self.outputs)
     }
 
     /// The output sections of the kept sections, and which one each of these is of.

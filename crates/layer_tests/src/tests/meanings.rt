@@ -5,7 +5,9 @@ use crate::tests::objects::{
 use elf_model::{
     ObjectId, SHF_ALLOC, SHF_TLS, SHF_WRITE, SHN_COMMON, SectionHeader, Symbol, SymbolRef, Target,
 };
-use resolve::{Block, Definition, ResolveFault, Resolved, SymbolOf, resolve, resolve_in};
+use resolve::{
+    Block, Definition, Definitions, ResolveFault, Resolved, SymbolOf, resolve, resolve_in,
+};
 use std::alloc::{AllocError, Global};
 use std::process::Abort;
 use std::test::Fail;
@@ -61,10 +63,11 @@ fn meant_numbers(meaning: Option<Definition<'_>>) -> Option<(u64, u64)> {
 }
 
 /// Asserts that the chosen definitions are `g` of the first object and `f` of the second.
-fn assert_names(rt: &impl Abort, definitions: &[SymbolOf<'_>]) {
+fn assert_names(rt: &impl Abort, definitions: Definitions<'_, '_>) {
     assert_eq!(rt; definitions.len(), 2);
-    assert!(rt; definitions[0].name == b"g".as_slice());
-    assert!(rt; definitions[1].name == b"f".as_slice());
+    assert!(rt; definitions.name(0) == b"g".as_slice());
+    assert!(rt; definitions.name(1) == b"f".as_slice());
+    assert!(rt; definitions.name(2).is_empty() && definitions.get(2).is_none());
 }
 
 /// The name that a reference to a symbol is to; None where it is to the symbol itself.

@@ -8,6 +8,7 @@ use Rattle.image_write.specs.CommonRows.{own_commons}
 use Rattle.relocate.specs.Uses.{line_views}
 use Rattle.resolve.specs.Views.{meaning_views}
 use Rattle.resolve.specs.declared.definition.Definition as code
+use Rattle.resolve.specs.Chosen.{defined_in}
 use Rattle.ld_main.specs.InOrder.{meaning_at, meanings_in}
 use Rattle.ld_main.specs.declared.name_order.Keyed.{Keyed}
 use Rattle.ld_main.proofs.Behind.{nothing_put, part_put}
@@ -17,7 +18,7 @@ use Rattle.ld_main.proofs.own_definitions.put_found_commons.Goals as goal
 pub loop-rest-preserved : goal.loop-rest-preserved
 loop-rest-preserved g c =
     let b = c.args.placement.now in
-    let at : Keyed → Meaning = λ k. meaning_at c.args.found.now.resolved.now c.args.found.now.names.symbols.now (line_views c.args.found.now.names.linkers.now) k.position in
+    let at : Keyed → Meaning = λ k. meaning_at c.args.found.now.resolved.now (defined_in c.args.found.now.names.symbols) (line_views c.args.found.now.names.linkers.now) k.position in
     let rest = c.loop-rest.rest.now in
     let part : meaning_views c.deref.result.now ≡ map at (take c.min.result rest) =
     ap meaning_views c.deref.ensures.value

@@ -24,7 +24,7 @@ returns-clause-spelled c =
     let exact = c.objects-objects.ensures.exact in
     spelled_map p objects (line_views c.args.linkers.now) c.requires.linkers
     (subst (λ (b : Basis). AreLawfulKinds b.objects) placed c.requires.kinds) c.requires.room
-    (subst AreSoundSymbols c.requires.resolved c.definitions-definitions.ensures.sound)
+    (subst AreSoundSymbols c.requires.resolved c.definitions-definitions.ensures.defined.sound)
     (subst (All (λ (o : LoadedObject). AreBytes o.bytes)) exact c.show_contents.ensures)
     (subst (λ (os : List LoadedObject). length os < 2 ^ 64) exact c.show_count.ensures)
     (subst (All (λ (b : Block). FitsLines (record { base = p.base; objects = objects }) (Common b)))

@@ -1,3 +1,7 @@
+use Rattle.std.proofs.Common.{◌∙◌, List, ap, sym}
+use Rattle.std.specs.List.{slice_get}
+use Rattle.elf_model.specs.Resolution.{SymbolOf}
+use Rattle.resolve.specs.Views.{symbol_view}
 use Rattle.relocate.specs.Values.{where_in}
 use Rattle.relocate.proofs.ChosenValues.{Tells, told}
 use Rattle.relocate.proofs.SymbolTables.{counted_more, tells_more}
@@ -13,5 +17,6 @@ loop-i-preserved c =
       each =
           tells_more (Tells objects w) c.loop-i.values.items c.push.new.self.items c.worth_of.result c.loop-i.i grown c.loop-i.invariant.count
           c.loop-i.invariant.each
-          (told objects w c.definitions-definitions.result.now c.loop-i.i _ c.worth_of.result c.definitions-definitions.ensures.same c.loop-i-test.true c.worth_of.ensures);
+          (told objects w c.loop-i.i (symbol_view c.at.result) c.worth_of.result
+          (sym (ap (λ (ss : List SymbolOf). slice_get ss c.loop-i.i) c.definitions-definitions.ensures.exact) ∙ c.at.ensures) c.worth_of.ensures);
     }

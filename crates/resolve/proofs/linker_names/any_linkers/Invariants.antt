@@ -3,4 +3,4 @@ use Rattle.resolve.specs.Left.{is_linkers}
 use Rattle.resolve.proofs.linker_names.any_linkers.Given as goal
 
 abbrev pub invariant-loop-number : goal.invariant-loop-number
-invariant-loop-number l = (n : ℕ) → n < l.number → is_linkers l.definitions l.places l.outputs l.loaded.names n ≡ false
+invariant-loop-number l = (n : ℕ) → n < l.number → is_linkers l.chosen l.places l.outputs l.loaded.names n ≡ false
