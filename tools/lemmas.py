@@ -59,7 +59,7 @@ LAYERS = {
     "checker": {
         "Lists and numbers": "ArrayRanks Filtered Lines PartsOfLists Spelled",
         "Sections and where they are": "DropSteps LinkRows NearSteps NextPieces PieceOrder PieceSections PlacedFacts",
-        "Images and memory": "ImageFaults Parts PartsEnd Regions Runs SegmentsApart Stretching Sweep Sweeping"
+        "Images and memory": "ImageFaults Parts PartsEnd Regions RisingFields RisingLink RisingOrder Runs SegmentsApart Stretching Sweep Sweeping"
         " ThingsOfSegment ThreadBlocks",
         "The GOT": "GotSteps SlotCounts",
         "Symbols and their table": "CountedLines OwnChoices SymbolLines TableClause TableEntries TableLines TableParts"

@@ -24,9 +24,13 @@ pub use entry_requests::request_of;
 pub use field_rows::{fields_right, own_row, relocated};
 pub use fields::Field;
 pub use kinds::{Kind, kind_of};
-pub use lawful_fields::{LinkTerms, Relocated, is_mismatch, link_terms, refers_to_dropped};
+pub use known_symbols::{KnownSymbols, unknown_symbols};
+pub use lawful_fields::{
+    LinkTerms, Relocated, is_mismatch, link_terms, refers_to_dropped, right_field,
+};
 pub use linker_uses::{linker_lines, used_names};
 pub use needs::{Needs, needs_of};
+pub use referrer::Referrer;
 pub use section_fields::{fields_in, part_of};
 pub use targets::{Target, target_at, target_of_symbol, unknown_targets};
 pub use values::{Terms, fits, value_of};

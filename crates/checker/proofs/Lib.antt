@@ -17,6 +17,9 @@ pub mod PieceOrder
 pub mod PieceSections
 pub mod PlacedFacts
 pub mod Regions
+pub mod RisingFields
+pub mod RisingLink
+pub mod RisingOrder
 pub mod Runs
 pub mod SegmentsApart
 pub mod SlotCounts

@@ -1,16 +1,14 @@
 -- The rows of fields of a link's objects, and the ninth clause by its relocations.
 use Rattle.std.proofs.Common.{◌≡◌, ◌<◌, ℕ, zero, suc, List, [], ◌∷◌, Some, ap, get_or, length, refl, subst, sym, ◌∙◌, arith}
 use Rattle.std.specs.Prelude.{◌↔◌, slice_get}
-use Rattle.std.proofs.lemmas.List.{get_or-map, length-map}
+use Rattle.std.proofs.lemmas.List.{length-map}
 use Rattle.elf_model.specs.Loading.{LoadedObject}
 use Rattle.elf_model.specs.Relocation.{Relocation, relocations}
 use Rattle.elf_model.specs.RightLink.{AreRelocationsRight, Subject, objects_of, where_of}
 use Rattle.check_load.specs.Views.{loaded_view, loaded_views}
 use Rattle.check_load.specs.declared.loaded.Loaded.{Loaded}
 use Rattle.check_relocs.specs.Bindings.{Bound, bound_of}
-use Rattle.check_relocs.specs.Fields.{AreRight, IsRowOf}
-use Rattle.check_relocs.specs.declared.fields.Field.{Field}
-use Rattle.checker.specs.Comparing.{IsRowAt}
+use Rattle.check_relocs.specs.Fields.{AreRight}
 
 module _ (s : Subject) (b : Bound) (bound : b ≡ bound_of s) where
   -- what is told of relocations by what names mean is told of them in the link
@@ -23,22 +21,6 @@ module _ (s : Subject) (b : Bound) (bound : b ≡ bound_of s) where
 
     pub count_is : length xs ≡ length (objects_of s)
     count_is = sym (length-map xs loaded_view) ∙ ap length objects_are
-
-    -- the row of an object is that of its number
-    pub row_at : (k : ℕ) (x : Loaded) (row : List Field) → k < length xs → x ≡ get_or xs k x → IsRowOf b.objects b.places k (loaded_view x) row → IsRowAt s k row
-    row_at k x row low is of =
-        let long = count_is in
-        record {
-          there = λ o within.
-              subst (λ (y : LoadedObject). IsRowOf (objects_of s) (where_of s) k y row) (object_is o)
-              (subst (λ (c : Bound). IsRowOf c.objects c.places k (loaded_view x) row) bound of);
-          past = λ past. absurd (omega (arith, low, past, long));
-        }
-      where
-        object_is : (o : LoadedObject) → loaded_view x ≡ get_or (objects_of s) k o
-        object_is o =
-            ap loaded_view is
-            ∙ (sym (get_or-map loaded_view xs k x o low) ∙ ap (λ (os : List LoadedObject). get_or os k o) objects_are)
 
 -- all relocations are right just where the ninth clause holds
 pub ninth : (s : Subject) → AreRight (objects_of s) (where_of s) (relocations (objects_of s)) ↔ AreRelocationsRight s

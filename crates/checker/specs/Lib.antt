@@ -7,6 +7,7 @@ pub mod Links
 pub mod Listed
 pub mod Neighbours
 pub mod ObjectLines
+pub mod Rising
 pub mod Sweeps
 pub mod Tabled
 pub mod ThreadBlock

@@ -39,7 +39,7 @@ fn same_past_end(a: &[u8], b: &[u8], from: u64, to: u64) -> bool
 }
 
 /// Whether two runs are equal from one byte on and below another; bytes past an end count as 0.
-fn same_between(a: &[u8], b: &[u8], from: u64, to: u64) -> bool
+pub(crate) fn same_between(a: &[u8], b: &[u8], from: u64, to: u64) -> bool
     requires { from ≤ to }
     ensures { IsTrue result ↔ AreSame a.now b.now from to }
 {
@@ -74,7 +74,7 @@ fn has_four(held: &[u8], at: u64) -> bool
 }
 
 /// Whether a field has the bytes of its value, the least significant first.
-fn has_value_at(held: &[u8], field: &Field) -> bool
+pub(crate) fn has_value_at(held: &[u8], field: &Field) -> bool
     requires { field.now.width ≤ 8 }
     ensures { IsTrue result ↔ ((j : ℕ) →
         j < field.now.width

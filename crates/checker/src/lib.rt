@@ -21,6 +21,7 @@ mod loaded_link;
 mod object_fields;
 mod observer;
 mod placed_link;
+mod rising_fields;
 mod same_runs;
 pub mod segments;
 mod sorted_things;

@@ -10,16 +10,16 @@ use Rattle.check_link.specs.Views.{placed_views}
 use Rattle.check_relocs.specs.Fields.{AreRight}
 use Rattle.check_relocs.proofs.ObjectFields.{object_read}
 use Rattle.check_relocs.proofs.RightParts.{right_end, right_more, right_stop}
-use Rattle.checker.proofs.LinkRows.{count_is, ninth, objects_are, own_there, right_in_link, row_at}
+use Rattle.checker.proofs.LinkRows.{count_is, ninth, objects_are, own_there}
 use Rattle.checker.proofs.PieceOrder.{compared_all, compared_none}
-use Rattle.checker.specs.Comparing.{AreCompared, IsRowAt}
+use Rattle.checker.specs.Comparing.{AreCompared}
 use Rattle.checker.proofs.object_fields.are_held.Goals as goal
 
 pub loop-k-init : goal.loop-k-init
 loop-k-init c =
     let s = c.args.bound.now in
     let all = AreRight (objects_of s) (where_of s) in
-    let same = ap (λ (os : List LoadedObject). relocations_of 0 os) (objects_are s c.bindings-bindings.result.now c.bindings-bindings.ensures c.objects-objects.result.now c.objects-objects.ensures) in
+    let same = ap (λ (os : List LoadedObject). relocations_of 0 os) (objects_are s c.bindings.result.now c.bindings.ensures c.objects-objects.result.now c.objects-objects.ensures) in
     record {
       within = omega arith;
       compared = compared_none s _ c.placed.ensures;
@@ -29,43 +29,33 @@ loop-k-init c =
 pub returns-in_default-clause-ninth : goal.returns-in_default-clause-ninth
 returns-in_default-clause-ninth c =
     let s = c.args.bound.now in
-    let b = c.bindings-bindings.result.now in
     let L = objects_of s in
     let w = where_of s in
     let xs = c.objects-objects.result.now in
     let k = c.loop-k.k in
     let x = c.index-objects-k.result in
     let here = relocations_from k (loaded_view x) in
-    let r = right_in_link s b c.bindings-bindings.ensures _ here (rw c.in_default.is at c.in_ok-row.ensures.right) in (
+    let r = rw c.in_default.is at c.in_ok-more.ensures.right in (
       λ e. absurd (false≢true e),
       λ h. absurd
           (right_stop L w (AreRight L w (relocations L)) (left_of_objects loaded_view xs k) here (left_of_objects loaded_view xs (k + 1))
           (object_read xs k x c.loop-k-test.true c.index-objects-k.is) (λ a. false≢true (r.1 a)) c.loop-k.invariant.right ((ninth s).1 h)),
     )
 
-pub compare_own-compared-requires-clause-row : goal.compare_own-compared-requires-clause-row
-compare_own-compared-requires-clause-row c =
-    let s = c.args.bound.now in
-    let b = c.bindings-bindings.result.now in
-    subst (IsRowAt s c.loop-k.k) (sym c.deref.ensures.value)
-    (row_at s b c.bindings-bindings.ensures c.objects-objects.result.now c.objects-objects.ensures c.loop-k.k c.index-objects-k.result c.in-Some.row.items
-    c.loop-k-test.true c.index-objects-k.is (rw c.in-Some.is at c.in_ok-row.ensures.row))
-
 pub loop-k-preserved : goal.loop-k-preserved
 loop-k-preserved c =
     let s = c.args.bound.now in
-    let b = c.bindings-bindings.result.now in
     let L = objects_of s in
     let w = where_of s in
     let xs = c.objects-objects.result.now in
     let k = c.loop-k.k in
     let x = c.index-objects-k.result in
     let here = relocations_from k (loaded_view x) in
-    let r = right_in_link s b c.bindings-bindings.ensures _ here (rw c.in-Some.is at c.in_ok-row.ensures.right) in
+    let r = rw c.in-Some.is at c.in_ok-more.ensures.right in
     let low = c.loop-k-test.true in
     record {
       within = omega (arith, low);
-      compared = c.compare_own-compared.ensures;
+      compared = rw c.in-Some.is at c.in_ok-more.ensures.compared;
       right =
           right_more L w (AreRight L w (relocations L)) (left_of_objects loaded_view xs k) here (left_of_objects loaded_view xs (k + 1))
           (object_read xs k x c.loop-k-test.true c.index-objects-k.is) (r.0 refl)
@@ -87,7 +77,7 @@ returns-clause-ninth c =
 -- behind the last object there are the common blocks alone, which have no fields
 pub compare_own-whole-requires-clause-row : goal.compare_own-whole-requires-clause-row
 compare_own-whole-requires-clause-row c =
-    let long = count_is c.args.bound.now c.bindings-bindings.result.now c.bindings-bindings.ensures c.objects-objects.result.now c.objects-objects.ensures in
+    let long = count_is c.args.bound.now c.bindings.result.now c.bindings.ensures c.objects-objects.result.now c.objects-objects.ensures in
     record { there = λ o within. absurd (omega (arith, within, long)); past = λ past. refl }
 
 pub compare_own-whole-requires-clause-so_far : goal.compare_own-whole-requires-clause-so_far
@@ -103,10 +93,12 @@ returns-clause-tenth c =
     let whole = c.compare_own-whole.result in
     compared_all s whole.held (placed_views whole.left.now)
     (subst (λ (n : ℕ). AreCompared s (n + 1) whole.held (placed_views whole.left.now))
-    (count_is s c.bindings-bindings.result.now c.bindings-bindings.ensures c.objects-objects.result.now c.objects-objects.ensures)
+    (count_is s c.bindings.result.now c.bindings.ensures c.objects-objects.result.now c.objects-objects.ensures)
     c.compare_own-whole.ensures)
 
-pub own_row-requires : goal.own_row-requires
-own_row-requires c =
-    own_there c.objects-objects.result.now c.bindings-bindings.result.now.objects c.loop-k.k c.index-objects-k.result c.objects-objects.ensures c.loop-k-test.true
-    c.index-objects-k.is
+pub compare_object-requires-clause-there : goal.compare_object-requires-clause-there
+compare_object-requires-clause-there c =
+    let s = c.args.bound.now in
+    let xs = c.objects-objects.result.now in
+    own_there xs (objects_of s) c.loop-k.k c.index-objects-k.result
+    (objects_are s c.bindings.result.now c.bindings.ensures xs c.objects-objects.ensures) c.loop-k-test.true c.index-objects-k.is
