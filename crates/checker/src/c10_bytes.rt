@@ -10,7 +10,7 @@ ghost use Rattle.elf_model.specs.RightLink.{HoldsBefore};
 ghost use Rattle.elf_model.specs.declared.verdict.Clause.TheVariants as clause;
 
 use crate::bound_link::BoundLink;
-use crate::same_runs::has_word_value;
+use crate::same_runs::{has_long_value, has_word_value};
 use crate::segments::{same_padded, sub_part};
 use check_link::{Placed, load_size, same_inside};
 use check_relocs::{Field, part_of};
@@ -73,6 +73,13 @@ fn has_four(held: &[u8], at: u64) -> bool
     held.len() >= 4 && at <= held.len() as u64 - 4
 }
 
+/// Whether a run has eight bytes from a place on.
+fn has_eight(held: &[u8], at: u64) -> bool
+    ensures { result ≡ true → IsInside held.now at 8 }
+{
+    held.len() >= 8 && at <= held.len() as u64 - 8
+}
+
 /// Whether a field has the bytes of its value, the least significant first.
 pub(crate) fn has_value_at(held: &[u8], field: &Field) -> bool
     requires { field.now.width ≤ 8 }
@@ -83,6 +90,9 @@ pub(crate) fn has_value_at(held: &[u8], field: &Field) -> bool
 {
     if field.width == 4 && has_four(held, field.at) {
         return has_word_value(held, field.at as usize, field.value);
+    }
+    if field.width == 8 && has_eight(held, field.at) {
+        return has_long_value(held, field.at as usize, field.value);
     }
     has_spelled_value(held, field)
 }
