@@ -2,6 +2,7 @@
 use crate::tests::loading::{load_words, put_file, words};
 use crate::tests::objects::{F_NAME, G_NAME, H_NAME, START_NAME, SYMBOLS, TEXT, object_with};
 use elf_model::{InputFile, STB_GLOBAL, STB_WEAK, Symbol};
+use search::Loaded;
 use std::alloc::{AllocError, Global};
 use std::test::Fail;
 
@@ -153,21 +154,29 @@ fn files(alloc: Global) -> Result<Vec<InputFile>, AllocError> {
     Ok(files)
 }
 
+/// Of each loaded object its item, the offset of its member and its path.
+fn contents_of(alloc: Global, loaded: &Loaded<'_>) -> Result<String, AllocError> {
+    let mut text = String::new(alloc);
+    for o in loaded.objects() {
+        let line = format!(in alloc; "{} {} {};", o.item, o.offset, o.path)?;
+        text.push_str(&line)?;
+    }
+    Ok(text)
+}
+
+/// What words load, told so; or the fault.
+fn loads_words(alloc: Global, words: &[String], files: &[InputFile]) -> Result<String, Fail> {
+    match load_words(alloc, words, files)? {
+        Ok(loaded) => Ok(contents_of(alloc, &loaded)?),
+        Err(fault) => Ok(format!(in alloc; "{fault}")?),
+    }
+}
+
 /// What the words of a line load: of each object its item, the offset of its member and its path; or the fault.
 fn loads(alloc: Global, line: &str) -> Result<String, Fail> {
     let files = files(alloc)?;
     let words = words(alloc, line)?;
-    let mut text = String::new(alloc);
-    match load_words(alloc, &words, &files)? {
-        Ok(loaded) => {
-            for o in loaded.objects() {
-                let line = format!(in alloc; "{} {} {};", o.item, o.offset, o.path)?;
-                text.push_str(&line)?;
-            }
-        }
-        Err(fault) => text.push_str(&format!(in alloc; "{fault}")?)?,
-    }
-    Ok(text)
+    loads_words(alloc, &words, &files)
 }
 
 /// Lines, and what they load.

@@ -50,24 +50,31 @@ fn files(alloc: Global) -> Result<Vec<InputFile>, AllocError> {
     Ok(files)
 }
 
-/// The item, the path and the number of sections of each object that a line loads, and the number of items; or the
-/// fault.
+/// The item, the path and the number of sections of each loaded object, and the number of items.
+fn contents_of(alloc: Global, loaded: &Loaded<'_>) -> Result<String, AllocError> {
+    let mut text = String::new(alloc);
+    for o in loaded.objects() {
+        let sections = o.object.sections().len();
+        text.push_str(&format!(in alloc; "{} {} {sections};", o.item, o.path)?)?;
+    }
+    let count = loaded.plan().items.len();
+    text.push_str(&format!(in alloc; "{count}")?)?;
+    Ok(text)
+}
+
+/// Those of the objects that words load; or the fault.
+fn told_words(alloc: Global, words: &[String], files: &[InputFile]) -> Result<String, Fail> {
+    match load_words(alloc, words, files)? {
+        Ok(loaded) => Ok(contents_of(alloc, &loaded)?),
+        Err(fault) => Ok(format!(in alloc; "{fault}")?),
+    }
+}
+
+/// Those of the objects that a line loads; or the fault.
 fn told(alloc: Global, line: &str) -> Result<String, Fail> {
     let files = files(alloc)?;
     let words = words(alloc, line)?;
-    let mut text = String::new(alloc);
-    match load_words(alloc, &words, &files)? {
-        Ok(loaded) => {
-            for o in loaded.objects() {
-                let sections = o.object.sections().len();
-                text.push_str(&format!(in alloc; "{} {} {sections};", o.item, o.path)?)?;
-            }
-            let count = loaded.plan().items.len();
-            text.push_str(&format!(in alloc; "{count}")?)?;
-        }
-        Err(fault) => text.push_str(&format!(in alloc; "{fault}")?)?,
-    }
-    Ok(text)
+    told_words(alloc, &words, &files)
 }
 
 /// Lines, and what they load. Objects stand in command order; missing files come before bad objects.

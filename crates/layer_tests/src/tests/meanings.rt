@@ -3,11 +3,13 @@ use crate::tests::objects::{
     DATA, F_NAME, G_NAME, START_NAME, SYMBOLS, TEXT, load_files, object_with, two_files,
 };
 use elf_model::{
-    ObjectId, SHF_ALLOC, SHF_TLS, SHF_WRITE, SHN_COMMON, SectionHeader, Symbol, SymbolRef, Target,
+    InputFile, ObjectId, SHF_ALLOC, SHF_TLS, SHF_WRITE, SHN_COMMON, SectionHeader, Symbol,
+    SymbolRef, Target,
 };
 use resolve::{
     Block, Definition, Definitions, ResolveFault, Resolved, SymbolOf, resolve, resolve_in,
 };
+use search::Loaded;
 use std::alloc::{AllocError, Global};
 use std::process::Abort;
 use std::test::Fail;
@@ -39,6 +41,16 @@ fn object_of(alloc: Global, symbols: &[Symbol; 2]) -> Result<Vec<u8>, AllocError
     };
     object_with(alloc, &[TEXT, thread, SYMBOLS], symbols, &[])
 }
+
+/// Two files, each with an object of these symbols.
+fn files_of(alloc: Global, a: &[Symbol; 2], b: &[Symbol; 2]) -> Result<Vec<InputFile>, AllocError> {
+    let a = object_of(alloc, a)?;
+    let b = object_of(alloc, b)?;
+    two_files(alloc, &a, &b)
+}
+
+/// The number of an object, and of a symbol or a block of it.
+type Numbers = Option<(u64, u64)>;
 
 /// The object's and the own number of a symbol.
 fn numbers(symbol: Option<SymbolOf<'_>>) -> Option<(u64, u64)> {
@@ -121,20 +133,23 @@ fn assert_own(rt: &impl Abort, resolved: &Resolved<'_>) {
     }
 }
 
-#[test]
-fn references_mean_strong_definitions(rt: HostRuntime) -> Result<(), Fail> {
-    let alloc = rt.alloc();
-    let a = object_of(alloc, &[global(G_NAME, 2), global(F_NAME, 0)])?;
-    let b = object_of(alloc, &[local(2), global(F_NAME, 2)])?;
-    let files = two_files(alloc, &a, &b)?;
-    let loaded = load_files(alloc, &files)?;
-    let resolved = resolve(alloc, &loaded)?;
+/// Asserts what names mean where the second object has the strong definition of `f`.
+fn assert_strong(rt: &impl Abort, resolved: &Resolved<'_>) {
     let f = numbers(resolved.symbol(b"f"));
     assert!(rt; f == Some((1, 2)) && resolved.symbol(b"h").is_none());
-    let first_other = TARGETS.iter().position(|row| !is_target(&resolved, row));
+    let first_other = TARGETS.iter().position(|row| !is_target(resolved, row));
     assert_eq!(rt; first_other, None);
-    assert_own(&rt, &resolved);
-    assert_names(&rt, resolved.definitions());
+    assert_own(rt, resolved);
+    assert_names(rt, resolved.definitions());
+}
+
+#[test]
+fn references_mean_strong_definitions(rt: HostRuntime) -> Result<(), Fail> {
+    let first = [global(G_NAME, 2), global(F_NAME, 0)];
+    let files = files_of(rt.alloc(), &first, &[local(2), global(F_NAME, 2)])?;
+    let loaded = load_files(rt.alloc(), &files)?;
+    let resolved = resolve(rt.alloc(), &loaded)?;
+    assert_strong(&rt, &resolved);
     Ok(())
 }
 
@@ -146,59 +161,74 @@ fn weak(st_name: u32, st_shndx: u16) -> Symbol {
     }
 }
 
-#[test]
-fn names_mean_weak_definitions_where_none_is_strong(rt: HostRuntime) -> Result<(), Fail> {
-    let alloc = rt.alloc();
-    let a = object_of(alloc, &[weak(G_NAME, 2), weak(F_NAME, 2)])?;
-    let b = object_of(alloc, &[weak(G_NAME, 2), global(F_NAME, 2)])?;
-    let files = two_files(alloc, &a, &b)?;
-    let loaded = load_files(alloc, &files)?;
-    let resolved = resolve(alloc, &loaded)?;
+/// What `g` and `f` mean, and what symbols of these names do, and how many definitions are chosen.
+fn weak_meanings(alloc: Global, loaded: &Loaded<'_>) -> Result<([Numbers; 4], usize), Fail> {
+    let resolved = resolve(alloc, loaded)?;
     let found = [
         numbers(resolved.symbol(b"g")),
         numbers(resolved.symbol(b"f")),
         meant_numbers(resolved.used(symbol_ref(1, 1))),
         meant_numbers(resolved.used(symbol_ref(0, 2))),
     ];
+    Ok((found, resolved.definitions().len()))
+}
+
+#[test]
+fn names_mean_weak_definitions_where_none_is_strong(rt: HostRuntime) -> Result<(), Fail> {
+    let first = [weak(G_NAME, 2), weak(F_NAME, 2)];
+    let files = files_of(rt.alloc(), &first, &[weak(G_NAME, 2), global(F_NAME, 2)])?;
+    let loaded = load_files(rt.alloc(), &files)?;
     let wanted = [Some((0, 1)), Some((1, 2)), Some((0, 1)), Some((1, 2))];
-    assert!(rt; found == wanted && resolved.definitions().len() == 2);
+    assert!(rt; weak_meanings(rt.alloc(), &loaded)? == (wanted, 2));
     Ok(())
 }
 
-fn assert_entry(rt: &impl Abort, resolved: &Resolved<'_>) {
-    assert!(rt; meant_numbers(resolved.entry(b"_start")) == Some((0, 1)));
-    assert!(rt; resolved.entry(b"f").is_none());
-    assert!(rt; resolved.entry(b"g").is_none());
-    for (object, number, inside) in [(0, 1, false), (0, 2, true), (1, 1, true), (1, 2, false)] {
-        let found = resolved.is_thread_local(symbol_ref(object, number));
-        assert_eq!(rt; found, inside, "symbol {number} of object {object}");
-    }
+/// Numbers of objects and of symbols, and whether the symbol is thread-local.
+static INSIDE: [(u64, u64, bool); 4] = [(0, 1, false), (0, 2, true), (1, 1, true), (1, 2, false)];
+
+/// The number of the first of those rows that is wrong.
+fn first_misplaced(resolved: &Resolved<'_>) -> Option<usize> {
+    INSIDE.iter().position(|(object, number, inside)| {
+        resolved.is_thread_local(symbol_ref(*object, *number)) != *inside
+    })
+}
+
+/// Whether the first symbol of the first object is the entry, and no other name is one.
+fn has_entry(resolved: &Resolved<'_>) -> bool {
+    meant_numbers(resolved.entry(b"_start")) == Some((0, 1))
+        && resolved.entry(b"f").is_none()
+        && resolved.entry(b"g").is_none()
+}
+
+/// Whether that holds of objects, and the number of the first of those rows that is wrong.
+fn entry_of(alloc: Global, loaded: &Loaded<'_>) -> Result<(bool, Option<usize>), Fail> {
+    let resolved = resolve_in(alloc, loaded, ListTable::new(alloc))?;
+    Ok((has_entry(&resolved), first_misplaced(&resolved)))
 }
 
 #[test]
 fn the_entry_stands_outside_thread_storage(rt: HostRuntime) -> Result<(), Fail> {
-    let alloc = rt.alloc();
-    let a = object_of(alloc, &[global(START_NAME, 2), global(F_NAME, 0)])?;
-    let b = object_of(alloc, &[global(F_NAME, 3), global(G_NAME, 0)])?;
-    let files = two_files(alloc, &a, &b)?;
-    let loaded = load_files(alloc, &files)?;
-    let resolved = resolve_in(alloc, &loaded, ListTable::new(alloc))?;
-    assert_entry(&rt, &resolved);
+    let first = [global(START_NAME, 2), global(F_NAME, 0)];
+    let files = files_of(rt.alloc(), &first, &[global(F_NAME, 3), global(G_NAME, 0)])?;
+    let loaded = load_files(rt.alloc(), &files)?;
+    assert_eq!(rt; entry_of(rt.alloc(), &loaded)?, (true, None));
     Ok(())
 }
 
 /// What the names of two objects are refused for, with the name that has two definitions, or `sound`.
 fn told(alloc: Global, a: &[Symbol; 2], b: &[Symbol; 2]) -> Result<String, Fail> {
-    let a = object_of(alloc, a)?;
-    let b = object_of(alloc, b)?;
-    let files = two_files(alloc, &a, &b)?;
+    let files = files_of(alloc, a, b)?;
     let loaded = load_files(alloc, &files)?;
-    let text = match resolve(alloc, &loaded).err() {
-        Some(ResolveFault::Duplicate(name)) => format!(in alloc; "Duplicate {name:?}")?,
-        Some(fault) => format!(in alloc; "{fault}")?,
-        None => format!(in alloc; "sound")?,
-    };
-    Ok(text)
+    Ok(told_of(alloc, resolve(alloc, &loaded).err())?)
+}
+
+/// What a fault of names is told as, with the name that has two definitions; `sound` where there is none.
+fn told_of(alloc: Global, fault: Option<ResolveFault>) -> Result<String, AllocError> {
+    match fault {
+        Some(ResolveFault::Duplicate(name)) => format!(in alloc; "Duplicate {name:?}"),
+        Some(fault) => format!(in alloc; "{fault}"),
+        None => String::from_str(alloc, "sound"),
+    }
 }
 
 const GLOBAL_F: Symbol = Symbol {
@@ -265,20 +295,28 @@ fn are_blocks(resolved: &Resolved<'_>, rows: &[BlockRow]) -> bool {
         })
 }
 
+/// Whether names of objects have these blocks, and what two symbols mean.
+fn loaded_share(
+    alloc: Global,
+    loaded: &Loaded<'_>,
+    blocks: &[BlockRow],
+    used: [SymbolRef; 2],
+) -> Result<(bool, [Numbers; 2]), Fail> {
+    let resolved = resolve(alloc, loaded)?;
+    let used = used.map(|symbol| meant_numbers(resolved.used(symbol)));
+    Ok((are_blocks(&resolved, blocks), used))
+}
+
 /// Whether the names of two objects have these blocks, and what two symbols of these objects mean.
 fn share(
     alloc: Global,
     objects: [[Symbol; 2]; 2],
     blocks: &[BlockRow],
     used: [SymbolRef; 2],
-) -> Result<(bool, [Option<(u64, u64)>; 2]), Fail> {
-    let a = object_of(alloc, &objects[0])?;
-    let b = object_of(alloc, &objects[1])?;
-    let files = two_files(alloc, &a, &b)?;
+) -> Result<(bool, [Numbers; 2]), Fail> {
+    let files = files_of(alloc, &objects[0], &objects[1])?;
     let loaded = load_files(alloc, &files)?;
-    let resolved = resolve(alloc, &loaded)?;
-    let used = used.map(|symbol| meant_numbers(resolved.used(symbol)));
-    Ok((are_blocks(&resolved, blocks), used))
+    loaded_share(alloc, &loaded, blocks, used)
 }
 
 static SHARED: [BlockRow; 2] = [(2, 0, b"g", 4, 16), (2, 1, b"f", 8, 4)];

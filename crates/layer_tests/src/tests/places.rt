@@ -1,4 +1,5 @@
 //! Layouts: where pieces stand, and in which segments, and what the linker's names for output sections stand for.
+ghost use Rattle.std.specs.Prelude.{◌≡◌, IfOk};
 ghost use Rattle.elf_model.specs.Pieces.{AreLawfulKinds};
 
 use crate::tests::objects::{
@@ -11,7 +12,7 @@ use elf_model::{
 };
 use got_tls::slots;
 use layout::{LayoutFault, Place, Placement, kinds, place};
-use resolve::{output_name, resolve};
+use resolve::{Resolved, output_name, resolve};
 use search::Loaded;
 use std::alloc::{AllocError, Global};
 use std::test::Fail;
@@ -36,38 +37,82 @@ fn tells(placement: &Placement<'_>, place: &Place<'_>) -> bool {
     placement.numbered_address(section) == Some(place.at)
 }
 
-fn summary_of(alloc: Global, placement: &Placement<'_>) -> Result<Summary, AllocError> {
+/// The object, the section and the address of each place of a layout.
+fn places_of(alloc: Global, placement: &Placement<'_>) -> Result<Vec<(u64, u64, u64)>, AllocError> {
     let mut places = Vec::new(alloc);
     for place in placement.places() {
         places.push((place.piece.object, place.piece.section, place.at))?;
     }
-    let told = placement
+    Ok(places)
+}
+
+/// How many places of a layout have the address that is told for their numbers.
+fn told_count(placement: &Placement<'_>) -> usize {
+    placement
         .places()
         .iter()
         .filter(|p| tells(placement, p))
-        .count();
+        .count()
+}
+
+/// The addresses of the blocks of `f`, `g` and `h` and of the GOT.
+fn named_addresses(placement: &Placement<'_>) -> [Option<u64>; 4] {
+    [
+        placement.common(b"f"),
+        placement.common(b"g"),
+        placement.common(b"h"),
+        placement.got(),
+    ]
+}
+
+fn summary_of(alloc: Global, placement: &Placement<'_>) -> Result<Summary, AllocError> {
+    let places = places_of(alloc, placement)?;
+    let segments = Vec::from_slice(alloc, placement.segments())?;
     Ok(Summary {
         base: placement.base(),
         places,
-        segments: Vec::from_slice(alloc, placement.segments())?,
-        told,
-        named: [
-            placement.common(b"f"),
-            placement.common(b"g"),
-            placement.common(b"h"),
-            placement.got(),
-        ],
+        segments,
+        told: told_count(placement),
+        named: named_addresses(placement),
     })
 }
 
-/// The layout of the objects of two files from 0x400000 on.
+/// The layout of objects from 0x400000 on.
+pub fn placed<'a>(
+    alloc: Global,
+    loaded: &Loaded<'a>,
+    resolved: &Resolved<'a>,
+) -> Result<Placement<'a>, LayoutFault>
+    requires { resolved.now ≡ loaded.now.objects }
+    ensures { IfOk result (λ p. p.objects ≡ loaded.now.objects) }
+{
+    let got = slots(alloc, loaded, resolved)?.got();
+    place(alloc, loaded, resolved, got, 0x400000)
+}
+
+/// What the layout of objects says whose names are resolved.
+fn resolved_summary<'a>(
+    alloc: Global,
+    loaded: &Loaded<'a>,
+    resolved: &Resolved<'a>,
+) -> Result<Summary, LayoutFault>
+    requires { resolved.now ≡ loaded.now.objects }
+{
+    let placement = placed(alloc, loaded, resolved)?;
+    Ok(summary_of(alloc, &placement)?)
+}
+
+/// What the layout of objects says.
+fn summary_in(alloc: Global, loaded: &Loaded<'_>) -> Result<Summary, Fail> {
+    let resolved = resolve(alloc, loaded)?;
+    Ok(resolved_summary(alloc, loaded, &resolved)?)
+}
+
+/// What the layout of the objects of two files says.
 fn lay_out(alloc: Global, a: &[u8], b: &[u8]) -> Result<Summary, Fail> {
     let files = two_files(alloc, a, b)?;
     let loaded = load_files(alloc, &files)?;
-    let resolved = resolve(alloc, &loaded)?;
-    let slots = slots(alloc, &loaded, &resolved)?;
-    let placement = place(alloc, &loaded, &resolved, slots.got(), 0x400000)?;
-    Ok(summary_of(alloc, &placement)?)
+    summary_in(alloc, &loaded)
 }
 
 /// What the kinds of an object with one section are refused for.
@@ -84,16 +129,25 @@ fn with_flags(sh_flags: u64, header: SectionHeader) -> SectionHeader {
     SectionHeader { sh_flags, ..header }
 }
 
+/// Whether the layout of objects is too large.
+fn is_too_large_in(alloc: Global, loaded: &Loaded<'_>) -> Result<bool, Fail> {
+    let resolved = resolve(alloc, loaded)?;
+    let placement = placed(alloc, loaded, &resolved);
+    Ok(matches!(placement, Err(LayoutFault::TooLarge)))
+}
+
+/// That of the objects of two files.
+fn is_too_large_of(alloc: Global, a: &[u8], b: &[u8]) -> Result<bool, Fail> {
+    let files = two_files(alloc, a, b)?;
+    let loaded = load_files(alloc, &files)?;
+    is_too_large_in(alloc, &loaded)
+}
+
 /// Whether the layout of an object is too large.
 fn is_too_large(alloc: Global, sections: &[SectionHeader]) -> Result<bool, Fail> {
     let none = object_of(alloc, &[])?;
     let other = object_of(alloc, sections)?;
-    let files = two_files(alloc, &none, &other)?;
-    let loaded = load_files(alloc, &files)?;
-    let resolved = resolve(alloc, &loaded)?;
-    let slots = slots(alloc, &loaded, &resolved)?;
-    let placement = place(alloc, &loaded, &resolved, slots.got(), 0x400000);
-    Ok(matches!(placement, Err(LayoutFault::TooLarge)))
+    is_too_large_of(alloc, &none, &other)
 }
 
 /// A PT_LOAD that the linker lays out from 0x400000 on.
@@ -253,13 +307,24 @@ fn first_wrong(placement: &Placement<'_>) -> Option<usize>
     BOUNDS.iter().position(|(name, bound, value)| placement.bound(name, *bound) != *value)
 }
 
+/// That of the layout of objects whose names are resolved.
+fn first_wrong_placed<'a>(
+    alloc: Global,
+    loaded: &Loaded<'a>,
+    resolved: &Resolved<'a>,
+) -> Result<Option<usize>, LayoutFault>
+    requires kinds { AreLawfulKinds loaded.now.objects }
+    requires resolved { resolved.now ≡ loaded.now.objects }
+{
+    let placement = placed(alloc, loaded, resolved)?;
+    Ok(first_wrong(&placement))
+}
+
 /// That of the layout of objects.
 fn first_wrong_in(alloc: Global, loaded: &Loaded<'_>) -> Result<Option<usize>, Fail> {
     kinds(loaded)?;
     let resolved = resolve(alloc, loaded)?;
-    let slots = slots(alloc, loaded, &resolved)?;
-    let placement = place(alloc, loaded, &resolved, slots.got(), 0x400000)?;
-    Ok(first_wrong(&placement))
+    Ok(first_wrong_placed(alloc, loaded, &resolved)?)
 }
 
 /// That of the layout of the objects of two files.

@@ -1,43 +1,88 @@
 //! The size of the GOT, the block of thread-local storage, and offsets from the thread pointer.
-ghost use Rattle.std.specs.Prelude.{◌<◌};
+ghost use Rattle.std.specs.Prelude.{◌≡◌, ◌<◌};
 
 use crate::tests::meanings::{global, local};
 use crate::tests::objects::{
     BSS, DATA, ENTRY, F_NAME, G_NAME, SYMBOLS, TEXT, load_files, object_of, object_with, one_file,
 };
+use crate::tests::places::placed;
 use elf_model::{Rela, SHF_ALLOC, SHF_TLS, SHF_WRITE, SectionHeader};
 use got_tls::{TlsBlock, slots, tls_block, tp_offset};
-use layout::place;
-use resolve::resolve;
+use layout::{LayoutFault, Placement};
+use resolve::{Resolved, resolve};
 use search::Loaded;
 use std::alloc::{AllocError, Global};
 use std::test::Fail;
 
-/// The GOT's size and the number of its slots.
-fn got_of(alloc: Global, loaded: &Loaded<'_>) -> Result<(u64, usize), Fail> {
-    let resolved = resolve(alloc, loaded)?;
-    let found = slots(alloc, loaded, &resolved)?;
+/// The GOT's size and the number of its slots, of objects whose names are resolved.
+fn resolved_got<'a>(
+    alloc: Global,
+    loaded: &Loaded<'a>,
+    resolved: &Resolved<'a>,
+) -> Result<(u64, usize), AllocError>
+    requires { resolved.now ≡ loaded.now.objects }
+{
+    let found = slots(alloc, loaded, resolved)?;
     Ok((found.got().0, found.slots().len()))
 }
 
-/// The start, the size and the alignment of the block of an object of these sections, laid out from 0x400000 on, and
-/// the offset of an address.
+/// The GOT's size and the number of its slots.
+fn got_of(alloc: Global, loaded: &Loaded<'_>) -> Result<(u64, usize), Fail> {
+    let resolved = resolve(alloc, loaded)?;
+    Ok(resolved_got(alloc, loaded, &resolved)?)
+}
+
+/// Those of the object in a file.
+fn got_of_file(alloc: Global, file: &[u8]) -> Result<(u64, usize), Fail> {
+    let files = one_file(alloc, file)?;
+    let loaded = load_files(alloc, &files)?;
+    got_of(alloc, &loaded)
+}
+
+/// The start, the size and the alignment of a block of thread-local storage, and the offset of an address in it.
+type Block = (u64, u64, u64, u64);
+
+/// The block of a layout.
+fn told_block(placement: &Placement<'_>, address: u64) -> Option<Block> {
+    let block = tls_block(placement)?;
+    let offset = tp_offset(block, address);
+    Some((block.start, block.size, block.align, offset))
+}
+
+/// The block of objects whose names are resolved, laid out from 0x400000 on.
+fn resolved_block<'a>(
+    alloc: Global,
+    loaded: &Loaded<'a>,
+    resolved: &Resolved<'a>,
+    address: u64,
+) -> Result<Option<Block>, LayoutFault>
+    requires { resolved.now ≡ loaded.now.objects }
+{
+    let placement = placed(alloc, loaded, resolved)?;
+    Ok(told_block(&placement, address))
+}
+
+/// That of objects.
+fn loaded_block(alloc: Global, loaded: &Loaded<'_>, address: u64) -> Result<Option<Block>, Fail> {
+    let resolved = resolve(alloc, loaded)?;
+    Ok(resolved_block(alloc, loaded, &resolved, address)?)
+}
+
+/// That of the object in a file.
+fn block_of_file(alloc: Global, file: &[u8], address: u64) -> Result<Option<Block>, Fail> {
+    let files = one_file(alloc, file)?;
+    let loaded = load_files(alloc, &files)?;
+    loaded_block(alloc, &loaded, address)
+}
+
+/// That of an object of these sections.
 fn block_of(
     alloc: Global,
     sections: &[SectionHeader],
     address: u64,
-) -> Result<Option<(u64, u64, u64, u64)>, Fail> {
+) -> Result<Option<Block>, Fail> {
     let file = object_of(alloc, sections)?;
-    let files = one_file(alloc, &file)?;
-    let loaded = load_files(alloc, &files)?;
-    let resolved = resolve(alloc, &loaded)?;
-    let slots = slots(alloc, &loaded, &resolved)?;
-    let placement = place(alloc, &loaded, &resolved, slots.got(), 0x400000)?;
-    let Some(block) = tls_block(&placement) else {
-        return Ok(None);
-    };
-    let offset = tp_offset(block, address);
-    Ok(Some((block.start, block.size, block.align, offset)))
+    block_of_file(alloc, &file, address)
 }
 
 /// `.tdata` of 4 bytes.
@@ -93,25 +138,25 @@ fn entry(r_offset: u64, r_info: u64) -> Rela {
     }
 }
 
-#[test]
-fn relocations_ask_for_slots(rt: HostRuntime) -> Result<(), Fail> {
-    let alloc = rt.alloc();
+/// The GOT's size and the number of its slots, of an object with relocations of these symbols and types.
+fn got_asked(alloc: Global, first: u64, second: u64) -> Result<(u64, usize), Fail> {
     let entries = SectionHeader {
         sh_link: 3,
         sh_info: 2,
         sh_size: 48,
         ..ENTRY
     };
+    let relas = [entry(0, first), entry(4, second)];
+    let symbols = [global(F_NAME, 2), global(G_NAME, 2)];
+    let file = object_with(alloc, &[TEXT, SYMBOLS, entries], &symbols, &relas)?;
+    got_of_file(alloc, &file)
+}
+
+#[test]
+fn relocations_ask_for_slots(rt: HostRuntime) -> Result<(), Fail> {
     for (first, second, size, count) in ASKING {
-        let relas = [entry(0, first), entry(4, second)];
-        let symbols = [global(F_NAME, 2), global(G_NAME, 2)];
-        let file = object_with(alloc, &[TEXT, SYMBOLS, entries], &symbols, &relas)?;
-        let files = one_file(alloc, &file)?;
-        let loaded = load_files(alloc, &files)?;
-        assert!(rt;
-            got_of(alloc, &loaded)? == (size, count),
-            "{first} and {second}"
-        );
+        let found = got_asked(rt.alloc(), first, second)?;
+        assert!(rt; found == (size, count), "{first} and {second}");
     }
     Ok(())
 }
@@ -144,9 +189,7 @@ fn many_slots(alloc: Global) -> Result<Vec<u8>, AllocError> {
 #[test]
 fn slots_may_be_many(rt: HostRuntime) -> Result<(), Fail> {
     let file = many_slots(rt.alloc())?;
-    let files = one_file(rt.alloc(), &file)?;
-    let loaded = load_files(rt.alloc(), &files)?;
-    assert!(rt; got_of(rt.alloc(), &loaded)? == (560_008, 70_000));
+    assert!(rt; got_of_file(rt.alloc(), &file)? == (560_008, 70_000));
     Ok(())
 }
 

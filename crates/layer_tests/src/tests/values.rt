@@ -14,7 +14,7 @@ use elf_model::{
     Bound, ObjectId, Rela, SHF_ALLOC, SHF_WRITE, STT_SECTION, SectionHeader, SectionRef, Symbol,
 };
 use got_tls::{Slots, slots};
-use layout::{Placement, kinds, place};
+use layout::{LayoutFault, Placement, kinds, place};
 use relocate::{
     Kind, Patches, RelocFault, Terms, apply, apply_part, fits, linker_lines, next_field, patches,
     references, value,
@@ -22,6 +22,7 @@ use relocate::{
 use resolve::{Resolved, resolve};
 use search::Loaded;
 use std::alloc::{AllocError, Global};
+use std::process::Abort;
 use std::test::Fail;
 
 /// The symbol of a section.
@@ -112,11 +113,7 @@ fn judged_patches<'a>(
 /// The bytes that are wanted of a section of the first object, laid out from 0x400000 on.
 fn applied(alloc: Global, loaded: &Loaded<'_>, number: usize) -> Result<Vec<u8>, Fail> {
     let input = input_of(loaded, number).ok_or("no section's bytes")?;
-    kinds(loaded)?;
-    let resolved = resolve(alloc, loaded)?;
-    let slots = slots(alloc, loaded, &resolved)?;
-    let placement = place(alloc, loaded, &resolved, slots.got(), 0x400000)?;
-    let patches = judged_patches(alloc, loaded, &resolved, &placement, &slots)?;
+    let patches = laid_out(alloc, loaded)?;
     let mut bytes = Vec::from_slice(alloc, input)?;
     let section = SectionRef {
         object: ObjectId(0),
@@ -126,14 +123,55 @@ fn applied(alloc: Global, loaded: &Loaded<'_>, number: usize) -> Result<Vec<u8>,
     Ok(bytes)
 }
 
-/// The patches of objects that are laid out from 0x400000 on.
-fn laid_out<'a>(alloc: Global, loaded: &Loaded<'a>) -> Result<Patches<'a>, Fail> {
+/// The patches of objects whose slots are known, laid out from 0x400000 on, or what their relocations are refused for.
+fn slotted_patches<'a>(
+    alloc: Global,
+    loaded: &Loaded<'a>,
+    resolved: &Resolved<'a>,
+    slots: &Slots<'a>,
+) -> Result<Result<Patches<'a>, RelocFault>, LayoutFault>
+    requires resolved { resolved.now ≡ loaded.now.objects }
+    requires slots { slots.now.slots ≡ wanted.slots loaded.now.objects }
+    requires slots_of { slots.now.objects ≡ loaded.now.objects }
+    requires got { slots.now.got ≡ wanted.got_size loaded.now.objects }
+    requires kinds { AreLawfulKinds loaded.now.objects }
+    ensures { IfOk result (λ r. IfOk r (λ p. p.objects ≡ loaded.now.objects)) }
+{
+    let placement = place(alloc, loaded, resolved, slots.got(), 0x400000)?;
+    Ok(judged_patches(alloc, loaded, resolved, &placement, slots))
+}
+
+/// Those of objects whose names are resolved.
+fn resolved_patches<'a>(
+    alloc: Global,
+    loaded: &Loaded<'a>,
+    resolved: &Resolved<'a>,
+) -> Result<Result<Patches<'a>, RelocFault>, LayoutFault>
+    requires resolved { resolved.now ≡ loaded.now.objects }
+    requires kinds { AreLawfulKinds loaded.now.objects }
+    ensures { IfOk result (λ r. IfOk r (λ p. p.objects ≡ loaded.now.objects)) }
+{
+    let slots = slots(alloc, loaded, resolved)?;
+    slotted_patches(alloc, loaded, resolved, &slots)
+}
+
+/// Those of objects.
+fn loaded_patches<'a>(
+    alloc: Global,
+    loaded: &Loaded<'a>,
+) -> Result<Result<Patches<'a>, RelocFault>, Fail>
+    ensures { IfOk result (λ r. IfOk r (λ p. p.objects ≡ loaded.now.objects)) }
+{
     kinds(loaded)?;
     let resolved = resolve(alloc, loaded)?;
-    let slots = slots(alloc, loaded, &resolved)?;
-    let placement = place(alloc, loaded, &resolved, slots.got(), 0x400000)?;
-    let patches = judged_patches(alloc, loaded, &resolved, &placement, &slots)?;
-    Ok(patches)
+    Ok(resolved_patches(alloc, loaded, &resolved)?)
+}
+
+/// The patches of objects that are laid out from 0x400000 on.
+fn laid_out<'a>(alloc: Global, loaded: &Loaded<'a>) -> Result<Patches<'a>, Fail>
+    ensures { IfOk result (λ p. p.objects ≡ loaded.now.objects) }
+{
+    Ok(loaded_patches(alloc, loaded)??)
 }
 
 /// Section 2 of the first object, `.rodata`.
@@ -381,54 +419,75 @@ fn fields_have_their_values(rt: HostRuntime) -> Result<(), Fail> {
     Ok(())
 }
 
-#[test]
-fn fields_are_written_in_parts(rt: HostRuntime) -> Result<(), Fail> {
-    let alloc = rt.alloc();
-    let file = object_over(alloc, DATA_SYMBOL, DISTANCE, 4, ADDRESS)?;
-    let files = one_file(alloc, &file)?;
-    let loaded = load_files(alloc, &files)?;
-    let patches = laid_out(alloc, &loaded)?;
-    let input = input_of(&loaded, 2).ok_or("no section's bytes")?;
-    // As above; the field has the first four of five bytes, so a cut is before it, in it, at its end or at the section's end.
+/// Where to begin in the section, and the first byte from there on that has a field.
+static NEXT_FIELDS: [(u64, u64); 5] = [(0, 0), (1, 1), (3, 3), (4, u64::MAX), (5, u64::MAX)];
+
+/// Asserts what patches write in two parts, cut at each byte, and where they have fields: the field has the first four
+/// of five bytes, so a cut is before it, in it, at its end or at the section's end.
+fn assert_parts<R: Abort + AllocGlobal>(
+    rt: &R,
+    patches: &Patches<'_>,
+    input: &[u8],
+) -> Result<(), Fail> {
     for middle in 0..6 {
-        let bytes = in_two_parts(alloc, &patches, input, middle)?;
+        let bytes = in_two_parts(rt.alloc(), patches, input, middle)?;
         assert!(rt;
             bytes.as_slice() == [0xe0, 0x1e, 0, 0, 5].as_slice(),
             "at {middle}"
         );
     }
-    for (from, next) in [(0, 0), (1, 1), (3, 3), (4, u64::MAX), (5, u64::MAX)] {
-        assert_eq!(rt; next_field(&patches, rodata(), from), next, "from {from}");
+    for (from, next) in NEXT_FIELDS {
+        assert_eq!(rt; next_field(patches, rodata(), from), next, "from {from}");
     }
     Ok(())
 }
 
+/// Asserts it of the patches of the object in a file.
+fn assert_parts_of<R: Abort + AllocGlobal>(rt: &R, file: &[u8]) -> Result<(), Fail> {
+    let files = one_file(rt.alloc(), file)?;
+    let loaded = load_files(rt.alloc(), &files)?;
+    let input = input_of(&loaded, 2).ok_or("no section's bytes")?;
+    let patches = laid_out(rt.alloc(), &loaded)?;
+    assert_parts(rt, &patches, input)
+}
+
+#[test]
+fn fields_are_written_in_parts(rt: HostRuntime) -> Result<(), Fail> {
+    // As above.
+    let file = object_over(rt.alloc(), DATA_SYMBOL, DISTANCE, 4, ADDRESS)?;
+    assert_parts_of(&rt, &file)
+}
+
+/// Whether the only line of a name of the linker's is that of `_etext`, the end of the code.
+fn has_line_of_etext(alloc: Global, loaded: &Loaded<'_>) -> Result<bool, Fail> {
+    let resolved = resolve(alloc, loaded)?;
+    let lines = linker_lines(alloc, loaded, &resolved)?;
+    let [(name, bound)] = lines.as_slice() else {
+        return Ok(false);
+    };
+    Ok(*name == b"_etext".as_slice() && matches!(bound, Bound::CodeEnd))
+}
+
+/// Whether it is that of the object in a file.
+fn tells_etext(alloc: Global, file: &[u8]) -> Result<bool, Fail> {
+    let files = one_file(alloc, file)?;
+    let loaded = load_files(alloc, &files)?;
+    has_line_of_etext(alloc, &loaded)
+}
+
 #[test]
 fn linkers_names_in_use_have_lines(rt: HostRuntime) -> Result<(), Fail> {
-    let alloc = rt.alloc();
-    let file = object_over(alloc, TEXT_END, SHORT, 4, LONG)?;
-    let files = one_file(alloc, &file)?;
-    let loaded = load_files(alloc, &files)?;
-    let resolved = resolve(alloc, &loaded)?;
-    let lines = linker_lines(alloc, &loaded, &resolved)?;
-    let [(name, bound)] = lines.as_slice() else {
-        return Err("one line".into());
-    };
-    assert!(rt; *name == b"_etext".as_slice() && matches!(bound, Bound::CodeEnd));
+    let file = object_over(rt.alloc(), TEXT_END, SHORT, 4, LONG)?;
+    assert!(rt; tells_etext(rt.alloc(), &file)?);
     Ok(())
 }
 
 /// What the relocations of objects are refused for, or `lawful`.
 fn refusal(alloc: Global, loaded: &Loaded<'_>) -> Result<String, Fail> {
-    kinds(loaded)?;
-    let resolved = resolve(alloc, loaded)?;
-    let slots = slots(alloc, loaded, &resolved)?;
-    let placement = place(alloc, loaded, &resolved, slots.got(), 0x400000)?;
-    let text = match judged_patches(alloc, loaded, &resolved, &placement, &slots) {
-        Ok(_) => format!(in alloc; "lawful")?,
-        Err(fault) => format!(in alloc; "{fault}")?,
-    };
-    Ok(text)
+    match loaded_patches(alloc, loaded)? {
+        Ok(_) => Ok(String::from_str(alloc, "lawful")?),
+        Err(fault) => Ok(format!(in alloc; "{fault}")?),
+    }
 }
 
 /// That of a file's object.
