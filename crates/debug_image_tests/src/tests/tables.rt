@@ -9,6 +9,7 @@ use link_samples::parts::{START, TEXT, THREAD_DATA, THREAD_ZEROS};
 use link_samples::vectors::{OBJECT, image as text_image};
 use resolve::resolve;
 use std::alloc::Global;
+use std::process::Abort;
 use std::test::Fail;
 
 /// A plain image of a link without a symbol table, and a debuggable one.
@@ -65,14 +66,28 @@ fn with_tables(image: Vec<u8>, fields: [(usize, u8); 4], tables: &[u8]) -> Resul
     Ok(file)
 }
 
-#[test]
-fn an_image_of_one_text_has_its_section_and_its_symbol(rt: HostRuntime) -> Result<(), Fail> {
-    let files = one_file(rt.alloc(), "a.o", &OBJECT)?;
-    let images = images_of(rt.alloc(), &files, true)?;
-    let wanted = with_tables(text_image(rt.alloc())?, TEXT_FIELDS, &TEXT_TABLES)?;
-    assert!(rt; images.debuggable == wanted);
+/// Asserts that the plain image of a link is its debuggable one without what tools read.
+fn assert_plain<R: Abort + AllocGlobal>(rt: &R, images: &Images) -> Result<(), Fail> {
     assert!(rt; plain_image(rt.alloc(), &images.debuggable)? == images.plain);
     Ok(())
+}
+
+/// Asserts the debuggable image of a link, and that of its plain one.
+fn assert_images<R: Abort + AllocGlobal>(
+    rt: &R,
+    images: &Images,
+    wanted: &[u8],
+) -> Result<(), Fail> {
+    assert!(rt; images.debuggable.as_slice() == wanted);
+    assert_plain(rt, images)
+}
+
+#[test]
+fn an_image_of_one_text_has_its_section_and_its_symbol(rt: HostRuntime) -> Result<(), Fail> {
+    let wanted = with_tables(text_image(rt.alloc())?, TEXT_FIELDS, &TEXT_TABLES)?;
+    let files = one_file(rt.alloc(), "a.o", &OBJECT)?;
+    let images = images_of(rt.alloc(), &files, true)?;
+    assert_images(&rt, &images, &wanted)
 }
 
 /// Thread-local zeros, eight bytes.
@@ -137,31 +152,31 @@ static SYMBOLS: [NamedSymbol<'static>; 8] = [
     },
 ];
 
+/// The images of an object with thread-local storage.
+fn thread_images(alloc: Global, with_locals: bool) -> Result<Images, Fail> {
+    let object = relocatable(alloc, &[TEXT, THREAD_DATA, TBSS], &SYMBOLS, &[])?;
+    let files = one_file(alloc, "a.o", &object)?;
+    images_of(alloc, &files, with_locals)
+}
+
 #[test]
 fn symbols_are_of_their_sections_and_thread_local_ones_are_offsets(
     rt: HostRuntime,
 ) -> Result<(), Fail> {
-    let object = relocatable(rt.alloc(), &[TEXT, THREAD_DATA, TBSS], &SYMBOLS, &[])?;
-    let files = one_file(rt.alloc(), "a.o", &object)?;
-    let images = images_of(rt.alloc(), &files, true)?;
+    let images = thread_images(rt.alloc(), true)?;
     let plain = Vec::from_slice(rt.alloc(), &images.plain)?;
     assert_eq!(rt; plain.len(), THREAD_END);
     let wanted = with_tables(plain, THREAD_FIELDS, &THREAD_TABLES)?;
-    assert!(rt; images.debuggable == wanted);
-    assert!(rt; plain_image(rt.alloc(), &images.debuggable)? == images.plain);
-    Ok(())
+    assert_images(&rt, &images, &wanted)
 }
 
 #[test]
 fn an_image_without_local_symbols_begins_with_the_same_bytes(rt: HostRuntime) -> Result<(), Fail> {
-    let object = relocatable(rt.alloc(), &[TEXT, THREAD_DATA, TBSS], &SYMBOLS, &[])?;
-    let files = one_file(rt.alloc(), "a.o", &object)?;
-    let images = images_of(rt.alloc(), &files, false)?;
+    let images = thread_images(rt.alloc(), false)?;
     // The entries of three symbols are left out, and 13 bytes of names, which 3 bytes of padding follow.
     assert_eq!(rt;
         images.debuggable.len() + 3 * 24 + 16,
         THREAD_END + THREAD_TABLES.len()
     );
-    assert!(rt; plain_image(rt.alloc(), &images.debuggable)? == images.plain);
-    Ok(())
+    assert_plain(&rt, &images)
 }
