@@ -65,16 +65,21 @@ fn written(alloc: Global, linkage: &Linkage<'_>, limit: u64) -> (Result<(), Writ
     (result, sink)
 }
 
+/// Asserts that the image of the object is written byte by byte.
+fn assert_written<R: Abort + AllocGlobal>(rt: &R, linkage: &Linkage<'_>) -> Result<(), Fail> {
+    let (result, sink) = written(rt.alloc(), linkage, u64::MAX);
+    result?;
+    assert!(rt; (sink.calls, sink.failures) == (4105, 0));
+    assert!(rt; sink.taken == image(rt.alloc())?);
+    Ok(())
+}
+
 #[test]
 fn an_image_is_written_byte_by_byte(rt: HostRuntime) -> Result<(), Fail> {
     let files = one_file(rt.alloc(), "a.o", &OBJECT)?;
     let words = words_of(rt.alloc(), "-s a.o")?;
     let linkage = prepare(rt.alloc(), &files, &words)?;
-    let (result, sink) = written(rt.alloc(), &linkage, u64::MAX);
-    result?;
-    assert!(rt; (sink.calls, sink.failures) == (4105, 0));
-    assert!(rt; sink.taken == image(rt.alloc())?);
-    Ok(())
+    assert_written(&rt, &linkage)
 }
 
 /// Whether a device that fails at a call has taken just the bytes before it, and was called no more.
@@ -86,16 +91,21 @@ fn breaks_at(alloc: Global, linkage: &Linkage<'_>, whole: &[u8], call: usize) ->
         && (sink.calls, sink.failures) == ((call as u64).saturating_add(1), 1)
 }
 
+/// Asserts it of a device that fails, at each call.
+fn assert_breaks<R: Abort + AllocGlobal>(rt: &R, linkage: &Linkage<'_>) -> Result<(), Fail> {
+    let whole = image(rt.alloc())?;
+    for call in 0..whole.len() {
+        assert!(rt; breaks_at(rt.alloc(), linkage, &whole, call), "{call}");
+    }
+    Ok(())
+}
+
 #[test]
 fn a_device_that_fails_has_a_beginning_of_the_image(rt: HostRuntime) -> Result<(), Fail> {
     let files = one_file(rt.alloc(), "a.o", &OBJECT)?;
     let words = words_of(rt.alloc(), "-s a.o")?;
     let linkage = prepare(rt.alloc(), &files, &words)?;
-    let whole = image(rt.alloc())?;
-    for call in 0..whole.len() {
-        assert!(rt; breaks_at(rt.alloc(), &linkage, &whole, call), "{call}");
-    }
-    Ok(())
+    assert_breaks(&rt, &linkage)
 }
 
 static ZEROS: [u8; 8192] = [0; 8192];
@@ -110,20 +120,32 @@ fn across(alloc: Global) -> Result<Vec<u8>, Fail> {
     relocatable(alloc, &[TEXT, data_], &[SECTION_2, START], &relocations)
 }
 
-#[test]
-fn a_field_may_lie_across_the_end_of_the_buffer(rt: HostRuntime) -> Result<(), Fail> {
-    let files = one_file(rt.alloc(), "a.o", &across(rt.alloc())?)?;
-    let words = words_of(rt.alloc(), "-s a.o")?;
-    let linkage = prepare(rt.alloc(), &files, &words)?;
-    let mut wanted = Vec::new(rt.alloc());
+/// The bytes that its data are to be.
+fn data_across(alloc: Global) -> Result<Vec<u8>, Fail> {
+    let mut wanted = Vec::new(alloc);
     wanted.resize(4092, 0)?;
     wanted.extend_from_slice(&[0, 0x20, 0x40, 0, 0, 0, 0, 0])?;
     wanted.resize(8192, 0)?;
-    let (result, sink) = written(rt.alloc(), &linkage, u64::MAX);
+    Ok(wanted)
+}
+
+/// Asserts that the written image has these bytes, and is the whole image.
+fn assert_across<R: Abort + AllocGlobal>(rt: &R, linkage: &Linkage<'_>) -> Result<(), Fail> {
+    let (result, sink) = written(rt.alloc(), linkage, u64::MAX);
     result?;
-    assert!(rt; sink.taken.get(0x2000..) == Some(wanted.as_slice()));
-    assert!(rt; sink.taken == ld_main::image(rt.alloc(), &linkage)?);
+    let data = sink.taken.get(0x2000..);
+    assert!(rt; data == Some(data_across(rt.alloc())?.as_slice()));
+    assert!(rt; sink.taken == ld_main::image(rt.alloc(), linkage)?);
     Ok(())
+}
+
+#[test]
+fn a_field_may_lie_across_the_end_of_the_buffer(rt: HostRuntime) -> Result<(), Fail> {
+    let object = across(rt.alloc())?;
+    let files = one_file(rt.alloc(), "a.o", &object)?;
+    let words = words_of(rt.alloc(), "-s a.o")?;
+    let linkage = prepare(rt.alloc(), &files, &words)?;
+    assert_across(&rt, &linkage)
 }
 
 /// One file in memory, and one that can't be read.

@@ -7,6 +7,7 @@ use link_samples::one_object::{one_file, words_of};
 use link_samples::parts::{COMMON, NO_F, R_PC32, START, TEXT, THREAD_DATA};
 use link_samples::vectors::{MAP, OBJECT, OLD_MAP, image};
 use std::alloc::Global;
+use std::process::Abort;
 use std::test::Fail;
 
 /// The map of the image with a symbol table.
@@ -60,29 +61,30 @@ fn link_of(alloc: Global, files: &[InputFile], line: &str) -> Result<Output, Fai
     Ok(linked_by(alloc, files, &words)??)
 }
 
-#[test]
-fn an_image_ends_with_its_symbol_table(rt: HostRuntime) -> Result<(), Fail> {
+/// Asserts the image and the map of a command line over the object alone.
+fn assert_output<R: Abort + AllocGlobal>(
+    rt: &R,
+    line: &str,
+    image: &[u8],
+    map: &[u8],
+) -> Result<(), Fail> {
     let files = one_file(rt.alloc(), "a.o", &OBJECT)?;
-    let output = link_of(rt.alloc(), &files, "a.o")?;
-    assert!(rt; output.image == image_with_table(rt.alloc())?);
-    assert_eq!(rt; output.image.len(), 4456);
-    assert!(rt; output.map.as_slice() == TABLE_MAP);
-    let bare = link_of(rt.alloc(), &files, "a.o -s")?;
-    assert!(rt; bare.image == image(rt.alloc())?);
-    assert!(rt; bare.map.as_slice() == MAP);
+    let output = link_of(rt.alloc(), &files, line)?;
+    assert!(rt; output.image.as_slice() == image, "{line}");
+    assert!(rt; output.map.as_slice() == map, "{line}");
     Ok(())
 }
 
-/// What the check says of `a.o`'s image, or of that with a table, changed in one byte, with a map, by a line.
-fn verdict_on(
-    alloc: Global,
-    line: &str,
-    map: &[u8],
-    table: bool,
-    change: Option<(usize, u8)>,
-) -> Result<Verdict, Fail> {
-    let files = one_file(alloc, "a.o", &OBJECT)?;
-    let words = words_of(alloc, line)?;
+#[test]
+fn an_image_ends_with_its_symbol_table(rt: HostRuntime) -> Result<(), Fail> {
+    let whole = image_with_table(rt.alloc())?;
+    assert_eq!(rt; whole.len(), 4456);
+    assert_output(&rt, "a.o", &whole, TABLE_MAP)?;
+    assert_output(&rt, "a.o -s", &image(rt.alloc())?, MAP)
+}
+
+/// The image of the object, with or without a symbol table, with a byte changed where one is given.
+fn changed_image(alloc: Global, table: bool, change: Option<(usize, u8)>) -> Result<Vec<u8>, Fail> {
     let mut bytes = if table {
         image_with_table(alloc)?
     } else {
@@ -91,7 +93,26 @@ fn verdict_on(
     if let Some((at, byte)) = change {
         *bytes.get_mut(at).ok_or("the image")? = byte;
     }
-    Ok(check(alloc, &files, &words, &bytes, map)?)
+    Ok(bytes)
+}
+
+/// What the check says of an image.
+fn verdict_of(alloc: Global, line: &str, map: &[u8], image: &[u8]) -> Result<Verdict, Fail> {
+    let files = one_file(alloc, "a.o", &OBJECT)?;
+    let words = words_of(alloc, line)?;
+    Ok(check(alloc, &files, &words, image, map)?)
+}
+
+/// What it says of the image of the object, with or without a symbol table, with a byte changed where one is given.
+fn verdict_on(
+    alloc: Global,
+    line: &str,
+    map: &[u8],
+    table: bool,
+    change: Option<(usize, u8)>,
+) -> Result<Verdict, Fail> {
+    let image = changed_image(alloc, table, change)?;
+    verdict_of(alloc, line, map, &image)
 }
 
 /// Texts of the map with a table, others in their places, and what the check says of the map.
@@ -175,13 +196,18 @@ static EACH_KIND: [u8; 120] = [
     0x61, 0x72, 0x74, 0x00, 0x63, 0x00, 0x77, 0x00,
 ];
 
-#[test]
-fn each_kind_of_definition_has_its_entry(rt: HostRuntime) -> Result<(), Fail> {
+/// The link of an object with a definition of each kind.
+fn output_of_kinds(alloc: Global) -> Result<Output, Fail> {
     let symbols = [START, WEAK_OBJECT, COMMON, THREAD_OBJECT, ZERO_START];
     let relocations = [Relocation(1, 1, R_PC32, 5, 0)];
-    let bytes = relocatable(rt.alloc(), &[TEXT, THREAD_DATA], &symbols, &relocations)?;
-    let files = one_file(rt.alloc(), "a.o", &bytes)?;
-    let output = link_of(rt.alloc(), &files, "a.o")?;
+    let bytes = relocatable(alloc, &[TEXT, THREAD_DATA], &symbols, &relocations)?;
+    let files = one_file(alloc, "a.o", &bytes)?;
+    link_of(alloc, &files, "a.o")
+}
+
+#[test]
+fn each_kind_of_definition_has_its_entry(rt: HostRuntime) -> Result<(), Fail> {
+    let output = output_of_kinds(rt.alloc())?;
     assert_eq!(rt; output.image.len(), 0x21b8);
     assert!(rt; has_bytes(&output.image, 0x2020, &EACH_KIND));
     assert!(rt; output.map.ends_with(b"symtab 8200 5\nend\n"));
