@@ -310,7 +310,7 @@ def sections_of(page):
     """The section of the page of definitions that speaks of a file, for each file that one speaks of."""
     found = {}
     for name, said in re.findall(r"^### (\w+)\n(.*?)(?=^##|\Z)", page, re.M | re.S):
-        for path in re.findall(r"`(\w+/specs/\w+\.antt)`", said):
+        for path in re.findall(r"`(\w+/specs/[\w/]+\.antt)`", said):
             found.setdefault(f"crates/{path}", name)
     return found
 
@@ -393,7 +393,7 @@ def table_of_words(all_crates, sections):
     for word, path in sorted(found, key=lambda it: (spec_path(it[1]), it[0])):
         if re.search(r"_views?$", word):
             continue
-        crate, _, file = path.partition(".specs.")
+        crate, _, file = path.replace(".", "/").partition("/specs/")
         said = (meaning_of(path, word) or "").replace("|", "\\|")
         lines.append(f"| {code(word)} | [{crate}/{file}](../{spec_path(path)}) | {said} |")
     return lines + [""]

@@ -29,7 +29,7 @@ tools/try_edits.py --only-read || failed=1
 tools/promises.py --check || failed=1
 tools/lemmas.py --check || failed=1
 for crate in check_load check_link check_relocs checker; do
-    grep -rnE 'elf_model\.specs\.(OwnLayout|OwnAddresses|ImageFile)\b' "$copy/crates/$crate" && failed=1
+    grep -rn 'elf_model\.specs\.Own\.' "$copy/crates/$crate" && failed=1
 done
 if command -v mandoc >/dev/null; then
     (cd docs/man && mandoc -Tlint ./*.[0-9]) || failed=1

@@ -3,7 +3,7 @@ use Rattle.std.proofs.Common.{ℕ, zero, suc, ◌<◌, ◌≤◌, Bool, true, fa
 use Rattle.std.specs.Prelude.{All, AllPairs, filter, nat_lt}
 use Rattle.std.proofs.lemmas.List.Elements.{All-cons, All-nil, All-weaker}
 use Rattle.std.proofs.lemmas.List.Kept.{AllPairs-cons, AllPairs-filter}
-use Rattle.elf_model.specs.ArchiveFile.{StoredMember, header_offsets, header_offsets_from, is_ordinary, is_readable, member_of, members, next_header, stored_member, stored_members}
+use Rattle.elf_model.specs.Inputs.ArchiveFile.{StoredMember, header_offsets, header_offsets_from, is_ordinary, is_readable, member_of, members, next_header, stored_member, stored_members}
 use Rattle.elf_model.proofs.Pairs.{AllPairs-map, AllPairs-nil}
 use Rattle.ar_index.specs.Reading.{AreAscending}
 

@@ -4,7 +4,7 @@ use Rattle.std.specs.Prelude.{All}
 use Rattle.std.proofs.Math.Nat.{mul-suc}
 use Rattle.std.proofs.lemmas.List.{append_assoc, append-nil, drop-drop, get_or_default}
 use Rattle.byteview.specs.Numbers.{HasText, be_at, text}
-use Rattle.elf_model.specs.ArchiveFile.{AreTexts, IndexEntry, after_text, entries_from}
+use Rattle.elf_model.specs.Inputs.ArchiveFile.{AreTexts, IndexEntry, after_text, entries_from}
 use Rattle.elf_model.proofs.Rests.{Left}
 
 -- the first i of count entries were read, and the rest of the strings is left

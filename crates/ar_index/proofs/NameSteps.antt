@@ -6,7 +6,7 @@ use Rattle.std.proofs.lemmas.Bool.{cases_lt, false≢true, lt-ltb, ltb-true}
 use Rattle.std.proofs.lemmas.List.{get_or_default, take_all, take_more}
 use Rattle.std.proofs.lemmas.List.Folds.{find-append}
 use Rattle.std.proofs.lemmas.List.Sums.{count_by_more_no, count_by_more_yes, sum_by-take-le}
-use Rattle.elf_model.specs.ArchiveFile.{HasGoodNames, IsLongName, IsNamed, IsShortName, StoredMember, is_index, is_long_names, long_names, null_member, number}
+use Rattle.elf_model.specs.Inputs.ArchiveFile.{HasGoodNames, IsLongName, IsNamed, IsShortName, StoredMember, is_index, is_long_names, long_names, null_member, number}
 use Rattle.ar_index.specs.Reading.{IsLimit, IsLongNameField}
 use Rattle.ar_index.proofs.LongTexts.{limit_none, none_at_all}
 

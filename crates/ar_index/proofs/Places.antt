@@ -8,7 +8,7 @@ use Rattle.std.proofs.lemmas.Bool.{cases_lt, eq-eqb, ltb-false, ltb-true, ne_eqb
 use Rattle.std.proofs.lemmas.List.{get_or_default}
 use Rattle.std.proofs.lemmas.List.Elements.{All-head, All-tail}
 use Rattle.std.proofs.lemmas.List.Sorted.{IsPartitionPoint-from_clause, IsPartitionedBy-ltb}
-use Rattle.elf_model.specs.ArchiveFile.{Member, data_of}
+use Rattle.elf_model.specs.Inputs.ArchiveFile.{Member, data_of}
 use Rattle.ar_index.specs.Reading.{AreAscending}
 
 pub rising : (ms : List Member) → AreAscending ms → IsNonDecreasingBy (λ m. m.offset) ms

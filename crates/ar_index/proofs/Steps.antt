@@ -3,7 +3,7 @@ use Rattle.std.proofs.Common.{◌≡◌, ℕ, ◌<◌, ◌≤◌, ◌⊎◌, inl
 use Rattle.std.specs.Prelude.{All, IfErr, IsSome, unwrap_or}
 use Rattle.std.proofs.lemmas.Bool.{cases_lt}
 use Rattle.std.proofs.lemmas.List.Elements.{All-nil}
-use Rattle.elf_model.specs.ArchiveFile.{ArFaultStands, HasIndexData, HasMagic, IndexEntry, IsArchive, IsIntact, IsKnownUpTo, Member, NamesMember, StoredMember, data_of, entries_of, header_offsets, index, index_in, members}
+use Rattle.elf_model.specs.Inputs.ArchiveFile.{ArFaultStands, HasIndexData, HasMagic, IndexEntry, IsArchive, IsIntact, IsKnownUpTo, Member, NamesMember, StoredMember, data_of, entries_of, header_offsets, index, index_in, members}
 use Rattle.elf_model.specs.declared.faults.ArFault.{ArFault}
 use Rattle.elf_model.specs.declared.faults.ArFault.TheVariants as fault
 use Rattle.ar_index.specs.Reading.{IsIndexFault}

@@ -4,7 +4,7 @@ use Rattle.std.specs.Prelude.{All, filter, nat_lt}
 use Rattle.std.proofs.lemmas.Bool.{le-ltb, lt-ltb}
 use Rattle.std.proofs.lemmas.List.{append_assoc, append-nil, length-append}
 use Rattle.std.proofs.lemmas.List.Elements.{All-cons, All-head, All-nil, All-tail}
-use Rattle.elf_model.specs.ArchiveFile.{ArFaultStands, HasMagic, IsGoodHeader, IsWhole, StoredMember, header_offsets, header_offsets_from, is_readable, next_header, stored_member, stored_members}
+use Rattle.elf_model.specs.Inputs.ArchiveFile.{ArFaultStands, HasMagic, IsGoodHeader, IsWhole, StoredMember, header_offsets, header_offsets_from, is_readable, next_header, stored_member, stored_members}
 use Rattle.elf_model.specs.declared.faults.ArFault.{ArFault}
 use Rattle.elf_model.specs.declared.faults.ArFault.TheVariants as fault
 use Rattle.elf_model.proofs.Rests.{Left}

@@ -1,6 +1,6 @@
 -- What is judged of an archive step by step, and what is kept of it.
 use Rattle.std.specs.Prelude.{ℕ, ◌≡◌, ◌≢◌, ◌↔◌, ◌<◌, ◌≤◌, ◌+◌, ◌*◌, ◌%◌, List, AllPairs, IsTrue, Option, codes, drop, length, slice_index, take}
-use Rattle.elf_model.specs.ArchiveFile.{HasLongText, IndexEntry, IsArchive, IsGoodHeader, IsWhole, Member, entry_count, index, is_number, members}
+use Rattle.elf_model.specs.Inputs.ArchiveFile.{HasLongText, IndexEntry, IsArchive, IsGoodHeader, IsWhole, Member, entry_count, index, is_number, members}
 use Rattle.elf_model.specs.declared.faults.ArFault.{ArFault}
 use Rattle.elf_model.specs.declared.faults.ArFault.TheVariants as fault
 

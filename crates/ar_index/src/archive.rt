@@ -1,6 +1,6 @@
 //! An archive of object files (ar(5)): its ordinary members, and the symbol index that finds them by name.
 ghost use Rattle.std.specs.Prelude.{◌≡◌, ◌<◌, ◌^◌, length, option_copied, IfErr, IfOk, OnOk};
-ghost use Rattle.elf_model.specs.ArchiveFile.{ArFaultStands, HasMagic, IsArchive, index, member_at, members};
+ghost use Rattle.elf_model.specs.Inputs.ArchiveFile.{ArFaultStands, HasMagic, IsArchive, index, member_at, members};
 ghost use Rattle.elf_model.specs.declared.faults.ArFault.TheVariants as fault;
 
 use crate::index::{IndexEntry, is_index_first, names_members, read_index};

@@ -3,7 +3,7 @@ ghost use Rattle.std.specs.Prelude.{◌≡◌, ◌≤◌, ◌<◌, ◌^◌, leng
 ghost use Rattle.std.specs.List.{list_all};
 ghost use Rattle.std.specs.Str.{all_ascii_digits};
 ghost use Rattle.std.specs.Str.Parse.{digits_value};
-ghost use Rattle.elf_model.specs.ArchiveFile as archive;
+ghost use Rattle.elf_model.specs.Inputs.ArchiveFile as archive;
 
 /// How many of the first bytes are decimal digits.
 fn digit_count(field: &[u8]) -> usize

@@ -1,8 +1,8 @@
 //! The symbol index: names, and the members that define them (ar(5)).
 ghost use Rattle.std.specs.Prelude.{◌≡◌, ◌⊎◌, ◌↔◌, ◌≤◌, ◌<◌, ◌+◌, ◌*◌, ◌^◌, ℕ, List, [], All, drop, length, option_map, IfErr, IfOk, IfSome, IsSome, IsTrue, SomeIff, unwrap_or};
 ghost use Rattle.byteview.specs.Numbers.{HasText, IsInside, be_at, text};
-ghost use Rattle.elf_model.specs.ArchiveFile as archive;
-ghost use Rattle.elf_model.specs.ArchiveFile.{AreTexts, HasIndexData, IsIndexData, IsIndexFirst, after_text};
+ghost use Rattle.elf_model.specs.Inputs.ArchiveFile as archive;
+ghost use Rattle.elf_model.specs.Inputs.ArchiveFile.{AreTexts, HasIndexData, IsIndexData, IsIndexFirst, after_text};
 ghost use Rattle.ar_index.specs.Reading.{AreAscending, HasNumbers, IsIndexFault};
 
 use crate::members::{Member, data_at};
@@ -21,7 +21,7 @@ pub struct IndexEntry<'a> {
 }
 
 impl<'a> Model for IndexEntry<'a> {
-    ghost use Rattle.elf_model.specs.ArchiveFile.{IndexEntry};
+    ghost use Rattle.elf_model.specs.Inputs.ArchiveFile.{IndexEntry};
 
     ghost Value = { IndexEntry };
 

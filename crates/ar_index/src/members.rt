@@ -1,6 +1,6 @@
 //! The ordinary members, and the one at an offset.
 ghost use Rattle.std.specs.Prelude.{◌≡◌, ◌<◌, ◌≤◌, ℕ, length, slice_index_or, AllPairs, IfOk};
-ghost use Rattle.elf_model.specs.ArchiveFile as archive;
+ghost use Rattle.elf_model.specs.Inputs.ArchiveFile as archive;
 ghost use Rattle.ar_index.specs.Reading.{AreAscending};
 
 use crate::names::is_ordinary;
@@ -17,7 +17,7 @@ pub struct Member<'a> {
 }
 
 impl<'a> Model for Member<'a> {
-    ghost use Rattle.elf_model.specs.ArchiveFile.{Member};
+    ghost use Rattle.elf_model.specs.Inputs.ArchiveFile.{Member};
 
     ghost Value = { Member };
 

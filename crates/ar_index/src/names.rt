@@ -1,8 +1,8 @@
 //! Names of members: the index, the long names, short names, and long names by the offset of their text.
 ghost use Rattle.std.specs.Prelude.{◌≡◌, ◌↔◌, ◌≤◌, ◌<◌, ℕ, List, codes, drop, length, take, IsTrue, SomeIff};
 ghost use Rattle.std.specs.Str.{bytes_eq};
-ghost use Rattle.elf_model.specs.ArchiveFile as archive;
-ghost use Rattle.elf_model.specs.ArchiveFile.{HasGoodNames, HasLongText, IsNamed, IsShortName};
+ghost use Rattle.elf_model.specs.Inputs.ArchiveFile as archive;
+ghost use Rattle.elf_model.specs.Inputs.ArchiveFile.{HasGoodNames, HasLongText, IsNamed, IsShortName};
 ghost use Rattle.ar_index.specs.Reading.{IsLimit, IsLongNameField};
 
 use crate::fields::{are_spaces, number_in};

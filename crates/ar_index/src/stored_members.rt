@@ -1,7 +1,7 @@
 //! Members as they are stored, one after the other, the index and the long names among them.
 ghost use Rattle.std.specs.Prelude.{◌≡◌, ◌≤◌, ◌<◌, ◌+◌, ◌-◌, ◌%◌, ◌^◌, All, length, true, IfErr, IfOk};
-ghost use Rattle.elf_model.specs.ArchiveFile as archive;
-ghost use Rattle.elf_model.specs.ArchiveFile.{ArFaultStands, HasMagic, IsGoodHeader, IsWhole, header_offsets, is_readable, next_header, size_at, stored_member, stored_members};
+ghost use Rattle.elf_model.specs.Inputs.ArchiveFile as archive;
+ghost use Rattle.elf_model.specs.Inputs.ArchiveFile.{ArFaultStands, HasMagic, IsGoodHeader, IsWhole, header_offsets, is_readable, next_header, size_at, stored_member, stored_members};
 ghost use Rattle.ar_index.specs.Reading.{IsFaultAt, IsPadFault, IsPadded};
 
 use crate::fields::number_in;
@@ -23,7 +23,7 @@ pub struct StoredMember<'a> {
 
 impl<'a> Model for StoredMember<'a> {
     ghost use Rattle.std.specs.Prelude.{◌≤◌, length};
-    ghost use Rattle.elf_model.specs.ArchiveFile.{StoredMember};
+    ghost use Rattle.elf_model.specs.Inputs.ArchiveFile.{StoredMember};
 
     ghost Value = { StoredMember };
 

@@ -4,8 +4,8 @@ use Rattle.std.specs.List.{Any, slice_get}
 use Rattle.std.proofs.lemmas.List.Elements.{All-contains}
 use Rattle.std.proofs.lemmas.Option.{get_or_from_slice_get, slice_get_within}
 use Rattle.byteview.specs.Numbers.{HasText}
-use Rattle.elf_model.specs.ObjectFile.{AreGoodRelas, AreMembers, HasEntries, HasGoodSymbolTable, HasMembers, IsGoodSymbol, IsGroupSection, IsPlaced, IsRelaSection, IsSymbolTable, MayBeMember, ObjFaultStands, group_members, null_symbol, rela_symbol, relas_of, section_strings, sections, symbol_strings, symbols}
-use Rattle.elf_model.specs.Records.{file_header}
+use Rattle.elf_model.specs.Inputs.ObjectFile.{AreGoodRelas, AreMembers, HasEntries, HasGoodSymbolTable, HasMembers, IsGoodSymbol, IsGroupSection, IsPlaced, IsRelaSection, IsSymbolTable, MayBeMember, ObjFaultStands, group_members, null_symbol, rela_symbol, relas_of, section_strings, sections, symbol_strings, symbols}
+use Rattle.elf_model.specs.Inputs.Records.{file_header}
 use Rattle.elf_model.specs.declared.constants.TheConstants.{SHT_GROUP, SHT_REL, SHT_RELA, SHT_SYMTAB, SHT_SYMTAB_SHNDX}
 use Rattle.elf_model.specs.declared.records.Rela.{Rela}
 use Rattle.elf_model.specs.declared.records.SectionHeader.{SectionHeader}

@@ -2,9 +2,9 @@
 use Rattle.std.specs.Prelude.{◌≡◌, ℕ, ◌+◌, ◌*◌, ◌<◌, List, Some, SomeIff, length, option_copied}
 use Rattle.std.specs.List.{slice_get}
 use Rattle.byteview.specs.Numbers.{HasText}
-use Rattle.elf_model.specs.ObjectFile as object
-use Rattle.elf_model.specs.ObjectFile.{HasEntries, HasMembers, HasTable, IsGoodSymbol, IsGroupSection, IsPlaced, IsRelaSection, IsSymbolTable, MayBeMember, group_members, name_of_section, name_of_symbol, null_symbol, rela_symbol, relas_of, section_strings, sections, symbol_strings, symbol_table, symbols}
-use Rattle.elf_model.specs.Records.{file_header}
+use Rattle.elf_model.specs.Inputs.ObjectFile as object
+use Rattle.elf_model.specs.Inputs.ObjectFile.{HasEntries, HasMembers, HasTable, IsGoodSymbol, IsGroupSection, IsPlaced, IsRelaSection, IsSymbolTable, MayBeMember, group_members, name_of_section, name_of_symbol, null_symbol, rela_symbol, relas_of, section_strings, sections, symbol_strings, symbol_table, symbols}
+use Rattle.elf_model.specs.Inputs.Records.{file_header}
 use Rattle.elf_model.specs.declared.constants.TheConstants.{SHT_GROUP, SHT_REL, SHT_RELA, SHT_SYMTAB, SHT_SYMTAB_SHNDX}
 use Rattle.elf_model.specs.declared.faults.ObjFault.{ObjFault}
 use Rattle.elf_model.specs.declared.faults.ObjFault.TheVariants as fault

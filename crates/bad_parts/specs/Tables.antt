@@ -1,7 +1,7 @@
 -- What can be read of a file that may be no object: its header, and its section header table.
 use Rattle.std.specs.Prelude.{◌≡◌, ℕ, ◌^◌, ◌<◌, List, length}
-use Rattle.elf_model.specs.ObjectFile.{HasTable, sections}
-use Rattle.elf_model.specs.Records.{file_header}
+use Rattle.elf_model.specs.Inputs.ObjectFile.{HasTable, sections}
+use Rattle.elf_model.specs.Inputs.Records.{file_header}
 use Rattle.elf_model.specs.declared.records.FileHeader.{FileHeader}
 use Rattle.elf_model.specs.declared.records.SectionHeader.{SectionHeader}
 

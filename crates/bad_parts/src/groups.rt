@@ -1,6 +1,6 @@
 //! Groups of sections that are unlawful, by their headers, their signatures or their members.
 ghost use Rattle.std.specs.Prelude.{◌≡◌, IfOk, IfSome, length};
-ghost use Rattle.elf_model.specs.ObjectFile.{HasMembers, group_members, symbols};
+ghost use Rattle.elf_model.specs.Inputs.ObjectFile.{HasMembers, group_members, symbols};
 ghost use Rattle.elf_model.specs.declared.faults.ObjFault.TheVariants as fault;
 ghost use Rattle.bad_parts.specs.BadParts.{HasSymbols, IsBadOf, IsOfType};
 

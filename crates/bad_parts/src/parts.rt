@@ -1,6 +1,6 @@
 //! The first part of a file that has a fault.
 ghost use Rattle.std.specs.Prelude.{IfOk, IfSome};
-ghost use Rattle.elf_model.specs.ObjectFile.{ObjFaultStands};
+ghost use Rattle.elf_model.specs.Inputs.ObjectFile.{ObjFaultStands};
 ghost use Rattle.elf_model.specs.declared.faults.ObjFault.TheVariants as fault;
 ghost use Rattle.bad_parts.specs.BadParts.{IsBadOf};
 

@@ -1,6 +1,6 @@
 //! Sections of relocations that are unlawful, and entries that name no symbol.
 ghost use Rattle.std.specs.Prelude.{◌≡◌, IfOk, IfSome, length};
-ghost use Rattle.elf_model.specs.ObjectFile.{HasEntries, relas_of, symbols};
+ghost use Rattle.elf_model.specs.Inputs.ObjectFile.{HasEntries, relas_of, symbols};
 ghost use Rattle.elf_model.specs.declared.faults.ObjFault.TheVariants as fault;
 ghost use Rattle.bad_parts.specs.BadParts.{HasSymbols, IsBadOf, IsOfType};
 

@@ -1,6 +1,6 @@
 //! Symbol tables that are unlawful, and symbols.
 ghost use Rattle.std.specs.Prelude.{◌≡◌, IfOk, IfSome};
-ghost use Rattle.elf_model.specs.ObjectFile as object;
+ghost use Rattle.elf_model.specs.Inputs.ObjectFile as object;
 ghost use Rattle.elf_model.specs.declared.faults.ObjFault.TheVariants as fault;
 ghost use Rattle.bad_parts.specs.BadParts.{HasSymbolStrings, HasSymbols, IsBadOf};
 

@@ -1,9 +1,9 @@
 //! The header and the section header table of a file that may be no object, and what its parts are.
 ghost use Rattle.std.specs.Prelude.{◌≡◌, ◌==◌, ◌<◌, ◌^◌, IfOk, IfSome, IsTrue, Some, count_by, length};
 ghost use Rattle.std.specs.List.{slice_get};
-ghost use Rattle.elf_model.specs.ObjectFile as object;
-ghost use Rattle.elf_model.specs.ObjectFile.{HasTable, LiesInside, section, section_strings, sections, symbol_strings, symbol_table};
-ghost use Rattle.elf_model.specs.Records.{file_header};
+ghost use Rattle.elf_model.specs.Inputs.ObjectFile as object;
+ghost use Rattle.elf_model.specs.Inputs.ObjectFile.{HasTable, LiesInside, section, section_strings, sections, symbol_strings, symbol_table};
+ghost use Rattle.elf_model.specs.Inputs.Records.{file_header};
 ghost use Rattle.bad_parts.specs.BadParts.{HasSectionStrings, HasSymbolStrings, HasSymbols, IsSectionPart, IsSymbolPart};
 
 use crate::part::{SectionPart, SymbolPart};

@@ -1,9 +1,9 @@
 -- The greatest alignment of pieces.
 use Rattle.std.proofs.Common.{◌≡◌, ℕ, ◌<◌, ◌≤◌, Bool, true, false, cond, drop, get_or, length, map, max, List, [], ◌∷◌, ◌+◌, refl, sym, ap, ◌∙◌, arith}
 use Rattle.elf_model.proofs.Rests.{rest_at}
-use Rattle.elf_model.specs.Pieces.{Piece}
-use Rattle.elf_model.specs.Placement.{Placed}
-use Rattle.elf_model.specs.ThreadStorage.{alignment_of}
+use Rattle.elf_model.specs.Link.Pieces.{Piece}
+use Rattle.elf_model.specs.Link.Placement.{Placed}
+use Rattle.elf_model.specs.Link.ThreadStorage.{alignment_of}
 
 pub alignment_some : (test : Piece → Bool) (ps : List Piece) → 1 ≤ alignment_of test ps
 alignment_some test [] = omega arith

@@ -11,10 +11,10 @@ use Rattle.std.specs.Str.{bytes_eq}
 use Rattle.std.proofs.lemmas.List.{append-nil, drop_all, length-map}
 use Rattle.std.proofs.lemmas.Slice.Eq.{bytes_eq-Decides}
 use Rattle.elf_model.proofs.Rests.{rest_at}
-use Rattle.elf_model.specs.ChosenSymbols.{definitions, is_chosen, is_definition, is_same_symbol}
-use Rattle.elf_model.specs.Commons.{Block, block_of, blocks, blocks_from, greatest, is_common_symbol}
-use Rattle.elf_model.specs.Loading.{LoadedObject}
-use Rattle.elf_model.specs.Resolution.{SymbolOf, has_name, is_common_definition}
+use Rattle.elf_model.specs.Link.ChosenSymbols.{definitions, is_chosen, is_definition, is_same_symbol}
+use Rattle.elf_model.specs.Link.Commons.{Block, block_of, blocks, blocks_from, greatest, is_common_symbol}
+use Rattle.elf_model.specs.Link.Loading.{LoadedObject}
+use Rattle.elf_model.specs.Link.Resolution.{SymbolOf, has_name, is_common_definition}
 use Rattle.check_link.specs.Chosen.{AreChosen, is_found}
 use Rattle.check_link.specs.Commons.{HasAsked, asked_in, given_align, given_size, gives, greatest_given, is_block_symbol}
 use Rattle.check_link.specs.Views.{block_view, block_views, symbol_view, symbol_views}

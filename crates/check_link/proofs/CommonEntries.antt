@@ -2,8 +2,8 @@
 use Rattle.std.proofs.Common.{ℕ, ◌+◌, List, [], ◌∷◌}
 use Rattle.std.specs.Prelude.{◌↔◌, All}
 use Rattle.std.proofs.lemmas.List.Elements.{All-cons, All-head, All-nil, All-tail}
-use Rattle.elf_model.specs.Loading.{LoadedObject}
-use Rattle.elf_model.specs.Resolution.{IsSoundCommon, symbol_of, symbols_from}
+use Rattle.elf_model.specs.Link.Loading.{LoadedObject}
+use Rattle.elf_model.specs.Link.Resolution.{IsSoundCommon, symbol_of, symbols_from}
 use Rattle.elf_model.specs.declared.records.Symbol.{Symbol}
 use Rattle.check_link.specs.Soundness.{IsSoundEntry}
 

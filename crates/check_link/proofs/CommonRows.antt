@@ -4,11 +4,11 @@ use Rattle.std.specs.Prelude.{All, find, option_map}
 use Rattle.std.proofs.lemmas.List.Elements.{All-contains}
 use Rattle.std.proofs.lemmas.Slice.Eq.{bytes_eq-Decides}
 use Rattle.elf_model.proofs.Finding.{find-found}
-use Rattle.elf_model.specs.Commons.{Block, block_named, blocks, is_block_of}
-use Rattle.elf_model.specs.Loading.{LoadedObject}
-use Rattle.elf_model.specs.MapRecord.{CommonRow}
-use Rattle.elf_model.specs.Placement.{is_common_row_of}
-use Rattle.elf_model.specs.RightLink.{HasCommonLine, facts_of_block, facts_of_common}
+use Rattle.elf_model.specs.Link.Commons.{Block, block_named, blocks, is_block_of}
+use Rattle.elf_model.specs.Link.Loading.{LoadedObject}
+use Rattle.elf_model.specs.Image.MapRecord.{CommonRow}
+use Rattle.elf_model.specs.Link.Placement.{is_common_row_of}
+use Rattle.elf_model.specs.Image.RightLink.{HasCommonLine, facts_of_block, facts_of_common}
 
 pub every_name :
     (rows : List CommonRow) (objects : List LoadedObject) → All (λ row. HasCommonLine rows objects row.name) rows →

@@ -4,10 +4,10 @@ use Rattle.std.specs.Prelude.{filter, map}
 use Rattle.std.proofs.lemmas.Bool.{false≢true, or_left, or_right}
 use Rattle.std.proofs.lemmas.List.{drop-map, drop_more}
 use Rattle.std.proofs.lemmas.List.Elements.{filter-append}
-use Rattle.elf_model.specs.ChosenSymbols.{is_definition}
-use Rattle.elf_model.specs.Loading.{LoadedObject}
-use Rattle.elf_model.specs.ObjectFile.{symbols}
-use Rattle.elf_model.specs.Resolution.{SymbolOf, is_common_definition, is_strong, is_weak_definition, symbols_from, symbols_of}
+use Rattle.elf_model.specs.Link.ChosenSymbols.{is_definition}
+use Rattle.elf_model.specs.Link.Loading.{LoadedObject}
+use Rattle.elf_model.specs.Inputs.ObjectFile.{symbols}
+use Rattle.elf_model.specs.Link.Resolution.{SymbolOf, is_common_definition, is_strong, is_weak_definition, symbols_from, symbols_of}
 use Rattle.check_load.specs.Views.{loaded_view, loaded_views}
 use Rattle.check_load.specs.declared.loaded.Loaded.{Loaded}
 

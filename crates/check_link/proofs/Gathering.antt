@@ -5,7 +5,7 @@ use Rattle.std.specs.Cmp.{nat_eq_equiv}
 use Rattle.std.specs.List.{starts_with}
 use Rattle.std.specs.Str.{bytes_eq}
 use Rattle.std.proofs.lemmas.Bool.{eqb-true}
-use Rattle.elf_model.specs.Pieces.{is_gathered_by}
+use Rattle.elf_model.specs.Link.Pieces.{is_gathered_by}
 
 -- one byte in front of both names, which is the same or not
 one_head :

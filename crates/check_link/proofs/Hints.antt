@@ -4,10 +4,10 @@ use Rattle.std.specs.Prelude.{All, IfSome, filter, option_map, slice_get}
 use Rattle.std.specs.Option.{option_and_then}
 use Rattle.std.proofs.lemmas.List.Elements.{All-append, All-cons, All-filter, All-head, All-nil, All-tail}
 use Rattle.std.proofs.lemmas.Option.{get_or_from_slice_get, none-some, same_Some, slice_get_within}
-use Rattle.elf_model.specs.ChosenSymbols.{is_definition}
-use Rattle.elf_model.specs.Loading.{LoadedObject}
-use Rattle.elf_model.specs.ObjectFile.{symbols}
-use Rattle.elf_model.specs.Resolution.{SymbolOf, all_symbols, chosen, symbol_of, symbols_from, symbols_of}
+use Rattle.elf_model.specs.Link.ChosenSymbols.{is_definition}
+use Rattle.elf_model.specs.Link.Loading.{LoadedObject}
+use Rattle.elf_model.specs.Inputs.ObjectFile.{symbols}
+use Rattle.elf_model.specs.Link.Resolution.{SymbolOf, all_symbols, chosen, symbol_of, symbols_from, symbols_of}
 use Rattle.elf_model.specs.declared.records.Symbol.{Symbol}
 use Rattle.check_load.specs.NameNumbers.{IsNumberOf, KeepNumbers, number_of}
 use Rattle.check_load.specs.Numbered.{AreNumbered, IsNumbered, name_at, number_in}

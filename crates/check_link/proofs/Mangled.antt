@@ -5,9 +5,9 @@ use Rattle.std.specs.List.{list_all}
 use Rattle.std.specs.Option.{option_or}
 use Rattle.std.specs.Str.{bytes_eq}
 use Rattle.std.proofs.lemmas.Bool.{and_parts, eqb-true, false≢true}
-use Rattle.elf_model.specs.LinkerNames.{ArrayName, BoundName, array_named, array_names, bound_names, bound_of, fixed_bound, is_identifier, is_stop_name, named_output, output_bound}
-use Rattle.elf_model.specs.Loading.{LoadedObject}
-use Rattle.elf_model.specs.Pieces.{has_output}
+use Rattle.elf_model.specs.Link.LinkerNames.{ArrayName, BoundName, array_named, array_names, bound_names, bound_of, fixed_bound, is_identifier, is_stop_name, named_output, output_bound}
+use Rattle.elf_model.specs.Link.Loading.{LoadedObject}
+use Rattle.elf_model.specs.Link.Pieces.{has_output}
 use Rattle.elf_model.specs.declared.bound.Bound.{Bound}
 use Rattle.elf_model.specs.declared.bound.Bound.TheVariants.{OutputEnd, OutputStart}
 

@@ -2,8 +2,8 @@
 use Rattle.std.proofs.Common.{◌≡◌, ℕ, ◌+◌, ◌-◌, ◌<◌, ◌≤◌, ◌⊎◌, inl, inr, Bool, true, false, List, length, get_or, take, drop, refl, sym, ◌∙◌, ap, subst, arith, length-take, length-drop}
 use Rattle.std.specs.Prelude.{Contains, IsTrue, Some, min, nat_lt, option_map, slice_index}
 use Rattle.std.proofs.lemmas.Option.{same_Some}
-use Rattle.elf_model.specs.MemoryImage.{Cell, Encloses, IsImage, loads, segment_byte}
-use Rattle.elf_model.specs.RightLink.{byte_at}
+use Rattle.elf_model.specs.Image.MemoryImage.{Cell, Encloses, IsImage, loads, segment_byte}
+use Rattle.elf_model.specs.Image.RightLink.{byte_at}
 use Rattle.elf_model.specs.declared.records.ProgramHeader.{ProgramHeader}
 use Rattle.elf_model.proofs.Addresses.{maps-true}
 use Rattle.loader_model.proofs.MemoryLemmas.{memory_at}

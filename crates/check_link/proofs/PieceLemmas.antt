@@ -3,9 +3,9 @@ use Rattle.std.proofs.Common.{◌≡◌, ℕ, ◌≤◌, List, ◌++◌, length,
 use Rattle.std.specs.Prelude.{All}
 use Rattle.std.proofs.lemmas.List.{append-nil, at_drop_all}
 use Rattle.std.proofs.lemmas.List.Elements.{All-weaker}
-use Rattle.elf_model.specs.Loading.{LoadedObject}
-use Rattle.elf_model.specs.Pieces as pieces
-use Rattle.elf_model.specs.Pieces.{pieces_of}
+use Rattle.elf_model.specs.Link.Loading.{LoadedObject}
+use Rattle.elf_model.specs.Link.Pieces as pieces
+use Rattle.elf_model.specs.Link.Pieces.{pieces_of}
 use Rattle.elf_model.proofs.PieceNumbers.{IsKept, kept_whole}
 use Rattle.check_load.specs.Views.{loaded_views}
 use Rattle.check_link.specs.Views.{piece_views}

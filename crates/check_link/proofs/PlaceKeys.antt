@@ -5,8 +5,8 @@ use Rattle.std.specs.HashMap.{Updates}
 use Rattle.std.specs.Option.{option_or}
 use Rattle.std.proofs.lemmas.Bool.{eqb-true}
 use Rattle.elf_model.proofs.Rests.{rest_at}
-use Rattle.elf_model.specs.Placement as placement
-use Rattle.elf_model.specs.Placement.{is_of_section}
+use Rattle.elf_model.specs.Link.Placement as placement
+use Rattle.elf_model.specs.Link.Placement.{is_of_section}
 use Rattle.check_link.specs.PlaceIndex.{Addresses, address_in, is_same}
 use Rattle.check_link.specs.Views.{placed_view, placed_views}
 use Rattle.check_link.specs.declared.things.Placed.{Placed}

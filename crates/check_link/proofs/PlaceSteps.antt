@@ -4,8 +4,8 @@ use Rattle.std.specs.Prelude.{map, min}
 use Rattle.std.proofs.Math.Seq.{take-append_seam}
 use Rattle.std.proofs.lemmas.List.{append-nil, drop_all, length-map, take-map}
 use Rattle.linkmap.specs.Borrowed.{place_row}
-use Rattle.elf_model.specs.Placement.{placed_by}
-use Rattle.elf_model.specs.Placement as placement
+use Rattle.elf_model.specs.Link.Placement.{placed_by}
+use Rattle.elf_model.specs.Link.Placement as placement
 use Rattle.linkmap.specs.declared.borrowed.BorrowedPlace.{BorrowedPlace}
 use Rattle.check_link.specs.Views.{piece_views, placed_view, placed_views}
 use Rattle.check_link.specs.declared.things.Piece.{Piece}

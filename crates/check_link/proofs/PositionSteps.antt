@@ -10,9 +10,9 @@ use Rattle.std.proofs.lemmas.Option.{none-some, same_Some}
 use Rattle.std.proofs.lemmas.List.Quantifiers.{position-Some}
 use Rattle.std.proofs.lemmas.Slice.Eq.{bytes_eq-Decides}
 use Rattle.elf_model.proofs.SameRequests.{requests_equal, same_itself}
-use Rattle.elf_model.specs.Loading.{LoadedObject}
-use Rattle.elf_model.specs.MapRecord.{OfLocal, OfName, SlotRow, TargetRow}
-use Rattle.elf_model.specs.Slots.{Request, same_kind, same_request, same_target}
+use Rattle.elf_model.specs.Link.Loading.{LoadedObject}
+use Rattle.elf_model.specs.Image.MapRecord.{OfLocal, OfName, SlotRow, TargetRow}
+use Rattle.elf_model.specs.Link.Slots.{Request, same_kind, same_request, same_target}
 use Rattle.elf_model.specs.declared.link_map.SlotKind.{SlotKind}
 use Rattle.elf_model.specs.declared.link_map.SlotKind.TheVariants as slot
 use Rattle.check_load.specs.NameNumbers.{IsNumberOf}

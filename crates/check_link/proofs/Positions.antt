@@ -6,9 +6,9 @@ use Rattle.std.specs.Str.{bytes_eq}
 use Rattle.std.proofs.lemmas.List.{get_or_default, get_or_past, get_or-replicate, get_or-set_other, get_or-set_same, length-replicate}
 use Rattle.std.proofs.lemmas.Option.{get_or_from_slice_get, same_Some}
 use Rattle.std.proofs.lemmas.Slice.Eq.{bytes_eq-Decides}
-use Rattle.elf_model.specs.ChosenSymbols.{definitions}
-use Rattle.elf_model.specs.Loading.{LoadedObject}
-use Rattle.elf_model.specs.Resolution.{SymbolOf, has_name}
+use Rattle.elf_model.specs.Link.ChosenSymbols.{definitions}
+use Rattle.elf_model.specs.Link.Loading.{LoadedObject}
+use Rattle.elf_model.specs.Link.Resolution.{SymbolOf, has_name}
 use Rattle.check_link.specs.Chosen.{AreChosen, AreOwnChoices, AreOwnIn, IsOwn, IsSized, definition_in, first_from, marked_by, position_at, position_in}
 use Rattle.check_link.proofs.Padded.{below_or_not}
 use Rattle.check_link.specs.Views.{symbol_view, symbol_views}

@@ -9,7 +9,7 @@ use Rattle.std.proofs.lemmas.Bool.{false_from_ne_true, true≢false}
 use Rattle.std.proofs.lemmas.Map.Text.{is_eq-slice_cmp}
 use Rattle.std.proofs.lemmas.Slice.Eq.{bytes_eq-Decides}
 use Rattle.std.specs.Str.{bytes_eq}
-use Rattle.elf_model.specs.Pieces.{Piece, is_executable, is_nobits, is_thread_local, is_writable, output_name, same_bool, same_output}
+use Rattle.elf_model.specs.Link.Pieces.{Piece, is_executable, is_nobits, is_thread_local, is_writable, output_name, same_bool, same_output}
 use Rattle.elf_model.proofs.SameOutput.{same_output-sym, same_output-trans}
 use Rattle.check_link.specs.OutputSections.{IsOutputSection, IsSameSection, section_order}
 use Rattle.check_link.specs.declared.output_sections.OutputSection.{OutputSection}

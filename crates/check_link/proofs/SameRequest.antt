@@ -6,8 +6,8 @@ use Rattle.std.specs.Ordering.{bool_cmp, is_eq, nat_cmp, ordering_then}
 use Rattle.std.specs.declared.cmp.Ordering.{Ordering}
 use Rattle.std.specs.declared.cmp.Ordering.TheVariants.{Less, Equal, Greater}
 use Rattle.std.proofs.lemmas.Map.Text.{is_eq-slice_cmp}
-use Rattle.elf_model.specs.MapRecord.{OfLocal, OfName, TargetRow}
-use Rattle.elf_model.specs.Slots.{Request, same_kind, same_request, same_target}
+use Rattle.elf_model.specs.Image.MapRecord.{OfLocal, OfName, TargetRow}
+use Rattle.elf_model.specs.Link.Slots.{Request, same_kind, same_request, same_target}
 use Rattle.elf_model.specs.declared.link_map.SlotKind.{SlotKind}
 use Rattle.elf_model.specs.declared.link_map.SlotKind.TheVariants as slot
 use Rattle.check_link.specs.Slots.{key_of, kind_view, request_order, request_view, target_view}

@@ -15,9 +15,9 @@ use Rattle.elf_model.proofs.Pairs.{AllPairs-head, AllPairs-nil, AllPairs-tail}
 use Rattle.elf_model.proofs.PieceBounds.{earlier, further}
 use Rattle.elf_model.proofs.Rests.{rest_at}
 use Rattle.elf_model.proofs.SameOutput.{same_output-sym, same_output-trans}
-use Rattle.elf_model.specs.LinkerValues.{least_of}
-use Rattle.elf_model.specs.Pieces.{Piece, is_executable, is_nobits, is_of_output, is_thread_local, is_writable, output_name, same_bool, same_output}
-use Rattle.elf_model.specs.Placement.{Placed}
+use Rattle.elf_model.specs.Link.LinkerValues.{least_of}
+use Rattle.elf_model.specs.Link.Pieces.{Piece, is_executable, is_nobits, is_of_output, is_thread_local, is_writable, output_name, same_bool, same_output}
+use Rattle.elf_model.specs.Link.Placement.{Placed}
 use Rattle.check_link.specs.ByName.{found_in}
 use Rattle.check_link.specs.OutputSections.{same_flags}
 use Rattle.check_link.specs.Outputs.{AreOne, Seen, end_of, seen_all, seen_in, seen_more, seen_view, start_of, with_piece}

@@ -7,8 +7,8 @@ use Rattle.std.proofs.lemmas.Bool.{false≢true}
 use Rattle.std.proofs.lemmas.Option.{slice_get_within}
 use Rattle.elf_model.proofs.Finding.{find-found}
 use Rattle.elf_model.proofs.SameRequests.{requests_equal}
-use Rattle.elf_model.specs.MapRecord.{SlotRow}
-use Rattle.elf_model.specs.Slots.{Request, is_slot_of, requested_address, row_request}
+use Rattle.elf_model.specs.Image.MapRecord.{SlotRow}
+use Rattle.elf_model.specs.Link.Slots.{Request, is_slot_of, requested_address, row_request}
 use Rattle.check_link.specs.Slots.{line_of}
 
 behind : {X : Type 0} (front : List X) (x : X) (xs : List X) → slice_get (front ++ x ∷ xs) (length front) ≡ Some x

@@ -7,9 +7,9 @@ use Rattle.std.specs.List.{position_from}
 use Rattle.std.specs.Option.{option_or}
 use Rattle.std.specs.Ordering.{is_eq}
 use Rattle.std.proofs.lemmas.List.{drop_all}
-use Rattle.elf_model.specs.MapRecord.{SlotRow}
+use Rattle.elf_model.specs.Image.MapRecord.{SlotRow}
 use Rattle.linkmap.specs.Borrowed.{slot_row}
-use Rattle.elf_model.specs.Slots.{Request, is_slot_of, row_request, same_request}
+use Rattle.elf_model.specs.Link.Slots.{Request, is_slot_of, row_request, same_request}
 use Rattle.linkmap.specs.declared.borrowed.BorrowedSlot.{BorrowedSlot}
 use Rattle.elf_model.proofs.Rests.{rest_at}
 use Rattle.check_link.specs.Slots.{are_fresh, has_in, in_table, key_of, place_in, request_order, request_view}

@@ -8,10 +8,10 @@ use Rattle.std.proofs.lemmas.List.Elements.{All-append, All-cons, All-nil, All-w
 use Rattle.std.proofs.lemmas.List.Kept.{AllPairs-cons, AllPairs-filter}
 use Rattle.std.proofs.lemmas.Option.{get_or_from_slice_get, none-some, same_Some, slice_get_within}
 use Rattle.elf_model.proofs.Pairs.{AllPairs-append, AllPairs-nil}
-use Rattle.elf_model.specs.ChosenSymbols.{definitions, is_definition, is_same_symbol}
-use Rattle.elf_model.specs.Loading.{LoadedObject}
-use Rattle.elf_model.specs.ObjectFile.{symbols}
-use Rattle.elf_model.specs.Resolution.{SymbolOf, all_symbols, symbol_of, symbols_from, symbols_of}
+use Rattle.elf_model.specs.Link.ChosenSymbols.{definitions, is_definition, is_same_symbol}
+use Rattle.elf_model.specs.Link.Loading.{LoadedObject}
+use Rattle.elf_model.specs.Inputs.ObjectFile.{symbols}
+use Rattle.elf_model.specs.Link.Resolution.{SymbolOf, all_symbols, symbol_of, symbols_from, symbols_of}
 use Rattle.elf_model.specs.declared.records.Symbol.{Symbol}
 use Rattle.check_load.specs.NameNumbers.{number_of}
 use Rattle.check_link.specs.Chosen.{AreChosen, AreOtherChoices, HaveMarks, marked_by, position_at, position_in}

@@ -4,9 +4,9 @@ use Rattle.std.specs.Prelude.{All}
 use Rattle.std.proofs.lemmas.List.Elements.{All-append, All-cons, All-head, All-tail}
 use Rattle.elf_model.proofs.Listed.{All-parts}
 use Rattle.elf_model.proofs.Rests.{Left, rest_at}
-use Rattle.elf_model.specs.Loading.{LoadedObject}
-use Rattle.elf_model.specs.ObjectFile.{symbols}
-use Rattle.elf_model.specs.Resolution.{SymbolOf, symbol_of, symbols_from, symbols_of}
+use Rattle.elf_model.specs.Link.Loading.{LoadedObject}
+use Rattle.elf_model.specs.Inputs.ObjectFile.{symbols}
+use Rattle.elf_model.specs.Link.Resolution.{SymbolOf, symbol_of, symbols_from, symbols_of}
 use Rattle.elf_model.specs.declared.records.Symbol.{Symbol}
 use Rattle.check_load.specs.Views.{loaded_view, loaded_views}
 use Rattle.check_load.specs.declared.loaded.Loaded.{Loaded}

@@ -4,9 +4,9 @@ use Rattle.std.specs.Option.{option_and_then, option_map_or}
 use Rattle.check_load.specs.NameNumbers.{IsNumberOf, number_of}
 use Rattle.check_load.specs.Numbered.{number_in}
 use Rattle.check_load.specs.declared.loaded.Loaded.{Loaded}
-use Rattle.elf_model.specs.ChosenSymbols.{is_chosen, is_same_symbol}
-use Rattle.elf_model.specs.Loading.{LoadedObject}
-use Rattle.elf_model.specs.Resolution.{SymbolOf, chosen}
+use Rattle.elf_model.specs.Link.ChosenSymbols.{is_chosen, is_same_symbol}
+use Rattle.elf_model.specs.Link.Loading.{LoadedObject}
+use Rattle.elf_model.specs.Link.Resolution.{SymbolOf, chosen}
 use Rattle.check_link.specs.declared.chosen_definitions.Chosen.{Chosen}
 
 -- the number of the first of symbols that passes a test, where they are numbered from k on

@@ -4,11 +4,11 @@ use Rattle.std.specs.Borrow.{Bor}
 use Rattle.std.specs.BTreeMap.{BTreeMap, get_by}
 use Rattle.std.specs.Cmp.Lexicographic.{slice_cmp}
 use Rattle.std.specs.Ordering.{nat_cmp}
-use Rattle.elf_model.specs.Commons.{Block, greatest, is_common_symbol}
-use Rattle.elf_model.specs.MapRecord.{CommonRow}
+use Rattle.elf_model.specs.Link.Commons.{Block, greatest, is_common_symbol}
+use Rattle.elf_model.specs.Image.MapRecord.{CommonRow}
 use Rattle.linkmap.specs.Borrowed.{common_row}
-use Rattle.elf_model.specs.Placement.{is_common_row_of}
-use Rattle.elf_model.specs.Resolution.{SymbolOf, has_name, is_common_definition}
+use Rattle.elf_model.specs.Link.Placement.{is_common_row_of}
+use Rattle.elf_model.specs.Link.Resolution.{SymbolOf, has_name, is_common_definition}
 use Rattle.linkmap.specs.declared.borrowed.BorrowedCommon.{BorrowedCommon}
 use Rattle.check_link.specs.Chosen.{is_found}
 use Rattle.check_link.specs.Views.{block_view}

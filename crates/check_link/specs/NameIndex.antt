@@ -2,9 +2,9 @@
 use Rattle.std.specs.Prelude.{◌≡◌, ℕ, List}
 use Rattle.std.specs.Borrow.{Bor}
 use Rattle.std.specs.BTreeMap.{BTreeMap}
-use Rattle.elf_model.specs.ChosenSymbols.{definitions}
-use Rattle.elf_model.specs.Commons.{block_named, blocks}
-use Rattle.elf_model.specs.Loading.{LoadedObject}
+use Rattle.elf_model.specs.Link.ChosenSymbols.{definitions}
+use Rattle.elf_model.specs.Link.Commons.{block_named, blocks}
+use Rattle.elf_model.specs.Link.Loading.{LoadedObject}
 use Rattle.check_load.specs.Numbered.{AreNumbered}
 use Rattle.check_load.specs.declared.loaded.Loaded.{Loaded}
 use Rattle.check_link.specs.Chosen.{AreChosen, IsOwn, IsSized}

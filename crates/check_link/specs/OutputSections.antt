@@ -1,6 +1,6 @@
 -- Output sections as the checker keeps them, and how they compare.
 use Rattle.std.specs.Prelude.{◌≡◌, ◌&&◌, Bool}
-use Rattle.elf_model.specs.Pieces.{Piece, is_executable, is_nobits, is_thread_local, is_writable, output_name, same_bool}
+use Rattle.elf_model.specs.Link.Pieces.{Piece, is_executable, is_nobits, is_thread_local, is_writable, output_name, same_bool}
 use Rattle.std.specs.declared.cmp.Ordering.{Ordering}
 use Rattle.check_link.specs.contracts.output_sections.OutputSectionOrd.TheImpl as section_ord
 use Rattle.check_link.specs.declared.output_sections.OutputSection.{OutputSection}

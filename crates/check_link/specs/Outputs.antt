@@ -2,9 +2,9 @@
 use Rattle.std.specs.Prelude.{◌≡◌, ℕ, ◌&&◌, Bool, AllPairs, cond, List, [], ◌∷◌, None, Option, Some, option_map, true, unwrap_or}
 use Rattle.std.specs.Borrow.{Bor}
 use Rattle.std.specs.BTreeMap.{BTreeMap}
-use Rattle.elf_model.specs.LinkerValues.{end_of_pieces, start_of_pieces}
-use Rattle.elf_model.specs.Pieces.{Piece, is_of_output, same_output}
-use Rattle.elf_model.specs.Placement.{Placed}
+use Rattle.elf_model.specs.Link.LinkerValues.{end_of_pieces, start_of_pieces}
+use Rattle.elf_model.specs.Link.Pieces.{Piece, is_of_output, same_output}
+use Rattle.elf_model.specs.Link.Placement.{Placed}
 use Rattle.elf_model.proofs.PieceBounds.{earlier, further}
 use Rattle.check_link.specs.ByName.{found_in, known}
 use Rattle.check_link.specs.OutputSections.{same_flags}

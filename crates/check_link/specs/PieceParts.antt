@@ -1,9 +1,9 @@
 -- The parts of memory of which bounds tell, and what the bounds are.
 use Rattle.std.specs.Prelude.{◌≡◌, ◌+◌, ◌^◌, ◌≤◌, max, Bool, List, All, Option, IfSome, unwrap_or}
-use Rattle.elf_model.specs.LinkerValues.{end_of_pieces, is_code_piece, is_file_data, is_loaded_piece, is_zero_data, start_of_pieces}
-use Rattle.elf_model.specs.Pieces.{Piece, is_thread_piece}
-use Rattle.elf_model.specs.Placement.{Placed, got_end}
-use Rattle.elf_model.specs.ThreadStorage.{is_some_thread_data, is_thread_data}
+use Rattle.elf_model.specs.Link.LinkerValues.{end_of_pieces, is_code_piece, is_file_data, is_loaded_piece, is_zero_data, start_of_pieces}
+use Rattle.elf_model.specs.Link.Pieces.{Piece, is_thread_piece}
+use Rattle.elf_model.specs.Link.Placement.{Placed, got_end}
+use Rattle.elf_model.specs.Link.ThreadStorage.{is_some_thread_data, is_thread_data}
 use Rattle.elf_model.specs.declared.link_map.GotLine.{GotLine}
 use Rattle.check_link.specs.declared.bounds.Bounds.{Bounds}
 use Rattle.check_link.specs.declared.bounds.Part.{Part}

@@ -5,7 +5,7 @@ use Rattle.std.specs.BTreeMap.{BTreeMap}
 use Rattle.std.specs.HashMap.{HashMap, get}
 use Rattle.std.specs.declared.hash.BuildHasherDefault.{BuildHasherDefault}
 use Rattle.std.specs.declared.hash.FoldHasher.{FoldHasher}
-use Rattle.elf_model.specs.Placement.{Placed, is_of_section}
+use Rattle.elf_model.specs.Link.Placement.{Placed, is_of_section}
 use Rattle.elf_model.specs.declared.link_map.GotLine.{GotLine}
 use Rattle.check_link.specs.Outputs.{AreSpans}
 use Rattle.check_link.specs.PieceParts.{AreBounds}

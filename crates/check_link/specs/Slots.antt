@@ -5,9 +5,9 @@ use Rattle.std.specs.List.{position, position_from}
 use Rattle.std.specs.Str.{bytes_eq}
 use Rattle.check_load.specs.Numbered.{name_at}
 use Rattle.std.specs.declared.cmp.Ordering.{Ordering}
-use Rattle.elf_model.specs.Loading.{LoadedObject}
-use Rattle.elf_model.specs.MapRecord.{OfLocal, OfName, SlotRow, TargetRow}
-use Rattle.elf_model.specs.Slots.{Request, is_slot_of, row_request, same_request}
+use Rattle.elf_model.specs.Link.Loading.{LoadedObject}
+use Rattle.elf_model.specs.Image.MapRecord.{OfLocal, OfName, SlotRow, TargetRow}
+use Rattle.elf_model.specs.Link.Slots.{Request, is_slot_of, row_request, same_request}
 use Rattle.elf_model.specs.declared.link_map.SlotKind.{SlotKind}
 use Rattle.elf_model.specs.declared.link_map.SlotKind.TheVariants as slot
 use Rattle.check_link.specs.contracts.requests.RequestOrd.TheImpl as request_ord

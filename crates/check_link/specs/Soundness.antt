@@ -1,7 +1,7 @@
 -- What the soundness of symbols comes down to: their entries, and the sections in which they stand.
 use Rattle.std.specs.Prelude.{ℕ, cond, false, List, [], None, Option, slice_get}
-use Rattle.elf_model.specs.Loading.{LoadedObject}
-use Rattle.elf_model.specs.Resolution.{IsSoundCommon, SymbolOf, is_undefined, sections_of_object}
+use Rattle.elf_model.specs.Link.Loading.{LoadedObject}
+use Rattle.elf_model.specs.Link.Resolution.{IsSoundCommon, SymbolOf, is_undefined, sections_of_object}
 use Rattle.elf_model.specs.declared.records.SectionHeader.{SectionHeader}
 use Rattle.elf_model.specs.declared.records.Symbol.{Symbol}
 

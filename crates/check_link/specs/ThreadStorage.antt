@@ -1,8 +1,8 @@
 -- The alignment of the block of thread-local storage, and the thread pointer, as the code has them.
 use Rattle.std.specs.Prelude.{ℕ, ◌+◌, ◌%◌, ◌^◌, cond, max, List, unwrap_or}
-use Rattle.elf_model.specs.Pieces.{is_thread_piece}
-use Rattle.elf_model.specs.Placement.{Placed, round_up}
-use Rattle.elf_model.specs.ThreadStorage.{no_block, thread_block}
+use Rattle.elf_model.specs.Link.Pieces.{is_thread_piece}
+use Rattle.elf_model.specs.Link.Placement.{Placed, round_up}
+use Rattle.elf_model.specs.Link.ThreadStorage.{no_block, thread_block}
 use Rattle.elf_model.specs.declared.tls_block.TlsBlock.{TlsBlock}
 
 -- an alignment, or that of a thread-local piece where it is greater

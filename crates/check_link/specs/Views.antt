@@ -1,11 +1,11 @@
 -- The checker's own types as the definitions see them.
 use Rattle.std.specs.Prelude.{ℕ, List, map, max}
 use Rattle.std.specs.Borrow.{Bor}
-use Rattle.elf_model.specs.Commons as commons
-use Rattle.elf_model.specs.Meaning as meaning
-use Rattle.elf_model.specs.Pieces as pieces
-use Rattle.elf_model.specs.Placement as placement
-use Rattle.elf_model.specs.Resolution as resolution
+use Rattle.elf_model.specs.Link.Commons as commons
+use Rattle.elf_model.specs.Link.Meaning as meaning
+use Rattle.elf_model.specs.Link.Pieces as pieces
+use Rattle.elf_model.specs.Link.Placement as placement
+use Rattle.elf_model.specs.Link.Resolution as resolution
 use Rattle.check_link.specs.declared.things.Block.{Block}
 use Rattle.check_link.specs.declared.things.Meaning.{Meaning}
 use Rattle.check_link.specs.declared.things.Meaning.TheVariants as variant

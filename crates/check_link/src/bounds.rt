@@ -1,9 +1,9 @@
 //! Where parts of the pieces begin and end, and where the pieces of each output name do: what the linker's own names
 //! stand for, and the block of thread-local storage.
 ghost use Rattle.std.specs.Prelude.{◌≡◌, ◌+◌, IfOk, OnOk, max, option_map, unwrap_or};
-ghost use Rattle.elf_model.specs.LinkerValues.{end_of_pieces, least_of, start_of_pieces};
-ghost use Rattle.elf_model.specs.Placement.{got_end};
-ghost use Rattle.elf_model.specs.ThreadStorage.{is_thread_data};
+ghost use Rattle.elf_model.specs.Link.LinkerValues.{end_of_pieces, least_of, start_of_pieces};
+ghost use Rattle.elf_model.specs.Link.Placement.{got_end};
+ghost use Rattle.elf_model.specs.Link.ThreadStorage.{is_thread_data};
 ghost use Rattle.elf_model.proofs.PieceBounds.{earlier, further};
 ghost use Rattle.check_link.specs.PieceParts.{AreBounds, AreInLimit, IsGotInLimit, IsInLimit, part_test};
 ghost use Rattle.check_link.specs.ByName.{IsKept};

@@ -3,9 +3,9 @@
 ghost use Rattle.std.specs.Prelude.{◌≡◌, ◌≤◌, ◌<◌, ◌+◌, ◌&&◌, ℕ, IfOk, List, None, OnOk, Some, cond, filter, length, max, option_map, slice_get, slice_set, true};
 ghost use Rattle.std.specs.Option.{option_and_then, option_or};
 ghost use Rattle.std.specs.Str.{bytes_eq};
-ghost use Rattle.elf_model.specs.ChosenSymbols.{is_definition};
-ghost use Rattle.elf_model.specs.Resolution as resolution;
-ghost use Rattle.elf_model.specs.Resolution.{all_symbols, has_name, is_common_definition, is_strong, is_weak_definition};
+ghost use Rattle.elf_model.specs.Link.ChosenSymbols.{is_definition};
+ghost use Rattle.elf_model.specs.Link.Resolution as resolution;
+ghost use Rattle.elf_model.specs.Link.Resolution.{all_symbols, has_name, is_common_definition, is_strong, is_weak_definition};
 ghost use Rattle.check_load.specs.NameNumbers.{KeepNumbers, number_of, with_name};
 ghost use Rattle.check_load.specs.Numbered.{AreNumbered};
 ghost use Rattle.check_load.specs.Views.{loaded_views};

@@ -4,8 +4,8 @@ ghost use Rattle.std.specs.Prelude.{◌≡◌, ◌↔◌, ℕ, All, IfOk, IsTrue
 ghost use Rattle.std.specs.Cow.{cow_slice_items};
 ghost use Rattle.std.specs.Option.{option_or};
 ghost use Rattle.linkmap.specs.Borrowed.{common_row};
-ghost use Rattle.elf_model.specs.Placement.{common_address, is_common_row_of};
-ghost use Rattle.elf_model.specs.RightLink.{HasCommonLine, facts_of_block, facts_of_common};
+ghost use Rattle.elf_model.specs.Link.Placement.{common_address, is_common_row_of};
+ghost use Rattle.elf_model.specs.Image.RightLink.{HasCommonLine, facts_of_block, facts_of_common};
 ghost use Rattle.check_link.specs.Commons.{IsLineIndex, line_in, line_view};
 ghost use Rattle.check_link.specs.Views.{block_view};
 
@@ -25,7 +25,7 @@ pub struct CommonLines<'m> {
 
 impl<'m> Model for CommonLines<'m> {
     ghost use Rattle.std.specs.Prelude.{List, map};
-    ghost use Rattle.elf_model.specs.MapRecord.{CommonRow};
+    ghost use Rattle.elf_model.specs.Image.MapRecord.{CommonRow};
     ghost use Rattle.linkmap.specs.Borrowed.{common_row};
     ghost use Rattle.check_link.specs.Commons.{IsLineIndex};
 

@@ -1,11 +1,11 @@
 //! Common symbols: whether they are sound, and the blocks that they ask for, name by name.
 ghost use Rattle.std.specs.Prelude.{◌≡◌, ◌∷◌, ◌++◌, ◌↔◌, ℕ, [], All, IfOk, IsTrue, List, None, OnOk, Some, cond, filter, find, length, max, option_map, unwrap_or};
 ghost use Rattle.std.specs.Option.{option_or};
-ghost use Rattle.elf_model.specs.ChosenSymbols.{is_definition};
-ghost use Rattle.elf_model.specs.Commons as commons;
-ghost use Rattle.elf_model.specs.Commons.{blocks, blocks_from, is_block_of};
-ghost use Rattle.elf_model.specs.ObjectFile.{symbols};
-ghost use Rattle.elf_model.specs.Resolution.{AreSoundCommons, all_symbols};
+ghost use Rattle.elf_model.specs.Link.ChosenSymbols.{is_definition};
+ghost use Rattle.elf_model.specs.Link.Commons as commons;
+ghost use Rattle.elf_model.specs.Link.Commons.{blocks, blocks_from, is_block_of};
+ghost use Rattle.elf_model.specs.Inputs.ObjectFile.{symbols};
+ghost use Rattle.elf_model.specs.Link.Resolution.{AreSoundCommons, all_symbols};
 ghost use Rattle.check_load.specs.Views.{loaded_views};
 ghost use Rattle.check_link.specs.Chosen.{AreChosen, IsSized};
 ghost use Rattle.check_link.specs.Commons.{HasAsked, HasGained, asked_in, block_in, is_block_symbol};

@@ -1,10 +1,10 @@
 //! Which symbols are definitions, where they stand, and their values.
 ghost use Rattle.std.specs.Prelude.{◌≡◌, ◌↔◌, ◌++◌, ◌&&◌, IfOk, IsTrue, OnOk, filter, not};
-ghost use Rattle.elf_model.specs.ChosenSymbols.{is_definition};
-ghost use Rattle.elf_model.specs.Placement.{symbol_value};
-ghost use Rattle.elf_model.specs.Commons.{is_common_symbol};
-ghost use Rattle.elf_model.specs.ObjectFile.{symbols};
-ghost use Rattle.elf_model.specs.Resolution.{all_symbols, is_common_definition, is_in_thread_section, is_placed_symbol, is_strong, is_weak_definition, symbols_from};
+ghost use Rattle.elf_model.specs.Link.ChosenSymbols.{is_definition};
+ghost use Rattle.elf_model.specs.Link.Placement.{symbol_value};
+ghost use Rattle.elf_model.specs.Link.Commons.{is_common_symbol};
+ghost use Rattle.elf_model.specs.Inputs.ObjectFile.{symbols};
+ghost use Rattle.elf_model.specs.Link.Resolution.{all_symbols, is_common_definition, is_in_thread_section, is_placed_symbol, is_strong, is_weak_definition, symbols_from};
 ghost use Rattle.check_load.specs.Views.{loaded_view, loaded_views};
 ghost use Rattle.check_link.specs.Views.{symbol_view, symbol_views};
 

@@ -1,11 +1,11 @@
 //! Reads the words and the map of a link: the first clause.
 ghost use Rattle.std.specs.Prelude.{◌≡◌, IfOk, IfSome, IsSomeAnd, None, Ok};
-ghost use Rattle.elf_model.specs.Command as command;
-ghost use Rattle.elf_model.specs.Command.{command_of};
-ghost use Rattle.elf_model.specs.Files.{words_of};
-ghost use Rattle.elf_model.specs.MapRecord.{MapRecord};
+ghost use Rattle.elf_model.specs.Inputs.Command as command;
+ghost use Rattle.elf_model.specs.Inputs.Command.{command_of};
+ghost use Rattle.elf_model.specs.Inputs.Files.{words_of};
+ghost use Rattle.elf_model.specs.Image.MapRecord.{MapRecord};
 ghost use Rattle.linkmap.specs.Borrowed.{record_of};
-ghost use Rattle.elf_model.specs.MapText.{IsMap, text};
+ghost use Rattle.elf_model.specs.Image.MapText.{IsMap, text};
 
 use command::{CmdFault, Plan, read_words};
 use elf_model::MapFault;

@@ -16,10 +16,10 @@ pub struct Link<'a> {
 }
 
 impl<'a> Model for Link<'a> {
-    ghost use Rattle.elf_model.specs.Files.{files_of};
+    ghost use Rattle.elf_model.specs.Inputs.Files.{files_of};
     ghost use Rattle.linkmap.specs.Borrowed.{record_of};
-    ghost use Rattle.elf_model.specs.MapText.{IsMap};
-    ghost use Rattle.elf_model.specs.RightLink.{Subject};
+    ghost use Rattle.elf_model.specs.Image.MapText.{IsMap};
+    ghost use Rattle.elf_model.specs.Image.RightLink.{Subject};
 
     ghost Value = { Subject };
 

@@ -2,9 +2,9 @@
 ghost use Rattle.std.specs.Prelude.{◌≡◌, ◌||◌, List, None, drop, find, option_map, true};
 ghost use Rattle.std.specs.List.{list_all};
 ghost use Rattle.std.specs.Str.{bytes_eq};
-ghost use Rattle.elf_model.specs.LinkerNames as linker;
-ghost use Rattle.elf_model.specs.LinkerNames.{array_named, bound_names, bound_of};
-ghost use Rattle.elf_model.specs.Loading.{LoadedObject};
+ghost use Rattle.elf_model.specs.Link.LinkerNames as linker;
+ghost use Rattle.elf_model.specs.Link.LinkerNames.{array_named, bound_names, bound_of};
+ghost use Rattle.elf_model.specs.Link.Loading.{LoadedObject};
 ghost use Rattle.check_link.specs.Views.{held};
 
 use elf_model::Bound;

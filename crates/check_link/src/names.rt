@@ -1,10 +1,10 @@
 //! The definitions and the common blocks of loaded objects, found by their names.
 ghost use Rattle.std.specs.Prelude.{◌≡◌, ◌↔◌, IfOk, IfSome, IsTrue, Some, filter, option_map, slice_get};
-ghost use Rattle.elf_model.specs.ChosenSymbols.{is_chosen, is_definition};
-ghost use Rattle.elf_model.specs.Commons.{block_named, blocks};
-ghost use Rattle.elf_model.specs.Loading.{LoadedObject};
-ghost use Rattle.elf_model.specs.Meaning.{meant};
-ghost use Rattle.elf_model.specs.Resolution.{AreSoundCommons, all_symbols, chosen};
+ghost use Rattle.elf_model.specs.Link.ChosenSymbols.{is_chosen, is_definition};
+ghost use Rattle.elf_model.specs.Link.Commons.{block_named, blocks};
+ghost use Rattle.elf_model.specs.Link.Loading.{LoadedObject};
+ghost use Rattle.elf_model.specs.Link.Meaning.{meant};
+ghost use Rattle.elf_model.specs.Link.Resolution.{AreSoundCommons, all_symbols, chosen};
 ghost use Rattle.check_load.specs.Numbered.{AreNumbered, name_at};
 ghost use Rattle.check_load.specs.Views.{loaded_views};
 ghost use Rattle.check_link.specs.Chosen.{AreChosen, AreOtherChoices, AreOwnChoices, IsSized};
@@ -36,7 +36,7 @@ pub struct Names<'l, 'a> {
 
 impl<'l, 'a> Model for Names<'l, 'a> {
     ghost use Rattle.std.specs.Prelude.{List};
-    ghost use Rattle.elf_model.specs.Loading.{LoadedObject};
+    ghost use Rattle.elf_model.specs.Link.Loading.{LoadedObject};
     ghost use Rattle.check_load.specs.Views.{loaded_views};
     ghost use Rattle.check_link.specs.NameIndex.{AreNames};
 

@@ -2,7 +2,7 @@
 ghost use Rattle.std.specs.Prelude.{◌≡◌, IfSome, slice_get};
 ghost use Rattle.std.specs.List.{position};
 ghost use Rattle.std.specs.Str.{bytes_eq};
-ghost use Rattle.elf_model.specs.Loading.{LoadedObject};
+ghost use Rattle.elf_model.specs.Link.Loading.{LoadedObject};
 ghost use Rattle.check_load.specs.NameNumbers.{IsNumberOf};
 ghost use Rattle.check_load.specs.Numbered.{AreNumbered, name_at};
 ghost use Rattle.check_load.specs.Views.{loaded_views};

@@ -1,7 +1,7 @@
 //! The output names of the kept sections, and whether the sections of one are of one output section.
 ghost use Rattle.std.specs.Prelude.{◌≡◌, ◌↔◌, ℕ, IfOk, IsTrue, List, OnOk, option_map};
 ghost use Rattle.std.specs.List.{list_any};
-ghost use Rattle.elf_model.specs.Pieces.{is_of_output};
+ghost use Rattle.elf_model.specs.Link.Pieces.{is_of_output};
 ghost use Rattle.check_link.specs.ByName.{IsKept};
 ghost use Rattle.check_link.specs.Outputs.{AreOne, AreOutputs, seen_more, seen_now, seen_view, with_piece};
 ghost use Rattle.check_link.specs.Views.{piece_view, piece_views};
@@ -30,7 +30,7 @@ pub struct Outputs<'l, 'a> {
 
 impl<'l, 'a> Model for Outputs<'l, 'a> {
     ghost use Rattle.std.specs.Prelude.{List};
-    ghost use Rattle.elf_model.specs.Pieces as piece_words;
+    ghost use Rattle.elf_model.specs.Link.Pieces as piece_words;
     ghost use Rattle.check_link.specs.Outputs.{AreOutputs};
     ghost use Rattle.check_link.specs.Views.{piece_views};
 

@@ -1,6 +1,6 @@
 //! Output sections: which pieces are of one.
 ghost use Rattle.std.specs.Prelude.{◌≡◌, ◌↔◌, IsTrue};
-ghost use Rattle.elf_model.specs.Pieces as pieces;
+ghost use Rattle.elf_model.specs.Link.Pieces as pieces;
 ghost use Rattle.check_link.specs.OutputSections.{IsOutputSection, IsSameSection, same_flags};
 ghost use Rattle.check_link.specs.Views.{piece_view};
 

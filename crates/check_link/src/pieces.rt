@@ -1,7 +1,7 @@
 //! The kept sections of loaded objects as pieces.
 ghost use Rattle.std.specs.Prelude.{◌≡◌, ◌≤◌, ◌++◌, All, IfOk, OnOk, length};
-ghost use Rattle.elf_model.specs.ObjectFile.{sections};
-ghost use Rattle.elf_model.specs.Pieces as piece_words;
+ghost use Rattle.elf_model.specs.Inputs.ObjectFile.{sections};
+ghost use Rattle.elf_model.specs.Link.Pieces as piece_words;
 ghost use Rattle.check_load.specs.Views.{loaded_view, loaded_views};
 ghost use Rattle.check_link.specs.Views.{piece_view, piece_views};
 

@@ -1,11 +1,11 @@
 //! The pieces at the addresses of the map, and all things of an image with its map.
 ghost use Rattle.std.specs.Prelude.{◌≡◌, ◌++◌, ◌∷◌, ◌≤◌, IfOk, OnOk, Some, [], length, map, take};
-ghost use Rattle.elf_model.specs.Commons.{block_piece};
+ghost use Rattle.elf_model.specs.Link.Commons.{block_piece};
 ghost use Rattle.linkmap.specs.Borrowed.{place_row};
-ghost use Rattle.elf_model.specs.Pieces.{rights_of};
-ghost use Rattle.elf_model.specs.Placement.{got_things, headers_thing, placed_blocks, placed_by, range_of, thing_of, thread_ranges};
-ghost use Rattle.elf_model.specs.MemoryImage as placement;
-ghost use Rattle.elf_model.specs.MemoryImage.{loads};
+ghost use Rattle.elf_model.specs.Link.Pieces.{rights_of};
+ghost use Rattle.elf_model.specs.Link.Placement.{got_things, headers_thing, placed_blocks, placed_by, range_of, thing_of, thread_ranges};
+ghost use Rattle.elf_model.specs.Image.MemoryImage as placement;
+ghost use Rattle.elf_model.specs.Image.MemoryImage.{loads};
 ghost use Rattle.check_link.specs.Views.{block_view, block_views, piece_view, piece_views, placed_view, placed_views};
 
 use crate::common_lines::CommonLines;

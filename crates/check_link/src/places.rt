@@ -1,9 +1,9 @@
 //! The addresses of placed pieces, found by their sections.
 ghost use Rattle.std.specs.Prelude.{◌≡◌, ◌==◌, ◌&&◌, ℕ, IfOk, None, OnOk, Option, Some, cond, find, map, option_map, unwrap_or};
 ghost use Rattle.std.specs.Option.{option_or};
-ghost use Rattle.elf_model.specs.LinkerValues.{bound_value, end_of_pieces, start_of_pieces};
-ghost use Rattle.elf_model.specs.Pieces.{is_of_output};
-ghost use Rattle.elf_model.specs.Placement.{got_start, is_of_section};
+ghost use Rattle.elf_model.specs.Link.LinkerValues.{bound_value, end_of_pieces, start_of_pieces};
+ghost use Rattle.elf_model.specs.Link.Pieces.{is_of_output};
+ghost use Rattle.elf_model.specs.Link.Placement.{got_start, is_of_section};
 ghost use Rattle.linkmap.specs.Borrowed.{slot_row};
 ghost use Rattle.check_link.specs.PieceParts.{AreInLimit, IsGotInLimit};
 ghost use Rattle.check_link.specs.PlaceIndex.{IsPlaceIndex, address_in};
@@ -36,7 +36,7 @@ pub struct Places<'p, 'a> {
 
 impl<'p, 'a> Model for Places<'p, 'a> {
     ghost use Rattle.std.specs.Prelude.{map};
-    ghost use Rattle.elf_model.specs.Placement.{Where};
+    ghost use Rattle.elf_model.specs.Link.Placement.{Where};
     ghost use Rattle.linkmap.specs.Borrowed.{slot_row};
     ghost use Rattle.check_link.specs.PlaceIndex.{ArePlaces};
     ghost use Rattle.check_link.specs.Views.{placed_views};

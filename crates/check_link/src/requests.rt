@@ -1,7 +1,7 @@
 //! Requests for slots of the global offset table, as tables and sets of them compare them, and those of the map's lines.
 ghost use Rattle.std.specs.Prelude.{◌≡◌};
 ghost use Rattle.linkmap.specs.Borrowed.{slot_row, target_row};
-ghost use Rattle.elf_model.specs.Slots.{row_request};
+ghost use Rattle.elf_model.specs.Link.Slots.{row_request};
 ghost use Rattle.check_link.specs.Slots.{kind_view, request_view, target_view};
 
 use elf_model::SlotKind;

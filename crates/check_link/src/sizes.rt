@@ -1,6 +1,6 @@
 //! What a piece takes up in memory.
 ghost use Rattle.std.specs.Prelude.{◌≡◌};
-ghost use Rattle.elf_model.specs.Pieces as pieces;
+ghost use Rattle.elf_model.specs.Link.Pieces as pieces;
 ghost use Rattle.check_link.specs.Views.{piece_view};
 
 use crate::things::Piece;

@@ -2,8 +2,8 @@
 //! ordered table. No choice of names makes them slow to find.
 ghost use Rattle.std.specs.Prelude.{◌≡◌, ◌==◌, ◌&&◌, ℕ, IfOk, List, None, OnOk, Some, cond, is_some, not};
 ghost use Rattle.std.specs.Option.{option_or};
-ghost use Rattle.elf_model.specs.Slots as slots;
-ghost use Rattle.elf_model.specs.Slots.{same_kind, same_request};
+ghost use Rattle.elf_model.specs.Link.Slots as slots;
+ghost use Rattle.elf_model.specs.Link.Slots.{same_kind, same_request};
 ghost use Rattle.elf_model.specs.declared.link_map.SlotKind.{SlotKind};
 ghost use Rattle.check_link.specs.Chosen.{position_at};
 ghost use Rattle.check_link.specs.Slots.{in_table, kind_view, number_for, place_at, place_in, positions_of, request_view};

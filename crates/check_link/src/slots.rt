@@ -3,8 +3,8 @@ ghost use Rattle.std.specs.Prelude.{◌≡◌, IfOk, IfSome, Some, map, slice_ge
 ghost use Rattle.std.specs.List.{list_any};
 ghost use Rattle.std.specs.Option.{option_map_or};
 ghost use Rattle.linkmap.specs.Borrowed.{slot_row};
-ghost use Rattle.elf_model.specs.Loading.{LoadedObject};
-ghost use Rattle.elf_model.specs.Slots.{is_slot_of, requested_address, row_request};
+ghost use Rattle.elf_model.specs.Link.Loading.{LoadedObject};
+ghost use Rattle.elf_model.specs.Link.Slots.{is_slot_of, requested_address, row_request};
 ghost use Rattle.check_load.specs.Views.{loaded_views};
 ghost use Rattle.check_link.specs.Slots.{IsSlotIndex, are_distinct, line_of, name_request, number_for, request_view};
 

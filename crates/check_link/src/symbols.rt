@@ -1,8 +1,8 @@
 //! Where the symbols of the loaded objects stand, and whether they are sound: a part of the thirteenth clause.
 ghost use Rattle.std.specs.Prelude.{◌≡◌, ◌≤◌, ◌/◌, ◌↔◌, All, IfSome, IsTrue, true};
 ghost use Rattle.std.specs.List.{slice_get};
-ghost use Rattle.elf_model.specs.ObjectFile.{symbols};
-ghost use Rattle.elf_model.specs.Resolution.{AreSoundSymbols, IsSoundSymbol, StandsWell, binding, section_of, sections_of_object, symbol_of, symbols_from};
+ghost use Rattle.elf_model.specs.Inputs.ObjectFile.{symbols};
+ghost use Rattle.elf_model.specs.Link.Resolution.{AreSoundSymbols, IsSoundSymbol, StandsWell, binding, section_of, sections_of_object, symbol_of, symbols_from};
 ghost use Rattle.check_load.specs.Views.{loaded_view, loaded_views};
 ghost use Rattle.check_link.specs.Soundness.{section_in};
 ghost use Rattle.check_link.specs.Views.{symbol_view};

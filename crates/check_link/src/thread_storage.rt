@@ -1,8 +1,8 @@
 //! The block of thread-local storage, and the thread pointer (ELF Handling For Thread-Local Storage, variant II: the block
 //! lies below the thread pointer).
 ghost use Rattle.std.specs.Prelude.{◌≡◌, ◌<◌, ◌≤◌, ◌%◌, ◌^◌, IfSome, map};
-ghost use Rattle.elf_model.specs.Pieces.{is_thread_piece};
-ghost use Rattle.elf_model.specs.ThreadStorage as storage;
+ghost use Rattle.elf_model.specs.Link.Pieces.{is_thread_piece};
+ghost use Rattle.elf_model.specs.Link.ThreadStorage as storage;
 ghost use Rattle.check_link.specs.PieceParts.{AreInLimit};
 ghost use Rattle.check_link.specs.ThreadStorage as own;
 ghost use Rattle.check_link.specs.Views.{placed_view, placed_views};

@@ -6,11 +6,11 @@ use Rattle.std.proofs.lemmas.List.Elements.{All-cons, All-nil}
 use Rattle.std.proofs.lemmas.List.FromFn.{length-map-range_with_len}
 use Rattle.std.proofs.lemmas.Option.{get_or_from_slice_get}
 use Rattle.byteview.specs.Numbers.{part}
-use Rattle.elf_model.specs.Loading.{LoadedObject}
-use Rattle.elf_model.specs.ObjectFile.{IsObject, null_section, section, sections}
-use Rattle.elf_model.specs.Pieces.{Piece, is_kept, piece_of, pieces_from}
-use Rattle.elf_model.specs.Records.{file_header, section_header}
-use Rattle.elf_model.specs.Relocation.{is_kept_rela}
+use Rattle.elf_model.specs.Link.Loading.{LoadedObject}
+use Rattle.elf_model.specs.Inputs.ObjectFile.{IsObject, null_section, section, sections}
+use Rattle.elf_model.specs.Link.Pieces.{Piece, is_kept, piece_of, pieces_from}
+use Rattle.elf_model.specs.Inputs.Records.{file_header, section_header}
+use Rattle.elf_model.specs.Link.Relocation.{is_kept_rela}
 use Rattle.elf_model.specs.declared.records.SectionHeader.{SectionHeader}
 use Rattle.check_load.specs.Kept.{IsKeptRela, IsKeptSection, kept_numbers, kept_relas, numbers_behind, piece_at, rela_at, relas_behind}
 

@@ -6,10 +6,10 @@ use Rattle.std.specs.Option.{option_and_then}
 use Rattle.std.proofs.lemmas.Bool.{and_parts}
 use Rattle.std.proofs.lemmas.List.{drop_all, map-append}
 use Rattle.std.proofs.lemmas.List.Elements.{All-append, All-cons, All-head, All-nil, All-tail}
-use Rattle.elf_model.specs.Loading.{LoadedObject, is_dropped}
-use Rattle.elf_model.specs.ObjectFile.{relas, relas_in, relas_of, section, sections}
-use Rattle.elf_model.specs.Pieces.{is_kept}
-use Rattle.elf_model.specs.Relocation.{Relocation, is_kept_rela, is_some_kind, relocation_of, relocations_behind, relocations_from, relocations_in}
+use Rattle.elf_model.specs.Link.Loading.{LoadedObject, is_dropped}
+use Rattle.elf_model.specs.Inputs.ObjectFile.{relas, relas_in, relas_of, section, sections}
+use Rattle.elf_model.specs.Link.Pieces.{is_kept}
+use Rattle.elf_model.specs.Link.Relocation.{Relocation, is_kept_rela, is_some_kind, relocation_of, relocations_behind, relocations_from, relocations_in}
 use Rattle.elf_model.specs.declared.constants.TheConstants.{SHT_RELA}
 use Rattle.elf_model.specs.declared.records.Rela.{Rela}
 use Rattle.elf_model.specs.declared.records.SectionHeader.{SectionHeader}

@@ -2,8 +2,8 @@
 use Rattle.std.proofs.Common.{◌↔◌, Bool, Result, Ok, Err, List}
 use Rattle.std.specs.Prelude.{AllPairs, IfOk, IsTrue}
 use Rattle.std.specs.List.{All}
-use Rattle.elf_model.specs.Groups.{AreLawfulGroups, HasKnownFlags, HasNamedSignature, ShareNoSection}
-use Rattle.elf_model.specs.ObjectFile.{Group}
+use Rattle.elf_model.specs.Link.Groups.{AreLawfulGroups, HasKnownFlags, HasNamedSignature, ShareNoSection}
+use Rattle.elf_model.specs.Inputs.ObjectFile.{Group}
 
 pub lawful_by : {E : Type 0} (r : Result Bool E) (gs : List Group) → All HasKnownFlags gs → All HasNamedSignature gs → IfOk r (λ b. IsTrue b ↔ AllPairs ShareNoSection gs) →
     IfOk r (λ b. IsTrue b ↔ AreLawfulGroups gs)

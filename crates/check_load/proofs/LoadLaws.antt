@@ -1,9 +1,9 @@
 -- The whole command.
 use Rattle.std.proofs.Common.{◌≡◌, List, [], ◌∙◌, ap, subst, sym}
-use Rattle.elf_model.specs.Command.{Plan}
-use Rattle.elf_model.specs.Files.{File}
-use Rattle.elf_model.specs.Loading.{AreObjects, HaveLawfulGroups, LoadedObject, loaded_objects, loaded_steps, steps}
-use Rattle.elf_model.specs.Opening.{Opened, opened}
+use Rattle.elf_model.specs.Inputs.Command.{Plan}
+use Rattle.elf_model.specs.Inputs.Files.{File}
+use Rattle.elf_model.specs.Link.Loading.{AreObjects, HaveLawfulGroups, LoadedObject, loaded_objects, loaded_steps, steps}
+use Rattle.elf_model.specs.Inputs.Opening.{Opened, opened}
 use Rattle.opening.specs.Faults.{IsSearchable, ReadsBadly}
 use Rattle.opening.specs.declared.faults.OpenFault.{OpenFault}
 use Rattle.opening.specs.declared.faults.OpenFault.TheVariants as open_fault

@@ -6,12 +6,12 @@ use Rattle.std.proofs.lemmas.Bool.{and_from, and_parts, eq-eqb, eqb-true, not-tr
 use Rattle.std.proofs.lemmas.List.{map-append}
 use Rattle.std.proofs.lemmas.List.Elements.{All-nil, All-push}
 use Rattle.std.proofs.lemmas.List.Folds.{list_any-append}
-use Rattle.elf_model.specs.Command.{Plan}
-use Rattle.elf_model.specs.Groups.{AreLawfulGroups, dropped, is_seen, seen_after}
-use Rattle.elf_model.specs.Loading.{LoadedObject, is_begun, is_defined, is_requested, is_taken, lost_sections, object_behind, requests, defines, seen_behind, with_object}
-use Rattle.elf_model.specs.ObjectFile.{IsObject, groups}
-use Rattle.elf_model.specs.Opening.{Opened}
-use Rattle.elf_model.specs.ArchiveFile.{IndexEntry}
+use Rattle.elf_model.specs.Inputs.Command.{Plan}
+use Rattle.elf_model.specs.Link.Groups.{AreLawfulGroups, dropped, is_seen, seen_after}
+use Rattle.elf_model.specs.Link.Loading.{LoadedObject, is_begun, is_defined, is_requested, is_taken, lost_sections, object_behind, requests, defines, seen_behind, with_object}
+use Rattle.elf_model.specs.Inputs.ObjectFile.{IsObject, groups}
+use Rattle.elf_model.specs.Inputs.Opening.{Opened}
+use Rattle.elf_model.specs.Inputs.ArchiveFile.{IndexEntry}
 use Rattle.elf_model.proofs.LoadingBounds.{by_case}
 use Rattle.elf_model.proofs.SameOutput.{both_ways_equal}
 use Rattle.check_load.specs.Awake.{is_awake}

@@ -2,8 +2,8 @@
 use Rattle.std.proofs.Common.{ℕ, ◌<◌, Bool, true, false, cond, ◌&&◌, List, [], ◌∷◌, ◌++◌}
 use Rattle.std.specs.List.{All, flat_map}
 use Rattle.std.proofs.lemmas.List.Elements.{All-append, All-head, All-nil, All-tail}
-use Rattle.elf_model.specs.Groups.{is_comdat}
-use Rattle.elf_model.specs.ObjectFile.{Group}
+use Rattle.elf_model.specs.Link.Groups.{is_comdat}
+use Rattle.elf_model.specs.Inputs.ObjectFile.{Group}
 use Rattle.check_load.specs.Signatures.{lost_groups, lost_members, seen_then}
 use Rattle.elf_model.proofs.SharedSections.{AreBelow}
 

@@ -7,7 +7,7 @@ use Rattle.std.specs.Str.{bytes_eq}
 use Rattle.std.proofs.Math.ListN.{drop_of_length-le}
 use Rattle.std.proofs.lemmas.List.{get_or_default}
 use Rattle.std.proofs.lemmas.Slice.Eq.{bytes_eq-Decides}
-use Rattle.elf_model.specs.Loading.{has_name, is_definition, is_request}
+use Rattle.elf_model.specs.Link.Loading.{has_name, is_definition, is_request}
 use Rattle.elf_model.specs.declared.records.Symbol.{Symbol}
 use Rattle.check_load.specs.NameNumbers.{number_of, with_name}
 use Rattle.check_load.specs.Names.{Names, asked_from, defined_from, defines_name, requests_name, state_at, unknown}

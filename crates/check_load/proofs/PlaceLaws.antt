@@ -9,11 +9,11 @@ use Rattle.std.proofs.lemmas.List.{get_or_default, map-append}
 use Rattle.std.proofs.lemmas.List.Folds.{list_any-append}
 use Rattle.std.proofs.lemmas.Option.{get_or_from_slice_get, slice_get_within}
 use Rattle.std.proofs.lemmas.Slice.Eq.{bytes_eq-Decides}
-use Rattle.elf_model.specs.ArchiveFile.{IndexEntry}
+use Rattle.elf_model.specs.Inputs.ArchiveFile.{IndexEntry}
 use Rattle.std.proofs.lemmas.List.Elements.{All-cons, All-nil}
-use Rattle.elf_model.specs.Command.{Item, Plan}
-use Rattle.elf_model.specs.Files.{File}
-use Rattle.elf_model.specs.Opening.{Opened, opened, opened_from, opened_item}
+use Rattle.elf_model.specs.Inputs.Command.{Item, Plan}
+use Rattle.elf_model.specs.Inputs.Files.{File}
+use Rattle.elf_model.specs.Inputs.Opening.{Opened, opened, opened_from, opened_item}
 use Rattle.elf_model.proofs.LoadingBounds.{by_case}
 use Rattle.check_load.specs.Awake.{is_awake, is_place}
 use Rattle.check_load.specs.Places.{ArePlaced, IsAt, IsPlaced, IsSized, IsWoken, has_place, list_at, places_in}

@@ -5,11 +5,11 @@ use Rattle.std.proofs.Math.ListN.{drop_of_length-le}
 use Rattle.std.specs.List.{slice_get}
 use Rattle.std.proofs.lemmas.Bool.{cases_lt, cond-true, eqb-false, eqb-true, false≢true}
 use Rattle.std.proofs.lemmas.Option.{get_or_from_slice_get, none-some, same_Some, slice_get-get_or, slice_get_within}
-use Rattle.elf_model.specs.ArchiveFile.{IndexEntry, Member}
-use Rattle.elf_model.specs.Command.{Item, Plan}
-use Rattle.elf_model.specs.Files.{File}
-use Rattle.elf_model.specs.Loading.{LoadedObject, is_begun, is_next, round, rounds, turn, turn_of_whole, with_members, with_object}
-use Rattle.elf_model.specs.Opening.{Opened, archive_entries, archive_members, opened, opened_from, opened_item}
+use Rattle.elf_model.specs.Inputs.ArchiveFile.{IndexEntry, Member}
+use Rattle.elf_model.specs.Inputs.Command.{Item, Plan}
+use Rattle.elf_model.specs.Inputs.Files.{File}
+use Rattle.elf_model.specs.Link.Loading.{LoadedObject, is_begun, is_next, round, rounds, turn, turn_of_whole, with_members, with_object}
+use Rattle.elf_model.specs.Inputs.Opening.{Opened, archive_entries, archive_members, opened, opened_from, opened_item}
 use Rattle.elf_model.proofs.LoadingBounds.{Extends, begun_now, begun_stays, by_case, extends_length}
 use Rattle.elf_model.proofs.LoadingLaws.{members_extend}
 use Rattle.elf_model.proofs.LoadingSteps.{round_behind, rounds_more, turn_behind, turn_none, turn_whole}

@@ -5,8 +5,8 @@ use Rattle.std.specs.List.{flat_map}
 use Rattle.std.specs.Str.{bytes_eq}
 use Rattle.std.proofs.lemmas.List.Folds.{list_any-append}
 use Rattle.std.proofs.lemmas.Slice.Eq.{bytes_eq-Decides}
-use Rattle.elf_model.specs.Groups.{ascending, dropped, dropped_groups, is_comdat, is_seen, seen_after, seen_with}
-use Rattle.elf_model.specs.ObjectFile.{Group}
+use Rattle.elf_model.specs.Link.Groups.{ascending, dropped, dropped_groups, is_comdat, is_seen, seen_after, seen_with}
+use Rattle.elf_model.specs.Inputs.ObjectFile.{Group}
 use Rattle.check_load.specs.Signatures.{lost_by, lost_groups, seen_by, seen_then}
 use Rattle.check_load.specs.NameNumbers.{is_among, with_name}
 

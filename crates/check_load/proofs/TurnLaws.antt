@@ -3,12 +3,12 @@ use Rattle.std.proofs.Common.{◌≡◌, ℕ, suc, ◌+◌, ◌<◌, false, List
 use Rattle.std.specs.Prelude.{◌≢◌, All, IfErr, option_map}
 use Rattle.std.proofs.lemmas.Bool.{cond-false}
 use Rattle.std.proofs.lemmas.Option.{none-some, same_Some}
-use Rattle.elf_model.specs.ArchiveFile.{IndexEntry, Member}
-use Rattle.elf_model.specs.Command.{Plan}
-use Rattle.elf_model.specs.Loading.{LoadedObject, next, Single, loaded_step, object_behind, round, turn, with_member, with_members, with_object}
-use Rattle.elf_model.specs.Groups.{AreLawfulGroups}
-use Rattle.elf_model.specs.ObjectFile.{IsObject, groups}
-use Rattle.elf_model.specs.Opening.{Opened, archive_data}
+use Rattle.elf_model.specs.Inputs.ArchiveFile.{IndexEntry, Member}
+use Rattle.elf_model.specs.Inputs.Command.{Plan}
+use Rattle.elf_model.specs.Link.Loading.{LoadedObject, next, Single, loaded_step, object_behind, round, turn, with_member, with_members, with_object}
+use Rattle.elf_model.specs.Link.Groups.{AreLawfulGroups}
+use Rattle.elf_model.specs.Inputs.ObjectFile.{IsObject, groups}
+use Rattle.elf_model.specs.Inputs.Opening.{Opened, archive_data}
 use Rattle.std.proofs.lemmas.List.Elements.{All-head}
 use Rattle.elf_model.proofs.Listed.{All-parts}
 use Rattle.elf_model.proofs.LoadingBounds.{Extends, extends_same}

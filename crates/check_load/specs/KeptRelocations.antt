@@ -1,9 +1,9 @@
 -- The kept relocations of an object, with the sections that they relocate and their places.
 use Rattle.std.specs.Prelude.{◌≡◌, ℕ, ◌+◌, true, cond, List, [], ◌∷◌, ◌++◌, Some, unwrap_or}
 use Rattle.std.specs.List.{flat_map, slice_get}
-use Rattle.elf_model.specs.Loading.{LoadedObject}
-use Rattle.elf_model.specs.ObjectFile.{relas, relas_of, section, sections}
-use Rattle.elf_model.specs.Relocation.{Relocation, is_kept_rela, is_some_kind, relocation_of}
+use Rattle.elf_model.specs.Link.Loading.{LoadedObject}
+use Rattle.elf_model.specs.Inputs.ObjectFile.{relas, relas_of, section, sections}
+use Rattle.elf_model.specs.Link.Relocation.{Relocation, is_kept_rela, is_some_kind, relocation_of}
 use Rattle.elf_model.specs.declared.records.Rela.{Rela}
 use Rattle.check_load.specs.Kept.{kept_relas}
 use Rattle.check_load.specs.declared.kept_relocations.KeptRelocation.{KeptRelocation}

@@ -1,10 +1,10 @@
 -- What a loader knows of the objects that are loaded.
 use Rattle.std.specs.Prelude.{◌≡◌, ℕ, ◌&&◌, Bool, true, false, not, List, [], Some, slice_get}
-use Rattle.elf_model.specs.ArchiveFile.{IndexEntry}
-use Rattle.elf_model.specs.Groups.{AreLawfulGroups, is_seen}
-use Rattle.elf_model.specs.Loading.{AreObjects, HaveLawfulGroups, LoadedObject, is_begun, is_defined, is_requested, is_taken, seen_behind}
-use Rattle.elf_model.specs.ObjectFile.{IsObject, groups}
-use Rattle.elf_model.specs.Opening.{Opened, archive_entries}
+use Rattle.elf_model.specs.Inputs.ArchiveFile.{IndexEntry}
+use Rattle.elf_model.specs.Link.Groups.{AreLawfulGroups, is_seen}
+use Rattle.elf_model.specs.Link.Loading.{AreObjects, HaveLawfulGroups, LoadedObject, is_begun, is_defined, is_requested, is_taken, seen_behind}
+use Rattle.elf_model.specs.Inputs.ObjectFile.{IsObject, groups}
+use Rattle.elf_model.specs.Inputs.Opening.{Opened, archive_entries}
 use Rattle.check_load.specs.Awake.{is_awake}
 use Rattle.check_load.specs.NameNumbers.{is_among}
 use Rattle.check_load.specs.Names.{Names, defines_name, requests_name}

@@ -1,8 +1,8 @@
 -- What is known of names, and what the symbols of an object ask for and define.
 use Rattle.std.specs.Prelude.{ℕ, Bool, false, List, ◌&&◌, slice_index_or}
 use Rattle.std.specs.List.{list_any}
-use Rattle.elf_model.specs.Loading.{has_name, is_definition, is_request}
-use Rattle.elf_model.specs.ObjectFile.{symbols}
+use Rattle.elf_model.specs.Link.Loading.{has_name, is_definition, is_request}
+use Rattle.elf_model.specs.Inputs.ObjectFile.{symbols}
 use Rattle.elf_model.specs.declared.records.Symbol.{Symbol}
 use Rattle.check_load.specs.NameNumbers.{number_of}
 use Rattle.check_load.specs.declared.known_names.NameState.{NameState}

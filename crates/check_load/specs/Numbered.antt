@@ -1,6 +1,6 @@
 -- The numbers of the names of objects' symbols.
 use Rattle.std.specs.Prelude.{◌≡◌, ℕ, ◌++◌, ◌∷◌, [], All, IfSome, List, None, Option, Some, slice_index_or, unwrap_or}
-use Rattle.elf_model.specs.ObjectFile.{symbol_name}
+use Rattle.elf_model.specs.Inputs.ObjectFile.{symbol_name}
 use Rattle.check_load.specs.NameNumbers.{IsNumberOf}
 use Rattle.check_load.specs.declared.loaded.Loaded.{Loaded}
 

@@ -2,8 +2,8 @@
 use Rattle.std.specs.Prelude.{◌≡◌, ℕ, Bool, true, false, List, [], ◌≤◌, All, Some, length, map, slice_get, slice_index_or}
 use Rattle.std.specs.Global.{Vec}
 use Rattle.std.specs.List.{list_any}
-use Rattle.elf_model.specs.ArchiveFile.{IndexEntry}
-use Rattle.elf_model.specs.Opening.{Opened, archive_entries}
+use Rattle.elf_model.specs.Inputs.ArchiveFile.{IndexEntry}
+use Rattle.elf_model.specs.Inputs.Opening.{Opened, archive_entries}
 use Rattle.check_load.specs.Awake.{is_awake, is_place}
 use Rattle.check_load.specs.Names.{Names, requests_name}
 use Rattle.check_load.specs.NameNumbers.{number_of}

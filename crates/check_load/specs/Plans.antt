@@ -1,8 +1,8 @@
 -- When the objects of a plan can be loaded.
-use Rattle.elf_model.specs.Command.{Plan}
-use Rattle.elf_model.specs.Files.{File}
-use Rattle.elf_model.specs.Loading.{AreObjects, HaveLawfulGroups, loaded_objects}
-use Rattle.elf_model.specs.Opening.{AreArchives, AreFilesThere, HaveIndexes, opened}
+use Rattle.elf_model.specs.Inputs.Command.{Plan}
+use Rattle.elf_model.specs.Inputs.Files.{File}
+use Rattle.elf_model.specs.Link.Loading.{AreObjects, HaveLawfulGroups, loaded_objects}
+use Rattle.elf_model.specs.Inputs.Opening.{AreArchives, AreFilesThere, HaveIndexes, opened}
 use Rattle.std.specs.Prelude.{List}
 
 -- each item has a file, the archives among them are archives and have the indexes that a search needs, and what

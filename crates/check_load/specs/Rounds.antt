@@ -1,7 +1,7 @@
 -- The archives of a group between two turns: which of them would take nothing.
 use Rattle.std.specs.Prelude.{◌≡◌, ◌⊎◌, ℕ, ◌+◌, ◌≤◌, ◌<◌, true, false, List, [], Some, slice_get}
-use Rattle.elf_model.specs.Loading.{LoadedObject, is_begun}
-use Rattle.elf_model.specs.Opening.{Opened, archive_members}
+use Rattle.elf_model.specs.Link.Loading.{LoadedObject, is_begun}
+use Rattle.elf_model.specs.Inputs.Opening.{Opened, archive_members}
 use Rattle.check_load.specs.Awake.{is_awake}
 use Rattle.check_load.specs.declared.loader.Loader.{Loader}
 

@@ -2,8 +2,8 @@
 use Rattle.std.specs.Prelude.{ℕ, Bool, List, [], ◌∷◌, ◌++◌, ◌&&◌, ◌||◌, if◌then◌else◌}
 use Rattle.std.specs.List.{flat_map}
 use Rattle.std.specs.Str.{bytes_eq}
-use Rattle.elf_model.specs.Groups.{ascending, is_comdat}
-use Rattle.elf_model.specs.ObjectFile.{Group}
+use Rattle.elf_model.specs.Link.Groups.{ascending, is_comdat}
+use Rattle.elf_model.specs.Inputs.ObjectFile.{Group}
 
 -- what is seen after a group, and after groups
 abbrev pub seen_then : (List ℕ → Bool) → Group → List ℕ → Bool

@@ -1,6 +1,6 @@
 -- The loaded objects as the definitions see them.
 use Rattle.std.specs.Prelude.{List, map}
-use Rattle.elf_model.specs.Loading.{LoadedObject}
+use Rattle.elf_model.specs.Link.Loading.{LoadedObject}
 use Rattle.check_load.specs.declared.loaded.Loaded.{Loaded}
 
 abbrev pub loaded_view : Loaded → LoadedObject

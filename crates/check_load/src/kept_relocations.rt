@@ -1,6 +1,6 @@
 //! The kept relocations of a loaded object, one after the other: the one walk over them.
 ghost use Rattle.std.specs.Prelude.{◌≡◌, ◌++◌, [], ℕ, All, map};
-ghost use Rattle.elf_model.specs.Relocation.{is_some_kind, relocations_from};
+ghost use Rattle.elf_model.specs.Link.Relocation.{is_some_kind, relocations_from};
 ghost use Rattle.check_load.specs.KeptRelocations.{IsKeptRelocation, kept_relocations, relocation_at, relocations_of_rela, relocations_of_relas};
 ghost use Rattle.check_load.specs.Views.{loaded_view};
 

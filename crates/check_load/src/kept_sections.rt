@@ -1,9 +1,9 @@
 //! What is kept of a loaded object, listed once when it is loaded: its sections, and the RELA sections of these.
 ghost use Rattle.std.specs.Prelude.{◌≡◌, ◌++◌, ℕ, All, IfOk, OnOk, [], map, true};
-ghost use Rattle.elf_model.specs.Loading.{is_dropped};
-ghost use Rattle.elf_model.specs.ObjectFile.{sections};
-ghost use Rattle.elf_model.specs.Pieces.{is_kept, pieces_from};
-ghost use Rattle.elf_model.specs.Relocation.{is_kept_rela};
+ghost use Rattle.elf_model.specs.Link.Loading.{is_dropped};
+ghost use Rattle.elf_model.specs.Inputs.ObjectFile.{sections};
+ghost use Rattle.elf_model.specs.Link.Pieces.{is_kept, pieces_from};
+ghost use Rattle.elf_model.specs.Link.Relocation.{is_kept_rela};
 ghost use Rattle.check_load.specs.Kept.{IsKeptRela, IsKeptSection, kept_numbers, kept_relas, losing, number_if_kept, numbers_in, piece_at, rela_if_kept, relas_in};
 ghost use Rattle.check_load.specs.Views.{loaded_view};
 

@@ -1,6 +1,6 @@
 //! Which groups of an object are lawful.
 ghost use Rattle.std.specs.Prelude.{◌≡◌, ◌↔◌, ◌<◌, All, AllPairs, IfOk, IsTrue};
-ghost use Rattle.elf_model.specs.Groups.{AreLawfulGroups, HasKnownFlags, HasNamedSignature, ShareNoSection, is_comdat};
+ghost use Rattle.elf_model.specs.Link.Groups.{AreLawfulGroups, HasKnownFlags, HasNamedSignature, ShareNoSection, is_comdat};
 
 use crate::copies::filled;
 use crate::marks::{are_unmarked, mark};

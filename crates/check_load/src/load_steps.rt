@@ -1,8 +1,8 @@
 //! The whole command: its items in order, groups of archives as one.
 ghost use Rattle.std.specs.Prelude.{◌≡◌, ◌↔◌, [], All, IfErr, IfOk, IfSome, IsSome, OnOk, drop, length, ◌≤◌, ◌<◌};
 ghost use Rattle.std.specs.List.{prefix_len};
-ghost use Rattle.elf_model.specs.Files.{files_of};
-ghost use Rattle.elf_model.specs.Loading.{Single, group_of, loaded_objects, loaded_step, loaded_steps, steps};
+ghost use Rattle.elf_model.specs.Inputs.Files.{files_of};
+ghost use Rattle.elf_model.specs.Link.Loading.{Single, group_of, loaded_objects, loaded_step, loaded_steps, steps};
 ghost use Rattle.check_load.specs.Loaders.{AreLoadable, Knows, loaded};
 ghost use Rattle.check_load.specs.Numbered.{AreNumbered};
 ghost use Rattle.check_load.specs.Places.{IsAt};

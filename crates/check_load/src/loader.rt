@@ -1,9 +1,9 @@
 //! The objects that are loaded so far, and what loading has to know of them.
 ghost use Rattle.std.specs.Prelude.{true, false, ◌≡◌, ◌≤◌, ◌<◌, [], ℕ, IfErr, IfNone, IfOk, IfSome, IsSomeAnd, OnOk, Some, length, option_map, slice_get};
 ghost use Rattle.std.specs.List.{find};
-ghost use Rattle.elf_model.specs.ArchiveFile as archive;
-ghost use Rattle.elf_model.specs.Loading.{is_begun, next, with_object};
-ghost use Rattle.elf_model.specs.ObjectFile.{IsObject};
+ghost use Rattle.elf_model.specs.Inputs.ArchiveFile as archive;
+ghost use Rattle.elf_model.specs.Link.Loading.{is_begun, next, with_object};
+ghost use Rattle.elf_model.specs.Inputs.ObjectFile.{IsObject};
 ghost use Rattle.check_load.specs.Loaders.{AreFreeAwake, IsLoadable, Knows, is_free, loaded};
 ghost use Rattle.check_load.specs.Awake.{is_awake};
 ghost use Rattle.opening.specs.Opened.{item_view};

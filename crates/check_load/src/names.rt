@@ -3,8 +3,8 @@ ghost use Rattle.std.specs.Prelude.{◌≡◌, ◌&&◌, ◌||◌, ◌∷◌, �
 ghost use Rattle.std.specs.List.{list_any};
 ghost use Rattle.std.specs.Str.{bytes_eq};
 ghost use Rattle.command.specs.Views.{texts_of};
-ghost use Rattle.elf_model.specs.Loading.{has_name, is_definition, is_global_or_weak, is_global_symbol, is_left_undefined, is_request};
-ghost use Rattle.elf_model.specs.ObjectFile.{symbols};
+ghost use Rattle.elf_model.specs.Link.Loading.{has_name, is_definition, is_global_or_weak, is_global_symbol, is_left_undefined, is_request};
+ghost use Rattle.elf_model.specs.Inputs.ObjectFile.{symbols};
 ghost use Rattle.check_load.specs.Awake.{is_awake};
 ghost use Rattle.check_load.specs.Places.{AreWokenSince, none_asked};
 ghost use Rattle.check_load.specs.NameNumbers.{IsNumberOf, KeepNumbers};

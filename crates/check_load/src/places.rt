@@ -1,7 +1,7 @@
 //! Where the names stand in the indexes of the archives that are searched.
 ghost use Rattle.std.specs.Prelude.{◌≡◌, ◌≤◌, ◌<◌, ◌+◌, ◌++◌, ◌∷◌, [], ℕ, All, IfOk, List, OnOk, Some, cond, length, max, option_map, slice_get, true, unwrap_or};
 ghost use Rattle.std.specs.Str.{bytes_eq};
-ghost use Rattle.elf_model.specs.ArchiveFile as archive;
+ghost use Rattle.elf_model.specs.Inputs.ArchiveFile as archive;
 ghost use Rattle.check_load.specs.Awake.{is_awake};
 ghost use Rattle.check_load.specs.Places.{IsWoken, ArePlaced, IsPlaced, IsSized, has_place, list_at, places_in};
 
@@ -29,7 +29,7 @@ pub struct Places<'i, 'a> {
 
 impl<'i, 'a> Model for Places<'i, 'a> {
     ghost use Rattle.std.specs.Prelude.{List};
-    ghost use Rattle.elf_model.specs.Opening.{Opened};
+    ghost use Rattle.elf_model.specs.Inputs.Opening.{Opened};
     ghost use Rattle.check_load.specs.Places.{ArePlaced, IsSized};
 
     ghost Value = { List Opened };

@@ -1,7 +1,7 @@
 //! Groups of archives: rounds, until one takes nothing. After the first round an archive may take something only where an
 //! entry of its index is awake, and only such archives have turns.
 ghost use Rattle.std.specs.Prelude.{◌≡◌, true, All, IfErr, OnOk};
-ghost use Rattle.elf_model.specs.Loading.{round, rounds};
+ghost use Rattle.elf_model.specs.Link.Loading.{round, rounds};
 ghost use Rattle.check_load.specs.Places.{IsAt};
 ghost use Rattle.check_load.specs.Rounds.{AreSideBySide, AreSpent};
 ghost use Rattle.check_load.specs.Stops.{Refutes};

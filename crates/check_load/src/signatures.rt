@@ -1,8 +1,8 @@
 //! The signatures of COMDAT groups that were seen, and the sections that the next object loses by them.
 ghost use Rattle.std.specs.Prelude.{◌≡◌, ◌==◌, ◌<◌, ◌&&◌, All, IfErr, IfOk, OnOk, if◌then◌else◌, length};
 ghost use Rattle.std.specs.List.{list_any};
-ghost use Rattle.elf_model.specs.Groups.{AreLawfulGroups, is_comdat};
-ghost use Rattle.elf_model.specs.ObjectFile.{groups};
+ghost use Rattle.elf_model.specs.Link.Groups.{AreLawfulGroups, is_comdat};
+ghost use Rattle.elf_model.specs.Inputs.ObjectFile.{groups};
 ghost use Rattle.check_load.specs.Marks.{marked};
 ghost use Rattle.check_load.specs.NameNumbers.{is_among};
 ghost use Rattle.check_load.specs.Signatures.{lost_by, lost_members, seen_by, seen_then};

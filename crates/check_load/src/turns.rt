@@ -1,7 +1,7 @@
 //! A turn of an archive.
 ghost use Rattle.std.specs.Prelude.{◌≡◌, true, false, IfErr, OnOk};
-ghost use Rattle.elf_model.specs.Loading.{turn, with_members};
-ghost use Rattle.elf_model.specs.Opening.{archive_members};
+ghost use Rattle.elf_model.specs.Link.Loading.{turn, with_members};
+ghost use Rattle.elf_model.specs.Inputs.Opening.{archive_members};
 ghost use Rattle.check_load.specs.Places.{IsAt};
 ghost use Rattle.check_load.specs.Stops.{Refutes};
 ghost use Rattle.check_load.specs.Loaders.{AreLoadable, Knows, loaded};

@@ -5,14 +5,14 @@ use Rattle.std.proofs.Math.Nat.{add-mul-mod_self_right}
 use Rattle.std.proofs.lemmas.Bool.{and_from, and_parts, false≢true}
 use Rattle.std.proofs.lemmas.Int.{ints}
 use Rattle.elf_model.proofs.WrappedValues.{modulo_is}
-use Rattle.elf_model.specs.Loading.{LoadedObject}
-use Rattle.elf_model.specs.ObjectFile.{rela_symbol, rela_type, section, sections}
-use Rattle.elf_model.specs.Placement.{got_start, section_address}
-use Rattle.elf_model.specs.Relocation as relocation
-use Rattle.elf_model.specs.Relocation.{IsInRange, IsMismatch, Kind, RefersToDropped, Relocation, Terms, is_frame_of_dropped, kind_of, modulo_64, relocation_of, symbol_at, whole_value}
-use Rattle.elf_model.specs.RelocationValues.{terms_of, value_of}
-use Rattle.elf_model.specs.Slots.{slot_address}
-use Rattle.elf_model.specs.ThreadStorage.{block_in}
+use Rattle.elf_model.specs.Link.Loading.{LoadedObject}
+use Rattle.elf_model.specs.Inputs.ObjectFile.{rela_symbol, rela_type, section, sections}
+use Rattle.elf_model.specs.Link.Placement.{got_start, section_address}
+use Rattle.elf_model.specs.Link.Relocation as relocation
+use Rattle.elf_model.specs.Link.Relocation.{IsInRange, IsMismatch, Kind, RefersToDropped, Relocation, Terms, is_frame_of_dropped, kind_of, modulo_64, relocation_of, symbol_at, whole_value}
+use Rattle.elf_model.specs.Link.RelocationValues.{terms_of, value_of}
+use Rattle.elf_model.specs.Link.Slots.{slot_address}
+use Rattle.elf_model.specs.Link.ThreadStorage.{block_in}
 use Rattle.elf_model.specs.declared.records.Rela.{Rela}
 use Rattle.check_relocs.specs.Bindings.{Bound, IsTargetOf}
 use Rattle.check_relocs.specs.Fields.{IsRight, field_of}

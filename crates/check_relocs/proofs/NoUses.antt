@@ -6,11 +6,11 @@ use Rattle.std.specs.Str.{bytes_eq}
 use Rattle.std.proofs.lemmas.Bool.{false≢true}
 use Rattle.std.proofs.lemmas.List.{get_or_past}
 use Rattle.std.proofs.lemmas.List.Elements.{All-append, All-head, All-map, All-nil, All-tail}
-use Rattle.elf_model.specs.Loading.{LoadedObject}
-use Rattle.elf_model.specs.ObjectFile.{null_symbol, relas_of, sections, symbols}
-use Rattle.elf_model.specs.Relocation.{Relocation, is_kept_rela, is_some_kind, relocation_of, relocations_behind, relocations_from, relocations_in, symbol_at}
-use Rattle.elf_model.specs.Resolution.{symbol_of}
-use Rattle.elf_model.specs.UsedNames.{is_linker_use, uses_line}
+use Rattle.elf_model.specs.Link.Loading.{LoadedObject}
+use Rattle.elf_model.specs.Inputs.ObjectFile.{null_symbol, relas_of, sections, symbols}
+use Rattle.elf_model.specs.Link.Relocation.{Relocation, is_kept_rela, is_some_kind, relocation_of, relocations_behind, relocations_from, relocations_in, symbol_at}
+use Rattle.elf_model.specs.Link.Resolution.{symbol_of}
+use Rattle.elf_model.specs.Link.UsedNames.{is_linker_use, uses_line}
 use Rattle.elf_model.specs.declared.records.SectionHeader.{SectionHeader}
 use Rattle.elf_model.specs.declared.records.Symbol.{Symbol}
 use Rattle.check_link.proofs.Padded.{below_or_not}

@@ -7,13 +7,13 @@ use Rattle.std.proofs.lemmas.Bool.{false≢true}
 use Rattle.std.proofs.lemmas.Slice.Eq.{bytes_eq-Decides}
 use Rattle.elf_model.proofs.ChosenSymbols.{chosen_listed}
 use Rattle.elf_model.proofs.Finding.{find-found}
-use Rattle.elf_model.specs.ChosenSymbols.{chosen_symbols}
-use Rattle.elf_model.specs.Loading.{LoadedObject}
-use Rattle.elf_model.specs.Relocation.{is_local, symbol_at}
-use Rattle.elf_model.specs.Resolution.{SymbolOf, chosen, has_name}
-use Rattle.elf_model.specs.LinkerNames.{bound_of, got_name}
-use Rattle.elf_model.specs.Slots.{names_got}
-use Rattle.elf_model.specs.UsedNames.{is_linker_use}
+use Rattle.elf_model.specs.Link.ChosenSymbols.{chosen_symbols}
+use Rattle.elf_model.specs.Link.Loading.{LoadedObject}
+use Rattle.elf_model.specs.Link.Relocation.{is_local, symbol_at}
+use Rattle.elf_model.specs.Link.Resolution.{SymbolOf, chosen, has_name}
+use Rattle.elf_model.specs.Link.LinkerNames.{bound_of, got_name}
+use Rattle.elf_model.specs.Link.Slots.{names_got}
+use Rattle.elf_model.specs.Link.UsedNames.{is_linker_use}
 use Rattle.check_load.specs.Numbered.{name_at}
 use Rattle.check_load.specs.Views.{loaded_view, loaded_views}
 use Rattle.check_load.specs.declared.loaded.Loaded.{Loaded}

@@ -1,9 +1,9 @@
 -- The slot of a symbol of an object for whose name loading noted a number.
 use Rattle.std.proofs.Common.{◌≡◌, ℕ, Bool, false, cond, List, Option, None, Some, sym, ◌∙◌, ap}
 use Rattle.std.specs.Prelude.{IfSome, slice_get}
-use Rattle.elf_model.specs.Loading.{LoadedObject}
-use Rattle.elf_model.specs.MapRecord.{OfLocal, OfName, SlotRow}
-use Rattle.elf_model.specs.Relocation.{is_local, symbol_at}
+use Rattle.elf_model.specs.Link.Loading.{LoadedObject}
+use Rattle.elf_model.specs.Image.MapRecord.{OfLocal, OfName, SlotRow}
+use Rattle.elf_model.specs.Link.Relocation.{is_local, symbol_at}
 use Rattle.check_link.specs.Slots.{Slots, kind_view, line_of, name_request}
 use Rattle.check_relocs.specs.Bindings.{Bound}
 use Rattle.check_relocs.specs.KnownSlots.{request_at}

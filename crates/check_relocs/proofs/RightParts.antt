@@ -5,9 +5,9 @@ use Rattle.std.proofs.lemmas.List.{append-nil}
 use Rattle.std.proofs.lemmas.List.Elements.{All-append, All-cons, All-head, All-nil}
 use Rattle.elf_model.proofs.Listed.{All-parts}
 use Rattle.elf_model.proofs.Pairs.{AllPairs-append, AllPairs-nil, AllPairs-parts}
-use Rattle.elf_model.specs.Loading.{LoadedObject}
-use Rattle.elf_model.specs.Placement.{Where}
-use Rattle.elf_model.specs.Relocation.{AreFieldsApart, Relocation}
+use Rattle.elf_model.specs.Link.Loading.{LoadedObject}
+use Rattle.elf_model.specs.Link.Placement.{Where}
+use Rattle.elf_model.specs.Link.Relocation.{AreFieldsApart, Relocation}
 use Rattle.check_relocs.specs.Fields.{AreRight, IsRight, field_of}
 use Rattle.check_relocs.specs.declared.fields.Field.{Field}
 use Rattle.elf_model.proofs.Rests.{Left}

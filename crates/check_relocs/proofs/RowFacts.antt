@@ -2,9 +2,9 @@
 use Rattle.std.proofs.Common.{◌≡◌, ℕ, List, Option, Some, None, map, subst, arith}
 use Rattle.std.specs.Prelude.{All, IfSome}
 use Rattle.std.specs.Global.{Vec}
-use Rattle.elf_model.specs.Loading.{LoadedObject}
-use Rattle.elf_model.specs.Placement.{Where}
-use Rattle.elf_model.specs.Relocation.{relocations_from}
+use Rattle.elf_model.specs.Link.Loading.{LoadedObject}
+use Rattle.elf_model.specs.Link.Placement.{Where}
+use Rattle.elf_model.specs.Link.Relocation.{relocations_from}
 use Rattle.check_relocs.specs.Bytes.{AreRising}
 use Rattle.check_relocs.specs.Fields.{AreRows, IsRight, IsRow, IsRowOf, field_of}
 use Rattle.check_relocs.specs.declared.fields.Field.{Field}

@@ -4,13 +4,13 @@ use Rattle.std.specs.Prelude.{IsSomeAnd, List, option_map, unwrap_or}
 use Rattle.std.specs.Option.{option_map_or}
 use Rattle.std.proofs.lemmas.Bool.{false≢true}
 use Rattle.std.proofs.lemmas.Option.{none-some}
-use Rattle.elf_model.specs.Loading.{LoadedObject}
-use Rattle.elf_model.specs.Meaning.{Meaning, Symbol, is_in_thread_storage, meaning, meaning_size, meaning_value}
-use Rattle.elf_model.specs.MapRecord.{OfLocal, OfName}
-use Rattle.elf_model.specs.Relocation.{IsMixed, definition_of, is_local}
-use Rattle.elf_model.specs.Resolution.{SymbolOf, is_undefined}
-use Rattle.elf_model.specs.Slots.{names_got, target_of}
-use Rattle.elf_model.specs.UsedNames.{is_linker_use}
+use Rattle.elf_model.specs.Link.Loading.{LoadedObject}
+use Rattle.elf_model.specs.Link.Meaning.{Meaning, Symbol, is_in_thread_storage, meaning, meaning_size, meaning_value}
+use Rattle.elf_model.specs.Image.MapRecord.{OfLocal, OfName}
+use Rattle.elf_model.specs.Link.Relocation.{IsMixed, definition_of, is_local}
+use Rattle.elf_model.specs.Link.Resolution.{SymbolOf, is_undefined}
+use Rattle.elf_model.specs.Link.Slots.{names_got, target_of}
+use Rattle.elf_model.specs.Link.UsedNames.{is_linker_use}
 use Rattle.check_relocs.specs.Bindings.{Bound, IsTargetOf}
 use Rattle.check_relocs.specs.declared.targets.Target.{Target}
 

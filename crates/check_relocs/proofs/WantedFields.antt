@@ -15,12 +15,12 @@ use Rattle.elf_model.proofs.Found.{find-agree, find-filter, find-map, or_none}
 use Rattle.elf_model.proofs.Listed.{find_only}
 use Rattle.elf_model.proofs.Pairs.{related}
 use Rattle.elf_model.proofs.RelocationFields.{ends_inside, in_field, later_objects, own_object, own_sizes, width_some}
-use Rattle.elf_model.specs.Loading.{LoadedObject}
-use Rattle.elf_model.specs.ObjectFile.{section, sections}
-use Rattle.elf_model.specs.Placement.{Where}
-use Rattle.elf_model.specs.Pieces.{Piece}
-use Rattle.elf_model.specs.Relocation.{Relocation, is_in_field, relocations, relocations_from, relocations_of, width_of}
-use Rattle.elf_model.specs.WantedBytes.{byte_or_field, wanted_byte}
+use Rattle.elf_model.specs.Link.Loading.{LoadedObject}
+use Rattle.elf_model.specs.Inputs.ObjectFile.{section, sections}
+use Rattle.elf_model.specs.Link.Placement.{Where}
+use Rattle.elf_model.specs.Link.Pieces.{Piece}
+use Rattle.elf_model.specs.Link.Relocation.{Relocation, is_in_field, relocations, relocations_from, relocations_of, width_of}
+use Rattle.elf_model.specs.Link.WantedBytes.{byte_or_field, wanted_byte}
 use Rattle.elf_model.proofs.OwnFields.{in_range}
 use Rattle.check_relocs.specs.Bytes.{FitsIn, byte_of, covers, fields_in, is_of, row_of}
 use Rattle.check_relocs.specs.Fields.{AreRows, IsBefore, IsRight, IsRow, IsRowOf, LiesIn, field_of}

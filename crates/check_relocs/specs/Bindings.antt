@@ -1,13 +1,13 @@
 -- What the names and the symbols of objects mean.
 use Rattle.std.specs.Prelude.{◌≡◌, ◌↔◌, ℕ, ◌%◌, ◌^◌, ◌&&◌, not, true, false, IsTrue, List, IsSomeAnd, Option, option_map, unwrap_or}
 use Rattle.std.specs.Option.{option_map_or}
-use Rattle.elf_model.specs.Loading.{LoadedObject}
-use Rattle.elf_model.specs.Pieces.{Piece, is_alloc, kept_sections}
-use Rattle.elf_model.specs.Meaning.{is_in_thread_storage, meaning_size, meaning_value}
-use Rattle.elf_model.specs.Placement.{Where}
-use Rattle.elf_model.specs.Relocation.{IsMixed, IsUndefined, definition_of, is_local, symbol_at}
-use Rattle.elf_model.specs.Resolution.{SymbolOf, section_of}
-use Rattle.elf_model.specs.RightLink.{Subject, objects_of, where_of}
+use Rattle.elf_model.specs.Link.Loading.{LoadedObject}
+use Rattle.elf_model.specs.Link.Pieces.{Piece, is_alloc, kept_sections}
+use Rattle.elf_model.specs.Link.Meaning.{is_in_thread_storage, meaning_size, meaning_value}
+use Rattle.elf_model.specs.Link.Placement.{Where}
+use Rattle.elf_model.specs.Link.Relocation.{IsMixed, IsUndefined, definition_of, is_local, symbol_at}
+use Rattle.elf_model.specs.Link.Resolution.{SymbolOf, section_of}
+use Rattle.elf_model.specs.Image.RightLink.{Subject, objects_of, where_of}
 use Rattle.check_link.specs.Slots.{Slots}
 use Rattle.check_relocs.specs.Known.{AreKnown}
 use Rattle.check_relocs.specs.declared.targets.Target.{Target}

@@ -3,10 +3,10 @@ use Rattle.std.specs.Prelude.{◌≡◌, ℕ, ◌+◌, ◌-◌, ◌<◌, ◌≤�
 use Rattle.std.specs.List.{slice_get}
 use Rattle.std.specs.Global.{Vec}
 use Rattle.byteview.specs.Numbers.{le_bytes}
-use Rattle.elf_model.specs.MemoryImage.{Encloses, loads}
-use Rattle.elf_model.specs.Pieces.{load_size}
-use Rattle.elf_model.specs.Placement as placement
-use Rattle.elf_model.specs.RightLink.{byte_at}
+use Rattle.elf_model.specs.Image.MemoryImage.{Encloses, loads}
+use Rattle.elf_model.specs.Link.Pieces.{load_size}
+use Rattle.elf_model.specs.Link.Placement as placement
+use Rattle.elf_model.specs.Image.RightLink.{byte_at}
 use Rattle.check_relocs.specs.Fields.{IsBefore}
 use Rattle.check_link.specs.Views.{piece_view}
 use Rattle.check_relocs.specs.declared.fields.Field.{Field}

@@ -1,11 +1,11 @@
 -- The fields of relocations with the values that they want, and what is asked of relocations.
 use Rattle.std.specs.Prelude.{◌≡◌, ℕ, ◌+◌, ◌<◌, ◌≤◌, ◌⊎◌, List, All, AllPairs, IsPermutation, length, map, slice_index_or}
 use Rattle.std.specs.Global.{Vec}
-use Rattle.elf_model.specs.Loading.{LoadedObject}
-use Rattle.elf_model.specs.ObjectFile.{section, sections}
-use Rattle.elf_model.specs.Placement.{Where}
-use Rattle.elf_model.specs.Relocation.{AreFieldsApart, IsLawfulRelocation, Relocation, relocations_from, width_of}
-use Rattle.elf_model.specs.RelocationValues.{Fits, value_of}
+use Rattle.elf_model.specs.Link.Loading.{LoadedObject}
+use Rattle.elf_model.specs.Inputs.ObjectFile.{section, sections}
+use Rattle.elf_model.specs.Link.Placement.{Where}
+use Rattle.elf_model.specs.Link.Relocation.{AreFieldsApart, IsLawfulRelocation, Relocation, relocations_from, width_of}
+use Rattle.elf_model.specs.Link.RelocationValues.{Fits, value_of}
 use Rattle.check_relocs.specs.declared.fields.Field.{Field}
 
 -- the field of a relocation, within its object

@@ -1,7 +1,7 @@
 -- The code's kinds as the definitions see them.
 use Rattle.std.specs.Prelude.{ℕ, ℤ, ◌+◌, ◌-ℤ◌, pos}
-use Rattle.elf_model.specs.Relocation as relocation
-use Rattle.elf_model.specs.Relocation.{Terms}
+use Rattle.elf_model.specs.Link.Relocation as relocation
+use Rattle.elf_model.specs.Link.Relocation.{Terms}
 use Rattle.check_relocs.specs.declared.kinds.Formula.{Formula}
 use Rattle.check_relocs.specs.declared.kinds.Formula.TheVariants as formula
 use Rattle.check_relocs.specs.declared.kinds.Range.{Range}

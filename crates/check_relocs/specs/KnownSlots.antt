@@ -1,9 +1,9 @@
 -- What is known of the slots of an object's symbols.
 use Rattle.std.specs.Prelude.{◌≡◌, ℕ, Bool, true, false, List, None, Option, Some, slice_index_or}
-use Rattle.elf_model.specs.Loading.{LoadedObject}
-use Rattle.elf_model.specs.Relocation.{symbol_at}
-use Rattle.elf_model.specs.Slots.{Request, requested_address, target_of}
-use Rattle.elf_model.specs.MapRecord.{SlotRow}
+use Rattle.elf_model.specs.Link.Loading.{LoadedObject}
+use Rattle.elf_model.specs.Link.Relocation.{symbol_at}
+use Rattle.elf_model.specs.Link.Slots.{Request, requested_address, target_of}
+use Rattle.elf_model.specs.Image.MapRecord.{SlotRow}
 use Rattle.check_link.specs.Slots.{kind_view, line_of}
 use Rattle.check_relocs.specs.Bindings.{AreTargets}
 use Rattle.check_relocs.specs.Known.{AreKnown}

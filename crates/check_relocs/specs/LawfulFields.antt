@@ -1,9 +1,9 @@
 -- What one relocation asks, by its kind, by what its symbol means, and by the section that it relocates.
 use Rattle.std.specs.Prelude.{ℕ, pos, ◌-ℤ◌, ◌≡◌, ◌+◌, ◌*◌, ◌%◌, ◌^◌, ◌≤◌, ◌&&◌, Bool, false, not, codes, List, [], Option, IfSome, IsSome, IsSomeAnd, option_map, unwrap_or}
 use Rattle.std.specs.Str.{bytes_eq}
-use Rattle.elf_model.specs.ObjectFile.{section, section_name, sections}
-use Rattle.elf_model.specs.Placement.{section_address}
-use Rattle.elf_model.specs.Relocation.{IsInRange, IsMismatch, Kind, Terms, modulo_64, whole_value}
+use Rattle.elf_model.specs.Inputs.ObjectFile.{section, section_name, sections}
+use Rattle.elf_model.specs.Link.Placement.{section_address}
+use Rattle.elf_model.specs.Link.Relocation.{IsInRange, IsMismatch, Kind, Terms, modulo_64, whole_value}
 use Rattle.elf_model.specs.declared.records.Rela.{Rela}
 use Rattle.check_relocs.specs.Referrers.{object_here}
 use Rattle.check_relocs.specs.declared.fields.Field.{Field}

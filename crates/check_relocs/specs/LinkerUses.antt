@@ -3,12 +3,12 @@ use Rattle.std.specs.Prelude.{◌≡◌, ℕ, Bool, false, List, Option}
 use Rattle.std.specs.BTreeSet.{BTreeSet}
 use Rattle.std.specs.Borrow.{Bor}
 use Rattle.std.specs.List.{list_any}
-use Rattle.elf_model.specs.Loading.{LoadedObject}
-use Rattle.elf_model.specs.Relocation.{relocations, symbol_at}
+use Rattle.elf_model.specs.Link.Loading.{LoadedObject}
+use Rattle.elf_model.specs.Link.Relocation.{relocations, symbol_at}
 use Rattle.check_relocs.specs.Known.{AreKnown}
 use Rattle.check_relocs.specs.Referrers.{objects_here, symbol_here}
 use Rattle.check_relocs.specs.declared.referrer.Referrer.{Referrer}
-use Rattle.elf_model.specs.UsedNames.{is_among, is_linker_use, uses_line}
+use Rattle.elf_model.specs.Link.UsedNames.{is_among, is_linker_use, uses_line}
 
 -- a set has the linker's names that kept relocations use and no object defines
 abbrev pub AreUsed : List LoadedObject → BTreeSet (Bor (List ℕ)) → Type 0

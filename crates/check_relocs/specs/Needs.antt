@@ -2,10 +2,10 @@
 use Rattle.std.specs.Prelude.{◌≡◌, ◌||◌, ℕ, Bool, false, not, List, Option, Some, length}
 use Rattle.std.specs.List.{list_any}
 use Rattle.std.specs.Option.{option_map_or}
-use Rattle.elf_model.specs.Loading.{LoadedObject}
-use Rattle.elf_model.specs.MapRecord.{SlotRow}
-use Rattle.elf_model.specs.Relocation.{Relocation, relocations}
-use Rattle.elf_model.specs.Slots.{Request, asks_for_got, has_got, is_slot_of, names_got, request_of, requests, same_request}
+use Rattle.elf_model.specs.Link.Loading.{LoadedObject}
+use Rattle.elf_model.specs.Image.MapRecord.{SlotRow}
+use Rattle.elf_model.specs.Link.Relocation.{Relocation, relocations}
+use Rattle.elf_model.specs.Link.Slots.{Request, asks_for_got, has_got, is_slot_of, names_got, request_of, requests, same_request}
 use Rattle.check_link.specs.Slots.{line_of}
 use Rattle.check_relocs.specs.Known.{AreKnown}
 use Rattle.check_relocs.specs.KnownSlots.{AreAsked, mark_at, rows_here}

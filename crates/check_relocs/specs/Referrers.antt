@@ -1,8 +1,8 @@
 -- An object whose relocations are gone through, as the definitions have it.
 use Rattle.std.specs.Prelude.{ℕ, List}
-use Rattle.elf_model.specs.Loading.{LoadedObject}
-use Rattle.elf_model.specs.Relocation.{Relocation, relocations_from, symbol_at}
-use Rattle.elf_model.specs.Resolution.{SymbolOf}
+use Rattle.elf_model.specs.Link.Loading.{LoadedObject}
+use Rattle.elf_model.specs.Link.Relocation.{Relocation, relocations_from, symbol_at}
+use Rattle.elf_model.specs.Link.Resolution.{SymbolOf}
 use Rattle.check_load.specs.KeptRelocations.{relocation_at}
 use Rattle.check_load.specs.Views.{loaded_view}
 use Rattle.check_load.specs.declared.kept_relocations.KeptRelocation.{KeptRelocation}

@@ -1,16 +1,16 @@
 //! What names mean: the names of objects, the linker's own, and the addresses of the placed pieces.
 ghost use Rattle.std.specs.Prelude.{◌≡◌, ◌≢◌, ◌↔◌, ◌%◌, ◌^◌, IsSomeAnd, IfOk, IfSome, IsTrue, None, Some, false, filter, option_map, slice_get, true, unwrap_or};
 ghost use Rattle.std.specs.Option.{option_map_or};
-ghost use Rattle.elf_model.specs.ChosenSymbols.{is_chosen, is_definition};
-ghost use Rattle.elf_model.specs.LinkerNames.{bound_of, named_output};
-ghost use Rattle.elf_model.specs.LinkerValues.{bound_value};
-ghost use Rattle.elf_model.specs.Loading.{LoadedObject};
-ghost use Rattle.elf_model.specs.Meaning as meanings;
-ghost use Rattle.elf_model.specs.Meaning.{is_in_thread_storage, meaning, meaning_size, meaning_value, meant, object_meaning};
-ghost use Rattle.elf_model.specs.Pieces.{AreOneOutput, kept_sections};
-ghost use Rattle.elf_model.specs.Placement.{got_start, section_address, symbol_value};
-ghost use Rattle.elf_model.specs.Relocation.{IsMixed, IsMixedBound, definition_of, is_local};
-ghost use Rattle.elf_model.specs.Resolution.{AreSoundSymbols, all_symbols, binding, chosen, is_in_thread_section};
+ghost use Rattle.elf_model.specs.Link.ChosenSymbols.{is_chosen, is_definition};
+ghost use Rattle.elf_model.specs.Link.LinkerNames.{bound_of, named_output};
+ghost use Rattle.elf_model.specs.Link.LinkerValues.{bound_value};
+ghost use Rattle.elf_model.specs.Link.Loading.{LoadedObject};
+ghost use Rattle.elf_model.specs.Link.Meaning as meanings;
+ghost use Rattle.elf_model.specs.Link.Meaning.{is_in_thread_storage, meaning, meaning_size, meaning_value, meant, object_meaning};
+ghost use Rattle.elf_model.specs.Link.Pieces.{AreOneOutput, kept_sections};
+ghost use Rattle.elf_model.specs.Link.Placement.{got_start, section_address, symbol_value};
+ghost use Rattle.elf_model.specs.Link.Relocation.{IsMixed, IsMixedBound, definition_of, is_local};
+ghost use Rattle.elf_model.specs.Link.Resolution.{AreSoundSymbols, all_symbols, binding, chosen, is_in_thread_section};
 ghost use Rattle.check_load.specs.Numbered.{name_at};
 ghost use Rattle.check_load.specs.Views.{loaded_views};
 ghost use Rattle.check_relocs.specs.Bindings.{IsOfUnkept, IsTargetOf};

@@ -1,10 +1,10 @@
 //! The slots of the global offset table for which relocations ask, and whether they speak of it at all.
 ghost use Rattle.std.specs.Prelude.{◌≡◌, ℕ, option_map};
 ghost use Rattle.std.specs.Option.{option_and_then};
-ghost use Rattle.elf_model.specs.ObjectFile.{rela_type};
-ghost use Rattle.elf_model.specs.Relocation as relocation;
-ghost use Rattle.elf_model.specs.Relocation.{relocation_of, symbol_at};
-ghost use Rattle.elf_model.specs.Slots as slots;
+ghost use Rattle.elf_model.specs.Inputs.ObjectFile.{rela_type};
+ghost use Rattle.elf_model.specs.Link.Relocation as relocation;
+ghost use Rattle.elf_model.specs.Link.Relocation.{relocation_of, symbol_at};
+ghost use Rattle.elf_model.specs.Link.Slots as slots;
 ghost use Rattle.check_load.specs.Views.{loaded_view};
 ghost use Rattle.check_relocs.specs.Kinds.{formula_view};
 ghost use Rattle.check_link.specs.Slots.{request_view, target_view};

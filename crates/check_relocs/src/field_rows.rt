@@ -1,10 +1,10 @@
 //! The fields of all kept relocations, object by object and in order: the ninth clause of a right link.
 ghost use Rattle.std.specs.Prelude.{◌≡◌, ◌↔◌, All, IfOk, IfSome, IsSome, Some, map};
 ghost use Rattle.std.specs.List.{slice_get};
-ghost use Rattle.elf_model.specs.ObjectFile.{section, sections};
-ghost use Rattle.elf_model.specs.Relocation.{AreLawfulRelocations, relocations, relocations_from};
-ghost use Rattle.elf_model.specs.RelocationValues.{AllFit};
-ghost use Rattle.elf_model.specs.Placement.{section_address};
+ghost use Rattle.elf_model.specs.Inputs.ObjectFile.{section, sections};
+ghost use Rattle.elf_model.specs.Link.Relocation.{AreLawfulRelocations, relocations, relocations_from};
+ghost use Rattle.elf_model.specs.Link.RelocationValues.{AllFit};
+ghost use Rattle.elf_model.specs.Link.Placement.{section_address};
 ghost use Rattle.check_relocs.specs.KnownSlots.{AreSymbolsKnown};
 ghost use Rattle.check_relocs.specs.LawfulFields.{IsRelocated, is_frames};
 ghost use Rattle.check_relocs.specs.Fields.{AreRight, AreRows, IsRight, IsRowOf, field_of};

@@ -1,10 +1,10 @@
 //! Whether one relocation is lawful and its value fits, and its field.
 ghost use Rattle.std.specs.Prelude.{◌≡◌, ◌-◌, ◌↔◌, ℕ, IsTrue, Some, SomeIff};
-ghost use Rattle.elf_model.specs.ObjectFile.{rela_type};
-ghost use Rattle.elf_model.specs.Placement.{got_start};
-ghost use Rattle.elf_model.specs.Relocation.{IsMismatch, relocation_of};
-ghost use Rattle.elf_model.specs.Relocation as relocation;
-ghost use Rattle.elf_model.specs.Slots.{slot_address};
+ghost use Rattle.elf_model.specs.Inputs.ObjectFile.{rela_type};
+ghost use Rattle.elf_model.specs.Link.Placement.{got_start};
+ghost use Rattle.elf_model.specs.Link.Relocation.{IsMismatch, relocation_of};
+ghost use Rattle.elf_model.specs.Link.Relocation as relocation;
+ghost use Rattle.elf_model.specs.Link.Slots.{slot_address};
 ghost use Rattle.check_load.specs.Views.{loaded_view};
 ghost use Rattle.check_relocs.specs.KnownSlots.{AreSymbolsKnown};
 ghost use Rattle.check_relocs.specs.Fields.{IsRight, field_of};

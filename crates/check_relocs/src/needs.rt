@@ -2,10 +2,10 @@
 ghost use Rattle.std.specs.Prelude.{◌≡◌, ◌∷◌, ◌||◌, ℕ, [], false, not, true, IfOk, None, OnOk, Some, length, slice_set};
 ghost use Rattle.std.specs.List.{list_any};
 ghost use Rattle.std.specs.Option.{is_none, option_map_or};
-ghost use Rattle.elf_model.specs.ObjectFile.{rela_type};
-ghost use Rattle.elf_model.specs.Relocation as relocation;
-ghost use Rattle.elf_model.specs.Slots as slots;
-ghost use Rattle.elf_model.specs.Slots.{asks_for_got, is_slot_of, names_got, same_request};
+ghost use Rattle.elf_model.specs.Inputs.ObjectFile.{rela_type};
+ghost use Rattle.elf_model.specs.Link.Relocation as relocation;
+ghost use Rattle.elf_model.specs.Link.Slots as slots;
+ghost use Rattle.elf_model.specs.Link.Slots.{asks_for_got, is_slot_of, names_got, same_request};
 ghost use Rattle.check_relocs.specs.Known.{known_at};
 ghost use Rattle.check_relocs.specs.KnownSlots.{AreAsked, mark_at, request_here, rows_here};
 ghost use Rattle.check_relocs.specs.Needs.{AreGotNames, AreNeeds, AreNeedsKnown, HaveGained, asks_for_slot, is_unserved};

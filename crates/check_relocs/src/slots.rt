@@ -1,6 +1,6 @@
 //! Where the slots are for which relocations ask, each looked up once for a symbol of an object.
 ghost use Rattle.std.specs.Prelude.{◌≡◌, ℕ, IfOk, IfSome, None, Some, slice_set};
-ghost use Rattle.elf_model.specs.Slots.{requested_address, slot_address};
+ghost use Rattle.elf_model.specs.Link.Slots.{requested_address, slot_address};
 ghost use Rattle.check_link.specs.Slots.{line_of};
 ghost use Rattle.check_relocs.specs.Known.{known_at};
 ghost use Rattle.check_relocs.specs.KnownSlots.{AreSlots, request_here, rows_here};

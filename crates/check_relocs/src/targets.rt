@@ -1,6 +1,6 @@
 //! What the symbols of an object mean to its relocations, each looked up once.
 ghost use Rattle.std.specs.Prelude.{◌≡◌, ◌↔◌, ◌<◌, ℕ, [], IfOk, IsTrue, Some, length, slice_set, true};
-ghost use Rattle.elf_model.specs.Relocation.{is_local, symbol_at};
+ghost use Rattle.elf_model.specs.Link.Relocation.{is_local, symbol_at};
 ghost use Rattle.check_relocs.specs.Bindings.{AreTargets, Bound, IsTargetOf};
 ghost use Rattle.check_relocs.specs.Known.{known_at};
 ghost use Rattle.check_relocs.specs.Referrers.{object_here, symbol_here};

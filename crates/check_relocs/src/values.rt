@@ -1,6 +1,6 @@
 //! What the value of a relocation is modulo 2^64, and whether it fits its field.
 ghost use Rattle.std.specs.Prelude.{◌≡◌, ◌↔◌, ◌*◌, ◌+◌, ◌-◌, ◌%◌, ◌≤◌, ◌<◌, ◌^◌, ◌⊎◌, ◌+ℤ◌, ◌-ℤ◌, ℕ, ℤ, IsTrue, pos};
-ghost use Rattle.elf_model.specs.Relocation.{IsInRange, IsSigned, modulo_64, whole_value};
+ghost use Rattle.elf_model.specs.Link.Relocation.{IsInRange, IsSigned, modulo_64, whole_value};
 ghost use Rattle.check_relocs.specs.Kinds.{base_in, formula_view, less_in, range_view, terms_view};
 ghost use Rattle.check_relocs.specs.Widths.{IsWidth};
 

@@ -6,7 +6,7 @@ use Rattle.std.specs.List.{list_all, starts_with}
 use Rattle.std.specs.Str.{all_ascii_digits}
 use Rattle.std.specs.Str.Parse.{digits_value}
 use Rattle.std.proofs.lemmas.Bool.{and_parts, and_from, ne_eqb}
-use Rattle.elf_model.specs.ArrayOrder.{array_rank, is_array_prefixed, is_numbered}
+use Rattle.elf_model.specs.Link.ArrayOrder.{array_rank, is_array_prefixed, is_numbered}
 
 pub are_ascii_digits : (ds : List ℕ) → list_all is_ascii_digit ds ≡ true → all_ascii_digits ds ≡ true
 are_ascii_digits [] all = refl

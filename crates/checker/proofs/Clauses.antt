@@ -1,7 +1,7 @@
 -- The clauses in their order: from one to the next, and that the least that fails is one.
 use Rattle.std.proofs.Common.{◌≡◌, ℕ, zero, suc, ◌+◌, ◌<◌, ◌≤◌, ◌⊎◌, inl, inr, ⊎_elim, List, [], ◌∷◌, get_or, refl, subst, sym, ◌∙◌, ap, arith}
 use Rattle.std.proofs.lemmas.Bool.Decides.{eqb_tells}
-use Rattle.elf_model.specs.RightLink.{Holds, HoldsBefore, Subject, clause_number}
+use Rattle.elf_model.specs.Image.RightLink.{Holds, HoldsBefore, Subject, clause_number}
 use Rattle.elf_model.specs.declared.verdict.Clause.{Clause}
 use Rattle.elf_model.specs.declared.verdict.Clause.TheVariants.{C1, C2, C3, C4, C5, C6, C7, C8, C9, C10, C11, C12, C13, C14}
 

@@ -13,13 +13,13 @@ use Rattle.std.proofs.lemmas.Option.{none-some}
 use Rattle.std.proofs.lemmas.Slice.Eq.{bytes_eq-Decides}
 use Rattle.elf_model.proofs.Finding.{find-found}
 use Rattle.elf_model.proofs.RisingNames.{all_found, counted, has, rises_from_ascends, rises_unique}
-use Rattle.elf_model.specs.Listing.{AreListed, listed}
-use Rattle.elf_model.specs.Loading.{LoadedObject}
-use Rattle.elf_model.specs.MapRecord.{SymbolRow}
-use Rattle.elf_model.specs.MapText.{Ascends, SymbolBefore}
-use Rattle.elf_model.specs.Meaning.{Meaning, meaning_name}
-use Rattle.elf_model.specs.Placement.{Where}
-use Rattle.elf_model.specs.RightLink.{HasLine, symbol_row_of}
+use Rattle.elf_model.specs.Link.Listing.{AreListed, listed}
+use Rattle.elf_model.specs.Link.Loading.{LoadedObject}
+use Rattle.elf_model.specs.Image.MapRecord.{SymbolRow}
+use Rattle.elf_model.specs.Image.MapText.{Ascends, SymbolBefore}
+use Rattle.elf_model.specs.Link.Meaning.{Meaning, meaning_name}
+use Rattle.elf_model.specs.Link.Placement.{Where}
+use Rattle.elf_model.specs.Image.RightLink.{HasLine, symbol_row_of}
 use Rattle.checker.specs.Listed.{IsLine}
 
 absent_apart : (n : List ℕ) (xs : List (List ℕ)) → is_member bytes_eq xs n ≡ false → AllByRecursion (λ y. bytes_eq n y ≡ false) xs

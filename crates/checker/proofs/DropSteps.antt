@@ -1,8 +1,8 @@
 -- The lines of an object's dropped sections, listed one after the other.
 use Rattle.std.proofs.Common.{◌≡◌, ℕ, ◌+◌, ◌<◌, Bool, true, false, cond, List, [], ◌∷◌, ◌++◌, length, get_or, drop, sym, ap, ◌∙◌}
 use Rattle.std.proofs.lemmas.List.{append_assoc, at_drop_more}
-use Rattle.elf_model.specs.Loading.{LoadedObject}
-use Rattle.elf_model.specs.RightLink.{drops_from, is_dropped_line}
+use Rattle.elf_model.specs.Link.Loading.{LoadedObject}
+use Rattle.elf_model.specs.Image.RightLink.{drops_from, is_dropped_line}
 use Rattle.elf_model.specs.declared.link_map.DropLine.{DropLine}
 use Rattle.elf_model.specs.declared.records.SectionHeader.{SectionHeader}
 

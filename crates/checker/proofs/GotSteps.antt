@@ -5,12 +5,12 @@ use Rattle.std.specs.List.{flat_map}
 use Rattle.std.proofs.lemmas.List.{get_or_past, length-map}
 use Rattle.std.proofs.lemmas.List.Elements.{All-cons, All-tail}
 use Rattle.byteview.proofs.NumberLaws.{length-le_bytes}
-use Rattle.elf_model.specs.Loading.{LoadedObject}
-use Rattle.elf_model.specs.MapRecord.{SlotRow}
+use Rattle.elf_model.specs.Link.Loading.{LoadedObject}
+use Rattle.elf_model.specs.Image.MapRecord.{SlotRow}
 use Rattle.linkmap.specs.Borrowed.{slot_row}
-use Rattle.elf_model.specs.Placement.{Where}
-use Rattle.elf_model.specs.RightLink.{HoldsGot, StandFrom}
-use Rattle.elf_model.specs.Slots.{got_bytes, size_with, slot_bytes, slot_value}
+use Rattle.elf_model.specs.Link.Placement.{Where}
+use Rattle.elf_model.specs.Image.RightLink.{HoldsGot, StandFrom}
+use Rattle.elf_model.specs.Link.Slots.{got_bytes, size_with, slot_bytes, slot_value}
 use Rattle.elf_model.specs.declared.link_map.GotLine.{GotLine}
 use Rattle.linkmap.specs.declared.borrowed.BorrowedSlot.{BorrowedSlot}
 use Rattle.elf_model.proofs.Rests.{Left}

@@ -1,6 +1,6 @@
 -- Where a fault stands in an image, no loader of this profile maps it.
 use Rattle.std.proofs.Common.{◌≡◌, List, ℕ, refl}
-use Rattle.elf_model.specs.MemoryImage.{IsImage, LoadFaultStands}
+use Rattle.elf_model.specs.Image.MemoryImage.{IsImage, LoadFaultStands}
 use Rattle.elf_model.specs.declared.faults.LoadFault.{LoadFault}
 use Rattle.elf_model.specs.declared.faults.LoadFault.TheVariants.{Memory, BadHeader, BadSegment, Order, SharedPage}
 

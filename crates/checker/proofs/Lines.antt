@@ -1,9 +1,9 @@
 -- Two lists are equal: the claim on what is left of both, as a tester's loop goes on.
 use Rattle.std.proofs.Common.{◌≡◌, ℕ, ◌+◌, ◌<◌, List, [], ◌∷◌, length, get_or, drop, map, refl, sym, ap, ◌∙◌, arith}
 use Rattle.std.proofs.lemmas.List.{at_drop_more, length-map}
-use Rattle.elf_model.specs.Loading.{LoadedObject}
+use Rattle.elf_model.specs.Link.Loading.{LoadedObject}
 use Rattle.linkmap.specs.Borrowed.{object_row, place_row}
-use Rattle.elf_model.specs.RightLink.{facts_of_piece, facts_of_row, object_rows}
+use Rattle.elf_model.specs.Image.RightLink.{facts_of_piece, facts_of_row, object_rows}
 use Rattle.linkmap.specs.declared.borrowed.BorrowedObject.{BorrowedObject}
 use Rattle.linkmap.specs.declared.borrowed.BorrowedPlace.{BorrowedPlace}
 use Rattle.elf_model.proofs.Rests.{Left}

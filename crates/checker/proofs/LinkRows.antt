@@ -2,9 +2,9 @@
 use Rattle.std.proofs.Common.{◌≡◌, ◌<◌, ℕ, zero, suc, List, [], ◌∷◌, Some, ap, get_or, length, refl, subst, sym, ◌∙◌, arith}
 use Rattle.std.specs.Prelude.{◌↔◌, slice_get}
 use Rattle.std.proofs.lemmas.List.{length-map}
-use Rattle.elf_model.specs.Loading.{LoadedObject}
-use Rattle.elf_model.specs.Relocation.{Relocation, relocations}
-use Rattle.elf_model.specs.RightLink.{AreRelocationsRight, Subject, objects_of, where_of}
+use Rattle.elf_model.specs.Link.Loading.{LoadedObject}
+use Rattle.elf_model.specs.Link.Relocation.{Relocation, relocations}
+use Rattle.elf_model.specs.Image.RightLink.{AreRelocationsRight, Subject, objects_of, where_of}
 use Rattle.check_load.specs.Views.{loaded_view, loaded_views}
 use Rattle.check_load.specs.declared.loaded.Loaded.{Loaded}
 use Rattle.check_relocs.specs.Bindings.{Bound, bound_of}

@@ -4,8 +4,8 @@ use Rattle.std.specs.Prelude.{IfSome, IsTrue, slice_index_or}
 use Rattle.std.specs.BTreeMap.{BTreeMap, Updates, get}
 use Rattle.std.specs.Ordering.{is_eq}
 use Rattle.std.proofs.lemmas.List.{get_or-map, length-map}
-use Rattle.elf_model.specs.Placement as placement
-use Rattle.elf_model.specs.Placement.{IsNear}
+use Rattle.elf_model.specs.Link.Placement as placement
+use Rattle.elf_model.specs.Link.Placement.{IsNear}
 use Rattle.check_link.specs.OutputSections.{IsOutputSection, section_order}
 use Rattle.check_link.specs.Views.{placed_view, placed_views}
 use Rattle.check_link.specs.declared.output_sections.OutputSection.{OutputSection}

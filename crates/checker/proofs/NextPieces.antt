@@ -3,8 +3,8 @@ use Rattle.std.proofs.Common.{◌≡◌, ℕ, ◌+◌, ◌-◌, ◌<◌, ◌≤�
 use Rattle.std.specs.Prelude.{IfSome, slice_index_or}
 use Rattle.std.specs.BTreeMap.{BTreeMap, get}
 use Rattle.std.specs.Ordering.{is_eq}
-use Rattle.elf_model.specs.Pieces.{Piece, same_output}
-use Rattle.elf_model.specs.Placement.{IsNear, IsNext, Placed}
+use Rattle.elf_model.specs.Link.Pieces.{Piece, same_output}
+use Rattle.elf_model.specs.Link.Placement.{IsNear, IsNext, Placed}
 use Rattle.check_link.specs.OutputSections.{IsOutputSection, IsSameSection, section_order}
 use Rattle.check_link.specs.declared.output_sections.OutputSection.{OutputSection}
 use Rattle.check_link.proofs.Padded.{below_or_not}

@@ -2,11 +2,11 @@
 use Rattle.std.proofs.Common.{◌≡◌, ◌==◌, ◌&&◌, ◌∙◌, ℕ, zero, suc, Bool, true, false, refl, Option, List, [], ◌∷◌, Some, ap, subst}
 use Rattle.std.specs.Prelude.{slice_get}
 use Rattle.std.proofs.lemmas.Option.{none-some, same_Some}
-use Rattle.elf_model.specs.Loading.{LoadedObject}
+use Rattle.elf_model.specs.Link.Loading.{LoadedObject}
 use Rattle.std.specs.Option.{option_map_or}
 use Rattle.std.proofs.lemmas.Bool.{eq-eqb}
-use Rattle.elf_model.specs.ChosenSymbols.{is_chosen, is_same_symbol}
-use Rattle.elf_model.specs.Resolution.{SymbolOf, chosen}
+use Rattle.elf_model.specs.Link.ChosenSymbols.{is_chosen, is_same_symbol}
+use Rattle.elf_model.specs.Link.Resolution.{SymbolOf, chosen}
 use Rattle.check_link.specs.Views.{symbol_view, symbol_views}
 use Rattle.check_link.specs.declared.things.SymbolOf as code
 use Rattle.check_link.specs.Chosen.{AreOwnChoices}

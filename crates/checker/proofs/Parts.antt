@@ -5,9 +5,9 @@ use Rattle.std.specs.List.Sorted.{IsNonDecreasingBy}
 use Rattle.std.proofs.lemmas.List.{get_or-map, length-map}
 use Rattle.std.proofs.lemmas.List.Elements.{All-contains, All-contains_itself, All-map, All-weaker}
 use Rattle.std.proofs.lemmas.Option.{none-some, same_Some}
-use Rattle.elf_model.specs.MemoryImage.{Cell, IsGoodLoad, IsImage, cell_of, file_end, first_address, loads, maps, program_headers}
-use Rattle.elf_model.specs.Placement.{Covers}
-use Rattle.elf_model.specs.RightLink.{IsFilled, fill_of}
+use Rattle.elf_model.specs.Image.MemoryImage.{Cell, IsGoodLoad, IsImage, cell_of, file_end, first_address, loads, maps, program_headers}
+use Rattle.elf_model.specs.Link.Placement.{Covers}
+use Rattle.elf_model.specs.Image.RightLink.{IsFilled, fill_of}
 use Rattle.elf_model.specs.declared.records.ProgramHeader.{ProgramHeader}
 use Rattle.elf_model.specs.declared.thing.Thing.{Thing}
 use Rattle.loader_model.specs.Table.{IsBelow, IsLawful}

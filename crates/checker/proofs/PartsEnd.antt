@@ -3,7 +3,7 @@ use Rattle.std.proofs.Common.{◌≡◌, ℕ, ◌+◌, ◌<◌, ◌≤◌, ◌^�
 use Rattle.std.specs.Prelude.{All, max, nat_lt}
 use Rattle.std.proofs.lemmas.Bool.{ltb-true}
 use Rattle.std.proofs.lemmas.List.Elements.{All-head, All-tail, All-weaker}
-use Rattle.elf_model.specs.MemoryImage.{IsGoodLoad, IsImage, file_end, first_address, loads}
+use Rattle.elf_model.specs.Image.MemoryImage.{IsGoodLoad, IsImage, file_end, first_address, loads}
 use Rattle.elf_model.specs.declared.records.ProgramHeader.{ProgramHeader}
 
 -- a file part that isn't empty ends by a number

@@ -15,12 +15,12 @@ use Rattle.elf_model.proofs.Blocks.{blocks-each}
 use Rattle.elf_model.proofs.Listed.{All-parts}
 use Rattle.elf_model.proofs.Pairs.{AllPairs-append, AllPairs-head, AllPairs-nil, AllPairs-parts, AllPairs-tail, AllPairs-weaker}
 use Rattle.elf_model.proofs.PieceNumbers.{ComesBefore, kept_ascend, kept_below}
-use Rattle.elf_model.specs.Commons.{Block, block_piece, blocks}
-use Rattle.elf_model.specs.Loading.{LoadedObject}
-use Rattle.elf_model.specs.MapRecord.{PlaceRow}
-use Rattle.elf_model.specs.Pieces.{Piece, kept_sections}
-use Rattle.elf_model.specs.Placement.{Placed, placed_block, placed_blocks, placed_by}
-use Rattle.elf_model.specs.RightLink.{HoldsPiece, Subject, objects_of, placed_of, sections_of, where_of}
+use Rattle.elf_model.specs.Link.Commons.{Block, block_piece, blocks}
+use Rattle.elf_model.specs.Link.Loading.{LoadedObject}
+use Rattle.elf_model.specs.Image.MapRecord.{PlaceRow}
+use Rattle.elf_model.specs.Link.Pieces.{Piece, kept_sections}
+use Rattle.elf_model.specs.Link.Placement.{Placed, placed_block, placed_blocks, placed_by}
+use Rattle.elf_model.specs.Image.RightLink.{HoldsPiece, Subject, objects_of, placed_of, sections_of, where_of}
 use Rattle.checker.proofs.PieceSections.{IsThere, is_there, placed_all}
 use Rattle.checker.specs.Comparing.{AreCompared, AreHeld, AreLeft, AreOwn}
 

@@ -9,17 +9,17 @@ use Rattle.std.proofs.lemmas.List.Elements.{All-append, All-contains, All-cons, 
 use Rattle.elf_model.proofs.Blocks.{blocks-each}
 use Rattle.elf_model.proofs.Finding.{find-none}
 use Rattle.elf_model.proofs.Sectioned.{kept-each, relocations-each}
-use Rattle.elf_model.specs.Commons.{Block, block_of, block_piece, blocks}
-use Rattle.elf_model.specs.Loading.{LoadedObject}
-use Rattle.elf_model.specs.MapRecord.{PlaceRow}
-use Rattle.elf_model.specs.ObjectFile.{null_section, section, sections}
-use Rattle.elf_model.specs.Pieces as pieces
-use Rattle.elf_model.specs.Placement as placement
-use Rattle.elf_model.specs.Placement.{placed_block, placed_blocks, placed_by}
-use Rattle.elf_model.specs.Relocation.{Relocation, is_in_field, relocations, width_of}
-use Rattle.elf_model.specs.Resolution.{SymbolOf}
-use Rattle.elf_model.specs.RightLink.{Subject, objects_of, placed_of, sections_of, where_of}
-use Rattle.elf_model.specs.WantedBytes.{byte_or_field, wanted_byte}
+use Rattle.elf_model.specs.Link.Commons.{Block, block_of, block_piece, blocks}
+use Rattle.elf_model.specs.Link.Loading.{LoadedObject}
+use Rattle.elf_model.specs.Image.MapRecord.{PlaceRow}
+use Rattle.elf_model.specs.Inputs.ObjectFile.{null_section, section, sections}
+use Rattle.elf_model.specs.Link.Pieces as pieces
+use Rattle.elf_model.specs.Link.Placement as placement
+use Rattle.elf_model.specs.Link.Placement.{placed_block, placed_blocks, placed_by}
+use Rattle.elf_model.specs.Link.Relocation.{Relocation, is_in_field, relocations, width_of}
+use Rattle.elf_model.specs.Link.Resolution.{SymbolOf}
+use Rattle.elf_model.specs.Image.RightLink.{Subject, objects_of, placed_of, sections_of, where_of}
+use Rattle.elf_model.specs.Link.WantedBytes.{byte_or_field, wanted_byte}
 use Rattle.elf_model.specs.declared.records.SectionHeader.{SectionHeader}
 use Rattle.check_relocs.specs.Bytes.{FitsIn, HasFieldsInside, HoldsFields, byte_of, covers, fields_in, is_of}
 use Rattle.check_relocs.specs.Fields.{AreRows, IsBefore, IsRowOf}

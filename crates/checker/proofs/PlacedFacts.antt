@@ -3,11 +3,11 @@
 use Rattle.std.proofs.Common.{◌≡◌, ℕ, ◌+◌, ◌^◌, ◌<◌, ◌≤◌, ◌&&◌, Bool, true, false, cond, List, [], ◌++◌, Option, None, Some, length, get_or, map, refl, subst, sym, arith}
 use Rattle.std.specs.Prelude.{All, Any, Contains, IfSome, filter}
 use Rattle.std.proofs.lemmas.List.Elements.{All-contains, All-head, All-tail}
-use Rattle.elf_model.specs.MemoryImage.{Encloses, loads}
-use Rattle.elf_model.specs.Pieces as pieces
-use Rattle.elf_model.specs.Placement as placement
-use Rattle.elf_model.specs.Placement.{HasRights, IsWithin, LiesInSegment, got_things, headers_thing, is_thread_place, range_of, thing_of}
-use Rattle.elf_model.specs.RightLink.{Holds, Subject, objects_of, placed_of, things_of}
+use Rattle.elf_model.specs.Image.MemoryImage.{Encloses, loads}
+use Rattle.elf_model.specs.Link.Pieces as pieces
+use Rattle.elf_model.specs.Link.Placement as placement
+use Rattle.elf_model.specs.Link.Placement.{HasRights, IsWithin, LiesInSegment, got_things, headers_thing, is_thread_place, range_of, thing_of}
+use Rattle.elf_model.specs.Image.RightLink.{Holds, Subject, objects_of, placed_of, things_of}
 use Rattle.elf_model.specs.declared.verdict.Clause.TheVariants.{C5}
 use Rattle.elf_model.specs.declared.link_map.GotLine.{GotLine}
 use Rattle.elf_model.specs.declared.records.ProgramHeader.{ProgramHeader}

@@ -4,7 +4,7 @@ use Rattle.std.specs.Prelude.{All, IsTrue, min, max, slice_index}
 use Rattle.std.proofs.lemmas.List.{drop_all, get_or-drop, get_or-take}
 use Rattle.std.proofs.lemmas.List.Elements.{All-cons, All-head, All-nil, All-tail}
 use Rattle.std.specs.List.Sorted.{IsNonDecreasingBy}
-use Rattle.elf_model.specs.Placement.{Covers}
+use Rattle.elf_model.specs.Link.Placement.{Covers}
 use Rattle.elf_model.specs.declared.thing.Thing.{Thing}
 use Rattle.checker.specs.Sweeps.{FilledFrom, GapIs}
 use Rattle.check_link.proofs.Padded.{below_or_not}

@@ -11,7 +11,7 @@ use Rattle.std.proofs.Math.Seq.{take-suc}
 use Rattle.elf_model.proofs.Finding.{find-none}
 use Rattle.elf_model.proofs.Pairs.{AllPairs-append, AllPairs-nil}
 use Rattle.elf_model.proofs.RelocationFields.{width_some}
-use Rattle.elf_model.specs.Relocation.{Relocation}
+use Rattle.elf_model.specs.Link.Relocation.{Relocation}
 use Rattle.check_load.specs.KeptRelocations.{relocations_of_rela, relocations_of_relas}
 use Rattle.check_load.specs.declared.kept_relocations.KeptRelocation.{KeptRelocation}
 use Rattle.check_load.specs.declared.kept_sections.KeptRela.{KeptRela}

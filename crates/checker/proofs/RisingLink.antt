@@ -7,10 +7,10 @@ use Rattle.std.proofs.lemmas.List.Sorted.{IsPermutation-refl}
 use Rattle.std.proofs.lemmas.Option.{get_or_from_slice_get, none-some, slice_get_cases}
 use Rattle.elf_model.proofs.OwnFields.{apart_of_ranges}
 use Rattle.elf_model.proofs.Pairs.{AllPairs-unmap}
-use Rattle.elf_model.specs.Loading.{LoadedObject}
-use Rattle.elf_model.specs.Placement.{Where}
-use Rattle.elf_model.specs.Relocation.{Relocation, relocations_from}
-use Rattle.elf_model.specs.RightLink.{Subject, objects_of, where_of}
+use Rattle.elf_model.specs.Link.Loading.{LoadedObject}
+use Rattle.elf_model.specs.Link.Placement.{Where}
+use Rattle.elf_model.specs.Link.Relocation.{Relocation, relocations_from}
+use Rattle.elf_model.specs.Image.RightLink.{Subject, objects_of, where_of}
 use Rattle.check_load.proofs.KeptRelocationLaws.{relocations_listed}
 use Rattle.check_load.specs.Kept.{kept_relas}
 use Rattle.check_link.specs.Views.{placed_view, placed_views}

@@ -11,9 +11,9 @@ use Rattle.std.proofs.lemmas.List.Elements.{All-append, All-cons, All-map, All-n
 use Rattle.std.proofs.lemmas.List.Sums.{prefix_len_passes}
 use Rattle.elf_model.proofs.Finding.{filter-all, filter-none}
 use Rattle.elf_model.proofs.Pairs.{AllPairs-append}
-use Rattle.elf_model.specs.ObjectFile.{relas}
-use Rattle.elf_model.specs.Placement as placement
-use Rattle.elf_model.specs.Relocation.{Relocation, is_some_kind}
+use Rattle.elf_model.specs.Inputs.ObjectFile.{relas}
+use Rattle.elf_model.specs.Link.Placement as placement
+use Rattle.elf_model.specs.Link.Relocation.{Relocation, is_some_kind}
 use Rattle.elf_model.specs.declared.records.Rela.{Rela}
 use Rattle.check_load.specs.Kept.{kept_relas}
 use Rattle.check_load.specs.KeptRelocations.{entries_behind, entry_at, relocations_of_rela, relocations_of_relas}

@@ -2,7 +2,7 @@
 use Rattle.std.proofs.Common.{◌≡◌, ℕ, ◌+◌, ◌<◌, ◌∙◌, Bool, List, ap, sym}
 use Rattle.std.specs.Prelude.{IsTrue, Some, slice_index}
 use Rattle.std.proofs.lemmas.Option.{same_Some}
-use Rattle.elf_model.specs.RightLink.{byte_at}
+use Rattle.elf_model.specs.Image.RightLink.{byte_at}
 use Rattle.loader_model.specs.Memory.{IsRun}
 
 pub held_by_run :

@@ -3,7 +3,7 @@ use Rattle.std.proofs.Common.{◌≡◌, ℕ, List}
 use Rattle.std.specs.Prelude.{All, Any, Some, None}
 use Rattle.std.proofs.lemmas.List.Elements.{All-contains}
 use Rattle.std.proofs.lemmas.Option.{none-some}
-use Rattle.elf_model.specs.MemoryImage.{Encloses}
+use Rattle.elf_model.specs.Image.MemoryImage.{Encloses}
 use Rattle.elf_model.specs.declared.records.ProgramHeader.{ProgramHeader}
 
 -- where no segment is found that encloses a range, none does

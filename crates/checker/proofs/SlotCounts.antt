@@ -10,10 +10,10 @@ use Rattle.std.proofs.lemmas.List.Elements.{All-cons, All-contains, All-head, Al
 use Rattle.std.proofs.lemmas.List.Recursion.{is_count_by}
 use Rattle.std.proofs.lemmas.List.Folds.{Any-from_list_any, list_any-from_Any}
 use Rattle.elf_model.proofs.Listed.{All-from_contains}
-use Rattle.elf_model.specs.Loading.{LoadedObject}
-use Rattle.elf_model.specs.MapRecord.{OfLocal, SlotRow}
-use Rattle.elf_model.specs.Relocation.{Relocation, relocations}
-use Rattle.elf_model.specs.Slots.{Request, is_slot_of, request_of, requests, row_request, same_request}
+use Rattle.elf_model.specs.Link.Loading.{LoadedObject}
+use Rattle.elf_model.specs.Image.MapRecord.{OfLocal, SlotRow}
+use Rattle.elf_model.specs.Link.Relocation.{Relocation, relocations}
+use Rattle.elf_model.specs.Link.Slots.{Request, is_slot_of, request_of, requests, row_request, same_request}
 use Rattle.elf_model.specs.declared.link_map.SlotKind.TheVariants as slot
 use Rattle.checker.specs.Got.{HaveSlots}
 use Rattle.check_relocs.specs.Needs.{AreNeeds, is_unserved}

@@ -4,7 +4,7 @@ use Rattle.std.specs.Prelude.{All, AllPairs}
 use Rattle.std.proofs.lemmas.List.Elements.{All-cons, All-nil, All-head, All-tail, All-from_get_or}
 use Rattle.std.proofs.lemmas.List.{get_or-drop, drop_all}
 use Rattle.std.proofs.lemmas.List.Kept.{AllPairs-cons}
-use Rattle.elf_model.specs.Placement.{AreApart}
+use Rattle.elf_model.specs.Link.Placement.{AreApart}
 use Rattle.elf_model.specs.declared.thing.Thing.{Thing}
 use Rattle.std.specs.List.Sorted.{IsNonDecreasingBy}
 use Rattle.checker.specs.Sweeps.{Above, Follows, Overlaps}

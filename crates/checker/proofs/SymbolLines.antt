@@ -9,18 +9,18 @@ use Rattle.std.proofs.lemmas.Option.{none-some, same_Some}
 use Rattle.elf_model.proofs.ChosenSymbols.{All-kept, all_chosen, unique_from_chosen}
 use Rattle.elf_model.proofs.Listed.{All-from_contains, All-unmap, Contains-filter, Contains-from_filter}
 use Rattle.elf_model.proofs.Listing.{chosen_means, joined_listed}
-use Rattle.elf_model.specs.ChosenSymbols.{chosen_symbols, definitions, is_chosen, is_definition}
-use Rattle.elf_model.specs.LinkerNames.{bound_of}
-use Rattle.elf_model.specs.LinkerValues.{bound_value}
-use Rattle.elf_model.specs.Listing as Listing
-use Rattle.elf_model.specs.Listing.{AreLinkerLines, is_used, linker_line}
-use Rattle.elf_model.specs.Loading.{LoadedObject}
-use Rattle.elf_model.specs.MapRecord.{SymbolRow}
-use Rattle.elf_model.specs.MapText.{Ascends, SymbolBefore}
-use Rattle.elf_model.specs.Meaning.{Linker, Meaning, meanings_of, meant, meant_list, object_meaning}
-use Rattle.elf_model.specs.Placement.{Where}
-use Rattle.elf_model.specs.Resolution.{AreUnique, SymbolOf, all_symbols, chosen, is_strong, strong_definitions}
-use Rattle.elf_model.specs.RightLink.{HasLine, symbol_row_of}
+use Rattle.elf_model.specs.Link.ChosenSymbols.{chosen_symbols, definitions, is_chosen, is_definition}
+use Rattle.elf_model.specs.Link.LinkerNames.{bound_of}
+use Rattle.elf_model.specs.Link.LinkerValues.{bound_value}
+use Rattle.elf_model.specs.Link.Listing as Listing
+use Rattle.elf_model.specs.Link.Listing.{AreLinkerLines, is_used, linker_line}
+use Rattle.elf_model.specs.Link.Loading.{LoadedObject}
+use Rattle.elf_model.specs.Image.MapRecord.{SymbolRow}
+use Rattle.elf_model.specs.Image.MapText.{Ascends, SymbolBefore}
+use Rattle.elf_model.specs.Link.Meaning.{Linker, Meaning, meanings_of, meant, meant_list, object_meaning}
+use Rattle.elf_model.specs.Link.Placement.{Where}
+use Rattle.elf_model.specs.Link.Resolution.{AreUnique, SymbolOf, all_symbols, chosen, is_strong, strong_definitions}
+use Rattle.elf_model.specs.Image.RightLink.{HasLine, symbol_row_of}
 use Rattle.elf_model.specs.declared.bound.Bound.{Bound}
 use Rattle.elf_model.specs.declared.link_map.Definition.TheVariants as definition
 use Rattle.check_link.specs.Views.{symbol_view, symbol_views}

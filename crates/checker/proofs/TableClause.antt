@@ -4,15 +4,15 @@ use Rattle.std.specs.List.{flat_map}
 use Rattle.std.specs.Prelude.{All, IfSome, IsTrue, is_some}
 use Rattle.elf_model.proofs.Listed.{All-unmap}
 use Rattle.elf_model.proofs.Rests.{Left}
-use Rattle.elf_model.specs.MapRecord.{SymbolRow}
+use Rattle.elf_model.specs.Image.MapRecord.{SymbolRow}
 use Rattle.linkmap.specs.Borrowed.{symbol_row}
-use Rattle.elf_model.specs.MapText.{Ascends, SymbolBefore}
-use Rattle.elf_model.specs.Meaning.{Meaning}
-use Rattle.elf_model.specs.MemoryImage.{HasNoSections, file_end, loads}
-use Rattle.elf_model.specs.Placement.{Where, round_up}
-use Rattle.elf_model.specs.Records.{file_header, section_header_bytes}
-use Rattle.elf_model.specs.RightLink.{AreSymbolsListed, AreTablesRight, HoldsTables, Subject, objects_of, tabled_of, where_of}
-use Rattle.elf_model.specs.SymbolTable.{entry_count, headers_at, name_section, section_names, symbol_section, tabled, shstrtab_end, symtab_at, table_headers}
+use Rattle.elf_model.specs.Image.MapText.{Ascends, SymbolBefore}
+use Rattle.elf_model.specs.Link.Meaning.{Meaning}
+use Rattle.elf_model.specs.Image.MemoryImage.{HasNoSections, file_end, loads}
+use Rattle.elf_model.specs.Link.Placement.{Where, round_up}
+use Rattle.elf_model.specs.Inputs.Records.{file_header, section_header_bytes}
+use Rattle.elf_model.specs.Image.RightLink.{AreSymbolsListed, AreTablesRight, HoldsTables, Subject, objects_of, tabled_of, where_of}
+use Rattle.elf_model.specs.Image.SymbolTable.{entry_count, headers_at, name_section, section_names, symbol_section, tabled, shstrtab_end, symtab_at, table_headers}
 use Rattle.linkmap.specs.declared.borrowed.BorrowedSymbol.{BorrowedSymbol}
 use Rattle.elf_model.specs.declared.link_map.SymtabLine.{SymtabLine}
 use Rattle.elf_model.specs.declared.records.FileHeader.{FileHeader}

@@ -6,16 +6,16 @@ use Rattle.std.proofs.lemmas.List.{length-append}
 use Rattle.std.proofs.lemmas.Option.{none-some, same_Some}
 use Rattle.std.proofs.lemmas.Slice.Eq.{bytes_eq-Decides}
 use Rattle.elf_model.proofs.RisingNames.{all_found, has, rises_from_ascends, rises_unique}
-use Rattle.elf_model.specs.Listing.{linker_line, listed}
-use Rattle.elf_model.specs.LinkerNames.{bound_of}
-use Rattle.elf_model.specs.Loading.{LoadedObject}
-use Rattle.elf_model.specs.MapRecord.{SymbolRow}
-use Rattle.elf_model.specs.MapText.{Ascends, SymbolBefore}
-use Rattle.elf_model.specs.Meaning.{Linker, Meaning, meaning_name, meaning_value, object_meaning}
-use Rattle.elf_model.specs.Placement.{Where}
-use Rattle.elf_model.specs.Records.{symbol_bytes}
-use Rattle.elf_model.specs.RightLink.{HasLine, symbol_row_of}
-use Rattle.elf_model.specs.SymbolTable.{ended, entries_from, entry_of, has_entry, line_meanings, tabled}
+use Rattle.elf_model.specs.Link.Listing.{linker_line, listed}
+use Rattle.elf_model.specs.Link.LinkerNames.{bound_of}
+use Rattle.elf_model.specs.Link.Loading.{LoadedObject}
+use Rattle.elf_model.specs.Image.MapRecord.{SymbolRow}
+use Rattle.elf_model.specs.Image.MapText.{Ascends, SymbolBefore}
+use Rattle.elf_model.specs.Link.Meaning.{Linker, Meaning, meaning_name, meaning_value, object_meaning}
+use Rattle.elf_model.specs.Link.Placement.{Where}
+use Rattle.elf_model.specs.Inputs.Records.{symbol_bytes}
+use Rattle.elf_model.specs.Image.RightLink.{HasLine, symbol_row_of}
+use Rattle.elf_model.specs.Image.SymbolTable.{ended, entries_from, entry_of, has_entry, line_meanings, tabled}
 use Rattle.elf_model.specs.declared.bound.Bound.{Bound}
 use Rattle.elf_model.specs.declared.records.Symbol as entry
 use Rattle.checker.specs.Listed.{IsLine}

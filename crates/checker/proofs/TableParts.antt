@@ -5,11 +5,11 @@ use Rattle.std.specs.List.{flat_map}
 use Rattle.std.proofs.lemmas.List.{drop_at, length-append, length-take, take-append-drop, take_at}
 use Rattle.elf_model.proofs.Rests.{Left}
 use Rattle.elf_model.proofs.TableLaws.{length-symbol_section}
-use Rattle.elf_model.specs.Meaning.{Meaning}
-use Rattle.elf_model.specs.Placement.{Where}
-use Rattle.elf_model.specs.Records.{symbol_bytes}
-use Rattle.elf_model.specs.ObjectFile.{null_symbol}
-use Rattle.elf_model.specs.SymbolTable.{entries_from, name_section, symbol_section}
+use Rattle.elf_model.specs.Link.Meaning.{Meaning}
+use Rattle.elf_model.specs.Link.Placement.{Where}
+use Rattle.elf_model.specs.Inputs.Records.{symbol_bytes}
+use Rattle.elf_model.specs.Inputs.ObjectFile.{null_symbol}
+use Rattle.elf_model.specs.Image.SymbolTable.{entries_from, name_section, symbol_section}
 use Rattle.checker.specs.Tabled.{AreLeft, AreTables, Strips, ended_names}
 
 -- no more entries than there is room for

@@ -3,9 +3,9 @@ use Rattle.std.proofs.Common.{◌≡◌, ℕ, ◌+◌, ◌<◌, ◌≤◌, true,
 use Rattle.std.specs.Prelude.{All, Any, Contains, IsPermutation, Option}
 use Rattle.std.proofs.lemmas.List.Elements.{All-contains, All-weaker, Contains-get_or}
 use Rattle.std.proofs.lemmas.List.Sorted.{All-permutation, Contains-permutation, IsPermutation-sym}
-use Rattle.elf_model.specs.MemoryImage.{loads}
-use Rattle.elf_model.specs.Placement.{Covers}
-use Rattle.elf_model.specs.RightLink.{EndsRight, HasNothingElse, IsOfSegment}
+use Rattle.elf_model.specs.Image.MemoryImage.{loads}
+use Rattle.elf_model.specs.Link.Placement.{Covers}
+use Rattle.elf_model.specs.Image.RightLink.{EndsRight, HasNothingElse, IsOfSegment}
 use Rattle.elf_model.specs.declared.link_map.SymtabLine.{SymtabLine}
 use Rattle.elf_model.specs.declared.records.ProgramHeader.{ProgramHeader}
 use Rattle.elf_model.specs.declared.thing.Thing.{Thing}

@@ -4,10 +4,10 @@ use Rattle.std.specs.Prelude.{◌↔◌, All, Any, Contains, IfSome, IsTrue, is_
 use Rattle.std.proofs.lemmas.Bool.{false≢true}
 use Rattle.std.proofs.lemmas.List.Elements.{All-map}
 use Rattle.elf_model.proofs.Listed.{All-unmap}
-use Rattle.elf_model.specs.LinkerValues.{end_of_pieces}
-use Rattle.elf_model.specs.MemoryImage.{Encloses, loads, thread_blocks}
-use Rattle.elf_model.specs.RightLink.{HoldsInitial}
-use Rattle.elf_model.specs.ThreadStorage.{is_thread_data, thread_headers}
+use Rattle.elf_model.specs.Link.LinkerValues.{end_of_pieces}
+use Rattle.elf_model.specs.Image.MemoryImage.{Encloses, loads, thread_blocks}
+use Rattle.elf_model.specs.Image.RightLink.{HoldsInitial}
+use Rattle.elf_model.specs.Link.ThreadStorage.{is_thread_data, thread_headers}
 use Rattle.elf_model.specs.declared.link_map.GotLine.{GotLine}
 use Rattle.elf_model.specs.declared.records.ProgramHeader.{ProgramHeader}
 use Rattle.checker.specs.ThreadBlock.{AreOthersClear, BeginsAfter, IsBlockRight}

@@ -1,11 +1,11 @@
 -- A link whose words are a plan and whose text is a map has one verdict, and it is the least clause that fails.
 use Rattle.std.proofs.Common.{◌≡◌, ℕ, ◌<◌, List, Ok, refl, subst, sym, ◌∙◌, ap, arith}
 use Rattle.std.specs.Prelude.{◌↔◌}
-use Rattle.elf_model.specs.Command.{Plan, command_of}
-use Rattle.elf_model.specs.Files.{File}
-use Rattle.elf_model.specs.MapRecord.{MapRecord}
-use Rattle.elf_model.specs.MapText.{IsMap, text}
-use Rattle.elf_model.specs.RightLink.{FailsAt, IsRead, IsRightLink, IsUnread, Least, Subject, clause_number}
+use Rattle.elf_model.specs.Inputs.Command.{Plan, command_of}
+use Rattle.elf_model.specs.Inputs.Files.{File}
+use Rattle.elf_model.specs.Image.MapRecord.{MapRecord}
+use Rattle.elf_model.specs.Image.MapText.{IsMap, text}
+use Rattle.elf_model.specs.Image.RightLink.{FailsAt, IsRead, IsRightLink, IsUnread, Least, Subject, clause_number}
 use Rattle.elf_model.specs.declared.verdict.Clause.{Clause}
 use Rattle.elf_model.specs.declared.verdict.Clause.TheVariants.{C1, C2, C3, C4, C5, C6, C7, C8, C9, C10, C11, C12, C13, C14}
 use Rattle.elf_model.specs.declared.verdict.Verdict.{Verdict}

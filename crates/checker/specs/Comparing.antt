@@ -1,8 +1,8 @@
 -- How far the pieces of a link are compared with memory, object by object.
 use Rattle.std.specs.Prelude.{◌≡◌, ℕ, ◌<◌, ◌≤◌, ◌↔◌, Bool, true, List, [], All, AllPairs, Contains, length, slice_index_or}
-use Rattle.elf_model.specs.Loading.{LoadedObject}
-use Rattle.elf_model.specs.Placement.{Placed}
-use Rattle.elf_model.specs.RightLink.{HoldsPiece, Subject, objects_of, placed_of, where_of}
+use Rattle.elf_model.specs.Link.Loading.{LoadedObject}
+use Rattle.elf_model.specs.Link.Placement.{Placed}
+use Rattle.elf_model.specs.Image.RightLink.{HoldsPiece, Subject, objects_of, placed_of, where_of}
 use Rattle.check_relocs.specs.Fields.{IsRowOf}
 use Rattle.check_relocs.specs.declared.fields.Field.{Field}
 

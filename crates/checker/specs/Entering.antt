@@ -1,10 +1,10 @@
 -- Where a link may enter.
 use Rattle.std.specs.Prelude.{◌≡◌, ℕ, false, IsSomeAnd, List, Option}
 use Rattle.std.specs.Option.{option_and_then}
-use Rattle.elf_model.specs.Loading.{LoadedObject}
-use Rattle.elf_model.specs.Meaning.{meaning_value, meant}
-use Rattle.elf_model.specs.Placement.{Where}
-use Rattle.elf_model.specs.Resolution.{SymbolOf, is_in_thread_section}
+use Rattle.elf_model.specs.Link.Loading.{LoadedObject}
+use Rattle.elf_model.specs.Link.Meaning.{meaning_value, meant}
+use Rattle.elf_model.specs.Link.Placement.{Where}
+use Rattle.elf_model.specs.Link.Resolution.{SymbolOf, is_in_thread_section}
 
 -- a definition was found, which stands in no section with SHF_TLS and means something that has a value
 abbrev pub Enters : List LoadedObject → Where → ℕ → Option SymbolOf → Type 0

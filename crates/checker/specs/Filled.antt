@@ -1,8 +1,8 @@
 -- Words on segments and on file parts for this crate's own functions.
 use Rattle.std.specs.Prelude.{◌≡◌, ℕ, ◌+◌, ◌<◌, ◌≤◌, true, List, All, slice_index}
-use Rattle.elf_model.specs.MemoryImage.{file_end, loads, segment_byte}
-use Rattle.elf_model.specs.Placement.{Covers}
-use Rattle.elf_model.specs.RightLink.{IsInFilePart, fill_of}
+use Rattle.elf_model.specs.Image.MemoryImage.{file_end, loads, segment_byte}
+use Rattle.elf_model.specs.Link.Placement.{Covers}
+use Rattle.elf_model.specs.Image.RightLink.{IsInFilePart, fill_of}
 use Rattle.elf_model.specs.declared.records.ProgramHeader.{ProgramHeader}
 use Rattle.elf_model.specs.declared.thing.Thing.{Thing}
 

@@ -1,10 +1,10 @@
 -- What the seventh clause asks of a GOT and its slots, by what names mean.
 use Rattle.std.specs.Prelude.{◌≡◌, ℕ, ◌+◌, ◌<◌, ◌≤◌, ◌^◌, Any, List, Some, length, slice_index}
-use Rattle.elf_model.specs.Loading.{LoadedObject}
-use Rattle.elf_model.specs.MapRecord.{SlotRow}
-use Rattle.elf_model.specs.MemoryImage.{Encloses, loads}
-use Rattle.elf_model.specs.RightLink.{HasSlot, byte_at}
-use Rattle.elf_model.specs.Slots.{Request}
+use Rattle.elf_model.specs.Link.Loading.{LoadedObject}
+use Rattle.elf_model.specs.Image.MapRecord.{SlotRow}
+use Rattle.elf_model.specs.Image.MemoryImage.{Encloses, loads}
+use Rattle.elf_model.specs.Image.RightLink.{HasSlot, byte_at}
+use Rattle.elf_model.specs.Link.Slots.{Request}
 use Rattle.elf_model.specs.declared.link_map.GotLine.{GotLine}
 
 -- there is a slot for each request of a relocation, and for no other

@@ -1,5 +1,5 @@
 -- What a verdict says of a link whose words are a plan and whose text is a map.
-use Rattle.elf_model.specs.RightLink.{Holds, HoldsBefore, Subject}
+use Rattle.elf_model.specs.Image.RightLink.{Holds, HoldsBefore, Subject}
 use Rattle.elf_model.specs.declared.verdict.Clause.{Clause}
 use Rattle.elf_model.specs.declared.verdict.Verdict.{Verdict}
 use Rattle.elf_model.specs.declared.verdict.Verdict.TheVariants.{No, Yes}

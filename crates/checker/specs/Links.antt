@@ -1,11 +1,11 @@
 -- What is known of a link that is judged, by the stages in which it becomes known.
 use Rattle.std.specs.Prelude.{◌≡◌, ℕ, ◌≤◌, IsPermutation, List, length, take}
 use Rattle.std.specs.List.Sorted.{IsNonDecreasingBy}
-use Rattle.elf_model.specs.Loading.{LoadedObject}
-use Rattle.elf_model.specs.MapRecord.{CommonRow}
-use Rattle.elf_model.specs.Pieces.{Piece, kept_sections}
-use Rattle.elf_model.specs.Placement.{got_things}
-use Rattle.elf_model.specs.RightLink.{Subject, objects_of, placed_of, sections_of, things_of}
+use Rattle.elf_model.specs.Link.Loading.{LoadedObject}
+use Rattle.elf_model.specs.Image.MapRecord.{CommonRow}
+use Rattle.elf_model.specs.Link.Pieces.{Piece, kept_sections}
+use Rattle.elf_model.specs.Link.Placement.{got_things}
+use Rattle.elf_model.specs.Image.RightLink.{Subject, objects_of, placed_of, sections_of, things_of}
 use Rattle.elf_model.specs.declared.thing.Thing.{Thing}
 use Rattle.check_link.specs.Views.{placed_views}
 use Rattle.check_link.specs.declared.things.Placed.{Placed}

@@ -1,12 +1,12 @@
 -- The chosen definitions among strong ones, and the lines of what names mean.
 use Rattle.std.specs.Prelude.{◌≡◌, true, List, Some, option_map}
-use Rattle.elf_model.specs.ChosenSymbols.{is_chosen}
-use Rattle.elf_model.specs.Listing.{listed}
-use Rattle.elf_model.specs.Loading.{LoadedObject}
-use Rattle.elf_model.specs.MapRecord.{SymbolRow}
-use Rattle.elf_model.specs.Placement.{Where}
-use Rattle.elf_model.specs.Resolution.{SymbolOf, is_strong}
-use Rattle.elf_model.specs.RightLink.{symbol_row_of}
+use Rattle.elf_model.specs.Link.ChosenSymbols.{is_chosen}
+use Rattle.elf_model.specs.Link.Listing.{listed}
+use Rattle.elf_model.specs.Link.Loading.{LoadedObject}
+use Rattle.elf_model.specs.Image.MapRecord.{SymbolRow}
+use Rattle.elf_model.specs.Link.Placement.{Where}
+use Rattle.elf_model.specs.Link.Resolution.{SymbolOf, is_strong}
+use Rattle.elf_model.specs.Image.RightLink.{symbol_row_of}
 
 -- a symbol is no strong definition, or the chosen one of its name
 abbrev pub IsChosenIfStrong : List LoadedObject → SymbolOf → Type 0

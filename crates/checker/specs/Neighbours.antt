@@ -2,7 +2,7 @@
 use Rattle.std.specs.Prelude.{◌≡◌, ℕ, ◌-◌, cond, false, List, None, Option, Some, slice_index_or}
 use Rattle.std.specs.BTreeMap.{BTreeMap, get}
 use Rattle.std.specs.Ordering.{is_eq}
-use Rattle.elf_model.specs.Placement.{IsNear, IsNext, Placed}
+use Rattle.elf_model.specs.Link.Placement.{IsNear, IsNext, Placed}
 use Rattle.check_link.specs.OutputSections.{section_order}
 use Rattle.check_link.specs.declared.output_sections.OutputSection.{OutputSection}
 

@@ -1,10 +1,10 @@
 -- Fields of an object's relocations that are compared with memory as they come.
 use Rattle.std.specs.Prelude.{◌≡◌, ◌+◌, ◌<◌, ◌≤◌, ◌++◌, ℕ, List, Some, All, AllPairs, find, map, slice_index}
 use Rattle.byteview.specs.Numbers.{le_bytes}
-use Rattle.elf_model.specs.Pieces.{load_size}
-use Rattle.elf_model.specs.Placement as placement
-use Rattle.elf_model.specs.Relocation.{Relocation}
-use Rattle.elf_model.specs.RightLink.{byte_at}
+use Rattle.elf_model.specs.Link.Pieces.{load_size}
+use Rattle.elf_model.specs.Link.Placement as placement
+use Rattle.elf_model.specs.Link.Relocation.{Relocation}
+use Rattle.elf_model.specs.Image.RightLink.{byte_at}
 use Rattle.check_load.specs.Kept.{kept_relas}
 use Rattle.check_load.specs.KeptRelocations.{relocations_of_relas}
 use Rattle.check_load.specs.declared.kept_sections.KeptRela.{KeptRela}

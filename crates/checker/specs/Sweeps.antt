@@ -1,6 +1,6 @@
 -- Words on things for this crate's sweeps.
 use Rattle.std.specs.Prelude.{◌≡◌, ℕ, ◌+◌, ◌-◌, ◌^◌, ◌<◌, ◌≤◌, ◌⊎◌, List, [], ◌∷◌, All, max, slice_index}
-use Rattle.elf_model.specs.Placement.{Covers}
+use Rattle.elf_model.specs.Link.Placement.{Covers}
 use Rattle.elf_model.specs.declared.thing.Thing.{Thing}
 
 -- a thing's end is an address of 64 bits

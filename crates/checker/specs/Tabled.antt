@@ -2,13 +2,13 @@
 use Rattle.std.specs.Prelude.{◌≡◌, ◌↔◌, ℕ, ◌+◌, ◌-◌, ◌*◌, ◌<◌, ◌^◌, List, [], ◌∷◌, ◌++◌, cond, length, replicate, Option, None, Some, IsSomeAnd}
 use Rattle.std.specs.Borrow.{Bor}
 use Rattle.std.specs.List.{flat_map}
-use Rattle.elf_model.specs.Loading.{LoadedObject}
-use Rattle.elf_model.specs.MapRecord.{SymbolRow}
-use Rattle.elf_model.specs.Meaning.{Meaning, meaning_name, meaning_size}
-use Rattle.elf_model.specs.Placement.{Where}
-use Rattle.elf_model.specs.Records.{section_header_bytes, symbol_bytes}
-use Rattle.elf_model.specs.ObjectFile.{null_section}
-use Rattle.elf_model.specs.SymbolTable.{ended, entries_from, entry_binding, entry_count, entry_of, entry_type, has_entry, headers_at, name_section, section_names, shstrtab_at, shstrtab_end, strings_header, strtab_at, symbol_section, symtab_at, tabled}
+use Rattle.elf_model.specs.Link.Loading.{LoadedObject}
+use Rattle.elf_model.specs.Image.MapRecord.{SymbolRow}
+use Rattle.elf_model.specs.Link.Meaning.{Meaning, meaning_name, meaning_size}
+use Rattle.elf_model.specs.Link.Placement.{Where}
+use Rattle.elf_model.specs.Inputs.Records.{section_header_bytes, symbol_bytes}
+use Rattle.elf_model.specs.Inputs.ObjectFile.{null_section}
+use Rattle.elf_model.specs.Image.SymbolTable.{ended, entries_from, entry_binding, entry_count, entry_of, entry_type, has_entry, headers_at, name_section, section_names, shstrtab_at, shstrtab_end, strings_header, strtab_at, symbol_section, symtab_at, tabled}
 use Rattle.elf_model.specs.declared.constants.TheConstants.{SHN_ABS, SHT_SYMTAB}
 use Rattle.elf_model.specs.declared.records.SectionHeader.{SectionHeader}
 use Rattle.elf_model.specs.declared.records.Symbol as entry

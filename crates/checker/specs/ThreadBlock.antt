@@ -1,11 +1,11 @@
 -- What the eighth clause asks of an image, where pieces and the GOT are placed.
 use Rattle.std.specs.Prelude.{◌≡◌, ℕ, ◌≤◌, ◌++◌, Bool, true, not, List, Option, All, filter, map}
-use Rattle.elf_model.specs.LinkerValues.{end_of_pieces}
-use Rattle.elf_model.specs.MemoryImage.{loads, thread_blocks}
-use Rattle.elf_model.specs.Pieces.{is_thread_zero}
-use Rattle.elf_model.specs.Placement.{Placed, got_things, is_thread_place, thing_of}
-use Rattle.elf_model.specs.RightLink.{HoldsInitial, IsClearOf}
-use Rattle.elf_model.specs.ThreadStorage.{is_thread_data, thread_headers}
+use Rattle.elf_model.specs.Link.LinkerValues.{end_of_pieces}
+use Rattle.elf_model.specs.Image.MemoryImage.{loads, thread_blocks}
+use Rattle.elf_model.specs.Link.Pieces.{is_thread_zero}
+use Rattle.elf_model.specs.Link.Placement.{Placed, got_things, is_thread_place, thing_of}
+use Rattle.elf_model.specs.Image.RightLink.{HoldsInitial, IsClearOf}
+use Rattle.elf_model.specs.Link.ThreadStorage.{is_thread_data, thread_headers}
 use Rattle.elf_model.specs.declared.link_map.GotLine.{GotLine}
 use Rattle.elf_model.specs.declared.thing.Thing.{Thing}
 

@@ -1,7 +1,7 @@
 //! A placed link with what its names mean: what the clauses from the seventh on judge.
 ghost use Rattle.std.specs.Prelude.{◌≡◌, IsPermutation};
 ghost use Rattle.std.specs.List.Sorted.{IsNonDecreasingBy};
-ghost use Rattle.elf_model.specs.RightLink.{placed_of, things_of};
+ghost use Rattle.elf_model.specs.Image.RightLink.{placed_of, things_of};
 ghost use Rattle.check_link.specs.Views.{placed_views};
 ghost use Rattle.check_relocs.specs.Bindings.{bound_of};
 
@@ -20,7 +20,7 @@ pub struct BoundLink<'o, 'a> {
 }
 
 impl<'o, 'a> Model for BoundLink<'o, 'a> {
-    ghost use Rattle.elf_model.specs.RightLink.{Subject};
+    ghost use Rattle.elf_model.specs.Image.RightLink.{Subject};
     ghost use Rattle.std.specs.Prelude.{◌≡◌};
     ghost use Rattle.check_relocs.specs.Bindings.{bound_of};
 

@@ -1,7 +1,7 @@
 //! C2: whether the map's object lines are those of the objects that were loaded.
 ghost use Rattle.std.specs.Prelude.{◌≡◌, ◌↔◌, IsTrue, map};
 ghost use Rattle.linkmap.specs.Borrowed.{object_row};
-ghost use Rattle.elf_model.specs.RightLink.{IsLoaded, object_rows, objects_of};
+ghost use Rattle.elf_model.specs.Image.RightLink.{IsLoaded, object_rows, objects_of};
 ghost use Rattle.check_load.specs.Plans.{CanLoad};
 ghost use Rattle.check_load.specs.Views.{loaded_view, loaded_views};
 ghost use Rattle.checker.specs.ObjectLines.{row_of};

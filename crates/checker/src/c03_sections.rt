@@ -2,7 +2,7 @@
 //! are those of the objects.
 ghost use Rattle.std.specs.Prelude.{◌≡◌, ◌↔◌, IfOk, IsTrue, map};
 ghost use Rattle.linkmap.specs.Borrowed.{place_row};
-ghost use Rattle.elf_model.specs.RightLink.{Holds, drop_rows, facts_of_piece, facts_of_row, objects_of};
+ghost use Rattle.elf_model.specs.Image.RightLink.{Holds, drop_rows, facts_of_piece, facts_of_row, objects_of};
 ghost use Rattle.elf_model.specs.declared.verdict.Clause.TheVariants as clause;
 ghost use Rattle.check_link.specs.Views.{piece_view, piece_views};
 

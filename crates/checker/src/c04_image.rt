@@ -1,6 +1,6 @@
 //! C4: maps the image as a loader does.
 ghost use Rattle.std.specs.Prelude.{◌≡◌, ◌↔◌, IfOk, IfSome, IsSome, IsTrue};
-ghost use Rattle.elf_model.specs.RightLink.{Holds};
+ghost use Rattle.elf_model.specs.Image.RightLink.{Holds};
 ghost use Rattle.elf_model.specs.declared.verdict.Clause.TheVariants as clause;
 
 use byteview::View;

@@ -1,10 +1,10 @@
 //! C5: whether all things are aligned, within the addresses and apart, and the pieces of an output section near one another.
 ghost use Rattle.std.specs.Prelude.{◌≡◌, ◌<◌, ◌^◌, ◌%◌, ◌↔◌, All, AllPairs, IfOk, IsPermutation, IsTrue};
 ghost use Rattle.std.specs.List.Sorted.{IsNonDecreasingBy};
-ghost use Rattle.elf_model.specs.ArrayOrder.{placed_in_array_order};
-ghost use Rattle.elf_model.specs.Placement.{AreApart, IsPlaced, IsWithin};
+ghost use Rattle.elf_model.specs.Link.ArrayOrder.{placed_in_array_order};
+ghost use Rattle.elf_model.specs.Link.Placement.{AreApart, IsPlaced, IsWithin};
 ghost use Rattle.check_link.specs.Views.{placed_views};
-ghost use Rattle.elf_model.specs.RightLink.{Holds};
+ghost use Rattle.elf_model.specs.Image.RightLink.{Holds};
 ghost use Rattle.elf_model.specs.declared.verdict.Clause.TheVariants as clause;
 
 use crate::c05_placed::apart::are_apart;

@@ -1,8 +1,8 @@
 //! C6: whether each thing lies in a segment with exactly its rights.
 ghost use Rattle.std.specs.Prelude.{◌≡◌, ◌<◌, ◌↔◌, All, IsTrue};
-ghost use Rattle.elf_model.specs.MemoryImage.{Encloses, loads};
-ghost use Rattle.elf_model.specs.Placement.{HasRights, LiesInSegment};
-ghost use Rattle.elf_model.specs.RightLink.{Holds};
+ghost use Rattle.elf_model.specs.Image.MemoryImage.{Encloses, loads};
+ghost use Rattle.elf_model.specs.Link.Placement.{HasRights, LiesInSegment};
+ghost use Rattle.elf_model.specs.Image.RightLink.{Holds};
 ghost use Rattle.elf_model.specs.declared.verdict.Clause.TheVariants as clause;
 
 use crate::placed_link::PlacedLink;

@@ -1,6 +1,6 @@
 //! C7: whether the global offset table stands where a relocation asks for one, with a slot for each request and no other.
 ghost use Rattle.std.specs.Prelude.{◌≡◌, ◌↔◌, All, IfOk, IfSome, IsTrue, true};
-ghost use Rattle.elf_model.specs.RightLink.{Holds, HoldsBefore, HoldsGot, objects_of, where_of};
+ghost use Rattle.elf_model.specs.Image.RightLink.{Holds, HoldsBefore, HoldsGot, objects_of, where_of};
 ghost use Rattle.checker.specs.Got.{HaveSlots, LiesInImage};
 ghost use Rattle.check_relocs.specs.Needs.{AreNeeds};
 ghost use Rattle.elf_model.specs.declared.verdict.Clause.TheVariants as clause;

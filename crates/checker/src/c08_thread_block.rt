@@ -1,9 +1,9 @@
 //! C8: whether PT_TLS says where the thread-local pieces are, and whether a loader finds their initial bytes there.
 ghost use Rattle.std.specs.Prelude.{◌≡◌, ◌↔◌, [], ◌∷◌, All, IsTrue};
-ghost use Rattle.elf_model.specs.MemoryImage.{loads};
-ghost use Rattle.elf_model.specs.Placement.{got_things};
-ghost use Rattle.elf_model.specs.RightLink.{Holds, HoldsBefore, HoldsInitial, IsClearOf};
-ghost use Rattle.elf_model.specs.ThreadStorage.{thread_header, thread_headers};
+ghost use Rattle.elf_model.specs.Image.MemoryImage.{loads};
+ghost use Rattle.elf_model.specs.Link.Placement.{got_things};
+ghost use Rattle.elf_model.specs.Image.RightLink.{Holds, HoldsBefore, HoldsInitial, IsClearOf};
+ghost use Rattle.elf_model.specs.Link.ThreadStorage.{thread_header, thread_headers};
 ghost use Rattle.check_link.specs.PieceParts.{AreInLimit, IsGotInLimit, IsInLimit};
 ghost use Rattle.checker.specs.Sweeps.{EndFits};
 ghost use Rattle.checker.specs.ThreadBlock.{AreOthersClear, BeginsAfter, IsBlockRight, IsPlaceClear};

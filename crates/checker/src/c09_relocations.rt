@@ -1,6 +1,6 @@
 //! C9: whether each kept relocation is lawful and its value fits; and then the fields of all, row by row.
 ghost use Rattle.std.specs.Prelude.{◌≡◌, ◌↔◌, IfOk, IfSome, IsSome};
-ghost use Rattle.elf_model.specs.RightLink.{Holds, objects_of, where_of};
+ghost use Rattle.elf_model.specs.Image.RightLink.{Holds, objects_of, where_of};
 ghost use Rattle.elf_model.specs.declared.verdict.Clause.TheVariants as clause;
 ghost use Rattle.check_relocs.specs.Fields.{AreRows};
 

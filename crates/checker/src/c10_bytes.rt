@@ -6,7 +6,7 @@ ghost use Rattle.check_link.specs.Views.{placed_view, placed_views};
 ghost use Rattle.check_relocs.specs.Bytes.{EndsBefore, FitsIn, HasFieldsInside, HoldsFields, LiesWhole, WantedFrom, byte_of, covers};
 ghost use Rattle.check_relocs.specs.Fields.{IsBefore};
 ghost use Rattle.checker.specs.Comparing.{AreHeld, AreOwn, IsRowAt};
-ghost use Rattle.elf_model.specs.RightLink.{HoldsBefore};
+ghost use Rattle.elf_model.specs.Image.RightLink.{HoldsBefore};
 ghost use Rattle.elf_model.specs.declared.verdict.Clause.TheVariants as clause;
 
 use crate::bound_link::BoundLink;

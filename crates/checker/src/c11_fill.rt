@@ -1,8 +1,8 @@
 //! C11: whether the image has nothing but the things and their fill, in memory and in the file.
 ghost use Rattle.std.specs.Prelude.{◌≡◌, ◌+◌, ◌<◌, ◌^◌, ◌↔◌, All, IfOk, IsTrue, length, map};
 ghost use Rattle.std.specs.List.Sorted.{IsNonDecreasingBy};
-ghost use Rattle.elf_model.specs.MemoryImage.{file_end, loads};
-ghost use Rattle.elf_model.specs.RightLink.{EndsRight, HasNothingElse, Holds, HoldsBefore, IsFilled, fill_of};
+ghost use Rattle.elf_model.specs.Image.MemoryImage.{file_end, loads};
+ghost use Rattle.elf_model.specs.Image.RightLink.{EndsRight, HasNothingElse, Holds, HoldsBefore, IsFilled, fill_of};
 ghost use Rattle.loader_model.specs.Table.{IsLawful};
 ghost use Rattle.checker.specs.Filled.{HasZeroGaps, SegmentFilled, part_of};
 ghost use Rattle.checker.specs.Sweeps.{EndFits, RegionFilled};

@@ -1,10 +1,10 @@
 //! C12: whether the entry is lawful, and `e_entry` is its value.
 ghost use Rattle.std.specs.Prelude.{◌≡◌, ◌↔◌, IsSomeAnd, IsTrue, option_map};
-ghost use Rattle.elf_model.specs.Meaning.{meaning_value, meant, object_meaning};
-ghost use Rattle.elf_model.specs.Resolution.{IsEntry};
+ghost use Rattle.elf_model.specs.Link.Meaning.{meaning_value, meant, object_meaning};
+ghost use Rattle.elf_model.specs.Link.Resolution.{IsEntry};
 ghost use Rattle.checker.specs.Entering.{Enters};
 ghost use Rattle.check_link.specs.Views.{symbol_view};
-ghost use Rattle.elf_model.specs.RightLink.{Holds};
+ghost use Rattle.elf_model.specs.Image.RightLink.{Holds};
 ghost use Rattle.elf_model.specs.declared.verdict.Clause.TheVariants as clause;
 
 use crate::bound_link::BoundLink;

@@ -3,10 +3,10 @@
 //! definition.
 ghost use Rattle.std.specs.Prelude.{◌≡◌, ◌↔◌, ◌*◌, ◌<◌, ◌≤◌, ◌^◌, ℕ, All, List, IfSome, IsSomeAnd, IsTrue, is_some, length, map, not};
 ghost use Rattle.linkmap.specs.Borrowed.{symbol_row};
-ghost use Rattle.elf_model.specs.MemoryImage.{HasNoSections, loads, file_end};
-ghost use Rattle.elf_model.specs.Records.{file_header};
-ghost use Rattle.elf_model.specs.RightLink.{Holds, HoldsBefore, HoldsTables, objects_of};
-ghost use Rattle.elf_model.specs.SymbolTable.{name_section, tabled};
+ghost use Rattle.elf_model.specs.Image.MemoryImage.{HasNoSections, loads, file_end};
+ghost use Rattle.elf_model.specs.Inputs.Records.{file_header};
+ghost use Rattle.elf_model.specs.Image.RightLink.{Holds, HoldsBefore, HoldsTables, objects_of};
+ghost use Rattle.elf_model.specs.Image.SymbolTable.{name_section, tabled};
 ghost use Rattle.elf_model.specs.declared.verdict.Clause.TheVariants as clause;
 ghost use Rattle.checker.specs.Listed.{IsLine};
 ghost use Rattle.checker.specs.Tabled.{AreTables};

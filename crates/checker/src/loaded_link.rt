@@ -1,7 +1,7 @@
 //! A link whose objects are loaded: what the third clause judges.
 ghost use Rattle.std.specs.Prelude.{◌≡◌, IfOk};
-ghost use Rattle.elf_model.specs.Pieces.{kept_sections};
-ghost use Rattle.elf_model.specs.RightLink.{objects_of};
+ghost use Rattle.elf_model.specs.Link.Pieces.{kept_sections};
+ghost use Rattle.elf_model.specs.Image.RightLink.{objects_of};
 ghost use Rattle.check_link.specs.Views.{piece_views};
 ghost use Rattle.check_load.specs.Numbered.{AreNumbered};
 ghost use Rattle.check_load.specs.Views.{loaded_views};
@@ -21,7 +21,7 @@ pub struct LoadedLink<'o, 'a> {
 }
 
 impl<'o, 'a> Model for LoadedLink<'o, 'a> {
-    ghost use Rattle.elf_model.specs.RightLink.{Subject};
+    ghost use Rattle.elf_model.specs.Image.RightLink.{Subject};
     ghost use Rattle.check_link.specs.Views.{piece_views};
     ghost use Rattle.checker.specs.Links.{IsLoadedLink};
 

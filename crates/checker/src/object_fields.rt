@@ -6,8 +6,8 @@ ghost use Rattle.check_load.specs.Views.{loaded_view};
 ghost use Rattle.check_link.specs.Views.{placed_views};
 ghost use Rattle.check_relocs.specs.Fields.{AreRight};
 ghost use Rattle.checker.specs.Comparing.{AreCompared, IsRowAt};
-ghost use Rattle.elf_model.specs.Relocation.{relocations_from};
-ghost use Rattle.elf_model.specs.RightLink.{Holds, HoldsBefore, objects_of, where_of};
+ghost use Rattle.elf_model.specs.Link.Relocation.{relocations_from};
+ghost use Rattle.elf_model.specs.Image.RightLink.{Holds, HoldsBefore, objects_of, where_of};
 ghost use Rattle.elf_model.specs.declared.verdict.Clause.TheVariants as clause;
 
 use crate::bound_link::BoundLink;

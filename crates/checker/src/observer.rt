@@ -1,6 +1,6 @@
 //! Who sees where a check fails: what was found of the link up to the first clause that fails.
 ghost use Rattle.std.specs.Prelude.{◌≡◌, OnOk};
-ghost use Rattle.elf_model.specs.RightLink.{Holds, HoldsBefore, Subject, objects_of, where_of};
+ghost use Rattle.elf_model.specs.Image.RightLink.{Holds, HoldsBefore, Subject, objects_of, where_of};
 ghost use Rattle.elf_model.specs.declared.verdict.Clause.TheVariants as clause;
 ghost use Rattle.check_load.specs.Views.{loaded_views};
 ghost use Rattle.check_relocs.specs.Fields.{AreRows};

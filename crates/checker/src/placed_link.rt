@@ -1,9 +1,9 @@
 //! A link whose image is mapped, with what its map places in it: what the fifth and the sixth clause judge.
 ghost use Rattle.std.specs.Prelude.{◌≡◌, IfOk, IsPermutation};
 ghost use Rattle.std.specs.List.Sorted.{IsNonDecreasingBy};
-ghost use Rattle.elf_model.specs.Placement.{got_things};
-ghost use Rattle.elf_model.specs.RightLink.{objects_of, placed_of, sections_of, things_of};
-ghost use Rattle.elf_model.specs.Pieces.{kept_sections};
+ghost use Rattle.elf_model.specs.Link.Placement.{got_things};
+ghost use Rattle.elf_model.specs.Image.RightLink.{objects_of, placed_of, sections_of, things_of};
+ghost use Rattle.elf_model.specs.Link.Pieces.{kept_sections};
 ghost use Rattle.check_link.specs.Views.{piece_views, placed_views};
 
 use crate::loaded_link::LoadedLink;
@@ -28,7 +28,7 @@ pub struct PlacedLink<'o, 'a> {
 }
 
 impl<'o, 'a> Model for PlacedLink<'o, 'a> {
-    ghost use Rattle.elf_model.specs.RightLink.{Subject};
+    ghost use Rattle.elf_model.specs.Image.RightLink.{Subject};
     ghost use Rattle.check_link.specs.declared.things.Placed.{Placed};
     ghost use Rattle.checker.specs.Links.{IsPlacedLink};
 

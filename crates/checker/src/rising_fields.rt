@@ -12,8 +12,8 @@ ghost use Rattle.check_relocs.specs.LawfulFields.{IsRelocated};
 ghost use Rattle.check_relocs.specs.Referrers.{object_here, objects_here, relocation_here};
 ghost use Rattle.checker.specs.Comparing.{AreHeld, AreOwn};
 ghost use Rattle.checker.specs.Rising.{AreInOrder, AreMatched, AreRightHere, Follows, HasFields, MatchesOn, fields_of, relocations_of};
-ghost use Rattle.elf_model.specs.Relocation.{relocations_from};
-ghost use Rattle.elf_model.specs.RightLink.{objects_of, where_of};
+ghost use Rattle.elf_model.specs.Link.Relocation.{relocations_from};
+ghost use Rattle.elf_model.specs.Image.RightLink.{objects_of, where_of};
 
 use crate::bound_link::BoundLink;
 use crate::c10_bytes::{has_value_at, same_between};

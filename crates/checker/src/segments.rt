@@ -1,6 +1,6 @@
 //! The segment in which a range of addresses lies, and what the file has for it.
 ghost use Rattle.std.specs.Prelude.{◌≡◌, ◌+◌, ◌≤◌, ◌<◌, ◌↔◌, ◌^◌, ℕ, All, AllPairs, IsTrue, length, slice_index, Contains, IfSome, Some, slice_index_or};
-ghost use Rattle.elf_model.specs.MemoryImage.{Encloses, file_end, segment_byte, loads};
+ghost use Rattle.elf_model.specs.Image.MemoryImage.{Encloses, file_end, segment_byte, loads};
 ghost use Rattle.loader_model.specs.Table.{IsLawful, EndsBefore};
 ghost use Rattle.std.specs.List.Sorted.{IsNonDecreasingBy};
 

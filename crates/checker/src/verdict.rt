@@ -1,7 +1,7 @@
 //! The whole check, from the top: the clauses in their order, each judged where all before it hold.
 ghost use Rattle.std.specs.Prelude.{◌≡◌, ◌↔◌, IfNone, IfOk, IfSome, OnOk};
-ghost use Rattle.elf_model.specs.Files.{files_of, words_of};
-ghost use Rattle.elf_model.specs.RightLink.{Holds, HoldsBefore, IsRightLink, Least};
+ghost use Rattle.elf_model.specs.Inputs.Files.{files_of, words_of};
+ghost use Rattle.elf_model.specs.Image.RightLink.{Holds, HoldsBefore, IsRightLink, Least};
 ghost use Rattle.elf_model.specs.declared.verdict.Clause.{Clause};
 ghost use Rattle.elf_model.specs.declared.verdict.Clause.TheVariants as clause;
 ghost use Rattle.checker.specs.Judged.{Judges};

@@ -1,8 +1,8 @@
 -- Faults of an object's groups.
 use Rattle.std.proofs.Common.{◌≡◌, List, Result, Ok, Err, refl, ap, sym, subst, ◌∙◌}
 use Rattle.std.specs.Prelude.{IfErr}
-use Rattle.elf_model.specs.Groups.{AreLawfulGroups, GroupFaultStands}
-use Rattle.elf_model.specs.ObjectFile.{Group}
+use Rattle.elf_model.specs.Link.Groups.{AreLawfulGroups, GroupFaultStands}
+use Rattle.elf_model.specs.Inputs.ObjectFile.{Group}
 use Rattle.elf_model.specs.declared.faults.GroupFault.{GroupFault}
 use Rattle.elf_model.specs.declared.faults.GroupFault.TheVariants as fault
 

@@ -4,8 +4,8 @@ use Rattle.std.specs.List.{list_any}
 use Rattle.std.specs.Str.{bytes_eq}
 use Rattle.std.proofs.lemmas.List.{map-append}
 use Rattle.indexmap.specs.IndexSet.{insert_key}
-use Rattle.elf_model.specs.Groups.{is_comdat, is_seen, seen_with}
-use Rattle.elf_model.specs.ObjectFile.{Group}
+use Rattle.elf_model.specs.Link.Groups.{is_comdat, is_seen, seen_with}
+use Rattle.elf_model.specs.Inputs.ObjectFile.{Group}
 use Rattle.elf_model.specs.declared.name.Name.{Name}
 use Rattle.comdat.specs.Signatures.{names_of}
 

@@ -1,7 +1,7 @@
 //! The sections that an object loses, as its groups are admitted one by one.
 ghost use Rattle.std.specs.Prelude.{◌≡◌, ◌==◌, ◌<◌, All, IfOk, OnOk};
 ghost use Rattle.std.specs.List.{list_any};
-ghost use Rattle.elf_model.specs.Groups.{dropped, seen_after, seen_with};
+ghost use Rattle.elf_model.specs.Link.Groups.{dropped, seen_after, seen_with};
 ghost use Rattle.comdat.specs.Marks.{marks_after};
 ghost use Rattle.comdat.specs.Signatures.{Begins, names_of};
 

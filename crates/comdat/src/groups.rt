@@ -1,7 +1,7 @@
 //! The COMDAT groups of the objects that were loaded.
 ghost use Rattle.std.specs.Prelude.{◌≡◌, List, [], IfErr, IfOk, OnErr, OnOk};
-ghost use Rattle.elf_model.specs.Groups.{AreDropped, AreLawfulGroups, GroupFaultStands, dropped, seen_after};
-ghost use Rattle.elf_model.specs.ObjectFile.{Group, groups};
+ghost use Rattle.elf_model.specs.Link.Groups.{AreDropped, AreLawfulGroups, GroupFaultStands, dropped, seen_after};
+ghost use Rattle.elf_model.specs.Inputs.ObjectFile.{Group, groups};
 ghost use Rattle.elf_model.specs.declared.faults.GroupFault.TheVariants as fault;
 
 use crate::dropped::{Dropped, admit_groups};

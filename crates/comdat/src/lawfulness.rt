@@ -1,6 +1,6 @@
 //! Which groups of an object are lawful.
 ghost use Rattle.std.specs.Prelude.{◌≡◌, ◌↔◌, ◌<◌, All, AllPairs, IfErr, IfOk, IsTrue, OnOk};
-ghost use Rattle.elf_model.specs.Groups.{AreLawfulGroups, GroupFaultStands, HasKnownFlags, HasNamedSignature, ShareNoSection, is_comdat};
+ghost use Rattle.elf_model.specs.Link.Groups.{AreLawfulGroups, GroupFaultStands, HasKnownFlags, HasNamedSignature, ShareNoSection, is_comdat};
 
 use crate::marks::{are_unmarked, mark};
 use elf_model::{GRP_COMDAT, GroupFault};

@@ -2,8 +2,8 @@
 use Rattle.std.proofs.Common.{◌≡◌, ℕ, ◌+◌, ◌-◌, List, [], ◌∷◌, ◌++◌, Result, Ok, Err, String, map, length, Global, string_bytes, append_assoc, arith, refl, ap, ◌∙◌, sym}
 use Rattle.std.proofs.lemmas.List.{length-map}
 use Rattle.elf_model.specs.declared.faults.CmdFault.{CmdFault}
-use Rattle.elf_model.specs.Files.{words_of}
-use Rattle.elf_model.specs.Command.{Phrase, Said, and_then, phrase_of, split, placed, read_behind, whole_line, command_of}
+use Rattle.elf_model.specs.Inputs.Files.{words_of}
+use Rattle.elf_model.specs.Inputs.Command.{Phrase, Said, and_then, phrase_of, split, placed, read_behind, whole_line, command_of}
 use Rattle.command.specs.RefusedWords.{IsRefusedAt, words_in}
 use Rattle.command.specs.Steps.{State, phrase_at, accept, finish}
 use Rattle.command.proofs.Growth.{state_from, accept_is, finish_is}

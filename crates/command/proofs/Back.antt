@@ -3,7 +3,7 @@ use Rattle.std.proofs.Common.{◌≡◌, ◌≢◌, ◌⊎◌, inl, inr, ℕ, Bo
 use Rattle.std.specs.Option.{option_map_or}
 use Rattle.std.proofs.lemmas.Bool.Decides.{nat_tests, Decides-eqb}
 use Rattle.elf_model.specs.declared.faults.CmdFault.TheVariants.{GroupNesting, NoInput, MissingValue, NotArchiveInGroup, BadNumber}
-use Rattle.elf_model.specs.Command.{Path, Library, Plan, Phrase, Output, Entry, Undefined, Directory, Input, MapFile, Base, GroupStart, GroupEnd, WholeStart, WholeEnd, Check, Strip, NoEffect, Setting, OutputFile, EntrySymbol, UndefinedSymbol, SearchDirectory, LibraryName, Machine, MapPath, TextSegment, and_then, is_empty, setting_of, base_of, meaning, given, of_word, split, is_open, is_archive, placed, read_behind, plan_of_phrases, whole_line, command_of, IsTwoWords, IsOneWord, IsSpelled, IsPhrases, MayFollow, AllFollow, IsCommand}
+use Rattle.elf_model.specs.Inputs.Command.{Path, Library, Plan, Phrase, Output, Entry, Undefined, Directory, Input, MapFile, Base, GroupStart, GroupEnd, WholeStart, WholeEnd, Check, Strip, NoEffect, Setting, OutputFile, EntrySymbol, UndefinedSymbol, SearchDirectory, LibraryName, Machine, MapPath, TextSegment, and_then, is_empty, setting_of, base_of, meaning, given, of_word, split, is_open, is_archive, placed, read_behind, plan_of_phrases, whole_line, command_of, IsTwoWords, IsOneWord, IsSpelled, IsPhrases, MayFollow, AllFollow, IsCommand}
 use Rattle.command.specs.Steps.{with_next, phrase_at}
 use Rattle.command.proofs.Splitting.{read_on, split_is}
 

@@ -6,7 +6,7 @@ use Rattle.std.specs.List.{filter, flat_map}
 use Rattle.std.specs.Str.{bytes_eq}
 use Rattle.std.specs.Cmp.Lexicographic.{nat_list_eq_equiv}
 use Rattle.std.proofs.lemmas.List.Folds.{list_any-append}
-use Rattle.elf_model.specs.Command.{distinct}
+use Rattle.elf_model.specs.Inputs.Command.{distinct}
 use Rattle.command.specs.Candidates.{is_in, with, with_all, HasTexts}
 
 turned : (a b : List ℕ) → bytes_eq a b ≡ bytes_eq b a

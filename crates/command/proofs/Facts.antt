@@ -4,7 +4,7 @@ use Rattle.std.specs.Option.{option_map, option_and_then, option_to_list, unwrap
 use Rattle.std.specs.List.{All, filter_map, cons_option, last_or}
 use Rattle.std.proofs.lemmas.List.Elements.{All-nil, All-cons, All-head, All-tail}
 use Rattle.std.proofs.lemmas.Bool.Decides.{nat_tests}
-use Rattle.elf_model.specs.Command.{Source, Path, Library, Item, Plan, Phrase, Output, Entry, Undefined, Directory, Input, MapFile, Base, address_of, base_of, is_base, IsBase, last_said, source_in, directory_in, undefined_in, entry_in, base_in, output_in, map_in, item_behind, items_behind, text_of, IsSpelled, IsPhrases, IsCommand, IsNamed}
+use Rattle.elf_model.specs.Inputs.Command.{Source, Path, Library, Item, Plan, Phrase, Output, Entry, Undefined, Directory, Input, MapFile, Base, address_of, base_of, is_base, IsBase, last_said, source_in, directory_in, undefined_in, entry_in, base_in, output_in, map_in, item_behind, items_behind, text_of, IsSpelled, IsPhrases, IsCommand, IsNamed}
 
 -- P holds of what each phrase says of a part of the plan
 said_all : {X : Type 0} (says : Phrase → Option X) (P : X → Type 0) → ((ws : List (List ℕ)) (p : Phrase) → IsSpelled ws p → IfSome (says p) P) → (words : List (List ℕ)) (ps : List Phrase) → IsPhrases words ps → All P (filter_map says ps)

@@ -3,7 +3,7 @@ use Rattle.std.proofs.Common.{◌≡◌, ◌≢◌, ℕ, zero, suc, ◌≤◌, B
 use Rattle.std.proofs.lemmas.Bool.{false≢true}
 use Rattle.elf_model.specs.declared.faults.CmdFault.{CmdFault}
 use Rattle.elf_model.specs.declared.faults.CmdFault.TheVariants.{GroupNesting, NoInput, MissingValue, NotArchiveInGroup}
-use Rattle.elf_model.specs.Command.{Plan, Phrase, Input, GroupStart, GroupEnd, and_then, split, is_open, is_archive, placed, read_behind, plan_of_phrases, whole_line, command_of, IsPhrases, MayFollow, AllFollow, IsCommand}
+use Rattle.elf_model.specs.Inputs.Command.{Plan, Phrase, Input, GroupStart, GroupEnd, and_then, split, is_open, is_archive, placed, read_behind, plan_of_phrases, whole_line, command_of, IsPhrases, MayFollow, AllFollow, IsCommand}
 use Rattle.command.specs.Steps.{phrase_at}
 use Rattle.command.proofs.Splitting.{read_on, split_is}
 use Rattle.command.proofs.Spelled.{IsFirst, first_spelled}

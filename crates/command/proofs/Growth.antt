@@ -6,7 +6,7 @@ use Rattle.std.proofs.lemmas.List.Elements.{filter_map-append, filter-append}
 use Rattle.std.proofs.lemmas.Grind.{common_steps}
 use Rattle.elf_model.specs.declared.faults.CmdFault.{CmdFault}
 use Rattle.elf_model.specs.declared.faults.CmdFault.TheVariants.{MissingValue, GroupNesting, NoInput, NotArchiveInGroup}
-use Rattle.elf_model.specs.Command.{Item, Phrase, Input, GroupStart, GroupEnd, and_then, last_said, is_open, open_group, groups_begun, item_behind, items_behind, plan_of_phrases, placed, whole_line, is_archive, source_in, directory_in, undefined_in, entry_in, base_in, output_in, map_in, is_check, is_strip, whole_in, group_in, is_group_start}
+use Rattle.elf_model.specs.Inputs.Command.{Item, Phrase, Input, GroupStart, GroupEnd, and_then, last_said, is_open, open_group, groups_begun, item_behind, items_behind, plan_of_phrases, placed, whole_line, is_archive, source_in, directory_in, undefined_in, entry_in, base_in, output_in, map_in, is_check, is_strip, whole_in, group_in, is_group_start}
 use Rattle.command.specs.Steps.{State, more, item_in, group_after, taken, accept, finish}
 
 -- the state behind some phrases

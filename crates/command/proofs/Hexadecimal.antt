@@ -7,7 +7,7 @@ use Rattle.std.specs.Str.Parse.{AllDigits, IsNumeral, ParsesUnsigned, digits_val
 use Rattle.std.proofs.Math.Nat.{pow-le-pow_right}
 use Rattle.std.proofs.lemmas.Int.Digits.{digits_value-lt}
 use Rattle.std.proofs.lemmas.Str.Parse.{without_leading_plus_none}
-use Rattle.elf_model.specs.Command.{is_hexadecimal, number_of}
+use Rattle.elf_model.specs.Inputs.Command.{is_hexadecimal, number_of}
 
 -- the value of a hexadecimal digit is below 16
 digit : (b : ℕ) → is_ascii_hexdigit b ≡ true → digit_value b < 16

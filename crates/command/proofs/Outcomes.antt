@@ -2,7 +2,7 @@
 use Rattle.std.proofs.Common.{◌≡◌, ◌≢◌, ℕ, List, Result, Ok, Err, IfOk, MatchResult, refl, ◌∙◌, sym}
 use Rattle.elf_model.specs.declared.faults.CmdFault.{CmdFault}
 use Rattle.elf_model.specs.declared.faults.CmdFault.TheVariants.{Memory, UnknownOption, MissingValue, BadNumber, GroupNesting, NoInput, NotArchiveInGroup}
-use Rattle.elf_model.specs.Command.{Plan, command_of, IsRefusal, HasPlan, IsBase, IsNamed}
+use Rattle.elf_model.specs.Inputs.Command.{Plan, command_of, IsRefusal, HasPlan, IsBase, IsNamed}
 use Rattle.command.proofs.Found.{found, same_ok}
 use Rattle.command.proofs.Back.{back}
 use Rattle.command.proofs.Facts.{base_holds, names_hold}

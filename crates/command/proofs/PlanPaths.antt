@@ -2,8 +2,8 @@
 use Rattle.std.proofs.Common.{◌≡◌, ℕ, Bool, List, [], ◌∷◌, ◌++◌, Option, map, refl, ap, ◌∙◌, sym}
 use Rattle.std.specs.Borrow.{Bor}
 use Rattle.std.specs.List.{flat_map}
-use Rattle.elf_model.specs.Command as command
-use Rattle.elf_model.specs.Command.{paths_of, candidates_of}
+use Rattle.elf_model.specs.Inputs.Command as command
+use Rattle.elf_model.specs.Inputs.Command.{paths_of, candidates_of}
 use Rattle.command.specs.declared.items.Item.{Item}
 use Rattle.command.specs.Views.{source_of, item_of, texts_of, plan_of}
 use Rattle.command.specs.Candidates.{with_all}

@@ -2,7 +2,7 @@
 use Rattle.std.proofs.Common.{◌≡◌, ℕ, ◌+◌, cond, List, [], ◌∷◌, ◌++◌, length, Option, Some, None, is_some, Result, Ok, Err, refl, ap, ◌∙◌, sym, subst, arith}
 use Rattle.std.specs.Option.{option_map_or}
 use Rattle.elf_model.specs.declared.faults.CmdFault.{CmdFault}
-use Rattle.elf_model.specs.Command.{Phrase, Plan, Setting, Said, and_then, command_of, of_next, of_word, phrase_of, placed, read_behind, setting_of, split, whole_line}
+use Rattle.elf_model.specs.Inputs.Command.{Phrase, Plan, Setting, Said, and_then, command_of, of_next, of_word, phrase_of, placed, read_behind, setting_of, split, whole_line}
 use Rattle.command.specs.RefusedWords.{AreRefused, IsRefusedAt, words_in, words_of_said}
 use Rattle.command.specs.Steps.{with_next, phrase_at}
 

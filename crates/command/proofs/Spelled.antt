@@ -8,7 +8,7 @@ use Rattle.std.proofs.lemmas.Bool.{false≢true}
 use Rattle.std.proofs.lemmas.Slice.Eq.{bytes_eq-Decides}
 use Rattle.elf_model.specs.declared.faults.CmdFault.{CmdFault}
 use Rattle.elf_model.specs.declared.faults.CmdFault.TheVariants.{MissingValue, UnknownOption, BadNumber}
-use Rattle.elf_model.specs.Command.{Path, Library, Phrase, Output, Entry, Undefined, Directory, Input, MapFile, Base, GroupStart, GroupEnd, WholeStart, WholeEnd, Check, Strip, NoEffect, Setting, OutputFile, EntrySymbol, UndefinedSymbol, SearchDirectory, LibraryName, Machine, MapPath, TextSegment, and_then, is_empty, after, setting_of, joined_of, switch_of, base_of, meaning, given, input, of_word, IsSpelled}
+use Rattle.elf_model.specs.Inputs.Command.{Path, Library, Phrase, Output, Entry, Undefined, Directory, Input, MapFile, Base, GroupStart, GroupEnd, WholeStart, WholeEnd, Check, Strip, NoEffect, Setting, OutputFile, EntrySymbol, UndefinedSymbol, SearchDirectory, LibraryName, Machine, MapPath, TextSegment, and_then, is_empty, after, setting_of, joined_of, switch_of, base_of, meaning, given, input, of_word, IsSpelled}
 use Rattle.command.specs.Steps.{with_next, phrase_at}
 
 -- a choice by a word's text

@@ -2,7 +2,7 @@
 use Rattle.std.proofs.Common.{◌≡◌, ℕ, Bool, true, false, cond, List, [], ◌∷◌, Option, Some, None, is_some, Result, Ok, Err, refl, ◌∙◌}
 use Rattle.std.specs.Option.{option_map_or}
 use Rattle.elf_model.specs.declared.faults.CmdFault.{CmdFault}
-use Rattle.elf_model.specs.Command.{Phrase, Setting, Said, and_then, given, of_next, of_word, setting_of, split, placed, read_behind}
+use Rattle.elf_model.specs.Inputs.Command.{Phrase, Setting, Said, and_then, given, of_next, of_word, setting_of, split, placed, read_behind}
 use Rattle.command.specs.Steps.{with_next, phrase_at}
 
 -- what is read from a phrase and the words behind it

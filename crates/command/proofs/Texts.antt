@@ -7,7 +7,7 @@ use Rattle.std.specs.Str.{IsCharBoundary}
 use Rattle.std.specs.Str.Pattern.{FindsTextPrefix}
 use Rattle.std.proofs.lemmas.Str.Pattern.{starts_text}
 use Rattle.std.proofs.Common.{eqb}
-use Rattle.elf_model.specs.Command.{after}
+use Rattle.elf_model.specs.Inputs.Command.{after}
 
 pub after_is : (text word : List ℕ) (r : Option (Bor (List ℕ))) → MatchOption r (FindsTextPrefix text word None) (λ x. (n : ℕ) × FindsTextPrefix text word (Some n) × (x.now ≡ drop n word) × (length x.now + n ≡ length word)) → option_copied r ≡ after text word
 after_is text word None h =

@@ -1,5 +1,5 @@
 -- Options and phrases as clauses see them.
-use Rattle.elf_model.specs.Command as command
+use Rattle.elf_model.specs.Inputs.Command as command
 use Rattle.command.specs.declared.phrases.Setting.{Setting}
 use Rattle.command.specs.declared.phrases.Setting.TheVariants as setting
 use Rattle.command.specs.declared.phrases.Phrase.{Phrase}

@@ -1,5 +1,5 @@
 -- A plan so far and its place, as clauses see them.
-use Rattle.elf_model.specs.Command.{Plan}
+use Rattle.elf_model.specs.Inputs.Command.{Plan}
 use Rattle.command.specs.declared.plan_reader.Place.{Place}
 use Rattle.command.specs.Steps.{State}
 

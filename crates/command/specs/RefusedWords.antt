@@ -1,6 +1,6 @@
 -- The word at which a command is refused.
 use Rattle.std.specs.Prelude.{◌≡◌, ℕ, ◌+◌, if◌then◌else◌, List, [], ◌∷◌, ◌++◌, Option, Some, None, is_some, Ok, Err}
-use Rattle.elf_model.specs.Command.{Phrase, Said, and_then, phrase_of, placed, read_behind, split, whole_line}
+use Rattle.elf_model.specs.Inputs.Command.{Phrase, Said, and_then, phrase_of, placed, read_behind, split, whole_line}
 use Rattle.elf_model.specs.declared.faults.CmdFault.{CmdFault}
 
 -- how many words a phrase has, and phrases have

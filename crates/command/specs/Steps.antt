@@ -1,7 +1,7 @@
 -- The first phrase of some words, as the code takes it off.
 use Rattle.std.specs.Prelude.{◌≡◌, ◌≢◌, ℕ, ◌+◌, Bool, not, ◌&&◌, ◌||◌, ◌==◌, if◌then◌else◌, List, [], ◌∷◌, ◌++◌, length, Option, Some, None, is_some, Result, Ok, Err}
 use Rattle.std.specs.Option.{option_map, option_map_or, option_or, unwrap_or}
-use Rattle.elf_model.specs.Command.{Source, Item, Plan, Phrase, Input, GroupStart, GroupEnd, Setting, and_then, given, of_word, setting_of, is_archive, source_in, directory_in, undefined_in, entry_in, base_in, output_in, map_in, is_check, is_strip, whole_in, is_group_start}
+use Rattle.elf_model.specs.Inputs.Command.{Source, Item, Plan, Phrase, Input, GroupStart, GroupEnd, Setting, and_then, given, of_word, setting_of, is_archive, source_in, directory_in, undefined_in, entry_in, base_in, output_in, map_in, is_check, is_strip, whole_in, is_group_start}
 use Rattle.elf_model.specs.declared.faults.CmdFault.{CmdFault}
 use Rattle.elf_model.specs.declared.faults.CmdFault.TheVariants.{Memory, MissingValue, GroupNesting, NoInput, NotArchiveInGroup}
 

@@ -2,7 +2,7 @@
 use Rattle.std.specs.Prelude.{ℕ, Bool, List, map, Option}
 use Rattle.std.specs.Borrow.{Bor}
 use Rattle.std.specs.Option.{option_copied}
-use Rattle.elf_model.specs.Command as command
+use Rattle.elf_model.specs.Inputs.Command as command
 use Rattle.command.specs.declared.items.Source.{Source}
 use Rattle.command.specs.declared.items.Source.TheVariants as source
 use Rattle.command.specs.declared.items.Item.{Item}

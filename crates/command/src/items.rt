@@ -45,7 +45,7 @@ pub struct Plan<'a> {
 }
 
 impl<'a> Model for Plan<'a> {
-    ghost use Rattle.elf_model.specs.Command as command;
+    ghost use Rattle.elf_model.specs.Inputs.Command as command;
     ghost use Rattle.command.specs.Views.{plan_of};
 
     ghost Value = { command.Plan };

@@ -1,8 +1,8 @@
 //! The files that a plan may read.
 ghost use Rattle.std.specs.Prelude.{◌≡◌, [], map, drop, ◌++◌, codes, IfOk, OnOk, IfErr, string_bytes};
 ghost use Rattle.std.specs.List.{flat_map};
-ghost use Rattle.elf_model.specs.Command.{library_paths, paths_of, candidates_of};
-ghost use Rattle.elf_model.specs.Files.{words_of};
+ghost use Rattle.elf_model.specs.Inputs.Command.{library_paths, paths_of, candidates_of};
+ghost use Rattle.elf_model.specs.Inputs.Files.{words_of};
 ghost use Rattle.command.specs.Views.{source_of, item_of, texts_of};
 ghost use Rattle.command.specs.Candidates.{with, with_all};
 
@@ -22,7 +22,7 @@ struct Found {
 impl Model for Found {
     ghost use Rattle.std.specs.Prelude.{List, ℕ};
     ghost use Rattle.command.specs.Candidates.{HasTexts};
-    ghost use Rattle.elf_model.specs.Files.{words_of};
+    ghost use Rattle.elf_model.specs.Inputs.Files.{words_of};
 
     ghost Value = { List (List ℕ) };
 

@@ -3,8 +3,8 @@ ghost use Rattle.std.specs.Prelude.{◌≡◌, ◌≤◌, length, IfOk, MatchRes
 ghost use Rattle.std.specs.Option.{option_copied, option_map};
 ghost use Rattle.std.specs.Char.{is_ascii_hexdigit};
 ghost use Rattle.std.specs.List.{list_all};
-ghost use Rattle.elf_model.specs.Command.{after, setting_of, joined_of, switch_of, is_hexadecimal, number_of, base_of, meaning, given, input, of_word};
-ghost use Rattle.elf_model.specs.Files.{words_of};
+ghost use Rattle.elf_model.specs.Inputs.Command.{after, setting_of, joined_of, switch_of, is_hexadecimal, number_of, base_of, meaning, given, input, of_word};
+ghost use Rattle.elf_model.specs.Inputs.Files.{words_of};
 ghost use Rattle.command.specs.PhraseViews.{option_of, said_of};
 ghost use Rattle.command.specs.Steps.{phrase_at};
 

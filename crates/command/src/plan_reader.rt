@@ -2,9 +2,9 @@
 ghost use Rattle.std.specs.Prelude.{◌≡◌, ◌≢◌, ◌+◌, ◌<◌, ◌≤◌, ◌^◌, MatchResult, IfErr, OnOk, Ok, Err};
 ghost use Rattle.std.specs.Prelude.{nat_eq, codes, [], IfOk, List};
 ghost use Rattle.std.specs.List.{ends_with};
-ghost use Rattle.elf_model.specs.Command as command;
-ghost use Rattle.elf_model.specs.Command.{is_archive, plan_of_phrases, command_of, read_behind, split, IsRefusal, HasPlan, IsBase, IsNamed};
-ghost use Rattle.elf_model.specs.Files.{words_of};
+ghost use Rattle.elf_model.specs.Inputs.Command as command;
+ghost use Rattle.elf_model.specs.Inputs.Command.{is_archive, plan_of_phrases, command_of, read_behind, split, IsRefusal, HasPlan, IsBase, IsNamed};
+ghost use Rattle.elf_model.specs.Inputs.Files.{words_of};
 ghost use Rattle.command.specs.Views.{source_of, item_of};
 ghost use Rattle.command.specs.PhraseViews.{said_of};
 ghost use Rattle.command.specs.PlaceViews.{state_of};

@@ -8,9 +8,9 @@ use Rattle.std.specs.BTreeMap.{get}
 use Rattle.std.specs.List.{flat_map, range_with_len, slice_get}
 use Rattle.std.specs.Option.{is_some, option_and_then, option_or}
 use Rattle.std.specs.Ordering.{nat_cmp}
-use Rattle.elf_model.specs.Loading.{LoadedObject, is_dropped}
-use Rattle.elf_model.specs.ObjectFile.{sections}
-use Rattle.elf_model.specs.Placement.{Placed}
+use Rattle.elf_model.specs.Link.Loading.{LoadedObject, is_dropped}
+use Rattle.elf_model.specs.Inputs.ObjectFile.{sections}
+use Rattle.elf_model.specs.Link.Placement.{Placed}
 use Rattle.elf_model.specs.declared.records.Rela.{Rela}
 use Rattle.debug_image.specs.DataIndexes.{AreAll, AreIndexes, AreOffsets, AreRelas, DataIndex, IsIndex, listed_entries, offset_at, relas_in}
 use Rattle.debug_image.specs.DebugSections.{debug_offset, header_in, is_numbered, offset_in_row}

@@ -5,9 +5,9 @@ use Rattle.std.proofs.lemmas.List.{at_drop_more, drop_all, map-append, take-appe
 use Rattle.std.proofs.lemmas.Grind.{drop-set_at}
 use Rattle.std.proofs.lemmas.List.Elements.{All-append, All-cons, All-head, All-nil, All-tail}
 use Rattle.elf_model.proofs.Listed.{All-parts, All-unmap}
-use Rattle.elf_model.specs.Loading.{LoadedObject}
-use Rattle.elf_model.specs.Pieces.{Piece}
-use Rattle.elf_model.specs.Placement.{Placed}
+use Rattle.elf_model.specs.Link.Loading.{LoadedObject}
+use Rattle.elf_model.specs.Link.Pieces.{Piece}
+use Rattle.elf_model.specs.Link.Placement.{Placed}
 use Rattle.layout.specs.Views.{piece_view, piece_views}
 use Rattle.layout.specs.declared.pieces.Piece as code_piece
 use Rattle.search.specs.Views.{loaded_view, loaded_views}

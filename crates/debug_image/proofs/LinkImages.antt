@@ -3,11 +3,11 @@ use Rattle.std.proofs.Common.{◌≡◌, ℕ, ◌+◌, ◌-◌, ◌^◌, ◌<◌
 use Rattle.std.specs.Prelude.{None, Option, Some}
 use Rattle.std.specs.List.{range_with_len}
 use Rattle.std.proofs.lemmas.List.{append-nil, length-append}
-use Rattle.elf_model.specs.ImageFile.{HeaderFields, fields_without, header_bytes, image_file, own_byte, own_end, own_entry, own_fields, own_file_header, own_tables}
-use Rattle.elf_model.specs.Loading.{LoadedObject}
-use Rattle.elf_model.specs.Meaning.{Meaning}
-use Rattle.elf_model.specs.OwnLayout.{header_count, own_headers_size}
-use Rattle.elf_model.specs.Records.{file_header, file_header_bytes}
+use Rattle.elf_model.specs.Own.ImageFile.{HeaderFields, fields_without, header_bytes, image_file, own_byte, own_end, own_entry, own_fields, own_file_header, own_tables}
+use Rattle.elf_model.specs.Link.Loading.{LoadedObject}
+use Rattle.elf_model.specs.Link.Meaning.{Meaning}
+use Rattle.elf_model.specs.Own.OwnLayout.{header_count, own_headers_size}
+use Rattle.elf_model.specs.Inputs.Records.{file_header, file_header_bytes}
 use Rattle.elf_model.specs.declared.records.FileHeader.{FileHeader}
 use Rattle.image_write.specs.Linkages.{AreParts, Linked, loaded_of, own_image}
 use Rattle.image_write.specs.Listings.{in_order, table_in}

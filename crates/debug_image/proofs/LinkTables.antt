@@ -1,9 +1,9 @@
 -- The tables of a link are those of its sections and of its symbols.
 use Rattle.std.proofs.Common.{◌≡◌, ◌≤◌, ◌+◌, ◌∙◌, ℕ, Bool, List, ap, arith, length, sym}
 use Rattle.std.proofs.lemmas.List.{length-map}
-use Rattle.elf_model.specs.ImageFile.{own_end}
-use Rattle.elf_model.specs.Loading.{LoadedObject}
-use Rattle.elf_model.specs.Meaning.{Meaning}
+use Rattle.elf_model.specs.Own.ImageFile.{own_end}
+use Rattle.elf_model.specs.Link.Loading.{LoadedObject}
+use Rattle.elf_model.specs.Link.Meaning.{Meaning}
 use Rattle.debug_image.specs.DebugImage.{laid_of, locals_of, rows_of, sections_in, tables_from, tables_with}
 use Rattle.debug_image.specs.DebugSections.{Joined, most_names}
 use Rattle.debug_image.specs.DebugViews.{joined_view, joined_views}

@@ -8,14 +8,14 @@ use Rattle.std.proofs.lemmas.List.{length-append}
 use Rattle.std.proofs.lemmas.List.Elements.{Contains-append_left}
 use Rattle.std.proofs.lemmas.List.FromFn.{length-map-range_with_len}
 use Rattle.byteview.specs.Numbers.{part}
-use Rattle.elf_model.specs.Command.{IsBase}
-use Rattle.elf_model.specs.ImageFile.{HeaderFields, fields_without, header_bytes, own_byte, own_end, own_file_header, own_program_headers, piece_byte}
-use Rattle.elf_model.specs.Loading.{AreObjects, LoadedObject}
-use Rattle.elf_model.specs.MemoryImage.{file_end, headers_size, loads, loads_in, program_headers}
-use Rattle.elf_model.specs.OwnLayout.{IsNotTooLarge, code_pieces, count_if, data_pieces, has_thread_pieces, header_count, is_nonempty, own_headers_size, own_loaded, own_segments, own_thread_rest, own_where, placed_has_bytes}
-use Rattle.elf_model.specs.Pieces.{AreLawfulKinds}
-use Rattle.elf_model.specs.Placement.{Placed}
-use Rattle.elf_model.specs.Records.{FitsFileHeader, file_header, file_header_bytes, program_header, program_header_bytes}
+use Rattle.elf_model.specs.Inputs.Command.{IsBase}
+use Rattle.elf_model.specs.Own.ImageFile.{HeaderFields, fields_without, header_bytes, own_byte, own_end, own_file_header, own_program_headers, piece_byte}
+use Rattle.elf_model.specs.Link.Loading.{AreObjects, LoadedObject}
+use Rattle.elf_model.specs.Image.MemoryImage.{file_end, headers_size, loads, loads_in, program_headers}
+use Rattle.elf_model.specs.Own.OwnLayout.{IsNotTooLarge, code_pieces, count_if, data_pieces, has_thread_pieces, header_count, is_nonempty, own_headers_size, own_loaded, own_segments, own_thread_rest, own_where, placed_has_bytes}
+use Rattle.elf_model.specs.Link.Pieces.{AreLawfulKinds}
+use Rattle.elf_model.specs.Link.Placement.{Placed}
+use Rattle.elf_model.specs.Inputs.Records.{FitsFileHeader, file_header, file_header_bytes, program_header, program_header_bytes}
 use Rattle.elf_model.specs.declared.records.FileHeader.{FileHeader}
 use Rattle.elf_model.specs.declared.records.ProgramHeader.{ProgramHeader}
 use Rattle.elf_model.proofs.Places.{AreOwnPlaced, are_own_placed}

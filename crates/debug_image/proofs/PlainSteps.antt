@@ -4,8 +4,8 @@ use Rattle.std.specs.Prelude.{max, min, nat_le, nat_lt}
 use Rattle.std.specs.List.{range_with_len}
 use Rattle.std.proofs.lemmas.Bool.{le-leb}
 use Rattle.std.proofs.lemmas.List.{drop_all, length-take, take_min}
-use Rattle.elf_model.specs.MemoryImage.{file_end, headers_size, is_load, loads, loads_in}
-use Rattle.elf_model.specs.Records.{file_header, file_header_bytes}
+use Rattle.elf_model.specs.Image.MemoryImage.{file_end, headers_size, is_load, loads, loads_in}
+use Rattle.elf_model.specs.Inputs.Records.{file_header, file_header_bytes}
 use Rattle.elf_model.specs.declared.records.FileHeader.{FileHeader}
 use Rattle.elf_model.specs.declared.records.ProgramHeader.{ProgramHeader}
 use Rattle.debug_image.specs.PlainImages.{cleared, end_with, plain_of}

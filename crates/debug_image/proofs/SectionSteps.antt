@@ -4,7 +4,7 @@ use Rattle.std.specs.Prelude.{All}
 use Rattle.std.proofs.lemmas.List.{at_drop_more, drop-map}
 use Rattle.std.proofs.lemmas.List.Elements.{All-drop}
 use Rattle.elf_model.proofs.Listed.{All-unmap}
-use Rattle.elf_model.specs.OwnLayout.{placed_end}
+use Rattle.elf_model.specs.Own.OwnLayout.{placed_end}
 use Rattle.layout.specs.PlaceViews.{place_view, place_views}
 use Rattle.layout.specs.declared.runs.Place.{Place}
 use Rattle.debug_image.specs.Sections.{Section, sections_from}

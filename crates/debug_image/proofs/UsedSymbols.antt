@@ -1,10 +1,10 @@
 -- What an entry uses whose symbol is LOCAL and defined.
 use Rattle.std.proofs.Common.{◌≡◌, ◌≢◌, ◌∙◌, Bool, cond, List, None, Some, ap, eq-eqb}
 use Rattle.std.proofs.lemmas.Bool.{ne_eqb}
-use Rattle.elf_model.specs.Loading.{LoadedObject}
-use Rattle.elf_model.specs.Meaning.{Symbol, meaning}
-use Rattle.elf_model.specs.Relocation.{definition_of}
-use Rattle.elf_model.specs.Resolution.{SymbolOf, binding, is_undefined}
+use Rattle.elf_model.specs.Link.Loading.{LoadedObject}
+use Rattle.elf_model.specs.Link.Meaning.{Symbol, meaning}
+use Rattle.elf_model.specs.Link.Relocation.{definition_of}
+use Rattle.elf_model.specs.Link.Resolution.{SymbolOf, binding, is_undefined}
 use Rattle.elf_model.specs.declared.constants.TheConstants.{SHN_UNDEF, STB_LOCAL}
 
 pub local_used :

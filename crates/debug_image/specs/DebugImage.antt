@@ -1,10 +1,10 @@
 -- A debuggable image: the image of a link up to the end of its last file part, with the tables that tools ask for behind that.
 use Rattle.std.specs.Prelude.{ℕ, ◌+◌, Bool, cond, List, [], ◌++◌, length}
-use Rattle.elf_model.specs.ImageFile.{own_end, own_entry}
-use Rattle.elf_model.specs.Loading.{LoadedObject}
-use Rattle.elf_model.specs.Meaning.{Meaning}
-use Rattle.elf_model.specs.OwnLayout.{own_placed}
-use Rattle.elf_model.specs.Placement.{Placed}
+use Rattle.elf_model.specs.Own.ImageFile.{own_end, own_entry}
+use Rattle.elf_model.specs.Link.Loading.{LoadedObject}
+use Rattle.elf_model.specs.Link.Meaning.{Meaning}
+use Rattle.elf_model.specs.Own.OwnLayout.{own_placed}
+use Rattle.elf_model.specs.Link.Placement.{Placed}
 use Rattle.image_write.specs.Linkages.{Linked}
 use Rattle.image_write.specs.Parts.{file_parts}
 use Rattle.debug_image.specs.DebugSections.{AreFew, Chunk, Joined, chunks_of, data_end, debug_rows, joined_of, joined_rows}

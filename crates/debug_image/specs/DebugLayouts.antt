@@ -2,13 +2,13 @@
 use Rattle.std.specs.Prelude.{◌≡◌, ◌%◌, ◌^◌, Some, option_map, unwrap_or}
 use Rattle.std.specs.List.{slice_get}
 use Rattle.std.specs.Option.{option_and_then}
-use Rattle.elf_model.specs.Loading.{LoadedObject}
-use Rattle.elf_model.specs.Pieces.{AreLawfulKinds}
-use Rattle.elf_model.specs.Placement.{Placed, got_start}
-use Rattle.elf_model.specs.Meaning.{meaning_size}
-use Rattle.elf_model.specs.Relocation.{Relocation, definition_of, relocation_of}
-use Rattle.elf_model.specs.Resolution.{SymbolOf}
-use Rattle.elf_model.specs.Slots.{slots}
+use Rattle.elf_model.specs.Link.Loading.{LoadedObject}
+use Rattle.elf_model.specs.Link.Pieces.{AreLawfulKinds}
+use Rattle.elf_model.specs.Link.Placement.{Placed, got_start}
+use Rattle.elf_model.specs.Link.Meaning.{meaning_size}
+use Rattle.elf_model.specs.Link.Relocation.{Relocation, definition_of, relocation_of}
+use Rattle.elf_model.specs.Link.Resolution.{SymbolOf}
+use Rattle.elf_model.specs.Link.Slots.{slots}
 use Rattle.elf_model.specs.declared.records.Rela.{Rela}
 use Rattle.layout.specs.PlaceViews.{place_view}
 use Rattle.layout.specs.Placements.{Basis}

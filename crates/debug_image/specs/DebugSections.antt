@@ -4,10 +4,10 @@ use Rattle.std.specs.Prelude.{◌≤◌, ℕ, ◌+◌, ◌-◌, ◌^◌, ◌==�
 use Rattle.std.specs.List.{filter_map, range_with_len, slice_get, starts_with}
 use Rattle.std.specs.Option.{option_and_then}
 use Rattle.std.specs.Str.{bytes_eq}
-use Rattle.elf_model.specs.Loading.{LoadedObject, is_dropped}
-use Rattle.elf_model.specs.ObjectFile.{section, section_name, sections}
-use Rattle.elf_model.specs.Pieces.{Piece, has_flag, is_alloc}
-use Rattle.elf_model.specs.Placement.{Placed, round_up}
+use Rattle.elf_model.specs.Link.Loading.{LoadedObject, is_dropped}
+use Rattle.elf_model.specs.Inputs.ObjectFile.{section, section_name, sections}
+use Rattle.elf_model.specs.Link.Pieces.{Piece, has_flag, is_alloc}
+use Rattle.elf_model.specs.Link.Placement.{Placed, round_up}
 use Rattle.elf_model.specs.declared.constants.TheConstants.{SHT_PROGBITS}
 use Rattle.elf_model.specs.declared.records.SectionHeader.{SectionHeader}
 use Rattle.debug_image.specs.Symbols.{piece_in}

@@ -5,16 +5,16 @@ use Rattle.std.specs.List.{filter_map, flat_map, list_any, range_with_len, slice
 use Rattle.std.specs.Option.{is_none, option_and_then, option_map_or, option_or}
 use Rattle.std.specs.Str.{bytes_eq}
 use Rattle.byteview.specs.Numbers.{le_bytes}
-use Rattle.elf_model.specs.LinkerValues.{bound_value}
-use Rattle.elf_model.specs.Loading.{LoadedObject, is_dropped}
-use Rattle.elf_model.specs.Meaning.{Common, Linker, Meaning, Symbol}
-use Rattle.elf_model.specs.ObjectFile.{rela_type, relas}
-use Rattle.elf_model.specs.OwnLayout.{own_in_load_order, own_where}
-use Rattle.elf_model.specs.Placement.{Placed, Where, is_of_section}
-use Rattle.elf_model.specs.Relocation.{Always, Either, Kind, Range, Relocation, S+A-P, Signed, Terms, Unsigned, definition_of, is_some_kind, kind, kind_of, modulo_64, relocation_of, whole_value}
-use Rattle.elf_model.specs.RelocationValues as plain
-use Rattle.elf_model.specs.Resolution.{SymbolOf, is_absolute}
-use Rattle.elf_model.specs.ThreadStorage.{block_in, thread_offset}
+use Rattle.elf_model.specs.Link.LinkerValues.{bound_value}
+use Rattle.elf_model.specs.Link.Loading.{LoadedObject, is_dropped}
+use Rattle.elf_model.specs.Link.Meaning.{Common, Linker, Meaning, Symbol}
+use Rattle.elf_model.specs.Inputs.ObjectFile.{rela_type, relas}
+use Rattle.elf_model.specs.Own.OwnLayout.{own_in_load_order, own_where}
+use Rattle.elf_model.specs.Link.Placement.{Placed, Where, is_of_section}
+use Rattle.elf_model.specs.Link.Relocation.{Always, Either, Kind, Range, Relocation, S+A-P, Signed, Terms, Unsigned, definition_of, is_some_kind, kind, kind_of, modulo_64, relocation_of, whole_value}
+use Rattle.elf_model.specs.Link.RelocationValues as plain
+use Rattle.elf_model.specs.Link.Resolution.{SymbolOf, is_absolute}
+use Rattle.elf_model.specs.Link.ThreadStorage.{block_in, thread_offset}
 use Rattle.elf_model.specs.declared.records.Rela.{Rela}
 use Rattle.debug_image.specs.DebugSections.{Chunk, debug_offset, header_in, numbers}
 use Rattle.debug_image.specs.Symbols.{thread_start_of}

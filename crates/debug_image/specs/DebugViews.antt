@@ -1,7 +1,7 @@
 -- Debug data as the definitions see them.
 use Rattle.std.specs.Prelude.{List, map}
 use Rattle.std.specs.Global.{Vec}
-use Rattle.elf_model.specs.Placement.{Placed}
+use Rattle.elf_model.specs.Link.Placement.{Placed}
 use Rattle.layout.specs.PlaceViews.{place_view, place_views}
 use Rattle.layout.specs.declared.runs.Place.{Place}
 use Rattle.debug_image.specs.DebugSections as sections

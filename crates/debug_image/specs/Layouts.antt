@@ -1,6 +1,6 @@
 -- What a layout as the code has it is of.
 use Rattle.std.specs.Prelude.{◌≡◌, length}
-use Rattle.elf_model.specs.Pieces.{AreLawfulKinds}
+use Rattle.elf_model.specs.Link.Pieces.{AreLawfulKinds}
 use Rattle.layout.specs.Placements.{Basis}
 use Rattle.search.specs.Views.{loaded_views}
 use Rattle.debug_image.specs.SectionNumbers.{AreNumbers}

@@ -1,8 +1,8 @@
 -- The fields of a file header that speak of section headers; and the image that a debuggable image begins with: its bytes up to the end of the last file part, in whose file header the three
 -- fields that speak of section headers are 0.
 use Rattle.std.specs.Prelude.{ℕ, ◌+◌, ◌&&◌, cond, List, ◌++◌, drop, length, max, min, nat_le, nat_lt, take}
-use Rattle.elf_model.specs.MemoryImage.{file_end, headers_size, is_load, loads}
-use Rattle.elf_model.specs.Records.{file_header, file_header_bytes}
+use Rattle.elf_model.specs.Image.MemoryImage.{file_end, headers_size, is_load, loads}
+use Rattle.elf_model.specs.Inputs.Records.{file_header, file_header_bytes}
 use Rattle.elf_model.specs.declared.records.FileHeader.{FileHeader}
 use Rattle.elf_model.specs.declared.records.ProgramHeader.{ProgramHeader}
 

@@ -1,7 +1,7 @@
 -- Debug data that are left out of an image.
 use Rattle.std.specs.Prelude.{ℕ, ◌+◌, cond, List, [], ◌∷◌, ◌++◌, Option, None, Some}
 use Rattle.std.specs.List.{filter_map}
-use Rattle.elf_model.specs.Loading.{LoadedObject}
+use Rattle.elf_model.specs.Link.Loading.{LoadedObject}
 use Rattle.elf_model.specs.declared.references.SectionRef.{SectionRef}
 use Rattle.debug_image.specs.DebugSections.{is_compressed, numbers}
 

@@ -1,7 +1,7 @@
 -- The numbers of an image's sections as they are looked up.
 use Rattle.std.specs.Prelude.{◌≡◌, ◌<◌, ℕ, List}
 use Rattle.indexmap.specs.IndexMap.{IndexMap, get}
-use Rattle.elf_model.specs.Pieces.{Piece}
+use Rattle.elf_model.specs.Link.Pieces.{Piece}
 use Rattle.resolve.specs.OutputSections.{output_of, output_view}
 use Rattle.resolve.specs.declared.output_sections.OutputSection.{OutputSection}
 use Rattle.resolve.proofs.OutputKeys.{key_eq}

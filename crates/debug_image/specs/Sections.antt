@@ -3,9 +3,9 @@
 use Rattle.std.specs.Prelude.{ℕ, ◌-◌, ◌==◌, ◌&&◌, Bool, cond, List, [], ◌∷◌, Option, bit_and, codes, map, max, nat_le, nat_lt, ◌%◌, min}
 use Rattle.std.specs.List.{position_from}
 use Rattle.std.specs.Str.{bytes_eq}
-use Rattle.elf_model.specs.OwnLayout.{placed_end}
-use Rattle.elf_model.specs.Pieces.{Piece, is_executable, is_nobits, is_thread_local, is_writable, output_name, same_bool}
-use Rattle.elf_model.specs.Placement.{Placed}
+use Rattle.elf_model.specs.Own.OwnLayout.{placed_end}
+use Rattle.elf_model.specs.Link.Pieces.{Piece, is_executable, is_nobits, is_thread_local, is_writable, output_name, same_bool}
+use Rattle.elf_model.specs.Link.Placement.{Placed}
 use Rattle.elf_model.specs.declared.records.SectionHeader.{SectionHeader}
 use Rattle.debug_image.specs.Tables.{HeaderRow}
 

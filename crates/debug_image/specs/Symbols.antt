@@ -2,16 +2,16 @@
 use Rattle.std.specs.Prelude.{ℕ, ◌+◌, ◌-◌, ◌*◌, ◌%◌, ◌^◌, ◌==◌, ◌&&◌, ◌||◌, Bool, not, cond, List, Option, None, Some, codes, find, length, nat_eq, nat_lt, option_map}
 use Rattle.std.specs.List.{filter_map, slice_get, starts_with}
 use Rattle.std.specs.Option.{option_and_then, option_map_or}
-use Rattle.elf_model.specs.Commons.{Block}
-use Rattle.elf_model.specs.LinkerValues.{bound_value}
-use Rattle.elf_model.specs.Meaning.{Common, Linker, Meaning, Symbol}
-use Rattle.elf_model.specs.ObjectFile.{section, sections}
-use Rattle.elf_model.specs.OwnLayout.{own_in_load_order, own_placed, own_where}
-use Rattle.elf_model.specs.Loading.{LoadedObject}
-use Rattle.elf_model.specs.Pieces.{Piece, is_thread_local, piece_of}
-use Rattle.elf_model.specs.Placement.{is_of_section}
-use Rattle.elf_model.specs.Resolution.{SymbolOf, all_symbols, binding, is_absolute, symbol_type}
-use Rattle.elf_model.specs.ThreadStorage.{thread_block}
+use Rattle.elf_model.specs.Link.Commons.{Block}
+use Rattle.elf_model.specs.Link.LinkerValues.{bound_value}
+use Rattle.elf_model.specs.Link.Meaning.{Common, Linker, Meaning, Symbol}
+use Rattle.elf_model.specs.Inputs.ObjectFile.{section, sections}
+use Rattle.elf_model.specs.Own.OwnLayout.{own_in_load_order, own_placed, own_where}
+use Rattle.elf_model.specs.Link.Loading.{LoadedObject}
+use Rattle.elf_model.specs.Link.Pieces.{Piece, is_thread_local, piece_of}
+use Rattle.elf_model.specs.Link.Placement.{is_of_section}
+use Rattle.elf_model.specs.Link.Resolution.{SymbolOf, all_symbols, binding, is_absolute, symbol_type}
+use Rattle.elf_model.specs.Link.ThreadStorage.{thread_block}
 use Rattle.elf_model.specs.declared.constants.TheConstants.{SHN_ABS, STB_GLOBAL, STB_LOCAL, STT_FILE, STT_NOTYPE, STT_OBJECT, STT_SECTION}
 use Rattle.elf_model.specs.declared.records.Symbol as entry
 use Rattle.debug_image.specs.Sections.{Section, blocks_number, section_number}

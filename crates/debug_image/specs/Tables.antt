@@ -2,11 +2,11 @@
 -- gABI 4, "Sections", "String Table", "Symbol Table"; the order and the places are the profile's).
 use Rattle.std.specs.Prelude.{ℕ, ◌+◌, ◌-◌, ◌%◌, ◌^◌, ◌<◌, List, [], ◌∷◌, ◌++◌, codes, length, replicate}
 use Rattle.std.specs.List.{flat_map}
-use Rattle.elf_model.specs.ImageFile.{HeaderFields}
-use Rattle.elf_model.specs.ObjectFile.{null_section, null_symbol}
-use Rattle.elf_model.specs.Placement.{round_up}
-use Rattle.elf_model.specs.Records.{section_header_bytes, symbol_bytes}
-use Rattle.elf_model.specs.SymbolTable.{ended, strings_header}
+use Rattle.elf_model.specs.Own.ImageFile.{HeaderFields}
+use Rattle.elf_model.specs.Inputs.ObjectFile.{null_section, null_symbol}
+use Rattle.elf_model.specs.Link.Placement.{round_up}
+use Rattle.elf_model.specs.Inputs.Records.{section_header_bytes, symbol_bytes}
+use Rattle.elf_model.specs.Image.SymbolTable.{ended, strings_header}
 use Rattle.elf_model.specs.declared.records.SectionHeader.{SectionHeader}
 use Rattle.elf_model.specs.declared.records.Symbol as entry
 use Rattle.image_write.specs.Tables.{symbols_header}

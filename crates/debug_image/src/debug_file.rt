@@ -1,9 +1,9 @@
 //! The file of a debuggable image.
 ghost use Rattle.std.specs.Prelude.{◌≡◌, ◌≤◌, ◌<◌, ◌^◌, ◌%◌, ◌++◌, ℕ, All, List, true, IfErr, IfOk, OnOk, cond, drop, length};
-ghost use Rattle.elf_model.specs.ImageFile.{own_end, own_entry};
-ghost use Rattle.elf_model.specs.Records.{file_header, file_header_bytes};
+ghost use Rattle.elf_model.specs.Own.ImageFile.{own_end, own_entry};
+ghost use Rattle.elf_model.specs.Inputs.Records.{file_header, file_header_bytes};
 ghost use Rattle.image_write.specs.Linkages.{own_image};
-ghost use Rattle.elf_model.specs.Placement as placements;
+ghost use Rattle.elf_model.specs.Link.Placement as placements;
 ghost use Rattle.relocate.specs.Values.{where_in};
 ghost use Rattle.resolve.specs.Views.{meaning_views};
 ghost use Rattle.search.specs.Views.{loaded_views};

@@ -1,7 +1,7 @@
 //! The section headers and the bytes of .shstrtab.
 ghost use Rattle.std.specs.Prelude.{◌≡◌, ◌++◌, ◌∷◌, IfOk, OnOk, length};
-ghost use Rattle.elf_model.specs.Records.{section_header_bytes};
-ghost use Rattle.elf_model.specs.SymbolTable.{ended};
+ghost use Rattle.elf_model.specs.Inputs.Records.{section_header_bytes};
+ghost use Rattle.elf_model.specs.Image.SymbolTable.{ended};
 ghost use Rattle.debug_image.specs.Tables as spec;
 ghost use Rattle.debug_image.specs.Tables.{header_at};
 ghost use Rattle.debug_image.specs.Views.{header_view, header_views};

@@ -1,7 +1,7 @@
 //! Debug data joined by their names.
 ghost use Rattle.std.specs.Prelude.{◌≡◌, ◌+◌, ◌≤◌, ◌^◌, ◌++◌, ◌∷◌, [], All, IfErr, IfOk, List, OnErr, OnOk, length};
-ghost use Rattle.elf_model.specs.Loading as loading;
-ghost use Rattle.elf_model.specs.Placement.{round_up};
+ghost use Rattle.elf_model.specs.Link.Loading as loading;
+ghost use Rattle.elf_model.specs.Link.Placement.{round_up};
 ghost use Rattle.layout.specs.PlaceViews.{place_view, place_views};
 ghost use Rattle.layout.specs.Views.{piece_view, piece_views};
 ghost use Rattle.search.specs.Views.{loaded_view, loaded_views};

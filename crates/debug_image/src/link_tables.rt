@@ -1,6 +1,6 @@
 //! The tables of a link: its sections, its symbols and their names.
 ghost use Rattle.std.specs.Prelude.{◌≡◌, ◌+◌, ◌≤◌, ◌++◌, All, IfOk, length};
-ghost use Rattle.elf_model.specs.ImageFile.{own_end};
+ghost use Rattle.elf_model.specs.Own.ImageFile.{own_end};
 ghost use Rattle.resolve.specs.Views.{meaning_views};
 ghost use Rattle.debug_image.specs.DebugImage as spec;
 ghost use Rattle.debug_image.specs.DebugSections.{IsLow, joined_rows, most_names};

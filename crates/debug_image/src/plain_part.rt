@@ -1,7 +1,7 @@
 //! The image that a debuggable image begins with.
 ghost use Rattle.std.specs.Prelude.{◌≡◌, ◌+◌, ◌*◌, ◌≤◌, ◌<◌, ◌^◌, ◌++◌, IfOk, SomeIff, drop, length, min, take};
-ghost use Rattle.elf_model.specs.MemoryImage.{file_end, headers_size, loads, program_header_at};
-ghost use Rattle.elf_model.specs.Records.{file_header, file_header_bytes};
+ghost use Rattle.elf_model.specs.Image.MemoryImage.{file_end, headers_size, loads, program_header_at};
+ghost use Rattle.elf_model.specs.Inputs.Records.{file_header, file_header_bytes};
 ghost use Rattle.debug_image.specs.PlainImages.{cleared, end_with, plain_of};
 
 use byteview::View;

@@ -1,7 +1,7 @@
 //! The output sections of an image: runs of neighbouring places that are of one output section.
 ghost use Rattle.std.specs.Prelude.{◌≡◌, ◌≤◌, ◌^◌, ◌++◌, ◌∷◌, All, IfOk, List, OnOk};
-ghost use Rattle.elf_model.specs.OwnLayout.{placed_end};
-ghost use Rattle.elf_model.specs.Placement.{Placed};
+ghost use Rattle.elf_model.specs.Own.OwnLayout.{placed_end};
+ghost use Rattle.elf_model.specs.Link.Placement.{Placed};
 ghost use Rattle.layout.specs.PlaceViews.{place_view, place_views};
 ghost use Rattle.layout.specs.Views.{piece_view};
 ghost use Rattle.debug_image.specs.Sections as spec;

@@ -2,9 +2,9 @@
 ghost use Rattle.std.specs.Prelude.{◌≡◌, ◌<◌, ◌++◌, IfOk, IfSome, OnOk, length, option_map};
 ghost use Rattle.std.specs.List.{filter_map};
 ghost use Rattle.std.specs.Option.{option_and_then};
-ghost use Rattle.elf_model.specs.ObjectFile.{section, sections, symbols};
-ghost use Rattle.elf_model.specs.Pieces as pieces;
-ghost use Rattle.elf_model.specs.Resolution.{symbols_from};
+ghost use Rattle.elf_model.specs.Inputs.ObjectFile.{section, sections, symbols};
+ghost use Rattle.elf_model.specs.Link.Pieces as pieces;
+ghost use Rattle.elf_model.specs.Link.Resolution.{symbols_from};
 ghost use Rattle.layout.specs.Views.{piece_view};
 ghost use Rattle.resolve.specs.Blocks.{block_view};
 ghost use Rattle.resolve.specs.Views.{meaning_view, meaning_views, symbol_view};

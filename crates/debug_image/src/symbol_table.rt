@@ -1,7 +1,7 @@
 //! The bytes of .symtab and .strtab.
 ghost use Rattle.std.specs.Prelude.{◌≡◌, ◌++◌, IfOk, OnOk, length};
-ghost use Rattle.elf_model.specs.Records.{symbol_bytes as bytes_of};
-ghost use Rattle.elf_model.specs.SymbolTable.{ended};
+ghost use Rattle.elf_model.specs.Inputs.Records.{symbol_bytes as bytes_of};
+ghost use Rattle.elf_model.specs.Image.SymbolTable.{ended};
 ghost use Rattle.debug_image.specs.Tables.{entry_at, strtab, symtab};
 ghost use Rattle.debug_image.specs.Views.{row_view, row_views};
 

@@ -1,6 +1,6 @@
 //! The tables behind an image, and where they stand in the file.
 ghost use Rattle.std.specs.Prelude.{◌≡◌, ◌↔◌, ◌≤◌, ◌+◌, ◌-◌, ◌<◌, ◌^◌, ◌++◌, IfOk, IsTrue, OnOk, length, replicate};
-ghost use Rattle.elf_model.specs.Placement.{round_up};
+ghost use Rattle.elf_model.specs.Link.Placement.{round_up};
 ghost use Rattle.debug_image.specs.Offsets.{AreOffsets};
 ghost use Rattle.debug_image.specs.Tables as spec;
 ghost use Rattle.debug_image.specs.Views.{header_views, tables_view};

@@ -1,7 +1,7 @@
 -- The addresses that a segment maps, as numbers.
 use Rattle.std.proofs.Common.{◌≡◌, ℕ, ◌+◌, ◌<◌, ◌≤◌, true, nat_le, nat_lt}
 use Rattle.std.proofs.lemmas.Bool.{and_from, and_parts, le-leb, leb-true, lt-ltb, ltb-true}
-use Rattle.elf_model.specs.MemoryImage.{maps}
+use Rattle.elf_model.specs.Image.MemoryImage.{maps}
 use Rattle.elf_model.specs.declared.records.ProgramHeader.{ProgramHeader}
 
 pub mapped : (h : ProgramHeader) (a : ℕ) → maps h a ≡ true → (h.p_vaddr ≤ a) × (a < h.p_vaddr + h.p_memsz)

@@ -8,7 +8,7 @@ use Rattle.std.proofs.lemmas.Bool.{eq-eqb, eqb-true, eqb-false, leb-true, leb-fa
 use Rattle.std.proofs.lemmas.Bool.Decides.{nat_tests}
 use Rattle.std.proofs.lemmas.List.Elements.{All-cons, All-contains, All-head, All-nil, All-tail, All-weaker, filter_agree}
 use Rattle.std.proofs.lemmas.List.Sorted.{IsPermutation-cons, IsPermutation-refl, IsPermutation-swap, IsPermutation-trans}
-use Rattle.elf_model.specs.ArrayOrder.{by_rank, inserted}
+use Rattle.elf_model.specs.Link.ArrayOrder.{by_rank, inserted}
 use Rattle.elf_model.proofs.Listed.{All-from_contains, Contains-cons_cases, Contains-filter, Contains-from_filter, Contains-here, Contains-nil, cons_head, cons_tail}
 
 -- what a filter does with a first element that passes, and with one that doesn't

@@ -3,10 +3,10 @@ use Rattle.std.proofs.Common.{◌≡◌, ℕ, ◌+◌, ◌≤◌, ◌&&◌, List
 use Rattle.std.specs.Prelude.{All, Some, count_by}
 use Rattle.std.proofs.lemmas.Bool.{and_parts}
 use Rattle.std.proofs.lemmas.Slice.Eq.{bytes_eq-Decides}
-use Rattle.elf_model.specs.ChosenSymbols.{chosen_symbols}
-use Rattle.elf_model.specs.Commons.{block_named, block_of, block_symbols, blocks, blocks_from, is_block_of, is_common_symbol}
-use Rattle.elf_model.specs.Loading.{LoadedObject}
-use Rattle.elf_model.specs.Resolution.{SymbolOf, has_name}
+use Rattle.elf_model.specs.Link.ChosenSymbols.{chosen_symbols}
+use Rattle.elf_model.specs.Link.Commons.{block_named, block_of, block_symbols, blocks, blocks_from, is_block_of, is_common_symbol}
+use Rattle.elf_model.specs.Link.Loading.{LoadedObject}
+use Rattle.elf_model.specs.Link.Resolution.{SymbolOf, has_name}
 use Rattle.elf_model.proofs.ChosenSymbols.{chosen_once, count_filter, count_le}
 use Rattle.elf_model.proofs.RisingNames.{all_found, counted}
 

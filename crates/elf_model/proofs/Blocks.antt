@@ -4,10 +4,10 @@ use Rattle.std.specs.Prelude.{All, AllPairs, Contains, Some, find, is_some}
 use Rattle.std.specs.Str.{bytes_eq}
 use Rattle.std.proofs.lemmas.List.Elements.{All-cons, All-map, All-nil, All-weaker}
 use Rattle.std.proofs.lemmas.List.Kept.{AllPairs-cons}
-use Rattle.elf_model.specs.Commons.{Block, block_header, block_of, block_piece, block_pieces, block_symbols, blocks, blocks_from, is_block_of}
-use Rattle.elf_model.specs.Loading.{LoadedObject}
-use Rattle.elf_model.specs.Pieces.{IsLawfulKind, Piece, has_bytes, is_executable, is_writable}
-use Rattle.elf_model.specs.Resolution.{SymbolOf, has_name}
+use Rattle.elf_model.specs.Link.Commons.{Block, block_header, block_of, block_piece, block_pieces, block_symbols, blocks, blocks_from, is_block_of}
+use Rattle.elf_model.specs.Link.Loading.{LoadedObject}
+use Rattle.elf_model.specs.Link.Pieces.{IsLawfulKind, Piece, has_bytes, is_executable, is_writable}
+use Rattle.elf_model.specs.Link.Resolution.{SymbolOf, has_name}
 use Rattle.elf_model.proofs.Listed.{Contains-here, Contains-there}
 use Rattle.elf_model.proofs.Pairs.{AllPairs-map, AllPairs-nil}
 

@@ -8,10 +8,10 @@ use Rattle.std.proofs.lemmas.List.Elements.{All-contains, All-head, All-tail}
 use Rattle.std.proofs.lemmas.List.Sums.{sum_by-append}
 use Rattle.std.proofs.lemmas.Option.{none-some}
 use Rattle.std.proofs.lemmas.Slice.Eq.{bytes_eq-Decides}
-use Rattle.elf_model.specs.ChosenSymbols.{chosen_symbols, definitions, is_chosen, is_definition, is_same_symbol}
-use Rattle.elf_model.specs.Loading.{LoadedObject}
-use Rattle.elf_model.specs.ObjectFile.{symbols}
-use Rattle.elf_model.specs.Resolution.{AreUnique, SymbolOf, all_symbols, chosen, common_symbols, has_name, is_common_definition, is_strong, is_weak_definition, strong_definitions, symbol_of, symbols_from, symbols_of, weak_definitions}
+use Rattle.elf_model.specs.Link.ChosenSymbols.{chosen_symbols, definitions, is_chosen, is_definition, is_same_symbol}
+use Rattle.elf_model.specs.Link.Loading.{LoadedObject}
+use Rattle.elf_model.specs.Inputs.ObjectFile.{symbols}
+use Rattle.elf_model.specs.Link.Resolution.{AreUnique, SymbolOf, all_symbols, chosen, common_symbols, has_name, is_common_definition, is_strong, is_weak_definition, strong_definitions, symbol_of, symbols_from, symbols_of, weak_definitions}
 use Rattle.elf_model.specs.declared.records.Symbol.{Symbol}
 use Rattle.elf_model.proofs.Finding.{find-found, find-none}
 use Rattle.elf_model.proofs.Found.{find-filter}

@@ -11,8 +11,8 @@ use Rattle.std.proofs.lemmas.List.Folds.{Any-from_list_any, list_any-append, lis
 use Rattle.std.proofs.lemmas.List.Sums.{fold-append}
 use Rattle.std.proofs.lemmas.Map.Views.{Contains-from_any, list_any-from_Contains}
 use Rattle.std.proofs.lemmas.Slice.Eq.{bytes_eq-Decides}
-use Rattle.elf_model.specs.Groups.{HasSignature, IsDropped, ascending, dropped, dropped_groups, is_comdat, is_seen, limit, seen_after, seen_with}
-use Rattle.elf_model.specs.ObjectFile.{Group}
+use Rattle.elf_model.specs.Link.Groups.{HasSignature, IsDropped, ascending, dropped, dropped_groups, is_comdat, is_seen, limit, seen_after, seen_with}
+use Rattle.elf_model.specs.Inputs.ObjectFile.{Group}
 use Rattle.elf_model.proofs.Listed.{Contains-cons_cases, Contains-filter, Contains-flat_map, Contains-from_filter, Contains-from_flat_map, Contains-here, Contains-nil}
 use Rattle.elf_model.proofs.Numbering.{in_range}
 

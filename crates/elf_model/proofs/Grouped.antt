@@ -5,9 +5,9 @@ use Rattle.std.specs.Prelude.{All, AllPairs, Contains, filter}
 use Rattle.std.proofs.lemmas.Bool.{false≢true, not-true, not_from_false}
 use Rattle.std.proofs.lemmas.List.Elements.{All-weaker, filter_agree, filter_passes}
 use Rattle.std.proofs.lemmas.List.Kept.{AllPairs-cons, AllPairs-filter}
-use Rattle.elf_model.specs.ArrayOrder.{in_array_order, piece_rank}
-use Rattle.elf_model.specs.OwnLayout.{grouped, leaders}
-use Rattle.elf_model.specs.Pieces.{Piece, same_output}
+use Rattle.elf_model.specs.Link.ArrayOrder.{in_array_order, piece_rank}
+use Rattle.elf_model.specs.Own.OwnLayout.{grouped, leaders}
+use Rattle.elf_model.specs.Link.Pieces.{Piece, same_output}
 use Rattle.elf_model.proofs.ArrayOrder.{Contains-by_rank, Contains-from_by_rank, by_rank_moves}
 use Rattle.elf_model.proofs.Listed.{All-from_contains, Contains-cons_cases, Contains-filter, Contains-flat_map, Contains-from_filter, Contains-from_flat_map, Contains-here, Contains-nil, Contains-there}
 use Rattle.elf_model.proofs.Neighbours.{StandsBefore, before_flat_map}

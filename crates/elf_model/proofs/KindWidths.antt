@@ -3,7 +3,7 @@ use Rattle.std.proofs.Common.{◌≡◌, ℕ, ◌<◌, ◌≤◌, ◌==◌, ◌&
 use Rattle.std.specs.Prelude.{IfSome, find}
 use Rattle.std.proofs.lemmas.Bool.{and_parts}
 use Rattle.std.proofs.lemmas.Bool.Decides.{nat_tests}
-use Rattle.elf_model.specs.Relocation.{Kind, kind_of, kinds}
+use Rattle.elf_model.specs.Link.Relocation.{Kind, kind_of, kinds}
 
 is_narrow : Kind → Bool
 is_narrow k = nat_lt 0 k.width && nat_le k.width 8

@@ -18,12 +18,12 @@ use Rattle.std.proofs.lemmas.Map.Views.{All-after_first}
 use Rattle.std.proofs.lemmas.Slice.Eq.{bytes_eq-Decides}
 use Rattle.elf_model.proofs.LinkerUses.{line_among}
 use Rattle.elf_model.proofs.RisingNames.{absent_count, counted}
-use Rattle.elf_model.specs.LinkerNames.{bound_of}
-use Rattle.elf_model.specs.Listing.{AreLinkerLines, has_meaning}
-use Rattle.elf_model.specs.Loading.{LoadedObject}
-use Rattle.elf_model.specs.Meaning.{Linker, Meaning}
-use Rattle.elf_model.specs.Relocation.{relocations}
-use Rattle.elf_model.specs.UsedNames.{is_among, linker_meaning, linker_meanings, uses_line}
+use Rattle.elf_model.specs.Link.LinkerNames.{bound_of}
+use Rattle.elf_model.specs.Link.Listing.{AreLinkerLines, has_meaning}
+use Rattle.elf_model.specs.Link.Loading.{LoadedObject}
+use Rattle.elf_model.specs.Link.Meaning.{Linker, Meaning}
+use Rattle.elf_model.specs.Link.Relocation.{relocations}
+use Rattle.elf_model.specs.Link.UsedNames.{is_among, linker_meaning, linker_meanings, uses_line}
 use Rattle.elf_model.specs.declared.bound.Bound.{Bound}
 
 abbrev Name : Type 0

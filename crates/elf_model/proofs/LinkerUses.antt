@@ -8,15 +8,15 @@ use Rattle.std.specs.Str.{bytes_eq}
 use Rattle.std.proofs.Math.Bool.{or_assoc}
 use Rattle.std.proofs.lemmas.List.Folds.{list_any-append}
 use Rattle.std.proofs.lemmas.Slice.Eq.{bytes_eq-Decides}
-use Rattle.elf_model.specs.LinkerNames.{bound_of}
-use Rattle.elf_model.specs.Listing.{is_use_of, is_used, linker_line}
-use Rattle.elf_model.specs.Loading.{LoadedObject}
-use Rattle.elf_model.specs.Meaning.{Linker, Meaning}
-use Rattle.elf_model.specs.Relocation.{Relocation, is_local, relocations}
-use Rattle.elf_model.specs.Resolution.{chosen}
+use Rattle.elf_model.specs.Link.LinkerNames.{bound_of}
+use Rattle.elf_model.specs.Link.Listing.{is_use_of, is_used, linker_line}
+use Rattle.elf_model.specs.Link.Loading.{LoadedObject}
+use Rattle.elf_model.specs.Link.Meaning.{Linker, Meaning}
+use Rattle.elf_model.specs.Link.Relocation.{Relocation, is_local, relocations}
+use Rattle.elf_model.specs.Link.Resolution.{chosen}
 use Rattle.elf_model.specs.declared.bound.Bound.{Bound}
 use Rattle.elf_model.proofs.Rests.{rest_at}
-use Rattle.elf_model.specs.UsedNames.{Gains, is_among, is_linker_use, uses_line}
+use Rattle.elf_model.specs.Link.UsedNames.{Gains, is_among, is_linker_use, uses_line}
 
 -- one element more of those that a filter keeps
 pub kept_more :

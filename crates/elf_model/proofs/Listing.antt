@@ -8,13 +8,13 @@ use Rattle.std.proofs.lemmas.List.Elements.{All-contains}
 use Rattle.std.proofs.lemmas.List.Sums.{sum_by-append}
 use Rattle.std.proofs.lemmas.Option.{none-some, same_Some}
 use Rattle.std.proofs.lemmas.Slice.Eq.{bytes_eq-Decides}
-use Rattle.elf_model.specs.ChosenSymbols.{chosen_symbols}
-use Rattle.elf_model.specs.Commons.{Block, block_named, block_symbols, blocks, is_block_of, is_common_symbol}
-use Rattle.elf_model.specs.LinkerNames.{bound_of}
-use Rattle.elf_model.specs.Listing.{AreLinkerLines, AreListed, AreOf, has_meaning, is_used, listed}
-use Rattle.elf_model.specs.Loading.{LoadedObject}
-use Rattle.elf_model.specs.Meaning.{Common, Linker, Meaning, Symbol, meaning_name, meanings_of, meant, object_meaning}
-use Rattle.elf_model.specs.Resolution.{SymbolOf, chosen, has_name}
+use Rattle.elf_model.specs.Link.ChosenSymbols.{chosen_symbols}
+use Rattle.elf_model.specs.Link.Commons.{Block, block_named, block_symbols, blocks, is_block_of, is_common_symbol}
+use Rattle.elf_model.specs.Link.LinkerNames.{bound_of}
+use Rattle.elf_model.specs.Link.Listing.{AreLinkerLines, AreListed, AreOf, has_meaning, is_used, listed}
+use Rattle.elf_model.specs.Link.Loading.{LoadedObject}
+use Rattle.elf_model.specs.Link.Meaning.{Common, Linker, Meaning, Symbol, meaning_name, meanings_of, meant, object_meaning}
+use Rattle.elf_model.specs.Link.Resolution.{SymbolOf, chosen, has_name}
 use Rattle.elf_model.proofs.Blocks.{block_named-some}
 use Rattle.elf_model.proofs.ChosenSymbols.{chosen_listed, chosen_once}
 use Rattle.elf_model.proofs.Finding.{find-found, none-passes}

@@ -3,10 +3,10 @@ use Rattle.std.proofs.Common.{◌≡◌, ℕ, ◌==◌, ◌⊎◌, inl, inr, Boo
 use Rattle.std.specs.Prelude.{Contains}
 use Rattle.std.proofs.lemmas.Bool.{cond-false}
 use Rattle.std.proofs.lemmas.List.Elements.{Contains-append_left, Contains-append_right}
-use Rattle.elf_model.specs.Command.{Plan}
-use Rattle.elf_model.specs.Files.{File}
-use Rattle.elf_model.specs.Loading.{Group, LoadedObject, Single, Step, before_steps, group_of, loaded_objects, loaded_step, loaded_steps, object_behind, steps, turn, with_object}
-use Rattle.elf_model.specs.Opening.{Opened, opened}
+use Rattle.elf_model.specs.Inputs.Command.{Plan}
+use Rattle.elf_model.specs.Inputs.Files.{File}
+use Rattle.elf_model.specs.Link.Loading.{Group, LoadedObject, Single, Step, before_steps, group_of, loaded_objects, loaded_step, loaded_steps, object_behind, steps, turn, with_object}
+use Rattle.elf_model.specs.Inputs.Opening.{Opened, opened}
 use Rattle.elf_model.proofs.Listed.{Contains-cons_cases, Contains-here, Contains-nil, Contains-there}
 use Rattle.elf_model.proofs.LoadingSteps.{steps_behind}
 

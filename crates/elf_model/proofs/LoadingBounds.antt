@@ -5,11 +5,11 @@ use Rattle.std.proofs.lemmas.Bool.{and_from, and_parts, false≢true, not-true, 
 use Rattle.std.proofs.lemmas.List.{append-nil}
 use Rattle.std.proofs.lemmas.List.Folds.{list_any-append}
 use Rattle.std.proofs.lemmas.Option.{none-some, same_Some}
-use Rattle.elf_model.specs.ArchiveFile.{IndexEntry}
-use Rattle.elf_model.specs.Command.{Plan}
-use Rattle.elf_model.specs.Loading.{LoadedObject, is_begun, is_next, is_taken, needed, next, object_behind, with_member, with_object}
-use Rattle.elf_model.specs.LoadingBounds.{untaken}
-use Rattle.elf_model.specs.Opening.{Opened, archive_entries}
+use Rattle.elf_model.specs.Inputs.ArchiveFile.{IndexEntry}
+use Rattle.elf_model.specs.Inputs.Command.{Plan}
+use Rattle.elf_model.specs.Link.Loading.{LoadedObject, is_begun, is_next, is_taken, needed, next, object_behind, with_member, with_object}
+use Rattle.elf_model.specs.Link.LoadingBounds.{untaken}
+use Rattle.elf_model.specs.Inputs.Opening.{Opened, archive_entries}
 
 -- both cases of a test
 pub by_case : {P : Type 0} (b : Bool) → (b ≡ true → P) → (b ≡ false → P) → P

@@ -3,13 +3,13 @@ use Rattle.std.proofs.Common.{◌≡◌, ℕ, zero, suc, ◌+◌, ◌<◌, ◌�
 use Rattle.std.specs.Prelude.{◌≢◌}
 use Rattle.std.proofs.lemmas.Bool.{cond-false, cond-true, eqb-true, eqb-false}
 use Rattle.std.proofs.lemmas.Option.{none-some, same_Some}
-use Rattle.elf_model.specs.ArchiveFile.{IndexEntry, Member}
-use Rattle.elf_model.specs.Command.{Plan}
-use Rattle.elf_model.specs.Files.{File}
-use Rattle.elf_model.specs.Loading.{Group, LoadedObject, Single, Step, is_begun, is_next, loaded_objects, loaded_step, loaded_steps, most_rounds, next, round, rounds_within, searched, steps, turn, turn_of_whole, with_member, with_members, with_object}
-use Rattle.elf_model.specs.LoadingBounds.{left, left_of_all, untaken}
-use Rattle.elf_model.specs.LoadingRules.{FollowsRules, LoadsSingle, LoadsStep, LoadsSteps, Round, RoundsBy, SearchedBy, Turn, TurnIf}
-use Rattle.elf_model.specs.Opening.{Opened, archive_entries, archive_members, opened}
+use Rattle.elf_model.specs.Inputs.ArchiveFile.{IndexEntry, Member}
+use Rattle.elf_model.specs.Inputs.Command.{Plan}
+use Rattle.elf_model.specs.Inputs.Files.{File}
+use Rattle.elf_model.specs.Link.Loading.{Group, LoadedObject, Single, Step, is_begun, is_next, loaded_objects, loaded_step, loaded_steps, most_rounds, next, round, rounds_within, searched, steps, turn, turn_of_whole, with_member, with_members, with_object}
+use Rattle.elf_model.specs.Link.LoadingBounds.{left, left_of_all, untaken}
+use Rattle.elf_model.specs.Link.LoadingRules.{FollowsRules, LoadsSingle, LoadsStep, LoadsSteps, Round, RoundsBy, SearchedBy, Turn, TurnIf}
+use Rattle.elf_model.specs.Inputs.Opening.{Opened, archive_entries, archive_members, opened}
 use Rattle.elf_model.proofs.LoadingBounds.{Extends, begun_now, begun_stays, by_case, extends_length, extends_refl, extends_same, extends_trans, extends_with, next_is_free, taken_stays, untaken_falls, untaken_le, untaken_most, untaken_none}
 
 -- Turns.

@@ -2,13 +2,13 @@
 use Rattle.std.proofs.Common.{◌≡◌, ℕ, zero, suc, ◌<◌, true, false, List, [], ◌∷◌, ◌++◌, length, Some, None, refl, sym, ◌∙◌, ap, subst, append_assoc}
 use Rattle.std.specs.Prelude.{◌≢◌}
 use Rattle.std.proofs.lemmas.Bool.{cond-false, cond-true}
-use Rattle.elf_model.specs.ArchiveFile.{IndexEntry}
-use Rattle.elf_model.specs.Causes.{Reaches}
-use Rattle.elf_model.specs.Command.{Plan}
-use Rattle.elf_model.specs.Loading.{Group, LoadedObject, Single, Step, loaded_step, loaded_steps, most_rounds, next, round, rounds, searched, turn, turn_of_whole, with_member, with_object}
-use Rattle.elf_model.specs.LoadingBounds.{left_of_all}
-use Rattle.elf_model.specs.LoadingRules.{Round, RoundsBy, SearchedBy, Turn, TurnIf}
-use Rattle.elf_model.specs.Opening.{Opened, archive_entries}
+use Rattle.elf_model.specs.Inputs.ArchiveFile.{IndexEntry}
+use Rattle.elf_model.specs.Own.Causes.{Reaches}
+use Rattle.elf_model.specs.Inputs.Command.{Plan}
+use Rattle.elf_model.specs.Link.Loading.{Group, LoadedObject, Single, Step, loaded_step, loaded_steps, most_rounds, next, round, rounds, searched, turn, turn_of_whole, with_member, with_object}
+use Rattle.elf_model.specs.Link.LoadingBounds.{left_of_all}
+use Rattle.elf_model.specs.Link.LoadingRules.{Round, RoundsBy, SearchedBy, Turn, TurnIf}
+use Rattle.elf_model.specs.Inputs.Opening.{Opened, archive_entries}
 use Rattle.elf_model.proofs.LoadingBounds.{Extends, by_case, extends_refl, extends_same, extends_trans, extends_with}
 use Rattle.elf_model.proofs.LoadingLaws.{falls_strictly, left_most, round_ends, round_extends, round_falls, round_only, rounds_by_only, rounds_end, turn_ends, turn_extends, turn_only}
 

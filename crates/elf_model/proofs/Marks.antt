@@ -9,7 +9,7 @@ use Rattle.std.proofs.lemmas.Bool.{cases_eq, eq-eqb, eqb-true, ne_eqb, or_from}
 use Rattle.std.proofs.lemmas.List.{append-nil, get_or-replicate, get_or-set_other, get_or-set_same, length-replicate, length-set}
 use Rattle.std.proofs.lemmas.List.Elements.{All-head, All-tail}
 use Rattle.std.proofs.lemmas.Map.Views.{Contains-from_any, list_any-from_Contains}
-use Rattle.elf_model.specs.Groups.{ascending, limit}
+use Rattle.elf_model.specs.Link.Groups.{ascending, limit}
 use Rattle.elf_model.specs.Marks.{is_marked, marked, marked_numbers}
 use Rattle.elf_model.proofs.Numbering.{all_numbers, filter_range_more}
 

@@ -4,9 +4,9 @@ use Rattle.std.specs.Prelude.{Option, Some, None, option_map}
 use Rattle.std.specs.List.{cons_option, filter_map, list_any}
 use Rattle.std.specs.Option.{option_and_then, option_map_or}
 use Rattle.std.proofs.lemmas.Bool.{false≢true, or_parts}
-use Rattle.elf_model.specs.Loading.{LoadedObject}
-use Rattle.elf_model.specs.Relocation.{Formula, S+A, S+A-P, S+A-GOT, G+A, G+GOT+A-P, GOT+A-P, Z+A, T+A, GT+GOT+A-P, Kind, Relocation, relocation_kind, relocations}
-use Rattle.elf_model.specs.Slots.{asks_for_got, each_once, has_got, names_got, request_of, slot_kind_of, slots, speaks_of_got, target_of}
+use Rattle.elf_model.specs.Link.Loading.{LoadedObject}
+use Rattle.elf_model.specs.Link.Relocation.{Formula, S+A, S+A-P, S+A-GOT, G+A, G+GOT+A-P, GOT+A-P, Z+A, T+A, GT+GOT+A-P, Kind, Relocation, relocation_kind, relocations}
+use Rattle.elf_model.specs.Link.Slots.{asks_for_got, each_once, has_got, names_got, request_of, slot_kind_of, slots, speaks_of_got, target_of}
 
 no_slot : (f : Formula) → speaks_of_got f ≡ false → slot_kind_of f ≡ None
 no_slot S+A quiet = refl

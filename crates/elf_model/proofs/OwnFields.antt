@@ -2,7 +2,7 @@
 use Rattle.std.proofs.Common.{◌≡◌, ℕ, ◌+◌, ◌<◌, ◌≤◌, ◌==◌, ◌&&◌, Bool, true, false, List, get_or, nat_le, nat_lt, refl, sym, ap, ◌∙◌, arith}
 use Rattle.std.specs.Prelude.{All, AllPairs}
 use Rattle.std.proofs.lemmas.Bool.{eq-eqb}
-use Rattle.elf_model.specs.Relocation.{AreFieldsApart, Relocation, is_in_field, width_of}
+use Rattle.elf_model.specs.Link.Relocation.{AreFieldsApart, Relocation, is_in_field, width_of}
 use Rattle.elf_model.proofs.Pairs.{AllPairs-weaker}
 use Rattle.elf_model.proofs.RelocationFields.{field_has, in_field}
 

@@ -4,12 +4,12 @@ use Rattle.std.specs.Prelude.{All, AllPairs, Contains, filter}
 use Rattle.std.proofs.lemmas.Bool.{and_parts, false≢true, not-true, and_from}
 use Rattle.std.proofs.lemmas.List.Elements.{All-append, All-contains, All-weaker, Contains-append_cases, Contains-append_left, Contains-append_right}
 use Rattle.std.proofs.lemmas.List.Kept.{AllPairs-filter}
-use Rattle.elf_model.specs.ArrayOrder.{in_array_order, piece_rank}
-use Rattle.elf_model.specs.Commons.{block_of, block_piece, block_pieces, blocks, pieces}
-use Rattle.elf_model.specs.Loading.{LoadedObject}
-use Rattle.elf_model.specs.OwnLayout.{code_pieces, data_pieces, got_header, got_number, got_pieces, grouped, initial_pieces, laid_out, is_code, is_data, is_initial, is_read_only, is_thread_rest, is_zero, read_only_pieces, thread_rest_pieces}
-use Rattle.elf_model.specs.Slots.{got_size}
-use Rattle.elf_model.specs.Pieces.{AreLawfulKinds, IsLawfulKind, Piece, has_bytes, is_executable, is_nobits, is_thread_piece, is_thread_zero, is_writable, kept_sections, same_output}
+use Rattle.elf_model.specs.Link.ArrayOrder.{in_array_order, piece_rank}
+use Rattle.elf_model.specs.Link.Commons.{block_of, block_piece, block_pieces, blocks, pieces}
+use Rattle.elf_model.specs.Link.Loading.{LoadedObject}
+use Rattle.elf_model.specs.Own.OwnLayout.{code_pieces, data_pieces, got_header, got_number, got_pieces, grouped, initial_pieces, laid_out, is_code, is_data, is_initial, is_read_only, is_thread_rest, is_zero, read_only_pieces, thread_rest_pieces}
+use Rattle.elf_model.specs.Link.Slots.{got_size}
+use Rattle.elf_model.specs.Link.Pieces.{AreLawfulKinds, IsLawfulKind, Piece, has_bytes, is_executable, is_nobits, is_thread_piece, is_thread_zero, is_writable, kept_sections, same_output}
 use Rattle.elf_model.proofs.ArrayOrder.{filter_by_rank}
 use Rattle.elf_model.proofs.Grouped.{AllPairs-grouped, Contains-from_grouped, Contains-grouped, before_grouped, cross_pairs, group_of_filter}
 use Rattle.elf_model.proofs.Blocks.{block_bare, block_lawful, block_pieces-ascend, block_pieces-each, block_pieces-object, block_writable}

@@ -4,12 +4,12 @@ use Rattle.std.specs.Prelude.{All, Contains, filter}
 use Rattle.std.proofs.lemmas.Bool.{and_from, false≢true}
 use Rattle.std.proofs.Math.Nat.{lt_of_mul-lt-mul_right, mul-le-mul_right}
 use Rattle.std.proofs.lemmas.List.Elements.{All-append, All-contains, All-cons, All-head, All-nil, All-tail, Contains-append_cases, Contains-append_left, Contains-append_right}
-use Rattle.elf_model.specs.Loading.{LoadedObject}
-use Rattle.elf_model.specs.OwnAddresses.{AllEndBy, AreOwnAddresses, IsLeastMultiple, MayBegin, MayStand, moves, segment_start}
-use Rattle.elf_model.specs.OwnLayout.{code_pieces, code_start, data_pieces, data_start, end_of, first_start, initial_pieces, laid_out, is_code, is_read_only, is_thread_rest, loaded_start, own_code, own_data, own_headers_size, own_loaded, own_read_only, own_thread_rest, page_up, place_at, placed_end, placed_from, read_only_pieces, read_only_start, thread_rest_pieces, thread_rest_start, thread_start}
-use Rattle.elf_model.specs.Pieces.{AreLawfulKinds, IsLawfulKind, Piece, is_executable, is_nobits, is_thread_piece, is_thread_zero, is_writable, kept_sections}
-use Rattle.elf_model.specs.Placement.{Placed, round_up}
-use Rattle.elf_model.specs.ThreadStorage.{alignment_of}
+use Rattle.elf_model.specs.Link.Loading.{LoadedObject}
+use Rattle.elf_model.specs.Own.OwnAddresses.{AllEndBy, AreOwnAddresses, IsLeastMultiple, MayBegin, MayStand, moves, segment_start}
+use Rattle.elf_model.specs.Own.OwnLayout.{code_pieces, code_start, data_pieces, data_start, end_of, first_start, initial_pieces, laid_out, is_code, is_read_only, is_thread_rest, loaded_start, own_code, own_data, own_headers_size, own_loaded, own_read_only, own_thread_rest, page_up, place_at, placed_end, placed_from, read_only_pieces, read_only_start, thread_rest_pieces, thread_rest_start, thread_start}
+use Rattle.elf_model.specs.Link.Pieces.{AreLawfulKinds, IsLawfulKind, Piece, is_executable, is_nobits, is_thread_piece, is_thread_zero, is_writable, kept_sections}
+use Rattle.elf_model.specs.Link.Placement.{Placed, round_up}
+use Rattle.elf_model.specs.Link.ThreadStorage.{alignment_of}
 use Rattle.elf_model.proofs.Listed.{All-from_contains, All-parts, Contains-filter, Contains-from_filter, Contains-here, Contains-map, cons_head, cons_tail}
 use Rattle.elf_model.proofs.OwnOrder.{code_not_thread, code_not_writable, from_data, from_initial, from_thread_rest, initial_is, laid_out_lawful, loaded_whole, plain_data, read_only_not_thread, thread_rest_is}
 use Rattle.elf_model.proofs.Places.{All-placed, InCode, InData, InReadOnly, code_aligned, data_aligned, initial_aligned, loaded_start_high, own_code_within, own_data_within, own_loaded_pieces, own_placed_pieces, own_read_only_within, own_starts, read_only_aligned, some_alignment, thread_rest_aligned, thread_start_high}

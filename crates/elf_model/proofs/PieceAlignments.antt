@@ -5,11 +5,11 @@ use Rattle.std.specs.Int.{IsPowerOfTwo}
 use Rattle.std.specs.Prelude.{All, max}
 use Rattle.std.proofs.lemmas.Nat.{pow_pos}
 use Rattle.std.proofs.lemmas.List.Elements.{All-append, All-contains, All-head, All-tail}
-use Rattle.elf_model.specs.Commons.{block_pieces, commons_named, greatest, pieces}
-use Rattle.elf_model.specs.Loading.{AreObjects, LoadedObject}
-use Rattle.elf_model.specs.ObjectFile.{IsAlignment, IsObject, IsPlaced, sections}
-use Rattle.elf_model.specs.Pieces.{Piece, kept_sections}
-use Rattle.elf_model.specs.Resolution.{AreSoundCommons, IsSoundCommon, SymbolOf, all_symbols, common_symbols, has_name, is_common, is_common_definition, is_global}
+use Rattle.elf_model.specs.Link.Commons.{block_pieces, commons_named, greatest, pieces}
+use Rattle.elf_model.specs.Link.Loading.{AreObjects, LoadedObject}
+use Rattle.elf_model.specs.Inputs.ObjectFile.{IsAlignment, IsObject, IsPlaced, sections}
+use Rattle.elf_model.specs.Link.Pieces.{Piece, kept_sections}
+use Rattle.elf_model.specs.Link.Resolution.{AreSoundCommons, IsSoundCommon, SymbolOf, all_symbols, common_symbols, has_name, is_common, is_common_definition, is_global}
 use Rattle.std.proofs.lemmas.Bool.{and_parts, cases_lt}
 use Rattle.elf_model.proofs.Blocks.{block_pieces-each}
 use Rattle.elf_model.proofs.Listed.{All-from_contains, Contains-from_filter, Contains-from_slice_get}

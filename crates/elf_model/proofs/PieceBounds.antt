@@ -3,9 +3,9 @@ use Rattle.std.proofs.Common.{◌≡◌, ℕ, ◌+◌, ◌<◌, ◌≤◌, Bool,
 use Rattle.std.specs.Prelude.{All, Contains}
 use Rattle.std.proofs.lemmas.Bool.{cases_lt, false≢true}
 use Rattle.std.proofs.lemmas.List.Elements.{All-contains, All-cons, All-nil, All-weaker, All-head, All-tail}
-use Rattle.elf_model.specs.LinkerValues.{end_of_pieces, least_of, start_of_pieces}
-use Rattle.elf_model.specs.Pieces.{Piece}
-use Rattle.elf_model.specs.Placement.{Placed}
+use Rattle.elf_model.specs.Link.LinkerValues.{end_of_pieces, least_of, start_of_pieces}
+use Rattle.elf_model.specs.Link.Pieces.{Piece}
+use Rattle.elf_model.specs.Link.Placement.{Placed}
 use Rattle.elf_model.proofs.Listed.{All-from_contains, Contains-here, Contains-there}
 use Rattle.elf_model.proofs.Rests.{rest_at}
 

@@ -6,12 +6,12 @@ use Rattle.std.specs.Option.{option_and_then}
 use Rattle.std.proofs.lemmas.List.Elements.{All-append, All-cons, All-nil, All-weaker}
 use Rattle.std.proofs.lemmas.List.Kept.{AllPairs-cons}
 use Rattle.byteview.specs.Numbers.{part}
-use Rattle.elf_model.specs.Commons.{block_pieces, pieces}
-use Rattle.elf_model.specs.Loading.{LoadedObject}
-use Rattle.elf_model.specs.OwnLayout.{got_piece, got_pieces, laid_out}
-use Rattle.elf_model.specs.Slots.{has_got}
-use Rattle.elf_model.specs.ObjectFile.{bytes_in_file, contents, has_no_bytes, section_bytes, sections}
-use Rattle.elf_model.specs.Pieces.{Piece, is_kept, kept_sections, piece_of, pieces_from, pieces_of}
+use Rattle.elf_model.specs.Link.Commons.{block_pieces, pieces}
+use Rattle.elf_model.specs.Link.Loading.{LoadedObject}
+use Rattle.elf_model.specs.Own.OwnLayout.{got_piece, got_pieces, laid_out}
+use Rattle.elf_model.specs.Link.Slots.{has_got}
+use Rattle.elf_model.specs.Inputs.ObjectFile.{bytes_in_file, contents, has_no_bytes, section_bytes, sections}
+use Rattle.elf_model.specs.Link.Pieces.{Piece, is_kept, kept_sections, piece_of, pieces_from, pieces_of}
 use Rattle.elf_model.specs.declared.records.SectionHeader.{SectionHeader}
 use Rattle.elf_model.proofs.Blocks.{block_pieces-ascend, block_pieces-each, block_pieces-object}
 use Rattle.elf_model.proofs.Pairs.{AllPairs-append, AllPairs-nil, AllPairs-weaker}

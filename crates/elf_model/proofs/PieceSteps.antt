@@ -1,8 +1,8 @@
 -- The kept sections of an object as they are listed one after the other, by a view of what is listed.
 use Rattle.std.proofs.Common.{◌≡◌, ℕ, ◌+◌, ◌<◌, Bool, true, false, cond, List, [], ◌∷◌, ◌++◌, length, get_or, drop, map, sym, ap, ◌∙◌}
 use Rattle.std.proofs.lemmas.List.{append_assoc, at_drop_more, map-append}
-use Rattle.elf_model.specs.Loading.{LoadedObject}
-use Rattle.elf_model.specs.Pieces.{Piece, is_kept, piece_of, pieces_from}
+use Rattle.elf_model.specs.Link.Loading.{LoadedObject}
+use Rattle.elf_model.specs.Link.Pieces.{Piece, is_kept, piece_of, pieces_from}
 use Rattle.elf_model.specs.declared.records.SectionHeader.{SectionHeader}
 
 cond_at : {X : Type 0} (b t : Bool) (x y : X) → b ≡ t → cond b x y ≡ cond t x y

@@ -4,12 +4,12 @@ use Rattle.std.specs.Prelude.{◌≡◌, ℕ, ◌+◌, ◌<◌, ◌≤◌, ◌�
 use Rattle.std.proofs.lemmas.Bool.{and_from, and_parts, eq-eqb, eqb-true}
 use Rattle.std.proofs.lemmas.List.{map-append}
 use Rattle.std.proofs.lemmas.List.Elements.{All-append, All-contains, All-weaker, Contains-append_left, Contains-append_right}
-use Rattle.elf_model.specs.Loading.{LoadedObject}
-use Rattle.elf_model.specs.OwnLayout.{laid_out, got_pieces, code_pieces, code_start, data_pieces, data_start, end_of, first_start, initial_pieces, is_code, is_read_only, loaded_start, own_address, own_code, own_data, own_headers_size, own_in_load_order, own_laid_out, own_loaded, own_placed, own_read_only, own_thread_rest, placed_end, placed_from, read_only_pieces, read_only_start, thread_rest_pieces, thread_rest_start, thread_start}
-use Rattle.elf_model.specs.Commons.{pieces}
-use Rattle.elf_model.specs.Pieces.{AreLawfulKinds, Piece, is_thread_piece, is_thread_zero, is_writable, kept_sections}
-use Rattle.elf_model.specs.Placement.{Placed, is_of_section}
-use Rattle.elf_model.specs.ThreadStorage.{alignment_of}
+use Rattle.elf_model.specs.Link.Loading.{LoadedObject}
+use Rattle.elf_model.specs.Own.OwnLayout.{laid_out, got_pieces, code_pieces, code_start, data_pieces, data_start, end_of, first_start, initial_pieces, is_code, is_read_only, loaded_start, own_address, own_code, own_data, own_headers_size, own_in_load_order, own_laid_out, own_loaded, own_placed, own_read_only, own_thread_rest, placed_end, placed_from, read_only_pieces, read_only_start, thread_rest_pieces, thread_rest_start, thread_start}
+use Rattle.elf_model.specs.Link.Commons.{pieces}
+use Rattle.elf_model.specs.Link.Pieces.{AreLawfulKinds, Piece, is_thread_piece, is_thread_zero, is_writable, kept_sections}
+use Rattle.elf_model.specs.Link.Placement.{Placed, is_of_section}
+use Rattle.elf_model.specs.Link.ThreadStorage.{alignment_of}
 use Rattle.elf_model.proofs.Listed.{All-from_contains, All-unmap, Contains-from_map, Contains-map, find_only}
 use Rattle.elf_model.proofs.OwnOrder.{from_code, from_data, from_initial, from_own_order, from_read_only, from_thread_rest, loaded_order, loaded_whole, own_order, own_order_other, thread_rest_bare, to_own_order}
 use Rattle.elf_model.proofs.Pairs.{AllPairs-append, AllPairs-unmap, AllPairs-weaker, related}

@@ -11,7 +11,7 @@ use Rattle.elf_model.specs.declared.records.SectionHeader.{SectionHeader}
 use Rattle.elf_model.specs.declared.records.Symbol.{Symbol}
 use Rattle.elf_model.specs.declared.records.Rela.{Rela}
 use Rattle.elf_model.specs.declared.records.ProgramHeader.{ProgramHeader}
-use Rattle.elf_model.specs.Records.{file_header, file_header_bytes, FitsFileHeader, section_header, section_header_bytes, FitsSectionHeader, symbol, symbol_bytes, FitsSymbol, rela, rela_bytes, FitsRela, program_header, program_header_bytes, FitsProgramHeader}
+use Rattle.elf_model.specs.Inputs.Records.{file_header, file_header_bytes, FitsFileHeader, section_header, section_header_bytes, FitsSectionHeader, symbol, symbol_bytes, FitsSymbol, rela, rela_bytes, FitsRela, program_header, program_header_bytes, FitsProgramHeader}
 
 pub section_header-again : (h : SectionHeader) (rest : List ℕ) → FitsSectionHeader h → section_header (section_header_bytes h ++ rest) ≡ h
 unfolding section_header_bytes le_bytes

@@ -4,9 +4,9 @@ use Rattle.std.specs.Prelude.{All, IfSome, IsSome as IsThere, Option, None, filt
 use Rattle.std.proofs.lemmas.Bool.{false≢true}
 use Rattle.std.proofs.lemmas.Bool.Decides.{nat_tests}
 use Rattle.std.proofs.lemmas.List.Elements.{All-append, All-map, All-nil, All-weaker}
-use Rattle.elf_model.specs.Loading.{LoadedObject}
-use Rattle.elf_model.specs.ObjectFile.{rela_type, relas_of, section, sections}
-use Rattle.elf_model.specs.Relocation.{AreFieldsApart, IsFieldInside, Kind, Relocation, is_in_field, is_kept_rela, is_some_kind, relocation_kind, relocation_of, relocations_behind, relocations_from, relocations_in, relocations_of, width_of}
+use Rattle.elf_model.specs.Link.Loading.{LoadedObject}
+use Rattle.elf_model.specs.Inputs.ObjectFile.{rela_type, relas_of, section, sections}
+use Rattle.elf_model.specs.Link.Relocation.{AreFieldsApart, IsFieldInside, Kind, Relocation, is_in_field, is_kept_rela, is_some_kind, relocation_kind, relocation_of, relocations_behind, relocations_from, relocations_in, relocations_of, width_of}
 use Rattle.elf_model.specs.declared.records.SectionHeader.{SectionHeader}
 use Rattle.elf_model.proofs.KindWidths.{kind_width}
 

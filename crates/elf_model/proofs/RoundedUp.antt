@@ -2,7 +2,7 @@
 use Rattle.std.proofs.Common.{◌≡◌, ℕ, zero, suc, ◌+◌, ◌-◌, ◌*◌, ◌/◌, ◌%◌, ◌^◌, ◌<◌, sym, ap, ◌∙◌, arith}
 use Rattle.std.proofs.Math.Nat.{mod-add-mod, mod_self}
 use Rattle.std.proofs.lemmas.Nat.{div-add-mod', div-mul-add, mod-mul-add, mod_below}
-use Rattle.elf_model.specs.Placement.{round_up}
+use Rattle.elf_model.specs.Link.Placement.{round_up}
 
 -- q times a and r more, rounded up to a multiple of a
 round_up_parts : (a q r : ℕ) → r < a → round_up a (q * a + r) ≡ q * a + r + (a - r) % a

@@ -6,9 +6,9 @@ use Rattle.std.proofs.lemmas.Nat.{mod_below}
 use Rattle.std.proofs.Math.Nat.{mul-mod_left}
 use Rattle.std.proofs.lemmas.List.Elements.{All-cons, All-head, All-nil, All-tail, All-weaker}
 use Rattle.std.proofs.lemmas.List.Kept.{AllPairs-cons}
-use Rattle.elf_model.specs.OwnLayout.{end_of, page_up, place_at, placed_end, placed_from}
-use Rattle.elf_model.specs.Pieces.{Piece}
-use Rattle.elf_model.specs.Placement.{IsNear, Placed, round_up}
+use Rattle.elf_model.specs.Own.OwnLayout.{end_of, page_up, place_at, placed_end, placed_from}
+use Rattle.elf_model.specs.Link.Pieces.{Piece}
+use Rattle.elf_model.specs.Link.Placement.{IsNear, Placed, round_up}
 use Rattle.elf_model.proofs.Listed.{Contains-here, Contains-there}
 use Rattle.elf_model.proofs.Neighbours.{StandsBefore}
 use Rattle.elf_model.proofs.Pairs.{AllPairs-nil}

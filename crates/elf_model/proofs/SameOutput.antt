@@ -3,8 +3,8 @@ use Rattle.std.proofs.Common.{◌≡◌, Bool, true, false, ◌&&◌, refl, sym,
 use Rattle.std.specs.Str.{bytes_eq}
 use Rattle.std.proofs.lemmas.Bool.{and_from, and_parts, false≢true}
 use Rattle.std.proofs.lemmas.Slice.Eq.{bytes_eq-Decides}
-use Rattle.elf_model.specs.OwnLayout.{is_code, is_data, is_initial, is_read_only, is_thread_rest, is_zero}
-use Rattle.elf_model.specs.Pieces.{Piece, is_executable, is_nobits, is_thread_local, is_writable, output_name, same_bool, same_output}
+use Rattle.elf_model.specs.Own.OwnLayout.{is_code, is_data, is_initial, is_read_only, is_thread_rest, is_zero}
+use Rattle.elf_model.specs.Link.Pieces.{Piece, is_executable, is_nobits, is_thread_local, is_writable, output_name, same_bool, same_output}
 
 same_bool-true : (a b : Bool) → same_bool a b ≡ true → a ≡ b
 same_bool-true true true e = refl

@@ -2,8 +2,8 @@
 use Rattle.std.proofs.Common.{◌≡◌, ◌==◌, true, refl, ◌∙◌, ap, subst}
 use Rattle.std.proofs.lemmas.Bool.{and_from, and_parts, eq-eqb, eqb-true, false≢true}
 use Rattle.std.proofs.lemmas.Slice.Eq.{bytes_eq-Decides}
-use Rattle.elf_model.specs.MapRecord.{OfLocal, OfName, TargetRow}
-use Rattle.elf_model.specs.Slots.{Request, same_kind, same_request, same_target}
+use Rattle.elf_model.specs.Image.MapRecord.{OfLocal, OfName, TargetRow}
+use Rattle.elf_model.specs.Link.Slots.{Request, same_kind, same_request, same_target}
 use Rattle.elf_model.specs.declared.link_map.SlotKind.{SlotKind}
 use Rattle.elf_model.specs.declared.link_map.SlotKind.TheVariants as slot
 use Rattle.elf_model.proofs.SameOutput.{both_ways_equal}

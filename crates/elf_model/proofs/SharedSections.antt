@@ -6,8 +6,8 @@ use Rattle.std.proofs.lemmas.Bool.{false_from_ne_true, false≢true, or_from, or
 use Rattle.std.proofs.lemmas.List.{drop_all}
 use Rattle.std.proofs.lemmas.List.Elements.{All-cons, All-contains, All-drop, All-head, All-nil, All-tail, Contains-get_or}
 use Rattle.std.proofs.lemmas.List.Kept.{AllPairs-cons}
-use Rattle.elf_model.specs.Groups.{ShareNoSection}
-use Rattle.elf_model.specs.ObjectFile.{Group}
+use Rattle.elf_model.specs.Link.Groups.{ShareNoSection}
+use Rattle.elf_model.specs.Inputs.ObjectFile.{Group}
 use Rattle.elf_model.proofs.Pairs.{AllPairs-head, AllPairs-nil, AllPairs-tail}
 use Rattle.elf_model.proofs.Rests.{Left, rest_at}
 use Rattle.elf_model.specs.Marks.{AreUnmarked, is_marked, marked}

@@ -5,13 +5,13 @@ use Rattle.std.specs.Cmp.Lexicographic.{slice_cmp}
 use Rattle.std.specs.List.Sorted.{IsSortedByKey}
 use Rattle.std.specs.Ordering.{is_lt, nat_cmp}
 use Rattle.std.proofs.lemmas.List.{get_or-map, length-map}
-use Rattle.elf_model.specs.Loading.{LoadedObject}
-use Rattle.elf_model.specs.MapRecord.{SymbolRow}
-use Rattle.elf_model.specs.MapText.{Ascends, SymbolBefore}
-use Rattle.elf_model.specs.Listing.{AreListed}
-use Rattle.elf_model.specs.Meaning.{Meaning, meaning_name}
-use Rattle.elf_model.specs.Placement.{Where}
-use Rattle.elf_model.specs.RightLink.{HasLine, symbol_row_of}
+use Rattle.elf_model.specs.Link.Loading.{LoadedObject}
+use Rattle.elf_model.specs.Image.MapRecord.{SymbolRow}
+use Rattle.elf_model.specs.Image.MapText.{Ascends, SymbolBefore}
+use Rattle.elf_model.specs.Link.Listing.{AreListed}
+use Rattle.elf_model.specs.Link.Meaning.{Meaning, meaning_name}
+use Rattle.elf_model.specs.Link.Placement.{Where}
+use Rattle.elf_model.specs.Image.RightLink.{HasLine, symbol_row_of}
 use Rattle.elf_model.proofs.Found.{find-map}
 use Rattle.elf_model.proofs.RisingNames.{before_from_sorted, has}
 

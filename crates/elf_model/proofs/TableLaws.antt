@@ -5,14 +5,14 @@ use Rattle.std.specs.List.{flat_map}
 use Rattle.std.proofs.lemmas.List.{length-append, length-replicate}
 use Rattle.std.proofs.lemmas.List.Elements.{All-head, All-tail}
 use Rattle.std.proofs.lemmas.Slice.Eq.{bytes_eq-Decides}
-use Rattle.elf_model.specs.Listing.{AreListed, has_meaning, listed}
-use Rattle.elf_model.specs.Loading.{LoadedObject}
-use Rattle.elf_model.specs.Meaning.{Meaning, meaning_name}
-use Rattle.elf_model.specs.Placement.{Where}
-use Rattle.elf_model.specs.Records.{section_header_bytes, symbol_bytes}
-use Rattle.elf_model.specs.RightLink.{symbol_row_of}
-use Rattle.elf_model.specs.ObjectFile.{null_symbol}
-use Rattle.elf_model.specs.SymbolTable.{entries_from, entry_count, has_entry, headers_at, line_meanings, name_section, section_names, shstrtab_end, symbol_section, symtab_at, tabled, table_headers, tables, tables_end}
+use Rattle.elf_model.specs.Link.Listing.{AreListed, has_meaning, listed}
+use Rattle.elf_model.specs.Link.Loading.{LoadedObject}
+use Rattle.elf_model.specs.Link.Meaning.{Meaning, meaning_name}
+use Rattle.elf_model.specs.Link.Placement.{Where}
+use Rattle.elf_model.specs.Inputs.Records.{section_header_bytes, symbol_bytes}
+use Rattle.elf_model.specs.Image.RightLink.{symbol_row_of}
+use Rattle.elf_model.specs.Inputs.ObjectFile.{null_symbol}
+use Rattle.elf_model.specs.Image.SymbolTable.{entries_from, entry_count, has_entry, headers_at, line_meanings, name_section, section_names, shstrtab_end, symbol_section, symtab_at, tabled, table_headers, tables, tables_end}
 use Rattle.elf_model.specs.declared.records.SectionHeader.{SectionHeader}
 use Rattle.elf_model.specs.declared.records.Symbol.{Symbol}
 use Rattle.elf_model.proofs.RecordLaws.{length-section_header_bytes, length-symbol_bytes}

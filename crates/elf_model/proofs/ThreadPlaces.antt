@@ -4,10 +4,10 @@ use Rattle.std.proofs.Common.{◌≡◌, ℕ, ◌⊎◌, inl, inr, true, List, [
 use Rattle.std.specs.Prelude.{All, AllPairs, Contains}
 use Rattle.std.proofs.lemmas.Bool.{false≢true}
 use Rattle.std.proofs.lemmas.List.Elements.{All-contains, Contains-append_cases, Contains-append_left, Contains-append_right}
-use Rattle.elf_model.specs.Loading.{LoadedObject}
-use Rattle.elf_model.specs.OwnLayout.{code_pieces, end_of, first_start, initial_pieces, loaded_start, own_code, own_data, own_loaded, own_placed, own_read_only, own_thread_rest, placed_from, read_only_pieces, read_only_start, code_start, thread_rest_pieces, thread_rest_start, thread_start}
-use Rattle.elf_model.specs.Pieces.{AreLawfulKinds, Piece, is_thread_piece}
-use Rattle.elf_model.specs.Placement.{Placed}
+use Rattle.elf_model.specs.Link.Loading.{LoadedObject}
+use Rattle.elf_model.specs.Own.OwnLayout.{code_pieces, end_of, first_start, initial_pieces, loaded_start, own_code, own_data, own_loaded, own_placed, own_read_only, own_thread_rest, placed_from, read_only_pieces, read_only_start, code_start, thread_rest_pieces, thread_rest_start, thread_start}
+use Rattle.elf_model.specs.Link.Pieces.{AreLawfulKinds, Piece, is_thread_piece}
+use Rattle.elf_model.specs.Link.Placement.{Placed}
 use Rattle.elf_model.proofs.Listed.{All-from_contains, Contains-map}
 use Rattle.elf_model.proofs.OwnOrder.{code_not_thread, plain_data, plain_not_thread, read_only_not_thread}
 use Rattle.elf_model.proofs.Pairs.{AllPairs-append}

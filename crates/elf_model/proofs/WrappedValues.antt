@@ -5,7 +5,7 @@ use Rattle.std.proofs.lemmas.Int.{ints, int_rem_euclid_is}
 use Rattle.std.proofs.lemmas.Nat.{div-add-mod', mod_below}
 use Rattle.std.specs.Int.{cast_unsigned, w64}
 use Rattle.std.specs.Int.RustNames.{FitsSigned}
-use Rattle.elf_model.specs.Relocation.{modulo_64}
+use Rattle.elf_model.specs.Link.Relocation.{modulo_64}
 
 -- a whole number that some multiple of 2 ^ 64 lifts to a natural one
 pub modulo_is : (v : ℤ) (k m : ℕ) → v +ℤ pos (k * 2 ^ 64) ≡ pos m → modulo_64 v ≡ m % 2 ^ 64

@@ -1,6 +1,6 @@
 //! What the flags and the type of a section header say (System V gABI 4, "Sections").
 ghost use Rattle.std.specs.Prelude.{◌≡◌};
-ghost use Rattle.elf_model.specs.Pieces as pieces;
+ghost use Rattle.elf_model.specs.Link.Pieces as pieces;
 
 use crate::constants::{SHF_ALLOC, SHF_EXECINSTR, SHF_TLS, SHF_WRITE, SHT_NOBITS, SHT_NULL};
 use crate::records::SectionHeader;

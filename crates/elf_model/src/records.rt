@@ -1,7 +1,7 @@
 //! The records of ELF-64, read from bytes and written as bytes (System V gABI 4 and 5).
 ghost use Rattle.std.specs.Prelude.{◌≡◌, ◌≤◌, length, SomeIff};
-ghost use Rattle.elf_model.specs.ObjectFile.{rela_symbol, rela_type};
-ghost use Rattle.elf_model.specs.Records.{file_header, file_header_bytes, section_header, section_header_bytes, symbol, symbol_bytes, rela, rela_bytes, program_header, program_header_bytes};
+ghost use Rattle.elf_model.specs.Inputs.ObjectFile.{rela_symbol, rela_type};
+ghost use Rattle.elf_model.specs.Inputs.Records.{file_header, file_header_bytes, section_header, section_header_bytes, symbol, symbol_bytes, rela, rela_bytes, program_header, program_header_bytes};
 
 use crate::constants::{EHDR_SIZE, PHDR_SIZE, RELA_SIZE, SHDR_SIZE, SYM_SIZE};
 use crate::fields::{put_bytes, put_i64, put_u8, put_u16, put_u32, put_u64};

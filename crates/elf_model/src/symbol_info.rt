@@ -1,6 +1,6 @@
 //! What the entry of a symbol says (System V gABI 4, "Symbol Table").
 ghost use Rattle.std.specs.Prelude.{◌≡◌, ◌==◌};
-ghost use Rattle.elf_model.specs.Resolution as symbols;
+ghost use Rattle.elf_model.specs.Link.Resolution as symbols;
 
 use crate::constants::{SHN_COMMON, SHN_UNDEF, STB_GLOBAL, STB_LOCAL, STB_WEAK};
 use crate::records::Symbol;

@@ -3,7 +3,7 @@ use Rattle.std.proofs.Common.{◌≡◌, ℕ, ◌+◌, ◌*◌, List, [], ◌∷
 use Rattle.std.proofs.lemmas.List.{append_assoc}
 use Rattle.std.proofs.lemmas.List.FromFn.{map-range_with_len_more}
 use Rattle.byteview.specs.Numbers.{part}
-use Rattle.elf_model.specs.ObjectFile.{entries}
+use Rattle.elf_model.specs.Inputs.ObjectFile.{entries}
 
 pub entries_more : {X : Type 0} (read : List ℕ → X) (size : ℕ) (bytes : List ℕ) (offset n : ℕ)
     → entries read size bytes offset (n + 1) ≡ entries read size bytes offset n ++ read (part bytes (offset + size * n) size) ∷ []

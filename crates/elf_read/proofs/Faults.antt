@@ -4,8 +4,8 @@ use Rattle.std.specs.Prelude.{IfErr}
 use Rattle.std.specs.List.{Any}
 use Rattle.std.proofs.lemmas.List.Elements.{All-nil}
 use Rattle.byteview.specs.Numbers.{HasText}
-use Rattle.elf_model.specs.ObjectFile.{AreGoodRelas, AreGoodSymbols, AreSectionsNamed, AreSymbolsNamed, HasEntries, IsGoodSymbol, IsObject, ObjFaultStands, StandsIn, contents, entries, null_section, relas_of, section, sections, sections_of, symbol_table, symbols, symbols_of}
-use Rattle.elf_model.specs.Records.{file_header, symbol}
+use Rattle.elf_model.specs.Inputs.ObjectFile.{AreGoodRelas, AreGoodSymbols, AreSectionsNamed, AreSymbolsNamed, HasEntries, IsGoodSymbol, IsObject, ObjFaultStands, StandsIn, contents, entries, null_section, relas_of, section, sections, sections_of, symbol_table, symbols, symbols_of}
+use Rattle.elf_model.specs.Inputs.Records.{file_header, symbol}
 use Rattle.elf_model.specs.declared.faults.ObjFault.{ObjFault}
 use Rattle.elf_model.specs.declared.faults.ObjFault.TheVariants as fault
 use Rattle.elf_model.specs.declared.records.FileHeader.{FileHeader}

@@ -4,7 +4,7 @@ use Rattle.std.specs.Prelude.{◌↔◌, IsTrue, None, Option, Some, option_map,
 use Rattle.std.specs.List.{position_or_len, slice_get}
 use Rattle.std.proofs.lemmas.Bool.{false≢true}
 use Rattle.byteview.specs.Numbers.{is_nul, part, text}
-use Rattle.elf_model.specs.ObjectFile.{name_of_symbol, symbol_name, symbol_strings, symbols}
+use Rattle.elf_model.specs.Inputs.ObjectFile.{name_of_symbol, symbol_name, symbol_strings, symbols}
 use Rattle.elf_model.specs.declared.records.Symbol.{Symbol}
 use Rattle.elf_read.specs.Reading.{is_begun}
 

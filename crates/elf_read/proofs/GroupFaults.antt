@@ -1,7 +1,7 @@
 -- Groups without a symbol for their signature, and with bad members, as faults of the file.
 use Rattle.std.proofs.Common.{◌≡◌, inl, inr, ℕ, List, get_or, length, sym, subst, arith}
 use Rattle.std.specs.List.{All}
-use Rattle.elf_model.specs.ObjectFile.{AreGoodGroupSections, AreMembers, Group, HasGoodSymbolTable, HasMembers, HasTable, HaveSignatures, IsPlaced, LiesInside, StandsIn, groups_of}
+use Rattle.elf_model.specs.Inputs.ObjectFile.{AreGoodGroupSections, AreMembers, Group, HasGoodSymbolTable, HasMembers, HasTable, HaveSignatures, IsPlaced, LiesInside, StandsIn, groups_of}
 use Rattle.elf_model.specs.declared.faults.ObjFault.TheVariants as fault
 use Rattle.elf_model.specs.declared.records.FileHeader.{FileHeader}
 use Rattle.elf_model.specs.declared.records.SectionHeader.{SectionHeader}

@@ -6,7 +6,7 @@ use Rattle.std.proofs.lemmas.Bool.{eq-eqb, eqb-true, false≢true, ne_eqb}
 use Rattle.std.proofs.lemmas.List.{append-nil, map-append}
 use Rattle.std.proofs.lemmas.List.Elements.{All-cons, All-from_get_or, All-head, All-nil, All-tail, All-weaker}
 use Rattle.elf_model.proofs.Numbering.{all_numbers, filter_range_more, number_of}
-use Rattle.elf_model.specs.ObjectFile.{AreMembers, Group, IsObject, MayBeMember, group_at, group_flags, group_members, groups, groups_of, null_section, section, sections, symbol_name}
+use Rattle.elf_model.specs.Inputs.ObjectFile.{AreMembers, Group, IsObject, MayBeMember, group_at, group_flags, group_members, groups, groups_of, null_section, section, sections, symbol_name}
 use Rattle.elf_model.specs.declared.records.SectionHeader.{SectionHeader}
 
 -- what holds of each element that passes a test holds of the list of what is made of these, and the other way round

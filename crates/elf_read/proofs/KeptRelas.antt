@@ -6,7 +6,7 @@ use Rattle.std.specs.List.{slice_get}
 use Rattle.std.specs.Option.{option_and_then}
 use Rattle.std.proofs.lemmas.List.{map-append, take_more}
 use Rattle.std.proofs.lemmas.Option.{none-some, same_Some, slice_get-get_or, slice_get-map}
-use Rattle.elf_model.specs.ObjectFile.{null_section, relas, relas_in, sections}
+use Rattle.elf_model.specs.Inputs.ObjectFile.{null_section, relas, relas_in, sections}
 use Rattle.elf_model.specs.declared.records.Rela.{Rela}
 use Rattle.elf_read.specs.Reading.{AreKept, kept_entries}
 use Rattle.std.proofs.Common.{take}

@@ -2,7 +2,7 @@
 use Rattle.std.proofs.Common.{◌≡◌, ℕ, List, Option, Some, SomeIff, ap, subst, sym, ◌∙◌}
 use Rattle.std.specs.List.{slice_get}
 use Rattle.byteview.specs.Numbers.{HasText, text}
-use Rattle.elf_model.specs.ObjectFile.{IsObject, section_name, section_strings, sections, symbol_name, symbol_strings, symbols}
+use Rattle.elf_model.specs.Inputs.ObjectFile.{IsObject, section_name, section_strings, sections, symbol_name, symbol_strings, symbols}
 use Rattle.elf_model.specs.declared.records.SectionHeader.{SectionHeader}
 use Rattle.elf_model.specs.declared.records.Symbol.{Symbol}
 use Rattle.elf_read.proofs.Lookups.{text_told}

@@ -4,7 +4,7 @@ use Rattle.std.specs.Prelude.{unwrap_or}
 use Rattle.std.specs.List.{Any, find}
 use Rattle.std.proofs.lemmas.Bool.{cases_lt, eq-eqb, eqb-true, false≢true}
 use Rattle.std.proofs.lemmas.List.Elements.{All-cons, All-head, All-nil, All-tail}
-use Rattle.elf_model.specs.ObjectFile.{AreGoodRelas, HasEntries, HasGoodSymbolTable, HasSymbols, IsPlaced, IsRelaSection, LinksToSymbols, StandsIn, null_section, rela_symbol, relas_of, section, symbol_table}
+use Rattle.elf_model.specs.Inputs.ObjectFile.{AreGoodRelas, HasEntries, HasGoodSymbolTable, HasSymbols, IsPlaced, IsRelaSection, LinksToSymbols, StandsIn, null_section, rela_symbol, relas_of, section, symbol_table}
 use Rattle.elf_model.specs.declared.faults.ObjFault.TheVariants as fault
 use Rattle.elf_model.specs.declared.records.FileHeader.{FileHeader}
 use Rattle.elf_model.specs.declared.records.Rela.{Rela}

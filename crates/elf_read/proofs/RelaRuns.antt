@@ -4,7 +4,7 @@ use Rattle.std.specs.List.{All, slice_get}
 use Rattle.std.specs.Option.{option_and_then}
 use Rattle.std.proofs.lemmas.Bool.{eq-eqb, ltb-true, ne_eqb}
 use Rattle.std.proofs.lemmas.Option.{get_or_from_slice_get, slice_get-get_or, slice_get_within}
-use Rattle.elf_model.specs.ObjectFile.{IsPlaced, LiesInside, relas_in, relas_of}
+use Rattle.elf_model.specs.Inputs.ObjectFile.{IsPlaced, LiesInside, relas_in, relas_of}
 use Rattle.elf_model.specs.declared.records.SectionHeader.{SectionHeader}
 use Rattle.elf_read.proofs.SectionLemmas.{placed_inside}
 

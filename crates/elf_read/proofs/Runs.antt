@@ -2,7 +2,7 @@
 use Rattle.std.proofs.Common.{◌≡◌, ℕ, suc, ◌+◌, ◌*◌, ◌<◌, ◌≤◌, List, get_or, length, ap, sym, ◌∙◌, arith, le_of_eq, le_trans, mul-le-mul_left, mul-suc}
 use Rattle.std.proofs.lemmas.List.FromFn.{get_or-map-range_with_len, length-map-range_with_len}
 use Rattle.byteview.specs.Numbers.{part}
-use Rattle.elf_model.specs.ObjectFile.{entries}
+use Rattle.elf_model.specs.Inputs.ObjectFile.{entries}
 
 pub run_count : {X : Type 0} (read : List ℕ → X) (size : ℕ) (bytes : List ℕ) (start n : ℕ) (run : List X)
     → entries read size bytes start n ≡ run → n ≡ length run

@@ -4,11 +4,11 @@ use Rattle.std.specs.List.{All, slice_get}
 use Rattle.std.proofs.lemmas.Bool.{eq-eqb, false≢true}
 use Rattle.std.proofs.lemmas.List.{length-drop, length-take-le}
 use Rattle.std.proofs.Math.Bool.{or-true}
-use Rattle.elf_model.specs.ObjectFile.{IsPlaced, LiesInside, contents, has_no_bytes, section}
+use Rattle.elf_model.specs.Inputs.ObjectFile.{IsPlaced, LiesInside, contents, has_no_bytes, section}
 use Rattle.elf_model.specs.declared.records.SectionHeader.{SectionHeader}
 use Rattle.elf_read.proofs.Lookups.{all_at}
 use Rattle.std.proofs.lemmas.Option.{get_or_from_slice_get}
-use Rattle.elf_model.specs.ObjectFile.{null_section}
+use Rattle.elf_model.specs.Inputs.ObjectFile.{null_section}
 
 inside_with_bytes : (len : ℕ) (s : SectionHeader) → IsPlaced len s → has_no_bytes s ≡ false → LiesInside len s
 inside_with_bytes len s placed some = elim placed.range [

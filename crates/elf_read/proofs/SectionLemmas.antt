@@ -6,7 +6,7 @@ use Rattle.std.proofs.lemmas.Bool.{cases_lt, eqb-true}
 use Rattle.std.proofs.lemmas.List.{get_or_past}
 use Rattle.std.proofs.lemmas.List.Elements.{All-head, All-tail}
 use Rattle.std.proofs.lemmas.List.Sums.{sum_by-cons}
-use Rattle.elf_model.specs.ObjectFile.{HasGoodSymbolTable, HasSymbolStrings, HasTable, IsPlaced, IsStringTable, IsSymbolTable, LiesInside, null_section, section, symbol_table}
+use Rattle.elf_model.specs.Inputs.ObjectFile.{HasGoodSymbolTable, HasSymbolStrings, HasTable, IsPlaced, IsStringTable, IsSymbolTable, LiesInside, null_section, section, symbol_table}
 use Rattle.elf_model.specs.declared.records.FileHeader.{FileHeader}
 use Rattle.elf_model.specs.declared.records.SectionHeader.{SectionHeader}
 

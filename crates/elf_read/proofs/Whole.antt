@@ -2,8 +2,8 @@
 use Rattle.std.proofs.Common.{◌≡◌, ℕ, ◌<◌, ◌≤◌, ◌/◌, ◌^◌, List, Result, Ok, Err, length, ap, subst, ◌∙◌}
 use Rattle.std.specs.Prelude.{IfErr, IfOk, OnOk}
 use Rattle.std.specs.List.{All}
-use Rattle.elf_model.specs.ObjectFile.{AreMembers, HasTable, HaveSignatures, IsElf64, IsObject, ObjFaultStands, StandsIn, contents, entries, group_members as members_of, groups, groups_of, section, section_strings, sections, sections_of, symbol_strings, symbol_table as table_of, symbols, symbols_of}
-use Rattle.elf_model.specs.Records.{file_header, symbol}
+use Rattle.elf_model.specs.Inputs.ObjectFile.{AreMembers, HasTable, HaveSignatures, IsElf64, IsObject, ObjFaultStands, StandsIn, contents, entries, group_members as members_of, groups, groups_of, section, section_strings, sections, sections_of, symbol_strings, symbol_table as table_of, symbols, symbols_of}
+use Rattle.elf_model.specs.Inputs.Records.{file_header, symbol}
 use Rattle.elf_model.specs.declared.faults.ObjFault.{ObjFault}
 use Rattle.elf_model.specs.declared.records.FileHeader.{FileHeader}
 use Rattle.elf_model.specs.declared.records.SectionHeader.{SectionHeader}

@@ -3,8 +3,8 @@ use Rattle.std.specs.Prelude.{ℕ, ◌≡◌, ◌==◌, ◌<◌, ◌≤◌, ◌^
 use Rattle.std.specs.Global.{Vec}
 use Rattle.std.specs.List.{All, slice_get}
 use Rattle.byteview.specs.Numbers.{text}
-use Rattle.elf_model.specs.ObjectFile.{AreGoodGroupSections, AreGoodRelaSections, AreGoodRelas, AreGoodSymbols, AreSectionsNamed, AreSymbolsNamed, Group, HasGoodSymbolTable, HasTable, IsElf64, IsGoodTable, IsObject, IsPlaced, contents, groups, relas_in, relas_of, section, section_strings, sections, sections_of, symbol_strings, symbol_table, symbols, symbols_of}
-use Rattle.elf_model.specs.Records.{file_header}
+use Rattle.elf_model.specs.Inputs.ObjectFile.{AreGoodGroupSections, AreGoodRelaSections, AreGoodRelas, AreGoodSymbols, AreSectionsNamed, AreSymbolsNamed, Group, HasGoodSymbolTable, HasTable, IsElf64, IsGoodTable, IsObject, IsPlaced, contents, groups, relas_in, relas_of, section, section_strings, sections, sections_of, symbol_strings, symbol_table, symbols, symbols_of}
+use Rattle.elf_model.specs.Inputs.Records.{file_header}
 use Rattle.elf_model.specs.declared.constants.TheConstants.{SHT_RELA}
 use Rattle.elf_model.specs.declared.records.FileHeader.{FileHeader}
 use Rattle.elf_model.specs.declared.records.Rela.{Rela}

@@ -2,7 +2,7 @@
 //! and what may be listed.
 ghost use Rattle.std.specs.Prelude.{◌≡◌, ◌↔◌, ◌+◌, ◌-◌, ◌/◌, ◌<◌, ◌≤◌, ◌^◌, ◌==◌, ◌++◌, [], ◌∷◌, All, IfErr, IfOk, IsTrue, OnOk, count_by, if◌then◌else◌, length};
 ghost use Rattle.byteview.specs.Numbers.{IsInside, le, le_at};
-ghost use Rattle.elf_model.specs.ObjectFile.{AreGoodGroupSections, AreMembers, AreSymbolsNamed, HasGoodSymbolTable, HasTable, HaveSignatures, IsGroupSection, IsPlaced, LiesInside, LinksToSymbols, MayBeMember, StandsIn, entries, group_at, group_members, groups_of};
+ghost use Rattle.elf_model.specs.Inputs.ObjectFile.{AreGoodGroupSections, AreMembers, AreSymbolsNamed, HasGoodSymbolTable, HasTable, HaveSignatures, IsGroupSection, IsPlaced, LiesInside, LinksToSymbols, MayBeMember, StandsIn, entries, group_at, group_members, groups_of};
 ghost use Rattle.elf_model.specs.declared.records.FileHeader.{FileHeader};
 ghost use Rattle.elf_read.specs.Reading.{names_of};
 
@@ -26,7 +26,7 @@ pub struct Group<'a> {
 }
 
 impl<'a> Model for Group<'a> {
-    ghost use Rattle.elf_model.specs.ObjectFile.{Group as ListedGroup};
+    ghost use Rattle.elf_model.specs.Inputs.ObjectFile.{Group as ListedGroup};
 
     ghost Value = { ListedGroup };
 

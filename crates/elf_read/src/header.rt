@@ -1,8 +1,8 @@
 //! The file header and the section header table, and whether an object may have them (System V gABI 4, "ELF Header").
 ghost use Rattle.std.specs.Prelude.{◌≡◌, ◌↔◌, ◌+◌, ◌*◌, ◌<◌, ◌≤◌, ◌^◌, length, IfErr, IfOk, IsTrue};
 ghost use Rattle.byteview.specs.Numbers.{IsInside, part};
-ghost use Rattle.elf_model.specs.ObjectFile.{HasTable, IsElf64, ObjFaultStands, sections_of};
-ghost use Rattle.elf_model.specs.Records.{file_header, section_header};
+ghost use Rattle.elf_model.specs.Inputs.ObjectFile.{HasTable, IsElf64, ObjFaultStands, sections_of};
+ghost use Rattle.elf_model.specs.Inputs.Records.{file_header, section_header};
 
 use crate::run::Run;
 use byteview::{View, equal_run};

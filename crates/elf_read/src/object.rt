@@ -1,6 +1,6 @@
 //! An object file and tables of its own of what it holds.
 ghost use Rattle.std.specs.Prelude.{◌≡◌, IfErr, IfOk, IfSome, OnOk, All, ◌<◌, length, option_copied, option_map};
-ghost use Rattle.elf_model.specs.ObjectFile.{IsObject, ObjFaultStands, groups, relas, section, section_bytes, section_name, sections, symbol_name, symbols};
+ghost use Rattle.elf_model.specs.Inputs.ObjectFile.{IsObject, ObjFaultStands, groups, relas, section, section_bytes, section_name, sections, symbol_name, symbols};
 ghost use Rattle.elf_model.specs.declared.faults.ObjFault.TheVariants as fault;
 ghost use Rattle.elf_read.specs.Reading.{AreKept};
 

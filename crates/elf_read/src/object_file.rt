@@ -1,6 +1,6 @@
 //! A relocatable object file, judged, and what it holds: all of it is read where it is in the file.
 ghost use Rattle.std.specs.Prelude.{◌≡◌, ◌↔◌, ◌<◌, [], List, ℕ, All, length, IfErr, IfOk, IfSome, IsTrue, OnOk, option_copied, slice_index_or, unwrap_or};
-ghost use Rattle.elf_model.specs.ObjectFile.{IsObject, ObjFaultStands, groups, null_symbol, relas, section, section_bytes, section_name, sections, symbol_name, symbols, symbols_of};
+ghost use Rattle.elf_model.specs.Inputs.ObjectFile.{IsObject, ObjFaultStands, groups, null_symbol, relas, section, section_bytes, section_name, sections, symbol_name, symbols, symbols_of};
 ghost use Rattle.elf_model.specs.declared.faults.ObjFault.TheVariants as fault;
 ghost use Rattle.elf_read.specs.Reading.{HasGoodEntries, HasGoodHeader, HasGoodSections, is_begun};
 

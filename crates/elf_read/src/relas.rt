@@ -2,8 +2,8 @@
 //! their entries, which stay where they are in the file.
 ghost use Rattle.std.specs.Prelude.{◌≡◌, ◌↔◌, ◌/◌, ◌+◌, ◌*◌, ◌<◌, ◌≤◌, ◌==◌, ◌^◌, [], IfOk, IsTrue, count_by, length, slice_index_or};
 ghost use Rattle.byteview.specs.Numbers.{IsInside, part};
-ghost use Rattle.elf_model.specs.ObjectFile.{AreGoodRelaSections, AreGoodRelas, IsPlaced, IsRelaSection, LiesInside, MayBeRelocated, relas_of};
-ghost use Rattle.elf_model.specs.Records.{rela};
+ghost use Rattle.elf_model.specs.Inputs.ObjectFile.{AreGoodRelaSections, AreGoodRelas, IsPlaced, IsRelaSection, LiesInside, MayBeRelocated, relas_of};
+ghost use Rattle.elf_model.specs.Inputs.Records.{rela};
 ghost use Rattle.std.specs.List.{All, slice_get};
 ghost use Rattle.elf_read.specs.Reading.{HaveGoodEntries, null_rela};
 

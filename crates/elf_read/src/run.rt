@@ -3,8 +3,8 @@
 ghost use Rattle.std.specs.Prelude.{◌≡◌, ◌+◌, ◌*◌, ◌<◌, ◌≤◌, [], ℕ, List, IfOk, length, slice_index_or};
 ghost use Rattle.std.specs.List.{slice_get};
 ghost use Rattle.byteview.specs.Numbers.{IsInside, part};
-ghost use Rattle.elf_model.specs.ObjectFile.{entries, null_section, null_symbol};
-ghost use Rattle.elf_model.specs.Records.{rela, section_header, symbol};
+ghost use Rattle.elf_model.specs.Inputs.ObjectFile.{entries, null_section, null_symbol};
+ghost use Rattle.elf_model.specs.Inputs.Records.{rela, section_header, symbol};
 ghost use Rattle.elf_read.specs.Reading.{null_rela};
 
 use byteview::View;
@@ -92,7 +92,7 @@ pub struct Run<'a, T: Record> {
 
 impl<'a, T: Record> Model for Run<'a, T> {
     ghost use Rattle.std.specs.Prelude.{◌+◌, ◌*◌, ◌≤◌, List, length};
-    ghost use Rattle.elf_model.specs.ObjectFile.{entries};
+    ghost use Rattle.elf_model.specs.Inputs.ObjectFile.{entries};
 
     ghost Value = { List T };
 

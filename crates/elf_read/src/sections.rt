@@ -4,7 +4,7 @@ ghost use Rattle.std.specs.Int.{IsPowerOfTwo};
 ghost use Rattle.std.specs.List.{All, find};
 ghost use Rattle.byteview.specs.Numbers.{HasText};
 ghost use Rattle.elf_model.specs.declared.records.Symbol.{Symbol};
-ghost use Rattle.elf_model.specs.ObjectFile.{AreGoodGroupSections, AreGoodRelaSections, AreSectionsNamed, HasGoodSymbolTable, HasTable, IsAlignment, IsGoodTable, IsPlaced, IsStringTable, IsSymbolTable, LiesInside, LinksToSymbols, StandsIn, contents, has_no_bytes, section, symbol_table};
+ghost use Rattle.elf_model.specs.Inputs.ObjectFile.{AreGoodGroupSections, AreGoodRelaSections, AreSectionsNamed, HasGoodSymbolTable, HasTable, IsAlignment, IsGoodTable, IsPlaced, IsStringTable, IsSymbolTable, LiesInside, LinksToSymbols, StandsIn, contents, has_no_bytes, section, symbol_table};
 
 use crate::groups::are_good_group_sections;
 use crate::relas::are_good_rela_sections;

@@ -1,8 +1,8 @@
 //! Whether the symbol table of an object is a good one (System V gABI 4, "Symbol Table").
 ghost use Rattle.std.specs.Prelude.{◌≡◌, ◌↔◌, ◌/◌, ◌<◌, ◌^◌, length, IfErr, IfOk, OnOk, IsTrue};
 ghost use Rattle.byteview.specs.Numbers.{IsInside, part};
-ghost use Rattle.elf_model.specs.ObjectFile.{AreGoodSymbols, AreSectionsNamed, AreSymbolsNamed, IsGoodSymbol, LiesInside, StandsIn, contents, entries, section, symbol_table, symbols_of};
-ghost use Rattle.elf_model.specs.Records.{symbol};
+ghost use Rattle.elf_model.specs.Inputs.ObjectFile.{AreGoodSymbols, AreSectionsNamed, AreSymbolsNamed, IsGoodSymbol, LiesInside, StandsIn, contents, entries, section, symbol_table, symbols_of};
+ghost use Rattle.elf_model.specs.Inputs.Records.{symbol};
 ghost use Rattle.elf_read.specs.Reading.{HasGoodSections};
 
 use crate::run::Run;

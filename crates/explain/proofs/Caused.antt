@@ -3,14 +3,14 @@ use Rattle.std.proofs.Common.{◌≡◌, ◌∙◌, inr, ℕ, List, Ok, All, ref
 use Rattle.std.specs.Prelude.{None, ◌≢◌, Any}
 use Rattle.std.proofs.lemmas.List.Elements.{All-weaker}
 use Rattle.command.proofs.Found.{same_ok}
-use Rattle.elf_model.specs.Causes.{Cause, HasArchives, HasBadGroups, HasFiles, HasObjects, IsBadArchive, IsResolved, IsToDropped, IsToMixed, IsUndefinedName, IsWithoutIndex}
-use Rattle.elf_model.specs.Command.{Plan, command_of}
-use Rattle.elf_model.specs.Files.{File}
-use Rattle.elf_model.specs.Loading.{LoadedObject, loaded_objects}
-use Rattle.elf_model.specs.ObjectFile.{ObjFaultStands}
-use Rattle.elf_model.specs.Opening.{opened}
-use Rattle.elf_model.specs.Relocation.{IsFieldInside, IsThreadMismatch, Relocation, relocation_kind, relocations}
-use Rattle.elf_model.specs.Resolution.{IsDuplicate}
+use Rattle.elf_model.specs.Own.Causes.{Cause, HasArchives, HasBadGroups, HasFiles, HasObjects, IsBadArchive, IsResolved, IsToDropped, IsToMixed, IsUndefinedName, IsWithoutIndex}
+use Rattle.elf_model.specs.Inputs.Command.{Plan, command_of}
+use Rattle.elf_model.specs.Inputs.Files.{File}
+use Rattle.elf_model.specs.Link.Loading.{LoadedObject, loaded_objects}
+use Rattle.elf_model.specs.Inputs.ObjectFile.{ObjFaultStands}
+use Rattle.elf_model.specs.Inputs.Opening.{opened}
+use Rattle.elf_model.specs.Link.Relocation.{IsFieldInside, IsThreadMismatch, Relocation, relocation_kind, relocations}
+use Rattle.elf_model.specs.Link.Resolution.{IsDuplicate}
 use Rattle.elf_model.specs.declared.faults.LinkError.{LinkError}
 use Rattle.elf_model.specs.declared.faults.LinkError.TheVariants as error
 use Rattle.elf_model.proofs.Finding.{Any-from_contains}

@@ -2,9 +2,9 @@
 use Rattle.std.proofs.Common.{◌≡◌, ℕ, zero, suc, ◌+◌, List, [], ◌∷◌, Some, ◌∙◌, ap, arith}
 use Rattle.std.specs.List.{slice_get}
 use Rattle.std.proofs.lemmas.Option.{none-some, same_Some}
-use Rattle.elf_model.specs.Command.{Item}
-use Rattle.elf_model.specs.Files.{File}
-use Rattle.elf_model.specs.Opening.{opened_from, opened_item}
+use Rattle.elf_model.specs.Inputs.Command.{Item}
+use Rattle.elf_model.specs.Inputs.Files.{File}
+use Rattle.elf_model.specs.Inputs.Opening.{opened_from, opened_item}
 
 pub opened_at :
     (files : List File) (directories : List (List ℕ)) (k i n : ℕ) (items : List Item) (item : Item) → slice_get items i ≡ Some item → n ≡ k + i →

@@ -1,7 +1,7 @@
 -- Two fields of one section share a byte where one begins inside the other.
 use Rattle.std.proofs.Common.{ℕ, List, subst}
-use Rattle.elf_model.specs.Loading.{LoadedObject}
-use Rattle.elf_model.specs.Relocation.{width_of}
+use Rattle.elf_model.specs.Link.Loading.{LoadedObject}
+use Rattle.elf_model.specs.Link.Relocation.{width_of}
 use Rattle.input_names.proofs.Overlapping.{not_apart}
 use Rattle.input_names.specs.RelocationPlaces.{BeginsIn}
 use Rattle.explain.specs.Overlaps.{IsField}

@@ -2,11 +2,11 @@
 use Rattle.std.proofs.Common.{◌≡◌, ◌∙◌, ℕ, List, Ok, Some, All, subst, sym}
 use Rattle.std.specs.List.{slice_get}
 use Rattle.std.proofs.lemmas.List.Elements.{All-weaker}
-use Rattle.elf_model.specs.Command.{Plan, command_of}
-use Rattle.elf_model.specs.Files.{File}
-use Rattle.elf_model.specs.Loading.{LoadedObject, loaded_objects}
-use Rattle.elf_model.specs.Opening as opened_items
-use Rattle.elf_model.specs.Opening.{Opened}
+use Rattle.elf_model.specs.Inputs.Command.{Plan, command_of}
+use Rattle.elf_model.specs.Inputs.Files.{File}
+use Rattle.elf_model.specs.Link.Loading.{LoadedObject, loaded_objects}
+use Rattle.elf_model.specs.Inputs.Opening as opened_items
+use Rattle.elf_model.specs.Inputs.Opening.{Opened}
 use Rattle.search.specs.Faults.{IsRefusedIn, LoadsBadly}
 use Rattle.search.specs.Loads.{LoadedPlan}
 use Rattle.opening.specs.Opened.{item_view}

@@ -1,9 +1,9 @@
 -- A relocation whose value doesn't fit, where the objects are laid out from a plan's base on.
 use Rattle.std.proofs.Common.{◌≡◌, ℕ, ◌+◌, ◌%◌, ◌^◌, List, subst}
-use Rattle.elf_model.specs.Loading.{LoadedObject}
-use Rattle.elf_model.specs.Placement.{section_address}
-use Rattle.elf_model.specs.Relocation.{Relocation}
-use Rattle.elf_model.specs.RelocationValues.{Fits, value_of}
+use Rattle.elf_model.specs.Link.Loading.{LoadedObject}
+use Rattle.elf_model.specs.Link.Placement.{section_address}
+use Rattle.elf_model.specs.Link.Relocation.{Relocation}
+use Rattle.elf_model.specs.Link.RelocationValues.{Fits, value_of}
 use Rattle.search.specs.Loads.{LoadedPlan}
 use Rattle.layout.specs.Placements.{Basis}
 use Rattle.relocate.specs.Values.{where_in}

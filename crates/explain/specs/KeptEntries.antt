@@ -1,9 +1,9 @@
 -- Kept relocations, by their entries.
 use Rattle.std.specs.Prelude.{◌≡◌, Some, true}
 use Rattle.std.specs.List.{slice_get}
-use Rattle.elf_model.specs.Loading.{LoadedObject}
-use Rattle.elf_model.specs.ObjectFile.{relas_of, sections}
-use Rattle.elf_model.specs.Relocation.{is_kept_rela, is_some_kind}
+use Rattle.elf_model.specs.Link.Loading.{LoadedObject}
+use Rattle.elf_model.specs.Inputs.ObjectFile.{relas_of, sections}
+use Rattle.elf_model.specs.Link.Relocation.{is_kept_rela, is_some_kind}
 use Rattle.explain.specs.declared.kept_entries.Kept.{Kept}
 
 -- it is an entry of a kept RELA section of an object, and no NONE

@@ -1,9 +1,9 @@
 -- Items that the explanation opens, and the places of them and of objects.
 use Rattle.std.specs.Prelude.{◌≡◌, List, Some}
 use Rattle.std.specs.List.{slice_get}
-use Rattle.elf_model.specs.Command.{Plan}
-use Rattle.elf_model.specs.Files.{File}
-use Rattle.elf_model.specs.Opening.{opened}
+use Rattle.elf_model.specs.Inputs.Command.{Plan}
+use Rattle.elf_model.specs.Inputs.Files.{File}
+use Rattle.elf_model.specs.Inputs.Opening.{opened}
 use Rattle.opening.specs.Opened.{item_view}
 use Rattle.search.specs.declared.loader.Reached.{Reached}
 use Rattle.opening.specs.declared.opened_items.OpenedItem.{OpenedItem}

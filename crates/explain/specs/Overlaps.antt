@@ -1,7 +1,7 @@
 -- Fields of relocations.
 use Rattle.std.specs.Prelude.{◌≡◌, List}
-use Rattle.elf_model.specs.Loading.{LoadedObject}
-use Rattle.elf_model.specs.Relocation.{Relocation, width_of}
+use Rattle.elf_model.specs.Link.Loading.{LoadedObject}
+use Rattle.elf_model.specs.Link.Relocation.{Relocation, width_of}
 use Rattle.explain.specs.Places.{IsRelocationAt}
 use Rattle.explain.specs.declared.overlaps.Field.{Field}
 

@@ -1,18 +1,18 @@
 -- What a place of an explanation says, and the cause that it carries.
 use Rattle.std.specs.Prelude.{◌≡◌, ◌≢◌, ◌<◌, ◌+◌, ◌%◌, ◌^◌, ℕ, true, List, [], Option, Some, Ok, Err, All, IfSome, unwrap_or}
 use Rattle.std.specs.List.{slice_get}
-use Rattle.elf_model.specs.Causes.{AnyRelocation, Cause, HasObjects, IsBadArchive, IsUndefinedName, IsWithoutIndex, Reaches}
-use Rattle.elf_model.specs.Command.{Item, Plan, command_of}
-use Rattle.elf_model.specs.Files.{File}
-use Rattle.elf_model.specs.Groups.{GroupFaultStands}
-use Rattle.elf_model.specs.Loading.{LoadedObject, loaded_objects}
-use Rattle.elf_model.specs.ObjectFile.{IsObject, ObjFaultStands, groups, section_name, sections, symbol_name, symbols}
-use Rattle.elf_model.specs.Relocation.{AreFieldsApart, Relocation}
-use Rattle.elf_model.specs.Opening.{HasFile, Opened, opened}
-use Rattle.elf_model.specs.Pieces.{is_kept}
-use Rattle.elf_model.specs.Placement.{section_address}
-use Rattle.elf_model.specs.RelocationValues.{Fits, value_of}
-use Rattle.elf_model.specs.Resolution.{IsDuplicate, IsEntry, IsSoundCommon, IsSoundSymbol, SymbolOf, is_strong, symbol_of}
+use Rattle.elf_model.specs.Own.Causes.{AnyRelocation, Cause, HasObjects, IsBadArchive, IsUndefinedName, IsWithoutIndex, Reaches}
+use Rattle.elf_model.specs.Inputs.Command.{Item, Plan, command_of}
+use Rattle.elf_model.specs.Inputs.Files.{File}
+use Rattle.elf_model.specs.Link.Groups.{GroupFaultStands}
+use Rattle.elf_model.specs.Link.Loading.{LoadedObject, loaded_objects}
+use Rattle.elf_model.specs.Inputs.ObjectFile.{IsObject, ObjFaultStands, groups, section_name, sections, symbol_name, symbols}
+use Rattle.elf_model.specs.Link.Relocation.{AreFieldsApart, Relocation}
+use Rattle.elf_model.specs.Inputs.Opening.{HasFile, Opened, opened}
+use Rattle.elf_model.specs.Link.Pieces.{is_kept}
+use Rattle.elf_model.specs.Link.Placement.{section_address}
+use Rattle.elf_model.specs.Link.RelocationValues.{Fits, value_of}
+use Rattle.elf_model.specs.Link.Resolution.{IsDuplicate, IsEntry, IsSoundCommon, IsSoundSymbol, SymbolOf, is_strong, symbol_of}
 use Rattle.elf_model.specs.declared.faults.ArFault.TheVariants as archive_fault
 use Rattle.elf_model.specs.declared.faults.CmdFault.{CmdFault}
 use Rattle.elf_model.specs.declared.faults.GroupFault.{GroupFault}

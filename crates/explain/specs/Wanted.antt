@@ -1,6 +1,6 @@
 -- What has to be known of a link before its sections and symbols are asked for.
-use Rattle.elf_model.specs.Command.{IsBase}
-use Rattle.elf_model.specs.Resolution.{IsDuplicate}
+use Rattle.elf_model.specs.Inputs.Command.{IsBase}
+use Rattle.elf_model.specs.Link.Resolution.{IsDuplicate}
 use Rattle.search.specs.Loads.{LoadedPlan}
 use Rattle.explain.specs.declared.wanted.Wanted.{Wanted}
 use Rattle.explain.specs.declared.wanted.Wanted.TheVariants as wanted

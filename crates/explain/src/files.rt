@@ -1,7 +1,7 @@
 //! Items without files, archives that are none, and the object at which loading stops.
 ghost use Rattle.std.specs.Prelude.{List, IfOk, IfSome, OnOk, Some};
-ghost use Rattle.elf_model.specs.Command as command;
-ghost use Rattle.elf_model.specs.Files.{File, files_of};
+ghost use Rattle.elf_model.specs.Inputs.Command as command;
+ghost use Rattle.elf_model.specs.Inputs.Files.{File, files_of};
 ghost use Rattle.opening.specs.Faults.{IsUnsearchable};
 ghost use Rattle.search.specs.Faults.{IsRefusedIn};
 ghost use Rattle.opening.specs.Opened.{item_view};

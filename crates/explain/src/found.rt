@@ -1,9 +1,9 @@
 //! The places that were found so far: the first of them, and how many more there are.
 ghost use Rattle.std.specs.Prelude.{◌≡◌, ◌≢◌, ◌<◌, ◌≤◌, [], All, IfOk, IfSome, IsTrue, List, OnOk, length, ℕ};
-ghost use Rattle.elf_model.specs.Command as command;
-ghost use Rattle.elf_model.specs.Files.{File};
+ghost use Rattle.elf_model.specs.Inputs.Command as command;
+ghost use Rattle.elf_model.specs.Inputs.Files.{File};
 ghost use Rattle.search.specs.Loads.{LoadedPlan};
-ghost use Rattle.elf_model.specs.Causes.{Cause};
+ghost use Rattle.elf_model.specs.Own.Causes.{Cause};
 ghost use Rattle.elf_model.specs.declared.faults.LinkError.TheVariants as link_error;
 ghost use Rattle.explain.specs.Phases.{place_phase};
 ghost use Rattle.explain.specs.Places.{AreSo, AreSoOf, Holds, HoldsIn, HoldsOf, IsOfPhase, Says};

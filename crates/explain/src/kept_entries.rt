@@ -1,7 +1,7 @@
 //! The kept relocations of a loaded object, by the numbers of their sections and of their entries in there.
 ghost use Rattle.std.specs.Prelude.{◌≡◌, IfSome, Some};
 ghost use Rattle.std.specs.List.{slice_get};
-ghost use Rattle.elf_model.specs.Relocation.{relocation_of};
+ghost use Rattle.elf_model.specs.Link.Relocation.{relocation_of};
 ghost use Rattle.search.specs.KeptLists.{IsKeptRela};
 ghost use Rattle.search.specs.Views.{loaded_view};
 ghost use Rattle.explain.specs.KeptEntries.{IsKept};

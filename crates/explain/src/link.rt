@@ -1,10 +1,10 @@
 //! Why a link is refused, phase by phase.
 ghost use Rattle.std.specs.Prelude.{◌≡◌, ◌↔◌, ◌<◌, ◌≤◌, [], All, Err, IfOk, IfSome, IsTrue, List, OnOk, length};
-ghost use Rattle.elf_model.specs.Causes.{Cause};
-ghost use Rattle.elf_model.specs.Command.{IsBase, command_of};
+ghost use Rattle.elf_model.specs.Own.Causes.{Cause};
+ghost use Rattle.elf_model.specs.Inputs.Command.{IsBase, command_of};
 ghost use Rattle.elf_model.specs.declared.faults.LinkError.TheVariants as link_error;
-ghost use Rattle.elf_model.specs.Files.{File, files_of, words_of};
-ghost use Rattle.elf_model.specs.Pieces.{AreLawfulKinds};
+ghost use Rattle.elf_model.specs.Inputs.Files.{File, files_of, words_of};
+ghost use Rattle.elf_model.specs.Link.Pieces.{AreLawfulKinds};
 ghost use Rattle.resolve.specs.Refusals.{ResolvingFails};
 ghost use Rattle.explain.specs.Places.{AreSo, AreSoOf, Holds, Says};
 

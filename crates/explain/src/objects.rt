@@ -1,7 +1,7 @@
 //! The places of objects, sections, symbols and relocations, as their objects tell them.
 ghost use Rattle.std.specs.Prelude.{◌≡◌, [], IfSome, Some, unwrap_or};
 ghost use Rattle.std.specs.List.{slice_get};
-ghost use Rattle.elf_model.specs.ObjectFile.{relas_of, section_name, sections, symbol_name, symbols};
+ghost use Rattle.elf_model.specs.Inputs.ObjectFile.{relas_of, section_name, sections, symbol_name, symbols};
 ghost use Rattle.search.specs.Views.{loaded_view};
 ghost use Rattle.explain.specs.Places.{IsFileOf};
 

@@ -1,7 +1,7 @@
 //! Relocations whose values don't fit their fields.
 ghost use Rattle.std.specs.Prelude.{◌≡◌, IfSome, OnOk};
-ghost use Rattle.elf_model.specs.Pieces.{AreLawfulKinds};
-ghost use Rattle.elf_model.specs.Slots as wanted;
+ghost use Rattle.elf_model.specs.Link.Pieces.{AreLawfulKinds};
+ghost use Rattle.elf_model.specs.Link.Slots as wanted;
 ghost use Rattle.relocate.specs.SymbolTables.{IsValued, all_valued};
 ghost use Rattle.relocate.specs.Values.{pointer_in, where_in};
 ghost use Rattle.explain.specs.Places.{AreSo, HoldsIn, basis_of};

@@ -1,6 +1,6 @@
 //! Kept sections of kinds that are none of the profile's, and those that leave no room.
 ghost use Rattle.std.specs.Prelude.{IfSome};
-ghost use Rattle.elf_model.specs.Command.{IsBase};
+ghost use Rattle.elf_model.specs.Inputs.Command.{IsBase};
 ghost use Rattle.explain.specs.Places.{HoldsIn};
 
 use crate::objects::{kept_at, object_at, section_place};

@@ -1,6 +1,6 @@
 //! Symbols that aren't sound, and strong definitions of a name that has two.
 ghost use Rattle.std.specs.Prelude.{IfSome};
-ghost use Rattle.elf_model.specs.Resolution.{IsDuplicate};
+ghost use Rattle.elf_model.specs.Link.Resolution.{IsDuplicate};
 ghost use Rattle.explain.specs.Places.{HoldsIn};
 
 use crate::objects::{object_at, symbol_at, symbol_place};

@@ -5,20 +5,20 @@ use Rattle.std.specs.List.{slice_get}
 use Rattle.std.proofs.lemmas.Bool.{false≢true}
 use Rattle.std.proofs.lemmas.Option.{get_or_from_slice_get, none-some, same_Some, slice_get-map, slice_get_within}
 use Rattle.std.proofs.lemmas.List.Elements.{All-head}
-use Rattle.elf_model.specs.MapText.{IsMap}
-use Rattle.elf_model.specs.MemoryImage.{loads, thread_blocks}
-use Rattle.elf_model.specs.Pieces.{is_thread_zero, kept_sections}
-use Rattle.elf_model.specs.Placement.{AreApart, HasRights, IsNear, IsPlaced, IsWithin, LiesInSegment, Placed, got_things, headers_thing, is_thread_place, thing_of, thread_ranges}
-use Rattle.elf_model.specs.RightLink.{AreSectionsListed, AreSymbolsListed, AreTablesRight, EndsRight, Holds, HoldsInitial, HoldsPiece, HoldsTables, IsClearOf, IsLoaded, Subject, facts_of_piece, facts_of_row, objects_of, placed_of, symbol_row_of, things_of, thread_data_end, where_of}
+use Rattle.elf_model.specs.Image.MapText.{IsMap}
+use Rattle.elf_model.specs.Image.MemoryImage.{loads, thread_blocks}
+use Rattle.elf_model.specs.Link.Pieces.{is_thread_zero, kept_sections}
+use Rattle.elf_model.specs.Link.Placement.{AreApart, HasRights, IsNear, IsPlaced, IsWithin, LiesInSegment, Placed, got_things, headers_thing, is_thread_place, thing_of, thread_ranges}
+use Rattle.elf_model.specs.Image.RightLink.{AreSectionsListed, AreSymbolsListed, AreTablesRight, EndsRight, Holds, HoldsInitial, HoldsPiece, HoldsTables, IsClearOf, IsLoaded, Subject, facts_of_piece, facts_of_row, objects_of, placed_of, symbol_row_of, things_of, thread_data_end, where_of}
 use Rattle.linkmap.specs.Borrowed.{symbol_row}
 use Rattle.elf_model.specs.declared.link_map.GotLine.{GotLine}
 use Rattle.elf_model.specs.declared.link_map.SymtabLine.{SymtabLine}
 use Rattle.elf_model.specs.declared.records.ProgramHeader.{ProgramHeader}
 use Rattle.elf_model.specs.declared.thing.Thing.{Thing}
 use Rattle.elf_model.proofs.Listed.{All-parts, All-unmap}
-use Rattle.elf_model.specs.Placement as placement
-use Rattle.elf_model.specs.Relocation.{IsLawfulRelocation, Relocation}
-use Rattle.elf_model.specs.RelocationValues.{Fits}
+use Rattle.elf_model.specs.Link.Placement as placement
+use Rattle.elf_model.specs.Link.Relocation.{IsLawfulRelocation, Relocation}
+use Rattle.elf_model.specs.Link.RelocationValues.{Fits}
 use Rattle.check_link.specs.Views.{meaning_view, placed_view}
 use Rattle.check_link.proofs.Padded.{below_or_not}
 use Rattle.check_link.specs.Slots.{request_view}

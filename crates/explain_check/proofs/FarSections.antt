@@ -3,9 +3,9 @@ use Rattle.std.proofs.Common.{◌≡◌, ℕ, ◌<◌, true, Option, Some, None,
 use Rattle.std.specs.Prelude.{IfSome, slice_index_or}
 use Rattle.std.specs.BTreeMap.{BTreeMap, get}
 use Rattle.std.proofs.lemmas.List.{get_or-map, length-map}
-use Rattle.elf_model.specs.Pieces.{same_output}
-use Rattle.elf_model.specs.Placement as placement
-use Rattle.elf_model.specs.Placement.{IsNext}
+use Rattle.elf_model.specs.Link.Pieces.{same_output}
+use Rattle.elf_model.specs.Link.Placement as placement
+use Rattle.elf_model.specs.Link.Placement.{IsNext}
 use Rattle.check_link.proofs.SameOutput.{differ_by_third}
 use Rattle.check_link.specs.OutputSections.{IsOutputSection, section_order}
 use Rattle.check_link.specs.Views.{placed_view, placed_views}

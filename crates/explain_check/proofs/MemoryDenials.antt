@@ -5,11 +5,11 @@ use Rattle.std.specs.List.{slice_get}
 use Rattle.std.proofs.lemmas.Bool.{false≢true}
 use Rattle.std.proofs.lemmas.List.Elements.{All-contains}
 use Rattle.std.proofs.lemmas.Option.{get_or_from_slice_get, none-some, same_Some, slice_get_within}
-use Rattle.elf_model.specs.Loading.{LoadedObject}
-use Rattle.elf_model.specs.MapRecord.{SlotRow}
-use Rattle.elf_model.specs.MemoryImage.{thread_blocks}
-use Rattle.elf_model.specs.Relocation.{IsLawfulRelocation, Kind, Relocation, relocations}
-use Rattle.elf_model.specs.RightLink.{HoldsGot, IsClearOf, StandFrom, Subject, objects_of, other_things, thread_data_end, where_of}
+use Rattle.elf_model.specs.Link.Loading.{LoadedObject}
+use Rattle.elf_model.specs.Image.MapRecord.{SlotRow}
+use Rattle.elf_model.specs.Image.MemoryImage.{thread_blocks}
+use Rattle.elf_model.specs.Link.Relocation.{IsLawfulRelocation, Kind, Relocation, relocations}
+use Rattle.elf_model.specs.Image.RightLink.{HoldsGot, IsClearOf, StandFrom, Subject, objects_of, other_things, thread_data_end, where_of}
 use Rattle.elf_model.specs.declared.link_map.GotLine.{GotLine}
 use Rattle.elf_model.specs.declared.records.ProgramHeader.{ProgramHeader}
 use Rattle.input_names.proofs.ListedPlaces.{listed}

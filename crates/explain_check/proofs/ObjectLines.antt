@@ -1,9 +1,9 @@
 -- The object line of the object that has a number.
 use Rattle.std.proofs.Common.{◌≡◌, ◌∙◌, ℕ, zero, suc, ◌+◌, List, [], ◌∷◌, Some, ap, refl, option_map, arith}
 use Rattle.std.specs.List.{slice_get}
-use Rattle.elf_model.specs.Loading.{LoadedObject}
-use Rattle.elf_model.specs.MapRecord.{ObjectRow}
-use Rattle.elf_model.specs.RightLink.{object_rows}
+use Rattle.elf_model.specs.Link.Loading.{LoadedObject}
+use Rattle.elf_model.specs.Image.MapRecord.{ObjectRow}
+use Rattle.elf_model.specs.Image.RightLink.{object_rows}
 use Rattle.checker.specs.ObjectLines.{row_of}
 
 pub rows_at : (n k m : ℕ) (os : List LoadedObject) → m ≡ n + k → slice_get (object_rows n os) k ≡ option_map (row_of m) (slice_get os k)

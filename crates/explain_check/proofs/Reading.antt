@@ -1,7 +1,7 @@
 -- What holds of a link holds of the words and the text that it was read from; and what places of one clause say together.
 use Rattle.std.proofs.Common.{◌≡◌, ℕ, List, All, subst, sym}
 use Rattle.std.proofs.lemmas.List.Elements.{All-weaker}
-use Rattle.elf_model.specs.RightLink.{IsRead, Subject}
+use Rattle.elf_model.specs.Image.RightLink.{IsRead, Subject}
 use Rattle.elf_model.specs.declared.verdict.Clause.{Clause}
 use Rattle.explain_check.specs.Places.{AreFailures, FailsAt, FailsIn, IsFirst, IsOf, clause_of}
 use Rattle.explain_check.specs.declared.place.CheckPlace.{CheckPlace}

@@ -2,9 +2,9 @@
 use Rattle.std.proofs.Common.{◌≡◌, ◌≢◌, ◌+◌, ◌≤◌, ℕ, false, true, List, Some, refl, subst}
 use Rattle.std.specs.Prelude.{All, Any}
 use Rattle.std.specs.List.{slice_get}
-use Rattle.elf_model.specs.MemoryImage.{Cell, loads, memory_of}
-use Rattle.elf_model.specs.Placement.{Covers}
-use Rattle.elf_model.specs.RightLink.{EndsRight, IsOfSegment, Subject, fill_of, things_of}
+use Rattle.elf_model.specs.Image.MemoryImage.{Cell, loads, memory_of}
+use Rattle.elf_model.specs.Link.Placement.{Covers}
+use Rattle.elf_model.specs.Image.RightLink.{EndsRight, IsOfSegment, Subject, fill_of, things_of}
 use Rattle.elf_model.specs.declared.thing.Thing.{Thing}
 use Rattle.explain_check.specs.FillPlaces.{IsAmong, IsEmptySegment, IsInFileOf, IsWrongFileEnd, IsWrongFill, IsWrongMemoryEnd}
 use Rattle.explain_check.specs.declared.memory_place.SegmentPlace.{SegmentPlace}

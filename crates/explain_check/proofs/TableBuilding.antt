@@ -2,10 +2,10 @@
 use Rattle.std.proofs.Common.{◌≡◌, ◌∙◌, ℕ, ◌+◌, ◌-◌, ◌*◌, List, [], ◌∷◌, ◌++◌, length, map, replicate, ap, refl, subst, sym, append_assoc, arith}
 use Rattle.std.specs.List.{flat_map}
 use Rattle.std.proofs.lemmas.List.{append-nil, length-append}
-use Rattle.elf_model.specs.Meaning.{Meaning, meaning_name}
-use Rattle.elf_model.specs.Placement.{Where}
-use Rattle.elf_model.specs.Records.{symbol_bytes}
-use Rattle.elf_model.specs.SymbolTable.{ended, entries_from, entry_count, entry_of, name_section, symbol_section, tables}
+use Rattle.elf_model.specs.Link.Meaning.{Meaning, meaning_name}
+use Rattle.elf_model.specs.Link.Placement.{Where}
+use Rattle.elf_model.specs.Inputs.Records.{symbol_bytes}
+use Rattle.elf_model.specs.Image.SymbolTable.{ended, entries_from, entry_count, entry_of, name_section, symbol_section, tables}
 use Rattle.elf_model.specs.declared.records.Symbol as entry
 use Rattle.check_link.specs.Views.{held}
 use Rattle.checker.specs.Tabled.{AreAt, end_bytes, ended_names}

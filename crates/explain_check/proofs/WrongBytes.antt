@@ -3,10 +3,10 @@ use Rattle.std.proofs.Common.{◌≡◌, ℕ, ◌+◌, ◌<◌, List, Option, So
 use Rattle.std.specs.Prelude.{IfSome, find, option_map}
 use Rattle.std.specs.List.{slice_get}
 use Rattle.std.specs.Global.{Vec}
-use Rattle.elf_model.specs.MemoryImage.{memory_of}
-use Rattle.elf_model.specs.Pieces.{load_size}
-use Rattle.elf_model.specs.RightLink.{Subject, byte_at, objects_of, placed_of, where_of}
-use Rattle.elf_model.specs.WantedBytes.{wanted_byte}
+use Rattle.elf_model.specs.Image.MemoryImage.{memory_of}
+use Rattle.elf_model.specs.Link.Pieces.{load_size}
+use Rattle.elf_model.specs.Image.RightLink.{Subject, byte_at, objects_of, placed_of, where_of}
+use Rattle.elf_model.specs.Link.WantedBytes.{wanted_byte}
 use Rattle.check_link.specs.Views.{placed_view}
 use Rattle.check_link.specs.declared.things.Placed.{Placed}
 use Rattle.check_relocs.specs.Bytes.{byte_of, covers, fields_in}

@@ -1,13 +1,13 @@
 -- What is wrong with an entry, by what its symbol means, is wrong with its relocation in the link.
 use Rattle.std.proofs.Common.{◌≡◌, ℕ, ◌≤◌, ◌+◌, ◌-◌, ◌%◌, ◌^◌, ◌*◌, Bool, List, Option, Some, ap, subst, sym, ◌∙◌}
 use Rattle.std.specs.Prelude.{IfSome, IsSomeAnd}
-use Rattle.elf_model.specs.Loading.{LoadedObject}
-use Rattle.elf_model.specs.ObjectFile.{rela_symbol, rela_type, section, sections}
-use Rattle.elf_model.specs.Placement.{Where, got_start, section_address}
-use Rattle.elf_model.specs.Relocation.{IsInRange, IsMismatch, Kind, Relocation, kind_of, relocation_of, symbol_at}
-use Rattle.elf_model.specs.RelocationValues.{Fits, value_of}
-use Rattle.elf_model.specs.RightLink.{Subject, objects_of, where_of}
-use Rattle.elf_model.specs.Slots.{slot_address}
+use Rattle.elf_model.specs.Link.Loading.{LoadedObject}
+use Rattle.elf_model.specs.Inputs.ObjectFile.{rela_symbol, rela_type, section, sections}
+use Rattle.elf_model.specs.Link.Placement.{Where, got_start, section_address}
+use Rattle.elf_model.specs.Link.Relocation.{IsInRange, IsMismatch, Kind, Relocation, kind_of, relocation_of, symbol_at}
+use Rattle.elf_model.specs.Link.RelocationValues.{Fits, value_of}
+use Rattle.elf_model.specs.Image.RightLink.{Subject, objects_of, where_of}
+use Rattle.elf_model.specs.Link.Slots.{slot_address}
 use Rattle.elf_model.specs.declared.records.Rela.{Rela}
 use Rattle.check_link.specs.ThreadStorage.{thread_pointer}
 use Rattle.check_relocs.proofs.FittingLemmas.{refers, value_is}

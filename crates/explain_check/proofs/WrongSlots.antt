@@ -8,11 +8,11 @@ use Rattle.std.proofs.lemmas.List.Folds.{list_any-from_Any}
 use Rattle.std.proofs.lemmas.Option.{get_or_from_slice_get, none-some, same_Some}
 use Rattle.elf_model.proofs.Listed.{Contains-from_slice_get}
 use Rattle.elf_model.proofs.SameRequests.{same_itself}
-use Rattle.elf_model.specs.Loading.{LoadedObject}
-use Rattle.elf_model.specs.MapRecord.{SlotRow}
-use Rattle.elf_model.specs.Relocation.{Relocation, relocations}
-use Rattle.elf_model.specs.RightLink.{HasSlot, Subject, objects_of}
-use Rattle.elf_model.specs.Slots.{Request, is_slot_of, request_of, requests, row_request, same_request}
+use Rattle.elf_model.specs.Link.Loading.{LoadedObject}
+use Rattle.elf_model.specs.Image.MapRecord.{SlotRow}
+use Rattle.elf_model.specs.Link.Relocation.{Relocation, relocations}
+use Rattle.elf_model.specs.Image.RightLink.{HasSlot, Subject, objects_of}
+use Rattle.elf_model.specs.Link.Slots.{Request, is_slot_of, request_of, requests, row_request, same_request}
 use Rattle.check_link.specs.Slots.{line_of, request_view}
 use Rattle.check_link.specs.declared.requests.Request as code
 use Rattle.check_relocs.proofs.NeedSteps.{any_requests}

@@ -1,12 +1,12 @@
 -- What a place of a piece's byte says of a link.
 use Rattle.std.specs.Prelude.{◌≡◌, ℕ, ◌+◌, ◌<◌, true, List, Some, IfSome, option_map, unwrap_or}
 use Rattle.std.specs.List.{slice_get}
-use Rattle.elf_model.specs.Loading.{LoadedObject}
-use Rattle.elf_model.specs.ObjectFile.{rela_type}
-use Rattle.elf_model.specs.Pieces.{load_size}
-use Rattle.elf_model.specs.Relocation.{Relocation, is_in_field, kind_of}
-use Rattle.elf_model.specs.RightLink.{Subject, byte_at, objects_of, placed_of, where_of}
-use Rattle.elf_model.specs.WantedBytes.{wanted_byte}
+use Rattle.elf_model.specs.Link.Loading.{LoadedObject}
+use Rattle.elf_model.specs.Inputs.ObjectFile.{rela_type}
+use Rattle.elf_model.specs.Link.Pieces.{load_size}
+use Rattle.elf_model.specs.Link.Relocation.{Relocation, is_in_field, kind_of}
+use Rattle.elf_model.specs.Image.RightLink.{Subject, byte_at, objects_of, placed_of, where_of}
+use Rattle.elf_model.specs.Link.WantedBytes.{wanted_byte}
 use Rattle.elf_model.specs.declared.records.Rela.{Rela}
 use Rattle.check_link.specs.Views.{placed_view}
 use Rattle.input_names.specs.RelocationPlaces.{IsRelocationAt}

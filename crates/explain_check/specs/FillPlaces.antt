@@ -1,9 +1,9 @@
 -- What a place outside of all things, and one of where segments and the file end, says of a link.
 use Rattle.std.specs.Prelude.{◌≡◌, ℕ, ◌+◌, ◌<◌, ◌≤◌, ◌≢◌, ◌||◌, Bool, not, true, List, None, Some, All, Any, IsTrue, length, slice_index}
 use Rattle.std.specs.List.{slice_get}
-use Rattle.elf_model.specs.MemoryImage.{file_end, loads, memory_of}
-use Rattle.elf_model.specs.Placement.{Covers}
-use Rattle.elf_model.specs.RightLink.{EndsRight, IsInFilePart, IsOfSegment, Subject, fill_of, things_of}
+use Rattle.elf_model.specs.Image.MemoryImage.{file_end, loads, memory_of}
+use Rattle.elf_model.specs.Link.Placement.{Covers}
+use Rattle.elf_model.specs.Image.RightLink.{EndsRight, IsInFilePart, IsOfSegment, Subject, fill_of, things_of}
 use Rattle.elf_model.specs.declared.records.ProgramHeader.{ProgramHeader}
 use Rattle.elf_model.specs.declared.thing.Thing.{Thing}
 use Rattle.explain_check.specs.declared.memory_place.FillPlace.{FillPlace}

@@ -1,10 +1,10 @@
 -- What a place of the global offset table says of a link.
 use Rattle.std.specs.Prelude.{◌≡◌, ℕ, ◌+◌, ◌*◌, ◌<◌, Bool, not, true, false, Some, is_some, length, slice_index}
 use Rattle.std.specs.List.{list_any, slice_get}
-use Rattle.elf_model.specs.MapRecord.{SlotRow}
-use Rattle.elf_model.specs.Relocation.{Relocation}
-use Rattle.elf_model.specs.RightLink.{HasSlot, Subject, byte_at, objects_of, where_of}
-use Rattle.elf_model.specs.Slots.{got_bytes, has_got, is_slot_of, request_of, requests, row_request, same_request, size_with}
+use Rattle.elf_model.specs.Image.MapRecord.{SlotRow}
+use Rattle.elf_model.specs.Link.Relocation.{Relocation}
+use Rattle.elf_model.specs.Image.RightLink.{HasSlot, Subject, byte_at, objects_of, where_of}
+use Rattle.elf_model.specs.Link.Slots.{got_bytes, has_got, is_slot_of, request_of, requests, row_request, same_request, size_with}
 use Rattle.elf_model.specs.declared.link_map.GotLine.{GotLine}
 use Rattle.check_link.specs.Slots.{request_view}
 use Rattle.check_link.specs.declared.requests.Request as code

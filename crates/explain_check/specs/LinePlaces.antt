@@ -2,13 +2,13 @@
 use Rattle.std.specs.Prelude.{◌≡◌, ℕ, List, Option, find, option_map}
 use Rattle.std.specs.Borrow.{Bor}
 use Rattle.std.specs.List.{slice_get}
-use Rattle.elf_model.specs.Commons.{block_named}
-use Rattle.elf_model.specs.Loading.{LoadedObject}
-use Rattle.elf_model.specs.MapRecord.{CommonRow, ObjectRow, PlaceRow}
+use Rattle.elf_model.specs.Link.Commons.{block_named}
+use Rattle.elf_model.specs.Link.Loading.{LoadedObject}
+use Rattle.elf_model.specs.Image.MapRecord.{CommonRow, ObjectRow, PlaceRow}
 use Rattle.linkmap.specs.Borrowed.{common_row, object_row, place_row}
-use Rattle.elf_model.specs.Pieces.{kept_sections}
-use Rattle.elf_model.specs.Placement.{is_common_row_of}
-use Rattle.elf_model.specs.RightLink.{HasCommonLine, Subject, drop_rows, facts_of_piece, facts_of_row, object_rows, objects_of}
+use Rattle.elf_model.specs.Link.Pieces.{kept_sections}
+use Rattle.elf_model.specs.Link.Placement.{is_common_row_of}
+use Rattle.elf_model.specs.Image.RightLink.{HasCommonLine, Subject, drop_rows, facts_of_piece, facts_of_row, object_rows, objects_of}
 use Rattle.linkmap.specs.declared.borrowed.BorrowedCommon.{BorrowedCommon}
 use Rattle.linkmap.specs.declared.borrowed.BorrowedObject.{BorrowedObject}
 use Rattle.linkmap.specs.declared.borrowed.BorrowedPlace.{BorrowedPlace}

@@ -1,5 +1,5 @@
 -- A link with the names that have a line in its map.
-use Rattle.elf_model.specs.RightLink.{objects_of}
+use Rattle.elf_model.specs.Image.RightLink.{objects_of}
 use Rattle.check_relocs.specs.LinkerUses.{AreUsed}
 use Rattle.explain_check.specs.SymbolPlaces.{IsSymbolIndex}
 use Rattle.explain_check.specs.declared.symbol_lines.Listing.{Listing}

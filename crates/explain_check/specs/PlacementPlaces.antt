@@ -1,10 +1,10 @@
 -- What places of the fifth and the sixth clause say of a link.
 use Rattle.std.specs.Prelude.{◌≡◌, ◌≢◌, ◌+◌, ◌-◌, ◌<◌, ◌≤◌, ◌%◌, ◌⊎◌, ℕ, Bool, true, false, List, Option, Some, All, Contains, IfNone, IfSome, IsSome, filter, length}
 use Rattle.std.specs.List.{slice_get}
-use Rattle.elf_model.specs.ArrayOrder.{placed_in_array_order}
-use Rattle.elf_model.specs.MemoryImage.{Encloses, first_address, loads}
-use Rattle.elf_model.specs.Placement.{AreApart, IsNear, IsNext, IsWithin, LiesInSegment, Placed, got_things, is_thread_place, thread_ranges}
-use Rattle.elf_model.specs.RightLink.{Subject, placed_of, sections_of, things_of}
+use Rattle.elf_model.specs.Link.ArrayOrder.{placed_in_array_order}
+use Rattle.elf_model.specs.Image.MemoryImage.{Encloses, first_address, loads}
+use Rattle.elf_model.specs.Link.Placement.{AreApart, IsNear, IsNext, IsWithin, LiesInSegment, Placed, got_things, is_thread_place, thread_ranges}
+use Rattle.elf_model.specs.Image.RightLink.{Subject, placed_of, sections_of, things_of}
 use Rattle.elf_model.specs.declared.records.ProgramHeader.{ProgramHeader}
 use Rattle.elf_model.specs.declared.thing.Thing.{Thing}
 use Rattle.check_link.specs.Views.{placed_view}

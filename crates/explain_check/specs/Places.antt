@@ -1,9 +1,9 @@
 -- What a place of a failed check says of a link: the fact at this place that makes the clause false.
 use Rattle.std.specs.Prelude.{◌≡◌, ℕ, List, All}
-use Rattle.elf_model.specs.Command.{Plan}
-use Rattle.elf_model.specs.Files.{File}
-use Rattle.elf_model.specs.MapRecord.{MapRecord}
-use Rattle.elf_model.specs.RightLink.{AreRelocationsRight, Holds, HoldsBefore, IsRead, Subject, objects_of, where_of}
+use Rattle.elf_model.specs.Inputs.Command.{Plan}
+use Rattle.elf_model.specs.Inputs.Files.{File}
+use Rattle.elf_model.specs.Image.MapRecord.{MapRecord}
+use Rattle.elf_model.specs.Image.RightLink.{AreRelocationsRight, Holds, HoldsBefore, IsRead, Subject, objects_of, where_of}
 use Rattle.elf_model.specs.declared.verdict.Clause.{Clause}
 use Rattle.elf_model.specs.declared.verdict.Clause.TheVariants.{C2, C3, C5, C6, C7, C8, C9, C10, C11, C12, C13, C14}
 use Rattle.input_names.specs.RelocationPlaces.{IsOverlap}

@@ -2,8 +2,8 @@
 -- and by the section that it relocates.
 use Rattle.std.specs.Prelude.{◌≡◌, ◌+◌, ◌≤◌, true, List, Option, None, Some, IfSome, IsSomeAnd}
 use Rattle.std.specs.List.{slice_get}
-use Rattle.elf_model.specs.Relocation.{IsMismatch, Kind}
-use Rattle.elf_model.specs.RightLink.{objects_of}
+use Rattle.elf_model.specs.Link.Relocation.{IsMismatch, Kind}
+use Rattle.elf_model.specs.Image.RightLink.{objects_of}
 use Rattle.elf_model.specs.declared.records.Rela.{Rela}
 use Rattle.check_load.specs.Views.{loaded_view}
 use Rattle.check_relocs.specs.Bindings.{AreTargets, bound_of}

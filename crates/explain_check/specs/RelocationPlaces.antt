@@ -1,9 +1,9 @@
 -- What a place of a relocation says of the loaded objects, and of where things are.
 use Rattle.std.specs.Prelude.{◌≡◌, ℕ, ◌+◌, ◌%◌, ◌^◌, List, None}
-use Rattle.elf_model.specs.Loading.{LoadedObject}
-use Rattle.elf_model.specs.Placement.{Where, section_address}
-use Rattle.elf_model.specs.Relocation.{IsFieldInside, IsThreadMismatch, IsUndefined, RefersToDropped, RefersToMixed, Relocation, relocation_kind}
-use Rattle.elf_model.specs.RelocationValues.{Fits, value_of}
+use Rattle.elf_model.specs.Link.Loading.{LoadedObject}
+use Rattle.elf_model.specs.Link.Placement.{Where, section_address}
+use Rattle.elf_model.specs.Link.Relocation.{IsFieldInside, IsThreadMismatch, IsUndefined, RefersToDropped, RefersToMixed, Relocation, relocation_kind}
+use Rattle.elf_model.specs.Link.RelocationValues.{Fits, value_of}
 use Rattle.input_names.specs.RelocationPlaces.{IsRelocationAt}
 use Rattle.input_names.specs.declared.relocation_faults.RelocationFault.{RelocationFault}
 use Rattle.input_names.specs.declared.relocation_faults.RelocationFault.TheVariants as fault

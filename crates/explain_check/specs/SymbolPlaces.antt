@@ -7,15 +7,15 @@ use Rattle.std.specs.List.{slice_get}
 use Rattle.std.specs.Ordering.{nat_cmp}
 use Rattle.std.specs.Str.{bytes_eq}
 use Rattle.std.specs.Cow.{cow_slice_items}
-use Rattle.elf_model.specs.Listing.{listed}
-use Rattle.elf_model.specs.Loading.{LoadedObject}
-use Rattle.elf_model.specs.MapRecord.{SymbolRow}
+use Rattle.elf_model.specs.Link.Listing.{listed}
+use Rattle.elf_model.specs.Link.Loading.{LoadedObject}
+use Rattle.elf_model.specs.Image.MapRecord.{SymbolRow}
 use Rattle.linkmap.specs.Borrowed.{symbol_row}
-use Rattle.elf_model.specs.Meaning.{meaning_value, object_meaning}
-use Rattle.elf_model.specs.Placement.{Where}
-use Rattle.elf_model.specs.Records.{file_header}
-use Rattle.elf_model.specs.Resolution.{IsEntry}
-use Rattle.elf_model.specs.RightLink.{EntersRight, Subject, objects_of, symbol_row_of, where_of}
+use Rattle.elf_model.specs.Link.Meaning.{meaning_value, object_meaning}
+use Rattle.elf_model.specs.Link.Placement.{Where}
+use Rattle.elf_model.specs.Inputs.Records.{file_header}
+use Rattle.elf_model.specs.Link.Resolution.{IsEntry}
+use Rattle.elf_model.specs.Image.RightLink.{EntersRight, Subject, objects_of, symbol_row_of, where_of}
 use Rattle.linkmap.specs.declared.borrowed.BorrowedSymbol.{BorrowedSymbol}
 use Rattle.check_link.specs.Views.{meaning_view}
 use Rattle.explain_check.specs.declared.place.EntryPlace.{EntryPlace}

@@ -3,12 +3,12 @@ use Rattle.std.specs.Prelude.{◌≡◌, ℕ, ◌+◌, ◌-◌, ◌*◌, ◌<◌
 use Rattle.std.specs.List.{flat_map, slice_get}
 use Rattle.check_link.specs.Views.{held}
 use Rattle.checker.specs.Tabled.{ended_names}
-use Rattle.elf_model.specs.Meaning.{Meaning, meaning_name}
-use Rattle.elf_model.specs.MemoryImage.{HasNoSections, file_end, loads}
-use Rattle.elf_model.specs.Placement.{Where}
-use Rattle.elf_model.specs.Records.{file_header, symbol_bytes}
-use Rattle.elf_model.specs.RightLink.{Subject, tabled_of, where_of}
-use Rattle.elf_model.specs.SymbolTable.{entries_from, entry_count, headers_at, name_section, symbol_section, symtab_at, tables}
+use Rattle.elf_model.specs.Link.Meaning.{Meaning, meaning_name}
+use Rattle.elf_model.specs.Image.MemoryImage.{HasNoSections, file_end, loads}
+use Rattle.elf_model.specs.Link.Placement.{Where}
+use Rattle.elf_model.specs.Inputs.Records.{file_header, symbol_bytes}
+use Rattle.elf_model.specs.Image.RightLink.{Subject, tabled_of, where_of}
+use Rattle.elf_model.specs.Image.SymbolTable.{entries_from, entry_count, headers_at, name_section, symbol_section, symtab_at, tables}
 use Rattle.elf_model.specs.declared.link_map.SymtabLine.{SymtabLine}
 use Rattle.explain_check.specs.declared.place.TableByte.{TableByte}
 use Rattle.explain_check.specs.declared.place.TableEntry.{TableEntry}

@@ -1,11 +1,11 @@
 -- What a place of the block of thread-local storage says of a link.
 use Rattle.std.specs.Prelude.{◌≡◌, ℕ, ◌<◌, true, false, Option, Some}
 use Rattle.std.specs.List.{slice_get}
-use Rattle.elf_model.specs.MemoryImage.{loads, thread_blocks}
-use Rattle.elf_model.specs.Pieces.{is_thread_zero}
-use Rattle.elf_model.specs.Placement.{is_thread_place, thing_of}
-use Rattle.elf_model.specs.RightLink.{HoldsInitial, IsClearOf, Subject, placed_of, thread_data_end}
-use Rattle.elf_model.specs.ThreadStorage.{thread_headers}
+use Rattle.elf_model.specs.Image.MemoryImage.{loads, thread_blocks}
+use Rattle.elf_model.specs.Link.Pieces.{is_thread_zero}
+use Rattle.elf_model.specs.Link.Placement.{is_thread_place, thing_of}
+use Rattle.elf_model.specs.Image.RightLink.{HoldsInitial, IsClearOf, Subject, placed_of, thread_data_end}
+use Rattle.elf_model.specs.Link.ThreadStorage.{thread_headers}
 use Rattle.elf_model.specs.declared.link_map.GotLine.{GotLine}
 use Rattle.elf_model.specs.declared.records.ProgramHeader.{ProgramHeader}
 use Rattle.check_link.specs.Views.{placed_view}

@@ -1,7 +1,7 @@
 //! Which clause fails at a place.
 ghost use Rattle.std.specs.Prelude.{◌≡◌};
-ghost use Rattle.elf_model.specs.MapText.{IsMap};
-ghost use Rattle.elf_model.specs.RightLink.{Holds, Subject};
+ghost use Rattle.elf_model.specs.Image.MapText.{IsMap};
+ghost use Rattle.elf_model.specs.Image.RightLink.{Holds, Subject};
 ghost use Rattle.explain_check.specs.Places.{FailsIn, clause_of};
 
 use crate::place::CheckPlace;

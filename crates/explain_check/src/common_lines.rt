@@ -1,6 +1,6 @@
 //! C3: common lines that are others than those of the common blocks.
 ghost use Rattle.std.specs.Prelude.{◌≡◌, IfSome, IsTrue, OnOk};
-ghost use Rattle.elf_model.specs.RightLink.{HasCommonLine, objects_of};
+ghost use Rattle.elf_model.specs.Image.RightLink.{HasCommonLine, objects_of};
 ghost use Rattle.explain_check.specs.Places.{AreFailures, FailsIn};
 
 use crate::found::{Added, Found};

@@ -1,7 +1,7 @@
 //! C12: an entry without a lawful definition, or an `e_entry` that is another than its value.
 ghost use Rattle.std.specs.Prelude.{◌≡◌, IfNone, IfSome, OnOk, Some};
-ghost use Rattle.elf_model.specs.Resolution.{IsEntry, chosen};
-ghost use Rattle.elf_model.specs.RightLink.{Holds};
+ghost use Rattle.elf_model.specs.Link.Resolution.{IsEntry, chosen};
+ghost use Rattle.elf_model.specs.Image.RightLink.{Holds};
 ghost use Rattle.elf_model.specs.declared.verdict.Clause.TheVariants as clause;
 ghost use Rattle.check_link.specs.Views.{symbol_view};
 ghost use Rattle.explain_check.specs.Places.{AreFailures};

@@ -1,7 +1,7 @@
 //! Where a check says no: the link is read, checked once more, and the places of the first clause that fails are told.
 ghost use Rattle.std.specs.Prelude.{◌≡◌, ◌<◌, ◌≤◌, ℕ, All, IfOk, IfSome, List, length};
-ghost use Rattle.elf_model.specs.Files.{files_of, words_of};
-ghost use Rattle.elf_model.specs.RightLink.{Holds, IsRead};
+ghost use Rattle.elf_model.specs.Inputs.Files.{files_of, words_of};
+ghost use Rattle.elf_model.specs.Image.RightLink.{Holds, IsRead};
 ghost use Rattle.elf_model.specs.declared.verdict.Clause as verdict;
 ghost use Rattle.explain_check.specs.Places.{AreFailures, FailsAt, IsFirst, clause_of};
 

@@ -1,8 +1,8 @@
 //! C5: sections that aren't close after the one before them in their output section.
 ghost use Rattle.std.specs.Prelude.{◌≡◌, IfSome, OnOk, option_map};
 ghost use Rattle.std.specs.List.{slice_get};
-ghost use Rattle.elf_model.specs.Placement as placement;
-ghost use Rattle.elf_model.specs.Placement.{IsNext};
+ghost use Rattle.elf_model.specs.Link.Placement as placement;
+ghost use Rattle.elf_model.specs.Link.Placement.{IsNext};
 ghost use Rattle.check_link.specs.Views.{placed_view, placed_views};
 ghost use Rattle.explain_check.specs.Places.{AreFailures, FailsIn};
 ghost use Rattle.explain_check.specs.PlacementPlaces.{ordered_sections};

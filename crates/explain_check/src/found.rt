@@ -1,6 +1,6 @@
 //! The places that were found so far: the first of them, and how many more there are.
 ghost use Rattle.std.specs.Prelude.{◌≡◌, ◌<◌, ◌≤◌, [], All, IfOk, IfSome, OnErr, OnOk, length, ℕ};
-ghost use Rattle.elf_model.specs.RightLink.{Holds, Subject};
+ghost use Rattle.elf_model.specs.Image.RightLink.{Holds, Subject};
 ghost use Rattle.elf_model.specs.declared.verdict.Clause as verdict;
 ghost use Rattle.explain_check.specs.Places.{AreFailures, FailsIn, IsOf};
 

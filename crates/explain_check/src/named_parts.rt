@@ -1,8 +1,8 @@
 //! The things of a link with what they are: the headers, the GOT and the pieces; and its thread-local sections.
 ghost use Rattle.std.specs.Prelude.{◌≡◌, All, IfOk, IfSome, Some, false, filter, option_map};
 ghost use Rattle.std.specs.List.{slice_get};
-ghost use Rattle.elf_model.specs.Placement.{is_thread_place};
-ghost use Rattle.elf_model.specs.RightLink.{placed_of, things_of};
+ghost use Rattle.elf_model.specs.Link.Placement.{is_thread_place};
+ghost use Rattle.elf_model.specs.Image.RightLink.{placed_of, things_of};
 ghost use Rattle.check_link.specs.Views.{placed_view, placed_views};
 ghost use Rattle.explain_check.specs.PlacementPlaces.{IsNamed, IsPart, IsThing, is_thread_name, list_of};
 

@@ -1,7 +1,7 @@
 //! C5: things that aren't aligned, lie outside of the addresses or share one, and sections that aren't close after the one
 //! before them.
 ghost use Rattle.std.specs.Prelude.{◌≡◌, ◌<◌, ◌⊎◌, All, IfOk, IfSome, IsPermutation, IsTrue, OnOk, length};
-ghost use Rattle.elf_model.specs.Placement.{AreApart};
+ghost use Rattle.elf_model.specs.Link.Placement.{AreApart};
 ghost use Rattle.explain_check.specs.Places.{AreFailures, FailsIn};
 ghost use Rattle.explain_check.specs.PlacementPlaces.{IsPart, IsThing, is_thread_name};
 

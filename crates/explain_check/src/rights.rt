@@ -1,7 +1,7 @@
 //! C6: things that no segment with their rights holds whole, and a first segment that doesn't begin at the base.
 ghost use Rattle.std.specs.Prelude.{◌≡◌, ◌<◌, ◌⊎◌, All, Contains, IfNone, IfSome, IsTrue, OnOk};
-ghost use Rattle.elf_model.specs.MemoryImage.{Encloses, loads};
-ghost use Rattle.elf_model.specs.Placement.{LiesInSegment};
+ghost use Rattle.elf_model.specs.Image.MemoryImage.{Encloses, loads};
+ghost use Rattle.elf_model.specs.Link.Placement.{LiesInSegment};
 ghost use Rattle.explain_check.specs.Places.{AreFailures, FailsIn};
 ghost use Rattle.explain_check.specs.PlacementPlaces.{IsPart, IsThing};
 ghost use Rattle.explain_check.specs.declared.place.PartName.TheVariants as part_name;

@@ -1,8 +1,8 @@
 //! C3: drop lines and place lines that are others than those of the loaded objects' sections.
 ghost use Rattle.std.specs.Prelude.{◌≡◌, ◌↔◌, IfSome, IsTrue, option_map};
 ghost use Rattle.std.specs.List.{slice_get};
-ghost use Rattle.elf_model.specs.Pieces.{kept_sections};
-ghost use Rattle.elf_model.specs.RightLink.{drop_rows, facts_of_piece, facts_of_row, objects_of};
+ghost use Rattle.elf_model.specs.Link.Pieces.{kept_sections};
+ghost use Rattle.elf_model.specs.Image.RightLink.{drop_rows, facts_of_piece, facts_of_row, objects_of};
 ghost use Rattle.check_link.specs.Views.{piece_view};
 ghost use Rattle.explain_check.specs.LinePlaces.{place_line_view};
 ghost use Rattle.explain_check.specs.Places.{FailsIn};

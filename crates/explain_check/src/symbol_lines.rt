@@ -1,7 +1,7 @@
 //! C13: symbol lines that are others than their names ask for, and names that lack their line.
 ghost use Rattle.std.specs.Prelude.{◌≡◌, ◌%◌, ◌^◌, IfSome, OnOk, option_map};
-ghost use Rattle.elf_model.specs.Listing.{linker_line, listed};
-ghost use Rattle.elf_model.specs.Meaning.{meaning_value};
+ghost use Rattle.elf_model.specs.Link.Listing.{linker_line, listed};
+ghost use Rattle.elf_model.specs.Link.Meaning.{meaning_value};
 ghost use Rattle.check_link.specs.Views.{meaning_view};
 ghost use Rattle.check_relocs.specs.LinkerUses.{AreUsed};
 ghost use Rattle.explain_check.specs.Places.{AreFailures, FailsIn};

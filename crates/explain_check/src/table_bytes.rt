@@ -2,10 +2,10 @@
 ghost use Rattle.std.specs.Prelude.{◌≡◌, ◌-◌, ◌<◌, ◌≤◌, ◌^◌, ◌++◌, ◌∷◌, [], All, IfOk, IfSome, List, OnOk, length, map, replicate};
 ghost use Rattle.std.specs.List.{flat_map};
 ghost use Rattle.linkmap.specs.Borrowed.{symbol_row};
-ghost use Rattle.elf_model.specs.Meaning.{Meaning};
-ghost use Rattle.elf_model.specs.Placement.{Where, round_up};
-ghost use Rattle.elf_model.specs.Records.{section_header_bytes, symbol_bytes};
-ghost use Rattle.elf_model.specs.SymbolTable.{ended, tabled};
+ghost use Rattle.elf_model.specs.Link.Meaning.{Meaning};
+ghost use Rattle.elf_model.specs.Link.Placement.{Where, round_up};
+ghost use Rattle.elf_model.specs.Inputs.Records.{section_header_bytes, symbol_bytes};
+ghost use Rattle.elf_model.specs.Image.SymbolTable.{ended, tabled};
 ghost use Rattle.check_link.specs.Views.{held};
 ghost use Rattle.checker.specs.Listed.{IsLine};
 ghost use Rattle.checker.specs.Tabled.{end_bytes};

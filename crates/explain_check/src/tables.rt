@@ -2,11 +2,11 @@
 //! should be.
 ghost use Rattle.std.specs.Prelude.{◌≡◌, ◌↔◌, ◌≤◌, ◌^◌, [], IfOk, IfSome, IsSome, IsTrue, List, None, OnOk, Some, length, map};
 ghost use Rattle.std.specs.List.{slice_get};
-ghost use Rattle.elf_model.specs.Meaning.{Meaning, meaning_name};
-ghost use Rattle.elf_model.specs.Placement.{Where, round_up};
-ghost use Rattle.elf_model.specs.RightLink.{HoldsBefore, tabled_of, where_of};
-ghost use Rattle.elf_model.specs.SymbolTable as symbol_table;
-ghost use Rattle.elf_model.specs.SymbolTable.{headers_at, symtab_at};
+ghost use Rattle.elf_model.specs.Link.Meaning.{Meaning, meaning_name};
+ghost use Rattle.elf_model.specs.Link.Placement.{Where, round_up};
+ghost use Rattle.elf_model.specs.Image.RightLink.{HoldsBefore, tabled_of, where_of};
+ghost use Rattle.elf_model.specs.Image.SymbolTable as symbol_table;
+ghost use Rattle.elf_model.specs.Image.SymbolTable.{headers_at, symtab_at};
 ghost use Rattle.elf_model.specs.declared.verdict.Clause.TheVariants as clause;
 ghost use Rattle.check_link.specs.Views.{held};
 ghost use Rattle.checker.specs.Tabled.{AreAt};

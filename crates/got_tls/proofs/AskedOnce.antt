@@ -5,9 +5,9 @@ use Rattle.std.specs.List.{cons_option, filter_map, list_any}
 use Rattle.std.proofs.Math.Bool.{or_assoc}
 use Rattle.std.proofs.lemmas.List.Elements.{filter_agree}
 use Rattle.std.proofs.lemmas.List.Folds.{list_any-append}
-use Rattle.elf_model.specs.Loading.{LoadedObject}
-use Rattle.elf_model.specs.Relocation.{Relocation, relocations}
-use Rattle.elf_model.specs.Slots.{Request, asks_for_got, each_once, got_size, has_got, request_of, same_request, size_with, slots}
+use Rattle.elf_model.specs.Link.Loading.{LoadedObject}
+use Rattle.elf_model.specs.Link.Relocation.{Relocation, relocations}
+use Rattle.elf_model.specs.Link.Slots.{Request, asks_for_got, each_once, got_size, has_got, request_of, same_request, size_with, slots}
 use Rattle.got_tls.specs.Asking.{Wants, nothing, with_relocation, with_relocations, with_request}
 use Rattle.got_tls.specs.AskedViews.{wants}
 use Rattle.got_tls.specs.declared.asked_slots.Asked.{Asked}

@@ -3,13 +3,13 @@ use Rattle.std.proofs.Common.{◌≡◌, ℕ, ◌+◌, ◌-◌, ◌<◌, ◌^◌
 use Rattle.std.specs.Prelude.{All, Contains, IfSome, max, min}
 use Rattle.std.proofs.lemmas.Bool.{cases_lt, false≢true}
 use Rattle.std.proofs.lemmas.List.Elements.{All-append, All-cons, All-contains, All-head, All-nil, All-tail, All-weaker}
-use Rattle.elf_model.specs.Loading.{AreObjects, LoadedObject}
-use Rattle.elf_model.specs.LinkerValues.{end_of_pieces, least_of, start_of_pieces}
-use Rattle.elf_model.specs.OwnLayout.{got_pieces, laid_out, own_placed, placed_end}
-use Rattle.elf_model.specs.Commons.{block_pieces, pieces}
-use Rattle.elf_model.specs.Pieces.{Piece, is_thread_local, is_thread_piece, kept_sections}
-use Rattle.elf_model.specs.Placement.{Placed, is_thread_place}
-use Rattle.elf_model.specs.ThreadStorage.{alignment_of, block_from, thread_block}
+use Rattle.elf_model.specs.Link.Loading.{AreObjects, LoadedObject}
+use Rattle.elf_model.specs.Link.LinkerValues.{end_of_pieces, least_of, start_of_pieces}
+use Rattle.elf_model.specs.Own.OwnLayout.{got_pieces, laid_out, own_placed, placed_end}
+use Rattle.elf_model.specs.Link.Commons.{block_pieces, pieces}
+use Rattle.elf_model.specs.Link.Pieces.{Piece, is_thread_local, is_thread_piece, kept_sections}
+use Rattle.elf_model.specs.Link.Placement.{Placed, is_thread_place}
+use Rattle.elf_model.specs.Link.ThreadStorage.{alignment_of, block_from, thread_block}
 use Rattle.elf_model.specs.declared.tls_block.TlsBlock.{TlsBlock}
 use Rattle.elf_model.proofs.Blocks.{block_pieces-each}
 use Rattle.elf_model.proofs.Listed.{All-unmap, Contains-from_filter, Contains-from_map, Contains-here, Contains-map, Contains-nil, Contains-there}

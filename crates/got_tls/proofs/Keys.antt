@@ -3,7 +3,7 @@ use Rattle.std.proofs.Common.{◌≡◌, ℕ, Bool, true, false, not, cond, ◌&
 use Rattle.std.specs.Prelude.{position}
 use Rattle.std.specs.List.{list_any, position_or_len}
 use Rattle.std.proofs.lemmas.List.{length-map, map-append}
-use Rattle.elf_model.specs.Slots.{same_kind, same_request, same_target}
+use Rattle.elf_model.specs.Link.Slots.{same_kind, same_request, same_target}
 use Rattle.indexmap.specs.IndexSet.{insert_key}
 use Rattle.got_tls.specs.Views.{kind_view, owner_view, slot_view, slot_views}
 use Rattle.got_tls.specs.contracts.slot.ContentPartialEq.TheImpl as content_impl

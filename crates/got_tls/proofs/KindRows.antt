@@ -4,7 +4,7 @@ use Rattle.std.specs.Prelude.{find, option_map}
 use Rattle.std.specs.List.{slice_get}
 use Rattle.std.specs.Option.{option_and_then}
 use Rattle.std.proofs.lemmas.Bool.{eqb-true, eq-eqb, ne_eqb}
-use Rattle.elf_model.specs.Relocation as relocation
+use Rattle.elf_model.specs.Link.Relocation as relocation
 use Rattle.elf_model.proofs.Found.{find-map}
 use Rattle.got_tls.specs.Kinds.{formula_view, range_view}
 use Rattle.got_tls.specs.declared.kinds.TheConstants.{KINDS}

@@ -2,10 +2,10 @@
 use Rattle.std.proofs.Common.{◌≡◌, ◌∙◌, ◌+◌, ◌<◌, ◌≤◌, ◌⊎◌, inl, inr, ℕ, Bool, false, ap, arith, length, subst}
 use Rattle.std.proofs.lemmas.Bool.{cases_lt}
 use Rattle.std.proofs.lemmas.List.{get_or_past}
-use Rattle.elf_model.specs.Loading.{LoadedObject}
-use Rattle.elf_model.specs.ObjectFile.{null_symbol, symbols}
-use Rattle.elf_model.specs.Relocation.{symbol_at}
-use Rattle.elf_model.specs.Resolution.{SymbolOf, symbol_of}
+use Rattle.elf_model.specs.Link.Loading.{LoadedObject}
+use Rattle.elf_model.specs.Inputs.ObjectFile.{null_symbol, symbols}
+use Rattle.elf_model.specs.Link.Relocation.{symbol_at}
+use Rattle.elf_model.specs.Link.Resolution.{SymbolOf, symbol_of}
 use Rattle.elf_model.specs.declared.records.Symbol.{Symbol}
 
 module _ (test : SymbolOf → Bool) (k : ℕ) (o : LoadedObject) where

@@ -6,8 +6,8 @@ use Rattle.std.proofs.lemmas.Bool.{cases_lt}
 use Rattle.std.proofs.lemmas.List.{get_or-replicate, get_or-set_other, get_or-set_same, length-replicate, length-set, take_all}
 use Rattle.std.proofs.lemmas.Option.{get_or_from_slice_get, none-some, slice_get-get_or, slice_get_within}
 use Rattle.indexmap.specs.IndexSet.{insert_key}
-use Rattle.elf_model.specs.MapRecord.{OfName, TargetRow}
-use Rattle.elf_model.specs.Slots.{Request}
+use Rattle.elf_model.specs.Image.MapRecord.{OfName, TargetRow}
+use Rattle.elf_model.specs.Link.Slots.{Request}
 use Rattle.elf_model.proofs.SameRequests.{requests_equal}
 use Rattle.got_tls.specs.Positions.{AreNoted, ArePositions, IsNoted, StandsAt}
 use Rattle.got_tls.specs.Views.{owner_view, slot_view}

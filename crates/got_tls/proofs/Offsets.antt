@@ -4,7 +4,7 @@ use Rattle.std.proofs.Math.Nat.{mod-add-mod}
 use Rattle.std.proofs.lemmas.Int.{ints}
 use Rattle.std.proofs.lemmas.Nat.{div-add-mod', mod_below}
 use Rattle.elf_model.proofs.WrappedValues.{modulo_is}
-use Rattle.elf_model.specs.Relocation.{modulo_64}
+use Rattle.elf_model.specs.Link.Relocation.{modulo_64}
 -- the thread pointer, as the sum of the block's beginning, its size and what rounds that up
 pub use Rattle.elf_model.proofs.RoundedUp.{pointer_is_rounded as pointer_is}
 

@@ -5,12 +5,12 @@ use Rattle.std.specs.List.{position_or_len}
 use Rattle.std.specs.Option.{option_map_or}
 use Rattle.std.proofs.Math.Nat.{mod-add-mod}
 use Rattle.std.proofs.lemmas.Bool.{false≢true}
-use Rattle.elf_model.specs.Loading.{LoadedObject}
-use Rattle.elf_model.specs.MapRecord.{SlotRow}
-use Rattle.elf_model.specs.OwnLayout.{got_line_of, got_piece, own_address, own_got, own_slots, slot_at, slots_from}
-use Rattle.elf_model.specs.Placement.{got_start}
-use Rattle.elf_model.specs.Relocation.{Relocation}
-use Rattle.elf_model.specs.Slots.{Request, has_got, is_slot_of, request_of, requested_address, same_request, slot_address, slots}
+use Rattle.elf_model.specs.Link.Loading.{LoadedObject}
+use Rattle.elf_model.specs.Image.MapRecord.{SlotRow}
+use Rattle.elf_model.specs.Own.OwnLayout.{got_line_of, got_piece, own_address, own_got, own_slots, slot_at, slots_from}
+use Rattle.elf_model.specs.Link.Placement.{got_start}
+use Rattle.elf_model.specs.Link.Relocation.{Relocation}
+use Rattle.elf_model.specs.Link.Slots.{Request, has_got, is_slot_of, request_of, requested_address, same_request, slot_address, slots}
 use Rattle.elf_model.proofs.NoSlots.{no_slots}
 use Rattle.got_tls.specs.Asking.{offset_of}
 

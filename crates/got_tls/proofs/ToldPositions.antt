@@ -8,12 +8,12 @@ use Rattle.std.proofs.lemmas.Bool.{and_from, and_parts, false≢true, lt-ltb, lt
 use Rattle.std.proofs.lemmas.Map.Keys.{IsDistinct-head, IsDistinct-tail}
 use Rattle.std.proofs.lemmas.Option.{get_or_from_slice_get, none-some, slice_get_within}
 use Rattle.indexmap.specs.IndexSet.{insert_key}
-use Rattle.elf_model.specs.Loading.{LoadedObject, is_global_or_weak}
-use Rattle.elf_model.specs.MapRecord.{OfLocal, OfName, TargetRow}
-use Rattle.elf_model.specs.ObjectFile.{name_of_symbol, null_symbol, symbols}
-use Rattle.elf_model.specs.Relocation.{is_local, symbol_at}
-use Rattle.elf_model.specs.Resolution.{symbol_of}
-use Rattle.elf_model.specs.Slots.{Request, same_kind, same_request, same_target, target_of}
+use Rattle.elf_model.specs.Link.Loading.{LoadedObject, is_global_or_weak}
+use Rattle.elf_model.specs.Image.MapRecord.{OfLocal, OfName, TargetRow}
+use Rattle.elf_model.specs.Inputs.ObjectFile.{name_of_symbol, null_symbol, symbols}
+use Rattle.elf_model.specs.Link.Relocation.{is_local, symbol_at}
+use Rattle.elf_model.specs.Link.Resolution.{symbol_of}
+use Rattle.elf_model.specs.Link.Slots.{Request, same_kind, same_request, same_target, target_of}
 use Rattle.elf_model.specs.declared.link_map.SlotKind.{SlotKind}
 use Rattle.elf_model.specs.declared.records.Symbol.{Symbol}
 use Rattle.elf_model.proofs.SameRequests.{requests_equal, same_itself}

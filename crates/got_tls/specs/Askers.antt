@@ -1,7 +1,7 @@
 -- An object whose relocations ask for the GOT and its slots.
 use Rattle.std.specs.Prelude.{◌≡◌, List, Some}
 use Rattle.std.specs.List.{slice_get}
-use Rattle.elf_model.specs.Loading.{LoadedObject}
+use Rattle.elf_model.specs.Link.Loading.{LoadedObject}
 use Rattle.search.specs.Views.{loaded_view}
 use Rattle.got_tls.specs.Asking.{TellsOfGot}
 use Rattle.got_tls.specs.declared.requests.Asker.{Asker}

@@ -1,9 +1,9 @@
 -- What relocations ask of the GOT, one relocation after the other, and where slots stand in it.
 use Rattle.std.specs.Prelude.{◌≡◌, ℕ, ◌+◌, ◌*◌, ◌||◌, Bool, false, List, [], ◌∷◌, Option, Some, None, position}
 use Rattle.std.specs.Option.{option_map_or}
-use Rattle.elf_model.specs.Loading.{LoadedObject}
-use Rattle.elf_model.specs.Relocation.{Relocation, symbol_at}
-use Rattle.elf_model.specs.Slots.{Request, asks_for_got, names_got, request_of, same_request, target_of}
+use Rattle.elf_model.specs.Link.Loading.{LoadedObject}
+use Rattle.elf_model.specs.Link.Relocation.{Relocation, symbol_at}
+use Rattle.elf_model.specs.Link.Slots.{Request, asks_for_got, names_got, request_of, same_request, target_of}
 use Rattle.elf_model.specs.declared.link_map.SlotKind.{SlotKind}
 use Rattle.indexmap.specs.IndexSet.{insert_key}
 

@@ -1,5 +1,5 @@
 -- The code's kinds as the definitions see them.
-use Rattle.elf_model.specs.Relocation as relocation
+use Rattle.elf_model.specs.Link.Relocation as relocation
 use Rattle.got_tls.specs.declared.kinds.Formula as code_formula
 use Rattle.got_tls.specs.declared.kinds.Formula.TheVariants as formula
 use Rattle.got_tls.specs.declared.kinds.Kind as code_kind

@@ -1,7 +1,7 @@
 -- Where slots of names stand, by the numbers of the names.
 use Rattle.std.specs.Prelude.{◌≡◌, ◌≢◌, ◌⊎◌, ℕ, List, [], IsSomeAnd, Some, slice_index_or}
 use Rattle.std.specs.List.{slice_get}
-use Rattle.elf_model.specs.MapRecord.{OfName}
+use Rattle.elf_model.specs.Image.MapRecord.{OfName}
 use Rattle.got_tls.specs.Views.{owner_view}
 use Rattle.got_tls.specs.declared.slot.Slot.{Slot}
 use Rattle.got_tls.specs.declared.slot_index.TheConstants.{NO_POSITION}

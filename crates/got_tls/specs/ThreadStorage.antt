@@ -2,8 +2,8 @@
 -- Header", PT_TLS; ELF Handling For Thread-Local Storage, variant II: the block lies below the thread pointer).
 use Rattle.std.specs.Prelude.{ℕ, ◌+◌, ◌^◌, ◌≤◌, List, All, Contains, filter, map}
 use Rattle.std.specs.Int.{IsPowerOfTwo}
-use Rattle.elf_model.specs.OwnLayout.{placed_end}
-use Rattle.elf_model.specs.Placement.{Placed, is_thread_place, round_up}
+use Rattle.elf_model.specs.Own.OwnLayout.{placed_end}
+use Rattle.elf_model.specs.Link.Placement.{Placed, is_thread_place, round_up}
 use Rattle.elf_model.specs.declared.tls_block.TlsBlock.{TlsBlock}
 
 -- the thread-local ones among placed pieces

@@ -1,10 +1,10 @@
 -- Slots as the definitions see them.
 use Rattle.std.specs.Prelude.{ℕ, List, map}
-use Rattle.elf_model.specs.Loading.{LoadedObject}
-use Rattle.elf_model.specs.MapRecord.{TargetRow, OfName, OfLocal}
+use Rattle.elf_model.specs.Link.Loading.{LoadedObject}
+use Rattle.elf_model.specs.Image.MapRecord.{TargetRow, OfName, OfLocal}
 use Rattle.elf_model.specs.declared.link_map.SlotKind.{SlotKind}
 use Rattle.elf_model.specs.declared.link_map.SlotKind.TheVariants as kind
-use Rattle.elf_model.specs.Slots.{Request}
+use Rattle.elf_model.specs.Link.Slots.{Request}
 use Rattle.got_tls.specs.declared.slot.Content.{Content}
 use Rattle.got_tls.specs.declared.slot.Content.TheVariants as content
 use Rattle.got_tls.specs.declared.slot.Owner.{Owner}

@@ -1,7 +1,7 @@
 //! What the kept relocations of loaded objects ask of the GOT, in load order.
 ghost use Rattle.std.specs.Prelude.{◌≡◌, IfOk, OnOk, Some};
 ghost use Rattle.std.specs.List.{slice_get};
-ghost use Rattle.elf_model.specs.Relocation.{relocation_of, relocations, relocations_from};
+ghost use Rattle.elf_model.specs.Link.Relocation.{relocation_of, relocations, relocations_from};
 ghost use Rattle.search.specs.KeptLists.{IsKeptRela, relocations_by};
 ghost use Rattle.search.specs.Views.{loaded_view};
 ghost use Rattle.got_tls.specs.Askers.{IsAsker, all_asked, asking};

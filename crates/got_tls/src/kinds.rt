@@ -3,8 +3,8 @@
 ghost use Rattle.std.specs.Prelude.{◌≡◌, false, option_map};
 ghost use Rattle.std.specs.List.{slice_get};
 ghost use Rattle.std.specs.Option.{option_and_then, option_map_or};
-ghost use Rattle.elf_model.specs.Relocation as relocation;
-ghost use Rattle.elf_model.specs.Slots as wanted;
+ghost use Rattle.elf_model.specs.Link.Relocation as relocation;
+ghost use Rattle.elf_model.specs.Link.Slots as wanted;
 ghost use Rattle.got_tls.specs.Kinds.{formula_view, kind_view};
 
 use elf_model::{

@@ -1,9 +1,9 @@
 //! What one relocation asks of the GOT.
 ghost use Rattle.std.specs.Prelude.{◌≡◌, Some};
 ghost use Rattle.std.specs.List.{slice_get};
-ghost use Rattle.elf_model.specs.ObjectFile.{rela_symbol};
-ghost use Rattle.elf_model.specs.Relocation.{relocation_of, symbol_at};
-ghost use Rattle.elf_model.specs.Slots as wanted;
+ghost use Rattle.elf_model.specs.Inputs.ObjectFile.{rela_symbol};
+ghost use Rattle.elf_model.specs.Link.Relocation.{relocation_of, symbol_at};
+ghost use Rattle.elf_model.specs.Link.Slots as wanted;
 ghost use Rattle.search.specs.Views.{loaded_view};
 ghost use Rattle.got_tls.specs.Asking.{TellsOfGot};
 ghost use Rattle.got_tls.specs.Askers.{IsAsker, all_asked, asking};

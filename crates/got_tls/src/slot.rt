@@ -1,6 +1,6 @@
 //! A slot of the GOT: what it holds, and of which target.
 ghost use Rattle.std.specs.Prelude.{◌≡◌};
-ghost use Rattle.elf_model.specs.Slots.{same_kind};
+ghost use Rattle.elf_model.specs.Link.Slots.{same_kind};
 ghost use Rattle.resolve.specs.Views.{target_view};
 ghost use Rattle.got_tls.specs.Views.{kind_view, owner_view, slot_view};
 

@@ -2,8 +2,8 @@
 //! ask for it again find it without reading the name; a slot is hashed only where it isn't noted.
 ghost use Rattle.std.specs.Prelude.{◌≡◌, ◌<◌, ◌≤◌, ℕ, [], IfOk, IfSome, OnOk, Some, length, position};
 ghost use Rattle.std.specs.List.{slice_get};
-ghost use Rattle.elf_model.specs.Loading as loading;
-ghost use Rattle.elf_model.specs.Slots.{same_request};
+ghost use Rattle.elf_model.specs.Link.Loading as loading;
+ghost use Rattle.elf_model.specs.Link.Slots.{same_request};
 ghost use Rattle.indexmap.specs.IndexSet.{insert_key};
 ghost use Rattle.search.specs.Views.{loaded_view};
 ghost use Rattle.got_tls.specs.Asking.{request_for};

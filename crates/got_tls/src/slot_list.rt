@@ -1,7 +1,7 @@
 //! The GOT that the kept relocations of loaded objects ask for.
 ghost use Rattle.std.specs.Prelude.{◌≡◌, IfOk};
-ghost use Rattle.elf_model.specs.Relocation.{relocations};
-ghost use Rattle.elf_model.specs.Slots as wanted;
+ghost use Rattle.elf_model.specs.Link.Relocation.{relocations};
+ghost use Rattle.elf_model.specs.Link.Slots as wanted;
 ghost use Rattle.got_tls.specs.Asking.{nothing, with_relocations};
 ghost use Rattle.got_tls.specs.AskedViews.{wants};
 

@@ -2,7 +2,7 @@
 ghost use Rattle.std.specs.Prelude.{◌≡◌, ◌+◌, ◌*◌, ◌%◌, ◌^◌, IfOk, Some, cond, length};
 ghost use Rattle.std.specs.List.{slice_get};
 ghost use Rattle.std.specs.Option.{option_map_or};
-ghost use Rattle.elf_model.specs.Slots as wanted;
+ghost use Rattle.elf_model.specs.Link.Slots as wanted;
 ghost use Rattle.search.specs.Views.{loaded_view};
 ghost use Rattle.got_tls.specs.Asking.{offset_of, request_for};
 ghost use Rattle.got_tls.specs.Views.{slot_view, slot_views};

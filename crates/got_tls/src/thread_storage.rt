@@ -1,9 +1,9 @@
 //! The block of thread-local storage, the thread pointer, and offsets from it.
 ghost use Rattle.std.specs.Prelude.{◌≡◌, ◌%◌, ◌<◌, ◌^◌, IfSome};
-ghost use Rattle.elf_model.specs.OwnLayout.{own_in_load_order, own_placed};
-ghost use Rattle.elf_model.specs.Pieces.{AreLawfulKinds};
-ghost use Rattle.elf_model.specs.Relocation.{modulo_64};
-ghost use Rattle.elf_model.specs.ThreadStorage.{thread_block, thread_offset};
+ghost use Rattle.elf_model.specs.Own.OwnLayout.{own_in_load_order, own_placed};
+ghost use Rattle.elf_model.specs.Link.Pieces.{AreLawfulKinds};
+ghost use Rattle.elf_model.specs.Link.Relocation.{modulo_64};
+ghost use Rattle.elf_model.specs.Link.ThreadStorage.{thread_block, thread_offset};
 ghost use Rattle.got_tls.specs.ThreadStorage.{EndsLow, IsAligned, IsBlockOf, thread_places, thread_pointer};
 
 use elf_model::TlsBlock;

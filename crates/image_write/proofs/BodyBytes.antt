@@ -4,10 +4,10 @@ use Rattle.std.specs.Prelude.{All, AllPairs, map, nat_le, nat_lt}
 use Rattle.std.specs.List.{range_with_len}
 use Rattle.std.proofs.lemmas.Bool.{and_parts, false_from_ne_true, leb-true, ltb-true, true≢false}
 use Rattle.std.proofs.lemmas.List.Elements.{All-cons, All-head, All-nil, All-tail, All-weaker}
-use Rattle.elf_model.specs.ImageFile.{covers_address, piece_byte}
-use Rattle.elf_model.specs.Loading.{LoadedObject}
-use Rattle.elf_model.specs.OwnLayout.{placed_end}
-use Rattle.elf_model.specs.Placement.{Placed, Where}
+use Rattle.elf_model.specs.Own.ImageFile.{covers_address, piece_byte}
+use Rattle.elf_model.specs.Link.Loading.{LoadedObject}
+use Rattle.elf_model.specs.Own.OwnLayout.{placed_end}
+use Rattle.elf_model.specs.Link.Placement.{Placed, Where}
 use Rattle.elf_model.proofs.Pairs.{AllPairs-head, AllPairs-tail}
 use Rattle.elf_model.proofs.Running.{IsBehind}
 use Rattle.image_write.specs.Parts.{Rise, body_from, bytes_of, fill_byte, fill_run, is_written}

@@ -1,8 +1,8 @@
 -- The bytes of places with fill between them, one more place at a time.
 use Rattle.std.proofs.Common.{◌≡◌, ℕ, ◌+◌, ◌<◌, ◌≤◌, Bool, true, false, cond, List, ◌∷◌, ◌++◌, get_or, drop, length, ◌∙◌, ap, subst}
-use Rattle.elf_model.specs.Loading.{LoadedObject}
-use Rattle.elf_model.specs.OwnLayout.{placed_end}
-use Rattle.elf_model.specs.Placement.{Placed, Where}
+use Rattle.elf_model.specs.Link.Loading.{LoadedObject}
+use Rattle.elf_model.specs.Own.OwnLayout.{placed_end}
+use Rattle.elf_model.specs.Link.Placement.{Placed, Where}
 use Rattle.layout.specs.PlaceViews.{place_view, place_views}
 use Rattle.layout.specs.declared.runs.Place.{Place}
 use Rattle.elf_model.proofs.Rests.{rest_at}

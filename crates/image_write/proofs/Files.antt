@@ -3,15 +3,15 @@ use Rattle.std.proofs.Common.{◌≡◌, ℕ, ◌+◌, ◌-◌, ◌*◌, ◌^◌
 use Rattle.std.specs.Prelude.{None, Option, Some, map, option_map}
 use Rattle.std.specs.List.{flat_map, range_with_len}
 use Rattle.std.specs.Option.{option_map_or}
-use Rattle.elf_model.specs.Command.{IsBase}
-use Rattle.elf_model.specs.ImageFile.{HeaderFields, header_bytes, own_byte, own_file_header, own_program_headers}
-use Rattle.elf_model.specs.MemoryImage.{file_end}
-use Rattle.elf_model.specs.Loading.{AreObjects, LoadedObject}
-use Rattle.elf_model.specs.OwnLayout.{IsNotTooLarge, own_headers_size, own_in_load_order, own_loaded, own_segments, own_where}
-use Rattle.elf_model.specs.Pieces.{AreLawfulKinds}
-use Rattle.elf_model.specs.Placement.{Placed}
-use Rattle.elf_model.specs.Records.{file_header_bytes, program_header_bytes}
-use Rattle.elf_model.specs.ThreadStorage.{thread_block, thread_header, thread_headers}
+use Rattle.elf_model.specs.Inputs.Command.{IsBase}
+use Rattle.elf_model.specs.Own.ImageFile.{HeaderFields, header_bytes, own_byte, own_file_header, own_program_headers}
+use Rattle.elf_model.specs.Image.MemoryImage.{file_end}
+use Rattle.elf_model.specs.Link.Loading.{AreObjects, LoadedObject}
+use Rattle.elf_model.specs.Own.OwnLayout.{IsNotTooLarge, own_headers_size, own_in_load_order, own_loaded, own_segments, own_where}
+use Rattle.elf_model.specs.Link.Pieces.{AreLawfulKinds}
+use Rattle.elf_model.specs.Link.Placement.{Placed}
+use Rattle.elf_model.specs.Inputs.Records.{file_header_bytes, program_header_bytes}
+use Rattle.elf_model.specs.Link.ThreadStorage.{thread_block, thread_header, thread_headers}
 use Rattle.elf_model.specs.declared.records.ProgramHeader.{ProgramHeader}
 use Rattle.elf_model.specs.declared.tls_block.TlsBlock.{TlsBlock}
 use Rattle.layout.specs.Placements.{Basis}

@@ -3,10 +3,10 @@ use Rattle.std.proofs.Common.{◌≡◌, ℕ, ◌-◌, ◌<◌, ◌≤◌, ◌&&
 use Rattle.std.specs.Prelude.{max, min, nat_le, nat_lt, replicate}
 use Rattle.std.specs.List.{list_any}
 use Rattle.std.proofs.lemmas.Bool.{and_from, and_parts, false_from_ne_true, le-leb, leb-true, lt-ltb, ltb-true}
-use Rattle.elf_model.specs.ImageFile.{fill_at}
-use Rattle.elf_model.specs.Loading.{LoadedObject}
-use Rattle.elf_model.specs.OwnLayout.{code_pieces, code_start, data_pieces, data_start, is_nonempty, own_code, own_data, own_read_only, own_segments, read_only_start, segment}
-use Rattle.elf_model.specs.Placement.{Placed}
+use Rattle.elf_model.specs.Own.ImageFile.{fill_at}
+use Rattle.elf_model.specs.Link.Loading.{LoadedObject}
+use Rattle.elf_model.specs.Own.OwnLayout.{code_pieces, code_start, data_pieces, data_start, is_nonempty, own_code, own_data, own_read_only, own_segments, read_only_start, segment}
+use Rattle.elf_model.specs.Link.Placement.{Placed}
 use Rattle.image_write.specs.Parts.{code_part, fill_byte, fill_run}
 use Rattle.image_write.specs.declared.fill_bytes.Code.{Code}
 use Rattle.image_write.proofs.Runs.{map_between, map_constant}

@@ -7,13 +7,13 @@ use Rattle.std.proofs.lemmas.List.Elements.{All-cons, All-nil}
 use Rattle.std.proofs.lemmas.List.FromFn.{get_or-map-range_with_len, length-map-range_with_len}
 use Rattle.byteview.specs.Numbers.{le_bytes}
 use Rattle.byteview.proofs.NumberLaws.{length-le_bytes}
-use Rattle.elf_model.specs.ImageFile.{is_got_piece, piece_byte}
-use Rattle.elf_model.specs.Loading.{LoadedObject}
-use Rattle.elf_model.specs.OwnLayout.{got_piece, got_pieces, own_address, own_where, slots_from}
-use Rattle.elf_model.specs.Pieces.{Piece}
-use Rattle.elf_model.specs.Placement.{Where}
-use Rattle.elf_model.specs.Slots.{Request, got_bytes, has_got, size_with, slot_bytes, slot_value, slots}
-use Rattle.elf_model.specs.WantedBytes.{wanted_byte}
+use Rattle.elf_model.specs.Own.ImageFile.{is_got_piece, piece_byte}
+use Rattle.elf_model.specs.Link.Loading.{LoadedObject}
+use Rattle.elf_model.specs.Own.OwnLayout.{got_piece, got_pieces, own_address, own_where, slots_from}
+use Rattle.elf_model.specs.Link.Pieces.{Piece}
+use Rattle.elf_model.specs.Link.Placement.{Where}
+use Rattle.elf_model.specs.Link.Slots.{Request, got_bytes, has_got, size_with, slot_bytes, slot_value, slots}
+use Rattle.elf_model.specs.Link.WantedBytes.{wanted_byte}
 use Rattle.image_write.specs.Parts.{bytes_of, got_of, values_of}
 use Rattle.image_write.proofs.Runs.{map_agree}
 

@@ -5,13 +5,13 @@ use Rattle.std.specs.List.{range_with_len}
 use Rattle.std.proofs.lemmas.Bool.{and_from, and_parts, cases_Bool, eqb-true, false_from_ne_true, leb-true, ltb-true, lt-ltb, true≢false}
 use Rattle.std.proofs.lemmas.List.Elements.{All-contains, Contains-append_left}
 use Rattle.std.proofs.lemmas.List.Folds.{list_any_none}
-use Rattle.elf_model.specs.Command.{IsBase}
-use Rattle.elf_model.specs.ImageFile.{covers_address, fill_at, is_code_part, own_byte, piece_byte}
-use Rattle.elf_model.specs.Loading.{AreObjects, LoadedObject}
-use Rattle.elf_model.specs.MemoryImage.{file_end}
-use Rattle.elf_model.specs.OwnLayout.{IsNotTooLarge, is_nonempty, own_headers_size, own_loaded, own_segments, own_thread_rest, own_where, placed_end, placed_has_bytes}
-use Rattle.elf_model.specs.Pieces.{AreLawfulKinds}
-use Rattle.elf_model.specs.Placement.{Placed}
+use Rattle.elf_model.specs.Inputs.Command.{IsBase}
+use Rattle.elf_model.specs.Own.ImageFile.{covers_address, fill_at, is_code_part, own_byte, piece_byte}
+use Rattle.elf_model.specs.Link.Loading.{AreObjects, LoadedObject}
+use Rattle.elf_model.specs.Image.MemoryImage.{file_end}
+use Rattle.elf_model.specs.Own.OwnLayout.{IsNotTooLarge, is_nonempty, own_headers_size, own_loaded, own_segments, own_thread_rest, own_where, placed_end, placed_has_bytes}
+use Rattle.elf_model.specs.Link.Pieces.{AreLawfulKinds}
+use Rattle.elf_model.specs.Link.Placement.{Placed}
 use Rattle.elf_model.specs.declared.records.ProgramHeader.{ProgramHeader}
 use Rattle.elf_model.proofs.Addresses.{maps-true}
 use Rattle.elf_model.proofs.Listed.{All-from_contains, Contains-here}

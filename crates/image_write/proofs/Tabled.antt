@@ -2,14 +2,14 @@
 use Rattle.std.proofs.Common.{◌≡◌, ℕ, ◌+◌, ◌-◌, ◌*◌, Bool, true, false, List, length, refl, sym, ◌∙◌, ap, append_assoc, arith, subst}
 use Rattle.std.specs.Prelude.{IfSome, None, Option, Some, ◌++◌, map, replicate}
 use Rattle.std.specs.List.{flat_map, range_with_len}
-use Rattle.elf_model.specs.ImageFile.{fields_with, header_bytes, image_file, own_byte, own_end, own_fields, own_tables}
-use Rattle.elf_model.specs.Loading.{LoadedObject}
-use Rattle.elf_model.specs.Meaning.{Meaning}
-use Rattle.elf_model.specs.OwnLayout.{own_headers_size}
-use Rattle.elf_model.specs.Placement.{Where, round_up}
-use Rattle.elf_model.specs.Records.{section_header_bytes}
+use Rattle.elf_model.specs.Own.ImageFile.{fields_with, header_bytes, image_file, own_byte, own_end, own_fields, own_tables}
+use Rattle.elf_model.specs.Link.Loading.{LoadedObject}
+use Rattle.elf_model.specs.Link.Meaning.{Meaning}
+use Rattle.elf_model.specs.Own.OwnLayout.{own_headers_size}
+use Rattle.elf_model.specs.Link.Placement.{Where, round_up}
+use Rattle.elf_model.specs.Inputs.Records.{section_header_bytes}
 use Rattle.elf_model.specs.declared.records.SectionHeader.{SectionHeader}
-use Rattle.elf_model.specs.SymbolTable.{headers_at, name_section, section_names, shstrtab_end, symbol_section, table_headers, tables}
+use Rattle.elf_model.specs.Image.SymbolTable.{headers_at, name_section, section_names, shstrtab_end, symbol_section, table_headers, tables}
 use Rattle.elf_model.proofs.Running.{rounded_up}
 use Rattle.image_write.specs.Parts.{file_parts}
 use Rattle.image_write.specs.Tables.{HasTable, IsInRange, IsTableOf, entered, fields_of, headers_place, section_names_end, symbols_place, table_headers_of, table_of}

@@ -8,15 +8,15 @@ use Rattle.std.proofs.lemmas.List.{length-drop, length-take-le}
 use Rattle.std.proofs.lemmas.List.Elements.{All-cons, All-contains, All-nil, Contains-append_cases}
 use Rattle.std.proofs.lemmas.Option.{get_or_from_slice_get, slice_get_within}
 use Rattle.byteview.specs.Numbers.{part}
-use Rattle.elf_model.specs.ImageFile.{is_got_piece}
-use Rattle.elf_model.specs.Loading.{AreObjects, LoadedObject}
-use Rattle.elf_model.specs.ObjectFile.{IsObject, IsPlaced, LiesInside, bytes_in_file, contents, has_no_bytes, section, section_bytes, sections}
-use Rattle.elf_model.specs.OwnLayout.{got_number, got_pieces, is_nonempty, laid_out, own_loaded, own_placed, own_thread_rest, own_where, placed_has_bytes}
-use Rattle.elf_model.specs.Commons.{block_of, block_pieces, pieces}
-use Rattle.elf_model.specs.Pieces.{AreLawfulKinds, IsLawfulKind, Piece, has_bytes, is_nobits, kept_sections, piece_of}
-use Rattle.elf_model.specs.Placement.{Placed}
-use Rattle.elf_model.specs.Resolution.{sections_of_object}
-use Rattle.elf_model.specs.Slots.{got_bytes}
+use Rattle.elf_model.specs.Own.ImageFile.{is_got_piece}
+use Rattle.elf_model.specs.Link.Loading.{AreObjects, LoadedObject}
+use Rattle.elf_model.specs.Inputs.ObjectFile.{IsObject, IsPlaced, LiesInside, bytes_in_file, contents, has_no_bytes, section, section_bytes, sections}
+use Rattle.elf_model.specs.Own.OwnLayout.{got_number, got_pieces, is_nonempty, laid_out, own_loaded, own_placed, own_thread_rest, own_where, placed_has_bytes}
+use Rattle.elf_model.specs.Link.Commons.{block_of, block_pieces, pieces}
+use Rattle.elf_model.specs.Link.Pieces.{AreLawfulKinds, IsLawfulKind, Piece, has_bytes, is_nobits, kept_sections, piece_of}
+use Rattle.elf_model.specs.Link.Placement.{Placed}
+use Rattle.elf_model.specs.Link.Resolution.{sections_of_object}
+use Rattle.elf_model.specs.Link.Slots.{got_bytes}
 use Rattle.elf_model.specs.declared.records.SectionHeader.{SectionHeader}
 use Rattle.elf_model.proofs.Blocks.{block_bare, block_pieces-each}
 use Rattle.elf_model.proofs.Listed.{All-from_contains, All-parts, Contains-from_map}

@@ -1,10 +1,10 @@
 -- The lines of common blocks in the own map.
 use Rattle.std.specs.Prelude.{ℕ, List, [], ◌∷◌}
 use Rattle.std.specs.List.{flat_map}
-use Rattle.elf_model.specs.ImageFile.{common_row_of}
-use Rattle.elf_model.specs.Loading.{LoadedObject}
-use Rattle.elf_model.specs.MapRecord.{CommonRow}
-use Rattle.elf_model.specs.Meaning.{Common, Linker, Meaning, Symbol}
+use Rattle.elf_model.specs.Own.ImageFile.{common_row_of}
+use Rattle.elf_model.specs.Link.Loading.{LoadedObject}
+use Rattle.elf_model.specs.Image.MapRecord.{CommonRow}
+use Rattle.elf_model.specs.Link.Meaning.{Common, Linker, Meaning, Symbol}
 
 -- the line of what a name means where that is a common block, at its own address
 abbrev pub common_rows_of : ℕ → List LoadedObject → Meaning → List CommonRow

@@ -1,18 +1,18 @@
 -- What a linkage is of, and what it keeps.
 use Rattle.std.specs.Prelude.{◌≡◌, ℕ, ◌^◌, ◌<◌, List, All, map}
-use Rattle.elf_model.specs.Command.{IsBase, Plan}
-use Rattle.elf_model.specs.ImageFile.{image_file, own_end, own_entry, own_tables}
-use Rattle.elf_model.specs.Loading.{AreObjects, LoadedObject}
-use Rattle.elf_model.specs.Listing.{AreListed}
-use Rattle.elf_model.specs.MapText.{Ascends, Fits, SymbolBefore}
-use Rattle.elf_model.specs.Meaning.{Meaning}
-use Rattle.elf_model.specs.OwnLayout.{IsNotTooLarge, own_in_load_order, own_where}
-use Rattle.elf_model.specs.Pieces.{AreLawfulKinds}
-use Rattle.elf_model.specs.Slots.{slots}
+use Rattle.elf_model.specs.Inputs.Command.{IsBase, Plan}
+use Rattle.elf_model.specs.Own.ImageFile.{image_file, own_end, own_entry, own_tables}
+use Rattle.elf_model.specs.Link.Loading.{AreObjects, LoadedObject}
+use Rattle.elf_model.specs.Link.Listing.{AreListed}
+use Rattle.elf_model.specs.Image.MapText.{Ascends, Fits, SymbolBefore}
+use Rattle.elf_model.specs.Link.Meaning.{Meaning}
+use Rattle.elf_model.specs.Own.OwnLayout.{IsNotTooLarge, own_in_load_order, own_where}
+use Rattle.elf_model.specs.Link.Pieces.{AreLawfulKinds}
+use Rattle.elf_model.specs.Link.Slots.{slots}
 use Rattle.relocate.specs.Values.{slot_value_of}
 use Rattle.resolve.specs.Views.{meaning_view, meaning_views}
 use Rattle.search.specs.Loads.{LoadedPlan}
-use Rattle.elf_model.specs.RightLink.{symbol_row_of}
+use Rattle.elf_model.specs.Image.RightLink.{symbol_row_of}
 use Rattle.image_write.specs.Listings.{AreKept, in_order, table_in}
 use Rattle.image_write.specs.Maps.{LiesWithin, own_record, own_table}
 use Rattle.image_write.specs.Tables.{HasTable, table_of}

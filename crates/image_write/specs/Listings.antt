@@ -3,10 +3,10 @@ use Rattle.std.specs.Prelude.{◌≡◌, ℕ, ◌+◌, ◌<◌, List, [], Option
 use Rattle.std.specs.Cmp.Lexicographic.{slice_cmp}
 use Rattle.std.specs.List.Sorted.{IsSortedByKey}
 use Rattle.std.specs.Ordering.{nat_cmp}
-use Rattle.elf_model.specs.Listing.{AreLinkerLines, AreListed}
-use Rattle.elf_model.specs.Loading.{LoadedObject}
-use Rattle.elf_model.specs.Meaning.{meaning_name}
-use Rattle.elf_model.specs.Resolution.{AreSoundSymbols}
+use Rattle.elf_model.specs.Link.Listing.{AreLinkerLines, AreListed}
+use Rattle.elf_model.specs.Link.Loading.{LoadedObject}
+use Rattle.elf_model.specs.Link.Meaning.{meaning_name}
+use Rattle.elf_model.specs.Link.Resolution.{AreSoundSymbols}
 use Rattle.resolve.specs.Views.{meaning_view, meaning_views}
 use Rattle.resolve.specs.declared.definition.Definition as code
 use Rattle.relocate.specs.Uses.{line_views}

@@ -1,16 +1,16 @@
 -- The map of objects where they are laid out.
 use Rattle.std.specs.Prelude.{◌≡◌, ◌+◌, ◌≤◌, ◌^◌, Bool, cond, List, IfSome, Option, None, Some, filter, find, map, option_map}
-use Rattle.elf_model.specs.ImageFile.{place_row_of, symtab_line_of}
-use Rattle.elf_model.specs.Loading.{LoadedObject}
-use Rattle.elf_model.specs.MapRecord.{MapRecord, PlaceRow}
-use Rattle.elf_model.specs.Meaning.{Common, Linker, Meaning, Symbol}
-use Rattle.elf_model.specs.OwnLayout.{own_address, own_got, own_slots, own_where}
-use Rattle.elf_model.specs.Pieces.{Piece, kept_sections}
-use Rattle.elf_model.specs.Placement.{Placed, is_of_section}
-use Rattle.elf_model.specs.Resolution.{SymbolOf}
-use Rattle.elf_model.specs.RightLink.{drop_rows, object_rows, symbol_row_of}
-use Rattle.elf_model.specs.Slots.{got_size, slots}
-use Rattle.elf_model.specs.SymbolTable.{has_entry}
+use Rattle.elf_model.specs.Own.ImageFile.{place_row_of, symtab_line_of}
+use Rattle.elf_model.specs.Link.Loading.{LoadedObject}
+use Rattle.elf_model.specs.Image.MapRecord.{MapRecord, PlaceRow}
+use Rattle.elf_model.specs.Link.Meaning.{Common, Linker, Meaning, Symbol}
+use Rattle.elf_model.specs.Own.OwnLayout.{own_address, own_got, own_slots, own_where}
+use Rattle.elf_model.specs.Link.Pieces.{Piece, kept_sections}
+use Rattle.elf_model.specs.Link.Placement.{Placed, is_of_section}
+use Rattle.elf_model.specs.Link.Resolution.{SymbolOf}
+use Rattle.elf_model.specs.Image.RightLink.{drop_rows, object_rows, symbol_row_of}
+use Rattle.elf_model.specs.Link.Slots.{got_size, slots}
+use Rattle.elf_model.specs.Image.SymbolTable.{has_entry}
 use Rattle.elf_model.specs.declared.link_map.SymtabLine.{SymtabLine}
 use Rattle.got_tls.specs.Views.{Got}
 use Rattle.layout.specs.Placements.{Basis}

@@ -4,15 +4,15 @@ use Rattle.std.specs.Prelude.{◌≡◌, ◌==◌, ℕ, ◌+◌, ◌-◌, ◌≤
 use Rattle.std.specs.List.{flat_map, range_with_len, slice_get}
 use Rattle.std.specs.Option.{option_map_or}
 use Rattle.byteview.specs.Numbers.{le_bytes}
-use Rattle.elf_model.specs.ImageFile.{HeaderFields, header_bytes, is_got_piece, own_byte, own_end, own_file_header, piece_byte, stack_header}
-use Rattle.elf_model.specs.Loading.{LoadedObject}
-use Rattle.elf_model.specs.ObjectFile.{section}
-use Rattle.elf_model.specs.OwnLayout.{is_nonempty, own_headers_size, own_where, placed_end, placed_has_bytes}
-use Rattle.elf_model.specs.Pieces.{Piece}
-use Rattle.elf_model.specs.Placement.{Placed, Where}
-use Rattle.elf_model.specs.Records.{file_header_bytes, program_header_bytes}
-use Rattle.elf_model.specs.Resolution.{sections_of_object}
-use Rattle.elf_model.specs.Slots.{Request, got_bytes, slot_value, slots}
+use Rattle.elf_model.specs.Own.ImageFile.{HeaderFields, header_bytes, is_got_piece, own_byte, own_end, own_file_header, piece_byte, stack_header}
+use Rattle.elf_model.specs.Link.Loading.{LoadedObject}
+use Rattle.elf_model.specs.Inputs.ObjectFile.{section}
+use Rattle.elf_model.specs.Own.OwnLayout.{is_nonempty, own_headers_size, own_where, placed_end, placed_has_bytes}
+use Rattle.elf_model.specs.Link.Pieces.{Piece}
+use Rattle.elf_model.specs.Link.Placement.{Placed, Where}
+use Rattle.elf_model.specs.Inputs.Records.{file_header_bytes, program_header_bytes}
+use Rattle.elf_model.specs.Link.Resolution.{sections_of_object}
+use Rattle.elf_model.specs.Link.Slots.{Request, got_bytes, slot_value, slots}
 use Rattle.elf_model.specs.declared.records.ProgramHeader.{ProgramHeader}
 use Rattle.layout.specs.Placements.{Basis}
 use Rattle.image_write.specs.declared.fill_bytes.Code.{Code}

@@ -1,10 +1,10 @@
 -- The bytes of a section as they are written, in parts.
 use Rattle.std.specs.Prelude.{◌≡◌, ℕ, ◌+◌, ◌<◌, List, length, map, slice_index}
 use Rattle.std.specs.List.{range_with_len}
-use Rattle.elf_model.specs.Loading.{LoadedObject}
-use Rattle.elf_model.specs.Pieces.{Piece}
-use Rattle.elf_model.specs.Placement.{Where}
-use Rattle.elf_model.specs.WantedBytes.{wanted_byte}
+use Rattle.elf_model.specs.Link.Loading.{LoadedObject}
+use Rattle.elf_model.specs.Link.Pieces.{Piece}
+use Rattle.elf_model.specs.Link.Placement.{Where}
+use Rattle.elf_model.specs.Link.WantedBytes.{wanted_byte}
 use Rattle.elf_model.specs.declared.references.SectionRef.{SectionRef}
 
 -- a piece that is the section with these numbers

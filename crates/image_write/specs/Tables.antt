@@ -1,15 +1,15 @@
 -- The symbol table of what is listed: what its sections are made of, how large they are, and where they stand.
 use Rattle.std.specs.Prelude.{◌≡◌, ℕ, ◌+◌, ◌*◌, ◌^◌, ◌<◌, ◌≤◌, Bool, true, false, cond, List, [], ◌∷◌, Option, None, Some, All, filter, length}
 use Rattle.std.specs.List.{flat_map}
-use Rattle.elf_model.specs.ImageFile.{HeaderFields, fields_with, fields_without}
-use Rattle.elf_model.specs.Loading.{LoadedObject}
-use Rattle.elf_model.specs.Meaning.{Meaning, meaning_name}
-use Rattle.elf_model.specs.Placement.{Placed, Where, round_up}
-use Rattle.elf_model.specs.Records.{symbol_bytes}
-use Rattle.elf_model.specs.ObjectFile.{null_section}
-use Rattle.elf_model.specs.SymbolTable.{ended, entries_from, entry_count, has_entry, name_section, section_names, strings_header, tables_end}
-use Rattle.elf_model.specs.OwnLayout.{own_in_load_order, own_where}
-use Rattle.elf_model.specs.Pieces.{AreLawfulKinds}
+use Rattle.elf_model.specs.Own.ImageFile.{HeaderFields, fields_with, fields_without}
+use Rattle.elf_model.specs.Link.Loading.{LoadedObject}
+use Rattle.elf_model.specs.Link.Meaning.{Meaning, meaning_name}
+use Rattle.elf_model.specs.Link.Placement.{Placed, Where, round_up}
+use Rattle.elf_model.specs.Inputs.Records.{symbol_bytes}
+use Rattle.elf_model.specs.Inputs.ObjectFile.{null_section}
+use Rattle.elf_model.specs.Image.SymbolTable.{ended, entries_from, entry_count, has_entry, name_section, section_names, strings_header, tables_end}
+use Rattle.elf_model.specs.Own.OwnLayout.{own_in_load_order, own_where}
+use Rattle.elf_model.specs.Link.Pieces.{AreLawfulKinds}
 use Rattle.elf_model.specs.declared.constants.TheConstants.{SHT_SYMTAB}
 use Rattle.elf_model.specs.declared.link_map.SymtabLine.{SymtabLine}
 use Rattle.elf_model.specs.declared.records.SectionHeader.{SectionHeader}

@@ -1,7 +1,7 @@
 //! The bytes that are gathered before a device is given them.
 ghost use Rattle.std.specs.Prelude.{◌≡◌, ◌+◌, ◌≤◌, ◌==◌, ◌++◌, [], IfOk, length, replicate};
-ghost use Rattle.elf_model.specs.OwnLayout.{own_where};
-ghost use Rattle.elf_model.specs.Pieces.{Piece};
+ghost use Rattle.elf_model.specs.Own.OwnLayout.{own_where};
+ghost use Rattle.elf_model.specs.Link.Pieces.{Piece};
 ghost use Rattle.image_write.specs.Sections.{ArePartOf, IsOfSection, wanted_run};
 
 use elf_model::SectionRef;

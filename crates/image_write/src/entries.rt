@@ -1,9 +1,9 @@
 //! The entries of a symbol table: what each says of its definition (System V gABI 4, "Symbol Table").
 ghost use Rattle.std.specs.Prelude.{◌≡◌, ◌<◌, ◌^◌};
-ghost use Rattle.elf_model.specs.OwnLayout.{own_in_load_order, own_where};
-ghost use Rattle.elf_model.specs.Meaning.{meaning_size};
-ghost use Rattle.elf_model.specs.Pieces.{AreLawfulKinds};
-ghost use Rattle.elf_model.specs.SymbolTable as table;
+ghost use Rattle.elf_model.specs.Own.OwnLayout.{own_in_load_order, own_where};
+ghost use Rattle.elf_model.specs.Link.Meaning.{meaning_size};
+ghost use Rattle.elf_model.specs.Link.Pieces.{AreLawfulKinds};
+ghost use Rattle.elf_model.specs.Image.SymbolTable as table;
 ghost use Rattle.resolve.specs.Views.{meaning_view};
 ghost use Rattle.image_write.specs.Maps.{LiesWithin};
 

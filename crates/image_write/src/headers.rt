@@ -1,9 +1,9 @@
 //! The file header and the program headers of the image.
 ghost use Rattle.std.specs.Prelude.{◌≡◌, ◌+◌, ◌*◌, ◌<◌, ◌^◌, IfSome, length};
 ghost use Rattle.std.specs.List.{flat_map};
-ghost use Rattle.elf_model.specs.ImageFile as forms;
-ghost use Rattle.elf_model.specs.ImageFile.{own_file_header};
-ghost use Rattle.elf_model.specs.Records.{file_header_bytes, program_header_bytes};
+ghost use Rattle.elf_model.specs.Own.ImageFile as forms;
+ghost use Rattle.elf_model.specs.Own.ImageFile.{own_file_header};
+ghost use Rattle.elf_model.specs.Inputs.Records.{file_header_bytes, program_header_bytes};
 ghost use Rattle.image_write.specs.Parts.{as_list, count_of, headers_of};
 ghost use Rattle.image_write.specs.Streams.{Puts, stream};
 ghost use Rattle.image_write.specs.Tables.{IsInRange, fields_of};

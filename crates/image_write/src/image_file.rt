@@ -1,10 +1,10 @@
 //! The image file of a layout.
 ghost use Rattle.std.specs.Prelude.{◌≡◌, All, IfSome};
-ghost use Rattle.elf_model.specs.Command.{IsBase};
-ghost use Rattle.elf_model.specs.Loading.{AreObjects};
-ghost use Rattle.elf_model.specs.MemoryImage as memory;
-ghost use Rattle.elf_model.specs.OwnLayout.{IsNotTooLarge};
-ghost use Rattle.elf_model.specs.Pieces.{AreLawfulKinds};
+ghost use Rattle.elf_model.specs.Inputs.Command.{IsBase};
+ghost use Rattle.elf_model.specs.Link.Loading.{AreObjects};
+ghost use Rattle.elf_model.specs.Image.MemoryImage as memory;
+ghost use Rattle.elf_model.specs.Own.OwnLayout.{IsNotTooLarge};
+ghost use Rattle.elf_model.specs.Link.Pieces.{AreLawfulKinds};
 ghost use Rattle.image_write.specs.Parts.{AreContents, EndsLow, basis_of, file_parts};
 ghost use Rattle.image_write.specs.Streams.{Puts, stream};
 ghost use Rattle.image_write.specs.Tables.{IsInRange, fields_of};

@@ -1,7 +1,7 @@
 //! The symbol table of an image: how many entries it has, how long its names are, and where its sections stand.
 ghost use Rattle.std.specs.Prelude.{◌≡◌, ◌+◌, ◌<◌, ◌≤◌, ◌^◌, ◌∷◌, [], IfNone, IfSome, length};
-ghost use Rattle.elf_model.specs.Placement.{round_up};
-ghost use Rattle.elf_model.specs.SymbolTable.{tables_end};
+ghost use Rattle.elf_model.specs.Link.Placement.{round_up};
+ghost use Rattle.elf_model.specs.Image.SymbolTable.{tables_end};
 ghost use Rattle.resolve.specs.Views.{meaning_view, meaning_views};
 ghost use Rattle.search.specs.Views.{loaded_views};
 ghost use Rattle.image_write.specs.Tables.{IsInRange, IsTableOf, entered, headers_place, name_bytes, names_place, section_names_end, section_names_place, symbols_place};

@@ -1,8 +1,8 @@
 //! The symbol table behind the last file part: `.symtab`, `.strtab` and `.shstrtab`, and the headers of these sections.
 ghost use Rattle.std.specs.Prelude.{◌≡◌, ◌+◌, ◌<◌, ◌^◌, ◌∷◌, ◌++◌, [], IfOk, length};
 ghost use Rattle.std.specs.List.{flat_map};
-ghost use Rattle.elf_model.specs.Records.{section_header_bytes, symbol_bytes};
-ghost use Rattle.elf_model.specs.SymbolTable as table;
+ghost use Rattle.elf_model.specs.Inputs.Records.{section_header_bytes, symbol_bytes};
+ghost use Rattle.elf_model.specs.Image.SymbolTable as table;
 ghost use Rattle.resolve.specs.Views.{meaning_view};
 ghost use Rattle.search.specs.Views.{loaded_views};
 ghost use Rattle.image_write.specs.Maps.{LiesWithin};

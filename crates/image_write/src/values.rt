@@ -1,11 +1,11 @@
 //! The values of definitions where the linker lays out: addresses, and what absolute symbols have (System V gABI 4,
 //! "Symbol Values").
 ghost use Rattle.std.specs.Prelude.{◌≡◌, ◌<◌, ◌^◌};
-ghost use Rattle.elf_model.specs.Meaning.{meaning_value};
-ghost use Rattle.elf_model.specs.OwnLayout.{own_in_load_order, own_where};
-ghost use Rattle.elf_model.specs.Pieces.{AreLawfulKinds};
-ghost use Rattle.elf_model.specs.Placement as placement_of;
-ghost use Rattle.elf_model.specs.Placement.{section_address};
+ghost use Rattle.elf_model.specs.Link.Meaning.{meaning_value};
+ghost use Rattle.elf_model.specs.Own.OwnLayout.{own_in_load_order, own_where};
+ghost use Rattle.elf_model.specs.Link.Pieces.{AreLawfulKinds};
+ghost use Rattle.elf_model.specs.Link.Placement as placement_of;
+ghost use Rattle.elf_model.specs.Link.Placement.{section_address};
 ghost use Rattle.resolve.specs.Views.{meaning_view, symbol_view};
 ghost use Rattle.image_write.specs.Maps.{LiesBelow, LiesWithin};
 

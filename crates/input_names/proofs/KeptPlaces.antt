@@ -2,9 +2,9 @@
 use Rattle.std.proofs.Common.{◌≡◌, ◌∙◌, ℕ, true, List, [], Some, ap, subst, sym}
 use Rattle.std.specs.Prelude.{unwrap_or}
 use Rattle.std.specs.List.{slice_get}
-use Rattle.elf_model.specs.Loading.{LoadedObject}
-use Rattle.elf_model.specs.ObjectFile.{rela_symbol, relas_of, section_name, sections, symbol_name}
-use Rattle.elf_model.specs.Relocation.{is_kept_rela, is_some_kind, relocation_of}
+use Rattle.elf_model.specs.Link.Loading.{LoadedObject}
+use Rattle.elf_model.specs.Inputs.ObjectFile.{rela_symbol, relas_of, section_name, sections, symbol_name}
+use Rattle.elf_model.specs.Link.Relocation.{is_kept_rela, is_some_kind, relocation_of}
 use Rattle.elf_model.specs.declared.records.Rela.{Rela}
 use Rattle.elf_model.specs.declared.records.SectionHeader.{SectionHeader}
 use Rattle.input_names.specs.RelocationPlaces.{IsKeptOf, IsRelocationAt}

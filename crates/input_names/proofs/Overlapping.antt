@@ -1,7 +1,7 @@
 -- Two fields of one section share a byte where one begins inside the other.
 use Rattle.std.proofs.Common.{◌≡◌, ◌∙◌, ℕ, ◌<◌, ◌≤◌, ◌+◌, true, List, ap, subst, sym, arith}
-use Rattle.elf_model.specs.Loading.{LoadedObject}
-use Rattle.elf_model.specs.Relocation.{AreFieldsApart, Relocation, is_in_field, width_of}
+use Rattle.elf_model.specs.Link.Loading.{LoadedObject}
+use Rattle.elf_model.specs.Link.Relocation.{AreFieldsApart, Relocation, is_in_field, width_of}
 use Rattle.elf_model.proofs.RelocationFields.{field_has}
 use Rattle.input_names.specs.RelocationPlaces.{BeginsIn, IsRelocationAt}
 use Rattle.input_names.specs.declared.relocation_places.RelocationPlace.{RelocationPlace}

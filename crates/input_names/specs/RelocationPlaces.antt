@@ -1,9 +1,9 @@
 -- What a place of a relocation says of the loaded objects, and when the field of one begins inside that of another.
 use Rattle.std.specs.Prelude.{◌≡◌, ◌+◌, ◌<◌, ◌≤◌, ℕ, true, List, Some}
 use Rattle.std.specs.List.{slice_get}
-use Rattle.elf_model.specs.Loading.{LoadedObject}
-use Rattle.elf_model.specs.ObjectFile.{relas_of, sections}
-use Rattle.elf_model.specs.Relocation.{AreFieldsApart, Relocation, is_kept_rela, is_some_kind, relocation_of}
+use Rattle.elf_model.specs.Link.Loading.{LoadedObject}
+use Rattle.elf_model.specs.Inputs.ObjectFile.{relas_of, sections}
+use Rattle.elf_model.specs.Link.Relocation.{AreFieldsApart, Relocation, is_kept_rela, is_some_kind, relocation_of}
 use Rattle.elf_model.specs.declared.records.SectionHeader.{SectionHeader}
 use Rattle.input_names.specs.declared.relocation_places.RelocationPlace.{RelocationPlace}
 

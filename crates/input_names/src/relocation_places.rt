@@ -1,6 +1,6 @@
 //! Places of kept relocations, and whether the fields of two share a byte.
 ghost use Rattle.std.specs.Prelude.{◌≡◌, [], IsTrue, unwrap_or};
-ghost use Rattle.elf_model.specs.ObjectFile.{rela_symbol, section_name, symbol_name};
+ghost use Rattle.elf_model.specs.Inputs.ObjectFile.{rela_symbol, section_name, symbol_name};
 ghost use Rattle.input_names.specs.RelocationPlaces.{AreTwo, BeginsIn};
 
 use elf_model::{Rela, SectionHeader};

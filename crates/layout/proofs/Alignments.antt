@@ -2,18 +2,18 @@
 use Rattle.std.proofs.Common.{ℕ, ◌<◌, ◌≤◌, inl, inr, ◌^◌, Bool, true, false, cond, List, [], ◌∷◌, arith}
 use Rattle.std.specs.Prelude.{Contains, max}
 use Rattle.std.proofs.lemmas.List.Elements.{All-append, All-contains, All-head, All-tail, Contains-append_left}
-use Rattle.elf_model.specs.Loading.{AreObjects, LoadedObject}
-use Rattle.elf_model.specs.ObjectFile.{IsAlignment}
-use Rattle.elf_model.specs.OwnLayout.{code_pieces, got_pieces, initial_pieces, laid_out, read_only_pieces, thread_rest_pieces}
-use Rattle.elf_model.specs.Commons.{block_pieces, pieces}
-use Rattle.elf_model.specs.Pieces.{Piece, is_thread_piece, kept_sections}
-use Rattle.elf_model.specs.Resolution.{AreSoundCommons}
+use Rattle.elf_model.specs.Link.Loading.{AreObjects, LoadedObject}
+use Rattle.elf_model.specs.Inputs.ObjectFile.{IsAlignment}
+use Rattle.elf_model.specs.Own.OwnLayout.{code_pieces, got_pieces, initial_pieces, laid_out, read_only_pieces, thread_rest_pieces}
+use Rattle.elf_model.specs.Link.Commons.{block_pieces, pieces}
+use Rattle.elf_model.specs.Link.Pieces.{Piece, is_thread_piece, kept_sections}
+use Rattle.elf_model.specs.Link.Resolution.{AreSoundCommons}
 use Rattle.elf_model.proofs.Listed.{All-from_contains}
 use Rattle.elf_model.proofs.OwnOrder.{from_code, from_initial, from_plain_data, from_read_only, from_thread_rest, is_laid_out}
 use Rattle.elf_model.proofs.PieceAlignments.{alignments-each}
 use Rattle.elf_model.proofs.PieceNumbers.{got_pieces-each}
 use Rattle.elf_model.proofs.Places.{some_alignment}
-use Rattle.elf_model.specs.ThreadStorage.{alignment_of}
+use Rattle.elf_model.specs.Link.ThreadStorage.{alignment_of}
 use Rattle.layout.specs.Limits.{AreAligned, HasSmallAlignment}
 use Rattle.layout.specs.Orders.{plain_pieces}
 

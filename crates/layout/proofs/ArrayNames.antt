@@ -2,7 +2,7 @@
 use Rattle.std.proofs.Common.{◌≡◌, ◌≢◌, ◌∙◌, ◌||◌, ℕ, Bool, false, List, ap, arith, sym}
 use Rattle.std.specs.Prelude.{codes, nat_eq, slice_index}
 use Rattle.std.specs.List.{starts_with}
-use Rattle.elf_model.specs.ArrayOrder.{is_array_prefixed}
+use Rattle.elf_model.specs.Link.ArrayOrder.{is_array_prefixed}
 use Rattle.resolve.proofs.GatheringNames.{begins_otherwise}
 
 pub no_prefix : (name : List ℕ) → slice_index name 1 ≢ 105 → slice_index name 1 ≢ 102 → false ≡ is_array_prefixed name

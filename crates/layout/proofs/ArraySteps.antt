@@ -11,8 +11,8 @@ use Rattle.std.specs.Str.Parse.{digits_value}
 use Rattle.std.proofs.lemmas.Str.Parse.{digits_value_short}
 use Rattle.std.proofs.lemmas.Bool.{false≢true}
 use Rattle.std.proofs.lemmas.List.Elements.{All-cons, All-nil}
-use Rattle.elf_model.specs.ArrayOrder.{array_rank, in_array_order, piece_rank}
-use Rattle.elf_model.specs.Pieces.{Piece}
+use Rattle.elf_model.specs.Link.ArrayOrder.{array_rank, in_array_order, piece_rank}
+use Rattle.elf_model.specs.Link.Pieces.{Piece}
 use Rattle.elf_model.proofs.ArrayOrder.{by_stable_sort, map_by_rank, one_rank}
 use Rattle.elf_model.proofs.DecimalDigits.{digit_step, own}
 use Rattle.layout.specs.Arrays.{has_number}

@@ -3,9 +3,9 @@ use Rattle.std.proofs.Common.{◌≡◌, ℕ, ◌+◌, ◌<◌, ◌^◌, ◌&&�
 use Rattle.std.specs.Prelude.{All, max, nat_lt}
 use Rattle.std.proofs.lemmas.Bool.{ltb-false, ltb-true}
 use Rattle.std.proofs.lemmas.List.Elements.{All-cons, All-head, All-nil, All-tail}
-use Rattle.elf_model.specs.MemoryImage.{file_end}
-use Rattle.elf_model.specs.OwnLayout.{greatest_end, is_nonempty, placed_end}
-use Rattle.elf_model.specs.Placement.{Placed}
+use Rattle.elf_model.specs.Image.MemoryImage.{file_end}
+use Rattle.elf_model.specs.Own.OwnLayout.{greatest_end, is_nonempty, placed_end}
+use Rattle.elf_model.specs.Link.Placement.{Placed}
 use Rattle.elf_model.specs.declared.records.ProgramHeader.{ProgramHeader}
 use Rattle.layout.specs.Limits.{IsShort}
 use Rattle.layout.specs.PlaceViews.{place_view, place_views}

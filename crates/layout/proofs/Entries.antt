@@ -6,8 +6,8 @@ use Rattle.std.specs.List.{slice_get}
 use Rattle.std.specs.Option.{option_and_then}
 use Rattle.std.proofs.lemmas.Bool.{eqb-false, eqb-true, ne_eqb}
 use Rattle.std.proofs.lemmas.List.{append_assoc, get_or-map, length-map}
-use Rattle.elf_model.specs.ObjectFile.{sections}
-use Rattle.elf_model.specs.Placement.{Placed, is_of_section}
+use Rattle.elf_model.specs.Inputs.ObjectFile.{sections}
+use Rattle.elf_model.specs.Link.Placement.{Placed, is_of_section}
 use Rattle.search.specs.Views.{loaded_views}
 use Rattle.search.specs.declared.loaded.LoadedObject as code
 use Rattle.layout.specs.Addresses.{HasEntry, entry, entry_in, section_counts, shape_of, told}

@@ -5,9 +5,9 @@ use Rattle.std.specs.Borrow.{Bor}
 use Rattle.std.specs.Option.{option_map_or}
 use Rattle.std.specs.Str.{bytes_eq}
 use Rattle.std.proofs.lemmas.Slice.Eq.{bytes_eq-Decides}
-use Rattle.elf_model.specs.LinkerValues.{least_of}
-use Rattle.elf_model.specs.Pieces.{is_of_output, output_name}
-use Rattle.elf_model.specs.Placement.{Placed}
+use Rattle.elf_model.specs.Link.LinkerValues.{least_of}
+use Rattle.elf_model.specs.Link.Pieces.{is_of_output, output_name}
+use Rattle.elf_model.specs.Link.Placement.{Placed}
 use Rattle.elf_model.proofs.PieceBounds.{earlier, further}
 use Rattle.layout.specs.PieceParts.{IsLast, extent_in, extent_with}
 use Rattle.layout.specs.declared.bounds.Extent.{Extent}

@@ -2,9 +2,9 @@
 use Rattle.std.proofs.Common.{◌≡◌, ◌∙◌, ℕ, Bool, arith, true, false, cond, List, [], ◌∷◌, ap, length, refl}
 use Rattle.std.specs.Prelude.{nat_lt}
 use Rattle.std.proofs.lemmas.Bool.{lt-ltb}
-use Rattle.elf_model.specs.Loading.{LoadedObject}
-use Rattle.elf_model.specs.OwnLayout.{got_number, got_piece, got_pieces}
-use Rattle.elf_model.specs.Slots.{got_size, has_got, size_with, slots}
+use Rattle.elf_model.specs.Link.Loading.{LoadedObject}
+use Rattle.elf_model.specs.Own.OwnLayout.{got_number, got_piece, got_pieces}
+use Rattle.elf_model.specs.Link.Slots.{got_size, has_got, size_with, slots}
 use Rattle.layout.specs.PieceLists.{got_as, if_sized}
 
 -- there is a GOT where it has a size

@@ -6,9 +6,9 @@ use Rattle.std.specs.Global.{Vec}
 use Rattle.std.specs.List.{slice_get}
 use Rattle.std.proofs.lemmas.List.{get_or-map, length-map, map-append, take_more}
 use Rattle.std.proofs.lemmas.Option.{none-some, same_Some, slice_get-map, slice_get_within}
-use Rattle.elf_model.specs.OwnLayout.{leaders}
-use Rattle.elf_model.specs.Pieces as pieces
-use Rattle.elf_model.specs.Pieces.{same_output}
+use Rattle.elf_model.specs.Own.OwnLayout.{leaders}
+use Rattle.elf_model.specs.Link.Pieces as pieces
+use Rattle.elf_model.specs.Link.Pieces.{same_output}
 use Rattle.elf_model.proofs.Grouped.{leaders_other}
 use Rattle.resolve.specs.OutputSections.{AreOutputsOf, Output, output_at, output_of, output_view}
 use Rattle.resolve.specs.declared.output_sections.OutputSection.{OutputSection}

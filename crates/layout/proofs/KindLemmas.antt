@@ -2,9 +2,9 @@
 use Rattle.std.proofs.Common.{ℕ, ◌+◌, List, [], ◌∷◌, subst, sym}
 use Rattle.std.specs.Prelude.{All}
 use Rattle.std.proofs.lemmas.List.Elements.{All-append, All-cons, All-head, All-map, All-nil, All-tail}
-use Rattle.elf_model.specs.Loading.{LoadedObject}
-use Rattle.elf_model.specs.ObjectFile.{sections}
-use Rattle.elf_model.specs.Pieces.{IsLawfulKind, Piece, pieces_from, pieces_of}
+use Rattle.elf_model.specs.Link.Loading.{LoadedObject}
+use Rattle.elf_model.specs.Inputs.ObjectFile.{sections}
+use Rattle.elf_model.specs.Link.Pieces.{IsLawfulKind, Piece, pieces_from, pieces_of}
 use Rattle.elf_model.proofs.Listed.{All-parts, All-unmap}
 use Rattle.search.proofs.KeptListLaws.{pieces_listed}
 use Rattle.search.specs.KeptLists.{kept_numbers, piece_at}

@@ -3,11 +3,11 @@ use Rattle.std.proofs.Common.{◌≡◌, ℕ, ◌≤◌, ◌^◌, List, [], ◌�
 use Rattle.std.specs.Borrow.{Bor}
 use Rattle.std.proofs.lemmas.List.{append_assoc, drop-map, length-append, length-map}
 use Rattle.std.proofs.lemmas.List.Elements.{All-append, All-cons, All-head, All-nil, All-tail}
-use Rattle.elf_model.specs.Loading.{LoadedObject}
-use Rattle.elf_model.specs.OwnLayout.{code_pieces, code_start, data_start, end_of, first_start, initial_pieces, loaded_start, own_code, own_data, own_loaded, own_placed, own_read_only, own_thread_rest, page_up, placed_from, read_only_pieces, read_only_start, segment, thread_rest_start, thread_start}
-use Rattle.elf_model.specs.Pieces.{Piece, is_thread_piece, kept_sections}
-use Rattle.elf_model.specs.Placement.{Placed, round_up}
-use Rattle.elf_model.specs.ThreadStorage.{alignment_of}
+use Rattle.elf_model.specs.Link.Loading.{LoadedObject}
+use Rattle.elf_model.specs.Own.OwnLayout.{code_pieces, code_start, data_start, end_of, first_start, initial_pieces, loaded_start, own_code, own_data, own_loaded, own_placed, own_read_only, own_thread_rest, page_up, placed_from, read_only_pieces, read_only_start, segment, thread_rest_start, thread_start}
+use Rattle.elf_model.specs.Link.Pieces.{Piece, is_thread_piece, kept_sections}
+use Rattle.elf_model.specs.Link.Placement.{Placed, round_up}
+use Rattle.elf_model.specs.Link.ThreadStorage.{alignment_of}
 use Rattle.elf_model.proofs.ThreadPlaces.{own_data_parts, own_initial, own_plain}
 use Rattle.layout.specs.Laid.{plain_start}
 use Rattle.layout.specs.Limits.{AreInLimit, IsInLimit, RunFails}

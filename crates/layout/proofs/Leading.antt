@@ -5,7 +5,7 @@ use Rattle.std.specs.List.{slice_get}
 use Rattle.std.proofs.lemmas.Bool.{false≢true}
 use Rattle.std.proofs.lemmas.List.Elements.{All-head, All-tail, All-weaker, filter-append}
 use Rattle.std.proofs.lemmas.Option.{same_Some}
-use Rattle.elf_model.specs.Pieces.{Piece, same_output}
+use Rattle.elf_model.specs.Link.Pieces.{Piece, same_output}
 use Rattle.elf_model.proofs.Grouped.{AreOther}
 use Rattle.elf_model.proofs.Pairs.{AllPairs-head, AllPairs-tail}
 use Rattle.elf_model.proofs.SameOutput.{same_output-sym, same_output-trans}

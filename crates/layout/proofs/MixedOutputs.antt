@@ -6,9 +6,9 @@ use Rattle.std.specs.Str.{bytes_eq}
 use Rattle.std.proofs.lemmas.Bool.{false≢true}
 use Rattle.std.proofs.lemmas.List.{get_or_default}
 use Rattle.std.proofs.lemmas.List.Elements.{All-contains}
-use Rattle.elf_model.specs.Loading.{LoadedObject}
-use Rattle.elf_model.specs.OwnLayout.{leaders}
-use Rattle.elf_model.specs.Pieces.{Piece, is_of_output, kept_sections, same_output}
+use Rattle.elf_model.specs.Link.Loading.{LoadedObject}
+use Rattle.elf_model.specs.Own.OwnLayout.{leaders}
+use Rattle.elf_model.specs.Link.Pieces.{Piece, is_of_output, kept_sections, same_output}
 use Rattle.elf_model.proofs.ChosenSymbols.{any_find}
 use Rattle.elf_model.proofs.Finding.{find-found}
 use Rattle.elf_model.proofs.Grouped.{AreOther, leaders_other}

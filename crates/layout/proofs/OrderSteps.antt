@@ -3,10 +3,10 @@ use Rattle.std.proofs.Common.{◌≡◌, ◌∙◌, ◌++◌, List, ap, subst}
 use Rattle.std.specs.Prelude.{filter}
 use Rattle.std.specs.Borrow.{Bor}
 use Rattle.std.specs.Global.{Vec}
-use Rattle.elf_model.specs.Loading.{LoadedObject}
-use Rattle.elf_model.specs.OwnLayout.{got_pieces, grouped, is_data, is_zero}
-use Rattle.elf_model.specs.Pieces as pieces
-use Rattle.elf_model.specs.Pieces.{kept_sections}
+use Rattle.elf_model.specs.Link.Loading.{LoadedObject}
+use Rattle.elf_model.specs.Own.OwnLayout.{got_pieces, grouped, is_data, is_zero}
+use Rattle.elf_model.specs.Link.Pieces as pieces
+use Rattle.elf_model.specs.Link.Pieces.{kept_sections}
 use Rattle.layout.specs.Groups.{AreGathered, part_test, parts}
 use Rattle.layout.specs.Orders.{data_in, plain_pieces}
 use Rattle.layout.specs.PieceLists.{ArePieces, if_sized}

@@ -3,9 +3,9 @@ use Rattle.std.proofs.Common.{◌≡◌, ◌∙◌, ℕ, ◌+◌, ◌<◌, Bool,
 use Rattle.std.specs.Prelude.{None, Option, Some, filter}
 use Rattle.elf_model.proofs.PieceBounds.{earlier, either_least, further}
 use Rattle.elf_model.proofs.Rests.{rest_at}
-use Rattle.elf_model.specs.LinkerValues.{end_of_pieces, least_of, start_of_pieces}
-use Rattle.elf_model.specs.Pieces.{Piece}
-use Rattle.elf_model.specs.Placement.{Placed}
+use Rattle.elf_model.specs.Link.LinkerValues.{end_of_pieces, least_of, start_of_pieces}
+use Rattle.elf_model.specs.Link.Pieces.{Piece}
+use Rattle.elf_model.specs.Link.Placement.{Placed}
 use Rattle.layout.specs.PlaceViews.{place_view, place_views}
 use Rattle.layout.specs.declared.runs.Place.{Place}
 

@@ -4,13 +4,13 @@ use Rattle.std.specs.Prelude.{All, Contains, Option, Some, None, find, option_ma
 use Rattle.std.proofs.lemmas.Bool.{and_parts, eq-eqb, eqb-true, false≢true}
 use Rattle.std.proofs.lemmas.List.Elements.{All-head, All-tail, All-weaker}
 use Rattle.std.proofs.lemmas.Option.{none-some}
-use Rattle.elf_model.specs.Loading.{LoadedObject}
-use Rattle.elf_model.specs.OwnLayout.{got_line_of, got_number, got_piece, got_pieces, laid_out, own_address, own_got, own_in_load_order, own_laid_out, own_placed, own_places}
-use Rattle.elf_model.specs.Slots.{has_got}
+use Rattle.elf_model.specs.Link.Loading.{LoadedObject}
+use Rattle.elf_model.specs.Own.OwnLayout.{got_line_of, got_number, got_piece, got_pieces, laid_out, own_address, own_got, own_in_load_order, own_laid_out, own_placed, own_places}
+use Rattle.elf_model.specs.Link.Slots.{has_got}
 use Rattle.elf_model.specs.declared.link_map.GotLine.{GotLine}
-use Rattle.elf_model.specs.Commons.{block_pieces, pieces}
-use Rattle.elf_model.specs.Pieces.{Piece, kept_sections}
-use Rattle.elf_model.specs.Placement.{Placed, is_of_section}
+use Rattle.elf_model.specs.Link.Commons.{block_pieces, pieces}
+use Rattle.elf_model.specs.Link.Pieces.{Piece, kept_sections}
+use Rattle.elf_model.specs.Link.Placement.{Placed, is_of_section}
 use Rattle.elf_model.proofs.Blocks.{block_pieces-object}
 use Rattle.elf_model.proofs.Finding.{find-found, find-none}
 use Rattle.elf_model.proofs.Found.{find-map}

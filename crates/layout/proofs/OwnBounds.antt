@@ -4,14 +4,14 @@ use Rattle.std.specs.Prelude.{Contains, None, Some, filter, unwrap_or}
 use Rattle.std.proofs.lemmas.Bool.{eq-eqb, eqb-true, false≢true}
 use Rattle.std.proofs.lemmas.List.{map-append}
 use Rattle.std.proofs.lemmas.List.Elements.{All-contains, Contains-append_cases}
-use Rattle.elf_model.specs.Commons.{pieces}
-use Rattle.elf_model.specs.LinkerNames.{named_output}
-use Rattle.elf_model.specs.LinkerValues.{bound_value, end_of_pieces, is_code_piece, is_file_data, is_loaded_piece, is_zero_data, least_of, start_of_pieces}
-use Rattle.elf_model.specs.Loading.{LoadedObject}
-use Rattle.elf_model.specs.OwnLayout.{got_line_of, got_number, got_piece, got_pieces, own_address, own_got, own_in_load_order, own_laid_out, own_placed, own_where}
-use Rattle.elf_model.specs.Pieces.{AreLawfulKinds, Piece, is_of_output}
-use Rattle.elf_model.specs.Placement.{Placed, got_end, got_start}
-use Rattle.elf_model.specs.Slots.{got_size, has_got}
+use Rattle.elf_model.specs.Link.Commons.{pieces}
+use Rattle.elf_model.specs.Link.LinkerNames.{named_output}
+use Rattle.elf_model.specs.Link.LinkerValues.{bound_value, end_of_pieces, is_code_piece, is_file_data, is_loaded_piece, is_zero_data, least_of, start_of_pieces}
+use Rattle.elf_model.specs.Link.Loading.{LoadedObject}
+use Rattle.elf_model.specs.Own.OwnLayout.{got_line_of, got_number, got_piece, got_pieces, own_address, own_got, own_in_load_order, own_laid_out, own_placed, own_where}
+use Rattle.elf_model.specs.Link.Pieces.{AreLawfulKinds, Piece, is_of_output}
+use Rattle.elf_model.specs.Link.Placement.{Placed, got_end, got_start}
+use Rattle.elf_model.specs.Link.Slots.{got_size, has_got}
 use Rattle.elf_model.specs.declared.bound.Bound.{Bound}
 use Rattle.elf_model.specs.declared.link_map.GotLine.{GotLine}
 use Rattle.elf_model.specs.declared.bound.Bound.TheVariants.{CodeEnd, DataEnd, GotStart, ImageEnd, ImageStart, OutputEnd, OutputStart, ZeroStart}

@@ -6,13 +6,13 @@ use Rattle.std.proofs.Math.Seq.{take-append_seam}
 use Rattle.std.proofs.lemmas.Bool.{false≢true}
 use Rattle.std.proofs.lemmas.List.{take-map}
 use Rattle.std.proofs.lemmas.List.Elements.{All-append, All-contains, All-cons, All-head, All-map, All-nil, All-tail, All-weaker, Contains-append_cases, Contains-append_left}
-use Rattle.elf_model.specs.Commons.{Block, block_piece, block_pieces, blocks, pieces}
-use Rattle.elf_model.specs.LinkerValues.{least_of, start_of_pieces}
-use Rattle.elf_model.specs.Loading.{LoadedObject}
-use Rattle.elf_model.specs.OwnLayout.{got_pieces, has_thread_pieces, initial_pieces, laid_out, own_code, own_data, own_in_load_order, own_loaded, own_placed, own_read_only, own_thread_rest, thread_start}
-use Rattle.elf_model.specs.Pieces.{AreLawfulKinds, Piece, is_thread_piece, kept_sections}
-use Rattle.elf_model.specs.Placement.{Placed}
-use Rattle.elf_model.specs.ThreadStorage.{alignment_of, block_from, is_some_thread_data, thread_block, thread_header}
+use Rattle.elf_model.specs.Link.Commons.{Block, block_piece, block_pieces, blocks, pieces}
+use Rattle.elf_model.specs.Link.LinkerValues.{least_of, start_of_pieces}
+use Rattle.elf_model.specs.Link.Loading.{LoadedObject}
+use Rattle.elf_model.specs.Own.OwnLayout.{got_pieces, has_thread_pieces, initial_pieces, laid_out, own_code, own_data, own_in_load_order, own_loaded, own_placed, own_read_only, own_thread_rest, thread_start}
+use Rattle.elf_model.specs.Link.Pieces.{AreLawfulKinds, Piece, is_thread_piece, kept_sections}
+use Rattle.elf_model.specs.Link.Placement.{Placed}
+use Rattle.elf_model.specs.Link.ThreadStorage.{alignment_of, block_from, is_some_thread_data, thread_block, thread_header}
 use Rattle.elf_model.specs.declared.records.ProgramHeader.{ProgramHeader}
 use Rattle.elf_model.specs.declared.tls_block.TlsBlock.{TlsBlock}
 use Rattle.elf_model.proofs.Blocks.{block_pieces-each}

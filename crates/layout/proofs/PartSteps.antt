@@ -8,10 +8,10 @@ use Rattle.std.proofs.lemmas.Bool.{false≢true}
 use Rattle.std.proofs.lemmas.List.{map-append}
 use Rattle.std.proofs.lemmas.List.Elements.{All-head, filter_passes}
 use Rattle.std.proofs.lemmas.Option.{same_Some}
-use Rattle.elf_model.specs.ArrayOrder.{in_array_order}
-use Rattle.elf_model.specs.OwnLayout.{grouped, leaders}
-use Rattle.elf_model.specs.Pieces as pieces
-use Rattle.elf_model.specs.Pieces.{same_output}
+use Rattle.elf_model.specs.Link.ArrayOrder.{in_array_order}
+use Rattle.elf_model.specs.Own.OwnLayout.{grouped, leaders}
+use Rattle.elf_model.specs.Link.Pieces as pieces
+use Rattle.elf_model.specs.Link.Pieces.{same_output}
 use Rattle.elf_model.proofs.Grouped.{group_of_filter}
 use Rattle.elf_model.proofs.SameOutput.{IsOfOutput, is_code-of_output, is_data-of_output, is_initial-of_output, is_read_only-of_output, is_thread_rest-of_output, is_zero-of_output}
 use Rattle.layout.specs.Groups.{AreGathered, group, group_part, part_test, parts}

@@ -4,13 +4,13 @@ use Rattle.std.specs.Prelude.{All}
 use Rattle.std.proofs.lemmas.List.{get_or-map, length-append, length-map}
 use Rattle.std.proofs.lemmas.List.Elements.{All-append, All-cons, All-map, All-nil, All-weaker}
 use Rattle.std.proofs.lemmas.Option.{get_or_from_slice_get, slice_get_within}
-use Rattle.elf_model.specs.Commons.{Block, block_of, block_pieces, block_piece, block_symbols, blocks, blocks_from, pieces}
-use Rattle.elf_model.specs.Loading.{LoadedObject}
-use Rattle.elf_model.specs.ObjectFile.{sections}
-use Rattle.elf_model.specs.OwnLayout.{got_number, got_piece, got_pieces, laid_out, own_placed}
-use Rattle.elf_model.specs.Pieces.{Piece, kept_sections}
-use Rattle.elf_model.specs.Placement.{Placed}
-use Rattle.elf_model.specs.Resolution.{SymbolOf}
+use Rattle.elf_model.specs.Link.Commons.{Block, block_of, block_pieces, block_piece, block_symbols, blocks, blocks_from, pieces}
+use Rattle.elf_model.specs.Link.Loading.{LoadedObject}
+use Rattle.elf_model.specs.Inputs.ObjectFile.{sections}
+use Rattle.elf_model.specs.Own.OwnLayout.{got_number, got_piece, got_pieces, laid_out, own_placed}
+use Rattle.elf_model.specs.Link.Pieces.{Piece, kept_sections}
+use Rattle.elf_model.specs.Link.Placement.{Placed}
+use Rattle.elf_model.specs.Link.Resolution.{SymbolOf}
 use Rattle.elf_model.proofs.Listed.{All-unmap}
 use Rattle.elf_model.proofs.PieceNumbers.{got_pieces-each}
 use Rattle.elf_model.proofs.Places.{All-ordered, own_placed_pieces}

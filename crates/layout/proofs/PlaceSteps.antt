@@ -2,8 +2,8 @@
 use Rattle.std.proofs.Common.{◌≡◌, ◌∙◌, ◌+◌, ◌<◌, ◌≤◌, Bool, ℕ, List, ap, arith, drop, get_or, length, map, max, sym}
 use Rattle.std.specs.Prelude.{Option}
 use Rattle.std.proofs.lemmas.List.{drop_all}
-use Rattle.elf_model.specs.LinkerValues.{end_of_pieces, start_of_pieces}
-use Rattle.elf_model.specs.Pieces as pieces
+use Rattle.elf_model.specs.Link.LinkerValues.{end_of_pieces, start_of_pieces}
+use Rattle.elf_model.specs.Link.Pieces as pieces
 use Rattle.elf_model.proofs.PieceBounds.{earlier, either_least, either_none, end_more, further, start_more}
 use Rattle.layout.specs.PlaceViews.{place_view}
 use Rattle.layout.specs.declared.runs.Place.{Place}

@@ -3,10 +3,10 @@ use Rattle.std.proofs.Common.{◌≡◌, ℕ, ◌+◌, ◌<◌, List, [], ◌∷
 use Rattle.std.specs.Borrow.{Bor}
 use Rattle.std.proofs.lemmas.List.{append_assoc, map-append}
 use Rattle.std.proofs.lemmas.List.Elements.{All-cons, All-head, All-tail}
-use Rattle.elf_model.specs.ObjectFile.{null_section}
-use Rattle.elf_model.specs.OwnLayout.{end_of, place_at, placed_end, placed_from}
-use Rattle.elf_model.specs.Pieces as pieces
-use Rattle.elf_model.specs.Placement.{Placed}
+use Rattle.elf_model.specs.Inputs.ObjectFile.{null_section}
+use Rattle.elf_model.specs.Own.OwnLayout.{end_of, place_at, placed_end, placed_from}
+use Rattle.elf_model.specs.Link.Pieces as pieces
+use Rattle.elf_model.specs.Link.Placement.{Placed}
 use Rattle.layout.specs.Limits.{AreInLimit, IsInLimit}
 use Rattle.layout.specs.PlaceViews.{place_view, place_views}
 use Rattle.layout.specs.Views.{borrowed_view, borrowed_views, piece_view}

@@ -5,10 +5,10 @@ use Rattle.std.specs.Prelude.{All, Option, Some, None}
 use Rattle.std.specs.List.{list_any}
 use Rattle.std.proofs.lemmas.List.Elements.{All-head, All-tail}
 use Rattle.std.proofs.lemmas.Option.{none-some, same_Some}
-use Rattle.elf_model.specs.LinkerValues.{end_of_pieces, least_of, start_of_pieces}
-use Rattle.elf_model.specs.Pieces.{Piece, is_thread_piece}
-use Rattle.elf_model.specs.Placement.{Placed}
-use Rattle.elf_model.specs.ThreadStorage.{alignment_of}
+use Rattle.elf_model.specs.Link.LinkerValues.{end_of_pieces, least_of, start_of_pieces}
+use Rattle.elf_model.specs.Link.Pieces.{Piece, is_thread_piece}
+use Rattle.elf_model.specs.Link.Placement.{Placed}
+use Rattle.elf_model.specs.Link.ThreadStorage.{alignment_of}
 use Rattle.elf_model.proofs.Rests.{rest_at}
 use Rattle.layout.specs.Threads.{wider}
 use Rattle.layout.specs.Views.{piece_view, piece_views}

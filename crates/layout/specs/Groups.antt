@@ -3,10 +3,10 @@ use Rattle.std.specs.Prelude.{◌≡◌, ℕ, zero, suc, Bool, List, [], ◌∷�
 use Rattle.std.specs.Borrow.{Bor}
 use Rattle.std.specs.Global.{Vec}
 use Rattle.std.specs.List.{flat_map}
-use Rattle.elf_model.specs.ArrayOrder.{in_array_order}
-use Rattle.elf_model.specs.OwnLayout.{is_code, is_data, is_initial, is_read_only, is_thread_rest, is_zero, leaders}
-use Rattle.elf_model.specs.Pieces as pieces
-use Rattle.elf_model.specs.Pieces.{same_output}
+use Rattle.elf_model.specs.Link.ArrayOrder.{in_array_order}
+use Rattle.elf_model.specs.Own.OwnLayout.{is_code, is_data, is_initial, is_read_only, is_thread_rest, is_zero, leaders}
+use Rattle.elf_model.specs.Link.Pieces as pieces
+use Rattle.elf_model.specs.Link.Pieces.{same_output}
 use Rattle.layout.specs.Views.{borrowed_views}
 use Rattle.layout.specs.declared.output_sections.Part.{Part}
 use Rattle.layout.specs.declared.output_sections.Part.TheVariants as part

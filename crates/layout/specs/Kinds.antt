@@ -1,8 +1,8 @@
 -- Lawful kinds of kept sections, as they are judged.
 use Rattle.std.specs.Prelude.{◌≡◌, ℕ, All, List, [], ◌∷◌, true}
-use Rattle.elf_model.specs.Loading.{LoadedObject}
-use Rattle.elf_model.specs.ObjectFile.{section, sections}
-use Rattle.elf_model.specs.Pieces.{AreLawfulKinds, IsLawfulKind, is_kept}
+use Rattle.elf_model.specs.Link.Loading.{LoadedObject}
+use Rattle.elf_model.specs.Inputs.ObjectFile.{section, sections}
+use Rattle.elf_model.specs.Link.Pieces.{AreLawfulKinds, IsLawfulKind, is_kept}
 use Rattle.elf_model.specs.declared.records.SectionHeader.{SectionHeader}
 use Rattle.search.specs.KeptLists.{kept_numbers}
 use Rattle.layout.specs.declared.faults.LayoutFault.{LayoutFault}

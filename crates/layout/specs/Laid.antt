@@ -1,8 +1,8 @@
 -- A layout, as it is made: the pieces at their addresses and the segments that hold them.
 use Rattle.std.specs.Prelude.{◌≡◌, ℕ, List, [], ◌∷◌, length}
-use Rattle.elf_model.specs.Loading.{LoadedObject}
-use Rattle.elf_model.specs.OwnLayout.{IsNotTooLarge, code_start, data_start, own_code, own_data, own_loaded, own_placed, own_read_only, own_segments, read_only_start, segment}
-use Rattle.elf_model.specs.Pieces.{Piece}
+use Rattle.elf_model.specs.Link.Loading.{LoadedObject}
+use Rattle.elf_model.specs.Own.OwnLayout.{IsNotTooLarge, code_start, data_start, own_code, own_data, own_loaded, own_placed, own_read_only, own_segments, read_only_start, segment}
+use Rattle.elf_model.specs.Link.Pieces.{Piece}
 use Rattle.layout.specs.Limits.{AreInLimit}
 use Rattle.layout.specs.PlaceViews.{place_views}
 use Rattle.layout.specs.Threads.{header_in}

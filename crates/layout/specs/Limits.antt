@@ -1,8 +1,8 @@
 -- Limits of a layout: how far pieces reach, and when it is too large.
 use Rattle.std.specs.Prelude.{◌+◌, ◌<◌, ◌≤◌, ◌^◌, List, All}
-use Rattle.elf_model.specs.OwnLayout.{placed_end}
-use Rattle.elf_model.specs.Pieces.{Piece}
-use Rattle.elf_model.specs.Placement.{Placed}
+use Rattle.elf_model.specs.Own.OwnLayout.{placed_end}
+use Rattle.elf_model.specs.Link.Pieces.{Piece}
+use Rattle.elf_model.specs.Link.Placement.{Placed}
 use Rattle.elf_model.specs.declared.records.ProgramHeader.{ProgramHeader}
 use Rattle.layout.specs.declared.faults.LayoutFault.{LayoutFault}
 use Rattle.layout.specs.declared.faults.LayoutFault.TheVariants as error

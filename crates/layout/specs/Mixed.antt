@@ -3,9 +3,9 @@ use Rattle.std.specs.Prelude.{◌↔◌, ℕ, ◌&&◌, ◌||◌, Bool, false, L
 use Rattle.std.specs.BTreeSet.{BTreeSet}
 use Rattle.std.specs.Borrow.{Bor}
 use Rattle.std.specs.Str.{bytes_eq}
-use Rattle.elf_model.specs.Loading.{LoadedObject}
-use Rattle.elf_model.specs.Pieces.{AreOneOutput}
-use Rattle.elf_model.specs.UsedNames.{is_among}
+use Rattle.elf_model.specs.Link.Loading.{LoadedObject}
+use Rattle.elf_model.specs.Link.Pieces.{AreOneOutput}
+use Rattle.elf_model.specs.Link.UsedNames.{is_among}
 use Rattle.resolve.specs.OutputSections.{Output}
 
 -- a name comes twice among output sections, or once where it was seen before

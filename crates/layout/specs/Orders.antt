@@ -2,11 +2,11 @@
 use Rattle.std.specs.Prelude.{◌≡◌, ◌++◌, List, filter, map}
 use Rattle.std.specs.Borrow.{Bor}
 use Rattle.std.specs.Global.{Vec}
-use Rattle.elf_model.specs.Commons.{block_piece, blocks}
-use Rattle.elf_model.specs.Loading.{LoadedObject}
-use Rattle.elf_model.specs.OwnLayout.{code_pieces, got_pieces, grouped, has_thread_pieces, initial_pieces, is_data, is_zero, read_only_pieces, thread_rest_pieces}
-use Rattle.elf_model.specs.Pieces.{Piece, is_thread_piece, kept_sections}
-use Rattle.elf_model.specs.ThreadStorage.{alignment_of}
+use Rattle.elf_model.specs.Link.Commons.{block_piece, blocks}
+use Rattle.elf_model.specs.Link.Loading.{LoadedObject}
+use Rattle.elf_model.specs.Own.OwnLayout.{code_pieces, got_pieces, grouped, has_thread_pieces, initial_pieces, is_data, is_zero, read_only_pieces, thread_rest_pieces}
+use Rattle.elf_model.specs.Link.Pieces.{Piece, is_thread_piece, kept_sections}
+use Rattle.elf_model.specs.Link.ThreadStorage.{alignment_of}
 use Rattle.search.specs.Views.{loaded_views}
 use Rattle.layout.specs.Groups.{parts}
 use Rattle.layout.specs.PieceLists.{if_sized}

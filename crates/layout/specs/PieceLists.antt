@@ -1,9 +1,9 @@
 -- All pieces of objects, as they are listed.
 use Rattle.std.specs.Prelude.{◌≡◌, ℕ, List, [], ◌∷◌, cond, map, nat_lt}
-use Rattle.elf_model.specs.Commons.{block_piece, blocks}
-use Rattle.elf_model.specs.Loading.{LoadedObject}
-use Rattle.elf_model.specs.OwnLayout.{got_header, got_pieces}
-use Rattle.elf_model.specs.Pieces.{Piece, kept_sections}
+use Rattle.elf_model.specs.Link.Commons.{block_piece, blocks}
+use Rattle.elf_model.specs.Link.Loading.{LoadedObject}
+use Rattle.elf_model.specs.Own.OwnLayout.{got_header, got_pieces}
+use Rattle.elf_model.specs.Link.Pieces.{Piece, kept_sections}
 use Rattle.layout.specs.Views.{piece_view, piece_views}
 use Rattle.layout.specs.declared.pieces.Pieces.{Pieces}
 

@@ -6,11 +6,11 @@ use Rattle.std.specs.Cmp.Lexicographic.{slice_cmp}
 use Rattle.std.specs.Option.{option_map_or}
 use Rattle.std.specs.Ordering.{nat_cmp}
 use Rattle.std.specs.Str.{bytes_eq}
-use Rattle.elf_model.specs.LinkerNames.{named_output}
-use Rattle.elf_model.specs.LinkerValues.{end_of_pieces, is_code_piece, is_file_data, is_loaded_piece, is_zero_data, start_of_pieces}
-use Rattle.elf_model.specs.Pieces.{Piece, is_nobits, is_of_output, is_thread_local, is_thread_piece}
-use Rattle.elf_model.specs.Placement.{Placed}
-use Rattle.elf_model.specs.ThreadStorage.{is_some_thread_data}
+use Rattle.elf_model.specs.Link.LinkerNames.{named_output}
+use Rattle.elf_model.specs.Link.LinkerValues.{end_of_pieces, is_code_piece, is_file_data, is_loaded_piece, is_zero_data, start_of_pieces}
+use Rattle.elf_model.specs.Link.Pieces.{Piece, is_nobits, is_of_output, is_thread_local, is_thread_piece}
+use Rattle.elf_model.specs.Link.Placement.{Placed}
+use Rattle.elf_model.specs.Link.ThreadStorage.{is_some_thread_data}
 use Rattle.elf_model.specs.declared.bound.Bound.{Bound}
 use Rattle.elf_model.specs.declared.records.SectionHeader.{SectionHeader}
 use Rattle.elf_model.specs.declared.bound.Bound.TheVariants.{CodeEnd, DataEnd, GotStart, ImageEnd, ImageStart, OutputEnd, OutputStart, ZeroStart}

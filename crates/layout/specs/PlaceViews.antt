@@ -1,6 +1,6 @@
 -- Places as the definitions see them.
 use Rattle.std.specs.Prelude.{List, map}
-use Rattle.elf_model.specs.Placement.{Placed}
+use Rattle.elf_model.specs.Link.Placement.{Placed}
 use Rattle.layout.specs.Views.{piece_view}
 use Rattle.layout.specs.declared.runs.Place.{Place}
 

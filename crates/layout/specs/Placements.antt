@@ -1,9 +1,9 @@
 -- What a placement is of, and what it keeps.
 use Rattle.std.specs.Prelude.{◌≡◌, ℕ, List, Option, find, length, option_map}
 use Rattle.std.specs.Global.{Vec}
-use Rattle.elf_model.specs.Loading.{AreObjects, LoadedObject}
-use Rattle.elf_model.specs.OwnLayout.{IsNotTooLarge, got_number, own_laid_out, own_loaded, own_placed, own_segments}
-use Rattle.elf_model.specs.Placement.{Placed, is_of_section}
+use Rattle.elf_model.specs.Link.Loading.{AreObjects, LoadedObject}
+use Rattle.elf_model.specs.Own.OwnLayout.{IsNotTooLarge, got_number, own_laid_out, own_loaded, own_placed, own_segments}
+use Rattle.elf_model.specs.Link.Placement.{Placed, is_of_section}
 use Rattle.elf_model.specs.declared.records.ProgramHeader.{ProgramHeader}
 use Rattle.layout.specs.Addresses.{entry}
 use Rattle.layout.specs.PieceParts.{AreBounds}

@@ -2,8 +2,8 @@
 use Rattle.std.specs.Prelude.{◌≡◌, ℕ, List}
 use Rattle.std.specs.BTreeMap.{BTreeMap}
 use Rattle.std.specs.Borrow.{Bor}
-use Rattle.elf_model.specs.Commons.{block_named}
-use Rattle.elf_model.specs.Loading.{LoadedObject}
+use Rattle.elf_model.specs.Link.Commons.{block_named}
+use Rattle.elf_model.specs.Link.Loading.{LoadedObject}
 use Rattle.resolve.specs.Blocks.{block_in}
 use Rattle.resolve.specs.declared.blocks.Block.{Block}
 use Rattle.layout.specs.Placements.{IsPlacement}

@@ -1,8 +1,8 @@
 -- Thread-local storage, as it is laid out.
 use Rattle.std.specs.Prelude.{ℕ, List, Option, cond, map, max, option_map}
-use Rattle.elf_model.specs.Pieces.{Piece, is_thread_piece}
-use Rattle.elf_model.specs.Placement.{Placed}
-use Rattle.elf_model.specs.ThreadStorage.{alignment_of, thread_block, thread_header}
+use Rattle.elf_model.specs.Link.Pieces.{Piece, is_thread_piece}
+use Rattle.elf_model.specs.Link.Placement.{Placed}
+use Rattle.elf_model.specs.Link.ThreadStorage.{alignment_of, thread_block, thread_header}
 use Rattle.elf_model.specs.declared.records.ProgramHeader.{ProgramHeader}
 use Rattle.elf_model.specs.declared.tls_block.TlsBlock.{TlsBlock}
 

@@ -1,7 +1,7 @@
 -- Pieces and places as the definitions see them.
 use Rattle.std.specs.Prelude.{List, map, max}
 use Rattle.std.specs.Borrow.{Bor}
-use Rattle.elf_model.specs.Pieces as pieces
+use Rattle.elf_model.specs.Link.Pieces as pieces
 use Rattle.layout.specs.declared.pieces.Piece.{Piece}
 
 abbrev pub piece_view : Piece → pieces.Piece

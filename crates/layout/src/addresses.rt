@@ -1,6 +1,6 @@
 //! The address of each kept section, of each common block and of the GOT, by the numbers of its object and of its own.
 ghost use Rattle.std.specs.Prelude.{◌≡◌, ◌<◌, ◌++◌, ◌∷◌, ℕ, [], All, IfOk, None, OnOk, Option, Some, cond, find, option_map};
-ghost use Rattle.elf_model.specs.Placement.{is_of_section};
+ghost use Rattle.elf_model.specs.Link.Placement.{is_of_section};
 ghost use Rattle.search.specs.Views.{loaded_views};
 ghost use Rattle.layout.specs.Addresses.{HasEntry, HasPlace, entry, piece_counts, shape_of, told};
 ghost use Rattle.layout.specs.PlaceViews.{place_view, place_views};

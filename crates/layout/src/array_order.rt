@@ -3,7 +3,7 @@ ghost use Rattle.std.specs.Prelude.{◌≡◌, ◌≤◌, IfOk, drop, length, tr
 ghost use Rattle.std.specs.Char.{is_ascii_digit};
 ghost use Rattle.std.specs.List.{list_all, list_any};
 ghost use Rattle.std.specs.Str.Parse.{digits_value};
-ghost use Rattle.elf_model.specs.ArrayOrder as order;
+ghost use Rattle.elf_model.specs.Link.ArrayOrder as order;
 ghost use Rattle.layout.specs.Arrays.{has_number};
 ghost use Rattle.layout.specs.Views.{borrowed_views, piece_view};
 

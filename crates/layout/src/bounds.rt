@@ -3,9 +3,9 @@
 ghost use Rattle.std.specs.Prelude.{◌≡◌, ◌+◌, ℕ, List, IfOk, IfSome, OnOk, Some, cond, filter, max, option_map, unwrap_or};
 ghost use Rattle.std.specs.Str.{bytes_eq};
 ghost use Rattle.std.specs.Option.{option_map_or};
-ghost use Rattle.elf_model.specs.LinkerValues.{end_of_pieces, is_code_piece, is_file_data, is_loaded_piece, is_zero_data, least_of, start_of_pieces};
+ghost use Rattle.elf_model.specs.Link.LinkerValues.{end_of_pieces, is_code_piece, is_file_data, is_loaded_piece, is_zero_data, least_of, start_of_pieces};
 ghost use Rattle.elf_model.proofs.PieceBounds.{earlier, further};
-ghost use Rattle.elf_model.specs.Pieces.{is_of_output};
+ghost use Rattle.elf_model.specs.Link.Pieces.{is_of_output};
 ghost use Rattle.layout.specs.Limits.{AreInLimit, IsInLimit};
 ghost use Rattle.layout.specs.PieceParts.{AreBounds, AreExtents, IsLast, bound_at, end_in, end_with, extent_in, extent_with, is_nonempty_thread_data, is_other, part_test, start_in, start_with};
 ghost use Rattle.layout.specs.PlaceViews.{place_view, place_views};

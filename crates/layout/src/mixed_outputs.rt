@@ -1,7 +1,7 @@
 //! The output names whose kept sections are of several output sections: the names that come twice among output sections.
 ghost use Rattle.std.specs.Prelude.{◌≡◌, ◌&&◌, ◌||◌, ℕ, List, IfOk, OnOk, false, map};
 ghost use Rattle.std.specs.Str.{bytes_eq};
-ghost use Rattle.elf_model.specs.UsedNames.{is_among};
+ghost use Rattle.elf_model.specs.Link.UsedNames.{is_among};
 ghost use Rattle.resolve.specs.OutputSections.{output_view};
 ghost use Rattle.layout.specs.Mixed.{AreMixed, is_twice_from};
 

@@ -1,7 +1,7 @@
 //! The pieces of loaded objects in the order in which they stand.
 ghost use Rattle.std.specs.Prelude.{◌≡◌, ◌≤◌, ◌++◌, IfOk, OnOk};
 ghost use Rattle.std.specs.List.{list_any};
-ghost use Rattle.elf_model.specs.OwnLayout as own;
+ghost use Rattle.elf_model.specs.Own.OwnLayout as own;
 ghost use Rattle.search.specs.Views.{loaded_views};
 ghost use Rattle.resolve.specs.OutputSections.{AreOutputSections};
 ghost use Rattle.layout.specs.Orders.{IsOrder, data_in, objects_of};

@@ -1,11 +1,11 @@
 //! The kept sections of loaded objects, the common blocks and the GOT as pieces.
 ghost use Rattle.std.specs.Prelude.{◌≡◌, ◌≤◌, ◌++◌, ℕ, All, IfOk, OnOk, map, max};
-ghost use Rattle.elf_model.specs.Commons as commons;
-ghost use Rattle.elf_model.specs.Commons.{block_piece};
-ghost use Rattle.elf_model.specs.ObjectFile.{sections};
-ghost use Rattle.elf_model.specs.OwnLayout as own;
-ghost use Rattle.elf_model.specs.Pieces as pieces;
-ghost use Rattle.elf_model.specs.Slots as slots;
+ghost use Rattle.elf_model.specs.Link.Commons as commons;
+ghost use Rattle.elf_model.specs.Link.Commons.{block_piece};
+ghost use Rattle.elf_model.specs.Inputs.ObjectFile.{sections};
+ghost use Rattle.elf_model.specs.Own.OwnLayout as own;
+ghost use Rattle.elf_model.specs.Link.Pieces as pieces;
+ghost use Rattle.elf_model.specs.Link.Slots as slots;
 ghost use Rattle.search.specs.Views.{loaded_view, loaded_views};
 ghost use Rattle.resolve.specs.Blocks.{block_view, block_views};
 ghost use Rattle.layout.specs.PieceLists.{ArePieces, got_as};

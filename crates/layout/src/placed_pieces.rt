@@ -1,10 +1,10 @@
 //! The pieces at their addresses, and the segments that hold them.
 ghost use Rattle.std.specs.Prelude.{◌≡◌, ◌+◌, ◌≤◌, ◌^◌, ◌++◌, ◌∷◌, IfErr, IfOk, OnOk};
-ghost use Rattle.elf_model.specs.Command.{IsBase};
-ghost use Rattle.elf_model.specs.Loading.{AreObjects};
-ghost use Rattle.elf_model.specs.OwnLayout as own;
-ghost use Rattle.elf_model.specs.OwnLayout.{IsNotTooLarge, own_placed, own_segments, placed_from};
-ghost use Rattle.elf_model.specs.Resolution.{AreSoundCommons};
+ghost use Rattle.elf_model.specs.Inputs.Command.{IsBase};
+ghost use Rattle.elf_model.specs.Link.Loading.{AreObjects};
+ghost use Rattle.elf_model.specs.Own.OwnLayout as own;
+ghost use Rattle.elf_model.specs.Own.OwnLayout.{IsNotTooLarge, own_placed, own_segments, placed_from};
+ghost use Rattle.elf_model.specs.Link.Resolution.{AreSoundCommons};
 ghost use Rattle.layout.specs.Laid.{IsLaid, IsLayout, LayoutFails, plain_start};
 ghost use Rattle.layout.specs.Limits.{AreAligned, AreInLimit, RunFails};
 ghost use Rattle.layout.specs.Orders.{IsOrder, objects_of};

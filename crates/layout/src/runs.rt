@@ -1,8 +1,8 @@
 //! Pieces one behind the other from an address on.
 ghost use Rattle.std.specs.Prelude.{◌≡◌, ◌+◌, ◌<◌, ◌≤◌, ◌^◌, ◌++◌, All, IfErr, IfOk, IfSome, OnOk, SomeIff, max};
-ghost use Rattle.elf_model.specs.OwnLayout as own;
-ghost use Rattle.elf_model.specs.OwnLayout.{place_at, placed_end, placed_from};
-ghost use Rattle.elf_model.specs.Placement.{round_up};
+ghost use Rattle.elf_model.specs.Own.OwnLayout as own;
+ghost use Rattle.elf_model.specs.Own.OwnLayout.{place_at, placed_end, placed_from};
+ghost use Rattle.elf_model.specs.Link.Placement.{round_up};
 ghost use Rattle.layout.specs.Limits.{AreInLimit, HasSmallAlignment, IsInLimit, RunFails};
 ghost use Rattle.layout.specs.Views.{borrowed_views, piece_view};
 ghost use Rattle.layout.specs.PlaceViews.{place_view, place_views};

@@ -1,7 +1,7 @@
 //! Which kept sections are lawful.
 ghost use Rattle.std.specs.Prelude.{◌≡◌, ◌↔◌, All, Contains, IfErr, IsTrue, OnOk, [], ◌∷◌, true};
-ghost use Rattle.elf_model.specs.Pieces as pieces;
-ghost use Rattle.elf_model.specs.Pieces.{AreLawfulKinds, IsLawfulKind};
+ghost use Rattle.elf_model.specs.Link.Pieces as pieces;
+ghost use Rattle.elf_model.specs.Link.Pieces.{AreLawfulKinds, IsLawfulKind};
 ghost use Rattle.search.specs.Views.{loaded_view, loaded_views};
 ghost use Rattle.layout.specs.Kinds.{HasLawfulKinds, IsLawfulIfKept, KindsFail, lawful_types};
 

@@ -1,9 +1,9 @@
 //! The segments that hold the pieces at their places.
 ghost use Rattle.std.specs.Prelude.{◌≡◌, ◌+◌, ◌-◌, ◌<◌, ◌≤◌, ◌^◌, ◌∷◌, [], ◌↔◌, All, IsTrue};
 ghost use Rattle.std.specs.List.{list_any};
-ghost use Rattle.elf_model.specs.MemoryImage as memory;
-ghost use Rattle.elf_model.specs.OwnLayout as own;
-ghost use Rattle.elf_model.specs.OwnLayout.{any_placed, greatest_end, is_nonempty, placed_has_bytes};
+ghost use Rattle.elf_model.specs.Image.MemoryImage as memory;
+ghost use Rattle.elf_model.specs.Own.OwnLayout as own;
+ghost use Rattle.elf_model.specs.Own.OwnLayout.{any_placed, greatest_end, is_nonempty, placed_has_bytes};
 ghost use Rattle.layout.specs.Limits.{AreInLimit, IsInLimit, IsShort};
 ghost use Rattle.layout.specs.PlaceViews.{place_view, place_views};
 ghost use Rattle.layout.specs.Views.{borrowed_views, piece_view};

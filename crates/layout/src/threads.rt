@@ -1,8 +1,8 @@
 //! Thread-local storage: how its pieces are aligned, and the program header that says where they stand.
 ghost use Rattle.std.specs.Prelude.{◌≡◌, ◌≤◌, ◌||◌, All};
 ghost use Rattle.std.specs.List.{list_any};
-ghost use Rattle.elf_model.specs.Pieces.{is_thread_piece};
-ghost use Rattle.elf_model.specs.ThreadStorage.{alignment_of};
+ghost use Rattle.elf_model.specs.Link.Pieces.{is_thread_piece};
+ghost use Rattle.elf_model.specs.Link.ThreadStorage.{alignment_of};
 ghost use Rattle.layout.specs.Limits.{AreInLimit};
 ghost use Rattle.layout.specs.PlaceViews.{place_views};
 ghost use Rattle.layout.specs.Threads.{block_of, header_in, placed_alignment, wider};

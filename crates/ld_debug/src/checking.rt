@@ -1,8 +1,8 @@
 //! The check of a debuggable image: the image that it begins with is checked, with the words that ask for no symbol table.
 ghost use Rattle.std.specs.Prelude.{◌≡◌, ◌↔◌, IfOk};
 ghost use Rattle.debug_image.specs.PlainImages.{plain_of};
-ghost use Rattle.elf_model.specs.Files.{files_of, words_of};
-ghost use Rattle.elf_model.specs.RightLink.{IsRightLink};
+ghost use Rattle.elf_model.specs.Inputs.Files.{files_of, words_of};
+ghost use Rattle.elf_model.specs.Image.RightLink.{IsRightLink};
 
 use command::Plan;
 use debug_image::plain_image;

@@ -4,28 +4,28 @@ use Rattle.std.specs.Prelude.{All, AllPairs, Any, Contains, Err, IfErr, IfSome, 
 use Rattle.std.proofs.lemmas.Bool.{and_parts, false≢true}
 use Rattle.std.proofs.lemmas.List.{map-append}
 use Rattle.std.proofs.lemmas.List.Elements.{All-contains, All-head, All-tail, Contains-append_cases, Contains-append_left, Contains-append_right}
-use Rattle.elf_model.specs.ArrayOrder.{placed_in_array_order}
-use Rattle.elf_model.specs.ArchiveFile.{IsArchive}
-use Rattle.elf_model.specs.Causes.{Cause, HasArchives, HasBadGroups, IsBadArchive, IsBadObject, IsToDropped, IsToMixed, IsUndefinedName, IsWithoutIndex, Reaches}
-use Rattle.elf_model.specs.Command.{Plan, command_of}
-use Rattle.elf_model.specs.Commons.{Block, block_piece, block_pieces, blocks, pieces}
-use Rattle.elf_model.specs.Files.{File}
-use Rattle.elf_model.specs.Groups.{AreLawfulGroups}
-use Rattle.elf_model.specs.Loading.{LoadedObject, loaded_objects}
-use Rattle.elf_model.specs.MapRecord.{CommonRow, PlaceRow}
-use Rattle.elf_model.specs.ObjectFile.{IsObject, ObjFaultStands, groups}
-use Rattle.elf_model.specs.Opening.{AreFilesThere, lacks_index, opened}
-use Rattle.elf_model.specs.Meaning.{Common, Linker, Meaning, Symbol, meaning_value}
-use Rattle.elf_model.specs.LinkerNames.{named_output}
-use Rattle.elf_model.specs.LinkerValues.{bound_value, end_of_pieces, is_code_piece, is_file_data, is_loaded_piece, is_zero_data, least_of, start_of_pieces}
-use Rattle.elf_model.specs.Pieces.{AreLawfulKinds, Piece, is_nobits, is_thread_piece, is_thread_zero, kept_sections, load_size, is_of_output}
-use Rattle.elf_model.specs.Placement.{IsPlaced, IsWithin, Placed, Where, got_end, got_things, headers_thing, is_of_section, is_thread_place, placed_block, placed_blocks, placed_by, range_of, symbol_value, thing_of, thread_ranges}
-use Rattle.elf_model.specs.Relocation.{AreFieldsApart, Formula, IsFieldInside, IsInRange, IsLawfulRelocation, IsThreadMismatch, Kind, Relocation, S+A, Z+A, definition_of, modulo_64, relocation_kind, relocations, whole_value}
-use Rattle.elf_model.specs.RelocationValues.{Fits, terms_of, value_of}
-use Rattle.elf_model.specs.Resolution.{AreSoundCommons, AreSoundSymbols, IsDuplicate, IsEntry, SymbolOf, is_absolute}
-use Rattle.elf_model.specs.RightLink.{AreRelocationsRight, AreSectionsListed, EntersRight, IsGotRight, IsLoaded, IsRightLink, Subject, facts_of_piece, facts_of_row, placed_of, sections_of, things_of, where_of}
+use Rattle.elf_model.specs.Link.ArrayOrder.{placed_in_array_order}
+use Rattle.elf_model.specs.Inputs.ArchiveFile.{IsArchive}
+use Rattle.elf_model.specs.Own.Causes.{Cause, HasArchives, HasBadGroups, IsBadArchive, IsBadObject, IsToDropped, IsToMixed, IsUndefinedName, IsWithoutIndex, Reaches}
+use Rattle.elf_model.specs.Inputs.Command.{Plan, command_of}
+use Rattle.elf_model.specs.Link.Commons.{Block, block_piece, block_pieces, blocks, pieces}
+use Rattle.elf_model.specs.Inputs.Files.{File}
+use Rattle.elf_model.specs.Link.Groups.{AreLawfulGroups}
+use Rattle.elf_model.specs.Link.Loading.{LoadedObject, loaded_objects}
+use Rattle.elf_model.specs.Image.MapRecord.{CommonRow, PlaceRow}
+use Rattle.elf_model.specs.Inputs.ObjectFile.{IsObject, ObjFaultStands, groups}
+use Rattle.elf_model.specs.Inputs.Opening.{AreFilesThere, lacks_index, opened}
+use Rattle.elf_model.specs.Link.Meaning.{Common, Linker, Meaning, Symbol, meaning_value}
+use Rattle.elf_model.specs.Link.LinkerNames.{named_output}
+use Rattle.elf_model.specs.Link.LinkerValues.{bound_value, end_of_pieces, is_code_piece, is_file_data, is_loaded_piece, is_zero_data, least_of, start_of_pieces}
+use Rattle.elf_model.specs.Link.Pieces.{AreLawfulKinds, Piece, is_nobits, is_thread_piece, is_thread_zero, kept_sections, load_size, is_of_output}
+use Rattle.elf_model.specs.Link.Placement.{IsPlaced, IsWithin, Placed, Where, got_end, got_things, headers_thing, is_of_section, is_thread_place, placed_block, placed_blocks, placed_by, range_of, symbol_value, thing_of, thread_ranges}
+use Rattle.elf_model.specs.Link.Relocation.{AreFieldsApart, Formula, IsFieldInside, IsInRange, IsLawfulRelocation, IsThreadMismatch, Kind, Relocation, S+A, Z+A, definition_of, modulo_64, relocation_kind, relocations, whole_value}
+use Rattle.elf_model.specs.Link.RelocationValues.{Fits, terms_of, value_of}
+use Rattle.elf_model.specs.Link.Resolution.{AreSoundCommons, AreSoundSymbols, IsDuplicate, IsEntry, SymbolOf, is_absolute}
+use Rattle.elf_model.specs.Image.RightLink.{AreRelocationsRight, AreSectionsListed, EntersRight, IsGotRight, IsLoaded, IsRightLink, Subject, facts_of_piece, facts_of_row, placed_of, sections_of, things_of, where_of}
 use Rattle.elf_model.specs.declared.link_map.GotLine.{GotLine}
-use Rattle.elf_model.specs.Slots.{has_got}
+use Rattle.elf_model.specs.Link.Slots.{has_got}
 use Rattle.elf_model.specs.declared.bound.Bound.{Bound}
 use Rattle.elf_model.specs.declared.bound.Bound.TheVariants.{CodeEnd, DataEnd, GotStart, ImageEnd, ImageStart, OutputEnd, OutputStart, ZeroStart}
 use Rattle.elf_model.specs.declared.faults.CmdFault.{CmdFault}

@@ -2,7 +2,7 @@
 use Rattle.std.proofs.Common.{◌≡◌, ◌+◌, List, [], ◌∷◌, ◌++◌, ℕ, String, Global, refl, sym, ◌∙◌, ap, append_assoc, subst}
 use Rattle.std.specs.Prelude.{Option, Some, None, string_bytes}
 use Rattle.std.proofs.lemmas.List.{append-nil, map-append}
-use Rattle.elf_model.specs.Files.{File, words_of}
+use Rattle.elf_model.specs.Inputs.Files.{File, words_of}
 use Rattle.ld_main.specs.Sources.{AddFails, AddsFile, AreGathered, Disk, GatherFails, IsPath, file_at, gathered}
 use Rattle.ld_main.specs.declared.file_source.GatherFault.{GatherFault}
 use Rattle.ld_main.specs.declared.file_source.GatherFault.TheVariants as gather_fault

@@ -15,13 +15,13 @@ use Rattle.std.proofs.lemmas.List.Sorted.{IsPermutation-map, IsPermutation-refl}
 use Rattle.std.proofs.lemmas.Simd.{map-map}
 use Rattle.std.proofs.lemmas.Option.{none-some, same_Some, slice_get_past}
 use Rattle.std.proofs.lemmas.Slice.Eq.{bytes_eq-Decides}
-use Rattle.elf_model.specs.ChosenSymbols.{chosen_symbols}
-use Rattle.elf_model.specs.Commons.{Block, block_named, block_symbols, blocks, is_block_of, is_common_symbol}
-use Rattle.elf_model.specs.Listing.{AreLinkerLines, AreListed, listed}
-use Rattle.elf_model.specs.Loading.{LoadedObject}
-use Rattle.elf_model.specs.MapRecord.{CommonRow}
-use Rattle.elf_model.specs.Meaning.{Common, Linker, Meaning, Symbol, meaning_name, meanings_of, meant}
-use Rattle.elf_model.specs.Resolution.{AreSoundSymbols, SymbolOf, has_name}
+use Rattle.elf_model.specs.Link.ChosenSymbols.{chosen_symbols}
+use Rattle.elf_model.specs.Link.Commons.{Block, block_named, block_symbols, blocks, is_block_of, is_common_symbol}
+use Rattle.elf_model.specs.Link.Listing.{AreLinkerLines, AreListed, listed}
+use Rattle.elf_model.specs.Link.Loading.{LoadedObject}
+use Rattle.elf_model.specs.Image.MapRecord.{CommonRow}
+use Rattle.elf_model.specs.Link.Meaning.{Common, Linker, Meaning, Symbol, meaning_name, meanings_of, meant}
+use Rattle.elf_model.specs.Link.Resolution.{AreSoundSymbols, SymbolOf, has_name}
 use Rattle.elf_model.specs.declared.bound.Bound.{Bound}
 use Rattle.elf_model.specs.declared.bound.Bound.TheVariants.{ImageStart}
 use Rattle.elf_model.proofs.Blocks.{block_named-some}

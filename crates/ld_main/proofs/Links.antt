@@ -1,17 +1,17 @@
 -- From what linking the loaded objects makes to a right link, and from its refusals to causes.
 use Rattle.std.proofs.Common.{◌≡◌, ℕ, ◌<◌, ◌^◌, inr, Bool, true, false, List, [], refl, sym, ◌∙◌, ap, subst}
 use Rattle.std.specs.Prelude.{IfOk, None, Ok, Err, Result}
-use Rattle.elf_model.specs.Causes.{Cause, HasArchives, HasObjects, IsLaidOut, IsLinkable, IsReferred, IsResolved, Reaches}
-use Rattle.elf_model.specs.Command.{Plan, command_of}
-use Rattle.elf_model.specs.Files.{File}
-use Rattle.elf_model.specs.ImageFile.{IsOwnMap, image_file, own_end, own_entry, own_tabled}
-use Rattle.elf_model.specs.Loading.{AreObjects, HaveLawfulGroups, LoadedObject, loaded_objects}
-use Rattle.elf_model.specs.MapRecord.{MapRecord}
-use Rattle.elf_model.specs.MapText as map_text
-use Rattle.elf_model.specs.Opening.{AreArchives, AreFilesThere, HaveIndexes, opened}
-use Rattle.elf_model.specs.OwnAddresses.{AreOwnAddresses}
-use Rattle.elf_model.specs.Pieces.{AreLawfulKinds}
-use Rattle.elf_model.specs.RightLink.{IsRightLink}
+use Rattle.elf_model.specs.Own.Causes.{Cause, HasArchives, HasObjects, IsLaidOut, IsLinkable, IsReferred, IsResolved, Reaches}
+use Rattle.elf_model.specs.Inputs.Command.{Plan, command_of}
+use Rattle.elf_model.specs.Inputs.Files.{File}
+use Rattle.elf_model.specs.Own.ImageFile.{IsOwnMap, image_file, own_end, own_entry, own_tabled}
+use Rattle.elf_model.specs.Link.Loading.{AreObjects, HaveLawfulGroups, LoadedObject, loaded_objects}
+use Rattle.elf_model.specs.Image.MapRecord.{MapRecord}
+use Rattle.elf_model.specs.Image.MapText as map_text
+use Rattle.elf_model.specs.Inputs.Opening.{AreArchives, AreFilesThere, HaveIndexes, opened}
+use Rattle.elf_model.specs.Own.OwnAddresses.{AreOwnAddresses}
+use Rattle.elf_model.specs.Link.Pieces.{AreLawfulKinds}
+use Rattle.elf_model.specs.Image.RightLink.{IsRightLink}
 use Rattle.elf_model.specs.declared.faults.LinkError.{LinkError}
 use Rattle.elf_model.specs.declared.faults.LinkError.TheVariants as error
 use Rattle.elf_model.proofs.OwnRelation.{are_own_addresses}

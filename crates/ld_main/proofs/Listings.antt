@@ -2,9 +2,9 @@
 use Rattle.std.proofs.Common.{◌≡◌, ◌∙◌, ◌+◌, List, get_or, ap, sym, arith}
 use Rattle.std.proofs.lemmas.List.{get_or-map, length-map}
 use Rattle.std.proofs.lemmas.Slice.Eq.{bytes_eq-Decides}
-use Rattle.elf_model.specs.Listing.{AreListed, has_meaning}
-use Rattle.elf_model.specs.Loading.{LoadedObject}
-use Rattle.elf_model.specs.Meaning.{meaning_name}
+use Rattle.elf_model.specs.Link.Listing.{AreListed, has_meaning}
+use Rattle.elf_model.specs.Link.Loading.{LoadedObject}
+use Rattle.elf_model.specs.Link.Meaning.{meaning_name}
 use Rattle.elf_model.proofs.RisingNames.{neighbours_count}
 use Rattle.resolve.specs.Views.{meaning_view, meaning_views}
 use Rattle.resolve.specs.declared.definition.Definition as code

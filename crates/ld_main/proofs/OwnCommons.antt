@@ -8,18 +8,18 @@ use Rattle.std.proofs.lemmas.List.Elements.{All-cons, All-contains, All-head, Al
 use Rattle.std.proofs.lemmas.List.Kept.{AllPairs-cons}
 use Rattle.std.proofs.lemmas.Option.{same_Some}
 use Rattle.std.proofs.lemmas.Slice.Eq.{bytes_eq-Decides}
-use Rattle.elf_model.specs.ChosenSymbols.{chosen_symbols}
-use Rattle.elf_model.specs.Commons.{Block, block_named, block_symbols, is_common_symbol}
-use Rattle.elf_model.specs.ImageFile.{HasOwnCommonLine, common_row_of}
-use Rattle.elf_model.specs.LinkerNames.{bound_of}
-use Rattle.elf_model.specs.Listing.{AreListed, has_meaning, is_used, listed}
-use Rattle.elf_model.specs.Loading.{LoadedObject}
-use Rattle.elf_model.specs.MapRecord.{CommonRow, SymbolRow}
-use Rattle.elf_model.specs.MapText.{Ascends, CommonBefore, NameBefore, SymbolBefore}
-use Rattle.elf_model.specs.Meaning.{Common, Linker, Meaning, Symbol, meaning_name, meant}
-use Rattle.elf_model.specs.Placement.{Where, is_common_row_of}
-use Rattle.elf_model.specs.Resolution.{SymbolOf, chosen, has_name}
-use Rattle.elf_model.specs.RightLink.{symbol_row_of}
+use Rattle.elf_model.specs.Link.ChosenSymbols.{chosen_symbols}
+use Rattle.elf_model.specs.Link.Commons.{Block, block_named, block_symbols, is_common_symbol}
+use Rattle.elf_model.specs.Own.ImageFile.{HasOwnCommonLine, common_row_of}
+use Rattle.elf_model.specs.Link.LinkerNames.{bound_of}
+use Rattle.elf_model.specs.Link.Listing.{AreListed, has_meaning, is_used, listed}
+use Rattle.elf_model.specs.Link.Loading.{LoadedObject}
+use Rattle.elf_model.specs.Image.MapRecord.{CommonRow, SymbolRow}
+use Rattle.elf_model.specs.Image.MapText.{Ascends, CommonBefore, NameBefore, SymbolBefore}
+use Rattle.elf_model.specs.Link.Meaning.{Common, Linker, Meaning, Symbol, meaning_name, meant}
+use Rattle.elf_model.specs.Link.Placement.{Where, is_common_row_of}
+use Rattle.elf_model.specs.Link.Resolution.{SymbolOf, chosen, has_name}
+use Rattle.elf_model.specs.Image.RightLink.{symbol_row_of}
 use Rattle.elf_model.specs.declared.bound.Bound.{Bound}
 use Rattle.elf_model.proofs.Blocks.{block_named-some}
 use Rattle.elf_model.proofs.ChosenSymbols.{chosen_listed, chosen_once}

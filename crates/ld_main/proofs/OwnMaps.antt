@@ -6,17 +6,17 @@ use Rattle.elf_model.proofs.PieceNumbers.{ComesBefore, kept_ascend}
 use Rattle.elf_model.proofs.RisingNames.{rises_from_ascends, same_from_look_ups}
 use Rattle.elf_model.proofs.SymbolRows.{look_up, rows_ascend}
 use Rattle.elf_model.proofs.TableLaws.{tabled_again}
-use Rattle.elf_model.specs.ImageFile.{HasOwnCommonLine, IsOwnMap, own_tabled, place_row_of, symtab_line_of}
-use Rattle.elf_model.specs.Listing.{AreListed}
-use Rattle.elf_model.specs.Loading.{LoadedObject}
-use Rattle.elf_model.specs.Meaning.{Meaning}
-use Rattle.elf_model.specs.MapRecord.{CommonRow, MapRecord, ObjectRow, PlaceRow, SymbolRow}
-use Rattle.elf_model.specs.MapText.{AreNumbered, Ascends, CommonBefore, DropBefore, IsOrdered, PlaceBefore, SlotBefore, SymbolBefore}
-use Rattle.elf_model.specs.OwnLayout.{got_piece, own_address, own_places, own_where}
-use Rattle.elf_model.specs.Slots.{slots}
-use Rattle.elf_model.specs.SymbolTable.{tabled}
-use Rattle.elf_model.specs.Pieces.{Piece, kept_sections}
-use Rattle.elf_model.specs.RightLink.{HasLine, object_rows, symbol_row_of}
+use Rattle.elf_model.specs.Own.ImageFile.{HasOwnCommonLine, IsOwnMap, own_tabled, place_row_of, symtab_line_of}
+use Rattle.elf_model.specs.Link.Listing.{AreListed}
+use Rattle.elf_model.specs.Link.Loading.{LoadedObject}
+use Rattle.elf_model.specs.Link.Meaning.{Meaning}
+use Rattle.elf_model.specs.Image.MapRecord.{CommonRow, MapRecord, ObjectRow, PlaceRow, SymbolRow}
+use Rattle.elf_model.specs.Image.MapText.{AreNumbered, Ascends, CommonBefore, DropBefore, IsOrdered, PlaceBefore, SlotBefore, SymbolBefore}
+use Rattle.elf_model.specs.Own.OwnLayout.{got_piece, own_address, own_places, own_where}
+use Rattle.elf_model.specs.Link.Slots.{slots}
+use Rattle.elf_model.specs.Image.SymbolTable.{tabled}
+use Rattle.elf_model.specs.Link.Pieces.{Piece, kept_sections}
+use Rattle.elf_model.specs.Image.RightLink.{HasLine, object_rows, symbol_row_of}
 use Rattle.elf_model.specs.declared.records.SectionHeader.{SectionHeader}
 use Rattle.layout.specs.Placements.{Basis}
 use Rattle.resolve.specs.Views.{meaning_view, meaning_views}

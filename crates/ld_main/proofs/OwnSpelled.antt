@@ -5,13 +5,13 @@ use Rattle.std.specs.List.{flat_map}
 use Rattle.std.proofs.lemmas.List.{map-id}
 use Rattle.std.proofs.lemmas.List.Elements.{All-append, All-cons, All-contains, All-head, All-nil, All-tail}
 use Rattle.std.proofs.lemmas.Slice.Eq.{bytes_eq-Decides}
-use Rattle.elf_model.specs.ImageFile.{symtab_line_of}
-use Rattle.elf_model.specs.Listing.{AreListed, has_meaning, listed}
-use Rattle.elf_model.specs.MapRecord.{MapRecord}
-use Rattle.elf_model.specs.MapText.{Ascends, Fits, FitsCommon, FitsSymbol, FitsSymtab, SymbolBefore, text}
-use Rattle.elf_model.specs.Meaning.{Meaning, meaning_name}
-use Rattle.elf_model.specs.OwnLayout.{own_where}
-use Rattle.elf_model.specs.RightLink.{symbol_row_of}
+use Rattle.elf_model.specs.Own.ImageFile.{symtab_line_of}
+use Rattle.elf_model.specs.Link.Listing.{AreListed, has_meaning, listed}
+use Rattle.elf_model.specs.Image.MapRecord.{MapRecord}
+use Rattle.elf_model.specs.Image.MapText.{Ascends, Fits, FitsCommon, FitsSymbol, FitsSymtab, SymbolBefore, text}
+use Rattle.elf_model.specs.Link.Meaning.{Meaning, meaning_name}
+use Rattle.elf_model.specs.Own.OwnLayout.{own_where}
+use Rattle.elf_model.specs.Image.RightLink.{symbol_row_of}
 use Rattle.elf_model.proofs.Finding.{find-found}
 use Rattle.elf_model.proofs.Listed.{All-from_contains, All-parts}
 use Rattle.elf_model.proofs.RisingNames.{all_found, neighbours_count}

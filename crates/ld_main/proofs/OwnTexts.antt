@@ -5,15 +5,15 @@ use Rattle.std.specs.Io.KnownBytes.{Appends}
 use Rattle.std.specs.List.{flat_map}
 use Rattle.std.proofs.lemmas.List.{map-append, take-append-drop}
 use Rattle.std.proofs.lemmas.List.Concat.{flat_map-append}
-use Rattle.elf_model.specs.ImageFile.{own_end}
-use Rattle.elf_model.specs.Loading.{LoadedObject}
-use Rattle.elf_model.specs.MapRecord.{MapRecord, SymbolRow}
-use Rattle.elf_model.specs.MapText.{Line, body, common_text, drop_text, got_text, line_text, object_text, place_text, slot_text, symbol_text, symtab_text, text, version_text}
-use Rattle.elf_model.specs.Meaning.{Meaning}
-use Rattle.elf_model.specs.OwnLayout.{own_got, own_slots, own_where}
-use Rattle.elf_model.specs.Pieces.{kept_sections}
-use Rattle.elf_model.specs.Placement.{round_up}
-use Rattle.elf_model.specs.RightLink.{drop_rows, object_rows, symbol_row_of}
+use Rattle.elf_model.specs.Own.ImageFile.{own_end}
+use Rattle.elf_model.specs.Link.Loading.{LoadedObject}
+use Rattle.elf_model.specs.Image.MapRecord.{MapRecord, SymbolRow}
+use Rattle.elf_model.specs.Image.MapText.{Line, body, common_text, drop_text, got_text, line_text, object_text, place_text, slot_text, symbol_text, symtab_text, text, version_text}
+use Rattle.elf_model.specs.Link.Meaning.{Meaning}
+use Rattle.elf_model.specs.Own.OwnLayout.{own_got, own_slots, own_where}
+use Rattle.elf_model.specs.Link.Pieces.{kept_sections}
+use Rattle.elf_model.specs.Link.Placement.{round_up}
+use Rattle.elf_model.specs.Image.RightLink.{drop_rows, object_rows, symbol_row_of}
 use Rattle.elf_model.specs.declared.link_map.SymtabLine.{SymtabLine}
 use Rattle.layout.specs.Placements.{Basis}
 use Rattle.resolve.specs.Views.{meaning_view, meaning_views}

@@ -1,11 +1,11 @@
 -- The own layout is a layout: a value that fits in none doesn't fit there, and one that is the same in every layout and
 -- doesn't fit there fits in none.
 use Rattle.std.proofs.Common.{◌≡◌, ℕ, List, Some, refl}
-use Rattle.elf_model.specs.Loading.{LoadedObject}
-use Rattle.elf_model.specs.OwnLayout.{own_where}
-use Rattle.elf_model.specs.Placement.{Where}
-use Rattle.elf_model.specs.Relocation.{Kind, Relocation, definition_of, relocation_kind}
-use Rattle.elf_model.specs.RelocationValues.{Fits}
+use Rattle.elf_model.specs.Link.Loading.{LoadedObject}
+use Rattle.elf_model.specs.Own.OwnLayout.{own_where}
+use Rattle.elf_model.specs.Link.Placement.{Where}
+use Rattle.elf_model.specs.Link.Relocation.{Kind, Relocation, definition_of, relocation_kind}
+use Rattle.elf_model.specs.Link.RelocationValues.{Fits}
 use Rattle.own_link.proofs.OwnLayouts.{own_has_got, own_pieces}
 use Rattle.ld_main.specs.FinalRefusals.{IsLayout, IsSettled, NeverFits}
 

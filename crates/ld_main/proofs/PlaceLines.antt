@@ -10,15 +10,15 @@ use Rattle.std.proofs.lemmas.List.FromFn.{length-map-range_with_len}
 use Rattle.std.proofs.lemmas.Option.{get_or_from_slice_get, slice_get_within}
 use Rattle.byteview.specs.Numbers.{is_nul, le_at, part, text}
 use Rattle.byteview.proofs.NumberLaws.{le-below}
-use Rattle.elf_model.specs.ImageFile.{place_row_of}
-use Rattle.elf_model.specs.Loading.{AreObjects, LoadedObject}
-use Rattle.elf_model.specs.MapText.{AreBytes, FitsDrop, FitsPlace}
-use Rattle.elf_model.specs.ObjectFile.{IsObject, name_of_section, section_name, section_strings, sections}
-use Rattle.elf_model.specs.OwnLayout.{IsNotTooLarge, own_address, own_placed, placed_end}
-use Rattle.elf_model.specs.Pieces.{Piece, kept_sections, piece_of}
-use Rattle.elf_model.specs.Placement.{Placed, is_of_section}
-use Rattle.elf_model.specs.Records.{file_header, section_header}
-use Rattle.elf_model.specs.RightLink.{drop_rows, drops_from, is_dropped_line}
+use Rattle.elf_model.specs.Own.ImageFile.{place_row_of}
+use Rattle.elf_model.specs.Link.Loading.{AreObjects, LoadedObject}
+use Rattle.elf_model.specs.Image.MapText.{AreBytes, FitsDrop, FitsPlace}
+use Rattle.elf_model.specs.Inputs.ObjectFile.{IsObject, name_of_section, section_name, section_strings, sections}
+use Rattle.elf_model.specs.Own.OwnLayout.{IsNotTooLarge, own_address, own_placed, placed_end}
+use Rattle.elf_model.specs.Link.Pieces.{Piece, kept_sections, piece_of}
+use Rattle.elf_model.specs.Link.Placement.{Placed, is_of_section}
+use Rattle.elf_model.specs.Inputs.Records.{file_header, section_header}
+use Rattle.elf_model.specs.Image.RightLink.{drop_rows, drops_from, is_dropped_line}
 use Rattle.elf_model.specs.declared.link_map.DropLine.{DropLine}
 use Rattle.elf_model.specs.declared.records.SectionHeader.{SectionHeader}
 use Rattle.elf_model.proofs.Finding.{find-found}

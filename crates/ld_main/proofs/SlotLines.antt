@@ -2,10 +2,10 @@
 use Rattle.std.proofs.Common.{◌≡◌, ℕ, ◌+◌, ◌*◌, ◌≤◌, ◌^◌, Bool, true, false, cond, List, [], length, refl, sym, ap, arith}
 use Rattle.std.specs.Prelude.{Option, Some, None, option_map}
 use Rattle.std.proofs.lemmas.Option.{none-some, same_Some}
-use Rattle.elf_model.specs.Loading.{LoadedObject}
-use Rattle.elf_model.specs.OwnLayout.{IsNotTooLarge, got_line_of, got_piece, own_address, own_got, own_slots, slots_from}
-use Rattle.elf_model.specs.Pieces.{AreLawfulKinds}
-use Rattle.elf_model.specs.Slots.{has_got, slots}
+use Rattle.elf_model.specs.Link.Loading.{LoadedObject}
+use Rattle.elf_model.specs.Own.OwnLayout.{IsNotTooLarge, got_line_of, got_piece, own_address, own_got, own_slots, slots_from}
+use Rattle.elf_model.specs.Link.Pieces.{AreLawfulKinds}
+use Rattle.elf_model.specs.Link.Slots.{has_got, slots}
 use Rattle.elf_model.specs.declared.link_map.GotLine.{GotLine}
 use Rattle.own_link.proofs.OwnSlots.{no_slots, slots_end}
 

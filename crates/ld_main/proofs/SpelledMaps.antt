@@ -10,18 +10,18 @@ use Rattle.std.proofs.lemmas.Cmp.{nat_list_cmp_total}
 use Rattle.std.proofs.lemmas.List.{map-id}
 use Rattle.std.proofs.lemmas.List.Sorted.{IsPermutation-refl}
 use Rattle.std.proofs.lemmas.Slice.Eq.{bytes_eq-Decides}
-use Rattle.elf_model.specs.Causes.{HasRoom}
-use Rattle.elf_model.specs.ChosenSymbols.{chosen_symbols}
-use Rattle.elf_model.specs.Command.{Plan}
-use Rattle.elf_model.specs.Commons.{blocks}
-use Rattle.elf_model.specs.Listing.{AreLinkerLines, AreListed, has_meaning, listed}
-use Rattle.elf_model.specs.Loading.{LoadedObject}
-use Rattle.elf_model.specs.MapText.{AreBytes, Ascends, FitsDrop, FitsGot, FitsObject, FitsPlace, FitsSlot, SymbolBefore}
-use Rattle.elf_model.specs.Meaning.{Common, Meaning, meaning_name, meanings_of}
-use Rattle.elf_model.specs.OwnLayout.{own_got, own_slots, own_where}
-use Rattle.elf_model.specs.Pieces.{AreLawfulKinds, kept_sections}
-use Rattle.elf_model.specs.Resolution.{AreSoundSymbols}
-use Rattle.elf_model.specs.RightLink.{drop_rows, object_rows, symbol_row_of}
+use Rattle.elf_model.specs.Own.Causes.{HasRoom}
+use Rattle.elf_model.specs.Link.ChosenSymbols.{chosen_symbols}
+use Rattle.elf_model.specs.Inputs.Command.{Plan}
+use Rattle.elf_model.specs.Link.Commons.{blocks}
+use Rattle.elf_model.specs.Link.Listing.{AreLinkerLines, AreListed, has_meaning, listed}
+use Rattle.elf_model.specs.Link.Loading.{LoadedObject}
+use Rattle.elf_model.specs.Image.MapText.{AreBytes, Ascends, FitsDrop, FitsGot, FitsObject, FitsPlace, FitsSlot, SymbolBefore}
+use Rattle.elf_model.specs.Link.Meaning.{Common, Meaning, meaning_name, meanings_of}
+use Rattle.elf_model.specs.Own.OwnLayout.{own_got, own_slots, own_where}
+use Rattle.elf_model.specs.Link.Pieces.{AreLawfulKinds, kept_sections}
+use Rattle.elf_model.specs.Link.Resolution.{AreSoundSymbols}
+use Rattle.elf_model.specs.Image.RightLink.{drop_rows, object_rows, symbol_row_of}
 use Rattle.elf_model.proofs.Listing.{joined_listed, permuted_is_of}
 use Rattle.elf_model.proofs.RisingNames.{neighbours_count}
 use Rattle.elf_model.proofs.SymbolRows.{rows_ascend}

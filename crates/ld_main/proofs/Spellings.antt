@@ -3,9 +3,9 @@ use Rattle.std.proofs.Common.{◌≡◌, ℕ, ◌+◌, ◌<◌, ◌≤◌, List,
 use Rattle.std.specs.Prelude.{All}
 use Rattle.std.proofs.lemmas.List.{drop_all, drop_more}
 use Rattle.std.proofs.lemmas.List.Elements.{All-cons, All-nil}
-use Rattle.elf_model.specs.Loading.{LoadedObject}
-use Rattle.elf_model.specs.MapText.{AreBytes, FitsObject}
-use Rattle.elf_model.specs.RightLink.{object_rows}
+use Rattle.elf_model.specs.Link.Loading.{LoadedObject}
+use Rattle.elf_model.specs.Image.MapText.{AreBytes, FitsObject}
+use Rattle.elf_model.specs.Image.RightLink.{object_rows}
 use Rattle.search.specs.Views.{loaded_view, loaded_views}
 use Rattle.search.specs.declared.loaded.LoadedObject as held
 

@@ -9,19 +9,19 @@ use Rattle.std.proofs.lemmas.List.FromFn.{length-map-range_with_len}
 use Rattle.std.proofs.lemmas.List.Sorted.{All-permutation}
 use Rattle.std.proofs.lemmas.Option.{slice_get_within}
 use Rattle.byteview.specs.Numbers.{part}
-use Rattle.elf_model.specs.ChosenSymbols.{chosen_symbols, definitions, is_chosen, is_definition}
-use Rattle.elf_model.specs.Commons.{Block, block_named, blocks, is_block_of, is_common_symbol}
-use Rattle.elf_model.specs.Loading.{LoadedObject}
-use Rattle.elf_model.specs.MapText.{AreBytes, FitsCommon, FitsDefinition, FitsSymbol}
-use Rattle.elf_model.specs.Meaning.{Common, Meaning, Symbol, meanings_of, meant_list}
-use Rattle.elf_model.specs.ObjectFile.{name_of_symbol, null_section, sections, symbol_strings, symbol_table, symbols}
+use Rattle.elf_model.specs.Link.ChosenSymbols.{chosen_symbols, definitions, is_chosen, is_definition}
+use Rattle.elf_model.specs.Link.Commons.{Block, block_named, blocks, is_block_of, is_common_symbol}
+use Rattle.elf_model.specs.Link.Loading.{LoadedObject}
+use Rattle.elf_model.specs.Image.MapText.{AreBytes, FitsCommon, FitsDefinition, FitsSymbol}
+use Rattle.elf_model.specs.Link.Meaning.{Common, Meaning, Symbol, meanings_of, meant_list}
+use Rattle.elf_model.specs.Inputs.ObjectFile.{name_of_symbol, null_section, sections, symbol_strings, symbol_table, symbols}
 use Rattle.elf_model.specs.declared.constants.TheConstants.{SHT_SYMTAB}
-use Rattle.elf_model.specs.OwnLayout.{IsNotTooLarge, own_in_load_order, own_where}
-use Rattle.elf_model.specs.Pieces.{AreLawfulKinds}
-use Rattle.elf_model.specs.Placement.{Placed, is_of_section, symbol_value}
-use Rattle.elf_model.specs.Records.{symbol}
-use Rattle.elf_model.specs.Resolution.{AreSoundSymbols, SymbolOf, all_symbols, is_absolute, is_weak}
-use Rattle.elf_model.specs.RightLink.{symbol_row_of}
+use Rattle.elf_model.specs.Own.OwnLayout.{IsNotTooLarge, own_in_load_order, own_where}
+use Rattle.elf_model.specs.Link.Pieces.{AreLawfulKinds}
+use Rattle.elf_model.specs.Link.Placement.{Placed, is_of_section, symbol_value}
+use Rattle.elf_model.specs.Inputs.Records.{symbol}
+use Rattle.elf_model.specs.Link.Resolution.{AreSoundSymbols, SymbolOf, all_symbols, is_absolute, is_weak}
+use Rattle.elf_model.specs.Image.RightLink.{symbol_row_of}
 use Rattle.elf_model.specs.declared.link_map.Definition.TheVariants as told
 use Rattle.elf_model.specs.declared.records.SectionHeader.{SectionHeader}
 use Rattle.elf_model.specs.declared.records.Symbol as entry

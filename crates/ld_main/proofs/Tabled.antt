@@ -2,13 +2,13 @@
 use Rattle.std.proofs.Common.{◌≡◌, ◌<◌, ◌≤◌, ◌^◌, ℕ, List, Bool, true, false, [], ◌∷◌, arith, map, refl, subst, sym}
 use Rattle.std.specs.Prelude.{All, option_to_list}
 use Rattle.std.proofs.lemmas.List.Elements.{All-cons, All-nil}
-use Rattle.elf_model.specs.ImageFile.{IsTableSmall, own_end, symtab_line_of}
-use Rattle.elf_model.specs.Listing.{AreListed}
-use Rattle.elf_model.specs.MapText.{Ascends, FitsSymtab, SymbolBefore}
-use Rattle.elf_model.specs.Meaning.{Meaning}
-use Rattle.elf_model.specs.OwnLayout.{own_where}
-use Rattle.elf_model.specs.RightLink.{symbol_row_of}
-use Rattle.elf_model.specs.SymbolTable.{shstrtab_end, tables_end}
+use Rattle.elf_model.specs.Own.ImageFile.{IsTableSmall, own_end, symtab_line_of}
+use Rattle.elf_model.specs.Link.Listing.{AreListed}
+use Rattle.elf_model.specs.Image.MapText.{Ascends, FitsSymtab, SymbolBefore}
+use Rattle.elf_model.specs.Link.Meaning.{Meaning}
+use Rattle.elf_model.specs.Own.OwnLayout.{own_where}
+use Rattle.elf_model.specs.Image.RightLink.{symbol_row_of}
+use Rattle.elf_model.specs.Image.SymbolTable.{shstrtab_end, tables_end}
 use Rattle.elf_model.specs.declared.link_map.SymtabLine.{SymtabLine}
 use Rattle.elf_model.proofs.Running.{rounded_up}
 use Rattle.layout.specs.Placements.{Basis}

@@ -8,17 +8,17 @@ use Rattle.std.proofs.lemmas.Bool.Decides.{nat_tests}
 use Rattle.std.proofs.lemmas.List.Elements.{All-append, All-cons, All-contains, All-nil, All-weaker, Contains-append_cases}
 use Rattle.std.proofs.lemmas.Option.{none-some, same_Some}
 use Rattle.std.proofs.lemmas.Slice.Eq.{bytes_eq-Decides}
-use Rattle.elf_model.specs.ChosenSymbols.{chosen_symbols, definitions, is_chosen, is_definition}
-use Rattle.elf_model.specs.Commons.{Block, block_named, block_pieces, is_common_symbol, pieces}
-use Rattle.elf_model.specs.LinkerNames.{bound_of}
-use Rattle.elf_model.specs.Listing.{AreListed, has_meaning, is_used, listed}
-use Rattle.elf_model.specs.Loading.{LoadedObject}
-use Rattle.elf_model.specs.Meaning.{Common, Linker, Meaning, Symbol, meaning_name, meant, object_meaning}
-use Rattle.elf_model.specs.ObjectFile.{symbols}
-use Rattle.elf_model.specs.OwnLayout.{IsNotTooLarge, own_in_load_order, own_placed, placed_end}
-use Rattle.elf_model.specs.Pieces.{AreLawfulKinds, Piece, is_alloc, kept_sections}
-use Rattle.elf_model.specs.Placement.{Placed, is_of_section}
-use Rattle.elf_model.specs.Resolution.{AreSoundSymbols, IsSoundSymbol, SymbolOf, all_symbols, binding, chosen, has_name, is_common, is_global, is_placed_symbol, is_undefined, is_weak, section_of, sections_of_object, symbol_of, symbols_from, symbols_of}
+use Rattle.elf_model.specs.Link.ChosenSymbols.{chosen_symbols, definitions, is_chosen, is_definition}
+use Rattle.elf_model.specs.Link.Commons.{Block, block_named, block_pieces, is_common_symbol, pieces}
+use Rattle.elf_model.specs.Link.LinkerNames.{bound_of}
+use Rattle.elf_model.specs.Link.Listing.{AreListed, has_meaning, is_used, listed}
+use Rattle.elf_model.specs.Link.Loading.{LoadedObject}
+use Rattle.elf_model.specs.Link.Meaning.{Common, Linker, Meaning, Symbol, meaning_name, meant, object_meaning}
+use Rattle.elf_model.specs.Inputs.ObjectFile.{symbols}
+use Rattle.elf_model.specs.Own.OwnLayout.{IsNotTooLarge, own_in_load_order, own_placed, placed_end}
+use Rattle.elf_model.specs.Link.Pieces.{AreLawfulKinds, Piece, is_alloc, kept_sections}
+use Rattle.elf_model.specs.Link.Placement.{Placed, is_of_section}
+use Rattle.elf_model.specs.Link.Resolution.{AreSoundSymbols, IsSoundSymbol, SymbolOf, all_symbols, binding, chosen, has_name, is_common, is_global, is_placed_symbol, is_undefined, is_weak, section_of, sections_of_object, symbol_of, symbols_from, symbols_of}
 use Rattle.elf_model.specs.declared.bound.Bound.{Bound}
 use Rattle.elf_model.specs.declared.records.SectionHeader.{SectionHeader}
 use Rattle.elf_model.specs.declared.records.Symbol as record_symbol

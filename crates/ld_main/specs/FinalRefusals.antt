@@ -3,20 +3,20 @@
 -- be right in another layout: of these it is said only where one piece alone is too wide, and where a value that
 -- doesn't fit is the same in every layout.
 use Rattle.std.specs.Prelude.{◌≡◌, ◌⊎◌, ℕ, ◌+◌, ◌^◌, ◌<◌, ◌==◌, ◌&&◌, Bool, true, false, List, Option, Some, IfSome, Ok, All, Any, is_some, map}
-use Rattle.elf_model.specs.Command.{Plan, command_of}
-use Rattle.elf_model.specs.Commons.{pieces}
-use Rattle.elf_model.specs.Files.{File}
-use Rattle.elf_model.specs.LinkerNames.{named_output}
-use Rattle.elf_model.specs.LinkerValues.{is_code_piece, is_file_data, is_loaded_piece, is_zero_data}
-use Rattle.elf_model.specs.Loading.{LoadedObject, loaded_objects}
-use Rattle.elf_model.specs.Meaning.{Common, Linker, Meaning, Symbol}
-use Rattle.elf_model.specs.Pieces.{Piece, is_of_output}
-use Rattle.elf_model.specs.Placement.{Where}
-use Rattle.elf_model.specs.Relocation.{Formula, Kind, Relocation, S+A, Z+A, definition_of, relocation_kind, relocations}
-use Rattle.elf_model.specs.RelocationValues.{Fits}
-use Rattle.elf_model.specs.Resolution.{SymbolOf, is_absolute}
-use Rattle.elf_model.specs.RightLink.{IsRightLink}
-use Rattle.elf_model.specs.Slots.{has_got}
+use Rattle.elf_model.specs.Inputs.Command.{Plan, command_of}
+use Rattle.elf_model.specs.Link.Commons.{pieces}
+use Rattle.elf_model.specs.Inputs.Files.{File}
+use Rattle.elf_model.specs.Link.LinkerNames.{named_output}
+use Rattle.elf_model.specs.Link.LinkerValues.{is_code_piece, is_file_data, is_loaded_piece, is_zero_data}
+use Rattle.elf_model.specs.Link.Loading.{LoadedObject, loaded_objects}
+use Rattle.elf_model.specs.Link.Meaning.{Common, Linker, Meaning, Symbol}
+use Rattle.elf_model.specs.Link.Pieces.{Piece, is_of_output}
+use Rattle.elf_model.specs.Link.Placement.{Where}
+use Rattle.elf_model.specs.Link.Relocation.{Formula, Kind, Relocation, S+A, Z+A, definition_of, relocation_kind, relocations}
+use Rattle.elf_model.specs.Link.RelocationValues.{Fits}
+use Rattle.elf_model.specs.Link.Resolution.{SymbolOf, is_absolute}
+use Rattle.elf_model.specs.Image.RightLink.{IsRightLink}
+use Rattle.elf_model.specs.Link.Slots.{has_got}
 use Rattle.elf_model.specs.declared.bound.Bound.{Bound}
 use Rattle.elf_model.specs.declared.bound.Bound.TheVariants.{CodeEnd, DataEnd, GotStart, ImageEnd, ImageStart, OutputEnd, OutputStart, ZeroStart}
 use Rattle.elf_model.specs.declared.faults.LinkError.{LinkError}

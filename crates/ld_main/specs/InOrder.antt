@@ -3,10 +3,10 @@ use Rattle.std.specs.Prelude.{◌≡◌, ℕ, List, [], ◌++◌, map, slice_ind
 use Rattle.std.specs.Cmp.Lexicographic.{slice_cmp}
 use Rattle.std.specs.List.Sorted.{IsSortedByKey}
 use Rattle.std.specs.Ordering.{nat_cmp}
-use Rattle.elf_model.specs.Listing.{AreListed}
-use Rattle.elf_model.specs.Loading.{LoadedObject}
-use Rattle.elf_model.specs.Meaning.{Linker, Meaning, Symbol, meaning_name, meant}
-use Rattle.elf_model.specs.Resolution.{SymbolOf}
+use Rattle.elf_model.specs.Link.Listing.{AreListed}
+use Rattle.elf_model.specs.Link.Loading.{LoadedObject}
+use Rattle.elf_model.specs.Link.Meaning.{Linker, Meaning, Symbol, meaning_name, meant}
+use Rattle.elf_model.specs.Link.Resolution.{SymbolOf}
 use Rattle.elf_model.specs.declared.bound.Bound.TheVariants.{ImageStart}
 use Rattle.resolve.specs.Chosen.{defined_in}
 use Rattle.image_write.specs.CommonRows.{own_commons}

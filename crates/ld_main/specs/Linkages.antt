@@ -3,17 +3,17 @@ use Rattle.std.specs.Prelude.{◌≡◌, ℕ, ◌^◌, ◌<◌, Bool, false, tru
 use Rattle.std.specs.Borrow.{Bor}
 use Rattle.std.specs.Global.{Vec}
 use Rattle.std.specs.Io.KnownBytes.{Appends}
-use Rattle.elf_model.specs.Causes.{IsLinkable}
-use Rattle.elf_model.specs.Command.{IsBase}
-use Rattle.elf_model.specs.Files.{File}
-use Rattle.elf_model.specs.ImageFile.{IsOwnMap, own_entry}
-use Rattle.elf_model.specs.Listing.{AreListed}
-use Rattle.elf_model.specs.Loading.{LoadedObject, loaded_objects}
-use Rattle.elf_model.specs.MapRecord.{MapRecord}
-use Rattle.elf_model.specs.MapText.{Ascends, IsMap, SymbolBefore}
-use Rattle.elf_model.specs.MapText as map_text
-use Rattle.elf_model.specs.OwnLayout.{own_where}
-use Rattle.elf_model.specs.RightLink.{IsRightLink, symbol_row_of}
+use Rattle.elf_model.specs.Own.Causes.{IsLinkable}
+use Rattle.elf_model.specs.Inputs.Command.{IsBase}
+use Rattle.elf_model.specs.Inputs.Files.{File}
+use Rattle.elf_model.specs.Own.ImageFile.{IsOwnMap, own_entry}
+use Rattle.elf_model.specs.Link.Listing.{AreListed}
+use Rattle.elf_model.specs.Link.Loading.{LoadedObject, loaded_objects}
+use Rattle.elf_model.specs.Image.MapRecord.{MapRecord}
+use Rattle.elf_model.specs.Image.MapText.{Ascends, IsMap, SymbolBefore}
+use Rattle.elf_model.specs.Image.MapText as map_text
+use Rattle.elf_model.specs.Own.OwnLayout.{own_where}
+use Rattle.elf_model.specs.Image.RightLink.{IsRightLink, symbol_row_of}
 use Rattle.elf_model.specs.declared.bound.Bound.{Bound}
 use Rattle.image_write.specs.Linkages.{Linked, own_image}
 use Rattle.image_write.specs.Listings.{IsListing}

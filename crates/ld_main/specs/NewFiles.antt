@@ -2,7 +2,7 @@
 use Rattle.std.specs.Prelude.{◌≡◌, ℕ, List, ◌++◌, Option, Some, None, codes}
 use Rattle.std.specs.Fmt.{decimal}
 use Rattle.std.specs.Path.{path_with_file_name}
-use Rattle.elf_model.specs.Files.{File}
+use Rattle.elf_model.specs.Inputs.Files.{File}
 use Rattle.image_write.specs.Linkages.{Linked}
 use Rattle.ld_main.specs.Linkages.{HasOwnLink}
 use Rattle.ld_main.specs.declared.file_id.FileId.{FileId}

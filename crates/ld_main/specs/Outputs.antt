@@ -1,18 +1,18 @@
 -- What the linker makes of the loaded objects, and why it refuses them.
 use Rattle.std.specs.Prelude.{◌≡◌, ℕ, List, AllPairs, Any, None, Some}
-use Rattle.elf_model.specs.Causes.{HasRoom, IsLinkable, IsToDropped, IsToMixed, IsUndefinedName}
-use Rattle.elf_model.specs.Command.{Plan}
-use Rattle.elf_model.specs.Files.{File}
-use Rattle.elf_model.specs.ImageFile.{IsOwnMap, image_file, own_entry, own_tabled}
-use Rattle.elf_model.specs.Loading.{LoadedObject, loaded_objects}
-use Rattle.elf_model.specs.MapRecord.{MapRecord}
-use Rattle.elf_model.specs.MapText.{IsMap}
-use Rattle.elf_model.specs.MapText as map_text
-use Rattle.elf_model.specs.Meaning.{Meaning, object_meaning}
-use Rattle.elf_model.specs.OwnLayout.{OwnValuesFit}
-use Rattle.elf_model.specs.Pieces.{AreLawfulKinds}
-use Rattle.elf_model.specs.Relocation.{AreFieldsApart, AreLawfulRelocations, IsFieldInside, IsThreadMismatch, Relocation, relocation_kind, relocations}
-use Rattle.elf_model.specs.Resolution.{AreSoundCommons, AreSoundSymbols, AreUnique, IsDuplicate, IsEntry}
+use Rattle.elf_model.specs.Own.Causes.{HasRoom, IsLinkable, IsToDropped, IsToMixed, IsUndefinedName}
+use Rattle.elf_model.specs.Inputs.Command.{Plan}
+use Rattle.elf_model.specs.Inputs.Files.{File}
+use Rattle.elf_model.specs.Own.ImageFile.{IsOwnMap, image_file, own_entry, own_tabled}
+use Rattle.elf_model.specs.Link.Loading.{LoadedObject, loaded_objects}
+use Rattle.elf_model.specs.Image.MapRecord.{MapRecord}
+use Rattle.elf_model.specs.Image.MapText.{IsMap}
+use Rattle.elf_model.specs.Image.MapText as map_text
+use Rattle.elf_model.specs.Link.Meaning.{Meaning, object_meaning}
+use Rattle.elf_model.specs.Own.OwnLayout.{OwnValuesFit}
+use Rattle.elf_model.specs.Link.Pieces.{AreLawfulKinds}
+use Rattle.elf_model.specs.Link.Relocation.{AreFieldsApart, AreLawfulRelocations, IsFieldInside, IsThreadMismatch, Relocation, relocation_kind, relocations}
+use Rattle.elf_model.specs.Link.Resolution.{AreSoundCommons, AreSoundSymbols, AreUnique, IsDuplicate, IsEntry}
 use Rattle.elf_model.specs.declared.faults.LinkError.{LinkError}
 use Rattle.elf_model.specs.declared.faults.LinkError.TheVariants as error
 

@@ -1,6 +1,6 @@
 -- What the definitions of a link mean that have a line, in the order of their names.
 use Rattle.std.specs.Prelude.{List, Option, None, Some}
-use Rattle.elf_model.specs.Meaning.{Meaning}
+use Rattle.elf_model.specs.Link.Meaning.{Meaning}
 use Rattle.image_write.specs.declared.symbol_table.SymbolTable.{SymbolTable}
 use Rattle.resolve.specs.Views.{meaning_views}
 use Rattle.ld_main.specs.InOrder.{meanings_in}

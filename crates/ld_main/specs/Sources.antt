@@ -1,7 +1,7 @@
 -- What a source of files tells of them, and what is gathered from one.
 use Rattle.std.specs.Prelude.{◌≡◌, ℕ, ◌+◌, List, ◌∷◌, ◌++◌, Option, Some, None, option_map, option_to_list, string_bytes}
 use Rattle.std.specs.List.{flat_map}
-use Rattle.elf_model.specs.Files.{File}
+use Rattle.elf_model.specs.Inputs.Files.{File}
 use Rattle.ld_main.specs.declared.file_source.FetchFault.{FetchFault}
 use Rattle.ld_main.specs.declared.file_source.FetchFault.TheVariants as fetch_fault
 use Rattle.ld_main.specs.declared.file_source.GatherFault.{GatherFault}

@@ -1,7 +1,7 @@
 //! Where input files come from, and the gathering of those that a plan may read.
 ghost use Rattle.std.specs.Prelude.{◌≡◌, ℕ, List, Option, IfErr, IfOk, OnOk, option_map, string_bytes};
-ghost use Rattle.elf_model.specs.Command.{candidates_of};
-ghost use Rattle.elf_model.specs.Files.{files_of, words_of};
+ghost use Rattle.elf_model.specs.Inputs.Command.{candidates_of};
+ghost use Rattle.elf_model.specs.Inputs.Files.{files_of, words_of};
 ghost use Rattle.ld_main.specs.Sources.{AddFails, AddsFile, Answers, AreGathered, FetchFails, GatherFails};
 ghost use Rattle.ld_main.specs.declared.file_source.GatherFault.TheVariants as gather_fault;
 

@@ -1,7 +1,7 @@
 //! What takes the lines of a map: a text in memory, or a file, which is written by runs.
 ghost use Rattle.std.specs.Prelude.{◌≡◌, [], ◌++◌, ℕ, List, Option, Some, IfOk, OnErr, OnOk};
 ghost use Rattle.std.specs.Io.KnownBytes.{Appends, append_known};
-ghost use Rattle.elf_model.specs.MapText.{line_text};
+ghost use Rattle.elf_model.specs.Image.MapText.{line_text};
 ghost use Rattle.linkmap.specs.Lines.{line_view};
 
 use image_write::WriteFault;

@@ -1,10 +1,10 @@
 //! The definitions that have a line in the map, in the order of their names: what the chosen symbols mean, and those
 //! of the linker's names that relocations use.
 ghost use Rattle.std.specs.Prelude.{◌≡◌, [], ◌++◌, IfOk, IsTrue, OnOk, slice_index_or};
-ghost use Rattle.elf_model.specs.Listing.{AreLinkerLines};
-ghost use Rattle.elf_model.specs.Meaning.{Linker};
+ghost use Rattle.elf_model.specs.Link.Listing.{AreLinkerLines};
+ghost use Rattle.elf_model.specs.Link.Meaning.{Linker};
 ghost use Rattle.elf_model.specs.declared.bound.Bound.TheVariants.{ImageStart};
-ghost use Rattle.elf_model.specs.Resolution.{AreSoundSymbols};
+ghost use Rattle.elf_model.specs.Link.Resolution.{AreSoundSymbols};
 ghost use Rattle.resolve.specs.Chosen.{defined_in};
 ghost use Rattle.resolve.specs.Views.{meaning_view, meaning_views, symbol_view};
 ghost use Rattle.relocate.specs.Uses.{line_views};

@@ -1,8 +1,8 @@
 //! The link: from files and the words of a command to an image and a map, or the refusal that stands.
 ghost use Rattle.std.specs.Prelude.{IfErr, IfOk};
-ghost use Rattle.elf_model.specs.Causes.{Cause};
-ghost use Rattle.elf_model.specs.Files.{files_of, words_of};
-ghost use Rattle.elf_model.specs.RightLink.{IsRightLink};
+ghost use Rattle.elf_model.specs.Own.Causes.{Cause};
+ghost use Rattle.elf_model.specs.Inputs.Files.{files_of, words_of};
+ghost use Rattle.elf_model.specs.Image.RightLink.{IsRightLink};
 ghost use Rattle.ld_main.specs.FinalRefusals.{DeniesLinks};
 ghost use Rattle.ld_main.specs.Outputs.{IsOwnLink};
 

@@ -3,12 +3,12 @@
 ghost use Rattle.std.specs.Prelude.{◌≡◌, ◌++◌, All, IfOk, OnOk, map};
 ghost use Rattle.std.specs.Io.KnownBytes.{Appends};
 ghost use Rattle.std.specs.List.{flat_map};
-ghost use Rattle.elf_model.specs.ImageFile.{own_end};
-ghost use Rattle.elf_model.specs.MapText as map_text;
-ghost use Rattle.elf_model.specs.OwnLayout.{own_in_load_order, own_where};
-ghost use Rattle.elf_model.specs.Pieces.{AreLawfulKinds};
-ghost use Rattle.elf_model.specs.Resolution.{AreSoundSymbols};
-ghost use Rattle.elf_model.specs.RightLink.{symbol_row_of};
+ghost use Rattle.elf_model.specs.Own.ImageFile.{own_end};
+ghost use Rattle.elf_model.specs.Image.MapText as map_text;
+ghost use Rattle.elf_model.specs.Own.OwnLayout.{own_in_load_order, own_where};
+ghost use Rattle.elf_model.specs.Link.Pieces.{AreLawfulKinds};
+ghost use Rattle.elf_model.specs.Link.Resolution.{AreSoundSymbols};
+ghost use Rattle.elf_model.specs.Image.RightLink.{symbol_row_of};
 ghost use Rattle.image_write.specs.CommonRows.{own_commons};
 ghost use Rattle.image_write.specs.Maps.{LiesWithin};
 ghost use Rattle.image_write.specs.Tables.{HasTable};

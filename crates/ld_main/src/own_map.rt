@@ -1,14 +1,14 @@
 //! The link map of objects where they are laid out: the objects, their dropped sections, their kept ones, their common
 //! blocks, the GOT and its slots, the definitions with their values.
 ghost use Rattle.std.specs.Prelude.{◌≡◌, ◌++◌, All, IfOk, IfSome, OnOk, find, map, option_map, unwrap_or};
-ghost use Rattle.elf_model.specs.ImageFile.{common_row_of, own_end};
-ghost use Rattle.elf_model.specs.MapRecord.{common_row, map_of, object_row, place_row, symbol_row};
-ghost use Rattle.elf_model.specs.ObjectFile.{sections};
-ghost use Rattle.elf_model.specs.Meaning.{Symbol};
-ghost use Rattle.elf_model.specs.OwnLayout.{IsNotTooLarge, own_in_load_order, own_placed, own_where};
-ghost use Rattle.elf_model.specs.Pieces.{AreLawfulKinds, kept_sections, piece_of, pieces_from};
-ghost use Rattle.elf_model.specs.Placement.{is_of_section};
-ghost use Rattle.elf_model.specs.RightLink.{definition_row, drop_rows, drops_from, is_dropped_line, object_rows, symbol_row_of};
+ghost use Rattle.elf_model.specs.Own.ImageFile.{common_row_of, own_end};
+ghost use Rattle.elf_model.specs.Image.MapRecord.{common_row, map_of, object_row, place_row, symbol_row};
+ghost use Rattle.elf_model.specs.Inputs.ObjectFile.{sections};
+ghost use Rattle.elf_model.specs.Link.Meaning.{Symbol};
+ghost use Rattle.elf_model.specs.Own.OwnLayout.{IsNotTooLarge, own_in_load_order, own_placed, own_where};
+ghost use Rattle.elf_model.specs.Link.Pieces.{AreLawfulKinds, kept_sections, piece_of, pieces_from};
+ghost use Rattle.elf_model.specs.Link.Placement.{is_of_section};
+ghost use Rattle.elf_model.specs.Image.RightLink.{definition_row, drop_rows, drops_from, is_dropped_line, object_rows, symbol_row_of};
 ghost use Rattle.resolve.specs.Blocks.{block_view};
 ghost use Rattle.resolve.specs.Views.{meaning_view, meaning_views, symbol_view};
 ghost use Rattle.search.specs.Views.{loaded_view, loaded_views};

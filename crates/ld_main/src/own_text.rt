@@ -3,12 +3,12 @@
 ghost use Rattle.std.specs.Prelude.{◌≡◌, ◌+◌, ◌*◌, ◌≤◌, ◌++◌, ◌^◌, All, IfOk, IfSome, OnOk, length, map, option_map, option_to_list};
 ghost use Rattle.std.specs.Io.KnownBytes.{Appends, append_known};
 ghost use Rattle.std.specs.List.{flat_map};
-ghost use Rattle.elf_model.specs.ImageFile.{own_end};
-ghost use Rattle.elf_model.specs.MapText as map_text;
-ghost use Rattle.elf_model.specs.ObjectFile.{sections};
-ghost use Rattle.elf_model.specs.OwnLayout.{IsNotTooLarge, own_got, own_in_load_order, own_slots, own_where, slots_from};
-ghost use Rattle.elf_model.specs.Pieces.{AreLawfulKinds, kept_sections, pieces_from};
-ghost use Rattle.elf_model.specs.RightLink.{drop_rows, drops_from, object_rows, symbol_row_of};
+ghost use Rattle.elf_model.specs.Own.ImageFile.{own_end};
+ghost use Rattle.elf_model.specs.Image.MapText as map_text;
+ghost use Rattle.elf_model.specs.Inputs.ObjectFile.{sections};
+ghost use Rattle.elf_model.specs.Own.OwnLayout.{IsNotTooLarge, own_got, own_in_load_order, own_slots, own_where, slots_from};
+ghost use Rattle.elf_model.specs.Link.Pieces.{AreLawfulKinds, kept_sections, pieces_from};
+ghost use Rattle.elf_model.specs.Image.RightLink.{drop_rows, drops_from, object_rows, symbol_row_of};
 ghost use Rattle.resolve.specs.Views.{meaning_view, meaning_views};
 ghost use Rattle.search.specs.Views.{loaded_view, loaded_views};
 ghost use Rattle.got_tls.specs.Views.{slot_views};

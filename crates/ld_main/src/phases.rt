@@ -1,15 +1,15 @@
 //! From the words and the files to a link that is prepared, phase by phase, and from that to its map.
 ghost use Rattle.std.specs.Prelude.{◌≡◌, IfErr, IfOk, OnOk, map};
-ghost use Rattle.elf_model.specs.Causes.{Cause};
-ghost use Rattle.elf_model.specs.Command.{IsBase};
-ghost use Rattle.elf_model.specs.Files.{files_of, words_of};
-ghost use Rattle.elf_model.specs.ImageFile.{IsOwnMap, own_end};
-ghost use Rattle.elf_model.specs.Listing.{AreLinkerLines};
-ghost use Rattle.elf_model.specs.MapRecord.{map_of};
-ghost use Rattle.elf_model.specs.OwnAddresses.{AreOwnAddresses};
-ghost use Rattle.elf_model.specs.OwnLayout.{IsNotTooLarge, own_where};
-ghost use Rattle.elf_model.specs.Relocation.{AreLawfulRelocations};
-ghost use Rattle.elf_model.specs.Slots as wanted;
+ghost use Rattle.elf_model.specs.Own.Causes.{Cause};
+ghost use Rattle.elf_model.specs.Inputs.Command.{IsBase};
+ghost use Rattle.elf_model.specs.Inputs.Files.{files_of, words_of};
+ghost use Rattle.elf_model.specs.Own.ImageFile.{IsOwnMap, own_end};
+ghost use Rattle.elf_model.specs.Link.Listing.{AreLinkerLines};
+ghost use Rattle.elf_model.specs.Image.MapRecord.{map_of};
+ghost use Rattle.elf_model.specs.Own.OwnAddresses.{AreOwnAddresses};
+ghost use Rattle.elf_model.specs.Own.OwnLayout.{IsNotTooLarge, own_where};
+ghost use Rattle.elf_model.specs.Link.Relocation.{AreLawfulRelocations};
+ghost use Rattle.elf_model.specs.Link.Slots as wanted;
 ghost use Rattle.resolve.specs.Views.{meaning_view, meaning_views};
 ghost use Rattle.symbols.specs.Rows.{no_rows};
 ghost use Rattle.relocate.specs.Uses.{line_views};

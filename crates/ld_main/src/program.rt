@@ -1,10 +1,10 @@
 //! The program: reads the files that the words name, links or checks them, writes or prints the answer.
 ghost use Rattle.std.specs.Prelude.{◌≡◌, ◌≢◌, ◌⊎◌, ◌↔◌, ◌≤◌, true, false, None, Ok, IfErr, IfOk, IsErr, IsErrAnd, IsOk, OnOk};
-ghost use Rattle.elf_model.specs.Causes.{Cause};
-ghost use Rattle.elf_model.specs.Command as command;
-ghost use Rattle.elf_model.specs.Command.{command_of};
-ghost use Rattle.elf_model.specs.Files.{files_of, words_of};
-ghost use Rattle.elf_model.specs.RightLink.{IsRightLink, Least};
+ghost use Rattle.elf_model.specs.Own.Causes.{Cause};
+ghost use Rattle.elf_model.specs.Inputs.Command as command;
+ghost use Rattle.elf_model.specs.Inputs.Command.{command_of};
+ghost use Rattle.elf_model.specs.Inputs.Files.{files_of, words_of};
+ghost use Rattle.elf_model.specs.Image.RightLink.{IsRightLink, Least};
 ghost use Rattle.ld_main.specs.Linkages.{HasOwnLink};
 ghost use Rattle.ld_main.specs.NewFiles.{IsOfLink, IsSomeLink};
 ghost use Rattle.ld_main.specs.Program.{Asks, HasRightLink, LinksRight, error_status, failure_status, is_checked, outcome_status, words_status};

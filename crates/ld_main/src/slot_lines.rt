@@ -1,8 +1,8 @@
 //! The lines of the GOT and of its slots, where objects are laid out.
 ghost use Rattle.std.specs.Prelude.{◌≡◌, ◌+◌, ◌*◌, ◌≤◌, ◌^◌, IfOk, length, map};
-ghost use Rattle.elf_model.specs.MapRecord.{slot_row, target_row};
-ghost use Rattle.elf_model.specs.OwnLayout.{IsNotTooLarge, own_got, own_slots, slot_at, slots_from};
-ghost use Rattle.elf_model.specs.Pieces.{AreLawfulKinds};
+ghost use Rattle.elf_model.specs.Image.MapRecord.{slot_row, target_row};
+ghost use Rattle.elf_model.specs.Own.OwnLayout.{IsNotTooLarge, own_got, own_slots, slot_at, slots_from};
+ghost use Rattle.elf_model.specs.Link.Pieces.{AreLawfulKinds};
 ghost use Rattle.resolve.specs.Views.{target_view};
 ghost use Rattle.got_tls.specs.Views.{slot_view, slot_views};
 ghost use Rattle.image_write.specs.Maps.{own_table};

@@ -1,14 +1,14 @@
 //! The own map can always be spelled: its numbers are below 2 ^ 64, and its names are bytes, by the types of what
 //! its lines are made from. Nothing here does anything when the program runs.
 ghost use Rattle.std.specs.Prelude.{◌≡◌, ◌<◌, ◌^◌, All, length, map, option_to_list};
-ghost use Rattle.elf_model.specs.Causes.{HasRoom};
-ghost use Rattle.elf_model.specs.Listing.{AreLinkerLines};
-ghost use Rattle.elf_model.specs.Loading.{AreObjects};
-ghost use Rattle.elf_model.specs.MapText.{AreBytes, FitsDrop, FitsGot, FitsObject, FitsPlace, FitsSlot, FitsTarget};
-ghost use Rattle.elf_model.specs.Meaning.{Common, Linker};
-ghost use Rattle.elf_model.specs.OwnLayout.{IsNotTooLarge, own_got, own_slots};
-ghost use Rattle.elf_model.specs.Pieces.{AreLawfulKinds, kept_sections};
-ghost use Rattle.elf_model.specs.RightLink.{drop_rows, object_rows};
+ghost use Rattle.elf_model.specs.Own.Causes.{HasRoom};
+ghost use Rattle.elf_model.specs.Link.Listing.{AreLinkerLines};
+ghost use Rattle.elf_model.specs.Link.Loading.{AreObjects};
+ghost use Rattle.elf_model.specs.Image.MapText.{AreBytes, FitsDrop, FitsGot, FitsObject, FitsPlace, FitsSlot, FitsTarget};
+ghost use Rattle.elf_model.specs.Link.Meaning.{Common, Linker};
+ghost use Rattle.elf_model.specs.Own.OwnLayout.{IsNotTooLarge, own_got, own_slots};
+ghost use Rattle.elf_model.specs.Link.Pieces.{AreLawfulKinds, kept_sections};
+ghost use Rattle.elf_model.specs.Image.RightLink.{drop_rows, object_rows};
 ghost use Rattle.got_tls.specs.Views.{slot_view, slot_views};
 ghost use Rattle.relocate.specs.Uses.{line_views};
 ghost use Rattle.resolve.specs.Blocks.{block_view, block_views};

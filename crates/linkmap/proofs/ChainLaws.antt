@@ -3,8 +3,8 @@ use Rattle.std.proofs.Common.{◌≡◌, ℕ, suc, ◌+◌, ◌<◌, ◌≤◌, 
 use Rattle.std.specs.Prelude.{option_to_list}
 use Rattle.std.proofs.lemmas.List.{append_assoc}
 use Rattle.elf_model.specs.declared.link_map.SymtabLine.{SymtabLine}
-use Rattle.elf_model.specs.MapRecord.{MapRecord, ObjectRow}
-use Rattle.elf_model.specs.MapText.{Line, Version, Object, Drop, Place, Common, Got, Slot, Symbol, Symtab, End, body, DropBefore, PlaceBefore, CommonBefore, SlotBefore, SymbolBefore, Ascends, AreNumbered, IsVersioned, IsOrdered}
+use Rattle.elf_model.specs.Image.MapRecord.{MapRecord, ObjectRow}
+use Rattle.elf_model.specs.Image.MapText.{Line, Version, Object, Drop, Place, Common, Got, Slot, Symbol, Symtab, End, body, DropBefore, PlaceBefore, CommonBefore, SlotBefore, SymbolBefore, Ascends, AreNumbered, IsVersioned, IsOrdered}
 
 -- the place of a line's kind in a map
 abbrev pub rank : Line → ℕ

@@ -8,8 +8,8 @@ use Rattle.std.proofs.lemmas.List.Elements.{All-nil, All-cons, All-head, All-tai
 use Rattle.std.proofs.lemmas.Option.{slice_get-get_or, MatchOption-at_some}
 use Rattle.elf_model.specs.declared.link_map.GotLine.{GotLine}
 use Rattle.elf_model.specs.declared.link_map.SymtabLine.{SymtabLine}
-use Rattle.elf_model.specs.MapRecord.{MapRecord, ObjectRow}
-use Rattle.elf_model.specs.MapText.{Line, Version, Object, Drop, Place, Common, Got, Slot, Symbol, Symtab, End, body, DropBefore, PlaceBefore, CommonBefore, SlotBefore, SymbolBefore, Ascends, AreNumbered, IsOrdered, Fits, FitsObject, FitsDrop, FitsPlace, FitsCommon, FitsGot, FitsSlot, FitsSymbol, FitsSymtab, IsMap}
+use Rattle.elf_model.specs.Image.MapRecord.{MapRecord, ObjectRow}
+use Rattle.elf_model.specs.Image.MapText.{Line, Version, Object, Drop, Place, Common, Got, Slot, Symbol, Symtab, End, body, DropBefore, PlaceBefore, CommonBefore, SlotBefore, SymbolBefore, Ascends, AreNumbered, IsOrdered, Fits, FitsObject, FitsDrop, FitsPlace, FitsCommon, FitsGot, FitsSlot, FitsSymbol, FitsSymtab, IsMap}
 use Rattle.linkmap.specs.Order.{EndsBeforeDrops, EndsBeforePlaces, EndsBeforeCommons, EndsBeforeGot, EndsBeforeSlots, EndsBeforeSymbols, EndsBeforeSymtab, IsAboveLast, MayStand, add}
 use Rattle.linkmap.proofs.ChainLaws.{rank, Next, Follows, last, last-append, follows_rank, from_drops, from_places, from_commons, from_got, from_slots, from_symbols, from_symtab}
 use Rattle.linkmap.proofs.LineLaws.{FitsLine}

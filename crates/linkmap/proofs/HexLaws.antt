@@ -7,7 +7,7 @@ use Rattle.std.proofs.lemmas.List.{append_assoc}
 use Rattle.std.proofs.lemmas.Nat.{div-mul-add, mod-mul-add, div_below, mod_below}
 use Rattle.std.proofs.Math.Nat.{div-add-mod', mul-le-mul_left}
 use Rattle.std.proofs.lemmas.Option.{none-some, some_pair_parts}
-use Rattle.elf_model.specs.MapText.{hex_digit, pair, quad, word, hex, address}
+use Rattle.elf_model.specs.Image.MapText.{hex_digit, pair, quad, word, hex, address}
 use Rattle.linkmap.specs.Reading.{Reads, chained, digit_at, halves, pair_at, quad_at, word_at, hex_at, address_at}
 use Rattle.linkmap.proofs.Parsers.{IsParser, chained_some, before-IsParser}
 

@@ -7,8 +7,8 @@ use Rattle.std.proofs.lemmas.List.Elements.{All-nil, All-head}
 use Rattle.elf_model.specs.declared.link_map.DropLine.{DropLine}
 use Rattle.elf_model.specs.declared.link_map.GotLine.{GotLine}
 use Rattle.elf_model.specs.declared.link_map.SymtabLine.{SymtabLine}
-use Rattle.elf_model.specs.MapRecord.{MapRecord, ObjectRow, PlaceRow, CommonRow, SlotRow, SymbolRow}
-use Rattle.elf_model.specs.MapText.{Line, Object, Drop, Place, Common, Got, Slot, Symbol, Symtab, End, body, text, IsMap}
+use Rattle.elf_model.specs.Image.MapRecord.{MapRecord, ObjectRow, PlaceRow, CommonRow, SlotRow, SymbolRow}
+use Rattle.elf_model.specs.Image.MapText.{Line, Object, Drop, Place, Common, Got, Slot, Symbol, Symtab, End, body, text, IsMap}
 use Rattle.linkmap.proofs.ChainLaws.{rank, tail, from_drops, from_places, from_commons, from_got, from_slots, from_symbols, from_symtab}
 use Rattle.linkmap.proofs.GrowthLaws.{high_drops, high_places, high_commons, high_got, high_slots, high_symbols, high_symtab}
 use Rattle.linkmap.proofs.TextLaws.{spell, version_of, same_first, decoded, fits_tail, no_more}

@@ -8,8 +8,8 @@ use Rattle.elf_model.specs.declared.link_map.GotLine.{GotLine}
 use Rattle.elf_model.specs.declared.link_map.SlotKind.{SlotKind}
 use Rattle.elf_model.specs.declared.link_map.SlotKind.TheVariants as kind
 use Rattle.elf_model.specs.declared.link_map.SymtabLine.{SymtabLine}
-use Rattle.elf_model.specs.MapRecord.{ObjectRow, PlaceRow, CommonRow, SlotRow, SymbolRow, TargetRow, OfName, OfLocal}
-use Rattle.elf_model.specs.MapText.{address, number, last_number, name, kind_text, target_text, definition_text, object_text, drop_text, place_text, common_text, got_text, slot_text, symbol_text, symtab_text, version_text, Line, Version, Object, Drop, Place, Common, Got, Slot, Symbol, Symtab, End, line_text, FitsObject, FitsDrop, FitsPlace, FitsCommon, FitsGot, FitsTarget, FitsSlot, FitsDefinition, FitsSymbol, FitsSymtab}
+use Rattle.elf_model.specs.Image.MapRecord.{ObjectRow, PlaceRow, CommonRow, SlotRow, SymbolRow, TargetRow, OfName, OfLocal}
+use Rattle.elf_model.specs.Image.MapText.{address, number, last_number, name, kind_text, target_text, definition_text, object_text, drop_text, place_text, common_text, got_text, slot_text, symbol_text, symtab_text, version_text, Line, Version, Object, Drop, Place, Common, Got, Slot, Symbol, Symtab, End, line_text, FitsObject, FitsDrop, FitsPlace, FitsCommon, FitsGot, FitsTarget, FitsSlot, FitsDefinition, FitsSymbol, FitsSymtab}
 use Rattle.linkmap.specs.Reading.{tag, both, object_at, drop_at, place_at, common_at, got_at, kind_at, target_at, slot_at, definition_at, symbol_at, symtab_at, version_at, number_at, last_number_at, line_at}
 use Rattle.linkmap.proofs.HexLaws.{address-IsParser}
 use Rattle.linkmap.proofs.NameLaws.{name-IsParser}

@@ -7,7 +7,7 @@ use Rattle.std.proofs.lemmas.Bool.Decides.{nat_tests}
 use Rattle.std.proofs.lemmas.List.{append_assoc, append-nil, length-append, length-drop, nil_from_length}
 use Rattle.std.proofs.lemmas.List.Elements.{All-nil, All-cons, All-head, All-tail}
 use Rattle.std.proofs.lemmas.Option.{none-some, some_pair_parts}
-use Rattle.elf_model.specs.MapText.{pair, is_plain, spelled, escaped, name, AreBytes}
+use Rattle.elf_model.specs.Image.MapText.{pair, is_plain, spelled, escaped, name, AreBytes}
 use Rattle.linkmap.specs.Reading.{tag, chained, unless_plain, pair_at, escape_at, with_front, name_behind, name_at}
 use Rattle.linkmap.proofs.HexLaws.{pair-IsParser}
 use Rattle.linkmap.proofs.Parsers.{IsParser, Took, chained_some, fork_some}

@@ -9,7 +9,7 @@ use Rattle.std.proofs.lemmas.Bool.Decides.{nat_tests}
 use Rattle.std.proofs.lemmas.Fmt.{decimal-digits_value, digits_decimal, digits_value-decimal, decimal_nonempty, first_decimal, decimal_digit}
 use Rattle.std.proofs.lemmas.List.{append_assoc, take-append-drop, take_at, drop_at}
 use Rattle.std.proofs.lemmas.Option.{some_pair_parts}
-use Rattle.elf_model.specs.MapText.{number, last_number}
+use Rattle.elf_model.specs.Image.MapText.{number, last_number}
 use Rattle.linkmap.specs.Reading.{before, is_canonical, digits_len, decimal_in, decimal_at, number_at, last_number_at}
 use Rattle.elf_model.proofs.DecimalDigits.{own, prefix_digits}
 use Rattle.linkmap.proofs.HexLaws.{Below}

@@ -3,8 +3,8 @@ use Rattle.std.proofs.Common.{◌≡◌, ℕ, ◌+◌, ◌<◌, Bool, true, fals
 use Rattle.std.proofs.lemmas.List.{length-map, get_or-map}
 use Rattle.std.proofs.lemmas.Bool.{false≢true}
 use Rattle.elf_model.specs.declared.link_map.ObjectLine.{ObjectLine}
-use Rattle.elf_model.specs.MapRecord.{ObjectRow, object_row}
-use Rattle.elf_model.specs.MapText.{Ascends, AreNumbered}
+use Rattle.elf_model.specs.Image.MapRecord.{ObjectRow, object_row}
+use Rattle.elf_model.specs.Image.MapText.{Ascends, AreNumbered}
 
 -- a list that is seen through a view
 module _ {X Y : Type 0} (R : Y → Y → Type 0) (v : X → Y) where

@@ -7,7 +7,7 @@ use Rattle.std.proofs.lemmas.List.{length-map}
 use Rattle.std.proofs.lemmas.List.Elements.{All-nil, All-cons, All-head, All-tail}
 use Rattle.std.proofs.lemmas.Simd.{length-zip2, mask_l-mod, length-replicate}
 use lib.Lanes.{mask_l, top, zip2}
-use Rattle.elf_model.specs.MapText.{is_plain}
+use Rattle.elf_model.specs.Image.MapText.{is_plain}
 
 -- a lane of a comparison
 abbrev lane : (ℕ → ℕ → Bool) → ℕ → ℕ → ℕ

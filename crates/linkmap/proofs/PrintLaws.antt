@@ -6,8 +6,8 @@ use Rattle.std.proofs.lemmas.List.{append_assoc}
 use Rattle.std.proofs.lemmas.List.Elements.{All-more, All-map}
 use Rattle.std.proofs.lemmas.List.Concat.{flat_map-append}
 use Rattle.elf_model.specs.declared.link_map.LinkMap.{LinkMap}
-use Rattle.elf_model.specs.MapRecord.{map_of, object_row, place_row, common_row, slot_row, symbol_row}
-use Rattle.elf_model.specs.MapText.{Line, line_text, version_text, object_text, drop_text, place_text, common_text, got_text, slot_text, symbol_text, symtab_text, body, text}
+use Rattle.elf_model.specs.Image.MapRecord.{map_of, object_row, place_row, common_row, slot_row, symbol_row}
+use Rattle.elf_model.specs.Image.MapText.{Line, line_text, version_text, object_text, drop_text, place_text, common_text, got_text, slot_text, symbol_text, symtab_text, body, text}
 
 flat_map-map : {X Y : Type 0} (f : Y → List ℕ) (v : X → Y) (xs : List X) → flat_map f (map v xs) ≡ flat_map (λ x. f (v x)) xs
 flat_map-map f v [] = refl

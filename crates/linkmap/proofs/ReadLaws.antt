@@ -6,8 +6,8 @@ use Rattle.std.proofs.lemmas.List.{append_assoc, append-nil, length-append, leng
 use Rattle.std.proofs.lemmas.List.Concat.{flat_map-append}
 use Rattle.std.proofs.lemmas.List.Elements.{All-nil}
 use Rattle.std.proofs.lemmas.Option.{none-some, some_pair_parts}
-use Rattle.elf_model.specs.MapRecord.{MapRecord}
-use Rattle.elf_model.specs.MapText.{Line, Version, Object, Drop, Place, Common, Got, Slot, Symbol, Symtab, End, IsVersioned, version_text, line_text, object_text, drop_text, place_text, common_text, got_text, slot_text, symbol_text, symtab_text, body, text, IsMap, IsFirstWrong}
+use Rattle.elf_model.specs.Image.MapRecord.{MapRecord}
+use Rattle.elf_model.specs.Image.MapText.{Line, Version, Object, Drop, Place, Common, Got, Slot, Symbol, Symtab, End, IsVersioned, version_text, line_text, object_text, drop_text, place_text, common_text, got_text, slot_text, symbol_text, symtab_text, body, text, IsMap, IsFirstWrong}
 use Rattle.linkmap.specs.declared.digits.LineFault.{LineFault}
 use Rattle.linkmap.specs.declared.digits.LineFault.TheVariants as line_fault
 use Rattle.linkmap.specs.Reading.{line_at, version_at, Fails}

@@ -6,8 +6,8 @@ use Rattle.std.proofs.lemmas.Bool.{cases_lt}
 use Rattle.std.proofs.lemmas.List.{append_assoc, append-nil, length-append, length-take-le, take_at, take_all, take-append-drop}
 use Rattle.std.proofs.lemmas.List.Elements.{All-nil, All-cons, All-head, All-tail, All-append, All-map, All-take}
 use Rattle.std.proofs.lemmas.Option.{some_pair_parts}
-use Rattle.elf_model.specs.MapRecord.{MapRecord}
-use Rattle.elf_model.specs.MapText.{Line, Version, Object, Drop, Place, Common, Got, Slot, Symbol, Symtab, End, version_text, line_text, body, Fits, IsOrdered, IsMap, Begins, IsFirstWrong}
+use Rattle.elf_model.specs.Image.MapRecord.{MapRecord}
+use Rattle.elf_model.specs.Image.MapText.{Line, Version, Object, Drop, Place, Common, Got, Slot, Symbol, Symtab, End, version_text, line_text, body, Fits, IsOrdered, IsMap, Begins, IsFirstWrong}
 use Rattle.linkmap.specs.Reading.{line_at, version_at}
 use Rattle.linkmap.proofs.ChainLaws.{Follows, Chain, last, chain_at, none_after_end, ordered_chain, tail, from_drops, from_places, from_commons, from_got, from_slots, from_symbols, from_symtab}
 use Rattle.linkmap.proofs.LineLaws.{FitsLine, IsVersion, line-IsParser, version-IsParser}

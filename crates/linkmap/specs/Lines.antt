@@ -1,8 +1,8 @@
 -- A line of a map whose name is borrowed, as its text sees it.
-use Rattle.elf_model.specs.MapRecord.{OfLocal, OfName, TargetRow}
+use Rattle.elf_model.specs.Image.MapRecord.{OfLocal, OfName, TargetRow}
 use Rattle.elf_model.specs.declared.references.Target.{Target}
 use Rattle.elf_model.specs.declared.references.Target.TheVariants as target
-use Rattle.elf_model.specs.MapText.{Common, Drop, End, Got, Line, Object, Place, Slot, Symbol, Symtab, Version}
+use Rattle.elf_model.specs.Image.MapText.{Common, Drop, End, Got, Line, Object, Place, Slot, Symbol, Symtab, Version}
 use Rattle.linkmap.specs.declared.line.Line as code
 use Rattle.linkmap.specs.declared.line.Line.TheVariants as line
 

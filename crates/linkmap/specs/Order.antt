@@ -1,8 +1,8 @@
 -- Which line may stand next in a map, by the lines before it.
 use Rattle.std.specs.Prelude.{ℕ, ◌-◌, ◌≡◌, ⊤, Some, None, List, [], ◌∷◌, ◌++◌, length, slice_get, MatchOption}
-use Rattle.elf_model.specs.MapRecord.{MapRecord}
+use Rattle.elf_model.specs.Image.MapRecord.{MapRecord}
 use Rattle.linkmap.specs.Borrowed.{object_row, place_row, common_row, slot_row, symbol_row}
-use Rattle.elf_model.specs.MapText.{Line, Version, Object, Drop, Place, Common, Got, Slot, Symbol, Symtab, End, DropBefore, PlaceBefore, CommonBefore, SlotBefore, SymbolBefore}
+use Rattle.elf_model.specs.Image.MapText.{Line, Version, Object, Drop, Place, Common, Got, Slot, Symbol, Symtab, End, DropBefore, PlaceBefore, CommonBefore, SlotBefore, SymbolBefore}
 use Rattle.linkmap.specs.declared.fields.MapLine.{MapLine}
 use Rattle.linkmap.specs.declared.fields.MapLine.TheVariants as line
 

@@ -11,8 +11,8 @@ use Rattle.elf_model.specs.declared.link_map.GotLine.{GotLine}
 use Rattle.elf_model.specs.declared.link_map.SlotKind.{SlotKind}
 use Rattle.elf_model.specs.declared.link_map.SlotKind.TheVariants as kind
 use Rattle.elf_model.specs.declared.link_map.SymtabLine.{SymtabLine}
-use Rattle.elf_model.specs.MapRecord.{ObjectRow, PlaceRow, CommonRow, SlotRow, SymbolRow, TargetRow, OfName, OfLocal}
-use Rattle.elf_model.specs.MapText.{is_plain, Line, Object, Drop, Place, Common, Got, Slot, Symbol, Symtab, End}
+use Rattle.elf_model.specs.Image.MapRecord.{ObjectRow, PlaceRow, CommonRow, SlotRow, SymbolRow, TargetRow, OfName, OfLocal}
+use Rattle.elf_model.specs.Image.MapText.{is_plain, Line, Object, Drop, Place, Common, Got, Slot, Symbol, Symtab, End}
 use Rattle.linkmap.specs.declared.digits.LineFault.{LineFault}
 use Rattle.linkmap.specs.declared.digits.LineFault.TheVariants as line_fault
 

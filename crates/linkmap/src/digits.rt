@@ -2,7 +2,7 @@
 ghost use Rattle.std.specs.Prelude.{true, take, ◌≡◌, ◌<◌, ◌≤◌, ◌^◌, ◌++◌, IsTrue, ◌↔◌, IfSome, IfOk, OnOk, SomeIff, length, option_map, option_copied};
 ghost use Rattle.std.specs.Str.{all_ascii_digits};
 ghost use Rattle.std.specs.Str.Parse.{digits_value};
-ghost use Rattle.elf_model.specs.MapText.{hex_digit, pair, word, hex, address, number, last_number};
+ghost use Rattle.elf_model.specs.Image.MapText.{hex_digit, pair, word, hex, address, number, last_number};
 ghost use Rattle.linkmap.specs.Reading as reading;
 ghost use Rattle.linkmap.specs.declared.digits.LineFault.TheVariants as line_fault;
 

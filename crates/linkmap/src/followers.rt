@@ -1,6 +1,6 @@
 //! Which line may follow the lines of its kind that were read.
 ghost use Rattle.std.specs.Prelude.{◌≡◌, ◌<◌, ◌↔◌, IsTrue};
-ghost use Rattle.elf_model.specs.MapText.{DropBefore, PlaceBefore, CommonBefore, SlotBefore, SymbolBefore};
+ghost use Rattle.elf_model.specs.Image.MapText.{DropBefore, PlaceBefore, CommonBefore, SlotBefore, SymbolBefore};
 ghost use Rattle.linkmap.specs.Borrowed.{common_row, place_row, slot_row, symbol_row};
 ghost use Rattle.linkmap.specs.Order.{IsAboveLast};
 

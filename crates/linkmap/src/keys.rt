@@ -1,7 +1,7 @@
 //! The order of the lines of a map.
 ghost use Rattle.std.specs.Prelude.{◌≡◌, ℕ, ◌<◌, ◌↔◌, IsTrue, length, slice_index_or};
-ghost use Rattle.elf_model.specs.MapRecord.{map_of, object_row, place_row, common_row, slot_row, symbol_row};
-ghost use Rattle.elf_model.specs.MapText.{NameBefore, DropBefore, PlaceBefore, CommonBefore, SlotBefore, SymbolBefore, Ascends, IsVersioned, IsOrdered};
+ghost use Rattle.elf_model.specs.Image.MapRecord.{map_of, object_row, place_row, common_row, slot_row, symbol_row};
+ghost use Rattle.elf_model.specs.Image.MapText.{NameBefore, DropBefore, PlaceBefore, CommonBefore, SlotBefore, SymbolBefore, Ascends, IsVersioned, IsOrdered};
 ghost use Rattle.elf_model.specs.declared.link_map.ObjectLine.{ObjectLine};
 
 use elf_model::{CommonLine, DropLine, LinkMap, ObjectLine, PlaceLine, SlotLine, SymbolLine};

@@ -3,7 +3,7 @@
 ghost use Rattle.std.specs.Prelude.{All, IsTrue, true, false, ◌≡◌, ◌≢◌, ◌<◌, ◌≤◌, ◌++◌, IfOk, OnOk, length, take, drop, option_map};
 ghost use Rattle.std.specs.Cow.{cow_slice_items};
 ghost use Rattle.std.specs.List.{prefix_len};
-ghost use Rattle.elf_model.specs.MapText as map_text;
+ghost use Rattle.elf_model.specs.Image.MapText as map_text;
 ghost use Rattle.linkmap.specs.Reading as reading;
 
 use crate::digits::{LineFault, put_pair, read_pair, strip};

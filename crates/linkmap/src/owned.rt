@@ -1,8 +1,8 @@
 //! A map that owns its names, from one that borrows them.
 ghost use Rattle.std.specs.Prelude.{◌≡◌, IfOk, map};
 ghost use Rattle.std.specs.Cow.{cow_slice_items};
-ghost use Rattle.elf_model.specs.MapRecord as owned;
-ghost use Rattle.elf_model.specs.MapRecord.{CommonRow, ObjectRow, PlaceRow, SlotRow, SymbolRow, TargetRow, map_of};
+ghost use Rattle.elf_model.specs.Image.MapRecord as owned;
+ghost use Rattle.elf_model.specs.Image.MapRecord.{CommonRow, ObjectRow, PlaceRow, SlotRow, SymbolRow, TargetRow, map_of};
 ghost use Rattle.linkmap.specs.Borrowed as borrowed;
 ghost use Rattle.linkmap.specs.Borrowed.{record_of};
 

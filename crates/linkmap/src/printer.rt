@@ -1,8 +1,8 @@
 //! A map's text.
 ghost use Rattle.std.specs.Prelude.{◌≡◌, ◌<◌, ◌^◌, ◌++◌, IfOk, OnOk, All, option_to_list};
 ghost use Rattle.std.specs.List.{flat_map};
-ghost use Rattle.elf_model.specs.MapRecord.{map_of, object_row, place_row, common_row, slot_row, target_row, symbol_row};
-ghost use Rattle.elf_model.specs.MapText as map_text;
+ghost use Rattle.elf_model.specs.Image.MapRecord.{map_of, object_row, place_row, common_row, slot_row, target_row, symbol_row};
+ghost use Rattle.elf_model.specs.Image.MapText as map_text;
 ghost use Rattle.linkmap.specs.Lines.{line_view, target_row_of};
 
 use crate::digits::{put_address, put_last_number, put_number};

@@ -1,7 +1,7 @@
 //! A map from its text.
 ghost use Rattle.std.specs.Prelude.{◌≡◌, ◌↔◌, IsTrue, IfOk, IfErr, OnOk, MatchResult};
-ghost use Rattle.elf_model.specs.MapRecord.{MapRecord, map_of};
-ghost use Rattle.elf_model.specs.MapText.{End, IsMap, MapFails, text};
+ghost use Rattle.elf_model.specs.Image.MapRecord.{MapRecord, map_of};
+ghost use Rattle.elf_model.specs.Image.MapText.{End, IsMap, MapFails, text};
 ghost use Rattle.linkmap.specs.Borrowed.{record_of};
 ghost use Rattle.linkmap.specs.Order.{row, EndsBeforeDrops, EndsBeforePlaces, EndsBeforeCommons, EndsBeforeGot, EndsBeforeSlots, EndsBeforeSymbols, MayStand, add, empty_map};
 ghost use Rattle.elf_model.specs.declared.faults.MapFault.TheVariants as map_fault;

@@ -3,8 +3,8 @@ use Rattle.std.proofs.Common.{◌≡◌, ℕ, ◌+◌, ◌*◌, ◌≤◌, List,
 use Rattle.std.specs.Prelude.{map}
 use Rattle.std.specs.List.{range_with_len}
 use Rattle.std.proofs.lemmas.List.FromFn.{length-map-range_with_len}
-use Rattle.elf_model.specs.MemoryImage.{HasImageHeader, IsImage, LoadFaultStands, program_header_at, program_headers}
-use Rattle.elf_model.specs.Records.{file_header}
+use Rattle.elf_model.specs.Image.MemoryImage.{HasImageHeader, IsImage, LoadFaultStands, program_header_at, program_headers}
+use Rattle.elf_model.specs.Inputs.Records.{file_header}
 use Rattle.elf_model.specs.declared.faults.LoadFault.{LoadFault}
 use Rattle.elf_model.specs.declared.faults.LoadFault.TheVariants as fault
 use Rattle.elf_model.specs.declared.records.FileHeader.{FileHeader}

@@ -1,7 +1,7 @@
 -- Memory at an address is what the one segment says that maps it.
 use Rattle.std.proofs.Common.{◌≡◌, ℕ, zero, suc, ◌+◌, ◌/◌, ◌<◌, Bool, true, false, cond, List, [], ◌∷◌, length, get_or, refl, sym, ◌∙◌, ap, subst, arith}
 use Rattle.std.specs.Prelude.{AllPairs, Contains, Some, find, option_map, slice_index}
-use Rattle.elf_model.specs.MemoryImage.{Cell, Encloses, IsImage, ShareNoPage, Touches, cell_of, loads, maps, memory_of, segment_byte}
+use Rattle.elf_model.specs.Image.MemoryImage.{Cell, Encloses, IsImage, ShareNoPage, Touches, cell_of, loads, maps, memory_of, segment_byte}
 use Rattle.elf_model.specs.declared.records.ProgramHeader.{ProgramHeader}
 use Rattle.elf_model.proofs.Addresses.{mapped, maps-true}
 use Rattle.loader_model.specs.Memory.{IsRun}

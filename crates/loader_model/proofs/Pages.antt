@@ -1,7 +1,7 @@
 -- Segments that begin on pages share none exactly where each ends before the next one begins.
 use Rattle.std.proofs.Common.{◌≡◌, ℕ, ◌+◌, ◌/◌, ◌%◌, ◌<◌, Bool, List, length, get_or, arith}
 use Rattle.std.specs.Prelude.{IsTrue, All, AllPairs}
-use Rattle.elf_model.specs.MemoryImage.{ShareNoPage}
+use Rattle.elf_model.specs.Image.MemoryImage.{ShareNoPage}
 use Rattle.elf_model.specs.declared.records.ProgramHeader.{ProgramHeader}
 use Rattle.loader_model.specs.Table.{IsBelow, EndsBefore}
 use Rattle.loader_model.proofs.Neighbours.{pairs_of_neighbours}

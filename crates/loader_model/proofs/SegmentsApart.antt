@@ -3,7 +3,7 @@ use Rattle.std.proofs.Common.{◌≡◌, ◌+◌, ◌-◌, ◌<◌, ◌≤◌, B
 use Rattle.std.specs.Prelude.{AllPairs, Any, nat_lt}
 use Rattle.std.proofs.lemmas.Bool.{ltb-false, ltb-true}
 use Rattle.std.proofs.lemmas.List.{get_or_default}
-use Rattle.elf_model.specs.MemoryImage.{Encloses, IsImage, loads, program_headers}
+use Rattle.elf_model.specs.Image.MemoryImage.{Encloses, IsImage, loads, program_headers}
 use Rattle.elf_model.specs.declared.records.ProgramHeader.{ProgramHeader}
 use Rattle.loader_model.specs.Table.{EndsBefore}
 use Rattle.loader_model.proofs.Pages.{before_of_apart}

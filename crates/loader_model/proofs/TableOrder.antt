@@ -2,7 +2,7 @@
 use Rattle.std.proofs.Common.{◌≡◌, ℕ, suc, ◌+◌, ◌<◌, Bool, true, false, cond, List, [], ◌∷◌, length, get_or, subst, take, drop, arith, sym, refl, ap, ◌∙◌}
 use Rattle.std.specs.Prelude.{IsTrue, AllPairs}
 use Rattle.std.specs.List.{prefix_len}
-use Rattle.elf_model.specs.MemoryImage.{IsInOrder, is_load, loads_in, IsTail}
+use Rattle.elf_model.specs.Image.MemoryImage.{IsInOrder, is_load, loads_in, IsTail}
 use Rattle.elf_model.specs.declared.records.ProgramHeader.{ProgramHeader}
 use Rattle.loader_model.specs.Table.{IsBelow}
 use Rattle.loader_model.proofs.Neighbours.{pairs_of_neighbours}

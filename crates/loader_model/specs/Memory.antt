@@ -1,7 +1,7 @@
 -- What a memory keeps of its image, and what a run of it is.
 use Rattle.std.specs.Prelude.{◌≡◌, ℕ, ◌+◌, ◌<◌, List, Some, length, slice_index, option_map}
-use Rattle.elf_model.specs.MemoryImage.{IsImage, loads, memory_of, thread_blocks}
-use Rattle.elf_model.specs.Records.{file_header}
+use Rattle.elf_model.specs.Image.MemoryImage.{IsImage, loads, memory_of, thread_blocks}
+use Rattle.elf_model.specs.Inputs.Records.{file_header}
 use Rattle.elf_model.specs.declared.records.FileHeader.{FileHeader}
 use Rattle.elf_model.specs.declared.records.ProgramHeader.{ProgramHeader}
 

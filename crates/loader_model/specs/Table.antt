@@ -1,6 +1,6 @@
 -- Words on program headers for this crate's own functions.
 use Rattle.std.specs.Prelude.{ℕ, ◌+◌, ◌<◌, ◌≤◌, List, AllPairs}
-use Rattle.elf_model.specs.MemoryImage.{AreGoodSegments, IsInOrder, ShareNoPage, loads_in}
+use Rattle.elf_model.specs.Image.MemoryImage.{AreGoodSegments, IsInOrder, ShareNoPage, loads_in}
 use Rattle.elf_model.specs.declared.faults.LoadFault.{LoadFault}
 use Rattle.elf_model.specs.declared.faults.LoadFault.TheVariants as fault
 use Rattle.elf_model.specs.declared.records.ProgramHeader.{ProgramHeader}

@@ -1,8 +1,8 @@
 //! Memory as a loader makes it of an image (System V gABI 5, "Program Loading").
 ghost use Rattle.std.specs.Prelude.{◌≡◌, ◌+◌, ◌*◌, ◌<◌, ◌≤◌, AllPairs, IsTrue, List, ℕ, IfOk, IfErr, IfSome, IsSome, SomeIff, true, option_copied, length, option_map, find, slice_index, slice_index_or, Contains, Any, ◌↔◌, map, filter};
 ghost use Rattle.std.specs.List.{range_with_len};
-ghost use Rattle.elf_model.specs.MemoryImage.{Encloses, HasImageHeader, HasNoSections, HasSections, image_ident, is_thread_block, segment_byte, IsImage, IsImageHeader, LoadFaultStands, loads, loads_in, maps, memory_of, program_header_at, program_headers, thread_blocks};
-ghost use Rattle.elf_model.specs.Records.{file_header};
+ghost use Rattle.elf_model.specs.Image.MemoryImage.{Encloses, HasImageHeader, HasNoSections, HasSections, image_ident, is_thread_block, segment_byte, IsImage, IsImageHeader, LoadFaultStands, loads, loads_in, maps, memory_of, program_header_at, program_headers, thread_blocks};
+ghost use Rattle.elf_model.specs.Inputs.Records.{file_header};
 ghost use Rattle.loader_model.specs.Table.{EndsBefore, FaultInTable, IsGoodTable, IsLawful};
 ghost use Rattle.std.specs.List.Sorted.{IsNonDecreasingBy};
 ghost use Rattle.loader_model.specs.Memory.{IsRun};

@@ -3,7 +3,7 @@ ghost use Rattle.std.specs.Prelude.{◌≡◌, ◌↔◌, ◌+◌, ◌*◌, ◌<
 ghost use Rattle.std.specs.List.{prefix_len};
 ghost use Rattle.loader_model.specs.Table.{EndsBefore, IsBelow};
 ghost use Rattle.elf_model.specs.declared.records.ProgramHeader.{ProgramHeader};
-ghost use Rattle.elf_model.specs.MemoryImage.{AreGoodSegments, HoldsHeaders, IsGoodLoad, IsGoodStack, IsGoodThreadBlock, IsInOrder, IsTail, ShareNoPage, first_address, is_load, is_thread_block, loads_in};
+ghost use Rattle.elf_model.specs.Image.MemoryImage.{AreGoodSegments, HoldsHeaders, IsGoodLoad, IsGoodStack, IsGoodThreadBlock, IsInOrder, IsTail, ShareNoPage, first_address, is_load, is_thread_block, loads_in};
 
 use elf_model::ProgramHeader;
 

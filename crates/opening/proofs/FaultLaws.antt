@@ -2,11 +2,11 @@
 use Rattle.std.proofs.Common.{◌≡◌, ℕ, List, true, false, true≢false, ◌∙◌, refl, subst, sym}
 use Rattle.std.specs.Prelude.{◌≢◌, All, Any}
 use Rattle.std.proofs.lemmas.List.Elements.{All-contains}
-use Rattle.elf_model.specs.ArchiveFile.{ArFaultStands, IsArchive}
-use Rattle.elf_model.specs.Causes.{IsBadArchive, IsWithoutIndex}
-use Rattle.elf_model.specs.Command.{Plan}
-use Rattle.elf_model.specs.Files.{File}
-use Rattle.elf_model.specs.Opening.{AreFilesThere, Opened, lacks_index, opened}
+use Rattle.elf_model.specs.Inputs.ArchiveFile.{ArFaultStands, IsArchive}
+use Rattle.elf_model.specs.Own.Causes.{IsBadArchive, IsWithoutIndex}
+use Rattle.elf_model.specs.Inputs.Command.{Plan}
+use Rattle.elf_model.specs.Inputs.Files.{File}
+use Rattle.elf_model.specs.Inputs.Opening.{AreFilesThere, Opened, lacks_index, opened}
 use Rattle.elf_model.specs.declared.faults.ArFault.{ArFault}
 use Rattle.elf_model.specs.declared.faults.ArFault.TheVariants as archive_fault
 use Rattle.ar_index.proofs.Steps.{only}

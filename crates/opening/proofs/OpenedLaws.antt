@@ -8,10 +8,10 @@ use Rattle.std.proofs.lemmas.List.Elements.{All-cons, All-head, All-tail}
 use Rattle.std.proofs.lemmas.Option.{none-some, same_Some}
 use Rattle.command.specs.Views.{item_of, source_of}
 use Rattle.command.specs.declared.items.Item.{Item}
-use Rattle.elf_model.specs.Command as command
-use Rattle.elf_model.specs.Command.{paths_of}
-use Rattle.elf_model.specs.Files.{File}
-use Rattle.elf_model.specs.Opening.{HasFile, Opened, bytes_of, is_file, opened_from, opened_item}
+use Rattle.elf_model.specs.Inputs.Command as command
+use Rattle.elf_model.specs.Inputs.Command.{paths_of}
+use Rattle.elf_model.specs.Inputs.Files.{File}
+use Rattle.elf_model.specs.Inputs.Opening.{HasFile, Opened, bytes_of, is_file, opened_from, opened_item}
 use Rattle.opening.specs.Opened.{file_at, first_found, item_view}
 use Rattle.opening.specs.Faults.{AreUnsearchable, IsUnsearchable}
 use Rattle.opening.specs.declared.faults.OpenFault.{OpenFault}

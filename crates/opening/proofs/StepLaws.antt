@@ -7,9 +7,9 @@ use Rattle.std.proofs.lemmas.Bool.{eq-eqb, eqb-true, false≢true}
 use Rattle.std.proofs.lemmas.List.{get_or_default}
 use Rattle.std.proofs.lemmas.List.Sums.{prefix_len-le-length}
 use Rattle.std.proofs.lemmas.List.Elements.{All-cons, All-nil}
-use Rattle.elf_model.specs.Command.{Plan}
-use Rattle.elf_model.specs.Loading.{Group, LoadedObject, Single, Step, before_steps, group_of, joined, loaded_step, loaded_steps, rounds, steps}
-use Rattle.elf_model.specs.Opening.{Opened}
+use Rattle.elf_model.specs.Inputs.Command.{Plan}
+use Rattle.elf_model.specs.Link.Loading.{Group, LoadedObject, Single, Step, before_steps, group_of, joined, loaded_step, loaded_steps, rounds, steps}
+use Rattle.elf_model.specs.Inputs.Opening.{Opened}
 use Rattle.elf_model.proofs.LoadingBounds.{Extends, by_case}
 use Rattle.elf_model.proofs.LoadingSteps.{steps_behind}
 use Rattle.elf_model.proofs.SameOutput.{both_ways_equal}

@@ -1,9 +1,9 @@
 -- The faults of archives as those of items, and when each stands.
 use Rattle.std.specs.Prelude.{◌≢◌, List, Any}
-use Rattle.elf_model.specs.Causes.{IsBadArchive, IsWithoutIndex}
-use Rattle.elf_model.specs.Command.{Plan}
-use Rattle.elf_model.specs.Files.{File}
-use Rattle.elf_model.specs.Opening.{AreArchives, AreFilesThere, HaveIndexes, Opened, opened}
+use Rattle.elf_model.specs.Own.Causes.{IsBadArchive, IsWithoutIndex}
+use Rattle.elf_model.specs.Inputs.Command.{Plan}
+use Rattle.elf_model.specs.Inputs.Files.{File}
+use Rattle.elf_model.specs.Inputs.Opening.{AreArchives, AreFilesThere, HaveIndexes, Opened, opened}
 use Rattle.elf_model.specs.declared.faults.ArFault.{ArFault}
 use Rattle.elf_model.specs.declared.faults.ArFault.TheVariants as archive_fault
 use Rattle.opening.specs.declared.faults.OpenFault.{OpenFault}

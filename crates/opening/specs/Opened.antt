@@ -2,8 +2,8 @@
 use Rattle.std.specs.Prelude.{◌≡◌, ℕ, List, [], Option, IfSome, is_some, option_map, unwrap_or}
 use Rattle.std.specs.Borrow.{Bor}
 use Rattle.std.specs.List.{find}
-use Rattle.elf_model.specs.Files.{File}
-use Rattle.elf_model.specs.Opening.{Opened, file_named, is_file}
+use Rattle.elf_model.specs.Inputs.Files.{File}
+use Rattle.elf_model.specs.Inputs.Opening.{Opened, file_named, is_file}
 use Rattle.opening.specs.declared.opened_items.OpenedItem.{OpenedItem}
 
 abbrev pub found_view : Bor (List ℕ) × Bor (List ℕ) → File

@@ -1,7 +1,7 @@
 //! The archives among the items of a plan, and what they hold.
 ghost use Rattle.std.specs.Prelude.{◌≡◌, true, false, [], unwrap_or, All, IfErr, IfOk, IfSome, IsTrue, OnOk, is_some, map, option_copied};
-ghost use Rattle.elf_model.specs.ArchiveFile.{IsArchive};
-ghost use Rattle.elf_model.specs.Opening.{AreArchives, HaveIndexes, archive_data, archive_entries, archive_members, is_unindexed, lacks_index};
+ghost use Rattle.elf_model.specs.Inputs.ArchiveFile.{IsArchive};
+ghost use Rattle.elf_model.specs.Inputs.Opening.{AreArchives, HaveIndexes, archive_data, archive_entries, archive_members, is_unindexed, lacks_index};
 ghost use Rattle.opening.specs.Opened.{item_view};
 ghost use Rattle.opening.specs.Faults.{AreUnsearchable, IsUnsearchable};
 
@@ -20,7 +20,7 @@ pub struct Input<'a> {
 }
 
 impl<'a> Model for Input<'a> {
-    ghost use Rattle.elf_model.specs.Opening.{Opened};
+    ghost use Rattle.elf_model.specs.Inputs.Opening.{Opened};
     ghost use Rattle.opening.specs.Opened.{IsInput, item_view};
 
     ghost Value = { Opened };

@@ -2,9 +2,9 @@
 ghost use Rattle.std.specs.Prelude.{◌≡◌, ℕ, IfOk, IfSome, List, None, OnOk, Some, cond, option_copied, option_map, string_bytes};
 ghost use Rattle.std.specs.Option.{option_or};
 ghost use Rattle.std.specs.Str.{bytes_eq};
-ghost use Rattle.elf_model.specs.Files.{files_of};
-ghost use Rattle.elf_model.specs.FileIndex.{IsIndex, found};
-ghost use Rattle.elf_model.specs.Opening.{file_named};
+ghost use Rattle.elf_model.specs.Inputs.Files.{files_of};
+ghost use Rattle.elf_model.specs.Inputs.FileIndex.{IsIndex, found};
+ghost use Rattle.elf_model.specs.Inputs.Opening.{file_named};
 
 use elf_model::InputFile;
 use std::alloc::{AllocError, Global};
@@ -20,8 +20,8 @@ pub struct FileIndex<'a> {
 
 impl<'a> Model for FileIndex<'a> {
     ghost use Rattle.std.specs.Prelude.{List};
-    ghost use Rattle.elf_model.specs.Files.{File, files_of};
-    ghost use Rattle.elf_model.specs.FileIndex.{IsIndex};
+    ghost use Rattle.elf_model.specs.Inputs.Files.{File, files_of};
+    ghost use Rattle.elf_model.specs.Inputs.FileIndex.{IsIndex};
 
     ghost Value = { List File };
 

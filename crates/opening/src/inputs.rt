@@ -1,7 +1,7 @@
 //! The items of a plan, opened and read.
 ghost use Rattle.std.specs.Prelude.{◌≡◌, IfErr, IfOk, OnOk};
-ghost use Rattle.elf_model.specs.Files.{files_of};
-ghost use Rattle.elf_model.specs.Opening.{opened};
+ghost use Rattle.elf_model.specs.Inputs.Files.{files_of};
+ghost use Rattle.elf_model.specs.Inputs.Opening.{opened};
 ghost use Rattle.opening.specs.Faults.{IsSearchable, ReadsBadly};
 
 use crate::archives::{Input, read_inputs};

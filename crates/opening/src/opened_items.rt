@@ -1,8 +1,8 @@
 //! Finds the file of each item of a plan.
 ghost use Rattle.std.specs.Prelude.{◌≡◌, ℕ, ◌↔◌, All, IfErr, IfOk, IfSome, IsSome, OnOk, map, option_map};
 ghost use Rattle.command.specs.Views.{item_of, source_of, texts_of};
-ghost use Rattle.elf_model.specs.Command.{library_paths, paths_of};
-ghost use Rattle.elf_model.specs.Opening.{AreFilesThere, HasFile, opened, opened_from};
+ghost use Rattle.elf_model.specs.Inputs.Command.{library_paths, paths_of};
+ghost use Rattle.elf_model.specs.Inputs.Opening.{AreFilesThere, HasFile, opened, opened_from};
 ghost use Rattle.opening.specs.Opened.{found_view, first_found, item_view};
 ghost use Rattle.opening.specs.Faults.{OpensBadly};
 

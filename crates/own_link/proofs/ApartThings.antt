@@ -5,12 +5,12 @@ use Rattle.std.specs.Prelude.{◌^◌, All, AllPairs, Contains, filter}
 use Rattle.std.proofs.lemmas.List.{get_or-map, length-map}
 use Rattle.std.proofs.lemmas.List.Elements.{All-append, All-cons, All-contains, All-map, All-weaker, Contains-append_cases, Contains-append_left, Contains-append_right, Contains-get_or}
 use Rattle.std.proofs.lemmas.List.Kept.{AllPairs-cons, AllPairs-filter}
-use Rattle.elf_model.specs.Loading.{LoadedObject}
-use Rattle.elf_model.specs.ArrayOrder.{in_array_order, piece_rank, placed_in_array_order, placed_rank}
-use Rattle.elf_model.specs.Commons.{pieces}
-use Rattle.elf_model.specs.OwnLayout.{IsNotTooLarge, code_pieces, code_start, data_pieces, initial_pieces, loaded_start, own_code, own_data, own_headers_size, own_in_load_order, own_loaded, own_placed, own_places, own_read_only, own_thread_rest, placed_end, read_only_pieces, read_only_start, thread_rest_pieces, thread_rest_start, thread_start}
-use Rattle.elf_model.specs.Pieces.{AreLawfulKinds, Piece, is_thread_piece, is_thread_zero, kept_sections, load_size, same_output}
-use Rattle.elf_model.specs.Placement.{AreApart, IsNear, IsNext, IsPlaced, IsWithin, Placed, is_thread_place, range_of, thing_of, thread_ranges}
+use Rattle.elf_model.specs.Link.Loading.{LoadedObject}
+use Rattle.elf_model.specs.Link.ArrayOrder.{in_array_order, piece_rank, placed_in_array_order, placed_rank}
+use Rattle.elf_model.specs.Link.Commons.{pieces}
+use Rattle.elf_model.specs.Own.OwnLayout.{IsNotTooLarge, code_pieces, code_start, data_pieces, initial_pieces, loaded_start, own_code, own_data, own_headers_size, own_in_load_order, own_loaded, own_placed, own_places, own_read_only, own_thread_rest, placed_end, read_only_pieces, read_only_start, thread_rest_pieces, thread_rest_start, thread_start}
+use Rattle.elf_model.specs.Link.Pieces.{AreLawfulKinds, Piece, is_thread_piece, is_thread_zero, kept_sections, load_size, same_output}
+use Rattle.elf_model.specs.Link.Placement.{AreApart, IsNear, IsNext, IsPlaced, IsWithin, Placed, is_thread_place, range_of, thing_of, thread_ranges}
 use Rattle.elf_model.specs.declared.thing.Thing.{Thing}
 use Rattle.elf_model.proofs.ArrayOrder.{Contains-from_by_rank, map_by_rank}
 use Rattle.elf_model.proofs.Listed.{All-from_contains, Contains-from_filter}

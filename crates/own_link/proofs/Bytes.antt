@@ -5,11 +5,11 @@ use Rattle.std.proofs.lemmas.Bool.{and_from, and_parts, eqb-true, eqb-false, fal
 use Rattle.std.proofs.lemmas.List.Elements.{All-contains}
 use Rattle.std.proofs.lemmas.List.Folds.{list_any-from_Any, list_any_none}
 use Rattle.std.proofs.lemmas.Option.{none-some, same_Some}
-use Rattle.elf_model.specs.ImageFile.{HeaderFields, covers_address, fill_at, is_code_part}
-use Rattle.elf_model.specs.MemoryImage.{Cell, cell_of, file_end, maps, memory_of, segment_byte}
-use Rattle.elf_model.specs.OwnLayout.{placed_end}
-use Rattle.elf_model.specs.Placement.{Placed}
-use Rattle.elf_model.specs.RightLink.{fill_of}
+use Rattle.elf_model.specs.Own.ImageFile.{HeaderFields, covers_address, fill_at, is_code_part}
+use Rattle.elf_model.specs.Image.MemoryImage.{Cell, cell_of, file_end, maps, memory_of, segment_byte}
+use Rattle.elf_model.specs.Own.OwnLayout.{placed_end}
+use Rattle.elf_model.specs.Link.Placement.{Placed}
+use Rattle.elf_model.specs.Image.RightLink.{fill_of}
 use Rattle.elf_model.specs.declared.records.ProgramHeader.{ProgramHeader}
 use Rattle.elf_model.proofs.Addresses.{mapped, maps-true}
 use Rattle.own_link.proofs.Ends.{FileEndsBelow, file_end-holds}

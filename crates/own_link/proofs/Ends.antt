@@ -3,9 +3,9 @@ use Rattle.std.proofs.Common.{◌≡◌, ℕ, ◌+◌, ◌<◌, ◌≤◌, ◌&&
 use Rattle.std.specs.Prelude.{All, Any, max, nat_lt}
 use Rattle.std.proofs.lemmas.Bool.{and_parts, cases_lt, cond_both, lt-ltb, ltb-true, ltb-false}
 use Rattle.std.proofs.lemmas.List.Elements.{All-cons, All-nil, All-head, All-tail}
-use Rattle.elf_model.specs.MemoryImage.{file_end}
-use Rattle.elf_model.specs.OwnLayout.{any_placed, greatest_end, is_nonempty, placed_end}
-use Rattle.elf_model.specs.Placement.{Placed}
+use Rattle.elf_model.specs.Image.MemoryImage.{file_end}
+use Rattle.elf_model.specs.Own.OwnLayout.{any_placed, greatest_end, is_nonempty, placed_end}
+use Rattle.elf_model.specs.Link.Placement.{Placed}
 use Rattle.elf_model.specs.declared.records.ProgramHeader.{ProgramHeader}
 use Rattle.elf_model.proofs.Finding.{Any-here, Any-there}
 

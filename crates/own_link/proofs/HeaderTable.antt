@@ -6,8 +6,8 @@ use Rattle.std.proofs.lemmas.List.{take_at, drop_at, length-append}
 use Rattle.std.proofs.lemmas.List.Elements.{All-head, All-tail}
 use Rattle.byteview.specs.Numbers.{part}
 use Rattle.elf_model.proofs.RecordLaws.{file_header-again, program_header_written, length-program_header_bytes, length-file_header_bytes}
-use Rattle.elf_model.specs.MemoryImage.{program_headers, program_header_at}
-use Rattle.elf_model.specs.Records.{file_header, file_header_bytes, program_header_bytes, FitsFileHeader, FitsProgramHeader}
+use Rattle.elf_model.specs.Image.MemoryImage.{program_headers, program_header_at}
+use Rattle.elf_model.specs.Inputs.Records.{file_header, file_header_bytes, program_header_bytes, FitsFileHeader, FitsProgramHeader}
 use Rattle.elf_model.specs.declared.records.FileHeader.{FileHeader}
 use Rattle.elf_model.specs.declared.records.ProgramHeader.{ProgramHeader}
 

@@ -2,11 +2,11 @@
 use Rattle.std.proofs.Common.{◌≡◌, ℕ, ◌+◌, ◌<◌, ◌≤◌, ◌⊎◌, inl, inr, true, false, List, sym, ◌∙◌, ap, arith}
 use Rattle.std.specs.Prelude.{Contains, Some, option_map}
 use Rattle.std.proofs.lemmas.Bool.{cases_Bool, cases_lt}
-use Rattle.elf_model.specs.ImageFile.{HeaderFields}
-use Rattle.elf_model.specs.MemoryImage.{Cell, segment_byte}
-use Rattle.elf_model.specs.OwnLayout.{placed_has_bytes}
-use Rattle.elf_model.specs.Placement.{Placed}
-use Rattle.elf_model.specs.RightLink.{byte_at}
+use Rattle.elf_model.specs.Own.ImageFile.{HeaderFields}
+use Rattle.elf_model.specs.Image.MemoryImage.{Cell, segment_byte}
+use Rattle.elf_model.specs.Own.OwnLayout.{placed_has_bytes}
+use Rattle.elf_model.specs.Link.Placement.{Placed}
+use Rattle.elf_model.specs.Image.RightLink.{byte_at}
 use Rattle.elf_model.proofs.Addresses.{maps-true}
 use Rattle.own_link.proofs.Bytes.{byte_here, file_byte, memory_at, piece_byte, zero_byte}
 use Rattle.own_link.proofs.ImageRead.{IsOwnFile}

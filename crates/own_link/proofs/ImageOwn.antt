@@ -6,21 +6,21 @@ use Rattle.std.specs.List.{list_any}
 use Rattle.std.specs.Option.{option_map_or}
 use Rattle.std.proofs.lemmas.List.{append-nil}
 use Rattle.std.proofs.lemmas.List.Folds.{list_any_none}
-use Rattle.elf_model.specs.Command.{IsBase}
-use Rattle.elf_model.specs.Commons.{block_pieces, pieces}
-use Rattle.elf_model.specs.ImageFile.{HeaderFields, image_file, own_end, own_fields, own_file_header, own_tables}
-use Rattle.elf_model.specs.Loading.{AreObjects, LoadedObject}
-use Rattle.elf_model.specs.MemoryImage.{IsImage, loads, thread_blocks}
-use Rattle.elf_model.specs.LinkerValues.{least_of, start_of_pieces}
-use Rattle.elf_model.specs.OwnLayout.{IsNotTooLarge, code_pieces, code_start, count_if, data_pieces, data_start, got_piece, has_thread_pieces, header_count, is_nonempty, own_address, own_code, own_data, own_headers_size, own_in_load_order, own_where, own_loaded, own_read_only, own_segments, placed_has_bytes, read_only_start, segment}
-use Rattle.elf_model.specs.Pieces.{AreLawfulKinds, Piece, is_thread_piece, kept_sections}
-use Rattle.elf_model.specs.Meaning.{Meaning}
-use Rattle.elf_model.specs.Placement.{Placed, headers_thing}
-use Rattle.elf_model.specs.Records.{file_header}
-use Rattle.elf_model.specs.RightLink.{HasNothingElse, HoldsPiece, byte_at}
-use Rattle.elf_model.specs.Slots.{got_bytes, got_size, has_got}
-use Rattle.elf_model.specs.SymbolTable.{tables_end}
-use Rattle.elf_model.specs.ThreadStorage.{block_from, thread_header, thread_headers}
+use Rattle.elf_model.specs.Inputs.Command.{IsBase}
+use Rattle.elf_model.specs.Link.Commons.{block_pieces, pieces}
+use Rattle.elf_model.specs.Own.ImageFile.{HeaderFields, image_file, own_end, own_fields, own_file_header, own_tables}
+use Rattle.elf_model.specs.Link.Loading.{AreObjects, LoadedObject}
+use Rattle.elf_model.specs.Image.MemoryImage.{IsImage, loads, thread_blocks}
+use Rattle.elf_model.specs.Link.LinkerValues.{least_of, start_of_pieces}
+use Rattle.elf_model.specs.Own.OwnLayout.{IsNotTooLarge, code_pieces, code_start, count_if, data_pieces, data_start, got_piece, has_thread_pieces, header_count, is_nonempty, own_address, own_code, own_data, own_headers_size, own_in_load_order, own_where, own_loaded, own_read_only, own_segments, placed_has_bytes, read_only_start, segment}
+use Rattle.elf_model.specs.Link.Pieces.{AreLawfulKinds, Piece, is_thread_piece, kept_sections}
+use Rattle.elf_model.specs.Link.Meaning.{Meaning}
+use Rattle.elf_model.specs.Link.Placement.{Placed, headers_thing}
+use Rattle.elf_model.specs.Inputs.Records.{file_header}
+use Rattle.elf_model.specs.Image.RightLink.{HasNothingElse, HoldsPiece, byte_at}
+use Rattle.elf_model.specs.Link.Slots.{got_bytes, got_size, has_got}
+use Rattle.elf_model.specs.Image.SymbolTable.{tables_end}
+use Rattle.elf_model.specs.Link.ThreadStorage.{block_from, thread_header, thread_headers}
 use Rattle.elf_model.specs.declared.link_map.SymtabLine.{SymtabLine}
 use Rattle.elf_model.specs.declared.records.ProgramHeader.{ProgramHeader}
 use Rattle.own_link.proofs.Bytes.{byte_here}

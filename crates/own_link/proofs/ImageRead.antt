@@ -5,9 +5,9 @@ use Rattle.std.specs.List.{flat_map, range_with_len}
 use Rattle.std.proofs.lemmas.List.{drop_at, get_or-append_right, get_or_append_left, length-append}
 use Rattle.std.proofs.lemmas.List.Elements.{All-append, All-cons, All-contains, All-nil, All-weaker}
 use Rattle.std.proofs.lemmas.List.FromFn.{get_or-map-range_with_len, length-map-range_with_len}
-use Rattle.elf_model.specs.ImageFile.{HeaderFields, own_file_header, stack_header}
-use Rattle.elf_model.specs.MemoryImage.{HasNoSections, HasSections, IsGoodThreadBlock, file_end, program_headers}
-use Rattle.elf_model.specs.Records.{file_header, file_header_bytes, program_header_bytes, FitsFileHeader, FitsProgramHeader}
+use Rattle.elf_model.specs.Own.ImageFile.{HeaderFields, own_file_header, stack_header}
+use Rattle.elf_model.specs.Image.MemoryImage.{HasNoSections, HasSections, IsGoodThreadBlock, file_end, program_headers}
+use Rattle.elf_model.specs.Inputs.Records.{file_header, file_header_bytes, program_header_bytes, FitsFileHeader, FitsProgramHeader}
 use Rattle.elf_model.specs.declared.records.FileHeader.{FileHeader}
 use Rattle.elf_model.specs.declared.records.ProgramHeader.{ProgramHeader}
 use Rattle.own_link.proofs.Ends.{FileEndsBelow, file_end-holds}

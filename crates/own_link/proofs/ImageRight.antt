@@ -6,9 +6,9 @@ use Rattle.std.proofs.lemmas.Bool.{eq-eqb, ne_eqb}
 use Rattle.std.proofs.lemmas.List.{append-nil, drop_at, get_or-append_right, get_or_append_left, length-append, take_at}
 use Rattle.std.proofs.lemmas.List.Elements.{All-append, All-cons, All-get_or, All-head, All-nil, All-weaker, filter-append}
 use Rattle.std.proofs.lemmas.List.Sums.{prefix_len_is}
-use Rattle.elf_model.specs.ImageFile.{HeaderFields, own_file_header, stack_header}
-use Rattle.elf_model.specs.MemoryImage.{AreGoodSegments, HasNoSections, HasSections, HoldsHeaders, IsGoodLoad, IsGoodStack, IsGoodThreadBlock, IsImage, IsImageHeader, IsInOrder, IsTail, ShareNoPage, file_end, first_address, headers_size, is_load, is_thread_block, loads, loads_in, thread_blocks}
-use Rattle.elf_model.specs.Placement.{headers_thing}
+use Rattle.elf_model.specs.Own.ImageFile.{HeaderFields, own_file_header, stack_header}
+use Rattle.elf_model.specs.Image.MemoryImage.{AreGoodSegments, HasNoSections, HasSections, HoldsHeaders, IsGoodLoad, IsGoodStack, IsGoodThreadBlock, IsImage, IsImageHeader, IsInOrder, IsTail, ShareNoPage, file_end, first_address, headers_size, is_load, is_thread_block, loads, loads_in, thread_blocks}
+use Rattle.elf_model.specs.Link.Placement.{headers_thing}
 use Rattle.elf_model.specs.declared.records.FileHeader.{FileHeader}
 use Rattle.elf_model.specs.declared.records.ProgramHeader.{ProgramHeader}
 use Rattle.own_link.proofs.Ends.{FileEndsBelow, file_end-holds}

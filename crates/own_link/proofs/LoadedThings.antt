@@ -4,13 +4,13 @@ use Rattle.std.proofs.Common.{◌≡◌, ◌⊎◌, inl, inr, ℕ, ◌+◌, ◌<
 use Rattle.std.specs.Prelude.{All, Any, Contains, Option}
 use Rattle.std.proofs.lemmas.Bool.{false≢true}
 use Rattle.std.proofs.lemmas.List.Elements.{All-contains, All-cons, Contains-append_cases, Contains-append_left}
-use Rattle.elf_model.specs.Loading.{LoadedObject}
-use Rattle.elf_model.specs.MemoryImage.{loads}
-use Rattle.elf_model.specs.OwnLayout.{got_piece, own_headers_size, own_loaded, own_placed, own_thread_rest}
-use Rattle.elf_model.specs.Pieces.{AreLawfulKinds, is_thread_zero, load_size}
-use Rattle.elf_model.specs.Placement.{Covers, Placed, range_of, thing_of}
-use Rattle.elf_model.specs.RightLink.{EndsRight, HasNothingElse, IsOfSegment}
-use Rattle.elf_model.specs.Slots.{has_got}
+use Rattle.elf_model.specs.Link.Loading.{LoadedObject}
+use Rattle.elf_model.specs.Image.MemoryImage.{loads}
+use Rattle.elf_model.specs.Own.OwnLayout.{got_piece, own_headers_size, own_loaded, own_placed, own_thread_rest}
+use Rattle.elf_model.specs.Link.Pieces.{AreLawfulKinds, is_thread_zero, load_size}
+use Rattle.elf_model.specs.Link.Placement.{Covers, Placed, range_of, thing_of}
+use Rattle.elf_model.specs.Image.RightLink.{EndsRight, HasNothingElse, IsOfSegment}
+use Rattle.elf_model.specs.Link.Slots.{has_got}
 use Rattle.elf_model.specs.declared.link_map.SymtabLine.{SymtabLine}
 use Rattle.elf_model.specs.declared.records.ProgramHeader.{ProgramHeader}
 use Rattle.elf_model.specs.declared.thing.Thing.{Thing}

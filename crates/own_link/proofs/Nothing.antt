@@ -4,11 +4,11 @@ use Rattle.std.proofs.Common.{◌≡◌, ℕ, ◌+◌, ◌-◌, ◌<◌, ◌≤�
 use Rattle.std.specs.Prelude.{All, Contains, Option, None, map, ◌==◌}
 use Rattle.std.proofs.lemmas.Bool.{cases_Bool, cases_lt, eqb-true, false_from_ne_true}
 use Rattle.std.proofs.lemmas.List.Elements.{All-contains, All-head, All-tail}
-use Rattle.elf_model.specs.ImageFile.{HeaderFields, covers_address}
-use Rattle.elf_model.specs.MemoryImage.{Cell, file_end, loads, maps, segment_byte}
-use Rattle.elf_model.specs.OwnLayout.{placed_end, placed_has_bytes}
-use Rattle.elf_model.specs.Placement.{Covers, Placed, range_of}
-use Rattle.elf_model.specs.RightLink.{EndsRight, HasNothingElse, IsFilled, IsInFilePart, fill_of}
+use Rattle.elf_model.specs.Own.ImageFile.{HeaderFields, covers_address}
+use Rattle.elf_model.specs.Image.MemoryImage.{Cell, file_end, loads, maps, segment_byte}
+use Rattle.elf_model.specs.Own.OwnLayout.{placed_end, placed_has_bytes}
+use Rattle.elf_model.specs.Link.Placement.{Covers, Placed, range_of}
+use Rattle.elf_model.specs.Image.RightLink.{EndsRight, HasNothingElse, IsFilled, IsInFilePart, fill_of}
 use Rattle.elf_model.specs.declared.link_map.SymtabLine.{SymtabLine}
 use Rattle.elf_model.specs.declared.records.ProgramHeader.{ProgramHeader}
 use Rattle.elf_model.specs.declared.thing.Thing.{Thing}

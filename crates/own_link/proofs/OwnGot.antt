@@ -1,10 +1,10 @@
 -- The own GOT: where there is one it has a first word and its slots, which stand behind it.
 use Rattle.std.proofs.Common.{◌≡◌, ℕ, ◌+◌, ◌<◌, Bool, true, cond, List, [], ◌∷◌, length, suc, refl, sym, ap, subst, arith}
 use Rattle.std.specs.Prelude.{Contains}
-use Rattle.elf_model.specs.Loading.{LoadedObject}
-use Rattle.elf_model.specs.OwnLayout.{got_piece, got_pieces, slots_from}
-use Rattle.elf_model.specs.RightLink.{StandFrom}
-use Rattle.elf_model.specs.Slots.{Request, got_size, has_got, size_with, slots}
+use Rattle.elf_model.specs.Link.Loading.{LoadedObject}
+use Rattle.elf_model.specs.Own.OwnLayout.{got_piece, got_pieces, slots_from}
+use Rattle.elf_model.specs.Image.RightLink.{StandFrom}
+use Rattle.elf_model.specs.Link.Slots.{Request, got_size, has_got, size_with, slots}
 use Rattle.elf_model.proofs.Listed.{Contains-here}
 
 pub got_there : (objects : List LoadedObject) → has_got objects ≡ true → Contains (got_pieces objects) (got_piece objects)

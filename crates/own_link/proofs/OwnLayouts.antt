@@ -1,11 +1,11 @@
 -- The own layout has each piece once, in load order, and a GOT just where one is asked for.
 use Rattle.std.proofs.Common.{◌≡◌, ℕ, Bool, true, false, cond, List, [], ◌∷◌, None, Some, map, refl, ap}
 use Rattle.std.specs.Prelude.{is_some}
-use Rattle.elf_model.specs.Commons.{pieces}
-use Rattle.elf_model.specs.Loading.{LoadedObject}
-use Rattle.elf_model.specs.OwnLayout.{got_line_of, own_got, own_in_load_order, own_places}
-use Rattle.elf_model.specs.Pieces.{Piece}
-use Rattle.elf_model.specs.Slots.{has_got}
+use Rattle.elf_model.specs.Link.Commons.{pieces}
+use Rattle.elf_model.specs.Link.Loading.{LoadedObject}
+use Rattle.elf_model.specs.Own.OwnLayout.{got_line_of, own_got, own_in_load_order, own_places}
+use Rattle.elf_model.specs.Link.Pieces.{Piece}
+use Rattle.elf_model.specs.Link.Slots.{has_got}
 
 placed_again : (base : ℕ) (objects : List LoadedObject) (ps : List Piece) → map (λ q. q.piece) (own_places base objects ps) ≡ ps
 placed_again base objects [] = refl

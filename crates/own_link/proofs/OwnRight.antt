@@ -5,26 +5,26 @@ use Rattle.std.specs.Option.{option_and_then}
 use Rattle.std.proofs.lemmas.Bool.{false≢true}
 use Rattle.std.proofs.lemmas.List.{map-append}
 use Rattle.std.proofs.lemmas.List.Elements.{All-head, All-tail}
-use Rattle.elf_model.specs.ArrayOrder.{placed_in_array_order}
-use Rattle.elf_model.specs.Causes.{HasObjects, IsLinkable, IsReferred, IsResolved}
-use Rattle.elf_model.specs.Command.{IsBase, Plan}
-use Rattle.elf_model.specs.Files.{File}
-use Rattle.elf_model.specs.Commons.{Block, block_named, block_piece, block_pieces, blocks}
-use Rattle.elf_model.specs.ImageFile.{IsOwnMap, common_row_of, fields_with, fields_without, image_file, own_end, own_entry, own_fields, own_file_header, own_tabled, own_tables, place_row_of, symtab_line_of}
-use Rattle.elf_model.specs.Loading.{LoadedObject, loaded_objects}
-use Rattle.elf_model.specs.MapRecord.{CommonRow, MapRecord, PlaceRow}
-use Rattle.elf_model.specs.MapText.{IsMap, text}
-use Rattle.elf_model.specs.Meaning.{Meaning, meaning_value, meant, object_meaning}
-use Rattle.elf_model.specs.MemoryImage.{HasNoSections, file_end, loads}
-use Rattle.elf_model.specs.OwnLayout.{got_line_of, got_piece, header_count, own_address, own_in_load_order, own_places, own_segments, own_where}
-use Rattle.elf_model.specs.Pieces.{Piece, kept_sections}
-use Rattle.elf_model.specs.Placement.{HasRights, IsPlaced, Placed, Where, got_things, common_address, headers_thing, is_common_row_of, placed_block, placed_blocks, placed_by, thing_of, thread_ranges, things}
-use Rattle.elf_model.specs.Records.{file_header}
-use Rattle.elf_model.specs.RelocationValues.{AllFit}
-use Rattle.elf_model.specs.Resolution.{SymbolOf, chosen, is_in_thread_section}
-use Rattle.elf_model.specs.RightLink.{AreRelocationsRight, AreSectionsListed, AreSymbolsListed, AreTablesRight, EntersRight, HasLine, HasNothingElse, HasSlot, Holds, HoldsGot, HoldsPiece, HoldsTables, IsThreadBlockRight, IsGotRight, IsLoaded, IsRightLink, Subject, facts_of_block, facts_of_common, facts_of_piece, facts_of_row, placed_of, sections_of, where_of, things_of}
-use Rattle.elf_model.specs.SymbolTable.{headers_at, name_section, shstrtab_end, symtab_at, tabled, tables}
-use Rattle.elf_model.specs.Slots.{Request, has_got, is_slot_of, requests, size_with, slots}
+use Rattle.elf_model.specs.Link.ArrayOrder.{placed_in_array_order}
+use Rattle.elf_model.specs.Own.Causes.{HasObjects, IsLinkable, IsReferred, IsResolved}
+use Rattle.elf_model.specs.Inputs.Command.{IsBase, Plan}
+use Rattle.elf_model.specs.Inputs.Files.{File}
+use Rattle.elf_model.specs.Link.Commons.{Block, block_named, block_piece, block_pieces, blocks}
+use Rattle.elf_model.specs.Own.ImageFile.{IsOwnMap, common_row_of, fields_with, fields_without, image_file, own_end, own_entry, own_fields, own_file_header, own_tabled, own_tables, place_row_of, symtab_line_of}
+use Rattle.elf_model.specs.Link.Loading.{LoadedObject, loaded_objects}
+use Rattle.elf_model.specs.Image.MapRecord.{CommonRow, MapRecord, PlaceRow}
+use Rattle.elf_model.specs.Image.MapText.{IsMap, text}
+use Rattle.elf_model.specs.Link.Meaning.{Meaning, meaning_value, meant, object_meaning}
+use Rattle.elf_model.specs.Image.MemoryImage.{HasNoSections, file_end, loads}
+use Rattle.elf_model.specs.Own.OwnLayout.{got_line_of, got_piece, header_count, own_address, own_in_load_order, own_places, own_segments, own_where}
+use Rattle.elf_model.specs.Link.Pieces.{Piece, kept_sections}
+use Rattle.elf_model.specs.Link.Placement.{HasRights, IsPlaced, Placed, Where, got_things, common_address, headers_thing, is_common_row_of, placed_block, placed_blocks, placed_by, thing_of, thread_ranges, things}
+use Rattle.elf_model.specs.Inputs.Records.{file_header}
+use Rattle.elf_model.specs.Link.RelocationValues.{AllFit}
+use Rattle.elf_model.specs.Link.Resolution.{SymbolOf, chosen, is_in_thread_section}
+use Rattle.elf_model.specs.Image.RightLink.{AreRelocationsRight, AreSectionsListed, AreSymbolsListed, AreTablesRight, EntersRight, HasLine, HasNothingElse, HasSlot, Holds, HoldsGot, HoldsPiece, HoldsTables, IsThreadBlockRight, IsGotRight, IsLoaded, IsRightLink, Subject, facts_of_block, facts_of_common, facts_of_piece, facts_of_row, placed_of, sections_of, where_of, things_of}
+use Rattle.elf_model.specs.Image.SymbolTable.{headers_at, name_section, shstrtab_end, symtab_at, tabled, tables}
+use Rattle.elf_model.specs.Link.Slots.{Request, has_got, is_slot_of, requests, size_with, slots}
 use Rattle.elf_model.specs.declared.link_map.GotLine.{GotLine}
 use Rattle.elf_model.specs.declared.link_map.SymtabLine.{SymtabLine}
 use Rattle.elf_model.specs.declared.records.FileHeader.{FileHeader}

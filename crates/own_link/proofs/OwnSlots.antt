@@ -2,13 +2,13 @@
 use Rattle.std.proofs.Common.{◌≡◌, ℕ, zero, suc, ◌+◌, ◌*◌, ◌<◌, ◌≤◌, ◌^◌, Bool, true, false, List, [], ◌∷◌, length, get_or, refl, ◌∙◌, ap, arith}
 use Rattle.std.specs.Prelude.{All, Option, Some, None, find, option_map, unwrap_or}
 use Rattle.std.proofs.lemmas.List.Elements.{All-contains, All-cons, All-head, All-nil, All-tail}
-use Rattle.elf_model.specs.Loading.{LoadedObject}
-use Rattle.elf_model.specs.MapRecord.{SlotRow}
-use Rattle.elf_model.specs.MapText.{Ascends, FitsSlot, FitsTarget, SlotBefore}
-use Rattle.elf_model.specs.OwnLayout.{IsNotTooLarge, got_piece, own_address, own_placed, placed_end, slot_at, slots_from}
-use Rattle.elf_model.specs.Pieces.{AreLawfulKinds}
-use Rattle.elf_model.specs.Placement.{Placed, is_of_section}
-use Rattle.elf_model.specs.Slots.{Request, has_got, slots}
+use Rattle.elf_model.specs.Link.Loading.{LoadedObject}
+use Rattle.elf_model.specs.Image.MapRecord.{SlotRow}
+use Rattle.elf_model.specs.Image.MapText.{Ascends, FitsSlot, FitsTarget, SlotBefore}
+use Rattle.elf_model.specs.Own.OwnLayout.{IsNotTooLarge, got_piece, own_address, own_placed, placed_end, slot_at, slots_from}
+use Rattle.elf_model.specs.Link.Pieces.{AreLawfulKinds}
+use Rattle.elf_model.specs.Link.Placement.{Placed, is_of_section}
+use Rattle.elf_model.specs.Link.Slots.{Request, has_got, slots}
 use Rattle.elf_model.proofs.Finding.{find-found}
 pub use Rattle.elf_model.proofs.NoSlots.{no_slots}
 use Rattle.elf_model.proofs.Places.{at_own_address, got_listed}

@@ -3,12 +3,12 @@ use Rattle.std.proofs.Common.{◌≡◌, ◌⊎◌, inl, inr, ℕ, ◌≤◌, Bo
 use Rattle.std.specs.Prelude.{All, AllPairs, Contains, Some, None, map}
 use Rattle.std.proofs.lemmas.List.{map-append}
 use Rattle.std.proofs.lemmas.List.Elements.{All-weaker, Contains-append_cases, Contains-append_left, Contains-append_right}
-use Rattle.elf_model.specs.Commons.{pieces}
-use Rattle.elf_model.specs.Loading.{LoadedObject}
-use Rattle.elf_model.specs.OwnLayout.{got_line_of, got_piece, got_pieces, laid_out, own_got, own_headers_size, own_in_load_order, own_laid_out, own_placed, own_places}
-use Rattle.elf_model.specs.Pieces.{AreLawfulKinds, Piece}
-use Rattle.elf_model.specs.Placement.{Placed, got_things, range_of, thing_of}
-use Rattle.elf_model.specs.Slots.{has_got}
+use Rattle.elf_model.specs.Link.Commons.{pieces}
+use Rattle.elf_model.specs.Link.Loading.{LoadedObject}
+use Rattle.elf_model.specs.Own.OwnLayout.{got_line_of, got_piece, got_pieces, laid_out, own_got, own_headers_size, own_in_load_order, own_laid_out, own_placed, own_places}
+use Rattle.elf_model.specs.Link.Pieces.{AreLawfulKinds, Piece}
+use Rattle.elf_model.specs.Link.Placement.{Placed, got_things, range_of, thing_of}
+use Rattle.elf_model.specs.Link.Slots.{has_got}
 use Rattle.elf_model.specs.declared.thing.Thing.{Thing}
 use Rattle.elf_model.proofs.Listed.{Contains-from_map, Contains-map}
 use Rattle.elf_model.proofs.Pairs.{AllPairs-append}

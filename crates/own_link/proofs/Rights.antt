@@ -5,12 +5,12 @@ use Rattle.std.specs.Prelude.{All, Contains, Some, None}
 use Rattle.std.specs.List.{list_any}
 use Rattle.std.proofs.lemmas.Bool.{and_parts, false_from_ne_true, lt-ltb, not-true, or_left, or_right}
 use Rattle.std.proofs.lemmas.List.Elements.{All-append, All-cons, All-contains, All-nil, Contains-append_left, Contains-append_right}
-use Rattle.elf_model.specs.Loading.{LoadedObject}
-use Rattle.elf_model.specs.MemoryImage.{Encloses}
-use Rattle.elf_model.specs.OwnLayout.{any_placed, code_pieces, code_start, data_pieces, data_start, greatest_end, is_code, is_nonempty, is_read_only, laid_out, loaded_start, own_code, own_data, own_loaded, own_read_only, own_segments, own_got, got_line_of, got_piece, placed_from, read_only_start, segment, segment_if}
-use Rattle.elf_model.specs.Pieces.{AreLawfulKinds, IsLawfulKind, Piece, is_executable, is_writable, piece_rights}
-use Rattle.elf_model.specs.Placement.{HasRights, LiesInSegment, Placed, got_things, range_of}
-use Rattle.elf_model.specs.Slots.{has_got}
+use Rattle.elf_model.specs.Link.Loading.{LoadedObject}
+use Rattle.elf_model.specs.Image.MemoryImage.{Encloses}
+use Rattle.elf_model.specs.Own.OwnLayout.{any_placed, code_pieces, code_start, data_pieces, data_start, greatest_end, is_code, is_nonempty, is_read_only, laid_out, loaded_start, own_code, own_data, own_loaded, own_read_only, own_segments, own_got, got_line_of, got_piece, placed_from, read_only_start, segment, segment_if}
+use Rattle.elf_model.specs.Link.Pieces.{AreLawfulKinds, IsLawfulKind, Piece, is_executable, is_writable, piece_rights}
+use Rattle.elf_model.specs.Link.Placement.{HasRights, LiesInSegment, Placed, got_things, range_of}
+use Rattle.elf_model.specs.Link.Slots.{has_got}
 use Rattle.elf_model.specs.declared.records.ProgramHeader.{ProgramHeader}
 use Rattle.own_link.proofs.LoadedThings.{got_loaded, nonempty_of_all}
 use Rattle.own_link.proofs.Ends.{EndsBelow, greatest_end-from, greatest_end-holds}

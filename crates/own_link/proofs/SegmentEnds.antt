@@ -2,9 +2,9 @@
 use Rattle.std.proofs.Common.{◌≡◌, ℕ, ◌+◌, ◌<◌, ◌≤◌, ◌⊎◌, inl, inr, Bool, true, List, refl, subst, arith}
 use Rattle.std.specs.Prelude.{All, Any, Contains, map}
 use Rattle.std.proofs.lemmas.List.Elements.{All-cons, All-contains}
-use Rattle.elf_model.specs.OwnLayout.{any_placed, placed_end, placed_has_bytes}
-use Rattle.elf_model.specs.Placement.{Placed, range_of}
-use Rattle.elf_model.specs.RightLink.{EndsRight, IsOfSegment}
+use Rattle.elf_model.specs.Own.OwnLayout.{any_placed, placed_end, placed_has_bytes}
+use Rattle.elf_model.specs.Link.Placement.{Placed, range_of}
+use Rattle.elf_model.specs.Image.RightLink.{EndsRight, IsOfSegment}
 use Rattle.elf_model.specs.declared.records.ProgramHeader.{ProgramHeader}
 use Rattle.elf_model.specs.declared.thing.Thing.{Thing}
 use Rattle.elf_model.proofs.Addresses.{maps-true}

@@ -3,7 +3,7 @@ use Rattle.std.proofs.Common.{◌≡◌, ℕ, ◌+◌, ◌-◌, ◌%◌, ◌^◌
 use Rattle.std.specs.Prelude.{All, AllPairs, Contains, filter}
 use Rattle.std.proofs.lemmas.List.Elements.{All-contains, All-filter, filter_passes}
 use Rattle.std.proofs.lemmas.List.Kept.{AllPairs-filter}
-use Rattle.elf_model.specs.OwnLayout.{placed_has_bytes}
+use Rattle.elf_model.specs.Own.OwnLayout.{placed_has_bytes}
 use Rattle.elf_model.specs.declared.records.ProgramHeader.{ProgramHeader}
 use Rattle.own_link.proofs.Ends.{greatest_end-from, greatest_end-less, greatest_end-same}
 use Rattle.elf_model.proofs.Listed.{All-from_contains, Contains-filter, Contains-from_filter, Contains-from_map, Contains-map}

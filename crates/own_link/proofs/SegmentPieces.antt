@@ -4,8 +4,8 @@ use Rattle.std.specs.Prelude.{AllPairs, Contains}
 use Rattle.std.specs.List.{flat_map}
 use Rattle.std.proofs.lemmas.Bool.{cases_Bool}
 use Rattle.std.proofs.lemmas.List.Elements.{All-contains}
-use Rattle.elf_model.specs.OwnLayout.{any_placed, placed_end, placed_has_bytes}
-use Rattle.elf_model.specs.Placement.{Placed}
+use Rattle.elf_model.specs.Own.OwnLayout.{any_placed, placed_end, placed_has_bytes}
+use Rattle.elf_model.specs.Link.Placement.{Placed}
 use Rattle.own_link.proofs.Ends.{EndsBelow, greatest_end-holds}
 use Rattle.elf_model.proofs.Listed.{Contains-flat_map, Contains-from_flat_map}
 use Rattle.own_link.proofs.SegmentHeaders.{part_file_ends, part_from, part_memory_end, segment_there}

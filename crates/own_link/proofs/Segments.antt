@@ -4,10 +4,10 @@ use Rattle.std.specs.Prelude.{All, AllPairs, Any, Contains, filter, map}
 use Rattle.std.specs.List.{list_any}
 use Rattle.std.proofs.lemmas.Bool.{false≢true, ltb-true, ltb-false, or_cases, or_parts}
 use Rattle.std.proofs.lemmas.List.Elements.{All-cons, All-nil, All-contains}
-use Rattle.elf_model.specs.Loading.{LoadedObject}
-use Rattle.elf_model.specs.OwnLayout.{any_placed, code_pieces, code_start, data_pieces, data_start, greatest_end, is_nonempty, loaded_start, own_read_only, own_segments, place_at, placed_end, placed_from, placed_has_bytes, read_only_start, segment}
-use Rattle.elf_model.specs.Pieces.{Piece}
-use Rattle.elf_model.specs.Placement.{Placed}
+use Rattle.elf_model.specs.Link.Loading.{LoadedObject}
+use Rattle.elf_model.specs.Own.OwnLayout.{any_placed, code_pieces, code_start, data_pieces, data_start, greatest_end, is_nonempty, loaded_start, own_read_only, own_segments, place_at, placed_end, placed_from, placed_has_bytes, read_only_start, segment}
+use Rattle.elf_model.specs.Link.Pieces.{Piece}
+use Rattle.elf_model.specs.Link.Placement.{Placed}
 use Rattle.elf_model.specs.declared.records.ProgramHeader.{ProgramHeader}
 use Rattle.own_link.proofs.Ends.{EndsBelow, greatest_end-below, greatest_end-holds}
 use Rattle.elf_model.proofs.Finding.{Any-here, Any-there}

@@ -5,11 +5,11 @@ use Rattle.std.proofs.Math.Nat.{mul-mod_left}
 use Rattle.std.proofs.lemmas.Bool.{true≢false}
 use Rattle.std.proofs.lemmas.List.Elements.{All-cons, All-nil, All-contains, All-map, All-weaker, Contains-append_left, Contains-append_right}
 use Rattle.std.proofs.lemmas.List.Kept.{AllPairs-cons}
-use Rattle.elf_model.specs.Command.{IsBase}
-use Rattle.elf_model.specs.Loading.{LoadedObject}
-use Rattle.elf_model.specs.OwnLayout.{IsNotTooLarge, any_placed, code_pieces, code_start, data_pieces, data_start, greatest_end, is_code, is_read_only, laid_out, loaded_start, own_address, own_code, own_data, own_headers_size, own_laid_out, own_loaded, own_read_only, own_thread_rest, page_up, placed_end, placed_has_bytes, read_only_start}
-use Rattle.elf_model.specs.Pieces.{AreLawfulKinds, IsLawfulKind, is_executable, is_nobits, is_writable}
-use Rattle.elf_model.specs.Placement.{Placed}
+use Rattle.elf_model.specs.Inputs.Command.{IsBase}
+use Rattle.elf_model.specs.Link.Loading.{LoadedObject}
+use Rattle.elf_model.specs.Own.OwnLayout.{IsNotTooLarge, any_placed, code_pieces, code_start, data_pieces, data_start, greatest_end, is_code, is_read_only, laid_out, loaded_start, own_address, own_code, own_data, own_headers_size, own_laid_out, own_loaded, own_read_only, own_thread_rest, page_up, placed_end, placed_has_bytes, read_only_start}
+use Rattle.elf_model.specs.Link.Pieces.{AreLawfulKinds, IsLawfulKind, is_executable, is_nobits, is_writable}
+use Rattle.elf_model.specs.Link.Placement.{Placed}
 use Rattle.own_link.proofs.Ends.{greatest_end-below, greatest_end-from}
 use Rattle.elf_model.proofs.Listed.{All-from_contains, All-parts}
 use Rattle.elf_model.proofs.OwnOrder.{laid_out_lawful}

@@ -2,8 +2,8 @@
 use Rattle.std.proofs.Common.{◌≡◌, ℕ, ◌+◌, ◌||◌, Bool, true, false, not, cond, List, [], ◌∷◌, filter, refl, sym, ◌∙◌, ap, arith}
 use Rattle.std.specs.Prelude.{count_by}
 use Rattle.std.specs.List.{list_any}
-use Rattle.elf_model.specs.OwnLayout.{slot_at, slots_from}
-use Rattle.elf_model.specs.Slots.{Request, each_once, is_slot_of, same_request}
+use Rattle.elf_model.specs.Own.OwnLayout.{slot_at, slots_from}
+use Rattle.elf_model.specs.Link.Slots.{Request, each_once, is_slot_of, same_request}
 use Rattle.elf_model.proofs.RisingNames.{counted}
 use Rattle.elf_model.proofs.SameRequests.{requests_equal}
 

@@ -5,15 +5,15 @@ use Rattle.std.specs.Prelude.{All, Contains, filter, nat_lt, option_map}
 use Rattle.std.specs.Option.{option_map_or}
 use Rattle.std.proofs.lemmas.Bool.{and_parts, cases_lt, false≢true, ltb-true, not-true}
 use Rattle.std.proofs.lemmas.List.Elements.{All-append, All-contains, All-cons, All-nil, Contains-append_cases, Contains-append_left, Contains-append_right}
-use Rattle.elf_model.specs.LinkerValues.{end_of_pieces, start_of_pieces}
-use Rattle.elf_model.specs.Loading.{AreObjects, LoadedObject}
-use Rattle.elf_model.specs.MemoryImage.{Encloses, loads, thread_blocks}
-use Rattle.elf_model.specs.OwnLayout.{IsNotTooLarge, code_pieces, code_start, data_pieces, data_start, end_of, first_start, got_line_of, got_piece, initial_pieces, loaded_start, own_code, own_data, own_got, own_in_load_order, own_loaded, own_read_only, own_segments, own_thread_rest, placed_end, segment_if, thread_rest_start, thread_start}
-use Rattle.elf_model.specs.Pieces.{AreLawfulKinds, Piece, has_bytes, is_nobits, is_thread_piece, is_thread_zero}
-use Rattle.elf_model.specs.Placement.{Placed, got_things, is_thread_place, thing_of}
-use Rattle.elf_model.specs.RightLink.{HoldsInitial, IsClearOf, IsThreadBlockRight, Subject, other_things, placed_of, thread_data_end}
-use Rattle.elf_model.specs.Slots.{has_got}
-use Rattle.elf_model.specs.ThreadStorage.{block_from, is_some_thread_data, is_thread_data, thread_header, thread_headers}
+use Rattle.elf_model.specs.Link.LinkerValues.{end_of_pieces, start_of_pieces}
+use Rattle.elf_model.specs.Link.Loading.{AreObjects, LoadedObject}
+use Rattle.elf_model.specs.Image.MemoryImage.{Encloses, loads, thread_blocks}
+use Rattle.elf_model.specs.Own.OwnLayout.{IsNotTooLarge, code_pieces, code_start, data_pieces, data_start, end_of, first_start, got_line_of, got_piece, initial_pieces, loaded_start, own_code, own_data, own_got, own_in_load_order, own_loaded, own_read_only, own_segments, own_thread_rest, placed_end, segment_if, thread_rest_start, thread_start}
+use Rattle.elf_model.specs.Link.Pieces.{AreLawfulKinds, Piece, has_bytes, is_nobits, is_thread_piece, is_thread_zero}
+use Rattle.elf_model.specs.Link.Placement.{Placed, got_things, is_thread_place, thing_of}
+use Rattle.elf_model.specs.Image.RightLink.{HoldsInitial, IsClearOf, IsThreadBlockRight, Subject, other_things, placed_of, thread_data_end}
+use Rattle.elf_model.specs.Link.Slots.{has_got}
+use Rattle.elf_model.specs.Link.ThreadStorage.{block_from, is_some_thread_data, is_thread_data, thread_header, thread_headers}
 use Rattle.elf_model.specs.declared.link_map.GotLine.{GotLine}
 use Rattle.elf_model.specs.declared.records.ProgramHeader.{ProgramHeader}
 use Rattle.elf_model.specs.declared.thing.Thing.{Thing}

@@ -8,13 +8,13 @@ use Rattle.std.proofs.lemmas.List.{map-append}
 use Rattle.std.proofs.lemmas.List.Elements.{All-contains, All-head, All-nil, All-cons, All-tail, All-weaker, Contains-append_cases, Contains-append_left, Contains-append_right}
 use Rattle.std.proofs.Math.Nat.{mul-le-mul_right, mul-mod_left}
 use Rattle.std.proofs.lemmas.Nat.{mul-mod_second}
-use Rattle.elf_model.specs.Commons.{block_pieces, pieces}
-use Rattle.elf_model.specs.LinkerValues.{end_of_pieces, start_of_pieces}
-use Rattle.elf_model.specs.Loading.{AreObjects, LoadedObject}
-use Rattle.elf_model.specs.OwnLayout.{IsNotTooLarge, data_start, end_of, got_pieces, initial_pieces, is_initial, is_thread_rest, own_in_load_order, own_loaded, own_places, own_placed, own_thread_rest, place_at, placed_end, placed_from, thread_rest_pieces, thread_rest_start, thread_start}
-use Rattle.elf_model.specs.Pieces.{AreLawfulKinds, Piece, has_bytes, is_thread_piece, kept_sections}
-use Rattle.elf_model.specs.Placement.{Placed, round_up}
-use Rattle.elf_model.specs.ThreadStorage.{alignment_of, block_from, is_some_thread_data, is_thread_data, thread_header, thread_headers}
+use Rattle.elf_model.specs.Link.Commons.{block_pieces, pieces}
+use Rattle.elf_model.specs.Link.LinkerValues.{end_of_pieces, start_of_pieces}
+use Rattle.elf_model.specs.Link.Loading.{AreObjects, LoadedObject}
+use Rattle.elf_model.specs.Own.OwnLayout.{IsNotTooLarge, data_start, end_of, got_pieces, initial_pieces, is_initial, is_thread_rest, own_in_load_order, own_loaded, own_places, own_placed, own_thread_rest, place_at, placed_end, placed_from, thread_rest_pieces, thread_rest_start, thread_start}
+use Rattle.elf_model.specs.Link.Pieces.{AreLawfulKinds, Piece, has_bytes, is_thread_piece, kept_sections}
+use Rattle.elf_model.specs.Link.Placement.{Placed, round_up}
+use Rattle.elf_model.specs.Link.ThreadStorage.{alignment_of, block_from, is_some_thread_data, is_thread_data, thread_header, thread_headers}
 use Rattle.elf_model.proofs.Blocks.{block_pieces-each}
 use Rattle.elf_model.proofs.Listed.{All-from_contains, Contains-from_map, Contains-here, Contains-nil}
 use Rattle.elf_model.proofs.OwnOrder.{from_chosen_kept, from_initial, from_thread_rest, initial_is, thread_rest_is}

@@ -7,17 +7,17 @@ use Rattle.std.specs.Option.{option_and_then}
 use Rattle.std.proofs.lemmas.Bool.{and_parts, eq-eqb, eqb-true, false_from_ne_true, false≢true, not-false, or_right}
 use Rattle.std.proofs.lemmas.List.Elements.{All-append, All-contains, Contains-append_cases, Contains-append_left}
 use Rattle.std.proofs.lemmas.Option.{get_or_from_slice_get, slice_get_within}
-use Rattle.elf_model.specs.Commons.{block_pieces, pieces}
-use Rattle.elf_model.specs.Loading.{AreObjects, LoadedObject, is_dropped}
-use Rattle.elf_model.specs.ObjectFile.{IsObject, IsRelaSection, bytes_in_file, contents, has_no_bytes, null_section, section, sections}
-use Rattle.elf_model.specs.ImageFile.{is_got_piece, piece_byte}
-use Rattle.elf_model.specs.OwnLayout.{got_number, got_piece, got_pieces, laid_out, own_loaded, own_placed, own_thread_rest, own_where, placed_has_bytes}
-use Rattle.elf_model.specs.Pieces.{Piece, is_kept, is_nobits, kept_sections, piece_of}
-use Rattle.elf_model.specs.Placement.{Placed, Where}
-use Rattle.elf_model.specs.Relocation.{Relocation, is_in_field, relocations, width_of}
-use Rattle.elf_model.specs.Resolution.{sections_of_object}
-use Rattle.elf_model.specs.Slots.{got_bytes}
-use Rattle.elf_model.specs.WantedBytes.{byte_or_field, wanted_byte}
+use Rattle.elf_model.specs.Link.Commons.{block_pieces, pieces}
+use Rattle.elf_model.specs.Link.Loading.{AreObjects, LoadedObject, is_dropped}
+use Rattle.elf_model.specs.Inputs.ObjectFile.{IsObject, IsRelaSection, bytes_in_file, contents, has_no_bytes, null_section, section, sections}
+use Rattle.elf_model.specs.Own.ImageFile.{is_got_piece, piece_byte}
+use Rattle.elf_model.specs.Own.OwnLayout.{got_number, got_piece, got_pieces, laid_out, own_loaded, own_placed, own_thread_rest, own_where, placed_has_bytes}
+use Rattle.elf_model.specs.Link.Pieces.{Piece, is_kept, is_nobits, kept_sections, piece_of}
+use Rattle.elf_model.specs.Link.Placement.{Placed, Where}
+use Rattle.elf_model.specs.Link.Relocation.{Relocation, is_in_field, relocations, width_of}
+use Rattle.elf_model.specs.Link.Resolution.{sections_of_object}
+use Rattle.elf_model.specs.Link.Slots.{got_bytes}
+use Rattle.elf_model.specs.Link.WantedBytes.{byte_or_field, wanted_byte}
 use Rattle.elf_model.specs.declared.records.SectionHeader.{SectionHeader}
 use Rattle.elf_model.proofs.Blocks.{block_pieces-each, block_pieces-object}
 use Rattle.elf_model.proofs.Finding.{find-none}

@@ -1,13 +1,13 @@
 -- The statement that the linker's own layout is a right link.
 use Rattle.std.specs.Prelude.{ℕ, ◌^◌, ◌<◌, List}
-use Rattle.elf_model.specs.Causes.{IsLinkable}
-use Rattle.elf_model.specs.Command.{IsBase, Plan}
-use Rattle.elf_model.specs.Files.{File}
-use Rattle.elf_model.specs.ImageFile.{image_file, own_entry, own_tabled, IsOwnMap}
-use Rattle.elf_model.specs.Loading.{loaded_objects}
-use Rattle.elf_model.specs.MapRecord.{MapRecord}
-use Rattle.elf_model.specs.MapText.{IsMap, text}
-use Rattle.elf_model.specs.RightLink.{IsRightLink}
+use Rattle.elf_model.specs.Own.Causes.{IsLinkable}
+use Rattle.elf_model.specs.Inputs.Command.{IsBase, Plan}
+use Rattle.elf_model.specs.Inputs.Files.{File}
+use Rattle.elf_model.specs.Own.ImageFile.{image_file, own_entry, own_tabled, IsOwnMap}
+use Rattle.elf_model.specs.Link.Loading.{loaded_objects}
+use Rattle.elf_model.specs.Image.MapRecord.{MapRecord}
+use Rattle.elf_model.specs.Image.MapText.{IsMap, text}
+use Rattle.elf_model.specs.Image.RightLink.{IsRightLink}
 
 -- where no cause of a refusal stands, the image file of the own layout and the text of its map are a right
 -- link of these files and words. Beside that it asks for what every plan that is read has, a base address;

@@ -4,13 +4,13 @@ use Rattle.std.specs.Prelude.{IsSomeAnd, is_some, unwrap_or}
 use Rattle.std.specs.Option.{option_and_then, option_map_or, option_or}
 use Rattle.std.proofs.lemmas.Bool.{false≢true}
 use Rattle.std.proofs.lemmas.Option.{none-some, same_Some}
-use Rattle.elf_model.specs.Commons.{Block, block_named, is_common_symbol}
-use Rattle.elf_model.specs.LinkerNames.{bound_of}
-use Rattle.elf_model.specs.Loading.{LoadedObject}
-use Rattle.elf_model.specs.Meaning.{Common, Linker, Meaning, Symbol, is_in_thread_storage, meaning_size, meaning_value, meant}
-use Rattle.elf_model.specs.Placement.{Where}
-use Rattle.elf_model.specs.Relocation.{IsMixed, definition_of, is_local, symbol_at}
-use Rattle.elf_model.specs.Resolution.{SymbolOf, chosen, is_undefined}
+use Rattle.elf_model.specs.Link.Commons.{Block, block_named, is_common_symbol}
+use Rattle.elf_model.specs.Link.LinkerNames.{bound_of}
+use Rattle.elf_model.specs.Link.Loading.{LoadedObject}
+use Rattle.elf_model.specs.Link.Meaning.{Common, Linker, Meaning, Symbol, is_in_thread_storage, meaning_size, meaning_value, meant}
+use Rattle.elf_model.specs.Link.Placement.{Where}
+use Rattle.elf_model.specs.Link.Relocation.{IsMixed, definition_of, is_local, symbol_at}
+use Rattle.elf_model.specs.Link.Resolution.{SymbolOf, chosen, is_undefined}
 use Rattle.elf_model.proofs.Listing.{chosen_means}
 use Rattle.resolve.specs.Meaning.{named_at, named_of}
 use Rattle.resolve.specs.Threads.{is_thread_chosen}

@@ -5,7 +5,7 @@ use Rattle.std.proofs.lemmas.Bool.{and_parts, eqb-true}
 use Rattle.std.proofs.lemmas.Bool.Decides.{nat_tests}
 use Rattle.std.proofs.lemmas.List.Sums.{fold-append}
 use Rattle.elf_model.proofs.RangeOrder.{rise_apart}
-use Rattle.elf_model.specs.Relocation.{Relocation}
+use Rattle.elf_model.specs.Link.Relocation.{Relocation}
 use Rattle.relocate.specs.Fields.{AreApart, IsBefore, IsSome, Rise, field_of, is_before, run_after, run_with}
 use Rattle.relocate.specs.declared.field_run.FieldRun.{FieldRun}
 use Rattle.relocate.specs.declared.fields.Field.{Field}

@@ -3,10 +3,10 @@ use Rattle.std.proofs.Common.{◌≡◌, List, [], ◌∷◌, ◌++◌, Err, IfE
 use Rattle.std.specs.Prelude.{All, IsSome}
 use Rattle.std.proofs.lemmas.List.Elements.{All-append, All-cons, All-head, All-nil}
 use Rattle.elf_model.proofs.Listed.{All-parts}
-use Rattle.elf_model.specs.Loading.{LoadedObject}
-use Rattle.elf_model.specs.Placement.{Where}
-use Rattle.elf_model.specs.Relocation.{Relocation, relocation_kind}
-use Rattle.elf_model.specs.RelocationValues.{Fits}
+use Rattle.elf_model.specs.Link.Loading.{LoadedObject}
+use Rattle.elf_model.specs.Link.Placement.{Where}
+use Rattle.elf_model.specs.Link.Relocation.{Relocation, relocation_kind}
+use Rattle.elf_model.specs.Link.RelocationValues.{Fits}
 use Rattle.relocate.specs.declared.faults.RelocFault.{RelocFault}
 use Rattle.relocate.specs.declared.faults.RelocFault.TheVariants as error
 use Rattle.relocate.specs.Values.{FittingFails}

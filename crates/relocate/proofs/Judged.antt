@@ -4,9 +4,9 @@ use Rattle.std.specs.Prelude.{All, Any, None}
 use Rattle.std.proofs.lemmas.List.Elements.{All-append, All-cons, All-nil, Contains-append_left, Contains-append_right}
 use Rattle.elf_model.proofs.Finding.{Any-here}
 use Rattle.elf_model.proofs.Pairs.{AllPairs-append, AllPairs-nil, AllPairs-parts}
-use Rattle.elf_model.specs.Causes.{IsToDropped, IsToMixed, IsUndefinedName}
-use Rattle.elf_model.specs.Loading.{LoadedObject}
-use Rattle.elf_model.specs.Relocation.{AreFieldsApart, IsFieldInside, IsLawfulRelocation, IsThreadMismatch, Relocation, relocation_kind}
+use Rattle.elf_model.specs.Own.Causes.{IsToDropped, IsToMixed, IsUndefinedName}
+use Rattle.elf_model.specs.Link.Loading.{LoadedObject}
+use Rattle.elf_model.specs.Link.Relocation.{AreFieldsApart, IsFieldInside, IsLawfulRelocation, IsThreadMismatch, Relocation, relocation_kind}
 use Rattle.relocate.specs.declared.faults.RelocFault.{RelocFault}
 use Rattle.relocate.specs.declared.faults.RelocFault.TheVariants as error
 use Rattle.relocate.specs.References.{AreLawful, RelocationFails, RelocationsFail}

@@ -10,14 +10,14 @@ use Rattle.std.proofs.lemmas.Bool.{false≢true}
 use Rattle.std.proofs.lemmas.List.Elements.{All-map}
 use Rattle.std.proofs.lemmas.List.Folds.{list_any_none}
 use Rattle.std.specs.Option.{option_and_then, option_or}
-use Rattle.elf_model.specs.Commons.{Block, block_named, is_common_symbol}
-use Rattle.elf_model.specs.LinkerNames.{bound_of}
-use Rattle.elf_model.specs.Loading.{LoadedObject}
-use Rattle.elf_model.specs.Meaning.{Common, Linker, Meaning, Symbol, meant}
-use Rattle.elf_model.specs.ObjectFile.{rela_symbol, relas_of, sections}
-use Rattle.elf_model.specs.Relocation.{Relocation, definition_of, is_local, is_some_kind, relocation_of, relocations_from, symbol_at}
-use Rattle.elf_model.specs.Resolution.{SymbolOf, chosen, is_undefined}
-use Rattle.elf_model.specs.UsedNames.{Gains, is_among, is_linker_use, uses_line}
+use Rattle.elf_model.specs.Link.Commons.{Block, block_named, is_common_symbol}
+use Rattle.elf_model.specs.Link.LinkerNames.{bound_of}
+use Rattle.elf_model.specs.Link.Loading.{LoadedObject}
+use Rattle.elf_model.specs.Link.Meaning.{Common, Linker, Meaning, Symbol, meant}
+use Rattle.elf_model.specs.Inputs.ObjectFile.{rela_symbol, relas_of, sections}
+use Rattle.elf_model.specs.Link.Relocation.{Relocation, definition_of, is_local, is_some_kind, relocation_of, relocations_from, symbol_at}
+use Rattle.elf_model.specs.Link.Resolution.{SymbolOf, chosen, is_undefined}
+use Rattle.elf_model.specs.Link.UsedNames.{Gains, is_among, is_linker_use, uses_line}
 use Rattle.elf_model.specs.declared.bound.Bound.{Bound}
 use Rattle.elf_model.proofs.Listing.{chosen_means}
 use Rattle.elf_model.proofs.RelocationFields.{own_behind}

@@ -5,12 +5,12 @@ use Rattle.std.specs.List.{slice_get}
 use Rattle.std.specs.Option.{option_map_or}
 use Rattle.std.proofs.lemmas.Bool.{eqb-true, false≢true}
 use Rattle.std.proofs.lemmas.Option.{none-some}
-use Rattle.elf_model.specs.Loading.{LoadedObject}
-use Rattle.elf_model.specs.Meaning.{Meaning, Symbol, is_in_thread_storage, meaning, meaning_size, meaning_value}
-use Rattle.elf_model.specs.Pieces.{is_alloc, is_thread_local}
-use Rattle.elf_model.specs.Placement.{Where, symbol_value}
-use Rattle.elf_model.specs.Relocation.{IsMixed, definition_of, is_local, symbol_at}
-use Rattle.elf_model.specs.Resolution.{SymbolOf, binding, is_undefined, section_of, sections_of_object}
+use Rattle.elf_model.specs.Link.Loading.{LoadedObject}
+use Rattle.elf_model.specs.Link.Meaning.{Meaning, Symbol, is_in_thread_storage, meaning, meaning_size, meaning_value}
+use Rattle.elf_model.specs.Link.Pieces.{is_alloc, is_thread_local}
+use Rattle.elf_model.specs.Link.Placement.{Where, symbol_value}
+use Rattle.elf_model.specs.Link.Relocation.{IsMixed, definition_of, is_local, symbol_at}
+use Rattle.elf_model.specs.Link.Resolution.{SymbolOf, binding, is_undefined, section_of, sections_of_object}
 use Rattle.elf_model.specs.declared.records.SectionHeader.{SectionHeader}
 use Rattle.relocate.specs.References.{IsObjectAt, section_in}
 use Rattle.relocate.specs.SymbolTables.{IsReference, IsValueOf}

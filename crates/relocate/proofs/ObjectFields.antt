@@ -2,8 +2,8 @@
 use Rattle.std.proofs.Common.{List, map, arith}
 use Rattle.std.specs.Prelude.{All}
 use Rattle.std.proofs.lemmas.List.Elements.{All-map, All-weaker}
-use Rattle.elf_model.specs.Loading.{LoadedObject}
-use Rattle.elf_model.specs.Relocation.{IsLawfulRelocation, Relocation}
+use Rattle.elf_model.specs.Link.Loading.{LoadedObject}
+use Rattle.elf_model.specs.Link.Relocation.{IsLawfulRelocation, Relocation}
 use Rattle.elf_model.proofs.RelocationFields.{width_some}
 use Rattle.relocate.specs.Fields.{IsSome, field_of}
 

@@ -6,12 +6,12 @@ use Rattle.std.proofs.lemmas.Bool.{ltb-false, ltb-true}
 use Rattle.std.proofs.lemmas.List.{get_or_append_left, get_or_push, length-append}
 use Rattle.std.proofs.lemmas.List.Elements.{All-weaker}
 use Rattle.std.proofs.lemmas.Option.{same_Some, slice_get_cases, slice_get_within}
-use Rattle.elf_model.specs.Loading.{LoadedObject}
+use Rattle.elf_model.specs.Link.Loading.{LoadedObject}
 use Rattle.elf_model.proofs.RelocationFields.{own_object}
-use Rattle.elf_model.specs.OwnLayout.{OwnValuesFit}
-use Rattle.elf_model.specs.Placement.{Where}
-use Rattle.elf_model.specs.Relocation.{AreFieldsApart, AreLawfulRelocations, IsLawfulRelocation, Relocation, is_in_field, relocation_kind, relocations, relocations_from}
-use Rattle.elf_model.specs.RelocationValues.{Fits}
+use Rattle.elf_model.specs.Own.OwnLayout.{OwnValuesFit}
+use Rattle.elf_model.specs.Link.Placement.{Where}
+use Rattle.elf_model.specs.Link.Relocation.{AreFieldsApart, AreLawfulRelocations, IsLawfulRelocation, Relocation, is_in_field, relocation_kind, relocations, relocations_from}
+use Rattle.elf_model.specs.Link.RelocationValues.{Fits}
 use Rattle.relocate.specs.declared.faults.RelocFault.{RelocFault}
 use Rattle.relocate.specs.declared.faults.RelocFault.TheVariants as error
 use Rattle.layout.specs.Placements.{Basis}

@@ -8,8 +8,8 @@ use Rattle.std.proofs.lemmas.List.{append_assoc}
 use Rattle.std.proofs.lemmas.List.Elements.{All-append, All-nil, All-weaker}
 use Rattle.std.proofs.lemmas.List.Folds.{find-append}
 use Rattle.std.proofs.lemmas.Option.{none-some, same_Some}
-use Rattle.elf_model.specs.Loading.{LoadedObject}
-use Rattle.elf_model.specs.Relocation.{Relocation, is_in_field, relocations_from, relocations_of}
+use Rattle.elf_model.specs.Link.Loading.{LoadedObject}
+use Rattle.elf_model.specs.Link.Relocation.{Relocation, is_in_field, relocations_from, relocations_of}
 use Rattle.elf_model.proofs.Found.{or_none}
 use Rattle.elf_model.proofs.Listed.{All-parts}
 use Rattle.elf_model.proofs.Pairs.{AllPairs-parts}

@@ -9,11 +9,11 @@ use Rattle.std.proofs.lemmas.Grind.{flat_map-append}
 use Rattle.std.proofs.lemmas.List.Elements.{All-contains, All-head, All-tail}
 use Rattle.std.proofs.lemmas.List.Folds.{drop_split}
 use Rattle.std.proofs.lemmas.Slice.{between_is}
-use Rattle.elf_model.specs.ArrayOrder.{by_rank}
-use Rattle.elf_model.specs.Loading.{LoadedObject}
-use Rattle.elf_model.specs.ObjectFile.{section, sections}
-use Rattle.elf_model.specs.Placement.{Where}
-use Rattle.elf_model.specs.Relocation.{Relocation, relocations_from}
+use Rattle.elf_model.specs.Link.ArrayOrder.{by_rank}
+use Rattle.elf_model.specs.Link.Loading.{LoadedObject}
+use Rattle.elf_model.specs.Inputs.ObjectFile.{section, sections}
+use Rattle.elf_model.specs.Link.Placement.{Where}
+use Rattle.elf_model.specs.Link.Relocation.{Relocation, relocations_from}
 use Rattle.elf_model.proofs.ArrayOrder.{Contains-by_rank, Contains-from_by_rank, IsRising, by_rank_is, by_rank_kept}
 use Rattle.elf_model.proofs.Listed.{All-from_contains, Contains-flat_map, Contains-from_flat_map}
 use Rattle.search.proofs.KeptListLaws.{relas_kept, relocations_listed}

@@ -5,9 +5,9 @@ use Rattle.std.proofs.lemmas.Bool.{ltb-false, ltb-true}
 use Rattle.std.proofs.lemmas.List.{append-nil, drop-append-le, get_or-replicate, get_or_append_left, length-append, length-drop, length-replicate, nil_from_length, take-append-le, take_all}
 use Rattle.std.proofs.lemmas.List.Sorted.{IsPermutation-refl, length_permutation}
 use Rattle.std.proofs.Math.Seq.{drop-append_seam, get_or-append_right, get_or-append_seam, take-append_seam, take-length}
-use Rattle.elf_model.specs.Loading.{LoadedObject}
-use Rattle.elf_model.specs.Placement.{Where}
-use Rattle.elf_model.specs.Relocation.{Relocation}
+use Rattle.elf_model.specs.Link.Loading.{LoadedObject}
+use Rattle.elf_model.specs.Link.Placement.{Where}
+use Rattle.elf_model.specs.Link.Relocation.{Relocation}
 use Rattle.relocate.proofs.Rows.{patches_append, patches_elsewhere, patches_here}
 use Rattle.relocate.specs.ObjectRows.{HasOrderedRow, HasRows}
 use Rattle.relocate.specs.Patches.{IsPatchRow}

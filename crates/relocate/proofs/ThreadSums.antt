@@ -4,7 +4,7 @@ use Rattle.std.proofs.Math.Nat.{mod-add-mod}
 use Rattle.std.proofs.lemmas.Int.{ints}
 use Rattle.std.specs.Int.{cast_unsigned}
 use Rattle.std.specs.Int.RustNames.{FitsSigned}
-use Rattle.elf_model.specs.Relocation.{modulo_64}
+use Rattle.elf_model.specs.Link.Relocation.{modulo_64}
 use Rattle.elf_model.proofs.WrappedValues.{modulo_is, modulo-sum}
 
 -- a whole number that some multiple of 2 ^ 64 lifts to a natural one, and an addend

@@ -6,9 +6,9 @@ use Rattle.std.proofs.lemmas.List.Kept.{AllPairs-filter}
 use Rattle.elf_model.proofs.Found.{find-agree, find-filter, find-map}
 use Rattle.elf_model.proofs.Pairs.{AllPairs-map}
 use Rattle.elf_model.proofs.RelocationFields.{width_some}
-use Rattle.elf_model.specs.Loading.{LoadedObject}
-use Rattle.elf_model.specs.Placement.{Where}
-use Rattle.elf_model.specs.Relocation.{AreFieldsApart, IsLawfulRelocation, Relocation, is_in_field}
+use Rattle.elf_model.specs.Link.Loading.{LoadedObject}
+use Rattle.elf_model.specs.Link.Placement.{Where}
+use Rattle.elf_model.specs.Link.Relocation.{AreFieldsApart, IsLawfulRelocation, Relocation, is_in_field}
 use Rattle.elf_model.proofs.OwnFields.{in_range}
 use Rattle.relocate.specs.Patches.{AreDisjoint, IsNarrow, covers}
 use Rattle.relocate.specs.Values.{is_in_section, patch_of, patches_in}

@@ -4,11 +4,11 @@ use Rattle.std.specs.Prelude.{IsSome, find}
 use Rattle.std.specs.List.{range_with_len}
 use Rattle.std.proofs.lemmas.List.{ext_get_or}
 use Rattle.std.proofs.lemmas.List.FromFn.{get_or-map-range_with_len, length-map-range_with_len}
-use Rattle.elf_model.specs.Loading.{LoadedObject}
-use Rattle.elf_model.specs.Pieces.{Piece}
-use Rattle.elf_model.specs.Placement.{Where}
-use Rattle.elf_model.specs.Relocation.{Relocation, is_in_field, relocations}
-use Rattle.elf_model.specs.WantedBytes.{byte_or_field, wanted_byte}
+use Rattle.elf_model.specs.Link.Loading.{LoadedObject}
+use Rattle.elf_model.specs.Link.Pieces.{Piece}
+use Rattle.elf_model.specs.Link.Placement.{Where}
+use Rattle.elf_model.specs.Link.Relocation.{Relocation, is_in_field, relocations}
+use Rattle.elf_model.specs.Link.WantedBytes.{byte_or_field, wanted_byte}
 use Rattle.relocate.specs.Patches.{byte_in, covers, patched_byte}
 use Rattle.relocate.specs.Values.{HasFields, patch_of}
 use Rattle.relocate.specs.declared.patch.Patch.{Patch}

@@ -1,6 +1,6 @@
 -- The fields of an object's relocations, as ranges of bytes of its sections.
 use Rattle.std.specs.Prelude.{◌≡◌, ℕ, ◌+◌, ◌<◌, ◌≤◌, ◌⊎◌, ◌==◌, ◌&&◌, ◌||◌, Bool, List, fold, length, nat_le, nat_lt, slice_index_or}
-use Rattle.elf_model.specs.Relocation.{Relocation, width_of}
+use Rattle.elf_model.specs.Link.Relocation.{Relocation, width_of}
 use Rattle.relocate.specs.declared.field_run.FieldRun.{FieldRun}
 use Rattle.relocate.specs.declared.fields.Field.{Field}
 

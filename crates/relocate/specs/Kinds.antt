@@ -1,6 +1,6 @@
 -- The terms of values modulo 2 ^ 64.
 use Rattle.std.specs.Prelude.{◌≡◌, ◌%◌, ◌^◌}
-use Rattle.elf_model.specs.Relocation as relocation
+use Rattle.elf_model.specs.Link.Relocation as relocation
 use Rattle.relocate.specs.declared.kinds.Terms as code_terms
 
 -- the code's terms are what whole ones leave modulo 2 ^ 64

@@ -1,12 +1,12 @@
 -- What references to LOCAL symbols use, without their names, which mean nothing to relocations.
 use Rattle.std.specs.Prelude.{◌≡◌, ◌↔◌, ◌&&◌, [], true, false, cond, not, IsSomeAnd, IsTrue, List, None, Option, Some, option_map, unwrap_or}
 use Rattle.std.specs.Option.{option_map_or}
-use Rattle.elf_model.specs.Loading.{LoadedObject}
-use Rattle.elf_model.specs.Meaning.{Meaning, Symbol, is_in_thread_storage, meaning_size, meaning_value}
-use Rattle.elf_model.specs.Pieces.{is_alloc}
-use Rattle.elf_model.specs.Placement.{Where}
-use Rattle.elf_model.specs.Relocation.{IsMixed, is_local}
-use Rattle.elf_model.specs.Resolution.{SymbolOf, is_undefined, section_of}
+use Rattle.elf_model.specs.Link.Loading.{LoadedObject}
+use Rattle.elf_model.specs.Link.Meaning.{Meaning, Symbol, is_in_thread_storage, meaning_size, meaning_value}
+use Rattle.elf_model.specs.Link.Pieces.{is_alloc}
+use Rattle.elf_model.specs.Link.Placement.{Where}
+use Rattle.elf_model.specs.Link.Relocation.{IsMixed, is_local}
+use Rattle.elf_model.specs.Link.Resolution.{SymbolOf, is_undefined, section_of}
 use Rattle.relocate.specs.References.{LacksDefinition}
 use Rattle.relocate.specs.declared.referrer.Reference.{Reference}
 

@@ -1,8 +1,8 @@
 -- The patches of an object by the sections that they are for.
 use Rattle.std.specs.Prelude.{◌≡◌, ℕ, ◌-◌, ◌<◌, ◌≤◌, ◌++◌, List, drop, length, slice_index, take}
-use Rattle.elf_model.specs.Loading.{LoadedObject}
-use Rattle.elf_model.specs.Placement.{Where}
-use Rattle.elf_model.specs.Relocation.{Relocation}
+use Rattle.elf_model.specs.Link.Loading.{LoadedObject}
+use Rattle.elf_model.specs.Link.Placement.{Where}
+use Rattle.elf_model.specs.Link.Relocation.{Relocation}
 use Rattle.relocate.specs.Patches.{IsPatchRow}
 use Rattle.relocate.specs.Values.{patches_in, row_at}
 use Rattle.relocate.specs.declared.object_rows.ObjectPatches.{ObjectPatches}

@@ -1,12 +1,12 @@
 -- What is asked of relocations, and why they are refused.
 use Rattle.std.specs.Prelude.{◌≡◌, ◌≢◌, ℕ, cond, List, Option, None, Some, IsSome, All, AllPairs, Any}
 use Rattle.std.specs.List.{slice_get}
-use Rattle.elf_model.specs.Causes.{IsToDropped, IsToMixed, IsUndefinedName}
-use Rattle.elf_model.specs.Loading.{LoadedObject}
-use Rattle.elf_model.specs.ObjectFile.{sections}
-use Rattle.elf_model.specs.Meaning.{Meaning}
-use Rattle.elf_model.specs.Relocation.{AreFieldsApart, IsFieldInside, IsLawfulRelocation, IsThreadMismatch, IsUndefined, Relocation, relocation_kind, relocations}
-use Rattle.elf_model.specs.Resolution.{binding, is_undefined}
+use Rattle.elf_model.specs.Own.Causes.{IsToDropped, IsToMixed, IsUndefinedName}
+use Rattle.elf_model.specs.Link.Loading.{LoadedObject}
+use Rattle.elf_model.specs.Inputs.ObjectFile.{sections}
+use Rattle.elf_model.specs.Link.Meaning.{Meaning}
+use Rattle.elf_model.specs.Link.Relocation.{AreFieldsApart, IsFieldInside, IsLawfulRelocation, IsThreadMismatch, IsUndefined, Relocation, relocation_kind, relocations}
+use Rattle.elf_model.specs.Link.Resolution.{binding, is_undefined}
 use Rattle.relocate.specs.declared.faults.RelocFault.{RelocFault}
 use Rattle.relocate.specs.declared.faults.RelocFault.TheVariants as error
 use Rattle.relocate.specs.declared.faults.RelocationFault.{RelocationFault}

@@ -2,15 +2,15 @@
 use Rattle.std.specs.Prelude.{◌≡◌, ◌↔◌, ◌%◌, ◌^◌, ◌&&◌, ℕ, true, false, not, List, Option, Some, IsSomeAnd, IsTrue, option_map, unwrap_or}
 use Rattle.std.specs.List.{slice_get}
 use Rattle.std.specs.Option.{option_map_or}
-use Rattle.elf_model.specs.Loading.{LoadedObject}
-use Rattle.elf_model.specs.ChosenSymbols.{chosen_symbols}
-use Rattle.elf_model.specs.Meaning.{Meaning, is_in_thread_storage, meaning_size, meaning_value, meant}
-use Rattle.elf_model.specs.ObjectFile.{section, sections}
-use Rattle.elf_model.specs.Pieces.{AreLawfulKinds, is_alloc}
-use Rattle.elf_model.specs.Placement.{Where, got_start}
-use Rattle.elf_model.specs.Relocation.{IsMixed, IsUndefined, definition_of, is_local, symbol_at}
-use Rattle.elf_model.specs.Resolution.{SymbolOf, section_of}
-use Rattle.elf_model.specs.Slots.{slots}
+use Rattle.elf_model.specs.Link.Loading.{LoadedObject}
+use Rattle.elf_model.specs.Link.ChosenSymbols.{chosen_symbols}
+use Rattle.elf_model.specs.Link.Meaning.{Meaning, is_in_thread_storage, meaning_size, meaning_value, meant}
+use Rattle.elf_model.specs.Inputs.ObjectFile.{section, sections}
+use Rattle.elf_model.specs.Link.Pieces.{AreLawfulKinds, is_alloc}
+use Rattle.elf_model.specs.Link.Placement.{Where, got_start}
+use Rattle.elf_model.specs.Link.Relocation.{IsMixed, IsUndefined, definition_of, is_local, symbol_at}
+use Rattle.elf_model.specs.Link.Resolution.{SymbolOf, section_of}
+use Rattle.elf_model.specs.Link.Slots.{slots}
 use Rattle.search.specs.Views.{loaded_view}
 use Rattle.layout.specs.Mixed.{AreMixed}
 use Rattle.got_tls.specs.Askers.{IsAsker, all_asked, asking}

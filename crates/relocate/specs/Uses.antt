@@ -1,10 +1,10 @@
 -- The linker's names with what they stand for, as the code has them.
 use Rattle.std.specs.Prelude.{◌≡◌, Bool, false, true, ℕ, List, Option, None, Some, map}
 use Rattle.std.specs.Borrow.{Bor}
-use Rattle.elf_model.specs.Loading.{LoadedObject}
-use Rattle.elf_model.specs.Meaning.{Common, Linker, Meaning, Symbol}
-use Rattle.elf_model.specs.Relocation.{symbol_at}
-use Rattle.elf_model.specs.UsedNames.{is_linker_use}
+use Rattle.elf_model.specs.Link.Loading.{LoadedObject}
+use Rattle.elf_model.specs.Link.Meaning.{Common, Linker, Meaning, Symbol}
+use Rattle.elf_model.specs.Link.Relocation.{symbol_at}
+use Rattle.elf_model.specs.Link.UsedNames.{is_linker_use}
 use Rattle.elf_model.specs.declared.bound.Bound.{Bound}
 use Rattle.search.specs.Views.{loaded_view}
 use Rattle.relocate.specs.References.{IsObjectAt}

@@ -1,13 +1,13 @@
 -- The values that relocations want in a layout, as patches, and why there are none.
 use Rattle.std.specs.Prelude.{◌≡◌, ◌==◌, ◌+◌, ◌%◌, ◌^◌, ℕ, Bool, List, [], Some, All, filter, find, length, map, option_map, slice_index, slice_index_or, slice_range, unwrap_or}
 use Rattle.std.specs.List.{slice_get}
-use Rattle.elf_model.specs.Loading.{LoadedObject}
-use Rattle.elf_model.specs.OwnLayout.{OwnValuesFit, own_where}
-use Rattle.elf_model.specs.Placement.{Where}
-use Rattle.elf_model.specs.Relocation.{AreLawfulRelocations, Relocation, is_in_field, relocations, relocations_from, width_of}
-use Rattle.elf_model.specs.RelocationValues.{Fits, value_of}
-use Rattle.elf_model.specs.Slots.{Request, slot_value}
-use Rattle.elf_model.specs.ThreadStorage.{block_in}
+use Rattle.elf_model.specs.Link.Loading.{LoadedObject}
+use Rattle.elf_model.specs.Own.OwnLayout.{OwnValuesFit, own_where}
+use Rattle.elf_model.specs.Link.Placement.{Where}
+use Rattle.elf_model.specs.Link.Relocation.{AreLawfulRelocations, Relocation, is_in_field, relocations, relocations_from, width_of}
+use Rattle.elf_model.specs.Link.RelocationValues.{Fits, value_of}
+use Rattle.elf_model.specs.Link.Slots.{Request, slot_value}
+use Rattle.elf_model.specs.Link.ThreadStorage.{block_in}
 use Rattle.relocate.specs.declared.faults.RelocFault.{RelocFault}
 use Rattle.relocate.specs.declared.faults.RelocFault.TheVariants as error
 use Rattle.layout.specs.Placements.{Basis}

@@ -1,6 +1,6 @@
 //! The fields of an object's lawful relocations as a list, where they don't come in order.
 ghost use Rattle.std.specs.Prelude.{◌≡◌, ◌++◌, All, OnOk, map};
-ghost use Rattle.elf_model.specs.Relocation.{IsLawfulRelocation, relocation_of, relocations_from};
+ghost use Rattle.elf_model.specs.Link.Relocation.{IsLawfulRelocation, relocation_of, relocations_from};
 ghost use Rattle.relocate.specs.Fields.{field_of};
 ghost use Rattle.relocate.specs.SymbolTables.{IsRelocated, all_of, referring};
 ghost use Rattle.search.specs.KeptLists.{IsKeptRela, relocations_by};

@@ -1,7 +1,7 @@
 //! The values of relocations by their kinds, and which of them fit (AMD64 psABI 4.4, "Relocation Types"; the ranges of all
 //! kinds but 32 and 32S are the profile's).
 ghost use Rattle.std.specs.Prelude.{◌≡◌, ◌↔◌, ◌+◌, ◌-◌, ◌*◌, ◌%◌, ◌<◌, ◌^◌, ◌-ℤ◌, ◌+ℤ◌, ℕ, ℤ, IsTrue, pos};
-ghost use Rattle.elf_model.specs.Relocation as relocation;
+ghost use Rattle.elf_model.specs.Link.Relocation as relocation;
 ghost use Rattle.got_tls.specs.Kinds.{formula_view, range_view};
 ghost use Rattle.relocate.specs.Kinds.{Reduces};
 

@@ -1,9 +1,9 @@
 //! What is asked of one relocation: a known kind, a lawful symbol, a kind for what that symbol is, a field
 //! inside its section, and no bound of several output sections.
 ghost use Rattle.std.specs.Prelude.{◌≡◌, ℕ, List, IfErr, IfOk, OnOk, Some};
-ghost use Rattle.elf_model.specs.Loading as loading;
-ghost use Rattle.elf_model.specs.Relocation as relocation;
-ghost use Rattle.elf_model.specs.Relocation.{IsLawfulRelocation, relocation_kind, relocation_of};
+ghost use Rattle.elf_model.specs.Link.Loading as loading;
+ghost use Rattle.elf_model.specs.Link.Relocation as relocation;
+ghost use Rattle.elf_model.specs.Link.Relocation.{IsLawfulRelocation, relocation_kind, relocation_of};
 ghost use Rattle.relocate.specs.Fields.{field_of};
 ghost use Rattle.got_tls.specs.Kinds.{kind_view};
 ghost use Rattle.relocate.specs.References.{IsUnlawful, RelocationFails};

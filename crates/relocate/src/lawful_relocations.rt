@@ -1,7 +1,7 @@
 //! Whether the kept relocations of all objects are lawful.
 ghost use Rattle.std.specs.Prelude.{◌≡◌, All, IfErr, IfOk, OnOk};
-ghost use Rattle.elf_model.specs.Relocation.{AreLawfulRelocations, IsLawfulRelocation, relocation_of, relocations, relocations_from};
-ghost use Rattle.elf_model.specs.Slots as wanted;
+ghost use Rattle.elf_model.specs.Link.Relocation.{AreLawfulRelocations, IsLawfulRelocation, relocation_of, relocations, relocations_from};
+ghost use Rattle.elf_model.specs.Link.Slots as wanted;
 ghost use Rattle.got_tls.specs.Asking.{nothing, with_relocation, with_relocations};
 ghost use Rattle.got_tls.specs.AskedViews.{wants};
 ghost use Rattle.layout.specs.Mixed.{AreMixed};

@@ -1,9 +1,9 @@
 //! The patches of an object, by the sections that they are for.
 ghost use Rattle.std.specs.Prelude.{◌≡◌, ◌≤◌, ◌+◌, ◌++◌, [], All, IfErr, IfOk, IsSome, List, OnOk, length, map};
 ghost use Rattle.std.specs.List.Sorted.{IsNonDecreasingBy};
-ghost use Rattle.elf_model.specs.ArrayOrder.{by_rank};
-ghost use Rattle.elf_model.specs.Relocation.{Relocation, relocation_kind, relocations_from};
-ghost use Rattle.elf_model.specs.RelocationValues.{Fits};
+ghost use Rattle.elf_model.specs.Link.ArrayOrder.{by_rank};
+ghost use Rattle.elf_model.specs.Link.Relocation.{Relocation, relocation_kind, relocations_from};
+ghost use Rattle.elf_model.specs.Link.RelocationValues.{Fits};
 ghost use Rattle.search.specs.KeptLists.{IsKeptRela, kept_relas, relocations_by, relocations_of_relas};
 ghost use Rattle.relocate.specs.RelaOrders.{target_of};
 ghost use Rattle.relocate.specs.ObjectRows.{HasRows};

@@ -1,10 +1,10 @@
 //! The patches of all objects.
 ghost use Rattle.std.specs.Prelude.{◌≡◌, All, IfErr, IfOk, IsSome, OnOk};
-ghost use Rattle.elf_model.specs.OwnLayout.{OwnValuesFit};
-ghost use Rattle.elf_model.specs.Pieces.{AreLawfulKinds};
-ghost use Rattle.elf_model.specs.Relocation.{AreLawfulRelocations, relocation_kind, relocations_from};
-ghost use Rattle.elf_model.specs.RelocationValues.{Fits};
-ghost use Rattle.elf_model.specs.Slots as wanted;
+ghost use Rattle.elf_model.specs.Own.OwnLayout.{OwnValuesFit};
+ghost use Rattle.elf_model.specs.Link.Pieces.{AreLawfulKinds};
+ghost use Rattle.elf_model.specs.Link.Relocation.{AreLawfulRelocations, relocation_kind, relocations_from};
+ghost use Rattle.elf_model.specs.Link.RelocationValues.{Fits};
+ghost use Rattle.elf_model.specs.Link.Slots as wanted;
 ghost use Rattle.search.specs.Views.{loaded_view, loaded_views};
 ghost use Rattle.relocate.specs.References.{IsObjectAt};
 ghost use Rattle.relocate.specs.SymbolTables.{AreChosenValues};

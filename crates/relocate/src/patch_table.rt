@@ -1,11 +1,11 @@
 //! The patches of all objects by their sections, and their writing into the bytes of one.
 ghost use Rattle.std.specs.Prelude.{◌≡◌, ◌≢◌, ◌+◌, ◌<◌, ◌≤◌, ℕ, IfOk, IsSome, find, length, map, slice_index};
 ghost use Rattle.std.specs.List.{range_with_len, slice_get};
-ghost use Rattle.elf_model.specs.ObjectFile as object_file;
-ghost use Rattle.elf_model.specs.Pieces.{Piece};
-ghost use Rattle.elf_model.specs.Relocation.{is_in_field, relocations};
-ghost use Rattle.elf_model.specs.Resolution.{sections_of_object};
-ghost use Rattle.elf_model.specs.WantedBytes.{wanted_byte};
+ghost use Rattle.elf_model.specs.Inputs.ObjectFile as object_file;
+ghost use Rattle.elf_model.specs.Link.Pieces.{Piece};
+ghost use Rattle.elf_model.specs.Link.Relocation.{is_in_field, relocations};
+ghost use Rattle.elf_model.specs.Link.Resolution.{sections_of_object};
+ghost use Rattle.elf_model.specs.Link.WantedBytes.{wanted_byte};
 ghost use Rattle.relocate.specs.Patches.{IsRising};
 ghost use Rattle.relocate.specs.Values.{ArePatches, HasFields, where_in, row_in};
 

@@ -2,8 +2,8 @@
 //! that names it.
 ghost use Rattle.std.specs.Prelude.{◌≡◌, [], IfOk, Some, codes, option_map, true, unwrap_or};
 ghost use Rattle.std.specs.Str.{bytes_eq};
-ghost use Rattle.elf_model.specs.ObjectFile.{section_name};
-ghost use Rattle.elf_model.specs.Relocation.{is_local, symbol_at};
+ghost use Rattle.elf_model.specs.Inputs.ObjectFile.{section_name};
+ghost use Rattle.elf_model.specs.Link.Relocation.{is_local, symbol_at};
 ghost use Rattle.search.specs.Views.{loaded_view};
 ghost use Rattle.layout.specs.Mixed.{AreMixed};
 ghost use Rattle.resolve.specs.Meaning.{named_at};

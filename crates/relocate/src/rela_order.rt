@@ -1,7 +1,7 @@
 //! RELA sections in the order of the sections that they relocate. Those of an object mostly are in that order already.
 ghost use Rattle.std.specs.Prelude.{◌≡◌, ◌≢◌, ◌↔◌, ◌<◌, ◌≤◌, ℕ, IfOk, IsTrue, length, slice_index_or};
 ghost use Rattle.std.specs.List.Sorted.{IsNonDecreasingBy};
-ghost use Rattle.elf_model.specs.ArrayOrder.{by_rank};
+ghost use Rattle.elf_model.specs.Link.ArrayOrder.{by_rank};
 ghost use Rattle.relocate.specs.RelaOrders.{IsByNeighbours, target_of};
 
 use search::KeptRela;

@@ -1,7 +1,7 @@
 //! What the slots of the GOT hold where objects are laid out.
 ghost use Rattle.std.specs.Prelude.{◌≡◌, ◌%◌, ◌^◌, IfOk, map};
-ghost use Rattle.elf_model.specs.Pieces.{AreLawfulKinds};
-ghost use Rattle.elf_model.specs.Slots as wanted;
+ghost use Rattle.elf_model.specs.Link.Pieces.{AreLawfulKinds};
+ghost use Rattle.elf_model.specs.Link.Slots as wanted;
 ghost use Rattle.got_tls.specs.Views.{slot_view};
 ghost use Rattle.relocate.specs.Values.{pointer_in, slot_value_of, where_in};
 

@@ -1,13 +1,13 @@
 //! What a relocation refers to, and what is asked of that: the symbols and sections of one object.
 ghost use Rattle.std.specs.Prelude.{◌≡◌, ◌≢◌, ◌↔◌, ◌&&◌, [], ◌==◌, List, IsSomeAnd, IsTrue, codes, false, not, option_map, true, unwrap_or};
 ghost use Rattle.std.specs.Str.{bytes_eq};
-ghost use Rattle.elf_model.specs.Meaning.{is_in_thread_storage};
-ghost use Rattle.elf_model.specs.ObjectFile.{section, section_name, sections, symbols};
-ghost use Rattle.elf_model.specs.Pieces.{is_alloc, is_kept, is_thread_local};
-ghost use Rattle.elf_model.specs.Loading as loading;
-ghost use Rattle.elf_model.specs.Loading.{is_dropped};
-ghost use Rattle.elf_model.specs.Relocation.{IsMixed, IsMixedBound, definition_of, symbol_at};
-ghost use Rattle.elf_model.specs.Resolution.{is_undefined};
+ghost use Rattle.elf_model.specs.Link.Meaning.{is_in_thread_storage};
+ghost use Rattle.elf_model.specs.Inputs.ObjectFile.{section, section_name, sections, symbols};
+ghost use Rattle.elf_model.specs.Link.Pieces.{is_alloc, is_kept, is_thread_local};
+ghost use Rattle.elf_model.specs.Link.Loading as loading;
+ghost use Rattle.elf_model.specs.Link.Loading.{is_dropped};
+ghost use Rattle.elf_model.specs.Link.Relocation.{IsMixed, IsMixedBound, definition_of, symbol_at};
+ghost use Rattle.elf_model.specs.Link.Resolution.{is_undefined};
 ghost use Rattle.std.specs.Prelude.{Some};
 ghost use Rattle.std.specs.Option.{option_map_or};
 ghost use Rattle.search.specs.Views.{loaded_view};

@@ -1,7 +1,7 @@
 //! Where the thread pointer stands in a layout, and offsets from it (ELF Handling For Thread-Local Storage, variant II).
 ghost use Rattle.std.specs.Prelude.{◌≡◌, ◌%◌, ◌^◌, ◌-ℤ◌, ℕ, pos};
-ghost use Rattle.elf_model.specs.Pieces.{AreLawfulKinds};
-ghost use Rattle.elf_model.specs.Relocation.{modulo_64};
+ghost use Rattle.elf_model.specs.Link.Pieces.{AreLawfulKinds};
+ghost use Rattle.elf_model.specs.Link.Relocation.{modulo_64};
 ghost use Rattle.relocate.specs.Values.{pointer_in, where_in};
 
 use got_tls::{thread_pointer, tls_block};

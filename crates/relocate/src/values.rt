@@ -1,13 +1,13 @@
 //! The value that a relocation wants where the objects are laid out.
 ghost use Rattle.std.specs.Prelude.{◌≡◌, ◌%◌, ◌^◌, IsSome, Some, SomeIff, option_map, unwrap_or};
 ghost use Rattle.std.specs.Option.{option_map_or};
-ghost use Rattle.elf_model.specs.Meaning.{meaning_size, meaning_value};
-ghost use Rattle.elf_model.specs.Pieces.{AreLawfulKinds};
-ghost use Rattle.elf_model.specs.Placement.{got_start, section_address, symbol_value};
-ghost use Rattle.elf_model.specs.Relocation.{relocation_kind, relocation_of};
-ghost use Rattle.elf_model.specs.RelocationValues as values;
-ghost use Rattle.elf_model.specs.RelocationValues.{Fits, terms_of};
-ghost use Rattle.elf_model.specs.Slots as wanted;
+ghost use Rattle.elf_model.specs.Link.Meaning.{meaning_size, meaning_value};
+ghost use Rattle.elf_model.specs.Link.Pieces.{AreLawfulKinds};
+ghost use Rattle.elf_model.specs.Link.Placement.{got_start, section_address, symbol_value};
+ghost use Rattle.elf_model.specs.Link.Relocation.{relocation_kind, relocation_of};
+ghost use Rattle.elf_model.specs.Link.RelocationValues as values;
+ghost use Rattle.elf_model.specs.Link.RelocationValues.{Fits, terms_of};
+ghost use Rattle.elf_model.specs.Link.Slots as wanted;
 ghost use Rattle.resolve.specs.Views.{meaning_view, symbol_view};
 ghost use Rattle.got_tls.specs.Asking.{offset_of};
 ghost use Rattle.got_tls.specs.Kinds.{kind_view};

@@ -4,7 +4,7 @@ use Rattle.std.specs.Prelude.{drop, find}
 use Rattle.std.specs.Borrow.{Bor}
 use Rattle.std.specs.Option.{option_map_or, option_or}
 use Rattle.std.specs.Str.{bytes_eq}
-use Rattle.elf_model.specs.LinkerNames.{ArrayName, array_named, bound_names, fixed_bound, is_start_name, named_output}
+use Rattle.elf_model.specs.Link.LinkerNames.{ArrayName, array_named, bound_names, fixed_bound, is_start_name, named_output}
 use Rattle.elf_model.specs.declared.bound.Bound.{Bound}
 use Rattle.resolve.specs.Outputs.{array_facts, array_view}
 

@@ -2,9 +2,9 @@
 use Rattle.std.proofs.Common.{◌≡◌, ℕ, List, ◌∙◌, ap, Option, None, Some, option_map}
 use Rattle.std.specs.Prelude.{IfNone, is_some}
 use Rattle.std.proofs.lemmas.Bool.{false≢true}
-use Rattle.elf_model.specs.Loading.{LoadedObject}
-use Rattle.elf_model.specs.Meaning.{Meaning, meant}
-use Rattle.elf_model.specs.Resolution.{SymbolOf, chosen}
+use Rattle.elf_model.specs.Link.Loading.{LoadedObject}
+use Rattle.elf_model.specs.Link.Meaning.{Meaning, meant}
+use Rattle.elf_model.specs.Link.Resolution.{SymbolOf, chosen}
 use Rattle.elf_model.proofs.Listing.{chosen_means}
 use Rattle.resolve.specs.Views.{meaning_view}
 use Rattle.resolve.specs.declared.definition.Definition as code

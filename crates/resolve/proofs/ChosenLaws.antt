@@ -1,11 +1,11 @@
 -- The chosen definitions of the objects and their blocks, and why they are refused.
 use Rattle.std.proofs.Common.{◌≡◌, ℕ, ◌+◌, ◌<◌, ◌≤◌, Bool, true, false, cond, ◌&&◌, List, [], ◌∷◌, length, get_or, suc, refl, sym, ◌∙◌, ap, subst, arith}
 use Rattle.std.specs.Prelude.{count_by, filter}
-use Rattle.elf_model.specs.Loading.{LoadedObject}
+use Rattle.elf_model.specs.Link.Loading.{LoadedObject}
 use Rattle.elf_model.proofs.ChosenSymbols.{chosen_once}
-use Rattle.elf_model.specs.ChosenSymbols.{chosen_symbols, definitions, is_chosen, is_definition}
-use Rattle.elf_model.specs.Commons.{Block, block_of, block_symbols, blocks, blocks_from, is_common_symbol}
-use Rattle.elf_model.specs.Resolution.{AreUnique, IsDuplicate, SymbolOf, all_symbols, is_common_definition}
+use Rattle.elf_model.specs.Link.ChosenSymbols.{chosen_symbols, definitions, is_chosen, is_definition}
+use Rattle.elf_model.specs.Link.Commons.{Block, block_of, block_symbols, blocks, blocks_from, is_common_symbol}
+use Rattle.elf_model.specs.Link.Resolution.{AreUnique, IsDuplicate, SymbolOf, all_symbols, is_common_definition}
 use Rattle.search.specs.Loads.{LoadedPlan}
 use Rattle.search.specs.Numbers.{AreNamed}
 use Rattle.resolve.specs.Blocks.{blocks_by}

@@ -4,8 +4,8 @@ use Rattle.std.specs.Prelude.{filter}
 use Rattle.std.specs.List.{list_any}
 use Rattle.std.proofs.lemmas.Bool.{false≢true}
 use Rattle.std.proofs.lemmas.List.Elements.{filter-append}
-use Rattle.elf_model.specs.OwnLayout.{leaders}
-use Rattle.elf_model.specs.Pieces.{Piece, same_output}
+use Rattle.elf_model.specs.Own.OwnLayout.{leaders}
+use Rattle.elf_model.specs.Link.Pieces.{Piece, same_output}
 use Rattle.elf_model.proofs.SameOutput.{same_output-trans}
 
 -- a piece is of the output section of one of these

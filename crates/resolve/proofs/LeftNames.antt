@@ -10,13 +10,13 @@ use Rattle.std.proofs.lemmas.Bool.{false≢true}
 use Rattle.std.proofs.lemmas.List.{get_or_past}
 use Rattle.std.proofs.lemmas.Option.{get_or_from_slice_get, none-some, slice_get_within}
 use Rattle.std.proofs.lemmas.Slice.Eq.{bytes_eq-Decides}
-use Rattle.elf_model.specs.LinkerNames.{bound_of, fixed_bound, named_output, output_bound}
+use Rattle.elf_model.specs.Link.LinkerNames.{bound_of, fixed_bound, named_output, output_bound}
 use Rattle.elf_model.specs.declared.bound.Bound.{Bound}
-use Rattle.elf_model.specs.ChosenSymbols.{chosen_symbols}
-use Rattle.elf_model.specs.Loading.{AreObjects, LoadedObject, is_global_or_weak}
-use Rattle.elf_model.specs.ObjectFile.{IsObject, name_of_symbol, null_symbol, symbols}
-use Rattle.elf_model.specs.Relocation.{is_local, symbol_at}
-use Rattle.elf_model.specs.Resolution.{SymbolOf, chosen, symbol_of}
+use Rattle.elf_model.specs.Link.ChosenSymbols.{chosen_symbols}
+use Rattle.elf_model.specs.Link.Loading.{AreObjects, LoadedObject, is_global_or_weak}
+use Rattle.elf_model.specs.Inputs.ObjectFile.{IsObject, name_of_symbol, null_symbol, symbols}
+use Rattle.elf_model.specs.Link.Relocation.{is_local, symbol_at}
+use Rattle.elf_model.specs.Link.Resolution.{SymbolOf, chosen, symbol_of}
 use Rattle.elf_model.specs.declared.records.Symbol.{Symbol}
 use Rattle.search.specs.Loads.{LoadedPlan}
 use Rattle.search.specs.Names.{is_among, number_of}

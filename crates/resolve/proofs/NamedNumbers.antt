@@ -5,10 +5,10 @@ use Rattle.std.specs.Option.{option_and_then}
 use Rattle.std.proofs.lemmas.Bool.Decides.{nat_tests}
 use Rattle.std.proofs.lemmas.Option.{none-some, same_Some}
 use Rattle.std.proofs.lemmas.List.Elements.{All-filter, filter_passes}
-use Rattle.elf_model.specs.ChosenSymbols.{chosen_symbols, definitions, is_chosen, is_definition}
-use Rattle.elf_model.specs.Loading.{LoadedObject, is_global_or_weak}
-use Rattle.elf_model.specs.ObjectFile.{name_of_symbol, symbol_name, symbols}
-use Rattle.elf_model.specs.Resolution.{SymbolOf, all_symbols}
+use Rattle.elf_model.specs.Link.ChosenSymbols.{chosen_symbols, definitions, is_chosen, is_definition}
+use Rattle.elf_model.specs.Link.Loading.{LoadedObject, is_global_or_weak}
+use Rattle.elf_model.specs.Inputs.ObjectFile.{name_of_symbol, symbol_name, symbols}
+use Rattle.elf_model.specs.Link.Resolution.{SymbolOf, all_symbols}
 use Rattle.elf_model.specs.declared.records.Symbol.{Symbol}
 use Rattle.search.specs.Loads.{LoadedPlan}
 use Rattle.search.specs.Names.{is_among, number_of}

@@ -3,9 +3,9 @@ use Rattle.std.proofs.Common.{◌≡◌, ℕ, Bool, true, false, not, cond, ◌|
 use Rattle.std.specs.Prelude.{filter, map}
 use Rattle.std.specs.List.{list_any}
 use Rattle.std.specs.Str.{bytes_eq}
-use Rattle.elf_model.specs.Loading.{LoadedObject}
-use Rattle.elf_model.specs.OwnLayout.{leaders}
-use Rattle.elf_model.specs.Pieces.{Piece, has_output, is_of_output, kept_sections, same_output}
+use Rattle.elf_model.specs.Link.Loading.{LoadedObject}
+use Rattle.elf_model.specs.Own.OwnLayout.{leaders}
+use Rattle.elf_model.specs.Link.Pieces.{Piece, has_output, is_of_output, kept_sections, same_output}
 use Rattle.elf_model.proofs.SameOutput.{alike}
 use Rattle.resolve.specs.OutputSections.{AreOutputSections, Output, is_named, output_of, output_view}
 use Rattle.resolve.specs.declared.output_sections.OutputSections.{OutputSections}

@@ -7,11 +7,11 @@ use Rattle.std.proofs.lemmas.Bool.Decides.{nat_tests}
 use Rattle.elf_model.proofs.ChosenSymbols.{count_filter, count_le}
 use Rattle.elf_model.proofs.Found.{find-agree, find-filter, find-map}
 use Rattle.elf_model.proofs.RisingNames.{counted}
-use Rattle.elf_model.specs.ChosenSymbols.{definitions, is_chosen, is_definition, is_same_symbol}
-use Rattle.elf_model.specs.Commons.{common_align, common_size, commons_named, greatest}
-use Rattle.elf_model.specs.Loading.{LoadedObject}
-use Rattle.elf_model.specs.Resolution as resolution
-use Rattle.elf_model.specs.Resolution.{SymbolOf, all_symbols, chosen, common_symbols, has_name, is_common_definition, is_weak_definition, strong_definitions, weak_definitions}
+use Rattle.elf_model.specs.Link.ChosenSymbols.{definitions, is_chosen, is_definition, is_same_symbol}
+use Rattle.elf_model.specs.Link.Commons.{common_align, common_size, commons_named, greatest}
+use Rattle.elf_model.specs.Link.Loading.{LoadedObject}
+use Rattle.elf_model.specs.Link.Resolution as resolution
+use Rattle.elf_model.specs.Link.Resolution.{SymbolOf, all_symbols, chosen, common_symbols, has_name, is_common_definition, is_weak_definition, strong_definitions, weak_definitions}
 use Rattle.elf_model.specs.declared.references.SymbolRef.{SymbolRef}
 use Rattle.resolve.specs.Blocks.{extent_in}
 use Rattle.resolve.specs.Defined.{is_strong_of}

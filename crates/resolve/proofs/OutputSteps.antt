@@ -4,9 +4,9 @@ use Rattle.std.specs.Prelude.{Option, Some, map, option_map}
 use Rattle.std.specs.List.{list_any, slice_get}
 use Rattle.std.proofs.lemmas.List.{append-nil, map-append}
 use Rattle.std.proofs.lemmas.Map.Keys.{any_passes_from_place}
-use Rattle.elf_model.specs.OwnLayout.{leaders}
-use Rattle.elf_model.specs.Pieces as pieces
-use Rattle.elf_model.specs.Pieces.{same_output}
+use Rattle.elf_model.specs.Own.OwnLayout.{leaders}
+use Rattle.elf_model.specs.Link.Pieces as pieces
+use Rattle.elf_model.specs.Link.Pieces.{same_output}
 use Rattle.elf_model.proofs.SameOutput.{alike, both_ways_equal, same_from_alike}
 use Rattle.resolve.specs.OutputNumbers.{HasNumber}
 use Rattle.resolve.specs.OutputSections.{AreOutputsOf, Output, output_at, output_of, output_view}

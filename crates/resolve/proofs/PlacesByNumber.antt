@@ -11,11 +11,11 @@ use Rattle.std.proofs.lemmas.Slice.Eq.{bytes_eq-Decides}
 use Rattle.elf_model.proofs.ChosenSymbols.{chosen_listed}
 use Rattle.elf_model.proofs.Finding.{find-none}
 use Rattle.elf_model.proofs.LoadingBounds.{by_case}
-use Rattle.elf_model.specs.ChosenSymbols.{chosen_symbols}
-use Rattle.elf_model.specs.Loading.{AreObjects, LoadedObject, is_global_or_weak}
-use Rattle.elf_model.specs.ObjectFile.{IsObject, name_of_symbol, null_symbol, symbol_name, symbols}
-use Rattle.elf_model.specs.Relocation.{is_local, symbol_at}
-use Rattle.elf_model.specs.Resolution.{SymbolOf, chosen, has_name, symbol_of}
+use Rattle.elf_model.specs.Link.ChosenSymbols.{chosen_symbols}
+use Rattle.elf_model.specs.Link.Loading.{AreObjects, LoadedObject, is_global_or_weak}
+use Rattle.elf_model.specs.Inputs.ObjectFile.{IsObject, name_of_symbol, null_symbol, symbol_name, symbols}
+use Rattle.elf_model.specs.Link.Relocation.{is_local, symbol_at}
+use Rattle.elf_model.specs.Link.Resolution.{SymbolOf, chosen, has_name, symbol_of}
 use Rattle.elf_model.specs.declared.records.Symbol.{Symbol}
 use Rattle.search.specs.Loads.{LoadedPlan}
 use Rattle.search.specs.Names.{is_among, number_of}

@@ -1,8 +1,8 @@
 -- The kept sections of objects, one after the other.
 use Rattle.std.proofs.Common.{◌≡◌, ℕ, List, [], ◌++◌, ◌+◌, ◌<◌, ◌≤◌, length, get_or, drop, sym, ◌∙◌, ap, subst}
 use Rattle.std.proofs.lemmas.List.{append-nil, append_assoc, at_drop_all, at_drop_more}
-use Rattle.elf_model.specs.ObjectFile.{sections}
-use Rattle.elf_model.specs.Pieces.{Piece, pieces_from, pieces_of}
+use Rattle.elf_model.specs.Inputs.ObjectFile.{sections}
+use Rattle.elf_model.specs.Link.Pieces.{Piece, pieces_from, pieces_of}
 use Rattle.search.specs.Views.{loaded_view, loaded_views}
 use Rattle.search.specs.declared.loaded.LoadedObject as code
 

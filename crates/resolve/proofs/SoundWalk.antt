@@ -1,8 +1,8 @@
 -- What is asked of each of an object's symbols, told one after the other.
 use Rattle.std.proofs.Common.{◌≡◌, ℕ, ◌+◌, ◌<◌, Bool, true, false, List, [], ◌∷◌, length, get_or, drop}
 use Rattle.std.specs.Prelude.{◌↔◌, All, IsTrue}
-use Rattle.elf_model.specs.Loading.{LoadedObject}
-use Rattle.elf_model.specs.Resolution.{SymbolOf, symbol_of, symbols_from}
+use Rattle.elf_model.specs.Link.Loading.{LoadedObject}
+use Rattle.elf_model.specs.Link.Resolution.{SymbolOf, symbol_of, symbols_from}
 use Rattle.elf_model.specs.declared.records.Symbol.{Symbol}
 use Rattle.resolve.proofs.Rests.{rest_more, rest_stop, told_one}
 use Rattle.resolve.proofs.Walks.{next_symbol}

@@ -7,8 +7,8 @@ use Rattle.std.proofs.lemmas.List.{get_or-replicate, get_or-set_other, get_or-se
 use Rattle.std.proofs.lemmas.List.Elements.{All-head, All-tail}
 use Rattle.std.proofs.lemmas.Option.{none-some, same_Some}
 use Rattle.std.proofs.lemmas.Slice.Eq.{bytes_eq-Decides}
-use Rattle.elf_model.specs.ChosenSymbols.{definitions}
-use Rattle.elf_model.specs.Resolution.{SymbolOf}
+use Rattle.elf_model.specs.Link.ChosenSymbols.{definitions}
+use Rattle.elf_model.specs.Link.Resolution.{SymbolOf}
 use Rattle.elf_model.specs.declared.references.SymbolRef.{SymbolRef}
 use Rattle.search.specs.Loads.{LoadedPlan}
 use Rattle.search.specs.Names.{is_among, number_of}

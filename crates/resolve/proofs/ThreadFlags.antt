@@ -2,8 +2,8 @@
 use Rattle.std.proofs.Common.{◌≡◌, ◌∙◌, ℕ, Bool, List, Some, ap, option_map}
 use Rattle.std.specs.Prelude.{slice_get}
 use Rattle.std.proofs.lemmas.Option.{slice_get-map}
-use Rattle.elf_model.specs.ChosenSymbols.{chosen_symbols}
-use Rattle.elf_model.specs.Loading.{LoadedObject}
+use Rattle.elf_model.specs.Link.ChosenSymbols.{chosen_symbols}
+use Rattle.elf_model.specs.Link.Loading.{LoadedObject}
 use Rattle.resolve.specs.Places.{at_some}
 use Rattle.resolve.specs.Threads.{AreThreads, is_thread_chosen}
 

@@ -1,7 +1,7 @@
 -- The chosen definitions as other crates see them.
 use Rattle.std.specs.Prelude.{List}
-use Rattle.elf_model.specs.ChosenSymbols.{chosen_symbols}
-use Rattle.elf_model.specs.Resolution.{SymbolOf}
+use Rattle.elf_model.specs.Link.ChosenSymbols.{chosen_symbols}
+use Rattle.elf_model.specs.Link.Resolution.{SymbolOf}
 use Rattle.resolve.specs.declared.definitions.Definitions.{Definitions}
 
 -- the chosen symbols of the objects that definitions are of

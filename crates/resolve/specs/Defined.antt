@@ -1,8 +1,8 @@
 -- What the objects define names as.
 use Rattle.std.specs.Prelude.{◌≡◌, ℕ, ◌≤◌, ◌&&◌, Bool, List, count_by, map}
-use Rattle.elf_model.specs.Loading.{LoadedObject}
-use Rattle.elf_model.specs.ChosenSymbols.{chosen_symbols}
-use Rattle.elf_model.specs.Resolution.{AreSoundCommons, AreSoundSymbols, AreUnique, SymbolOf, has_name, is_strong}
+use Rattle.elf_model.specs.Link.Loading.{LoadedObject}
+use Rattle.elf_model.specs.Link.ChosenSymbols.{chosen_symbols}
+use Rattle.elf_model.specs.Link.Resolution.{AreSoundCommons, AreSoundSymbols, AreUnique, SymbolOf, has_name, is_strong}
 use Rattle.elf_model.specs.declared.references.SymbolRef.{SymbolRef}
 use Rattle.resolve.specs.Offered.{ref_of}
 

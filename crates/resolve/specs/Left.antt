@@ -4,10 +4,10 @@ use Rattle.std.specs.BTreeSet.{BTreeSet}
 use Rattle.std.specs.Borrow.{Bor}
 use Rattle.std.specs.List.{slice_get}
 use Rattle.std.specs.Str.{bytes_eq}
-use Rattle.elf_model.specs.Loading.{LoadedObject}
-use Rattle.elf_model.specs.Relocation.{is_local, symbol_at}
-use Rattle.elf_model.specs.Resolution.{SymbolOf, chosen}
-use Rattle.elf_model.specs.UsedNames.{is_linker_use}
+use Rattle.elf_model.specs.Link.Loading.{LoadedObject}
+use Rattle.elf_model.specs.Link.Relocation.{is_local, symbol_at}
+use Rattle.elf_model.specs.Link.Resolution.{SymbolOf, chosen}
+use Rattle.elf_model.specs.Link.UsedNames.{is_linker_use}
 use Rattle.elf_model.specs.declared.references.SymbolRef.{SymbolRef}
 use Rattle.resolve.specs.Outputs.{bound_among}
 use Rattle.resolve.specs.Places.{is_unplaced}

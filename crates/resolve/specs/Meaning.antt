@@ -2,13 +2,13 @@
 use Rattle.std.specs.Prelude.{ℕ, cond, List, Option, Some, None, option_map}
 use Rattle.std.specs.List.{slice_get}
 use Rattle.std.specs.Option.{option_and_then, option_map_or}
-use Rattle.elf_model.specs.Loading.{LoadedObject}
-use Rattle.elf_model.specs.LinkerNames.{bound_of}
-use Rattle.elf_model.specs.MapRecord.{OfLocal, OfName, TargetRow}
-use Rattle.elf_model.specs.Meaning.{Linker, Meaning, Symbol, meaning}
-use Rattle.elf_model.specs.Relocation.{definition_of, is_local, symbol_at}
-use Rattle.elf_model.specs.Resolution.{SymbolOf, chosen, is_undefined}
-use Rattle.elf_model.specs.Slots.{target_of}
+use Rattle.elf_model.specs.Link.Loading.{LoadedObject}
+use Rattle.elf_model.specs.Link.LinkerNames.{bound_of}
+use Rattle.elf_model.specs.Image.MapRecord.{OfLocal, OfName, TargetRow}
+use Rattle.elf_model.specs.Link.Meaning.{Linker, Meaning, Symbol, meaning}
+use Rattle.elf_model.specs.Link.Relocation.{definition_of, is_local, symbol_at}
+use Rattle.elf_model.specs.Link.Resolution.{SymbolOf, chosen, is_undefined}
+use Rattle.elf_model.specs.Link.Slots.{target_of}
 
 -- what a symbol of an object means; nothing where there is no such object
 abbrev pub at_symbol : {X : Type 0} → (SymbolOf → Option X) → List LoadedObject → ℕ → ℕ → Option X

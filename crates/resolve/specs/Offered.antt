@@ -1,7 +1,7 @@
 -- Definitions as candidates that a table of names is offered, and what its rows then say a name means.
 use Rattle.std.specs.Prelude.{ℕ, ◌==◌, ◌&&◌, ◌||◌, Bool, false, cond, not, List, Option, map, unwrap_or}
 use Rattle.std.specs.Option.{option_map_or, option_or}
-use Rattle.elf_model.specs.Resolution.{SymbolOf, is_common, is_global, is_placed_symbol, is_weak}
+use Rattle.elf_model.specs.Link.Resolution.{SymbolOf, is_common, is_global, is_placed_symbol, is_weak}
 use Rattle.elf_model.specs.declared.records.Symbol.{Symbol}
 use Rattle.elf_model.specs.declared.references.SymbolRef.{SymbolRef}
 use Rattle.symbols.specs.Offers.{Offer, all_offered}

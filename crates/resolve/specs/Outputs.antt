@@ -3,10 +3,10 @@ use Rattle.std.specs.Prelude.{◌≡◌, ℕ, cond, List, Option, None}
 use Rattle.std.specs.BTreeSet.{BTreeSet}
 use Rattle.std.specs.Borrow.{Bor}
 use Rattle.std.specs.Option.{option_or}
-use Rattle.elf_model.specs.LinkerNames.{ArrayName, fixed_bound, named_output, output_bound}
-use Rattle.elf_model.specs.Loading.{LoadedObject}
-use Rattle.elf_model.specs.Pieces.{has_output}
-use Rattle.elf_model.specs.UsedNames.{is_among}
+use Rattle.elf_model.specs.Link.LinkerNames.{ArrayName, fixed_bound, named_output, output_bound}
+use Rattle.elf_model.specs.Link.Loading.{LoadedObject}
+use Rattle.elf_model.specs.Link.Pieces.{has_output}
+use Rattle.elf_model.specs.Link.UsedNames.{is_among}
 use Rattle.elf_model.specs.declared.bound.Bound.{Bound}
 
 -- what an array's name stands for, and its output name

@@ -1,7 +1,7 @@
 -- Why names could not be resolved.
 use Rattle.std.specs.Prelude.{◌≡◌, ℕ, List}
-use Rattle.elf_model.specs.Loading.{LoadedObject}
-use Rattle.elf_model.specs.Resolution.{AreSoundCommons, AreSoundSymbols, IsDuplicate}
+use Rattle.elf_model.specs.Link.Loading.{LoadedObject}
+use Rattle.elf_model.specs.Link.Resolution.{AreSoundCommons, AreSoundSymbols, IsDuplicate}
 use Rattle.resolve.specs.declared.faults.ResolveFault.{ResolveFault}
 use Rattle.resolve.specs.declared.faults.ResolveFault.TheVariants as error
 

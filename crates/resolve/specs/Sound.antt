@@ -1,8 +1,8 @@
 -- Where a symbol stands, and symbols that are sound as common ones and as any.
 use Rattle.std.specs.Prelude.{ℕ, List, Option, None, All, cond}
 use Rattle.std.specs.List.{slice_get}
-use Rattle.elf_model.specs.Loading.{LoadedObject}
-use Rattle.elf_model.specs.Resolution.{IsSoundCommon, IsSoundSymbol, SymbolOf, all_symbols, is_undefined, sections_of_object}
+use Rattle.elf_model.specs.Link.Loading.{LoadedObject}
+use Rattle.elf_model.specs.Link.Resolution.{IsSoundCommon, IsSoundSymbol, SymbolOf, all_symbols, is_undefined, sections_of_object}
 use Rattle.elf_model.specs.declared.records.SectionHeader.{SectionHeader}
 use Rattle.elf_model.specs.declared.records.Symbol.{Symbol}
 

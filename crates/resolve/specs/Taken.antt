@@ -1,7 +1,7 @@
 -- What names mean by the definitions that were taken in, one after the other.
 use Rattle.std.specs.Prelude.{ℕ, cond, List, [], ◌∷◌, Option, None, Some, length, option_map, replicate, set, slice_index_or}
 use Rattle.std.specs.Option.{option_map_or, option_or}
-use Rattle.elf_model.specs.Resolution.{SymbolOf}
+use Rattle.elf_model.specs.Link.Resolution.{SymbolOf}
 use Rattle.search.specs.Loads.{LoadedPlan}
 use Rattle.search.specs.Numbers.{name_number}
 use Rattle.resolve.specs.Offered.{candidate_of}

@@ -1,9 +1,9 @@
 -- The crate's own types as the definitions see them.
 use Rattle.std.specs.Prelude.{ℕ, List, map}
 use Rattle.std.specs.Borrow.{Bor}
-use Rattle.elf_model.specs.MapRecord.{TargetRow, OfName, OfLocal}
-use Rattle.elf_model.specs.Meaning as meaning
-use Rattle.elf_model.specs.Resolution as resolution
+use Rattle.elf_model.specs.Image.MapRecord.{TargetRow, OfName, OfLocal}
+use Rattle.elf_model.specs.Link.Meaning as meaning
+use Rattle.elf_model.specs.Link.Resolution as resolution
 use Rattle.elf_model.specs.declared.references.Target.{Target}
 use Rattle.elf_model.specs.declared.references.Target.TheVariants as target
 use Rattle.resolve.specs.Blocks.{block_view}

@@ -3,7 +3,7 @@
 ghost use Rattle.std.specs.Prelude.{◌≡◌, ℕ, List, IfOk, None, OnOk, Option, Some, cond, option_map};
 ghost use Rattle.std.specs.Option.{option_or};
 ghost use Rattle.std.specs.Str.{bytes_eq};
-ghost use Rattle.elf_model.specs.Commons.{Block as BlockOf};
+ghost use Rattle.elf_model.specs.Link.Commons.{Block as BlockOf};
 ghost use Rattle.resolve.specs.Blocks.{block_by, block_in, block_view, block_views, blocks_by, extent_in, first_block};
 ghost use Rattle.resolve.specs.Views.{symbol_view, symbol_views};
 

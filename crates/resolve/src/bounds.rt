@@ -2,8 +2,8 @@
 ghost use Rattle.std.specs.Prelude.{◌≡◌, drop, find, option_map};
 ghost use Rattle.std.specs.List.{list_all};
 ghost use Rattle.std.specs.Str.{bytes_eq};
-ghost use Rattle.elf_model.specs.LinkerNames as linker;
-ghost use Rattle.elf_model.specs.LinkerNames.{array_named, bound_names, fixed_bound, named_output, output_bound};
+ghost use Rattle.elf_model.specs.Link.LinkerNames as linker;
+ghost use Rattle.elf_model.specs.Link.LinkerNames.{array_named, bound_names, fixed_bound, named_output, output_bound};
 ghost use Rattle.resolve.specs.Outputs.{array_facts, array_view, bound_among};
 
 use crate::outputs::is_among;

@@ -1,7 +1,7 @@
 //! Definitions as candidates for their names.
 ghost use Rattle.std.specs.Prelude.{◌≡◌};
-ghost use Rattle.elf_model.specs.Loading as loading;
-ghost use Rattle.elf_model.specs.Resolution.{symbol_of};
+ghost use Rattle.elf_model.specs.Link.Loading as loading;
+ghost use Rattle.elf_model.specs.Link.Resolution.{symbol_of};
 ghost use Rattle.search.specs.Views.{loaded_view};
 ghost use Rattle.resolve.specs.Offered.{candidate_of, kind_by};
 

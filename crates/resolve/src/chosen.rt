@@ -1,9 +1,9 @@
 //! The definitions that their names mean, found among the symbols of objects, in load order.
 ghost use Rattle.std.specs.Prelude.{◌≡◌, ◌∷◌, ◌++◌, [], IfOk, OnOk, Some, filter, map};
 ghost use Rattle.std.specs.List.{slice_get};
-ghost use Rattle.elf_model.specs.Commons.{is_common_symbol};
-ghost use Rattle.elf_model.specs.ObjectFile.{symbols};
-ghost use Rattle.elf_model.specs.Resolution.{all_symbols, symbol_of, symbols_from};
+ghost use Rattle.elf_model.specs.Link.Commons.{is_common_symbol};
+ghost use Rattle.elf_model.specs.Inputs.ObjectFile.{symbols};
+ghost use Rattle.elf_model.specs.Link.Resolution.{all_symbols, symbol_of, symbols_from};
 ghost use Rattle.search.specs.Views.{loaded_view, loaded_views};
 ghost use Rattle.resolve.specs.Offered.{ref_of};
 ghost use Rattle.resolve.specs.Owned.{is_kept};

@@ -1,6 +1,6 @@
 //! The definition of a name: what an object defines, or what the linker itself defines for it.
 ghost use Rattle.std.specs.Prelude.{◌≡◌};
-ghost use Rattle.elf_model.specs.Meaning.{is_in_thread_storage};
+ghost use Rattle.elf_model.specs.Link.Meaning.{is_in_thread_storage};
 ghost use Rattle.search.specs.Views.{loaded_views};
 ghost use Rattle.resolve.specs.Views.{held_name, meaning_view};
 

@@ -1,8 +1,8 @@
 //! The chosen definitions of the objects, and their common blocks.
 ghost use Rattle.std.specs.Prelude.{◌≡◌, IfErr, IfOk, OnOk, filter};
-ghost use Rattle.elf_model.specs.ChosenSymbols.{definitions};
-ghost use Rattle.elf_model.specs.Commons.{blocks};
-ghost use Rattle.elf_model.specs.Resolution.{is_common_definition};
+ghost use Rattle.elf_model.specs.Link.ChosenSymbols.{definitions};
+ghost use Rattle.elf_model.specs.Link.Commons.{blocks};
+ghost use Rattle.elf_model.specs.Link.Resolution.{is_common_definition};
 ghost use Rattle.search.specs.Views.{loaded_views};
 ghost use Rattle.resolve.specs.Blocks.{block_views};
 ghost use Rattle.resolve.specs.Defined.{AreChosen, AreDefined};

@@ -3,7 +3,7 @@
 ghost use Rattle.std.specs.Prelude.{◌≡◌, ◌<◌, [], Some, length, map, option_map, slice_index_or};
 ghost use Rattle.std.specs.List.{slice_get};
 ghost use Rattle.std.specs.Option.{option_map_or};
-ghost use Rattle.elf_model.specs.ChosenSymbols.{chosen_symbols};
+ghost use Rattle.elf_model.specs.Link.ChosenSymbols.{chosen_symbols};
 ghost use Rattle.search.specs.Numbers.{name_number};
 ghost use Rattle.resolve.specs.Defined.{AreChosen};
 ghost use Rattle.resolve.specs.Views.{symbol_view};

@@ -1,9 +1,9 @@
 //! The symbols of loaded objects, and what their entries say.
 ghost use Rattle.std.specs.Prelude.{◌≡◌, ◌/◌, ◌==◌, ◌&&◌, ◌||◌, [], Some, not, option_map, unwrap_or};
 ghost use Rattle.std.specs.List.{slice_get};
-ghost use Rattle.elf_model.specs.Loading.{is_dropped};
-ghost use Rattle.elf_model.specs.ObjectFile.{symbol_name};
-ghost use Rattle.elf_model.specs.Resolution.{is_common, is_global, is_placed_symbol, is_weak, symbol_of};
+ghost use Rattle.elf_model.specs.Link.Loading.{is_dropped};
+ghost use Rattle.elf_model.specs.Inputs.ObjectFile.{symbol_name};
+ghost use Rattle.elf_model.specs.Link.Resolution.{is_common, is_global, is_placed_symbol, is_weak, symbol_of};
 ghost use Rattle.search.specs.Views.{loaded_view};
 ghost use Rattle.resolve.specs.Offered.{is_defining};
 ghost use Rattle.resolve.specs.Places.{symbol_numbered};

@@ -2,7 +2,7 @@
 ghost use Rattle.std.specs.Prelude.{◌≡◌, ◌≤◌, ◌||◌, length, nat_eq, slice_index};
 ghost use Rattle.std.specs.List.{starts_with};
 ghost use Rattle.std.specs.Str.{bytes_eq};
-ghost use Rattle.elf_model.specs.Pieces as pieces;
+ghost use Rattle.elf_model.specs.Link.Pieces as pieces;
 
 /// The second byte of a name; 0 where it has none.
 pub fn second_byte(name: &[u8]) -> u8

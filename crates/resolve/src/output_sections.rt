@@ -1,9 +1,9 @@
 //! The output sections of the kept sections of all objects, by first appearance, and which one each kept section is of: a
 //! name is read and looked up once a section, and is a number after that.
 ghost use Rattle.std.specs.Prelude.{◌≡◌, ◌++◌, ◌∷◌, [], List, IfOk, IfSome, OnOk, unwrap_or};
-ghost use Rattle.elf_model.specs.ObjectFile.{section_name, sections};
-ghost use Rattle.elf_model.specs.Pieces as pieces;
-ghost use Rattle.elf_model.specs.Pieces.{Piece};
+ghost use Rattle.elf_model.specs.Inputs.ObjectFile.{section_name, sections};
+ghost use Rattle.elf_model.specs.Link.Pieces as pieces;
+ghost use Rattle.elf_model.specs.Link.Pieces.{Piece};
 ghost use Rattle.search.specs.Views.{loaded_view, loaded_views};
 ghost use Rattle.search.specs.KeptLists.{piece_at};
 ghost use Rattle.resolve.specs.OutputNumbers.{HasNumber};

@@ -2,8 +2,8 @@
 ghost use Rattle.std.specs.Prelude.{◌≡◌, ◌||◌, ℕ, List, IfOk, OnOk};
 ghost use Rattle.std.specs.List.{list_any};
 ghost use Rattle.std.specs.Str.{bytes_eq};
-ghost use Rattle.elf_model.specs.Loading.{LoadedObject};
-ghost use Rattle.elf_model.specs.UsedNames.{is_among};
+ghost use Rattle.elf_model.specs.Link.Loading.{LoadedObject};
+ghost use Rattle.elf_model.specs.Link.UsedNames.{is_among};
 ghost use Rattle.resolve.specs.OutputSections.{AreOutputSections, is_named};
 ghost use Rattle.resolve.specs.Outputs.{AreOutputs};
 

@@ -2,13 +2,13 @@
 ghost use Rattle.std.specs.Prelude.{◌≡◌, ℕ, List, IfErr, IfNone, IfOk, IfSome, OnOk, OnSome, None, Some, cond, false, is_some};
 ghost use Rattle.std.specs.List.{slice_get};
 ghost use Rattle.std.specs.Option.{option_and_then, option_map, option_map_or};
-ghost use Rattle.elf_model.specs.ChosenSymbols.{chosen_symbols};
-ghost use Rattle.elf_model.specs.Commons.{block_named, blocks};
-ghost use Rattle.elf_model.specs.LinkerNames.{bound_of};
-ghost use Rattle.elf_model.specs.Meaning as meaning;
-ghost use Rattle.elf_model.specs.Meaning.{is_in_thread_storage, object_meaning};
-ghost use Rattle.elf_model.specs.Resolution.{AreSoundCommons, AreSoundSymbols, AreUnique, IsEntry, chosen, is_undefined, symbol_of};
-ghost use Rattle.elf_model.specs.Slots.{target_meaning};
+ghost use Rattle.elf_model.specs.Link.ChosenSymbols.{chosen_symbols};
+ghost use Rattle.elf_model.specs.Link.Commons.{block_named, blocks};
+ghost use Rattle.elf_model.specs.Link.LinkerNames.{bound_of};
+ghost use Rattle.elf_model.specs.Link.Meaning as meaning;
+ghost use Rattle.elf_model.specs.Link.Meaning.{is_in_thread_storage, object_meaning};
+ghost use Rattle.elf_model.specs.Link.Resolution.{AreSoundCommons, AreSoundSymbols, AreUnique, IsEntry, chosen, is_undefined, symbol_of};
+ghost use Rattle.elf_model.specs.Link.Slots.{target_meaning};
 ghost use Rattle.search.specs.Views.{loaded_view};
 ghost use Rattle.resolve.specs.Blocks.{block_in, block_view, block_views};
 ghost use Rattle.resolve.specs.Chosen.{defined_in};
@@ -58,7 +58,7 @@ pub struct Resolved<'a> {
 
 impl<'a> Model for Resolved<'a> {
     ghost use Rattle.std.specs.Prelude.{List};
-    ghost use Rattle.elf_model.specs.Loading as loading;
+    ghost use Rattle.elf_model.specs.Link.Loading as loading;
 
     ghost Value = { List loading.LoadedObject };
 

@@ -1,7 +1,7 @@
 //! The sections in which symbols are defined.
 ghost use Rattle.std.specs.Prelude.{◌≡◌};
 ghost use Rattle.std.specs.List.{slice_get};
-ghost use Rattle.elf_model.specs.Resolution.{is_in_thread_section, sections_of_object};
+ghost use Rattle.elf_model.specs.Link.Resolution.{is_in_thread_section, sections_of_object};
 ghost use Rattle.search.specs.Views.{loaded_views};
 ghost use Rattle.resolve.specs.Sound.{section_by};
 ghost use Rattle.resolve.specs.Views.{symbol_view};

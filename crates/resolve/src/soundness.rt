@@ -1,8 +1,8 @@
 //! Whether the symbols of the loaded objects are sound.
 ghost use Rattle.std.specs.Prelude.{◌≤◌, ◌^◌, ◌↔◌, All, IsTrue};
 ghost use Rattle.std.specs.Int.{IsPowerOfTwo};
-ghost use Rattle.elf_model.specs.ObjectFile.{symbols};
-ghost use Rattle.elf_model.specs.Resolution.{AreSoundCommons, IsSoundCommon, IsSoundSymbol, StandsWell, binding, symbol_of, symbols_from};
+ghost use Rattle.elf_model.specs.Inputs.ObjectFile.{symbols};
+ghost use Rattle.elf_model.specs.Link.Resolution.{AreSoundCommons, IsSoundCommon, IsSoundSymbol, StandsWell, binding, symbol_of, symbols_from};
 ghost use Rattle.search.specs.Views.{loaded_view, loaded_views};
 ghost use Rattle.resolve.specs.Sound.{IsWhollySound};
 

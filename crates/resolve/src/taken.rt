@@ -2,10 +2,10 @@
 ghost use Rattle.std.specs.Prelude.{◌≡◌, ◌<◌, [], IfOk, None, OnOk, Some, cond, filter, length, option_map, set, slice_index_or};
 ghost use Rattle.std.specs.List.{slice_get};
 ghost use Rattle.std.specs.Option.{option_or};
-ghost use Rattle.elf_model.specs.ChosenSymbols.{is_definition};
-ghost use Rattle.elf_model.specs.Loading as loading;
-ghost use Rattle.elf_model.specs.ObjectFile.{symbols};
-ghost use Rattle.elf_model.specs.Resolution.{is_common_definition, symbol_of, symbols_from};
+ghost use Rattle.elf_model.specs.Link.ChosenSymbols.{is_definition};
+ghost use Rattle.elf_model.specs.Link.Loading as loading;
+ghost use Rattle.elf_model.specs.Inputs.ObjectFile.{symbols};
+ghost use Rattle.elf_model.specs.Link.Resolution.{is_common_definition, symbol_of, symbols_from};
 ghost use Rattle.search.specs.Views.{loaded_view};
 ghost use Rattle.resolve.specs.Offered.{offers_of};
 ghost use Rattle.resolve.specs.Owned.{is_second, owner_after};

@@ -1,7 +1,7 @@
 //! The targets of references: a LOCAL symbol, or a name.
 ghost use Rattle.std.specs.Prelude.{◌≡◌};
-ghost use Rattle.elf_model.specs.Relocation.{symbol_at};
-ghost use Rattle.elf_model.specs.Slots as wanted;
+ghost use Rattle.elf_model.specs.Link.Relocation.{symbol_at};
+ghost use Rattle.elf_model.specs.Link.Slots as wanted;
 ghost use Rattle.search.specs.Views.{loaded_view};
 ghost use Rattle.resolve.specs.Views.{target_view};
 

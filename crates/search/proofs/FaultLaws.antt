@@ -1,7 +1,7 @@
 -- Faults of objects and groups as those of loading.
 use Rattle.std.proofs.Common.{ℕ, List}
-use Rattle.elf_model.specs.Groups.{GroupFaultStands}
-use Rattle.elf_model.specs.ObjectFile.{IsObject, ObjFaultStands, groups}
+use Rattle.elf_model.specs.Link.Groups.{GroupFaultStands}
+use Rattle.elf_model.specs.Inputs.ObjectFile.{IsObject, ObjFaultStands, groups}
 use Rattle.elf_model.specs.declared.faults.GroupFault.{GroupFault}
 use Rattle.elf_model.specs.declared.faults.GroupFault.TheVariants as group_fault
 use Rattle.elf_model.specs.declared.faults.ObjFault.{ObjFault}

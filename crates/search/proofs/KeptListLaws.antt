@@ -5,11 +5,11 @@ use Rattle.std.proofs.lemmas.List.Elements.{All-cons, All-nil}
 use Rattle.std.proofs.lemmas.List.FromFn.{length-map-range_with_len}
 use Rattle.std.proofs.lemmas.Option.{slice_get-get_or}
 use Rattle.byteview.specs.Numbers.{part}
-use Rattle.elf_model.specs.Loading.{LoadedObject}
-use Rattle.elf_model.specs.ObjectFile.{IsObject, null_section, section, sections}
-use Rattle.elf_model.specs.Pieces.{Piece, is_kept, piece_of, pieces_from}
-use Rattle.elf_model.specs.Records.{file_header, section_header}
-use Rattle.elf_model.specs.Relocation.{Relocation, is_kept_rela, relocations_behind, relocations_from, relocations_in}
+use Rattle.elf_model.specs.Link.Loading.{LoadedObject}
+use Rattle.elf_model.specs.Inputs.ObjectFile.{IsObject, null_section, section, sections}
+use Rattle.elf_model.specs.Link.Pieces.{Piece, is_kept, piece_of, pieces_from}
+use Rattle.elf_model.specs.Inputs.Records.{file_header, section_header}
+use Rattle.elf_model.specs.Link.Relocation.{Relocation, is_kept_rela, relocations_behind, relocations_from, relocations_in}
 use Rattle.elf_model.specs.declared.records.SectionHeader.{SectionHeader}
 use Rattle.search.specs.KeptLists.{IsKeptRela, IsKeptSection, kept_behind, kept_numbers, kept_relas, pieces_at, relas_behind, relocations_of_relas}
 

@@ -1,11 +1,11 @@
 -- The whole command.
 use Rattle.std.proofs.Common.{◌≡◌, List, [], Option, Some, None, Result, Ok, Err, ◌∙◌, ap, subst}
 use Rattle.std.specs.Prelude.{IfOk}
-use Rattle.elf_model.specs.Command.{Plan}
-use Rattle.elf_model.specs.Files.{File}
-use Rattle.elf_model.specs.Loading.{LoadedObject, loaded_objects, loaded_steps, steps}
-use Rattle.elf_model.specs.Opening.{Opened, opened}
-use Rattle.elf_model.specs.Causes.{Reaches}
+use Rattle.elf_model.specs.Inputs.Command.{Plan}
+use Rattle.elf_model.specs.Inputs.Files.{File}
+use Rattle.elf_model.specs.Link.Loading.{LoadedObject, loaded_objects, loaded_steps, steps}
+use Rattle.elf_model.specs.Inputs.Opening.{Opened, opened}
+use Rattle.elf_model.specs.Own.Causes.{Reaches}
 use Rattle.opening.specs.Faults.{IsSearchable, ReadsBadly}
 use Rattle.opening.specs.declared.faults.OpenFault.{OpenFault}
 use Rattle.opening.specs.declared.faults.OpenFault.TheVariants as open_fault

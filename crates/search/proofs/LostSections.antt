@@ -3,13 +3,13 @@ use Rattle.std.proofs.Common.{◌≡◌, ℕ, zero, suc, Bool, true, false, cond
 use Rattle.std.specs.List.{flat_map}
 use Rattle.std.proofs.lemmas.List.{append-nil}
 use Rattle.std.proofs.lemmas.List.Sums.{fold-append}
-use Rattle.elf_model.specs.ArchiveFile.{IndexEntry, Member}
-use Rattle.elf_model.specs.Command.{Plan}
-use Rattle.elf_model.specs.Files.{File}
-use Rattle.elf_model.specs.Groups.{AreDropped, dropped, seen_after, seen_with}
-use Rattle.elf_model.specs.Loading.{Group, LoadedObject, Single, Step, loaded_objects, loaded_step, loaded_steps, lost_sections, next, object_behind, round, rounds_within, most_rounds, searched, seen_behind, steps, turn, turn_of_whole, with_member, with_members, with_object, is_begun}
-use Rattle.elf_model.specs.ObjectFile.{groups}
-use Rattle.elf_model.specs.Opening.{Opened, archive_data, archive_members, opened}
+use Rattle.elf_model.specs.Inputs.ArchiveFile.{IndexEntry, Member}
+use Rattle.elf_model.specs.Inputs.Command.{Plan}
+use Rattle.elf_model.specs.Inputs.Files.{File}
+use Rattle.elf_model.specs.Link.Groups.{AreDropped, dropped, seen_after, seen_with}
+use Rattle.elf_model.specs.Link.Loading.{Group, LoadedObject, Single, Step, loaded_objects, loaded_step, loaded_steps, lost_sections, next, object_behind, round, rounds_within, most_rounds, searched, seen_behind, steps, turn, turn_of_whole, with_member, with_members, with_object, is_begun}
+use Rattle.elf_model.specs.Inputs.ObjectFile.{groups}
+use Rattle.elf_model.specs.Inputs.Opening.{Opened, archive_data, archive_members, opened}
 use Rattle.elf_model.proofs.DroppedSections.{dropped_iff}
 use Rattle.search.specs.Loads.{AreDroppedInOrder}
 

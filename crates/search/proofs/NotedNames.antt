@@ -6,8 +6,8 @@ use Rattle.std.specs.Str.{bytes_eq}
 use Rattle.std.proofs.Math.ListN.{drop_of_length-le}
 use Rattle.std.proofs.lemmas.Bool.{and_left, or_parts}
 use Rattle.std.proofs.lemmas.Option.{slice_get-get_or}
-use Rattle.elf_model.specs.Loading.{has_name, is_definition, is_global_or_weak, is_global_symbol, is_left_undefined, is_request}
-use Rattle.elf_model.specs.ObjectFile.{name_of_symbol, symbol_name, symbols}
+use Rattle.elf_model.specs.Link.Loading.{has_name, is_definition, is_global_or_weak, is_global_symbol, is_left_undefined, is_request}
+use Rattle.elf_model.specs.Inputs.ObjectFile.{name_of_symbol, symbol_name, symbols}
 use Rattle.elf_model.specs.declared.records.Symbol.{Symbol}
 use Rattle.search.specs.Loaders.{asked_from, defined_from}
 

@@ -5,11 +5,11 @@ use Rattle.std.proofs.Math.ListN.{drop_of_length-le}
 use Rattle.std.proofs.lemmas.Bool.{cond-false}
 use Rattle.std.specs.List.{slice_get}
 use Rattle.std.proofs.lemmas.Option.{none-some, same_Some, slice_get_cases}
-use Rattle.elf_model.specs.ArchiveFile.{IndexEntry, Member}
-use Rattle.elf_model.specs.Causes.{Reaches}
-use Rattle.elf_model.specs.Command.{Plan}
-use Rattle.elf_model.specs.Loading.{AreObjects, HaveLawfulGroups, LoadedObject, is_begun, next, Single, loaded_step, object_behind, round, turn, with_member, with_members, with_object}
-use Rattle.elf_model.specs.Opening.{Opened, archive_data, archive_members}
+use Rattle.elf_model.specs.Inputs.ArchiveFile.{IndexEntry, Member}
+use Rattle.elf_model.specs.Own.Causes.{Reaches}
+use Rattle.elf_model.specs.Inputs.Command.{Plan}
+use Rattle.elf_model.specs.Link.Loading.{AreObjects, HaveLawfulGroups, LoadedObject, is_begun, next, Single, loaded_step, object_behind, round, turn, with_member, with_members, with_object}
+use Rattle.elf_model.specs.Inputs.Opening.{Opened, archive_data, archive_members}
 use Rattle.elf_model.proofs.LoadingBounds.{Extends, begun_now, begun_stays, extends_same}
 use Rattle.elf_model.proofs.LoadingLaws.{members_extend}
 use Rattle.elf_model.proofs.LoadingSteps.{reaches_later, round_behind, turn_behind, turn_some}

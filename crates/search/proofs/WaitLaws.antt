@@ -9,10 +9,10 @@ use Rattle.std.proofs.Math.ListN.{drop_of_length-le}
 use Rattle.std.proofs.lemmas.List.{drop-append-le, length-append}
 use Rattle.std.proofs.lemmas.Option.{get_or_from_slice_get, none-some, same_Some, slice_get_within}
 use Rattle.std.proofs.lemmas.Slice.Eq.{bytes_eq-Decides}
-use Rattle.elf_model.specs.ArchiveFile.{IndexEntry}
-use Rattle.elf_model.specs.Command.{Plan}
-use Rattle.elf_model.specs.Loading.{LoadedObject, defines, is_begun, is_defined, is_requested, is_taken, needed, turn, turn_of_whole, with_members}
-use Rattle.elf_model.specs.Opening.{Opened, archive_entries, archive_members}
+use Rattle.elf_model.specs.Inputs.ArchiveFile.{IndexEntry}
+use Rattle.elf_model.specs.Inputs.Command.{Plan}
+use Rattle.elf_model.specs.Link.Loading.{LoadedObject, defines, is_begun, is_defined, is_requested, is_taken, needed, turn, turn_of_whole, with_members}
+use Rattle.elf_model.specs.Inputs.Opening.{Opened, archive_entries, archive_members}
 use Rattle.elf_model.proofs.LoadingBounds.{Extends, begun_stays, by_case, extends_refl, extends_trans, taken_stays}
 use Rattle.elf_model.proofs.LoadingSteps.{turn_none, turn_whole}
 use Rattle.search.proofs.NameSets.{among_grows, begins_refl, begins_trans}

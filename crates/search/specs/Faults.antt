@@ -1,12 +1,12 @@
 -- The faults of objects, archives and groups as those of loading, and when each stands.
 use Rattle.std.specs.Prelude.{◌≡◌, ◌≢◌, ℕ, List, Any, Option, Some, None}
-use Rattle.elf_model.specs.Causes.{HasBadGroups, IsBadArchive, IsWithoutIndex, Reaches}
-use Rattle.elf_model.specs.Command.{Plan}
-use Rattle.elf_model.specs.Files.{File}
-use Rattle.elf_model.specs.Groups.{GroupFaultStands}
-use Rattle.elf_model.specs.Loading.{AreObjects, HaveLawfulGroups, LoadedObject, loaded_objects}
-use Rattle.elf_model.specs.ObjectFile.{IsObject, ObjFaultStands, groups}
-use Rattle.elf_model.specs.Opening.{AreFilesThere, opened}
+use Rattle.elf_model.specs.Own.Causes.{HasBadGroups, IsBadArchive, IsWithoutIndex, Reaches}
+use Rattle.elf_model.specs.Inputs.Command.{Plan}
+use Rattle.elf_model.specs.Inputs.Files.{File}
+use Rattle.elf_model.specs.Link.Groups.{GroupFaultStands}
+use Rattle.elf_model.specs.Link.Loading.{AreObjects, HaveLawfulGroups, LoadedObject, loaded_objects}
+use Rattle.elf_model.specs.Inputs.ObjectFile.{IsObject, ObjFaultStands, groups}
+use Rattle.elf_model.specs.Inputs.Opening.{AreFilesThere, opened}
 use Rattle.elf_model.specs.declared.faults.ArFault.TheVariants as archive_fault
 use Rattle.elf_model.specs.declared.faults.GroupFault.{GroupFault}
 use Rattle.elf_model.specs.declared.faults.GroupFault.TheVariants as group_fault

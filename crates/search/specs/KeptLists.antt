@@ -1,10 +1,10 @@
 -- What is kept of an object, as lists: the numbers of its sections, and the RELA sections of these.
 use Rattle.std.specs.Prelude.{◌≡◌, ℕ, ◌+◌, true, cond, List, [], ◌∷◌, ◌++◌, Some, map}
 use Rattle.std.specs.List.{flat_map, slice_get}
-use Rattle.elf_model.specs.Loading.{LoadedObject}
-use Rattle.elf_model.specs.ObjectFile.{section, sections}
-use Rattle.elf_model.specs.Pieces.{Piece, is_kept, piece_of}
-use Rattle.elf_model.specs.Relocation.{Relocation, is_kept_rela, relocations_in}
+use Rattle.elf_model.specs.Link.Loading.{LoadedObject}
+use Rattle.elf_model.specs.Inputs.ObjectFile.{section, sections}
+use Rattle.elf_model.specs.Link.Pieces.{Piece, is_kept, piece_of}
+use Rattle.elf_model.specs.Link.Relocation.{Relocation, is_kept_rela, relocations_in}
 use Rattle.elf_model.specs.declared.records.SectionHeader.{SectionHeader}
 use Rattle.search.specs.declared.kept_lists.KeptRela.{KeptRela}
 

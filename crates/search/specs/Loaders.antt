@@ -1,10 +1,10 @@
 -- What a loader knows of the objects that are loaded.
 use Rattle.std.specs.Prelude.{◌≡◌, ℕ, ◌&&◌, Bool, not, List, [], ◌++◌}
 use Rattle.std.specs.List.{list_any}
-use Rattle.elf_model.specs.ArchiveFile.{IndexEntry}
-use Rattle.elf_model.specs.Command.{Plan}
-use Rattle.elf_model.specs.Loading.{AreObjects, HaveLawfulGroups, LoadedObject, has_name, is_begun, is_defined, is_definition, is_request, is_requested, is_taken, needed, seen_behind}
-use Rattle.elf_model.specs.ObjectFile.{symbols}
+use Rattle.elf_model.specs.Inputs.ArchiveFile.{IndexEntry}
+use Rattle.elf_model.specs.Inputs.Command.{Plan}
+use Rattle.elf_model.specs.Link.Loading.{AreObjects, HaveLawfulGroups, LoadedObject, has_name, is_begun, is_defined, is_definition, is_request, is_requested, is_taken, needed, seen_behind}
+use Rattle.elf_model.specs.Inputs.ObjectFile.{symbols}
 use Rattle.elf_model.specs.declared.records.Symbol.{Symbol}
 use Rattle.search.specs.Mentions.{AreNoted, has_definition}
 use Rattle.search.specs.Names.{Begins, is_among}

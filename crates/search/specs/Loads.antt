@@ -1,10 +1,10 @@
 -- What is loaded, as one value, and which sections of it are dropped.
 use Rattle.std.specs.Prelude.{◌≡◌, ℕ, ◌∷◌, ◌++◌, List}
 use Rattle.std.specs.List.{flat_map}
-use Rattle.elf_model.specs.Command.{Plan}
-use Rattle.elf_model.specs.Groups.{AreDropped}
-use Rattle.elf_model.specs.Loading.{LoadedObject}
-use Rattle.elf_model.specs.ObjectFile.{groups}
+use Rattle.elf_model.specs.Inputs.Command.{Plan}
+use Rattle.elf_model.specs.Link.Groups.{AreDropped}
+use Rattle.elf_model.specs.Link.Loading.{LoadedObject}
+use Rattle.elf_model.specs.Inputs.ObjectFile.{groups}
 
 -- the plan of a command, the objects that it loads, in load order, and the names that have numbers: those of the symbols
 -- that are not LOCAL among them

@@ -1,6 +1,6 @@
 -- The loaded objects as the definitions see them.
 use Rattle.std.specs.Prelude.{List, map}
-use Rattle.elf_model.specs.Loading.{LoadedObject}
+use Rattle.elf_model.specs.Link.Loading.{LoadedObject}
 use Rattle.search.specs.declared.loaded.LoadedObject as code
 
 abbrev pub loaded_view : code.LoadedObject → LoadedObject

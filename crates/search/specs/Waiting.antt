@@ -1,8 +1,8 @@
 -- Which places in the indexes of a group's archives may give a member, as a loader keeps them.
 use Rattle.std.specs.Prelude.{◌≡◌, ◌⊎◌, ℕ, ◌≤◌, ◌<◌, true, false, List, [], Some, drop, length, slice_get}
-use Rattle.elf_model.specs.ArchiveFile.{IndexEntry}
-use Rattle.elf_model.specs.Loading.{LoadedObject, is_begun, turn}
-use Rattle.elf_model.specs.Opening.{Opened, archive_entries, archive_members}
+use Rattle.elf_model.specs.Inputs.ArchiveFile.{IndexEntry}
+use Rattle.elf_model.specs.Link.Loading.{LoadedObject, is_begun, turn}
+use Rattle.elf_model.specs.Inputs.Opening.{Opened, archive_entries, archive_members}
 use Rattle.search.specs.Loaders.{is_next_of, loaded}
 use Rattle.search.specs.Names.{is_among}
 use Rattle.search.specs.Places.{ArePlaced, is_waiting}

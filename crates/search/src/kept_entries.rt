@@ -1,6 +1,6 @@
 //! The entries of a kept RELA section that relocate, one after the other: the one walk over entries in the linker.
 ghost use Rattle.std.specs.Prelude.{◌≡◌, filter};
-ghost use Rattle.elf_model.specs.Relocation.{is_some_kind};
+ghost use Rattle.elf_model.specs.Link.Relocation.{is_some_kind};
 
 use elf_model::Rela;
 use elf_read::RelaRun;
@@ -22,7 +22,7 @@ pub struct KeptEntries<'a> {
 
 impl<'a> Model for KeptEntries<'a> {
     ghost use Rattle.std.specs.Prelude.{List, drop, filter};
-    ghost use Rattle.elf_model.specs.Relocation.{is_some_kind};
+    ghost use Rattle.elf_model.specs.Link.Relocation.{is_some_kind};
     ghost use Rattle.elf_model.specs.declared.records.Rela.{Rela};
 
     ghost Value = { List Rela };

@@ -1,7 +1,7 @@
 //! What is kept of an object, listed once when it is loaded: its sections, and the RELA sections of these.
 ghost use Rattle.std.specs.Prelude.{◌≡◌, ◌++◌, IfOk, OnOk, []};
-ghost use Rattle.elf_model.specs.Pieces.{is_kept};
-ghost use Rattle.elf_model.specs.Relocation.{is_kept_rela};
+ghost use Rattle.elf_model.specs.Link.Pieces.{is_kept};
+ghost use Rattle.elf_model.specs.Link.Relocation.{is_kept_rela};
 ghost use Rattle.search.specs.KeptLists.{kept_at, kept_in, object_of, rela_at, relas_in};
 
 use comdat::Dropped;

@@ -2,10 +2,10 @@
 //! these.
 ghost use Rattle.std.specs.Prelude.{◌≡◌, ℕ, All, Some, map};
 ghost use Rattle.std.specs.List.{slice_get};
-ghost use Rattle.elf_model.specs.Loading.{is_dropped};
-ghost use Rattle.elf_model.specs.ObjectFile.{relas_of, section, sections};
-ghost use Rattle.elf_model.specs.Pieces.{is_kept, pieces_from};
-ghost use Rattle.elf_model.specs.Relocation.{is_kept_rela, relocation_of, relocations_from};
+ghost use Rattle.elf_model.specs.Link.Loading.{is_dropped};
+ghost use Rattle.elf_model.specs.Inputs.ObjectFile.{relas_of, section, sections};
+ghost use Rattle.elf_model.specs.Link.Pieces.{is_kept, pieces_from};
+ghost use Rattle.elf_model.specs.Link.Relocation.{is_kept_rela, relocation_of, relocations_from};
 ghost use Rattle.search.specs.KeptLists.{IsKeptRela, IsKeptSection, kept_numbers, kept_relas, pieces_at, relocations_by, relocations_of_relas};
 ghost use Rattle.search.specs.Views.{loaded_view};
 

@@ -1,11 +1,11 @@
 //! The whole command: its items in order, groups of archives as one.
 ghost use Rattle.std.specs.Prelude.{◌≡◌, IfErr, IfOk, List, OnOk, [], drop, length, ◌≤◌, ◌<◌};
 ghost use Rattle.std.specs.List.{prefix_len};
-ghost use Rattle.elf_model.specs.Command as command;
-ghost use Rattle.elf_model.specs.Files.{File, files_of};
-ghost use Rattle.elf_model.specs.Loading.{AreObjects, HaveLawfulGroups, LoadedObject, Single, group_of, loaded_objects, loaded_step, loaded_steps, steps};
-ghost use Rattle.elf_model.specs.LoadingRules.{FollowsRules};
-ghost use Rattle.elf_model.specs.Opening.{AreArchives, AreFilesThere, HaveIndexes, opened};
+ghost use Rattle.elf_model.specs.Inputs.Command as command;
+ghost use Rattle.elf_model.specs.Inputs.Files.{File, files_of};
+ghost use Rattle.elf_model.specs.Link.Loading.{AreObjects, HaveLawfulGroups, LoadedObject, Single, group_of, loaded_objects, loaded_step, loaded_steps, steps};
+ghost use Rattle.elf_model.specs.Link.LoadingRules.{FollowsRules};
+ghost use Rattle.elf_model.specs.Inputs.Opening.{AreArchives, AreFilesThere, HaveIndexes, opened};
 ghost use Rattle.opening.specs.Faults.{ReadsBadly};
 ghost use Rattle.search.specs.Faults.{FailsOn, IsRefusedIn, IsRefusedOf, LoadFails};
 ghost use Rattle.search.specs.Loaders.{IsLater, Knows, loaded};

@@ -57,7 +57,7 @@ impl<'a> Model for Loaded<'a> {
 
     ghost Value = { LoadedPlan };
 
-    ghost use Rattle.elf_model.specs.Loading.{AreObjects};
+    ghost use Rattle.elf_model.specs.Link.Loading.{AreObjects};
     ghost use Rattle.search.specs.Views.{loaded_views};
     ghost use Rattle.search.specs.Numbers.{AreWhole};
 
@@ -103,7 +103,7 @@ impl<'a> Loaded<'a> {
     ghost use Rattle.std.specs.Prelude.{◌≡◌, ◌<◌, [], IfOk, IfSome, length, slice_index_or};
     ghost use Rattle.std.specs.List.{position};
     ghost use Rattle.std.specs.Str.{bytes_eq};
-    ghost use Rattle.elf_model.specs.Loading.{AreObjects};
+    ghost use Rattle.elf_model.specs.Link.Loading.{AreObjects};
     ghost use Rattle.search.specs.Numbers.{AreNamed, AreNumbered, AreWhole, name_number, stored_number};
     ghost use Rattle.search.specs.Views.{loaded_views};
 

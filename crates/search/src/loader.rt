@@ -3,9 +3,9 @@ ghost use Rattle.std.specs.Prelude.{◌≡◌, ◌==◌, ◌<◌, ◌&&◌, ◌|
 ghost use Rattle.std.specs.List.{list_any};
 ghost use Rattle.std.specs.Str.{bytes_eq};
 ghost use Rattle.command.specs.Views.{texts_of};
-ghost use Rattle.elf_model.specs.Groups.{AreLawfulGroups};
-ghost use Rattle.elf_model.specs.Loading.{is_begun, is_definition, is_global_or_weak, is_global_symbol, is_left_undefined, is_request, is_taken, needed, object_behind, with_object};
-ghost use Rattle.elf_model.specs.ObjectFile.{IsObject, groups, symbols};
+ghost use Rattle.elf_model.specs.Link.Groups.{AreLawfulGroups};
+ghost use Rattle.elf_model.specs.Link.Loading.{is_begun, is_definition, is_global_or_weak, is_global_symbol, is_left_undefined, is_request, is_taken, needed, object_behind, with_object};
+ghost use Rattle.elf_model.specs.Inputs.ObjectFile.{IsObject, groups, symbols};
 ghost use Rattle.search.specs.Faults.{FailsAt, IsReached};
 ghost use Rattle.search.specs.Loaders.{Knows, asked_in, defined_in, loaded};
 ghost use Rattle.search.specs.Mentions.{AreNoted, has_definition, mention_of};

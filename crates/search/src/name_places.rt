@@ -2,7 +2,7 @@
 ghost use Rattle.std.specs.Prelude.{◌≡◌, ◌||◌, ◌++◌, ◌∷◌, [], ℕ, All, List, Some, true, cond, IfOk, OnOk, slice_get};
 ghost use Rattle.std.specs.List.{list_any};
 ghost use Rattle.std.specs.Str.{bytes_eq};
-ghost use Rattle.elf_model.specs.ArchiveFile as archive_file;
+ghost use Rattle.elf_model.specs.Inputs.ArchiveFile as archive_file;
 ghost use Rattle.search.specs.Places.{ArePlaced, IsPlaced, has_place, is_place, is_waiting, places_in};
 
 use crate::waiting_places::WaitingPlaces;

@@ -1,6 +1,6 @@
 //! Groups of archives: rounds, until one takes nothing.
 ghost use Rattle.std.specs.Prelude.{◌≡◌, true, All, IfErr, OnOk};
-ghost use Rattle.elf_model.specs.Loading.{round, rounds};
+ghost use Rattle.elf_model.specs.Link.Loading.{round, rounds};
 ghost use Rattle.search.specs.Faults.{FailsOn};
 ghost use Rattle.search.specs.Loaders.{IsLater, Knows, loaded};
 ghost use Rattle.search.specs.Waiting.{Covers};

@@ -1,7 +1,7 @@
 //! A turn of an archive.
 ghost use Rattle.std.specs.Prelude.{◌≡◌, true, false, IfErr, OnOk, Some, slice_get};
-ghost use Rattle.elf_model.specs.Loading.{turn, turn_of_whole, with_members};
-ghost use Rattle.elf_model.specs.Opening.{archive_members};
+ghost use Rattle.elf_model.specs.Link.Loading.{turn, turn_of_whole, with_members};
+ghost use Rattle.elf_model.specs.Inputs.Opening.{archive_members};
 ghost use Rattle.search.specs.Faults.{FailsOn};
 ghost use Rattle.search.specs.Loaders.{IsLater, Knows, loaded};
 ghost use Rattle.search.specs.Waiting.{Covers, IsSpent};

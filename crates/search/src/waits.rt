@@ -2,9 +2,9 @@
 //! entry waits from when its name is asked for until it is found to give none. An archive by itself is a group of one.
 ghost use Rattle.std.specs.Prelude.{◌≡◌, ◌≤◌, ◌<◌, ◌&&◌, [], ℕ, List, Some, All, true, false, not, IfNone, IfOk, IfSome, IsSomeAnd, OnOk, length, option_map, slice_get, unwrap_or};
 ghost use Rattle.std.specs.List.{find};
-ghost use Rattle.elf_model.specs.ArchiveFile as archive_file;
-ghost use Rattle.elf_model.specs.Loading.{next};
-ghost use Rattle.elf_model.specs.Opening.{Opened};
+ghost use Rattle.elf_model.specs.Inputs.ArchiveFile as archive_file;
+ghost use Rattle.elf_model.specs.Link.Loading.{next};
+ghost use Rattle.elf_model.specs.Inputs.Opening.{Opened};
 ghost use Rattle.search.specs.Loaders.{Knows, is_next_of, loaded};
 ghost use Rattle.search.specs.Places.{is_place, is_waiting};
 ghost use Rattle.search.specs.Waiting.{AllAwait, AreIdle, Awaits, Covers, NextWait};

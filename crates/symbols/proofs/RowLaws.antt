@@ -5,7 +5,7 @@ use Rattle.std.specs.Prelude.{◌||◌, IsTrue, count_by, filter, find, is_some,
 use Rattle.std.specs.Option.{option_map, option_or}
 use Rattle.std.proofs.lemmas.Bool.Decides.{nat_tests}
 use Rattle.std.proofs.lemmas.List.Sums.{sum_by-cons}
-use Rattle.elf_model.specs.Commons.{greatest}
+use Rattle.elf_model.specs.Link.Commons.{greatest}
 use Rattle.elf_model.specs.declared.references.SymbolRef.{SymbolRef}
 use Rattle.symbols.specs.Offers.{IsRowOf, Offer, all_taken, candidates_of, first_symbol, is_common, is_common_kind, is_strong, is_strong_kind, is_weak, is_weak_kind, row_of}
 use Rattle.symbols.specs.Rows.{no_row, taken, taken_as, taken_in}

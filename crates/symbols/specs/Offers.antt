@@ -4,7 +4,7 @@
 use Rattle.std.specs.Prelude.{◌≡◌, ℕ, ◌≤◌, ◌↔◌, Bool, true, false, List, [], ◌∷◌, Option, Some, None, IsTrue, count_by, filter, find, map}
 use Rattle.std.specs.Option.{option_map}
 use Rattle.std.specs.Str.{bytes_eq}
-use Rattle.elf_model.specs.Commons.{greatest}
+use Rattle.elf_model.specs.Link.Commons.{greatest}
 use Rattle.elf_model.specs.declared.references.SymbolRef.{SymbolRef}
 use Rattle.symbols.specs.Rows.{Rows, offered, taken}
 use Rattle.symbols.specs.declared.candidate.Candidate.{Candidate}

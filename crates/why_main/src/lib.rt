@@ -4,9 +4,9 @@
 #![tactic(auto)]
 
 ghost use Rattle.std.specs.Prelude.{◌≡◌, ◌≢◌, ◌≤◌, IfOk, IsErr};
-ghost use Rattle.elf_model.specs.Causes.{Cause};
-ghost use Rattle.elf_model.specs.Command.{command_of};
-ghost use Rattle.elf_model.specs.Files.{files_of, words_of};
+ghost use Rattle.elf_model.specs.Own.Causes.{Cause};
+ghost use Rattle.elf_model.specs.Inputs.Command.{command_of};
+ghost use Rattle.elf_model.specs.Inputs.Files.{files_of, words_of};
 ghost use Rattle.ld_main.specs.Program.{HasRightLink, failure_status};
 
 use byteview::View;

@@ -1,7 +1,7 @@
 //! The sections that are dropped with their groups, as the map's drop lines have them: a part of the third clause.
 ghost use Rattle.std.specs.Prelude.{[], ◌≡◌, ◌↔◌, ◌∷◌, ◌++◌, IfOk, IsTrue, OnOk, cond};
-ghost use Rattle.elf_model.specs.ObjectFile.{sections};
-ghost use Rattle.elf_model.specs.RightLink.{drop_rows, drops_from, is_dropped_line};
+ghost use Rattle.elf_model.specs.Inputs.ObjectFile.{sections};
+ghost use Rattle.elf_model.specs.Image.RightLink.{drop_rows, drops_from, is_dropped_line};
 ghost use Rattle.check_load.specs.Views.{loaded_view, loaded_views};
 
 use check_load::Loaded;

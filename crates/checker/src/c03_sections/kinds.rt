@@ -1,6 +1,6 @@
 //! Which kinds of kept sections are lawful (docs/PROFILE.md): a part of the third clause.
 ghost use Rattle.std.specs.Prelude.{◌≡◌, ◌∷◌, ◌↔◌, [], All, Contains, IsTrue};
-ghost use Rattle.elf_model.specs.Pieces.{IsLawfulKind};
+ghost use Rattle.elf_model.specs.Link.Pieces.{IsLawfulKind};
 ghost use Rattle.check_link.specs.Views.{piece_views};
 
 use check_link::Piece;

@@ -1,7 +1,7 @@
 //! Whether no two things share an address, by one sweep over them in the order of their addresses.
 ghost use Rattle.std.specs.Prelude.{◌+◌, ◌<◌, ◌^◌, ◌↔◌, All, AllPairs, IsTrue, MatchOption};
 ghost use Rattle.std.specs.List.Sorted.{IsNonDecreasingBy};
-ghost use Rattle.elf_model.specs.Placement.{AreApart};
+ghost use Rattle.elf_model.specs.Link.Placement.{AreApart};
 ghost use Rattle.checker.specs.Sweeps.{EndFits, Follows, Overlaps};
 
 use elf_model::Thing;

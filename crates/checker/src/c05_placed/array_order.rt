@@ -3,7 +3,7 @@ ghost use Rattle.std.specs.Prelude.{◌≡◌, ◌≤◌, ◌↔◌, All, IfOk, 
 ghost use Rattle.std.specs.Char.{is_ascii_digit};
 ghost use Rattle.std.specs.List.{list_all};
 ghost use Rattle.std.specs.Str.Parse.{digits_value};
-ghost use Rattle.elf_model.specs.ArrayOrder as order;
+ghost use Rattle.elf_model.specs.Link.ArrayOrder as order;
 ghost use Rattle.checker.specs.Neighbours.{AreNear};
 ghost use Rattle.check_link.specs.Views.{placed_view, placed_views};
 

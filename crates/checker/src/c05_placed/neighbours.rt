@@ -1,6 +1,6 @@
 //! Whether each piece stands close behind the one before it in its output section: a part of the fifth clause.
 ghost use Rattle.std.specs.Prelude.{◌≡◌, ◌<◌, ◌↔◌, IfOk, IfSome, IsTrue, OnOk, length, slice_index_or};
-ghost use Rattle.elf_model.specs.Placement.{IsNear};
+ghost use Rattle.elf_model.specs.Link.Placement.{IsNear};
 ghost use Rattle.checker.specs.Neighbours.{AreNear, HasOthers, last_known};
 ghost use Rattle.check_link.specs.Views.{placed_view, placed_views};
 

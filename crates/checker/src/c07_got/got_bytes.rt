@@ -2,12 +2,12 @@
 ghost use Rattle.std.specs.Prelude.{◌≡◌, ◌+◌, ◌*◌, ◌%◌, ◌≤◌, ◌<◌, ◌^◌, ◌++◌, ◌↔◌, Any, IfOk, IsTrue, OnOk, length, map, option_map, replicate};
 ghost use Rattle.std.specs.List.{flat_map};
 ghost use Rattle.byteview.specs.Numbers.{le_bytes};
-ghost use Rattle.elf_model.specs.MapRecord.{OfLocal};
+ghost use Rattle.elf_model.specs.Image.MapRecord.{OfLocal};
 ghost use Rattle.linkmap.specs.Borrowed.{slot_row, target_row};
-ghost use Rattle.elf_model.specs.MemoryImage.{Encloses, loads};
-ghost use Rattle.elf_model.specs.RightLink.{HoldsGot, StandFrom, objects_of, where_of};
-ghost use Rattle.elf_model.specs.Slots as slots;
-ghost use Rattle.elf_model.specs.Slots.{size_with, slot_bytes};
+ghost use Rattle.elf_model.specs.Image.MemoryImage.{Encloses, loads};
+ghost use Rattle.elf_model.specs.Image.RightLink.{HoldsGot, StandFrom, objects_of, where_of};
+ghost use Rattle.elf_model.specs.Link.Slots as slots;
+ghost use Rattle.elf_model.specs.Link.Slots.{size_with, slot_bytes};
 ghost use Rattle.checker.specs.Got.{HoldsBytes, LiesInImage};
 
 use crate::bound_link::BoundLink;

@@ -1,7 +1,7 @@
 //! Where segments and the image end.
 ghost use Rattle.std.specs.Prelude.{◌≡◌, ◌+◌, ◌≤◌, ◌<◌, ◌^◌, ◌↔◌, true, All, Any, IsTrue, None};
 ghost use Rattle.std.specs.List.Sorted.{IsNonDecreasingBy};
-ghost use Rattle.elf_model.specs.RightLink.{EndsRight, IsOfSegment};
+ghost use Rattle.elf_model.specs.Image.RightLink.{EndsRight, IsOfSegment};
 
 use crate::c11_fill::stretches::begun_between;
 use elf_model::{ProgramHeader, SymtabLine, Thing};

@@ -2,8 +2,8 @@
 //! these no name is looked up.
 ghost use Rattle.std.specs.Prelude.{◌≡◌, IfOk, IfSome, IsTrue, Some, filter, option_copied, slice_get, true};
 ghost use Rattle.std.specs.Cow.{cow_slice_items};
-ghost use Rattle.elf_model.specs.ChosenSymbols.{is_definition};
-ghost use Rattle.elf_model.specs.Resolution.{all_symbols, chosen};
+ghost use Rattle.elf_model.specs.Link.ChosenSymbols.{is_definition};
+ghost use Rattle.elf_model.specs.Link.Resolution.{all_symbols, chosen};
 ghost use Rattle.check_link.specs.Views.{symbol_view};
 ghost use Rattle.check_link.specs.Chosen.{AreOwnChoices};
 
@@ -27,7 +27,7 @@ pub struct OwnChoices<'b, 'a> {
 
 impl<'b, 'a> Model for OwnChoices<'b, 'a> {
     ghost use Rattle.std.specs.Prelude.{List};
-    ghost use Rattle.elf_model.specs.Loading.{LoadedObject};
+    ghost use Rattle.elf_model.specs.Link.Loading.{LoadedObject};
     ghost use Rattle.check_link.specs.Views.{symbol_views};
     ghost use Rattle.check_load.specs.Views.{loaded_views};
     ghost use Rattle.check_link.specs.Chosen.{AreOwnChoices};

@@ -2,9 +2,9 @@
 ghost use Rattle.std.specs.Prelude.{◌≡◌, ◌+◌, ◌*◌, ◌<◌, ◌^◌, ◌∷◌, [], ℕ, List, IfNone, IfSome, option_map};
 ghost use Rattle.std.specs.Cow.{cow_slice_items};
 ghost use Rattle.linkmap.specs.Borrowed.{symbol_row};
-ghost use Rattle.elf_model.specs.Meaning as meaning;
-ghost use Rattle.elf_model.specs.Meaning.{meaning_size, object_meaning};
-ghost use Rattle.elf_model.specs.SymbolTable.{entry_binding, entry_type, has_entry, tabled};
+ghost use Rattle.elf_model.specs.Link.Meaning as meaning;
+ghost use Rattle.elf_model.specs.Link.Meaning.{meaning_size, object_meaning};
+ghost use Rattle.elf_model.specs.Image.SymbolTable.{entry_binding, entry_type, has_entry, tabled};
 ghost use Rattle.elf_model.specs.declared.bound.Bound.{Bound};
 ghost use Rattle.check_link.specs.Views.{meaning_view, symbol_view};
 ghost use Rattle.checker.specs.Listed.{IsLine};

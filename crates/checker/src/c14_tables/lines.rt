@@ -1,9 +1,9 @@
 //! The entries and the names of a symbol table against the lines of the map, line by line.
 ghost use Rattle.std.specs.Prelude.{◌≡◌, ◌↔◌, ◌+◌, ◌*◌, ◌<◌, ◌^◌, ◌++◌, ◌∷◌, [], ℕ, All, List, IfSome, IsSomeAnd, SomeIff, length, map};
 ghost use Rattle.linkmap.specs.Borrowed.{symbol_row};
-ghost use Rattle.elf_model.specs.Meaning.{Meaning, meaning_name};
-ghost use Rattle.elf_model.specs.Placement.{Where};
-ghost use Rattle.elf_model.specs.SymbolTable.{entry_of, tabled};
+ghost use Rattle.elf_model.specs.Link.Meaning.{Meaning, meaning_name};
+ghost use Rattle.elf_model.specs.Link.Placement.{Where};
+ghost use Rattle.elf_model.specs.Image.SymbolTable.{entry_of, tabled};
 ghost use Rattle.checker.specs.Listed.{IsLine};
 ghost use Rattle.checker.specs.Tabled.{AreLeft, AreTables, ended_names};
 

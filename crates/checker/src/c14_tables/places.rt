@@ -1,8 +1,8 @@
 //! Where the parts of an image's symbol table are, and the headers of its sections (System V gABI 4, "Sections").
 ghost use Rattle.std.specs.Prelude.{◌≡◌, ◌↔◌, ◌+◌, ◌-◌, ◌*◌, ◌<◌, ◌≤◌, ◌^◌, List, IsTrue, length};
-ghost use Rattle.elf_model.specs.Meaning.{Meaning};
-ghost use Rattle.elf_model.specs.Placement.{round_up};
-ghost use Rattle.elf_model.specs.SymbolTable.{entry_count, name_section, strings_header};
+ghost use Rattle.elf_model.specs.Link.Meaning.{Meaning};
+ghost use Rattle.elf_model.specs.Link.Placement.{round_up};
+ghost use Rattle.elf_model.specs.Image.SymbolTable.{entry_count, name_section, strings_header};
 ghost use Rattle.checker.specs.Tabled.{AreAt, Strips, end_bytes, headers_of, symtab_header_of};
 
 use crate::c14_tables::strip::{strip, strip_headers, strip_zeros};

@@ -1,8 +1,8 @@
 //! Bytes that must stand in front of others: what follows them, or nothing where they are others.
 ghost use Rattle.std.specs.Prelude.{◌≤◌, replicate};
 ghost use Rattle.std.specs.List.{flat_map};
-ghost use Rattle.elf_model.specs.Records.{section_header_bytes, symbol_bytes};
-ghost use Rattle.elf_model.specs.SymbolTable.{ended};
+ghost use Rattle.elf_model.specs.Inputs.Records.{section_header_bytes, symbol_bytes};
+ghost use Rattle.elf_model.specs.Image.SymbolTable.{ended};
 ghost use Rattle.checker.specs.Tabled.{Strips};
 
 use elf_model::{SHDR_SIZE, SYM_SIZE, SectionHeader, Symbol};

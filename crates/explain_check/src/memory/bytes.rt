@@ -2,7 +2,7 @@
 ghost use Rattle.std.specs.Prelude.{◌≡◌, ◌↔◌, ◌≤◌, ◌-◌, IfSome, IsTrue, OnOk, Some, find, option_copied, option_map, slice_index};
 ghost use Rattle.std.specs.List.{slice_get};
 ghost use Rattle.byteview.specs.Numbers.{le_bytes};
-ghost use Rattle.elf_model.specs.RightLink.{objects_of, placed_of, where_of};
+ghost use Rattle.elf_model.specs.Image.RightLink.{objects_of, placed_of, where_of};
 ghost use Rattle.check_link.specs.Views.{placed_view};
 ghost use Rattle.check_relocs.specs.Bytes as bytes;
 ghost use Rattle.check_relocs.specs.Fields.{AreRows};

@@ -1,6 +1,6 @@
 //! The relocation in whose field a byte of a section lies.
 ghost use Rattle.std.specs.Prelude.{◌≡◌, ◌↔◌, ◌+◌, ◌<◌, ◌≤◌, IfOk, IfSome, IsTrue};
-ghost use Rattle.elf_model.specs.RightLink.{objects_of};
+ghost use Rattle.elf_model.specs.Image.RightLink.{objects_of};
 ghost use Rattle.explain_check.specs.BytePlaces.{IsFieldOver, width_of_entry};
 ghost use Rattle.explain_check.specs.Referrers.{IsPlaceOf};
 

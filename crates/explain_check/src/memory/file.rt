@@ -1,6 +1,6 @@
 //! C11: bytes of the file outside of its parts that aren't 0, and a file that goes on behind them.
 ghost use Rattle.std.specs.Prelude.{◌≡◌, ◌↔◌, All, IfSome, IsTrue, OnOk};
-ghost use Rattle.elf_model.specs.RightLink.{IsInFilePart};
+ghost use Rattle.elf_model.specs.Image.RightLink.{IsInFilePart};
 ghost use Rattle.explain_check.specs.Places.{AreFailures, FailsIn};
 
 use crate::found::{Added, Found};

@@ -1,9 +1,9 @@
 //! C11: bytes of memory outside of all things that aren't fill, the first of each gap.
 ghost use Rattle.std.specs.Prelude.{◌≡◌, ◌↔◌, All, IfSome, IsTrue, Some};
 ghost use Rattle.std.specs.List.Sorted.{IsNonDecreasingBy};
-ghost use Rattle.elf_model.specs.MemoryImage.{memory_of};
-ghost use Rattle.elf_model.specs.Placement.{Covers};
-ghost use Rattle.elf_model.specs.RightLink.{fill_of};
+ghost use Rattle.elf_model.specs.Image.MemoryImage.{memory_of};
+ghost use Rattle.elf_model.specs.Link.Placement.{Covers};
+ghost use Rattle.elf_model.specs.Image.RightLink.{fill_of};
 ghost use Rattle.loader_model.specs.Rights as loader;
 ghost use Rattle.explain_check.specs.Places.{FailsIn};
 

@@ -2,8 +2,8 @@
 ghost use Rattle.std.specs.Prelude.{◌≡◌, ◌↔◌, ◌+◌, ◌*◌, ◌<◌, ◌++◌, IfOk, IfSome, IsTrue, OnOk, Some, option_map, true};
 ghost use Rattle.std.specs.List.{list_any, slice_get};
 ghost use Rattle.linkmap.specs.Borrowed.{slot_row};
-ghost use Rattle.elf_model.specs.RightLink.{objects_of, where_of};
-ghost use Rattle.elf_model.specs.Slots.{got_bytes, is_slot_of, row_request, same_request, size_with};
+ghost use Rattle.elf_model.specs.Image.RightLink.{objects_of, where_of};
+ghost use Rattle.elf_model.specs.Link.Slots.{got_bytes, is_slot_of, row_request, same_request, size_with};
 ghost use Rattle.check_link.specs.Slots.{request_view};
 ghost use Rattle.check_relocs.specs.Needs.{AreNeeds};
 ghost use Rattle.explain_check.specs.GotPlaces.{IsWrongGotByte};

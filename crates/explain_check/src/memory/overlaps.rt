@@ -1,6 +1,6 @@
 //! C9: relocations of an object whose fields share a byte: neighbours in the order of their fields.
 ghost use Rattle.std.specs.Prelude.{All, IfOk, IfSome, IsPermutation, OnOk};
-ghost use Rattle.elf_model.specs.RightLink.{AreRelocationsRight};
+ghost use Rattle.elf_model.specs.Image.RightLink.{AreRelocationsRight};
 ghost use Rattle.explain_check.specs.Places.{AreFailures, FailsIn};
 ghost use Rattle.explain_check.specs.Referrers.{IsPlaceOf};
 

@@ -1,8 +1,8 @@
 //! The places of the kept relocations of a loaded object.
 ghost use Rattle.std.specs.Prelude.{◌≡◌, All, IfOk, IfSome, OnOk, Some, true};
 ghost use Rattle.std.specs.List.{slice_get};
-ghost use Rattle.elf_model.specs.ObjectFile.{relas_of, sections};
-ghost use Rattle.elf_model.specs.Relocation.{is_kept_rela};
+ghost use Rattle.elf_model.specs.Inputs.ObjectFile.{relas_of, sections};
+ghost use Rattle.elf_model.specs.Link.Relocation.{is_kept_rela};
 ghost use Rattle.check_load.specs.Views.{loaded_view, loaded_views};
 ghost use Rattle.explain_check.specs.Referrers.{IsPlaceOf, IsReferrer};
 

@@ -1,6 +1,6 @@
 //! C9: kept relocations that aren't lawful, and those whose values don't fit their fields.
 ghost use Rattle.std.specs.Prelude.{◌≡◌, ◌↔◌, ◌+◌, ◌≤◌, All, IfSome, IsTrue, OnOk, Some};
-ghost use Rattle.elf_model.specs.RightLink.{AreRelocationsRight};
+ghost use Rattle.elf_model.specs.Image.RightLink.{AreRelocationsRight};
 ghost use Rattle.check_relocs.specs.Kinds.{kind_view};
 ghost use Rattle.check_relocs.specs.LawfulFields as fields;
 ghost use Rattle.explain_check.specs.Places.{AreFailures, FailsIn};

@@ -1,8 +1,8 @@
 //! C11: PT_LOADs that don't end as the things in them do.
 ghost use Rattle.std.specs.Prelude.{◌≡◌, ◌≢◌, ◌↔◌, ◌+◌, ◌≤◌, All, Any, IfSome, IsTrue, OnOk, Some, true};
 ghost use Rattle.std.specs.List.{slice_get};
-ghost use Rattle.elf_model.specs.MemoryImage.{loads};
-ghost use Rattle.elf_model.specs.RightLink.{EndsRight, IsOfSegment, things_of};
+ghost use Rattle.elf_model.specs.Image.MemoryImage.{loads};
+ghost use Rattle.elf_model.specs.Image.RightLink.{EndsRight, IsOfSegment, things_of};
 ghost use Rattle.explain_check.specs.FillPlaces.{IsAmong};
 ghost use Rattle.explain_check.specs.Places.{AreFailures, FailsIn};
 

@@ -1,9 +1,9 @@
 //! C8: the block of thread-local storage that isn't as the placed pieces ask for it.
 ghost use Rattle.std.specs.Prelude.{◌≡◌, ◌↔◌, IfSome, IsTrue, OnOk, Some};
 ghost use Rattle.std.specs.List.{slice_get};
-ghost use Rattle.elf_model.specs.MemoryImage.{thread_blocks};
-ghost use Rattle.elf_model.specs.RightLink.{HoldsBefore, placed_of, thread_data_end};
-ghost use Rattle.elf_model.specs.ThreadStorage.{thread_headers};
+ghost use Rattle.elf_model.specs.Image.MemoryImage.{thread_blocks};
+ghost use Rattle.elf_model.specs.Image.RightLink.{HoldsBefore, placed_of, thread_data_end};
+ghost use Rattle.elf_model.specs.Link.ThreadStorage.{thread_headers};
 ghost use Rattle.elf_model.specs.declared.verdict.Clause.TheVariants as clause;
 ghost use Rattle.check_link.specs.PieceParts.{AreInLimit, IsGotInLimit};
 ghost use Rattle.check_link.specs.Views.{placed_view, placed_views};

@@ -1,6 +1,6 @@
 //! Layouts: where pieces stand, and in which segments, and what the linker's names for output sections stand for.
 ghost use Rattle.std.specs.Prelude.{◌≡◌, IfOk};
-ghost use Rattle.elf_model.specs.Pieces.{AreLawfulKinds};
+ghost use Rattle.elf_model.specs.Link.Pieces.{AreLawfulKinds};
 
 use crate::tests::objects::{
     A_NAME, BSS, DATA, F_NAME, G_NAME, NOTES_NAME, RODATA, RODATA_B_NAME, SYMBOLS, TEXT,

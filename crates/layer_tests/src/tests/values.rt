@@ -1,10 +1,10 @@
 //! Relocations: their values, whether these fit, and the bytes that they want.
 ghost use Rattle.std.specs.Prelude.{◌≡◌, ◌<◌, IfOk, IfSome, length};
 ghost use Rattle.std.specs.List.{slice_get};
-ghost use Rattle.elf_model.specs.ObjectFile as object_file;
-ghost use Rattle.elf_model.specs.Pieces.{AreLawfulKinds};
-ghost use Rattle.elf_model.specs.Resolution.{sections_of_object};
-ghost use Rattle.elf_model.specs.Slots as wanted;
+ghost use Rattle.elf_model.specs.Inputs.ObjectFile as object_file;
+ghost use Rattle.elf_model.specs.Link.Pieces.{AreLawfulKinds};
+ghost use Rattle.elf_model.specs.Link.Resolution.{sections_of_object};
+ghost use Rattle.elf_model.specs.Link.Slots as wanted;
 
 use crate::tests::objects::{
     A_NAME, BSS, DATA, ENTRY, ETEXT_NAME, F_NAME, RODATA, STOP_NAME, SYMBOLS, TEXT, load_files,

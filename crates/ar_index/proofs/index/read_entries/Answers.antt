@@ -1,6 +1,6 @@
 use Rattle.std.proofs.Common.{◌≡◌, ◌+◌, ◌*◌, ℕ, List, drop, ap, sym, subst, ◌∙◌, arith}
 use Rattle.std.proofs.lemmas.Bool.{false≢true}
-use Rattle.elf_model.specs.ArchiveFile.{AreTexts, entries_from, index_strings}
+use Rattle.elf_model.specs.Inputs.ArchiveFile.{AreTexts, entries_from, index_strings}
 use Rattle.ar_index.proofs.IndexSteps.{all_read, none_read, others_left, read_more, text_missing, zeros_by_place, zeros_left}
 use Rattle.ar_index.proofs.index.read_entries.Goals as goal
 

@@ -1,5 +1,5 @@
 use Rattle.std.proofs.Common.{◌≡◌, ◌++◌, drop}
-use Rattle.elf_model.specs.ArchiveFile.{ordinary}
+use Rattle.elf_model.specs.Inputs.ArchiveFile.{ordinary}
 use Rattle.ar_index.proofs.members.ordinary_members.Given as goal
 
 abbrev pub invariant-loop-member : goal.invariant-loop-member

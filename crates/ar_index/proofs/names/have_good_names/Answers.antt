@@ -1,6 +1,6 @@
 use Rattle.std.proofs.Common.{◌+◌, ℕ, Bool, true, take, refl, sym, subst, ◌∙◌, arith}
 use Rattle.std.proofs.lemmas.Bool.{false≢true}
-use Rattle.elf_model.specs.ArchiveFile.{long_names}
+use Rattle.elf_model.specs.Inputs.ArchiveFile.{long_names}
 use Rattle.ar_index.proofs.NameSteps.{AreNamedSoFar, all_named, names_again, names_more, no_name, none_so_far, one_more, read_is}
 use Rattle.ar_index.proofs.names.have_good_names.Goals as goal
 use Rattle.ar_index.proofs.names.have_good_names.Goals.{then-is_long_names+else-has_long_names, else-is_long_names}

@@ -1,6 +1,6 @@
 use Rattle.std.proofs.Common.{ℕ, ◌+◌, ◌%◌, List, [], ◌∷◌, ◌++◌, length, ap, ◌∙◌, arith}
 use Rattle.std.proofs.lemmas.Result.{err_from_is_err_and}
-use Rattle.elf_model.specs.ArchiveFile.{StoredMember}
+use Rattle.elf_model.specs.Inputs.ArchiveFile.{StoredMember}
 use Rattle.ar_index.proofs.Steps.{passed}
 use Rattle.ar_index.proofs.Walk.{Passed, walk_begins, walk_ends, walk_fails, walk_goes_on}
 use Rattle.ar_index.proofs.stored_members.read_members.Goals as goal

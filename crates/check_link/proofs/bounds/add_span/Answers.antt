@@ -1,5 +1,5 @@
 use Rattle.std.proofs.Common.{◌∙◌, ◌+◌, Option, Some, ap, max}
-use Rattle.elf_model.specs.LinkerValues.{least_of}
+use Rattle.elf_model.specs.Link.LinkerValues.{least_of}
 use Rattle.check_link.specs.ByName.{known}
 use Rattle.check_link.specs.Outputs.{end_of, start_of}
 use Rattle.check_link.specs.Views.{placed_view}

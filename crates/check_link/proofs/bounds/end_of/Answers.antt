@@ -1,6 +1,6 @@
 use Rattle.std.proofs.Common.{◌≡◌, ◌∙◌, ◌+◌, List, ap, drop, map, max, sym, arith}
 use Rattle.std.proofs.lemmas.List.{drop_all}
-use Rattle.elf_model.specs.LinkerValues.{end_of_pieces}
+use Rattle.elf_model.specs.Link.LinkerValues.{end_of_pieces}
 use Rattle.elf_model.proofs.Listed.{All-unmap}
 use Rattle.elf_model.proofs.PieceBounds.{end_more}
 use Rattle.check_link.specs.PieceParts.{IsInLimit, part_test}

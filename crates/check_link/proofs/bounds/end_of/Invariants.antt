@@ -1,5 +1,5 @@
 use Rattle.std.specs.Prelude.{◌≡◌, drop, map, max}
-use Rattle.elf_model.specs.LinkerValues.{end_of_pieces}
+use Rattle.elf_model.specs.Link.LinkerValues.{end_of_pieces}
 use Rattle.check_link.specs.PieceParts.{part_test}
 use Rattle.check_link.specs.Views.{placed_view, placed_views}
 use Rattle.check_link.proofs.bounds.end_of.Given as goal

@@ -1,6 +1,6 @@
 use Rattle.std.specs.Prelude.{◌≡◌, ℕ, List, drop, map, max}
-use Rattle.elf_model.specs.LinkerValues.{end_of_pieces, start_of_pieces}
-use Rattle.elf_model.specs.Pieces.{is_of_output}
+use Rattle.elf_model.specs.Link.LinkerValues.{end_of_pieces, start_of_pieces}
+use Rattle.elf_model.specs.Link.Pieces.{is_of_output}
 use Rattle.elf_model.proofs.PieceBounds.{either_least}
 use Rattle.check_link.specs.ByName.{IsKept, known}
 use Rattle.check_link.specs.Outputs.{end_of, start_of}

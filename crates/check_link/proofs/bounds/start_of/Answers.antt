@@ -1,6 +1,6 @@
 use Rattle.std.proofs.Common.{◌∙◌, ◌+◌, ℕ, List, Option, ap, drop, map, refl, sym, arith}
 use Rattle.std.proofs.lemmas.List.{drop_all}
-use Rattle.elf_model.specs.LinkerValues.{start_of_pieces}
+use Rattle.elf_model.specs.Link.LinkerValues.{start_of_pieces}
 use Rattle.elf_model.proofs.PieceBounds.{either_least, either_none, start_more}
 use Rattle.check_link.specs.PieceParts.{part_test}
 use Rattle.check_link.specs.Views.{placed_view}

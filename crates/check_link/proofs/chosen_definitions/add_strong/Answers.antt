@@ -1,5 +1,5 @@
 use Rattle.std.proofs.Common.{◌∙◌, sym, true}
-use Rattle.elf_model.specs.Resolution.{is_strong}
+use Rattle.elf_model.specs.Link.Resolution.{is_strong}
 use Rattle.check_link.specs.Chosen.{position_in}
 use Rattle.check_link.specs.Views.{symbol_views}
 use Rattle.check_load.proofs.NumberedNames.{kept_on}

@@ -1,7 +1,7 @@
 use Rattle.std.proofs.Common.{◌≡◌, List, ℕ, drop}
 use Rattle.std.specs.Prelude.{◌&&◌}
 use Rattle.std.specs.Option.{option_or}
-use Rattle.elf_model.specs.Resolution.{has_name, is_strong}
+use Rattle.elf_model.specs.Link.Resolution.{has_name, is_strong}
 use Rattle.check_load.specs.NameNumbers.{KeepNumbers}
 use Rattle.check_link.specs.Chosen.{AreHinted, IsOwn, IsSized, first_from, position_in}
 use Rattle.check_link.specs.Views.{symbol_views}

@@ -3,8 +3,8 @@ use Rattle.std.specs.Prelude.{◌&&◌, Bool, None, Option, filter, find, slice_
 use Rattle.std.specs.Option.{option_and_then, option_or}
 use Rattle.std.proofs.lemmas.Option.{none-some}
 use Rattle.elf_model.proofs.Found.{find-filter, or_none}
-use Rattle.elf_model.specs.ChosenSymbols.{is_definition}
-use Rattle.elf_model.specs.Resolution.{SymbolOf, all_symbols, has_name, is_common_definition, is_strong, is_weak_definition}
+use Rattle.elf_model.specs.Link.ChosenSymbols.{is_definition}
+use Rattle.elf_model.specs.Link.Resolution.{SymbolOf, all_symbols, has_name, is_common_definition, is_strong, is_weak_definition}
 use Rattle.check_load.specs.NameNumbers.{number_of}
 use Rattle.check_load.specs.Views.{loaded_views}
 use Rattle.check_link.specs.Chosen.{first_from, position_at}

@@ -2,7 +2,7 @@ use Rattle.std.proofs.Common.{sym, ◌∙◌, ◌≡◌, List, ℕ, None, Option
 use Rattle.std.specs.Option.{option_or}
 use Rattle.std.specs.Str.{bytes_eq}
 use Rattle.elf_model.proofs.FirstNamed.{first_added}
-use Rattle.elf_model.specs.MapRecord.{CommonRow}
+use Rattle.elf_model.specs.Image.MapRecord.{CommonRow}
 use Rattle.linkmap.specs.Borrowed.{common_row}
 use Rattle.check_link.specs.Commons.{line_in, line_view}
 use Rattle.check_link.proofs.common_lines.add_line.Goals as goal

@@ -4,7 +4,7 @@ use Rattle.std.specs.BTreeMap.{get_by}
 use Rattle.std.specs.Cmp.Lexicographic.{slice_cmp}
 use Rattle.std.specs.Ordering.{nat_cmp}
 use Rattle.std.proofs.lemmas.Map.Text.{btree_map_updates_str}
-use Rattle.elf_model.specs.Resolution.{has_name, is_common_definition}
+use Rattle.elf_model.specs.Link.Resolution.{has_name, is_common_definition}
 use Rattle.check_link.specs.Commons.{asked_in, given_align, given_size}
 use Rattle.check_link.specs.Views.{symbol_view}
 use Rattle.check_link.specs.declared.commons.Asked.{Asked}

@@ -1,6 +1,6 @@
 use Rattle.std.proofs.Common.{◌≡◌, ◌++◌, drop, length}
 use Rattle.std.specs.Prelude.{filter}
-use Rattle.elf_model.specs.Commons.{blocks_from}
+use Rattle.elf_model.specs.Link.Commons.{blocks_from}
 use Rattle.check_load.specs.Views.{loaded_views}
 use Rattle.check_link.specs.Commons.{is_block_symbol}
 use Rattle.check_link.specs.Views.{block_views, symbol_views}

@@ -1,7 +1,7 @@
 use Rattle.std.proofs.Common.{◌<◌, subst}
 use Rattle.std.specs.List.{All}
 use Rattle.elf_model.proofs.Rests.{all_more}
-use Rattle.elf_model.specs.ObjectFile.{null_symbol}
+use Rattle.elf_model.specs.Inputs.ObjectFile.{null_symbol}
 use Rattle.check_link.specs.Soundness.{IsSoundEntry}
 use Rattle.check_link.proofs.commons.all_sound.Goals as goal
 

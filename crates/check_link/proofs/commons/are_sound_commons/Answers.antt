@@ -1,7 +1,7 @@
 use Rattle.std.proofs.Common.{◌∙◌, sym}
 use Rattle.std.proofs.lemmas.Bool.{false≢true}
-use Rattle.elf_model.specs.ObjectFile.{symbols}
-use Rattle.elf_model.specs.Resolution.{AreSoundCommons, IsSoundCommon}
+use Rattle.elf_model.specs.Inputs.ObjectFile.{symbols}
+use Rattle.elf_model.specs.Link.Resolution.{AreSoundCommons, IsSoundCommon}
 use Rattle.check_load.specs.Views.{loaded_view, loaded_views}
 use Rattle.check_link.proofs.CommonEntries.{entries_sound}
 use Rattle.check_link.proofs.Walked.{object_more, object_stop}

@@ -1,5 +1,5 @@
 use Rattle.std.proofs.Common.{◌∙◌}
-use Rattle.elf_model.specs.Resolution.{all_symbols}
+use Rattle.elf_model.specs.Link.Resolution.{all_symbols}
 use Rattle.check_load.specs.Views.{loaded_views}
 use Rattle.check_link.specs.Views.{symbol_views}
 use Rattle.check_link.proofs.Asked.{asked_of_all, blocks_chosen}

@@ -1,7 +1,7 @@
 use Rattle.std.proofs.Common.{◌≡◌, ◌++◌, drop}
 use Rattle.std.specs.Prelude.{filter}
-use Rattle.elf_model.specs.ChosenSymbols.{is_definition}
-use Rattle.elf_model.specs.Resolution.{symbols_from}
+use Rattle.elf_model.specs.Link.ChosenSymbols.{is_definition}
+use Rattle.elf_model.specs.Link.Resolution.{symbols_from}
 use Rattle.check_load.specs.Views.{loaded_view}
 use Rattle.check_link.specs.Views.{symbol_views}
 use Rattle.check_link.proofs.definitions.add_definitions.Given as goal

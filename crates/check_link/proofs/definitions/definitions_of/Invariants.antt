@@ -1,7 +1,7 @@
 use Rattle.std.proofs.Common.{◌≡◌, ◌++◌, drop}
 use Rattle.std.specs.Prelude.{filter}
-use Rattle.elf_model.specs.ChosenSymbols.{is_definition}
-use Rattle.elf_model.specs.Resolution.{all_symbols, symbols_of}
+use Rattle.elf_model.specs.Link.ChosenSymbols.{is_definition}
+use Rattle.elf_model.specs.Link.Resolution.{all_symbols, symbols_of}
 use Rattle.check_load.specs.Views.{loaded_views}
 use Rattle.check_link.specs.Views.{symbol_views}
 use Rattle.check_link.proofs.definitions.definitions_of.Given as goal

@@ -2,7 +2,7 @@ use Rattle.std.proofs.Common.{◌≡◌, ◌∙◌, Bool, List, ℕ, Option, Som
 use Rattle.std.specs.Option.{option_map_or}
 use Rattle.std.specs.Prelude.{None, option_map}
 use Rattle.std.proofs.lemmas.Option.{same_Some}
-use Rattle.elf_model.specs.LinkerNames.{ArrayName, array_named, is_start_name, named_output}
+use Rattle.elf_model.specs.Link.LinkerNames.{ArrayName, array_named, is_start_name, named_output}
 use Rattle.check_link.specs.Views.{held}
 use Rattle.check_link.proofs.linker_names.named_output.Goals as goal
 use Rattle.check_link.proofs.linker_names.named_output.Goals.{then-is_start_name, else-is_start_name}

@@ -1,6 +1,6 @@
 use Rattle.std.proofs.Common.{◌≡◌, ◌++◌, drop, map}
-use Rattle.elf_model.specs.ObjectFile.{sections}
-use Rattle.elf_model.specs.Pieces.{pieces_from}
+use Rattle.elf_model.specs.Inputs.ObjectFile.{sections}
+use Rattle.elf_model.specs.Link.Pieces.{pieces_from}
 use Rattle.check_load.specs.Kept.{piece_at}
 use Rattle.check_load.specs.Views.{loaded_view}
 use Rattle.check_link.specs.Views.{piece_views}

@@ -1,6 +1,6 @@
 use Rattle.std.proofs.Common.{subst, sym, length, List, ◌≤◌}
 use Rattle.std.specs.Prelude.{All}
-use Rattle.elf_model.specs.Pieces as pieces
+use Rattle.elf_model.specs.Link.Pieces as pieces
 use Rattle.check_load.specs.Views.{loaded_views}
 use Rattle.check_link.proofs.PieceLemmas.{all_short, objects_end}
 use Rattle.check_link.proofs.pieces.pieces_of.Goals as goal

@@ -1,5 +1,5 @@
 use Rattle.std.proofs.Common.{◌≡◌, ◌++◌, drop}
-use Rattle.elf_model.specs.Pieces as pieces
+use Rattle.elf_model.specs.Link.Pieces as pieces
 use Rattle.check_load.specs.Views.{loaded_views}
 use Rattle.check_link.specs.Views.{piece_views}
 use Rattle.check_link.proofs.pieces.pieces_of.Given as goal

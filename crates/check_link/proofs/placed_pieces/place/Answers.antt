@@ -1,7 +1,7 @@
 use Rattle.std.proofs.Common.{arith}
 use Rattle.std.specs.Prelude.{map}
 use Rattle.linkmap.specs.Borrowed.{place_row}
-use Rattle.elf_model.specs.Placement.{placed_by}
+use Rattle.elf_model.specs.Link.Placement.{placed_by}
 use Rattle.check_link.specs.Views.{piece_views}
 use Rattle.check_link.proofs.PlaceSteps.{place_end}
 use Rattle.check_link.proofs.placed_pieces.place.Goals as goal

@@ -1,5 +1,5 @@
 use Rattle.std.proofs.Common.{◌≡◌, ◌++◌, drop}
-use Rattle.elf_model.specs.Placement.{placed_blocks}
+use Rattle.elf_model.specs.Link.Placement.{placed_blocks}
 use Rattle.check_link.specs.Views.{block_views, placed_views}
 use Rattle.check_link.proofs.placed_pieces.place_blocks.Given as goal
 

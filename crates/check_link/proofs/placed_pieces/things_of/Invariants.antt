@@ -1,6 +1,6 @@
 use Rattle.std.proofs.Common.{◌≡◌, ◌++◌, ◌∷◌, drop}
 use Rattle.std.specs.Prelude.{map}
-use Rattle.elf_model.specs.Placement.{headers_thing, thing_of}
+use Rattle.elf_model.specs.Link.Placement.{headers_thing, thing_of}
 use Rattle.check_link.specs.Views.{placed_views}
 use Rattle.check_link.proofs.placed_pieces.things_of.Given as goal
 

@@ -1,5 +1,5 @@
 use Rattle.std.proofs.Common.{◌≡◌, ◌++◌, drop}
-use Rattle.elf_model.specs.Placement.{thread_ranges}
+use Rattle.elf_model.specs.Link.Placement.{thread_ranges}
 use Rattle.check_link.specs.Views.{placed_views}
 use Rattle.check_link.proofs.placed_pieces.thread_ranges_of.Given as goal
 

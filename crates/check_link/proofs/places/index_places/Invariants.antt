@@ -1,7 +1,7 @@
 use Rattle.std.proofs.Common.{◌≡◌, ℕ, drop}
 use Rattle.std.specs.Prelude.{find, option_map}
 use Rattle.std.specs.Option.{option_or}
-use Rattle.elf_model.specs.Placement.{is_of_section}
+use Rattle.elf_model.specs.Link.Placement.{is_of_section}
 use Rattle.check_link.specs.PlaceIndex.{address_in}
 use Rattle.check_link.specs.Views.{placed_views}
 use Rattle.check_link.proofs.places.index_places.Given as goal

@@ -3,7 +3,7 @@ use Rattle.std.specs.Prelude.{is_some}
 use Rattle.std.specs.List.{position_from}
 use Rattle.std.specs.Option.{option_or}
 use Rattle.linkmap.specs.Borrowed.{slot_row}
-use Rattle.elf_model.specs.Slots.{Request, is_slot_of, row_request, same_request}
+use Rattle.elf_model.specs.Link.Slots.{Request, is_slot_of, row_request, same_request}
 use Rattle.check_link.specs.Slots.{are_fresh, has_in, none_seen, place_in}
 use Rattle.check_link.proofs.SlotSteps.{distinct_end, distinct_more, index_end, index_more}
 use Rattle.check_link.proofs.slots.index_slots.Goals as goal

@@ -2,7 +2,7 @@ use Rattle.std.proofs.Common.{◌≡◌, ◌&&◌, map}
 use Rattle.std.specs.List.{position_from}
 use Rattle.std.specs.Option.{option_or}
 use Rattle.linkmap.specs.Borrowed.{slot_row}
-use Rattle.elf_model.specs.Slots.{Request, is_slot_of, row_request}
+use Rattle.elf_model.specs.Link.Slots.{Request, is_slot_of, row_request}
 use Rattle.check_link.specs.Slots.{are_distinct, are_fresh, has_in, line_of, place_in}
 use Rattle.check_link.proofs.SlotSteps.{rows_from}
 use Rattle.check_link.proofs.slots.index_slots.Given as goal

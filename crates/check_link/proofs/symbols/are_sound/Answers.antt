@@ -1,6 +1,6 @@
 use Rattle.std.proofs.Common.{◌∙◌, sym}
 use Rattle.std.proofs.lemmas.Bool.{false≢true}
-use Rattle.elf_model.specs.Resolution.{AreSoundSymbols, IsSoundSymbol}
+use Rattle.elf_model.specs.Link.Resolution.{AreSoundSymbols, IsSoundSymbol}
 use Rattle.check_load.specs.Views.{loaded_views}
 use Rattle.check_link.proofs.Walked.{object_more, object_stop}
 use Rattle.check_link.proofs.symbols.are_sound.Goals as goal

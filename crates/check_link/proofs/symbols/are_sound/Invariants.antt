@@ -1,7 +1,7 @@
 use Rattle.std.proofs.Common.{drop}
 use Rattle.std.specs.Prelude.{All}
 use Rattle.elf_model.proofs.Rests.{Left}
-use Rattle.elf_model.specs.Resolution.{AreSoundSymbols, IsSoundSymbol, symbols_of}
+use Rattle.elf_model.specs.Link.Resolution.{AreSoundSymbols, IsSoundSymbol, symbols_of}
 use Rattle.check_load.specs.Views.{loaded_views}
 use Rattle.check_link.proofs.symbols.are_sound.Given as goal
 

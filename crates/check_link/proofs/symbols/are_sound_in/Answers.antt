@@ -1,7 +1,7 @@
 use Rattle.std.proofs.Common.{◌∙◌, List, subst, sym, ◌<◌}
 use Rattle.std.specs.Prelude.{All}
 use Rattle.std.proofs.lemmas.Bool.{false≢true}
-use Rattle.elf_model.specs.Resolution.{IsSoundSymbol, symbols_from}
+use Rattle.elf_model.specs.Link.Resolution.{IsSoundSymbol, symbols_from}
 use Rattle.elf_model.specs.declared.records.Symbol.{Symbol}
 use Rattle.check_load.specs.Views.{loaded_view, loaded_views}
 use Rattle.check_link.proofs.Walked.{symbol_more, symbol_stop}

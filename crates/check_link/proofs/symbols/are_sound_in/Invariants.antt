@@ -1,7 +1,7 @@
 use Rattle.std.proofs.Common.{drop}
 use Rattle.std.specs.Prelude.{All}
 use Rattle.elf_model.proofs.Rests.{Left}
-use Rattle.elf_model.specs.Resolution.{IsSoundSymbol, symbols_from}
+use Rattle.elf_model.specs.Link.Resolution.{IsSoundSymbol, symbols_from}
 use Rattle.check_load.specs.Views.{loaded_view, loaded_views}
 use Rattle.check_link.proofs.symbols.are_sound_in.Given as goal
 

@@ -1,7 +1,7 @@
 use Rattle.std.proofs.Common.{◌≡◌, ◌∙◌, ◌+◌, ◌≤◌, ℕ, List, ap, drop, map, max, subst, sym, arith}
 use Rattle.std.proofs.lemmas.List.{drop_all}
-use Rattle.elf_model.specs.Pieces.{is_thread_piece}
-use Rattle.elf_model.specs.ThreadStorage.{alignment_of}
+use Rattle.elf_model.specs.Link.Pieces.{is_thread_piece}
+use Rattle.elf_model.specs.Link.ThreadStorage.{alignment_of}
 use Rattle.check_link.specs.Views.{placed_view, placed_views}
 use Rattle.check_link.specs.declared.things.Placed.{Placed}
 use Rattle.check_link.proofs.Alignments.{alignment_more, alignment_some, greater_some}

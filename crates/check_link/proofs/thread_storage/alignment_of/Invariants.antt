@@ -1,6 +1,6 @@
 use Rattle.std.specs.Prelude.{◌≡◌, ◌≤◌, drop, map, max}
-use Rattle.elf_model.specs.Pieces.{is_thread_piece}
-use Rattle.elf_model.specs.ThreadStorage.{alignment_of}
+use Rattle.elf_model.specs.Link.Pieces.{is_thread_piece}
+use Rattle.elf_model.specs.Link.ThreadStorage.{alignment_of}
 use Rattle.check_link.specs.Views.{placed_views}
 use Rattle.check_link.proofs.thread_storage.alignment_of.Given as goal
 

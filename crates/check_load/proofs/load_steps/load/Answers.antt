@@ -1,8 +1,8 @@
 use Rattle.std.proofs.Common.{◌≡◌, ◌∙◌, List, [], subst, sym}
 use Rattle.std.proofs.lemmas.Result.{IfErr-weaker, err_from_is_err_and, on_ok_weaker}
-use Rattle.elf_model.specs.Files.{files_of}
-use Rattle.elf_model.specs.Loading.{LoadedObject, loaded_steps, steps}
-use Rattle.elf_model.specs.Opening.{Opened, opened}
+use Rattle.elf_model.specs.Inputs.Files.{files_of}
+use Rattle.elf_model.specs.Link.Loading.{LoadedObject, loaded_steps, steps}
+use Rattle.elf_model.specs.Inputs.Opening.{Opened, opened}
 use Rattle.std.specs.Prelude.{All, IfOk}
 use Rattle.check_load.specs.Loaders.{AreLoadable}
 use Rattle.check_load.specs.Plans.{CanLoad}

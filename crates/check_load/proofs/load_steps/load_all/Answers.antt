@@ -1,6 +1,6 @@
 use Rattle.std.proofs.Common.{List, subst}
 use Rattle.std.proofs.lemmas.Result.{err_from_is_err_and}
-use Rattle.elf_model.specs.Loading.{LoadedObject}
+use Rattle.elf_model.specs.Link.Loading.{LoadedObject}
 use Rattle.check_load.specs.Loaders.{AreLoadable, loaded}
 use Rattle.check_load.specs.Stops.{Refutes}
 use Rattle.check_load.proofs.LoadLaws.{begun}

@@ -1,5 +1,5 @@
 use Rattle.std.proofs.Common.{◌≡◌, ◌-◌, ◌≤◌, drop, length}
-use Rattle.elf_model.specs.Loading.{loaded_steps, steps}
+use Rattle.elf_model.specs.Link.Loading.{loaded_steps, steps}
 use Rattle.check_load.specs.Loaders.{Knows, loaded}
 use Rattle.check_load.proofs.load_steps.load_inputs.Given as goal
 

@@ -1,7 +1,7 @@
 use Rattle.std.proofs.Common.{subst}
 use Rattle.std.specs.Prelude.{IfErr}
-use Rattle.elf_model.specs.Loading.{Single, loaded_step}
-use Rattle.elf_model.specs.Opening.{Opened}
+use Rattle.elf_model.specs.Link.Loading.{Single, loaded_step}
+use Rattle.elf_model.specs.Inputs.Opening.{Opened}
 use Rattle.check_load.specs.Stops.{Refutes}
 use Rattle.check_load.specs.Loaders.{AreLoadable, loaded}
 use Rattle.opening.specs.Opened.{item_view}

@@ -1,5 +1,5 @@
 use Rattle.std.proofs.Common.{subst, ◌<◌, ◌≤◌}
-use Rattle.elf_model.specs.ObjectFile.{null_symbol, symbols}
+use Rattle.elf_model.specs.Inputs.ObjectFile.{null_symbol, symbols}
 use Rattle.check_load.specs.Names.{requests_name}
 use Rattle.check_load.proofs.NumberedNames.{count_more, kept_on, numbered_more}
 use Rattle.check_load.proofs.NotedNames.{asked_all, asked_step, defined_all, defined_step}

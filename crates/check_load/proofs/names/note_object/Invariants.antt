@@ -1,5 +1,5 @@
 use Rattle.std.proofs.Common.{◌≡◌, ◌||◌, ℕ, List, drop, length, true}
-use Rattle.elf_model.specs.ObjectFile.{symbols}
+use Rattle.elf_model.specs.Inputs.ObjectFile.{symbols}
 use Rattle.check_load.specs.Awake.{is_awake}
 use Rattle.check_load.specs.NameNumbers.{KeepNumbers}
 use Rattle.check_load.specs.Numbered.{AreNumbersOf}

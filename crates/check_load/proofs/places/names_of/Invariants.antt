@@ -1,5 +1,5 @@
 use Rattle.std.proofs.Common.{◌<◌, ℕ, get_or}
-use Rattle.elf_model.specs.Opening.{Opened}
+use Rattle.elf_model.specs.Inputs.Opening.{Opened}
 use Rattle.check_load.specs.Places.{IsPlaced, IsSized}
 use Rattle.check_load.proofs.places.names_of.Given as goal
 

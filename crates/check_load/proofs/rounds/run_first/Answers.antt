@@ -1,7 +1,7 @@
 use Rattle.std.proofs.Common.{◌≡◌, ◌∙◌, ap, subst}
 use Rattle.std.proofs.lemmas.Result.{err_from_is_err_and}
-use Rattle.elf_model.specs.Command.{Plan}
-use Rattle.elf_model.specs.Loading.{round, turn}
+use Rattle.elf_model.specs.Inputs.Command.{Plan}
+use Rattle.elf_model.specs.Link.Loading.{round, turn}
 use Rattle.check_load.specs.Stops.{Refutes}
 use Rattle.check_load.specs.Loaders.{AreLoadable, loaded}
 use Rattle.check_load.proofs.TurnLaws.{fails_later, round_later, round_step}

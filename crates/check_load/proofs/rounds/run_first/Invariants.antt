@@ -1,7 +1,7 @@
 use Rattle.std.proofs.Common.{◌≡◌, ◌<◌, ℕ, Some, drop, true}
 use Rattle.std.specs.List.{slice_get}
-use Rattle.elf_model.specs.Loading.{round}
-use Rattle.elf_model.specs.Opening.{Opened}
+use Rattle.elf_model.specs.Link.Loading.{round}
+use Rattle.elf_model.specs.Inputs.Opening.{Opened}
 use Rattle.check_load.specs.Loaders.{Knows, loaded}
 use Rattle.check_load.specs.Rounds.{IsSpent}
 use Rattle.check_load.proofs.rounds.run_first.Given as goal

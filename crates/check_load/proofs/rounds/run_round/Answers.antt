@@ -1,7 +1,7 @@
 use Rattle.std.proofs.Common.{◌≡◌, ◌∙◌, ap, arith, drop, length, subst, sym}
 use Rattle.std.proofs.lemmas.Result.{err_from_is_err_and}
-use Rattle.elf_model.specs.Command.{Plan}
-use Rattle.elf_model.specs.Loading.{round, turn}
+use Rattle.elf_model.specs.Inputs.Command.{Plan}
+use Rattle.elf_model.specs.Link.Loading.{round, turn}
 use Rattle.elf_model.proofs.LoadingBounds.{Extends}
 use Rattle.elf_model.proofs.LoadingSteps.{turn_behind}
 use Rattle.check_load.specs.Stops.{Refutes}

@@ -1,5 +1,5 @@
 use Rattle.std.proofs.Common.{◌≡◌, ◌≤◌, ◌-◌, drop, length}
-use Rattle.elf_model.specs.Loading.{round}
+use Rattle.elf_model.specs.Link.Loading.{round}
 use Rattle.check_load.specs.Loaders.{Knows, loaded}
 use Rattle.check_load.specs.Rounds.{AreSpent}
 use Rattle.check_load.proofs.rounds.run_round.Given as goal

@@ -1,9 +1,9 @@
 use Rattle.std.proofs.Common.{◌≡◌, ◌∙◌, ◌<◌, List, ap, sym, subst}
 use Rattle.std.specs.Prelude.{◌≢◌}
 use Rattle.std.proofs.lemmas.Result.{err_from_is_err_and}
-use Rattle.elf_model.specs.Command.{Plan}
-use Rattle.elf_model.specs.Loading.{LoadedObject, round, rounds}
-use Rattle.elf_model.specs.LoadingBounds.{left_of_all}
+use Rattle.elf_model.specs.Inputs.Command.{Plan}
+use Rattle.elf_model.specs.Link.Loading.{LoadedObject, round, rounds}
+use Rattle.elf_model.specs.Link.LoadingBounds.{left_of_all}
 use Rattle.elf_model.proofs.LoadingBounds.{Extends, extends_length}
 use Rattle.elf_model.proofs.LoadingSteps.{round_behind, rounds_from_round, rounds_last, rounds_less, rounds_more}
 use Rattle.check_load.specs.Stops.{Refutes}

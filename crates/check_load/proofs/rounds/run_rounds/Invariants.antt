@@ -1,6 +1,6 @@
 use Rattle.std.proofs.Common.{◌≡◌}
-use Rattle.elf_model.specs.Loading.{rounds}
-use Rattle.elf_model.specs.LoadingBounds.{left_of_all}
+use Rattle.elf_model.specs.Link.Loading.{rounds}
+use Rattle.elf_model.specs.Link.LoadingBounds.{left_of_all}
 use Rattle.check_load.specs.Loaders.{Knows, loaded}
 use Rattle.check_load.specs.Rounds.{AreSpent}
 use Rattle.check_load.proofs.rounds.run_rounds.Given as goal

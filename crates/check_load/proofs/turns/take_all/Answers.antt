@@ -1,8 +1,8 @@
 use Rattle.std.proofs.Common.{◌≡◌, ◌<◌, List, ℕ, get_or, length, subst}
 use Rattle.std.proofs.lemmas.Result.{err_from_is_err_and}
-use Rattle.elf_model.specs.ArchiveFile.{Member}
-use Rattle.elf_model.specs.Loading.{with_members}
-use Rattle.elf_model.specs.Opening.{archive_members}
+use Rattle.elf_model.specs.Inputs.ArchiveFile.{Member}
+use Rattle.elf_model.specs.Link.Loading.{with_members}
+use Rattle.elf_model.specs.Inputs.Opening.{archive_members}
 use Rattle.check_load.specs.Stops.{Refutes}
 use Rattle.check_load.specs.Loaders.{IsLoadable, loaded}
 use Rattle.check_load.proofs.TurnLaws.{fails_next, members_later}

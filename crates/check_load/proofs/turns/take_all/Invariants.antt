@@ -1,6 +1,6 @@
 use Rattle.std.proofs.Common.{◌≡◌, drop}
-use Rattle.elf_model.specs.Loading.{with_members}
-use Rattle.elf_model.specs.Opening.{archive_members}
+use Rattle.elf_model.specs.Link.Loading.{with_members}
+use Rattle.elf_model.specs.Inputs.Opening.{archive_members}
 use Rattle.check_load.specs.Loaders.{Knows, loaded}
 use Rattle.check_load.proofs.turns.take_all.Given as goal
 

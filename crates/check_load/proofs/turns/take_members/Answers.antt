@@ -1,9 +1,9 @@
 use Rattle.std.proofs.Common.{◌∙◌, ◌<◌, List, sym, ap, subst}
 use Rattle.std.proofs.lemmas.Result.{err_from_is_err_and}
-use Rattle.elf_model.specs.Command.{Plan}
-use Rattle.elf_model.specs.Loading.{LoadedObject, next, turn, with_object}
-use Rattle.elf_model.specs.LoadingBounds.{untaken}
-use Rattle.elf_model.specs.Opening.{archive_entries}
+use Rattle.elf_model.specs.Inputs.Command.{Plan}
+use Rattle.elf_model.specs.Link.Loading.{LoadedObject, next, turn, with_object}
+use Rattle.elf_model.specs.Link.LoadingBounds.{untaken}
+use Rattle.elf_model.specs.Inputs.Opening.{archive_entries}
 use Rattle.elf_model.proofs.LoadingBounds.{untaken_falls}
 use Rattle.check_load.specs.Loaders.{loaded}
 use Rattle.opening.specs.Opened.{item_view}

@@ -1,7 +1,7 @@
 use Rattle.std.proofs.Common.{◌≡◌, ◌∙◌, ap, false, true, sym}
-use Rattle.elf_model.specs.Relocation.{is_local, symbol_at}
+use Rattle.elf_model.specs.Link.Relocation.{is_local, symbol_at}
 use Rattle.check_load.specs.Views.{loaded_view}
-use Rattle.elf_model.specs.MapRecord.{OfName}
+use Rattle.elf_model.specs.Image.MapRecord.{OfName}
 use Rattle.check_relocs.proofs.Unnamed.{local_target, named_target}
 use Rattle.check_relocs.proofs.entry_requests.target_at.Goals as goal
 

@@ -3,8 +3,8 @@ use Rattle.std.specs.Global.{Vec}
 use Rattle.std.proofs.lemmas.Bool.{false≢true}
 use Rattle.std.proofs.lemmas.List.{get_or-map, length-append}
 use Rattle.elf_model.proofs.FlatRelocations.{left_of_objects, object_end}
-use Rattle.elf_model.specs.Loading.{LoadedObject}
-use Rattle.elf_model.specs.Relocation.{relocations, relocations_from}
+use Rattle.elf_model.specs.Link.Loading.{LoadedObject}
+use Rattle.elf_model.specs.Link.Relocation.{relocations, relocations_from}
 use Rattle.check_relocs.specs.Fields.{AreRight, IsRowOf}
 use Rattle.check_load.specs.Views.{loaded_view}
 use Rattle.check_load.specs.declared.loaded.Loaded.{Loaded}

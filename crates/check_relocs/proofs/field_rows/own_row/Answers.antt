@@ -1,7 +1,7 @@
 use Rattle.std.proofs.Common.{refl, subst, sym}
 use Rattle.std.specs.Prelude.{All, AllPairs}
 use Rattle.std.proofs.lemmas.Bool.{false≢true}
-use Rattle.elf_model.specs.Relocation.{relocations_from}
+use Rattle.elf_model.specs.Link.Relocation.{relocations_from}
 use Rattle.check_load.specs.Views.{loaded_view}
 use Rattle.check_relocs.specs.Fields.{AreApart, IsNarrow, field_of}
 use Rattle.elf_model.proofs.Pairs.{AllPairs-map, AllPairs-unmap}

@@ -1,5 +1,5 @@
 use Rattle.std.proofs.Common.{◌≡◌}
-use Rattle.elf_model.specs.Slots.{requested_address}
+use Rattle.elf_model.specs.Link.Slots.{requested_address}
 use Rattle.check_relocs.specs.KnownSlots.{request_here}
 use Rattle.check_relocs.proofs.KnownSteps.{known_nothing}
 use Rattle.check_relocs.proofs.known_symbols.unknown_symbols.Goals as goal

@@ -1,5 +1,5 @@
 use Rattle.std.proofs.Common.{◌-◌, ◌∙◌, ℕ, ap}
-use Rattle.elf_model.specs.Placement.{got_start}
+use Rattle.elf_model.specs.Link.Placement.{got_start}
 use Rattle.check_relocs.proofs.lawful_fields.link_terms.Goals as goal
 
 pub returns-clause-slot : goal.returns-clause-slot

@@ -1,7 +1,7 @@
 use Rattle.std.proofs.Common.{◌-◌, ◌∙◌, ℕ, ap, subst}
 use Rattle.std.specs.Prelude.{SomeIff}
-use Rattle.elf_model.specs.Placement.{got_start}
-use Rattle.elf_model.specs.Relocation.{relocation_of}
+use Rattle.elf_model.specs.Link.Placement.{got_start}
+use Rattle.elf_model.specs.Link.Relocation.{relocation_of}
 use Rattle.check_relocs.specs.Bindings.{IsTargetOf}
 use Rattle.check_relocs.specs.Fields.{IsRight, field_of}
 use Rattle.check_relocs.specs.Referrers.{object_here, symbol_here}

@@ -1,8 +1,8 @@
 use Rattle.std.proofs.Common.{◌∙◌, List, Option, ap, sym}
 use Rattle.std.specs.Option.{option_map_or}
 use Rattle.std.specs.Prelude.{option_map}
-use Rattle.elf_model.specs.MapRecord.{SlotRow}
-use Rattle.elf_model.specs.Slots.{Request, requested_address}
+use Rattle.elf_model.specs.Image.MapRecord.{SlotRow}
+use Rattle.elf_model.specs.Link.Slots.{Request, requested_address}
 use Rattle.check_link.specs.Slots.{request_view}
 use Rattle.check_relocs.proofs.lawful_fields.slot_address.Goals as goal
 

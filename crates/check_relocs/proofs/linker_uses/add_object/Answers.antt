@@ -1,7 +1,7 @@
 use Rattle.std.proofs.Common.{◌≡◌, ◌∷◌, [], ap, map, ◌||◌, List, sym, ◌∙◌}
 use Rattle.std.specs.List.{list_any}
-use Rattle.elf_model.specs.Relocation.{Relocation}
-use Rattle.elf_model.specs.UsedNames.{is_among, is_linker_use, uses_line}
+use Rattle.elf_model.specs.Link.Relocation.{Relocation}
+use Rattle.elf_model.specs.Link.UsedNames.{is_among, is_linker_use, uses_line}
 use Rattle.elf_model.proofs.LinkerUses.{gained}
 use Rattle.check_load.specs.declared.kept_relocations.KeptRelocation.{KeptRelocation}
 use Rattle.check_relocs.specs.Referrers.{object_here, objects_here, relocation_here, relocations_here, symbol_here}

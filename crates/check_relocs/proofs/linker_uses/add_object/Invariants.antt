@@ -1,6 +1,6 @@
 use Rattle.std.proofs.Common.{◌≡◌, ℕ, List, ◌||◌, map}
 use Rattle.std.specs.List.{list_any}
-use Rattle.elf_model.specs.UsedNames.{is_among, uses_line}
+use Rattle.elf_model.specs.Link.UsedNames.{is_among, uses_line}
 use Rattle.check_relocs.specs.LinkerUses.{AreUses}
 use Rattle.check_relocs.specs.Referrers.{objects_here, relocation_here, relocations_here}
 use Rattle.check_relocs.proofs.linker_uses.add_object.Given as goal

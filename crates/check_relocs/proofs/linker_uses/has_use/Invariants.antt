@@ -1,5 +1,5 @@
 use Rattle.std.proofs.Common.{◌≡◌, ◌<◌, ℕ, false}
-use Rattle.elf_model.specs.UsedNames.{is_linker_use}
+use Rattle.elf_model.specs.Link.UsedNames.{is_linker_use}
 use Rattle.check_relocs.specs.Referrers.{objects_here, symbol_here}
 use Rattle.check_relocs.proofs.linker_uses.has_use.Given as goal
 

@@ -1,5 +1,5 @@
 use Rattle.std.proofs.Common.{◌≡◌}
-use Rattle.elf_model.specs.UsedNames.{is_linker_use}
+use Rattle.elf_model.specs.Link.UsedNames.{is_linker_use}
 use Rattle.check_relocs.specs.Referrers.{objects_here, symbol_here}
 use Rattle.check_relocs.proofs.KnownSteps.{known_more}
 use Rattle.check_relocs.proofs.linker_uses.is_use.Goals as goal

@@ -1,5 +1,5 @@
 use Rattle.std.proofs.Common.{◌≡◌, ◌++◌}
-use Rattle.elf_model.specs.UsedNames.{linker_meanings}
+use Rattle.elf_model.specs.Link.UsedNames.{linker_meanings}
 use Rattle.check_link.specs.Views.{meaning_views}
 use Rattle.check_relocs.proofs.linker_uses.lines_of.Given as goal
 

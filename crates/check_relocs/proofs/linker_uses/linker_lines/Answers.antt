@@ -1,5 +1,5 @@
 use Rattle.std.proofs.Common.{subst, sym}
-use Rattle.elf_model.specs.Listing.{AreLinkerLines}
+use Rattle.elf_model.specs.Link.Listing.{AreLinkerLines}
 use Rattle.elf_model.proofs.LinkerLines.{lines_are}
 use Rattle.check_relocs.proofs.linker_uses.linker_lines.Goals as goal
 

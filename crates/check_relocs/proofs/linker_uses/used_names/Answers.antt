@@ -1,8 +1,8 @@
 use Rattle.std.proofs.Common.{◌≡◌, ◌∙◌, ◌+◌, ◌++◌, ◌||◌, List, ap, sym}
 use Rattle.std.specs.List.{list_any}
-use Rattle.elf_model.specs.Loading.{LoadedObject}
-use Rattle.elf_model.specs.Relocation.{Relocation, relocations, relocations_from}
-use Rattle.elf_model.specs.UsedNames.{is_among, uses_line}
+use Rattle.elf_model.specs.Link.Loading.{LoadedObject}
+use Rattle.elf_model.specs.Link.Relocation.{Relocation, relocations, relocations_from}
+use Rattle.elf_model.specs.Link.UsedNames.{is_among, uses_line}
 use Rattle.elf_model.proofs.FlatRelocations.{left_of_objects, object_more}
 use Rattle.elf_model.proofs.LinkerUses.{gained}
 use Rattle.check_load.specs.Views.{loaded_view}

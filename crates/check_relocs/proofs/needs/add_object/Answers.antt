@@ -1,5 +1,5 @@
 use Rattle.std.proofs.Common.{◌≡◌, ◌∷◌, ◌∙◌, [], ap, map}
-use Rattle.elf_model.specs.Slots.{names_got}
+use Rattle.elf_model.specs.Link.Slots.{names_got}
 use Rattle.check_relocs.specs.KnownSlots.{IsNoted, request_here, rows_here}
 use Rattle.check_relocs.specs.Referrers.{objects_here, relocation_here, relocations_here, symbol_here}
 use Rattle.check_relocs.proofs.KnownSteps.{known_nothing}

@@ -1,7 +1,7 @@
 use Rattle.std.proofs.Common.{◌≡◌, ◌+◌, ◌++◌, ◌∙◌, List, ap, sym}
 use Rattle.elf_model.proofs.FlatRelocations.{left_of_objects, object_end, object_more}
-use Rattle.elf_model.specs.Loading.{LoadedObject}
-use Rattle.elf_model.specs.Relocation.{Relocation, relocations, relocations_from}
+use Rattle.elf_model.specs.Link.Loading.{LoadedObject}
+use Rattle.elf_model.specs.Link.Relocation.{Relocation, relocations, relocations_from}
 use Rattle.check_load.specs.Views.{loaded_view}
 use Rattle.check_relocs.proofs.Noted.{element_there}
 use Rattle.check_relocs.proofs.NeedSteps.{gaining_all, gaining_end, gaining_more}

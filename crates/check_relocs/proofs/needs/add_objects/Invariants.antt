@@ -1,5 +1,5 @@
 use Rattle.elf_model.proofs.FlatRelocations.{left_of_objects}
-use Rattle.elf_model.specs.Relocation.{relocations}
+use Rattle.elf_model.specs.Link.Relocation.{relocations}
 use Rattle.check_load.specs.Views.{loaded_view}
 use Rattle.check_relocs.proofs.NeedSteps.{Gaining}
 use Rattle.check_relocs.proofs.needs.add_objects.Given as goal

@@ -1,6 +1,6 @@
 use Rattle.std.proofs.Common.{◌≡◌, ◌∙◌, ℕ, Bool, List, ap, subst, sym, Some}
 use Rattle.std.specs.Prelude.{IfSome, Option}
-use Rattle.elf_model.specs.Slots.{Request}
+use Rattle.elf_model.specs.Link.Slots.{Request}
 use Rattle.check_relocs.specs.Known.{known_at}
 use Rattle.check_relocs.specs.KnownSlots.{AreAsked, IsNoted, request_here, rows_here}
 use Rattle.check_relocs.specs.declared.referrer.Referrer.{Referrer}

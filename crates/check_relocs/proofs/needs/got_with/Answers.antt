@@ -1,5 +1,5 @@
 use Rattle.std.proofs.Common.{◌∙◌, ◌||◌, ap, sym}
-use Rattle.elf_model.specs.Slots.{asks_for_got}
+use Rattle.elf_model.specs.Link.Slots.{asks_for_got}
 use Rattle.check_relocs.specs.Referrers.{objects_here, relocation_here}
 use Rattle.check_relocs.proofs.needs.got_with.Goals as goal
 

@@ -1,5 +1,5 @@
 use Rattle.std.proofs.Common.{◌≡◌}
-use Rattle.elf_model.specs.Slots.{names_got}
+use Rattle.elf_model.specs.Link.Slots.{names_got}
 use Rattle.check_relocs.specs.Referrers.{objects_here, symbol_here}
 use Rattle.check_relocs.proofs.KnownSteps.{known_more}
 use Rattle.check_relocs.proofs.needs.names_got_at.Goals as goal

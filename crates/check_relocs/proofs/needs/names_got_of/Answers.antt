@@ -1,5 +1,5 @@
 use Rattle.std.proofs.Common.{◌≡◌, ◌∙◌, true, sym}
-use Rattle.elf_model.specs.Relocation.{is_local}
+use Rattle.elf_model.specs.Link.Relocation.{is_local}
 use Rattle.check_relocs.specs.Referrers.{object_here, objects_here, symbol_here}
 use Rattle.check_relocs.proofs.Noted.{noted_names_no_got}
 use Rattle.check_relocs.proofs.Unnamed.{local_names_no_got}

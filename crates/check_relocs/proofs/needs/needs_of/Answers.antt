@@ -1,6 +1,6 @@
 use Rattle.std.proofs.Common.{◌≡◌, ◌∙◌, Bool, List, ap, arith, false, length, refl, sym}
 use Rattle.std.proofs.lemmas.List.{length-map, length-replicate}
-use Rattle.elf_model.specs.MapRecord.{SlotRow}
+use Rattle.elf_model.specs.Image.MapRecord.{SlotRow}
 use Rattle.check_relocs.specs.KnownSlots.{mark_at}
 use Rattle.check_relocs.proofs.NeedSteps.{gained_all, no_marks}
 use Rattle.check_relocs.proofs.needs.needs_of.Goals as goal

@@ -1,6 +1,6 @@
 use Rattle.std.proofs.Common.{◌≡◌, ◌∙◌, List, ap, subst, sym}
 use Rattle.std.specs.Prelude.{IfSome, Option}
-use Rattle.elf_model.specs.Slots.{requested_address}
+use Rattle.elf_model.specs.Link.Slots.{requested_address}
 use Rattle.check_relocs.specs.Known.{known_at}
 use Rattle.check_relocs.specs.KnownSlots.{request_here}
 use Rattle.check_relocs.specs.declared.slots.SymbolSlot.{SymbolSlot}

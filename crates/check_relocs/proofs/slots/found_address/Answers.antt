@@ -1,7 +1,7 @@
 use Rattle.std.proofs.Common.{◌∙◌, List, ap, sym}
 use Rattle.std.specs.Prelude.{slice_get}
 use Rattle.std.specs.Option.{option_map_or}
-use Rattle.elf_model.specs.MapRecord.{SlotRow}
+use Rattle.elf_model.specs.Image.MapRecord.{SlotRow}
 use Rattle.check_link.proofs.SlotLines.{line_address, no_address}
 use Rattle.check_relocs.specs.KnownSlots.{request_here, rows_here}
 use Rattle.check_relocs.proofs.slots.found_address.Goals as goal

@@ -1,5 +1,5 @@
 use Rattle.std.proofs.Common.{◌∙◌, List, ap, sym}
-use Rattle.elf_model.specs.MapRecord.{SlotRow, TargetRow}
+use Rattle.elf_model.specs.Image.MapRecord.{SlotRow, TargetRow}
 use Rattle.check_link.specs.Slots.{kind_view, line_of, request_view}
 use Rattle.check_relocs.specs.KnownSlots.{rows_here}
 use Rattle.check_relocs.proofs.slots.position_at.Goals as goal

@@ -1,6 +1,6 @@
 use Rattle.std.proofs.Common.{◌≡◌, ◌∙◌, Some, true, sym, ap, subst}
-use Rattle.elf_model.specs.Relocation.{is_local}
-use Rattle.elf_model.specs.Resolution.{SymbolOf, chosen}
+use Rattle.elf_model.specs.Link.Relocation.{is_local}
+use Rattle.elf_model.specs.Link.Resolution.{SymbolOf, chosen}
 use Rattle.check_load.specs.Numbered.{name_at}
 use Rattle.check_link.specs.Views.{symbol_view}
 use Rattle.check_relocs.specs.Bindings.{IsTargetOf}

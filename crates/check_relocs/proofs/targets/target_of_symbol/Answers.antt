@@ -1,7 +1,7 @@
 use Rattle.std.proofs.Common.{◌≡◌, ◌∙◌, true, sym, ap, subst}
-use Rattle.elf_model.specs.Relocation.{is_local, symbol_at}
+use Rattle.elf_model.specs.Link.Relocation.{is_local, symbol_at}
 use Rattle.check_load.specs.Views.{loaded_view}
-use Rattle.elf_model.specs.Resolution.{SymbolOf}
+use Rattle.elf_model.specs.Link.Resolution.{SymbolOf}
 use Rattle.check_relocs.specs.Bindings.{IsTargetOf}
 use Rattle.check_relocs.proofs.Unnamed.{target_unnamed}
 use Rattle.check_relocs.proofs.targets.target_of_symbol.Goals as goal

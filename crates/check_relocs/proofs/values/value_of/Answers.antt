@@ -2,7 +2,7 @@ use Rattle.std.proofs.Common.{◌≡◌, ◌%◌, ◌^◌, ℕ, ℤ, pos, subst}
 use Rattle.std.specs.Prelude.{◌+ℤ◌, ◌-ℤ◌}
 use Rattle.std.proofs.lemmas.Int.{to_z-of_z}
 use Rattle.std.specs.Int.{w64}
-use Rattle.elf_model.specs.Relocation.{modulo_64}
+use Rattle.elf_model.specs.Link.Relocation.{modulo_64}
 use Rattle.check_relocs.proofs.Modulo.{value_is}
 use Rattle.check_relocs.proofs.values.value_of.Goals as goal
 

@@ -1,6 +1,6 @@
 use Rattle.std.proofs.Common.{◌≡◌, drop, map}
 use Rattle.linkmap.specs.Borrowed.{object_row}
-use Rattle.elf_model.specs.RightLink.{object_rows}
+use Rattle.elf_model.specs.Image.RightLink.{object_rows}
 use Rattle.elf_model.proofs.Rests.{Left}
 use Rattle.check_load.specs.Views.{loaded_views}
 use Rattle.checker.proofs.c02_loaded.are_lines_of.Given as goal

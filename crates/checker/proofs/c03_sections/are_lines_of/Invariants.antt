@@ -1,6 +1,6 @@
 use Rattle.std.proofs.Common.{◌≡◌, drop, map}
 use Rattle.linkmap.specs.Borrowed.{place_row}
-use Rattle.elf_model.specs.RightLink.{facts_of_piece, facts_of_row}
+use Rattle.elf_model.specs.Image.RightLink.{facts_of_piece, facts_of_row}
 use Rattle.elf_model.proofs.Rests.{Left}
 use Rattle.check_link.specs.Views.{piece_views}
 use Rattle.checker.proofs.c03_sections.are_lines_of.Given as goal

@@ -1,6 +1,6 @@
 use Rattle.std.proofs.Common.{◌≡◌, ◌∙◌, ap, false, true, subst, sym}
-use Rattle.elf_model.specs.MemoryImage.{IsImage}
-use Rattle.elf_model.specs.RightLink.{Subject}
+use Rattle.elf_model.specs.Image.MemoryImage.{IsImage}
+use Rattle.elf_model.specs.Image.RightLink.{Subject}
 use Rattle.checker.proofs.ImageFaults.{no_image}
 use Rattle.checker.proofs.c04_image.load.Goals as goal
 

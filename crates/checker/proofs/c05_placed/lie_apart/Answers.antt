@@ -1,6 +1,6 @@
 use Rattle.std.proofs.Common.{arith}
 use Rattle.std.proofs.lemmas.List.Sorted.{All-permutation, IsPermutation-sym}
-use Rattle.elf_model.specs.Placement.{AreApart}
+use Rattle.elf_model.specs.Link.Placement.{AreApart}
 use Rattle.elf_model.proofs.PairsPermuted.{AllPairs-permutation}
 use Rattle.checker.specs.Sweeps.{EndFits}
 use Rattle.checker.proofs.Sweep.{AreApart-symmetric}

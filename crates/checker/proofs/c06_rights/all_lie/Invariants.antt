@@ -1,6 +1,6 @@
 use Rattle.std.proofs.Common.{drop}
 use Rattle.std.specs.Prelude.{All}
-use Rattle.elf_model.specs.Placement.{LiesInSegment}
+use Rattle.elf_model.specs.Link.Placement.{LiesInSegment}
 use Rattle.elf_model.proofs.Rests.{Left}
 use Rattle.checker.proofs.c06_rights.all_lie.Given as goal
 

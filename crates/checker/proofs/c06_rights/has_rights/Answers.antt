@@ -1,6 +1,6 @@
 use Rattle.std.proofs.Common.{List, subst, sym, ◌∙◌}
 use Rattle.std.specs.Prelude.{All}
-use Rattle.elf_model.specs.Placement.{LiesInSegment}
+use Rattle.elf_model.specs.Link.Placement.{LiesInSegment}
 use Rattle.elf_model.specs.declared.records.ProgramHeader.{ProgramHeader}
 use Rattle.checker.proofs.c06_rights.has_rights.Goals as goal
 

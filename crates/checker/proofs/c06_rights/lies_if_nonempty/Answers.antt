@@ -1,5 +1,5 @@
 use Rattle.std.proofs.Common.{◌≡◌, false, true, arith}
-use Rattle.elf_model.specs.MemoryImage.{loads}
+use Rattle.elf_model.specs.Image.MemoryImage.{loads}
 use Rattle.checker.proofs.SegmentsApart.{none_found}
 use Rattle.checker.proofs.c06_rights.lies_if_nonempty.Goals as goal
 

@@ -1,7 +1,7 @@
 use Rattle.std.proofs.Common.{◌≡◌, ◌<◌, true, false}
 use Rattle.std.specs.Prelude.{All}
-use Rattle.elf_model.specs.MemoryImage.{loads}
-use Rattle.elf_model.specs.Placement.{LiesInSegment}
+use Rattle.elf_model.specs.Image.MemoryImage.{loads}
+use Rattle.elf_model.specs.Link.Placement.{LiesInSegment}
 use Rattle.elf_model.specs.declared.thing.Thing.{Thing}
 use Rattle.elf_model.proofs.Rests.{all_more, all_stop}
 use Rattle.checker.proofs.c06_rights.nonempty_lie.Goals as goal

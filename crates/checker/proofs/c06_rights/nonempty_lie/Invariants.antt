@@ -1,7 +1,7 @@
 use Rattle.std.proofs.Common.{◌<◌, drop}
 use Rattle.std.specs.Prelude.{All}
-use Rattle.elf_model.specs.MemoryImage.{loads}
-use Rattle.elf_model.specs.Placement.{LiesInSegment}
+use Rattle.elf_model.specs.Image.MemoryImage.{loads}
+use Rattle.elf_model.specs.Link.Placement.{LiesInSegment}
 use Rattle.elf_model.proofs.Rests.{Left}
 use Rattle.checker.proofs.c06_rights.nonempty_lie.Given as goal
 

@@ -1,8 +1,8 @@
 use Rattle.std.proofs.Common.{◌≡◌, ◌∙◌, List, Bool, ap, map, subst, sym, true}
 use Rattle.std.specs.Prelude.{◌↔◌, All, IsTrue}
 use Rattle.std.proofs.lemmas.Bool.{false≢true}
-use Rattle.elf_model.specs.MapRecord.{SlotRow}
-use Rattle.elf_model.specs.Slots.{row_request}
+use Rattle.elf_model.specs.Image.MapRecord.{SlotRow}
+use Rattle.elf_model.specs.Link.Slots.{row_request}
 use Rattle.check_link.specs.Slots.{are_distinct}
 use Rattle.checker.proofs.SlotCounts.{all_there, have_slots, marks_set, none_missing, rows_asked, slots_distinct}
 use Rattle.checker.proofs.c07_got.are_slots_right.Goals as goal

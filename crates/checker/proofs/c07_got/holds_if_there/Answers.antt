@@ -1,6 +1,6 @@
 use Rattle.std.proofs.Common.{◌∙◌, ap, subst, sym, Option}
 use Rattle.std.specs.Prelude.{◌↔◌, IfOk, IfSome, IsTrue}
-use Rattle.elf_model.specs.RightLink.{HoldsGot, Subject, objects_of, where_of}
+use Rattle.elf_model.specs.Image.RightLink.{HoldsGot, Subject, objects_of, where_of}
 use Rattle.elf_model.specs.declared.link_map.GotLine.{GotLine}
 use Rattle.checker.specs.Got.{LiesInImage}
 use Rattle.checker.proofs.c07_got.holds_if_there.Goals as goal

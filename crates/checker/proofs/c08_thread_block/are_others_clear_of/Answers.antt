@@ -1,9 +1,9 @@
 use Rattle.std.proofs.Common.{◌≡◌, true, false}
 use Rattle.std.specs.Prelude.{filter, map}
 use Rattle.std.proofs.lemmas.List.Elements.{All-append, All-map}
-use Rattle.elf_model.specs.Placement as placement
-use Rattle.elf_model.specs.Placement.{got_things, thing_of}
-use Rattle.elf_model.specs.RightLink.{IsClearOf}
+use Rattle.elf_model.specs.Link.Placement as placement
+use Rattle.elf_model.specs.Link.Placement.{got_things, thing_of}
+use Rattle.elf_model.specs.Image.RightLink.{IsClearOf}
 use Rattle.elf_model.specs.declared.thing.Thing.{Thing}
 use Rattle.elf_model.proofs.Listed.{All-parts, All-unmap}
 use Rattle.checker.specs.ThreadBlock.{IsPlaceClear, is_other_place}

@@ -1,6 +1,6 @@
 use Rattle.std.specs.Prelude.{All}
-use Rattle.elf_model.specs.MemoryImage.{loads}
-use Rattle.elf_model.specs.RightLink.{HoldsInitial}
+use Rattle.elf_model.specs.Image.MemoryImage.{loads}
+use Rattle.elf_model.specs.Image.RightLink.{HoldsInitial}
 use Rattle.elf_model.proofs.Rests.{all_more}
 use Rattle.checker.proofs.c08_thread_block.hold_initial.Goals as goal
 

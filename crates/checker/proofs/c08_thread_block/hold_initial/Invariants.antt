@@ -1,7 +1,7 @@
 use Rattle.std.proofs.Common.{drop}
 use Rattle.std.specs.Prelude.{All}
-use Rattle.elf_model.specs.MemoryImage.{loads}
-use Rattle.elf_model.specs.RightLink.{HoldsInitial}
+use Rattle.elf_model.specs.Image.MemoryImage.{loads}
+use Rattle.elf_model.specs.Image.RightLink.{HoldsInitial}
 use Rattle.elf_model.proofs.Rests.{Left}
 use Rattle.checker.proofs.c08_thread_block.hold_initial.Given as goal
 

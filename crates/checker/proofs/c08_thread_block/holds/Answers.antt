@@ -1,7 +1,7 @@
 use Rattle.std.proofs.Common.{◌≡◌, ◌∙◌, Bool, List, ℕ, arith, subst, sym}
 use Rattle.std.specs.Prelude.{◌↔◌, IsTrue}
-use Rattle.elf_model.specs.Placement as placement
-use Rattle.elf_model.specs.RightLink.{IsThreadBlockRight, Subject, placed_of}
+use Rattle.elf_model.specs.Link.Placement as placement
+use Rattle.elf_model.specs.Image.RightLink.{IsThreadBlockRight, Subject, placed_of}
 use Rattle.elf_model.specs.declared.verdict.Clause.TheVariants.{C5}
 use Rattle.check_link.specs.PieceParts.{IsGotInLimit}
 use Rattle.checker.specs.ThreadBlock.{IsBlockRight}

@@ -1,4 +1,4 @@
-use Rattle.elf_model.specs.MemoryImage.{loads}
+use Rattle.elf_model.specs.Image.MemoryImage.{loads}
 use Rattle.checker.proofs.ThreadBlocks.{enclosed_if}
 use Rattle.checker.proofs.c08_thread_block.holds_initial.Goals as goal
 

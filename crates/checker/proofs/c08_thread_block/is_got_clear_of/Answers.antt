@@ -1,8 +1,8 @@
 use Rattle.std.proofs.Common.{◌∙◌, [], List, ap, subst, sym}
 use Rattle.std.specs.Prelude.{◌↔◌, All, IsTrue}
 use Rattle.std.proofs.lemmas.List.Elements.{All-cons, All-head, All-nil}
-use Rattle.elf_model.specs.Placement.{got_things}
-use Rattle.elf_model.specs.RightLink.{IsClearOf}
+use Rattle.elf_model.specs.Link.Placement.{got_things}
+use Rattle.elf_model.specs.Image.RightLink.{IsClearOf}
 use Rattle.elf_model.specs.declared.thing.Thing.{Thing}
 use Rattle.checker.proofs.c08_thread_block.is_got_clear_of.Goals as goal
 

@@ -1,7 +1,7 @@
 use Rattle.std.proofs.Common.{◌≡◌, ◌<◌, ℕ, List, arith, subst, sym}
 use Rattle.std.specs.Prelude.{Any, IsTrue, filter, find, slice_index, ◌↔◌}
 use Rattle.std.proofs.lemmas.Bool.{false≢true}
-use Rattle.elf_model.specs.MemoryImage.{Encloses, loads}
+use Rattle.elf_model.specs.Image.MemoryImage.{Encloses, loads}
 use Rattle.check_relocs.specs.Bytes.{byte_of, covers, is_of}
 use Rattle.check_link.specs.Views.{placed_view}
 use Rattle.check_relocs.specs.declared.fields.Field.{Field}

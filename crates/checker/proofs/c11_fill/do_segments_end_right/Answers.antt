@@ -1,6 +1,6 @@
 use Rattle.std.proofs.Common.{List, subst}
 use Rattle.std.specs.Prelude.{All, IsTrue, ◌↔◌}
-use Rattle.elf_model.specs.RightLink.{EndsRight}
+use Rattle.elf_model.specs.Image.RightLink.{EndsRight}
 use Rattle.elf_model.specs.declared.records.ProgramHeader.{ProgramHeader}
 use Rattle.checker.proofs.c11_fill.do_segments_end_right.Goals as goal
 

@@ -1,7 +1,7 @@
 use Rattle.std.proofs.Common.{ℕ, ◌+◌, ◌∙◌, List, subst, sym, arith}
 use Rattle.std.specs.Prelude.{All, IsTrue}
 use Rattle.std.specs.List.Sorted.{IsNonDecreasingBy}
-use Rattle.elf_model.specs.MemoryImage.{loads}
+use Rattle.elf_model.specs.Image.MemoryImage.{loads}
 use Rattle.elf_model.specs.declared.records.ProgramHeader.{ProgramHeader}
 use Rattle.elf_model.specs.declared.thing.Thing.{Thing}
 use Rattle.checker.specs.Filled.{SegmentFilled}

@@ -1,10 +1,10 @@
 use Rattle.std.proofs.Common.{◌≡◌, ◌∙◌, ap, List, ℕ, map, subst}
 use Rattle.std.specs.Prelude.{◌↔◌, IfSome, IsSome}
-use Rattle.elf_model.specs.Loading.{LoadedObject}
-use Rattle.elf_model.specs.MapRecord.{SymbolRow}
+use Rattle.elf_model.specs.Link.Loading.{LoadedObject}
+use Rattle.elf_model.specs.Image.MapRecord.{SymbolRow}
 use Rattle.linkmap.specs.Borrowed.{symbol_row}
-use Rattle.elf_model.specs.Resolution.{AreSoundSymbols, AreUnique}
-use Rattle.elf_model.specs.RightLink.{AreSymbolsListed, HasLine, Subject}
+use Rattle.elf_model.specs.Link.Resolution.{AreSoundSymbols, AreUnique}
+use Rattle.elf_model.specs.Image.RightLink.{AreSymbolsListed, HasLine, Subject}
 use Rattle.check_relocs.specs.Bindings.{Bound, bound_of}
 use Rattle.checker.proofs.c13_symbols.choices.Goals as goal
 

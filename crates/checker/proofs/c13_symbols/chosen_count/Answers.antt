@@ -1,8 +1,8 @@
 use Rattle.std.proofs.Common.{◌≡◌, ◌+◌, ℕ, refl, List, ap, arith, drop, get_or, length, sym, ◌∙◌}
 use Rattle.std.specs.Prelude.{All, filter}
 use Rattle.elf_model.proofs.Rests.{all_more, rest_at}
-use Rattle.elf_model.specs.ChosenSymbols.{is_chosen}
-use Rattle.elf_model.specs.Meaning.{meanings_of}
+use Rattle.elf_model.specs.Link.ChosenSymbols.{is_chosen}
+use Rattle.elf_model.specs.Link.Meaning.{meanings_of}
 use Rattle.checker.specs.Listed.{IsChosenIfStrong}
 use Rattle.check_link.specs.Views.{symbol_view, symbol_views}
 use Rattle.check_link.specs.declared.things.SymbolOf as code

@@ -1,7 +1,7 @@
 use Rattle.std.proofs.Common.{◌≡◌, ◌+◌, ◌≤◌, drop, length}
 use Rattle.std.specs.Prelude.{◌↔◌, All, filter}
-use Rattle.elf_model.specs.ChosenSymbols.{is_chosen}
-use Rattle.elf_model.specs.Meaning.{meanings_of}
+use Rattle.elf_model.specs.Link.ChosenSymbols.{is_chosen}
+use Rattle.elf_model.specs.Link.Meaning.{meanings_of}
 use Rattle.checker.specs.Listed.{IsChosenIfStrong}
 use Rattle.check_link.specs.Views.{symbol_view, symbol_views}
 use Rattle.checker.proofs.c13_symbols.chosen_count.Given as goal

@@ -1,7 +1,7 @@
 use Rattle.std.proofs.Common.{Option, ap, sym, ◌∙◌}
 use Rattle.std.specs.Prelude.{option_map}
 use Rattle.std.specs.Cow.{cow_slice_items}
-use Rattle.elf_model.specs.RightLink.{symbol_row_of}
+use Rattle.elf_model.specs.Image.RightLink.{symbol_row_of}
 use Rattle.check_link.specs.Views.{meaning_view}
 use Rattle.check_link.specs.declared.things.Meaning as code
 use Rattle.checker.proofs.SymbolLines.{means_linker}

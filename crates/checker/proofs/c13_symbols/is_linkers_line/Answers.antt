@@ -5,13 +5,13 @@ use Rattle.std.proofs.lemmas.Option.{none-some}
 use Rattle.std.proofs.lemmas.Bool.Decides.{Decides-eqb}
 use Rattle.std.specs.Cow.{cow_slice_items}
 use Rattle.elf_model.proofs.LinkerUses.{line_among}
-use Rattle.elf_model.specs.LinkerNames.{bound_of}
-use Rattle.elf_model.specs.LinkerValues.{bound_value}
-use Rattle.elf_model.specs.Listing.{linker_line}
+use Rattle.elf_model.specs.Link.LinkerNames.{bound_of}
+use Rattle.elf_model.specs.Link.LinkerValues.{bound_value}
+use Rattle.elf_model.specs.Link.Listing.{linker_line}
 use Rattle.linkmap.specs.Borrowed.{symbol_row}
-use Rattle.elf_model.specs.Meaning.{Linker, Meaning}
-use Rattle.elf_model.specs.RightLink.{symbol_row_of}
-use Rattle.elf_model.specs.UsedNames.{is_among}
+use Rattle.elf_model.specs.Link.Meaning.{Linker, Meaning}
+use Rattle.elf_model.specs.Image.RightLink.{symbol_row_of}
+use Rattle.elf_model.specs.Link.UsedNames.{is_among}
 use Rattle.checker.proofs.SymbolLines.{linkers_row}
 use Rattle.checker.proofs.c13_symbols.is_linkers_line.Goals as goal
 

@@ -4,10 +4,10 @@ use Rattle.std.proofs.lemmas.List.{length-map}
 use Rattle.std.proofs.lemmas.List.Elements.{All-map}
 use Rattle.elf_model.proofs.Listed.{All-unmap}
 use Rattle.std.specs.Prelude.{filter}
-use Rattle.elf_model.specs.ChosenSymbols.{is_chosen}
+use Rattle.elf_model.specs.Link.ChosenSymbols.{is_chosen}
 use Rattle.linkmap.specs.Borrowed.{symbol_row}
-use Rattle.elf_model.specs.Meaning.{meanings_of}
-use Rattle.elf_model.specs.Resolution.{SymbolOf}
+use Rattle.elf_model.specs.Link.Meaning.{meanings_of}
+use Rattle.elf_model.specs.Link.Resolution.{SymbolOf}
 use Rattle.check_link.specs.Views.{meaning_view, meaning_views, symbol_views}
 use Rattle.checker.proofs.SymbolLines.{listed, unique_told}
 use Rattle.check_link.specs.Chosen.{AreOtherChoices, AreOwnChoices}

@@ -1,6 +1,6 @@
 use Rattle.std.proofs.Common.{◌∙◌, ap, rules, sym}
-use Rattle.elf_model.specs.Records.{file_header}
-use Rattle.elf_model.specs.RightLink.{Subject}
+use Rattle.elf_model.specs.Inputs.Records.{file_header}
+use Rattle.elf_model.specs.Image.RightLink.{Subject}
 use Rattle.checker.proofs.TableClause.{none_right}
 use Rattle.checker.proofs.c14_tables.holds.Goals as goal
 

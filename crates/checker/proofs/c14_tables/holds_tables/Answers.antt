@@ -2,11 +2,11 @@ use Rattle.std.proofs.Common.{◌∙◌, ap, List, ℕ, arith, map, subst, sym}
 use Rattle.std.proofs.lemmas.Bool.{false≢true}
 use Rattle.std.proofs.lemmas.Bool.Decides.{Decides-eqb}
 use Rattle.linkmap.specs.Borrowed.{symbol_row}
-use Rattle.elf_model.specs.MapText.{Ascends, SymbolBefore}
-use Rattle.elf_model.specs.MemoryImage.{file_end, loads}
-use Rattle.elf_model.specs.Placement.{round_up}
-use Rattle.elf_model.specs.Records.{file_header}
-use Rattle.elf_model.specs.RightLink.{Subject}
+use Rattle.elf_model.specs.Image.MapText.{Ascends, SymbolBefore}
+use Rattle.elf_model.specs.Image.MemoryImage.{file_end, loads}
+use Rattle.elf_model.specs.Link.Placement.{round_up}
+use Rattle.elf_model.specs.Inputs.Records.{file_header}
+use Rattle.elf_model.specs.Image.RightLink.{Subject}
 use Rattle.elf_model.specs.declared.verdict.Clause.TheVariants.{C13}
 use Rattle.check_relocs.specs.Bindings.{Bound}
 use Rattle.checker.proofs.TableClause.{headers_elsewhere, lines_are, no_tables, tables_there}

@@ -1,6 +1,6 @@
 use Rattle.std.proofs.Common.{map}
 use Rattle.linkmap.specs.Borrowed.{symbol_row}
-use Rattle.elf_model.specs.SymbolTable.{tabled}
+use Rattle.elf_model.specs.Image.SymbolTable.{tabled}
 use Rattle.checker.proofs.TableParts.{unpadded}
 use Rattle.checker.proofs.c14_tables.strip_tables.Goals as goal
 

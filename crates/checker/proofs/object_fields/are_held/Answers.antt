@@ -2,9 +2,9 @@ use Rattle.std.proofs.Common.{◌≡◌, ◌+◌, ℕ, List, ap, drop, length, m
 use Rattle.std.proofs.lemmas.Bool.{false≢true}
 use Rattle.elf_model.proofs.FlatRelocations.{left_of_objects, object_end}
 use Rattle.elf_model.proofs.RelocationFields.{objects_apart}
-use Rattle.elf_model.specs.Loading.{LoadedObject}
-use Rattle.elf_model.specs.Relocation.{relocations, relocations_from, relocations_of}
-use Rattle.elf_model.specs.RightLink.{objects_of, where_of}
+use Rattle.elf_model.specs.Link.Loading.{LoadedObject}
+use Rattle.elf_model.specs.Link.Relocation.{relocations, relocations_from, relocations_of}
+use Rattle.elf_model.specs.Image.RightLink.{objects_of, where_of}
 use Rattle.check_load.specs.Views.{loaded_view}
 use Rattle.check_link.specs.Views.{placed_views}
 use Rattle.check_relocs.specs.Fields.{AreRight}

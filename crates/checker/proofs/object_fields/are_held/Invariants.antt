@@ -1,8 +1,8 @@
 use Rattle.std.proofs.Common.{◌≤◌, length}
 use Rattle.elf_model.proofs.FlatRelocations.{left_of_objects}
 use Rattle.elf_model.proofs.Rests.{Left}
-use Rattle.elf_model.specs.Relocation.{relocations}
-use Rattle.elf_model.specs.RightLink.{objects_of, where_of}
+use Rattle.elf_model.specs.Link.Relocation.{relocations}
+use Rattle.elf_model.specs.Image.RightLink.{objects_of, where_of}
 use Rattle.check_load.specs.Views.{loaded_view}
 use Rattle.check_link.specs.Views.{placed_views}
 use Rattle.check_relocs.specs.Fields.{AreRight}

@@ -1,7 +1,7 @@
 use Rattle.std.proofs.Common.{◌≡◌, ◌+◌, Bool, Some, true, refl, subst, sym}
 use Rattle.check_load.specs.Views.{loaded_view}
 use Rattle.check_link.specs.Views.{placed_views}
-use Rattle.elf_model.specs.Relocation.{relocations_from}
+use Rattle.elf_model.specs.Link.Relocation.{relocations_from}
 use Rattle.std.specs.List.{slice_get}
 use Rattle.check_relocs.specs.Bindings.{Bound}
 use Rattle.checker.specs.Comparing.{AreCompared, IsRowAt}

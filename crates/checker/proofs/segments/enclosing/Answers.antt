@@ -1,7 +1,7 @@
 use Rattle.std.proofs.Common.{Option, Some, None, sym, subst}
 use Rattle.std.specs.Prelude.{All, AllPairs, Contains, IfSome, length}
 use Rattle.std.proofs.lemmas.List.Elements.{All-contains}
-use Rattle.elf_model.specs.MemoryImage.{Encloses}
+use Rattle.elf_model.specs.Image.MemoryImage.{Encloses}
 use Rattle.elf_model.specs.declared.records.ProgramHeader.{ProgramHeader}
 use Rattle.loader_model.specs.Table.{EndsBefore, IsLawful}
 use Rattle.checker.proofs.Parts.{lawful_loads}

@@ -1,6 +1,6 @@
 use Rattle.std.proofs.Common.{◌≡◌, drop}
 use Rattle.std.specs.Prelude.{max}
-use Rattle.elf_model.specs.MemoryImage.{file_end}
+use Rattle.elf_model.specs.Image.MemoryImage.{file_end}
 use Rattle.checker.proofs.segments.end_of_parts.Given as goal
 
 abbrev pub invariant-loop-segment : goal.invariant-loop-segment

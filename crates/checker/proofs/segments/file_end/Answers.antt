@@ -1,5 +1,5 @@
 use Rattle.std.proofs.Common.{ℕ, ◌≤◌, ◌^◌, ◌∙◌, ap, length, subst, sym}
-use Rattle.elf_model.specs.MemoryImage.{file_end}
+use Rattle.elf_model.specs.Image.MemoryImage.{file_end}
 use Rattle.checker.proofs.PartsEnd.{ends_inside, ends_low}
 use Rattle.checker.proofs.segments.file_end.Goals as goal
 

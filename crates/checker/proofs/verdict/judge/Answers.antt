@@ -1,6 +1,6 @@
 use Rattle.std.proofs.Common.{◌≡◌, false, true, subst, sym}
 use Rattle.std.specs.Prelude.{IsSome}
-use Rattle.elf_model.specs.RightLink.{Subject}
+use Rattle.elf_model.specs.Image.RightLink.{Subject}
 use Rattle.check_load.specs.Plans.{CanLoad}
 use Rattle.checker.proofs.verdict.judge.Goals as goal
 

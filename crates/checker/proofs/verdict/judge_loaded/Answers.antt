@@ -1,6 +1,6 @@
 use Rattle.std.proofs.Common.{refl, subst, sym}
 use Rattle.std.specs.Prelude.{IfOk, IsSome}
-use Rattle.elf_model.specs.RightLink.{Holds, HoldsBefore, Subject}
+use Rattle.elf_model.specs.Image.RightLink.{Holds, HoldsBefore, Subject}
 use Rattle.elf_model.specs.declared.verdict.Clause.TheVariants.{C3, C4, C5}
 use Rattle.checker.specs.Judged.{Judges}
 use Rattle.checker.proofs.Clauses.{before_next}

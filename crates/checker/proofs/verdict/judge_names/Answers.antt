@@ -1,5 +1,5 @@
 use Rattle.std.proofs.Common.{◌∙◌, arith, subst, sym}
-use Rattle.elf_model.specs.RightLink.{Subject}
+use Rattle.elf_model.specs.Image.RightLink.{Subject}
 use Rattle.elf_model.specs.declared.verdict.Clause.TheVariants.{C5}
 use Rattle.check_link.specs.PieceParts.{IsGotInLimit}
 use Rattle.checker.proofs.PlacedFacts.{got_in_limit, in_limit}

@@ -1,6 +1,6 @@
 use Rattle.std.proofs.Common.{◌≡◌, Bool, false, List, rules, ap, subst, sym, ◌∙◌, replicate}
 use Rattle.std.proofs.lemmas.List.{drop_all}
-use Rattle.elf_model.specs.ObjectFile.{Group}
+use Rattle.elf_model.specs.Inputs.ObjectFile.{Group}
 use Rattle.elf_model.specs.Marks.{marked, marked_numbers}
 use Rattle.comdat.specs.Signatures.{names_of}
 use Rattle.elf_model.proofs.Marks.{numbers_marked}

@@ -1,5 +1,5 @@
 use Rattle.std.proofs.Common.{◌≡◌, drop}
-use Rattle.elf_model.specs.Groups.{seen_after}
+use Rattle.elf_model.specs.Link.Groups.{seen_after}
 use Rattle.elf_model.specs.Marks.{marked}
 use Rattle.comdat.specs.Signatures.{Begins, names_of}
 use Rattle.comdat.proofs.DroppedMembers.{dropped_members}

@@ -2,7 +2,7 @@ use Rattle.std.proofs.Common.{◌≡◌, Bool, List, ap, drop, length, refl, sub
 use Rattle.std.specs.Prelude.{AllPairs}
 use Rattle.std.specs.List.{All}
 use Rattle.std.proofs.lemmas.Bool.{false≢true}
-use Rattle.elf_model.specs.Groups.{ShareNoSection}
+use Rattle.elf_model.specs.Link.Groups.{ShareNoSection}
 use Rattle.elf_model.proofs.Rests.{Left}
 use Rattle.elf_model.specs.Marks.{marked}
 use Rattle.elf_model.proofs.Marks.{length-marked, written_back}

@@ -1,6 +1,6 @@
 use Rattle.std.proofs.Common.{◌≡◌, drop, length}
 use Rattle.std.specs.Prelude.{AllPairs}
-use Rattle.elf_model.specs.Groups.{ShareNoSection}
+use Rattle.elf_model.specs.Link.Groups.{ShareNoSection}
 use Rattle.elf_model.proofs.Rests.{Left}
 use Rattle.elf_model.proofs.SharedSections.{IsApartFrom}
 use Rattle.comdat.proofs.lawfulness.share_no_section.Given as goal

@@ -1,6 +1,6 @@
 use Rattle.command.specs.Views.{source_of, texts_of}
 use Rattle.command.specs.declared.items.Item.{Item}
-use Rattle.elf_model.specs.Command.{paths_of}
+use Rattle.elf_model.specs.Inputs.Command.{paths_of}
 use Rattle.std.proofs.Common.{arith}
 use Rattle.command.proofs.Distinct.{item_more}
 use Rattle.command.proofs.paths.add_items.Goals as goal

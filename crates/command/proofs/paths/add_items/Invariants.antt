@@ -1,6 +1,6 @@
 use Rattle.std.proofs.Common.{◌≡◌, drop}
 use Rattle.std.specs.List.{flat_map}
-use Rattle.elf_model.specs.Command.{paths_of}
+use Rattle.elf_model.specs.Inputs.Command.{paths_of}
 use Rattle.command.specs.Views.{source_of, texts_of}
 use Rattle.command.specs.Candidates.{with_all}
 use Rattle.command.proofs.paths.add_items.Given as goal

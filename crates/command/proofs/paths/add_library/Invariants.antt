@@ -1,5 +1,5 @@
 use Rattle.std.proofs.Common.{◌≡◌, drop}
-use Rattle.elf_model.specs.Command.{library_paths}
+use Rattle.elf_model.specs.Inputs.Command.{library_paths}
 use Rattle.command.specs.Views.{texts_of}
 use Rattle.command.specs.Candidates.{with_all}
 use Rattle.command.proofs.paths.add_library.Given as goal

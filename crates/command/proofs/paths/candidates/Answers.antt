@@ -1,7 +1,7 @@
 use Rattle.std.proofs.Common.{◌∙◌, ap, [], List, ℕ}
 use Rattle.std.specs.List.{flat_map}
 use Rattle.std.specs.Borrow.{Bor}
-use Rattle.elf_model.specs.Command.{paths_of}
+use Rattle.elf_model.specs.Inputs.Command.{paths_of}
 use Rattle.command.specs.declared.items.Item.{Item}
 use Rattle.command.specs.Views.{source_of, texts_of}
 use Rattle.command.specs.Candidates.{with_all}

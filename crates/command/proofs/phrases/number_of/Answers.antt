@@ -1,5 +1,5 @@
 use Rattle.std.proofs.Common.{◌≡◌, ◌∙◌, true}
-use Rattle.elf_model.specs.Command.{is_hexadecimal}
+use Rattle.elf_model.specs.Inputs.Command.{is_hexadecimal}
 use Rattle.command.proofs.Hexadecimal.{number_is}
 use Rattle.command.proofs.phrases.number_of.Goals as goal
 

@@ -1,7 +1,7 @@
 use Rattle.std.proofs.Common.{◌≡◌, ◌∙◌, ◌∷◌, [], None, false, string_bytes, ap, sym, arith}
 use Rattle.std.proofs.lemmas.Result.{err_from_is_err_and}
-use Rattle.elf_model.specs.Files.{words_of}
-use Rattle.elf_model.specs.Command.{Plan}
+use Rattle.elf_model.specs.Inputs.Files.{words_of}
+use Rattle.elf_model.specs.Inputs.Command.{Plan}
 use Rattle.command.specs.PlaceViews.{state_of}
 use Rattle.command.proofs.Growth.{state_from}
 use Rattle.command.proofs.Ahead.{all_read, ahead_end, ahead_more, ahead_start, here, none_left, phrase_fault, place_fault}

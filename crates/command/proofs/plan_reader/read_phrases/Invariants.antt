@@ -1,5 +1,5 @@
 use Rattle.std.proofs.Common.{◌+◌, ◌≤◌, length}
-use Rattle.elf_model.specs.Files.{words_of}
+use Rattle.elf_model.specs.Inputs.Files.{words_of}
 use Rattle.command.specs.PlaceViews.{state_of}
 use Rattle.command.proofs.Ahead.{IsAhead}
 use Rattle.command.proofs.plan_reader.read_phrases.Given as goal

@@ -1,6 +1,6 @@
 use Rattle.std.proofs.Common.{◌∙◌, sym}
 use Rattle.std.proofs.lemmas.Result.{err_from_is_err_and}
-use Rattle.elf_model.specs.Files.{words_of}
+use Rattle.elf_model.specs.Inputs.Files.{words_of}
 use Rattle.command.proofs.Outcomes.{phrases_at, base_at, named_at, only_at, only_memory}
 use Rattle.command.proofs.RefusedPhrases.{refused_fails}
 use Rattle.command.proofs.plan_reader.read_words.Goals as goal

@@ -1,4 +1,4 @@
-use Rattle.elf_model.specs.Files.{words_of}
+use Rattle.elf_model.specs.Inputs.Files.{words_of}
 use Rattle.command.proofs.RefusedPhrases.{refused_at, refused_together}
 use Rattle.command.proofs.plan_reader.refused_word.Goals as goal
 

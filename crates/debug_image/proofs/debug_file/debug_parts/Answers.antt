@@ -1,5 +1,5 @@
 use Rattle.std.proofs.Common.{◌++◌, ◌∙◌, List, ℕ, ap, refl, subst}
-use Rattle.elf_model.specs.Loading.{LoadedObject}
+use Rattle.elf_model.specs.Link.Loading.{LoadedObject}
 use Rattle.resolve.specs.Views.{meaning_views}
 use Rattle.search.specs.Loads.{LoadedPlan}
 use Rattle.debug_image.specs.DebugImage.{end_in, joined_in, rows_in, tables_with}

@@ -1,8 +1,8 @@
 use Rattle.std.proofs.Common.{◌≡◌, ◌∙◌, List, ℕ, subst, sym, ap, arith}
 use Rattle.std.specs.Prelude.{All}
-use Rattle.elf_model.specs.ImageFile.{own_end}
-use Rattle.elf_model.specs.MemoryImage.{file_end}
-use Rattle.elf_model.specs.OwnLayout.{own_segments}
+use Rattle.elf_model.specs.Own.ImageFile.{own_end}
+use Rattle.elf_model.specs.Image.MemoryImage.{file_end}
+use Rattle.elf_model.specs.Own.OwnLayout.{own_segments}
 use Rattle.elf_model.specs.declared.records.ProgramHeader.{ProgramHeader}
 use Rattle.layout.specs.Placements.{Basis}
 use Rattle.image_write.specs.Parts.{EndsLow}

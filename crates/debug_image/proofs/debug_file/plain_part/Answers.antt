@@ -1,6 +1,6 @@
 use Rattle.std.proofs.Common.{◌≡◌, ◌≤◌, ◌++◌, ◌∙◌, ℕ, List, ap, drop, length, subst, sym, arith, take}
 use Rattle.std.proofs.lemmas.List.{length-take}
-use Rattle.elf_model.specs.Records.{file_header, file_header_bytes}
+use Rattle.elf_model.specs.Inputs.Records.{file_header, file_header_bytes}
 use Rattle.debug_image.specs.PlainImages.{with_sections}
 use Rattle.debug_image.specs.Views.{tables_view}
 use Rattle.debug_image.proofs.LinkImages.{image_long, plain_part_is}

@@ -1,5 +1,5 @@
 use Rattle.std.proofs.Common.{◌++◌, ◌∙◌, List, Option, ap, sym}
-use Rattle.elf_model.specs.Pieces as pieces
+use Rattle.elf_model.specs.Link.Pieces as pieces
 use Rattle.layout.specs.Views.{piece_view, piece_views}
 use Rattle.search.specs.Views.{loaded_view}
 use Rattle.debug_image.specs.DebugSections.{debug_piece}

@@ -1,8 +1,8 @@
 use Rattle.std.proofs.Common.{◌≡◌, ℕ, ◌%◌, ◌^◌, List, ap, sym, ◌∙◌, arith}
 use Rattle.std.proofs.lemmas.Grind.{common_steps}
 use Rattle.std.specs.Option.{option_map_or}
-use Rattle.elf_model.specs.Slots.{Request, request_of}
-use Rattle.elf_model.specs.ThreadStorage.{block_in}
+use Rattle.elf_model.specs.Link.Slots.{Request, request_of}
+use Rattle.elf_model.specs.Link.ThreadStorage.{block_in}
 use Rattle.got_tls.specs.Asking.{offset_of}
 use Rattle.got_tls.specs.ThreadStorage.{thread_pointer}
 use Rattle.got_tls.proofs.SlotPlaces.{own_offset}

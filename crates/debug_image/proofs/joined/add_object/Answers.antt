@@ -1,7 +1,7 @@
 use Rattle.std.proofs.Common.{◌++◌, ◌∷◌, [], List, subst, sym}
 use Rattle.std.proofs.lemmas.List.{map-append}
 use Rattle.std.specs.Global.{Vec}
-use Rattle.elf_model.specs.Placement.{Placed}
+use Rattle.elf_model.specs.Link.Placement.{Placed}
 use Rattle.layout.specs.PlaceViews.{place_views}
 use Rattle.layout.specs.declared.runs.Place.{Place}
 use Rattle.search.specs.Views.{loaded_view}

@@ -1,5 +1,5 @@
 use Rattle.std.proofs.Common.{List, subst, sym, take, take_all}
-use Rattle.elf_model.specs.Loading.{LoadedObject}
+use Rattle.elf_model.specs.Link.Loading.{LoadedObject}
 use Rattle.search.specs.Views.{loaded_views}
 use Rattle.search.specs.declared.loaded.LoadedObject as code_object
 use Rattle.debug_image.specs.DataIndexes.{AreAll}

@@ -1,6 +1,6 @@
 use Rattle.std.proofs.Common.{◌≤◌, ◌^◌, ◌∙◌, ap, subst, sym}
 use Rattle.std.specs.Prelude.{All}
-use Rattle.elf_model.specs.OwnLayout.{own_placed, placed_end}
+use Rattle.elf_model.specs.Own.OwnLayout.{own_placed, placed_end}
 use Rattle.layout.specs.Placements.{Basis}
 use Rattle.debug_image.proofs.link_tables.link_sections.Goals as goal
 

@@ -1,7 +1,7 @@
 use Rattle.std.proofs.Common.{◌≤◌, ◌+◌, ◌-◌, ◌∙◌, ℕ, List, ap, length, map, subst, sym}
 use Rattle.std.specs.Prelude.{max, min}
 use Rattle.std.specs.List.{range_with_len}
-use Rattle.elf_model.specs.MemoryImage.{file_end, loads_in, program_header_at}
+use Rattle.elf_model.specs.Image.MemoryImage.{file_end, loads_in, program_header_at}
 use Rattle.elf_model.specs.declared.records.ProgramHeader.{ProgramHeader}
 use Rattle.debug_image.specs.PlainImages.{end_with}
 use Rattle.debug_image.proofs.PlainSteps.{end_low, end_more, headers_left}

@@ -1,7 +1,7 @@
 use Rattle.std.proofs.Common.{◌≡◌, ◌≤◌, ◌-◌, length}
 use Rattle.std.specs.Prelude.{map, max, min}
 use Rattle.std.specs.List.{range_with_len}
-use Rattle.elf_model.specs.MemoryImage.{file_end, loads, loads_in, program_header_at}
+use Rattle.elf_model.specs.Image.MemoryImage.{file_end, loads, loads_in, program_header_at}
 use Rattle.debug_image.proofs.plain_part.last_end.Given as goal
 
 abbrev pub invariant-loop-index : goal.invariant-loop-index

@@ -1,6 +1,6 @@
 use Rattle.std.proofs.Common.{◌≡◌, ◌+◌, ◌*◌, ◌≤◌, length, refl, subst, arith}
-use Rattle.elf_model.specs.MemoryImage.{headers_size}
-use Rattle.elf_model.specs.Records.{file_header}
+use Rattle.elf_model.specs.Image.MemoryImage.{headers_size}
+use Rattle.elf_model.specs.Inputs.Records.{file_header}
 use Rattle.elf_model.specs.declared.records.FileHeader.{FileHeader}
 use Rattle.debug_image.proofs.PlainSteps.{plain_made}
 use Rattle.debug_image.proofs.plain_part.plain_image.Goals as goal

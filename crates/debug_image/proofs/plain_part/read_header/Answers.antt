@@ -1,6 +1,6 @@
 use Rattle.std.proofs.Common.{◌≤◌, ℕ, List, length, subst}
 use Rattle.std.specs.Prelude.{SomeIff}
-use Rattle.elf_model.specs.Records.{file_header}
+use Rattle.elf_model.specs.Inputs.Records.{file_header}
 use Rattle.debug_image.proofs.plain_part.read_header.Goals as goal
 
 pub returns : goal.returns

@@ -1,5 +1,5 @@
 use Rattle.std.proofs.Common.{◌++◌, ◌∙◌, List, ap, append_assoc, sym}
-use Rattle.elf_model.specs.Loading.{LoadedObject}
+use Rattle.elf_model.specs.Link.Loading.{LoadedObject}
 use Rattle.elf_model.specs.declared.references.SectionRef.{SectionRef}
 use Rattle.search.specs.Views.{loaded_view, loaded_views}
 use Rattle.std.proofs.Common.{drop, ◌+◌}

@@ -2,7 +2,7 @@ use Rattle.std.proofs.Common.{◌≡◌, ◌∙◌, ◌≤◌, ◌<◌, ℕ, Opt
 use Rattle.std.specs.Borrow.{Bor}
 use Rattle.std.specs.Option.{is_some, option_copied}
 use Rattle.indexmap.specs.IndexMap.{get}
-use Rattle.elf_model.specs.Pieces.{Piece}
+use Rattle.elf_model.specs.Link.Pieces.{Piece}
 use Rattle.resolve.specs.OutputSections.{output_of}
 use Rattle.resolve.proofs.OutputKeys.{key_eq}
 use Rattle.debug_image.proofs.FirstSections.{first_known, first_new, first_other}

@@ -1,6 +1,6 @@
 use Rattle.std.proofs.Common.{◌≡◌, ◌++◌, drop}
 use Rattle.std.specs.List.{filter_map}
-use Rattle.elf_model.specs.Resolution.{symbols_from}
+use Rattle.elf_model.specs.Link.Resolution.{symbols_from}
 use Rattle.search.specs.Views.{loaded_view}
 use Rattle.debug_image.specs.Layouts.{laid_in}
 use Rattle.debug_image.specs.Symbols.{local_row}

@@ -1,6 +1,6 @@
 use Rattle.std.proofs.Common.{◌≡◌, ◌++◌, drop}
 use Rattle.std.specs.List.{filter_map}
-use Rattle.elf_model.specs.Resolution.{all_symbols, symbols_of}
+use Rattle.elf_model.specs.Link.Resolution.{all_symbols, symbols_of}
 use Rattle.search.specs.Views.{loaded_views}
 use Rattle.debug_image.specs.Layouts.{laid_in}
 use Rattle.debug_image.specs.Symbols.{local_row}

@@ -1,7 +1,7 @@
 use Rattle.std.proofs.Common.{refl, subst, ◌∙◌, List}
 use Rattle.std.specs.List.{All}
 use Rattle.std.proofs.lemmas.Bool.{false≢true}
-use Rattle.elf_model.specs.ObjectFile.{AreMembers, Group}
+use Rattle.elf_model.specs.Inputs.ObjectFile.{AreMembers, Group}
 use Rattle.elf_read.specs.Reading.{names_of}
 use Rattle.elf_read.proofs.GroupFaults.{bad_members, bad_signatures}
 use Rattle.elf_read.proofs.GroupLists.{members_of_sections}

@@ -1,6 +1,6 @@
 use Rattle.std.proofs.Common.{◌≡◌, [], ◌∷◌, ◌++◌, ap, ◌∙◌}
 use Rattle.std.specs.Global.{Vec}
-use Rattle.elf_model.specs.ObjectFile.{Group}
+use Rattle.elf_model.specs.Inputs.ObjectFile.{Group}
 use Rattle.elf_read.specs.Reading.{names_of}
 use Rattle.elf_read.proofs.GroupLists.{group_by_parts, group_pushed, group_skipped}
 use Rattle.elf_read.proofs.groups.read_groups.Goals as goal

@@ -1,7 +1,7 @@
 use Rattle.std.proofs.Common.{◌≡◌, ◌==◌, map}
 use Rattle.std.specs.Prelude.{filter}
 use Rattle.std.specs.List.{range_with_len}
-use Rattle.elf_model.specs.ObjectFile.{group_at, section}
+use Rattle.elf_model.specs.Inputs.ObjectFile.{group_at, section}
 use Rattle.elf_read.specs.Reading.{names_of}
 use Rattle.elf_read.proofs.groups.read_groups.Given as goal
 

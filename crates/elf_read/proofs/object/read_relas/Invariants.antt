@@ -1,5 +1,5 @@
 use Rattle.std.proofs.Common.{◌≡◌, map, take}
-use Rattle.elf_model.specs.ObjectFile.{relas_in, sections}
+use Rattle.elf_model.specs.Inputs.ObjectFile.{relas_in, sections}
 use Rattle.elf_read.specs.Reading.{kept_entries}
 use Rattle.elf_read.proofs.object.read_relas.Given as goal
 

@@ -1,7 +1,7 @@
 use Rattle.std.proofs.Common.{List, subst}
 use Rattle.std.specs.Global.{Vec}
 use Rattle.std.specs.Prelude.{◌≡◌, IfOk}
-use Rattle.elf_model.specs.ObjectFile.{Group}
+use Rattle.elf_model.specs.Inputs.ObjectFile.{Group}
 use Rattle.elf_read.proofs.Whole.{groups_are, groups_fault, groups_found}
 use Rattle.elf_read.proofs.object_file.good_groups.Goals as goal
 

@@ -1,6 +1,6 @@
 use Rattle.std.proofs.Common.{◌∙◌}
 use Rattle.std.proofs.lemmas.Result.{err_from_is_err_and}
-use Rattle.elf_model.specs.ObjectFile.{symbols_of}
+use Rattle.elf_model.specs.Inputs.ObjectFile.{symbols_of}
 use Rattle.elf_read.proofs.Faults.{of_file, passed}
 use Rattle.elf_read.proofs.object_file.good_sections.Goals as goal
 

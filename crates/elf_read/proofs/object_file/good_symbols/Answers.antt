@@ -1,7 +1,7 @@
 use Rattle.std.proofs.Common.{List, subst, sym, ◌∙◌}
 use Rattle.std.proofs.lemmas.Bool.{false≢true}
 use Rattle.std.proofs.lemmas.Result.{err_from_is_err_and}
-use Rattle.elf_model.specs.ObjectFile.{StandsIn}
+use Rattle.elf_model.specs.Inputs.ObjectFile.{StandsIn}
 use Rattle.elf_model.specs.declared.faults.ObjFault.TheVariants as fault
 use Rattle.elf_model.specs.declared.records.Symbol.{Symbol}
 use Rattle.elf_read.specs.Reading.{HaveGoodEntries}

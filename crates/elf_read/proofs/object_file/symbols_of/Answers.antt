@@ -1,5 +1,5 @@
 use Rattle.std.proofs.Common.{length, subst, sym}
-use Rattle.elf_model.specs.ObjectFile.{LiesInside}
+use Rattle.elf_model.specs.Inputs.ObjectFile.{LiesInside}
 use Rattle.elf_read.proofs.SectionLemmas.{table_inside}
 use Rattle.elf_read.proofs.Whole.{symbols_by_table}
 use Rattle.elf_read.proofs.object_file.symbols_of.Goals as goal

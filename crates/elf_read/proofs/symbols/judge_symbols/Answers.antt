@@ -1,6 +1,6 @@
 use Rattle.std.proofs.Common.{ℕ, List, sym, subst}
 use Rattle.std.proofs.lemmas.Bool.{false≢true}
-use Rattle.elf_model.specs.ObjectFile.{AreSectionsNamed, AreSymbolsNamed}
+use Rattle.elf_model.specs.Inputs.ObjectFile.{AreSectionsNamed, AreSymbolsNamed}
 use Rattle.elf_read.proofs.Faults.{bad_symbols, unnamed_sections, unnamed_symbols}
 use Rattle.elf_read.proofs.symbols.judge_symbols.Goals as goal
 

@@ -1,5 +1,5 @@
 use Rattle.std.proofs.Common.{subst}
-use Rattle.elf_model.specs.Files.{files_of}
+use Rattle.elf_model.specs.Inputs.Files.{files_of}
 use Rattle.search.specs.Faults.{IsRefusedIn}
 use Rattle.explain.proofs.files.add_object.Goals as goal
 

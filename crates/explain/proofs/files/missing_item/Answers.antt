@@ -5,8 +5,8 @@ use Rattle.std.specs.List.{slice_get}
 use Rattle.std.proofs.lemmas.Option.{slice_get-get_or, slice_get-map}
 use Rattle.command.specs.Views.{item_of, texts_of}
 use Rattle.command.specs.declared.items.Item as code
-use Rattle.elf_model.specs.Command.{Item, Plan}
-use Rattle.elf_model.specs.Opening.{HasFile}
+use Rattle.elf_model.specs.Inputs.Command.{Item, Plan}
+use Rattle.elf_model.specs.Inputs.Opening.{HasFile}
 use Rattle.opening.specs.Opened.{found_view}
 use Rattle.opening.proofs.OpenedLaws.{none_found}
 use Rattle.explain.proofs.files.missing_item.Goals as goal

@@ -1,4 +1,4 @@
-use Rattle.elf_model.specs.Files.{files_of}
+use Rattle.elf_model.specs.Inputs.Files.{files_of}
 use Rattle.explain.proofs.link.add_reasons.Goals as goal
 
 pub returns-in-Err : goal.returns-in-Err

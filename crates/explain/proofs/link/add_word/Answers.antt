@@ -1,6 +1,6 @@
 use Rattle.std.proofs.Common.{List, subst, sym, All}
 use Rattle.std.proofs.lemmas.List.Elements.{All-nil}
-use Rattle.elf_model.specs.Files.{words_of}
+use Rattle.elf_model.specs.Inputs.Files.{words_of}
 use Rattle.explain.specs.Places.{Says}
 use Rattle.explain.specs.declared.place.Place.{Place}
 use Rattle.explain.proofs.link.add_word.Goals as goal

@@ -1,6 +1,6 @@
 use Rattle.std.proofs.Common.{◌≡◌, ◌∙◌, All, sym, subst}
 use Rattle.std.proofs.lemmas.Bool.{false≢true}
-use Rattle.elf_model.specs.Files.{files_of, words_of}
+use Rattle.elf_model.specs.Inputs.Files.{files_of, words_of}
 use Rattle.elf_model.specs.declared.faults.LinkError.TheVariants as error
 use Rattle.explain.specs.Places.{IsOfPhase}
 use Rattle.explain.specs.declared.phase.Phase.{Phase}

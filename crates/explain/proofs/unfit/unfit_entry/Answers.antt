@@ -1,5 +1,5 @@
 use Rattle.std.proofs.Common.{ℕ, ◌+◌, ◌%◌, ◌^◌, ap}
-use Rattle.elf_model.specs.Relocation.{relocation_of}
+use Rattle.elf_model.specs.Link.Relocation.{relocation_of}
 use Rattle.relocate.specs.SymbolTables.{all_valued, valued_object}
 use Rattle.explain.proofs.UnfitValues.{unfit}
 use Rattle.explain.proofs.unfit.unfit_entry.Goals as goal

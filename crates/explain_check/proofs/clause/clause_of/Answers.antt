@@ -1,5 +1,5 @@
 use Rattle.std.proofs.Common.{subst}
-use Rattle.elf_model.specs.RightLink.{Holds}
+use Rattle.elf_model.specs.Image.RightLink.{Holds}
 use Rattle.elf_model.specs.declared.verdict.Clause.{Clause}
 use Rattle.explain_check.proofs.Denials.{denies}
 use Rattle.explain_check.proofs.clause.clause_of.Goals as goal

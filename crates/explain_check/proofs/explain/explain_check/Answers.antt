@@ -1,6 +1,6 @@
 use Rattle.std.proofs.Common.{◌≡◌, Err, List, Ok, Result, subst, sym}
 use Rattle.std.specs.Prelude.{All, IfOk}
-use Rattle.elf_model.specs.RightLink.{HoldsBefore}
+use Rattle.elf_model.specs.Image.RightLink.{HoldsBefore}
 use Rattle.explain_check.specs.Places.{AreFailures, IsFirst, IsOf}
 use Rattle.explain_check.specs.declared.found.Found.{Found}
 use Rattle.explain_check.proofs.Reading.{all_fail, all_first, at_each}

@@ -2,7 +2,7 @@ use Rattle.std.proofs.Common.{sym, ◌∙◌, ◌≡◌, List, ℕ, None, Option
 use Rattle.std.specs.Option.{option_or}
 use Rattle.std.specs.Str.{bytes_eq}
 use Rattle.elf_model.proofs.FirstNamed.{first_added}
-use Rattle.elf_model.specs.MapRecord.{SymbolRow}
+use Rattle.elf_model.specs.Image.MapRecord.{SymbolRow}
 use Rattle.linkmap.specs.Borrowed.{symbol_row}
 use Rattle.explain_check.specs.SymbolPlaces.{symbol_in, symbol_line_view}
 use Rattle.explain_check.proofs.line_index.add_line.Goals as goal

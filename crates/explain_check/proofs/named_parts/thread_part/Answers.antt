@@ -1,8 +1,8 @@
 use Rattle.std.proofs.Common.{◌∙◌, Some, ap, sym, option_map}
 use Rattle.std.specs.Prelude.{filter}
 use Rattle.std.proofs.lemmas.Option.{slice_get-map}
-use Rattle.elf_model.specs.Placement.{is_thread_place, range_of}
-use Rattle.elf_model.specs.RightLink.{placed_of}
+use Rattle.elf_model.specs.Link.Placement.{is_thread_place, range_of}
+use Rattle.elf_model.specs.Image.RightLink.{placed_of}
 use Rattle.explain_check.proofs.named_parts.thread_part.Goals as goal
 
 pub returns : goal.returns

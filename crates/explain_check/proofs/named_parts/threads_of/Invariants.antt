@@ -1,6 +1,6 @@
 use Rattle.std.proofs.Common.{◌≡◌, ◌++◌, drop}
 use Rattle.std.specs.Prelude.{filter}
-use Rattle.elf_model.specs.Placement.{is_thread_place}
+use Rattle.elf_model.specs.Link.Placement.{is_thread_place}
 use Rattle.check_link.specs.Views.{placed_views}
 use Rattle.explain_check.proofs.named_parts.threads_of.Given as goal
 

@@ -2,7 +2,7 @@ use Rattle.std.proofs.Common.{◌≡◌, ℕ, List, Option, None, Some}
 use Rattle.std.specs.Prelude.{All, IfNone}
 use Rattle.std.proofs.lemmas.List.Elements.{All-weaker}
 use Rattle.std.proofs.lemmas.Option.{none-some}
-use Rattle.elf_model.specs.MemoryImage.{Encloses, loads}
+use Rattle.elf_model.specs.Image.MemoryImage.{Encloses, loads}
 use Rattle.elf_model.specs.declared.records.ProgramHeader.{ProgramHeader}
 use Rattle.explain_check.proofs.rights.segment_of.Goals as goal
 

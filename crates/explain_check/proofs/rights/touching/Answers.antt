@@ -1,7 +1,7 @@
 use Rattle.std.proofs.Common.{◌∙◌, ℕ, arith, sym}
 use Rattle.std.specs.Prelude.{All}
 use Rattle.std.proofs.lemmas.Bool.{false≢true}
-use Rattle.elf_model.specs.MemoryImage.{Encloses}
+use Rattle.elf_model.specs.Image.MemoryImage.{Encloses}
 use Rattle.elf_model.specs.declared.records.ProgramHeader.{ProgramHeader}
 use Rattle.elf_model.proofs.Rests.{all_end, all_more}
 use Rattle.explain_check.proofs.rights.touching.Goals as goal

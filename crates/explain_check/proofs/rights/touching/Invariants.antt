@@ -1,6 +1,6 @@
 use Rattle.std.proofs.Common.{drop}
 use Rattle.std.specs.Prelude.{All}
-use Rattle.elf_model.specs.MemoryImage.{Encloses}
+use Rattle.elf_model.specs.Image.MemoryImage.{Encloses}
 use Rattle.elf_model.proofs.Rests.{Left}
 use Rattle.explain_check.proofs.rights.touching.Given as goal
 

@@ -1,8 +1,8 @@
 use Rattle.std.proofs.Common.{◌∙◌, ℕ, List, subst, sym}
 use Rattle.std.specs.Prelude.{All, Contains, IfNone, IfSome}
 use Rattle.std.proofs.lemmas.Bool.{false≢true}
-use Rattle.elf_model.specs.MemoryImage.{Encloses, loads}
-use Rattle.elf_model.specs.Placement.{LiesInSegment}
+use Rattle.elf_model.specs.Image.MemoryImage.{Encloses, loads}
+use Rattle.elf_model.specs.Link.Placement.{LiesInSegment}
 use Rattle.explain_check.proofs.rights.unheld.Goals as goal
 
 pub returns : goal.returns

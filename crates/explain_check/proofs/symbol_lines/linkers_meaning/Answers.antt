@@ -1,7 +1,7 @@
 use Rattle.std.proofs.Common.{◌≡◌, ◌∙◌, Option, Some, None, ap, cond, sym, option_map}
 use Rattle.elf_model.proofs.LinkerUses.{line_among}
-use Rattle.elf_model.specs.LinkerNames.{bound_of}
-use Rattle.elf_model.specs.Meaning.{Linker, Meaning}
+use Rattle.elf_model.specs.Link.LinkerNames.{bound_of}
+use Rattle.elf_model.specs.Link.Meaning.{Linker, Meaning}
 use Rattle.explain_check.proofs.symbol_lines.linkers_meaning.Goals as goal
 
 pub returns-then-not-contains : goal.returns-then-not-contains

@@ -1,6 +1,6 @@
 use Rattle.std.proofs.Common.{◌≡◌, ◌++◌, drop}
 use Rattle.std.specs.List.{flat_map}
-use Rattle.elf_model.specs.Records.{section_header_bytes}
+use Rattle.elf_model.specs.Inputs.Records.{section_header_bytes}
 use Rattle.explain_check.proofs.table_bytes.add_headers.Given as goal
 
 abbrev pub invariant-loop-header : goal.invariant-loop-header

@@ -1,6 +1,6 @@
 use Rattle.std.proofs.Common.{drop, map}
 use Rattle.linkmap.specs.Borrowed.{symbol_row}
-use Rattle.elf_model.specs.SymbolTable.{tabled}
+use Rattle.elf_model.specs.Image.SymbolTable.{tabled}
 use Rattle.explain_check.specs.TablePlaces.{AreBuilt}
 use Rattle.explain_check.proofs.table_bytes.table_of.Given as goal
 

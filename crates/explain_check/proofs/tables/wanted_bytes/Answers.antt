@@ -1,6 +1,6 @@
 use Rattle.std.proofs.Common.{◌≡◌, ◌∙◌, ℕ, subst}
-use Rattle.elf_model.specs.RightLink.{tabled_of, where_of}
-use Rattle.elf_model.specs.SymbolTable.{tables}
+use Rattle.elf_model.specs.Image.RightLink.{tabled_of, where_of}
+use Rattle.elf_model.specs.Image.SymbolTable.{tables}
 use Rattle.explain_check.proofs.TableBuilding.{tail_built}
 use Rattle.explain_check.proofs.tables.wanted_bytes.Goals as goal
 

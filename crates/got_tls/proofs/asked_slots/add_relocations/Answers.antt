@@ -1,5 +1,5 @@
 use Rattle.std.proofs.Common.{◌+◌, ap, drop, get_or, sym, ◌∙◌}
-use Rattle.elf_model.specs.Relocation.{relocations_from}
+use Rattle.elf_model.specs.Link.Relocation.{relocations_from}
 use Rattle.search.proofs.KeptWalks.{no_rela, relas_more}
 use Rattle.search.specs.KeptLists.{relocations_by, relocations_of_relas}
 use Rattle.got_tls.specs.Askers.{all_asked, asking}

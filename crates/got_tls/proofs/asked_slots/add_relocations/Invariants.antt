@@ -1,5 +1,5 @@
 use Rattle.std.proofs.Common.{◌≡◌, drop}
-use Rattle.elf_model.specs.Relocation.{relocations_from}
+use Rattle.elf_model.specs.Link.Relocation.{relocations_from}
 use Rattle.search.specs.KeptLists.{relocations_of_relas}
 use Rattle.got_tls.specs.Askers.{all_asked, asking}
 use Rattle.got_tls.specs.Asking.{with_relocations}

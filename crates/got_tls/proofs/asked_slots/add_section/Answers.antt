@@ -1,5 +1,5 @@
 use Rattle.std.proofs.Common.{◌∷◌, [], ap, map, refl, sym, ◌∙◌}
-use Rattle.elf_model.specs.Relocation.{relocation_of}
+use Rattle.elf_model.specs.Link.Relocation.{relocation_of}
 use Rattle.search.proofs.KeptWalks.{entry_first}
 use Rattle.search.specs.KeptLists.{relocations_by}
 use Rattle.got_tls.specs.Askers.{all_asked, asking}

@@ -1,7 +1,7 @@
 use Rattle.std.proofs.Common.{◌≡◌, ◌+◌, List, Some, ap, subst, sym, ◌∙◌}
 use Rattle.std.specs.List.{slice_get}
-use Rattle.elf_model.specs.Loading.{LoadedObject}
-use Rattle.elf_model.specs.Relocation.{relocations, relocations_from}
+use Rattle.elf_model.specs.Link.Loading.{LoadedObject}
+use Rattle.elf_model.specs.Link.Relocation.{relocations, relocations_from}
 use Rattle.elf_model.proofs.FlatRelocations.{left_of_objects}
 use Rattle.search.specs.Views.{loaded_view}
 use Rattle.got_tls.specs.Asking.{Wants, nothing, with_relocations}

@@ -1,4 +1,4 @@
-use Rattle.elf_model.specs.Slots.{names_got}
+use Rattle.elf_model.specs.Link.Slots.{names_got}
 use Rattle.search.specs.Views.{loaded_view}
 use Rattle.got_tls.proofs.NoSymbols.{NoneBelow}
 use Rattle.got_tls.proofs.requests.tells_of_got.Given as goal

@@ -2,8 +2,8 @@ use Rattle.std.proofs.Common.{◌≡◌, ◌∷◌, [], ◌++◌, ◌∙◌, Lis
 use Rattle.std.specs.List.{flat_map}
 use Rattle.std.proofs.lemmas.List.{append-nil}
 use Rattle.std.proofs.lemmas.List.Concat.{flat_map-append}
-use Rattle.elf_model.specs.ImageFile.{HeaderFields, own_file_header, stack_header}
-use Rattle.elf_model.specs.Records.{file_header_bytes, program_header_bytes}
+use Rattle.elf_model.specs.Own.ImageFile.{HeaderFields, own_file_header, stack_header}
+use Rattle.elf_model.specs.Inputs.Records.{file_header_bytes, program_header_bytes}
 use Rattle.elf_model.specs.declared.records.FileHeader.{FileHeader}
 use Rattle.elf_model.specs.declared.records.ProgramHeader.{ProgramHeader}
 use Rattle.image_write.specs.Parts.{as_list, count_of, headers_of}

@@ -1,5 +1,5 @@
 use Rattle.std.proofs.Common.{◌∙◌}
-use Rattle.elf_model.specs.Records.{program_header_bytes}
+use Rattle.elf_model.specs.Inputs.Records.{program_header_bytes}
 use Rattle.image_write.proofs.StreamSteps.{parts_end, parts_left, towards_fault, towards_more}
 use Rattle.image_write.proofs.headers.put_segments.Goals as goal
 

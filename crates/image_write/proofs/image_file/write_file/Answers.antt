@@ -1,12 +1,12 @@
 use Rattle.std.proofs.Common.{◌≡◌, ◌+◌, ◌*◌, ◌++◌, List, ℕ, [], arith, refl, subst, sym}
 use Rattle.std.specs.Prelude.{All}
-use Rattle.elf_model.specs.Command.{IsBase}
-use Rattle.elf_model.specs.ImageFile.{HeaderFields}
-use Rattle.elf_model.specs.MemoryImage.{file_end}
-use Rattle.elf_model.specs.Loading.{AreObjects}
-use Rattle.elf_model.specs.OwnLayout.{IsNotTooLarge, own_loaded, own_segments, own_where}
-use Rattle.elf_model.specs.Pieces.{AreLawfulKinds}
-use Rattle.elf_model.specs.Placement.{Placed}
+use Rattle.elf_model.specs.Inputs.Command.{IsBase}
+use Rattle.elf_model.specs.Own.ImageFile.{HeaderFields}
+use Rattle.elf_model.specs.Image.MemoryImage.{file_end}
+use Rattle.elf_model.specs.Link.Loading.{AreObjects}
+use Rattle.elf_model.specs.Own.OwnLayout.{IsNotTooLarge, own_loaded, own_segments, own_where}
+use Rattle.elf_model.specs.Link.Pieces.{AreLawfulKinds}
+use Rattle.elf_model.specs.Link.Placement.{Placed}
 use Rattle.elf_model.specs.declared.records.ProgramHeader.{ProgramHeader}
 use Rattle.own_link.proofs.ImageOwn.{own_thread_headers_of}
 use Rattle.elf_model.proofs.Places.{are_own_placed}

@@ -1,8 +1,8 @@
 use Rattle.std.proofs.Common.{◌≡◌, ◌+◌, ◌-◌, ◌≤◌, ◌<◌, ◌++◌, ◌∙◌, List, [], ap, arith, drop, length, sym, take, ℕ}
 use Rattle.std.specs.Prelude.{map, slice_index}
 use Rattle.std.specs.List.{range_with_len}
-use Rattle.elf_model.specs.OwnLayout.{own_where}
-use Rattle.elf_model.specs.WantedBytes.{wanted_byte}
+use Rattle.elf_model.specs.Own.OwnLayout.{own_where}
+use Rattle.elf_model.specs.Link.WantedBytes.{wanted_byte}
 use Rattle.layout.specs.Views.{piece_view}
 use Rattle.image_write.specs.Sections.{wanted_run}
 use Rattle.image_write.proofs.SectionRuns.{part_at, part_is, run_parts}

@@ -1,5 +1,5 @@
 use Rattle.std.proofs.Common.{◌∙◌, ap, sym}
-use Rattle.elf_model.specs.OwnLayout.{own_where}
+use Rattle.elf_model.specs.Own.OwnLayout.{own_where}
 use Rattle.layout.specs.Placements.{Basis}
 use Rattle.layout.specs.Views.{piece_view}
 use Rattle.image_write.specs.Parts.{bytes_of, got_of}

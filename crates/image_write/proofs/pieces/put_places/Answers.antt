@@ -1,6 +1,6 @@
 use Rattle.std.proofs.Common.{◌≡◌, ◌∙◌, List, ap, arith, refl, sym, true}
 use Rattle.std.proofs.lemmas.List.{drop_all}
-use Rattle.elf_model.specs.OwnLayout.{own_where}
+use Rattle.elf_model.specs.Own.OwnLayout.{own_where}
 use Rattle.elf_model.proofs.Listed.{All-unmap}
 use Rattle.layout.proofs.RunSteps.{no_place}
 use Rattle.layout.specs.PlaceViews.{place_view, place_views}

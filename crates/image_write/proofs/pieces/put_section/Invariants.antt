@@ -1,5 +1,5 @@
 use Rattle.std.proofs.Common.{◌≡◌, ◌-◌, ◌≤◌, length}
-use Rattle.elf_model.specs.OwnLayout.{own_where}
+use Rattle.elf_model.specs.Own.OwnLayout.{own_where}
 use Rattle.layout.specs.Views.{piece_view}
 use Rattle.image_write.specs.Sections.{wanted_run}
 use Rattle.image_write.specs.Streams.{stream}

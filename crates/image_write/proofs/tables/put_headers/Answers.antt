@@ -1,5 +1,5 @@
 use Rattle.std.proofs.Common.{◌∙◌}
-use Rattle.elf_model.specs.Records.{section_header_bytes}
+use Rattle.elf_model.specs.Inputs.Records.{section_header_bytes}
 use Rattle.image_write.proofs.StreamSteps.{parts_end, parts_left, towards_fault, towards_more}
 use Rattle.image_write.proofs.tables.put_headers.Goals as goal
 

@@ -1,6 +1,6 @@
 use Rattle.std.proofs.Common.{◌≡◌, drop}
 use Rattle.std.specs.List.{flat_map}
-use Rattle.elf_model.specs.Records.{section_header_bytes}
+use Rattle.elf_model.specs.Inputs.Records.{section_header_bytes}
 use Rattle.image_write.specs.Streams.{stream}
 use Rattle.image_write.proofs.StreamSteps.{Towards}
 use Rattle.image_write.proofs.tables.put_headers.Given as goal

@@ -1,7 +1,7 @@
 use Rattle.std.proofs.Common.{◌≡◌, ◌∙◌, ◌∷◌, [], ◌++◌, Bool, false, List, ℕ, ap, sym}
 use Rattle.std.specs.Borrow.{Bor}
-use Rattle.elf_model.specs.Loading.{LoadedObject}
-use Rattle.elf_model.specs.Meaning.{is_in_thread_storage}
+use Rattle.elf_model.specs.Link.Loading.{LoadedObject}
+use Rattle.elf_model.specs.Link.Meaning.{is_in_thread_storage}
 use Rattle.resolve.specs.Views.{held_name, meaning_view}
 use Rattle.resolve.specs.declared.definition.Definition as code
 use Rattle.search.specs.Views.{loaded_views}

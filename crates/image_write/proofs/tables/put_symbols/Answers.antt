@@ -1,7 +1,7 @@
 use Rattle.std.proofs.Common.{◌≡◌, ◌∙◌, ◌∷◌, [], ◌++◌, List, ℕ, ap, append_assoc, refl, sym}
-use Rattle.elf_model.specs.Loading.{LoadedObject}
-use Rattle.elf_model.specs.Records.{symbol_bytes}
-use Rattle.elf_model.specs.ObjectFile.{null_symbol}
+use Rattle.elf_model.specs.Link.Loading.{LoadedObject}
+use Rattle.elf_model.specs.Inputs.Records.{symbol_bytes}
+use Rattle.elf_model.specs.Inputs.ObjectFile.{null_symbol}
 use Rattle.elf_model.specs.declared.records.Symbol.{Symbol}
 use Rattle.image_write.specs.Tables.{entry_bytes, listed_of, name_bytes, objects_of, where_of}
 use Rattle.image_write.proofs.StreamLaws.{puts_are}

@@ -1,8 +1,8 @@
 use Rattle.std.proofs.Common.{◌≡◌, ◌-◌, ◌++◌, List, ℕ, ap, refl}
 use Rattle.std.specs.Prelude.{replicate}
 use Rattle.std.specs.List.{flat_map}
-use Rattle.elf_model.specs.Records.{section_header_bytes}
-use Rattle.elf_model.specs.SymbolTable as table
+use Rattle.elf_model.specs.Inputs.Records.{section_header_bytes}
+use Rattle.elf_model.specs.Image.SymbolTable as table
 use Rattle.elf_model.specs.declared.records.SectionHeader.{SectionHeader}
 use Rattle.image_write.specs.Tables.{IsTableOf, entered_of, headers_place, listed_of, objects_of, section_names_end, symbols_place, table_headers_of, where_of}
 use Rattle.image_write.specs.declared.symbol_table.SymbolTable.{SymbolTable}

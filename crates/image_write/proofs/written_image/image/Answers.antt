@@ -1,6 +1,6 @@
 use Rattle.std.proofs.Common.{◌∙◌, subst, sym}
 use Rattle.std.specs.Prelude.{All}
-use Rattle.elf_model.specs.OwnLayout.{own_segments}
+use Rattle.elf_model.specs.Own.OwnLayout.{own_segments}
 use Rattle.image_write.specs.Parts.{EndsLow}
 use Rattle.image_write.proofs.OwnBody.{ends_low}
 use Rattle.image_write.proofs.written_image.image.Goals as goal

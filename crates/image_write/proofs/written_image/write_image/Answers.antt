@@ -1,10 +1,10 @@
 use Rattle.std.proofs.Common.{◌≡◌, ◌∙◌, ◌++◌, List, map, subst, sym}
 use Rattle.std.specs.Prelude.{IfSome, Option}
 use Rattle.std.proofs.lemmas.Result.{err_from_is_err_and}
-use Rattle.elf_model.specs.ImageFile.{own_end, own_entry}
-use Rattle.elf_model.specs.Meaning.{Meaning}
-use Rattle.elf_model.specs.OwnLayout.{own_where}
-use Rattle.elf_model.specs.Slots.{slots}
+use Rattle.elf_model.specs.Own.ImageFile.{own_end, own_entry}
+use Rattle.elf_model.specs.Link.Meaning.{Meaning}
+use Rattle.elf_model.specs.Own.OwnLayout.{own_where}
+use Rattle.elf_model.specs.Link.Slots.{slots}
 use Rattle.relocate.specs.Values.{slot_value_of}
 use Rattle.resolve.specs.Views.{meaning_views}
 use Rattle.image_write.specs.Linkages.{AreParts, Linked, loaded_of, own_image, tables_in}

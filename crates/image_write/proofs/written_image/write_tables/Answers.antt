@@ -1,9 +1,9 @@
 use Rattle.std.proofs.Common.{◌≡◌, ◌∙◌, Bool, true, false, List, [], ap, refl, subst, sym}
 use Rattle.std.specs.Prelude.{All, None, Some}
-use Rattle.elf_model.specs.ImageFile.{own_end, own_tables}
-use Rattle.elf_model.specs.OwnLayout.{own_in_load_order, own_where}
-use Rattle.elf_model.specs.Pieces.{AreLawfulKinds}
-use Rattle.elf_model.specs.SymbolTable.{tables}
+use Rattle.elf_model.specs.Own.ImageFile.{own_end, own_tables}
+use Rattle.elf_model.specs.Own.OwnLayout.{own_in_load_order, own_where}
+use Rattle.elf_model.specs.Link.Pieces.{AreLawfulKinds}
+use Rattle.elf_model.specs.Image.SymbolTable.{tables}
 use Rattle.layout.specs.Placements.{Basis}
 use Rattle.resolve.specs.Views.{meaning_view, meaning_views}
 use Rattle.resolve.specs.declared.definition.Definition as code

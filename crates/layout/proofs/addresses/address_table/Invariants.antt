@@ -1,6 +1,6 @@
 use Rattle.std.proofs.Common.{◌≡◌, ℕ, ◌≤◌, drop, length}
 use Rattle.std.specs.Prelude.{find, option_map}
-use Rattle.elf_model.specs.Placement.{is_of_section}
+use Rattle.elf_model.specs.Link.Placement.{is_of_section}
 use Rattle.search.specs.Views.{loaded_views}
 use Rattle.layout.specs.Addresses.{entry, piece_counts, shape_of}
 use Rattle.layout.specs.PlaceViews.{place_views}

@@ -2,9 +2,9 @@ use Rattle.std.proofs.Common.{rules, ◌≡◌, ◌∙◌, List, [], ap, arith, 
 use Rattle.std.specs.Prelude.{Option, filter, option_map}
 use Rattle.std.specs.Option.{option_map_or}
 use Rattle.std.proofs.lemmas.List.{drop_all}
-use Rattle.elf_model.specs.LinkerValues.{end_of_pieces, is_code_piece, is_file_data, is_loaded_piece, is_zero_data, start_of_pieces}
-use Rattle.elf_model.specs.Pieces.{is_of_output}
-use Rattle.elf_model.specs.Placement.{Placed}
+use Rattle.elf_model.specs.Link.LinkerValues.{end_of_pieces, is_code_piece, is_file_data, is_loaded_piece, is_zero_data, start_of_pieces}
+use Rattle.elf_model.specs.Link.Pieces.{is_of_output}
+use Rattle.elf_model.specs.Link.Placement.{Placed}
 use Rattle.elf_model.proofs.Listed.{All-unmap}
 use Rattle.elf_model.proofs.PieceBounds.{either_least, either_none}
 use Rattle.layout.specs.Limits.{IsInLimit}

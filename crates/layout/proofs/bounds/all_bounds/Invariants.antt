@@ -1,6 +1,6 @@
 use Rattle.std.specs.Prelude.{◌≡◌, ℕ, List, drop, filter, map, max}
-use Rattle.elf_model.specs.LinkerValues.{end_of_pieces, is_code_piece, is_file_data, is_loaded_piece, is_zero_data, start_of_pieces}
-use Rattle.elf_model.specs.Pieces.{is_of_output}
+use Rattle.elf_model.specs.Link.LinkerValues.{end_of_pieces, is_code_piece, is_file_data, is_loaded_piece, is_zero_data, start_of_pieces}
+use Rattle.elf_model.specs.Link.Pieces.{is_of_output}
 use Rattle.elf_model.proofs.PieceBounds.{either_least}
 use Rattle.layout.specs.PieceParts.{end_with, is_other, start_with}
 use Rattle.layout.specs.PlaceViews.{place_view, place_views}

@@ -1,5 +1,5 @@
 use Rattle.std.specs.Prelude.{◌≡◌, drop, map}
-use Rattle.elf_model.specs.LinkerValues.{start_of_pieces}
+use Rattle.elf_model.specs.Link.LinkerValues.{start_of_pieces}
 use Rattle.elf_model.proofs.PieceBounds.{either_least}
 use Rattle.layout.specs.PieceParts.{part_test}
 use Rattle.layout.specs.PlaceViews.{place_view, place_views}

@@ -2,7 +2,7 @@ use Rattle.std.proofs.Common.{◌∙◌, ◌+◌, ap, cond, max, sym}
 use Rattle.std.specs.Prelude.{Option, Some, option_map}
 use Rattle.std.specs.Option.{option_map_or}
 use Rattle.std.specs.Str.{bytes_eq}
-use Rattle.elf_model.specs.LinkerValues.{least_of}
+use Rattle.elf_model.specs.Link.LinkerValues.{least_of}
 use Rattle.layout.specs.PieceParts.{IsLast, extent_in, extent_with}
 use Rattle.layout.specs.PlaceViews.{place_view}
 use Rattle.layout.specs.declared.bounds.Extent.{Extent}

@@ -1,5 +1,5 @@
 use Rattle.std.proofs.Common.{◌∙◌, List, ap, false, map}
-use Rattle.elf_model.specs.UsedNames.{is_among}
+use Rattle.elf_model.specs.Link.UsedNames.{is_among}
 use Rattle.resolve.specs.OutputSections.{output_view}
 use Rattle.resolve.specs.declared.output_sections.OutputSection.{OutputSection}
 use Rattle.layout.specs.Mixed.{is_twice_from}

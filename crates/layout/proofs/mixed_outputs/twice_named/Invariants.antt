@@ -1,5 +1,5 @@
 use Rattle.std.specs.Prelude.{◌≡◌, ◌||◌, ℕ, List, drop, false, map}
-use Rattle.elf_model.specs.UsedNames.{is_among}
+use Rattle.elf_model.specs.Link.UsedNames.{is_among}
 use Rattle.resolve.specs.OutputSections.{output_view}
 use Rattle.layout.specs.Mixed.{is_twice_from}
 use Rattle.layout.proofs.mixed_outputs.twice_named.Given as goal

@@ -1,7 +1,7 @@
 use Rattle.std.proofs.Common.{◌∙◌, List, ap}
 use Rattle.std.specs.List.{list_any}
-use Rattle.elf_model.specs.Pieces as pieces
-use Rattle.elf_model.specs.ThreadStorage.{alignment_of}
+use Rattle.elf_model.specs.Link.Pieces as pieces
+use Rattle.elf_model.specs.Link.ThreadStorage.{alignment_of}
 use Rattle.search.specs.Views.{loaded_views}
 use Rattle.layout.specs.Views.{piece_views}
 use Rattle.layout.specs.declared.output_sections.Part.TheVariants as part

@@ -2,8 +2,8 @@ use Rattle.std.proofs.Common.{rules, ◌≡◌, ◌∙◌, ◌<◌, ◌++◌, �
 use Rattle.std.specs.Prelude.{replicate}
 use Rattle.std.specs.Vec.{vec_len}
 use Rattle.std.proofs.lemmas.List.{get_or-map, length-map}
-use Rattle.elf_model.specs.OwnLayout.{leaders}
-use Rattle.elf_model.specs.Pieces as pieces
+use Rattle.elf_model.specs.Own.OwnLayout.{leaders}
+use Rattle.elf_model.specs.Link.Pieces as pieces
 use Rattle.layout.specs.Groups.{group_views, put_at}
 use Rattle.layout.specs.Views.{piece_view, piece_views}
 use Rattle.layout.proofs.GroupSteps.{empties, groups_more, number_within, sections_count}

@@ -1,5 +1,5 @@
 use Rattle.std.specs.Prelude.{◌≡◌, map, take}
-use Rattle.elf_model.specs.OwnLayout.{leaders}
+use Rattle.elf_model.specs.Own.OwnLayout.{leaders}
 use Rattle.layout.specs.Groups.{group, group_views}
 use Rattle.layout.specs.Views.{piece_views}
 use Rattle.layout.proofs.output_sections.groups_of.Given as goal

@@ -1,6 +1,6 @@
 use Rattle.std.proofs.Common.{◌+◌, ◌++◌, [], ◌∷◌, List, ap, drop, get_or, sym, ◌∙◌}
 use Rattle.std.proofs.lemmas.List.{map-append}
-use Rattle.elf_model.specs.Pieces as model
+use Rattle.elf_model.specs.Link.Pieces as model
 use Rattle.elf_model.specs.declared.records.SectionHeader.{SectionHeader}
 use Rattle.elf_model.proofs.Mapped.{push_mapped}
 use Rattle.elf_model.proofs.Rests.{rest_at}

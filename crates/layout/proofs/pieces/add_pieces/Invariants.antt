@@ -1,6 +1,6 @@
 use Rattle.std.proofs.Common.{◌≡◌, ◌++◌, drop}
-use Rattle.elf_model.specs.ObjectFile.{sections}
-use Rattle.elf_model.specs.Pieces.{pieces_from}
+use Rattle.elf_model.specs.Inputs.ObjectFile.{sections}
+use Rattle.elf_model.specs.Link.Pieces.{pieces_from}
 use Rattle.search.specs.KeptLists.{pieces_at}
 use Rattle.search.specs.Views.{loaded_view}
 use Rattle.layout.specs.Views.{piece_views}

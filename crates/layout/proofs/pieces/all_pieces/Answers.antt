@@ -2,7 +2,7 @@ use Rattle.std.proofs.Common.{ℕ, ◌≤◌, ◌∙◌, ap, arith, map, subst, 
 use Rattle.std.specs.Prelude.{All}
 use Rattle.elf_model.proofs.Blocks.{blocks-each}
 use Rattle.elf_model.proofs.Listed.{All-unmap}
-use Rattle.elf_model.specs.Commons.{Block, block_piece}
+use Rattle.elf_model.specs.Link.Commons.{Block, block_piece}
 use Rattle.resolve.specs.Blocks.{block_view}
 use Rattle.search.specs.Views.{loaded_views}
 use Rattle.layout.specs.PieceLists.{got_as, if_sized}

@@ -1,5 +1,5 @@
 use Rattle.std.proofs.Common.{◌≡◌, ◌++◌, drop, map}
-use Rattle.elf_model.specs.Commons.{block_piece}
+use Rattle.elf_model.specs.Link.Commons.{block_piece}
 use Rattle.resolve.specs.Blocks.{block_views}
 use Rattle.layout.specs.Views.{piece_views}
 use Rattle.layout.proofs.pieces.blocks_of.Given as goal

@@ -1,5 +1,5 @@
 use Rattle.std.proofs.Common.{◌≡◌, ◌++◌, drop}
-use Rattle.elf_model.specs.Pieces as pieces
+use Rattle.elf_model.specs.Link.Pieces as pieces
 use Rattle.search.specs.Views.{loaded_views}
 use Rattle.layout.specs.Views.{piece_views}
 use Rattle.layout.proofs.pieces.kept_of.Given as goal

@@ -1,6 +1,6 @@
 use Rattle.std.proofs.Common.{◌≤◌, ◌∙◌, ap, subst, sym}
 use Rattle.std.specs.Prelude.{All}
-use Rattle.elf_model.specs.Placement.{Placed}
+use Rattle.elf_model.specs.Link.Placement.{Placed}
 use Rattle.layout.specs.Orders.{objects_of}
 use Rattle.layout.specs.PlaceViews.{place_views}
 use Rattle.layout.specs.Threads.{placed_alignment}

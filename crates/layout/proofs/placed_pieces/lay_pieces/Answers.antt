@@ -1,7 +1,7 @@
 use Rattle.std.proofs.Common.{rules, ◌≡◌, ◌∙◌, ◌++◌, List, ap, length, refl, subst, sym}
 use Rattle.std.proofs.lemmas.Result.{err_from_is_err_and}
-use Rattle.elf_model.specs.OwnLayout.{code_pieces, code_start, data_start, own_code, own_data, own_loaded, own_read_only, own_thread_rest, placed_from, read_only_pieces, read_only_start, thread_rest_pieces, thread_rest_start}
-use Rattle.elf_model.specs.Placement.{Placed}
+use Rattle.elf_model.specs.Own.OwnLayout.{code_pieces, code_start, data_start, own_code, own_data, own_loaded, own_read_only, own_thread_rest, placed_from, read_only_pieces, read_only_start, thread_rest_pieces, thread_rest_start}
+use Rattle.elf_model.specs.Link.Placement.{Placed}
 use Rattle.layout.specs.Limits.{AreAligned}
 use Rattle.layout.specs.Orders.{objects_of}
 use Rattle.layout.specs.PlaceViews.{place_views}

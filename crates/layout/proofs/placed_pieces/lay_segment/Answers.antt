@@ -1,5 +1,5 @@
 use Rattle.std.proofs.Common.{rules, ◌≡◌, ◌∙◌, ap, drop, subst, sym}
-use Rattle.elf_model.specs.OwnLayout.{placed_from, segment}
+use Rattle.elf_model.specs.Own.OwnLayout.{placed_from, segment}
 use Rattle.layout.specs.Limits.{AreInLimit}
 use Rattle.layout.specs.PlaceViews.{place_views}
 use Rattle.layout.specs.Views.{borrowed_views}

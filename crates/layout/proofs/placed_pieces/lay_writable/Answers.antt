@@ -1,7 +1,7 @@
 use Rattle.std.proofs.Common.{rules, ◌≡◌, ◌∙◌, ◌<◌, ◌≤◌, ◌^◌, ◌++◌, ℕ, List, ap, arith, drop, length, subst, sym}
 use Rattle.std.proofs.lemmas.Result.{err_from_is_err_and}
-use Rattle.elf_model.specs.OwnLayout.{initial_pieces, own_data, segment, thread_start}
-use Rattle.elf_model.specs.Placement.{round_up}
+use Rattle.elf_model.specs.Own.OwnLayout.{initial_pieces, own_data, segment, thread_start}
+use Rattle.elf_model.specs.Link.Placement.{round_up}
 use Rattle.layout.specs.Limits.{AreAligned, AreInLimit}
 use Rattle.layout.specs.Orders.{objects_of, plain_pieces}
 use Rattle.layout.specs.PlaceViews.{place_views}

@@ -1,11 +1,11 @@
 use Rattle.std.proofs.Common.{ℕ, ◌≡◌, ◌<◌, ◌≤◌, ◌∙◌, arith, List, ap, length, subst, sym}
 use Rattle.std.proofs.lemmas.List.{length-map}
 use Rattle.std.proofs.lemmas.List.Elements.{All-weaker}
-use Rattle.elf_model.specs.Commons.{Block}
+use Rattle.elf_model.specs.Link.Commons.{Block}
 use Rattle.resolve.specs.Blocks.{block_view}
 use Rattle.std.specs.Prelude.{All, find, option_map}
-use Rattle.elf_model.specs.OwnLayout.{own_placed}
-use Rattle.elf_model.specs.Placement.{Placed, is_of_section}
+use Rattle.elf_model.specs.Own.OwnLayout.{own_placed}
+use Rattle.elf_model.specs.Link.Placement.{Placed, is_of_section}
 use Rattle.search.specs.Views.{loaded_views}
 use Rattle.layout.specs.Addresses.{HasPlace, piece_counts}
 use Rattle.layout.specs.Limits.{AreInLimit}

@@ -1,5 +1,5 @@
 use Rattle.std.proofs.Common.{◌≡◌, ◌≤◌, ◌^◌, ◌++◌, drop, max}
-use Rattle.elf_model.specs.OwnLayout.{end_of, placed_from}
+use Rattle.elf_model.specs.Own.OwnLayout.{end_of, placed_from}
 use Rattle.layout.specs.Limits.{AreInLimit}
 use Rattle.layout.specs.PlaceViews.{place_views}
 use Rattle.layout.specs.Views.{borrowed_views}

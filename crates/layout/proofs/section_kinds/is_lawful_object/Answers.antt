@@ -1,8 +1,8 @@
 use Rattle.std.proofs.Common.{ℕ, List, subst, sym, ◌∙◌}
 use Rattle.std.specs.Prelude.{All}
 use Rattle.std.proofs.lemmas.Bool.{false≢true}
-use Rattle.elf_model.specs.ObjectFile.{section, sections}
-use Rattle.elf_model.specs.Pieces.{IsLawfulKind}
+use Rattle.elf_model.specs.Inputs.ObjectFile.{section, sections}
+use Rattle.elf_model.specs.Link.Pieces.{IsLawfulKind}
 use Rattle.elf_model.proofs.Rests.{all_end, all_more, all_stop}
 use Rattle.layout.proofs.section_kinds.is_lawful_object.Goals as goal
 

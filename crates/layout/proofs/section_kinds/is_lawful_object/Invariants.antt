@@ -1,7 +1,7 @@
 use Rattle.std.proofs.Common.{drop}
 use Rattle.std.specs.Prelude.{All}
-use Rattle.elf_model.specs.ObjectFile.{section, sections}
-use Rattle.elf_model.specs.Pieces.{IsLawfulKind}
+use Rattle.elf_model.specs.Inputs.ObjectFile.{section, sections}
+use Rattle.elf_model.specs.Link.Pieces.{IsLawfulKind}
 use Rattle.elf_model.proofs.Rests.{Left}
 use Rattle.layout.proofs.section_kinds.is_lawful_object.Given as goal
 

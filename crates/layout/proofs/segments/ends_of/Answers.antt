@@ -1,5 +1,5 @@
 use Rattle.std.proofs.Common.{arith}
-use Rattle.elf_model.specs.OwnLayout.{any_placed, placed_has_bytes}
+use Rattle.elf_model.specs.Own.OwnLayout.{any_placed, placed_has_bytes}
 use Rattle.elf_model.proofs.Listed.{All-unmap}
 use Rattle.layout.specs.Limits.{IsInLimit}
 use Rattle.layout.specs.PlaceViews.{place_view}

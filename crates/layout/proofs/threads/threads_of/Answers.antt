@@ -1,5 +1,5 @@
 use Rattle.std.proofs.Common.{arith, refl}
-use Rattle.elf_model.specs.Pieces.{is_thread_piece}
+use Rattle.elf_model.specs.Link.Pieces.{is_thread_piece}
 use Rattle.elf_model.proofs.Places.{some_alignment}
 use Rattle.layout.specs.Views.{piece_views}
 use Rattle.layout.proofs.ThreadSteps.{align_more, any_more}

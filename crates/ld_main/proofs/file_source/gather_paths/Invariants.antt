@@ -1,5 +1,5 @@
 use Rattle.std.proofs.Common.{◌≡◌, ◌++◌}
-use Rattle.elf_model.specs.Files.{files_of, words_of}
+use Rattle.elf_model.specs.Inputs.Files.{files_of, words_of}
 use Rattle.ld_main.specs.Sources.{AreGathered}
 use Rattle.ld_main.proofs.file_source.gather_paths.Given as goal
 

@@ -1,5 +1,5 @@
 use Rattle.std.proofs.Common.{◌∙◌, ◌-◌, ℕ, [], ap, arith, get_or}
-use Rattle.elf_model.specs.Meaning.{Linker}
+use Rattle.elf_model.specs.Link.Meaning.{Linker}
 use Rattle.elf_model.specs.declared.bound.Bound.TheVariants.{ImageStart}
 use Rattle.relocate.specs.Uses.{line_views}
 use Rattle.resolve.specs.Chosen.{defined_in}

@@ -1,5 +1,5 @@
 use Rattle.std.proofs.Common.{◌≡◌, ◌∙◌, ◌++◌, List, ap, subst, sym}
-use Rattle.elf_model.specs.Meaning.{Meaning}
+use Rattle.elf_model.specs.Link.Meaning.{Meaning}
 use Rattle.relocate.specs.Uses.{line_views}
 use Rattle.resolve.specs.Chosen.{defined_in}
 use Rattle.resolve.specs.Views.{meaning_views}

@@ -1,6 +1,6 @@
 use Rattle.std.proofs.Common.{List, subst, sym}
 use Rattle.std.specs.Prelude.{Some}
-use Rattle.elf_model.specs.ImageFile.{own_end}
+use Rattle.elf_model.specs.Own.ImageFile.{own_end}
 use Rattle.resolve.specs.Views.{meaning_views}
 use Rattle.resolve.specs.declared.definition.Definition as code
 use Rattle.image_write.specs.Listings.{AreKept, IsListing, in_order, table_in}

@@ -1,9 +1,9 @@
 use Rattle.std.proofs.Common.{◌≡◌, ◌∙◌, ℕ, List, ◌++◌, ap, map, subst, sym, take}
 use Rattle.std.specs.Io.KnownBytes.{Appends}
 use Rattle.std.specs.List.{flat_map}
-use Rattle.elf_model.specs.MapRecord.{CommonRow}
-use Rattle.elf_model.specs.MapText.{common_text}
-use Rattle.elf_model.specs.Meaning.{Meaning}
+use Rattle.elf_model.specs.Image.MapRecord.{CommonRow}
+use Rattle.elf_model.specs.Image.MapText.{common_text}
+use Rattle.elf_model.specs.Link.Meaning.{Meaning}
 use Rattle.image_write.specs.CommonRows.{own_commons}
 use Rattle.relocate.specs.Uses.{line_views}
 use Rattle.resolve.specs.Views.{meaning_views}

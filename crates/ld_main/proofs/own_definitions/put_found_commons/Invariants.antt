@@ -1,6 +1,6 @@
 use Rattle.std.proofs.Common.{length}
 use Rattle.std.specs.List.{flat_map}
-use Rattle.elf_model.specs.MapText.{common_text}
+use Rattle.elf_model.specs.Image.MapText.{common_text}
 use Rattle.image_write.specs.CommonRows.{own_commons}
 use Rattle.relocate.specs.Uses.{line_views}
 use Rattle.resolve.specs.Chosen.{defined_in}

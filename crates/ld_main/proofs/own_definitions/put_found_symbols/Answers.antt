@@ -3,10 +3,10 @@ use Rattle.std.specs.Prelude.{All}
 use Rattle.std.specs.Io.KnownBytes.{Appends}
 use Rattle.std.specs.List.{flat_map}
 use Rattle.std.proofs.lemmas.List.Elements.{All-drop, All-map, All-take}
-use Rattle.elf_model.specs.MapText.{symbol_text}
-use Rattle.elf_model.specs.Meaning.{Meaning}
-use Rattle.elf_model.specs.OwnLayout.{own_in_load_order, own_where}
-use Rattle.elf_model.specs.RightLink.{symbol_row_of}
+use Rattle.elf_model.specs.Image.MapText.{symbol_text}
+use Rattle.elf_model.specs.Link.Meaning.{Meaning}
+use Rattle.elf_model.specs.Own.OwnLayout.{own_in_load_order, own_where}
+use Rattle.elf_model.specs.Image.RightLink.{symbol_row_of}
 use Rattle.elf_model.proofs.Listed.{All-unmap}
 use Rattle.image_write.specs.Maps.{LiesWithin}
 use Rattle.relocate.specs.Uses.{line_views}

@@ -1,9 +1,9 @@
 use Rattle.std.proofs.Common.{◌≡◌, length, map}
 use Rattle.std.specs.Prelude.{All}
 use Rattle.std.specs.List.{flat_map}
-use Rattle.elf_model.specs.MapText.{symbol_text}
-use Rattle.elf_model.specs.OwnLayout.{own_in_load_order, own_where}
-use Rattle.elf_model.specs.RightLink.{symbol_row_of}
+use Rattle.elf_model.specs.Image.MapText.{symbol_text}
+use Rattle.elf_model.specs.Own.OwnLayout.{own_in_load_order, own_where}
+use Rattle.elf_model.specs.Image.RightLink.{symbol_row_of}
 use Rattle.image_write.specs.Maps.{LiesWithin}
 use Rattle.relocate.specs.Uses.{line_views}
 use Rattle.resolve.specs.Chosen.{defined_in}

@@ -1,6 +1,6 @@
 use Rattle.std.proofs.Common.{subst}
 use Rattle.std.specs.Prelude.{All}
-use Rattle.elf_model.specs.OwnLayout.{own_in_load_order}
+use Rattle.elf_model.specs.Own.OwnLayout.{own_in_load_order}
 use Rattle.elf_model.proofs.Listed.{All-unmap}
 use Rattle.image_write.specs.Maps.{LiesWithin}
 use Rattle.resolve.specs.Views.{meaning_view}

@@ -1,5 +1,5 @@
 use Rattle.std.proofs.Common.{◌≡◌, ◌++◌, drop}
-use Rattle.elf_model.specs.RightLink.{drops_from}
+use Rattle.elf_model.specs.Image.RightLink.{drops_from}
 use Rattle.search.specs.Views.{loaded_view}
 use Rattle.ld_main.proofs.own_map.add_drop_lines.Given as goal
 

@@ -1,6 +1,6 @@
 use Rattle.std.proofs.Common.{◌≡◌, ◌++◌, drop, map}
-use Rattle.elf_model.specs.MapRecord.{place_row}
-use Rattle.elf_model.specs.Pieces.{pieces_from}
+use Rattle.elf_model.specs.Image.MapRecord.{place_row}
+use Rattle.elf_model.specs.Link.Pieces.{pieces_from}
 use Rattle.search.specs.Views.{loaded_view}
 use Rattle.image_write.specs.Maps.{own_row}
 use Rattle.ld_main.proofs.own_map.add_place_lines.Given as goal

@@ -1,5 +1,5 @@
 use Rattle.std.proofs.Common.{◌≡◌, ◌++◌, drop, map}
-use Rattle.elf_model.specs.MapRecord.{common_row}
+use Rattle.elf_model.specs.Image.MapRecord.{common_row}
 use Rattle.resolve.specs.Views.{meaning_views}
 use Rattle.image_write.specs.CommonRows.{own_commons}
 use Rattle.ld_main.proofs.own_map.common_lines.Given as goal

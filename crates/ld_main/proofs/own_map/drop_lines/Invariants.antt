@@ -1,5 +1,5 @@
 use Rattle.std.proofs.Common.{◌≡◌, ◌++◌, drop}
-use Rattle.elf_model.specs.RightLink.{drop_rows}
+use Rattle.elf_model.specs.Image.RightLink.{drop_rows}
 use Rattle.search.specs.Views.{loaded_views}
 use Rattle.ld_main.proofs.own_map.drop_lines.Given as goal
 

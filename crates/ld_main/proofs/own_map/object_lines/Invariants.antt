@@ -1,6 +1,6 @@
 use Rattle.std.proofs.Common.{◌≡◌, ◌++◌, drop, map}
-use Rattle.elf_model.specs.MapRecord.{object_row}
-use Rattle.elf_model.specs.RightLink.{object_rows}
+use Rattle.elf_model.specs.Image.MapRecord.{object_row}
+use Rattle.elf_model.specs.Image.RightLink.{object_rows}
 use Rattle.search.specs.Views.{loaded_views}
 use Rattle.ld_main.proofs.own_map.object_lines.Given as goal
 

@@ -1,7 +1,7 @@
 use Rattle.std.proofs.Common.{◌≡◌, ◌++◌, drop, map}
-use Rattle.elf_model.specs.MapRecord.{symbol_row}
-use Rattle.elf_model.specs.RightLink.{symbol_row_of}
-use Rattle.elf_model.specs.OwnLayout.{own_where}
+use Rattle.elf_model.specs.Image.MapRecord.{symbol_row}
+use Rattle.elf_model.specs.Image.RightLink.{symbol_row_of}
+use Rattle.elf_model.specs.Own.OwnLayout.{own_where}
 use Rattle.resolve.specs.Views.{meaning_views}
 use Rattle.ld_main.proofs.own_map.symbol_lines.Given as goal
 

@@ -1,6 +1,6 @@
 use Rattle.std.proofs.Common.{drop}
 use Rattle.std.specs.List.{flat_map}
-use Rattle.elf_model.specs.MapText.{common_text}
+use Rattle.elf_model.specs.Image.MapText.{common_text}
 use Rattle.resolve.specs.Views.{meaning_views}
 use Rattle.image_write.specs.CommonRows.{own_commons}
 use Rattle.ld_main.proofs.Behind.{Leads}

@@ -1,7 +1,7 @@
 use Rattle.std.proofs.Common.{drop}
 use Rattle.std.specs.List.{flat_map}
-use Rattle.elf_model.specs.MapText.{drop_text}
-use Rattle.elf_model.specs.RightLink.{drop_rows}
+use Rattle.elf_model.specs.Image.MapText.{drop_text}
+use Rattle.elf_model.specs.Image.RightLink.{drop_rows}
 use Rattle.search.specs.Views.{loaded_views}
 use Rattle.ld_main.proofs.Behind.{Leads}
 use Rattle.ld_main.proofs.own_text.put_drops.Given as goal

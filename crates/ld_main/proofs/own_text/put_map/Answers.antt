@@ -2,9 +2,9 @@ use Rattle.std.proofs.Common.{ℕ, List, refl, subst, sym}
 use Rattle.std.specs.Prelude.{All}
 use Rattle.std.specs.Io.KnownBytes.{Appends}
 use Rattle.std.proofs.lemmas.Result.{on_ok_weaker}
-use Rattle.elf_model.specs.ImageFile.{own_end}
-use Rattle.elf_model.specs.MapText.{text}
-use Rattle.elf_model.specs.OwnLayout.{own_in_load_order}
+use Rattle.elf_model.specs.Own.ImageFile.{own_end}
+use Rattle.elf_model.specs.Image.MapText.{text}
+use Rattle.elf_model.specs.Own.OwnLayout.{own_in_load_order}
 use Rattle.layout.specs.Placements.{Basis}
 use Rattle.search.specs.Loads.{LoadedPlan}
 use Rattle.image_write.specs.Maps.{LiesWithin, own_record}

@@ -1,7 +1,7 @@
 use Rattle.std.proofs.Common.{drop}
 use Rattle.std.specs.List.{flat_map}
-use Rattle.elf_model.specs.MapText.{drop_text}
-use Rattle.elf_model.specs.RightLink.{drops_from}
+use Rattle.elf_model.specs.Image.MapText.{drop_text}
+use Rattle.elf_model.specs.Image.RightLink.{drops_from}
 use Rattle.search.specs.Views.{loaded_view}
 use Rattle.ld_main.proofs.Behind.{Leads}
 use Rattle.ld_main.proofs.own_text.put_object_drops.Given as goal

@@ -1,7 +1,7 @@
 use Rattle.std.proofs.Common.{drop}
 use Rattle.std.specs.List.{flat_map}
-use Rattle.elf_model.specs.MapText.{object_text}
-use Rattle.elf_model.specs.RightLink.{object_rows}
+use Rattle.elf_model.specs.Image.MapText.{object_text}
+use Rattle.elf_model.specs.Image.RightLink.{object_rows}
 use Rattle.search.specs.Views.{loaded_views}
 use Rattle.ld_main.proofs.Behind.{Leads}
 use Rattle.ld_main.proofs.own_text.put_objects.Given as goal

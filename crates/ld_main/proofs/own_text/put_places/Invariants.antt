@@ -1,7 +1,7 @@
 use Rattle.std.proofs.Common.{drop, map}
 use Rattle.std.specs.List.{flat_map}
-use Rattle.elf_model.specs.MapText.{place_text}
-use Rattle.elf_model.specs.Pieces.{pieces_of}
+use Rattle.elf_model.specs.Image.MapText.{place_text}
+use Rattle.elf_model.specs.Link.Pieces.{pieces_of}
 use Rattle.search.specs.Views.{loaded_views}
 use Rattle.image_write.specs.Maps.{own_row}
 use Rattle.ld_main.proofs.Behind.{Leads}

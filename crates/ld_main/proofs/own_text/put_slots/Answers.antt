@@ -2,9 +2,9 @@ use Rattle.std.proofs.Common.{◌≡◌, ◌∙◌, List, ap, arith, length, sub
 use Rattle.std.specs.Io.KnownBytes.{Appends}
 use Rattle.std.specs.List.{flat_map}
 use Rattle.std.proofs.lemmas.List.{length-map}
-use Rattle.elf_model.specs.MapRecord.{SlotRow}
-use Rattle.elf_model.specs.MapText.{slot_text}
-use Rattle.elf_model.specs.Slots.{slots}
+use Rattle.elf_model.specs.Image.MapRecord.{SlotRow}
+use Rattle.elf_model.specs.Image.MapText.{slot_text}
+use Rattle.elf_model.specs.Link.Slots.{slots}
 use Rattle.got_tls.specs.Views.{Got, slot_view}
 use Rattle.ld_main.proofs.Behind.{nothing_put}
 use Rattle.ld_main.proofs.SlotLines.{slots_low, slots_none}

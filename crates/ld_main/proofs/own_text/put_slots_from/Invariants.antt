@@ -1,7 +1,7 @@
 use Rattle.std.proofs.Common.{◌≡◌, ◌+◌, ◌*◌, drop}
 use Rattle.std.specs.List.{flat_map}
-use Rattle.elf_model.specs.MapText.{slot_text}
-use Rattle.elf_model.specs.OwnLayout.{slots_from}
+use Rattle.elf_model.specs.Image.MapText.{slot_text}
+use Rattle.elf_model.specs.Own.OwnLayout.{slots_from}
 use Rattle.got_tls.specs.Views.{slot_views}
 use Rattle.ld_main.proofs.Behind.{Leads}
 use Rattle.ld_main.proofs.own_text.put_slots_from.Given as goal

@@ -1,5 +1,5 @@
-use Rattle.elf_model.specs.OwnLayout.{own_where}
-use Rattle.elf_model.specs.RightLink.{symbol_row_of}
+use Rattle.elf_model.specs.Own.OwnLayout.{own_where}
+use Rattle.elf_model.specs.Image.RightLink.{symbol_row_of}
 use Rattle.ld_main.proofs.Behind.{part_put}
 use Rattle.ld_main.proofs.OwnTexts.{symbols_front}
 use Rattle.ld_main.proofs.own_text.put_symbols.Goals as goal

@@ -1,8 +1,8 @@
 use Rattle.std.proofs.Common.{drop, map}
 use Rattle.std.specs.List.{flat_map}
-use Rattle.elf_model.specs.MapText.{symbol_text}
-use Rattle.elf_model.specs.RightLink.{symbol_row_of}
-use Rattle.elf_model.specs.OwnLayout.{own_where}
+use Rattle.elf_model.specs.Image.MapText.{symbol_text}
+use Rattle.elf_model.specs.Image.RightLink.{symbol_row_of}
+use Rattle.elf_model.specs.Own.OwnLayout.{own_where}
 use Rattle.resolve.specs.Views.{meaning_views}
 use Rattle.ld_main.proofs.Behind.{Leads}
 use Rattle.ld_main.proofs.own_text.put_symbols.Given as goal

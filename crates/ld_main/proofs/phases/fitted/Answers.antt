@@ -1,5 +1,5 @@
 use Rattle.std.proofs.Common.{subst, sym}
-use Rattle.elf_model.specs.OwnLayout.{OwnValuesFit}
+use Rattle.elf_model.specs.Own.OwnLayout.{OwnValuesFit}
 use Rattle.layout.specs.Placements.{Basis}
 use Rattle.relocate.specs.Values.{ValuesFail}
 use Rattle.ld_main.specs.Outputs.{LinksRefuse}

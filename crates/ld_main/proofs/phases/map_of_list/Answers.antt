@@ -1,12 +1,12 @@
 use Rattle.std.proofs.Common.{◌∙◌, List, ap, subst, sym}
 use Rattle.std.specs.Prelude.{All}
-use Rattle.elf_model.specs.ImageFile.{IsOwnMap, own_end}
-use Rattle.elf_model.specs.MapRecord.{map_of}
+use Rattle.elf_model.specs.Own.ImageFile.{IsOwnMap, own_end}
+use Rattle.elf_model.specs.Image.MapRecord.{map_of}
 use Rattle.elf_model.specs.declared.link_map.LinkMap.{LinkMap}
-use Rattle.elf_model.specs.Pieces.{AreLawfulKinds}
+use Rattle.elf_model.specs.Link.Pieces.{AreLawfulKinds}
 use Rattle.elf_model.proofs.Listed.{All-unmap}
 use Rattle.layout.specs.Placements.{Basis}
-use Rattle.elf_model.specs.OwnLayout.{IsNotTooLarge, own_in_load_order}
+use Rattle.elf_model.specs.Own.OwnLayout.{IsNotTooLarge, own_in_load_order}
 use Rattle.resolve.specs.Views.{meaning_view, meaning_views}
 use Rattle.resolve.specs.declared.definition.Definition as code
 use Rattle.search.specs.Loads.{LoadedPlan}

@@ -3,14 +3,14 @@ use Rattle.std.specs.Prelude.{All, None, Option, Some, option_map, unwrap_or}
 use Rattle.std.specs.Borrow.{Bor}
 use Rattle.std.specs.Global.{Vec}
 use Rattle.std.proofs.lemmas.List.Elements.{All-nil}
-use Rattle.elf_model.specs.Command.{Plan}
-use Rattle.elf_model.specs.ImageFile.{own_end, own_entry}
-use Rattle.elf_model.specs.Listing.{AreLinkerLines}
-use Rattle.elf_model.specs.Loading.{LoadedObject}
+use Rattle.elf_model.specs.Inputs.Command.{Plan}
+use Rattle.elf_model.specs.Own.ImageFile.{own_end, own_entry}
+use Rattle.elf_model.specs.Link.Listing.{AreLinkerLines}
+use Rattle.elf_model.specs.Link.Loading.{LoadedObject}
 use Rattle.elf_model.specs.declared.bound.Bound.{Bound}
-use Rattle.elf_model.specs.Meaning.{Meaning, meaning_value}
-use Rattle.elf_model.specs.OwnLayout.{IsNotTooLarge, own_in_load_order, own_where}
-use Rattle.elf_model.specs.Pieces.{AreLawfulKinds}
+use Rattle.elf_model.specs.Link.Meaning.{Meaning, meaning_value}
+use Rattle.elf_model.specs.Own.OwnLayout.{IsNotTooLarge, own_in_load_order, own_where}
+use Rattle.elf_model.specs.Link.Pieces.{AreLawfulKinds}
 use Rattle.layout.specs.Placements.{Basis}
 use Rattle.resolve.specs.Views.{meaning_view, meaning_views}
 use Rattle.resolve.specs.declared.definition.Definition as code

@@ -1,7 +1,7 @@
 use Rattle.std.proofs.Common.{◌∙◌, ap, subst, sym}
-use Rattle.elf_model.specs.Causes.{Cause}
-use Rattle.elf_model.specs.Command.{Plan}
-use Rattle.elf_model.specs.Files.{files_of, words_of}
+use Rattle.elf_model.specs.Own.Causes.{Cause}
+use Rattle.elf_model.specs.Inputs.Command.{Plan}
+use Rattle.elf_model.specs.Inputs.Files.{files_of, words_of}
 use Rattle.ld_main.specs.Linkages.{HasOwnLink, IsPrepared}
 use Rattle.image_write.specs.Linkages.{AreParts, linked_of}
 use Rattle.ld_main.specs.Outputs.{AreLinkable, LinksRefuse}

@@ -1,12 +1,12 @@
 use Rattle.std.proofs.Common.{◌≡◌, ◌∙◌, ◌<◌, ◌≤◌, ◌^◌, Bool, ℕ, List, false, true, ap, subst, sym}
 use Rattle.std.specs.Prelude.{All, None, Some}
-use Rattle.elf_model.specs.Command.{Plan}
-use Rattle.elf_model.specs.ImageFile.{own_end}
-use Rattle.elf_model.specs.Listing.{AreLinkerLines}
-use Rattle.elf_model.specs.Loading.{LoadedObject}
-use Rattle.elf_model.specs.MemoryImage.{file_end}
-use Rattle.elf_model.specs.OwnLayout.{own_segments}
-use Rattle.elf_model.specs.SymbolTable.{tables_end}
+use Rattle.elf_model.specs.Inputs.Command.{Plan}
+use Rattle.elf_model.specs.Own.ImageFile.{own_end}
+use Rattle.elf_model.specs.Link.Listing.{AreLinkerLines}
+use Rattle.elf_model.specs.Link.Loading.{LoadedObject}
+use Rattle.elf_model.specs.Image.MemoryImage.{file_end}
+use Rattle.elf_model.specs.Own.OwnLayout.{own_segments}
+use Rattle.elf_model.specs.Image.SymbolTable.{tables_end}
 use Rattle.layout.specs.Placements.{Basis}
 use Rattle.search.specs.Views.{loaded_views}
 use Rattle.relocate.specs.Uses.{line_views}

@@ -1,5 +1,5 @@
 use Rattle.std.proofs.Common.{◌∙◌, map, subst, sym}
-use Rattle.elf_model.specs.Pieces.{AreLawfulKinds}
+use Rattle.elf_model.specs.Link.Pieces.{AreLawfulKinds}
 use Rattle.layout.specs.Placements.{Basis}
 use Rattle.relocate.specs.Values.{slot_value_of, where_in}
 use Rattle.ld_main.proofs.phases.whole_parts.Goals as goal

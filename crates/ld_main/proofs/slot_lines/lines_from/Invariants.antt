@@ -1,6 +1,6 @@
 use Rattle.std.proofs.Common.{◌≡◌, ◌+◌, ◌*◌, ◌++◌, drop, map}
-use Rattle.elf_model.specs.MapRecord.{slot_row}
-use Rattle.elf_model.specs.OwnLayout.{slots_from}
+use Rattle.elf_model.specs.Image.MapRecord.{slot_row}
+use Rattle.elf_model.specs.Own.OwnLayout.{slots_from}
 use Rattle.got_tls.specs.Views.{slot_views}
 use Rattle.ld_main.proofs.slot_lines.lines_from.Given as goal
 

@@ -1,7 +1,7 @@
 use Rattle.std.proofs.Common.{◌≡◌, ◌∙◌, ap, arith, length, map, sym}
 use Rattle.std.proofs.lemmas.List.{length-map}
-use Rattle.elf_model.specs.MapRecord.{slot_row}
-use Rattle.elf_model.specs.Slots.{slots}
+use Rattle.elf_model.specs.Image.MapRecord.{slot_row}
+use Rattle.elf_model.specs.Link.Slots.{slots}
 use Rattle.got_tls.specs.Views.{Got, slot_view}
 use Rattle.ld_main.proofs.SlotLines.{slots_low, slots_none}
 use Rattle.ld_main.proofs.slot_lines.slot_lines.Goals as goal

@@ -1,6 +1,6 @@
 use Rattle.std.proofs.Common.{arith}
-use Rattle.elf_model.specs.Commons.{Block}
-use Rattle.elf_model.specs.Meaning.{Common}
+use Rattle.elf_model.specs.Link.Commons.{Block}
+use Rattle.elf_model.specs.Link.Meaning.{Common}
 use Rattle.resolve.specs.Blocks.{block_view}
 use Rattle.ld_main.specs.Spelled.{FitsLines}
 use Rattle.ld_main.proofs.Spellings.{none_left, views_fit}

@@ -1,7 +1,7 @@
 use Rattle.std.proofs.Common.{drop}
 use Rattle.std.specs.Prelude.{All}
-use Rattle.elf_model.specs.Commons.{Block}
-use Rattle.elf_model.specs.Meaning.{Common}
+use Rattle.elf_model.specs.Link.Commons.{Block}
+use Rattle.elf_model.specs.Link.Meaning.{Common}
 use Rattle.resolve.specs.Blocks.{block_views}
 use Rattle.ld_main.specs.Spelled.{FitsLines}
 use Rattle.ld_main.proofs.spelled_lines.show_blocks.Given as goal

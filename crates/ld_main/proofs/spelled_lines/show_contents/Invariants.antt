@@ -1,6 +1,6 @@
 use Rattle.std.proofs.Common.{drop}
 use Rattle.std.specs.Prelude.{All}
-use Rattle.elf_model.specs.MapText.{AreBytes}
+use Rattle.elf_model.specs.Image.MapText.{AreBytes}
 use Rattle.search.specs.Views.{loaded_views}
 use Rattle.ld_main.proofs.spelled_lines.show_contents.Given as goal
 

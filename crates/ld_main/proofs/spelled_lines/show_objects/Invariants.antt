@@ -1,7 +1,7 @@
 use Rattle.std.proofs.Common.{drop}
 use Rattle.std.specs.Prelude.{All}
-use Rattle.elf_model.specs.MapText.{FitsObject}
-use Rattle.elf_model.specs.RightLink.{object_rows}
+use Rattle.elf_model.specs.Image.MapText.{FitsObject}
+use Rattle.elf_model.specs.Image.RightLink.{object_rows}
 use Rattle.search.specs.Views.{loaded_views}
 use Rattle.ld_main.proofs.spelled_lines.show_objects.Given as goal
 

@@ -1,8 +1,8 @@
 use Rattle.std.proofs.Common.{List, length, map, ◌<◌, ◌^◌, subst, sym}
 use Rattle.std.specs.Prelude.{All}
-use Rattle.elf_model.specs.Loading.{AreObjects, LoadedObject}
-use Rattle.elf_model.specs.MapText.{AreBytes, FitsPlace}
-use Rattle.elf_model.specs.Pieces.{kept_sections}
+use Rattle.elf_model.specs.Link.Loading.{AreObjects, LoadedObject}
+use Rattle.elf_model.specs.Image.MapText.{AreBytes, FitsPlace}
+use Rattle.elf_model.specs.Link.Pieces.{kept_sections}
 use Rattle.image_write.specs.Maps.{own_row}
 use Rattle.ld_main.proofs.PlaceLines.{all_places_fit}
 use Rattle.ld_main.proofs.spelled_lines.show_places.Goals as goal

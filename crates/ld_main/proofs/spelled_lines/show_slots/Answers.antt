@@ -1,8 +1,8 @@
 use Rattle.std.proofs.Common.{◌∙◌, ◌+◌, ap, arith, subst}
 use Rattle.std.specs.Prelude.{All}
-use Rattle.elf_model.specs.MapText.{FitsTarget}
-use Rattle.elf_model.specs.OwnLayout.{got_piece, own_address}
-use Rattle.elf_model.specs.Slots.{Request, slots}
+use Rattle.elf_model.specs.Image.MapText.{FitsTarget}
+use Rattle.elf_model.specs.Own.OwnLayout.{got_piece, own_address}
+use Rattle.elf_model.specs.Link.Slots.{Request, slots}
 use Rattle.got_tls.specs.Views.{Got}
 use Rattle.own_link.proofs.OwnSlots.{slots_end, slots_fit}
 use Rattle.ld_main.proofs.spelled_lines.show_slots.Goals as goal

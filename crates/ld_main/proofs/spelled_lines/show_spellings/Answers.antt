@@ -1,13 +1,13 @@
 use Rattle.std.proofs.Common.{◌∙◌, ◌<◌, ◌^◌, List, ap, length, map, subst, sym}
 use Rattle.std.specs.Prelude.{All, option_to_list}
-use Rattle.elf_model.specs.Commons.{Block, blocks}
-use Rattle.elf_model.specs.Loading.{LoadedObject}
-use Rattle.elf_model.specs.MapText.{AreBytes, FitsDrop, FitsGot, FitsObject, FitsPlace, FitsSlot}
-use Rattle.elf_model.specs.Meaning.{Common}
-use Rattle.elf_model.specs.OwnLayout.{own_got, own_slots}
-use Rattle.elf_model.specs.Pieces.{AreLawfulKinds, kept_sections}
-use Rattle.elf_model.specs.Resolution.{AreSoundSymbols}
-use Rattle.elf_model.specs.RightLink.{drop_rows, object_rows}
+use Rattle.elf_model.specs.Link.Commons.{Block, blocks}
+use Rattle.elf_model.specs.Link.Loading.{LoadedObject}
+use Rattle.elf_model.specs.Image.MapText.{AreBytes, FitsDrop, FitsGot, FitsObject, FitsPlace, FitsSlot}
+use Rattle.elf_model.specs.Link.Meaning.{Common}
+use Rattle.elf_model.specs.Own.OwnLayout.{own_got, own_slots}
+use Rattle.elf_model.specs.Link.Pieces.{AreLawfulKinds, kept_sections}
+use Rattle.elf_model.specs.Link.Resolution.{AreSoundSymbols}
+use Rattle.elf_model.specs.Image.RightLink.{drop_rows, object_rows}
 use Rattle.layout.specs.Placements.{Basis}
 use Rattle.relocate.specs.Uses.{line_views}
 use Rattle.resolve.specs.Blocks.{block_views}

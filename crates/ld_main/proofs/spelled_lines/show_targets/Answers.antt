@@ -1,6 +1,6 @@
 use Rattle.std.proofs.Common.{arith}
-use Rattle.elf_model.specs.MapText.{FitsTarget}
-use Rattle.elf_model.specs.Slots.{Request}
+use Rattle.elf_model.specs.Image.MapText.{FitsTarget}
+use Rattle.elf_model.specs.Link.Slots.{Request}
 use Rattle.got_tls.specs.Views.{slot_view}
 use Rattle.ld_main.proofs.Spellings.{none_left, views_fit}
 use Rattle.ld_main.proofs.spelled_lines.show_targets.Goals as goal

@@ -1,6 +1,6 @@
 use Rattle.std.proofs.Common.{drop}
 use Rattle.std.specs.Prelude.{All}
-use Rattle.elf_model.specs.MapText.{FitsTarget}
+use Rattle.elf_model.specs.Image.MapText.{FitsTarget}
 use Rattle.got_tls.specs.Views.{slot_views}
 use Rattle.ld_main.proofs.spelled_lines.show_targets.Given as goal
 

@@ -1,5 +1,5 @@
-use Rattle.elf_model.specs.MapRecord.{map_of, place_row, common_row, slot_row, symbol_row}
-use Rattle.elf_model.specs.MapText.{DropBefore, PlaceBefore, CommonBefore, SlotBefore, SymbolBefore, IsOrdered}
+use Rattle.elf_model.specs.Image.MapRecord.{map_of, place_row, common_row, slot_row, symbol_row}
+use Rattle.elf_model.specs.Image.MapText.{DropBefore, PlaceBefore, CommonBefore, SlotBefore, SymbolBefore, IsOrdered}
 use Rattle.linkmap.proofs.OrderLaws.{told, told_seen, told_numbered, iff_no}
 use Rattle.linkmap.proofs.keys.ordered.Goals as goal
 

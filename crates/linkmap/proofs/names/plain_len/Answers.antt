@@ -1,7 +1,7 @@
 use Rattle.std.proofs.Common.{◌≡◌, ◌+◌, ◌-◌, ◌≤◌, length, drop, arith, ap, ◌∙◌}
 use Rattle.std.specs.List.{prefix_len}
 use Rattle.std.proofs.lemmas.List.{length-drop}
-use Rattle.elf_model.specs.MapText.{is_plain}
+use Rattle.elf_model.specs.Image.MapText.{is_plain}
 use Rattle.linkmap.proofs.PlainVectors.{front_plain}
 use Rattle.linkmap.proofs.names.plain_len.Goals as goal
 

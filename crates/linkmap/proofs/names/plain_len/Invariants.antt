@@ -1,6 +1,6 @@
 use Rattle.std.proofs.Common.{◌≡◌, ◌+◌, ◌-◌, ◌≤◌, length}
 use Rattle.std.specs.List.{prefix_len}
-use Rattle.elf_model.specs.MapText.{is_plain}
+use Rattle.elf_model.specs.Image.MapText.{is_plain}
 use Rattle.linkmap.proofs.names.plain_len.Given as goal
 
 abbrev pub invariant-vectors : goal.invariant-vectors

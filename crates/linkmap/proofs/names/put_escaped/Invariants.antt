@@ -1,5 +1,5 @@
 use Rattle.std.proofs.Common.{◌≡◌, ◌++◌, length}
-use Rattle.elf_model.specs.MapText.{escaped}
+use Rattle.elf_model.specs.Image.MapText.{escaped}
 use Rattle.linkmap.proofs.names.put_escaped.Given as goal
 
 abbrev pub invariant-runs : goal.invariant-runs

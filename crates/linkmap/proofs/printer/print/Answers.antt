@@ -1,8 +1,8 @@
 use Rattle.std.proofs.Common.{◌≡◌, ◌∙◌, refl, sym, subst, List}
 use Rattle.std.specs.Prelude.{All}
 use Rattle.elf_model.specs.declared.link_map.DropLine.{DropLine}
-use Rattle.elf_model.specs.MapRecord.{object_row, place_row, common_row, slot_row, symbol_row}
-use Rattle.elf_model.specs.MapText.{object_text, drop_text, place_text, common_text, got_text, slot_text, symbol_text, symtab_text, FitsObject, FitsDrop, FitsPlace, FitsCommon, FitsSlot, FitsSymbol}
+use Rattle.elf_model.specs.Image.MapRecord.{object_row, place_row, common_row, slot_row, symbol_row}
+use Rattle.elf_model.specs.Image.MapText.{object_text, drop_text, place_text, common_text, got_text, slot_text, symbol_text, symtab_text, FitsObject, FitsDrop, FitsPlace, FitsCommon, FitsSlot, FitsSymbol}
 use Rattle.linkmap.proofs.PrintLaws.{printed, ahead, first, text_is, all_seen}
 use Rattle.linkmap.proofs.printer.print.Goals as goal
 

@@ -1,7 +1,7 @@
 use Rattle.std.proofs.Common.{arith}
 use Rattle.std.proofs.lemmas.Grind.{common_steps}
-use Rattle.elf_model.specs.MapRecord.{common_row}
-use Rattle.elf_model.specs.MapText.{FitsCommon}
+use Rattle.elf_model.specs.Image.MapRecord.{common_row}
+use Rattle.elf_model.specs.Image.MapText.{FitsCommon}
 use Rattle.linkmap.proofs.PrintLaws.{all_more}
 use Rattle.linkmap.proofs.printer.put_commons.Goals as goal
 

@@ -1,8 +1,8 @@
 use Rattle.std.proofs.Common.{◌≡◌, ◌++◌, take}
 use Rattle.std.specs.Prelude.{All}
 use Rattle.std.specs.List.{flat_map}
-use Rattle.elf_model.specs.MapRecord.{common_row}
-use Rattle.elf_model.specs.MapText.{common_text, FitsCommon}
+use Rattle.elf_model.specs.Image.MapRecord.{common_row}
+use Rattle.elf_model.specs.Image.MapText.{common_text, FitsCommon}
 use Rattle.linkmap.proofs.printer.put_commons.Given as goal
 
 abbrev pub invariant-loop-c : goal.invariant-loop-c

@@ -1,7 +1,7 @@
 use Rattle.std.proofs.Common.{arith}
 use Rattle.std.proofs.lemmas.Grind.{common_steps}
 use Rattle.std.proofs.lemmas.List.Elements.{All-more}
-use Rattle.elf_model.specs.MapText.{FitsDrop}
+use Rattle.elf_model.specs.Image.MapText.{FitsDrop}
 use Rattle.linkmap.proofs.printer.put_drops.Goals as goal
 
 pub loop-d-preserved : goal.loop-d-preserved

@@ -1,7 +1,7 @@
 use Rattle.std.proofs.Common.{◌≡◌, ◌++◌, take}
 use Rattle.std.specs.Prelude.{All}
 use Rattle.std.specs.List.{flat_map}
-use Rattle.elf_model.specs.MapText.{drop_text, FitsDrop}
+use Rattle.elf_model.specs.Image.MapText.{drop_text, FitsDrop}
 use Rattle.linkmap.proofs.printer.put_drops.Given as goal
 
 abbrev pub invariant-loop-d : goal.invariant-loop-d

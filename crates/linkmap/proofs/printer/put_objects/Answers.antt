@@ -1,7 +1,7 @@
 use Rattle.std.proofs.Common.{arith}
 use Rattle.std.proofs.lemmas.Grind.{common_steps}
-use Rattle.elf_model.specs.MapRecord.{object_row}
-use Rattle.elf_model.specs.MapText.{FitsObject}
+use Rattle.elf_model.specs.Image.MapRecord.{object_row}
+use Rattle.elf_model.specs.Image.MapText.{FitsObject}
 use Rattle.linkmap.proofs.PrintLaws.{all_more}
 use Rattle.linkmap.proofs.printer.put_objects.Goals as goal
 

@@ -1,8 +1,8 @@
 use Rattle.std.proofs.Common.{◌≡◌, ◌++◌, take}
 use Rattle.std.specs.Prelude.{All}
 use Rattle.std.specs.List.{flat_map}
-use Rattle.elf_model.specs.MapRecord.{object_row}
-use Rattle.elf_model.specs.MapText.{object_text, FitsObject}
+use Rattle.elf_model.specs.Image.MapRecord.{object_row}
+use Rattle.elf_model.specs.Image.MapText.{object_text, FitsObject}
 use Rattle.linkmap.proofs.printer.put_objects.Given as goal
 
 abbrev pub invariant-loop-o : goal.invariant-loop-o

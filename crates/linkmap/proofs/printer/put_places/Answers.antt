@@ -1,7 +1,7 @@
 use Rattle.std.proofs.Common.{arith}
 use Rattle.std.proofs.lemmas.Grind.{common_steps}
-use Rattle.elf_model.specs.MapRecord.{place_row}
-use Rattle.elf_model.specs.MapText.{FitsPlace}
+use Rattle.elf_model.specs.Image.MapRecord.{place_row}
+use Rattle.elf_model.specs.Image.MapText.{FitsPlace}
 use Rattle.linkmap.proofs.PrintLaws.{all_more}
 use Rattle.linkmap.proofs.printer.put_places.Goals as goal
 

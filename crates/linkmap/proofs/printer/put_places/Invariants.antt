@@ -1,8 +1,8 @@
 use Rattle.std.proofs.Common.{◌≡◌, ◌++◌, take}
 use Rattle.std.specs.Prelude.{All}
 use Rattle.std.specs.List.{flat_map}
-use Rattle.elf_model.specs.MapRecord.{place_row}
-use Rattle.elf_model.specs.MapText.{place_text, FitsPlace}
+use Rattle.elf_model.specs.Image.MapRecord.{place_row}
+use Rattle.elf_model.specs.Image.MapText.{place_text, FitsPlace}
 use Rattle.linkmap.proofs.printer.put_places.Given as goal
 
 abbrev pub invariant-loop-p : goal.invariant-loop-p

@@ -1,7 +1,7 @@
 use Rattle.std.proofs.Common.{arith}
 use Rattle.std.proofs.lemmas.Grind.{common_steps}
-use Rattle.elf_model.specs.MapRecord.{slot_row}
-use Rattle.elf_model.specs.MapText.{FitsSlot}
+use Rattle.elf_model.specs.Image.MapRecord.{slot_row}
+use Rattle.elf_model.specs.Image.MapText.{FitsSlot}
 use Rattle.linkmap.proofs.PrintLaws.{all_more}
 use Rattle.linkmap.proofs.printer.put_slots.Goals as goal
 

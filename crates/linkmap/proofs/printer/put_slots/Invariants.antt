@@ -1,8 +1,8 @@
 use Rattle.std.proofs.Common.{◌≡◌, ◌++◌, take}
 use Rattle.std.specs.Prelude.{All}
 use Rattle.std.specs.List.{flat_map}
-use Rattle.elf_model.specs.MapRecord.{slot_row}
-use Rattle.elf_model.specs.MapText.{slot_text, FitsSlot}
+use Rattle.elf_model.specs.Image.MapRecord.{slot_row}
+use Rattle.elf_model.specs.Image.MapText.{slot_text, FitsSlot}
 use Rattle.linkmap.proofs.printer.put_slots.Given as goal
 
 abbrev pub invariant-loop-s : goal.invariant-loop-s

@@ -1,7 +1,7 @@
 use Rattle.std.proofs.Common.{arith}
 use Rattle.std.proofs.lemmas.Grind.{common_steps}
-use Rattle.elf_model.specs.MapRecord.{symbol_row}
-use Rattle.elf_model.specs.MapText.{FitsSymbol}
+use Rattle.elf_model.specs.Image.MapRecord.{symbol_row}
+use Rattle.elf_model.specs.Image.MapText.{FitsSymbol}
 use Rattle.linkmap.proofs.PrintLaws.{all_more}
 use Rattle.linkmap.proofs.printer.put_symbols.Goals as goal
 

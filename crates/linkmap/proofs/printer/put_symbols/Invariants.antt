@@ -1,8 +1,8 @@
 use Rattle.std.proofs.Common.{◌≡◌, ◌++◌, take}
 use Rattle.std.specs.Prelude.{All}
 use Rattle.std.specs.List.{flat_map}
-use Rattle.elf_model.specs.MapRecord.{symbol_row}
-use Rattle.elf_model.specs.MapText.{symbol_text, FitsSymbol}
+use Rattle.elf_model.specs.Image.MapRecord.{symbol_row}
+use Rattle.elf_model.specs.Image.MapText.{symbol_text, FitsSymbol}
 use Rattle.linkmap.proofs.printer.put_symbols.Given as goal
 
 abbrev pub invariant-loop-s : goal.invariant-loop-s

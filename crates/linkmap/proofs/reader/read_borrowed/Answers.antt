@@ -1,8 +1,8 @@
 use Rattle.std.proofs.Common.{refl, sym, subst, ◌+◌, arith}
 use Rattle.std.proofs.lemmas.Bool.{false≢true}
-use Rattle.elf_model.specs.MapRecord.{MapRecord}
+use Rattle.elf_model.specs.Image.MapRecord.{MapRecord}
 use Rattle.linkmap.specs.Borrowed.{record_of}
-use Rattle.elf_model.specs.MapText.{End}
+use Rattle.elf_model.specs.Image.MapText.{End}
 use Rattle.linkmap.specs.Order.{row}
 use Rattle.linkmap.specs.Reading.{line_at}
 use Rattle.linkmap.proofs.Parsers.{Took}

@@ -1,5 +1,5 @@
 use Rattle.std.proofs.Common.{length, subst}
-use Rattle.elf_model.specs.MemoryImage.{IsImageHeader}
+use Rattle.elf_model.specs.Image.MemoryImage.{IsImageHeader}
 use Rattle.elf_model.specs.declared.records.FileHeader.{FileHeader}
 use Rattle.loader_model.proofs.memory.header_of.Goals as goal
 

@@ -1,6 +1,6 @@
 use Rattle.std.proofs.Common.{◌≡◌, true, false, subst, sym}
 use Rattle.std.specs.Prelude.{AllPairs}
-use Rattle.elf_model.specs.MemoryImage.{ShareNoPage}
+use Rattle.elf_model.specs.Image.MemoryImage.{ShareNoPage}
 use Rattle.loader_model.proofs.TableOrder.{ascending_loads}
 use Rattle.loader_model.proofs.memory.judge.Goals as goal
 

@@ -1,5 +1,5 @@
 use Rattle.std.proofs.Common.{◌≡◌, ◌++◌, drop}
-use Rattle.elf_model.specs.MemoryImage.{loads_in}
+use Rattle.elf_model.specs.Image.MemoryImage.{loads_in}
 use Rattle.loader_model.proofs.memory.loads_of.Given as goal
 
 abbrev pub invariant-loop-header : goal.invariant-loop-header

@@ -3,7 +3,7 @@ use Rattle.std.specs.Prelude.{map}
 use Rattle.std.specs.List.{range_with_len}
 use Rattle.elf_model.specs.declared.records.ProgramHeader.{ProgramHeader}
 use Rattle.std.proofs.lemmas.List.FromFn.{map-range_with_len_more}
-use Rattle.elf_model.specs.MemoryImage.{program_header_at}
+use Rattle.elf_model.specs.Image.MemoryImage.{program_header_at}
 use Rattle.loader_model.proofs.memory.table_of.Goals as goal
 
 pub loop-i-preserved : goal.loop-i-preserved

@@ -1,7 +1,7 @@
 use Rattle.std.proofs.Common.{◌≡◌}
 use Rattle.std.specs.Prelude.{map}
 use Rattle.std.specs.List.{range_with_len}
-use Rattle.elf_model.specs.MemoryImage.{program_header_at}
+use Rattle.elf_model.specs.Image.MemoryImage.{program_header_at}
 use Rattle.loader_model.proofs.memory.table_of.Given as goal
 
 abbrev pub invariant-loop-i : goal.invariant-loop-i

@@ -1,6 +1,6 @@
 use Rattle.std.proofs.Common.{◌≡◌, ◌++◌, drop}
 use Rattle.std.specs.Prelude.{filter}
-use Rattle.elf_model.specs.MemoryImage.{is_thread_block}
+use Rattle.elf_model.specs.Image.MemoryImage.{is_thread_block}
 use Rattle.loader_model.proofs.memory.thread_blocks_of.Given as goal
 
 abbrev pub invariant-loop-header : goal.invariant-loop-header

@@ -1,5 +1,5 @@
 use Rattle.std.proofs.Common.{ℕ, List, subst, sym}
-use Rattle.elf_model.specs.ArchiveFile.{ArFaultStands}
+use Rattle.elf_model.specs.Inputs.ArchiveFile.{ArFaultStands}
 use Rattle.opening.specs.Faults.{IsUnsearchable}
 use Rattle.opening.specs.Opened.{item_view}
 use Rattle.opening.specs.declared.faults.OpenFault.{OpenFault}

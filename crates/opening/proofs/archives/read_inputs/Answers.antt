@@ -2,8 +2,8 @@ use Rattle.std.proofs.Common.{◌≡◌, subst, sym}
 use Rattle.std.specs.Prelude.{List, true, false}
 use Rattle.std.proofs.lemmas.Result.{err_from_is_err_and}
 use Rattle.std.proofs.lemmas.List.Elements.{All-push}
-use Rattle.elf_model.specs.ArchiveFile.{IsArchive}
-use Rattle.elf_model.specs.Opening.{AreArchives, HaveIndexes, Opened, lacks_index}
+use Rattle.elf_model.specs.Inputs.ArchiveFile.{IsArchive}
+use Rattle.elf_model.specs.Inputs.Opening.{AreArchives, HaveIndexes, Opened, lacks_index}
 use Rattle.opening.proofs.OpenedLaws.{inputs_step, unsearchable_at}
 use Rattle.opening.proofs.archives.read_inputs.Goals as goal
 

@@ -1,5 +1,5 @@
 use Rattle.std.proofs.Common.{◌≡◌, ◌++◌, drop, map}
-use Rattle.elf_model.specs.Opening.{AreArchives, HaveIndexes}
+use Rattle.elf_model.specs.Inputs.Opening.{AreArchives, HaveIndexes}
 use Rattle.opening.specs.Opened.{item_view}
 use Rattle.opening.proofs.archives.read_inputs.Given as goal
 

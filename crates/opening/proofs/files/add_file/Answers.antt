@@ -2,7 +2,7 @@ use Rattle.std.proofs.Common.{◌∙◌, ap, sym, List, ℕ, cond, Some, None}
 use Rattle.std.specs.Borrow.{Bor}
 use Rattle.std.specs.Option.{option_or}
 use Rattle.std.specs.Str.{bytes_eq}
-use Rattle.elf_model.specs.FileIndex.{found}
+use Rattle.elf_model.specs.Inputs.FileIndex.{found}
 use Rattle.elf_model.proofs.FirstNamed.{first_added}
 use Rattle.opening.proofs.files.add_file.Goals as goal
 

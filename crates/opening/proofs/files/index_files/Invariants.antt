@@ -1,8 +1,8 @@
 use Rattle.std.proofs.Common.{◌≡◌, List, ℕ, drop}
 use Rattle.std.specs.Option.{option_or}
-use Rattle.elf_model.specs.Files.{files_of}
-use Rattle.elf_model.specs.Opening.{file_named}
-use Rattle.elf_model.specs.FileIndex.{found}
+use Rattle.elf_model.specs.Inputs.Files.{files_of}
+use Rattle.elf_model.specs.Inputs.Opening.{file_named}
+use Rattle.elf_model.specs.Inputs.FileIndex.{found}
 use Rattle.opening.proofs.files.index_files.Given as goal
 
 abbrev pub invariant-loop-file : goal.invariant-loop-file

@@ -1,7 +1,7 @@
 use Rattle.std.proofs.Common.{◌≡◌, ◌∙◌, List, ap, map, subst}
 use Rattle.std.proofs.lemmas.Result.{err_from_is_err_and}
-use Rattle.elf_model.specs.Files.{File, files_of}
-use Rattle.elf_model.specs.Opening.{AreArchives, AreFilesThere, HaveIndexes, opened}
+use Rattle.elf_model.specs.Inputs.Files.{File, files_of}
+use Rattle.elf_model.specs.Inputs.Opening.{AreArchives, AreFilesThere, HaveIndexes, opened}
 use Rattle.opening.specs.Opened.{item_view}
 use Rattle.opening.specs.declared.opened_items.OpenedItem.{OpenedItem}
 use Rattle.opening.proofs.FaultLaws.{unsearchable_fails}

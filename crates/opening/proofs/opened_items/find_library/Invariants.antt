@@ -1,6 +1,6 @@
 use Rattle.std.proofs.Common.{◌≡◌, drop}
 use Rattle.command.specs.Views.{texts_of}
-use Rattle.elf_model.specs.Command.{library_paths}
+use Rattle.elf_model.specs.Inputs.Command.{library_paths}
 use Rattle.opening.specs.Opened.{first_found}
 use Rattle.opening.proofs.opened_items.find_library.Given as goal
 

@@ -5,9 +5,9 @@ use Rattle.std.specs.Prelude.{All, IsSome}
 use Rattle.std.proofs.lemmas.Bool.{false≢true}
 use Rattle.command.specs.Views.{item_of, texts_of}
 use Rattle.command.specs.declared.items.Item.{Item}
-use Rattle.elf_model.specs.Command as command
-use Rattle.elf_model.specs.Command.{Plan}
-use Rattle.elf_model.specs.Opening.{HasFile}
+use Rattle.elf_model.specs.Inputs.Command as command
+use Rattle.elf_model.specs.Inputs.Command.{Plan}
+use Rattle.elf_model.specs.Inputs.Opening.{HasFile}
 use Rattle.opening.specs.declared.opened_items.OpenedItem.{OpenedItem}
 use Rattle.opening.proofs.opened_items.open.Goals as goal
 

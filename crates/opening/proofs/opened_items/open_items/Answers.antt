@@ -2,7 +2,7 @@ use Rattle.std.proofs.Common.{◌∙◌, List, ℕ, ap, sym, Option}
 use Rattle.std.specs.Borrow.{Bor}
 use Rattle.std.specs.Prelude.{option_map}
 use Rattle.command.specs.Views.{texts_of}
-use Rattle.elf_model.specs.Files.{File}
+use Rattle.elf_model.specs.Inputs.Files.{File}
 use Rattle.opening.specs.Opened.{found_view}
 use Rattle.opening.proofs.OpenedLaws.{files_step, items_step, missing, opened_is}
 use Rattle.std.proofs.lemmas.Bool.{false≢true}

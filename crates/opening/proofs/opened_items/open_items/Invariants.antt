@@ -1,7 +1,7 @@
 use Rattle.std.proofs.Common.{◌≡◌, ◌++◌, drop, map}
 use Rattle.std.specs.Prelude.{◌↔◌, All}
 use Rattle.command.specs.Views.{item_of, texts_of}
-use Rattle.elf_model.specs.Opening.{HasFile, opened_from}
+use Rattle.elf_model.specs.Inputs.Opening.{HasFile, opened_from}
 use Rattle.opening.specs.Opened.{item_view}
 use Rattle.opening.proofs.opened_items.open_items.Given as goal
 

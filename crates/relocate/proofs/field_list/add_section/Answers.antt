@@ -2,7 +2,7 @@ use Rattle.std.proofs.Common.{◌≡◌, ◌++◌, List, ap, map, subst, sym, �
 use Rattle.std.specs.Prelude.{All}
 use Rattle.std.proofs.lemmas.List.Elements.{All-head, All-tail}
 use Rattle.elf_model.proofs.Mapped.{push_mapped}
-use Rattle.elf_model.specs.Relocation.{IsLawfulRelocation, Relocation, relocation_of}
+use Rattle.elf_model.specs.Link.Relocation.{IsLawfulRelocation, Relocation, relocation_of}
 use Rattle.search.proofs.KeptWalks.{entry_first}
 use Rattle.search.specs.KeptLists.{relocations_by}
 use Rattle.relocate.specs.Fields.{field_of}

@@ -1,6 +1,6 @@
 use Rattle.std.proofs.Common.{◌≡◌, ◌++◌, map}
 use Rattle.std.specs.Prelude.{All}
-use Rattle.elf_model.specs.Relocation.{IsLawfulRelocation, relocation_of}
+use Rattle.elf_model.specs.Link.Relocation.{IsLawfulRelocation, relocation_of}
 use Rattle.search.specs.KeptLists.{relocations_by}
 use Rattle.relocate.specs.SymbolTables.{all_of, referring}
 use Rattle.relocate.specs.Fields.{field_of}

@@ -1,6 +1,6 @@
 use Rattle.std.proofs.Common.{◌≡◌, ◌++◌, drop, map}
 use Rattle.std.specs.Prelude.{All}
-use Rattle.elf_model.specs.Relocation.{IsLawfulRelocation, relocations_from}
+use Rattle.elf_model.specs.Link.Relocation.{IsLawfulRelocation, relocations_from}
 use Rattle.search.specs.KeptLists.{relocations_of_relas}
 use Rattle.relocate.specs.Fields.{field_of}
 use Rattle.relocate.specs.SymbolTables.{all_of, referring}

@@ -1,7 +1,7 @@
 use Rattle.std.proofs.Common.{ℕ, ℤ, pos, ◌+ℤ◌, sym, ap, ◌∙◌, w64}
 use Rattle.std.proofs.Math.Nat.{mod-eq_of_lt}
 use Rattle.std.proofs.lemmas.Int.{to_z-of_z}
-use Rattle.elf_model.specs.Relocation.{modulo_64}
+use Rattle.elf_model.specs.Link.Relocation.{modulo_64}
 use Rattle.relocate.proofs.ThreadSums.{thread-sum}
 use Rattle.relocate.proofs.kinds.thread_sum.Goals as goal
 

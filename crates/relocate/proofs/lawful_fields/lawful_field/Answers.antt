@@ -1,6 +1,6 @@
 use Rattle.std.proofs.Common.{◌∙◌, ℕ, [], ap, sym, unwrap_or}
-use Rattle.elf_model.specs.ObjectFile.{symbol_name}
-use Rattle.elf_model.specs.Relocation.{relocation_of}
+use Rattle.elf_model.specs.Inputs.ObjectFile.{symbol_name}
+use Rattle.elf_model.specs.Link.Relocation.{relocation_of}
 use Rattle.relocate.specs.SymbolTables.{all_of, referring}
 use Rattle.relocate.proofs.lawful_fields.lawful_field.Goals as goal
 

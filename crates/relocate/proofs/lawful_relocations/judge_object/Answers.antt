@@ -1,6 +1,6 @@
 use Rattle.std.proofs.Common.{◌≡◌, IfErr}
 use Rattle.std.specs.Prelude.{OnOk}
-use Rattle.elf_model.specs.Relocation.{relocations_from}
+use Rattle.elf_model.specs.Link.Relocation.{relocations_from}
 use Rattle.search.specs.Views.{loaded_view}
 use Rattle.got_tls.specs.Asking.{with_relocations}
 use Rattle.got_tls.specs.AskedViews.{wants}

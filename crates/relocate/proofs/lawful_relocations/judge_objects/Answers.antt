@@ -4,8 +4,8 @@ use Rattle.std.proofs.lemmas.Option.{slice_get-get_or, slice_get-map}
 use Rattle.search.specs.declared.loaded.LoadedObject as code
 use Rattle.std.proofs.lemmas.Result.{err_from_is_err_and}
 use Rattle.elf_model.proofs.FlatRelocations.{left_of_objects}
-use Rattle.elf_model.specs.Loading.{LoadedObject}
-use Rattle.elf_model.specs.Relocation.{relocations, relocations_from}
+use Rattle.elf_model.specs.Link.Loading.{LoadedObject}
+use Rattle.elf_model.specs.Link.Relocation.{relocations, relocations_from}
 use Rattle.search.specs.Views.{loaded_view, loaded_views}
 use Rattle.relocate.proofs.Judged.{exit_fails, remains_all, remains_fail, remains_part}
 use Rattle.elf_model.proofs.RelocationFields.{objects_apart}

@@ -1,6 +1,6 @@
 use Rattle.std.proofs.Common.{◌≡◌}
 use Rattle.elf_model.proofs.FlatRelocations.{left_of_objects}
-use Rattle.elf_model.specs.Relocation.{relocations}
+use Rattle.elf_model.specs.Link.Relocation.{relocations}
 use Rattle.got_tls.specs.Asking.{nothing, with_relocations}
 use Rattle.got_tls.specs.AskedViews.{wants}
 use Rattle.relocate.proofs.Judged.{Remains}

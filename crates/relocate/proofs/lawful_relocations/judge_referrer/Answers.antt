@@ -1,7 +1,7 @@
 use Rattle.std.proofs.Common.{ap, subst, sym, ◌∙◌}
 use Rattle.std.specs.Prelude.{All, AllPairs}
 use Rattle.std.proofs.lemmas.Bool.{false≢true}
-use Rattle.elf_model.specs.Relocation.{relocations_from}
+use Rattle.elf_model.specs.Link.Relocation.{relocations_from}
 use Rattle.elf_model.proofs.RelocationFields.{own_object}
 use Rattle.elf_model.proofs.Pairs.{AllPairs-map, AllPairs-unmap}
 use Rattle.elf_model.proofs.OwnFields.{apart_of_ranges, ranges_of_apart}

@@ -1,6 +1,6 @@
 use Rattle.std.proofs.Common.{◌≡◌, ◌∷◌, [], ap, map, sym, ◌∙◌}
 use Rattle.std.proofs.lemmas.Result.{err_from_is_err_and}
-use Rattle.elf_model.specs.Relocation.{relocation_of}
+use Rattle.elf_model.specs.Link.Relocation.{relocation_of}
 use Rattle.search.proofs.KeptWalks.{entry_first}
 use Rattle.search.specs.KeptLists.{relocations_by}
 use Rattle.got_tls.specs.Asking.{with_relocations}

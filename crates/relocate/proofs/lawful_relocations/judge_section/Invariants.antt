@@ -1,5 +1,5 @@
 use Rattle.std.proofs.Common.{◌≡◌, map}
-use Rattle.elf_model.specs.Relocation.{relocation_of}
+use Rattle.elf_model.specs.Link.Relocation.{relocation_of}
 use Rattle.search.specs.KeptLists.{relocations_by}
 use Rattle.got_tls.specs.Asking.{with_relocations}
 use Rattle.got_tls.specs.AskedViews.{wants}

@@ -1,6 +1,6 @@
 use Rattle.std.proofs.Common.{◌≡◌, sym, ◌∙◌}
 use Rattle.std.specs.Prelude.{OnOk}
-use Rattle.elf_model.specs.Relocation.{relocation_of}
+use Rattle.elf_model.specs.Link.Relocation.{relocation_of}
 use Rattle.got_tls.specs.Askers.{all_asked, asking}
 use Rattle.got_tls.specs.Asking.{with_relocation}
 use Rattle.got_tls.specs.AskedViews.{wants}

@@ -1,7 +1,7 @@
 use Rattle.std.proofs.Common.{◌∷◌, [], List, ap, map, refl, sym, ◌||◌, ◌∙◌}
 use Rattle.std.specs.List.{list_any}
-use Rattle.elf_model.specs.Relocation.{Relocation, relocation_of}
-use Rattle.elf_model.specs.UsedNames.{is_among, uses_line}
+use Rattle.elf_model.specs.Link.Relocation.{Relocation, relocation_of}
+use Rattle.elf_model.specs.Link.UsedNames.{is_among, uses_line}
 use Rattle.elf_model.proofs.LinkerUses.{gained}
 use Rattle.search.proofs.KeptWalks.{entry_first}
 use Rattle.relocate.specs.Uses.{using}

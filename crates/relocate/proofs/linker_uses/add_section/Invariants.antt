@@ -1,7 +1,7 @@
 use Rattle.std.proofs.Common.{◌≡◌, ℕ, List, ◌||◌, map}
 use Rattle.std.specs.List.{list_any}
-use Rattle.elf_model.specs.Relocation.{relocation_of}
-use Rattle.elf_model.specs.UsedNames.{is_among, uses_line}
+use Rattle.elf_model.specs.Link.Relocation.{relocation_of}
+use Rattle.elf_model.specs.Link.UsedNames.{is_among, uses_line}
 use Rattle.search.specs.KeptLists.{relocations_by}
 use Rattle.relocate.specs.Uses.{using}
 use Rattle.relocate.proofs.linker_uses.add_section.Given as goal

@@ -1,5 +1,5 @@
 use Rattle.std.proofs.Common.{List, ap, arith, length, refl, sym, ◌∙◌}
-use Rattle.elf_model.specs.UsedNames.{is_linker_use}
+use Rattle.elf_model.specs.Link.UsedNames.{is_linker_use}
 use Rattle.elf_model.specs.declared.records.Symbol.{Symbol}
 use Rattle.search.specs.Views.{loaded_view}
 use Rattle.got_tls.proofs.NoSymbols.{none_at_all, none_more}

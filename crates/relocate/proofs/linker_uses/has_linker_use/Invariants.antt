@@ -1,4 +1,4 @@
-use Rattle.elf_model.specs.UsedNames.{is_linker_use}
+use Rattle.elf_model.specs.Link.UsedNames.{is_linker_use}
 use Rattle.search.specs.Views.{loaded_view}
 use Rattle.got_tls.proofs.NoSymbols.{NoneBelow}
 use Rattle.relocate.proofs.linker_uses.has_linker_use.Given as goal

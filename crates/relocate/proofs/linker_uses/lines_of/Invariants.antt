@@ -1,5 +1,5 @@
 use Rattle.std.proofs.Common.{◌≡◌, ◌++◌}
-use Rattle.elf_model.specs.UsedNames.{linker_meanings}
+use Rattle.elf_model.specs.Link.UsedNames.{linker_meanings}
 use Rattle.relocate.specs.Uses.{line_views}
 use Rattle.relocate.proofs.linker_uses.lines_of.Given as goal
 

@@ -1,6 +1,6 @@
 use Rattle.std.proofs.Common.{List, subst, sym}
-use Rattle.elf_model.specs.Listing.{AreLinkerLines}
-use Rattle.elf_model.specs.Loading.{LoadedObject}
+use Rattle.elf_model.specs.Link.Listing.{AreLinkerLines}
+use Rattle.elf_model.specs.Link.Loading.{LoadedObject}
 use Rattle.elf_model.proofs.LinkerLines.{lines_are}
 use Rattle.search.specs.Views.{loaded_views}
 use Rattle.relocate.proofs.linker_uses.used_lines.Goals as goal

@@ -1,8 +1,8 @@
 use Rattle.std.proofs.Common.{◌∙◌, ◌+◌, ◌||◌, List, ap, subst, sym}
 use Rattle.std.specs.List.{list_any}
-use Rattle.elf_model.specs.Loading.{LoadedObject}
-use Rattle.elf_model.specs.Relocation.{Relocation, relocations, relocations_from}
-use Rattle.elf_model.specs.UsedNames.{Gains, is_among, uses_line}
+use Rattle.elf_model.specs.Link.Loading.{LoadedObject}
+use Rattle.elf_model.specs.Link.Relocation.{Relocation, relocations, relocations_from}
+use Rattle.elf_model.specs.Link.UsedNames.{Gains, is_among, uses_line}
 use Rattle.elf_model.proofs.FlatRelocations.{left_of_objects}
 use Rattle.elf_model.proofs.LinkerUses.{gained}
 use Rattle.search.specs.Views.{loaded_view, loaded_views}

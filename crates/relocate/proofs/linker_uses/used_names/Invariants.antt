@@ -1,8 +1,8 @@
 use Rattle.std.proofs.Common.{◌≡◌, ℕ, List, ◌||◌}
 use Rattle.std.specs.List.{list_any}
 use Rattle.elf_model.proofs.FlatRelocations.{left_of_objects}
-use Rattle.elf_model.specs.Relocation.{relocations}
-use Rattle.elf_model.specs.UsedNames.{is_among, uses_line}
+use Rattle.elf_model.specs.Link.Relocation.{relocations}
+use Rattle.elf_model.specs.Link.UsedNames.{is_among, uses_line}
 use Rattle.search.specs.Views.{loaded_view, loaded_views}
 use Rattle.relocate.proofs.linker_uses.used_names.Given as goal
 

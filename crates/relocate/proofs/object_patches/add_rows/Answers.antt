@@ -4,7 +4,7 @@ use Rattle.std.proofs.lemmas.List.{take_all}
 use Rattle.std.proofs.lemmas.List.Elements.{All-drop, All-take}
 use Rattle.std.proofs.lemmas.Option.{get_or_from_slice_get, slice_get-get_or}
 use Rattle.std.proofs.lemmas.Result.{err_from_is_err_and}
-use Rattle.elf_model.specs.Relocation.{Relocation}
+use Rattle.elf_model.specs.Link.Relocation.{Relocation}
 use Rattle.relocate.proofs.Fitted.{exit_fitting, fit_all, fit_none, fit_part, fitting_fails, known_part}
 use Rattle.search.proofs.KeptWalks.{relas_end}
 use Rattle.relocate.proofs.RelaOrders.{row_done, row_left}

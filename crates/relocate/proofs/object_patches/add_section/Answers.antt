@@ -1,7 +1,7 @@
 use Rattle.std.proofs.Common.{◌≡◌, ◌∷◌, ◌++◌, [], List, ap, map, refl, ◌∙◌}
 use Rattle.std.specs.Prelude.{IsSome}
 use Rattle.std.proofs.lemmas.List.Elements.{All-head}
-use Rattle.elf_model.specs.Relocation.{Relocation, relocation_kind, relocation_of}
+use Rattle.elf_model.specs.Link.Relocation.{Relocation, relocation_kind, relocation_of}
 use Rattle.elf_model.proofs.Mapped.{push_mapped}
 use Rattle.search.proofs.KeptWalks.{entry_first}
 use Rattle.search.specs.KeptLists.{relocations_by}

@@ -1,7 +1,7 @@
 use Rattle.std.proofs.Common.{List, ap, subst, sym, ◌∙◌}
 use Rattle.std.specs.List.Sorted.{IsNonDecreasingBy}
 use Rattle.std.proofs.lemmas.List.Sorted.{IsNonDecreasingBy-from_all_adjacent}
-use Rattle.elf_model.specs.ArrayOrder.{by_rank}
+use Rattle.elf_model.specs.Link.ArrayOrder.{by_rank}
 use Rattle.search.specs.declared.kept_lists.KeptRela.{KeptRela}
 use Rattle.relocate.proofs.RelaOrders.{ascending_is}
 use Rattle.relocate.specs.RelaOrders.{target_of}

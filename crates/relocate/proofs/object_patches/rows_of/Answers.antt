@@ -1,7 +1,7 @@
 use Rattle.std.proofs.lemmas.Result.{err_from_is_err_and}
 use Rattle.std.specs.Prelude.{IsSome}
-use Rattle.elf_model.specs.Relocation.{Relocation, relocation_kind, relocations_from}
-use Rattle.elf_model.specs.RelocationValues.{Fits}
+use Rattle.elf_model.specs.Link.Relocation.{Relocation, relocation_kind, relocations_from}
+use Rattle.elf_model.specs.Link.RelocationValues.{Fits}
 use Rattle.search.specs.KeptLists.{relocations_of_relas}
 use Rattle.relocate.proofs.Fitted.{exit_fitting, fitting_moved}
 use Rattle.relocate.proofs.RelaOrders.{all_from_ordered, all_ordered, ordered_kept, patches_ordered}

@@ -1,7 +1,7 @@
 use Rattle.std.proofs.Common.{IfErr, IfOk, subst}
 use Rattle.std.specs.Prelude.{All, OnOk}
-use Rattle.elf_model.specs.Relocation.{relocations_from}
-use Rattle.elf_model.specs.RelocationValues.{Fits}
+use Rattle.elf_model.specs.Link.Relocation.{relocations_from}
+use Rattle.elf_model.specs.Link.RelocationValues.{Fits}
 use Rattle.layout.specs.Placements.{Basis}
 use Rattle.search.specs.Views.{loaded_view}
 use Rattle.relocate.specs.SymbolTables.{all_valued, valued_object}

@@ -5,10 +5,10 @@ use Rattle.relocate.specs.SymbolTables.{AreChosenValues}
 use Rattle.std.proofs.lemmas.List.{length-map}
 use Rattle.std.proofs.lemmas.Result.{err_from_is_err_and}
 use Rattle.elf_model.proofs.FlatRelocations.{left_of_objects}
-use Rattle.elf_model.specs.Loading.{LoadedObject}
-use Rattle.elf_model.specs.Pieces.{AreLawfulKinds}
-use Rattle.elf_model.specs.Relocation.{relocations, relocations_from}
-use Rattle.elf_model.specs.RelocationValues.{Fits}
+use Rattle.elf_model.specs.Link.Loading.{LoadedObject}
+use Rattle.elf_model.specs.Link.Pieces.{AreLawfulKinds}
+use Rattle.elf_model.specs.Link.Relocation.{relocations, relocations_from}
+use Rattle.elf_model.specs.Link.RelocationValues.{Fits}
 use Rattle.search.specs.Views.{loaded_view, loaded_views}
 use Rattle.relocate.proofs.Fitted.{fit_all, fit_part, fitting_fails, known_part}
 use Rattle.got_tls.proofs.LoadedObjects.{next_relocations, next_there}

@@ -1,5 +1,5 @@
 use Rattle.elf_model.proofs.FlatRelocations.{left_of_objects}
-use Rattle.elf_model.specs.Relocation.{relocations}
+use Rattle.elf_model.specs.Link.Relocation.{relocations}
 use Rattle.relocate.proofs.Fitted.{LeavesToFit}
 use Rattle.relocate.proofs.ObjectRows.{AreFirstRows}
 use Rattle.relocate.specs.Values.{where_in}

@@ -1,5 +1,5 @@
 use Rattle.std.proofs.Common.{◌∙◌, ap, refl}
-use Rattle.elf_model.specs.Loading.{is_dropped}
+use Rattle.elf_model.specs.Link.Loading.{is_dropped}
 use Rattle.elf_model.specs.declared.records.Symbol.{Symbol}
 use Rattle.search.specs.Views.{loaded_view}
 use Rattle.relocate.proofs.ChosenReferences.{is_reference}

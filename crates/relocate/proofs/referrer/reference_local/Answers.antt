@@ -1,9 +1,9 @@
 use Rattle.std.proofs.Common.{◌≡◌, ◌≢◌, ◌&&◌, ◌∙◌, Bool, ap, false, not, refl, subst, sym, true}
 use Rattle.std.specs.Prelude.{◌↔◌, IsSomeAnd, IsTrue}
-use Rattle.elf_model.specs.Loading.{is_dropped}
-use Rattle.elf_model.specs.Pieces.{is_alloc}
-use Rattle.elf_model.specs.Relocation.{symbol_at}
-use Rattle.elf_model.specs.Resolution.{SymbolOf, is_undefined, section_of}
+use Rattle.elf_model.specs.Link.Loading.{is_dropped}
+use Rattle.elf_model.specs.Link.Pieces.{is_alloc}
+use Rattle.elf_model.specs.Link.Relocation.{symbol_at}
+use Rattle.elf_model.specs.Link.Resolution.{SymbolOf, is_undefined, section_of}
 use Rattle.elf_model.specs.declared.records.Symbol.{Symbol}
 use Rattle.search.specs.Views.{loaded_view}
 use Rattle.relocate.specs.References.{section_in}

@@ -1,5 +1,5 @@
 use Rattle.std.proofs.Common.{ℕ}
-use Rattle.elf_model.specs.Relocation.{symbol_at}
+use Rattle.elf_model.specs.Link.Relocation.{symbol_at}
 use Rattle.search.specs.Views.{loaded_view}
 use Rattle.relocate.specs.SymbolTables.{IsReference}
 use Rattle.relocate.proofs.SymbolTables.{counted_more, tells_more}

@@ -1,7 +1,7 @@
 use Rattle.std.proofs.Common.{rules, ap, ◌∙◌}
 use Rattle.std.proofs.lemmas.List.Sorted.{IsNonDecreasingBy-from_sort_by_key, answers_always}
 use Rattle.elf_model.proofs.ArrayOrder.{by_stable_sort}
-use Rattle.elf_model.specs.ArrayOrder.{by_rank}
+use Rattle.elf_model.specs.Link.ArrayOrder.{by_rank}
 use Rattle.relocate.specs.RelaOrders.{target_of}
 use Rattle.relocate.proofs.rela_order.ordered.Goals as goal
 

@@ -1,6 +1,6 @@
 use Rattle.std.proofs.Common.{◌∙◌, List, ap, sym}
 use Rattle.std.specs.List.{slice_get}
-use Rattle.elf_model.specs.Resolution.{SymbolOf}
+use Rattle.elf_model.specs.Link.Resolution.{SymbolOf}
 use Rattle.resolve.specs.Views.{symbol_view}
 use Rattle.relocate.specs.Values.{where_in}
 use Rattle.relocate.proofs.ChosenValues.{Tells, told}

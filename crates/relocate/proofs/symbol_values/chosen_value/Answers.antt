@@ -1,7 +1,7 @@
 use Rattle.std.proofs.Common.{◌≡◌, ◌∙◌, ap, sym}
 use Rattle.std.specs.List.{slice_get}
 use Rattle.std.specs.Option.{option_and_then}
-use Rattle.elf_model.specs.ChosenSymbols.{chosen_symbols}
+use Rattle.elf_model.specs.Link.ChosenSymbols.{chosen_symbols}
 use Rattle.resolve.specs.Meaning.{named_at}
 use Rattle.relocate.specs.Values.{where_in}
 use Rattle.relocate.proofs.ChosenValues.{row_worth}

@@ -1,7 +1,7 @@
 use Rattle.std.proofs.Common.{◌≡◌, ◌%◌, ◌^◌, ◌∙◌, ap, refl, sym}
-use Rattle.elf_model.specs.Placement.{symbol_value}
-use Rattle.elf_model.specs.Relocation.{symbol_at}
-use Rattle.elf_model.specs.Resolution.{SymbolOf, is_undefined}
+use Rattle.elf_model.specs.Link.Placement.{symbol_value}
+use Rattle.elf_model.specs.Link.Relocation.{symbol_at}
+use Rattle.elf_model.specs.Link.Resolution.{SymbolOf, is_undefined}
 use Rattle.search.specs.Views.{loaded_view}
 use Rattle.relocate.specs.Values.{where_in}
 use Rattle.relocate.proofs.LocalReferences.{no_value, own_value}

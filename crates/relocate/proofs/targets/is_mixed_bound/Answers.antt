@@ -1,8 +1,8 @@
 use Rattle.std.proofs.Common.{◌∙◌, ap, subst, sym}
 use Rattle.std.specs.Prelude.{◌↔◌, IsTrue}
-use Rattle.elf_model.specs.LinkerNames.{named_output}
-use Rattle.elf_model.specs.Relocation.{IsMixedBound}
-use Rattle.elf_model.specs.UsedNames.{is_among}
+use Rattle.elf_model.specs.Link.LinkerNames.{named_output}
+use Rattle.elf_model.specs.Link.Relocation.{IsMixedBound}
+use Rattle.elf_model.specs.Link.UsedNames.{is_among}
 use Rattle.elf_model.specs.declared.bound.Bound.{Bound}
 use Rattle.relocate.proofs.targets.is_mixed_bound.Goals as goal
 

@@ -1,8 +1,8 @@
 use Rattle.std.proofs.Common.{◌≡◌, ℕ, ◌%◌, ◌^◌, Option, Some, ap, option_map, sym, ◌∙◌}
 use Rattle.std.specs.Option.{option_and_then, option_map_or}
-use Rattle.elf_model.specs.ObjectFile.{rela_symbol}
-use Rattle.elf_model.specs.Relocation.{Kind, Relocation, relocation_of}
-use Rattle.elf_model.specs.Slots.{Request, request_of, slot_kind_of, target_of}
+use Rattle.elf_model.specs.Inputs.ObjectFile.{rela_symbol}
+use Rattle.elf_model.specs.Link.Relocation.{Kind, Relocation, relocation_of}
+use Rattle.elf_model.specs.Link.Slots.{Request, request_of, slot_kind_of, target_of}
 use Rattle.elf_model.specs.declared.link_map.SlotKind.{SlotKind}
 use Rattle.got_tls.specs.Asking.{offset_of, request_for}
 use Rattle.relocate.specs.SymbolTables.{valued_object}

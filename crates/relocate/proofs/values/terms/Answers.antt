@@ -1,13 +1,13 @@
 use Rattle.std.proofs.Common.{◌≡◌, ℕ, ◌%◌, ◌^◌, List, option_map, unwrap_or, ap, sym, ◌∙◌, arith}
 use Rattle.std.proofs.lemmas.Grind.{common_steps}
 use Rattle.std.specs.Option.{option_map_or}
-use Rattle.elf_model.specs.Loading.{LoadedObject}
-use Rattle.elf_model.specs.Meaning.{meaning_size, meaning_value}
-use Rattle.elf_model.specs.Placement.{Where}
-use Rattle.elf_model.specs.Relocation.{Relocation, definition_of, relocation_of, symbol_at}
-use Rattle.elf_model.specs.RelocationValues.{used_value}
-use Rattle.elf_model.specs.Slots.{Request, request_of}
-use Rattle.elf_model.specs.ThreadStorage.{block_in}
+use Rattle.elf_model.specs.Link.Loading.{LoadedObject}
+use Rattle.elf_model.specs.Link.Meaning.{meaning_size, meaning_value}
+use Rattle.elf_model.specs.Link.Placement.{Where}
+use Rattle.elf_model.specs.Link.Relocation.{Relocation, definition_of, relocation_of, symbol_at}
+use Rattle.elf_model.specs.Link.RelocationValues.{used_value}
+use Rattle.elf_model.specs.Link.Slots.{Request, request_of}
+use Rattle.elf_model.specs.Link.ThreadStorage.{block_in}
 use Rattle.got_tls.specs.Asking.{offset_of}
 use Rattle.got_tls.specs.ThreadStorage.{thread_pointer}
 use Rattle.got_tls.proofs.SlotPlaces.{own_offset}

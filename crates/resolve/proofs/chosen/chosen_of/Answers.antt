@@ -1,6 +1,6 @@
 use Rattle.std.proofs.Common.{◌+◌, map}
 use Rattle.std.specs.Prelude.{filter}
-use Rattle.elf_model.specs.Commons.{is_common_symbol}
+use Rattle.elf_model.specs.Link.Commons.{is_common_symbol}
 use Rattle.resolve.specs.Offered.{ref_of}
 use Rattle.resolve.specs.Owned.{is_kept}
 use Rattle.resolve.specs.Threads.{is_thread_chosen}

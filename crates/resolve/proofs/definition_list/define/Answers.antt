@@ -2,10 +2,10 @@ use Rattle.std.proofs.Common.{◌∙◌, ℕ, List, Option, ap, length, map, sub
 use Rattle.std.specs.Prelude.{filter, option_map}
 use Rattle.std.specs.Borrow.{Bor}
 use Rattle.std.proofs.lemmas.List.{length-map}
-use Rattle.elf_model.specs.Commons.{is_common_symbol}
-use Rattle.elf_model.specs.ChosenSymbols.{definitions}
-use Rattle.elf_model.specs.Loading as loading
-use Rattle.elf_model.specs.Resolution.{SymbolOf, all_symbols, is_common_definition}
+use Rattle.elf_model.specs.Link.Commons.{is_common_symbol}
+use Rattle.elf_model.specs.Link.ChosenSymbols.{definitions}
+use Rattle.elf_model.specs.Link.Loading as loading
+use Rattle.elf_model.specs.Link.Resolution.{SymbolOf, all_symbols, is_common_definition}
 use Rattle.search.specs.Views.{loaded_view}
 use Rattle.resolve.specs.Blocks.{blocks_by}
 use Rattle.resolve.specs.Offered.{offers_of, ref_of, rows_of}

@@ -1,7 +1,7 @@
 use Rattle.std.proofs.Common.{◌≡◌, length}
 use Rattle.std.specs.Prelude.{◌↔◌, All, filter}
-use Rattle.elf_model.specs.ChosenSymbols.{definitions, is_definition}
-use Rattle.elf_model.specs.Resolution.{is_common_definition}
+use Rattle.elf_model.specs.Link.ChosenSymbols.{definitions, is_definition}
+use Rattle.elf_model.specs.Link.Resolution.{is_common_definition}
 use Rattle.search.specs.Views.{loaded_views}
 use Rattle.resolve.specs.Offered.{offers_of}
 use Rattle.resolve.specs.Sound.{AreWhollySound, IsWhollySound}

@@ -1,5 +1,5 @@
 use Rattle.std.proofs.Common.{◌++◌, ◌∷◌, [], List, ap, get_or, sym}
-use Rattle.elf_model.specs.Pieces.{Piece}
+use Rattle.elf_model.specs.Link.Pieces.{Piece}
 use Rattle.search.proofs.KeptWalks.{pieces_more}
 use Rattle.search.specs.KeptLists.{piece_at}
 use Rattle.search.specs.Views.{loaded_view}

@@ -1,5 +1,5 @@
 use Rattle.std.proofs.Common.{drop}
-use Rattle.elf_model.specs.Pieces.{kept_sections, pieces_of}
+use Rattle.elf_model.specs.Link.Pieces.{kept_sections, pieces_of}
 use Rattle.search.specs.Views.{loaded_views}
 use Rattle.resolve.specs.OutputSections.{AreOutputsOf}
 use Rattle.resolve.proofs.SectionWalks.{Walks}

@@ -1,7 +1,7 @@
 use Rattle.std.proofs.Common.{◌∙◌, ◌+◌, ◌||◌, ap, drop, sym, arith}
 use Rattle.std.specs.List.{list_any}
 use Rattle.std.proofs.lemmas.List.{at_drop_all, at_drop_more}
-use Rattle.elf_model.specs.UsedNames.{is_among}
+use Rattle.elf_model.specs.Link.UsedNames.{is_among}
 use Rattle.resolve.specs.OutputSections.{is_named}
 use Rattle.resolve.proofs.NamedOutputs.{name_more, nothing_left}
 use Rattle.resolve.proofs.outputs.names_of.Goals as goal

@@ -1,6 +1,6 @@
 use Rattle.std.proofs.Common.{◌≡◌, ◌||◌, ℕ, List, drop}
 use Rattle.std.specs.List.{list_any}
-use Rattle.elf_model.specs.UsedNames.{is_among}
+use Rattle.elf_model.specs.Link.UsedNames.{is_among}
 use Rattle.resolve.specs.OutputSections.{is_named}
 use Rattle.resolve.proofs.outputs.names_of.Given as goal
 

@@ -3,7 +3,7 @@ use Rattle.std.specs.Global.{Vec}
 use Rattle.std.specs.Prelude.{Some, replicate}
 use Rattle.std.proofs.lemmas.List.{get_or-map, length-map, length-replicate}
 use Rattle.std.proofs.lemmas.Option.{none-some, same_Some}
-use Rattle.elf_model.specs.ChosenSymbols.{chosen_symbols}
+use Rattle.elf_model.specs.Link.ChosenSymbols.{chosen_symbols}
 use Rattle.elf_model.specs.declared.references.SymbolRef.{SymbolRef}
 use Rattle.search.specs.Names.{number_of}
 use Rattle.search.specs.Numbers.{name_number}

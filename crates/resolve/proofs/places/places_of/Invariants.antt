@@ -1,4 +1,4 @@
-use Rattle.elf_model.specs.ChosenSymbols.{chosen_symbols}
+use Rattle.elf_model.specs.Link.ChosenSymbols.{chosen_symbols}
 use Rattle.resolve.proofs.PlacesByNumber.{AreFirstPlaces}
 use Rattle.resolve.proofs.places.places_of.Given as goal
 

@@ -1,5 +1,5 @@
 use Rattle.std.proofs.Common.{◌+◌}
-use Rattle.elf_model.specs.Resolution.{AreSoundCommons, IsSoundCommon}
+use Rattle.elf_model.specs.Link.Resolution.{AreSoundCommons, IsSoundCommon}
 use Rattle.search.specs.Views.{loaded_views}
 use Rattle.resolve.proofs.Rests.{rest_more, rest_stop}
 use Rattle.resolve.proofs.Walks.{next_object, symbols_here, symbols_left}

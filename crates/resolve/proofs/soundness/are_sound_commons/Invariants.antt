@@ -1,5 +1,5 @@
 use Rattle.std.specs.Prelude.{◌↔◌, All}
-use Rattle.elf_model.specs.Resolution.{AreSoundCommons, IsSoundCommon}
+use Rattle.elf_model.specs.Link.Resolution.{AreSoundCommons, IsSoundCommon}
 use Rattle.search.specs.Views.{loaded_views}
 use Rattle.resolve.proofs.Walks.{symbols_left}
 use Rattle.resolve.proofs.soundness.are_sound_commons.Given as goal

@@ -1,6 +1,6 @@
 use Rattle.std.proofs.Common.{drop}
 use Rattle.std.specs.Prelude.{◌↔◌, All}
-use Rattle.elf_model.specs.Resolution.{IsSoundCommon, symbols_from}
+use Rattle.elf_model.specs.Link.Resolution.{IsSoundCommon, symbols_from}
 use Rattle.search.specs.Views.{loaded_view}
 use Rattle.resolve.proofs.soundness.has_sound_commons.Given as goal
 

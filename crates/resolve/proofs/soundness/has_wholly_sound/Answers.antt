@@ -1,7 +1,7 @@
 use Rattle.std.proofs.Common.{List, subst, false, ◌<◌}
 use Rattle.std.specs.Prelude.{◌↔◌, All, IsTrue}
-use Rattle.elf_model.specs.ObjectFile.{null_symbol}
-use Rattle.elf_model.specs.Resolution.{symbols_from}
+use Rattle.elf_model.specs.Inputs.ObjectFile.{null_symbol}
+use Rattle.elf_model.specs.Link.Resolution.{symbols_from}
 use Rattle.elf_model.specs.declared.records.Symbol.{Symbol}
 use Rattle.search.specs.Views.{loaded_view, loaded_views}
 use Rattle.resolve.specs.Sound.{IsWhollySound}

@@ -1,6 +1,6 @@
 use Rattle.std.proofs.Common.{drop}
 use Rattle.std.specs.Prelude.{◌↔◌, All}
-use Rattle.elf_model.specs.Resolution.{symbols_from}
+use Rattle.elf_model.specs.Link.Resolution.{symbols_from}
 use Rattle.search.specs.Views.{loaded_view, loaded_views}
 use Rattle.resolve.specs.Sound.{IsWhollySound}
 use Rattle.resolve.proofs.soundness.has_wholly_sound.Given as goal

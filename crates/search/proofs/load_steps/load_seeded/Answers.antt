@@ -1,8 +1,8 @@
 use Rattle.std.proofs.Common.{◌≡◌, ◌∙◌, subst, sym}
 use Rattle.std.proofs.lemmas.Result.{err_from_is_err_and}
-use Rattle.elf_model.specs.Files.{files_of}
-use Rattle.elf_model.specs.Loading.{AreObjects, HaveLawfulGroups, loaded_steps, steps}
-use Rattle.elf_model.specs.Opening.{opened}
+use Rattle.elf_model.specs.Inputs.Files.{files_of}
+use Rattle.elf_model.specs.Link.Loading.{AreObjects, HaveLawfulGroups, loaded_steps, steps}
+use Rattle.elf_model.specs.Inputs.Opening.{opened}
 use Rattle.elf_model.proofs.LoadingLaws.{follows_rules}
 use Rattle.search.specs.Loaders.{loaded}
 use Rattle.search.proofs.LoadLaws.{objects_fail, whole}

@@ -1,8 +1,8 @@
 use Rattle.std.proofs.Common.{◌≡◌, ◌∙◌, ◌≤◌, List, ℕ, ap, drop, length, refl, subst, sym, take}
 use Rattle.std.specs.Prelude.{All, true}
 use Rattle.std.proofs.lemmas.Result.{err_from_is_err_and}
-use Rattle.elf_model.specs.Loading.{Single, group_of, loaded_step, loaded_steps, rounds, steps}
-use Rattle.elf_model.specs.Opening.{Opened}
+use Rattle.elf_model.specs.Link.Loading.{Single, group_of, loaded_step, loaded_steps, rounds, steps}
+use Rattle.elf_model.specs.Inputs.Opening.{Opened}
 use Rattle.search.specs.Loaders.{loaded}
 use Rattle.opening.proofs.StepLaws.{group_first, group_later, run_archives, run_within, same_first, single_later}
 use Rattle.search.proofs.TurnLaws.{fails_later}

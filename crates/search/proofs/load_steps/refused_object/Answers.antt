@@ -1,8 +1,8 @@
 use Rattle.std.proofs.Common.{◌≡◌, ◌∙◌, [], refl, subst}
 use Rattle.std.specs.Prelude.{IfOk, List}
-use Rattle.elf_model.specs.Files.{files_of}
-use Rattle.elf_model.specs.Loading.{LoadedObject}
-use Rattle.elf_model.specs.Opening.{opened}
+use Rattle.elf_model.specs.Inputs.Files.{files_of}
+use Rattle.elf_model.specs.Link.Loading.{LoadedObject}
+use Rattle.elf_model.specs.Inputs.Opening.{opened}
 use Rattle.search.specs.Faults.{IsRefusedOf}
 use Rattle.search.proofs.LoadLaws.{refused_in, whole}
 use Rattle.search.proofs.load_steps.refused_object.Goals as goal

@@ -1,5 +1,5 @@
 use Rattle.std.proofs.Common.{ℕ, List, subst, sym}
-use Rattle.elf_model.specs.ObjectFile.{ObjFaultStands}
+use Rattle.elf_model.specs.Inputs.ObjectFile.{ObjFaultStands}
 use Rattle.search.specs.Faults.{FailsAt}
 use Rattle.search.proofs.FaultLaws.{object_fails}
 use Rattle.search.proofs.loader.read_object.Goals as goal

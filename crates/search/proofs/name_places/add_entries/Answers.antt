@@ -1,5 +1,5 @@
 use Rattle.std.proofs.Common.{◌≡◌, true}
-use Rattle.elf_model.specs.ArchiveFile.{IndexEntry}
+use Rattle.elf_model.specs.Inputs.ArchiveFile.{IndexEntry}
 use Rattle.search.specs.Places.{has_place}
 use Rattle.search.proofs.PlaceLaws.{all_of, has_new, one_more, places_stay}
 use Rattle.search.proofs.name_places.add_entries.Goals as goal

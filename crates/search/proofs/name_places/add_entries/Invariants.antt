@@ -1,6 +1,6 @@
 use Rattle.std.proofs.Common.{◌≡◌, ◌<◌, ℕ, List, Some, true}
 use Rattle.std.specs.List.{slice_get}
-use Rattle.elf_model.specs.ArchiveFile.{IndexEntry}
+use Rattle.elf_model.specs.Inputs.ArchiveFile.{IndexEntry}
 use Rattle.search.specs.Places.{has_place}
 use Rattle.search.proofs.name_places.add_entries.Given as goal
 

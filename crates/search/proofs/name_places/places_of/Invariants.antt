@@ -1,6 +1,6 @@
 use Rattle.std.proofs.Common.{◌≡◌, ◌<◌, ℕ, Some}
 use Rattle.std.specs.List.{slice_get}
-use Rattle.elf_model.specs.Opening.{Opened}
+use Rattle.elf_model.specs.Inputs.Opening.{Opened}
 use Rattle.search.specs.Places.{IsPlaced}
 use Rattle.search.proofs.name_places.places_of.Given as goal
 

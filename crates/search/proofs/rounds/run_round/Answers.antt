@@ -1,9 +1,9 @@
 use Rattle.std.proofs.Common.{◌∙◌, ap, arith, length, refl, subst, sym}
 use Rattle.std.proofs.lemmas.Option.{slice_get_read}
 use Rattle.std.proofs.lemmas.Result.{err_from_is_err_and}
-use Rattle.elf_model.specs.Command.{Plan}
-use Rattle.elf_model.specs.Loading.{round, turn}
-use Rattle.elf_model.specs.Opening.{Opened}
+use Rattle.elf_model.specs.Inputs.Command.{Plan}
+use Rattle.elf_model.specs.Link.Loading.{round, turn}
+use Rattle.elf_model.specs.Inputs.Opening.{Opened}
 use Rattle.search.specs.Faults.{FailsOn}
 use Rattle.search.specs.Loaders.{loaded}
 use Rattle.search.proofs.TurnLaws.{fails_later, round_later, round_step, skipped_all, skipped_to}

@@ -1,5 +1,5 @@
 use Rattle.std.proofs.Common.{◌≡◌, ◌-◌, ◌≤◌, drop, length}
-use Rattle.elf_model.specs.Loading.{round}
+use Rattle.elf_model.specs.Link.Loading.{round}
 use Rattle.search.specs.Loaders.{IsLater, Knows, loaded}
 use Rattle.search.specs.Waiting.{Covers}
 use Rattle.search.proofs.rounds.run_round.Given as goal

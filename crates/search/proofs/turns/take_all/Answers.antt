@@ -1,8 +1,8 @@
 use Rattle.std.proofs.Common.{◌≡◌, ◌<◌, List, ℕ, get_or, length, subst}
 use Rattle.std.proofs.lemmas.Result.{err_from_is_err_and}
-use Rattle.elf_model.specs.ArchiveFile.{Member}
-use Rattle.elf_model.specs.Loading.{object_behind, with_members}
-use Rattle.elf_model.specs.Opening.{Opened, archive_members}
+use Rattle.elf_model.specs.Inputs.ArchiveFile.{Member}
+use Rattle.elf_model.specs.Link.Loading.{object_behind, with_members}
+use Rattle.elf_model.specs.Inputs.Opening.{Opened, archive_members}
 use Rattle.search.specs.Faults.{FailsAt, IsReached}
 use Rattle.search.specs.Loaders.{loaded}
 use Rattle.opening.specs.Opened.{item_view}

@@ -1,6 +1,6 @@
 use Rattle.std.proofs.Common.{◌≡◌, drop}
-use Rattle.elf_model.specs.Loading.{with_members}
-use Rattle.elf_model.specs.Opening.{archive_members}
+use Rattle.elf_model.specs.Link.Loading.{with_members}
+use Rattle.elf_model.specs.Inputs.Opening.{archive_members}
 use Rattle.search.specs.Loaders.{IsLater, Knows, loaded}
 use Rattle.search.proofs.turns.take_all.Given as goal
 

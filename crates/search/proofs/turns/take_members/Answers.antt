@@ -1,9 +1,9 @@
 use Rattle.std.proofs.Common.{◌∙◌, ◌<◌, ◌∷◌, List, [], ap, subst, sym}
 use Rattle.std.proofs.lemmas.Result.{err_from_is_err_and}
-use Rattle.elf_model.specs.Command.{Plan}
-use Rattle.elf_model.specs.Loading.{LoadedObject, next, object_behind, turn}
-use Rattle.elf_model.specs.LoadingBounds.{untaken}
-use Rattle.elf_model.specs.Opening.{archive_entries}
+use Rattle.elf_model.specs.Inputs.Command.{Plan}
+use Rattle.elf_model.specs.Link.Loading.{LoadedObject, next, object_behind, turn}
+use Rattle.elf_model.specs.Link.LoadingBounds.{untaken}
+use Rattle.elf_model.specs.Inputs.Opening.{archive_entries}
 use Rattle.elf_model.proofs.LoadingBounds.{untaken_falls}
 use Rattle.elf_model.proofs.LoadingSteps.{turn_none}
 use Rattle.search.specs.Loaders.{IsLater, loaded}

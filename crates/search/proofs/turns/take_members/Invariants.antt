@@ -1,7 +1,7 @@
 use Rattle.std.proofs.Common.{◌≡◌}
-use Rattle.elf_model.specs.Loading.{turn}
-use Rattle.elf_model.specs.LoadingBounds.{untaken}
-use Rattle.elf_model.specs.Opening.{archive_entries}
+use Rattle.elf_model.specs.Link.Loading.{turn}
+use Rattle.elf_model.specs.Link.LoadingBounds.{untaken}
+use Rattle.elf_model.specs.Inputs.Opening.{archive_entries}
 use Rattle.search.specs.Loaders.{IsLater, Knows, loaded}
 use Rattle.search.specs.Waiting.{Covers}
 use Rattle.search.proofs.turns.take_members.Given as goal

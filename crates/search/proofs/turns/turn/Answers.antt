@@ -1,5 +1,5 @@
 use Rattle.std.proofs.Common.{◌∙◌, sym}
-use Rattle.elf_model.specs.Opening.{Opened}
+use Rattle.elf_model.specs.Inputs.Opening.{Opened}
 use Rattle.std.proofs.Common.{ap}
 use Rattle.search.proofs.WaitLaws.{archives_wait, covers_later, covers_spent}
 use Rattle.search.proofs.turns.turn.Goals as goal

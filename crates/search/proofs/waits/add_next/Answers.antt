@@ -1,5 +1,5 @@
 use Rattle.std.proofs.Common.{◌≡◌, true}
-use Rattle.elf_model.specs.ArchiveFile.{IndexEntry}
+use Rattle.elf_model.specs.Inputs.ArchiveFile.{IndexEntry}
 use Rattle.search.specs.Loaders.{is_next_of, loaded}
 use Rattle.search.specs.Places.{is_waiting}
 use Rattle.search.proofs.PlaceLaws.{all_of}

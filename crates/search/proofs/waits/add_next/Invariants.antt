@@ -1,6 +1,6 @@
 use Rattle.std.proofs.Common.{◌≡◌, ◌<◌, ℕ, Some, true}
 use Rattle.std.specs.List.{slice_get}
-use Rattle.elf_model.specs.ArchiveFile.{IndexEntry}
+use Rattle.elf_model.specs.Inputs.ArchiveFile.{IndexEntry}
 use Rattle.search.specs.Loaders.{is_next_of, loaded}
 use Rattle.search.specs.Places.{is_waiting}
 use Rattle.search.proofs.waits.add_next.Given as goal

@@ -1,6 +1,6 @@
 use Rattle.std.proofs.Common.{ap, sym}
 use Rattle.std.specs.Prelude.{Option, option_map}
-use Rattle.elf_model.specs.ArchiveFile.{IndexEntry}
+use Rattle.elf_model.specs.Inputs.ArchiveFile.{IndexEntry}
 use Rattle.search.specs.Loaders.{is_next_of, loaded}
 use Rattle.search.proofs.WaitLaws.{archives_wait, first_gives, none_gives, others_wait}
 use Rattle.search.proofs.waits.first_next.Goals as goal

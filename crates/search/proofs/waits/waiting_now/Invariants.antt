@@ -1,6 +1,6 @@
 use Rattle.std.proofs.Common.{◌≡◌, ◌<◌, [], ℕ, Some}
 use Rattle.std.specs.List.{slice_get}
-use Rattle.elf_model.specs.Opening.{Opened}
+use Rattle.elf_model.specs.Inputs.Opening.{Opened}
 use Rattle.search.specs.Waiting.{Awaits}
 use Rattle.search.proofs.waits.waiting_now.Given as goal
 

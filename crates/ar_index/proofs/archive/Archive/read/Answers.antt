@@ -1,7 +1,7 @@
 use Rattle.std.proofs.Common.{List, ap, sym, subst, ◌∙◌}
 use Rattle.std.proofs.lemmas.Bool.{false≢true}
 use Rattle.std.proofs.lemmas.Result.{err_from_is_err_and}
-use Rattle.elf_model.specs.ArchiveFile.{HasIndexData, StoredMember, index_in, ordinary}
+use Rattle.elf_model.specs.Inputs.ArchiveFile.{HasIndexData, StoredMember, index_in, ordinary}
 use Rattle.elf_model.specs.declared.faults.ArFault.TheVariants as fault
 use Rattle.ar_index.specs.Reading.{AreAscending, IsIndexFault}
 use Rattle.ar_index.proofs.Ascending.{ascending}

@@ -1,6 +1,6 @@
 use Rattle.std.proofs.Common.{◌∙◌, List, ℕ, ap, length, subst}
-use Rattle.elf_model.specs.ObjectFile.{HasTable}
-use Rattle.elf_model.specs.Records.{file_header}
+use Rattle.elf_model.specs.Inputs.ObjectFile.{HasTable}
+use Rattle.elf_model.specs.Inputs.Records.{file_header}
 use Rattle.bad_parts.proofs.tables.Tables.header.Goals as goal
 
 pub returns-clause-exact : goal.returns-clause-exact

@@ -1,5 +1,5 @@
 use Rattle.std.proofs.Common.{◌∙◌, ap, length, subst}
-use Rattle.elf_model.specs.ObjectFile.{HasTable, sections_of}
+use Rattle.elf_model.specs.Inputs.ObjectFile.{HasTable, sections_of}
 use Rattle.elf_model.specs.declared.records.FileHeader.{FileHeader}
 use Rattle.bad_parts.proofs.tables.Tables.read.Goals as goal
 

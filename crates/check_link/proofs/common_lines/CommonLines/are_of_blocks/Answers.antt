@@ -1,8 +1,8 @@
 use Rattle.std.proofs.Common.{get_or, subst}
 use Rattle.std.specs.Prelude.{All}
 use Rattle.std.proofs.lemmas.List.Elements.{All-map}
-use Rattle.elf_model.specs.Commons.{Block}
-use Rattle.elf_model.specs.RightLink.{HasCommonLine}
+use Rattle.elf_model.specs.Link.Commons.{Block}
+use Rattle.elf_model.specs.Image.RightLink.{HasCommonLine}
 use Rattle.check_link.specs.Views.{block_view}
 use Rattle.check_link.proofs.CommonRows.{every_name}
 use Rattle.check_link.proofs.common_lines.CommonLines.are_of_blocks.Goals as goal

@@ -2,9 +2,9 @@ use Rattle.std.proofs.Common.{subst, sym}
 use Rattle.std.specs.Prelude.{All}
 use Rattle.std.proofs.lemmas.List.Elements.{All-map}
 use Rattle.elf_model.proofs.Listed.{All-unmap}
-use Rattle.elf_model.specs.MapRecord.{CommonRow}
+use Rattle.elf_model.specs.Image.MapRecord.{CommonRow}
 use Rattle.linkmap.specs.Borrowed.{common_row}
-use Rattle.elf_model.specs.RightLink.{HasCommonLine}
+use Rattle.elf_model.specs.Image.RightLink.{HasCommonLine}
 use Rattle.check_link.proofs.common_lines.CommonLines.have_blocks.Goals as goal
 
 pub returns : goal.returns

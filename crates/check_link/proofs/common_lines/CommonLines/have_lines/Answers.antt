@@ -1,6 +1,6 @@
 use Rattle.std.specs.Prelude.{All}
 use Rattle.elf_model.proofs.Rests.{all_more}
-use Rattle.elf_model.specs.RightLink.{HasCommonLine}
+use Rattle.elf_model.specs.Image.RightLink.{HasCommonLine}
 use Rattle.check_link.specs.declared.things.Block.{Block}
 use Rattle.check_link.proofs.common_lines.CommonLines.have_lines.Goals as goal
 

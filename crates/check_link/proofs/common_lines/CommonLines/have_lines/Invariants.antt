@@ -1,6 +1,6 @@
 use Rattle.std.proofs.Common.{drop}
 use Rattle.std.specs.Prelude.{◌↔◌, All}
-use Rattle.elf_model.specs.RightLink.{HasCommonLine}
+use Rattle.elf_model.specs.Image.RightLink.{HasCommonLine}
 use Rattle.check_link.proofs.common_lines.CommonLines.have_lines.Given as goal
 
 abbrev pub invariant-loop-block : goal.invariant-loop-block

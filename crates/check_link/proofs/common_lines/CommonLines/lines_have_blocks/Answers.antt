@@ -2,7 +2,7 @@ use Rattle.std.proofs.Common.{◌∙◌, ap, subst}
 use Rattle.std.specs.Prelude.{All}
 use Rattle.std.specs.Cow.{cow_slice_items}
 use Rattle.elf_model.proofs.Rests.{all_more}
-use Rattle.elf_model.specs.RightLink.{HasCommonLine}
+use Rattle.elf_model.specs.Image.RightLink.{HasCommonLine}
 use Rattle.linkmap.specs.declared.borrowed.BorrowedCommon.{BorrowedCommon}
 use Rattle.check_link.proofs.common_lines.CommonLines.lines_have_blocks.Goals as goal
 

@@ -1,7 +1,7 @@
 use Rattle.std.proofs.Common.{drop}
 use Rattle.std.specs.Prelude.{◌↔◌, All}
 use Rattle.std.specs.Cow.{cow_slice_items}
-use Rattle.elf_model.specs.RightLink.{HasCommonLine}
+use Rattle.elf_model.specs.Image.RightLink.{HasCommonLine}
 use Rattle.check_link.proofs.common_lines.CommonLines.lines_have_blocks.Given as goal
 
 abbrev pub invariant-loop-line : goal.invariant-loop-line

@@ -1,7 +1,7 @@
 use Rattle.std.proofs.Common.{List, subst}
-use Rattle.elf_model.specs.ChosenSymbols.{definitions}
-use Rattle.elf_model.specs.Loading.{LoadedObject}
-use Rattle.elf_model.specs.Resolution.{SymbolOf}
+use Rattle.elf_model.specs.Link.ChosenSymbols.{definitions}
+use Rattle.elf_model.specs.Link.Loading.{LoadedObject}
+use Rattle.elf_model.specs.Link.Resolution.{SymbolOf}
 use Rattle.check_load.specs.Views.{loaded_views}
 use Rattle.check_link.specs.Chosen.{AreOtherChoices}
 use Rattle.check_link.specs.Views.{symbol_views}

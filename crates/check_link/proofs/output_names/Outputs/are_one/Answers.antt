@@ -1,6 +1,6 @@
 use Rattle.std.proofs.Common.{◌≡◌, ◌∙◌, List, ap, refl, subst, sym, true}
 use Rattle.std.specs.Prelude.{◌↔◌, option_copied}
-use Rattle.elf_model.specs.Pieces.{Piece}
+use Rattle.elf_model.specs.Link.Pieces.{Piece}
 use Rattle.check_link.specs.Outputs.{AreOne}
 use Rattle.check_link.specs.Views.{piece_views}
 use Rattle.check_link.proofs.SeenOutputs.{one_in_table}

@@ -1,6 +1,6 @@
 use Rattle.std.proofs.Common.{◌∙◌, ap}
 use Rattle.std.specs.List.{list_any}
-use Rattle.elf_model.specs.Pieces.{is_of_output}
+use Rattle.elf_model.specs.Link.Pieces.{is_of_output}
 use Rattle.check_link.specs.Views.{piece_views}
 use Rattle.check_link.proofs.SeenOutputs.{any_in_table}
 use Rattle.check_link.proofs.output_names.Outputs.has.Goals as goal

@@ -1,7 +1,7 @@
 use Rattle.std.proofs.Common.{◌≡◌, Some, subst}
 use Rattle.std.specs.Prelude.{IfSome, slice_get}
 use Rattle.check_load.specs.Views.{loaded_views}
-use Rattle.elf_model.specs.Loading.{LoadedObject}
+use Rattle.elf_model.specs.Link.Loading.{LoadedObject}
 use Rattle.check_link.specs.Slots.{Slots, line_of, name_request}
 use Rattle.check_link.proofs.PositionSteps.{noted_line}
 use Rattle.check_link.proofs.slots.SlotTable.noted.Goals as goal

@@ -1,7 +1,7 @@
 use Rattle.std.proofs.Common.{◌≡◌, ◌∙◌, ◌||◌, List, ℕ, refl, subst, ap}
 use Rattle.std.proofs.lemmas.Result.{err_from_is_err_and}
-use Rattle.elf_model.specs.Groups.{AreLawfulGroups}
-use Rattle.elf_model.specs.ObjectFile.{groups}
+use Rattle.elf_model.specs.Link.Groups.{AreLawfulGroups}
+use Rattle.elf_model.specs.Inputs.ObjectFile.{groups}
 use Rattle.check_load.specs.Loaders.{loaded}
 use Rattle.check_load.specs.Names.{asked_in, defined_in, defines_name, requests_name}
 use Rattle.opening.specs.Opened.{item_view}

@@ -2,7 +2,7 @@ use Rattle.std.proofs.Common.{◌∙◌, ◌∷◌, ◌||◌, List, ℕ, ap, map
 use Rattle.std.specs.Borrow.{Bor}
 use Rattle.std.specs.List.{list_any}
 use Rattle.std.specs.Str.{bytes_eq}
-use Rattle.elf_model.specs.Command.{Plan}
+use Rattle.elf_model.specs.Inputs.Command.{Plan}
 use Rattle.check_load.specs.Views.{loaded_views}
 use Rattle.check_load.specs.declared.loaded.Loaded.{Loaded}
 use Rattle.check_load.proofs.LoaderLaws.{knows_none}

@@ -2,7 +2,7 @@ use Rattle.std.proofs.Common.{◌∙◌, [], ℕ, List, Option, ap, refl, subst,
 use Rattle.std.specs.Prelude.{option_map, unwrap_or}
 use Rattle.std.specs.Borrow.{Bor}
 use Rattle.std.specs.Global.{Vec}
-use Rattle.elf_model.specs.Opening.{Opened}
+use Rattle.elf_model.specs.Inputs.Opening.{Opened}
 use Rattle.check_load.specs.Places.{IsWoken}
 use Rattle.check_load.proofs.PlaceLaws.{all_woken}
 use Rattle.check_load.proofs.places.Places.wake.Goals as goal

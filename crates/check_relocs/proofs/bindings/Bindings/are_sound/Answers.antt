@@ -1,7 +1,7 @@
 use Rattle.std.proofs.Common.{List, ap, subst, ◌∙◌}
 use Rattle.std.specs.Prelude.{◌↔◌, IsTrue}
-use Rattle.elf_model.specs.Loading.{LoadedObject}
-use Rattle.elf_model.specs.Resolution.{AreSoundSymbols}
+use Rattle.elf_model.specs.Link.Loading.{LoadedObject}
+use Rattle.elf_model.specs.Link.Resolution.{AreSoundSymbols}
 use Rattle.check_relocs.specs.Bindings.{Bound}
 use Rattle.check_relocs.proofs.bindings.Bindings.are_sound.Goals as goal
 

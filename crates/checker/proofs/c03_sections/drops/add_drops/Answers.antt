@@ -1,5 +1,5 @@
 use Rattle.std.proofs.Common.{subst, ◌<◌}
-use Rattle.elf_model.specs.ObjectFile.{null_section}
+use Rattle.elf_model.specs.Inputs.ObjectFile.{null_section}
 use Rattle.check_load.specs.Views.{loaded_view}
 use Rattle.checker.proofs.DropSteps.{section_more}
 use Rattle.checker.proofs.c03_sections.drops.add_drops.Goals as goal

@@ -1,6 +1,6 @@
 use Rattle.std.proofs.Common.{◌≡◌, ◌++◌, drop}
-use Rattle.elf_model.specs.ObjectFile.{sections}
-use Rattle.elf_model.specs.RightLink.{drops_from}
+use Rattle.elf_model.specs.Inputs.ObjectFile.{sections}
+use Rattle.elf_model.specs.Image.RightLink.{drops_from}
 use Rattle.check_load.specs.Views.{loaded_view}
 use Rattle.checker.proofs.c03_sections.drops.add_drops.Given as goal
 

@@ -1,5 +1,5 @@
 use Rattle.std.proofs.Common.{◌≡◌, ◌++◌, drop}
-use Rattle.elf_model.specs.RightLink.{drop_rows}
+use Rattle.elf_model.specs.Image.RightLink.{drop_rows}
 use Rattle.check_load.specs.Views.{loaded_views}
 use Rattle.checker.proofs.c03_sections.drops.drops_of.Given as goal
 

@@ -1,6 +1,6 @@
 use Rattle.std.proofs.lemmas.List.Elements.{All-map}
-use Rattle.elf_model.specs.Pieces as pieces
-use Rattle.elf_model.specs.Pieces.{IsLawfulKind}
+use Rattle.elf_model.specs.Link.Pieces as pieces
+use Rattle.elf_model.specs.Link.Pieces.{IsLawfulKind}
 use Rattle.check_link.specs.Views.{piece_view}
 use Rattle.elf_model.proofs.Listed.{All-unmap}
 use Rattle.checker.proofs.c03_sections.kinds.are_lawful_kinds.Goals as goal

@@ -1,6 +1,6 @@
 use Rattle.std.proofs.Common.{◌≡◌, true, false, refl}
 use Rattle.std.specs.Prelude.{AllPairs}
-use Rattle.elf_model.specs.Placement.{AreApart}
+use Rattle.elf_model.specs.Link.Placement.{AreApart}
 use Rattle.checker.proofs.Sweep.{sweep_ends, sweep_step, sweep_stops}
 use Rattle.checker.proofs.c05_placed.apart.are_apart.Goals as goal
 

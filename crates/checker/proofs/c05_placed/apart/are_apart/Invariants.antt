@@ -1,6 +1,6 @@
 use Rattle.std.proofs.Common.{drop}
 use Rattle.std.specs.Prelude.{AllPairs, ◌↔◌}
-use Rattle.elf_model.specs.Placement.{AreApart}
+use Rattle.elf_model.specs.Link.Placement.{AreApart}
 use Rattle.checker.specs.Sweeps.{Above}
 use Rattle.checker.proofs.c05_placed.apart.are_apart.Given as goal
 

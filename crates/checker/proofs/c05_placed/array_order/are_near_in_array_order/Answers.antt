@@ -2,8 +2,8 @@ use Rattle.std.proofs.Common.{◌≡◌, List, subst, sym}
 use Rattle.std.specs.Prelude.{◌↔◌, IsTrue}
 use Rattle.std.proofs.lemmas.List.Elements.{All-map}
 use Rattle.elf_model.proofs.ArrayOrder.{one_rank}
-use Rattle.elf_model.specs.ArrayOrder.{placed_rank}
-use Rattle.elf_model.specs.Placement.{Placed}
+use Rattle.elf_model.specs.Link.ArrayOrder.{placed_rank}
+use Rattle.elf_model.specs.Link.Placement.{Placed}
 use Rattle.checker.specs.Neighbours.{AreNear}
 use Rattle.check_link.specs.Views.{placed_view, placed_views}
 use Rattle.checker.proofs.c05_placed.array_order.are_near_in_array_order.Goals as goal

@@ -1,7 +1,7 @@
 use Rattle.std.proofs.Common.{◌≡◌, ◌∙◌, List, ℕ, ap, rules}
 use Rattle.std.proofs.lemmas.List.Sorted.{IsNonDecreasingBy-from_sort_by_key, answers_always}
 use Rattle.elf_model.proofs.ArrayOrder.{by_stable_sort, map_by_rank}
-use Rattle.elf_model.specs.ArrayOrder.{array_rank, by_rank, placed_rank}
+use Rattle.elf_model.specs.Link.ArrayOrder.{array_rank, by_rank, placed_rank}
 use Rattle.check_link.specs.Views.{placed_view, placed_views}
 use Rattle.check_link.specs.declared.things.Placed.{Placed}
 use Rattle.checker.proofs.c05_placed.array_order.in_array_order.Goals as goal

@@ -1,7 +1,7 @@
 use Rattle.std.proofs.Common.{◌∙◌, ℕ, List, ap, subst, sym}
 use Rattle.std.specs.Prelude.{◌↔◌, Any, IsTrue}
-use Rattle.elf_model.specs.MemoryImage.{Encloses, loads}
-use Rattle.elf_model.specs.RightLink.{HoldsGot}
+use Rattle.elf_model.specs.Image.MemoryImage.{Encloses, loads}
+use Rattle.elf_model.specs.Image.RightLink.{HoldsGot}
 use Rattle.check_relocs.specs.Bindings.{Bound}
 use Rattle.checker.proofs.GotSteps.{bytes_length, got_held}
 use Rattle.checker.proofs.c07_got.got_bytes.holds_got.Goals as goal

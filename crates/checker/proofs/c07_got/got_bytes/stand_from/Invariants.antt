@@ -1,6 +1,6 @@
 use Rattle.std.proofs.Common.{◌+◌, ◌*◌, ◌^◌, ◌≤◌, drop, length, map}
 use Rattle.linkmap.specs.Borrowed.{slot_row}
-use Rattle.elf_model.specs.RightLink.{StandFrom}
+use Rattle.elf_model.specs.Image.RightLink.{StandFrom}
 use Rattle.elf_model.proofs.Rests.{Left}
 use Rattle.check_link.proofs.SlotSteps.{rows_from}
 use Rattle.checker.proofs.c07_got.got_bytes.stand_from.Given as goal

@@ -1,7 +1,7 @@
 use Rattle.std.proofs.Common.{◌≡◌, ◌∙◌, ◌++◌, List, ℕ, ap}
 use Rattle.byteview.proofs.NumberLaws.{low_first_is}
 use Rattle.byteview.specs.Numbers.{le_bytes}
-use Rattle.elf_model.specs.Slots.{slot_bytes}
+use Rattle.elf_model.specs.Link.Slots.{slot_bytes}
 use Rattle.checker.proofs.GotSteps.{bytes_more}
 use Rattle.checker.proofs.c07_got.got_bytes.wanted_bytes.Goals as goal
 

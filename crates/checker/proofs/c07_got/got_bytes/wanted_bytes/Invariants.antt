@@ -1,7 +1,7 @@
 use Rattle.std.proofs.Common.{◌≡◌, ◌++◌, map, replicate}
 use Rattle.std.specs.List.{flat_map}
 use Rattle.linkmap.specs.Borrowed.{slot_row}
-use Rattle.elf_model.specs.Slots.{slot_bytes}
+use Rattle.elf_model.specs.Link.Slots.{slot_bytes}
 use Rattle.check_link.proofs.SlotSteps.{rows_from}
 use Rattle.checker.proofs.c07_got.got_bytes.wanted_bytes.Given as goal
 

@@ -1,5 +1,5 @@
 use Rattle.std.specs.Prelude.{All}
-use Rattle.elf_model.specs.RightLink.{EndsRight}
+use Rattle.elf_model.specs.Image.RightLink.{EndsRight}
 use Rattle.elf_model.proofs.Rests.{all_more}
 use Rattle.checker.proofs.c11_fill.ends.all_end_right.Goals as goal
 

@@ -1,6 +1,6 @@
 use Rattle.std.proofs.Common.{drop}
 use Rattle.std.specs.Prelude.{All}
-use Rattle.elf_model.specs.RightLink.{EndsRight}
+use Rattle.elf_model.specs.Image.RightLink.{EndsRight}
 use Rattle.elf_model.proofs.Rests.{Left}
 use Rattle.checker.proofs.c11_fill.ends.all_end_right.Given as goal
 

@@ -1,6 +1,6 @@
 use Rattle.std.proofs.Common.{◌++◌, List, subst, sym, ◌∙◌}
 use Rattle.std.specs.Prelude.{◌↔◌, IsSomeAnd}
-use Rattle.elf_model.specs.Meaning.{Meaning}
+use Rattle.elf_model.specs.Link.Meaning.{Meaning}
 use Rattle.checker.specs.Tabled.{AreLeft}
 use Rattle.checker.proofs.c14_tables.lines.strip_line.Goals as goal
 

@@ -1,7 +1,7 @@
 use Rattle.std.proofs.Common.{◌-◌, ◌++◌, List, None, replicate, subst}
 use Rattle.std.specs.List.{flat_map}
-use Rattle.elf_model.specs.Records.{section_header_bytes}
-use Rattle.elf_model.specs.SymbolTable.{section_names}
+use Rattle.elf_model.specs.Inputs.Records.{section_header_bytes}
+use Rattle.elf_model.specs.Image.SymbolTable.{section_names}
 use Rattle.elf_model.specs.declared.records.SectionHeader.{SectionHeader}
 use Rattle.checker.specs.Tabled.{Strips, headers_of}
 use Rattle.checker.proofs.TableSteps.{strips_none, strips_two}

@@ -1,5 +1,5 @@
 use Rattle.std.specs.List.{flat_map}
-use Rattle.elf_model.specs.Records.{section_header_bytes}
+use Rattle.elf_model.specs.Inputs.Records.{section_header_bytes}
 use Rattle.checker.proofs.TableSteps.{strips_more, strips_stop}
 use Rattle.checker.proofs.c14_tables.strip.strip_headers.Goals as goal
 

@@ -1,6 +1,6 @@
 use Rattle.std.proofs.Common.{drop}
 use Rattle.std.specs.List.{flat_map}
-use Rattle.elf_model.specs.Records.{section_header_bytes}
+use Rattle.elf_model.specs.Inputs.Records.{section_header_bytes}
 use Rattle.checker.proofs.TableSteps.{StripsTo}
 use Rattle.checker.proofs.c14_tables.strip.strip_headers.Given as goal
 

@@ -1,7 +1,7 @@
 use Rattle.std.proofs.Common.{◌≡◌, List, [], subst, sym, ◌∙◌}
 use Rattle.std.proofs.lemmas.Result.{err_from_is_err_and}
-use Rattle.elf_model.specs.Groups.{AreDropped, GroupFaultStands, dropped, seen_after}
-use Rattle.elf_model.specs.ObjectFile.{Group, groups}
+use Rattle.elf_model.specs.Link.Groups.{AreDropped, GroupFaultStands, dropped, seen_after}
+use Rattle.elf_model.specs.Inputs.ObjectFile.{Group, groups}
 use Rattle.elf_model.proofs.DroppedSections.{dropped_iff}
 use Rattle.comdat.proofs.GroupFaultLemmas.{only_memory, passed}
 use Rattle.comdat.proofs.groups.Groups.admit.Goals as goal

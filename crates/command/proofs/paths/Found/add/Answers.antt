@@ -3,7 +3,7 @@ use Rattle.std.specs.BTreeSet.{contains_text}
 use Rattle.std.specs.Str.{bytes_eq}
 use Rattle.std.proofs.lemmas.List.{map-append}
 use Rattle.std.proofs.lemmas.Map.Text.{btree_set_updates_text}
-use Rattle.elf_model.specs.Files.{words_of}
+use Rattle.elf_model.specs.Inputs.Files.{words_of}
 use Rattle.command.specs.Candidates.{HasTexts}
 use Rattle.command.proofs.Distinct.{has_more}
 use Rattle.command.proofs.paths.Found.add.Goals as goal

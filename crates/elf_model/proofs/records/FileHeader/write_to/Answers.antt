@@ -1,6 +1,6 @@
 use Rattle.std.proofs.Common.{◌≡◌, ℕ, ◌+◌, ap, ◌∙◌, rules, length, take, arith}
 use Rattle.std.proofs.lemmas.List.{take_all}
-use Rattle.elf_model.specs.Records.{file_header_bytes}
+use Rattle.elf_model.specs.Inputs.Records.{file_header_bytes}
 use Rattle.elf_model.proofs.RecordLaws.{file_header_written}
 use Rattle.elf_model.proofs.records.FileHeader.write_to.Goals as goal
 

@@ -1,6 +1,6 @@
 use Rattle.std.proofs.Common.{◌≡◌, take, arith}
 use Rattle.std.proofs.lemmas.List.{take_all}
-use Rattle.elf_model.specs.Records.{program_header_bytes}
+use Rattle.elf_model.specs.Inputs.Records.{program_header_bytes}
 use Rattle.elf_model.proofs.RecordLaws.{program_header_written}
 use Rattle.elf_model.proofs.records.ProgramHeader.write_to.Goals as goal
 

@@ -3,7 +3,7 @@ use Rattle.std.specs.Int.{w64}
 use Rattle.std.specs.Int.RustNames.{FitsSigned}
 use Rattle.std.proofs.lemmas.Int.{to_z-of_z}
 use Rattle.std.proofs.lemmas.List.{take_all}
-use Rattle.elf_model.specs.Records.{rela_bytes}
+use Rattle.elf_model.specs.Inputs.Records.{rela_bytes}
 use Rattle.elf_model.proofs.RecordLaws.{rela_written}
 use Rattle.elf_model.proofs.records.Rela.write_to.Goals as goal
 

@@ -1,6 +1,6 @@
 use Rattle.std.proofs.Common.{◌≡◌, take, arith}
 use Rattle.std.proofs.lemmas.List.{take_all}
-use Rattle.elf_model.specs.Records.{section_header_bytes}
+use Rattle.elf_model.specs.Inputs.Records.{section_header_bytes}
 use Rattle.elf_model.proofs.RecordLaws.{section_header_written}
 use Rattle.elf_model.proofs.records.SectionHeader.write_to.Goals as goal
 

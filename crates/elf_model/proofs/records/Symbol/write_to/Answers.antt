@@ -1,6 +1,6 @@
 use Rattle.std.proofs.Common.{◌≡◌, take, arith}
 use Rattle.std.proofs.lemmas.List.{take_all}
-use Rattle.elf_model.specs.Records.{symbol_bytes}
+use Rattle.elf_model.specs.Inputs.Records.{symbol_bytes}
 use Rattle.elf_model.proofs.RecordLaws.{symbol_written}
 use Rattle.elf_model.proofs.records.Symbol.write_to.Goals as goal
 

@@ -1,7 +1,7 @@
 use Rattle.std.proofs.Common.{◌∙◌, Some, ap, sym}
 use Rattle.std.specs.Prelude.{option_map}
 use Rattle.std.specs.Global.{Vec}
-use Rattle.elf_model.specs.ObjectFile.{relas}
+use Rattle.elf_model.specs.Inputs.ObjectFile.{relas}
 use Rattle.elf_model.specs.declared.records.Rela.{Rela}
 use Rattle.elf_read.proofs.KeptRelas.{kept_at}
 use Rattle.elf_read.proofs.RelaRuns.{found}

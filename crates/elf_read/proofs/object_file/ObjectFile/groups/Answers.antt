@@ -1,5 +1,5 @@
 use Rattle.std.proofs.Common.{ap, sym, subst, ◌∙◌}
-use Rattle.elf_model.specs.ObjectFile.{IsObject, groups}
+use Rattle.elf_model.specs.Inputs.ObjectFile.{IsObject, groups}
 use Rattle.elf_read.proofs.GroupLists.{NamesSections, members_there}
 use Rattle.elf_read.proofs.object_file.ObjectFile.groups.Goals as goal
 

@@ -1,5 +1,5 @@
 use Rattle.std.proofs.Common.{◌∙◌, List, ap}
-use Rattle.elf_model.specs.ObjectFile.{contents, section, sections_of, symbol_table, symbols_of}
+use Rattle.elf_model.specs.Inputs.ObjectFile.{contents, section, sections_of, symbol_table, symbols_of}
 use Rattle.elf_model.specs.declared.records.SectionHeader.{SectionHeader}
 use Rattle.elf_read.proofs.Whole.{file_section_strings, file_sections, file_symbol_strings}
 use Rattle.elf_read.proofs.object_file.ObjectFile.judge.Goals as goal

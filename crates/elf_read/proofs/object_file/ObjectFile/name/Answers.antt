@@ -1,5 +1,5 @@
 use Rattle.std.proofs.Common.{ap, sym, ◌∙◌}
-use Rattle.elf_model.specs.ObjectFile.{symbol_name}
+use Rattle.elf_model.specs.Inputs.ObjectFile.{symbol_name}
 use Rattle.elf_read.proofs.Named.{symbol_told}
 use Rattle.elf_read.proofs.object_file.ObjectFile.name.Goals as goal
 

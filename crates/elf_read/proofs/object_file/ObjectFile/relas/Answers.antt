@@ -1,6 +1,6 @@
 use Rattle.std.proofs.Common.{ap, length, sym, ◌∙◌}
 use Rattle.std.specs.List.{slice_get}
-use Rattle.elf_model.specs.ObjectFile.{sections}
+use Rattle.elf_model.specs.Inputs.ObjectFile.{sections}
 use Rattle.elf_read.proofs.RelaRuns.{rela_inside}
 use Rattle.elf_read.proofs.object_file.ObjectFile.relas.Goals as goal
 

@@ -1,7 +1,7 @@
 use Rattle.std.proofs.Common.{ap, ◌∙◌}
 use Rattle.std.specs.Prelude.{unwrap_or}
 use Rattle.std.proofs.lemmas.Option.{unwrap_or-slice_get}
-use Rattle.elf_model.specs.ObjectFile.{null_section, section, sections}
+use Rattle.elf_model.specs.Inputs.ObjectFile.{null_section, section, sections}
 use Rattle.elf_read.proofs.object_file.ObjectFile.section.Goals as goal
 
 pub returns : goal.returns

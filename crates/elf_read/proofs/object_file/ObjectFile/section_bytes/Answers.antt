@@ -1,6 +1,6 @@
 use Rattle.std.proofs.Common.{ap, sym, ◌∙◌}
 use Rattle.std.specs.List.{slice_get}
-use Rattle.elf_model.specs.ObjectFile.{section, sections}
+use Rattle.elf_model.specs.Inputs.ObjectFile.{section, sections}
 use Rattle.elf_read.proofs.SectionBytes.{size_told}
 use Rattle.elf_read.proofs.object_file.ObjectFile.section_bytes.Goals as goal
 

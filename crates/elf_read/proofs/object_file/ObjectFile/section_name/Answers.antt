@@ -1,5 +1,5 @@
 use Rattle.std.proofs.Common.{ap, sym, ◌∙◌}
-use Rattle.elf_model.specs.ObjectFile.{section_name}
+use Rattle.elf_model.specs.Inputs.ObjectFile.{section_name}
 use Rattle.elf_read.proofs.Named.{section_told}
 use Rattle.elf_read.proofs.object_file.ObjectFile.section_name.Goals as goal
 

@@ -1,7 +1,7 @@
 use Rattle.std.proofs.Common.{ap, ◌∙◌}
 use Rattle.std.specs.Prelude.{slice_index_or, unwrap_or}
 use Rattle.std.proofs.lemmas.Option.{unwrap_or-slice_get}
-use Rattle.elf_model.specs.ObjectFile.{null_symbol, symbols}
+use Rattle.elf_model.specs.Inputs.ObjectFile.{null_symbol, symbols}
 use Rattle.elf_read.proofs.object_file.ObjectFile.symbol.Goals as goal
 
 pub returns : goal.returns

@@ -1,6 +1,6 @@
 use Rattle.std.proofs.Common.{◌≡◌, ◌≤◌, ℕ, List, length}
 use Rattle.std.specs.Prelude.{All}
-use Rattle.elf_model.specs.Files.{File}
+use Rattle.elf_model.specs.Inputs.Files.{File}
 use Rattle.explain.specs.Places.{IsOfPhase, Says}
 use Rattle.explain.proofs.found.Found.of_phase.Given as goal
 

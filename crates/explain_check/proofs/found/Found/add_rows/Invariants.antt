@@ -1,5 +1,5 @@
 use Rattle.std.proofs.Common.{ℕ, ◌<◌, IfSome}
-use Rattle.elf_model.specs.RightLink.{Subject}
+use Rattle.elf_model.specs.Image.RightLink.{Subject}
 use Rattle.explain_check.specs.Places.{AreFailures, FailsIn}
 use Rattle.explain_check.proofs.found.Found.add_rows.Given as goal
 

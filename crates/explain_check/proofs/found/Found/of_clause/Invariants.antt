@@ -1,6 +1,6 @@
 use Rattle.std.proofs.Common.{◌≡◌, ◌≤◌, length}
 use Rattle.std.specs.Prelude.{All}
-use Rattle.elf_model.specs.RightLink.{Subject}
+use Rattle.elf_model.specs.Image.RightLink.{Subject}
 use Rattle.explain_check.specs.Places.{AreFailures, IsOf}
 use Rattle.explain_check.proofs.found.Found.of_clause.Given as goal
 

@@ -1,5 +1,5 @@
 use Rattle.std.proofs.Common.{refl}
-use Rattle.elf_model.specs.Relocation.{relocation_of}
+use Rattle.elf_model.specs.Link.Relocation.{relocation_of}
 use Rattle.elf_model.proofs.RelocationFields.{field_has}
 use Rattle.check_load.specs.Views.{loaded_view}
 use Rattle.explain_check.proofs.memory.fields.field_over.Goals as goal

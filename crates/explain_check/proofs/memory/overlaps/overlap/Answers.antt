@@ -1,6 +1,6 @@
 use Rattle.std.proofs.Common.{ℕ, refl, subst}
-use Rattle.elf_model.specs.Relocation.{Relocation, relocation_of, width_of}
-use Rattle.elf_model.specs.RightLink.{objects_of}
+use Rattle.elf_model.specs.Link.Relocation.{Relocation, relocation_of, width_of}
+use Rattle.elf_model.specs.Image.RightLink.{objects_of}
 use Rattle.check_load.specs.Views.{loaded_view}
 use Rattle.input_names.proofs.Overlapping.{not_apart}
 use Rattle.input_names.specs.RelocationPlaces.{BeginsIn}

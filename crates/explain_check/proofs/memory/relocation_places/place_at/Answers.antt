@@ -1,5 +1,5 @@
 use Rattle.std.proofs.Common.{◌∙◌, sym}
-use Rattle.elf_model.specs.RightLink.{objects_of}
+use Rattle.elf_model.specs.Image.RightLink.{objects_of}
 use Rattle.check_load.specs.Views.{loaded_view}
 use Rattle.input_names.proofs.KeptPlaces.{HasNumbers, kept, placed}
 use Rattle.explain_check.proofs.memory.relocation_places.place_at.Goals as goal

@@ -1,8 +1,8 @@
 use Rattle.std.proofs.Common.{◌≡◌, ◌∙◌, ◌*◌, ◌+◌, ◌%◌, ◌^◌, ℕ, Option, Some, ap, subst, sym}
 use Rattle.std.proofs.lemmas.Bool.{false≢true}
-use Rattle.elf_model.specs.ObjectFile.{rela_type}
-use Rattle.elf_model.specs.Relocation.{IsInRange, Kind, kind_of, symbol_at}
-use Rattle.elf_model.specs.RightLink.{objects_of}
+use Rattle.elf_model.specs.Inputs.ObjectFile.{rela_type}
+use Rattle.elf_model.specs.Link.Relocation.{IsInRange, Kind, kind_of, symbol_at}
+use Rattle.elf_model.specs.Image.RightLink.{objects_of}
 use Rattle.check_load.specs.Views.{loaded_view}
 use Rattle.check_relocs.specs.Bindings.{Bound, IsTargetOf}
 use Rattle.check_relocs.specs.Kinds.{kind_view}

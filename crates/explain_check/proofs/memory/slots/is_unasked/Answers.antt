@@ -1,7 +1,7 @@
 use Rattle.std.proofs.Common.{◌∙◌, Bool, List, ap, sym}
 use Rattle.std.specs.List.{slice_get}
-use Rattle.elf_model.specs.MapRecord.{SlotRow}
-use Rattle.elf_model.specs.RightLink.{objects_of}
+use Rattle.elf_model.specs.Image.MapRecord.{SlotRow}
+use Rattle.elf_model.specs.Image.RightLink.{objects_of}
 use Rattle.check_link.specs.Slots.{line_of, request_view}
 use Rattle.explain_check.proofs.WrongSlots.{unmarked}
 use Rattle.explain_check.proofs.memory.slots.is_unasked.Goals as goal

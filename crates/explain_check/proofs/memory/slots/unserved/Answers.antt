@@ -1,8 +1,8 @@
 use Rattle.std.proofs.Common.{◌∙◌, List, ap, sym}
 use Rattle.std.specs.List.{list_any}
-use Rattle.elf_model.specs.MapRecord.{SlotRow}
-use Rattle.elf_model.specs.Relocation.{relocation_of}
-use Rattle.elf_model.specs.Slots.{is_slot_of}
+use Rattle.elf_model.specs.Image.MapRecord.{SlotRow}
+use Rattle.elf_model.specs.Link.Relocation.{relocation_of}
+use Rattle.elf_model.specs.Link.Slots.{is_slot_of}
 use Rattle.check_load.specs.Views.{loaded_view}
 use Rattle.check_link.specs.Slots.{request_view}
 use Rattle.explain_check.proofs.WrongSlots.{is_unserved}

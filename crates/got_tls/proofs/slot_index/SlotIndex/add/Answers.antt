@@ -1,9 +1,9 @@
 use Rattle.std.proofs.Common.{◌≡◌, List, ap, subst, sym, ◌∙◌}
 use Rattle.std.specs.Prelude.{Some}
 use Rattle.std.specs.List.{slice_get}
-use Rattle.elf_model.specs.MapRecord.{TargetRow}
-use Rattle.elf_model.specs.Slots.{Request, same_request, target_of}
-use Rattle.elf_model.specs.Relocation.{symbol_at}
+use Rattle.elf_model.specs.Image.MapRecord.{TargetRow}
+use Rattle.elf_model.specs.Link.Slots.{Request, same_request, target_of}
+use Rattle.elf_model.specs.Link.Relocation.{symbol_at}
 use Rattle.indexmap.specs.IndexSet.{insert_key}
 use Rattle.search.specs.Views.{loaded_view}
 use Rattle.got_tls.specs.Asking.{request_for}

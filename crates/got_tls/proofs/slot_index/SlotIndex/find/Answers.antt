@@ -1,6 +1,6 @@
 use Rattle.std.proofs.Common.{ap, ◌∙◌}
 use Rattle.std.specs.Prelude.{position}
-use Rattle.elf_model.specs.Slots.{same_request}
+use Rattle.elf_model.specs.Link.Slots.{same_request}
 use Rattle.got_tls.specs.Views.{Listed, slot_view}
 use Rattle.got_tls.proofs.Keys.{position_same}
 use Rattle.got_tls.proofs.slot_index.SlotIndex.find.Goals as goal

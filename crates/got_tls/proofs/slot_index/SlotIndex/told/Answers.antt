@@ -3,7 +3,7 @@ use Rattle.std.specs.Prelude.{position}
 use Rattle.std.specs.List.{slice_get}
 use Rattle.std.proofs.lemmas.Bool.{ltb-true}
 use Rattle.std.proofs.lemmas.Option.{slice_get-get_or}
-use Rattle.elf_model.specs.Slots.{same_request}
+use Rattle.elf_model.specs.Link.Slots.{same_request}
 use Rattle.got_tls.specs.Asking.{request_for}
 use Rattle.got_tls.specs.Positions.{IsNoted}
 use Rattle.got_tls.specs.Views.{Listed}

@@ -2,8 +2,8 @@ use Rattle.std.proofs.Common.{rules, ◌≡◌, ◌++◌, ◌∙◌, List, ap, a
 use Rattle.std.specs.Prelude.{map, slice_index}
 use Rattle.std.specs.List.{range_with_len}
 use Rattle.std.proofs.lemmas.List.FromFn.{length-map-range_with_len}
-use Rattle.elf_model.specs.OwnLayout.{own_where}
-use Rattle.elf_model.specs.WantedBytes.{wanted_byte}
+use Rattle.elf_model.specs.Own.OwnLayout.{own_where}
+use Rattle.elf_model.specs.Link.WantedBytes.{wanted_byte}
 use Rattle.image_write.specs.Sections.{wanted_run}
 use Rattle.image_write.proofs.PieceSteps.{back_is, front_is, put_is}
 use Rattle.image_write.proofs.buffer.Buffer.add_relocated.Goals as goal

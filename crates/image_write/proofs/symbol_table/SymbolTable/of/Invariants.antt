@@ -1,5 +1,5 @@
 use Rattle.std.proofs.Common.{◌≡◌, ◌+◌, drop, length}
-use Rattle.elf_model.specs.SymbolTable.{entry_count, name_section}
+use Rattle.elf_model.specs.Image.SymbolTable.{entry_count, name_section}
 use Rattle.resolve.specs.Views.{meaning_views}
 use Rattle.search.specs.Views.{loaded_views}
 use Rattle.image_write.specs.Tables.{IsInRange, entered, name_bytes}

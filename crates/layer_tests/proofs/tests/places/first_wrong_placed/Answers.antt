@@ -1,5 +1,5 @@
 use Rattle.std.proofs.Common.{subst, sym}
-use Rattle.elf_model.specs.Pieces.{AreLawfulKinds}
+use Rattle.elf_model.specs.Link.Pieces.{AreLawfulKinds}
 use Rattle.layer_tests.proofs.tests.places.first_wrong_placed.Goals as goal
 
 pub first_wrong-requires : goal.first_wrong-requires

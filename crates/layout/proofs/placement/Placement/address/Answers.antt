@@ -1,10 +1,10 @@
 use Rattle.std.proofs.Common.{◌∙◌, ◌<◌, ◌≤◌, List, ap, arith, length, option_map, subst, sym}
 use Rattle.std.specs.Prelude.{find}
 use Rattle.std.proofs.lemmas.List.{length-map}
-use Rattle.elf_model.specs.Loading.{LoadedObject}
-use Rattle.elf_model.specs.OwnLayout.{own_places}
-use Rattle.elf_model.specs.Pieces.{kept_sections}
-use Rattle.elf_model.specs.Placement.{is_of_section}
+use Rattle.elf_model.specs.Link.Loading.{LoadedObject}
+use Rattle.elf_model.specs.Own.OwnLayout.{own_places}
+use Rattle.elf_model.specs.Link.Pieces.{kept_sections}
+use Rattle.elf_model.specs.Link.Placement.{is_of_section}
 use Rattle.search.specs.Views.{loaded_view}
 use Rattle.layout.specs.Placements.{Basis}
 use Rattle.layout.proofs.OwnAddresses.{kept_address, no_section}

@@ -1,8 +1,8 @@
 use Rattle.std.proofs.Common.{ℕ, Option, ap, option_map, subst, sym, ◌∙◌}
 use Rattle.std.specs.Prelude.{unwrap_or}
-use Rattle.elf_model.specs.LinkerValues.{bound_value}
-use Rattle.elf_model.specs.OwnLayout.{own_got, own_where}
-use Rattle.elf_model.specs.Pieces.{AreLawfulKinds}
+use Rattle.elf_model.specs.Link.LinkerValues.{bound_value}
+use Rattle.elf_model.specs.Own.OwnLayout.{own_got, own_where}
+use Rattle.elf_model.specs.Link.Pieces.{AreLawfulKinds}
 use Rattle.layout.specs.Placements.{Basis}
 use Rattle.layout.proofs.OwnBounds.{own_bound}
 use Rattle.layout.proofs.placement.Placement.bound.Goals as goal

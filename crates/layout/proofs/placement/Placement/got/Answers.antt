@@ -1,6 +1,6 @@
 use Rattle.std.proofs.Common.{◌∙◌, ℕ, List, ap, option_map}
 use Rattle.std.specs.Global.{Vec}
-use Rattle.elf_model.specs.OwnLayout.{got_number, own_got}
+use Rattle.elf_model.specs.Own.OwnLayout.{got_number, own_got}
 use Rattle.layout.specs.Addresses.{entry}
 use Rattle.layout.specs.Placements.{Basis}
 use Rattle.layout.proofs.OwnAddresses.{got_address}

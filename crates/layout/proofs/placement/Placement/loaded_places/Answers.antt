@@ -1,5 +1,5 @@
 use Rattle.std.proofs.Common.{◌∙◌, List, ap, take}
-use Rattle.elf_model.specs.OwnLayout.{own_loaded, own_thread_rest}
+use Rattle.elf_model.specs.Own.OwnLayout.{own_loaded, own_thread_rest}
 use Rattle.layout.specs.Placements.{Basis}
 use Rattle.layout.specs.PlaceViews.{place_views}
 use Rattle.layout.specs.declared.runs.Place.{Place}

@@ -1,7 +1,7 @@
 use Rattle.std.proofs.Common.{◌∙◌, List, ℕ, ap}
 use Rattle.std.specs.BTreeMap.{BTreeMap}
 use Rattle.std.specs.Borrow.{Bor}
-use Rattle.elf_model.specs.Commons.{block_named}
+use Rattle.elf_model.specs.Link.Commons.{block_named}
 use Rattle.layout.specs.Placements.{Basis}
 use Rattle.resolve.specs.Blocks.{block_in}
 use Rattle.resolve.specs.declared.blocks.Block.{Block}

@@ -2,9 +2,9 @@ use Rattle.std.proofs.Common.{◌∙◌, ℕ, ◌<◌, ◌≤◌, List, ap, arit
 use Rattle.std.specs.Prelude.{find}
 use Rattle.std.specs.Global.{Vec}
 use Rattle.std.proofs.lemmas.List.{length-map}
-use Rattle.elf_model.specs.Loading.{LoadedObject}
-use Rattle.elf_model.specs.OwnLayout.{own_in_load_order}
-use Rattle.elf_model.specs.Placement.{is_of_section}
+use Rattle.elf_model.specs.Link.Loading.{LoadedObject}
+use Rattle.elf_model.specs.Own.OwnLayout.{own_in_load_order}
+use Rattle.elf_model.specs.Link.Placement.{is_of_section}
 use Rattle.search.specs.Views.{loaded_view}
 use Rattle.layout.specs.Addresses.{entry}
 use Rattle.layout.specs.Placements.{Basis}

@@ -1,8 +1,8 @@
 use Rattle.std.proofs.Common.{◌∙◌, ℕ, List, ap, option_map, sym}
 use Rattle.std.specs.Prelude.{find}
 use Rattle.std.specs.Global.{Vec}
-use Rattle.elf_model.specs.OwnLayout.{own_placed}
-use Rattle.elf_model.specs.Placement.{is_of_section}
+use Rattle.elf_model.specs.Own.OwnLayout.{own_placed}
+use Rattle.elf_model.specs.Link.Placement.{is_of_section}
 use Rattle.layout.specs.Addresses.{entry}
 use Rattle.layout.specs.Placements.{Basis}
 use Rattle.layout.proofs.OwnAddresses.{address_either}

@@ -1,7 +1,7 @@
 use Rattle.std.proofs.Common.{rules, ◌≡◌, ◌∙◌, ap, option_map, subst, sym}
-use Rattle.elf_model.specs.OwnLayout.{own_in_load_order, own_placed}
-use Rattle.elf_model.specs.Pieces.{AreLawfulKinds}
-use Rattle.elf_model.specs.ThreadStorage.{thread_block}
+use Rattle.elf_model.specs.Own.OwnLayout.{own_in_load_order, own_placed}
+use Rattle.elf_model.specs.Link.Pieces.{AreLawfulKinds}
+use Rattle.elf_model.specs.Link.ThreadStorage.{thread_block}
 use Rattle.layout.specs.Placements.{Basis}
 use Rattle.layout.specs.Threads.{block_of}
 use Rattle.layout.proofs.OwnThreads.{told_block, threads_same}

@@ -1,6 +1,6 @@
 use Rattle.std.proofs.Common.{◌∙◌, ap, subst, sym}
-use Rattle.elf_model.specs.OwnLayout.{own_in_load_order}
-use Rattle.elf_model.specs.Pieces.{AreLawfulKinds}
+use Rattle.elf_model.specs.Own.OwnLayout.{own_in_load_order}
+use Rattle.elf_model.specs.Link.Pieces.{AreLawfulKinds}
 use Rattle.layout.specs.Placements.{Basis}
 use Rattle.layout.specs.Threads.{header_in}
 use Rattle.layout.proofs.OwnThreads.{headers_same}

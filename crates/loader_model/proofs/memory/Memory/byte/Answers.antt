@@ -1,6 +1,6 @@
 use Rattle.std.proofs.Common.{ℕ, List, ap, sym, ◌∙◌}
 use Rattle.std.specs.Prelude.{Some, find, option_map}
-use Rattle.elf_model.specs.MemoryImage.{Cell, maps, segment_byte}
+use Rattle.elf_model.specs.Image.MemoryImage.{Cell, maps, segment_byte}
 use Rattle.elf_model.specs.declared.records.ProgramHeader.{ProgramHeader}
 use Rattle.loader_model.proofs.MemoryLemmas.{found_cell}
 use Rattle.loader_model.proofs.memory.Memory.byte.Goals as goal

@@ -1,7 +1,7 @@
 use Rattle.std.proofs.Common.{List, ℕ, refl, subst, ap, sym, ◌∙◌}
 use Rattle.std.proofs.lemmas.Result.{err_from_is_err_and}
 use Rattle.std.specs.Prelude.{filter}
-use Rattle.elf_model.specs.MemoryImage.{IsImage, LoadFaultStands, loads_in, is_thread_block}
+use Rattle.elf_model.specs.Image.MemoryImage.{IsImage, LoadFaultStands, loads_in, is_thread_block}
 use Rattle.elf_model.specs.declared.faults.LoadFault.TheVariants as fault
 use Rattle.elf_model.specs.declared.records.ProgramHeader.{ProgramHeader}
 use Rattle.loader_model.proofs.ImageFacts.{fault_of, image_of, table_inside, table_is}

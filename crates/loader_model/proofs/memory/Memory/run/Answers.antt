@@ -1,6 +1,6 @@
 use Rattle.std.proofs.Common.{List, ap, refl, subst, sym, ◌∙◌}
 use Rattle.std.specs.Prelude.{AllPairs, Any, Contains}
-use Rattle.elf_model.specs.MemoryImage.{Encloses, loads}
+use Rattle.elf_model.specs.Image.MemoryImage.{Encloses, loads}
 use Rattle.elf_model.specs.declared.records.ProgramHeader.{ProgramHeader}
 use Rattle.loader_model.specs.Table.{EndsBefore}
 use Rattle.loader_model.proofs.MemoryLemmas.{run_of}

@@ -1,5 +1,5 @@
 use Rattle.std.proofs.Common.{List, rules, subst, sym, ℕ, ◌≡◌}
-use Rattle.elf_model.specs.Loading.{LoadedObject}
+use Rattle.elf_model.specs.Link.Loading.{LoadedObject}
 use Rattle.relocate.specs.Values.{ArePatches}
 use Rattle.relocate.proofs.patch_table.Patches.new.Goals as goal
 

@@ -1,9 +1,9 @@
 use Rattle.std.proofs.Common.{◌≡◌, ◌∷◌, ◌++◌, ◌+◌, ◌<◌, ◌∙◌, List, [], ap, drop, length, map, refl, subst, sym}
 use Rattle.std.specs.Prelude.{filter}
-use Rattle.elf_model.specs.Commons.{is_common_symbol}
-use Rattle.elf_model.specs.Loading as loading
-use Rattle.elf_model.specs.ObjectFile.{null_symbol}
-use Rattle.elf_model.specs.Resolution.{SymbolOf, symbol_of, symbols_from}
+use Rattle.elf_model.specs.Link.Commons.{is_common_symbol}
+use Rattle.elf_model.specs.Link.Loading as loading
+use Rattle.elf_model.specs.Inputs.ObjectFile.{null_symbol}
+use Rattle.elf_model.specs.Link.Resolution.{SymbolOf, symbol_of, symbols_from}
 use Rattle.elf_model.specs.declared.records.Symbol.{Symbol}
 use Rattle.search.specs.Views.{loaded_view}
 use Rattle.resolve.specs.Offered.{ref_of}

@@ -1,7 +1,7 @@
 use Rattle.std.proofs.Common.{◌≡◌, ◌++◌, drop, map}
 use Rattle.std.specs.Prelude.{filter}
-use Rattle.elf_model.specs.Commons.{is_common_symbol}
-use Rattle.elf_model.specs.Resolution.{symbols_from}
+use Rattle.elf_model.specs.Link.Commons.{is_common_symbol}
+use Rattle.elf_model.specs.Link.Resolution.{symbols_from}
 use Rattle.search.specs.Views.{loaded_view}
 use Rattle.resolve.specs.Offered.{ref_of}
 use Rattle.resolve.specs.Owned.{is_kept}

@@ -1,5 +1,5 @@
 use Rattle.std.proofs.Common.{List, ◌∙◌, subst, sym}
-use Rattle.elf_model.specs.Loading.{LoadedObject}
+use Rattle.elf_model.specs.Link.Loading.{LoadedObject}
 use Rattle.resolve.specs.Left.{HasNoneLeft}
 use Rattle.resolve.proofs.LeftNames.{none_numbered}
 use Rattle.resolve.proofs.resolved.Resolved.is_left.Goals as goal

@@ -4,7 +4,7 @@ use Rattle.std.specs.Borrow.{Bor}
 use Rattle.std.specs.List.{HoldsAt, slice_get}
 use Rattle.std.specs.Option.{MatchOption}
 use Rattle.std.proofs.lemmas.Option.{slice_get-get_or, slice_get-map, slice_get_past}
-use Rattle.elf_model.specs.Loading.{LoadedObject}
+use Rattle.elf_model.specs.Link.Loading.{LoadedObject}
 use Rattle.search.specs.Views.{loaded_view, loaded_views}
 use Rattle.search.specs.declared.loaded.LoadedObject as code
 use Rattle.resolve.proofs.resolved.Resolved.object_at.Goals as goal

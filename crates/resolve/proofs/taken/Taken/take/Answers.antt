@@ -1,6 +1,6 @@
 use Rattle.std.proofs.Common.{◌≡◌, ◌∙◌, ℕ, List, [], Option, None, Some, ap, cond, get_or, set, sym}
 use Rattle.std.specs.Option.{option_map_or, option_or}
-use Rattle.elf_model.specs.Resolution.{symbol_of}
+use Rattle.elf_model.specs.Link.Resolution.{symbol_of}
 use Rattle.search.specs.Numbers.{name_number}
 use Rattle.search.specs.Views.{loaded_view}
 use Rattle.resolve.specs.Offered.{candidate_of}

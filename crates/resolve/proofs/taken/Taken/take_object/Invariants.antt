@@ -1,7 +1,7 @@
 use Rattle.std.proofs.Common.{◌≡◌, drop, length}
 use Rattle.std.specs.Prelude.{filter}
-use Rattle.elf_model.specs.ChosenSymbols.{is_definition}
-use Rattle.elf_model.specs.Resolution.{is_common_definition, symbols_from}
+use Rattle.elf_model.specs.Link.ChosenSymbols.{is_definition}
+use Rattle.elf_model.specs.Link.Resolution.{is_common_definition, symbols_from}
 use Rattle.search.specs.Views.{loaded_view}
 use Rattle.resolve.specs.Offered.{offers_of}
 use Rattle.resolve.specs.Taken.{taken_after, taken_view}

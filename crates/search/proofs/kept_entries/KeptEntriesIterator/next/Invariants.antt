@@ -1,6 +1,6 @@
 use Rattle.std.proofs.Common.{◌≡◌, ◌-◌, drop, length}
 use Rattle.std.specs.Prelude.{filter}
-use Rattle.elf_model.specs.Relocation.{is_some_kind}
+use Rattle.elf_model.specs.Link.Relocation.{is_some_kind}
 use Rattle.search.proofs.kept_entries.KeptEntriesIterator.next.Given as goal
 
 -- only entries of type NONE were passed over

@@ -1,5 +1,5 @@
 use Rattle.std.proofs.Common.{List, ap, map, ◌∙◌}
-use Rattle.elf_model.specs.Relocation.{relocation_of}
+use Rattle.elf_model.specs.Link.Relocation.{relocation_of}
 use Rattle.elf_model.specs.declared.records.Rela.{Rela}
 use Rattle.search.specs.Views.{loaded_view}
 use Rattle.search.proofs.KeptWalks.{entries_told}

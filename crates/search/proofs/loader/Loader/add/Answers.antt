@@ -1,7 +1,7 @@
 use Rattle.std.proofs.Common.{◌≡◌, ◌∙◌, ◌||◌, List, ℕ, refl, sym, subst, ap}
 use Rattle.std.proofs.lemmas.List.Elements.{All-push}
-use Rattle.elf_model.specs.Groups.{AreLawfulGroups, GroupFaultStands, seen_after}
-use Rattle.elf_model.specs.ObjectFile.{groups}
+use Rattle.elf_model.specs.Link.Groups.{AreLawfulGroups, GroupFaultStands, seen_after}
+use Rattle.elf_model.specs.Inputs.ObjectFile.{groups}
 use Rattle.search.specs.Faults.{FailsAt}
 use Rattle.search.specs.Loaders.{asked_in, defined_in, loaded}
 use Rattle.search.specs.Mentions.{has_definition}

@@ -2,7 +2,7 @@ use Rattle.std.proofs.Common.{◌∙◌, ◌∷◌, ◌||◌, List, ℕ, ap, len
 use Rattle.std.specs.Borrow.{Bor}
 use Rattle.std.specs.List.{list_any}
 use Rattle.std.specs.Str.{bytes_eq}
-use Rattle.elf_model.specs.Command.{Plan}
+use Rattle.elf_model.specs.Inputs.Command.{Plan}
 use Rattle.search.specs.Names.{is_among}
 use Rattle.search.specs.Views.{loaded_views}
 use Rattle.search.specs.declared.loaded.LoadedObject as code

@@ -1,6 +1,6 @@
 use Rattle.std.proofs.Common.{◌≡◌, ◌<◌, ◌≤◌, ◌∙◌, List, ℕ, ap, arith, get_or, length, refl, subst, sym, false, true, ◌+◌}
-use Rattle.elf_model.specs.Loading.{is_global_or_weak}
-use Rattle.elf_model.specs.ObjectFile.{name_of_symbol, null_symbol, symbols}
+use Rattle.elf_model.specs.Link.Loading.{is_global_or_weak}
+use Rattle.elf_model.specs.Inputs.ObjectFile.{name_of_symbol, null_symbol, symbols}
 use Rattle.elf_model.specs.declared.records.Symbol.{Symbol}
 use Rattle.search.specs.Numbers.{AreFirstNumbers}
 use Rattle.search.specs.declared.loaded.TheConstants.{NO_NUMBER}

@@ -1,5 +1,5 @@
 use Rattle.std.proofs.Common.{◌≡◌, ◌||◌, ℕ, List, drop}
-use Rattle.elf_model.specs.ObjectFile.{symbols}
+use Rattle.elf_model.specs.Inputs.ObjectFile.{symbols}
 use Rattle.search.specs.Loaders.{asked_from, asked_in, defined_from, defined_in}
 use Rattle.search.specs.Mentions.{AreNoted, has_definition}
 use Rattle.search.specs.Names.{Begins, is_among}

@@ -1,5 +1,5 @@
 use Rattle.std.proofs.Common.{◌-◌, List, length}
-use Rattle.elf_model.specs.Opening.{Opened}
+use Rattle.elf_model.specs.Inputs.Opening.{Opened}
 use Rattle.search.specs.Waiting.{Covers}
 use Rattle.search.proofs.waits.Waits.catch_up.Given as goal
 

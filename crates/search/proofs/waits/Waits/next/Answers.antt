@@ -1,8 +1,8 @@
 use Rattle.std.proofs.Common.{◌∙◌, List, ℕ, ap, refl, subst, sym}
 use Rattle.std.specs.List.{find}
 use Rattle.std.specs.Prelude.{option_map}
-use Rattle.elf_model.specs.ArchiveFile.{IndexEntry}
-use Rattle.elf_model.specs.Opening.{Opened, archive_entries}
+use Rattle.elf_model.specs.Inputs.ArchiveFile.{IndexEntry}
+use Rattle.elf_model.specs.Inputs.Opening.{Opened, archive_entries}
 use Rattle.search.specs.Loaders.{is_next_of, loaded}
 use Rattle.search.specs.Waiting.{NextWait}
 use Rattle.search.proofs.WaitLaws.{caught_up, covers_looked, next_waits}

@@ -1,7 +1,7 @@
 use Rattle.std.proofs.Common.{List, rules, subst, ◌≡◌, Some}
 use Rattle.std.specs.Cow.{cow_slice_items}
-use Rattle.elf_model.specs.Loading.{LoadedObject}
-use Rattle.elf_model.specs.Resolution.{chosen}
+use Rattle.elf_model.specs.Link.Loading.{LoadedObject}
+use Rattle.elf_model.specs.Link.Resolution.{chosen}
 use Rattle.check_link.specs.Views.{symbol_view}
 use Rattle.checker.proofs.OwnChoices.{own_found}
 use Rattle.checker.proofs.c13_symbols.own_choices.OwnChoices.find.Goals as goal

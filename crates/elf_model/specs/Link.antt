@@ -1,0 +1,21 @@
+-- What a link is, whoever makes it: loading, dropped groups, what names mean, pieces and their places, slots, values.
+pub mod ArrayOrder
+pub mod ChosenSymbols
+pub mod Commons
+pub mod Groups
+pub mod LinkerNames
+pub mod LinkerValues
+pub mod Listing
+pub mod Loading
+pub mod LoadingBounds
+pub mod LoadingRules
+pub mod Meaning
+pub mod Pieces
+pub mod Placement
+pub mod Relocation
+pub mod RelocationValues
+pub mod Resolution
+pub mod Slots
+pub mod ThreadStorage
+pub mod UsedNames
+pub mod WantedBytes
