@@ -16,7 +16,7 @@ fn has_name(member: &StoredMember<'_>, name: &[u8]) -> bool
 }
 
 /// Whether a member is the symbol index with numbers of 8 bytes.
-#[tactic(auto, unfolding(elf_model::specs::ArchiveFile::padded))]
+#[tactic(auto, unfolding(elf_model::specs::Inputs::ArchiveFile::padded))]
 pub fn is_wide_index(member: &StoredMember<'_>) -> bool
     ensures { result ≡ archive.is_wide_index member.now }
 {
@@ -24,7 +24,7 @@ pub fn is_wide_index(member: &StoredMember<'_>) -> bool
 }
 
 /// Whether a member is the symbol index, with numbers of 4 bytes or of 8.
-#[tactic(auto, unfolding(elf_model::specs::ArchiveFile::padded))]
+#[tactic(auto, unfolding(elf_model::specs::Inputs::ArchiveFile::padded))]
 pub fn is_index(member: &StoredMember<'_>) -> bool
     ensures { result ≡ archive.is_index member.now }
 {
@@ -32,7 +32,7 @@ pub fn is_index(member: &StoredMember<'_>) -> bool
 }
 
 /// Whether a member holds the long names.
-#[tactic(auto, unfolding(elf_model::specs::ArchiveFile::padded))]
+#[tactic(auto, unfolding(elf_model::specs::Inputs::ArchiveFile::padded))]
 pub fn is_long_names(member: &StoredMember<'_>) -> bool
     ensures { result ≡ archive.is_long_names member.now }
 {

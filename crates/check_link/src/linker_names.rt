@@ -148,7 +148,7 @@ fn is_stop_name(name: &[u8]) -> bool
 }
 
 /// What a name stands for that the linker always defines; None where it defines nothing always.
-#[tactic(auto, unfolding(elf_model::specs::LinkerNames::fixed_bound))]
+#[tactic(auto, unfolding(elf_model::specs::Link::LinkerNames::fixed_bound))]
 pub fn fixed_bound(name: &[u8]) -> Option<Bound>
     ensures { result ≡ linker.fixed_bound name.now }
 {
@@ -159,7 +159,7 @@ pub fn fixed_bound(name: &[u8]) -> Option<Bound>
 }
 
 /// What `__start_N` and `__stop_N` stand for where there are sections of output name N.
-#[tactic(auto, unfolding(elf_model::specs::LinkerNames::output_bound))]
+#[tactic(auto, unfolding(elf_model::specs::Link::LinkerNames::output_bound))]
 pub fn output_bound(name: &[u8]) -> Option<Bound>
     ensures { result ≡ linker.output_bound name.now }
 {
@@ -183,7 +183,7 @@ fn behind<'a>(name: &'a [u8], count: usize) -> &'a [u8]
 }
 
 /// The output name of which a name of the linker's speaks, where it speaks of one.
-#[tactic(auto, unfolding(elf_model::specs::LinkerNames::named_output))]
+#[tactic(auto, unfolding(elf_model::specs::Link::LinkerNames::named_output))]
 pub fn named_output<'a>(name: &'a [u8]) -> &'a [u8]
     ensures { result.now ≡ linker.named_output name.entry.now }
 {

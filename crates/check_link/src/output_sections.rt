@@ -29,7 +29,7 @@ fn is_gathered_by(name: &[u8], gathering: &[u8]) -> bool
 }
 
 /// The output name of a section: the gathering name that it belongs to, or its own.
-#[tactic(auto, unfolding(elf_model::specs::Pieces::output_name))]
+#[tactic(auto, unfolding(elf_model::specs::Link::Pieces::output_name))]
 pub fn output_name<'a>(name: &'a [u8]) -> &'a [u8]
     ensures { result.now ≡ pieces.output_name name.now }
 {

@@ -84,7 +84,7 @@ fn digits_value(digits: &[u8]) -> u64
 
 /// The rank of a section by its name: its number, or what is above all numbers (profile; GNU ld's
 /// SORT_BY_INIT_PRIORITY ranks them alike).
-#[tactic(auto, unfolding(elf_model::specs::ArrayOrder::array_rank))]
+#[tactic(auto, unfolding(elf_model::specs::Link::ArrayOrder::array_rank))]
 fn array_rank(name: &[u8]) -> u64
     ensures { result ≡ order.array_rank name.now }
 {

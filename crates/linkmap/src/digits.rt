@@ -151,7 +151,7 @@ fn glyph(digit: u8) -> u8
 }
 
 /// Appends a number in two hexadecimal digits.
-#[tactic(auto, unfolding(elf_model::specs::MapText::pair))]
+#[tactic(auto, unfolding(elf_model::specs::Image::MapText::pair))]
 pub fn put_pair(out: &mut Vec<u8>, n: u8) -> Result<(), AllocError>
     ensures { OnOk result (out.new.items ≡ out.old.items ++ pair n) }
 {
@@ -160,7 +160,7 @@ pub fn put_pair(out: &mut Vec<u8>, n: u8) -> Result<(), AllocError>
 }
 
 /// Appends a number in eight hexadecimal digits, all at once.
-#[tactic(auto, unfolding(elf_model::specs::MapText::word, elf_model::specs::MapText::quad, elf_model::specs::MapText::pair))]
+#[tactic(auto, unfolding(elf_model::specs::Image::MapText::word, elf_model::specs::Image::MapText::quad, elf_model::specs::Image::MapText::pair))]
 fn put_word(out: &mut Vec<u8>, n: u32) -> Result<(), AllocError>
     ensures { OnOk result (out.new.items ≡ out.old.items ++ word n) }
 {
@@ -181,7 +181,7 @@ fn put_word(out: &mut Vec<u8>, n: u32) -> Result<(), AllocError>
 }
 
 /// The same, of a number that is mostly 0.
-#[tactic(auto, unfolding(elf_model::specs::MapText::word, elf_model::specs::MapText::quad, elf_model::specs::MapText::pair))]
+#[tactic(auto, unfolding(elf_model::specs::Image::MapText::word, elf_model::specs::Image::MapText::quad, elf_model::specs::Image::MapText::pair))]
 fn put_high_word(out: &mut Vec<u8>, n: u32) -> Result<(), AllocError>
     ensures { OnOk result (out.new.items ≡ out.old.items ++ word n) }
 {
@@ -191,7 +191,7 @@ fn put_high_word(out: &mut Vec<u8>, n: u32) -> Result<(), AllocError>
     out.extend_from_slice(b"00000000")
 }
 
-#[tactic(auto, unfolding(elf_model::specs::MapText::hex))]
+#[tactic(auto, unfolding(elf_model::specs::Image::MapText::hex))]
 fn put_hex(out: &mut Vec<u8>, n: u64) -> Result<(), AllocError>
     ensures { OnOk result (out.new.items ≡ out.old.items ++ hex n) }
 {
@@ -201,7 +201,7 @@ fn put_hex(out: &mut Vec<u8>, n: u64) -> Result<(), AllocError>
 }
 
 /// Appends an address in 16 hexadecimal digits, and a space.
-#[tactic(auto, unfolding(elf_model::specs::MapText::address))]
+#[tactic(auto, unfolding(elf_model::specs::Image::MapText::address))]
 pub fn put_address(out: &mut Vec<u8>, n: u64) -> Result<(), AllocError>
     ensures { OnOk result (out.new.items ≡ out.old.items ++ address n) }
 {
@@ -211,7 +211,7 @@ pub fn put_address(out: &mut Vec<u8>, n: u64) -> Result<(), AllocError>
 }
 
 /// Appends a decimal number and a space.
-#[tactic(auto, unfolding(elf_model::specs::MapText::number))]
+#[tactic(auto, unfolding(elf_model::specs::Image::MapText::number))]
 pub fn put_number(out: &mut Vec<u8>, n: u64) -> Result<(), AllocError>
     ensures { OnOk result (out.new.items ≡ out.old.items ++ number n) }
 {
@@ -222,7 +222,7 @@ pub fn put_number(out: &mut Vec<u8>, n: u64) -> Result<(), AllocError>
 }
 
 /// Appends a decimal number and a newline.
-#[tactic(auto, unfolding(elf_model::specs::MapText::last_number))]
+#[tactic(auto, unfolding(elf_model::specs::Image::MapText::last_number))]
 pub fn put_last_number(out: &mut Vec<u8>, n: u64) -> Result<(), AllocError>
     ensures { OnOk result (out.new.items ≡ out.old.items ++ last_number n) }
 {

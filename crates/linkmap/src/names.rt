@@ -87,7 +87,7 @@ pub fn escape(alloc: Global, name: &[u8]) -> Result<Vec<u8>, AllocError>
 }
 
 /// Appends a byte that does not stand for itself.
-#[tactic(auto, unfolding(elf_model::specs::MapText::spelled))]
+#[tactic(auto, unfolding(elf_model::specs::Image::MapText::spelled))]
 fn put_escape(out: &mut Vec<u8>, byte: u8) -> Result<(), AllocError>
     requires { map_text.is_plain byte ≡ false }
     ensures { OnOk result (out.new.items ≡ out.old.items ++ map_text.spelled byte) }
@@ -114,7 +114,7 @@ fn put_escaped(out: &mut Vec<u8>, name: &[u8]) -> Result<(), AllocError>
 }
 
 /// Appends a name and the newline that ends its line.
-#[tactic(auto, unfolding(elf_model::specs::MapText::name))]
+#[tactic(auto, unfolding(elf_model::specs::Image::MapText::name))]
 pub fn put_name(out: &mut Vec<u8>, name: &[u8]) -> Result<(), AllocError>
     ensures text { OnOk result (out.new.items ≡ out.old.items ++ map_text.name name.now) }
     ensures fits { map_text.AreBytes name.now }

@@ -14,7 +14,7 @@ use elf_model::{
 };
 use std::alloc::{AllocError, Global};
 
-#[tactic(auto, unfolding(elf_model::specs::MapText::version_text))]
+#[tactic(auto, unfolding(elf_model::specs::Image::MapText::version_text))]
 fn put_version(out: &mut Vec<u8>, version: u64) -> Result<(), AllocError>
     ensures { OnOk result (out.new.items ≡ out.old.items ++ map_text.version_text version) }
 {
@@ -23,7 +23,7 @@ fn put_version(out: &mut Vec<u8>, version: u64) -> Result<(), AllocError>
     Ok(())
 }
 
-#[tactic(auto, unfolding(elf_model::specs::MapText::object_text))]
+#[tactic(auto, unfolding(elf_model::specs::Image::MapText::object_text))]
 fn put_object_of(
     out: &mut Vec<u8>,
     object: u64,
@@ -54,7 +54,7 @@ fn put_object(out: &mut Vec<u8>, o: &ObjectLine) -> Result<(), AllocError>
     put_object_of(out, o.object, o.item, o.offset, &o.path)
 }
 
-#[tactic(auto, unfolding(elf_model::specs::MapText::drop_text))]
+#[tactic(auto, unfolding(elf_model::specs::Image::MapText::drop_text))]
 fn put_drop(out: &mut Vec<u8>, d: &DropLine) -> Result<(), AllocError>
     ensures text { OnOk result (out.new.items ≡ out.old.items ++ map_text.drop_text d.now) }
     ensures fits { OnOk result (map_text.FitsDrop d.now) }
@@ -65,7 +65,7 @@ fn put_drop(out: &mut Vec<u8>, d: &DropLine) -> Result<(), AllocError>
     Ok(())
 }
 
-#[tactic(auto, unfolding(elf_model::specs::MapText::place_text))]
+#[tactic(auto, unfolding(elf_model::specs::Image::MapText::place_text))]
 fn put_place_of(
     out: &mut Vec<u8>,
     address: u64,
@@ -110,7 +110,7 @@ fn put_place(out: &mut Vec<u8>, p: &PlaceLine) -> Result<(), AllocError>
     put_place_of(out, p.address, p.size, p.object, p.section, &p.name)
 }
 
-#[tactic(auto, unfolding(elf_model::specs::MapText::common_text))]
+#[tactic(auto, unfolding(elf_model::specs::Image::MapText::common_text))]
 fn put_common_of(
     out: &mut Vec<u8>,
     address: u64,
@@ -141,7 +141,7 @@ fn put_common(out: &mut Vec<u8>, c: &CommonLine) -> Result<(), AllocError>
     put_common_of(out, c.address, c.size, c.align, &c.name)
 }
 
-#[tactic(auto, unfolding(elf_model::specs::MapText::got_text))]
+#[tactic(auto, unfolding(elf_model::specs::Image::MapText::got_text))]
 fn put_got(out: &mut Vec<u8>, g: &GotLine) -> Result<(), AllocError>
     ensures text { OnOk result (out.new.items ≡ out.old.items ++ map_text.got_text g.now) }
     ensures fits { OnOk result (map_text.FitsGot g.now) }
@@ -195,7 +195,7 @@ fn borrowed_target(target: &SlotTarget) -> Target<'_>
     }
 }
 
-#[tactic(auto, unfolding(elf_model::specs::MapText::slot_text))]
+#[tactic(auto, unfolding(elf_model::specs::Image::MapText::slot_text))]
 fn put_slot_of(
     out: &mut Vec<u8>,
     address: u64,
@@ -249,7 +249,7 @@ fn put_definition(out: &mut Vec<u8>, definition: Definition) -> Result<(), Alloc
     }
 }
 
-#[tactic(auto, unfolding(elf_model::specs::MapText::symbol_text))]
+#[tactic(auto, unfolding(elf_model::specs::Image::MapText::symbol_text))]
 fn put_symbol_of(
     out: &mut Vec<u8>,
     address: u64,
@@ -278,7 +278,7 @@ fn put_symbol(out: &mut Vec<u8>, s: &SymbolLine) -> Result<(), AllocError>
     put_symbol_of(out, s.address, s.definition, &s.name)
 }
 
-#[tactic(auto, unfolding(elf_model::specs::MapText::symtab_text))]
+#[tactic(auto, unfolding(elf_model::specs::Image::MapText::symtab_text))]
 fn put_symtab(out: &mut Vec<u8>, t: SymtabLine) -> Result<(), AllocError>
     ensures text { OnOk result (out.new.items ≡ out.old.items ++ map_text.symtab_text t) }
     ensures fits { OnOk result (map_text.FitsSymtab t) }

@@ -47,7 +47,7 @@ impl<'a> Input<'a> {
     }
 
     /// The ordinary members of an archive, in the file's order.
-    #[tactic(auto, unfolding(elf_model::specs::Opening::archive_members))]
+    #[tactic(auto, unfolding(elf_model::specs::Inputs::Opening::archive_members))]
     pub fn members(&self) -> &[Member<'a>]
         requires { self.now.archive ≡ true }
         ensures { result.now ≡ archive_members self.now.bytes }
@@ -59,7 +59,7 @@ impl<'a> Input<'a> {
     }
 
     /// The entries of an archive's index, in its order; None without one.
-    #[tactic(auto, unfolding(elf_model::specs::Opening::archive_entries))]
+    #[tactic(auto, unfolding(elf_model::specs::Inputs::Opening::archive_entries))]
     pub fn entries(&self) -> Option<&[IndexEntry<'a>]>
         requires { self.now.archive ≡ true }
         ensures { unwrap_or (option_copied result) [] ≡ archive_entries self.now.bytes }
@@ -72,7 +72,7 @@ impl<'a> Input<'a> {
 
     /// The data of the ordinary member of an archive whose header is at an offset; none where there is
     /// no such header.
-    #[tactic(auto, unfolding(elf_model::specs::Opening::archive_data))]
+    #[tactic(auto, unfolding(elf_model::specs::Inputs::Opening::archive_data))]
     pub fn data_at(&self, offset: u64) -> &'a [u8]
         requires { self.now.archive ≡ true }
         ensures { result.now ≡ archive_data self.now.bytes offset }
@@ -88,7 +88,7 @@ impl<'a> Input<'a> {
 }
 
 /// Whether an archive has members, and no index of their names.
-#[tactic(auto, unfolding(elf_model::specs::Opening::is_unindexed))]
+#[tactic(auto, unfolding(elf_model::specs::Inputs::Opening::is_unindexed))]
 fn is_unindexed(archive: &Archive<'_>) -> bool
     ensures { result ≡ is_unindexed archive.now }
 {

@@ -122,7 +122,7 @@ fn is_stop_name(name: &[u8]) -> bool
 }
 
 /// What a name stands for that the linker always defines.
-#[tactic(auto, unfolding(elf_model::specs::LinkerNames::fixed_bound))]
+#[tactic(auto, unfolding(elf_model::specs::Link::LinkerNames::fixed_bound))]
 fn fixed_bound(name: &[u8]) -> Option<Bound>
     ensures { result ≡ fixed_bound name.now }
 {
@@ -136,7 +136,7 @@ fn fixed_bound(name: &[u8]) -> Option<Bound>
 }
 
 /// What `__start_N` and `__stop_N` stand for, where there are sections of output name N.
-#[tactic(auto, unfolding(elf_model::specs::LinkerNames::output_bound))]
+#[tactic(auto, unfolding(elf_model::specs::Link::LinkerNames::output_bound))]
 fn output_bound(name: &[u8]) -> Option<Bound>
     ensures { result ≡ output_bound name.now }
 {
@@ -161,7 +161,7 @@ fn behind(name: &[u8], place: usize) -> &[u8]
 }
 
 /// The output name of which a name of the linker's speaks, where it speaks of one.
-#[tactic(auto, unfolding(elf_model::specs::LinkerNames::named_output))]
+#[tactic(auto, unfolding(elf_model::specs::Link::LinkerNames::named_output))]
 pub fn named_output(name: &[u8]) -> &[u8]
     ensures { result.now ≡ named_output name.entry.now }
 {

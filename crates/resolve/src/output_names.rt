@@ -29,7 +29,7 @@ fn is_either(name: &[u8], gathering: &[u8], with_dot: &[u8]) -> bool
 }
 
 /// The output name of a section: the gathering name that it equals or begins with, a dot behind; else its own.
-#[tactic(auto, unfolding(elf_model::specs::Pieces::output_name))]
+#[tactic(auto, unfolding(elf_model::specs::Link::Pieces::output_name))]
 pub fn output_name(name: &[u8]) -> &[u8]
     ensures { result.now ≡ pieces.output_name name.now }
 {
