@@ -44,7 +44,7 @@ LAYERS = {
     "layout": {
         "Pieces and their output sections": "Alignments ArrayNames ArraySteps GotPieces GroupSteps Leading OrderSteps PartSteps"
         " PieceEntries",
-        "Addresses and segments": "EndSteps Entries LaidSteps OwnAddresses RunSteps",
+        "Addresses and segments": "EndSteps Entries LaidSteps OwnAddresses",
         "Bounds": "ExtentSteps OtherPlaces OwnBounds PlaceSteps",
         "Thread-local storage": "OwnThreads ThreadSteps",
         "Kinds and mixed output sections": "KindLemmas MixedOutputs",
@@ -56,14 +56,16 @@ LAYERS = {
         " SeenOutputs",
         "Slots": "PositionSteps SameRequest SlotLines SlotSteps",
     },
+    "check_tables": {
+        "The lines of symbols": "CountedLines OwnChoices SymbolLines",
+        "The table's bytes": "TableClause TableEntries TableLines TableParts TableSteps",
+    },
     "checker": {
         "Lists and numbers": "ArrayRanks Filtered Lines PartsOfLists Spelled",
         "Sections and where they are": "DropSteps LinkRows NearSteps NextPieces PieceOrder PieceSections PlacedFacts",
-        "Images and memory": "ImageFaults Parts PartsEnd Regions RisingFields RisingLink RisingOrder Runs SegmentsApart Stretching Sweep Sweeping"
+        "Images and memory": "ImageFaults Parts Regions RisingFields RisingLink RisingOrder Runs SegmentsApart Stretching Sweep Sweeping"
         " ThingsOfSegment ThreadBlocks",
         "The GOT": "GotSteps SlotCounts",
-        "Symbols and their table": "CountedLines OwnChoices SymbolLines TableClause TableEntries TableLines TableParts"
-        " TableSteps",
         "The verdict": "Clauses Verdicts",
     },
     "ld_main": {

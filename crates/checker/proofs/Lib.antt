@@ -1,7 +1,5 @@
-pub mod OwnChoices
 pub mod ArrayRanks
 pub mod Clauses
-pub mod CountedLines
 pub mod DropSteps
 pub mod Filtered
 pub mod GotSteps
@@ -11,7 +9,6 @@ pub mod LinkRows
 pub mod NearSteps
 pub mod NextPieces
 pub mod Parts
-pub mod PartsEnd
 pub mod PartsOfLists
 pub mod PieceOrder
 pub mod PieceSections
@@ -27,12 +24,6 @@ pub mod Spelled
 pub mod Stretching
 pub mod Sweep
 pub mod Sweeping
-pub mod SymbolLines
-pub mod TableClause
-pub mod TableEntries
-pub mod TableLines
-pub mod TableParts
-pub mod TableSteps
 pub mod ThingsOfSegment
 pub mod ThreadBlocks
 pub mod Verdicts

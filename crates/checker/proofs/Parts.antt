@@ -10,7 +10,7 @@ use Rattle.elf_model.specs.Link.Placement.{Covers}
 use Rattle.elf_model.specs.Image.RightLink.{IsFilled, fill_of}
 use Rattle.elf_model.specs.declared.records.ProgramHeader.{ProgramHeader}
 use Rattle.elf_model.specs.declared.thing.Thing.{Thing}
-use Rattle.loader_model.specs.Table.{IsBelow, IsLawful}
+use Rattle.loader_model.specs.Table.{IsBelow}
 use Rattle.elf_model.proofs.Addresses.{mapped, maps-true}
 use Rattle.elf_model.proofs.Finding.{find-found}
 use Rattle.loader_model.proofs.MemoryLemmas.{memory_at}
@@ -25,11 +25,6 @@ GoodIn image h = IsGoodLoad (first_address (loads image)) (length image) h
 
 good : (image : List ℕ) → IsImage image → All (GoodIn image) (loads image)
 good image is = is.segments.segments
-
-pub lawful_loads : (image : List ℕ) → IsImage image → All (IsLawful (length image)) (loads image)
-lawful_loads image is =
-    All-weaker (GoodIn image) (IsLawful (length image))
-    (λ h g. record { some_rights = g.some_rights; no_other_rights = g.no_other_rights; inside = g.inside }) (loads image) (good image is)
 
 pub parts_fit : (image : List ℕ) → IsImage image → All EndFits (map part_of (loads image))
 parts_fit image is =

@@ -3,11 +3,8 @@ pub mod Entering
 pub mod Filled
 pub mod Got
 pub mod Judged
-pub mod Links
-pub mod Listed
 pub mod Neighbours
 pub mod ObjectLines
 pub mod Rising
 pub mod Sweeps
-pub mod Tabled
 pub mod ThreadBlock

@@ -8,8 +8,8 @@ ghost use Rattle.check_link.specs.Views.{piece_view, piece_views};
 
 use crate::c03_sections::drops::{are_drops, drops_of};
 use crate::c03_sections::kinds::are_lawful_kinds;
-use crate::loaded_link::LoadedLink;
 use check_link::Piece;
+use check_stages::LoadedLink;
 use elf_model::DropLine;
 use linkmap::BorrowedPlace;
 use std::alloc::{AllocError, Global};

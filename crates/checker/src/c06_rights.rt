@@ -5,9 +5,8 @@ ghost use Rattle.elf_model.specs.Link.Placement.{HasRights, LiesInSegment};
 ghost use Rattle.elf_model.specs.Image.RightLink.{Holds};
 ghost use Rattle.elf_model.specs.declared.verdict.Clause.TheVariants as clause;
 
-use crate::placed_link::PlacedLink;
-use crate::segments::{encloses, enclosing};
 use check_link::{base_of, first_address};
+use check_stages::{PlacedLink, encloses, enclosing};
 use elf_model::{ProgramHeader, Thing};
 use loader_model::Memory;
 

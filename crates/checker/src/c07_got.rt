@@ -5,9 +5,9 @@ ghost use Rattle.checker.specs.Got.{HaveSlots, LiesInImage};
 ghost use Rattle.check_relocs.specs.Needs.{AreNeeds};
 ghost use Rattle.elf_model.specs.declared.verdict.Clause.TheVariants as clause;
 
-use crate::bound_link::BoundLink;
 use crate::c07_got::got_bytes::holds_got;
 use check_relocs::{Bindings, Needs, needs_of};
+use check_stages::BoundLink;
 use std::alloc::{AllocError, Global};
 
 mod got_bytes;

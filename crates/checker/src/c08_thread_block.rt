@@ -10,11 +10,10 @@ ghost use Rattle.checker.specs.ThreadBlock.{AreOthersClear, BeginsAfter, IsBlock
 ghost use Rattle.check_link.specs.Views.{placed_view, placed_views};
 ghost use Rattle.elf_model.specs.declared.verdict.Clause.TheVariants as clause;
 
-use crate::bound_link::BoundLink;
-use crate::segments::enclosing;
 use check_link::{
     Part, Placed, base_of, end_of, got_thing, is_thread_zero, thing_of_placed, thread_block,
 };
+use check_stages::{BoundLink, enclosing};
 use elf_model::{GotLine, PF_R, PT_TLS, ProgramHeader, Thing, TlsBlock};
 use loader_model::Memory;
 

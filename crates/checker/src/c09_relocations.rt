@@ -4,8 +4,8 @@ ghost use Rattle.elf_model.specs.Image.RightLink.{Holds, objects_of, where_of};
 ghost use Rattle.elf_model.specs.declared.verdict.Clause.TheVariants as clause;
 ghost use Rattle.check_relocs.specs.Fields.{AreRows};
 
-use crate::bound_link::BoundLink;
 use check_relocs::{Field, fields_right};
+use check_stages::BoundLink;
 use std::alloc::{AllocError, Global};
 
 /// The fields of a link's relocations by objects; None where the ninth clause doesn't hold.

@@ -9,11 +9,10 @@ ghost use Rattle.checker.specs.Comparing.{AreHeld, AreOwn, IsRowAt};
 ghost use Rattle.elf_model.specs.Image.RightLink.{HoldsBefore};
 ghost use Rattle.elf_model.specs.declared.verdict.Clause.TheVariants as clause;
 
-use crate::bound_link::BoundLink;
 use crate::same_runs::{has_long_value, has_word_value};
-use crate::segments::{same_padded, sub_part};
 use check_link::{Placed, load_size, same_inside};
 use check_relocs::{Field, part_of};
+use check_stages::{BoundLink, same_padded, sub_part};
 use loader_model::Memory;
 
 /// Whether memory holds the wanted bytes of pieces of the object that has a number, given the row of its fields. The pieces

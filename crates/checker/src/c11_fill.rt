@@ -8,11 +8,10 @@ ghost use Rattle.checker.specs.Filled.{HasZeroGaps, SegmentFilled, part_of};
 ghost use Rattle.checker.specs.Sweeps.{EndFits, RegionFilled};
 ghost use Rattle.elf_model.specs.declared.verdict.Clause.TheVariants as clause;
 
-use crate::bound_link::BoundLink;
 use crate::c11_fill::ends::{all_end_right, ends_as_told};
 use crate::c11_fill::region::{Region, is_filled};
 use crate::c11_fill::stretches::{lying_between, stretched};
-use crate::segments::{file_end, file_part};
+use check_stages::{BoundLink, file_end, file_part};
 use elf_model::{ProgramHeader, SymtabLine, Thing};
 use loader_model::Memory;
 use std::alloc::{AllocError, Global};

@@ -7,9 +7,9 @@ ghost use Rattle.check_link.specs.Views.{symbol_view};
 ghost use Rattle.elf_model.specs.Image.RightLink.{Holds};
 ghost use Rattle.elf_model.specs.declared.verdict.Clause.TheVariants as clause;
 
-use crate::bound_link::BoundLink;
 use check_link::{SymbolOf, entry_of};
 use check_relocs::Bindings;
+use check_stages::BoundLink;
 
 /// Whether the twelfth clause holds of a link.
 pub fn holds(bound: &BoundLink<'_, '_>) -> bool

@@ -10,12 +10,12 @@ ghost use Rattle.elf_model.specs.Link.Relocation.{relocations_from};
 ghost use Rattle.elf_model.specs.Image.RightLink.{Holds, HoldsBefore, objects_of, where_of};
 ghost use Rattle.elf_model.specs.declared.verdict.Clause.TheVariants as clause;
 
-use crate::bound_link::BoundLink;
 use crate::c10_bytes::holds_own;
 use crate::rising_fields::are_held_in_order;
 use check_link::Placed;
 use check_load::Loaded;
 use check_relocs::{Field, own_row};
+use check_stages::BoundLink;
 use std::alloc::{AllocError, Global};
 
 /// How far the pieces are compared: whether memory holds the wanted bytes of all so far, and the pieces that are left.

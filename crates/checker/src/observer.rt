@@ -5,12 +5,10 @@ ghost use Rattle.elf_model.specs.declared.verdict.Clause.TheVariants as clause;
 ghost use Rattle.check_load.specs.Views.{loaded_views};
 ghost use Rattle.check_relocs.specs.Fields.{AreRows};
 
-use crate::bound_link::BoundLink;
-use crate::loaded_link::LoadedLink;
-use crate::placed_link::PlacedLink;
 use check_link::Link;
 use check_load::Loaded;
 use check_relocs::Field;
+use check_stages::{BoundLink, LoadedLink, PlacedLink};
 use elf_model::Clause;
 use std::alloc::AllocError;
 

@@ -15,13 +15,13 @@ ghost use Rattle.checker.specs.Rising.{AreInOrder, AreMatched, AreRightHere, Fol
 ghost use Rattle.elf_model.specs.Link.Relocation.{relocations_from};
 ghost use Rattle.elf_model.specs.Image.RightLink.{objects_of, where_of};
 
-use crate::bound_link::BoundLink;
 use crate::c10_bytes::{has_value_at, same_between};
 use check_link::{Placed, load_size};
 use check_load::{KeptRela, KeptRelocation, Loaded};
 use check_relocs::{
     Field, KnownSymbols, Referrer, Relocated, is_some_kind, relocated, right_field, unknown_symbols,
 };
+use check_stages::BoundLink;
 use loader_model::Memory;
 use std::alloc::{AllocError, Global};
 

@@ -6,18 +6,17 @@ ghost use Rattle.elf_model.specs.declared.verdict.Clause.{Clause};
 ghost use Rattle.elf_model.specs.declared.verdict.Clause.TheVariants as clause;
 ghost use Rattle.checker.specs.Judged.{Judges};
 
-use crate::bound_link::BoundLink;
-use crate::loaded_link::LoadedLink;
 use crate::object_fields::are_held;
 use crate::observer::{Observer, Unobserved};
-use crate::placed_link::PlacedLink;
 use crate::{
     c02_loaded, c03_sections, c04_image, c05_placed, c06_rights, c07_got, c08_thread_block,
-    c09_relocations, c11_fill, c12_entry, c13_symbols, c14_tables,
+    c09_relocations, c11_fill, c12_entry,
 };
 use check_link::{Link, Outputs, Places, SlotTable, base_of, read_map, read_plan};
 use check_load::{NamedObjects, open_named};
 use check_relocs::Bindings;
+use check_stages::{BoundLink, LoadedLink, PlacedLink};
+use check_tables::{c13_symbols, c14_tables};
 use elf_model::{Clause, InputFile, NameSeed, Verdict};
 use std::alloc::{AllocError, Global};
 

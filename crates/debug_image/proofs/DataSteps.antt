@@ -2,8 +2,8 @@
 use Rattle.std.proofs.Common.{◌≡◌, ◌<◌, ℕ, List, get_or, length, subst, sym}
 use Rattle.std.specs.Prelude.{All}
 use Rattle.elf_model.proofs.Listed.{All-unmap}
-use Rattle.layout.specs.PlaceViews.{place_view, place_views}
-use Rattle.layout.specs.declared.runs.Place.{Place}
+use Rattle.placing.specs.PlaceViews.{place_view, place_views}
+use Rattle.placing.specs.declared.runs.Place.{Place}
 use Rattle.std.specs.Global.{Vec}
 use Rattle.debug_image.specs.DebugSections.{AreLow, EndsLow}
 use Rattle.debug_image.specs.DebugViews.{row_view, row_views}

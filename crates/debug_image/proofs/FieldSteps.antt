@@ -5,8 +5,8 @@ use Rattle.std.proofs.lemmas.Bool.Decides.{nat_tests}
 use Rattle.std.proofs.lemmas.List.{places}
 use borrow.Rule.Slice.PartMut.{put_mid}
 use Rattle.byteview.specs.Numbers.{le_bytes}
-use Rattle.got_tls.specs.Kinds.{kind_view}
-use Rattle.got_tls.specs.declared.kinds.Kind as code
+use Rattle.reloc_values.specs.Kinds.{kind_view}
+use Rattle.reloc_values.specs.declared.kinds.Kind as code
 use Rattle.std.proofs.Common.{get_or, take}
 use Rattle.std.specs.List.{filter_map, list_any}
 use Rattle.std.proofs.lemmas.List.Folds.{list_any-append}

@@ -8,8 +8,8 @@ use Rattle.elf_model.proofs.Listed.{All-parts, All-unmap}
 use Rattle.elf_model.specs.Link.Loading.{LoadedObject}
 use Rattle.elf_model.specs.Link.Pieces.{Piece}
 use Rattle.elf_model.specs.Link.Placement.{Placed}
-use Rattle.layout.specs.Views.{piece_view, piece_views}
-use Rattle.layout.specs.declared.pieces.Piece as code_piece
+use Rattle.placing.specs.Views.{piece_view, piece_views}
+use Rattle.placing.specs.declared.piece.Piece as code_piece
 use Rattle.search.specs.Views.{loaded_view, loaded_views}
 use Rattle.search.specs.declared.loaded.LoadedObject as code_object
 use Rattle.debug_image.specs.DebugSections.{AreFew, AreLow, EndsLow, HaveRoom, IsLow, Joined, debug_pieces, is_joined_of, joined_all, joined_from, joined_of, joined_with, place_in, places_from, replaced, rows_from, debug_rows, grown, named}

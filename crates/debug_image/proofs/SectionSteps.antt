@@ -5,8 +5,8 @@ use Rattle.std.proofs.lemmas.List.{at_drop_more, drop-map}
 use Rattle.std.proofs.lemmas.List.Elements.{All-drop}
 use Rattle.elf_model.proofs.Listed.{All-unmap}
 use Rattle.elf_model.specs.Own.OwnLayout.{placed_end}
-use Rattle.layout.specs.PlaceViews.{place_view, place_views}
-use Rattle.layout.specs.declared.runs.Place.{Place}
+use Rattle.placing.specs.PlaceViews.{place_view, place_views}
+use Rattle.placing.specs.declared.runs.Place.{Place}
 use Rattle.debug_image.specs.Sections.{Section, sections_from}
 
 -- each of some places ends low

@@ -10,7 +10,7 @@ use Rattle.elf_model.specs.Link.Relocation.{Relocation, definition_of, relocatio
 use Rattle.elf_model.specs.Link.Resolution.{SymbolOf}
 use Rattle.elf_model.specs.Link.Slots.{slots}
 use Rattle.elf_model.specs.declared.records.Rela.{Rela}
-use Rattle.layout.specs.PlaceViews.{place_view}
+use Rattle.placing.specs.PlaceViews.{place_view}
 use Rattle.layout.specs.Placements.{Basis}
 use Rattle.relocate.specs.Values.{pointer_in, where_in}
 use Rattle.search.specs.Views.{loaded_view, loaded_views}

@@ -2,8 +2,8 @@
 use Rattle.std.specs.Prelude.{List, map}
 use Rattle.std.specs.Global.{Vec}
 use Rattle.elf_model.specs.Link.Placement.{Placed}
-use Rattle.layout.specs.PlaceViews.{place_view, place_views}
-use Rattle.layout.specs.declared.runs.Place.{Place}
+use Rattle.placing.specs.PlaceViews.{place_view, place_views}
+use Rattle.placing.specs.declared.runs.Place.{Place}
 use Rattle.debug_image.specs.DebugSections as sections
 use Rattle.debug_image.specs.DebugValues as values
 use Rattle.debug_image.specs.declared.chunks.Chunk.{Chunk}

@@ -2,7 +2,7 @@
 use Rattle.std.specs.Prelude.{List, map}
 use Rattle.debug_image.specs.Sections as sections
 use Rattle.debug_image.specs.declared.sections.Section.{Section}
-use Rattle.layout.specs.PlaceViews.{place_view}
+use Rattle.placing.specs.PlaceViews.{place_view}
 
 abbrev pub section_view : Section → sections.Section
 section_view s = record { first = place_view s.first; end = s.end; align = s.align }

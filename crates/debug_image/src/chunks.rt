@@ -1,6 +1,6 @@
 //! Debug data as they stand in the file, one section behind the other.
 ghost use Rattle.std.specs.Prelude.{◌≡◌, ◌+◌, ◌≤◌, ◌^◌, ◌++◌, All, IfOk, OnOk, length};
-ghost use Rattle.layout.specs.PlaceViews.{place_view, place_views};
+ghost use Rattle.placing.specs.PlaceViews.{place_view, place_views};
 ghost use Rattle.debug_image.specs.DebugSections as spec;
 ghost use Rattle.debug_image.specs.DebugViews.{chunk_view, chunk_views, joined_view, joined_views, row_views};
 ghost use Rattle.debug_image.specs.Views.{header_view, header_views};

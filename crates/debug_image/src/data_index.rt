@@ -3,7 +3,7 @@ ghost use Rattle.std.specs.Prelude.{◌≡◌, ◌+◌, ◌++◌, ◌∷◌, [],
 ghost use Rattle.std.specs.BTreeMap.{get};
 ghost use Rattle.std.specs.Ordering.{nat_cmp};
 ghost use Rattle.elf_model.specs.Link.Placement.{Placed};
-ghost use Rattle.layout.specs.PlaceViews.{place_view, place_views};
+ghost use Rattle.placing.specs.PlaceViews.{place_view, place_views};
 ghost use Rattle.search.specs.Views.{loaded_view};
 ghost use Rattle.debug_image.specs.DataIndexes.{AreOffsets, AreRelas, HasNoRelas, IsIndex};
 

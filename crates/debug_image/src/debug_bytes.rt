@@ -3,7 +3,7 @@ ghost use Rattle.std.specs.Prelude.{◌≡◌, ◌++◌, ◌<◌, ◌&&◌, ℕ,
 ghost use Rattle.std.specs.List.{filter_map, list_any};
 ghost use Rattle.std.specs.Option.{is_none};
 ghost use Rattle.elf_model.specs.Link.Relocation.{is_some_kind};
-ghost use Rattle.layout.specs.PlaceViews.{place_view};
+ghost use Rattle.placing.specs.PlaceViews.{place_view};
 ghost use Rattle.search.specs.Views.{loaded_view};
 ghost use Rattle.debug_image.specs.DataIndexes.{listed_entries};
 ghost use Rattle.debug_image.specs.DebugLayouts.{IsDataLayout, IsHere, data_in, object_here, placed_here};

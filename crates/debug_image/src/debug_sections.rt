@@ -2,7 +2,7 @@
 ghost use Rattle.std.specs.Prelude.{◌≡◌, IfOk, option_map, unwrap_or};
 ghost use Rattle.elf_model.specs.Inputs.ObjectFile.{section, section_name, sections};
 ghost use Rattle.elf_model.specs.Link.Pieces as pieces;
-ghost use Rattle.layout.specs.Views.{piece_view, piece_views};
+ghost use Rattle.placing.specs.Views.{piece_view, piece_views};
 ghost use Rattle.search.specs.Views.{loaded_view};
 ghost use Rattle.debug_image.specs.DebugSections as spec;
 

@@ -1,6 +1,6 @@
 //! The fields of entries in debug data, and their writing.
 ghost use Rattle.std.specs.Prelude.{◌≡◌, ◌↔◌, ◌+◌, ◌*◌, ◌<◌, ◌≤◌, ◌∷◌, [], ℕ, IfSome, IsTrue, length, option_map, slice_index};
-ghost use Rattle.got_tls.specs.Kinds.{kind_view};
+ghost use Rattle.reloc_values.specs.Kinds.{kind_view};
 ghost use Rattle.debug_image.specs.DebugLayouts.{IsDataLayout, IsHere, data_in, object_here, placed_here, relocation_here};
 ghost use Rattle.debug_image.specs.DebugValues as spec;
 ghost use Rattle.debug_image.specs.DebugViews.{field_view};

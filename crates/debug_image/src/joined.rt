@@ -2,8 +2,8 @@
 ghost use Rattle.std.specs.Prelude.{◌≡◌, ◌+◌, ◌≤◌, ◌^◌, ◌++◌, ◌∷◌, [], All, IfErr, IfOk, List, OnErr, OnOk, length};
 ghost use Rattle.elf_model.specs.Link.Loading as loading;
 ghost use Rattle.elf_model.specs.Link.Placement.{round_up};
-ghost use Rattle.layout.specs.PlaceViews.{place_view, place_views};
-ghost use Rattle.layout.specs.Views.{piece_view, piece_views};
+ghost use Rattle.placing.specs.PlaceViews.{place_view, place_views};
+ghost use Rattle.placing.specs.Views.{piece_view, piece_views};
 ghost use Rattle.search.specs.Views.{loaded_view, loaded_views};
 ghost use Rattle.debug_image.specs.DataIndexes.{AreAll};
 ghost use Rattle.debug_image.specs.DebugSections as spec;

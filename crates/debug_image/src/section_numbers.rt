@@ -1,6 +1,6 @@
 //! Which section of an image a section of an object belongs to, found by what its output section is.
 ghost use Rattle.std.specs.Prelude.{◌≡◌, ◌<◌, ◌++◌, ◌∷◌, [], ℕ, IfOk, List, OnOk, length};
-ghost use Rattle.layout.specs.Views.{piece_view};
+ghost use Rattle.placing.specs.Views.{piece_view};
 ghost use Rattle.resolve.specs.OutputSections.{output_of, output_view};
 ghost use Rattle.debug_image.specs.SectionNumbers.{AreFirsts, AreNumbers};
 ghost use Rattle.debug_image.specs.Sections as spec;

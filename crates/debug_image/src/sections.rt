@@ -2,8 +2,8 @@
 ghost use Rattle.std.specs.Prelude.{◌≡◌, ◌≤◌, ◌^◌, ◌++◌, ◌∷◌, All, IfOk, List, OnOk};
 ghost use Rattle.elf_model.specs.Own.OwnLayout.{placed_end};
 ghost use Rattle.elf_model.specs.Link.Placement.{Placed};
-ghost use Rattle.layout.specs.PlaceViews.{place_view, place_views};
-ghost use Rattle.layout.specs.Views.{piece_view};
+ghost use Rattle.placing.specs.PlaceViews.{place_view, place_views};
+ghost use Rattle.placing.specs.Views.{piece_view};
 ghost use Rattle.debug_image.specs.Sections as spec;
 ghost use Rattle.debug_image.specs.Views.{header_views};
 ghost use Rattle.debug_image.specs.SectionViews.{section_view, section_views};

@@ -5,7 +5,7 @@ ghost use Rattle.std.specs.Option.{option_and_then};
 ghost use Rattle.elf_model.specs.Inputs.ObjectFile.{section, sections, symbols};
 ghost use Rattle.elf_model.specs.Link.Pieces as pieces;
 ghost use Rattle.elf_model.specs.Link.Resolution.{symbols_from};
-ghost use Rattle.layout.specs.Views.{piece_view};
+ghost use Rattle.placing.specs.Views.{piece_view};
 ghost use Rattle.resolve.specs.Blocks.{block_view};
 ghost use Rattle.resolve.specs.Views.{meaning_view, meaning_views, symbol_view};
 ghost use Rattle.search.specs.Views.{loaded_view, loaded_views};

@@ -22,8 +22,8 @@ use Rattle.elf_model.specs.Link.RelocationValues.{Fits}
 use Rattle.check_link.specs.Views.{meaning_view, placed_view}
 use Rattle.check_link.proofs.Padded.{below_or_not}
 use Rattle.check_link.specs.Slots.{request_view}
-use Rattle.checker.specs.Listed.{IsLine}
-use Rattle.checker.proofs.TableEntries.{each_line}
+use Rattle.check_tables.specs.Listed.{IsLine}
+use Rattle.check_tables.proofs.TableEntries.{each_line}
 use Rattle.checker.proofs.Filtered.{All-unfilter}
 use Rattle.explain_check.specs.LinePlaces.{IsWrongCommon, IsWrongDrop, IsWrongObject, IsWrongPlace}
 use Rattle.explain_check.specs.PlacementPlaces.{AreFar, IsNamed, IsOutside, IsPart, IsShared, IsUnaligned, IsUnheld, IsWrongFirst, is_thread_name, list_of, ordered_sections}

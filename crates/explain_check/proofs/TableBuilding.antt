@@ -8,9 +8,9 @@ use Rattle.elf_model.specs.Inputs.Records.{symbol_bytes}
 use Rattle.elf_model.specs.Image.SymbolTable.{ended, entries_from, entry_count, entry_of, name_section, symbol_section, tables}
 use Rattle.elf_model.specs.declared.records.Symbol as entry
 use Rattle.check_link.specs.Views.{held}
-use Rattle.checker.specs.Tabled.{AreAt, end_bytes, ended_names}
-use Rattle.checker.specs.declared.c14_tables.places.Places.{Places}
-use Rattle.checker.proofs.TableClause.{end_is}
+use Rattle.check_tables.specs.Tabled.{AreAt, end_bytes, ended_names}
+use Rattle.check_tables.specs.declared.c14_tables.places.Places.{Places}
+use Rattle.check_tables.proofs.TableClause.{end_is}
 use Rattle.elf_model.proofs.TableLaws.{length-symbol_section}
 use Rattle.explain_check.specs.TablePlaces.{AreBuilt, HasAdded}
 use Rattle.explain_check.specs.declared.table_bytes.TableBytes.{TableBytes}

@@ -2,7 +2,7 @@
 use Rattle.std.specs.Prelude.{◌≡◌, ℕ, ◌+◌, ◌-◌, ◌*◌, ◌<◌, ◌≤◌, List, ◌++◌, Option, None, Some, IfSome, IsSome, drop, is_some, length, map, not, option_map}
 use Rattle.std.specs.List.{flat_map, slice_get}
 use Rattle.check_link.specs.Views.{held}
-use Rattle.checker.specs.Tabled.{ended_names}
+use Rattle.check_tables.specs.Tabled.{ended_names}
 use Rattle.elf_model.specs.Link.Meaning.{Meaning, meaning_name}
 use Rattle.elf_model.specs.Image.MemoryImage.{HasNoSections, file_end, loads}
 use Rattle.elf_model.specs.Link.Placement.{Where}

@@ -7,14 +7,14 @@ ghost use Rattle.elf_model.specs.Link.Placement.{Where, round_up};
 ghost use Rattle.elf_model.specs.Inputs.Records.{section_header_bytes, symbol_bytes};
 ghost use Rattle.elf_model.specs.Image.SymbolTable.{ended, tabled};
 ghost use Rattle.check_link.specs.Views.{held};
-ghost use Rattle.checker.specs.Listed.{IsLine};
-ghost use Rattle.checker.specs.Tabled.{end_bytes};
+ghost use Rattle.check_tables.specs.Listed.{IsLine};
+ghost use Rattle.check_tables.specs.Tabled.{end_bytes};
 ghost use Rattle.explain_check.specs.TablePlaces.{AreBuilt, HasAdded};
 
 use crate::found::Added;
 use check_relocs::Bindings;
-use checker::c14_tables::entries::entry_of_line;
-use checker::c14_tables::places::{Places, headers_of};
+use check_tables::c14_tables::entries::entry_of_line;
+use check_tables::c14_tables::places::{Places, headers_of};
 use elf_model::{SHDR_SIZE, SYM_SIZE, SectionHeader, Symbol};
 use linkmap::BorrowedSymbol;
 use std::alloc::{AllocError, Global};

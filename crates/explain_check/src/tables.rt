@@ -9,17 +9,17 @@ ghost use Rattle.elf_model.specs.Image.SymbolTable as symbol_table;
 ghost use Rattle.elf_model.specs.Image.SymbolTable.{headers_at, symtab_at};
 ghost use Rattle.elf_model.specs.declared.verdict.Clause.TheVariants as clause;
 ghost use Rattle.check_link.specs.Views.{held};
-ghost use Rattle.checker.specs.Tabled.{AreAt};
+ghost use Rattle.check_tables.specs.Tabled.{AreAt};
 ghost use Rattle.explain_check.specs.Places.{AreFailures, FailsIn};
 ghost use Rattle.explain_check.specs.TablePlaces.{AreBuilt, IsEntryOf, parts_end, tail_of, wanted_tail};
 
 use crate::found::{Added, Found};
 use crate::place::{CheckPlace, Failure, TableByte, TableEntry, TablePlace};
 use crate::table_bytes::{TableBytes, table_of, tail_bytes};
+use check_stages::file_end;
+use check_tables::c14_tables::has_no_sections;
+use check_tables::c14_tables::places::{Places, eight_up, places_of};
 use checker::BoundLink;
-use checker::c14_tables::has_no_sections;
-use checker::c14_tables::places::{Places, eight_up, places_of};
-use checker::segments::file_end;
 use elf_model::{SYM_SIZE, SymtabLine};
 use std::alloc::{AllocError, Global};
 

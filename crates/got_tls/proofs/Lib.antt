@@ -2,7 +2,6 @@ pub mod AskedOnce
 pub mod Blocks
 pub mod Keys
 pub mod NoSymbols
-pub mod KindRows
 pub mod LoadedObjects
 pub mod Offsets
 pub mod SlotPlaces

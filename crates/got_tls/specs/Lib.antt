@@ -1,7 +1,6 @@
 pub mod AskedViews
 pub mod Askers
 pub mod Asking
-pub mod Kinds
 pub mod Positions
 pub mod ThreadStorage
 pub mod Views

@@ -8,10 +8,10 @@ ghost use Rattle.got_tls.specs.Askers.{IsAsker, all_asked, asking};
 ghost use Rattle.got_tls.specs.Asking.{nothing, with_relocation, with_relocations};
 ghost use Rattle.got_tls.specs.AskedViews.{wants};
 
-use crate::kinds::asked_slot;
 use crate::requests::Asker;
 use crate::slot_index::SlotIndex;
 use elf_model::Rela;
+use reloc_values::asked_slot;
 use resolve::Resolved;
 use search::{KeptRela, Loaded, LoadedObject};
 use std::alloc::{AllocError, Global};

@@ -6,7 +6,6 @@
 #![tactic(auto)]
 
 mod asked_slots;
-mod kinds;
 mod requests;
 mod slot;
 mod slot_index;
@@ -16,7 +15,7 @@ mod thread_storage;
 
 pub use asked_slots::{Asked, add_entry};
 pub use elf_model::TlsBlock;
-pub use kinds::{Formula, Kind, Range, slot_kind};
+pub use reloc_values::{Formula, Kind, Range, slot_kind};
 pub use requests::Asker;
 pub use slot::Slot;
 pub use slot_list::{slots, slots_asked};

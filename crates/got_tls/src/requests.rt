@@ -8,8 +8,8 @@ ghost use Rattle.search.specs.Views.{loaded_view};
 ghost use Rattle.got_tls.specs.Asking.{TellsOfGot};
 ghost use Rattle.got_tls.specs.Askers.{IsAsker, all_asked, asking};
 
-use crate::kinds::asks_of_got;
 use elf_model::{ObjectId, Rela, SymbolRef};
+use reloc_values::asks_of_got;
 use resolve::Resolved;
 use search::LoadedObject;
 

@@ -3,8 +3,8 @@ use Rattle.std.proofs.Common.{◌≡◌, ℕ, ◌+◌, ◌<◌, ◌≤◌, Bool,
 use Rattle.elf_model.specs.Link.Loading.{LoadedObject}
 use Rattle.elf_model.specs.Own.OwnLayout.{placed_end}
 use Rattle.elf_model.specs.Link.Placement.{Placed, Where}
-use Rattle.layout.specs.PlaceViews.{place_view, place_views}
-use Rattle.layout.specs.declared.runs.Place.{Place}
+use Rattle.placing.specs.PlaceViews.{place_view, place_views}
+use Rattle.placing.specs.declared.runs.Place.{Place}
 use Rattle.elf_model.proofs.Rests.{rest_at}
 use Rattle.image_write.specs.Parts.{Rise, body_from, bytes_of, fill_run, is_written}
 use Rattle.image_write.specs.declared.fill_bytes.Code.{Code}

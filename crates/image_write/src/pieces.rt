@@ -2,8 +2,8 @@
 ghost use Rattle.std.specs.Prelude.{◌≡◌, ◌+◌, ◌-◌, ◌<◌, ◌≤◌, ◌^◌, IfOk, OnErr, drop, false, length, take};
 ghost use Rattle.elf_model.specs.Own.ImageFile.{is_got_piece};
 ghost use Rattle.elf_model.specs.Own.OwnLayout.{own_where};
-ghost use Rattle.layout.specs.PlaceViews.{place_view, place_views};
-ghost use Rattle.layout.specs.Views.{piece_view};
+ghost use Rattle.placing.specs.PlaceViews.{place_view, place_views};
+ghost use Rattle.placing.specs.Views.{piece_view};
 ghost use Rattle.image_write.specs.Parts.{AreContents, AreFilled, HasContents, Rise, all_body, all_bytes, bytes_of, is_written};
 ghost use Rattle.image_write.specs.Sections.{IsOfSection, wanted_run};
 ghost use Rattle.image_write.specs.Streams.{Breaks, Grows, Puts, stream};

@@ -14,7 +14,7 @@ use Rattle.elf_model.proofs.PieceAlignments.{alignments-each}
 use Rattle.elf_model.proofs.PieceNumbers.{got_pieces-each}
 use Rattle.elf_model.proofs.Places.{some_alignment}
 use Rattle.elf_model.specs.Link.ThreadStorage.{alignment_of}
-use Rattle.layout.specs.Limits.{AreAligned, HasSmallAlignment}
+use Rattle.placing.specs.Limits.{AreAligned, HasSmallAlignment}
 use Rattle.layout.specs.Orders.{plain_pieces}
 
 abbrev IsSmall : ℕ → Type 0

@@ -16,8 +16,8 @@ use Rattle.elf_model.specs.Link.Pieces.{Piece}
 use Rattle.elf_model.proofs.ArrayOrder.{by_stable_sort, map_by_rank, one_rank}
 use Rattle.elf_model.proofs.DecimalDigits.{digit_step, own}
 use Rattle.layout.specs.Arrays.{has_number}
-use Rattle.layout.specs.Views.{borrowed_view, borrowed_views}
-use Rattle.layout.specs.declared.pieces.Piece as code
+use Rattle.placing.specs.Views.{borrowed_view, borrowed_views}
+use Rattle.placing.specs.declared.piece.Piece as code
 
 digits_all : (ds : List ℕ) → list_all is_ascii_digit ds ≡ all_ascii_digits ds
 digits_all [] = refl

@@ -7,9 +7,9 @@ use Rattle.elf_model.specs.Image.MemoryImage.{file_end}
 use Rattle.elf_model.specs.Own.OwnLayout.{greatest_end, is_nonempty, placed_end}
 use Rattle.elf_model.specs.Link.Placement.{Placed}
 use Rattle.elf_model.specs.declared.records.ProgramHeader.{ProgramHeader}
-use Rattle.layout.specs.Limits.{IsShort}
-use Rattle.layout.specs.PlaceViews.{place_view, place_views}
-use Rattle.layout.specs.declared.runs.Place.{Place}
+use Rattle.placing.specs.Limits.{IsShort}
+use Rattle.placing.specs.PlaceViews.{place_view, place_views}
+use Rattle.placing.specs.declared.runs.Place.{Place}
 use Rattle.elf_model.proofs.Rests.{rest_at}
 
 max_turn : (a b c : ℕ) → max a (max b c) ≡ max b (max a c)

@@ -11,8 +11,8 @@ use Rattle.elf_model.specs.Link.Placement.{Placed, is_of_section}
 use Rattle.search.specs.Views.{loaded_views}
 use Rattle.search.specs.declared.loaded.LoadedObject as code
 use Rattle.layout.specs.Addresses.{HasEntry, entry, entry_in, section_counts, shape_of, told}
-use Rattle.layout.specs.PlaceViews.{place_view, place_views}
-use Rattle.layout.specs.declared.runs.Place.{Place}
+use Rattle.placing.specs.PlaceViews.{place_view, place_views}
+use Rattle.placing.specs.declared.runs.Place.{Place}
 use Rattle.elf_model.proofs.Rests.{rest_at}
 
 -- a list with one element written

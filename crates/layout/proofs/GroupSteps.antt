@@ -14,8 +14,8 @@ use Rattle.resolve.specs.OutputSections.{AreOutputsOf, Output, output_at, output
 use Rattle.resolve.specs.declared.output_sections.OutputSection.{OutputSection}
 use Rattle.resolve.proofs.OutputSteps.{same_output_of}
 use Rattle.layout.specs.Groups.{group, group_views, put_at}
-use Rattle.layout.specs.Views.{borrowed_view, borrowed_views}
-use Rattle.layout.specs.declared.pieces.Piece.{Piece}
+use Rattle.placing.specs.Views.{borrowed_view, borrowed_views}
+use Rattle.placing.specs.declared.piece.Piece.{Piece}
 use Rattle.layout.proofs.Leading.{put_at_leader}
 
 -- one more piece in a group

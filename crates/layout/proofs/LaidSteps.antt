@@ -10,14 +10,14 @@ use Rattle.elf_model.specs.Link.Placement.{Placed, round_up}
 use Rattle.elf_model.specs.Link.ThreadStorage.{alignment_of}
 use Rattle.elf_model.proofs.ThreadPlaces.{own_data_parts, own_initial, own_plain}
 use Rattle.layout.specs.Laid.{plain_start}
-use Rattle.layout.specs.Limits.{AreInLimit, IsInLimit, RunFails}
+use Rattle.placing.specs.Limits.{AreInLimit, IsInLimit, RunFails}
 use Rattle.layout.specs.Orders.{plain_pieces}
-use Rattle.layout.specs.PlaceViews.{place_view, place_views}
-use Rattle.layout.specs.Views.{borrowed_views}
-use Rattle.layout.specs.declared.faults.LayoutFault.{LayoutFault}
-use Rattle.layout.specs.declared.faults.LayoutFault.TheVariants as error
-use Rattle.layout.specs.declared.pieces.Piece as code
-use Rattle.layout.specs.declared.runs.Place.{Place}
+use Rattle.placing.specs.PlaceViews.{place_view, place_views}
+use Rattle.placing.specs.Views.{borrowed_views}
+use Rattle.placing.specs.declared.faults.LayoutFault.{LayoutFault}
+use Rattle.placing.specs.declared.faults.LayoutFault.TheVariants as error
+use Rattle.placing.specs.declared.piece.Piece as code
+use Rattle.placing.specs.declared.runs.Place.{Place}
 
 drop_front : {X : Type 0} (xs ys : List X) (n : ℕ) → n ≡ length xs → drop n (xs ++ ys) ≡ ys
 drop_front [] ys n e = ap (λ (k : ℕ). drop k ys) e

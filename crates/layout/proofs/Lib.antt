@@ -18,5 +18,4 @@ pub mod OwnThreads
 pub mod PieceEntries
 pub mod PlaceSteps
 pub mod PartSteps
-pub mod RunSteps
 pub mod ThreadSteps

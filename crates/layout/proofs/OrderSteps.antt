@@ -10,10 +10,10 @@ use Rattle.elf_model.specs.Link.Pieces.{kept_sections}
 use Rattle.layout.specs.Groups.{AreGathered, part_test, parts}
 use Rattle.layout.specs.Orders.{data_in, plain_pieces}
 use Rattle.layout.specs.PieceLists.{ArePieces, if_sized}
-use Rattle.layout.specs.Views.{piece_view, piece_views}
+use Rattle.placing.specs.Views.{piece_view, piece_views}
 use Rattle.layout.specs.declared.output_sections.Part.{Part}
 use Rattle.layout.specs.declared.output_sections.Part.TheVariants as part
-use Rattle.layout.specs.declared.pieces.Piece.{Piece}
+use Rattle.placing.specs.declared.piece.Piece.{Piece}
 use Rattle.layout.specs.declared.pieces.Pieces.{Pieces}
 use Rattle.layout.proofs.PartSteps.{parts_grouped}
 

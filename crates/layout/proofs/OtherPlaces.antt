@@ -6,8 +6,8 @@ use Rattle.elf_model.proofs.Rests.{rest_at}
 use Rattle.elf_model.specs.Link.LinkerValues.{end_of_pieces, least_of, start_of_pieces}
 use Rattle.elf_model.specs.Link.Pieces.{Piece}
 use Rattle.elf_model.specs.Link.Placement.{Placed}
-use Rattle.layout.specs.PlaceViews.{place_view, place_views}
-use Rattle.layout.specs.declared.runs.Place.{Place}
+use Rattle.placing.specs.PlaceViews.{place_view, place_views}
+use Rattle.placing.specs.declared.runs.Place.{Place}
 
 -- the places that are left from a number on, and pass
 abbrev pub passing : (Placed → Bool) → List Place → ℕ → List Placed

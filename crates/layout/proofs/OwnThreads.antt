@@ -21,9 +21,9 @@ use Rattle.elf_model.proofs.OwnOrder.{from_own_order, is_laid_out, own_order, to
 use Rattle.elf_model.proofs.PieceNumbers.{got_pieces-each}
 use Rattle.elf_model.proofs.Places.{All-ordered, InCode, InData, InReadOnly, InThreadRest, at_own_address, initial_aligned, own_code_within, own_data_within, own_placed_pieces, own_read_only_within, own_starts, own_thread_rest_within, some_alignment, thread_start_high}
 use Rattle.elf_model.proofs.Running.{end_of-ge}
-use Rattle.layout.specs.PlaceViews.{place_view, place_views}
+use Rattle.placing.specs.PlaceViews.{place_view, place_views}
 use Rattle.layout.specs.Threads.{block_of, header_in, placed_alignment}
-use Rattle.layout.specs.declared.runs.Place.{Place}
+use Rattle.placing.specs.declared.runs.Place.{Place}
 use Rattle.layout.proofs.OwnBounds.{started, without_got}
 
 -- the places that memory has room for stand first

@@ -15,10 +15,10 @@ use Rattle.elf_model.specs.Link.Pieces.{same_output}
 use Rattle.elf_model.proofs.Grouped.{group_of_filter}
 use Rattle.elf_model.proofs.SameOutput.{IsOfOutput, is_code-of_output, is_data-of_output, is_initial-of_output, is_read_only-of_output, is_thread_rest-of_output, is_zero-of_output}
 use Rattle.layout.specs.Groups.{AreGathered, group, group_part, part_test, parts}
-use Rattle.layout.specs.Views.{borrowed_view, borrowed_views}
+use Rattle.placing.specs.Views.{borrowed_view, borrowed_views}
 use Rattle.layout.specs.declared.output_sections.Part.{Part}
 use Rattle.layout.specs.declared.output_sections.Part.TheVariants as part
-use Rattle.layout.specs.declared.pieces.Piece.{Piece}
+use Rattle.placing.specs.declared.piece.Piece.{Piece}
 
 -- two filters may change places
 filters_turned : {X : Type 0} (s t : X → Bool) (xs : List X) → filter s (filter t xs) ≡ filter t (filter s xs)

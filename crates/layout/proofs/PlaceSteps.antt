@@ -5,8 +5,8 @@ use Rattle.std.proofs.lemmas.List.{drop_all}
 use Rattle.elf_model.specs.Link.LinkerValues.{end_of_pieces, start_of_pieces}
 use Rattle.elf_model.specs.Link.Pieces as pieces
 use Rattle.elf_model.proofs.PieceBounds.{earlier, either_least, either_none, end_more, further, start_more}
-use Rattle.layout.specs.PlaceViews.{place_view}
-use Rattle.layout.specs.declared.runs.Place.{Place}
+use Rattle.placing.specs.PlaceViews.{place_view}
+use Rattle.placing.specs.declared.runs.Place.{Place}
 
 pub end_step :
     (test : pieces.Piece → Bool) (xs : List Place) (i : ℕ) (d : Place) (old new whole : ℕ) → i < length xs →

@@ -11,8 +11,8 @@ use Rattle.elf_model.specs.Link.Placement.{Placed}
 use Rattle.elf_model.specs.Link.ThreadStorage.{alignment_of}
 use Rattle.elf_model.proofs.Rests.{rest_at}
 use Rattle.layout.specs.Threads.{wider}
-use Rattle.layout.specs.Views.{piece_view, piece_views}
-use Rattle.layout.specs.declared.pieces.Piece as code
+use Rattle.placing.specs.Views.{piece_view, piece_views}
+use Rattle.placing.specs.declared.piece.Piece as code
 
 or_assoc : (a b c : Bool) → ((a || b) || c) ≡ (a || (b || c))
 or_assoc true b c = refl

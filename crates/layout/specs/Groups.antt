@@ -7,10 +7,10 @@ use Rattle.elf_model.specs.Link.ArrayOrder.{in_array_order}
 use Rattle.elf_model.specs.Own.OwnLayout.{is_code, is_data, is_initial, is_read_only, is_thread_rest, is_zero, leaders}
 use Rattle.elf_model.specs.Link.Pieces as pieces
 use Rattle.elf_model.specs.Link.Pieces.{same_output}
-use Rattle.layout.specs.Views.{borrowed_views}
+use Rattle.placing.specs.Views.{borrowed_views}
 use Rattle.layout.specs.declared.output_sections.Part.{Part}
 use Rattle.layout.specs.declared.output_sections.Part.TheVariants as part
-use Rattle.layout.specs.declared.pieces.Piece.{Piece}
+use Rattle.placing.specs.declared.piece.Piece.{Piece}
 
 -- the pieces of a part of the own order
 abbrev pub part_test : Part → pieces.Piece → Bool

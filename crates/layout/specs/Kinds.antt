@@ -5,8 +5,8 @@ use Rattle.elf_model.specs.Inputs.ObjectFile.{section, sections}
 use Rattle.elf_model.specs.Link.Pieces.{AreLawfulKinds, IsLawfulKind, is_kept}
 use Rattle.elf_model.specs.declared.records.SectionHeader.{SectionHeader}
 use Rattle.search.specs.KeptLists.{kept_numbers}
-use Rattle.layout.specs.declared.faults.LayoutFault.{LayoutFault}
-use Rattle.layout.specs.declared.faults.LayoutFault.TheVariants as error
+use Rattle.placing.specs.declared.faults.LayoutFault.{LayoutFault}
+use Rattle.placing.specs.declared.faults.LayoutFault.TheVariants as error
 
 -- PROGBITS, NOTE, NOBITS, INIT_ARRAY, FINI_ARRAY, PREINIT_ARRAY, X86_64_UNWIND
 abbrev pub lawful_types : List ℕ

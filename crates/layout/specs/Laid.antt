@@ -3,11 +3,11 @@ use Rattle.std.specs.Prelude.{◌≡◌, ℕ, List, [], ◌∷◌, length}
 use Rattle.elf_model.specs.Link.Loading.{LoadedObject}
 use Rattle.elf_model.specs.Own.OwnLayout.{IsNotTooLarge, code_start, data_start, own_code, own_data, own_loaded, own_placed, own_read_only, own_segments, read_only_start, segment}
 use Rattle.elf_model.specs.Link.Pieces.{Piece}
-use Rattle.layout.specs.Limits.{AreInLimit}
-use Rattle.layout.specs.PlaceViews.{place_views}
+use Rattle.placing.specs.Limits.{AreInLimit}
+use Rattle.placing.specs.PlaceViews.{place_views}
 use Rattle.layout.specs.Threads.{header_in}
-use Rattle.layout.specs.declared.faults.LayoutFault.{LayoutFault}
-use Rattle.layout.specs.declared.faults.LayoutFault.TheVariants as error
+use Rattle.placing.specs.declared.faults.LayoutFault.{LayoutFault}
+use Rattle.placing.specs.declared.faults.LayoutFault.TheVariants as error
 use Rattle.layout.specs.declared.placed_pieces.Laid.{Laid}
 use Rattle.layout.specs.declared.placed_pieces.Layout.{Layout}
 

@@ -3,13 +3,10 @@ pub mod Arrays
 pub mod Groups
 pub mod Kinds
 pub mod Laid
-pub mod Limits
 pub mod Mixed
 pub mod Orders
 pub mod PieceLists
 pub mod PieceParts
-pub mod PlaceViews
 pub mod Placements
 pub mod Tables
 pub mod Threads
-pub mod Views

@@ -10,10 +10,10 @@ use Rattle.elf_model.specs.Link.ThreadStorage.{alignment_of}
 use Rattle.search.specs.Views.{loaded_views}
 use Rattle.layout.specs.Groups.{parts}
 use Rattle.layout.specs.PieceLists.{if_sized}
-use Rattle.layout.specs.Views.{borrowed_views, piece_view, piece_views}
+use Rattle.placing.specs.Views.{borrowed_views, piece_view, piece_views}
 use Rattle.layout.specs.declared.order.Order.{Order}
 use Rattle.layout.specs.declared.output_sections.Part.TheVariants as part
-use Rattle.layout.specs.declared.pieces.Piece as code
+use Rattle.placing.specs.declared.piece.Piece as code
 use Rattle.layout.specs.declared.pieces.Pieces.{Pieces}
 
 -- the objects of which it is

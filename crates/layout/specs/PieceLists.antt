@@ -4,7 +4,7 @@ use Rattle.elf_model.specs.Link.Commons.{block_piece, blocks}
 use Rattle.elf_model.specs.Link.Loading.{LoadedObject}
 use Rattle.elf_model.specs.Own.OwnLayout.{got_header, got_pieces}
 use Rattle.elf_model.specs.Link.Pieces.{Piece, kept_sections}
-use Rattle.layout.specs.Views.{piece_view, piece_views}
+use Rattle.placing.specs.Views.{piece_view, piece_views}
 use Rattle.layout.specs.declared.pieces.Pieces.{Pieces}
 
 -- the GOT as a piece, with its number and its size

@@ -7,7 +7,7 @@ use Rattle.elf_model.specs.Link.Loading.{LoadedObject}
 use Rattle.resolve.specs.Blocks.{block_in}
 use Rattle.resolve.specs.declared.blocks.Block.{Block}
 use Rattle.layout.specs.Placements.{IsPlacement}
-use Rattle.layout.specs.PlaceViews.{place_views}
+use Rattle.placing.specs.PlaceViews.{place_views}
 use Rattle.layout.specs.declared.placement.Tables.{Tables}
 
 abbrev pub AreTables : ℕ → List LoadedObject → Tables → Type 0

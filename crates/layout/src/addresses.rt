@@ -3,9 +3,9 @@ ghost use Rattle.std.specs.Prelude.{◌≡◌, ◌<◌, ◌++◌, ◌∷◌, ℕ
 ghost use Rattle.elf_model.specs.Link.Placement.{is_of_section};
 ghost use Rattle.search.specs.Views.{loaded_views};
 ghost use Rattle.layout.specs.Addresses.{HasEntry, HasPlace, entry, piece_counts, shape_of, told};
-ghost use Rattle.layout.specs.PlaceViews.{place_view, place_views};
+ghost use Rattle.placing.specs.PlaceViews.{place_view, place_views};
 
-use crate::runs::Place;
+use placing::Place;
 use search::LoadedObject;
 use std::alloc::{AllocError, Global};
 

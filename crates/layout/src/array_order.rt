@@ -5,9 +5,9 @@ ghost use Rattle.std.specs.List.{list_all, list_any};
 ghost use Rattle.std.specs.Str.Parse.{digits_value};
 ghost use Rattle.elf_model.specs.Link.ArrayOrder as order;
 ghost use Rattle.layout.specs.Arrays.{has_number};
-ghost use Rattle.layout.specs.Views.{borrowed_views, piece_view};
+ghost use Rattle.placing.specs.Views.{borrowed_views, piece_view};
 
-use crate::pieces::Piece;
+use placing::Piece;
 use resolve::second_byte;
 use std::alloc::{AllocError, Global};
 

@@ -6,14 +6,13 @@ ghost use Rattle.std.specs.Option.{option_map_or};
 ghost use Rattle.elf_model.specs.Link.LinkerValues.{end_of_pieces, is_code_piece, is_file_data, is_loaded_piece, is_zero_data, least_of, start_of_pieces};
 ghost use Rattle.elf_model.proofs.PieceBounds.{earlier, further};
 ghost use Rattle.elf_model.specs.Link.Pieces.{is_of_output};
-ghost use Rattle.layout.specs.Limits.{AreInLimit, IsInLimit};
+ghost use Rattle.placing.specs.Limits.{AreInLimit, IsInLimit};
 ghost use Rattle.layout.specs.PieceParts.{AreBounds, AreExtents, IsLast, bound_at, end_in, end_with, extent_in, extent_with, is_nonempty_thread_data, is_other, part_test, start_in, start_with};
-ghost use Rattle.layout.specs.PlaceViews.{place_view, place_views};
-ghost use Rattle.layout.specs.Views.{piece_view};
+ghost use Rattle.placing.specs.PlaceViews.{place_view, place_views};
+ghost use Rattle.placing.specs.Views.{piece_view};
 
-use crate::pieces::Piece;
-use crate::runs::Place;
 use elf_model::{Bound, SectionHeader};
+use placing::{Piece, Place};
 use resolve::{named_output, output_name};
 use std::alloc::{AllocError, Global};
 use std::collections::BTreeMap;

@@ -7,7 +7,6 @@
 mod addresses;
 mod array_order;
 mod bounds;
-mod faults;
 mod got_size;
 mod mixed_outputs;
 mod order;
@@ -15,15 +14,12 @@ mod output_sections;
 mod pieces;
 mod placed_pieces;
 mod placement;
-mod runs;
 mod section_kinds;
 mod segments;
 mod threads;
 
-pub use faults::LayoutFault;
 pub use got_size::GotSize;
 pub use mixed_outputs::mixed_names;
-pub use pieces::Piece;
 pub use placement::{Placement, place};
-pub use runs::Place;
+pub use placing::{LayoutFault, Piece, Place};
 pub use section_kinds::{is_lawful_if_kept, kinds};

@@ -6,12 +6,13 @@ ghost use Rattle.search.specs.Views.{loaded_views};
 ghost use Rattle.resolve.specs.OutputSections.{AreOutputSections};
 ghost use Rattle.layout.specs.Orders.{IsOrder, data_in, objects_of};
 ghost use Rattle.layout.specs.PieceLists.{ArePieces, if_sized};
-ghost use Rattle.layout.specs.Views.{borrowed_views, piece_view, piece_views};
+ghost use Rattle.placing.specs.Views.{borrowed_views, piece_view, piece_views};
 
 use crate::output_sections::{Part, add_part, groups_of, part_of};
-use crate::pieces::{Piece, Pieces};
+use crate::pieces::Pieces;
 use crate::segments::any_nonempty;
 use crate::threads::threads_of;
+use placing::Piece;
 use resolve::OutputSections;
 use search::LoadedObject;
 use std::alloc::{AllocError, Global};

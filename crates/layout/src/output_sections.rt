@@ -3,10 +3,10 @@
 ghost use Rattle.std.specs.Prelude.{◌≡◌, ◌<◌, ◌++◌, [], IfOk, OnOk, length, replicate};
 ghost use Rattle.resolve.specs.OutputSections.{AreOutputsOf};
 ghost use Rattle.layout.specs.Groups.{AreGathered, group_part, group_views, part_test, parts, put_at};
-ghost use Rattle.layout.specs.Views.{borrowed_views, piece_view, piece_views};
+ghost use Rattle.placing.specs.Views.{borrowed_views, piece_view, piece_views};
 
 use crate::array_order::{any_numbered, sorted_by_rank};
-use crate::pieces::Piece;
+use placing::Piece;
 use resolve::OutputSections;
 use std::alloc::{AllocError, Global};
 

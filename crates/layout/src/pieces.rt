@@ -9,25 +9,14 @@ ghost use Rattle.elf_model.specs.Link.Slots as slots;
 ghost use Rattle.search.specs.Views.{loaded_view, loaded_views};
 ghost use Rattle.resolve.specs.Blocks.{block_view, block_views};
 ghost use Rattle.layout.specs.PieceLists.{ArePieces, got_as};
-ghost use Rattle.layout.specs.Views.{piece_view, piece_views};
+ghost use Rattle.placing.specs.Views.{piece_view, piece_views};
 
 use elf_model::{SHF_ALLOC, SHF_WRITE, SHT_NOBITS, SHT_PROGBITS, SectionHeader};
 use elf_read::ObjectFile;
+use placing::Piece;
 use resolve::Block;
 use search::LoadedObject;
 use std::alloc::{AllocError, Global};
-
-/// A kept section of a loaded object: its object's and its own number, its header, its name and its input
-/// bytes (none for NOBITS). Or a common block, which has the header of a section without bytes that may be written. Or
-/// the GOT, which has that of one with bytes; what these are isn't known here.
-#[derive(Clone, Copy, Debug)]
-pub struct Piece<'a> {
-    pub object: u64,
-    pub section: u64,
-    pub header: SectionHeader,
-    pub name: &'a [u8],
-    pub bytes: &'a [u8],
-}
 
 /// All pieces of objects: the kept sections in load order, the GOT, which is one where it has a size, and the common
 /// blocks.

@@ -6,19 +6,17 @@ ghost use Rattle.elf_model.specs.Own.OwnLayout as own;
 ghost use Rattle.elf_model.specs.Own.OwnLayout.{IsNotTooLarge, own_placed, own_segments, placed_from};
 ghost use Rattle.elf_model.specs.Link.Resolution.{AreSoundCommons};
 ghost use Rattle.layout.specs.Laid.{IsLaid, IsLayout, LayoutFails, plain_start};
-ghost use Rattle.layout.specs.Limits.{AreAligned, AreInLimit, RunFails};
+ghost use Rattle.placing.specs.Limits.{AreAligned, AreInLimit, RunFails};
 ghost use Rattle.layout.specs.Orders.{IsOrder, objects_of};
-ghost use Rattle.layout.specs.PlaceViews.{place_views};
+ghost use Rattle.placing.specs.PlaceViews.{place_views};
 ghost use Rattle.layout.specs.Threads.{header_in};
-ghost use Rattle.layout.specs.Views.{borrowed_views};
+ghost use Rattle.placing.specs.Views.{borrowed_views};
 
-use crate::faults::LayoutFault;
 use crate::order::{Order, any_writable, headers_size};
-use crate::pieces::Piece;
-use crate::runs::{ADDRESS_LIMIT, Place, page_up, place_run, round_up};
 use crate::segments::{any_nonempty, are_short, segment_of};
 use crate::threads::thread_header;
 use elf_model::{PF_R, PF_W, PF_X, ProgramHeader};
+use placing::{ADDRESS_LIMIT, LayoutFault, Piece, Place, page_up, place_run, round_up};
 use std::alloc::{AllocError, Global};
 
 /// Where the pieces of a segment end, and the segment itself.

@@ -5,11 +5,11 @@ ghost use Rattle.elf_model.specs.Link.Pieces.{AreLawfulKinds, IsLawfulKind};
 ghost use Rattle.search.specs.Views.{loaded_view, loaded_views};
 ghost use Rattle.layout.specs.Kinds.{HasLawfulKinds, IsLawfulIfKept, KindsFail, lawful_types};
 
-use crate::faults::LayoutFault;
 use elf_model::{
     SHT_FINI_ARRAY, SHT_INIT_ARRAY, SHT_NOBITS, SHT_NOTE, SHT_PREINIT_ARRAY, SHT_PROGBITS,
     SHT_X86_64_UNWIND, SectionHeader,
 };
+use placing::LayoutFault;
 use search::{Loaded, LoadedObject};
 
 /// The flags that a kept section may have: WRITE, ALLOC, EXECINSTR, MERGE, STRINGS, INFO_LINK, GROUP and TLS.

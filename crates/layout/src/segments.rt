@@ -4,13 +4,12 @@ ghost use Rattle.std.specs.List.{list_any};
 ghost use Rattle.elf_model.specs.Image.MemoryImage as memory;
 ghost use Rattle.elf_model.specs.Own.OwnLayout as own;
 ghost use Rattle.elf_model.specs.Own.OwnLayout.{any_placed, greatest_end, is_nonempty, placed_has_bytes};
-ghost use Rattle.layout.specs.Limits.{AreInLimit, IsInLimit, IsShort};
-ghost use Rattle.layout.specs.PlaceViews.{place_view, place_views};
-ghost use Rattle.layout.specs.Views.{borrowed_views, piece_view};
+ghost use Rattle.placing.specs.Limits.{AreInLimit, IsInLimit, IsShort};
+ghost use Rattle.placing.specs.PlaceViews.{place_view, place_views};
+ghost use Rattle.placing.specs.Views.{borrowed_views, piece_view};
 
-use crate::pieces::Piece;
-use crate::runs::{PAGE, Place};
 use elf_model::{PT_LOAD, ProgramHeader};
+use placing::{PAGE, Piece, Place};
 
 /// Where the pieces of a segment end in memory, and where those do that have bytes in the file.
 #[derive(Clone, Copy, Debug)]

@@ -3,15 +3,14 @@ ghost use Rattle.std.specs.Prelude.{◌≡◌, ◌≤◌, ◌||◌, All};
 ghost use Rattle.std.specs.List.{list_any};
 ghost use Rattle.elf_model.specs.Link.Pieces.{is_thread_piece};
 ghost use Rattle.elf_model.specs.Link.ThreadStorage.{alignment_of};
-ghost use Rattle.layout.specs.Limits.{AreInLimit};
-ghost use Rattle.layout.specs.PlaceViews.{place_views};
+ghost use Rattle.placing.specs.Limits.{AreInLimit};
+ghost use Rattle.placing.specs.PlaceViews.{place_views};
 ghost use Rattle.layout.specs.Threads.{block_of, header_in, placed_alignment, wider};
-ghost use Rattle.layout.specs.Views.{piece_view, piece_views};
+ghost use Rattle.placing.specs.Views.{piece_view, piece_views};
 
 use crate::bounds::{Bounded, end_of, start_of};
-use crate::pieces::Piece;
-use crate::runs::Place;
 use elf_model::{PF_R, PT_TLS, ProgramHeader, TlsBlock};
+use placing::{Piece, Place};
 
 /// The greatest alignment of the thread-local ones among pieces, 1 without any; and whether there are any.
 #[derive(Clone, Copy, Debug)]

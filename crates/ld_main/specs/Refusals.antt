@@ -3,8 +3,8 @@ use Rattle.elf_model.specs.declared.faults.CmdFault.{CmdFault}
 use Rattle.elf_model.specs.declared.faults.CmdFault.TheVariants as command
 use Rattle.elf_model.specs.declared.faults.LinkError.{LinkError}
 use Rattle.elf_model.specs.declared.faults.LinkError.TheVariants as error
-use Rattle.layout.specs.declared.faults.LayoutFault.{LayoutFault}
-use Rattle.layout.specs.declared.faults.LayoutFault.TheVariants as layout
+use Rattle.placing.specs.declared.faults.LayoutFault.{LayoutFault}
+use Rattle.placing.specs.declared.faults.LayoutFault.TheVariants as layout
 use Rattle.relocate.specs.declared.faults.RelocFault.{RelocFault}
 use Rattle.relocate.specs.declared.faults.RelocFault.TheVariants as reloc
 use Rattle.resolve.specs.declared.faults.ResolveFault.{ResolveFault}

@@ -6,13 +6,9 @@ pub mod RelaOrders
 mod FieldRuns
 pub mod ObjectFields
 pub mod ObjectRows
-pub mod Overlaid
 pub mod OwnParts
-pub mod RisingRows
-pub mod Searched
 pub mod Rows
 pub mod RowSteps
-pub mod ThreadSums
 pub mod Wanted
 pub mod WantedParts
 pub mod LinkerMeanings

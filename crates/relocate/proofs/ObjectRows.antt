@@ -16,13 +16,13 @@ use Rattle.relocate.specs.declared.faults.RelocFault.{RelocFault}
 use Rattle.relocate.specs.declared.faults.RelocFault.TheVariants as error
 use Rattle.layout.specs.Placements.{Basis}
 use Rattle.relocate.proofs.OwnParts.{IsPart, all_own, found_own, none_of_others, numbered, own_part, pairs_own}
-use Rattle.relocate.proofs.RisingRows.{none_rise, rises}
-use Rattle.relocate.proofs.Searched.{find-moved}
+use Rattle.reloc_values.proofs.RisingRows.{none_rise, rises}
+use Rattle.reloc_values.proofs.Searched.{find-moved}
 use Rattle.relocate.proofs.Wanted.{patch_found, patches_apart, patches_narrow}
-use Rattle.relocate.specs.Patches.{AreDisjoint, IsPatchRow, IsRising, covers}
+use Rattle.reloc_values.specs.Patches.{AreDisjoint, IsPatchRow, IsRising, covers}
 use Rattle.relocate.specs.Values.{ArePatchRows, ArePatches, FittingFails, HasFields, ValuesFail, patch_of, patches_in, where_in, row_at, row_in}
 use Rattle.relocate.specs.declared.object_rows.ObjectPatches.{ObjectPatches}
-use Rattle.relocate.specs.declared.patch.Patch.{Patch}
+use Rattle.reloc_values.specs.declared.patch.Patch.{Patch}
 
 -- the rows of the first n objects
 pub record AreFirstRows (objects : List LoadedObject) (w : Where) (n : ℕ) (rows : List ObjectPatches) : Type 0 where

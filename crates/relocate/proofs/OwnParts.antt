@@ -14,7 +14,7 @@ use Rattle.elf_model.proofs.Found.{or_none}
 use Rattle.elf_model.proofs.Listed.{All-parts}
 use Rattle.elf_model.proofs.Pairs.{AllPairs-parts}
 use Rattle.elf_model.proofs.RelocationFields.{in_field, later_objects, own_object}
-use Rattle.relocate.proofs.Searched.{find-nowhere}
+use Rattle.reloc_values.proofs.Searched.{find-nowhere}
 
 -- a part of the relocations, all others being of objects with other numbers than k
 pub record IsPart (k : ℕ) (own whole : List Relocation) : Type 0 where

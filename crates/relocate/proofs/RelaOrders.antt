@@ -22,7 +22,7 @@ use Rattle.search.specs.declared.kept_lists.KeptRela.{KeptRela}
 use Rattle.relocate.proofs.Rows.{own_section, patches_append, patches_elsewhere, patches_here}
 use Rattle.relocate.specs.RelaOrders.{target_of}
 use Rattle.relocate.specs.Values.{patch_of, patches_in}
-use Rattle.relocate.specs.declared.patch.Patch.{Patch}
+use Rattle.reloc_values.specs.declared.patch.Patch.{Patch}
 
 -- By their targets.
 

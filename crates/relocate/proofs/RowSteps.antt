@@ -10,10 +10,10 @@ use Rattle.elf_model.specs.Link.Placement.{Where}
 use Rattle.elf_model.specs.Link.Relocation.{Relocation}
 use Rattle.relocate.proofs.Rows.{patches_append, patches_elsewhere, patches_here}
 use Rattle.relocate.specs.ObjectRows.{HasOrderedRow, HasRows}
-use Rattle.relocate.specs.Patches.{IsPatchRow}
+use Rattle.reloc_values.specs.Patches.{IsPatchRow}
 use Rattle.relocate.specs.Values.{ArePatchRows, patch_of, patches_in, row_at}
 use Rattle.relocate.specs.declared.object_rows.ObjectPatches.{ObjectPatches}
-use Rattle.relocate.specs.declared.patch.Patch.{Patch}
+use Rattle.reloc_values.specs.declared.patch.Patch.{Patch}
 
 -- a row with no patch is in order
 none_ordered : (row : List Patch) → row ≡ [] → IsPatchRow [] row

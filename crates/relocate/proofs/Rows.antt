@@ -10,7 +10,7 @@ use Rattle.elf_model.specs.Link.Placement.{Where}
 use Rattle.elf_model.specs.Link.Relocation.{Relocation, is_some_kind, relocation_of, relocations_in}
 use Rattle.elf_model.specs.declared.records.SectionHeader.{SectionHeader}
 use Rattle.relocate.specs.Values.{fitting_of, is_in_section, patch_of, patches_in}
-use Rattle.relocate.specs.declared.patch.Patch.{Patch}
+use Rattle.reloc_values.specs.declared.patch.Patch.{Patch}
 use Rattle.relocate.specs.declared.values.Fitting.{Fitting}
 
 module _ (objects : List LoadedObject) (w : Where) where

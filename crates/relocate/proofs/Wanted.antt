@@ -10,7 +10,7 @@ use Rattle.elf_model.specs.Link.Loading.{LoadedObject}
 use Rattle.elf_model.specs.Link.Placement.{Where}
 use Rattle.elf_model.specs.Link.Relocation.{AreFieldsApart, IsLawfulRelocation, Relocation, is_in_field}
 use Rattle.elf_model.proofs.OwnFields.{in_range}
-use Rattle.relocate.specs.Patches.{AreDisjoint, IsNarrow, covers}
+use Rattle.reloc_values.specs.Patches.{AreDisjoint, IsNarrow, covers}
 use Rattle.relocate.specs.Values.{is_in_section, patch_of, patches_in}
 
 pub patch_found :

@@ -9,9 +9,9 @@ use Rattle.elf_model.specs.Link.Pieces.{Piece}
 use Rattle.elf_model.specs.Link.Placement.{Where}
 use Rattle.elf_model.specs.Link.Relocation.{Relocation, is_in_field, relocations}
 use Rattle.elf_model.specs.Link.WantedBytes.{byte_or_field, wanted_byte}
-use Rattle.relocate.specs.Patches.{byte_in, covers, patched_byte}
+use Rattle.reloc_values.specs.Patches.{byte_in, covers, patched_byte}
 use Rattle.relocate.specs.Values.{HasFields, patch_of}
-use Rattle.relocate.specs.declared.patch.Patch.{Patch}
+use Rattle.reloc_values.specs.declared.patch.Patch.{Patch}
 
 module _ (objects : List LoadedObject) (w : Where) (k s : ℕ) (row : List Patch) (fields : HasFields objects w k s row) (p : Piece) (here : p.object ≡ k) (there : p.section ≡ s) where
   -- the search for a relocation of the piece's section

@@ -1,9 +1,7 @@
 pub mod LocalUses
 pub mod Fields
 pub mod RelaOrders
-pub mod Kinds
 pub mod ObjectRows
-pub mod Patches
 pub mod References
 pub mod Values
 pub mod Uses

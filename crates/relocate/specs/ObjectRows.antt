@@ -3,10 +3,10 @@ use Rattle.std.specs.Prelude.{◌≡◌, ℕ, ◌-◌, ◌<◌, ◌≤◌, ◌++
 use Rattle.elf_model.specs.Link.Loading.{LoadedObject}
 use Rattle.elf_model.specs.Link.Placement.{Where}
 use Rattle.elf_model.specs.Link.Relocation.{Relocation}
-use Rattle.relocate.specs.Patches.{IsPatchRow}
+use Rattle.reloc_values.specs.Patches.{IsPatchRow}
 use Rattle.relocate.specs.Values.{patches_in, row_at}
 use Rattle.relocate.specs.declared.object_rows.ObjectPatches.{ObjectPatches}
-use Rattle.relocate.specs.declared.patch.Patch.{Patch}
+use Rattle.reloc_values.specs.declared.patch.Patch.{Patch}
 
 -- the patches from a number on are put in the order of their places
 pub record HasOrderedRow (begin : ℕ) (old new : List Patch) : Type 0 where

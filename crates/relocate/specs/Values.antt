@@ -12,9 +12,9 @@ use Rattle.relocate.specs.declared.faults.RelocFault.{RelocFault}
 use Rattle.relocate.specs.declared.faults.RelocFault.TheVariants as error
 use Rattle.layout.specs.Placements.{Basis}
 use Rattle.got_tls.specs.ThreadStorage.{thread_pointer}
-use Rattle.relocate.specs.Patches.{IsPatchRow, covers}
+use Rattle.reloc_values.specs.Patches.{IsPatchRow, covers}
 use Rattle.relocate.specs.declared.object_rows.ObjectPatches.{ObjectPatches}
-use Rattle.relocate.specs.declared.patch.Patch.{Patch}
+use Rattle.reloc_values.specs.declared.patch.Patch.{Patch}
 use Rattle.relocate.specs.declared.values.Fitting.{Fitting}
 
 -- where things are by the own layout

@@ -8,7 +8,7 @@ ghost use Rattle.search.specs.KeptLists.{IsKeptRela, relocations_by};
 use crate::fields::Field;
 use crate::referrer::{Referrer, Relocated};
 use elf_model::Rela;
-use got_tls::Kind;
+use reloc_values::Kind;
 use search::KeptRela;
 use std::alloc::AllocError;
 

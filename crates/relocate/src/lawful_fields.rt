@@ -5,17 +5,16 @@ ghost use Rattle.elf_model.specs.Link.Loading as loading;
 ghost use Rattle.elf_model.specs.Link.Relocation as relocation;
 ghost use Rattle.elf_model.specs.Link.Relocation.{IsLawfulRelocation, relocation_kind, relocation_of};
 ghost use Rattle.relocate.specs.Fields.{field_of};
-ghost use Rattle.got_tls.specs.Kinds.{kind_view};
+ghost use Rattle.reloc_values.specs.Kinds.{kind_view};
 ghost use Rattle.relocate.specs.References.{IsUnlawful, RelocationFails};
 ghost use Rattle.relocate.specs.SymbolTables.{IsReferrer, IsRelocated, all_of, referring};
 
 use crate::faults::{RelocFault, RelocationFault};
 use crate::fields::Field;
-use crate::kinds::is_mismatch;
 use crate::referrer::{Referrer, Relocated};
 use crate::targets::undefined;
 use elf_model::Rela;
-use got_tls::Kind;
+use reloc_values::{Kind, is_mismatch};
 use std::alloc::Global;
 
 /// The kind of a lawful entry that relocates a section of an object; else what is wrong with it.

@@ -12,13 +12,13 @@ ghost use Rattle.relocate.specs.Values.{ArePatchRows, FittingFails, patch_of};
 
 use crate::faults::RelocFault;
 use crate::object_rows::ObjectPatches;
-use crate::patch::Patch;
 use crate::referrer::entry_count;
 use crate::rela_order::{ascend, ordered, row_end};
 use crate::row_order::order_from;
 use crate::symbol_values::Valued;
 use crate::values::{address_or_none, fitting_value};
 use elf_model::Rela;
+use reloc_values::Patch;
 use search::KeptRela;
 use std::alloc::{AllocError, Global};
 

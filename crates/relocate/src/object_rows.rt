@@ -2,7 +2,7 @@
 ghost use Rattle.std.specs.Prelude.{◌≡◌, slice_range};
 ghost use Rattle.relocate.specs.Values.{row_at};
 
-use crate::patch::Patch;
+use reloc_values::Patch;
 
 /// The patches of an object by the sections that they are for: those of section `s` begin at number `begins[s]` of the list,
 /// and end before number `begins[s + 1]`. A section for which there is no such end has none.

@@ -6,14 +6,13 @@ ghost use Rattle.elf_model.specs.Link.Pieces.{Piece};
 ghost use Rattle.elf_model.specs.Link.Relocation.{is_in_field, relocations};
 ghost use Rattle.elf_model.specs.Link.Resolution.{sections_of_object};
 ghost use Rattle.elf_model.specs.Link.WantedBytes.{wanted_byte};
-ghost use Rattle.relocate.specs.Patches.{IsRising};
+ghost use Rattle.reloc_values.specs.Patches.{IsRising};
 ghost use Rattle.relocate.specs.Values.{ArePatches, HasFields, where_in, row_in};
 
 use crate::object_rows::ObjectPatches;
-use crate::patch::{Patch, write_all};
-use crate::row_parts::{ending_after, reaching};
 use elf_model::SectionRef;
 use layout::Placement;
+use reloc_values::{Patch, ending_after, reaching, write_all};
 use search::Loaded;
 use std::alloc::AllocError;
 use std::marker::Model;

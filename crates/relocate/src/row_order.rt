@@ -1,9 +1,9 @@
 //! Rows of patches in the order of their places. Relocations mostly stand in that order already.
 ghost use Rattle.std.specs.Prelude.{◌↔◌, ◌≤◌, IsTrue, length};
 ghost use Rattle.relocate.specs.ObjectRows.{HasOrderedRow};
-ghost use Rattle.relocate.specs.Patches.{IsOrdered, IsPatchRow};
+ghost use Rattle.reloc_values.specs.Patches.{IsOrdered, IsPatchRow};
 
-use crate::patch::Patch;
+use reloc_values::Patch;
 
 /// Whether each patch begins where the one before begins, or after.
 fn ascends(row: &[Patch]) -> bool

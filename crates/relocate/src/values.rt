@@ -10,17 +10,16 @@ ghost use Rattle.elf_model.specs.Link.RelocationValues.{Fits, terms_of};
 ghost use Rattle.elf_model.specs.Link.Slots as wanted;
 ghost use Rattle.resolve.specs.Views.{meaning_view, symbol_view};
 ghost use Rattle.got_tls.specs.Asking.{offset_of};
-ghost use Rattle.got_tls.specs.Kinds.{kind_view};
-ghost use Rattle.relocate.specs.Kinds.{Reduces};
+ghost use Rattle.reloc_values.specs.Kinds.{kind_view};
+ghost use Rattle.reloc_values.specs.Terms.{Reduces};
 ghost use Rattle.relocate.specs.SymbolTables.{IsValued, all_valued, valued_object, where_of};
 ghost use Rattle.relocate.specs.Values.{fitting_of, where_in};
 
-use crate::kinds::{Terms, fits, value};
 use crate::symbol_values::Valued;
 use crate::thread_pointer::offset_from;
 use elf_model::{ObjectId, Rela, SHN_ABS, SectionRef, SymbolRef};
-use got_tls::{Kind, slot_kind};
 use layout::Placement;
+use reloc_values::{Kind, Terms, fits, slot_kind, value};
 use resolve::{Definition, SymbolOf};
 
 /// A section of an object, by their numbers.

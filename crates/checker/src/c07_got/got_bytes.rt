@@ -10,9 +10,8 @@ ghost use Rattle.elf_model.specs.Link.Slots as slots;
 ghost use Rattle.elf_model.specs.Link.Slots.{size_with, slot_bytes};
 ghost use Rattle.checker.specs.Got.{HoldsBytes, LiesInImage};
 
-use crate::bound_link::BoundLink;
-use crate::segments::same_padded;
 use check_relocs::{Bindings, target_of_symbol};
+use check_stages::{BoundLink, same_padded};
 use elf_model::{GotLine, SlotKind};
 use linkmap::{BorrowedSlot, BorrowedTarget};
 use loader_model::Memory;

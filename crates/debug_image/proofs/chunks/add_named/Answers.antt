@@ -1,7 +1,7 @@
 use Rattle.std.proofs.Common.{List, subst, sym}
 use Rattle.std.specs.Prelude.{All}
-use Rattle.layout.specs.PlaceViews.{place_views}
-use Rattle.layout.specs.declared.runs.Place.{Place}
+use Rattle.placing.specs.PlaceViews.{place_views}
+use Rattle.placing.specs.declared.runs.Place.{Place}
 use Rattle.debug_image.specs.DebugSections.{EndsLow}
 use Rattle.debug_image.proofs.DataSteps.{row_low}
 use Rattle.debug_image.proofs.chunks.add_named.Goals as goal

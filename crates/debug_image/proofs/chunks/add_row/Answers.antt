@@ -1,4 +1,4 @@
-use Rattle.layout.proofs.RunSteps.{no_place}
+use Rattle.placing.proofs.RunSteps.{no_place}
 use Rattle.debug_image.proofs.DataSteps.{low_at}
 use Rattle.debug_image.proofs.chunks.add_row.Goals as goal
 

@@ -1,5 +1,5 @@
 use Rattle.std.proofs.Common.{◌≡◌, ◌++◌, drop}
-use Rattle.layout.specs.PlaceViews.{place_views}
+use Rattle.placing.specs.PlaceViews.{place_views}
 use Rattle.debug_image.specs.DebugSections.{row_chunks, row_end}
 use Rattle.debug_image.specs.DebugViews.{chunk_views}
 use Rattle.debug_image.proofs.chunks.add_row.Given as goal

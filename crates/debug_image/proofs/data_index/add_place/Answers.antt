@@ -1,6 +1,6 @@
 use Rattle.std.proofs.Common.{arith, refl, sym}
 use Rattle.std.proofs.lemmas.Grind.{common_steps}
-use Rattle.layout.specs.PlaceViews.{place_view}
+use Rattle.placing.specs.PlaceViews.{place_view}
 use Rattle.debug_image.proofs.IndexSteps.{known_place, new_place}
 use Rattle.debug_image.proofs.data_index.add_place.Goals as goal
 

@@ -1,4 +1,4 @@
-use Rattle.layout.specs.PlaceViews.{place_views}
+use Rattle.placing.specs.PlaceViews.{place_views}
 use Rattle.search.specs.Views.{loaded_view}
 use Rattle.debug_image.specs.DataIndexes.{AreOffsets, AreRelas}
 use Rattle.debug_image.proofs.data_index.index_of.Given as goal

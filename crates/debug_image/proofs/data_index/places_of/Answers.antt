@@ -1,8 +1,8 @@
 use Rattle.std.proofs.Common.{◌≡◌, ◌+◌, ◌++◌, ◌∷◌, ◌∙◌, [], List, ap, get_or, subst, sym, take}
 use Rattle.std.proofs.lemmas.List.{map-append, take_more}
 use Rattle.elf_model.specs.Link.Placement.{Placed}
-use Rattle.layout.proofs.RunSteps.{no_place}
-use Rattle.layout.specs.PlaceViews.{place_view, place_views}
+use Rattle.placing.proofs.RunSteps.{no_place}
+use Rattle.placing.specs.PlaceViews.{place_view, place_views}
 use Rattle.debug_image.specs.DataIndexes.{AreOffsets}
 use Rattle.debug_image.proofs.data_index.places_of.Goals as goal
 

@@ -1,5 +1,5 @@
 use Rattle.std.proofs.Common.{take}
-use Rattle.layout.specs.PlaceViews.{place_views}
+use Rattle.placing.specs.PlaceViews.{place_views}
 use Rattle.debug_image.specs.DataIndexes.{AreOffsets, HasNoRelas}
 use Rattle.debug_image.proofs.data_index.places_of.Given as goal
 

@@ -4,7 +4,7 @@ use Rattle.std.specs.List.{range_with_len}
 use Rattle.std.proofs.lemmas.List.{ext_get_or}
 use Rattle.std.proofs.lemmas.List.FromFn.{get_or-map-range_with_len, length-map-range_with_len}
 use Rattle.std.proofs.Math.Seq.{take-append_seam}
-use Rattle.layout.specs.PlaceViews.{place_view}
+use Rattle.placing.specs.PlaceViews.{place_view}
 use Rattle.debug_image.specs.DebugLayouts.{data_in}
 use Rattle.debug_image.specs.DebugValues.{Field, byte_under, fields}
 use Rattle.debug_image.proofs.debug_bytes.debug_bytes.Goals as goal

@@ -1,6 +1,6 @@
 use Rattle.std.proofs.Common.{◌++◌, ◌∙◌, List, Option, ap, sym}
 use Rattle.elf_model.specs.Link.Pieces as pieces
-use Rattle.layout.specs.Views.{piece_view, piece_views}
+use Rattle.placing.specs.Views.{piece_view, piece_views}
 use Rattle.search.specs.Views.{loaded_view}
 use Rattle.debug_image.specs.DebugSections.{debug_piece}
 use Rattle.debug_image.specs.Lists.{some_list}

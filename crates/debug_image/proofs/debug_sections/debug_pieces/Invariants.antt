@@ -1,6 +1,6 @@
 use Rattle.std.proofs.Common.{◌≡◌}
 use Rattle.std.specs.List.{filter_map, range_with_len}
-use Rattle.layout.specs.Views.{piece_views}
+use Rattle.placing.specs.Views.{piece_views}
 use Rattle.search.specs.Views.{loaded_view}
 use Rattle.debug_image.specs.DebugSections.{debug_piece}
 use Rattle.debug_image.proofs.debug_sections.debug_pieces.Given as goal

@@ -1,6 +1,6 @@
 use Rattle.std.proofs.Common.{option_map}
 use Rattle.elf_model.proofs.KindWidths.{kind_width}
-use Rattle.got_tls.specs.Kinds.{kind_view}
+use Rattle.reloc_values.specs.Kinds.{kind_view}
 use Rattle.debug_image.proofs.FieldSteps.{narrow_view}
 use Rattle.debug_image.proofs.debug_values.debug_kind.Goals as goal
 

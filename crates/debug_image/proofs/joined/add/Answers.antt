@@ -1,6 +1,6 @@
 use Rattle.std.proofs.Common.{◌≡◌, ◌∙◌, List, ap, subst, sym}
 use Rattle.std.specs.Prelude.{All}
-use Rattle.layout.specs.Views.{piece_view}
+use Rattle.placing.specs.Views.{piece_view}
 use Rattle.debug_image.specs.DebugSections.{EndsLow, IsLow, Joined, named, place_behind}
 use Rattle.debug_image.specs.declared.joined.Joined as code
 use Rattle.debug_image.specs.DebugViews.{joined_view, joined_views}

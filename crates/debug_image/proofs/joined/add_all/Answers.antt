@@ -1,5 +1,5 @@
-use Rattle.layout.proofs.RunSteps.{no_piece}
-use Rattle.layout.specs.PlaceViews.{place_views}
+use Rattle.placing.proofs.RunSteps.{no_piece}
+use Rattle.placing.specs.PlaceViews.{place_views}
 use Rattle.debug_image.specs.DebugViews.{joined_views}
 use Rattle.debug_image.proofs.JoinedSteps.{ends_more, joined_more, no_room, places_more}
 use Rattle.debug_image.proofs.joined.add_all.Goals as goal

@@ -1,7 +1,7 @@
 use Rattle.std.proofs.Common.{◌≡◌, ◌≤◌, ◌++◌, drop, length}
 use Rattle.std.specs.Prelude.{All}
-use Rattle.layout.specs.PlaceViews.{place_views}
-use Rattle.layout.specs.Views.{piece_views}
+use Rattle.placing.specs.PlaceViews.{place_views}
+use Rattle.placing.specs.Views.{piece_views}
 use Rattle.debug_image.specs.DebugSections.{EndsLow, IsLow, joined_all, most_names, places_from}
 use Rattle.debug_image.specs.DebugViews.{joined_views}
 use Rattle.debug_image.proofs.joined.add_all.Given as goal

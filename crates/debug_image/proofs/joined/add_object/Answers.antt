@@ -2,8 +2,8 @@ use Rattle.std.proofs.Common.{◌++◌, ◌∷◌, [], List, subst, sym}
 use Rattle.std.proofs.lemmas.List.{map-append}
 use Rattle.std.specs.Global.{Vec}
 use Rattle.elf_model.specs.Link.Placement.{Placed}
-use Rattle.layout.specs.PlaceViews.{place_views}
-use Rattle.layout.specs.declared.runs.Place.{Place}
+use Rattle.placing.specs.PlaceViews.{place_views}
+use Rattle.placing.specs.declared.runs.Place.{Place}
 use Rattle.search.specs.Views.{loaded_view}
 use Rattle.debug_image.specs.DataIndexes.{AreAll, DataIndex, IsIndex}
 use Rattle.debug_image.specs.DebugViews.{row_view, row_views}

@@ -1,6 +1,6 @@
 use Rattle.std.proofs.Common.{◌≡◌, ◌+◌, ◌++◌, ◌∷◌, ◌∙◌, [], List, ap, arith, get_or, refl, subst, sym, take, take_all}
 use Rattle.std.proofs.lemmas.List.{length-map, length-take-le, map-append, take_more}
-use Rattle.layout.proofs.RunSteps.{no_place}
+use Rattle.placing.proofs.RunSteps.{no_place}
 use Rattle.debug_image.specs.SectionNumbers.{AreFirsts}
 use Rattle.debug_image.specs.Sections as spec
 use Rattle.debug_image.specs.SectionViews.{section_view, section_views}

@@ -1,6 +1,6 @@
 use Rattle.std.proofs.Common.{◌++◌, ◌+◌, ◌∙◌, List, ap, drop, sym}
-use Rattle.layout.specs.PlaceViews.{place_views}
-use Rattle.layout.proofs.RunSteps.{no_place}
+use Rattle.placing.specs.PlaceViews.{place_views}
+use Rattle.placing.proofs.RunSteps.{no_place}
 use Rattle.debug_image.specs.Sections.{Section}
 use Rattle.debug_image.specs.SectionViews.{section_view, section_views}
 use Rattle.debug_image.proofs.SectionSteps.{low_at, sections_left}

@@ -1,5 +1,5 @@
 use Rattle.std.proofs.Common.{◌≡◌, ◌++◌, drop}
-use Rattle.layout.specs.PlaceViews.{place_views}
+use Rattle.placing.specs.PlaceViews.{place_views}
 use Rattle.debug_image.specs.Sections.{sections_from}
 use Rattle.debug_image.specs.SectionViews.{section_view, section_views}
 use Rattle.debug_image.proofs.sections.add_sections.Given as goal

@@ -1,5 +1,5 @@
 use Rattle.std.proofs.Common.{rules}
-use Rattle.layout.proofs.RunSteps.{no_place}
+use Rattle.placing.proofs.RunSteps.{no_place}
 use Rattle.debug_image.proofs.SectionSteps.{low_at, low_rest}
 use Rattle.debug_image.proofs.sections.sections.Goals as goal
 

@@ -1,5 +1,5 @@
 use Rattle.std.proofs.Common.{◌∙◌, rules, sym}
-use Rattle.checker.proofs.SymbolLines.{means_linker}
+use Rattle.check_tables.proofs.SymbolLines.{means_linker}
 use Rattle.explain_check.proofs.symbol_lines.listed_meaning.Goals as goal
 
 pub returns-in-None : goal.returns-in-None

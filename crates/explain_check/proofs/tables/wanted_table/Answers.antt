@@ -3,7 +3,7 @@ use Rattle.linkmap.specs.Borrowed.{symbol_row}
 use Rattle.elf_model.specs.Image.MapText.{Ascends, SymbolBefore}
 use Rattle.elf_model.specs.Image.RightLink.{Subject}
 use Rattle.elf_model.specs.declared.verdict.Clause.TheVariants.{C13}
-use Rattle.checker.proofs.TableClause.{lines_are}
+use Rattle.check_tables.proofs.TableClause.{lines_are}
 use Rattle.explain_check.proofs.tables.wanted_table.Goals as goal
 
 pub table_of-requires : goal.table_of-requires

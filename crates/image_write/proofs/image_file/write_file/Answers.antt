@@ -10,7 +10,7 @@ use Rattle.elf_model.specs.Link.Placement.{Placed}
 use Rattle.elf_model.specs.declared.records.ProgramHeader.{ProgramHeader}
 use Rattle.own_link.proofs.ImageOwn.{own_thread_headers_of}
 use Rattle.elf_model.proofs.Places.{are_own_placed}
-use Rattle.layout.specs.PlaceViews.{place_views}
+use Rattle.placing.specs.PlaceViews.{place_views}
 use Rattle.layout.specs.Placements.{Basis}
 use Rattle.image_write.specs.Parts.{AreFull, EndsLow, as_list, body_from, code_part, count_of, file_parts, headers_of}
 use Rattle.image_write.specs.Tables.{fields_of}

@@ -3,7 +3,7 @@ use Rattle.std.specs.Prelude.{map, slice_index}
 use Rattle.std.specs.List.{range_with_len}
 use Rattle.elf_model.specs.Own.OwnLayout.{own_where}
 use Rattle.elf_model.specs.Link.WantedBytes.{wanted_byte}
-use Rattle.layout.specs.Views.{piece_view}
+use Rattle.placing.specs.Views.{piece_view}
 use Rattle.image_write.specs.Sections.{wanted_run}
 use Rattle.image_write.proofs.SectionRuns.{part_at, part_is, run_parts}
 use Rattle.image_write.proofs.StreamLaws.{breaks_are, breaks_on, grows_are, grows_held, whatever}

@@ -1,7 +1,7 @@
 use Rattle.std.proofs.Common.{◌∙◌, ap, sym}
 use Rattle.elf_model.specs.Own.OwnLayout.{own_where}
 use Rattle.layout.specs.Placements.{Basis}
-use Rattle.layout.specs.Views.{piece_view}
+use Rattle.placing.specs.Views.{piece_view}
 use Rattle.image_write.specs.Parts.{bytes_of, got_of}
 use Rattle.image_write.proofs.GotBytes.{got_wanted, own_got_is}
 use Rattle.image_write.proofs.StreamLaws.{puts_are}

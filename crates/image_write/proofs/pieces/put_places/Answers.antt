@@ -2,9 +2,9 @@ use Rattle.std.proofs.Common.{◌≡◌, ◌∙◌, List, ap, arith, refl, sym, 
 use Rattle.std.proofs.lemmas.List.{drop_all}
 use Rattle.elf_model.specs.Own.OwnLayout.{own_where}
 use Rattle.elf_model.proofs.Listed.{All-unmap}
-use Rattle.layout.proofs.RunSteps.{no_place}
-use Rattle.layout.specs.PlaceViews.{place_view, place_views}
-use Rattle.layout.specs.declared.runs.Place.{Place}
+use Rattle.placing.proofs.RunSteps.{no_place}
+use Rattle.placing.specs.PlaceViews.{place_view, place_views}
+use Rattle.placing.specs.declared.runs.Place.{Place}
 use Rattle.image_write.specs.Parts.{HasContents, all_body, is_written}
 use Rattle.image_write.proofs.BodySteps.{body_written, place_ends, rise_left}
 use Rattle.image_write.proofs.StreamLaws.{puts_are}

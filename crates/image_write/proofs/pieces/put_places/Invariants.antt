@@ -1,5 +1,5 @@
 use Rattle.std.proofs.Common.{◌≡◌, drop}
-use Rattle.layout.specs.PlaceViews.{place_views}
+use Rattle.placing.specs.PlaceViews.{place_views}
 use Rattle.image_write.specs.Parts.{Rise, all_body}
 use Rattle.image_write.specs.Streams.{stream}
 use Rattle.image_write.proofs.StreamSteps.{Towards}

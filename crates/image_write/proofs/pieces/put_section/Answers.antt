@@ -4,7 +4,7 @@ use Rattle.std.specs.List.{range_with_len}
 use Rattle.std.proofs.lemmas.List.{append-nil}
 use Rattle.elf_model.specs.Own.OwnLayout.{own_where}
 use Rattle.elf_model.specs.Link.WantedBytes.{wanted_byte}
-use Rattle.layout.specs.Views.{piece_view}
+use Rattle.placing.specs.Views.{piece_view}
 use Rattle.image_write.proofs.GotBytes.{section_wanted}
 use Rattle.image_write.proofs.SectionRuns.{run_end, run_parts}
 use Rattle.image_write.proofs.StreamLaws.{grows_are, puts_are}

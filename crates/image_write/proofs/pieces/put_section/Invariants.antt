@@ -1,6 +1,6 @@
 use Rattle.std.proofs.Common.{◌≡◌, ◌-◌, ◌≤◌, length}
 use Rattle.elf_model.specs.Own.OwnLayout.{own_where}
-use Rattle.layout.specs.Views.{piece_view}
+use Rattle.placing.specs.Views.{piece_view}
 use Rattle.image_write.specs.Sections.{wanted_run}
 use Rattle.image_write.specs.Streams.{stream}
 use Rattle.image_write.proofs.StreamSteps.{Towards}

@@ -2,8 +2,8 @@ use Rattle.std.proofs.Common.{ℕ, ◌-◌, ◌<◌, List, arith, get_or, subst,
 use Rattle.elf_model.proofs.Listed.{All-unmap}
 use Rattle.search.specs.Views.{loaded_views}
 use Rattle.layout.specs.Addresses.{HasPlace, piece_counts}
-use Rattle.layout.specs.PlaceViews.{place_view}
-use Rattle.layout.proofs.RunSteps.{no_place}
+use Rattle.placing.specs.PlaceViews.{place_view}
+use Rattle.placing.proofs.RunSteps.{no_place}
 use Rattle.layout.proofs.addresses.address_table.Goals as goal
 
 pub put_address-requires-clause-there : goal.put_address-requires-clause-there

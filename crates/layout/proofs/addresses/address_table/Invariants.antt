@@ -3,7 +3,7 @@ use Rattle.std.specs.Prelude.{find, option_map}
 use Rattle.elf_model.specs.Link.Placement.{is_of_section}
 use Rattle.search.specs.Views.{loaded_views}
 use Rattle.layout.specs.Addresses.{entry, piece_counts, shape_of}
-use Rattle.layout.specs.PlaceViews.{place_views}
+use Rattle.placing.specs.PlaceViews.{place_views}
 use Rattle.layout.proofs.addresses.address_table.Given as goal
 
 abbrev pub decreases-loop-left : goal.decreases-loop-left

@@ -1,7 +1,7 @@
 use Rattle.std.proofs.Common.{◌≡◌, drop}
 use Rattle.std.specs.List.{list_any}
 use Rattle.layout.specs.Arrays.{has_number}
-use Rattle.layout.specs.Views.{borrowed_views}
+use Rattle.placing.specs.Views.{borrowed_views}
 use Rattle.layout.proofs.array_order.any_numbered.Given as goal
 
 abbrev pub invariant-loop-piece : goal.invariant-loop-piece

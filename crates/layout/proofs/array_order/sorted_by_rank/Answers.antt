@@ -1,7 +1,7 @@
 use Rattle.std.proofs.Common.{rules, ap, ◌∙◌}
 use Rattle.std.proofs.lemmas.List.Sorted.{IsNonDecreasingBy-from_sort_by_key, answers_always}
 use Rattle.elf_model.specs.Link.ArrayOrder.{in_array_order}
-use Rattle.layout.specs.Views.{borrowed_views}
+use Rattle.placing.specs.Views.{borrowed_views}
 use Rattle.layout.proofs.ArraySteps.{name_rank, sorted_is}
 use Rattle.layout.proofs.array_order.sorted_by_rank.Goals as goal
 

@@ -7,11 +7,11 @@ use Rattle.elf_model.specs.Link.Pieces.{is_of_output}
 use Rattle.elf_model.specs.Link.Placement.{Placed}
 use Rattle.elf_model.proofs.Listed.{All-unmap}
 use Rattle.elf_model.proofs.PieceBounds.{either_least, either_none}
-use Rattle.layout.specs.Limits.{IsInLimit}
+use Rattle.placing.specs.Limits.{IsInLimit}
 use Rattle.layout.specs.PieceParts.{end_with, is_other, start_with}
-use Rattle.layout.specs.PlaceViews.{place_view, place_views}
+use Rattle.placing.specs.PlaceViews.{place_view, place_views}
 use Rattle.layout.specs.declared.bounds.Extent.{Extent}
-use Rattle.layout.specs.declared.runs.Place.{Place}
+use Rattle.placing.specs.declared.runs.Place.{Place}
 use Rattle.layout.proofs.OtherPlaces.{end_more, none_more, passing, start_more}
 use Rattle.layout.proofs.PlaceSteps.{end_reached, end_step, start_reached, start_step}
 use Rattle.layout.proofs.bounds.all_bounds.Goals as goal

@@ -3,7 +3,7 @@ use Rattle.elf_model.specs.Link.LinkerValues.{end_of_pieces, is_code_piece, is_f
 use Rattle.elf_model.specs.Link.Pieces.{is_of_output}
 use Rattle.elf_model.proofs.PieceBounds.{either_least}
 use Rattle.layout.specs.PieceParts.{end_with, is_other, start_with}
-use Rattle.layout.specs.PlaceViews.{place_view, place_views}
+use Rattle.placing.specs.PlaceViews.{place_view, place_views}
 use Rattle.layout.proofs.OtherPlaces.{passing}
 use Rattle.layout.proofs.bounds.all_bounds.Given as goal
 

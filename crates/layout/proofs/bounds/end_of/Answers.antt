@@ -1,8 +1,8 @@
 use Rattle.std.proofs.Common.{arith}
 use Rattle.elf_model.proofs.Listed.{All-unmap}
-use Rattle.layout.specs.Limits.{IsInLimit}
+use Rattle.placing.specs.Limits.{IsInLimit}
 use Rattle.layout.specs.PieceParts.{part_test}
-use Rattle.layout.specs.PlaceViews.{place_view}
+use Rattle.placing.specs.PlaceViews.{place_view}
 use Rattle.layout.proofs.PlaceSteps.{end_reached, end_step}
 use Rattle.layout.proofs.bounds.end_of.Goals as goal
 

@@ -1,7 +1,7 @@
 use Rattle.std.specs.Prelude.{◌≡◌, drop, map, max}
 use Rattle.elf_model.specs.Link.LinkerValues.{end_of_pieces}
 use Rattle.layout.specs.PieceParts.{part_test}
-use Rattle.layout.specs.PlaceViews.{place_view, place_views}
+use Rattle.placing.specs.PlaceViews.{place_view, place_views}
 use Rattle.layout.proofs.bounds.end_of.Given as goal
 
 abbrev pub invariant-loop-place : goal.invariant-loop-place

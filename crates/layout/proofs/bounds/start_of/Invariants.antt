@@ -2,7 +2,7 @@ use Rattle.std.specs.Prelude.{◌≡◌, drop, map}
 use Rattle.elf_model.specs.Link.LinkerValues.{start_of_pieces}
 use Rattle.elf_model.proofs.PieceBounds.{either_least}
 use Rattle.layout.specs.PieceParts.{part_test}
-use Rattle.layout.specs.PlaceViews.{place_view, place_views}
+use Rattle.placing.specs.PlaceViews.{place_view, place_views}
 use Rattle.layout.proofs.bounds.start_of.Given as goal
 
 abbrev pub invariant-loop-place : goal.invariant-loop-place

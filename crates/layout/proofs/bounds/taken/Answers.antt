@@ -4,7 +4,7 @@ use Rattle.std.specs.Option.{option_map_or}
 use Rattle.std.specs.Str.{bytes_eq}
 use Rattle.elf_model.specs.Link.LinkerValues.{least_of}
 use Rattle.layout.specs.PieceParts.{IsLast, extent_in, extent_with}
-use Rattle.layout.specs.PlaceViews.{place_view}
+use Rattle.placing.specs.PlaceViews.{place_view}
 use Rattle.layout.specs.declared.bounds.Extent.{Extent}
 use Rattle.layout.proofs.ExtentSteps.{last_at, last_more, taken_end, taken_start}
 use Rattle.layout.proofs.bounds.taken.Goals as goal

@@ -1,5 +1,5 @@
 use Rattle.std.proofs.Common.{◌≡◌, ◌++◌, drop}
-use Rattle.layout.specs.Views.{borrowed_views, piece_views}
+use Rattle.placing.specs.Views.{borrowed_views, piece_views}
 use Rattle.layout.proofs.order.add_all.Given as goal
 
 abbrev pub invariant-loop-piece : goal.invariant-loop-piece

@@ -3,9 +3,9 @@ use Rattle.std.specs.List.{list_any}
 use Rattle.elf_model.specs.Link.Pieces as pieces
 use Rattle.elf_model.specs.Link.ThreadStorage.{alignment_of}
 use Rattle.search.specs.Views.{loaded_views}
-use Rattle.layout.specs.Views.{piece_views}
+use Rattle.placing.specs.Views.{piece_views}
 use Rattle.layout.specs.declared.output_sections.Part.TheVariants as part
-use Rattle.layout.specs.declared.pieces.Piece.{Piece}
+use Rattle.placing.specs.declared.piece.Piece.{Piece}
 use Rattle.layout.proofs.OrderSteps.{data_is, part_is}
 use Rattle.layout.proofs.order.order_of.Goals as goal
 

@@ -1,5 +1,5 @@
 use Rattle.std.proofs.Common.{sym, ◌∙◌, ap}
-use Rattle.layout.specs.Views.{borrowed_views}
+use Rattle.placing.specs.Views.{borrowed_views}
 use Rattle.layout.proofs.ArraySteps.{as_they_are}
 use Rattle.layout.proofs.PartSteps.{group_behind}
 use Rattle.layout.proofs.output_sections.add_group.Goals as goal

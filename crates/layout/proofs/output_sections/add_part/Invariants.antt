@@ -1,6 +1,6 @@
 use Rattle.std.proofs.Common.{◌≡◌, ◌++◌, drop}
 use Rattle.layout.specs.Groups.{parts}
-use Rattle.layout.specs.Views.{borrowed_views}
+use Rattle.placing.specs.Views.{borrowed_views}
 use Rattle.layout.proofs.output_sections.add_part.Given as goal
 
 abbrev pub invariant-loop-group : goal.invariant-loop-group

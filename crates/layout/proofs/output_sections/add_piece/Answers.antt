@@ -1,7 +1,7 @@
 use Rattle.std.proofs.Common.{◌∙◌, ◌++◌, ◌∷◌, [], ap}
 use Rattle.std.specs.Borrow.{Bor}
 use Rattle.std.specs.Global.{Vec}
-use Rattle.layout.specs.declared.pieces.Piece.{Piece}
+use Rattle.placing.specs.declared.piece.Piece.{Piece}
 use Rattle.layout.proofs.GroupSteps.{group_written}
 use Rattle.layout.proofs.output_sections.add_piece.Goals as goal
 

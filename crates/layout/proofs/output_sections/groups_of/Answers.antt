@@ -5,9 +5,9 @@ use Rattle.std.proofs.lemmas.List.{get_or-map, length-map}
 use Rattle.elf_model.specs.Own.OwnLayout.{leaders}
 use Rattle.elf_model.specs.Link.Pieces as pieces
 use Rattle.layout.specs.Groups.{group_views, put_at}
-use Rattle.layout.specs.Views.{piece_view, piece_views}
+use Rattle.placing.specs.Views.{piece_view, piece_views}
 use Rattle.layout.proofs.GroupSteps.{empties, groups_more, number_within, sections_count}
-use Rattle.layout.proofs.RunSteps.{no_piece}
+use Rattle.placing.proofs.RunSteps.{no_piece}
 use Rattle.layout.proofs.output_sections.groups_of.Goals as goal
 
 pub loop-k-init : goal.loop-k-init

@@ -6,7 +6,7 @@ use Rattle.elf_model.proofs.Mapped.{push_mapped}
 use Rattle.elf_model.proofs.Rests.{rest_at}
 use Rattle.search.specs.KeptLists.{piece_at}
 use Rattle.search.specs.Views.{loaded_view}
-use Rattle.layout.specs.Views.{piece_view, piece_views}
+use Rattle.placing.specs.Views.{piece_view, piece_views}
 use Rattle.layout.proofs.pieces.add_pieces.Goals as goal
 
 pub loop-section-init : goal.loop-section-init

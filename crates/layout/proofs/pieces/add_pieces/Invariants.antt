@@ -3,7 +3,7 @@ use Rattle.elf_model.specs.Inputs.ObjectFile.{sections}
 use Rattle.elf_model.specs.Link.Pieces.{pieces_from}
 use Rattle.search.specs.KeptLists.{pieces_at}
 use Rattle.search.specs.Views.{loaded_view}
-use Rattle.layout.specs.Views.{piece_views}
+use Rattle.placing.specs.Views.{piece_views}
 use Rattle.layout.proofs.pieces.add_pieces.Given as goal
 
 abbrev pub invariant-loop-section : goal.invariant-loop-section

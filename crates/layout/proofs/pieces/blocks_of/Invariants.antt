@@ -1,7 +1,7 @@
 use Rattle.std.proofs.Common.{◌≡◌, ◌++◌, drop, map}
 use Rattle.elf_model.specs.Link.Commons.{block_piece}
 use Rattle.resolve.specs.Blocks.{block_views}
-use Rattle.layout.specs.Views.{piece_views}
+use Rattle.placing.specs.Views.{piece_views}
 use Rattle.layout.proofs.pieces.blocks_of.Given as goal
 
 abbrev pub invariant-loop-block : goal.invariant-loop-block

@@ -1,7 +1,7 @@
 use Rattle.std.proofs.Common.{◌≡◌, ◌++◌, drop}
 use Rattle.elf_model.specs.Link.Pieces as pieces
 use Rattle.search.specs.Views.{loaded_views}
-use Rattle.layout.specs.Views.{piece_views}
+use Rattle.placing.specs.Views.{piece_views}
 use Rattle.layout.proofs.pieces.kept_of.Given as goal
 
 abbrev pub invariant-loop-k : goal.invariant-loop-k

@@ -2,7 +2,7 @@ use Rattle.std.proofs.Common.{◌≤◌, ◌∙◌, ap, subst, sym}
 use Rattle.std.specs.Prelude.{All}
 use Rattle.elf_model.specs.Link.Placement.{Placed}
 use Rattle.layout.specs.Orders.{objects_of}
-use Rattle.layout.specs.PlaceViews.{place_views}
+use Rattle.placing.specs.PlaceViews.{place_views}
 use Rattle.layout.specs.Threads.{placed_alignment}
 use Rattle.layout.proofs.OwnThreads.{no_header, own_above, own_alignment}
 use Rattle.layout.proofs.placed_pieces.header_of.Goals as goal

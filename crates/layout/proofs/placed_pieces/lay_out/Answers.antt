@@ -1,5 +1,5 @@
 use Rattle.std.proofs.Common.{◌∙◌, ap}
-use Rattle.layout.specs.PlaceViews.{place_views}
+use Rattle.placing.specs.PlaceViews.{place_views}
 use Rattle.layout.proofs.placed_pieces.lay_out.Goals as goal
 
 pub header_of-requires-clause-places : goal.header_of-requires-clause-places

@@ -2,10 +2,10 @@ use Rattle.std.proofs.Common.{rules, ◌≡◌, ◌∙◌, ◌++◌, List, ap, l
 use Rattle.std.proofs.lemmas.Result.{err_from_is_err_and}
 use Rattle.elf_model.specs.Own.OwnLayout.{code_pieces, code_start, data_start, own_code, own_data, own_loaded, own_read_only, own_thread_rest, placed_from, read_only_pieces, read_only_start, thread_rest_pieces, thread_rest_start}
 use Rattle.elf_model.specs.Link.Placement.{Placed}
-use Rattle.layout.specs.Limits.{AreAligned}
+use Rattle.placing.specs.Limits.{AreAligned}
 use Rattle.layout.specs.Orders.{objects_of}
-use Rattle.layout.specs.PlaceViews.{place_views}
-use Rattle.layout.specs.Views.{borrowed_views}
+use Rattle.placing.specs.PlaceViews.{place_views}
+use Rattle.placing.specs.Views.{borrowed_views}
 use Rattle.layout.proofs.Alignments.{code_aligned, read_only_aligned, thread_rest_aligned}
 use Rattle.layout.proofs.LaidSteps.{all_in_limit, code_fails, code_from, count_is, data_fails, data_from, first_fails, loaded_runs, rest_fails, run_is, segment_is}
 use Rattle.layout.proofs.placed_pieces.lay_pieces.Goals as goal

@@ -1,8 +1,8 @@
 use Rattle.std.proofs.Common.{rules, ◌≡◌, ◌∙◌, ap, drop, subst, sym}
 use Rattle.elf_model.specs.Own.OwnLayout.{placed_from, segment}
-use Rattle.layout.specs.Limits.{AreInLimit}
-use Rattle.layout.specs.PlaceViews.{place_views}
-use Rattle.layout.specs.Views.{borrowed_views}
+use Rattle.placing.specs.Limits.{AreInLimit}
+use Rattle.placing.specs.PlaceViews.{place_views}
+use Rattle.placing.specs.Views.{borrowed_views}
 use Rattle.layout.proofs.LaidSteps.{run_behind}
 use Rattle.layout.proofs.placed_pieces.lay_segment.Goals as goal
 

@@ -2,11 +2,11 @@ use Rattle.std.proofs.Common.{rules, ◌≡◌, ◌∙◌, ◌<◌, ◌≤◌, �
 use Rattle.std.proofs.lemmas.Result.{err_from_is_err_and}
 use Rattle.elf_model.specs.Own.OwnLayout.{initial_pieces, own_data, segment, thread_start}
 use Rattle.elf_model.specs.Link.Placement.{round_up}
-use Rattle.layout.specs.Limits.{AreAligned, AreInLimit}
+use Rattle.placing.specs.Limits.{AreAligned, AreInLimit}
 use Rattle.layout.specs.Orders.{objects_of, plain_pieces}
-use Rattle.layout.specs.PlaceViews.{place_views}
-use Rattle.layout.specs.Views.{borrowed_views}
-use Rattle.layout.specs.declared.runs.Place.{Place}
+use Rattle.placing.specs.PlaceViews.{place_views}
+use Rattle.placing.specs.Views.{borrowed_views}
+use Rattle.placing.specs.declared.runs.Place.{Place}
 use Rattle.layout.proofs.Alignments.{initial_aligned, plain_aligned, thread_alignment}
 use Rattle.layout.proofs.LaidSteps.{data_limit, data_placed, initial_fails, no_fewer, placed_runs, plain_fails, plain_low, run_behind}
 use Rattle.layout.proofs.placed_pieces.lay_writable.Goals as goal

@@ -8,9 +8,9 @@ use Rattle.elf_model.specs.Own.OwnLayout.{own_placed}
 use Rattle.elf_model.specs.Link.Placement.{Placed, is_of_section}
 use Rattle.search.specs.Views.{loaded_views}
 use Rattle.layout.specs.Addresses.{HasPlace, piece_counts}
-use Rattle.layout.specs.Limits.{AreInLimit}
+use Rattle.placing.specs.Limits.{AreInLimit}
 use Rattle.layout.specs.PieceParts.{AreBounds}
-use Rattle.layout.specs.PlaceViews.{place_views}
+use Rattle.placing.specs.PlaceViews.{place_views}
 use Rattle.elf_model.proofs.OwnRelation.{are_own_addresses}
 use Rattle.layout.proofs.OwnAddresses.{address_either}
 use Rattle.layout.proofs.OwnThreads.{own_above}

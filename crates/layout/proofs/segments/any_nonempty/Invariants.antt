@@ -1,7 +1,7 @@
 use Rattle.std.proofs.Common.{◌≡◌, drop}
 use Rattle.std.specs.List.{list_any}
 use Rattle.elf_model.specs.Own.OwnLayout.{is_nonempty}
-use Rattle.layout.specs.Views.{borrowed_views}
+use Rattle.placing.specs.Views.{borrowed_views}
 use Rattle.layout.proofs.segments.any_nonempty.Given as goal
 
 abbrev pub invariant-loop-piece : goal.invariant-loop-piece

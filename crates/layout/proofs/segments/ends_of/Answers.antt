@@ -1,8 +1,8 @@
 use Rattle.std.proofs.Common.{arith}
 use Rattle.elf_model.specs.Own.OwnLayout.{any_placed, placed_has_bytes}
 use Rattle.elf_model.proofs.Listed.{All-unmap}
-use Rattle.layout.specs.Limits.{IsInLimit}
-use Rattle.layout.specs.PlaceViews.{place_view}
+use Rattle.placing.specs.Limits.{IsInLimit}
+use Rattle.placing.specs.PlaceViews.{place_view}
 use Rattle.layout.proofs.EndSteps.{end_more}
 use Rattle.layout.proofs.segments.ends_of.Goals as goal
 

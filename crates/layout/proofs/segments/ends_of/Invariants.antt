@@ -1,6 +1,6 @@
 use Rattle.std.proofs.Common.{◌≡◌, ◌≤◌, drop}
 use Rattle.elf_model.specs.Own.OwnLayout.{any_placed, greatest_end, placed_has_bytes}
-use Rattle.layout.specs.PlaceViews.{place_views}
+use Rattle.placing.specs.PlaceViews.{place_views}
 use Rattle.layout.proofs.segments.ends_of.Given as goal
 
 abbrev pub invariant-loop-place : goal.invariant-loop-place

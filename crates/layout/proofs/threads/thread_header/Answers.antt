@@ -2,7 +2,7 @@ use Rattle.std.proofs.Common.{◌≡◌, ◌≤◌, ℕ, subst, sym}
 use Rattle.std.specs.Prelude.{Some}
 use Rattle.elf_model.specs.Link.LinkerValues.{start_of_pieces}
 use Rattle.elf_model.specs.Link.Pieces.{is_thread_piece}
-use Rattle.layout.specs.PlaceViews.{place_views}
+use Rattle.placing.specs.PlaceViews.{place_views}
 use Rattle.layout.proofs.ThreadSteps.{start_within}
 use Rattle.layout.proofs.threads.thread_header.Goals as goal
 

@@ -1,7 +1,7 @@
 use Rattle.std.proofs.Common.{arith, refl}
 use Rattle.elf_model.specs.Link.Pieces.{is_thread_piece}
 use Rattle.elf_model.proofs.Places.{some_alignment}
-use Rattle.layout.specs.Views.{piece_views}
+use Rattle.placing.specs.Views.{piece_views}
 use Rattle.layout.proofs.ThreadSteps.{align_more, any_more}
 use Rattle.layout.proofs.threads.threads_of.Goals as goal
 

@@ -2,7 +2,7 @@ use Rattle.std.proofs.Common.{◌≡◌, ◌≤◌, ◌||◌, drop, max}
 use Rattle.std.specs.List.{list_any}
 use Rattle.elf_model.specs.Link.Pieces.{is_thread_piece}
 use Rattle.elf_model.specs.Link.ThreadStorage.{alignment_of}
-use Rattle.layout.specs.Views.{piece_views}
+use Rattle.placing.specs.Views.{piece_views}
 use Rattle.layout.proofs.threads.threads_of.Given as goal
 
 abbrev pub invariant-loop-piece : goal.invariant-loop-piece

@@ -1,11 +1,11 @@
 use Rattle.std.proofs.Common.{List, Option, ap, arith, get_or, subst, sym, ◌<◌, ◌∙◌}
 use Rattle.std.specs.Prelude.{IsSome, find}
 use Rattle.std.proofs.lemmas.List.{nil_from_length}
-use Rattle.relocate.proofs.RisingRows.{first_has, none_earlier}
+use Rattle.reloc_values.proofs.RisingRows.{first_has, none_earlier}
 use Rattle.relocate.proofs.WantedParts.{touched, untouched}
-use Rattle.relocate.specs.Patches.{covers, end_of}
+use Rattle.reloc_values.specs.Patches.{covers, end_of}
 use Rattle.relocate.specs.Values.{where_in}
-use Rattle.relocate.specs.declared.patch.Patch.{Patch}
+use Rattle.reloc_values.specs.declared.patch.Patch.{Patch}
 use Rattle.relocate.proofs.patch_table.next_field.Goals as goal
 
 null_patch : Patch

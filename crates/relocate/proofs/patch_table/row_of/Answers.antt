@@ -1,7 +1,7 @@
 use Rattle.std.proofs.Common.{List, ap, subst, sym, ◌∙◌}
 use Rattle.layout.specs.Placements.{Basis}
 use Rattle.relocate.proofs.ObjectRows.{row_has_fields, row_rises}
-use Rattle.relocate.specs.Patches.{IsRising}
+use Rattle.reloc_values.specs.Patches.{IsRising}
 use Rattle.relocate.specs.Values.{HasFields, row_in, where_in}
 use Rattle.relocate.specs.declared.object_rows.ObjectPatches.{ObjectPatches}
 use Rattle.relocate.proofs.patch_table.row_of.Goals as goal

@@ -1,6 +1,6 @@
 use Rattle.std.proofs.Common.{rules}
 use Rattle.std.proofs.lemmas.List.Sorted.{IsNonDecreasingBy-from_all_adjacent, IsNonDecreasingBy-from_sort_by_key, IsPermutation-refl}
-use Rattle.relocate.specs.Patches.{begin_of}
+use Rattle.reloc_values.specs.Patches.{begin_of}
 use Rattle.relocate.proofs.row_order.order_row.Goals as goal
 
 pub returns-then-not-ascends : goal.returns-then-not-ascends

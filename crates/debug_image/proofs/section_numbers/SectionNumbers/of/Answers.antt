@@ -1,5 +1,5 @@
 use Rattle.std.proofs.Common.{◌∙◌}
-use Rattle.layout.specs.Views.{piece_view}
+use Rattle.placing.specs.Views.{piece_view}
 use Rattle.debug_image.proofs.section_numbers.SectionNumbers.of.Goals as goal
 
 pub returns : goal.returns

@@ -1,8 +1,8 @@
 use Rattle.std.proofs.Common.{◌∙◌, List, ap, take}
 use Rattle.elf_model.specs.Own.OwnLayout.{own_loaded, own_thread_rest}
 use Rattle.layout.specs.Placements.{Basis}
-use Rattle.layout.specs.PlaceViews.{place_views}
-use Rattle.layout.specs.declared.runs.Place.{Place}
+use Rattle.placing.specs.PlaceViews.{place_views}
+use Rattle.placing.specs.declared.runs.Place.{Place}
 use Rattle.layout.proofs.OwnThreads.{loaded_front}
 use Rattle.layout.proofs.placement.Placement.loaded_places.Goals as goal
 

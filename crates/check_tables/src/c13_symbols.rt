@@ -1,0 +1,349 @@
+//! C13: whether the symbols are sound, no name has two strong definitions, and the symbol lines are those that the names
+//! ask for.
+ghost use Rattle.std.specs.Prelude.{◌≡◌, ◌+◌, ◌↔◌, ◌≤◌, ℕ, List, All, IfOk, IfSome, IsSome, IsTrue, [], ◌∷◌, false, filter, length, map, option_map, Some, true};
+ghost use Rattle.std.specs.Cow.{cow_slice_items};
+ghost use Rattle.std.specs.List.{slice_get};
+ghost use Rattle.elf_model.specs.Link.ChosenSymbols.{is_chosen};
+ghost use Rattle.elf_model.specs.Link.Listing.{linker_line};
+ghost use Rattle.linkmap.specs.Borrowed.{symbol_row};
+ghost use Rattle.elf_model.specs.Link.Meaning.{Symbol, meaning_name, meanings_of, meant_list, object_meaning};
+ghost use Rattle.elf_model.specs.declared.link_map.Definition.TheVariants as definition;
+ghost use Rattle.elf_model.specs.Image.MapText.{Ascends, SymbolBefore};
+ghost use Rattle.elf_model.specs.Link.Resolution.{AreSoundSymbols, AreUnique};
+ghost use Rattle.elf_model.specs.Image.RightLink.{HasLine, Holds, definition_row, objects_of, symbol_row_of};
+ghost use Rattle.check_tables.specs.Listed.{IsChosenIfStrong, IsLine};
+ghost use Rattle.check_link.specs.Chosen.{AreOtherChoices, AreOwnChoices};
+ghost use Rattle.check_link.specs.Views.{meaning_view, symbol_view, symbol_views};
+ghost use Rattle.check_relocs.specs.LinkerUses.{AreUsed};
+ghost use Rattle.elf_model.specs.declared.verdict.Clause.TheVariants as clause;
+
+use crate::c13_symbols::own_choices::OwnChoices;
+use check_link::{Meaning, SymbolOf, is_strong};
+use check_relocs::{Bindings, linker_lines, used_names};
+use check_stages::BoundLink;
+use elf_model::{Definition, STB_WEAK};
+use linkmap::BorrowedSymbol;
+use std::alloc::{AllocError, Global};
+use std::collections::BTreeSet;
+
+pub mod own_choices;
+
+/// The chosen definitions that lines of the map name, where the thirteenth clause holds of a link; None where it doesn't.
+pub fn choices<'b, 'a>(
+    alloc: Global,
+    bound: &'b BoundLink<'_, 'a>,
+) -> Result<Option<OwnChoices<'b, 'a>>, AllocError>
+    ensures listed { IfOk result (λ o. IsSome o ↔ Holds clause.C13 bound.now) }
+    ensures choices { IfOk result (λ o. IfSome o (λ c. c ≡ objects_of bound.now)) }
+{
+    let link = bound.link();
+    let choices = listed_choices(alloc, bound.bindings(), &link.map.symbols)?;
+    Ok(choices)
+}
+
+/// 1 where a chosen symbol means something, else 0.
+fn meaning_count<'a>(bindings: &Bindings<'_, '_, 'a>, symbol: &SymbolOf<'a>) -> usize
+    ensures few { result ≤ 1 }
+    ensures count { result ≡ length (meant_list bindings.now.objects (symbol_view symbol.now)) }
+{
+    match bindings.meant(symbol) {
+        Some(_) => 1,
+        None => 0,
+    }
+}
+
+/// The mark at a position, where there is one.
+fn mark_at(own: &[bool], position: usize) -> Option<bool>
+    ensures { result ≡ slice_get own.now position }
+{
+    own.get(position).copied()
+}
+
+/// Whether a definition is the chosen one of its name, which its mark tells. It is looked up where there is none.
+fn is_chosen_by<'a>(
+    bindings: &Bindings<'_, '_, 'a>,
+    symbol: &SymbolOf<'a>,
+    mark: Option<bool>,
+) -> bool
+    requires own { mark ≡ Some true → is_chosen bindings.now.objects (symbol_view symbol.now) ≡ true }
+    requires others { mark ≡ Some false
+        → is_chosen bindings.now.objects (symbol_view symbol.now) ≡ false }
+    ensures { result ≡ is_chosen bindings.now.objects (symbol_view symbol.now) }
+{
+    match mark {
+        Some(mark) => mark,
+        None => bindings.is_chosen(symbol),
+    }
+}
+
+/// How many lines a definition has, which may be the chosen one of its name: one where it is. None where it is a strong one
+/// that isn't.
+fn line_count<'a>(
+    bindings: &Bindings<'_, '_, 'a>,
+    symbol: &SymbolOf<'a>,
+    chosen: bool,
+) -> Option<usize>
+    requires { chosen ≡ is_chosen bindings.now.objects (symbol_view symbol.now) }
+    ensures few { IfSome result (λ n. n ≤ 1) }
+    ensures count { IfSome result (λ n. n
+        ≡ length (meanings_of bindings.now.objects
+        (filter (is_chosen bindings.now.objects) (symbol_view symbol.now ∷ [])))) }
+    ensures lawful { IsSome result ↔ IsChosenIfStrong bindings.now.objects
+        (symbol_view symbol.now) }
+{
+    if chosen {
+        return Some(meaning_count(bindings, symbol));
+    }
+    if is_strong(symbol) { None } else { Some(0) }
+}
+
+/// How many lines all definitions have together; None where a strong one isn't chosen. Those that have a mark are chosen for
+/// their own names, and those whose mark isn't set aren't.
+fn chosen_count<'a>(
+    bindings: &Bindings<'_, '_, 'a>,
+    definitions: &[SymbolOf<'a>],
+    own: &[bool],
+) -> Option<usize>
+    requires own { AreOwnChoices bindings.now.objects (symbol_views definitions.now) own.now }
+    requires others { AreOtherChoices bindings.now.objects (symbol_views definitions.now) own.now }
+    ensures count { IfSome result (λ n. n
+        ≡ length (meanings_of bindings.now.objects
+        (filter (is_chosen bindings.now.objects) (symbol_views definitions.now)))) }
+    ensures unique { IsSome result
+        ↔ All (λ s. IsChosenIfStrong bindings.now.objects (symbol_view s)) definitions.now }
+{
+    let mut count = 0;
+    for (i, symbol) in definitions.iter().enumerate() {
+        let chosen = is_chosen_by(bindings, symbol, mark_at(own, i));
+        let Some(more) = line_count(bindings, symbol, chosen) else {
+            return None;
+        };
+        count += more;
+    }
+    Some(count)
+}
+
+/// The name of what a name means.
+fn name_of<'a>(meaning: &Meaning<'a>) -> &'a [u8]
+    ensures { result.now ≡ meaning_name (meaning_view meaning.now) }
+{
+    match meaning {
+        Meaning::Symbol(symbol) => symbol.name,
+        Meaning::Common(block) => block.name,
+        Meaning::Linker(name, _) => name,
+    }
+}
+
+/// Whether a line names a symbol as a definition of its binding.
+fn names_symbol(definition: Definition, symbol: &SymbolOf<'_>) -> bool
+    ensures { IsTrue result ↔ (definition ≡ definition_row (Symbol (symbol_view symbol.now))) }
+{
+    let weak = symbol.entry.binding() == STB_WEAK;
+    match definition {
+        Definition::Strong {
+            object,
+            symbol: number,
+        } => !weak && object == symbol.object && number == symbol.number,
+        Definition::Weak {
+            object,
+            symbol: number,
+        } => weak && object == symbol.object && number == symbol.number,
+        Definition::Common | Definition::Linker => false,
+    }
+}
+
+/// Whether a line names a definition as what it is.
+fn names_definition(definition: Definition, meaning: &Meaning<'_>) -> bool
+    ensures { IsTrue result ↔ (definition ≡ definition_row (meaning_view meaning.now)) }
+{
+    match meaning {
+        Meaning::Symbol(symbol) => names_symbol(definition, symbol),
+        Meaning::Common(_) => is_common(definition),
+        Meaning::Linker(_, _) => is_linkers(definition),
+    }
+}
+
+/// Whether a line says that its name is that of a common block.
+fn is_common(told: Definition) -> bool
+    ensures { IsTrue result ↔ (told ≡ definition.Common) }
+{
+    match told {
+        Definition::Common => true,
+        Definition::Strong { .. } | Definition::Weak { .. } | Definition::Linker => false,
+    }
+}
+
+/// Whether a line says that the linker defines its name.
+fn is_linkers(told: Definition) -> bool
+    ensures { IsTrue result ↔ (told ≡ definition.Linker) }
+{
+    match told {
+        Definition::Linker => true,
+        Definition::Strong { .. } | Definition::Weak { .. } | Definition::Common => false,
+    }
+}
+
+/// Whether a line has a definition's name, names it as what it is and gives its value.
+fn is_line_of(
+    bindings: &Bindings<'_, '_, '_>,
+    meaning: &Meaning<'_>,
+    line: &BorrowedSymbol<'_>,
+) -> bool
+    ensures { IsTrue result ↔ (symbol_row line.now
+        ≡ symbol_row_of bindings.now.places (meaning_view meaning.now)) }
+{
+    if line.name.as_slice() != name_of(meaning) {
+        return false;
+    }
+    if !names_definition(line.definition, meaning) {
+        return false;
+    }
+    bindings.is_value(meaning, line.address)
+}
+
+/// Whether a line is that of a name that no object defines, and that is one of the linker's with a line.
+fn is_linkers_line(
+    bindings: &Bindings<'_, '_, '_>,
+    names: &BTreeSet<&[u8]>,
+    line: &BorrowedSymbol<'_>,
+) -> bool
+    requires { AreUsed bindings.now.objects names.now }
+    ensures { IsTrue result
+        ↔ (option_map (symbol_row_of bindings.now.places)
+        (linker_line bindings.now.objects (cow_slice_items line.now.name)) ≡ Some (symbol_row line.now)) }
+{
+    if !names.contains(line.name.as_slice()) {
+        return false;
+    }
+    match bindings.bound_of(&line.name) {
+        Some(bound) => {
+            is_linkers(line.definition) && line.address == bindings.bound(&line.name, bound)
+        }
+        None => false,
+    }
+}
+
+/// Whether a line is that of what objects define for its name, or else of what the linker does, given the linker's names
+/// that have one.
+fn is_line_of_name(
+    bindings: &Bindings<'_, '_, '_>,
+    names: &BTreeSet<&[u8]>,
+    meaning: &Option<Meaning<'_>>,
+    line: &BorrowedSymbol<'_>,
+) -> bool
+    requires names { AreUsed bindings.now.objects names.now }
+    requires meaning { option_map meaning_view meaning.now
+        ≡ object_meaning bindings.now.objects (cow_slice_items line.now.name) }
+    ensures { IsTrue result ↔ IsLine bindings.now.objects bindings.now.places
+        (symbol_row line.now) }
+{
+    match meaning {
+        Some(meaning) => is_line_of(bindings, meaning, line),
+        None => is_linkers_line(bindings, names, line),
+    }
+}
+
+/// Whether a line is that of what its name means, given the linker's names that have one.
+pub fn is_right_line(
+    bindings: &Bindings<'_, '_, '_>,
+    names: &BTreeSet<&[u8]>,
+    line: &BorrowedSymbol<'_>,
+) -> bool
+    requires { AreUsed bindings.now.objects names.now }
+    ensures { IsTrue result ↔ IsLine bindings.now.objects bindings.now.places
+        (symbol_row line.now) }
+{
+    let meaning = bindings.object_meaning(&line.name);
+    is_line_of_name(bindings, names, &meaning, line)
+}
+
+/// What objects define for a line's name. The name is looked up only where the line doesn't name its chosen definition.
+pub fn meaning_of_line<'a>(
+    bindings: &Bindings<'_, '_, 'a>,
+    choices: &OwnChoices<'_, 'a>,
+    line: &BorrowedSymbol<'_>,
+) -> Option<Meaning<'a>>
+    requires { choices.now ≡ bindings.now.objects }
+    ensures { option_map meaning_view result
+        ≡ object_meaning bindings.now.objects (cow_slice_items line.now.name) }
+{
+    match choices.find(line) {
+        Some(symbol) => bindings.meant(symbol),
+        None => bindings.object_meaning(&line.name),
+    }
+}
+
+/// Whether a line is that of what its name means, with the chosen definitions that lines name.
+fn is_right_by<'a>(
+    bindings: &Bindings<'_, '_, 'a>,
+    names: &BTreeSet<&[u8]>,
+    choices: &OwnChoices<'_, 'a>,
+    line: &BorrowedSymbol<'_>,
+) -> bool
+    requires names { AreUsed bindings.now.objects names.now }
+    requires choices { choices.now ≡ bindings.now.objects }
+    ensures { IsTrue result ↔ IsLine bindings.now.objects bindings.now.places
+        (symbol_row line.now) }
+{
+    let meaning = meaning_of_line(bindings, choices, line);
+    is_line_of_name(bindings, names, &meaning, line)
+}
+
+fn are_right_lines<'a>(
+    bindings: &Bindings<'_, '_, 'a>,
+    names: &BTreeSet<&[u8]>,
+    choices: &OwnChoices<'_, 'a>,
+    lines: &[BorrowedSymbol<'_>],
+) -> bool
+    requires names { AreUsed bindings.now.objects names.now }
+    requires choices { choices.now ≡ bindings.now.objects }
+    ensures { IsTrue result ↔ All
+        (λ line. IsLine bindings.now.objects bindings.now.places (symbol_row line)) lines.now }
+{
+    for line in lines {
+        if !is_right_by(bindings, names, choices, line) {
+            return false;
+        }
+    }
+    true
+}
+
+fn is_sum(whole: usize, a: usize, b: usize) -> bool
+    ensures { IsTrue result ↔ (whole ≡ a + b) }
+{
+    a <= whole && whole - a == b
+}
+
+/// The chosen definitions that lines name, which ascend by name, where all symbols are sound, no name has two strong definitions,
+/// and the lines are those of the names that have one: each is right, and there are as many. Else None.
+fn listed_choices<'b, 'a>(
+    alloc: Global,
+    bindings: &'b Bindings<'_, '_, 'a>,
+    lines: &[BorrowedSymbol<'_>],
+) -> Result<Option<OwnChoices<'b, 'a>>, AllocError>
+    requires { Ascends SymbolBefore (map symbol_row lines.now) }
+    ensures listed { let L = bindings.now.objects in IfOk result
+        (λ o. IsSome o
+        ↔ (AreSoundSymbols L × AreUnique L
+        × ((name : List ℕ) → HasLine (map symbol_row lines.now) L bindings.now.places name))) }
+    ensures choices { IfOk result (λ o. IfSome o (λ c. c ≡ bindings.now.objects)) }
+{
+    if !bindings.are_sound() {
+        return Ok(None);
+    }
+    let definitions = bindings.definitions();
+    let own = bindings.own_choices(alloc)?;
+    let Some(count) = chosen_count(bindings, definitions, &own) else {
+        return Ok(None);
+    };
+    let names = used_names(alloc, bindings)?;
+    let linkers = linker_lines(alloc, bindings, &names)?;
+    if !is_sum(lines.len(), count, linkers.len()) {
+        return Ok(None);
+    }
+    let choices = OwnChoices::new(alloc, bindings, own)?;
+    if !are_right_lines(bindings, &names, &choices, lines) {
+        return Ok(None);
+    }
+    Ok(Some(choices))
+}

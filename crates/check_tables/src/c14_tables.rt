@@ -1,0 +1,117 @@
+//! C14: whether the map tells of a symbol table where it has to, and the image has that table and its sections after
+//! its last file part, or no sections. All is compared in place, and no name is looked up whose line names its chosen
+//! definition.
+ghost use Rattle.std.specs.Prelude.{◌≡◌, ◌↔◌, ◌*◌, ◌<◌, ◌≤◌, ◌^◌, ℕ, All, List, IfSome, IsSomeAnd, IsTrue, is_some, length, map, not};
+ghost use Rattle.linkmap.specs.Borrowed.{symbol_row};
+ghost use Rattle.elf_model.specs.Image.MemoryImage.{HasNoSections, loads, file_end};
+ghost use Rattle.elf_model.specs.Inputs.Records.{file_header};
+ghost use Rattle.elf_model.specs.Image.RightLink.{Holds, HoldsBefore, HoldsTables, objects_of};
+ghost use Rattle.elf_model.specs.Image.SymbolTable.{name_section, tabled};
+ghost use Rattle.elf_model.specs.declared.verdict.Clause.TheVariants as clause;
+ghost use Rattle.check_tables.specs.Listed.{IsLine};
+ghost use Rattle.check_tables.specs.Tabled.{AreTables};
+
+use crate::c13_symbols::own_choices::OwnChoices;
+use crate::c14_tables::lines::{Tables, strip_lines, tables_of};
+use crate::c14_tables::places::{are_end, eight_up, places_of};
+use crate::c14_tables::strip::strip_zeros;
+use check_relocs::Bindings;
+use check_stages::{BoundLink, file_end};
+use elf_model::{FileHeader, SymtabLine};
+use linkmap::BorrowedSymbol;
+
+pub mod entries;
+pub mod lines;
+pub mod places;
+pub mod strip;
+
+/// Whether the fourteenth clause holds of a link.
+pub fn holds<'a>(bound: &BoundLink<'_, 'a>, choices: &OwnChoices<'_, 'a>) -> bool
+    requires clauses { HoldsBefore clause.C14 bound.now }
+    requires choices { choices.now ≡ objects_of bound.now }
+    ensures { IsTrue result ↔ Holds clause.C14 bound.now }
+{
+    let map = &bound.link().map;
+    if !is_told_as_asked(map.version, map.symtab, bound.link().plan.strip) {
+        return false;
+    }
+    match map.symtab {
+        Some(line) => holds_tables(bound, choices, line),
+        None => has_no_sections(&bound.memory().header()),
+    }
+}
+
+/// Whether a map of version 2 has the line of a symbol table just where the command doesn't strip it.
+fn is_told_as_asked(version: u64, symtab: Option<SymtabLine>, strip: bool) -> bool
+    ensures { IsTrue result ↔ (version ≡ 2 → is_some symtab ≡ not strip) }
+{
+    version != 2 || symtab.is_some() != strip
+}
+
+/// Whether a file header tells of no sections.
+pub fn has_no_sections(header: &FileHeader) -> bool
+    ensures { IsTrue result ↔ HasNoSections header.now }
+{
+    header.e_shoff == 0 && header.e_shnum == 0 && header.e_shstrndx == 0
+}
+
+/// What is left of the bytes after the last file part once zeros, the entries and the names of all lines are
+/// stripped.
+fn strip_tables<'a, 'b>(
+    bindings: &Bindings<'_, '_, 'a>,
+    choices: &OwnChoices<'_, 'a>,
+    lines: &[BorrowedSymbol<'_>],
+    bytes: &'b [u8],
+    padding: usize,
+    count: u64,
+) -> Option<Tables<'b>>
+    requires lines { All (λ line. IsLine bindings.now.objects bindings.now.places
+        (symbol_row line)) lines.now }
+    requires choices { choices.now ≡ bindings.now.objects }
+    requires padding { padding ≤ 8 }
+    ensures left { (others : List ℕ) →
+        (AreTables bindings.now.places
+        (tabled bindings.now.objects
+        (map symbol_row lines.now)) padding bytes.entry.now count others
+        ↔ IsSomeAnd result (λ t. t.names.now ≡ others)) }
+    ensures offset { IfSome result (λ t. t.name_at
+        ≡ length (name_section (tabled bindings.now.objects (map symbol_row lines.now)))) }
+    ensures room { IfSome result (λ _. 24 * count < 2 ^ 63) }
+{
+    let bytes = strip_zeros(bytes, padding)?;
+    let tables = tables_of(bytes, count)?;
+    strip_lines(bindings, choices, lines, tables)
+}
+
+/// Whether the header and the bytes after the last file part are those of the table that the line tells of.
+fn holds_tables<'a>(
+    bound: &BoundLink<'_, 'a>,
+    choices: &OwnChoices<'_, 'a>,
+    line: SymtabLine,
+) -> bool
+    requires clauses { HoldsBefore clause.C14 bound.now }
+    requires choices { choices.now ≡ objects_of bound.now }
+    ensures { IsTrue result ↔ HoldsTables bound.now line }
+{
+    let memory = bound.memory();
+    let header = memory.header();
+    if header.e_shnum != 4 || header.e_shstrndx != 3 {
+        return false;
+    }
+    let end = file_end(memory);
+    let symtab = eight_up(end);
+    if line.offset != symtab {
+        return false;
+    }
+    let (_parts, bytes) = memory.image().split_at(end as usize);
+    let lines = &bound.link().map.symbols;
+    let padding = (symtab - end) as usize;
+    let bindings = bound.bindings();
+    match strip_tables(bindings, choices, lines, bytes, padding, line.count) {
+        Some(left) => {
+            let places = places_of(end, line.count, left.name_at);
+            header.e_shoff == places.headers && are_end(left.names, &places)
+        }
+        None => false,
+    }
+}
