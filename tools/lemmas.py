@@ -68,8 +68,8 @@ LAYERS = {
         "The GOT": "GotSteps SlotCounts",
         "The verdict": "Clauses Verdicts",
     },
-    "ld_main": {
-        "The link and its refusals": "FinalRefusals Gatherings Links OwnUnfit Tabled Values",
+    "linker": {
+        "The link and its refusals": "FinalRefusals Links OwnUnfit Tabled Values",
         "The own map": "DropLines OwnCommons OwnMaps OwnSpelled PlaceLines SlotLines SpelledMaps Spellings SymbolLines",
         "Its text": "Behind OwnTexts",
         "The definitions in order": "InOrderLaws Listings NameKeyLaws SortedOnce",

@@ -1,11 +1,2 @@
-pub mod FinalRefusals
-pub mod InOrder
-pub mod Linkages
-pub mod NameKeys
 pub mod NewFiles
-pub mod OwnDefinitions
-pub mod Outputs
 pub mod Program
-pub mod Refusals
-pub mod Sources
-pub mod Spelled

@@ -6,7 +6,7 @@ use Rattle.elf_model.specs.Image.RightLink.{IsRightLink}
 use Rattle.elf_model.specs.declared.faults.CmdFault.{CmdFault}
 use Rattle.elf_model.specs.declared.faults.LinkError.{LinkError}
 use Rattle.elf_model.specs.declared.faults.LinkError.TheVariants as error
-use Rattle.ld_main.specs.Refusals.{of_command}
+use Rattle.linker.specs.Refusals.{of_command}
 use Rattle.ld_main.specs.declared.program.Failure.{Failure}
 use Rattle.ld_main.specs.declared.program.Failure.TheVariants as failure
 use Rattle.ld_main.specs.declared.program.Outcome.{Outcome}

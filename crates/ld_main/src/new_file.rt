@@ -3,12 +3,9 @@ ghost use Rattle.std.specs.Prelude.{◌≡◌, IfOk, IfSome};
 ghost use Rattle.std.specs.Path.{path_buf_bytes};
 ghost use Rattle.ld_main.specs.NewFiles.{IsBeside, IsOfLink, IsSomeLink, beside};
 
-use crate::file_sink::FileSink;
-use crate::line_sink::LineFile;
-use crate::own_text::write_map;
-use crate::real_files::make_executable;
-use crate::sparse::SparseFile;
+use file_io::{FileSink, SparseFile, make_executable};
 use image_write::{Linkage, WriteFault, write_image};
+use linker::{LineFile, write_map};
 use std::alloc::{AllocError, Global};
 use std::fs;
 use std::fs::{File, OpenFile, OpenOptions};

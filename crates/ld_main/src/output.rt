@@ -3,13 +3,12 @@ ghost use Rattle.std.specs.Prelude.{IfErr, IfOk};
 ghost use Rattle.elf_model.specs.Own.Causes.{Cause};
 ghost use Rattle.elf_model.specs.Inputs.Files.{files_of, words_of};
 ghost use Rattle.elf_model.specs.Image.RightLink.{IsRightLink};
-ghost use Rattle.ld_main.specs.FinalRefusals.{DeniesLinks};
-ghost use Rattle.ld_main.specs.Outputs.{IsOwnLink};
+ghost use Rattle.linker.specs.FinalRefusals.{DeniesLinks};
+ghost use Rattle.linker.specs.Outputs.{IsOwnLink};
 
-use crate::own_text::map_text;
-use crate::phases::prepare;
 use elf_model::{InputFile, LinkError};
 use image_write::{Linkage, image};
+use linker::{map_text, prepare};
 use std::alloc::{AllocError, Global};
 
 /// What a link makes: the bytes of the image and of the map.

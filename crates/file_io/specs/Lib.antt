@@ -1,0 +1,2 @@
+pub mod FileIds
+pub mod Sources

@@ -1,0 +1,18 @@
+//! Files as a link meets them: those that it reads, each of which is known again by its device and number, and the one that
+//! takes an image, in which pages of zeros are passed over.
+//!
+//! Begin with `gather` and `RealFiles` for input, `FileSink` for the image.
+#![tactic(auto)]
+
+mod file_id;
+mod file_sink;
+mod file_source;
+mod real_files;
+mod sparse;
+mod zero_pages;
+
+pub use file_id::{FileId, OutputPath, file_id, overwritten};
+pub use file_sink::FileSink;
+pub use file_source::{FetchFault, FileSource, GatherFault, gather};
+pub use real_files::{RealFiles, make_executable, read_whole};
+pub use sparse::{SparseFile, SparseWrite};

@@ -1,6 +1,0 @@
-use Rattle.std.proofs.Common.{All, take}
-use Rattle.ld_main.specs.NewFiles.{IsRead}
-use Rattle.ld_main.proofs.file_id.overwritten.Given as goal
-
-abbrev pub invariant-loop-output : goal.invariant-loop-output
-invariant-loop-output l = All (λ o. IsRead o l.path l.id → ⊥) (take l.output-index l.outputs)

@@ -1,0 +1,207 @@
+-- What numbers that are made of the first bytes of two names say of the order of the names.
+use Rattle.std.proofs.Common.{◌≡◌, ◌∙◌, ℕ, zero, suc, ◌+◌, ◌*◌, ◌^◌, ◌<◌, ◌≤◌, Bool, Option, None, Some, List, [], ◌∷◌, ◌++◌, drop, get_or, length, map, pow-suc, refl, sym, take, ap, subst, arith}
+use Rattle.std.specs.Prelude.{All, IsPermutation, slice_get}
+use Rattle.std.specs.List.{range_with_len}
+use Rattle.std.specs.List.Sorted.{IsSortedBy, IsSortedByKey}
+use Rattle.std.specs.Cmp.Lexicographic.{slice_cmp}
+use Rattle.std.specs.Ordering.{is_lt, nat_cmp, ordering_then}
+use Rattle.std.specs.declared.cmp.Ordering.{Ordering}
+use Rattle.std.specs.declared.cmp.Ordering.TheVariants.{Equal, Greater, Less}
+use Rattle.std.specs.Borrow.{Bor}
+use Rattle.std.specs.Cmp.{IsStrictWeakOrder}
+use Rattle.std.specs.Fn.{Called, ComparesAs, Mut}
+use Rattle.std.proofs.lemmas.Cmp.{by_ranked, nat_list_cmp_total, ranked}
+use Rattle.std.proofs.lemmas.Fn.{always_returns_same}
+use Rattle.std.proofs.lemmas.List.{map-append, map-id}
+use Rattle.std.proofs.lemmas.List.Elements.{All-drop, All-head, All-tail}
+use Rattle.std.proofs.lemmas.List.FromFn.{map-range_with_len_more}
+use Rattle.std.proofs.lemmas.List.Sorted.{All-permutation, IsPermutation-map, ranks_by}
+use Rattle.std.proofs.lemmas.Nat.{mul-add-lt}
+use Rattle.std.proofs.Math.Nat.{mul-le-mul_right, pow-le-pow_right}
+use Rattle.resolve.proofs.Located.{All-at}
+use Rattle.linker.specs.NameKeys.{AreKeyed, IsKeyed, IsOrderOf, digit, held_names, key_list, key_with, name_key, name_of, rest_of}
+use Rattle.linker.specs.declared.name_order.Keyed.{Keyed}
+use Rattle.linker.specs.declared.name_order.Names.{Names}
+
+-- a byte more
+pub key_more : (n : ℕ) (xs : List ℕ) → key_with (suc n) xs ≡ key_with n xs * 257 + digit (slice_get xs n)
+unfolding key_with
+key_more zero [] = refl
+key_more zero (x ∷ xs) = omega arith
+key_more (suc n) [] = refl
+key_more (suc n) (x ∷ xs) =
+    let rest = key_more n xs in
+    let power = ap (λ (p : ℕ). (x + 1) * p) (pow-suc 257 n) in
+    omega (arith, rest, power)
+
+pub key_below : (n : ℕ) (xs : List ℕ) → All (λ b. b < 256) xs → key_with n xs < 257 ^ n
+unfolding key_with
+key_below zero xs all = omega arith
+key_below (suc n) [] all = let rest = key_below n [] all in omega (arith, rest, pow-suc 257 n)
+key_below (suc n) (x ∷ xs) all =
+    let byte = All-head (λ b. b < 256) x xs all in
+    let rest = key_below n xs (All-tail (λ b. b < 256) x xs all) in
+    let sum = mul-add-lt (x + 1) (257 ^ n) (key_with n xs) 257 (omega (arith, byte)) rest in
+    omega (arith, sum, pow-suc 257 n)
+
+is_less : (a b : ℕ) → a < b → nat_cmp a b ≡ Less
+is_less a b less = by_ranked (a < b) (a ≡ b) (b < a) (nat_cmp a b) (ranked a b (nat_cmp a b) refl) (λ e _. e) (λ e p. absurd (omega (arith, less, p))) (λ e p. absurd (omega (arith, less, p)))
+
+is_equal : (a b : ℕ) → a ≡ b → nat_cmp a b ≡ Equal
+is_equal a b same = by_ranked (a < b) (a ≡ b) (b < a) (nat_cmp a b) (ranked a b (nat_cmp a b) refl) (λ e p. absurd (omega (arith, same, p))) (λ e _. e) (λ e p. absurd (omega (arith, same, p)))
+
+is_greater : (a b : ℕ) → b < a → nat_cmp a b ≡ Greater
+is_greater a b less = by_ranked (a < b) (a ≡ b) (b < a) (nat_cmp a b) (ranked a b (nat_cmp a b) refl) (λ e p. absurd (omega (arith, less, p))) (λ e p. absurd (omega (arith, less, p))) (λ e _. e)
+
+-- the same in front of both
+shifted : (c a b : ℕ) → nat_cmp (c + a) (c + b) ≡ nat_cmp a b
+shifted c a b =
+    by_ranked (a < b) (a ≡ b) (b < a) (nat_cmp a b) (ranked a b (nat_cmp a b) refl)
+    (λ e p. is_less (c + a) (c + b) (omega (arith, p)) ∙ sym e)
+    (λ e p. is_equal (c + a) (c + b) (omega (arith, p)) ∙ sym e)
+    (λ e p. is_greater (c + a) (c + b) (omega (arith, p)) ∙ sym e)
+
+-- a greater digit in front
+digits_less : (x y p a b : ℕ) → a < p → x < y → (x + 1) * p + a < (y + 1) * p + b
+digits_less x y p a b small less =
+    let step : (x + 2) * p ≤ (y + 1) * p = mul-le-mul_right p (omega (arith, less)) in
+    omega (arith, step, small)
+
+-- names are in the order of their numbers, and where these are equal, in that of the bytes behind
+pub keys_order :
+    (n : ℕ) (xs ys us vs : List ℕ) → All (λ b. b < 256) xs → All (λ b. b < 256) ys →
+    slice_cmp nat_cmp us vs ≡ slice_cmp nat_cmp (drop n xs) (drop n ys) →
+    slice_cmp nat_cmp (key_with n xs ∷ us) (key_with n ys ∷ vs) ≡ slice_cmp nat_cmp xs ys
+unfolding key_with
+keys_order zero xs ys us vs ax ay rest = rest
+keys_order (suc n) [] [] us vs ax ay rest = rest
+keys_order (suc n) [] (y ∷ ys) us vs ax ay rest =
+    let p = key_below n [] ax in
+    let step : 1 * 257 ^ n ≤ (y + 1) * 257 ^ n = mul-le-mul_right (257 ^ n) (omega arith) in
+    ap (λ (o : Ordering). ordering_then o (slice_cmp nat_cmp us vs)) (is_less 0 ((y + 1) * 257 ^ n + key_with n ys) (omega (arith, p, step)))
+keys_order (suc n) (x ∷ xs) [] us vs ax ay rest =
+    let p = key_below n [] ay in
+    let step : 1 * 257 ^ n ≤ (x + 1) * 257 ^ n = mul-le-mul_right (257 ^ n) (omega arith) in
+    ap (λ (o : Ordering). ordering_then o (slice_cmp nat_cmp us vs)) (is_greater ((x + 1) * 257 ^ n + key_with n xs) 0 (omega (arith, p, step)))
+keys_order (suc n) (x ∷ xs) (y ∷ ys) us vs ax ay rest =
+    by_ranked (x < y) (x ≡ y) (y < x) (nat_cmp x y) (ranked x y (nat_cmp x y) refl)
+    (λ e less. first Less (λ z. refl) (is_less a b (digits_less x y (257 ^ n) (key_with n xs) (key_with n ys) (key_below n xs tx) less)) e)
+    (λ e same.
+    ap (λ (o : Ordering). ordering_then o (slice_cmp nat_cmp us vs)) (tied same)
+    ∙ keys_order n xs ys us vs tx ty rest
+    ∙ ap (λ (o : Ordering). ordering_then o (slice_cmp nat_cmp xs ys)) (sym e))
+    (λ e less. first Greater (λ z. refl) (is_greater a b (digits_less y x (257 ^ n) (key_with n ys) (key_with n xs) (key_below n ys ty) less)) e)
+  where
+    a : ℕ
+    a = (x + 1) * 257 ^ n + key_with n xs
+
+    b : ℕ
+    b = (y + 1) * 257 ^ n + key_with n ys
+
+    tx : All (λ b. b < 256) xs
+    tx = All-tail (λ b. b < 256) x xs ax
+
+    ty : All (λ b. b < 256) ys
+    ty = All-tail (λ b. b < 256) y ys ay
+
+    tied : x ≡ y → nat_cmp a b ≡ nat_cmp (key_with n xs) (key_with n ys)
+    tied same =
+        ap (λ (z : ℕ). nat_cmp a ((z + 1) * 257 ^ n + key_with n ys)) (sym same)
+        ∙ shifted ((x + 1) * 257 ^ n) (key_with n xs) (key_with n ys)
+
+    first : (o : Ordering) → ((z : Ordering) → ordering_then o z ≡ o) → nat_cmp a b ≡ o → nat_cmp x y ≡ o → ordering_then (nat_cmp a b) (slice_cmp nat_cmp us vs) ≡ ordering_then (nat_cmp x y) (slice_cmp nat_cmp xs ys)
+    first o settles e f =
+        ap (λ (q : Ordering). ordering_then q (slice_cmp nat_cmp us vs)) e
+        ∙ settles (slice_cmp nat_cmp us vs)
+        ∙ sym (settles (slice_cmp nat_cmp xs ys))
+        ∙ sym (ap (λ (q : Ordering). ordering_then q (slice_cmp nat_cmp xs ys)) f)
+
+-- fewer digits than seven make a number that has room for one more
+pub key_small : (n : ℕ) (xs : List ℕ) → n < 7 → All (λ b. b < 256) xs → key_with n xs < 257 ^ 6
+key_small n xs few all =
+    let below : n ≤ 6 = omega (arith, few) in
+    let some : 1 ≤ 257 = omega arith in
+    let p : 257 ^ n ≤ 257 ^ 6 = pow-le-pow_right some below in
+    omega (arith, key_below n xs all, p)
+
+pub digit_small : (xs : List ℕ) (i : ℕ) → All (λ b. b < 256) xs → digit (slice_get xs i) < 257
+digit_small xs i all = by (slice_get xs i) (λ b is. All-at (λ b. b < 256) xs i b all is)
+  where
+    by : (o : Option ℕ) → ((b : ℕ) → o ≡ Some b → b < 256) → digit o < 257
+    by None each = omega arith
+    by (Some b) each = let s = each b refl in omega (arith, s)
+
+-- a byte that is there as a digit
+pub digit_at : (xs : List ℕ) (i d : ℕ) → i < length xs → digit (slice_get xs i) ≡ get_or xs i d + 1
+digit_at [] i d within = absurd (omega (arith, within))
+digit_at (x ∷ xs) zero d within = refl
+digit_at (x ∷ xs) (suc i) d within = digit_at xs i d (omega (arith, within))
+
+-- a number is made of as many bytes
+pub key_of_front : (n : ℕ) (xs : List ℕ) → key_with n (take n xs) ≡ key_with n xs
+unfolding key_with
+key_of_front zero xs = refl
+key_of_front (suc n) [] = refl
+key_of_front (suc n) (x ∷ xs) = ap (λ (k : ℕ). (x + 1) * 257 ^ n + k) (key_of_front n xs)
+
+pub range_more : (n : ℕ) → range_with_len 0 (n + 1) ≡ range_with_len 0 n ++ n ∷ []
+range_more n =
+    sym (map-id (range_with_len 0 (n + 1)))
+    ∙ map-range_with_len_more (λ j. j) 0 n n (omega arith)
+    ∙ ap (λ (js : List ℕ). js ++ n ∷ []) (map-id (range_with_len 0 n))
+
+-- a name as it is compared
+abbrev spelled : List ℕ → List ℕ
+spelled name = name_key name ∷ (name_key (drop 7 name) ∷ (name_key (drop 7 (drop 7 name)) ∷ rest_of name))
+
+spelled_is : (name : List ℕ) (k : Keyed) → IsKeyed name k → k.first ∷ (k.second ∷ (k.third ∷ rest_of name)) ≡ spelled name
+spelled_is name k is =
+    ap (λ (a : ℕ). a ∷ (k.second ∷ (k.third ∷ rest_of name))) is.first
+    ∙ ap (λ (b : ℕ). name_key name ∷ (b ∷ (k.third ∷ rest_of name))) is.second
+    ∙ ap (λ (c : ℕ). name_key name ∷ (name_key (drop 7 name) ∷ (c ∷ rest_of name))) is.third
+
+spelled_order : (xs ys : List ℕ) → All (λ b. b < 256) xs → All (λ b. b < 256) ys → slice_cmp nat_cmp (spelled xs) (spelled ys) ≡ slice_cmp nat_cmp xs ys
+spelled_order xs ys ax ay =
+    keys_order 7 xs ys (name_key (drop 7 xs) ∷ (name_key (drop 7 (drop 7 xs)) ∷ rest_of xs)) (name_key (drop 7 ys) ∷ (name_key (drop 7 (drop 7 ys)) ∷ rest_of ys)) ax ay
+    (keys_order 7 (drop 7 xs) (drop 7 ys) (name_key (drop 7 (drop 7 xs)) ∷ rest_of xs) (name_key (drop 7 (drop 7 ys)) ∷ rest_of ys) (behind 7 xs ax) (behind 7 ys ay)
+    (keys_order 7 (drop 7 (drop 7 xs)) (drop 7 (drop 7 ys)) (rest_of xs) (rest_of ys) (behind 7 (drop 7 xs) (behind 7 xs ax)) (behind 7 (drop 7 ys) (behind 7 ys ay)) refl))
+  where
+    behind : (n : ℕ) (zs : List ℕ) → All (λ b. b < 256) zs → All (λ b. b < 256) (drop n zs)
+    behind n zs all = All-drop (λ b. b < 256) n zs all
+
+-- keys are in the order of their names
+module _ (n : Names) where
+  same_order : (j k : Keyed) → IsKeyed (name_of n j.position) j → IsKeyed (name_of n k.position) k → slice_cmp nat_cmp (key_list n j) (key_list n k) ≡ slice_cmp nat_cmp (name_of n j.position) (name_of n k.position)
+  same_order j k a b =
+      ap (λ (us : List ℕ). slice_cmp nat_cmp us (key_list n k)) (spelled_is (name_of n j.position) j a)
+      ∙ ap (λ (vs : List ℕ). slice_cmp nat_cmp (spelled (name_of n j.position)) vs) (spelled_is (name_of n k.position) k b)
+      ∙ spelled_order (name_of n j.position) (name_of n k.position) a.bytes b.bytes
+
+  pub order_of : (ks js : List Keyed) → AreKeyed n ks → IsPermutation ks js → IsSortedByKey (key_list n) (slice_cmp nat_cmp) js → IsOrderOf (held_names n) js
+  order_of ks js are moved up = record {
+    positions = subst (λ (ps : List ℕ). IsPermutation ps (map (λ k. k.position) js)) are.positions (IsPermutation-map (λ k. k.position) ks js moved);
+    rising = λ k d low within.
+        let each : All (λ k. IsKeyed (name_of n k.position) k) js = All-permutation (λ (k : Keyed). IsKeyed (name_of n k.position) k) ks js moved are.keys in
+        sym (ap is_lt (same_order (get_or js (k + 1) d) (get_or js k d) (each (k + 1) d within) (each k d (omega (arith, within)))))
+        ∙ up k d low within;
+  }
+
+-- what a sort by a closure ensures that compares keys
+pub sorted_by_list :
+    {F : Type 0} {g : Mut F (Bor Keyed × (Bor Keyed × Unit {0})) Ordering} {f : F} (n : Names) (ks : List Keyed) →
+    ((lt : Keyed → Keyed → Bool) → IsStrictWeakOrder lt → ComparesAs g lt f → IsSortedBy lt ks) →
+    ((a : Bor Keyed × (Bor Keyed × Unit {0})) (r : Ordering) (f' : F) → Called g f a r f' →
+    (r ≡ slice_cmp nat_cmp (key_list n a.0.now) (key_list n a.1.0.now)) × (f' ≡ f)) →
+    IsSortedByKey (key_list n) (slice_cmp nat_cmp) ks
+sorted_by_list {g = g} {f = f} n ks up calls =
+    up (λ x y. is_lt (slice_cmp nat_cmp (key_list n x) (key_list n y))) (ranks_by nat_list_cmp_total (key_list n))
+    (always_returns_same g (λ a r. is_lt r ≡ is_lt (slice_cmp nat_cmp (key_list n a.0.now) (key_list n a.1.0.now))) f
+    (λ a r f' k. (ap is_lt (calls a r f' k).0, (calls a r f' k).1)))
+
+-- one more key
+pub more_keys : (n : Names) (ks : List Keyed) (i : ℕ) (k : Keyed) → map (λ k. k.position) ks ≡ range_with_len 0 i → k.position ≡ i → map (λ k. k.position) (ks ++ k ∷ []) ≡ range_with_len 0 (i + 1)
+more_keys n ks i k are is =
+    map-append (λ k. k.position) ks (k ∷ [])
+    ∙ ap (λ (ps : List ℕ). ps ++ k.position ∷ []) are
+    ∙ ap (λ (p : ℕ). range_with_len 0 i ++ p ∷ []) is
+    ∙ sym (range_more i)

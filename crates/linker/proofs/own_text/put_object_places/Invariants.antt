@@ -1,0 +1,13 @@
+use Rattle.std.proofs.Common.{drop, map}
+use Rattle.std.specs.List.{flat_map}
+use Rattle.elf_model.specs.Image.MapText.{place_text}
+use Rattle.elf_model.specs.Link.Pieces.{pieces_from}
+use Rattle.search.specs.Views.{loaded_view}
+use Rattle.image_write.specs.Maps.{own_row}
+use Rattle.linker.proofs.Behind.{Leads}
+use Rattle.linker.proofs.own_text.put_object_places.Given as goal
+
+abbrev pub invariant-loop-i : goal.invariant-loop-i
+invariant-loop-i g l =
+    Leads (g.T.LineSink.told l.fn.text) (flat_map place_text (map (own_row l.placement) (pieces_from l.number (loaded_view l.loaded) 0 l.headers)))
+    (g.T.LineSink.told l.text) (flat_map place_text (map (own_row l.placement) (pieces_from l.number (loaded_view l.loaded) l.i (drop l.i l.headers))))

@@ -1,0 +1,11 @@
+use Rattle.elf_model.specs.Own.OwnLayout.{own_where}
+use Rattle.elf_model.specs.Image.RightLink.{symbol_row_of}
+use Rattle.linker.proofs.Behind.{part_put}
+use Rattle.linker.proofs.OwnTexts.{symbols_front}
+use Rattle.linker.proofs.own_text.put_symbols.Goals as goal
+
+pub loop-meaning-preserved : goal.loop-meaning-preserved
+loop-meaning-preserved g c =
+    let b = c.args.placement.now in
+    part_put _ _ _ _ _ _ _ c.loop-meaning.invariant
+    (symbols_front (symbol_row_of (own_where b.base b.objects)) c.args.listed.now c.loop-meaning.meaning-index _ c.loop-meaning-test.true) c.in_ok-put_symbol.ensures
