@@ -25,28 +25,28 @@ HasSectionStrings bytes = object.HasSectionStrings (length bytes) (file_header b
 abbrev pub HasSymbolStrings : List ℕ → Type 0
 HasSymbolStrings bytes = object.HasSymbolStrings (length bytes) (file_header bytes) (sections bytes)
 
--- a section of a table that can be read, its header's place in the file, and its name exactly where that can be read
+-- a section of a table that can be read, its header's offset in the file, and its name exactly where that can be read
 pub record IsSectionPart (bytes : List ℕ) (p : SectionPart) : Type 0 where
   pub table : HasTable (length bytes) (file_header bytes)
   pub there : slice_get (sections bytes) p.number ≡ Some p.header
   pub at : p.at ≡ (file_header bytes).e_shoff + 64 * p.number
   pub name : SomeIff (option_copied p.name) (HasText (section_strings bytes) p.header.sh_name) (name_of_section bytes p.header)
 
--- a symbol of a table that can be read, its entry's place in the file, and its name exactly where that can be read
+-- a symbol of a table that can be read, its entry's offset in the file, and its name exactly where that can be read
 pub record IsSymbolPart (bytes : List ℕ) (p : SymbolPart) : Type 0 where
   pub readable : HasSymbols bytes
   pub there : slice_get (symbols bytes) p.number ≡ Some p.entry
   pub at : p.at ≡ (symbol_table (sections bytes)).sh_offset + 24 * p.number
   pub name : SomeIff (option_copied p.name) (HasText (symbol_strings bytes) p.entry.st_name) (name_of_symbol bytes p.entry)
 
--- an entry of a RELA section that can be read, and its place in the file
+-- an entry of a RELA section that can be read, and its offset in the file
 pub record IsEntryPart (bytes : List ℕ) (p : EntryPart) : Type 0 where
   pub table : IsSectionPart bytes p.table
   pub entries : HasEntries (length bytes) p.table.header
   pub there : slice_get (relas_of bytes p.table.header) p.number ≡ Some p.entry
   pub at : p.at ≡ p.table.header.sh_offset + 24 * p.number
 
--- a member of a group that can be read, and the place in the file of its word, which stands after the group's flags
+-- a member of a group that can be read, and the offset in the file of its word, which stands after the group's flags
 pub record IsMemberPart (bytes : List ℕ) (p : MemberPart) : Type 0 where
   pub group : IsSectionPart bytes p.group
   pub members : HasMembers (length bytes) p.group.header

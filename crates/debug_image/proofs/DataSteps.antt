@@ -8,7 +8,7 @@ use Rattle.std.specs.Global.{Vec}
 use Rattle.debug_image.specs.DebugSections.{AreLow, EndsLow}
 use Rattle.debug_image.specs.DebugViews.{row_view, row_views}
 
--- each of some places ends low
+-- each of some sections at their offsets ends low
 pub low_at :
     (ps : List Place) → All EndsLow (place_views ps) → (k : ℕ) (d : Place) → k < length ps → EndsLow (place_view (get_or ps k d))
 low_at ps all k d within = All-unmap EndsLow place_view ps all k d within

@@ -33,7 +33,7 @@ replaced_low (i ∷ is) j all low =
     let rest = All-tail IsLow i is all in
     replaced_by (is_joined_of j.title i) i j is (replaced is j) (All-head IsLow i is all) low rest (replaced_low is j rest low)
 
--- what is put in the place of another one
+-- what is put in place of another one
 set_parts : (js : List code.Joined) (k : ℕ) (m : code.Joined) → k < length js → set js k m ≡ take k js ++ m ∷ drop (k + 1) js
 set_parts js k m within =
     sym (take-append-drop k (set js k m))

@@ -81,7 +81,7 @@ is_joined_of name j = bytes_eq j.title name
 abbrev pub named : List Joined → List ℕ → Joined
 named js name = unwrap_or (find (is_joined_of name) js) (empty name)
 
--- what is joined of one name in the place of what was joined of it, or behind all where that was nothing
+-- what is joined of one name in place of what was joined of it, or behind all where that was nothing
 abbrev pub replaced : List Joined → Joined → List Joined
 replaced [] j = j ∷ []
 replaced (i ∷ is) j = cond (is_joined_of j.title i) (j ∷ is) (i ∷ replaced is j)

@@ -41,7 +41,7 @@ piece_in object i o = piece_of object o.bytes i (section (sections o.bytes) i)
 abbrev pub symbol_piece : List LoadedObject → SymbolOf → Option Piece
 symbol_piece objects s = option_map (piece_in s.object s.entry.st_shndx) (slice_get objects s.object)
 
--- the value of a symbol in a section at an address: the address of its place, or its offset in thread-local storage
+-- the value of a symbol in a section at an address: its address, or its offset in thread-local storage
 abbrev pub value_at : Laid → Piece → ℕ → ℕ → ℕ
 value_at l p at offset = cond (is_thread_local p.header) ((at + offset) % 2 ^ 64 - thread_start l) ((at + offset) % 2 ^ 64)
 

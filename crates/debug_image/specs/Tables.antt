@@ -1,5 +1,5 @@
 -- What stands behind the file part of a debuggable image: .symtab, .strtab and .shstrtab, and the section headers (System V
--- gABI 4, "Sections", "String Table", "Symbol Table"; the order and the places are the profile's).
+-- gABI 4, "Sections", "String Table", "Symbol Table"; the order and the offsets are the profile's).
 use Rattle.std.specs.Prelude.{ℕ, ◌+◌, ◌-◌, ◌%◌, ◌^◌, ◌<◌, List, [], ◌∷◌, ◌++◌, codes, length, replicate}
 use Rattle.std.specs.List.{flat_map}
 use Rattle.elf_model.specs.Own.ImageFile.{HeaderFields}

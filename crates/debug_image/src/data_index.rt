@@ -20,7 +20,7 @@ pub struct DataSection {
     pub relas: Vec<usize>,
 }
 
-/// Adds a section at its place, without relocations.
+/// Adds a section at its offset, without relocations.
 fn add_place(
     alloc: Global,
     index: &mut BTreeMap<u64, DataSection>,

@@ -35,9 +35,9 @@ const R_X86_64_DTPOFF64: u32 = 17;
 /// R_X86_64_DTPOFF32.
 const R_X86_64_DTPOFF32: u32 = 21;
 
-/// Where a link with debug data is laid out: its objects, their places, the slots of the GOT, the sections that hold debug data
-/// at their offsets, a row for each object, an index of each row, the thread pointer, where thread-local storage begins and the address of the GOT,
-/// all modulo 2 to the 64.
+/// Where a link with debug data is laid out: its objects, the places of their pieces, the slots of the GOT, the sections that
+/// hold debug data at their offsets, a row for each object, an index of each row, the thread pointer, where thread-local storage
+/// begins and the address of the GOT, all modulo 2 to the 64.
 #[derive(Clone, Copy)]
 pub struct DataLayout<'c, 'a> {
     pub objects: &'c [LoadedObject<'a>],

@@ -107,7 +107,7 @@ fn named<'a>(joined: &[Joined<'a>], name: &'a [u8]) -> Joined<'a>
     empty(name)
 }
 
-/// Puts what is joined of a name in the place of what was joined of it, or behind all where that was nothing.
+/// Puts what is joined of a name in place of what was joined of it, or behind all where that was nothing.
 fn put<'a>(joined: &mut Vec<Joined<'a>>, more: Joined<'a>) -> Result<(), AllocError>
     ensures { OnOk result (joined_views joined.new.items
         ≡ spec.replaced (joined_views joined.old.items) (joined_view more.entry)) }
@@ -122,7 +122,7 @@ fn put<'a>(joined: &mut Vec<Joined<'a>>, more: Joined<'a>) -> Result<(), AllocEr
     Ok(())
 }
 
-/// The place of a section behind what is joined of its name; TooLarge where it ends too high.
+/// A section at its offset behind what is joined of its name; TooLarge where it ends too high.
 fn place_behind<'a>(joined: &Joined<'a>, piece: &Piece<'a>) -> Result<Place<'a>, DebugFault>
     requires { spec.IsLow (joined_view joined.now) }
     ensures place { IfOk result (λ q. place_view q
@@ -139,7 +139,7 @@ fn place_behind<'a>(joined: &Joined<'a>, piece: &Piece<'a>) -> Result<Place<'a>,
     Ok(Place { at, piece: *piece })
 }
 
-/// Adds a section to what is joined of its name, and its place there; TooLarge where it ends too high, or there are more names
+/// Adds a section to what is joined of its name, and its offset there; TooLarge where it ends too high, or there are more names
 /// than there may be.
 fn add<'a>(
     places: &mut Vec<Place<'a>>,
@@ -172,7 +172,7 @@ fn add<'a>(
     Ok(())
 }
 
-/// Adds sections of an object, and their places.
+/// Adds sections of an object, and their offsets.
 fn add_all<'a>(
     alloc: Global,
     joined: &mut Vec<Joined<'a>>,
@@ -199,7 +199,7 @@ fn add_all<'a>(
     Ok(places)
 }
 
-/// Adds the sections of the object that has a number, a row of their places, and an index of that.
+/// Adds the sections of the object that has a number, a row of their offsets, and an index of that.
 fn add_object<'a>(
     alloc: Global,
     rows: &mut Vec<Vec<Place<'a>>>,

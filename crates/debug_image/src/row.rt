@@ -1,4 +1,4 @@
-//! A symbol of an image, whose name has no place yet.
+//! A symbol of an image, whose name has no offset yet.
 
 use elf_model::Symbol;
 

@@ -25,8 +25,8 @@ use resolve::{Block, Definition, SymbolOf, is_dropped};
 use search::LoadedObject;
 use std::alloc::{AllocError, Global};
 
-/// Where a link is laid out: its objects, their places, the sections of its image, their numbers, and where thread-local
-/// storage begins.
+/// Where a link is laid out: its objects, the places of their pieces, the sections of its image, their numbers, and where
+/// thread-local storage begins.
 #[derive(Clone, Copy)]
 pub struct Layout<'c, 'a> {
     pub objects: &'c [LoadedObject<'a>],
@@ -61,7 +61,7 @@ fn section_address(layout: &Layout<'_, '_>, symbol: &SymbolOf<'_>) -> Option<u64
     })
 }
 
-/// The value of a symbol in a section at an address: the address of its place, or its offset in thread-local storage.
+/// The value of a symbol in a section at an address: its address, or its offset in thread-local storage.
 fn value_at(layout: &Layout<'_, '_>, piece: &Piece<'_>, at: u64, offset: u64) -> u64
     requires { IsLayout layout.now }
     ensures { result ≡ spec.value_at (laid_in layout.now) (piece_view piece.now) at offset }

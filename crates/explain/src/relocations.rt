@@ -34,7 +34,7 @@ fn unlawful_entry<'a>(
     Some(Place::Relocation(place, fault))
 }
 
-/// Adds the kept relocations of object `number` that aren't lawful.
+/// Adds the kept relocations of an object, by its number, that aren't lawful.
 fn add_object<'a>(
     alloc: Global,
     found: &mut Found<'a>,

@@ -38,7 +38,7 @@ fn unfit_entry<'a>(loaded: &Loaded<'a>, valued: &Valued<'_, 'a>, at: &EntryAt) -
     Some(Place::Value(place, value, address))
 }
 
-/// Adds the kept relocations of object `number` whose values don't fit.
+/// Adds the kept relocations of an object, by its number, whose values don't fit.
 fn add_object<'a>(
     alloc: Global,
     found: &mut Found<'a>,

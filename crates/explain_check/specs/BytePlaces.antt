@@ -17,7 +17,7 @@ use Rattle.explain_check.specs.declared.memory_place.BytePlace.{BytePlace}
 abbrev pub width_of_entry : Rela → ℕ
 width_of_entry e = unwrap_or (option_map (λ k. k.width) (kind_of (rela_type e))) 0
 
--- C10. Memory doesn't have the wanted byte at a place of a piece, which lies in a relocation's field if one is told.
+-- C10. Memory doesn't have the wanted byte at an offset in a piece, which lies in a relocation's field if one is told.
 pub record IsFieldOver (objects : List LoadedObject) (object section k : ℕ) (p : RelocationPlace) : Type 0 where
   pub r : Relocation
   pub at : IsRelocationAt objects p r

@@ -62,7 +62,7 @@ pub record IsWrongSlotAddress (s : Subject) (k : ℕ) (there wanted : ℕ) : Typ
   pub is_wanted : wanted ≡ got.address + 8 + 8 * k
   pub wrong : ¬ (row.address ≡ got.address + 8 + 8 * k)
 
--- memory doesn't have the wanted byte at a place of the GOT
+-- memory doesn't have the wanted byte at an offset in the GOT
 pub record IsWrongGotByte (s : Subject) (p : GotBytePlace) : Type 0 where
   pub got : s.map.got ≡ Some p.got
   pub below : p.offset < p.got.size

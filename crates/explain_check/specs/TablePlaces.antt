@@ -51,7 +51,7 @@ pub record IsWrongCount (s : Subject) (told wanted : ℕ) : Type 0 where
   pub is_wanted : wanted ≡ entry_count (tabled_of s)
   pub wrong : ¬ (told ≡ wanted)
 
--- the file header has other numbers of sections, or another place of their headers, than a table asks for
+-- the file header has other numbers of sections, or another offset of their headers, than a table asks for
 pub record HasWrongNumbers (s : Subject) (count names : ℕ) : Type 0 where
   pub told : IsSome s.map.symtab
   pub is_count : count ≡ (file_header s.image).e_shnum

@@ -115,7 +115,7 @@ fn byte_at(bytes: &[u8], i: usize) -> Option<u8>
     bytes.get(i).copied()
 }
 
-/// The first place at which two runs differ.
+/// The first offset at which two runs differ.
 fn first_difference(a: &[u8], b: &[u8]) -> Option<usize> {
     (0..a.len().max(b.len())).find(|i| !are_same(byte_at(a, *i), byte_at(b, *i)))
 }
@@ -249,7 +249,7 @@ fn add_byte<'a>(
     found.add_some(wrong_byte(bound, end, bytes, &wanted, &table.names))
 }
 
-/// Adds the count, the place of the headers and the first byte that are others than a table asks for.
+/// Adds the count, the offset of the headers and the first byte that are others than a table asks for.
 fn add_contents<'a>(
     alloc: Global,
     found: &mut Found<'a>,

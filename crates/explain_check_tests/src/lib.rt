@@ -1,4 +1,4 @@
-//! Tests of where checks fail: links that are changed in one place or a few, and the lines that say what is wrong.
+//! Tests of where checks fail: links after a change or a few, and the lines that say what is wrong.
 #![tactic(auto)]
 
 #[cfg(test)]

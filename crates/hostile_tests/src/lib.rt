@@ -1,4 +1,4 @@
-//! Tests of hostile input: files, images and maps that are cut off, or that are changed in one place, and numbers at
+//! Tests of hostile input: files, images and maps that are cut off, or of which a byte is changed, and numbers at
 //! which a sum or a product would wrap.
 #![tactic(auto)]
 

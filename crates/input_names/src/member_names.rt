@@ -7,7 +7,7 @@ const HEADER_SIZE: usize = 60;
 
 const SIZE_AT: usize = 48;
 
-/// The bytes of a file from one place to before another; None where it hasn't got them.
+/// So many bytes of a file from an offset on; None where it hasn't got them.
 fn part(file: &[u8], from: usize, len: usize) -> Option<&[u8]> {
     let to = from.checked_add(len)?;
     file.get(from..to)
@@ -49,7 +49,7 @@ fn trimmed(name: &[u8]) -> &[u8] {
     }
 }
 
-/// Where the header of the next member is, behind that at a place.
+/// Where the header of the next member is, behind that at an offset.
 fn next_header(file: &[u8], at: usize) -> Option<usize> {
     let size = number(part(file, at.checked_add(SIZE_AT)?, 10)?);
     at.checked_add(HEADER_SIZE)?
@@ -57,7 +57,7 @@ fn next_header(file: &[u8], at: usize) -> Option<usize> {
         .checked_add(size % 2)
 }
 
-/// The data of the member whose header is at a place.
+/// The data of the member whose header is at an offset.
 pub fn member_data(file: &[u8], at: usize) -> Option<&[u8]> {
     let size = number(part(file, at.checked_add(SIZE_AT)?, 10)?);
     part(file, at.checked_add(HEADER_SIZE)?, size)
@@ -75,7 +75,7 @@ fn long_names(file: &[u8]) -> Option<&[u8]> {
     None
 }
 
-/// A long name, by its place among them: the text up to the slash before a line feed.
+/// A long name, by its offset among them: the text up to the slash before a line feed.
 fn long_name(file: &[u8], place: usize) -> Option<&[u8]> {
     let names = long_names(file)?;
     let (_, rest) = names.split_at_checked(place)?;

@@ -1,4 +1,4 @@
-//! Links as rows of tables: files in, and what is wanted of the link; and checks of links that are changed in one place.
+//! Links as rows of tables: files in, and what is wanted of the link; and checks of links after a change.
 use crate::archives::archive;
 use crate::objects::{NamedSymbol, Relocation, Section, relocatable};
 use crate::one_object::words_of;
@@ -43,7 +43,7 @@ pub enum Wanted {
 pub type Row = (&'static [File], &'static str, Wanted);
 
 /// What is changed of a link before it is checked: the words, a byte of the first file or of the image at an offset, the
-/// files, the map, or the first place of a text in it.
+/// files, the map, or a text in it where it first occurs.
 pub enum Change {
     Nothing,
     Words(&'static str),
@@ -187,7 +187,7 @@ pub fn first_wrong(alloc: Global, rows: &[Row]) -> Result<Option<usize>, Fail> {
     Ok(None)
 }
 
-/// A text with the first place of another one in it replaced.
+/// A text in which another one is replaced where it first occurs.
 pub fn replaced(alloc: Global, text: &[u8], old: &str, new: &str) -> Result<Vec<u8>, Fail> {
     let text = str::from_utf8(text)?;
     let (front, rest) = text.split_once(old).ok_or("no such text")?;
@@ -197,7 +197,7 @@ pub fn replaced(alloc: Global, text: &[u8], old: &str, new: &str) -> Result<Vec<
     Ok(bytes)
 }
 
-/// Changes a link in one place, but for its words.
+/// Makes a change of a link, but for one of its words.
 fn apply(
     alloc: Global,
     files: &mut Vec<InputFile>,
@@ -218,7 +218,7 @@ fn apply(
     Ok(())
 }
 
-/// The link of files by words, changed in one place, but for its words: the files and what comes of them.
+/// The link of files by words after a change, but for one of its words: the files and what comes of them.
 pub fn changed(
     alloc: Global,
     files: &[File],

@@ -1,4 +1,4 @@
-//! Rows of links that are changed in one place, and the lines that say where their check fails.
+//! Rows of links that are changed, and the lines that say where their check fails.
 use check_link::Link;
 use elf_model::InputFile;
 use explain_check::{explain_check, read_link, write_check_place};

@@ -70,7 +70,7 @@ static UNLAWFUL: [Unlawful; 7] = [
     ),
 ];
 
-/// The object of a row, with a relocation in the place of its own.
+/// The object of a row, with a relocation in place of its own.
 fn object_of(
     alloc: Global,
     row: &Unlawful,

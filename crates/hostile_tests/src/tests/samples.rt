@@ -1,4 +1,4 @@
-//! A link of one object that the checker finds right, to be changed in one place; and what a byte is changed by.
+//! A link of one object that the checker finds right, of which a byte is to be changed; and what it is changed by.
 use elf_model::InputFile;
 use ld_main::{Verdict, check};
 use link_samples::links::linked_by;

@@ -290,7 +290,7 @@ fn its_name_makes_a_table(rt: HostRuntime) -> Result<(), Fail> {
     Ok(())
 }
 
-/// The lines of the table and its slot, in whose place others stand.
+/// The lines of the table and its slot, for which others are put.
 const LINES: &str = "got 0000000000402008 16\nslot 0000000000402010 value name v\n";
 
 static WRONG_LINES: [Judged; 12] = [

@@ -1,4 +1,4 @@
-//! The least clause that fails, of links that are wrong in one place.
+//! The least clause that fails, of links with one mistake.
 use elf_model::{InputFile, NameSeed};
 use ld_main::{Clause, Verdict, check, check_in};
 use link_samples::links::{Change, File, Judged, first_misjudged, linked};
@@ -189,7 +189,7 @@ fn referring(
     one_file(alloc, "a.o", &bytes)
 }
 
-/// What the check says where an object has a relocation, and was linked with one of type NONE at its place.
+/// What the check says where an object has a relocation, and was linked with one of type NONE in its stead.
 fn verdict_with(
     alloc: Global,
     symbol: NamedSymbol<'_>,

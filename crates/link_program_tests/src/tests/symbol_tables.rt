@@ -115,7 +115,7 @@ fn verdict_on(
     verdict_of(alloc, line, map, &image)
 }
 
-/// Texts of the map with a table, others in their places, and what the check says of the map.
+/// Texts of the map with a table, others that are put for them, and what the check says of the map.
 static CHANGED_MAPS: [(&str, &str, Verdict); 3] = [
     ("symtab 4112 2", "symtab 4112 3", Verdict::No(Clause::C14)),
     ("symtab 4112 2", "symtab 4120 2", Verdict::No(Clause::C14)),

@@ -27,7 +27,7 @@ static FILES: [(&str, &[u8], usize); 6] = [
     ("cut.o", b"", 63),
 ];
 
-/// Those files, and the archive with zeros in the place of the object.
+/// Those files, and the archive with zeros in place of the object.
 fn files(alloc: Global) -> Result<Vec<InputFile>, AllocError> {
     let object = start_object(alloc)?;
     let mut list = Vec::new(alloc);

@@ -144,7 +144,7 @@ static WRONG_TEXTS: [(&[u8], usize, u64); 12] = [
     (ONE_OBJECT, 102, 5),
 ];
 
-/// Maps, texts in them, what stands in their first place, and the line at which that is no beginning of a map: a place
+/// Maps, texts in them, what is put where they first occur, and the line at which that is no beginning of a map: a `place` line
 /// twice, a zero before a number, and a symbol table in version 1.
 static WRONG_CHANGES: [(&[u8], &str, &str, u64); 3] = [
     (ONE_OBJECT, "symbol", PLACE_AND_SYMBOL, 4),
@@ -292,7 +292,7 @@ fn reads_the_table(rt: HostRuntime) -> Result<(), Fail> {
     Ok(())
 }
 
-/// Whether a map has the second object and the second place of the text with each kind of line.
+/// Whether a map has the second object and the second `place` line of the text with each kind of line.
 fn has_second_lines(map: &LinkMap) -> bool {
     let (Some(object), Some(place)) = (map.objects.get(1), map.places.get(1)) else {
         return false;

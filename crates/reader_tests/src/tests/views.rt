@@ -104,7 +104,7 @@ fn fronts_are_compared(a: &[u8], b: &[u8], len: usize) -> bool
 
 #[test]
 fn runs_of_all_lengths_are_compared(rt: HostRuntime) -> Result<(), Fail> {
-    // One byte differs, at each place, in runs of each length that end before it or after.
+    // One byte differs, at each offset, in runs of each length that end before it or after.
     let alloc = rt.alloc();
     let same = vec![in alloc; 0x90; 131]?;
     for place in 0..131 {

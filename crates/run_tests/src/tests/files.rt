@@ -11,7 +11,7 @@ use std::test::Fail;
 /// An empty archive.
 static ARCHIVE: &[u8] = b"!<arch>\n";
 
-/// The object, but for its place and how it answers.
+/// The object, but for its path and how it answers.
 fn object<'a>(path: &'a str) -> StoredFile<'a> {
     StoredFile::sound(path, &OBJECT)
 }

@@ -51,7 +51,7 @@ fn data(alloc: Global) -> Result<Vec<u8>, Fail> {
     Ok(bytes)
 }
 
-/// Puts the address of `_start`, with the field's place added, over a field of the data.
+/// Puts the address of `_start`, with the field's offset added, over a field of the data.
 fn put_field(image: &mut [u8], field: u32) {
     let value = START_ADDRESS + field as u64;
     for (byte, value) in image
@@ -63,7 +63,7 @@ fn put_field(image: &mut [u8], field: u32) {
     }
 }
 
-/// The image that is wanted: each field has the address of `_start`, with the field's place added.
+/// The image that is wanted: each field has the address of `_start`, with the field's offset added.
 fn wanted(alloc: Global) -> Result<Vec<u8>, Fail> {
     let mut image = Vec::from_slice(alloc, &HEADERS)?;
     image.resize(TEXT_OFFSET, 0)?;

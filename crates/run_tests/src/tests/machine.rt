@@ -40,7 +40,7 @@ pub struct StoredFile<'a> {
     pub step: usize,
     /// Why it can be neither opened nor made.
     pub locked: Option<ErrorKind>,
-    /// The place from which on it can be neither read nor written, and why.
+    /// The offset from which on it can be neither read nor written, and why.
     pub torn: Option<(usize, ErrorKind)>,
 }
 
@@ -58,7 +58,7 @@ impl<'a> StoredFile<'a> {
         }
     }
 
-    /// Whether it is whole up to a place.
+    /// Whether it is whole up to an offset.
     fn whole_until(&self, place: usize) -> io::Result<()> {
         match self.torn {
             Some((torn, why)) if place >= torn => Err(io::Error::from(why)),
@@ -66,7 +66,7 @@ impl<'a> StoredFile<'a> {
         }
     }
 
-    /// The bytes of a read from a place on, into room for some.
+    /// The bytes of a read from an offset on, into room for some.
     fn part(&self, place: usize, room: usize) -> io::Result<&'a [u8]> {
         self.whole_until(place)?;
         let end = place
@@ -82,7 +82,7 @@ impl<'a> StoredFile<'a> {
 pub struct NewFiles {
     /// How many bytes a write takes at most, one at least.
     pub step: usize,
-    /// The place from which on they can't be written, and why.
+    /// The offset from which on they can't be written, and why.
     pub torn: Option<(usize, ErrorKind)>,
     /// Why none is made.
     pub locked: Option<ErrorKind>,
@@ -213,7 +213,7 @@ impl<'a> Disk<'a> {
         Ok(number)
     }
 
-    /// How many bytes a write takes of some that come at a place of a file.
+    /// How many bytes a write takes of some that come at an offset of a file.
     fn room(&self, path: &str, place: usize, count: usize) -> io::Result<usize> {
         let (step, torn) = match self.find(path)? {
             Some(file) => (file.step, file.torn),
@@ -226,7 +226,7 @@ impl<'a> Disk<'a> {
         }
     }
 
-    /// Puts the first of some bytes into a file that was made, from a place on, behind zeros where
+    /// Puts the first of some bytes into a file that was made, from an offset on, behind zeros where
     /// it hasn't got there, and answers how many.
     fn put(&self, number: usize, place: usize, bytes: &[u8]) -> io::Result<usize>
         ensures { IfOk result (λ n. n ≤ length bytes.now) }
@@ -307,7 +307,7 @@ impl<'a> Disk<'a> {
     }
 }
 
-/// An open file: one that is read, or one that was made, by its number, and the place where it is.
+/// An open file: one that is read, or one that was made, by its number, and the offset that it has come to.
 #[derive(Clone, Copy)]
 enum Handle<'a> {
     Read(&'a StoredFile<'a>, usize),

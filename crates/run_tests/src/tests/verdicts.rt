@@ -1,4 +1,4 @@
-//! The line that a check prints for each clause, of links that are wrong in one place.
+//! The line that a check prints for each clause, of links with one mistake.
 use crate::tests::machine::StoredFile;
 use crate::tests::runs::run_line;
 use elf_model::{SHF_ALLOC, SHF_TLS, SHF_WRITE};
