@@ -6,8 +6,16 @@ use Rattle.check_load.specs.Numbered.{number_in}
 use Rattle.check_load.specs.declared.loaded.Loaded.{Loaded}
 use Rattle.elf_model.specs.Link.ChosenSymbols.{is_chosen, is_same_symbol}
 use Rattle.elf_model.specs.Link.Loading.{LoadedObject}
-use Rattle.elf_model.specs.Link.Resolution.{SymbolOf, chosen}
+use Rattle.elf_model.specs.Link.Resolution.{SymbolOf, chosen, is_common_definition, is_strong, is_weak_definition}
 use Rattle.check_link.specs.declared.chosen_definitions.Chosen.{Chosen}
+use Rattle.check_link.specs.declared.chosen_definitions.Rank.{Rank}
+use Rattle.check_link.specs.declared.chosen_definitions.Rank.TheVariants as rank
+
+-- a symbol is a definition of a rank
+abbrev pub is_of_rank : Rank → SymbolOf → Bool
+is_of_rank rank.Strong s = is_strong s
+is_of_rank rank.Common s = is_common_definition s
+is_of_rank rank.Weak s = is_weak_definition s
 
 -- the number of the first of symbols that passes a test, where they are numbered from k on
 abbrev pub first_from : (SymbolOf → Bool) → ℕ → List SymbolOf → Option ℕ

@@ -5,11 +5,11 @@ ghost use Rattle.std.specs.Option.{option_and_then, option_or};
 ghost use Rattle.std.specs.Str.{bytes_eq};
 ghost use Rattle.elf_model.specs.Link.ChosenSymbols.{is_definition};
 ghost use Rattle.elf_model.specs.Link.Resolution as resolution;
-ghost use Rattle.elf_model.specs.Link.Resolution.{all_symbols, has_name, is_common_definition, is_strong, is_weak_definition};
+ghost use Rattle.elf_model.specs.Link.Resolution.{all_symbols, has_name};
 ghost use Rattle.check_load.specs.NameNumbers.{KeepNumbers, number_of, with_name};
 ghost use Rattle.check_load.specs.Numbered.{AreNumbered};
 ghost use Rattle.check_load.specs.Views.{loaded_views};
-ghost use Rattle.check_link.specs.Chosen.{AreChosen, AreHinted, AreOwnIn, HaveMarks, IsHinted, IsOwn, IsSized, definition_in, first_from, hint_at, is_found, marked_by, position_at, position_in};
+ghost use Rattle.check_link.specs.Chosen.{AreChosen, AreHinted, AreOwnIn, HaveMarks, IsHinted, IsOwn, IsSized, definition_in, first_from, hint_at, is_found, is_of_rank, marked_by, position_at, position_in};
 ghost use Rattle.check_link.specs.Views.{symbol_view, symbol_views};
 
 use crate::definitions::{is_common_definition, is_strong, is_weak_definition};
@@ -95,68 +95,32 @@ fn add_position<'a>(
     Ok(())
 }
 
-/// Adds the first strong one among definitions of each name that the index hasn't got.
-fn add_strong<'a>(
-    objects: &[Loaded<'a>],
-    index: &mut Chosen<'a>,
-    definitions: &[SymbolOf<'a>],
-) -> Result<(), AllocError>
-    requires sized { IsSized index.old }
-    requires hinted { AreHinted index.old.names objects.now (symbol_views definitions.now) }
-    ensures sized { OnOk result (IsSized index.new) }
-    ensures kept { OnOk result (KeepNumbers index.old.names index.new.names) }
-    ensures hinted { OnOk result
-        (AreHinted index.new.names objects.now (symbol_views definitions.now)) }
-    ensures positions { OnOk result ((name : List ℕ) →
-        position_in index.new name
-        ≡ option_or (position_in index.old name)
-        (first_from (λ s. is_strong s && has_name name s) 0 (symbol_views definitions.now))) }
-    ensures own { OnOk result (IsOwn (symbol_views definitions.now) index.old
-        → IsOwn (symbol_views definitions.now) index.new) }
-{
-    for (i, symbol) in definitions.iter().enumerate() {
-        if !is_strong(symbol) {
-            continue;
-        }
-        add_position(objects, index, symbol, i)?;
-    }
-    Ok(())
+/// Which definitions of a name count before others (System V gABI 4, "Symbol Table"): a strong one before a common one, and
+/// that before a weak one.
+#[derive(Clone, Copy, Debug)]
+pub enum Rank {
+    Strong,
+    Common,
+    Weak,
 }
 
-/// Adds the first common one among definitions of each name that the index hasn't got.
-fn add_common<'a>(
-    objects: &[Loaded<'a>],
-    index: &mut Chosen<'a>,
-    definitions: &[SymbolOf<'a>],
-) -> Result<(), AllocError>
-    requires sized { IsSized index.old }
-    requires hinted { AreHinted index.old.names objects.now (symbol_views definitions.now) }
-    ensures sized { OnOk result (IsSized index.new) }
-    ensures kept { OnOk result (KeepNumbers index.old.names index.new.names) }
-    ensures hinted { OnOk result
-        (AreHinted index.new.names objects.now (symbol_views definitions.now)) }
-    ensures positions { OnOk result ((name : List ℕ) →
-        position_in index.new name
-        ≡ option_or (position_in index.old name)
-        (first_from (λ s. is_common_definition s && has_name name s) 0
-        (symbol_views definitions.now))) }
-    ensures own { OnOk result (IsOwn (symbol_views definitions.now) index.old
-        → IsOwn (symbol_views definitions.now) index.new) }
+/// Whether a definition is of a rank.
+fn is_of(rank: Rank, symbol: &SymbolOf<'_>) -> bool
+    ensures { result ≡ is_of_rank rank (symbol_view symbol.now) }
 {
-    for (i, symbol) in definitions.iter().enumerate() {
-        if !is_common_definition(symbol) {
-            continue;
-        }
-        add_position(objects, index, symbol, i)?;
+    match rank {
+        Rank::Strong => is_strong(symbol),
+        Rank::Common => is_common_definition(symbol),
+        Rank::Weak => is_weak_definition(symbol),
     }
-    Ok(())
 }
 
-/// Adds the first weak one among definitions of each name that the index hasn't got.
-fn add_weak<'a>(
+/// Adds the first one of a rank among definitions of each name that the index hasn't got.
+fn add_first<'a>(
     objects: &[Loaded<'a>],
     index: &mut Chosen<'a>,
     definitions: &[SymbolOf<'a>],
+    rank: Rank,
 ) -> Result<(), AllocError>
     requires sized { IsSized index.old }
     requires hinted { AreHinted index.old.names objects.now (symbol_views definitions.now) }
@@ -167,13 +131,12 @@ fn add_weak<'a>(
     ensures positions { OnOk result ((name : List ℕ) →
         position_in index.new name
         ≡ option_or (position_in index.old name)
-        (first_from (λ s. is_weak_definition s && has_name name s) 0
-        (symbol_views definitions.now))) }
+        (first_from (λ s. is_of_rank rank s && has_name name s) 0 (symbol_views definitions.now))) }
     ensures own { OnOk result (IsOwn (symbol_views definitions.now) index.old
         → IsOwn (symbol_views definitions.now) index.new) }
 {
     for (i, symbol) in definitions.iter().enumerate() {
-        if !is_weak_definition(symbol) {
+        if !is_of(rank, symbol) {
             continue;
         }
         add_position(objects, index, symbol, i)?;
@@ -202,9 +165,9 @@ pub fn index_names<'a>(
         names,
         positions: Vec::new(alloc),
     };
-    add_strong(objects, &mut index, definitions)?;
-    add_common(objects, &mut index, definitions)?;
-    add_weak(objects, &mut index, definitions)?;
+    add_first(objects, &mut index, definitions, Rank::Strong)?;
+    add_first(objects, &mut index, definitions, Rank::Common)?;
+    add_first(objects, &mut index, definitions, Rank::Weak)?;
     Ok(index)
 }
 

@@ -43,7 +43,7 @@ returns-clause-chosen c = λ name.
     let names = c.args.names in
     let none : position_at c.new.result.items (number_of names name) ≡ None = ap (λ (ps : List (Option ℕ)). position_at ps (number_of names name)) c.new.ensures.items in
     let positions = passes _ (first_from strong 0 ss) (first_from common 0 ss) (first_from weak 0 ss) _ _ _ none
-    (c.in_ok-add_strong.ensures.positions name) (c.in_ok-add_common.ensures.positions name) (c.in_ok-add_weak.ensures.positions name) in
+    (c.in_ok-add_first.ensures.positions name) (c.in_ok-add_first-2.ensures.positions name) (c.in_ok-add_first-3.ensures.positions name) in
     ap look positions
     ∙ first_found strong ss (option_or (first_from common 0 ss) (option_or (first_from weak 0 ss) None))
     ∙ ap (option_or (find strong ss)) (first_found common ss (option_or (first_from weak 0 ss) None))
@@ -56,15 +56,15 @@ returns-clause-chosen c = λ name.
 
 pub returns-clause-own : goal.returns-clause-own
 returns-clause-own c =
-    c.in_ok-add_weak.ensures.own
-    (c.in_ok-add_common.ensures.own
-    (c.in_ok-add_strong.ensures.own (λ n p s at there. absurd (none-some p (sym (ap (λ (ps : List (Option ℕ)). position_at ps n) c.new.ensures.items) ∙ at)))))
+    c.in_ok-add_first-3.ensures.own
+    (c.in_ok-add_first-2.ensures.own
+    (c.in_ok-add_first.ensures.own (λ n p s at there. absurd (none-some p (sym (ap (λ (ps : List (Option ℕ)). position_at ps n) c.new.ensures.items) ∙ at)))))
 
-pub add_strong-requires-clause-hinted : goal.add_strong-requires-clause-hinted
-add_strong-requires-clause-hinted c = definitions_hinted c.args.names c.args.objects.now (symbol_views c.args.definitions.now) c.requires.definitions c.requires.numbered
+pub add_first-requires-clause-hinted : goal.add_first-requires-clause-hinted
+add_first-requires-clause-hinted c = definitions_hinted c.args.names c.args.objects.now (symbol_views c.args.definitions.now) c.requires.definitions c.requires.numbered
 
 pub returns-clause-numbered : goal.returns-clause-numbered
 returns-clause-numbered c =
-    still_numbered _ _ c.args.objects.now c.in_ok-add_weak.ensures.kept
-    (still_numbered _ _ c.args.objects.now c.in_ok-add_common.ensures.kept
-    (still_numbered _ _ c.args.objects.now c.in_ok-add_strong.ensures.kept c.requires.numbered))
+    still_numbered _ _ c.args.objects.now c.in_ok-add_first-3.ensures.kept
+    (still_numbered _ _ c.args.objects.now c.in_ok-add_first-2.ensures.kept
+    (still_numbered _ _ c.args.objects.now c.in_ok-add_first.ensures.kept c.requires.numbered))

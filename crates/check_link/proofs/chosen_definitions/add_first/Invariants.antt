@@ -1,11 +1,11 @@
 use Rattle.std.proofs.Common.{◌≡◌, List, ℕ, drop}
 use Rattle.std.specs.Prelude.{◌&&◌}
 use Rattle.std.specs.Option.{option_or}
-use Rattle.elf_model.specs.Link.Resolution.{has_name, is_strong}
+use Rattle.elf_model.specs.Link.Resolution.{has_name}
 use Rattle.check_load.specs.NameNumbers.{KeepNumbers}
-use Rattle.check_link.specs.Chosen.{AreHinted, IsOwn, IsSized, first_from, position_in}
+use Rattle.check_link.specs.Chosen.{AreHinted, IsOwn, IsSized, first_from, is_of_rank, position_in}
 use Rattle.check_link.specs.Views.{symbol_views}
-use Rattle.check_link.proofs.chosen_definitions.add_strong.Given as goal
+use Rattle.check_link.proofs.chosen_definitions.add_first.Given as goal
 
 abbrev pub invariant-loop-i : goal.invariant-loop-i
 invariant-loop-i l = record {
@@ -14,6 +14,6 @@ invariant-loop-i l = record {
   hinted : AreHinted l.index.names l.objects (symbol_views l.definitions);
   own : IsOwn (symbol_views l.definitions) l.fn.index → IsOwn (symbol_views l.definitions) l.index;
   positions :
-      (name : List ℕ) → option_or (position_in l.index name) (first_from (λ s. is_strong s && has_name name s) l.i (symbol_views (drop l.i l.definitions)))
-      ≡ option_or (position_in l.fn.index name) (first_from (λ s. is_strong s && has_name name s) 0 (symbol_views l.definitions));
+      (name : List ℕ) → option_or (position_in l.index name) (first_from (λ s. is_of_rank l.fn.rank s && has_name name s) l.i (symbol_views (drop l.i l.definitions)))
+      ≡ option_or (position_in l.fn.index name) (first_from (λ s. is_of_rank l.fn.rank s && has_name name s) 0 (symbol_views l.definitions));
 }
