@@ -1,3 +1,4 @@
 pub mod FaultLaws
 pub mod OpenedLaws
 pub mod StepLaws
+pub mod TurnSteps

@@ -1,6 +1,6 @@
 -- What is reached of an archive's turn and of later steps fails as the whole does.
 use Rattle.std.proofs.Common.{◌≡◌, ℕ, zero, suc, ◌+◌, ◌-◌, ◌<◌, ◌≤◌, ◌⊎◌, inl, inr, false, List, [], ◌∷◌, length, get_or, drop, drop-cons, Option, Some, None, Result, Ok, Err, refl, sym, ◌∙◌, ap, subst, arith}
-use Rattle.std.specs.Prelude.{◌≢◌, IfErr, IfSome, option_map, unwrap_or}
+use Rattle.std.specs.Prelude.{IfErr, IfSome, option_map, unwrap_or}
 use Rattle.std.proofs.Math.ListN.{drop_of_length-le}
 use Rattle.std.proofs.lemmas.Bool.{cond-false}
 use Rattle.std.specs.List.{slice_get}
@@ -8,11 +8,11 @@ use Rattle.std.proofs.lemmas.Option.{none-some, same_Some, slice_get_cases}
 use Rattle.elf_model.specs.Inputs.ArchiveFile.{IndexEntry, Member}
 use Rattle.elf_model.specs.Own.Causes.{Reaches}
 use Rattle.elf_model.specs.Inputs.Command.{Plan}
-use Rattle.elf_model.specs.Link.Loading.{AreObjects, HaveLawfulGroups, LoadedObject, is_begun, next, Single, loaded_step, object_behind, round, turn, with_member, with_members, with_object}
-use Rattle.elf_model.specs.Inputs.Opening.{Opened, archive_data, archive_members}
+use Rattle.elf_model.specs.Link.Loading.{AreObjects, HaveLawfulGroups, LoadedObject, is_begun, next, Single, loaded_step, object_behind, round, turn, with_members, with_object}
+use Rattle.elf_model.specs.Inputs.Opening.{Opened, archive_members}
 use Rattle.elf_model.proofs.LoadingBounds.{Extends, begun_now, begun_stays, extends_same}
 use Rattle.elf_model.proofs.LoadingLaws.{members_extend}
-use Rattle.elf_model.proofs.LoadingSteps.{reaches_later, round_behind, turn_behind, turn_some}
+use Rattle.elf_model.proofs.LoadingSteps.{reaches_later}
 use Rattle.search.specs.Faults.{FailsAt, FailsOn, IsReached, LoadsBadly}
 use Rattle.search.specs.Loaders.{loaded}
 use Rattle.search.specs.Waiting.{AreIdle, IsSpent}
@@ -61,21 +61,6 @@ pub err_fails_next :
 err_fails_next (Ok x) r os o offset bytes end objects lawful later at s = tt
 err_fails_next (Err e) r os o offset bytes end objects lawful later at s = fails_next r os o offset bytes end e objects lawful later at s
 
--- The members of a whole archive, one after the other.
-module _ (os : List LoadedObject) (o : Opened) (ms : List Member) (i : ℕ) (m : Member) (end : List LoadedObject) (within : i < length ms) (is : m ≡ get_or ms i m) where
-  split : drop i ms ≡ m ∷ drop (suc i) ms
-  split = drop-cons ms i m within ∙ ap (λ (x : Member). x ∷ drop (suc i) ms) (sym is)
-
-  pub members_step : with_members os o (drop i ms) ≡ end → with_members (with_object os o m.offset m.bytes) o (drop (i + 1) ms) ≡ end
-  members_step rest =
-      let e : i + 1 ≡ suc i = omega arith in
-      rw e (sym (ap (with_members os o) split) ∙ rest)
-
-  pub members_later : with_members os o (drop i ms) ≡ end → Extends (with_object os o m.offset m.bytes) end
-  members_later rest =
-      subst (Extends (with_object os o m.offset m.bytes)) (sym (ap (with_members os o) split) ∙ rest)
-      (members_extend (with_object os o m.offset m.bytes) o (drop (suc i) ms))
-
 -- a whole archive gives no more after its members
 pub members_spent : (os to : List LoadedObject) (o : Opened) → to ≡ with_members os o (archive_members o.bytes) → IsSpent to o
 members_spent os to o is = subst (λ (l : List LoadedObject). IsSpent l o) (sym is) (by (archive_members o.bytes) refl)
@@ -87,46 +72,6 @@ members_spent os to o is = subst (λ (l : List LoadedObject). IsSpent l o) (sym 
         (ap (λ (xs : List Member). is_begun (with_members os o xs) o.number) some
         ∙ begun_stays (with_object os o m.offset m.bytes) (with_members (with_object os o m.offset m.bytes) o ms) o.number
         (members_extend (with_object os o m.offset m.bytes) o ms) (begun_now os o m.offset m.bytes))
-
--- The next member of an archive that is searched.
-pub found_next :
-    (plan : Plan) (os : List LoadedObject) (o item : Opened) (offset : ℕ) (bytes : List ℕ) (r : Option ℕ) → r ≡ option_map (λ e. e.offset) (next plan os o) →
-    r ≡ Some offset → item ≡ o → bytes ≡ archive_data o.bytes offset →
-    (e : IndexEntry) × (next plan os o ≡ Some e) × (with_object os item offset bytes ≡ with_member os o e)
-found_next plan os o item offset bytes r told is same read = by (next plan os o) refl
-  where
-    by : (found : Option IndexEntry) → next plan os o ≡ found → (e : IndexEntry) × (next plan os o ≡ Some e) × (with_object os item offset bytes ≡ with_member os o e)
-    by None none = absurd (none-some offset (sym (ap (λ (f : Option IndexEntry). option_map (λ e. e.offset) f) none) ∙ (sym told ∙ is)))
-    by (Some e) some =
-        let at : e.offset ≡ offset = same_Some e.offset offset (sym (ap (λ (f : Option IndexEntry). option_map (λ x. x.offset) f) some) ∙ (sym told ∙ is)) in (
-          e,
-          some,
-          ap (λ (x : Opened). with_object os x offset bytes) same
-              ∙ (ap (λ (b : List ℕ). with_object os o offset b) read ∙ ap (λ (k : ℕ). with_object os o k (archive_data o.bytes k)) (sym at)),
-        )
-
-pub turn_later : (plan : Plan) (os : List LoadedObject) (o : Opened) (e : IndexEntry) (to end : List LoadedObject) → o.whole ≡ false → next plan os o ≡ Some e →
-    to ≡ with_member os o e → turn plan o os ≡ end → turn plan o to ≡ end
-turn_later plan os o e to end whole some is rest = ap (turn plan o) is ∙ (turn_some plan o os e whole some ∙ rest)
-
-pub turn_extends_later : (plan : Plan) (os : List LoadedObject) (o : Opened) (e : IndexEntry) (to end : List LoadedObject) → o.whole ≡ false →
-    next plan os o ≡ Some e → to ≡ with_member os o e → turn plan o os ≡ end → Extends to end
-turn_extends_later plan os o e to end whole some is rest =
-    subst (Extends to) (turn_later plan os o e to end whole some is rest) (turn_behind plan o to)
-
--- Archives in order.
-module _ (plan : Plan) (inputs : List Opened) (i : ℕ) (o : Opened) (os end : List LoadedObject) (within : i < length inputs) (is : o ≡ get_or inputs i o) where
-  first : drop i inputs ≡ o ∷ drop (suc i) inputs
-  first = drop-cons inputs i o within ∙ ap (λ (x : Opened). x ∷ drop (suc i) inputs) (sym is)
-
-  pub round_step : round plan (drop i inputs) os ≡ end → (to : List LoadedObject) → to ≡ turn plan o os → round plan (drop (i + 1) inputs) to ≡ end
-  round_step rest to next_ =
-      let e : i + 1 ≡ suc i = omega arith in
-      rw e (ap (round plan (drop (suc i) inputs)) next_ ∙ (sym (ap (λ (xs : List Opened). round plan xs os) first) ∙ rest))
-
-  pub round_later : round plan (drop i inputs) os ≡ end → Extends (turn plan o os) end
-  round_later rest =
-      subst (Extends (turn plan o os)) (sym (ap (λ (xs : List Opened). round plan xs os) first) ∙ rest) (round_behind plan (drop (suc i) inputs) (turn plan o os))
 
 -- a round passes over archives that take nothing
 pub round_skips : {T : Type 0} (l : Loader T) (inputs : List Opened) (n from to : ℕ) → to ≡ from + n → to ≤ length inputs → AreIdle l inputs from to →
@@ -171,10 +116,6 @@ skipped_all l plan inputs from r same is low idle =
     subst (λ (p : Plan). round p (drop from inputs) (loaded l) ≡ loaded l) same
     (round_skips l inputs (length inputs - from) from (length inputs) (omega (arith, low)) (omega arith) end
     ∙ ap (λ (os : List Opened). round l.plan.now os (loaded l)) (drop_of_length-le inputs (omega arith)))
-
--- A round that leaves the number of objects has taken nothing.
-pub took_some : (os to : List LoadedObject) → (length to ≡ length os → ⊥) → to ≢ os
-took_some os to other same = other (ap (λ (l : List LoadedObject). length l) same)
 
 -- A single object.
 pub single_fails : {X : Type 0} (plan : Plan) (x : Result X SearchFault) (r : Option Reached) (os : List LoadedObject) (o : Opened) → AreObjects os →

@@ -4,7 +4,8 @@ use Rattle.elf_model.specs.Inputs.Command.{Plan}
 use Rattle.elf_model.specs.Link.Loading.{round, turn}
 use Rattle.check_load.specs.Stops.{Refutes}
 use Rattle.check_load.specs.Loaders.{AreLoadable, loaded}
-use Rattle.check_load.proofs.TurnLaws.{fails_later, round_later, round_step}
+use Rattle.opening.proofs.TurnSteps.{round_later, round_step}
+use Rattle.check_load.proofs.TurnLaws.{fails_later}
 use Rattle.check_load.proofs.RoundLaws.{all_spent, spent_step}
 use Rattle.check_load.proofs.rounds.run_first.Goals as goal
 

@@ -7,7 +7,8 @@ use Rattle.elf_model.proofs.LoadingSteps.{turn_behind}
 use Rattle.check_load.specs.Stops.{Refutes}
 use Rattle.check_load.specs.Loaders.{AreLoadable, loaded}
 use Rattle.check_load.proofs.RoundLaws.{rest_at, round_over, spent_on}
-use Rattle.check_load.proofs.TurnLaws.{fails_later, round_later, round_step}
+use Rattle.opening.proofs.TurnSteps.{round_later, round_step}
+use Rattle.check_load.proofs.TurnLaws.{fails_later}
 use Rattle.check_load.proofs.rounds.run_round.Goals as goal
 
 pub returns-in_err-turn-clause-stop : goal.returns-in_err-turn-clause-stop

@@ -9,7 +9,8 @@ use Rattle.elf_model.proofs.LoadingSteps.{round_behind, rounds_from_round, round
 use Rattle.check_load.specs.Stops.{Refutes}
 use Rattle.check_load.specs.Loaders.{AreLoadable, loaded}
 use Rattle.check_load.proofs.RoundLaws.{rounds_after, spent_on}
-use Rattle.check_load.proofs.TurnLaws.{fails_later, took_some}
+use Rattle.opening.proofs.TurnSteps.{took_some}
+use Rattle.check_load.proofs.TurnLaws.{fails_later}
 use Rattle.check_load.proofs.rounds.run_rounds.Goals as goal
 
 pub returns-in_err-run_first-clause-stop : goal.returns-in_err-run_first-clause-stop

@@ -5,7 +5,8 @@ use Rattle.elf_model.specs.Link.Loading.{with_members}
 use Rattle.elf_model.specs.Inputs.Opening.{archive_members}
 use Rattle.check_load.specs.Stops.{Refutes}
 use Rattle.check_load.specs.Loaders.{IsLoadable, loaded}
-use Rattle.check_load.proofs.TurnLaws.{fails_next, members_later}
+use Rattle.opening.proofs.TurnSteps.{members_later}
+use Rattle.check_load.proofs.TurnLaws.{fails_next}
 use Rattle.check_load.proofs.turns.take_all.Goals as goal
 
 pub returns-in_err-add-clause-stop : goal.returns-in_err-add-clause-stop

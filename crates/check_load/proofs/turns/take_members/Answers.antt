@@ -7,7 +7,8 @@ use Rattle.elf_model.specs.Inputs.Opening.{archive_entries}
 use Rattle.elf_model.proofs.LoadingBounds.{untaken_falls}
 use Rattle.check_load.specs.Loaders.{loaded}
 use Rattle.opening.specs.Opened.{item_view}
-use Rattle.check_load.proofs.TurnLaws.{fails_next, found_next, turn_extends_later, turn_later}
+use Rattle.opening.proofs.TurnSteps.{found_next, turn_extends_later, turn_later}
+use Rattle.check_load.proofs.TurnLaws.{fails_next}
 use Rattle.check_load.proofs.turns.take_members.Goals as goal
 
 pub loop-offset-smaller : goal.loop-offset-smaller

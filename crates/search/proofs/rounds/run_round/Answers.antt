@@ -6,7 +6,8 @@ use Rattle.elf_model.specs.Link.Loading.{round, turn}
 use Rattle.elf_model.specs.Inputs.Opening.{Opened}
 use Rattle.search.specs.Faults.{FailsOn}
 use Rattle.search.specs.Loaders.{loaded}
-use Rattle.search.proofs.TurnLaws.{fails_later, round_later, round_step, skipped_all, skipped_to}
+use Rattle.opening.proofs.TurnSteps.{round_later, round_step}
+use Rattle.search.proofs.TurnLaws.{fails_later, skipped_all, skipped_to}
 use Rattle.search.proofs.WaitLaws.{is_later_trans}
 use Rattle.search.proofs.rounds.run_round.Goals as goal
 

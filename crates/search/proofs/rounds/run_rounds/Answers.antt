@@ -8,7 +8,8 @@ use Rattle.elf_model.proofs.LoadingSteps.{round_behind, rounds_from_round, round
 use Rattle.search.specs.Faults.{FailsOn}
 use Rattle.search.specs.Loaders.{loaded}
 use Rattle.search.proofs.WaitLaws.{is_later_trans}
-use Rattle.search.proofs.TurnLaws.{fails_later, took_some}
+use Rattle.opening.proofs.TurnSteps.{took_some}
+use Rattle.search.proofs.TurnLaws.{fails_later}
 use Rattle.search.proofs.rounds.run_rounds.Goals as goal
 
 pub returns-in_err-run_round-clause-fault : goal.returns-in_err-run_round-clause-fault

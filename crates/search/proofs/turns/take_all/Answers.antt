@@ -6,7 +6,8 @@ use Rattle.elf_model.specs.Inputs.Opening.{Opened, archive_members}
 use Rattle.search.specs.Faults.{FailsAt, IsReached}
 use Rattle.search.specs.Loaders.{loaded}
 use Rattle.opening.specs.Opened.{item_view}
-use Rattle.search.proofs.TurnLaws.{fails_next, members_later}
+use Rattle.opening.proofs.TurnSteps.{members_later}
+use Rattle.search.proofs.TurnLaws.{fails_next}
 use Rattle.search.proofs.turns.take_all.Goals as goal
 
 pub returns-in_err-add-clause-fault : goal.returns-in_err-add-clause-fault

@@ -8,7 +8,8 @@ use Rattle.elf_model.proofs.LoadingBounds.{untaken_falls}
 use Rattle.elf_model.proofs.LoadingSteps.{turn_none}
 use Rattle.search.specs.Loaders.{IsLater, loaded}
 use Rattle.opening.specs.Opened.{item_view}
-use Rattle.search.proofs.TurnLaws.{fails_next, found_next, none_next, turn_extends_later, turn_later}
+use Rattle.opening.proofs.TurnSteps.{found_next, turn_extends_later, turn_later}
+use Rattle.search.proofs.TurnLaws.{fails_next, none_next}
 use Rattle.search.proofs.WaitLaws.{covers_later, is_later_trans}
 use Rattle.search.proofs.turns.take_members.Goals as goal
 
