@@ -64,7 +64,7 @@ fn is_definition(symbol: &SymbolOf<'_>) -> bool
     is_strong(symbol) || (is_common_definition(symbol) || is_weak_definition(symbol))
 }
 
-/// Adds the definitions of the object that has a number.
+/// Adds the definitions of object `number`.
 fn add_definitions<'a>(
     found: &mut Vec<SymbolOf<'a>>,
     number: u64,

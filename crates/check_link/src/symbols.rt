@@ -11,7 +11,7 @@ use crate::things::SymbolOf;
 use check_load::Loaded;
 use elf_model::{SHN_UNDEF, SectionHeader, Symbol};
 
-/// The section in which an entry of the object that has a number is defined; None where it is undefined, absolute or
+/// The section in which an entry of object `number` is defined; None where it is undefined, absolute or
 /// common.
 fn section_in(objects: &[Loaded<'_>], number: u64, entry: &Symbol) -> Option<SectionHeader>
     ensures { result ≡ section_in (loaded_views objects.now) number entry.now }
@@ -47,7 +47,7 @@ fn stands_well(entry: &Symbol, section: &SectionHeader) -> bool
     !is_visible(entry)
 }
 
-/// Whether an entry of the object that has a number stands well in its section where it has one.
+/// Whether an entry of object `number` stands well in its section where it has one.
 fn is_placed_well(objects: &[Loaded<'_>], number: u64, entry: &Symbol) -> bool
     ensures { IsTrue result ↔ IfSome (section_in (loaded_views objects.now) number entry.now)
         (StandsWell entry.now) }
@@ -58,7 +58,7 @@ fn is_placed_well(objects: &[Loaded<'_>], number: u64, entry: &Symbol) -> bool
     }
 }
 
-/// Whether symbol `j` of the object that has a number is sound: a GLOBAL or WEAK one has a name, and each
+/// Whether symbol `j` of object `number` is sound: a GLOBAL or WEAK one has a name, and each
 /// stands well in its section where it has one that isn't dropped.
 fn is_sound(
     objects: &[Loaded<'_>],
@@ -76,7 +76,7 @@ fn is_sound(
     loaded.is_dropped(entry.st_shndx as usize) || is_placed_well(objects, number, entry)
 }
 
-/// Whether the symbols of the object that has a number are sound.
+/// Whether the symbols of object `number` are sound.
 fn are_sound_in(objects: &[Loaded<'_>], number: u64, loaded: &Loaded<'_>) -> bool
     ensures { IsTrue result ↔ All (IsSoundSymbol (loaded_views objects.now))
         (symbols_from number (loaded_view loaded.now) 0 (symbols loaded.now.object)) }

@@ -45,7 +45,7 @@ pub fn speaks_of_got(formula: Formula) -> bool
     }
 }
 
-/// The target of an entry that names symbol `j` of the object that has a number: its name, or the symbol itself where it
+/// The target of an entry that names symbol `j` of object `number`: its name, or the symbol itself where it
 /// is LOCAL.
 pub fn target_at<'a>(loaded: &Loaded<'a>, number: u64, j: usize) -> Wanted<'a>
     ensures { target_view result ≡ slots.target_of (symbol_at number (loaded_view loaded.now) j) }
@@ -65,7 +65,7 @@ pub fn kind_asked(entry: &Rela) -> Option<SlotKind>
     slot_kind_of(kind.formula)
 }
 
-/// The request of an entry of the object that has a number; None where it asks for no slot.
+/// The request of an entry of object `number`; None where it asks for no slot.
 pub fn request_of<'a>(loaded: &Loaded<'a>, number: u64, entry: &Rela) -> Option<Request<'a>>
     ensures { (section : ℕ) →
         option_map request_view result

@@ -32,7 +32,7 @@ fn is_frames(object: &ObjectFile<'_>, number: usize) -> bool
     }
 }
 
-/// What the entries relocate whose section names the section `target` of the object that has a number.
+/// What the entries relocate whose section names the section `target` of object `number`.
 pub fn relocated(
     bindings: &Bindings<'_, '_, '_>,
     number: u64,
@@ -99,7 +99,7 @@ fn object_fields(
     Ok(Some(fields))
 }
 
-/// The fields in order of the kept relocations of the object that has a number; None where one of these isn't right, and where
+/// The fields in order of the kept relocations of object `number`; None where one of these isn't right, and where
 /// a byte lies in two fields.
 pub fn own_row<'a>(
     alloc: Global,

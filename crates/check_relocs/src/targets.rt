@@ -15,7 +15,7 @@ use check_load::{Loaded, filled};
 use elf_model::STB_LOCAL;
 use std::alloc::{AllocError, Global};
 
-/// What a symbol means to relocations: whether it is in want of a definition, whether it is a LOCAL one of a
+/// What a symbol means to relocations: whether it lacks a definition, whether it is a LOCAL one of a
 /// section that isn't kept, whether it stands in a dropped section, whether its definition is a bound of sections of
 /// several output sections, and whether that is thread-local; and the definition's value modulo 2^64 and its size,
 /// both 0 without one.
@@ -30,7 +30,7 @@ pub struct Target {
     pub size: u64,
 }
 
-/// Symbol `j` of the object that has a number; the null symbol where there is no such symbol.
+/// Symbol `j` of object `number`; the null symbol where there is no such symbol.
 pub fn symbol_at<'a>(loaded: &Loaded<'a>, number: u64, j: usize) -> SymbolOf<'a>
     ensures { symbol_view result ≡ symbol_at number (loaded_view loaded.now) j }
 {
@@ -52,7 +52,7 @@ pub fn is_local_at(loaded: &Loaded<'_>, j: usize) -> bool
     loaded.object.symbol(j).binding() == STB_LOCAL
 }
 
-/// Symbol `j` of the object that has a number, without its name.
+/// Symbol `j` of object `number`, without its name.
 fn unnamed_at<'a>(loaded: &Loaded<'a>, number: u64, j: usize) -> SymbolOf<'a>
     ensures { symbol_view result
         ≡ record (symbol_at number (loaded_view loaded.now) j) { name = [] } }
@@ -67,7 +67,7 @@ fn unnamed_at<'a>(loaded: &Loaded<'a>, number: u64, j: usize) -> SymbolOf<'a>
     }
 }
 
-/// Symbol `j` of the object that has a number, given its name.
+/// Symbol `j` of object `number`, given its name.
 fn named_at<'a>(loaded: &Loaded<'a>, number: u64, j: usize, name: &'a [u8]) -> SymbolOf<'a>
     ensures { symbol_view result
         ≡ record (symbol_at number (loaded_view loaded.now) j) { name = name.entry.now } }
@@ -82,7 +82,7 @@ fn named_at<'a>(loaded: &Loaded<'a>, number: u64, j: usize, name: &'a [u8]) -> S
     }
 }
 
-/// What symbol `j` of the object that has a number means. Of a LOCAL one the name isn't read.
+/// What symbol `j` of object `number` means. Of a LOCAL one the name isn't read.
 pub fn target_of_symbol<'a>(
     bindings: &Bindings<'_, '_, 'a>,
     number: u64,

@@ -15,7 +15,7 @@ use check_relocs::{Field, part_of};
 use check_stages::{BoundLink, same_padded, sub_part};
 use loader_model::Memory;
 
-/// Whether memory holds the wanted bytes of pieces of the object that has a number, given the row of its fields. The pieces
+/// Whether memory holds the wanted bytes of pieces of object `number`, given the row of its fields. The pieces
 /// of common blocks are of no object, and have no fields.
 pub fn holds_own(bound: &BoundLink<'_, '_>, number: u64, row: &[Field], own: &[Placed<'_>]) -> bool
     requires before { HoldsBefore clause.C9 bound.now }

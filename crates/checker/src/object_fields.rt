@@ -25,7 +25,7 @@ pub struct Compared<'p, 'a> {
     left: &'p [Placed<'a>],
 }
 
-/// How many of the first pieces are of the object that has a number.
+/// How many of the first pieces are of object `number`.
 fn own_count(left: &[Placed<'_>], number: u64) -> usize
     ensures count { result ≡ prefix_len (λ q. q.piece.object == number) left.now }
     ensures within { result ≤ length left.now }
@@ -33,7 +33,7 @@ fn own_count(left: &[Placed<'_>], number: u64) -> usize
     left.iter().take_while(|q| q.piece.object == number).count()
 }
 
-/// Compares the pieces of the object that has a number, which are the first of those that are left, given the row of its
+/// Compares the pieces of object `number`, which are the first of those that are left, given the row of its
 /// fields.
 fn compare_own<'p, 'a>(
     bound: &BoundLink<'_, '_>,

@@ -201,7 +201,7 @@ fn have_fields(
     relas.is_empty()
 }
 
-/// Whether the kept relocations of the object that has a number are right, and memory holds the wanted bytes of its pieces. Where
+/// Whether the kept relocations of object `number` are right, and memory holds the wanted bytes of its pieces. Where
 /// fields don't rise it is false.
 pub fn are_held_in_order<'a>(
     alloc: Global,

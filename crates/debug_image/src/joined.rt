@@ -199,7 +199,7 @@ fn add_all<'a>(
     Ok(places)
 }
 
-/// Adds the sections of the object that has a number, a row of their offsets, and an index of that.
+/// Adds the sections of object `number`, a row of their offsets, and an index of that.
 fn add_object<'a>(
     alloc: Global,
     rows: &mut Vec<Vec<Place<'a>>>,

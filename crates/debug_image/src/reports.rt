@@ -9,7 +9,7 @@ use elf_model::{ObjectId, SectionRef};
 use search::LoadedObject;
 use std::alloc::{AllocError, Global};
 
-/// Section `i` of the object that has a number, where it holds compressed debug data.
+/// Section `i` of object `number`, where it holds compressed debug data.
 fn compressed_at(number: u64, loaded: &LoadedObject<'_>, i: usize) -> Option<SectionRef>
     ensures { result ≡ spec.compressed_at number (loaded_view loaded.now) i }
 {
@@ -23,7 +23,7 @@ fn compressed_at(number: u64, loaded: &LoadedObject<'_>, i: usize) -> Option<Sec
     }
 }
 
-/// Adds the compressed sections of debug data of the object that has a number.
+/// Adds the compressed sections of debug data of object `number`.
 fn add_compressed(
     found: &mut Vec<SectionRef>,
     number: u64,

@@ -186,7 +186,7 @@ fn local_row<'a>(layout: &Layout<'_, 'a>, symbol: &SymbolOf<'a>) -> Option<Row<'
     }
 }
 
-/// Adds the LOCAL symbols of the object that has a number.
+/// Adds the LOCAL symbols of object `number`.
 fn add_locals<'a>(
     rows: &mut Vec<Row<'a>>,
     layout: &Layout<'_, 'a>,

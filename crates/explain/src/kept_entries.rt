@@ -87,7 +87,7 @@ pub fn kept_at(one: &LoadedObject<'_>, at: &EntryAt) -> Option<Kept>
     })
 }
 
-/// The place of a kept relocation of the object that has the number.
+/// The place of a kept relocation of object `number`.
 pub fn kept_place<'a>(
     loaded: &Loaded<'a>,
     number: usize,

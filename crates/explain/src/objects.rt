@@ -21,7 +21,7 @@ pub fn file_of<'a>(loaded: &LoadedObject<'a>) -> ObjectPlace<'a>
     }
 }
 
-/// The place of section `i`, which has the header, of the object that has the number.
+/// The place of section `i`, which has the header, of object `number`.
 pub fn section_place<'a>(
     number: usize,
     loaded: &LoadedObject<'a>,
@@ -43,7 +43,7 @@ pub fn section_place<'a>(
     }
 }
 
-/// The place of symbol `j`, which has the entry, of the object that has the number.
+/// The place of symbol `j`, which has the entry, of object `number`.
 pub fn symbol_place<'a>(
     number: usize,
     loaded: &LoadedObject<'a>,

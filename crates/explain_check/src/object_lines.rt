@@ -44,7 +44,7 @@ fn object_at<'a>(objects: &[Loaded<'a>], k: usize) -> Option<ObjectAt<'a>>
     told_of(loaded_at(objects, k))
 }
 
-/// Whether a line says of the object that has the number what is loaded.
+/// Whether a line says of object `number` what is loaded.
 fn is_line_of(line: &BorrowedObject<'_>, number: u64, object: &ObjectAt<'_>) -> bool
     ensures { IsTrue result ↔ (object_row line.now ≡ row_at number object.now) }
 {
@@ -54,7 +54,7 @@ fn is_line_of(line: &BorrowedObject<'_>, number: u64, object: &ObjectAt<'_>) -> 
     line.offset == object.offset && line.path.as_slice() == object.path.as_bytes()
 }
 
-/// Whether a line, if there is one, says of the object that has the number, if there is one, what is loaded.
+/// Whether a line, if there is one, says of object `number`, if there is one, what is loaded.
 fn agree(line: Option<&BorrowedObject<'_>>, number: u64, object: Option<ObjectAt<'_>>) -> bool
     ensures { IsTrue result ↔ (option_map object_line_view line.entry
         ≡ option_map (row_at number) object.entry) }

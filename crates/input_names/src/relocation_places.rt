@@ -32,7 +32,7 @@ pub fn section_name<'a>(object: &ObjectFile<'a>, i: usize) -> &'a [u8]
     }
 }
 
-/// The place of entry `e` of RELA section `i`, which has the header, of the object that has the number.
+/// The place of entry `e` of RELA section `i`, which has the header, of object `number`.
 pub fn relocation_place<'a>(
     number: usize,
     object: &ObjectFile<'a>,

@@ -123,7 +123,7 @@ pub fn has_drop_line(loaded: &LoadedObject<'_>, i: usize, header: &SectionHeader
     header.is_alloc() && loaded.is_dropped(i)
 }
 
-/// Adds the drop lines of the object that has a number.
+/// Adds the drop lines of object `number`.
 fn add_drop_lines(
     lines: &mut Vec<DropLine>,
     number: u64,
@@ -173,7 +173,7 @@ pub fn address_of(placement: &Placement<'_>, object: u64, section: usize) -> u64
     }
 }
 
-/// The line of section `i` of the object that has a number.
+/// The line of section `i` of object `number`.
 fn place_line(
     alloc: Global,
     placement: &Placement<'_>,
@@ -194,7 +194,7 @@ fn place_line(
     })
 }
 
-/// Adds the lines of the kept sections of the object that has a number.
+/// Adds the lines of the kept sections of object `number`.
 fn add_place_lines(
     alloc: Global,
     lines: &mut Vec<PlaceLine>,

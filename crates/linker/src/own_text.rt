@@ -49,7 +49,7 @@ fn put_objects<T: LineSink>(text: &mut T, objects: &[LoadedObject<'_>]) -> Resul
     Ok(())
 }
 
-/// The drop lines of the object that has a number.
+/// The drop lines of object `number`.
 fn put_object_drops<T: LineSink>(
     text: &mut T,
     number: u64,
@@ -84,7 +84,7 @@ fn put_drops<T: LineSink>(text: &mut T, objects: &[LoadedObject<'_>]) -> Result<
     Ok(())
 }
 
-/// The lines of the kept sections of the object that has a number.
+/// The lines of the kept sections of object `number`.
 fn put_object_places<T: LineSink>(
     text: &mut T,
     placement: &Placement<'_>,

@@ -156,7 +156,7 @@ fn definition_of<'a>(
     })
 }
 
-/// Whether a reference to symbol number `j`, which has the entry and uses a definition if there is one, is in want of it:
+/// Whether a reference to symbol number `j`, which has the entry and uses a definition if there is one, lacks it:
 /// symbol 0 stands for none, and a WEAK one needs none.
 pub fn is_undefined(j: usize, entry: &Symbol, definition: &Option<Definition<'_>>) -> bool
     ensures { IsTrue result ↔ LacksDefinition j entry.now (option_map meaning_view definition.now) }
@@ -167,7 +167,7 @@ pub fn is_undefined(j: usize, entry: &Symbol, definition: &Option<Definition<'_>
     definition.is_none()
 }
 
-/// Whether a reference to symbol number `j`, which is LOCAL and has the entry, is in want of a definition: symbol 0 stands
+/// Whether a reference to symbol number `j`, which is LOCAL and has the entry, lacks a definition: symbol 0 stands
 /// for none.
 pub fn is_undefined_local(j: usize, entry: &Symbol) -> bool
     ensures { IsTrue result ↔ ((j ≢ 0) × (is_undefined entry.now ≡ true)) }

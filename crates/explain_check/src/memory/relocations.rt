@@ -116,7 +116,7 @@ fn add_wrong<'a>(
     Ok(())
 }
 
-/// Adds what is wrong with the relocations of the object that has a number.
+/// Adds what is wrong with the relocations of object `number`.
 fn add_object<'a>(
     alloc: Global,
     found: &mut Found<'a>,

@@ -167,7 +167,7 @@ fn add_place<'a>(
     found.add(CheckPlace::NoSlot(*place, request))
 }
 
-/// Adds the relocations of the object that has a number that ask for slots that aren't there.
+/// Adds the relocations of object `number` that ask for slots that aren't there.
 fn add_object<'a>(
     alloc: Global,
     found: &mut Found<'a>,
