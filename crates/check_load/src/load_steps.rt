@@ -125,6 +125,33 @@ fn load_inputs<'a>(
     Ok(())
 }
 
+/// Loads inputs, the places of whose names are known, from nothing.
+fn load_at<'a>(
+    alloc: Global,
+    places: &Places<'_, '_>,
+    plan: &Plan<'a>,
+    inputs: &[Input<'a>],
+    seed: Option<NameSeed>,
+) -> Result<NamedObjects<'a>, Stop>
+    requires at { All (IsAt places.now) inputs.now }
+    requires numbers { AreSideBySide inputs.now }
+    ensures loaded { IfOk result (λ v. loaded_views v.objects.items
+        ≡ loaded_steps plan.now (steps inputs.now) []) }
+    ensures numbered { IfOk result (λ v. AreNumbered v.names v.objects.items) }
+    ensures good { OnOk result (AreLoadable (loaded_steps plan.now (steps inputs.now) [])) }
+    ensures stop { IfErr result (Refutes
+        (AreLoadable (loaded_steps plan.now (steps inputs.now) []))) }
+{
+    let mut loader = Loader::new(alloc, places, plan, seed)?;
+    match load_inputs(alloc, places, &mut loader, inputs) {
+        Ok(()) => Ok(loader.finish()),
+        Err(stop) => {
+            drop(loader);
+            Err(stop)
+        }
+    }
+}
+
 /// Loads inputs from nothing.
 fn load_all<'a>(
     alloc: Global,
@@ -142,9 +169,9 @@ fn load_all<'a>(
         (AreLoadable (loaded_steps plan.now (steps inputs.now) []))) }
 {
     let places = Places::new(alloc, inputs, seed)?;
-    let mut loader = Loader::new(alloc, &places, plan, seed)?;
-    load_inputs(alloc, &places, &mut loader, inputs)?;
-    Ok(loader.finish())
+    let named = load_at(alloc, &places, plan, inputs, seed);
+    drop(places);
+    named
 }
 
 /// Loads a plan.
