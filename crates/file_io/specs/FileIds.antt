@@ -1,7 +1,7 @@
 -- Which file a path is of, and which of the files that are read will be written.
 use Rattle.std.specs.Prelude.{◌≡◌, ℕ, List, Option, Some, None}
-use Rattle.file_io.specs.declared.file_id.FileId.{FileId}
-use Rattle.file_io.specs.declared.file_id.OutputPath.{OutputPath}
+use Rattle.file_io.specs.declared.file_ids.FileId.{FileId}
+use Rattle.file_io.specs.declared.file_ids.OutputPath.{OutputPath}
 
 -- two paths are of one file: by device and number where both are told, else by themselves
 abbrev pub IsSame : Option FileId → Option FileId → List ℕ → List ℕ → Type 0

@@ -4,14 +4,14 @@
 //! Begin with `gather` and `RealFiles` for input, `FileSink` for the image.
 #![tactic(auto)]
 
-mod file_id;
+mod file_ids;
 mod file_sink;
 mod file_source;
 mod real_files;
 mod sparse;
 mod zero_pages;
 
-pub use file_id::{FileId, OutputPath, file_id, overwritten};
+pub use file_ids::{FileId, OutputPath, file_id, overwritten};
 pub use file_sink::FileSink;
 pub use file_source::{FetchFault, FileSource, GatherFault, gather};
 pub use real_files::{RealFiles, make_executable, read_whole};

@@ -1,7 +1,7 @@
 //! The files of the system: read as input, and written as an image.
 ghost use Rattle.std.specs.Prelude.{◌≡◌, None};
 
-use crate::file_id::{FileId, OutputPath, file_id, overwritten};
+use crate::file_ids::{FileId, OutputPath, file_id, overwritten};
 use crate::file_source::{FetchFault, FileSource};
 use std::alloc::Global;
 use std::fs::{File, OpenFile, Permissions};
