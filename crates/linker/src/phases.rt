@@ -284,6 +284,70 @@ fn whole_parts<'a>(
     ))
 }
 
+/// The lines of the linker's own names, and the definitions that have a line with their symbol table, of what is laid out.
+fn names_of<'a>(
+    alloc: Global,
+    loaded: &Loaded<'a>,
+    resolved: &Resolved<'a>,
+    placement: &Placement<'a>,
+) -> Result<
+    (
+        Vec<(&'a [u8], Bound)>,
+        Option<(Vec<Definition<'a>>, SymbolTable)>,
+    ),
+    LinkError,
+>
+    requires same { resolved.now ≡ loaded.now.objects }
+    requires placed { placement.now ≡ record {
+      base = loaded.now.plan.base;
+      objects = loaded.now.objects;
+    } }
+    requires referred { AreReferred loaded.now.plan loaded.now.objects }
+    requires base { IsBase loaded.now.plan.base }
+    requires fits { IsNotTooLarge loaded.now.plan.base loaded.now.objects }
+    ensures linkers { IfOk result (λ r.
+        AreLinkerLines loaded.now.objects (line_views r.0.items)) }
+    ensures table { IfOk result (λ r. HasTabled loaded.now.objects
+        (own_end loaded.now.plan.base loaded.now.objects) loaded.now.plan.strip r.1) }
+    ensures laid { OnOk result (AreLaidOut loaded.now.plan loaded.now.objects) }
+    ensures fault { IfErr result (LinksRefuse loaded.now.plan loaded.now.objects) }
+{
+    let linkers = linkers_of(alloc, loaded, resolved)?;
+    let tabled = tabled(alloc, loaded, resolved, placement, &linkers)?;
+    Ok((linkers, tabled))
+}
+
+/// Judges the values of what is laid out, and makes its parts.
+fn prepare_placed<'a>(
+    alloc: Global,
+    loaded: &Loaded<'a>,
+    resolved: Resolved<'a>,
+    slots: Slots<'a>,
+    entry: &Definition<'a>,
+    placement: Placement<'a>,
+) -> Result<Parts<'a>, LinkError>
+    requires base { IsBase loaded.now.plan.base }
+    requires same { resolved ≡ loaded.now.objects }
+    requires slots { slots ≡ own_table loaded.now.objects }
+    requires placed { placement ≡ record {
+      base = loaded.now.plan.base;
+      objects = loaded.now.objects;
+    } }
+    requires referred { AreReferred loaded.now.plan loaded.now.objects }
+    requires fits { IsNotTooLarge loaded.now.plan.base loaded.now.objects }
+    requires entry { EntersAt loaded.now.plan loaded.now.objects (meaning_view entry.now) }
+    ensures made { IfOk result (AreParts loaded.now) }
+    ensures linkable { OnOk result (AreLinkable loaded.now.plan loaded.now.objects) }
+    ensures fault { IfErr result (LinksRefuse loaded.now.plan loaded.now.objects) }
+{
+    let (linkers, tabled) = names_of(alloc, loaded, &resolved, &placement)?;
+    let patches = fitted(alloc, loaded, &resolved, &placement, &slots)?;
+    let parts = whole_parts(
+        alloc, loaded, resolved, linkers, tabled, entry, placement, slots, patches,
+    )?;
+    Ok(parts)
+}
+
 /// Resolves, lays out and judges what is loaded.
 fn prepare_loaded<'a, T: NameTable<'a> + Drop>(
     alloc: Global,
@@ -300,13 +364,7 @@ fn prepare_loaded<'a, T: NameTable<'a> + Drop>(
     let slots = judged_slots(alloc, loaded, &resolved)?;
     let entry = referred_entry(loaded, &resolved)?;
     let placement = laid_out(alloc, loaded, &resolved, slots.got())?;
-    let linkers = linkers_of(alloc, loaded, &resolved)?;
-    let tabled = tabled(alloc, loaded, &resolved, &placement, &linkers)?;
-    let patches = fitted(alloc, loaded, &resolved, &placement, &slots)?;
-    let parts = whole_parts(
-        alloc, loaded, resolved, linkers, tabled, &entry, placement, slots, patches,
-    )?;
-    Ok(parts)
+    prepare_placed(alloc, loaded, resolved, slots, &entry, placement)
 }
 
 /// As `prepare_seeded`, with a table of names for resolution.
