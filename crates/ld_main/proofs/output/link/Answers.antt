@@ -1,7 +1,7 @@
 use Rattle.std.proofs.lemmas.Result.{err_from_is_err_and}
 use Rattle.elf_model.specs.Inputs.Files.{files_of, words_of}
-use Rattle.ld_main.proofs.FinalRefusals.{memory_cause, no_memory}
-use Rattle.ld_main.proofs.Links.{own, right}
+use Rattle.linker.proofs.FinalRefusals.{memory_cause, no_memory}
+use Rattle.linker.proofs.Links.{own, right}
 use Rattle.ld_main.proofs.output.link.Goals as goal
 
 pub returns-clause-right : goal.returns-clause-right
