@@ -118,7 +118,8 @@ pub fn strip_lines<'a, 'b>(
         (symbol_row line)) lines.now }
     requires choices { choices.now ≡ bindings.now.objects }
     ensures left { (others : List ℕ) →
-        (AreLeft bindings.now.places tables.entry.entries.now tables.entry.names.now tables.entry.name_at (tabled bindings.now.objects (map symbol_row lines.now)) others
+        (AreLeft bindings.now.places tables.entry.entries.now tables.entry.names.now
+        tables.entry.name_at (tabled bindings.now.objects (map symbol_row lines.now)) others
         ↔ IsSomeAnd result (λ t. t.names.now ≡ others)) }
     ensures offset { IfSome result (λ t. t.name_at
         ≡ tables.entry.name_at + length
