@@ -56,14 +56,19 @@ LAYERS = {
         " SeenOutputs",
         "Slots": "PositionSteps SameRequest SlotLines SlotSteps",
     },
+    "check_places": {
+        "Lists and numbers": "ArrayRanks Lines",
+        "Sections and where they are": "DropSteps NearSteps NextPieces",
+        "Images and memory": "ImageFaults SegmentsApart Sweep",
+    },
     "check_tables": {
         "The lines of symbols": "CountedLines OwnChoices SymbolLines",
         "The table's bytes": "TableClause TableEntries TableLines TableParts TableSteps",
     },
     "checker": {
-        "Lists and numbers": "ArrayRanks Filtered Lines PartsOfLists Spelled",
-        "Sections and where they are": "DropSteps LinkRows NearSteps NextPieces PieceOrder PieceSections PlacedFacts",
-        "Images and memory": "ImageFaults Parts Regions RisingFields RisingLink RisingOrder Runs SegmentsApart Stretching Sweep Sweeping"
+        "Lists and numbers": "Filtered PartsOfLists Spelled",
+        "Sections and where they are": "LinkRows PieceOrder PieceSections PlacedFacts",
+        "Images and memory": "Parts Regions RisingFields RisingLink RisingOrder Runs Stretching Sweeping"
         " ThingsOfSegment ThreadBlocks",
         "The GOT": "GotSteps SlotCounts",
         "The verdict": "Clauses Verdicts",

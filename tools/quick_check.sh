@@ -28,7 +28,7 @@ done
 tools/try_edits.py --only-read || failed=1
 tools/promises.py --check || failed=1
 tools/lemmas.py --check || failed=1
-for crate in check_load check_link check_relocs check_stages check_tables checker; do
+for crate in check_load check_link check_relocs check_stages check_places check_tables checker; do
     grep -rn 'elf_model\.specs\.Own\.' "$copy/crates/$crate" && failed=1
 done
 if command -v mandoc >/dev/null; then

@@ -1,13 +1,7 @@
-pub mod ArrayRanks
 pub mod Clauses
-pub mod DropSteps
 pub mod Filtered
 pub mod GotSteps
-pub mod ImageFaults
-pub mod Lines
 pub mod LinkRows
-pub mod NearSteps
-pub mod NextPieces
 pub mod Parts
 pub mod PartsOfLists
 pub mod PieceOrder
@@ -18,11 +12,9 @@ pub mod RisingFields
 pub mod RisingLink
 pub mod RisingOrder
 pub mod Runs
-pub mod SegmentsApart
 pub mod SlotCounts
 pub mod Spelled
 pub mod Stretching
-pub mod Sweep
 pub mod Sweeping
 pub mod ThingsOfSegment
 pub mod ThreadBlocks

@@ -16,7 +16,7 @@ use Rattle.elf_model.proofs.Finding.{find-found}
 use Rattle.loader_model.proofs.MemoryLemmas.{memory_at}
 use Rattle.loader_model.proofs.TableOrder.{ascending_loads}
 use Rattle.checker.specs.Filled.{HasZeroGaps, SegmentFilled, part_of}
-use Rattle.checker.specs.Sweeps.{EndFits, RegionFilled}
+use Rattle.check_places.specs.Sweeps.{EndFits, RegionFilled}
 use Rattle.check_link.proofs.Padded.{below_or_not}
 use Rattle.elf_model.proofs.Listed.{All-unmap}
 

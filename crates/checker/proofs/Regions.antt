@@ -6,10 +6,10 @@ use Rattle.std.proofs.lemmas.List.Elements.{All-cons, All-head, All-nil, All-tai
 use Rattle.std.specs.List.Sorted.{IsNonDecreasingBy}
 use Rattle.elf_model.specs.Link.Placement.{Covers}
 use Rattle.elf_model.specs.declared.thing.Thing.{Thing}
-use Rattle.checker.specs.Sweeps.{FilledFrom, GapIs}
+use Rattle.check_places.specs.Sweeps.{FilledFrom, GapIs}
 use Rattle.check_link.proofs.Padded.{below_or_not}
 use Rattle.elf_model.proofs.Rests.{Left}
-use Rattle.checker.proofs.Sweep.{front, rises}
+use Rattle.check_places.proofs.Sweep.{front, rises}
 
 abbrev pub IsFill : List ℕ → ℕ → ℕ → ℕ → Type 0
 IsFill bytes low high fill = (k : ℕ) → low ≤ k → k < high → k < length bytes → slice_index bytes k ≡ fill

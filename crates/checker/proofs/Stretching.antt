@@ -6,7 +6,7 @@ use Rattle.std.specs.List.Sorted.{IsNonDecreasingBy}
 use Rattle.std.proofs.lemmas.List.Elements.{All-cons, All-head, All-nil, All-tail}
 use Rattle.elf_model.specs.Link.Placement.{Covers}
 use Rattle.elf_model.specs.declared.thing.Thing.{Thing}
-use Rattle.checker.specs.Sweeps.{EndFits, stretched}
+use Rattle.check_places.specs.Sweeps.{EndFits, stretched}
 use Rattle.check_link.proofs.Padded.{below_or_not}
 
 -- where a thing ends that reaches up to the greatest end so far, and that thing

@@ -9,7 +9,7 @@ use Rattle.elf_model.specs.Image.RightLink.{EndsRight, HasNothingElse, IsOfSegme
 use Rattle.elf_model.specs.declared.link_map.SymtabLine.{SymtabLine}
 use Rattle.elf_model.specs.declared.records.ProgramHeader.{ProgramHeader}
 use Rattle.elf_model.specs.declared.thing.Thing.{Thing}
-use Rattle.checker.specs.Sweeps.{FilledFrom, RegionFilled}
+use Rattle.check_places.specs.Sweeps.{FilledFrom, RegionFilled}
 use Rattle.elf_model.proofs.Rests.{Left}
 
 -- what some element of a list is, some element of another is that has those that can be it

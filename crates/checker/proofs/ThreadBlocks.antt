@@ -13,7 +13,7 @@ use Rattle.elf_model.specs.declared.records.ProgramHeader.{ProgramHeader}
 use Rattle.checker.specs.ThreadBlock.{AreOthersClear, BeginsAfter, IsBlockRight}
 use Rattle.check_link.specs.Views.{placed_view, placed_views}
 use Rattle.check_link.specs.declared.things.Placed as code
-use Rattle.checker.proofs.SegmentsApart.{none_found}
+use Rattle.check_places.proofs.SegmentsApart.{none_found}
 
 -- a nonempty range lies in a segment where one is found that encloses it
 pub enclosed_if :

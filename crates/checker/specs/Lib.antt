@@ -1,10 +1,6 @@
 pub mod Comparing
-pub mod Entering
 pub mod Filled
 pub mod Got
 pub mod Judged
-pub mod Neighbours
-pub mod ObjectLines
 pub mod Rising
-pub mod Sweeps
 pub mod ThreadBlock

@@ -4,7 +4,7 @@ ghost use Rattle.linkmap.specs.Borrowed.{object_row};
 ghost use Rattle.elf_model.specs.Image.RightLink.{IsLoaded, object_rows, objects_of};
 ghost use Rattle.check_load.specs.Plans.{CanLoad};
 ghost use Rattle.check_load.specs.Views.{loaded_view, loaded_views};
-ghost use Rattle.checker.specs.ObjectLines.{row_of};
+ghost use Rattle.check_places.specs.ObjectLines.{row_of};
 
 use check_link::Link;
 use check_load::Loaded;

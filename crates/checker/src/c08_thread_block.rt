@@ -5,7 +5,7 @@ ghost use Rattle.elf_model.specs.Link.Placement.{got_things};
 ghost use Rattle.elf_model.specs.Image.RightLink.{Holds, HoldsBefore, HoldsInitial, IsClearOf};
 ghost use Rattle.elf_model.specs.Link.ThreadStorage.{thread_header, thread_headers};
 ghost use Rattle.check_link.specs.PieceParts.{AreInLimit, IsGotInLimit, IsInLimit};
-ghost use Rattle.checker.specs.Sweeps.{EndFits};
+ghost use Rattle.check_places.specs.Sweeps.{EndFits};
 ghost use Rattle.checker.specs.ThreadBlock.{AreOthersClear, BeginsAfter, IsBlockRight, IsPlaceClear};
 ghost use Rattle.check_link.specs.Views.{placed_view, placed_views};
 ghost use Rattle.elf_model.specs.declared.verdict.Clause.TheVariants as clause;

@@ -5,7 +5,7 @@ ghost use Rattle.elf_model.specs.Image.MemoryImage.{file_end, loads};
 ghost use Rattle.elf_model.specs.Image.RightLink.{EndsRight, HasNothingElse, Holds, HoldsBefore, IsFilled, fill_of};
 ghost use Rattle.loader_model.specs.Table.{IsLawful};
 ghost use Rattle.checker.specs.Filled.{HasZeroGaps, SegmentFilled, part_of};
-ghost use Rattle.checker.specs.Sweeps.{EndFits, RegionFilled};
+ghost use Rattle.check_places.specs.Sweeps.{EndFits, RegionFilled};
 ghost use Rattle.elf_model.specs.declared.verdict.Clause.TheVariants as clause;
 
 use crate::c11_fill::ends::{all_end_right, ends_as_told};

@@ -4,16 +4,11 @@
 #![tactic(auto)]
 
 pub mod c02_loaded;
-pub mod c03_sections;
-pub mod c04_image;
-pub mod c05_placed;
-pub mod c06_rights;
 pub mod c07_got;
 pub mod c08_thread_block;
 pub mod c09_relocations;
 pub mod c10_bytes;
 pub mod c11_fill;
-pub mod c12_entry;
 mod object_fields;
 mod observer;
 mod rising_fields;

@@ -8,12 +8,10 @@ ghost use Rattle.checker.specs.Judged.{Judges};
 
 use crate::object_fields::are_held;
 use crate::observer::{Observer, Unobserved};
-use crate::{
-    c02_loaded, c03_sections, c04_image, c05_placed, c06_rights, c07_got, c08_thread_block,
-    c09_relocations, c11_fill, c12_entry,
-};
+use crate::{c02_loaded, c07_got, c08_thread_block, c09_relocations, c11_fill};
 use check_link::{Link, Outputs, Places, SlotTable, base_of, read_map, read_plan};
 use check_load::{NamedObjects, open_named};
+use check_places::{c03_sections, c04_image, c05_placed, c06_rights, c12_entry};
 use check_relocs::Bindings;
 use check_stages::{BoundLink, LoadedLink, PlacedLink};
 use check_tables::{c13_symbols, c14_tables};

@@ -11,7 +11,7 @@ use Rattle.check_link.specs.OutputSections.{IsOutputSection, section_order}
 use Rattle.check_link.specs.Views.{placed_view, placed_views}
 use Rattle.check_link.specs.declared.output_sections.OutputSection.{OutputSection}
 use Rattle.check_link.specs.declared.things.Placed.{Placed}
-use Rattle.checker.proofs.NextPieces.{HasLasts, IsLast, IsLastAt, StandsAt}
+use Rattle.check_places.proofs.NextPieces.{HasLasts, IsLast, IsLastAt, StandsAt}
 
 -- the last one before piece j is the one that it comes next after
 last_is_next :

@@ -4,7 +4,7 @@ use Rattle.std.specs.List.{slice_get}
 use Rattle.elf_model.specs.Link.Loading.{LoadedObject}
 use Rattle.elf_model.specs.Image.MapRecord.{ObjectRow}
 use Rattle.elf_model.specs.Image.RightLink.{object_rows}
-use Rattle.checker.specs.ObjectLines.{row_of}
+use Rattle.check_places.specs.ObjectLines.{row_of}
 
 pub rows_at : (n k m : ℕ) (os : List LoadedObject) → m ≡ n + k → slice_get (object_rows n os) k ≡ option_map (row_of m) (slice_get os k)
 rows_at n k m [] e = refl

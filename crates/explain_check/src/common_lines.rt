@@ -6,8 +6,8 @@ ghost use Rattle.explain_check.specs.Places.{AreFailures, FailsIn};
 use crate::found::{Added, Found};
 use crate::place::{CheckPlace, CommonLinePlace, Failure};
 use crate::section_lines::{wrong_drop, wrong_place};
+use check_places::c03_sections::drops::drops_of;
 use checker::LoadedLink;
-use checker::c03_sections::drops::drops_of;
 use std::alloc::Global;
 
 /// The common line of a name, or that there is none, where its block asks for another one.

@@ -12,8 +12,8 @@ use crate::named_parts::at_number;
 use crate::place::{CheckPlace, Failure, Neighbours};
 use check_link::{Placed, output_section};
 use checker::PlacedLink;
-use checker::c05_placed::array_order::in_array_order;
-use checker::c05_placed::neighbours::is_near;
+use check_places::c05_placed::array_order::in_array_order;
+use check_places::c05_placed::neighbours::is_near;
 use std::alloc::Global;
 use std::collections::BTreeMap;
 

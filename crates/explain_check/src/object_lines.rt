@@ -4,7 +4,7 @@ ghost use Rattle.std.specs.List.{slice_get};
 ghost use Rattle.linkmap.specs.Borrowed.{object_row};
 ghost use Rattle.elf_model.specs.Image.RightLink.{object_rows, objects_of};
 ghost use Rattle.check_load.specs.Views.{loaded_views};
-ghost use Rattle.checker.specs.ObjectLines.{row_of};
+ghost use Rattle.check_places.specs.ObjectLines.{row_of};
 ghost use Rattle.explain_check.specs.LinePlaces.{borrowed_view, object_line_view, row_at};
 ghost use Rattle.explain_check.specs.Places.{AreFailures, FailsIn};
 

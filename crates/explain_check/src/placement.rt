@@ -10,8 +10,8 @@ use crate::found::{Added, Found};
 use crate::named_parts::{parts_of, thread_parts_of};
 use crate::place::{CheckPlace, Failure, Part, PartName};
 use check_link::base_of;
+use check_places::c05_placed::{is_aligned, is_within};
 use checker::PlacedLink;
-use checker::c05_placed::{is_aligned, is_within};
 use elf_model::Thing;
 use std::alloc::{AllocError, Global};
 

@@ -9,9 +9,9 @@ ghost use Rattle.explain_check.specs.Places.{FailsIn};
 
 use crate::place::{CheckPlace, DropLinePlace, Failure, PlaceLinePlace};
 use check_link::Piece;
+use check_places::c03_sections::drops::is_drop;
+use check_places::c03_sections::is_line_of;
 use checker::LoadedLink;
-use checker::c03_sections::drops::is_drop;
-use checker::c03_sections::is_line_of;
 use elf_model::DropLine;
 use linkmap::BorrowedPlace;
 

@@ -1,7 +1,7 @@
 //! Stretches of bytes outside of all things: whether they are fill.
 ghost use Rattle.std.specs.Prelude.{◌≡◌, ◌+◌, ◌-◌, ◌≤◌, ◌<◌, ◌↔◌, ℕ, All, IsTrue, length, slice_index};
 ghost use Rattle.std.specs.List.Sorted.{IsNonDecreasingBy};
-ghost use Rattle.checker.specs.Sweeps.{EndFits, GapIs, RegionFilled};
+ghost use Rattle.check_places.specs.Sweeps.{EndFits, GapIs, RegionFilled};
 
 use byteview::all_byte;
 use elf_model::Thing;

@@ -1,7 +1,7 @@
 //! Parts of a list of things that stand in the order of their addresses, found by bisection.
 ghost use Rattle.std.specs.Prelude.{◌≡◌, ◌+◌, ◌-◌, ◌≤◌, ◌<◌, ℕ, All, Contains, IfOk, length, max, nat_le, slice_index_or};
 ghost use Rattle.std.specs.List.Sorted.{IsNonDecreasingBy};
-ghost use Rattle.checker.specs.Sweeps.{EndFits, stretched};
+ghost use Rattle.check_places.specs.Sweeps.{EndFits, stretched};
 
 use elf_model::Thing;
 use std::alloc::{AllocError, Global};

@@ -1,6 +1,6 @@
 use Rattle.std.proofs.Common.{◌≡◌, true, false, arith}
 use Rattle.linkmap.specs.Borrowed.{object_row}
-use Rattle.checker.proofs.Lines.{cells_more, cells_stop, map_front, rows_front, rows_length}
+use Rattle.check_places.proofs.Lines.{cells_more, cells_stop, map_front, rows_front, rows_length}
 use Rattle.checker.proofs.c02_loaded.are_lines_of.Goals as goal
 
 pub loop-k-preserved : goal.loop-k-preserved

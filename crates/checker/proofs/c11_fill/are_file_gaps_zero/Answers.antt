@@ -4,7 +4,7 @@ use Rattle.std.specs.List.Sorted.{IsNonDecreasingBy}
 use Rattle.elf_model.specs.Image.MemoryImage.{loads}
 use Rattle.elf_model.specs.declared.thing.Thing.{Thing}
 use Rattle.checker.specs.Filled.{part_of}
-use Rattle.checker.specs.Sweeps.{EndFits, RegionFilled}
+use Rattle.check_places.specs.Sweeps.{EndFits, RegionFilled}
 use Rattle.checker.proofs.Parts.{gaps_iff, parts_fit, parts_rise}
 use Rattle.elf_model.proofs.Rests.{Left}
 use Rattle.checker.proofs.c11_fill.are_file_gaps_zero.Goals as goal

@@ -3,7 +3,7 @@ use Rattle.std.specs.Prelude.{◌↔◌, All, IsTrue}
 use Rattle.std.proofs.lemmas.List.Sorted.{All-permutation, IsPermutation-sym}
 use Rattle.elf_model.specs.Image.RightLink.{HasNothingElse, Subject, things_of}
 use Rattle.elf_model.specs.declared.verdict.Clause.TheVariants.{C5}
-use Rattle.checker.specs.Sweeps.{EndFits}
+use Rattle.check_places.specs.Sweeps.{EndFits}
 use Rattle.checker.proofs.ThingsOfSegment.{nothing_else_moved}
 use Rattle.checker.proofs.c11_fill.holds.Goals as goal
 

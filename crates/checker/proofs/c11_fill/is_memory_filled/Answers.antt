@@ -5,7 +5,7 @@ use Rattle.elf_model.specs.Image.MemoryImage.{loads}
 use Rattle.elf_model.specs.declared.records.ProgramHeader.{ProgramHeader}
 use Rattle.elf_model.specs.declared.thing.Thing.{Thing}
 use Rattle.checker.specs.Filled.{SegmentFilled}
-use Rattle.checker.specs.Sweeps.{EndFits, stretched}
+use Rattle.check_places.specs.Sweeps.{EndFits, stretched}
 use Rattle.checker.proofs.Parts.{filled_iff}
 use Rattle.elf_model.proofs.Rests.{Left}
 use Rattle.checker.proofs.Stretching.{out_of_stretched, out_of_things, stretched_ends_rise, stretched_fit, stretched_rise}

@@ -2,7 +2,7 @@ use Rattle.std.proofs.Common.{List, ℕ, subst}
 use Rattle.std.specs.Prelude.{IfSome}
 use Rattle.elf_model.specs.Link.Placement as placement
 use Rattle.elf_model.specs.Link.Placement.{IsNext}
-use Rattle.checker.proofs.NearSteps.{placed_more}
+use Rattle.check_places.proofs.NearSteps.{placed_more}
 use Rattle.explain_check.proofs.FarSections.{next_of}
 use Rattle.explain_check.proofs.far_sections.add_far_ones.Goals as goal
 

@@ -1,5 +1,5 @@
 use Rattle.check_link.specs.Views.{placed_views}
-use Rattle.checker.proofs.NextPieces.{HasLasts}
+use Rattle.check_places.proofs.NextPieces.{HasLasts}
 use Rattle.explain_check.specs.Places.{AreFailures}
 use Rattle.explain_check.proofs.far_sections.add_far_ones.Given as goal
 

@@ -1,5 +1,5 @@
 use Rattle.std.proofs.Common.{◌∙◌, ap, option_map, arith}
-use Rattle.checker.specs.ObjectLines.{row_of}
+use Rattle.check_places.specs.ObjectLines.{row_of}
 use Rattle.check_load.specs.Views.{loaded_views}
 use Rattle.explain_check.proofs.ObjectLines.{rows_at}
 use Rattle.explain_check.proofs.object_lines.object_at.Goals as goal

@@ -1,5 +1,5 @@
 use Rattle.std.proofs.Common.{◌≡◌, ℕ, ◌+◌, true, false, sym, subst, arith, drop}
-use Rattle.checker.specs.Sweeps.{FilledFrom, RegionFilled}
+use Rattle.check_places.specs.Sweeps.{FilledFrom, RegionFilled}
 use Rattle.elf_model.proofs.Rests.{Left}
 use Rattle.checker.proofs.Regions.{filled_end, filled_more, filled_stop}
 use Rattle.checker.proofs.c11_fill.region.is_filled.Goals as goal

@@ -1,5 +1,5 @@
 use Rattle.std.proofs.Common.{◌≡◌, ◌++◌, drop}
-use Rattle.checker.specs.Sweeps.{stretched}
+use Rattle.check_places.specs.Sweeps.{stretched}
 use Rattle.checker.proofs.c11_fill.stretches.stretched.Given as goal
 
 abbrev pub invariant-loop-thing : goal.invariant-loop-thing

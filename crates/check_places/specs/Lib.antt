@@ -1,0 +1,4 @@
+pub mod Entering
+pub mod Neighbours
+pub mod ObjectLines
+pub mod Sweeps
