@@ -5,7 +5,7 @@ use Rattle.std.specs.Cmp.Lexicographic.{slice_cmp}
 use Rattle.std.specs.Ordering.{is_eq, bool_cmp, nat_cmp, ordering_then}
 use Rattle.std.specs.declared.cmp.Ordering.{Ordering}
 use Rattle.std.specs.declared.cmp.Ordering.TheVariants.{Less, Equal, Greater}
-use Rattle.std.proofs.lemmas.Bool.{false_from_ne_true, true≢false}
+use Rattle.std.proofs.lemmas.Bool.{and_parts, false_from_ne_true, true≢false}
 use Rattle.std.proofs.lemmas.Map.Text.{is_eq-slice_cmp}
 use Rattle.std.proofs.lemmas.Slice.Eq.{bytes_eq-Decides}
 use Rattle.std.specs.Str.{bytes_eq}
@@ -105,3 +105,35 @@ equal_self s =
 
 pub one_equal : (s u : OutputSection) → IsSameSection s u → is_eq (section_order s u) ≡ true
 one_equal s u same = ap is_eq (one_orders s u u same) ∙ equal_self u
+
+-- output sections that compare as equal are one
+five_parts : (a b c d e : Bool) → (a && b && c && d && e) ≡ true → (a ≡ true) × (b ≡ true) × (c ≡ true) × (d ≡ true) × (e ≡ true)
+five_parts a b c d e h =
+    let fifth = and_parts (a && b && c && d) e h in
+    let fourth = and_parts (a && b && c) d fifth.0 in
+    let third = and_parts (a && b) c fourth.0 in
+    let both = and_parts a b third.0 in
+    (both.0, both.1, third.1, fourth.1, fifth.1)
+
+alike_same : (a b : Bool) → is_eq (bool_cmp a b) ≡ true → a ≡ b
+alike_same true true h = refl
+alike_same true false h = absurd (let f : false ≡ true = h in cc)
+alike_same false true h = absurd (let f : false ≡ true = h in cc)
+alike_same false false h = refl
+
+pub equal_one : (s t : OutputSection) → is_eq (section_order s t) ≡ true → IsSameSection s t
+equal_one s t h =
+    let parts =
+    five_parts (is_eq (slice_cmp nat_cmp s.name.now t.name.now)) (is_eq (bool_cmp s.writable t.writable)) (is_eq (bool_cmp s.executable t.executable))
+    (is_eq (bool_cmp s.thread_local t.thread_local)) (is_eq (bool_cmp s.nobits t.nobits))
+    (sym
+    (tie_five (slice_cmp nat_cmp s.name.now t.name.now) (bool_cmp s.writable t.writable) (bool_cmp s.executable t.executable)
+    (bool_cmp s.thread_local t.thread_local) (bool_cmp s.nobits t.nobits))
+    ∙ h) in
+    record {
+      name = (bytes_eq-Decides s.name.now t.name.now).0 (sym (is_eq-slice_cmp s.name.now t.name.now) ∙ parts.0);
+      writable = alike_same s.writable t.writable parts.1;
+      executable = alike_same s.executable t.executable parts.2;
+      thread_local = alike_same s.thread_local t.thread_local parts.3;
+      nobits = alike_same s.nobits t.nobits parts.4;
+    }

@@ -1,16 +1,15 @@
 -- One step of the rule on neighbours, at a piece as the checker has it.
-use Rattle.std.proofs.Common.{◌≡◌, ℕ, ◌+◌, ◌<◌, Bool, true, cond, Option, Some, None, List, length, get_or, sym, subst, arith}
+use Rattle.std.proofs.Common.{◌≡◌, ℕ, ◌+◌, ◌<◌, Bool, true, Option, Some, None, List, length, get_or, sym, subst, arith}
 use Rattle.std.specs.Prelude.{IfSome, IsTrue, slice_index_or}
-use Rattle.std.specs.BTreeMap.{BTreeMap, Updates, get}
-use Rattle.std.specs.Ordering.{is_eq}
 use Rattle.std.proofs.lemmas.List.{get_or-map, length-map}
 use Rattle.elf_model.specs.Link.Placement as placement
-use Rattle.elf_model.specs.Link.Placement.{IsNear}
-use Rattle.check_link.specs.OutputSections.{IsOutputSection, section_order}
+use Rattle.elf_model.specs.Link.Placement.{IsNear, IsNext}
+use Rattle.check_link.specs.OutputSections.{IsOutputSection}
 use Rattle.check_link.specs.Views.{placed_view, placed_views}
 use Rattle.check_link.specs.declared.output_sections.OutputSection.{OutputSection}
 use Rattle.check_link.specs.declared.things.Placed.{Placed}
-use Rattle.check_places.proofs.NextPieces.{HasLasts, IsLast, LastsAre, NearFrom, StandsAt, lasts_more, near_more, near_stop}
+use Rattle.check_places.specs.Neighbours.{over_last}
+use Rattle.check_places.proofs.NextPieces.{IsLast, LastsAre, NearFrom, StandsAt, last_is_next, lasts_more, near_more, near_stop}
 use Rattle.elf_model.proofs.Rests.{Left}
 
 abbrev pub NearLast : List Placed → Placed → Option ℕ → Type 0
@@ -29,16 +28,11 @@ module _ (placed : List Placed) (j : ℕ) (d : Placed) (within : j < length plac
   there : j < length all
   there = let n = length-map placed placed_view in omega (arith, n, within)
 
-  -- piece j is the last one of its output section; and so it is in a map into which it goes
+  -- piece j is the last one of its output section
   pub placed_next :
       (s : OutputSection) (f g : OutputSection → Option ℕ) → IsOutputSection (placed_view next).piece s →
-      ((t : OutputSection) → g t ≡ cond (is_eq (section_order s t)) (Some j) (f t)) → LastsAre all j f → LastsAre all (j + 1) g
+      ((t : OutputSection) → g t ≡ over_last s j f t) → LastsAre all j f → LastsAre all (j + 1) g
   placed_next s f g is more lasts = lasts_more all j (placed_view next) s f g (stands j d within) is more lasts
-
-  pub placed_more :
-      (s : OutputSection) (m n : BTreeMap OutputSection ℕ) → IsOutputSection (placed_view next).piece s →
-      Updates section_order m n s (Some j) → HasLasts all j m → HasLasts all (j + 1) n
-  placed_more s m n is updates lasts = placed_next s (get section_order m) (get section_order n) is updates.0 lasts
 
   module _ (s : OutputSection) (f : OutputSection → Option ℕ) (o : Option ℕ) (is : IsOutputSection (placed_view next).piece s) (lasts : LastsAre all j f) (old : o ≡ f s) where
     last : IsLast all j (placed_view next).piece o
@@ -51,6 +45,14 @@ module _ (placed : List Placed) (j : ℕ) (d : Placed) (within : j < length plac
     -- what is known of it is a piece
     pub last_within : IfSome o (λ i. i < length placed)
     last_within = inside_of o last
+
+    next_after : (p : Option ℕ) → IsLast all j (placed_view next).piece p → IfSome p (λ i. (e : placement.Placed) → IsNext all i j e)
+    next_after None l = tt
+    next_after (Some i) l = λ e. last_is_next all j (placed_view next) (stands j d within) there i e l
+
+    -- and piece j comes next after it
+    pub is_next : IfSome o (λ i. (e : placement.Placed) → IsNext all i j e)
+    is_next = next_after o last
 
     near_everywhere :
         (p : Option ℕ) → IfSome p (λ i. i < length placed) → NearLast placed next p →

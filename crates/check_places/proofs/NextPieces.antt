@@ -1,16 +1,18 @@
 -- The rule on neighbours, piece by piece: the last piece of each output section is kept.
 use Rattle.std.proofs.Common.{◌≡◌, ℕ, ◌+◌, ◌-◌, ◌<◌, ◌≤◌, ◌⊎◌, inl, inr, Bool, true, false, cond, Option, Some, None, List, length, refl, sym, ◌∙◌, ap, subst, arith}
+use Rattle.std.specs.Option.{option_or}
 use Rattle.std.specs.Prelude.{IfSome, slice_index_or}
-use Rattle.std.specs.BTreeMap.{BTreeMap, get}
 use Rattle.std.specs.Ordering.{is_eq}
+use Rattle.std.proofs.lemmas.Bool.{false_from_ne_true}
 use Rattle.elf_model.specs.Link.Pieces.{Piece, same_output}
 use Rattle.elf_model.specs.Link.Placement.{IsNear, IsNext, Placed}
 use Rattle.check_link.specs.OutputSections.{IsOutputSection, IsSameSection, section_order}
 use Rattle.check_link.specs.declared.output_sections.OutputSection.{OutputSection}
 use Rattle.check_link.proofs.Padded.{below_or_not}
 use Rattle.elf_model.proofs.Rests.{Left}
-use Rattle.check_link.proofs.SameOutput.{differ_by_third, one_equal, one_orders, same_by_third, sections_tie}
-use Rattle.check_places.specs.Neighbours.{HasOthers, last_known}
+use Rattle.check_link.proofs.SameOutput.{differ_by_third, equal_one, one_equal, one_orders, same_by_third, sections_tie}
+use Rattle.check_places.specs.Neighbours.{last_at, over_last}
+use Rattle.check_places.specs.declared.c05_placed.neighbours.Last.{Last}
 
 -- of the first j pieces, number i is the last that is of one output section with q
 pub record IsLastAt (ps : List Placed) (j : ℕ) (q : Piece) (i : ℕ) : Type 0 where
@@ -22,12 +24,12 @@ abbrev pub IsLast : List Placed → ℕ → Piece → Option ℕ → Type 0
 IsLast ps j q None = (k : ℕ) (d : Placed) → k < j → same_output (slice_index_or ps k d).piece q ≡ false
 IsLast ps j q (Some i) = IsLastAt ps j q i
 
--- these are the last ones of the first j pieces for each output section; and a map has them
+-- these are the last ones of the first j pieces for each output section
 abbrev pub LastsAre : List Placed → ℕ → (OutputSection → Option ℕ) → Type 0
 LastsAre ps j f = (q : Piece) (t : OutputSection) → IsOutputSection q t → IsLast ps j q (f t)
 
-abbrev pub HasLasts : List Placed → ℕ → BTreeMap OutputSection ℕ → Type 0
-HasLasts ps j m = LastsAre ps j (get section_order m)
+pub no_lasts : (ps : List Placed) (f : OutputSection → Option ℕ) → ((t : OutputSection) → f t ≡ None) → LastsAre ps 0 f
+no_lasts ps f none = λ q t of_q. subst (IsLast ps 0 q) (sym (none t)) (λ k d below. absurd (omega (arith, below)))
 
 -- the rule for the pieces from number j on
 abbrev pub NearFrom : List Placed → ℕ → Type 0
@@ -75,40 +77,56 @@ module _ (ps : List Placed) (j : ℕ) (x : Placed) (at : StandsAt ps j x) (q : P
 -- piece j is the last one of its output section
 pub lasts_more :
     (ps : List Placed) (j : ℕ) (x : Placed) (s : OutputSection) (f g : OutputSection → Option ℕ) → StandsAt ps j x →
-    IsOutputSection x.piece s → ((t : OutputSection) → g t ≡ cond (is_eq (section_order s t)) (Some j) (f t)) → LastsAre ps j f →
-    LastsAre ps (j + 1) g
+    IsOutputSection x.piece s → ((t : OutputSection) → g t ≡ over_last s j f t) → LastsAre ps j f → LastsAre ps (j + 1) g
 lasts_more ps j x s f g at is more lasts = λ q t of_q.
     let tie = sections_tie x.piece q s t is of_q in
     subst (IsLast ps (j + 1) q) (sym (more t))
     (last_more ps j x at q (f t) (is_eq (section_order s t)) (sym tie) (lasts q t of_q))
 
--- what is known where the latest piece is of an output section: of that one the piece itself, of others what the map has
-module _ (m : BTreeMap OutputSection ℕ) (latest : Option OutputSection) (own : OutputSection) (is : latest ≡ Some own) (j : ℕ) where
-  pub known_by_latest : (t : OutputSection) → last_known m latest j t ≡ cond (is_eq (section_order own t)) (Some (j - 1)) (get section_order m t)
-  known_by_latest t = ap (λ (o : Option OutputSection). last_known m o j t) is
+-- What is known of output sections, once another piece of one is the last: of that one the new piece, of others what was known.
+module _ (s : OutputSection) (i : ℕ) where
+  pub in_front :
+      (f g : OutputSection → Option ℕ) (t : OutputSection) → (is_eq (section_order s t) ≡ false → f t ≡ g t) →
+      option_or (cond (is_eq (section_order s t)) (Some i) None) (f t) ≡ over_last s i g t
+  in_front f g t others = by (is_eq (section_order s t)) refl
+    where
+      by : (b : Bool) → is_eq (section_order s t) ≡ b → option_or (cond {A = Option ℕ} b (Some i) None) (f t) ≡ cond b (Some i) (g t)
+      by true e = refl
+      by false e = others e
 
-  module _ (s : OutputSection) (same : IsSameSection own s) where
-    pub known_own : Some (j - 1) ≡ last_known m latest j s
-    known_own =
-        sym (known_by_latest s ∙ ap (λ (b : Bool). cond {A = Option ℕ} b (Some (j - 1)) (get section_order m s)) (one_equal own s same))
+  -- the one at hand that it replaces is of no other
+  of_no_other : (last : Option Last) (old : ℕ) → Some old ≡ last_at last s → (t : OutputSection) → is_eq (section_order s t) ≡ false → last_at last t ≡ None
+  of_no_other None old found t differ = refl
+  of_no_other (Some l) old found t differ = by (is_eq (section_order l.section s)) refl found
+    where
+      by : (b : Bool) → is_eq (section_order l.section s) ≡ b → Some old ≡ cond b (Some l.at) None → last_at (Some l) t ≡ None
+      by true same f =
+          ap (λ (b : Bool). cond {A = Option ℕ} b (Some l.at) None) (ap is_eq (one_orders l.section s t (equal_one l.section s same)) ∙ differ)
+      by false same f = absurd (let n : Some old ≡ None = f in cc)
 
-    pub known_others : HasOthers m m latest j s
-    known_others t differ =
-        sym
-        (known_by_latest t
-        ∙ ap (λ (b : Bool). cond {A = Option ℕ} b (Some (j - 1)) (get section_order m t)) (ap is_eq (one_orders own s t same) ∙ differ))
+  pub without :
+      (last : Option Last) (old : ℕ) → Some old ≡ last_at last s → (t : OutputSection) → is_eq (section_order s t) ≡ false →
+      (below : Option ℕ) → below ≡ option_or (last_at last t) below
+  without last old found t differ below = sym (ap (λ (o : Option ℕ). option_or o below) (of_no_other last old found t differ))
 
--- once piece j is the latest one, in output section s
-pub known_more :
-    (m n : BTreeMap OutputSection ℕ) (latest : Option OutputSection) (j : ℕ) (s : OutputSection) → HasOthers m n latest j s →
-    (t : OutputSection) → last_known n (Some s) (j + 1) t ≡ cond (is_eq (section_order s t)) (Some j) (last_known m latest j t)
-known_more m n latest j s others t = by (is_eq (section_order s t)) refl
-  where
-    by :
-        (b : Bool) → is_eq (section_order s t) ≡ b →
-        cond b (Some (j + 1 - 1)) (get section_order n t) ≡ cond {A = Option ℕ} b (Some j) (last_known m latest j t)
-    by true e = let same : j + 1 - 1 ≡ j = omega arith in ap (λ (k : ℕ). Some k) same
-    by false e = others t e
+-- what one at hand tells of an output section
+pub at_same : (o : Option Last) (l : Last) (s : OutputSection) → o ≡ Some l → IsSameSection l.section s → Some l.at ≡ last_at o s
+at_same o l s is same =
+    sym
+    (ap (λ (p : Option Last). last_at p s) is
+    ∙ ap (λ (b : Bool). cond {A = Option ℕ} b (Some l.at) None) (one_equal l.section s same))
+
+pub at_other : (o : Option Last) (l : Last) (s : OutputSection) → o ≡ Some l → (IsSameSection l.section s → ⊥) → None ≡ last_at o s
+at_other o l s is never =
+    sym
+    (ap (λ (p : Option Last). last_at p s) is
+    ∙ ap (λ (b : Bool). cond {A = Option ℕ} b (Some l.at) None)
+    (false_from_ne_true (is_eq (section_order l.section s)) (λ t. never (equal_one l.section s t))))
+
+-- a map with it has what it tells, or what was there
+pub settled : (b : Bool) (x : ℕ) (o : Option ℕ) → cond {A = Option ℕ} b (Some x) o ≡ option_or (cond b (Some x) None) o
+settled true x o = refl
+settled false x o = refl
 
 -- What stands before piece j in its output section, if there is anything.
 module _ (ps : List Placed) (j : ℕ) (x : Placed) (at : StandsAt ps j x) (within : j < length ps) where
@@ -128,7 +146,7 @@ module _ (ps : List Placed) (j : ℕ) (x : Placed) (at : StandsAt ps j x) (withi
       by (inr high) (inl low) = absurd (let n : false ≡ true = sym (last.between i d low next.0) ∙ same_at i d next.2 in cc)
       by (inr high) (inr low) = let e : h ≡ i = omega (arith, high, low) in ap (λ (k : ℕ). Some k) e
 
-  last_is_next : (i : ℕ) (d : Placed) → IsLastAt ps j x.piece i → IsNext ps i j d
+  pub last_is_next : (i : ℕ) (d : Placed) → IsLastAt ps j x.piece i → IsNext ps i j d
   last_is_next i d last = (
     last.before,
     within,

@@ -1,5 +1,4 @@
 pub mod Denials
-pub mod FarSections
 pub mod MemoryDenials
 pub mod ObjectLines
 pub mod Reading

@@ -11,11 +11,10 @@ use crate::found::{Added, Found};
 use crate::named_parts::at_number;
 use crate::place::{CheckPlace, Failure, Neighbours};
 use check_link::{Placed, output_section};
-use checker::PlacedLink;
 use check_places::c05_placed::array_order::in_array_order;
-use check_places::c05_placed::neighbours::is_near;
+use check_places::c05_placed::neighbours::{Lasts, is_near};
+use checker::PlacedLink;
 use std::alloc::Global;
-use std::collections::BTreeMap;
 
 /// The section that has a number in the order of the output sections.
 fn section_at<'a>(
@@ -78,9 +77,9 @@ fn add_far_ones<'a>(
     requires before { AreFailures placed.now found.old.places.items }
     ensures { OnOk result (AreFailures placed.now found.new.places.items) }
 {
-    let mut lasts = BTreeMap::new(alloc);
+    let mut lasts = Lasts::new(alloc);
     for (j, next) in sections.iter().enumerate() {
-        let last = lasts.insert(output_section(&next.piece), j)?;
+        let last = lasts.replace(&output_section(&next.piece), j)?;
         found.add_some(far_after(placed, sections, last, j))?;
     }
     Ok(())

@@ -1,8 +1,12 @@
 //! Whether each piece stands close behind the one before it in its output section: a part of the fifth clause.
-ghost use Rattle.std.specs.Prelude.{◌≡◌, ◌<◌, ◌↔◌, IfOk, IfSome, IsTrue, OnOk, length, slice_index_or};
+ghost use Rattle.std.specs.Prelude.{◌≡◌, ◌<◌, ◌↔◌, IfOk, IfSome, IsTrue, None, OnOk, length, slice_index_or};
+ghost use Rattle.std.specs.BTreeMap.{get};
+ghost use Rattle.std.specs.Option.{option_or};
 ghost use Rattle.elf_model.specs.Link.Placement.{IsNear};
-ghost use Rattle.check_places.specs.Neighbours.{AreNear, HasOthers, last_known};
+ghost use Rattle.check_places.specs.Neighbours.{AreNear, last_at, last_known, over_last};
+ghost use Rattle.check_link.specs.OutputSections.{section_order};
 ghost use Rattle.check_link.specs.Views.{placed_view, placed_views};
+ghost use Rattle.check_link.specs.declared.output_sections.OutputSection.{OutputSection};
 
 use check_link::{OutputSection, Placed, output_section, same_section};
 use std::alloc::{AllocError, Global};
@@ -34,25 +38,84 @@ fn is_near_last(placed: &[Placed<'_>], last: Option<usize>, next: &Placed<'_>) -
     }
 }
 
-/// The last of so many first pieces that is of an output section. That of the output section of the latest piece stands
-/// beside the map, which gets it once a piece of another one comes: mostly the next piece is of the same.
-fn last_of<'a>(
-    lasts: &mut BTreeMap<OutputSection<'a>, usize>,
-    latest: Option<OutputSection<'a>>,
-    section: &OutputSection<'a>,
-    count: usize,
-) -> Result<Option<usize>, AllocError>
-    requires { IfSome latest (λ s. 0 < count) }
-    ensures last { IfOk result (λ i. i ≡ last_known lasts.old latest.entry count section.now) }
-    ensures others { OnOk result (HasOthers lasts.old lasts.new latest.entry count section.now) }
+/// An output section and the last piece that was seen of it.
+#[derive(Clone, Copy, Debug)]
+pub struct Last<'a> {
+    section: OutputSection<'a>,
+    at: usize,
+}
+
+/// The last piece of an output section, where this is the one of another or the same.
+fn last_at(last: Option<Last<'_>>, section: &OutputSection<'_>) -> Option<usize>
+    ensures { result ≡ last_at last.entry section.now }
 {
-    if let Some(own) = latest {
-        if same_section(&own, section) {
-            return Ok(Some(count - 1));
-        }
-        lasts.insert(own, count - 1)?;
+    let last = last?;
+    if same_section(&last.section, section) {
+        return Some(last.at);
     }
-    Ok(lasts.get(section).copied())
+    None
+}
+
+/// Puts the last piece of an output section into a map, where there is one.
+fn settle<'a>(
+    map: &mut BTreeMap<OutputSection<'a>, usize>,
+    last: Option<Last<'a>>,
+) -> Result<(), AllocError>
+    ensures { OnOk result ((t : OutputSection) → get section_order map.new t
+        ≡ option_or (last_at last.entry t) (get section_order map.old t)) }
+{
+    if let Some(last) = last {
+        map.insert(last.section, last.at)?;
+    }
+    Ok(())
+}
+
+/// The last pieces that were seen of output sections: of the two latest output sections at hand, of others in a map, since mostly
+/// the next piece is of one of these two.
+#[derive(Drop)]
+pub struct Lasts<'a> {
+    latest: Option<Last<'a>>,
+    other: Option<Last<'a>>,
+    map: BTreeMap<OutputSection<'a>, usize>,
+}
+
+impl<'a> Lasts<'a> {
+    /// None at all.
+    pub fn new(alloc: Global) -> Lasts<'a>
+        ensures { (t : OutputSection) → last_known result t ≡ None }
+    {
+        Lasts {
+            latest: None,
+            other: None,
+            map: BTreeMap::new(alloc),
+        }
+    }
+
+    /// Takes in the next piece of an output section, and answers the one before it, if there is one.
+    pub fn replace(
+        &mut self,
+        section: &OutputSection<'a>,
+        at: usize,
+    ) -> Result<Option<usize>, AllocError>
+        ensures before { IfOk result (λ i. i ≡ last_known self.old section.now) }
+        ensures known { OnOk result ((t : OutputSection) →
+            last_known self.new t ≡ over_last section.now at (last_known self.old) t) }
+    {
+        let (latest, other) = (self.latest, self.other);
+        self.latest = Some(Last {
+            section: *section,
+            at,
+        });
+        if let Some(before) = last_at(latest, section) {
+            return Ok(Some(before));
+        }
+        self.other = latest;
+        if let Some(before) = last_at(other, section) {
+            return Ok(Some(before));
+        }
+        settle(&mut self.map, other)?;
+        Ok(self.map.get(section).copied())
+    }
 }
 
 /// Whether each piece is near the one before it in its output section, in one pass that keeps the last
@@ -60,15 +123,13 @@ fn last_of<'a>(
 pub fn are_near(alloc: Global, placed: &[Placed<'_>]) -> Result<bool, AllocError>
     ensures { IfOk result (λ b. IsTrue b ↔ AreNear (placed_views placed.now)) }
 {
-    let mut lasts = BTreeMap::new(alloc);
-    let mut latest = None;
+    let mut lasts = Lasts::new(alloc);
     for (j, next) in placed.iter().enumerate() {
         let section = output_section(&next.piece);
-        let last = last_of(&mut lasts, latest, &section, j)?;
+        let last = lasts.replace(&section, j)?;
         if !is_near_last(placed, last, next) {
             return Ok(false);
         }
-        latest = Some(section);
     }
     Ok(true)
 }
