@@ -103,24 +103,6 @@ impl<'a> Found<'a> {
         self.add_rows(count, true, at)
     }
 
-    /// Takes in the places that there are at the numbers below a count; where as many are kept as may be, only counts them.
-    pub(crate) fn add_known<F: Fn(usize) -> Failure<'a>>(&mut self, count: usize, at: F) -> Added
-        requires { (i : ℕ) → i < count → F.pre at i }
-        ensures { (s : Subject) →
-            AreFailures s self.old.places.items
-            → ((i : ℕ) (o : _) → i < count → F.post at i o → IfSome o (FailsIn s))
-            → OnOk result (AreFailures s self.new.places.items) }
-    {
-        for i in 0..count {
-            if self.is_full() {
-                self.count();
-            } else {
-                self.add_some(at(i))?;
-            }
-        }
-        Ok(())
-    }
-
     /// Takes in a place, where it is of a clause.
     fn add_of(&mut self, place: CheckPlace<'a>, clause: Clause) -> Added
         requires { length self.old.places.items ≤ self.old.most }

@@ -81,6 +81,36 @@ fn wrong_length<'a>(bound: &BoundLink<'_, 'a>) -> Failure<'a>
     Some(CheckPlace::Length(len, end))
 }
 
+/// Adds the bytes at offsets of the file that aren't 0 and in no file part; where as many places are kept as may be, only counts them.
+fn add_gaps<'a>(found: &mut Found<'a>, bound: &BoundLink<'_, 'a>, offsets: &[u64]) -> Added
+    requires { AreFailures bound.now found.old.places.items }
+    ensures { OnOk result (AreFailures bound.now found.new.places.items) }
+{
+    for at in offsets {
+        if found.is_full() {
+            found.count();
+        } else {
+            found.add_some(wrong_gap(bound, *at))?;
+        }
+    }
+    Ok(())
+}
+
+/// Adds the bytes at addresses that are neither of a thing nor fill, likewise.
+fn add_unfilled<'a>(found: &mut Found<'a>, bound: &BoundLink<'_, 'a>, addresses: &[u64]) -> Added
+    requires { AreFailures bound.now found.old.places.items }
+    ensures { OnOk result (AreFailures bound.now found.new.places.items) }
+{
+    for at in addresses {
+        if found.is_full() {
+            found.count();
+        } else {
+            found.add_some(wrong_fill(bound, *at))?;
+        }
+    }
+    Ok(())
+}
+
 /// Adds where the eleventh clause fails: PT_LOADs that don't end as their things do, a file that doesn't end with its last
 /// part, and bytes of the file and of memory that are neither of a thing nor fill.
 pub fn add_c11<'a>(alloc: Global, found: &mut Found<'a>, bound: &BoundLink<'_, 'a>) -> Added
@@ -89,8 +119,8 @@ pub fn add_c11<'a>(alloc: Global, found: &mut Found<'a>, bound: &BoundLink<'_, '
 {
     add_ends(found, bound)?;
     found.add_some(wrong_length(bound))?;
-    let in_file = gaps_of_file(alloc, bound.memory())?;
-    found.add_known(in_file.len(), |k| wrong_gap(bound, in_file[k]))?;
+    let gaps = gaps_of_file(alloc, bound.memory())?;
+    add_gaps(found, bound, &gaps)?;
     let unfilled = gaps_of_memory(alloc, bound)?;
-    found.add_known(unfilled.len(), |k| wrong_fill(bound, unfilled[k]))
+    add_unfilled(found, bound, &unfilled)
 }
