@@ -161,10 +161,17 @@ pub fn load_seeded<'a>(
 {
     let inputs = inputs_of(alloc, plan, files)?;
     let mut loader = Loader::new(alloc, plan, seed, NameSet::new(alloc, seed))?;
-    load_inputs(alloc, &mut loader, &inputs)?;
-    let (objects, names) = loader.into_parts();
-    let loaded = Loaded::new(alloc, plan, objects, names)?;
-    Ok(loaded)
+    match load_inputs(alloc, &mut loader, &inputs) {
+        Ok(()) => {
+            let (objects, names) = loader.into_parts();
+            let loaded = Loaded::new(alloc, plan, objects, names)?;
+            Ok(loaded)
+        }
+        Err(fault) => {
+            drop(loader);
+            Err(fault)
+        }
+    }
 }
 
 /// The object that loading has come to, where it can't be loaded, and why.
