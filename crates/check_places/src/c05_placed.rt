@@ -10,8 +10,9 @@ ghost use Rattle.elf_model.specs.declared.verdict.Clause.TheVariants as clause;
 use crate::c05_placed::apart::are_apart;
 use crate::c05_placed::array_order::are_near_in_array_order;
 use check_link::{Placed, base_of, thread_ranges_of};
-use check_stages::{PlacedLink, by_address};
+use check_stages::PlacedLink;
 use elf_model::Thing;
+use loader_model::by_address;
 use std::alloc::{AllocError, Global};
 
 mod apart;

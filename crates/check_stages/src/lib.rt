@@ -8,10 +8,8 @@ mod bound_link;
 mod loaded_link;
 mod placed_link;
 mod segments;
-mod sorted_things;
 
 pub use bound_link::BoundLink;
 pub use loaded_link::LoadedLink;
 pub use placed_link::PlacedLink;
 pub use segments::{encloses, enclosing, file_end, file_part, same_padded, sub_part};
-pub use sorted_things::by_address;

@@ -7,10 +7,9 @@ ghost use Rattle.elf_model.specs.Link.Pieces.{kept_sections};
 ghost use Rattle.check_link.specs.Views.{piece_views, placed_views};
 
 use crate::loaded_link::LoadedLink;
-use crate::sorted_things::by_address;
 use check_link::{Link, Names, Piece, Placed, got_things_of, place_all, things_of};
 use elf_model::Thing;
-use loader_model::Memory;
+use loader_model::{Memory, by_address};
 use std::alloc::{AllocError, Global};
 use std::marker::Model;
 

@@ -15,7 +15,7 @@ mod rising_fields;
 mod same_runs;
 mod verdict;
 
-pub use check_stages::{BoundLink, LoadedLink, PlacedLink, by_address};
+pub use check_stages::{BoundLink, LoadedLink, PlacedLink};
 pub use elf_model::{Clause, Verdict};
 pub use observer::{Observer, Unobserved};
 pub use verdict::{check, check_in, judge};

@@ -255,7 +255,7 @@ fn used_at<'a>(layout: &DataLayout<'_, 'a>, here: &Here<'_, '_, 'a>, j: u64) -> 
 }
 
 /// The offset of a value from the thread pointer, both modulo 2 to the 64.
-#[tactic(auto, using(got_tls::proofs::Offsets::offset_of_rest))]
+#[tactic(auto, using(reloc_values::proofs::Offsets::offset_of_rest))]
 fn offset_from(pointer: u64, address: u64) -> u64
     ensures { (a p : ℕ) → address ≡ a % 2 ^ 64 → pointer ≡ p % 2 ^ 64
         → result ≡ modulo_64 (pos a -ℤ pos p) }

@@ -3,7 +3,6 @@ pub mod Blocks
 pub mod Keys
 pub mod NoSymbols
 pub mod LoadedObjects
-pub mod Offsets
 pub mod SlotPlaces
 pub mod NotedPositions
 mod ToldPositions

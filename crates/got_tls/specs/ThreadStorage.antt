@@ -1,9 +1,8 @@
--- What the block of thread-local storage promises, and where the thread pointer stands (System V gABI 5, "Program
--- Header", PT_TLS; ELF Handling For Thread-Local Storage, variant II: the block lies below the thread pointer).
+-- What the block of thread-local storage promises (System V gABI 5, "Program Header", PT_TLS).
 use Rattle.std.specs.Prelude.{ℕ, ◌+◌, ◌^◌, ◌≤◌, List, All, Contains, filter, map}
 use Rattle.std.specs.Int.{IsPowerOfTwo}
 use Rattle.elf_model.specs.Own.OwnLayout.{placed_end}
-use Rattle.elf_model.specs.Link.Placement.{Placed, is_thread_place, round_up}
+use Rattle.elf_model.specs.Link.Placement.{Placed, is_thread_place}
 use Rattle.elf_model.specs.declared.tls_block.TlsBlock.{TlsBlock}
 
 -- the thread-local ones among placed pieces
@@ -31,7 +30,3 @@ pub record IsAligned (b : TlsBlock) : Type 0 where
 -- it ends at or below the limit of addresses
 abbrev pub EndsLow : TlsBlock → Type 0
 EndsLow b = b.start + b.size ≤ 2 ^ 46
-
--- the thread pointer: where the block's beginning and its size, up to a multiple of its alignment, lead
-abbrev pub thread_pointer : TlsBlock → ℕ
-thread_pointer b = b.start + round_up b.align b.size

@@ -15,9 +15,9 @@ mod thread_storage;
 
 pub use asked_slots::{Asked, add_entry};
 pub use elf_model::TlsBlock;
-pub use reloc_values::{Formula, Kind, Range, slot_kind};
+pub use reloc_values::{Formula, Kind, Range, slot_kind, thread_pointer, tp_offset};
 pub use requests::Asker;
 pub use slot::Slot;
 pub use slot_list::{slots, slots_asked};
 pub use slot_table::Slots;
-pub use thread_storage::{thread_pointer, tls_block, tp_offset};
+pub use thread_storage::tls_block;

@@ -9,7 +9,7 @@ ghost use Rattle.got_tls.specs.Asking.{TellsOfGot};
 ghost use Rattle.got_tls.specs.Askers.{IsAsker, all_asked, asking};
 
 use elf_model::{ObjectId, Rela, SymbolRef};
-use reloc_values::asks_of_got;
+use reloc_values::{asks_of_got, referred};
 use resolve::Resolved;
 use search::LoadedObject;
 
@@ -87,10 +87,7 @@ impl<'k, 'a> Asker<'k, 'a> {
         ensures object { result.object.0 ≡ self.now.number }
         ensures symbol { result.symbol ≡ rela_symbol entry.now }
     {
-        SymbolRef {
-            object: ObjectId(self.number as u64),
-            symbol: entry.symbol() as u64,
-        }
+        referred(self.number, entry)
     }
 
     /// Whether symbol `j` names the GOT.

@@ -1,10 +1,9 @@
-//! The block of thread-local storage, the thread pointer, and offsets from it.
-ghost use Rattle.std.specs.Prelude.{◌≡◌, ◌%◌, ◌<◌, ◌^◌, IfSome};
+//! The block of thread-local storage.
+ghost use Rattle.std.specs.Prelude.{◌≡◌, ◌<◌, IfSome};
 ghost use Rattle.elf_model.specs.Own.OwnLayout.{own_in_load_order, own_placed};
 ghost use Rattle.elf_model.specs.Link.Pieces.{AreLawfulKinds};
-ghost use Rattle.elf_model.specs.Link.Relocation.{modulo_64};
-ghost use Rattle.elf_model.specs.Link.ThreadStorage.{thread_block, thread_offset};
-ghost use Rattle.got_tls.specs.ThreadStorage.{EndsLow, IsAligned, IsBlockOf, thread_places, thread_pointer};
+ghost use Rattle.elf_model.specs.Link.ThreadStorage.{thread_block};
+ghost use Rattle.got_tls.specs.ThreadStorage.{EndsLow, IsAligned, IsBlockOf, thread_places};
 
 use elf_model::TlsBlock;
 use layout::Placement;
@@ -23,23 +22,4 @@ pub fn tls_block(placement: &Placement<'_>) -> Option<TlsBlock>
     ensures aligned { IfSome result IsAligned }
 {
     placement.thread_block()
-}
-
-/// The thread pointer of a block, modulo 2 ^ 64: the end of the block, with its size rounded up to its alignment.
-#[tactic(auto, using(crate::proofs::Offsets::pointer_is))]
-pub fn thread_pointer(block: TlsBlock) -> u64
-    requires { 0 < block.align }
-    ensures { result ≡ thread_pointer block % 2 ^ 64 }
-{
-    let padding = (block.align - block.size % block.align) % block.align;
-    block.start.wrapping_add(block.size).wrapping_add(padding)
-}
-
-/// The offset of an address from the thread pointer, modulo 2 ^ 64. Offsets inside the block are negative.
-#[tactic(auto, using(crate::proofs::Offsets::offset_is))]
-pub fn tp_offset(block: TlsBlock, address: u64) -> u64
-    requires { 0 < block.align }
-    ensures { result ≡ modulo_64 (thread_offset block address) }
-{
-    address.wrapping_sub(thread_pointer(block))
 }

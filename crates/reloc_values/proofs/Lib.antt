@@ -1,4 +1,5 @@
 mod KindRows
+pub mod Offsets
 pub mod Overlaid
 pub mod RisingRows
 pub mod Searched

@@ -1,3 +1,4 @@
 pub mod Kinds
 pub mod Patches
 pub mod Terms
+pub mod ThreadOffsets

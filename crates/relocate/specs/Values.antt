@@ -11,7 +11,7 @@ use Rattle.elf_model.specs.Link.ThreadStorage.{block_in}
 use Rattle.relocate.specs.declared.faults.RelocFault.{RelocFault}
 use Rattle.relocate.specs.declared.faults.RelocFault.TheVariants as error
 use Rattle.layout.specs.Placements.{Basis}
-use Rattle.got_tls.specs.ThreadStorage.{thread_pointer}
+use Rattle.reloc_values.specs.ThreadOffsets.{thread_pointer}
 use Rattle.reloc_values.specs.Patches.{IsPatchRow, covers}
 use Rattle.relocate.specs.declared.object_rows.ObjectPatches.{ObjectPatches}
 use Rattle.reloc_values.specs.declared.patch.Patch.{Patch}

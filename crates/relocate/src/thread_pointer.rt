@@ -19,7 +19,7 @@ pub fn pointer_of(placement: &Placement<'_>) -> u64
 }
 
 /// The offset of an address from the thread pointer, both modulo 2 to the 64.
-#[tactic(auto, using(got_tls::proofs::Offsets::offset_of_rest))]
+#[tactic(auto, using(reloc_values::proofs::Offsets::offset_of_rest))]
 pub fn offset_from(pointer: u64, address: u64) -> u64
     ensures { (a p : ℕ) → address ≡ a % 2 ^ 64 → pointer ≡ p % 2 ^ 64
         → result ≡ modulo_64 (pos a -ℤ pos p) }

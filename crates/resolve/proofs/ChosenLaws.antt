@@ -15,7 +15,7 @@ use Rattle.resolve.specs.Owned.{AreOwners, is_kept, is_owner}
 use Rattle.resolve.specs.Refusals.{ResolvingFails, IsDuplicateOf}
 use Rattle.resolve.specs.declared.faults.ResolveFault.{ResolveFault}
 use Rattle.resolve.specs.declared.faults.ResolveFault.TheVariants as error
-use Rattle.resolve.specs.declared.owners.Owner.{Owner}
+use Rattle.symbols.specs.declared.owner.Owner.{Owner}
 use Rattle.resolve.proofs.NamedNumbers.{all_numbered}
 use Rattle.resolve.proofs.Offers.{commons_extent, filter-agree, meant_chosen, row_extent, strong_counted}
 use Rattle.resolve.proofs.Takings.{owner_meant}

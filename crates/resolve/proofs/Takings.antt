@@ -16,10 +16,11 @@ use Rattle.search.specs.Numbers.{AreNamed}
 use Rattle.search.proofs.Numbering.{number_below, number_once}
 use Rattle.resolve.specs.Defined.{HasNoStrongTwins, is_strong_of}
 use Rattle.resolve.specs.Offered.{candidate_of, chosen_ref, is_meant, is_referred, offers_of, rows_of}
-use Rattle.resolve.specs.Owned.{AreOwners, after_kind, common_owner, is_owner, is_second, is_strong_kind, is_strong_owner, owner_after, owner_in, owner_of, owner_ref, strong_owner, weak_owner}
+use Rattle.resolve.specs.Owned.{AreOwners, is_owner}
+use Rattle.symbols.specs.Owners.{after_kind, common_owner, is_second, is_strong_kind, is_strong_owner, owner_after, owner_in, owner_of, owner_ref, strong_owner, weak_owner}
 use Rattle.resolve.specs.Taken.{TakenIn, nothing_taken, taken_after, taken_at, taken_with}
-use Rattle.resolve.specs.declared.owners.Owner.{Owner}
-use Rattle.resolve.specs.declared.owners.Owner.TheVariants as owner
+use Rattle.symbols.specs.declared.owner.Owner.{Owner}
+use Rattle.symbols.specs.declared.owner.Owner.TheVariants as owner
 use Rattle.resolve.proofs.NamedNumbers.{IsNumbered, all_numbered}
 use Rattle.resolve.proofs.Offers.{twin_found, twin_missed}
 use Rattle.symbols.specs.Offers.{all_offered}

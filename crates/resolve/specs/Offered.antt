@@ -1,31 +1,20 @@
 -- Definitions as candidates that a table of names is offered, and what its rows then say a name means.
-use Rattle.std.specs.Prelude.{ℕ, ◌==◌, ◌&&◌, ◌||◌, Bool, false, cond, not, List, Option, map, unwrap_or}
+use Rattle.std.specs.Prelude.{ℕ, ◌==◌, ◌&&◌, Bool, false, List, Option, map, unwrap_or}
 use Rattle.std.specs.Option.{option_map_or, option_or}
-use Rattle.elf_model.specs.Link.Resolution.{SymbolOf, is_common, is_global, is_placed_symbol, is_weak}
-use Rattle.elf_model.specs.declared.records.Symbol.{Symbol}
+use Rattle.elf_model.specs.Link.Resolution.{SymbolOf}
 use Rattle.elf_model.specs.declared.references.SymbolRef.{SymbolRef}
+use Rattle.symbols.specs.Kinds.{kind_by}
 use Rattle.symbols.specs.Offers.{Offer, all_offered}
 use Rattle.symbols.specs.Rows.{Rows, no_row, no_rows}
 use Rattle.symbols.specs.declared.candidate.Candidate.{Candidate}
 use Rattle.symbols.specs.declared.candidate.CandidateKind.{CandidateKind}
-use Rattle.symbols.specs.declared.candidate.CandidateKind.TheVariants.{Common, Strong, Weak}
 use Rattle.symbols.specs.declared.row.Row.{Row}
 
 abbrev pub ref_of : SymbolOf → SymbolRef
 ref_of s = record { object = record { 0 = s.object }; symbol = s.number }
 
--- a definition's kind by its entry, and whether it is one
-abbrev pub kind_by : Symbol → Bool → CandidateKind
-kind_by e dropped =
-    cond (is_global e && (is_placed_symbol e && not dropped)) Strong (cond (is_global e && (is_common e && not dropped)) Common Weak)
-
 abbrev pub kind_of : SymbolOf → CandidateKind
 kind_of s = kind_by s.entry s.dropped
-
-abbrev pub is_defining : Symbol → Bool → Bool
-is_defining e dropped =
-    (is_global e && (is_placed_symbol e && not dropped))
-    || ((is_global e && (is_common e && not dropped)) || (is_weak e && (is_placed_symbol e && not dropped)))
 
 abbrev pub candidate_of : SymbolOf → Candidate
 candidate_of s = record { symbol = ref_of s; kind = kind_of s; size = s.entry.st_size; align = s.entry.st_value }

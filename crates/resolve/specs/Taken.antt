@@ -5,9 +5,9 @@ use Rattle.elf_model.specs.Link.Resolution.{SymbolOf}
 use Rattle.search.specs.Loads.{LoadedPlan}
 use Rattle.search.specs.Numbers.{name_number}
 use Rattle.resolve.specs.Offered.{candidate_of}
-use Rattle.resolve.specs.Owned.{is_second, owner_after}
-use Rattle.resolve.specs.declared.owners.Owner.{Owner}
-use Rattle.resolve.specs.declared.owners.Owner.TheVariants as owner
+use Rattle.symbols.specs.Owners.{is_second, owner_after}
+use Rattle.symbols.specs.declared.owner.Owner.{Owner}
+use Rattle.symbols.specs.declared.owner.Owner.TheVariants as owner
 use Rattle.resolve.specs.declared.taken.Taken as code
 
 -- the owner of each name, by the name's number, and a name that has two strong definitions

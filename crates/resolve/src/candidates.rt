@@ -3,25 +3,12 @@ ghost use Rattle.std.specs.Prelude.{◌≡◌};
 ghost use Rattle.elf_model.specs.Link.Loading as loading;
 ghost use Rattle.elf_model.specs.Link.Resolution.{symbol_of};
 ghost use Rattle.search.specs.Views.{loaded_view};
-ghost use Rattle.resolve.specs.Offered.{candidate_of, kind_by};
+ghost use Rattle.resolve.specs.Offered.{candidate_of};
 
-use crate::entries::{is_common_definition, is_strong, symbol_ref};
+use crate::entries::symbol_ref;
 use elf_model::Symbol;
 use search::LoadedObject;
-use symbols::{Candidate, CandidateKind};
-
-/// How a definition defines its name, by its entry.
-fn kind_by(entry: &Symbol, dropped: bool) -> CandidateKind
-    ensures { result ≡ kind_by entry.now dropped }
-{
-    if is_strong(entry, dropped) {
-        return CandidateKind::Strong;
-    }
-    if is_common_definition(entry, dropped) {
-        return CandidateKind::Common;
-    }
-    CandidateKind::Weak
-}
+use symbols::{Candidate, kind_by};
 
 /// Symbol `j` of object `number`, which is a definition, as a candidate for its name.
 pub fn candidate_in(

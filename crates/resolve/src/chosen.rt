@@ -10,12 +10,13 @@ ghost use Rattle.resolve.specs.Owned.{is_kept};
 ghost use Rattle.resolve.specs.Threads.{is_thread_chosen};
 ghost use Rattle.resolve.specs.Views.{symbol_view, symbol_views};
 
-use crate::entries::{SymbolOf, is_definition, is_dropped, named_symbol, symbol_ref};
-use crate::owners::{Owner, is_owner};
+use crate::entries::{SymbolOf, is_dropped, named_symbol, symbol_ref};
+use crate::owners::is_owner;
 use crate::sections::is_in_thread_section;
 use elf_model::{Symbol, SymbolRef};
 use search::{Loaded, LoadedObject};
 use std::alloc::{AllocError, Global};
+use symbols::{Owner, is_definition};
 
 /// The chosen definitions, in load order.
 #[derive(Drop)]

@@ -1,11 +1,10 @@
-//! The symbols of loaded objects, and what their entries say.
-ghost use Rattle.std.specs.Prelude.{◌≡◌, ◌/◌, ◌==◌, ◌&&◌, ◌||◌, [], Some, not, option_map, unwrap_or};
+//! The symbols of loaded objects.
+ghost use Rattle.std.specs.Prelude.{◌≡◌, [], Some, option_map, unwrap_or};
 ghost use Rattle.std.specs.List.{slice_get};
 ghost use Rattle.elf_model.specs.Link.Loading.{is_dropped};
 ghost use Rattle.elf_model.specs.Inputs.ObjectFile.{symbol_name};
-ghost use Rattle.elf_model.specs.Link.Resolution.{is_common, is_global, is_placed_symbol, is_weak, symbol_of};
+ghost use Rattle.elf_model.specs.Link.Resolution.{symbol_of};
 ghost use Rattle.search.specs.Views.{loaded_view};
-ghost use Rattle.resolve.specs.Offered.{is_defining};
 ghost use Rattle.resolve.specs.Places.{symbol_numbered};
 ghost use Rattle.resolve.specs.Views.{symbol_view};
 
@@ -100,41 +99,4 @@ pub fn is_dropped(loaded: &LoadedObject<'_>, entry: &Symbol) -> bool
     ensures { result ≡ is_dropped (loaded_view loaded.now) entry.now.st_shndx }
 {
     loaded.is_dropped(entry.st_shndx as usize)
-}
-
-/// Whether a symbol stands in a section or is absolute.
-fn is_placed(entry: &Symbol) -> bool
-    ensures { result ≡ is_placed_symbol entry.now }
-{
-    !entry.is_undefined() && !entry.is_common()
-}
-
-/// Whether a symbol is a strong definition: GLOBAL, in a section that isn't dropped or absolute.
-pub fn is_strong(entry: &Symbol, dropped: bool) -> bool
-    ensures { result ≡ (is_global entry.now && (is_placed_symbol entry.now && not dropped)) }
-{
-    entry.is_global() && is_placed(entry) && !dropped
-}
-
-/// Whether a symbol is a weak definition: WEAK, in a section that isn't dropped or absolute.
-fn is_weak_definition(entry: &Symbol, dropped: bool) -> bool
-    ensures { result ≡ (is_weak entry.now && (is_placed_symbol entry.now && not dropped)) }
-{
-    entry.is_weak() && is_placed(entry) && !dropped
-}
-
-/// Whether a symbol is a definition that asks for a common block: GLOBAL and common.
-pub fn is_common_definition(entry: &Symbol, dropped: bool) -> bool
-    ensures { result ≡ (is_global entry.now && (is_common entry.now && not dropped)) }
-{
-    entry.is_global() && entry.is_common() && !dropped
-}
-
-/// Whether a symbol is a definition: strong, common or weak.
-pub fn is_definition(entry: &Symbol, dropped: bool) -> bool
-    ensures { result ≡ is_defining entry.now dropped }
-{
-    is_strong(entry, dropped)
-        || is_common_definition(entry, dropped)
-        || is_weak_definition(entry, dropped)
 }

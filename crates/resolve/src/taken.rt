@@ -8,18 +8,17 @@ ghost use Rattle.elf_model.specs.Inputs.ObjectFile.{symbols};
 ghost use Rattle.elf_model.specs.Link.Resolution.{is_common_definition, symbol_of, symbols_from};
 ghost use Rattle.search.specs.Views.{loaded_view};
 ghost use Rattle.resolve.specs.Offered.{offers_of};
-ghost use Rattle.resolve.specs.Owned.{is_second, owner_after};
 ghost use Rattle.resolve.specs.Taken.{nothing_taken, taken_after, taken_view, taken_with};
-ghost use Rattle.resolve.specs.declared.owners.Owner.TheVariants as variant;
 ghost use Rattle.symbols.specs.Offers.{all_offered};
+ghost use Rattle.symbols.specs.Owners.{is_second, owner_after};
+ghost use Rattle.symbols.specs.declared.owner.Owner.TheVariants as variant;
 
 use crate::candidates::candidate_in;
-use crate::entries::{is_common_definition, is_definition, is_dropped, named_symbol, symbol_ref};
-use crate::owners::{Owner, take_in};
+use crate::entries::{is_dropped, named_symbol, symbol_ref};
 use elf_model::Symbol;
 use search::{Loaded, LoadedObject};
 use std::alloc::{AllocError, Global};
-use symbols::{Candidate, NameTable};
+use symbols::{Candidate, NameTable, Owner, is_common_definition, is_definition, take_in};
 
 /// What names mean by the definitions that were taken in.
 #[derive(Drop)]

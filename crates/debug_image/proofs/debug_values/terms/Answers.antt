@@ -4,7 +4,7 @@ use Rattle.std.specs.Option.{option_map_or}
 use Rattle.elf_model.specs.Link.Slots.{Request, request_of}
 use Rattle.elf_model.specs.Link.ThreadStorage.{block_in}
 use Rattle.got_tls.specs.Asking.{offset_of}
-use Rattle.got_tls.specs.ThreadStorage.{thread_pointer}
+use Rattle.reloc_values.specs.ThreadOffsets.{thread_pointer}
 use Rattle.got_tls.proofs.SlotPlaces.{own_offset}
 use Rattle.debug_image.specs.DebugLayouts.{data_in, relocation_here}
 use Rattle.debug_image.specs.DebugValues.{where_of}

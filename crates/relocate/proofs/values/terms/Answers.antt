@@ -9,7 +9,7 @@ use Rattle.elf_model.specs.Link.RelocationValues.{used_value}
 use Rattle.elf_model.specs.Link.Slots.{Request, request_of}
 use Rattle.elf_model.specs.Link.ThreadStorage.{block_in}
 use Rattle.got_tls.specs.Asking.{offset_of}
-use Rattle.got_tls.specs.ThreadStorage.{thread_pointer}
+use Rattle.reloc_values.specs.ThreadOffsets.{thread_pointer}
 use Rattle.got_tls.proofs.SlotPlaces.{own_offset}
 use Rattle.relocate.specs.SymbolTables.{all_valued, valued_object, where_of}
 use Rattle.relocate.proofs.values.terms.Goals as goal

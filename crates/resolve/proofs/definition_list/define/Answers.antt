@@ -13,7 +13,7 @@ use Rattle.resolve.specs.Owned.{is_kept}
 use Rattle.resolve.specs.Taken.{taken_view}
 use Rattle.resolve.specs.Threads.{is_thread_chosen}
 use Rattle.resolve.specs.Views.{symbol_views}
-use Rattle.resolve.specs.declared.owners.Owner.{Owner}
+use Rattle.symbols.specs.declared.owner.Owner.{Owner}
 use Rattle.resolve.specs.declared.entries.SymbolOf as code
 use Rattle.resolve.proofs.ChosenLaws.{are_unique, chosen_blocks, kept_chosen, refused}
 use Rattle.resolve.proofs.Takings.{IsTold, all_told, twin_told, twins_none}

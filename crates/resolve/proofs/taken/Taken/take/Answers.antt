@@ -4,10 +4,10 @@ use Rattle.elf_model.specs.Link.Resolution.{symbol_of}
 use Rattle.search.specs.Numbers.{name_number}
 use Rattle.search.specs.Views.{loaded_view}
 use Rattle.resolve.specs.Offered.{candidate_of}
-use Rattle.resolve.specs.Owned.{is_second, owner_after}
+use Rattle.symbols.specs.Owners.{is_second, owner_after}
 use Rattle.resolve.specs.Taken.{taken_at, taken_view}
-use Rattle.resolve.specs.declared.owners.Owner.{Owner}
-use Rattle.resolve.specs.declared.owners.Owner.TheVariants as owner
+use Rattle.symbols.specs.declared.owner.Owner.{Owner}
+use Rattle.symbols.specs.declared.owner.Owner.TheVariants as owner
 use Rattle.resolve.proofs.NamedNumbers.{name_told}
 use Rattle.resolve.proofs.taken.Taken.take.Goals as goal
 use Rattle.symbols.specs.declared.candidate.Candidate.{Candidate}

@@ -1,7 +1,7 @@
 use Rattle.std.proofs.Common.{rules}
 use Rattle.std.proofs.lemmas.List.Sorted.{IsNonDecreasingBy-from_sort_by_key}
 use Rattle.elf_model.specs.declared.thing.Thing.{Thing}
-use Rattle.check_stages.proofs.sorted_things.by_address.Goals as goal
+use Rattle.loader_model.proofs.sorted_things.by_address.Goals as goal
 
 pub returns-clause-rising : goal.returns-clause-rising
 returns-clause-rising c =
