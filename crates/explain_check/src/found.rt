@@ -1,11 +1,11 @@
 //! The places that were found so far: the first of them, and how many more there are.
-ghost use Rattle.std.specs.Prelude.{◌≡◌, ◌<◌, ◌≤◌, [], All, IfOk, IfSome, OnErr, OnOk, length, ℕ};
+ghost use Rattle.std.specs.Prelude.{◌≡◌, ◌<◌, ◌≤◌, [], All, IfOk, IfSome, OnErr, OnOk, length};
 ghost use Rattle.elf_model.specs.Image.RightLink.{Holds, Subject};
 ghost use Rattle.elf_model.specs.declared.verdict.Clause as verdict;
 ghost use Rattle.explain_check.specs.Places.{AreFailures, FailsIn, IsOf};
 
 use crate::clause::kind_of;
-use crate::place::{CheckPlace, Failure};
+use crate::place::CheckPlace;
 use elf_model::Clause;
 use std::alloc::{AllocError, Global};
 
@@ -66,41 +66,6 @@ impl<'a> Found<'a> {
             Some(place) => self.add(place),
             None => Ok(()),
         }
-    }
-
-    /// Takes in the places that there are at the numbers below a count, all or only the first one.
-    pub(crate) fn add_rows<F: Fn(usize) -> Failure<'a>>(
-        &mut self,
-        count: usize,
-        all: bool,
-        at: F,
-    ) -> Added
-        requires { (i : ℕ) → i < count → F.pre at i }
-        ensures { (s : Subject) →
-            AreFailures s self.old.places.items
-            → ((i : ℕ) (o : _) → i < count → F.post at i o → IfSome o (FailsIn s))
-            → OnOk result (AreFailures s self.new.places.items) }
-    {
-        for i in 0..count {
-            let place = at(i);
-            let last = place.is_some() && !all;
-            self.add_some(place)?;
-            if last {
-                return Ok(());
-            }
-        }
-        Ok(())
-    }
-
-    /// Takes in the places that there are at the numbers below a count.
-    pub(crate) fn add_each<F: Fn(usize) -> Failure<'a>>(&mut self, count: usize, at: F) -> Added
-        requires { (i : ℕ) → i < count → F.pre at i }
-        ensures { (s : Subject) →
-            AreFailures s self.old.places.items
-            → ((i : ℕ) (o : _) → i < count → F.post at i o → IfSome o (FailsIn s))
-            → OnOk result (AreFailures s self.new.places.items) }
-    {
-        self.add_rows(count, true, at)
     }
 
     /// Takes in a place, where it is of a clause.

@@ -127,14 +127,43 @@ fn add_shared<'a>(found: &mut Found<'a>, placed: &PlacedLink<'_, 'a>, parts: Vec
     add_overlapping(found, placed, &ordered)
 }
 
+/// Adds the parts that aren't aligned.
+fn add_unaligned<'a>(
+    found: &mut Found<'a>,
+    placed: &PlacedLink<'_, 'a>,
+    parts: &[Part<'a>],
+) -> Added
+    requires parts { All (IsPart placed.now) parts.now }
+    requires things { All IsThing parts.now }
+    requires before { AreFailures placed.now found.old.places.items }
+    ensures { OnOk result (AreFailures placed.now found.new.places.items) }
+{
+    for number in 0..parts.len() {
+        found.add_some(unaligned(placed, &parts[number]))?;
+    }
+    Ok(())
+}
+
+/// Adds the parts that lie outside of the addresses.
+fn add_outside<'a>(found: &mut Found<'a>, placed: &PlacedLink<'_, 'a>, parts: &[Part<'a>]) -> Added
+    requires parts { All (IsPart placed.now) parts.now }
+    requires before { AreFailures placed.now found.old.places.items }
+    ensures { OnOk result (AreFailures placed.now found.new.places.items) }
+{
+    for number in 0..parts.len() {
+        found.add_some(outside(placed, &parts[number]))?;
+    }
+    Ok(())
+}
+
 /// Adds the things that aren't aligned, lie outside of the addresses or share one.
 fn add_things<'a>(alloc: Global, found: &mut Found<'a>, placed: &PlacedLink<'_, 'a>) -> Added
     requires { AreFailures placed.now found.old.places.items }
     ensures { OnOk result (AreFailures placed.now found.new.places.items) }
 {
     let parts = parts_of(alloc, placed)?;
-    found.add_each(parts.len(), |i| unaligned(placed, &parts[i]))?;
-    found.add_each(parts.len(), |i| outside(placed, &parts[i]))?;
+    add_unaligned(found, placed, &parts)?;
+    add_outside(found, placed, &parts)?;
     add_shared(found, placed, parts)
 }
 
@@ -144,7 +173,7 @@ fn add_threads<'a>(alloc: Global, found: &mut Found<'a>, placed: &PlacedLink<'_,
     ensures { OnOk result (AreFailures placed.now found.new.places.items) }
 {
     let parts = thread_parts_of(alloc, placed)?;
-    found.add_each(parts.len(), |i| outside(placed, &parts[i]))?;
+    add_outside(found, placed, &parts)?;
     add_shared(found, placed, parts)
 }
 

@@ -92,6 +92,19 @@ fn wrong_first<'a>(placed: &PlacedLink<'_, 'a>) -> Failure<'a>
     Some(CheckPlace::First(first, base))
 }
 
+/// Adds the parts that no segment holds with their rights.
+fn add_unheld<'a>(found: &mut Found<'a>, placed: &PlacedLink<'_, 'a>, parts: &[Part<'a>]) -> Added
+    requires parts { All (IsPart placed.now) parts.now }
+    requires things { All IsThing parts.now }
+    requires before { AreFailures placed.now found.old.places.items }
+    ensures { OnOk result (AreFailures placed.now found.new.places.items) }
+{
+    for number in 0..parts.len() {
+        found.add_some(unheld(placed, &parts[number]))?;
+    }
+    Ok(())
+}
+
 /// Adds where the sixth clause fails.
 pub fn add_c6<'a>(alloc: Global, found: &mut Found<'a>, placed: &PlacedLink<'_, 'a>) -> Added
     requires { AreFailures placed.now found.old.places.items }
@@ -99,5 +112,5 @@ pub fn add_c6<'a>(alloc: Global, found: &mut Found<'a>, placed: &PlacedLink<'_, 
 {
     found.add_some(wrong_first(placed))?;
     let parts = parts_of(alloc, placed)?;
-    found.add_each(parts.len(), |i| unheld(placed, &parts[i]))
+    add_unheld(found, placed, &parts)
 }

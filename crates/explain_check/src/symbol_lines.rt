@@ -123,16 +123,28 @@ fn missing_definition<'a>(listing: &Listing<'_, '_, 'a>, k: usize) -> Failure<'a
     missing(listing, symbol.name)
 }
 
-/// Adds the symbol lines that are others than their names ask for, and the names that objects define and that lack their line.
+/// Adds the symbol lines that are others than their names ask for.
 fn add_lines<'a>(found: &mut Found<'a>, listing: &Listing<'_, '_, 'a>) -> Added
     requires listing { IsListing listing.now }
     requires before { AreFailures listing.now.bound.now found.old.places.items }
     ensures { OnOk result (AreFailures listing.now.bound.now found.new.places.items) }
 {
-    let bound = listing.bound;
-    found.add_each(bound.link().map.symbols.len(), |k| wrong_line(listing, k))?;
-    let count = bound.bindings().definitions().len();
-    found.add_each(count, |k| missing_definition(listing, k))
+    for number in 0..listing.bound.link().map.symbols.len() {
+        found.add_some(wrong_line(listing, number))?;
+    }
+    Ok(())
+}
+
+/// Adds the names that objects define and that lack their line.
+fn add_missing_definitions<'a>(found: &mut Found<'a>, listing: &Listing<'_, '_, 'a>) -> Added
+    requires listing { IsListing listing.now }
+    requires before { AreFailures listing.now.bound.now found.old.places.items }
+    ensures { OnOk result (AreFailures listing.now.bound.now found.new.places.items) }
+{
+    for number in 0..listing.bound.bindings().definitions().len() {
+        found.add_some(missing_definition(listing, number))?;
+    }
+    Ok(())
 }
 
 /// Adds the linker's names that lack their line.
@@ -161,5 +173,6 @@ pub fn add_c13<'a>(alloc: Global, found: &mut Found<'a>, bound: &BoundLink<'_, '
         index,
     };
     add_lines(found, &listing)?;
+    add_missing_definitions(found, &listing)?;
     add_missing_names(found, &listing)
 }

@@ -123,6 +123,36 @@ fn bytes_of_got(alloc: Global, bound: &BoundLink<'_, '_>) -> Result<Vec<u8>, All
     Ok(bytes)
 }
 
+/// Adds the slots that stand elsewhere than their places in the GOT.
+fn add_addresses<'a>(found: &mut Found<'a>, bound: &BoundLink<'_, 'a>, got: GotLine) -> Added
+    requires got { bound.now.map.got ≡ Some got }
+    requires before { AreFailures bound.now found.old.places.items }
+    ensures { OnOk result (AreFailures bound.now found.new.places.items) }
+{
+    for number in 0..bound.slots().lines().len() {
+        found.add_some(wrong_address(bound, got, number))?;
+    }
+    Ok(())
+}
+
+/// Adds the first wrong byte of each word of the GOT, given the bytes that it is to have.
+fn add_words<'a>(
+    found: &mut Found<'a>,
+    bound: &BoundLink<'_, 'a>,
+    got: GotLine,
+    wanted: &[u8],
+) -> Added
+    requires got { bound.now.map.got ≡ Some got }
+    requires wanted { wanted.now ≡ got_bytes (objects_of bound.now) (where_of bound.now) }
+    requires before { AreFailures bound.now found.old.places.items }
+    ensures { OnOk result (AreFailures bound.now found.new.places.items) }
+{
+    for number in 0..wanted.len() / 8 {
+        found.add_some(first_of_word(bound, got, wanted, number as u64))?;
+    }
+    Ok(())
+}
+
 /// Adds what is wrong with the GOT: its size, the places of its slots, and its bytes.
 fn add_got<'a>(
     alloc: Global,
@@ -135,13 +165,9 @@ fn add_got<'a>(
     ensures { OnOk result (AreFailures bound.now found.new.places.items) }
 {
     found.add_some(wrong_size(bound, got))?;
-    let count = bound.slots().lines().len();
-    found.add_each(count, |number| wrong_address(bound, got, number))?;
+    add_addresses(found, bound, got)?;
     let wanted = bytes_of_got(alloc, bound)?;
-    found.add_each(
-        wanted.len() / 8,
-        |i| first_of_word(bound, got, &wanted, i as u64),
-    )
+    add_words(found, bound, got, &wanted)
 }
 
 /// Adds where the seventh clause fails: the GOT as a whole, lines of slots that nothing asks for or that stand twice,

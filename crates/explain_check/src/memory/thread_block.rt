@@ -96,6 +96,25 @@ fn inner_piece<'a>(
     Some(CheckPlace::PieceInThreadBlock(number as u64, placed, header.p_vaddr, end))
 }
 
+/// Adds the other pieces that stand among the initial bytes of a block, which end at an address.
+fn add_pieces<'a>(
+    found: &mut Found<'a>,
+    bound: &BoundLink<'_, 'a>,
+    header: &ProgramHeader,
+    end: u64,
+) -> Added
+    requires pieces { AreInLimit (placed_of bound.now) }
+    requires header { slice_get (thread_blocks bound.now.image) 0 ≡ Some header.now }
+    requires end { end ≡ thread_data_end bound.now }
+    requires before { AreFailures bound.now found.old.places.items }
+    ensures { OnOk result (AreFailures bound.now found.new.places.items) }
+{
+    for number in 0..bound.placed().len() {
+        found.add_some(inner_piece(bound, header, number, end))?;
+    }
+    Ok(())
+}
+
 /// Adds what else stands among the initial bytes of a block, which end at an address.
 fn add_inner<'a>(
     found: &mut Found<'a>,
@@ -111,8 +130,7 @@ fn add_inner<'a>(
     ensures { OnOk result (AreFailures bound.now found.new.places.items) }
 {
     found.add_some(inner_got(bound, header, end))?;
-    let count = bound.placed().len();
-    found.add_each(count, |number| inner_piece(bound, header, number, end))
+    add_pieces(found, bound, header, end)
 }
 
 /// A block whose initial bytes no PT_LOAD holds.
@@ -133,6 +151,18 @@ fn header_there(bound: &BoundLink<'_, '_>) -> Option<ProgramHeader>
     bound.memory().thread_blocks().get(0).copied()
 }
 
+/// Adds the thread-local pieces without bytes that begin before those with bytes end, at an address.
+fn add_zeros<'a>(found: &mut Found<'a>, bound: &BoundLink<'_, 'a>, end: u64) -> Added
+    requires end { end ≡ thread_data_end bound.now }
+    requires before { AreFailures bound.now found.old.places.items }
+    ensures { OnOk result (AreFailures bound.now found.new.places.items) }
+{
+    for number in 0..bound.placed().len() {
+        found.add_some(early_zeros(bound, number, end))?;
+    }
+    Ok(())
+}
+
 /// Adds where the eighth clause fails.
 pub fn add_c8<'a>(found: &mut Found<'a>, bound: &BoundLink<'_, 'a>) -> Added
     requires clauses { HoldsBefore clause.C8 bound.now }
@@ -141,8 +171,7 @@ pub fn add_c8<'a>(found: &mut Found<'a>, bound: &BoundLink<'_, 'a>) -> Added
 {
     let end = end_of(Part::ThreadData, bound.placed());
     found.add_some(wrong_header(bound))?;
-    let count = bound.placed().len();
-    found.add_each(count, |number| early_zeros(bound, number, end))?;
+    add_zeros(found, bound, end)?;
     let Some(header) = header_there(bound) else {
         return Ok(());
     };
