@@ -282,6 +282,12 @@ case $("$driver" -v) in
 *) compare GNU "$("$driver" -v)" ;;
 esac
 
+# What glibc's malloc is told, where nobody tells it anything.
+printf '#!/bin/sh\necho "$GLIBC_TUNABLES"\n' >pages
+chmod +x pages
+compare 'glibc.malloc.hugetlb=1, 0' "$(told -u GLIBC_TUNABLES LD_PROGRAM="$work/pages" "$driver" a.o)"
+compare ', 0' "$(told GLIBC_TUNABLES= LD_PROGRAM="$work/pages" "$driver" a.o)"
+
 # Installed, all is where it is looked for; after --uninstall no file is left.
 root=${driver%/tools/driver/ld}
 mkdir -p tree/crates/ld/out tree/docs
