@@ -1,6 +1,6 @@
 -- What common symbols ask for, one symbol more; and the blocks of chosen ones, one more.
-use Rattle.std.proofs.Common.{◌≡◌, ℕ, ◌+◌, ◌<◌, ◌≤◌, ◌&&◌, Bool, true, false, cond, max, List, [], ◌∷◌, ◌++◌, append_assoc, Option, Some, drop, get_or, length, length-append, map, refl, sym, ap, ◌∙◌, arith}
-use Rattle.std.specs.Prelude.{filter, option_map, unwrap_or}
+use Rattle.std.proofs.Common.{◌≡◌, ℕ, ◌+◌, ◌<◌, ◌≤◌, ◌&&◌, Bool, true, false, cond, max, List, [], ◌∷◌, ◌++◌, append_assoc, Option, None, Some, drop, get_or, length, length-append, map, refl, sym, ap, ◌∙◌, arith}
+use Rattle.std.specs.Prelude.{filter, not, option_map, slice_get, unwrap_or}
 use Rattle.std.specs.Borrow.{Bor}
 use Rattle.check_link.specs.declared.chosen_definitions.Chosen.{Chosen}
 use Rattle.std.specs.BTreeMap.{BTreeMap, get_by}
@@ -8,20 +8,25 @@ use Rattle.std.specs.Cmp.Lexicographic.{slice_cmp}
 use Rattle.std.specs.Option.{option_map_or}
 use Rattle.std.specs.Ordering.{nat_cmp}
 use Rattle.std.specs.Str.{bytes_eq}
+use Rattle.std.proofs.lemmas.Bool.{and_parts}
 use Rattle.std.proofs.lemmas.List.{append-nil, drop_all, length-map}
+use Rattle.std.proofs.lemmas.List.Elements.{filter-append}
+use Rattle.std.proofs.lemmas.Option.{none-some}
 use Rattle.std.proofs.lemmas.Slice.Eq.{bytes_eq-Decides}
 use Rattle.elf_model.proofs.Rests.{rest_at}
 use Rattle.elf_model.specs.Link.ChosenSymbols.{definitions, is_chosen, is_definition, is_same_symbol}
 use Rattle.elf_model.specs.Link.Commons.{Block, block_of, blocks, blocks_from, greatest, is_common_symbol}
 use Rattle.elf_model.specs.Link.Loading.{LoadedObject}
-use Rattle.elf_model.specs.Link.Resolution.{SymbolOf, has_name, is_common_definition}
+use Rattle.elf_model.specs.Link.Resolution.{SymbolOf, has_name, is_common, is_common_definition, is_global}
 use Rattle.check_link.specs.Chosen.{AreChosen, is_found}
 use Rattle.check_link.specs.Commons.{HasAsked, asked_in, given_align, given_size, gives, greatest_given, is_block_symbol}
 use Rattle.check_link.specs.Views.{block_view, block_views, symbol_view, symbol_views}
 use Rattle.check_link.specs.declared.commons.Asked.{Asked}
 use Rattle.check_link.specs.declared.things.Block as things
 use Rattle.check_link.specs.declared.things.SymbolOf as code
-use Rattle.check_link.proofs.Defined.{common_defined}
+use Rattle.check_link.proofs.Defined.{common_defined, weaker_first}
+use Rattle.check_link.proofs.Positions.{drop_there, get_or_some}
+use Rattle.check_link.specs.DefinitionList.{if_there, unnamed}
 
 -- the greatest that is given, with one symbol more
 given_more :
@@ -134,22 +139,64 @@ kept_twice {X} p q (x ∷ xs) = by (p x) (q x) refl (kept_twice p q xs)
     by true false e rest = rest
     by false false e rest = rest
 
+-- a common definition is a common symbol
+common_common : (s : SymbolOf) → is_common_definition s ≡ true → is_common_symbol s ≡ true
+common_common s e = (and_parts (is_common s.entry) (not s.dropped) (and_parts (is_global s.entry) (is_common s.entry && not s.dropped) e).1).0
+
 pub blocks_chosen :
-    (objects : List LoadedObject) (chosen : Chosen) (ss : List SymbolOf) → AreChosen objects ss chosen →
-    ss ≡ definitions objects → blocks_from objects 0 (filter (is_block_symbol chosen ss) ss) ≡ blocks objects
-blocks_chosen objects chosen ss are is =
+    (objects : List LoadedObject) (chosen : Chosen) (ss commons : List SymbolOf) → AreChosen objects ss chosen →
+    ss ≡ definitions objects → commons ≡ filter is_common_symbol ss → blocks_from objects 0 (filter (is_block_symbol chosen ss) commons) ≡ blocks objects
+blocks_chosen objects chosen ss commons are is among =
     let same : is_found chosen ss ≡ is_chosen objects = λ i s. ap (λ (o : Option SymbolOf). option_map_or (is_same_symbol s) o false) (are s.name) i in
     ap (λ (ts : List SymbolOf). blocks_from objects 0 ts)
-    (kept_twice is_common_symbol (is_found chosen ss) ss
+    (ap (filter (is_block_symbol chosen ss)) among
+    ∙ weaker_first (is_block_symbol chosen ss) is_common_symbol (λ s e. (and_parts (is_common_symbol s) (is_found chosen ss s) e).0) ss
+    ∙ kept_twice is_common_symbol (is_found chosen ss) ss
     ∙ ap (λ (p : SymbolOf → Bool). filter is_common_symbol (filter p ss)) same
     ∙ ap (λ (ts : List SymbolOf). filter is_common_symbol (filter (is_chosen objects) ts)) is)
 
--- what the definitions ask for, all symbols do
+-- what the common ones among the definitions ask for, all symbols do
 pub asked_of_all :
-    (asked : BTreeMap (Bor (List ℕ)) Asked) (ss all : List SymbolOf) → ss ≡ filter is_definition all → HasAsked asked ss → HasAsked asked all
-asked_of_all asked ss all is has =
-    let same : filter is_common_definition ss ≡ filter is_common_definition all = ap (filter is_common_definition) is ∙ common_defined all in
+    (asked : BTreeMap (Bor (List ℕ)) Asked) (commons ss all : List SymbolOf) → commons ≡ filter is_common_symbol ss → ss ≡ filter is_definition all →
+    HasAsked asked commons → HasAsked asked all
+asked_of_all asked commons ss all among is has =
+    let same : filter is_common_definition commons ≡ filter is_common_definition all =
+    ap (filter is_common_definition) among
+    ∙ (weaker_first is_common_definition is_common_symbol common_common ss
+    ∙ (ap (filter is_common_definition) is ∙ common_defined all)) in
     record {
       sizes = λ n. has.sizes n ∙ ap (λ (ts : List SymbolOf). greatest (map given_size (filter (has_name n) ts))) same;
       aligns = λ n. has.aligns n ∙ ap (λ (ts : List SymbolOf). greatest (map given_align (filter (has_name n) ts))) same;
     }
+
+-- The common ones, with the one at a position more.
+pub kept_step :
+    (p : SymbolOf → Bool) (xs : List SymbolOf) (i : ℕ) (old new whole : List SymbolOf) → i < length xs →
+    new ≡ old ++ filter p (if_there (slice_get xs i)) → old ++ filter p (drop i xs) ≡ whole → new ++ filter p (drop (i + 1) xs) ≡ whole
+kept_step p xs i old new whole within grown so_far = by (slice_get xs i) refl grown
+  where
+    by : (o : Option SymbolOf) → slice_get xs i ≡ o → new ≡ old ++ filter p (if_there o) → new ++ filter p (drop (i + 1) xs) ≡ whole
+    by None e g = absurd (let some = get_or_some xs i within in none-some some.0 (sym e ∙ some.1))
+    by (Some s) e g =
+        ap (λ (ys : List SymbolOf). ys ++ filter p (drop (i + 1) xs)) g
+        ∙ (append_assoc old (filter p (s ∷ [])) (filter p (drop (i + 1) xs))
+        ∙ (ap (λ (ys : List SymbolOf). old ++ ys) (sym (filter-append p (s ∷ []) (drop (i + 1) xs)))
+        ∙ (ap (λ (ys : List SymbolOf). old ++ filter p ys) (sym (drop_there xs i s e)) ∙ so_far)))
+
+-- what is tested without its name, and then read
+pub if_common :
+    (o : Option SymbolOf) (p : Option SymbolOf) → p ≡ option_map unnamed o → option_map_or is_common_symbol p false ≡ option_map_or is_common_symbol o false
+if_common None p is = ap (λ (x : Option SymbolOf). option_map_or is_common_symbol x false) is
+if_common (Some s) p is = ap (λ (x : Option SymbolOf). option_map_or is_common_symbol x false) is
+
+pub kept_one : (o : Option SymbolOf) (b : Bool) → b ≡ option_map_or is_common_symbol o false → if_there (cond b o None) ≡ filter is_common_symbol (if_there o)
+kept_one None true is = refl
+kept_one None false is = refl
+kept_one (Some s) b is = by b is
+  where
+    none : List SymbolOf
+    none = []
+
+    by : (b : Bool) → b ≡ is_common_symbol s → if_there (cond b (Some s) None) ≡ cond (is_common_symbol s) (s ∷ none) none
+    by true e = ap (λ (t : Bool). cond t (s ∷ none) none) e
+    by false e = ap (λ (t : Bool). cond t (s ∷ none) none) e

@@ -1,18 +1,21 @@
 -- The definitions among symbols: those of a kind are the same among all, and one object more.
-use Rattle.std.proofs.Common.{◌≡◌, ℕ, ◌+◌, ◌<◌, Bool, true, false, cond, List, [], ◌∷◌, ◌++◌, length, get_or, drop, append_assoc, refl, sym, ◌∙◌, ap}
+use Rattle.std.proofs.Common.{◌≡◌, ℕ, ◌+◌, ◌<◌, Bool, true, false, cond, List, [], ◌∷◌, ◌++◌, length, get_or, drop, refl, sym, ◌∙◌, ap}
 use Rattle.std.specs.Prelude.{filter, map}
 use Rattle.std.proofs.lemmas.Bool.{false≢true, or_left, or_right}
 use Rattle.std.proofs.lemmas.List.{drop-map, drop_more}
 use Rattle.std.proofs.lemmas.List.Elements.{filter-append}
+use Rattle.elf_model.proofs.Mapped.{append_mapped}
 use Rattle.elf_model.specs.Link.ChosenSymbols.{is_definition}
 use Rattle.elf_model.specs.Link.Loading.{LoadedObject}
 use Rattle.elf_model.specs.Inputs.ObjectFile.{symbols}
 use Rattle.elf_model.specs.Link.Resolution.{SymbolOf, is_common_definition, is_strong, is_weak_definition, symbols_from, symbols_of}
+use Rattle.elf_model.specs.declared.references.SymbolRef.{SymbolRef}
 use Rattle.check_load.specs.Views.{loaded_view, loaded_views}
 use Rattle.check_load.specs.declared.loaded.Loaded.{Loaded}
+use Rattle.check_link.specs.DefinitionList.{ref_of}
 
 -- a filter by a weaker test in front of another one changes nothing
-weaker_first :
+pub weaker_first :
     {X : Type 0} (p q : X → Bool) → ((x : X) → p x ≡ true → q x ≡ true) → (xs : List X) → filter p (filter q xs) ≡ filter p xs
 weaker_first p q weaker [] = refl
 weaker_first {X} p q weaker (x ∷ xs) = by (p x) (q x) refl refl (weaker_first p q weaker xs)
@@ -47,18 +50,16 @@ objects_at objects k d within is =
     ∙ ap (λ (x : Loaded). loaded_view x ∷ map loaded_view (drop (k + 1) objects)) (sym is)
     ∙ ap (λ (xs : List LoadedObject). loaded_view d ∷ xs) (sym (drop-map loaded_view (k + 1) objects))
 
--- one more object
+-- the numbers of the definitions of one more object
 pub definitions_more :
-    (found more all : List SymbolOf) (objects : List Loaded) (k : ℕ) (d : Loaded) →
+    (found more all : List SymbolRef) (objects : List Loaded) (k : ℕ) (d : Loaded) →
     k < length objects → d ≡ get_or objects k d →
-    more ≡ found ++ filter is_definition (symbols_from k (loaded_view d) 0 (symbols (loaded_view d).bytes)) →
-    found ++ filter is_definition (symbols_of k (drop k (loaded_views objects))) ≡ all →
-    more ++ filter is_definition (symbols_of (k + 1) (drop (k + 1) (loaded_views objects))) ≡ all
+    more ≡ found ++ map ref_of (filter is_definition (symbols_from k (loaded_view d) 0 (symbols (loaded_view d).bytes))) →
+    found ++ map ref_of (filter is_definition (symbols_of k (drop k (loaded_views objects)))) ≡ all →
+    more ++ map ref_of (filter is_definition (symbols_of (k + 1) (drop (k + 1) (loaded_views objects)))) ≡ all
 definitions_more found more all objects k d within is added so_far =
     let here : List SymbolOf = symbols_from k (loaded_view d) 0 (symbols (loaded_view d).bytes) in
     let rest : List SymbolOf = symbols_of (k + 1) (drop (k + 1) (loaded_views objects)) in
-    ap (λ (xs : List SymbolOf). xs ++ filter is_definition rest) added
-    ∙ append_assoc found (filter is_definition here) (filter is_definition rest)
-    ∙ ap (λ (xs : List SymbolOf). found ++ xs) (sym (filter-append is_definition here rest))
-    ∙ ap (λ (xs : List LoadedObject). found ++ filter is_definition (symbols_of k xs)) (sym (objects_at objects k d within is))
-    ∙ so_far
+    let parts : filter is_definition (symbols_of k (drop k (loaded_views objects))) ≡ filter is_definition here ++ filter is_definition rest =
+    ap (λ (xs : List LoadedObject). filter is_definition (symbols_of k xs)) (objects_at objects k d within is) ∙ filter-append is_definition here rest in
+    append_mapped ref_of found more (filter is_definition here) (filter is_definition (symbols_of k (drop k (loaded_views objects)))) (filter is_definition rest) all added parts so_far

@@ -1,5 +1,6 @@
 pub mod Alignments
 pub mod Asked
+pub mod AtNumbers
 pub mod ByNames
 pub mod CommonEntries
 pub mod CommonRows

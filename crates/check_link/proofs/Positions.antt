@@ -1,19 +1,20 @@
 -- The positions of the chosen definitions in the list of all.
 use Rattle.std.proofs.Common.{◌≡◌, ℕ, zero, suc, ◌+◌, ◌<◌, ◌≤◌, ◌⊎◌, inl, inr, Bool, true, false, cond, List, [], ◌∷◌, ◌++◌, append_assoc, drop, get_or, length, length-append, replicate, set, true≢false, Option, Some, None, refl, sym, ap, subst, ◌∙◌, arith}
-use Rattle.std.specs.Prelude.{◌&&◌, find, slice_get}
-use Rattle.std.specs.Option.{option_and_then, option_or}
+use Rattle.std.specs.Prelude.{◌&&◌, find, option_map, slice_get, unwrap_or}
+use Rattle.std.specs.Option.{option_and_then, option_map_or, option_or}
 use Rattle.std.specs.Str.{bytes_eq}
 use Rattle.std.proofs.lemmas.List.{get_or_default, get_or_past, get_or-replicate, get_or-set_other, get_or-set_same, length-replicate}
-use Rattle.std.proofs.lemmas.Option.{get_or_from_slice_get, same_Some}
+use Rattle.std.proofs.lemmas.Option.{get_or_from_slice_get, none-some, same_Some, slice_get_within}
 use Rattle.std.proofs.lemmas.Slice.Eq.{bytes_eq-Decides}
 use Rattle.elf_model.specs.Link.ChosenSymbols.{definitions}
 use Rattle.elf_model.specs.Link.Loading.{LoadedObject}
 use Rattle.elf_model.specs.Link.Resolution.{SymbolOf, has_name}
-use Rattle.check_link.specs.Chosen.{AreChosen, AreOwnChoices, AreOwnIn, IsOwn, IsSized, definition_in, first_from, marked_by, position_at, position_in}
+use Rattle.check_link.specs.Chosen.{AreChosen, AreOwnChoices, AreOwnIn, IsOwn, IsSized, definition_in, first_from, is_of_rank, marked_by, position_at, position_in}
+use Rattle.check_link.specs.DefinitionList.{name_in, unnamed}
 use Rattle.check_link.proofs.Padded.{below_or_not}
-use Rattle.check_link.specs.Views.{symbol_view, symbol_views}
 use Rattle.check_link.specs.declared.chosen_definitions.Chosen.{Chosen}
-use Rattle.check_link.specs.declared.things.SymbolOf as code
+use Rattle.check_link.specs.declared.chosen_definitions.Rank.{Rank}
+use Rattle.check_link.specs.declared.chosen_definitions.Rank.TheVariants as rank
 use Rattle.elf_model.proofs.Rests.{rest_at}
 use Rattle.check_load.specs.NameNumbers.{number_of, with_name}
 use Rattle.check_load.proofs.Numbering.{value_written}
@@ -159,43 +160,66 @@ own_told objects L ss index own chosen_are same are is =
     ∙ is i s (get_or_from_slice_get own i true false mark) (ap (λ (ts : List SymbolOf). slice_get ts i) are ∙ there))
 
 -- the one at a position has its name
-pub name_of : (ss : List SymbolOf) (position : ℕ) (t : SymbolOf) → slice_get ss position ≡ Some t → (s : SymbolOf) → slice_get ss position ≡ Some s → s.name ≡ t.name
-name_of ss position t found s there = ap (λ (x : SymbolOf). x.name) (same_Some s t (sym there ∙ found))
+pub named_there : (ss : List SymbolOf) (i : ℕ) (s : SymbolOf) → slice_get ss i ≡ Some s → s.name ≡ name_in ss i
+named_there ss i s at = sym (ap (λ (o : Option SymbolOf). unwrap_or (option_map (λ (x : SymbolOf). x.name) o) []) at)
+
+-- a test of the one at a position
+pub tested_there : (kind : SymbolOf → Bool) (ss : List SymbolOf) (i : ℕ) (s : SymbolOf) → slice_get ss i ≡ Some s → option_map_or kind (slice_get ss i) false ≡ kind s
+tested_there kind ss i s at = ap (λ (o : Option SymbolOf). option_map_or kind o false) at
+
+-- what is of a rank is so without its name
+pub ranked_unnamed : (r : Rank) (s : SymbolOf) → is_of_rank r (unnamed s) ≡ is_of_rank r s
+ranked_unnamed rank.Strong s = refl
+ranked_unnamed rank.Common s = refl
+ranked_unnamed rank.Weak s = refl
+
+pub rank_there : (r : Rank) (o p : Option SymbolOf) → p ≡ option_map unnamed o → option_map_or (is_of_rank r) p false ≡ option_map_or (is_of_rank r) o false
+rank_there r None p is = ap (λ (x : Option SymbolOf). option_map_or (is_of_rank r) x false) is
+rank_there r (Some s) p is = ap (λ (x : Option SymbolOf). option_map_or (is_of_rank r) x false) is ∙ ranked_unnamed r s
+
+-- there is one within a list
+pub get_or_some : (xs : List SymbolOf) (i : ℕ) → i < length xs → (s : SymbolOf) × (slice_get xs i ≡ Some s)
+get_or_some [] i low = absurd (omega (arith, low))
+get_or_some (x ∷ xs) zero low = (x, refl)
+get_or_some (x ∷ xs) (suc i) low = get_or_some xs i (omega (arith, low))
 
 -- One definition more in an index.
-pub viewed_at : (xs : List code.SymbolOf) (i : ℕ) (d : code.SymbolOf) → i < length xs → slice_get (symbol_views xs) i ≡ Some (symbol_view (get_or xs i d))
-viewed_at [] i d low = absurd (omega (arith, low))
-viewed_at (x ∷ xs) zero d low = refl
-viewed_at (x ∷ xs) (suc i) d low = viewed_at xs i d (omega (arith, low))
+pub drop_there : (xs : List SymbolOf) (i : ℕ) (s : SymbolOf) → slice_get xs i ≡ Some s → drop i xs ≡ s ∷ drop (i + 1) xs
+drop_there xs i s at =
+    rest_at xs i s (slice_get_within xs i s at) ∙ ap (λ (x : SymbolOf). x ∷ drop (i + 1) xs) (get_or_from_slice_get xs i s s at)
 
 pub position_step :
-    (kind : SymbolOf → Bool) (name : List ℕ) (xs : List code.SymbolOf) (i : ℕ) (d : code.SymbolOf) (wanted : Bool) (old new whole : Option ℕ) → i < length xs →
-    wanted ≡ kind (symbol_view (get_or xs i d)) →
-    new ≡ option_or old (cond (wanted && has_name name (symbol_view (get_or xs i d))) (Some i) None) →
-    option_or old (first_from (λ s. kind s && has_name name s) i (symbol_views (drop i xs))) ≡ whole →
-    option_or new (first_from (λ s. kind s && has_name name s) (i + 1) (symbol_views (drop (i + 1) xs))) ≡ whole
-position_step kind name xs i d wanted old new whole within is grown all =
-    by old (kind here && has_name name here) (grown ∙ ap (λ (b : Bool). option_or old (cond (b && has_name name here) (Some i) None)) is)
-    (sym (ap (λ (ys : List code.SymbolOf). option_or old (first_from (λ s. kind s && has_name name s) i (symbol_views ys))) (rest_at xs i d within)) ∙ all)
+    (kind : SymbolOf → Bool) (name : List ℕ) (xs : List SymbolOf) (i : ℕ) (wanted : Bool) (old new whole : Option ℕ) → i < length xs →
+    wanted ≡ option_map_or kind (slice_get xs i) false →
+    new ≡ option_or old (cond (wanted && bytes_eq (name_in xs i) name) (Some i) None) →
+    option_or old (first_from (λ s. kind s && has_name name s) i (drop i xs)) ≡ whole →
+    option_or new (first_from (λ s. kind s && has_name name s) (i + 1) (drop (i + 1) xs)) ≡ whole
+position_step kind name xs i wanted old new whole within is grown all = with_one (slice_get xs i) refl
   where
-    here : SymbolOf
-    here = symbol_view (get_or xs i d)
-
     rest : Option ℕ
-    rest = first_from (λ s. kind s && has_name name s) (i + 1) (symbol_views (drop (i + 1) xs))
+    rest = first_from (λ s. kind s && has_name name s) (i + 1) (drop (i + 1) xs)
 
     by : (o : Option ℕ) (b : Bool) → new ≡ option_or o (cond b (Some i) None) → option_or o (cond b (Some i) rest) ≡ whole → option_or new rest ≡ whole
     by (Some x) b g a = ap (λ (n : Option ℕ). option_or n rest) g ∙ a
     by None true g a = ap (λ (n : Option ℕ). option_or n rest) g ∙ a
     by None false g a = ap (λ (n : Option ℕ). option_or n rest) g ∙ a
 
+    with_one : (o : Option SymbolOf) → slice_get xs i ≡ o → option_or new rest ≡ whole
+    with_one None e = absurd (none-some (get_or_some xs i within).0 (sym e ∙ (get_or_some xs i within).1))
+    with_one (Some s) e =
+        by old (kind s && has_name name s)
+        (grown
+        ∙ ap (λ (b : Bool). option_or old (cond (b && bytes_eq (name_in xs i) name) (Some i) None)) (is ∙ tested_there kind xs i s e)
+        ∙ ap (λ (n : List ℕ). option_or old (cond (kind s && bytes_eq n name) (Some i) None)) (sym (named_there xs i s e)))
+        (sym (ap (λ (ys : List SymbolOf). option_or old (first_from (λ t. kind t && has_name name t) i ys)) (drop_there xs i s e)) ∙ all)
+
 -- where one that isn't of the kind is passed over
 pub position_skip :
-    (kind : SymbolOf → Bool) (name : List ℕ) (xs : List code.SymbolOf) (i : ℕ) (d : code.SymbolOf) (old whole : Option ℕ) → i < length xs →
-    kind (symbol_view (get_or xs i d)) ≡ false →
-    option_or old (first_from (λ s. kind s && has_name name s) i (symbol_views (drop i xs))) ≡ whole →
-    option_or old (first_from (λ s. kind s && has_name name s) (i + 1) (symbol_views (drop (i + 1) xs))) ≡ whole
-position_skip kind name xs i d old whole within is all = position_step kind name xs i d false old old whole within (sym is) (same old) all
+    (kind : SymbolOf → Bool) (name : List ℕ) (xs : List SymbolOf) (i : ℕ) (old whole : Option ℕ) → i < length xs →
+    option_map_or kind (slice_get xs i) false ≡ false →
+    option_or old (first_from (λ s. kind s && has_name name s) i (drop i xs)) ≡ whole →
+    option_or old (first_from (λ s. kind s && has_name name s) (i + 1) (drop (i + 1) xs)) ≡ whole
+position_skip kind name xs i old whole within is all = position_step kind name xs i false old old whole within (sym is) (same old) all
   where
     same : (o : Option ℕ) → o ≡ option_or o None
     same (Some x) = refl

@@ -1,6 +1,7 @@
 pub mod ByName
 pub mod Chosen
 pub mod Commons
+pub mod DefinitionList
 pub mod NameIndex
 pub mod OutputSections
 pub mod Outputs

@@ -1,17 +1,18 @@
 //! The index of the chosen definitions by their names: of each name the position of its chosen one in the list of the
 //! definitions.
-ghost use Rattle.std.specs.Prelude.{◌≡◌, ◌≤◌, ◌<◌, ◌+◌, ◌&&◌, ℕ, IfOk, List, None, OnOk, Some, cond, filter, length, max, option_map, slice_get, slice_set, true};
-ghost use Rattle.std.specs.Option.{option_and_then, option_or};
+ghost use Rattle.std.specs.Prelude.{◌≡◌, ◌≤◌, ◌<◌, ◌+◌, ◌&&◌, ℕ, IfOk, IfSome, IsSomeAnd, List, None, OnOk, Some, cond, false, filter, length, max, option_map, slice_get, slice_set, true};
+ghost use Rattle.std.specs.Option.{option_and_then, option_map_or, option_or};
 ghost use Rattle.std.specs.Str.{bytes_eq};
 ghost use Rattle.elf_model.specs.Link.ChosenSymbols.{is_definition};
-ghost use Rattle.elf_model.specs.Link.Resolution as resolution;
 ghost use Rattle.elf_model.specs.Link.Resolution.{all_symbols, has_name};
 ghost use Rattle.check_load.specs.NameNumbers.{KeepNumbers, number_of, with_name};
 ghost use Rattle.check_load.specs.Numbered.{AreNumbered};
 ghost use Rattle.check_load.specs.Views.{loaded_views};
-ghost use Rattle.check_link.specs.Chosen.{AreChosen, AreHinted, AreOwnIn, HaveMarks, IsHinted, IsOwn, IsSized, definition_in, first_from, hint_at, is_found, is_of_rank, marked_by, position_at, position_in};
-ghost use Rattle.check_link.specs.Views.{symbol_view, symbol_views};
+ghost use Rattle.check_link.specs.Chosen.{AreChosen, AreHinted, AreOwnIn, HaveMarks, IsOwn, IsSized, definition_in, first_from, hint_at, is_found, is_of_rank, marked_by, position_at, position_in};
+ghost use Rattle.check_link.specs.DefinitionList.{name_in};
+ghost use Rattle.check_link.specs.Views.{symbol_view};
 
+use crate::definition_list::Definitions;
 use crate::definitions::{is_common_definition, is_strong, is_weak_definition};
 use crate::things::SymbolOf;
 use check_load::{Loaded, NameTable, filled};
@@ -44,20 +45,38 @@ pub fn number_at(objects: &[Loaded<'_>], object: u64, symbol: u64) -> Option<usi
     loaded.numbers.at(symbol as usize)
 }
 
-/// The number of a symbol's name, which gets one unless it has one.
+/// The number of the name of the definition at a position, as loading noted it; None where it noted none.
+fn noted_number<'a>(
+    objects: &[Loaded<'a>],
+    definitions: &Definitions<'_, 'a>,
+    position: usize,
+) -> Option<usize>
+    ensures { IfSome result (λ k. IsSomeAnd (slice_get definitions.now position)
+        (λ s. hint_at objects.now s.object s.number ≡ Some k)) }
+{
+    match definitions.numbers(position) {
+        Some(symbol) => number_at(objects, symbol.object.0, symbol.symbol),
+        None => None,
+    }
+}
+
+/// The number of the name of the definition at a position, which gets one unless it has one: only then it is read.
 fn number_for<'a>(
     objects: &[Loaded<'a>],
     names: &mut NameTable<'a>,
-    symbol: &SymbolOf<'a>,
+    definitions: &Definitions<'_, 'a>,
+    position: usize,
 ) -> Result<usize, AllocError>
-    requires { IsHinted names.old objects.now (symbol_view symbol.now) }
-    ensures added { OnOk result (names.new ≡ with_name names.old symbol.now.name.now) }
-    ensures number { IfOk result (λ k. k ≡ number_of names.old symbol.now.name.now) }
+    requires { AreHinted names.old objects.now definitions.now }
+    ensures added { OnOk result (names.new
+        ≡ with_name names.old (name_in definitions.now position)) }
+    ensures number { IfOk result (λ k. k
+        ≡ number_of names.old (name_in definitions.now position)) }
 {
-    if let Some(known) = number_at(objects, symbol.object, symbol.number) {
+    if let Some(known) = noted_number(objects, definitions, position) {
         return Ok(known);
     }
-    let (number, _is_new) = names.add(symbol.name)?;
+    let (number, _is_new) = names.add(definitions.name(position))?;
     Ok(number)
 }
 
@@ -70,26 +89,24 @@ pub fn keep_first(place: &mut Option<usize>, position: usize)
     }
 }
 
-/// Puts a symbol's position into the index, unless one of its name is there.
+/// Puts the position of a definition into the index, unless one of its name is there.
 fn add_position<'a>(
     objects: &[Loaded<'a>],
     index: &mut Chosen<'a>,
-    symbol: &SymbolOf<'a>,
+    definitions: &Definitions<'_, 'a>,
     position: usize,
 ) -> Result<(), AllocError>
     requires sized { IsSized index.old }
-    requires hinted { IsHinted index.old.names objects.now (symbol_view symbol.now) }
+    requires hinted { AreHinted index.old.names objects.now definitions.now }
     ensures sized { OnOk result (IsSized index.new) }
     ensures kept { OnOk result (KeepNumbers index.old.names index.new.names) }
     ensures positions { OnOk result ((n : List ℕ) →
         position_in index.new n
         ≡ option_or (position_in index.old n)
-        (cond (bytes_eq symbol.now.name.now n) (Some position) None)) }
-    ensures own { OnOk result ((ss : List resolution.SymbolOf) →
-        slice_get ss position ≡ Some (symbol_view symbol.now)
-        → IsOwn ss index.old → IsOwn ss index.new) }
+        (cond (bytes_eq (name_in definitions.now position) n) (Some position) None)) }
+    ensures own { OnOk result (IsOwn definitions.now index.old → IsOwn definitions.now index.new) }
 {
-    let number = number_for(objects, &mut index.names, symbol)?;
+    let number = number_for(objects, &mut index.names, definitions, position)?;
     reach(&mut index.positions, number)?;
     keep_first(&mut index.positions[number], position);
     Ok(())
@@ -115,31 +132,40 @@ fn is_of(rank: Rank, symbol: &SymbolOf<'_>) -> bool
     }
 }
 
+/// Whether the definition at a position is of a rank.
+fn is_ranked(definitions: &Definitions<'_, '_>, rank: Rank, position: usize) -> bool
+    ensures { result
+        ≡ option_map_or (is_of_rank rank) (slice_get definitions.now position) false }
+{
+    match definitions.unnamed(position) {
+        Some(symbol) => is_of(rank, &symbol),
+        None => false,
+    }
+}
+
 /// Adds the first one of a rank among definitions of each name that the index hasn't got.
 fn add_first<'a>(
     objects: &[Loaded<'a>],
     index: &mut Chosen<'a>,
-    definitions: &[SymbolOf<'a>],
+    definitions: &Definitions<'_, 'a>,
     rank: Rank,
 ) -> Result<(), AllocError>
     requires sized { IsSized index.old }
-    requires hinted { AreHinted index.old.names objects.now (symbol_views definitions.now) }
+    requires hinted { AreHinted index.old.names objects.now definitions.now }
     ensures sized { OnOk result (IsSized index.new) }
     ensures kept { OnOk result (KeepNumbers index.old.names index.new.names) }
-    ensures hinted { OnOk result
-        (AreHinted index.new.names objects.now (symbol_views definitions.now)) }
+    ensures hinted { OnOk result (AreHinted index.new.names objects.now definitions.now) }
     ensures positions { OnOk result ((name : List ℕ) →
         position_in index.new name
         ≡ option_or (position_in index.old name)
-        (first_from (λ s. is_of_rank rank s && has_name name s) 0 (symbol_views definitions.now))) }
-    ensures own { OnOk result (IsOwn (symbol_views definitions.now) index.old
-        → IsOwn (symbol_views definitions.now) index.new) }
+        (first_from (λ s. is_of_rank rank s && has_name name s) 0 definitions.now)) }
+    ensures own { OnOk result (IsOwn definitions.now index.old → IsOwn definitions.now index.new) }
 {
-    for (i, symbol) in definitions.iter().enumerate() {
-        if !is_of(rank, symbol) {
+    for i in 0..definitions.len() {
+        if !is_ranked(definitions, rank, i) {
             continue;
         }
-        add_position(objects, index, symbol, i)?;
+        add_position(objects, index, definitions, i)?;
     }
     Ok(())
 }
@@ -149,17 +175,17 @@ fn add_first<'a>(
 pub fn index_names<'a>(
     alloc: Global,
     objects: &[Loaded<'a>],
-    definitions: &[SymbolOf<'a>],
+    definitions: &Definitions<'_, 'a>,
     names: NameTable<'a>,
 ) -> Result<Chosen<'a>, AllocError>
-    requires definitions { symbol_views definitions.now
+    requires definitions { definitions.now
         ≡ filter is_definition (all_symbols (loaded_views objects.now)) }
     requires numbered { AreNumbered names objects.now }
     ensures sized { IfOk result IsSized }
     ensures numbered { IfOk result (λ c. AreNumbered c.names objects.now) }
     ensures chosen { IfOk result (AreChosen (loaded_views objects.now)
-        (symbol_views definitions.now)) }
-    ensures own { IfOk result (IsOwn (symbol_views definitions.now)) }
+        definitions.now) }
+    ensures own { IfOk result (IsOwn definitions.now) }
 {
     let mut index = Chosen {
         names,
@@ -174,12 +200,12 @@ pub fn index_names<'a>(
 /// The definition that an index has for a name; None where it has none.
 pub fn definition_of<'a>(
     index: &Chosen<'a>,
-    definitions: &[SymbolOf<'a>],
+    definitions: &Definitions<'_, 'a>,
     name: &[u8],
 ) -> Option<SymbolOf<'a>>
     requires { IsSized index.now }
     ensures { option_map symbol_view result
-        ≡ definition_in index.now (symbol_views definitions.now) name.now }
+        ≡ definition_in index.now definitions.now name.now }
 {
     let number = index.names.find(name)?;
     definition_at(index, definitions, number)
@@ -188,15 +214,15 @@ pub fn definition_of<'a>(
 /// The definition that an index has for the name that has a number; None where it has none.
 pub fn definition_at<'a>(
     index: &Chosen<'a>,
-    definitions: &[SymbolOf<'a>],
+    definitions: &Definitions<'_, 'a>,
     number: usize,
 ) -> Option<SymbolOf<'a>>
     ensures { option_map symbol_view result
-        ≡ option_and_then (slice_get (symbol_views definitions.now))
+        ≡ option_and_then (slice_get definitions.now)
         (position_at index.now.positions.items number) }
 {
     let position = position_at(&index.positions, number)?;
-    definitions.get(position).copied()
+    definitions.get(position)
 }
 
 /// The position at a number; None where there is none.
@@ -212,11 +238,11 @@ pub fn position_at(positions: &[Option<usize>], number: usize) -> Option<usize>
 /// Whether a symbol is the one that an index has for its name.
 pub fn is_chosen<'a>(
     index: &Chosen<'a>,
-    definitions: &[SymbolOf<'a>],
+    definitions: &Definitions<'_, 'a>,
     symbol: &SymbolOf<'a>,
 ) -> bool
     requires { IsSized index.now }
-    ensures { result ≡ is_found index.now (symbol_views definitions.now) (symbol_view symbol.now) }
+    ensures { result ≡ is_found index.now definitions.now (symbol_view symbol.now) }
 {
     match definition_of(index, definitions, symbol.name) {
         Some(chosen) => symbol.object == chosen.object && symbol.number == chosen.number,
@@ -246,10 +272,10 @@ fn set_mark_of(marks: &mut [bool], position: Option<usize>)
 pub fn own_choices(
     alloc: Global,
     index: &Chosen<'_>,
-    definitions: &[SymbolOf<'_>],
+    definitions: &Definitions<'_, '_>,
 ) -> Result<Vec<bool>, AllocError>
-    requires { IsOwn (symbol_views definitions.now) index.now }
-    ensures own { IfOk result (λ v. AreOwnIn (symbol_views definitions.now) index.now v.items) }
+    requires { IsOwn definitions.now index.now }
+    ensures own { IfOk result (λ v. AreOwnIn definitions.now index.now v.items) }
     ensures all { IfOk result (λ v. HaveMarks index.now v.items) }
 {
     let mut marks = filled(alloc, false, definitions.len())?;

@@ -1,18 +1,21 @@
 //! Common symbols: whether they are sound, and the blocks that they ask for, name by name.
 ghost use Rattle.std.specs.Prelude.{◌≡◌, ◌∷◌, ◌++◌, ◌↔◌, ℕ, [], All, IfOk, IsTrue, List, None, OnOk, Some, cond, filter, find, length, max, option_map, unwrap_or};
+ghost use Rattle.std.specs.List.{slice_get};
 ghost use Rattle.std.specs.Option.{option_or};
 ghost use Rattle.elf_model.specs.Link.ChosenSymbols.{is_definition};
 ghost use Rattle.elf_model.specs.Link.Commons as commons;
-ghost use Rattle.elf_model.specs.Link.Commons.{blocks, blocks_from, is_block_of};
+ghost use Rattle.elf_model.specs.Link.Commons.{blocks, blocks_from, is_block_of, is_common_symbol};
 ghost use Rattle.elf_model.specs.Inputs.ObjectFile.{symbols};
 ghost use Rattle.elf_model.specs.Link.Resolution.{AreSoundCommons, all_symbols};
 ghost use Rattle.check_load.specs.Views.{loaded_views};
 ghost use Rattle.check_link.specs.Chosen.{AreChosen, IsSized};
 ghost use Rattle.check_link.specs.Commons.{HasAsked, HasGained, asked_in, block_in, is_block_symbol};
+ghost use Rattle.check_link.specs.DefinitionList.{if_there};
 ghost use Rattle.check_link.specs.Soundness.{IsSoundEntry};
 ghost use Rattle.check_link.specs.Views.{block_view, block_views, symbol_view, symbol_views};
 
 use crate::chosen_definitions::{Chosen, is_chosen};
+use crate::definition_list::Definitions;
 use crate::definitions::{is_common, is_common_definition};
 use crate::things::{Block, SymbolOf};
 use check_load::Loaded;
@@ -110,15 +113,15 @@ fn add_asked<'a>(
     Ok(())
 }
 
-/// What the common ones among definitions ask for, name by name.
+/// What common symbols among definitions ask for, name by name.
 fn asked_of<'a>(
     alloc: Global,
-    definitions: &[SymbolOf<'a>],
+    commons: &[SymbolOf<'a>],
 ) -> Result<BTreeMap<&'a [u8], Asked>, AllocError>
-    ensures { IfOk result (λ m. HasAsked m (symbol_views definitions.now)) }
+    ensures { IfOk result (λ m. HasAsked m (symbol_views commons.now)) }
 {
     let mut asked = BTreeMap::new(alloc);
-    for symbol in definitions {
+    for symbol in commons {
         add_asked(&mut asked, symbol)?;
     }
     Ok(asked)
@@ -127,11 +130,11 @@ fn asked_of<'a>(
 /// Whether a symbol is a common one, and the one that an index has for its name.
 fn is_block_symbol<'a>(
     chosen: &Chosen<'a>,
-    definitions: &[SymbolOf<'a>],
+    definitions: &Definitions<'_, 'a>,
     symbol: &SymbolOf<'a>,
 ) -> bool
     requires { IsSized chosen.now }
-    ensures { result ≡ is_block_symbol chosen.now (symbol_views definitions.now)
+    ensures { result ≡ is_block_symbol chosen.now definitions.now
         (symbol_view symbol.now) }
 {
     is_common(symbol) && is_chosen(chosen, definitions, symbol)
@@ -190,27 +193,68 @@ fn add_block<'a>(
     Ok(())
 }
 
-/// The blocks of those definitions that are common ones, and which an index has for their names.
+/// The blocks of those common ones among definitions that an index has for their names.
 fn add_blocks<'a>(
     alloc: Global,
     objects: &[Loaded<'a>],
     asked: &BTreeMap<&'a [u8], Asked>,
     chosen: &Chosen<'a>,
-    definitions: &[SymbolOf<'a>],
+    definitions: &Definitions<'_, 'a>,
+    commons: &[SymbolOf<'a>],
 ) -> Result<Vec<Block<'a>>, AllocError>
     requires sized { IsSized chosen.now }
     requires asked { HasAsked asked.now (all_symbols (loaded_views objects.now)) }
     ensures { IfOk result (λ v. block_views v.items
         ≡ blocks_from (loaded_views objects.now) 0
-        (filter (is_block_symbol chosen.now (symbol_views definitions.now))
-        (symbol_views definitions.now))) }
+        (filter (is_block_symbol chosen.now definitions.now) (symbol_views commons.now))) }
 {
     let mut blocks = Vec::new(alloc);
-    for symbol in definitions {
+    for symbol in commons {
         let wanted = is_block_symbol(chosen, definitions, symbol);
         add_block(objects, asked, wanted, symbol, &mut blocks)?;
     }
     Ok(blocks)
+}
+
+/// The definition at a position, where it is a common one: of no other one the name is read.
+fn common_at<'a>(definitions: &Definitions<'_, 'a>, position: usize) -> Option<SymbolOf<'a>>
+    ensures { if_there (option_map symbol_view result)
+        ≡ filter is_common_symbol (if_there (slice_get definitions.now position)) }
+{
+    if !definitions.is_common(position) {
+        return None;
+    }
+    definitions.get(position)
+}
+
+/// Adds the definition at a position, where it is a common one.
+fn add_common<'a>(
+    found: &mut Vec<SymbolOf<'a>>,
+    definitions: &Definitions<'_, 'a>,
+    position: usize,
+) -> Result<(), AllocError>
+    ensures { OnOk result (symbol_views found.new.items
+        ≡ symbol_views found.old.items
+        ++ filter is_common_symbol (if_there (slice_get definitions.now position))) }
+{
+    if let Some(common) = common_at(definitions, position) {
+        found.push(common)?;
+    }
+    Ok(())
+}
+
+/// The common ones among definitions.
+fn commons_of<'a>(
+    alloc: Global,
+    definitions: &Definitions<'_, 'a>,
+) -> Result<Vec<SymbolOf<'a>>, AllocError>
+    ensures { IfOk result (λ v. symbol_views v.items ≡ filter is_common_symbol definitions.now) }
+{
+    let mut found = Vec::new(alloc);
+    for i in 0..definitions.len() {
+        add_common(&mut found, definitions, i)?;
+    }
+    Ok(found)
 }
 
 /// The common blocks of objects, given their definitions and an index of the chosen ones.
@@ -218,17 +262,17 @@ pub fn blocks_of<'a>(
     alloc: Global,
     objects: &[Loaded<'a>],
     chosen: &Chosen<'a>,
-    definitions: &[SymbolOf<'a>],
+    definitions: &Definitions<'_, 'a>,
 ) -> Result<Vec<Block<'a>>, AllocError>
     requires sized { IsSized chosen.now }
-    requires definitions { symbol_views definitions.now
+    requires definitions { definitions.now
         ≡ filter is_definition (all_symbols (loaded_views objects.now)) }
-    requires chosen { AreChosen (loaded_views objects.now)
-        (symbol_views definitions.now) chosen.now }
+    requires chosen { AreChosen (loaded_views objects.now) definitions.now chosen.now }
     ensures { IfOk result (λ v. block_views v.items ≡ blocks (loaded_views objects.now)) }
 {
-    let asked = asked_of(alloc, definitions)?;
-    let blocks = add_blocks(alloc, objects, &asked, chosen, definitions)?;
+    let commons = commons_of(alloc, definitions)?;
+    let asked = asked_of(alloc, &commons)?;
+    let blocks = add_blocks(alloc, objects, &asked, chosen, definitions, &commons)?;
     Ok(blocks)
 }
 

@@ -1,19 +1,17 @@
 //! Which symbols are definitions, where they stand, and their values.
-ghost use Rattle.std.specs.Prelude.{◌≡◌, ◌↔◌, ◌++◌, ◌&&◌, IfOk, IsTrue, OnOk, filter, not};
+ghost use Rattle.std.specs.Prelude.{◌≡◌, ◌↔◌, ◌&&◌, IsTrue, not};
 ghost use Rattle.elf_model.specs.Link.ChosenSymbols.{is_definition};
 ghost use Rattle.elf_model.specs.Link.Placement.{symbol_value};
 ghost use Rattle.elf_model.specs.Link.Commons.{is_common_symbol};
-ghost use Rattle.elf_model.specs.Inputs.ObjectFile.{symbols};
-ghost use Rattle.elf_model.specs.Link.Resolution.{all_symbols, is_common_definition, is_in_thread_section, is_placed_symbol, is_strong, is_weak_definition, symbols_from};
-ghost use Rattle.check_load.specs.Views.{loaded_view, loaded_views};
-ghost use Rattle.check_link.specs.Views.{symbol_view, symbol_views};
+ghost use Rattle.elf_model.specs.Link.Resolution.{is_common_definition, is_in_thread_section, is_placed_symbol, is_strong, is_weak_definition};
+ghost use Rattle.check_load.specs.Views.{loaded_views};
+ghost use Rattle.check_link.specs.Views.{symbol_view};
 
 use crate::places::Places;
 use crate::symbols::section_of;
 use crate::things::SymbolOf;
 use check_load::Loaded;
 use elf_model::{SHN_ABS, SHN_COMMON, SHN_UNDEF, STB_GLOBAL, STB_WEAK, Symbol};
-use std::alloc::{AllocError, Global};
 
 /// Whether a symbol stands in a section or is absolute.
 fn is_placed(entry: &Symbol) -> bool
@@ -58,55 +56,10 @@ pub fn is_common_definition(symbol: &SymbolOf<'_>) -> bool
 }
 
 /// Whether a symbol is a definition, strong, common or weak.
-fn is_definition(symbol: &SymbolOf<'_>) -> bool
+pub fn is_definition(symbol: &SymbolOf<'_>) -> bool
     ensures { result ≡ is_definition (symbol_view symbol.now) }
 {
     is_strong(symbol) || (is_common_definition(symbol) || is_weak_definition(symbol))
-}
-
-/// Adds the definitions of object `number`.
-fn add_definitions<'a>(
-    found: &mut Vec<SymbolOf<'a>>,
-    number: u64,
-    loaded: &Loaded<'a>,
-) -> Result<(), AllocError>
-    ensures { OnOk result (symbol_views found.new.items
-        ≡ symbol_views found.old.items
-        ++ filter is_definition
-        (symbols_from number (loaded_view loaded.now) 0 (symbols loaded.now.object))) }
-{
-    let entries = loaded.object.symbols();
-    for j in 0..entries.len() {
-        let entry = entries.at(j);
-        let mut symbol = SymbolOf {
-            object: number,
-            number: j as u64,
-            name: &[],
-            entry,
-            dropped: loaded.is_dropped(entry.st_shndx as usize),
-        };
-        if is_definition(&symbol) {
-            symbol.name = loaded.object.symbol_name(j);
-            found.push(symbol)?;
-        }
-    }
-    Ok(())
-}
-
-/// The definitions of objects, strong, common and weak, in load order.
-pub fn definitions_of<'a>(
-    alloc: Global,
-    objects: &[Loaded<'a>],
-) -> Result<Vec<SymbolOf<'a>>, AllocError>
-    ensures { IfOk result (λ v. symbol_views v.items
-        ≡ filter is_definition (all_symbols (loaded_views objects.now))) }
-{
-    let mut found = Vec::new(alloc);
-    for (k, loaded) in objects.iter().enumerate() {
-        add_definitions(&mut found, k as u64, loaded)?;
-    }
-    found.shrink_to_fit();
-    Ok(found)
 }
 
 /// Whether a symbol stands in a section with SHF_TLS.

@@ -7,6 +7,7 @@ mod by_name;
 mod chosen_definitions;
 mod common_lines;
 mod commons;
+mod definition_list;
 mod definitions;
 mod inputs;
 mod link;
@@ -29,7 +30,8 @@ mod thread_storage;
 
 pub use bounds::{Part, end_of};
 pub use common_lines::CommonLines;
-pub use definitions::{has_value, is_in_thread_section, is_strong};
+pub use definition_list::Definitions;
+pub use definitions::{has_value, is_in_thread_section};
 pub use inputs::{read_map, read_plan};
 pub use link::{Link, base_of, entry_of};
 pub use linker_names::{fixed_bound, is_mangled, named_output, output_bound};

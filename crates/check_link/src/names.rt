@@ -9,13 +9,14 @@ ghost use Rattle.check_load.specs.Numbered.{AreNumbered, name_at};
 ghost use Rattle.check_load.specs.Views.{loaded_views};
 ghost use Rattle.check_link.specs.Chosen.{AreChosen, AreOtherChoices, AreOwnChoices, IsSized};
 ghost use Rattle.check_link.specs.NameIndex.{IsBlockIndex};
-ghost use Rattle.check_link.specs.Views.{block_view, block_views, meaning_view, symbol_view, symbol_views};
+ghost use Rattle.check_link.specs.Views.{block_view, block_views, meaning_view, symbol_view};
 
 use crate::chosen_definitions::{
     Chosen, definition_at, definition_of, index_names, is_chosen, number_at, own_choices,
 };
 use crate::commons::{are_sound_commons, blocks_of, index_blocks};
-use crate::definitions::{definitions_of, is_common};
+use crate::definition_list::Definitions;
+use crate::definitions::is_common;
 use crate::numbering::Numbering;
 use crate::things::{Block, Meaning, SymbolOf};
 use check_load::{Loaded, NameTable};
@@ -28,7 +29,7 @@ use std::marker::Model;
 #[derive(Drop)]
 pub struct Names<'l, 'a> {
     objects: &'l [Loaded<'a>],
-    definitions: Vec<SymbolOf<'a>>,
+    definitions: Definitions<'l, 'a>,
     chosen: Chosen<'a>,
     blocks: Vec<Block<'a>>,
     blocks_by_name: BTreeMap<&'a [u8], Block<'a>>,
@@ -44,7 +45,7 @@ impl<'l, 'a> Model for Names<'l, 'a> {
 
     ghost view = { λ n. loaded_views n.objects.now };
 
-    ghost invariant = { λ n. AreNames n.objects.now (loaded_views n.objects.now) n.definitions.items n.chosen n.blocks.items n.blocks_by_name };
+    ghost invariant = { λ n. AreNames n.objects.now (loaded_views n.objects.now) n.definitions n.chosen n.blocks.items n.blocks_by_name };
 }
 
 /// The common blocks, in load order and by their names.
@@ -52,13 +53,13 @@ fn found_blocks<'a>(
     alloc: Global,
     objects: &[Loaded<'a>],
     chosen: &Chosen<'a>,
-    definitions: &[SymbolOf<'a>],
+    definitions: &Definitions<'_, 'a>,
 ) -> Result<(Vec<Block<'a>>, BTreeMap<&'a [u8], Block<'a>>), AllocError>
     requires sized { IsSized chosen.now }
-    requires definitions { symbol_views definitions.now
+    requires definitions { definitions.now
         ≡ filter is_definition (all_symbols (loaded_views objects.now)) }
     requires chosen { AreChosen (loaded_views objects.now)
-        (symbol_views definitions.now) chosen.now }
+        definitions.now chosen.now }
     ensures blocks { IfOk result (λ r. block_views r.0.items ≡ blocks (loaded_views objects.now)) }
     ensures index { IfOk result (λ r. IsBlockIndex (loaded_views objects.now) r.1) }
 {
@@ -77,7 +78,7 @@ impl<'l, 'a> Names<'l, 'a> {
         requires { AreNumbered names objects.now }
         ensures { IfOk result (λ n. n ≡ loaded_views objects.entry.now) }
     {
-        let definitions = definitions_of(alloc, objects)?;
+        let definitions = Definitions::new(alloc, objects)?;
         let chosen = index_names(alloc, objects, &definitions, names)?;
         let (blocks, blocks_by_name) = found_blocks(alloc, objects, &chosen, &definitions)?;
         Ok(Names {
@@ -107,8 +108,8 @@ impl<'l, 'a> Names<'l, 'a> {
     }
 
     /// The definitions of the objects, strong, common and weak, in load order.
-    pub fn definitions(&self) -> &[SymbolOf<'a>]
-        ensures { symbol_views result.now ≡ filter is_definition (all_symbols self.entry.now) }
+    pub fn definitions(&self) -> &Definitions<'l, 'a>
+        ensures { result.now ≡ filter is_definition (all_symbols self.entry.now) }
     {
         &self.definitions
     }

@@ -20,8 +20,8 @@ ghost use Rattle.check_link.specs.Views.{meaning_view, symbol_view, symbol_views
 
 use crate::targets::Target;
 use check_link::{
-    Meaning, Names, Outputs, Places, SlotTable, SymbolOf, are_sound, fixed_bound, has_value,
-    is_in_thread_section, is_mangled, named_output, output_bound, section_of,
+    Definitions, Meaning, Names, Outputs, Places, SlotTable, SymbolOf, are_sound, fixed_bound,
+    has_value, is_in_thread_section, is_mangled, named_output, output_bound, section_of,
 };
 use check_load::Loaded;
 use elf_model::{Bound, SHN_ABS, SHN_COMMON, SHN_UNDEF, STB_LOCAL, STB_WEAK};
@@ -184,9 +184,8 @@ impl<'l, 'p, 'a> Bindings<'l, 'p, 'a> {
     }
 
     /// The definitions of the objects, strong, common and weak, in load order.
-    pub fn definitions(&self) -> &[SymbolOf<'a>]
-        ensures { symbol_views result.now
-            ≡ filter is_definition (all_symbols self.entry.now.objects) }
+    pub fn definitions(&self) -> &Definitions<'l, 'a>
+        ensures { result.now ≡ filter is_definition (all_symbols self.entry.now.objects) }
     {
         self.names.definitions()
     }

@@ -1,13 +1,13 @@
 -- The symbol lines of a map against the chosen definitions and the linker's names that have one.
 use Rattle.std.proofs.Common.{◌≡◌, ℕ, ◌+◌, Bool, true, false, not, cond, ◌&&◌, ◌||◌, List, [], ◌∷◌, ◌++◌, length, length-append, Option, Some, None, refl, sym, ◌∙◌, ap, subst, arith}
-use Rattle.std.specs.Prelude.{◌↔◌, All, filter, is_some, option_map}
-use Rattle.std.specs.Option.{option_and_then, option_or}
+use Rattle.std.specs.Prelude.{◌↔◌, All, IfSome, IsSome, filter, is_some, option_map}
+use Rattle.std.specs.Option.{option_and_then, option_map_or, option_or}
 use Rattle.std.proofs.lemmas.Bool.{false≢true, or_left}
-use Rattle.std.proofs.lemmas.List.Elements.{All-contains, All-map}
+use Rattle.std.proofs.lemmas.List.Elements.{All-contains}
 use Rattle.std.proofs.lemmas.List.Sorted.{IsPermutation-refl}
 use Rattle.std.proofs.lemmas.Option.{none-some, same_Some}
 use Rattle.elf_model.proofs.ChosenSymbols.{All-kept, all_chosen, unique_from_chosen}
-use Rattle.elf_model.proofs.Listed.{All-from_contains, All-unmap, Contains-filter, Contains-from_filter}
+use Rattle.elf_model.proofs.Listed.{All-from_contains, Contains-filter, Contains-from_filter}
 use Rattle.elf_model.proofs.Listing.{chosen_means, joined_listed}
 use Rattle.elf_model.specs.Link.ChosenSymbols.{chosen_symbols, definitions, is_chosen, is_definition}
 use Rattle.elf_model.specs.Link.LinkerNames.{bound_of}
@@ -17,13 +17,14 @@ use Rattle.elf_model.specs.Link.Listing.{AreLinkerLines, is_used, linker_line}
 use Rattle.elf_model.specs.Link.Loading.{LoadedObject}
 use Rattle.elf_model.specs.Image.MapRecord.{SymbolRow}
 use Rattle.elf_model.specs.Image.MapText.{Ascends, SymbolBefore}
-use Rattle.elf_model.specs.Link.Meaning.{Linker, Meaning, meanings_of, meant, meant_list, object_meaning}
+use Rattle.elf_model.specs.Link.Commons.{block_named, is_common_symbol}
+use Rattle.elf_model.specs.Link.Meaning.{Common, Linker, Meaning, Symbol, meanings_of, meant, meant_list, object_meaning}
 use Rattle.elf_model.specs.Link.Placement.{Where}
 use Rattle.elf_model.specs.Link.Resolution.{AreUnique, SymbolOf, all_symbols, chosen, is_strong, strong_definitions}
 use Rattle.elf_model.specs.Image.RightLink.{HasLine, symbol_row_of}
 use Rattle.elf_model.specs.declared.bound.Bound.{Bound}
 use Rattle.elf_model.specs.declared.link_map.Definition.TheVariants as definition
-use Rattle.check_link.specs.Views.{symbol_view, symbol_views}
+use Rattle.check_link.specs.Views.{symbol_view}
 use Rattle.check_link.specs.declared.things.SymbolOf as code
 use Rattle.check_tables.proofs.CountedLines.{counted_lines}
 use Rattle.check_tables.specs.Listed.{IsChosenIfStrong, IsLine}
@@ -68,22 +69,17 @@ means_linker objects n is = by (chosen objects n) refl is
     by (Some s) e none = absurd (false≢true (sym (ap is_some none) ∙ chosen_means objects n s e))
 
 -- no name has two strong definitions where each strong one is chosen
-pub unique_told :
-    (objects : List LoadedObject) (defined : List code.SymbolOf) → symbol_views defined ≡ definitions objects →
-    All (λ s. IsChosenIfStrong objects (symbol_view s)) defined ↔ AreUnique objects
-unique_told objects defined are = (
+pub unique_told : (objects : List LoadedObject) → All (IsChosenIfStrong objects) (definitions objects) ↔ AreUnique objects
+unique_told objects = (
   λ each. unique_from_chosen objects
       (All-from_contains (λ s. is_chosen objects s ≡ true) (strong_definitions objects) (λ s c.
       let there = Contains-from_filter is_strong (all_symbols objects) s c in
-      All-contains (IsChosenIfStrong objects) (definitions objects) s
-      (subst (All (IsChosenIfStrong objects)) are (All-map (IsChosenIfStrong objects) symbol_view defined each))
+      All-contains (IsChosenIfStrong objects) (definitions objects) s each
       (Contains-filter is_definition (all_symbols objects) s there.0 (or_left (is_strong s) _ there.1)) there.1)),
   λ unique.
       let all = All-kept (λ (x : SymbolOf). is_chosen objects x ≡ true) is_strong (all_symbols objects) (all_chosen objects unique) in
-      All-unmap (IsChosenIfStrong objects) symbol_view defined
-      (subst (All (IsChosenIfStrong objects)) (sym are)
-      (All-from_contains (IsChosenIfStrong objects) (definitions objects) (λ s c.
-      All-contains (IsChosenIfStrong objects) (all_symbols objects) s all (Contains-from_filter is_definition (all_symbols objects) s c).0))),
+      All-from_contains (IsChosenIfStrong objects) (definitions objects) (λ s c.
+      All-contains (IsChosenIfStrong objects) (all_symbols objects) s all (Contains-from_filter is_definition (all_symbols objects) s c).0),
 )
 
 -- one more definition's lines
@@ -111,3 +107,67 @@ linkers_row w n bound row named linkers = (
   λ e i. Some (record { address = sym e i; definition = sym linkers i; name = sym named i }),
   λ e. sym (ap (λ (r : SymbolRow). r.address) (same_Some (symbol_row_of w (Linker n bound)) row e)),
 )
+
+-- A definition at a position.
+-- it has one line where it isn't a common symbol
+pub plain_line : (objects : List LoadedObject) (o : Option SymbolOf) → option_map_or is_common_symbol o false ≡ false → IfSome o (λ s. 1 ≡ length (meant_list objects s))
+plain_line objects None plain = tt
+plain_line objects (Some s) plain =
+    ap (λ (b : Bool). length (option_map_or (λ (m : Meaning). m ∷ []) (cond b (option_map Common (block_named objects s.name)) (Some (Symbol s))) [])) (sym plain)
+
+-- what is told of the symbol that is read there
+pub read_there : (P : SymbolOf → Type 0) (o : Option SymbolOf) (r : code.SymbolOf) → Some (symbol_view r) ≡ o → P (symbol_view r) → IfSome o P
+read_there P o r is holds = subst (λ (x : Option SymbolOf). IfSome x P) is holds
+
+-- the lines of one that is chosen, and of one that isn't
+pub chosen_lines :
+    (objects : List LoadedObject) (o : Option SymbolOf) (n : ℕ) → IfSome o (λ s. true ≡ is_chosen objects s) → IfSome o (λ s. n ≡ length (meant_list objects s)) →
+    IfSome o (λ s. n ≡ length (meanings_of objects (filter (is_chosen objects) (s ∷ []))))
+chosen_lines objects None n is count = tt
+chosen_lines objects (Some s) n is count =
+    let long = length-append (meant_list objects s) [] in
+    let own : length (meanings_of objects (filter (is_chosen objects) (s ∷ []))) ≡ length (meant_list objects s ++ []) =
+    ap (λ (b : Bool). length (meanings_of objects (cond b (s ∷ []) []))) (sym is) in
+    omega (arith, long, own, count)
+
+pub other_lines :
+    (objects : List LoadedObject) (o : Option SymbolOf) → IfSome o (λ s. false ≡ is_chosen objects s) →
+    IfSome o (λ s. 0 ≡ length (meanings_of objects (filter (is_chosen objects) (s ∷ []))))
+other_lines objects None is = tt
+other_lines objects (Some s) is = ap (λ (b : Bool). length (meanings_of objects (cond b (s ∷ []) []))) is
+
+-- whether one is chosen if it is strong
+pub chosen_lawful : (objects : List LoadedObject) (o : Option SymbolOf) → IfSome o (λ s. true ≡ is_chosen objects s) → IfSome o (IsChosenIfStrong objects)
+chosen_lawful objects None is = tt
+chosen_lawful objects (Some s) is = λ strong. sym is
+
+pub plain_lawful : (objects : List LoadedObject) (o : Option SymbolOf) → option_map_or is_strong o false ≡ false → IfSome o (IsChosenIfStrong objects)
+plain_lawful objects None plain = tt
+plain_lawful objects (Some s) plain = λ strong. absurd (false≢true (sym plain ∙ strong))
+
+pub unlawful :
+    (objects : List LoadedObject) (o : Option SymbolOf) → IfSome o (λ s. false ≡ is_chosen objects s) → option_map_or is_strong o false ≡ true →
+    IfSome o (λ s. IsChosenIfStrong objects s → ⊥)
+unlawful objects None is strong = tt
+unlawful objects (Some s) is strong = λ lawful. false≢true (is ∙ lawful strong)
+
+pub if_holds : (P : SymbolOf → Type 0) (o : Option SymbolOf) → IfSome o P → IfSome o (λ s. Unit {0} ↔ P s)
+if_holds P None h = tt
+if_holds P (Some s) h = (λ t. h, λ p. tt)
+
+-- what is told of the lines of the one there is
+pub count_there :
+    (objects : List LoadedObject) (o : Option SymbolOf) (s : SymbolOf) (r : Option ℕ) (n : ℕ) → o ≡ Some s → r ≡ Some n →
+    IfSome o (λ t. IfSome r (λ k. k ≡ length (meanings_of objects (filter (is_chosen objects) (t ∷ []))))) →
+    n ≡ length (meanings_of objects (filter (is_chosen objects) (s ∷ [])))
+count_there objects (Some t) s (Some k) n is told count =
+    sym (same_Some k n told) ∙ (count ∙ ap (λ (x : SymbolOf). length (meanings_of objects (filter (is_chosen objects) (x ∷ [])))) (same_Some t s is))
+count_there objects (Some t) s None n is told count = absurd (none-some n told)
+count_there objects None s r n is told count = absurd (none-some s is)
+
+pub lawful_there :
+    (objects : List LoadedObject) (o : Option SymbolOf) (s : SymbolOf) (r : Option ℕ) (n : ℕ) → o ≡ Some s → r ≡ Some n →
+    IfSome o (λ t. IsSome r ↔ IsChosenIfStrong objects t) → IsChosenIfStrong objects s
+lawful_there objects o s r n is told lawful =
+    let here = subst (λ (x : Option SymbolOf). IfSome x (λ t. IsSome r ↔ IsChosenIfStrong objects t)) is lawful in
+    here.0 (ap is_some told)

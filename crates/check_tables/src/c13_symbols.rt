@@ -13,12 +13,12 @@ ghost use Rattle.elf_model.specs.Link.Resolution.{AreSoundSymbols, AreUnique};
 ghost use Rattle.elf_model.specs.Image.RightLink.{HasLine, Holds, definition_row, objects_of, symbol_row_of};
 ghost use Rattle.check_tables.specs.Listed.{IsChosenIfStrong, IsLine};
 ghost use Rattle.check_link.specs.Chosen.{AreOtherChoices, AreOwnChoices};
-ghost use Rattle.check_link.specs.Views.{meaning_view, symbol_view, symbol_views};
+ghost use Rattle.check_link.specs.Views.{meaning_view, symbol_view};
 ghost use Rattle.check_relocs.specs.LinkerUses.{AreUsed};
 ghost use Rattle.elf_model.specs.declared.verdict.Clause.TheVariants as clause;
 
 use crate::c13_symbols::own_choices::OwnChoices;
-use check_link::{Meaning, SymbolOf, is_strong};
+use check_link::{Definitions, Meaning, SymbolOf};
 use check_relocs::{Bindings, linker_lines, used_names};
 use check_stages::BoundLink;
 use elf_model::{Definition, STB_WEAK};
@@ -52,6 +52,25 @@ fn meaning_count<'a>(bindings: &Bindings<'_, '_, 'a>, symbol: &SymbolOf<'a>) -> 
     }
 }
 
+/// The same of the chosen definition at a position: only a common one is read whole.
+fn meaning_count_at<'a>(
+    bindings: &Bindings<'_, '_, 'a>,
+    definitions: &Definitions<'_, 'a>,
+    position: usize,
+) -> usize
+    ensures few { result ≤ 1 }
+    ensures count { IfSome (slice_get definitions.now position)
+        (λ s. result ≡ length (meant_list bindings.now.objects s)) }
+{
+    if !definitions.is_common(position) {
+        return 1;
+    }
+    match definitions.get(position) {
+        Some(symbol) => meaning_count(bindings, &symbol),
+        None => 0,
+    }
+}
+
 /// The mark at a position, where there is one.
 fn mark_at(own: &[bool], position: usize) -> Option<bool>
     ensures { result ≡ slice_get own.now position }
@@ -59,63 +78,87 @@ fn mark_at(own: &[bool], position: usize) -> Option<bool>
     own.get(position).copied()
 }
 
-/// Whether a definition is the chosen one of its name, which its mark tells. It is looked up where there is none.
-fn is_chosen_by<'a>(
+/// Whether a definition is the chosen one of its name.
+fn is_chosen_at<'a>(
     bindings: &Bindings<'_, '_, 'a>,
-    symbol: &SymbolOf<'a>,
-    mark: Option<bool>,
+    definitions: &Definitions<'_, 'a>,
+    position: usize,
 ) -> bool
-    requires own { mark ≡ Some true → is_chosen bindings.now.objects (symbol_view symbol.now) ≡ true }
-    requires others { mark ≡ Some false
-        → is_chosen bindings.now.objects (symbol_view symbol.now) ≡ false }
-    ensures { result ≡ is_chosen bindings.now.objects (symbol_view symbol.now) }
+    ensures { IfSome (slice_get definitions.now position)
+        (λ s. result ≡ is_chosen bindings.now.objects s) }
 {
-    match mark {
-        Some(mark) => mark,
-        None => bindings.is_chosen(symbol),
+    match definitions.get(position) {
+        Some(symbol) => bindings.is_chosen(&symbol),
+        None => false,
     }
 }
 
-/// How many lines a definition has, which may be the chosen one of its name: one where it is. None where it is a strong one
-/// that isn't.
+/// The same, which its mark tells. It is looked up where there is none.
+fn is_chosen_by<'a>(
+    bindings: &Bindings<'_, '_, 'a>,
+    definitions: &Definitions<'_, 'a>,
+    position: usize,
+    mark: Option<bool>,
+) -> bool
+    requires own { mark ≡ Some true → IfSome (slice_get definitions.now position)
+        (λ s. is_chosen bindings.now.objects s ≡ true) }
+    requires others { mark ≡ Some false → IfSome (slice_get definitions.now position)
+        (λ s. is_chosen bindings.now.objects s ≡ false) }
+    ensures { IfSome (slice_get definitions.now position)
+        (λ s. result ≡ is_chosen bindings.now.objects s) }
+{
+    match mark {
+        Some(mark) => mark,
+        None => is_chosen_at(bindings, definitions, position),
+    }
+}
+
+/// How many lines the definition at a position has, which may be the chosen one of its name: one where it is. None where it
+/// is a strong one that isn't.
 fn line_count<'a>(
     bindings: &Bindings<'_, '_, 'a>,
-    symbol: &SymbolOf<'a>,
+    definitions: &Definitions<'_, 'a>,
+    position: usize,
     chosen: bool,
 ) -> Option<usize>
-    requires { chosen ≡ is_chosen bindings.now.objects (symbol_view symbol.now) }
+    requires { IfSome (slice_get definitions.now position)
+        (λ s. chosen ≡ is_chosen bindings.now.objects s) }
     ensures few { IfSome result (λ n. n ≤ 1) }
-    ensures count { IfSome result (λ n. n
+    ensures count { IfSome (slice_get definitions.now position) (λ s. IfSome result (λ n. n
         ≡ length (meanings_of bindings.now.objects
-        (filter (is_chosen bindings.now.objects) (symbol_view symbol.now ∷ [])))) }
-    ensures lawful { IsSome result ↔ IsChosenIfStrong bindings.now.objects
-        (symbol_view symbol.now) }
+        (filter (is_chosen bindings.now.objects) (s ∷ []))))) }
+    ensures lawful { IfSome (slice_get definitions.now position)
+        (λ s. IsSome result ↔ IsChosenIfStrong bindings.now.objects s) }
 {
     if chosen {
-        return Some(meaning_count(bindings, symbol));
+        return Some(meaning_count_at(bindings, definitions, position));
     }
-    if is_strong(symbol) { None } else { Some(0) }
+    if definitions.is_strong(position) {
+        None
+    } else {
+        Some(0)
+    }
 }
 
 /// How many lines all definitions have together; None where a strong one isn't chosen. Those that have a mark are chosen for
 /// their own names, and those whose mark isn't set aren't.
 fn chosen_count<'a>(
     bindings: &Bindings<'_, '_, 'a>,
-    definitions: &[SymbolOf<'a>],
+    definitions: &Definitions<'_, 'a>,
     own: &[bool],
 ) -> Option<usize>
-    requires own { AreOwnChoices bindings.now.objects (symbol_views definitions.now) own.now }
-    requires others { AreOtherChoices bindings.now.objects (symbol_views definitions.now) own.now }
+    requires own { AreOwnChoices bindings.now.objects definitions.now own.now }
+    requires others { AreOtherChoices bindings.now.objects definitions.now own.now }
     ensures count { IfSome result (λ n. n
         ≡ length (meanings_of bindings.now.objects
-        (filter (is_chosen bindings.now.objects) (symbol_views definitions.now)))) }
+        (filter (is_chosen bindings.now.objects) definitions.now))) }
     ensures unique { IsSome result
-        ↔ All (λ s. IsChosenIfStrong bindings.now.objects (symbol_view s)) definitions.now }
+        ↔ All (IsChosenIfStrong bindings.now.objects) definitions.now }
 {
     let mut count = 0;
-    for (i, symbol) in definitions.iter().enumerate() {
-        let chosen = is_chosen_by(bindings, symbol, mark_at(own, i));
-        let Some(more) = line_count(bindings, symbol, chosen) else {
+    for i in 0..definitions.len() {
+        let chosen = is_chosen_by(bindings, definitions, i, mark_at(own, i));
+        let Some(more) = line_count(bindings, definitions, i, chosen) else {
             return None;
         };
         count += more;
@@ -268,7 +311,7 @@ pub fn meaning_of_line<'a>(
         ≡ object_meaning bindings.now.objects (cow_slice_items line.now.name) }
 {
     match choices.find(line) {
-        Some(symbol) => bindings.meant(symbol),
+        Some(symbol) => bindings.meant(&symbol),
         None => bindings.object_meaning(&line.name),
     }
 }

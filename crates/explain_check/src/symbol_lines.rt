@@ -117,7 +117,7 @@ fn missing_definition<'a>(listing: &Listing<'_, '_, 'a>, k: usize) -> Failure<'a
 {
     let bindings = listing.bound.bindings();
     let symbol = bindings.definitions().get(k)?;
-    if !bindings.is_chosen(symbol) {
+    if !bindings.is_chosen(&symbol) {
         return None;
     }
     missing(listing, symbol.name)

@@ -7,10 +7,10 @@ ghost use Rattle.elf_model.specs.Link.Resolution.{all_symbols, chosen};
 ghost use Rattle.check_link.specs.Views.{symbol_view};
 ghost use Rattle.check_link.specs.Chosen.{AreOwnChoices};
 
-use check_link::SymbolOf;
+use check_link::{Definitions, SymbolOf};
 use check_load::{Loaded, filled};
 use check_relocs::Bindings;
-use elf_model::Definition;
+use elf_model::{Definition, SymbolRef};
 use linkmap::BorrowedSymbol;
 use std::alloc::{AllocError, Global};
 use std::marker::Model;
@@ -20,7 +20,7 @@ use std::marker::Model;
 #[derive(Drop)]
 pub struct OwnChoices<'b, 'a> {
     objects: &'b [Loaded<'a>],
-    definitions: &'b [SymbolOf<'a>],
+    definitions: &'b Definitions<'b, 'a>,
     own: Vec<bool>,
     positions: Vec<Vec<u32>>,
 }
@@ -36,12 +36,12 @@ impl<'b, 'a> Model for OwnChoices<'b, 'a> {
 
     ghost view = { λ c. loaded_views c.objects.now };
 
-    ghost invariant = { λ c. AreOwnChoices (loaded_views c.objects.now) (symbol_views c.definitions.now) c.own.items };
+    ghost invariant = { λ c. AreOwnChoices (loaded_views c.objects.now) c.definitions.now c.own.items };
 }
 
 /// Notes the position of a symbol at its numbers.
-fn note_position(positions: &mut [Vec<u32>], symbol: &SymbolOf<'_>, position: u32) {
-    let (object, number) = (symbol.object as usize, symbol.number as usize);
+fn note_position(positions: &mut [Vec<u32>], symbol: SymbolRef, position: u32) {
+    let (object, number) = (symbol.object.0 as usize, symbol.symbol as usize);
     if object < positions.len() && number < positions[object].len() {
         positions[object][number] = position;
     }
@@ -51,14 +51,14 @@ fn note_position(positions: &mut [Vec<u32>], symbol: &SymbolOf<'_>, position: u3
 fn positions_of(
     alloc: Global,
     objects: &[Loaded<'_>],
-    symbols: &[SymbolOf<'_>],
+    definitions: &Definitions<'_, '_>,
 ) -> Result<Vec<Vec<u32>>, AllocError> {
     let mut positions = Vec::with_capacity(alloc, objects.len())?;
     for loaded in objects {
         positions.push(filled(alloc, u32::MAX, loaded.object.symbols().len())?)?;
     }
-    for (i, symbol) in symbols.iter().enumerate() {
-        if let Ok(position) = u32::try_from(i) {
+    for i in 0..definitions.len() {
+        if let (Some(symbol), Ok(position)) = (definitions.numbers(i), u32::try_from(i)) {
             note_position(&mut positions, symbol, position);
         }
     }
@@ -83,16 +83,6 @@ fn is_marked(own: &[bool], position: usize) -> bool
         Some(mark) => *mark,
         None => false,
     }
-}
-
-/// The definition at a position.
-fn definition_at<'b, 'a>(
-    definitions: &'b [SymbolOf<'a>],
-    position: usize,
-) -> Option<&'b SymbolOf<'a>>
-    ensures { option_copied result ≡ slice_get definitions.entry.now position }
-{
-    definitions.get(position)
 }
 
 impl<'b, 'a> OwnChoices<'b, 'a> {
@@ -125,15 +115,15 @@ impl<'b, 'a> OwnChoices<'b, 'a> {
     }
 
     /// The chosen definition of a line's name, where the line names it; None where that isn't known.
-    pub fn find(&self, line: &BorrowedSymbol<'_>) -> Option<&'b SymbolOf<'a>>
+    pub fn find(&self, line: &BorrowedSymbol<'_>) -> Option<SymbolOf<'a>>
         ensures { IfSome result (λ s. chosen self.now (cow_slice_items line.now.name)
-            ≡ Some (symbol_view s.now)) }
+            ≡ Some (symbol_view s)) }
     {
         let position = self.position(line)?;
         if !is_marked(&self.own, position) {
             return None;
         }
-        let symbol = definition_at(self.definitions, position)?;
+        let symbol = self.definitions.get(position)?;
         if symbol.name != line.name.as_slice() {
             return None;
         }

@@ -8,7 +8,6 @@ use Rattle.elf_model.specs.Link.Resolution.{SymbolOf, all_symbols, has_name, is_
 use Rattle.check_load.specs.NameNumbers.{number_of}
 use Rattle.check_load.specs.Views.{loaded_views}
 use Rattle.check_link.specs.Chosen.{first_from, position_at}
-use Rattle.check_link.specs.Views.{symbol_views}
 use Rattle.check_link.proofs.Defined.{common_defined, strong_defined, weak_defined}
 use Rattle.check_load.proofs.NumberedNames.{still_numbered}
 use Rattle.check_link.proofs.Hints.{definitions_hinted}
@@ -34,7 +33,7 @@ passes o a b c r s t none first_is second_is third_is =
 
 pub returns-clause-chosen : goal.returns-clause-chosen
 returns-clause-chosen c = λ name.
-    let ss = symbol_views c.args.definitions.now in
+    let ss = c.args.definitions.now in
     let all = all_symbols (loaded_views c.args.objects.now) in
     let strong = λ (s : SymbolOf). is_strong s && has_name name s in
     let common = λ (s : SymbolOf). is_common_definition s && has_name name s in
@@ -61,7 +60,7 @@ returns-clause-own c =
     (c.in_ok-add_first.ensures.own (λ n p s at there. absurd (none-some p (sym (ap (λ (ps : List (Option ℕ)). position_at ps n) c.new.ensures.items) ∙ at)))))
 
 pub add_first-requires-clause-hinted : goal.add_first-requires-clause-hinted
-add_first-requires-clause-hinted c = definitions_hinted c.args.names c.args.objects.now (symbol_views c.args.definitions.now) c.requires.definitions c.requires.numbered
+add_first-requires-clause-hinted c = definitions_hinted c.args.names c.args.objects.now c.args.definitions.now c.requires.definitions c.requires.numbered
 
 pub returns-clause-numbered : goal.returns-clause-numbered
 returns-clause-numbered c =

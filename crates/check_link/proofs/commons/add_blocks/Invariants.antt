@@ -9,5 +9,5 @@ use Rattle.check_link.proofs.commons.add_blocks.Given as goal
 abbrev pub invariant-loop-symbol : goal.invariant-loop-symbol
 invariant-loop-symbol l =
     block_views l.blocks.items
-    ++ blocks_from (loaded_views l.objects) (length l.blocks.items) (filter (is_block_symbol l.chosen (symbol_views l.definitions)) (symbol_views (drop l.symbol-index l.definitions)))
-    ≡ blocks_from (loaded_views l.objects) 0 (filter (is_block_symbol l.chosen (symbol_views l.definitions)) (symbol_views l.definitions))
+    ++ blocks_from (loaded_views l.objects) (length l.blocks.items) (filter (is_block_symbol l.chosen l.definitions) (symbol_views (drop l.symbol-index l.commons)))
+    ≡ blocks_from (loaded_views l.objects) 0 (filter (is_block_symbol l.chosen l.definitions) (symbol_views l.commons))

@@ -6,9 +6,9 @@ use Rattle.check_link.proofs.commons.asked_of.Given as goal
 abbrev pub invariant-loop-symbol : goal.invariant-loop-symbol
 invariant-loop-symbol l = record {
   sizes :
-      (name : List ℕ) → max (asked_in (λ a. a.size) l.asked name) (greatest_given given_size name (symbol_views (drop l.symbol-index l.definitions)))
-      ≡ greatest_given given_size name (symbol_views l.definitions);
+      (name : List ℕ) → max (asked_in (λ a. a.size) l.asked name) (greatest_given given_size name (symbol_views (drop l.symbol-index l.commons)))
+      ≡ greatest_given given_size name (symbol_views l.commons);
   aligns :
-      (name : List ℕ) → max (asked_in (λ a. a.align) l.asked name) (greatest_given given_align name (symbol_views (drop l.symbol-index l.definitions)))
-      ≡ greatest_given given_align name (symbol_views l.definitions);
+      (name : List ℕ) → max (asked_in (λ a. a.align) l.asked name) (greatest_given given_align name (symbol_views (drop l.symbol-index l.commons)))
+      ≡ greatest_given given_align name (symbol_views l.commons);
 }

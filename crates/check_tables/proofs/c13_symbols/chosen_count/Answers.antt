@@ -1,38 +1,39 @@
-use Rattle.std.proofs.Common.{◌≡◌, ◌+◌, ℕ, refl, List, ap, arith, drop, get_or, length, sym, ◌∙◌}
+use Rattle.std.proofs.Common.{◌≡◌, ◌+◌, ◌<◌, ℕ, List, ap, arith, drop, length, subst, sym, ◌∙◌}
 use Rattle.std.specs.Prelude.{All, filter}
-use Rattle.elf_model.proofs.Rests.{all_more, rest_at}
+use Rattle.std.proofs.lemmas.Option.{get_or_from_slice_get}
+use Rattle.elf_model.proofs.Rests.{all_more}
 use Rattle.elf_model.specs.Link.ChosenSymbols.{is_chosen}
 use Rattle.elf_model.specs.Link.Meaning.{meanings_of}
+use Rattle.elf_model.specs.Link.Resolution.{SymbolOf}
 use Rattle.check_tables.specs.Listed.{IsChosenIfStrong}
-use Rattle.check_link.specs.Views.{symbol_view, symbol_views}
-use Rattle.check_link.specs.declared.things.SymbolOf as code
-use Rattle.check_link.proofs.Positions.{viewed_at}
-use Rattle.check_tables.proofs.OwnChoices.{chosen_itself}
-use Rattle.check_tables.proofs.SymbolLines.{more_lines}
+use Rattle.check_link.proofs.Positions.{drop_there, get_or_some}
+use Rattle.check_tables.proofs.OwnChoices.{other_there, own_there}
+use Rattle.check_tables.proofs.SymbolLines.{count_there, lawful_there, more_lines}
 use Rattle.check_tables.proofs.c13_symbols.chosen_count.Goals as goal
 
 pub is_chosen_by-chosen-requires-clause-own : goal.is_chosen_by-chosen-requires-clause-own
 is_chosen_by-chosen-requires-clause-own c = λ e.
-    chosen_itself c.args.bindings.now.objects _
-    (c.requires.own c.loop-i.i _ (sym c.mark_at.ensures ∙ e) (viewed_at c.args.definitions.now c.loop-i.i _ c.loop-i-test.true))
+    own_there c.args.bindings.now.objects c.args.definitions.now c.args.own.now c.loop-i.i c.requires.own (sym c.mark_at.ensures ∙ e)
 
 pub is_chosen_by-chosen-requires-clause-others : goal.is_chosen_by-chosen-requires-clause-others
 is_chosen_by-chosen-requires-clause-others c = λ e.
-    c.requires.others c.loop-i.i _ (sym c.mark_at.ensures ∙ e) (viewed_at c.args.definitions.now c.loop-i.i _ c.loop-i-test.true)
+    other_there c.args.bindings.now.objects c.args.definitions.now c.args.own.now c.loop-i.i c.requires.others (sym c.mark_at.ensures ∙ e)
 
 pub loop-i-preserved : goal.loop-i-preserved
 loop-i-preserved c =
     let L = c.args.bindings.now.objects in
     let xs = c.args.definitions.now in
     let i = c.loop-i.i in
-    let here = get_or xs i _ in
-    let rest = symbol_views (drop (i + 1) xs) in
+    let within : i < length xs = omega (arith, c.loop-i-test.true, c.len-i-end.ensures) in
+    let some = get_or_some xs i within in
+    let here = some.0 in
+    let rest = drop (i + 1) xs in
     let few = rw c.in-Some.is at c.line_count.ensures.few in
-    let own = rw c.in-Some.is at c.line_count.ensures.count in
-    let lawful = rw c.in-Some.is at c.line_count.ensures.lawful in
-    let split : length (meanings_of L (filter (is_chosen L) (symbol_views (drop i xs)))) ≡ c.in-Some.more + length (meanings_of L (filter (is_chosen L) rest)) =
-    ap (λ (ys : List code.SymbolOf). length (meanings_of L (filter (is_chosen L) (symbol_views ys)))) (rest_at xs i _ c.loop-i-test.true)
-    ∙ more_lines L (symbol_view here) rest
+    let own = count_there L _ here c.line_count.result c.in-Some.more some.1 c.in-Some.is c.line_count.ensures.count in
+    let lawful = lawful_there L _ here c.line_count.result c.in-Some.more some.1 c.in-Some.is c.line_count.ensures.lawful in
+    let split : length (meanings_of L (filter (is_chosen L) (drop i xs))) ≡ c.in-Some.more + length (meanings_of L (filter (is_chosen L) rest)) =
+    ap (λ (ys : List SymbolOf). length (meanings_of L (filter (is_chosen L) ys))) (drop_there xs i here some.1)
+    ∙ more_lines L here rest
     ∙ ap (λ (n : ℕ). n + length (meanings_of L (filter (is_chosen L) rest))) (sym own) in
     let before = c.loop-i.invariant.few in
     let whole = c.loop-i.invariant.count in
@@ -40,6 +41,6 @@ loop-i-preserved c =
       few = omega (arith, few, before);
       count = omega (arith, split, whole);
       unique =
-          all_more (All (λ (s : code.SymbolOf). IsChosenIfStrong L (symbol_view s)) xs) (λ (s : code.SymbolOf). IsChosenIfStrong L (symbol_view s)) xs i _
-          c.loop-i-test.true (lawful.0 refl) c.loop-i.invariant.unique;
+          all_more (All (IsChosenIfStrong L) xs) (IsChosenIfStrong L) xs i here
+          within (subst (IsChosenIfStrong L) (sym (get_or_from_slice_get xs i here here some.1)) lawful) c.loop-i.invariant.unique;
     }

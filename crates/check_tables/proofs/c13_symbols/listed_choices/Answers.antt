@@ -3,15 +3,15 @@ use Rattle.std.proofs.lemmas.Bool.{false≢true}
 use Rattle.std.proofs.lemmas.List.{length-map}
 use Rattle.std.proofs.lemmas.List.Elements.{All-map}
 use Rattle.elf_model.proofs.Listed.{All-unmap}
-use Rattle.std.specs.Prelude.{filter}
+use Rattle.std.specs.Prelude.{All, filter}
 use Rattle.elf_model.specs.Link.ChosenSymbols.{is_chosen}
 use Rattle.linkmap.specs.Borrowed.{symbol_row}
 use Rattle.elf_model.specs.Link.Meaning.{meanings_of}
 use Rattle.elf_model.specs.Link.Resolution.{SymbolOf}
-use Rattle.check_link.specs.Views.{meaning_view, meaning_views, symbol_views}
+use Rattle.check_link.specs.Views.{meaning_view, meaning_views}
 use Rattle.check_tables.proofs.SymbolLines.{listed, unique_told}
 use Rattle.check_link.specs.Chosen.{AreOtherChoices, AreOwnChoices}
-use Rattle.check_tables.specs.Listed.{IsLine}
+use Rattle.check_tables.specs.Listed.{IsChosenIfStrong, IsLine}
 use Rattle.check_tables.proofs.c13_symbols.listed_choices.Goals as goal
 
 pub returns-in_default-clause-listed : goal.returns-in_default-clause-listed
@@ -19,7 +19,7 @@ returns-in_default-clause-listed c =
     let L = c.args.bindings.now.objects in
     let told = rw c.in_default.is at c.chosen_count.ensures.unique in (
       λ t. absurd (false≢true t),
-      λ h. absurd (false≢true (told.1 ((unique_told L c.definitions-definitions.result.now c.definitions-definitions.ensures).1 h.1))),
+      λ h. absurd (false≢true (told.1 (subst (All (IsChosenIfStrong L)) (sym c.definitions-definitions.ensures) ((unique_told L).1 h.1)))),
     )
 
 pub returns-then-not-is_sum-clause-listed : goal.returns-then-not-is_sum-clause-listed
@@ -55,7 +55,7 @@ returns-clause-listed c =
     let rows = map symbol_row c.args.lines.now in
     let count = rw c.in-Some.is at c.chosen_count.ensures.count in
     let told = rw c.in-Some.is at c.chosen_count.ensures.unique in
-    let unique = (unique_told L c.definitions-definitions.result.now c.definitions-definitions.ensures).0 (told.0 refl) in
+    let unique = (unique_told L).0 (subst (All (IsChosenIfStrong L)) c.definitions-definitions.ensures (told.0 refl)) in
     let own = count ∙ ap (λ (ss : List SymbolOf). length (meanings_of L (filter (is_chosen L) ss))) c.definitions-definitions.ensures in
     let lines = listed L w rows (meaning_views c.in_ok-linkers.linkers.items) c.in-Some.count c.in_ok-linkers.ensures c.requires own in
     let a = length-map c.args.lines.now symbol_row in
@@ -69,11 +69,11 @@ returns-clause-listed c =
 pub chosen_count-requires-clause-own : goal.chosen_count-requires-clause-own
 chosen_count-requires-clause-own c =
     let L = c.args.bindings.now.objects in
-    subst (λ (marks : List Bool). AreOwnChoices L (symbol_views c.definitions-definitions.result.now) marks) (sym c.deref.ensures.value)
+    subst (λ (marks : List Bool). AreOwnChoices L c.definitions-definitions.result.now marks) (sym c.deref.ensures.value)
     (subst (λ (ss : List SymbolOf). AreOwnChoices L ss c.in_ok-own.own.items) (sym c.definitions-definitions.ensures) c.in_ok-own.ensures.own)
 
 pub chosen_count-requires-clause-others : goal.chosen_count-requires-clause-others
 chosen_count-requires-clause-others c =
     let L = c.args.bindings.now.objects in
-    subst (λ (marks : List Bool). AreOtherChoices L (symbol_views c.definitions-definitions.result.now) marks) (sym c.deref.ensures.value)
+    subst (λ (marks : List Bool). AreOtherChoices L c.definitions-definitions.result.now marks) (sym c.deref.ensures.value)
     (subst (λ (ss : List SymbolOf). AreOtherChoices L ss c.in_ok-own.own.items) (sym c.definitions-definitions.ensures) c.in_ok-own.ensures.others)

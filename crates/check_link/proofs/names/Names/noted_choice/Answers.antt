@@ -7,8 +7,6 @@ use Rattle.check_load.specs.NameNumbers.{number_of}
 use Rattle.check_load.specs.Numbered.{name_at}
 use Rattle.check_load.specs.Views.{loaded_views}
 use Rattle.check_link.specs.Chosen.{position_at}
-use Rattle.check_link.specs.Views.{symbol_views}
-use Rattle.check_link.specs.declared.things.SymbolOf as code
 use Rattle.check_link.proofs.Hints.{choice_told, hinted_number}
 use Rattle.check_link.proofs.names.Names.noted_choice.Goals as goal
 
@@ -24,7 +22,6 @@ returns c =
     let number : k ≡ number_of names.chosen.names (name_at o.bytes c.args.number) =
     hinted_number names.chosen.names names.objects.now c.args.object c.args.number k o are.numbered there (sym c.number_at.ensures ∙ c.in_ok-known.was) in
     c.definition_at.ensures
-    ∙ ap (λ (ds : List code.SymbolOf). option_and_then (slice_get (symbol_views ds)) (position_at names.chosen.positions.items k)) c.deref.ensures.value
-    ∙ ap (λ (n : ℕ). option_and_then (slice_get (symbol_views names.definitions.items)) (position_at names.chosen.positions.items n)) number
+    ∙ ap (λ (n : ℕ). option_and_then (slice_get names.definitions) (position_at names.chosen.positions.items n)) number
     ∙ are.chosen_are (name_at o.bytes c.args.number)
     ∙ ap (λ (os : List LoadedObject). chosen os (name_at o.bytes c.args.number)) c.self.view_is)

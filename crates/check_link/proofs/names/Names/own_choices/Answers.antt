@@ -4,7 +4,6 @@ use Rattle.elf_model.specs.Link.Loading.{LoadedObject}
 use Rattle.elf_model.specs.Link.Resolution.{SymbolOf}
 use Rattle.check_load.specs.Views.{loaded_views}
 use Rattle.check_link.specs.Chosen.{AreOtherChoices}
-use Rattle.check_link.specs.Views.{symbol_views}
 use Rattle.check_link.proofs.SymbolNumbers.{unmarked_unchosen}
 use Rattle.check_link.proofs.names.Names.own_choices.Goals as goal
 
@@ -16,4 +15,4 @@ returns-clause-others c =
     let marks = c.in_ok-marks.marks.items in
     subst (λ (os : List LoadedObject). AreOtherChoices os (definitions os) marks) c.self.view_is
     (subst (λ (ss : List SymbolOf). AreOtherChoices L ss marks) are.definitions_are
-    (unmarked_unchosen L (symbol_views names.definitions.items) names.chosen marks are.definitions_are are.chosen_are c.in_ok-marks.ensures.all))
+    (unmarked_unchosen L names.definitions names.chosen marks are.definitions_are are.chosen_are c.in_ok-marks.ensures.all))

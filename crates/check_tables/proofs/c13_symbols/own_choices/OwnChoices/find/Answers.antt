@@ -8,6 +8,6 @@ use Rattle.check_tables.proofs.c13_symbols.own_choices.OwnChoices.find.Goals as 
 
 pub returns : goal.returns
 returns c =
-    subst (λ (L : List LoadedObject). chosen L (cow_slice_items c.args.line.now.name) ≡ Some (symbol_view c.in_ok-symbol.symbol.now)) c.self.view_is
-    (own_found _ c.self.inside.definitions.now c.self.inside.own.items c.in_ok-position.position c.in_ok-symbol.symbol.now (cow_slice_items c.args.line.now.name) c.self.invariant
+    subst (λ (L : List LoadedObject). chosen L (cow_slice_items c.args.line.now.name) ≡ Some (symbol_view c.in_ok-symbol.symbol)) c.self.view_is
+    (own_found _ c.self.inside.definitions.now c.self.inside.own.items c.in_ok-position.position c.in_ok-symbol.symbol (cow_slice_items c.args.line.now.name) c.self.invariant
     (search rules) (search rules) (search rules))
