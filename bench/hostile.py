@@ -19,11 +19,11 @@
     group-order   a group of 10,000 archives, each of which asks for the one before it: a round loads one
     flooded       16,000 symbols with slots, common symbols, signatures, output sections and names of an index each, whose
                   names collide where they are hashed from the seed that everybody knows
+    local-slots   100,000 LOCAL symbols whose names are ends of one text of 10 MB, each with a slot of the GOT
 
-Three more grow faster than their bytes, for reasons that docs/BENCHMARKS.md gives. They run only where they are named,
+Two more grow faster than their bytes, for reasons that docs/BENCHMARKS.md gives. They run only where they are named,
 are small, and have no limit:
 
-    local-slots   20,000 LOCAL symbols whose names are ends of one text of 2 MB, each with a slot of the GOT
     weak-ends     5,000 weak symbols without a definition whose names are ends of one text of 500 kB
     products      400 directories, none of them there, and as many -l of names that only a last one has
 
@@ -378,10 +378,10 @@ INPUTS = {
     "group-names": (group_names, 2_000),
     "group-order": (group_order, 10_000),
     "flooded": (flooded, 16_000),
+    "local-slots": (local_slots, 100_000),
 }
 
 NOT_LINEAR = {
-    "local-slots": (local_slots, 20_000),
     "weak-ends": (weak_ends, 5_000),
     "products": (products, 400),
 }

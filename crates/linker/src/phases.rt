@@ -278,7 +278,7 @@ fn whole_parts<'a>(
     requires entry { EntersAt loaded.now.plan loaded.now.objects (meaning_view entry.now) }
     ensures { IfOk result (AreParts loaded.now) }
 {
-    let values = slot_values(alloc, &resolved, &placement, &slots)?;
+    let values = slot_values(alloc, loaded, &resolved, &placement, &slots)?;
     Ok(parts_of(
         loaded, resolved, linkers, tabled, placement, slots, values, patches, entry,
     ))

@@ -127,7 +127,7 @@ fn chosen_value<'a>(
 }
 
 /// What symbol `j` of object `number` is worth, which is LOCAL: it is used itself.
-fn local_value(
+pub fn local_value(
     resolved: &Resolved<'_>,
     placement: &Placement<'_>,
     number: usize,
