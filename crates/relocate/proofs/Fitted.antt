@@ -1,28 +1,28 @@
--- What is left to fit of relocations of known kinds.
+-- What is left to fit of relocations that get patches.
 use Rattle.std.proofs.Common.{◌≡◌, List, [], ◌∷◌, ◌++◌, Err, IfErr, Result, subst, sym}
-use Rattle.std.specs.Prelude.{All, IsSome}
+use Rattle.std.specs.Prelude.{All}
 use Rattle.std.proofs.lemmas.List.Elements.{All-append, All-cons, All-head, All-nil}
 use Rattle.elf_model.proofs.Listed.{All-parts}
 use Rattle.elf_model.specs.Link.Loading.{LoadedObject}
 use Rattle.elf_model.specs.Link.Placement.{Where}
-use Rattle.elf_model.specs.Link.Relocation.{Relocation, relocation_kind}
+use Rattle.elf_model.specs.Link.Relocation.{Relocation}
 use Rattle.elf_model.specs.Link.RelocationValues.{Fits}
 use Rattle.relocate.specs.declared.faults.RelocFault.{RelocFault}
 use Rattle.relocate.specs.declared.faults.RelocFault.TheVariants as error
-use Rattle.relocate.specs.Values.{FittingFails}
+use Rattle.relocate.specs.Values.{FittingFails, IsPatchable}
 
 pub record LeavesToFit (objects : List LoadedObject) (w : Where) (whole rest : List Relocation) : Type 0 where
   pub fit : All (Fits objects w) rest → All (Fits objects w) whole
   pub back : All (Fits objects w) whole → All (Fits objects w) rest
-  pub known : All (λ r. IsSome (relocation_kind r)) rest
+  pub patchable : All IsPatchable rest
 
 pub fit_all :
-    (objects : List LoadedObject) (w : Where) (whole rest : List Relocation) → rest ≡ whole → All (λ r. IsSome (relocation_kind r)) whole →
+    (objects : List LoadedObject) (w : Where) (whole rest : List Relocation) → rest ≡ whole → All IsPatchable whole →
     LeavesToFit objects w whole rest
-fit_all objects w whole rest same known = record {
+fit_all objects w whole rest same patchable = record {
   fit = λ all. subst (All (Fits objects w)) same all;
   back = λ all. subst (All (Fits objects w)) (sym same) all;
-  known = subst (All (λ (r : Relocation). IsSome (relocation_kind r))) (sym same) known;
+  patchable = subst (All IsPatchable) (sym same) patchable;
 }
 
 pub fit_part :
@@ -33,15 +33,15 @@ fit_part objects w whole rest here more parts fits l =
     record {
       fit = λ all. k.fit (All-append (Fits objects w) here more fits all);
       back = λ all. (All-parts (Fits objects w) here more (k.back all)).1;
-      known = (All-parts (λ (r : Relocation). IsSome (relocation_kind r)) here more k.known).1;
+      patchable = (All-parts IsPatchable here more k.patchable).1;
     }
 
--- the part in front has known kinds
-pub known_part :
+-- the part in front gets patches
+pub patchable_part :
     (objects : List LoadedObject) (w : Where) (whole rest here more : List Relocation) → rest ≡ here ++ more →
-    LeavesToFit objects w whole rest → All (λ r. IsSome (relocation_kind r)) here
-known_part objects w whole rest here more parts l =
-    let k = subst (LeavesToFit objects w whole) parts l in (All-parts (λ (r : Relocation). IsSome (relocation_kind r)) here more k.known).0
+    LeavesToFit objects w whole rest → All IsPatchable here
+patchable_part objects w whole rest here more parts l =
+    let k = subst (LeavesToFit objects w whole) parts l in (All-parts IsPatchable here more k.patchable).0
 
 pub fitting_fails :
     (objects : List LoadedObject) (w : Where) (whole rest here more : List Relocation) (e : RelocFault) → rest ≡ here ++ more →

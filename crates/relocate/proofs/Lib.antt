@@ -13,4 +13,5 @@ pub mod Wanted
 pub mod WantedParts
 pub mod LinkerMeanings
 pub mod LocalReferences
+pub mod ShortFields
 pub mod SymbolTables

@@ -1,6 +1,6 @@
 -- The rows of patches of all objects: as they are collected, and the fields of each.
 use Rattle.std.proofs.Common.{◌≡◌, ℕ, ◌+◌, ◌<◌, ◌≤◌, ◌⊎◌, inl, inr, Bool, true, false, List, [], ◌∷◌, ◌++◌, Option, Some, None, Err, IfErr, Result, get_or, length, nat_lt, option_map, refl, subst, sym, ap, ◌∙◌, arith}
-use Rattle.std.specs.Prelude.{All, AllPairs, IsSome, find, unwrap_or}
+use Rattle.std.specs.Prelude.{All, AllPairs, find, unwrap_or}
 use Rattle.std.specs.List.{slice_get}
 use Rattle.std.proofs.lemmas.Bool.{ltb-false, ltb-true}
 use Rattle.std.proofs.lemmas.List.{get_or_append_left, get_or_push, length-append}
@@ -10,7 +10,7 @@ use Rattle.elf_model.specs.Link.Loading.{LoadedObject}
 use Rattle.elf_model.proofs.RelocationFields.{own_object}
 use Rattle.elf_model.specs.Own.OwnLayout.{OwnValuesFit}
 use Rattle.elf_model.specs.Link.Placement.{Where}
-use Rattle.elf_model.specs.Link.Relocation.{AreFieldsApart, AreLawfulRelocations, IsLawfulRelocation, Relocation, is_in_field, relocation_kind, relocations, relocations_from}
+use Rattle.elf_model.specs.Link.Relocation.{AreFieldsApart, AreLawfulRelocations, IsLawfulRelocation, Relocation, is_in_field, relocations, relocations_from}
 use Rattle.elf_model.specs.Link.RelocationValues.{Fits}
 use Rattle.relocate.specs.declared.faults.RelocFault.{RelocFault}
 use Rattle.relocate.specs.declared.faults.RelocFault.TheVariants as error
@@ -152,11 +152,6 @@ row_more objects w n o rows new row pushed there here first = record {
         (sym (ap (λ (v : List ObjectPatches). get_or v k d) pushed ∙ get_or_push rows row d k (first.count ∙ last)))
         (subst (λ (q : LoadedObject). ArePatchRows objects w (relocations_from k q) row) same
         (subst (λ (m : ℕ). ArePatchRows objects w (relocations_from m o) row) last here))
-
--- relocations of known kinds
-pub all_known : (objects : List LoadedObject) → AreLawfulRelocations objects → All (λ r. IsSome (relocation_kind r)) (relocations objects)
-all_known objects lawful =
-    All-weaker (IsLawfulRelocation objects) (λ (r : Relocation). IsSome (relocation_kind r)) (λ r l. l.known) (relocations objects) lawful.each
 
 -- why the values of all objects don't fit
 pub values_fail : (b : Basis) (objects : List LoadedObject) (e : RelocFault) → b.objects ≡ objects → FittingFails objects (where_in b) (relocations objects) e → ValuesFail b e

@@ -1,10 +1,10 @@
 -- The values that relocations want in a layout, as patches, and why there are none.
-use Rattle.std.specs.Prelude.{◌≡◌, ◌==◌, ◌+◌, ◌%◌, ◌^◌, ℕ, Bool, List, [], Some, All, filter, find, length, map, option_map, slice_index, slice_index_or, slice_range, unwrap_or}
+use Rattle.std.specs.Prelude.{◌≡◌, ◌==◌, ◌+◌, ◌%◌, ◌^◌, ◌<◌, ℕ, Bool, List, [], Some, All, IsSome, filter, find, length, map, option_map, slice_index, slice_index_or, slice_range, unwrap_or}
 use Rattle.std.specs.List.{slice_get}
 use Rattle.elf_model.specs.Link.Loading.{LoadedObject}
 use Rattle.elf_model.specs.Own.OwnLayout.{OwnValuesFit, own_where}
 use Rattle.elf_model.specs.Link.Placement.{Where}
-use Rattle.elf_model.specs.Link.Relocation.{AreLawfulRelocations, Relocation, is_in_field, relocations, relocations_from, width_of}
+use Rattle.elf_model.specs.Link.Relocation.{AreLawfulRelocations, Relocation, is_in_field, relocation_kind, relocations, relocations_from, width_of}
 use Rattle.elf_model.specs.Link.RelocationValues.{Fits, value_of}
 use Rattle.elf_model.specs.Link.Slots.{Request, slot_value}
 use Rattle.elf_model.specs.Link.ThreadStorage.{block_in}
@@ -81,3 +81,8 @@ abbrev pub ValuesFail : Basis → RelocFault → Type 0
 ValuesFail b error.Memory = Unit {0}
 ValuesFail b error.Overflow = ¬ OwnValuesFit b.base b.objects
 ValuesFail b _ = ⊥
+
+-- a relocation that gets a patch: it is of a known kind, and its place has 32 bits
+pub record IsPatchable (r : Relocation) : Type 0 where
+  pub known : IsSome (relocation_kind r)
+  pub short : r.entry.r_offset < 2 ^ 32

@@ -1,14 +1,14 @@
 //! The patches of an object, by the sections that they are for.
-ghost use Rattle.std.specs.Prelude.{◌≡◌, ◌≤◌, ◌+◌, ◌++◌, [], All, IfErr, IfOk, IsSome, List, OnOk, length, map};
+ghost use Rattle.std.specs.Prelude.{◌≡◌, ◌<◌, ◌≤◌, ◌+◌, ◌^◌, ◌++◌, [], All, IfErr, IfOk, List, OnOk, length, map};
 ghost use Rattle.std.specs.List.Sorted.{IsNonDecreasingBy};
 ghost use Rattle.elf_model.specs.Link.ArrayOrder.{by_rank};
-ghost use Rattle.elf_model.specs.Link.Relocation.{Relocation, relocation_kind, relocations_from};
+ghost use Rattle.elf_model.specs.Link.Relocation.{Relocation, relocations_from};
 ghost use Rattle.elf_model.specs.Link.RelocationValues.{Fits};
 ghost use Rattle.search.specs.KeptLists.{IsKeptRela, kept_relas, relocations_by, relocations_of_relas};
 ghost use Rattle.relocate.specs.RelaOrders.{target_of};
 ghost use Rattle.relocate.specs.ObjectRows.{HasRows};
 ghost use Rattle.relocate.specs.SymbolTables.{IsValued, all_valued, valued_object, where_of};
-ghost use Rattle.relocate.specs.Values.{ArePatchRows, FittingFails, patch_of};
+ghost use Rattle.relocate.specs.Values.{ArePatchRows, FittingFails, IsPatchable, patch_of};
 
 use crate::faults::RelocFault;
 use crate::object_rows::ObjectPatches;
@@ -20,20 +20,18 @@ use crate::values::{address_or_none, fitting_value};
 use elf_model::Rela;
 use reloc_values::Patch;
 use search::KeptRela;
-use std::alloc::{AllocError, Global};
+use std::alloc::Global;
 
-/// The first byte of an entry's field, in the section that it relocates. That section lies in the image's file, which has
-/// fewer than 2 ^ 32 bytes; as where memory is refused, if it doesn't.
-fn first_byte(entry: &Rela) -> Result<u32, AllocError>
-    ensures { IfOk result (λ n. n ≡ entry.now.r_offset) }
+/// The first byte of an entry's field, in the section that it relocates: a part of an object's file, which has fewer than
+/// 2 ^ 32 bytes.
+fn first_byte(entry: &Rela) -> u32
+    requires { entry.now.r_offset < 2 ^ 32 }
+    ensures { result ≡ entry.now.r_offset }
 {
-    match u32::try_from(entry.r_offset) {
-        Ok(at) => Ok(at),
-        Err(_) => Err(AllocError),
-    }
+    entry.r_offset as u32
 }
 
-/// Adds the patches of a kept RELA section of an object, whose entries are of known kinds. Overflow where a value doesn't fit.
+/// Adds the patches of a kept RELA section of an object, whose entries get patches. Overflow where a value doesn't fit.
 fn add_section(
     valued: &Valued<'_, '_>,
     rela: KeptRela,
@@ -41,7 +39,7 @@ fn add_section(
 ) -> Result<(), RelocFault>
     requires valued { IsValued valued.now }
     requires kept { IsKeptRela (valued_object valued.now) rela }
-    requires known { All (λ r. IsSome (relocation_kind r))
+    requires patchable { All IsPatchable
         (relocations_by valued.now.number (valued_object valued.now) rela) }
     ensures patches { OnOk result (patches.new.items
         ≡ patches.old.items
@@ -58,7 +56,7 @@ fn add_section(
         let Some(fitting) = fitting_value(valued, target, at, &entry) else {
             return Err(RelocFault::Overflow);
         };
-        let place = first_byte(&entry)?;
+        let place = first_byte(&entry);
         patches.push(Patch {
             value: fitting.value,
             at: place,
@@ -76,7 +74,7 @@ fn add_sections(
 ) -> Result<(), RelocFault>
     requires valued { IsValued valued.now }
     requires kept { All (IsKeptRela (valued_object valued.now)) relas.now }
-    requires known { All (λ r. IsSome (relocation_kind r))
+    requires patchable { All IsPatchable
         (relocations_of_relas valued.now.number (valued_object valued.now) relas.now) }
     ensures patches { OnOk result (patches.new.items
         ≡ patches.old.items
@@ -104,7 +102,7 @@ fn add_row(
     requires kept { All (IsKeptRela (valued_object valued.now)) relas.now }
     requires target { All (λ k. k.target ≡ target) relas.now }
     requires later { length rows.old.begins.items ≤ target + 1 }
-    requires known { All (λ r. IsSome (relocation_kind r))
+    requires patchable { All IsPatchable
         (relocations_of_relas valued.now.number (valued_object valued.now) relas.now) }
     ensures rows { OnOk result ((done : List Relocation) →
         HasRows (all_valued valued.now) (where_of valued.now) done rows.old
@@ -134,7 +132,7 @@ fn add_rows(
     requires valued { IsValued valued.now }
     requires kept { All (IsKeptRela (valued_object valued.now)) relas.now }
     requires rises { IsNonDecreasingBy target_of relas.now }
-    requires known { All (λ r. IsSome (relocation_kind r))
+    requires patchable { All IsPatchable
         (relocations_of_relas valued.now.number (valued_object valued.now) relas.now) }
     requires none { rows.old.patches.items ≡ [] }
     requires nowhere { rows.old.begins.items ≡ [] }
@@ -155,7 +153,7 @@ fn add_rows(
     Ok(())
 }
 
-/// The patches of an object whose relocations are of known kinds, and whose kept RELA sections these are, in the order of the
+/// The patches of an object whose relocations get patches, and whose kept RELA sections these are, in the order of the
 /// sections that they relocate.
 fn rows_of(
     alloc: Global,
@@ -165,7 +163,7 @@ fn rows_of(
     requires valued { IsValued valued.now }
     requires order { relas.now ≡ by_rank target_of (kept_relas (valued_object valued.now)) }
     requires rises { IsNonDecreasingBy target_of relas.now }
-    requires known { All (λ r. IsSome (relocation_kind r))
+    requires patchable { All IsPatchable
         (relocations_from valued.now.number (valued_object valued.now)) }
     ensures rows { IfOk result (ArePatchRows (all_valued valued.now) (where_of valued.now)
         (relocations_from valued.now.number (valued_object valued.now))) }
@@ -182,11 +180,11 @@ fn rows_of(
     Ok(rows)
 }
 
-/// The patches of an object whose relocations are of known kinds, those of each section in the order of their places. Overflow
+/// The patches of an object whose relocations get patches, those of each section in the order of their places. Overflow
 /// where a value doesn't fit.
 pub fn object_patches(alloc: Global, valued: &Valued<'_, '_>) -> Result<ObjectPatches, RelocFault>
     requires valued { IsValued valued.now }
-    requires known { All (λ r. IsSome (relocation_kind r))
+    requires patchable { All IsPatchable
         (relocations_from valued.now.number (valued_object valued.now)) }
     ensures rows { IfOk result (ArePatchRows (all_valued valued.now) (where_of valued.now)
         (relocations_from valued.now.number (valued_object valued.now))) }

@@ -1,14 +1,15 @@
 //! The patches of all objects.
-ghost use Rattle.std.specs.Prelude.{◌≡◌, All, IfErr, IfOk, IsSome, OnOk};
+ghost use Rattle.std.specs.Prelude.{◌≡◌, All, IfErr, IfOk, OnOk};
 ghost use Rattle.elf_model.specs.Own.OwnLayout.{OwnValuesFit};
+ghost use Rattle.elf_model.specs.Link.Loading.{AreObjects};
 ghost use Rattle.elf_model.specs.Link.Pieces.{AreLawfulKinds};
-ghost use Rattle.elf_model.specs.Link.Relocation.{AreLawfulRelocations, relocation_kind, relocations_from};
+ghost use Rattle.elf_model.specs.Link.Relocation.{AreLawfulRelocations, relocations_from};
 ghost use Rattle.elf_model.specs.Link.RelocationValues.{Fits};
 ghost use Rattle.elf_model.specs.Link.Slots as wanted;
 ghost use Rattle.search.specs.Views.{loaded_view, loaded_views};
 ghost use Rattle.relocate.specs.References.{IsObjectAt};
 ghost use Rattle.relocate.specs.SymbolTables.{AreChosenValues};
-ghost use Rattle.relocate.specs.Values.{ArePatchRows, ArePatches, FittingFails, ValuesFail, pointer_in, where_in};
+ghost use Rattle.relocate.specs.Values.{ArePatchRows, ArePatches, FittingFails, IsPatchable, ValuesFail, pointer_in, where_in};
 
 use crate::faults::RelocFault;
 use crate::object_patches::object_patches;
@@ -39,8 +40,7 @@ fn row_of<'a>(
     requires pointer { pointer ≡ pointer_in (where_in placement.now) }
     requires chosen { AreChosenValues resolved.now (where_in placement.now) chosen.now }
     requires here { IsObjectAt resolved.now number (loaded_view loaded.now) }
-    requires known { All (λ r. IsSome (relocation_kind r))
-        (relocations_from number (loaded_view loaded.now)) }
+    requires patchable { All IsPatchable (relocations_from number (loaded_view loaded.now)) }
     ensures rows { IfOk result (ArePatchRows resolved.now (where_in placement.now)
         (relocations_from number (loaded_view loaded.now))) }
     ensures fit { OnOk result (All (Fits resolved.now (where_in placement.now))
@@ -66,6 +66,7 @@ fn rows_of<'a>(
     requires placed { placement.now.objects ≡ loaded_views objects.now }
     requires slots { slots.now.slots ≡ wanted.slots (loaded_views objects.now) }
     requires slots_of { slots.now.objects ≡ resolved.now }
+    requires objects { AreObjects (loaded_views objects.now) }
     requires kinds { AreLawfulKinds (loaded_views objects.now) }
     requires lawful { AreLawfulRelocations (loaded_views objects.now) }
     ensures rows { IfOk result (λ v. ArePatches placement.now v.items) }

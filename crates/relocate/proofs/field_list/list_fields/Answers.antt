@@ -2,7 +2,7 @@ use Rattle.std.proofs.Common.{◌≡◌, ◌+◌, ◌++◌, List, ap, drop, get_
 use Rattle.std.specs.Prelude.{All}
 use Rattle.elf_model.proofs.Listed.{All-parts}
 use Rattle.elf_model.proofs.Mapped.{append_mapped}
-use Rattle.elf_model.specs.Link.Relocation.{IsLawfulRelocation, Relocation, relocations_from}
+use Rattle.elf_model.specs.Link.Relocation.{IsLawfulRelocation, relocations_from}
 use Rattle.search.proofs.KeptWalks.{no_rela, relas_more}
 use Rattle.search.specs.KeptLists.{relocations_by, relocations_of_relas}
 use Rattle.relocate.specs.Fields.{field_of}

@@ -5,7 +5,7 @@ use Rattle.std.proofs.lemmas.List.Elements.{All-drop, All-take}
 use Rattle.std.proofs.lemmas.Option.{get_or_from_slice_get, slice_get-get_or}
 use Rattle.std.proofs.lemmas.Result.{err_from_is_err_and}
 use Rattle.elf_model.specs.Link.Relocation.{Relocation}
-use Rattle.relocate.proofs.Fitted.{exit_fitting, fit_all, fit_none, fit_part, fitting_fails, known_part}
+use Rattle.relocate.proofs.Fitted.{exit_fitting, fit_all, fit_none, fit_part, fitting_fails, patchable_part}
 use Rattle.search.proofs.KeptWalks.{relas_end}
 use Rattle.relocate.proofs.RelaOrders.{row_done, row_left}
 use Rattle.relocate.proofs.RowSteps.{no_rows}
@@ -23,21 +23,21 @@ pub rows-init : goal.rows-init
 rows-init c = record {
   rows = no_rows (all_valued c.args.valued.now) (where_of c.args.valued.now) c.args.rows.now c.requires.none c.requires.nowhere;
   later = λ k d from low. let none = ap (λ (xs : List ℕ). length xs) c.requires.nowhere in omega (arith, none);
-  leaves = fit_all (all_valued c.args.valued.now) (where_of c.args.valued.now) _ _ refl c.requires.known;
+  leaves = fit_all (all_valued c.args.valued.now) (where_of c.args.valued.now) _ _ refl c.requires.patchable;
 }
 
 pub add_row-requires-clause-kept : goal.add_row-requires-clause-kept
 add_row-requires-clause-kept c = All-take (IsKeptRela (valued_object c.args.valued.now)) _ _ (All-drop (IsKeptRela (valued_object c.args.valued.now)) _ _ c.requires.kept)
 
-pub add_row-requires-clause-known : goal.add_row-requires-clause-known
-add_row-requires-clause-known c =
+pub add_row-requires-clause-patchable : goal.add_row-requires-clause-patchable
+add_row-requires-clause-patchable c =
     let ks = c.args.relas.now in
     let n = c.args.valued.now.number in
     let o = valued_object c.args.valued.now in
     let from = c.rows.from in
     let end = c.row_end-end.result in
     let some = c.row_end-end.ensures.some in
-    known_part (all_valued c.args.valued.now) (where_of c.args.valued.now) (relocations_of_relas n o ks) (relocations_of_relas n o (drop from ks)) (relocations_of_relas n o (slice_range ks from end))
+    patchable_part (all_valued c.args.valued.now) (where_of c.args.valued.now) (relocations_of_relas n o ks) (relocations_of_relas n o (drop from ks)) (relocations_of_relas n o (slice_range ks from end))
     (relocations_of_relas n o (drop end ks)) (row_left n o ks from end (omega (arith, some))) c.rows.invariant.leaves
 
 pub returns-in_err-add_row-clause-fault : goal.returns-in_err-add_row-clause-fault

@@ -1,7 +1,7 @@
 use Rattle.std.proofs.Common.{◌+◌, drop, get_or}
 use Rattle.std.proofs.lemmas.Result.{err_from_is_err_and}
 use Rattle.elf_model.proofs.Mapped.{append_mapped}
-use Rattle.relocate.proofs.Fitted.{exit_fitting, fit_part, fitting_fails, known_part}
+use Rattle.relocate.proofs.Fitted.{exit_fitting, fit_part, fitting_fails, patchable_part}
 use Rattle.search.proofs.KeptWalks.{relas_more}
 use Rattle.search.specs.KeptLists.{relocations_by, relocations_of_relas}
 use Rattle.relocate.specs.SymbolTables.{all_valued, valued_object, where_of}
@@ -12,14 +12,14 @@ use Rattle.relocate.proofs.object_patches.add_sections.Goals as goal
 no_rela : KeptRela
 no_rela = record { target = 0; number = 0 }
 
-pub add_section-requires-clause-known : goal.add_section-requires-clause-known
+pub add_section-requires-clause-patchable : goal.add_section-requires-clause-patchable
 unfolding no_rela
-add_section-requires-clause-known c =
+add_section-requires-clause-patchable c =
     let n = c.args.valued.now.number in
     let o = valued_object c.args.valued.now in
     let ks = c.args.relas.now in
     let i = c.loop-rela.rela-index in
-    known_part (all_valued c.args.valued.now) (where_of c.args.valued.now) (relocations_of_relas n o ks) (relocations_of_relas n o (drop i ks))
+    patchable_part (all_valued c.args.valued.now) (where_of c.args.valued.now) (relocations_of_relas n o ks) (relocations_of_relas n o (drop i ks))
     (relocations_by n o (get_or ks i no_rela)) (relocations_of_relas n o (drop (i + 1) ks))
     (relas_more n o ks i no_rela c.loop-rela-test.true) c.loop-rela.invariant.leaves
 

@@ -1,20 +1,20 @@
 use Rattle.std.proofs.lemmas.Result.{err_from_is_err_and}
-use Rattle.std.specs.Prelude.{IsSome}
-use Rattle.elf_model.specs.Link.Relocation.{Relocation, relocation_kind, relocations_from}
+use Rattle.elf_model.specs.Link.Relocation.{relocations_from}
 use Rattle.elf_model.specs.Link.RelocationValues.{Fits}
 use Rattle.search.specs.KeptLists.{relocations_of_relas}
 use Rattle.relocate.proofs.Fitted.{exit_fitting, fitting_moved}
 use Rattle.relocate.proofs.RelaOrders.{all_from_ordered, all_ordered, ordered_kept, patches_ordered}
 use Rattle.relocate.proofs.RowSteps.{all_rows}
 use Rattle.relocate.specs.SymbolTables.{all_valued, valued_object, where_of}
+use Rattle.relocate.specs.Values.{IsPatchable}
 use Rattle.relocate.proofs.object_patches.rows_of.Goals as goal
 
 pub add_rows-requires-clause-kept : goal.add_rows-requires-clause-kept
 add_rows-requires-clause-kept c = ordered_kept c.args.valued.now.number (valued_object c.args.valued.now) c.args.relas.now c.requires.order
 
-pub add_rows-requires-clause-known : goal.add_rows-requires-clause-known
-add_rows-requires-clause-known c =
-    all_ordered c.args.valued.now.number (valued_object c.args.valued.now) c.args.relas.now c.requires.order (λ (r : Relocation). IsSome (relocation_kind r)) c.requires.known
+pub add_rows-requires-clause-patchable : goal.add_rows-requires-clause-patchable
+add_rows-requires-clause-patchable c =
+    all_ordered c.args.valued.now.number (valued_object c.args.valued.now) c.args.relas.now c.requires.order IsPatchable c.requires.patchable
 
 pub returns-in_err-add_rows-clause-fault : goal.returns-in_err-add_rows-clause-fault
 returns-in_err-add_rows-clause-fault c =

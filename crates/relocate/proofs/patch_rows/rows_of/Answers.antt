@@ -10,9 +10,10 @@ use Rattle.elf_model.specs.Link.Pieces.{AreLawfulKinds}
 use Rattle.elf_model.specs.Link.Relocation.{relocations, relocations_from}
 use Rattle.elf_model.specs.Link.RelocationValues.{Fits}
 use Rattle.search.specs.Views.{loaded_view, loaded_views}
-use Rattle.relocate.proofs.Fitted.{fit_all, fit_part, fitting_fails, known_part}
+use Rattle.relocate.proofs.ShortFields.{are_patchable}
+use Rattle.relocate.proofs.Fitted.{fit_all, fit_part, fitting_fails, patchable_part}
 use Rattle.got_tls.proofs.LoadedObjects.{next_relocations, next_there}
-use Rattle.relocate.proofs.ObjectRows.{all_known, exit_values, no_rows, row_more, rows_all, values_fail}
+use Rattle.relocate.proofs.ObjectRows.{exit_values, no_rows, row_more, rows_all, values_fail}
 use Rattle.relocate.specs.Values.{ArePatchRows, FittingFails, where_in}
 use Rattle.relocate.proofs.patch_rows.rows_of.Goals as goal
 
@@ -22,7 +23,7 @@ loop-k-init c =
     let w = where_in c.args.placement.now in
     record {
       rows = no_rows L w c.in_ok-rows.rows.items c.in_ok-rows.ensures.items;
-      leaves = fit_all L w (relocations L) (relocations L) refl (all_known L c.requires.lawful);
+      leaves = fit_all L w (relocations L) (relocations L) refl (are_patchable L c.requires.objects c.requires.lawful);
     }
 
 pub row_of-requires-clause-kinds : goal.row_of-requires-clause-kinds
@@ -38,13 +39,13 @@ row_of-requires-clause-here c =
     subst (λ (os : List LoadedObject). slice_get os c.loop-k.k ≡ Some (loaded_view d)) (sym c.requires.resolved)
     (next_there c.args.objects.now c.loop-k.k d c.loop-k-test.true c.index-objects-k.is)
 
-pub row_of-requires-clause-known : goal.row_of-requires-clause-known
-row_of-requires-clause-known c =
+pub row_of-requires-clause-patchable : goal.row_of-requires-clause-patchable
+row_of-requires-clause-patchable c =
     let xs = c.args.objects.now in
     let L = loaded_views xs in
     let k = c.loop-k.k in
     let d = c.index-objects-k.result in
-    known_part L (where_in c.args.placement.now) (relocations L) (left_of_objects loaded_view xs k) (relocations_from k (loaded_view d))
+    patchable_part L (where_in c.args.placement.now) (relocations L) (left_of_objects loaded_view xs k) (relocations_from k (loaded_view d))
     (left_of_objects loaded_view xs (k + 1)) (next_relocations xs k d c.loop-k-test.true c.index-objects-k.is) c.loop-k.invariant.leaves
 
 pub returns-in_err-row-clause-fault : goal.returns-in_err-row-clause-fault
