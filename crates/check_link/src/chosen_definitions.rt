@@ -1,6 +1,6 @@
 //! The index of the chosen definitions by their names: of each name the position of its chosen one in the list of the
 //! definitions.
-ghost use Rattle.std.specs.Prelude.{◌≡◌, ◌≤◌, ◌<◌, ◌+◌, ◌&&◌, ℕ, IfOk, IfSome, IsSomeAnd, List, None, OnOk, Some, cond, false, filter, length, max, option_map, slice_get, slice_set, true};
+ghost use Rattle.std.specs.Prelude.{◌≡◌, ◌≤◌, ◌<◌, ◌+◌, ◌&&◌, ℕ, IfOk, IfSome, IsSomeAnd, List, None, OnOk, Some, cond, false, filter, is_some, length, max, option_map, slice_get, slice_set, true};
 ghost use Rattle.std.specs.Option.{option_and_then, option_map_or, option_or};
 ghost use Rattle.std.specs.Str.{bytes_eq};
 ghost use Rattle.elf_model.specs.Link.ChosenSymbols.{is_definition};
@@ -223,6 +223,17 @@ pub fn definition_at<'a>(
 {
     let position = position_at(&index.positions, number)?;
     definitions.get(position)
+}
+
+/// Whether an index has a definition for the name that has a number. It isn't read.
+pub fn has_definition(index: &Chosen<'_>, definitions: &Definitions<'_, '_>, number: usize) -> bool
+    ensures { result ≡ is_some (option_and_then (slice_get definitions.now)
+        (position_at index.now.positions.items number)) }
+{
+    match position_at(&index.positions, number) {
+        Some(position) => definitions.numbers(position).is_some(),
+        None => false,
+    }
 }
 
 /// The position at a number; None where there is none.

@@ -1,5 +1,5 @@
 //! The definitions and the common blocks of loaded objects, found by their names.
-ghost use Rattle.std.specs.Prelude.{◌≡◌, ◌↔◌, IfOk, IfSome, IsTrue, Some, filter, option_map, slice_get};
+ghost use Rattle.std.specs.Prelude.{◌≡◌, ◌↔◌, IfOk, IfSome, IsSome, IsTrue, Some, filter, option_map, slice_get};
 ghost use Rattle.elf_model.specs.Link.ChosenSymbols.{is_chosen, is_definition};
 ghost use Rattle.elf_model.specs.Link.Commons.{block_named, blocks};
 ghost use Rattle.elf_model.specs.Link.Loading.{LoadedObject};
@@ -12,7 +12,8 @@ ghost use Rattle.check_link.specs.NameIndex.{IsBlockIndex};
 ghost use Rattle.check_link.specs.Views.{block_view, block_views, meaning_view, symbol_view};
 
 use crate::chosen_definitions::{
-    Chosen, definition_at, definition_of, index_names, is_chosen, number_at, own_choices,
+    Chosen, definition_at, definition_of, has_definition, index_names, is_chosen, number_at,
+    own_choices,
 };
 use crate::commons::{are_sound_commons, blocks_of, index_blocks};
 use crate::definition_list::Definitions;
@@ -143,6 +144,18 @@ impl<'l, 'a> Names<'l, 'a> {
     {
         let known = number_at(self.objects, object, number)?;
         definition_at(&self.chosen, &self.definitions, known)
+    }
+
+    /// Whether the name of a symbol has a chosen definition, given the symbol's object's and its own number, where loading noted
+    /// the name. Neither of them is read.
+    pub fn has_noted_choice(&self, object: u64, number: u64) -> bool
+        ensures { IsTrue result → (o : LoadedObject) → slice_get self.now object ≡ Some o
+            → IsSome (chosen self.now (name_at o.bytes number)) }
+    {
+        match number_at(self.objects, object, number) {
+            Some(known) => has_definition(&self.chosen, &self.definitions, known),
+            None => false,
+        }
     }
 
     /// Whether a symbol is the chosen definition of its name.

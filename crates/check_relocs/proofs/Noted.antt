@@ -1,6 +1,6 @@
 -- Symbols for whose names loading noted that objects define them: their definitions have these names, and none is the linker's.
 use Rattle.std.proofs.Common.{◌≡◌, ℕ, zero, suc, ◌<◌, ◌&&◌, Bool, true, false, List, [], ◌∷◌, Option, None, Some, get_or, length, refl, sym, ap, ◌∙◌, arith}
-use Rattle.std.specs.Prelude.{IfSome, is_some, not, slice_get}
+use Rattle.std.specs.Prelude.{IsSome, is_some, not, slice_get}
 use Rattle.std.specs.Option.{is_none}
 use Rattle.std.specs.Str.{bytes_eq}
 use Rattle.std.proofs.lemmas.Bool.{false≢true}
@@ -17,8 +17,6 @@ use Rattle.elf_model.specs.Link.UsedNames.{is_linker_use}
 use Rattle.check_load.specs.Numbered.{name_at}
 use Rattle.check_load.specs.Views.{loaded_view, loaded_views}
 use Rattle.check_load.specs.declared.loaded.Loaded.{Loaded}
-use Rattle.check_link.specs.Views.{symbol_view}
-use Rattle.check_link.specs.declared.things.SymbolOf as code
 
 -- a name's chosen definition has the name
 pub choice_named : (L : List LoadedObject) (n : List ℕ) (s : SymbolOf) → chosen L n ≡ Some s → s.name ≡ n
@@ -39,31 +37,28 @@ chosen_is_no_use L s t is =
     none true false = refl
     none false b = refl
 
--- so it is where loading noted the name and an object defines it
-pub noted_is_no_use :
-    (L : List LoadedObject) (k j : ℕ) (o : LoadedObject) (r : Option code.SymbolOf) →
-    IfSome r (λ t. (x : LoadedObject) → slice_get L k ≡ Some x → chosen L (name_at x.bytes j) ≡ Some (symbol_view t)) → slice_get L k ≡ Some o →
-    is_some r ≡ true → false ≡ is_linker_use L (symbol_at k o j)
-noted_is_no_use L k j o None told there some = absurd (false≢true some)
-noted_is_no_use L k j o (Some t) told there some = chosen_is_no_use L (symbol_at k o j) (symbol_view t) (told o there)
+-- so it is where an object defines the name
+pub noted_is_no_use : (L : List LoadedObject) (s : SymbolOf) → IsSome (chosen L s.name) → false ≡ is_linker_use L s
+noted_is_no_use L s some = by (chosen L s.name) refl some
+  where
+    by : (r : Option SymbolOf) → chosen L s.name ≡ r → IsSome r → false ≡ is_linker_use L s
+    by None e none = absurd (false≢true none)
+    by (Some t) e some = chosen_is_no_use L s t e
 
 -- nor does it name the GOT
-pub noted_names_no_got :
-    (L : List LoadedObject) (k j : ℕ) (o : LoadedObject) (r : Option code.SymbolOf) →
-    IfSome r (λ t. (x : LoadedObject) → slice_get L k ≡ Some x → chosen L (name_at x.bytes j) ≡ Some (symbol_view t)) → slice_get L k ≡ Some o →
-    is_some r ≡ true → false ≡ names_got L (symbol_at k o j)
-noted_names_no_got L k j o None told there some = absurd (false≢true some)
-noted_names_no_got L k j o (Some t) told there some = by (symbol_at k o j) (told o there)
+pub noted_names_no_got : (L : List LoadedObject) (s : SymbolOf) → IsSome (chosen L s.name) → false ≡ names_got L s
+noted_names_no_got L s some = by (chosen L s.name) refl some
   where
     none : (a b : Bool) → false ≡ (a && (b && false))
     none true true = refl
     none true false = refl
     none false b = refl
 
-    by : (s : SymbolOf) → chosen L s.name ≡ Some (symbol_view t) → false ≡ names_got L s
-    by s is =
+    by : (r : Option SymbolOf) → chosen L s.name ≡ r → IsSome r → false ≡ names_got L s
+    by None e none_ = absurd (false≢true none_)
+    by (Some t) e some_ =
         none (not (is_local s)) (bytes_eq s.name got_name)
-        ∙ sym (ap (λ (x : Option SymbolOf). not (is_local s) && (bytes_eq s.name got_name && is_none x)) is)
+        ∙ sym (ap (λ (x : Option SymbolOf). not (is_local s) && (bytes_eq s.name got_name && is_none x)) e)
 
 -- an element of the objects is the one that has its number
 viewed : (xs : List Loaded) (k : ℕ) (d : Loaded) → k < length xs → slice_get (loaded_views xs) k ≡ Some (loaded_view (get_or xs k d))

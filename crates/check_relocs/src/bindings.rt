@@ -1,5 +1,5 @@
 //! What names mean: the names of objects, the linker's own, and the addresses of the placed pieces.
-ghost use Rattle.std.specs.Prelude.{◌≡◌, ◌≢◌, ◌↔◌, ◌%◌, ◌^◌, IsSomeAnd, IfOk, IfSome, IsTrue, None, Some, false, filter, option_map, slice_get, true, unwrap_or};
+ghost use Rattle.std.specs.Prelude.{◌≡◌, ◌≢◌, ◌↔◌, ◌%◌, ◌^◌, IsSomeAnd, IfOk, IfSome, IsSome, IsTrue, None, Some, false, filter, option_map, slice_get, true, unwrap_or};
 ghost use Rattle.std.specs.Option.{option_map_or};
 ghost use Rattle.elf_model.specs.Link.ChosenSymbols.{is_chosen, is_definition};
 ghost use Rattle.elf_model.specs.Link.LinkerNames.{bound_of, named_output};
@@ -205,6 +205,15 @@ impl<'l, 'p, 'a> Bindings<'l, 'p, 'a> {
             → chosen self.now.objects (name_at o.bytes number) ≡ Some (symbol_view s)) }
     {
         self.names.noted_choice(object, number)
+    }
+
+    /// Whether the name of a symbol has a chosen definition, given its object's and its own number, where loading noted the name.
+    /// Neither of them is read.
+    pub fn has_noted_choice(&self, object: u64, number: u64) -> bool
+        ensures { IsTrue result → (o : LoadedObject) → slice_get self.now.objects object ≡ Some o
+            → IsSome (chosen self.now.objects (name_at o.bytes number)) }
+    {
+        self.names.has_noted_choice(object, number)
     }
 
     /// What a chosen definition means.

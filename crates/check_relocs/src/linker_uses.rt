@@ -38,7 +38,7 @@ fn is_use_of(here: &Referrer<'_, '_, '_, '_>, j: usize) -> bool
     if is_local_at(here.loaded, j) {
         return false;
     }
-    if here.bindings.noted_choice(here.number, j as u64).is_some() {
+    if here.bindings.has_noted_choice(here.number, j as u64) {
         return false;
     }
     is_linker_use(here.bindings, &symbol_at(here.loaded, here.number, j))

@@ -87,7 +87,7 @@ fn names_got_of(here: &Referrer<'_, '_, '_, '_>, j: usize) -> bool
     if is_local_at(here.loaded, j) {
         return false;
     }
-    if here.bindings.noted_choice(here.number, j as u64).is_some() {
+    if here.bindings.has_noted_choice(here.number, j as u64) {
         return false;
     }
     names_got(here.bindings, &symbol_at(here.loaded, here.number, j))

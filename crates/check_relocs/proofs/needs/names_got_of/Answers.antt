@@ -12,8 +12,7 @@ returns-then-is_local_at c =
     let local : is_local s ≡ true = sym (c.is_local_at.ensures h.number) ∙ c.if-is_local_at.true in
     local_names_no_got (objects_here h) s local
 
-pub returns-then-is_some : goal.returns-then-is_some
-returns-then-is_some c =
+pub returns-then-has_noted_choice : goal.returns-then-has_noted_choice
+returns-then-has_noted_choice c =
     let h = c.args.here.now in
-    noted_names_no_got (objects_here h) h.number c.args.j (object_here h) c.noted_choice.result c.noted_choice.ensures h.own
-    (sym c.is_some.ensures ∙ c.if-is_some.true)
+    noted_names_no_got (objects_here h) (symbol_here h c.args.j) (c.has_noted_choice.ensures c.if-has_noted_choice.true (object_here h) h.own)
