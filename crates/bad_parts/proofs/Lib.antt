@@ -1,2 +1,3 @@
 mod Counted
+pub mod Members
 pub mod Standing

@@ -1,5 +1,5 @@
 -- Where a file has a bad part, the part's fault stands.
-use Rattle.std.proofs.Common.{inl, inr, ◌≡◌, ◌∙◌, ◌<◌, ◌==◌, ℕ, Bool, List, Option, None, Some, Ok, Err, Result, All, IfOk, IfSome, true, arith, length, refl, subst, sym}
+use Rattle.std.proofs.Common.{inl, inr, ◌≡◌, ◌∙◌, ◌<◌, ◌==◌, ℕ, Bool, List, Option, None, Some, All, IfSome, true, arith, length, refl, subst, sym}
 use Rattle.std.specs.List.{Any, slice_get}
 use Rattle.std.proofs.lemmas.List.Elements.{All-contains}
 use Rattle.std.proofs.lemmas.Option.{get_or_from_slice_get, slice_get_within}
@@ -13,99 +13,65 @@ use Rattle.elf_model.specs.declared.records.Symbol.{Symbol}
 use Rattle.elf_model.proofs.Finding.{Any-from_contains}
 use Rattle.elf_model.proofs.Listed.{Contains-from_slice_get}
 use Rattle.elf_model.specs.declared.faults.ObjFault.{ObjFault}
-use Rattle.bad_parts.specs.BadParts.{AreTwoTables, IsBad, IsBadOf, fault_of}
+use Rattle.bad_parts.specs.BadParts.{AreTwoTables, IsBad, IsBadOf, IsOfType, IsSectionPart, IsSymbolPart, fault_of}
 use Rattle.bad_parts.specs.declared.part.BadPart.{BadPart}
 use Rattle.bad_parts.specs.declared.part.BadPart.TheVariants as part
 use Rattle.bad_parts.specs.declared.part.SectionPart.{SectionPart}
+use Rattle.bad_parts.specs.declared.part.SymbolPart.{SymbolPart}
 use Rattle.bad_parts.proofs.Counted.{two_counted}
 
 -- what holds of all of a list holds of the one that has a number
 at_number : {X : Type 0} (P : X → Type 0) (xs : List X) (k : ℕ) (x : X) → All P xs → slice_get xs k ≡ Some x → P x
 at_number P xs k x all there = All-contains P xs x all (Contains-from_slice_get xs k x there)
 
+-- likewise of a section, of one of a type, and of a symbol
+of_section : (bytes : List ℕ) (P : SectionHeader → Type 0) (p : SectionPart) → IsSectionPart bytes p → All P (sections bytes) → P p.header
+of_section bytes P p at all = at_number P (sections bytes) p.number p.header all at.there
+
+of_type : (bytes : List ℕ) (kind : ℕ) (P : SectionHeader → Type 0) (p : SectionPart) → IsOfType bytes kind p →
+    All (λ s. s.sh_type ≡ kind → P s) (sections bytes) → P p.header
+of_type bytes kind P p at all = of_section bytes (λ s. s.sh_type ≡ kind → P s) p at.section all at.type_is
+
+of_symbol : (bytes : List ℕ) (P : Symbol → Type 0) (p : SymbolPart) → IsSymbolPart bytes p → All P (symbols bytes) → P p.entry
+of_symbol bytes P p at all = at_number P (symbols bytes) p.number p.entry all at.there
+
 two_tables : (bytes : List ℕ) (p q : SectionPart) → AreTwoTables bytes p q → HasGoodSymbolTable (sections bytes) → ⊥
 two_tables bytes p q two good =
     let ss = sections bytes in
     let is_table : SectionHeader → Bool = λ s. s.sh_type == SHT_SYMTAB in
-    let at = λ (k : ℕ) (h : SectionHeader) (there : slice_get ss k ≡ Some h) (kind : h.sh_type ≡ SHT_SYMTAB).
-    subst (λ (s : SectionHeader). is_table s ≡ true) (sym (get_or_from_slice_get ss k h p.header there)) (subst (λ (n : ℕ). (n == SHT_SYMTAB) ≡ true) (sym kind) refl) in
-    let many =
-    two_counted is_table ss p.number q.number p.header two.after (slice_get_within ss q.number q.header two.second.section.there)
-    (at p.number p.header two.first.section.there two.first.type_is)
-    (at q.number q.header two.second.section.there two.second.type_is) in
+    let at = λ (r : SectionPart) (of : IsOfType bytes SHT_SYMTAB r).
+    subst (λ (s : SectionHeader). is_table s ≡ true) (sym (get_or_from_slice_get ss r.number r.header p.header of.section.there))
+    (subst (λ (n : ℕ). (n == SHT_SYMTAB) ≡ true) (sym of.type_is) refl) in
+    let within = slice_get_within ss q.number q.header two.second.section.there in
+    let many = two_counted is_table ss p.number q.number p.header two.after within (at p two.first) (at q two.second) in
     let one = good.one in omega (arith, many, one)
 
 stands : (bytes : List ℕ) (p : BadPart) → IsBad bytes p → ObjFaultStands bytes (fault_of p)
-stands bytes (part.Range p) h =
-    (h.0.table, λ all. h.1 (at_number (IsPlaced (length bytes)) (sections bytes) p.number p.header all h.0.there))
-stands bytes (part.SectionName p) h =
-    inl (h.1, λ all. h.2 (at_number (λ (s : SectionHeader). HasText (section_strings bytes) s.sh_name) (sections bytes) p.number p.header all h.0.there))
-stands bytes (part.SymbolName p) h =
-    inr (h.1, λ all. h.2 (at_number (λ (s : Symbol). HasText (symbol_strings bytes) s.st_name) (symbols bytes) p.number p.entry all h.0.there))
+stands bytes (part.Range p) h = (h.0.table, λ all. h.1 (of_section bytes (IsPlaced (length bytes)) p h.0 all))
+stands bytes (part.SectionName p) h = inl (h.1, λ all. h.2 (of_section bytes (λ s. HasText (section_strings bytes) s.sh_name) p h.0 all))
+stands bytes (part.SymbolName p) h = inr (h.1, λ all. h.2 (of_symbol bytes (λ s. HasText (symbol_strings bytes) s.st_name) p h.0 all))
 stands bytes (part.SecondTable p q) h = inl (h.first.section.table, two_tables bytes p q h)
-stands bytes (part.Extension p) h =
-    inl (
-      h.section.table,
-      λ good.
-          at_number (λ (s : SectionHeader). ¬ (s.sh_type ≡ SHT_SYMTAB_SHNDX)) (sections bytes) p.number p.header good.no_extension h.section.there h.type_is,
-    )
-stands bytes (part.SymbolTable p) h =
-    inl (
-      h.0.section.table,
-      λ good.
-          h.1 (at_number (λ (s : SectionHeader). s.sh_type ≡ SHT_SYMTAB → IsSymbolTable (sections bytes) s) (sections bytes) p.number p.header good.tables h.0.section.there h.0.type_is),
-    )
+stands bytes (part.Extension p) h = inl (h.section.table, λ good. of_type bytes SHT_SYMTAB_SHNDX (λ _. ⊥) p h good.no_extension)
+stands bytes (part.SymbolTable p) h = inl (h.0.section.table, λ good. h.1 (of_type bytes SHT_SYMTAB (IsSymbolTable (sections bytes)) p h.0 good.tables))
 stands bytes (part.NullSymbol p) h =
-    inr (
-      h.0.readable,
-      λ good.
-          h.2 (sym (get_or_from_slice_get (symbols bytes) 0 p.entry null_symbol (subst (λ (k : ℕ). slice_get (symbols bytes) k ≡ Some p.entry) h.1 h.0.there)) ∙ good.null),
-    )
-stands bytes (part.Symbol p) h =
-    inr (h.0.readable, λ good. h.1 (at_number (IsGoodSymbol (file_header bytes).e_shnum) (symbols bytes) p.number p.entry good.each h.0.there))
-stands bytes (part.Rel p) h =
-    inl (
-      h.section.table,
-      λ good.
-          at_number (λ (s : SectionHeader). ¬ (s.sh_type ≡ SHT_REL)) (sections bytes) p.number p.header good.no_rel h.section.there h.type_is,
-    )
-stands bytes (part.Relas p) h =
-    inl (
-      h.0.section.table,
-      λ good.
-          h.1 (at_number (λ (s : SectionHeader). s.sh_type ≡ SHT_RELA → IsRelaSection (sections bytes) s) (sections bytes) p.number p.header good.relas h.0.section.there h.0.type_is),
-    )
+    let first = subst (λ (k : ℕ). slice_get (symbols bytes) k ≡ Some p.entry) h.1 h.0.there in
+    inr (h.0.readable, λ good. h.2 (sym (get_or_from_slice_get (symbols bytes) 0 p.entry null_symbol first) ∙ good.null))
+stands bytes (part.Symbol p) h = inr (h.0.readable, λ good. h.1 (of_symbol bytes (IsGoodSymbol (file_header bytes).e_shnum) p h.0 good.each))
+stands bytes (part.Rel p) h = inl (h.section.table, λ good. of_type bytes SHT_REL (λ _. ⊥) p h good.no_rel)
+stands bytes (part.Relas p) h = inl (h.0.section.table, λ good. h.1 (of_type bytes SHT_RELA (IsRelaSection (sections bytes)) p h.0 good.relas))
 stands bytes (part.Entry p) h =
+    let wrong = λ (all : AreGoodRelas (length (symbols bytes)) (relas_of bytes p.table.header)). h.2 (at_number (λ (r : Rela). rela_symbol r < length (symbols bytes)) (relas_of bytes p.table.header) p.number p.entry all h.0.there) in
     inr (
       h.1,
       Any-from_contains (λ (s : SectionHeader). HasEntries (length bytes) s × (¬ AreGoodRelas (length (symbols bytes)) (relas_of bytes s))) (sections bytes) p.table.header
-          (Contains-from_slice_get (sections bytes) p.table.number p.table.header h.0.table.there)
-          (h.0.entries, λ all. h.2 (at_number (λ (r : Rela). rela_symbol r < length (symbols bytes)) (relas_of bytes p.table.header) p.number p.entry all h.0.there)),
+          (Contains-from_slice_get (sections bytes) p.table.number p.table.header h.0.table.there) (h.0.entries, wrong),
     )
-stands bytes (part.Group p) h =
-    inl (
-      h.0.section.table,
-      λ all.
-          h.1 (at_number (λ (s : SectionHeader). s.sh_type ≡ SHT_GROUP → IsGroupSection (sections bytes) s) (sections bytes) p.number p.header all h.0.section.there h.0.type_is),
-    )
-stands bytes (part.Signature p) h =
-    inr (inl (
-      h.1,
-      λ all.
-          h.2 (at_number (λ (s : SectionHeader). s.sh_type ≡ SHT_GROUP → s.sh_info < length (symbols bytes)) (sections bytes) p.number p.header all h.0.section.there h.0.type_is),
-    ))
+stands bytes (part.Group p) h = inl (h.0.section.table, λ all. h.1 (of_type bytes SHT_GROUP (IsGroupSection (sections bytes)) p h.0 all))
+stands bytes (part.Signature p) h = inr (inl (h.1, λ all. h.2 (of_type bytes SHT_GROUP (λ s. s.sh_info < length (symbols bytes)) p h.0 all)))
 stands bytes (part.Member p) h =
-    inr (inr (
-      h.0.group.table,
-      λ all.
-          h.1 (at_number (MayBeMember (sections bytes)) (group_members bytes p.group.header) p.number p.member
-          (at_number (λ (s : SectionHeader). HasMembers (length bytes) s → AreMembers (sections bytes) (group_members bytes s)) (sections bytes) p.group.number p.group.header all h.0.group.there h.0.members)
-          h.0.there),
-    ))
+    let listed = of_section bytes (λ s. HasMembers (length bytes) s → AreMembers (sections bytes) (group_members bytes s)) p.group h.0.group in
+    inr (inr (h.0.group.table, λ all. h.1 (at_number (MayBeMember (sections bytes)) (group_members bytes p.group.header) p.number p.member (listed all h.0.members) h.0.there)))
 
-pub fault_stands :
-    {E : Type 0} (bytes : List ℕ) (f : ObjFault) (r : Result (Option BadPart) E) → IfOk r (λ o. IfSome o (IsBadOf bytes f)) →
-    IfOk r (λ o. IfSome o (λ _. ObjFaultStands bytes f))
-fault_stands bytes f (Err e) h = h
-fault_stands bytes f (Ok None) h = h
-fault_stands bytes f (Ok (Some p)) h = subst (ObjFaultStands bytes) h.1 (stands bytes p h.0)
+pub fault_stands : (bytes : List ℕ) (f : ObjFault) (o : Option BadPart) → IfSome o (IsBadOf bytes f) → IfSome o (λ _. ObjFaultStands bytes f)
+fault_stands bytes f None h = h
+fault_stands bytes f (Some p) h = subst (ObjFaultStands bytes) h.1 (stands bytes p h.0)

@@ -4,14 +4,10 @@
 //! Begin with `bad_part`.
 #![tactic(auto)]
 
-mod groups;
 mod part;
-mod parts;
-mod relas;
-mod sections;
-mod symbols;
+mod search;
 mod tables;
 mod text;
 
 pub use part::{BadPart, EntryPart, MemberPart, SectionPart, SymbolPart};
-pub use parts::bad_part;
+pub use search::bad_part;

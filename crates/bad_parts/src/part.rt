@@ -1,7 +1,6 @@
 //! Parts of a file that is read as an object, each with where its header or its entry is, in bytes from the file's beginning.
 
 use elf_model::{Rela, SectionHeader, Symbol};
-use std::alloc::AllocError;
 
 /// A section: its number in the section header table, where its header is, and its name where that can be read.
 #[derive(Clone, Copy, Debug)]
@@ -38,9 +37,6 @@ pub struct MemberPart<'a> {
     pub at: u64,
     pub member: u32,
 }
-
-/// The first part of a file that is looked for, where there is one.
-pub(crate) type Sought<'a> = Result<Option<BadPart<'a>>, AllocError>;
 
 /// A part of a file that an object may not have (System V gABI 4; docs/PROFILE.md).
 #[derive(Clone, Copy, Debug)]
